@@ -1,0 +1,10 @@
+-- Laws of the definitions.
+pub mod TestLaws
+pub mod CheckLaws
+pub mod MemoryLaws
+pub mod ListingLaws
+pub mod StepLaws
+-- The theorems of specs/Theorems.antt.
+pub mod Refusal
+pub mod NoFault
+pub mod Sealing

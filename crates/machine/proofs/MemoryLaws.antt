@@ -1,0 +1,199 @@
+-- Rows of bytes in memory: the tests on bytes against tests on whole rows, and the rows of a block of a matrix.
+use mathlib.Core.Path.{_≡_, refl, sym, ap, _∙_, subst}
+use mathlib.Core.Logic.{_⊎_, inl, inr}
+use mathlib.Core.Bool.{Bool, true, false, not, _||_}
+use Prim.Native.Nat.{ℕ, zero, suc, _+_, _*_, _-_, _≤_, _<_}
+use native.Mathlib.Nat.{add-mul, not-suc-le-zero}
+use native.Mathlib.Omega.{arith}
+use lib.Dec.{leb, ltb, eqb}
+use lib.IntN.{ℤ, pos, negsuc, negℤ, _+ℤ_, _*ℤ_, +ℤ-assoc, +ℤ-comm, negℤ-+ℤ}
+use borrow.Author.Tests.{ltb-true, leb-true, le-leb, lt-ltb, le-ltb, eqb-true, eqb-false, leb-false}
+use Rattle.width.specs.Reduce.{signed}
+use Rattle.width.specs.Tile.{In}
+use Rattle.width.proofs.BlockLaws.{le-or-lt}
+use Rattle.machine.specs.Tests.{all}
+use Rattle.machine.proofs.TestLaws.{all-true, all-at, or-not, false-true, same-test, within-not, not-within}
+use Rattle.machine.specs.Geometry.{Parameters}
+use Rattle.machine.specs.Memory.{rowZ, rowAt, address, inMemory, inside, clear, unsealed}
+use Rattle.machine.specs.Geometry.{sealed}
+
+-- the n bytes from z on lie in a memory of len bytes (for n > 0)
+abbrev pub fits : ℕ → ℕ → ℤ → Bool
+fits len n (pos p) = leb (p + n) len
+fits len n (negsuc p) = false
+
+pub fits-true : (len n p : ℕ) (z : ℤ) → z ≡ pos p → p + n ≤ len → fits len n z ≡ true
+fits-true len n p z e h = subst (λ (z : ℤ). fits len n z ≡ true) (sym e) (le-leb (p + n) len h)
+
+-- a row that fits has its bytes in memory
+fits-byte : (len n : ℕ) (z : ℤ) → fits len n z ≡ true → (b : ℕ) → b < n → inMemory len (z +ℤ pos b) ≡ true
+fits-byte len n (pos p) h b l = lt-ltb (p + b) len (omega (arith, leb-true (p + n) len h))
+fits-byte len n (negsuc p) h b l = absurd (false-true h)
+
+-- and a row whose bytes lie in memory fits
+bytes-fit : (len n : ℕ) (z : ℤ) → zero < n → ((b : ℕ) → b < n → inMemory len (z +ℤ pos b) ≡ true) → (z ≡ pos (address z)) × (address z + n ≤ len)
+bytes-fit len n (pos p) l h = (refl, omega (arith, ltb-true (p + (n - 1)) len (h (n - 1) (omega arith))))
+bytes-fit len n (negsuc p) l h = let e : ltb 0 (suc p) ≡ true = lt-ltb 0 (suc p) (omega arith) in absurd (false-true (rw e at (h 0 l)))
+
+module _ (len base stride rows n : ℕ) where
+  pub inside-true : ((i : ℕ) → i < rows → fits len n (rowZ base stride i) ≡ true) → inside len base stride rows n ≡ true
+  unfolding inside
+  inside-true h =
+      all-true rows (λ i. all n (λ b. inMemory len (rowZ base stride i +ℤ pos b))) (λ i l.
+      all-true n (λ b. inMemory len (rowZ base stride i +ℤ pos b)) (fits-byte len n (rowZ base stride i) (h i l)))
+
+  pub inside-byte : inside len base stride rows n ≡ true → (i b : ℕ) → i < rows → b < n → inMemory len (rowZ base stride i +ℤ pos b) ≡ true
+  unfolding inside
+  inside-byte h i b l l′ =
+      all-at n (λ b. inMemory len (rowZ base stride i +ℤ pos b))
+      (all-at rows (λ i. all n (λ b. inMemory len (rowZ base stride i +ℤ pos b))) h i l) b l′
+
+  pub inside-at : inside len base stride rows n ≡ true → zero < n → (i : ℕ) → i < rows
+      → (rowZ base stride i ≡ pos (rowAt base stride i)) × (rowAt base stride i + n ≤ len)
+  inside-at h 0<n i l = bytes-fit len n (rowZ base stride i) 0<n (λ b. inside-byte h i b l)
+
+  -- for code: the test by rows
+  pub inside-rows : inside len base stride rows n ≡ eqb n 0 || all rows (λ i. fits len n (rowZ base stride i))
+  unfolding inside
+  inside-rows = go (eqb n 0) refl
+    where
+      go : (t : Bool) → eqb n 0 ≡ t → inside len base stride rows n ≡ t || all rows (λ i. fits len n (rowZ base stride i))
+      go true e = all-true rows (λ i. all n (λ b. inMemory len (rowZ base stride i +ℤ pos b))) (λ i l.
+          all-true n (λ b. inMemory len (rowZ base stride i +ℤ pos b)) (λ b l′. absurd (omega (arith, eqb-true n 0 e))))
+      go false e = same-test (inside len base stride rows n) (all rows (λ i. fits len n (rowZ base stride i)))
+          (λ h. all-true rows (λ i. fits len n (rowZ base stride i)) (λ i l.
+          let f = inside-at h (positive e) i l in fits-true len n (rowAt base stride i) (rowZ base stride i) (f .0) (f .1)))
+          (λ h. inside-true (all-at rows (λ i. fits len n (rowZ base stride i)) h))
+        where
+          positive : eqb n 0 ≡ false → zero < n
+          positive e = go′ n e
+            where
+              go′ : (n : ℕ) → eqb n 0 ≡ false → zero < n
+              go′ zero e = absurd (false-true (sym e))
+              go′ (suc n) e = omega arith
+
+-- ---- the seal
+
+pub clear-at : (M : Parameters) (p n : ℕ) → clear M p n ≡ true → (q : ℕ) → In p n q → not (sealed M q) ≡ true
+unfolding clear
+clear-at M p n h q x =
+    subst (λ (z : ℕ). not (sealed M z) ≡ true) (omega arith) (all-at n (λ b. not (sealed M (p + b))) h (q - p) (omega arith))
+
+pub clear-true : (M : Parameters) (p n : ℕ) → ((q : ℕ) → In p n q → not (sealed M q) ≡ true) → clear M p n ≡ true
+unfolding clear
+clear-true M p n h = all-true n (λ b. not (sealed M (p + b))) (λ b l. h (p + b) (omega arith))
+
+-- for code: the test by the ends of the two ranges
+pub clear-range : (M : Parameters) (p n : ℕ) → clear M p n ≡ eqb n 0 || (eqb (M .sealLen) 0 || (leb (p + n) (M .sealAt) || leb (M .sealAt + M .sealLen) p))
+clear-range M p n = same-test (clear M p n) (eqb n 0 || (eqb (M .sealLen) 0 || (leb (p + n) (M .sealAt) || leb (M .sealAt + M .sealLen) p)))
+    (λ h. there h (eqb n 0) refl (eqb (M .sealLen) 0) refl (leb (p + n) (M .sealAt)) refl (leb (M .sealAt + M .sealLen) p) refl)
+    (λ h. clear-true M p n (λ q x. not-within (M .sealAt) (M .sealLen) q (λ y. back h q x y (eqb n 0) refl (eqb (M .sealLen) 0) refl (leb (p + n) (M .sealAt)) refl)))
+  where
+    there : clear M p n ≡ true → (s : Bool) → eqb n 0 ≡ s → (t : Bool) → eqb (M .sealLen) 0 ≡ t → (u : Bool) → leb (p + n) (M .sealAt) ≡ u → (v : Bool) → leb (M .sealAt + M .sealLen) p ≡ v → s || (t || (u || v)) ≡ true
+    there h true es t et u eu v ev = refl
+    there h false es true et u eu v ev = refl
+    there h false es false et true eu v ev = refl
+    there h false es false et false eu true ev = refl
+    there h false es false et false eu false ev =
+        let a : M .sealAt < p + n = leb-false (p + n) (M .sealAt) eu in
+        let b : p < M .sealAt + M .sealLen = leb-false (M .sealAt + M .sealLen) p ev in
+        let c : ¬ (n ≡ 0) = eqb-false n 0 es in
+        let d : ¬ (M .sealLen ≡ 0) = eqb-false (M .sealLen) 0 et in
+        absurd (meets (le-or-lt p (M .sealAt)) a b c d)
+      where
+        meets : (p ≤ M .sealAt) ⊎ (M .sealAt < p) → M .sealAt < p + n → p < M .sealAt + M .sealLen → ¬ (n ≡ 0) → ¬ (M .sealLen ≡ 0) → ⊥
+        meets (inl g) a b c d = within-not (M .sealAt) (M .sealLen) (M .sealAt) (clear-at M p n h (M .sealAt) (g, a)) (omega arith, positive d)
+          where
+            positive : ¬ (M .sealLen ≡ 0) → M .sealAt < M .sealAt + M .sealLen
+            positive d = elim (le-or-lt (M .sealLen) 0) [ inl z ↦ absurd (d (omega arith)) | inr z ↦ omega arith ]
+        meets (inr g) a b c d = within-not (M .sealAt) (M .sealLen) p (clear-at M p n h p (omega arith, positive c)) (omega arith, b)
+          where
+            positive : ¬ (n ≡ 0) → p < p + n
+            positive c = elim (le-or-lt n 0) [ inl z ↦ absurd (c (omega arith)) | inr z ↦ omega arith ]
+
+    back : eqb n 0 || (eqb (M .sealLen) 0 || (leb (p + n) (M .sealAt) || leb (M .sealAt + M .sealLen) p)) ≡ true → (q : ℕ) → In p n q → In (M .sealAt) (M .sealLen) q
+        → (s : Bool) → eqb n 0 ≡ s → (t : Bool) → eqb (M .sealLen) 0 ≡ t → (u : Bool) → leb (p + n) (M .sealAt) ≡ u → ⊥
+    back h q x y true es t et u eu = omega (arith, eqb-true n 0 es)
+    back h q x y false es true et u eu = omega (arith, eqb-true (M .sealLen) 0 et)
+    back h q x y false es false et true eu = omega (arith, leb-true (p + n) (M .sealAt) eu)
+    back h q x y false es false et false eu =
+        omega (
+          arith,
+          leb-true (M .sealAt + M .sealLen) p (or-not (leb (p + n) (M .sealAt)) (leb (M .sealAt + M .sealLen) p)
+              (or-not (eqb (M .sealLen) 0) (leb (p + n) (M .sealAt) || leb (M .sealAt + M .sealLen) p)
+              (or-not (eqb n 0) (eqb (M .sealLen) 0 || (leb (p + n) (M .sealAt) || leb (M .sealAt + M .sealLen) p)) h es) et) eu),
+        )
+
+pub unsealed-true : (M : Parameters) (base stride rows n : ℕ) → ((i : ℕ) → i < rows → clear M (rowAt base stride i) n ≡ true) → unsealed M base stride rows n ≡ true
+unfolding unsealed
+unsealed-true M base stride rows n h = all-true rows (λ i. clear M (rowAt base stride i) n) h
+
+pub unsealed-at : (M : Parameters) (base stride rows n : ℕ) → unsealed M base stride rows n ≡ true → (i : ℕ) → i < rows → clear M (rowAt base stride i) n ≡ true
+unfolding unsealed
+unsealed-at M base stride rows n h = all-at rows (λ i. clear M (rowAt base stride i) n) h
+
+-- a part of unsealed bytes is unsealed
+pub clear-part : (M : Parameters) (p n q o : ℕ) → clear M p n ≡ true → p ≤ q → q + o ≤ p + n → clear M q o ≡ true
+clear-part M p n q o h a b = clear-true M q o (λ r x. clear-at M p n h r (omega arith))
+
+-- ---- the rows of a block
+
+times-add : (a b : ℕ) (z : ℤ) → pos (a + b) *ℤ z ≡ pos a *ℤ z +ℤ pos b *ℤ z
+times-add a b (pos n) = ap pos (add-mul a b n)
+times-add a b (negsuc n) = ap (λ (x : ℕ). negℤ (pos x)) (add-mul a b (suc n)) ∙ negℤ-+ℤ (pos (a * suc n)) (pos (b * suc n))
+
+-- row i of the block that starts c bytes into row i₀ is c bytes into row i₀ + i
+pub block-row : (base stride i₀ i c : ℕ) → rowZ base stride i₀ ≡ pos (rowAt base stride i₀) → rowZ base stride (i₀ + i) ≡ pos (rowAt base stride (i₀ + i))
+    → rowZ (rowAt base stride i₀ + c) stride i ≡ pos (rowAt base stride (i₀ + i) + c)
+block-row base stride i₀ i c e e′ =
+    let z : ℤ = signed 18446744073709551616 stride in
+    let p : ℕ = rowAt base stride i₀ in
+    let f : pos (p + c) ≡ pos c +ℤ pos p = ap pos (omega arith) in
+    let g : pos base +ℤ pos (i₀ + i) *ℤ z ≡ (pos base +ℤ pos i₀ *ℤ z) +ℤ pos i *ℤ z =
+    ap (λ (y : ℤ). pos base +ℤ y) (times-add i₀ i z) ∙ sym (+ℤ-assoc (pos base) (pos i₀ *ℤ z) (pos i *ℤ z)) in
+    ap (λ (y : ℤ). y +ℤ pos i *ℤ z) f ∙ +ℤ-assoc (pos c) (pos p) (pos i *ℤ z)
+    ∙ ap (λ (y : ℤ). pos c +ℤ y) (ap (λ (y : ℤ). y +ℤ pos i *ℤ z) (sym e) ∙ sym g ∙ e′)
+    ∙ +ℤ-comm (pos c) (pos (rowAt base stride (i₀ + i)))
+
+-- a block of rows × o bytes from row i₀, c bytes in, of a matrix of n bytes a row that lies in memory
+module _ (len base stride total n : ℕ) (in-memory : inside len base stride total n ≡ true) (i₀ c rows o : ℕ) (0<rows : zero < rows) (0<n : zero < n) (rows≤ : i₀ + rows ≤ total) (o≤ : c + o ≤ n) where
+  pub block-rowZ : (i : ℕ) → i < rows → rowZ (rowAt base stride i₀ + c) stride i ≡ pos (rowAt base stride (i₀ + i) + c)
+  block-rowZ i l =
+      block-row base stride i₀ i c
+      (inside-at len base stride total n in-memory 0<n i₀ (omega arith) .0)
+      (inside-at len base stride total n in-memory 0<n (i₀ + i) (omega arith) .0)
+
+  pub block-rowAt : (i : ℕ) → i < rows → rowAt (rowAt base stride i₀ + c) stride i ≡ rowAt base stride (i₀ + i) + c
+  block-rowAt i l = ap address (block-rowZ i l)
+
+  pub block-inside : inside len (rowAt base stride i₀ + c) stride rows o ≡ true
+  block-inside =
+      inside-true len (rowAt base stride i₀ + c) stride rows o (λ i l.
+      fits-true len o (rowAt base stride (i₀ + i) + c) (rowZ (rowAt base stride i₀ + c) stride i) (block-rowZ i l)
+      (omega (arith, inside-at len base stride total n in-memory 0<n (i₀ + i) (omega arith) .1)))
+
+-- ---- for code: a row's address by unsigned arithmetic
+
+-- a stride that is not negative
+pub rowZ-up : (base stride i : ℕ) → stride + stride < 18446744073709551616 → rowZ base stride i ≡ pos (base + i * stride)
+rowZ-up base stride i h = rw (lt-ltb (stride + stride) 18446744073709551616 h)
+
+-- a negative one, its size d, and a row that lies at 0 or above
+pub rowZ-down : (base stride i d : ℕ) → 18446744073709551616 ≤ stride + stride → stride + suc d ≡ 18446744073709551616 → i * suc d ≤ base → rowZ base stride i ≡ pos (base - i * suc d)
+rowZ-down base stride i d h e l =
+    let x : 18446744073709551616 - suc stride ≡ d = omega arith in
+    rw (le-ltb (stride + stride) 18446744073709551616 h, x) (minus base (i * suc d) l)
+  where
+    minus : (a b : ℕ) → b ≤ a → pos a +ℤ negℤ (pos b) ≡ pos (a - b)
+    minus a zero l = ap pos (omega arith)
+    minus a (suc b) l = rw (le-ltb a (suc b) l)
+
+-- and one that lies below
+pub rowZ-below : (len n base stride i d : ℕ) → 18446744073709551616 ≤ stride + stride → stride + suc d ≡ 18446744073709551616 → base < i * suc d → fits len n (rowZ base stride i) ≡ false
+rowZ-below len n base stride i d h e l =
+    let x : 18446744073709551616 - suc stride ≡ d = omega arith in
+    rw (le-ltb (stride + stride) 18446744073709551616 h, x) (minus base (i * suc d) l)
+  where
+    minus : (a b : ℕ) → a < b → fits len n (pos a +ℤ negℤ (pos b)) ≡ false
+    minus a zero l = absurd (not-suc-le-zero l)
+    minus a (suc b) l = rw (lt-ltb a (suc b) l)

@@ -1,0 +1,264 @@
+-- A step of a machine that is not at fault leaves one that is not at fault; and so does a start.
+use mathlib.Core.Path.{_≡_, refl, sym, ap, _∙_, subst}
+use mathlib.Core.Logic.{inl, inr}
+use mathlib.Core.Bool.{Bool, true, false, cond}
+use mathlib.Core.List.{List, [], _∷_}
+use Prim.Native.Nat.{ℕ, zero, suc, _+_, _*_, _-_, _/_, _^_, _≤_, _<_, min}
+use native.Mathlib.Nat.{div-le-self}
+use native.Mathlib.Decide.{ℕ-discrete}
+use native.Mathlib.Omega.{arith}
+use lib.ListN.{length, getD, set, length-set, List·getD-eq-default, replicate, length-replicate}
+use lib.Seq.{getD-set-same, getD-set-other}
+use lib.Dec.{leb, ltb, eqb}
+use borrow.Author.Tests.{le-leb, lt-ltb, eq-eqb, leb-true, ltb-true, eqb-true}
+use Rattle.width.proofs.UptoLaws.{upto-keeps}
+use Rattle.width.specs.Tile.{markTile, markRow}
+use Rattle.width.proofs.TileLaws.{length-putTile, length-markTile}
+use Rattle.width.specs.Blocks.{Grants}
+use Rattle.width.proofs.BlockLaws.{le-or-lt}
+use Rattle.machine.specs.declared.Machine.{Machine}
+use Rattle.machine.specs.declared.Dimension.the-variants.{DimensionM, DimensionK, DimensionN}
+use Rattle.machine.specs.declared.Instruction.{Instruction}
+use Rattle.machine.specs.Tests.{allOf}
+use Rattle.machine.proofs.TestLaws.{false-true, allOf-true, allOf-at, every-each, each-every}
+use Rattle.machine.specs.Answers.{Check, isDone, verdict}
+use Rattle.machine.specs.Geometry.{elen}
+use Rattle.machine.specs.Faults.{soundBench}
+use Rattle.machine.specs.Geometry.{Parameters, parameters, State, stateOf, machineAfter, permitted, registerBytes}
+use Rattle.machine.specs.Setting.{legalType, newType, maxK, maxN, sew}
+use Rattle.machine.specs.Operation
+use Rattle.machine.specs.Operation.{Operation, stateAfter, written}
+use Rattle.machine.specs.Faults.{sound}
+use Rattle.machine.specs.Starting.{sealEnds, startChecks, startMachine, StartOutcome, freshMachine, noMachine}
+use Rattle.machine.specs.Theorems.{StepKeepsSound, StartIsSound}
+use Rattle.machine.proofs.CheckLaws.{passed}
+use Rattle.machine.specs.declared.Answer.the-variants.{Done}
+use Rattle.machine.specs.Listing
+use Rattle.machine.specs.Step
+use Rattle.machine.specs.Step.{outcome, stepBy, stepChecks, meant, given, left}
+
+-- what is right with the state of a machine of so many rows, bytes of a row, and bytes of all registers
+pub record Sane (rows pitch total : ℕ) (st : State) : Type 0 where
+  pub regs-length : length (st .regs) ≡ total
+  pub marks-length : length (st .marks) ≡ total
+  pub marks-two : (q : ℕ) → getD (st .marks) q 0 < 2
+  pub type-arises : newType elen (st .mtype) ≡ st .mtype
+  pub m-fits : st .tileM ≤ rows
+  pub k-fits : st .tileK ≤ min rows pitch
+  pub n-fits : st .tileN ≤ pitch
+
+pub record Sound (m : Machine) (registers marks : List ℕ) : Type 0 where
+  pub lengths : permitted (m .rlen) (m .mlen) ≡ true
+  pub seal-ends : m .«seal_start» + m .«seal_length» ≤ 2 ^ 64 - 1
+  pub state : Sane (m .mlen / m .rlen) (m .rlen / 8) (registerBytes (m .mlen)) (stateOf m registers marks)
+
+module _ (m : Machine) (registers marks : List ℕ) where
+  abbrev tests : List Bool
+  tests =
+      permitted (m .rlen) (m .mlen)
+      ∷ eqb (length registers) (registerBytes (m .mlen))
+      ∷ eqb (length marks) (registerBytes (m .mlen))
+      ∷ eqb (newType elen (m .mtype)) (m .mtype)
+      ∷ leb (m .«tile_m») (m .mlen / m .rlen)
+      ∷ leb (m .«tile_k») (min (m .mlen / m .rlen) (m .rlen / 8))
+      ∷ leb (m .«tile_n») (m .rlen / 8)
+      ∷ sealEnds (m .«seal_start») (m .«seal_length»)
+      ∷ allOf (λ mark. ltb mark 2) marks ∷ []
+
+  pub sound-is : sound m registers marks ≡ true → Sound m registers marks
+  unfolding sound
+  sound-is h =
+      let t = every-each tests h in
+      record {
+        lengths = t .0;
+        seal-ends = leb-true (m .«seal_start» + m .«seal_length») (2 ^ 64 - 1) (t .1 .1 .1 .1 .1 .1 .1 .0);
+        state = record {
+          regs-length = eqb-true (length registers) (registerBytes (m .mlen)) (t .1 .0);
+          marks-length = eqb-true (length marks) (registerBytes (m .mlen)) (t .1 .1 .0);
+          marks-two = λ q. elim (le-or-lt (length marks) q) [
+            | inl l ↦ rw (List·getD-eq-default marks 0 {n = q} l) (omega arith)
+            | inr l ↦ ltb-true (getD marks q 0) 2 (allOf-at (λ mark. ltb mark 2) marks (t .1 .1 .1 .1 .1 .1 .1 .1 .0) q l)
+          ];
+          type-arises = eqb-true (newType elen (m .mtype)) (m .mtype) (t .1 .1 .1 .0);
+          m-fits = leb-true (m .«tile_m») (m .mlen / m .rlen) (t .1 .1 .1 .1 .0);
+          k-fits = leb-true (m .«tile_k») (min (m .mlen / m .rlen) (m .rlen / 8)) (t .1 .1 .1 .1 .1 .0);
+          n-fits = leb-true (m .«tile_n») (m .rlen / 8) (t .1 .1 .1 .1 .1 .1 .0);
+        };
+      }
+
+  pub sound-true : Sound m registers marks → sound m registers marks ≡ true
+  unfolding sound
+  sound-true h =
+      let s = h .state in
+      each-every tests (
+        h .lengths,
+        (
+          eq-eqb (length registers) (registerBytes (m .mlen)) (s .regs-length),
+          (
+            eq-eqb (length marks) (registerBytes (m .mlen)) (s .marks-length),
+            (
+              eq-eqb (newType elen (m .mtype)) (m .mtype) (s .type-arises),
+              (
+                le-leb (m .«tile_m») (m .mlen / m .rlen) (s .m-fits),
+                (
+                  le-leb (m .«tile_k») (min (m .mlen / m .rlen) (m .rlen / 8)) (s .k-fits),
+                  (
+                    le-leb (m .«tile_n») (m .rlen / 8) (s .n-fits),
+                    (
+                      le-leb (m .«seal_start» + m .«seal_length») (2 ^ 64 - 1) (h .seal-ends),
+                      (allOf-true (λ mark. ltb mark 2) marks (λ q l. lt-ltb (getD marks q 0) 2 (s .marks-two q)), tt),
+                    ),
+                  ),
+                ),
+              ),
+            ),
+          ),
+        ),
+      )
+
+-- ---- what an operation leaves
+
+-- marks stay 0 or 1
+set-two : (ms : List ℕ) (p q : ℕ) → getD ms q 0 < 2 → getD (set ms p 1) q 0 < 2
+set-two ms p q h = elim (ℕ-discrete q p) [ yes e ↦ at e | no d ↦ rw (getD-set-other ms p q 1 0 d) h ]
+  where
+    at : q ≡ p → getD (set ms p 1) q 0 < 2
+    at e = elim (le-or-lt (length ms) q) [
+      | inl l ↦ rw (List·getD-eq-default (set ms p 1) 0 {n = q} (omega (arith, length-set ms p 1))) (omega arith)
+      | inr l ↦ subst (λ (i : ℕ). getD (set ms i 1) q 0 < 2) e (rw (getD-set-same ms q 1 0 l) (omega arith))
+    ]
+
+marks-still : (at : ℕ → ℕ) (rows n : ℕ) (ms : List ℕ) → ((q : ℕ) → getD ms q 0 < 2) → (q : ℕ) → getD (markTile at rows n ms) q 0 < 2
+unfolding markTile markRow
+marks-still at rows n ms h q =
+    upto-keeps (λ ys. getD ys q 0 < 2) rows (λ i ys. markRow (at i) n ys) ms
+    (λ i l ys g. upto-keeps (λ zs. getD zs q 0 < 2) n (λ b zs. set zs (at i + b) 1) ys (λ b l′ zs g′. set-two zs (at i + b) q g′) g) (h q)
+
+new-arises : (v : ℕ) → newType elen (newType elen v) ≡ newType elen v
+unfolding newType legalType
+new-arises v = go (legalType elen v) refl
+  where
+    go : (t : Bool) → legalType elen v ≡ t → newType elen (cond t v (2 ^ 63)) ≡ cond t v (2 ^ 63)
+    go true e = rw e
+    go false e = refl
+
+grant-le : (grant : ℕ → ℕ → ℕ) → Grants grant → (max a : ℕ) → grant max a ≤ max
+grant-le grant G max a = elim (le-or-lt (2 * max) a) [ inl l ↦ omega (arith, G .large max a l) | inr l ↦ omega (arith, G .middle max a l) ]
+
+module _ (M : Parameters) (G : Grants (M .grant)) (of-elen : M .elen ≡ elen) (total : ℕ) where
+  abbrev Right : State → Type 0
+  Right st = Sane (M .rows) (M .pitch) total st
+
+  wrote : (st : State) (at : ℕ → ℕ) (rows cols w : ℕ) (value : ℕ → ℕ → ℕ) → Right st → Right (written st at rows cols w value)
+  wrote st at rows cols w value h = record {
+    regs-length = length-putTile at rows cols w value (st .regs) ∙ h .regs-length;
+    marks-length = length-markTile at rows (cols * w) (st .marks) ∙ h .marks-length;
+    marks-two = marks-still at rows (cols * w) (st .marks) (h .marks-two);
+    type-arises = h .type-arises;
+    m-fits = h .m-fits;
+    k-fits = h .k-fits;
+    n-fits = h .n-fits;
+  }
+
+  pub sane-after : (o : Operation) (st : State) (mem : List ℕ) → Right st → Right (stateAfter M o st mem)
+  sane-after Operation.illegal st mem h = h
+  sane-after (Operation.setType v) st mem h = record {
+    regs-length = h .regs-length;
+    marks-length = h .marks-length;
+    marks-two = h .marks-two;
+    type-arises = subst (λ (e : ℕ). newType elen (newType e v) ≡ newType e v) (sym of-elen) (new-arises v);
+    m-fits = h .m-fits;
+    k-fits = h .k-fits;
+    n-fits = h .n-fits;
+  }
+  sane-after (Operation.setSize DimensionM a) st mem h = record {
+    regs-length = h .regs-length;
+    marks-length = h .marks-length;
+    marks-two = h .marks-two;
+    type-arises = h .type-arises;
+    m-fits = grant-le (M .grant) G (M .rows) a;
+    k-fits = h .k-fits;
+    n-fits = h .n-fits;
+  }
+  sane-after (Operation.setSize DimensionK a) st mem h = record {
+    regs-length = h .regs-length;
+    marks-length = h .marks-length;
+    marks-two = h .marks-two;
+    type-arises = h .type-arises;
+    m-fits = h .m-fits;
+    k-fits = omega (arith, grant-le (M .grant) G (maxK M (st .mtype)) a, div-le-self (M .pitch) (sew (st .mtype)));
+    n-fits = h .n-fits;
+  }
+  sane-after (Operation.setSize DimensionN a) st mem h = record {
+    regs-length = h .regs-length;
+    marks-length = h .marks-length;
+    marks-two = h .marks-two;
+    type-arises = h .type-arises;
+    m-fits = h .m-fits;
+    k-fits = h .k-fits;
+    n-fits = omega (arith, grant-le (M .grant) G (maxN M (st .mtype)) a, div-le-self (M .pitch) (sew (st .mtype)));
+  }
+  sane-after Operation.keepSize st mem h = h
+  sane-after (Operation.load k r w b s) st mem h = wrote st _ _ _ _ _ h
+  sane-after (Operation.store k r w b s) st mem h = h
+  sane-after (Operation.combine o f d a) st mem h = wrote st _ _ _ _ _ h
+  sane-after (Operation.multiply f d a b) st mem h = wrote st _ _ _ _ _ h
+  sane-after (Operation.scale f d a x) st mem h = wrote st _ _ _ _ _ h
+
+-- ---- no step leaves a machine at fault
+
+pub step-sound : StepKeepsSound
+unfolding stepBy outcome
+step-sound grant G word xs B h = go (isDone (verdict (stepChecks M i xs B)))
+  where
+    M : Parameters
+    M = parameters grant (B .machine)
+
+    i : Instruction
+    i = Listing.decode word
+
+    s : Sound (B .machine) (B .registers) (B .marks)
+    s = sound-is (B .machine) (B .registers) (B .marks) h
+
+    after : Sane (M .rows) (M .pitch) (registerBytes (B .machine .mlen)) (left M i xs B)
+    after = sane-after M G refl (registerBytes (B .machine .mlen)) (meant M i xs B) (given M i xs B) (B .memory) (s .state)
+
+    go : (t : Bool) → soundBench (cond t (Step.carriedOut M i xs B) (Step.refused M i xs B (verdict (stepChecks M i xs B))) .bench) ≡ true
+    go true = sound-true (machineAfter (B .machine) (left M i xs B)) (left M i xs B .regs) (left M i xs B .marks) (record { lengths = s .lengths; seal-ends = s .seal-ends; state = after })
+    go false = h
+
+-- ---- and no start either
+
+zeros : (n q : ℕ) → getD {A = ℕ} (replicate n 0) q 0 ≡ 0
+zeros zero q = refl
+zeros (suc n) zero = refl
+zeros (suc n) (suc q) = zeros n q
+
+pub start-sound : StartIsSound
+unfolding startMachine newType legalType sew
+start-sound rlen mlen sealStart sealLength registers marks memory = go (isDone (verdict checks)) refl
+  where
+    checks : List Check
+    checks = startChecks rlen mlen sealStart sealLength registers marks
+
+    out : Bool → StartOutcome
+    out t = cond t (record { answer = Done; machine = freshMachine rlen mlen sealStart sealLength; registers = registers; marks = replicate (length marks) 0 })
+        (record { answer = verdict checks; machine = noMachine; registers = registers; marks = marks })
+
+    go : (t : Bool) → isDone (verdict checks) ≡ t → out t .answer ≡ Done → sound (out t .machine) (out t .registers) (out t .marks) ≡ true
+    go false e d = absurd (false-true (sym e ∙ ap isDone d))
+    go true e d =
+        let c = passed checks refl e in
+        sound-true (freshMachine rlen mlen sealStart sealLength) registers (replicate (length marks) 0) (record {
+          lengths = c .0;
+          seal-ends = leb-true (sealStart + sealLength) (2 ^ 64 - 1) (c .1 .1 .1 .0);
+          state = record {
+            regs-length = eqb-true (length registers) (registerBytes mlen) (c .1 .0);
+            marks-length = length-replicate (length marks) 0 ∙ eqb-true (length marks) (registerBytes mlen) (c .1 .1 .0);
+            marks-two = λ q. rw (zeros (length marks) q) (omega arith);
+            type-arises = refl;
+            m-fits = omega arith;
+            k-fits = omega arith;
+            n-fits = omega arith;
+          };
+        })

@@ -1,0 +1,121 @@
+-- Demand 2: over any list of words, each with its scalars, no sealed byte of memory changes, and the seal stays.
+use mathlib.Core.Path.{_≡_, refl, sym, ap, _∙_, subst}
+use mathlib.Core.Bool.{Bool, true, false, cond}
+use mathlib.Core.List.{List, [], _∷_}
+use Prim.Native.Nat.{ℕ}
+use lib.ListN.{length, getD}
+use Rattle.width.proofs.TileLaws.{putTile-out, length-putTile}
+use Rattle.machine.specs.declared.Answer.the-variants.{Done}
+use Rattle.machine.specs.declared.Instruction.{Instruction}
+use Rattle.machine.specs.Tests.{within}
+use Rattle.machine.proofs.TestLaws.{false-true, in-within}
+use Rattle.machine.specs.Answers.{isDone, verdict}
+use Rattle.machine.proofs.CheckLaws.{Passed, passed, refusals}
+use Rattle.machine.specs.Geometry.{Parameters, parameters, State}
+use Rattle.machine.specs.Setting.{smaller}
+use Rattle.machine.specs.Geometry.{sealed}
+use Rattle.machine.specs.Memory.{rowAt}
+use Rattle.machine.proofs.MemoryLaws.{clear-at, unsealed-at}
+use Rattle.machine.specs.Listing.{decode}
+use Rattle.machine.specs.Operation.{Operation, memoryAfter}
+use Rattle.machine.specs.Refusals.{checks}
+use Rattle.machine.specs.Geometry.{Bench}
+use Rattle.machine.specs.Starting.{startChecks, startMachine, StartOutcome, freshMachine, noMachine}
+use Rattle.machine.specs.Theorems.{Unharmed, SealHolds, SealHoldsFromStart, startedBench}
+use lib.ListN.{replicate}
+use Rattle.machine.specs.Answers.{Check}
+use Rattle.machine.specs.Step
+use Rattle.machine.specs.Step.{outcome, stepBy, stepChecks, meant, given}
+
+-- ---- one operation
+
+-- each check of an operation refuses
+pub refusing : (M : Parameters) (o : Operation) (st : State) (mem : List ℕ) → refusals (checks M o st mem) ≡ true
+refusing M Operation.illegal st mem = refl
+refusing M (Operation.setType v) st mem = refl
+refusing M (Operation.setSize d a) st mem = refl
+refusing M Operation.keepSize st mem = refl
+refusing M (Operation.load k r w b s) st mem = refl
+refusing M (Operation.store k r w b s) st mem = refl
+refusing M (Operation.multiply f d a b) st mem = refl
+refusing M (Operation.combine o f d a) st mem = refl
+refusing M (Operation.scale f d a x) st mem = refl
+
+module _ (M : Parameters) (st : State) (mem : List ℕ) where
+  pub operation-length : (o : Operation) → length (memoryAfter M o st mem) ≡ length mem
+  operation-length Operation.illegal = refl
+  operation-length (Operation.setType v) = refl
+  operation-length (Operation.setSize d a) = refl
+  operation-length Operation.keepSize = refl
+  operation-length (Operation.load k r w b s) = refl
+  operation-length (Operation.store k r w b s) = length-putTile _ _ _ _ _ mem
+  operation-length (Operation.multiply f d a b) = refl
+  operation-length (Operation.combine o f d a) = refl
+  operation-length (Operation.scale f d a x) = refl
+
+  operation-sealed : (o : Operation) → Passed (checks M o st mem) → (q : ℕ) → sealed M q ≡ true → getD (memoryAfter M o st mem) q 0 ≡ getD mem q 0
+  operation-sealed Operation.illegal p q h = refl
+  operation-sealed (Operation.setType v) p q h = refl
+  operation-sealed (Operation.setSize d a) p q h = refl
+  operation-sealed Operation.keepSize p q h = refl
+  operation-sealed (Operation.load k r w b s) p q h = refl
+  operation-sealed (Operation.store k r w b s) p q h =
+      putTile-out (rowAt b s) _ _ w _ mem q (λ i l x.
+      false-true (rw h at (clear-at M (rowAt b s i) _ (unsealed-at M b s _ _ (p .1 .1 .1 .1 .1 .1 .0) i l) q x)))
+  operation-sealed (Operation.multiply f d a b) p q h = refl
+  operation-sealed (Operation.combine o f d a) p q h = refl
+  operation-sealed (Operation.scale f d a x) p q h = refl
+
+-- ---- one step
+
+pub step-unharmed : (grant : ℕ → ℕ → ℕ) (word : ℕ) (xs : List ℕ) (B : Bench) → Unharmed grant B (stepBy grant word xs B .bench)
+unfolding stepBy outcome
+step-unharmed grant word xs B = go (isDone (verdict (stepChecks M i xs B))) refl
+  where
+    M : Parameters
+    M = parameters grant (B .machine)
+
+    i : Instruction
+    i = decode word
+
+    go : (t : Bool) → isDone (verdict (stepChecks M i xs B)) ≡ t
+        → Unharmed grant B (cond t (Step.carriedOut M i xs B) (Step.refused M i xs B (verdict (stepChecks M i xs B))) .bench)
+    go true e =
+        let p = passed (stepChecks M i xs B) (refusing M (meant M i xs B) (given M i xs B) (B .memory)) e in
+        record {
+          same-parameters = refl;
+          same-length = operation-length M (given M i xs B) (B .memory) (meant M i xs B);
+          same-bytes = operation-sealed M (given M i xs B) (B .memory) (meant M i xs B) (p .1 .1);
+        }
+    go false e = record { same-parameters = refl; same-length = refl; same-bytes = λ q h. refl }
+
+-- ---- any number of steps
+
+pub seal-holds : SealHolds
+seal-holds grant [] B = record { same-parameters = refl; same-length = refl; same-bytes = λ q h. refl }
+seal-holds grant (w ∷ ws) B =
+    let u = step-unharmed grant (w .word) (w .scalars) B in
+    let v = seal-holds grant ws (stepBy grant (w .word) (w .scalars) B .bench) in
+    record {
+      same-parameters = v .same-parameters ∙ u .same-parameters;
+      same-length = v .same-length ∙ u .same-length;
+      same-bytes = λ q h. v .same-bytes q (subst (λ (M : Parameters). sealed M q ≡ true) (sym (u .same-parameters)) h) ∙ u .same-bytes q h;
+    }
+
+-- from a started machine
+
+pub seal-holds-from-start : SealHoldsFromStart
+unfolding startMachine
+seal-holds-from-start rlen mlen sealStart sealLength registers marks memory d ws q x =
+    seal-holds smaller ws (startedBench rlen mlen sealStart sealLength registers marks memory) .same-bytes q (go (isDone (verdict checks)) refl d)
+  where
+    checks : List Check
+    checks = startChecks rlen mlen sealStart sealLength registers marks
+
+    out : Bool → StartOutcome
+    out t = cond t (record { answer = Done; machine = freshMachine rlen mlen sealStart sealLength; registers = registers; marks = replicate (length marks) 0 })
+        (record { answer = verdict checks; machine = noMachine; registers = registers; marks = marks })
+
+    go : (t : Bool) → isDone (verdict checks) ≡ t → out t .answer ≡ Done → within (out t .machine .«seal_start») (out t .machine .«seal_length») q ≡ true
+    go false e d = absurd (false-true (sym e ∙ ap isDone d))
+    go true e d = in-within sealStart sealLength q x

@@ -1,0 +1,193 @@
+-- Refusals of each number and their neighbours, computed: a machine of RLEN 64 and MLEN 128 (two rows of eight bytes).
+use mathlib.Core.Path.{_≡_, refl}
+use mathlib.Core.List.{List, [], _∷_, _++_, map}
+use Prim.Native.Nat.{ℕ, _+_, _*_, _-_, _^_}
+use lib.ListN.{getD, replicate, set}
+use Rattle.width.specs.Reduce.{reduce}
+use Rattle.width.specs.Tile.{putTile, putRow, putLe, markTile, markRow}
+use Rattle.machine.specs.declared.Machine.{Machine}
+use Rattle.machine.specs.declared.Answer.{Answer}
+use Rattle.machine.specs.Answers.{number, rowOf, columnOf}
+use Rattle.machine.specs.Geometry.{permitted}
+use Rattle.machine.specs.Setting.{sew, newType, legalType}
+use Rattle.machine.specs.Refusals.{widthOk, widthOf}
+use Rattle.machine.specs.Memory.{inside, clear, unsealed}
+use Rattle.machine.specs.Refusals.{marked}
+use Rattle.machine.specs.Listing.{decode, listing}
+use Rattle.machine.specs.Geometry.{Bench}
+use Rattle.machine.specs.Faults.{sound}
+use Rattle.machine.specs.Step.{Outcome, step, stepBy, outcome}
+
+pub record Line : Type 0 where
+  pub got : List ℕ
+  pub want : List ℕ
+
+-- bits 31..25, 24..20, 19..15, 14..12 and 11..7
+pub word : ℕ → ℕ → ℕ → ℕ → ℕ → ℕ
+word f e d c b = f * 2 ^ 25 + e * 2 ^ 20 + d * 2 ^ 15 + c * 2 ^ 12 + b * 2 ^ 7 + 0b1110111
+
+-- mtype, the tile sizes, a seal, and a mark for every byte; a memory of 32 bytes
+pub bench : (t m k n sealStart sealLength mark : ℕ) → Bench
+bench t m k n s l mark = record {
+  machine = record { rlen = 64; mlen = 128; mtype = t; «tile_m» = m; «tile_k» = k; «tile_n» = n; «seal_start» = s; «seal_length» = l };
+  registers = replicate 256 5;
+  marks = replicate 256 mark;
+  memory = replicate 32 9;
+}
+
+-- scalars 10 and 11
+pub scalars : ℕ → ℕ → List ℕ
+scalars a b = replicate 10 0 ++ a ∷ b ∷ replicate 20 0
+
+pub shown : Answer → List ℕ
+shown a = number a ∷ rowOf a ∷ columnOf a ∷ []
+
+-- a word is stepped, and the answer's number, row and column come out
+pub gives : Outcome → ℕ → Line
+gives o n = record { got = shown (o .answer); want = n ∷ 0 ∷ 0 ∷ [] }
+
+pub unwritten : Outcome → ℕ → ℕ → Line
+unwritten o row column = record { got = shown (o .answer); want = 5 ∷ row ∷ column ∷ [] }
+
+pub good : Bench
+good = bench 0 2 2 2 0 0 1
+
+-- with other marks
+pub marking : List ℕ → Bench → Bench
+marking ms B = record { machine = B .machine; registers = B .registers; marks = ms; memory = B .memory }
+
+pub with : Machine → Bench → Bench
+with m B = record { machine = m; registers = B .registers; marks = B .marks; memory = B .memory }
+
+pub examples : List Line
+examples =
+    -- 8, before 1
+    gives (step 0 (replicate 31 0) good) 8
+    ∷ gives (step 0 (scalars 0 0) (bench 3 2 2 2 0 0 1)) 8
+    ∷ gives (step 0 (scalars 0 0) (bench 4 2 2 2 0 0 1)) 8
+    ∷ gives (step 0 (scalars 0 0) (bench 9 2 2 2 0 0 1)) 8
+    ∷ gives (step 0 (scalars 0 0) (bench 0 3 2 2 0 0 1)) 8
+    ∷ gives (step 0 (scalars 0 0) (bench 0 2 3 2 0 0 1)) 8
+    ∷ gives (step 0 (scalars 0 0) (bench 0 2 2 9 0 0 1)) 8
+    ∷ gives (step 0 (scalars 0 0) (bench 0 2 2 2 (2 ^ 64 - 1) 1 1)) 8
+    ∷ gives (step 0 (scalars 0 0) (bench 0 2 2 2 0 0 2)) 8
+    ∷ gives (step 0 (scalars 0 0) (marking (replicate 255 0) good)) 8
+    ∷ gives (step 0 (scalars 0 0) (with (record { rlen = 128; mlen = 128; mtype = 0; «tile_m» = 0; «tile_k» = 0; «tile_n» = 0; «seal_start» = 0; «seal_length» = 0 }) good)) 8
+    -- none of these is a fault: a seal that ends at 2^64 - 1, mtype 2^63 and 8, sizes above the maximum at the present SEW
+    ∷ gives (step (word 0 0 0 7 0) (scalars 0 0) (bench 0 2 2 8 (2 ^ 64 - 1) 0 1)) 0
+    ∷ gives (step (word 0 0 0 7 0) (scalars 0 0) (bench (2 ^ 63) 2 2 8 0 0 1)) 0
+    ∷ gives (step (word 0 0 0 7 0) (scalars 0 0) (bench 2 2 2 8 0 0 1)) 0
+    -- 1: the opcode; bits 14..12 of 100; a float; a transposed load; tr8; acc2; bits 27..20 of msettype; bits 24..20 of maddc
+    ∷ gives (step 0x00007033 (scalars 0 0) good) 1
+    ∷ gives (step (word 0b0000010 0 0 4 0) (scalars 0 0) good) 1
+    ∷ gives (step (word 0b0000001 0 0 6 0) (scalars 0 0) good) 1
+    ∷ gives (step (word 0b0001010 11 10 0 0) (scalars 0 8) good) 1
+    ∷ gives (step (word 0b0000010 11 10 0 8) (scalars 0 8) good) 1
+    ∷ gives (step (word 0b0000000 11 10 0 2) (scalars 0 8) good) 1
+    ∷ gives (step (word 0b0000000 8 0 6 0) (scalars 0 0) good) 1
+    ∷ gives (step (word 0b0000000 0 8 6 0) (scalars 0 0) good) 1
+    ∷ gives (step (word 0b0000000 0 0 6 2) (scalars 0 0) good) 1
+    ∷ gives (step (word 0b0001000 1 10 7 0) (scalars 0 0) good) 1
+    ∷ gives (step (word 0b0001100 0 10 7 0) (scalars 0 0) good) 1
+    ∷ gives (step (word 0b0001000 1 0 6 1) (scalars 0 0) good) 1
+    ∷ gives (step (word 0b1000000 0 0 7 0) (scalars 0 0) good) 1
+    -- 2, but msettypei is done
+    ∷ gives (step (word 0b0010000 0 0 7 0) (scalars 0 0) (bench (2 ^ 63) 0 0 0 0 0 1)) 2
+    ∷ gives (step (word 0b0011000 0 0 7 0) (scalars 0 0) (bench (2 ^ 63) 0 0 0 0 0 1)) 2
+    ∷ gives (step (word 0b0000010 11 10 0 0) (scalars 0 8) (bench (2 ^ 63) 0 0 0 0 0 1)) 2
+    ∷ gives (step (word 0b0001000 0 10 7 0) (scalars 0 0) (bench (2 ^ 63) 0 0 0 0 0 1)) 0
+    -- 3: a 16-bit and a 64-bit load of A at SEW 8; 32 bits of C at SEW 8, without and with maccq; double at SEW 32; quadruple
+    ∷ gives (step (word 0b0000010 11 10 1 0) (scalars 0 8) good) 3
+    ∷ gives (step (word 0b0000010 11 10 3 0) (scalars 0 8) good) 3
+    ∷ gives (step (word 0b0000000 11 10 2 0) (scalars 0 8) good) 3
+    ∷ gives (step (word 0b0000000 11 10 2 0) (scalars 0 8) (bench 8 2 2 2 0 0 1)) 0
+    ∷ gives (step (word 0b0000000 11 10 1 0) (scalars 0 8) good) 0
+    ∷ gives (step (word 0b0000010 1 0 6 0) (scalars 0 0) (bench 2 2 2 2 0 0 1)) 3
+    ∷ gives (step (word 0b0000100 1 0 6 0) (scalars 0 0) good) 3
+    ∷ gives (step (word 0b0000100 1 0 6 0) (scalars 0 0) (bench 8 2 2 2 0 0 1)) 0
+    -- 4: "tile_n 8 set at SEW 8, then SEW 16: a 16-bit load of B gives 4"; A does not use tile_n
+    ∷ gives (step (word 0b0000100 11 10 1 0) (scalars 0 8) (bench 1 2 2 8 0 0 1)) 4
+    ∷ gives (step (word 0b0000010 11 10 1 0) (scalars 0 8) (bench 1 2 2 8 0 0 1)) 0
+    ∷ gives (step (word 0b0000000 11 10 1 0) (scalars 0 8) (bench 1 0 2 8 0 0 1)) 4
+    -- 5: the first element without all its marks, in ms1, then ms2, then md; a multiply of no element reads nothing
+    ∷ unwritten (step (word 0b0000011 11 10 0 0) (scalars 0 8) (marking (set (replicate 256 1) 9 0) good)) 1 1
+    ∷ unwritten (step (word 0b0000000 1 0 6 0) (scalars 0 0) (marking (set (set (replicate 256 1) 8 0) 16 0) good)) 1 0
+    ∷ unwritten (step (word 0b0000000 1 0 6 0) (scalars 0 0) (marking (set (set (replicate 256 1) 17 0) 128 0) good)) 0 1
+    ∷ unwritten (step (word 0b0000010 1 0 6 0) (scalars 0 0) (marking (set (replicate 256 1) 163 0) good)) 1 1
+    ∷ gives (step (word 0b0000000 1 0 6 0) (scalars 0 0) (bench 0 0 2 2 0 0 0)) 0
+    ∷ unwritten (step (word 0b0000000 1 0 6 0) (scalars 0 0) (bench 0 2 0 2 0 0 0)) 0 0
+    ∷ unwritten (step (word 0b0001000 0 1 6 0) (scalars 0 0) (marking (set (replicate 256 1) 192 0) good)) 0 0
+    -- a multiplier of 0 reads no ms1: an immediate, slot 0, and 256 at SEW 8
+    ∷ gives (step (word 0b0100000 0 1 6 0) (scalars 0 0) (bench 0 2 2 2 0 0 0)) 0
+    ∷ gives (step (word 0b0011010 0 1 6 0) (scalars 0 0) (bench 0 2 2 2 0 0 0)) 0
+    ∷ gives (step (word 0b0011010 10 1 6 0) (scalars 256 0) (bench 0 2 2 2 0 0 0)) 0
+    ∷ unwritten (step (word 0b0011010 10 1 6 0) (scalars 257 0) (bench 0 2 2 2 0 0 0)) 0 0
+    -- 6: "A last byte at the end of memory is stored; one byte further gives 6"; strides down; no element, no address
+    ∷ gives (step (word 0b0000011 11 10 0 0) (scalars 22 8) good) 0
+    ∷ gives (step (word 0b0000011 11 10 0 0) (scalars 23 8) good) 6
+    ∷ gives (step (word 0b0000010 11 10 0 0) (scalars 8 (2 ^ 64 - 8)) good) 0
+    ∷ gives (step (word 0b0000010 11 10 0 0) (scalars 7 (2 ^ 64 - 8)) good) 6
+    ∷ gives (step (word 0b0000010 11 10 0 0) (scalars (2 ^ 64 - 8) 8) good) 6
+    ∷ gives (step (word 0b0000010 11 10 0 0) (scalars (2 ^ 64 - 8) 8) (bench 0 2 0 2 0 0 1)) 0
+    -- 7, after 6; not for a load, a seal of no byte, or a tile of no element
+    ∷ gives (step (word 0b0000011 11 10 0 0) (scalars 0 8) (bench 0 2 2 2 9 1 1)) 7
+    ∷ gives (step (word 0b0000011 11 10 0 0) (scalars 0 8) (bench 0 2 2 2 10 100 1)) 0
+    ∷ gives (step (word 0b0000011 11 10 0 0) (scalars 0 40) (bench 0 2 2 2 0 1 1)) 6
+    ∷ gives (step (word 0b0000010 11 10 0 0) (scalars 0 8) (bench 0 2 2 2 9 1 1)) 0
+    ∷ gives (step (word 0b0000011 11 10 0 0) (scalars 0 8) (bench 0 2 2 2 9 0 1)) 0
+    ∷ gives (step (word 0b0000011 11 10 0 0) (scalars 9 0) (bench 0 2 0 2 9 1 1)) 0
+    ∷ []
+
+pub refusals : map (λ l. l .got) examples ≡ map (λ l. l .want) examples
+unfolding examples word bench scalars shown gives unwritten good marking with permitted sew newType legalType widthOk widthOf inside clear unsealed marked listing decode sound stepBy outcome
+refusals = refl
+
+-- ---- effects
+
+-- settings by rs1: the scalar; the maximum where only rd is given; and with both x0 the size stays, even above the maximum
+pub settings : List Line
+settings =
+    (let o = step (word 0b0011000 0 10 7 3) (scalars 1 0) good in record { got = o .bench .machine .«tile_m» ∷ getD (o .scalars) 3 9 ∷ []; want = 1 ∷ 1 ∷ [] })
+    ∷ (let o = step (word 0b0111000 0 0 7 3) (scalars 1 0) good in record { got = o .bench .machine .«tile_n» ∷ getD (o .scalars) 3 9 ∷ []; want = 8 ∷ 8 ∷ [] })
+    ∷ (let o = step (word 0b0101000 0 0 7 10) (scalars 1 0) good in record { got = o .bench .machine .«tile_k» ∷ getD (o .scalars) 10 9 ∷ []; want = 2 ∷ 2 ∷ [] })
+    ∷ (let o = step (word 0b0111000 0 0 7 0) (scalars 1 0) (bench 1 2 2 8 0 0 1) in record { got = o .bench .machine .«tile_n» ∷ getD (o .scalars) 0 9 ∷ []; want = 8 ∷ 0 ∷ [] })
+    ∷ (let o = step (word 0b0111000 0 11 7 11) (scalars 1 100) good in record { got = o .bench .machine .«tile_n» ∷ getD (o .scalars) 11 9 ∷ []; want = 8 ∷ 8 ∷ [] })
+    ∷ (let o = step (word 0b0001000 0 0 7 4) (scalars 1 100) (bench 8 2 2 2 0 0 1) in record { got = o .bench .machine .mtype ∷ getD (o .scalars) 4 9 ∷ []; want = 0 ∷ 0 ∷ [] })
+    -- slot 0 is read as 0 and never written
+    ∷ (let o = step (word 0b0001000 0 0 7 0) (set (scalars 1 100) 0 2) (bench 8 2 2 2 0 0 1) in record { got = o .bench .machine .mtype ∷ getD (o .scalars) 0 9 ∷ []; want = 0 ∷ 2 ∷ [] })
+    ∷ (let o = step (word 0b0010000 0 1 7 0) (set (scalars 1 100) 0 2) good in record { got = o .bench .machine .«tile_m» ∷ getD (o .scalars) 0 9 ∷ []; want = 1 ∷ 2 ∷ [] })
+    ∷ []
+
+pub settings-right : map (λ l. l .got) settings ≡ map (λ l. l .want) settings
+unfolding settings word bench scalars good permitted sew newType legalType listing decode sound stepBy outcome
+settings-right = refl
+
+-- acc0 and acc1 hold 0xFB, -5 at SEW 8, in every byte: one element of each instruction, with the byte after it
+pub bytes : Outcome → ℕ → List ℕ
+bytes o p = getD (o .bench .registers) p 0 ∷ getD (o .bench .registers) (p + 1) 0 ∷ getD (o .bench .registers) (p + 2) 0 ∷ []
+
+pub minus5 : ℕ → Bench
+minus5 t = record { machine = bench t 1 1 1 0 0 1 .machine; registers = replicate 256 0xFB; marks = replicate 256 1; memory = [] }
+
+pub arithmetic : List Line
+arithmetic =
+    -- maddc, mwaddc, msubc, mwsubc, mrsubc, mwrsubc: md is 0xFB or 0xFBFB (-1029), ms1 is -5
+    record { got = bytes (step (word 0b0001000 0 1 6 0) (scalars 0 0) (minus5 0)) 128; want = 0xF6 ∷ 0xFB ∷ 0xFB ∷ [] }
+    ∷ record { got = bytes (step (word 0b0001010 0 1 6 0) (scalars 0 0) (minus5 0)) 128; want = 0xF6 ∷ 0xFB ∷ 0xFB ∷ [] }
+    ∷ record { got = bytes (step (word 0b0001110 0 1 6 0) (scalars 0 0) (minus5 0)) 128; want = 0 ∷ 0xFB ∷ 0xFB ∷ [] }
+    ∷ record { got = bytes (step (word 0b0010000 0 1 6 0) (scalars 0 0) (minus5 0)) 128; want = 0 ∷ 0xFC ∷ 0xFB ∷ [] }
+    ∷ record { got = bytes (step (word 0b0010100 0 1 6 0) (scalars 0 0) (minus5 0)) 128; want = 0 ∷ 0xFB ∷ 0xFB ∷ [] }
+    ∷ record { got = bytes (step (word 0b0010110 0 1 6 0) (scalars 0 0) (minus5 0)) 128; want = 0 ∷ 4 ∷ 0xFB ∷ [] }
+    -- memulc.mx by 259 (3), mwemulc.mx by 255 (-1) into its own source, memulc.mi and mwemulc.mi by -16
+    ∷ record { got = bytes (step (word 0b0011010 10 1 6 0) (scalars 259 0) (minus5 0)) 128; want = 0xF1 ∷ 0xFB ∷ 0xFB ∷ [] }
+    ∷ record { got = bytes (step (word 0b0011100 10 0 6 0) (scalars 255 0) (minus5 0)) 128; want = 5 ∷ 0 ∷ 0xFB ∷ [] }
+    ∷ record { got = bytes (step (word 0b0100000 16 1 6 0) (scalars 0 0) (minus5 0)) 128; want = 80 ∷ 0xFB ∷ 0xFB ∷ [] }
+    ∷ record { got = bytes (step (word 0b0100010 16 1 6 0) (scalars 0 0) (minus5 0)) 128; want = 80 ∷ 0 ∷ 0xFB ∷ [] }
+    -- mma, mwma: -5 x -5 on 0xFB and 0xFBFB
+    ∷ record { got = bytes (step (word 0b0000000 1 0 6 1) (scalars 0 0) (minus5 0)) 192; want = 20 ∷ 0xFB ∷ 0xFB ∷ [] }
+    ∷ record { got = bytes (step (word 0b0000010 1 0 6 1) (scalars 0 0) (minus5 0)) 192; want = 0x14 ∷ 0xFC ∷ 0xFB ∷ [] }
+    ∷ []
+
+pub arithmetic-right : map (λ l. l .got) arithmetic ≡ map (λ l. l .want) arithmetic
+unfolding arithmetic bytes minus5 word bench scalars permitted sew newType legalType widthOk marked listing decode sound stepBy outcome putTile putRow putLe markTile markRow reduce
+arithmetic-right = refl

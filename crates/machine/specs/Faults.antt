@@ -1,0 +1,33 @@
+-- 01, "Numbers of the answers": answer 8 of a step.
+use mathlib.Core.Bool.{Bool}
+use mathlib.Core.List.{List, [], _∷_}
+use Prim.Native.Nat.{ℕ, _/_, min}
+use lib.ListN.{length}
+use lib.Dec.{leb, ltb, eqb}
+use Rattle.machine.specs.declared.Machine.{Machine}
+use Rattle.machine.specs.Tests.{allOf, every}
+use Rattle.machine.specs.Geometry.{elen, permitted, registerBytes, Bench}
+use Rattle.machine.specs.Starting.{sealEnds}
+use Rattle.machine.specs.Setting.{newType}
+
+-- "RLEN or MLEN not permitted, a buffer not of the size they demand, .. an mtype that can't arise, a tile size above its maximum
+-- at SEW 8, a seal whose end exceeds 2^64 - 1, or a mark that is neither value": none of these
+unfoldable pub sound : Machine → List ℕ → List ℕ → Bool
+sound m registers marks = every (
+    permitted (m .rlen) (m .mlen)
+    ∷ eqb (length registers) (registerBytes (m .mlen))
+    ∷ eqb (length marks) (registerBytes (m .mlen))
+    ∷ eqb (newType elen (m .mtype)) (m .mtype)
+    ∷ leb (m .«tile_m») (m .mlen / m .rlen)
+    ∷ leb (m .«tile_k») (min (m .mlen / m .rlen) (m .rlen / 8))
+    ∷ leb (m .«tile_n») (m .rlen / 8)
+    ∷ sealEnds (m .«seal_start») (m .«seal_length»)
+    ∷ allOf (λ mark. ltb mark 2) marks ∷ [])
+
+-- "not thirty-two scalars"
+abbrev pub thirtyTwo : List ℕ → Bool
+thirtyTwo scalars = eqb (length scalars) 32
+
+-- a state that is not at fault
+abbrev pub soundBench : Bench → Bool
+soundBench B = sound (B .machine) (B .registers) (B .marks)

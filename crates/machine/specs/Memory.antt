@@ -1,0 +1,37 @@
+-- 01, "Loading, storing, reckoning": rows of elements in memory, and the tests on their bytes.
+use mathlib.Core.Bool.{Bool, false, not}
+use Prim.Native.Nat.{ℕ, _+_, _*_, _^_}
+use lib.Dec.{ltb}
+use lib.IntN.{ℤ, pos, negsuc, _+ℤ_, _*ℤ_}
+use Rattle.width.specs.Reduce.{signed}
+use Rattle.machine.specs.Tests.{all}
+use Rattle.machine.specs.Geometry.{Parameters, sealed}
+
+-- "Row i lies at rs1 + i x rs2, with rs1 unsigned and rs2 a signed 64-bit stride, as whole numbers that don't wrap."
+abbrev pub rowZ : ℕ → ℕ → ℕ → ℤ
+rowZ base stride i = pos base +ℤ pos i *ℤ signed (2 ^ 64) stride
+
+-- the same as a natural number, of a row that lies in memory
+abbrev pub address : ℤ → ℕ
+address (pos p) = p
+address (negsuc p) = 0
+
+abbrev pub rowAt : ℕ → ℕ → ℕ → ℕ
+rowAt base stride i = address (rowZ base stride i)
+
+-- a byte's place in a memory of len bytes
+abbrev pub inMemory : ℕ → ℤ → Bool
+inMemory len (pos p) = ltb p len
+inMemory len (negsuc p) = false
+
+-- every byte of every row of n bytes lies in memory; a row of no byte has no address to check
+unfoldable pub inside : ℕ → ℕ → ℕ → ℕ → ℕ → Bool
+inside len base stride rows n = all rows (λ i. all n (λ b. inMemory len (rowZ base stride i +ℤ pos b)))
+
+-- none of the n bytes from p on is sealed
+unfoldable pub clear : Parameters → ℕ → ℕ → Bool
+clear M p n = all n (λ b. not (sealed M (p + b)))
+
+-- no byte of a row is sealed
+unfoldable pub unsealed : Parameters → ℕ → ℕ → ℕ → ℕ → Bool
+unsealed M base stride rows n = all rows (λ i. clear M (rowAt base stride i) n)

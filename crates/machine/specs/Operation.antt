@@ -1,0 +1,181 @@
+-- 01, "Loading, storing, reckoning": what each instruction does, once its scalars are read.
+use mathlib.Core.Bool.{cond}
+use mathlib.Core.List.{List}
+use Prim.Native.Nat.{ℕ, _+_, _*_, _%_, _^_}
+use lib.Dec.{eqb}
+use lib.IntN.{ℤ, _+ℤ_, _-ℤ_, _*ℤ_}
+use Rattle.width.specs.Tile.{le, putTile, markTile}
+use Rattle.width.specs.Reduce.{signed, reduce, sumℤ}
+use Rattle.machine.specs.declared.Matrix.{Matrix}
+use Rattle.machine.specs.declared.Matrix.the-variants.{MatrixA, MatrixB, MatrixC}
+use Rattle.machine.specs.declared.Dimension.{Dimension}
+use Rattle.machine.specs.declared.Dimension.the-variants.{DimensionM, DimensionK, DimensionN}
+use Rattle.machine.specs.declared.Factor.{Factor}
+use Rattle.machine.specs.declared.Factor.the-variants.{Single, Double, Quadruple}
+use Rattle.machine.specs.declared.Sum.{Sum}
+use Rattle.machine.specs.declared.Sum.the-variants.{Add, Subtract, ReverseSubtract}
+use Rattle.machine.specs.declared.Instruction.{Instruction}
+use Rattle.machine.specs.declared.Instruction.the-variants.{Illegal, SetTypeImmediate, SetType, SetTileImmediate, SetTile, Load, Store, Multiply, Combine, Scale, ScaleImmediate}
+use Rattle.machine.specs.Geometry.{Parameters, State, registerAt, tileAt, accAt, scalar}
+use Rattle.machine.specs.Setting.{sew, newType, maximum, sizeIn}
+use Rattle.machine.specs.Memory.{rowAt}
+
+-- ---- an instruction with the values of its scalars
+
+-- a new mtype; a size that is asked, or none; a matrix, a register, a width, an address and a stride; an output factor, md, ms1
+-- and ms2; an output factor, md, ms1 and the multiplier
+pub data Operation : Type 0 where
+  illegal : Operation
+  setType : ℕ → Operation
+  setSize : Dimension → ℕ → Operation
+  keepSize : Operation
+  load : Matrix → (r w base stride : ℕ) → Operation
+  store : Matrix → (r w base stride : ℕ) → Operation
+  multiply : (f d a b : ℕ) → Operation
+  combine : Sum → (f d a : ℕ) → Operation
+  scale : (f d a : ℕ) → ℤ → Operation
+
+-- "The asked size is .. rs1 not x0, the scalar; rs1 x0 and rd not x0, the maximum. With both x0 nothing is asked: the size keeps
+-- its value as it stands, even above the maximum."
+abbrev pub askedSize : Parameters → State → Dimension → ℕ → ℕ → List ℕ → Operation
+askedSize M st d rd rs1 xs =
+    cond (eqb rs1 0)
+    (cond (eqb rd 0) keepSize (setSize d (maximum M (st .mtype) d)))
+    (setSize d (scalar xs rs1))
+
+-- "at 1, 2 or 4 times SEW"
+abbrev pub times : Factor → ℕ
+times Single = 1
+times Double = 2
+times Quadruple = 4
+
+-- the instruction with its scalars read; the multiplier is "the low SEW bits of the scalar, signed, or the five-bit immediate,
+-- -16 to 15"
+abbrev pub operation : Parameters → State → List ℕ → Instruction → Operation
+operation M st xs Illegal = illegal
+operation M st xs (SetTypeImmediate rd immediate) = setType immediate
+operation M st xs (SetType rd rs1) = setType (scalar xs rs1)
+operation M st xs (SetTileImmediate dimension rd immediate) = setSize dimension immediate
+operation M st xs (SetTile dimension rd rs1) = askedSize M st dimension rd rs1 xs
+operation M st xs (Load matrix width md rs1 rs2) = load matrix md width (scalar xs rs1) (scalar xs rs2)
+operation M st xs (Store matrix width ms3 rs1 rs2) = store matrix ms3 width (scalar xs rs1) (scalar xs rs2)
+operation M st xs (Multiply factor md ms1 ms2) = multiply (times factor) md ms1 ms2
+operation M st xs (Combine sum factor md ms1) = combine sum (times factor) md ms1
+operation M st xs (Scale factor md ms1 rs2) =
+    scale (times factor) md ms1 (signed (256 ^ sew (st .mtype)) (scalar xs rs2 % 256 ^ sew (st .mtype)))
+operation M st xs (ScaleImmediate factor md ms1 immediate) = scale (times factor) md ms1 (signed 32 immediate)
+
+-- ---- tiles
+
+-- "A is tile_m by tile_k, B tile_k by tile_n, C tile_m by tile_n."
+abbrev pub rowsOf : Matrix → Dimension
+rowsOf MatrixA = DimensionM
+rowsOf MatrixB = DimensionK
+rowsOf MatrixC = DimensionM
+
+abbrev pub columnsOf : Matrix → Dimension
+columnsOf MatrixA = DimensionK
+columnsOf MatrixB = DimensionN
+columnsOf MatrixC = DimensionN
+
+abbrev pub tileRows : State → Matrix → ℕ
+tileRows st k = sizeIn (rowsOf k) st
+
+abbrev pub tileCols : State → Matrix → ℕ
+tileCols st k = sizeIn (columnsOf k) st
+
+-- "Element (i, j) of w bits starts in row i at byte j x w/8, low byte first."
+abbrev pub element : List ℕ → (ℕ → ℕ) → ℕ → ℕ → ℕ → ℕ
+element xs at w i j = le xs (at i + j * w) w
+
+-- a tile of a register written: "each word marks every register byte that it writes"
+abbrev pub written : State → (ℕ → ℕ) → ℕ → ℕ → ℕ → (ℕ → ℕ → ℕ) → State
+written st at rows cols w value = record {
+  regs = putTile at rows cols w value (st .regs);
+  marks = markTile at rows (cols * w) (st .marks);
+  mtype = st .mtype;
+  tileM = st .tileM;
+  tileK = st .tileK;
+  tileN = st .tileN;
+}
+
+-- ---- reckoning
+
+-- "each C element .. becomes its old value plus the sum over tile_k of signed products, reduced to its width in two's complement"
+abbrev pub product : (wide narrow terms : ℕ) → (old : ℕ) → (a b : ℕ → ℕ) → ℕ
+product wide narrow terms old a b =
+    reduce (256 ^ wide) (signed (256 ^ wide) old +ℤ sumℤ terms (λ l. signed (256 ^ narrow) (a l) *ℤ signed (256 ^ narrow) (b l)))
+
+-- md with ms1; reverse subtract takes md from ms1
+abbrev pub sumOf : Sum → ℤ → ℤ → ℤ
+sumOf Add d a = d +ℤ a
+sumOf Subtract d a = d -ℤ a
+sumOf ReverseSubtract d a = a -ℤ d
+
+-- element (i, j) after a multiply
+abbrev pub productAt : Parameters → List ℕ → (wide narrow d a b terms : ℕ) → ℕ → ℕ → ℕ
+productAt M s wide narrow d a b terms i j =
+    product wide narrow terms (element s (accAt M d) wide i j) (λ l. element s (tileAt M a) narrow i l) (λ l. element s (tileAt M b) narrow l j)
+
+-- "Add, subtract and reverse subtract take md at the output width and ms1 at SEW, signed. .. Each element-wise result is reduced to
+-- the output width in the same way."
+abbrev pub sumAt : Parameters → Sum → List ℕ → (wide narrow d a : ℕ) → ℕ → ℕ → ℕ
+sumAt M o s wide narrow d a i j =
+    reduce (256 ^ wide) (sumOf o (signed (256 ^ wide) (element s (accAt M d) wide i j)) (signed (256 ^ narrow) (element s (accAt M a) narrow i j)))
+
+-- "Element-wise multiply writes ms1 (SEW, signed) times" the multiplier
+abbrev pub scaledAt : Parameters → ℤ → List ℕ → (wide narrow a : ℕ) → ℕ → ℕ → ℕ
+scaledAt M x s wide narrow a i j = reduce (256 ^ wide) (signed (256 ^ narrow) (element s (accAt M a) narrow i j) *ℤ x)
+
+-- ---- the effect of an operation that is carried out
+
+abbrev pub sized : State → ℕ → ℕ → ℕ → ℕ → State
+sized st t m k n = record { regs = st .regs; marks = st .marks; mtype = t; tileM = m; tileK = k; tileN = n }
+
+-- the size of a dimension, as the machine grants it
+abbrev pub resized : Parameters → Dimension → ℕ → State → State
+resized M DimensionM a st = sized st (st .mtype) (M .grant (maximum M (st .mtype) DimensionM) a) (st .tileK) (st .tileN)
+resized M DimensionK a st = sized st (st .mtype) (st .tileM) (M .grant (maximum M (st .mtype) DimensionK) a) (st .tileN)
+resized M DimensionN a st = sized st (st .mtype) (st .tileM) (st .tileK) (M .grant (maximum M (st .mtype) DimensionN) a)
+
+-- "All sources are read before md changes, also when md is ms1. Only bytes of C's elements change or gain a mark": every value is
+-- taken from the state before, and only the bytes of the elements are written
+abbrev pub stateAfter : Parameters → Operation → State → List ℕ → State
+stateAfter M illegal st mem = st
+-- "Tile sizes stay."
+stateAfter M (setType v) st mem = sized st (newType (M .elen) v) (st .tileM) (st .tileK) (st .tileN)
+stateAfter M (setSize d a) st mem = resized M d a st
+stateAfter M keepSize st mem = st
+stateAfter M (load k r w base stride) st mem =
+    written st (registerAt M k r) (tileRows st k) (tileCols st k) w (element mem (rowAt base stride) w)
+stateAfter M (store k r w base stride) st mem = st
+stateAfter M (multiply f d a b) st mem =
+    written st (accAt M d) (st .tileM) (st .tileN) (f * sew (st .mtype)) (productAt M (st .regs) (f * sew (st .mtype)) (sew (st .mtype)) d a b (st .tileK))
+stateAfter M (combine o f d a) st mem =
+    written st (accAt M d) (st .tileM) (st .tileN) (f * sew (st .mtype)) (sumAt M o (st .regs) (f * sew (st .mtype)) (sew (st .mtype)) d a)
+stateAfter M (scale f d a x) st mem =
+    written st (accAt M d) (st .tileM) (st .tileN) (f * sew (st .mtype)) (scaledAt M x (st .regs) (f * sew (st .mtype)) (sew (st .mtype)) a)
+
+-- "Stores go row by row upward; where rows overlap the later row stays."
+abbrev pub memoryAfter : Parameters → Operation → State → List ℕ → List ℕ
+memoryAfter M illegal st mem = mem
+memoryAfter M (setType v) st mem = mem
+memoryAfter M (setSize d a) st mem = mem
+memoryAfter M keepSize st mem = mem
+memoryAfter M (load k r w base stride) st mem = mem
+memoryAfter M (store k r w base stride) st mem = putTile (rowAt base stride) (tileRows st k) (tileCols st k) w (element (st .regs) (registerAt M k r) w) mem
+memoryAfter M (multiply f d a b) st mem = mem
+memoryAfter M (combine o f d a) st mem = mem
+memoryAfter M (scale f d a x) st mem = mem
+
+-- what rd receives, of the state after: "rd receives the new mtype", "The new tile size .. goes to rd too"
+abbrev pub resultOf : Operation → State → ℕ
+resultOf illegal st = 0
+resultOf (setType v) st = st .mtype
+resultOf (setSize d a) st = sizeIn d st
+resultOf keepSize st = 0
+resultOf (load k r w base stride) st = 0
+resultOf (store k r w base stride) st = 0
+resultOf (multiply f d a b) st = 0
+resultOf (combine o f d a) st = 0
+resultOf (scale f d a x) st = 0

@@ -1,0 +1,109 @@
+-- 01, "Numbers of the answers": the checks 1 to 7 of an operation, in their order.
+use mathlib.Core.Bool.{Bool, true, false, not, _&&_, _||_}
+use mathlib.Core.List.{List, [], _∷_}
+use Prim.Native.Nat.{ℕ, zero, suc, _+_, _*_}
+use lib.ListN.{length, getD}
+use lib.Dec.{leb, eqb}
+use lib.IntN.{ℤ, pos, negsuc}
+use Rattle.machine.specs.declared.Answer.the-variants.{IllegalWord, IllegalType, BadWidth, TileTooLarge, Unwritten, OutsideMemory, SealedByte}
+use Rattle.machine.specs.declared.Matrix.{Matrix}
+use Rattle.machine.specs.declared.Matrix.the-variants.{MatrixA, MatrixB, MatrixC}
+use Rattle.machine.specs.declared.Dimension.{Dimension}
+use Rattle.machine.specs.declared.Dimension.the-variants.{DimensionM, DimensionK, DimensionN}
+use Rattle.machine.specs.Tests.{all, first}
+use Rattle.machine.specs.Answers.{Check, _otherwise_}
+use Rattle.machine.specs.Geometry.{Parameters, State, registerAt, tileAt, accAt}
+use Rattle.machine.specs.Setting.{sew, maccq, mill, maximum, sizeIn}
+use Rattle.machine.specs.Memory.{inside, unsealed}
+use Rattle.machine.specs.Operation.{Operation, illegal, setType, setSize, keepSize, load, store, multiply, combine, scale, rowsOf, columnsOf, tileRows, tileCols}
+
+-- 1: a word that decodes to none of ours
+abbrev pub ours : Check
+ours = false otherwise IllegalWord
+
+-- 2: "mill is set and the word isn't msettype or msettypei"
+abbrev pub typed : State → Check
+typed st = not (mill (st .mtype)) otherwise IllegalType
+
+-- 3: "a width rule above is broken". "For A and B the element width must be SEW. For C it may be SEW, 2 x SEW, or with maccq
+-- 4 x SEW, never above ELEN."
+unfoldable pub widthOf : ℕ → ℕ → Matrix → ℕ → Bool
+widthOf elen t MatrixA w = eqb w (sew t)
+widthOf elen t MatrixB w = eqb w (sew t)
+widthOf elen t MatrixC w = leb (8 * w) elen && (eqb w (sew t) || (eqb w (2 * sew t) || (maccq t && eqb w (4 * sew t))))
+
+-- 3: "Double needs 2 x SEW at most ELEN; quadruple needs maccq; both hold for element-wise words too."
+unfoldable pub widthOk : ℕ → ℕ → ℕ → Bool
+widthOk elen t f = leb (f * (8 * sew t)) elen && (eqb f 1 || (eqb f 2 || (eqb f 4 && maccq t)))
+
+-- 4: "a tile size the instruction uses exceeds its maximum under mtype"
+abbrev pub fitting : Parameters → State → Dimension → Check
+fitting M st d = leb (sizeIn d st) (maximum M (st .mtype) d) otherwise TileTooLarge
+
+-- each byte of the rows has its mark
+unfoldable pub marked : List ℕ → (ℕ → ℕ) → ℕ → ℕ → Bool
+marked ms at rows n = all rows (λ i. all n (λ b. eqb (getD ms (at i + b) 0) 1))
+
+-- the first row that has a byte without a mark, and in it the first such element
+abbrev pub firstRow : List ℕ → (ℕ → ℕ) → ℕ → ℕ → ℕ
+firstRow ms at rows n = first rows (λ i. not (all n (λ b. eqb (getD ms (at i + b) 0) 1)))
+
+abbrev pub firstColumn : List ℕ → ℕ → ℕ → ℕ → ℕ
+firstColumn ms p cols w = first cols (λ j. not (all w (λ b. eqb (getD ms (p + j * w + b) 0) 1)))
+
+-- 5: "a register element to be read has a byte without a mark", "names the row and column of the first such element, row by row";
+-- nothing is read where `unless` holds
+abbrev pub needs : Bool → List ℕ → (ℕ → ℕ) → (rows cols w : ℕ) → Check
+needs unless ms at rows cols w =
+    unless || marked ms at rows (cols * w) otherwise
+    Unwritten (firstRow ms at rows (cols * w)) (firstColumn ms (at (firstRow ms at rows (cols * w))) cols w)
+
+abbrev pub isZero : ℤ → Bool
+isZero (pos zero) = true
+isZero (pos (suc n)) = false
+isZero (negsuc n) = false
+
+-- 6: "an element's byte lies outside memory"; 7: "a store would write a sealed byte"; "sources go ms1, ms2, md"
+abbrev pub checks : Parameters → Operation → State → List ℕ → List Check
+checks M illegal st mem = ours ∷ []
+checks M (setType v) st mem = []
+checks M (setSize d a) st mem = typed st ∷ []
+checks M keepSize st mem = typed st ∷ []
+checks M (load k r w base stride) st mem =
+    typed st
+    ∷ (widthOf (M .elen) (st .mtype) k w otherwise BadWidth)
+    ∷ fitting M st (rowsOf k)
+    ∷ fitting M st (columnsOf k)
+    ∷ (inside (length mem) base stride (tileRows st k) (tileCols st k * w) otherwise OutsideMemory) ∷ []
+checks M (store k r w base stride) st mem =
+    typed st
+    ∷ (widthOf (M .elen) (st .mtype) k w otherwise BadWidth)
+    ∷ fitting M st (rowsOf k)
+    ∷ fitting M st (columnsOf k)
+    ∷ needs false (st .marks) (registerAt M k r) (tileRows st k) (tileCols st k) w
+    ∷ (inside (length mem) base stride (tileRows st k) (tileCols st k * w) otherwise OutsideMemory)
+    ∷ (unsealed M base stride (tileRows st k) (tileCols st k * w) otherwise SealedByte) ∷ []
+-- "A multiply reads its three tiles whole, but nothing where C has no element."
+checks M (multiply f d a b) st mem =
+    typed st
+    ∷ (widthOk (M .elen) (st .mtype) f otherwise BadWidth)
+    ∷ fitting M st DimensionM
+    ∷ fitting M st DimensionK
+    ∷ fitting M st DimensionN
+    ∷ needs (eqb (st .tileM * st .tileN) 0) (st .marks) (tileAt M a) (st .tileM) (st .tileK) (sew (st .mtype))
+    ∷ needs (eqb (st .tileM * st .tileN) 0) (st .marks) (tileAt M b) (st .tileK) (st .tileN) (sew (st .mtype))
+    ∷ needs false (st .marks) (accAt M d) (st .tileM) (st .tileN) (f * sew (st .mtype)) ∷ []
+checks M (combine o f d a) st mem =
+    typed st
+    ∷ (widthOk (M .elen) (st .mtype) f otherwise BadWidth)
+    ∷ fitting M st DimensionM
+    ∷ fitting M st DimensionN
+    ∷ needs false (st .marks) (accAt M a) (st .tileM) (st .tileN) (sew (st .mtype))
+    ∷ needs false (st .marks) (accAt M d) (st .tileM) (st .tileN) (f * sew (st .mtype)) ∷ []
+-- "If that multiplier is 0, ms1 isn't read and need not be written."
+checks M (scale f d a x) st mem =
+    typed st
+    ∷ (widthOk (M .elen) (st .mtype) f otherwise BadWidth)
+    ∷ fitting M st DimensionM
+    ∷ fitting M st DimensionN
+    ∷ needs (isZero x) (st .marks) (accAt M a) (st .tileM) (st .tileN) (sew (st .mtype)) ∷ []

@@ -1,0 +1,60 @@
+-- 01, "What a machine is": starting a machine.
+use mathlib.Core.Bool.{Bool, cond}
+use mathlib.Core.List.{List, [], _∷_}
+use Prim.Native.Nat.{ℕ, _+_, _-_, _^_}
+use lib.ListN.{length, replicate}
+use lib.Dec.{leb, eqb}
+use Rattle.machine.specs.declared.Machine.{Machine}
+use Rattle.machine.specs.declared.Answer.{Answer}
+use Rattle.machine.specs.declared.Answer.the-variants.{Done, BadArguments}
+use Rattle.machine.specs.declared.Started.{Started}
+use Rattle.machine.specs.Answers.{Check, _otherwise_, verdict, isDone}
+use Rattle.machine.specs.Geometry.{permitted, registerBytes}
+
+-- "a seal whose end exceeds 2^64 - 1": this one doesn't
+abbrev pub sealEnds : (start length : ℕ) → Bool
+sealEnds start length = leb (start + length) (2 ^ 64 - 1)
+
+-- "Starting a machine gives 8 for the same RLEN, MLEN and buffer faults, and for a seal whose end exceeds 2^64 - 1."
+abbrev pub startChecks : (rlen mlen sealStart sealLength : ℕ) → (registers marks : List ℕ) → List Check
+startChecks rlen mlen sealStart sealLength registers marks =
+    (permitted rlen mlen otherwise BadArguments)
+    ∷ (eqb (length registers) (registerBytes mlen) otherwise BadArguments)
+    ∷ (eqb (length marks) (registerBytes mlen) otherwise BadArguments)
+    ∷ (sealEnds sealStart sealLength otherwise BadArguments) ∷ []
+
+-- the numbers of no machine: what a refused start returns
+abbrev pub noMachine : Machine
+noMachine = record { rlen = 0; mlen = 0; mtype = 0; «tile_m» = 0; «tile_k» = 0; «tile_n» = 0; «seal_start» = 0; «seal_length» = 0 }
+
+-- "Starting sets .. all tile sizes and mtype to 0"
+abbrev pub freshMachine : (rlen mlen sealStart sealLength : ℕ) → Machine
+freshMachine rlen mlen sealStart sealLength = record {
+  rlen = rlen;
+  mlen = mlen;
+  mtype = 0;
+  «tile_m» = 0;
+  «tile_k» = 0;
+  «tile_n» = 0;
+  «seal_start» = sealStart;
+  «seal_length» = sealLength;
+}
+
+-- what a start answers and leaves
+pub record StartOutcome : Type 0 where
+  pub answer : Answer
+  pub machine : Machine
+  pub registers : List ℕ
+  pub marks : List ℕ
+
+-- "Starting sets every mark to 0 .. and leaves the register bytes as they were lent."
+unfoldable pub startMachine : (rlen mlen sealStart sealLength : ℕ) → (registers marks : List ℕ) → StartOutcome
+startMachine rlen mlen sealStart sealLength registers marks =
+    let answer : Answer = verdict (startChecks rlen mlen sealStart sealLength registers marks) in
+    cond (isDone answer)
+    (record { answer = Done; machine = freshMachine rlen mlen sealStart sealLength; registers = registers; marks = replicate (length marks) 0 })
+    (record { answer = answer; machine = noMachine; registers = registers; marks = marks })
+
+-- what the function `start` returned and left
+abbrev pub startedAs : Started → (registers marks : List ℕ) → StartOutcome
+startedAs r registers marks = record { answer = r .answer; machine = r .machine; registers = registers; marks = marks }

@@ -1,0 +1,430 @@
+-- Demand 3, proved: one invariant over the place, the state and the memory, which every turn keeps.
+use mathlib.Core.Path.{_≡_, refl, sym, ap, _∙_, subst}
+use mathlib.Core.Logic.{_⊎_, inl, inr}
+use mathlib.Core.Bool.{Bool, true, false, cond}
+use mathlib.Core.List.{List, [], _∷_, _++_}
+use Prim.Native.Nat.{ℕ, zero, suc, _+_, _*_, _-_, _≤_, _<_, min}
+use native.Mathlib.Omega.{arith}
+use native.Mathlib.Nat.{mul-le-mul-right, mul-pos}
+use lib.ListN.{length, getD, drop, drop-of-length-le}
+use lib.Seq.{drop-cons}
+use lib.Dec.{leb, ltb}
+use lib.IntN.{pos}
+use borrow.Author.Tests.{leb-true, lt-ltb}
+use Rattle.width.specs.Blocks.{Grants}
+use Rattle.width.proofs.BlockLaws.{le-or-lt}
+use Rattle.machine.specs.declared.Answer.{Answer}
+use Rattle.machine.specs.declared.Answer.the-variants.{Done, BadArguments, OutsideMemory, Overlap}
+use Rattle.machine.specs.Tests.{every}
+use Rattle.machine.proofs.TestLaws.{every-each}
+use Rattle.machine.specs.Answers.{isDone, verdict, _otherwise_}
+use Rattle.machine.proofs.CheckLaws.{Passed, passed, no-refusal}
+use Rattle.machine.specs.Geometry.{Parameters, parameters, permitted, State, stateOf}
+use Rattle.machine.specs.Setting.{smaller}
+use Rattle.machine.specs.Memory.{inside, rowZ, rowAt}
+use Rattle.machine.proofs.MemoryLaws.{inside-at}
+use Rattle.machine.specs.Operation.{Operation, stateAfter, memoryAfter}
+use Rattle.machine.specs.Refusals.{checks}
+use Rattle.machine.specs.Geometry.{Bench}
+use Rattle.machine.specs.Faults.{sound}
+use Rattle.machine.specs.Step.{Outcome, stepBy}
+use Rattle.machine.proofs.NoFault.{sound-is, step-sound}
+use Rattle.machine.specs.Faults.{soundBench}
+use Rattle.machine.proofs.Sealing.{step-unharmed}
+use Rattle.machine.proofs.StepLaws.{step-done, benchAfter, permitted-lengths, smaller-grants}
+use Rattle.run.specs.declared.Plan.{Plan}
+use Rattle.run.specs.declared.Handed.{Handed}
+use Rattle.run.specs.declared.Run.{Run}
+use mathlib.Core.List.{map}
+use Rattle.run.specs.declared.Handed.{Handed}
+use Rattle.run.specs.Encoding.{plain}
+use Rattle.run.specs.declared.Place.{Place}
+use Rattle.run.specs.declared.Place.the-variants.{AtType, AtM, AtN, AtClear, AtK, AtA, AtB, AtMultiply, AtStore, AtEnd}
+use Rattle.run.specs.Words.{Op, Shape, words, steps}
+use Rattle.run.specs.Places.{next, wordsAt}
+use Rattle.run.proofs.PlaceLaws.{rest, rest-next, rest-after, placeAfter, length-words}
+use Rattle.run.specs.Plan.{Job, Kept, shape, narrow, wide}
+use Rattle.run.specs.Start.{format, planned, lying, separate, startChecks, freshRun, noRun, startRun}
+use Rattle.run.specs.Turn.{placed, soundRun, handsOut, Running, Turn, turn, turnWith, afterTurns, answeredDone}
+use Rattle.run.specs.Encoding.{own, handedFor}
+use Rattle.run.proofs.WordLaws as WordLaws
+use Rattle.run.proofs.WordLaws.{Reads}
+use Rattle.run.proofs.Invariant.{operationOf, Accepted, At}
+use Rattle.run.proofs.Turns
+use Rattle.run.specs.Statement.{Numbers, Inside, Separate, jobOf, Right, Bytes, Demand3}
+use Rattle.run.proofs.StartLaws.{inside-is, is-inside, separate-is, is-separate, accepted}
+
+-- ---- lists
+
+getD-map : (f : Op → Handed) (xs : List Op) (t : ℕ) (d : Op) (d′ : Handed) → t < length xs → getD (map f xs) t d′ ≡ f (getD xs t d)
+getD-map f [] t d d′ l = absurd (omega arith)
+getD-map f (x ∷ xs) zero d d′ l = refl
+getD-map f (x ∷ xs) (suc t) d d′ l = getD-map f xs t d d′ (omega arith)
+
+length-map : (f : Op → Handed) (xs : List Op) → length (map f xs) ≡ length xs
+length-map f [] = refl
+length-map f (x ∷ xs) = ap suc (length-map f xs)
+
+-- ---- places
+
+-- a place either is the end, or hands out one word
+one-word : (S : Shape) (p : Place) → (p ≡ AtEnd) ⊎ ((o : Op) × (wordsAt S p ≡ o ∷ []))
+one-word S AtType = inr (_, refl)
+one-word S (AtM i) = inr (_, refl)
+one-word S (AtN i j) = inr (_, refl)
+one-word S (AtClear i j) = inr (_, refl)
+one-word S (AtK i j s) = inr (_, refl)
+one-word S (AtA i j s) = inr (_, refl)
+one-word S (AtB i j s) = inr (_, refl)
+one-word S (AtMultiply i j s) = inr (_, refl)
+one-word S (AtStore i j) = inr (_, refl)
+one-word S AtEnd = inl refl
+
+two : (J : Job) (i j : ℕ) → i < J .plan .m → j < J .plan .n → every (ltb i (J .plan .m) ∷ ltb j (J .plan .n) ∷ []) ≡ true
+two J i j a b = rw (lt-ltb i (J .plan .m) a, lt-ltb j (J .plan .n) b)
+
+three : (J : Job) (i j s : ℕ) → i < J .plan .m → j < J .plan .n → s < J .plan .k → every (ltb i (J .plan .m) ∷ ltb j (J .plan .n) ∷ ltb s (J .plan .k) ∷ []) ≡ true
+three J i j s a b c = rw (lt-ltb i (J .plan .m) a, lt-ltb j (J .plan .n) b, lt-ltb s (J .plan .k) c)
+
+kept-at : (J : Job) (p : Place) (st : State) (mem : List ℕ) → At J p st mem → Kept J mem
+kept-at J AtType st mem h = h .1
+kept-at J (AtM i) st mem h = h .0 .kept
+kept-at J (AtN i j) st mem h = h .0 .in-m .kept
+kept-at J (AtClear i j) st mem h = h .in-n .in-m .kept
+kept-at J (AtK i j s) st mem h = h .0 .in-block .in-n .in-m .kept
+kept-at J (AtA i j s) st mem h = h .in-k .in-block .in-n .in-m .kept
+kept-at J (AtB i j s) st mem h = h .0 .in-k .in-block .in-n .in-m .kept
+kept-at J (AtMultiply i j s) st mem h = h .0 .in-k .in-block .in-n .in-m .kept
+kept-at J (AtStore i j) st mem h = h .in-block .in-n .in-m .kept
+kept-at J AtEnd st mem h = h .0
+
+-- the place of the invariant lies in the matrices
+placed-at : (J : Job) (p : Place) (st : State) (mem : List ℕ) → At J p st mem → placed (J .plan) p ≡ true
+placed-at J AtType st mem h = refl
+placed-at J (AtM i) st mem h = lt-ltb i (J .plan .m) (h .1)
+placed-at J (AtN i j) st mem h = two J i j (h .0 .i<m) (h .1)
+placed-at J (AtClear i j) st mem h = two J i j (h .in-n .i<m) (h .j<n)
+placed-at J (AtK i j s) st mem h = three J i j s (h .0 .in-block .in-n .i<m) (h .0 .in-block .j<n) (h .1)
+placed-at J (AtA i j s) st mem h = three J i j s (h .in-k .in-block .in-n .i<m) (h .in-k .in-block .j<n) (h .s<k)
+placed-at J (AtB i j s) st mem h = three J i j s (h .0 .in-k .in-block .in-n .i<m) (h .0 .in-k .in-block .j<n) (h .0 .s<k)
+placed-at J (AtMultiply i j s) st mem h = three J i j s (h .0 .in-k .in-block .in-n .i<m) (h .0 .in-k .in-block .j<n) (h .0 .s<k)
+placed-at J (AtStore i j) st mem h = two J i j (h .in-block .in-n .i<m) (h .in-block .j<n)
+placed-at J AtEnd st mem h = refl
+
+-- ---- the state of a bench
+
+abbrev held : Bench → State
+held B = stateOf (B .machine) (B .registers) (B .marks)
+
+-- what an accepted start says
+record Ready (grant : ℕ → ℕ → ℕ) (P : Plan) (B : Bench) : Type 0 where
+  rule : Grants grant
+  sane : soundBench B ≡ true
+  lengths : permitted (B .machine .rlen) (B .machine .mlen) ≡ true
+  plan : planned P ≡ true
+  accepts : Accepted (jobOf grant P B)
+  formatted : format (P .sew) (P .factor) ≡ true
+  m≤ : P .m ≤ 1024
+  k≤ : P .k ≤ 1024
+  n≤ : P .n ≤ 1024
+  addressed : length (B .memory) ≤ 18446744073709551616
+
+module _ (grant : ℕ → ℕ → ℕ) (P : Plan) (B₀ : Bench) where
+  abbrev J : Job
+  J = jobOf grant P B₀
+
+  abbrev S : Shape
+  S = shape J
+
+  -- the run at a place
+  abbrev at : Place → Bench → Running
+  at p B = record { run = record { plan = P; rlen = B₀ .machine .rlen; mlen = B₀ .machine .mlen; place = p }; bench = B }
+
+  -- the invariant
+  record Holds (p : Place) (B : Bench) : Type 0 where
+    here : At J p (held B) (B .memory)
+    sane : soundBench B ≡ true
+    same : parameters grant (B .machine) ≡ parameters grant (B₀ .machine)
+
+  -- what a word that is handed out does
+  abbrev stepped : Op → Bench → Outcome
+  stepped o B = stepBy grant (handedFor P o .word) (own (handedFor P o)) B
+
+  record Done′ (p : Place) (o : Op) (B : Bench) : Type 0 where
+    answers : stepped o B .answer ≡ Done
+    holds : Holds (next S p) (stepped o B .bench)
+
+module _ (grant : ℕ → ℕ → ℕ) (P : Plan) (B₀ : Bench) (R : Ready grant P B₀) where
+  abbrev A : Accepted (J grant P B₀)
+  A = R .accepts
+
+  by-word : (p : Place) (o : Op) (B : Bench) → Holds grant P B₀ p B
+      → Reads (parameters grant (B .machine)) (held B) (handedFor P o) (operationOf P o)
+      → Turns.Turned (J grant P B₀) A p (operationOf P o) (held B) (B .memory) → Done′ grant P B₀ p o B
+  by-word p o B h r t =
+      let M : Parameters = parameters grant (B .machine) in
+      let M₀ : Parameters = parameters grant (B₀ .machine) in
+      let q : Operation = operationOf P o in
+      let w : ℕ = handedFor P o .word in
+      let xs : List ℕ = own (handedFor P o) in
+      let d = step-done grant w xs B (r .instruction) q (r .decodes) (h .sane) refl (r .means)
+      (subst (λ (M : Parameters). Passed (checks M q (held B) (B .memory))) (sym (h .same)) (t .0)) in
+      let a : At (J grant P B₀) (next (S grant P B₀) p) (held (benchAfter M q (held B) B)) (benchAfter M q (held B) B .memory) =
+      subst (λ (M : Parameters). At (J grant P B₀) (next (S grant P B₀) p) (stateAfter M q (held B) (B .memory)) (memoryAfter M q (held B) (B .memory))) (sym (h .same)) (t .1) in
+      record {
+        answers = d .0;
+        holds = record {
+          here = subst (λ (C : Bench). At (J grant P B₀) (next (S grant P B₀) p) (held C) (C .memory)) (sym (d .1)) a;
+          sane = step-sound grant (R .rule) w xs B (h .sane);
+          same = step-unharmed grant w xs B .same-parameters ∙ h .same;
+        };
+      }
+
+  -- an address of the run fits 64 bits
+  small : (base stride total n w : ℕ) → zero < w → inside (length (B₀ .memory)) base stride total (n * w) ≡ true → (i j : ℕ) → i < total → j < n
+      → rowAt base stride i + j * w < 18446744073709551616
+  small base stride total n w 0<w h i j l l′ =
+      omega (arith, mul-le-mul-right w l′, R .addressed, inside-at (length (B₀ .memory)) base stride total (n * w) h (mul-pos {m = n} (omega arith) 0<w) i l .1)
+
+  -- and its row lies at 0 or above
+  whole : (base stride total n w : ℕ) → zero < w → inside (length (B₀ .memory)) base stride total (n * w) ≡ true → (i j : ℕ) → i < total → j < n
+      → rowZ base stride i ≡ pos (rowAt base stride i)
+  whole base stride total n w 0<w h i j l l′ = inside-at (length (B₀ .memory)) base stride total (n * w) h (mul-pos {m = n} (omega arith) 0<w) i l .0
+
+  -- a run in the invariant hands out its place's word
+  hands : (p : Place) (B : Bench) → Holds grant P B₀ p B → handsOut grant (at grant P B₀ p B .run) ≡ wordsAt (S grant P B₀) p
+  unfolding soundRun
+  hands p B h = rw (R .lengths, R .plan, placed-at (J grant P B₀) p (held B) (B .memory) (h .here))
+
+  -- every place but the end hands out a word that is done, and the invariant goes on
+  abbrev Advanced : Place → Bench → Type 0
+  Advanced p B = Holds grant P B₀ (next (S grant P B₀) p) (turn grant (at grant P B₀ p B) .after .bench) × ((p ≡ AtEnd) ⊎ (turn grant (at grant P B₀ p B) .answer ≡ Done))
+
+  advanced : (p : Place) (o : Op) (B : Bench) → Holds grant P B₀ p B → wordsAt (S grant P B₀) p ≡ o ∷ [] → Done′ grant P B₀ p o B → Advanced p B
+  advanced p o B h e d =
+      subst (λ (ws : List Op). Holds grant P B₀ (next (S grant P B₀) p) (turnWith grant (at grant P B₀ p B) ws .after .bench)
+      × ((p ≡ AtEnd) ⊎ (turnWith grant (at grant P B₀ p B) ws .answer ≡ Done))) (sym (hands p B h ∙ e)) (d .holds, inr (d .answers))
+
+  advance : (p : Place) (B : Bench) → Holds grant P B₀ p B → Advanced p B
+  advance AtType B h =
+      advanced AtType Op.setType B h refl (by-word AtType Op.setType B h (WordLaws.reads-type (parameters grant (B .machine)) P (R .formatted) (held B))
+      (Turns.turn-type (J grant P B₀) A (held B) (B .memory) (h .here)))
+  advance (AtM i) B h =
+      advanced (AtM i) (Op.setM (P .m - i)) B h refl (by-word (AtM i) (Op.setM (P .m - i)) B h
+      (WordLaws.reads-m (parameters grant (B .machine)) P (R .formatted) (held B) (P .m - i) (omega (arith, R .m≤)))
+      (Turns.turn-m (J grant P B₀) A i (held B) (B .memory) (h .here)))
+  advance (AtN i j) B h =
+      advanced (AtN i j) (Op.setN (P .n - j)) B h refl (by-word (AtN i j) (Op.setN (P .n - j)) B h
+      (WordLaws.reads-n (parameters grant (B .machine)) P (R .formatted) (held B) (P .n - j) (omega (arith, R .n≤)))
+      (Turns.turn-n (J grant P B₀) A i j (held B) (B .memory) (h .here)))
+  advance (AtClear i j) B h =
+      advanced (AtClear i j) Op.clear B h refl (by-word (AtClear i j) Op.clear B h
+      (WordLaws.reads-clear (parameters grant (B .machine)) P (R .formatted) (held B))
+      (Turns.turn-clear (J grant P B₀) A i j (held B) (B .memory) (h .here)))
+  advance (AtK i j s) B h =
+      advanced (AtK i j s) (Op.setK (P .k - s)) B h refl (by-word (AtK i j s) (Op.setK (P .k - s)) B h
+      (WordLaws.reads-k (parameters grant (B .machine)) P (R .formatted) (held B) (P .k - s) (omega (arith, R .k≤)))
+      (Turns.turn-k (J grant P B₀) A i j s (held B) (B .memory) (h .here)))
+  advance (AtA i j s) B h =
+      advanced (AtA i j s) (Op.loadA i s) B h refl (by-word (AtA i j s) (Op.loadA i s) B h
+      (WordLaws.reads-a (parameters grant (B .machine)) P (R .formatted) (held B) i s
+      (whole (P .a .address) (P .a .stride) (P .m) (P .k) (narrow P) (A .0<narrow) (A .a-in) i s (h .here .in-k .in-block .in-n .i<m) (h .here .s<k))
+      (small (P .a .address) (P .a .stride) (P .m) (P .k) (narrow P) (A .0<narrow) (A .a-in) i s (h .here .in-k .in-block .in-n .i<m) (h .here .s<k)))
+      (Turns.turn-a (J grant P B₀) A i j s (held B) (B .memory) (h .here)))
+  advance (AtB i j s) B h =
+      advanced (AtB i j s) (Op.loadB s j) B h refl (by-word (AtB i j s) (Op.loadB s j) B h
+      (WordLaws.reads-b (parameters grant (B .machine)) P (R .formatted) (held B) s j
+      (whole (P .b .address) (P .b .stride) (P .k) (P .n) (narrow P) (A .0<narrow) (A .b-in) s j (h .here .0 .s<k) (h .here .0 .in-k .in-block .j<n))
+      (small (P .b .address) (P .b .stride) (P .k) (P .n) (narrow P) (A .0<narrow) (A .b-in) s j (h .here .0 .s<k) (h .here .0 .in-k .in-block .j<n)))
+      (Turns.turn-b (J grant P B₀) A i j s (held B) (B .memory) (h .here)))
+  advance (AtMultiply i j s) B h =
+      advanced (AtMultiply i j s) Op.multiply B h refl (by-word (AtMultiply i j s) Op.multiply B h
+      (WordLaws.reads-multiply (parameters grant (B .machine)) P (R .formatted) (held B))
+      (Turns.turn-multiply (J grant P B₀) A i j s (held B) (B .memory) (h .here)))
+  advance (AtStore i j) B h =
+      advanced (AtStore i j) (Op.store i j) B h refl (by-word (AtStore i j) (Op.store i j) B h
+      (WordLaws.reads-store (parameters grant (B .machine)) P (R .formatted) (held B) i j
+      (whole (P .c .address) (P .c .stride) (P .m) (P .n) (wide P) (A .0<wide) (A .c-in) i j (h .here .in-block .in-n .i<m) (h .here .in-block .j<n))
+      (small (P .c .address) (P .c .stride) (P .m) (P .n) (wide P) (A .0<wide) (A .c-in) i j (h .here .in-block .in-n .i<m) (h .here .in-block .j<n)))
+      (Turns.turn-store (J grant P B₀) A i j (held B) (B .memory) (h .here)))
+  advance AtEnd B h =
+      subst (λ (ws : List Op). Holds grant P B₀ AtEnd (turnWith grant (at grant P B₀ AtEnd B) ws .after .bench) × ((AtEnd ≡ AtEnd) ⊎ (turnWith grant (at grant P B₀ AtEnd B) ws .answer ≡ Done)))
+      (sym (hands AtEnd B h)) (h, inl refl)
+
+  -- ---- after t turns
+
+  abbrev after : ℕ → Running
+  after t = afterTurns grant (at grant P B₀ AtType B₀) t
+
+  abbrev Moved : Place → Bench → List Op → Type 0
+  Moved p B ws = turnWith grant (at grant P B₀ p B) ws .after ≡ at grant P B₀ (next (S grant P B₀) p) (turnWith grant (at grant P B₀ p B) ws .after .bench)
+
+  moves : (p : Place) (B : Bench) → Holds grant P B₀ p B → Moved p B (handsOut grant (at grant P B₀ p B .run))
+  moves p B h = subst (Moved p B) (sym (hands p B h)) (go (one-word (S grant P B₀) p))
+    where
+      go : (p ≡ AtEnd) ⊎ ((o : Op) × (wordsAt (S grant P B₀) p ≡ o ∷ [])) → Moved p B (wordsAt (S grant P B₀) p)
+      go (inl e) = subst (λ (p : Place). Moved p B (wordsAt (S grant P B₀) p)) (sym e) refl
+      go (inr (o, e)) = subst (Moved p B) (sym e) refl
+
+  -- only the place and the bench of a run change, and the invariant holds
+  both : (t : ℕ) → (after t ≡ at grant P B₀ (placeAfter (S grant P B₀) t) (after t .bench)) × Holds grant P B₀ (placeAfter (S grant P B₀) t) (after t .bench)
+  both zero =
+      let s = sound-is (B₀ .machine) (B₀ .registers) (B₀ .marks) (R .sane) in
+      let n = permitted-lengths (B₀ .machine .rlen) (B₀ .machine .mlen) (s .lengths) in (
+        refl,
+        record {
+          here = (record { regs-length = s .state .regs-length ∙ sym (n .2); marks-length = s .state .marks-length ∙ sym (n .2) }, record { same-length = refl; outside = λ q o. refl });
+          sane = R .sane;
+          same = refl;
+        },
+      )
+  both (suc t) =
+      let p : Place = placeAfter (S grant P B₀) t in
+      let e : after t ≡ at grant P B₀ p (after t .bench) = both t .0 in
+      let h : Holds grant P B₀ p (after t .bench) = both t .1 in (
+        subst (λ (r : Running). turn grant r .after ≡ at grant P B₀ (next (S grant P B₀) p) (turn grant r .after .bench)) (sym e) (moves p (after t .bench) h),
+        subst (λ (r : Running). Holds grant P B₀ (next (S grant P B₀) p) (turn grant r .after .bench)) (sym e) (advance p (after t .bench) h .0),
+      )
+
+  stays : (t : ℕ) → after t ≡ at grant P B₀ (placeAfter (S grant P B₀) t) (after t .bench)
+  stays t = both t .0
+
+  holding : (t : ℕ) → Holds grant P B₀ (placeAfter (S grant P B₀) t) (after t .bench)
+  holding t = both t .1
+
+  to-come : (t : ℕ) → rest (S grant P B₀) (placeAfter (S grant P B₀) t) ≡ drop t (words (S grant P B₀))
+  to-come t = rest-after (S grant P B₀) (Turns.sound (J grant P B₀) A) t
+
+  at-end : (t : ℕ) → steps (S grant P B₀) ≤ t → placeAfter (S grant P B₀) t ≡ AtEnd
+  at-end t l = go (one-word (S grant P B₀) (placeAfter (S grant P B₀) t))
+    where
+      none : rest (S grant P B₀) (placeAfter (S grant P B₀) t) ≡ []
+      none = to-come t ∙ drop-of-length-le (words (S grant P B₀)) {i = t} (omega (arith, length-words (S grant P B₀)))
+
+      go : (placeAfter (S grant P B₀) t ≡ AtEnd) ⊎ ((o : Op) × (wordsAt (S grant P B₀) (placeAfter (S grant P B₀) t) ≡ o ∷ [])) → placeAfter (S grant P B₀) t ≡ AtEnd
+      go (inl e) = e
+      go (inr (o, e)) =
+          let z : suc (length (rest (S grant P B₀) (next (S grant P B₀) (placeAfter (S grant P B₀) t)))) ≡ 0 =
+          ap length (ap (λ (w : List Op). w ++ rest (S grant P B₀) (next (S grant P B₀) (placeAfter (S grant P B₀) t))) (sym e) ∙ sym (rest-next (S grant P B₀) (Turns.sound (J grant P B₀) A) (placeAfter (S grant P B₀) t)) ∙ none) in
+          absurd (omega arith)
+
+  not-end : (t : ℕ) → t < steps (S grant P B₀) → placeAfter (S grant P B₀) t ≡ AtEnd → ⊥
+  not-end t l e =
+      let z : 0 ≡ suc (length (drop (suc t) (words (S grant P B₀)))) =
+      ap length (ap (rest (S grant P B₀)) (sym e) ∙ to-come t ∙ drop-cons (words (S grant P B₀)) t Op.setType (omega (arith, length-words (S grant P B₀)))) in
+      omega arith
+
+  hands-out : (t : ℕ) → t < steps (S grant P B₀) → turn grant (after t) .handed ≡ handedFor P (getD (words (S grant P B₀)) t Op.setType) ∷ []
+  hands-out t l = subst (λ (r : Running). turn grant r .handed ≡ handedFor P (getD (words (S grant P B₀)) t Op.setType) ∷ []) (sym (stays t)) (go (one-word (S grant P B₀) (placeAfter (S grant P B₀) t)))
+    where
+      p : Place
+      p = placeAfter (S grant P B₀) t
+
+      go : (p ≡ AtEnd) ⊎ ((o : Op) × (wordsAt (S grant P B₀) p ≡ o ∷ [])) → turn grant (at grant P B₀ p (after t .bench)) .handed ≡ handedFor P (getD (words (S grant P B₀)) t Op.setType) ∷ []
+      go (inl e) = absurd (not-end t l e)
+      go (inr (o, e)) =
+          ap (λ (w : List Op). turnWith grant (at grant P B₀ p (after t .bench)) w .handed) (hands p (after t .bench) (holding t) ∙ e)
+          ∙ ap (λ (w : List Op). handedFor P (getD w 0 Op.setType) ∷ []) (
+          ap (λ (w : List Op). w ++ rest (S grant P B₀) (next (S grant P B₀) p)) (sym e)
+          ∙ sym (rest-next (S grant P B₀) (Turns.sound (J grant P B₀) A) p) ∙ to-come t ∙ drop-cons (words (S grant P B₀)) t Op.setType (omega (arith, length-words (S grant P B₀))))
+
+  is-done : (t : ℕ) → t < steps (S grant P B₀) → turn grant (after t) .answer ≡ Done
+  is-done t l = subst (λ (r : Running). turn grant r .answer ≡ Done) (sym (stays t))
+      (elim (advance (placeAfter (S grant P B₀) t) (after t .bench) (holding t) .1) [ inl e ↦ absurd (not-end t l e) | inr e ↦ e ])
+
+  ended : (t : ℕ) → steps (S grant P B₀) ≤ t → turn grant (after t) ≡ record { answer = BadArguments; handed = []; after = after t }
+  ended t l =
+      let e : after t ≡ at grant P B₀ AtEnd (after t .bench) = stays t ∙ ap (λ (p : Place). at grant P B₀ p (after t .bench)) (at-end t l) in
+      let h : Holds grant P B₀ AtEnd (after t .bench) = subst (λ (p : Place). Holds grant P B₀ p (after t .bench)) (at-end t l) (holding t) in
+      subst (λ (r : Running). turn grant r ≡ record { answer = BadArguments; handed = []; after = r }) (sym e)
+      (ap (turnWith grant (at grant P B₀ AtEnd (after t .bench))) (hands AtEnd (after t .bench) h))
+
+  counted : (t : ℕ) → answeredDone grant (at grant P B₀ AtType B₀) t ≡ min t (steps (S grant P B₀))
+  counted zero = omega arith
+  counted (suc t) = go (le-or-lt (steps (S grant P B₀)) t) (counted t)
+    where
+      more : Answer → ℕ
+      more a = answeredDone grant (at grant P B₀ AtType B₀) t + cond (isDone a) 1 0
+
+      go : (steps (S grant P B₀) ≤ t) ⊎ (t < steps (S grant P B₀)) → answeredDone grant (at grant P B₀ AtType B₀) t ≡ min t (steps (S grant P B₀))
+          → answeredDone grant (at grant P B₀ AtType B₀) (suc t) ≡ min (suc t) (steps (S grant P B₀))
+      go (inl l) ih =
+          let e : answeredDone grant (at grant P B₀ AtType B₀) (suc t) ≡ answeredDone grant (at grant P B₀ AtType B₀) t + 0 = ap more (ap (λ (u : Turn). u .answer) (ended t l)) in
+          omega (arith, e, ih)
+      go (inr l) ih =
+          let e : answeredDone grant (at grant P B₀ AtType B₀) (suc t) ≡ answeredDone grant (at grant P B₀ AtType B₀) t + 1 = ap more (is-done t l) in
+          omega (arith, e, ih)
+
+  right : (t : ℕ) → Right grant (J grant P B₀) (at grant P B₀ AtType B₀) t
+  right t = record {
+    next-done = λ l. (is-done t l, hands-out t l ∙ ap (λ (h : Handed). h ∷ []) (sym (getD-map (handedFor P) (words (S grant P B₀)) t Op.setType (plain 0) (omega (arith, length-words (S grant P B₀))))));
+    past-end = ended t;
+    kept = kept-at (J grant P B₀) (placeAfter (S grant P B₀) t) (held (after t .bench)) (after t .bench .memory) (holding t .here);
+    product = λ l i j li lj. subst (λ (p : Place). At (J grant P B₀) p (held (after t .bench)) (after t .bench .memory)) (at-end t l) (holding t .here) .1 i j li li lj;
+    count = counted t;
+  }
+
+-- ---- the start
+
+module _ (grant : ℕ → ℕ → ℕ) (G : Grants grant) (P : Plan) (B : Bench) (bytes : Bytes (B .memory)) where
+  ready : Passed (startChecks grant P B) → Ready grant P B
+  unfolding planned
+  ready c =
+      let t = every-each (format (P .sew) (P .factor) ∷ leb (P .m) 1024 ∷ leb (P .k) 1024 ∷ leb (P .n) 1024 ∷ []) (c .1 .0) in
+      record {
+        rule = G;
+        sane = c .0;
+        lengths = sound-is (B .machine) (B .registers) (B .marks) (c .0) .lengths;
+        plan = c .1 .0;
+        accepts = accepted grant G P B bytes (sound-is (B .machine) (B .registers) (B .marks) (c .0) .lengths) (t .0) (c .1 .1 .0) (c .1 .1 .1 .0);
+        formatted = t .0;
+        m≤ = leb-true (P .m) 1024 (t .1 .0);
+        k≤ = leb-true (P .k) 1024 (t .1 .1 .0);
+        n≤ = leb-true (P .n) 1024 (t .1 .1 .1 .0);
+        addressed = bytes .addressed;
+      }
+
+  is-passed : startRun grant P B .answer ≡ Done → Passed (startChecks grant P B)
+  unfolding startRun
+  is-passed e = passed (startChecks grant P B) refl (ap isDone e)
+
+  runs-fresh : startRun grant P B .answer ≡ Done → startRun grant P B .run ≡ freshRun (B .machine) P
+  unfolding startRun
+  runs-fresh e = ap (λ (a : Answer). cond (isDone a) (freshRun (B .machine) P) (noRun P)) e
+
+  pub demand-3 : Demand3 grant P B
+  unfolding startRun
+  demand-3 = record {
+    accepted = λ n i s. no-refusal (startChecks grant P B) (n .state, (n .plan, (is-inside P (B .memory) i, (is-separate (parameters grant (B .machine)) P s, tt))));
+    only-then = λ e. let c = is-passed e in
+        (record { state = c .0; plan = c .1 .0 }, inside-is P (B .memory) (c .1 .1 .0), separate-is (parameters grant (B .machine)) P (c .1 .1 .1 .0));
+    gives-8 = λ d. eight d (sound (B .machine) (B .registers) (B .marks)) refl (planned P) refl;
+    gives-6 = λ n d. six n d (lying P (B .memory)) refl;
+    gives-9 = λ n i d. nine n i d (separate (parameters grant (B .machine)) P) refl;
+    unchanged = refl;
+    as-many = length-map (handedFor P) (words (shape (jobOf grant P B))) ∙ length-words (shape (jobOf grant P B));
+    turns = λ e t. subst (λ (r : Run). Right grant (jobOf grant P B) (record { run = r; bench = B }) t) (sym (runs-fresh e)) (right grant P B (ready (is-passed e)) t);
+  }
+    where
+      rest-of : Bool → Bool → Bool → Bool → Answer
+      rest-of s p l d = verdict ((s otherwise BadArguments) ∷ (p otherwise BadArguments) ∷ (l otherwise OutsideMemory) ∷ (d otherwise Overlap) ∷ [])
+
+      eight : ¬ Numbers P B → (s : Bool) → sound (B .machine) (B .registers) (B .marks) ≡ s → (p : Bool) → planned P ≡ p
+          → rest-of s p (lying P (B .memory)) (separate (parameters grant (B .machine)) P) ≡ BadArguments
+      eight d true es true ep = absurd (d (record { state = es; plan = ep }))
+      eight d true es false ep = refl
+      eight d false es p ep = refl
+
+      six : Numbers P B → ¬ Inside P (B .memory) → (l : Bool) → lying P (B .memory) ≡ l
+          → rest-of (sound (B .machine) (B .registers) (B .marks)) (planned P) l (separate (parameters grant (B .machine)) P) ≡ OutsideMemory
+      six n d true e = absurd (d (inside-is P (B .memory) e))
+      six n d false e = rw (n .state, n .plan)
+
+      nine : Numbers P B → Inside P (B .memory) → ¬ Separate (parameters grant (B .machine)) P → (d : Bool) → separate (parameters grant (B .machine)) P ≡ d
+          → rest-of (sound (B .machine) (B .registers) (B .marks)) (planned P) (lying P (B .memory)) d ≡ Overlap
+      nine n i d true e = absurd (d (separate-is (parameters grant (B .machine)) P e))
+      nine n i d false e = rw (n .state, n .plan, is-inside P (B .memory) i)
+
+-- for our choice of sizes, on every machine, plan, state and memory
+pub demand-3-ours : (P : Plan) (B : Bench) → Bytes (B .memory) → Demand3 smaller P B
+demand-3-ours = demand-3 smaller smaller-grants

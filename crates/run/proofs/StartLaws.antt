@@ -1,0 +1,177 @@
+-- The tests of a start say what the statement says of bytes, both ways; and an accepted start gives what the turns need.
+use mathlib.Core.Path.{_≡_, refl, sym, subst}
+use mathlib.Core.Bool.{Bool, true, not}
+use mathlib.Core.List.{List, [], _∷_}
+use Prim.Native.Nat.{ℕ, _+_, _*_, _-_, _/_, _≤_, _<_}
+use native.Mathlib.Omega.{arith}
+use lib.ListN.{length}
+use lib.IntN.{ℤ, pos, negsuc, _+ℤ_}
+use borrow.Author.Tests.{leb-true, ltb-true, eqb-true, lt-ltb, not-true}
+use Rattle.width.specs.Tile.{In}
+use Rattle.width.specs.Blocks.{Grants}
+use Rattle.machine.specs.Tests.{all, within}
+use Rattle.machine.proofs.TestLaws.{all-true, all-at, every-each, each-every, within-not, not-within, false-true}
+use Rattle.machine.specs.Geometry.{elen, Parameters, parameters, permitted}
+use Rattle.machine.specs.Setting.{sew, mill, newType}
+use Rattle.machine.specs.Memory.{inMemory, rowZ, inside, unsealed}
+use Rattle.machine.proofs.MemoryLaws.{inside-byte, clear-at, clear-true, unsealed-at, unsealed-true}
+use Rattle.machine.specs.Geometry.{Bench}
+use Rattle.machine.proofs.StepLaws.{permitted-lengths}
+use Rattle.run.specs.declared.Plan.{Plan}
+use Rattle.run.specs.Plan.{narrow, wide, msew, typeOf, aAt, bAt, cAt}
+use Rattle.run.specs.Start.{format, lying, distinct, apart, separate}
+use Rattle.run.proofs.WordLaws.{formats}
+use Rattle.run.proofs.Invariant.{Accepted}
+use Rattle.run.specs.Statement.{Lies, Inside, Separate, jobOf, Bytes}
+
+-- ---- bytes in memory
+
+lies-is : (len : ℕ) (z : ℤ) → inMemory len z ≡ true → Lies len z
+lies-is len (pos p) h = (p, refl, ltb-true p len h)
+lies-is len (negsuc p) h = absurd (false-true h)
+
+lies-true : (len : ℕ) (z : ℤ) → Lies len z → inMemory len z ≡ true
+lies-true len z (p, e, l) = subst (λ (y : ℤ). inMemory len y ≡ true) (sym e) (lt-ltb p len l)
+
+module _ (len base stride rows n : ℕ) where
+  all-lie : inside len base stride rows n ≡ true → (i b : ℕ) → i < rows → b < n → Lies len (rowZ base stride i +ℤ pos b)
+  all-lie h i b l l′ = lies-is len (rowZ base stride i +ℤ pos b) (inside-byte len base stride rows n h i b l l′)
+
+  lie-all : ((i b : ℕ) → i < rows → b < n → Lies len (rowZ base stride i +ℤ pos b)) → inside len base stride rows n ≡ true
+  unfolding inside
+  lie-all h =
+      all-true rows (λ i. all n (λ b. inMemory len (rowZ base stride i +ℤ pos b))) (λ i l.
+      all-true n (λ b. inMemory len (rowZ base stride i +ℤ pos b)) (λ b l′. lies-true len (rowZ base stride i +ℤ pos b) (h i b l l′)))
+
+module _ (P : Plan) (mem : List ℕ) where
+  abbrev insides : List Bool
+  insides =
+      inside (length mem) (P .a .address) (P .a .stride) (P .m) (P .k * narrow P)
+      ∷ inside (length mem) (P .b .address) (P .b .stride) (P .k) (P .n * narrow P)
+      ∷ inside (length mem) (P .c .address) (P .c .stride) (P .m) (P .n * wide P) ∷ []
+
+  pub inside-is : lying P mem ≡ true → Inside P mem
+  unfolding lying
+  inside-is h =
+      let t = every-each insides h in
+      record {
+        a-lies = all-lie (length mem) (P .a .address) (P .a .stride) (P .m) (P .k * narrow P) (t .0);
+        b-lies = all-lie (length mem) (P .b .address) (P .b .stride) (P .k) (P .n * narrow P) (t .1 .0);
+        c-lies = all-lie (length mem) (P .c .address) (P .c .stride) (P .m) (P .n * wide P) (t .1 .1 .0);
+      }
+
+  pub is-inside : Inside P mem → lying P mem ≡ true
+  unfolding lying
+  is-inside h = each-every insides (
+    lie-all (length mem) (P .a .address) (P .a .stride) (P .m) (P .k * narrow P) (h .a-lies),
+    (
+      lie-all (length mem) (P .b .address) (P .b .stride) (P .k) (P .n * narrow P) (h .b-lies),
+      (lie-all (length mem) (P .c .address) (P .c .stride) (P .m) (P .n * wide P) (h .c-lies), tt),
+    ),
+  )
+
+-- ---- rows that share no byte
+
+module _ (at : ℕ → ℕ) (rows n : ℕ) (at′ : ℕ → ℕ) (rows′ o : ℕ) where
+  apart-at : apart at rows n at′ rows′ o ≡ true → (i k q : ℕ) → i < rows → k < rows′ → In (at i) n q → ¬ In (at′ k) o q
+  unfolding apart
+  apart-at h i k q l l′ x =
+      let e : at i + (q - at i) ≡ q = omega arith in
+      subst (λ (z : ℕ). ¬ In (at′ k) o z) e (within-not (at′ k) o (at i + (q - at i))
+      (all-at rows′ (λ k. not (within (at′ k) o (at i + (q - at i))))
+      (all-at n (λ b. all rows′ (λ k. not (within (at′ k) o (at i + b))))
+      (all-at rows (λ i. all n (λ b. all rows′ (λ k. not (within (at′ k) o (at i + b))))) h i l) (q - at i) (omega arith)) k l′))
+
+  at-apart : ((i k q : ℕ) → i < rows → k < rows′ → In (at i) n q → ¬ In (at′ k) o q) → apart at rows n at′ rows′ o ≡ true
+  unfolding apart
+  at-apart h =
+      all-true rows (λ i. all n (λ b. all rows′ (λ k. not (within (at′ k) o (at i + b))))) (λ i l.
+      all-true n (λ b. all rows′ (λ k. not (within (at′ k) o (at i + b)))) (λ b l′.
+      all-true rows′ (λ k. not (within (at′ k) o (at i + b))) (λ k l″. not-within (at′ k) o (at i + b) (h i k (at i + b) l l″ (omega arith)))))
+
+module _ (at : ℕ → ℕ) (rows n : ℕ) where
+  distinct-at : distinct at rows n ≡ true → (i k q : ℕ) → i < k → k < rows → In (at i) n q → ¬ In (at k) n q
+  unfolding distinct
+  distinct-at h i k q l l′ x =
+      let e : at i + (q - at i) ≡ q = omega arith in
+      subst (λ (z : ℕ). ¬ In (at k) n z) e (within-not (at k) n (at i + (q - at i))
+      (all-at n (λ b. not (within (at k) n (at i + b)))
+      (all-at k (λ i. all n (λ b. not (within (at k) n (at i + b))))
+      (all-at rows (λ k. all k (λ i. all n (λ b. not (within (at k) n (at i + b))))) h k l′) i l) (q - at i) (omega arith)))
+
+  at-distinct : ((i k q : ℕ) → i < k → k < rows → In (at i) n q → ¬ In (at k) n q) → distinct at rows n ≡ true
+  unfolding distinct
+  at-distinct h =
+      all-true rows (λ k. all k (λ i. all n (λ b. not (within (at k) n (at i + b))))) (λ k l.
+      all-true k (λ i. all n (λ b. not (within (at k) n (at i + b)))) (λ i l′.
+      all-true n (λ b. not (within (at k) n (at i + b))) (λ b l″. not-within (at k) n (at i + b) (h i k (at i + b) l′ l (omega arith)))))
+
+module _ (M : Parameters) (P : Plan) where
+  abbrev separates : List Bool
+  separates =
+      distinct (cAt P) (P .m) (P .n * wide P)
+      ∷ apart (aAt P) (P .m) (P .k * narrow P) (cAt P) (P .m) (P .n * wide P)
+      ∷ apart (bAt P) (P .k) (P .n * narrow P) (cAt P) (P .m) (P .n * wide P)
+      ∷ unsealed M (P .c .address) (P .c .stride) (P .m) (P .n * wide P) ∷ []
+
+  pub separate-is : separate M P ≡ true → Separate M P
+  unfolding separate
+  separate-is h =
+      let t = every-each separates h in
+      record {
+        rows = distinct-at (cAt P) (P .m) (P .n * wide P) (t .0);
+        from-a = apart-at (aAt P) (P .m) (P .k * narrow P) (cAt P) (P .m) (P .n * wide P) (t .1 .0);
+        from-b = apart-at (bAt P) (P .k) (P .n * narrow P) (cAt P) (P .m) (P .n * wide P) (t .1 .1 .0);
+        from-seal = λ i q l x. within-not (M .sealAt) (M .sealLen) q
+            (clear-at M (cAt P i) (P .n * wide P) (unsealed-at M (P .c .address) (P .c .stride) (P .m) (P .n * wide P) (t .1 .1 .1 .0) i l) q x);
+      }
+
+  pub is-separate : Separate M P → separate M P ≡ true
+  unfolding separate
+  is-separate h = each-every separates (
+    at-distinct (cAt P) (P .m) (P .n * wide P) (h .rows),
+    (
+      at-apart (aAt P) (P .m) (P .k * narrow P) (cAt P) (P .m) (P .n * wide P) (h .from-a),
+      (
+        at-apart (bAt P) (P .k) (P .n * narrow P) (cAt P) (P .m) (P .n * wide P) (h .from-b),
+        (
+          unsealed-true M (P .c .address) (P .c .stride) (P .m) (P .n * wide P) (λ i l.
+              clear-true M (cAt P i) (P .n * wide P) (λ q x. not-within (M .sealAt) (M .sealLen) q (h .from-seal i q l x))),
+          tt,
+        ),
+      ),
+    ),
+  )
+
+-- ---- what the turns need
+
+pub accepted : (grant : ℕ → ℕ → ℕ) → Grants grant → (P : Plan) (B : Bench) → Bytes (B .memory) → permitted (B .machine .rlen) (B .machine .mlen) ≡ true
+    → format (P .sew) (P .factor) ≡ true → lying P (B .memory) ≡ true → separate (parameters grant (B .machine)) P ≡ true → Accepted (jobOf grant P B)
+unfolding narrow msew typeOf lying separate
+accepted grant G P B bytes lengths formatted l d =
+    let M : Parameters = parameters grant (B .machine) in
+    let n = permitted-lengths (B .machine .rlen) (B .machine .mlen) lengths in
+    let f = formats (P .sew) (P .factor) formatted .0 in
+    let t = every-each (insides P (B .memory)) l in
+    let s = separate-is M P d in
+    record {
+      rule = G;
+      0<narrow = ltb-true 0 (P .sew / 8) (f .1 .1 .1 .1 .1 .1 .1 .1 .0);
+      0<rows = n .0;
+      row-holds = omega (arith, leb-true (P .sew / 8) 8 (f .1 .1 .1 .1 .1 .1 .0), n .1);
+      factor≤4 = leb-true (P .factor) 4 (f .1 .1 .1 .1 .1 .0);
+      legal = eqb-true (newType elen (typeOf P)) (typeOf P) (f .0);
+      no-mill = not-true (mill (typeOf P)) (f .1 .0);
+      sew-is = eqb-true (sew (typeOf P)) (narrow P) (f .1 .1 .0);
+      width = f .1 .1 .1 .0;
+      c-width = f .1 .1 .1 .1 .1 .1 .1 .0;
+      0<wide = ltb-true 0 (wide P) (f .1 .1 .1 .1 .0);
+      bytes = bytes .below;
+      a-in = t .0;
+      b-in = t .1 .0;
+      c-in = t .1 .1 .0;
+      c-unsealed = every-each (separates M P) d .1 .1 .1 .0;
+      c-rows = s .rows;
+      c-a = λ i q g x c. s .from-a i (c .0) q g (c .1) x (c .2);
+      c-b = λ i q g x c. s .from-b i (c .0) q g (c .1) x (c .2);
+    }

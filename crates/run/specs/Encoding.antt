@@ -1,0 +1,61 @@
+-- The words of a run as numbers, each with the run's scalars 10 and 11.
+use mathlib.Core.Bool.{cond}
+use mathlib.Core.List.{List, _∷_, _++_}
+use Prim.Native.Nat.{ℕ, _+_, _*_, _^_}
+use lib.ListN.{replicate}
+use lib.Dec.{eqb}
+use lib.IntN.{pos, _+ℤ_}
+use Rattle.width.specs.Reduce.{reduce}
+use Rattle.machine.specs.Memory.{rowZ}
+use Rattle.run.specs.declared.Layout.{Layout}
+use Rattle.run.specs.declared.Plan.{Plan}
+use Rattle.run.specs.declared.Handed.{Handed}
+use Rattle.run.specs.Words.{Op}
+use Rattle.run.specs.Plan.{narrow, wide, msew, typeOf}
+use mathlib.Core.List.{map}
+use Rattle.run.specs.Words.{words}
+use Rattle.run.specs.Plan.{Job, shape}
+
+-- msettypei, msettilemi, msettileki, msettileni: "rd is x0"
+abbrev pub settingWord : (funct4 immediate : ℕ) → ℕ
+settingWord funct4 immediate = funct4 * 2 ^ 28 + immediate * 2 ^ 15 + 0b111 * 2 ^ 12 + 0b1110111
+
+-- "A load or store has its address in scalar 10 and its stride in scalar 11"
+abbrev pub memoryWord : (funct7 eew md : ℕ) → ℕ
+memoryWord funct7 eew md = funct7 * 2 ^ 25 + 11 * 2 ^ 20 + 10 * 2 ^ 15 + eew * 2 ^ 12 + md * 2 ^ 7 + 0b1110111
+
+-- acc0 from ms2 or an immediate, and register 0
+abbrev pub arithmeticWord : (funct6 field20 : ℕ) → ℕ
+arithmeticWord funct6 field20 = funct6 * 2 ^ 26 + field20 * 2 ^ 20 + 0b110 * 2 ^ 12 + 0b1110111
+
+-- 0, 1, 2 for 1, 2, 4
+abbrev pub log : ℕ → ℕ
+log f = cond (eqb f 4) 2 (cond (eqb f 2) 1 0)
+
+-- "of the run's own scalars, the others 0"
+abbrev pub own : Handed → List ℕ
+own h = replicate 10 0 ++ (h .address ∷ h .stride ∷ replicate 20 0)
+
+abbrev pub plain : ℕ → Handed
+plain word = record { word = word; address = 0; stride = 0 }
+
+-- the address b bytes into row i, as a scalar holds it; in a run that is accepted it lies in memory
+abbrev pub startOf : Layout → ℕ → ℕ → ℕ
+startOf l i b = reduce (2 ^ 64) (rowZ (l .address) (l .stride) i +ℤ pos b)
+
+-- msettypei, msettilemi, msettileki, msettileni; memulc.mi, mwemulc.mi or mqemulc.mi with immediate 0 ("the clear names acc0 as md
+-- and ms1"); mlae to tr0; mlbe to tr1; mma, mwma or mqma of tr0 and tr1 to acc0; msce of acc0 at f x SEW
+abbrev pub handedFor : Plan → Op → Handed
+handedFor P Op.setType = plain (settingWord 0b0000 (typeOf P))
+handedFor P (Op.setM a) = plain (settingWord 0b0010 a)
+handedFor P (Op.setK a) = plain (settingWord 0b0100 a)
+handedFor P (Op.setN a) = plain (settingWord 0b0110 a)
+handedFor P Op.clear = plain (arithmeticWord (0b010000 + log (P .factor)) 0)
+handedFor P (Op.loadA i s) = record { word = memoryWord 0b0000010 (msew P) 0; address = startOf (P .a) i (s * narrow P); stride = P .a .stride }
+handedFor P (Op.loadB s j) = record { word = memoryWord 0b0000100 (msew P) 1; address = startOf (P .b) s (j * narrow P); stride = P .b .stride }
+handedFor P Op.multiply = plain (arithmeticWord (log (P .factor)) 1)
+handedFor P (Op.store i j) = record { word = memoryWord 0b0000001 (msew P + log (P .factor)) 0; address = startOf (P .c) i (j * wide P); stride = P .c .stride }
+
+-- "Otherwise the words are: msettypei; for each block of rows msettilemi; .."
+abbrev pub wordList : Job → List Handed
+wordList J = map (handedFor (J .plan)) (words (shape J))

@@ -1,0 +1,78 @@
+-- A plan: its widths, the rows of its matrices in memory, and the product that C shall be.
+use mathlib.Core.Path.{_≡_}
+use mathlib.Core.Bool.{cond}
+use mathlib.Core.List.{List}
+use Prim.Native.Nat.{ℕ, _+_, _*_, _/_, _^_, _<_}
+use lib.ListN.{length, getD}
+use lib.Dec.{eqb}
+use lib.IntN.{_*ℤ_}
+use Rattle.width.specs.Reduce.{signed, reduce, sumℤ}
+use Rattle.width.specs.Tile.{In}
+use Rattle.machine.specs.Geometry.{Parameters}
+use Rattle.machine.specs.Setting.{maxM, maxK, maxN}
+use Rattle.machine.specs.Memory.{rowAt}
+use Rattle.machine.specs.Operation.{element}
+use Rattle.run.specs.declared.Plan.{Plan}
+use Rattle.run.specs.Words.{Shape}
+
+-- bytes of an element of A and B, "the elements of SEW bits", and of C: "C's elements have f x SEW bits"
+unfoldable pub narrow : Plan → ℕ
+narrow P = P .sew / 8
+
+abbrev pub wide : Plan → ℕ
+wide P = P .factor * narrow P
+
+-- msew, and the run's mtype: "maccq is set only for f = 4"
+unfoldable pub msew : Plan → ℕ
+msew P = cond (eqb (P .sew) 32) 2 (cond (eqb (P .sew) 16) 1 0)
+
+unfoldable pub typeOf : Plan → ℕ
+typeOf P = msew P + cond (eqb (P .factor) 4) 8 0
+
+-- "Row i of a matrix lies at its address + i x its stride, as whole numbers"
+abbrev pub aAt : Plan → ℕ → ℕ
+aAt P i = rowAt (P .a .address) (P .a .stride) i
+
+abbrev pub bAt : Plan → ℕ → ℕ
+bAt P i = rowAt (P .b .address) (P .b .stride) i
+
+abbrev pub cAt : Plan → ℕ → ℕ
+cAt P i = rowAt (P .c .address) (P .c .stride) i
+
+-- a machine, a plan and the memory at the start
+pub record Job : Type 0 where
+  pub machine : Parameters
+  pub plan : Plan
+  pub memory : List ℕ
+
+-- the sizes and the maxima that its blocks go by
+abbrev pub shape : Job → Shape
+shape J = record {
+  grant = J .machine .grant;
+  tm = maxM (J .machine) (typeOf (J .plan));
+  tk = maxK (J .machine) (typeOf (J .plan));
+  tn = maxN (J .machine) (typeOf (J .plan));
+  m = J .plan .m;
+  k = J .plan .k;
+  n = J .plan .n;
+}
+
+-- the sum of the first s of the products a(l) x b(l) of residues, signed, reduced to `wide` bytes in two's complement
+unfoldable pub total : (wide narrow : ℕ) → (a b : ℕ → ℕ) → ℕ → ℕ
+total wide narrow a b s = reduce (256 ^ wide) (sumℤ s (λ l. signed (256 ^ narrow) (a l) *ℤ signed (256 ^ narrow) (b l)))
+
+-- of A(i, l) x B(l, j), "the elements of SEW bits, signed, that memory held at the start". With s = k: "the sum, for l from 0 to
+-- k - 1, of A(i, l) x B(l, j), reduced to f x SEW bits in two's complement; with k = 0 it is 0"
+abbrev pub partial : Job → ℕ → ℕ → ℕ → ℕ
+partial J i j s =
+    total (wide (J .plan)) (narrow (J .plan)) (λ l. element (J .memory) (aAt (J .plan)) (narrow (J .plan)) i l)
+    (λ l. element (J .memory) (bAt (J .plan)) (narrow (J .plan)) l j) s
+
+-- byte q is one of C's elements: "A row's bytes are those of its elements"
+abbrev pub OfC : Job → ℕ → Type 0
+OfC J q = (i : ℕ) × (i < J .plan .m) × In (cAt (J .plan) i) (J .plan .n * wide (J .plan)) q
+
+-- "the memory outside C's elements is as at the start"
+pub record Kept (J : Job) (mem : List ℕ) : Type 0 where
+  pub same-length : length mem ≡ length (J .memory)
+  pub outside : (q : ℕ) → ¬ OfC J q → getD mem q 0 ≡ getD (J .memory) q 0

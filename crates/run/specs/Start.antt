@@ -1,0 +1,77 @@
+-- The start of a run: its checks in the order 8, 6, 9.
+use mathlib.Core.Bool.{Bool, cond, not}
+use mathlib.Core.List.{List, [], _∷_}
+use Prim.Native.Nat.{ℕ, _+_, _*_}
+use lib.ListN.{length}
+use lib.Dec.{leb}
+use Rattle.machine.specs.declared.Machine.{Machine}
+use Rattle.machine.specs.declared.Answer.{Answer}
+use Rattle.machine.specs.declared.Answer.the-variants.{BadArguments, OutsideMemory, Overlap}
+use Rattle.machine.specs.Tests.{all, every, isIn, within}
+use Rattle.machine.specs.Answers.{Check, _otherwise_, verdict, isDone}
+use Rattle.machine.specs.Geometry.{Parameters, parameters, elen}
+use Rattle.machine.specs.Memory.{inside, unsealed}
+use Rattle.machine.specs.Geometry.{Bench}
+use Rattle.machine.specs.Faults.{sound}
+use Rattle.run.specs.declared.Plan.{Plan}
+use Rattle.run.specs.declared.Run.{Run}
+use Rattle.run.specs.declared.Place.the-variants.{AtType, AtEnd}
+use Rattle.run.specs.Plan.{narrow, wide, aAt, bAt, cAt}
+
+-- "Answer 8 for .. SEW not 8, 16 or 32, f not 1, 2 or 4, f x SEW above ELEN, or a size above 1,024"
+unfoldable pub format : ℕ → ℕ → Bool
+format sew f = every (isIn sew (8 ∷ 16 ∷ 32 ∷ []) ∷ isIn f (1 ∷ 2 ∷ 4 ∷ []) ∷ leb (f * sew) elen ∷ [])
+
+unfoldable pub planned : Plan → Bool
+planned P = every (format (P .sew) (P .factor) ∷ leb (P .m) 1024 ∷ leb (P .k) 1024 ∷ leb (P .n) 1024 ∷ [])
+
+-- "then 6 for an element outside memory": every byte of every row of A, B and C lies in memory
+unfoldable pub lying : Plan → List ℕ → Bool
+lying P mem = every (
+    inside (length mem) (P .a .address) (P .a .stride) (P .m) (P .k * narrow P)
+    ∷ inside (length mem) (P .b .address) (P .b .stride) (P .k) (P .n * narrow P)
+    ∷ inside (length mem) (P .c .address) (P .c .stride) (P .m) (P .n * wide P) ∷ [])
+
+-- no byte of a row is in a later row
+unfoldable pub distinct : (ℕ → ℕ) → ℕ → ℕ → Bool
+distinct at rows n = all rows (λ k. all k (λ i. all n (λ b. not (within (at k) n (at i + b)))))
+
+-- no byte of a row of n bytes is in one of the other rows, of o bytes
+unfoldable pub apart : (ℕ → ℕ) → ℕ → ℕ → (ℕ → ℕ) → ℕ → ℕ → Bool
+apart at rows n at′ rows′ o = all rows (λ i. all n (λ b. all rows′ (λ k. not (within (at′ k) o (at i + b)))))
+
+-- "then 9": no "byte of C lies in two of its rows, in a row of A or B, or in the seal"
+unfoldable pub separate : Parameters → Plan → Bool
+separate M P = every (
+    distinct (cAt P) (P .m) (P .n * wide P)
+    ∷ apart (aAt P) (P .m) (P .k * narrow P) (cAt P) (P .m) (P .n * wide P)
+    ∷ apart (bAt P) (P .k) (P .n * narrow P) (cAt P) (P .m) (P .n * wide P)
+    ∷ unsealed M (P .c .address) (P .c .stride) (P .m) (P .n * wide P) ∷ [])
+
+abbrev pub startChecks : (ℕ → ℕ → ℕ) → Plan → Bench → List Check
+startChecks grant P B =
+    (sound (B .machine) (B .registers) (B .marks) otherwise BadArguments)
+    ∷ (planned P otherwise BadArguments)
+    ∷ (lying P (B .memory) otherwise OutsideMemory)
+    ∷ (separate (parameters grant (B .machine)) P otherwise Overlap) ∷ []
+
+-- a run at its first word
+abbrev pub freshRun : Machine → Plan → Run
+freshRun m P = record { plan = P; rlen = m .rlen; mlen = m .mlen; place = AtType }
+
+-- a run that hands out nothing: what a refused start returns
+abbrev pub noRun : Plan → Run
+noRun P = record { plan = P; rlen = 0; mlen = 0; place = AtEnd }
+
+pub record RunStart : Type 0 where
+  pub answer : Answer
+  pub run : Run
+  pub bench : Bench
+
+-- "The start itself, accepted or refused, changes neither machine nor memory."
+unfoldable pub startRun : (ℕ → ℕ → ℕ) → Plan → Bench → RunStart
+startRun grant P B = record {
+  answer = verdict (startChecks grant P B);
+  run = cond (isDone (verdict (startChecks grant P B))) (freshRun (B .machine) P) (noRun P);
+  bench = B;
+}

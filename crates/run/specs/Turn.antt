@@ -1,0 +1,115 @@
+-- A turn: a step is asked for and, if one is handed out, carried out with the run's own scalars.
+use mathlib.Core.Bool.{Bool, true, cond}
+use mathlib.Core.List.{List, [], _∷_}
+use Prim.Native.Nat.{ℕ, zero, suc, _+_}
+use lib.Dec.{ltb}
+use Rattle.machine.specs.declared.Answer.{Answer}
+use Rattle.machine.specs.declared.Answer.the-variants.{Done, BadArguments}
+use Rattle.machine.specs.Answers.{isDone}
+use Rattle.machine.specs.Tests.{every}
+use Rattle.machine.specs.Geometry.{Parameters, parametersOf, permitted}
+use Rattle.machine.specs.Setting.{maxM, maxK, maxN}
+use Rattle.machine.specs.Geometry.{Bench}
+use Rattle.machine.specs.Step.{Outcome, stepBy}
+use Rattle.run.specs.declared.Plan.{Plan}
+use Rattle.run.specs.declared.Place.{Place}
+use Rattle.run.specs.declared.Place.the-variants.{AtType, AtM, AtN, AtClear, AtK, AtA, AtB, AtMultiply, AtStore, AtEnd}
+use Rattle.run.specs.declared.Run.{Run}
+use Rattle.run.specs.declared.Handed.{Handed}
+use Rattle.run.specs.Words.{Op, Shape}
+use Rattle.run.specs.Places.{next, wordsAt}
+use Rattle.run.specs.Encoding.{own, handedFor}
+use Rattle.run.specs.Plan.{typeOf}
+use Rattle.run.specs.Start.{planned}
+
+-- ---- asking for a step
+
+-- the blocks that a run goes by
+abbrev pub runParameters : (ℕ → ℕ → ℕ) → Run → Parameters
+runParameters grant R = parametersOf grant (R .rlen) (R .mlen) 0 0
+
+abbrev pub runShape : (ℕ → ℕ → ℕ) → Run → Shape
+runShape grant R = record {
+  grant = grant;
+  tm = maxM (runParameters grant R) (typeOf (R .plan));
+  tk = maxK (runParameters grant R) (typeOf (R .plan));
+  tn = maxN (runParameters grant R) (typeOf (R .plan));
+  m = R .plan .m;
+  k = R .plan .k;
+  n = R .plan .n;
+}
+
+-- the place lies in the matrices
+abbrev pub placed : Plan → Place → Bool
+placed P AtType = true
+placed P (AtM i) = ltb i (P .m)
+placed P (AtN i j) = every (ltb i (P .m) ∷ ltb j (P .n) ∷ [])
+placed P (AtClear i j) = every (ltb i (P .m) ∷ ltb j (P .n) ∷ [])
+placed P (AtK i j s) = every (ltb i (P .m) ∷ ltb j (P .n) ∷ ltb s (P .k) ∷ [])
+placed P (AtA i j s) = every (ltb i (P .m) ∷ ltb j (P .n) ∷ ltb s (P .k) ∷ [])
+placed P (AtB i j s) = every (ltb i (P .m) ∷ ltb j (P .n) ∷ ltb s (P .k) ∷ [])
+placed P (AtMultiply i j s) = every (ltb i (P .m) ∷ ltb j (P .n) ∷ ltb s (P .k) ∷ [])
+placed P (AtStore i j) = every (ltb i (P .m) ∷ ltb j (P .n) ∷ [])
+placed P AtEnd = true
+
+-- numbers that a run can hold; one that holds others hands out nothing
+unfoldable pub soundRun : Run → Bool
+soundRun R = every (permitted (R .rlen) (R .mlen) ∷ planned (R .plan) ∷ placed (R .plan) (R .place) ∷ [])
+
+abbrev pub handsOut : (ℕ → ℕ → ℕ) → Run → List Op
+handsOut grant R = cond (soundRun R) (wordsAt (runShape grant R) (R .place)) []
+
+-- the run once a step is handed out
+abbrev pub moved : (ℕ → ℕ → ℕ) → Run → Run
+moved grant R = record { plan = R .plan; rlen = R .rlen; mlen = R .mlen; place = next (runShape grant R) (R .place) }
+
+-- what asking gives: 0, a step and the run at the next place; or, past the last, 8 and the run as it was
+pub record Ask : Type 0 where
+  pub answer : Answer
+  pub handed : List Handed
+  pub run : Run
+
+abbrev pub askWith : (ℕ → ℕ → ℕ) → Run → List Op → Ask
+askWith grant R [] = record { answer = BadArguments; handed = []; run = R }
+askWith grant R (o ∷ os) = record { answer = Done; handed = handedFor (R .plan) o ∷ []; run = moved grant R }
+
+-- "Steps are handed out one at a time .. asking past the last gives 8."
+abbrev pub ask : (ℕ → ℕ → ℕ) → Run → Ask
+ask grant R = askWith grant R (handsOut grant R)
+
+-- ---- a turn
+
+-- "Each turn gets the machine, the memory and the place in the run as the start or the turn before left them"
+pub record Running : Type 0 where
+  pub run : Run
+  pub bench : Bench
+
+pub record Turn : Type 0 where
+  pub answer : Answer
+  pub handed : List Handed
+  pub after : Running
+
+-- "In a turn a step is asked for and, if one is handed out, carried out with the run's own scalars."
+abbrev pub carry : (ℕ → ℕ → ℕ) → Answer → List Handed → Run → Bench → Turn
+carry grant a [] R B = record { answer = a; handed = []; after = record { run = R; bench = B } }
+carry grant a (h ∷ hs) R B =
+    let out : Outcome = stepBy grant (h .word) (own h) B in
+    record { answer = out .answer; handed = h ∷ []; after = record { run = R; bench = out .bench } }
+
+abbrev pub turnWith : (ℕ → ℕ → ℕ) → Running → List Op → Turn
+turnWith grant r os =
+    let a : Ask = askWith grant (r .run) os in
+    carry grant (a .answer) (a .handed) (a .run) (r .bench)
+
+abbrev pub turn : (ℕ → ℕ → ℕ) → Running → Turn
+turn grant r = turnWith grant r (handsOut grant (r .run))
+
+-- after t turns
+abbrev pub afterTurns : (ℕ → ℕ → ℕ) → Running → ℕ → Running
+afterTurns grant r zero = r
+afterTurns grant r (suc t) = turn grant (afterTurns grant r t) .after
+
+-- "The count .. is the number of turns answered 0."
+abbrev pub answeredDone : (ℕ → ℕ → ℕ) → Running → ℕ → ℕ
+answeredDone grant r zero = 0
+answeredDone grant r (suc t) = answeredDone grant r t + cond (isDone (turn grant (afterTurns grant r t) .answer)) 1 0

@@ -1,0 +1,23 @@
+-- How a size is cut into blocks: each block takes what the machine grants of the rest.
+use mathlib.Core.Path.{_≡_}
+use mathlib.Core.List.{List, [], _∷_}
+use Prim.Native.Nat.{ℕ, zero, suc, _+_, _*_, _-_, _/_, _≤_, _<_}
+
+-- a rule that grants a size out of the maximum and what is asked: the three constraints of the draft
+pub record Grants (grant : ℕ → ℕ → ℕ) : Type 0 where
+  pub small : (max asked : ℕ) → asked ≤ max → grant max asked ≡ asked
+  pub middle : (max asked : ℕ) → asked < 2 * max → (asked ≤ 2 * grant max asked) × (grant max asked ≤ max)
+  pub large : (max asked : ℕ) → 2 * max ≤ asked → grant max asked ≡ max
+
+-- the number of blocks, rounded up
+abbrev pub count : ℕ → ℕ → ℕ
+count max rest = (rest + (max - 1)) / max
+
+-- c block starts from s on
+abbrev pub starts : (ℕ → ℕ → ℕ) → ℕ → ℕ → ℕ → ℕ → List ℕ
+starts grant max total zero s = []
+starts grant max total (suc c) s = s ∷ starts grant max total c (s + grant max (total - s))
+
+-- the starts of all blocks from s on
+unfoldable pub chunks : (ℕ → ℕ → ℕ) → ℕ → ℕ → ℕ → List ℕ
+chunks grant max total s = starts grant max total (count max (total - s)) s
