@@ -4,6 +4,9 @@ pub mod CheckLaws
 pub mod MemoryLaws
 pub mod ListingLaws
 pub mod StepLaws
+-- For code.
+pub mod MatchLaws
+pub mod StartLaws
 -- The theorems of specs/Theorems.antt.
 pub mod Refusal
 pub mod NoFault

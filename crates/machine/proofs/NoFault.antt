@@ -21,7 +21,7 @@ use Rattle.machine.specs.declared.Dimension.the-variants.{DimensionM, Di
 use Rattle.machine.specs.declared.Instruction.{Instruction}
 use Rattle.machine.specs.Tests.{allOf}
 use Rattle.machine.proofs.TestLaws.{false-true, allOf-true, allOf-at, every-each, each-every}
-use Rattle.machine.specs.Answers.{Check, isDone, verdict}
+use Rattle.machine.specs.Answers.{isDone, verdict}
 use Rattle.machine.specs.Geometry.{elen}
 use Rattle.machine.specs.Faults.{soundBench}
 use Rattle.machine.specs.Geometry.{Parameters, parameters, State, stateOf, machineAfter, permitted, registerBytes}
@@ -29,10 +29,9 @@ use Rattle.machine.specs.Setting.{legalType, newType, maxK, maxN, sew}
 use Rattle.machine.specs.Operation
 use Rattle.machine.specs.Operation.{Operation, stateAfter, written}
 use Rattle.machine.specs.Faults.{sound}
-use Rattle.machine.specs.Starting.{sealEnds, startChecks, startMachine, StartOutcome, freshMachine, noMachine}
+use Rattle.machine.specs.Starting.{sealEnds, startable, startMachine, StartOutcome, freshMachine, noMachine}
 use Rattle.machine.specs.Theorems.{StepKeepsSound, StartIsSound}
-use Rattle.machine.proofs.CheckLaws.{passed}
-use Rattle.machine.specs.declared.Answer.the-variants.{Done}
+use Rattle.machine.specs.declared.Answer.the-variants.{Done, BadArguments}
 use Rattle.machine.specs.Listing
 use Rattle.machine.specs.Step
 use Rattle.machine.specs.Step.{outcome, stepBy, stepChecks, meant, given, left}
@@ -235,20 +234,17 @@ zeros (suc n) zero = refl
 zeros (suc n) (suc q) = zeros n q
 
 pub start-sound : StartIsSound
-unfolding startMachine newType legalType sew
-start-sound rlen mlen sealStart sealLength registers marks memory = go (isDone (verdict checks)) refl
+unfolding startMachine startable newType legalType sew
+start-sound rlen mlen sealStart sealLength registers marks memory = go (startable rlen mlen sealStart sealLength registers marks) refl
   where
-    checks : List Check
-    checks = startChecks rlen mlen sealStart sealLength registers marks
-
     out : Bool → StartOutcome
     out t = cond t (record { answer = Done; machine = freshMachine rlen mlen sealStart sealLength; registers = registers; marks = replicate (length marks) 0 })
-        (record { answer = verdict checks; machine = noMachine; registers = registers; marks = marks })
+        (record { answer = BadArguments; machine = noMachine; registers = registers; marks = marks })
 
-    go : (t : Bool) → isDone (verdict checks) ≡ t → out t .answer ≡ Done → sound (out t .machine) (out t .registers) (out t .marks) ≡ true
-    go false e d = absurd (false-true (sym e ∙ ap isDone d))
+    go : (t : Bool) → startable rlen mlen sealStart sealLength registers marks ≡ t → out t .answer ≡ Done → sound (out t .machine) (out t .registers) (out t .marks) ≡ true
+    go false e d = absurd (false-true (ap isDone d))
     go true e d =
-        let c = passed checks refl e in
+        let c = every-each (permitted rlen mlen ∷ eqb (length registers) (registerBytes mlen) ∷ eqb (length marks) (registerBytes mlen) ∷ sealEnds sealStart sealLength ∷ []) e in
         sound-true (freshMachine rlen mlen sealStart sealLength) registers (replicate (length marks) 0) (record {
           lengths = c .0;
           seal-ends = leb-true (sealStart + sealLength) (2 ^ 64 - 1) (c .1 .1 .1 .0);

@@ -2,11 +2,11 @@
 use mathlib.Core.Path.{_≡_, refl}
 use mathlib.Core.Bool.{Bool, true, false, cond}
 use lib.ListN.{length, replicate}
-use Rattle.machine.specs.declared.Answer.the-variants.{Done}
+use Rattle.machine.specs.declared.Answer.the-variants.{Done, BadArguments}
 use Rattle.machine.specs.Answers.{isDone, verdict}
 use Rattle.machine.specs.Geometry.{parameters}
 use Rattle.machine.specs.Listing.{decode}
-use Rattle.machine.specs.Starting.{StartOutcome, startChecks, startMachine, freshMachine, noMachine}
+use Rattle.machine.specs.Starting.{StartOutcome, startable, startMachine, freshMachine, noMachine}
 use Rattle.machine.specs.Step
 use Rattle.machine.specs.Step.{Outcome, outcome, stepBy, stepChecks}
 use Rattle.machine.specs.Theorems.{RefusalChangesNothing, StartRefusalChangesNothing}
@@ -25,11 +25,11 @@ refusal-changes-nothing grant word xs B h = go (isDone (verdict (stepChecks (par
 
 pub start-refusal-changes-nothing : StartRefusalChangesNothing
 unfolding startMachine
-start-refusal-changes-nothing rlen mlen sealStart sealLength registers marks = go (isDone (verdict (startChecks rlen mlen sealStart sealLength registers marks)))
+start-refusal-changes-nothing rlen mlen sealStart sealLength registers marks = go (startable rlen mlen sealStart sealLength registers marks)
   where
     out : Bool → StartOutcome
     out t = cond t (record { answer = Done; machine = freshMachine rlen mlen sealStart sealLength; registers = registers; marks = replicate (length marks) 0 })
-        (record { answer = verdict (startChecks rlen mlen sealStart sealLength registers marks); machine = noMachine; registers = registers; marks = marks })
+        (record { answer = BadArguments; machine = noMachine; registers = registers; marks = marks })
 
     go : (t : Bool) → ¬ (out t .answer ≡ Done) → (out t .registers ≡ registers) × (out t .marks ≡ marks)
     go true d = absurd (d refl)

@@ -5,7 +5,7 @@ use mathlib.Core.List.{List, [], _∷_}
 use Prim.Native.Nat.{ℕ}
 use lib.ListN.{length, getD}
 use Rattle.width.proofs.TileLaws.{putTile-out, length-putTile}
-use Rattle.machine.specs.declared.Answer.the-variants.{Done}
+use Rattle.machine.specs.declared.Answer.the-variants.{Done, BadArguments}
 use Rattle.machine.specs.declared.Instruction.{Instruction}
 use Rattle.machine.specs.Tests.{within}
 use Rattle.machine.proofs.TestLaws.{false-true, in-within}
@@ -20,10 +20,9 @@ use Rattle.machine.specs.Listing.{decode}
 use Rattle.machine.specs.Operation.{Operation, memoryAfter}
 use Rattle.machine.specs.Refusals.{checks}
 use Rattle.machine.specs.Geometry.{Bench}
-use Rattle.machine.specs.Starting.{startChecks, startMachine, StartOutcome, freshMachine, noMachine}
+use Rattle.machine.specs.Starting.{startable, startMachine, StartOutcome, freshMachine, noMachine}
 use Rattle.machine.specs.Theorems.{Unharmed, SealHolds, SealHoldsFromStart, startedBench}
 use lib.ListN.{replicate}
-use Rattle.machine.specs.Answers.{Check}
 use Rattle.machine.specs.Step
 use Rattle.machine.specs.Step.{outcome, stepBy, stepChecks, meant, given}
 
@@ -107,15 +106,13 @@ seal-holds grant (w ∷ ws) B =
 pub seal-holds-from-start : SealHoldsFromStart
 unfolding startMachine
 seal-holds-from-start rlen mlen sealStart sealLength registers marks memory d ws q x =
-    seal-holds smaller ws (startedBench rlen mlen sealStart sealLength registers marks memory) .same-bytes q (go (isDone (verdict checks)) refl d)
+    seal-holds smaller ws (startedBench rlen mlen sealStart sealLength registers marks memory) .same-bytes q
+    (go (startable rlen mlen sealStart sealLength registers marks) d)
   where
-    checks : List Check
-    checks = startChecks rlen mlen sealStart sealLength registers marks
-
     out : Bool → StartOutcome
     out t = cond t (record { answer = Done; machine = freshMachine rlen mlen sealStart sealLength; registers = registers; marks = replicate (length marks) 0 })
-        (record { answer = verdict checks; machine = noMachine; registers = registers; marks = marks })
+        (record { answer = BadArguments; machine = noMachine; registers = registers; marks = marks })
 
-    go : (t : Bool) → isDone (verdict checks) ≡ t → out t .answer ≡ Done → within (out t .machine .«seal_start») (out t .machine .«seal_length») q ≡ true
-    go false e d = absurd (false-true (sym e ∙ ap isDone d))
-    go true e d = in-within sealStart sealLength q x
+    go : (t : Bool) → out t .answer ≡ Done → within (out t .machine .«seal_start») (out t .machine .«seal_length») q ≡ true
+    go false d = absurd (false-true (ap isDone d))
+    go true d = in-within sealStart sealLength q x

@@ -8,20 +8,20 @@ use Rattle.machine.specs.declared.Machine.{Machine}
 use Rattle.machine.specs.declared.Answer.{Answer}
 use Rattle.machine.specs.declared.Answer.the-variants.{Done, BadArguments}
 use Rattle.machine.specs.declared.Started.{Started}
-use Rattle.machine.specs.Answers.{Check, _otherwise_, verdict, isDone}
+use Rattle.machine.specs.Tests.{every}
 use Rattle.machine.specs.Geometry.{permitted, registerBytes}
 
 -- "a seal whose end exceeds 2^64 - 1": this one doesn't
 abbrev pub sealEnds : (start length : ℕ) → Bool
 sealEnds start length = leb (start + length) (2 ^ 64 - 1)
 
--- "Starting a machine gives 8 for the same RLEN, MLEN and buffer faults, and for a seal whose end exceeds 2^64 - 1."
-abbrev pub startChecks : (rlen mlen sealStart sealLength : ℕ) → (registers marks : List ℕ) → List Check
-startChecks rlen mlen sealStart sealLength registers marks =
-    (permitted rlen mlen otherwise BadArguments)
-    ∷ (eqb (length registers) (registerBytes mlen) otherwise BadArguments)
-    ∷ (eqb (length marks) (registerBytes mlen) otherwise BadArguments)
-    ∷ (sealEnds sealStart sealLength otherwise BadArguments) ∷ []
+-- "Starting a machine gives 8 for the same RLEN, MLEN and buffer faults, and for a seal whose end exceeds 2^64 - 1": none of these
+unfoldable pub startable : (rlen mlen sealStart sealLength : ℕ) → (registers marks : List ℕ) → Bool
+startable rlen mlen sealStart sealLength registers marks = every (
+    permitted rlen mlen
+    ∷ eqb (length registers) (registerBytes mlen)
+    ∷ eqb (length marks) (registerBytes mlen)
+    ∷ sealEnds sealStart sealLength ∷ [])
 
 -- the numbers of no machine: what a refused start returns
 abbrev pub noMachine : Machine
@@ -50,10 +50,9 @@ pub record StartOutcome : Type 0 where
 -- "Starting sets every mark to 0 .. and leaves the register bytes as they were lent."
 unfoldable pub startMachine : (rlen mlen sealStart sealLength : ℕ) → (registers marks : List ℕ) → StartOutcome
 startMachine rlen mlen sealStart sealLength registers marks =
-    let answer : Answer = verdict (startChecks rlen mlen sealStart sealLength registers marks) in
-    cond (isDone answer)
+    cond (startable rlen mlen sealStart sealLength registers marks)
     (record { answer = Done; machine = freshMachine rlen mlen sealStart sealLength; registers = registers; marks = replicate (length marks) 0 })
-    (record { answer = answer; machine = noMachine; registers = registers; marks = marks })
+    (record { answer = BadArguments; machine = noMachine; registers = registers; marks = marks })
 
 -- what the function `start` returned and left
 abbrev pub startedAs : Started → (registers marks : List ℕ) → StartOutcome

@@ -1,4 +1,9 @@
-// The machine's numbers, its answers and its instructions. What they mean is defined in specs/.
+// The machine's numbers, its answers and its instructions, and starting a machine. What they mean is defined in specs/.
+ghost use mathlib.Core.Path.{_≡_};
+ghost use lib.ListN.{length, replicate};
+ghost use Rattle.machine.specs.Tests.{isIn};
+ghost use Rattle.machine.specs.Geometry.{permitted, rlens, mlens};
+ghost use Rattle.machine.specs.Starting.{startable, startMachine, startedAs, noMachine, freshMachine};
 
 // The machine's numbers: its lengths in bits, mtype, the tile sizes, and the sealed range of memory.
 pub struct Machine {
@@ -123,4 +128,124 @@ pub enum Instruction {
         ms1: usize,
         immediate: u64,
     },
+}
+
+fn is_rlen(x: u64) -> bool
+    ensures { λ r. ⌜ r ≡ isIn x rlens ⌝ }
+{
+    match x {
+        64 | 128 | 256 | 512 => true,
+        _ => false,
+    }
+}
+
+fn is_mlen(x: u64) -> bool
+    ensures { λ r. ⌜ r ≡ isIn x mlens ⌝ }
+{
+    match x {
+        128 | 256 | 512 | 1024 | 2048 | 4096 => true,
+        _ => false,
+    }
+}
+
+// Whether a machine may have these lengths.
+pub fn permitted_lengths(rlen: u64, mlen: u64) -> bool
+    ensures { λ r. ⌜ r ≡ permitted rlen mlen ⌝ }
+{
+    if !is_rlen(rlen) {
+        return false;
+    }
+    if !is_mlen(mlen) {
+        return false;
+    }
+    rlen < mlen
+}
+
+// Sets every mark to 0.
+fn clear(marks: &mut [u8])
+    ensures { λ _. ⌜ now (marks .exit) ≡ replicate (length (now (marks .entry))) 0 ⌝ }
+{
+    let mut i = 0;
+    while i < marks.len() {
+        marks[i] = 0;
+        i += 1;
+    }
+}
+
+fn no_machine() -> Machine
+    ensures { λ r. ⌜ r ≡ noMachine ⌝ }
+{
+    Machine {
+        rlen: 0,
+        mlen: 0,
+        mtype: 0,
+        tile_m: 0,
+        tile_k: 0,
+        tile_n: 0,
+        seal_start: 0,
+        seal_length: 0,
+    }
+}
+
+fn fresh_machine(rlen: u64, mlen: u64, seal_start: u64, seal_length: u64) -> Machine
+    ensures { λ r. ⌜ r ≡ freshMachine rlen mlen «seal_start» «seal_length» ⌝ }
+{
+    Machine {
+        rlen: rlen,
+        mlen: mlen,
+        mtype: 0,
+        tile_m: 0,
+        tile_k: 0,
+        tile_n: 0,
+        seal_start: seal_start,
+        seal_length: seal_length,
+    }
+}
+
+// Whether a machine of these lengths can be started on so many register bytes and marks, with this seal.
+fn is_startable(
+    rlen: u64,
+    mlen: u64,
+    seal_start: u64,
+    seal_length: u64,
+    registers: &[u8],
+    marks: &[u8],
+) -> bool
+    ensures { λ r. ⌜ r ≡ startable rlen mlen «seal_start» «seal_length» (now (registers .entry)) (now (marks .entry)) ⌝ }
+{
+    if !permitted_lengths(rlen, mlen) {
+        return false;
+    }
+    if registers.len() as u64 != 2 * mlen {
+        return false;
+    }
+    if marks.len() as u64 != 2 * mlen {
+        return false;
+    }
+    seal_length <= 18446744073709551615 - seal_start
+}
+
+// Starts a machine on the lent register bytes and marks, with a sealed range of memory. Refused, it changes nothing.
+pub fn start(
+    rlen: u64,
+    mlen: u64,
+    seal_start: u64,
+    seal_length: u64,
+    registers: &[u8],
+    marks: &mut [u8],
+) -> Started
+    ensures { λ r. ⌜ startedAs r (now (registers .entry)) (now (marks .exit))
+        ≡ startMachine rlen mlen «seal_start» «seal_length» (now (registers .entry)) (now (marks .entry)) ⌝ }
+{
+    if !is_startable(rlen, mlen, seal_start, seal_length, registers, marks) {
+        return Started {
+            answer: Answer::BadArguments,
+            machine: no_machine(),
+        };
+    }
+    clear(marks);
+    Started {
+        answer: Answer::Done,
+        machine: fresh_machine(rlen, mlen, seal_start, seal_length),
+    }
 }

@@ -1,0 +1,40 @@
+-- A `match` on a number, against a list that the number is in or not.
+use mathlib.Core.Path.{_≡_, refl, sym, _∙_}
+use mathlib.Core.Logic.{inl, inr}
+use mathlib.Core.Bool.{Bool, true, false, _||_}
+use mathlib.Core.List.{List, [], _∷_}
+use Prim.Native.Nat.{ℕ}
+use lib.Dec.{eqb}
+use borrow.Author.Tests.{eq-eqb, eqb-true}
+use types.Run.{OneOf}
+use Rattle.machine.specs.Tests.{isIn}
+use Rattle.machine.proofs.TestLaws.{or-right, or-not}
+
+in-later : (k : ℕ) (ks : List ℕ) (x : ℕ) → OneOf (k ∷ ks) x → isIn x (k ∷ ks) ≡ true
+in-later k [] x h = rw (eq-eqb x k h)
+in-later k (k′ ∷ ks) x (inl h) = rw (eq-eqb x k h)
+in-later k (k′ ∷ ks) x (inr h) = or-right (eqb x k) (isIn x (k′ ∷ ks)) (in-later k′ ks x h)
+
+pub one-of : (ks : List ℕ) (x : ℕ) → OneOf ks x → true ≡ isIn x ks
+one-of [] x h = absurd h
+one-of (k ∷ ks) x h = sym (in-later k ks x h)
+
+found : (k : ℕ) (ks : List ℕ) (x : ℕ) → isIn x (k ∷ ks) ≡ true → OneOf (k ∷ ks) x
+found k [] x h = go (eqb x k) refl h
+  where
+    go : (t : Bool) → eqb x k ≡ t → t || false ≡ true → x ≡ k
+    go true e h = eqb-true x k e
+    go false e h = eqb-true x k (e ∙ h)
+found k (k′ ∷ ks) x h = go (eqb x k) refl (found k′ ks x)
+  where
+    go : (t : Bool) → eqb x k ≡ t → (isIn x (k′ ∷ ks) ≡ true → OneOf (k′ ∷ ks) x) → OneOf (k ∷ k′ ∷ ks) x
+    go true e ih = inl (eqb-true x k e)
+    go false e ih = inr (ih (or-not (eqb x k) (isIn x (k′ ∷ ks)) h e))
+
+pub none-of : (ks : List ℕ) (x : ℕ) → (OneOf ks x → ⊥) → false ≡ isIn x ks
+none-of [] x h = refl
+none-of (k ∷ ks) x h = go (isIn x (k ∷ ks)) refl
+  where
+    go : (t : Bool) → isIn x (k ∷ ks) ≡ t → false ≡ t
+    go true e = absurd (h (found k ks x e))
+    go false e = refl

@@ -1,0 +1,46 @@
+-- For code: permitted lengths by their parts, and what a return of `start` has to show.
+use mathlib.Core.Path.{_≡_, refl, sym, ap}
+use mathlib.Core.Bool.{Bool, true, false, cond, _&&_}
+use mathlib.Core.List.{List, [], _∷_}
+use Prim.Native.Nat.{ℕ, _+_, _*_, _-_, _^_, _≤_}
+use lib.ListN.{length, replicate}
+use native.Mathlib.Omega.{arith}
+use borrow.Author.Tests.{le-leb, leb-true}
+use Rattle.machine.proofs.TestLaws.{same-test, and-true, and-left}
+use Rattle.machine.specs.declared.Answer.the-variants.{Done, BadArguments}
+use lib.Dec.{leb, ltb, eqb}
+use Rattle.machine.specs.Tests.{isIn, every}
+use Rattle.machine.specs.Geometry.{permitted, rlens, mlens}
+use Rattle.machine.specs.Starting.{sealEnds, startable, startMachine, StartOutcome, freshMachine, noMachine}
+
+pub permitted-by : (r m : ℕ) (a b : Bool) → isIn r rlens ≡ a → isIn m mlens ≡ b → a && (b && ltb r m) ≡ permitted r m
+unfolding permitted
+permitted-by r m true true p q = rw (p, q) (and-truth (ltb r m))
+  where
+    and-truth : (t : Bool) → t ≡ t && true
+    and-truth true = refl
+    and-truth false = refl
+permitted-by r m true false p q = rw (p, q)
+permitted-by r m false b p q = rw p
+
+-- the seal's end, without a sum that could wrap
+pub seal-fits : (start length : ℕ) → start ≤ 2 ^ 64 - 1 → leb length (2 ^ 64 - 1 - start) ≡ sealEnds start length && true
+seal-fits start length h = same-test (leb length (2 ^ 64 - 1 - start)) (sealEnds start length && true)
+    (λ t. and-true (sealEnds start length) true (le-leb (start + length) (2 ^ 64 - 1) (omega (arith, leb-true length (2 ^ 64 - 1 - start) t))) refl)
+    (λ t. le-leb length (2 ^ 64 - 1 - start) (omega (arith, leb-true (start + length) (2 ^ 64 - 1) (and-left (sealEnds start length) true t))))
+
+-- the lengths of the lent buffers decide
+pub startable-by : (rlen mlen sealStart sealLength : ℕ) (registers marks : List ℕ) (p q r s : Bool)
+    → permitted rlen mlen ≡ p → eqb (length registers) (2 * mlen) ≡ q → eqb (length marks) (2 * mlen) ≡ r → sealEnds sealStart sealLength ≡ s
+    → every (p ∷ q ∷ r ∷ s ∷ []) ≡ startable rlen mlen sealStart sealLength registers marks
+unfolding startable
+startable-by rlen mlen sealStart sealLength registers marks p q r s hp hq hr hs = rw (hp, hq, hr, hs)
+
+module _ (rlen mlen sealStart sealLength : ℕ) (registers marks : List ℕ) where
+  abbrev out : Bool → StartOutcome
+  out t = cond t (record { answer = Done; machine = freshMachine rlen mlen sealStart sealLength; registers = registers; marks = replicate (length marks) 0 })
+      (record { answer = BadArguments; machine = noMachine; registers = registers; marks = marks })
+
+  pub started-as : (t : Bool) → startable rlen mlen sealStart sealLength registers marks ≡ t → out t ≡ startMachine rlen mlen sealStart sealLength registers marks
+  unfolding startMachine
+  started-as t e = ap out (sym e)
