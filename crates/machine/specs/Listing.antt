@@ -52,35 +52,35 @@ pub record Row : Type 0 where
 abbrev fix : ℕ → ℕ → ℕ → Fixed
 fix high low value = record { high = high; low = low; value = value }
 
--- settings with an immediate: bits 31..28 and 14..12
+-- settings with an immediate: bits 14..12 and 31..28
 abbrev settingI : ℕ → (ℕ → Instruction) → Row
-settingI funct4 means = record { fixed = fix 31 28 funct4 ∷ fix 14 12 0b111 ∷ []; means = means }
+settingI funct4 means = record { fixed = fix 14 12 0b111 ∷ fix 31 28 funct4 ∷ []; means = means }
 
 -- settings with rs1; "any bit of 27..20 set in a setting word that has an rs1 field" is refused
 abbrev setting : ℕ → (ℕ → Instruction) → Row
-setting funct4 means = record { fixed = fix 31 28 funct4 ∷ fix 14 12 0b111 ∷ fix 27 20 0 ∷ []; means = means }
+setting funct4 means = record { fixed = fix 14 12 0b111 ∷ fix 31 28 funct4 ∷ fix 27 20 0 ∷ []; means = means }
 
--- loads and stores: bits 31..26, 25 and 14..12
+-- loads and stores: bits 14..12, 31..26 and 25
 abbrev loading : ℕ → ℕ → Matrix → ℕ → Row
 loading funct6 eew matrix width = record {
-  fixed = fix 31 26 funct6 ∷ fix 25 25 0 ∷ fix 14 12 eew ∷ [];
+  fixed = fix 14 12 eew ∷ fix 31 26 funct6 ∷ fix 25 25 0 ∷ [];
   means = λ word. Load matrix width (field7 word) (field15 word) (field20 word);
 }
 
 abbrev storing : ℕ → ℕ → Matrix → ℕ → Row
 storing funct6 eew matrix width = record {
-  fixed = fix 31 26 funct6 ∷ fix 25 25 1 ∷ fix 14 12 eew ∷ [];
+  fixed = fix 14 12 eew ∷ fix 31 26 funct6 ∷ fix 25 25 1 ∷ [];
   means = λ word. Store matrix width (field7 word) (field15 word) (field20 word);
 }
 
--- multiplies and element-wise multiplies: bits 31..26, 25 and 14..12
+-- multiplies and element-wise multiplies: bits 14..12, 31..26 and 25
 abbrev arithmetic : ℕ → (ℕ → Instruction) → Row
-arithmetic funct6 means = record { fixed = fix 31 26 funct6 ∷ fix 25 25 0 ∷ fix 14 12 0b110 ∷ []; means = means }
+arithmetic funct6 means = record { fixed = fix 14 12 0b110 ∷ fix 31 26 funct6 ∷ fix 25 25 0 ∷ []; means = means }
 
 -- adds and subtracts; "bits 24..20 of an add or subtract not what the listing fixes (zero where it fixes nothing)" are refused
 abbrev combining : ℕ → Sum → Factor → Row
 combining funct6 sum factor = record {
-  fixed = fix 31 26 funct6 ∷ fix 25 25 0 ∷ fix 14 12 0b110 ∷ fix 24 20 0 ∷ [];
+  fixed = fix 14 12 0b110 ∷ fix 31 26 funct6 ∷ fix 25 25 0 ∷ fix 24 20 0 ∷ [];
   means = λ word. Combine sum factor (field7 word) (field15 word);
 }
 

@@ -1,0 +1,48 @@
+use mathlib.Core.Path.{sym, ap₂, _∙_}
+use Prim.Native.Nat.{ℕ}
+use native.Mathlib.Omega.{arith}
+use borrow.Author.Tests.{eq-eqb, ne-eqb, lt-ltb, le-ltb}
+use Rattle.machine.specs.declared.Instruction.the-variants.{Combine}
+use Rattle.machine.specs.Listing.{field7, field15, field20}
+use Rattle.decode.proofs.Laws.{ranged-in, ranged-out}
+use borrow.Author.Needs.{needs}
+use Rattle.decode.proofs.combine.Statement.{statement}
+use Rattle.decode.proofs.combine.Tie as tie
+
+low-field-requires : tie.Need-low-field-requires
+low-field-requires c κs = search needs
+
+middle-field-requires : tie.Need-middle-field-requires
+middle-field-requires c κs = search needs
+
+high-field-requires : tie.Need-high-field-requires
+high-field-requires c κs = search needs
+
+returns : tie.Need-returns
+returns c =
+    let h = c .before in
+    let a = h .before .before .before .args in
+    rw (ne-eqb (field20 (a .word)) 0 (λ z. c .if1 .taken (h .high-field .ensures ∙ z)))
+
+returns-2 : tie.Need-returns-2
+returns-2 c =
+    let h = c .before .before in
+    let a = h .before .before .before .args in
+    rw (eq-eqb (field20 (a .word)) 0 (sym (h .high-field .ensures) ∙ c .before .if1 .left)) (ranged-out (Combine (a .sum) (a .factor) (field7 (a .word)) (field15 (a .word))) (rw (le-ltb (field7 (a .word)) 2 (omega (arith, h .before .before .low-field .ensures)))))
+
+returns-3 : tie.Need-returns-3
+returns-3 c =
+    let h = c .before .before .before in
+    let a = h .before .before .before .args in
+    rw (eq-eqb (field20 (a .word)) 0 (sym (h .high-field .ensures) ∙ c .before .before .if1 .left)) (ranged-out (Combine (a .sum) (a .factor) (field7 (a .word)) (field15 (a .word))) (rw (lt-ltb (field7 (a .word)) 2 (omega (arith, h .before .before .low-field .ensures)), le-ltb (field15 (a .word)) 2 (omega (arith, h .before .middle-field .ensures)))))
+
+returns-4 : tie.Need-returns-4
+returns-4 c =
+    let h = c .before .before .before in
+    let a = h .before .before .before .args in
+    rw (eq-eqb (field20 (a .word)) 0 (sym (h .high-field .ensures) ∙ c .before .before .if1 .left)) (
+    ap₂ (λ (x y : ℕ). Combine (a .sum) (a .factor) x y) (h .before .before .low-field .ensures) (h .before .middle-field .ensures)
+    ∙ ranged-in (Combine (a .sum) (a .factor) (field7 (a .word)) (field15 (a .word))) (rw (lt-ltb (field7 (a .word)) 2 (omega (arith, h .before .before .low-field .ensures)), lt-ltb (field15 (a .word)) 2 (omega (arith, h .before .middle-field .ensures)))))
+
+pub combine-spec : {M : Type 1} → statement M
+combine-spec = tie.close (tie.spec low-field-requires middle-field-requires high-field-requires returns returns-2 returns-3 returns-4)
