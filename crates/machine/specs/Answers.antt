@@ -1,59 +1,41 @@
 -- The answers and their numbers; and checks, of which the first that fails gives the answer.
-use mathlib.Core.Bool.{Bool, true, false, cond}
+use mathlib.Core.Bool.{Bool, cond}
 use mathlib.Core.List.{List, [], _∷_}
 use Prim.Native.Nat.{ℕ}
+use lib.Dec.{eqb}
 use Rattle.machine.specs.declared.Answer.{Answer}
 use Rattle.machine.specs.declared.Answer.the-variants.{Done, IllegalWord, IllegalType, BadWidth, TileTooLarge, Unwritten, OutsideMemory, SealedByte, BadArguments, Overlap}
 
--- 01, the table of "Numbers of the answers"
-abbrev pub number : Answer → ℕ
-number Done = 0
-number IllegalWord = 1
-number IllegalType = 2
-number BadWidth = 3
-number TileTooLarge = 4
-number (Unwritten row column) = 5
-number OutsideMemory = 6
-number SealedByte = 7
-number BadArguments = 8
-number Overlap = 9
+-- an answer's number, and the row and column that it names
+pub record Reply : Type 0 where
+  pub number : ℕ
+  pub row : ℕ
+  pub column : ℕ
 
--- "Answer 5 names the row and column of the first such element .. Elsewhere both are 0."
+-- 01, the table of "Numbers of the answers". "Answer 5 names the row and column of the first such element .. Elsewhere both are 0."
+abbrev pub reply : Answer → Reply
+reply Done = record { number = 0; row = 0; column = 0 }
+reply IllegalWord = record { number = 1; row = 0; column = 0 }
+reply IllegalType = record { number = 2; row = 0; column = 0 }
+reply BadWidth = record { number = 3; row = 0; column = 0 }
+reply TileTooLarge = record { number = 4; row = 0; column = 0 }
+reply (Unwritten row column) = record { number = 5; row = row; column = column }
+reply OutsideMemory = record { number = 6; row = 0; column = 0 }
+reply SealedByte = record { number = 7; row = 0; column = 0 }
+reply BadArguments = record { number = 8; row = 0; column = 0 }
+reply Overlap = record { number = 9; row = 0; column = 0 }
+
+abbrev pub number : Answer → ℕ
+number a = reply a .number
+
 abbrev pub rowOf : Answer → ℕ
-rowOf Done = 0
-rowOf IllegalWord = 0
-rowOf IllegalType = 0
-rowOf BadWidth = 0
-rowOf TileTooLarge = 0
-rowOf (Unwritten row column) = row
-rowOf OutsideMemory = 0
-rowOf SealedByte = 0
-rowOf BadArguments = 0
-rowOf Overlap = 0
+rowOf a = reply a .row
 
 abbrev pub columnOf : Answer → ℕ
-columnOf Done = 0
-columnOf IllegalWord = 0
-columnOf IllegalType = 0
-columnOf BadWidth = 0
-columnOf TileTooLarge = 0
-columnOf (Unwritten row column) = column
-columnOf OutsideMemory = 0
-columnOf SealedByte = 0
-columnOf BadArguments = 0
-columnOf Overlap = 0
+columnOf a = reply a .column
 
 abbrev pub isDone : Answer → Bool
-isDone Done = true
-isDone IllegalWord = false
-isDone IllegalType = false
-isDone BadWidth = false
-isDone TileTooLarge = false
-isDone (Unwritten row column) = false
-isDone OutsideMemory = false
-isDone SealedByte = false
-isDone BadArguments = false
-isDone Overlap = false
+isDone a = eqb (number a) 0
 
 -- a test and the answer where it fails
 pub record Check : Type 0 where

@@ -10,7 +10,7 @@ use Rattle.machine.specs.Memory.{inside, clear, unsealed}
 use Rattle.machine.specs.Refusals.{marked}
 use Rattle.machine.specs.Listing.{decode, listing}
 use Rattle.machine.specs.Faults.{sound}
-use Rattle.machine.specs.Starting.{startMachine}
+use Rattle.machine.specs.Starting.{startMachine, startable}
 use Rattle.machine.specs.Step.{stepBy, outcome}
 use Rattle.run.specs.Plan.{narrow, msew, typeOf}
 use Rattle.run.specs.Start.{startRun, format, planned, lying, distinct, apart, separate}
@@ -18,9 +18,9 @@ use Rattle.run.specs.Turn.{soundRun}
 use Rattle.run.specs.Sheet.{sheet, bench, M, scalars, plan, started, c, counts, BenchSheet, ProductExample}
 
 pub bench-sheet : BenchSheet
-unfolding sheet bench M scalars plan started c counts permitted sew newType legalType widthOk widthOf inside clear unsealed marked listing decode sound startMachine stepBy outcome narrow msew typeOf startRun soundRun format planned lying distinct apart separate chunks putTile putRow putLe markTile markRow reduce
+unfolding sheet bench M scalars plan started c counts permitted sew newType legalType widthOk widthOf inside clear unsealed marked listing decode sound startMachine startable stepBy outcome narrow msew typeOf startRun soundRun format planned lying distinct apart separate chunks putTile putRow putLe markTile markRow reduce
 bench-sheet = refl
 
 pub product-example : ProductExample
-unfolding bench plan started c permitted sew newType legalType widthOk widthOf inside clear unsealed marked listing decode sound startMachine stepBy outcome narrow msew typeOf startRun soundRun format planned lying distinct apart separate chunks putTile putRow putLe markTile markRow reduce
+unfolding bench plan started c permitted sew newType legalType widthOk widthOf inside clear unsealed marked listing decode sound startMachine startable stepBy outcome narrow msew typeOf startRun soundRun format planned lying distinct apart separate chunks putTile putRow putLe markTile markRow reduce
 product-example = refl
