@@ -7,6 +7,7 @@ pub mod StepLaws
 -- For code.
 pub mod MatchLaws
 pub mod StartLaws
+pub mod CodeLaws
 -- The theorems of specs/Theorems.antt.
 pub mod Refusal
 pub mod NoFault

@@ -23,14 +23,7 @@ fn started(rlen: u64, mlen: u64, seal_start: u64, seal_length: u64) {
     number(seal_start);
     say(b" ");
     number(seal_length);
-    let made = machine::start(
-        rlen,
-        mlen,
-        seal_start,
-        seal_length,
-        &registers,
-        &mut marks,
-    );
+    let made = machine::start(rlen, mlen, seal_start, seal_length, &registers, &mut marks);
     let answer = made.answer;
     match answer {
         Answer::Done => say(b": answer 0\n"),

@@ -1,0 +1,25 @@
+use mathlib.Core.Path.{_≡_, refl, sym, ap, ap₂, _∙_, subst}
+use mathlib.Core.Bool.{Bool, true, false, cond}
+use Prim.Native.Nat.{ℕ, _+_, _*_, _-_, _/_, _%_, _^_, _<_, _≤_, min}
+use native.Mathlib.Omega.{arith}
+use lib.Dec.{eqb, ltb, leb}
+use borrow.Author.Tests.{eq-eqb, ne-eqb, lt-ltb, le-ltb, le-leb, lt-leb, not-true, not-false}
+use lib.ListN.{getD}
+use borrow.Author.Needs.{needs}
+use Rattle.step.proofs.read_scalar.Statement.{statement}
+use Rattle.step.proofs.read_scalar.Tie as tie
+
+returns : tie.Need-returns
+returns c = rw (eq-eqb (c .before .args .slot) 0 (c .if1 .taken))
+
+mul-result : tie.Need-mul-result
+mul-result c = search needs
+
+shared-slice-read-result : tie.Need-shared-slice-read-result
+shared-slice-read-result c = search needs
+
+returns-2 : tie.Need-returns-2
+returns-2 c = rw (ne-eqb (c .before .before .args .slot) 0 (c .before .if1 .left))
+
+pub read-scalar-spec : {M : Type 1} → statement M
+read-scalar-spec = tie.close (tie.spec returns mul-result shared-slice-read-result returns-2)

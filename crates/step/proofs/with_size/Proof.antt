@@ -1,0 +1,37 @@
+use mathlib.Core.Path.{_≡_, refl, sym, ap, ap₂, _∙_, subst}
+use mathlib.Core.Bool.{Bool, true, false, cond}
+use mathlib.Core.List.{List}
+use Prim.Native.Nat.{ℕ, _+_, _*_, _-_, _/_, _%_, _^_, _<_, _≤_, min}
+use native.Mathlib.Omega.{arith}
+use lib.Dec.{eqb, ltb, leb}
+use borrow.Author.Tests.{eq-eqb, ne-eqb, lt-ltb, le-ltb, le-leb, lt-leb, not-true, not-false}
+use Rattle.machine.specs.declared.Machine.{Machine}
+use Rattle.machine.specs.declared.Stepped.{Stepped}
+use Rattle.machine.specs.declared.Dimension.{Dimension}
+use Rattle.machine.specs.declared.Answer.the-variants.{Done, IllegalType}
+use Rattle.machine.specs.Setting.{mill, maximum, smaller}
+use Rattle.step.specs.Parts.{ours, withType, withSize, granted, sizeStepped, sizeScalars, keepStepped}
+use borrow.Author.Needs.{needs}
+use Rattle.step.proofs.with_size.Statement.{statement}
+use Rattle.step.proofs.with_size.Tie as tie
+
+enum-told : tie.Need-enum-told
+enum-told c = search needs
+
+enum-told-2 : tie.Need-enum-told-2
+enum-told-2 c = search needs
+
+enum-told-3 : tie.Need-enum-told-3
+enum-told-3 c = search needs
+
+returns : tie.Need-returns
+returns c = ap (λ (d : Dimension). withSize (c .before .before .args .m) d (c .before .before .args .size)) (sym (c .enum-told .given .1))
+
+returns-2 : tie.Need-returns-2
+returns-2 c = ap (λ (d : Dimension). withSize (c .before .before .args .m) d (c .before .before .args .size)) (sym (c .enum-told2 .given .1))
+
+returns-3 : tie.Need-returns-3
+returns-3 c = ap (λ (d : Dimension). withSize (c .before .before .args .m) d (c .before .before .args .size)) (sym (c .enum-told3 .given .1))
+
+pub with-size-spec : {M : Type 1} → statement M
+with-size-spec = tie.close (tie.spec enum-told enum-told-2 enum-told-3 returns returns-2 returns-3)

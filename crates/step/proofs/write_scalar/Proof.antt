@@ -1,0 +1,27 @@
+use mathlib.Core.Path.{_≡_, refl, sym, ap, ap₂, _∙_, subst}
+use mathlib.Core.Bool.{Bool, true, false, cond}
+use Prim.Native.Nat.{ℕ, _+_, _*_, _-_, _/_, _%_, _^_, _<_, _≤_, min}
+use native.Mathlib.Omega.{arith}
+use lib.Dec.{eqb, ltb, leb}
+use borrow.Author.Tests.{eq-eqb, ne-eqb, lt-ltb, le-ltb, le-leb, lt-leb, not-true, not-false}
+use borrow.Author.Needs.{needs}
+use Rattle.step.proofs.write_scalar.Statement.{statement}
+use Rattle.step.proofs.write_scalar.Tie as tie
+
+mul-scalars : tie.Need-mul-scalars
+mul-scalars c = search needs
+
+slice-write-scalars : tie.Need-slice-write-scalars
+slice-write-scalars c = search needs
+
+same-length : tie.Need-same-length
+same-length c = search needs
+
+returns : tie.Need-returns
+returns c = rw (ne-eqb (c .before .args .slot) 0 (c .if1 .taken))
+
+returns-2 : tie.Need-returns-2
+returns-2 c = rw (eq-eqb (c .before .args .slot) 0 (c .if1 .left))
+
+pub write-scalar-spec : {M : Type 1} → statement M
+write-scalar-spec = tie.close (tie.spec mul-scalars slice-write-scalars same-length returns returns-2)
