@@ -1,6 +1,6 @@
 -- For the functions of a step: mtype by cases, and a machine's numbers test by test.
-use mathlib.Core.Path.{_≡_, refl, sym, ap, _∙_}
-use mathlib.Core.Bool.{Bool, true, false, cond, _&&_}
+use mathlib.Core.Path.{_≡_, refl, sym, ap, _∙_, subst}
+use mathlib.Core.Bool.{Bool, true, false, cond, not, _&&_}
 use mathlib.Core.List.{List, [], _∷_}
 use Prim.Native.Nat.{ℕ, zero, suc, _+_, _*_, _/_, _%_, _^_, _≤_, _<_, min}
 use native.Mathlib.Omega.{arith}
@@ -13,7 +13,8 @@ use Rattle.machine.specs.Tests.{every, isIn}
 use Rattle.machine.proofs.MatchLaws.{found}
 use Rattle.machine.specs.Geometry.{elen, permitted}
 use Rattle.machine.specs.Starting.{sealEnds}
-use Rattle.machine.specs.Setting.{sew, newType}
+use Rattle.machine.specs.Setting.{sew, maccq, newType}
+use Rattle.machine.specs.Refusals.{widthOk}
 use Rattle.machine.proofs.CodeLaws.{types-are}
 use Rattle.step.specs.Parts.{numbersSound, legalTypes}
 
@@ -49,6 +50,30 @@ sew-two t e = ap (λ (x : ℕ). 2 ^ (x % 8)) (sym e)
 pub sew-four : (t : ℕ) → t ≡ 2 → 4 ≡ sew t
 unfolding sew
 sew-four t e = ap (λ (x : ℕ). 2 ^ (x % 8)) (sym e)
+
+-- ---- the width rule of arithmetic
+
+module _ (t : ℕ) (legal : isIn t legalTypes ≡ true) where
+  by-type : (P : ℕ → Type 0) → P 0 → P 1 → P 2 → P 8 → P t
+  by-type P a b c d = go (found legalTypes t legal)
+    where
+      go : OneOf legalTypes t → P t
+      go (inl z) = subst P (sym z) a
+      go (inr (inl z)) = subst P (sym z) b
+      go (inr (inr (inl z))) = subst P (sym z) c
+      go (inr (inr (inr z))) = subst P (sym z) d
+
+  pub single-ok : true ≡ widthOk elen t 1
+  unfolding widthOk sew
+  single-ok = by-type (λ t. true ≡ widthOk elen t 1) refl refl refl refl
+
+  pub double-ok : not (eqb t 2) ≡ widthOk elen t 2
+  unfolding widthOk sew
+  double-ok = by-type (λ t. not (eqb t 2) ≡ widthOk elen t 2) refl refl refl refl
+
+  pub quadruple-ok : maccq t ≡ widthOk elen t 4
+  unfolding widthOk sew
+  quadruple-ok = by-type (λ t. maccq t ≡ widthOk elen t 4) refl refl refl refl
 
 -- ---- answer 8
 

@@ -7,13 +7,16 @@ use lib.Dec.{leb, eqb}
 use Rattle.machine.specs.declared.Machine.{Machine}
 use Rattle.machine.specs.declared.Dimension.{Dimension}
 use Rattle.machine.specs.declared.Dimension.the-variants.{DimensionM, DimensionK, DimensionN}
-use Rattle.machine.specs.declared.Answer.the-variants.{Done, IllegalType}
+use Rattle.machine.specs.declared.Answer.the-variants.{Done, IllegalType, BadWidth}
 use Rattle.machine.specs.declared.Stepped.{Stepped}
 use Rattle.machine.specs.Tests.{every}
 use Rattle.machine.specs.Geometry.{elen, permitted, parameters, Parameters, State, stateOf, machineAfter, withScalar}
 use Rattle.machine.specs.Starting.{sealEnds}
 use Rattle.machine.specs.Setting.{newType, mill, maximum, smaller}
-use Rattle.machine.specs.Operation.{sized}
+use Rattle.machine.specs.Operation.{sized, rowsOf, columnsOf}
+use Rattle.machine.specs.declared.Matrix.{Matrix}
+use Rattle.machine.specs.Answers.{Check, _otherwise_}
+use Rattle.machine.specs.Refusals.{typed, widthOf, widthOk, fitting}
 
 -- the machine's own parameters, under our choice of sizes
 abbrev pub ours : Machine → Parameters
@@ -60,3 +63,27 @@ legalTypes = 0 ∷ 1 ∷ 2 ∷ 8 ∷ []
 pub record Ready (m : Machine) : Type 0 where
   pub lengths : permitted (m .rlen) (m .mlen) ≡ true
   pub type-arises : newType elen (m .mtype) ≡ m .mtype
+
+-- ---- answers 2 to 4: the first checks of each family
+
+abbrev pub transferChecks : Machine → Matrix → ℕ → List Check
+transferChecks m k w =
+    typed (stateOf m [] [])
+    ∷ (widthOf elen (m .mtype) k w otherwise BadWidth)
+    ∷ fitting (ours m) (stateOf m [] []) (rowsOf k)
+    ∷ fitting (ours m) (stateOf m [] []) (columnsOf k) ∷ []
+
+abbrev pub elementwiseChecks : Machine → ℕ → List Check
+elementwiseChecks m f =
+    typed (stateOf m [] [])
+    ∷ (widthOk elen (m .mtype) f otherwise BadWidth)
+    ∷ fitting (ours m) (stateOf m [] []) DimensionM
+    ∷ fitting (ours m) (stateOf m [] []) DimensionN ∷ []
+
+abbrev pub multiplyChecks : Machine → ℕ → List Check
+multiplyChecks m f =
+    typed (stateOf m [] [])
+    ∷ (widthOk elen (m .mtype) f otherwise BadWidth)
+    ∷ fitting (ours m) (stateOf m [] []) DimensionM
+    ∷ fitting (ours m) (stateOf m [] []) DimensionK
+    ∷ fitting (ours m) (stateOf m [] []) DimensionN ∷ []

@@ -1,8 +1,10 @@
 // One instruction word: the checks in the order 8, then 1 to 7, and then the effect.
 use machine::Answer;
 use machine::Dimension;
+use machine::Factor;
 use machine::Instruction;
 use machine::Machine;
+use machine::Matrix;
 use machine::Stepped;
 ghost use mathlib.Core.Path.{_≡_};
 ghost use mathlib.Core.Bool.{Bool, true, false, cond, not};
@@ -12,10 +14,12 @@ ghost use lib.Dec.{eqb};
 ghost use lib.ListN.{length};
 ghost use Rattle.machine.specs.Answers.{verdict, isDone};
 ghost use Rattle.machine.specs.Geometry.{elen, scalar, withScalar, stateOf};
-ghost use Rattle.machine.specs.Setting.{newType, mill, maximum, sew};
+ghost use Rattle.machine.specs.Setting.{newType, mill, maccq, maximum, sew, sizeIn};
 ghost use Rattle.machine.specs.Faults.{sound};
-ghost use Rattle.machine.specs.Refusals.{typed};
-ghost use Rattle.step.specs.Parts.{ours, numbersSound, withType, withSize, sizeStepped, sizeScalars, keepStepped, Ready, legalTypes};
+ghost use Rattle.machine.specs.Refusals.{widthOf, widthOk, fitting};
+ghost use Rattle.machine.specs.Operation.{times, rowsOf, columnsOf};
+ghost use Rattle.machine.specs.declared.Matrix.the-variants.{MatrixC};
+ghost use Rattle.step.specs.Parts.{ours, numbersSound, withType, withSize, sizeStepped, sizeScalars, keepStepped, Ready, legalTypes, transferChecks, elementwiseChecks, multiplyChecks};
 ghost use Rattle.machine.specs.Tests.{isIn};
 
 // ---- answer 8
@@ -221,4 +225,159 @@ fn set_largest(m: Machine, scalars: &mut [u64], dimension: Dimension, rd: usize)
     }
     let size = largest(m, dimension);
     set_size(m, scalars, dimension, rd, size)
+}
+
+// ---- answers 2 to 4
+
+fn is_maccq(mtype: u64) -> bool
+    ensures { λ r. ⌜ r ≡ maccq mtype ⌝ }
+{
+    mtype / 8 % 2 == 1
+}
+
+// The width rule of loads and stores of C.
+fn accumulator_width(mtype: u64, width: usize) -> bool
+    requires { ⌜ isIn mtype legalTypes ≡ true ⌝ }
+    ensures { λ r. ⌜ r ≡ widthOf elen mtype MatrixC width ⌝ }
+{
+    let sew = sew_bytes(mtype);
+    if width > 4 {
+        return false;
+    }
+    if width == sew {
+        return true;
+    }
+    if width == 2 * sew {
+        return true;
+    }
+    if !is_maccq(mtype) {
+        return false;
+    }
+    width == 4 * sew
+}
+
+// The width rule of loads and stores.
+fn transfer_width(mtype: u64, matrix: Matrix, width: usize) -> bool
+    requires { ⌜ isIn mtype legalTypes ≡ true ⌝ }
+    ensures { λ r. ⌜ r ≡ widthOf elen mtype matrix width ⌝ }
+{
+    match matrix {
+        Matrix::MatrixA => width == sew_bytes(mtype),
+        Matrix::MatrixB => width == sew_bytes(mtype),
+        Matrix::MatrixC => accumulator_width(mtype, width),
+    }
+}
+
+// The width rule of arithmetic.
+fn factor_width(mtype: u64, factor: Factor) -> bool
+    requires { ⌜ isIn mtype legalTypes ≡ true ⌝ }
+    ensures { λ r. ⌜ r ≡ widthOk elen mtype (times factor) ⌝ }
+{
+    match factor {
+        Factor::Single => true,
+        Factor::Double => mtype != 2,
+        Factor::Quadruple => is_maccq(mtype),
+    }
+}
+
+fn size_of(m: Machine, dimension: Dimension) -> u64
+    ensures { λ r. ⌜ r ≡ sizeIn dimension (stateOf m [] []) ⌝ }
+{
+    match dimension {
+        Dimension::DimensionM => m.tile_m,
+        Dimension::DimensionK => m.tile_k,
+        Dimension::DimensionN => m.tile_n,
+    }
+}
+
+// Whether a size is at most its maximum under mtype.
+fn fits(m: Machine, dimension: Dimension) -> bool
+    requires { ⌜ Ready m ⌝ }
+    requires { ⌜ mill (m .mtype) ≡ false ⌝ }
+    ensures { λ r. ⌜ r ≡ fitting (ours m) (stateOf m [] []) dimension .holds ⌝ }
+{
+    size_of(m, dimension) <= largest(m, dimension)
+}
+
+fn rows_of(matrix: Matrix) -> Dimension
+    ensures { λ r. ⌜ r ≡ rowsOf matrix ⌝ }
+{
+    match matrix {
+        Matrix::MatrixA => Dimension::DimensionM,
+        Matrix::MatrixB => Dimension::DimensionK,
+        Matrix::MatrixC => Dimension::DimensionM,
+    }
+}
+
+fn columns_of(matrix: Matrix) -> Dimension
+    ensures { λ r. ⌜ r ≡ columnsOf matrix ⌝ }
+{
+    match matrix {
+        Matrix::MatrixA => Dimension::DimensionK,
+        Matrix::MatrixB => Dimension::DimensionN,
+        Matrix::MatrixC => Dimension::DimensionN,
+    }
+}
+
+// Answers 2 to 4 of a load or a store.
+fn check_transfer(m: Machine, matrix: Matrix, width: usize) -> Answer
+    requires { ⌜ Ready m ⌝ }
+    ensures { λ r. ⌜ r ≡ verdict (transferChecks m matrix width) ⌝ }
+{
+    if is_mill(m.mtype) {
+        return Answer::IllegalType;
+    }
+    if !transfer_width(m.mtype, matrix, width) {
+        return Answer::BadWidth;
+    }
+    if !fits(m, rows_of(matrix)) {
+        return Answer::TileTooLarge;
+    }
+    if !fits(m, columns_of(matrix)) {
+        return Answer::TileTooLarge;
+    }
+    Answer::Done
+}
+
+// Answers 2 to 4 of an element-wise instruction.
+fn check_elementwise(m: Machine, factor: Factor) -> Answer
+    requires { ⌜ Ready m ⌝ }
+    ensures { λ r. ⌜ r ≡ verdict (elementwiseChecks m (times factor)) ⌝ }
+{
+    if is_mill(m.mtype) {
+        return Answer::IllegalType;
+    }
+    if !factor_width(m.mtype, factor) {
+        return Answer::BadWidth;
+    }
+    if !fits(m, Dimension::DimensionM) {
+        return Answer::TileTooLarge;
+    }
+    if !fits(m, Dimension::DimensionN) {
+        return Answer::TileTooLarge;
+    }
+    Answer::Done
+}
+
+// Answers 2 to 4 of a multiply.
+fn check_multiply(m: Machine, factor: Factor) -> Answer
+    requires { ⌜ Ready m ⌝ }
+    ensures { λ r. ⌜ r ≡ verdict (multiplyChecks m (times factor)) ⌝ }
+{
+    if is_mill(m.mtype) {
+        return Answer::IllegalType;
+    }
+    if !factor_width(m.mtype, factor) {
+        return Answer::BadWidth;
+    }
+    if !fits(m, Dimension::DimensionM) {
+        return Answer::TileTooLarge;
+    }
+    if !fits(m, Dimension::DimensionK) {
+        return Answer::TileTooLarge;
+    }
+    if !fits(m, Dimension::DimensionN) {
+        return Answer::TileTooLarge;
+    }
+    Answer::Done
 }

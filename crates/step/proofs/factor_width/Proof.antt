@@ -1,0 +1,58 @@
+use mathlib.Core.Path.{_≡_, refl, sym, ap, ap₂, _∙_, subst}
+use mathlib.Core.Bool.{Bool, true, false, cond}
+use mathlib.Core.List.{List}
+use Prim.Native.Nat.{ℕ, _+_, _*_, _-_, _/_, _%_, _^_, _<_, _≤_, min}
+use native.Mathlib.Omega.{arith}
+use lib.Dec.{eqb, ltb, leb}
+use borrow.Author.Tests.{eq-eqb, ne-eqb, lt-ltb, le-ltb, le-leb, lt-leb, not-true, not-false}
+use Rattle.machine.specs.declared.Machine.{Machine}
+use Rattle.machine.specs.declared.Stepped.{Stepped}
+use Rattle.machine.specs.declared.Dimension.{Dimension}
+use Rattle.machine.specs.declared.Answer.the-variants.{Done, IllegalType}
+use Rattle.machine.specs.Setting.{mill, maximum, smaller}
+use Rattle.step.specs.Parts.{ours, withType, withSize, granted, sizeStepped, sizeScalars, keepStepped}
+use Rattle.machine.specs.Geometry.{elen, stateOf}
+use Rattle.machine.specs.Setting.{sew, maccq, sizeIn}
+use Rattle.machine.specs.Operation.{times, rowsOf, columnsOf}
+use Rattle.machine.specs.Refusals.{widthOf, widthOk, fitting}
+use Rattle.machine.specs.declared.Matrix.{Matrix}
+use Rattle.machine.specs.declared.Matrix.the-variants.{MatrixA, MatrixB, MatrixC}
+use Rattle.machine.specs.declared.Dimension.the-variants.{DimensionM, DimensionK, DimensionN}
+use Rattle.machine.specs.declared.Factor.{Factor}
+use Rattle.machine.specs.declared.Factor.the-variants.{Single, Double, Quadruple}
+use mathlib.Core.List.{[], _∷_}
+use Rattle.machine.proofs.CodeLaws.{arises}
+use Rattle.step.proofs.Laws.{single-ok, double-ok, quadruple-ok}
+use borrow.Author.Needs.{needs}
+use Rattle.step.proofs.factor_width.Statement.{statement}
+use Rattle.step.proofs.factor_width.Tie as tie
+
+enum-told : tie.Need-enum-told
+enum-told c = search needs
+
+enum-told-2 : tie.Need-enum-told-2
+enum-told-2 c = search needs
+
+enum-told-3 : tie.Need-enum-told-3
+enum-told-3 c = search needs
+
+is-maccq-requires : tie.Need-is-maccq-requires
+is-maccq-requires c κs = search needs
+
+returns : tie.Need-returns
+returns c =
+    let s = c .before .before in
+    single-ok (s .args .mtype) (s .pre) ∙ ap (λ (f : Factor). widthOk elen (s .args .mtype) (times f)) (sym (c .enum-told .given .1))
+
+returns-2 : tie.Need-returns-2
+returns-2 c =
+    let s = c .before .before in
+    double-ok (s .args .mtype) (s .pre) ∙ ap (λ (f : Factor). widthOk elen (s .args .mtype) (times f)) (sym (c .enum-told2 .given .1))
+
+returns-3 : tie.Need-returns-3
+returns-3 c =
+    let s = c .before .before .before in
+    c .is-maccq .ensures ∙ quadruple-ok (s .args .mtype) (s .pre) ∙ ap (λ (f : Factor). widthOk elen (s .args .mtype) (times f)) (sym (c .before .enum-told3 .given .1))
+
+pub factor-width-spec : {M : Type 1} → statement M
+factor-width-spec = tie.close (tie.spec enum-told enum-told-2 enum-told-3 is-maccq-requires returns returns-2 returns-3)

@@ -1,0 +1,65 @@
+use mathlib.Core.Path.{_≡_, refl, sym, ap, ap₂, _∙_, subst}
+use mathlib.Core.Bool.{Bool, true, false, cond}
+use mathlib.Core.List.{List}
+use Prim.Native.Nat.{ℕ, _+_, _*_, _-_, _/_, _%_, _^_, _<_, _≤_, min}
+use native.Mathlib.Omega.{arith}
+use lib.Dec.{eqb, ltb, leb}
+use borrow.Author.Tests.{eq-eqb, ne-eqb, lt-ltb, le-ltb, le-leb, lt-leb, not-true, not-false}
+use Rattle.machine.specs.declared.Machine.{Machine}
+use Rattle.machine.specs.declared.Stepped.{Stepped}
+use Rattle.machine.specs.declared.Dimension.{Dimension}
+use Rattle.machine.specs.declared.Answer.the-variants.{Done, IllegalType}
+use Rattle.machine.specs.Setting.{mill, maximum, smaller}
+use Rattle.step.specs.Parts.{ours, withType, withSize, granted, sizeStepped, sizeScalars, keepStepped}
+use Rattle.machine.specs.Geometry.{elen, stateOf}
+use Rattle.machine.specs.Setting.{sew, maccq, sizeIn}
+use Rattle.machine.specs.Operation.{times, rowsOf, columnsOf}
+use Rattle.machine.specs.Refusals.{widthOf, widthOk, fitting}
+use Rattle.machine.specs.declared.Matrix.{Matrix}
+use Rattle.machine.specs.declared.Matrix.the-variants.{MatrixA, MatrixB, MatrixC}
+use Rattle.machine.specs.declared.Dimension.the-variants.{DimensionM, DimensionK, DimensionN}
+use Rattle.machine.specs.declared.Factor.{Factor}
+use Rattle.machine.specs.declared.Factor.the-variants.{Single, Double, Quadruple}
+use mathlib.Core.List.{[], _∷_}
+use Rattle.machine.proofs.CodeLaws.{arises}
+use borrow.Author.Needs.{needs}
+use Rattle.step.proofs.transfer_width.Statement.{statement}
+use Rattle.step.proofs.transfer_width.Tie as tie
+
+enum-told : tie.Need-enum-told
+enum-told c = search needs
+
+sew-bytes-requires : tie.Need-sew-bytes-requires
+sew-bytes-requires c κs = search needs
+
+enum-told-2 : tie.Need-enum-told-2
+enum-told-2 c = search needs
+
+sew-bytes-requires-2 : tie.Need-sew-bytes-requires-2
+sew-bytes-requires-2 c κs = search needs
+
+enum-told-3 : tie.Need-enum-told-3
+enum-told-3 c = search needs
+
+accumulator-width-requires : tie.Need-accumulator-width-requires
+accumulator-width-requires c κs = search needs
+
+returns : tie.Need-returns
+unfolding widthOf
+returns c =
+    let a = c .before .before .before .args in
+    ap (eqb (a .width)) (c .sew-bytes .ensures .0) ∙ ap (λ (k : Matrix). widthOf elen (a .mtype) k (a .width)) (sym (c .before .enum-told .given .1))
+
+returns-2 : tie.Need-returns-2
+unfolding widthOf
+returns-2 c =
+    let a = c .before .before .before .args in
+    ap (eqb (a .width)) (c .sew-bytes2 .ensures .0) ∙ ap (λ (k : Matrix). widthOf elen (a .mtype) k (a .width)) (sym (c .before .enum-told2 .given .1))
+
+returns-3 : tie.Need-returns-3
+returns-3 c =
+    let a = c .before .before .before .args in
+    c .accumulator-width .ensures ∙ ap (λ (k : Matrix). widthOf elen (a .mtype) k (a .width)) (sym (c .before .enum-told3 .given .1))
+
+pub transfer-width-spec : {M : Type 1} → statement M
+transfer-width-spec = tie.close (tie.spec enum-told sew-bytes-requires enum-told-2 sew-bytes-requires-2 enum-told-3 accumulator-width-requires returns returns-2 returns-3)
