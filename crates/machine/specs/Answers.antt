@@ -1,8 +1,7 @@
 -- The answers and their numbers; and checks, of which the first that fails gives the answer.
-use mathlib.Core.Bool.{Bool, cond}
+use mathlib.Core.Bool.{Bool, true, false, cond}
 use mathlib.Core.List.{List, [], _∷_}
 use Prim.Native.Nat.{ℕ}
-use lib.Dec.{eqb}
 use Rattle.machine.specs.declared.Answer.{Answer}
 use Rattle.machine.specs.declared.Answer.the-variants.{Done, IllegalWord, IllegalType, BadWidth, TileTooLarge, Unwritten, OutsideMemory, SealedByte, BadArguments, Overlap}
 
@@ -35,7 +34,16 @@ abbrev pub columnOf : Answer → ℕ
 columnOf a = reply a .column
 
 abbrev pub isDone : Answer → Bool
-isDone a = eqb (number a) 0
+isDone Done = true
+isDone IllegalWord = false
+isDone IllegalType = false
+isDone BadWidth = false
+isDone TileTooLarge = false
+isDone (Unwritten row column) = false
+isDone OutsideMemory = false
+isDone SealedByte = false
+isDone BadArguments = false
+isDone Overlap = false
 
 -- a test and the answer where it fails
 pub record Check : Type 0 where

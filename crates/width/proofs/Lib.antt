@@ -3,5 +3,8 @@ pub mod UptoLaws
 pub mod TileLaws
 pub mod ReduceLaws
 pub mod BlockLaws
--- For code: a row writer that is lent a part.
+-- For code: a row writer that is lent a part, one turn more of a loop, elements, and sums kept at a width.
 pub mod PartLaws
+pub mod PutLaws
+pub mod ElementLaws
+pub mod SumLaws

@@ -1,27 +1,10 @@
-use mathlib.Core.Path.{_≡_, refl, sym, ap, ap₂, _∙_, subst}
-use mathlib.Core.Bool.{Bool, true, false, cond}
-use mathlib.Core.List.{List}
-use Prim.Native.Nat.{ℕ, _+_, _*_, _-_, _/_, _%_, _^_, _<_, _≤_, min}
+use mathlib.Core.Path.{_≡_, sym, ap, _∙_}
+use Prim.Native.Nat.{ℕ, _*_, _-_}
 use native.Mathlib.Omega.{arith}
-use lib.Dec.{eqb, ltb, leb}
-use borrow.Author.Tests.{eq-eqb, ne-eqb, lt-ltb, le-ltb, le-leb, lt-leb, not-true, not-false}
-use Rattle.machine.specs.declared.Machine.{Machine}
-use Rattle.machine.specs.declared.Stepped.{Stepped}
-use Rattle.machine.specs.declared.Dimension.{Dimension}
-use Rattle.machine.specs.declared.Answer.the-variants.{Done, IllegalType}
-use Rattle.machine.specs.Setting.{mill, maximum, smaller}
-use Rattle.step.specs.Parts.{ours, withType, withSize, granted, sizeStepped, sizeScalars, keepStepped}
-use Rattle.machine.specs.Geometry.{elen, stateOf}
-use Rattle.machine.specs.Setting.{sew, maccq, sizeIn}
-use Rattle.machine.specs.Operation.{times, rowsOf, columnsOf}
-use Rattle.machine.specs.Refusals.{widthOf, widthOk, fitting}
-use Rattle.machine.specs.declared.Matrix.{Matrix}
-use Rattle.machine.specs.declared.Matrix.the-variants.{MatrixA, MatrixB, MatrixC}
-use Rattle.machine.specs.declared.Dimension.the-variants.{DimensionM, DimensionK, DimensionN}
-use Rattle.machine.specs.declared.Factor.{Factor}
-use Rattle.machine.specs.declared.Factor.the-variants.{Single, Double, Quadruple}
-use mathlib.Core.List.{[], _∷_}
-use Rattle.machine.proofs.CodeLaws.{arises}
+use lib.Dec.{eqb}
+use borrow.Author.Tests.{eq-eqb, ne-eqb, le-leb, lt-leb, not-true, not-false}
+use Rattle.machine.specs.Setting.{sew}
+use Rattle.machine.specs.Refusals.{widthOf}
 use borrow.Author.Needs.{needs}
 use Rattle.step.proofs.accumulator_width.Statement.{statement}
 use Rattle.step.proofs.accumulator_width.Tie as tie
@@ -65,8 +48,12 @@ returns-4 c =
     let e = f .before in
     let w = e .before .before in
     let a = w .before .args in
-    rw (le-leb (8 * a .width) 32 (omega arith), ne-eqb (a .width) (sew (a .mtype)) (not-one e), ne-eqb (a .width) (2 * sew (a .mtype)) (λ z. f .if3 .left (z ∙ ap (λ (x : ℕ). 2 * x) (sym (w .sew-bytes .ensures .0)))),
-    sym (c .before .is-maccq .ensures) ∙ not-true (c .before .is-maccq .result) (c .if4 .taken))
+    rw (
+      le-leb (8 * a .width) 32 (omega arith),
+      ne-eqb (a .width) (sew (a .mtype)) (not-one e),
+      ne-eqb (a .width) (2 * sew (a .mtype)) (λ z. f .if3 .left (z ∙ ap (λ (x : ℕ). 2 * x) (sym (w .sew-bytes .ensures .0)))),
+      sym (c .before .is-maccq .ensures) ∙ not-true (c .before .is-maccq .result) (c .if4 .taken),
+    )
 
 mul-result : tie.Need-mul-result
 mul-result c = search needs
@@ -78,8 +65,12 @@ returns-5 c =
     let e = f .before in
     let w = e .before .before in
     let a = w .before .args in
-    rw (le-leb (8 * a .width) 32 (omega arith), ne-eqb (a .width) (sew (a .mtype)) (not-one e), ne-eqb (a .width) (2 * sew (a .mtype)) (λ z. f .if3 .left (z ∙ ap (λ (x : ℕ). 2 * x) (sym (w .sew-bytes .ensures .0)))),
-    sym (c .before .is-maccq .ensures) ∙ not-false (c .before .is-maccq .result) (c .if4 .left))
+    rw (
+      le-leb (8 * a .width) 32 (omega arith),
+      ne-eqb (a .width) (sew (a .mtype)) (not-one e),
+      ne-eqb (a .width) (2 * sew (a .mtype)) (λ z. f .if3 .left (z ∙ ap (λ (x : ℕ). 2 * x) (sym (w .sew-bytes .ensures .0)))),
+      sym (c .before .is-maccq .ensures) ∙ not-false (c .before .is-maccq .result) (c .if4 .left),
+    )
     (ap (λ (x : ℕ). eqb (a .width) (4 * x)) (w .sew-bytes .ensures .0))
 
 pub accumulator-width-spec : {M : Type 1} → statement M

@@ -1,0 +1,84 @@
+-- Weighted sums are the element-wise instructions.
+use mathlib.Core.Path.{_≡_, refl, sym, ap, ap₂, _∙_}
+use mathlib.Core.List.{List}
+use mathlib.Core.Logic.{inl, inr}
+use Prim.Native.Nat.{ℕ, zero, _+_, _*_, _%_, _^_, _≤_, _<_}
+use native.Mathlib.Omega.{arith}
+use lib.IntN.{ℤ, one, pos, negsuc, negℤ, _+ℤ_, _*ℤ_, *ℤ-one, zero-*ℤ, *ℤ-negsuc, *ℤ-comm, +ℤ-comm, +ℤ-idl}
+use Rattle.width.specs.Reduce.{signed, reduce}
+use Rattle.width.proofs.ElementLaws.{pow-256, cut}
+use Rattle.width.proofs.PutLaws.{putTile-low}
+use Rattle.width.proofs.SumLaws.{again, same-sum, same-product}
+use Rattle.machine.specs.declared.Sum.{Sum}
+use Rattle.machine.specs.declared.Sum.the-variants.{Add, Subtract, ReverseSubtract}
+use Rattle.machine.specs.Geometry.{Parameters, accAt}
+use Rattle.machine.specs.Operation.{sumOf, sumAt, scaledAt}
+use Rattle.element.specs.Element.{Width}
+use Rattle.arithmetic.specs.Effect.{combineTile, scaleTile}
+use Rattle.arithmetic.specs.Rows.{signedLe, weightedRow, weightedTile}
+
+-- the weights of md and of ms1
+abbrev pub weightD : Sum → ℤ
+weightD Add = pos 1
+weightD Subtract = pos 1
+weightD ReverseSubtract = negsuc 0
+
+abbrev pub weightA : Sum → ℤ
+weightA Add = pos 1
+weightA Subtract = negsuc 0
+weightA ReverseSubtract = pos 1
+
+once : (z : ℤ) → pos 1 *ℤ z ≡ z
+unfolding one
+once z = *ℤ-comm (pos 1) z ∙ *ℤ-one z
+
+minus : (z : ℤ) → negsuc 0 *ℤ z ≡ negℤ z
+unfolding one
+minus z = *ℤ-comm (negsuc 0) z ∙ *ℤ-negsuc z 0 ∙ ap negℤ (*ℤ-one z)
+
+sum-weights : (o : Sum) (d a : ℤ) → weightD o *ℤ d +ℤ weightA o *ℤ a ≡ sumOf o d a
+sum-weights Add d a = ap₂ _+ℤ_ (once d) (once a)
+sum-weights Subtract d a = ap₂ _+ℤ_ (once d) (minus a)
+sum-weights ReverseSubtract d a = ap₂ _+ℤ_ (minus d) (once a) ∙ +ℤ-comm (negℤ d) a
+
+-- the code's weights, at each width: 1 and, as 2 ^ 32 - 1, minus 1
+pub weight-one : (w : ℕ) → Width w → signed (256 ^ w) (1 % 256 ^ w) ≡ pos 1
+weight-one w (inl e) = rw e
+weight-one w (inr (inl e)) = rw e
+weight-one w (inr (inr e)) = rw e
+
+pub weight-minus : (w : ℕ) → Width w → signed (256 ^ w) (4294967295 % 256 ^ w) ≡ negsuc 0
+weight-minus w (inl e) = rw e
+weight-minus w (inr (inl e)) = rw e
+weight-minus w (inr (inr e)) = rw e
+
+-- the weights 0 and the residue y of z
+scaled : (m : ℕ) → zero < m → (D A z : ℤ) (x y : ℕ) → x ≡ reduce m (pos 0) → y ≡ reduce m z → reduce m (signed m x *ℤ D +ℤ signed m y *ℤ A) ≡ reduce m (A *ℤ z)
+scaled m h D A z x y ex ey =
+    same-sum m h (signed m x *ℤ D) (pos 0) (signed m y *ℤ A) (A *ℤ z)
+    (same-product m h (signed m x) (pos 0) D D (ap (λ (x : ℕ). reduce m (signed m x)) ex ∙ again m h (pos 0)) refl ∙ ap (reduce m) (zero-*ℤ D))
+    (same-product m h (signed m y) z A A (ap (λ (y : ℕ). reduce m (signed m y)) ey ∙ again m h z) refl ∙ ap (reduce m) (*ℤ-comm z A))
+    ∙ ap (reduce m) (+ℤ-idl (A *ℤ z))
+
+module _ (M : Parameters) (w cw d a m n : ℕ) (s : List ℕ) where
+  abbrev md : ℕ → ℕ → ℤ
+  md i j = signedLe s (accAt M d i + j * cw) cw
+
+  abbrev ms1 : ℕ → ℕ → ℤ
+  ms1 i j = signedLe s (accAt M a i + j * w) w
+
+  pub combine-is : (o : Sum) (x y : ℕ) → signed (256 ^ cw) x ≡ weightD o → signed (256 ^ cw) y ≡ weightA o
+      → weightedTile M cw w d a x y m n s ≡ combineTile M o cw w d a m n s
+  unfolding weightedTile combineTile
+  combine-is o x y ex ey =
+      putTile-low cw (accAt M d) m n (λ i. weightedRow s (accAt M a i) (accAt M d i) w cw x y) (sumAt M o s cw w d a) s
+      (λ i j _ _. ap (λ (z : ℤ). reduce (256 ^ cw) z % 256 ^ cw)
+      (ap₂ (λ (p q : ℤ). p *ℤ md i j +ℤ q *ℤ ms1 i j) ex ey ∙ sum-weights o (md i j) (ms1 i j)))
+
+  -- a multiplier z, of which y is the residue at 32 bits
+  pub scale-is : cw ≤ 4 → (z : ℤ) (y : ℕ) → reduce (2 ^ 32) z ≡ y → weightedTile M cw w d a (0 % 256 ^ cw) (y % 256 ^ cw) m n s ≡ scaleTile M cw w d a z m n s
+  unfolding weightedTile scaleTile reduce
+  scale-is small z y ey =
+      putTile-low cw (accAt M d) m n (λ i. weightedRow s (accAt M a i) (accAt M d i) w cw (0 % 256 ^ cw) (y % 256 ^ cw)) (scaledAt M z s cw w a) s
+      (λ i j _ _. ap (λ (v : ℕ). v % 256 ^ cw)
+      (scaled (256 ^ cw) (pow-256 cw) (md i j) (ms1 i j) z (0 % 256 ^ cw) (y % 256 ^ cw) refl (ap (λ (v : ℕ). v % 256 ^ cw) (sym ey) ∙ cut cw 4 small z)))

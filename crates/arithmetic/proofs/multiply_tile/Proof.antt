@@ -1,0 +1,68 @@
+-- The three tiles lie one after another in the registers.
+use native.Mathlib.Omega.{arith}
+use lib.ListN.{length}
+use Rattle.arithmetic.specs.Effect.{productTile}
+use Rattle.arithmetic.proofs.RoomLaws.{wider, Room, room}
+use borrow.Author.Needs.{needs}
+use Rattle.arithmetic.proofs.multiply_tile.Statement.{statement}
+use Rattle.arithmetic.proofs.multiply_tile.Tie as tie
+
+bounds : (c : tie.After-slice-known) → let a = c .before .args in
+    Room (a .rows) (a .pitch) (a .factor) (a .width) (a .d) (a .a) (a .b) (a .m) (a .k) (a .n) (length (a .registers .now))
+bounds c =
+    let a = c .before .args in
+    let p = c .before .pre in
+    room (a .rows) (a .pitch) (a .factor) (a .width) (a .d) (a .a) (a .b) (a .m) (a .k) (a .n) (length (a .registers .now))
+    (p .0) (p .1 .0) (p .1 .1 .1 .0) (p .1 .1 .1 .1 .0) (p .1 .1 .1 .1 .1 .0) (p .1 .1 .1 .1 .1 .1)
+
+mul-size : tie.Need-mul-size
+mul-size c = search needs
+
+mul-at-a : tie.Need-mul-at-a
+mul-at-a c = let f = bounds c in omega arith
+
+mul-at-b : tie.Need-mul-at-b
+mul-at-b c = let f = bounds c in omega arith
+
+mul-at-c : tie.Need-mul-at-c
+mul-at-c c = search needs
+
+add-at-c : tie.Need-add-at-c
+add-at-c c = search needs
+
+mul-at-c-2 : tie.Need-mul-at-c-2
+mul-at-c-2 c = let f = bounds c in omega arith
+
+mul-wide : tie.Need-mul-wide
+mul-wide c = let f = bounds c in omega arith
+
+multiply-rows-requires : tie.Need-multiply-rows-requires
+multiply-rows-requires c κs =
+    let k = c .before in
+    let p = k .before .pre in
+    let a = k .before .args in
+    let f = bounds k in
+    let q = p .1 .1 .1 .1 .1 .1 in
+    ((q .0, (p .1 .1 .1 .1 .1 .0 .1 .1, p .1 .0 .1 .0)), ((p .1 .1 .0, (p .1 .1 .1 .0, wider (a .factor) (a .width) (p .1 .1 .1 .0))), ((q .1 .0, (q .1 .1, f .c-row)), (omega arith, (omega arith, f .c-ends)))))
+
+same-length : tie.Need-same-length
+same-length c = search needs
+
+returns : tie.Need-returns
+unfolding productTile
+returns c = c .before .before .multiply-rows .ensures
+
+pub multiply-tile-spec : {M : Type 1} → statement M
+multiply-tile-spec =
+    tie.close
+    (tie.spec
+    mul-size
+    mul-at-a
+    mul-at-b
+    mul-at-c
+    add-at-c
+    mul-at-c-2
+    mul-wide
+    multiply-rows-requires
+    same-length
+    returns)

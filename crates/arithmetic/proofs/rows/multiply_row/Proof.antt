@@ -1,0 +1,86 @@
+-- By cases of the output width.
+use native.Mathlib.Omega.{arith}
+use mathlib.Core.Path.{sym, ap, ap₂, _∙_}
+use Prim.Native.Nat.{ℕ, _*_}
+use Rattle.width.specs.Tile.{putRow}
+use Rattle.element.proofs.Laws.{is1, is4, narrow}
+use Rattle.arithmetic.specs.Rows.{productRow}
+use borrow.Author.Needs.{needs}
+use Rattle.arithmetic.proofs.rows.multiply_row.Statement.{statement}
+use Rattle.arithmetic.proofs.rows.multiply_row.Tie as tie
+
+multiply-row-requires : tie.Need-multiply-row-requires
+multiply-row-requires c κs =
+    let k = c .before .before .before in
+    let a = k .args in
+    let p = k .pre in
+    let e = c .before .if1 .taken in
+    let f = is1 (a .width) (p .1 .0 .0) (omega (arith, p)) in
+    let g = ap (λ (w : ℕ). a .n * w) f in
+    let h = ap (λ (w : ℕ). a .k * w) f in
+    let i = ap (λ (w : ℕ). a .n * w) e in
+    (p .0, (omega (arith, p), (omega (arith, p), (p .1 .1 .1 .1 .0, omega (arith, p)))))
+
+same-length : tie.Need-same-length
+same-length c = search needs
+
+returns : tie.Need-returns
+returns c =
+    let k = c .before .before .before .before .before .before in
+    let a = k .args in
+    let e = c .before .before .before .before .if1 .taken in
+    let f = is1 (a .width) (k .pre .1 .0 .0) (omega (arith, k .pre)) in
+    c .before .before .multiply-row .ensures
+    ∙ ap₂ (λ (v w : ℕ). putRow (a .c) (a .n) w (productRow (a .s .now) w v (a .pitch) (a .k) (a .a) (a .b) (a .c)) (a .s .now)) (sym f) (sym e)
+
+multiply-row-requires-2 : tie.Need-multiply-row-requires-2
+multiply-row-requires-2 c κs =
+    let k = c .before .before .before .before in
+    let a = k .args in
+    let p = k .pre in
+    let e = ap (λ (w : ℕ). a .n * w) (c .before .if2 .taken) in
+    (p .0, (narrow (a .width) (p .1 .0 .0) (omega (arith, p)), (p .1 .1 .0, (p .1 .1 .1 .0, (p .1 .1 .1 .1 .0, omega (arith, p))))))
+
+same-length-2 : tie.Need-same-length-2
+same-length-2 c = search needs
+
+returns-2 : tie.Need-returns-2
+returns-2 c =
+    let k = c .before .before .before .before .before .before .before in
+    let a = k .args in
+    let e = c .before .before .before .before .if2 .taken in
+    c .before .before .multiply-row2 .ensures
+    ∙ ap (λ (w : ℕ). putRow (a .c) (a .n) w (productRow (a .s .now) w (a .width) (a .pitch) (a .k) (a .a) (a .b) (a .c)) (a .s .now)) (sym e)
+
+multiply-row-requires-3 : tie.Need-multiply-row-requires-3
+multiply-row-requires-3 c κs =
+    let k = c .before .before .before .before in
+    let a = k .args in
+    let p = k .pre in
+    let e = ap (λ (w : ℕ). a .n * w) (is4 (a .wide) (p .1 .0 .1 .0) (c .before .before .if1 .left) (c .before .if2 .left)) in
+    (p .0, (p .1 .0 .0, (p .1 .1 .0, (p .1 .1 .1 .0, (p .1 .1 .1 .1 .0, omega (arith, p))))))
+
+same-length-3 : tie.Need-same-length-3
+same-length-3 c = search needs
+
+returns-3 : tie.Need-returns-3
+returns-3 c =
+    let k = c .before .before .before .before .before .before .before in
+    let a = k .args in
+    let e = is4 (a .wide) (k .pre .1 .0 .1 .0) (c .before .before .before .before .before .if1 .left) (c .before .before .before .before .if2 .left) in
+    c .before .before .multiply-row3 .ensures
+    ∙ ap (λ (w : ℕ). putRow (a .c) (a .n) w (productRow (a .s .now) w (a .width) (a .pitch) (a .k) (a .a) (a .b) (a .c)) (a .s .now)) (sym e)
+
+pub multiply-row-spec : {M : Type 1} → statement M
+multiply-row-spec =
+    tie.close
+    (tie.spec
+    multiply-row-requires
+    same-length
+    returns
+    multiply-row-requires-2
+    same-length-2
+    returns-2
+    multiply-row-requires-3
+    same-length-3
+    returns-3)

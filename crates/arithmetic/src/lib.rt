@@ -1,0 +1,139 @@
+// The effect of multiply, add, subtract, reverse subtract and multiply by a number on the register bytes.
+// An element of the output has 1, 2 or 4 bytes, and its sums are kept at that width: sums8, sums16, sums32 and pairs.
+mod pairs;
+mod rows;
+mod sums16;
+mod sums32;
+mod sums8;
+mod weights;
+
+use machine::Sum;
+use weights::weigh_tile;
+ghost use mathlib.Core.Path.{_≡_};
+ghost use Prim.Native.Nat.{_+_, _*_, _^_, _≤_, _<_};
+ghost use lib.IntN.{ℤ};
+ghost use lib.ListN.{length};
+ghost use Rattle.width.specs.Reduce.{reduce};
+ghost use Rattle.width.specs.Tile.{putTile};
+ghost use Rattle.element.specs.Element.{Width};
+ghost use Rattle.arithmetic.specs.Effect.{shape, productTile, combineTile, scaleTile};
+ghost use Rattle.arithmetic.specs.Rows.{productRow};
+
+// All rows of C: in pairs where elements of one or two bytes make sums of four, else row by row.
+fn multiply_rows(
+    s: &mut [u8],
+    a: usize,
+    b: usize,
+    c: usize,
+    pitch: usize,
+    width: usize,
+    wide: usize,
+    m: usize,
+    k: usize,
+    n: usize,
+)
+    requires { ⌜ (n ≤ 64) × ((k ≤ 16) × (pitch ≤ 64)) ⌝ }
+    requires { ⌜ (Width width) × ((Width wide) × (width ≤ wide)) ⌝ }
+    requires { ⌜ (n * width ≤ pitch) × ((k * width ≤ pitch) × (n * wide ≤ 4 * pitch)) ⌝ }
+    requires { ⌜ (a + m * pitch ≤ c) × ((b + k * pitch ≤ c) × (c + m * (4 * pitch) ≤ length (now s))) ⌝ }
+    ensures { λ _. ⌜ now (s .exit) ≡ putTile (λ i. c + i * (4 * pitch)) m n wide (λ i. productRow (now (s .entry)) wide width pitch k (a + i * pitch) b (c + i * (4 * pitch))) (now (s .entry)) ⌝ }
+{
+    if wide != 4 {
+        rows::multiply_rows(s, a, b, c, pitch, width, wide, m, k, n);
+        return;
+    }
+    if width == 4 {
+        rows::multiply_rows(s, a, b, c, pitch, width, wide, m, k, n);
+        return;
+    }
+    pairs::multiply_rows(s, a, b, c, pitch, width, m, k, n);
+}
+
+// Multiplies tile registers a and b and adds the product to accumulator d.
+pub fn multiply_tile(
+    registers: &mut [u8],
+    rows: usize,
+    pitch: usize,
+    factor: usize,
+    width: usize,
+    d: usize,
+    a: usize,
+    b: usize,
+    m: usize,
+    k: usize,
+    n: usize,
+)
+    requires { ⌜ (d < 2) × ((a < 8) × (b < 8)) ⌝ }
+    requires { ⌜ (rows * pitch ≤ 512) × ((pitch ≤ 64) × (length (now registers) ≡ 16 * (rows * pitch))) ⌝ }
+    requires { ⌜ Width width ⌝ }
+    requires { ⌜ Width (factor * width) ⌝ }
+    requires { ⌜ factor ≤ 4 ⌝ }
+    requires { ⌜ (m ≤ rows) × ((k ≤ rows) × (k ≤ 16)) ⌝ }
+    requires { ⌜ (n ≤ 64) × ((n * width ≤ pitch) × (k * width ≤ pitch)) ⌝ }
+    ensures { λ _. ⌜ now (registers .exit) ≡ productTile (shape rows pitch) (factor * width) width d a b m k n (now (registers .entry)) ⌝ }
+{
+    let size = rows * pitch;
+    let at_a = a * size;
+    let at_b = b * size;
+    let at_c = (8 + 4 * d) * size;
+    let wide = factor * width;
+    multiply_rows(registers, at_a, at_b, at_c, pitch, width, wide, m, k, n);
+}
+
+// Adds accumulator a to accumulator d, or subtracts either from the other.
+pub fn combine_tile(
+    registers: &mut [u8],
+    rows: usize,
+    pitch: usize,
+    sum: Sum,
+    factor: usize,
+    width: usize,
+    d: usize,
+    a: usize,
+    m: usize,
+    n: usize,
+)
+    requires { ⌜ (d < 2) × (a < 2) ⌝ }
+    requires { ⌜ (rows * pitch ≤ 512) × ((pitch ≤ 64) × (length (now registers) ≡ 16 * (rows * pitch))) ⌝ }
+    requires { ⌜ Width width ⌝ }
+    requires { ⌜ Width (factor * width) ⌝ }
+    requires { ⌜ factor ≤ 4 ⌝ }
+    requires { ⌜ (m ≤ rows) × ((n ≤ 64) × (n * width ≤ pitch)) ⌝ }
+    ensures { λ _. ⌜ now (registers .exit) ≡ combineTile (shape rows pitch) sum (factor * width) width d a m n (now (registers .entry)) ⌝ }
+{
+    let wide = factor * width;
+    // Minus 1 as a residue at 32 bits.
+    let minus = 4294967295;
+    match sum {
+        Sum::Add => weigh_tile(registers, rows, pitch, width, wide, d, a, 1, 1, m, n),
+        Sum::Subtract => weigh_tile(registers, rows, pitch, width, wide, d, a, 1, minus, m, n),
+        Sum::ReverseSubtract => {
+            weigh_tile(registers, rows, pitch, width, wide, d, a, minus, 1, m, n)
+        }
+    }
+}
+
+// Writes accumulator a times a number, of which x is the residue at 32 bits, to accumulator d.
+pub fn scale_tile(
+    registers: &mut [u8],
+    rows: usize,
+    pitch: usize,
+    factor: usize,
+    width: usize,
+    d: usize,
+    a: usize,
+    x: u32,
+    m: usize,
+    n: usize,
+)
+    requires { ⌜ (d < 2) × (a < 2) ⌝ }
+    requires { ⌜ (rows * pitch ≤ 512) × ((pitch ≤ 64) × (length (now registers) ≡ 16 * (rows * pitch))) ⌝ }
+    requires { ⌜ Width width ⌝ }
+    requires { ⌜ Width (factor * width) ⌝ }
+    requires { ⌜ factor ≤ 4 ⌝ }
+    requires { ⌜ (m ≤ rows) × ((n ≤ 64) × (n * width ≤ pitch)) ⌝ }
+    ensures { λ _. ⌜ ((z : ℤ) → reduce (2 ^ 32) z ≡ x → now (registers .exit) ≡ scaleTile (shape rows pitch) (factor * width) width d a z m n (now (registers .entry))) ⌝ }
+{
+    let wide = factor * width;
+    weigh_tile(registers, rows, pitch, width, wide, d, a, 0, x, m, n);
+}

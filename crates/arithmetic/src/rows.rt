@@ -1,0 +1,67 @@
+// Products row by row, for any output width.
+ghost use mathlib.Core.Path.{_≡_};
+ghost use Prim.Native.Nat.{_+_, _*_, _≤_};
+ghost use lib.ListN.{length};
+ghost use Rattle.width.specs.Tile.{putRow, putTile};
+ghost use Rattle.element.specs.Element.{Width};
+ghost use Rattle.arithmetic.specs.Rows.{productRow};
+
+// One row of C, with sums at the output's width.
+fn multiply_row(
+    s: &mut [u8],
+    a: usize,
+    b: usize,
+    c: usize,
+    pitch: usize,
+    width: usize,
+    wide: usize,
+    k: usize,
+    n: usize,
+)
+    requires { ⌜ n ≤ 64 ⌝ }
+    requires { ⌜ (Width width) × ((Width wide) × (width ≤ wide)) ⌝ }
+    requires { ⌜ n * width ≤ pitch ⌝ }
+    requires { ⌜ (a + k * width ≤ length (now s)) × ((b + k * pitch ≤ length (now s)) × (c + n * wide ≤ length (now s))) ⌝ }
+    ensures { λ _. ⌜ now (s .exit) ≡ putRow c n wide (productRow (now (s .entry)) wide width pitch k a b c) (now (s .entry)) ⌝ }
+{
+    if wide == 1 {
+        crate::sums8::multiply_row(s, a, b, c, pitch, k, n);
+        return;
+    }
+    if wide == 2 {
+        crate::sums16::multiply_row(s, a, b, c, pitch, width, k, n);
+        return;
+    }
+    crate::sums32::multiply_row(s, a, b, c, pitch, width, k, n);
+}
+
+// All rows of C, one after another.
+pub fn multiply_rows(
+    s: &mut [u8],
+    a: usize,
+    b: usize,
+    c: usize,
+    pitch: usize,
+    width: usize,
+    wide: usize,
+    m: usize,
+    k: usize,
+    n: usize,
+)
+    requires { ⌜ (n ≤ 64) × (pitch ≤ 64) ⌝ }
+    requires { ⌜ (Width width) × ((Width wide) × (width ≤ wide)) ⌝ }
+    requires { ⌜ (n * width ≤ pitch) × ((k * width ≤ pitch) × (n * wide ≤ 4 * pitch)) ⌝ }
+    requires { ⌜ (a + m * pitch ≤ c) × ((b + k * pitch ≤ c) × (c + m * (4 * pitch) ≤ length (now s))) ⌝ }
+    ensures { λ _. ⌜ now (s .exit) ≡ putTile (λ i. c + i * (4 * pitch)) m n wide (λ i. productRow (now (s .entry)) wide width pitch k (a + i * pitch) b (c + i * (4 * pitch))) (now (s .entry)) ⌝ }
+{
+    let step = 4 * pitch;
+    let mut i = 0;
+    let mut from = a;
+    let mut to = c;
+    while i < m {
+        multiply_row(s, from, b, to, pitch, width, wide, k, n);
+        from += pitch;
+        to += step;
+        i += 1;
+    }
+}

@@ -1,0 +1,68 @@
+// Weighted sums of two accumulators, which serve every element-wise instruction.
+ghost use mathlib.Core.Path.{_≡_};
+ghost use Prim.Native.Nat.{_+_, _*_, _%_, _^_, _≤_, _<_};
+ghost use lib.ListN.{length};
+ghost use Rattle.width.specs.Tile.{putRow};
+ghost use Rattle.element.specs.Element.{Width};
+ghost use Rattle.arithmetic.specs.Effect.{shape};
+ghost use Rattle.arithmetic.specs.Rows.{weightedRow, weightedTile};
+
+// The row at `to` becomes x times itself plus y times the row at `from`, with sums at the output's width.
+fn weigh_row(
+    s: &mut [u8],
+    from: usize,
+    to: usize,
+    width: usize,
+    wide: usize,
+    n: usize,
+    x: u32,
+    y: u32,
+)
+    requires { ⌜ n ≤ 64 ⌝ }
+    requires { ⌜ (Width width) × ((Width wide) × (width ≤ wide)) ⌝ }
+    requires { ⌜ (from + n * width ≤ length (now s)) × (to + n * wide ≤ length (now s)) ⌝ }
+    ensures { λ _. ⌜ now (s .exit) ≡ putRow to n wide (weightedRow (now (s .entry)) from to width wide (x % 256 ^ wide) (y % 256 ^ wide)) (now (s .entry)) ⌝ }
+{
+    if wide == 1 {
+        crate::sums8::weigh_row(s, from, to, n, element::low8(x), element::low8(y));
+        return;
+    }
+    if wide == 2 {
+        crate::sums16::weigh_row(s, from, to, width, n, element::low16(x), element::low16(y));
+        return;
+    }
+    crate::sums32::weigh_row(s, from, to, width, n, x, y);
+}
+
+// Accumulator d becomes x times itself plus y times accumulator a.
+pub fn weigh_tile(
+    registers: &mut [u8],
+    rows: usize,
+    pitch: usize,
+    width: usize,
+    wide: usize,
+    d: usize,
+    a: usize,
+    x: u32,
+    y: u32,
+    m: usize,
+    n: usize,
+)
+    requires { ⌜ (d < 2) × (a < 2) ⌝ }
+    requires { ⌜ (rows * pitch ≤ 512) × ((pitch ≤ 64) × (length (now registers) ≡ 16 * (rows * pitch))) ⌝ }
+    requires { ⌜ (Width width) × ((Width wide) × (width ≤ wide)) ⌝ }
+    requires { ⌜ (m ≤ rows) × ((n ≤ 64) × ((n * width ≤ 4 * pitch) × (n * wide ≤ 4 * pitch))) ⌝ }
+    ensures { λ _. ⌜ now (registers .exit) ≡ weightedTile (shape rows pitch) wide width d a (x % 256 ^ wide) (y % 256 ^ wide) m n (now (registers .entry)) ⌝ }
+{
+    let size = rows * pitch;
+    let step = 4 * pitch;
+    let mut i = 0;
+    let mut from = (8 + 4 * a) * size;
+    let mut to = (8 + 4 * d) * size;
+    while i < m {
+        weigh_row(registers, from, to, width, wide, n, x, y);
+        from += step;
+        to += step;
+        i += 1;
+    }
+}

@@ -1,0 +1,63 @@
+-- By cases of the width.
+use mathlib.Core.Path.{sym, ap, _∙_}
+use Prim.Native.Nat.{ℕ, _^_}
+use native.Mathlib.Omega.{arith}
+use borrow.Author.Needs.{needs}
+use Rattle.width.specs.Tile.{le}
+use Rattle.width.specs.Reduce.{signed, reduce}
+use Rattle.width.proofs.ReduceLaws.{reduce-signed}
+use Rattle.element.proofs.Laws.{is4}
+use Rattle.element.proofs.read_signed.Statement.{statement}
+use Rattle.element.proofs.read_signed.Tie as tie
+
+read1-requires : tie.Need-read1-requires
+read1-requires c κs = search needs
+
+extend1to4-requires : tie.Need-extend1to4-requires
+extend1to4-requires c κs = search needs
+
+returns : tie.Need-returns
+returns c =
+    let a = c .before .before .before .before .args in
+    c .extend1to4 .ensures ∙ ap (λ (x : ℕ). reduce 4294967296 (signed 256 x)) (c .before .read1 .ensures .0)
+    ∙ ap (λ (w : ℕ). reduce 4294967296 (signed (256 ^ w) (le (a .s .now) (a .at) w))) (sym (c .before .before .if1 .taken))
+
+read2-requires : tie.Need-read2-requires
+read2-requires c κs = search needs
+
+extend2to4-requires : tie.Need-extend2to4-requires
+extend2to4-requires c κs = search needs
+
+returns-2 : tie.Need-returns-2
+returns-2 c =
+    let a = c .before .before .before .before .before .args in
+    c .extend2to4 .ensures ∙ ap (λ (x : ℕ). reduce 4294967296 (signed 65536 x)) (c .before .read2 .ensures .0)
+    ∙ ap (λ (w : ℕ). reduce 4294967296 (signed (256 ^ w) (le (a .s .now) (a .at) w))) (sym (c .before .before .if2 .taken))
+
+read4-requires : tie.Need-read4-requires
+read4-requires c κs =
+    let s = c .before .before .before in
+    let e = is4 (s .args .width) (s .pre .0) (c .before .if1 .left) (c .if2 .left) in
+    omega arith
+
+returns-3 : tie.Need-returns-3
+returns-3 c =
+    let s = c .before .before .before .before in
+    let a = s .args in
+    let r = c .read4 in
+    let e = is4 (a .width) (s .pre .0) (c .before .before .if1 .left) (c .before .if2 .left) in
+    sym (reduce-signed 4294967296 (omega arith) (r .result) (r .ensures .1)) ∙ ap (λ (x : ℕ). reduce 4294967296 (signed 4294967296 x)) (r .ensures .0)
+    ∙ ap (λ (w : ℕ). reduce 4294967296 (signed (256 ^ w) (le (a .s .now) (a .at) w))) (sym e)
+
+pub read-signed-spec : {M : Type 1} → statement M
+read-signed-spec =
+    tie.close
+    (tie.spec
+    read1-requires
+    extend1to4-requires
+    returns
+    read2-requires
+    extend2to4-requires
+    returns-2
+    read4-requires
+    returns-3)

@@ -1,0 +1,11 @@
+-- The widths of elements, in bytes.
+use mathlib.Core.Path.{_≡_}
+use mathlib.Core.Logic.{_⊎_}
+use Prim.Native.Nat.{ℕ}
+
+abbrev pub Width : ℕ → Type 0
+Width w = (w ≡ 1) ⊎ ((w ≡ 2) ⊎ (w ≡ 4))
+
+-- those that 16 bits hold
+abbrev pub Narrow : ℕ → Type 0
+Narrow w = (w ≡ 1) ⊎ (w ≡ 2)

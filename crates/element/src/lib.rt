@@ -1,0 +1,212 @@
+// Elements of 1, 2 and 4 bytes in a byte slice, low byte first; their sign extension; and products that wrap.
+ghost use mathlib.Core.Path.{_≡_};
+ghost use Prim.Native.Nat.{_+_, _^_, _≤_, _<_, _%_};
+ghost use lib.IntN.{_*ℤ_};
+ghost use lib.ListN.{length};
+ghost use Rattle.width.specs.Tile.{le, putLe};
+ghost use Rattle.width.specs.Reduce.{reduce, signed};
+ghost use Rattle.element.specs.Element.{Width, Narrow};
+
+// The element of one byte that starts at `at`.
+pub fn read1(s: &[u8], at: usize) -> u8
+    requires { ⌜ at + 1 ≤ length (now s) ⌝ }
+    ensures { λ r. ⌜ (r ≡ le (now (s .entry)) at 1) × (r < 256) ⌝ }
+{
+    s[at]
+}
+
+fn wide16(x: u8) -> u16
+    ensures { λ r. ⌜ (r ≡ x) × (r < 256) ⌝ }
+{
+    x as u16
+}
+
+fn wide32(x: u8) -> u32
+    ensures { λ r. ⌜ (r ≡ x) × (r < 256) ⌝ }
+{
+    x as u32
+}
+
+// The element of two bytes that starts at `at`.
+pub fn read2(s: &[u8], at: usize) -> u16
+    requires { ⌜ at + 2 ≤ length (now s) ⌝ }
+    ensures { λ r. ⌜ (r ≡ le (now (s .entry)) at 2) × (r < 65536) ⌝ }
+{
+    wide16(s[at]) + 256 * wide16(s[at + 1])
+}
+
+// The element of four bytes that starts at `at`.
+pub fn read4(s: &[u8], at: usize) -> u32
+    requires { ⌜ at + 4 ≤ length (now s) ⌝ }
+    ensures { λ r. ⌜ (r ≡ le (now (s .entry)) at 4) × (r < 4294967296) ⌝ }
+{
+    wide32(s[at])
+        + 256 * wide32(s[at + 1])
+        + 65536 * wide32(s[at + 2])
+        + 16777216 * wide32(s[at + 3])
+}
+
+// Stores v in the byte at `at`.
+pub fn write1(s: &mut [u8], at: usize, v: u8)
+    requires { ⌜ at + 1 ≤ length (now s) ⌝ }
+    ensures { λ _. ⌜ now (s .exit) ≡ putLe at 1 v (now (s .entry)) ⌝ }
+{
+    s[at] = v;
+}
+
+// Stores v in two bytes from `at` on.
+pub fn write2(s: &mut [u8], at: usize, v: u16)
+    requires { ⌜ at + 2 ≤ length (now s) ⌝ }
+    ensures { λ _. ⌜ now (s .exit) ≡ putLe at 2 v (now (s .entry)) ⌝ }
+{
+    s[at] = (v % 256) as u8;
+    s[at + 1] = (v / 256) as u8;
+}
+
+// Stores v in four bytes from `at` on.
+pub fn write4(s: &mut [u8], at: usize, v: u32)
+    requires { ⌜ at + 4 ≤ length (now s) ⌝ }
+    ensures { λ _. ⌜ now (s .exit) ≡ putLe at 4 v (now (s .entry)) ⌝ }
+{
+    s[at] = (v % 256) as u8;
+    s[at + 1] = (v / 256 % 256) as u8;
+    s[at + 2] = (v / 65536 % 256) as u8;
+    s[at + 3] = (v / 16777216) as u8;
+}
+
+// The low byte of a number.
+pub fn low8(v: u32) -> u8
+    ensures { λ r. ⌜ r ≡ v % 256 ^ 1 ⌝ }
+{
+    (v % 256) as u8
+}
+
+// The low two bytes of a number.
+pub fn low16(v: u32) -> u16
+    ensures { λ r. ⌜ r ≡ v % 256 ^ 2 ⌝ }
+{
+    (v % 65536) as u16
+}
+
+// The element of width bytes that starts at `at`.
+pub fn read(s: &[u8], at: usize, width: usize) -> u32
+    requires { ⌜ Width width ⌝ }
+    requires { ⌜ at + width ≤ length (now s) ⌝ }
+    ensures { λ r. ⌜ r ≡ le (now (s .entry)) at width ⌝ }
+{
+    if width == 1 {
+        return read1(s, at) as u32;
+    }
+    if width == 2 {
+        return read2(s, at) as u32;
+    }
+    read4(s, at)
+}
+
+// Stores the lowest width bytes of v from `at` on.
+pub fn write(s: &mut [u8], at: usize, v: u32, width: usize)
+    requires { ⌜ Width width ⌝ }
+    requires { ⌜ at + width ≤ length (now s) ⌝ }
+    ensures { λ _. ⌜ now (s .exit) ≡ putLe at width v (now (s .entry)) ⌝ }
+{
+    if width == 1 {
+        write1(s, at, low8(v));
+        return;
+    }
+    if width == 2 {
+        write2(s, at, low16(v));
+        return;
+    }
+    write4(s, at, v);
+}
+
+// Sign extension as a wrapping add: the residue of the signed number x at a wider width, from 8 bits to 16.
+fn extend1to2(x: u8) -> u16
+    ensures { λ r. ⌜ r ≡ reduce (256 ^ 2) (signed (256 ^ 1) x) ⌝ }
+{
+    std::num::wrapping_add_u16((x as u16 + 128) % 256, 65408)
+}
+
+// From 8 bits to 32.
+fn extend1to4(x: u8) -> u32
+    ensures { λ r. ⌜ r ≡ reduce (256 ^ 4) (signed (256 ^ 1) x) ⌝ }
+{
+    std::num::wrapping_add_u32((x as u32 + 128) % 256, 4294967168)
+}
+
+// From 16 bits to 32.
+pub fn extend2to4(x: u16) -> u32
+    ensures { λ r. ⌜ r ≡ reduce (256 ^ 4) (signed (256 ^ 2) x) ⌝ }
+{
+    std::num::wrapping_add_u32((x as u32 + 32768) % 65536, 4294934528)
+}
+
+// The low width bytes of v, signed, as a residue at 32 bits.
+pub fn extend(v: u32, width: usize) -> u32
+    requires { ⌜ Width width ⌝ }
+    ensures { λ r. ⌜ r ≡ reduce (256 ^ 4) (signed (256 ^ width) (v % 256 ^ width)) ⌝ }
+{
+    if width == 1 {
+        return extend1to4(low8(v));
+    }
+    if width == 2 {
+        return extend2to4(low16(v));
+    }
+    v
+}
+
+// The signed element of one byte at `at`, as a residue at 8 bits: the byte itself.
+pub fn read_signed8(s: &[u8], at: usize) -> u8
+    requires { ⌜ at + 1 ≤ length (now s) ⌝ }
+    ensures { λ r. ⌜ r ≡ reduce (256 ^ 1) (signed (256 ^ 1) (le (now (s .entry)) at 1)) ⌝ }
+{
+    read1(s, at)
+}
+
+// The signed element of width bytes at `at`, as a residue at 16 bits.
+pub fn read_signed16(s: &[u8], at: usize, width: usize) -> u16
+    requires { ⌜ Narrow width ⌝ }
+    requires { ⌜ at + width ≤ length (now s) ⌝ }
+    ensures { λ r. ⌜ r ≡ reduce (256 ^ 2) (signed (256 ^ width) (le (now (s .entry)) at width)) ⌝ }
+{
+    if width == 1 {
+        return extend1to2(read1(s, at));
+    }
+    read2(s, at)
+}
+
+// The signed element of width bytes at `at`, as a residue at 32 bits.
+pub fn read_signed(s: &[u8], at: usize, width: usize) -> u32
+    requires { ⌜ Width width ⌝ }
+    requires { ⌜ at + width ≤ length (now s) ⌝ }
+    ensures { λ r. ⌜ r ≡ reduce (256 ^ 4) (signed (256 ^ width) (le (now (s .entry)) at width)) ⌝ }
+{
+    if width == 1 {
+        return extend1to4(read1(s, at));
+    }
+    if width == 2 {
+        return extend2to4(read2(s, at));
+    }
+    read4(s, at)
+}
+
+// The wrapping product is the residue of the signed product: at 8 bits.
+pub fn wrapping_mul8(x: u8, y: u8) -> u8
+    ensures { λ r. ⌜ r ≡ reduce (256 ^ 1) (signed (256 ^ 1) x *ℤ signed (256 ^ 1) y) ⌝ }
+{
+    ((x as u16) * (y as u16) % 256) as u8
+}
+
+// At 16 bits.
+pub fn wrapping_mul16(x: u16, y: u16) -> u16
+    ensures { λ r. ⌜ r ≡ reduce (256 ^ 2) (signed (256 ^ 2) x *ℤ signed (256 ^ 2) y) ⌝ }
+{
+    ((x as u32) * (y as u32) % 65536) as u16
+}
+
+// At 32 bits.
+pub fn wrapping_mul32(x: u32, y: u32) -> u32
+    ensures { λ r. ⌜ r ≡ reduce (256 ^ 4) (signed (256 ^ 4) x *ℤ signed (256 ^ 4) y) ⌝ }
+{
+    ((x as u64) * (y as u64) % 4294967296) as u32
+}

@@ -1,0 +1,28 @@
+use Prim.Native.Nat.{_-_}
+use native.Mathlib.Omega.{arith}
+use Rattle.step.proofs.StepParts.{multiplier-is}
+use Rattle.step.proofs.multiplier.Statement.{statement}
+use Rattle.step.proofs.multiplier.Tie as tie
+
+sign-extend-requires : tie.Need-sign-extend-requires
+sign-extend-requires c κs = omega arith
+
+returns : tie.Need-returns
+returns c = let a = c .before .before .args in multiplier-is (a .mtype) 0 (a .value) (c .sign-extend .result) (c .before .if1 .taken) (c .sign-extend .ensures)
+
+sign-extend-requires-2 : tie.Need-sign-extend-requires-2
+sign-extend-requires-2 c κs = omega arith
+
+returns-2 : tie.Need-returns-2
+returns-2 c = let a = c .before .before .before .args in multiplier-is (a .mtype) 1 (a .value) (c .sign-extend2 .result) (c .before .if2 .taken) (c .sign-extend2 .ensures)
+
+sign-extend-requires-3 : tie.Need-sign-extend-requires-3
+sign-extend-requires-3 c κs = omega arith
+
+returns-3 : tie.Need-returns-3
+returns-3 c =
+    let s = c .before .before .before in
+    multiplier-is (s .args .mtype) 2 (s .args .value) (c .sign-extend3 .result) (omega (arith, s .pre, c .before .if2 .left, c .before .before .if1 .left)) (c .sign-extend3 .ensures)
+
+pub multiplier-spec : {M : Type 1} → statement M
+multiplier-spec = tie.close (tie.spec sign-extend-requires returns sign-extend-requires-2 returns-2 sign-extend-requires-3 returns-3)

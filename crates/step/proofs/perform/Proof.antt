@@ -1,0 +1,441 @@
+use mathlib.Core.Path.{_≡_, refl, sym, ap, ap₂, _∙_, subst}
+use mathlib.Core.List.{List}
+use Prim.Native.Nat.{ℕ, _-_, _%_, _^_}
+use native.Mathlib.Omega.{arith}
+use Rattle.machine.specs.declared.Machine.{Machine}
+use Rattle.machine.specs.declared.Stepped.{Stepped}
+use Rattle.machine.specs.declared.Answer.the-variants.{Done}
+use Rattle.step.specs.Parts.{ours, withType}
+use lib.ListN.{length}
+use borrow.Author.Tests.{eqb-true}
+use Rattle.width.specs.Reduce.{signed}
+use Rattle.machine.specs.Geometry.{elen, stateOf, withScalar, benchOf}
+use Rattle.machine.specs.Setting.{sew, newType}
+use Rattle.machine.specs.Operation.{Operation, operation, times}
+use Rattle.machine.specs.Step.{destination}
+use Rattle.machine.proofs.NoFault.{sound-is}
+use Rattle.step.specs.Parts.{Decoded}
+use Rattle.step.proofs.TransferLaws.{ready}
+use Rattle.step.proofs.StepParts.{illegal-outcome, type-outcome, size-outcome, tile-outcome, loads-outcome, stores-outcome, type-small}
+use borrow.Author.Needs.{needs}
+use Rattle.step.proofs.perform.Statement.{statement}
+use Rattle.step.proofs.perform.Tie as tie
+
+enum-told : tie.Need-enum-told
+enum-told c = search needs
+
+enum-known-instruction : tie.Need-enum-known-instruction
+enum-known-instruction c = search needs
+
+set-type-requires : tie.Need-set-type-requires
+set-type-requires c κs =
+    let g = c .before .before .instruction .given in
+    let s = c .before .before .before .before .before .before .before .before in
+    let d = subst Decoded (g .1) (s .pre .1 .1) in
+    let n : length (s .args .scalars .now) ≡ 32 = eqb-true (length (s .args .scalars .now)) 32 (s .pre .1 .0) in
+    omega (arith, d, n)
+
+enum-known-instruction-2 : tie.Need-enum-known-instruction-2
+enum-known-instruction-2 c = search needs
+
+read-scalar-requires : tie.Need-read-scalar-requires
+read-scalar-requires c κs =
+    let g = c .before .before .instruction2 .given in
+    let s = c .before .before .before .before .before .before .before .before in
+    let d = subst Decoded (g .1) (s .pre .1 .1) in
+    let n : length (s .args .scalars .now) ≡ 32 = eqb-true (length (s .args .scalars .now)) 32 (s .pre .1 .0) in
+    omega (arith, d .1, n)
+
+set-type-requires-2 : tie.Need-set-type-requires-2
+set-type-requires-2 c κs =
+    let g = c .before .before .before .before .instruction2 .given in
+    let s = c .before .before .before .before .before .before .before .before .before .before in
+    let d = subst Decoded (g .1) (s .pre .1 .1) in
+    let n : length (s .args .scalars .now) ≡ 32 = eqb-true (length (s .args .scalars .now)) 32 (s .pre .1 .0) in
+    omega (arith, d .0, n)
+
+enum-known-instruction-3 : tie.Need-enum-known-instruction-3
+enum-known-instruction-3 c = search needs
+
+set-size-requires : tie.Need-set-size-requires
+set-size-requires c κs =
+    let g = c .before .before .instruction3 .given in
+    let s = c .before .before .before .before .before .before .before .before in
+    let d = subst Decoded (g .1) (s .pre .1 .1) in
+    let n : length (s .args .scalars .now) ≡ 32 = eqb-true (length (s .args .scalars .now)) 32 (s .pre .1 .0) in
+    (ready (s .args .m) (s .args .registers .now) (s .args .marks .now) (s .pre .0), omega (arith, d, n))
+
+enum-known-instruction-4 : tie.Need-enum-known-instruction-4
+enum-known-instruction-4 c = search needs
+
+set-tile-requires : tie.Need-set-tile-requires
+set-tile-requires c κs =
+    let g = c .before .before .instruction4 .given in
+    let s = c .before .before .before .before .before .before .before .before in
+    let d = subst Decoded (g .1) (s .pre .1 .1) in
+    let n : length (s .args .scalars .now) ≡ 32 = eqb-true (length (s .args .scalars .now)) 32 (s .pre .1 .0) in
+    (ready (s .args .m) (s .args .registers .now) (s .args .marks .now) (s .pre .0), (omega (arith, d .0, n), omega (arith, d .1, n)))
+
+enum-known-instruction-5 : tie.Need-enum-known-instruction-5
+enum-known-instruction-5 c = search needs
+
+read-scalar-requires-2 : tie.Need-read-scalar-requires-2
+read-scalar-requires-2 c κs =
+    let g = c .before .before .instruction5 .given in
+    let s = c .before .before .before .before .before .before .before .before in
+    let d = subst Decoded (g .1) (s .pre .1 .1) in
+    let n : length (s .args .scalars .now) ≡ 32 = eqb-true (length (s .args .scalars .now)) 32 (s .pre .1 .0) in
+    omega (arith, d .1 .0, n)
+
+read-scalar-requires-3 : tie.Need-read-scalar-requires-3
+read-scalar-requires-3 c κs =
+    let g = c .before .before .before .before .instruction5 .given in
+    let s = c .before .before .before .before .before .before .before .before .before .before in
+    let d = subst Decoded (g .1) (s .pre .1 .1) in
+    let n : length (s .args .scalars .now) ≡ 32 = eqb-true (length (s .args .scalars .now)) 32 (s .pre .1 .0) in
+    omega (arith, d .1 .1, n)
+
+load-requires : tie.Need-load-requires
+load-requires c κs =
+    let g = c .before .before .before .before .before .before .before .before .instruction5 .given in
+    let s = c .before .before .before .before .before .before .before .before .before .before .before .before .before .before in
+    let d = subst Decoded (g .1) (s .pre .1 .1) in
+    let n : length (s .args .scalars .now) ≡ 32 = eqb-true (length (s .args .scalars .now)) 32 (s .pre .1 .0) in
+    (s .pre .0, d .0)
+
+enum-known-instruction-6 : tie.Need-enum-known-instruction-6
+enum-known-instruction-6 c = search needs
+
+read-scalar-requires-4 : tie.Need-read-scalar-requires-4
+read-scalar-requires-4 c κs =
+    let g = c .before .before .instruction6 .given in
+    let s = c .before .before .before .before .before .before .before .before in
+    let d = subst Decoded (g .1) (s .pre .1 .1) in
+    let n : length (s .args .scalars .now) ≡ 32 = eqb-true (length (s .args .scalars .now)) 32 (s .pre .1 .0) in
+    omega (arith, d .1 .0, n)
+
+read-scalar-requires-5 : tie.Need-read-scalar-requires-5
+read-scalar-requires-5 c κs =
+    let g = c .before .before .before .before .instruction6 .given in
+    let s = c .before .before .before .before .before .before .before .before .before .before in
+    let d = subst Decoded (g .1) (s .pre .1 .1) in
+    let n : length (s .args .scalars .now) ≡ 32 = eqb-true (length (s .args .scalars .now)) 32 (s .pre .1 .0) in
+    omega (arith, d .1 .1, n)
+
+store-requires : tie.Need-store-requires
+store-requires c κs =
+    let g = c .before .before .before .before .before .before .before .before .instruction6 .given in
+    let s = c .before .before .before .before .before .before .before .before .before .before .before .before .before .before in
+    let d = subst Decoded (g .1) (s .pre .1 .1) in
+    let n : length (s .args .scalars .now) ≡ 32 = eqb-true (length (s .args .scalars .now)) 32 (s .pre .1 .0) in
+    (s .pre .0, d .0)
+
+enum-known-instruction-7 : tie.Need-enum-known-instruction-7
+enum-known-instruction-7 c = search needs
+
+multiply-requires : tie.Need-multiply-requires
+multiply-requires c κs =
+    let g = c .before .before .before .instruction7 .given in
+    let s = c .before .before .before .before .before .before .before .before .before in
+    let d = subst Decoded (g .1) (s .pre .1 .1) in
+    let n : length (s .args .scalars .now) ≡ 32 = eqb-true (length (s .args .scalars .now)) 32 (s .pre .1 .0) in
+    (s .pre .0, d)
+
+enum-known-instruction-8 : tie.Need-enum-known-instruction-8
+enum-known-instruction-8 c = search needs
+
+combine-requires : tie.Need-combine-requires
+combine-requires c κs =
+    let g = c .before .before .before .instruction8 .given in
+    let s = c .before .before .before .before .before .before .before .before .before in
+    let d = subst Decoded (g .1) (s .pre .1 .1) in
+    let n : length (s .args .scalars .now) ≡ 32 = eqb-true (length (s .args .scalars .now)) 32 (s .pre .1 .0) in
+    (s .pre .0, d)
+
+enum-known-instruction-9 : tie.Need-enum-known-instruction-9
+enum-known-instruction-9 c = search needs
+
+read-scalar-requires-6 : tie.Need-read-scalar-requires-6
+read-scalar-requires-6 c κs =
+    let g = c .before .before .instruction9 .given in
+    let s = c .before .before .before .before .before .before .before .before in
+    let d = subst Decoded (g .1) (s .pre .1 .1) in
+    let n : length (s .args .scalars .now) ≡ 32 = eqb-true (length (s .args .scalars .now)) 32 (s .pre .1 .0) in
+    omega (arith, d .1, n)
+
+multiplier-requires : tie.Need-multiplier-requires
+multiplier-requires c κs =
+    let g = c .before .before .before .instruction9 .given in
+    let s = c .before .before .before .before .before .before .before .before .before in
+    let d = subst Decoded (g .1) (s .pre .1 .1) in
+    let n : length (s .args .scalars .now) ≡ 32 = eqb-true (length (s .args .scalars .now)) 32 (s .pre .1 .0) in
+    type-small (s .args .m .mtype) (sound-is (s .args .m) (s .args .registers .now) (s .args .marks .now) (s .pre .0) .state .type-arises)
+
+scale-requires : tie.Need-scale-requires
+scale-requires c κs =
+    let g = c .before .before .before .before .before .before .instruction9 .given in
+    let s = c .before .before .before .before .before .before .before .before .before .before .before .before in
+    let d = subst Decoded (g .1) (s .pre .1 .1) in
+    let n : length (s .args .scalars .now) ≡ 32 = eqb-true (length (s .args .scalars .now)) 32 (s .pre .1 .0) in
+    (s .pre .0, d .0)
+
+enum-known-instruction-10 : tie.Need-enum-known-instruction-10
+enum-known-instruction-10 c = search needs
+
+sign-extend-requires : tie.Need-sign-extend-requires
+sign-extend-requires c κs =
+    let g = c .before .instruction10 .given in
+    let s = c .before .before .before .before .before .before .before in
+    let d = subst Decoded (g .1) (s .pre .1 .1) in
+    let n : length (s .args .scalars .now) ≡ 32 = eqb-true (length (s .args .scalars .now)) 32 (s .pre .1 .0) in
+    (omega (arith, d .1), omega arith)
+
+scale-requires-2 : tie.Need-scale-requires-2
+scale-requires-2 c κs =
+    let g = c .before .before .before .before .instruction10 .given in
+    let s = c .before .before .before .before .before .before .before .before .before .before in
+    let d = subst Decoded (g .1) (s .pre .1 .1) in
+    let n : length (s .args .scalars .now) ≡ 32 = eqb-true (length (s .args .scalars .now)) 32 (s .pre .1 .0) in
+    (s .pre .0, d .0)
+
+returns : tie.Need-returns
+returns c =
+    let s = c .before .before .before .before .before .before in
+    let e = c .enum-told .given .1 in
+    let a = s .args in
+    let xs = a .scalars .now in
+    let rs = a .registers .now in
+    let ms = a .marks .now in
+    let mem = a .memory .now in
+    let meant = ap (operation (ours (a .m)) (stateOf (a .m) rs ms) xs) e in
+    let rd = ap destination e in
+    illegal-outcome (a .m) (a .instruction) xs rs ms mem (s .pre .0) (s .pre .1 .0) meant
+
+same-length : tie.Need-same-length
+same-length c = search needs
+
+returns-2 : tie.Need-returns-2
+returns-2 c =
+    let g = c .before .before .before .before .before .instruction .given in
+    let s = c .before .before .before .before .before .before .before .before .before .before .before in
+    let e = g .1 in
+    let a = s .args in
+    let xs = a .scalars .now in
+    let rs = a .registers .now in
+    let ms = a .marks .now in
+    let mem = a .memory .now in
+    let meant = ap (operation (ours (a .m)) (stateOf (a .m) rs ms) xs) e in
+    let rd = ap destination e in
+    let z = c .before .before in
+    ap₂ (λ (m : Machine) (x : List ℕ). record { answer = Done; bench = benchOf m rs ms mem; scalars = x }) (z .set-type .ensures .0) (z .set-type .ensures .1)
+    ∙ type-outcome (a .m) (a .instruction) xs rs ms mem (s .pre .0) (s .pre .1 .0) _ _ meant rd
+
+same-length-2 : tie.Need-same-length-2
+same-length-2 c = search needs
+
+returns-3 : tie.Need-returns-3
+returns-3 c =
+    let g = c .before .before .before .before .before .before .before .instruction2 .given in
+    let s = c .before .before .before .before .before .before .before .before .before .before .before .before .before in
+    let e = g .1 in
+    let a = s .args in
+    let xs = a .scalars .now in
+    let rs = a .registers .now in
+    let ms = a .marks .now in
+    let mem = a .memory .now in
+    let meant = ap (operation (ours (a .m)) (stateOf (a .m) rs ms) xs) e in
+    let rd = ap destination e in
+    let z = c .before .before in
+    let v = c .before .before .before .before .read-scalar .ensures in
+    ap₂ (λ (m : Machine) (x : List ℕ). record { answer = Done; bench = benchOf m rs ms mem; scalars = x }) (z .set-type2 .ensures .0 ∙ ap (λ (v : ℕ). withType (a .m) (newType elen v)) v) (z .set-type2 .ensures .1 ∙ ap (λ (v : ℕ). withScalar xs (g .0 .0) (newType elen v)) v)
+    ∙ type-outcome (a .m) (a .instruction) xs rs ms mem (s .pre .0) (s .pre .1 .0) _ _ meant rd
+
+same-length-3 : tie.Need-same-length-3
+same-length-3 c = search needs
+
+returns-4 : tie.Need-returns-4
+returns-4 c =
+    let g = c .before .before .before .before .before .instruction3 .given in
+    let s = c .before .before .before .before .before .before .before .before .before .before .before in
+    let e = g .1 in
+    let a = s .args in
+    let xs = a .scalars .now in
+    let rs = a .registers .now in
+    let ms = a .marks .now in
+    let mem = a .memory .now in
+    let meant = ap (operation (ours (a .m)) (stateOf (a .m) rs ms) xs) e in
+    let rd = ap destination e in
+    let z = c .before .before in
+    ap₂ (λ (r : Stepped) (x : List ℕ). record { answer = r .answer; bench = benchOf (r .machine) rs ms mem; scalars = x }) (z .set-size .ensures .0) (z .set-size .ensures .1)
+    ∙ size-outcome (a .m) (a .instruction) xs rs ms mem (s .pre .0) (s .pre .1 .0) _ _ _ meant rd
+
+same-length-4 : tie.Need-same-length-4
+same-length-4 c = search needs
+
+returns-5 : tie.Need-returns-5
+returns-5 c =
+    let g = c .before .before .before .before .before .instruction4 .given in
+    let s = c .before .before .before .before .before .before .before .before .before .before .before in
+    let e = g .1 in
+    let a = s .args in
+    let xs = a .scalars .now in
+    let rs = a .registers .now in
+    let ms = a .marks .now in
+    let mem = a .memory .now in
+    let meant = ap (operation (ours (a .m)) (stateOf (a .m) rs ms) xs) e in
+    let rd = ap destination e in
+    let z = c .before .before in
+    ap₂ (λ (r : Stepped) (x : List ℕ). record { answer = r .answer; bench = benchOf (r .machine) rs ms mem; scalars = x }) (z .set-tile .ensures .0) (z .set-tile .ensures .1)
+    ∙ tile-outcome (a .m) (a .instruction) xs rs ms mem (s .pre .0) (s .pre .1 .0) (g .0 .0) (g .0 .1 .0) (g .0 .1 .1 .0) meant rd
+
+same-length-5 : tie.Need-same-length-5
+same-length-5 c = search needs
+
+same-length-6 : tie.Need-same-length-6
+same-length-6 c = search needs
+
+same-length-7 : tie.Need-same-length-7
+same-length-7 c = search needs
+
+same-length-8 : tie.Need-same-length-8
+same-length-8 c = search needs
+
+returns-6 : tie.Need-returns-6
+returns-6 c =
+    let g = c .before .before .before .before .before .before .before .before .before .before .before .before .before .instruction5 .given in
+    let s = c .before .before .before .before .before .before .before .before .before .before .before .before .before .before .before .before .before .before .before in
+    let e = g .1 in
+    let a = s .args in
+    let xs = a .scalars .now in
+    let rs = a .registers .now in
+    let ms = a .marks .now in
+    let mem = a .memory .now in
+    let meant = ap (operation (ours (a .m)) (stateOf (a .m) rs ms) xs) e in
+    let rd = ap destination e in
+    let z = c .before .before .before .before in
+    let base = c .before .before .before .before .before .before .before .before .before .before .read-scalar2 .ensures in
+    let stride = c .before .before .before .before .before .before .before .before .read-scalar3 .ensures in
+    loads-outcome (a .m) (a .instruction) xs rs ms mem (s .pre .0) (s .pre .1 .0) _ (meant ∙ ap₂ (λ (x y : ℕ). Operation.load (g .0 .0) (g .0 .1 .1 .0) (g .0 .1 .0) x y) (sym base) (sym stride)) rd _ _ _ (z .load .ensures) refl refl
+
+same-length-9 : tie.Need-same-length-9
+same-length-9 c = search needs
+
+same-length-10 : tie.Need-same-length-10
+same-length-10 c = search needs
+
+same-length-11 : tie.Need-same-length-11
+same-length-11 c = search needs
+
+same-length-12 : tie.Need-same-length-12
+same-length-12 c = search needs
+
+returns-7 : tie.Need-returns-7
+returns-7 c =
+    let g = c .before .before .before .before .before .before .before .before .before .before .before .instruction6 .given in
+    let s = c .before .before .before .before .before .before .before .before .before .before .before .before .before .before .before .before .before in
+    let e = g .1 in
+    let a = s .args in
+    let xs = a .scalars .now in
+    let rs = a .registers .now in
+    let ms = a .marks .now in
+    let mem = a .memory .now in
+    let meant = ap (operation (ours (a .m)) (stateOf (a .m) rs ms) xs) e in
+    let rd = ap destination e in
+    let z = c .before .before in
+    let base = c .before .before .before .before .before .before .before .before .read-scalar4 .ensures in
+    let stride = c .before .before .before .before .before .before .read-scalar5 .ensures in
+    stores-outcome (a .m) (a .instruction) xs rs ms mem (s .pre .0) (s .pre .1 .0) _ (meant ∙ ap₂ (λ (x y : ℕ). Operation.store (g .0 .0) (g .0 .1 .1 .0) (g .0 .1 .0) x y) (sym base) (sym stride)) rd _ _ (z .store .ensures) refl
+
+same-length-13 : tie.Need-same-length-13
+same-length-13 c = search needs
+
+same-length-14 : tie.Need-same-length-14
+same-length-14 c = search needs
+
+returns-8 : tie.Need-returns-8
+returns-8 c =
+    let g = c .before .before .before .before .before .before .before .before .instruction7 .given in
+    let s = c .before .before .before .before .before .before .before .before .before .before .before .before .before .before in
+    let e = g .1 in
+    let a = s .args in
+    let xs = a .scalars .now in
+    let rs = a .registers .now in
+    let ms = a .marks .now in
+    let mem = a .memory .now in
+    let meant = ap (operation (ours (a .m)) (stateOf (a .m) rs ms) xs) e in
+    let rd = ap destination e in
+    let l = c .before .before .before .before .multiply .ensures in
+    loads-outcome (a .m) (a .instruction) xs rs ms mem (s .pre .0) (s .pre .1 .0) _ meant rd _ _ _ (record { answer-is = l .answer-is; registers-are = l .registers-are; marks-are = l .marks-are }) refl refl
+
+same-length-15 : tie.Need-same-length-15
+same-length-15 c = search needs
+
+same-length-16 : tie.Need-same-length-16
+same-length-16 c = search needs
+
+returns-9 : tie.Need-returns-9
+returns-9 c =
+    let g = c .before .before .before .before .before .before .before .before .instruction8 .given in
+    let s = c .before .before .before .before .before .before .before .before .before .before .before .before .before .before in
+    let e = g .1 in
+    let a = s .args in
+    let xs = a .scalars .now in
+    let rs = a .registers .now in
+    let ms = a .marks .now in
+    let mem = a .memory .now in
+    let meant = ap (operation (ours (a .m)) (stateOf (a .m) rs ms) xs) e in
+    let rd = ap destination e in
+    let l = c .before .before .before .before .combine .ensures in
+    loads-outcome (a .m) (a .instruction) xs rs ms mem (s .pre .0) (s .pre .1 .0) _ meant rd _ _ _ (record { answer-is = l .answer-is; registers-are = l .registers-are; marks-are = l .marks-are }) refl refl
+
+same-length-17 : tie.Need-same-length-17
+same-length-17 c = search needs
+
+same-length-18 : tie.Need-same-length-18
+same-length-18 c = search needs
+
+same-length-19 : tie.Need-same-length-19
+same-length-19 c = search needs
+
+returns-10 : tie.Need-returns-10
+returns-10 c =
+    let g = c .before .before .before .before .before .before .before .before .before .before .before .instruction9 .given in
+    let s = c .before .before .before .before .before .before .before .before .before .before .before .before .before .before .before .before .before in
+    let e = g .1 in
+    let a = s .args in
+    let xs = a .scalars .now in
+    let rs = a .registers .now in
+    let ms = a .marks .now in
+    let mem = a .memory .now in
+    let meant = ap (operation (ours (a .m)) (stateOf (a .m) rs ms) xs) e in
+    let rd = ap destination e in
+    let k = c .before .before .before .before .before .before .before .multiplier .ensures in
+    let v = c .before .before .before .before .before .before .before .before .read-scalar6 .ensures in
+    let z = signed (256 ^ sew (a .m .mtype)) (c .before .before .before .before .before .before .before .before .read-scalar6 .result % 256 ^ sew (a .m .mtype)) in
+    let l = c .before .before .before .before .scale .ensures z (k .residue) (k .zero-is) in
+    loads-outcome (a .m) (a .instruction) xs rs ms mem (s .pre .0) (s .pre .1 .0) _ (meant ∙ ap (λ (x : ℕ). Operation.scale (times (g .0 .0)) (g .0 .1 .0) (g .0 .1 .1 .0) (signed (256 ^ sew (a .m .mtype)) (x % 256 ^ sew (a .m .mtype)))) (sym v)) rd _ _ _ (record { answer-is = l .answer-is; registers-are = l .registers-are; marks-are = l .marks-are }) refl refl
+
+same-length-20 : tie.Need-same-length-20
+same-length-20 c = search needs
+
+same-length-21 : tie.Need-same-length-21
+same-length-21 c = search needs
+
+returns-11 : tie.Need-returns-11
+returns-11 c =
+    let g = c .before .before .before .before .before .before .before .before .before .instruction10 .given in
+    let s = c .before .before .before .before .before .before .before .before .before .before .before .before .before .before .before in
+    let e = g .1 in
+    let a = s .args in
+    let xs = a .scalars .now in
+    let rs = a .registers .now in
+    let ms = a .marks .now in
+    let mem = a .memory .now in
+    let meant = ap (operation (ours (a .m)) (stateOf (a .m) rs ms) xs) e in
+    let rd = ap destination e in
+    let k = c .before .before .before .before .before .before .before .sign-extend .ensures in
+    let l = c .before .before .before .before .scale2 .ensures (signed 32 (g .0 .1 .1 .1 .0)) (sym (k .0)) (k .1) in
+    loads-outcome (a .m) (a .instruction) xs rs ms mem (s .pre .0) (s .pre .1 .0) _ meant rd _ _ _ (record { answer-is = l .answer-is; registers-are = l .registers-are; marks-are = l .marks-are }) refl refl
+
+pub perform-spec : {M : Type 1} → statement M
+perform-spec = tie.close (tie.spec enum-told enum-known-instruction set-type-requires enum-known-instruction-2 read-scalar-requires set-type-requires-2 enum-known-instruction-3 set-size-requires enum-known-instruction-4 set-tile-requires enum-known-instruction-5 read-scalar-requires-2 read-scalar-requires-3 load-requires enum-known-instruction-6 read-scalar-requires-4 read-scalar-requires-5 store-requires enum-known-instruction-7 multiply-requires enum-known-instruction-8 combine-requires enum-known-instruction-9 read-scalar-requires-6 multiplier-requires scale-requires enum-known-instruction-10 sign-extend-requires scale-requires-2 returns same-length returns-2 same-length-2 returns-3 same-length-3 returns-4 same-length-4 returns-5 same-length-5 same-length-6 same-length-7 same-length-8 returns-6 same-length-9 same-length-10 same-length-11 same-length-12 returns-7 same-length-13 same-length-14 returns-8 same-length-15 same-length-16 returns-9 same-length-17 same-length-18 same-length-19 returns-10 same-length-20 same-length-21 returns-11)

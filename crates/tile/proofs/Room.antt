@@ -1,0 +1,166 @@
+-- What `load` and `store` require follows from a sound machine and the checks of answers 2 to 4, and what they ensure is what the
+-- definitions of a load and a store say.
+use mathlib.Core.Path.{_≡_, refl, sym, _∙_}
+use mathlib.Core.Bool.{Bool, true, false, cond, _&&_, _||_}
+use mathlib.Core.List.{List, [], _∷_, _++_}
+use Prim.Native.Nat.{ℕ, _+_, _*_, _/_, _≤_, _<_}
+use native.Mathlib.Nat.{mul-le-mul-right, div-mul-le-self}
+use native.Mathlib.Omega.{arith}
+use lib.ListN.{length}
+use lib.Dec.{eqb, leb}
+use borrow.Author.Tests.{eqb-true, leb-true}
+use Rattle.width.specs.Tile.{putTile, markTile}
+use Rattle.machine.specs.declared.Machine.{Machine}
+use Rattle.machine.specs.declared.Matrix.{Matrix}
+use Rattle.machine.specs.declared.Matrix.the-variants.{MatrixA, MatrixB, MatrixC}
+use Rattle.machine.specs.declared.Answer.the-variants.{BadWidth}
+use Rattle.machine.specs.Answers.{Check, _otherwise_, verdict, isDone}
+use Rattle.machine.specs.Geometry.{Parameters, parameters, State, stateOf, startOf, pitchOf, registerCount}
+use Rattle.machine.specs.Setting.{sew, maccq, maximum}
+use Rattle.machine.specs.Memory.{rowAt}
+use Rattle.machine.specs.Operation.{Operation, stateAfter, memoryAfter, element, tileRows, tileCols, rowsOf, columnsOf}
+use Rattle.machine.specs.Refusals.{checks, typed, fitting, widthOf}
+use Rattle.machine.specs.Faults.{sound}
+use Rattle.machine.proofs.TestLaws.{and-right, false-true}
+use Rattle.machine.proofs.CheckLaws.{Passed}
+use Rattle.machine.proofs.StepLaws.{permitted-lengths}
+use Rattle.machine.proofs.NoFault.{sound-is}
+use Rattle.tile.specs.Checks.{memoryCheck, storeChecks}
+
+-- ---- widths and registers
+
+-- the widest element of a tile, in bytes, by SEW
+abbrev pub widest : Matrix → ℕ → ℕ
+widest MatrixA s = s
+widest MatrixB s = s
+widest MatrixC s = 4 * s
+
+pub width-most : (elen t : ℕ) (k : Matrix) (w : ℕ) → widthOf elen t k w ≡ true → w ≤ widest k (sew t)
+unfolding widthOf
+width-most elen t MatrixA w h = omega (arith, eqb-true w (sew t) h)
+width-most elen t MatrixB w h = omega (arith, eqb-true w (sew t) h)
+width-most elen t MatrixC w h =
+    go (eqb w (sew t)) refl (eqb w (2 * sew t)) refl (and-right (leb (8 * w) elen) (eqb w (sew t) || (eqb w (2 * sew t) || (maccq t && eqb w (4 * sew t)))) h)
+  where
+    go : (x : Bool) → eqb w (sew t) ≡ x → (y : Bool) → eqb w (2 * sew t) ≡ y → x || (y || (maccq t && eqb w (4 * sew t))) ≡ true → w ≤ 4 * sew t
+    go true e y f h = omega (arith, eqb-true w (sew t) e)
+    go false e true f h = omega (arith, eqb-true w (2 * sew t) f)
+    go false e false f h = omega (arith, eqb-true w (4 * sew t) (and-right (maccq t) (eqb w (4 * sew t)) h))
+
+-- rows of P bytes in register r of n, each of R rows
+pub in-register : (R P rows r n : ℕ) → rows ≤ R → r < n → r * (R * P) + rows * P ≤ n * (R * P)
+in-register R P rows r n h l = omega (arith, mul-le-mul-right P h, mul-le-mul-right (R * P) l)
+
+-- columns of w bytes in a row of q times P bytes
+in-row : (q P s c w : ℕ) → c ≤ P / s → w ≤ q * s → c * w ≤ q * P
+in-row q P s c w h e =
+    let a : w * c ≤ q * s * c = mul-le-mul-right c e in
+    let b : c * s * q ≤ P / s * s * q = mul-le-mul-right q (mul-le-mul-right s h) in
+    let d : P / s * s * q ≤ P * q = mul-le-mul-right q (div-mul-le-self P s) in
+    omega arith
+
+-- ---- the checks of answers 2 to 4, with which those of a load and of a store begin
+
+abbrev pub sizes : Parameters → State → Matrix → ℕ → List Check
+sizes M st k w = typed st ∷ (widthOf (M .elen) (st .mtype) k w otherwise BadWidth) ∷ fitting M st (rowsOf k) ∷ fitting M st (columnsOf k) ∷ []
+
+-- ---- a sound machine
+
+module _ (grant : ℕ → ℕ → ℕ) (m : Machine) (regs marks : List ℕ) where
+  abbrev M : Parameters
+  M = parameters grant m
+
+  abbrev st : State
+  st = stateOf m regs marks
+
+  module _ (h : sound m regs marks ≡ true) where
+    room : 16 * (M .rows * M .pitch) ≡ length regs
+    room = let s = sound-is m regs marks h in permitted-lengths (m .rlen) (m .mlen) (s .lengths) .2 ∙ sym (s .state .regs-length)
+
+    -- the marks are as many as the register bytes
+    pub same-length : length marks ≡ length regs
+    same-length = let s = sound-is m regs marks h in s .state .marks-length ∙ sym (s .state .regs-length)
+
+    -- a tile of at most the maximum sizes lies in its register: what first_unmarked and mark_tile require
+    pub tile-fits : (k : Matrix) (r w rows cols : ℕ) → r < registerCount k → w ≤ widest k (sew (m .mtype))
+        → rows ≤ maximum M (m .mtype) (rowsOf k) → cols ≤ maximum M (m .mtype) (columnsOf k)
+        → (startOf M k r + rows * pitchOf M k ≤ length regs) × (cols * w ≤ pitchOf M k)
+    tile-fits MatrixA r w rows cols l e f g =
+        let q = in-register (M .rows) (M .pitch) rows r 8 f l in
+        let c : cols ≤ M .pitch / sew (m .mtype) = omega arith in
+        let p = in-row 1 (M .pitch) (sew (m .mtype)) cols w c (omega arith) in
+        (omega (arith, room), omega arith)
+    tile-fits MatrixB r w rows cols l e f g =
+        let q = in-register (M .rows) (M .pitch) rows r 8 (let f′ : rows ≤ M .rows = omega arith in f′) l in
+        let p = in-row 1 (M .pitch) (sew (m .mtype)) cols w g (omega arith) in
+        (omega (arith, room), omega arith)
+    tile-fits MatrixC r w rows cols l e f g =
+        let q = in-register (M .rows) (4 * M .pitch) rows r 2 f l in
+        (omega (arith, room), in-row 4 (M .pitch) (sew (m .mtype)) cols w g e)
+
+    -- what load and store require, in their order
+    pub requires-hold : (k : Matrix) (r w : ℕ) → r < registerCount k → Passed (sizes M st k w)
+        → (startOf M k r + tileRows st k * pitchOf M k ≤ length regs) × ((length marks ≡ length regs) × (tileCols st k * w ≤ pitchOf M k))
+    requires-hold k r w l p =
+        let f = tile-fits k r w (tileRows st k) (tileCols st k) l (width-most (M .elen) (m .mtype) k w (p .1 .0))
+        (leb-true (tileRows st k) (maximum M (m .mtype) (rowsOf k)) (p .1 .1 .0))
+        (leb-true (tileCols st k) (maximum M (m .mtype) (columnsOf k)) (p .1 .1 .1 .0)) in
+        (f .0, (same-length, f .1))
+
+-- ---- checks after checks
+
+pub verdict-passed : (cs ds : List Check) → Passed cs → verdict (cs ++ ds) ≡ verdict ds
+verdict-passed [] ds p = refl
+verdict-passed (c ∷ cs) ds p = rw (p .0) (verdict-passed cs ds (p .1))
+
+pub verdict-refused : (cs ds : List Check) → isDone (verdict cs) ≡ false → verdict (cs ++ ds) ≡ verdict cs
+verdict-refused [] ds h = absurd (false-true (sym h))
+verdict-refused (c ∷ cs) ds h = go (c .holds) h (verdict-refused cs ds)
+  where
+    go : (t : Bool) → isDone (cond t (verdict cs) (c .answer)) ≡ false → (isDone (verdict cs) ≡ false → verdict (cs ++ ds) ≡ verdict cs)
+        → cond t (verdict (cs ++ ds)) (c .answer) ≡ cond t (verdict cs) (c .answer)
+    go true h ih = ih h
+    go false h ih = refl
+
+-- ---- what load and store ensure is what the definitions say
+
+module _ (M : Parameters) (st : State) (mem : List ℕ) (k : Matrix) (r w base stride : ℕ) where
+  abbrev at : ℕ → ℕ
+  at i = startOf M k r + i * pitchOf M k
+
+  pub load-registers : stateAfter M (Operation.load k r w base stride) st mem .regs
+      ≡ putTile at (tileRows st k) (tileCols st k) w (element mem (rowAt base stride) w) (st .regs)
+  load-registers = refl
+
+  pub load-marks : stateAfter M (Operation.load k r w base stride) st mem .marks ≡ markTile at (tileRows st k) (tileCols st k * w) (st .marks)
+  load-marks = refl
+
+  pub store-memory : memoryAfter M (Operation.store k r w base stride) st mem
+      ≡ putTile (rowAt base stride) (tileRows st k) (tileCols st k) w (element (st .regs) at w) mem
+  store-memory = refl
+
+  -- the checks that load and store make
+  abbrev loadMakes : List Check
+  loadMakes = memoryCheck (length mem) base stride (tileRows st k) (tileCols st k * w) ∷ []
+
+  abbrev storeMakes : List Check
+  storeMakes = storeChecks M (st .marks) (startOf M k r) (pitchOf M k) (length mem) base stride (tileRows st k) (tileCols st k) w
+
+  pub load-checks : checks M (Operation.load k r w base stride) st mem ≡ sizes M st k w ++ loadMakes
+  load-checks = refl
+
+  pub store-checks : checks M (Operation.store k r w base stride) st mem ≡ sizes M st k w ++ storeMakes
+  store-checks = refl
+
+  -- the answer, where the checks of 2 to 4 passed and where one of them failed
+  pub load-answers : Passed (sizes M st k w) → verdict (checks M (Operation.load k r w base stride) st mem) ≡ verdict loadMakes
+  load-answers p = verdict-passed (sizes M st k w) loadMakes p
+
+  pub load-refused : isDone (verdict (sizes M st k w)) ≡ false → verdict (checks M (Operation.load k r w base stride) st mem) ≡ verdict (sizes M st k w)
+  load-refused h = verdict-refused (sizes M st k w) loadMakes h
+
+  pub store-answers : Passed (sizes M st k w) → verdict (checks M (Operation.store k r w base stride) st mem) ≡ verdict storeMakes
+  store-answers p = verdict-passed (sizes M st k w) storeMakes p
+
+  pub store-refused : isDone (verdict (sizes M st k w)) ≡ false → verdict (checks M (Operation.store k r w base stride) st mem) ≡ verdict (sizes M st k w)
+  store-refused h = verdict-refused (sizes M st k w) storeMakes h

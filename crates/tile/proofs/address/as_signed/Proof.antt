@@ -1,0 +1,38 @@
+use mathlib.Core.Path.{_≡_, sym, ap, _∙_}
+use Prim.Native.Nat.{suc, _-_, _^_}
+use native.Mathlib.Omega.{arith}
+use mir.Syntax.{w64}
+use mir.Val.{toZ}
+use mir.ValLaws.{toZ-pos}
+use Rattle.tile.proofs.AddressLaws.{below-one, signed-is}
+use borrow.Author.Needs.{needs}
+use Rattle.tile.proofs.address.as_signed.Statement.{statement}
+use Rattle.tile.proofs.address.as_signed.Tie as tie
+
+cast-result : tie.Need-cast-result
+cast-result c = search needs
+
+sub-result : tie.Need-sub-result
+sub-result c = search needs
+
+cast-result-2 : tie.Need-cast-result-2
+cast-result-2 c = search needs
+
+sub-result-2 : tie.Need-sub-result-2
+sub-result-2 c =
+    let k = 18446744073709551615 - c .before .args .x in
+    rw (toZ-pos w64 k (omega arith), below-one k) (record { sfits = omega arith })
+
+returns : tie.Need-returns
+returns c = signed-is (c .before .args .x)
+
+returns-2 : tie.Need-returns-2
+returns-2 c =
+    let x = c .before .args .x in
+    let k = 18446744073709551615 - x in
+    let e : x ≡ 2 ^ 64 - suc k = omega arith in
+    rw (toZ-pos w64 k (omega arith), below-one k) (sym (ap (toZ w64) e)) ∙ signed-is x
+
+pub as-signed-spec : {M : Type 1} → statement M
+as-signed-spec =
+    tie.close (tie.spec cast-result sub-result cast-result-2 sub-result-2 returns returns-2)

@@ -1,0 +1,29 @@
+use mathlib.Core.Path.{ap, _∙_}
+use Prim.Native.Nat.{ℕ, _/_}
+use lib.Dec.{leb}
+use lib.IntN.{natAbs}
+use mir.Syntax.{w64}
+use mir.ValLaws.{toZ-ofZ}
+use Rattle.tile.proofs.AddressLaws.{no-distance, by-division}
+use borrow.Author.Needs.{needs}
+use Rattle.tile.proofs.address.is_bounded.Statement.{statement}
+use Rattle.tile.proofs.address.is_bounded.Tie as tie
+
+returns : tie.Need-returns
+returns c = let a = c .before .args in no-distance (natAbs (a .stride)) (a .row) (a .room) (c .if1 .taken)
+
+magnitude-requires : tie.Need-magnitude-requires
+magnitude-requires c κs = search needs
+
+div-result : tie.Need-div-result
+div-result c = search needs
+
+returns-2 : tie.Need-returns-2
+returns-2 c =
+    let s = c .before .before in
+    let a = s .args in
+    ap (λ (m : ℕ). leb m (a .room / a .row)) (c .magnitude .ensures ∙ ap natAbs (toZ-ofZ w64 (a .stride) (s .fits .stride)))
+    ∙ by-division (natAbs (a .stride)) (a .row) (a .room) (c .before .if1 .left)
+
+pub is-bounded-spec : {M : Type 1} → statement M
+is-bounded-spec = tie.close (tie.spec returns magnitude-requires div-result returns-2)

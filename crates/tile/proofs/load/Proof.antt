@@ -1,0 +1,66 @@
+use mathlib.Core.Path.{_≡_, refl}
+use mathlib.Core.Bool.{true}
+use Prim.Native.Nat.{_*_}
+use lib.ListN.{length}
+use Rattle.machine.specs.Memory.{inside}
+use Rattle.tile.proofs.TestLaws.{test-failed, test-passed}
+use borrow.Author.Needs.{needs}
+use Rattle.tile.proofs.load.Statement.{statement}
+use Rattle.tile.proofs.load.Tie as tie
+
+mul-rows-inside : tie.Need-mul-rows-inside
+mul-rows-inside c = search needs
+
+rows-inside-requires : tie.Need-rows-inside-requires
+rows-inside-requires c κs = search needs
+
+returns : tie.Need-returns
+returns c =
+    let a = c .before .before .before .before .before .args in
+    let r = c .before .rows-inside in
+    let e = test-failed (r .result) (inside (length (a .memory .now)) (a .base) (a .stride) (a .rows) (a .cols * a .w)) (r .ensures) (c .if1 .taken) in
+    (rw e, (refl, refl))
+
+-- the rows lie in memory
+rows-in : (c : tie.Else1) →
+    let a = c .before .before .before .before .before .args in inside (length (a .memory .now)) (a .base) (a .stride) (a .rows) (a .cols * a .w) ≡ true
+rows-in c =
+    let a = c .before .before .before .before .before .args in
+    let r = c .before .rows-inside in
+    test-passed (r .result) (inside (length (a .memory .now)) (a .base) (a .stride) (a .rows) (a .cols * a .w)) (r .ensures) (c .if1 .left)
+
+load-tile-requires : tie.Need-load-tile-requires
+load-tile-requires c κs =
+    let s = c .before .before .before .before .before .before in
+    (s .pre .0, (s .pre .1 .1, rows-in (c .before)))
+
+mul-mark-tile : tie.Need-mul-mark-tile
+mul-mark-tile c = search needs
+
+mark-tile-requires : tie.Need-mark-tile-requires
+mark-tile-requires c κs = search needs
+
+same-length : tie.Need-same-length
+same-length c = search needs
+
+same-length-2 : tie.Need-same-length-2
+same-length-2 c = search needs
+
+returns-2 : tie.Need-returns-2
+returns-2 c =
+    let d = c .before .before .before .before .before .before .before .before in
+    (rw (rows-in d), (c .before .before .before .before .before .before .load-tile .ensures, c .before .before .mark-tile .ensures))
+
+pub load-spec : {M : Type 1} → statement M
+load-spec =
+    tie.close
+    (tie.spec
+    mul-rows-inside
+    rows-inside-requires
+    returns
+    load-tile-requires
+    mul-mark-tile
+    mark-tile-requires
+    same-length
+    same-length-2
+    returns-2)

@@ -1,0 +1,60 @@
+use mathlib.Core.Path.{_≡_, refl, sym, ap, _∙_}
+use mathlib.Core.Logic.{⊎-elim}
+use Prim.Native.Nat.{ℕ, _-_, _≤_}
+use native.Mathlib.Omega.{arith}
+use lib.Dec.{ltb}
+use lib.ListN.{length, getD}
+use Rattle.machine.specs.Tests.{all}
+use Rattle.machine.proofs.TestLaws.{allOf-all}
+use Rattle.tile.proofs.MarkLaws.{most-more, most-same}
+use Rattle.tile.proofs.marks_sound.Statement.{statement}
+use Rattle.tile.proofs.marks_sound.Tie as tie
+
+abbrev Inv-loop : tie.InvT-loop
+Inv-loop marks most₀ i₀ most i = (i ≤ length marks) × (ltb most 2 ≡ all i (λ k. ltb (getD marks k 0) 2))
+
+abbrev μ-loop : tie.MeasureT-loop
+μ-loop marks most₀ i₀ most i = length marks - i
+
+loop-holds : tie.Need-loop-holds Inv-loop μ-loop
+loop-holds c = (omega arith, refl)
+
+shared-slice-read-mark : tie.Need-shared-slice-read-mark Inv-loop μ-loop
+shared-slice-read-mark c = omega arith
+
+add-i : tie.Need-add-i Inv-loop μ-loop
+add-i c = omega arith
+
+loop-less : tie.Need-loop-less Inv-loop μ-loop
+loop-less c = omega arith
+
+loop-again : tie.Need-loop-again Inv-loop μ-loop
+loop-again c =
+    let l = c .before .before .before .loop in
+    let m = c .before .before .before .before .args .marks .now in (
+      omega arith,
+      ⊎-elim
+          (λ w. ap (λ (x : ℕ). ltb x 2) (w .1) ∙ most-more m (l .i) (l .most) (w .0 .taken) (l .inv .1))
+          (λ w. ap (λ (x : ℕ). ltb x 2) (w .1) ∙ most-same m (l .i) (l .most) (w .0 .left) (l .inv .1))
+          (c .if1 .came),
+    )
+
+returns : tie.Need-returns Inv-loop μ-loop
+returns c =
+    let l = c .before .loop in
+    let m = c .before .before .args .marks .now in
+    let e : l .i ≡ length m = omega arith in
+    l .inv .1 ∙ ap (λ (n : ℕ). all n (λ k. ltb (getD m k 0) 2)) e ∙ sym (allOf-all (λ mark. ltb mark 2) m)
+
+pub marks-sound-spec : {M : Type 1} → statement M
+marks-sound-spec =
+    tie.close
+    (tie.spec
+    Inv-loop
+    μ-loop
+    loop-holds
+    shared-slice-read-mark
+    add-i
+    loop-less
+    loop-again
+    returns)

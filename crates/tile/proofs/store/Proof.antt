@@ -1,0 +1,63 @@
+use mathlib.Core.Path.{_≡_, refl, sym, ap, _∙_}
+use mathlib.Core.List.{List}
+use lib.ListN.{length}
+use borrow.Author.Needs.{needs}
+use Rattle.machine.specs.Answers.{Check, verdict, isDone}
+use Rattle.machine.specs.Geometry.{Parameters}
+use Rattle.machine.proofs.CheckLaws.{Passed, passed, no-refusal}
+use Rattle.tile.proofs.TestLaws.{test-failed, test-passed}
+use Rattle.tile.specs.Checks.{storeChecks}
+use Rattle.tile.proofs.AnswerLaws.{sealedBy}
+use Rattle.tile.proofs.store.Statement.{statement}
+use Rattle.tile.proofs.store.Tie as tie
+
+store-checked-requires : tie.Need-store-checked-requires
+store-checked-requires c κs = search needs
+
+is-done-requires : tie.Need-is-done-requires
+is-done-requires c κs = search needs
+
+returns : tie.Need-returns
+returns c =
+    let r = c .before .before .store-checked in
+    let d = c .before .is-done in
+    (r .ensures, rw (test-failed (d .result) (isDone (r .result)) (d .ensures) (c .if1 .taken)))
+
+-- the checks, and that they passed
+abbrev checks : tie.Start → Parameters → List Check
+checks s M = let a = s .args in storeChecks M (a .marks .now) (a .start) (a .pitch) (length (a .memory .now)) (a .base) (a .stride) (a .rows) (a .cols) (a .w)
+
+all-passed : (c : tie.Else1) (M : Parameters) →
+    let s = c .before .before .before .before .before .before in M .sealAt ≡ s .args .seal → M .sealLen ≡ s .args .size → Passed (checks s M)
+all-passed c M e f =
+    let s = c .before .before .before .before .before .before in
+    let r = c .before .before .store-checked in
+    let d = c .before .is-done in
+    let h : r .result ≡ verdict (checks s M) = r .ensures M e f in
+    passed (checks s M) refl (sym (ap isDone h) ∙ test-passed (d .result) (isDone (r .result)) (d .ensures) (c .if1 .left))
+
+store-tile-requires : tie.Need-store-tile-requires
+store-tile-requires c κs =
+    let d = c .before in
+    let s = d .before .before .before .before .before .before in
+    (s .pre .0, (s .pre .1 .1, all-passed d (sealedBy (s .args .seal) (s .args .size)) refl refl .1 .0))
+
+same-length : tie.Need-same-length
+same-length c = search needs
+
+returns-2 : tie.Need-returns-2
+returns-2 c =
+    let d = c .before .before .before .before in
+    let s = d .before .before .before .before .before .before in
+    (λ M e f. sym (no-refusal (checks s M) (all-passed d M e f)), c .before .before .store-tile .ensures)
+
+pub store-spec : {M : Type 1} → statement M
+store-spec =
+    tie.close
+    (tie.spec
+    store-checked-requires
+    is-done-requires
+    returns
+    store-tile-requires
+    same-length
+    returns-2)

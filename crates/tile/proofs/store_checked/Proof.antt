@@ -1,0 +1,111 @@
+use mathlib.Core.Path.{_≡_, refl, sym}
+use mathlib.Core.Bool.{true}
+use mathlib.Core.List.{[], _∷_}
+use Prim.Native.Nat.{_*_}
+use native.Mathlib.Nat.{mul-le-mul-left}
+use native.Mathlib.Omega.{arith}
+use borrow.Author.Needs.{needs}
+use Rattle.machine.specs.Answers.{Check, isDone}
+use Rattle.machine.specs.Geometry.{Parameters}
+use Rattle.machine.specs.Memory.{inside, unsealed}
+use Rattle.machine.proofs.CheckLaws.{no-refusal}
+use Rattle.tile.proofs.TestLaws.{test-failed, test-passed}
+use Rattle.tile.specs.Checks.{marksCheck, memoryCheck, sealCheck}
+use Rattle.tile.proofs.AnswerLaws.{answer-first, answer-holds, answer-second, answer-third}
+use Rattle.tile.proofs.store_checked.Statement.{statement}
+use Rattle.tile.proofs.store_checked.Tie as tie
+
+-- the three checks
+abbrev five : tie.Start → Check
+five s = let a = s .args in marksCheck (a .marks .now) (a .start) (a .pitch) (a .rows) (a .cols) (a .w)
+
+abbrev six : tie.Start → Check
+six s = let a = s .args in memoryCheck (a .len) (a .base) (a .stride) (a .rows) (a .cols * a .w)
+
+abbrev seven : tie.Start → Parameters → Check
+seven s M = let a = s .args in sealCheck M (a .base) (a .stride) (a .rows) (a .cols * a .w)
+
+mul-bytes : tie.Need-mul-bytes
+mul-bytes c = search needs
+
+first-unmarked-requires : tie.Need-first-unmarked-requires
+first-unmarked-requires c κs = search needs
+
+is-done-requires : tie.Need-is-done-requires
+is-done-requires c κs = search needs
+
+returns : tie.Need-returns
+returns c =
+    λ M e f.
+    let s = c .before .before .before .before in
+    let r = c .before .before .first-unmarked in
+    let d = c .before .is-done in
+    answer-first (five s) (six s ∷ seven s M ∷ []) (r .result) (r .ensures) (test-failed (d .result) (isDone (r .result)) (d .ensures) (c .if1 .taken))
+
+-- 5 passed
+five-holds : (c : tie.Else1) → five (c .before .before .before .before) .holds ≡ true
+five-holds c =
+    let r = c .before .before .first-unmarked in
+    let d = c .before .is-done in
+    answer-holds (five (c .before .before .before .before)) (r .result) (r .ensures) (test-passed (d .result) (isDone (r .result)) (d .ensures) (c .if1 .left)) refl
+
+rows-inside-requires : tie.Need-rows-inside-requires
+rows-inside-requires c κs = search needs
+
+returns-2 : tie.Need-returns-2
+returns-2 c =
+    λ M e f.
+    let d = c .before .before in
+    let s = d .before .before .before .before in
+    let a = s .args in
+    let i = c .before .rows-inside in
+    answer-second (five s) (six s) (seven s M ∷ []) (five-holds d)
+    (test-failed (i .result) (inside (a .len) (a .base) (a .stride) (a .rows) (a .cols * a .w)) (i .ensures) (c .if2 .taken))
+
+-- 6 passed
+six-holds : (c : tie.Else2) → six (c .before .before .before .before .before .before) .holds ≡ true
+six-holds c =
+    let a = c .before .before .before .before .before .before .args in
+    let i = c .before .rows-inside in
+    test-passed (i .result) (inside (a .len) (a .base) (a .stride) (a .rows) (a .cols * a .w)) (i .ensures) (c .if2 .left)
+
+rows-unsealed-requires : tie.Need-rows-unsealed-requires
+rows-unsealed-requires c κs =
+    let s = c .before .before .before .before .before .before in
+    (six-holds c, (s .pre .1 .1, omega (arith, s .good .0 .1, mul-le-mul-left (s .args .rows) (s .pre .1 .0))))
+
+returns-3 : tie.Need-returns-3
+returns-3 c =
+    λ M e f.
+    let g = c .before .before in
+    let d = g .before .before in
+    let s = d .before .before .before .before in
+    let a = s .args in
+    let u = c .before .rows-unsealed in
+    answer-third (five s) (six s) (seven s M) [] (five-holds d) (six-holds g)
+    (test-failed (u .result) (unsealed M (a .base) (a .stride) (a .rows) (a .cols * a .w)) (u .ensures M e f) (c .if3 .taken))
+
+returns-4 : tie.Need-returns-4
+returns-4 c =
+    λ M e f.
+    let g = c .before .before in
+    let d = g .before .before in
+    let s = d .before .before .before .before in
+    let a = s .args in
+    let u = c .before .rows-unsealed in
+    let h = test-passed (u .result) (unsealed M (a .base) (a .stride) (a .rows) (a .cols * a .w)) (u .ensures M e f) (c .if3 .left) in
+    sym (no-refusal (five s ∷ six s ∷ seven s M ∷ []) (five-holds d, (six-holds g, (h, tt))))
+
+pub store-checked-spec : {M : Type 1} → statement M
+store-checked-spec =
+    tie.close
+    (tie.spec
+    mul-bytes
+    first-unmarked-requires
+    is-done-requires
+    returns
+    rows-inside-requires
+    returns-2
+    rows-unsealed-requires
+    returns-3
+    returns-4)

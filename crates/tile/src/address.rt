@@ -1,0 +1,132 @@
+// Where the rows of a tile lie in memory: row i at base + i * stride. The stride is signed, so rows go down as well as up.
+ghost use mathlib.Core.Path.{_≡_};
+ghost use mathlib.Core.Bool.{true, false};
+ghost use Prim.Native.Nat.{_+_, _*_, _^_, _<_};
+ghost use lib.Dec.{leb};
+ghost use lib.IntN.{pos, natAbs, _+ℤ_, _*ℤ_};
+ghost use Rattle.width.specs.Reduce.{signed};
+ghost use Rattle.machine.specs.Geometry.{Parameters};
+ghost use Rattle.machine.specs.Memory.{address, inMemory, inside, clear, unsealed};
+
+// The signed number that the 64 bits of x stand for.
+pub fn as_signed(x: u64) -> i64
+    ensures { λ r. ⌜ r ≡ signed (2 ^ 64) x ⌝ }
+{
+    if x < 9223372036854775808 {
+        x as i64
+    } else {
+        -1 - ((18446744073709551615 - x) as i64)
+    }
+}
+
+// How far z is from 0.
+pub fn magnitude(z: i64) -> usize
+    ensures { λ r. ⌜ r ≡ natAbs z ⌝ }
+{
+    if z < 0 {
+        ((-1 - z) as usize) + 1
+    } else {
+        z as usize
+    }
+}
+
+// Where a row starts: the signed product of row and stride away from base. The product is bounded before it is formed (is_bounded),
+// and the row starts at 0 or above.
+pub fn row_address(base: usize, stride: i64, row: usize) -> usize
+    requires { ⌜ row < 2 ^ 63 ⌝ }
+    requires { ⌜ natAbs stride * row < 2 ^ 63 ⌝ }
+    requires { ⌜ inMemory (2 ^ 64) (pos base +ℤ pos row *ℤ stride) ≡ true ⌝ }
+    ensures { λ r. ⌜ r ≡ address (pos base +ℤ pos row *ℤ stride) ⌝ }
+{
+    let distance = (row as i64) * stride;
+    if distance < 0 {
+        return base - magnitude(distance);
+    }
+    base + magnitude(distance)
+}
+
+// Whether the row times the stride is at most room away from 0: a bound by division, with no product.
+pub fn is_bounded(stride: i64, row: usize, room: usize) -> bool
+    ensures { λ r. ⌜ r ≡ leb (natAbs stride * row) room ⌝ }
+{
+    if row == 0 {
+        return true;
+    }
+    magnitude(stride) <= room / row
+}
+
+// Whether the rows, of so many bytes each, lie in a memory of len bytes: the first does, and the last is not too far from it.
+pub fn rows_inside(len: usize, base: usize, stride: u64, rows: usize, bytes: usize) -> bool
+    ensures { λ r. ⌜ r ≡ inside len base stride rows bytes ⌝ }
+{
+    if bytes == 0 {
+        return true;
+    }
+    if rows == 0 {
+        return true;
+    }
+    if bytes > len {
+        return false;
+    }
+    let end = len - bytes;
+    if base > end {
+        return false;
+    }
+    let step = as_signed(stride);
+    if step < 0 {
+        return is_bounded(step, rows - 1, base);
+    }
+    is_bounded(step, rows - 1, end - base)
+}
+
+// Whether the n bytes from p on and the seal share none.
+pub fn is_clear(seal: u64, size: u64, p: usize, n: usize) -> bool
+    requires { ⌜ p + n < 2 ^ 64 ⌝ }
+    ensures { λ r. ⌜ ((M : Parameters) → M .sealAt ≡ seal → M .sealLen ≡ size → r ≡ clear M p n) ⌝ }
+{
+    if n == 0 {
+        return true;
+    }
+    if size == 0 {
+        return true;
+    }
+    let first = p as u64;
+    let end = (p + n) as u64;
+    if end <= seal {
+        return true;
+    }
+    if first < seal {
+        return false;
+    }
+    let last = size - 1;
+    first - seal > last
+}
+
+// Whether no byte of the rows, which lie in memory, is sealed.
+pub fn rows_unsealed(
+    len: usize,
+    seal: u64,
+    size: u64,
+    base: usize,
+    stride: u64,
+    rows: usize,
+    bytes: usize,
+) -> bool
+    requires { ⌜ inside len base stride rows bytes ≡ true ⌝ }
+    requires { ⌜ len < 2 ^ 63 ⌝ }
+    requires { ⌜ rows * bytes < 2 ^ 63 ⌝ }
+    ensures { λ r. ⌜ ((M : Parameters) → M .sealAt ≡ seal → M .sealLen ≡ size → r ≡ unsealed M base stride rows bytes) ⌝ }
+{
+    if bytes == 0 {
+        return true;
+    }
+    let mut i = 0;
+    while i < rows {
+        let at = row_address(base, as_signed(stride), i);
+        if !is_clear(seal, size, at, bytes) {
+            return false;
+        }
+        i += 1;
+    }
+    true
+}

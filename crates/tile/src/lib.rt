@@ -1,0 +1,287 @@
+// Tiles between memory and the registers, their marks, and the checks on them. Row i of a tile starts in the registers at
+// start + i * pitch, and in memory at base + i * stride, where the stride is the signed number of its 64 bits.
+use address::as_signed;
+use address::row_address;
+use address::rows_inside;
+use address::rows_unsealed;
+use machine::Answer;
+use row::mark_row;
+use row::row_marked;
+use row::write_row;
+ghost use mathlib.Core.Path.{_≡_};
+ghost use mathlib.Core.Bool.{true, false, cond};
+ghost use mathlib.Core.List.{[], _∷_};
+ghost use Prim.Native.Nat.{_+_, _*_, _^_, _≤_, _<_};
+ghost use lib.Dec.{ltb};
+ghost use lib.ListN.{length};
+ghost use Rattle.width.specs.Tile.{putTile, markTile};
+ghost use Rattle.machine.specs.Tests.{allOf};
+ghost use Rattle.machine.specs.Geometry.{Parameters};
+ghost use Rattle.machine.specs.Memory.{rowAt, inside};
+ghost use Rattle.machine.specs.Operation.{element};
+ghost use Rattle.machine.specs.Refusals.{needs};
+ghost use Rattle.machine.specs.declared.Answer.the-variants.{OutsideMemory};
+ghost use Rattle.machine.specs.Answers.{verdict, isDone, _otherwise_};
+ghost use Rattle.tile.specs.Checks.{storeChecks};
+
+pub mod address; // rows in memory, and the seal
+mod row; // one row: its bytes and its marks
+
+// Whether every mark is 0 or 1: the largest is kept, without a way out of the loop, and tested at the end.
+pub fn marks_sound(marks: &[u8]) -> bool
+    ensures { λ r. ⌜ r ≡ allOf (λ mark. ltb mark 2) (now (marks .entry)) ⌝ }
+{
+    let mut most = 0;
+    let mut i = 0;
+    while i < marks.len() {
+        let mark = marks[i];
+        if mark > most {
+            most = mark;
+        }
+        i += 1;
+    }
+    most < 2
+}
+
+// The answer of the check of a tile's marks: Done, or the first element with a byte without a mark. Rows with all their marks are
+// passed over whole.
+pub fn first_unmarked(
+    marks: &[u8],
+    start: usize,
+    pitch: usize,
+    rows: usize,
+    cols: usize,
+    w: usize,
+) -> Answer
+    requires { ⌜ start + rows * pitch ≤ length (now marks) ⌝ }
+    requires { ⌜ cols * w ≤ pitch ⌝ }
+    ensures { λ r. ⌜ r ≡ verdict (needs false (now (marks .entry)) (λ i. start + i * pitch) rows cols w ∷ []) ⌝ }
+{
+    let mut found = Answer::Done;
+    let mut first = start;
+    let mut i = 0;
+    'tile: while i < rows {
+        if row_marked(marks, first, cols * w) {
+            first += pitch;
+            i += 1;
+            continue 'tile;
+        }
+        let mut at = first;
+        let mut j = 0;
+        while j < cols {
+            if !row_marked(marks, at, w) {
+                found = Answer::Unwritten {
+                    row: i as u64,
+                    column: j as u64,
+                };
+                break 'tile;
+            }
+            at += w;
+            j += 1;
+        }
+        first += pitch;
+        i += 1;
+    }
+    found
+}
+
+// Marks the rows of n bytes.
+pub fn mark_tile(marks: &mut [u8], start: usize, pitch: usize, rows: usize, n: usize)
+    requires { ⌜ start + rows * pitch ≤ length (now marks) ⌝ }
+    requires { ⌜ n ≤ pitch ⌝ }
+    ensures { λ _. ⌜ now (marks .exit) ≡ markTile (λ i. start + i * pitch) rows n (now (marks .entry)) ⌝ }
+{
+    let mut to = start;
+    let mut i = 0;
+    while i < rows {
+        mark_row(&mut marks[to..], n);
+        to += pitch;
+        i += 1;
+    }
+}
+
+// Copies the rows of a tile that lie in memory to the registers.
+fn load_tile(
+    registers: &mut [u8],
+    memory: &[u8],
+    start: usize,
+    pitch: usize,
+    base: u64,
+    stride: u64,
+    rows: usize,
+    cols: usize,
+    w: usize,
+)
+    requires { ⌜ start + rows * pitch ≤ length (now registers) ⌝ }
+    requires { ⌜ cols * w ≤ pitch ⌝ }
+    requires { ⌜ inside (length (now memory)) base stride rows (cols * w) ≡ true ⌝ }
+    ensures { λ _. ⌜ now (registers .exit) ≡ putTile (λ i. start + i * pitch) rows cols w (element (now (memory .entry)) (rowAt base stride) w) (now (registers .entry)) ⌝ }
+{
+    let bytes = cols * w;
+    if bytes == 0 {
+        return;
+    }
+    let mut to = start;
+    let mut i = 0;
+    while i < rows {
+        let from = row_address(base as usize, as_signed(stride), i);
+        let end = from + bytes;
+        write_row(&mut registers[to..], &memory[from..end]);
+        to += pitch;
+        i += 1;
+    }
+}
+
+// Copies the rows of a tile from the registers to where they lie in memory, upward.
+fn store_tile(
+    memory: &mut [u8],
+    registers: &[u8],
+    start: usize,
+    pitch: usize,
+    base: u64,
+    stride: u64,
+    rows: usize,
+    cols: usize,
+    w: usize,
+)
+    requires { ⌜ start + rows * pitch ≤ length (now registers) ⌝ }
+    requires { ⌜ cols * w ≤ pitch ⌝ }
+    requires { ⌜ inside (length (now memory)) base stride rows (cols * w) ≡ true ⌝ }
+    ensures { λ _. ⌜ now (memory .exit) ≡ putTile (rowAt base stride) rows cols w (element (now (registers .entry)) (λ i. start + i * pitch) w) (now (memory .entry)) ⌝ }
+{
+    let bytes = cols * w;
+    if bytes == 0 {
+        return;
+    }
+    let mut from = start;
+    let mut i = 0;
+    while i < rows {
+        let to = row_address(base as usize, as_signed(stride), i);
+        let end = from + bytes;
+        write_row(&mut memory[to..], &registers[from..end]);
+        from += pitch;
+        i += 1;
+    }
+}
+
+// Whether nothing was refused.
+pub fn is_done(answer: Answer) -> bool
+    ensures { λ r. ⌜ r ≡ isDone answer ⌝ }
+{
+    match answer {
+        Answer::Done => true,
+        Answer::IllegalWord => false,
+        Answer::IllegalType => false,
+        Answer::BadWidth => false,
+        Answer::TileTooLarge => false,
+        Answer::Unwritten { row: _, column: _ } => false,
+        Answer::OutsideMemory => false,
+        Answer::SealedByte => false,
+        Answer::BadArguments => false,
+        Answer::Overlap => false,
+    }
+}
+
+// Loads a tile and marks it, or answers 6.
+pub fn load(
+    registers: &mut [u8],
+    marks: &mut [u8],
+    memory: &[u8],
+    start: usize,
+    pitch: usize,
+    base: u64,
+    stride: u64,
+    rows: usize,
+    cols: usize,
+    w: usize,
+) -> Answer
+    requires { ⌜ start + rows * pitch ≤ length (now registers) ⌝ }
+    requires { ⌜ length (now marks) ≡ length (now registers) ⌝ }
+    requires { ⌜ cols * w ≤ pitch ⌝ }
+    ensures { λ r. ⌜ r ≡ verdict ((inside (length (now (memory .entry))) base stride rows (cols * w) otherwise OutsideMemory) ∷ []) ⌝ }
+    ensures { λ r. ⌜ now (registers .exit) ≡ cond (isDone r) (putTile (λ i. start + i * pitch) rows cols w (element (now (memory .entry)) (rowAt base stride) w) (now (registers .entry))) (now (registers .entry)) ⌝ }
+    ensures { λ r. ⌜ now (marks .exit) ≡ cond (isDone r) (markTile (λ i. start + i * pitch) rows (cols * w) (now (marks .entry))) (now (marks .entry)) ⌝ }
+{
+    let len = memory.len();
+    if !rows_inside(len, base as usize, stride, rows, cols * w) {
+        return Answer::OutsideMemory;
+    }
+    load_tile(registers, memory, start, pitch, base, stride, rows, cols, w);
+    mark_tile(marks, start, pitch, rows, cols * w);
+    Answer::Done
+}
+
+// The checks of a store to a memory of len bytes: answer 5, 6, 7 or Done.
+fn store_checked(
+    marks: &[u8],
+    len: usize,
+    seal: u64,
+    size: u64,
+    start: usize,
+    pitch: usize,
+    base: u64,
+    stride: u64,
+    rows: usize,
+    cols: usize,
+    w: usize,
+) -> Answer
+    requires { ⌜ start + rows * pitch ≤ length (now marks) ⌝ }
+    requires { ⌜ cols * w ≤ pitch ⌝ }
+    requires { ⌜ len < 2 ^ 63 ⌝ }
+    ensures { λ r. ⌜ ((M : Parameters) → M .sealAt ≡ seal → M .sealLen ≡ size → r ≡ verdict (storeChecks M (now (marks .entry)) start pitch len base stride rows cols w)) ⌝ }
+{
+    let bytes = cols * w;
+    let at = base as usize;
+    let written = first_unmarked(marks, start, pitch, rows, cols, w);
+    if !is_done(written) {
+        return written;
+    }
+    if !rows_inside(len, at, stride, rows, bytes) {
+        return Answer::OutsideMemory;
+    }
+    if !rows_unsealed(len, seal, size, at, stride, rows, bytes) {
+        return Answer::SealedByte;
+    }
+    Answer::Done
+}
+
+// Stores a tile, or answers 5, 6 or 7.
+pub fn store(
+    registers: &[u8],
+    marks: &[u8],
+    memory: &mut [u8],
+    seal: u64,
+    size: u64,
+    start: usize,
+    pitch: usize,
+    base: u64,
+    stride: u64,
+    rows: usize,
+    cols: usize,
+    w: usize,
+) -> Answer
+    requires { ⌜ start + rows * pitch ≤ length (now registers) ⌝ }
+    requires { ⌜ length (now marks) ≡ length (now registers) ⌝ }
+    requires { ⌜ cols * w ≤ pitch ⌝ }
+    ensures { λ r. ⌜ ((M : Parameters) → M .sealAt ≡ seal → M .sealLen ≡ size → r ≡ verdict (storeChecks M (now (marks .entry)) start pitch (length (now (memory .entry))) base stride rows cols w)) ⌝ }
+    ensures { λ r. ⌜ now (memory .exit) ≡ cond (isDone r) (putTile (rowAt base stride) rows cols w (element (now (registers .entry)) (λ i. start + i * pitch) w) (now (memory .entry))) (now (memory .entry)) ⌝ }
+{
+    let answer = store_checked(
+        marks,
+        memory.len(),
+        seal,
+        size,
+        start,
+        pitch,
+        base,
+        stride,
+        rows,
+        cols,
+        w,
+    );
+    if !is_done(answer) {
+        return answer;
+    }
+    store_tile(memory, registers, start, pitch, base, stride, rows, cols, w);
+    Answer::Done
+}

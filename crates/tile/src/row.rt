@@ -1,0 +1,96 @@
+// One row: its bytes are written, and its marks are set and tested.
+ghost use mathlib.Core.Path.{_≡_};
+ghost use Prim.Native.Nat.{_+_, _-_, _≤_};
+ghost use lib.Dec.{eqb};
+ghost use lib.ListN.{length, getD, set};
+ghost use Rattle.width.specs.Upto.{upto};
+ghost use Rattle.width.specs.Tile.{markRow};
+ghost use Rattle.machine.specs.Tests.{all};
+
+// Copies the eight bytes from i on, all read before any is written: one move of eight bytes, with no test for overlap.
+pub fn copy_eight(dst: &mut [u8], src: &[u8], i: usize)
+    requires { ⌜ i + 8 ≤ length (now dst) ⌝ }
+    requires { ⌜ i + 8 ≤ length (now src) ⌝ }
+    ensures { λ _. ⌜ now (dst .exit) ≡ upto 8 (λ b ys. set ys (i + b) (getD (now (src .entry)) (i + b) 0)) (now (dst .entry)) ⌝ }
+{
+    let a = src[i];
+    let b = src[i + 1];
+    let c = src[i + 2];
+    let d = src[i + 3];
+    let e = src[i + 4];
+    let f = src[i + 5];
+    let g = src[i + 6];
+    let h = src[i + 7];
+    dst[i] = a;
+    dst[i + 1] = b;
+    dst[i + 2] = c;
+    dst[i + 3] = d;
+    dst[i + 4] = e;
+    dst[i + 5] = f;
+    dst[i + 6] = g;
+    dst[i + 7] = h;
+}
+
+// Copies src by eights, and says how many bytes that were.
+pub fn copy_eights(dst: &mut [u8], src: &[u8]) -> usize
+    requires { ⌜ length (now src) ≤ length (now dst) ⌝ }
+    ensures { λ r. ⌜ r ≤ length (now (src .entry)) ⌝ }
+    ensures { λ r. ⌜ now (dst .exit) ≡ upto r (λ b ys. set ys b (getD (now (src .entry)) b 0)) (now (dst .entry)) ⌝ }
+{
+    let mut i = 0;
+    while src.len() - i >= 8 {
+        copy_eight(dst, src, i);
+        i += 8;
+    }
+    i
+}
+
+// Copies the bytes of src from index done on.
+pub fn copy_rest(dst: &mut [u8], src: &[u8], done: usize)
+    requires { ⌜ length (now src) ≤ length (now dst) ⌝ }
+    requires { ⌜ done ≤ length (now src) ⌝ }
+    ensures { λ _. ⌜ now (dst .exit) ≡ upto (length (now (src .entry)) - done) (λ b ys. set ys (done + b) (getD (now (src .entry)) (done + b) 0)) (now (dst .entry)) ⌝ }
+{
+    let mut i = done;
+    while i < src.len() {
+        dst[i] = src[i];
+        i += 1;
+    }
+}
+
+// The row writer: copies all of src to the front of dst.
+pub fn write_row(dst: &mut [u8], src: &[u8])
+    requires { ⌜ length (now src) ≤ length (now dst) ⌝ }
+    ensures { λ _. ⌜ now (dst .exit) ≡ upto (length (now (src .entry))) (λ b ys. set ys b (getD (now (src .entry)) b 0)) (now (dst .entry)) ⌝ }
+{
+    let done = copy_eights(dst, src);
+    copy_rest(dst, src, done);
+}
+
+// Sets the first n marks.
+pub fn mark_row(dst: &mut [u8], n: usize)
+    requires { ⌜ n ≤ length (now dst) ⌝ }
+    ensures { λ _. ⌜ now (dst .exit) ≡ markRow 0 n (now (dst .entry)) ⌝ }
+{
+    let mut i = 0;
+    while i < n {
+        dst[i] = 1;
+        i += 1;
+    }
+}
+
+// Whether the n marks from p on are all 1, without a way out of the loop.
+pub fn row_marked(marks: &[u8], p: usize, n: usize) -> bool
+    requires { ⌜ p + n ≤ length (now marks) ⌝ }
+    ensures { λ r. ⌜ r ≡ all n (λ b. eqb (getD (now (marks .entry)) (p + b) 0) 1) ⌝ }
+{
+    let mut good = true;
+    let mut i = 0;
+    while i < n {
+        if marks[p + i] != 1 {
+            good = false;
+        }
+        i += 1;
+    }
+    good
+}
