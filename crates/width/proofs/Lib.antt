@@ -8,3 +8,4 @@ pub mod PartLaws
 pub mod PutLaws
 pub mod ElementLaws
 pub mod SumLaws
+pub mod WordLaws

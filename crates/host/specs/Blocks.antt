@@ -1,0 +1,66 @@
+-- Numbers as the host passes them: the machine's numbers and the scalars in blocks of bytes, an answer in one number.
+-- 01, "What a machine is": "The bench host is written in C and passes numbers and byte buffers, so stepping is offered to it in that
+-- form too". The layout of the blocks is DESIGN's, section 6.
+use mathlib.Core.List.{List, [], _∷_, _++_}
+use Prim.Native.Nat.{ℕ, _+_, _*_, _%_, _^_}
+use lib.ListN.{getD}
+use Rattle.width.specs.Upto.{upto}
+use Rattle.width.specs.Tile.{le, putLe, putRow}
+use Rattle.machine.specs.declared.Machine.{Machine}
+use Rattle.machine.specs.declared.Answer.{Answer}
+use Rattle.machine.specs.Answers.{number, rowOf, columnOf}
+
+-- ---- the machine's block
+
+-- DESIGN: "`machine`: .. 64, eight u64 low byte first, in the order of section 2"
+abbrev pub machineBytes : ℕ
+machineBytes = 64
+
+unfoldable pub machineOf : List ℕ → Machine
+machineOf block = record {
+  rlen = le block 0 8;
+  mlen = le block 8 8;
+  mtype = le block 16 8;
+  «tile_m» = le block 24 8;
+  «tile_k» = le block 32 8;
+  «tile_n» = le block 40 8;
+  «seal_start» = le block 48 8;
+  «seal_length» = le block 56 8;
+}
+
+-- the numbers of a machine written over a block, each where machineOf reads it
+unfoldable pub putMachine : Machine → List ℕ → List ℕ
+putMachine m block =
+    putLe 56 8 (m .«seal_length»)
+    (putLe 48 8 (m .«seal_start»)
+    (putLe 40 8 (m .«tile_n»)
+    (putLe 32 8 (m .«tile_k»)
+    (putLe 24 8 (m .«tile_m»)
+    (putLe 16 8 (m .mtype)
+    (putLe 8 8 (m .mlen)
+    (putLe 0 8 (m .rlen) block)))))))
+
+-- ---- the scalars' block
+
+-- 01: "thirty-two scalar values of 64 bits", "the scalars as 256 bytes, low byte first"
+abbrev pub scalarBytes : ℕ
+scalarBytes = 256
+
+-- the first n values; DESIGN: "slot s at 8·s, low byte first"
+abbrev pub firstValues : ℕ → List ℕ → List ℕ
+firstValues n block = upto n (λ s values. values ++ (le block (s * 8) 8 ∷ [])) []
+
+unfoldable pub valuesOf : List ℕ → List ℕ
+valuesOf block = firstValues 32 block
+
+-- the values written over a block, each where valuesOf reads it
+unfoldable pub putValues : List ℕ → List ℕ → List ℕ
+putValues values block = putRow 0 32 8 (λ s. getD values s 0) block
+
+-- ---- an answer as one number
+
+-- DESIGN: "A result packs answer | row << 16 | column << 32 (row and column 0 unless the answer is 5)."
+-- The function takes every Answer, whose row and column are any u64, so each is cut to its 16 bits. No real answer loses by it: a tile
+-- has at most 64 rows and 64 columns.
+abbrev pub packed : Answer → ℕ
+packed a = number a + rowOf a % 2 ^ 16 * 2 ^ 16 + columnOf a % 2 ^ 16 * 2 ^ 32
