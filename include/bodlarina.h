@@ -1,0 +1,92 @@
+/* Bodlarina: a simulator of the integer part of the RISC-V Matrix Specification 0.2, for a host in C.
+ *
+ * The library holds nothing. The host owns every buffer and lends it for one call; a call allocates nothing,
+ * keeps nothing and calls nothing back. Each function is proved to do what its definition says for EVERY
+ * argument, so a wrong length or a damaged block is answered and never undefined. The host has to ensure only
+ * that
+ *   - each pointer points to as many readable (and, unless const, writable) bytes as the length beside it says,
+ *     and is not NULL, not even at length 0;
+ *   - the buffers of one call do not overlap.
+ *
+ * Every function returns a result: answer, row and column in one number (below).
+ * A REFUSAL, a result other than 0, CHANGES NO BYTE OF ANY BUFFER.
+ */
+#ifndef BODLARINA_H
+#define BODLARINA_H
+
+#include <stddef.h>
+#include <stdint.h>
+
+#ifdef __cplusplus
+extern "C" {
+#endif
+
+/* ---- Results ---------------------------------------------------------------------------------------------- */
+
+/* Bits 15..0 of a result are the answer, bits 31..16 the row and bits 47..32 the column that answer 5 names.
+ * Row and column are 0 with every other answer. So a call is done exactly when its result is 0. */
+#define BODLARINA_ANSWER(result) ((unsigned)((result) & 0xffffu))
+#define BODLARINA_ROW(result) ((unsigned)(((result) >> 16) & 0xffffu))
+#define BODLARINA_COLUMN(result) ((unsigned)(((result) >> 32) & 0xffffu))
+
+#define BODLARINA_DONE 0u           /* done */
+#define BODLARINA_ILLEGAL_WORD 1u   /* no instruction of ours: wrong opcode, code, register field or fixed bits */
+#define BODLARINA_ILLEGAL_TYPE 2u   /* mtype is illegal (bit 63, mill), and the word isn't msettype or msettypei */
+#define BODLARINA_BAD_WIDTH 3u      /* an element width that mtype does not allow here */
+#define BODLARINA_TILE_TOO_LARGE 4u /* a tile size that the instruction uses is above its maximum under mtype */
+#define BODLARINA_UNWRITTEN 5u      /* a register element to be read has a byte that was never written;
+                                       row and column name the first one, sources in the order ms1, ms2, md */
+#define BODLARINA_OUTSIDE_MEMORY 6u /* a byte of an element lies outside memory */
+#define BODLARINA_SEALED_BYTE 7u    /* a store would write a sealed byte */
+#define BODLARINA_BAD_ARGUMENTS 8u  /* arguments: a block or buffer of the wrong length, or numbers that no machine
+                                       can have */
+
+/* ---- Buffers ---------------------------------------------------------------------------------------------- */
+
+/* machine: eight numbers of 64 bits, each low byte first, at bytes 0, 8, .., 56:
+ *   RLEN, MLEN (in bits), mtype, tile_m, tile_k, tile_n, the seal's start and its length.
+ * bodlarina_start writes them; the host may read, keep and copy the block. */
+#define BODLARINA_MACHINE_BYTES 64
+
+/* registers and marks: BODLARINA_REGISTER_BYTES(MLEN) bytes each. The registers lie one after another,
+ * row by row: tr0 .. tr7 of MLEN/8 bytes in rows of RLEN/8, then acc0 and acc1 of MLEN/2 bytes in rows of RLEN/2.
+ * Element (i, j) of w bits starts at byte j * w/8 of row i, low byte first. The mark of a register byte stands at
+ * the same place in marks: 1 written, 0 not; any other value is answered with 8. */
+#define BODLARINA_REGISTER_BYTES(mlen) (2 * (size_t)(mlen))
+
+/* scalars: x0 .. x31 of 64 bits, slot s at byte 8 * s, low byte first. Slot 0 is read as 0 whatever it holds and
+ * is never written. A stride is a signed number in two's complement. */
+#define BODLARINA_SCALAR_BYTES 256
+
+/* memory: any number of bytes; address 0 is the first. */
+
+/* ---- A machine -------------------------------------------------------------------------------------------- */
+
+/* Starts a machine: every mark becomes 0, mtype and the tile sizes become 0, the register bytes stay, and the
+ * machine block is written. The seal is the range of memory that no store of this machine may change; length 0
+ * seals nothing, and it may reach past the end of memory. What marks and machine held before does not matter.
+ *   rlen   64, 128, 256 or 512
+ *   mlen   128, 256, 512, 1024, 2048 or 4096, above rlen
+ * Answers: 0; 8 for other lengths, a buffer of the wrong size, or seal_start + seal_length above 2^64 - 1. */
+uint64_t bodlarina_start(uint64_t rlen, uint64_t mlen, uint64_t seal_start, uint64_t seal_length,
+                         uint8_t *machine, size_t machine_len,
+                         const uint8_t *registers, size_t registers_len,
+                         uint8_t *marks, size_t marks_len);
+
+/* Carries out one instruction word. rs1 and rs2 are read from scalars, rd is written there.
+ * Answers: 0 to 8, the first that applies in the order 8, then 1 to 7. 8 means that the state is at fault:
+ * lengths that are not permitted, a buffer of the wrong size, an mtype that cannot arise, a tile size above its
+ * maximum at 8 bits, a seal whose end is above 2^64 - 1, or a mark other than 0 and 1. With buffers of the right
+ * size, a started machine that nothing but these functions has written never gets 8. */
+uint64_t bodlarina_step(uint32_t word,
+                        uint8_t *machine, size_t machine_len,
+                        uint8_t *registers, size_t registers_len,
+                        uint8_t *marks, size_t marks_len,
+                        uint8_t *scalars, size_t scalars_len,
+                        uint8_t *memory, size_t memory_len);
+
+#ifdef __cplusplus
+}
+#endif
+
+#endif
