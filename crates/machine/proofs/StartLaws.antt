@@ -24,10 +24,10 @@ permitted-by r m true false p q = rw (p, q)
 permitted-by r m false b p q = rw p
 
 -- the seal's end, without a sum that could wrap
-pub seal-fits : (start length : ℕ) → start ≤ 2 ^ 64 - 1 → leb length (2 ^ 64 - 1 - start) ≡ sealEnds start length && true
-seal-fits start length h = same-test (leb length (2 ^ 64 - 1 - start)) (sealEnds start length && true)
-    (λ t. and-true (sealEnds start length) true (le-leb (start + length) (2 ^ 64 - 1) (omega (arith, leb-true length (2 ^ 64 - 1 - start) t))) refl)
-    (λ t. le-leb length (2 ^ 64 - 1 - start) (omega (arith, leb-true (start + length) (2 ^ 64 - 1) (and-left (sealEnds start length) true t))))
+pub seal-fits : (start size : ℕ) → start ≤ 2 ^ 64 - 1 → leb size (2 ^ 64 - 1 - start) ≡ sealEnds start size && true
+seal-fits start size h = same-test (leb size (2 ^ 64 - 1 - start)) (sealEnds start size && true)
+    (λ t. and-true (sealEnds start size) true (le-leb (start + size) (2 ^ 64 - 1) (omega (arith, leb-true size (2 ^ 64 - 1 - start) t))) refl)
+    (λ t. le-leb size (2 ^ 64 - 1 - start) (omega (arith, leb-true (start + size) (2 ^ 64 - 1) (and-left (sealEnds start size) true t))))
 
 -- the lengths of the lent buffers decide
 pub startable-by : (rlen mlen sealStart sealLength : ℕ) (registers marks : List ℕ) (p q r s : Bool)

@@ -1,6 +1,6 @@
 -- 01, "The unit and its papers": the listing of section 4.5 of source document 000, as data, and the decoding of a word by
 -- look-up in it. Of the listing only our instructions are here, with the numbers of their rows there. The damaged rows (msettilek,
--- mlbe32.m, msae8.m, msae16.m, msce32.m) are read by symmetry, and no code is given to two of our instructions (docs/DIFFERENCES.md).
+-- msettilen, mlbe32.m, msae8.m, msae16.m, msce32.m) are read by symmetry, and no code is given to two of our instructions (docs/DIFFERENCES.md).
 use mathlib.Core.Bool.{Bool, true, cond, _&&_}
 use mathlib.Core.List.{List, [], _∷_}
 use Prim.Native.Nat.{ℕ, _+_, _-_, _/_, _%_, _^_}

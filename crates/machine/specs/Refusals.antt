@@ -18,8 +18,8 @@ use Rattle.machine.specs.Memory.{inside, unsealed}
 use Rattle.machine.specs.Operation.{Operation, illegal, setType, setSize, keepSize, load, store, multiply, combine, scale, rowsOf, columnsOf, tileRows, tileCols}
 
 -- 1: a word that decodes to none of ours
-abbrev pub ours : Check
-ours = false otherwise IllegalWord
+abbrev pub known : Check
+known = false otherwise IllegalWord
 
 -- 2: "mill is set and the word isn't msettype or msettypei"
 abbrev pub typed : State → Check
@@ -65,7 +65,7 @@ isZero (negsuc n) = false
 
 -- 6: "an element's byte lies outside memory"; 7: "a store would write a sealed byte"; "sources go ms1, ms2, md"
 abbrev pub checks : Parameters → Operation → State → List ℕ → List Check
-checks M illegal st mem = ours ∷ []
+checks M illegal st mem = known ∷ []
 checks M (setType v) st mem = []
 checks M (setSize d a) st mem = typed st ∷ []
 checks M keepSize st mem = typed st ∷ []

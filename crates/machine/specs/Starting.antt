@@ -12,8 +12,8 @@ use Rattle.machine.specs.Tests.{every}
 use Rattle.machine.specs.Geometry.{permitted, registerBytes}
 
 -- "a seal whose end exceeds 2^64 - 1": this one doesn't
-abbrev pub sealEnds : (start length : ℕ) → Bool
-sealEnds start length = leb (start + length) (2 ^ 64 - 1)
+abbrev pub sealEnds : (start size : ℕ) → Bool
+sealEnds start size = leb (start + size) (2 ^ 64 - 1)
 
 -- "Starting a machine gives 8 for the same RLEN, MLEN and buffer faults, and for a seal whose end exceeds 2^64 - 1": none of these
 unfoldable pub startable : (rlen mlen sealStart sealLength : ℕ) → (registers marks : List ℕ) → Bool

@@ -262,9 +262,15 @@ module _ (grant : ℕ → ℕ → ℕ) (P : Plan) (B₀ : Bench) (R : Ready gran
   moves : (p : Place) (B : Bench) → Holds grant P B₀ p B → Moved p B (handsOut grant (at grant P B₀ p B .run))
   moves p B h = subst (Moved p B) (sym (hands p B h)) (go (one-word (S grant P B₀) p))
     where
+      done : (o : Op) → wordsAt (S grant P B₀) p ≡ o ∷ [] → stepped grant P B₀ o B .answer ≡ Done
+      done o e = elim (advance p B h .1) [
+        | inl z ↦ let n : _≡_ {A = ℕ} 0 1 = ap length (sym (ap (wordsAt (S grant P B₀)) z) ∙ e) in absurd (omega arith)
+        | inr d ↦ subst (λ (ws : List Op). turnWith grant (at grant P B₀ p B) ws .answer ≡ Done) (hands p B h ∙ e) d
+      ]
+
       go : (p ≡ AtEnd) ⊎ ((o : Op) × (wordsAt (S grant P B₀) p ≡ o ∷ [])) → Moved p B (wordsAt (S grant P B₀) p)
       go (inl e) = subst (λ (p : Place). Moved p B (wordsAt (S grant P B₀) p)) (sym e) refl
-      go (inr (o, e)) = subst (Moved p B) (sym e) refl
+      go (inr (o, e)) = subst (Moved p B) (sym e) (ap (λ (a : Answer). record { run = cond (isDone a) (at grant P B₀ (next (S grant P B₀) p) B .run) (at grant P B₀ p B .run); bench = stepped grant P B₀ o B .bench }) (done o e))
 
   -- only the place and the bench of a run change, and the invariant holds
   both : (t : ℕ) → (after t ≡ at grant P B₀ (placeAfter (S grant P B₀) t) (after t .bench)) × Holds grant P B₀ (placeAfter (S grant P B₀) t) (after t .bench)

@@ -89,17 +89,18 @@ pub record Turn : Type 0 where
   pub handed : List Handed
   pub after : Running
 
--- "In a turn a step is asked for and, if one is handed out, carried out with the run's own scalars."
-abbrev pub carry : (ℕ → ℕ → ℕ) → Answer → List Handed → Run → Bench → Turn
-carry grant a [] R B = record { answer = a; handed = []; after = record { run = R; bench = B } }
-carry grant a (h ∷ hs) R B =
+-- "In a turn a step is asked for and, if one is handed out, carried out with the run's own scalars." A step that is refused leaves
+-- the place where it was too: "A refusal changes nothing lent or held."
+abbrev pub carry : (ℕ → ℕ → ℕ) → Answer → List Handed → Run → Run → Bench → Turn
+carry grant a [] R R′ B = record { answer = a; handed = []; after = record { run = R; bench = B } }
+carry grant a (h ∷ hs) R R′ B =
     let out : Outcome = stepBy grant (h .word) (own h) B in
-    record { answer = out .answer; handed = h ∷ []; after = record { run = R; bench = out .bench } }
+    record { answer = out .answer; handed = h ∷ []; after = record { run = cond (isDone (out .answer)) R′ R; bench = out .bench } }
 
 abbrev pub turnWith : (ℕ → ℕ → ℕ) → Running → List Op → Turn
 turnWith grant r os =
     let a : Ask = askWith grant (r .run) os in
-    carry grant (a .answer) (a .handed) (a .run) (r .bench)
+    carry grant (a .answer) (a .handed) (r .run) (a .run) (r .bench)
 
 abbrev pub turn : (ℕ → ℕ → ℕ) → Running → Turn
 turn grant r = turnWith grant r (handsOut grant (r .run))
