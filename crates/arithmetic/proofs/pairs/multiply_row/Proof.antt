@@ -1,15 +1,10 @@
 -- The row of C, then the products in pairs, then the row stored.
 use native.Mathlib.Omega.{arith}
-use mathlib.Core.Path.{refl, ap, _∙_}
+use mathlib.Core.Path.{refl, _∙_}
 use mathlib.Core.Logic.{inr}
-use Prim.Native.Nat.{ℕ, _+_, _*_, _<_}
-use lib.ListN.{getD, getD-replicate}
-use Rattle.width.specs.Tile.{le}
-use Rattle.width.proofs.TileLaws.{le-lt}
-use Rattle.width.proofs.ElementLaws.{putRow-cong}
-use Rattle.width.proofs.SumLaws.{one-times}
-use Rattle.machine.specs.Operation.{product}
-use Rattle.arithmetic.specs.Rows.{plusProduct, productRow}
+use Prim.Native.Nat.{ℕ, _<_}
+use lib.ListN.{getD}
+use Rattle.arithmetic.proofs.RowLaws.{row-of-products}
 use Rattle.arithmetic.proofs.PairLaws.{pairs-product}
 use borrow.Author.Needs.{needs}
 use Rattle.arithmetic.proofs.pairs.multiply_row.Statement.{statement}
@@ -57,14 +52,11 @@ returns c =
     let f = c .before .before .before .before .before .before .before .before .before .before .mac-row in
     let g = c .before .before .before .before .before .before .add-pairs in
     let bytes : (q : ℕ) → getD r q 0 < 256 = λ q. omega (arith, c .before .before .before .before .before .before .before .before .before .before .before .before .before .before .before .before .before .before .slice-known .given q) in
-    c .before .before .store-row .ensures
-    ∙ putRow-cong 4 (a .c) (a .n) (λ j. getD (g .last .0) j 0) (productRow r 4 (a .width) (a .pitch) (a .k) (a .a) (a .b) (a .c)) r
+    row-of-products 4 r (a .width) (a .pitch) (a .k) (a .a) (a .b) (a .c) (a .n) 68 (f .last .0) (g .last .0) (c .before .before .store-row .last .0) (omega arith) bytes
+    (λ j h. omega (arith, k .pre .0)) (f .ensures)
     (λ j h. g .ensures j h
-    ∙ pairs-product r bytes (a .width) (k .pre .1 .0) (a .a) (a .b) (a .pitch) (a .k) (a .n) (x .last .0) (a .bs .now) (x .ensures) (k .pre .1 .1 .1 .1) (getD (f .last .0) j 0) j h
-    ∙ ap (λ (o : ℕ). product 4 (a .width) (a .k) o (λ l. le r (a .a + l * a .width) (a .width)) (λ l. le r (a .b + l * a .pitch + j * a .width) (a .width)))
-    (f .ensures j h
-    ∙ ap (λ (v : ℕ). plusProduct 4 v 1 r (a .c + j * 4) 4) (getD-replicate 68 j 0 0 (omega (arith, k .pre .0)))
-    ∙ one-times 4294967296 (omega arith) (omega arith) (le r (a .c + j * 4) 4) (le-lt r bytes (a .c + j * 4) 4)))
+    ∙ pairs-product r bytes (a .width) (k .pre .1 .0) (a .a) (a .b) (a .pitch) (a .k) (a .n) (x .last .0) (a .bs .now) (x .ensures) (k .pre .1 .1 .1 .1) (getD (f .last .0) j 0) j h)
+    (c .before .before .store-row .ensures)
 
 pub multiply-row-spec : {M : Type 1} → statement M
 multiply-row-spec =

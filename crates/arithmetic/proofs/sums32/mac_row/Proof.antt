@@ -1,13 +1,12 @@
 -- The loop: below `j` the accumulators have their product, from `j` on they are as at entry.
 use native.Mathlib.Omega.{arith}
-use mathlib.Core.Path.{_≡_, refl, ap, _∙_}
+use mathlib.Core.Path.{_≡_, refl}
 use Prim.Native.Nat.{ℕ, _+_, _-_, _*_, _≤_, _<_}
 use native.Mathlib.Nat.{zero-mul}
 use lib.ListN.{length, getD, length-set}
-use Rattle.width.specs.Reduce.{reduce}
-use Rattle.width.proofs.SumLaws.{mac-is}
-use Rattle.arithmetic.specs.Rows.{signedLe, plusProduct}
+use Rattle.arithmetic.specs.Rows.{plusProduct}
 use Rattle.arithmetic.proofs.LoopLaws.{row-fits, next-row, set-below, set-above}
+use Rattle.arithmetic.proofs.RowLaws.{mac-turn}
 use borrow.Author.Needs.{needs}
 use Rattle.arithmetic.proofs.sums32.mac_row.Statement.{statement}
 use Rattle.arithmetic.proofs.sums32.mac_row.Tie as tie
@@ -73,10 +72,8 @@ loop-again c =
       omega (arith, next-row (l .j) (a .width)),
       simp length-set (omega arith),
       set-below (λ q. plusProduct 4 (getD (a .acc .now) q 0) (a .x) (a .s .now) (a .at + q * a .width) (a .width)) (l .acc) (l .j) v (omega (arith, k .pre .0)) (l .inv .3)
-          (mac-is 4294967296 (omega arith) v (getD (a .acc .now) (l .j) 0) (getD (l .acc) (l .j) 0) (c .before .before .wrapping-mul32 .result) (a .x) (c .before .before .before .read-signed .result)
-          (signedLe (a .s .now) (a .at + l .j * a .width) (a .width)) (c .wrapping-add-u32 .ensures) (c .before .before .wrapping-mul32 .ensures)
-          (c .before .before .before .read-signed .ensures ∙ ap (λ (p : ℕ). reduce 4294967296 (signedLe (a .s .now) p (a .width))) (l .inv .1))
-          (l .inv .4 (l .j) (omega arith)) (omega (arith, c .before .before .before .before .before .before .before .slice-known .given (l .j)))),
+          (mac-turn 4 (a .s .now) (a .width) (a .at + l .j * a .width) (l .from) v (getD (a .acc .now) (l .j) 0) (getD (l .acc) (l .j) 0) (c .before .before .wrapping-mul32 .result) (a .x) (c .before .before .before .read-signed .result)
+          (c .wrapping-add-u32 .ensures) (c .before .before .wrapping-mul32 .ensures) (c .before .before .before .read-signed .ensures) (l .inv .1) (l .inv .4 (l .j) (omega arith)) (omega (arith, c .before .before .before .before .before .before .before .slice-known .given (l .j)))),
       set-above (λ q. getD (a .acc .now) q 0) (l .acc) (l .j) v (l .inv .4),
     )
 

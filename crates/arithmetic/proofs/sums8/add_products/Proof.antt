@@ -4,13 +4,13 @@ use mathlib.Core.Path.{_≡_, refl, ap, _∙_}
 use Prim.Native.Nat.{ℕ, _+_, _-_, _*_, _≤_, _<_}
 use native.Mathlib.Nat.{zero-mul}
 use lib.ListN.{length, getD}
-use lib.IntN.{ℤ, _*ℤ_}
+use lib.IntN.{_*ℤ_}
 use Rattle.width.specs.Tile.{le}
-use Rattle.width.specs.Reduce.{signed, reduce}
-use Rattle.width.proofs.SumLaws.{sum-none, product-more}
+use Rattle.width.proofs.SumLaws.{sum-none}
 use Rattle.machine.specs.Operation.{product}
-use Rattle.arithmetic.specs.Rows.{signedLe, plusProduct}
+use Rattle.arithmetic.specs.Rows.{signedLe}
 use Rattle.arithmetic.proofs.LoopLaws.{row-fits, next-row}
+use Rattle.arithmetic.proofs.RowLaws.{product-added}
 use borrow.Author.Needs.{needs}
 use Rattle.arithmetic.proofs.sums8.add_products.Statement.{statement}
 use Rattle.arithmetic.proofs.sums8.add_products.Tie as tie
@@ -74,17 +74,13 @@ loop-again c =
     let a = d .before .before .before .before .args in
     let t = d .loop-test .taken in
     let m = c .before .before .mac-row in
-    let x = c .before .before .before .before .read-signed8 in
-    let A : ℕ → ℤ = λ t. signedLe (a .s .now) (a .a + t * 1) 1 in
-    let B : ℕ → ℕ → ℤ = λ q t. signedLe (a .s .now) (a .b + t * a .pitch + q * 1) 1 in (
+    let x = c .before .before .before .before .read-signed8 in (
       omega arith,
       omega (arith, next-row (l .l) 1),
       omega (arith, next-row (l .l) (a .pitch)),
       m .kept .0 ∙ l .inv .3,
-      λ q h. m .ensures q h
-          ∙ ap (λ (p : ℕ). plusProduct 1 (getD (l .acc) q 0) (x .result) (a .s .now) (p + q * 1) 1) (l .inv .2)
-          ∙ product-more 256 (omega arith) (signed 256 (getD (a .acc .now) q 0)) (A (l .l)) (B q (l .l)) (l .l) (λ t. A t *ℤ B q t) (getD (l .acc) q 0) (x .result) (l .inv .4 q h)
-          (x .ensures ∙ ap (λ (p : ℕ). reduce 256 (signedLe (a .s .now) p 1)) (l .inv .1)) refl,
+      λ q h. product-added 1 (a .s .now) 1 (a .pitch) (a .a) (a .b) q (l .l) (getD (a .acc .now) q 0) (getD (l .acc) q 0) (x .result) (l .from) (l .row) (getD (m .last .0) q 0)
+          (l .inv .4 q h) (x .ensures) (l .inv .1) (l .inv .2) (m .ensures q h),
     )
 
 same-length : tie.Need-same-length Inv-loop μ-loop

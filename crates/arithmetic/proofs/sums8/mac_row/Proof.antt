@@ -1,12 +1,11 @@
 -- The loop: below `j` the accumulators have their product, from `j` on they are as at entry.
 use native.Mathlib.Omega.{arith}
-use mathlib.Core.Path.{_≡_, refl, ap, _∙_}
+use mathlib.Core.Path.{_≡_, refl}
 use Prim.Native.Nat.{ℕ, _+_, _-_, _*_, _≤_, _<_}
 use lib.ListN.{length, getD, length-set}
-use Rattle.width.specs.Reduce.{reduce}
-use Rattle.width.proofs.SumLaws.{mac-is}
-use Rattle.arithmetic.specs.Rows.{signedLe, plusProduct}
+use Rattle.arithmetic.specs.Rows.{plusProduct}
 use Rattle.arithmetic.proofs.LoopLaws.{row-fits, next-row, set-below, set-above}
+use Rattle.arithmetic.proofs.RowLaws.{mac-turn}
 use borrow.Author.Needs.{needs}
 use Rattle.arithmetic.proofs.sums8.mac_row.Statement.{statement}
 use Rattle.arithmetic.proofs.sums8.mac_row.Tie as tie
@@ -66,10 +65,8 @@ loop-again c =
       omega (arith, next-row (l .j) 1),
       simp length-set (omega arith),
       set-below (λ q. plusProduct 1 (getD (a .acc .now) q 0) (a .x) (a .s .now) (a .at + q * 1) 1) (l .acc) (l .j) v (omega (arith, k .pre .0)) (l .inv .3)
-          (mac-is 256 (omega arith) v (getD (a .acc .now) (l .j) 0) (getD (l .acc) (l .j) 0) (c .before .before .wrapping-mul8 .result) (a .x) (c .before .before .before .read-signed8 .result)
-          (signedLe (a .s .now) (a .at + l .j * 1) 1) (c .wrapping-add-u8 .ensures) (c .before .before .wrapping-mul8 .ensures)
-          (c .before .before .before .read-signed8 .ensures ∙ ap (λ (p : ℕ). reduce 256 (signedLe (a .s .now) p 1)) (l .inv .1))
-          (l .inv .4 (l .j) (omega arith)) (omega (arith, c .before .before .before .before .before .before .before .slice-known .given (l .j)))),
+          (mac-turn 1 (a .s .now) 1 (a .at + l .j * 1) (l .from) v (getD (a .acc .now) (l .j) 0) (getD (l .acc) (l .j) 0) (c .before .before .wrapping-mul8 .result) (a .x) (c .before .before .before .read-signed8 .result)
+          (c .wrapping-add-u8 .ensures) (c .before .before .wrapping-mul8 .ensures) (c .before .before .before .read-signed8 .ensures) (l .inv .1) (l .inv .4 (l .j) (omega arith)) (omega (arith, c .before .before .before .before .before .before .before .slice-known .given (l .j)))),
       set-above (λ q. getD (a .acc .now) q 0) (l .acc) (l .j) v (l .inv .4),
     )
 

@@ -1,13 +1,6 @@
 -- Two products to each accumulator, which starts at 0.
 use native.Mathlib.Omega.{arith}
-use mathlib.Core.Path.{ap, _∙_}
-use Prim.Native.Nat.{ℕ, _+_, _*_}
-use lib.ListN.{getD, getD-replicate}
-use lib.IntN.{_*ℤ_}
-use Rattle.width.specs.Reduce.{signed}
-use Rattle.width.proofs.ElementLaws.{putRow-cong}
-use Rattle.width.proofs.SumLaws.{two-products}
-use Rattle.arithmetic.specs.Rows.{signedLe, plusProduct, weightedRow}
+use Rattle.arithmetic.proofs.RowLaws.{row-of-weights}
 use borrow.Author.Needs.{needs}
 use Rattle.arithmetic.proofs.sums8.weigh_row.Statement.{statement}
 use Rattle.arithmetic.proofs.sums8.weigh_row.Tie as tie
@@ -40,12 +33,8 @@ returns c =
     let r = a .s .now in
     let f = c .before .before .before .before .before .before .before .before .before .before .mac-row in
     let g = c .before .before .before .before .before .before .mac-row2 in
-    c .before .before .store-row .ensures
-    ∙ putRow-cong 1 (a .to) (a .n) (λ j. getD (g .last .0) j 0) (weightedRow r (a .from) (a .to) 1 1 (a .x) (a .y)) r
-    (λ j h. g .ensures j h
-    ∙ ap (λ (v : ℕ). plusProduct 1 v (a .y) r (a .from + j * 1) 1)
-    (f .ensures j h ∙ ap (λ (v : ℕ). plusProduct 1 v (a .x) r (a .to + j * 1) 1) (getD-replicate 64 j 0 0 (omega (arith, k .pre .0))))
-    ∙ two-products 256 (omega arith) (signed 256 (a .x) *ℤ signedLe r (a .to + j * 1) 1) (signed 256 (a .y) *ℤ signedLe r (a .from + j * 1) 1))
+    row-of-weights 1 r 1 (a .from) (a .to) (a .n) 64 (a .x) (a .y) (f .last .0) (g .last .0) (c .before .before .store-row .last .0) (λ j h. omega (arith, k .pre .0))
+    (f .ensures) (g .ensures) (c .before .before .store-row .ensures)
 
 pub weigh-row-spec : {M : Type 1} → statement M
 weigh-row-spec =
