@@ -88,38 +88,6 @@ pub fn low16(v: u32) -> u16
     (v % 65536) as u16
 }
 
-// The element of width bytes that starts at `at`.
-pub fn read(s: &[u8], at: usize, width: usize) -> u32
-    requires { ⌜ Width width ⌝ }
-    requires { ⌜ at + width ≤ length (now s) ⌝ }
-    ensures { λ r. ⌜ r ≡ le (now (s .entry)) at width ⌝ }
-{
-    if width == 1 {
-        return read1(s, at) as u32;
-    }
-    if width == 2 {
-        return read2(s, at) as u32;
-    }
-    read4(s, at)
-}
-
-// Stores the lowest width bytes of v from `at` on.
-pub fn write(s: &mut [u8], at: usize, v: u32, width: usize)
-    requires { ⌜ Width width ⌝ }
-    requires { ⌜ at + width ≤ length (now s) ⌝ }
-    ensures { λ _. ⌜ now (s .exit) ≡ putLe at width v (now (s .entry)) ⌝ }
-{
-    if width == 1 {
-        write1(s, at, low8(v));
-        return;
-    }
-    if width == 2 {
-        write2(s, at, low16(v));
-        return;
-    }
-    write4(s, at, v);
-}
-
 // Sign extension as a wrapping add: the residue of the signed number x at a wider width, from 8 bits to 16.
 fn extend1to2(x: u8) -> u16
     ensures { λ r. ⌜ r ≡ reduce (256 ^ 2) (signed (256 ^ 1) x) ⌝ }
@@ -139,20 +107,6 @@ pub fn extend2to4(x: u16) -> u32
     ensures { λ r. ⌜ r ≡ reduce (256 ^ 4) (signed (256 ^ 2) x) ⌝ }
 {
     std::num::wrapping_add_u32((x as u32 + 32768) % 65536, 4294934528)
-}
-
-// The low width bytes of v, signed, as a residue at 32 bits.
-pub fn extend(v: u32, width: usize) -> u32
-    requires { ⌜ Width width ⌝ }
-    ensures { λ r. ⌜ r ≡ reduce (256 ^ 4) (signed (256 ^ width) (v % 256 ^ width)) ⌝ }
-{
-    if width == 1 {
-        return extend1to4(low8(v));
-    }
-    if width == 2 {
-        return extend2to4(low16(v));
-    }
-    v
 }
 
 // The signed element of one byte at `at`, as a residue at 8 bits: the byte itself.

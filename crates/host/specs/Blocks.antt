@@ -1,6 +1,6 @@
 -- Numbers as the host passes them: the machine's numbers and the scalars in blocks of bytes, an answer in one number.
 -- 01, "What a machine is": "The bench host is written in C and passes numbers and byte buffers, so stepping is offered to it in that
--- form too". The layout of the blocks is DESIGN's, section 6.
+-- form too". The layout of the blocks is that of include/bodlarina.h (docs/DECISIONS.md).
 use mathlib.Core.List.{List, [], _∷_, _++_}
 use Prim.Native.Nat.{ℕ, _+_, _*_, _%_, _^_}
 use lib.ListN.{getD}
@@ -12,7 +12,7 @@ use Rattle.machine.specs.Answers.{number, rowOf, columnOf}
 
 -- ---- the machine's block
 
--- DESIGN: "`machine`: .. 64, eight u64 low byte first, in the order of section 2"
+-- eight numbers of 64 bits, low byte first, in the order of the struct Machine
 abbrev pub machineBytes : ℕ
 machineBytes = 64
 
@@ -46,7 +46,7 @@ putMachine m block =
 abbrev pub scalarBytes : ℕ
 scalarBytes = 256
 
--- the first n values; DESIGN: "slot s at 8·s, low byte first"
+-- the first n values: slot s at byte 8 x s, low byte first
 abbrev pub firstValues : ℕ → List ℕ → List ℕ
 firstValues n block = upto n (λ s values. values ++ (le block (s * 8) 8 ∷ [])) []
 
@@ -59,7 +59,7 @@ putValues values block = putRow 0 32 8 (λ s. getD values s 0) block
 
 -- ---- an answer as one number
 
--- DESIGN: "A result packs answer | row << 16 | column << 32 (row and column 0 unless the answer is 5)."
+-- a result packs answer | row << 16 | column << 32 (row and column 0 unless the answer is 5)
 -- The function takes every Answer, whose row and column are any u64, so each is cut to its 16 bits. No real answer loses by it: a tile
 -- has at most 64 rows and 64 columns.
 abbrev pub packed : Answer → ℕ

@@ -1,4 +1,4 @@
--- What each call of the C interface answers and leaves (DESIGN, section 6).
+-- What each call of the C interface answers and leaves (include/bodlarina.h).
 use mathlib.Core.Bool.{cond}
 use mathlib.Core.List.{List, [], _∷_}
 use Prim.Native.Nat.{ℕ}
@@ -29,7 +29,7 @@ abbrev pub shownStart : List ℕ → StartOutcome → HostStarted
 shownStart machine o =
     startedOut (packed (o .answer)) (cond (isDone (o .answer)) (putMachine (o .machine) machine) machine) (o .registers) (o .marks)
 
--- "A block of the wrong length is refused with 8."
+-- a block of the wrong length is refused with 8
 unfoldable pub hostStart : (rlen mlen sealStart sealLength : ℕ) → (machine registers marks : List ℕ) → HostStarted
 hostStart rlen mlen sealStart sealLength machine registers marks =
     cond (eqb (length machine) machineBytes)

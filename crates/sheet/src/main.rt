@@ -1,8 +1,7 @@
-// The bench sheet of 01, run: machines that are started or refused, and the sheet's words decoded.
+// The bench sheet of 01, run: the lines on single words, settings, loads and stores. MLEN 256, RLEN 64.
 use libc::STDOUT_FILENO;
 use machine::Answer;
-use machine::Dimension;
-use machine::Instruction;
+use machine::Machine;
 
 fn say(text: &[u8]) {
     io::write_all(STDOUT_FILENO, text);
@@ -12,9 +11,37 @@ fn number(n: u64) {
     io::print_decimal(STDOUT_FILENO, n);
 }
 
-fn started(rlen: u64, mlen: u64, seal_start: u64, seal_length: u64) {
-    let registers = [7u8; 512];
-    let mut marks = [1u8; 512];
+// The answer's number; answer 5 with its row and column.
+fn answer(a: Answer) {
+    say(b" answer ");
+    match a {
+        Answer::Done => say(b"0"),
+        Answer::IllegalWord => say(b"1"),
+        Answer::IllegalType => say(b"2"),
+        Answer::BadWidth => say(b"3"),
+        Answer::TileTooLarge => say(b"4"),
+        Answer::Unwritten { row, column } => {
+            say(b"5 row ");
+            number(row);
+            say(b" column ");
+            number(column);
+        }
+        Answer::OutsideMemory => say(b"6"),
+        Answer::SealedByte => say(b"7"),
+        Answer::BadArguments => say(b"8"),
+        Answer::Overlap => say(b"9"),
+    }
+}
+
+// Starts a machine on 512 register bytes and marks.
+fn start(
+    rlen: u64,
+    mlen: u64,
+    seal_start: u64,
+    seal_length: u64,
+    registers: &[u8],
+    marks: &mut [u8],
+) -> Machine {
     say(b"start RLEN ");
     number(rlen);
     say(b" MLEN ");
@@ -23,84 +50,186 @@ fn started(rlen: u64, mlen: u64, seal_start: u64, seal_length: u64) {
     number(seal_start);
     say(b" ");
     number(seal_length);
-    let made = machine::start(rlen, mlen, seal_start, seal_length, &registers, &mut marks);
-    let answer = made.answer;
-    match answer {
-        Answer::Done => say(b": answer 0\n"),
-        _ => say(b": answer 8\n"),
-    }
-}
-
-fn dimension(d: Dimension) {
-    match d {
-        Dimension::DimensionM => say(b"tile_m"),
-        Dimension::DimensionK => say(b"tile_k"),
-        Dimension::DimensionN => say(b"tile_n"),
-    }
-}
-
-fn slots(rd: usize, value: u64) {
-    say(b" rd x");
-    number(rd as u64);
-    say(b" immediate ");
-    number(value);
+    let made = machine::start(rlen, mlen, seal_start, seal_length, registers, marks);
+    let given = made.answer;
+    answer(given);
     say(b"\n");
+    made.machine
 }
 
-fn scalars(rd: usize, rs1: usize) {
-    say(b" rd x");
-    number(rd as u64);
-    say(b" rs1 x");
-    number(rs1 as u64);
-    say(b"\n");
-}
-
-fn decoded(word: u32) {
+// What a word answers and leaves: mtype, the tile sizes, and the scalars 0, 5 and 6.
+fn show(word: u32, given: Answer, m: Machine, x0: u64, x5: u64, x6: u64) {
     say(b"word 0x");
     io::print_hex(STDOUT_FILENO, word as u64, 8);
-    match decode::decode(word) {
-        Instruction::SetTypeImmediate { rd, immediate } => {
-            say(b" sets mtype:");
-            slots(rd, immediate);
-        }
-        Instruction::SetType { rd, rs1 } => {
-            say(b" sets mtype:");
-            scalars(rd, rs1);
-        }
-        Instruction::SetTileImmediate {
-            dimension: d,
-            rd,
-            immediate,
-        } => {
-            say(b" sets ");
-            dimension(d);
-            say(b":");
-            slots(rd, immediate);
-        }
-        Instruction::SetTile {
-            dimension: d,
-            rd,
-            rs1,
-        } => {
-            say(b" sets ");
-            dimension(d);
-            say(b":");
-            scalars(rd, rs1);
-        }
-        Instruction::Illegal => say(b": answer 1\n"),
-        _ => say(b" is a load, a store or arithmetic\n"),
-    }
+    answer(given);
+    say(b" mtype ");
+    number(m.mtype);
+    say(b" tiles ");
+    number(m.tile_m);
+    say(b" ");
+    number(m.tile_k);
+    say(b" ");
+    number(m.tile_n);
+    say(b" x0 ");
+    number(x0);
+    say(b" x5 ");
+    number(x5);
+    say(b" x6 ");
+    number(x6);
+    say(b"\n");
+}
+
+// Steps a word with an address in x10 and a stride in x11, and shows what it answers and leaves.
+fn step(
+    m: Machine,
+    registers: &mut [u8],
+    marks: &mut [u8],
+    memory: &mut [u8],
+    x10: u64,
+    x11: u64,
+    word: u32,
+) -> Machine {
+    let mut scalars = [0u64; 32];
+    scalars[0] = 77;
+    scalars[10] = x10;
+    scalars[11] = x11;
+    let done = step::step(m, registers, marks, &mut scalars, memory, word);
+    let given = done.answer;
+    let next = done.machine;
+    show(word, given, next, scalars[0], scalars[5], scalars[6]);
+    next
 }
 
 fn main() {
-    started(64, 256, 0, 0);
-    started(64, 256, 18446744073709551615, 0);
-    started(64, 256, 18446744073709551615, 1);
-    started(64, 128, 0, 0);
-    started(256, 256, 0, 0);
-    decoded(0x000472f7);
-    decoded(0x100572f7);
-    decoded(0x2003f077);
-    decoded(0x4001f377);
-    decoded(0x00007033);
+    let mut registers = [7u8; 512];
+    let mut marks = [1u8; 512];
+    let mut memory = [0u8; 64];
+    let minus8 = 18446744073709551608;
+
+    start(64, 256, 18446744073709551615, 0, &registers, &mut marks);
+    start(64, 256, 18446744073709551615, 1, &registers, &mut marks);
+    start(64, 128, 0, 0, &registers, &mut marks);
+    start(256, 256, 0, 0, &registers, &mut marks);
+    let fresh = start(64, 256, 0, 0, &registers, &mut marks);
+
+    say(b"starred words\n");
+    step(
+        fresh,
+        &mut registers,
+        &mut marks,
+        &mut memory,
+        0,
+        0,
+        0x000472f7,
+    );
+    step(
+        fresh,
+        &mut registers,
+        &mut marks,
+        &mut memory,
+        16,
+        0,
+        0x100572f7,
+    );
+    step(
+        fresh,
+        &mut registers,
+        &mut marks,
+        &mut memory,
+        0,
+        0,
+        0x2003f077,
+    );
+    step(
+        fresh,
+        &mut registers,
+        &mut marks,
+        &mut memory,
+        0,
+        0,
+        0x4001f377,
+    );
+
+    say(b"tile_n 8 set at SEW 8, then SEW 16: a 16-bit load of B gives 4\n");
+    let a = step(
+        fresh,
+        &mut registers,
+        &mut marks,
+        &mut memory,
+        0,
+        0,
+        0x60047077,
+    );
+    let b = step(a, &mut registers, &mut marks, &mut memory, 0, 0, 0x0000f077);
+    step(b, &mut registers, &mut marks, &mut memory, 0, 8, 0x08b51077);
+
+    say(
+        b"tiles 2 by 2 of A at SEW 8: a last byte at the end of memory is stored, one further gives 6\n",
+    );
+    let c = step(
+        fresh,
+        &mut registers,
+        &mut marks,
+        &mut memory,
+        0,
+        0,
+        0x20017077,
+    );
+    let d = step(c, &mut registers, &mut marks, &mut memory, 0, 0, 0x40017077);
+    step(
+        d,
+        &mut registers,
+        &mut marks,
+        &mut memory,
+        54,
+        8,
+        0x06b50077,
+    );
+    step(
+        d,
+        &mut registers,
+        &mut marks,
+        &mut memory,
+        8,
+        minus8,
+        0x04b50077,
+    );
+    step(
+        d,
+        &mut registers,
+        &mut marks,
+        &mut memory,
+        54,
+        8,
+        0x06b50077,
+    );
+    step(
+        d,
+        &mut registers,
+        &mut marks,
+        &mut memory,
+        55,
+        8,
+        0x06b50077,
+    );
+
+    say(b"stride -8 from a good address is done, a row that would start at -1 gives 6\n");
+    step(
+        d,
+        &mut registers,
+        &mut marks,
+        &mut memory,
+        8,
+        minus8,
+        0x06b50077,
+    );
+    step(
+        d,
+        &mut registers,
+        &mut marks,
+        &mut memory,
+        7,
+        minus8,
+        0x06b50077,
+    );
 }

@@ -1,0 +1,164 @@
+//! Times through the C interface, all from one run. Nothing here can fail.
+
+use crate::lent::{library_step, Lent};
+use crate::library;
+use crate::random::Random;
+use crate::states::{set_size, SIZES, WIDTHS};
+use crate::tally::{families, family_name};
+use model::{assemble, maximum, sew, Kind, LISTING};
+use std::hint::black_box;
+use std::time::Instant;
+
+pub const SMALL: (u64, u64) = (64, 128);
+pub const LARGE: (u64, u64) = (512, 4096);
+
+pub fn bench() {
+    println!("All times are of this one run, through the C interface, on one core, warm caches.");
+    println!("Single steps: the best of 5 batches of at least 4 ms; buffers are not cleared");
+    println!("between repetitions. A ratio to the second program is the library's time divided");
+    println!("by its time.");
+    steps_by_family();
+    multiply_accumulates();
+    #[cfg(feature = "runs")]
+    crate::runs::bench::bench();
+    against_the_second_program();
+}
+
+/// Nanoseconds of a call: the best of 5 batches of at least 4 ms, or of fewer
+/// if they take more than a second.
+pub fn nanoseconds(mut call: impl FnMut()) -> f64 {
+    let mut batch = |repeats: u64| {
+        let started = Instant::now();
+        for _ in 0..repeats {
+            call();
+        }
+        started.elapsed().as_nanos() as f64
+    };
+    let mut repeats = 1;
+    let mut time = batch(repeats);
+    while time < 4e6 {
+        repeats *= 2;
+        time = batch(repeats);
+    }
+    let mut best = time;
+    let mut spent = time;
+    for _ in 0..4 {
+        if spent > 1e9 {
+            break;
+        }
+        time = batch(repeats);
+        best = best.min(time);
+        spent += time;
+    }
+    best / repeats as f64
+}
+
+pub fn machine_name((rlen, mlen): (u64, u64)) -> String {
+    format!("MLEN {mlen} RLEN {rlen}")
+}
+
+/// A machine with everything marked and every size at its maximum.
+pub fn full_bench((rlen, mlen): (u64, u64), mtype: u64, memory: usize) -> Lent {
+    let mut random = Random::for_case(1, "bench", 0);
+    let length = model::register_bytes(mlen);
+    let mut lent = Lent {
+        machine: vec![0; library::MACHINE_BYTES],
+        registers: random.bytes(length),
+        marks: vec![0; length],
+        scalars: vec![0; library::SCALARS_BYTES],
+        memory: random.bytes(memory),
+    };
+    library::start(rlen, mlen, 0, 0, &mut lent.machine, &mut lent.registers, &mut lent.marks);
+    lent.marks.fill(1);
+    let mut machine = lent.machine();
+    machine.mtype = mtype;
+    for size in SIZES {
+        let limit = maximum(&machine, size, sew(mtype));
+        set_size(&mut machine, size, limit);
+    }
+    lent.set_machine(&machine);
+    lent
+}
+
+/// Nanoseconds of a step, and the answer it gives.
+fn step_time(machine: (u64, u64), mtype: u64, word: u32) -> (f64, u64) {
+    let mut lent = full_bench(machine, mtype, 32768);
+    // x1 is an address, a size and an mtype, x2 a stride and a multiplier
+    // (whose low 8 bits are not 0).
+    lent.set_scalar(1, 8);
+    lent.set_scalar(2, machine.0 / 2 + 8);
+    let mut given = 0;
+    let time = nanoseconds(|| given = black_box(library_step(black_box(word), &mut lent)));
+    (time, given & 0xFFFF)
+}
+
+fn steps_by_family() {
+    println!();
+    println!("nanoseconds a step at SEW 8, sizes at their maxima");
+    let [small, large] = [SMALL, LARGE].map(machine_name);
+    println!("{:28}{small:>20}{large:>20}{:>10}{:>10}", "", "ratio", "answers");
+    let operands = [("rs1", 1), ("rs2", 2), ("rd", 3), ("imm", 3), ("mleni", 8), ("mtypei", 8)];
+    let mut words: Vec<(String, u32)> = families()
+        .into_iter()
+        .map(|row| {
+            let name = LISTING[row].name;
+            (family_name(name).to_string(), assemble(name, &operands))
+        })
+        .collect();
+    words.push(("mlce32".to_string(), assemble("mlce32.m", &operands)));
+    words.push(("msce32".to_string(), assemble("msce32.m", &operands)));
+    words.push(("mqemulc.mi by 0 (a clear)".to_string(), assemble("mqemulc.mi", &[])));
+    words.push(("a bad word".to_string(), 0));
+    words.push(("a load of a wrong width".to_string(), assemble("mlae64.m", &operands)));
+    for (name, word) in words {
+        let [(small, first), (large, second)] =
+            [SMALL, LARGE].map(|machine| step_time(machine, 8, word));
+        let answers = format!("{first}, {second}");
+        println!("{name:28}{small:>20.1}{large:>20.1}{:>10.2}{answers:>10}", large / small);
+    }
+}
+
+fn multiply_accumulates() {
+    println!();
+    println!("multiply-accumulates on {}, sizes at their maxima", machine_name(LARGE));
+    println!(
+        "{:28}{:>12}{:>12}{:>12}{:>14}{:>10}",
+        "", "ns a step", "MACs", "ns a MAC", "MACs a second", "answer"
+    );
+    for (width, factor) in WIDTHS {
+        let name = ["mma.mm", "mwma.mm", "mqma.mm"][factor as usize / 2];
+        let mtype = match (width, factor) {
+            (8, 4) => 8,
+            (8, _) => 0,
+            (16, _) => 1,
+            _ => 2,
+        };
+        let word = assemble(name, &[("ms1", 0), ("ms2", 1)]);
+        let (time, answer) = step_time(LARGE, mtype, word);
+        let machine = full_bench(LARGE, mtype, 0).machine();
+        let count = (machine.tile_m * machine.tile_k * machine.tile_n) as f64;
+        println!(
+            "{:28}{time:>12.1}{count:>12}{:>12.3}{:>14.2e}{answer:>10}",
+            format!("{name} at SEW {width}"),
+            time / count,
+            count / time * 1e9
+        );
+    }
+}
+
+fn against_the_second_program() {
+    let row = LISTING.iter().find(|row| row.kind == Kind::SetType).expect("a setting");
+    println!();
+    println!("one word, {}: nanoseconds", row.name);
+    println!("{:28}{:>14}{:>16}{:>10}", "", "library", "second program", "ratio");
+    for machine in [SMALL, LARGE] {
+        let word = assemble(row.name, &[("mtypei", 8)]);
+        let (time, _) = step_time(machine, 8, word);
+        let mut bench = full_bench(machine, 8, 0).bench().expect("a whole machine block");
+        let mut scalars = [0; 32];
+        let second = nanoseconds(|| {
+            black_box(model::step(black_box(word), &mut bench, &mut scalars));
+        });
+        println!("{:28}{time:>14.1}{second:>16.1}{:>10.4}", machine_name(machine), time / second);
+    }
+}

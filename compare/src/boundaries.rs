@@ -1,0 +1,550 @@
+//! Boundaries, each with the answer that the scope paper gives there. The
+//! library and the second program must both give it.
+
+use crate::lent::Lent;
+use crate::random::Random;
+use crate::states::{
+    any_row, any_scalar, bench_of, good_case, good_machine, moved_rows, set_size, state_fault,
+    unmark_source, wrapping_stride, Case, MTYPES, SIZES, STATE_FAULTS, WILD_STRIDES,
+};
+use crate::suite::{check_step, each_case, Context, Outcome};
+use model::{maximum, sew, Kind, Machine, Matrix, Row, Size, LISTING, MILL};
+
+/// A case and the answer it must get.
+type Made = (Case, u64);
+type Boundary = (&'static str, fn(&mut Random) -> Made);
+
+const BOUNDARIES: [Boundary; 29] = [
+    ("first and last byte of memory", whole_memory),
+    ("one byte past the end", one_past_the_end),
+    ("one byte before address 0", one_before_the_start),
+    ("huge strides", huge_stride),
+    ("huge stride, one row", huge_stride_one_row),
+    ("addresses near 2^64", address_near_the_top),
+    ("seal of one stored byte", seal_on_a_byte),
+    ("seal of one byte beside a store", seal_beside),
+    ("seal past the end of memory", seal_past_the_end),
+    ("seal of no byte", seal_of_nothing),
+    ("seal up to 2^64 - 1", seal_at_the_top),
+    ("loads of sealed bytes", sealed_load),
+    ("a used size above its maximum", used_size_too_large),
+    ("an unused size above its maximum", unused_size_too_large),
+    ("tiles with no element", no_element),
+    ("multiply with tile_k 0", no_terms),
+    ("md is ms1, wider output", same_register_wider),
+    ("md is ms1, marked at SEW only", same_register_half_marked),
+    ("multiplier 0, unmarked ms1", multiplier_0),
+    ("multiplier not 0, unmarked ms1", multiplier_not_0),
+    ("an unmarked element", unmarked_element),
+    ("overlapping rows of a store", overlapping_rows),
+    ("settings with both x0", both_x0),
+    ("x0 asked as a maximum", asked_maximum),
+    ("mtype after each value", new_mtype),
+    ("a word while mill is set", mill_set),
+    ("64-bit loads and stores", too_wide),
+    ("state faults", faulty_state),
+    ("register fields out of range", bad_register),
+];
+
+pub fn boundaries(context: &mut Context) -> Outcome {
+    let each = 500;
+    let mut cases = 0;
+    for (name, make) in BOUNDARIES {
+        each_case(context, name, each, |_, random, tally| {
+            let (case, expected) = make(random);
+            let (number, _) = check_step(case.word, &case.lent, tally)?;
+            if number != expected {
+                return Err(format!(
+                    "{}: both programs give {number}, the paper {expected}\n{}",
+                    model::describe(case.word),
+                    crate::lent::state_text(&case.lent)
+                ));
+            }
+            Ok(())
+        })?;
+        cases += each;
+    }
+    Ok(format!("{} boundaries, {cases} cases", BOUNDARIES.len()))
+}
+
+fn row_where(random: &mut Random, wanted: impl Fn(&Row) -> bool) -> &'static Row {
+    let rows: Vec<&'static Row> = LISTING.iter().filter(|row| wanted(row)).collect();
+    random.pick(&rows)
+}
+
+fn is_store(row: &Row) -> bool {
+    matches!(row.kind, Kind::Store(..)) && !row.name.contains("64")
+}
+
+fn is_load(row: &Row) -> bool {
+    matches!(row.kind, Kind::Load(..)) && !row.name.contains("64")
+}
+
+fn is_scale(row: &Row) -> bool {
+    matches!(row.kind, Kind::Scale(_))
+}
+
+/// Output times SEW of a multiply or element-wise row, else 0.
+fn factor(row: &Row) -> i128 {
+    match row.kind {
+        Kind::Multiply(f) | Kind::Add(f) | Kind::Subtract(f) => f,
+        Kind::ReverseSubtract(f) | Kind::Scale(f) => f,
+        _ => 0,
+    }
+}
+
+/// A machine for a row, with no tile size of 0.
+fn machine_for(random: &mut Random, row: &Row) -> Machine {
+    let mtype = crate::states::fitting_mtype(random, row.kind);
+    let mut machine = good_machine(random, mtype);
+    for size in SIZES {
+        let value = model::tile_size(&machine, size).max(1);
+        set_size(&mut machine, size, value);
+    }
+    machine
+}
+
+/// A load or store with its address in x1 and its stride in x2.
+struct Moving {
+    word: u32,
+    lent: Lent,
+    rows: i128,
+    row_bytes: i128,
+}
+
+fn moving(random: &mut Random, row: &'static Row) -> Moving {
+    let machine = machine_for(random, row);
+    moving_on(random, row, &machine)
+}
+
+fn moving_on(random: &mut Random, row: &'static Row, machine: &Machine) -> Moving {
+    let lent = bench_of(random, machine);
+    let (rows, row_bytes) = moved_rows(row.kind, machine).expect("a load or store");
+    let register = random.below(2) as u32;
+    let operands = [("md", register), ("ms3", register), ("rs1", 1), ("rs2", 2)];
+    Moving { word: model::assemble(row.name, &operands), lent, rows, row_bytes }
+}
+
+fn any_moving(random: &mut Random) -> Moving {
+    let row = row_where(random, |row| is_load(row) || is_store(row));
+    moving(random, row)
+}
+
+impl Moving {
+    /// A stride of either sign under which no rows overlap.
+    fn clear_stride(&self, random: &mut Random) -> i64 {
+        let stride = (self.row_bytes + random.below(4) as i128) as i64;
+        if random.chance(50) {
+            stride
+        } else {
+            -stride
+        }
+    }
+
+    /// Bytes from the lowest to the highest, and the lowest seen from row 0.
+    fn extent(&self, stride: i64) -> (i128, i128) {
+        let spread = (self.rows - 1) * stride as i128;
+        (spread.abs() + self.row_bytes, spread.min(0))
+    }
+
+    fn lay(mut self, random: &mut Random, address: i128, stride: i64, memory: i128) -> Case {
+        self.lent.set_scalar(1, address as u64);
+        self.lent.set_scalar(2, stride as u64);
+        self.lent.memory = random.bytes(memory as usize);
+        Case { word: self.word, lent: self.lent }
+    }
+}
+
+fn whole_memory(random: &mut Random) -> Made {
+    let moving = any_moving(random);
+    let stride = moving.clear_stride(random);
+    let (extent, lowest) = moving.extent(stride);
+    (moving.lay(random, -lowest, stride, extent), 0)
+}
+
+fn one_past_the_end(random: &mut Random) -> Made {
+    let moving = any_moving(random);
+    let stride = moving.clear_stride(random);
+    let (extent, lowest) = moving.extent(stride);
+    let (more, memory) = random.pick(&[(1, extent), (0, extent - 1)]);
+    (moving.lay(random, more - lowest, stride, memory), 6)
+}
+
+fn one_before_the_start(random: &mut Random) -> Made {
+    let moving = any_moving(random);
+    let stride = moving.clear_stride(random);
+    let (extent, lowest) = moving.extent(stride);
+    (moving.lay(random, -lowest - 1, stride, extent + 20), 6)
+}
+
+fn huge_stride(random: &mut Random) -> Made {
+    let row = row_where(random, |row| is_load(row) || is_store(row));
+    let mut machine = machine_for(random, row);
+    for size in SIZES {
+        let limit = maximum(&machine, size, sew(machine.mtype));
+        set_size(&mut machine, size, limit);
+    }
+    let moving = moving_on(random, row, &machine);
+    let stride = if moving.rows > 2 && random.chance(50) {
+        wrapping_stride(random, moving.rows)
+    } else {
+        random.pick(&WILD_STRIDES)
+    };
+    let memory = moving.row_bytes + 100;
+    let address = random.below(100) as i128;
+    (moving.lay(random, address, stride, memory), 6)
+}
+
+fn huge_stride_one_row(random: &mut Random) -> Made {
+    let row = row_where(random, |row| is_load(row) || is_store(row));
+    let mut machine = machine_for(random, row);
+    machine.tile_m = 1;
+    machine.tile_k = 1;
+    let moving = moving_on(random, row, &machine);
+    let stride = random.pick(&WILD_STRIDES);
+    let memory = moving.row_bytes + 3;
+    let address = random.below(4) as i128;
+    (moving.lay(random, address, stride, memory), 0)
+}
+
+/// Rows that would come round to memory if addresses wrapped.
+fn address_near_the_top(random: &mut Random) -> Made {
+    let moving = any_moving(random);
+    let stride = moving.row_bytes as i64;
+    let back = random.range(1, 2 * moving.row_bytes as u64) as i128;
+    let (extent, _) = moving.extent(stride);
+    (moving.lay(random, -back, stride, extent + 20), 6)
+}
+
+/// A store laid well inside memory, its stride and its address.
+fn laid_store(random: &mut Random) -> (Moving, i64, i128, i128) {
+    let row = row_where(random, is_store);
+    let moving = moving(random, row);
+    let stride = moving.clear_stride(random);
+    let (extent, lowest) = moving.extent(stride);
+    (moving, stride, 5 - lowest, extent + 10)
+}
+
+fn seal(case: &mut Case, start: u64, length: u64) {
+    let mut machine = case.lent.machine();
+    machine.seal_start = start;
+    machine.seal_length = length;
+    case.lent.set_machine(&machine);
+}
+
+fn seal_on_a_byte(random: &mut Random) -> Made {
+    let (moving, stride, address, memory) = laid_store(random);
+    let row = random.below(moving.rows as u64) as i128;
+    let byte = random.below(moving.row_bytes as u64) as i128;
+    let mut case = moving.lay(random, address, stride, memory);
+    seal(&mut case, (address + row * stride as i128 + byte) as u64, 1);
+    (case, 7)
+}
+
+fn seal_beside(random: &mut Random) -> Made {
+    let (moving, _, _, memory) = laid_store(random);
+    // Rows with a gap of one byte between them, and the byte before each.
+    let stride = moving.row_bytes as i64 + 1;
+    let row = random.below(moving.rows as u64 + 1) as i128;
+    let memory = memory + moving.rows;
+    let mut case = moving.lay(random, 5, stride, memory);
+    seal(&mut case, (5 + row * stride as i128 - 1) as u64, 1);
+    (case, 0)
+}
+
+fn seal_past_the_end(random: &mut Random) -> Made {
+    let (moving, stride, address, memory) = laid_store(random);
+    let (extent, lowest) = moving.extent(stride);
+    let after = (address + lowest + extent) as u64;
+    let mut case = moving.lay(random, address, stride, memory);
+    let (start, expected) = random.pick(&[(after - 1, 7), (after, 0), (memory as u64, 0)]);
+    let length = random.pick(&[memory as u64 + 7, u64::MAX - start]);
+    seal(&mut case, start, length);
+    (case, expected)
+}
+
+fn seal_of_nothing(random: &mut Random) -> Made {
+    let (moving, stride, address, memory) = laid_store(random);
+    let mut case = moving.lay(random, address, stride, memory);
+    let start = random.pick(&[address as u64, u64::MAX, 0]);
+    seal(&mut case, start, 0);
+    (case, 0)
+}
+
+fn seal_at_the_top(random: &mut Random) -> Made {
+    let (moving, stride, address, memory) = laid_store(random);
+    let mut case = moving.lay(random, address, stride, memory);
+    let start = random.pick(&[u64::MAX, 1 << 63, u64::MAX - 1, memory as u64]);
+    let within = random.chance(50);
+    seal(&mut case, start, u64::MAX - start + u64::from(!within));
+    (case, if within { 0 } else { 8 })
+}
+
+fn sealed_load(random: &mut Random) -> Made {
+    let row = row_where(random, is_load);
+    let moving = moving(random, row);
+    let stride = moving.clear_stride(random);
+    let (extent, lowest) = moving.extent(stride);
+    let mut case = moving.lay(random, -lowest, stride, extent);
+    seal(&mut case, 0, u64::MAX);
+    (case, 0)
+}
+
+fn sizes_used(kind: Kind) -> Vec<Size> {
+    match kind {
+        Kind::SetType | Kind::SetSize(_) => vec![],
+        Kind::Load(Matrix::A, _) | Kind::Store(Matrix::A, _) => vec![Size::M, Size::K],
+        Kind::Load(Matrix::B, _) | Kind::Store(Matrix::B, _) => vec![Size::K, Size::N],
+        Kind::Multiply(_) => SIZES.to_vec(),
+        _ => vec![Size::M, Size::N],
+    }
+}
+
+/// A row and a machine with SEW above 8 and one size above its maximum.
+fn too_large(random: &mut Random, used: bool) -> (&'static Row, Machine) {
+    loop {
+        let row = row_where(random, |row| !sizes_used(row.kind).is_empty());
+        let mut machine = machine_for(random, row);
+        let size = random.pick(&[Size::K, Size::N]);
+        let limit = maximum(&machine, size, sew(machine.mtype));
+        let widest = maximum(&machine, size, 8);
+        let fits = !model::width_rule_broken(row.kind, machine.mtype);
+        if fits && limit < widest && sizes_used(row.kind).contains(&size) == used {
+            let value = random.range(limit as u64 + 1, widest as u64) as i128;
+            set_size(&mut machine, size, value);
+            return (row, machine);
+        }
+    }
+}
+
+fn case_on(random: &mut Random, row: &'static Row, machine: &Machine) -> Case {
+    let lent = bench_of(random, machine);
+    let operands = [("rs1", 1), ("rs2", 2), ("imm", 1)];
+    let mut case = Case { word: model::assemble(row.name, &operands), lent };
+    case.lent.set_scalar(1, 0);
+    case.lent.set_scalar(2, 8);
+    case.lent.memory = random.bytes(8192);
+    case
+}
+
+fn used_size_too_large(random: &mut Random) -> Made {
+    let (row, mut machine) = too_large(random, true);
+    // Also where the tile has no element.
+    if random.chance(30) {
+        machine.tile_m = 0;
+    }
+    (case_on(random, row, &machine), 4)
+}
+
+fn unused_size_too_large(random: &mut Random) -> Made {
+    let (row, machine) = too_large(random, false);
+    (case_on(random, row, &machine), 0)
+}
+
+/// No mark anywhere and wild addresses, but no element either.
+fn no_element(random: &mut Random) -> Made {
+    let row = row_where(random, |row| !sizes_used(row.kind).is_empty() && !row.name.contains("64"));
+    let mut machine = machine_for(random, row);
+    let size = match row.kind {
+        Kind::Multiply(_) => random.pick(&[Size::M, Size::N]),
+        _ => {
+            let used = sizes_used(row.kind);
+            random.pick(&used)
+        }
+    };
+    set_size(&mut machine, size, 0);
+    machine.seal_length = u64::MAX;
+    let mut case = case_on(random, row, &machine);
+    case.lent.set_scalar(1, any_scalar(random));
+    case.lent.set_scalar(2, random.pick(&WILD_STRIDES) as u64);
+    case.lent.marks.fill(0);
+    case.lent.memory.truncate(random.below(9) as usize);
+    (case, 0)
+}
+
+/// Reads md alone: its bytes stay as they are.
+fn no_terms(random: &mut Random) -> Made {
+    let row = row_where(random, |row| matches!(row.kind, Kind::Multiply(_)));
+    let mut machine = machine_for(random, row);
+    machine.tile_k = 0;
+    let mut case = case_on(random, row, &machine);
+    case.lent.marks[..machine.mlen as usize].fill(0);
+    if random.chance(50) {
+        return (case, 0);
+    }
+    unmark_source_of_md(random, &mut case);
+    (case, 5)
+}
+
+/// Takes the mark of a byte of md's C tile in acc0.
+fn unmark_source_of_md(random: &mut Random, case: &mut Case) {
+    let machine = case.lent.machine();
+    let row = model::row_by_code(case.word).expect("a row of ours");
+    let row_bytes = machine.tile_n * factor(row) as u64 * sew(machine.mtype) as u64 / 8;
+    let i = random.below(machine.tile_m);
+    let at = machine.mlen + i * machine.rlen / 2 + random.below(row_bytes);
+    case.lent.marks[at as usize] = 0;
+}
+
+fn wider_element_wise(row: &Row) -> bool {
+    factor(row) > 1 && !matches!(row.kind, Kind::Multiply(_))
+}
+
+fn same_register_wider(random: &mut Random) -> Made {
+    let row = row_where(random, wider_element_wise);
+    let machine = machine_for(random, row);
+    let mut case = case_on(random, row, &machine);
+    case.lent.set_scalar(2, random.next());
+    if random.chance(50) {
+        let operands = [("rs2", 2), ("imm", random.below(32) as u32), ("md", 1), ("ms1", 1)];
+        case.word = model::assemble(row.name, &operands);
+    }
+    (case, 0)
+}
+
+/// Only the bytes of ms1's elements are marked: md at its width is not, so
+/// adds and subtracts meet an unmarked element and multiplies do not.
+fn same_register_half_marked(random: &mut Random) -> Made {
+    let row = row_where(random, wider_element_wise);
+    let machine = machine_for(random, row);
+    let mut case = case_on(random, row, &machine);
+    case.lent.marks.fill(0);
+    let row_bytes = machine.tile_n as usize * sew(machine.mtype) as usize / 8;
+    for i in 0..machine.tile_m as usize {
+        let at = machine.mlen as usize + i * machine.rlen as usize / 2;
+        case.lent.marks[at..at + row_bytes].fill(1);
+    }
+    (case, if is_scale(row) { 0 } else { 5 })
+}
+
+fn multiplier_0(random: &mut Random) -> Made {
+    let row = row_where(random, is_scale);
+    let machine = machine_for(random, row);
+    let mut case = case_on(random, row, &machine);
+    let slot = if random.chance(30) { 0 } else { 2 };
+    let operands = [("rs2", slot), ("imm", 0), ("ms1", random.below(2) as u32)];
+    case.word = model::assemble(row.name, &operands);
+    case.lent.set_scalar(0, random.next());
+    // The low SEW bits are 0, whatever stands above them.
+    case.lent.set_scalar(2, random.next() << sew(machine.mtype));
+    case.lent.marks.fill(0);
+    (case, 0)
+}
+
+fn multiplier_not_0(random: &mut Random) -> Made {
+    let row = row_where(random, is_scale);
+    let machine = machine_for(random, row);
+    let mut case = case_on(random, row, &machine);
+    let imm = random.range(1, 31) as u32;
+    case.word = model::assemble(row.name, &[("rs2", 2), ("imm", imm)]);
+    case.lent.set_scalar(2, 1 << random.below(sew(machine.mtype) as u64));
+    unmark_source(random, &mut case);
+    (case, 5)
+}
+
+/// One unmarked byte in a tile that is read; its row and column are compared.
+fn unmarked_element(random: &mut Random) -> Made {
+    let row = row_where(random, |row| is_store(row) || factor(row) > 0);
+    let machine = machine_for(random, row);
+    let mut case = case_on(random, row, &machine);
+    let operands = [("ms1", 1), ("ms2", 0), ("imm", 3), ("rs1", 1), ("rs2", 2)];
+    case.word = model::assemble(row.name, &operands);
+    unmark_source(random, &mut case);
+    (case, 5)
+}
+
+fn overlapping_rows(random: &mut Random) -> Made {
+    let row = row_where(random, is_store);
+    let moving = moving(random, row);
+    let step = random.below(moving.row_bytes as u64) as i64;
+    let stride = random.pick(&[0, 1, -1, step, -step]);
+    let (extent, lowest) = moving.extent(stride);
+    (moving.lay(random, -lowest, stride, extent), 0)
+}
+
+/// Sizes may stand above the maximum, and stay there.
+fn both_x0(random: &mut Random) -> Made {
+    let name = random.pick(&["msettilem", "msettilek", "msettilen"]);
+    let mtype = random.pick(&MTYPES);
+    let mut machine = good_machine(random, mtype);
+    for size in SIZES {
+        let value = random.range(0, maximum(&machine, size, 8) as u64) as i128;
+        set_size(&mut machine, size, value);
+    }
+    let lent = bench_of(random, &machine);
+    (Case { word: model::assemble(name, &[]), lent }, 0)
+}
+
+fn asked_maximum(random: &mut Random) -> Made {
+    let name = random.pick(&["msettilem", "msettilek", "msettilen", "msettype"]);
+    let mtype = random.pick(&MTYPES);
+    let machine = good_machine(random, mtype);
+    let lent = bench_of(random, &machine);
+    let word = model::assemble(name, &[("rd", random.range(1, 31) as u32)]);
+    (Case { word, lent }, 0)
+}
+
+fn new_mtype(random: &mut Random) -> Made {
+    let row = row_where(random, |row| row.kind == Kind::SetType);
+    let mtype = random.pick(&[0, 1, 2, 8, MILL]);
+    let mut machine = good_machine(random, 0);
+    machine.mtype = mtype;
+    let mut lent = bench_of(random, &machine);
+    let value = match random.below(3) {
+        0 => random.below(16),
+        1 => random.below(16) | 1 << random.range(4, 63),
+        _ => random.next(),
+    };
+    lent.set_scalar(1, value);
+    let operands = [("rs1", 1), ("mtypei", value as u32), ("rd", random.below(3) as u32)];
+    (Case { word: model::assemble(row.name, &operands), lent }, 0)
+}
+
+fn mill_set(random: &mut Random) -> Made {
+    let row = any_row(random);
+    let mut case = good_case(random, row);
+    let mut machine = case.lent.machine();
+    machine.mtype = MILL;
+    case.lent.set_machine(&machine);
+    (case, if row.kind == Kind::SetType { 0 } else { 2 })
+}
+
+fn too_wide(random: &mut Random) -> Made {
+    let row = row_where(random, |row| row.name.contains("64"));
+    let machine = machine_for(random, row);
+    (case_on(random, row, &machine), 3)
+}
+
+fn faulty_state(random: &mut Random) -> Made {
+    let row = any_row(random);
+    let mut case = good_case(random, row);
+    if random.chance(20) {
+        case.word = random.next() as u32;
+    }
+    let kind = random.below(STATE_FAULTS);
+    state_fault(random, &mut case.lent, kind);
+    (case, 8)
+}
+
+/// A register field one too high, or higher.
+fn bad_register(random: &mut Random) -> Made {
+    let row = row_where(random, |row| !matches!(row.kind, Kind::SetType | Kind::SetSize(_)));
+    let mtype = crate::states::fitting_mtype(random, row.kind);
+    let machine = good_machine(random, mtype);
+    let mut case = case_on(random, row, &machine);
+    let field = match row.kind {
+        Kind::Load(..) => "md",
+        Kind::Store(..) => "ms3",
+        Kind::Multiply(_) => random.pick(&["md", "ms1", "ms2"]),
+        _ => random.pick(&["md", "ms1"]),
+    };
+    let tile = match row.kind {
+        Kind::Load(matrix, _) | Kind::Store(matrix, _) => matrix != Matrix::C,
+        Kind::Multiply(_) => field != "md",
+        _ => false,
+    };
+    let first = if tile { 8 } else { 2 };
+    let number = if random.chance(50) { first } else { random.range(first, 31) };
+    case.word = model::assemble(row.name, &[(field, number as u32), ("rs1", 1), ("rs2", 2)]);
+    (case, 1)
+}

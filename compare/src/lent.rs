@@ -1,0 +1,221 @@
+//! What a host lends, as byte blocks, and both programs over it.
+
+use crate::library;
+use model::{Answer, Bench, Machine};
+use std::fmt::Write;
+
+#[derive(Clone, Debug, PartialEq, Eq)]
+pub struct Lent {
+    pub machine: Vec<u8>,
+    pub registers: Vec<u8>,
+    pub marks: Vec<u8>,
+    pub scalars: Vec<u8>,
+    pub memory: Vec<u8>,
+}
+
+/// An answer as the C interface packs it.
+pub fn packed(answer: Answer) -> u64 {
+    answer.number | answer.row << 16 | answer.column << 32
+}
+
+fn unpacked(result: u64) -> String {
+    let (number, row, column) = (result & 0xFFFF, (result >> 16) & 0xFFFF, result >> 32);
+    format!("answer {number} row {row} column {column}")
+}
+
+pub const BAD_ARGUMENTS: Answer = Answer { number: 8, row: 0, column: 0 };
+
+pub fn words_to_bytes(words: &[u64]) -> Vec<u8> {
+    words.iter().flat_map(|word| word.to_le_bytes()).collect()
+}
+
+pub fn bytes_to_words(bytes: &[u8]) -> Vec<u64> {
+    bytes.chunks_exact(8).map(|chunk| u64::from_le_bytes(chunk.try_into().unwrap())).collect()
+}
+
+pub fn machine_block(machine: &Machine) -> Vec<u8> {
+    words_to_bytes(&[
+        machine.rlen,
+        machine.mlen,
+        machine.mtype,
+        machine.tile_m,
+        machine.tile_k,
+        machine.tile_n,
+        machine.seal_start,
+        machine.seal_length,
+    ])
+}
+
+/// The machine of a block; `None` if the block has the wrong length.
+pub fn machine_of(block: &[u8]) -> Option<Machine> {
+    if block.len() != library::MACHINE_BYTES {
+        return None;
+    }
+    let [rlen, mlen, mtype, tile_m, tile_k, tile_n, seal_start, seal_length] =
+        bytes_to_words(block).try_into().unwrap();
+    Some(Machine { rlen, mlen, mtype, tile_m, tile_k, tile_n, seal_start, seal_length })
+}
+
+impl Lent {
+    pub fn machine(&self) -> Machine {
+        machine_of(&self.machine).expect("a machine block of the right length")
+    }
+
+    pub fn set_machine(&mut self, machine: &Machine) {
+        self.machine = machine_block(machine);
+    }
+
+    pub fn scalar_values(&self) -> Vec<u64> {
+        bytes_to_words(&self.scalars)
+    }
+
+    pub fn set_scalar(&mut self, slot: u32, value: u64) {
+        let at = 8 * slot as usize;
+        self.scalars[at..at + 8].copy_from_slice(&value.to_le_bytes());
+    }
+
+    /// The bench without the scalars; `None` is answer 8.
+    pub fn bench(&self) -> Option<Bench> {
+        Some(Bench {
+            machine: machine_of(&self.machine)?,
+            registers: self.registers.clone(),
+            marks: self.marks.clone(),
+            memory: self.memory.clone(),
+        })
+    }
+
+    /// Whether the blocks hold exactly this bench.
+    pub fn holds(&self, bench: &Bench) -> bool {
+        self.machine == machine_block(&bench.machine)
+            && self.registers == bench.registers
+            && self.marks == bench.marks
+            && self.memory == bench.memory
+    }
+
+    /// Takes what a bench holds; the scalars stay.
+    pub fn take(&mut self, bench: Bench) {
+        self.machine = machine_block(&bench.machine);
+        self.registers = bench.registers;
+        self.marks = bench.marks;
+        self.memory = bench.memory;
+    }
+}
+
+// ---------------------------------------------------------------------------
+// The library
+
+pub fn library_step(word: u32, lent: &mut Lent) -> u64 {
+    library::step(
+        word,
+        &mut lent.machine,
+        &mut lent.registers,
+        &mut lent.marks,
+        &mut lent.scalars,
+        &mut lent.memory,
+    )
+}
+
+// ---------------------------------------------------------------------------
+// The second program
+
+pub fn second_step(word: u32, lent: &mut Lent) -> Answer {
+    let Some(mut bench) = lent.bench() else {
+        return BAD_ARGUMENTS;
+    };
+    if lent.scalars.len() != library::SCALARS_BYTES {
+        return BAD_ARGUMENTS;
+    }
+    let mut scalars = lent.scalar_values();
+    let answer = model::step(word, &mut bench, &mut scalars);
+    lent.take(bench);
+    lent.scalars = words_to_bytes(&scalars);
+    answer
+}
+
+// ---------------------------------------------------------------------------
+// Readable reports
+
+/// Both answers, whatever differs, and the state both programs were given.
+pub fn report(before: &Lent, given: u64, library: &Lent, expected: u64, second: &Lent) -> String {
+    let mut text = String::new();
+    writeln!(text, "library:        {}", unpacked(given)).unwrap();
+    writeln!(text, "second program: {}", unpacked(expected)).unwrap();
+    for (name, before, library, second) in [
+        ("machine block", &before.machine, &library.machine, &second.machine),
+        ("registers", &before.registers, &library.registers, &second.registers),
+        ("marks", &before.marks, &library.marks, &second.marks),
+        ("scalars", &before.scalars, &library.scalars, &second.scalars),
+        ("memory", &before.memory, &library.memory, &second.memory),
+    ] {
+        text += &differences(name, before, library, second);
+    }
+    text + "the state before:\n" + &state_text(before)
+}
+
+/// The bytes that differ, at most eight of them.
+pub fn differences(name: &str, before: &[u8], library: &[u8], second: &[u8]) -> String {
+    let places: Vec<usize> =
+        (0..library.len().min(second.len())).filter(|&at| library[at] != second[at]).collect();
+    let mut text = String::new();
+    if places.is_empty() && library.len() == second.len() {
+        return text;
+    }
+    writeln!(text, "{name}: {} bytes differ", places.len()).unwrap();
+    for &at in places.iter().take(8) {
+        let was = before.get(at).map_or("none".to_string(), |byte| format!("{byte:02x}"));
+        writeln!(
+            text,
+            "  byte {at}: before {was}, library {:02x}, second program {:02x}",
+            library[at], second[at]
+        )
+        .unwrap();
+    }
+    text
+}
+
+fn hex(bytes: &[u8]) -> String {
+    bytes.iter().map(|byte| format!("{byte:02x}")).collect::<Vec<_>>().join(" ")
+}
+
+/// Bytes in lines of 32, or their number alone if they are many.
+fn dump(name: &str, bytes: &[u8]) -> String {
+    let mut text = format!("{name}: {} bytes\n", bytes.len());
+    if bytes.len() <= 1024 {
+        for (line, chunk) in bytes.chunks(32).enumerate() {
+            writeln!(text, "  {:5}: {}", 32 * line, hex(chunk)).unwrap();
+        }
+    }
+    text
+}
+
+pub fn state_text(lent: &Lent) -> String {
+    let mut text = match machine_of(&lent.machine) {
+        Some(machine) => format!("{machine:?}\n"),
+        None => dump("machine block", &lent.machine),
+    };
+    for (slot, value) in lent.scalar_values().iter().enumerate().filter(|(_, value)| **value != 0) {
+        write!(text, "x{slot}={value:#x} ").unwrap();
+    }
+    writeln!(text, "({} bytes of scalars)", lent.scalars.len()).unwrap();
+    text += &dump("registers", &lent.registers);
+    text += &marks_text(&lent.marks);
+    text += &dump("memory", &lent.memory);
+    text
+}
+
+/// Marks as ranges of equal value.
+fn marks_text(marks: &[u8]) -> String {
+    let mut text = format!("marks: {} bytes:", marks.len());
+    let mut from = 0;
+    for at in 1..=marks.len() {
+        if at == marks.len() || marks[at] != marks[from] {
+            write!(text, " {from}..{at}={}", marks[from]).unwrap();
+            from = at;
+        }
+        if text.len() > 800 {
+            text += " ...";
+            break;
+        }
+    }
+    text + "\n"
+}

@@ -1,0 +1,123 @@
+//! Holds the static library to the second program, and times it.
+//!
+//!     compare [long|bench] [--seed N] [--suite NAME [--case N]]
+//!
+//! Without a word: the suites at their usual length. `long`: ten million steps
+//! and more. `bench`: one table of times. A reported difference names its
+//! suite, case and seed, which repeat it.
+
+mod bench;
+mod boundaries;
+mod damage;
+mod lent;
+mod library;
+mod random;
+#[cfg(feature = "runs")]
+mod runs;
+mod sheet;
+mod starts;
+mod states;
+mod steps;
+mod suite;
+mod tally;
+
+use std::time::Instant;
+use suite::{Context, Outcome, Suite};
+
+const SUITES: [Suite; 9] = [
+    ("bench sheet", sheet::bench_sheet),
+    ("machine starts", starts::machine_starts),
+    ("codes", steps::codes),
+    ("boundaries", boundaries::boundaries),
+    ("random steps", steps::random_steps),
+    ("several faults", steps::several_faults),
+    ("sequences", steps::sequences),
+    ("damaged steps", damage::damaged_steps),
+    ("empty slices", damage::empty_slices),
+];
+
+fn suites() -> Vec<Suite> {
+    let suites = SUITES.to_vec();
+    #[cfg(feature = "runs")]
+    let suites = [suites, runs::SUITES.to_vec()].concat();
+    suites
+}
+
+/// `long` takes this many times the random steps: above ten million.
+const LONG_SCALE: u64 = 28;
+
+struct Arguments {
+    long: bool,
+    bench: bool,
+    seed: u64,
+    suite: Option<String>,
+    case: Option<u64>,
+}
+
+fn arguments() -> Option<Arguments> {
+    let mut found = Arguments { long: false, bench: false, seed: 1, suite: None, case: None };
+    let mut words = std::env::args().skip(1);
+    while let Some(word) = words.next() {
+        match word.as_str() {
+            "long" => found.long = true,
+            "bench" => found.bench = true,
+            "--seed" => found.seed = words.next()?.parse().ok()?,
+            "--suite" => found.suite = Some(words.next()?),
+            "--case" => found.case = Some(words.next()?.parse().ok()?),
+            _ => return None,
+        }
+    }
+    Some(found)
+}
+
+fn main() {
+    let Some(arguments) = arguments() else {
+        eprintln!("usage: compare [long|bench] [--seed N] [--suite NAME [--case N]]");
+        std::process::exit(2);
+    };
+    if arguments.bench {
+        bench::bench();
+        return;
+    }
+    let suites = suites();
+    if let Some(only) = &arguments.suite {
+        if !suites.iter().any(|(name, _)| name == only) {
+            eprintln!("no suite '{only}' in this build");
+            std::process::exit(2);
+        }
+    }
+    println!("seed {}", arguments.seed);
+    let mut context = Context {
+        seed: arguments.seed,
+        scale: if arguments.long { LONG_SCALE } else { 1 },
+        only_case: arguments.case,
+        tally: tally::Tally::default(),
+    };
+    let mut failed = 0;
+    let mut passed = 0;
+    let mut note = |name: &str, outcome: Outcome, seconds: f64| match outcome {
+        Ok(summary) => {
+            passed += 1;
+            println!("{name:18} passed: {summary}, {seconds:.1} s");
+        }
+        Err(text) => {
+            failed += 1;
+            println!("{name:18} FAILED\n{text}");
+        }
+    };
+    for (name, suite) in suites {
+        if arguments.suite.as_deref().is_some_and(|only| only != name) {
+            continue;
+        }
+        let started = Instant::now();
+        let outcome = suite(&mut context);
+        note(name, outcome, started.elapsed().as_secs_f64());
+    }
+    if arguments.suite.is_none() {
+        context.tally.print();
+        note("answers met", context.tally.check(), 0.0);
+        note("amount", context.tally.amount(), 0.0);
+    }
+    println!("{passed} passed, {failed} failed");
+    std::process::exit(i32::from(failed > 0));
+}

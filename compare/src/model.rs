@@ -1,0 +1,1098 @@
+//! The second program: the scope paper's rules, each as one plain function.
+//!
+//! It is written to be read beside the paper, not to be fast. Sizes and
+//! addresses are whole numbers (`i128`), bytes are looked at one by one, and a
+//! product run is the list of its steps.
+
+use std::collections::HashMap;
+
+/// Widest element in bits.
+pub const ELEN: i128 = 32;
+
+/// mtype's bit 63: the last new value was illegal.
+pub const MILL: u64 = 1 << 63;
+
+#[derive(Clone, Copy, Debug, PartialEq, Eq)]
+pub struct Machine {
+    pub rlen: u64,
+    pub mlen: u64,
+    pub mtype: u64,
+    pub tile_m: u64,
+    pub tile_k: u64,
+    pub tile_n: u64,
+    pub seal_start: u64,
+    pub seal_length: u64,
+}
+
+/// A machine with what it is lent, but for the scalars.
+#[derive(Clone, Debug, PartialEq, Eq)]
+pub struct Bench {
+    pub machine: Machine,
+    pub registers: Vec<u8>,
+    pub marks: Vec<u8>,
+    pub memory: Vec<u8>,
+}
+
+#[derive(Clone, Copy, Debug, PartialEq, Eq)]
+pub struct Answer {
+    pub number: u64,
+    pub row: u64,
+    pub column: u64,
+}
+
+fn answer(number: u64) -> Answer {
+    Answer { number, row: 0, column: 0 }
+}
+
+// ---------------------------------------------------------------------------
+// What a machine is
+
+const RLENS: [u64; 4] = [64, 128, 256, 512];
+const MLENS: [u64; 6] = [128, 256, 512, 1024, 2048, 4096];
+
+pub fn lengths_permitted(rlen: u64, mlen: u64) -> bool {
+    RLENS.contains(&rlen) && MLENS.contains(&mlen) && rlen < mlen
+}
+
+/// Every permitted pair (RLEN, MLEN), small machines first.
+pub fn permitted_lengths() -> Vec<(u64, u64)> {
+    let mut pairs = Vec::new();
+    for mlen in MLENS {
+        for rlen in RLENS {
+            if lengths_permitted(rlen, mlen) {
+                pairs.push((rlen, mlen));
+            }
+        }
+    }
+    pairs
+}
+
+/// Eight tile registers of MLEN bits and two accumulators of 4 x MLEN bits.
+pub fn register_bytes(mlen: u64) -> usize {
+    ((8 * mlen + 2 * 4 * mlen) / 8) as usize
+}
+
+fn buffers_fit(mlen: u64, registers: &[u8], marks: &[u8]) -> bool {
+    registers.len() == register_bytes(mlen) && marks.len() == register_bytes(mlen)
+}
+
+/// A seal's end is its start plus its length.
+fn seal_permitted(start: u64, length: u64) -> bool {
+    start as i128 + length as i128 <= u64::MAX as i128
+}
+
+/// Starts a machine; `None` is answer 8.
+pub fn start(
+    rlen: u64,
+    mlen: u64,
+    seal_start: u64,
+    seal_length: u64,
+    registers: &[u8],
+    marks: &mut [u8],
+) -> Option<Machine> {
+    if !lengths_permitted(rlen, mlen)
+        || !buffers_fit(mlen, registers, marks)
+        || !seal_permitted(seal_start, seal_length)
+    {
+        return None;
+    }
+    for mark in marks.iter_mut() {
+        *mark = 0;
+    }
+    Some(Machine { rlen, mlen, mtype: 0, tile_m: 0, tile_k: 0, tile_n: 0, seal_start, seal_length })
+}
+
+/// The values of mtype that can arise.
+fn mtype_can_arise(mtype: u64) -> bool {
+    mtype == MILL || new_mtype(mtype) == mtype
+}
+
+/// Answer 8 of a step and of a run's start, but for the scalars.
+pub fn state_at_fault(bench: &Bench) -> bool {
+    let machine = &bench.machine;
+    if !lengths_permitted(machine.rlen, machine.mlen) {
+        return true;
+    }
+    let above_maximum = [Size::M, Size::K, Size::N]
+        .iter()
+        .any(|&size| tile_size(machine, size) > maximum(machine, size, 8));
+    !buffers_fit(machine.mlen, &bench.registers, &bench.marks)
+        || !mtype_can_arise(machine.mtype)
+        || above_maximum
+        || !seal_permitted(machine.seal_start, machine.seal_length)
+        || bench.marks.iter().any(|&mark| mark != 0 && mark != 1)
+}
+
+#[derive(Clone, Copy, Debug, PartialEq, Eq)]
+pub enum Register {
+    Tile(u32),
+    Accumulator(u32),
+}
+
+/// Where row `i` of a register starts among the register bytes: tr0 to tr7,
+/// then acc0 and acc1.
+fn register_row(machine: &Machine, register: Register, i: i128) -> i128 {
+    let (mlen, rlen) = (machine.mlen as i128, machine.rlen as i128);
+    match register {
+        Register::Tile(r) => r as i128 * mlen / 8 + i * rlen / 8,
+        Register::Accumulator(a) => mlen + a as i128 * 4 * mlen / 8 + i * 4 * rlen / 8,
+    }
+}
+
+/// The bytes of element (i, j) of `width` bits in a register.
+pub fn register_element(
+    machine: &Machine,
+    register: Register,
+    i: i128,
+    j: i128,
+    width: i128,
+) -> std::ops::Range<usize> {
+    let first = register_row(machine, register, i) + j * width / 8;
+    first as usize..(first + width / 8) as usize
+}
+
+/// The scalar in a slot; slot 0 is read as 0.
+fn scalar(scalars: &[u64], slot: u32) -> u64 {
+    if slot == 0 {
+        0
+    } else {
+        scalars[slot as usize]
+    }
+}
+
+fn set_scalar(scalars: &mut [u64], slot: u32, value: u64) {
+    if slot != 0 {
+        scalars[slot as usize] = value;
+    }
+}
+
+// ---------------------------------------------------------------------------
+// Numbers at a width
+
+/// The signed number in some bytes, low byte first.
+fn signed(bytes: &[u8]) -> i128 {
+    let mut number: i128 = 0;
+    for (place, &byte) in bytes.iter().enumerate() {
+        number += (byte as i128) << (8 * place);
+    }
+    let width = 8 * bytes.len();
+    if number >= 1 << (width - 1) {
+        number - (1 << width)
+    } else {
+        number
+    }
+}
+
+/// A number reduced to the width of some bytes, written low byte first.
+fn put(number: i128, bytes: &mut [u8]) {
+    let reduced = number.rem_euclid(1 << (8 * bytes.len()));
+    for (place, byte) in bytes.iter_mut().enumerate() {
+        *byte = (reduced >> (8 * place)) as u8;
+    }
+}
+
+// ---------------------------------------------------------------------------
+// The listing
+
+#[derive(Clone, Copy, Debug, PartialEq, Eq)]
+pub enum Size {
+    M,
+    K,
+    N,
+}
+
+#[derive(Clone, Copy, Debug, PartialEq, Eq)]
+pub enum Matrix {
+    A,
+    B,
+    C,
+}
+
+/// What an instruction does. Loads and stores name the element's width in
+/// bits, the others how many times SEW their output is wide.
+#[derive(Clone, Copy, Debug, PartialEq, Eq)]
+pub enum Kind {
+    SetType,
+    SetSize(Size),
+    Load(Matrix, i128),
+    Store(Matrix, i128),
+    Multiply(i128),
+    Add(i128),
+    Subtract(i128),
+    ReverseSubtract(i128),
+    Scale(i128),
+}
+
+/// A row of the listing. Its columns stand as printed, from bit 31 down:
+/// fixed bits as digits, operands by name.
+#[derive(Debug, PartialEq, Eq)]
+pub struct Row {
+    pub name: &'static str,
+    columns: &'static str,
+    pub kind: Kind,
+}
+
+const fn row(name: &'static str, columns: &'static str, kind: Kind) -> Row {
+    Row { name, columns, kind }
+}
+
+use Kind::*;
+use Matrix::*;
+
+pub const LISTING: [Row; 50] = [
+    row("msettypei", "0000 mtypei 111 rd 1110111", SetType),
+    row("msettype", "0001 00000000 rs1 111 rd 1110111", SetType),
+    row("msettilemi", "0010 mleni 111 rd 1110111", SetSize(Size::M)),
+    row("msettilem", "0011 00000000 rs1 111 rd 1110111", SetSize(Size::M)),
+    row("msettileki", "0100 mleni 111 rd 1110111", SetSize(Size::K)),
+    row("msettilek", "0101 00000000 rs1 111 rd 1110111", SetSize(Size::K)),
+    row("msettileni", "0110 mleni 111 rd 1110111", SetSize(Size::N)),
+    row("msettilen", "0111 00000000 rs1 111 rd 1110111", SetSize(Size::N)),
+    row("mlae8.m", "000001 0 rs2 rs1 000 md 1110111", Load(A, 8)),
+    row("mlae16.m", "000001 0 rs2 rs1 001 md 1110111", Load(A, 16)),
+    row("mlae32.m", "000001 0 rs2 rs1 010 md 1110111", Load(A, 32)),
+    row("mlae64.m", "000001 0 rs2 rs1 011 md 1110111", Load(A, 64)),
+    row("mlbe8.m", "000010 0 rs2 rs1 000 md 1110111", Load(B, 8)),
+    row("mlbe16.m", "000010 0 rs2 rs1 001 md 1110111", Load(B, 16)),
+    row("mlbe32.m", "000010 0 rs2 rs1 010 md 1110111", Load(B, 32)),
+    row("mlbe64.m", "000010 0 rs2 rs1 011 md 1110111", Load(B, 64)),
+    row("mlce8.m", "000000 0 rs2 rs1 000 md 1110111", Load(C, 8)),
+    row("mlce16.m", "000000 0 rs2 rs1 001 md 1110111", Load(C, 16)),
+    row("mlce32.m", "000000 0 rs2 rs1 010 md 1110111", Load(C, 32)),
+    row("mlce64.m", "000000 0 rs2 rs1 011 md 1110111", Load(C, 64)),
+    row("msae8.m", "000001 1 rs2 rs1 000 ms3 1110111", Store(A, 8)),
+    row("msae16.m", "000001 1 rs2 rs1 001 ms3 1110111", Store(A, 16)),
+    row("msae32.m", "000001 1 rs2 rs1 010 ms3 1110111", Store(A, 32)),
+    row("msae64.m", "000001 1 rs2 rs1 011 ms3 1110111", Store(A, 64)),
+    row("msbe8.m", "000010 1 rs2 rs1 000 ms3 1110111", Store(B, 8)),
+    row("msbe16.m", "000010 1 rs2 rs1 001 ms3 1110111", Store(B, 16)),
+    row("msbe32.m", "000010 1 rs2 rs1 010 ms3 1110111", Store(B, 32)),
+    row("msbe64.m", "000010 1 rs2 rs1 011 ms3 1110111", Store(B, 64)),
+    row("msce8.m", "000000 1 rs2 rs1 000 ms3 1110111", Store(C, 8)),
+    row("msce16.m", "000000 1 rs2 rs1 001 ms3 1110111", Store(C, 16)),
+    row("msce32.m", "000000 1 rs2 rs1 010 ms3 1110111", Store(C, 32)),
+    row("msce64.m", "000000 1 rs2 rs1 011 ms3 1110111", Store(C, 64)),
+    row("mma.mm", "000000 0 ms2 ms1 110 md 1110111", Multiply(1)),
+    row("mwma.mm", "000001 0 ms2 ms1 110 md 1110111", Multiply(2)),
+    row("mqma.mm", "000010 0 ms2 ms1 110 md 1110111", Multiply(4)),
+    row("maddc.mm", "000100 0 00000 ms1 110 md 1110111", Add(1)),
+    row("mwaddc.mm", "000101 0 00000 ms1 110 md 1110111", Add(2)),
+    row("mqaddc.mm", "000110 0 00000 ms1 110 md 1110111", Add(4)),
+    row("msubc.mm", "000111 0 00000 ms1 110 md 1110111", Subtract(1)),
+    row("mwsubc.mm", "001000 0 00000 ms1 110 md 1110111", Subtract(2)),
+    row("mqsubc.mm", "001001 0 00000 ms1 110 md 1110111", Subtract(4)),
+    row("mrsubc.mm", "001010 0 00000 ms1 110 md 1110111", ReverseSubtract(1)),
+    row("mwrsubc.mm", "001011 0 00000 ms1 110 md 1110111", ReverseSubtract(2)),
+    row("mqrsubc.mm", "001100 0 00000 ms1 110 md 1110111", ReverseSubtract(4)),
+    row("memulc.mx", "001101 0 rs2 ms1 110 md 1110111", Scale(1)),
+    row("mwemulc.mx", "001110 0 rs2 ms1 110 md 1110111", Scale(2)),
+    row("mqemulc.mx", "001111 0 rs2 ms1 110 md 1110111", Scale(4)),
+    row("memulc.mi", "010000 0 imm ms1 110 md 1110111", Scale(1)),
+    row("mwemulc.mi", "010001 0 imm ms1 110 md 1110111", Scale(2)),
+    row("mqemulc.mi", "010010 0 imm ms1 110 md 1110111", Scale(4)),
+];
+
+/// One column of a row: its text, its lowest bit and how many bits it has.
+struct Column {
+    text: &'static str,
+    low: u32,
+    bits: u32,
+}
+
+impl Column {
+    /// The fixed bits, if the column has digits.
+    fn fixed(&self) -> Option<u32> {
+        u32::from_str_radix(self.text, 2).ok()
+    }
+
+    fn of(&self, word: u32) -> u32 {
+        (word >> self.low) & ((1 << self.bits) - 1)
+    }
+
+    /// Columns that belong to a code: 31..28 and 14..12 of a setting word,
+    /// 31..25 and 14..12 of the others, and the opcode. The zeros in 27..20
+    /// and 24..20 are no part of it.
+    fn of_code(&self) -> bool {
+        self.fixed().is_some() && self.low != 20
+    }
+}
+
+impl Row {
+    fn columns(&self) -> impl Iterator<Item = Column> {
+        let mut low = 32;
+        self.columns.split(' ').map(move |text| {
+            let bits = match text {
+                "mtypei" | "mleni" => 13,
+                "rd" | "rs1" | "rs2" | "md" | "ms1" | "ms2" | "ms3" | "imm" => 5,
+                digits => digits.len() as u32,
+            };
+            low -= bits;
+            Column { text, low, bits }
+        })
+    }
+}
+
+/// The row whose opcode and code a word has, whatever its operands.
+pub fn row_by_code(word: u32) -> Option<&'static Row> {
+    LISTING
+        .iter()
+        .find(|row| row.columns().filter(Column::of_code).all(|c| c.fixed() == Some(c.of(word))))
+}
+
+/// A word of a row, with operands by name; the other operands are 0.
+pub fn assemble(name: &str, operands: &[(&str, u32)]) -> u32 {
+    let row = LISTING.iter().find(|row| row.name == name).expect("a name of the listing");
+    let mut word = 0;
+    for column in row.columns() {
+        let named = operands.iter().find(|(operand, _)| *operand == column.text);
+        let value = column.fixed().or(named.map(|n| n.1)).unwrap_or(0);
+        word |= (value & ((1 << column.bits) - 1)) << column.low;
+    }
+    word
+}
+
+/// A word in readable form.
+pub fn describe(word: u32) -> String {
+    let Some(row) = row_by_code(word) else {
+        return "a code that is not ours".to_string();
+    };
+    let mut text = row.name.to_string();
+    for column in row.columns().filter(|column| column.fixed().is_none()) {
+        text += &format!(" {}={}", column.text, column.of(word));
+    }
+    text
+}
+
+#[derive(Clone, Copy, Debug)]
+pub struct Instruction {
+    pub row: &'static Row,
+    word: u32,
+}
+
+impl Instruction {
+    fn operand(&self, name: &str) -> Option<u32> {
+        self.row.columns().find(|column| column.text == name).map(|column| column.of(self.word))
+    }
+
+    /// An operand that the row is known to have.
+    fn get(&self, name: &str) -> u32 {
+        self.operand(name).expect("an operand of this row")
+    }
+
+    /// The register that a load writes or a store reads, or a result's one.
+    fn md(&self) -> Register {
+        let number = self.operand("md").or(self.operand("ms3")).expect("a register operand");
+        match self.row.kind {
+            Load(A | B, _) | Store(A | B, _) => Register::Tile(number),
+            _ => Register::Accumulator(number),
+        }
+    }
+
+    /// The first source: a tile register of a multiply, else an accumulator.
+    fn ms1(&self) -> Register {
+        match self.row.kind {
+            Multiply(_) => Register::Tile(self.get("ms1")),
+            _ => Register::Accumulator(self.get("ms1")),
+        }
+    }
+
+    fn ms2(&self) -> Register {
+        Register::Tile(self.get("ms2"))
+    }
+}
+
+fn register_in_range(register: Register) -> bool {
+    match register {
+        Register::Tile(number) => number <= 7,
+        Register::Accumulator(number) => number <= 1,
+    }
+}
+
+fn registers_in_range(instruction: &Instruction) -> bool {
+    match instruction.row.kind {
+        SetType | SetSize(_) => true,
+        Load(..) | Store(..) => register_in_range(instruction.md()),
+        Multiply(_) => [instruction.ms1(), instruction.ms2(), instruction.md()]
+            .into_iter()
+            .all(register_in_range),
+        Add(_) | Subtract(_) | ReverseSubtract(_) | Scale(_) => {
+            register_in_range(instruction.ms1()) && register_in_range(instruction.md())
+        }
+    }
+}
+
+/// Bits that a row fixes beside its code: 27..20 of a setting word with an
+/// rs1 field and 24..20 of an add or subtract, all zero.
+fn fixed_bits_kept(instruction: &Instruction) -> bool {
+    instruction
+        .row
+        .columns()
+        .filter(|column| column.fixed().is_some())
+        .all(|column| column.fixed() == Some(column.of(instruction.word)))
+}
+
+/// The instruction of a word; `None` is answer 1.
+pub fn decode(word: u32) -> Option<Instruction> {
+    let instruction = Instruction { row: row_by_code(word)?, word };
+    (fixed_bits_kept(&instruction) && registers_in_range(&instruction)).then_some(instruction)
+}
+
+// ---------------------------------------------------------------------------
+// mtype and tile sizes
+
+/// SEW of a legal mtype.
+pub fn sew(mtype: u64) -> i128 {
+    match mtype & 7 {
+        0 => 8,
+        1 => 16,
+        2 => 32,
+        _ => 64,
+    }
+}
+
+fn maccq(mtype: u64) -> bool {
+    mtype & 8 != 0
+}
+
+/// What mtype becomes when `value` is asked for.
+fn new_mtype(value: u64) -> u64 {
+    let illegal = value & 7 >= 4
+        || value >> 4 != 0
+        || sew(value) > ELEN
+        || (maccq(value) && 4 * sew(value) > ELEN);
+    if illegal {
+        MILL
+    } else {
+        value
+    }
+}
+
+/// TMMAX, TKMAX or TNMAX at a SEW.
+pub fn maximum(machine: &Machine, size: Size, sew: i128) -> i128 {
+    let tmmax = machine.mlen as i128 / machine.rlen as i128;
+    let tnmax = machine.rlen as i128 / sew;
+    match size {
+        Size::M => tmmax,
+        Size::K => tmmax.min(tnmax),
+        Size::N => tnmax,
+    }
+}
+
+pub fn tile_size(machine: &Machine, size: Size) -> i128 {
+    match size {
+        Size::M => machine.tile_m as i128,
+        Size::K => machine.tile_k as i128,
+        Size::N => machine.tile_n as i128,
+    }
+}
+
+fn set_tile_size(machine: &mut Machine, size: Size, value: u64) {
+    match size {
+        Size::M => machine.tile_m = value,
+        Size::K => machine.tile_k = value,
+        Size::N => machine.tile_n = value,
+    }
+}
+
+/// The size a setting word asks for; nothing is asked with both rs1 and rd x0.
+fn asked_size(instruction: &Instruction, scalars: &[u64], maximum: i128) -> Option<i128> {
+    if let Some(immediate) = instruction.operand("mleni") {
+        return Some(immediate as i128);
+    }
+    let (rs1, rd) = (instruction.get("rs1"), instruction.get("rd"));
+    if rs1 != 0 {
+        Some(scalar(scalars, rs1) as i128)
+    } else if rd != 0 {
+        Some(maximum)
+    } else {
+        None
+    }
+}
+
+// ---------------------------------------------------------------------------
+// Tiles
+
+/// Rows and columns of a matrix, by name.
+pub fn shape(matrix: Matrix) -> (Size, Size) {
+    match matrix {
+        A => (Size::M, Size::K),
+        B => (Size::K, Size::N),
+        C => (Size::M, Size::N),
+    }
+}
+
+/// A tile held in a register.
+#[derive(Clone, Copy, Debug)]
+pub struct Tile {
+    pub register: Register,
+    pub rows: i128,
+    pub columns: i128,
+    pub width: i128,
+}
+
+fn tile(machine: &Machine, matrix: Matrix, register: Register, width: i128) -> Tile {
+    let (rows, columns) = shape(matrix);
+    Tile { register, rows: tile_size(machine, rows), columns: tile_size(machine, columns), width }
+}
+
+/// Width of the elements that an instruction writes (or that a store reads).
+fn output_width(instruction: &Instruction, machine: &Machine) -> i128 {
+    match instruction.row.kind {
+        SetType | SetSize(_) => 0,
+        Load(_, eew) | Store(_, eew) => eew,
+        Multiply(f) | Add(f) | Subtract(f) | ReverseSubtract(f) | Scale(f) => {
+            f * sew(machine.mtype)
+        }
+    }
+}
+
+/// The multiplier of an element-wise multiply: the low SEW bits of the scalar,
+/// or the five-bit immediate, signed.
+fn multiplier(instruction: &Instruction, machine: &Machine, scalars: &[u64]) -> i128 {
+    match instruction.operand("imm") {
+        Some(immediate) if immediate >= 16 => immediate as i128 - 32,
+        Some(immediate) => immediate as i128,
+        None => {
+            let value = scalar(scalars, instruction.get("rs2"));
+            let bytes = (sew(machine.mtype) / 8) as usize;
+            signed(&value.to_le_bytes()[..bytes])
+        }
+    }
+}
+
+/// The tiles an instruction reads from registers, in the order ms1, ms2, md.
+pub fn sources(instruction: &Instruction, machine: &Machine, scalars: &[u64]) -> Vec<Tile> {
+    let sew = sew(machine.mtype);
+    let width = output_width(instruction, machine);
+    let c_has_no_element = machine.tile_m == 0 || machine.tile_n == 0;
+    match instruction.row.kind {
+        SetType | SetSize(_) | Load(..) => vec![],
+        Store(matrix, _) => vec![tile(machine, matrix, instruction.md(), width)],
+        Multiply(_) if c_has_no_element => vec![],
+        Multiply(_) => vec![
+            tile(machine, A, instruction.ms1(), sew),
+            tile(machine, B, instruction.ms2(), sew),
+            tile(machine, C, instruction.md(), width),
+        ],
+        Add(_) | Subtract(_) | ReverseSubtract(_) => vec![
+            tile(machine, C, instruction.ms1(), sew),
+            tile(machine, C, instruction.md(), width),
+        ],
+        Scale(_) if multiplier(instruction, machine, scalars) == 0 => vec![],
+        Scale(_) => vec![tile(machine, C, instruction.ms1(), sew)],
+    }
+}
+
+/// Address of the first byte of element (i, j) of a load or store.
+fn element_address(instruction: &Instruction, scalars: &[u64], i: i128, j: i128) -> i128 {
+    let width = match instruction.row.kind {
+        Load(_, eew) | Store(_, eew) => eew,
+        _ => unreachable!("only loads and stores have addresses"),
+    };
+    let base = scalar(scalars, instruction.get("rs1")) as i128;
+    let stride = scalar(scalars, instruction.get("rs2")) as i64 as i128;
+    base + i * stride + j * width / 8
+}
+
+/// Every address that a load or store touches, row by row.
+fn addresses(instruction: &Instruction, machine: &Machine, scalars: &[u64]) -> Vec<i128> {
+    let (matrix, width) = match instruction.row.kind {
+        Load(matrix, eew) | Store(matrix, eew) => (matrix, eew),
+        _ => return vec![],
+    };
+    let (rows, columns) = shape(matrix);
+    let mut touched = Vec::new();
+    for i in 0..tile_size(machine, rows) {
+        for j in 0..tile_size(machine, columns) {
+            let first = element_address(instruction, scalars, i, j);
+            touched.extend(first..first + width / 8);
+        }
+    }
+    touched
+}
+
+pub fn sealed(machine: &Machine, address: i128) -> bool {
+    let start = machine.seal_start as i128;
+    start <= address && address < start + machine.seal_length as i128
+}
+
+// ---------------------------------------------------------------------------
+// The answers of a step
+
+/// Answer 3.
+pub fn width_rule_broken(kind: Kind, mtype: u64) -> bool {
+    let sew = sew(mtype);
+    let maccq = maccq(mtype);
+    match kind {
+        SetType | SetSize(_) => false,
+        Load(A | B, eew) | Store(A | B, eew) => eew != sew,
+        Load(C, eew) | Store(C, eew) => {
+            let fits = eew == sew || eew == 2 * sew || (maccq && eew == 4 * sew);
+            !fits || eew > ELEN
+        }
+        Multiply(f) | Add(f) | Subtract(f) | ReverseSubtract(f) | Scale(f) => match f {
+            1 => false,
+            2 => 2 * sew > ELEN,
+            _ => !maccq,
+        },
+    }
+}
+
+/// Answer 4.
+fn size_too_large(instruction: &Instruction, machine: &Machine) -> bool {
+    let used: &[Size] = match instruction.row.kind {
+        SetType | SetSize(_) => &[],
+        Load(A, _) | Store(A, _) => &[Size::M, Size::K],
+        Load(B, _) | Store(B, _) => &[Size::K, Size::N],
+        Load(C, _) | Store(C, _) => &[Size::M, Size::N],
+        Multiply(_) => &[Size::M, Size::K, Size::N],
+        Add(_) | Subtract(_) | ReverseSubtract(_) | Scale(_) => &[Size::M, Size::N],
+    };
+    let sew = sew(machine.mtype);
+    used.iter().any(|&size| tile_size(machine, size) > maximum(machine, size, sew))
+}
+
+/// Answer 5: row and column of the first element read that has a byte without
+/// a mark.
+fn first_unwritten(bench: &Bench, sources: &[Tile]) -> Option<(i128, i128)> {
+    for tile in sources {
+        for i in 0..tile.rows {
+            for j in 0..tile.columns {
+                let bytes = register_element(&bench.machine, tile.register, i, j, tile.width);
+                if bench.marks[bytes].contains(&0) {
+                    return Some((i, j));
+                }
+            }
+        }
+    }
+    None
+}
+
+/// Answer 6.
+fn outside_memory(addresses: &[i128], memory: &[u8]) -> bool {
+    addresses.iter().any(|&address| address < 0 || address >= memory.len() as i128)
+}
+
+/// Answer 7.
+fn writes_sealed_byte(instruction: &Instruction, machine: &Machine, addresses: &[i128]) -> bool {
+    matches!(instruction.row.kind, Store(..)) && addresses.iter().any(|&a| sealed(machine, a))
+}
+
+/// One instruction word.
+pub fn step(word: u32, bench: &mut Bench, scalars: &mut [u64]) -> Answer {
+    if state_at_fault(bench) || scalars.len() != 32 {
+        return answer(8);
+    }
+    let Some(instruction) = decode(word) else {
+        return answer(1);
+    };
+    if bench.machine.mtype & MILL != 0 && instruction.row.kind != SetType {
+        return answer(2);
+    }
+    if width_rule_broken(instruction.row.kind, bench.machine.mtype) {
+        return answer(3);
+    }
+    if size_too_large(&instruction, &bench.machine) {
+        return answer(4);
+    }
+    let sources = sources(&instruction, &bench.machine, scalars);
+    if let Some((row, column)) = first_unwritten(bench, &sources) {
+        return Answer { number: 5, row: row as u64, column: column as u64 };
+    }
+    let addresses = addresses(&instruction, &bench.machine, scalars);
+    if outside_memory(&addresses, &bench.memory) {
+        return answer(6);
+    }
+    if writes_sealed_byte(&instruction, &bench.machine, &addresses) {
+        return answer(7);
+    }
+    carry_out(&instruction, bench, scalars);
+    answer(0)
+}
+
+// ---------------------------------------------------------------------------
+// The effects of a step
+
+fn carry_out(instruction: &Instruction, bench: &mut Bench, scalars: &mut [u64]) {
+    match instruction.row.kind {
+        SetType => set_type(instruction, &mut bench.machine, scalars),
+        SetSize(size) => set_size(instruction, size, &mut bench.machine, scalars),
+        Load(matrix, _) => load(instruction, matrix, bench, scalars),
+        Store(matrix, _) => store(instruction, matrix, bench, scalars),
+        Multiply(_) => multiply(instruction, bench),
+        Add(_) | Subtract(_) | ReverseSubtract(_) => add_or_subtract(instruction, bench),
+        Scale(_) => scale(instruction, bench, scalars),
+    }
+}
+
+fn set_type(instruction: &Instruction, machine: &mut Machine, scalars: &mut [u64]) {
+    let asked = match instruction.operand("mtypei") {
+        Some(immediate) => immediate as u64,
+        None => scalar(scalars, instruction.get("rs1")),
+    };
+    machine.mtype = new_mtype(asked);
+    set_scalar(scalars, instruction.get("rd"), machine.mtype);
+}
+
+fn set_size(instruction: &Instruction, size: Size, machine: &mut Machine, scalars: &mut [u64]) {
+    let maximum = maximum(machine, size, sew(machine.mtype));
+    if let Some(asked) = asked_size(instruction, scalars, maximum) {
+        let granted = asked.min(maximum) as u64;
+        set_tile_size(machine, size, granted);
+        set_scalar(scalars, instruction.get("rd"), granted);
+    }
+}
+
+fn load(instruction: &Instruction, matrix: Matrix, bench: &mut Bench, scalars: &[u64]) {
+    let width = output_width(instruction, &bench.machine);
+    let tile = tile(&bench.machine, matrix, instruction.md(), width);
+    for i in 0..tile.rows {
+        for j in 0..tile.columns {
+            let address = element_address(instruction, scalars, i, j) as usize;
+            let places = register_element(&bench.machine, tile.register, i, j, width);
+            for (byte, place) in places.enumerate() {
+                bench.registers[place] = bench.memory[address + byte];
+                bench.marks[place] = 1;
+            }
+        }
+    }
+}
+
+fn store(instruction: &Instruction, matrix: Matrix, bench: &mut Bench, scalars: &[u64]) {
+    let width = output_width(instruction, &bench.machine);
+    let tile = tile(&bench.machine, matrix, instruction.md(), width);
+    for i in 0..tile.rows {
+        for j in 0..tile.columns {
+            let address = element_address(instruction, scalars, i, j) as usize;
+            let places = register_element(&bench.machine, tile.register, i, j, width);
+            for (byte, place) in places.enumerate() {
+                bench.memory[address + byte] = bench.registers[place];
+            }
+        }
+    }
+}
+
+/// A tile's elements, signed.
+fn read_tile(bench: &Bench, tile: Tile) -> Vec<Vec<i128>> {
+    let element = |i, j| {
+        signed(&bench.registers[register_element(&bench.machine, tile.register, i, j, tile.width)])
+    };
+    (0..tile.rows).map(|i| (0..tile.columns).map(|j| element(i, j)).collect()).collect()
+}
+
+/// Writes a tile's elements, each reduced to its width, and marks their bytes.
+fn write_tile(bench: &mut Bench, tile: Tile, values: &[Vec<i128>]) {
+    for i in 0..tile.rows {
+        for j in 0..tile.columns {
+            let places = register_element(&bench.machine, tile.register, i, j, tile.width);
+            put(values[i as usize][j as usize], &mut bench.registers[places.clone()]);
+            bench.marks[places].fill(1);
+        }
+    }
+}
+
+fn multiply(instruction: &Instruction, bench: &mut Bench) {
+    let machine = bench.machine;
+    let sew = sew(machine.mtype);
+    let output = tile(&machine, C, instruction.md(), output_width(instruction, &machine));
+    let a = read_tile(bench, tile(&machine, A, instruction.ms1(), sew));
+    let b = read_tile(bench, tile(&machine, B, instruction.ms2(), sew));
+    let mut c = read_tile(bench, output);
+    for i in 0..machine.tile_m as usize {
+        for j in 0..machine.tile_n as usize {
+            for l in 0..machine.tile_k as usize {
+                c[i][j] += a[i][l] * b[l][j];
+            }
+        }
+    }
+    write_tile(bench, output, &c);
+}
+
+fn add_or_subtract(instruction: &Instruction, bench: &mut Bench) {
+    let machine = bench.machine;
+    let output = tile(&machine, C, instruction.md(), output_width(instruction, &machine));
+    let s = read_tile(bench, tile(&machine, C, instruction.ms1(), sew(machine.mtype)));
+    let mut d = read_tile(bench, output);
+    for i in 0..machine.tile_m as usize {
+        for j in 0..machine.tile_n as usize {
+            d[i][j] = match instruction.row.kind {
+                Add(_) => d[i][j] + s[i][j],
+                Subtract(_) => d[i][j] - s[i][j],
+                _ => s[i][j] - d[i][j],
+            };
+        }
+    }
+    write_tile(bench, output, &d);
+}
+
+fn scale(instruction: &Instruction, bench: &mut Bench, scalars: &[u64]) {
+    let machine = bench.machine;
+    let output = tile(&machine, C, instruction.md(), output_width(instruction, &machine));
+    let multiplier = multiplier(instruction, &machine, scalars);
+    let mut s = read_tile(bench, tile(&machine, C, instruction.ms1(), sew(machine.mtype)));
+    for element in s.iter_mut().flatten() {
+        *element *= multiplier;
+    }
+    write_tile(bench, output, &s);
+}
+
+// ---------------------------------------------------------------------------
+// The product run
+
+#[derive(Clone, Copy, Debug, PartialEq, Eq)]
+pub struct Plan {
+    pub sew: u64,
+    pub factor: u64,
+    pub m: u64,
+    pub k: u64,
+    pub n: u64,
+    pub a: u64,
+    pub a_stride: i64,
+    pub b: u64,
+    pub b_stride: i64,
+    pub c: u64,
+    pub c_stride: i64,
+}
+
+/// A matrix of a plan in memory.
+#[derive(Clone, Copy, Debug)]
+pub struct Placed {
+    pub address: i128,
+    pub stride: i128,
+    pub rows: i128,
+    pub columns: i128,
+    pub width: i128,
+}
+
+impl Plan {
+    pub fn placed(&self, matrix: Matrix) -> Placed {
+        let (address, stride, rows, columns, times) = match matrix {
+            A => (self.a, self.a_stride, self.m, self.k, 1),
+            B => (self.b, self.b_stride, self.k, self.n, 1),
+            C => (self.c, self.c_stride, self.m, self.n, self.factor),
+        };
+        Placed {
+            address: address as i128,
+            stride: stride as i128,
+            rows: rows as i128,
+            columns: columns as i128,
+            width: self.sew as i128 * times as i128,
+        }
+    }
+}
+
+impl Placed {
+    /// Address of the first byte of element (i, j).
+    pub fn element(&self, i: i128, j: i128) -> i128 {
+        self.address + i * self.stride + j * self.width / 8
+    }
+
+    /// Every byte of every element, with its row.
+    pub fn bytes(&self) -> impl Iterator<Item = (i128, i128)> + '_ {
+        (0..self.rows).flat_map(move |i| {
+            (0..self.columns).flat_map(move |j| {
+                let first = self.element(i, j);
+                (first..first + self.width / 8).map(move |address| (address, i))
+            })
+        })
+    }
+}
+
+/// A step that a run hands out.
+#[derive(Clone, Copy, Debug, PartialEq, Eq)]
+pub struct Handed {
+    pub word: u32,
+    pub scalar_10: u64,
+    pub scalar_11: u64,
+}
+
+#[derive(Clone, Debug, PartialEq, Eq)]
+pub struct Run {
+    pub steps: Vec<Handed>,
+    pub place: usize,
+}
+
+fn plan_numbers_bad(plan: &Plan) -> bool {
+    ![8, 16, 32].contains(&plan.sew)
+        || ![1, 2, 4].contains(&plan.factor)
+        || plan.factor as i128 * plan.sew as i128 > ELEN
+        || [plan.m, plan.k, plan.n].iter().any(|&size| size > 1024)
+}
+
+fn plan_outside_memory(plan: &Plan, memory: &[u8]) -> bool {
+    [A, B, C].into_iter().any(|matrix| {
+        plan.placed(matrix)
+            .bytes()
+            .any(|(address, _)| address < 0 || address >= memory.len() as i128)
+    })
+}
+
+/// Every byte of C, with the first row it lies in.
+fn bytes_of_c(plan: &Plan) -> HashMap<i128, i128> {
+    let mut row_of = HashMap::new();
+    for (address, row) in plan.placed(C).bytes() {
+        row_of.entry(address).or_insert(row);
+    }
+    row_of
+}
+
+/// The reasons of answer 9: a byte of C lies in two of its rows, in a row of
+/// A, in a row of B, or in the seal.
+pub fn overlaps(plan: &Plan, machine: &Machine) -> [bool; 4] {
+    let row_of = bytes_of_c(plan);
+    let meets = |matrix| plan.placed(matrix).bytes().any(|(at, _)| row_of.contains_key(&at));
+    [
+        plan.placed(C).bytes().any(|(at, row)| row_of[&at] != row),
+        meets(A),
+        meets(B),
+        row_of.keys().any(|&at| sealed(machine, at)),
+    ]
+}
+
+/// Starts a run; an error is the answer's number.
+pub fn run_start(plan: &Plan, bench: &Bench) -> Result<Run, u64> {
+    if state_at_fault(bench) || plan_numbers_bad(plan) {
+        return Err(8);
+    }
+    if plan_outside_memory(plan, &bench.memory) {
+        return Err(6);
+    }
+    if overlaps(plan, &bench.machine).contains(&true) {
+        return Err(9);
+    }
+    Ok(Run { steps: steps_of(plan, &bench.machine), place: 0 })
+}
+
+/// The steps of a run, as the paper's nested loops.
+fn steps_of(plan: &Plan, machine: &Machine) -> Vec<Handed> {
+    let sew = plan.sew as i128;
+    let wide = (plan.factor * plan.sew) as i128;
+    let (m, k, n) = (plan.m as i128, plan.k as i128, plan.n as i128);
+    let block = |size| maximum(machine, size, sew) as usize;
+
+    let set = |name: &str, value: i128| Handed {
+        word: assemble(name, &[("mtypei", value as u32), ("mleni", value as u32)]),
+        scalar_10: 0,
+        scalar_11: 0,
+    };
+    let move_tile = |name: String, register: u32, placed: Placed, i: i128, j: i128| Handed {
+        word: assemble(&name, &[("md", register), ("ms3", register), ("rs1", 10), ("rs2", 11)]),
+        scalar_10: placed.element(i, j) as u64,
+        scalar_11: placed.stride as u64,
+    };
+    let reckon = |name: &str, ms2: u32| Handed {
+        word: assemble(name, &[("md", 0), ("ms1", 0), ("ms2", ms2), ("imm", 0)]),
+        scalar_10: 0,
+        scalar_11: 0,
+    };
+    let (clear, multiply_words, maccq) = match plan.factor {
+        1 => ("memulc.mi", "mma.mm", 0),
+        2 => ("mwemulc.mi", "mwma.mm", 0),
+        _ => ("mqemulc.mi", "mqma.mm", 8),
+    };
+    let msew = match plan.sew {
+        8 => 0,
+        16 => 1,
+        _ => 2,
+    };
+
+    let mut steps = vec![set("msettypei", maccq + msew)];
+    for i in (0..m).step_by(block(Size::M)) {
+        steps.push(set("msettilemi", m - i));
+        for j in (0..n).step_by(block(Size::N)) {
+            steps.push(set("msettileni", n - j));
+            steps.push(reckon(clear, 0));
+            for l in (0..k).step_by(block(Size::K)) {
+                steps.push(set("msettileki", k - l));
+                steps.push(move_tile(format!("mlae{sew}.m"), 0, plan.placed(A), i, l));
+                steps.push(move_tile(format!("mlbe{sew}.m"), 1, plan.placed(B), l, j));
+                steps.push(reckon(multiply_words, 1));
+            }
+            steps.push(move_tile(format!("msce{wide}.m"), 0, plan.placed(C), i, j));
+        }
+    }
+    steps
+}
+
+/// The number of steps by the paper's formula.
+pub fn step_count(plan: &Plan, machine: &Machine) -> u64 {
+    let sew = plan.sew as i128;
+    let blocks = |size: u64, of: Size| {
+        let maximum = maximum(machine, of, sew);
+        (size as i128 + maximum - 1) / maximum
+    };
+    let (m, k, n) = (blocks(plan.m, Size::M), blocks(plan.k, Size::K), blocks(plan.n, Size::N));
+    (1 + m * (1 + n * (3 + 4 * k))) as u64
+}
+
+/// The next step; `None` past the last is answer 8.
+pub fn run_next(run: &mut Run) -> Option<Handed> {
+    let handed = run.steps.get(run.place).copied()?;
+    run.place += 1;
+    Some(handed)
+}
+
+/// Carries a handed out step out, with the run's own scalars.
+pub fn carry_out_handed(handed: &Handed, bench: &mut Bench) -> Answer {
+    let mut scalars = [0; 32];
+    scalars[10] = handed.scalar_10;
+    scalars[11] = handed.scalar_11;
+    step(handed.word, bench, &mut scalars)
+}
+
+/// A turn: the next step is asked for and, if handed out, carried out. A
+/// refusal changes nothing lent or held, so the place stays too.
+pub fn run_turn(run: &mut Run, bench: &mut Bench) -> Answer {
+    let place = run.place;
+    let Some(handed) = run_next(run) else {
+        return answer(8);
+    };
+    let given = carry_out_handed(&handed, bench);
+    if given.number != 0 {
+        run.place = place;
+    }
+    given
+}
+
+/// Up to `turns` turns, as far as they are answered 0; their number.
+pub fn run_turns(turns: u64, run: &mut Run, bench: &mut Bench) -> u64 {
+    let mut done = 0;
+    while done < turns && run_turn(run, bench).number == 0 {
+        done += 1;
+    }
+    done
+}
+
+/// A matrix's elements as memory holds them, signed.
+pub fn elements(placed: Placed, memory: &[u8]) -> Vec<Vec<i128>> {
+    let element = |i, j| {
+        let first = placed.element(i, j) as usize;
+        signed(&memory[first..first + placed.width as usize / 8])
+    };
+    (0..placed.rows).map(|i| (0..placed.columns).map(|j| element(i, j)).collect()).collect()
+}
+
+/// What C holds after a run: sums of products of what memory holds now,
+/// reduced to C's width, signed.
+pub fn product(plan: &Plan, memory: &[u8]) -> Vec<Vec<i128>> {
+    let a = elements(plan.placed(A), memory);
+    let b = elements(plan.placed(B), memory);
+    let mut c = vec![vec![0; plan.n as usize]; plan.m as usize];
+    for i in 0..plan.m as usize {
+        for j in 0..plan.n as usize {
+            let mut sum: i128 = 0;
+            for l in 0..plan.k as usize {
+                sum += a[i][l] * b[l][j];
+            }
+            let mut bytes = [0; 4];
+            let bytes = &mut bytes[..(plan.factor * plan.sew / 8) as usize];
+            put(sum, bytes);
+            c[i][j] = signed(bytes);
+        }
+    }
+    c
+}
+
+#[cfg(test)]
+#[path = "model_examples.rs"]
+mod examples;

@@ -1,0 +1,249 @@
+//! Seeded plans of product runs, with a bench to run them on.
+
+use crate::lent::Lent;
+use crate::random::Random;
+use crate::states::{
+    any_scalar, bench_of, put_seal, set_size, wrapping_stride, SIZES, WILD_STRIDES,
+};
+use model::{maximum, Machine, Plan, Size, MILL};
+
+/// Any machine that is not at fault: the state before a run is free.
+pub fn any_machine(random: &mut Random, rlen: u64, mlen: u64) -> Machine {
+    let mtype = random.pick(&[0, 1, 2, 8, MILL]);
+    let mut machine = Machine {
+        rlen,
+        mlen,
+        mtype,
+        tile_m: 0,
+        tile_k: 0,
+        tile_n: 0,
+        seal_start: 0,
+        seal_length: 0,
+    };
+    for size in SIZES {
+        let value = random.range(0, maximum(&machine, size, 8) as u64) as i128;
+        set_size(&mut machine, size, value);
+    }
+    machine
+}
+
+/// A size around a multiple of the block size.
+pub fn size_around(random: &mut Random, machine: &Machine, size: Size, sew: u64) -> u64 {
+    let block = maximum(machine, size, sew as i128) as u64;
+    let sizes = [0, 1, 2, block - 1, block, block + 1, 2 * block - 1, 2 * block, 2 * block + 1];
+    match random.below(12) {
+        11 => random.range(0, 2 * block + 1),
+        at => sizes[(at as usize).min(sizes.len() - 1)],
+    }
+}
+
+/// A range of memory that rows of one matrix take up.
+struct Rows {
+    rows: i128,
+    row_bytes: i128,
+}
+
+impl Rows {
+    fn empty(&self) -> bool {
+        self.rows == 0 || self.row_bytes == 0
+    }
+
+    /// Address and stride from the range's start, and its length.
+    fn lay(&self, random: &mut Random, from: i128, may_overlap: bool) -> (u64, i64, i128) {
+        if self.empty() {
+            return (any_scalar(random), any_scalar(random) as i64, 0);
+        }
+        let gap = if random.chance(50) { 0 } else { random.below(9) as i128 };
+        let mut step = self.row_bytes + gap;
+        if may_overlap && random.chance(20) {
+            step = random.below(self.row_bytes as u64) as i128;
+        }
+        if self.rows == 1 && random.chance(60) {
+            let stride = random.pick(&WILD_STRIDES);
+            return (from as u64, stride, self.row_bytes);
+        }
+        let spread = (self.rows - 1) * step;
+        if random.chance(50) {
+            (from as u64, step as i64, spread + self.row_bytes)
+        } else {
+            ((from + spread) as u64, -step as i64, spread + self.row_bytes)
+        }
+    }
+}
+
+/// A plan that is accepted on a bench of its own, with sizes as given.
+pub fn good_plan(
+    random: &mut Random,
+    machine: &Machine,
+    (sew, factor): (u64, u64),
+    [m, k, n]: [u64; 3],
+) -> (Plan, Lent) {
+    let bytes = |elements: u64, width: u64| (elements * width / 8) as i128;
+    let a = Rows { rows: m as i128, row_bytes: bytes(k, sew) };
+    let b = Rows { rows: k as i128, row_bytes: bytes(n, sew) };
+    let c = Rows { rows: m as i128, row_bytes: bytes(n, sew * factor) };
+    let mut plan =
+        Plan { sew, factor, m, k, n, a: 0, a_stride: 0, b: 0, b_stride: 0, c: 0, c_stride: 0 };
+    let mut end = random.below(4) as i128;
+    let gap = |random: &mut Random| {
+        if random.chance(50) {
+            0
+        } else {
+            random.below(6) as i128
+        }
+    };
+    if random.chance(25) && !a.empty() && !c.empty() {
+        // C's rows in A's gaps.
+        let both = Rows { rows: a.rows, row_bytes: a.row_bytes + c.row_bytes };
+        let (address, stride, length) = both.lay(random, end, false);
+        plan.a_stride = stride;
+        plan.c_stride = stride;
+        (plan.a, plan.c) = if random.chance(50) {
+            (address, address + a.row_bytes as u64)
+        } else {
+            (address + c.row_bytes as u64, address)
+        };
+        end += length + gap(random);
+        let length;
+        (plan.b, plan.b_stride, length) = b.lay(random, end, true);
+        end += length;
+    } else if random.chance(20) && !a.empty() && !b.empty() {
+        // A and B over each other.
+        let (length_a, length_b, length_c);
+        (plan.a, plan.a_stride, length_a) = a.lay(random, end, true);
+        let shift = random.below(length_a as u64 + 1) as i128;
+        (plan.b, plan.b_stride, length_b) = b.lay(random, end + shift, true);
+        end += length_a.max(shift + length_b) + gap(random);
+        (plan.c, plan.c_stride, length_c) = c.lay(random, end, false);
+        end += length_c;
+    } else {
+        let first = random.below(3);
+        for turn in 0..3 {
+            let length;
+            match (first + turn) % 3 {
+                0 => (plan.a, plan.a_stride, length) = a.lay(random, end, true),
+                1 => (plan.b, plan.b_stride, length) = b.lay(random, end, true),
+                _ => (plan.c, plan.c_stride, length) = c.lay(random, end, false),
+            }
+            end += length + gap(random);
+        }
+    }
+    let memory = trimmed_end(&plan, end) + gap(random) as usize;
+    let mut lent = bench_of(random, machine);
+    lent.memory = random.bytes(memory);
+    for mark in lent.marks.iter_mut() {
+        *mark = random.below(2) as u8;
+    }
+    (plan, lent)
+}
+
+/// One past the last byte of the plan's matrices.
+fn trimmed_end(plan: &Plan, end: i128) -> usize {
+    let mut last = 0;
+    for matrix in [model::Matrix::A, model::Matrix::B, model::Matrix::C] {
+        let placed = plan.placed(matrix);
+        if placed.columns > 0 {
+            for i in 0..placed.rows {
+                last = last.max(placed.element(i, placed.columns));
+            }
+        }
+    }
+    last.min(end) as usize
+}
+
+/// Puts a seal that holds no byte of C, if one of four tries finds it.
+pub fn harmless_seal(random: &mut Random, plan: &Plan, lent: &mut Lent) {
+    let mut machine = lent.machine();
+    for _ in 0..4 {
+        put_seal(random, &mut machine, lent);
+        let sealed = plan
+            .placed(model::Matrix::C)
+            .bytes()
+            .any(|(address, _)| model::sealed(&machine, address));
+        if !sealed {
+            lent.set_machine(&machine);
+            return;
+        }
+    }
+}
+
+/// Spoils a plan or its bench, by one or two changes.
+pub fn spoil(random: &mut Random, plan: &mut Plan, lent: &mut Lent) {
+    spoil_once(random, plan, lent);
+    if random.chance(20) {
+        spoil_once(random, plan, lent);
+    }
+}
+
+fn spoil_once(random: &mut Random, plan: &mut Plan, lent: &mut Lent) {
+    let row_bytes = (plan.n % 2048 * (plan.factor % 8) * (plan.sew % 64) / 8) as i64;
+    let shift = |random: &mut Random| {
+        let by = random.pick(&[1, 2, 7, 64, 1 << 20, 1 << 63]);
+        if random.chance(50) {
+            by
+        } else {
+            0u64.wrapping_sub(by)
+        }
+    };
+    match random.below(17) {
+        0 => plan.sew = random.pick(&[0, 1, 4, 7, 9, 24, 64, 128, 1 << 32, 1 << 61, u64::MAX]),
+        1 => plan.factor = random.pick(&[0, 3, 5, 8, 1 << 32, 1 << 61, u64::MAX]),
+        2 => {
+            (plan.sew, plan.factor) = random.pick(&[(16, 4), (32, 2), (32, 4), (64, 1), (4, 4)]);
+        }
+        3 => plan.m = random.pick(&[1025, 1026, 1 << 32, 1 << 63, u64::MAX]),
+        4 => plan.k = random.pick(&[1025, 1026, 1 << 32, 1 << 63, u64::MAX]),
+        5 => plan.n = random.pick(&[1025, 1026, 1 << 32, 1 << 63, u64::MAX]),
+        6 => {
+            // Not the scalars: a run's start is not lent any.
+            let kind = random.pick(&[0, 1, 2, 3, 5, 6, 7, 8, 9]);
+            if lent.machine.len() == crate::library::MACHINE_BYTES
+                && model::lengths_permitted(lent.machine().rlen, lent.machine().mlen)
+            {
+                crate::states::state_fault(random, lent, kind);
+            }
+        }
+        7 => plan.a = plan.a.wrapping_add(shift(random)),
+        8 => plan.b = plan.b.wrapping_add(shift(random)),
+        9 => plan.c = plan.c.wrapping_add(shift(random)),
+        10 => {
+            let length = lent.memory.len().saturating_sub(random.range(1, 2) as usize);
+            lent.memory.truncate(length);
+        }
+        11 => plan.a_stride = wild_stride(random, plan.m),
+        12 => plan.b_stride = wild_stride(random, plan.k),
+        13 => {
+            let step = random.below(row_bytes.max(1) as u64) as i64;
+            let wild = wild_stride(random, plan.m);
+            plan.c_stride = random.pick(&[0, 1, -1, step, -step, wild]);
+        }
+        14 => plan.c = random.pick(&[plan.a, plan.a.wrapping_sub(1), plan.a.wrapping_add(1)]),
+        15 => plan.c = random.pick(&[plan.b, plan.b.wrapping_sub(1), plan.b.wrapping_add(1)]),
+        _ => seal_a_byte_of_c(random, plan, lent),
+    }
+}
+
+fn wild_stride(random: &mut Random, rows: u64) -> i64 {
+    if random.chance(50) {
+        wrapping_stride(random, rows as i128)
+    } else {
+        random.pick(&WILD_STRIDES)
+    }
+}
+
+fn seal_a_byte_of_c(random: &mut Random, plan: &Plan, lent: &mut Lent) {
+    if plan.m == 0 || plan.n == 0 || plan.m > 1024 || plan.n > 1024 {
+        return;
+    }
+    let Some(mut machine) = crate::lent::machine_of(&lent.machine) else {
+        return;
+    };
+    let placed = plan.placed(model::Matrix::C);
+    let i = random.below(plan.m) as i128;
+    let j = random.below(plan.n) as i128;
+    let bytes = (placed.width / 8).clamp(1, 8) as u64;
+    let address = placed.element(i, j) + random.below(bytes) as i128;
+    machine.seal_start = address as u64;
+    machine.seal_length = 1;
+    lent.set_machine(&machine);
+}

@@ -1,0 +1,91 @@
+//! Starting a machine: good and bad numbers, lengths and seals.
+
+use crate::lent::{differences, machine_block};
+use crate::library;
+use crate::random::Random;
+use crate::suite::{each_case, Context, Outcome};
+use crate::tally::{Call, Tally};
+
+const RLENS: [u64; 14] = [0, 1, 8, 32, 63, 64, 65, 96, 128, 256, 512, 1024, 1 << 32, u64::MAX];
+const MLENS: [u64; 16] =
+    [0, 1, 64, 127, 128, 129, 256, 384, 512, 1024, 2048, 4095, 4096, 8192, 1 << 32, u64::MAX];
+const SEALS: [(u64, u64); 10] = [
+    (0, 0),
+    (0, u64::MAX),
+    (1, u64::MAX),
+    (u64::MAX, 0),
+    (u64::MAX, 1),
+    (1 << 63, 1 << 63),
+    (1 << 63, (1 << 63) - 1),
+    (u64::MAX, u64::MAX),
+    (100, 1),
+    (1 << 40, 1 << 20),
+];
+
+pub fn machine_starts(context: &mut Context) -> Outcome {
+    each_case(context, "machine starts", 8000, |case, random, tally| {
+        // Every pair of lengths some times over, then good ones alone.
+        let pairs = (RLENS.len() * MLENS.len()) as u64;
+        let (rlen, mlen) = if case < 20 * pairs {
+            let pair = (case % pairs) as usize;
+            (RLENS[pair % RLENS.len()], MLENS[pair / RLENS.len()])
+        } else {
+            random.pick(&model::permitted_lengths())
+        };
+        check_start(rlen, mlen, random, tally)
+    })
+}
+
+/// A length: mostly the right one, else near it or none.
+fn length(random: &mut Random, right: usize) -> usize {
+    match random.below(30) {
+        0 => 0,
+        1 => right - 1,
+        2 => right + 1,
+        3 => right / 2,
+        4 => 2 * right,
+        _ => right,
+    }
+}
+
+fn check_start(rlen: u64, mlen: u64, random: &mut Random, tally: &mut Tally) -> Result<(), String> {
+    let (seal_start, seal_length) = match random.below(3) {
+        0 => random.pick(&SEALS),
+        _ => (random.below(1000), random.below(1000)),
+    };
+    let right = model::register_bytes(mlen.clamp(64, 8192));
+    let [machine_length, registers_length, marks_length] =
+        [library::MACHINE_BYTES, right, right].map(|right| length(random, right));
+    let machine = random.bytes(machine_length);
+    let registers = random.bytes(registers_length);
+    let marks = random.bytes(marks_length);
+
+    let mut ours = (machine.clone(), registers.clone(), marks.clone());
+    let given =
+        library::start(rlen, mlen, seal_start, seal_length, &mut ours.0, &mut ours.1, &mut ours.2);
+
+    let mut expected = (8, machine.clone(), registers.clone(), marks.clone());
+    if machine_length == library::MACHINE_BYTES {
+        let started =
+            model::start(rlen, mlen, seal_start, seal_length, &registers, &mut expected.3);
+        if let Some(started) = started {
+            expected.0 = 0;
+            expected.1 = machine_block(&started);
+        }
+    }
+    if (given, &ours.0, &ours.1, &ours.2) != (expected.0, &expected.1, &expected.2, &expected.3) {
+        return Err(format!(
+            "start rlen {rlen} mlen {mlen} seal {seal_start}+{seal_length}, {} bytes of machine, \
+             {} of registers, {} of marks\nlibrary: {given}, second program: {}\n{}{}{}",
+            machine.len(),
+            registers.len(),
+            marks.len(),
+            expected.0,
+            differences("machine block", &machine, &ours.0, &expected.1),
+            differences("registers", &registers, &ours.1, &expected.2),
+            differences("marks", &marks, &ours.2, &expected.3),
+        ));
+    }
+    tally.count(Call::MachineStart, given);
+    Ok(())
+}

@@ -1,0 +1,478 @@
+//! Seeded states and words. A case is made so that it would be done, then
+//! faults are put in, each by chance.
+
+use crate::lent::{machine_block, words_to_bytes, Lent};
+use crate::random::Random;
+use model::{maximum, sew, Kind, Machine, Row, Size, LISTING, MILL};
+
+pub struct Case {
+    pub word: u32,
+    pub lent: Lent,
+}
+
+pub const SIZES: [Size; 3] = [Size::M, Size::K, Size::N];
+pub const MTYPES: [u64; 4] = [0, 1, 2, 8];
+/// SEW and factor of the outputs that are permitted.
+pub const WIDTHS: [(u64, u64); 6] = [(8, 1), (8, 2), (8, 4), (16, 1), (16, 2), (32, 1)];
+
+/// A permitted pair (RLEN, MLEN), small machines more often.
+pub fn lengths(random: &mut Random) -> (u64, u64) {
+    let pairs = model::permitted_lengths();
+    let among = match random.below(10) {
+        0..=5 => 3,
+        6..=8 => 9,
+        _ => pairs.len(),
+    };
+    random.pick(&pairs[..among])
+}
+
+pub fn set_size(machine: &mut Machine, size: Size, value: i128) {
+    match size {
+        Size::M => machine.tile_m = value as u64,
+        Size::K => machine.tile_k = value as u64,
+        Size::N => machine.tile_n = value as u64,
+    }
+}
+
+/// A tile size up to `limit`, often at it.
+pub fn size_up_to(random: &mut Random, limit: i128) -> i128 {
+    match random.below(20) {
+        0 => 0,
+        1 => 1.min(limit),
+        2..=9 => limit,
+        _ => random.range(0, limit as u64) as i128,
+    }
+}
+
+/// A machine with a legal mtype and sizes within the maxima.
+pub fn good_machine(random: &mut Random, mtype: u64) -> Machine {
+    let (rlen, mlen) = lengths(random);
+    let mut machine = Machine {
+        rlen,
+        mlen,
+        mtype,
+        tile_m: 0,
+        tile_k: 0,
+        tile_n: 0,
+        seal_start: 0,
+        seal_length: 0,
+    };
+    for size in SIZES {
+        let limit = maximum(&machine, size, sew(mtype));
+        set_size(&mut machine, size, size_up_to(random, limit));
+    }
+    machine
+}
+
+/// Register bytes: any, or those at the ends of the number range.
+pub fn register_content(random: &mut Random, length: usize) -> Vec<u8> {
+    if random.chance(60) {
+        return random.bytes(length);
+    }
+    let bytes: &[u8] = match random.below(3) {
+        0 => &[0x80],
+        1 => &[0x7F, 0xFF],
+        _ => &[0x00, 0x80, 0xFF, 0x7F],
+    };
+    (0..length).map(|_| random.pick(bytes)).collect()
+}
+
+/// A number that a scalar may hold: small, at an end, or any.
+pub fn any_scalar(random: &mut Random) -> u64 {
+    match random.below(8) {
+        0..=2 => random.below(40),
+        3 => (random.below(40) as i64).wrapping_neg() as u64,
+        4 => 1 << random.below(64),
+        5 => (1u64 << random.below(64)).wrapping_sub(1),
+        6 => random.pick(&[u64::MAX, 1 << 63, (1 << 63) - 1, 1 << 32, 1 << 16, 1 << 8]),
+        _ => random.next(),
+    }
+}
+
+/// A bench around a machine: all bytes marked, no memory yet.
+pub fn bench_of(random: &mut Random, machine: &Machine) -> Lent {
+    let length = model::register_bytes(machine.mlen);
+    let scalars: Vec<u64> = (0..32).map(|_| any_scalar(random)).collect();
+    Lent {
+        machine: machine_block(machine),
+        registers: register_content(random, length),
+        marks: vec![1; length],
+        scalars: words_to_bytes(&scalars),
+        memory: vec![],
+    }
+}
+
+pub const WILD_STRIDES: [i64; 10] = [
+    i64::MIN,
+    i64::MIN + 1,
+    i64::MAX,
+    1 << 62,
+    -(1 << 62),
+    1 << 32,
+    -(1 << 32),
+    1 << 16,
+    -(1 << 16),
+    0x0123_4567_89AB_CDEF,
+];
+
+/// A stride under which the last of `rows` rows would come round to the first
+/// if addresses wrapped.
+pub fn wrapping_stride(random: &mut Random, rows: i128) -> i64 {
+    let gaps = (rows - 1).max(2);
+    let rounds = random.range(1, (gaps - 1) as u64) as i128;
+    ((rounds << 64) / gaps) as i64
+}
+
+/// Address, stride and memory length for rows of `row_bytes` bytes, in memory.
+pub fn place_rows(random: &mut Random, rows: i128, row_bytes: i128) -> (u64, i64, usize) {
+    let gap = random.below(10) as i64;
+    let step = row_bytes as i64;
+    let stride = match random.below(12) {
+        0..=3 => step,
+        4 | 5 => step + gap,
+        6 => random.below(row_bytes.max(1) as u64) as i64,
+        7 => -step,
+        8 => -step - gap,
+        9 => -(random.below(row_bytes.max(1) as u64) as i64),
+        10 => wrapping_stride(random, rows),
+        _ => random.pick(&WILD_STRIDES),
+    };
+    let spread = (rows - 1).max(0) * stride as i128;
+    let extent = spread.abs() + row_bytes;
+    if rows == 0 || row_bytes == 0 || extent > 20_000 {
+        // No element, or no memory that could hold it.
+        return (any_scalar(random), stride, random.below(64) as usize);
+    }
+    let slack = if random.chance(50) { 0 } else { random.below(40) as i128 };
+    let before = match random.below(3) {
+        0 => 0,
+        1 => slack,
+        _ => random.range(0, slack as u64) as i128,
+    };
+    let address = before + (-spread).max(0);
+    (address as u64, stride, (extent + slack) as usize)
+}
+
+/// Bytes in a row of the tile that a load or store moves, and its rows.
+pub fn moved_rows(kind: Kind, machine: &Machine) -> Option<(i128, i128)> {
+    let (Kind::Load(matrix, eew) | Kind::Store(matrix, eew)) = kind else {
+        return None;
+    };
+    let (rows, columns) = model::shape(matrix);
+    let row_bytes = model::tile_size(machine, columns) * eew / 8;
+    Some((model::tile_size(machine, rows), row_bytes))
+}
+
+/// Operands in range, with slots for scalars that are seldom x0.
+fn good_operands(random: &mut Random, kind: Kind) -> Vec<(&'static str, u32)> {
+    let mut slot = || {
+        if random.chance(5) {
+            0
+        } else {
+            random.range(1, 31) as u32
+        }
+    };
+    let (rs1, rs2) = (slot(), slot());
+    let rd = random.below(32) as u32;
+    let tile = [random.below(8) as u32, random.below(8) as u32, random.below(8) as u32];
+    let accumulator = [random.below(2) as u32, random.below(2) as u32];
+    let (md, ms1) = match kind {
+        Kind::Load(model::Matrix::C, _) | Kind::Store(model::Matrix::C, _) => (accumulator[0], 0),
+        Kind::Load(..) | Kind::Store(..) => (tile[0], 0),
+        Kind::Multiply(_) => (accumulator[0], tile[1]),
+        _ => (accumulator[0], accumulator[1]),
+    };
+    let imm = if random.chance(20) { 0 } else { random.below(32) as u32 };
+    let immediate = match random.below(3) {
+        0 => random.below(20) as u32,
+        1 => 1 << random.below(13),
+        _ => random.below(1 << 13) as u32,
+    };
+    vec![
+        ("rs1", rs1),
+        ("rs2", rs2),
+        ("rd", rd),
+        ("md", md),
+        ("ms3", md),
+        ("ms1", ms1),
+        ("ms2", tile[2]),
+        ("imm", imm),
+        ("mtypei", immediate),
+        ("mleni", immediate),
+    ]
+}
+
+fn operand(operands: &[(&str, u32)], name: &str) -> u32 {
+    operands.iter().find(|(other, _)| *other == name).expect("a known operand").1
+}
+
+/// A row of the listing; 64-bit loads and stores seldom.
+pub fn any_row(random: &mut Random) -> &'static Row {
+    loop {
+        let row = &LISTING[random.below(LISTING.len() as u64) as usize];
+        if !row.name.contains("64") || random.chance(10) {
+            return row;
+        }
+    }
+}
+
+/// An mtype under which an instruction keeps the width rules, if there is one.
+pub fn fitting_mtype(random: &mut Random, kind: Kind) -> u64 {
+    let fitting: Vec<u64> =
+        MTYPES.into_iter().filter(|&mtype| !model::width_rule_broken(kind, mtype)).collect();
+    if fitting.is_empty() {
+        random.pick(&MTYPES)
+    } else {
+        random.pick(&fitting)
+    }
+}
+
+/// A value asked for by a setting word: near the limits, or any.
+fn asked_value(random: &mut Random, kind: Kind, machine: &Machine) -> u64 {
+    match kind {
+        Kind::SetType => match random.below(4) {
+            0 | 1 => random.below(17),
+            2 => random.below(16) | 1 << random.range(4, 63),
+            _ => any_scalar(random),
+        },
+        Kind::SetSize(size) if random.chance(60) => {
+            random.below(maximum(machine, size, sew(machine.mtype)) as u64 + 3)
+        }
+        _ => any_scalar(random),
+    }
+}
+
+/// A multiplier: with low bits of 0, at an end, or any.
+fn multiplier(random: &mut Random) -> u64 {
+    match random.below(4) {
+        0 => random.next() << random.pick(&[8, 16, 32]),
+        1 => random.pick(&[0, 1, u64::MAX, 0x80, 0x7F, 0x8000, 0x7FFF, 0x8000_0000, 0x7FFF_FFFF]),
+        _ => any_scalar(random),
+    }
+}
+
+/// A case that is done, or nearly so (x0 as an address may lie outside).
+pub fn good_case(random: &mut Random, row: &'static Row) -> Case {
+    let kind = row.kind;
+    let mtype = fitting_mtype(random, kind);
+    let machine = good_machine(random, mtype);
+    let mut lent = bench_of(random, &machine);
+    let operands = good_operands(random, kind);
+    let word = model::assemble(row.name, &operands);
+    aim(random, kind, &operands, &mut lent);
+    Case { word, lent }
+}
+
+/// Sets the scalars that a word reads, and the memory that it moves.
+fn aim(random: &mut Random, kind: Kind, operands: &[(&str, u32)], lent: &mut Lent) {
+    let machine = lent.machine();
+    let (rs1, rs2) = (operand(operands, "rs1"), operand(operands, "rs2"));
+    if let Some((rows, row_bytes)) = moved_rows(kind, &machine) {
+        let (address, stride, length) = place_rows(random, rows, row_bytes);
+        lent.memory = random.bytes(length);
+        lent.set_scalar(rs2, stride as u64);
+        lent.set_scalar(rs1, address);
+    } else if let Kind::Scale(_) = kind {
+        lent.set_scalar(rs2, multiplier(random));
+    } else {
+        lent.set_scalar(rs1, asked_value(random, kind, &machine));
+    }
+}
+
+/// Puts faults into a case, each with the given chance.
+pub fn put_faults(random: &mut Random, case: &mut Case, percent: u64) {
+    let mut machine = case.lent.machine();
+    if random.chance(percent) {
+        case.word ^= 1 << random.below(32);
+    }
+    if random.chance(percent / 4) {
+        case.word = (random.next() as u32 & !0x7F) | 0x77;
+    }
+    if random.chance(percent / 2) {
+        machine.mtype = MILL;
+    }
+    if random.chance(percent) {
+        machine.mtype = random.pick(&MTYPES);
+    }
+    if random.chance(percent) {
+        raise_sizes(random, &mut machine);
+    }
+    if random.chance(2 * percent) {
+        put_seal(random, &mut machine, &case.lent);
+    }
+    case.lent.set_machine(&machine);
+    if random.chance(percent) {
+        unmark_some(random, case);
+    }
+    if random.chance(percent) {
+        move_end_of_memory(random, &mut case.lent);
+    }
+    if random.chance(percent / 2) {
+        let slot = random.below(32) as u32;
+        case.lent.set_scalar(slot, any_scalar(random));
+    }
+    if random.chance(percent / 3) {
+        put_state_fault(random, &mut case.lent);
+    }
+}
+
+/// Sizes up to the maxima at SEW 8, above those under mtype if they can be.
+pub fn raise_sizes(random: &mut Random, machine: &mut Machine) {
+    let size = random.pick(&SIZES);
+    let limit = maximum(machine, size, sew(machine.mtype));
+    let widest = maximum(machine, size, 8);
+    let value = if random.chance(50) {
+        (limit + 1).min(widest)
+    } else {
+        random.range(0, widest as u64) as i128
+    };
+    set_size(machine, size, value);
+}
+
+/// A seal of one byte, of some, past the end of memory, or of everything.
+pub fn put_seal(random: &mut Random, machine: &mut Machine, lent: &Lent) {
+    let length = lent.memory.len() as u64;
+    let inside = random.below(length + 1);
+    (machine.seal_start, machine.seal_length) = match random.below(6) {
+        0 | 1 => (inside, 1),
+        2 => (inside, random.below(length + 2)),
+        3 => (inside, u64::MAX - inside),
+        4 => (length + random.below(3), random.below(100)),
+        _ => (random.next() >> 1, random.next() >> 1),
+    };
+}
+
+/// Takes marks away: a byte of an element that the word reads, some, or all.
+fn unmark_some(random: &mut Random, case: &mut Case) {
+    let marks = case.lent.marks.len() as u64;
+    match random.below(6) {
+        0 => case.lent.marks.fill(0),
+        1 => (0..marks as usize).for_each(|at| case.lent.marks[at] = random.below(2) as u8),
+        2 => {
+            for _ in 0..3 {
+                case.lent.marks[random.below(marks) as usize] = 0;
+            }
+        }
+        _ => {
+            for _ in 0..random.range(1, 3) {
+                unmark_source(random, case);
+            }
+        }
+    }
+}
+
+/// Takes the mark of one byte of an element that the word reads.
+pub fn unmark_source(random: &mut Random, case: &mut Case) {
+    let machine = case.lent.machine();
+    let Some(instruction) = model::decode(case.word) else {
+        return;
+    };
+    let sources = model::sources(&instruction, &machine, &case.lent.scalar_values());
+    if sources.is_empty() {
+        return;
+    }
+    let tile = sources[random.below(sources.len() as u64) as usize];
+    if tile.rows == 0 || tile.columns == 0 {
+        return;
+    }
+    let i = random.below(tile.rows as u64) as i128;
+    let j = random.below(tile.columns as u64) as i128;
+    let bytes = model::register_element(&machine, tile.register, i, j, tile.width);
+    let at = random.range(bytes.start as u64, bytes.end as u64 - 1) as usize;
+    if let Some(mark) = case.lent.marks.get_mut(at) {
+        *mark = 0;
+    }
+}
+
+fn move_end_of_memory(random: &mut Random, lent: &mut Lent) {
+    let length = lent.memory.len();
+    let new_length = match random.below(4) {
+        0 | 1 => length.saturating_sub(1),
+        2 => random.below(length as u64 + 1) as usize,
+        _ => 0,
+    };
+    lent.memory.truncate(new_length);
+}
+
+/// The kinds of state fault (answer 8) that `state_fault` can put in.
+pub const STATE_FAULTS: u64 = 10;
+
+pub fn put_state_fault(random: &mut Random, lent: &mut Lent) {
+    let kind = random.below(STATE_FAULTS);
+    state_fault(random, lent, kind);
+}
+
+pub fn state_fault(random: &mut Random, lent: &mut Lent, kind: u64) {
+    let mut machine = lent.machine();
+    match kind {
+        0 => {
+            let bad = [0, 1, 32, 63, 65, 96, 192, 1024, 8192, machine.mlen, 1 << 32, u64::MAX];
+            machine.rlen = random.pick(&bad);
+            if random.chance(50) {
+                no_other_fault(lent, &mut machine);
+            }
+        }
+        1 => {
+            let bad = [0, 1, 64, 127, 129, 384, 8192, machine.rlen, 1 << 32, 1 << 63, u64::MAX];
+            machine.mlen = random.pick(&bad);
+            if random.chance(50) {
+                no_other_fault(lent, &mut machine);
+            }
+        }
+        2 => wrong_length(random, &mut lent.registers),
+        3 => wrong_length(random, &mut lent.marks),
+        4 => wrong_length(random, &mut lent.scalars),
+        5 => {
+            let bad = [3, 4, 7, 9, 10, 11, 12, 16, 24, MILL | 1, MILL | 8, 1 << 62, u64::MAX];
+            machine.mtype = random.pick(&bad);
+        }
+        6 => {
+            let size = random.pick(&SIZES);
+            let widest = maximum(&machine, size, 8);
+            let beyond = random.pick(&[1, 2, 1 << 32, 1 << 63]);
+            set_size(&mut machine, size, widest + beyond);
+        }
+        7 => {
+            machine.seal_start = random.pick(&[1, 1 << 63, u64::MAX]);
+            machine.seal_length = random.pick(&[u64::MAX, u64::MAX - machine.seal_start + 1]);
+            machine.seal_length = machine.seal_length.max(u64::MAX - machine.seal_start + 1);
+        }
+        8 => {
+            let at = random.below(lent.marks.len().max(1) as u64) as usize;
+            let mark = random.pick(&[2, 3, 0x80, 0x81, 0xFE, 0xFF]);
+            if let Some(byte) = lent.marks.get_mut(at) {
+                *byte = mark;
+            }
+        }
+        _ => {
+            lent.set_machine(&machine);
+            wrong_length(random, &mut lent.machine);
+            return;
+        }
+    }
+    lent.set_machine(&machine);
+}
+
+/// Sizes and buffers as bad lengths would demand them, so that nothing else
+/// is at fault.
+fn no_other_fault(lent: &mut Lent, machine: &mut Machine) {
+    (machine.tile_m, machine.tile_k, machine.tile_n) = (0, 0, 0);
+    if machine.mlen <= 8192 {
+        let length = model::register_bytes(machine.mlen);
+        lent.registers.resize(length, 0);
+        lent.marks.resize(length, 1);
+    }
+}
+
+/// Another length: one less, one more, none, half, twice.
+pub fn wrong_length(random: &mut Random, buffer: &mut Vec<u8>) {
+    let length = buffer.len();
+    let new_length = match random.below(6) {
+        0 | 1 => length.saturating_sub(1),
+        2 => length + 1,
+        3 => 0,
+        4 => length / 2,
+        _ => 2 * length + 1,
+    };
+    buffer.resize(new_length, 0);
+}
