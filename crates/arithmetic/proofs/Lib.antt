@@ -5,5 +5,4 @@ pub mod TurnLaws
 pub mod RoomLaws
 pub mod WeightLaws
 pub mod PairLaws
-pub mod EffectLaws
 pub mod Arms

@@ -3,7 +3,6 @@ use mathlib.Core.Path.{_≡_, refl, sym, ap, ap₂, _∙_}
 use mathlib.Core.List.{List}
 use mathlib.Core.Logic.{inl, inr}
 use Prim.Native.Nat.{ℕ, zero, _+_, _*_, _%_, _^_, _≤_, _<_}
-use native.Mathlib.Omega.{arith}
 use lib.IntN.{ℤ, one, pos, negsuc, negℤ, _+ℤ_, _*ℤ_, *ℤ-one, zero-*ℤ, *ℤ-negsuc, *ℤ-comm, +ℤ-comm, +ℤ-idl}
 use Rattle.width.specs.Reduce.{signed, reduce}
 use Rattle.width.proofs.ElementLaws.{pow-256, cut}

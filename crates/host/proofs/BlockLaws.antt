@@ -9,7 +9,6 @@ use native.Mathlib.Omega.{arith}
 use lib.ListN.{length, getD, set, drop, length-append, List·getD-append}
 use lib.Seq.{set-at, getD-at, drop-cons, drop-length, append-snoc}
 use Rattle.width.specs.Tile.{le, putRow}
-use Rattle.width.proofs.TileLaws.{length-putRow}
 use Rattle.width.proofs.WordLaws.{le-putRow, putRow-same}
 use Rattle.machine.specs.declared.Machine.{Machine}
 use Rattle.host.specs.Blocks.{machineOf, putMachine, firstValues, valuesOf, putValues}
@@ -47,9 +46,6 @@ putMachine-row m b = refl
 numbersOf-machineOf : (b : List ℕ) → numbersOf (machineOf b) ≡ firstValues 8 b
 unfolding machineOf
 numbersOf-machineOf b = refl
-
-pub length-putMachine : (m : Machine) (b : List ℕ) → length (putMachine m b) ≡ length b
-length-putMachine m b = ap length (putMachine-row m b) ∙ length-putRow 0 8 8 (λ j. getD (numbersOf m) j 0) b
 
 -- numbers of 64 bits
 pub record Words (m : Machine) : Type 0 where
@@ -89,19 +85,6 @@ putMachine-same b small =
     putMachine-row (machineOf b) b ∙ ap (λ (vs : List ℕ). putRow 0 8 8 (λ j. getD vs j 0) b) (numbersOf-machineOf b) ∙ put-same 8 b small
 
 -- ---- the scalars' block
-
-pub length-valuesOf : (b : List ℕ) → length (valuesOf b) ≡ 32
-unfolding valuesOf
-length-valuesOf b = length-firstValues 32 b
-
--- slot s
-pub valuesOf-at : (b : List ℕ) (s : ℕ) → s < 32 → getD (valuesOf b) s 0 ≡ le b (s * 8) 8
-unfolding valuesOf
-valuesOf-at b s l = value-at 32 b s l
-
-pub length-putValues : (vs b : List ℕ) → length (putValues vs b) ≡ length b
-unfolding putValues
-length-putValues vs b = length-putRow 0 32 8 (λ s. getD vs s 0) b
 
 -- a block written over with its own values stays
 pub putValues-same : (b : List ℕ) → ((q : ℕ) → getD b q 0 < 256) → putValues (valuesOf b) b ≡ b

@@ -20,7 +20,7 @@ use Rattle.machine.proofs.Refusal.{refusal-changes-nothing}
 use Rattle.host.specs.Blocks.{machineOf, putMachine, valuesOf, putValues, packed}
 use Rattle.host.specs.Host.{startedOut, shownStart, hostStart, steppedOut, stepBlock, shownStep, hostStep}
 use Rattle.host.specs.Theorems.{Bytes}
-use Rattle.host.proofs.BlockLaws.{putMachine-same, putValues-same}
+use Rattle.host.proofs.BlockLaws.{putMachine-same}
 
 -- ---- starting
 
@@ -59,16 +59,6 @@ module _ (word : ℕ) (block : List ℕ) (B : Bench) where
   block-done s R K X Q S xs ex e es =
       ap (λ (S : List ℕ). steppedAs s R K S Q) es
       ∙ ap (λ (o : Outcome). with-scalars o (putValues (o .scalars) block)) (e ∙ ap (λ (xs : List ℕ). step word xs B) ex)
-
-  -- refused: the block stays
-  pub block-refused : (s : Stepped) (R K X Q xs : List ℕ) → xs ≡ valuesOf block → steppedAs s R K X Q ≡ step word xs B → Bytes block
-      → isDone (s .answer) ≡ false → steppedAs s R K block Q ≡ stepBlock word block B
-  block-refused s R K X Q xs ex e small d =
-      let f : steppedAs s R K X Q ≡ step word (valuesOf block) B = e ∙ ap (λ (xs : List ℕ). step word xs B) ex in
-      let n : ¬ (step word (valuesOf block) B .answer ≡ Done) = λ z. not-done (s .answer) d (ap (λ (o : Outcome). o .answer) f ∙ z) in
-      let k : step word (valuesOf block) B .scalars ≡ valuesOf block = refusal-changes-nothing smaller word (valuesOf block) B n .1 in
-      ap (λ (o : Outcome). with-scalars o block) f
-      ∙ ap (with-scalars (step word (valuesOf block) B)) (sym (ap (λ (vs : List ℕ). putValues vs block) k ∙ putValues-same block small))
 
 -- ---- a step of the host
 

@@ -1,23 +1,23 @@
 -- For code: the verdict of checks made in parts, the outcome of an instruction from its parts, and bounds of what is decoded.
-use mathlib.Core.Path.{_≡_, refl, sym, ap, ap₂, _∙_, subst}
-use mathlib.Core.Bool.{Bool, true, false, cond, not, _&&_, _||_}
+use mathlib.Core.Path.{_≡_, refl, sym, ap, ap₂, _∙_}
+use mathlib.Core.Bool.{Bool, true, false, cond, not, _&&_}
 use mathlib.Core.List.{List, [], _∷_, _++_}
-use Prim.Native.Nat.{ℕ, zero, suc, _+_, _*_, _/_, _%_, _^_, _≤_, _<_}
+use Prim.Native.Nat.{ℕ, _^_, _≤_}
 use native.Mathlib.Omega.{arith}
-use lib.Dec.{leb, ltb, eqb}
-use borrow.Author.Tests.{eqb-true, ltb-true, ltb-false, lt-ltb, le-ltb, leb-true, ne-eqb}
+use lib.Dec.{ltb, eqb}
+use borrow.Author.Tests.{eqb-true, ltb-true, ltb-false, lt-ltb, ne-eqb}
 use Rattle.machine.specs.declared.Machine.{Machine}
 use Rattle.machine.specs.declared.Answer.{Answer}
 use Rattle.machine.specs.declared.Answer.the-variants.{Done, IllegalWord, IllegalType, BadWidth, TileTooLarge, Unwritten, OutsideMemory, SealedByte, BadArguments, Overlap}
 use Rattle.machine.specs.declared.Instruction.{Instruction}
 use Rattle.machine.specs.declared.Instruction.the-variants.{Illegal, SetTypeImmediate, SetType, SetTileImmediate, SetTile, Load, Store, Multiply, Combine, Scale, ScaleImmediate}
 use Rattle.machine.specs.Tests.{all, every, isIn}
-use Rattle.machine.proofs.TestLaws.{all-at, and-left, and-right, and-true, every-each, each, each-in, false-true}
+use Rattle.machine.proofs.TestLaws.{all-at, and-left, and-right, false-true}
 use Rattle.machine.specs.Answers.{Check, verdict, isDone}
-use Rattle.machine.specs.Geometry.{elen, Parameters, State, machineAfter, Bench, benchOf, withScalar}
-use Rattle.machine.specs.Setting.{sew, mill, maccq, legalType, newType}
+use Rattle.machine.specs.Geometry.{elen, Parameters, machineAfter, Bench, benchOf, withScalar}
+use Rattle.machine.specs.Setting.{sew, mill, legalType, newType}
 use Rattle.machine.specs.Listing.{field7, field15, field20, immediate13, Row, lookUp, listing, ranged, inRange, decode}
-use Rattle.machine.specs.Operation.{Operation, stateAfter, memoryAfter, resultOf}
+use Rattle.machine.specs.Operation.{memoryAfter, resultOf}
 use Rattle.machine.specs.Refusals.{checks}
 use Rattle.machine.proofs.CheckLaws.{refusals}
 use Rattle.machine.specs.Faults.{soundBench, thirtyTwo}

@@ -2,7 +2,7 @@
 use mathlib.Core.Path.{_≡_, refl, sym, ap, ap₂, _∙_}
 use mathlib.Core.Bool.{Bool, true, false, cond, not, _&&_, _||_}
 use mathlib.Core.List.{List, [], _∷_}
-use Prim.Native.Nat.{ℕ, _+_, _*_, _-_, _/_, _%_}
+use Prim.Native.Nat.{ℕ, _+_, _*_, _/_, _%_}
 use native.Mathlib.Omega.{arith}
 use lib.Dec.{eqb}
 use borrow.Author.Tests.{eqb-true, eqb-false, ne-eqb, not-true}
@@ -140,14 +140,6 @@ module _ (word : ℕ) where
   look-up-by (r ∷ rs) h =
       ap₂ (λ (b : Bool) (i : Instruction). cond b (r .means word) i) (has-by (r .fixed) (and-left (allKnown (r .fixed)) (rowsKnown rs) h))
       (look-up-by rs (and-right (allKnown (r .fixed)) (rowsKnown rs) h))
-
--- where c and f are numerals the right side computes (under `unfolding listing`)
-pub decode-by : (word c f : ℕ) → bits 6 0 word ≡ 119 → bits 31 25 word ≡ c → bits 14 12 word ≡ f → decode word ≡ ranged (lookUpBy c (bits 24 20 word) f word listing)
-unfolding decode listing
-decode-by word c f o ec ef =
-    let e : lookUp word listing ≡ lookUpBy (bits 31 25 word) (bits 24 20 word) (bits 14 12 word) word listing = look-up-by word listing refl in
-    ap (λ (v : ℕ). cond (eqb v 119) (ranged (lookUp word listing)) Illegal) o ∙ ap ranged e
-    ∙ ap₂ (λ (c f : ℕ). ranged (lookUpBy c (bits 24 20 word) f word listing)) ec ef
 
 pub decode-opcode : (word : ℕ) → ¬ (bits 6 0 word ≡ 119) → decode word ≡ Illegal
 unfolding decode

@@ -9,3 +9,5 @@ pub mod Turn
 pub mod Statement
 pub mod Sheet
 pub mod Examples
+-- For the contracts of inner functions.
+pub mod Parts

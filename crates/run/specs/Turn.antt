@@ -16,9 +16,10 @@ use Rattle.run.specs.declared.Place.{Place}
 use Rattle.run.specs.declared.Place.the-variants.{AtType, AtM, AtN, AtClear, AtK, AtA, AtB, AtMultiply, AtStore, AtEnd}
 use Rattle.run.specs.declared.Run.{Run}
 use Rattle.run.specs.declared.Handed.{Handed}
+use Rattle.run.specs.declared.Asked.{Asked}
 use Rattle.run.specs.Words.{Op, Shape}
 use Rattle.run.specs.Places.{next, wordsAt}
-use Rattle.run.specs.Encoding.{own, handedFor}
+use Rattle.run.specs.Encoding.{own, plain, handedFor}
 use Rattle.run.specs.Plan.{typeOf}
 use Rattle.run.specs.Start.{planned}
 
@@ -76,6 +77,15 @@ askWith grant R (o ∷ os) = record { answer = Done; handed = handedFor (R .plan
 -- "Steps are handed out one at a time .. asking past the last gives 8."
 abbrev pub ask : (ℕ → ℕ → ℕ) → Run → Ask
 ask grant R = askWith grant R (handsOut grant R)
+
+-- the step, and all zeros where there is none
+abbrev pub firstHanded : List Handed → Handed
+firstHanded [] = plain 0
+firstHanded (h ∷ hs) = h
+
+-- what asking returns: the answer, the step or all zeros where there is none, and the run
+abbrev pub asked : Ask → Asked
+asked a = record { answer = a .answer; handed = firstHanded (a .handed); run = a .run }
 
 -- ---- a turn
 

@@ -1,31 +1,27 @@
--- What `load` and `store` require follows from a sound machine and the checks of answers 2 to 4, and what they ensure is what the
--- definitions of a load and a store say.
+-- What `load` and `store` require follows from a sound machine and the checks of answers 2 to 4.
 use mathlib.Core.Path.{_≡_, refl, sym, _∙_}
-use mathlib.Core.Bool.{Bool, true, false, cond, _&&_, _||_}
-use mathlib.Core.List.{List, [], _∷_, _++_}
+use mathlib.Core.Bool.{Bool, true, false, _&&_, _||_}
+use mathlib.Core.List.{List, [], _∷_}
 use Prim.Native.Nat.{ℕ, _+_, _*_, _/_, _≤_, _<_}
 use native.Mathlib.Nat.{mul-le-mul-right, div-mul-le-self}
 use native.Mathlib.Omega.{arith}
 use lib.ListN.{length}
 use lib.Dec.{eqb, leb}
 use borrow.Author.Tests.{eqb-true, leb-true}
-use Rattle.width.specs.Tile.{putTile, markTile}
 use Rattle.machine.specs.declared.Machine.{Machine}
 use Rattle.machine.specs.declared.Matrix.{Matrix}
 use Rattle.machine.specs.declared.Matrix.the-variants.{MatrixA, MatrixB, MatrixC}
 use Rattle.machine.specs.declared.Answer.the-variants.{BadWidth}
-use Rattle.machine.specs.Answers.{Check, _otherwise_, verdict, isDone}
+use Rattle.machine.specs.Answers.{Check, _otherwise_}
 use Rattle.machine.specs.Geometry.{Parameters, parameters, State, stateOf, startOf, pitchOf, registerCount}
 use Rattle.machine.specs.Setting.{sew, maccq, maximum}
-use Rattle.machine.specs.Memory.{rowAt}
-use Rattle.machine.specs.Operation.{Operation, stateAfter, memoryAfter, element, tileRows, tileCols, rowsOf, columnsOf}
-use Rattle.machine.specs.Refusals.{checks, typed, fitting, widthOf}
+use Rattle.machine.specs.Operation.{tileRows, tileCols, rowsOf, columnsOf}
+use Rattle.machine.specs.Refusals.{typed, fitting, widthOf}
 use Rattle.machine.specs.Faults.{sound}
-use Rattle.machine.proofs.TestLaws.{and-right, false-true}
+use Rattle.machine.proofs.TestLaws.{and-right}
 use Rattle.machine.proofs.CheckLaws.{Passed}
 use Rattle.machine.proofs.StepLaws.{permitted-lengths}
 use Rattle.machine.proofs.NoFault.{sound-is}
-use Rattle.tile.specs.Checks.{memoryCheck, storeChecks}
 
 -- ---- widths and registers
 
@@ -106,61 +102,3 @@ module _ (grant : ℕ → ℕ → ℕ) (m : Machine) (regs marks : List ℕ) whe
         (leb-true (tileRows st k) (maximum M (m .mtype) (rowsOf k)) (p .1 .1 .0))
         (leb-true (tileCols st k) (maximum M (m .mtype) (columnsOf k)) (p .1 .1 .1 .0)) in
         (f .0, (same-length, f .1))
-
--- ---- checks after checks
-
-pub verdict-passed : (cs ds : List Check) → Passed cs → verdict (cs ++ ds) ≡ verdict ds
-verdict-passed [] ds p = refl
-verdict-passed (c ∷ cs) ds p = rw (p .0) (verdict-passed cs ds (p .1))
-
-pub verdict-refused : (cs ds : List Check) → isDone (verdict cs) ≡ false → verdict (cs ++ ds) ≡ verdict cs
-verdict-refused [] ds h = absurd (false-true (sym h))
-verdict-refused (c ∷ cs) ds h = go (c .holds) h (verdict-refused cs ds)
-  where
-    go : (t : Bool) → isDone (cond t (verdict cs) (c .answer)) ≡ false → (isDone (verdict cs) ≡ false → verdict (cs ++ ds) ≡ verdict cs)
-        → cond t (verdict (cs ++ ds)) (c .answer) ≡ cond t (verdict cs) (c .answer)
-    go true h ih = ih h
-    go false h ih = refl
-
--- ---- what load and store ensure is what the definitions say
-
-module _ (M : Parameters) (st : State) (mem : List ℕ) (k : Matrix) (r w base stride : ℕ) where
-  abbrev at : ℕ → ℕ
-  at i = startOf M k r + i * pitchOf M k
-
-  pub load-registers : stateAfter M (Operation.load k r w base stride) st mem .regs
-      ≡ putTile at (tileRows st k) (tileCols st k) w (element mem (rowAt base stride) w) (st .regs)
-  load-registers = refl
-
-  pub load-marks : stateAfter M (Operation.load k r w base stride) st mem .marks ≡ markTile at (tileRows st k) (tileCols st k * w) (st .marks)
-  load-marks = refl
-
-  pub store-memory : memoryAfter M (Operation.store k r w base stride) st mem
-      ≡ putTile (rowAt base stride) (tileRows st k) (tileCols st k) w (element (st .regs) at w) mem
-  store-memory = refl
-
-  -- the checks that load and store make
-  abbrev loadMakes : List Check
-  loadMakes = memoryCheck (length mem) base stride (tileRows st k) (tileCols st k * w) ∷ []
-
-  abbrev storeMakes : List Check
-  storeMakes = storeChecks M (st .marks) (startOf M k r) (pitchOf M k) (length mem) base stride (tileRows st k) (tileCols st k) w
-
-  pub load-checks : checks M (Operation.load k r w base stride) st mem ≡ sizes M st k w ++ loadMakes
-  load-checks = refl
-
-  pub store-checks : checks M (Operation.store k r w base stride) st mem ≡ sizes M st k w ++ storeMakes
-  store-checks = refl
-
-  -- the answer, where the checks of 2 to 4 passed and where one of them failed
-  pub load-answers : Passed (sizes M st k w) → verdict (checks M (Operation.load k r w base stride) st mem) ≡ verdict loadMakes
-  load-answers p = verdict-passed (sizes M st k w) loadMakes p
-
-  pub load-refused : isDone (verdict (sizes M st k w)) ≡ false → verdict (checks M (Operation.load k r w base stride) st mem) ≡ verdict (sizes M st k w)
-  load-refused h = verdict-refused (sizes M st k w) loadMakes h
-
-  pub store-answers : Passed (sizes M st k w) → verdict (checks M (Operation.store k r w base stride) st mem) ≡ verdict storeMakes
-  store-answers p = verdict-passed (sizes M st k w) storeMakes p
-
-  pub store-refused : isDone (verdict (sizes M st k w)) ≡ false → verdict (checks M (Operation.store k r w base stride) st mem) ≡ verdict (sizes M st k w)
-  store-refused h = verdict-refused (sizes M st k w) storeMakes h

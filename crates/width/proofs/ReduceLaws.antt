@@ -149,7 +149,3 @@ narrowed n c 0<n 0<c (negsuc a) =
     let f : n * c ≡ n * (suc q + p) = ap (λ (x : ℕ). n * x) (omega arith) in
     let e : n * c - suc r ≡ (n - suc (a % n)) + p * n = omega arith in
     ap (λ (x : ℕ). x % n) e ∙ add-mul-mod-self-right (n - suc (a % n)) p n ∙ mod-eq-of-lt {n = n - suc (a % n)} {m = n} (omega arith)
-
--- a turn of a loop that keeps a sum of products by wrapping operations
-pub wrapping-step : (m : ℕ) → zero < m → (z x y : ℤ) → reduce m (z +ℤ x *ℤ y) ≡ (reduce m z + (reduce m x * reduce m y) % m) % m
-wrapping-step m h z x y = reduce-add m h z (x *ℤ y) ∙ ap (λ (r : ℕ). (reduce m z + r) % m) (reduce-mul m h x y)

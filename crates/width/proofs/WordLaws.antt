@@ -8,7 +8,7 @@ use lib.ListN.{length, getD, set}
 use lib.Seq.{set-getD}
 use Rattle.width.specs.Tile.{le, byteOf, putLe, putRow}
 use Rattle.width.proofs.UptoLaws.{upto-keeps}
-use Rattle.width.proofs.TileLaws.{le-bytes, putLe-at, putRow-at}
+use Rattle.width.proofs.TileLaws.{le-bytes, putRow-at}
 use Rattle.width.proofs.PutLaws.{le-byte}
 
 -- ---- a number of eight bytes
@@ -20,9 +20,6 @@ unfolding putLe
 put-word p v xs = rw (add-zero, pow-zero, div-one)
 
 -- ---- read back what was written
-
-pub le-putLe : (p w v : ℕ) (xs : List ℕ) → p + w ≤ length xs → le (putLe p w v xs) p w ≡ v % 256 ^ w
-le-putLe p w v xs h = le-bytes (putLe p w v xs) p w v (putLe-at p w v xs h)
 
 pub le-putRow : (p cols w : ℕ) (value : ℕ → ℕ) (xs : List ℕ) → p + cols * w ≤ length xs → (j : ℕ) → j < cols
     → le (putRow p cols w value xs) (p + j * w) w ≡ value j % 256 ^ w

@@ -1,0 +1,64 @@
+use mathlib.Core.Path.{_≡_, sym, ap₂, _∙_}
+use mathlib.Core.Bool.{true}
+use borrow.Author.Tests.{not-true, not-false}
+use Rattle.machine.specs.declared.Answer.the-variants.{Done}
+use Rattle.run.specs.Turn.{soundRun}
+use Rattle.run.proofs.AskingLaws.{askedAs, ask-unsound, ask-end, ask-done}
+use borrow.Author.Needs.{needs}
+use Rattle.run.proofs.asking.next.Statement.{statement}
+use Rattle.run.proofs.asking.next.Tie as tie
+
+-- the run is sound
+ok-1 : (c : tie.Else1) → soundRun (c .before .before .args .run) ≡ true
+ok-1 c = sym (c .before .is-sound-run .ensures) ∙ not-false (c .before .is-sound-run .result) (c .if1 .left)
+
+is-sound-run-requires : tie.Need-is-sound-run-requires
+is-sound-run-requires c κs = search needs
+
+refused-requires : tie.Need-refused-requires
+refused-requires c κs = search needs
+
+returns : tie.Need-returns
+returns c =
+    let t = c .before .before in
+    c .refused .ensures ∙ ask-unsound (t .before .args .run) (sym (t .is-sound-run .ensures) ∙ not-true (t .is-sound-run .result) (c .before .if1 .taken))
+
+is-end-requires : tie.Need-is-end-requires
+is-end-requires c κs = search needs
+
+refused-requires-2 : tie.Need-refused-requires-2
+refused-requires-2 c κs = search needs
+
+returns-2 : tie.Need-returns-2
+returns-2 c =
+    let e = c .before .before in
+    let o = e .before in
+    c .refused2 .ensures ∙ ask-end (o .before .before .args .run) (ok-1 o) (sym (e .is-end .ensures) ∙ c .before .if2 .taken)
+
+handed-at-requires : tie.Need-handed-at-requires
+handed-at-requires c κs = ok-1 (c .before .before)
+
+moved-run-requires : tie.Need-moved-run-requires
+moved-run-requires c κs = ok-1 (c .before .before .before)
+
+returns-3 : tie.Need-returns-3
+returns-3 c =
+    let f = c .before .before in
+    let e = f .before in
+    let o = e .before in
+    ap₂ (askedAs Done) (c .before .handed-at .ensures) (c .moved-run .ensures)
+    ∙ ask-done (o .before .before .args .run) (ok-1 o) (sym (e .is-end .ensures) ∙ f .if2 .left)
+
+pub next-spec : {M : Type 1} → statement M
+next-spec =
+    tie.close
+    (tie.spec
+    is-sound-run-requires
+    refused-requires
+    returns
+    is-end-requires
+    refused-requires-2
+    returns-2
+    handed-at-requires
+    moved-run-requires
+    returns-3)
