@@ -1,15 +1,12 @@
-//! Links the binary with libhost.a, whose folder BODLARINA_LIB names, and for the
-//! feature `runs` with the plain C loops of its benchmark. The lib target needs
-//! neither.
+//! Links the binary with libhost.a, whose folder BODLARINA_LIB names, and with the
+//! plain C loops of its benchmark. The lib target needs neither.
 
 use std::path::{Path, PathBuf};
 use std::process::Command;
 
 fn main() {
     link_library();
-    if std::env::var("CARGO_FEATURE_RUNS").is_ok() {
-        link_baseline();
-    }
+    link_baseline();
 }
 
 fn link_library() {

@@ -8,7 +8,7 @@
  *     and is not NULL, not even at length 0;
  *   - the buffers of one call do not overlap.
  *
- * Every function returns a result: answer, row and column in one number (below).
+ * Every function but bodlarina_run_turns returns a result: answer, row and column in one number (below).
  * A REFUSAL, a result other than 0, CHANGES NO BYTE OF ANY BUFFER.
  */
 #ifndef BODLARINA_H
@@ -38,8 +38,9 @@ extern "C" {
                                        row and column name the first one, sources in the order ms1, ms2, md */
 #define BODLARINA_OUTSIDE_MEMORY 6u /* a byte of an element lies outside memory */
 #define BODLARINA_SEALED_BYTE 7u    /* a store would write a sealed byte */
-#define BODLARINA_BAD_ARGUMENTS 8u  /* arguments: a block or buffer of the wrong length, or numbers that no machine
-                                       can have */
+#define BODLARINA_BAD_ARGUMENTS 8u  /* arguments: a block or buffer of the wrong length, or numbers that no machine,
+                                       plan or run can have; a run that is asked past its last step */
+#define BODLARINA_OVERLAP 9u        /* a byte of C lies in two of its rows, in a row of A or B, or in the seal */
 
 /* ---- Buffers ---------------------------------------------------------------------------------------------- */
 
@@ -84,6 +85,81 @@ uint64_t bodlarina_step(uint32_t word,
                         uint8_t *marks, size_t marks_len,
                         uint8_t *scalars, size_t scalars_len,
                         uint8_t *memory, size_t memory_len);
+
+/* ---- A product run ---------------------------------------------------------------------------------------- */
+
+/* C = A x B in tiles, for matrices of any size up to 1,024: A is m by k, B is k by n, both of sew bits, signed; C is
+ * m by n of factor * sew bits. C(i, j) becomes the sum of A(i, l) x B(l, j) over l, reduced to its width in two's
+ * complement; with k = 0 it is 0. No byte of memory outside C's elements changes. Row i of a matrix lies at
+ * its address + i * its stride (a signed number), element j of w bits at byte j * w/8 of its row, low byte first.
+ *   sew      8, 16 or 32
+ *   factor   1, 2 or 4, with factor * sew at most 32
+ *
+ * A start checks the plan and the machine, and changes neither machine nor memory. Then each turn hands out one
+ * instruction word and carries it out, until all are done. The machine may have been used before, and may be used
+ * between runs; between the turns of one run, leave machine, registers, marks and memory to the run.
+ *
+ * Answers of a start, the first that applies:
+ *   8   a state at fault as in bodlarina_step, other widths or factors, or a size above 1,024
+ *   6   an element of A, B or C lies outside memory
+ *   9   a byte of C lies in two of its rows, in a row of A or B, or in the seal
+ * A matrix with no element has nothing to test. */
+
+/* run: seventeen numbers of 64 bits, each low byte first, at bytes 0, 8, .., 128:
+ *   sew, factor, m, k, n, then address and stride of A, of B and of C, RLEN, MLEN,
+ *   and the place: which word comes next (0 to 8 in the order of a run, 9 none), and the row and column of C and
+ *   the term of the sums at which its block starts.
+ * bodlarina_run_start writes them; the host may read, keep and copy the block. One that no start could have made is
+ * answered with 8. */
+#define BODLARINA_RUN_BYTES 136
+#define BODLARINA_RUN_ROW_AT 112 /* the byte at which the place's row stands: how far a run has come, out of m */
+
+/* step: a word, then scalars 10 and 11 (address and stride) as numbers of 64 bits, low byte first. */
+#define BODLARINA_STEP_BYTES 24
+
+/* Starts a run: on 0 the run block is written. */
+uint64_t bodlarina_run_start(uint64_t sew, uint64_t factor, uint64_t m, uint64_t k, uint64_t n,
+                             uint64_t a, int64_t a_stride, uint64_t b, int64_t b_stride, uint64_t c, int64_t c_stride,
+                             const uint8_t *machine, size_t machine_len,
+                             const uint8_t *registers, size_t registers_len,
+                             const uint8_t *marks, size_t marks_len,
+                             const uint8_t *memory, size_t memory_len,
+                             uint8_t *run, size_t run_len);
+
+/* Hands out the next step and moves the run past it, for a host that carries it out with bodlarina_step: the word,
+ * with scalars 10 and 11 as given and the others 0.
+ * Answers: 0; 8 past the last step, and for a run block that no start could have made. */
+uint64_t bodlarina_run_next(uint8_t *run, size_t run_len, uint8_t *step, size_t step_len);
+
+/* One turn: hands out the next step and carries it out with scalars of the run's own.
+ * Answers: 0; 8 as bodlarina_run_next and bodlarina_step; and those of the word. A run that was started here, on
+ * buffers that nothing else has written since, gets 0 for each of its steps and 8 after the last. */
+uint64_t bodlarina_run_turn(uint8_t *run, size_t run_len,
+                            uint8_t *machine, size_t machine_len,
+                            uint8_t *registers, size_t registers_len,
+                            uint8_t *marks, size_t marks_len,
+                            uint8_t *memory, size_t memory_len);
+
+/* Up to `turns` turns, stopping before the first that would be refused. RETURNS HOW MANY WERE DONE, not a result; if
+ * fewer than asked, bodlarina_run_turn says why. They leave what as many calls of bodlarina_run_turn leave, and are
+ * much faster: the state is looked through once. */
+uint64_t bodlarina_run_turns(uint64_t turns,
+                             uint8_t *run, size_t run_len,
+                             uint8_t *machine, size_t machine_len,
+                             uint8_t *registers, size_t registers_len,
+                             uint8_t *marks, size_t marks_len,
+                             uint8_t *memory, size_t memory_len);
+
+/* A whole run in one call: starts it and takes all its turns. Answers are those of the start. On 0 C is the product,
+ * and the steps block of 8 bytes has the number of steps, low byte first. */
+#define BODLARINA_STEPS_BYTES 8
+uint64_t bodlarina_run(uint64_t sew, uint64_t factor, uint64_t m, uint64_t k, uint64_t n,
+                       uint64_t a, int64_t a_stride, uint64_t b, int64_t b_stride, uint64_t c, int64_t c_stride,
+                       uint8_t *machine, size_t machine_len,
+                       uint8_t *registers, size_t registers_len,
+                       uint8_t *marks, size_t marks_len,
+                       uint8_t *memory, size_t memory_len,
+                       uint8_t *steps, size_t steps_len);
 
 #ifdef __cplusplus
 }

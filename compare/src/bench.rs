@@ -1,7 +1,6 @@
 //! Times through the C interface, all from one run. Nothing here can fail.
 
-use crate::lent::{library_step, Lent};
-use crate::library;
+use crate::lent::{library_step, started, Lent};
 use crate::random::Random;
 use crate::states::{set_size, SIZES, WIDTHS};
 use crate::tally::{families, family_name};
@@ -19,9 +18,8 @@ pub fn bench() {
     println!("by its time.");
     steps_by_family();
     multiply_accumulates();
-    #[cfg(feature = "runs")]
-    crate::runs::bench::bench();
     against_the_second_program();
+    crate::runs::bench::bench();
 }
 
 /// Nanoseconds of a call: the best of 5 batches of at least 4 ms, or of fewer
@@ -60,15 +58,8 @@ pub fn machine_name((rlen, mlen): (u64, u64)) -> String {
 /// A machine with everything marked and every size at its maximum.
 pub fn full_bench((rlen, mlen): (u64, u64), mtype: u64, memory: usize) -> Lent {
     let mut random = Random::for_case(1, "bench", 0);
-    let length = model::register_bytes(mlen);
-    let mut lent = Lent {
-        machine: vec![0; library::MACHINE_BYTES],
-        registers: random.bytes(length),
-        marks: vec![0; length],
-        scalars: vec![0; library::SCALARS_BYTES],
-        memory: random.bytes(memory),
-    };
-    library::start(rlen, mlen, 0, 0, &mut lent.machine, &mut lent.registers, &mut lent.marks);
+    let registers = random.bytes(model::register_bytes(mlen));
+    let mut lent = started((rlen, mlen), registers, random.bytes(memory));
     lent.marks.fill(1);
     let mut machine = lent.machine();
     machine.mtype = mtype;

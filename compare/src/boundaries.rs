@@ -4,8 +4,8 @@
 use crate::lent::Lent;
 use crate::random::Random;
 use crate::states::{
-    any_row, any_scalar, bench_of, good_case, good_machine, moved_rows, set_size, state_fault,
-    unmark_source, wrapping_stride, Case, MTYPES, SIZES, STATE_FAULTS, WILD_STRIDES,
+    any_row, any_scalar, bench_of, good_case, good_machine, moved_rows, put_state_fault, set_size,
+    unmark_source, wrapping_stride, Case, MTYPES, SIZES, WILD_STRIDES,
 };
 use crate::suite::{check_step, each_case, Context, Outcome};
 use model::{maximum, sew, Kind, Machine, Matrix, Row, Size, LISTING, MILL};
@@ -521,8 +521,7 @@ fn faulty_state(random: &mut Random) -> Made {
     if random.chance(20) {
         case.word = random.next() as u32;
     }
-    let kind = random.below(STATE_FAULTS);
-    state_fault(random, &mut case.lent, kind);
+    put_state_fault(random, &mut case.lent);
     (case, 8)
 }
 

@@ -1,7 +1,7 @@
 //! What a host lends, as byte blocks, and both programs over it.
 
 use crate::library;
-use model::{Answer, Bench, Machine};
+use model::{Answer, Bench, Handed, Machine, Plan, Run};
 use std::fmt::Write;
 
 #[derive(Clone, Debug, PartialEq, Eq)]
@@ -56,6 +56,29 @@ pub fn machine_of(block: &[u8]) -> Option<Machine> {
     Some(Machine { rlen, mlen, mtype, tile_m, tile_k, tile_n, seal_start, seal_length })
 }
 
+pub fn handed_block(handed: &Handed) -> Vec<u8> {
+    words_to_bytes(&[handed.word as u64, handed.scalar_10, handed.scalar_11])
+}
+
+pub fn handed_of(block: &[u8]) -> Handed {
+    let words = bytes_to_words(block);
+    Handed { word: words[0] as u32, scalar_10: words[1], scalar_11: words[2] }
+}
+
+/// A machine that the library started on register bytes and memory, all marks 1
+/// before and all scalars 0.
+pub fn started((rlen, mlen): (u64, u64), registers: Vec<u8>, memory: Vec<u8>) -> Lent {
+    let mut lent = Lent {
+        machine: vec![0; library::MACHINE_BYTES],
+        marks: vec![1; registers.len()],
+        registers,
+        scalars: vec![0; library::SCALARS_BYTES],
+        memory,
+    };
+    library::start(rlen, mlen, 0, 0, &mut lent.machine, &mut lent.registers, &mut lent.marks);
+    lent
+}
+
 impl Lent {
     pub fn machine(&self) -> Machine {
         machine_of(&self.machine).expect("a machine block of the right length")
@@ -105,14 +128,28 @@ impl Lent {
 // The library
 
 pub fn library_step(word: u32, lent: &mut Lent) -> u64 {
-    library::step(
-        word,
-        &mut lent.machine,
-        &mut lent.registers,
-        &mut lent.marks,
-        &mut lent.scalars,
-        &mut lent.memory,
-    )
+    let Lent { machine, registers, marks, scalars, memory } = lent;
+    library::step(word, machine, registers, marks, scalars, memory)
+}
+
+pub fn library_run_start(plan: &Plan, lent: &mut Lent, run: &mut [u8]) -> u64 {
+    let Lent { machine, registers, marks, memory, .. } = lent;
+    library::run_start(plan, machine, registers, marks, memory, run)
+}
+
+pub fn library_run_turn(run: &mut [u8], lent: &mut Lent) -> u64 {
+    let Lent { machine, registers, marks, memory, .. } = lent;
+    library::run_turn(run, machine, registers, marks, memory)
+}
+
+pub fn library_run_turns(turns: u64, run: &mut [u8], lent: &mut Lent) -> u64 {
+    let Lent { machine, registers, marks, memory, .. } = lent;
+    library::run_turns(turns, run, machine, registers, marks, memory)
+}
+
+pub fn library_run(plan: &Plan, lent: &mut Lent, steps: &mut [u8]) -> u64 {
+    let Lent { machine, registers, marks, memory, .. } = lent;
+    library::run(plan, machine, registers, marks, memory, steps)
 }
 
 // ---------------------------------------------------------------------------
@@ -130,6 +167,30 @@ pub fn second_step(word: u32, lent: &mut Lent) -> Answer {
     lent.take(bench);
     lent.scalars = words_to_bytes(&scalars);
     answer
+}
+
+/// A run that was started, or the answer's number.
+pub fn second_run_start(plan: &Plan, lent: &Lent) -> Result<Run, u64> {
+    model::run_start(plan, &lent.bench().ok_or(BAD_ARGUMENTS.number)?)
+}
+
+pub fn second_run_turn(run: &mut Run, lent: &mut Lent) -> Answer {
+    let Some(mut bench) = lent.bench() else {
+        return BAD_ARGUMENTS;
+    };
+    let answer = model::run_turn(run, &mut bench);
+    lent.take(bench);
+    answer
+}
+
+/// How many turns are answered 0, of as many as are asked for.
+pub fn second_run_turns(turns: u64, run: &mut Run, lent: &mut Lent) -> u64 {
+    let Some(mut bench) = lent.bench() else {
+        return 0;
+    };
+    let done = model::run_turns(turns, run, &mut bench);
+    lent.take(bench);
+    done
 }
 
 // ---------------------------------------------------------------------------

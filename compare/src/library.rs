@@ -1,88 +1,58 @@
 //! The C interface of the static library, as a host sees it, with thin safe
 //! wrappers. A buffer is a pointer and a length.
 
-// The block lengths of the library's header.
+use model::Plan;
+
+// The block lengths of the library's header. A run block is opaque, but made of
+// numbers of 8 bytes.
 pub const MACHINE_BYTES: usize = 64;
 pub const SCALARS_BYTES: usize = 256;
+pub const RUN_BYTES: usize = 136;
+pub const STEP_BYTES: usize = 24;
+pub const STEPS_BYTES: usize = 8;
 
-extern "C" {
-    fn bodlarina_start(
-        rlen: u64,
-        mlen: u64,
-        seal_start: u64,
-        seal_length: u64,
-        machine: *mut u8,
-        machine_len: usize,
-        registers: *const u8,
-        registers_len: usize,
-        marks: *mut u8,
-        marks_len: usize,
-    ) -> u64;
-
-    fn bodlarina_step(
-        word: u32,
-        machine: *mut u8,
-        machine_len: usize,
-        registers: *mut u8,
-        registers_len: usize,
-        marks: *mut u8,
-        marks_len: usize,
-        scalars: *mut u8,
-        scalars_len: usize,
-        memory: *mut u8,
-        memory_len: usize,
-    ) -> u64;
+/// Wrappers of functions that take numbers, then buffers. Each call passes
+/// slices that live through it and do not overlap. Buffers that the header calls
+/// const are passed as writable ones too, so that a write to them would show.
+macro_rules! calls {
+    ($($name:ident = $function:ident($($number:ident: $of:ty),*; $($buffer:ident),*);)*) => {$(
+        pub fn $name($($number: $of,)* $($buffer: &mut [u8]),*) -> u64 {
+            extern "C" {
+                fn $function($($number: $of,)* $($buffer: *mut u8, _: usize),*) -> u64;
+            }
+            unsafe { $function($($number,)* $($buffer.as_mut_ptr(), $buffer.len()),*) }
+        }
+    )*};
 }
 
-// Each call passes slices that live through it and do not overlap. The registers
-// of a start are passed as writable ones, so that a write to them would show.
-
-pub fn start(
-    rlen: u64,
-    mlen: u64,
-    seal_start: u64,
-    seal_length: u64,
-    machine: &mut [u8],
-    registers: &mut [u8],
-    marks: &mut [u8],
-) -> u64 {
-    unsafe {
-        bodlarina_start(
-            rlen,
-            mlen,
-            seal_start,
-            seal_length,
-            machine.as_mut_ptr(),
-            machine.len(),
-            registers.as_mut_ptr(),
-            registers.len(),
-            marks.as_mut_ptr(),
-            marks.len(),
-        )
-    }
+/// The same for functions that take the numbers of a plan.
+macro_rules! plan_calls {
+    ($($name:ident = $function:ident($($buffer:ident),*);)*) => {$(
+        pub fn $name(plan: &Plan, $($buffer: &mut [u8]),*) -> u64 {
+            calls! {
+                call = $function(
+                    sew: u64, factor: u64, m: u64, k: u64, n: u64,
+                    a: u64, a_stride: i64, b: u64, b_stride: i64, c: u64, c_stride: i64;
+                    $($buffer),*
+                );
+            }
+            let Plan { sew, factor, m, k, n, a, a_stride, b, b_stride, c, c_stride } = *plan;
+            call(sew, factor, m, k, n, a, a_stride, b, b_stride, c, c_stride, $($buffer),*)
+        }
+    )*};
 }
 
-pub fn step(
-    word: u32,
-    machine: &mut [u8],
-    registers: &mut [u8],
-    marks: &mut [u8],
-    scalars: &mut [u8],
-    memory: &mut [u8],
-) -> u64 {
-    unsafe {
-        bodlarina_step(
-            word,
-            machine.as_mut_ptr(),
-            machine.len(),
-            registers.as_mut_ptr(),
-            registers.len(),
-            marks.as_mut_ptr(),
-            marks.len(),
-            scalars.as_mut_ptr(),
-            scalars.len(),
-            memory.as_mut_ptr(),
-            memory.len(),
-        )
-    }
+calls! {
+    start = bodlarina_start(
+        rlen: u64, mlen: u64, seal_start: u64, seal_length: u64; machine, registers, marks
+    );
+    step = bodlarina_step(word: u32; machine, registers, marks, scalars, memory);
+    run_next = bodlarina_run_next(; run, step);
+    run_turn = bodlarina_run_turn(; run, machine, registers, marks, memory);
+    run_turns = bodlarina_run_turns(turns: u64; run, machine, registers, marks, memory);
+}
+
+plan_calls! {
+    run_start = bodlarina_run_start(machine, registers, marks, memory, run);
+    run = bodlarina_run(machine, registers, marks, memory, steps);
 }

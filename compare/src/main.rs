@@ -3,8 +3,8 @@
 //!     compare [long|bench] [--seed N] [--suite NAME [--case N]]
 //!
 //! Without a word: the suites at their usual length. `long`: ten million steps
-//! and more. `bench`: one table of times. A reported difference names its
-//! suite, case and seed, which repeat it.
+//! and a hundred thousand runs. `bench`: one table of times. A reported
+//! difference names its suite, case and seed, which repeat it.
 
 mod bench;
 mod boundaries;
@@ -12,7 +12,6 @@ mod damage;
 mod lent;
 mod library;
 mod random;
-#[cfg(feature = "runs")]
 mod runs;
 mod sheet;
 mod starts;
@@ -24,7 +23,7 @@ mod tally;
 use std::time::Instant;
 use suite::{Context, Outcome, Suite};
 
-const SUITES: [Suite; 9] = [
+const SUITES: [Suite; 18] = [
     ("bench sheet", sheet::bench_sheet),
     ("machine starts", starts::machine_starts),
     ("codes", steps::codes),
@@ -34,16 +33,18 @@ const SUITES: [Suite; 9] = [
     ("sequences", steps::sequences),
     ("damaged steps", damage::damaged_steps),
     ("empty slices", damage::empty_slices),
+    ("run starts", runs::suites::run_starts),
+    ("turns", runs::suites::turns),
+    ("disturbed turns", runs::suites::disturbed_turns),
+    ("whole runs", runs::suites::whole_runs),
+    ("largest sizes", runs::suites::largest_sizes),
+    ("larger products", runs::suites::larger_products),
+    ("wrong run lengths", runs::damage::wrong_run_lengths),
+    ("forged runs", runs::damage::forged_runs),
+    ("empty run slices", runs::damage::empty_run_slices),
 ];
 
-fn suites() -> Vec<Suite> {
-    let suites = SUITES.to_vec();
-    #[cfg(feature = "runs")]
-    let suites = [suites, runs::SUITES.to_vec()].concat();
-    suites
-}
-
-/// `long` takes this many times the random steps: above ten million.
+/// `long` takes this many times the random steps and runs: above ten million steps.
 const LONG_SCALE: u64 = 28;
 
 struct Arguments {
@@ -79,10 +80,9 @@ fn main() {
         bench::bench();
         return;
     }
-    let suites = suites();
     if let Some(only) = &arguments.suite {
-        if !suites.iter().any(|(name, _)| name == only) {
-            eprintln!("no suite '{only}' in this build");
+        if !SUITES.iter().any(|(name, _)| name == only) {
+            eprintln!("no suite '{only}'");
             std::process::exit(2);
         }
     }
@@ -105,7 +105,7 @@ fn main() {
             println!("{name:18} FAILED\n{text}");
         }
     };
-    for (name, suite) in suites {
+    for (name, suite) in SUITES {
         if arguments.suite.as_deref().is_some_and(|only| only != name) {
             continue;
         }

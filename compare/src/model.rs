@@ -12,7 +12,7 @@ pub const ELEN: i128 = 32;
 /// mtype's bit 63: the last new value was illegal.
 pub const MILL: u64 = 1 << 63;
 
-#[derive(Clone, Copy, Debug, PartialEq, Eq)]
+#[derive(Clone, Copy, Debug, Default, PartialEq, Eq)]
 pub struct Machine {
     pub rlen: u64,
     pub mlen: u64,
@@ -99,7 +99,7 @@ pub fn start(
     for mark in marks.iter_mut() {
         *mark = 0;
     }
-    Some(Machine { rlen, mlen, mtype: 0, tile_m: 0, tile_k: 0, tile_n: 0, seal_start, seal_length })
+    Some(Machine { rlen, mlen, seal_start, seal_length, ..Machine::default() })
 }
 
 /// The values of mtype that can arise.
@@ -717,8 +717,8 @@ fn carry_out(instruction: &Instruction, bench: &mut Bench, scalars: &mut [u64]) 
     match instruction.row.kind {
         SetType => set_type(instruction, &mut bench.machine, scalars),
         SetSize(size) => set_size(instruction, size, &mut bench.machine, scalars),
-        Load(matrix, _) => load(instruction, matrix, bench, scalars),
-        Store(matrix, _) => store(instruction, matrix, bench, scalars),
+        Load(..) => load(instruction, bench, scalars),
+        Store(..) => store(instruction, bench, scalars),
         Multiply(_) => multiply(instruction, bench),
         Add(_) | Subtract(_) | ReverseSubtract(_) => add_or_subtract(instruction, bench),
         Scale(_) => scale(instruction, bench, scalars),
@@ -743,32 +743,38 @@ fn set_size(instruction: &Instruction, size: Size, machine: &mut Machine, scalar
     }
 }
 
-fn load(instruction: &Instruction, matrix: Matrix, bench: &mut Bench, scalars: &[u64]) {
-    let width = output_width(instruction, &bench.machine);
-    let tile = tile(&bench.machine, matrix, instruction.md(), width);
+/// The bytes that a load or store moves, row by row: each one's address and its
+/// place among the register bytes.
+fn moved_bytes(
+    instruction: &Instruction,
+    machine: &Machine,
+    scalars: &[u64],
+) -> Vec<(usize, usize)> {
+    let (Load(matrix, width) | Store(matrix, width)) = instruction.row.kind else {
+        return vec![];
+    };
+    let tile = tile(machine, matrix, instruction.md(), width);
+    let mut moved = Vec::new();
     for i in 0..tile.rows {
         for j in 0..tile.columns {
             let address = element_address(instruction, scalars, i, j) as usize;
-            let places = register_element(&bench.machine, tile.register, i, j, width);
-            for (byte, place) in places.enumerate() {
-                bench.registers[place] = bench.memory[address + byte];
-                bench.marks[place] = 1;
-            }
+            let places = register_element(machine, tile.register, i, j, width);
+            moved.extend((address..).zip(places));
         }
+    }
+    moved
+}
+
+fn load(instruction: &Instruction, bench: &mut Bench, scalars: &[u64]) {
+    for (address, place) in moved_bytes(instruction, &bench.machine, scalars) {
+        bench.registers[place] = bench.memory[address];
+        bench.marks[place] = 1;
     }
 }
 
-fn store(instruction: &Instruction, matrix: Matrix, bench: &mut Bench, scalars: &[u64]) {
-    let width = output_width(instruction, &bench.machine);
-    let tile = tile(&bench.machine, matrix, instruction.md(), width);
-    for i in 0..tile.rows {
-        for j in 0..tile.columns {
-            let address = element_address(instruction, scalars, i, j) as usize;
-            let places = register_element(&bench.machine, tile.register, i, j, width);
-            for (byte, place) in places.enumerate() {
-                bench.memory[address + byte] = bench.registers[place];
-            }
-        }
+fn store(instruction: &Instruction, bench: &mut Bench, scalars: &[u64]) {
+    for (address, place) in moved_bytes(instruction, &bench.machine, scalars) {
+        bench.memory[address] = bench.registers[place];
     }
 }
 
@@ -912,7 +918,7 @@ pub struct Run {
     pub place: usize,
 }
 
-fn plan_numbers_bad(plan: &Plan) -> bool {
+pub fn plan_numbers_bad(plan: &Plan) -> bool {
     ![8, 16, 32].contains(&plan.sew)
         || ![1, 2, 4].contains(&plan.factor)
         || plan.factor as i128 * plan.sew as i128 > ELEN

@@ -1,22 +1,14 @@
 //! The bench sheet's lines on the library, each with the values printed there.
 
-use crate::lent::{library_step, words_to_bytes, Lent};
+use crate::lent::{library_run_start, library_run_turns, library_step, words_to_bytes, Lent};
 use crate::library;
+use crate::runs::plans::packed_plan;
 use crate::suite::{Context, Outcome};
-use model::{assemble, MILL};
+use model::{assemble, Matrix, Plan, MILL};
 
 /// A started machine of MLEN 256 and RLEN 64.
-pub fn started(memory: usize) -> Lent {
-    let length = model::register_bytes(256);
-    let mut lent = Lent {
-        machine: vec![0; library::MACHINE_BYTES],
-        registers: vec![0; length],
-        marks: vec![1; length],
-        scalars: vec![0; library::SCALARS_BYTES],
-        memory: vec![0; memory],
-    };
-    library::start(64, 256, 0, 0, &mut lent.machine, &mut lent.registers, &mut lent.marks);
-    lent
+fn started(memory: usize) -> Lent {
+    crate::lent::started((64, 256), vec![0; model::register_bytes(256)], vec![0; memory])
 }
 
 fn answer(word: u32, lent: &mut Lent) -> u64 {
@@ -73,8 +65,7 @@ pub fn bench_sheet(_: &mut Context) -> Outcome {
     lines.push(("the end of memory", at(0, 8) == 0 && at(1, 8) == 6));
     lines.push(("stride -8", at(24, -8) == 0 && at(23, -8) == 6));
 
-    #[cfg(feature = "runs")]
-    lines.extend(crate::runs::sheet::lines());
+    lines.extend(run_lines());
 
     let wrong: Vec<&str> = lines.iter().filter(|line| !line.1).map(|line| line.0).collect();
     if wrong.is_empty() {
@@ -82,4 +73,46 @@ pub fn bench_sheet(_: &mut Context) -> Outcome {
     } else {
         Err(format!("not as printed: {}", wrong.join(", ")))
     }
+}
+
+/// Steps done, and C, for A and B at SEW 8.
+fn product(plan: &Plan, a: &[i8], b: &[i8]) -> (u64, Vec<i128>) {
+    let mut lent = started(4096);
+    for (address, values) in [(plan.a, a), (plan.b, b)] {
+        for (at, &value) in (address as usize..).zip(values) {
+            lent.memory[at] = value as u8;
+        }
+    }
+    let mut run = vec![0; library::RUN_BYTES];
+    if library_run_start(plan, &mut lent, &mut run) != 0 {
+        return (0, vec![]);
+    }
+    let done = library_run_turns(u64::MAX, &mut run, &mut lent);
+    (done, model::elements(plan.placed(Matrix::C), &lent.memory).concat())
+}
+
+/// The lines that need a run.
+fn run_lines() -> Vec<(&'static str, bool)> {
+    let mut lines = Vec::new();
+    let plan = |sew, factor, sizes| packed_plan((sew, factor), sizes).0;
+
+    let once = |factor| product(&plan(8, factor, [1, 1, 1]), &[100], &[100]).1;
+    lines.push(("100 x 100", once(1) == [16] && once(2) == [10000]));
+    let twice = |factor| product(&plan(8, factor, [1, 2, 1]), &[-128; 2], &[-128; 2]).1;
+    lines.push(("-128 x -128 twice", twice(2) == [-32768] && twice(4) == [32768]));
+
+    let steps = |sew, sizes| product(&plan(sew, 1, sizes), &[], &[]).0;
+    lines.push(("7 by 8 by 14", steps(16, [7, 8, 14]) == 91 && steps(8, [7, 8, 14]) == 47));
+    lines.push(("m = 0", steps(8, [0, 8, 14]) == 1));
+    lines.push(("k = 0", product(&plan(8, 1, [1, 0, 1]), &[], &[]) == (5, vec![0])));
+
+    let mut lent = started(16384);
+    let mut run = vec![0; library::RUN_BYTES];
+    let mut start = |m| library_run_start(&plan(8, 1, [m, 1, 1]), &mut lent, &mut run);
+    lines.push(("size 1,024", start(1024) == 0 && start(1025) == 8));
+
+    let (done, c) = product(&plan(8, 4, [2, 3, 2]), &[1, 2, 3, -4, 5, -6], &[7, 8, 9, 10, 11, 12]);
+    lines.push(("the product example", done == 9 && c == [58, 64, -49, -54]));
+
+    lines
 }

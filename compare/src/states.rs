@@ -46,19 +46,21 @@ pub fn size_up_to(random: &mut Random, limit: i128) -> i128 {
 
 /// A machine with a legal mtype and sizes within the maxima.
 pub fn good_machine(random: &mut Random, mtype: u64) -> Machine {
-    let (rlen, mlen) = lengths(random);
-    let mut machine = Machine {
-        rlen,
-        mlen,
-        mtype,
-        tile_m: 0,
-        tile_k: 0,
-        tile_n: 0,
-        seal_start: 0,
-        seal_length: 0,
-    };
+    let lengths = lengths(random);
+    machine_within(random, lengths, mtype, sew(mtype))
+}
+
+/// A machine that is not at fault, of any mtype that can arise.
+pub fn any_machine(random: &mut Random, lengths: (u64, u64)) -> Machine {
+    let mtype = if random.chance(20) { MILL } else { random.pick(&MTYPES) };
+    machine_within(random, lengths, mtype, 8)
+}
+
+/// A machine whose sizes are within their maxima at a SEW.
+fn machine_within(random: &mut Random, (rlen, mlen): (u64, u64), mtype: u64, sew: i128) -> Machine {
+    let mut machine = Machine { rlen, mlen, mtype, ..Machine::default() };
     for size in SIZES {
-        let limit = maximum(&machine, size, sew(mtype));
+        let limit = maximum(&machine, size, sew);
         set_size(&mut machine, size, size_up_to(random, limit));
     }
     machine
@@ -394,15 +396,19 @@ fn move_end_of_memory(random: &mut Random, lent: &mut Lent) {
     lent.memory.truncate(new_length);
 }
 
-/// The kinds of state fault (answer 8) that `state_fault` can put in.
-pub const STATE_FAULTS: u64 = 10;
-
+/// Puts in a fault of the state (answer 8) of any kind.
 pub fn put_state_fault(random: &mut Random, lent: &mut Lent) {
-    let kind = random.below(STATE_FAULTS);
+    let kind = random.below(10);
     state_fault(random, lent, kind);
 }
 
-pub fn state_fault(random: &mut Random, lent: &mut Lent, kind: u64) {
+/// The same but for the scalars, of which a run is lent none.
+pub fn put_bench_fault(random: &mut Random, lent: &mut Lent) {
+    let kind = random.below(9);
+    state_fault(random, lent, kind);
+}
+
+fn state_fault(random: &mut Random, lent: &mut Lent, kind: u64) {
     let mut machine = lent.machine();
     match kind {
         0 => {
@@ -421,34 +427,34 @@ pub fn state_fault(random: &mut Random, lent: &mut Lent, kind: u64) {
         }
         2 => wrong_length(random, &mut lent.registers),
         3 => wrong_length(random, &mut lent.marks),
-        4 => wrong_length(random, &mut lent.scalars),
-        5 => {
+        4 => {
             let bad = [3, 4, 7, 9, 10, 11, 12, 16, 24, MILL | 1, MILL | 8, 1 << 62, u64::MAX];
             machine.mtype = random.pick(&bad);
         }
-        6 => {
+        5 => {
             let size = random.pick(&SIZES);
             let widest = maximum(&machine, size, 8);
             let beyond = random.pick(&[1, 2, 1 << 32, 1 << 63]);
             set_size(&mut machine, size, widest + beyond);
         }
-        7 => {
+        6 => {
             machine.seal_start = random.pick(&[1, 1 << 63, u64::MAX]);
             machine.seal_length = random.pick(&[u64::MAX, u64::MAX - machine.seal_start + 1]);
             machine.seal_length = machine.seal_length.max(u64::MAX - machine.seal_start + 1);
         }
-        8 => {
+        7 => {
             let at = random.below(lent.marks.len().max(1) as u64) as usize;
             let mark = random.pick(&[2, 3, 0x80, 0x81, 0xFE, 0xFF]);
             if let Some(byte) = lent.marks.get_mut(at) {
                 *byte = mark;
             }
         }
-        _ => {
+        8 => {
             lent.set_machine(&machine);
             wrong_length(random, &mut lent.machine);
             return;
         }
+        _ => wrong_length(random, &mut lent.scalars),
     }
     lent.set_machine(&machine);
 }

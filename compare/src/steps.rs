@@ -13,22 +13,21 @@ use model::{Kind, Row, LISTING};
 
 /// Random words on random states, most of them done.
 pub fn random_steps(context: &mut Context) -> Outcome {
-    let count = 200_000 * context.scale;
-    each_case(context, "random steps", count, |_, random, tally| {
-        let row = any_row(random);
-        let mut case = good_case(random, row);
-        put_faults(random, &mut case, 8);
-        check_step(case.word, &case.lent, tally).map(|_| ())
-    })
+    faulty_steps(context, "random steps", 200_000, 8)
 }
 
 /// Several faults at once, so that the order of the answers shows.
 pub fn several_faults(context: &mut Context) -> Outcome {
-    let count = 60_000 * context.scale;
-    each_case(context, "several faults", count, |_, random, tally| {
+    faulty_steps(context, "several faults", 60_000, 30)
+}
+
+/// Good cases with faults put in, each with the given chance.
+fn faulty_steps(context: &mut Context, suite: &str, count: u64, percent: u64) -> Outcome {
+    let count = count * context.scale;
+    each_case(context, suite, count, |_, random, tally| {
         let row = any_row(random);
         let mut case = good_case(random, row);
-        put_faults(random, &mut case, 30);
+        put_faults(random, &mut case, percent);
         check_step(case.word, &case.lent, tally).map(|_| ())
     })
 }

@@ -6,7 +6,7 @@ use crate::tally::Tally;
 
 pub struct Context {
     pub seed: u64,
-    /// Multiplies the number of random steps.
+    /// Multiplies the number of random steps and runs.
     pub scale: u64,
     /// Run this case of each suite alone.
     pub only_case: Option<u64>,

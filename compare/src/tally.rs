@@ -1,5 +1,5 @@
-//! How often each answer was met for each instruction family, and (feature
-//! `runs`) for the calls of a run.
+//! How often each answer was met for each instruction family and for the calls of
+//! a run.
 //!
 //! A word belongs to the family whose opcode and code it has, whatever its
 //! operands. Which cells can be met, by the scope paper:
@@ -17,10 +17,12 @@
 //! - 5: what reads registers: stores, multiplies and element-wise words.
 //! - 6: loads and stores. 7: stores.
 //! - 8: every word, since the state is tested before the word.
-//! - 9: a run's start only (see `runs/tally.rs`).
+//! - 9: no word.
+//!
+//! A run's start, and a whole run, gives 0, 6, 8 or 9, asking for the next step 0
+//! or 8. A turn never gives 1, since every word of a run is good; it gives 2 to 7
+//! only on a machine or memory that was changed between turns.
 
-#[cfg(feature = "runs")]
-use crate::runs::tally::{self as run_tally, RunCall, RunTally};
 use model::Kind;
 use std::collections::BTreeMap;
 
@@ -29,20 +31,25 @@ pub enum Call {
     MachineStart,
     Family(usize),
     OtherWord,
-    #[cfg(feature = "runs")]
-    Run(RunCall),
+    RunStart,
+    RunNext,
+    RunTurn,
+    WholeRun,
 }
 
 #[derive(Default)]
 pub struct Tally {
     counts: BTreeMap<(Call, u64), u64>,
     pub steps: u64,
-    #[cfg(feature = "runs")]
-    pub run: RunTally,
+    /// Runs compared after each turn.
+    pub runs: u64,
+    /// How often each reason of answer 9 was met alone.
+    pub overlaps: [u64; 4],
 }
 
-/// What a run without `long` compares at the least.
+// What is compared at the least, without `long`.
 const LEAST_STEPS: u64 = 200_000;
+const LEAST_RUNS: u64 = 2_000;
 
 /// The listing's name without an element width.
 pub fn family_name(name: &'static str) -> &'static str {
@@ -68,8 +75,9 @@ fn reachable(call: Call, number: u64) -> bool {
     let row = match call {
         Call::MachineStart => return [0, 8].contains(&number),
         Call::OtherWord => return [1, 8].contains(&number),
-        #[cfg(feature = "runs")]
-        Call::Run(call) => return run_tally::reachable(call, number),
+        Call::RunStart | Call::WholeRun => return [0, 6, 8, 9].contains(&number),
+        Call::RunNext => return [0, 8].contains(&number),
+        Call::RunTurn => return ![1, 9].contains(&number),
         Call::Family(row) => &model::LISTING[row],
     };
     let setting = matches!(row.kind, Kind::SetType | Kind::SetSize(_));
@@ -112,9 +120,13 @@ impl Tally {
         for row in families() {
             calls.push((Call::Family(row), family_name(model::LISTING[row].name)));
         }
-        calls.push((Call::OtherWord, "other words"));
-        #[cfg(feature = "runs")]
-        calls.extend(run_tally::CALLS.map(|(call, name)| (Call::Run(call), name)));
+        calls.extend([
+            (Call::OtherWord, "other words"),
+            (Call::RunStart, "run start"),
+            (Call::RunNext, "run next"),
+            (Call::RunTurn, "run turn"),
+            (Call::WholeRun, "whole run"),
+        ]);
         calls
     }
 
@@ -132,8 +144,10 @@ impl Tally {
             }
             println!();
         }
-        #[cfg(feature = "runs")]
-        self.run.print();
+        println!(
+            "answer 9 by one reason alone: two rows of C {}, A {}, B {}, seal {}",
+            self.overlaps[0], self.overlaps[1], self.overlaps[2], self.overlaps[3]
+        );
     }
 
     /// Cells that can be met but were not, and those met that cannot be.
@@ -148,8 +162,9 @@ impl Tally {
                 }
             }
         }
-        #[cfg(feature = "runs")]
-        faults.extend(self.run.fault());
+        if self.overlaps.contains(&0) {
+            faults.push(format!("a reason of 9 was not met alone: {:?}", self.overlaps));
+        }
         if faults.is_empty() {
             Ok("every cell that can be met was met".to_string())
         } else {
@@ -159,12 +174,16 @@ impl Tally {
 
     /// Whether as much was compared as is asked for.
     pub fn amount(&self) -> Result<String, String> {
-        let text = format!("{} steps", self.steps);
-        if self.steps < LEAST_STEPS {
-            return Err(format!("{text} of {LEAST_STEPS}"));
+        let text = format!(
+            "{} steps, {} runs turn by turn, {} whole runs in one call",
+            self.steps,
+            self.runs,
+            self.get(Call::WholeRun, 0)
+        );
+        if self.steps >= LEAST_STEPS && self.runs >= LEAST_RUNS {
+            Ok(text)
+        } else {
+            Err(format!("{text}; asked for: {LEAST_STEPS} steps, {LEAST_RUNS} runs"))
         }
-        #[cfg(feature = "runs")]
-        let text = format!("{text}, {}", self.run.amount()?);
-        Ok(text)
     }
 }

@@ -1,20 +1,22 @@
 //! Damaged input to the calls of a run: wrong block lengths, empty slices and
 //! forged run blocks. Buffers stand between guard bytes.
 
-use super::lent::{handed_of, library_run_start, library_run_turns};
-use super::library;
-use super::plans::{any_machine, good_plan};
-use super::tally::RunCall;
-use crate::lent::{packed, Lent};
+use super::plans::small_plan;
+use crate::lent::{
+    bytes_to_words, handed_of, library_run_start, library_run_turns, packed, state_text,
+    words_to_bytes, Lent,
+};
+use crate::library;
 use crate::random::Random;
-use crate::states::{bench_of, wrong_length, WIDTHS};
+use crate::states::{any_machine, bench_of, lengths, wrong_length};
 use crate::suite::{each_case, Context, Outcome};
 use crate::tally::{Call, Tally};
+use model::{maximum, Machine, Plan, Size};
 
 const GUARD: usize = 32;
 
 /// A buffer between bytes that no call may touch.
-#[derive(Clone)]
+#[derive(Clone, PartialEq)]
 struct Guarded(Vec<u8>);
 
 impl Guarded {
@@ -29,14 +31,14 @@ impl Guarded {
     }
 
     fn holds(&self, bytes: &[u8]) -> bool {
-        self.0 == Guarded::new(bytes).0
+        *self == Guarded::new(bytes)
     }
 }
 
-/// Everything a turn is lent.
-#[derive(Clone)]
+/// Everything a call of a run is lent; the block is its run or its steps.
+#[derive(Clone, PartialEq)]
 struct Desk {
-    run: Guarded,
+    block: Guarded,
     machine: Guarded,
     registers: Guarded,
     marks: Guarded,
@@ -44,9 +46,9 @@ struct Desk {
 }
 
 impl Desk {
-    fn new(run: &[u8], lent: &Lent) -> Desk {
+    fn new(block: &[u8], lent: &Lent) -> Desk {
         Desk {
-            run: Guarded::new(run),
+            block: Guarded::new(block),
             machine: Guarded::new(&lent.machine),
             registers: Guarded::new(&lent.registers),
             marks: Guarded::new(&lent.marks),
@@ -54,254 +56,115 @@ impl Desk {
         }
     }
 
-    fn holds(&self, run: &[u8], lent: &Lent) -> bool {
-        self.run.holds(run) && self.holds_bench(lent)
+    fn holds(&self, block: &[u8], lent: &Lent) -> bool {
+        *self == Desk::new(block, lent)
     }
 
-    fn holds_bench(&self, lent: &Lent) -> bool {
-        self.machine.holds(&lent.machine)
-            && self.registers.holds(&lent.registers)
-            && self.marks.holds(&lent.marks)
-            && self.memory.holds(&lent.memory)
+    /// The block, machine, registers, marks and memory.
+    fn parts(&mut self) -> [&mut [u8]; 5] {
+        [&mut self.block, &mut self.machine, &mut self.registers, &mut self.marks, &mut self.memory]
+            .map(Guarded::bytes)
     }
 
-    fn same(&self, other: &Desk) -> bool {
-        self.run.0 == other.run.0
-            && self.machine.0 == other.machine.0
-            && self.registers.0 == other.registers.0
-            && self.marks.0 == other.marks.0
-            && self.memory.0 == other.memory.0
+    fn start(&mut self, plan: &Plan) -> u64 {
+        let [run, machine, registers, marks, memory] = self.parts();
+        library::run_start(plan, machine, registers, marks, memory, run)
+    }
+
+    fn whole_run(&mut self, plan: &Plan) -> u64 {
+        let [steps, machine, registers, marks, memory] = self.parts();
+        library::run(plan, machine, registers, marks, memory, steps)
     }
 
     fn turn(&mut self) -> u64 {
-        library::run_turn(
-            self.run.bytes(),
-            self.machine.bytes(),
-            self.registers.bytes(),
-            self.marks.bytes(),
-            self.memory.bytes(),
-        )
+        let [run, machine, registers, marks, memory] = self.parts();
+        library::run_turn(run, machine, registers, marks, memory)
     }
 
     fn turns(&mut self, turns: u64) -> u64 {
-        library::run_turns(
-            turns,
-            self.run.bytes(),
-            self.machine.bytes(),
-            self.registers.bytes(),
-            self.marks.bytes(),
-            self.memory.bytes(),
-        )
+        let [run, machine, registers, marks, memory] = self.parts();
+        library::run_turns(turns, run, machine, registers, marks, memory)
     }
 }
 
 /// A run that is good, some turns along.
 fn good_run(random: &mut Random) -> Result<(Vec<u8>, Lent), String> {
-    let (rlen, mlen) = crate::states::lengths(random);
-    let machine = any_machine(random, rlen, mlen);
-    let widths = random.pick(&WIDTHS);
-    let sizes = [(); 3].map(|_| random.range(0, 9));
-    let (plan, mut lent) = good_plan(random, &machine, widths, sizes);
+    let (plan, mut lent) = small_plan(random);
     let mut run = vec![0; library::RUN_BYTES];
-    let given = library_run_start(&plan, &lent, &mut run);
+    let given = library_run_start(&plan, &mut lent, &mut run);
     if given != 0 {
         return Err(format!("{plan:?} was refused with {given}"));
     }
-    let turns = random.below(model::step_count(&plan, &machine) + 1);
+    let turns = random.below(model::step_count(&plan, &lent.machine()) + 1);
     library_run_turns(turns, &mut run, &mut lent);
     Ok((run, lent))
 }
 
+/// Gives one or more of some buffers a wrong length; all their lengths.
+fn wrong_lengths<const N: usize>(random: &mut Random, buffers: [&mut Vec<u8>; N]) -> [usize; N] {
+    let chosen = random.range(1, (1 << N) - 1);
+    let mut bit = 1;
+    buffers.map(|buffer| {
+        if chosen & bit != 0 {
+            wrong_length(random, buffer);
+        }
+        bit *= 2;
+        buffer.len()
+    })
+}
+
+/// A call of a run, the length of its block, and where it is counted.
+type PlanCall = (Call, usize, fn(&mut Desk, &Plan) -> u64);
+
+const PLAN_CALLS: [PlanCall; 2] = [
+    (Call::RunStart, library::RUN_BYTES, Desk::start),
+    (Call::WholeRun, library::STEPS_BYTES, Desk::whole_run),
+];
+
 /// Calls of a run with blocks of the wrong length: 8, and nothing changes.
 pub fn wrong_run_lengths(context: &mut Context) -> Outcome {
     each_case(context, "wrong run lengths", 3000, |_, random, tally| {
-        let (mut run, mut lent) = good_run(random)?;
-        let step = random.bytes(library::STEP_BYTES);
-
-        // Starting into a block of the wrong length.
-        let (plan, start_lent) = any_plan(random);
-        let mut short = random.bytes(library::RUN_BYTES);
-        wrong_length(random, &mut short);
-        let mut target = Guarded::new(&short);
-        let given = library_run_start(&plan, &start_lent, target.bytes());
-        if given != 8 || !target.holds(&short) {
-            return Err(format!("a run block of {} bytes: start gives {given}", short.len()));
-        }
-        tally.count(Call::Run(RunCall::Start), 8);
-
-        // Asking with either block of the wrong length.
-        let (mut bad_run, mut bad_step) = (run.clone(), step.clone());
-        match random.below(3) {
-            0 => wrong_length(random, &mut bad_run),
-            1 => wrong_length(random, &mut bad_step),
-            _ => {
-                wrong_length(random, &mut bad_run);
-                wrong_length(random, &mut bad_step);
+        for (name, length, call) in PLAN_CALLS {
+            let (plan, mut lent) = small_plan(random);
+            let mut block = random.bytes(length);
+            let lengths = wrong_lengths(
+                random,
+                [&mut block, &mut lent.machine, &mut lent.registers, &mut lent.marks],
+            );
+            let mut desk = Desk::new(&block, &lent);
+            let given = call(&mut desk, &plan);
+            if given != 8 || !desk.holds(&block, &lent) {
+                return Err(format!("{name:?} on blocks of {lengths:?} bytes gives {given}"));
             }
+            tally.count(name, 8);
         }
-        let (mut run_desk, mut step_desk) = (Guarded::new(&bad_run), Guarded::new(&bad_step));
+
+        // Asking.
+        let (run, lent) = good_run(random)?;
+        let (mut bad_run, mut step) = (run.clone(), random.bytes(library::STEP_BYTES));
+        let lengths = wrong_lengths(random, [&mut bad_run, &mut step]);
+        let (mut run_desk, mut step_desk) = (Guarded::new(&bad_run), Guarded::new(&step));
         let given = library::run_next(run_desk.bytes(), step_desk.bytes());
-        if given != 8 || !run_desk.holds(&bad_run) || !step_desk.holds(&bad_step) {
-            return Err(format!(
-                "blocks of {} and {} bytes: run_next gives {given}",
-                bad_run.len(),
-                bad_step.len()
-            ));
+        if given != 8 || !run_desk.holds(&bad_run) || !step_desk.holds(&step) {
+            return Err(format!("RunNext on blocks of {lengths:?} bytes gives {given}"));
         }
-        tally.count(Call::Run(RunCall::Next), 8);
+        tally.count(Call::RunNext, 8);
 
-        // A turn, or many, with one or more blocks of the wrong length.
-        let bad = random.range(1, 15);
-        for (bit, buffer) in [&mut run, &mut lent.machine, &mut lent.registers, &mut lent.marks]
-            .into_iter()
-            .enumerate()
-        {
-            if bad >> bit & 1 == 1 {
-                wrong_length(random, buffer);
-            }
-        }
+        // A turn, and many.
+        let (mut run, mut lent) = (run, lent);
+        let lengths = wrong_lengths(
+            random,
+            [&mut run, &mut lent.machine, &mut lent.registers, &mut lent.marks],
+        );
         let mut desk = Desk::new(&run, &lent);
         let given = desk.turn();
         let done = desk.turns(random.next());
         if given != 8 || done != 0 || !desk.holds(&run, &lent) {
-            return Err(format!("wrong lengths {bad:04b}: a turn gives {given}, {done} done"));
+            return Err(format!("blocks of {lengths:?} bytes: a turn gives {given}, {done} done"));
         }
-        tally.count(Call::Run(RunCall::Turn), 8);
+        tally.count(Call::RunTurn, 8);
         Ok(())
     })
-}
-
-fn any_plan(random: &mut Random) -> (model::Plan, Lent) {
-    let (rlen, mlen) = crate::states::lengths(random);
-    let machine = any_machine(random, rlen, mlen);
-    let widths = random.pick(&WIDTHS);
-    let sizes = [(); 3].map(|_| random.range(0, 9));
-    good_plan(random, &machine, widths, sizes)
-}
-
-/// Run blocks that no start made: random bytes, small numbers, or a good
-/// block with one field changed. A refusal changes nothing, a turn does what
-/// the word asked for does, and many turns do what single ones do.
-pub fn forged_runs(context: &mut Context) -> Outcome {
-    each_case(context, "forged runs", 8000, |_, random, tally| {
-        let (good, mut lent) = good_run(random)?;
-        let run = forge(random, &good);
-        if random.chance(10) {
-            let (rlen, mlen) = crate::states::lengths(random);
-            let machine = any_machine(random, rlen, mlen);
-            lent = bench_of(random, &machine);
-        }
-        check_forged(random, &run, &lent, tally)
-    })
-}
-
-fn forge(random: &mut Random, good: &[u8]) -> Vec<u8> {
-    let fields = good.len() / 8;
-    let mut run = good.to_vec();
-    match random.below(10) {
-        0 => run = random.bytes(good.len()),
-        1 => run.fill(random.pick(&[0, 1, 0xFF])),
-        2 => {
-            for field in 0..fields {
-                put_field(&mut run, field, random.below(1200));
-            }
-        }
-        3 => {
-            let at = random.below(run.len() as u64) as usize;
-            run[at] ^= 1 << random.below(8);
-        }
-        _ => {
-            for _ in 0..random.pick(&[1, 1, 1, 2]) {
-                let field = random.below(fields as u64) as usize;
-                let old = get_field(&run, field);
-                let value = match random.below(8) {
-                    0 => 0,
-                    1 => old.wrapping_add(1),
-                    2 => old.wrapping_sub(1),
-                    3 => u64::MAX,
-                    4 => 1 << random.below(64),
-                    5 => random.below(2000),
-                    6 => random.pick(&[8, 16, 32, 64, 128, 512, 1024, 1025, 4096]),
-                    _ => random.next(),
-                };
-                put_field(&mut run, field, value);
-            }
-        }
-    }
-    run
-}
-
-fn get_field(run: &[u8], field: usize) -> u64 {
-    u64::from_le_bytes(run[8 * field..8 * field + 8].try_into().unwrap())
-}
-
-fn put_field(run: &mut [u8], field: usize, value: u64) {
-    run[8 * field..8 * field + 8].copy_from_slice(&value.to_le_bytes());
-}
-
-fn check_forged(
-    random: &mut Random,
-    run: &[u8],
-    lent: &Lent,
-    tally: &mut Tally,
-) -> Result<(), String> {
-    let complain = |what: &str| {
-        let fields: Vec<u64> = (0..run.len() / 8).map(|field| get_field(run, field)).collect();
-        Err(format!("forged run block {fields:?}: {what}\n{}", crate::lent::state_text(lent)))
-    };
-
-    // Asked for a step.
-    let step = random.bytes(library::STEP_BYTES);
-    let (mut asked, mut handed) = (Guarded::new(run), Guarded::new(&step));
-    let next = library::run_next(asked.bytes(), handed.bytes());
-    match next {
-        0 => {}
-        8 if asked.holds(run) && handed.holds(&step) => {}
-        _ => return complain(&format!("run_next gives {next}, or a refusal changes bytes")),
-    }
-    tally.count(Call::Run(RunCall::Next), next);
-
-    // A turn: as the word handed out, or 8.
-    let mut desk = Desk::new(run, lent);
-    let turn = desk.turn();
-    if turn == 8 {
-        if !desk.holds(run, lent) {
-            return complain("a refused turn changes bytes");
-        }
-    } else if next == 0 {
-        let mut second = lent.clone();
-        let mut bench = lent.bench().expect("a whole machine block");
-        let expected = packed(model::carry_out_handed(&handed_of(handed.bytes()), &mut bench));
-        second.take(bench);
-        let run_after = if expected != 0 { run } else { asked.bytes() };
-        if turn != expected || !desk.holds(run_after, &second) {
-            return complain(&format!(
-                "a turn gives {turn:#x}, its word alone {expected:#x}, or other bytes"
-            ));
-        }
-    } else {
-        return complain(&format!("run_next gives {next}, but a turn {turn:#x}"));
-    }
-    tally.count(Call::Run(RunCall::Turn), turn & 0xFFFF);
-
-    // Many turns: as single ones.
-    let turns = random.below(20);
-    let mut many = Desk::new(run, lent);
-    let done = many.turns(turns);
-    let mut single = Desk::new(run, lent);
-    let mut singly = 0;
-    while singly < turns {
-        let before = single.clone();
-        if single.turn() != 0 {
-            single = before;
-            break;
-        }
-        singly += 1;
-    }
-    if done != singly || !many.same(&single) {
-        return complain(&format!("{turns} turns asked: {done} at once, {singly} singly"));
-    }
-    Ok(())
 }
 
 /// Every slice empty, or all but one.
@@ -318,15 +181,170 @@ pub fn empty_run_slices(context: &mut Context) -> Outcome {
                 buffer.clear();
             }
         }
-        let given = library::run_next(&mut run, &mut []);
+        let (plan, _) = small_plan(random);
         let mut desk = Desk::new(&run, &lent);
-        let turn = desk.turn();
-        let turns = desk.turns(7);
-        let (plan, _) = any_plan(random);
-        let start = library_run_start(&plan, &lent, &mut run);
-        if [given, turn, turns, start] != [8, 8, 0, 8] || !desk.holds(&run, &lent) {
-            return Err(format!("{given} {turn} {turns} {start}, or bytes change"));
+        let next = library::run_next(desk.block.bytes(), &mut []);
+        let given = [next, desk.turn(), desk.turns(7), desk.start(&plan), desk.whole_run(&plan)];
+        if given != [8, 8, 0, 8, 8] || !desk.holds(&run, &lent) {
+            return Err(format!("{given:?}, or bytes change"));
         }
         Ok(())
     })
+}
+
+// ---------------------------------------------------------------------------
+// Forged run blocks
+
+// The numbers of a run block, by their places in it: those of the plan, the
+// machine's lengths, and the place in the run.
+const FIELDS: usize = library::RUN_BYTES / 8;
+const LENGTHS: usize = 11;
+const KIND: usize = 13;
+const PLACE: usize = 14;
+
+/// How many numbers each kind of place has, of row, column and term.
+const PLACE_NUMBERS: [usize; 10] = [0, 1, 2, 2, 3, 3, 3, 3, 2, 0];
+const AT_END: u64 = 9;
+
+/// Whether asking a block for a step is answered 0: not at a place that no turn
+/// reaches, outside the matrices or where no block of them starts.
+fn hands_out(fields: &[u64]) -> bool {
+    let [sew, factor, m, k, n, a, a_stride, b, b_stride, c, c_stride] =
+        fields[..LENGTHS].try_into().expect("the numbers of a plan");
+    let [a_stride, b_stride, c_stride] = [a_stride, b_stride, c_stride].map(|stride| stride as i64);
+    let plan = Plan { sew, factor, m, k, n, a, a_stride, b, b_stride, c, c_stride };
+    let (rlen, mlen) = (fields[LENGTHS], fields[LENGTHS + 1]);
+    let kind = fields[KIND];
+    if model::plan_numbers_bad(&plan) || !model::lengths_permitted(rlen, mlen) || kind >= AT_END {
+        return false;
+    }
+    let machine = Machine { rlen, mlen, ..Machine::default() };
+    for (at, (size, total)) in [(Size::M, m), (Size::N, n), (Size::K, k)].into_iter().enumerate() {
+        let number = fields[PLACE + at];
+        let has_it = at < PLACE_NUMBERS[kind as usize];
+        if has_it && number >= total || !has_it && number != 0 {
+            return false;
+        }
+        if number as i128 % maximum(&machine, size, sew as i128) != 0 {
+            return false;
+        }
+    }
+    true
+}
+
+/// Run blocks that no start made. A refusal changes nothing, a turn does what
+/// the word asked for does, and many turns do what single ones do.
+pub fn forged_runs(context: &mut Context) -> Outcome {
+    each_case(context, "forged runs", 10_000, |_, random, tally| {
+        let (good, mut lent) = good_run(random)?;
+        let run = forge(random, &good);
+        if random.chance(10) {
+            let lengths = lengths(random);
+            let machine = any_machine(random, lengths);
+            lent = bench_of(random, &machine);
+        }
+        check_forged(random, &run, &lent, tally)
+    })
+}
+
+/// Random bytes, small numbers, one bit or some fields of a good block changed,
+/// or another place.
+fn forge(random: &mut Random, good: &[u8]) -> Vec<u8> {
+    let mut fields = bytes_to_words(good);
+    match random.below(12) {
+        0 => return random.bytes(good.len()),
+        1 => return vec![random.pick(&[0, 1, 0xFF]); good.len()],
+        2 => fields = (0..FIELDS).map(|_| random.below(1200)).collect(),
+        3 => fields[random.below(FIELDS as u64) as usize] ^= 1 << random.below(64),
+        4 => fields[KIND] = random.pick(&[10, 11, 16, 256, 1 << 32, 1 << 63, u64::MAX]),
+        5 | 6 => {
+            // Of another kind, its numbers around the sizes.
+            fields[KIND] = random.below(11);
+            for at in 0..3 {
+                let size = fields[[2, 4, 3][at]];
+                let numbers = [0, 0, 0, 1, size / 2, size.wrapping_sub(1), size, size + 1];
+                fields[PLACE + at] = random.pick(&numbers);
+            }
+        }
+        7 => {
+            // A number that the kind does not have.
+            fields[KIND] = random.pick(&[0, 1, 2, 3, 8, 9]);
+            let from = PLACE_NUMBERS[fields[KIND] as usize];
+            fields[PLACE..].fill(0);
+            let at = random.range(from as u64, 2) as usize;
+            fields[PLACE + at] = random.pick(&[1, 2, 1 << 32, 1 << 63, u64::MAX]);
+        }
+        _ => {
+            for _ in 0..random.pick(&[1, 1, 1, 2]) {
+                let field = &mut fields[random.below(FIELDS as u64) as usize];
+                *field = match random.below(8) {
+                    0 => 0,
+                    1 => field.wrapping_add(1),
+                    2 => field.wrapping_sub(1),
+                    3 => u64::MAX,
+                    4 => 1 << random.below(64),
+                    5 => random.below(2000),
+                    6 => random.pick(&[8, 16, 32, 64, 128, 512, 1024, 1025, 4096]),
+                    _ => random.next(),
+                };
+            }
+        }
+    }
+    words_to_bytes(&fields)
+}
+
+fn check_forged(
+    random: &mut Random,
+    run: &[u8],
+    lent: &Lent,
+    tally: &mut Tally,
+) -> Result<(), String> {
+    let fields = bytes_to_words(run);
+    let complain =
+        |what: &str| Err(format!("forged run block {fields:?}: {what}\n{}", state_text(lent)));
+
+    // Asked for a step.
+    let step = random.bytes(library::STEP_BYTES);
+    let (mut asked, mut handed) = (Guarded::new(run), Guarded::new(&step));
+    let next = library::run_next(asked.bytes(), handed.bytes());
+    match next {
+        0 => {}
+        8 if asked.holds(run) && handed.holds(&step) => {}
+        _ => return complain(&format!("run_next gives {next}, or a refusal changes bytes")),
+    }
+    if hands_out(&fields) != (next == 0) {
+        return complain(&format!("run_next gives {next}"));
+    }
+    tally.count(Call::RunNext, next);
+
+    // A turn: as the word handed out, or 8.
+    let mut desk = Desk::new(run, lent);
+    let turn = desk.turn();
+    let (mut expected, mut second) = (8, lent.clone());
+    if next == 0 {
+        let mut bench = lent.bench().expect("a whole machine block");
+        expected = packed(model::carry_out_handed(&handed_of(handed.bytes()), &mut bench));
+        second.take(bench);
+    }
+    let run_after = if expected == 0 { asked.bytes() } else { run };
+    if turn != expected || !desk.holds(run_after, &second) {
+        return complain(&format!(
+            "a turn gives {turn:#x}, the word asked for {expected:#x}, or other bytes"
+        ));
+    }
+    tally.count(Call::RunTurn, turn & 0xFFFF);
+
+    // Many turns: as single ones.
+    let turns = random.below(20);
+    let mut many = Desk::new(run, lent);
+    let done = many.turns(turns);
+    let mut single = Desk::new(run, lent);
+    let mut singly = 0;
+    while singly < turns && single.turn() == 0 {
+        singly += 1;
+    }
+    if done != singly || many != single {
+        return complain(&format!("{turns} turns asked: {done} at once, {singly} singly"));
+    }
+    Ok(())
 }

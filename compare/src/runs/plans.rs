@@ -1,34 +1,15 @@
 //! Seeded plans of product runs, with a bench to run them on.
 
-use crate::lent::Lent;
+use crate::lent::{machine_of, Lent};
 use crate::random::Random;
 use crate::states::{
-    any_scalar, bench_of, put_seal, set_size, wrapping_stride, SIZES, WILD_STRIDES,
+    any_machine, any_scalar, bench_of, lengths, put_bench_fault, put_seal, wrapping_stride, SIZES,
+    WIDTHS, WILD_STRIDES,
 };
-use model::{maximum, Machine, Plan, Size, MILL};
-
-/// Any machine that is not at fault: the state before a run is free.
-pub fn any_machine(random: &mut Random, rlen: u64, mlen: u64) -> Machine {
-    let mtype = random.pick(&[0, 1, 2, 8, MILL]);
-    let mut machine = Machine {
-        rlen,
-        mlen,
-        mtype,
-        tile_m: 0,
-        tile_k: 0,
-        tile_n: 0,
-        seal_start: 0,
-        seal_length: 0,
-    };
-    for size in SIZES {
-        let value = random.range(0, maximum(&machine, size, 8) as u64) as i128;
-        set_size(&mut machine, size, value);
-    }
-    machine
-}
+use model::{maximum, Machine, Matrix, Plan, Size};
 
 /// A size around a multiple of the block size.
-pub fn size_around(random: &mut Random, machine: &Machine, size: Size, sew: u64) -> u64 {
+fn size_around(random: &mut Random, machine: &Machine, size: Size, sew: u64) -> u64 {
     let block = maximum(machine, size, sew as i128) as u64;
     let sizes = [0, 1, 2, block - 1, block, block + 1, 2 * block - 1, 2 * block, 2 * block + 1];
     match random.below(12) {
@@ -137,10 +118,42 @@ pub fn good_plan(
     (plan, lent)
 }
 
+/// A plan on a machine, with sizes around its block sizes.
+pub fn plan_around(random: &mut Random, lengths: (u64, u64)) -> (Plan, Lent) {
+    let machine = any_machine(random, lengths);
+    let widths = random.pick(&WIDTHS);
+    let sizes = SIZES.map(|size| size_around(random, &machine, size, widths.0));
+    let (plan, mut lent) = good_plan(random, &machine, widths, sizes);
+    if random.chance(40) {
+        harmless_seal(random, &plan, &mut lent);
+    }
+    (plan, lent)
+}
+
+/// A plan of small sizes on any machine.
+pub fn small_plan(random: &mut Random) -> (Plan, Lent) {
+    let lengths = lengths(random);
+    let machine = any_machine(random, lengths);
+    let widths = random.pick(&WIDTHS);
+    let sizes = SIZES.map(|_| random.range(0, 9));
+    good_plan(random, &machine, widths, sizes)
+}
+
+/// A plan of packed matrices, one behind the other, and the length of its memory.
+/// C starts at a multiple of 8.
+pub fn packed_plan((sew, factor): (u64, u64), [m, k, n]: [u64; 3]) -> (Plan, usize) {
+    let (a_row, b_row, c_row) = (k * sew / 8, n * sew / 8, n * sew * factor / 8);
+    let b = m * a_row;
+    let c = (b + k * b_row).next_multiple_of(8);
+    let [a_stride, b_stride, c_stride] = [a_row, b_row, c_row].map(|row| row as i64);
+    let plan = Plan { sew, factor, m, k, n, a: 0, a_stride, b, b_stride, c, c_stride };
+    (plan, (c + m * c_row) as usize)
+}
+
 /// One past the last byte of the plan's matrices.
 fn trimmed_end(plan: &Plan, end: i128) -> usize {
     let mut last = 0;
-    for matrix in [model::Matrix::A, model::Matrix::B, model::Matrix::C] {
+    for matrix in [Matrix::A, Matrix::B, Matrix::C] {
         let placed = plan.placed(matrix);
         if placed.columns > 0 {
             for i in 0..placed.rows {
@@ -152,15 +165,12 @@ fn trimmed_end(plan: &Plan, end: i128) -> usize {
 }
 
 /// Puts a seal that holds no byte of C, if one of four tries finds it.
-pub fn harmless_seal(random: &mut Random, plan: &Plan, lent: &mut Lent) {
+fn harmless_seal(random: &mut Random, plan: &Plan, lent: &mut Lent) {
     let mut machine = lent.machine();
     for _ in 0..4 {
         put_seal(random, &mut machine, lent);
-        let sealed = plan
-            .placed(model::Matrix::C)
-            .bytes()
-            .any(|(address, _)| model::sealed(&machine, address));
-        if !sealed {
+        let placed = plan.placed(Matrix::C);
+        if !placed.bytes().any(|(address, _)| model::sealed(&machine, address)) {
             lent.set_machine(&machine);
             return;
         }
@@ -195,12 +205,8 @@ fn spoil_once(random: &mut Random, plan: &mut Plan, lent: &mut Lent) {
         4 => plan.k = random.pick(&[1025, 1026, 1 << 32, 1 << 63, u64::MAX]),
         5 => plan.n = random.pick(&[1025, 1026, 1 << 32, 1 << 63, u64::MAX]),
         6 => {
-            // Not the scalars: a run's start is not lent any.
-            let kind = random.pick(&[0, 1, 2, 3, 5, 6, 7, 8, 9]);
-            if lent.machine.len() == crate::library::MACHINE_BYTES
-                && model::lengths_permitted(lent.machine().rlen, lent.machine().mlen)
-            {
-                crate::states::state_fault(random, lent, kind);
+            if good_lengths(lent).is_some() {
+                put_bench_fault(random, lent);
             }
         }
         7 => plan.a = plan.a.wrapping_add(shift(random)),
@@ -223,6 +229,11 @@ fn spoil_once(random: &mut Random, plan: &mut Plan, lent: &mut Lent) {
     }
 }
 
+/// The machine of a bench, if its lengths are permitted.
+pub fn good_lengths(lent: &Lent) -> Option<Machine> {
+    machine_of(&lent.machine).filter(|machine| model::lengths_permitted(machine.rlen, machine.mlen))
+}
+
 fn wild_stride(random: &mut Random, rows: u64) -> i64 {
     if random.chance(50) {
         wrapping_stride(random, rows as i128)
@@ -235,10 +246,10 @@ fn seal_a_byte_of_c(random: &mut Random, plan: &Plan, lent: &mut Lent) {
     if plan.m == 0 || plan.n == 0 || plan.m > 1024 || plan.n > 1024 {
         return;
     }
-    let Some(mut machine) = crate::lent::machine_of(&lent.machine) else {
+    let Some(mut machine) = machine_of(&lent.machine) else {
         return;
     };
-    let placed = plan.placed(model::Matrix::C);
+    let placed = plan.placed(Matrix::C);
     let i = random.below(plan.m) as i128;
     let j = random.below(plan.n) as i128;
     let bytes = (placed.width / 8).clamp(1, 8) as u64;

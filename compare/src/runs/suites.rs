@@ -1,43 +1,42 @@
-//! Product runs: starts, every turn, the words alone, many turns at once.
+//! Product runs: starts, every turn, the words alone, many turns at once, whole
+//! runs in one call.
 
-use super::lent::{
-    handed_block, handed_of, library_run_start, library_run_turn, library_run_turns,
-    second_run_start, second_run_turn,
+use super::plans::{good_lengths, good_plan, plan_around, spoil};
+use crate::lent::{
+    differences, handed_block, handed_of, library_run, library_run_start, library_run_turn,
+    library_run_turns, library_step, packed, report, second_run_start, second_run_turn,
+    second_run_turns, state_text, words_to_bytes, Lent,
 };
-use super::library;
-use super::plans::{any_machine, good_plan, harmless_seal, size_around, spoil};
-use super::tally::RunCall;
-use crate::lent::{differences, library_step, packed, report, state_text, words_to_bytes, Lent};
+use crate::library;
 use crate::random::Random;
-use crate::states::WIDTHS;
+use crate::states::{
+    any_machine, lengths, put_bench_fault, put_seal, raise_sizes, MTYPES, SIZES, WIDTHS,
+};
 use crate::suite::{each_case, Context, Outcome};
 use crate::tally::{Call, Tally};
-use model::{Plan, Run, Size, MILL};
+use model::{Matrix, Plan, Run, MILL};
 
 /// A run that both programs started.
-pub struct Started {
-    pub plan: Plan,
-    pub lent: Lent,
-    pub block: Vec<u8>,
-    pub run: Run,
+struct Started {
+    plan: Plan,
+    lent: Lent,
+    block: Vec<u8>,
+    run: Run,
 }
 
 /// Starts a run on both programs; `None` if both refuse it.
 fn start_both(
     random: &mut Random,
     plan: Plan,
-    lent: Lent,
+    mut lent: Lent,
     tally: &mut Tally,
 ) -> Result<Option<Started>, String> {
     let before = random.bytes(library::RUN_BYTES);
     let mut block = before.clone();
     let held = lent.clone();
-    let given = library_run_start(&plan, &lent, &mut block);
-    let second = second_run_start(&plan, &lent);
-    let expected = match &second {
-        Ok(_) => 0,
-        Err(number) => *number,
-    };
+    let given = library_run_start(&plan, &mut lent, &mut block);
+    let second = second_run_start(&plan, &held);
+    let expected = second.as_ref().err().copied().unwrap_or(0);
     if given != expected || held != lent || (given != 0 && block != before) {
         return Err(format!(
             "start of {plan:?}: library {given}, second program {expected}, run block {}, \
@@ -47,28 +46,24 @@ fn start_both(
             state_text(&held),
         ));
     }
-    tally.count(Call::Run(RunCall::Start), given);
+    tally.count(Call::RunStart, given);
     if given == 9 {
         let reasons = model::overlaps(&plan, &lent.machine());
         if let [at] = (0..4).filter(|&at| reasons[at]).collect::<Vec<_>>()[..] {
-            tally.run.overlaps[at] += 1;
+            tally.overlaps[at] += 1;
         }
     }
     Ok(second.ok().map(|run| Started { plan, lent, block, run }))
 }
 
-/// A plan on a machine, with sizes around its block sizes.
-fn plan_around(random: &mut Random, machine: (u64, u64)) -> (Plan, Lent) {
-    let (rlen, mlen) = machine;
-    let machine = any_machine(random, rlen, mlen);
-    let widths = random.pick(&WIDTHS);
-    let sizes =
-        [Size::M, Size::K, Size::N].map(|size| size_around(random, &machine, size, widths.0));
-    let (plan, mut lent) = good_plan(random, &machine, widths, sizes);
-    if random.chance(40) {
-        harmless_seal(random, &plan, &mut lent);
-    }
-    (plan, lent)
+/// Starts a plan that was made to be accepted.
+fn start_good(
+    random: &mut Random,
+    (plan, lent): (Plan, Lent),
+    tally: &mut Tally,
+) -> Result<Started, String> {
+    start_both(random, plan, lent, tally)?
+        .ok_or_else(|| format!("a plan meant to be good was refused by both: {plan:?}"))
 }
 
 /// Every permitted machine in turn.
@@ -79,16 +74,15 @@ fn machine_of_case(case: u64) -> (u64, u64) {
 
 /// Accepted plans, each turn compared with everything lent.
 pub fn turns(context: &mut Context) -> Outcome {
-    let count = 2000;
+    let count = 4000 * context.scale;
     each_case(context, "turns", count, |case, random, tally| {
-        let (plan, lent) = plan_around(random, machine_of_case(case));
-        let started = start_both(random, plan, lent, tally)?
-            .ok_or_else(|| format!("a plan meant to be good was refused by both: {plan:?}"))?;
-        tally.run.runs += 1;
+        let good = plan_around(random, machine_of_case(case));
+        let started = start_good(random, good, tally)?;
         check_run(random, started, tally)
     })
 }
 
+/// A run in every way that it can be carried out.
 fn check_run(random: &mut Random, started: Started, tally: &mut Tally) -> Result<(), String> {
     let Started { plan, lent, block, run } = started;
     let count = model::step_count(&plan, &lent.machine());
@@ -101,7 +95,10 @@ fn check_run(random: &mut Random, started: Started, tally: &mut Tally) -> Result
     if random.chance(25) {
         words_by_step(&plan, &lent, &block, &after)?;
     }
-    check_product(&plan, &lent.memory, &after.memory)
+    whole_run(random, &plan, &lent, 0, &after, count, tally)?;
+    check_product(&plan, &lent.memory, &after.memory)?;
+    tally.runs += 1;
+    Ok(())
 }
 
 /// One turn on both programs.
@@ -130,7 +127,7 @@ fn check_turn(
             report(&before, given, lent, packed(answer), &second)
         ));
     }
-    tally.count(Call::Run(RunCall::Turn), answer.number);
+    tally.count(Call::RunTurn, answer.number);
     Ok(answer.number)
 }
 
@@ -178,7 +175,7 @@ fn words_alone(
                 differences("run block, if refused", &before, &block, &before),
             ));
         }
-        tally.count(Call::Run(RunCall::Next), given);
+        tally.count(Call::RunNext, given);
     }
     if block != block_after {
         return Err(format!(
@@ -253,12 +250,12 @@ fn words_by_step(plan: &Plan, lent: &Lent, block: &[u8], after: &Lent) -> Result
 /// C is the product, and no other byte of memory changed.
 fn check_product(plan: &Plan, before: &[u8], after: &[u8]) -> Result<(), String> {
     let expected = model::product(plan, before);
-    let found = model::elements(plan.placed(model::Matrix::C), after);
+    let found = model::elements(plan.placed(Matrix::C), after);
     if found != expected {
         return Err(format!("{plan:?}\nC is {found:?}\nexpected {expected:?}"));
     }
     let mut of_c = vec![false; before.len()];
-    for (address, _) in plan.placed(model::Matrix::C).bytes() {
+    for (address, _) in plan.placed(Matrix::C).bytes() {
         of_c[address as usize] = true;
     }
     match (0..before.len()).find(|&at| !of_c[at] && before[at] != after[at]) {
@@ -270,31 +267,70 @@ fn check_product(plan: &Plan, before: &[u8], after: &[u8]) -> Result<(), String>
 /// Starts of plans that were spoiled; those still accepted are run.
 pub fn run_starts(context: &mut Context) -> Outcome {
     each_case(context, "run starts", 6000, |case, random, tally| {
-        let (rlen, mlen) = match random.below(4) {
+        let lengths = match random.below(4) {
             0 => machine_of_case(case),
-            _ => crate::states::lengths(random),
+            _ => lengths(random),
         };
-        let (mut plan, mut lent) = plan_around(random, (rlen, mlen));
+        let (mut plan, mut lent) = plan_around(random, lengths);
         spoil(random, &mut plan, &mut lent);
         match start_both(random, plan, lent, tally)? {
-            Some(started) if case % 8 == 0 => {
-                tally.run.runs += 1;
-                check_run(random, started, tally)
-            }
+            Some(started) if case % 8 == 0 => check_run(random, started, tally),
             _ => Ok(()),
         }
     })
+}
+
+/// Whole runs in one call, of good plans and of spoiled ones.
+pub fn whole_runs(context: &mut Context) -> Outcome {
+    let count = 3000 * context.scale;
+    each_case(context, "whole runs", count, |case, random, tally| {
+        let (mut plan, mut lent) = plan_around(random, machine_of_case(case));
+        if random.chance(60) {
+            spoil(random, &mut plan, &mut lent);
+        }
+        let mut after = lent.clone();
+        let (answer, count) = match second_run_start(&plan, &lent) {
+            Ok(mut run) => (0, second_run_turns(u64::MAX, &mut run, &mut after)),
+            Err(number) => (number, 0),
+        };
+        whole_run(random, &plan, &lent, answer, &after, count, tally)
+    })
+}
+
+/// A whole run in one call, held to its answer, what it has to leave and, if it
+/// is accepted, the number of its turns.
+fn whole_run(
+    random: &mut Random,
+    plan: &Plan,
+    before: &Lent,
+    answer: u64,
+    after: &Lent,
+    count: u64,
+    tally: &mut Tally,
+) -> Result<(), String> {
+    let old_steps = random.bytes(library::STEPS_BYTES);
+    let (mut lent, mut steps) = (before.clone(), old_steps.clone());
+    let given = library_run(plan, &mut lent, &mut steps);
+    let expected = if answer == 0 { words_to_bytes(&[count]) } else { old_steps.clone() };
+    if given != answer || lent != *after || steps != expected {
+        return Err(format!(
+            "whole run of {plan:?}\n{}{}",
+            differences("steps block", &old_steps, &steps, &expected),
+            report(before, given, &lent, answer, after)
+        ));
+    }
+    tally.count(Call::WholeRun, given);
+    Ok(())
 }
 
 /// The largest sizes, and one above.
 pub fn largest_sizes(context: &mut Context) -> Outcome {
     let pairs = model::permitted_lengths().len() as u64;
     each_case(context, "largest sizes", 4 * pairs, |case, random, tally| {
-        let (rlen, mlen) = machine_of_case(case);
-        let machine = any_machine(random, rlen, mlen);
+        let machine = any_machine(random, machine_of_case(case));
         let widths = random.pick(&WIDTHS);
         let large = random.pick(&[1023, 1024]);
-        let mut sizes = [1, 2, 1];
+        let mut sizes = SIZES.map(|_| random.range(1, 24));
         sizes[case as usize / pairs as usize % 3] = large;
         if case / pairs == 3 {
             sizes = random.pick(&[[1024, 0, 16], [0, 1024, 1024], [1024, 1024, 0]]);
@@ -305,43 +341,44 @@ pub fn largest_sizes(context: &mut Context) -> Outcome {
         if start_both(random, too_large, lent.clone(), tally)?.is_some() {
             return Err(format!("both accept {too_large:?}"));
         }
-        let Started { plan, mut lent, mut block, .. } = start_both(random, plan, lent, tally)?
-            .ok_or_else(|| format!("refused by both: {plan:?}"))?;
-        tally.run.runs += 1;
-        whole_run(&plan, &mut block, &mut lent)
+        let started = start_good(random, (plan, lent), tally)?;
+        compare_at_end(random, started, tally)
     })
 }
 
-/// All turns at once, compared at the end only.
-fn whole_run(plan: &Plan, block: &mut [u8], lent: &mut Lent) -> Result<(), String> {
-    let before = lent.memory.clone();
-    let count = model::step_count(plan, &lent.machine());
-    let done = library_run_turns(u64::MAX, block, lent);
+/// All turns at once, compared at the end only: C with a plain triple loop,
+/// everything lent with the second program.
+fn compare_at_end(random: &mut Random, started: Started, tally: &mut Tally) -> Result<(), String> {
+    let Started { plan, mut lent, mut block, mut run } = started;
+    let before = lent.clone();
+    let count = model::step_count(&plan, &lent.machine());
+    let done = library_run_turns(u64::MAX, &mut block, &mut lent);
     if done != count {
         return Err(format!("{plan:?}\n{done} turns done, by the formula {count}"));
     }
-    check_product(plan, &before, &lent.memory)?;
-    let (held, held_block) = (lent.clone(), block.to_vec());
-    let past = library_run_turn(block, lent);
-    if past != 8 || *lent != held || *block != held_block[..] {
+    check_product(&plan, &before.memory, &lent.memory)?;
+    let mut second = before.clone();
+    second_run_turns(u64::MAX, &mut run, &mut second);
+    if lent != second {
+        return Err(format!("{plan:?}\n{}", report(&before, 0, &lent, 0, &second)));
+    }
+    let (held, held_block) = (lent.clone(), block.clone());
+    let past = library_run_turn(&mut block, &mut lent);
+    if past != 8 || lent != held || block != held_block {
         return Err(format!("{plan:?}\na turn past the end gives {past}, or changes something"));
     }
-    Ok(())
+    whole_run(random, &plan, &before, 0, &lent, count, tally)
 }
 
-/// Larger plans, compared at the end with a plain triple loop.
+/// Larger plans, compared at the end only.
 pub fn larger_products(context: &mut Context) -> Outcome {
-    let count = 72;
-    each_case(context, "larger products", count, |case, random, tally| {
-        let (rlen, mlen) = machine_of_case(case);
-        let machine = any_machine(random, rlen, mlen);
+    each_case(context, "larger products", 72, |case, random, tally| {
+        let machine = any_machine(random, machine_of_case(case));
         let widths = WIDTHS[case as usize % WIDTHS.len()];
-        let sizes = [(); 3].map(|_| random.range(20, 200));
-        let (plan, lent) = good_plan(random, &machine, widths, sizes);
-        let Started { plan, mut lent, mut block, .. } = start_both(random, plan, lent, tally)?
-            .ok_or_else(|| format!("refused by both: {plan:?}"))?;
-        tally.run.runs += 1;
-        whole_run(&plan, &mut block, &mut lent)
+        let sizes = SIZES.map(|_| random.range(20, 160));
+        let good = good_plan(random, &machine, widths, sizes);
+        let started = start_good(random, good, tally)?;
+        compare_at_end(random, started, tally)
     })
 }
 
@@ -349,12 +386,9 @@ pub fn larger_products(context: &mut Context) -> Outcome {
 /// as any other, and a refusal leaves everything as it was.
 pub fn disturbed_turns(context: &mut Context) -> Outcome {
     each_case(context, "disturbed turns", 2500, |_, random, tally| {
-        let machine = crate::states::lengths(random);
-        let (plan, lent) = plan_around(random, machine);
-        let Some(started) = start_both(random, plan, lent, tally)? else {
-            return Err(format!("a plan meant to be good was refused by both: {plan:?}"));
-        };
-        let Started { plan, mut lent, mut block, mut run } = started;
+        let lengths = lengths(random);
+        let good = plan_around(random, lengths);
+        let Started { plan, mut lent, mut block, mut run } = start_good(random, good, tally)?;
         let quiet = random.below(run.steps.len() as u64 + 1);
         for _ in 0..quiet {
             check_turn(&plan, &mut block, &mut run, &mut lent, tally)?;
@@ -385,11 +419,7 @@ fn check_many_turns(
     let (mut library, mut block, mut run) = (lent.clone(), block.to_vec(), run.clone());
     let mut second = lent.clone();
     let done = library_run_turns(asked, &mut block, &mut library);
-    let mut expected = 0;
-    if let Some(mut bench) = second.bench() {
-        expected = model::run_turns(asked, &mut run, &mut bench);
-        second.take(bench);
-    }
+    let expected = second_run_turns(asked, &mut run, &mut second);
     if done != expected || library != second {
         return Err(format!(
             "{plan:?}\n{asked} turns asked at place {}: library {done} done, second program \
@@ -414,16 +444,13 @@ fn check_many_turns(
 }
 
 fn disturb(random: &mut Random, lent: &mut Lent) {
-    let Some(mut machine) = crate::lent::machine_of(&lent.machine) else {
+    let Some(mut machine) = good_lengths(lent) else {
         return;
     };
-    if !model::lengths_permitted(machine.rlen, machine.mlen) {
-        return;
-    }
     match random.below(8) {
         0 => machine.mtype = MILL,
-        1 => machine.mtype = random.pick(&crate::states::MTYPES),
-        2 | 3 => crate::states::raise_sizes(random, &mut machine),
+        1 => machine.mtype = random.pick(&MTYPES),
+        2 | 3 => raise_sizes(random, &mut machine),
         4 => {
             for _ in 0..random.range(1, 40) {
                 let at = random.below(lent.marks.len().max(1) as u64) as usize;
@@ -433,13 +460,8 @@ fn disturb(random: &mut Random, lent: &mut Lent) {
             }
         }
         5 => lent.memory.truncate(random.below(lent.memory.len() as u64 + 1) as usize),
-        6 => crate::states::put_seal(random, &mut machine, lent),
-        _ => {
-            lent.set_machine(&machine);
-            let kind = random.pick(&[0, 1, 2, 3, 5, 6, 7, 8, 9]);
-            crate::states::state_fault(random, lent, kind);
-            return;
-        }
+        6 => put_seal(random, &mut machine, lent),
+        _ => return put_bench_fault(random, lent),
     }
     lent.set_machine(&machine);
 }

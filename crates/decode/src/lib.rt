@@ -13,21 +13,21 @@ ghost use Rattle.machine.specs.Geometry.{registerCount};
 ghost use Rattle.machine.specs.declared.Instruction.the-variants.{Illegal, Load, Store, Multiply, Combine, Scale, ScaleImmediate};
 
 // Bits 11..7: rd, md or ms3.
-fn low_field(word: u32) -> usize
+pub fn low_field(word: u32) -> usize
     ensures { λ r. ⌜ r ≡ field7 word ⌝ }
 {
     (word / 128 % 32) as usize
 }
 
 // Bits 19..15: rs1 or ms1.
-fn middle_field(word: u32) -> usize
+pub fn middle_field(word: u32) -> usize
     ensures { λ r. ⌜ r ≡ field15 word ⌝ }
 {
     (word / 32768 % 32) as usize
 }
 
 // Bits 24..20: rs2, ms2 or an immediate.
-fn high_field(word: u32) -> usize
+pub fn high_field(word: u32) -> usize
     ensures { λ r. ⌜ r ≡ field20 word ⌝ }
 {
     (word / 1048576 % 32) as usize

@@ -17,7 +17,7 @@ use Rattle.machine.specs.Starting.{startMachine, startedAs}
 use Rattle.machine.specs.Step.{Outcome, step, steppedAs}
 use Rattle.machine.proofs.TestLaws.{false-true}
 use Rattle.machine.proofs.Refusal.{refusal-changes-nothing}
-use Rattle.host.specs.Blocks.{machineOf, putMachine, valuesOf, putValues, packed}
+use Rattle.host.specs.Blocks.{machineOf, putMachine, valuesOf, packed}
 use Rattle.host.specs.Host.{startedOut, shownStart, hostStart, steppedOut, stepBlock, shownStep, hostStep}
 use Rattle.host.specs.Theorems.{Bytes}
 use Rattle.host.proofs.BlockLaws.{putMachine-same}
@@ -43,22 +43,8 @@ module _ (rlen mlen sealStart sealLength : ℕ) (machine registers marks : List 
       ∙ ap (λ (t : Bool). cond t (shownStart machine (startMachine rlen mlen sealStart sealLength registers marks)) (startedOut (packed BadArguments) machine registers marks))
       (sym (eq-eqb (length machine) 64 h))
 
--- ---- a step on the scalars' block
-
 pub not-done : (a : Answer) → isDone a ≡ false → ¬ (a ≡ Done)
 not-done a h e = false-true (sym h ∙ ap isDone e)
-
--- an outcome with other scalars
-abbrev with-scalars : Outcome → List ℕ → Outcome
-with-scalars o scalars = record { answer = o .answer; bench = o .bench; scalars = scalars }
-
-module _ (word : ℕ) (block : List ℕ) (B : Bench) where
-  -- done: the values that the step has left are written over the block
-  pub block-done : (s : Stepped) (R K X Q S xs : List ℕ) → xs ≡ valuesOf block → steppedAs s R K X Q ≡ step word xs B → S ≡ putValues X block
-      → steppedAs s R K S Q ≡ stepBlock word block B
-  block-done s R K X Q S xs ex e es =
-      ap (λ (S : List ℕ). steppedAs s R K S Q) es
-      ∙ ap (λ (o : Outcome). with-scalars o (putValues (o .scalars) block)) (e ∙ ap (λ (xs : List ℕ). step word xs B) ex)
 
 -- ---- a step of the host
 

@@ -1,7 +1,10 @@
 -- Laws of the blocks.
 pub mod BlockLaws
+-- Only the scalars that a word names count.
+pub mod NamedScalars
 -- For code: what each return of an exported function has to show.
 pub mod HostLaws
+pub mod RunLaws
 -- The theorems of specs/Theorems.antt.
 pub mod Refusal
 pub mod Packing

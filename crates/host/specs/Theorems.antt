@@ -6,8 +6,9 @@ use lib.ListN.{getD}
 use Rattle.machine.specs.Answers.{number, rowOf, columnOf}
 use Rattle.machine.specs.Geometry.{Bench}
 use Rattle.machine.specs.Step.{step}
+use Rattle.run.specs.declared.Plan.{Plan}
 use Rattle.host.specs.Blocks.{packed}
-use Rattle.host.specs.Host.{startedOut, hostStart, steppedOut, hostStep}
+use Rattle.host.specs.Host.{startedOut, hostStart, steppedOut, hostStep, runStartedOut, hostRunStart, nextOut, hostNext, turnedOut, hostTurn, hostTurns, ranOut, hostRun}
 
 -- a buffer of bytes
 abbrev pub Bytes : List ℕ → Type 0
@@ -23,6 +24,32 @@ abbrev pub StepRefusalChangesNoByte : Type 0
 StepRefusalChangesNoByte = (word : ℕ) (machine registers marks scalars memory : List ℕ) → Bytes machine → Bytes scalars
     → let o = hostStep word machine registers marks scalars memory in
     ¬ (o .result ≡ 0) → o ≡ steppedOut (o .result) machine registers marks scalars memory
+
+abbrev pub RunStartRefusalChangesNoByte : Type 0
+RunStartRefusalChangesNoByte = (P : Plan) (machine registers marks memory run : List ℕ)
+    → let o = hostRunStart P machine registers marks memory run in
+    ¬ (o .result ≡ 0) → o ≡ runStartedOut (o .result) machine registers marks memory run
+
+abbrev pub NextRefusalChangesNoByte : Type 0
+NextRefusalChangesNoByte = (run step : List ℕ)
+    → let o = hostNext run step in
+    ¬ (o .result ≡ 0) → o ≡ nextOut (o .result) run step
+
+abbrev pub TurnRefusalChangesNoByte : Type 0
+TurnRefusalChangesNoByte = (run machine registers marks memory : List ℕ) → Bytes run → Bytes machine
+    → let o = hostTurn run machine registers marks memory in
+    ¬ (o .result ≡ 0) → o ≡ turnedOut (o .result) run machine registers marks memory
+
+-- turns of which none is answered 0
+abbrev pub NoTurnChangesNoByte : Type 0
+NoTurnChangesNoByte = (limit : ℕ) (run machine registers marks memory : List ℕ) → Bytes run → Bytes machine
+    → let o = hostTurns limit run machine registers marks memory in
+    o .result ≡ 0 → o ≡ turnedOut 0 run machine registers marks memory
+
+abbrev pub RunRefusalChangesNoByte : Type 0
+RunRefusalChangesNoByte = (P : Plan) (machine registers marks memory steps : List ℕ)
+    → let o = hostRun P machine registers marks memory steps in
+    ¬ (o .result ≡ 0) → o ≡ ranOut (o .result) machine registers marks memory steps
 
 -- What the host takes out of a result: bits 15..0 are the number, bits 31..16 the row and bits 47..32 the column of the step's answer,
 -- none of them cut.

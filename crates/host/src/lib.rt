@@ -2,13 +2,16 @@
 use machine::Answer;
 use machine::Machine;
 use machine::Stepped;
+
+mod runs; // the product run
+
 ghost use mathlib.Core.Path.{_≡_};
 ghost use Prim.Native.Nat.{_+_, _≤_, _<_};
 ghost use lib.ListN.{length};
 ghost use Rattle.width.specs.Tile.{le, putLe};
 ghost use Rattle.machine.specs.Geometry.{benchOf};
 ghost use Rattle.machine.specs.Step.{steppedAs};
-ghost use Rattle.host.specs.Blocks.{machineBytes, machineOf, putMachine, scalarBytes, valuesOf, putValues, packed};
+ghost use Rattle.host.specs.Blocks.{machineBytes, machineOf, putMachine, scalarBytes, packed};
 ghost use Rattle.host.specs.Host.{startedOut, hostStart, stepBlock, steppedOut, hostStep};
 
 fn wide(x: u8) -> u64
@@ -79,32 +82,6 @@ fn put_machine(block: &mut [u8], m: Machine)
     write8(block, 56, m.seal_length);
 }
 
-// The thirty-two scalars out of their block.
-fn gather(values: &mut [u64], block: &[u8])
-    requires { ⌜ length (now values) ≡ 32 ⌝ }
-    requires { ⌜ length (now block) ≡ scalarBytes ⌝ }
-    ensures { λ _. ⌜ now (values .exit) ≡ valuesOf (now (block .entry)) ⌝ }
-{
-    let mut s = 0;
-    while s < values.len() {
-        values[s] = read8(block, s * 8);
-        s += 1;
-    }
-}
-
-// The thirty-two scalars into their block.
-fn scatter(block: &mut [u8], values: &[u64])
-    requires { ⌜ length (now block) ≡ scalarBytes ⌝ }
-    requires { ⌜ length (now values) ≡ 32 ⌝ }
-    ensures { λ _. ⌜ now (block .exit) ≡ putValues (now (values .entry)) (now (block .entry)) ⌝ }
-{
-    let mut s = 0;
-    while s < values.len() {
-        write8(block, s * 8, values[s]);
-        s += 1;
-    }
-}
-
 // An answer's number, with row and column in the bits above it.
 fn packed(answer: Answer) -> u64
     ensures { λ r. ⌜ r ≡ packed answer ⌝ }
@@ -152,7 +129,8 @@ pub extern "C" fn bodlarina_start(
     packed(answer)
 }
 
-// A step with the scalars in their block.
+// A step with the scalars in their block. Only the slots in the word's fields of rd, rs1 and rs2 are read out of it, and only that of
+// rd is written back: no word uses another slot, and a word without such a field leaves the slot as it was.
 fn step_block(
     m: Machine,
     registers: &mut [u8],
@@ -165,10 +143,15 @@ fn step_block(
     ensures { λ r. ⌜ steppedAs r (now (registers .exit)) (now (marks .exit)) (now (scalars .exit)) (now (memory .exit))
         ≡ stepBlock word (now (scalars .entry)) (benchOf m (now (registers .entry)) (now (marks .entry)) (now (memory .entry))) ⌝ }
 {
+    let rd = decode::low_field(word);
+    let rs1 = decode::middle_field(word);
+    let rs2 = decode::high_field(word);
     let mut values = [0u64; 32];
-    gather(&mut values, scalars);
+    values[rd] = read8(scalars, rd * 8);
+    values[rs1] = read8(scalars, rs1 * 8);
+    values[rs2] = read8(scalars, rs2 * 8);
     let stepped = step::step(m, registers, marks, &mut values, memory, word);
-    scatter(scalars, &values);
+    write8(scalars, rd * 8, values[rd]);
     stepped
 }
 

@@ -129,11 +129,11 @@ bounded (Scale factor md ms1 rs2) = ltb rs2 32
 bounded (ScaleImmediate factor md ms1 immediate) = ltb immediate 32
 
 -- every row of the listing gives such an instruction
-abbrev allRows : (Instruction → Bool) → ℕ → List Row → Bool
+abbrev pub allRows : (Instruction → Bool) → ℕ → List Row → Bool
 allRows p word [] = true
 allRows p word (r ∷ rs) = p (r .means word) && allRows p word rs
 
-look-up-all : (p : Instruction → Bool) (word : ℕ) (rs : List Row) → p Illegal ≡ true → allRows p word rs ≡ true → p (lookUp word rs) ≡ true
+pub look-up-all : (p : Instruction → Bool) (word : ℕ) (rs : List Row) → p Illegal ≡ true → allRows p word rs ≡ true → p (lookUp word rs) ≡ true
 look-up-all p word [] n h = n
 look-up-all p word (r ∷ rs) n h = go (Rattle.machine.specs.Listing.has word (r .fixed)) (look-up-all p word rs n (and-right (p (r .means word)) (allRows p word rs) h))
   where

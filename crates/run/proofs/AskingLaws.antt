@@ -3,14 +3,14 @@ use mathlib.Core.Path.{_≡_, refl, sym, ap, ap₂, _∙_}
 use mathlib.Core.Bool.{Bool, true, false, cond, _||_}
 use mathlib.Core.List.{List, [], _∷_, _++_}
 use Prim.Native.Nat.{ℕ, _+_, _*_, _/_, _%_, _^_, _≤_, _<_}
-use native.Mathlib.Nat.{mul-le-mul, mod-eq-of-lt, div-add-mod'}
+use native.Mathlib.Nat.{mul-le-mul, le-div-iff-mul-le, mod-eq-of-lt, div-add-mod'}
 use native.Mathlib.Omega.{arith}
 use lib.Dec.{leb, ltb, eqb}
 use borrow.Author.Tests.{eqb-true, ltb-true, leb-true, eq-eqb, ne-eqb}
 use Rattle.machine.specs.Tests.{every, isIn}
-use Rattle.machine.proofs.TestLaws.{Each, every-each, each-in, false-true}
+use Rattle.machine.proofs.TestLaws.{Each, every-each, each-every, each-in, false-true}
 use Rattle.machine.specs.Geometry.{permitted, elen}
-use Rattle.machine.proofs.StepLaws.{permitted-bounds}
+use Rattle.machine.proofs.StepLaws.{permitted-lengths, permitted-bounds, smaller-grants}
 use Rattle.machine.specs.Setting.{sew, smaller}
 use Rattle.run.specs.declared.Layout.{Layout}
 use Rattle.run.specs.declared.Handed.{Handed}
@@ -26,8 +26,9 @@ use Rattle.run.specs.Places.{wordsAt}
 use Rattle.run.specs.Plan.{msew, typeOf}
 use Rattle.run.specs.Encoding.{startOf}
 use Rattle.run.specs.Start.{format, planned}
-use Rattle.run.specs.Turn.{placed, soundRun, runShape, handsOut, moved, askWith, asked, ask}
-use Rattle.run.specs.Parts.{isEnd, handedOf}
+use Rattle.run.specs.Turn.{placed, begins, soundRun, runShape, handsOut, moved, askWith, asked, ask}
+use Rattle.run.specs.Parts.{numbered, isEnd, handedOf}
+use Rattle.run.proofs.PlaceLaws.{Sound}
 use Rattle.run.proofs.WordLaws.{formats, start-wraps}
 
 -- ---- tests one after another
@@ -64,23 +65,21 @@ small-product s f hs hf =
 
 -- ---- a sound run
 
-module _ (R : Run) (ok : soundRun R ≡ true) where
-  tests : Each (permitted (R .rlen) (R .mlen) ∷ planned (R .plan) ∷ placed (R .plan) (R .place) ∷ [])
-  unfolding soundRun
-  tests = every-each (permitted (R .rlen) (R .mlen) ∷ planned (R .plan) ∷ placed (R .plan) (R .place) ∷ []) ok
-
-  pub run-placed : placed (R .plan) (R .place) ≡ true
-  run-placed = tests .1 .1 .0
+module _ (R : Run) (ok : numbered R ≡ true) where
+  pub run-lengths : permitted (R .rlen) (R .mlen) ≡ true
+  unfolding numbered
+  run-lengths = every-each (permitted (R .rlen) (R .mlen) ∷ planned (R .plan) ∷ []) ok .0
 
   pub run-planned : planned (R .plan) ≡ true
-  run-planned = tests .1 .0
+  unfolding numbered
+  run-planned = every-each (permitted (R .rlen) (R .mlen) ∷ planned (R .plan) ∷ []) ok .1 .0
 
   pub run-rlen : 0 < R .rlen
-  run-rlen = let b = permitted-bounds (R .rlen) (R .mlen) (tests .0) in omega arith
+  run-rlen = let b = permitted-bounds (R .rlen) (R .mlen) run-lengths in omega arith
 
   numbers : Each (format (R .plan .sew) (R .plan .factor) ∷ leb (R .plan .m) 1024 ∷ leb (R .plan .k) 1024 ∷ leb (R .plan .n) 1024 ∷ [])
   unfolding planned
-  numbers = every-each (format (R .plan .sew) (R .plan .factor) ∷ leb (R .plan .m) 1024 ∷ leb (R .plan .k) 1024 ∷ leb (R .plan .n) 1024 ∷ []) (tests .1 .0)
+  numbers = every-each (format (R .plan .sew) (R .plan .factor) ∷ leb (R .plan .m) 1024 ∷ leb (R .plan .k) 1024 ∷ leb (R .plan .n) 1024 ∷ []) run-planned
 
   pub run-format : format (R .plan .sew) (R .plan .factor) ≡ true
   run-format = numbers .0
@@ -94,6 +93,27 @@ module _ (R : Run) (ok : soundRun R ≡ true) where
 
   pub run-bytes : 0 < R .plan .sew / 8
   run-bytes = ltb-true 0 (R .plan .sew / 8) (formats (R .plan .sew) (R .plan .factor) run-format .0 .1 .1 .1 .1 .1 .1 .1 .1 .0)
+
+  -- the most rows, columns and terms of a block are at least 1
+  pub run-most : Sound (runShape smaller R)
+  run-most =
+      let n = permitted-lengths (R .rlen) (R .mlen) run-lengths in
+      let b : R .plan .sew / 8 ≤ 8 = leb-true (R .plan .sew / 8) 8 (formats (R .plan .sew) (R .plan .factor) run-format .0 .1 .1 .1 .1 .1 .1 .0) in
+      let columns : 0 < runShape smaller R .tn =
+      le-div-iff-mul-le {k = sew (typeOf (R .plan))} {x = 1} {y = R .rlen / 8} (omega (arith, run-sew, run-bytes)) .1 (omega (arith, run-sew, n .1)) in
+      record { rule = smaller-grants; 0<tm = n .0; 0<tk = omega (arith, n .0, columns); 0<tn = columns }
+
+module _ (R : Run) (ok : soundRun smaller R ≡ true) where
+  tests : Each (permitted (R .rlen) (R .mlen) ∷ planned (R .plan) ∷ placed (R .plan) (R .place) ∷ begins (runShape smaller R) (R .place) ∷ [])
+  unfolding soundRun
+  tests = every-each (permitted (R .rlen) (R .mlen) ∷ planned (R .plan) ∷ placed (R .plan) (R .place) ∷ begins (runShape smaller R) (R .place) ∷ []) ok
+
+  pub run-placed : placed (R .plan) (R .place) ≡ true
+  run-placed = tests .1 .1 .0
+
+  pub run-numbered : numbered R ≡ true
+  unfolding numbered
+  run-numbered = each-every (permitted (R .rlen) (R .mlen) ∷ planned (R .plan) ∷ []) (tests .0, (tests .1 .0, tt))
 
 pub plan-small : (P : Plan) → planned P ≡ true → (P .sew ≤ 32) × (P .factor ≤ 4)
 unfolding planned format
@@ -186,15 +206,15 @@ one-word S R (AtStore i j) h = refl
 one-word S R AtEnd h = absurd (false-true (sym h))
 
 module _ (R : Run) where
-  handing : soundRun R ≡ true → wordsAt (runShape smaller R) (R .place) ≡ handsOut smaller R
+  handing : soundRun smaller R ≡ true → wordsAt (runShape smaller R) (R .place) ≡ handsOut smaller R
   handing h = ap (λ (t : Bool). cond t (wordsAt (runShape smaller R) (R .place)) []) (sym h)
 
-  pub ask-unsound : soundRun R ≡ false → asked (askWith smaller R []) ≡ asked (ask smaller R)
+  pub ask-unsound : soundRun smaller R ≡ false → asked (askWith smaller R []) ≡ asked (ask smaller R)
   ask-unsound h = ap (λ (t : Bool). asked (askWith smaller R (cond t (wordsAt (runShape smaller R) (R .place)) []))) (sym h)
 
-  pub ask-end : soundRun R ≡ true → isEnd (R .place) ≡ true → asked (askWith smaller R []) ≡ asked (ask smaller R)
+  pub ask-end : soundRun smaller R ≡ true → isEnd (R .place) ≡ true → asked (askWith smaller R []) ≡ asked (ask smaller R)
   ask-end h e = ap (λ (os : List Op). asked (askWith smaller R os)) (no-words (runShape smaller R) (R .place) e ∙ handing h)
 
-  pub ask-done : soundRun R ≡ true → isEnd (R .place) ≡ false
+  pub ask-done : soundRun smaller R ≡ true → isEnd (R .place) ≡ false
       → askedAs Done (handedOf (R .plan) (wordsAt (runShape smaller R) (R .place))) (moved smaller R) ≡ asked (ask smaller R)
   ask-done h e = one-word (runShape smaller R) R (R .place) e ∙ ap (λ (os : List Op). asked (askWith smaller R os)) (handing h)

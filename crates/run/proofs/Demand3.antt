@@ -43,9 +43,10 @@ use Rattle.run.specs.declared.Place.the-variants.{AtType, AtM, AtN, AtCl
 use Rattle.run.specs.Words.{Op, Shape, words, steps}
 use Rattle.run.specs.Places.{next, wordsAt}
 use Rattle.run.proofs.PlaceLaws.{rest, rest-next, rest-after, placeAfter, length-words}
+use Rattle.run.proofs.BeginLaws.{begins-next}
 use Rattle.run.specs.Plan.{Job, Kept, shape, narrow, wide}
 use Rattle.run.specs.Start.{format, planned, lying, separate, startChecks, freshRun, noRun, startRun}
-use Rattle.run.specs.Turn.{placed, soundRun, handsOut, Running, Turn, turn, turnWith, afterTurns, answeredDone}
+use Rattle.run.specs.Turn.{placed, begins, soundRun, handsOut, Running, Turn, turn, turnWith, afterTurns, answeredDone}
 use Rattle.run.specs.Encoding.{own, handedFor}
 use Rattle.run.proofs.WordLaws as WordLaws
 use Rattle.run.proofs.WordLaws.{Reads}
@@ -143,6 +144,7 @@ module _ (grant : ℕ → ℕ → ℕ) (P : Plan) (B₀ : Bench) where
   -- the invariant
   record Holds (p : Place) (B : Bench) : Type 0 where
     here : At J p (held B) (B .memory)
+    begun : begins S p ≡ true
     sane : soundBench B ≡ true
     same : parameters grant (B .machine) ≡ parameters grant (B₀ .machine)
 
@@ -175,6 +177,7 @@ module _ (grant : ℕ → ℕ → ℕ) (P : Plan) (B₀ : Bench) (R : Ready gran
         answers = d .0;
         holds = record {
           here = subst (λ (C : Bench). At (J grant P B₀) (next (S grant P B₀) p) (held C) (C .memory)) (sym (d .1)) a;
+          begun = begins-next (S grant P B₀) (Turns.sound (J grant P B₀) A) p (h .begun);
           sane = step-sound grant (R .rule) w xs B (h .sane);
           same = step-unharmed grant w xs B .same-parameters ∙ h .same;
         };
@@ -194,7 +197,7 @@ module _ (grant : ℕ → ℕ → ℕ) (P : Plan) (B₀ : Bench) (R : Ready gran
   -- a run in the invariant hands out its place's word
   hands : (p : Place) (B : Bench) → Holds grant P B₀ p B → handsOut grant (at grant P B₀ p B .run) ≡ wordsAt (S grant P B₀) p
   unfolding soundRun
-  hands p B h = rw (R .lengths, R .plan, placed-at (J grant P B₀) p (held B) (B .memory) (h .here))
+  hands p B h = rw (R .lengths, R .plan, placed-at (J grant P B₀) p (held B) (B .memory) (h .here), h .begun)
 
   -- every place but the end hands out a word that is done, and the invariant goes on
   abbrev Advanced : Place → Bench → Type 0
@@ -280,6 +283,7 @@ module _ (grant : ℕ → ℕ → ℕ) (P : Plan) (B₀ : Bench) (R : Ready gran
         refl,
         record {
           here = (record { regs-length = s .state .regs-length ∙ sym (n .2); marks-length = s .state .marks-length ∙ sym (n .2) }, record { same-length = refl; outside = λ q o. refl });
+          begun = refl;
           sane = R .sane;
           same = refl;
         },

@@ -1,6 +1,7 @@
 -- Laws of the definitions.
 pub mod NumberLaws
 pub mod PlaceLaws
+pub mod BeginLaws
 pub mod Invariant
 pub mod WordLaws
 pub mod StartLaws

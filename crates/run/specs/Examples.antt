@@ -1,8 +1,9 @@
--- Starts of a run that are refused, and their neighbours, computed: MLEN 128, RLEN 64, SEW 8, a memory of 64 bytes.
+-- Starts and places of a run that are refused, and their neighbours, computed: MLEN 128, RLEN 64, SEW 8, a memory of 64 bytes.
 use mathlib.Core.Path.{_≡_, refl}
 use mathlib.Core.List.{List, [], _∷_, map}
 use Prim.Native.Nat.{ℕ, _-_, _^_}
 use lib.ListN.{replicate}
+use Rattle.width.specs.Blocks.{chunks}
 use Rattle.machine.specs.Answers.{number}
 use Rattle.machine.specs.Geometry.{permitted}
 use Rattle.machine.specs.Setting.{smaller, newType, legalType, sew}
@@ -11,8 +12,11 @@ use Rattle.machine.specs.Geometry.{Bench}
 use Rattle.machine.specs.Faults.{sound}
 use Rattle.run.specs.declared.Layout.{Layout}
 use Rattle.run.specs.declared.Plan.{Plan}
+use Rattle.run.specs.declared.Place.{Place}
+use Rattle.run.specs.declared.Place.the-variants.{AtType, AtM, AtN, AtMultiply, AtStore, AtEnd}
 use Rattle.run.specs.Plan.{narrow, msew, typeOf}
 use Rattle.run.specs.Start.{startRun, format, planned, lying, distinct, apart, separate}
+use Rattle.run.specs.Turn.{soundRun, ask}
 
 -- a sound machine with a seal, or one at fault for its mtype
 pub bench : (mtype sealStart sealLength : ℕ) → Bench
@@ -78,3 +82,33 @@ examples =
 pub starts : map (λ l. l .got) examples ≡ map (λ l. l .want) examples
 unfolding examples bench layout plan gives free small permitted newType legalType sew inside clear unsealed sound narrow msew typeOf startRun format planned lying distinct apart separate
 starts = refl
+
+-- ---- asking
+
+-- 4 x 4 x 16 in blocks of 2 rows, 2 terms and 8 columns
+pub asks : Place → ℕ → Line
+asks p want = record {
+  got = number (ask smaller (record { plan = plan 8 1 4 4 16 (layout 0 4) (layout 0 16) (layout 0 16); rlen = 64; mlen = 128; place = p }) .answer);
+  want = want;
+}
+
+pub places : List Line
+places =
+    -- 8: between the starts of blocks, outside the matrices, past the last step
+    asks AtType 0
+    ∷ asks (AtM 2) 0
+    ∷ asks (AtM 1) 8
+    ∷ asks (AtM 4) 8
+    ∷ asks (AtN 2 8) 0
+    ∷ asks (AtN 2 4) 8
+    ∷ asks (AtStore 0 8) 0
+    ∷ asks (AtStore 3 8) 8
+    ∷ asks (AtMultiply 2 8 2) 0
+    ∷ asks (AtMultiply 2 8 3) 8
+    ∷ asks (AtMultiply 2 8 4) 8
+    ∷ asks AtEnd 8
+    ∷ []
+
+pub asked-at : map (λ l. l .got) places ≡ map (λ l. l .want) places
+unfolding places asks layout plan permitted sew msew typeOf format planned soundRun chunks
+asked-at = refl

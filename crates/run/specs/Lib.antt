@@ -7,6 +7,7 @@ pub mod Places
 pub mod Turn
 -- Demand 3 as one statement; the bench sheet; computed examples.
 pub mod Statement
+pub mod Whole
 pub mod Sheet
 pub mod Examples
 -- For the contracts of inner functions.

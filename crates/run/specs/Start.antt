@@ -15,6 +15,7 @@ use Rattle.machine.specs.Geometry.{Bench}
 use Rattle.machine.specs.Faults.{sound}
 use Rattle.run.specs.declared.Plan.{Plan}
 use Rattle.run.specs.declared.Run.{Run}
+use Rattle.run.specs.declared.RunStarted.{RunStarted}
 use Rattle.run.specs.declared.Place.the-variants.{AtType, AtEnd}
 use Rattle.run.specs.Plan.{narrow, wide, aAt, bAt, cAt}
 
@@ -75,3 +76,7 @@ startRun grant P B = record {
   run = cond (isDone (verdict (startChecks grant P B))) (freshRun (B .machine) P) (noRun P);
   bench = B;
 }
+
+-- what the function `start` returned, and the bench that it was lent
+abbrev pub startedAs : RunStarted → Bench → RunStart
+startedAs r B = record { answer = r .answer; run = r .run; bench = B }

@@ -6,10 +6,11 @@ use lib.Dec.{ltb}
 use Rattle.machine.specs.declared.Answer.{Answer}
 use Rattle.machine.specs.declared.Answer.the-variants.{Done, BadArguments}
 use Rattle.machine.specs.Answers.{isDone}
-use Rattle.machine.specs.Tests.{every}
+use Rattle.width.specs.Blocks.{chunks}
+use Rattle.machine.specs.Tests.{every, isIn}
 use Rattle.machine.specs.Geometry.{Parameters, parametersOf, permitted}
 use Rattle.machine.specs.Setting.{maxM, maxK, maxN}
-use Rattle.machine.specs.Geometry.{Bench}
+use Rattle.machine.specs.Geometry.{Bench, benchOf}
 use Rattle.machine.specs.Step.{Outcome, stepBy}
 use Rattle.run.specs.declared.Plan.{Plan}
 use Rattle.run.specs.declared.Place.{Place}
@@ -17,6 +18,8 @@ use Rattle.run.specs.declared.Place.the-variants.{AtType, AtM, AtN, AtCl
 use Rattle.run.specs.declared.Run.{Run}
 use Rattle.run.specs.declared.Handed.{Handed}
 use Rattle.run.specs.declared.Asked.{Asked}
+use Rattle.run.specs.declared.Turned.{Turned}
+use Rattle.run.specs.declared.Taken.{Taken}
 use Rattle.run.specs.Words.{Op, Shape}
 use Rattle.run.specs.Places.{next, wordsAt}
 use Rattle.run.specs.Encoding.{own, plain, handedFor}
@@ -53,12 +56,40 @@ placed P (AtMultiply i j s) = every (ltb i (P .m) ∷ ltb j (P .n) ∷ ltb s (P 
 placed P (AtStore i j) = every (ltb i (P .m) ∷ ltb j (P .n) ∷ [])
 placed P AtEnd = true
 
--- numbers that a run can hold; one that holds others hands out nothing
-unfoldable pub soundRun : Run → Bool
-soundRun R = every (permitted (R .rlen) (R .mlen) ∷ planned (R .plan) ∷ placed (R .plan) (R .place) ∷ [])
+-- a block of rows starts at row i; one of columns at column j; one of terms at term s
+abbrev pub startsM : Shape → ℕ → Bool
+startsM S i = isIn i (chunks (S .grant) (S .tm) (S .m) 0)
+
+abbrev pub startsN : Shape → ℕ → Bool
+startsN S j = isIn j (chunks (S .grant) (S .tn) (S .n) 0)
+
+abbrev pub startsK : Shape → ℕ → Bool
+startsK S s = isIn s (chunks (S .grant) (S .tk) (S .k) 0)
+
+-- blocks start at the place's row, column and term: "Blocks rise .. and each asked size is the rest", so these are the places that a
+-- run comes to
+abbrev pub begins : Shape → Place → Bool
+begins S AtType = true
+begins S (AtM i) = startsM S i
+begins S (AtN i j) = every (startsM S i ∷ startsN S j ∷ [])
+begins S (AtClear i j) = every (startsM S i ∷ startsN S j ∷ [])
+begins S (AtK i j s) = every (startsM S i ∷ startsN S j ∷ startsK S s ∷ [])
+begins S (AtA i j s) = every (startsM S i ∷ startsN S j ∷ startsK S s ∷ [])
+begins S (AtB i j s) = every (startsM S i ∷ startsN S j ∷ startsK S s ∷ [])
+begins S (AtMultiply i j s) = every (startsM S i ∷ startsN S j ∷ startsK S s ∷ [])
+begins S (AtStore i j) = every (startsM S i ∷ startsN S j ∷ [])
+begins S AtEnd = true
+
+-- numbers that a run can hold, at a place that a start and its turns can have made; one that holds others hands out nothing
+unfoldable pub soundRun : (ℕ → ℕ → ℕ) → Run → Bool
+soundRun grant R = every (
+    permitted (R .rlen) (R .mlen)
+    ∷ planned (R .plan)
+    ∷ placed (R .plan) (R .place)
+    ∷ begins (runShape grant R) (R .place) ∷ [])
 
 abbrev pub handsOut : (ℕ → ℕ → ℕ) → Run → List Op
-handsOut grant R = cond (soundRun R) (wordsAt (runShape grant R) (R .place)) []
+handsOut grant R = cond (soundRun grant R) (wordsAt (runShape grant R) (R .place)) []
 
 -- the run once a step is handed out
 abbrev pub moved : (ℕ → ℕ → ℕ) → Run → Run
@@ -124,3 +155,29 @@ afterTurns grant r (suc t) = turn grant (afterTurns grant r t) .after
 abbrev pub answeredDone : (ℕ → ℕ → ℕ) → Running → ℕ → ℕ
 answeredDone grant r zero = 0
 answeredDone grant r (suc t) = answeredDone grant r t + cond (isDone (turn grant (afterTurns grant r t) .answer)) 1 0
+
+-- ---- what the functions `turn` and `turns` return and leave
+
+abbrev pub running : Run → Bench → Running
+running R B = record { run = R; bench = B }
+
+pub record TurnOutcome : Type 0 where
+  pub answer : Answer
+  pub after : Running
+
+abbrev pub turnOutcome : (ℕ → ℕ → ℕ) → Running → TurnOutcome
+turnOutcome grant r = record { answer = turn grant r .answer; after = turn grant r .after }
+
+abbrev pub turnedAs : Turned → (registers marks memory : List ℕ) → TurnOutcome
+turnedAs r registers marks memory = record { answer = r .answer; after = running (r .run) (benchOf (r .machine) registers marks memory) }
+
+pub record TurnsOutcome : Type 0 where
+  pub count : ℕ
+  pub after : Running
+
+-- n times a turn: how many of them were answered 0, and what the last one left
+abbrev pub turns : (ℕ → ℕ → ℕ) → Running → ℕ → TurnsOutcome
+turns grant r n = record { count = answeredDone grant r n; after = afterTurns grant r n }
+
+abbrev pub takenAs : Taken → (registers marks memory : List ℕ) → TurnsOutcome
+takenAs r registers marks memory = record { count = r .count; after = running (r .run) (benchOf (r .machine) registers marks memory) }

@@ -8,7 +8,7 @@ use machine::Answer;
 ghost use mathlib.Core.Path.{_≡_};
 ghost use mathlib.Core.Bool.{true, false};
 ghost use mathlib.Core.List.{[], _∷_};
-ghost use Prim.Native.Nat.{_+_, _*_, _%_, _^_, _≤_};
+ghost use Prim.Native.Nat.{_+_, _*_, _%_, _^_, _≤_, _<_};
 ghost use lib.Dec.{leb, ltb};
 ghost use Rattle.machine.specs.Tests.{every, isIn};
 ghost use Rattle.machine.specs.Setting.{smaller, maxM, maxN, maxK};
@@ -16,8 +16,8 @@ ghost use Rattle.run.specs.Words.{Op, setType, clear, multiply, loadA, l
 ghost use Rattle.run.specs.Plan.{narrow, wide, msew, typeOf};
 ghost use Rattle.run.specs.Start.{format, planned};
 ghost use Rattle.run.specs.Places.{headM, headN, headK, next, wordsAt};
-ghost use Rattle.run.specs.Turn.{placed, soundRun, runParameters, runShape, moved, asked, ask};
-ghost use Rattle.run.specs.Parts.{isEnd, handedOf};
+ghost use Rattle.run.specs.Turn.{placed, startsM, startsN, startsK, begins, soundRun, runParameters, runShape, moved, asked, ask};
+ghost use Rattle.run.specs.Parts.{numbered, isEnd, handedOf};
 ghost use Rattle.machine.specs.declared.Answer.the-variants.{BadArguments};
 ghost use Rattle.run.specs.Encoding.{settingWord, memoryWord, arithmeticWord, log, plain, startOf, handedFor};
 
@@ -114,9 +114,116 @@ pub fn is_placed(plan: Plan, place: Place) -> bool
     }
 }
 
-// Whether the numbers of a run are ones that a run can hold.
+fn lesser(a: u64, b: u64) -> u64
+    ensures { λ r. ⌜ r ≡ smaller b a ⌝ }
+{
+    if a < b { a } else { b }
+}
+
+// The most rows of a block.
+fn most_rows(run: Run) -> u64
+    requires { ⌜ numbered run ≡ true ⌝ }
+    ensures { λ r. ⌜ r ≡ maxM (runParameters smaller run) (typeOf (run .plan)) ⌝ }
+{
+    run.mlen / run.rlen
+}
+
+// The most columns.
+fn most_columns(run: Run) -> u64
+    requires { ⌜ numbered run ≡ true ⌝ }
+    ensures { λ r. ⌜ r ≡ maxN (runParameters smaller run) (typeOf (run .plan)) ⌝ }
+{
+    let bytes = run.plan.sew / 8;
+    run.rlen / 8 / bytes
+}
+
+// The most terms.
+fn most_terms(run: Run) -> u64
+    requires { ⌜ numbered run ≡ true ⌝ }
+    ensures { λ r. ⌜ r ≡ maxK (runParameters smaller run) (typeOf (run .plan)) ⌝ }
+{
+    let rows = most_rows(run);
+    let columns = most_columns(run);
+    lesser(rows, columns)
+}
+
+// Whether a block of rows starts at this row.
+fn starts_rows(run: Run, row: u64) -> bool
+    requires { ⌜ numbered run ≡ true ⌝ }
+    requires { ⌜ row < run .plan .m ⌝ }
+    ensures { λ r. ⌜ r ≡ startsM (runShape smaller run) row ⌝ }
+{
+    let most = most_rows(run);
+    row % most == 0
+}
+
+fn starts_columns(run: Run, column: u64) -> bool
+    requires { ⌜ numbered run ≡ true ⌝ }
+    requires { ⌜ column < run .plan .n ⌝ }
+    ensures { λ r. ⌜ r ≡ startsN (runShape smaller run) column ⌝ }
+{
+    let most = most_columns(run);
+    column % most == 0
+}
+
+fn starts_terms(run: Run, term: u64) -> bool
+    requires { ⌜ numbered run ≡ true ⌝ }
+    requires { ⌜ term < run .plan .k ⌝ }
+    ensures { λ r. ⌜ r ≡ startsK (runShape smaller run) term ⌝ }
+{
+    let most = most_terms(run);
+    term % most == 0
+}
+
+fn starts_product(run: Run, row: u64, column: u64) -> bool
+    requires { ⌜ numbered run ≡ true ⌝ }
+    requires { ⌜ every (ltb row (run .plan .m) ∷ ltb column (run .plan .n) ∷ []) ≡ true ⌝ }
+    ensures { λ r. ⌜ r ≡ every (startsM (runShape smaller run) row ∷ startsN (runShape smaller run) column ∷ []) ⌝ }
+{
+    if !starts_rows(run, row) {
+        return false;
+    }
+    starts_columns(run, column)
+}
+
+fn starts_sums(run: Run, row: u64, column: u64, term: u64) -> bool
+    requires { ⌜ numbered run ≡ true ⌝ }
+    requires { ⌜ every (ltb row (run .plan .m) ∷ ltb column (run .plan .n) ∷ ltb term (run .plan .k) ∷ []) ≡ true ⌝ }
+    ensures { λ r. ⌜ r ≡ every (startsM (runShape smaller run) row ∷ startsN (runShape smaller run) column ∷ startsK (runShape smaller run) term ∷ []) ⌝ }
+{
+    if !starts_rows(run, row) {
+        return false;
+    }
+    if !starts_columns(run, column) {
+        return false;
+    }
+    starts_terms(run, term)
+}
+
+// Whether blocks start at the place of a run.
+fn is_begun(run: Run) -> bool
+    requires { ⌜ numbered run ≡ true ⌝ }
+    requires { ⌜ placed (run .plan) (run .place) ≡ true ⌝ }
+    ensures { λ r. ⌜ r ≡ begins (runShape smaller run) (run .place) ⌝ }
+{
+    let place = run.place;
+    match place {
+        Place::AtType => true,
+        Place::AtM { row } => starts_rows(run, row),
+        Place::AtN { row, column } => starts_product(run, row, column),
+        Place::AtClear { row, column } => starts_product(run, row, column),
+        Place::AtK { row, column, term } => starts_sums(run, row, column, term),
+        Place::AtA { row, column, term } => starts_sums(run, row, column, term),
+        Place::AtB { row, column, term } => starts_sums(run, row, column, term),
+        Place::AtMultiply { row, column, term } => starts_sums(run, row, column, term),
+        Place::AtStore { row, column } => starts_product(run, row, column),
+        Place::AtEnd => true,
+    }
+}
+
+// Whether the numbers of a run are ones that a run can hold, and its place one that a run comes to.
 pub fn is_sound_run(run: Run) -> bool
-    ensures { λ r. ⌜ r ≡ soundRun run ⌝ }
+    ensures { λ r. ⌜ r ≡ soundRun smaller run ⌝ }
 {
     let rlen = run.rlen;
     let mlen = run.mlen;
@@ -128,47 +235,17 @@ pub fn is_sound_run(run: Run) -> bool
         return false;
     }
     let place = run.place;
-    is_placed(plan, place)
+    if !is_placed(plan, place) {
+        return false;
+    }
+    is_begun(run)
 }
 
 // ---- the next place
 
-fn lesser(a: u64, b: u64) -> u64
-    ensures { λ r. ⌜ r ≡ smaller b a ⌝ }
-{
-    if a < b { a } else { b }
-}
-
-// The most rows of a block.
-fn most_rows(run: Run) -> u64
-    requires { ⌜ soundRun run ≡ true ⌝ }
-    ensures { λ r. ⌜ r ≡ maxM (runParameters smaller run) (typeOf (run .plan)) ⌝ }
-{
-    run.mlen / run.rlen
-}
-
-// The most columns.
-fn most_columns(run: Run) -> u64
-    requires { ⌜ soundRun run ≡ true ⌝ }
-    ensures { λ r. ⌜ r ≡ maxN (runParameters smaller run) (typeOf (run .plan)) ⌝ }
-{
-    let bytes = run.plan.sew / 8;
-    run.rlen / 8 / bytes
-}
-
-// The most terms.
-fn most_terms(run: Run) -> u64
-    requires { ⌜ soundRun run ≡ true ⌝ }
-    ensures { λ r. ⌜ r ≡ maxK (runParameters smaller run) (typeOf (run .plan)) ⌝ }
-{
-    let rows = most_rows(run);
-    let columns = most_columns(run);
-    lesser(rows, columns)
-}
-
 // Where a block of rows ends.
 fn rows_end(run: Run, row: u64) -> u64
-    requires { ⌜ soundRun run ≡ true ⌝ }
+    requires { ⌜ numbered run ≡ true ⌝ }
     requires { ⌜ row ≤ run .plan .m ⌝ }
     ensures { λ r. ⌜ r ≡ row + sizeM (runShape smaller run) row ⌝ }
 {
@@ -177,7 +254,7 @@ fn rows_end(run: Run, row: u64) -> u64
 }
 
 fn columns_end(run: Run, column: u64) -> u64
-    requires { ⌜ soundRun run ≡ true ⌝ }
+    requires { ⌜ numbered run ≡ true ⌝ }
     requires { ⌜ column ≤ run .plan .n ⌝ }
     ensures { λ r. ⌜ r ≡ column + sizeN (runShape smaller run) column ⌝ }
 {
@@ -186,7 +263,7 @@ fn columns_end(run: Run, column: u64) -> u64
 }
 
 fn terms_end(run: Run, term: u64) -> u64
-    requires { ⌜ soundRun run ≡ true ⌝ }
+    requires { ⌜ numbered run ≡ true ⌝ }
     requires { ⌜ term ≤ run .plan .k ⌝ }
     ensures { λ r. ⌜ r ≡ term + sizeK (runShape smaller run) term ⌝ }
 {
@@ -205,7 +282,7 @@ fn head_rows(run: Run, row: u64) -> Place
 }
 
 fn head_columns(run: Run, row: u64, column: u64) -> Place
-    requires { ⌜ soundRun run ≡ true ⌝ }
+    requires { ⌜ numbered run ≡ true ⌝ }
     requires { ⌜ row ≤ run .plan .m ⌝ }
     ensures { λ r. ⌜ r ≡ headN (runShape smaller run) row column ⌝ }
 {
@@ -237,7 +314,7 @@ fn head_terms(run: Run, row: u64, column: u64, term: u64) -> Place
 
 // The place after this one.
 fn next_place(run: Run) -> Place
-    requires { ⌜ soundRun run ≡ true ⌝ }
+    requires { ⌜ soundRun smaller run ≡ true ⌝ }
     ensures { λ r. ⌜ r ≡ next (runShape smaller run) (run .place) ⌝ }
 {
     let place = run.place;
@@ -483,7 +560,7 @@ fn hand_store(plan: Plan, row: u64, column: u64) -> Handed
 
 // The step at the place of a run; all zeros at the end.
 fn handed_at(run: Run) -> Handed
-    requires { ⌜ soundRun run ≡ true ⌝ }
+    requires { ⌜ soundRun smaller run ≡ true ⌝ }
     ensures { λ r. ⌜ r ≡ handedOf (run .plan) (wordsAt (runShape smaller run) (run .place)) ⌝ }
 {
     let plan = run.plan;
@@ -565,7 +642,7 @@ fn refused(run: Run) -> Asked
 
 // The run at its next place.
 fn moved_run(run: Run) -> Run
-    requires { ⌜ soundRun run ≡ true ⌝ }
+    requires { ⌜ soundRun smaller run ≡ true ⌝ }
     ensures { λ r. ⌜ r ≡ moved smaller run ⌝ }
 {
     let plan = run.plan;

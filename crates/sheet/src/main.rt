@@ -1,7 +1,9 @@
-// The bench sheet of 01, run: the lines on single words, settings, loads and stores. MLEN 256, RLEN 64.
+// The bench sheet of 01, run: the lines on single words, settings, loads and stores, and on product runs. MLEN 256, RLEN 64.
 use libc::STDOUT_FILENO;
 use machine::Answer;
 use machine::Machine;
+use run::Layout;
+use run::Plan;
 
 fn say(text: &[u8]) {
     io::write_all(STDOUT_FILENO, text);
@@ -98,6 +100,115 @@ fn step(
     let next = done.machine;
     show(word, given, next, scalars[0], scalars[5], scalars[6]);
     next
+}
+
+// A whole run of m by k by n: A at 0, B at 2048, C at 4096, with these strides. Shows its answer and its steps.
+fn product(
+    machine: Machine,
+    registers: &mut [u8],
+    marks: &mut [u8],
+    memory: &mut [u8],
+    sew: u64,
+    factor: u64,
+    m: u64,
+    k: u64,
+    n: u64,
+    a_stride: u64,
+    b_stride: u64,
+    c_stride: u64,
+) {
+    let plan = Plan {
+        sew: sew,
+        factor: factor,
+        m: m,
+        k: k,
+        n: n,
+        a: Layout {
+            address: 0,
+            stride: a_stride,
+        },
+        b: Layout {
+            address: 2048,
+            stride: b_stride,
+        },
+        c: Layout {
+            address: 4096,
+            stride: c_stride,
+        },
+    };
+    say(b"run ");
+    number(m);
+    say(b" by ");
+    number(k);
+    say(b" by ");
+    number(n);
+    say(b" SEW ");
+    number(sew);
+    say(b" f ");
+    number(factor);
+    let done = turn::product(plan, machine, registers, marks, memory);
+    let given = done.answer;
+    answer(given);
+    say(b" steps ");
+    number(done.count);
+    say(b"\n");
+}
+
+fn byte(b: u8) {
+    number(b as u64);
+}
+
+// A byte of memory, as a line of its own.
+fn show_byte(memory: &[u8], at: usize) {
+    if at < memory.len() {
+        say(b"C ");
+        byte(memory[at]);
+        say(b"\n");
+    }
+}
+
+// 01: "Steps for 7 by 8 by 14: 91 at SEW 16, 47 at SEW 8. m = 0: 1."
+fn step_counts(m: Machine, registers: &mut [u8], marks: &mut [u8], memory: &mut [u8]) {
+    product(m, registers, marks, memory, 16, 1, 7, 8, 14, 16, 28, 28);
+    product(m, registers, marks, memory, 8, 1, 7, 8, 14, 8, 14, 14);
+    product(m, registers, marks, memory, 8, 1, 0, 8, 14, 8, 14, 14);
+}
+
+// "m = n = 1, k = 0: 5, and C is 0"; and of three ones by three it is 3.
+fn no_terms(m: Machine, registers: &mut [u8], marks: &mut [u8], memory: &mut [u8]) {
+    product(m, registers, marks, memory, 8, 1, 1, 3, 1, 3, 1, 1);
+    show_byte(memory, 4096);
+    product(m, registers, marks, memory, 8, 1, 1, 0, 1, 0, 1, 1);
+    show_byte(memory, 4096);
+}
+
+// "Size 1,024 is run"
+fn largest_sizes(m: Machine, registers: &mut [u8], marks: &mut [u8], memory: &mut [u8]) {
+    product(m, registers, marks, memory, 8, 1, 1024, 1, 1, 1, 1, 1);
+    product(m, registers, marks, memory, 8, 1, 1, 1024, 1, 1024, 1, 1);
+    product(m, registers, marks, memory, 8, 1, 1, 1, 1024, 1, 1024, 1024);
+}
+
+// "1,025 gives 8"
+fn one_larger(m: Machine, registers: &mut [u8], marks: &mut [u8], memory: &mut [u8]) {
+    product(m, registers, marks, memory, 8, 1, 1025, 1, 1, 1, 1, 1);
+    product(m, registers, marks, memory, 8, 1, 1, 1025, 1, 1025, 1, 1);
+    product(m, registers, marks, memory, 8, 1, 1, 1, 1025, 1, 1025, 1025);
+}
+
+// The lines on runs, on a machine started anew.
+fn runs() {
+    let mut registers = [7u8; 512];
+    let mut marks = [1u8; 512];
+    let mut memory = [1u8; 8192];
+    let m = start(64, 256, 0, 0, &registers, &mut marks);
+    say(b"7 by 8 by 14: 91 steps at SEW 16, 47 at SEW 8; m = 0: 1\n");
+    step_counts(m, &mut registers, &mut marks, &mut memory);
+    say(b"three ones by three; and k = 0: 5 steps, and C is 0\n");
+    no_terms(m, &mut registers, &mut marks, &mut memory);
+    say(b"size 1,024 is run, 1,025 gives 8\n");
+    largest_sizes(m, &mut registers, &mut marks, &mut memory);
+    one_larger(m, &mut registers, &mut marks, &mut memory);
 }
 
 fn main() {
@@ -232,4 +343,6 @@ fn main() {
         minus8,
         0x06b50077,
     );
+
+    runs();
 }

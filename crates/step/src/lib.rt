@@ -779,7 +779,7 @@ fn multiplier(mtype: u64, value: u64) -> u32
 // ---- a step
 
 // Whether the state is not at fault.
-fn is_sound(m: Machine, registers: &[u8], marks: &[u8]) -> bool
+pub fn is_sound(m: Machine, registers: &[u8], marks: &[u8]) -> bool
     ensures { λ r. ⌜ r ≡ sound m (now (registers .entry)) (now (marks .entry)) ⌝ }
 {
     if !numbers_sound(m) {

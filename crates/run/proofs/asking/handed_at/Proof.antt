@@ -6,7 +6,7 @@ use Rattle.run.specs.declared.Place.{Place}
 use Rattle.run.specs.Places.{wordsAt}
 use Rattle.run.specs.Turn.{placed, runShape}
 use Rattle.run.specs.Parts.{handedOf}
-use Rattle.run.proofs.AskingLaws.{run-placed, run-planned, run-sizes, at-m, at-store, at-multiply}
+use Rattle.run.proofs.AskingLaws.{run-numbered, run-placed, run-planned, run-sizes, at-m, at-store, at-multiply}
 use borrow.Author.Needs.{needs}
 use Rattle.run.proofs.asking.handed_at.Statement.{statement}
 use Rattle.run.proofs.asking.handed_at.Tie as tie
@@ -27,7 +27,7 @@ sub-hand-setting c =
     let R = s .args .run in
     let g = p .place .given in
     let h = subst (λ (q : Place). placed (R .plan) q ≡ true) (g .1) (run-placed R (s .pre)) in
-    let z = run-sizes R (s .pre) in
+    let z = run-sizes R (run-numbered R (s .pre)) in
     at-m (R .plan) (g .0 .0) h
 
 hand-setting-requires : tie.Need-hand-setting-requires
@@ -37,7 +37,7 @@ hand-setting-requires c κs =
     let R = s .args .run in
     let g = p .place .given in
     let h = subst (λ (q : Place). placed (R .plan) q ≡ true) (g .1) (run-placed R (s .pre)) in
-    let z = run-sizes R (s .pre) in
+    let z = run-sizes R (run-numbered R (s .pre)) in
     (omega arith, omega (arith, z .0))
 
 enum-known-place-2 : tie.Need-enum-known-place-2
@@ -50,7 +50,7 @@ sub-hand-setting-2 c =
     let R = s .args .run in
     let g = p .place2 .given in
     let h = subst (λ (q : Place). placed (R .plan) q ≡ true) (g .1) (run-placed R (s .pre)) in
-    let z = run-sizes R (s .pre) in
+    let z = run-sizes R (run-numbered R (s .pre)) in
     at-store (R .plan) (g .0 .0) (g .0 .1 .0) h .1
 
 hand-setting-requires-2 : tie.Need-hand-setting-requires-2
@@ -60,7 +60,7 @@ hand-setting-requires-2 c κs =
     let R = s .args .run in
     let g = p .place2 .given in
     let h = subst (λ (q : Place). placed (R .plan) q ≡ true) (g .1) (run-placed R (s .pre)) in
-    let z = run-sizes R (s .pre) in
+    let z = run-sizes R (run-numbered R (s .pre)) in
     (omega arith, omega (arith, z .2))
 
 enum-told-2 : tie.Need-enum-told-2
@@ -79,7 +79,7 @@ sub-hand-setting-3 c =
     let R = s .args .run in
     let g = p .place3 .given in
     let h = subst (λ (q : Place). placed (R .plan) q ≡ true) (g .1) (run-placed R (s .pre)) in
-    let z = run-sizes R (s .pre) in
+    let z = run-sizes R (run-numbered R (s .pre)) in
     at-multiply (R .plan) (g .0 .0) (g .0 .1 .0) (g .0 .1 .1 .0) h .1 .1
 
 hand-setting-requires-3 : tie.Need-hand-setting-requires-3
@@ -89,7 +89,7 @@ hand-setting-requires-3 c κs =
     let R = s .args .run in
     let g = p .place3 .given in
     let h = subst (λ (q : Place). placed (R .plan) q ≡ true) (g .1) (run-placed R (s .pre)) in
-    let z = run-sizes R (s .pre) in
+    let z = run-sizes R (run-numbered R (s .pre)) in
     (omega arith, omega (arith, z .1))
 
 enum-known-place-4 : tie.Need-enum-known-place-4
@@ -102,9 +102,9 @@ hand-load-a-requires c κs =
     let R = s .args .run in
     let g = p .place4 .given in
     let h = subst (λ (q : Place). placed (R .plan) q ≡ true) (g .1) (run-placed R (s .pre)) in
-    let z = run-sizes R (s .pre) in
+    let z = run-sizes R (run-numbered R (s .pre)) in
     let b = at-multiply (R .plan) (g .0 .0) (g .0 .1 .0) (g .0 .1 .1 .0) h in
-    (run-planned R (s .pre), (omega (arith, b .0, z .0), omega (arith, b .1 .1, z .1)))
+    (run-planned R (run-numbered R (s .pre)), (omega (arith, b .0, z .0), omega (arith, b .1 .1, z .1)))
 
 enum-known-place-5 : tie.Need-enum-known-place-5
 enum-known-place-5 c = search needs
@@ -116,9 +116,9 @@ hand-load-b-requires c κs =
     let R = s .args .run in
     let g = p .place5 .given in
     let h = subst (λ (q : Place). placed (R .plan) q ≡ true) (g .1) (run-placed R (s .pre)) in
-    let z = run-sizes R (s .pre) in
+    let z = run-sizes R (run-numbered R (s .pre)) in
     let b = at-multiply (R .plan) (g .0 .0) (g .0 .1 .0) (g .0 .1 .1 .0) h in
-    (run-planned R (s .pre), (omega (arith, b .1 .1, z .1), omega (arith, b .1 .0, z .2)))
+    (run-planned R (run-numbered R (s .pre)), (omega (arith, b .1 .1, z .1), omega (arith, b .1 .0, z .2)))
 
 enum-told-3 : tie.Need-enum-told-3
 enum-told-3 c = search needs
@@ -136,9 +136,9 @@ hand-store-requires c κs =
     let R = s .args .run in
     let g = p .place6 .given in
     let h = subst (λ (q : Place). placed (R .plan) q ≡ true) (g .1) (run-placed R (s .pre)) in
-    let z = run-sizes R (s .pre) in
+    let z = run-sizes R (run-numbered R (s .pre)) in
     let b = at-store (R .plan) (g .0 .0) (g .0 .1 .0) h in
-    (run-planned R (s .pre), (omega (arith, b .0, z .0), omega (arith, b .1, z .2)))
+    (run-planned R (run-numbered R (s .pre)), (omega (arith, b .0, z .0), omega (arith, b .1, z .2)))
 
 enum-told-4 : tie.Need-enum-told-4
 enum-told-4 c = search needs

@@ -1,18 +1,41 @@
 use mathlib.Core.Path.{_≡_, sym, _∙_}
-use mathlib.Core.Bool.{true}
+use mathlib.Core.Bool.{Bool, true}
 use mathlib.Core.List.{[], _∷_}
 use borrow.Author.Tests.{not-true, not-false}
 use Rattle.machine.specs.Geometry.{permitted}
+use Rattle.machine.specs.Setting.{smaller}
+use Rattle.machine.proofs.TestLaws.{each-every}
+use Rattle.run.specs.declared.Run.{Run}
 use Rattle.run.specs.Start.{planned}
-use Rattle.run.specs.Turn.{placed, soundRun}
+use Rattle.run.specs.Turn.{placed, begins, runShape, soundRun}
+use Rattle.run.specs.Parts.{numbered}
 use Rattle.run.proofs.AskingLaws.{fails, last}
 use borrow.Author.Needs.{needs}
 use Rattle.run.proofs.asking.is_sound_run.Statement.{statement}
 use Rattle.run.proofs.asking.is_sound_run.Tie as tie
 
--- the first test has passed
-ok-1 : (c : tie.Else1) → permitted (c .before .before .args .run .rlen) (c .before .before .args .run .mlen) ≡ true
+-- the tests in their order
+abbrev lengths : Run → Bool
+lengths R = permitted (R .rlen) (R .mlen)
+
+abbrev plans : Run → Bool
+plans R = planned (R .plan)
+
+abbrev places : Run → Bool
+places R = placed (R .plan) (R .place)
+
+abbrev blocks : Run → Bool
+blocks R = begins (runShape smaller R) (R .place)
+
+-- those that have passed
+ok-1 : (c : tie.Else1) → lengths (c .before .before .args .run) ≡ true
 ok-1 c = sym (c .before .permitted-lengths .ensures) ∙ not-false (c .before .permitted-lengths .result) (c .if1 .left)
+
+ok-2 : (c : tie.Else2) → plans (c .before .before .before .before .before .args .run) ≡ true
+ok-2 c = sym (c .before .is-planned .ensures) ∙ not-false (c .before .is-planned .result) (c .if2 .left)
+
+ok-3 : (c : tie.Else3) → places (c .before .before .before .before .before .before .before .args .run) ≡ true
+ok-3 c = sym (c .before .is-placed .ensures) ∙ not-false (c .before .is-placed .result) (c .if3 .left)
 
 permitted-lengths-requires : tie.Need-permitted-lengths-requires
 permitted-lengths-requires c κs = search needs
@@ -21,8 +44,8 @@ returns : tie.Need-returns
 unfolding soundRun
 returns c =
     let R = c .before .before .args .run in
-    fails [] tt (permitted (R .rlen) (R .mlen)) (sym (c .before .permitted-lengths .ensures) ∙ not-true (c .before .permitted-lengths .result) (c .if1 .taken))
-    (planned (R .plan) ∷ placed (R .plan) (R .place) ∷ [])
+    fails [] tt (lengths R) (sym (c .before .permitted-lengths .ensures) ∙ not-true (c .before .permitted-lengths .result) (c .if1 .taken))
+    (plans R ∷ places R ∷ blocks R ∷ [])
 
 is-planned-requires : tie.Need-is-planned-requires
 is-planned-requires c κs = search needs
@@ -32,8 +55,8 @@ unfolding soundRun
 returns-2 c =
     let o = c .before .before .before in
     let R = o .before .before .args .run in
-    fails (permitted (R .rlen) (R .mlen) ∷ []) (ok-1 o, tt) (planned (R .plan)) (sym (c .before .is-planned .ensures) ∙ not-true (c .before .is-planned .result) (c .if2 .taken))
-    (placed (R .plan) (R .place) ∷ [])
+    fails (lengths R ∷ []) (ok-1 o, tt) (plans R) (sym (c .before .is-planned .ensures) ∙ not-true (c .before .is-planned .result) (c .if2 .taken))
+    (places R ∷ blocks R ∷ [])
 
 is-placed-requires : tie.Need-is-placed-requires
 is-placed-requires c κs = search needs
@@ -41,12 +64,28 @@ is-placed-requires c κs = search needs
 returns-3 : tie.Need-returns-3
 unfolding soundRun
 returns-3 c =
-    let e = c .before in
+    let e = c .before .before in
     let o = e .before .before .before in
     let R = o .before .before .args .run in
-    c .is-placed .ensures
-    ∙ last (permitted (R .rlen) (R .mlen) ∷ planned (R .plan) ∷ [])
-    (ok-1 o, (sym (e .before .is-planned .ensures) ∙ not-false (e .before .is-planned .result) (e .if2 .left), tt)) (placed (R .plan) (R .place))
+    fails (lengths R ∷ plans R ∷ []) (ok-1 o, (ok-2 e, tt)) (places R) (sym (c .before .is-placed .ensures) ∙ not-true (c .before .is-placed .result) (c .if3 .taken))
+    (blocks R ∷ [])
+
+is-begun-requires : tie.Need-is-begun-requires
+unfolding numbered
+is-begun-requires c κs =
+    let e = c .before .before in
+    let o = e .before .before .before in
+    let R = o .before .before .args .run in
+    (each-every (lengths R ∷ plans R ∷ []) (ok-1 o, (ok-2 e, tt)), ok-3 c)
+
+returns-4 : tie.Need-returns-4
+unfolding soundRun
+returns-4 c =
+    let f = c .before in
+    let e = f .before .before in
+    let o = e .before .before .before in
+    let R = o .before .before .args .run in
+    c .is-begun .ensures ∙ last (lengths R ∷ plans R ∷ places R ∷ []) (ok-1 o, (ok-2 e, (ok-3 f, tt))) (blocks R)
 
 pub is-sound-run-spec : {M : Type 1} → statement M
 is-sound-run-spec =
@@ -57,4 +96,6 @@ is-sound-run-spec =
     is-planned-requires
     returns-2
     is-placed-requires
-    returns-3)
+    returns-3
+    is-begun-requires
+    returns-4)

@@ -4,7 +4,7 @@ use Rattle.machine.specs.Setting.{smaller}
 use Rattle.run.specs.declared.Place.{Place}
 use Rattle.run.specs.Places.{headN, headK, next}
 use Rattle.run.specs.Turn.{placed, runShape}
-use Rattle.run.proofs.AskingLaws.{run-placed, at-m, at-multiply, at-store}
+use Rattle.run.proofs.AskingLaws.{run-numbered, run-placed, at-m, at-multiply, at-store}
 use borrow.Author.Needs.{needs}
 use Rattle.run.proofs.asking.next_place.Statement.{statement}
 use Rattle.run.proofs.asking.next_place.Tie as tie
@@ -24,7 +24,7 @@ head-columns-requires c κs =
     let s = p .before .before in
     let R = s .args .run in
     let h = subst (λ (q : Place). placed (R .plan) q ≡ true) (p .place .given .1) (run-placed R (s .pre)) in
-    (s .pre, at-m (R .plan) (p .place .given .0 .0) h)
+    (run-numbered R (s .pre), at-m (R .plan) (p .place .given .0 .0) h)
 
 enum-known-place-2 : tie.Need-enum-known-place-2
 enum-known-place-2 c = search needs
@@ -54,7 +54,7 @@ terms-end-requires c κs =
     let R = s .args .run in
     let g = p .place7 .given in
     let h = subst (λ (q : Place). placed (R .plan) q ≡ true) (g .1) (run-placed R (s .pre)) in
-    (s .pre, at-multiply (R .plan) (g .0 .0) (g .0 .1 .0) (g .0 .1 .1 .0) h .1 .1)
+    (run-numbered R (s .pre), at-multiply (R .plan) (g .0 .0) (g .0 .1 .0) (g .0 .1 .1 .0) h .1 .1)
 
 head-terms-requires-2 : tie.Need-head-terms-requires-2
 head-terms-requires-2 c κs = search needs
@@ -69,7 +69,7 @@ columns-end-requires c κs =
     let R = s .args .run in
     let g = p .place8 .given in
     let h = subst (λ (q : Place). placed (R .plan) q ≡ true) (g .1) (run-placed R (s .pre)) in
-    (s .pre, at-store (R .plan) (g .0 .0) (g .0 .1 .0) h .1)
+    (run-numbered R (s .pre), at-store (R .plan) (g .0 .0) (g .0 .1 .0) h .1)
 
 head-columns-requires-2 : tie.Need-head-columns-requires-2
 head-columns-requires-2 c κs =
@@ -78,7 +78,7 @@ head-columns-requires-2 c κs =
     let R = s .args .run in
     let g = p .place8 .given in
     let h = subst (λ (q : Place). placed (R .plan) q ≡ true) (g .1) (run-placed R (s .pre)) in
-    (s .pre, at-store (R .plan) (g .0 .0) (g .0 .1 .0) h .0)
+    (run-numbered R (s .pre), at-store (R .plan) (g .0 .0) (g .0 .1 .0) h .0)
 
 enum-told-2 : tie.Need-enum-told-2
 enum-told-2 c = search needs

@@ -1,0 +1,85 @@
+use mathlib.Core.Path.{ap}
+use Prim.Native.Nat.{ℕ, _*_, _/_, _≤_}
+use native.Mathlib.Omega.{arith}
+use Rattle.run.specs.Statement.{Bytes}
+use Rattle.run.specs.Whole.{finishedAs}
+use Rattle.layout.proofs.LayoutLaws.{widths}
+use Rattle.reply.proofs.RunLaws.{c-fits, multiplied}
+use borrow.Author.Needs.{needs}
+use Rattle.reply.proofs.multiply.Statement.{statement}
+use Rattle.reply.proofs.multiply.Tie as tie
+
+-- 256 elements of C's width
+fits : (s : tie.Start) → 256 * (s .args .factor * (s .args .sew / 8)) ≤ 1024
+fits s = c-fits (s .args .sew) (s .args .factor) (s .pre .1 .0)
+
+slice-aggregate-start : tie.Need-slice-aggregate-start
+slice-aggregate-start c = search needs
+
+slice-aggregate-start-2 : tie.Need-slice-aggregate-start-2
+slice-aggregate-start-2 c = search needs
+
+start-requires : tie.Need-start-requires
+start-requires c κs = search needs
+
+plan-for-requires : tie.Need-plan-for-requires
+plan-for-requires c κs = search needs
+
+slice-aggregate-product : tie.Need-slice-aggregate-product
+slice-aggregate-product c = search needs
+
+slice-aggregate-product-2 : tie.Need-slice-aggregate-product-2
+slice-aggregate-product-2 c = search needs
+
+product-requires : tie.Need-product-requires
+product-requires c κs = search needs
+
+mul-width : tie.Need-mul-width
+mul-width c =
+    let s = c .before .before .before .before .before .before .before .before .before .before .before .before .before .before .before .before in
+    omega (arith, fits s)
+
+read-elements-requires : tie.Need-read-elements-requires
+read-elements-requires c κs =
+    let p = c .before .before .before .before .before .before in
+    let s = p .before .before .before .before .before .before .before .before .before .before .before .before in
+    let e = ap (λ (t : ℕ). t * (s .args .factor * (s .args .sew / 8))) (s .pre .1 .1 .1) in
+    (widths (s .args .sew) (s .args .factor) (s .pre .1 .0) .1, omega (arith, fits s, p .product .kept .1 .1 .1 .1 .0))
+
+same-length : tie.Need-same-length
+same-length c = search needs
+
+same-length-2 : tie.Need-same-length-2
+same-length-2 c = search needs
+
+returns : tie.Need-returns
+returns c =
+    let r = c .before .before in
+    let p = r .before .before .before .before .before .before .before in
+    let q = p .before .before .before .before in
+    let t = q .before .before .before in
+    let s = t .before .before .before .before .before in
+    let a = s .args in
+    let bytes : Bytes (a .memory .now) = record { below = λ i. omega (arith, t .before .before .before .slice-known2 .given i); addressed = omega arith } in
+    multiplied (a .sew) (a .factor) (a .m) (a .k) (a .n) (s .pre .1 .0) (s .pre .0 .0) (s .pre .0 .1 .0) (s .pre .0 .1 .1)
+    (t .start .result) (t .start .last .1 .1 .1 .1 .1 .0) (a .memory .now) (t .start .ensures) (s .pre .1 .1 .0) bytes
+    (q .plan-for .result) (q .plan-for .ensures)
+    (finishedAs (p .product .result) (p .product .last .1 .1 .0) (p .product .last .1 .1 .1 .0) (p .product .last .1 .1 .1 .1 .0)) (p .product .ensures .1)
+    (r .read-elements .last .0) (λ j l. r .read-elements .ensures .1 j (omega arith))
+
+pub multiply-spec : {M : Type 1} → statement M
+multiply-spec =
+    tie.close
+    (tie.spec
+    slice-aggregate-start
+    slice-aggregate-start-2
+    start-requires
+    plan-for-requires
+    slice-aggregate-product
+    slice-aggregate-product-2
+    product-requires
+    mul-width
+    read-elements-requires
+    same-length
+    same-length-2
+    returns)

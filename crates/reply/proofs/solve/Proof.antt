@@ -1,0 +1,101 @@
+use mathlib.Core.Path.{refl, sym, subst}
+use Prim.Native.Nat.{_*_, _/_, _≤_}
+use native.Mathlib.Nat.{mul-le-mul}
+use native.Mathlib.Omega.{arith}
+use lib.ListN.{replicate}
+use Rattle.element.specs.Element.{Width}
+use Rattle.element.proofs.Laws.{width-small}
+use Rattle.layout.proofs.LayoutLaws.{widths, matrix-small}
+use Rattle.text.specs.Reply.{answerText}
+use Rattle.text.specs.Parts.{Wrote}
+use Rattle.reply.proofs.SolveLaws.{Solved, solved}
+use borrow.Author.Needs.{needs}
+use Rattle.reply.proofs.solve.Statement.{statement}
+use Rattle.reply.proofs.solve.Tie as tie
+
+-- the numbers of elements
+areas : (s : tie.Start) → (s .args .m * s .args .k ≤ 256) × (s .args .k * s .args .n ≤ 256)
+areas s = let p = s .pre .0 in (mul-le-mul (p .0) (p .1 .0), mul-le-mul (p .1 .0) (p .1 .1))
+
+-- C's elements have 1, 2 or 4 bytes
+wide : (s : tie.Start) → Width (s .args .factor * (s .args .sew / 8))
+wide s = widths (s .args .sew) (s .args .factor) (s .pre .1 .0) .1
+
+mul-a : tie.Need-mul-a
+mul-a c = let l = areas (c .before .before) in omega arith
+
+mul-b : tie.Need-mul-b
+mul-b c = let l = areas (c .before .before) in omega arith
+
+slice-aggregate-fill : tie.Need-slice-aggregate-fill
+slice-aggregate-fill c = search needs
+
+fill-requires : tie.Need-fill-requires
+fill-requires c κs =
+    let s = c .before .before .before in
+    let a = s .args in
+    let n = s .pre .0 in
+    let w = widths (a .sew) (a .factor) (s .pre .1 .0) .0 in
+    let l = areas s in
+    (w, ((matrix-small (a .m) (a .k) (a .sew / 8) (n .0) (n .1 .0) w, matrix-small (a .k) (a .n) (a .sew / 8) (n .1 .0) (n .1 .1) w), (refl, omega arith)))
+
+slice-aggregate-multiply : tie.Need-slice-aggregate-multiply
+slice-aggregate-multiply c = search needs
+
+slice-aggregate-multiply-2 : tie.Need-slice-aggregate-multiply-2
+slice-aggregate-multiply-2 c = search needs
+
+multiply-requires : tie.Need-multiply-requires
+multiply-requires c κs = search needs
+
+mul-modulus : tie.Need-mul-modulus
+mul-modulus c =
+    let s = c .before .before .before .before .before .before .before .before .before .before in
+    omega (arith, width-small (s .args .factor * (s .args .sew / 8)) (wide s))
+
+modulus-requires : tie.Need-modulus-requires
+modulus-requires c κs = wide (c .before .before .before .before .before .before .before .before .before .before)
+
+slice-aggregate-put-accepted : tie.Need-slice-aggregate-put-accepted
+slice-aggregate-put-accepted c = search needs
+
+put-accepted-requires : tie.Need-put-accepted-requires
+put-accepted-requires c κs =
+    let f = c .before .before .before .before .before in
+    let s = f .before .before .before .before .before .before .before .before in
+    (s .pre .1 .1 .1, s .pre .0 .0, s .pre .0 .1 .1, omega (arith, mul-le-mul (s .pre .0 .0) (s .pre .0 .1 .1), f .multiply .kept .0))
+
+same-length : tie.Need-same-length
+same-length c = search needs
+
+returns : tie.Need-returns
+returns c t e elements =
+    let w = c .before .before in
+    let q = w .before .before .before in
+    let p = q .before .before .before in
+    let f = p .before .before .before .before in
+    let s = f .before .before .before .before in
+    let a = s .args in
+    subst (Wrote (a .out .now) 0 (w .put-accepted .last .0) (w .put-accepted .result))
+    (subst (Solved (a .numbers .now) (answerText t)) (sym e) (solved t (a .numbers .now) elements)
+    (replicate 3072 0) (f .fill .last .0) (p .multiply .last .0) (p .multiply .result) (q .modulus .result)
+    refl (f .fill .ensures) (p .multiply .kept .0) (p .multiply .ensures .0) (p .multiply .ensures .1) (q .modulus .ensures))
+    (w .put-accepted .ensures)
+
+pub solve-spec : {M : Type 1} → statement M
+solve-spec =
+    tie.close
+    (tie.spec
+    mul-a
+    mul-b
+    slice-aggregate-fill
+    fill-requires
+    slice-aggregate-multiply
+    slice-aggregate-multiply-2
+    multiply-requires
+    mul-modulus
+    modulus-requires
+    slice-aggregate-put-accepted
+    put-accepted-requires
+    same-length
+    returns)

@@ -1,0 +1,47 @@
+-- A whole product run: a start and, where it is accepted, turns until one is refused; and what a customer is told of it.
+use mathlib.Core.Path.{_≡_}
+use mathlib.Core.List.{List}
+use Prim.Native.Nat.{ℕ, _<_}
+use Rattle.machine.specs.declared.Answer.{Answer}
+use Rattle.machine.specs.declared.Answer.the-variants.{Done}
+use Rattle.machine.specs.Geometry.{Bench, benchOf}
+use Rattle.machine.specs.Setting.{smaller}
+use Rattle.machine.specs.Operation.{element}
+use Rattle.run.specs.declared.Plan.{Plan}
+use Rattle.run.specs.declared.Finished.{Finished}
+use Rattle.run.specs.Words.{steps}
+use Rattle.run.specs.Plan.{Kept, shape, wide, cAt, partial}
+use Rattle.run.specs.Start.{startRun}
+use Rattle.run.specs.Turn.{turns}
+use Rattle.run.specs.Statement.{jobOf, startedRun}
+
+pub record WholeOutcome : Type 0 where
+  pub answer : Answer
+  pub count : ℕ
+  pub bench : Bench
+
+-- a start, then as many turns as there are steps; the run of a refused start hands out nothing
+abbrev pub whole : (ℕ → ℕ → ℕ) → Plan → Bench → WholeOutcome
+whole grant P B = record {
+  answer = startRun grant P B .answer;
+  count = turns grant (startedRun grant P B) (steps (shape (jobOf grant P B))) .count;
+  bench = turns grant (startedRun grant P B) (steps (shape (jobOf grant P B))) .after .bench;
+}
+
+-- what the function `product` returned and left
+abbrev pub finishedAs : Finished → (registers marks memory : List ℕ) → WholeOutcome
+finishedAs r registers marks memory = record { answer = r .answer; count = r .count; bench = benchOf (r .machine) registers marks memory }
+
+-- The customer's sentence, of a plan, the bench at entry, and what came back
+pub record Delivers (P : Plan) (B : Bench) (o : WholeOutcome) : Type 0 where
+  -- the answer is that of the start (Statement.antt says when it is 0, 8, 6 and 9)
+  pub answered : o .answer ≡ startRun smaller P B .answer
+  -- "A refusal changes nothing lent or held."
+  pub refused : ¬ (o .answer ≡ Done) → (o .count ≡ 0) × (o .bench ≡ B)
+  -- "there are 1 + M(1 + N(3 + 4K)) steps"
+  pub counted : o .answer ≡ Done → o .count ≡ steps (shape (jobOf smaller P B))
+  -- "C(i, j) is the sum, for l from 0 to k - 1, of A(i, l) x B(l, j), reduced to f x SEW bits in two's complement", of the memory at entry
+  pub product : o .answer ≡ Done → (i j : ℕ) → i < P .m → j < P .n
+      → element (o .bench .memory) (cAt P) (wide P) i j ≡ partial (jobOf smaller P B) i j (P .k)
+  -- "the memory outside C's elements is as at the start"
+  pub kept : Kept (jobOf smaller P B) (o .bench .memory)

@@ -1,0 +1,210 @@
+use Prim.Native.Nat.{ℕ, _+_, _*_, _-_, _^_, _≤_}
+use mathlib.Core.Path.{_≡_, sym, ap, ap₂, _∙_}
+use mathlib.Core.Bool.{Bool, true, false}
+use mathlib.Core.List.{List, map}
+use native.Mathlib.Nat.{mul-le-mul}
+use native.Mathlib.Omega.{arith}
+use mathlib.Core.Option.{some}
+use lib.IntN.{ℤ}
+use lib.ListN.{length, drop, getD}
+use borrow.Author.Needs.{needs}
+use borrow.Author.Tests.{not-true, not-false, le-leb, lt-leb, eq-eqb, ne-eqb}
+use Rattle.machine.specs.Tests.{allOf}
+use Rattle.run.specs.Start.{format}
+use Rattle.text.specs.declared.Parsed.the-variants.{Refused}
+use Rattle.text.specs.Problem.{posed}
+use Rattle.text.specs.Parts.{held, inside, parsedAs}
+use Rattle.text.proofs.ListLaws.{rest-of}
+use Rattle.text.proofs.ProblemLaws.{Five, heldTests, format-sew, too-few, refuses, accepts}
+use Rattle.text.proofs.check.Statement.{statement}
+use Rattle.text.proofs.check.Tie as tie
+
+-- ---- the five numbers, once they are read
+
+abbrev xs : tie.After-size5 → List ℕ
+xs c = c .before .before .before .before .before .before .before .before .before .before .before .before .args .xs .now
+
+abbrev sew : tie.After-size5 → ℕ
+sew c = c .before .before .before .before .before .before .before .before .size .result
+
+abbrev factor : tie.After-size5 → ℕ
+factor c = c .before .before .before .before .before .before .size2 .result
+
+abbrev m : tie.After-size5 → ℕ
+m c = c .before .before .before .before .size3 .result
+
+abbrev k : tie.After-size5 → ℕ
+k c = c .before .before .size4 .result
+
+abbrev n : tie.After-size5 → ℕ
+n c = c .size5 .result
+
+five : (c : tie.After-size5) → Five (xs c) (sew c) (factor c) (m c) (k c) (n c)
+five c = record {
+  long = c .before .before .before .before .before .before .before .before .before .before .if1 .left;
+  at0 = c .before .before .before .before .before .before .before .before .size .ensures;
+  at1 = c .before .before .before .before .before .before .size2 .ensures;
+  at2 = c .before .before .before .before .size3 .ensures;
+  at3 = c .before .before .size4 .ensures;
+  at4 = c .size5 .ensures;
+}
+
+abbrev theTests : tie.After-size5 → List Bool
+theTests c = heldTests (xs c) (sew c) (factor c) (m c) (k c) (n c)
+
+-- test i fails
+fails : (c : tie.After-size5) (i : ℕ) → getD (theTests c) i true ≡ false → (zs : List ℤ) → map held zs ≡ xs c → Refused ≡ parsedAs (posed (some zs))
+fails c i t zs e = refuses zs (xs c) e (sew c) (factor c) (m c) (k c) (n c) (five c) i t
+
+-- what the tests that have passed say
+formatted : (c : tie.Else2) → format (sew (c .before .before)) (factor (c .before .before)) ≡ true
+formatted c = sym (c .before .is-format .ensures) ∙ not-false (c .before .is-format .result) (c .if2 .left)
+
+products : (c : tie.Else5) → (m (c .before .before .before .before .before) * k (c .before .before .before .before .before) ≤ 256) × (k (c .before .before .before .before .before) * n (c .before .before .before .before .before) ≤ 256)
+products c = (mul-le-mul (c .before .before .if3 .left) (c .before .if4 .left), mul-le-mul (c .before .if4 .left) (c .if5 .left))
+
+elements : (c : tie.After-each-inside) → c .each-inside .result ≡ allOf (inside (2 ^ (sew (c .before .before .before .before .before .before .before .before .before) - 1))) (drop 5 (xs (c .before .before .before .before .before .before .before .before .before)))
+elements c = c .each-inside .ensures ∙ ap₂ (λ (h : ℕ) (l : List ℕ). allOf (inside h) l) (c .before .before .half .ensures .0) (rest-of 5 (xs (c .before .before .before .before .before .before .before .before .before)))
+
+-- ---- the needs
+
+returns : tie.Need-returns
+returns c = λ zs e. too-few zs (c .before .before .args .xs .now) e (c .if1 .taken)
+
+shared-slice-read-size : tie.Need-shared-slice-read-size
+shared-slice-read-size c = search needs
+
+size-requires : tie.Need-size-requires
+size-requires c κs = search needs
+
+shared-slice-read-size-2 : tie.Need-shared-slice-read-size-2
+shared-slice-read-size-2 c = search needs
+
+size-requires-2 : tie.Need-size-requires-2
+size-requires-2 c κs = search needs
+
+shared-slice-read-size-3 : tie.Need-shared-slice-read-size-3
+shared-slice-read-size-3 c = search needs
+
+size-requires-3 : tie.Need-size-requires-3
+size-requires-3 c κs = search needs
+
+shared-slice-read-size-4 : tie.Need-shared-slice-read-size-4
+shared-slice-read-size-4 c = search needs
+
+size-requires-4 : tie.Need-size-requires-4
+size-requires-4 c κs = search needs
+
+shared-slice-read-size-5 : tie.Need-shared-slice-read-size-5
+shared-slice-read-size-5 c = search needs
+
+size-requires-5 : tie.Need-size-requires-5
+size-requires-5 c κs = search needs
+
+is-format-requires : tie.Need-is-format-requires
+is-format-requires c κs = search needs
+
+returns-2 : tie.Need-returns-2
+returns-2 c = fails (c .before .before) 0 (sym (c .before .is-format .ensures) ∙ not-true (c .before .is-format .result) (c .if2 .taken))
+
+returns-3 : tie.Need-returns-3
+returns-3 c = let r = c .before .before .before in fails r 1 (lt-leb (m r) 16 (c .if3 .taken))
+
+returns-4 : tie.Need-returns-4
+returns-4 c = let r = c .before .before .before .before in fails r 2 (lt-leb (k r) 16 (c .if4 .taken))
+
+returns-5 : tie.Need-returns-5
+returns-5 c = let r = c .before .before .before .before .before in fails r 3 (lt-leb (n r) 16 (c .if5 .taken))
+
+mul-if6 : tie.Need-mul-if6
+mul-if6 c = omega (arith, products c)
+
+add-if6 : tie.Need-add-if6
+add-if6 c = omega (arith, products c)
+
+mul-if6-2 : tie.Need-mul-if6-2
+mul-if6-2 c = omega (arith, products c)
+
+add-if6-2 : tie.Need-add-if6-2
+add-if6-2 c = omega (arith, products c)
+
+returns-6 : tie.Need-returns-6
+returns-6 c =
+    let r = c .before .before .before .before .before .before in
+    fails r 4 (ne-eqb (length (xs r)) (5 + m r * k r + k r * n r) (c .if6 .taken))
+
+half-requires : tie.Need-half-requires
+half-requires c κs =
+    let r = c .before .before .before .before .before .before in
+    format-sew (sew r) (factor r) (formatted (c .before .before .before .before))
+
+sub-each-inside : tie.Need-sub-each-inside
+sub-each-inside c = search needs
+
+part-each-inside-start : tie.Need-part-each-inside-start
+part-each-inside-start c = search needs
+
+part-each-inside-end : tie.Need-part-each-inside-end
+part-each-inside-end c = search needs
+
+each-inside-requires : tie.Need-each-inside-requires
+each-inside-requires c κs = search needs
+
+returns-7 : tie.Need-returns-7
+returns-7 c =
+    let r = c .before .before .before .before .before .before .before .before .before .before in
+    fails r 5 (sym (elements (c .before)) ∙ not-true (c .before .each-inside .result) (c .if7 .taken))
+
+returns-8 : tie.Need-returns-8
+returns-8 c =
+    let r = c .before .before .before .before .before .before .before .before .before .before in
+    let p = c .before .before .before .before in
+    λ zs e. accepts zs (xs r) e (sew r) (factor r) (m r) (k r) (n r) (five r) (
+      formatted (p .before .before .before .before),
+      (
+        le-leb (m r) 16 (p .before .before .before .if3 .left),
+        (
+          le-leb (k r) 16 (p .before .before .if4 .left),
+          (
+            le-leb (n r) 16 (p .before .if5 .left),
+            (
+              eq-eqb (length (xs r)) (5 + m r * k r + k r * n r) (p .if6 .left),
+              (sym (elements (c .before)) ∙ not-false (c .before .each-inside .result) (c .if7 .left), tt),
+            ),
+          ),
+        ),
+      ),
+    )
+
+pub check-spec : {M : Type 1} → statement M
+check-spec =
+    tie.close
+    (tie.spec
+    returns
+    shared-slice-read-size
+    size-requires
+    shared-slice-read-size-2
+    size-requires-2
+    shared-slice-read-size-3
+    size-requires-3
+    shared-slice-read-size-4
+    size-requires-4
+    shared-slice-read-size-5
+    size-requires-5
+    is-format-requires
+    returns-2
+    returns-3
+    returns-4
+    returns-5
+    mul-if6
+    add-if6
+    mul-if6-2
+    add-if6-2
+    returns-6
+    half-requires
+    sub-each-inside
+    part-each-inside-start
+    part-each-inside-end
+    each-inside-requires
+    returns-7
+    returns-8)

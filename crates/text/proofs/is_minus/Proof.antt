@@ -1,0 +1,20 @@
+use Prim.Native.Nat.{_+_}
+use mathlib.Core.Path.{sym}
+use native.Mathlib.Omega.{arith}
+use borrow.Author.Tests.{le-leb}
+use borrow.Author.Needs.{needs}
+use Rattle.text.proofs.WriteLaws.{minus-test}
+use Rattle.text.proofs.is_minus.Statement.{statement}
+use Rattle.text.proofs.is_minus.Tie as tie
+
+sub-result : tie.Need-sub-result
+sub-result c = search needs
+
+returns : tie.Need-returns
+returns c = minus-test (c .before .args .q) (c .before .args .x) (c .if1 .taken)
+
+returns-2 : tie.Need-returns-2
+returns-2 c = sym (le-leb (c .before .args .q) (c .before .args .x + c .before .args .x) (omega arith))
+
+pub is-minus-spec : {M : Type 1} → statement M
+is-minus-spec = tie.close (tie.spec sub-result returns returns-2)

@@ -1,0 +1,84 @@
+use Prim.Native.Nat.{ℕ, _≤_, _<_, _-_}
+use mathlib.Core.Path.{_≡_, sym, ap, _∙_}
+use mathlib.Core.List.{List, _∷_}
+use native.Mathlib.Omega.{arith}
+use lib.ListN.{length, take, drop, drop-of-length-le}
+use borrow.Author.Needs.{needs}
+use Rattle.text.specs.declared.Word.the-variants.{Value}
+use Rattle.text.specs.Text.{words, number}
+use Rattle.text.specs.Parts.{heldWord}
+use Rattle.text.proofs.ReadLaws.{first-none, first-value, first-other, held-bound}
+use Rattle.text.proofs.next_number.Statement.{statement}
+use Rattle.text.proofs.next_number.Tie as tie
+
+-- the next word, and the words after it
+abbrev word : tie.After-word-end → List ℕ
+word c = take (c .word-end .result - c .before .before .skip .result) (drop (c .before .before .skip .result) (c .before .before .before .before .args .text .now))
+
+ahead-words : (c : tie.After-word-end) → words (drop (c .before .before .before .before .args .at) (c .before .before .before .before .args .text .now)) ≡ word c ∷ words (drop (c .word-end .result) (c .before .before .before .before .args .text .now))
+ahead-words c = sym (c .before .before .skip .ensures .1 .0) ∙ c .word-end .ensures .1
+
+skip-requires : tie.Need-skip-requires
+skip-requires c κs = search needs
+
+returns : tie.Need-returns
+returns c =
+    let a = c .before .before .before .args in
+    let s = a .text .now in
+    let l : length s ≤ c .before .skip .result = omega (arith, c .if1 .taken) in
+    (first-none (drop (a .at) s) (sym (c .before .skip .ensures .1 .0) ∙ ap words (drop-of-length-le s l)), tt)
+
+word-end-requires : tie.Need-word-end-requires
+word-end-requires c κs =
+    let l : c .before .skip .result < length (c .before .before .before .args .text .now) = omega (arith, c .if1 .left, c .before .skip .ensures .0) in
+    (l, c .before .skip .ensures .1 .1 l)
+
+sub-read-word : tie.Need-sub-read-word
+sub-read-word c = search needs
+
+part-read-word-start : tie.Need-part-read-word-start
+part-read-word-start c = search needs
+
+part-read-word-end : tie.Need-part-read-word-end
+part-read-word-end c = search needs
+
+read-word-requires : tie.Need-read-word-requires
+read-word-requires c κs = search needs
+
+enum-known-held : tie.Need-enum-known-held
+enum-known-held c = search needs
+
+enum-told : tie.Need-enum-told
+enum-told c = search needs
+
+returns-2 : tie.Need-returns-2
+returns-2 c =
+    let d = c .before .before .before .before .before in
+    let a = d .before .before .before .before .args in
+    let x = c .before .held .given .0 .0 in
+    let v : heldWord (number (word d)) ≡ Value x = sym (c .before .before .before .read-word .ensures) ∙ c .before .held .given .1 in (
+      first-value (drop (a .at) (a .text .now)) (word d) (drop (d .word-end .result) (a .text .now)) x (ahead-words d) v,
+      (omega (arith, d .before .before .skip .ensures .0, d .word-end .ensures .0), d .word-end .ensures .0 .1, held-bound (number (word d)) x v),
+    )
+
+returns-3 : tie.Need-returns-3
+returns-3 c =
+    let d = c .before .before .before .before in
+    let a = d .before .before .before .before .args in
+    (first-other (drop (a .at) (a .text .now)) (word d) (drop (d .word-end .result) (a .text .now)) (ahead-words d) (sym (c .before .before .read-word .ensures) ∙ c .enum-told .given .1), tt)
+
+pub next-number-spec : {M : Type 1} → statement M
+next-number-spec =
+    tie.close
+    (tie.spec
+    skip-requires
+    returns
+    word-end-requires
+    sub-read-word
+    part-read-word-start
+    part-read-word-end
+    read-word-requires
+    enum-known-held
+    enum-told
+    returns-2
+    returns-3)

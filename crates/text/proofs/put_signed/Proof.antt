@@ -1,0 +1,63 @@
+use Prim.Native.Nat.{ℕ, suc, _-_}
+use mathlib.Core.Path.{_≡_, sym, ap, _∙_}
+use mathlib.Core.List.{_∷_}
+use native.Mathlib.Omega.{arith}
+use lib.ListN.{length}
+use borrow.Author.Needs.{needs}
+use Rattle.width.specs.Reduce.{signed}
+use Rattle.text.specs.Lines.{decimal, written}
+use Rattle.text.proofs.WriteLaws.{wrote-more, wrote-as, minus-text, plus-text}
+use Rattle.text.proofs.put_signed.Statement.{statement}
+use Rattle.text.proofs.put_signed.Tie as tie
+
+-- the text of the number, with a minus and without
+below : (c : tie.Then1) → written (signed (c .before .before .before .args .q) (c .before .before .before .args .x)) ≡ 45 ∷ decimal (suc (c .before .before .before .args .q - suc (c .before .before .before .args .x)))
+below c = minus-text (c .before .before .before .args .q) (c .before .before .before .args .x) (sym (c .before .is-minus .ensures) ∙ c .if1 .taken)
+
+above : (c : tie.Else1) → written (signed (c .before .before .before .args .q) (c .before .before .before .args .x)) ≡ decimal (c .before .before .before .args .x)
+above c = plus-text (c .before .before .before .args .q) (c .before .before .before .args .x) (sym (c .before .is-minus .ensures) ∙ c .if1 .left)
+
+is-minus-requires : tie.Need-is-minus-requires
+is-minus-requires c κs = search needs
+
+put-byte-requires : tie.Need-put-byte-requires
+put-byte-requires c κs = omega (arith, c .before .before .before .before .pre, ap length (below (c .before)))
+
+magnitude-requires : tie.Need-magnitude-requires
+magnitude-requires c κs = search needs
+
+put-decimal-requires : tie.Need-put-decimal-requires
+put-decimal-requires c κs =
+    let w = c .before .before .before .before .put-byte .ensures in
+    omega (arith, c .before .before .before .before .before .before .before .before .before .pre, ap (λ (y : ℕ). length (decimal y)) (c .magnitude .ensures), w .to, w .same, ap length (below (c .before .before .before .before .before .before)))
+
+same-length : tie.Need-same-length
+same-length c = search needs
+
+returns : tie.Need-returns
+returns c =
+    wrote-more (ap (λ (y : ℕ). 45 ∷ decimal y) (c .before .before .before .magnitude .ensures) ∙ sym (below (c .before .before .before .before .before .before .before .before .before)))
+    (c .before .before .before .before .before .before .before .put-byte .ensures) (c .before .before .put-decimal .ensures)
+
+put-decimal-requires-2 : tie.Need-put-decimal-requires-2
+put-decimal-requires-2 c κs = omega (arith, c .before .before .before .before .pre, ap length (above (c .before)))
+
+same-length-2 : tie.Need-same-length-2
+same-length-2 c = search needs
+
+returns-2 : tie.Need-returns-2
+returns-2 c = wrote-as (sym (above (c .before .before .before .before))) (c .before .before .put-decimal2 .ensures)
+
+pub put-signed-spec : {M : Type 1} → statement M
+put-signed-spec =
+    tie.close
+    (tie.spec
+    is-minus-requires
+    put-byte-requires
+    magnitude-requires
+    put-decimal-requires
+    same-length
+    returns
+    put-decimal-requires-2
+    same-length-2
+    returns-2)

@@ -1,0 +1,120 @@
+use Prim.Native.Nat.{ℕ, _≤_, _<_, _-_}
+use mathlib.Core.Path.{subst, _≡_, refl, ap, _∙_}
+use mathlib.Core.List.{List, [], _∷_}
+use mathlib.Core.Option.{Option}
+use native.Mathlib.Omega.{arith}
+use lib.ListN.{length, take, drop, length-set}
+use borrow.Author.Needs.{needs}
+use Rattle.text.specs.Parts.{heldIn, onto, ahead, onward}
+use Rattle.text.proofs.ReadLaws.{onto-nil, read-more, read-end, read-many, read-bad}
+use Rattle.text.proofs.read_all.Statement.{statement}
+use Rattle.text.proofs.read_all.Tie as tie
+
+abbrev Inv-loop : tie.InvT-loop
+Inv-loop text out₀ at₀ n₀ out at n = (at ≤ length text) × (n ≤ length out) × (length out ≡ length out₀) × (heldIn text ≡ onto (take n out) (heldIn (drop at text)))
+
+abbrev μ-loop : tie.MeasureT-loop
+μ-loop text out₀ at₀ n₀ out at n = length text - at
+
+-- the numbers of the text, and those ahead
+abbrev all : tie.At-loop Inv-loop μ-loop → Option (List ℕ)
+all c = heldIn (c .before .before .before .args .text .now)
+
+abbrev here : tie.At-loop Inv-loop μ-loop → Option (List ℕ)
+here c = heldIn (drop (c .loop .at) (c .before .before .before .args .text .now))
+
+-- a number stands next
+abbrev next : tie.After-held Inv-loop μ-loop → Option (List ℕ)
+next c = heldIn (drop (c .held .given .0 .1 .0) (c .before .before .before .before .before .before .args .text .now))
+
+read-next : (c : tie.After-held Inv-loop μ-loop) → here (c .before .before .before) ≡ onto (c .held .given .0 .0 ∷ []) (next c)
+read-next c = c .before .before .next-number .ensures .0 ∙ ap (ahead (c .before .before .before .before .before .before .args .text .now)) (c .held .given .1)
+
+read-onward : (c : tie.After-held Inv-loop μ-loop) → (c .before .before .before .loop .at < c .held .given .0 .1 .0) × (c .held .given .0 .1 .0 ≤ length (c .before .before .before .before .before .before .args .text .now)) × (c .held .given .0 .0 ≤ 8589934592)
+read-onward c = subst (onward (c .before .before .before .before .before .before .args .text .now) (c .before .before .before .loop .at)) (c .held .given .1) (c .before .before .next-number .ensures .1)
+
+loop-holds : tie.Need-loop-holds Inv-loop μ-loop
+loop-holds c = (omega arith, omega arith, refl, onto-nil (heldIn (c .before .before .args .text .now)))
+
+next-number-requires : tie.Need-next-number-requires Inv-loop μ-loop
+next-number-requires c κs = omega arith
+
+enum-known-held : tie.Need-enum-known-held Inv-loop μ-loop
+enum-known-held c = search needs
+
+same-length : tie.Need-same-length Inv-loop μ-loop
+same-length c = omega arith
+
+returns : tie.Need-returns Inv-loop μ-loop
+returns c =
+    let d = c .before .before in
+    let l = d .before .before .before .loop in
+    read-many (all (d .before .before .before)) (here (d .before .before .before)) (l .out) (l .n) (l .inv .3) (next d) (d .held .given .0 .0) (read-next d) (c .if1 .taken)
+
+mul-out : tie.Need-mul-out Inv-loop μ-loop
+mul-out c = search needs
+
+slice-write-out : tie.Need-slice-write-out Inv-loop μ-loop
+slice-write-out c = omega arith
+
+add-n : tie.Need-add-n Inv-loop μ-loop
+add-n c = omega arith
+
+loop-less : tie.Need-loop-less Inv-loop μ-loop
+loop-less c = let w = read-onward (c .before .before) in omega arith
+
+loop-again : tie.Need-loop-again Inv-loop μ-loop
+loop-again c =
+    let d = c .before .before in
+    let l = d .before .before .before .loop in
+    let x = d .held .given .0 .0 in
+    let k = length-set (l .out) (l .n) x in
+    let h : l .n < length (l .out) = omega (arith, c .if1 .left) in
+    (read-onward d .1, omega arith, omega arith, read-more (all (d .before .before .before)) (here (d .before .before .before)) (l .out) (l .n) (l .inv .3) (next d) x (read-next d) h)
+
+enum-told : tie.Need-enum-told Inv-loop μ-loop
+enum-told c = search needs
+
+same-length-2 : tie.Need-same-length-2 Inv-loop μ-loop
+same-length-2 c = omega arith
+
+returns-2 : tie.Need-returns-2 Inv-loop μ-loop
+returns-2 c =
+    let d = c .before .before .before in
+    let l = d .loop in
+    (l .inv .1, read-end (all d) (here d) (l .out) (l .n) (l .inv .3) (c .before .before .next-number .ensures .0 ∙ ap (ahead (d .before .before .before .args .text .now)) (c .enum-told .given .1)))
+
+enum-told-2 : tie.Need-enum-told-2 Inv-loop μ-loop
+enum-told-2 c = search needs
+
+same-length-3 : tie.Need-same-length-3 Inv-loop μ-loop
+same-length-3 c = omega arith
+
+returns-3 : tie.Need-returns-3 Inv-loop μ-loop
+returns-3 c =
+    let d = c .before .before .before in
+    let l = d .loop in
+    read-bad (all d) (here d) (l .out) (l .n) (l .inv .3) (c .before .before .next-number .ensures .0 ∙ ap (ahead (d .before .before .before .args .text .now)) (c .enum-told2 .given .1))
+
+pub read-all-spec : {M : Type 1} → statement M
+read-all-spec =
+    tie.close
+    (tie.spec
+    Inv-loop
+    μ-loop
+    loop-holds
+    next-number-requires
+    enum-known-held
+    same-length
+    returns
+    mul-out
+    slice-write-out
+    add-n
+    loop-less
+    loop-again
+    enum-told
+    same-length-2
+    returns-2
+    enum-told-2
+    same-length-3
+    returns-3)

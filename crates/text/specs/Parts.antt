@@ -1,0 +1,99 @@
+-- What the contracts of inner functions name; a reader of Reply.antt need not read it.
+use Prim.Native.Nat.{ℕ, zero, suc, _+_, _*_, _-_, _≤_, _<_, min}
+use mathlib.Core.Path.{_≡_}
+use mathlib.Core.Bool.{Bool, cond, _&&_}
+use mathlib.Core.List.{List, [], _∷_, _++_, map}
+use mathlib.Core.Option.{Option, none, some, Option·map}
+use lib.Dec.{leb, ltb}
+use lib.IntN.{ℤ, pos, negsuc}
+use lib.ListN.{length, take, drop}
+use Rattle.width.specs.Reduce.{signed}
+use Rattle.text.specs.declared.Count.{Count}
+use Rattle.text.specs.declared.Count.the-variants.{All, Many}
+use Rattle.text.specs.declared.Parsed.{Parsed}
+use Rattle.text.specs.declared.Parsed.the-variants.{Posed, Refused}
+use Rattle.text.specs.declared.Word.{Word}
+use Rattle.text.specs.declared.Word.the-variants.{Value, Other}
+use Rattle.text.specs.declared.Token.{Token}
+use Rattle.text.specs.declared.Token.the-variants.{Number, End, Bad}
+use Rattle.text.specs.Text.{numbers}
+use Rattle.text.specs.Problem.{Problem}
+
+-- ---- numbers as the code holds them
+
+-- z + 2^32, but no less than 0 and no more than 2^33: no number that a problem may have is changed by that
+abbrev pub held : ℤ → ℕ
+held (pos n) = 4294967296 + min n 4294967296
+held (negsuc n) = 4294967296 - min (suc n) 4294967296
+
+-- the numbers of a text
+unfoldable pub heldIn : List ℕ → Option (List ℕ)
+heldIn t = Option·map (map held) (numbers t)
+
+-- the digits of a word: a number from 0 up, but no more than 2^32
+abbrev pub digitsWord : Option ℕ → Word
+digitsWord none = Other
+digitsWord (some v) = Value (min v 4294967296)
+
+-- a word
+abbrev pub heldWord : Option ℤ → Word
+heldWord none = Other
+heldWord (some z) = Value (held z)
+
+-- numbers before those of a text
+abbrev pub onto : List ℕ → Option (List ℕ) → Option (List ℕ)
+onto l ls = Option·map (λ t. l ++ t) ls
+
+-- what a token says of the text s from its start on
+abbrev pub ahead : List ℕ → Token → Option (List ℕ)
+ahead s End = some []
+ahead s Bad = none
+ahead s (Number x next) = onto (x ∷ []) (heldIn (drop next s))
+
+-- a number lies after `at`, within the text
+abbrev pub onward : List ℕ → ℕ → Token → Type 0
+onward s at End = Unit
+onward s at Bad = Unit
+onward s at (Number x next) = (at < next) × (next ≤ length s) × (x ≤ 8589934592)
+
+-- all numbers stand at the front of out; or there are none, or more than out has room for
+abbrev pub counted : Option (List ℕ) → List ℕ → Count → Type 0
+counted ls out (All n) = (n ≤ length out) × (ls ≡ some (take n out))
+counted ls out Many = ((l : List ℕ) → ls ≡ some l → length out < length l)
+
+-- the number from 0 up that is held as x, and a large one where that is below 0
+abbrev pub sizeHeld : ℕ → ℕ
+sizeHeld x = cond (leb 4294967296 x) (x - 4294967296) 8589934592
+
+-- the number that is held as x is from -h to h - 1
+abbrev pub inside : ℕ → ℕ → Bool
+inside h x = leb (4294967296 - h) x && ltb x (4294967296 + h)
+
+-- ---- a problem as the code returns it
+
+abbrev pub parsedAs : Option Problem → Parsed
+parsedAs none = Refused
+parsedAs (some p) = Posed (p .sew) (p .factor) (p .m) (p .k) (p .n)
+
+-- the elements of A and then of B, as the code holds them, stand in out from 5 on
+abbrev pub elementsIn : Option Problem → List ℕ → Type 0
+elementsIn none out = Unit
+elementsIn (some p) out = map held (p .a ++ p .b) ≡ take (p .m * p .k + p .k * p .n) (drop 5 out)
+
+-- ---- writing
+
+-- a writer went from at to next: what stood before at stands, t follows it, and what stands after t is as it was
+pub record Wrote (entry : List ℕ) (at : ℕ) (exit : List ℕ) (next : ℕ) (t : List ℕ) : Type 0 where
+  pub to : next ≡ at + length t
+  pub same : length exit ≡ length entry
+  pub text : take next exit ≡ take at entry ++ t
+  pub rest : drop next exit ≡ drop next entry
+
+-- the signed numbers that the residues xs stand for, at the modulus q
+abbrev pub signedAll : ℕ → List ℕ → List ℤ
+signedAll q xs = map (signed q) xs
+
+-- the rows of a matrix that stands row by row
+abbrev pub rowsOf : ℕ → ℕ → List ℤ → List (List ℤ)
+rowsOf zero cols zs = []
+rowsOf (suc rows) cols zs = take cols zs ∷ rowsOf rows cols (drop cols zs)

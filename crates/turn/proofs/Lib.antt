@@ -1,0 +1,4 @@
+-- Laws for the proofs of the functions.
+pub mod StartLaws
+pub mod TurnLaws
+pub mod WholeLaws

@@ -1,0 +1,157 @@
+-- For the start of a run: what a plan's numbers bound, and what its tests and checks decide, one after another.
+use mathlib.Core.Path.{_≡_, ap, ap₂, _∙_}
+use mathlib.Core.Bool.{Bool, true, false, cond}
+use mathlib.Core.List.{List, [], _∷_}
+use Prim.Native.Nat.{ℕ, _*_, _/_, _≤_}
+use native.Mathlib.Nat.{mul-le-mul, mul-le-mul-left, div-mul-le-self}
+use native.Mathlib.Omega.{arith}
+use lib.ListN.{length}
+use lib.Dec.{leb}
+use borrow.Author.Tests.{leb-true}
+use Rattle.machine.specs.declared.Answer.the-variants.{BadArguments, OutsideMemory, Overlap}
+use Rattle.machine.specs.Tests.{isIn}
+use Rattle.machine.specs.Answers.{Check, _otherwise_, verdict, isDone}
+use Rattle.machine.specs.Geometry.{elen, Parameters, Bench, parameters}
+use Rattle.machine.specs.Memory.{inside, unsealed}
+use Rattle.machine.specs.Faults.{sound}
+use Rattle.machine.specs.Setting.{smaller}
+use Rattle.machine.proofs.TestLaws.{Each, every-each}
+use Rattle.run.specs.declared.Plan.{Plan}
+use Rattle.run.specs.Plan.{narrow, wide, aAt, bAt, cAt}
+use Rattle.run.specs.Start.{format, planned, lying, distinct, apart, separate, RunStart, startRun, freshRun, noRun}
+use Rattle.run.proofs.AskingLaws.{fails, last, sews, factors, plan-small}
+
+-- ---- the numbers of a plan
+
+module _ (P : Plan) (ok : planned P ≡ true) where
+  numbers : Each (format (P .sew) (P .factor) ∷ leb (P .m) 1024 ∷ leb (P .k) 1024 ∷ leb (P .n) 1024 ∷ [])
+  unfolding planned
+  numbers = every-each (format (P .sew) (P .factor) ∷ leb (P .m) 1024 ∷ leb (P .k) 1024 ∷ leb (P .n) 1024 ∷ []) ok
+
+  pub plan-sizes : (P .m ≤ 1024) × (P .k ≤ 1024) × (P .n ≤ 1024)
+  plan-sizes = (leb-true (P .m) 1024 (numbers .1 .0), leb-true (P .k) 1024 (numbers .1 .1 .0), leb-true (P .n) 1024 (numbers .1 .1 .1 .0))
+
+  -- an element has at most 4 bytes
+  pub wide-most : P .factor * (P .sew / 8) ≤ 4
+  unfolding format
+  wide-most =
+      let t = every-each (isIn (P .sew) sews ∷ isIn (P .factor) factors ∷ leb (P .factor * P .sew) elen ∷ []) (numbers .0) in
+      omega (arith, leb-true (P .factor * P .sew) elen (t .1 .1 .0), mul-le-mul-left (P .factor) (div-mul-le-self (P .sew) 8))
+
+  -- so a row has at most 4,096
+  pub narrow-row : (elements : ℕ) → elements ≤ 1024 → elements * (P .sew / 8) ≤ 4096
+  narrow-row elements h = let n : P .sew / 8 ≤ 4 = omega (arith, plan-small P ok .0) in mul-le-mul h n
+
+  pub wide-row : P .n * (P .factor * (P .sew / 8)) ≤ 4096
+  wide-row = mul-le-mul (plan-sizes .2) wide-most
+
+-- ---- a test by the bytes of rows, of which a call counted as many as the plan gives
+
+pub counted : (test : ℕ → Bool) {n n′ : ℕ} {r : Bool} → n ≡ n′ → r ≡ test n → r ≡ test n′
+counted test e h = h ∙ ap test e
+
+pub counted-both : (test : ℕ → ℕ → Bool) {n n′ o o′ : ℕ} {r : Bool} → n ≡ n′ → o ≡ o′ → r ≡ test n o → r ≡ test n′ o′
+counted-both test e f h = h ∙ ap₂ test e f
+
+-- ---- whether the matrices lie in memory
+
+module _ (P : Plan) (mem : List ℕ) where
+  -- by the bytes of a row
+  abbrev pub aInside : ℕ → Bool
+  aInside n = inside (length mem) (P .a .address) (P .a .stride) (P .m) n
+
+  abbrev pub bInside : ℕ → Bool
+  bInside n = inside (length mem) (P .b .address) (P .b .stride) (P .k) n
+
+  abbrev pub cInside : ℕ → Bool
+  cInside n = inside (length mem) (P .c .address) (P .c .stride) (P .m) n
+
+  -- and of as many as the plan gives it
+  abbrev pub aIn : Bool
+  aIn = aInside (P .k * narrow P)
+
+  abbrev pub bIn : Bool
+  bIn = bInside (P .n * narrow P)
+
+  abbrev pub cIn : Bool
+  cIn = cInside (P .n * wide P)
+
+  pub a-outside : aIn ≡ false → false ≡ lying P mem
+  unfolding lying
+  a-outside h = fails [] tt aIn h (bIn ∷ cIn ∷ [])
+
+  pub b-outside : aIn ≡ true → bIn ≡ false → false ≡ lying P mem
+  unfolding lying
+  b-outside a h = fails (aIn ∷ []) (a, tt) bIn h (cIn ∷ [])
+
+  pub c-decides : aIn ≡ true → bIn ≡ true → cIn ≡ lying P mem
+  unfolding lying
+  c-decides a b = last (aIn ∷ bIn ∷ []) (a, (b, tt)) cIn
+
+  pub all-inside : lying P mem ≡ true → Each (aIn ∷ bIn ∷ cIn ∷ [])
+  unfolding lying
+  all-inside h = every-each (aIn ∷ bIn ∷ cIn ∷ []) h
+
+-- ---- whether C lies apart from the rest
+
+module _ (P : Plan) where
+  -- by the bytes of a row of A or B, and of C
+  abbrev pub cDistinct : ℕ → Bool
+  cDistinct o = distinct (cAt P) (P .m) o
+
+  abbrev pub aApart : ℕ → ℕ → Bool
+  aApart n o = apart (aAt P) (P .m) n (cAt P) (P .m) o
+
+  abbrev pub bApart : ℕ → ℕ → Bool
+  bApart n o = apart (bAt P) (P .k) n (cAt P) (P .m) o
+
+  abbrev pub cUnsealed : Parameters → ℕ → Bool
+  cUnsealed M o = unsealed M (P .c .address) (P .c .stride) (P .m) o
+
+  -- and of as many as the plan gives it
+  abbrev pub rowsDiffer : Bool
+  rowsDiffer = cDistinct (P .n * wide P)
+
+  abbrev pub fromA : Bool
+  fromA = aApart (P .k * narrow P) (P .n * wide P)
+
+  abbrev pub fromB : Bool
+  fromB = bApart (P .n * narrow P) (P .n * wide P)
+
+  abbrev pub fromSeal : Parameters → Bool
+  fromSeal M = cUnsealed M (P .n * wide P)
+
+  module _ (M : Parameters) where
+    pub rows-meet : rowsDiffer ≡ false → false ≡ separate M P
+    unfolding separate
+    rows-meet h = fails [] tt rowsDiffer h (fromA ∷ fromB ∷ fromSeal M ∷ [])
+
+    pub meets-a : rowsDiffer ≡ true → fromA ≡ false → false ≡ separate M P
+    unfolding separate
+    meets-a r h = fails (rowsDiffer ∷ []) (r, tt) fromA h (fromB ∷ fromSeal M ∷ [])
+
+    pub meets-b : rowsDiffer ≡ true → fromA ≡ true → fromB ≡ false → false ≡ separate M P
+    unfolding separate
+    meets-b r a h = fails (rowsDiffer ∷ fromA ∷ []) (r, (a, tt)) fromB h (fromSeal M ∷ [])
+
+    pub seal-decides : rowsDiffer ≡ true → fromA ≡ true → fromB ≡ true → fromSeal M ≡ separate M P
+    unfolding separate
+    seal-decides r a b = last (rowsDiffer ∷ fromA ∷ fromB ∷ []) (r, (a, (b, tt))) (fromSeal M)
+
+-- ---- what a start leaves, by its four tests
+
+module _ (P : Plan) (B : Bench) where
+  abbrev checked : (s p l d : Bool) → List Check
+  checked s p l d = (s otherwise BadArguments) ∷ (p otherwise BadArguments) ∷ (l otherwise OutsideMemory) ∷ (d otherwise Overlap) ∷ []
+
+  abbrev out : (s p l d : Bool) → RunStart
+  out s p l d = record {
+    answer = verdict (checked s p l d);
+    run = cond (isDone (verdict (checked s p l d))) (freshRun (B .machine) P) (noRun P);
+    bench = B;
+  }
+
+  pub started-by : {s p l d : Bool} → sound (B .machine) (B .registers) (B .marks) ≡ s → planned P ≡ p → lying P (B .memory) ≡ l
+      → separate (parameters smaller (B .machine)) P ≡ d → out s p l d ≡ startRun smaller P B
+  unfolding startRun
+  started-by hs hp hl hd = rw (hs, hp, hl, hd)

@@ -1,0 +1,135 @@
+-- A turn by the cases of what is asked for; what turns leave once one is refused; states that are not at fault.
+use mathlib.Core.Path.{_≡_, refl, sym, ap, ap₂, _∙_}
+use mathlib.Core.Bool.{Bool, true, false, cond}
+use mathlib.Core.List.{List, [], _∷_}
+use Prim.Native.Nat.{ℕ, zero, suc, _+_, _-_, _≤_}
+use native.Mathlib.Nat.{add-zero}
+use native.Mathlib.Numerals.{add-one}
+use native.Mathlib.Omega.{arith}
+use Rattle.machine.specs.declared.Answer.{Answer}
+use Rattle.machine.specs.declared.Answer.the-variants.{BadArguments}
+use Rattle.machine.specs.Answers.{isDone}
+use Rattle.machine.specs.Geometry.{Bench, benchOf}
+use Rattle.machine.specs.Setting.{smaller}
+use Rattle.machine.specs.Faults.{soundBench}
+use Rattle.machine.specs.Step.{Outcome, step}
+use Rattle.machine.proofs.TestLaws.{false-true}
+use Rattle.machine.proofs.StepLaws.{smaller-grants}
+use Rattle.machine.proofs.Refusal.{refusal-changes-nothing}
+use Rattle.machine.proofs.NoFault.{step-sound}
+use Rattle.step.proofs.StepParts.{step-fault}
+use Rattle.run.specs.declared.Run.{Run}
+use Rattle.run.specs.declared.Handed.{Handed}
+use Rattle.run.specs.declared.Asked.{Asked}
+use Rattle.run.specs.Words.{Op}
+use Rattle.run.specs.Encoding.{own, handedFor}
+use Rattle.run.specs.Turn.{ask, asked, askWith, handsOut, moved, Running, running, turn, turnWith, TurnOutcome, turnOutcome, TurnsOutcome, turns, afterTurns}
+
+-- ---- one turn
+
+-- what a turn answers and leaves
+abbrev pub leaving : Answer → Running → TurnOutcome
+leaving a r = record { answer = a; after = r }
+
+-- no step is handed out
+pub turn-unasked : (R : Run) (B : Bench) (q : Asked) → q ≡ asked (ask smaller R) → isDone (q .answer) ≡ false
+    → leaving (q .answer) (running R B) ≡ turnOutcome smaller (running R B)
+turn-unasked R B q = go (handsOut smaller R)
+  where
+    go : (os : List Op) → q ≡ asked (askWith smaller R os) → isDone (q .answer) ≡ false
+        → leaving (q .answer) (running R B) ≡ leaving (turnWith smaller (running R B) os .answer) (turnWith smaller (running R B) os .after)
+    go [] e d = ap (λ (q : Asked). leaving (q .answer) (running R B)) e
+    go (o ∷ os) e d = absurd (false-true (sym d ∙ ap (λ (q : Asked). isDone (q .answer)) e))
+
+-- one is, and is carried out: the run moves on if that is answered 0
+pub turn-asked : (R : Run) (B : Bench) (q : Asked) → q ≡ asked (ask smaller R) → isDone (q .answer) ≡ true
+    → (a : Answer) (B′ : Bench) → a ≡ step (q .handed .word) (own (q .handed)) B .answer → B′ ≡ step (q .handed .word) (own (q .handed)) B .bench
+    → (t : Bool) → isDone a ≡ t → leaving a (running (cond t (q .run) R) B′) ≡ turnOutcome smaller (running R B)
+turn-asked R B q e d a B′ ea eb t et =
+    ap (λ (t : Bool). leaving a (running (cond t (q .run) R) B′)) (sym et)
+    ∙ ap₂ (λ (a : Answer) (B : Bench). leaving a (running (cond (isDone a) (q .run) R) B)) ea eb
+    ∙ go (handsOut smaller R) e
+  where
+    carried : Asked → TurnOutcome
+    carried q = let out : Outcome = step (q .handed .word) (own (q .handed)) B in leaving (out .answer) (running (cond (isDone (out .answer)) (q .run) R) (out .bench))
+
+    go : (os : List Op) → q ≡ asked (askWith smaller R os) → carried q ≡ leaving (turnWith smaller (running R B) os .answer) (turnWith smaller (running R B) os .after)
+    go [] e = absurd (false-true (sym (ap (λ (q : Asked). isDone (q .answer)) e) ∙ d))
+    go (o ∷ os) e = ap carried e
+
+-- a turn that is refused leaves everything
+pub refused-stays : (r : Running) → isDone (turn smaller r .answer) ≡ false → turn smaller r .after ≡ r
+refused-stays r = go (handsOut smaller (r .run))
+  where
+    step-stays : (h : Handed) (R : Run) → let out : Outcome = step (h .word) (own h) (r .bench) in
+        isDone (out .answer) ≡ false → running (cond (isDone (out .answer)) R (r .run)) (out .bench) ≡ r
+    step-stays h R d =
+        ap₂ (λ (t : Bool) (B : Bench). running (cond t R (r .run)) B) d
+        (refusal-changes-nothing smaller (h .word) (own h) (r .bench) (λ e. false-true (sym d ∙ ap isDone e)) .0)
+
+    go : (os : List Op) → isDone (turnWith smaller r os .answer) ≡ false → turnWith smaller r os .after ≡ r
+    go [] d = refl
+    go (o ∷ os) d = step-stays (handedFor (r .run .plan) o) _ d
+
+-- a state that is not at fault stays so
+pub turn-sound : (r : Running) → soundBench (r .bench) ≡ true → soundBench (turn smaller r .after .bench) ≡ true
+turn-sound r s = go (handsOut smaller (r .run))
+  where
+    go : (os : List Op) → soundBench (turnWith smaller r os .after .bench) ≡ true
+    go [] = s
+    go (o ∷ os) = let h : Handed = handedFor (r .run .plan) o in step-sound smaller smaller-grants (h .word) (own h) (r .bench) s
+
+-- in a state at fault every turn is refused, whether or not a step is handed out
+pub turn-fault : (R : Run) (B : Bench) → soundBench B ≡ false → leaving BadArguments (running R B) ≡ turnOutcome smaller (running R B)
+turn-fault R B f = go (handsOut smaller R)
+  where
+    step-refused : (h : Handed) (R′ : Run) → let out : Outcome = step (h .word) (own h) B in
+        leaving BadArguments (running R B) ≡ leaving (out .answer) (running (cond (isDone (out .answer)) R′ R) (out .bench))
+    step-refused h R′ = ap (λ (out : Outcome). leaving (out .answer) (running (cond (isDone (out .answer)) R′ R) (out .bench))) (sym (step-fault (h .word) (own h) B f))
+
+    go : (os : List Op) → leaving BadArguments (running R B) ≡ leaving (turnWith smaller (running R B) os .answer) (turnWith smaller (running R B) os .after)
+    go [] = refl
+    go (o ∷ os) = step-refused (handedFor (R .plan) o) (moved smaller R)
+
+-- ---- several turns
+
+-- what turns answer and leave
+abbrev pub taking : ℕ → Running → TurnsOutcome
+taking n r = record { count = n; after = r }
+
+-- one turn more
+abbrev further : TurnsOutcome → TurnsOutcome
+further t = taking (t .count + cond (isDone (turn smaller (t .after) .answer)) 1 0) (turn smaller (t .after) .after)
+
+further-refused : (t : TurnsOutcome) → isDone (turn smaller (t .after) .answer) ≡ false → t ≡ further t
+further-refused t d =
+    ap₂ taking (sym (add-zero (t .count)) ∙ ap (λ (b : Bool). t .count + cond b 1 0) (sym d)) (sym (refused-stays (t .after) d))
+
+-- once a turn is refused, so are all that follow
+pub turns-stop : (r : Running) (i n : ℕ) → i ≤ n → isDone (turn smaller (afterTurns smaller r i) .answer) ≡ false → turns smaller r i ≡ turns smaller r n
+turns-stop r i n l d = go (n - i) n (omega arith)
+  where
+    go : (k n : ℕ) → n ≡ i + k → turns smaller r i ≡ turns smaller r n
+    go zero n e = let z : i ≡ n = omega arith in ap (turns smaller r) z
+    go (suc k) zero e = absurd (omega arith)
+    go (suc k) (suc n) e = further-refused (turns smaller r i) d ∙ ap further (go k n (omega arith))
+
+-- a turn after n that were answered 0, from what it answers and leaves
+pub turns-more : (r s : Running) (n : ℕ) → taking n s ≡ turns smaller r n → (t : TurnOutcome) → t ≡ turnOutcome smaller s → isDone (t .answer) ≡ true
+    → taking (n + 1) (t .after) ≡ turns smaller r (n + 1)
+turns-more r s n e t h d =
+    ap₂ taking (ap (λ (b : Bool). n + cond b 1 0) (sym d ∙ ap (λ (o : TurnOutcome). isDone (o .answer)) h)) (ap (λ (o : TurnOutcome). o .after) h)
+    ∙ ap further e ∙ ap (turns smaller r) (sym (add-one n))
+
+-- and one that is refused, whose slices the code keeps beside the run and the machine as they were
+pub turns-refused : (r s : Running) (n limit : ℕ) → n ≤ limit → taking n s ≡ turns smaller r n → (t : TurnOutcome) → t ≡ turnOutcome smaller s → isDone (t .answer) ≡ false
+    → taking n (running (s .run) (benchOf (s .bench .machine) (t .after .bench .registers) (t .after .bench .marks) (t .after .bench .memory))) ≡ turns smaller r limit
+turns-refused r s n limit l e t h d =
+    let f : isDone (turn smaller s .answer) ≡ false = sym (ap (λ (o : TurnOutcome). isDone (o .answer)) h) ∙ d in
+    let k : t .after ≡ s = ap (λ (o : TurnOutcome). o .after) h ∙ refused-stays s f in
+    ap (λ (x : Running). taking n (running (s .run) (benchOf (s .bench .machine) (x .bench .registers) (x .bench .marks) (x .bench .memory)))) k
+    ∙ e ∙ turns-stop r n limit l (ap (λ (o : TurnsOutcome). isDone (turn smaller (o .after) .answer)) (sym e) ∙ f)
+
+-- in a state at fault all are
+pub turns-fault : (R : Run) (B : Bench) (n : ℕ) → soundBench B ≡ false → taking 0 (running R B) ≡ turns smaller (running R B) n
+turns-fault R B n f = turns-stop (running R B) 0 n (omega arith) (ap (λ (o : TurnOutcome). isDone (o .answer)) (sym (turn-fault R B f)))

@@ -1,0 +1,54 @@
+use mathlib.Core.Path.{sym, _∙_}
+use borrow.Author.Tests.{not-true, not-false}
+use Rattle.machine.specs.Geometry.{benchOf}
+use Rattle.turn.proofs.TurnLaws.{turns-fault}
+use borrow.Author.Needs.{needs}
+use Rattle.turn.proofs.turns.Statement.{statement}
+use Rattle.turn.proofs.turns.Tie as tie
+
+is-sound-requires : tie.Need-is-sound-requires
+is-sound-requires c κs = search needs
+
+same-length : tie.Need-same-length
+same-length c = search needs
+
+same-length-2 : tie.Need-same-length-2
+same-length-2 c = search needs
+
+returns : tie.Need-returns
+returns c =
+    let d = c .before in
+    let a = d .before .before .before .before .before .before .args in
+    turns-fault (a .run) (benchOf (a .m) (a .registers .now) (a .marks .now) (a .memory .now)) (a .limit)
+    (sym (d .is-sound .ensures) ∙ not-true (d .is-sound .result) (c .if1 .taken))
+
+take-all-requires : tie.Need-take-all-requires
+take-all-requires c κs =
+    let e = c .before .before .before in
+    sym (e .before .is-sound .ensures) ∙ not-false (e .before .is-sound .result) (e .if1 .left)
+
+same-length-3 : tie.Need-same-length-3
+same-length-3 c = search needs
+
+same-length-4 : tie.Need-same-length-4
+same-length-4 c = search needs
+
+same-length-5 : tie.Need-same-length-5
+same-length-5 c = search needs
+
+returns-2 : tie.Need-returns-2
+returns-2 c = search needs
+
+pub turns-spec : {M : Type 1} → statement M
+turns-spec =
+    tie.close
+    (tie.spec
+    is-sound-requires
+    same-length
+    same-length-2
+    returns
+    take-all-requires
+    same-length-3
+    same-length-4
+    same-length-5
+    returns-2)

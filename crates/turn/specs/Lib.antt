@@ -1,0 +1,1 @@
+-- The definitions that this crate's contracts cite stand in run/specs/.

@@ -1,0 +1,108 @@
+// The tests of a start on memory: that the matrices lie in it, and that C lies apart from the rest.
+use machine::Machine;
+use run::Plan;
+use run::overlap::rows_apart;
+use run::overlap::rows_distinct;
+use tile::address::rows_inside;
+use tile::address::rows_unsealed;
+ghost use mathlib.Core.Path.{_≡_};
+ghost use mathlib.Core.Bool.{true};
+ghost use Prim.Native.Nat.{_*_, _≤_};
+ghost use Rattle.machine.specs.Geometry.{parameters};
+ghost use Rattle.machine.specs.Setting.{smaller};
+ghost use Rattle.run.specs.Plan.{narrow, wide};
+ghost use Rattle.run.specs.Start.{planned, lying, separate};
+
+// The bytes of a row of so many elements of A or B.
+fn narrow_row(plan: Plan, elements: u64) -> usize
+    requires { ⌜ planned plan ≡ true ⌝ }
+    requires { ⌜ elements ≤ 1024 ⌝ }
+    ensures { λ r. ⌜ (r ≡ elements * narrow plan) × (r ≤ 4096) ⌝ }
+{
+    elements as usize * (plan.sew / 8) as usize
+}
+
+// The bytes of a row of C.
+fn wide_row(plan: Plan) -> usize
+    requires { ⌜ planned plan ≡ true ⌝ }
+    ensures { λ r. ⌜ (r ≡ plan .n * wide plan) × (r ≤ 4096) ⌝ }
+{
+    plan.n as usize * (plan.factor * (plan.sew / 8)) as usize
+}
+
+// Whether every element of the three matrices lies in memory.
+pub fn is_lying(plan: Plan, memory: &[u8]) -> bool
+    requires { ⌜ planned plan ≡ true ⌝ }
+    ensures { λ r. ⌜ r ≡ lying plan (now (memory .entry)) ⌝ }
+{
+    let len = memory.len();
+    let a = plan.a;
+    let m = plan.m as usize;
+    if !rows_inside(
+        len,
+        a.address as usize,
+        a.stride,
+        m,
+        narrow_row(plan, plan.k),
+    ) {
+        return false;
+    }
+    let b = plan.b;
+    let k = plan.k as usize;
+    if !rows_inside(
+        len,
+        b.address as usize,
+        b.stride,
+        k,
+        narrow_row(plan, plan.n),
+    ) {
+        return false;
+    }
+    let c = plan.c;
+    rows_inside(len, c.address as usize, c.stride, m, wide_row(plan))
+}
+
+// Whether no byte of C lies in two of its rows, in a row of A or B, or in the seal.
+pub fn is_separate(plan: Plan, m: Machine, memory: &[u8]) -> bool
+    requires { ⌜ planned plan ≡ true ⌝ }
+    requires { ⌜ lying plan (now memory) ≡ true ⌝ }
+    ensures { λ r. ⌜ r ≡ separate (parameters smaller m) plan ⌝ }
+{
+    let len = memory.len();
+    let c = plan.c;
+    let at = c.address as usize;
+    let rows = plan.m as usize;
+    let bytes = wide_row(plan);
+    if !rows_distinct(len, at, c.stride, rows, bytes) {
+        return false;
+    }
+    let a = plan.a;
+    if !rows_apart(
+        len,
+        a.address as usize,
+        a.stride,
+        rows,
+        narrow_row(plan, plan.k),
+        at,
+        c.stride,
+        rows,
+        bytes,
+    ) {
+        return false;
+    }
+    let b = plan.b;
+    if !rows_apart(
+        len,
+        b.address as usize,
+        b.stride,
+        plan.k as usize,
+        narrow_row(plan, plan.n),
+        at,
+        c.stride,
+        rows,
+        bytes,
+    ) {
+        return false;
+    }
+    rows_unsealed(len, m.seal_start, m.seal_length, at, c.stride, rows, bytes)
+}
