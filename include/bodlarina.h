@@ -109,8 +109,9 @@ uint64_t bodlarina_step(uint32_t word,
  *   sew, factor, m, k, n, then address and stride of A, of B and of C, RLEN, MLEN,
  *   and the place: which word comes next (0 to 8 in the order of a run, 9 none), and the row and column of C and
  *   the term of the sums at which its block starts.
- * bodlarina_run_start writes them; the host may read, keep and copy the block. One that no start could have made is
- * answered with 8. */
+ * bodlarina_run_start writes them; the host may read, keep and copy the block. Numbers that no run can have are
+ * answered with 8: lengths or a plan that a start answers with 8, or a place that no run comes to. Where the matrices
+ * lie is judged by the start only; of a block that the host made itself each word is checked as it is carried out. */
 #define BODLARINA_RUN_BYTES 136
 #define BODLARINA_RUN_ROW_AT 112 /* the byte at which the place's row stands: how far a run has come, out of m */
 
@@ -128,7 +129,7 @@ uint64_t bodlarina_run_start(uint64_t sew, uint64_t factor, uint64_t m, uint64_t
 
 /* Hands out the next step and moves the run past it, for a host that carries it out with bodlarina_step: the word,
  * with scalars 10 and 11 as given and the others 0.
- * Answers: 0; 8 past the last step, and for a run block that no start could have made. */
+ * Answers: 0; 8 past the last step, and for a run block of the wrong length or with numbers that no run can have. */
 uint64_t bodlarina_run_next(uint8_t *run, size_t run_len, uint8_t *step, size_t step_len);
 
 /* One turn: hands out the next step and carries it out with scalars of the run's own.
@@ -141,8 +142,8 @@ uint64_t bodlarina_run_turn(uint8_t *run, size_t run_len,
                             uint8_t *memory, size_t memory_len);
 
 /* Up to `turns` turns, stopping before the first that would be refused. RETURNS HOW MANY WERE DONE, not a result; if
- * fewer than asked, bodlarina_run_turn says why. They leave what as many calls of bodlarina_run_turn leave, and are
- * much faster: the state is looked through once. */
+ * fewer than asked, bodlarina_run_turn says why. They leave what as many calls of bodlarina_run_turn leave, and look
+ * through the marks once, not once a turn: that saves most of a short turn on a machine of large MLEN. */
 uint64_t bodlarina_run_turns(uint64_t turns,
                              uint8_t *run, size_t run_len,
                              uint8_t *machine, size_t machine_len,
