@@ -38,6 +38,28 @@ block-out G l j i v e all r h =
     getD-set-other l i r v 0 (λ s. ⊎-elim (λ k. omega arith) (λ k. omega arith) h)
     ∙ all r (⊎-elim (λ k. inl k) (λ k. inr (omega arith)) h)
 
+-- four stores from j on
+pub four-sums : (l : List ℕ) (j : ℕ) → j + 4 ≤ length l → (F : ℕ → ℕ) (v0 v1 v2 v3 : ℕ) → v0 ≡ F 0 → v1 ≡ F 1 → v2 ≡ F 2 → v3 ≡ F 3
+    → ((q : ℕ) → q < 4 → getD (set (set (set (set l j v0) (j + 1) v1) (j + 2) v2) (j + 3) v3) (j + q) 0 ≡ F q)
+    × ((q : ℕ) → (q < j) ⊎ (j + 4 ≤ q) → getD (set (set (set (set l j v0) (j + 1) v1) (j + 2) v2) (j + 3) v3) q 0 ≡ getD l q 0)
+four-sums l j h F v0 v1 v2 v3 e0 e1 e2 e3 =
+    let l1 = set l j v0 in
+    let l2 = set l1 (j + 1) v1 in
+    let l3 = set l2 (j + 2) v2 in
+    let n1 : length l1 ≡ length l = length-set l j v0 in
+    let n2 : length l2 ≡ length l = length-set l1 (j + 1) v1 ∙ n1 in
+    let n3 : length l3 ≡ length l = length-set l2 (j + 2) v2 ∙ n2 in
+    let b1 = block-below F l j 0 j v0 (omega arith) (omega arith) (λ r k. absurd (omega arith)) e0 in
+    let b2 = block-below F l1 j 1 (j + 1) v1 refl (omega (arith, n1)) (λ r k. b1 r (omega arith)) e1 in
+    let b3 = block-below F l2 j 2 (j + 2) v2 refl (omega (arith, n2)) (λ r k. b2 r (omega arith)) e2 in
+    let b4 = block-below F l3 j 3 (j + 3) v3 refl (omega (arith, n3)) (λ r k. b3 r (omega arith)) e3 in
+    let G : ℕ → ℕ = λ r. getD l r 0 in
+    let o1 = block-out G l j j v0 (omega arith) (λ r k. refl) in
+    let o2 = block-out G l1 j (j + 1) v1 (omega arith) o1 in
+    let o3 = block-out G l2 j (j + 2) v2 (omega arith) (λ r k. o2 r (⊎-elim (λ a. inl a) (λ a. inr (omega arith)) k)) in
+    let o4 = block-out G l3 j (j + 3) v3 (omega arith) (λ r k. o3 r (⊎-elim (λ a. inl a) (λ a. inr (omega arith)) k)) in
+    (λ q k. b4 q (omega arith), λ q k. o4 q (⊎-elim (λ a. inl a) (λ a. inr (omega arith)) k))
+
 -- what holds below j, and of the four from j on, holds below j + 4
 pub four-more : (F : ℕ → ℕ) (l : List ℕ) (j : ℕ) → ((q : ℕ) → q < j → getD l q 0 ≡ F q) → ((r : ℕ) → r < 4 → getD l (j + r) 0 ≡ F (j + r))
     → (q : ℕ) → q < j + 4 → getD l q 0 ≡ F q

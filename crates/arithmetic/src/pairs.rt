@@ -21,7 +21,20 @@ fn pair_of(x: u16, y: u16, v: u16, w: u16) -> u32
     )
 }
 
-// Four accumulators from `j` on, each plus one pair.
+// The pair at `from` and `at`. Its second half is read first: LLVM then finds the two products as one instruction.
+fn pair_at(xs: &[u16], from: usize, b: &[u16], at: usize) -> u32
+    requires { ⌜ from + 2 ≤ length (now xs) ⌝ }
+    requires { ⌜ at + 2 ≤ length (now b) ⌝ }
+    ensures { λ r. ⌜ r ≡ reduce (256 ^ 4) (pair (now (xs .entry)) from (now (b .entry)) at) ⌝ }
+{
+    let v = xs[from + 1];
+    let w = b[at + 1];
+    let x = xs[from];
+    let y = b[at];
+    pair_of(x, y, v, w)
+}
+
+// Four accumulators from `j` on, each plus one pair; all are read before any is written.
 fn mac_block(acc: &mut [u32], j: usize, b: &[u16], at: usize, xs: &[u16], from: usize)
     requires { ⌜ j + 4 ≤ length (now acc) ⌝ }
     requires { ⌜ at + 8 ≤ length (now b) ⌝ }
@@ -29,41 +42,37 @@ fn mac_block(acc: &mut [u32], j: usize, b: &[u16], at: usize, xs: &[u16], from: 
     ensures { λ _. ⌜ ((q : ℕ) → q < 4 → getD (now (acc .exit)) (j + q) 0 ≡ reduce (256 ^ 4) (signed (256 ^ 4) (getD (now (acc .entry)) (j + q) 0) +ℤ pair (now (xs .entry)) (from + 2 * q) (now (b .entry)) (at + 2 * q))) ⌝ }
     ensures { λ _. ⌜ ((q : ℕ) → (q < j) ⊎ (j + 4 ≤ q) → getD (now (acc .exit)) q 0 ≡ getD (now (acc .entry)) q 0) ⌝ }
 {
-    let mut q: usize = 0;
-    let mut i = j;
-    let mut o = at;
-    let mut h = from;
-    while q < 4 {
-        let p = pair_of(xs[h], b[o], xs[h + 1], b[o + 1]);
-        acc[i] = std::num::wrapping_add_u32(acc[i], p);
-        i += 1;
-        o += 2;
-        h += 2;
-        q += 1;
-    }
+    let p0 = pair_at(xs, from, b, at);
+    let p1 = pair_at(xs, from + 2, b, at + 2);
+    let p2 = pair_at(xs, from + 4, b, at + 4);
+    let p3 = pair_at(xs, from + 6, b, at + 6);
+    let a0 = std::num::wrapping_add_u32(acc[j], p0);
+    let a1 = std::num::wrapping_add_u32(acc[j + 1], p1);
+    let a2 = std::num::wrapping_add_u32(acc[j + 2], p2);
+    let a3 = std::num::wrapping_add_u32(acc[j + 3], p3);
+    acc[j] = a0;
+    acc[j + 1] = a1;
+    acc[j + 2] = a2;
+    acc[j + 3] = a3;
 }
 
-// Four accumulators from `j` on, each plus all its pairs.
-fn add_block(acc: &mut [u32], j: usize, b: &[u16], xs: &[u16], pairs: usize)
-    requires { ⌜ j + 4 ≤ length (now acc) ⌝ }
-    requires { ⌜ pairs * 128 + 2 * j ≤ length (now b) + 120 ⌝ }
-    requires { ⌜ j ≤ 64 ⌝ }
-    requires { ⌜ pairs * 8 ≤ length (now xs) ⌝ }
-    ensures { λ _. ⌜ ((q : ℕ) → q < 4 → getD (now (acc .exit)) (j + q) 0 ≡ plusPairs (getD (now (acc .entry)) (j + q) 0) (now (xs .entry)) (2 * q) (now (b .entry)) (2 * j + 2 * q) pairs) ⌝ }
-    ensures { λ _. ⌜ ((q : ℕ) → (q < j) ⊎ (j + 4 ≤ q) → getD (now (acc .exit)) q 0 ≡ getD (now (acc .entry)) q 0) ⌝ }
+// All accumulators of a row, each plus one pair, in blocks of four.
+fn add_row(acc: &mut [u32], b: &[u16], from: usize, xs: &[u16], h: usize, n: usize)
+    requires { ⌜ (n ≤ 64) × (length (now acc) ≡ 68) ⌝ }
+    requires { ⌜ from + 2 * n + 6 ≤ length (now b) ⌝ }
+    requires { ⌜ h + 8 ≤ length (now xs) ⌝ }
+    ensures { λ _. ⌜ ((q : ℕ) → q < n → getD (now (acc .exit)) q 0 ≡ reduce (256 ^ 4) (signed (256 ^ 4) (getD (now (acc .entry)) q 0) +ℤ pair (now (xs .entry)) (h + 2 * (q % 4)) (now (b .entry)) (from + 2 * q))) ⌝ }
 {
-    let mut p = 0;
-    let mut at = 2 * j;
-    let mut h = 0;
-    while p < pairs {
+    let mut j = 0;
+    let mut at = from;
+    while j < n {
         mac_block(acc, j, b, at, xs, h);
-        at += 128;
-        h += 8;
-        p += 1;
+        at += 8;
+        j += 4;
     }
 }
 
-// All accumulators of a row, in blocks of four.
+// All accumulators of a row, pair after pair.
 fn add_pairs(acc: &mut [u32], b: &[u16], xs: &[u16], pairs: usize, n: usize)
     requires { ⌜ n ≤ 64 ⌝ }
     requires { ⌜ length (now acc) ≡ 68 ⌝ }
@@ -71,10 +80,14 @@ fn add_pairs(acc: &mut [u32], b: &[u16], xs: &[u16], pairs: usize, n: usize)
     requires { ⌜ pairs * 8 ≤ length (now xs) ⌝ }
     ensures { λ _. ⌜ ((q : ℕ) → q < n → getD (now (acc .exit)) q 0 ≡ plusPairs (getD (now (acc .entry)) q 0) (now (xs .entry)) (2 * (q % 4)) (now (b .entry)) (2 * q) pairs) ⌝ }
 {
-    let mut j = 0;
-    while j < n {
-        add_block(acc, j, b, xs, pairs);
-        j += 4;
+    let mut p = 0;
+    let mut at = 0;
+    let mut h = 0;
+    while p < pairs {
+        add_row(acc, b, at, xs, h, n);
+        at += 128;
+        h += 8;
+        p += 1;
     }
 }
 

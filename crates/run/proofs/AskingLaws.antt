@@ -2,7 +2,7 @@
 use mathlib.Core.Path.{_≡_, refl, sym, ap, ap₂, _∙_}
 use mathlib.Core.Bool.{Bool, true, false, cond, _||_}
 use mathlib.Core.List.{List, [], _∷_, _++_}
-use Prim.Native.Nat.{ℕ, _+_, _*_, _/_, _%_, _^_, _≤_, _<_}
+use Prim.Native.Nat.{ℕ, _+_, _-_, _*_, _/_, _%_, _^_, _≤_, _<_}
 use native.Mathlib.Nat.{mul-le-mul, le-div-iff-mul-le, mod-eq-of-lt, div-add-mod'}
 use native.Mathlib.Omega.{arith}
 use lib.Dec.{leb, ltb, eqb}
@@ -22,13 +22,14 @@ use Rattle.machine.specs.declared.Answer.{Answer}
 use Rattle.machine.specs.declared.Answer.the-variants.{Done}
 use Rattle.run.specs.declared.Place.the-variants.{AtType, AtM, AtN, AtClear, AtK, AtA, AtB, AtMultiply, AtStore, AtEnd}
 use Rattle.run.specs.Words.{Op, Shape}
-use Rattle.run.specs.Places.{wordsAt}
+use Rattle.run.specs.Places.{headM, headN, headK, next, wordsAt}
 use Rattle.run.specs.Plan.{msew, typeOf}
 use Rattle.run.specs.Encoding.{startOf}
 use Rattle.run.specs.Start.{format, planned}
 use Rattle.run.specs.Turn.{placed, begins, soundRun, runShape, handsOut, moved, askWith, asked, ask}
-use Rattle.run.specs.Parts.{numbered, isEnd, handedOf}
+use Rattle.run.specs.Parts.{numbered, isEnd, handedOf, shapeBy, Within, Most}
 use Rattle.run.proofs.PlaceLaws.{Sound}
+use Rattle.run.proofs.BeginLaws.{begins-next}
 use Rattle.run.proofs.WordLaws.{formats, start-wraps}
 
 -- ---- tests one after another
@@ -218,3 +219,81 @@ module _ (R : Run) where
   pub ask-done : soundRun smaller R ≡ true → isEnd (R .place) ≡ false
       → askedAs Done (handedOf (R .plan) (wordsAt (runShape smaller R) (R .place))) (moved smaller R) ≡ asked (ask smaller R)
   ask-done h e = one-word (runShape smaller R) R (R .place) e ∙ ap (λ (os : List Op). asked (askWith smaller R os)) (handing h)
+
+-- ---- the next place
+
+pub within : (P : Plan) (p : Place) → placed P p ≡ true → Within (P .m) (P .k) (P .n) p
+within P AtType h = tt
+within P (AtM i) h = at-m P i h
+within P (AtN i j) h = tt
+within P (AtClear i j) h = tt
+within P (AtK i j s) h = tt
+within P (AtA i j s) h = tt
+within P (AtB i j s) h = tt
+within P (AtMultiply i j s) h = at-multiply P i j s h .1 .1
+within P (AtStore i j) h = at-store P i j h
+within P AtEnd h = tt
+
+-- by the most rows, columns and terms as code holds them
+pub next-by : (R : Run) (rows columns terms : ℕ) → Most R rows columns terms → (p : Place)
+    → next (shapeBy (R .plan .m) (R .plan .k) (R .plan .n) rows columns terms) p ≡ next (runShape smaller R) p
+next-by R rows columns terms h p =
+    let P : Plan = R .plan in
+    ap (λ (x : ℕ). next (shapeBy (P .m) (P .k) (P .n) x columns terms) p) (h .rows-are)
+    ∙ ap (λ (x : ℕ). next (shapeBy (P .m) (P .k) (P .n) (runShape smaller R .tm) x terms) p) (h .columns-are)
+    ∙ ap (λ (x : ℕ). next (shapeBy (P .m) (P .k) (P .n) (runShape smaller R .tm) (runShape smaller R .tn) x) p) (h .terms-are)
+
+-- it lies in the matrices
+module _ (R : Run) where
+  abbrev S : Shape
+  S = runShape smaller R
+
+  abbrev P : Plan
+  P = R .plan
+
+  place-m : (i : ℕ) → placed P (headM S i) ≡ true
+  place-m i = go (ltb i (P .m)) refl
+    where
+      go : (t : Bool) → ltb i (P .m) ≡ t → placed P (cond t (AtM i) AtEnd) ≡ true
+      go true e = e
+      go false e = refl
+
+  place-n : (i j : ℕ) → ltb i (P .m) ≡ true → placed P (headN S i j) ≡ true
+  place-n i j h = go (ltb j (P .n)) refl
+    where
+      go : (t : Bool) → ltb j (P .n) ≡ t → placed P (cond t (AtN i j) (headM S (i + smaller (S .tm) (P .m - i)))) ≡ true
+      go true e = each-every (ltb i (P .m) ∷ ltb j (P .n) ∷ []) (h, (e, tt))
+      go false e = place-m (i + smaller (S .tm) (P .m - i))
+
+  place-k : (i j s : ℕ) → ltb i (P .m) ≡ true → ltb j (P .n) ≡ true → placed P (headK S i j s) ≡ true
+  place-k i j s h g = go (ltb s (P .k)) refl
+    where
+      go : (t : Bool) → ltb s (P .k) ≡ t → placed P (cond t (AtK i j s) (AtStore i j)) ≡ true
+      go true e = each-every (ltb i (P .m) ∷ ltb j (P .n) ∷ ltb s (P .k) ∷ []) (h, (g, (e, tt)))
+      go false e = each-every (ltb i (P .m) ∷ ltb j (P .n) ∷ []) (h, (g, tt))
+
+  placed-next : (p : Place) → placed P p ≡ true → placed P (next S p) ≡ true
+  placed-next AtType h = place-m 0
+  placed-next (AtM i) h = place-n i 0 h
+  placed-next (AtN i j) h = h
+  placed-next (AtClear i j) h = let t = every-each (ltb i (P .m) ∷ ltb j (P .n) ∷ []) h in place-k i j 0 (t .0) (t .1 .0)
+  placed-next (AtK i j s) h = h
+  placed-next (AtA i j s) h = h
+  placed-next (AtB i j s) h = h
+  placed-next (AtMultiply i j s) h =
+      let t = every-each (ltb i (P .m) ∷ ltb j (P .n) ∷ ltb s (P .k) ∷ []) h in place-k i j (s + smaller (S .tk) (P .k - s)) (t .0) (t .1 .0)
+  placed-next (AtStore i j) h =
+      let t = every-each (ltb i (P .m) ∷ ltb j (P .n) ∷ []) h in place-n i (j + smaller (S .tn) (P .n - j)) (t .0)
+  placed-next AtEnd h = refl
+
+-- a run that a start can have made stays one
+pub moved-sound : (R : Run) → soundRun smaller R ≡ true → soundRun smaller (moved smaller R) ≡ true
+unfolding soundRun
+moved-sound R ok =
+    let t = every-each (permitted (R .rlen) (R .mlen) ∷ planned (R .plan) ∷ placed (R .plan) (R .place) ∷ begins (runShape smaller R) (R .place) ∷ []) ok in
+    each-every (
+    permitted (R .rlen) (R .mlen)
+    ∷ planned (R .plan)
+    ∷ placed (R .plan) (next (runShape smaller R) (R .place))
+    ∷ begins (runShape smaller R) (next (runShape smaller R) (R .place)) ∷ [])
+    (t .0, (t .1 .0, (placed-next R (R .place) (t .1 .1 .0), (begins-next (runShape smaller R) (run-most R (run-numbered R ok)) (R .place) (t .1 .1 .1 .0), tt))))

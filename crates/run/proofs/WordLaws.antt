@@ -42,39 +42,39 @@ setting-fields : (f imm : ℕ) → f < 16 → imm < 8192 →
     (bits 6 0 w ≡ 119) × (bits 14 12 w ≡ 7) × (bits 31 28 w ≡ f) × (field7 w ≡ 0) × (immediate13 w ≡ imm)
 setting-fields f imm hf h = omega arith
 
-decode-type : (imm : ℕ) → imm < 8192 → decode (settingWord 0 imm) ≡ SetTypeImmediate 0 imm
+pub decode-type : (imm : ℕ) → imm < 8192 → decode (settingWord 0 imm) ≡ SetTypeImmediate 0 imm
 unfolding decode listing
 decode-type imm h = let t = setting-fields 0 imm (omega arith) h in rw (t .0, t .1, t .2, t .3, t .4)
 
-decode-m : (imm : ℕ) → imm < 8192 → decode (settingWord 2 imm) ≡ SetTileImmediate DimensionM 0 imm
+pub decode-m : (imm : ℕ) → imm < 8192 → decode (settingWord 2 imm) ≡ SetTileImmediate DimensionM 0 imm
 unfolding decode listing
 decode-m imm h = let t = setting-fields 2 imm (omega arith) h in rw (t .0, t .1, t .2, t .3, t .4)
 
-decode-k : (imm : ℕ) → imm < 8192 → decode (settingWord 4 imm) ≡ SetTileImmediate DimensionK 0 imm
+pub decode-k : (imm : ℕ) → imm < 8192 → decode (settingWord 4 imm) ≡ SetTileImmediate DimensionK 0 imm
 unfolding decode listing
 decode-k imm h = let t = setting-fields 4 imm (omega arith) h in rw (t .0, t .1, t .2, t .3, t .4)
 
-decode-n : (imm : ℕ) → imm < 8192 → decode (settingWord 6 imm) ≡ SetTileImmediate DimensionN 0 imm
+pub decode-n : (imm : ℕ) → imm < 8192 → decode (settingWord 6 imm) ≡ SetTileImmediate DimensionN 0 imm
 unfolding decode listing
 decode-n imm h = let t = setting-fields 6 imm (omega arith) h in rw (t .0, t .1, t .2, t .3, t .4)
 
 -- ---- loads and stores
 
-decode-a : (e : ℕ) → e < 3 → decode (memoryWord 2 e 0) ≡ Load MatrixA (2 ^ e) 0 10 11
+pub decode-a : (e : ℕ) → e < 3 → decode (memoryWord 2 e 0) ≡ Load MatrixA (2 ^ e) 0 10 11
 unfolding decode listing
 decode-a zero h = refl
 decode-a (suc zero) h = refl
 decode-a (suc (suc zero)) h = refl
 decode-a (suc (suc (suc e))) h = absurd (omega arith)
 
-decode-b : (e : ℕ) → e < 3 → decode (memoryWord 4 e 1) ≡ Load MatrixB (2 ^ e) 1 10 11
+pub decode-b : (e : ℕ) → e < 3 → decode (memoryWord 4 e 1) ≡ Load MatrixB (2 ^ e) 1 10 11
 unfolding decode listing
 decode-b zero h = refl
 decode-b (suc zero) h = refl
 decode-b (suc (suc zero)) h = refl
 decode-b (suc (suc (suc e))) h = absurd (omega arith)
 
-decode-c : (e : ℕ) → e < 3 → decode (memoryWord 1 e 0) ≡ Store MatrixC (2 ^ e) 0 10 11
+pub decode-c : (e : ℕ) → e < 3 → decode (memoryWord 1 e 0) ≡ Store MatrixC (2 ^ e) 0 10 11
 unfolding decode listing
 decode-c zero h = refl
 decode-c (suc zero) h = refl
@@ -184,23 +184,23 @@ module _ (M : Parameters) (P : Plan) (ok : format (P .sew) (P .factor) ≡ true)
   of-factor : Factored (P .factor)
   of-factor = formats (P .sew) (P .factor) ok .1
 
-  msew<3 : msew P < 3
+  pub msew<3 : msew P < 3
   unfolding msew
   msew<3 = ltb-true (msewFor (P .sew)) 3 (facts .1 .1 .1 .1 .1 .1 .1 .1 .1 .0)
 
-  narrow-is : 2 ^ msew P ≡ narrow P
+  pub narrow-is : 2 ^ msew P ≡ narrow P
   unfolding msew narrow
   narrow-is = eqb-true (2 ^ msewFor (P .sew)) (P .sew / 8) (facts .1 .1 .1 .1 .1 .1 .1 .1 .1 .1 .0)
 
-  wide<3 : msew P + log (P .factor) < 3
+  pub wide<3 : msew P + log (P .factor) < 3
   unfolding msew
   wide<3 = ltb-true (msewFor (P .sew) + log (P .factor)) 3 (facts .1 .1 .1 .1 .1 .1 .1 .1 .1 .1 .1 .0)
 
-  wide-is : 2 ^ (msew P + log (P .factor)) ≡ wide P
+  pub wide-is : 2 ^ (msew P + log (P .factor)) ≡ wide P
   unfolding msew narrow
   wide-is = eqb-true (2 ^ (msewFor (P .sew) + log (P .factor))) (P .factor * (P .sew / 8)) (facts .1 .1 .1 .1 .1 .1 .1 .1 .1 .1 .1 .1 .0)
 
-  type-small : typeOf P < 8192
+  pub type-small : typeOf P < 8192
   unfolding typeOf msew
   type-small = ltb-true (typeFor (P .sew) (P .factor)) 8192 (facts .1 .1 .1 .1 .1 .1 .1 .1 .1 .1 .1 .1 .1 .0)
 

@@ -8,7 +8,7 @@ use machine::Answer;
 ghost use mathlib.Core.Path.{_≡_};
 ghost use mathlib.Core.Bool.{true, false};
 ghost use mathlib.Core.List.{[], _∷_};
-ghost use Prim.Native.Nat.{_+_, _*_, _%_, _^_, _≤_, _<_};
+ghost use Prim.Native.Nat.{_+_, _-_, _*_, _%_, _^_, _≤_, _<_};
 ghost use lib.Dec.{leb, ltb};
 ghost use Rattle.machine.specs.Tests.{every, isIn};
 ghost use Rattle.machine.specs.Setting.{smaller, maxM, maxN, maxK};
@@ -17,7 +17,7 @@ ghost use Rattle.run.specs.Plan.{narrow, wide, msew, typeOf};
 ghost use Rattle.run.specs.Start.{format, planned};
 ghost use Rattle.run.specs.Places.{headM, headN, headK, next, wordsAt};
 ghost use Rattle.run.specs.Turn.{placed, startsM, startsN, startsK, begins, soundRun, runParameters, runShape, moved, asked, ask};
-ghost use Rattle.run.specs.Parts.{numbered, isEnd, handedOf};
+ghost use Rattle.run.specs.Parts.{numbered, isEnd, handedOf, shapeBy, Within, Most};
 ghost use Rattle.machine.specs.declared.Answer.the-variants.{BadArguments};
 ghost use Rattle.run.specs.Encoding.{settingWord, memoryWord, arithmeticWord, log, plain, startOf, handedFor};
 
@@ -121,7 +121,7 @@ fn lesser(a: u64, b: u64) -> u64
 }
 
 // The most rows of a block.
-fn most_rows(run: Run) -> u64
+pub fn most_rows(run: Run) -> u64
     requires { ⌜ numbered run ≡ true ⌝ }
     ensures { λ r. ⌜ r ≡ maxM (runParameters smaller run) (typeOf (run .plan)) ⌝ }
 {
@@ -129,7 +129,7 @@ fn most_rows(run: Run) -> u64
 }
 
 // The most columns.
-fn most_columns(run: Run) -> u64
+pub fn most_columns(run: Run) -> u64
     requires { ⌜ numbered run ≡ true ⌝ }
     ensures { λ r. ⌜ r ≡ maxN (runParameters smaller run) (typeOf (run .plan)) ⌝ }
 {
@@ -138,7 +138,7 @@ fn most_columns(run: Run) -> u64
 }
 
 // The most terms.
-fn most_terms(run: Run) -> u64
+pub fn most_terms(run: Run) -> u64
     requires { ⌜ numbered run ≡ true ⌝ }
     ensures { λ r. ⌜ r ≡ maxK (runParameters smaller run) (typeOf (run .plan)) ⌝ }
 {
@@ -243,63 +243,61 @@ pub fn is_sound_run(run: Run) -> bool
 
 // ---- the next place
 
-// Where a block of rows ends.
-fn rows_end(run: Run, row: u64) -> u64
-    requires { ⌜ numbered run ≡ true ⌝ }
-    requires { ⌜ row ≤ run .plan .m ⌝ }
-    ensures { λ r. ⌜ r ≡ row + sizeM (runShape smaller run) row ⌝ }
+// Where a block ends: at most so many further, and not past the total.
+fn block_end(total: u64, at: u64, most: u64) -> u64
+    requires { ⌜ at ≤ total ⌝ }
+    ensures { λ r. ⌜ r ≡ at + smaller most (total - at) ⌝ }
 {
-    let rows = most_rows(run);
-    row + lesser(run.plan.m - row, rows)
-}
-
-fn columns_end(run: Run, column: u64) -> u64
-    requires { ⌜ numbered run ≡ true ⌝ }
-    requires { ⌜ column ≤ run .plan .n ⌝ }
-    ensures { λ r. ⌜ r ≡ column + sizeN (runShape smaller run) column ⌝ }
-{
-    let columns = most_columns(run);
-    column + lesser(run.plan.n - column, columns)
-}
-
-fn terms_end(run: Run, term: u64) -> u64
-    requires { ⌜ numbered run ≡ true ⌝ }
-    requires { ⌜ term ≤ run .plan .k ⌝ }
-    ensures { λ r. ⌜ r ≡ term + sizeK (runShape smaller run) term ⌝ }
-{
-    let terms = most_terms(run);
-    term + lesser(run.plan.k - term, terms)
+    at + lesser(total - at, most)
 }
 
 // Where a loop goes on: at its next block, or past it.
-fn head_rows(run: Run, row: u64) -> Place
-    ensures { λ r. ⌜ r ≡ headM (runShape smaller run) row ⌝ }
+fn head_rows(m: u64, k: u64, n: u64, rows: u64, columns: u64, terms: u64, row: u64) -> Place
+    ensures { λ r. ⌜ r ≡ headM (shapeBy m k n rows columns terms) row ⌝ }
 {
-    if row < run.plan.m {
+    if row < m {
         return Place::AtM { row: row };
     }
     Place::AtEnd
 }
 
-fn head_columns(run: Run, row: u64, column: u64) -> Place
-    requires { ⌜ numbered run ≡ true ⌝ }
-    requires { ⌜ row ≤ run .plan .m ⌝ }
-    ensures { λ r. ⌜ r ≡ headN (runShape smaller run) row column ⌝ }
+fn head_columns(
+    m: u64,
+    k: u64,
+    n: u64,
+    rows: u64,
+    columns: u64,
+    terms: u64,
+    row: u64,
+    column: u64,
+) -> Place
+    requires { ⌜ row ≤ m ⌝ }
+    ensures { λ r. ⌜ r ≡ headN (shapeBy m k n rows columns terms) row column ⌝ }
 {
-    if column < run.plan.n {
+    if column < n {
         return Place::AtN {
             row: row,
             column: column,
         };
     }
-    let end = rows_end(run, row);
-    head_rows(run, end)
+    let end = block_end(m, row, rows);
+    head_rows(m, k, n, rows, columns, terms, end)
 }
 
-fn head_terms(run: Run, row: u64, column: u64, term: u64) -> Place
-    ensures { λ r. ⌜ r ≡ headK (runShape smaller run) row column term ⌝ }
+fn head_terms(
+    m: u64,
+    k: u64,
+    n: u64,
+    rows: u64,
+    columns: u64,
+    terms: u64,
+    row: u64,
+    column: u64,
+    term: u64,
+) -> Place
+    ensures { λ r. ⌜ r ≡ headK (shapeBy m k n rows columns terms) row column term ⌝ }
 {
-    if term < run.plan.k {
+    if term < k {
         return Place::AtK {
             row: row,
             column: column,
@@ -312,20 +310,21 @@ fn head_terms(run: Run, row: u64, column: u64, term: u64) -> Place
     }
 }
 
-// The place after this one.
-fn next_place(run: Run) -> Place
-    requires { ⌜ soundRun smaller run ≡ true ⌝ }
-    ensures { λ r. ⌜ r ≡ next (runShape smaller run) (run .place) ⌝ }
+// The place after this one, in a product of these sizes by blocks of at most so many rows, columns and terms.
+fn next_place(m: u64, k: u64, n: u64, rows: u64, columns: u64, terms: u64, place: Place) -> Place
+    requires { ⌜ Within m k n place ⌝ }
+    ensures { λ r. ⌜ r ≡ next (shapeBy m k n rows columns terms) place ⌝ }
 {
-    let place = run.place;
     match place {
-        Place::AtType => head_rows(run, 0),
-        Place::AtM { row } => head_columns(run, row, 0),
+        Place::AtType => head_rows(m, k, n, rows, columns, terms, 0),
+        Place::AtM { row } => head_columns(m, k, n, rows, columns, terms, row, 0),
         Place::AtN { row, column } => Place::AtClear {
             row: row,
             column: column,
         },
-        Place::AtClear { row, column } => head_terms(run, row, column, 0),
+        Place::AtClear { row, column } => {
+            head_terms(m, k, n, rows, columns, terms, row, column, 0)
+        }
         Place::AtK { row, column, term } => Place::AtA {
             row: row,
             column: column,
@@ -342,12 +341,12 @@ fn next_place(run: Run) -> Place
             term: term,
         },
         Place::AtMultiply { row, column, term } => {
-            let end = terms_end(run, term);
-            head_terms(run, row, column, end)
+            let end = block_end(k, term, terms);
+            head_terms(m, k, n, rows, columns, terms, row, column, end)
         }
         Place::AtStore { row, column } => {
-            let end = columns_end(run, column);
-            head_columns(run, row, end)
+            let end = block_end(n, column, columns);
+            head_columns(m, k, n, rows, columns, terms, row, end)
         }
         Place::AtEnd => Place::AtEnd,
     }
@@ -403,7 +402,7 @@ fn width_code(plan: Plan) -> u32
 }
 
 // The mtype of the run.
-fn type_of(plan: Plan) -> u64
+pub fn type_of(plan: Plan) -> u64
     ensures { λ r. ⌜ r ≡ typeOf plan ⌝ }
     ensures { λ r. ⌜ r ≤ 10 ⌝ }
 {
@@ -414,7 +413,7 @@ fn type_of(plan: Plan) -> u64
     code
 }
 
-fn narrow_bytes(plan: Plan) -> u64
+pub fn narrow_bytes(plan: Plan) -> u64
     requires { ⌜ planned plan ≡ true ⌝ }
     ensures { λ r. ⌜ r ≡ narrow plan ⌝ }
     ensures { λ r. ⌜ r ≤ 4 ⌝ }
@@ -423,14 +422,14 @@ fn narrow_bytes(plan: Plan) -> u64
 }
 
 // The product of two numbers that are small.
-fn small_times(a: u64, b: u64) -> u64
+pub fn small_times(a: u64, b: u64) -> u64
     requires { ⌜ (a ≤ 1024) × (b ≤ 16) ⌝ }
     ensures { λ r. ⌜ r ≡ a * b ⌝ }
 {
     a * b
 }
 
-fn wide_bytes(plan: Plan) -> u64
+pub fn wide_bytes(plan: Plan) -> u64
     requires { ⌜ planned plan ≡ true ⌝ }
     ensures { λ r. ⌜ r ≡ wide plan ⌝ }
     ensures { λ r. ⌜ r ≤ 16 ⌝ }
@@ -450,7 +449,7 @@ fn row_times(row: u64, stride: u64) -> u64
 }
 
 // The address so many bytes into a row, modulo 2^64.
-fn start_of(address: u64, stride: u64, row: u64, bytes: u64) -> u64
+pub fn start_of(address: u64, stride: u64, row: u64, bytes: u64) -> u64
     requires { ⌜ row ≤ 1024 ⌝ }
     ensures { λ r. ⌜ r ≡ startOf (record { address = address; stride = stride }) row bytes ⌝ }
 {
@@ -640,13 +639,15 @@ fn refused(run: Run) -> Asked
     }
 }
 
-// The run at its next place.
-fn moved_run(run: Run) -> Run
+// The run at its next place, by the most rows, columns and terms of its blocks.
+pub fn moved_run(run: Run, rows: u64, columns: u64, terms: u64) -> Run
     requires { ⌜ soundRun smaller run ≡ true ⌝ }
+    requires { ⌜ Most run rows columns terms ⌝ }
     ensures { λ r. ⌜ r ≡ moved smaller run ⌝ }
 {
     let plan = run.plan;
-    let after = next_place(run);
+    let place = run.place;
+    let after = next_place(plan.m, plan.k, plan.n, rows, columns, terms, place);
     Run {
         plan: plan,
         rlen: run.rlen,
@@ -667,7 +668,10 @@ pub fn next(run: Run) -> Asked
         return refused(run);
     }
     let handed = handed_at(run);
-    let after = moved_run(run);
+    let rows = most_rows(run);
+    let columns = most_columns(run);
+    let terms = most_terms(run);
+    let after = moved_run(run, rows, columns, terms);
     Asked {
         answer: Answer::Done,
         handed: handed,

@@ -2,12 +2,19 @@
 use mathlib.Core.Path.{_≡_, refl, sym, ap, ap₂, _∙_, subst}
 use mathlib.Core.Bool.{Bool, true, false}
 use mathlib.Core.List.{List, []}
-use Prim.Native.Nat.{ℕ, _*_, _/_, _≤_, _<_}
+use Prim.Native.Nat.{ℕ, _+_, _*_, _/_, _≤_, _<_}
 use native.Mathlib.Omega.{arith}
 use lib.Dec.{eqb}
 use lib.IntN.{ℤ, pos}
-use lib.ListN.{length}
-use Rattle.width.specs.Tile.{markTile}
+use lib.ListN.{length, getD, set}
+use lib.Seq.{set-getD}
+use borrow.Author.Tests.{eqb-true}
+use Rattle.width.specs.Upto.{upto}
+use Rattle.width.specs.Tile.{markRow, markTile}
+use Rattle.width.proofs.UptoLaws.{upto-keeps}
+use Rattle.machine.specs.Tests.{all}
+use Rattle.machine.specs.Refusals.{marked}
+use Rattle.machine.proofs.TestLaws.{all-at}
 use Rattle.machine.specs.declared.Machine.{Machine}
 use Rattle.machine.specs.declared.Sum.{Sum}
 use Rattle.machine.specs.declared.Answer.{Answer}
@@ -27,6 +34,18 @@ use Rattle.arithmetic.specs.Effect.{shape, productTile, combineTile, scaleTile}
 use Rattle.arithmetic.proofs.Arms.{multiply-ready, combine-ready, scale-ready}
 use Rattle.step.specs.Parts.{ours, MarksReady, Loads, productChecks, combineChecks, scaleChecks}
 use Rattle.step.proofs.TransferLaws.{ready}
+
+-- marking what is marked changes nothing
+mark-again : (ms : List ℕ) (at : ℕ → ℕ) (rows n : ℕ) → marked ms at rows n ≡ true → ms ≡ markTile at rows n ms
+unfolding marked markTile markRow
+mark-again ms at rows n h =
+    upto-keeps (λ ys. ms ≡ ys) rows (λ i ys. upto n (λ b zs. set zs (at i + b) 1) ys) ms
+    (λ i l ys e. upto-keeps (λ zs. ms ≡ zs) n (λ b zs. set zs (at i + b) 1) ys (λ b l′ zs e′. again i l b l′ ∙ ap (λ (zs : List ℕ). set zs (at i + b) 1) e′) e) refl
+  where
+    again : (i : ℕ) → i < rows → (b : ℕ) → b < n → ms ≡ set ms (at i + b) 1
+    again i l b l′ =
+        sym (set-getD ms (at i + b) 0)
+        ∙ ap (set ms (at i + b)) (eqb-true (getD ms (at i + b) 0) 1 (all-at n (λ b. eqb (getD ms (at i + b) 0) 1) (all-at rows (λ i. all n (λ b. eqb (getD ms (at i + b) 0) 1)) h i l) b l′))
 
 module _ (m : Machine) (regs marks : List ℕ) (h : sound m regs marks ≡ true) where
   abbrev R : ℕ
@@ -83,6 +102,14 @@ module _ (m : Machine) (regs marks : List ℕ) (h : sound m regs marks ≡ true)
           done (Operation.multiply f d a b) p regs′ marks′
           (er ∙ ap₂ (λ (x y : ℕ). productTile (shape R P) x y d a b tm tk tn regs) wide-is ew)
           (em ∙ ap (λ (x : ℕ). markTile (accAt (ours m) d) tm (tn * x) marks) wide-is)
+
+      -- the marks are as they were: a multiply reads each byte that it writes
+      pub product-loads-marked : (regs′ : List ℕ) → regs′ ≡ productTile (shape R P) (f′ * w) w d a b tm tk tn regs
+          → Loads m (Operation.multiply f d a b) regs marks [] Done regs′ marks
+      product-loads-marked regs′ er =
+          product-loads regs′ marks er
+          (mark-again marks (accAt (ours m) d) tm (tn * (f * sew (m .mtype))) (passed (checks (ours m) (Operation.multiply f d a b) st []) refl p .1 .1 .1 .1 .1 .1 .1 .0)
+          ∙ ap (λ (x : ℕ). markTile (accAt (ours m) d) tm (tn * x) marks) (sym wide-is))
 
     -- the element-wise instructions ask the same of md and ms1
     abbrev Elementwise : ℕ → ℕ → ℕ → ℕ → Type 0

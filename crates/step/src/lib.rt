@@ -63,7 +63,7 @@ fn smaller(a: u64, b: u64) -> u64
 }
 
 // The new mtype: an illegal value becomes 2^63.
-fn kept_type(value: u64) -> u64
+pub fn kept_type(value: u64) -> u64
     ensures { λ r. ⌜ r ≡ newType elen value ⌝ }
 {
     if value <= 2 {
@@ -127,7 +127,7 @@ fn sew_bytes(mtype: u64) -> usize
     1
 }
 
-fn with_type(m: Machine, mtype: u64) -> Machine
+pub fn with_type(m: Machine, mtype: u64) -> Machine
     ensures { λ r. ⌜ r ≡ withType m mtype ⌝ }
 {
     let mut next = m;
@@ -177,6 +177,24 @@ fn set_type(m: Machine, scalars: &mut [u64], rd: usize, value: u64) -> Machine
     let kept = kept_type(value);
     write_scalar(scalars, rd, kept);
     with_type(m, kept)
+}
+
+// A size that is asked, cut to the largest, without a scalar that receives it.
+pub fn sized(m: Machine, dimension: Dimension, asked: u64) -> Stepped
+    requires { ⌜ Ready m ⌝ }
+    ensures { λ r. ⌜ r ≡ sizeStepped m dimension asked ⌝ }
+{
+    if is_mill(m.mtype) {
+        return Stepped {
+            answer: Answer::IllegalType,
+            machine: m,
+        };
+    }
+    let size = smaller(asked, largest(m, dimension));
+    Stepped {
+        answer: Answer::Done,
+        machine: with_size(m, dimension, size),
+    }
 }
 
 // A size that is asked, cut to the largest, which rd receives too.
@@ -450,7 +468,7 @@ fn tile_of(m: Machine, matrix: Matrix, r: usize) -> Placed
 
 // ---- loads and stores
 
-fn load(
+pub fn load(
     m: Machine,
     registers: &mut [u8],
     marks: &mut [u8],
@@ -484,7 +502,7 @@ fn load(
     )
 }
 
-fn store(
+pub fn store(
     m: Machine,
     registers: &[u8],
     marks: &[u8],
@@ -636,7 +654,7 @@ fn check_scale(m: Machine, marks: &[u8], factor: Factor, ms1: usize, by_zero: bo
     accumulator_marks(m, marks, ms1, width)
 }
 
-fn multiply(
+pub fn multiply(
     m: Machine,
     registers: &mut [u8],
     marks: &mut [u8],
@@ -670,7 +688,7 @@ fn multiply(
         m.tile_k as usize,
         m.tile_n as usize,
     );
-    mark_accumulator(m, marks, md, f * w);
+    // Every byte of the C tile has its mark: it was read.
     Answer::Done
 }
 
@@ -712,7 +730,7 @@ fn combine(
 }
 
 // Multiplies by a number of which multiplier is the residue at 32 bits.
-fn scale(
+pub fn scale(
     m: Machine,
     registers: &mut [u8],
     marks: &mut [u8],

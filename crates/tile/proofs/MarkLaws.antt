@@ -1,17 +1,18 @@
 -- Marks: of a row, of all bytes, and of a tile by rows and elements.
-use mathlib.Core.Path.{_≡_, refl, sym, _∙_, subst}
-use mathlib.Core.Bool.{Bool, true, false}
+use mathlib.Core.Path.{_≡_, refl, sym, ap, ap₂, _∙_, subst}
+use mathlib.Core.Bool.{Bool, true, false, _&&_}
 use mathlib.Core.List.{List, [], _∷_}
-use Prim.Native.Nat.{ℕ, _+_, _*_, _≤_, _<_}
+use Prim.Native.Nat.{ℕ, _+_, _*_, _-_, _≤_, _<_}
+use native.Mathlib.Numerals.{add-one}
 use native.Mathlib.Omega.{arith}
 use lib.ListN.{getD}
 use lib.Dec.{eqb, ltb}
 use borrow.Author.Tests.{ne-eqb, eq-eqb, lt-ltb, le-ltb, ltb-true, ltb-false}
 use Rattle.machine.specs.declared.Answer.the-variants.{Done, Unwritten}
-use Rattle.machine.specs.Tests.{all}
+use Rattle.machine.specs.Tests.{all, every}
 use Rattle.machine.specs.Answers.{verdict}
 use Rattle.machine.specs.Refusals.{marked, needs}
-use Rattle.machine.proofs.TestLaws.{all-at, all-false, all-true, all-elements}
+use Rattle.machine.proofs.TestLaws.{all-at, all-false, all-true, all-elements, same-test, Each, every-each, each-every}
 use Rattle.tile.proofs.TestLaws.{all-next, all-same, all-not, first-here}
 
 -- ---- the marks of a row
@@ -73,3 +74,72 @@ module _ (ms : List ℕ) (at : ℕ → ℕ) (rows cols w : ℕ) where
         first-here rows (rowMarked ms at (cols * w)) i l h g,
         first-here cols (elementMarked ms (at i) w) j k h′ g′,
       )
+
+-- ---- by quarters
+
+abbrev pub fourth : (ℕ → Bool) → ℕ → ℕ → Bool
+fourth p q k = every (p k ∷ p (q + k) ∷ p (q + q + k) ∷ p (q + q + q + k) ∷ [])
+
+-- one turn more
+pub fourth-more : (p : ℕ → Bool) (q i : ℕ) (M L H X N : Bool) → M ≡ all i (fourth p q)
+    → L ≡ every (p i ∷ p (q + i) ∷ []) → H ≡ every (p (q + q + i) ∷ p (q + q + q + i) ∷ []) → X ≡ every (L ∷ H ∷ []) → N ≡ every (M ∷ X ∷ [])
+    → N ≡ all (i + 1) (fourth p q)
+fourth-more p q i M L H X N eM eL eH eX eN =
+    eN
+    ∙ ap (λ (x : Bool). every (M ∷ x ∷ [])) (eX ∙ ap₂ (λ (l h : Bool). every (l ∷ h ∷ [])) eL eH)
+    ∙ ap (λ (x : Bool). every (x ∷ every (every (p i ∷ p (q + i) ∷ []) ∷ every (p (q + q + i) ∷ p (q + q + q + i) ∷ []) ∷ []) ∷ [])) eM
+    ∙ joined (all i (fourth p q)) (p i) (p (q + i)) (p (q + q + i)) (p (q + q + q + i))
+    ∙ ap (λ (n : ℕ). all n (fourth p q)) (sym (add-one i))
+  where
+    joined : (m a b c d : Bool) → every (m ∷ every (every (a ∷ b ∷ []) ∷ every (c ∷ d ∷ []) ∷ []) ∷ []) ≡ m && every (a ∷ b ∷ c ∷ d ∷ [])
+    joined false a b c d = refl
+    joined true false b c d = refl
+    joined true true false c d = refl
+    joined true true true false d = refl
+    joined true true true true false = refl
+    joined true true true true true = refl
+
+-- all of them
+pub fourths : (p : ℕ → Bool) (q : ℕ) → all q (fourth p q) ≡ all (4 * q) p
+fourths p q = same-test (all q (fourth p q)) (all (4 * q) p)
+    (λ h. all-true (4 * q) p (λ n l. place h n l (ltb n q) refl (ltb n (q + q)) refl (ltb n (q + q + q)) refl))
+    (λ h. all-true q (fourth p q) (λ k l. each-every (p k ∷ p (q + k) ∷ p (q + q + k) ∷ p (q + q + q + k) ∷ [])
+    (all-at (4 * q) p h k (omega arith), (all-at (4 * q) p h (q + k) (omega arith), (all-at (4 * q) p h (q + q + k) (omega arith), (all-at (4 * q) p h (q + q + q + k) (omega arith), tt))))))
+  where
+    tests : all q (fourth p q) ≡ true → (k : ℕ) → k < q → Each (p k ∷ p (q + k) ∷ p (q + q + k) ∷ p (q + q + q + k) ∷ [])
+    tests h k l = every-each (p k ∷ p (q + k) ∷ p (q + q + k) ∷ p (q + q + q + k) ∷ []) (all-at q (fourth p q) h k l)
+
+    place : all q (fourth p q) ≡ true → (n : ℕ) → n < 4 * q → (a : Bool) → ltb n q ≡ a → (b : Bool) → ltb n (q + q) ≡ b → (c : Bool) → ltb n (q + q + q) ≡ c → p n ≡ true
+    place h n l true ea b eb c ec = tests h n (ltb-true n q ea) .0
+    place h n l false ea true eb c ec =
+        let f = ltb-false n q ea in
+        let g = ltb-true n (q + q) eb in
+        let e : q + (n - q) ≡ n = omega arith in
+        subst (λ (x : ℕ). p x ≡ true) e (tests h (n - q) (omega arith) .1 .0)
+    place h n l false ea false eb true ec =
+        let f = ltb-false n (q + q) eb in
+        let g = ltb-true n (q + q + q) ec in
+        let e : q + q + (n - (q + q)) ≡ n = omega arith in
+        subst (λ (x : ℕ). p x ≡ true) e (tests h (n - (q + q)) (omega arith) .1 .1 .0)
+    place h n l false ea false eb false ec =
+        let f = ltb-false n (q + q + q) ec in
+        let e : q + q + q + (n - (q + q + q)) ≡ n = omega arith in
+        subst (λ (x : ℕ). p x ≡ true) e (tests h (n - (q + q + q)) (omega arith) .1 .1 .1 .0)
+
+-- the larger of two
+pub larger-b : (a b : ℕ) → a ≤ b → ltb b 2 ≡ every (ltb a 2 ∷ ltb b 2 ∷ [])
+larger-b a b h = go (ltb b 2) refl (ltb a 2) refl
+  where
+    go : (t : Bool) → ltb b 2 ≡ t → (s : Bool) → ltb a 2 ≡ s → t ≡ every (s ∷ t ∷ [])
+    go true e true f = refl
+    go true e false f = absurd (omega (arith, ltb-true b 2 e, ltb-false a 2 f))
+    go false e true f = refl
+    go false e false f = refl
+
+pub larger-a : (a b : ℕ) → b ≤ a → ltb a 2 ≡ every (ltb a 2 ∷ ltb b 2 ∷ [])
+larger-a a b h = go (ltb a 2) refl (ltb b 2) refl
+  where
+    go : (t : Bool) → ltb a 2 ≡ t → (s : Bool) → ltb b 2 ≡ s → t ≡ every (t ∷ s ∷ [])
+    go true e true f = refl
+    go true e false f = absurd (omega (arith, ltb-true a 2 e, ltb-false b 2 f))
+    go false e s f = refl

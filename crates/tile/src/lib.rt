@@ -13,9 +13,9 @@ ghost use mathlib.Core.Bool.{true, false, cond};
 ghost use mathlib.Core.List.{[], _∷_};
 ghost use Prim.Native.Nat.{_+_, _*_, _^_, _≤_, _<_};
 ghost use lib.Dec.{ltb};
-ghost use lib.ListN.{length};
+ghost use lib.ListN.{length, getD};
 ghost use Rattle.width.specs.Tile.{putTile, markTile};
-ghost use Rattle.machine.specs.Tests.{allOf};
+ghost use Rattle.machine.specs.Tests.{all, allOf, every};
 ghost use Rattle.machine.specs.Geometry.{Parameters};
 ghost use Rattle.machine.specs.Memory.{rowAt, inside};
 ghost use Rattle.machine.specs.Operation.{element};
@@ -27,12 +27,41 @@ ghost use Rattle.tile.specs.Checks.{storeChecks};
 pub mod address; // rows in memory, and the seal
 mod row; // one row: its bytes and its marks
 
-// Whether every mark is 0 or 1: the largest is kept, without a way out of the loop, and tested at the end.
+fn larger(a: u8, b: u8) -> u8
+    ensures { λ r. ⌜ ltb r 2 ≡ every (ltb a 2 ∷ ltb b 2 ∷ []) ⌝ }
+{
+    if a < b {
+        return b;
+    }
+    a
+}
+
+// The largest of four times quarter marks: one of each quarter a turn, without a way out of the loop.
+fn most_of(marks: &[u8], quarter: usize) -> u8
+    requires { ⌜ 4 * quarter ≤ length (now marks) ⌝ }
+    ensures { λ r. ⌜ ltb r 2 ≡ all (4 * quarter) (λ k. ltb (getD (now (marks .entry)) k 0) 2) ⌝ }
+{
+    let second = quarter + quarter;
+    let third = second + quarter;
+    let mut most = 0;
+    let mut i = 0;
+    while i < quarter {
+        let low = larger(marks[i], marks[quarter + i]);
+        let high = larger(marks[second + i], marks[third + i]);
+        let both = larger(low, high);
+        most = larger(most, both);
+        i += 1;
+    }
+    most
+}
+
+// Whether every mark is 0 or 1: the largest is kept and tested at the end.
 pub fn marks_sound(marks: &[u8]) -> bool
     ensures { λ r. ⌜ r ≡ allOf (λ mark. ltb mark 2) (now (marks .entry)) ⌝ }
 {
-    let mut most = 0;
-    let mut i = 0;
+    let quarter = marks.len() / 4;
+    let mut most = most_of(marks, quarter);
+    let mut i = 4 * quarter;
     while i < marks.len() {
         let mark = marks[i];
         if mark > most {

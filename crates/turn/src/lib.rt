@@ -1,9 +1,11 @@
 // The product run on a machine: its start, its turns, and a whole run. What each returns and leaves is defined in run/specs/.
 use machine::Answer;
+use machine::Dimension;
+use machine::Factor;
 use machine::Machine;
+use machine::Matrix;
 use machine::Stepped;
 use run::Finished;
-use run::Handed;
 use run::Place;
 use run::Plan;
 use run::Run;
@@ -15,13 +17,19 @@ mod starting; // the tests of a start on memory
 
 ghost use mathlib.Core.Path.{_≡_};
 ghost use mathlib.Core.Bool.{true};
-ghost use Rattle.machine.specs.Geometry.{benchOf};
+ghost use mathlib.Core.List.{List};
+ghost use Prim.Native.Nat.{ℕ, _≤_, _<_};
+ghost use Rattle.machine.specs.Geometry.{benchOf, elen};
 ghost use Rattle.machine.specs.Faults.{sound};
-ghost use Rattle.machine.specs.Setting.{smaller};
-ghost use Rattle.machine.specs.Step.{step};
-ghost use Rattle.run.specs.Encoding.{own};
-ghost use Rattle.run.specs.Start.{startRun, startedAs, noRun, freshRun};
-ghost use Rattle.run.specs.Turn.{running, turnOutcome, turnedAs, turns, takenAs};
+ghost use Rattle.machine.specs.Setting.{smaller, newType};
+ghost use Rattle.machine.specs.Operation.{times};
+ghost use Rattle.machine.specs.declared.Answer.the-variants.{Done};
+ghost use Rattle.step.specs.Parts.{withType};
+ghost use Rattle.run.specs.Plan.{typeOf};
+ghost use Rattle.run.specs.Words.{clear, multiply, loadA, loadB, store};
+ghost use Rattle.turn.specs.Parts.{carriedAs, carriedFor, carriedAt, endingAt};
+ghost use Rattle.run.specs.Start.{startRun, startedAs, noRun, freshRun, planned};
+ghost use Rattle.run.specs.Turn.{running, turnOutcome, turnedAs, turns, takenAs, soundRun};
 ghost use Rattle.run.specs.Whole.{whole, finishedAs, Delivers};
 
 // ---- the start
@@ -71,58 +79,271 @@ pub fn start(plan: Plan, m: Machine, registers: &[u8], marks: &[u8], memory: &[u
 
 // ---- turns
 
-// Carries out a step that was handed out, with the run's own scalars, in a state that is not at fault.
-fn carry_out(
+// The output's width, as a plan has it.
+fn factor_of(plan: Plan) -> Factor
+    requires { ⌜ planned plan ≡ true ⌝ }
+    ensures { λ r. ⌜ times r ≡ plan .factor ⌝ }
+{
+    if plan.factor == 4 {
+        return Factor::Quadruple;
+    }
+    if plan.factor == 2 {
+        return Factor::Double;
+    }
+    Factor::Single
+}
+
+fn carry_type(plan: Plan, m: Machine) -> Stepped
+    ensures { λ r. ⌜ r ≡ record { answer = Done; machine = withType m (newType elen (typeOf plan)) } ⌝ }
+{
+    let mtype = run::asking::type_of(plan);
+    let kept = step::kept_type(mtype);
+    let answer = Answer::Done;
+    Stepped {
+        answer: answer,
+        machine: step::with_type(m, kept),
+    }
+}
+
+fn carry_clear(plan: Plan, m: Machine, registers: &mut [u8], marks: &mut [u8]) -> Stepped
+    requires { ⌜ sound m (now registers) (now marks) ≡ true ⌝ }
+    requires { ⌜ planned plan ≡ true ⌝ }
+    ensures { λ r. ⌜ ((memory : List ℕ) → carriedAs r (now (registers .exit)) (now (marks .exit)) memory
+        ≡ carriedFor plan clear (benchOf m (now (registers .entry)) (now (marks .entry)) memory)) ⌝ }
+{
+    let factor = factor_of(plan);
+    let answer = step::scale(m, registers, marks, factor, 0, 0, 0);
+    Stepped {
+        answer: answer,
+        machine: m,
+    }
+}
+
+fn carry_multiply(plan: Plan, m: Machine, registers: &mut [u8], marks: &mut [u8]) -> Stepped
+    requires { ⌜ sound m (now registers) (now marks) ≡ true ⌝ }
+    requires { ⌜ planned plan ≡ true ⌝ }
+    ensures { λ r. ⌜ ((memory : List ℕ) → carriedAs r (now (registers .exit)) (now (marks .exit)) memory
+        ≡ carriedFor plan multiply (benchOf m (now (registers .entry)) (now (marks .entry)) memory)) ⌝ }
+{
+    let factor = factor_of(plan);
+    let answer = step::multiply(m, registers, marks, factor, 0, 0, 1);
+    Stepped {
+        answer: answer,
+        machine: m,
+    }
+}
+
+fn carry_load_a(
+    plan: Plan,
+    m: Machine,
+    registers: &mut [u8],
+    marks: &mut [u8],
+    memory: &[u8],
+    row: u64,
+    term: u64,
+) -> Stepped
+    requires { ⌜ sound m (now registers) (now marks) ≡ true ⌝ }
+    requires { ⌜ planned plan ≡ true ⌝ }
+    requires { ⌜ (row ≤ 1024) × (term ≤ 1024) ⌝ }
+    ensures { λ r. ⌜ carriedAs r (now (registers .exit)) (now (marks .exit)) (now (memory .entry))
+        ≡ carriedFor plan (loadA row term) (benchOf m (now (registers .entry)) (now (marks .entry)) (now (memory .entry))) ⌝ }
+{
+    let bytes = run::asking::narrow_bytes(plan);
+    let offset = run::asking::small_times(term, bytes);
+    let layout = plan.a;
+    let start = run::asking::start_of(layout.address, layout.stride, row, offset);
+    let answer = step::load(
+        m,
+        registers,
+        marks,
+        memory,
+        Matrix::MatrixA,
+        bytes as usize,
+        0,
+        start,
+        layout.stride,
+    );
+    Stepped {
+        answer: answer,
+        machine: m,
+    }
+}
+
+fn carry_load_b(
+    plan: Plan,
+    m: Machine,
+    registers: &mut [u8],
+    marks: &mut [u8],
+    memory: &[u8],
+    term: u64,
+    column: u64,
+) -> Stepped
+    requires { ⌜ sound m (now registers) (now marks) ≡ true ⌝ }
+    requires { ⌜ planned plan ≡ true ⌝ }
+    requires { ⌜ (term ≤ 1024) × (column ≤ 1024) ⌝ }
+    ensures { λ r. ⌜ carriedAs r (now (registers .exit)) (now (marks .exit)) (now (memory .entry))
+        ≡ carriedFor plan (loadB term column) (benchOf m (now (registers .entry)) (now (marks .entry)) (now (memory .entry))) ⌝ }
+{
+    let bytes = run::asking::narrow_bytes(plan);
+    let offset = run::asking::small_times(column, bytes);
+    let layout = plan.b;
+    let start = run::asking::start_of(layout.address, layout.stride, term, offset);
+    let answer = step::load(
+        m,
+        registers,
+        marks,
+        memory,
+        Matrix::MatrixB,
+        bytes as usize,
+        1,
+        start,
+        layout.stride,
+    );
+    Stepped {
+        answer: answer,
+        machine: m,
+    }
+}
+
+fn carry_store(
+    plan: Plan,
+    m: Machine,
+    registers: &[u8],
+    marks: &[u8],
+    memory: &mut [u8],
+    row: u64,
+    column: u64,
+) -> Stepped
+    requires { ⌜ sound m (now registers) (now marks) ≡ true ⌝ }
+    requires { ⌜ planned plan ≡ true ⌝ }
+    requires { ⌜ (row ≤ 1024) × (column ≤ 1024) ⌝ }
+    ensures { λ r. ⌜ carriedAs r (now (registers .entry)) (now (marks .entry)) (now (memory .exit))
+        ≡ carriedFor plan (store row column) (benchOf m (now (registers .entry)) (now (marks .entry)) (now (memory .entry))) ⌝ }
+{
+    let bytes = run::asking::wide_bytes(plan);
+    let offset = run::asking::small_times(column, bytes);
+    let layout = plan.c;
+    let start = run::asking::start_of(layout.address, layout.stride, row, offset);
+    let answer = step::store(
+        m,
+        registers,
+        marks,
+        memory,
+        Matrix::MatrixC,
+        bytes as usize,
+        0,
+        start,
+        layout.stride,
+    );
+    Stepped {
+        answer: answer,
+        machine: m,
+    }
+}
+
+// Carries out the word at the place of a run that a start can have made, in a state that is not at fault: the instruction that the
+// word decodes to, with its address and stride as numbers.
+fn carry(run: Run, m: Machine, registers: &mut [u8], marks: &mut [u8], memory: &mut [u8]) -> Stepped
+    requires { ⌜ sound m (now registers) (now marks) ≡ true ⌝ }
+    requires { ⌜ soundRun smaller run ≡ true ⌝ }
+    ensures { λ r. ⌜ carriedAs r (now (registers .exit)) (now (marks .exit)) (now (memory .exit))
+        ≡ carriedAt run (benchOf m (now (registers .entry)) (now (marks .entry)) (now (memory .entry))) ⌝ }
+{
+    let plan = run.plan;
+    let place = run.place;
+    match place {
+        Place::AtType => carry_type(plan, m),
+        Place::AtM { row } => step::sized(m, Dimension::DimensionM, plan.m - row),
+        Place::AtN { row: _, column } => step::sized(m, Dimension::DimensionN, plan.n - column),
+        Place::AtClear { row: _, column: _ } => carry_clear(plan, m, registers, marks),
+        Place::AtK {
+            row: _,
+            column: _,
+            term,
+        } => step::sized(m, Dimension::DimensionK, plan.k - term),
+        Place::AtA {
+            row,
+            column: _,
+            term,
+        } => carry_load_a(plan, m, registers, marks, memory, row, term),
+        Place::AtB {
+            row: _,
+            column,
+            term,
+        } => carry_load_b(plan, m, registers, marks, memory, term, column),
+        Place::AtMultiply {
+            row: _,
+            column: _,
+            term: _,
+        } => carry_multiply(plan, m, registers, marks),
+        Place::AtStore { row, column } => {
+            carry_store(plan, m, registers, marks, memory, row, column)
+        }
+        Place::AtEnd => Stepped {
+            answer: Answer::BadArguments,
+            machine: m,
+        },
+    }
+}
+
+// What turns come to: the answer of the turn that was refused, or 0.
+struct Gone {
+    answer: Answer,
+    count: u64,
+    run: Run,
+    machine: Machine,
+}
+
+// Turns until one is refused, in a state that is not at fault; no more than limit. The run is judged once: it stays sound.
+fn go(
+    limit: u64,
+    run: Run,
     m: Machine,
     registers: &mut [u8],
     marks: &mut [u8],
     memory: &mut [u8],
-    handed: Handed,
-) -> Stepped
+) -> Gone
     requires { ⌜ sound m (now registers) (now marks) ≡ true ⌝ }
-    ensures { λ r. ⌜ r .answer
-        ≡ step (handed .word) (own handed) (benchOf m (now (registers .entry)) (now (marks .entry)) (now (memory .entry))) .answer ⌝ }
-    ensures { λ r. ⌜ benchOf (r .machine) (now (registers .exit)) (now (marks .exit)) (now (memory .exit))
-        ≡ step (handed .word) (own handed) (benchOf m (now (registers .entry)) (now (marks .entry)) (now (memory .entry))) .bench ⌝ }
+    ensures { λ r. ⌜ takenAs (record { count = r .count; run = r .run; machine = r .machine }) (now (registers .exit)) (now (marks .exit)) (now (memory .exit))
+        ≡ turns smaller (running run (benchOf m (now (registers .entry)) (now (marks .entry)) (now (memory .entry)))) limit ⌝ }
+    ensures { λ r. ⌜ (0 < limit → r .answer ≡ endingAt limit (r .count)
+        (turns smaller (running run (benchOf m (now (registers .entry)) (now (marks .entry)) (now (memory .entry)))) (r .count))) ⌝ }
 {
-    let mut scalars = [0u64; 32];
-    scalars[10] = handed.address;
-    scalars[11] = handed.stride;
-    let instruction = decode::decode(handed.word);
-    step::perform(m, registers, marks, &mut scalars, memory, instruction)
-}
-
-// A turn in a state that is not at fault. A step that is refused leaves the run's place.
-fn take(run: Run, m: Machine, registers: &mut [u8], marks: &mut [u8], memory: &mut [u8]) -> Turned
-    requires { ⌜ sound m (now registers) (now marks) ≡ true ⌝ }
-    ensures { λ r. ⌜ turnedAs r (now (registers .exit)) (now (marks .exit)) (now (memory .exit))
-        ≡ turnOutcome smaller (running run (benchOf m (now (registers .entry)) (now (marks .entry)) (now (memory .entry)))) ⌝ }
-{
-    let asked = run::asking::next(run);
-    let handing = asked.answer;
-    if !tile::is_done(handing) {
-        return Turned {
-            answer: handing,
+    if !run::asking::is_sound_run(run) {
+        return Gone {
+            answer: Answer::BadArguments,
+            count: 0,
             run: run,
             machine: m,
         };
     }
-    let handed = asked.handed;
-    let stepped = carry_out(m, registers, marks, memory, handed);
-    let answer = stepped.answer;
-    let after = stepped.machine;
-    if !tile::is_done(answer) {
-        return Turned {
-            answer: answer,
-            run: run,
-            machine: after,
-        };
+    let rows = run::asking::most_rows(run);
+    let columns = run::asking::most_columns(run);
+    let terms = run::asking::most_terms(run);
+    let mut count = 0;
+    let mut current = run;
+    let mut machine = m;
+    while count < limit {
+        let stepped = carry(current, machine, registers, marks, memory);
+        let answer = stepped.answer;
+        if !tile::is_done(answer) {
+            return Gone {
+                answer: answer,
+                count: count,
+                run: current,
+                machine: machine,
+            };
+        }
+        current = run::asking::moved_run(current, rows, columns, terms);
+        machine = stepped.machine;
+        count += 1;
     }
-    let moved = asked.run;
-    Turned {
+    let answer = Answer::Done;
+    Gone {
         answer: answer,
-        run: moved,
-        machine: after,
+        count: count,
+        run: current,
+        machine: machine,
     }
 }
 
@@ -144,38 +365,13 @@ pub fn turn(
             machine: m,
         };
     }
-    take(run, m, registers, marks, memory)
-}
-
-// Turns until one is refused, in a state that is not at fault; no more than limit.
-fn take_all(
-    limit: u64,
-    run: Run,
-    m: Machine,
-    registers: &mut [u8],
-    marks: &mut [u8],
-    memory: &mut [u8],
-) -> Taken
-    requires { ⌜ sound m (now registers) (now marks) ≡ true ⌝ }
-    ensures { λ r. ⌜ takenAs r (now (registers .exit)) (now (marks .exit)) (now (memory .exit))
-        ≡ turns smaller (running run (benchOf m (now (registers .entry)) (now (marks .entry)) (now (memory .entry)))) limit ⌝ }
-{
-    let mut count = 0;
-    let mut current = run;
-    let mut machine = m;
-    while count < limit {
-        let turned = take(current, machine, registers, marks, memory);
-        let answer = turned.answer;
-        if !tile::is_done(answer) {
-            break;
-        }
-        current = turned.run;
-        machine = turned.machine;
-        count += 1;
-    }
-    Taken {
-        count: count,
-        run: current,
+    let gone = go(1, run, m, registers, marks, memory);
+    let answer = gone.answer;
+    let after = gone.run;
+    let machine = gone.machine;
+    Turned {
+        answer: answer,
+        run: after,
         machine: machine,
     }
 }
@@ -199,7 +395,14 @@ pub fn turns(
             machine: m,
         };
     }
-    take_all(limit, run, m, registers, marks, memory)
+    let gone = go(limit, run, m, registers, marks, memory);
+    let after = gone.run;
+    let machine = gone.machine;
+    Taken {
+        count: gone.count,
+        run: after,
+        machine: machine,
+    }
 }
 
 // ---- a whole run

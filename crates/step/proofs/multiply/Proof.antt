@@ -4,7 +4,6 @@ use Prim.Native.Nat.{_+_, _*_, _-_}
 use native.Mathlib.Omega.{arith}
 use borrow.Author.Tests.{not-true, not-false}
 use mathlib.Core.List.{[], _∷_, _++_}
-use native.Mathlib.Nat.{mul-le-mul}
 use Rattle.machine.specs.Answers.{verdict, isDone}
 use Rattle.machine.specs.Operation.{Operation, times}
 use Rattle.machine.specs.Setting.{sew}
@@ -12,9 +11,8 @@ use Rattle.machine.proofs.NoFault.{sound-is}
 use Rattle.machine.proofs.StepLaws.{permitted-bounds}
 use Rattle.step.specs.Parts.{multiplyChecks, sourceChecks, accumulatorCheck, productChecks}
 use Rattle.machine.specs.Refusals.{needs as marked-check}
-use Rattle.step.proofs.ArithmeticLaws.{product-fits}
 use Rattle.step.proofs.Laws.{type-legal, part-done}
-use Rattle.step.proofs.EffectLaws.{marks-ready, arithmetic-refused, product-asks, product-loads}
+use Rattle.step.proofs.EffectLaws.{marks-ready, arithmetic-refused, product-asks, product-loads-marked}
 use Rattle.step.proofs.TransferLaws.{ready}
 use borrow.Author.Needs.{needs}
 use Rattle.step.proofs.multiply.Statement.{statement}
@@ -70,24 +68,6 @@ multiply-tile-requires c κs =
     let a = s .args in
     product-asks (a .m) (a .registers .now) (a .marks .now) (s .pre .0) (times (a .factor)) (w .sew-bytes .result) (f .factor-of .result) (f .factor-of .ensures .0) (w .sew-bytes .ensures .0) (a .md) (a .ms1) (a .ms2) (checked e) (s .pre .1)
 
-mul-mark-accumulator : tie.Need-mul-mark-accumulator
-mul-mark-accumulator c =
-    let w = c .before .before .before .before .before .before .before in
-    let b = w .before .factor-of .ensures .1 in
-    let d = w .sew-bytes .ensures .1 in
-    omega (arith, mul-le-mul b (d .1))
-
-mark-accumulator-requires : tie.Need-mark-accumulator-requires
-mark-accumulator-requires c κs =
-    let w = c .before .before .before .before .before .before .before in
-    let f = w .before in
-    let e = f .before in
-    let s = e .before .before .before .before .before .before in
-    let a = s .args in (
-      marks-ready (a .m) (a .registers .now) (a .marks .now) (s .pre .0),
-      product-fits (a .m) (times (a .factor)) (fits e) (a .md) (f .factor-of .result) (w .sew-bytes .result) (s .pre .1 .0) (f .factor-of .ensures .1) (w .sew-bytes .ensures .0),
-    )
-
 same-length-2 : tie.Need-same-length-2
 same-length-2 c = search needs
 
@@ -96,15 +76,14 @@ same-length-3 c = search needs
 
 returns-2 : tie.Need-returns-2
 returns-2 c =
-    let k = c .before .before in
-    let t = k .before .before .before .before in
+    let t = c .before .before in
     let w = t .before .before .before .before in
     let f = w .before in
     let e = f .before in
     let s = e .before .before .before .before .before .before in
     let a = s .args in
-    product-loads (a .m) (a .registers .now) (a .marks .now) (s .pre .0) (times (a .factor)) (w .sew-bytes .result) (f .factor-of .result) (f .factor-of .ensures .0) (w .sew-bytes .ensures .0) (a .md) (a .ms1) (a .ms2) (checked e) _ _
-    (t .multiply-tile .ensures) (k .mark-accumulator .ensures)
+    product-loads-marked (a .m) (a .registers .now) (a .marks .now) (s .pre .0) (times (a .factor)) (w .sew-bytes .result) (f .factor-of .result) (f .factor-of .ensures .0) (w .sew-bytes .ensures .0) (a .md) (a .ms1) (a .ms2) (checked e) _
+    (t .multiply-tile .ensures)
 
 pub multiply-spec : {M : Type 1} → statement M
-multiply-spec = tie.close (tie.spec check-product-requires is-done-requires same-length returns factor-of-requires sew-bytes-requires div-rows multiply-tile-requires mul-mark-accumulator mark-accumulator-requires same-length-2 same-length-3 returns-2)
+multiply-spec = tie.close (tie.spec check-product-requires is-done-requires same-length returns factor-of-requires sew-bytes-requires div-rows multiply-tile-requires same-length-2 same-length-3 returns-2)

@@ -11,13 +11,19 @@ use Rattle.tile.proofs.marks_sound.Statement.{statement}
 use Rattle.tile.proofs.marks_sound.Tie as tie
 
 abbrev Inv-loop : tie.InvT-loop
-Inv-loop marks most₀ i₀ most i = (i ≤ length marks) × (ltb most 2 ≡ all i (λ k. ltb (getD marks k 0) 2))
+Inv-loop marks quarter most₀ i₀ most i = (i ≤ length marks) × (ltb most 2 ≡ all i (λ k. ltb (getD marks k 0) 2))
 
 abbrev μ-loop : tie.MeasureT-loop
-μ-loop marks most₀ i₀ most i = length marks - i
+μ-loop marks quarter most₀ i₀ most i = length marks - i
+
+most-of-requires : tie.Need-most-of-requires Inv-loop μ-loop
+most-of-requires c κs = omega arith
+
+mul-i : tie.Need-mul-i Inv-loop μ-loop
+mul-i c = omega arith
 
 loop-holds : tie.Need-loop-holds Inv-loop μ-loop
-loop-holds c = (omega arith, refl)
+loop-holds c = (omega arith, c .most-of .ensures)
 
 shared-slice-read-mark : tie.Need-shared-slice-read-mark Inv-loop μ-loop
 shared-slice-read-mark c = omega arith
@@ -31,7 +37,7 @@ loop-less c = omega arith
 loop-again : tie.Need-loop-again Inv-loop μ-loop
 loop-again c =
     let l = c .before .before .before .loop in
-    let m = c .before .before .before .before .args .marks .now in (
+    let m = c .before .before .before .before .before .before .args .marks .now in (
       omega arith,
       ⊎-elim
           (λ w. ap (λ (x : ℕ). ltb x 2) (w .1) ∙ most-more m (l .i) (l .most) (w .0 .taken) (l .inv .1))
@@ -42,7 +48,7 @@ loop-again c =
 returns : tie.Need-returns Inv-loop μ-loop
 returns c =
     let l = c .before .loop in
-    let m = c .before .before .args .marks .now in
+    let m = c .before .before .before .before .args .marks .now in
     let e : l .i ≡ length m = omega arith in
     l .inv .1 ∙ ap (λ (n : ℕ). all n (λ k. ltb (getD m k 0) 2)) e ∙ sym (allOf-all (λ mark. ltb mark 2) m)
 
@@ -52,6 +58,8 @@ marks-sound-spec =
     (tie.spec
     Inv-loop
     μ-loop
+    most-of-requires
+    mul-i
     loop-holds
     shared-slice-read-mark
     add-i

@@ -1,7 +1,10 @@
 use mathlib.Core.Path.{sym, _∙_}
 use borrow.Author.Tests.{not-true, not-false}
 use Rattle.machine.specs.Geometry.{benchOf}
+use native.Mathlib.Omega.{arith}
+use Rattle.run.specs.Turn.{running}
 use Rattle.turn.proofs.TurnLaws.{turn-fault}
+use Rattle.turn.proofs.CarryLaws.{one-turn}
 use borrow.Author.Needs.{needs}
 use Rattle.turn.proofs.turn.Statement.{statement}
 use Rattle.turn.proofs.turn.Tie as tie
@@ -22,8 +25,8 @@ returns c =
     turn-fault (a .run) (benchOf (a .m) (a .registers .now) (a .marks .now) (a .memory .now))
     (sym (d .is-sound .ensures) ∙ not-true (d .is-sound .result) (c .if1 .taken))
 
-take-requires : tie.Need-take-requires
-take-requires c κs =
+go-requires : tie.Need-go-requires
+go-requires c κs =
     let e = c .before .before .before in
     sym (e .before .is-sound .ensures) ∙ not-false (e .before .is-sound .result) (e .if1 .left)
 
@@ -37,7 +40,10 @@ same-length-5 : tie.Need-same-length-5
 same-length-5 c = search needs
 
 returns-2 : tie.Need-returns-2
-returns-2 c = search needs
+returns-2 c =
+    let w = c .before .before .before .before .before .before .before .before .go in
+    let a = c .before .before .before .before .before .before .before .before .before .before .before .before .before .before .before .before .before .before .before .args in
+    one-turn (running (a .run) (benchOf (a .m) (a .registers .now) (a .marks .now) (a .memory .now))) (w .result .count) (w .result .answer) _ (w .ensures .0) (w .ensures .1 (omega arith))
 
 pub turn-spec : {M : Type 1} → statement M
 turn-spec =
@@ -47,7 +53,7 @@ turn-spec =
     same-length
     same-length-2
     returns
-    take-requires
+    go-requires
     same-length-3
     same-length-4
     same-length-5

@@ -4,7 +4,7 @@ use borrow.Author.Tests.{not-true, not-false}
 use Rattle.machine.specs.declared.Answer.the-variants.{Done}
 use Rattle.machine.specs.Setting.{smaller}
 use Rattle.run.specs.Turn.{soundRun}
-use Rattle.run.proofs.AskingLaws.{askedAs, ask-unsound, ask-end, ask-done}
+use Rattle.run.proofs.AskingLaws.{run-numbered, askedAs, ask-unsound, ask-end, ask-done}
 use borrow.Author.Needs.{needs}
 use Rattle.run.proofs.asking.next.Statement.{statement}
 use Rattle.run.proofs.asking.next.Tie as tie
@@ -39,15 +39,28 @@ returns-2 c =
 handed-at-requires : tie.Need-handed-at-requires
 handed-at-requires c κs = ok-1 (c .before .before)
 
+most-rows-requires : tie.Need-most-rows-requires
+most-rows-requires c κs = let o = c .before .before .before in run-numbered (o .before .before .args .run) (ok-1 o)
+
+most-columns-requires : tie.Need-most-columns-requires
+most-columns-requires c κs = let o = c .before .before .before .before in run-numbered (o .before .before .args .run) (ok-1 o)
+
+most-terms-requires : tie.Need-most-terms-requires
+most-terms-requires c κs = let o = c .before .before .before .before .before in run-numbered (o .before .before .args .run) (ok-1 o)
+
 moved-run-requires : tie.Need-moved-run-requires
-moved-run-requires c κs = ok-1 (c .before .before .before)
+moved-run-requires c κs = (
+  ok-1 (c .before .before .before .before .before .before),
+  record { rows-are = c .before .before .most-rows .ensures; columns-are = c .before .most-columns .ensures; terms-are = c .most-terms .ensures },
+)
 
 returns-3 : tie.Need-returns-3
 returns-3 c =
-    let f = c .before .before in
+    let h = c .before .before .before .before in
+    let f = h .before in
     let e = f .before in
     let o = e .before in
-    ap₂ (askedAs Done) (c .before .handed-at .ensures) (c .moved-run .ensures)
+    ap₂ (askedAs Done) (h .handed-at .ensures) (c .moved-run .ensures)
     ∙ ask-done (o .before .before .args .run) (ok-1 o) (sym (e .is-end .ensures) ∙ f .if2 .left)
 
 pub next-spec : {M : Type 1} → statement M
@@ -61,5 +74,8 @@ next-spec =
     refused-requires-2
     returns-2
     handed-at-requires
+    most-rows-requires
+    most-columns-requires
+    most-terms-requires
     moved-run-requires
     returns-3)

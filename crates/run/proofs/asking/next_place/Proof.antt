@@ -1,10 +1,7 @@
 use mathlib.Core.Path.{_≡_, sym, ap, _∙_, subst}
-use mathlib.Core.Bool.{true}
-use Rattle.machine.specs.Setting.{smaller}
 use Rattle.run.specs.declared.Place.{Place}
 use Rattle.run.specs.Places.{headN, headK, next}
-use Rattle.run.specs.Turn.{placed, runShape}
-use Rattle.run.proofs.AskingLaws.{run-numbered, run-placed, at-m, at-multiply, at-store}
+use Rattle.run.specs.Parts.{shapeBy, Within}
 use borrow.Author.Needs.{needs}
 use Rattle.run.proofs.asking.next_place.Statement.{statement}
 use Rattle.run.proofs.asking.next_place.Tie as tie
@@ -19,12 +16,7 @@ enum-known-place : tie.Need-enum-known-place
 enum-known-place c = search needs
 
 head-columns-requires : tie.Need-head-columns-requires
-head-columns-requires c κs =
-    let p = c .before in
-    let s = p .before .before in
-    let R = s .args .run in
-    let h = subst (λ (q : Place). placed (R .plan) q ≡ true) (p .place .given .1) (run-placed R (s .pre)) in
-    (run-numbered R (s .pre), at-m (R .plan) (p .place .given .0 .0) h)
+head-columns-requires c κs = let s = c .before .before .before in subst (Within (s .args .m) (s .args .k) (s .args .n)) (c .before .place .given .1) (s .pre)
 
 enum-known-place-2 : tie.Need-enum-known-place-2
 enum-known-place-2 c = search needs
@@ -47,14 +39,8 @@ enum-known-place-6 c = search needs
 enum-known-place-7 : tie.Need-enum-known-place-7
 enum-known-place-7 c = search needs
 
-terms-end-requires : tie.Need-terms-end-requires
-terms-end-requires c κs =
-    let p = c .before in
-    let s = p .before .before in
-    let R = s .args .run in
-    let g = p .place7 .given in
-    let h = subst (λ (q : Place). placed (R .plan) q ≡ true) (g .1) (run-placed R (s .pre)) in
-    (run-numbered R (s .pre), at-multiply (R .plan) (g .0 .0) (g .0 .1 .0) (g .0 .1 .1 .0) h .1 .1)
+block-end-requires : tie.Need-block-end-requires
+block-end-requires c κs = let s = c .before .before .before in subst (Within (s .args .m) (s .args .k) (s .args .n)) (c .before .place7 .given .1) (s .pre)
 
 head-terms-requires-2 : tie.Need-head-terms-requires-2
 head-terms-requires-2 c κs = search needs
@@ -62,23 +48,11 @@ head-terms-requires-2 c κs = search needs
 enum-known-place-8 : tie.Need-enum-known-place-8
 enum-known-place-8 c = search needs
 
-columns-end-requires : tie.Need-columns-end-requires
-columns-end-requires c κs =
-    let p = c .before in
-    let s = p .before .before in
-    let R = s .args .run in
-    let g = p .place8 .given in
-    let h = subst (λ (q : Place). placed (R .plan) q ≡ true) (g .1) (run-placed R (s .pre)) in
-    (run-numbered R (s .pre), at-store (R .plan) (g .0 .0) (g .0 .1 .0) h .1)
+block-end-requires-2 : tie.Need-block-end-requires-2
+block-end-requires-2 c κs = let s = c .before .before .before in subst (Within (s .args .m) (s .args .k) (s .args .n)) (c .before .place8 .given .1) (s .pre) .1
 
 head-columns-requires-2 : tie.Need-head-columns-requires-2
-head-columns-requires-2 c κs =
-    let p = c .before .before in
-    let s = p .before .before in
-    let R = s .args .run in
-    let g = p .place8 .given in
-    let h = subst (λ (q : Place). placed (R .plan) q ≡ true) (g .1) (run-placed R (s .pre)) in
-    (run-numbered R (s .pre), at-store (R .plan) (g .0 .0) (g .0 .1 .0) h .0)
+head-columns-requires-2 c κs = let s = c .before .before .before .before in subst (Within (s .args .m) (s .args .k) (s .args .n)) (c .before .before .place8 .given .1) (s .pre) .0
 
 enum-told-2 : tie.Need-enum-told-2
 enum-told-2 c = search needs
@@ -86,60 +60,62 @@ enum-told-2 c = search needs
 returns : tie.Need-returns
 returns c =
     let s = c .before .before .before in
-    c .head-rows .ensures ∙ ap (next (runShape smaller (s .args .run))) (sym (c .before .enum-told .given .1))
+    c .head-rows .ensures ∙ ap (next (shapeBy (s .args .m) (s .args .k) (s .args .n) (s .args .rows) (s .args .columns) (s .args .terms))) (sym (c .before .enum-told .given .1))
 
 returns-2 : tie.Need-returns-2
 returns-2 c =
     let p = c .before .before in
     let s = p .before .before in
-    c .head-columns .ensures ∙ ap (next (runShape smaller (s .args .run))) (sym (p .place .given .1))
+    c .head-columns .ensures ∙ ap (next (shapeBy (s .args .m) (s .args .k) (s .args .n) (s .args .rows) (s .args .columns) (s .args .terms))) (sym (p .place .given .1))
 
 returns-3 : tie.Need-returns-3
 returns-3 c =
     let p = c .before in
     let s = p .before .before in
-    ap (next (runShape smaller (s .args .run))) (sym (p .place2 .given .1))
+    ap (next (shapeBy (s .args .m) (s .args .k) (s .args .n) (s .args .rows) (s .args .columns) (s .args .terms))) (sym (p .place2 .given .1))
 
 returns-4 : tie.Need-returns-4
 returns-4 c =
     let p = c .before .before in
     let s = p .before .before in
-    c .head-terms .ensures ∙ ap (next (runShape smaller (s .args .run))) (sym (p .place3 .given .1))
+    c .head-terms .ensures ∙ ap (next (shapeBy (s .args .m) (s .args .k) (s .args .n) (s .args .rows) (s .args .columns) (s .args .terms))) (sym (p .place3 .given .1))
 
 returns-5 : tie.Need-returns-5
 returns-5 c =
     let p = c .before in
     let s = p .before .before in
-    ap (next (runShape smaller (s .args .run))) (sym (p .place4 .given .1))
+    ap (next (shapeBy (s .args .m) (s .args .k) (s .args .n) (s .args .rows) (s .args .columns) (s .args .terms))) (sym (p .place4 .given .1))
 
 returns-6 : tie.Need-returns-6
 returns-6 c =
     let p = c .before in
     let s = p .before .before in
-    ap (next (runShape smaller (s .args .run))) (sym (p .place5 .given .1))
+    ap (next (shapeBy (s .args .m) (s .args .k) (s .args .n) (s .args .rows) (s .args .columns) (s .args .terms))) (sym (p .place5 .given .1))
 
 returns-7 : tie.Need-returns-7
 returns-7 c =
     let p = c .before in
     let s = p .before .before in
-    ap (next (runShape smaller (s .args .run))) (sym (p .place6 .given .1))
+    ap (next (shapeBy (s .args .m) (s .args .k) (s .args .n) (s .args .rows) (s .args .columns) (s .args .terms))) (sym (p .place6 .given .1))
 
 returns-8 : tie.Need-returns-8
 returns-8 c =
     let p = c .before .before .before in
     let s = p .before .before in
-    c .head-terms2 .ensures ∙ ap (headK (runShape smaller (s .args .run)) (p .place7 .given .0 .0) (p .place7 .given .0 .1 .0)) (c .before .terms-end .ensures)
-    ∙ ap (next (runShape smaller (s .args .run))) (sym (p .place7 .given .1))
+    c .head-terms2 .ensures ∙ ap (headK (shapeBy (s .args .m) (s .args .k) (s .args .n) (s .args .rows) (s .args .columns) (s .args .terms)) (p .place7 .given .0 .0) (p .place7 .given .0 .1 .0)) (c .before .block-end .ensures)
+    ∙ ap (next (shapeBy (s .args .m) (s .args .k) (s .args .n) (s .args .rows) (s .args .columns) (s .args .terms))) (sym (p .place7 .given .1))
 
 returns-9 : tie.Need-returns-9
 returns-9 c =
     let p = c .before .before .before in
     let s = p .before .before in
-    c .head-columns2 .ensures ∙ ap (headN (runShape smaller (s .args .run)) (p .place8 .given .0 .0)) (c .before .columns-end .ensures)
-    ∙ ap (next (runShape smaller (s .args .run))) (sym (p .place8 .given .1))
+    c .head-columns2 .ensures ∙ ap (headN (shapeBy (s .args .m) (s .args .k) (s .args .n) (s .args .rows) (s .args .columns) (s .args .terms)) (p .place8 .given .0 .0)) (c .before .block-end2 .ensures)
+    ∙ ap (next (shapeBy (s .args .m) (s .args .k) (s .args .n) (s .args .rows) (s .args .columns) (s .args .terms))) (sym (p .place8 .given .1))
 
 returns-10 : tie.Need-returns-10
-returns-10 c = search needs
+returns-10 c =
+    let s = c .before .before in
+    ap (next (shapeBy (s .args .m) (s .args .k) (s .args .n) (s .args .rows) (s .args .columns) (s .args .terms))) (sym (c .enum-told2 .given .1))
 
 pub next-place-spec : {M : Type 1} → statement M
 next-place-spec =
@@ -156,10 +132,10 @@ next-place-spec =
     enum-known-place-5
     enum-known-place-6
     enum-known-place-7
-    terms-end-requires
+    block-end-requires
     head-terms-requires-2
     enum-known-place-8
-    columns-end-requires
+    block-end-requires-2
     head-columns-requires-2
     enum-told-2
     returns

@@ -1,0 +1,204 @@
+-- The word at each place is the instruction that code carries out there; what turns that are carried out so answer and leave.
+use mathlib.Core.Path.{_≡_, refl, sym, ap, ap₂, _∙_}
+use mathlib.Core.Bool.{Bool, true, false, cond}
+use mathlib.Core.List.{List, [], _∷_}
+use Prim.Native.Nat.{ℕ, _+_, _-_, _*_, _^_, _≤_, _<_}
+use native.Mathlib.Nat.{zero-add}
+use native.Mathlib.Omega.{arith}
+use lib.Dec.{leb, eqb}
+use lib.IntN.{ℤ, pos}
+use Rattle.width.specs.Reduce.{reduce}
+use Rattle.machine.specs.declared.Machine.{Machine}
+use Rattle.machine.specs.declared.Answer.{Answer}
+use Rattle.machine.specs.declared.Answer.the-variants.{Done, BadArguments}
+use Rattle.machine.specs.declared.Stepped.{Stepped}
+use Rattle.machine.specs.declared.Dimension.{Dimension}
+use Rattle.machine.specs.declared.Factor.{Factor}
+use Rattle.machine.specs.declared.Factor.the-variants.{Single, Double, Quadruple}
+use Rattle.machine.specs.declared.Matrix.the-variants.{MatrixA, MatrixB, MatrixC}
+use Rattle.machine.specs.declared.Instruction.{Instruction}
+use Rattle.machine.specs.declared.Instruction.the-variants.{SetTypeImmediate, SetTileImmediate, Load, Store, Multiply, ScaleImmediate}
+use Rattle.machine.specs.Answers.{isDone}
+use Rattle.machine.specs.Tests.{every}
+use Rattle.machine.specs.Geometry.{elen, Bench, benchOf, stateOf}
+use Rattle.machine.specs.Setting.{smaller, newType}
+use Rattle.machine.specs.Faults.{sound}
+use Rattle.machine.specs.Listing.{decode}
+use Rattle.machine.specs.Operation.{Operation, times}
+use Rattle.machine.specs.Step.{Outcome, outcome, step}
+use Rattle.machine.proofs.TestLaws.{every-each, false-true}
+use Rattle.step.specs.Parts.{ours, withType, sizeStepped, Loads, Stores}
+use Rattle.step.proofs.StepParts.{step-decoded, type-outcome, size-outcome, loads-outcome, stores-outcome}
+use Rattle.run.specs.declared.Plan.{Plan}
+use Rattle.run.specs.declared.Run.{Run}
+use Rattle.run.specs.declared.Layout.{Layout}
+use Rattle.run.specs.Words.{Op}
+use Rattle.run.specs.Plan.{narrow, wide, msew, typeOf}
+use Rattle.run.specs.Places.{wordsAt}
+use Rattle.run.specs.Encoding.{own, handedFor, startOf, log}
+use Rattle.run.specs.Start.{format, planned}
+use Rattle.run.specs.Turn.{soundRun, runShape, handsOut, moved, Running, running, turn, turnWith, TurnOutcome, turnOutcome, turns, TurnsOutcome, afterTurns}
+use Rattle.run.proofs.WordLaws.{formats, decode-type, decode-m, decode-k, decode-n, decode-a, decode-b, decode-c, msew<3, narrow-is, wide<3, wide-is, type-small}
+use Rattle.turn.specs.Parts.{Carried, carriedAs, carriedFor, carriedBy, carriedAt, endingAt}
+use Rattle.turn.proofs.TurnLaws.{leaving, taking, turns-stop, turns-more}
+
+pub plan-format : (P : Plan) → planned P ≡ true → format (P .sew) (P .factor) ≡ true
+unfolding planned
+plan-format P h = every-each (format (P .sew) (P .factor) ∷ leb (P .m) 1024 ∷ leb (P .k) 1024 ∷ leb (P .n) 1024 ∷ []) h .0
+
+pub plan-type : (P : Plan) → planned P ≡ true → typeOf P < 8192
+plan-type P h = type-small (ours nothing) P (plan-format P h) (stateOf nothing [] [])
+  where
+    nothing : Machine
+    nothing = record { rlen = 0; mlen = 0; mtype = 0; «tile_m» = 0; «tile_k» = 0; «tile_n» = 0; «seal_start» = 0; «seal_length» = 0 }
+
+pub factor-one : (P : Plan) → planned P ≡ true → ¬ (P .factor ≡ 4) → ¬ (P .factor ≡ 2) → 1 ≡ P .factor
+factor-one P h p q = let F = formats (P .sew) (P .factor) (plan-format P h) .1 in go (F .factor) (F .is)
+  where
+    go : (x : Factor) → times x ≡ P .factor → 1 ≡ P .factor
+    go Single e = e
+    go Double e = absurd (q (sym e))
+    go Quadruple e = absurd (p (sym e))
+
+-- ---- a word, from the instruction that it decodes to
+
+module _ (P : Plan) (o : Op) (m : Machine) (regs marks mem : List ℕ) (s : sound m regs marks ≡ true) where
+  abbrev B : Bench
+  B = benchOf m regs marks mem
+
+  abbrev xs : List ℕ
+  xs = own (handedFor P o)
+
+  by-decoding : (i : Instruction) → decode (handedFor P o .word) ≡ i → (out : Outcome) → out ≡ outcome (ours m) i xs B
+      → record { answer = out .answer; bench = out .bench } ≡ carriedFor P o B
+  by-decoding i d out e = ap (λ (out : Outcome). record { answer = out .answer; bench = out .bench }) (e ∙ step-decoded (handedFor P o .word) xs B i (sym d))
+
+  pub type-carried : (v : ℕ) → decode (handedFor P o .word) ≡ SetTypeImmediate 0 v → (r : Stepped) → r ≡ record { answer = Done; machine = withType m (newType elen v) }
+      → carriedAs r regs marks mem ≡ carriedFor P o B
+  type-carried v d r e =
+      ap (λ (r : Stepped). carriedAs r regs marks mem) e
+      ∙ by-decoding (SetTypeImmediate 0 v) d _ (type-outcome m (SetTypeImmediate 0 v) xs regs marks mem s refl v 0 refl refl)
+
+  pub size-carried : (d : Dimension) (a : ℕ) → decode (handedFor P o .word) ≡ SetTileImmediate d 0 a → (r : Stepped) → r ≡ sizeStepped m d a
+      → carriedAs r regs marks mem ≡ carriedFor P o B
+  size-carried d a c r e =
+      ap (λ (r : Stepped). carriedAs r regs marks mem) e
+      ∙ by-decoding (SetTileImmediate d 0 a) c _ (size-outcome m (SetTileImmediate d 0 a) xs regs marks mem s refl d a 0 refl refl)
+
+-- ---- the clear and the multiply
+
+pub zero-residue : reduce (2 ^ 32) (pos 0) ≡ 0
+unfolding reduce
+zero-residue = refl
+
+module _ (P : Plan) (ok : planned P ≡ true) (m : Machine) (regs marks mem : List ℕ) (s : sound m regs marks ≡ true) (f : Factor) (e : times f ≡ P .factor) (a : Answer) (regs′ marks′ : List ℕ) where
+  pub clear-carried : Loads m (Operation.scale (times f) 0 0 (pos 0)) regs marks mem a regs′ marks′
+      → carriedAs (record { answer = a; machine = m }) regs′ marks′ mem ≡ carriedFor P Op.clear (benchOf m regs marks mem)
+  clear-carried l =
+      let F = formats (P .sew) (P .factor) (plan-format P ok) .1 in
+      by-decoding P Op.clear m regs marks mem s (ScaleImmediate (F .factor) 0 0 0) (F .clears) _
+      (loads-outcome m (ScaleImmediate (F .factor) 0 0 0) (own (handedFor P Op.clear)) regs marks mem s refl (Operation.scale (times f) 0 0 (pos 0))
+      (ap (λ (g : ℕ). Operation.scale g 0 0 (pos 0)) (F .is ∙ sym e)) refl a regs′ marks′ l refl refl)
+
+  pub multiply-carried : Loads m (Operation.multiply (times f) 0 0 1) regs marks mem a regs′ marks′
+      → carriedAs (record { answer = a; machine = m }) regs′ marks′ mem ≡ carriedFor P Op.multiply (benchOf m regs marks mem)
+  multiply-carried l =
+      let F = formats (P .sew) (P .factor) (plan-format P ok) .1 in
+      by-decoding P Op.multiply m regs marks mem s (Multiply (F .factor) 0 0 1) (F .multiplies) _
+      (loads-outcome m (Multiply (F .factor) 0 0 1) (own (handedFor P Op.multiply)) regs marks mem s refl (Operation.multiply (times f) 0 0 1)
+      (ap (λ (g : ℕ). Operation.multiply g 0 0 1) (F .is ∙ sym e)) refl a regs′ marks′ l refl refl)
+
+-- ---- loads and the store
+
+module _ (P : Plan) (ok : planned P ≡ true) (m : Machine) (regs marks mem : List ℕ) (s : sound m regs marks ≡ true) (w p : ℕ) (a : Answer) where
+  pub a-carried : (i t : ℕ) → w ≡ narrow P → p ≡ startOf (P .a) i (t * narrow P) → (regs′ marks′ : List ℕ) → Loads m (Operation.load MatrixA 0 w p (P .a .stride)) regs marks mem a regs′ marks′
+      → carriedAs (record { answer = a; machine = m }) regs′ marks′ mem ≡ carriedFor P (Op.loadA i t) (benchOf m regs marks mem)
+  a-carried i t ew ep regs′ marks′ l =
+      let g = plan-format P ok in
+      let k : Instruction = Load MatrixA (2 ^ msew P) 0 10 11 in
+      by-decoding P (Op.loadA i t) m regs marks mem s k (decode-a (msew P) (msew<3 (ours m) P g (stateOf m regs marks))) _
+      (loads-outcome m k (own (handedFor P (Op.loadA i t))) regs marks mem s refl (Operation.load MatrixA 0 w p (P .a .stride))
+      (ap₂ (λ (w p : ℕ). Operation.load MatrixA 0 w p (P .a .stride)) (narrow-is (ours m) P g (stateOf m regs marks) ∙ sym ew) (sym ep)) refl a regs′ marks′ l refl refl)
+
+  pub b-carried : (t j : ℕ) → w ≡ narrow P → p ≡ startOf (P .b) t (j * narrow P) → (regs′ marks′ : List ℕ) → Loads m (Operation.load MatrixB 1 w p (P .b .stride)) regs marks mem a regs′ marks′
+      → carriedAs (record { answer = a; machine = m }) regs′ marks′ mem ≡ carriedFor P (Op.loadB t j) (benchOf m regs marks mem)
+  b-carried t j ew ep regs′ marks′ l =
+      let g = plan-format P ok in
+      let k : Instruction = Load MatrixB (2 ^ msew P) 1 10 11 in
+      by-decoding P (Op.loadB t j) m regs marks mem s k (decode-b (msew P) (msew<3 (ours m) P g (stateOf m regs marks))) _
+      (loads-outcome m k (own (handedFor P (Op.loadB t j))) regs marks mem s refl (Operation.load MatrixB 1 w p (P .b .stride))
+      (ap₂ (λ (w p : ℕ). Operation.load MatrixB 1 w p (P .b .stride)) (narrow-is (ours m) P g (stateOf m regs marks) ∙ sym ew) (sym ep)) refl a regs′ marks′ l refl refl)
+
+  pub c-carried : (i j : ℕ) → w ≡ wide P → p ≡ startOf (P .c) i (j * wide P) → (mem′ : List ℕ) → Stores m (Operation.store MatrixC 0 w p (P .c .stride)) regs marks mem a mem′
+      → carriedAs (record { answer = a; machine = m }) regs marks mem′ ≡ carriedFor P (Op.store i j) (benchOf m regs marks mem)
+  c-carried i j ew ep mem′ l =
+      let g = plan-format P ok in
+      let k : Instruction = Store MatrixC (2 ^ (msew P + log (P .factor))) 0 10 11 in
+      by-decoding P (Op.store i j) m regs marks mem s k (decode-c (msew P + log (P .factor)) (wide<3 (ours m) P g (stateOf m regs marks))) _
+      (stores-outcome m k (own (handedFor P (Op.store i j))) regs marks mem s refl (Operation.store MatrixC 0 w p (P .c .stride))
+      (ap₂ (λ (w p : ℕ). Operation.store MatrixC 0 w p (P .c .stride)) (wide-is (ours m) P g (stateOf m regs marks) ∙ sym ew) (sym ep)) refl a mem′ l refl)
+
+-- ---- a turn
+
+-- the turn of a sound run, from what carrying out its word answers and leaves
+pub turn-carried : (R : Run) (B : Bench) → soundRun smaller R ≡ true → (k : Carried) → k ≡ carriedAt R B → (t : Bool) → isDone (k .answer) ≡ t
+    → leaving (k .answer) (running (cond t (moved smaller R) R) (k .bench)) ≡ turnOutcome smaller (running R B)
+turn-carried R B ok k e t d =
+    ap (λ (t : Bool). leaving (k .answer) (running (cond t (moved smaller R) R) (k .bench))) (sym d)
+    ∙ ap (λ (k : Carried). leaving (k .answer) (running (cond (isDone (k .answer)) (moved smaller R) R) (k .bench))) e
+    ∙ go (wordsAt (runShape smaller R) (R .place))
+    ∙ ap (λ (os : List Op). leaving (turnWith smaller (running R B) os .answer) (turnWith smaller (running R B) os .after))
+    (ap (λ (t : Bool). cond t (wordsAt (runShape smaller R) (R .place)) []) (sym ok))
+  where
+    go : (os : List Op)
+        → leaving (carriedBy (R .plan) os B .answer) (running (cond (isDone (carriedBy (R .plan) os B .answer)) (moved smaller R) R) (carriedBy (R .plan) os B .bench))
+        ≡ leaving (turnWith smaller (running R B) os .answer) (turnWith smaller (running R B) os .after)
+    go [] = refl
+    go (o ∷ os) = refl
+
+-- one more, after n that were answered 0
+pub turns-carried : (r : Running) (R : Run) (B : Bench) (n : ℕ) → taking n (running R B) ≡ turns smaller r n → soundRun smaller R ≡ true → (k : Carried) → k ≡ carriedAt R B
+    → isDone (k .answer) ≡ true → (R′ : Run) → R′ ≡ moved smaller R → taking (n + 1) (running R′ (k .bench)) ≡ turns smaller r (n + 1)
+turns-carried r R B n e ok k ek d R′ eR =
+    ap (λ (R : Run). taking (n + 1) (running R (k .bench))) eR
+    ∙ turns-more r (running R B) n e (leaving (k .answer) (running (moved smaller R) (k .bench))) (turn-carried R B ok k ek true d) d
+
+-- a run that no start can have made: every turn is refused
+pub turn-unsound : (R : Run) (B : Bench) → soundRun smaller R ≡ false → leaving BadArguments (running R B) ≡ turnOutcome smaller (running R B)
+turn-unsound R B h =
+    ap (λ (t : Bool). let os : List Op = cond t (wordsAt (runShape smaller R) (R .place)) [] in leaving (turnWith smaller (running R B) os .answer) (turnWith smaller (running R B) os .after)) (sym h)
+
+pub turns-unsound : (R : Run) (B : Bench) (n : ℕ) → soundRun smaller R ≡ false → taking 0 (running R B) ≡ turns smaller (running R B) n
+turns-unsound R B n h = turns-stop (running R B) 0 n (omega arith) (ap (λ (o : TurnOutcome). isDone (o .answer)) (sym (turn-unsound R B h)))
+
+-- ---- the answer that turns end with
+
+pub ends-done : (limit count : ℕ) (t : TurnsOutcome) → eqb count limit ≡ true → Done ≡ endingAt limit count t
+ends-done limit count t e = sym (rw e)
+
+pub ends-refused : (limit count : ℕ) (t : TurnsOutcome) (a : Answer) → eqb count limit ≡ false → a ≡ turn smaller (t .after) .answer → a ≡ endingAt limit count t
+ends-refused limit count t a e h = h ∙ sym (rw e)
+
+-- one turn, from what turns of at most one come to
+pub one-turn : (r : Running) (n : ℕ) (a : Answer) (after : Running) → taking n after ≡ turns smaller r 1 → a ≡ endingAt 1 n (turns smaller r n) → leaving a after ≡ turnOutcome smaller r
+one-turn r n a after e h =
+    ap₂ leaving (go (isDone (turn smaller r .answer)) refl) (ap (λ (o : TurnsOutcome). o .after) e)
+  where
+    done-is : (a : Answer) → isDone a ≡ true → a ≡ Done
+    done-is Done d = refl
+    done-is Answer.IllegalWord d = absurd (false-true d)
+    done-is Answer.IllegalType d = absurd (false-true d)
+    done-is Answer.BadWidth d = absurd (false-true d)
+    done-is Answer.TileTooLarge d = absurd (false-true d)
+    done-is (Answer.Unwritten i j) d = absurd (false-true d)
+    done-is Answer.OutsideMemory d = absurd (false-true d)
+    done-is Answer.SealedByte d = absurd (false-true d)
+    done-is BadArguments d = absurd (false-true d)
+    done-is Answer.Overlap d = absurd (false-true d)
+
+    count-is : (t : Bool) → isDone (turn smaller r .answer) ≡ t → n ≡ cond t 1 0
+    count-is t d = ap (λ (o : TurnsOutcome). o .count) e ∙ ap (λ (t : Bool). 0 + cond t 1 0) d ∙ zero-add (cond t 1 0)
+
+    go : (t : Bool) → isDone (turn smaller r .answer) ≡ t → a ≡ turn smaller r .answer
+    go true d = h ∙ ap (λ (n : ℕ). endingAt 1 n (turns smaller r n)) (count-is true d) ∙ sym (done-is (turn smaller r .answer) d)
+    go false d = h ∙ ap (λ (n : ℕ). endingAt 1 n (turns smaller r n)) (count-is false d)

@@ -1,0 +1,180 @@
+use mathlib.Core.Path.{_≡_, refl, sym, ap, _∙_}
+use mathlib.Core.Bool.{true, false}
+use Prim.Native.Nat.{ℕ, _+_, _-_, _≤_, _<_}
+use native.Mathlib.Omega.{arith}
+use borrow.Author.Tests.{not-true, not-false, eq-eqb, ne-eqb}
+use borrow.Author.Needs.{needs}
+use lib.ListN.{length}
+use Rattle.machine.specs.Answers.{isDone}
+use Rattle.machine.specs.Geometry.{benchOf}
+use Rattle.machine.specs.Setting.{smaller}
+use Rattle.machine.specs.Faults.{sound, soundBench}
+use Rattle.run.specs.declared.Run.{Run}
+use Rattle.run.specs.Parts.{Most}
+use Rattle.run.specs.Turn.{TurnOutcome, TurnsOutcome, running, turn, turns, soundRun, runShape}
+use Rattle.run.proofs.AskingLaws.{run-numbered, moved-sound}
+use Rattle.turn.proofs.TurnLaws.{taking, turns-refused, turn-sound}
+use Rattle.turn.proofs.CarryLaws.{turn-carried, turns-carried, turn-unsound, turns-unsound, ends-done, ends-refused}
+use Rattle.turn.proofs.go.Statement.{statement}
+use Rattle.turn.proofs.go.Tie as tie
+
+-- every turn so far was answered 0, and neither the state nor the run is at fault
+abbrev Inv-loop : tie.InvT-loop
+Inv-loop limit registers₀ marks₀ memory₀ rows columns terms count₀ current₀ machine₀ registers marks memory count current machine =
+    (count ≤ limit) × (sound machine registers marks ≡ true) × (soundRun smaller current ≡ true) × (Most current rows columns terms)
+    × (taking count (running current (benchOf machine registers marks memory)) ≡ turns smaller (running current₀ (benchOf machine₀ registers₀ marks₀ memory₀)) count)
+    × (length registers ≡ length registers₀) × (length marks ≡ length marks₀) × (length memory ≡ length memory₀)
+
+abbrev μ-loop : tie.MeasureT-loop
+μ-loop limit registers₀ marks₀ memory₀ rows columns terms count₀ current₀ machine₀ registers marks memory count current machine = limit - count
+
+is-sound-run-requires : tie.Need-is-sound-run-requires Inv-loop μ-loop
+is-sound-run-requires c κs = search needs
+
+returns : tie.Need-returns Inv-loop μ-loop
+returns c =
+    let d = c .before in
+    let a = c .before .before .before .before .before .args in
+    let B = benchOf (a .m) (a .registers .now) (a .marks .now) (a .memory .now) in
+    let f : soundRun smaller (a .run) ≡ false = sym (d .is-sound-run .ensures) ∙ not-true (d .is-sound-run .result) (c .if1 .taken) in (
+      turns-unsound (a .run) B (a .limit) f,
+      λ p. ends-refused (a .limit) 0 (turns smaller (running (a .run) B) 0) _ (ne-eqb 0 (a .limit) (λ e. omega (arith, p))) (ap (λ (o : TurnOutcome). o .answer) (turn-unsound (a .run) B f)),
+    )
+
+most-rows-requires : tie.Need-most-rows-requires Inv-loop μ-loop
+most-rows-requires c κs =
+    let f = c in
+    run-numbered (c .before .before .before .before .before .args .run) (sym (f .before .is-sound-run .ensures) ∙ not-false (f .before .is-sound-run .result) (f .if1 .left))
+
+most-columns-requires : tie.Need-most-columns-requires Inv-loop μ-loop
+most-columns-requires c κs =
+    let f = c .before in
+    run-numbered (c .before .before .before .before .before .before .args .run) (sym (f .before .is-sound-run .ensures) ∙ not-false (f .before .is-sound-run .result) (f .if1 .left))
+
+most-terms-requires : tie.Need-most-terms-requires Inv-loop μ-loop
+most-terms-requires c κs =
+    let f = c .before .before in
+    run-numbered (c .before .before .before .before .before .before .before .args .run) (sym (f .before .is-sound-run .ensures) ∙ not-false (f .before .is-sound-run .result) (f .if1 .left))
+
+loop-holds : tie.Need-loop-holds Inv-loop μ-loop
+loop-holds c =
+    let f = c .before .before .before in (
+      omega arith,
+      c .before .before .before .before .before .before .before .before .pre,
+      sym (f .before .is-sound-run .ensures) ∙ not-false (f .before .is-sound-run .result) (f .if1 .left),
+      record { rows-are = c .before .before .most-rows .ensures; columns-are = c .before .most-columns .ensures; terms-are = c .most-terms .ensures },
+      refl,
+      refl,
+      refl,
+      refl,
+    )
+
+carry-requires : tie.Need-carry-requires Inv-loop μ-loop
+carry-requires c κs = let l = c .before .before .before .before .loop in (l .inv .1, l .inv .2)
+
+is-done-requires : tie.Need-is-done-requires Inv-loop μ-loop
+is-done-requires c κs = search needs
+
+same-length : tie.Need-same-length Inv-loop μ-loop
+same-length c = search needs
+
+same-length-2 : tie.Need-same-length-2 Inv-loop μ-loop
+same-length-2 c = search needs
+
+same-length-3 : tie.Need-same-length-3 Inv-loop μ-loop
+same-length-3 c = search needs
+
+returns-2 : tie.Need-returns-2 Inv-loop μ-loop
+returns-2 c =
+    let d = c .before in
+    let w = c .before .before .before .before .before .before .before .before .carry in
+    let l = c .before .before .before .before .before .before .before .before .before .before .before .before .before .loop in
+    let a = c .before .before .before .before .before .before .before .before .before .before .before .before .before .before .before .before .before .before .before .before .before .before .args in
+    let r = (running (a .run) (benchOf (a .m) (a .registers .now) (a .marks .now) (a .memory .now))) in
+    let B = benchOf (l .machine) (l .registers) (l .marks) (l .memory) in
+    let no : isDone (w .result .answer) ≡ false = sym (d .is-done .ensures) ∙ not-true (d .is-done .result) (c .if2 .taken) in
+    let h = turn-carried (l .current) B (l .inv .2) _ (w .ensures) false no in (
+      turns-refused r (running (l .current) B) (l .count) (a .limit) (l .inv .0) (l .inv .4) _ h no,
+      λ p. ends-refused (a .limit) (l .count) (turns smaller r (l .count)) _ (ne-eqb (l .count) (a .limit) (λ e. omega (arith, c .before .before .before .before .before .before .before .before .before .before .before .before .loop-test .taken)))
+          (ap (λ (o : TurnOutcome). o .answer) h ∙ ap (λ (o : TurnsOutcome). turn smaller (o .after) .answer) (l .inv .4)),
+    )
+
+moved-run-requires : tie.Need-moved-run-requires Inv-loop μ-loop
+moved-run-requires c κs = let l = c .before .before .before .before .before .before .before .before .before .before .before .before .before .loop in (l .inv .2, l .inv .3)
+
+add-count : tie.Need-add-count Inv-loop μ-loop
+add-count c = omega (arith, c .before .before .before .before .before .before .before .before .before .before .before .before .before .before .loop-test .taken, c .before .before .before .before .before .before .before .before .before .before .before .before .before .before .before .before .before .before .before .before .before .before .before .before .fits .limit)
+
+loop-less : tie.Need-loop-less Inv-loop μ-loop
+loop-less c = omega (arith, c .before .before .before .before .before .before .before .before .before .before .before .before .before .before .loop-test .taken)
+
+loop-again : tie.Need-loop-again Inv-loop μ-loop
+loop-again c =
+    let k = c .before .moved-run .ensures in
+    let e = c .before .before in
+    let d = e .before in
+    let w = c .before .before .before .before .before .before .before .before .before .before .carry in
+    let l = c .before .before .before .before .before .before .before .before .before .before .before .before .before .before .before .loop in
+    let a = c .before .before .before .before .before .before .before .before .before .before .before .before .before .before .before .before .before .before .before .before .before .before .before .before .args in
+    let B = benchOf (l .machine) (l .registers) (l .marks) (l .memory) in
+    let yes : isDone (w .result .answer) ≡ true = sym (d .is-done .ensures) ∙ not-false (d .is-done .result) (e .if2 .left) in
+    let h = turn-carried (l .current) B (l .inv .2) _ (w .ensures) true yes in (
+      omega (arith, c .before .before .before .before .before .before .before .before .before .before .before .before .before .before .loop-test .taken),
+      ap (λ (o : TurnOutcome). soundBench (o .after .bench)) h ∙ turn-sound (running (l .current) B) (l .inv .1),
+      ap (soundRun smaller) k ∙ moved-sound (l .current) (l .inv .2),
+      record {
+        rows-are = l .inv .3 .rows-are ∙ ap (λ (R : Run). runShape smaller R .tm) (sym k);
+        columns-are = l .inv .3 .columns-are ∙ ap (λ (R : Run). runShape smaller R .tn) (sym k);
+        terms-are = l .inv .3 .terms-are ∙ ap (λ (R : Run). runShape smaller R .tk) (sym k);
+      },
+      turns-carried (running (a .run) (benchOf (a .m) (a .registers .now) (a .marks .now) (a .memory .now))) (l .current) B (l .count) (l .inv .4) (l .inv .2) _ (w .ensures) yes _ k,
+      search needs,
+      search needs,
+      search needs,
+    )
+
+same-length-4 : tie.Need-same-length-4 Inv-loop μ-loop
+same-length-4 c = c .before .loop .inv .5
+
+same-length-5 : tie.Need-same-length-5 Inv-loop μ-loop
+same-length-5 c = c .before .loop .inv .6
+
+same-length-6 : tie.Need-same-length-6 Inv-loop μ-loop
+same-length-6 c = c .before .loop .inv .7
+
+returns-3 : tie.Need-returns-3 Inv-loop μ-loop
+returns-3 c =
+    let l = c .before .loop in
+    let a = c .before .before .before .before .before .before .before .before .before .before .args in
+    let r = (running (a .run) (benchOf (a .m) (a .registers .now) (a .marks .now) (a .memory .now))) in
+    let n : l .count ≡ a .limit = omega arith in (
+      l .inv .4 ∙ ap (turns smaller r) n,
+      λ p. ends-done (a .limit) (l .count) (turns smaller r (l .count)) (eq-eqb (l .count) (a .limit) n),
+    )
+
+pub go-spec : {M : Type 1} → statement M
+go-spec =
+    tie.close
+    (tie.spec
+    Inv-loop
+    μ-loop
+    is-sound-run-requires
+    returns
+    most-rows-requires
+    most-columns-requires
+    most-terms-requires
+    loop-holds
+    carry-requires
+    is-done-requires
+    same-length
+    same-length-2
+    same-length-3
+    returns-2
+    moved-run-requires
+    add-count
+    loop-less
+    loop-again
+    same-length-4
+    same-length-5
+    same-length-6
+    returns-3)

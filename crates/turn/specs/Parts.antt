@@ -1,0 +1,42 @@
+-- What the contracts of inner functions name; a reader of the demand need not read it.
+use mathlib.Core.Bool.{Bool, cond}
+use mathlib.Core.List.{List, [], _∷_}
+use Prim.Native.Nat.{ℕ}
+use Rattle.machine.specs.declared.Answer.{Answer}
+use Rattle.machine.specs.declared.Answer.the-variants.{Done, BadArguments}
+use Rattle.machine.specs.declared.Stepped.{Stepped}
+use Rattle.machine.specs.Geometry.{Bench, benchOf}
+use Rattle.machine.specs.Setting.{smaller}
+use Rattle.machine.specs.Step.{Outcome, step}
+use Rattle.run.specs.declared.Plan.{Plan}
+use Rattle.run.specs.declared.Run.{Run}
+use Rattle.run.specs.Words.{Op}
+use Rattle.run.specs.Encoding.{own, handedFor}
+use Rattle.run.specs.Places.{wordsAt}
+use Rattle.run.specs.Turn.{runShape, turn, TurnsOutcome}
+use lib.Dec.{eqb}
+
+-- what carrying out a word answers and leaves, but for the run's own scalars
+pub record Carried : Type 0 where
+  pub answer : Answer
+  pub bench : Bench
+
+abbrev pub carriedAs : Stepped → (registers marks memory : List ℕ) → Carried
+carriedAs r registers marks memory = record { answer = r .answer; bench = benchOf (r .machine) registers marks memory }
+
+-- the word of an operation of a run
+abbrev pub carriedFor : Plan → Op → Bench → Carried
+carriedFor P o B = let out : Outcome = step (handedFor P o .word) (own (handedFor P o)) B in record { answer = out .answer; bench = out .bench }
+
+-- the first of a list of words; past the last, 8
+abbrev pub carriedBy : Plan → List Op → Bench → Carried
+carriedBy P [] B = record { answer = BadArguments; bench = B }
+carriedBy P (o ∷ os) B = carriedFor P o B
+
+-- the word at the place of a run
+abbrev pub carriedAt : Run → Bench → Carried
+carriedAt R B = carriedBy (R .plan) (wordsAt (runShape smaller R) (R .place)) B
+
+-- the answer of the turn after these, or 0 where there is none to take
+abbrev pub endingAt : (limit count : ℕ) → TurnsOutcome → Answer
+endingAt limit count t = cond (eqb count limit) Done (turn smaller (t .after) .answer)
