@@ -1,1 +1,2 @@
--- None.
+-- The decode table and its agreement with the listing.
+pub mod Table

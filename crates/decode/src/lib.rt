@@ -1,16 +1,20 @@
-// A word to its instruction, as the listing has it.
+// A word to its instruction, by a table that has the numbers of the listing.
+mod table;
+
 use machine::Dimension;
 use machine::Factor;
 use machine::Instruction;
 use machine::Matrix;
 use machine::Sum;
+use machine::Wrong;
+use table::numbers;
 ghost use mathlib.Core.Path.{_≡_};
-ghost use mathlib.Core.Bool.{cond};
-ghost use Prim.Native.Nat.{_<_, _^_};
+ghost use mathlib.Core.Bool.{cond, true};
 ghost use lib.Dec.{eqb};
-ghost use Rattle.machine.specs.Listing.{bits, field7, field15, field20, immediate13, decode, ranged};
+ghost use Rattle.machine.specs.Listing.{bits, field7, field15, field20, immediate13, listing, decode, ranged};
 ghost use Rattle.machine.specs.Geometry.{registerCount};
-ghost use Rattle.machine.specs.declared.Instruction.the-variants.{Illegal, Load, Store, Multiply, Combine, Scale, ScaleImmediate};
+ghost use Rattle.machine.specs.declared.Instruction.the-variants.{Load, Store, Multiply, Combine, Scale, ScaleImmediate};
+ghost use Rattle.decode.specs.Table.{agrees, meant, fixesZero};
 
 // Bits 11..7: rd, md or ms3.
 pub fn low_field(word: u32) -> usize
@@ -40,87 +44,15 @@ fn immediate(word: u32) -> u64
     (word / 32768 % 8192) as u64
 }
 
-// A setting with rs1: bits 27..20 are zero.
-fn with_scalar(word: u32, setting: Instruction) -> Instruction
-    ensures { λ r. ⌜ r ≡ cond (eqb (bits 27 20 word) 0) setting Illegal ⌝ }
-{
-    if word / 1048576 % 256 != 0 {
-        return Instruction::Illegal;
-    }
-    setting
-}
-
-// The eight settings: bits 14..12 are 111.
-fn setting(word: u32) -> Instruction
-    requires { ⌜ (bits 6 0 word ≡ 119) × (bits 14 12 word ≡ 7) ⌝ }
-    ensures { λ r. ⌜ r ≡ decode word ⌝ }
-{
-    let rd = low_field(word);
-    let rs1 = middle_field(word);
-    let value = immediate(word);
-    let code = word / 268435456;
-    match code {
-        0 => Instruction::SetTypeImmediate {
-            rd: rd,
-            immediate: value,
-        },
-        1 => with_scalar(word, Instruction::SetType { rd: rd, rs1: rs1 }),
-        2 => Instruction::SetTileImmediate {
-            dimension: Dimension::DimensionM,
-            rd: rd,
-            immediate: value,
-        },
-        3 => {
-            with_scalar(
-                word,
-                Instruction::SetTile {
-                    dimension: Dimension::DimensionM,
-                    rd: rd,
-                    rs1: rs1,
-                },
-            )
-        }
-        4 => Instruction::SetTileImmediate {
-            dimension: Dimension::DimensionK,
-            rd: rd,
-            immediate: value,
-        },
-        5 => {
-            with_scalar(
-                word,
-                Instruction::SetTile {
-                    dimension: Dimension::DimensionK,
-                    rd: rd,
-                    rs1: rs1,
-                },
-            )
-        }
-        6 => Instruction::SetTileImmediate {
-            dimension: Dimension::DimensionN,
-            rd: rd,
-            immediate: value,
-        },
-        7 => {
-            with_scalar(
-                word,
-                Instruction::SetTile {
-                    dimension: Dimension::DimensionN,
-                    rd: rd,
-                    rs1: rs1,
-                },
-            )
-        }
-        _ => Instruction::Illegal,
-    }
-}
-
 fn load(word: u32, matrix: Matrix, count: usize, width: usize) -> Instruction
     requires { ⌜ count ≡ registerCount matrix ⌝ }
     ensures { λ r. ⌜ r ≡ ranged (Load matrix width (field7 word) (field15 word) (field20 word)) ⌝ }
 {
     let md = low_field(word);
     if md >= count {
-        return Instruction::Illegal;
+        return Instruction::Illegal {
+            wrong: Wrong::Register,
+        };
     }
     Instruction::Load {
         matrix: matrix,
@@ -137,7 +69,9 @@ fn store(word: u32, matrix: Matrix, count: usize, width: usize) -> Instruction
 {
     let ms3 = low_field(word);
     if ms3 >= count {
-        return Instruction::Illegal;
+        return Instruction::Illegal {
+            wrong: Wrong::Register,
+        };
     }
     Instruction::Store {
         matrix: matrix,
@@ -148,24 +82,6 @@ fn store(word: u32, matrix: Matrix, count: usize, width: usize) -> Instruction
     }
 }
 
-// Loads and stores of elements of width bytes: bits 14..12 are 000 to 011.
-fn transfer(word: u32, width: usize) -> Instruction
-    requires { ⌜ bits 6 0 word ≡ 119 ⌝ }
-    requires { ⌜ (bits 14 12 word < 4) × (width ≡ 2 ^ bits 14 12 word) ⌝ }
-    ensures { λ r. ⌜ r ≡ decode word ⌝ }
-{
-    let code = word / 33554432;
-    match code {
-        0 => load(word, Matrix::MatrixC, 2, width),
-        1 => store(word, Matrix::MatrixC, 2, width),
-        2 => load(word, Matrix::MatrixA, 8, width),
-        3 => store(word, Matrix::MatrixA, 8, width),
-        4 => load(word, Matrix::MatrixB, 8, width),
-        5 => store(word, Matrix::MatrixB, 8, width),
-        _ => Instruction::Illegal,
-    }
-}
-
 fn multiply(word: u32, factor: Factor) -> Instruction
     ensures { λ r. ⌜ r ≡ ranged (Multiply factor (field7 word) (field15 word) (field20 word)) ⌝ }
 {
@@ -173,13 +89,19 @@ fn multiply(word: u32, factor: Factor) -> Instruction
     let ms1 = middle_field(word);
     let ms2 = high_field(word);
     if md >= 2 {
-        return Instruction::Illegal;
+        return Instruction::Illegal {
+            wrong: Wrong::Register,
+        };
     }
     if ms1 >= 8 {
-        return Instruction::Illegal;
+        return Instruction::Illegal {
+            wrong: Wrong::Register,
+        };
     }
     if ms2 >= 8 {
-        return Instruction::Illegal;
+        return Instruction::Illegal {
+            wrong: Wrong::Register,
+        };
     }
     Instruction::Multiply {
         factor: factor,
@@ -189,20 +111,20 @@ fn multiply(word: u32, factor: Factor) -> Instruction
     }
 }
 
-// Add, subtract and reverse subtract: bits 24..20 are zero.
 fn combine(word: u32, sum: Sum, factor: Factor) -> Instruction
-    ensures { λ r. ⌜ r ≡ cond (eqb (field20 word) 0) (ranged (Combine sum factor (field7 word) (field15 word))) Illegal ⌝ }
+    ensures { λ r. ⌜ r ≡ ranged (Combine sum factor (field7 word) (field15 word)) ⌝ }
 {
     let md = low_field(word);
     let ms1 = middle_field(word);
-    if high_field(word) != 0 {
-        return Instruction::Illegal;
-    }
     if md >= 2 {
-        return Instruction::Illegal;
+        return Instruction::Illegal {
+            wrong: Wrong::Register,
+        };
     }
     if ms1 >= 2 {
-        return Instruction::Illegal;
+        return Instruction::Illegal {
+            wrong: Wrong::Register,
+        };
     }
     Instruction::Combine {
         sum: sum,
@@ -218,10 +140,14 @@ fn scale(word: u32, factor: Factor) -> Instruction
     let md = low_field(word);
     let ms1 = middle_field(word);
     if md >= 2 {
-        return Instruction::Illegal;
+        return Instruction::Illegal {
+            wrong: Wrong::Register,
+        };
     }
     if ms1 >= 2 {
-        return Instruction::Illegal;
+        return Instruction::Illegal {
+            wrong: Wrong::Register,
+        };
     }
     Instruction::Scale {
         factor: factor,
@@ -237,10 +163,14 @@ fn scale_immediate(word: u32, factor: Factor) -> Instruction
     let md = low_field(word);
     let ms1 = middle_field(word);
     if md >= 2 {
-        return Instruction::Illegal;
+        return Instruction::Illegal {
+            wrong: Wrong::Register,
+        };
     }
     if ms1 >= 2 {
-        return Instruction::Illegal;
+        return Instruction::Illegal {
+            wrong: Wrong::Register,
+        };
     }
     Instruction::ScaleImmediate {
         factor: factor,
@@ -250,33 +180,133 @@ fn scale_immediate(word: u32, factor: Factor) -> Instruction
     }
 }
 
-// Multiplies and element-wise instructions: bits 14..12 are 110, and bit 25 is 0.
-fn arithmetic(word: u32) -> Instruction
-    requires { ⌜ (bits 6 0 word ≡ 119) × (bits 14 12 word ≡ 6) ⌝ }
-    ensures { λ r. ⌜ r ≡ decode word ⌝ }
+// The table's entry for a word.
+fn number_of(word: u32) -> u8
+    ensures { λ r. ⌜ agrees (bits 31 25 word) (bits 14 12 word) r listing ≡ true ⌝ }
 {
     let code = word / 33554432;
-    match code {
-        0 => multiply(word, Factor::Single),
-        2 => multiply(word, Factor::Double),
-        4 => multiply(word, Factor::Quadruple),
-        8 => combine(word, Sum::Add, Factor::Single),
-        10 => combine(word, Sum::Add, Factor::Double),
-        12 => combine(word, Sum::Add, Factor::Quadruple),
-        14 => combine(word, Sum::Subtract, Factor::Single),
-        16 => combine(word, Sum::Subtract, Factor::Double),
-        18 => combine(word, Sum::Subtract, Factor::Quadruple),
-        20 => combine(word, Sum::ReverseSubtract, Factor::Single),
-        22 => combine(word, Sum::ReverseSubtract, Factor::Double),
-        24 => combine(word, Sum::ReverseSubtract, Factor::Quadruple),
-        26 => scale(word, Factor::Single),
-        28 => scale(word, Factor::Double),
-        30 => scale(word, Factor::Quadruple),
-        32 => scale_immediate(word, Factor::Single),
-        34 => scale_immediate(word, Factor::Double),
-        36 => scale_immediate(word, Factor::Quadruple),
-        _ => Instruction::Illegal,
+    let form = (word / 4096 % 8) as usize;
+    let row = numbers(code);
+    row[form]
+}
+
+// The entries that fix bits 24..20 at zero.
+fn fixes_zero(number: u8) -> bool
+    ensures { λ r. ⌜ r ≡ fixesZero number ⌝ }
+{
+    match number {
+        2 | 4 | 6 | 8 => true,
+        38..=52 => true,
+        61..=74 => true,
+        _ => false,
     }
+}
+
+// The instruction of the entry with this number.
+fn meant(word: u32, number: u8) -> Instruction
+    requires { ⌜ agrees (bits 31 25 word) (bits 14 12 word) number listing ≡ true ⌝ }
+    ensures { λ r. ⌜ r ≡ ranged (meant number word listing) ⌝ }
+{
+    let rd = low_field(word);
+    let rs1 = middle_field(word);
+    let value = immediate(word);
+    match number {
+        0 => Instruction::Illegal {
+            wrong: Wrong::Unlisted,
+        },
+        1 => Instruction::SetTypeImmediate {
+            rd: rd,
+            immediate: value,
+        },
+        2 => Instruction::SetType { rd: rd, rs1: rs1 },
+        3 => Instruction::SetTileImmediate {
+            dimension: Dimension::DimensionM,
+            rd: rd,
+            immediate: value,
+        },
+        4 => Instruction::SetTile {
+            dimension: Dimension::DimensionM,
+            rd: rd,
+            rs1: rs1,
+        },
+        5 => Instruction::SetTileImmediate {
+            dimension: Dimension::DimensionK,
+            rd: rd,
+            immediate: value,
+        },
+        6 => Instruction::SetTile {
+            dimension: Dimension::DimensionK,
+            rd: rd,
+            rs1: rs1,
+        },
+        7 => Instruction::SetTileImmediate {
+            dimension: Dimension::DimensionN,
+            rd: rd,
+            immediate: value,
+        },
+        8 => Instruction::SetTile {
+            dimension: Dimension::DimensionN,
+            rd: rd,
+            rs1: rs1,
+        },
+        9 => load(word, Matrix::MatrixA, 8, 1),
+        10 => load(word, Matrix::MatrixA, 8, 2),
+        11 => load(word, Matrix::MatrixA, 8, 4),
+        12 => load(word, Matrix::MatrixA, 8, 8),
+        13 => load(word, Matrix::MatrixB, 8, 1),
+        14 => load(word, Matrix::MatrixB, 8, 2),
+        15 => load(word, Matrix::MatrixB, 8, 4),
+        16 => load(word, Matrix::MatrixB, 8, 8),
+        17 => load(word, Matrix::MatrixC, 2, 1),
+        18 => load(word, Matrix::MatrixC, 2, 2),
+        19 => load(word, Matrix::MatrixC, 2, 4),
+        20 => load(word, Matrix::MatrixC, 2, 8),
+        21 => store(word, Matrix::MatrixA, 8, 1),
+        22 => store(word, Matrix::MatrixA, 8, 2),
+        23 => store(word, Matrix::MatrixA, 8, 4),
+        24 => store(word, Matrix::MatrixA, 8, 8),
+        25 => store(word, Matrix::MatrixB, 8, 1),
+        26 => store(word, Matrix::MatrixB, 8, 2),
+        27 => store(word, Matrix::MatrixB, 8, 4),
+        28 => store(word, Matrix::MatrixB, 8, 8),
+        29 => store(word, Matrix::MatrixC, 2, 1),
+        30 => store(word, Matrix::MatrixC, 2, 2),
+        31 => store(word, Matrix::MatrixC, 2, 4),
+        32 => store(word, Matrix::MatrixC, 2, 8),
+        33 => multiply(word, Factor::Single),
+        35 => multiply(word, Factor::Double),
+        37 => multiply(word, Factor::Quadruple),
+        38 => combine(word, Sum::Add, Factor::Single),
+        40 => combine(word, Sum::Add, Factor::Double),
+        42 => combine(word, Sum::Add, Factor::Quadruple),
+        43 => combine(word, Sum::Subtract, Factor::Single),
+        45 => combine(word, Sum::Subtract, Factor::Double),
+        47 => combine(word, Sum::Subtract, Factor::Quadruple),
+        48 => combine(word, Sum::ReverseSubtract, Factor::Single),
+        50 => combine(word, Sum::ReverseSubtract, Factor::Double),
+        52 => combine(word, Sum::ReverseSubtract, Factor::Quadruple),
+        53 => scale(word, Factor::Single),
+        55 => scale(word, Factor::Double),
+        57 => scale(word, Factor::Quadruple),
+        58 => scale_immediate(word, Factor::Single),
+        59 => scale_immediate(word, Factor::Double),
+        60 => scale_immediate(word, Factor::Quadruple),
+        _ => Instruction::Illegal {
+            wrong: Wrong::LeftOut,
+        },
+    }
+}
+
+// Bits 24..20 of a word are what the entry with this number fixes.
+fn rest_right(word: u32, number: u8) -> bool
+    ensures { λ r. ⌜ r ≡ cond (fixesZero number) (eqb (field20 word) 0) true ⌝ }
+{
+    let rest = high_field(word);
+    let zero = fixes_zero(number);
+    if zero {
+        return rest == 0;
+    }
+    true
 }
 
 // The instruction of a word; Illegal where it is none of ours.
@@ -284,16 +314,16 @@ pub fn decode(word: u32) -> Instruction
     ensures { λ r. ⌜ r ≡ decode word ⌝ }
 {
     if word % 128 != 119 {
-        return Instruction::Illegal;
+        return Instruction::Illegal {
+            wrong: Wrong::Opcode,
+        };
     }
-    let form = word / 4096 % 8;
-    match form {
-        0 => transfer(word, 1),
-        1 => transfer(word, 2),
-        2 => transfer(word, 4),
-        3 => transfer(word, 8),
-        6 => arithmetic(word),
-        7 => setting(word),
-        _ => Instruction::Illegal,
+    let number = number_of(word);
+    let right = rest_right(word, number);
+    if !right {
+        return Instruction::Illegal {
+            wrong: Wrong::Unlisted,
+        };
     }
+    meant(word, number)
 }

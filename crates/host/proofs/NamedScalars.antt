@@ -17,6 +17,7 @@ use Rattle.width.proofs.TileLaws.{length-putLe, putLe-at, putLe-out, length-put
 use Rattle.width.proofs.PutLaws.{le-byte}
 use Rattle.machine.specs.declared.Answer.{Answer}
 use Rattle.machine.specs.declared.Answer.the-variants.{Done, BadArguments}
+use Rattle.machine.specs.declared.Wrong.the-variants.{Opcode, Register}
 use Rattle.machine.specs.declared.Instruction.{Instruction}
 use Rattle.machine.specs.declared.Instruction.the-variants.{Illegal, SetTypeImmediate, SetType, SetTileImmediate, SetTile, Load, Store, Multiply, Combine, Scale, ScaleImmediate}
 use Rattle.machine.specs.Tests.{every}
@@ -24,7 +25,7 @@ use Rattle.machine.specs.Answers.{_otherwise_, verdict, isDone}
 use Rattle.machine.specs.Geometry.{Parameters, parameters, State, stateOf, machineAfter, Bench, benchOf, scalar, withScalar}
 use Rattle.machine.specs.Setting.{smaller}
 use Rattle.machine.specs.Listing
-use Rattle.machine.specs.Listing.{field7, field15, field20, lookUp, listing, ranged, inRange, decode}
+use Rattle.machine.specs.Listing.{field7, field15, field20, lookUp, notOurs, listing, ranged, inRange, decode}
 use Rattle.machine.specs.Operation.{Operation, operation, stateAfter, memoryAfter, resultOf}
 use Rattle.machine.specs.Refusals.{checks}
 use Rattle.machine.specs.Faults.{soundBench}
@@ -41,7 +42,7 @@ use Rattle.host.proofs.BlockLaws.{length-values, values-at}
 
 -- they are the fields of the word
 abbrev named : ℕ → Instruction → Bool
-named word Illegal = true
+named word (Illegal wrong) = true
 named word (SetTypeImmediate rd immediate) = eqb rd (field7 word)
 named word (SetType rd rs1) = every (eqb rd (field7 word) ∷ eqb rs1 (field15 word) ∷ [])
 named word (SetTileImmediate dimension rd immediate) = eqb rd (field7 word)
@@ -60,12 +61,12 @@ decode-named word = opcode (eqb (Listing.bits 6 0 word) 119)
     rows : allRows (named word) word listing ≡ true
     rows = rw (eq-eqb (field7 word) (field7 word) refl, eq-eqb (field15 word) (field15 word) refl, eq-eqb (field20 word) (field20 word) refl)
 
-    in-range : (t : Bool) → named word (cond t (lookUp word listing) Illegal) ≡ true
-    in-range true = look-up-all (named word) word listing refl rows
+    in-range : (t : Bool) → named word (cond t (lookUp word (notOurs word) listing) (Illegal Register)) ≡ true
+    in-range true = look-up-all (named word) word (notOurs word) listing refl rows
     in-range false = refl
 
-    opcode : (t : Bool) → named word (cond t (ranged (lookUp word listing)) Illegal) ≡ true
-    opcode true = in-range (inRange (lookUp word listing))
+    opcode : (t : Bool) → named word (cond t (ranged (lookUp word (notOurs word) listing)) (Illegal Opcode)) ≡ true
+    opcode true = in-range (inRange (lookUp word (notOurs word) listing))
     opcode false = refl
 
 -- what it reads stands in the fields of bits 19..15 and 24..20
@@ -86,7 +87,7 @@ same-operation M st word xs ys ea eb = go
     second rd rs1 h = at rs1 (field15 word) (every-each (eqb rd (field7 word) ∷ eqb rs1 (field15 word) ∷ []) h .1 .0) ea
 
     go : (i : Instruction) → named word i ≡ true → operation M st xs i ≡ operation M st ys i
-    go Illegal h = refl
+    go (Illegal wrong) h = refl
     go (SetTypeImmediate rd immediate) h = refl
     go (SetType rd rs1) h = rw (second rd rs1 h)
     go (SetTileImmediate dimension rd immediate) h = refl
@@ -100,7 +101,7 @@ same-operation M st word xs ys ea eb = go
 
 -- what it writes stands in that of bits 11..7
 destination-named : (word : ℕ) (i : Instruction) → named word i ≡ true → (destination i ≡ 0) ⊎ (destination i ≡ field7 word)
-destination-named word Illegal h = inl refl
+destination-named word (Illegal wrong) h = inl refl
 destination-named word (SetTypeImmediate rd immediate) h = inr (eqb-true rd (field7 word) h)
 destination-named word (SetType rd rs1) h = inr (eqb-true rd (field7 word) (every-each (eqb rd (field7 word) ∷ eqb rs1 (field15 word) ∷ []) h .0))
 destination-named word (SetTileImmediate dimension rd immediate) h = inr (eqb-true rd (field7 word) h)

@@ -9,7 +9,8 @@ use lib.ListN.{length}
 use lib.Dec.{leb, ltb, eqb}
 use borrow.Author.Tests.{leb-true}
 use Rattle.machine.specs.declared.Answer.{Answer}
-use Rattle.machine.specs.declared.Answer.the-variants.{Done, IllegalWord, IllegalType, BadWidth, TileTooLarge, Unwritten, OutsideMemory, SealedByte, BadArguments, Overlap}
+use Rattle.machine.specs.declared.Wrong.the-variants.{Opcode, LeftOut, Unlisted, Register}
+use Rattle.machine.specs.declared.Answer.the-variants.{Done, IllegalWord, IllegalType, BadWidth, TileTooLarge, Unwritten, OutsideMemory, SealedByte, BadArguments, Overlap, WrongOpcode, NotCarriedOut, WrongRegister}
 use Rattle.machine.specs.declared.Matrix.{Matrix}
 use Rattle.machine.specs.declared.Matrix.the-variants.{MatrixA, MatrixB, MatrixC}
 use Rattle.machine.specs.Tests.{first, allOf}
@@ -42,7 +43,7 @@ first-le (suc n) p = go (ltb (first n p) n) (p n) (first-le n p)
 abbrev Small : Answer → Type 0
 Small a = (rowOf a ≤ 64) × (columnOf a ≤ 64)
 
-number-small : (a : Answer) → number a < 10
+number-small : (a : Answer) → number a < 13
 number-small Done = omega arith
 number-small IllegalWord = omega arith
 number-small IllegalType = omega arith
@@ -53,6 +54,9 @@ number-small OutsideMemory = omega arith
 number-small SealedByte = omega arith
 number-small BadArguments = omega arith
 number-small Overlap = omega arith
+number-small WrongOpcode = omega arith
+number-small NotCarriedOut = omega arith
+number-small WrongRegister = omega arith
 
 whole : (a : Answer) → Small a → (packed a % 2 ^ 16 ≡ number a) × (packed a / 2 ^ 16 % 2 ^ 16 ≡ rowOf a) × (packed a / 2 ^ 32 ≡ columnOf a)
 whole a s = let n = number-small a in (omega arith, omega arith, omega arith)
@@ -90,7 +94,10 @@ module _ (M : Parameters) (st : State) (mem : List ℕ) (hm : st .tileM ≤ 64) 
   within rows cols p q hr hc = (omega (arith, first-le rows p), omega (arith, first-le cols q))
 
   checks-small : (o : Operation) → EachSmall (checks M o st mem)
-  checks-small illegal = (zeros, tt)
+  checks-small (illegal Opcode) = (zeros, tt)
+  checks-small (illegal LeftOut) = (zeros, tt)
+  checks-small (illegal Unlisted) = (zeros, tt)
+  checks-small (illegal Register) = (zeros, tt)
   checks-small (setType v) = tt
   checks-small (setSize d a) = (zeros, tt)
   checks-small keepSize = (zeros, tt)

@@ -99,6 +99,9 @@ fn packed(answer: Answer) -> u64
         Answer::SealedByte => 7,
         Answer::BadArguments => 8,
         Answer::Overlap => 9,
+        Answer::WrongOpcode => 10,
+        Answer::NotCarriedOut => 11,
+        Answer::WrongRegister => 12,
     }
 }
 

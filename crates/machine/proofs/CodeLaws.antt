@@ -8,7 +8,8 @@ use lib.Dec.{ltb, eqb}
 use borrow.Author.Tests.{eqb-true, ltb-true, ltb-false, lt-ltb, ne-eqb}
 use Rattle.machine.specs.declared.Machine.{Machine}
 use Rattle.machine.specs.declared.Answer.{Answer}
-use Rattle.machine.specs.declared.Answer.the-variants.{Done, IllegalWord, IllegalType, BadWidth, TileTooLarge, Unwritten, OutsideMemory, SealedByte, BadArguments, Overlap}
+use Rattle.machine.specs.declared.Answer.the-variants.{Done, IllegalWord, IllegalType, BadWidth, TileTooLarge, Unwritten, OutsideMemory, SealedByte, BadArguments, Overlap, WrongOpcode, NotCarriedOut, WrongRegister}
+use Rattle.machine.specs.declared.Wrong.the-variants.{Opcode, Register}
 use Rattle.machine.specs.declared.Instruction.{Instruction}
 use Rattle.machine.specs.declared.Instruction.the-variants.{Illegal, SetTypeImmediate, SetType, SetTileImmediate, SetTile, Load, Store, Multiply, Combine, Scale, ScaleImmediate}
 use Rattle.machine.specs.Tests.{all, every, isIn}
@@ -16,7 +17,7 @@ use Rattle.machine.proofs.TestLaws.{all-at, and-left, and-right, false-
 use Rattle.machine.specs.Answers.{Check, verdict, isDone}
 use Rattle.machine.specs.Geometry.{elen, Parameters, machineAfter, Bench, benchOf, withScalar}
 use Rattle.machine.specs.Setting.{sew, mill, legalType, newType}
-use Rattle.machine.specs.Listing.{field7, field15, field20, immediate13, Row, lookUp, listing, ranged, inRange, decode}
+use Rattle.machine.specs.Listing.{field7, field15, field20, immediate13, Row, lookUp, notOurs, listing, ranged, inRange, decode}
 use Rattle.machine.specs.Operation.{memoryAfter, resultOf}
 use Rattle.machine.specs.Refusals.{checks}
 use Rattle.machine.proofs.CheckLaws.{refusals}
@@ -37,6 +38,9 @@ only-done OutsideMemory h = absurd (false-true h)
 only-done SealedByte h = absurd (false-true h)
 only-done BadArguments h = absurd (false-true h)
 only-done Overlap h = absurd (false-true h)
+only-done WrongOpcode h = absurd (false-true h)
+only-done NotCarriedOut h = absurd (false-true h)
+only-done WrongRegister h = absurd (false-true h)
 
 -- checks that are made in two parts
 pub verdict-append : (ds bs : List Check) → refusals ds ≡ true → verdict (ds ++ bs) ≡ cond (isDone (verdict ds)) (verdict bs) (verdict ds)
@@ -116,7 +120,7 @@ arises v e m = go (isIn v legalTypes) refl
 -- ---- the fields of a decoded word
 
 abbrev pub bounded : Instruction → Bool
-bounded Illegal = true
+bounded (Illegal wrong) = true
 bounded (SetTypeImmediate rd immediate) = every (ltb rd 32 ∷ ltb immediate 8192 ∷ [])
 bounded (SetType rd rs1) = every (ltb rd 32 ∷ ltb rs1 32 ∷ [])
 bounded (SetTileImmediate dimension rd immediate) = every (ltb rd 32 ∷ ltb immediate 8192 ∷ [])
@@ -133,18 +137,18 @@ abbrev pub allRows : (Instruction → Bool) → ℕ → List Row → Bool
 allRows p word [] = true
 allRows p word (r ∷ rs) = p (r .means word) && allRows p word rs
 
-pub look-up-all : (p : Instruction → Bool) (word : ℕ) (rs : List Row) → p Illegal ≡ true → allRows p word rs ≡ true → p (lookUp word rs) ≡ true
-look-up-all p word [] n h = n
-look-up-all p word (r ∷ rs) n h = go (Rattle.machine.specs.Listing.has word (r .fixed)) (look-up-all p word rs n (and-right (p (r .means word)) (allRows p word rs) h))
+pub look-up-all : (p : Instruction → Bool) (word : ℕ) (none : Instruction) (rs : List Row) → p none ≡ true → allRows p word rs ≡ true → p (lookUp word none rs) ≡ true
+look-up-all p word none [] n h = n
+look-up-all p word none (r ∷ rs) n h = go (Rattle.machine.specs.Listing.has word (r .code .fixed)) (look-up-all p word none rs n (and-right (p (r .means word)) (allRows p word rs) h))
   where
-    go : (t : Bool) → p (lookUp word rs) ≡ true → p (cond t (r .means word) (lookUp word rs)) ≡ true
+    go : (t : Bool) → p (lookUp word none rs) ≡ true → p (cond t (r .means word) (lookUp word none rs)) ≡ true
     go true ih = and-left (p (r .means word)) (allRows p word rs) h
     go false ih = ih
 
 ranged-both : (i : Instruction) → bounded i ≡ true → (bounded (ranged i) ≡ true) × (inRange (ranged i) ≡ true)
 ranged-both i h = go (inRange i) refl
   where
-    go : (t : Bool) → inRange i ≡ t → (bounded (cond t i Illegal) ≡ true) × (inRange (cond t i Illegal) ≡ true)
+    go : (t : Bool) → inRange i ≡ t → (bounded (cond t i (Illegal Register)) ≡ true) × (inRange (cond t i (Illegal Register)) ≡ true)
     go true e = (h, e)
     go false e = (refl, refl)
 
@@ -160,6 +164,6 @@ decode-bounded word = go (eqb (Rattle.machine.specs.Listing.bits 6 0 wor
         let d : ltb (immediate13 word) 8192 ≡ true = lt-ltb (immediate13 word) 8192 (omega arith) in
         rw (a, b, c, d)
 
-    go : (t : Bool) → (bounded (cond t (ranged (lookUp word listing)) Illegal) ≡ true) × (inRange (cond t (ranged (lookUp word listing)) Illegal) ≡ true)
-    go true = ranged-both (lookUp word listing) (look-up-all bounded word listing refl rows)
+    go : (t : Bool) → (bounded (cond t (ranged (lookUp word (notOurs word) listing)) (Illegal Opcode)) ≡ true) × (inRange (cond t (ranged (lookUp word (notOurs word) listing)) (Illegal Opcode)) ≡ true)
+    go true = ranged-both (lookUp word (notOurs word) listing) (look-up-all bounded word (notOurs word) listing refl rows)
     go false = (refl, refl)

@@ -160,7 +160,7 @@ module _ (M : Parameters) (G : Grants (M .grant)) (of-elen : M .elen ≡ elen) (
   }
 
   pub sane-after : (o : Operation) (st : State) (mem : List ℕ) → Right st → Right (stateAfter M o st mem)
-  sane-after Operation.illegal st mem h = h
+  sane-after (Operation.illegal wrong) st mem h = h
   sane-after (Operation.setType v) st mem h = record {
     regs-length = h .regs-length;
     marks-length = h .marks-length;

@@ -17,6 +17,7 @@ use Rattle.machine.specs.Geometry.{sealed}
 use Rattle.machine.specs.Memory.{rowAt}
 use Rattle.machine.proofs.MemoryLaws.{clear-at, unsealed-at}
 use Rattle.machine.specs.Listing.{decode}
+use Rattle.machine.specs.declared.Wrong.the-variants.{Opcode, LeftOut, Unlisted, Register}
 use Rattle.machine.specs.Operation.{Operation, memoryAfter}
 use Rattle.machine.specs.Refusals.{checks}
 use Rattle.machine.specs.Geometry.{Bench}
@@ -30,7 +31,10 @@ use Rattle.machine.specs.Step.{outcome, stepBy, stepChecks, meant, given
 
 -- each check of an operation refuses
 pub refusing : (M : Parameters) (o : Operation) (st : State) (mem : List ℕ) → refusals (checks M o st mem) ≡ true
-refusing M Operation.illegal st mem = refl
+refusing M (Operation.illegal Opcode) st mem = refl
+refusing M (Operation.illegal LeftOut) st mem = refl
+refusing M (Operation.illegal Unlisted) st mem = refl
+refusing M (Operation.illegal Register) st mem = refl
 refusing M (Operation.setType v) st mem = refl
 refusing M (Operation.setSize d a) st mem = refl
 refusing M Operation.keepSize st mem = refl
@@ -42,7 +46,7 @@ refusing M (Operation.scale f d a x) st mem = refl
 
 module _ (M : Parameters) (st : State) (mem : List ℕ) where
   pub operation-length : (o : Operation) → length (memoryAfter M o st mem) ≡ length mem
-  operation-length Operation.illegal = refl
+  operation-length (Operation.illegal wrong) = refl
   operation-length (Operation.setType v) = refl
   operation-length (Operation.setSize d a) = refl
   operation-length Operation.keepSize = refl
@@ -53,7 +57,7 @@ module _ (M : Parameters) (st : State) (mem : List ℕ) where
   operation-length (Operation.scale f d a x) = refl
 
   operation-sealed : (o : Operation) → Passed (checks M o st mem) → (q : ℕ) → sealed M q ≡ true → getD (memoryAfter M o st mem) q 0 ≡ getD mem q 0
-  operation-sealed Operation.illegal p q h = refl
+  operation-sealed (Operation.illegal wrong) p q h = refl
   operation-sealed (Operation.setType v) p q h = refl
   operation-sealed (Operation.setSize d a) p q h = refl
   operation-sealed Operation.keepSize p q h = refl

@@ -13,7 +13,7 @@ use Rattle.machine.specs.Setting.{sew, newType, legalType}
 use Rattle.machine.specs.Refusals.{widthOk, widthOf}
 use Rattle.machine.specs.Memory.{inside, clear, unsealed}
 use Rattle.machine.specs.Refusals.{marked}
-use Rattle.machine.specs.Listing.{decode, listing}
+use Rattle.machine.specs.Listing.{decode, listing, others}
 use Rattle.machine.specs.Geometry.{Bench}
 use Rattle.machine.specs.Faults.{sound}
 use Rattle.machine.specs.Step.{Outcome, step, stepBy, outcome}
@@ -77,20 +77,29 @@ examples =
     ∷ gives (step (word 0 0 0 7 0) (scalars 0 0) (bench 0 2 2 8 (2 ^ 64 - 1) 0 1)) 0
     ∷ gives (step (word 0 0 0 7 0) (scalars 0 0) (bench (2 ^ 63) 2 2 8 0 0 1)) 0
     ∷ gives (step (word 0 0 0 7 0) (scalars 0 0) (bench 2 2 2 8 0 0 1)) 0
-    -- 1: the opcode; bits 14..12 of 100; a float; a transposed load; tr8; acc2; bits 27..20 of msettype; bits 24..20 of maddc
-    ∷ gives (step 0x00007033 (scalars 0 0) good) 1
+    -- 10: the opcode, also of what would be a float
+    ∷ gives (step 0x00007033 (scalars 0 0) good) 10
+    ∷ gives (step 0x02006033 (scalars 0 0) good) 10
+    -- 11: mfma.mm, whatever its registers; mfaddc.mm; a transposed load of 64 bits; a conversion
+    ∷ gives (step (word 0b0000001 31 31 6 31) (scalars 0 0) good) 11
+    ∷ gives (step (word 0b0001001 0 0 6 0) (scalars 0 0) good) 11
+    ∷ gives (step (word 0b0001010 11 10 3 8) (scalars 0 8) good) 11
+    ∷ gives (step (word 0b0111110 0 0 6 0) (scalars 0 0) good) 11
+    -- 1: bits 14..12 of 100; bits 27..20 of msettype; bits 24..20 of maddc.mm, of mfaddc.mm and of a conversion; no entry
     ∷ gives (step (word 0b0000010 0 0 4 0) (scalars 0 0) good) 1
-    ∷ gives (step (word 0b0000001 0 0 6 0) (scalars 0 0) good) 1
-    ∷ gives (step (word 0b0001010 11 10 0 0) (scalars 0 8) good) 1
-    ∷ gives (step (word 0b0000010 11 10 0 8) (scalars 0 8) good) 1
-    ∷ gives (step (word 0b0000000 11 10 0 2) (scalars 0 8) good) 1
-    ∷ gives (step (word 0b0000000 8 0 6 0) (scalars 0 0) good) 1
-    ∷ gives (step (word 0b0000000 0 8 6 0) (scalars 0 0) good) 1
-    ∷ gives (step (word 0b0000000 0 0 6 2) (scalars 0 0) good) 1
     ∷ gives (step (word 0b0001000 1 10 7 0) (scalars 0 0) good) 1
     ∷ gives (step (word 0b0001100 0 10 7 0) (scalars 0 0) good) 1
-    ∷ gives (step (word 0b0001000 1 0 6 1) (scalars 0 0) good) 1
+    ∷ gives (step (word 0b0001000 1 0 6 31) (scalars 0 0) good) 1
+    ∷ gives (step (word 0b0001001 1 0 6 0) (scalars 0 0) good) 1
+    ∷ gives (step (word 0b0111110 1 0 6 0) (scalars 0 0) good) 1
     ∷ gives (step (word 0b1000000 0 0 7 0) (scalars 0 0) good) 1
+    ∷ gives (step (word 0b0000101 0 0 6 0) (scalars 0 0) good) 1
+    -- 12: tr8; acc2; ms2, ms1 and md of a multiply
+    ∷ gives (step (word 0b0000010 11 10 0 8) (scalars 0 8) good) 12
+    ∷ gives (step (word 0b0000000 11 10 0 2) (scalars 0 8) good) 12
+    ∷ gives (step (word 0b0000000 8 0 6 0) (scalars 0 0) good) 12
+    ∷ gives (step (word 0b0000000 0 8 6 0) (scalars 0 0) good) 12
+    ∷ gives (step (word 0b0000000 0 0 6 2) (scalars 0 0) good) 12
     -- 2, but msettypei is done
     ∷ gives (step (word 0b0010000 0 0 7 0) (scalars 0 0) (bench (2 ^ 63) 0 0 0 0 0 1)) 2
     ∷ gives (step (word 0b0011000 0 0 7 0) (scalars 0 0) (bench (2 ^ 63) 0 0 0 0 0 1)) 2
@@ -139,7 +148,7 @@ examples =
     ∷ []
 
 pub refusals : map (λ l. l .got) examples ≡ map (λ l. l .want) examples
-unfolding examples word bench scalars shown gives unwritten good marking with permitted sew newType legalType widthOk widthOf inside clear unsealed marked listing decode sound stepBy outcome
+unfolding examples word bench scalars shown gives unwritten good marking with permitted sew newType legalType widthOk widthOf inside clear unsealed marked listing others decode sound stepBy outcome
 refusals = refl
 
 -- ---- effects
@@ -159,7 +168,7 @@ settings =
     ∷ []
 
 pub settings-right : map (λ l. l .got) settings ≡ map (λ l. l .want) settings
-unfolding settings word bench scalars good permitted sew newType legalType listing decode sound stepBy outcome
+unfolding settings word bench scalars good permitted sew newType legalType listing others decode sound stepBy outcome
 settings-right = refl
 
 -- acc0 and acc1 hold 0xFB, -5 at SEW 8, in every byte: one element of each instruction, with the byte after it
@@ -189,5 +198,5 @@ arithmetic =
     ∷ []
 
 pub arithmetic-right : map (λ l. l .got) arithmetic ≡ map (λ l. l .want) arithmetic
-unfolding arithmetic bytes minus5 word bench scalars permitted sew newType legalType widthOk marked listing decode sound stepBy outcome putTile putRow putLe markTile markRow reduce
+unfolding arithmetic bytes minus5 word bench scalars permitted sew newType legalType widthOk marked listing others decode sound stepBy outcome putTile putRow putLe markTile markRow reduce
 arithmetic-right = refl

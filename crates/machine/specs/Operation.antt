@@ -14,6 +14,7 @@ use Rattle.machine.specs.declared.Factor.{Factor}
 use Rattle.machine.specs.declared.Factor.the-variants.{Single, Double, Quadruple}
 use Rattle.machine.specs.declared.Sum.{Sum}
 use Rattle.machine.specs.declared.Sum.the-variants.{Add, Subtract, ReverseSubtract}
+use Rattle.machine.specs.declared.Wrong.{Wrong}
 use Rattle.machine.specs.declared.Instruction.{Instruction}
 use Rattle.machine.specs.declared.Instruction.the-variants.{Illegal, SetTypeImmediate, SetType, SetTileImmediate, SetTile, Load, Store, Multiply, Combine, Scale, ScaleImmediate}
 use Rattle.machine.specs.Geometry.{Parameters, State, registerAt, tileAt, accAt, scalar}
@@ -25,7 +26,7 @@ use Rattle.machine.specs.Memory.{rowAt}
 -- a new mtype; a size that is asked, or none; a matrix, a register, a width, an address and a stride; an output factor, md, ms1
 -- and ms2; an output factor, md, ms1 and the multiplier
 pub data Operation : Type 0 where
-  illegal : Operation
+  illegal : Wrong → Operation
   setType : ℕ → Operation
   setSize : Dimension → ℕ → Operation
   keepSize : Operation
@@ -52,7 +53,7 @@ times Quadruple = 4
 -- the instruction with its scalars read; the multiplier is "the low SEW bits of the scalar, signed, or the five-bit immediate,
 -- -16 to 15"
 abbrev pub operation : Parameters → State → List ℕ → Instruction → Operation
-operation M st xs Illegal = illegal
+operation M st xs (Illegal wrong) = illegal wrong
 operation M st xs (SetTypeImmediate rd immediate) = setType immediate
 operation M st xs (SetType rd rs1) = setType (scalar xs rs1)
 operation M st xs (SetTileImmediate dimension rd immediate) = setSize dimension immediate
@@ -141,7 +142,7 @@ resized M DimensionN a st = sized st (st .mtype) (st .tileM) (st .tileK) (M .gra
 -- "All sources are read before md changes, also when md is ms1. Only bytes of C's elements change or gain a mark": every value is
 -- taken from the state before, and only the bytes of the elements are written
 abbrev pub stateAfter : Parameters → Operation → State → List ℕ → State
-stateAfter M illegal st mem = st
+stateAfter M (illegal wrong) st mem = st
 -- "Tile sizes stay."
 stateAfter M (setType v) st mem = sized st (newType (M .elen) v) (st .tileM) (st .tileK) (st .tileN)
 stateAfter M (setSize d a) st mem = resized M d a st
@@ -158,7 +159,7 @@ stateAfter M (scale f d a x) st mem =
 
 -- "Stores go row by row upward; where rows overlap the later row stays."
 abbrev pub memoryAfter : Parameters → Operation → State → List ℕ → List ℕ
-memoryAfter M illegal st mem = mem
+memoryAfter M (illegal wrong) st mem = mem
 memoryAfter M (setType v) st mem = mem
 memoryAfter M (setSize d a) st mem = mem
 memoryAfter M keepSize st mem = mem
@@ -170,7 +171,7 @@ memoryAfter M (scale f d a x) st mem = mem
 
 -- what rd receives, of the state after: "rd receives the new mtype", "The new tile size .. goes to rd too"
 abbrev pub resultOf : Operation → State → ℕ
-resultOf illegal st = 0
+resultOf (illegal wrong) st = 0
 resultOf (setType v) st = st .mtype
 resultOf (setSize d a) st = sizeIn d st
 resultOf keepSize st = 0

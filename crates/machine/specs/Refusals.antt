@@ -5,7 +5,10 @@ use Prim.Native.Nat.{ℕ, zero, suc, _+_, _*_}
 use lib.ListN.{length, getD}
 use lib.Dec.{leb, eqb}
 use lib.IntN.{ℤ, pos, negsuc}
-use Rattle.machine.specs.declared.Answer.the-variants.{IllegalWord, IllegalType, BadWidth, TileTooLarge, Unwritten, OutsideMemory, SealedByte}
+use Rattle.machine.specs.declared.Answer.{Answer}
+use Rattle.machine.specs.declared.Answer.the-variants.{IllegalWord, IllegalType, BadWidth, TileTooLarge, Unwritten, OutsideMemory, SealedByte, WrongOpcode, NotCarriedOut, WrongRegister}
+use Rattle.machine.specs.declared.Wrong.{Wrong}
+use Rattle.machine.specs.declared.Wrong.the-variants.{Opcode, LeftOut, Unlisted, Register}
 use Rattle.machine.specs.declared.Matrix.{Matrix}
 use Rattle.machine.specs.declared.Matrix.the-variants.{MatrixA, MatrixB, MatrixC}
 use Rattle.machine.specs.declared.Dimension.{Dimension}
@@ -17,9 +20,15 @@ use Rattle.machine.specs.Setting.{sew, maccq, mill, maximum, sizeIn}
 use Rattle.machine.specs.Memory.{inside, unsealed}
 use Rattle.machine.specs.Operation.{Operation, illegal, setType, setSize, keepSize, load, store, multiply, combine, scale, rowsOf, columnsOf, tileRows, tileCols}
 
--- 1: a word that decodes to none of ours
-abbrev pub known : Check
-known = false otherwise IllegalWord
+-- 10, 11, 1, 12: a word that decodes to none of ours
+abbrev pub wordAnswer : Wrong → Answer
+wordAnswer Opcode = WrongOpcode
+wordAnswer LeftOut = NotCarriedOut
+wordAnswer Unlisted = IllegalWord
+wordAnswer Register = WrongRegister
+
+abbrev pub known : Wrong → Check
+known wrong = false otherwise wordAnswer wrong
 
 -- 2: "mill is set and the word isn't msettype or msettypei"
 abbrev pub typed : State → Check
@@ -65,7 +74,7 @@ isZero (negsuc n) = false
 
 -- 6: "an element's byte lies outside memory"; 7: "a store would write a sealed byte"; "sources go ms1, ms2, md"
 abbrev pub checks : Parameters → Operation → State → List ℕ → List Check
-checks M illegal st mem = known ∷ []
+checks M (illegal wrong) st mem = known wrong ∷ []
 checks M (setType v) st mem = []
 checks M (setSize d a) st mem = typed st ∷ []
 checks M keepSize st mem = typed st ∷ []

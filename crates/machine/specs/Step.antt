@@ -17,7 +17,7 @@ use Rattle.machine.specs.Faults.{soundBench, thirtyTwo}
 
 -- rd, of an instruction that has one; else x0, which nothing writes
 abbrev pub destination : Instruction → ℕ
-destination Illegal = 0
+destination (Illegal wrong) = 0
 destination (SetTypeImmediate rd immediate) = rd
 destination (SetType rd rs1) = rd
 destination (SetTileImmediate dimension rd immediate) = rd

@@ -29,6 +29,9 @@ pub enum Answer {
     SealedByte,
     BadArguments,
     Overlap,
+    WrongOpcode,
+    NotCarriedOut,
+    WrongRegister,
 }
 
 // What a start returns: the machine, or zeros where it is refused.
@@ -68,10 +71,21 @@ pub enum Sum {
     ReverseSubtract,
 }
 
+// What is wrong with a word: its opcode; that section 4.5 lists it and we don't carry it out; that its code or its fixed fields
+// are in no entry; a register field out of range.
+pub enum Wrong {
+    Opcode,
+    LeftOut,
+    Unlisted,
+    Register,
+}
+
 // A decoded word. rd, rs1 and rs2 are slots of the scalars; md, ms1, ms2 and ms3 are registers; a width is in bytes.
-// Illegal is a word that is none of ours.
+// Illegal is a word that is refused for what it is.
 pub enum Instruction {
-    Illegal,
+    Illegal {
+        wrong: Wrong,
+    },
     SetTypeImmediate {
         rd: usize,
         immediate: u64,

@@ -32,6 +32,9 @@ fn answer(a: Answer) {
         Answer::SealedByte => say(b"7"),
         Answer::BadArguments => say(b"8"),
         Answer::Overlap => say(b"9"),
+        Answer::WrongOpcode => say(b"10"),
+        Answer::NotCarriedOut => say(b"11"),
+        Answer::WrongRegister => say(b"12"),
     }
 }
 

@@ -12,7 +12,9 @@ use Rattle.width.specs.Reduce.{reduce, signed}
 use Rattle.width.proofs.ReduceLaws.{widened}
 use Rattle.machine.specs.declared.Machine.{Machine}
 use Rattle.machine.specs.declared.Answer.{Answer}
-use Rattle.machine.specs.declared.Answer.the-variants.{Done, IllegalWord, IllegalType, BadArguments}
+use Rattle.machine.specs.declared.Answer.the-variants.{Done, IllegalWord, IllegalType, BadArguments, WrongOpcode, NotCarriedOut, WrongRegister}
+use Rattle.machine.specs.declared.Wrong.{Wrong}
+use Rattle.machine.specs.declared.Wrong.the-variants.{Opcode, LeftOut, Unlisted, Register}
 use Rattle.machine.specs.declared.Stepped.{Stepped}
 use Rattle.machine.specs.declared.Dimension.{Dimension}
 use Rattle.machine.specs.declared.Dimension.the-variants.{DimensionM, DimensionK, DimensionN}
@@ -29,7 +31,7 @@ use Rattle.machine.specs.Geometry.{elen, State, stateOf, machineAfter, Bench, b
 use Rattle.machine.specs.Setting.{sew, mill, newType, maximum, smaller}
 use Rattle.machine.specs.Starting.{sealEnds}
 use Rattle.machine.specs.Operation.{Operation, askedSize, stateAfter, memoryAfter, resultOf}
-use Rattle.machine.specs.Refusals.{checks, isZero}
+use Rattle.machine.specs.Refusals.{wordAnswer, checks, isZero}
 use Rattle.machine.specs.Faults.{sound, soundBench, thirtyTwo}
 use Rattle.machine.specs.Step
 use Rattle.machine.specs.Step.{Outcome, outcome, step, stepBy, given, meant, left, destination}
@@ -118,8 +120,11 @@ module _ (m : Machine) (i : Instruction) (xs regs marks mem : List ℕ) (s : sou
   abbrev leaves : Answer → Machine → (xs regs marks mem : List ℕ) → Outcome
   leaves a m′ xs′ regs′ marks′ mem′ = record { answer = a; bench = benchOf m′ regs′ marks′ mem′; scalars = xs′ }
 
-  pub illegal-outcome : meant (ours m) i xs B ≡ Operation.illegal → leaves IllegalWord m xs regs marks mem ≡ here
-  illegal-outcome e = outcome-by (ours m) i xs B s t IllegalWord (ap (λ (o : Operation). verdict (checks (ours m) o (given (ours m) i xs B) mem)) e)
+  pub illegal-outcome : (wrong : Wrong) → meant (ours m) i xs B ≡ Operation.illegal wrong → leaves (wordAnswer wrong) m xs regs marks mem ≡ here
+  illegal-outcome Opcode e = outcome-by (ours m) i xs B s t WrongOpcode (ap (λ (o : Operation). verdict (checks (ours m) o (given (ours m) i xs B) mem)) e)
+  illegal-outcome LeftOut e = outcome-by (ours m) i xs B s t NotCarriedOut (ap (λ (o : Operation). verdict (checks (ours m) o (given (ours m) i xs B) mem)) e)
+  illegal-outcome Unlisted e = outcome-by (ours m) i xs B s t IllegalWord (ap (λ (o : Operation). verdict (checks (ours m) o (given (ours m) i xs B) mem)) e)
+  illegal-outcome Register e = outcome-by (ours m) i xs B s t WrongRegister (ap (λ (o : Operation). verdict (checks (ours m) o (given (ours m) i xs B) mem)) e)
 
   pub type-outcome : (v rd : ℕ) → meant (ours m) i xs B ≡ Operation.setType v → destination i ≡ rd
       → leaves Done (withType m (newType elen v)) (withScalar xs rd (newType elen v)) regs marks mem ≡ here
@@ -238,7 +243,7 @@ step-decoded word xs B i e = ap (λ (i : Instruction). outcome (ours (B .machine
 
 -- a decoded word's fields
 in-range : (i : Instruction) → bounded i ≡ true → inRange i ≡ true → Decoded i
-in-range Illegal b r = tt
+in-range (Illegal wrong) b r = tt
 in-range (SetTypeImmediate rd immediate) b r = ltb-true rd 32 (every-each (ltb rd 32 ∷ ltb immediate 8192 ∷ []) b .0)
 in-range (SetType rd rs1) b r = let t = every-each (ltb rd 32 ∷ ltb rs1 32 ∷ []) b in (ltb-true rd 32 (t .0), ltb-true rs1 32 (t .1 .0))
 in-range (SetTileImmediate dimension rd immediate) b r = ltb-true rd 32 (every-each (ltb rd 32 ∷ ltb immediate 8192 ∷ []) b .0)

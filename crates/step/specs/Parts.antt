@@ -152,7 +152,7 @@ pub record AccumulatorFits (m : Machine) (r w : ℕ) : Type 0 where
 
 -- what holds of a decoded word: its slots are of the thirty-two, its registers exist, its immediate has five bits
 abbrev pub Decoded : Instruction → Type 0
-Decoded Illegal = Unit {0}
+Decoded (Illegal wrong) = Unit {0}
 Decoded (SetTypeImmediate rd immediate) = rd < 32
 Decoded (SetType rd rs1) = (rd < 32) × (rs1 < 32)
 Decoded (SetTileImmediate dimension rd immediate) = rd < 32

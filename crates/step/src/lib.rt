@@ -7,6 +7,7 @@ use machine::Machine;
 use machine::Matrix;
 use machine::Stepped;
 use machine::Sum;
+use machine::Wrong;
 ghost use mathlib.Core.Path.{_≡_};
 ghost use mathlib.Core.Bool.{Bool, true, false, cond, not};
 ghost use mathlib.Core.List.{[], _∷_};
@@ -21,7 +22,7 @@ ghost use Rattle.machine.specs.Setting.{newType, mill, maccq, maximum, sew, siz
 ghost use Rattle.machine.specs.Faults.{sound, thirtyTwo};
 ghost use Rattle.machine.specs.Geometry.{benchOf};
 ghost use Rattle.machine.specs.Step.{step, outcome, steppedAs};
-ghost use Rattle.machine.specs.Refusals.{widthOf, widthOk, fitting, isZero};
+ghost use Rattle.machine.specs.Refusals.{wordAnswer, widthOf, widthOk, fitting, isZero};
 ghost use Rattle.machine.specs.Operation.{Operation, times, rowsOf, columnsOf};
 ghost use Rattle.machine.specs.declared.Matrix.the-variants.{MatrixC};
 ghost use Rattle.step.specs.Parts.{ours, numbersSound, withType, withSize, sizeStepped, sizeScalars, keepStepped, tileStepped, tileScalars, Multiplier, Decoded, Ready, legalTypes, transferChecks, elementwiseChecks, multiplyChecks, placedAs, Loads, Stores, MarksReady, AccumulatorFits, sourceChecks, accumulatorCheck, productChecks, combineChecks, scaleChecks};
@@ -338,6 +339,18 @@ fn fits(m: Machine, dimension: Dimension) -> bool
     ensures { λ r. ⌜ r ≡ fitting (ours m) (stateOf m [] []) dimension .holds ⌝ }
 {
     size_of(m, dimension) <= largest(m, dimension)
+}
+
+// The answer to a word that is refused for what it is.
+fn word_answer(wrong: Wrong) -> Answer
+    ensures { λ r. ⌜ r ≡ wordAnswer wrong ⌝ }
+{
+    match wrong {
+        Wrong::Opcode => Answer::WrongOpcode,
+        Wrong::LeftOut => Answer::NotCarriedOut,
+        Wrong::Unlisted => Answer::IllegalWord,
+        Wrong::Register => Answer::WrongRegister,
+    }
 }
 
 fn rows_of(matrix: Matrix) -> Dimension
@@ -828,8 +841,8 @@ pub fn perform(
         ≡ outcome (ours m) instruction (now (scalars .entry)) (benchOf m (now (registers .entry)) (now (marks .entry)) (now (memory .entry))) ⌝ }
 {
     match instruction {
-        Instruction::Illegal => Stepped {
-            answer: Answer::IllegalWord,
+        Instruction::Illegal { wrong } => Stepped {
+            answer: word_answer(wrong),
             machine: m,
         },
         Instruction::SetTypeImmediate { rd, immediate } => Stepped {

@@ -208,6 +208,9 @@ pub fn is_done(answer: Answer) -> bool
         Answer::SealedByte => false,
         Answer::BadArguments => false,
         Answer::Overlap => false,
+        Answer::WrongOpcode => false,
+        Answer::NotCarriedOut => false,
+        Answer::WrongRegister => false,
     }
 }
 

@@ -187,6 +187,9 @@ one-turn r n a after e h =
     done-is : (a : Answer) → isDone a ≡ true → a ≡ Done
     done-is Done d = refl
     done-is Answer.IllegalWord d = absurd (false-true d)
+    done-is Answer.WrongOpcode d = absurd (false-true d)
+    done-is Answer.NotCarriedOut d = absurd (false-true d)
+    done-is Answer.WrongRegister d = absurd (false-true d)
     done-is Answer.IllegalType d = absurd (false-true d)
     done-is Answer.BadWidth d = absurd (false-true d)
     done-is Answer.TileTooLarge d = absurd (false-true d)

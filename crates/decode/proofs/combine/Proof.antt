@@ -15,34 +15,24 @@ low-field-requires c κs = search needs
 middle-field-requires : tie.Need-middle-field-requires
 middle-field-requires c κs = search needs
 
-high-field-requires : tie.Need-high-field-requires
-high-field-requires c κs = search needs
-
 returns : tie.Need-returns
 returns c =
     let h = c .before in
-    let a = h .before .before .before .args in
-    rw (ne-eqb (field20 (a .word)) 0 (λ z. c .if1 .taken (h .high-field .ensures ∙ z)))
+    let a = h .before .before .args in
+    ranged-out (Combine (a .sum) (a .factor) (field7 (a .word)) (field15 (a .word))) (rw (le-ltb (field7 (a .word)) 2 (omega (arith, h .before .low-field .ensures))))
 
 returns-2 : tie.Need-returns-2
 returns-2 c =
     let h = c .before .before in
-    let a = h .before .before .before .args in
-    rw (eq-eqb (field20 (a .word)) 0 (sym (h .high-field .ensures) ∙ c .before .if1 .left)) (ranged-out (Combine (a .sum) (a .factor) (field7 (a .word)) (field15 (a .word))) (rw (le-ltb (field7 (a .word)) 2 (omega (arith, h .before .before .low-field .ensures)))))
+    let a = h .before .before .args in
+    ranged-out (Combine (a .sum) (a .factor) (field7 (a .word)) (field15 (a .word))) (rw (lt-ltb (field7 (a .word)) 2 (omega (arith, h .before .low-field .ensures)), le-ltb (field15 (a .word)) 2 (omega (arith, h .middle-field .ensures))))
 
 returns-3 : tie.Need-returns-3
 returns-3 c =
-    let h = c .before .before .before in
-    let a = h .before .before .before .args in
-    rw (eq-eqb (field20 (a .word)) 0 (sym (h .high-field .ensures) ∙ c .before .before .if1 .left)) (ranged-out (Combine (a .sum) (a .factor) (field7 (a .word)) (field15 (a .word))) (rw (lt-ltb (field7 (a .word)) 2 (omega (arith, h .before .before .low-field .ensures)), le-ltb (field15 (a .word)) 2 (omega (arith, h .before .middle-field .ensures)))))
-
-returns-4 : tie.Need-returns-4
-returns-4 c =
-    let h = c .before .before .before in
-    let a = h .before .before .before .args in
-    rw (eq-eqb (field20 (a .word)) 0 (sym (h .high-field .ensures) ∙ c .before .before .if1 .left)) (
-    ap₂ (λ (x y : ℕ). Combine (a .sum) (a .factor) x y) (h .before .before .low-field .ensures) (h .before .middle-field .ensures)
-    ∙ ranged-in (Combine (a .sum) (a .factor) (field7 (a .word)) (field15 (a .word))) (rw (lt-ltb (field7 (a .word)) 2 (omega (arith, h .before .before .low-field .ensures)), lt-ltb (field15 (a .word)) 2 (omega (arith, h .before .middle-field .ensures)))))
+    let h = c .before .before in
+    let a = h .before .before .args in
+    ap₂ (λ (x y : ℕ). Combine (a .sum) (a .factor) x y) (h .before .low-field .ensures) (h .middle-field .ensures)
+    ∙ ranged-in (Combine (a .sum) (a .factor) (field7 (a .word)) (field15 (a .word))) (rw (lt-ltb (field7 (a .word)) 2 (omega (arith, h .before .low-field .ensures)), lt-ltb (field15 (a .word)) 2 (omega (arith, h .middle-field .ensures))))
 
 pub combine-spec : {M : Type 1} → statement M
-combine-spec = tie.close (tie.spec low-field-requires middle-field-requires high-field-requires returns returns-2 returns-3 returns-4)
+combine-spec = tie.close (tie.spec low-field-requires middle-field-requires returns returns-2 returns-3)

@@ -27,8 +27,8 @@ returns-2 c =
     let a = h .before .before .args in
     ranged-out (ScaleImmediate (a .factor) (field7 (a .word)) (field15 (a .word)) (field20 (a .word))) (rw (lt-ltb (field7 (a .word)) 2 (omega (arith, h .before .low-field .ensures)), le-ltb (field15 (a .word)) 2 (omega (arith, h .middle-field .ensures))))
 
-cast-t8 : tie.Need-cast-t8
-cast-t8 c = search needs
+cast-t10 : tie.Need-cast-t10
+cast-t10 c = search needs
 
 returns-3 : tie.Need-returns-3
 returns-3 c =
@@ -38,4 +38,4 @@ returns-3 c =
     ∙ ranged-in (ScaleImmediate (a .factor) (field7 (a .word)) (field15 (a .word)) (field20 (a .word))) (rw (lt-ltb (field7 (a .word)) 2 (omega (arith, h .before .low-field .ensures)), lt-ltb (field15 (a .word)) 2 (omega (arith, h .middle-field .ensures))))
 
 pub scale-immediate-spec : {M : Type 1} → statement M
-scale-immediate-spec = tie.close (tie.spec low-field-requires middle-field-requires returns returns-2 cast-t8 returns-3)
+scale-immediate-spec = tie.close (tie.spec low-field-requires middle-field-requires returns returns-2 cast-t10 returns-3)

@@ -46,6 +46,15 @@ enum-told-8 c = search needs
 enum-told-9 : tie.Need-enum-told-9
 enum-told-9 c = search needs
 
+enum-told-10 : tie.Need-enum-told-10
+enum-told-10 c = search needs
+
+enum-told-11 : tie.Need-enum-told-11
+enum-told-11 c = search needs
+
+enum-told-12 : tie.Need-enum-told-12
+enum-told-12 c = search needs
+
 returns : tie.Need-returns
 returns c = ap packed (sym (c .enum-told .given .1))
 
@@ -76,6 +85,15 @@ returns-9 c = ap packed (sym (c .enum-told8 .given .1))
 returns-10 : tie.Need-returns-10
 returns-10 c = ap packed (sym (c .enum-told9 .given .1))
 
+returns-11 : tie.Need-returns-11
+returns-11 c = ap packed (sym (c .enum-told10 .given .1))
+
+returns-12 : tie.Need-returns-12
+returns-12 c = ap packed (sym (c .enum-told11 .given .1))
+
+returns-13 : tie.Need-returns-13
+returns-13 c = ap packed (sym (c .enum-told12 .given .1))
+
 pub packed-spec : {M : Type 1} → statement M
 packed-spec =
     tie.close
@@ -94,6 +112,9 @@ packed-spec =
     enum-told-7
     enum-told-8
     enum-told-9
+    enum-told-10
+    enum-told-11
+    enum-told-12
     returns
     returns-2
     returns-3
@@ -103,4 +124,7 @@ packed-spec =
     returns-7
     returns-8
     returns-9
-    returns-10)
+    returns-10
+    returns-11
+    returns-12
+    returns-13)

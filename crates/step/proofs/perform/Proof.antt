@@ -4,6 +4,7 @@ use Prim.Native.Nat.{ℕ, _-_, _%_, _^_}
 use native.Mathlib.Omega.{arith}
 use Rattle.machine.specs.declared.Machine.{Machine}
 use Rattle.machine.specs.declared.Stepped.{Stepped}
+use Rattle.machine.specs.declared.Answer.{Answer}
 use Rattle.machine.specs.declared.Answer.the-variants.{Done}
 use Rattle.step.specs.Parts.{ours, withType}
 use lib.ListN.{length}
@@ -12,7 +13,7 @@ use Rattle.width.specs.Reduce.{signed}
 use Rattle.machine.specs.Geometry.{elen, stateOf, withScalar, benchOf}
 use Rattle.machine.specs.Setting.{sew, newType}
 use Rattle.machine.specs.Operation.{Operation, operation, times}
-use Rattle.machine.specs.Step.{destination}
+use Rattle.machine.specs.Step.{destination, steppedAs}
 use Rattle.machine.proofs.NoFault.{sound-is}
 use Rattle.step.specs.Parts.{Decoded}
 use Rattle.step.proofs.TransferLaws.{ready}
@@ -21,26 +22,29 @@ use borrow.Author.Needs.{needs}
 use Rattle.step.proofs.perform.Statement.{statement}
 use Rattle.step.proofs.perform.Tie as tie
 
-enum-told : tie.Need-enum-told
-enum-told c = search needs
-
 enum-known-instruction : tie.Need-enum-known-instruction
 enum-known-instruction c = search needs
 
+word-answer-requires : tie.Need-word-answer-requires
+word-answer-requires c κs = search needs
+
+enum-known-instruction-2 : tie.Need-enum-known-instruction-2
+enum-known-instruction-2 c = search needs
+
 set-type-requires : tie.Need-set-type-requires
 set-type-requires c κs =
-    let g = c .before .before .instruction .given in
+    let g = c .before .before .instruction2 .given in
     let s = c .before .before .before .before .before .before .before .before in
     let d = subst Decoded (g .1) (s .pre .1 .1) in
     let n : length (s .args .scalars .now) ≡ 32 = eqb-true (length (s .args .scalars .now)) 32 (s .pre .1 .0) in
     omega (arith, d, n)
 
-enum-known-instruction-2 : tie.Need-enum-known-instruction-2
-enum-known-instruction-2 c = search needs
+enum-known-instruction-3 : tie.Need-enum-known-instruction-3
+enum-known-instruction-3 c = search needs
 
 read-scalar-requires : tie.Need-read-scalar-requires
 read-scalar-requires c κs =
-    let g = c .before .before .instruction2 .given in
+    let g = c .before .before .instruction3 .given in
     let s = c .before .before .before .before .before .before .before .before in
     let d = subst Decoded (g .1) (s .pre .1 .1) in
     let n : length (s .args .scalars .now) ≡ 32 = eqb-true (length (s .args .scalars .now)) 32 (s .pre .1 .0) in
@@ -48,40 +52,40 @@ read-scalar-requires c κs =
 
 set-type-requires-2 : tie.Need-set-type-requires-2
 set-type-requires-2 c κs =
-    let g = c .before .before .before .before .instruction2 .given in
+    let g = c .before .before .before .before .instruction3 .given in
     let s = c .before .before .before .before .before .before .before .before .before .before in
     let d = subst Decoded (g .1) (s .pre .1 .1) in
     let n : length (s .args .scalars .now) ≡ 32 = eqb-true (length (s .args .scalars .now)) 32 (s .pre .1 .0) in
     omega (arith, d .0, n)
 
-enum-known-instruction-3 : tie.Need-enum-known-instruction-3
-enum-known-instruction-3 c = search needs
+enum-known-instruction-4 : tie.Need-enum-known-instruction-4
+enum-known-instruction-4 c = search needs
 
 set-size-requires : tie.Need-set-size-requires
 set-size-requires c κs =
-    let g = c .before .before .instruction3 .given in
+    let g = c .before .before .instruction4 .given in
     let s = c .before .before .before .before .before .before .before .before in
     let d = subst Decoded (g .1) (s .pre .1 .1) in
     let n : length (s .args .scalars .now) ≡ 32 = eqb-true (length (s .args .scalars .now)) 32 (s .pre .1 .0) in
     (ready (s .args .m) (s .args .registers .now) (s .args .marks .now) (s .pre .0), omega (arith, d, n))
 
-enum-known-instruction-4 : tie.Need-enum-known-instruction-4
-enum-known-instruction-4 c = search needs
+enum-known-instruction-5 : tie.Need-enum-known-instruction-5
+enum-known-instruction-5 c = search needs
 
 set-tile-requires : tie.Need-set-tile-requires
 set-tile-requires c κs =
-    let g = c .before .before .instruction4 .given in
+    let g = c .before .before .instruction5 .given in
     let s = c .before .before .before .before .before .before .before .before in
     let d = subst Decoded (g .1) (s .pre .1 .1) in
     let n : length (s .args .scalars .now) ≡ 32 = eqb-true (length (s .args .scalars .now)) 32 (s .pre .1 .0) in
     (ready (s .args .m) (s .args .registers .now) (s .args .marks .now) (s .pre .0), (omega (arith, d .0, n), omega (arith, d .1, n)))
 
-enum-known-instruction-5 : tie.Need-enum-known-instruction-5
-enum-known-instruction-5 c = search needs
+enum-known-instruction-6 : tie.Need-enum-known-instruction-6
+enum-known-instruction-6 c = search needs
 
 read-scalar-requires-2 : tie.Need-read-scalar-requires-2
 read-scalar-requires-2 c κs =
-    let g = c .before .before .instruction5 .given in
+    let g = c .before .before .instruction6 .given in
     let s = c .before .before .before .before .before .before .before .before in
     let d = subst Decoded (g .1) (s .pre .1 .1) in
     let n : length (s .args .scalars .now) ≡ 32 = eqb-true (length (s .args .scalars .now)) 32 (s .pre .1 .0) in
@@ -89,7 +93,7 @@ read-scalar-requires-2 c κs =
 
 read-scalar-requires-3 : tie.Need-read-scalar-requires-3
 read-scalar-requires-3 c κs =
-    let g = c .before .before .before .before .instruction5 .given in
+    let g = c .before .before .before .before .instruction6 .given in
     let s = c .before .before .before .before .before .before .before .before .before .before in
     let d = subst Decoded (g .1) (s .pre .1 .1) in
     let n : length (s .args .scalars .now) ≡ 32 = eqb-true (length (s .args .scalars .now)) 32 (s .pre .1 .0) in
@@ -97,33 +101,6 @@ read-scalar-requires-3 c κs =
 
 load-requires : tie.Need-load-requires
 load-requires c κs =
-    let g = c .before .before .before .before .before .before .before .before .instruction5 .given in
-    let s = c .before .before .before .before .before .before .before .before .before .before .before .before .before .before in
-    let d = subst Decoded (g .1) (s .pre .1 .1) in
-    let n : length (s .args .scalars .now) ≡ 32 = eqb-true (length (s .args .scalars .now)) 32 (s .pre .1 .0) in
-    (s .pre .0, d .0)
-
-enum-known-instruction-6 : tie.Need-enum-known-instruction-6
-enum-known-instruction-6 c = search needs
-
-read-scalar-requires-4 : tie.Need-read-scalar-requires-4
-read-scalar-requires-4 c κs =
-    let g = c .before .before .instruction6 .given in
-    let s = c .before .before .before .before .before .before .before .before in
-    let d = subst Decoded (g .1) (s .pre .1 .1) in
-    let n : length (s .args .scalars .now) ≡ 32 = eqb-true (length (s .args .scalars .now)) 32 (s .pre .1 .0) in
-    omega (arith, d .1 .0, n)
-
-read-scalar-requires-5 : tie.Need-read-scalar-requires-5
-read-scalar-requires-5 c κs =
-    let g = c .before .before .before .before .instruction6 .given in
-    let s = c .before .before .before .before .before .before .before .before .before .before in
-    let d = subst Decoded (g .1) (s .pre .1 .1) in
-    let n : length (s .args .scalars .now) ≡ 32 = eqb-true (length (s .args .scalars .now)) 32 (s .pre .1 .0) in
-    omega (arith, d .1 .1, n)
-
-store-requires : tie.Need-store-requires
-store-requires c κs =
     let g = c .before .before .before .before .before .before .before .before .instruction6 .given in
     let s = c .before .before .before .before .before .before .before .before .before .before .before .before .before .before in
     let d = subst Decoded (g .1) (s .pre .1 .1) in
@@ -133,19 +110,35 @@ store-requires c κs =
 enum-known-instruction-7 : tie.Need-enum-known-instruction-7
 enum-known-instruction-7 c = search needs
 
-multiply-requires : tie.Need-multiply-requires
-multiply-requires c κs =
-    let g = c .before .before .before .instruction7 .given in
-    let s = c .before .before .before .before .before .before .before .before .before in
+read-scalar-requires-4 : tie.Need-read-scalar-requires-4
+read-scalar-requires-4 c κs =
+    let g = c .before .before .instruction7 .given in
+    let s = c .before .before .before .before .before .before .before .before in
     let d = subst Decoded (g .1) (s .pre .1 .1) in
     let n : length (s .args .scalars .now) ≡ 32 = eqb-true (length (s .args .scalars .now)) 32 (s .pre .1 .0) in
-    (s .pre .0, d)
+    omega (arith, d .1 .0, n)
+
+read-scalar-requires-5 : tie.Need-read-scalar-requires-5
+read-scalar-requires-5 c κs =
+    let g = c .before .before .before .before .instruction7 .given in
+    let s = c .before .before .before .before .before .before .before .before .before .before in
+    let d = subst Decoded (g .1) (s .pre .1 .1) in
+    let n : length (s .args .scalars .now) ≡ 32 = eqb-true (length (s .args .scalars .now)) 32 (s .pre .1 .0) in
+    omega (arith, d .1 .1, n)
+
+store-requires : tie.Need-store-requires
+store-requires c κs =
+    let g = c .before .before .before .before .before .before .before .before .instruction7 .given in
+    let s = c .before .before .before .before .before .before .before .before .before .before .before .before .before .before in
+    let d = subst Decoded (g .1) (s .pre .1 .1) in
+    let n : length (s .args .scalars .now) ≡ 32 = eqb-true (length (s .args .scalars .now)) 32 (s .pre .1 .0) in
+    (s .pre .0, d .0)
 
 enum-known-instruction-8 : tie.Need-enum-known-instruction-8
 enum-known-instruction-8 c = search needs
 
-combine-requires : tie.Need-combine-requires
-combine-requires c κs =
+multiply-requires : tie.Need-multiply-requires
+multiply-requires c κs =
     let g = c .before .before .before .instruction8 .given in
     let s = c .before .before .before .before .before .before .before .before .before in
     let d = subst Decoded (g .1) (s .pre .1 .1) in
@@ -155,9 +148,20 @@ combine-requires c κs =
 enum-known-instruction-9 : tie.Need-enum-known-instruction-9
 enum-known-instruction-9 c = search needs
 
+combine-requires : tie.Need-combine-requires
+combine-requires c κs =
+    let g = c .before .before .before .instruction9 .given in
+    let s = c .before .before .before .before .before .before .before .before .before in
+    let d = subst Decoded (g .1) (s .pre .1 .1) in
+    let n : length (s .args .scalars .now) ≡ 32 = eqb-true (length (s .args .scalars .now)) 32 (s .pre .1 .0) in
+    (s .pre .0, d)
+
+enum-known-instruction-10 : tie.Need-enum-known-instruction-10
+enum-known-instruction-10 c = search needs
+
 read-scalar-requires-6 : tie.Need-read-scalar-requires-6
 read-scalar-requires-6 c κs =
-    let g = c .before .before .instruction9 .given in
+    let g = c .before .before .instruction10 .given in
     let s = c .before .before .before .before .before .before .before .before in
     let d = subst Decoded (g .1) (s .pre .1 .1) in
     let n : length (s .args .scalars .now) ≡ 32 = eqb-true (length (s .args .scalars .now)) 32 (s .pre .1 .0) in
@@ -165,7 +169,7 @@ read-scalar-requires-6 c κs =
 
 multiplier-requires : tie.Need-multiplier-requires
 multiplier-requires c κs =
-    let g = c .before .before .before .instruction9 .given in
+    let g = c .before .before .before .instruction10 .given in
     let s = c .before .before .before .before .before .before .before .before .before in
     let d = subst Decoded (g .1) (s .pre .1 .1) in
     let n : length (s .args .scalars .now) ≡ 32 = eqb-true (length (s .args .scalars .now)) 32 (s .pre .1 .0) in
@@ -173,18 +177,18 @@ multiplier-requires c κs =
 
 scale-requires : tie.Need-scale-requires
 scale-requires c κs =
-    let g = c .before .before .before .before .before .before .instruction9 .given in
+    let g = c .before .before .before .before .before .before .instruction10 .given in
     let s = c .before .before .before .before .before .before .before .before .before .before .before .before in
     let d = subst Decoded (g .1) (s .pre .1 .1) in
     let n : length (s .args .scalars .now) ≡ 32 = eqb-true (length (s .args .scalars .now)) 32 (s .pre .1 .0) in
     (s .pre .0, d .0)
 
-enum-known-instruction-10 : tie.Need-enum-known-instruction-10
-enum-known-instruction-10 c = search needs
+enum-known-instruction-11 : tie.Need-enum-known-instruction-11
+enum-known-instruction-11 c = search needs
 
 sign-extend-requires : tie.Need-sign-extend-requires
 sign-extend-requires c κs =
-    let g = c .before .instruction10 .given in
+    let g = c .before .instruction11 .given in
     let s = c .before .before .before .before .before .before .before in
     let d = subst Decoded (g .1) (s .pre .1 .1) in
     let n : length (s .args .scalars .now) ≡ 32 = eqb-true (length (s .args .scalars .now)) 32 (s .pre .1 .0) in
@@ -192,7 +196,7 @@ sign-extend-requires c κs =
 
 scale-requires-2 : tie.Need-scale-requires-2
 scale-requires-2 c κs =
-    let g = c .before .before .before .before .instruction10 .given in
+    let g = c .before .before .before .before .instruction11 .given in
     let s = c .before .before .before .before .before .before .before .before .before .before in
     let d = subst Decoded (g .1) (s .pre .1 .1) in
     let n : length (s .args .scalars .now) ≡ 32 = eqb-true (length (s .args .scalars .now)) 32 (s .pre .1 .0) in
@@ -200,8 +204,9 @@ scale-requires-2 c κs =
 
 returns : tie.Need-returns
 returns c =
-    let s = c .before .before .before .before .before .before in
-    let e = c .enum-told .given .1 in
+    let h = c .before .before in
+    let s = h .before .before .before .before .before .before in
+    let e = h .instruction .given .1 in
     let a = s .args in
     let xs = a .scalars .now in
     let rs = a .registers .now in
@@ -209,14 +214,15 @@ returns c =
     let mem = a .memory .now in
     let meant = ap (operation (ours (a .m)) (stateOf (a .m) rs ms) xs) e in
     let rd = ap destination e in
-    illegal-outcome (a .m) (a .instruction) xs rs ms mem (s .pre .0) (s .pre .1 .0) meant
+    ap (λ (x : Answer). steppedAs (record { answer = x; machine = a .m }) rs ms xs mem) (c .word-answer .ensures)
+    ∙ illegal-outcome (a .m) (a .instruction) xs rs ms mem (s .pre .0) (s .pre .1 .0) _ meant
 
 same-length : tie.Need-same-length
 same-length c = search needs
 
 returns-2 : tie.Need-returns-2
 returns-2 c =
-    let g = c .before .before .before .before .before .instruction .given in
+    let g = c .before .before .before .before .before .instruction2 .given in
     let s = c .before .before .before .before .before .before .before .before .before .before .before in
     let e = g .1 in
     let a = s .args in
@@ -235,7 +241,7 @@ same-length-2 c = search needs
 
 returns-3 : tie.Need-returns-3
 returns-3 c =
-    let g = c .before .before .before .before .before .before .before .instruction2 .given in
+    let g = c .before .before .before .before .before .before .before .instruction3 .given in
     let s = c .before .before .before .before .before .before .before .before .before .before .before .before .before in
     let e = g .1 in
     let a = s .args in
@@ -255,7 +261,7 @@ same-length-3 c = search needs
 
 returns-4 : tie.Need-returns-4
 returns-4 c =
-    let g = c .before .before .before .before .before .instruction3 .given in
+    let g = c .before .before .before .before .before .instruction4 .given in
     let s = c .before .before .before .before .before .before .before .before .before .before .before in
     let e = g .1 in
     let a = s .args in
@@ -274,7 +280,7 @@ same-length-4 c = search needs
 
 returns-5 : tie.Need-returns-5
 returns-5 c =
-    let g = c .before .before .before .before .before .instruction4 .given in
+    let g = c .before .before .before .before .before .instruction5 .given in
     let s = c .before .before .before .before .before .before .before .before .before .before .before in
     let e = g .1 in
     let a = s .args in
@@ -302,7 +308,7 @@ same-length-8 c = search needs
 
 returns-6 : tie.Need-returns-6
 returns-6 c =
-    let g = c .before .before .before .before .before .before .before .before .before .before .before .before .before .instruction5 .given in
+    let g = c .before .before .before .before .before .before .before .before .before .before .before .before .before .instruction6 .given in
     let s = c .before .before .before .before .before .before .before .before .before .before .before .before .before .before .before .before .before .before .before in
     let e = g .1 in
     let a = s .args in
@@ -331,7 +337,7 @@ same-length-12 c = search needs
 
 returns-7 : tie.Need-returns-7
 returns-7 c =
-    let g = c .before .before .before .before .before .before .before .before .before .before .before .instruction6 .given in
+    let g = c .before .before .before .before .before .before .before .before .before .before .before .instruction7 .given in
     let s = c .before .before .before .before .before .before .before .before .before .before .before .before .before .before .before .before .before in
     let e = g .1 in
     let a = s .args in
@@ -354,7 +360,7 @@ same-length-14 c = search needs
 
 returns-8 : tie.Need-returns-8
 returns-8 c =
-    let g = c .before .before .before .before .before .before .before .before .instruction7 .given in
+    let g = c .before .before .before .before .before .before .before .before .instruction8 .given in
     let s = c .before .before .before .before .before .before .before .before .before .before .before .before .before .before in
     let e = g .1 in
     let a = s .args in
@@ -375,7 +381,7 @@ same-length-16 c = search needs
 
 returns-9 : tie.Need-returns-9
 returns-9 c =
-    let g = c .before .before .before .before .before .before .before .before .instruction8 .given in
+    let g = c .before .before .before .before .before .before .before .before .instruction9 .given in
     let s = c .before .before .before .before .before .before .before .before .before .before .before .before .before .before in
     let e = g .1 in
     let a = s .args in
@@ -399,7 +405,7 @@ same-length-19 c = search needs
 
 returns-10 : tie.Need-returns-10
 returns-10 c =
-    let g = c .before .before .before .before .before .before .before .before .before .before .before .instruction9 .given in
+    let g = c .before .before .before .before .before .before .before .before .before .before .before .instruction10 .given in
     let s = c .before .before .before .before .before .before .before .before .before .before .before .before .before .before .before .before .before in
     let e = g .1 in
     let a = s .args in
@@ -423,7 +429,7 @@ same-length-21 c = search needs
 
 returns-11 : tie.Need-returns-11
 returns-11 c =
-    let g = c .before .before .before .before .before .before .before .before .before .instruction10 .given in
+    let g = c .before .before .before .before .before .before .before .before .before .instruction11 .given in
     let s = c .before .before .before .before .before .before .before .before .before .before .before .before .before .before .before in
     let e = g .1 in
     let a = s .args in
@@ -438,4 +444,4 @@ returns-11 c =
     loads-outcome (a .m) (a .instruction) xs rs ms mem (s .pre .0) (s .pre .1 .0) _ meant rd _ _ _ (record { answer-is = l .answer-is; registers-are = l .registers-are; marks-are = l .marks-are }) refl refl
 
 pub perform-spec : {M : Type 1} → statement M
-perform-spec = tie.close (tie.spec enum-told enum-known-instruction set-type-requires enum-known-instruction-2 read-scalar-requires set-type-requires-2 enum-known-instruction-3 set-size-requires enum-known-instruction-4 set-tile-requires enum-known-instruction-5 read-scalar-requires-2 read-scalar-requires-3 load-requires enum-known-instruction-6 read-scalar-requires-4 read-scalar-requires-5 store-requires enum-known-instruction-7 multiply-requires enum-known-instruction-8 combine-requires enum-known-instruction-9 read-scalar-requires-6 multiplier-requires scale-requires enum-known-instruction-10 sign-extend-requires scale-requires-2 returns same-length returns-2 same-length-2 returns-3 same-length-3 returns-4 same-length-4 returns-5 same-length-5 same-length-6 same-length-7 same-length-8 returns-6 same-length-9 same-length-10 same-length-11 same-length-12 returns-7 same-length-13 same-length-14 returns-8 same-length-15 same-length-16 returns-9 same-length-17 same-length-18 same-length-19 returns-10 same-length-20 same-length-21 returns-11)
+perform-spec = tie.close (tie.spec enum-known-instruction word-answer-requires enum-known-instruction-2 set-type-requires enum-known-instruction-3 read-scalar-requires set-type-requires-2 enum-known-instruction-4 set-size-requires enum-known-instruction-5 set-tile-requires enum-known-instruction-6 read-scalar-requires-2 read-scalar-requires-3 load-requires enum-known-instruction-7 read-scalar-requires-4 read-scalar-requires-5 store-requires enum-known-instruction-8 multiply-requires enum-known-instruction-9 combine-requires enum-known-instruction-10 read-scalar-requires-6 multiplier-requires scale-requires enum-known-instruction-11 sign-extend-requires scale-requires-2 returns same-length returns-2 same-length-2 returns-3 same-length-3 returns-4 same-length-4 returns-5 same-length-5 same-length-6 same-length-7 same-length-8 returns-6 same-length-9 same-length-10 same-length-11 same-length-12 returns-7 same-length-13 same-length-14 returns-8 same-length-15 same-length-16 returns-9 same-length-17 same-length-18 same-length-19 returns-10 same-length-20 same-length-21 returns-11)
