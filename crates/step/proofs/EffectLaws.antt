@@ -3,7 +3,6 @@ use mathlib.Core.Path.{_≡_, refl, sym, ap, ap₂, _∙_, subst}
 use mathlib.Core.Bool.{Bool, true, false}
 use mathlib.Core.List.{List, []}
 use Prim.Native.Nat.{ℕ, _+_, _*_, _/_, _≤_, _<_}
-use native.Mathlib.Omega.{arith}
 use lib.Dec.{eqb}
 use lib.IntN.{ℤ, pos}
 use lib.ListN.{length, getD, set}
@@ -25,7 +24,7 @@ use Rattle.machine.specs.Setting.{sew, smaller}
 use Rattle.machine.specs.Operation.{Operation, stateAfter}
 use Rattle.machine.specs.Refusals.{checks, isZero}
 use Rattle.machine.specs.Faults.{sound}
-use Rattle.machine.proofs.CheckLaws.{Passed, passed}
+use Rattle.machine.proofs.CheckLaws.{passed}
 use Rattle.machine.proofs.CodeLaws.{only-done}
 use Rattle.machine.proofs.NoFault.{Sound, sound-is}
 use Rattle.machine.proofs.StepLaws.{permitted-lengths}
@@ -95,21 +94,14 @@ module _ (m : Machine) (regs marks : List ℕ) (h : sound m regs marks ≡ true)
           subst (λ (x : ℕ). Asked x w) (sym ef) (subst (λ (y : ℕ). Asked f y) (sym ew)
           (multiply-ready smaller m regs marks [] h f d a b l (passed (checks (ours m) (Operation.multiply f d a b) st []) refl p)))
 
-      pub product-loads : (regs′ marks′ : List ℕ) → regs′ ≡ productTile (shape R P) (f′ * w) w d a b tm tk tn regs → marks′ ≡ markTile (accAt (ours m) d) tm (tn * (f′ * w)) marks
-          → Loads m (Operation.multiply f d a b) regs marks [] Done regs′ marks′
-      unfolding productTile
-      product-loads regs′ marks′ er em =
-          done (Operation.multiply f d a b) p regs′ marks′
-          (er ∙ ap₂ (λ (x y : ℕ). productTile (shape R P) x y d a b tm tk tn regs) wide-is ew)
-          (em ∙ ap (λ (x : ℕ). markTile (accAt (ours m) d) tm (tn * x) marks) wide-is)
-
-      -- the marks are as they were: a multiply reads each byte that it writes
-      pub product-loads-marked : (regs′ : List ℕ) → regs′ ≡ productTile (shape R P) (f′ * w) w d a b tm tk tn regs
+      -- a multiply reads each byte that it writes, so the marks stay
+      pub product-loads : (regs′ : List ℕ) → regs′ ≡ productTile (shape R P) (f′ * w) w d a b tm tk tn regs
           → Loads m (Operation.multiply f d a b) regs marks [] Done regs′ marks
-      product-loads-marked regs′ er =
-          product-loads regs′ marks er
-          (mark-again marks (accAt (ours m) d) tm (tn * (f * sew (m .mtype))) (passed (checks (ours m) (Operation.multiply f d a b) st []) refl p .1 .1 .1 .1 .1 .1 .1 .0)
-          ∙ ap (λ (x : ℕ). markTile (accAt (ours m) d) tm (tn * x) marks) (sym wide-is))
+      unfolding productTile
+      product-loads regs′ er =
+          done (Operation.multiply f d a b) p regs′ marks
+          (er ∙ ap₂ (λ (x y : ℕ). productTile (shape R P) x y d a b tm tk tn regs) wide-is ew)
+          (mark-again marks (accAt (ours m) d) tm (tn * (f * sew (m .mtype))) (passed (checks (ours m) (Operation.multiply f d a b) st []) refl p .1 .1 .1 .1 .1 .1 .1 .0))
 
     -- the element-wise instructions ask the same of md and ms1
     abbrev Elementwise : ℕ → ℕ → ℕ → ℕ → Type 0
@@ -123,14 +115,14 @@ module _ (m : Machine) (regs marks : List ℕ) (h : sound m regs marks ≡ true)
       pub combine-asks : (d < 2) × (a < 2) → Elementwise d a f′ w
       combine-asks l = elementwise-asks d a (combine-ready smaller m regs marks [] h o f d a l (passed (checks (ours m) (Operation.combine o f d a) st []) refl p))
 
-      pub combine-loads : (regs′ marks′ : List ℕ) → regs′ ≡ combineTile (shape R P) o (f′ * w) w d a (m .«tile_m») (m .«tile_n») regs
-          → marks′ ≡ markTile (accAt (ours m) d) (m .«tile_m») (m .«tile_n» * (f′ * w)) marks
-          → Loads m (Operation.combine o f d a) regs marks [] Done regs′ marks′
+      -- and so does an add or a subtract
+      pub combine-loads : (regs′ : List ℕ) → regs′ ≡ combineTile (shape R P) o (f′ * w) w d a (m .«tile_m») (m .«tile_n») regs
+          → Loads m (Operation.combine o f d a) regs marks [] Done regs′ marks
       unfolding combineTile
-      combine-loads regs′ marks′ er em =
-          done (Operation.combine o f d a) p regs′ marks′
+      combine-loads regs′ er =
+          done (Operation.combine o f d a) p regs′ marks
           (er ∙ ap₂ (λ (x y : ℕ). combineTile (shape R P) o x y d a (m .«tile_m») (m .«tile_n») regs) wide-is ew)
-          (em ∙ ap (λ (x : ℕ). markTile (accAt (ours m) d) (m .«tile_m») (m .«tile_n» * x) marks) wide-is)
+          (mark-again marks (accAt (ours m) d) (m .«tile_m») (m .«tile_n» * (f * sew (m .mtype))) (passed (checks (ours m) (Operation.combine o f d a) st []) refl p .1 .1 .1 .1 .1 .0))
 
     module _ (d a x : ℕ) (p : isDone (verdict (scaleChecks m marks f a (eqb x 0))) ≡ true) where
       checks-are : (z : ℤ) → isZero z ≡ eqb x 0 → isDone (verdict (checks (ours m) (Operation.scale f d a z) st [])) ≡ true

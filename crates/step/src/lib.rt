@@ -9,9 +9,9 @@ use machine::Stepped;
 use machine::Sum;
 use machine::Wrong;
 ghost use mathlib.Core.Path.{_≡_};
-ghost use mathlib.Core.Bool.{Bool, true, false, cond, not};
+ghost use mathlib.Core.Bool.{true, false};
 ghost use mathlib.Core.List.{[], _∷_};
-ghost use Prim.Native.Nat.{ℕ, _<_, _≤_, _*_, _%_, _^_, _+_, min};
+ghost use Prim.Native.Nat.{_<_, _≤_, _*_, _%_, _^_, _+_, min};
 ghost use lib.Dec.{eqb};
 ghost use lib.IntN.{ℤ};
 ghost use Rattle.width.specs.Reduce.{reduce, signed};
@@ -107,7 +107,7 @@ fn write_scalar(scalars: &mut [u64], slot: usize, value: u64)
 
 // ---- settings
 
-fn is_mill(mtype: u64) -> bool
+pub fn is_mill(mtype: u64) -> bool
     ensures { λ r. ⌜ r ≡ mill mtype ⌝ }
 {
     mtype / 9223372036854775808 % 2 == 1
@@ -180,22 +180,16 @@ fn set_type(m: Machine, scalars: &mut [u64], rd: usize, value: u64) -> Machine
     with_type(m, kept)
 }
 
-// A size that is asked, cut to the largest, without a scalar that receives it.
-pub fn sized(m: Machine, dimension: Dimension, asked: u64) -> Stepped
+// The machine's numbers after a size was asked for, which is cut to the largest.
+pub fn sized(m: Machine, dimension: Dimension, asked: u64) -> Machine
     requires { ⌜ Ready m ⌝ }
-    ensures { λ r. ⌜ r ≡ sizeStepped m dimension asked ⌝ }
+    ensures { λ r. ⌜ r ≡ sizeStepped m dimension asked .machine ⌝ }
 {
     if is_mill(m.mtype) {
-        return Stepped {
-            answer: Answer::IllegalType,
-            machine: m,
-        };
+        return m;
     }
     let size = smaller(asked, largest(m, dimension));
-    Stepped {
-        answer: Answer::Done,
-        machine: with_size(m, dimension, size),
-    }
+    with_size(m, dimension, size)
 }
 
 // A size that is asked, cut to the largest, which rd receives too.
@@ -667,10 +661,11 @@ fn check_scale(m: Machine, marks: &[u8], factor: Factor, ms1: usize, by_zero: bo
     accumulator_marks(m, marks, ms1, width)
 }
 
+// Every byte that a multiply writes was read, so it has its mark.
 pub fn multiply(
     m: Machine,
     registers: &mut [u8],
-    marks: &mut [u8],
+    marks: &[u8],
     factor: Factor,
     md: usize,
     ms1: usize,
@@ -678,7 +673,7 @@ pub fn multiply(
 ) -> Answer
     requires { ⌜ sound m (now registers) (now marks) ≡ true ⌝ }
     requires { ⌜ (md < 2) × ((ms1 < 8) × (ms2 < 8)) ⌝ }
-    ensures { λ r. ⌜ Loads m (Operation.multiply (times factor) md ms1 ms2) (now (registers .entry)) (now (marks .entry)) [] r (now (registers .exit)) (now (marks .exit)) ⌝ }
+    ensures { λ r. ⌜ Loads m (Operation.multiply (times factor) md ms1 ms2) (now (registers .entry)) (now (marks .entry)) [] r (now (registers .exit)) (now (marks .entry)) ⌝ }
 {
     let answer = check_product(m, marks, factor, md, ms1, ms2);
     if !tile::is_done(answer) {
@@ -701,14 +696,14 @@ pub fn multiply(
         m.tile_k as usize,
         m.tile_n as usize,
     );
-    // Every byte of the C tile has its mark: it was read.
     Answer::Done
 }
 
+// And so has every byte that an add or a subtract writes.
 fn combine(
     m: Machine,
     registers: &mut [u8],
-    marks: &mut [u8],
+    marks: &[u8],
     sum: Sum,
     factor: Factor,
     md: usize,
@@ -716,7 +711,7 @@ fn combine(
 ) -> Answer
     requires { ⌜ sound m (now registers) (now marks) ≡ true ⌝ }
     requires { ⌜ (md < 2) × (ms1 < 2) ⌝ }
-    ensures { λ r. ⌜ Loads m (Operation.combine sum (times factor) md ms1) (now (registers .entry)) (now (marks .entry)) [] r (now (registers .exit)) (now (marks .exit)) ⌝ }
+    ensures { λ r. ⌜ Loads m (Operation.combine sum (times factor) md ms1) (now (registers .entry)) (now (marks .entry)) [] r (now (registers .exit)) (now (marks .entry)) ⌝ }
 {
     let answer = check_combine(m, marks, factor, md, ms1);
     if !tile::is_done(answer) {
@@ -738,7 +733,6 @@ fn combine(
         m.tile_m as usize,
         m.tile_n as usize,
     );
-    mark_accumulator(m, marks, md, f * w);
     Answer::Done
 }
 

@@ -1,5 +1,5 @@
 -- Laws for the proofs of the functions.
 pub mod StartLaws
 pub mod TurnLaws
-pub mod CarryLaws
+pub mod CarriedLaws
 pub mod WholeLaws

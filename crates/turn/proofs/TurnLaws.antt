@@ -20,42 +20,15 @@ use Rattle.machine.proofs.NoFault.{step-sound}
 use Rattle.step.proofs.StepParts.{step-fault}
 use Rattle.run.specs.declared.Run.{Run}
 use Rattle.run.specs.declared.Handed.{Handed}
-use Rattle.run.specs.declared.Asked.{Asked}
 use Rattle.run.specs.Words.{Op}
 use Rattle.run.specs.Encoding.{own, handedFor}
-use Rattle.run.specs.Turn.{ask, asked, askWith, handsOut, moved, Running, running, turn, turnWith, TurnOutcome, turnOutcome, TurnsOutcome, turns, afterTurns}
+use Rattle.run.specs.Turn.{handsOut, moved, Running, running, turn, turnWith, TurnOutcome, turnOutcome, TurnsOutcome, turns, afterTurns}
 
 -- ---- one turn
 
 -- what a turn answers and leaves
 abbrev pub leaving : Answer → Running → TurnOutcome
 leaving a r = record { answer = a; after = r }
-
--- no step is handed out
-pub turn-unasked : (R : Run) (B : Bench) (q : Asked) → q ≡ asked (ask smaller R) → isDone (q .answer) ≡ false
-    → leaving (q .answer) (running R B) ≡ turnOutcome smaller (running R B)
-turn-unasked R B q = go (handsOut smaller R)
-  where
-    go : (os : List Op) → q ≡ asked (askWith smaller R os) → isDone (q .answer) ≡ false
-        → leaving (q .answer) (running R B) ≡ leaving (turnWith smaller (running R B) os .answer) (turnWith smaller (running R B) os .after)
-    go [] e d = ap (λ (q : Asked). leaving (q .answer) (running R B)) e
-    go (o ∷ os) e d = absurd (false-true (sym d ∙ ap (λ (q : Asked). isDone (q .answer)) e))
-
--- one is, and is carried out: the run moves on if that is answered 0
-pub turn-asked : (R : Run) (B : Bench) (q : Asked) → q ≡ asked (ask smaller R) → isDone (q .answer) ≡ true
-    → (a : Answer) (B′ : Bench) → a ≡ step (q .handed .word) (own (q .handed)) B .answer → B′ ≡ step (q .handed .word) (own (q .handed)) B .bench
-    → (t : Bool) → isDone a ≡ t → leaving a (running (cond t (q .run) R) B′) ≡ turnOutcome smaller (running R B)
-turn-asked R B q e d a B′ ea eb t et =
-    ap (λ (t : Bool). leaving a (running (cond t (q .run) R) B′)) (sym et)
-    ∙ ap₂ (λ (a : Answer) (B : Bench). leaving a (running (cond (isDone a) (q .run) R) B)) ea eb
-    ∙ go (handsOut smaller R) e
-  where
-    carried : Asked → TurnOutcome
-    carried q = let out : Outcome = step (q .handed .word) (own (q .handed)) B in leaving (out .answer) (running (cond (isDone (out .answer)) (q .run) R) (out .bench))
-
-    go : (os : List Op) → q ≡ asked (askWith smaller R os) → carried q ≡ leaving (turnWith smaller (running R B) os .answer) (turnWith smaller (running R B) os .after)
-    go [] e = absurd (false-true (sym (ap (λ (q : Asked). isDone (q .answer)) e) ∙ d))
-    go (o ∷ os) e = ap carried e
 
 -- a turn that is refused leaves everything
 pub refused-stays : (r : Running) → isDone (turn smaller r .answer) ≡ false → turn smaller r .after ≡ r

@@ -1,10 +1,10 @@
 -- What the contracts of inner functions name; a reader of the demand need not read it.
-use mathlib.Core.Bool.{Bool, cond}
+use mathlib.Core.Bool.{cond}
 use mathlib.Core.List.{List, [], _∷_}
 use Prim.Native.Nat.{ℕ}
 use Rattle.machine.specs.declared.Answer.{Answer}
 use Rattle.machine.specs.declared.Answer.the-variants.{Done, BadArguments}
-use Rattle.machine.specs.declared.Stepped.{Stepped}
+use Rattle.machine.specs.declared.Machine.{Machine}
 use Rattle.machine.specs.Geometry.{Bench, benchOf}
 use Rattle.machine.specs.Setting.{smaller}
 use Rattle.machine.specs.Step.{Outcome, step}
@@ -21,8 +21,8 @@ pub record Carried : Type 0 where
   pub answer : Answer
   pub bench : Bench
 
-abbrev pub carriedAs : Stepped → (registers marks memory : List ℕ) → Carried
-carriedAs r registers marks memory = record { answer = r .answer; bench = benchOf (r .machine) registers marks memory }
+abbrev pub carried : Answer → Machine → (registers marks memory : List ℕ) → Carried
+carried a m registers marks memory = record { answer = a; bench = benchOf m registers marks memory }
 
 -- the word of an operation of a run
 abbrev pub carriedFor : Plan → Op → Bench → Carried

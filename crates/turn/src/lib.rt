@@ -4,8 +4,8 @@ use machine::Dimension;
 use machine::Factor;
 use machine::Machine;
 use machine::Matrix;
-use machine::Stepped;
 use run::Finished;
+use run::Layout;
 use run::Place;
 use run::Plan;
 use run::Run;
@@ -17,18 +17,20 @@ mod starting; // the tests of a start on memory
 
 ghost use mathlib.Core.Path.{_≡_};
 ghost use mathlib.Core.Bool.{true};
-ghost use mathlib.Core.List.{List};
-ghost use Prim.Native.Nat.{ℕ, _≤_, _<_};
-ghost use Rattle.machine.specs.Geometry.{benchOf, elen};
+ghost use mathlib.Core.List.{List, [], _∷_};
+ghost use Prim.Native.Nat.{ℕ, _*_, _≤_, _<_};
+ghost use Rattle.machine.specs.Answers.{verdict};
+ghost use Rattle.machine.specs.Geometry.{Bench, benchOf, stateOf, registerCount};
 ghost use Rattle.machine.specs.Faults.{sound};
-ghost use Rattle.machine.specs.Setting.{smaller, newType};
-ghost use Rattle.machine.specs.Operation.{times};
-ghost use Rattle.machine.specs.declared.Answer.the-variants.{Done};
-ghost use Rattle.step.specs.Parts.{withType};
-ghost use Rattle.run.specs.Plan.{typeOf};
-ghost use Rattle.run.specs.Words.{clear, multiply, loadA, loadB, store};
-ghost use Rattle.turn.specs.Parts.{carriedAs, carriedFor, carriedAt, endingAt};
-ghost use Rattle.run.specs.Start.{startRun, startedAs, noRun, freshRun, planned};
+ghost use Rattle.machine.specs.Refusals.{typed};
+ghost use Rattle.machine.specs.Setting.{smaller};
+ghost use Rattle.machine.specs.Operation.{Operation, times};
+ghost use Rattle.step.specs.Parts.{Ready, Loads};
+ghost use Rattle.run.specs.Plan.{narrow};
+ghost use Rattle.run.specs.Words.{clear, multiply, store};
+ghost use Rattle.run.specs.Encoding.{startOf};
+ghost use Rattle.turn.specs.Parts.{carried, carriedFor, carriedAt, endingAt};
+ghost use Rattle.run.specs.Start.{startRun, startedAs, noRun, planned};
 ghost use Rattle.run.specs.Turn.{running, turnOutcome, turnedAs, turns, takenAs, soundRun};
 ghost use Rattle.run.specs.Whole.{whole, finishedAs, Delivers};
 
@@ -93,119 +95,75 @@ fn factor_of(plan: Plan) -> Factor
     Factor::Single
 }
 
-fn carry_type(plan: Plan, m: Machine) -> Stepped
-    ensures { λ r. ⌜ r ≡ record { answer = Done; machine = withType m (newType elen (typeOf plan)) } ⌝ }
+// The answer to a tile setting.
+fn size_answer(m: Machine) -> Answer
+    ensures { λ r. ⌜ r ≡ verdict (typed (stateOf m [] []) ∷ []) ⌝ }
 {
-    let mtype = run::asking::type_of(plan);
-    let kept = step::kept_type(mtype);
-    let answer = Answer::Done;
-    Stepped {
-        answer: answer,
-        machine: step::with_type(m, kept),
+    if step::is_mill(m.mtype) {
+        return Answer::IllegalType;
     }
+    Answer::Done
 }
 
-fn carry_clear(plan: Plan, m: Machine, registers: &mut [u8], marks: &mut [u8]) -> Stepped
+// Clears acc0.
+fn clear(plan: Plan, m: Machine, registers: &mut [u8], marks: &mut [u8]) -> Answer
     requires { ⌜ sound m (now registers) (now marks) ≡ true ⌝ }
     requires { ⌜ planned plan ≡ true ⌝ }
-    ensures { λ r. ⌜ ((memory : List ℕ) → carriedAs r (now (registers .exit)) (now (marks .exit)) memory
+    ensures { λ r. ⌜ ((memory : List ℕ) → carried r m (now (registers .exit)) (now (marks .exit)) memory
         ≡ carriedFor plan clear (benchOf m (now (registers .entry)) (now (marks .entry)) memory)) ⌝ }
 {
     let factor = factor_of(plan);
-    let answer = step::scale(m, registers, marks, factor, 0, 0, 0);
-    Stepped {
-        answer: answer,
-        machine: m,
-    }
+    step::scale(m, registers, marks, factor, 0, 0, 0)
 }
 
-fn carry_multiply(plan: Plan, m: Machine, registers: &mut [u8], marks: &mut [u8]) -> Stepped
+// Multiplies tr0 and tr1 to acc0.
+fn multiply(plan: Plan, m: Machine, registers: &mut [u8], marks: &[u8]) -> Answer
     requires { ⌜ sound m (now registers) (now marks) ≡ true ⌝ }
     requires { ⌜ planned plan ≡ true ⌝ }
-    ensures { λ r. ⌜ ((memory : List ℕ) → carriedAs r (now (registers .exit)) (now (marks .exit)) memory
+    ensures { λ r. ⌜ ((memory : List ℕ) → carried r m (now (registers .exit)) (now (marks .entry)) memory
         ≡ carriedFor plan multiply (benchOf m (now (registers .entry)) (now (marks .entry)) memory)) ⌝ }
 {
     let factor = factor_of(plan);
-    let answer = step::multiply(m, registers, marks, factor, 0, 0, 1);
-    Stepped {
-        answer: answer,
-        machine: m,
-    }
+    step::multiply(m, registers, marks, factor, 0, 0, 1)
 }
 
-fn carry_load_a(
+// Loads the block of A or B that starts at this row and column.
+fn load(
     plan: Plan,
     m: Machine,
     registers: &mut [u8],
     marks: &mut [u8],
     memory: &[u8],
+    matrix: Matrix,
+    md: usize,
+    layout: Layout,
     row: u64,
-    term: u64,
-) -> Stepped
-    requires { ⌜ sound m (now registers) (now marks) ≡ true ⌝ }
-    requires { ⌜ planned plan ≡ true ⌝ }
-    requires { ⌜ (row ≤ 1024) × (term ≤ 1024) ⌝ }
-    ensures { λ r. ⌜ carriedAs r (now (registers .exit)) (now (marks .exit)) (now (memory .entry))
-        ≡ carriedFor plan (loadA row term) (benchOf m (now (registers .entry)) (now (marks .entry)) (now (memory .entry))) ⌝ }
-{
-    let bytes = run::asking::narrow_bytes(plan);
-    let offset = run::asking::small_times(term, bytes);
-    let layout = plan.a;
-    let start = run::asking::start_of(layout.address, layout.stride, row, offset);
-    let answer = step::load(
-        m,
-        registers,
-        marks,
-        memory,
-        Matrix::MatrixA,
-        bytes as usize,
-        0,
-        start,
-        layout.stride,
-    );
-    Stepped {
-        answer: answer,
-        machine: m,
-    }
-}
-
-fn carry_load_b(
-    plan: Plan,
-    m: Machine,
-    registers: &mut [u8],
-    marks: &mut [u8],
-    memory: &[u8],
-    term: u64,
     column: u64,
-) -> Stepped
+) -> Answer
     requires { ⌜ sound m (now registers) (now marks) ≡ true ⌝ }
     requires { ⌜ planned plan ≡ true ⌝ }
-    requires { ⌜ (term ≤ 1024) × (column ≤ 1024) ⌝ }
-    ensures { λ r. ⌜ carriedAs r (now (registers .exit)) (now (marks .exit)) (now (memory .entry))
-        ≡ carriedFor plan (loadB term column) (benchOf m (now (registers .entry)) (now (marks .entry)) (now (memory .entry))) ⌝ }
+    requires { ⌜ (row ≤ 1024) × (column ≤ 1024) ⌝ }
+    requires { ⌜ md < registerCount matrix ⌝ }
+    ensures { λ r. ⌜ Loads m (Operation.load matrix md (narrow plan) (startOf layout row (column * narrow plan)) (layout .stride)) (now (registers .entry)) (now (marks .entry)) (now (memory .entry)) r (now (registers .exit)) (now (marks .exit)) ⌝ }
 {
     let bytes = run::asking::narrow_bytes(plan);
     let offset = run::asking::small_times(column, bytes);
-    let layout = plan.b;
-    let start = run::asking::start_of(layout.address, layout.stride, term, offset);
-    let answer = step::load(
+    let start = run::asking::start_of(layout.address, layout.stride, row, offset);
+    step::load(
         m,
         registers,
         marks,
         memory,
-        Matrix::MatrixB,
+        matrix,
         bytes as usize,
-        1,
+        md,
         start,
         layout.stride,
-    );
-    Stepped {
-        answer: answer,
-        machine: m,
-    }
+    )
 }
 
-fn carry_store(
+// Stores acc0 to the block of C that starts at this row and column.
+fn store(
     plan: Plan,
     m: Machine,
     registers: &[u8],
@@ -213,18 +171,18 @@ fn carry_store(
     memory: &mut [u8],
     row: u64,
     column: u64,
-) -> Stepped
+) -> Answer
     requires { ⌜ sound m (now registers) (now marks) ≡ true ⌝ }
     requires { ⌜ planned plan ≡ true ⌝ }
     requires { ⌜ (row ≤ 1024) × (column ≤ 1024) ⌝ }
-    ensures { λ r. ⌜ carriedAs r (now (registers .entry)) (now (marks .entry)) (now (memory .exit))
+    ensures { λ r. ⌜ carried r m (now (registers .entry)) (now (marks .entry)) (now (memory .exit))
         ≡ carriedFor plan (store row column) (benchOf m (now (registers .entry)) (now (marks .entry)) (now (memory .entry))) ⌝ }
 {
     let bytes = run::asking::wide_bytes(plan);
     let offset = run::asking::small_times(column, bytes);
     let layout = plan.c;
     let start = run::asking::start_of(layout.address, layout.stride, row, offset);
-    let answer = step::store(
+    step::store(
         m,
         registers,
         marks,
@@ -234,60 +192,119 @@ fn carry_store(
         0,
         start,
         layout.stride,
-    );
-    Stepped {
-        answer: answer,
-        machine: m,
-    }
+    )
 }
 
 // Carries out the word at the place of a run that a start can have made, in a state that is not at fault: the instruction that the
-// word decodes to, with its address and stride as numbers.
-fn carry(run: Run, m: Machine, registers: &mut [u8], marks: &mut [u8], memory: &mut [u8]) -> Stepped
+// word decodes to, with its address and stride as numbers. The machine's numbers after it are those of `machine_after`.
+fn carry_out(
+    run: Run,
+    m: Machine,
+    registers: &mut [u8],
+    marks: &mut [u8],
+    memory: &mut [u8],
+) -> Answer
     requires { ⌜ sound m (now registers) (now marks) ≡ true ⌝ }
     requires { ⌜ soundRun smaller run ≡ true ⌝ }
-    ensures { λ r. ⌜ carriedAs r (now (registers .exit)) (now (marks .exit)) (now (memory .exit))
-        ≡ carriedAt run (benchOf m (now (registers .entry)) (now (marks .entry)) (now (memory .entry))) ⌝ }
+    ensures { λ r. ⌜ (let B : Bench = benchOf m (now (registers .entry)) (now (marks .entry)) (now (memory .entry)) in
+        carried r (carriedAt run B .bench .machine) (now (registers .exit)) (now (marks .exit)) (now (memory .exit)) ≡ carriedAt run B) ⌝ }
+{
+    let plan = run.plan;
+    let place = run.place;
+    let a = plan.a;
+    let b = plan.b;
+    match place {
+        Place::AtType => Answer::Done,
+        Place::AtM { row: _ } => size_answer(m),
+        Place::AtN { row: _, column: _ } => size_answer(m),
+        Place::AtClear { row: _, column: _ } => clear(plan, m, registers, marks),
+        Place::AtK {
+            row: _,
+            column: _,
+            term: _,
+        } => size_answer(m),
+        Place::AtA {
+            row,
+            column: _,
+            term,
+        } => load(
+            plan,
+            m,
+            registers,
+            marks,
+            memory,
+            Matrix::MatrixA,
+            0,
+            a,
+            row,
+            term,
+        ),
+        Place::AtB {
+            row: _,
+            column,
+            term,
+        } => load(
+            plan,
+            m,
+            registers,
+            marks,
+            memory,
+            Matrix::MatrixB,
+            1,
+            b,
+            term,
+            column,
+        ),
+        Place::AtMultiply {
+            row: _,
+            column: _,
+            term: _,
+        } => multiply(plan, m, registers, marks),
+        Place::AtStore { row, column } => store(plan, m, registers, marks, memory, row, column),
+        Place::AtEnd => Answer::BadArguments,
+    }
+}
+
+// The machine's numbers after the word at the place of a run: only a setting changes them.
+fn machine_after(run: Run, m: Machine) -> Machine
+    requires { ⌜ Ready m ⌝ }
+    requires { ⌜ soundRun smaller run ≡ true ⌝ }
+    ensures { λ r. ⌜ ((registers marks memory : List ℕ) → sound m registers marks ≡ true → r ≡ carriedAt run (benchOf m registers marks memory) .bench .machine) ⌝ }
 {
     let plan = run.plan;
     let place = run.place;
     match place {
-        Place::AtType => carry_type(plan, m),
+        Place::AtType => step::with_type(m, step::kept_type(run::asking::type_of(plan))),
         Place::AtM { row } => step::sized(m, Dimension::DimensionM, plan.m - row),
         Place::AtN { row: _, column } => step::sized(m, Dimension::DimensionN, plan.n - column),
-        Place::AtClear { row: _, column: _ } => carry_clear(plan, m, registers, marks),
+        Place::AtClear { row: _, column: _ } => m,
         Place::AtK {
             row: _,
             column: _,
             term,
         } => step::sized(m, Dimension::DimensionK, plan.k - term),
         Place::AtA {
-            row,
+            row: _,
             column: _,
-            term,
-        } => carry_load_a(plan, m, registers, marks, memory, row, term),
+            term: _,
+        } => m,
         Place::AtB {
             row: _,
-            column,
-            term,
-        } => carry_load_b(plan, m, registers, marks, memory, term, column),
+            column: _,
+            term: _,
+        } => m,
         Place::AtMultiply {
             row: _,
             column: _,
             term: _,
-        } => carry_multiply(plan, m, registers, marks),
-        Place::AtStore { row, column } => {
-            carry_store(plan, m, registers, marks, memory, row, column)
-        }
-        Place::AtEnd => Stepped {
-            answer: Answer::BadArguments,
-            machine: m,
-        },
+        } => m,
+        Place::AtStore { row: _, column: _ } => m,
+        Place::AtEnd => m,
     }
 }
 
-// What turns come to: the answer of the turn that was refused, or 0.
-struct Gone {
+// What turns come to: the answer of the one that was refused, or 0; how many were answered 0; the run and the machine after them.
+struct Progress {
     answer: Answer,
     count: u64,
     run: Run,
@@ -295,14 +312,14 @@ struct Gone {
 }
 
 // Turns until one is refused, in a state that is not at fault; no more than limit. The run is judged once: it stays sound.
-fn go(
+fn take_turns(
     limit: u64,
     run: Run,
     m: Machine,
     registers: &mut [u8],
     marks: &mut [u8],
     memory: &mut [u8],
-) -> Gone
+) -> Progress
     requires { ⌜ sound m (now registers) (now marks) ≡ true ⌝ }
     ensures { λ r. ⌜ takenAs (record { count = r .count; run = r .run; machine = r .machine }) (now (registers .exit)) (now (marks .exit)) (now (memory .exit))
         ≡ turns smaller (running run (benchOf m (now (registers .entry)) (now (marks .entry)) (now (memory .entry)))) limit ⌝ }
@@ -310,7 +327,7 @@ fn go(
         (turns smaller (running run (benchOf m (now (registers .entry)) (now (marks .entry)) (now (memory .entry)))) (r .count))) ⌝ }
 {
     if !run::asking::is_sound_run(run) {
-        return Gone {
+        return Progress {
             answer: Answer::BadArguments,
             count: 0,
             run: run,
@@ -324,23 +341,21 @@ fn go(
     let mut current = run;
     let mut machine = m;
     while count < limit {
-        let stepped = carry(current, machine, registers, marks, memory);
-        let answer = stepped.answer;
+        let answer = carry_out(current, machine, registers, marks, memory);
         if !tile::is_done(answer) {
-            return Gone {
+            return Progress {
                 answer: answer,
                 count: count,
                 run: current,
                 machine: machine,
             };
         }
+        machine = machine_after(current, machine);
         current = run::asking::moved_run(current, rows, columns, terms);
-        machine = stepped.machine;
         count += 1;
     }
-    let answer = Answer::Done;
-    Gone {
-        answer: answer,
+    Progress {
+        answer: Answer::Done,
         count: count,
         run: current,
         machine: machine,
@@ -365,10 +380,10 @@ pub fn turn(
             machine: m,
         };
     }
-    let gone = go(1, run, m, registers, marks, memory);
-    let answer = gone.answer;
-    let after = gone.run;
-    let machine = gone.machine;
+    let progress = take_turns(1, run, m, registers, marks, memory);
+    let answer = progress.answer;
+    let after = progress.run;
+    let machine = progress.machine;
     Turned {
         answer: answer,
         run: after,
@@ -395,11 +410,11 @@ pub fn turns(
             machine: m,
         };
     }
-    let gone = go(limit, run, m, registers, marks, memory);
-    let after = gone.run;
-    let machine = gone.machine;
+    let progress = take_turns(limit, run, m, registers, marks, memory);
+    let after = progress.run;
+    let machine = progress.machine;
     Taken {
-        count: gone.count,
+        count: progress.count,
         run: after,
         machine: machine,
     }

@@ -7,7 +7,6 @@ use mathlib.Core.List.{[], _∷_}
 use Rattle.machine.specs.Answers.{Check, verdict, isDone}
 use Rattle.machine.specs.Operation.{times}
 use Rattle.machine.specs.Setting.{sew}
-use Rattle.machine.specs.Refusals.{needs as marked-check}
 use Rattle.step.specs.Parts.{elementwiseChecks, accumulatorCheck}
 use Rattle.step.proofs.ArithmeticLaws.{elementwise-fits, source-fits}
 use Rattle.step.proofs.Laws.{type-legal-elementwise, part-refused, part-passed}

@@ -8,7 +8,6 @@ use mathlib.Core.List.{[], _∷_, _++_}
 use Rattle.machine.specs.Answers.{Check, verdict, isDone}
 use Rattle.machine.specs.Operation.{times}
 use Rattle.machine.specs.Setting.{sew}
-use Rattle.machine.specs.Refusals.{needs as marked-check}
 use Rattle.step.specs.Parts.{multiplyChecks, sourceChecks, accumulatorCheck}
 use Rattle.step.proofs.ArithmeticLaws.{product-fits}
 use Rattle.step.proofs.Laws.{type-legal, part-refused, part-passed}

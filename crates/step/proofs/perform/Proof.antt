@@ -360,8 +360,8 @@ same-length-14 c = search needs
 
 returns-8 : tie.Need-returns-8
 returns-8 c =
-    let g = c .before .before .before .before .before .before .before .before .instruction8 .given in
-    let s = c .before .before .before .before .before .before .before .before .before .before .before .before .before .before in
+    let g = c .before .before .before .before .before .before .instruction8 .given in
+    let s = c .before .before .before .before .before .before .before .before .before .before .before .before in
     let e = g .1 in
     let a = s .args in
     let xs = a .scalars .now in
@@ -370,7 +370,7 @@ returns-8 c =
     let mem = a .memory .now in
     let meant = ap (operation (ours (a .m)) (stateOf (a .m) rs ms) xs) e in
     let rd = ap destination e in
-    let l = c .before .before .before .before .multiply .ensures in
+    let l = c .before .before .multiply .ensures in
     loads-outcome (a .m) (a .instruction) xs rs ms mem (s .pre .0) (s .pre .1 .0) _ meant rd _ _ _ (record { answer-is = l .answer-is; registers-are = l .registers-are; marks-are = l .marks-are }) refl refl
 
 same-length-15 : tie.Need-same-length-15
@@ -381,8 +381,8 @@ same-length-16 c = search needs
 
 returns-9 : tie.Need-returns-9
 returns-9 c =
-    let g = c .before .before .before .before .before .before .before .before .instruction9 .given in
-    let s = c .before .before .before .before .before .before .before .before .before .before .before .before .before .before in
+    let g = c .before .before .before .before .before .before .instruction9 .given in
+    let s = c .before .before .before .before .before .before .before .before .before .before .before .before in
     let e = g .1 in
     let a = s .args in
     let xs = a .scalars .now in
@@ -391,7 +391,7 @@ returns-9 c =
     let mem = a .memory .now in
     let meant = ap (operation (ours (a .m)) (stateOf (a .m) rs ms) xs) e in
     let rd = ap destination e in
-    let l = c .before .before .before .before .combine .ensures in
+    let l = c .before .before .combine .ensures in
     loads-outcome (a .m) (a .instruction) xs rs ms mem (s .pre .0) (s .pre .1 .0) _ meant rd _ _ _ (record { answer-is = l .answer-is; registers-are = l .registers-are; marks-are = l .marks-are }) refl refl
 
 same-length-17 : tie.Need-same-length-17

@@ -1,8 +1,6 @@
 use mathlib.Core.Path.{_≡_, sym, ap, _∙_}
 use mathlib.Core.Bool.{true, false}
 use Prim.Native.Nat.{min}
-use Rattle.machine.specs.declared.Machine.{Machine}
-use Rattle.machine.specs.declared.Answer.the-variants.{Done}
 use Rattle.machine.specs.Setting.{mill}
 use Rattle.step.specs.Parts.{withSize, granted}
 use borrow.Author.Needs.{needs}
@@ -37,8 +35,7 @@ returns-2 c =
     let a = l .before .before .before .args in
     let e : mill (a .m .mtype) ≡ false = no-mill (l .before) in
     let size : s .smaller .result ≡ granted (a .m) (a .dimension) (a .asked) = s .smaller .ensures ∙ ap (min (a .asked)) (l .largest .ensures) in
-    ap (λ (m : Machine). record { answer = Done; machine = m }) (c .with-size .ensures ∙ ap (withSize (a .m) (a .dimension)) size)
-    ∙ sym (rw e)
+    c .with-size .ensures ∙ ap (withSize (a .m) (a .dimension)) size ∙ sym (rw e)
 
 pub sized-spec : {M : Type 1} → statement M
 sized-spec = tie.close (tie.spec is-mill-requires returns largest-requires smaller-requires with-size-requires returns-2)

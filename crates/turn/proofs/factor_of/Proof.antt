@@ -1,4 +1,4 @@
-use Rattle.turn.proofs.CarryLaws.{factor-one}
+use Rattle.turn.proofs.CarriedLaws.{factor-one}
 use borrow.Author.Needs.{needs}
 use Rattle.turn.proofs.factor_of.Statement.{statement}
 use Rattle.turn.proofs.factor_of.Tie as tie

@@ -4,7 +4,7 @@ use Rattle.machine.specs.Geometry.{benchOf}
 use native.Mathlib.Omega.{arith}
 use Rattle.run.specs.Turn.{running}
 use Rattle.turn.proofs.TurnLaws.{turn-fault}
-use Rattle.turn.proofs.CarryLaws.{one-turn}
+use Rattle.turn.proofs.CarriedLaws.{one-turn}
 use borrow.Author.Needs.{needs}
 use Rattle.turn.proofs.turn.Statement.{statement}
 use Rattle.turn.proofs.turn.Tie as tie
@@ -25,8 +25,8 @@ returns c =
     turn-fault (a .run) (benchOf (a .m) (a .registers .now) (a .marks .now) (a .memory .now))
     (sym (d .is-sound .ensures) ∙ not-true (d .is-sound .result) (c .if1 .taken))
 
-go-requires : tie.Need-go-requires
-go-requires c κs =
+take-turns-requires : tie.Need-take-turns-requires
+take-turns-requires c κs =
     let e = c .before .before .before in
     sym (e .before .is-sound .ensures) ∙ not-false (e .before .is-sound .result) (e .if1 .left)
 
@@ -41,7 +41,7 @@ same-length-5 c = search needs
 
 returns-2 : tie.Need-returns-2
 returns-2 c =
-    let w = c .before .before .before .before .before .before .before .before .go in
+    let w = c .before .before .before .before .before .before .before .before .take-turns in
     let a = c .before .before .before .before .before .before .before .before .before .before .before .before .before .before .before .before .before .before .before .args in
     one-turn (running (a .run) (benchOf (a .m) (a .registers .now) (a .marks .now) (a .memory .now))) (w .result .count) (w .result .answer) _ (w .ensures .0) (w .ensures .1 (omega arith))
 
@@ -53,7 +53,7 @@ turn-spec =
     same-length
     same-length-2
     returns
-    go-requires
+    take-turns-requires
     same-length-3
     same-length-4
     same-length-5

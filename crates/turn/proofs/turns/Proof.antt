@@ -22,8 +22,8 @@ returns c =
     turns-fault (a .run) (benchOf (a .m) (a .registers .now) (a .marks .now) (a .memory .now)) (a .limit)
     (sym (d .is-sound .ensures) ∙ not-true (d .is-sound .result) (c .if1 .taken))
 
-go-requires : tie.Need-go-requires
-go-requires c κs =
+take-turns-requires : tie.Need-take-turns-requires
+take-turns-requires c κs =
     let e = c .before .before .before in
     sym (e .before .is-sound .ensures) ∙ not-false (e .before .is-sound .result) (e .if1 .left)
 
@@ -47,7 +47,7 @@ turns-spec =
     same-length
     same-length-2
     returns
-    go-requires
+    take-turns-requires
     same-length-3
     same-length-4
     same-length-5

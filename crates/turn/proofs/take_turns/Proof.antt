@@ -1,6 +1,6 @@
 use mathlib.Core.Path.{_≡_, refl, sym, ap, _∙_}
 use mathlib.Core.Bool.{true, false}
-use Prim.Native.Nat.{ℕ, _+_, _-_, _≤_, _<_}
+use Prim.Native.Nat.{_-_, _≤_}
 use native.Mathlib.Omega.{arith}
 use borrow.Author.Tests.{not-true, not-false, eq-eqb, ne-eqb}
 use borrow.Author.Needs.{needs}
@@ -14,9 +14,10 @@ use Rattle.run.specs.Parts.{Most}
 use Rattle.run.specs.Turn.{TurnOutcome, TurnsOutcome, running, turn, turns, soundRun, runShape}
 use Rattle.run.proofs.AskingLaws.{run-numbered, moved-sound}
 use Rattle.turn.proofs.TurnLaws.{taking, turns-refused, turn-sound}
-use Rattle.turn.proofs.CarryLaws.{turn-carried, turns-carried, turn-unsound, turns-unsound, ends-done, ends-refused}
-use Rattle.turn.proofs.go.Statement.{statement}
-use Rattle.turn.proofs.go.Tie as tie
+use Rattle.turn.proofs.CarriedLaws.{numbers-joined, turn-carried, turns-carried, turn-unsound, turns-unsound, ends-done, ends-refused}
+use Rattle.step.proofs.TransferLaws.{ready}
+use Rattle.turn.proofs.take_turns.Statement.{statement}
+use Rattle.turn.proofs.take_turns.Tie as tie
 
 -- every turn so far was answered 0, and neither the state nor the run is at fault
 abbrev Inv-loop : tie.InvT-loop
@@ -69,8 +70,8 @@ loop-holds c =
       refl,
     )
 
-carry-requires : tie.Need-carry-requires Inv-loop μ-loop
-carry-requires c κs = let l = c .before .before .before .before .loop in (l .inv .1, l .inv .2)
+carry-out-requires : tie.Need-carry-out-requires Inv-loop μ-loop
+carry-out-requires c κs = let l = c .before .before .before .before .loop in (l .inv .1, l .inv .2)
 
 is-done-requires : tie.Need-is-done-requires Inv-loop μ-loop
 is-done-requires c κs = search needs
@@ -87,20 +88,25 @@ same-length-3 c = search needs
 returns-2 : tie.Need-returns-2 Inv-loop μ-loop
 returns-2 c =
     let d = c .before in
-    let w = c .before .before .before .before .before .before .before .before .carry in
+    let w = c .before .before .before .before .before .before .before .before .carry-out in
     let l = c .before .before .before .before .before .before .before .before .before .before .before .before .before .loop in
     let a = c .before .before .before .before .before .before .before .before .before .before .before .before .before .before .before .before .before .before .before .before .before .before .args in
     let r = (running (a .run) (benchOf (a .m) (a .registers .now) (a .marks .now) (a .memory .now))) in
     let B = benchOf (l .machine) (l .registers) (l .marks) (l .memory) in
-    let no : isDone (w .result .answer) ≡ false = sym (d .is-done .ensures) ∙ not-true (d .is-done .result) (c .if2 .taken) in
+    let no : isDone (w .result) ≡ false = sym (d .is-done .ensures) ∙ not-true (d .is-done .result) (c .if2 .taken) in
     let h = turn-carried (l .current) B (l .inv .2) _ (w .ensures) false no in (
       turns-refused r (running (l .current) B) (l .count) (a .limit) (l .inv .0) (l .inv .4) _ h no,
       λ p. ends-refused (a .limit) (l .count) (turns smaller r (l .count)) _ (ne-eqb (l .count) (a .limit) (λ e. omega (arith, c .before .before .before .before .before .before .before .before .before .before .before .before .loop-test .taken)))
           (ap (λ (o : TurnOutcome). o .answer) h ∙ ap (λ (o : TurnsOutcome). turn smaller (o .after) .answer) (l .inv .4)),
     )
 
+machine-after-requires : tie.Need-machine-after-requires Inv-loop μ-loop
+machine-after-requires c κs =
+    let l = c .before .before .before .before .before .before .before .before .before .before .before .before .before .loop in
+    (ready (l .machine) (l .registers) (l .marks) (l .inv .1), l .inv .2)
+
 moved-run-requires : tie.Need-moved-run-requires Inv-loop μ-loop
-moved-run-requires c κs = let l = c .before .before .before .before .before .before .before .before .before .before .before .before .before .loop in (l .inv .2, l .inv .3)
+moved-run-requires c κs = let l = c .before .before .before .before .before .before .before .before .before .before .before .before .before .before .loop in (l .inv .2, l .inv .3)
 
 add-count : tie.Need-add-count Inv-loop μ-loop
 add-count c = omega (arith, c .before .before .before .before .before .before .before .before .before .before .before .before .before .before .loop-test .taken, c .before .before .before .before .before .before .before .before .before .before .before .before .before .before .before .before .before .before .before .before .before .before .before .before .fits .limit)
@@ -110,15 +116,17 @@ loop-less c = omega (arith, c .before .before .before .before .before .before .b
 
 loop-again : tie.Need-loop-again Inv-loop μ-loop
 loop-again c =
-    let k = c .before .moved-run .ensures in
+    let k = c .moved-run .ensures in
+    let n = c .before .machine-after .ensures in
     let e = c .before .before in
     let d = e .before in
-    let w = c .before .before .before .before .before .before .before .before .before .before .carry in
+    let w = c .before .before .before .before .before .before .before .before .before .before .carry-out in
     let l = c .before .before .before .before .before .before .before .before .before .before .before .before .before .before .before .loop in
     let a = c .before .before .before .before .before .before .before .before .before .before .before .before .before .before .before .before .before .before .before .before .before .before .before .before .args in
     let B = benchOf (l .machine) (l .registers) (l .marks) (l .memory) in
-    let yes : isDone (w .result .answer) ≡ true = sym (d .is-done .ensures) ∙ not-false (d .is-done .result) (e .if2 .left) in
-    let h = turn-carried (l .current) B (l .inv .2) _ (w .ensures) true yes in (
+    let yes : isDone (w .result) ≡ true = sym (d .is-done .ensures) ∙ not-false (d .is-done .result) (e .if2 .left) in
+    let j = numbers-joined _ _ _ _ _ _ (n (l .registers) (l .marks) (l .memory) (l .inv .1)) (w .ensures) in
+    let h = turn-carried (l .current) B (l .inv .2) _ j true yes in (
       omega (arith, c .before .before .before .before .before .before .before .before .before .before .before .before .before .before .loop-test .taken),
       ap (λ (o : TurnOutcome). soundBench (o .after .bench)) h ∙ turn-sound (running (l .current) B) (l .inv .1),
       ap (soundRun smaller) k ∙ moved-sound (l .current) (l .inv .2),
@@ -127,7 +135,7 @@ loop-again c =
         columns-are = l .inv .3 .columns-are ∙ ap (λ (R : Run). runShape smaller R .tn) (sym k);
         terms-are = l .inv .3 .terms-are ∙ ap (λ (R : Run). runShape smaller R .tk) (sym k);
       },
-      turns-carried (running (a .run) (benchOf (a .m) (a .registers .now) (a .marks .now) (a .memory .now))) (l .current) B (l .count) (l .inv .4) (l .inv .2) _ (w .ensures) yes _ k,
+      turns-carried (running (a .run) (benchOf (a .m) (a .registers .now) (a .marks .now) (a .memory .now))) (l .current) B (l .count) (l .inv .4) (l .inv .2) _ j yes _ k,
       search needs,
       search needs,
       search needs,
@@ -152,8 +160,8 @@ returns-3 c =
       λ p. ends-done (a .limit) (l .count) (turns smaller r (l .count)) (eq-eqb (l .count) (a .limit) n),
     )
 
-pub go-spec : {M : Type 1} → statement M
-go-spec =
+pub take-turns-spec : {M : Type 1} → statement M
+take-turns-spec =
     tie.close
     (tie.spec
     Inv-loop
@@ -164,12 +172,13 @@ go-spec =
     most-columns-requires
     most-terms-requires
     loop-holds
-    carry-requires
+    carry-out-requires
     is-done-requires
     same-length
     same-length-2
     same-length-3
     returns-2
+    machine-after-requires
     moved-run-requires
     add-count
     loop-less

@@ -1,11 +1,9 @@
 use mathlib.Core.Path.{refl}
-use mathlib.Core.List.{List}
 use lib.IntN.{pos}
-use Prim.Native.Nat.{ℕ}
-use Rattle.turn.proofs.CarryLaws.{zero-residue, clear-carried}
+use Rattle.turn.proofs.CarriedLaws.{zero-residue, clear-carried}
 use borrow.Author.Needs.{needs}
-use Rattle.turn.proofs.carry_clear.Statement.{statement}
-use Rattle.turn.proofs.carry_clear.Tie as tie
+use Rattle.turn.proofs.clear.Statement.{statement}
+use Rattle.turn.proofs.clear.Tie as tie
 
 factor-of-requires : tie.Need-factor-of-requires
 factor-of-requires c κs = search needs
@@ -29,6 +27,6 @@ returns c =
     λ mem. clear-carried (a .plan) (s .pre .1) (a .m) (a .registers .now) (a .marks .now) mem (s .pre .0) (f .factor-of .result) (f .factor-of .ensures) (l .scale .result) _ _
     (record { answer-is = k .answer-is; registers-are = k .registers-are; marks-are = k .marks-are })
 
-pub carry-clear-spec : {M : Type 1} → statement M
-carry-clear-spec =
+pub clear-spec : {M : Type 1} → statement M
+clear-spec =
     tie.close (tie.spec factor-of-requires scale-requires same-length same-length-2 returns)

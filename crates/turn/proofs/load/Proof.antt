@@ -1,10 +1,11 @@
-use mathlib.Core.Path.{ap, _∙_}
+use mathlib.Core.Path.{ap, ap₂, _∙_}
 use Prim.Native.Nat.{ℕ, _*_}
 use Rattle.run.specs.Encoding.{startOf}
-use Rattle.turn.proofs.CarryLaws.{a-carried}
+use Rattle.machine.specs.Operation.{Operation}
+use Rattle.turn.proofs.CarriedLaws.{loads-for}
 use borrow.Author.Needs.{needs}
-use Rattle.turn.proofs.carry_load_a.Statement.{statement}
-use Rattle.turn.proofs.carry_load_a.Tie as tie
+use Rattle.turn.proofs.load.Statement.{statement}
+use Rattle.turn.proofs.load.Tie as tie
 
 narrow-bytes-requires : tie.Need-narrow-bytes-requires
 narrow-bytes-requires c κs = search needs
@@ -28,16 +29,17 @@ returns : tie.Need-returns
 returns c =
     let l = c .before .before .before .before in
     let p = l .before .before .before in
-    let t = p .before .before in
+    let t = p .before in
     let n = t .before in
     let s = n .before .before .before .before in
     let a = s .args in
-    a-carried (a .plan) (s .pre .1 .0) (a .m) (a .registers .now) (a .marks .now) (a .memory .now) (s .pre .0) (n .narrow-bytes .result) (p .start-of .result) (l .load .result) (a .row) (a .term) (n .narrow-bytes .ensures .0)
-    (p .start-of .ensures ∙ ap (startOf (a .plan .a) (a .row)) (t .small-times .ensures ∙ ap (λ (b : ℕ). a .term * b) (n .narrow-bytes .ensures .0)))
-    _ _ (l .load .ensures)
+    let w = n .narrow-bytes .ensures .0 in
+    let e = p .start-of .ensures ∙ ap (startOf (a .layout) (a .row)) (t .small-times .ensures ∙ ap (λ (b : ℕ). a .column * b) w) in
+    let o = ap₂ (λ (w p : ℕ). Operation.load (a .matrix) (a .md) w p (a .layout .stride)) w e in
+    loads-for o (l .load .ensures)
 
-pub carry-load-a-spec : {M : Type 1} → statement M
-carry-load-a-spec =
+pub load-spec : {M : Type 1} → statement M
+load-spec =
     tie.close
     (tie.spec
     narrow-bytes-requires

@@ -1,10 +1,12 @@
-use mathlib.Core.Path.{ap, _∙_}
+use mathlib.Core.Path.{ap, ap₂, _∙_}
 use Prim.Native.Nat.{ℕ, _*_}
+use Rattle.machine.specs.declared.Matrix.the-variants.{MatrixC}
+use Rattle.machine.specs.Operation.{Operation}
 use Rattle.run.specs.Encoding.{startOf}
-use Rattle.turn.proofs.CarryLaws.{c-carried}
+use Rattle.turn.proofs.CarriedLaws.{stores-for, c-carried}
 use borrow.Author.Needs.{needs}
-use Rattle.turn.proofs.carry_store.Statement.{statement}
-use Rattle.turn.proofs.carry_store.Tie as tie
+use Rattle.turn.proofs.store.Statement.{statement}
+use Rattle.turn.proofs.store.Tie as tie
 
 wide-bytes-requires : tie.Need-wide-bytes-requires
 wide-bytes-requires c κs = search needs
@@ -29,12 +31,14 @@ returns c =
     let n = t .before in
     let s = n .before .before .before .before in
     let a = s .args in
-    c-carried (a .plan) (s .pre .1 .0) (a .m) (a .registers .now) (a .marks .now) (a .memory .now) (s .pre .0) (n .wide-bytes .result) (p .start-of .result) (l .store .result) (a .row) (a .column) (n .wide-bytes .ensures .0)
-    (p .start-of .ensures ∙ ap (startOf (a .plan .c) (a .row)) (t .small-times .ensures ∙ ap (λ (b : ℕ). a .column * b) (n .wide-bytes .ensures .0)))
-    _ (l .store .ensures)
+    let w = n .wide-bytes .ensures .0 in
+    let e = p .start-of .ensures ∙ ap (startOf (a .plan .c) (a .row)) (t .small-times .ensures ∙ ap (λ (b : ℕ). a .column * b) w) in
+    let o = ap₂ (λ (w p : ℕ). Operation.store MatrixC 0 w p (a .plan .c .stride)) w e in
+    c-carried (a .plan) (s .pre .1 .0) (a .m) (a .registers .now) (a .marks .now) (a .memory .now) (s .pre .0) (l .store .result) (a .row) (a .column) _
+    (stores-for o (l .store .ensures))
 
-pub carry-store-spec : {M : Type 1} → statement M
-carry-store-spec =
+pub store-spec : {M : Type 1} → statement M
+store-spec =
     tie.close
     (tie.spec
     wide-bytes-requires
