@@ -91,10 +91,7 @@ fn steps_by_family() {
     let operands = [("rs1", 1), ("rs2", 2), ("rd", 3), ("imm", 3), ("mleni", 8), ("mtypei", 8)];
     let mut words: Vec<(String, u32)> = families()
         .into_iter()
-        .map(|row| {
-            let name = LISTING[row].name;
-            (family_name(name).to_string(), assemble(name, &operands))
-        })
+        .map(|name| (family_name(name).to_string(), assemble(name, &operands)))
         .collect();
     words.push(("mlce32".to_string(), assemble("mlce32.m", &operands)));
     words.push(("msce32".to_string(), assemble("msce32.m", &operands)));

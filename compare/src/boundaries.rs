@@ -4,17 +4,18 @@
 use crate::lent::Lent;
 use crate::random::Random;
 use crate::states::{
-    any_row, any_scalar, bench_of, good_case, good_machine, moved_rows, put_state_fault, set_size,
-    unmark_source, wrapping_stride, Case, MTYPES, SIZES, WILD_STRIDES,
+    any_operands, any_row, any_scalar, bench_of, good_case, good_machine, left_out_word,
+    moved_rows, put_state_fault, register_fields, set_size, unmark_source, wrapping_stride, Case,
+    MTYPES, SIZES, WILD_STRIDES,
 };
 use crate::suite::{check_step, each_case, Context, Outcome};
-use model::{maximum, sew, Kind, Machine, Matrix, Row, Size, LISTING, MILL};
+use model::{maximum, sew, Kind, Machine, Matrix, Row, Size, LEFT_OUT, LISTING, MILL};
 
 /// A case and the answer it must get.
 type Made = (Case, u64);
 type Boundary = (&'static str, fn(&mut Random) -> Made);
 
-const BOUNDARIES: [Boundary; 29] = [
+const BOUNDARIES: [Boundary; 36] = [
     ("first and last byte of memory", whole_memory),
     ("one byte past the end", one_past_the_end),
     ("one byte before address 0", one_before_the_start),
@@ -43,7 +44,14 @@ const BOUNDARIES: [Boundary; 29] = [
     ("a word while mill is set", mill_set),
     ("64-bit loads and stores", too_wide),
     ("state faults", faulty_state),
+    ("another opcode", wrong_opcode),
+    ("words that are left out", left_out),
+    ("left out but for bits 24..20", left_out_but_for_zeros),
+    ("ours but for 27..20 or 24..20", ours_but_for_zeros),
+    ("codes of no row", no_row),
     ("register fields out of range", bad_register),
+    ("a bad register and another fault", bad_register_and_more),
+    ("register fields at their bounds", last_registers),
 ];
 
 pub fn boundaries(context: &mut Context) -> Outcome {
@@ -372,14 +380,13 @@ fn no_terms(random: &mut Random) -> Made {
     if random.chance(50) {
         return (case, 0);
     }
-    unmark_source_of_md(random, &mut case);
+    unmark_source_of_md(random, &mut case, row);
     (case, 5)
 }
 
 /// Takes the mark of a byte of md's C tile in acc0.
-fn unmark_source_of_md(random: &mut Random, case: &mut Case) {
+fn unmark_source_of_md(random: &mut Random, case: &mut Case, row: &Row) {
     let machine = case.lent.machine();
-    let row = model::row_by_code(case.word).expect("a row of ours");
     let row_bytes = machine.tile_n * factor(row) as u64 * sew(machine.mtype) as u64 / 8;
     let i = random.below(machine.tile_m);
     let at = machine.mlen + i * machine.rlen / 2 + random.below(row_bytes);
@@ -519,31 +526,145 @@ fn faulty_state(random: &mut Random) -> Made {
     let row = any_row(random);
     let mut case = good_case(random, row);
     if random.chance(20) {
-        case.word = random.next() as u32;
+        let words = [random.next() as u32, left_out_word(random)];
+        case.word = random.pick(&words);
     }
     put_state_fault(random, &mut case.lent);
     (case, 8)
 }
 
-/// A register field one too high, or higher.
-fn bad_register(random: &mut Random) -> Made {
-    let row = row_where(random, |row| !matches!(row.kind, Kind::SetType | Kind::SetSize(_)));
+/// A bad word where a good one would be done, or mill is set: the word's own
+/// answer comes first.
+fn instead(random: &mut Random, word: u32) -> Case {
+    let row = any_row(random);
+    let mut case = good_case(random, row);
+    case.word = word;
+    if random.chance(30) {
+        let mut machine = case.lent.machine();
+        machine.mtype = MILL;
+        case.lent.set_machine(&machine);
+    }
+    case
+}
+
+/// A row of either table, by name.
+fn any_name(random: &mut Random) -> &'static str {
+    let names = [any_row(random).name, random.pick(&LEFT_OUT).0];
+    random.pick(&names)
+}
+
+/// One bit of the opcode is wrong, or more, and maybe another bit too.
+fn wrong_opcode(random: &mut Random) -> Made {
+    let name = any_name(random);
+    let mut word = any_operands(random, name);
+    if random.chance(30) {
+        word ^= 1 << random.range(7, 31);
+    }
+    word ^= if random.chance(70) { 1 << random.below(7) } else { random.range(1, 0x7F) as u32 };
+    (instead(random, word), 10)
+}
+
+fn left_out(random: &mut Random) -> Made {
+    let word = left_out_word(random);
+    (instead(random, word), 11)
+}
+
+fn left_out_but_for_zeros(random: &mut Random) -> Made {
+    let rows: Vec<_> = LEFT_OUT.iter().filter(|row| model::has_zeros(row.0)).collect();
+    let (name, _) = random.pick(&rows);
+    let word = any_operands(random, name);
+    let bits = if random.chance(50) { 1 << random.below(5) } else { random.range(1, 31) as u32 };
+    (instead(random, word | bits << 20), 1)
+}
+
+/// Whatever the registers.
+fn ours_but_for_zeros(random: &mut Random) -> Made {
+    let row = row_where(random, |row| model::has_zeros(row.name));
+    let last = if sizes_used(row.kind).is_empty() { 27 } else { 24 };
+    let word = any_operands(random, row.name) | 1 << random.range(20, last);
+    (instead(random, word), 1)
+}
+
+/// Codes between those of the listing and beyond them, those of chapter 6 too.
+fn no_row(random: &mut Random) -> Made {
+    // Bits 14..12, the ends of a range of bits 31..26, and bit 25.
+    let ranges = [
+        // Moves, and a format of no instruction.
+        (0b101, (0, 0b111111), 0),
+        (0b101, (0, 0b111111), 1),
+        (0b100, (0, 0b111111), 0),
+        (0b100, (0, 0b111111), 1),
+        // Settings.
+        (0b111, (0b100000, 0b111111), 0),
+        (0b111, (0b100000, 0b111111), 1),
+        // Loads and stores.
+        (random.below(4), (0b000011, 0b000011), 0),
+        (random.below(4), (0b000011, 0b000011), 1),
+        (random.below(4), (0b000111, 0b111111), 0),
+        (random.below(4), (0b000111, 0b111111), 1),
+        // Multiplies and element-wise words; with bit 25, where ours have no
+        // float form beside them.
+        (0b110, (0b000011, 0b000011), 0),
+        (0b110, (0b000010, 0b000011), 1),
+        (0b110, (0b000110, 0b000110), 1),
+        (0b110, (0b001001, 0b001001), 1),
+        (0b110, (0b001100, 0b001100), 1),
+        (0b110, (0b001111, 0b010111), 1),
+        (0b110, (0b010011, 0b010111), 0),
+        // Conversions.
+        (0b110, (0b011001, 0b011001), 0),
+        (0b110, (0b011001, 0b011001), 1),
+        (0b110, (0b100000, 0b111111), 0),
+        (0b110, (0b100000, 0b111111), 1),
+    ];
+    let (funct3, (first, last), bit_25) = random.pick(&ranges);
+    let code = random.range(first, last) << 26 | bit_25 << 25 | funct3 << 12;
+    let word = code as u32 | (random.next() as u32 & 0x01FF_8F80) | 0x77;
+    (instead(random, word), 1)
+}
+
+/// A word of a row with the given registers, its other operands as in `case_on`.
+fn with_registers(random: &mut Random, row: &'static Row, registers: &[(&str, u32)]) -> Case {
     let mtype = crate::states::fitting_mtype(random, row.kind);
     let machine = good_machine(random, mtype);
     let mut case = case_on(random, row, &machine);
-    let field = match row.kind {
-        Kind::Load(..) => "md",
-        Kind::Store(..) => "ms3",
-        Kind::Multiply(_) => random.pick(&["md", "ms1", "ms2"]),
-        _ => random.pick(&["md", "ms1"]),
-    };
-    let tile = match row.kind {
-        Kind::Load(matrix, _) | Kind::Store(matrix, _) => matrix != Matrix::C,
-        Kind::Multiply(_) => field != "md",
-        _ => false,
-    };
-    let first = if tile { 8 } else { 2 };
-    let number = if random.chance(50) { first } else { random.range(first, 31) };
-    case.word = model::assemble(row.name, &[(field, number as u32), ("rs1", 1), ("rs2", 2)]);
-    (case, 1)
+    let operands = [registers, &[("rs1", 1), ("rs2", 2), ("imm", 1)]].concat();
+    case.word = model::assemble(row.name, &operands);
+    case
+}
+
+fn has_registers(row: &Row) -> bool {
+    !register_fields(row.kind).is_empty()
+}
+
+/// A register field one too high, or higher.
+fn bad_register(random: &mut Random) -> Made {
+    let row = row_where(random, has_registers);
+    let (field, registers) = random.pick(&register_fields(row.kind));
+    let higher = random.range(registers as u64, 31) as u32;
+    let number = random.pick(&[registers, higher]);
+    (with_registers(random, row, &[(field, number)]), 12)
+}
+
+/// Answers 2 to 7 come after 12, answer 8 before it.
+fn bad_register_and_more(random: &mut Random) -> Made {
+    let (mut case, number) = bad_register(random);
+    let mut machine = case.lent.machine();
+    machine.mtype = random.pick(&[0, 1, 2, 8, MILL]);
+    case.lent.set_machine(&machine);
+    case.lent.marks.fill(0);
+    case.lent.memory.clear();
+    if random.chance(30) {
+        put_state_fault(random, &mut case.lent);
+        return (case, 8);
+    }
+    (case, number)
+}
+
+/// The highest register in every field.
+fn last_registers(random: &mut Random) -> Made {
+    let row = row_where(random, has_registers);
+    let last = register_fields(row.kind).into_iter().map(|(field, count)| (field, count - 1));
+    let case = with_registers(random, row, &last.collect::<Vec<_>>());
+    (case, if row.name.contains("64") { 3 } else { 0 })
 }

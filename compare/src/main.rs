@@ -19,14 +19,17 @@ mod states;
 mod steps;
 mod suite;
 mod tally;
+mod words;
 
 use std::time::Instant;
 use suite::{Context, Outcome, Suite};
 
-const SUITES: [Suite; 18] = [
+const SUITES: [Suite; 20] = [
     ("bench sheet", sheet::bench_sheet),
     ("machine starts", starts::machine_starts),
     ("codes", steps::codes),
+    ("all codes", words::all_codes),
+    ("rows", words::rows),
     ("boundaries", boundaries::boundaries),
     ("random steps", steps::random_steps),
     ("several faults", steps::several_faults),

@@ -1,4 +1,5 @@
-//! The second program: the scope paper's rules, each as one plain function.
+//! The second program: the rules of the scope paper and of the change requests
+//! that have landed (One), each as one plain function.
 //!
 //! It is written to be read beside the paper, not to be fast. Sizes and
 //! addresses are whole numbers (`i128`), bytes are looked at one by one, and a
@@ -223,8 +224,8 @@ pub enum Kind {
     Scale(i128),
 }
 
-/// A row of the listing. Its columns stand as printed, from bit 31 down:
-/// fixed bits as digits, operands by name.
+/// A row of the listing that we carry out. Its columns stand as printed, from
+/// bit 31 down: fixed bits as digits, operands by name.
 #[derive(Debug, PartialEq, Eq)]
 pub struct Row {
     pub name: &'static str,
@@ -239,6 +240,7 @@ const fn row(name: &'static str, columns: &'static str, kind: Kind) -> Row {
 use Kind::*;
 use Matrix::*;
 
+/// The rows that we carry out, in the listing's order.
 pub const LISTING: [Row; 50] = [
     row("msettypei", "0000 mtypei 111 rd 1110111", SetType),
     row("msettype", "0001 00000000 rs1 111 rd 1110111", SetType),
@@ -292,6 +294,63 @@ pub const LISTING: [Row; 50] = [
     row("mqemulc.mi", "010010 0 imm ms1 110 md 1110111", Scale(4)),
 ];
 
+/// The rows that we leave out, in the listing's order: name and columns.
+pub const LEFT_OUT: [(&str, &str); 48] = [
+    ("mlate8.m", "000101 0 rs2 rs1 000 md 1110111"),
+    ("mlate16.m", "000101 0 rs2 rs1 001 md 1110111"),
+    ("mlate32.m", "000101 0 rs2 rs1 010 md 1110111"),
+    ("mlate64.m", "000101 0 rs2 rs1 011 md 1110111"),
+    ("mlbte8.m", "000110 0 rs2 rs1 000 md 1110111"),
+    ("mlbte16.m", "000110 0 rs2 rs1 001 md 1110111"),
+    ("mlbte32.m", "000110 0 rs2 rs1 010 md 1110111"),
+    ("mlbte64.m", "000110 0 rs2 rs1 011 md 1110111"),
+    ("mlcte8.m", "000100 0 rs2 rs1 000 md 1110111"),
+    ("mlcte16.m", "000100 0 rs2 rs1 001 md 1110111"),
+    ("mlcte32.m", "000100 0 rs2 rs1 010 md 1110111"),
+    ("mlcte64.m", "000100 0 rs2 rs1 011 md 1110111"),
+    ("msate8.m", "000101 1 rs2 rs1 000 ms3 1110111"),
+    ("msate16.m", "000101 1 rs2 rs1 001 ms3 1110111"),
+    ("msate32.m", "000101 1 rs2 rs1 010 ms3 1110111"),
+    ("msate64.m", "000101 1 rs2 rs1 011 ms3 1110111"),
+    ("msbte8.m", "000110 1 rs2 rs1 000 ms3 1110111"),
+    ("msbte16.m", "000110 1 rs2 rs1 001 ms3 1110111"),
+    ("msbte32.m", "000110 1 rs2 rs1 010 ms3 1110111"),
+    ("msbte64.m", "000110 1 rs2 rs1 011 ms3 1110111"),
+    ("mscte8.m", "000100 1 rs2 rs1 000 ms3 1110111"),
+    ("mscte16.m", "000100 1 rs2 rs1 001 ms3 1110111"),
+    ("mscte32.m", "000100 1 rs2 rs1 010 ms3 1110111"),
+    ("mscte64.m", "000100 1 rs2 rs1 011 ms3 1110111"),
+    ("mfma.mm", "000000 1 ms2 ms1 110 md 1110111"),
+    ("mfwma.mm", "000001 1 ms2 ms1 110 md 1110111"),
+    ("mfaddc.mm", "000100 1 00000 ms1 110 md 1110111"),
+    ("mfwaddc.mm", "000101 1 00000 ms1 110 md 1110111"),
+    ("mfsubc.mm", "000111 1 00000 ms1 110 md 1110111"),
+    ("mfwsubc.mm", "001000 1 00000 ms1 110 md 1110111"),
+    ("mfrsubc.mm", "001010 1 00000 ms1 110 md 1110111"),
+    ("mfwrsubc.mm", "001011 1 00000 ms1 110 md 1110111"),
+    ("mfemulc.mf", "001101 1 rs2 ms1 110 md 1110111"),
+    ("mfwemulc.mf", "001110 1 rs2 ms1 110 md 1110111"),
+    ("mfncvtc.f.fw.m", "011000 1 00000 ms1 110 md 1110111"),
+    ("mfwcvtc.fw.f.m", "011000 0 00000 ms1 110 md 1110111"),
+    ("mfcvtc.f.x.m", "011010 1 00000 ms1 110 md 1110111"),
+    ("mfcvtc.x.f.m", "011010 0 00000 ms1 110 md 1110111"),
+    ("mfncvtc.f.xw.m", "011011 1 00000 ms1 110 md 1110111"),
+    ("mfwcvtc.xw.f.m", "011011 0 00000 ms1 110 md 1110111"),
+    ("mfncvtc.f.xq.m", "011100 1 00000 ms1 110 md 1110111"),
+    ("mfwcvtc.xq.f.m", "011100 0 00000 ms1 110 md 1110111"),
+    ("mfwcvtc.fw.x.m", "011101 1 00000 ms1 110 md 1110111"),
+    ("mfncvtc.x.fw.m", "011101 0 00000 ms1 110 md 1110111"),
+    ("mfcvtc.fw.xw.m", "011110 1 00000 ms1 110 md 1110111"),
+    ("mfcvtc.xw.fw.m", "011110 0 00000 ms1 110 md 1110111"),
+    ("mfncvtc.fw.xq.m", "011111 1 00000 ms1 110 md 1110111"),
+    ("mfwcvtc.xq.fw.m", "011111 0 00000 ms1 110 md 1110111"),
+];
+
+/// Name and columns of every row of the listing, ours first.
+fn printed_rows() -> impl Iterator<Item = (&'static str, &'static str)> {
+    LISTING.iter().map(|row| (row.name, row.columns)).chain(LEFT_OUT)
+}
+
 /// One column of a row: its text, its lowest bit and how many bits it has.
 struct Column {
     text: &'static str,
@@ -306,58 +365,96 @@ impl Column {
     }
 
     fn of(&self, word: u32) -> u32 {
-        (word >> self.low) & ((1 << self.bits) - 1)
+        (word >> self.low) & self.ones()
+    }
+
+    /// As many ones as the column has bits.
+    fn ones(&self) -> u32 {
+        (1 << self.bits) - 1
     }
 
     /// Columns that belong to a code: 31..28 and 14..12 of a setting word,
-    /// 31..25 and 14..12 of the others, and the opcode. The zeros in 27..20
-    /// and 24..20 are no part of it.
+    /// 31..25 and 14..12 of the others. The opcode and the zeros in 27..20 and
+    /// 24..20 are no part of it.
     fn of_code(&self) -> bool {
-        self.fixed().is_some() && self.low != 20
+        self.fixed().is_some() && self.low != 0 && self.low != 20
     }
 }
 
-impl Row {
-    fn columns(&self) -> impl Iterator<Item = Column> {
-        let mut low = 32;
-        self.columns.split(' ').map(move |text| {
-            let bits = match text {
-                "mtypei" | "mleni" => 13,
-                "rd" | "rs1" | "rs2" | "md" | "ms1" | "ms2" | "ms3" | "imm" => 5,
-                digits => digits.len() as u32,
-            };
-            low -= bits;
-            Column { text, low, bits }
-        })
-    }
+/// The columns of a row, from bit 31 down.
+fn columns_of(printed: &'static str) -> impl Iterator<Item = Column> {
+    let mut low = 32;
+    printed.split(' ').map(move |text| {
+        let bits = match text {
+            "mtypei" | "mleni" => 13,
+            "rd" | "rs1" | "rs2" | "md" | "ms1" | "ms2" | "ms3" | "imm" => 5,
+            digits => digits.len() as u32,
+        };
+        low -= bits;
+        Column { text, low, bits }
+    })
 }
 
-/// The row whose opcode and code a word has, whatever its operands.
-pub fn row_by_code(word: u32) -> Option<&'static Row> {
-    LISTING
-        .iter()
-        .find(|row| row.columns().filter(Column::of_code).all(|c| c.fixed() == Some(c.of(word))))
+/// Whether a word has every bit that a row fixes.
+fn has_fixed_bits(printed: &'static str, word: u32) -> bool {
+    columns_of(printed).all(|column| column.fixed().is_none_or(|bits| bits == column.of(word)))
 }
 
-/// A word of a row, with operands by name; the other operands are 0.
+fn has_code(printed: &'static str, word: u32) -> bool {
+    columns_of(printed)
+        .filter(Column::of_code)
+        .all(|column| column.fixed() == Some(column.of(word)))
+}
+
+fn printed_by_name(name: &str) -> &'static str {
+    printed_rows().find(|row| row.0 == name).expect("a name of the listing").1
+}
+
+/// The name of the row, ours or left out, whose code a word has, whatever its
+/// opcode and operands.
+pub fn name_by_code(word: u32) -> Option<&'static str> {
+    printed_rows().find(|row| has_code(row.1, word)).map(|row| row.0)
+}
+
+/// The bits that a row of either table fixes, as ones.
+pub fn fixed_bits(name: &str) -> u32 {
+    let fixed = columns_of(printed_by_name(name)).filter(|column| column.fixed().is_some());
+    fixed.map(|column| column.ones() << column.low).sum()
+}
+
+/// Whether a row of either table fixes zeros beside its code.
+pub fn has_zeros(name: &str) -> bool {
+    columns_of(printed_by_name(name)).any(|column| column.fixed() == Some(0) && column.low == 20)
+}
+
+/// The operands of a row of either table, from bit 31 down: their names and
+/// lowest bits.
+pub fn operands_of(name: &str) -> Vec<(&'static str, u32)> {
+    columns_of(printed_by_name(name))
+        .filter(|column| column.fixed().is_none())
+        .map(|column| (column.text, column.low))
+        .collect()
+}
+
+/// A word of a row of either table, with operands by name; the other operands
+/// are 0.
 pub fn assemble(name: &str, operands: &[(&str, u32)]) -> u32 {
-    let row = LISTING.iter().find(|row| row.name == name).expect("a name of the listing");
     let mut word = 0;
-    for column in row.columns() {
+    for column in columns_of(printed_by_name(name)) {
         let named = operands.iter().find(|(operand, _)| *operand == column.text);
         let value = column.fixed().or(named.map(|n| n.1)).unwrap_or(0);
-        word |= (value & ((1 << column.bits) - 1)) << column.low;
+        word |= (value & column.ones()) << column.low;
     }
     word
 }
 
-/// A word in readable form.
+/// A word in readable form: the row that has its code, and its operands.
 pub fn describe(word: u32) -> String {
-    let Some(row) = row_by_code(word) else {
-        return "a code that is not ours".to_string();
+    let Some((name, printed)) = printed_rows().find(|row| has_code(row.1, word)) else {
+        return "a code of no row".to_string();
     };
-    let mut text = row.name.to_string();
-    for column in row.columns().filter(|column| column.fixed().is_none()) {
+    let mut text = format!("the code of {name}");
+    for column in columns_of(printed).filter(|column| !column.of_code()) {
         text += &format!(" {}={}", column.text, column.of(word));
     }
     text
@@ -371,7 +468,8 @@ pub struct Instruction {
 
 impl Instruction {
     fn operand(&self, name: &str) -> Option<u32> {
-        self.row.columns().find(|column| column.text == name).map(|column| column.of(self.word))
+        let column = columns_of(self.row.columns).find(|column| column.text == name);
+        column.map(|column| column.of(self.word))
     }
 
     /// An operand that the row is known to have.
@@ -421,20 +519,23 @@ fn registers_in_range(instruction: &Instruction) -> bool {
     }
 }
 
-/// Bits that a row fixes beside its code: 27..20 of a setting word with an
-/// rs1 field and 24..20 of an add or subtract, all zero.
-fn fixed_bits_kept(instruction: &Instruction) -> bool {
-    instruction
-        .row
-        .columns()
-        .filter(|column| column.fixed().is_some())
-        .all(|column| column.fixed() == Some(column.of(instruction.word)))
-}
+const OPCODE: u32 = 0b1110111;
 
-/// The instruction of a word; `None` is answer 1.
-pub fn decode(word: u32) -> Option<Instruction> {
-    let instruction = Instruction { row: row_by_code(word)?, word };
-    (fixed_bits_kept(&instruction) && registers_in_range(&instruction)).then_some(instruction)
+/// The instruction of a word; an error is the answer's number: 10, 11, 1 or 12.
+pub fn decode(word: u32) -> Result<Instruction, u64> {
+    if word & 0x7F != OPCODE {
+        return Err(10);
+    }
+    let Some(row) = LISTING.iter().find(|row| has_fixed_bits(row.columns, word)) else {
+        let left_out = LEFT_OUT.iter().any(|row| has_fixed_bits(row.1, word));
+        return Err(if left_out { 11 } else { 1 });
+    };
+    let instruction = Instruction { row, word };
+    if registers_in_range(&instruction) {
+        Ok(instruction)
+    } else {
+        Err(12)
+    }
 }
 
 // ---------------------------------------------------------------------------
@@ -683,8 +784,9 @@ pub fn step(word: u32, bench: &mut Bench, scalars: &mut [u64]) -> Answer {
     if state_at_fault(bench) || scalars.len() != 32 {
         return answer(8);
     }
-    let Some(instruction) = decode(word) else {
-        return answer(1);
+    let instruction = match decode(word) {
+        Ok(instruction) => instruction,
+        Err(number) => return answer(number),
     };
     if bench.machine.mtype & MILL != 0 && instruction.row.kind != SetType {
         return answer(2);

@@ -3,7 +3,7 @@
 
 use crate::lent::{machine_block, words_to_bytes, Lent};
 use crate::random::Random;
-use model::{maximum, sew, Kind, Machine, Row, Size, LISTING, MILL};
+use model::{maximum, sew, Kind, Machine, Matrix, Row, Size, LEFT_OUT, LISTING, MILL};
 
 pub struct Case {
     pub word: u32,
@@ -179,7 +179,7 @@ fn good_operands(random: &mut Random, kind: Kind) -> Vec<(&'static str, u32)> {
     let tile = [random.below(8) as u32, random.below(8) as u32, random.below(8) as u32];
     let accumulator = [random.below(2) as u32, random.below(2) as u32];
     let (md, ms1) = match kind {
-        Kind::Load(model::Matrix::C, _) | Kind::Store(model::Matrix::C, _) => (accumulator[0], 0),
+        Kind::Load(Matrix::C, _) | Kind::Store(Matrix::C, _) => (accumulator[0], 0),
         Kind::Load(..) | Kind::Store(..) => (tile[0], 0),
         Kind::Multiply(_) => (accumulator[0], tile[1]),
         _ => (accumulator[0], accumulator[1]),
@@ -215,6 +215,51 @@ pub fn any_row(random: &mut Random) -> &'static Row {
         if !row.name.contains("64") || random.chance(10) {
             return row;
         }
+    }
+}
+
+/// The register fields of a row, and how many registers each can name.
+pub fn register_fields(kind: Kind) -> Vec<(&'static str, u32)> {
+    match kind {
+        Kind::SetType | Kind::SetSize(_) => vec![],
+        Kind::Load(Matrix::C, _) => vec![("md", 2)],
+        Kind::Load(..) => vec![("md", 8)],
+        Kind::Store(Matrix::C, _) => vec![("ms3", 2)],
+        Kind::Store(..) => vec![("ms3", 8)],
+        Kind::Multiply(_) => vec![("md", 2), ("ms1", 8), ("ms2", 8)],
+        _ => vec![("md", 2), ("ms1", 2)],
+    }
+}
+
+/// A word of a row of either table, its operands any bits.
+pub fn any_operands(random: &mut Random, name: &str) -> u32 {
+    model::assemble(name, &[]) | (random.next() as u32 & !model::fixed_bits(name))
+}
+
+/// A word that is left out, its operands any bits.
+pub fn left_out_word(random: &mut Random) -> u32 {
+    let (name, _) = random.pick(&LEFT_OUT);
+    any_operands(random, name)
+}
+
+/// A bit of a word's opcode turned over.
+fn other_opcode(random: &mut Random, word: u32) -> u32 {
+    word ^ 1 << random.below(7)
+}
+
+/// A word of ours changed into one that is mostly bad.
+pub fn bad_word(random: &mut Random, word: u32) -> u32 {
+    match random.below(10) {
+        0..=2 => word ^ 1 << random.below(32),
+        3 => other_opcode(random, word),
+        4 | 5 => left_out_word(random),
+        6 => {
+            let left_out = left_out_word(random);
+            other_opcode(random, left_out)
+        }
+        // Upper bits of the fields in 24..20, 19..15 and 11..7.
+        7 | 8 => word | 1 << random.pick(&[8, 9, 10, 11, 16, 17, 18, 19, 23, 24]),
+        _ => (random.next() as u32 & !0x7F) | 0x77,
     }
 }
 
@@ -284,11 +329,8 @@ fn aim(random: &mut Random, kind: Kind, operands: &[(&str, u32)], lent: &mut Len
 /// Puts faults into a case, each with the given chance.
 pub fn put_faults(random: &mut Random, case: &mut Case, percent: u64) {
     let mut machine = case.lent.machine();
-    if random.chance(percent) {
-        case.word ^= 1 << random.below(32);
-    }
-    if random.chance(percent / 4) {
-        case.word = (random.next() as u32 & !0x7F) | 0x77;
+    if random.chance(percent + percent / 4) {
+        case.word = bad_word(random, case.word);
     }
     if random.chance(percent / 2) {
         machine.mtype = MILL;
@@ -366,7 +408,7 @@ fn unmark_some(random: &mut Random, case: &mut Case) {
 /// Takes the mark of one byte of an element that the word reads.
 pub fn unmark_source(random: &mut Random, case: &mut Case) {
     let machine = case.lent.machine();
-    let Some(instruction) = model::decode(case.word) else {
+    let Ok(instruction) = model::decode(case.word) else {
         return;
     };
     let sources = model::sources(&instruction, &machine, &case.lent.scalar_values());

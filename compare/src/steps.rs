@@ -4,8 +4,8 @@ use crate::lent::{words_to_bytes, Lent};
 use crate::library;
 use crate::random::Random;
 use crate::states::{
-    any_row, any_scalar, bench_of, good_case, good_machine, moved_rows, put_faults, MTYPES,
-    WILD_STRIDES,
+    any_row, any_scalar, bad_word, bench_of, good_case, good_machine, moved_rows, put_faults,
+    MTYPES, WILD_STRIDES,
 };
 use crate::suite::{check_step, each_case, Context, Outcome};
 use crate::tally::{Call, Tally};
@@ -85,7 +85,10 @@ pub fn sequences(context: &mut Context) -> Outcome {
     each_case(context, "sequences", count, |_, random, tally| {
         let mut lent = started(random, tally)?;
         for _ in 0..100 {
-            let word = following_word(random, &mut lent);
+            let mut word = following_word(random, &mut lent);
+            if random.chance(3) {
+                word = bad_word(random, word);
+            }
             (_, lent) = check_step(word, &lent, tally)?;
         }
         Ok(())

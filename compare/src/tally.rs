@@ -1,12 +1,14 @@
 //! How often each answer was met for each instruction family and for the calls of
 //! a run.
 //!
-//! A word belongs to the family whose opcode and code it has, whatever its
-//! operands. Which cells can be met, by the scope paper:
+//! A word belongs to the family whose code it has, whatever its opcode and
+//! operands; a family is ours or left out. Which cells can be met, by the scope
+//! paper and request One:
 //!
 //! - 0: every family of ours.
-//! - 1: every family but the settings with an immediate, in which every
-//!   operand is good; and all other words.
+//! - 1: families in which the listing fixes zeros beside the code (settings by
+//!   a scalar, adds, subtracts and conversions, float ones too), and words of
+//!   no family.
 //! - 2: every family but msettype and msettypei.
 //! - 3: loads and stores, and the double and quadruple forms. At the output
 //!   width SEW no width rule can be broken.
@@ -18,18 +20,22 @@
 //! - 6: loads and stores. 7: stores.
 //! - 8: every word, since the state is tested before the word.
 //! - 9: no word.
+//! - 10: every word, since the opcode is tested before the rest of it.
+//! - 11: every family that is left out.
+//! - 12: every family of ours but the settings, whose fields name scalars.
 //!
 //! A run's start, and a whole run, gives 0, 6, 8 or 9, asking for the next step 0
-//! or 8. A turn never gives 1, since every word of a run is good; it gives 2 to 7
-//! only on a machine or memory that was changed between turns.
+//! or 8. A turn never gives 1, 10, 11 or 12, since every word of a run is good; it
+//! gives 2 to 7 only on a machine or memory that was changed between turns.
 
-use model::Kind;
+use model::{Kind, LEFT_OUT, LISTING};
 use std::collections::BTreeMap;
 
 #[derive(Clone, Copy, Debug, PartialEq, Eq, PartialOrd, Ord)]
 pub enum Call {
     MachineStart,
-    Family(usize),
+    /// By the name of the family's first row.
+    Family(&'static str),
     OtherWord,
     RunStart,
     RunNext,
@@ -51,34 +57,54 @@ pub struct Tally {
 const LEAST_STEPS: u64 = 200_000;
 const LEAST_RUNS: u64 = 2_000;
 
-/// The listing's name without an element width.
+/// One more than the highest answer.
+const ANSWERS: u64 = 13;
+
+/// The listing's name up to an element width.
 pub fn family_name(name: &'static str) -> &'static str {
-    name.trim_end_matches(".m").trim_end_matches(|c: char| c.is_ascii_digit())
+    match name.find(|c: char| c.is_ascii_digit()) {
+        Some(width) => &name[..width],
+        None => name,
+    }
 }
 
-/// The first row of each family.
-pub fn families() -> Vec<usize> {
-    let names: Vec<_> = model::LISTING.iter().map(|row| family_name(row.name)).collect();
-    (0..names.len()).filter(|&at| at == 0 || names[at] != names[at - 1]).collect()
+/// The first row of each family of ours.
+pub fn families() -> Vec<&'static str> {
+    first_rows(LISTING.iter().map(|row| row.name))
+}
+
+/// The first row of each family that is left out.
+fn families_left_out() -> Vec<&'static str> {
+    first_rows(LEFT_OUT.iter().map(|row| row.0))
+}
+
+fn first_rows(names: impl Iterator<Item = &'static str>) -> Vec<&'static str> {
+    let mut names: Vec<_> = names.collect();
+    names.dedup_by_key(|name| family_name(name));
+    names
 }
 
 fn family_of(word: u32) -> Call {
-    let Some(row) = model::row_by_code(word) else {
+    let Some(name) = model::name_by_code(word) else {
         return Call::OtherWord;
     };
-    let name = family_name(row.name);
-    let first = model::LISTING.iter().position(|row| family_name(row.name) == name);
+    let mut names = LISTING.iter().map(|row| row.name).chain(LEFT_OUT.iter().map(|row| row.0));
+    let first = names.find(|other| family_name(other) == family_name(name));
     Call::Family(first.expect("every row has a family"))
 }
 
 fn reachable(call: Call, number: u64) -> bool {
-    let row = match call {
+    let first = match call {
         Call::MachineStart => return [0, 8].contains(&number),
-        Call::OtherWord => return [1, 8].contains(&number),
+        Call::OtherWord => return [1, 8, 10].contains(&number),
         Call::RunStart | Call::WholeRun => return [0, 6, 8, 9].contains(&number),
         Call::RunNext => return [0, 8].contains(&number),
-        Call::RunTurn => return ![1, 9].contains(&number),
-        Call::Family(row) => &model::LISTING[row],
+        Call::RunTurn => return number <= 8 && number != 1,
+        Call::Family(first) => first,
+    };
+    let zeros = model::has_zeros(first);
+    let Some(row) = LISTING.iter().find(|row| row.name == first) else {
+        return [8, 10, 11].contains(&number) || number == 1 && zeros;
     };
     let setting = matches!(row.kind, Kind::SetType | Kind::SetSize(_));
     let load = matches!(row.kind, Kind::Load(..));
@@ -89,14 +115,15 @@ fn reachable(call: Call, number: u64) -> bool {
         _ => 0,
     };
     match number {
-        0 | 8 => true,
-        1 => !(setting && row.name.ends_with('i')),
+        0 | 8 | 10 => true,
+        1 => zeros,
         2 => row.kind != Kind::SetType,
         3 => load || store || factor > 1,
         4 => !setting && factor != 4,
         5 => !setting && !load,
         6 => load || store,
         7 => store,
+        12 => !setting,
         _ => false,
     }
 }
@@ -117,8 +144,8 @@ impl Tally {
 
     fn calls() -> Vec<(Call, &'static str)> {
         let mut calls = vec![(Call::MachineStart, "machine start")];
-        for row in families() {
-            calls.push((Call::Family(row), family_name(model::LISTING[row].name)));
+        for first in families().into_iter().chain(families_left_out()) {
+            calls.push((Call::Family(first), family_name(first)));
         }
         calls.extend([
             (Call::OtherWord, "other words"),
@@ -131,12 +158,13 @@ impl Tally {
     }
 
     pub fn print(&self) {
-        print!("{:14}", "answer");
-        (0..10).for_each(|number| print!("{number:>9}"));
+        println!("how often each answer was met; - stands where it cannot be");
+        print!("{:16}", "answer");
+        (0..ANSWERS).for_each(|number| print!("{number:>9}"));
         println!();
         for (call, name) in Tally::calls() {
-            print!("{name:14}");
-            for number in 0..10 {
+            print!("{name:16}");
+            for number in 0..ANSWERS {
                 match (reachable(call, number), self.get(call, number)) {
                     (false, 0) => print!("{:>9}", "-"),
                     (_, count) => print!("{count:>9}"),
@@ -154,7 +182,7 @@ impl Tally {
     pub fn check(&self) -> Result<String, String> {
         let mut faults = Vec::new();
         for (call, name) in Tally::calls() {
-            for number in 0..10 {
+            for number in 0..ANSWERS {
                 match (reachable(call, number), self.get(call, number)) {
                     (true, 0) => faults.push(format!("{name} never gave {number}")),
                     (false, 1..) => faults.push(format!("{name} gave {number}")),
