@@ -11,6 +11,7 @@ mod boundaries;
 mod damage;
 mod lent;
 mod library;
+mod powerup;
 mod random;
 mod runs;
 mod sheet;
@@ -24,7 +25,7 @@ mod words;
 use std::time::Instant;
 use suite::{Context, Outcome, Suite};
 
-const SUITES: [Suite; 20] = [
+const SUITES: [Suite; 22] = [
     ("bench sheet", sheet::bench_sheet),
     ("machine starts", starts::machine_starts),
     ("codes", steps::codes),
@@ -34,12 +35,14 @@ const SUITES: [Suite; 20] = [
     ("random steps", steps::random_steps),
     ("several faults", steps::several_faults),
     ("sequences", steps::sequences),
+    ("power-up words", powerup::power_up_words),
     ("damaged steps", damage::damaged_steps),
     ("empty slices", damage::empty_slices),
     ("run starts", runs::suites::run_starts),
     ("turns", runs::suites::turns),
     ("disturbed turns", runs::suites::disturbed_turns),
     ("whole runs", runs::suites::whole_runs),
+    ("power-up runs", runs::powerup::power_up_runs),
     ("largest sizes", runs::suites::largest_sizes),
     ("larger products", runs::suites::larger_products),
     ("wrong run lengths", runs::damage::wrong_run_lengths),

@@ -1,5 +1,5 @@
 //! The second program: the rules of the scope paper and of the change requests
-//! that have landed (One), each as one plain function.
+//! that have landed (One; Nine asks for nothing new), each as one plain function.
 //!
 //! It is written to be read beside the paper, not to be fast. Sizes and
 //! addresses are whole numbers (`i128`), bytes are looked at one by one, and a

@@ -131,7 +131,7 @@ fn started(random: &mut Random, tally: &mut Tally) -> Result<Lent, String> {
 }
 
 /// A word that mostly suits the state, with its scalars set.
-fn following_word(random: &mut Random, lent: &mut Lent) -> u32 {
+pub fn following_word(random: &mut Random, lent: &mut Lent) -> u32 {
     let machine = lent.machine();
     let row = loop {
         let row = likely_row(random);

@@ -3,4 +3,5 @@
 pub mod bench;
 pub mod damage;
 pub mod plans;
+pub mod powerup;
 pub mod suites;

@@ -67,7 +67,7 @@ fn start_good(
 }
 
 /// Every permitted machine in turn.
-fn machine_of_case(case: u64) -> (u64, u64) {
+pub fn machine_of_case(case: u64) -> (u64, u64) {
     let pairs = model::permitted_lengths();
     pairs[case as usize % pairs.len()]
 }
