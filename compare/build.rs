@@ -1,5 +1,5 @@
 //! Links the binary with libhost.a, whose folder BODLARINA_LIB names, and with the
-//! plain C loops of its benchmark. The lib target needs neither.
+//! plain C products of its benchmark. The lib target needs neither.
 
 use std::path::{Path, PathBuf};
 use std::process::Command;
@@ -23,6 +23,7 @@ fn link_library() {
 
 fn link_baseline() {
     println!("cargo:rerun-if-changed=c/baseline.c");
+    println!("cargo:rerun-if-changed=c/baseline.h");
     let folder = PathBuf::from(std::env::var("OUT_DIR").expect("OUT_DIR is set by cargo"));
     let object = folder.join("baseline.o");
     let compiled = Command::new("gcc")

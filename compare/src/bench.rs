@@ -96,7 +96,10 @@ fn steps_by_family() {
     words.push(("mlce32".to_string(), assemble("mlce32.m", &operands)));
     words.push(("msce32".to_string(), assemble("msce32.m", &operands)));
     words.push(("mqemulc.mi by 0 (a clear)".to_string(), assemble("mqemulc.mi", &[])));
-    words.push(("a bad word".to_string(), 0));
+    words.push(("a wrong opcode".to_string(), 0));
+    words.push(("a word that is left out".to_string(), assemble("mlate8.m", &operands)));
+    words.push(("a code of no row".to_string(), assemble("mlae8.m", &operands) | 1 << 31));
+    words.push(("a register out of range".to_string(), assemble("mlae8.m", &[("md", 8)])));
     words.push(("a load of a wrong width".to_string(), assemble("mlae64.m", &operands)));
     for (name, word) in words {
         let [(small, first), (large, second)] =

@@ -9,13 +9,32 @@ use model::{Matrix, Plan};
 use std::hint::black_box;
 use std::time::Instant;
 
+/// A plain C product of c/baseline.c: widths of the elements and of the sums in
+/// bits, m, k, n, and the three matrices.
+type PlainProduct =
+    unsafe extern "C" fn(i32, i32, usize, usize, usize, *const u8, *const u8, *mut u8);
+
 extern "C" {
-    fn baseline_8_to_8(m: usize, k: usize, n: usize, a: *const i8, b: *const i8, c: *mut i8);
-    fn baseline_8_to_16(m: usize, k: usize, n: usize, a: *const i8, b: *const i8, c: *mut i16);
-    fn baseline_8_to_32(m: usize, k: usize, n: usize, a: *const i8, b: *const i8, c: *mut i32);
-    fn baseline_16_to_16(m: usize, k: usize, n: usize, a: *const i16, b: *const i16, c: *mut i16);
-    fn baseline_16_to_32(m: usize, k: usize, n: usize, a: *const i16, b: *const i16, c: *mut i32);
-    fn baseline_32_to_32(m: usize, k: usize, n: usize, a: *const i32, b: *const i32, c: *mut i32);
+    fn anchor_product(
+        width: i32,
+        output: i32,
+        m: usize,
+        k: usize,
+        n: usize,
+        a: *const u8,
+        b: *const u8,
+        c: *mut u8,
+    );
+    fn slow_product(
+        width: i32,
+        output: i32,
+        m: usize,
+        k: usize,
+        n: usize,
+        a: *const u8,
+        b: *const u8,
+        c: *mut u8,
+    );
 }
 
 /// A product is left out if it is foreseen to take longer, in nanoseconds.
@@ -28,12 +47,14 @@ pub fn bench() {
     println!();
     println!("Products: the best of as many as take a second, of 3 at the least; C is cleared to");
     println!("0 before each, outside the timed part; A and B are filled once; the start is timed");
-    println!("on its own. Growth is the time divided by that of the line above. The plain C loop");
-    println!("(gcc -O3) is timed on the same matrices. The second program is slow: it is timed on");
-    println!("a product of {SECOND_SIZE} in each size on the same machine, and its ratio is that");
-    println!("of nanoseconds a multiply-accumulate (MAC).");
+    println!("on its own. Growth is the time divided by that of the line above. Two products in");
+    println!("plain C (gcc -O3) are timed on the same matrices: the anchor, as a careful");
+    println!("programmer writes it (k in the middle loop, along rows of B and C), and the slow");
+    println!("loops, in the order i, j, k. The ratio that counts is the one to the anchor. The");
+    println!("second program is slow: it is timed on a product of {SECOND_SIZE} in each size on the same");
+    println!("machine, and its ratio is that of nanoseconds a multiply-accumulate (MAC).");
     start_checks();
-    smallest_tiles();
+    turns_on_the_smallest_machine();
     products(LARGE, [128, 256, 512, 1024]);
     products(SMALL, [32, 64, 128, 256]);
     widths();
@@ -65,18 +86,24 @@ fn start_checks() {
     }
 }
 
-/// Times of single turns where the words have least to do.
-fn smallest_tiles() {
+/// Times of turns where the words have least to do, and of a usual product.
+fn turns_on_the_smallest_machine() {
     println!();
-    println!("nanoseconds a turn on {}, 8 to 8 bits: all turns by one", machine_name(SMALL));
-    println!("run_turns, divided by their number, and each by a run_turn of its own");
-    println!("{:12}{:>12}{:>10}{:>12}{:>12}", "m, k, n", "tiles", "turns", "run_turns", "run_turn");
-    for (sizes, name, tiles) in [
-        ([1024, 1, 1], "1,024, 1, 1", "2, 1, 1"),
-        ([1, 1024, 1], "1, 1,024, 1", "1, 2, 1"),
-        ([256, 256, 1], "256, 256, 1", "2, 2, 1"),
+    println!("nanoseconds a turn on {}: all turns by one run_turns, divided", machine_name(SMALL));
+    println!("by their number, and each by a run_turn of its own");
+    println!(
+        "{:12}{:>12}{:>12}{:>10}{:>12}{:>12}",
+        "m, k, n", "bits", "tiles", "turns", "run_turns", "run_turn"
+    );
+    for (widths, sizes, name, tiles) in [
+        ((8, 1), [1024, 1, 1], "1,024, 1, 1", "2, 1, 1"),
+        ((8, 1), [1, 1024, 1], "1, 1,024, 1", "1, 2, 1"),
+        ((8, 1), [256, 256, 1], "256, 256, 1", "2, 2, 1"),
+        ((8, 1), [64, 64, 64], "64, 64, 64", "2, 2, 8"),
+        ((8, 4), [64, 64, 64], "64, 64, 64", "2, 2, 8"),
     ] {
-        let (plan, memory) = packed_plan((8, 1), sizes);
+        let bits = width_name(widths);
+        let (plan, memory) = packed_plan(widths, sizes);
         let mut lent = plan_bench(SMALL, &plan, memory);
         let started = started_run(&plan, &mut lent);
         let mut turns = 0;
@@ -89,8 +116,12 @@ fn smallest_tiles() {
             while library_run_turn(&mut run, &mut lent) == 0 {}
         });
         let [together, singly] = [together, singly].map(|time| time / turns as f64);
-        println!("{name:12}{tiles:>12}{turns:>10}{together:>12.1}{singly:>12.1}");
+        println!("{name:12}{bits:>12}{tiles:>12}{turns:>10}{together:>12.1}{singly:>12.1}");
     }
+}
+
+fn width_name((sew, factor): (u64, u64)) -> String {
+    format!("{sew} to {}", sew * factor)
 }
 
 /// A bench for a plan: A and B filled, C cleared.
@@ -142,37 +173,33 @@ fn library_product(machine: (u64, u64), plan: &Plan, memory: usize) -> (f64, Len
     (time, state.0)
 }
 
-/// Nanoseconds of the plain loop on the same matrices, and what it leaves.
-fn plain_product(machine: (u64, u64), plan: &Plan, memory: usize) -> (f64, Lent) {
-    let mut lent = plan_bench(machine, plan, memory);
+/// Nanoseconds of a plain C product on the same matrices, and the memory it leaves.
+fn plain_product(product: PlainProduct, plan: &Plan, lent: &Lent) -> (f64, Vec<u8>) {
+    let memory = lent.memory.len();
     // Elements of more than a byte stand at multiples of their width.
     let mut aligned = vec![0u64; memory.div_ceil(8)];
     let bytes: &mut [u8] =
         unsafe { std::slice::from_raw_parts_mut(aligned.as_mut_ptr().cast(), memory) };
     bytes.copy_from_slice(&lent.memory);
-    let time =
-        best(bytes, |bytes| bytes[plan.c as usize..].fill(0), |bytes| plain_loop(plan, bytes));
-    lent.memory.copy_from_slice(bytes);
-    (time, lent)
+    let time = best(
+        bytes,
+        |bytes| bytes[plan.c as usize..].fill(0),
+        |bytes| call_plain(product, plan, bytes),
+    );
+    (time, bytes.to_vec())
 }
 
-/// The plain C loop; `memory` starts at a multiple of 8.
-fn plain_loop(plan: &Plan, memory: &mut [u8]) {
+/// A plain C product; `memory` starts at a multiple of 8.
+fn call_plain(product: PlainProduct, plan: &Plan, memory: &mut [u8]) {
     let [m, k, n] = [plan.m, plan.k, plan.n].map(|size| size as usize);
+    let (width, output) = (plan.sew as i32, (plan.sew * plan.factor) as i32);
     let start = memory.as_mut_ptr();
     // The three ranges lie in memory and do not overlap.
     unsafe {
         let a = start.add(plan.a as usize);
         let b = start.add(plan.b as usize);
         let c = start.add(plan.c as usize);
-        match (plan.sew, plan.factor) {
-            (8, 1) => baseline_8_to_8(m, k, n, a.cast(), b.cast(), c.cast()),
-            (8, 2) => baseline_8_to_16(m, k, n, a.cast(), b.cast(), c.cast()),
-            (8, _) => baseline_8_to_32(m, k, n, a.cast(), b.cast(), c.cast()),
-            (16, 1) => baseline_16_to_16(m, k, n, a.cast(), b.cast(), c.cast()),
-            (16, _) => baseline_16_to_32(m, k, n, a.cast(), b.cast(), c.cast()),
-            _ => baseline_32_to_32(m, k, n, a.cast(), b.cast(), c.cast()),
-        }
+        product(width, output, m, k, n, a, b, c);
     }
 }
 
@@ -196,11 +223,10 @@ fn product_heading(what: &str) {
     println!();
     println!("products by run_turns {what}");
     println!("(second: the second program, timed on {SECOND_SIZE} in each size)");
-    println!("{:32}{:>30}{:>22}", "", "nanoseconds a MAC", "library's ratio to");
-    println!(
-        "{:14}{:>10}{:>8}{:>10}{:>10}{:>10}{:>11}{:>11}{:>8}",
-        "", "ms", "growth", "library", "plain C", "second", "plain C", "second", "same C"
-    );
+    println!("{:32}{:>40}{:>30}", "", "nanoseconds a MAC", "library's ratio to");
+    print!("{:14}{:>10}{:>8}", "", "ms", "growth");
+    print!("{:>10}{:>10}{:>10}{:>10}", "library", "anchor", "slow", "second");
+    println!("{:>10}{:>10}{:>10}{:>8}", "anchor", "slow", "second", "same C");
 }
 
 /// One line: a product, its growth since a smaller one, and what it is held to.
@@ -214,20 +240,18 @@ fn product_line(
 ) -> f64 {
     let (plan, memory) = packed_plan(widths, [size; 3]);
     let (time, ours) = library_product(machine, &plan, memory);
-    let (plain, other) = plain_product(machine, &plan, memory);
+    let bench = plan_bench(machine, &plan, memory);
+    let (anchor, by_anchor) = plain_product(anchor_product, &plan, &bench);
+    let (slow, by_slow) = plain_product(slow_product, &plan, &bench);
     let count = (size * size * size) as f64;
     let growth = before.map_or("".to_string(), |before| format!("{:.2}", time / before));
     let placed = plan.placed(Matrix::C);
-    let same = model::elements(placed, &ours.memory) == model::elements(placed, &other.memory);
-    println!(
-        "{name:14}{:>10.3}{growth:>8}{:>10.3}{:>10.3}{second:>10.1}{:>11.2}{:>11.4}{:>8}",
-        time / 1e6,
-        time / count,
-        plain / count,
-        time / plain,
-        time / count / second,
-        if same { "yes" } else { "NO" }
-    );
+    let ours = model::elements(placed, &ours.memory);
+    let same = [by_anchor, by_slow].iter().all(|memory| model::elements(placed, memory) == ours);
+    print!("{name:14}{:>10.3}{growth:>8}", time / 1e6);
+    print!("{:>10.3}{:>10.3}{:>10.3}", time / count, anchor / count, slow / count);
+    print!("{second:>10.1}{:>10.2}{:>10.2}", time / anchor, time / slow);
+    println!("{:>10.4}{:>8}", time / count / second, if same { "yes" } else { "NO" });
     time
 }
 
@@ -249,8 +273,7 @@ fn products(machine: (u64, u64), sizes: [u64; 4]) {
 fn widths() {
     product_heading(&format!("of 256 in each size on {}", machine_name(LARGE)));
     for widths in WIDTHS {
-        let (sew, factor) = widths;
-        let name = format!("{sew} to {} bits", sew * factor);
+        let name = format!("{} bits", width_name(widths));
         product_line(&name, LARGE, widths, 256, None, second_rate(LARGE, widths));
     }
 }
