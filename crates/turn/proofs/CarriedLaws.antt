@@ -26,7 +26,8 @@ use Rattle.machine.specs.Faults.{sound}
 use Rattle.machine.specs.Listing.{decode}
 use Rattle.machine.specs.Operation.{Operation, times, stateAfter}
 use Rattle.machine.specs.Step.{Outcome, outcome}
-use Rattle.machine.proofs.TestLaws.{every-each, false-true}
+use Rattle.machine.proofs.TestLaws.{every-each}
+use Rattle.machine.proofs.CodeLaws.{only-done}
 use Rattle.step.specs.Parts.{ours, withType, withSize, granted, sizeStepped, Loads, Stores}
 use Rattle.step.proofs.StepParts.{step-decoded, type-outcome, size-outcome, loads-outcome, stores-outcome}
 use Rattle.run.specs.declared.Plan.{Plan}
@@ -39,7 +40,7 @@ use Rattle.run.specs.Encoding.{own, handedFor, startOf, log}
 use Rattle.run.specs.Start.{format, planned}
 use Rattle.run.specs.Turn.{soundRun, runShape, moved, Running, running, turn, turnWith, TurnOutcome, turnOutcome, turns, TurnsOutcome}
 use Rattle.run.proofs.WordLaws.{formats, decode-a, decode-b, decode-c, msew<3, narrow-is, wide<3, wide-is, type-small}
-use Rattle.turn.specs.Parts.{Carried, carried, carriedFor, carriedBy, carriedAt, endingAt}
+use Rattle.turn.specs.Parts.{Carried, carried, carriedFor, carriedBy, carriedAt, atPlace, endingAt}
 use Rattle.turn.proofs.TurnLaws.{leaving, taking, turns-stop, turns-more}
 
 pub plan-format : (P : Plan) → planned P ≡ true → format (P .sew) (P .factor) ≡ true
@@ -218,6 +219,11 @@ turns-carried r R B n e ok k ek d R′ eR =
     ap (λ (R : Run). taking (n + 1) (running R (k .bench))) eR
     ∙ turns-more r (running R B) n e (leaving (k .answer) (running (moved smaller R) (k .bench))) (turn-carried R B ok k ek true d) d
 
+-- the place after a turn
+pub moved-place : (R U A : Run) (q : Place) → U ≡ atPlace R q → A ≡ moved smaller U → atPlace R (A .place) ≡ moved smaller U
+moved-place R U A q e k =
+    ap (λ (A : Run). atPlace R (A .place)) k ∙ ap (λ (U : Run). atPlace R (moved smaller U .place)) e ∙ ap (moved smaller) (sym e)
+
 -- a run that no start can have made: every turn is refused
 pub turn-unsound : (R : Run) (B : Bench) → soundRun smaller R ≡ false → leaving BadArguments (running R B) ≡ turnOutcome smaller (running R B)
 turn-unsound R B h =
@@ -234,29 +240,18 @@ ends-done limit count t e = sym (rw e)
 pub ends-refused : (limit count : ℕ) (t : TurnsOutcome) (a : Answer) → eqb count limit ≡ false → a ≡ turn smaller (t .after) .answer → a ≡ endingAt limit count t
 ends-refused limit count t a e h = h ∙ sym (rw e)
 
+-- the run at the place where the turns end
+pub at-end : (n : ℕ) (U U′ : Run) (B : Bench) (t : TurnsOutcome) → U ≡ U′ → taking n (running U′ B) ≡ t → taking n (running U B) ≡ t
+at-end n U U′ B t e h = ap (λ (U : Run). taking n (running U B)) e ∙ h
+
 -- one turn, from what turns of at most one come to
 pub one-turn : (r : Running) (n : ℕ) (a : Answer) (after : Running) → taking n after ≡ turns smaller r 1 → a ≡ endingAt 1 n (turns smaller r n) → leaving a after ≡ turnOutcome smaller r
 one-turn r n a after e h =
     ap₂ leaving (go (isDone (turn smaller r .answer)) refl) (ap (λ (o : TurnsOutcome). o .after) e)
   where
-    done-is : (a : Answer) → isDone a ≡ true → a ≡ Done
-    done-is Done d = refl
-    done-is Answer.IllegalWord d = absurd (false-true d)
-    done-is Answer.WrongOpcode d = absurd (false-true d)
-    done-is Answer.NotCarriedOut d = absurd (false-true d)
-    done-is Answer.WrongRegister d = absurd (false-true d)
-    done-is Answer.IllegalType d = absurd (false-true d)
-    done-is Answer.BadWidth d = absurd (false-true d)
-    done-is Answer.TileTooLarge d = absurd (false-true d)
-    done-is (Answer.Unwritten i j) d = absurd (false-true d)
-    done-is Answer.OutsideMemory d = absurd (false-true d)
-    done-is Answer.SealedByte d = absurd (false-true d)
-    done-is BadArguments d = absurd (false-true d)
-    done-is Answer.Overlap d = absurd (false-true d)
-
     count-is : (t : Bool) → isDone (turn smaller r .answer) ≡ t → n ≡ cond t 1 0
     count-is t d = ap (λ (o : TurnsOutcome). o .count) e ∙ ap (λ (t : Bool). 0 + cond t 1 0) d ∙ zero-add (cond t 1 0)
 
     go : (t : Bool) → isDone (turn smaller r .answer) ≡ t → a ≡ turn smaller r .answer
-    go true d = h ∙ ap (λ (n : ℕ). endingAt 1 n (turns smaller r n)) (count-is true d) ∙ sym (done-is (turn smaller r .answer) d)
+    go true d = h ∙ ap (λ (n : ℕ). endingAt 1 n (turns smaller r n)) (count-is true d) ∙ sym (only-done (turn smaller r .answer) d)
     go false d = h ∙ ap (λ (n : ℕ). endingAt 1 n (turns smaller r n)) (count-is false d)

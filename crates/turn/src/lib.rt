@@ -29,7 +29,7 @@ ghost use Rattle.step.specs.Parts.{Ready, Loads};
 ghost use Rattle.run.specs.Plan.{narrow};
 ghost use Rattle.run.specs.Words.{clear, multiply, store};
 ghost use Rattle.run.specs.Encoding.{startOf};
-ghost use Rattle.turn.specs.Parts.{carried, carriedFor, carriedAt, endingAt};
+ghost use Rattle.turn.specs.Parts.{carried, carriedFor, carriedAt, atPlace, endingAt};
 ghost use Rattle.run.specs.Start.{startRun, startedAs, noRun, planned};
 ghost use Rattle.run.specs.Turn.{running, turnOutcome, turnedAs, turns, takenAs, soundRun};
 ghost use Rattle.run.specs.Whole.{whole, finishedAs, Delivers};
@@ -303,12 +303,25 @@ fn machine_after(run: Run, m: Machine) -> Machine
     }
 }
 
-// What turns come to: the answer of the one that was refused, or 0; how many were answered 0; the run and the machine after them.
+// What turns come to: the answer of the one that was refused, or 0; how many were answered 0; the run's place and the machine after them.
 struct Progress {
     answer: Answer,
     count: u64,
-    run: Run,
+    place: Place,
     machine: Machine,
+}
+
+// The run at another place.
+fn at_place(run: Run, place: Place) -> Run
+    ensures { λ r. ⌜ r ≡ atPlace run place ⌝ }
+{
+    let plan = run.plan;
+    Run {
+        plan: plan,
+        rlen: run.rlen,
+        mlen: run.mlen,
+        place: place,
+    }
 }
 
 // Turns until one is refused, in a state that is not at fault; no more than limit. The run is judged once: it stays sound.
@@ -321,16 +334,17 @@ fn take_turns(
     memory: &mut [u8],
 ) -> Progress
     requires { ⌜ sound m (now registers) (now marks) ≡ true ⌝ }
-    ensures { λ r. ⌜ takenAs (record { count = r .count; run = r .run; machine = r .machine }) (now (registers .exit)) (now (marks .exit)) (now (memory .exit))
+    ensures { λ r. ⌜ takenAs (record { count = r .count; run = atPlace run (r .place); machine = r .machine }) (now (registers .exit)) (now (marks .exit)) (now (memory .exit))
         ≡ turns smaller (running run (benchOf m (now (registers .entry)) (now (marks .entry)) (now (memory .entry)))) limit ⌝ }
     ensures { λ r. ⌜ (0 < limit → r .answer ≡ endingAt limit (r .count)
         (turns smaller (running run (benchOf m (now (registers .entry)) (now (marks .entry)) (now (memory .entry)))) (r .count))) ⌝ }
 {
+    let mut place = run.place;
     if !run::asking::is_sound_run(run) {
         return Progress {
             answer: Answer::BadArguments,
             count: 0,
-            run: run,
+            place: place,
             machine: m,
         };
     }
@@ -338,26 +352,27 @@ fn take_turns(
     let columns = run::asking::most_columns(run);
     let terms = run::asking::most_terms(run);
     let mut count = 0;
-    let mut current = run;
     let mut machine = m;
     while count < limit {
+        let current = at_place(run, place);
         let answer = carry_out(current, machine, registers, marks, memory);
         if !tile::is_done(answer) {
             return Progress {
                 answer: answer,
                 count: count,
-                run: current,
+                place: place,
                 machine: machine,
             };
         }
         machine = machine_after(current, machine);
-        current = run::asking::moved_run(current, rows, columns, terms);
+        let after = run::asking::moved_run(current, rows, columns, terms);
+        place = after.place;
         count += 1;
     }
     Progress {
         answer: Answer::Done,
         count: count,
-        run: current,
+        place: place,
         machine: machine,
     }
 }
@@ -382,7 +397,8 @@ pub fn turn(
     }
     let progress = take_turns(1, run, m, registers, marks, memory);
     let answer = progress.answer;
-    let after = progress.run;
+    let place = progress.place;
+    let after = at_place(run, place);
     let machine = progress.machine;
     Turned {
         answer: answer,
@@ -411,7 +427,8 @@ pub fn turns(
         };
     }
     let progress = take_turns(limit, run, m, registers, marks, memory);
-    let after = progress.run;
+    let place = progress.place;
+    let after = at_place(run, place);
     let machine = progress.machine;
     Taken {
         count: progress.count,

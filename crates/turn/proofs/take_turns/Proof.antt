@@ -14,20 +14,21 @@ use Rattle.run.specs.Parts.{Most}
 use Rattle.run.specs.Turn.{TurnOutcome, TurnsOutcome, running, turn, turns, soundRun, runShape}
 use Rattle.run.proofs.AskingLaws.{run-numbered, moved-sound}
 use Rattle.turn.proofs.TurnLaws.{taking, turns-refused, turn-sound}
-use Rattle.turn.proofs.CarriedLaws.{numbers-joined, turn-carried, turns-carried, turn-unsound, turns-unsound, ends-done, ends-refused}
+use Rattle.turn.proofs.CarriedLaws.{numbers-joined, moved-place, at-end, turn-carried, turns-carried, turn-unsound, turns-unsound, ends-done, ends-refused}
+use Rattle.turn.specs.Parts.{atPlace}
 use Rattle.step.proofs.TransferLaws.{ready}
 use Rattle.turn.proofs.take_turns.Statement.{statement}
 use Rattle.turn.proofs.take_turns.Tie as tie
 
 -- every turn so far was answered 0, and neither the state nor the run is at fault
 abbrev Inv-loop : tie.InvT-loop
-Inv-loop limit registers₀ marks₀ memory₀ rows columns terms count₀ current₀ machine₀ registers marks memory count current machine =
-    (count ≤ limit) × (sound machine registers marks ≡ true) × (soundRun smaller current ≡ true) × (Most current rows columns terms)
-    × (taking count (running current (benchOf machine registers marks memory)) ≡ turns smaller (running current₀ (benchOf machine₀ registers₀ marks₀ memory₀)) count)
+Inv-loop limit run registers₀ marks₀ memory₀ place₀ rows columns terms count₀ machine₀ registers marks memory place count machine =
+    (count ≤ limit) × (sound machine registers marks ≡ true) × (soundRun smaller (atPlace run place) ≡ true) × (Most run rows columns terms)
+    × (taking count (running (atPlace run place) (benchOf machine registers marks memory)) ≡ turns smaller (running (atPlace run place₀) (benchOf machine₀ registers₀ marks₀ memory₀)) count)
     × (length registers ≡ length registers₀) × (length marks ≡ length marks₀) × (length memory ≡ length memory₀)
 
 abbrev μ-loop : tie.MeasureT-loop
-μ-loop limit registers₀ marks₀ memory₀ rows columns terms count₀ current₀ machine₀ registers marks memory count current machine = limit - count
+μ-loop limit run registers₀ marks₀ memory₀ place₀ rows columns terms count₀ machine₀ registers marks memory place count machine = limit - count
 
 is-sound-run-requires : tie.Need-is-sound-run-requires Inv-loop μ-loop
 is-sound-run-requires c κs = search needs
@@ -70,8 +71,14 @@ loop-holds c =
       refl,
     )
 
+at-place-requires : tie.Need-at-place-requires Inv-loop μ-loop
+at-place-requires c κs = search needs
+
 carry-out-requires : tie.Need-carry-out-requires Inv-loop μ-loop
-carry-out-requires c κs = let l = c .before .before .before .before .loop in (l .inv .1, l .inv .2)
+carry-out-requires c κs =
+    let u = c .before .before .before .at-place in
+    let l = c .before .before .before .before .before .loop in
+    (l .inv .1, ap (soundRun smaller) (u .ensures) ∙ l .inv .2)
 
 is-done-requires : tie.Need-is-done-requires Inv-loop μ-loop
 is-done-requires c κs = search needs
@@ -89,53 +96,66 @@ returns-2 : tie.Need-returns-2 Inv-loop μ-loop
 returns-2 c =
     let d = c .before in
     let w = c .before .before .before .before .before .before .before .before .carry-out in
-    let l = c .before .before .before .before .before .before .before .before .before .before .before .before .before .loop in
-    let a = c .before .before .before .before .before .before .before .before .before .before .before .before .before .before .before .before .before .before .before .before .before .before .args in
+    let u = c .before .before .before .before .before .before .before .before .before .before .before .before .at-place in
+    let l = c .before .before .before .before .before .before .before .before .before .before .before .before .before .before .loop in
+    let a = c .before .before .before .before .before .before .before .before .before .before .before .before .before .before .before .before .before .before .before .before .before .before .before .args in
     let r = (running (a .run) (benchOf (a .m) (a .registers .now) (a .marks .now) (a .memory .now))) in
     let B = benchOf (l .machine) (l .registers) (l .marks) (l .memory) in
     let no : isDone (w .result) ≡ false = sym (d .is-done .ensures) ∙ not-true (d .is-done .result) (c .if2 .taken) in
-    let h = turn-carried (l .current) B (l .inv .2) _ (w .ensures) false no in (
-      turns-refused r (running (l .current) B) (l .count) (a .limit) (l .inv .0) (l .inv .4) _ h no,
-      λ p. ends-refused (a .limit) (l .count) (turns smaller r (l .count)) _ (ne-eqb (l .count) (a .limit) (λ e. omega (arith, c .before .before .before .before .before .before .before .before .before .before .before .before .loop-test .taken)))
-          (ap (λ (o : TurnOutcome). o .answer) h ∙ ap (λ (o : TurnsOutcome). turn smaller (o .after) .answer) (l .inv .4)),
+    let q = at-end (l .count) (u .result) (atPlace (a .run) (l .place)) B (turns smaller r (l .count)) (u .ensures) (l .inv .4) in
+    let h = turn-carried (u .result) B (ap (soundRun smaller) (u .ensures) ∙ l .inv .2) _ (w .ensures) false no in (
+      at-end (l .count) _ _ _ (turns smaller r (a .limit)) (sym (u .ensures)) (turns-refused r (running (u .result) B) (l .count) (a .limit) (l .inv .0) q _ h no),
+      λ p. ends-refused (a .limit) (l .count) (turns smaller r (l .count)) _ (ne-eqb (l .count) (a .limit) (λ e. omega (arith, c .before .before .before .before .before .before .before .before .before .before .before .before .before .loop-test .taken)))
+          (ap (λ (o : TurnOutcome). o .answer) h ∙ ap (λ (o : TurnsOutcome). turn smaller (o .after) .answer) q),
     )
 
 machine-after-requires : tie.Need-machine-after-requires Inv-loop μ-loop
 machine-after-requires c κs =
-    let l = c .before .before .before .before .before .before .before .before .before .before .before .before .before .loop in
-    (ready (l .machine) (l .registers) (l .marks) (l .inv .1), l .inv .2)
+    let u = c .before .before .before .before .before .before .before .before .before .before .before .before .at-place in
+    let l = c .before .before .before .before .before .before .before .before .before .before .before .before .before .before .loop in
+    (ready (l .machine) (l .registers) (l .marks) (l .inv .1), ap (soundRun smaller) (u .ensures) ∙ l .inv .2)
 
 moved-run-requires : tie.Need-moved-run-requires Inv-loop μ-loop
-moved-run-requires c κs = let l = c .before .before .before .before .before .before .before .before .before .before .before .before .before .before .loop in (l .inv .2, l .inv .3)
+moved-run-requires c κs =
+    let u = c .before .before .before .before .before .before .before .before .before .before .before .before .before .at-place in
+    let l = c .before .before .before .before .before .before .before .before .before .before .before .before .before .before .before .loop in
+    let e = sym (u .ensures) in (
+      ap (soundRun smaller) (u .ensures) ∙ l .inv .2,
+      record {
+        rows-are = l .inv .3 .rows-are ∙ ap (λ (R : Run). runShape smaller R .tm) e;
+        columns-are = l .inv .3 .columns-are ∙ ap (λ (R : Run). runShape smaller R .tn) e;
+        terms-are = l .inv .3 .terms-are ∙ ap (λ (R : Run). runShape smaller R .tk) e;
+      },
+    )
 
 add-count : tie.Need-add-count Inv-loop μ-loop
-add-count c = omega (arith, c .before .before .before .before .before .before .before .before .before .before .before .before .before .before .loop-test .taken, c .before .before .before .before .before .before .before .before .before .before .before .before .before .before .before .before .before .before .before .before .before .before .before .before .fits .limit)
+add-count c = omega (arith, c .before .before .before .before .before .before .before .before .before .before .before .before .before .before .before .loop-test .taken, c .before .before .before .before .before .before .before .before .before .before .before .before .before .before .before .before .before .before .before .before .before .before .before .before .before .fits .limit)
 
 loop-less : tie.Need-loop-less Inv-loop μ-loop
-loop-less c = omega (arith, c .before .before .before .before .before .before .before .before .before .before .before .before .before .before .loop-test .taken)
+loop-less c = omega (arith, c .before .before .before .before .before .before .before .before .before .before .before .before .before .before .before .loop-test .taken)
 
 loop-again : tie.Need-loop-again Inv-loop μ-loop
 loop-again c =
-    let k = c .moved-run .ensures in
     let n = c .before .machine-after .ensures in
     let e = c .before .before in
     let d = e .before in
     let w = c .before .before .before .before .before .before .before .before .before .before .carry-out in
-    let l = c .before .before .before .before .before .before .before .before .before .before .before .before .before .before .before .loop in
-    let a = c .before .before .before .before .before .before .before .before .before .before .before .before .before .before .before .before .before .before .before .before .before .before .before .before .args in
+    let u = c .before .before .before .before .before .before .before .before .before .before .before .before .before .before .at-place in
+    let l = c .before .before .before .before .before .before .before .before .before .before .before .before .before .before .before .before .loop in
+    let a = c .before .before .before .before .before .before .before .before .before .before .before .before .before .before .before .before .before .before .before .before .before .before .before .before .before .args in
     let B = benchOf (l .machine) (l .registers) (l .marks) (l .memory) in
+    let r = (running (a .run) (benchOf (a .m) (a .registers .now) (a .marks .now) (a .memory .now))) in
     let yes : isDone (w .result) ≡ true = sym (d .is-done .ensures) ∙ not-false (d .is-done .result) (e .if2 .left) in
+    let so : soundRun smaller (u .result) ≡ true = ap (soundRun smaller) (u .ensures) ∙ l .inv .2 in
+    let k = moved-place (a .run) (u .result) (c .moved-run .result) (l .place) (u .ensures) (c .moved-run .ensures) in
     let j = numbers-joined _ _ _ _ _ _ (n (l .registers) (l .marks) (l .memory) (l .inv .1)) (w .ensures) in
-    let h = turn-carried (l .current) B (l .inv .2) _ j true yes in (
-      omega (arith, c .before .before .before .before .before .before .before .before .before .before .before .before .before .before .loop-test .taken),
-      ap (λ (o : TurnOutcome). soundBench (o .after .bench)) h ∙ turn-sound (running (l .current) B) (l .inv .1),
-      ap (soundRun smaller) k ∙ moved-sound (l .current) (l .inv .2),
-      record {
-        rows-are = l .inv .3 .rows-are ∙ ap (λ (R : Run). runShape smaller R .tm) (sym k);
-        columns-are = l .inv .3 .columns-are ∙ ap (λ (R : Run). runShape smaller R .tn) (sym k);
-        terms-are = l .inv .3 .terms-are ∙ ap (λ (R : Run). runShape smaller R .tk) (sym k);
-      },
-      turns-carried (running (a .run) (benchOf (a .m) (a .registers .now) (a .marks .now) (a .memory .now))) (l .current) B (l .count) (l .inv .4) (l .inv .2) _ j yes _ k,
+    let q = at-end (l .count) (u .result) (atPlace (a .run) (l .place)) B (turns smaller r (l .count)) (u .ensures) (l .inv .4) in
+    let h = turn-carried (u .result) B so _ j true yes in (
+      omega (arith, c .before .before .before .before .before .before .before .before .before .before .before .before .before .before .before .loop-test .taken),
+      ap (λ (o : TurnOutcome). soundBench (o .after .bench)) h ∙ turn-sound (running (u .result) B) (l .inv .1),
+      ap (soundRun smaller) k ∙ moved-sound (u .result) so,
+      l .inv .3,
+      turns-carried r (u .result) B (l .count) q so _ j yes _ k,
       search needs,
       search needs,
       search needs,
@@ -172,6 +192,7 @@ take-turns-spec =
     most-columns-requires
     most-terms-requires
     loop-holds
+    at-place-requires
     carry-out-requires
     is-done-requires
     same-length

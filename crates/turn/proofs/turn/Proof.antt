@@ -2,9 +2,10 @@ use mathlib.Core.Path.{sym, _∙_}
 use borrow.Author.Tests.{not-true, not-false}
 use Rattle.machine.specs.Geometry.{benchOf}
 use native.Mathlib.Omega.{arith}
-use Rattle.run.specs.Turn.{running}
+use Rattle.machine.specs.Setting.{smaller}
+use Rattle.run.specs.Turn.{running, turns}
 use Rattle.turn.proofs.TurnLaws.{turn-fault}
-use Rattle.turn.proofs.CarriedLaws.{one-turn}
+use Rattle.turn.proofs.CarriedLaws.{at-end, one-turn}
 use borrow.Author.Needs.{needs}
 use Rattle.turn.proofs.turn.Statement.{statement}
 use Rattle.turn.proofs.turn.Tie as tie
@@ -30,6 +31,9 @@ take-turns-requires c κs =
     let e = c .before .before .before in
     sym (e .before .is-sound .ensures) ∙ not-false (e .before .is-sound .result) (e .if1 .left)
 
+at-place-requires : tie.Need-at-place-requires
+at-place-requires c κs = search needs
+
 same-length-3 : tie.Need-same-length-3
 same-length-3 c = search needs
 
@@ -41,9 +45,11 @@ same-length-5 c = search needs
 
 returns-2 : tie.Need-returns-2
 returns-2 c =
+    let u = c .before .at-place in
     let w = c .before .before .before .before .before .before .before .before .take-turns in
     let a = c .before .before .before .before .before .before .before .before .before .before .before .before .before .before .before .before .before .before .before .args in
-    one-turn (running (a .run) (benchOf (a .m) (a .registers .now) (a .marks .now) (a .memory .now))) (w .result .count) (w .result .answer) _ (w .ensures .0) (w .ensures .1 (omega arith))
+    let r = running (a .run) (benchOf (a .m) (a .registers .now) (a .marks .now) (a .memory .now)) in
+    one-turn r (w .result .count) (w .result .answer) _ (at-end (w .result .count) _ _ _ (turns smaller r 1) (u .ensures) (w .ensures .0)) (w .ensures .1 (omega arith))
 
 pub turn-spec : {M : Type 1} → statement M
 turn-spec =
@@ -54,6 +60,7 @@ turn-spec =
     same-length-2
     returns
     take-turns-requires
+    at-place-requires
     same-length-3
     same-length-4
     same-length-5

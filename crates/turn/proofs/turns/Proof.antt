@@ -1,7 +1,10 @@
 use mathlib.Core.Path.{sym, _∙_}
 use borrow.Author.Tests.{not-true, not-false}
 use Rattle.machine.specs.Geometry.{benchOf}
+use Rattle.machine.specs.Setting.{smaller}
+use Rattle.run.specs.Turn.{running, turns}
 use Rattle.turn.proofs.TurnLaws.{turns-fault}
+use Rattle.turn.proofs.CarriedLaws.{at-end}
 use borrow.Author.Needs.{needs}
 use Rattle.turn.proofs.turns.Statement.{statement}
 use Rattle.turn.proofs.turns.Tie as tie
@@ -27,6 +30,9 @@ take-turns-requires c κs =
     let e = c .before .before .before in
     sym (e .before .is-sound .ensures) ∙ not-false (e .before .is-sound .result) (e .if1 .left)
 
+at-place-requires : tie.Need-at-place-requires
+at-place-requires c κs = search needs
+
 same-length-3 : tie.Need-same-length-3
 same-length-3 c = search needs
 
@@ -37,7 +43,12 @@ same-length-5 : tie.Need-same-length-5
 same-length-5 c = search needs
 
 returns-2 : tie.Need-returns-2
-returns-2 c = search needs
+returns-2 c =
+    let u = c .before .at-place in
+    let w = c .before .before .before .before .before .before .before .before .take-turns in
+    let a = c .before .before .before .before .before .before .before .before .before .before .before .before .before .before .before .before .before .before .before .args in
+    let r = running (a .run) (benchOf (a .m) (a .registers .now) (a .marks .now) (a .memory .now)) in
+    at-end (w .result .count) _ _ _ (turns smaller r (a .limit)) (u .ensures) (w .ensures .0)
 
 pub turns-spec : {M : Type 1} → statement M
 turns-spec =
@@ -48,6 +59,7 @@ turns-spec =
     same-length-2
     returns
     take-turns-requires
+    at-place-requires
     same-length-3
     same-length-4
     same-length-5
