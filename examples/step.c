@@ -98,7 +98,7 @@ static void explain(uint64_t result)
 {
     static const char *const meaning[] = {
         "done",
-        "not an instruction of this machine",
+        "no instruction of the draft",
         "mtype is illegal",
         "an element width that mtype does not allow",
         "a tile size above its maximum",
@@ -106,13 +106,17 @@ static void explain(uint64_t result)
         "an element lies outside memory",
         "a store would write a sealed byte",
         "bad arguments",
+        "C overlaps another matrix, itself or the seal",
+        "wrong opcode",
+        "an instruction that is not carried out here",
+        "a register field out of range",
     };
     unsigned answer = BODLARINA_ANSWER(result);
     if (result == 0) {
         printf("done\n");
         return;
     }
-    printf("refused with %u, %s", answer, answer < 9 ? meaning[answer] : "unknown");
+    printf("refused with %u, %s", answer, answer < sizeof meaning / sizeof meaning[0] ? meaning[answer] : "unknown");
     if (answer == BODLARINA_UNWRITTEN)
         printf(": row %u, column %u", BODLARINA_ROW(result), BODLARINA_COLUMN(result));
     printf("\n");
@@ -170,7 +174,10 @@ int main(void)
     point(&b, COUNTS, SUMS_STRIDE);
     step(&b, "msce32.m acc0, (x10), x11", msce32(0, 10, 11));
 
-    printf("a mistyped word, 0x48006067 for 0x48006077\n");
-    step(&b, "(no instruction)", 0x48006067u);
+    printf("words that are wrong, each in its own way\n");
+    step(&b, "(0x48006077 mistyped)", 0x48006067u);
+    step(&b, "mfma.mm acc0, tr0, tr1", mqma(0, 0, 1) - (2u << 26) + (1u << 25));
+    step(&b, "(no such code)", arithmetic(63, 0, 0, 0));
+    step(&b, "mqma.mm acc2, tr0, tr1", mqma(2, 0, 1));
     return 0;
 }

@@ -29,18 +29,22 @@ extern "C" {
 #define BODLARINA_ROW(result) ((unsigned)(((result) >> 16) & 0xffffu))
 #define BODLARINA_COLUMN(result) ((unsigned)(((result) >> 32) & 0xffffu))
 
-#define BODLARINA_DONE 0u           /* done */
-#define BODLARINA_ILLEGAL_WORD 1u   /* no instruction of ours: wrong opcode, code, register field or fixed bits */
-#define BODLARINA_ILLEGAL_TYPE 2u   /* mtype is illegal (bit 63, mill), and the word isn't msettype or msettypei */
-#define BODLARINA_BAD_WIDTH 3u      /* an element width that mtype does not allow here */
-#define BODLARINA_TILE_TOO_LARGE 4u /* a tile size that the instruction uses is above its maximum under mtype */
-#define BODLARINA_UNWRITTEN 5u      /* a register element to be read has a byte that was never written;
-                                       row and column name the first one, sources in the order ms1, ms2, md */
-#define BODLARINA_OUTSIDE_MEMORY 6u /* a byte of an element lies outside memory */
-#define BODLARINA_SEALED_BYTE 7u    /* a store would write a sealed byte */
-#define BODLARINA_BAD_ARGUMENTS 8u  /* arguments: a block or buffer of the wrong length, or numbers that no machine,
-                                       plan or run can have; a run that is asked past its last step */
-#define BODLARINA_OVERLAP 9u        /* a byte of C lies in two of its rows, in a row of A or B, or in the seal */
+#define BODLARINA_DONE 0u            /* done */
+#define BODLARINA_ILLEGAL_WORD 1u    /* no instruction of the draft: a code or a fixed bit that its listing lacks */
+#define BODLARINA_ILLEGAL_TYPE 2u    /* mtype is illegal (bit 63, mill), and the word isn't msettype or msettypei */
+#define BODLARINA_BAD_WIDTH 3u       /* an element width that mtype does not allow here */
+#define BODLARINA_TILE_TOO_LARGE 4u  /* a tile size that the instruction uses is above its maximum under mtype */
+#define BODLARINA_UNWRITTEN 5u       /* a register element to be read has a byte that was never written;
+                                        row and column name the first one, sources in the order ms1, ms2, md */
+#define BODLARINA_OUTSIDE_MEMORY 6u  /* a byte of an element lies outside memory */
+#define BODLARINA_SEALED_BYTE 7u     /* a store would write a sealed byte */
+#define BODLARINA_BAD_ARGUMENTS 8u   /* arguments: a block or buffer of the wrong length, or numbers that no machine,
+                                        plan or run can have; a run that is asked past its last step */
+#define BODLARINA_OVERLAP 9u         /* a byte of C lies in two of its rows, in a row of A or B, or in the seal */
+#define BODLARINA_WRONG_OPCODE 10u   /* bits 6..0 of the word are not 1110111 */
+#define BODLARINA_LEFT_OUT_WORD 11u  /* an instruction of the draft that is not carried out here: a transposed load or
+                                        store, a float word, a conversion */
+#define BODLARINA_WRONG_REGISTER 12u /* a register field out of range: a tile register is 0 to 7, an accumulator 0 or 1 */
 
 /* ---- Buffers ---------------------------------------------------------------------------------------------- */
 
@@ -75,10 +79,10 @@ uint64_t bodlarina_start(uint64_t rlen, uint64_t mlen, uint64_t seal_start, uint
                          uint8_t *marks, size_t marks_len);
 
 /* Carries out one instruction word. rs1 and rs2 are read from scalars, rd is written there.
- * Answers: 0 to 8, the first that applies in the order 8, then 1 to 7. 8 means that the state is at fault:
- * lengths that are not permitted, a buffer of the wrong size, an mtype that cannot arise, a tile size above its
- * maximum at 8 bits, a seal whose end is above 2^64 - 1, or a mark other than 0 and 1. With buffers of the right
- * size, a started machine that nothing but these functions has written never gets 8. */
+ * Answers: 0, or the first that applies in the order 8, then 10, 11, 1, 12 (the word itself), then 2 to 7. 8 means
+ * that the state is at fault: lengths that are not permitted, a buffer of the wrong size, an mtype that cannot arise, a
+ * tile size above its maximum at 8 bits, a seal whose end is above 2^64 - 1, or a mark other than 0 and 1. With buffers
+ * of the right size, a started machine that nothing but these functions has written never gets 8. */
 uint64_t bodlarina_step(uint32_t word,
                         uint8_t *machine, size_t machine_len,
                         uint8_t *registers, size_t registers_len,
