@@ -10,6 +10,8 @@ pub mod Operation
 pub mod Refusals
 pub mod Faults
 pub mod Step
+-- Machines that differ at most in unmarked register bytes, of which 02 speaks.
+pub mod Alike
 -- Statements of theorems about these definitions, and computed examples.
 pub mod Theorems
 pub mod Examples
