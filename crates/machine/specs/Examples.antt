@@ -126,6 +126,8 @@ examples =
     ∷ gives (step (word 0b0000000 1 0 6 0) (scalars 0 0) (bench 0 0 2 2 0 0 0)) 0
     ∷ unwritten (step (word 0b0000000 1 0 6 0) (scalars 0 0) (bench 0 2 0 2 0 0 0)) 0 0
     ∷ unwritten (step (word 0b0001000 0 1 6 0) (scalars 0 0) (marking (set (replicate 256 1) 192 0) good)) 0 0
+    -- md of a widening add is read at its two bytes an element, past the bytes that SEW would read
+    ∷ unwritten (step (word 0b0001010 0 1 6 0) (scalars 0 0) (marking (set (replicate 256 1) 163 0) good)) 1 1
     -- a multiplier of 0 reads no ms1: an immediate, slot 0, and 256 at SEW 8
     ∷ gives (step (word 0b0100000 0 1 6 0) (scalars 0 0) (bench 0 2 2 2 0 0 0)) 0
     ∷ gives (step (word 0b0011010 0 1 6 0) (scalars 0 0) (bench 0 2 2 2 0 0 0)) 0
