@@ -7,19 +7,17 @@ use native.Mathlib.Omega.{arith}
 use lib.ListN.{length, getD, replicate}
 use lib.Dec.{eqb}
 use borrow.Author.Tests.{eqb-true}
-use Rattle.machine.specs.declared.Answer.{Answer}
 use Rattle.machine.specs.declared.Answer.the-variants.{Done, BadArguments}
 use Rattle.machine.specs.Answers.{isDone}
 use Rattle.machine.specs.Geometry.{Bench, permitted, registerBytes}
+use Rattle.machine.specs.Alike.{Agree}
 use Rattle.machine.specs.Starting.{startable, startMachine, StartOutcome, freshMachine, noMachine, sealEnds}
 use Rattle.machine.specs.Theorems.{startedBench}
 use Rattle.machine.proofs.TestLaws.{false-true, every-each}
 use Rattle.run.specs.declared.Run.{Run}
-use Rattle.run.specs.declared.Handed.{Handed}
-use Rattle.run.specs.Turn.{ask, turn, running, turns}
-use Rattle.run.specs.Whole.{whole}
+use Rattle.run.specs.Turn.{running}
 use Rattle.powerup.specs.Steps.{AlikeBenches}
-use Rattle.powerup.specs.PowerUp.{StartsAlike, Act, Session, session, Acted, acted, act, Reading, reading, readings, PowerUpNeverMatters}
+use Rattle.powerup.specs.PowerUp.{StartsAlike, Act, Session, session, Acted, act, Reading, reading, readings, PowerUpNeverMatters}
 use Rattle.powerup.proofs.Steps.{step-ignores-unmarked}
 use Rattle.powerup.proofs.Runs.{run-start-ignores-unmarked, turns-ignore-unmarked, whole-ignores-unmarked}
 
@@ -29,6 +27,10 @@ zeros : (n q : ℕ) → getD {A = ℕ} (replicate n 0) q 0 ≡ 0
 zeros zero q = refl
 zeros (suc n) zero = refl
 zeros (suc n) (suc q) = zeros n q
+
+-- where nothing is marked, any registers of one length agree
+pub unmarked-agree : (n : ℕ) (xs ys : List ℕ) → length xs ≡ length ys → Agree (replicate n 0) xs ys
+unmarked-agree n xs ys e = record { same-length = e; same-bytes = λ q h. let z : _≡_ {A = ℕ} 0 1 = sym (zeros n q) ∙ h in absurd (omega arith) }
 
 module _ (rlen mlen sealStart sealLength : ℕ) where
   -- what a start leaves, by its test
@@ -64,10 +66,15 @@ module _ (rlen mlen sealStart sealLength : ℕ) where
       go true = refl
       go false = refl
 
-  pub start-same : (registers registers′ marks marks′ : List ℕ) → length registers ≡ length registers′ → length marks ≡ length marks′
-      → startMachine rlen mlen sealStart sealLength registers marks .answer ≡ startMachine rlen mlen sealStart sealLength registers′ marks′ .answer
+  pub startable-same : (registers registers′ marks marks′ : List ℕ) → length registers ≡ length registers′ → length marks ≡ length marks′
+      → startable rlen mlen sealStart sealLength registers marks ≡ startable rlen mlen sealStart sealLength registers′ marks′
   unfolding startable
-  start-same registers registers′ marks marks′ er em = rw (start-answer registers marks, start-answer registers′ marks′, er, em)
+  startable-same registers registers′ marks marks′ er em = rw (er, em)
+
+  start-same : (registers registers′ marks marks′ : List ℕ) → length registers ≡ length registers′ → length marks ≡ length marks′
+      → startMachine rlen mlen sealStart sealLength registers marks .answer ≡ startMachine rlen mlen sealStart sealLength registers′ marks′ .answer
+  start-same registers registers′ marks marks′ er em =
+      rw (start-answer registers marks, start-answer registers′ marks′, startable-same registers registers′ marks marks′ er em)
 
 pub starts-alike : StartsAlike
 starts-alike rlen mlen sealStart sealLength registers registers′ marks marks′ memory d d′ =
@@ -77,10 +84,7 @@ starts-alike rlen mlen sealStart sealLength registers registers′ marks marks�
       alike = record {
         same-machine = refl;
         same-marks = refl;
-        agree = record {
-          same-length = h .1 ∙ sym (h′ .1);
-          same-bytes = λ q e. let z : _≡_ {A = ℕ} 0 1 = sym (zeros (registerBytes mlen) q) ∙ e in absurd (omega arith);
-        };
+        agree = unmarked-agree (registerBytes mlen) registers registers′ (h .1 ∙ sym (h′ .1));
       };
       same-memory = refl;
     })
@@ -94,17 +98,20 @@ pub record SameSession (S S′ : Session) : Type 0 where
   pub alike-benches : AlikeBenches (S .bench) (S′ .bench)
 
 pub record SameActed (o o′ : Acted) : Type 0 where
-  pub same-reading : reading o ≡ reading o′
+  pub same-answer : o .answer ≡ o′ .answer
+  pub same-handed : o .handed ≡ o′ .handed
+  pub same-count : o .count ≡ o′ .count
   pub same-after : SameSession (o .after) (o′ .after)
 
-shown-same : (a a′ : Answer) (hs hs′ : List Handed) (n n′ : ℕ) (xs xs′ mem mem′ : List ℕ) → a ≡ a′ → hs ≡ hs′ → n ≡ n′ → xs ≡ xs′ → mem ≡ mem′
-    → _≡_ {A = Reading} (record { answer = a; handed = hs; count = n; scalars = xs; memory = mem }) (record { answer = a′; handed = hs′; count = n′; scalars = xs′; memory = mem′ })
-shown-same a a′ hs hs′ n n′ xs xs′ mem mem′ ea eh en ex em = rw (ea, eh, en, ex, em)
+reading-same : (o o′ : Acted) → SameActed o o′ → reading o ≡ reading o′
+reading-same o o′ k = cc
 
 module _ (grant : ℕ → ℕ → ℕ) (B B′ : Bench) (xs : List ℕ) (R : Run) (t : AlikeBenches B B′) where
   each-same : (a : Act) → SameActed (act grant a (session B xs R)) (act grant a (session B′ xs R))
   each-same (Act.lend ys memory) = record {
-    same-reading = refl;
+    same-answer = refl;
+    same-handed = refl;
+    same-count = refl;
     same-after = record {
       same-scalars = refl;
       same-run = refl;
@@ -117,35 +124,47 @@ module _ (grant : ℕ → ℕ → ℕ) (B B′ : Bench) (xs : List ℕ) (R : Run
   each-same (Act.step word) =
       let k = step-ignores-unmarked grant word xs B B′ t in
       record {
-        same-reading = shown-same _ _ [] [] 0 0 _ _ _ _ (k .same-answer) refl refl (k .same-scalars) (k .alike-after .same-memory);
+        same-answer = k .same-answer;
+        same-handed = refl;
+        same-count = refl;
         same-after = record { same-scalars = k .same-scalars; same-run = refl; alike-benches = k .alike-after };
       }
   each-same (Act.runStart P) =
       let k = run-start-ignores-unmarked grant P B B′ t in
       record {
-        same-reading = shown-same _ _ [] [] 0 0 xs xs _ _ (k .same-answer) refl refl refl (k .alike-after .same-memory);
+        same-answer = k .same-answer;
+        same-handed = refl;
+        same-count = refl;
         same-after = record { same-scalars = refl; same-run = k .same-run; alike-benches = k .alike-after };
       }
   each-same Act.runNext = record {
-    same-reading = shown-same _ _ _ _ 0 0 xs xs (B .memory) (B′ .memory) refl refl refl refl (t .same-memory);
+    same-answer = refl;
+    same-handed = refl;
+    same-count = refl;
     same-after = record { same-scalars = refl; same-run = refl; alike-benches = t };
   }
   each-same Act.runTurn =
       let k = turns-ignore-unmarked grant (running R B) (running R B′) (record { same-run = refl; alike-benches = t }) zero .1 in
       record {
-        same-reading = shown-same _ _ _ _ 0 0 xs xs _ _ (k .same-answer) (k .same-handed) refl refl (k .same-after .alike-benches .same-memory);
+        same-answer = k .same-answer;
+        same-handed = k .same-handed;
+        same-count = refl;
         same-after = record { same-scalars = refl; same-run = k .same-after .same-run; alike-benches = k .same-after .alike-benches };
       }
   each-same (Act.runTurns n) =
       let k = turns-ignore-unmarked grant (running R B) (running R B′) (record { same-run = refl; alike-benches = t }) n .0 in
       record {
-        same-reading = shown-same Done Done [] [] _ _ xs xs _ _ refl refl (k .same-count) refl (k .same-after .alike-benches .same-memory);
+        same-answer = refl;
+        same-handed = refl;
+        same-count = k .same-count;
         same-after = record { same-scalars = refl; same-run = k .same-after .same-run; alike-benches = k .same-after .alike-benches };
       }
   each-same (Act.run P) =
       let k = whole-ignores-unmarked grant P B B′ t in
       record {
-        same-reading = shown-same _ _ [] [] _ _ xs xs _ _ (k .same-answer) refl (k .same-count) refl (k .alike-after .same-memory);
+        same-answer = k .same-answer;
+        same-handed = refl;
+        same-count = k .same-count;
         same-after = record { same-scalars = refl; same-run = refl; alike-benches = k .alike-after };
       }
 
@@ -159,7 +178,7 @@ readings-same : (grant : ℕ → ℕ → ℕ) (acts : List Act) (S S′ : Sessio
 readings-same grant [] S S′ s = refl
 readings-same grant (a ∷ acts) S S′ s =
     let k = act-same grant a S S′ s in
-    ap₂ (λ (r : Reading) (rs : List Reading). r ∷ rs) (k .same-reading) (readings-same grant acts (act grant a S .after) (act grant a S′ .after) (k .same-after))
+    ap₂ (λ (r : Reading) (rs : List Reading). r ∷ rs) (reading-same (act grant a S) (act grant a S′) k) (readings-same grant acts (act grant a S .after) (act grant a S′ .after) (k .same-after))
 
 pub power-up-never-matters : PowerUpNeverMatters
 power-up-never-matters grant rlen mlen sealStart sealLength registers registers′ marks marks′ er em =

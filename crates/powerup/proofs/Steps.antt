@@ -207,7 +207,7 @@ benches-of m m′ st st′ mem mem′ em a e = record {
     same-marks = ap (λ (s : State). s .marks) (a .same-rest);
     agree = a .agree;
   };
-  same-memory = e;
+  same-memory = cc;
 }
 
 module _ (M : Parameters) (i : Instruction) (xs : List ℕ) where

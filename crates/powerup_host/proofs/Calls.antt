@@ -1,0 +1,305 @@
+-- Request Nine, of the C functions: each call is a function of its blocks and of what a step, a run's start, its turns or a whole run gives.
+use mathlib.Core.Path.{_≡_, refl, sym, ap, ap₂, _∙_, subst}
+use mathlib.Core.Bool.{Bool, true, false, cond}
+use mathlib.Core.List.{List, [], _∷_}
+use Prim.Native.Nat.{ℕ, zero, _+_, _*_, _/_, _%_, _<_}
+use native.Mathlib.Omega.{arith}
+use lib.ListN.{length, getD, replicate}
+use lib.Seq.{ext-getD}
+use lib.Dec.{eqb}
+use borrow.Author.Tests.{eqb-true}
+use Rattle.width.specs.Tile.{byteOf, putRow}
+use Rattle.width.proofs.TileLaws.{length-putRow, putRow-at}
+use Rattle.machine.specs.declared.Machine.{Machine}
+use Rattle.machine.specs.declared.Answer.{Answer}
+use Rattle.machine.specs.declared.Answer.the-variants.{Done, BadArguments}
+use Rattle.machine.specs.Tests.{every}
+use Rattle.machine.specs.Answers.{isDone}
+use Rattle.machine.specs.Geometry.{Bench, benchOf}
+use Rattle.machine.specs.Setting.{smaller}
+use Rattle.machine.specs.Starting.{startable, startMachine, freshMachine, noMachine}
+use Rattle.machine.specs.Alike.{Agree}
+use Rattle.run.specs.declared.Plan.{Plan}
+use Rattle.run.specs.declared.Run.{Run}
+use Rattle.run.specs.Start.{startRun}
+use Rattle.run.specs.Turn.{Running, turnOutcome, turns}
+use Rattle.run.specs.Whole.{whole}
+use Rattle.host.specs.Blocks.{machineOf, putMachine, valuesOf, putValues, putNumbers, putRun, packed}
+use Rattle.host.specs.Host.{startedOut, shownStart, hostStart, steppedOut, stepBlock, shownStep, hostStep, runStartedOut, shownRunStart, hostRunStart, turnedOut, shownRunning, heldRunning, turnBlocks, shownTurn, hostTurn, shownTurns, hostTurns, ranOut, shownRun, hostRun}
+use Rattle.powerup.specs.Steps.{AlikeBenches}
+use Rattle.powerup.specs.Runs.{SameRunning}
+use Rattle.powerup.proofs.Steps.{step-ignores-unmarked}
+use Rattle.powerup.proofs.Runs.{run-start-ignores-unmarked, turns-ignore-unmarked, whole-ignores-unmarked}
+use Rattle.powerup.proofs.PowerUp.{unmarked-agree, startable-same}
+use Rattle.powerup_host.specs.Calls.{Buffers, buffers, Call, Called, afterStart, afterStep, afterRunStart, afterTurn, afterRun, called, AlikeBuffers, SameCalled, CallIgnoresUnmarked, CallsIgnoreUnmarked, AtPowerUp, PowerUpNeverMattersToHosts}
+
+-- ---- one call, on buffers that differ in their registers only
+
+-- buffers with other register bytes
+abbrev with : Buffers → List ℕ → Buffers
+with b ys = buffers (b .machine) ys (b .marks) (b .scalars) (b .memory) (b .run) (b .step) (b .steps)
+
+agreeing : (machine marks scalars memory run step steps xs ys : List ℕ) → Agree marks xs ys
+    → AlikeBuffers (buffers machine xs marks scalars memory run step steps) (buffers machine ys marks scalars memory run step steps)
+agreeing machine marks scalars memory run step steps xs ys a = record {
+  same-machine = refl;
+  same-marks = refl;
+  agree = a;
+  same-scalars = refl;
+  same-memory = refl;
+  same-run = refl;
+  same-step = refl;
+  same-steps = refl;
+}
+
+-- what a start leaves, by its tests on the machine's block and on the rest
+abbrev startOn : (rlen mlen sealStart sealLength : ℕ) → Buffers → Bool → Bool → Called
+startOn rlen mlen sealStart sealLength b t u =
+    afterStart b (cond t
+    (shownStart (b .machine) (cond u
+    (record { answer = Done; machine = freshMachine rlen mlen sealStart sealLength; registers = b .registers; marks = replicate (length (b .marks)) 0 })
+    (record { answer = BadArguments; machine = noMachine; registers = b .registers; marks = b .marks })))
+    (startedOut (packed BadArguments) (b .machine) (b .registers) (b .marks)))
+
+module _ (b : Buffers) (ys : List ℕ) (a : Agree (b .marks) (b .registers) ys) where
+  kept : AlikeBuffers b (with b ys)
+  kept = agreeing (b .machine) (b .marks) (b .scalars) (b .memory) (b .run) (b .step) (b .steps) (b .registers) ys a
+
+  -- the machine in the blocks
+  abbrev bench : List ℕ → Bench
+  bench xs = benchOf (machineOf (b .machine)) xs (b .marks) (b .memory)
+
+  benches : AlikeBenches (bench (b .registers)) (bench ys)
+  benches = record { alike = record { same-machine = refl; same-marks = refl; agree = a }; same-memory = refl }
+
+  start-same : (rlen mlen sealStart sealLength : ℕ) → SameCalled (called (Call.start rlen mlen sealStart sealLength) b) (called (Call.start rlen mlen sealStart sealLength) (with b ys))
+  unfolding hostStart startMachine
+  start-same rlen mlen sealStart sealLength =
+      subst (λ (u : Bool). SameCalled (called (Call.start rlen mlen sealStart sealLength) b) (startOn rlen mlen sealStart sealLength (with b ys) (eqb (length (b .machine)) 64) u))
+      (startable-same rlen mlen sealStart sealLength (b .registers) ys (b .marks) (b .marks) (a .same-length) refl)
+      (go (eqb (length (b .machine)) 64) (startable rlen mlen sealStart sealLength (b .registers) (b .marks)))
+    where
+      go : (t u : Bool) → SameCalled (startOn rlen mlen sealStart sealLength b t u) (startOn rlen mlen sealStart sealLength (with b ys) t u)
+      go true true = record { same-result = refl; alike-after = agreeing _ _ _ _ _ _ _ _ _ (unmarked-agree (length (b .marks)) (b .registers) ys (a .same-length)) }
+      go true false = record { same-result = refl; alike-after = kept }
+      go false u = record { same-result = refl; alike-after = kept }
+
+  step-same : (word : ℕ) → SameCalled (called (Call.step word) b) (called (Call.step word) (with b ys))
+  unfolding hostStep
+  step-same word = go (every (eqb (length (b .machine)) 64 ∷ eqb (length (b .scalars)) 256 ∷ []))
+    where
+      out : Bool → List ℕ → Called
+      out t xs =
+          afterStep b (cond t (shownStep (b .machine) (stepBlock word (b .scalars) (bench xs))) (steppedOut (packed BadArguments) (b .machine) xs (b .marks) (b .scalars) (b .memory)))
+
+      go : (t : Bool) → SameCalled (out t (b .registers)) (out t ys)
+      go true =
+          let k = step-ignores-unmarked smaller word (valuesOf (b .scalars)) (bench (b .registers)) (bench ys) benches in
+          record {
+            same-result = ap packed (k .same-answer);
+            alike-after = record {
+              same-machine = ap (λ (m : Machine). putMachine m (b .machine)) (k .alike-after .alike .same-machine);
+              same-marks = k .alike-after .alike .same-marks;
+              agree = k .alike-after .alike .agree;
+              same-scalars = ap (λ (xs : List ℕ). putValues xs (b .scalars)) (k .same-scalars);
+              same-memory = k .alike-after .same-memory;
+              same-run = refl;
+              same-step = refl;
+              same-steps = refl;
+            };
+          }
+      go false = record { same-result = refl; alike-after = kept }
+
+  run-start-same : (P : Plan) → SameCalled (called (Call.runStart P) b) (called (Call.runStart P) (with b ys))
+  unfolding hostRunStart
+  run-start-same P = go (every (eqb (length (b .machine)) 64 ∷ eqb (length (b .run)) 136 ∷ []))
+    where
+      out : Bool → List ℕ → Called
+      out t xs =
+          afterRunStart b (cond t (shownRunStart (b .machine) (b .run) (startRun smaller P (bench xs))) (runStartedOut (packed BadArguments) (b .machine) xs (b .marks) (b .memory) (b .run)))
+
+      go : (t : Bool) → SameCalled (out t (b .registers)) (out t ys)
+      go true =
+          let k = run-start-ignores-unmarked smaller P (bench (b .registers)) (bench ys) benches in
+          record {
+            same-result = ap packed (k .same-answer);
+            alike-after = record {
+              same-machine = refl;
+              same-marks = k .alike-after .alike .same-marks;
+              agree = k .alike-after .alike .agree;
+              same-scalars = refl;
+              same-memory = k .alike-after .same-memory;
+              same-run = ap₂ (λ (v : Answer) (R : Run). cond (isDone v) (putRun R (b .run)) (b .run)) (k .same-answer) (k .same-run);
+              same-step = refl;
+              same-steps = refl;
+            };
+          }
+      go false = record { same-result = refl; alike-after = kept }
+
+  -- the run and the machine in the blocks
+  held : SameRunning (heldRunning (b .run) (b .machine) (b .registers) (b .marks) (b .memory)) (heldRunning (b .run) (b .machine) ys (b .marks) (b .memory))
+  held = record { same-run = refl; alike-benches = benches }
+
+  -- written back after turns
+  running-same : (n n′ : ℕ) (r r′ : Running) → n ≡ n′ → SameRunning r r′
+      → SameCalled (afterTurn b (shownRunning n (b .run) (b .machine) r)) (afterTurn (with b ys) (shownRunning n′ (b .run) (b .machine) r′))
+  running-same n n′ r r′ e k = record {
+    same-result = e;
+    alike-after = record {
+      same-machine = ap (λ (m : Machine). putMachine m (b .machine)) (k .alike-benches .alike .same-machine);
+      same-marks = k .alike-benches .alike .same-marks;
+      agree = k .alike-benches .alike .agree;
+      same-scalars = refl;
+      same-memory = k .alike-benches .same-memory;
+      same-run = ap (λ (R : Run). putRun R (b .run)) (k .same-run);
+      same-step = refl;
+      same-steps = refl;
+    };
+  }
+
+  turn-same : SameCalled (called Call.runTurn b) (called Call.runTurn (with b ys))
+  unfolding hostTurn
+  turn-same = go (turnBlocks (b .run) (b .machine))
+    where
+      out : Bool → List ℕ → Called
+      out t xs =
+          afterTurn b (cond t (shownTurn (b .run) (b .machine) (turnOutcome smaller (heldRunning (b .run) (b .machine) xs (b .marks) (b .memory)))) (turnedOut (packed BadArguments) (b .run) (b .machine) xs (b .marks) (b .memory)))
+
+      go : (t : Bool) → SameCalled (out t (b .registers)) (out t ys)
+      go true =
+          let k = turns-ignore-unmarked smaller (heldRunning (b .run) (b .machine) (b .registers) (b .marks) (b .memory)) (heldRunning (b .run) (b .machine) ys (b .marks) (b .memory)) held zero .1 in
+          running-same _ _ _ _ (ap packed (k .same-answer)) (k .same-after)
+      go false = record { same-result = refl; alike-after = kept }
+
+  turns-same : (limit : ℕ) → SameCalled (called (Call.runTurns limit) b) (called (Call.runTurns limit) (with b ys))
+  unfolding hostTurns
+  turns-same limit = go (turnBlocks (b .run) (b .machine))
+    where
+      out : Bool → List ℕ → Called
+      out t xs =
+          afterTurn b (cond t (shownTurns (b .run) (b .machine) (turns smaller (heldRunning (b .run) (b .machine) xs (b .marks) (b .memory)) limit)) (turnedOut 0 (b .run) (b .machine) xs (b .marks) (b .memory)))
+
+      go : (t : Bool) → SameCalled (out t (b .registers)) (out t ys)
+      go true =
+          let k = turns-ignore-unmarked smaller (heldRunning (b .run) (b .machine) (b .registers) (b .marks) (b .memory)) (heldRunning (b .run) (b .machine) ys (b .marks) (b .memory)) held limit .0 in
+          running-same _ _ _ _ (k .same-count) (k .same-after)
+      go false = record { same-result = refl; alike-after = kept }
+
+  run-same : (P : Plan) → SameCalled (called (Call.run P) b) (called (Call.run P) (with b ys))
+  unfolding hostRun
+  run-same P = go (every (eqb (length (b .machine)) 64 ∷ eqb (length (b .steps)) 8 ∷ []))
+    where
+      out : Bool → List ℕ → Called
+      out t xs =
+          afterRun b (cond t (shownRun (b .machine) (b .steps) (whole smaller P (bench xs))) (ranOut (packed BadArguments) (b .machine) xs (b .marks) (b .memory) (b .steps)))
+
+      go : (t : Bool) → SameCalled (out t (b .registers)) (out t ys)
+      go true =
+          let k = whole-ignores-unmarked smaller P (bench (b .registers)) (bench ys) benches in
+          record {
+            same-result = ap packed (k .same-answer);
+            alike-after = record {
+              same-machine = ap₂ (λ (v : Answer) (m : Machine). cond (isDone v) (putMachine m (b .machine)) (b .machine)) (k .same-answer) (k .alike-after .alike .same-machine);
+              same-marks = k .alike-after .alike .same-marks;
+              agree = k .alike-after .alike .agree;
+              same-scalars = refl;
+              same-memory = k .alike-after .same-memory;
+              same-run = refl;
+              same-step = refl;
+              same-steps = ap₂ (λ (v : Answer) (n : ℕ). cond (isDone v) (putNumbers (n ∷ []) (b .steps)) (b .steps)) (k .same-answer) (k .same-count);
+            };
+          }
+      go false = record { same-result = refl; alike-after = kept }
+
+  each-same : (c : Call) → SameCalled (called c b) (called c (with b ys))
+  each-same (Call.start rlen mlen sealStart sealLength) = start-same rlen mlen sealStart sealLength
+  each-same (Call.step word) = step-same word
+  each-same (Call.runStart P) = run-start-same P
+  each-same Call.runNext = record { same-result = refl; alike-after = agreeing _ _ _ _ _ _ _ _ _ a }
+  each-same Call.runTurn = turn-same
+  each-same (Call.runTurns limit) = turns-same limit
+  each-same (Call.run P) = run-same P
+  each-same (Call.write w) = record { same-result = refl; alike-after = agreeing _ _ _ _ _ _ _ _ _ a }
+
+pub call-ignores-unmarked : CallIgnoresUnmarked
+call-ignores-unmarked c b b′ t = subst (λ (d : Buffers). SameCalled (called c b) (called c d)) same (each-same b (b′ .registers) (t .agree) c)
+  where
+    same : with b (b′ .registers) ≡ b′
+    same = rw (t .same-machine, t .same-marks, t .same-scalars, t .same-memory, t .same-run, t .same-step, t .same-steps)
+
+pub calls-ignore-unmarked : CallsIgnoreUnmarked
+calls-ignore-unmarked [] b b′ t = tt
+calls-ignore-unmarked (c ∷ cs) b b′ t =
+    let s = call-ignores-unmarked c b b′ t in (s, calls-ignore-unmarked cs (called c b .after) (called c b′ .after) (s .alike-after))
+
+-- ---- from a start on
+
+numbersOf : Machine → ℕ → ℕ
+numbersOf m j = getD (m .rlen ∷ m .mlen ∷ m .mtype ∷ m .«tile_m» ∷ m .«tile_k» ∷ m .«tile_n» ∷ m .«seal_start» ∷ m .«seal_length» ∷ []) j 0
+
+putMachine-row : (m : Machine) (xs : List ℕ) → putMachine m xs ≡ putRow 0 8 8 (numbersOf m) xs
+unfolding putMachine putRow numbersOf
+putMachine-row m xs = refl
+
+-- a machine's numbers fill its block, whatever the block held
+putMachine-fills : (m : Machine) (xs ys : List ℕ) → length xs ≡ 64 → length ys ≡ 64 → putMachine m xs ≡ putMachine m ys
+putMachine-fills m xs ys ex ey =
+    putMachine-row m xs
+    ∙ ext-getD 0 (putRow 0 8 8 f xs) (putRow 0 8 8 f ys) (lx ∙ ex ∙ sym (ly ∙ ey)) (λ q l. at xs ex q (omega (arith, lx)) ∙ sym (at ys ey q (omega (arith, lx))))
+    ∙ sym (putMachine-row m ys)
+  where
+    f : ℕ → ℕ
+    f = numbersOf m
+
+    lx : length (putRow 0 8 8 f xs) ≡ length xs
+    lx = length-putRow 0 8 8 f xs
+
+    ly : length (putRow 0 8 8 f ys) ≡ length ys
+    ly = length-putRow 0 8 8 f ys
+
+    at : (zs : List ℕ) → length zs ≡ 64 → (q : ℕ) → q < 64 → getD (putRow 0 8 8 f zs) q 0 ≡ byteOf (f (q / 8)) (q % 8)
+    at zs e q l =
+        let d : q ≡ 0 + q / 8 * 8 + q % 8 = omega arith in
+        ap (λ (k : ℕ). getD (putRow 0 8 8 f zs) k 0) d ∙ putRow-at 0 8 8 f zs (omega arith) (q / 8) (omega arith) (q % 8) (omega arith)
+
+-- two starts that both pass or both fail each test
+abbrev Starts : Called → Called → Type 0
+Starts o o′ = (o .result ≡ o′ .result) × (o .result ≡ 0 → AlikeBuffers (o .after) (o′ .after))
+
+module _ (rlen mlen sealStart sealLength : ℕ) (b b′ : Buffers) (p : AtPowerUp b b′) where
+  starts : (t u : Bool) → eqb (length (b .machine)) 64 ≡ t → Starts (startOn rlen mlen sealStart sealLength b t u) (startOn rlen mlen sealStart sealLength b′ t u)
+  starts true true e =
+      let n : length (b .machine) ≡ 64 = eqb-true (length (b .machine)) 64 e in (
+        refl,
+        λ d. record {
+          same-machine = putMachine-fills (freshMachine rlen mlen sealStart sealLength) (b .machine) (b′ .machine) n (sym (p .machine-length) ∙ n);
+          same-marks = ap (λ (k : ℕ). replicate k 0) (p .marks-length);
+          agree = unmarked-agree (length (b .marks)) (b .registers) (b′ .registers) (p .registers-length);
+          same-scalars = p .same-scalars;
+          same-memory = p .same-memory;
+          same-run = p .same-run;
+          same-step = p .same-step;
+          same-steps = p .same-steps;
+        },
+      )
+  starts true false e = (refl, λ d. let z : _≡_ {A = ℕ} 8 0 = d in absurd (omega arith))
+  starts false u e = (refl, λ d. let z : _≡_ {A = ℕ} 8 0 = d in absurd (omega arith))
+
+  both : Starts (called (Call.start rlen mlen sealStart sealLength) b) (called (Call.start rlen mlen sealStart sealLength) b′)
+  unfolding hostStart startMachine
+  both =
+      subst (λ (t : Bool). Starts (called (Call.start rlen mlen sealStart sealLength) b) (startOn rlen mlen sealStart sealLength b′ t (startable rlen mlen sealStart sealLength (b′ .registers) (b′ .marks))))
+      (ap (λ (n : ℕ). eqb n 64) (p .machine-length))
+      (subst (λ (u : Bool). Starts (called (Call.start rlen mlen sealStart sealLength) b) (startOn rlen mlen sealStart sealLength b′ (eqb (length (b .machine)) 64) u))
+      (startable-same rlen mlen sealStart sealLength (b .registers) (b′ .registers) (b .marks) (b′ .marks) (p .registers-length) (p .marks-length))
+      (starts (eqb (length (b .machine)) 64) (startable rlen mlen sealStart sealLength (b .registers) (b .marks)) refl))
+
+pub power-up-never-matters-to-hosts : PowerUpNeverMattersToHosts
+power-up-never-matters-to-hosts rlen mlen sealStart sealLength b b′ p =
+    let s = both rlen mlen sealStart sealLength b b′ p in
+    record {
+      same-result = s .0;
+      alike-after = s .1;
+      same-calls = λ d cs.
+          calls-ignore-unmarked cs (called (Call.start rlen mlen sealStart sealLength) b .after) (called (Call.start rlen mlen sealStart sealLength) b′ .after) (s .1 d);
+    }

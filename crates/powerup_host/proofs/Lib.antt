@@ -1,0 +1,2 @@
+-- The theorems of specs/Calls.antt.
+pub mod Calls
