@@ -1,76 +1,70 @@
--- Blocks of accumulators, numbers in pairs, and their sums.
+-- Blocks of a row, numbers in pairs, and their sums.
 use mathlib.Core.Path.{_≡_, refl, sym, ap, ap₂, _∙_}
 use mathlib.Core.List.{List}
 use mathlib.Core.Bool.{Bool, true, false}
-use mathlib.Core.Logic.{_⊎_, ⊎-elim, inl, inr}
-use Prim.Native.Nat.{ℕ, _+_, _*_, _-_, _/_, _%_, _^_, _≤_, _<_}
+use mathlib.Core.Logic.{⊎-elim}
+use Prim.Native.Nat.{ℕ, zero, suc, _+_, _*_, _/_, _%_, _^_, _≤_, _<_}
+use native.Mathlib.Nat.{add-zero, add-suc}
 use native.Mathlib.Omega.{arith}
 use lib.Dec.{ltb}
-use lib.IntN.{ℤ, pos, _+ℤ_, _*ℤ_, zero-*ℤ}
-use lib.ListN.{length, set, getD, length-set}
+use lib.IntN.{ℤ, pos, _+ℤ_, _*ℤ_, zero-*ℤ, +ℤ-idr}
+use lib.ListN.{length, set, getD, replicate, length-set}
 use lib.Seq.{getD-set-same, getD-set-other}
 use borrow.Author.Count.{below-more}
 use borrow.Author.Tests.{ltb-true, ltb-false, lt-ltb, le-ltb}
-use Rattle.width.specs.Reduce.{signed, reduce}
-use Rattle.width.specs.Tile.{le}
-use Rattle.width.proofs.TileLaws.{le-lt}
-use Rattle.width.proofs.ReduceLaws.{sumℤ-cong}
-use Rattle.width.proofs.ElementLaws.{signed-widened}
-use Rattle.width.proofs.SumLaws.{sum-in-pairs}
+use Rattle.width.specs.Upto.{upto}
+use Rattle.width.specs.Reduce.{signed, reduce, sumℤ}
+use Rattle.width.specs.Tile.{le, putLe, putRow}
+use Rattle.width.proofs.UptoLaws.{upto-cong}
+use Rattle.width.proofs.TileLaws.{le-cong, le-lt, putRow-out}
+use Rattle.width.proofs.PutLaws.{upto-add}
+use Rattle.width.proofs.ReduceLaws.{reduce-lt, sumℤ-cong}
+use Rattle.width.proofs.ElementLaws.{pow-256, signed-widened}
+use Rattle.width.proofs.SumLaws.{wrapping-add, sum-none, sum-more, sum-in-pairs}
 use Rattle.machine.specs.Operation.{product}
 use Rattle.element.specs.Element.{Narrow}
 use Rattle.arithmetic.specs.Rows.{signedLe}
-use Rattle.arithmetic.specs.Pairs.{half, padded, placeOf, pair, plusPairs}
+use Rattle.arithmetic.specs.Pairs.{half, padded, placeOf, pair, plusPairs, pairsRow}
 
--- ---- a block of accumulators from j on
+-- ---- blocks
 
--- a store at i = j + q
-pub block-below : (F : ℕ → ℕ) (l : List ℕ) (j q i v : ℕ) → i ≡ j + q → i < length l → ((r : ℕ) → r < q → getD l (j + r) 0 ≡ F r) → v ≡ F q
-    → (r : ℕ) → r < q + 1 → getD (set l i v) (j + r) 0 ≡ F r
-block-below F l j q i v e h all ev =
-    below-more (λ r. getD (set l i v) (j + r) 0 ≡ F r) q
-    (λ r k. getD-set-other l i (j + r) v 0 (λ s. omega arith) ∙ all r k)
-    (ap (λ (t : ℕ). getD (set l i v) t 0) (sym e) ∙ getD-set-same l i v 0 h ∙ ev)
+pub each-of-four : (P : ℕ → Type 0) → P 0 → P 1 → P 2 → P 3 → (q : ℕ) → q < 4 → P q
+each-of-four P a b c d zero l = a
+each-of-four P a b c d (suc zero) l = b
+each-of-four P a b c d (suc (suc zero)) l = c
+each-of-four P a b c d (suc (suc (suc zero))) l = d
+each-of-four P a b c d (suc (suc (suc (suc q)))) l = absurd (omega arith)
 
-pub block-out : (G : ℕ → ℕ) (l : List ℕ) (j i v : ℕ) → j ≤ i → ((r : ℕ) → (r < j) ⊎ (i ≤ r) → getD l r 0 ≡ G r)
-    → (r : ℕ) → (r < j) ⊎ (i + 1 ≤ r) → getD (set l i v) r 0 ≡ G r
-block-out G l j i v e all r h =
-    getD-set-other l i r v 0 (λ s. ⊎-elim (λ k. omega arith) (λ k. omega arith) h)
-    ∙ all r (⊎-elim (λ k. inl k) (λ k. inr (omega arith)) h)
+-- what stands after the first j elements of a row that is written
+pub after-row : (c j : ℕ) (F : ℕ → ℕ) (s₀ s : List ℕ) → s ≡ putRow c j 4 F s₀ → (p q : ℕ) → p ≡ q → c + j * 4 ≤ q → le s p 4 ≡ le s₀ q 4
+after-row c j F s₀ s es p q e h =
+    ap₂ (λ (l : List ℕ) (p : ℕ). le l p 4) es e
+    ∙ le-cong (putRow c j 4 F s₀) s₀ q q 4 (λ i l. putRow-out c j 4 F s₀ (q + i) (λ x. omega arith))
 
--- four stores from j on
-pub four-sums : (l : List ℕ) (j : ℕ) → j + 4 ≤ length l → (F : ℕ → ℕ) (v0 v1 v2 v3 : ℕ) → v0 ≡ F 0 → v1 ≡ F 1 → v2 ≡ F 2 → v3 ≡ F 3
-    → ((q : ℕ) → q < 4 → getD (set (set (set (set l j v0) (j + 1) v1) (j + 2) v2) (j + 3) v3) (j + q) 0 ≡ F q)
-    × ((q : ℕ) → (q < j) ⊎ (j + 4 ≤ q) → getD (set (set (set (set l j v0) (j + 1) v1) (j + 2) v2) (j + 3) v3) q 0 ≡ getD l q 0)
-four-sums l j h F v0 v1 v2 v3 e0 e1 e2 e3 =
-    let l1 = set l j v0 in
-    let l2 = set l1 (j + 1) v1 in
-    let l3 = set l2 (j + 2) v2 in
-    let n1 : length l1 ≡ length l = length-set l j v0 in
-    let n2 : length l2 ≡ length l = length-set l1 (j + 1) v1 ∙ n1 in
-    let n3 : length l3 ≡ length l = length-set l2 (j + 2) v2 ∙ n2 in
-    let b1 = block-below F l j 0 j v0 (omega arith) (omega arith) (λ r k. absurd (omega arith)) e0 in
-    let b2 = block-below F l1 j 1 (j + 1) v1 refl (omega (arith, n1)) (λ r k. b1 r (omega arith)) e1 in
-    let b3 = block-below F l2 j 2 (j + 2) v2 refl (omega (arith, n2)) (λ r k. b2 r (omega arith)) e2 in
-    let b4 = block-below F l3 j 3 (j + 3) v3 refl (omega (arith, n3)) (λ r k. b3 r (omega arith)) e3 in
-    let G : ℕ → ℕ = λ r. getD l r 0 in
-    let o1 = block-out G l j j v0 (omega arith) (λ r k. refl) in
-    let o2 = block-out G l1 j (j + 1) v1 (omega arith) o1 in
-    let o3 = block-out G l2 j (j + 2) v2 (omega arith) (λ r k. o2 r (⊎-elim (λ a. inl a) (λ a. inr (omega arith)) k)) in
-    let o4 = block-out G l3 j (j + 3) v3 (omega arith) (λ r k. o3 r (⊎-elim (λ a. inl a) (λ a. inr (omega arith)) k)) in
-    (λ q k. b4 q (omega arith), λ q k. o4 q (⊎-elim (λ a. inl a) (λ a. inr (omega arith)) k))
-
--- what holds below j, and of the four from j on, holds below j + 4
-pub four-more : (F : ℕ → ℕ) (l : List ℕ) (j : ℕ) → ((q : ℕ) → q < j → getD l q 0 ≡ F q) → ((r : ℕ) → r < 4 → getD l (j + r) 0 ≡ F (j + r))
-    → (q : ℕ) → q < j + 4 → getD l q 0 ≡ F q
-four-more F l j below block q h = by-cases (ltb q j) refl
+-- j elements of the row of C at c are written, and then n more at `to`, each from what stands there: they are those of the entry
+pub columns-more : (s₀ s out xs b : List ℕ) (c j n to at pairs : ℕ) → j % 4 ≡ 0 → n ≤ 4 → to ≡ c + j * 4 → at ≡ 2 * j
+    → s ≡ putRow c j 4 (pairsRow s₀ c xs b 0 pairs) s₀ → out ≡ putRow to n 4 (pairsRow s to xs b at pairs) s
+    → out ≡ putRow c (j + n) 4 (pairsRow s₀ c xs b 0 pairs) s₀
+unfolding putRow
+columns-more s₀ s out xs b c j n to at pairs z ln et ea es eo =
+    eo
+    ∙ upto-cong n (λ q ys. putLe (to + q * 4) 4 (pairsRow s to xs b at pairs q) ys) (λ q ys. putLe (c + (j + q) * 4) 4 (F (j + q)) ys) s
+    (λ q l ys. ap₂ (λ (p v : ℕ). putLe p 4 v ys) (place q) (same q l))
+    ∙ ap (upto n (λ q ys. putLe (c + (j + q) * 4) 4 (F (j + q)) ys)) es
+    ∙ sym (upto-add j n (λ q ys. putLe (c + q * 4) 4 (F q) ys) s₀)
   where
-    by-cases : (t : Bool) → ltb q j ≡ t → getD l q 0 ≡ F q
-    by-cases true e = below q (ltb-true q j e)
-    by-cases false e =
-        let d = ltb-false q j e in
-        let f : j + (q - j) ≡ q = omega arith in
-        ap (λ (x : ℕ). getD l x 0) (sym f) ∙ block (q - j) (omega arith) ∙ ap F f
+    F : ℕ → ℕ
+    F = pairsRow s₀ c xs b 0 pairs
+
+    place : (q : ℕ) → to + q * 4 ≡ c + (j + q) * 4
+    place q = omega arith
+
+    same : (q : ℕ) → q < n → pairsRow s to xs b at pairs q ≡ F (j + q)
+    same q l =
+        let e : 2 * (q % 4) ≡ 2 * ((j + q) % 4) = omega arith in
+        let f : at + 2 * q ≡ 0 + 2 * (j + q) = omega arith in
+        ap (λ (v : ℕ). plusPairs v xs (2 * (q % 4)) b (at + 2 * q) pairs) (after-row c j F s₀ s es (to + q * 4) (c + (j + q) * 4) (place q) (omega arith))
+        ∙ ap₂ (λ (h o : ℕ). plusPairs (le s₀ (c + (j + q) * 4) 4) xs h b o pairs) e f
 
 -- ---- numbers in pairs
 
@@ -90,10 +84,13 @@ pair-more F G l to j o x y e h all ex ey =
       ap (λ (t : ℕ). getD m t 0) f ∙ getD-set-same (set l o x) (o + 1) y 0 (simp length-set (omega arith)) ∙ ey,
     )
 
-pub pair-keep : (G : ℕ → ℕ) (l : List ℕ) (to o x y : ℕ) → to ≤ o → ((i : ℕ) → i < to → getD l i 0 ≡ G i)
-    → (i : ℕ) → i < to → getD (set (set l o x) (o + 1) y) i 0 ≡ G i
-pair-keep G l to o x y h all i k =
-    getD-set-other (set l o x) (o + 1) i y 0 (λ s. omega arith) ∙ getD-set-other l o i x 0 (λ s. omega arith) ∙ all i k
+pub pair-keep : (l : List ℕ) (o x y i v : ℕ) → (i ≡ o → ⊥) → (i ≡ o + 1 → ⊥) → getD l i 0 ≡ v → getD (set (set l o x) (o + 1) y) i 0 ≡ v
+pair-keep l o x y i v h k e = getD-set-other (set l o x) (o + 1) i y 0 k ∙ getD-set-other l o i x 0 h ∙ e
+
+pub zeros : (n i : ℕ) → _≡_ {A = ℕ} (getD (replicate n 0) i 0) 0
+zeros zero i = refl
+zeros (suc n) zero = refl
+zeros (suc n) (suc i) = zeros n i
 
 -- each pair four times: the pairs below an even l, unchanged below 4 * l, and the pair at l after them
 pub repeat-more : (F : ℕ → ℕ) (d m : List ℕ) (l h : ℕ) → l % 2 ≡ 0 → h ≡ 4 * l
@@ -113,6 +110,21 @@ repeat-more F d m l h z e all keep new p q lp lq = by-cases (ltb (2 * p) l) refl
         let f : l ≡ 2 * p = omega arith in
         let g : 8 * p ≡ h = omega arith in
         (ap (λ (t : ℕ). getD m (t + 2 * q) 0) g ∙ new q lq .0 ∙ ap F f, ap (λ (t : ℕ). getD m (t + 2 * q + 1) 0) g ∙ new q lq .1 ∙ ap (λ (t : ℕ). F (t + 1)) f)
+
+-- and zeros after an even l that is k or more
+pub repeat-all : (s : List ℕ) (a w k : ℕ) (d : List ℕ) (l : ℕ) → k ≤ l → l % 2 ≡ 0
+    → ((p q : ℕ) → 2 * p < l → q < 4 → (getD d (8 * p + 2 * q) 0 ≡ padded s a w k (2 * p)) × (getD d (8 * p + 2 * q + 1) 0 ≡ padded s a w k (2 * p + 1)))
+    → ((i : ℕ) → 4 * l ≤ i → getD d i 0 ≡ 0)
+    → (p q : ℕ) → q < 4 → (getD d (8 * p + 2 * q) 0 ≡ padded s a w k (2 * p)) × (getD d (8 * p + 2 * q + 1) 0 ≡ padded s a w k (2 * p + 1))
+repeat-all s a w k d l lk z all none p q lq = by-cases (ltb (2 * p) l) refl
+  where
+    by-cases : (t : Bool) → ltb (2 * p) l ≡ t → (getD d (8 * p + 2 * q) 0 ≡ padded s a w k (2 * p)) × (getD d (8 * p + 2 * q + 1) 0 ≡ padded s a w k (2 * p + 1))
+    by-cases true t = all p q (ltb-true (2 * p) l t) lq
+    by-cases false t =
+        let g = ltb-false (2 * p) l t in
+        let e : 0 ≡ padded s a w k (2 * p) = rw (le-ltb (2 * p) k (omega arith)) in
+        let f : 0 ≡ padded s a w k (2 * p + 1) = rw (le-ltb (2 * p + 1) k (omega arith)) in
+        (none (8 * p + 2 * q) (omega arith) ∙ e, none (8 * p + 2 * q + 1) (omega arith) ∙ f)
 
 -- rows below an even l, unchanged below 64 * l, and row l after them
 pub row-more : (F : ℕ → ℕ → ℕ) (d m : List ℕ) (l n to : ℕ) → n ≤ 64 → l % 2 ≡ 0 → to ≡ 64 * l
@@ -136,12 +148,33 @@ rows-more F d m l n to g z e all keep new next =
 
 -- ---- their sum
 
+module _ (v : ℕ) (xs : List ℕ) (h : ℕ) (b : List ℕ) (o : ℕ) where
+  abbrev term-of : ℕ → ℤ
+  term-of p = pair xs (h + 8 * p) b (o + 128 * p)
+
+  pub no-pairs : v < 256 ^ 4 → v ≡ plusPairs v xs h b o 0
+  no-pairs l = sum-none (256 ^ 4) (pow-256 4) v term-of l
+
+  -- a wrapping add of the pair y at g and i to the sum x
+  pub pair-added : (p x y g i : ℕ) → x ≡ plusPairs v xs h b o p → y ≡ reduce (256 ^ 4) (pair xs g b i) → g ≡ h + 8 * p → i ≡ o + 128 * p
+      → (x + y) % 256 ^ 4 ≡ plusPairs v xs h b o (p + 1)
+  pair-added p x y g i ex ey eg ei =
+      ap (λ (y : ℕ). (x + y) % 256 ^ 4) (ey ∙ ap₂ (λ (g i : ℕ). reduce (256 ^ 4) (pair xs g b i)) eg ei)
+      ∙ wrapping-add (256 ^ 4) (pow-256 4) x (term-of p) (rw ex (reduce-lt (256 ^ 4) (pow-256 4) (signed (256 ^ 4) v +ℤ sumℤ p term-of)))
+      ∙ sum-more (256 ^ 4) (pow-256 4) (signed (256 ^ 4) v) p term-of x (term-of p) ex refl
+
+-- summands that are 0 from n on
+sum-rest : (f : ℕ → ℤ) (n d : ℕ) → ((p : ℕ) → n ≤ p → f p ≡ pos 0) → sumℤ (n + d) f ≡ sumℤ n f
+sum-rest f n zero z = ap (λ (t : ℕ). sumℤ t f) (add-zero n)
+sum-rest f n (suc d) z =
+    ap (λ (t : ℕ). sumℤ t f) (add-suc n d) ∙ ap₂ _+ℤ_ (sum-rest f n d z) (z (n + d) (omega arith)) ∙ +ℤ-idr (sumℤ n f)
+
 -- the signed number of 16 bits is the signed element
 half-is : (s : List ℕ) → ((q : ℕ) → getD s q 0 < 256) → (p w : ℕ) → Narrow w → signed (256 ^ 2) (half s p w) ≡ signedLe s p w
 half-is s bytes p w ok = signed-widened (256 ^ w) (256 ^ 2) (le s p w) (le-lt s bytes p w) (⊎-elim (λ e. rw e (omega arith)) (λ e. rw e (omega arith)) ok)
 
 module _ (s : List ℕ) (bytes : (q : ℕ) → getD s q 0 < 256) (w : ℕ) (ok : Narrow w) (a b pitch k n : ℕ) (xs bs : List ℕ)
-    (row : (p q : ℕ) → 2 * p < k → q < 4 → (getD xs (8 * p + 2 * q) 0 ≡ padded s a w k (2 * p)) × (getD xs (8 * p + 2 * q + 1) 0 ≡ padded s a w k (2 * p + 1)))
+    (row : (p q : ℕ) → q < 4 → (getD xs (8 * p + 2 * q) 0 ≡ padded s a w k (2 * p)) × (getD xs (8 * p + 2 * q + 1) 0 ≡ padded s a w k (2 * p + 1)))
     (rows : (l j : ℕ) → l < k → j < n → getD bs (placeOf l j) 0 ≡ half s (b + l * pitch + j * w) w) where
   abbrev A : ℕ → ℤ
   A l = signedLe s (a + l * w) w
@@ -159,24 +192,29 @@ module _ (s : List ℕ) (bytes : (q : ℕ) → getD s q 0 < 256) (w : ℕ) (ok :
       ap₂ _*ℤ_ e
       (ap (signed (256 ^ 2)) (rows l j ll lj) ∙ half-is s bytes (b + l * pitch + j * w) w ok)
 
-  term-none : (j : ℕ) → term j k ≡ pos 0
-  term-none j = rw (le-ltb k k (omega arith)) (zero-*ℤ (signed (256 ^ 2) (getD bs (placeOf k j) 0)))
+  term-none : (j l : ℕ) → k ≤ l → term j l ≡ pos 0
+  term-none j l h = rw (le-ltb l k h) (zero-*ℤ (signed (256 ^ 2) (getD bs (placeOf l j) 0)))
 
-  pair-terms : (j p : ℕ) → 2 * p < k → pair xs (2 * (j % 4) + 8 * p) bs (2 * j + 128 * p) ≡ term j (2 * p) +ℤ term j (2 * p + 1)
-  pair-terms j p lp =
+  pair-terms : (j p : ℕ) → pair xs (2 * (j % 4) + 8 * p) bs (0 + 2 * j + 128 * p) ≡ term j (2 * p) +ℤ term j (2 * p + 1)
+  pair-terms j p =
       let x : 2 * (j % 4) + 8 * p ≡ 8 * p + 2 * (j % 4) = omega arith in
-      let y : 2 * j + 128 * p ≡ placeOf (2 * p) j = omega arith in
-      let z : 2 * j + 128 * p + 1 ≡ placeOf (2 * p + 1) j = omega arith in
-      let r = row p (j % 4) lp (omega arith) in
+      let y : 0 + 2 * j + 128 * p ≡ placeOf (2 * p) j = omega arith in
+      let z : 0 + 2 * j + 128 * p + 1 ≡ placeOf (2 * p + 1) j = omega arith in
+      let r = row p (j % 4) (omega arith) in
       ap₂ _+ℤ_
       (ap₂ (λ (u v : ℕ). signed (256 ^ 2) u *ℤ signed (256 ^ 2) v) (ap (λ (t : ℕ). getD xs t 0) x ∙ r .0) (ap (λ (t : ℕ). getD bs t 0) y))
       (ap₂ (λ (u v : ℕ). signed (256 ^ 2) u *ℤ signed (256 ^ 2) v) (ap (λ (t : ℕ). getD xs (t + 1) 0) x ∙ r .1) (ap (λ (t : ℕ). getD bs t 0) z))
 
-  -- all pairs of column j make its sum of products
-  pub pairs-product : (v j : ℕ) → j < n
-      → plusPairs v xs (2 * (j % 4)) bs (2 * j) ((k + 1) / 2) ≡ product 4 w k v (λ l. le s (a + l * w) w) (λ l. le s (b + l * pitch + j * w) w)
-  pairs-product v j lj =
+  -- all pairs of column j, and d more, make its sum of products
+  pub pairs-product : (v j pairs d : ℕ) → j < n → pairs ≡ (k + 1) / 2 + d
+      → plusPairs v xs (2 * (j % 4)) bs (0 + 2 * j) pairs ≡ product 4 w k v (λ l. le s (a + l * w) w) (λ l. le s (b + l * pitch + j * w) w)
+  pairs-product v j pairs d lj e =
       ap (λ (z : ℤ). reduce (256 ^ 4) (signed (256 ^ 4) v +ℤ z))
-      (sumℤ-cong ((k + 1) / 2) (λ p. pair xs (2 * (j % 4) + 8 * p) bs (2 * j + 128 * p)) (λ p. term j (2 * p) +ℤ term j (2 * p + 1)) (λ p lp. pair-terms j p (omega arith))
-      ∙ sum-in-pairs (term j) k (term-none j)
+      (sumℤ-cong pairs (λ p. pair xs (2 * (j % 4) + 8 * p) bs (0 + 2 * j + 128 * p)) two (λ p lp. pair-terms j p)
+      ∙ ap (λ (n : ℕ). sumℤ n two) e
+      ∙ sum-rest two ((k + 1) / 2) d (λ p h. ap₂ _+ℤ_ (term-none j (2 * p) (omega arith)) (term-none j (2 * p + 1) (omega arith)))
+      ∙ sum-in-pairs (term j) k (term-none j k (omega arith))
       ∙ sumℤ-cong k (term j) (λ l. A l *ℤ B j l) (λ l ll. term-is j l lj ll))
+    where
+      two : ℕ → ℤ
+      two p = term j (2 * p) +ℤ term j (2 * p + 1)

@@ -1,11 +1,13 @@
 -- Sums of products two terms at a time: elements of one or two bytes as numbers of 16 bits, in pairs.
 use mathlib.Core.Bool.{cond}
 use mathlib.Core.List.{List}
-use Prim.Native.Nat.{ℕ, _+_, _*_, _/_, _%_, _^_}
+use Prim.Native.Nat.{ℕ, zero, suc, _+_, _*_, _/_, _%_, _^_}
 use lib.Dec.{ltb}
 use lib.IntN.{ℤ, _+ℤ_, _*ℤ_}
 use lib.ListN.{getD}
 use Rattle.width.specs.Reduce.{signed, reduce, sumℤ}
+use Rattle.width.specs.Tile.{le}
+use Rattle.arithmetic.specs.declared.pairs.Block.{Block}
 use Rattle.arithmetic.specs.Rows.{signedLe}
 
 -- the signed element of w bytes at p, as a residue at 16 bits
@@ -28,3 +30,14 @@ pair xs h b o =
 -- the accumulator v plus n pairs, which stand 8 apart in xs and 128 apart in b
 abbrev pub plusPairs : ℕ → List ℕ → ℕ → List ℕ → ℕ → ℕ → ℕ
 plusPairs v xs h b o n = reduce (256 ^ 4) (signed (256 ^ 4) v +ℤ sumℤ n (λ p. pair xs (h + 8 * p) b (o + 128 * p)))
+
+-- element q of a block
+abbrev pub lane : Block → ℕ → ℕ
+lane x zero = x .e0
+lane x (suc zero) = x .e1
+lane x (suc (suc zero)) = x .e2
+lane x (suc (suc (suc q))) = x .e3
+
+-- element j of the row of C at c plus its pairs, where the columns stand from o on in b and the pairs of xs four times each
+abbrev pub pairsRow : List ℕ → ℕ → List ℕ → List ℕ → (o pairs j : ℕ) → ℕ
+pairsRow s c xs b o pairs j = plusPairs (le s (c + j * 4) 4) xs (2 * (j % 4)) b (o + 2 * j) pairs

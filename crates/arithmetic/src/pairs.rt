@@ -6,10 +6,10 @@ ghost use Prim.Native.Nat.{ℕ, _+_, _*_, _/_, _%_, _^_, _≤_, _<_};
 ghost use lib.IntN.{_+ℤ_, _*ℤ_};
 ghost use lib.ListN.{length, getD};
 ghost use Rattle.width.specs.Reduce.{reduce, signed};
-ghost use Rattle.width.specs.Tile.{putRow, putTile};
+ghost use Rattle.width.specs.Tile.{le, putLe, putRow, putTile};
 ghost use Rattle.element.specs.Element.{Narrow};
 ghost use Rattle.arithmetic.specs.Rows.{productRow};
-ghost use Rattle.arithmetic.specs.Pairs.{half, padded, placeOf, pair, plusPairs};
+ghost use Rattle.arithmetic.specs.Pairs.{half, padded, placeOf, pair, plusPairs, lane, pairsRow};
 
 // x times y plus v times w, signed.
 fn pair_of(x: u16, y: u16, v: u16, w: u16) -> u32
@@ -34,68 +34,156 @@ fn pair_at(xs: &[u16], from: usize, b: &[u16], at: usize) -> u32
     pair_of(x, y, v, w)
 }
 
-// Four accumulators from `j` on, each plus one pair; all are read before any is written.
-fn mac_block(acc: &mut [u32], j: usize, b: &[u16], at: usize, xs: &[u16], from: usize)
-    requires { ⌜ j + 4 ≤ length (now acc) ⌝ }
-    requires { ⌜ at + 8 ≤ length (now b) ⌝ }
-    requires { ⌜ from + 8 ≤ length (now xs) ⌝ }
-    ensures { λ _. ⌜ ((q : ℕ) → q < 4 → getD (now (acc .exit)) (j + q) 0 ≡ reduce (256 ^ 4) (signed (256 ^ 4) (getD (now (acc .entry)) (j + q) 0) +ℤ pair (now (xs .entry)) (from + 2 * q) (now (b .entry)) (at + 2 * q))) ⌝ }
-    ensures { λ _. ⌜ ((q : ℕ) → (q < j) ⊎ (j + 4 ≤ q) → getD (now (acc .exit)) q 0 ≡ getD (now (acc .entry)) q 0) ⌝ }
-{
-    let p0 = pair_at(xs, from, b, at);
-    let p1 = pair_at(xs, from + 2, b, at + 2);
-    let p2 = pair_at(xs, from + 4, b, at + 4);
-    let p3 = pair_at(xs, from + 6, b, at + 6);
-    let a0 = std::num::wrapping_add_u32(acc[j], p0);
-    let a1 = std::num::wrapping_add_u32(acc[j + 1], p1);
-    let a2 = std::num::wrapping_add_u32(acc[j + 2], p2);
-    let a3 = std::num::wrapping_add_u32(acc[j + 3], p3);
-    acc[j] = a0;
-    acc[j + 1] = a1;
-    acc[j + 2] = a2;
-    acc[j + 3] = a3;
+// Four elements of C that stand side by side.
+struct Block {
+    e0: u32,
+    e1: u32,
+    e2: u32,
+    e3: u32,
 }
 
-// All accumulators of a row, each plus one pair, in blocks of four.
-fn add_row(acc: &mut [u32], b: &[u16], from: usize, xs: &[u16], h: usize, n: usize)
-    requires { ⌜ (n ≤ 64) × (length (now acc) ≡ 68) ⌝ }
-    requires { ⌜ from + 2 * n + 6 ≤ length (now b) ⌝ }
-    requires { ⌜ h + 8 ≤ length (now xs) ⌝ }
-    ensures { λ _. ⌜ ((q : ℕ) → q < n → getD (now (acc .exit)) q 0 ≡ reduce (256 ^ 4) (signed (256 ^ 4) (getD (now (acc .entry)) q 0) +ℤ pair (now (xs .entry)) (h + 2 * (q % 4)) (now (b .entry)) (from + 2 * q))) ⌝ }
+fn read_block(s: &[u8], c: usize) -> Block
+    requires { ⌜ c + 16 ≤ length (now s) ⌝ }
+    ensures { λ r. ⌜ ((q : ℕ) → q < 4 → lane r q ≡ le (now (s .entry)) (c + q * 4) 4) ⌝ }
 {
-    let mut j = 0;
-    let mut at = from;
-    while j < n {
-        mac_block(acc, j, b, at, xs, h);
-        at += 8;
-        j += 4;
+    Block {
+        e0: element::read4(s, c),
+        e1: element::read4(s, c + 4),
+        e2: element::read4(s, c + 8),
+        e3: element::read4(s, c + 12),
     }
 }
 
-// All accumulators of a row, pair after pair.
-fn add_pairs(acc: &mut [u32], b: &[u16], xs: &[u16], pairs: usize, n: usize)
-    requires { ⌜ n ≤ 64 ⌝ }
-    requires { ⌜ length (now acc) ≡ 68 ⌝ }
-    requires { ⌜ pairs * 128 + 8 ≤ length (now b) ⌝ }
-    requires { ⌜ pairs * 8 ≤ length (now xs) ⌝ }
-    ensures { λ _. ⌜ ((q : ℕ) → q < n → getD (now (acc .exit)) q 0 ≡ plusPairs (getD (now (acc .entry)) q 0) (now (xs .entry)) (2 * (q % 4)) (now (b .entry)) (2 * q) pairs) ⌝ }
+fn write_block(s: &mut [u8], c: usize, x: Block)
+    requires { ⌜ c + 16 ≤ length (now s) ⌝ }
+    ensures { λ _. ⌜ now (s .exit) ≡ putRow c 4 4 (lane x) (now (s .entry)) ⌝ }
 {
+    element::write4(s, c, x.e0);
+    element::write4(s, c + 4, x.e1);
+    element::write4(s, c + 8, x.e2);
+    element::write4(s, c + 12, x.e3);
+}
+
+// The elements of x plus those of y.
+fn plus(x: Block, y: Block) -> Block
+    ensures { λ r. ⌜ ((q : ℕ) → q < 4 → lane r q ≡ (lane x q + lane y q) % 256 ^ 4) ⌝ }
+{
+    Block {
+        e0: std::num::wrapping_add_u32(x.e0, y.e0),
+        e1: std::num::wrapping_add_u32(x.e1, y.e1),
+        e2: std::num::wrapping_add_u32(x.e2, y.e2),
+        e3: std::num::wrapping_add_u32(x.e3, y.e3),
+    }
+}
+
+// Four pairs, from `from` and `at` on.
+fn pairs_at(xs: &[u16], from: usize, b: &[u16], at: usize) -> Block
+    requires { ⌜ from + 8 ≤ length (now xs) ⌝ }
+    requires { ⌜ at + 8 ≤ length (now b) ⌝ }
+    ensures { λ r. ⌜ ((q : ℕ) → q < 4 → lane r q ≡ reduce (256 ^ 4) (pair (now (xs .entry)) (from + 2 * q) (now (b .entry)) (at + 2 * q))) ⌝ }
+{
+    Block {
+        e0: pair_at(xs, from, b, at),
+        e1: pair_at(xs, from + 2, b, at + 2),
+        e2: pair_at(xs, from + 4, b, at + 4),
+        e3: pair_at(xs, from + 6, b, at + 6),
+    }
+}
+
+// Four elements of C from `c` on, each plus all pairs of its column, an even number; the columns stand from `o` on in b.
+// A pair is added one turn after it is formed: LLVM then keeps its two products as one instruction.
+fn add_block(s: &mut [u8], c: usize, b: &[u16], o: usize, xs: &[u16], pairs: usize)
+    requires { ⌜ c + 16 ≤ length (now s) ⌝ }
+    requires { ⌜ (o + 8 ≤ 128) × (pairs * 128 ≤ length (now b)) ⌝ }
+    requires { ⌜ (pairs % 2 ≡ 0) × (pairs * 8 ≤ length (now xs)) ⌝ }
+    ensures { λ _. ⌜ now (s .exit) ≡ putRow c 4 4 (pairsRow (now (s .entry)) c (now (xs .entry)) (now (b .entry)) o pairs) (now (s .entry)) ⌝ }
+{
+    let mut sum = read_block(s, c);
+    let mut t = Block {
+        e0: 0,
+        e1: 0,
+        e2: 0,
+        e3: 0,
+    };
+    let mut u = t;
     let mut p = 0;
-    let mut at = 0;
+    let mut at = o;
     let mut h = 0;
     while p < pairs {
-        add_row(acc, b, at, xs, h, n);
+        sum = plus(plus(sum, t), u);
+        t = pairs_at(xs, h, b, at);
+        u = pairs_at(xs, h + 8, b, at + 128);
+        at += 256;
+        h += 16;
+        p += 2;
+    }
+    write_block(s, c, plus(plus(sum, t), u));
+}
+
+// The element of C at `c` plus all pairs of its column.
+fn add_column(s: &mut [u8], c: usize, b: &[u16], o: usize, xs: &[u16], from: usize, pairs: usize)
+    requires { ⌜ c + 4 ≤ length (now s) ⌝ }
+    requires { ⌜ (o + 2 ≤ 128) × (pairs * 128 ≤ length (now b)) ⌝ }
+    requires { ⌜ (from + 2 ≤ 8) × (pairs * 8 ≤ length (now xs)) ⌝ }
+    ensures { λ _. ⌜ now (s .exit) ≡ putLe c 4 (plusPairs (le (now (s .entry)) c 4) (now (xs .entry)) from (now (b .entry)) o pairs) (now (s .entry)) ⌝ }
+{
+    let mut sum = element::read4(s, c);
+    let mut p = 0;
+    let mut at = o;
+    let mut h = from;
+    while p < pairs {
+        sum = std::num::wrapping_add_u32(sum, pair_at(xs, h, b, at));
         at += 128;
         h += 8;
         p += 1;
     }
+    element::write4(s, c, sum);
+}
+
+// At most three elements of C from `c` on, one after another.
+fn add_columns(s: &mut [u8], c: usize, b: &[u16], o: usize, xs: &[u16], pairs: usize, n: usize)
+    requires { ⌜ (n < 4) × (c + n * 4 ≤ length (now s)) ⌝ }
+    requires { ⌜ (o + n * 2 ≤ 128) × (pairs * 128 ≤ length (now b)) ⌝ }
+    requires { ⌜ pairs * 8 ≤ length (now xs) ⌝ }
+    ensures { λ _. ⌜ now (s .exit) ≡ putRow c n 4 (pairsRow (now (s .entry)) c (now (xs .entry)) (now (b .entry)) o pairs) (now (s .entry)) ⌝ }
+{
+    let mut j = 0;
+    let mut to = c;
+    let mut at = o;
+    let mut h = 0;
+    while j < n {
+        add_column(s, to, b, at, xs, h, pairs);
+        to += 4;
+        at += 2;
+        h += 2;
+        j += 1;
+    }
+}
+
+// The row of C at `c`, in blocks of four; what is left of it in single columns.
+fn add_row(s: &mut [u8], c: usize, b: &[u16], xs: &[u16], pairs: usize, n: usize)
+    requires { ⌜ (n ≤ 64) × (c + n * 4 ≤ length (now s)) ⌝ }
+    requires { ⌜ pairs * 128 ≤ length (now b) ⌝ }
+    requires { ⌜ (pairs % 2 ≡ 0) × (pairs * 8 ≤ length (now xs)) ⌝ }
+    ensures { λ _. ⌜ now (s .exit) ≡ putRow c n 4 (pairsRow (now (s .entry)) c (now (xs .entry)) (now (b .entry)) 0 pairs) (now (s .entry)) ⌝ }
+{
+    let mut j = 0;
+    let mut to = c;
+    let mut at = 0;
+    while n - j >= 4 {
+        add_block(s, to, b, at, xs, pairs);
+        to += 16;
+        at += 8;
+        j += 4;
+    }
+    add_columns(s, to, b, at, xs, pairs, n - j);
 }
 
 // x and y, four times from `o` on.
 fn repeat4(d: &mut [u16], o: usize, x: u16, y: u16)
     requires { ⌜ o + 8 ≤ length (now d) ⌝ }
     ensures { λ _. ⌜ ((q : ℕ) → q < 4 → (getD (now (d .exit)) (o + 2 * q) 0 ≡ x) × (getD (now (d .exit)) (o + 2 * q + 1) 0 ≡ y)) ⌝ }
-    ensures { λ _. ⌜ ((i : ℕ) → i < o → getD (now (d .exit)) i 0 ≡ getD (now (d .entry)) i 0) ⌝ }
+    ensures { λ _. ⌜ ((i : ℕ) → (i < o) ⊎ (o + 8 ≤ i) → getD (now (d .exit)) i 0 ≡ getD (now (d .entry)) i 0) ⌝ }
 {
     let mut q: usize = 0;
     let mut h = o;
@@ -107,12 +195,13 @@ fn repeat4(d: &mut [u16], o: usize, x: u16, y: u16)
     }
 }
 
-// The row of A at `a` in pairs, each pair four times; a last element without a second stands with 0.
+// The row of A at `a` in pairs, each pair four times; after its last element stand zeros.
 fn repeat_row(d: &mut [u16], s: &[u8], a: usize, width: usize, k: usize)
     requires { ⌜ Narrow width ⌝ }
     requires { ⌜ (k ≤ 16) × (length (now d) ≡ 64) ⌝ }
+    requires { ⌜ ((i : ℕ) → getD (now d) i 0 ≡ 0) ⌝ }
     requires { ⌜ a + k * width ≤ length (now s) ⌝ }
-    ensures { λ _. ⌜ ((p q : ℕ) → 2 * p < k → q < 4 → (getD (now (d .exit)) (8 * p + 2 * q) 0 ≡ padded (now (s .entry)) a width k (2 * p)) × (getD (now (d .exit)) (8 * p + 2 * q + 1) 0 ≡ padded (now (s .entry)) a width k (2 * p + 1))) ⌝ }
+    ensures { λ _. ⌜ ((p q : ℕ) → q < 4 → (getD (now (d .exit)) (8 * p + 2 * q) 0 ≡ padded (now (s .entry)) a width k (2 * p)) × (getD (now (d .exit)) (8 * p + 2 * q + 1) 0 ≡ padded (now (s .entry)) a width k (2 * p + 1))) ⌝ }
 {
     let mut l = 0;
     let mut h = 0;
@@ -166,7 +255,7 @@ fn interleave_rows(
 )
     requires { ⌜ Narrow width ⌝ }
     requires { ⌜ n ≤ 64 ⌝ }
-    requires { ⌜ k * 64 + 64 ≤ length (now d) ⌝ }
+    requires { ⌜ (k + 1) / 2 * 128 ≤ length (now d) ⌝ }
     requires { ⌜ n * width ≤ pitch ⌝ }
     requires { ⌜ b + k * pitch ≤ length (now s) ⌝ }
     ensures { λ _. ⌜ ((l j : ℕ) → l < k → j < n → getD (now (d .exit)) (placeOf l j) 0 ≡ half (now (s .entry)) (b + l * pitch + j * width) width) ⌝ }
@@ -198,7 +287,7 @@ fn interleave_tile(
 )
     requires { ⌜ Narrow width ⌝ }
     requires { ⌜ n ≤ 64 ⌝ }
-    requires { ⌜ k * 64 + 64 ≤ length (now d) ⌝ }
+    requires { ⌜ (k + 1) / 2 * 128 ≤ length (now d) ⌝ }
     requires { ⌜ n * width ≤ pitch ⌝ }
     requires { ⌜ b + k * pitch ≤ length (now s) ⌝ }
     ensures { λ _. ⌜ ((l j : ℕ) → l < k → j < n → getD (now (d .exit)) (placeOf l j) 0 ≡ half (now (s .entry)) (b + l * pitch + j * width) width) ⌝ }
@@ -224,20 +313,50 @@ fn multiply_row(
 )
     requires { ⌜ (n ≤ 64) × (k ≤ 16) ⌝ }
     requires { ⌜ Narrow width ⌝ }
-    requires { ⌜ length (now bs) ≡ 1160 ⌝ }
+    requires { ⌜ (k + 3) / 4 * 256 ≤ length (now bs) ⌝ }
     requires { ⌜ (a + k * width ≤ length (now s)) × (c + n * 4 ≤ length (now s)) ⌝ }
     requires { ⌜ ((l j : ℕ) → l < k → j < n → getD (now bs) (placeOf l j) 0 ≡ half (now s) (b + l * pitch + j * width) width) ⌝ }
     ensures { λ _. ⌜ now (s .exit) ≡ putRow c n 4 (productRow (now (s .entry)) 4 width pitch k a b c) (now (s .entry)) ⌝ }
 {
     let mut xs = [0u16; 64];
-    let mut acc = [0u32; 68];
     repeat_row(&mut xs, s, a, width, k);
-    crate::sums32::mac_row(&mut acc, s, c, 4, n, 1);
-    add_pairs(&mut acc, bs, &xs, (k + 1) / 2, n);
-    crate::sums32::store_row(s, &acc, c, n);
+    add_row(s, c, bs, &xs, (k + 3) / 4 * 2, n);
 }
 
-// All rows of C, one after another.
+// All rows of C, one after another; bs has room for the rows of B in pairs.
+fn multiply_with(
+    s: &mut [u8],
+    bs: &mut [u16],
+    a: usize,
+    b: usize,
+    c: usize,
+    pitch: usize,
+    width: usize,
+    m: usize,
+    k: usize,
+    n: usize,
+)
+    requires { ⌜ (n ≤ 64) × ((k ≤ 16) × (pitch ≤ 64)) ⌝ }
+    requires { ⌜ Narrow width ⌝ }
+    requires { ⌜ (n * width ≤ pitch) × ((k * width ≤ pitch) × (n * 4 ≤ 4 * pitch)) ⌝ }
+    requires { ⌜ (a + m * pitch ≤ c) × ((b + k * pitch ≤ c) × (c + m * (4 * pitch) ≤ length (now s))) ⌝ }
+    requires { ⌜ (k + 3) / 4 * 256 ≤ length (now bs) ⌝ }
+    ensures { λ _. ⌜ now (s .exit) ≡ putTile (λ i. c + i * (4 * pitch)) m n 4 (λ i. productRow (now (s .entry)) 4 width pitch k (a + i * pitch) b (c + i * (4 * pitch))) (now (s .entry)) ⌝ }
+{
+    interleave_tile(bs, s, b, pitch, width, k, n);
+    let step = 4 * pitch;
+    let mut i = 0;
+    let mut from = a;
+    let mut to = c;
+    while i < m {
+        multiply_row(s, bs, from, b, to, pitch, width, k, n);
+        from += pitch;
+        to += step;
+        i += 1;
+    }
+}
+
+// The same, with no more room than k asks for: it is cleared each time.
 pub fn multiply_rows(
     s: &mut [u8],
     a: usize,
@@ -255,16 +374,16 @@ pub fn multiply_rows(
     requires { ⌜ (a + m * pitch ≤ c) × ((b + k * pitch ≤ c) × (c + m * (4 * pitch) ≤ length (now s))) ⌝ }
     ensures { λ _. ⌜ now (s .exit) ≡ putTile (λ i. c + i * (4 * pitch)) m n 4 (λ i. productRow (now (s .entry)) 4 width pitch k (a + i * pitch) b (c + i * (4 * pitch))) (now (s .entry)) ⌝ }
 {
-    let mut bs = [0u16; 1160];
-    interleave_tile(&mut bs, s, b, pitch, width, k, n);
-    let step = 4 * pitch;
-    let mut i = 0;
-    let mut from = a;
-    let mut to = c;
-    while i < m {
-        multiply_row(s, &bs, from, b, to, pitch, width, k, n);
-        from += pitch;
-        to += step;
-        i += 1;
+    if k <= 4 {
+        let mut bs = [0u16; 256];
+        multiply_with(s, &mut bs, a, b, c, pitch, width, m, k, n);
+        return;
     }
+    if k <= 8 {
+        let mut bs = [0u16; 512];
+        multiply_with(s, &mut bs, a, b, c, pitch, width, m, k, n);
+        return;
+    }
+    let mut bs = [0u16; 1024];
+    multiply_with(s, &mut bs, a, b, c, pitch, width, m, k, n);
 }

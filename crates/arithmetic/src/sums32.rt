@@ -9,7 +9,7 @@ ghost use Rattle.element.specs.Element.{Width};
 ghost use Rattle.arithmetic.specs.Rows.{plusProduct, productRow, weightedRow};
 
 // acc[j] plus x times the signed element j of the row at `at`.
-pub fn mac_row(acc: &mut [u32], s: &[u8], at: usize, width: usize, n: usize, x: u32)
+fn mac_row(acc: &mut [u32], s: &[u8], at: usize, width: usize, n: usize, x: u32)
     requires { ⌜ n ≤ length (now acc) ⌝ }
     requires { ⌜ Width width ⌝ }
     requires { ⌜ at + n * width ≤ length (now s) ⌝ }
@@ -74,7 +74,7 @@ fn add_products(
 }
 
 // Stores the first n accumulators from `to` on.
-pub fn store_row(s: &mut [u8], acc: &[u32], to: usize, n: usize)
+fn store_row(s: &mut [u8], acc: &[u32], to: usize, n: usize)
     requires { ⌜ n ≤ length (now acc) ⌝ }
     requires { ⌜ to + n * 4 ≤ length (now s) ⌝ }
     ensures { λ _. ⌜ now (s .exit) ≡ putRow to n 4 (λ j. getD (now (acc .entry)) j 0) (now (s .entry)) ⌝ }

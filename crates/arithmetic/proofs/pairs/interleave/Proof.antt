@@ -85,7 +85,7 @@ loop-again c =
       simp length-set (omega arith),
       pair-more (at (a .p)) (at (a .q)) (l .d) (a .to) (l .j) (l .o) (x .result) (y .result) (l .inv .1) (omega (arith, k .pre .1 .0)) (l .inv .5)
           (x .ensures ∙ ap (λ (p : ℕ). half (a .s .now) p (a .width)) (l .inv .2)) (y .ensures ∙ ap (λ (p : ℕ). half (a .s .now) p (a .width)) (l .inv .3)),
-      pair-keep (λ i. getD (a .d .now) i 0) (l .d) (a .to) (l .o) (x .result) (y .result) (omega arith) (l .inv .6),
+      λ i h. pair-keep (l .d) (l .o) (x .result) (y .result) i (getD (a .d .now) i 0) (λ e. omega arith) (λ e. omega arith) (l .inv .6 i h),
     )
 
 same-length : tie.Need-same-length Inv-loop μ-loop

@@ -1,11 +1,13 @@
--- The row of C, then the products in pairs, then the row stored.
+-- The row of A in pairs, then the row of C plus all pairs.
 use native.Mathlib.Omega.{arith}
-use mathlib.Core.Path.{refl, _∙_}
-use mathlib.Core.Logic.{inr}
-use Prim.Native.Nat.{ℕ, _<_}
+use mathlib.Core.Path.{_≡_, refl, _∙_}
+use Prim.Native.Nat.{ℕ, _+_, _*_, _-_, _/_, _<_}
 use lib.ListN.{getD}
-use Rattle.arithmetic.proofs.RowLaws.{row-of-products}
-use Rattle.arithmetic.proofs.PairLaws.{pairs-product}
+use Rattle.width.specs.Tile.{le}
+use Rattle.width.proofs.ElementLaws.{putRow-cong}
+use Rattle.arithmetic.specs.Rows.{productRow}
+use Rattle.arithmetic.specs.Pairs.{pairsRow}
+use Rattle.arithmetic.proofs.PairLaws.{zeros, pairs-product}
 use borrow.Author.Needs.{needs}
 use Rattle.arithmetic.proofs.pairs.multiply_row.Statement.{statement}
 use Rattle.arithmetic.proofs.pairs.multiply_row.Tie as tie
@@ -14,49 +16,37 @@ slice-aggregate-repeat-row : tie.Need-slice-aggregate-repeat-row
 slice-aggregate-repeat-row c = search needs
 
 repeat-row-requires : tie.Need-repeat-row-requires
-repeat-row-requires c κs = search needs
+repeat-row-requires c κs =
+    let p = c .before .before .before .before .pre in (p .1 .0, ((p .0 .1, refl), (zeros 64, p .1 .1 .1 .0 .0)))
 
-slice-aggregate-mac-row : tie.Need-slice-aggregate-mac-row
-slice-aggregate-mac-row c = search needs
+slice-aggregate-add-row : tie.Need-slice-aggregate-add-row
+slice-aggregate-add-row c = search needs
 
-mac-row-requires : tie.Need-mac-row-requires
-mac-row-requires c κs = let k = c .before .before .before .before .before .before .before .before in (omega (arith, k .pre .0), (inr (inr refl), k .pre .1 .1 .1 .0 .1))
+add-add-row : tie.Need-add-add-row
+add-add-row c = search needs
 
-slice-aggregate-add-pairs : tie.Need-slice-aggregate-add-pairs
-slice-aggregate-add-pairs c = search needs
+mul-add-row : tie.Need-mul-add-row
+mul-add-row c = search needs
 
-slice-aggregate-add-pairs-2 : tie.Need-slice-aggregate-add-pairs-2
-slice-aggregate-add-pairs-2 c = search needs
-
-add-add-pairs : tie.Need-add-add-pairs
-add-add-pairs c = search needs
-
-add-pairs-requires : tie.Need-add-pairs-requires
-add-pairs-requires c κs = search needs
-
-slice-aggregate-store-row : tie.Need-slice-aggregate-store-row
-slice-aggregate-store-row c = search needs
-
-store-row-requires : tie.Need-store-row-requires
-store-row-requires c κs = search needs
+add-row-requires : tie.Need-add-row-requires
+add-row-requires c κs = search needs
 
 same-length : tie.Need-same-length
 same-length c = search needs
 
 returns : tie.Need-returns
 returns c =
-    let k = c .before .before .before .before .before .before .before .before .before .before .before .before .before .before .before .before .before .before .before in
+    let k = c .before .before .before .before .before .before .before .before .before .before .before in
     let a = k .args in
-    let r = a .s .now in
-    let x = c .before .before .before .before .before .before .before .before .before .before .before .before .before .before .repeat-row in
-    let f = c .before .before .before .before .before .before .before .before .before .before .mac-row in
-    let g = c .before .before .before .before .before .before .add-pairs in
-    let bytes : (q : ℕ) → getD r q 0 < 256 = λ q. omega (arith, c .before .before .before .before .before .before .before .before .before .before .before .before .before .before .before .before .before .before .slice-known .given q) in
-    row-of-products 4 r (a .width) (a .pitch) (a .k) (a .a) (a .b) (a .c) (a .n) 68 (f .last .0) (g .last .0) (c .before .before .store-row .last .0) (omega arith) bytes
-    (λ j h. omega (arith, k .pre .0)) (f .ensures)
-    (λ j h. g .ensures j h
-    ∙ pairs-product r bytes (a .width) (k .pre .1 .0) (a .a) (a .b) (a .pitch) (a .k) (a .n) (x .last .0) (a .bs .now) (x .ensures) (k .pre .1 .1 .1 .1) (getD (f .last .0) j 0) j h)
-    (c .before .before .store-row .ensures)
+    let s = a .s .now in
+    let x = c .before .before .before .before .before .before .repeat-row in
+    let bytes : (q : ℕ) → getD s q 0 < 256 = λ q. omega (arith, c .before .before .before .before .before .before .before .before .before .before .slice-known .given q) in
+    let pairs : ℕ = (a .k + 3) / 4 * 2 in
+    let e : pairs ≡ (a .k + 1) / 2 + (pairs - (a .k + 1) / 2) = omega arith in
+    c .before .before .add-row .ensures
+    ∙ putRow-cong 4 (a .c) (a .n) (pairsRow s (a .c) (x .last .0) (a .bs .now) 0 pairs) (productRow s 4 (a .width) (a .pitch) (a .k) (a .a) (a .b) (a .c)) s
+    (λ j h. pairs-product s bytes (a .width) (k .pre .1 .0) (a .a) (a .b) (a .pitch) (a .k) (a .n) (x .last .0) (a .bs .now) (x .ensures) (k .pre .1 .1 .1 .1)
+    (le s (a .c + j * 4) 4) j pairs (pairs - (a .k + 1) / 2) h e)
 
 pub multiply-row-spec : {M : Type 1} → statement M
 multiply-row-spec =
@@ -64,13 +54,9 @@ multiply-row-spec =
     (tie.spec
     slice-aggregate-repeat-row
     repeat-row-requires
-    slice-aggregate-mac-row
-    mac-row-requires
-    slice-aggregate-add-pairs
-    slice-aggregate-add-pairs-2
-    add-add-pairs
-    add-pairs-requires
-    slice-aggregate-store-row
-    store-row-requires
+    slice-aggregate-add-row
+    add-add-row
+    mul-add-row
+    add-row-requires
     same-length
     returns)

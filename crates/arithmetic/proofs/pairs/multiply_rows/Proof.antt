@@ -1,135 +1,58 @@
--- The loop: the first `i` rows of C are those of the product, and every element is read as at entry.
+-- The room for the rows of B fits k, by cases.
 use native.Mathlib.Omega.{arith}
-use mathlib.Core.Path.{_≡_, refl, sym, ap, _∙_}
-use Prim.Native.Nat.{ℕ, _+_, _-_, _*_, _≤_}
-use native.Mathlib.Nat.{zero-mul}
-use lib.ListN.{length}
-use Rattle.width.specs.Tile.{putTile}
-use Rattle.width.specs.Reduce.{reduce}
-use Rattle.arithmetic.specs.Rows.{productRow}
-use Rattle.arithmetic.proofs.LoopLaws.{row-fits, next-row}
-use Rattle.arithmetic.proofs.TurnLaws.{same-b, product-turn}
 use borrow.Author.Needs.{needs}
 use Rattle.arithmetic.proofs.pairs.multiply_rows.Statement.{statement}
 use Rattle.arithmetic.proofs.pairs.multiply_rows.Tie as tie
 
-abbrev Inv-loop : tie.InvT-loop
-Inv-loop s₀ a b c pitch width m k n bs step i₀ from₀ to₀ s i from to =
-    (i ≤ m) × (from ≡ a + i * pitch) × (to ≡ c + i * (4 * pitch)) × (step ≡ 4 * pitch) × (length s ≡ length s₀)
-    × (s ≡ putTile (λ i. c + i * (4 * pitch)) i n 4 (λ i. productRow s₀ 4 width pitch k (a + i * pitch) b (c + i * (4 * pitch))) s₀)
+slice-aggregate-multiply-with : tie.Need-slice-aggregate-multiply-with
+slice-aggregate-multiply-with c = search needs
 
-abbrev μ-loop : tie.MeasureT-loop
-μ-loop s₀ a b c pitch width m k n bs step i₀ from₀ to₀ s i from to = m - i
+multiply-with-requires : tie.Need-multiply-with-requires
+multiply-with-requires c κs = let p = c .before .before .before .before .pre in (p .0, (p .1 .0, (p .1 .1 .0, (p .1 .1 .1, omega (arith, p)))))
 
-slice-aggregate-interleave-tile : tie.Need-slice-aggregate-interleave-tile Inv-loop μ-loop
-slice-aggregate-interleave-tile c = search needs
-
-interleave-tile-requires : tie.Need-interleave-tile-requires Inv-loop μ-loop
-interleave-tile-requires c κs = let p = c .before .before .before .pre in (p .1 .0, (p .0 .0, (omega (arith, p), (p .1 .1 .0 .0, omega (arith, p)))))
-
-mul-step : tie.Need-mul-step Inv-loop μ-loop
-mul-step c = search needs
-
-loop-holds : tie.Need-loop-holds Inv-loop μ-loop
-unfolding putTile
-loop-holds c =
-    let a = c .before .before .before .before .before .args in (omega arith, omega (arith, zero-mul (a .pitch)), omega (arith, zero-mul (4 * a .pitch)), refl, refl, refl)
-
--- in a turn, the rows of A and C lie in the slice
-fits : (c : tie.In-loop Inv-loop μ-loop) →
-    let a = c .before .before .before .before .before .before .before .args in
-    let l = c .before .loop in
-    (l .from + a .pitch ≤ length (a .s .now)) × (l .to + 4 * a .pitch ≤ length (a .s .now))
-fits c =
-    let k = c .before .before .before .before .before .before .before in
-    let l = c .before .loop in
-    let p = row-fits (l .i) (k .args .m) (k .args .pitch) (c .loop-test .taken) in
-    let q = row-fits (l .i) (k .args .m) (4 * k .args .pitch) (c .loop-test .taken) in
-    (omega (arith, k .pre), omega (arith, k .pre))
-
-slice-aggregate-multiply-row : tie.Need-slice-aggregate-multiply-row Inv-loop μ-loop
-slice-aggregate-multiply-row c = search needs
-
-multiply-row-requires : tie.Need-multiply-row-requires Inv-loop μ-loop
-multiply-row-requires c κs =
-    let d = c .before .before in
-    let l = c .before .before .before .loop in
-    let k = c .before .before .before .before .before .before .before .before .before in
-    let a = k .args in
-    let p = k .pre in
-    let f = fits d in
-    let q = p .1 .1 in (
-      (p .0 .0, p .0 .1 .0),
-      (
-        p .1 .0,
-        (
-          omega (arith, c .before .before .before .before .before .interleave-tile .kept),
-          (
-            (omega (arith, p), omega (arith, p)),
-            λ r j lr lj. c .before .before .before .before .before .interleave-tile .ensures r j lr lj
-                ∙ ap (reduce 65536) (sym (same-b 4 (a .width) (a .pitch) (4 * a .pitch) (a .k) (a .n) (a .a) (a .b) (a .c) (a .m) (a .s .now)
-                (q .0 .0) (q .0 .1 .0) (q .0 .1 .1) (q .1 .0) (q .1 .1 .0) (l .i) (l .s) (d .loop-test .taken) (l .inv .5) r j lr lj)),
-          ),
-        ),
-      ),
-    )
-
-add-from : tie.Need-add-from Inv-loop μ-loop
-add-from c = let f = fits (c .before .before .before .before .before) in omega arith
-
-add-to : tie.Need-add-to Inv-loop μ-loop
-add-to c = let f = fits (c .before .before .before .before .before) in omega arith
-
-add-i : tie.Need-add-i Inv-loop μ-loop
-add-i c = search needs
-
-loop-less : tie.Need-loop-less Inv-loop μ-loop
-loop-less c = search needs
-
-loop-again : tie.Need-loop-again Inv-loop μ-loop
-loop-again c =
-    let d = c .before .before .before .before .before in
-    let l = d .before .loop in
-    let a = d .before .before .before .before .before .before .before .args in
-    let q = d .before .before .before .before .before .before .before .pre .1 .1 in
-    let w = c .before .before .multiply-row in (
-      omega (arith, d .loop-test),
-      omega (arith, next-row (l .i) (a .pitch)),
-      omega (arith, next-row (l .i) (4 * a .pitch)),
-      l .inv .3,
-      w .kept .0 ∙ l .inv .4,
-      product-turn 4 (a .width) (a .pitch) (4 * a .pitch) (a .k) (a .n) (a .a) (a .b) (a .c) (a .m) (a .s .now)
-          (q .0 .0) (q .0 .1 .0) (q .0 .1 .1) (q .1 .0) (q .1 .1 .0)
-          (l .i) (l .s) (d .loop-test .taken) (l .inv .5) (l .from) (l .to) (w .last .0) (l .inv .1) (l .inv .2) (w .ensures),
-    )
-
-same-length : tie.Need-same-length Inv-loop μ-loop
+same-length : tie.Need-same-length
 same-length c = search needs
 
-returns : tie.Need-returns Inv-loop μ-loop
-returns c =
-    let l = c .before .loop in
-    let a = c .before .before .before .before .before .before .before .args in
-    let e : l .i ≡ a .m = omega arith in
-    l .inv .5
-    ∙ ap (λ (t : ℕ). putTile (λ i. a .c + i * (4 * a .pitch)) t (a .n) 4 (λ i. productRow (a .s .now) 4 (a .width) (a .pitch) (a .k) (a .a + i * a .pitch) (a .b) (a .c + i * (4 * a .pitch))) (a .s .now)) e
+returns : tie.Need-returns
+returns c = c .before .before .before .multiply-with .ensures
+
+slice-aggregate-multiply-with-2 : tie.Need-slice-aggregate-multiply-with-2
+slice-aggregate-multiply-with-2 c = search needs
+
+multiply-with-requires-2 : tie.Need-multiply-with-requires-2
+multiply-with-requires-2 c κs = let p = c .before .before .before .before .before .pre in (p .0, (p .1 .0, (p .1 .1 .0, (p .1 .1 .1, omega (arith, p)))))
+
+same-length-2 : tie.Need-same-length-2
+same-length-2 c = search needs
+
+returns-2 : tie.Need-returns-2
+returns-2 c = c .before .before .before .multiply-with2 .ensures
+
+slice-aggregate-multiply-with-3 : tie.Need-slice-aggregate-multiply-with-3
+slice-aggregate-multiply-with-3 c = search needs
+
+multiply-with-requires-3 : tie.Need-multiply-with-requires-3
+multiply-with-requires-3 c κs = let p = c .before .before .before .before .before .pre in (p .0, (p .1 .0, (p .1 .1 .0, (p .1 .1 .1, omega (arith, p)))))
+
+same-length-3 : tie.Need-same-length-3
+same-length-3 c = search needs
+
+returns-3 : tie.Need-returns-3
+returns-3 c = c .before .before .before .multiply-with3 .ensures
 
 pub multiply-rows-spec : {M : Type 1} → statement M
 multiply-rows-spec =
     tie.close
     (tie.spec
-    Inv-loop
-    μ-loop
-    slice-aggregate-interleave-tile
-    interleave-tile-requires
-    mul-step
-    loop-holds
-    slice-aggregate-multiply-row
-    multiply-row-requires
-    add-from
-    add-to
-    add-i
-    loop-less
-    loop-again
+    slice-aggregate-multiply-with
+    multiply-with-requires
     same-length
-    returns)
+    returns
+    slice-aggregate-multiply-with-2
+    multiply-with-requires-2
+    same-length-2
+    returns-2
+    slice-aggregate-multiply-with-3
+    multiply-with-requires-3
+    same-length-3
+    returns-3)

@@ -1,6 +1,7 @@
 -- The loop: `q` times so far.
 use native.Mathlib.Omega.{arith}
 use mathlib.Core.Path.{_≡_, refl}
+use mathlib.Core.Logic.{_⊎_, ⊎-elim}
 use Prim.Native.Nat.{ℕ, _+_, _-_, _*_, _≤_, _<_}
 use lib.ListN.{length, getD, length-set}
 use Rattle.arithmetic.proofs.PairLaws.{pair-more, pair-keep}
@@ -12,7 +13,7 @@ abbrev Inv-loop : tie.InvT-loop
 Inv-loop d₀ o x y q₀ h₀ d q h =
     (q ≤ 4) × (h ≡ o + 2 * q) × (length d ≡ length d₀)
     × ((r : ℕ) → r < q → (getD d (o + 2 * r) 0 ≡ x) × (getD d (o + 2 * r + 1) 0 ≡ y))
-    × ((i : ℕ) → i < o → getD d i 0 ≡ getD d₀ i 0)
+    × ((i : ℕ) → (i < o) ⊎ (o + 8 ≤ i) → getD d i 0 ≡ getD d₀ i 0)
 
 abbrev μ-loop : tie.MeasureT-loop
 μ-loop d₀ o x y q₀ h₀ d q h = 4 - q
@@ -54,7 +55,8 @@ loop-again c =
       omega arith,
       simp length-set (omega arith),
       pair-more (λ r. a .x) (λ r. a .y) (l .d) (a .o) (l .q) (l .h) (a .x) (a .y) (l .inv .1) (omega (arith, k .pre)) (l .inv .3) refl refl,
-      pair-keep (λ i. getD (a .d .now) i 0) (l .d) (a .o) (l .h) (a .x) (a .y) (omega arith) (l .inv .4),
+      λ i h. pair-keep (l .d) (l .h) (a .x) (a .y) i (getD (a .d .now) i 0)
+          (λ e. ⊎-elim (λ g. omega arith) (λ g. omega arith) h) (λ e. ⊎-elim (λ g. omega arith) (λ g. omega arith) h) (l .inv .4 i h),
     )
 
 same-length : tie.Need-same-length Inv-loop μ-loop

@@ -1,13 +1,14 @@
 -- The loop: the first `l` elements, an even number.
 use native.Mathlib.Omega.{arith}
 use mathlib.Core.Path.{_≡_, refl, ap, _∙_}
+use mathlib.Core.Logic.{inl, inr}
 use Prim.Native.Nat.{ℕ, _+_, _-_, _*_, _%_, _≤_, _<_}
 use native.Mathlib.Nat.{zero-mul}
 use lib.ListN.{length, getD}
 use borrow.Author.Tests.{lt-ltb, le-ltb}
 use Rattle.arithmetic.specs.Pairs.{half, padded}
 use Rattle.arithmetic.proofs.LoopLaws.{row-fits, next-row}
-use Rattle.arithmetic.proofs.PairLaws.{repeat-more}
+use Rattle.arithmetic.proofs.PairLaws.{repeat-more, repeat-all}
 use borrow.Author.Needs.{needs}
 use Rattle.arithmetic.proofs.pairs.repeat_row.Statement.{statement}
 use Rattle.arithmetic.proofs.pairs.repeat_row.Tie as tie
@@ -16,12 +17,13 @@ abbrev Inv-loop : tie.InvT-loop
 Inv-loop d₀ s a width k l₀ h₀ at₀ d l h at =
     (l ≤ k) × (h ≡ 4 * l) × (at ≡ a + l * width) × (length d ≡ length d₀) × (l % 2 ≡ 0)
     × ((p q : ℕ) → 2 * p < l → q < 4 → (getD d (8 * p + 2 * q) 0 ≡ padded s a width k (2 * p)) × (getD d (8 * p + 2 * q + 1) 0 ≡ padded s a width k (2 * p + 1)))
+    × ((i : ℕ) → h ≤ i → getD d i 0 ≡ 0)
 
 abbrev μ-loop : tie.MeasureT-loop
 μ-loop d₀ s a width k l₀ h₀ at₀ d l h at = k - l
 
 loop-holds : tie.Need-loop-holds Inv-loop μ-loop
-loop-holds c = (omega arith, omega arith, omega (arith, zero-mul (c .before .before .args .width)), refl, refl, λ p q h. absurd (omega arith))
+loop-holds c = (omega arith, omega arith, omega (arith, zero-mul (c .before .before .args .width)), refl, refl, λ p q h. absurd (omega arith), λ i h. c .before .before .pre .1 .1 .0 i)
 
 -- two elements lie in the slice
 fits : (c : tie.In-loop Inv-loop μ-loop) →
@@ -71,8 +73,8 @@ loop-again c =
     let ex : x .result ≡ F (l .l) = x .ensures ∙ ap (λ (p : ℕ). half (a .s .now) p (a .width)) (l .inv .2) ∙ rw (lt-ltb (l .l) (a .k) (omega arith)) in
     let at : l .at + a .width ≡ a .a + (l .l + 1) * a .width = omega (arith, next-row (l .l) (a .width)) in
     let ey : y .result ≡ F (l .l + 1) = y .ensures ∙ ap (λ (p : ℕ). half (a .s .now) p (a .width)) at ∙ rw (lt-ltb (l .l + 1) (a .k) t) in
-    let more = repeat-more F (l .d) (m .last .0) (l .l) (l .h) (l .inv .4) (l .inv .1) (l .inv .5) (m .ensures .1) (λ q h. (m .ensures .0 q h .0 ∙ ex, m .ensures .0 q h .1 ∙ ey)) in
-    (omega arith, omega arith, omega (arith, next-row (l .l) (a .width), next-row (l .l + 1) (a .width)), m .kept .0 ∙ l .inv .3, omega arith, more)
+    let more = repeat-more F (l .d) (m .last .0) (l .l) (l .h) (l .inv .4) (l .inv .1) (l .inv .5) (λ i h. m .ensures .1 i (inl h)) (λ q h. (m .ensures .0 q h .0 ∙ ex, m .ensures .0 q h .1 ∙ ey)) in
+    (omega arith, omega arith, omega (arith, next-row (l .l) (a .width), next-row (l .l + 1) (a .width)), m .kept .0 ∙ l .inv .3, omega arith, more, λ i h. m .ensures .1 i (inr h) ∙ l .inv .6 i (omega arith))
 
 read-signed16-requires-3 : tie.Need-read-signed16-requires-3 Inv-loop μ-loop
 read-signed16-requires-3 c κs =
@@ -96,14 +98,18 @@ returns c =
     let F : ℕ → ℕ = padded (a .s .now) (a .a) (a .width) (a .k) in
     let ex : x .result ≡ F (l .l) = x .ensures ∙ ap (λ (p : ℕ). half (a .s .now) p (a .width)) (l .inv .2) ∙ rw (lt-ltb (l .l) (a .k) (c .before .before .before .before .before .if1 .taken)) in
     let ey : 0 ≡ F (l .l + 1) = rw (le-ltb (l .l + 1) (a .k) (omega arith)) in
-    let more = repeat-more F (l .d) (m .last .0) (l .l) (l .h) (l .inv .4) (l .inv .1) (l .inv .5) (m .ensures .1) (λ q h. (m .ensures .0 q h .0 ∙ ex, m .ensures .0 q h .1 ∙ ey)) in
-    λ p q h g. more p q (omega arith) g
+    let more = repeat-more F (l .d) (m .last .0) (l .l) (l .h) (l .inv .4) (l .inv .1) (l .inv .5) (λ i h. m .ensures .1 i (inl h)) (λ q h. (m .ensures .0 q h .0 ∙ ex, m .ensures .0 q h .1 ∙ ey)) in
+    repeat-all (a .s .now) (a .a) (a .width) (a .k) (m .last .0) (l .l + 2) (omega arith) (omega arith) more
+    (λ i h. m .ensures .1 i (inr (omega arith)) ∙ l .inv .6 i (omega arith))
 
 same-length-2 : tie.Need-same-length-2 Inv-loop μ-loop
 same-length-2 c = search needs
 
 returns-2 : tie.Need-returns-2 Inv-loop μ-loop
-returns-2 c = λ p q h g. c .before .before .loop .inv .5 p q (omega arith) g
+returns-2 c =
+    let l = c .before .before .loop in
+    let a = c .before .before .before .before .before .args in
+    repeat-all (a .s .now) (a .a) (a .width) (a .k) (l .d) (l .l) (omega arith) (l .inv .4) (l .inv .5) (λ i h. l .inv .6 i (omega arith))
 
 pub repeat-row-spec : {M : Type 1} → statement M
 repeat-row-spec =
