@@ -34,7 +34,7 @@ fn pair_at(xs: &[u16], from: usize, b: &[u16], at: usize) -> u32
     pair_of(x, y, v, w)
 }
 
-// Four elements of C that stand side by side.
+// A number of 32 bits for each of four columns side by side.
 struct Block {
     e0: u32,
     e1: u32,
@@ -42,6 +42,7 @@ struct Block {
     e3: u32,
 }
 
+// The four elements of C from `c` on.
 fn read_block(s: &[u8], c: usize) -> Block
     requires { ⌜ c + 16 ≤ length (now s) ⌝ }
     ensures { λ r. ⌜ ((q : ℕ) → q < 4 → lane r q ≡ le (now (s .entry)) (c + q * 4) 4) ⌝ }
@@ -54,6 +55,7 @@ fn read_block(s: &[u8], c: usize) -> Block
     }
 }
 
+// Stores x in the four elements from `c` on.
 fn write_block(s: &mut [u8], c: usize, x: Block)
     requires { ⌜ c + 16 ≤ length (now s) ⌝ }
     ensures { λ _. ⌜ now (s .exit) ≡ putRow c 4 4 (lane x) (now (s .entry)) ⌝ }
@@ -64,7 +66,7 @@ fn write_block(s: &mut [u8], c: usize, x: Block)
     element::write4(s, c + 12, x.e3);
 }
 
-// The elements of x plus those of y.
+// x plus y, column by column.
 fn plus(x: Block, y: Block) -> Block
     ensures { λ r. ⌜ ((q : ℕ) → q < 4 → lane r q ≡ (lane x q + lane y q) % 256 ^ 4) ⌝ }
 {
@@ -90,7 +92,7 @@ fn pairs_at(xs: &[u16], from: usize, b: &[u16], at: usize) -> Block
     }
 }
 
-// Four elements of C from `c` on, each plus all pairs of its column, an even number; the columns stand from `o` on in b.
+// Four elements of C from `c` on, each plus all pairs of its column, an even number; the columns start at `o` in b.
 // A pair is added one turn after it is formed: LLVM then keeps its two products as one instruction.
 fn add_block(s: &mut [u8], c: usize, b: &[u16], o: usize, xs: &[u16], pairs: usize)
     requires { ⌜ c + 16 ≤ length (now s) ⌝ }
@@ -120,7 +122,7 @@ fn add_block(s: &mut [u8], c: usize, b: &[u16], o: usize, xs: &[u16], pairs: usi
     write_block(s, c, plus(plus(sum, t), u));
 }
 
-// The element of C at `c` plus all pairs of its column.
+// The element of C at `c` plus all pairs of its column, which start at `o` in b and at `from` in xs.
 fn add_column(s: &mut [u8], c: usize, b: &[u16], o: usize, xs: &[u16], from: usize, pairs: usize)
     requires { ⌜ c + 4 ≤ length (now s) ⌝ }
     requires { ⌜ (o + 2 ≤ 128) × (pairs * 128 ≤ length (now b)) ⌝ }
