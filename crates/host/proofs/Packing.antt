@@ -10,7 +10,7 @@ use lib.Dec.{leb, ltb, eqb}
 use borrow.Author.Tests.{leb-true}
 use Rattle.machine.specs.declared.Answer.{Answer}
 use Rattle.machine.specs.declared.Wrong.the-variants.{Opcode, LeftOut, Unlisted, Register}
-use Rattle.machine.specs.declared.Answer.the-variants.{Done, IllegalWord, IllegalType, BadWidth, TileTooLarge, Unwritten, OutsideMemory, SealedByte, BadArguments, Overlap, WrongOpcode, NotCarriedOut, WrongRegister}
+use Rattle.machine.specs.declared.Answer.the-variants.{Done, IllegalWord, IllegalType, BadWidth, TileTooLarge, Unwritten, OutsideMemory, SealedByte, BadArguments, Overlap, WrongOpcode, LeftOutWord, WrongRegister}
 use Rattle.machine.specs.declared.Matrix.{Matrix}
 use Rattle.machine.specs.declared.Matrix.the-variants.{MatrixA, MatrixB, MatrixC}
 use Rattle.machine.specs.Tests.{first, allOf}
@@ -55,7 +55,7 @@ number-small SealedByte = omega arith
 number-small BadArguments = omega arith
 number-small Overlap = omega arith
 number-small WrongOpcode = omega arith
-number-small NotCarriedOut = omega arith
+number-small LeftOutWord = omega arith
 number-small WrongRegister = omega arith
 
 whole : (a : Answer) → Small a → (packed a % 2 ^ 16 ≡ number a) × (packed a / 2 ^ 16 % 2 ^ 16 ≡ rowOf a) × (packed a / 2 ^ 32 ≡ columnOf a)

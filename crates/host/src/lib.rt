@@ -100,7 +100,7 @@ fn packed(answer: Answer) -> u64
         Answer::BadArguments => 8,
         Answer::Overlap => 9,
         Answer::WrongOpcode => 10,
-        Answer::NotCarriedOut => 11,
+        Answer::LeftOutWord => 11,
         Answer::WrongRegister => 12,
     }
 }

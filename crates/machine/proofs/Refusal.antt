@@ -2,7 +2,7 @@
 use mathlib.Core.Path.{_≡_, refl}
 use mathlib.Core.Bool.{Bool, true, false, cond}
 use lib.ListN.{length, replicate}
-use Rattle.machine.specs.declared.Answer.the-variants.{Done, IllegalWord, IllegalType, BadWidth, TileTooLarge, Unwritten, OutsideMemory, SealedByte, BadArguments, Overlap, WrongOpcode, NotCarriedOut, WrongRegister}
+use Rattle.machine.specs.declared.Answer.the-variants.{Done, IllegalWord, IllegalType, BadWidth, TileTooLarge, Unwritten, OutsideMemory, SealedByte, BadArguments, Overlap, WrongOpcode, LeftOutWord, WrongRegister}
 use Rattle.machine.specs.Answers.{isDone, verdict}
 use Rattle.machine.specs.Geometry.{parameters}
 use Rattle.machine.specs.Listing.{decode}
@@ -47,5 +47,5 @@ done-is-zero SealedByte = refl
 done-is-zero BadArguments = refl
 done-is-zero Overlap = refl
 done-is-zero WrongOpcode = refl
-done-is-zero NotCarriedOut = refl
+done-is-zero LeftOutWord = refl
 done-is-zero WrongRegister = refl

@@ -3,7 +3,7 @@ use mathlib.Core.Bool.{Bool, true, false, cond}
 use mathlib.Core.List.{List, [], _∷_}
 use Prim.Native.Nat.{ℕ}
 use Rattle.machine.specs.declared.Answer.{Answer}
-use Rattle.machine.specs.declared.Answer.the-variants.{Done, IllegalWord, IllegalType, BadWidth, TileTooLarge, Unwritten, OutsideMemory, SealedByte, BadArguments, Overlap, WrongOpcode, NotCarriedOut, WrongRegister}
+use Rattle.machine.specs.declared.Answer.the-variants.{Done, IllegalWord, IllegalType, BadWidth, TileTooLarge, Unwritten, OutsideMemory, SealedByte, BadArguments, Overlap, WrongOpcode, LeftOutWord, WrongRegister}
 
 -- an answer's number, and the row and column that it names
 pub record Reply : Type 0 where
@@ -24,7 +24,7 @@ reply SealedByte = record { number = 7; row = 0; column = 0 }
 reply BadArguments = record { number = 8; row = 0; column = 0 }
 reply Overlap = record { number = 9; row = 0; column = 0 }
 reply WrongOpcode = record { number = 10; row = 0; column = 0 }
-reply NotCarriedOut = record { number = 11; row = 0; column = 0 }
+reply LeftOutWord = record { number = 11; row = 0; column = 0 }
 reply WrongRegister = record { number = 12; row = 0; column = 0 }
 
 abbrev pub number : Answer → ℕ
@@ -48,7 +48,7 @@ isDone SealedByte = false
 isDone BadArguments = false
 isDone Overlap = false
 isDone WrongOpcode = false
-isDone NotCarriedOut = false
+isDone LeftOutWord = false
 isDone WrongRegister = false
 
 -- a test and the answer where it fails

@@ -6,7 +6,7 @@ use lib.ListN.{length, getD}
 use lib.Dec.{leb, eqb}
 use lib.IntN.{ℤ, pos, negsuc}
 use Rattle.machine.specs.declared.Answer.{Answer}
-use Rattle.machine.specs.declared.Answer.the-variants.{IllegalWord, IllegalType, BadWidth, TileTooLarge, Unwritten, OutsideMemory, SealedByte, WrongOpcode, NotCarriedOut, WrongRegister}
+use Rattle.machine.specs.declared.Answer.the-variants.{IllegalWord, IllegalType, BadWidth, TileTooLarge, Unwritten, OutsideMemory, SealedByte, WrongOpcode, LeftOutWord, WrongRegister}
 use Rattle.machine.specs.declared.Wrong.{Wrong}
 use Rattle.machine.specs.declared.Wrong.the-variants.{Opcode, LeftOut, Unlisted, Register}
 use Rattle.machine.specs.declared.Matrix.{Matrix}
@@ -23,12 +23,9 @@ use Rattle.machine.specs.Operation.{Operation, illegal, setType, setSize
 -- 10, 11, 1, 12: a word that decodes to none of ours
 abbrev pub wordAnswer : Wrong → Answer
 wordAnswer Opcode = WrongOpcode
-wordAnswer LeftOut = NotCarriedOut
+wordAnswer LeftOut = LeftOutWord
 wordAnswer Unlisted = IllegalWord
 wordAnswer Register = WrongRegister
-
-abbrev pub known : Wrong → Check
-known wrong = false otherwise wordAnswer wrong
 
 -- 2: "mill is set and the word isn't msettype or msettypei"
 abbrev pub typed : State → Check
@@ -74,7 +71,7 @@ isZero (negsuc n) = false
 
 -- 6: "an element's byte lies outside memory"; 7: "a store would write a sealed byte"; "sources go ms1, ms2, md"
 abbrev pub checks : Parameters → Operation → State → List ℕ → List Check
-checks M (illegal wrong) st mem = known wrong ∷ []
+checks M (illegal wrong) st mem = (false otherwise wordAnswer wrong) ∷ []
 checks M (setType v) st mem = []
 checks M (setSize d a) st mem = typed st ∷ []
 checks M keepSize st mem = typed st ∷ []

@@ -30,7 +30,7 @@ pub enum Answer {
     BadArguments,
     Overlap,
     WrongOpcode,
-    NotCarriedOut,
+    LeftOutWord,
     WrongRegister,
 }
 

@@ -33,7 +33,7 @@ fn answer(a: Answer) {
         Answer::BadArguments => say(b"8"),
         Answer::Overlap => say(b"9"),
         Answer::WrongOpcode => say(b"10"),
-        Answer::NotCarriedOut => say(b"11"),
+        Answer::LeftOutWord => say(b"11"),
         Answer::WrongRegister => say(b"12"),
     }
 }

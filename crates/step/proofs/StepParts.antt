@@ -12,7 +12,7 @@ use Rattle.width.specs.Reduce.{reduce, signed}
 use Rattle.width.proofs.ReduceLaws.{widened}
 use Rattle.machine.specs.declared.Machine.{Machine}
 use Rattle.machine.specs.declared.Answer.{Answer}
-use Rattle.machine.specs.declared.Answer.the-variants.{Done, IllegalWord, IllegalType, BadArguments, WrongOpcode, NotCarriedOut, WrongRegister}
+use Rattle.machine.specs.declared.Answer.the-variants.{Done, IllegalWord, IllegalType, BadArguments, WrongOpcode, LeftOutWord, WrongRegister}
 use Rattle.machine.specs.declared.Wrong.{Wrong}
 use Rattle.machine.specs.declared.Wrong.the-variants.{Opcode, LeftOut, Unlisted, Register}
 use Rattle.machine.specs.declared.Stepped.{Stepped}
@@ -122,7 +122,7 @@ module _ (m : Machine) (i : Instruction) (xs regs marks mem : List ℕ) (s : sou
 
   pub illegal-outcome : (wrong : Wrong) → meant (ours m) i xs B ≡ Operation.illegal wrong → leaves (wordAnswer wrong) m xs regs marks mem ≡ here
   illegal-outcome Opcode e = outcome-by (ours m) i xs B s t WrongOpcode (ap (λ (o : Operation). verdict (checks (ours m) o (given (ours m) i xs B) mem)) e)
-  illegal-outcome LeftOut e = outcome-by (ours m) i xs B s t NotCarriedOut (ap (λ (o : Operation). verdict (checks (ours m) o (given (ours m) i xs B) mem)) e)
+  illegal-outcome LeftOut e = outcome-by (ours m) i xs B s t LeftOutWord (ap (λ (o : Operation). verdict (checks (ours m) o (given (ours m) i xs B) mem)) e)
   illegal-outcome Unlisted e = outcome-by (ours m) i xs B s t IllegalWord (ap (λ (o : Operation). verdict (checks (ours m) o (given (ours m) i xs B) mem)) e)
   illegal-outcome Register e = outcome-by (ours m) i xs B s t WrongRegister (ap (λ (o : Operation). verdict (checks (ours m) o (given (ours m) i xs B) mem)) e)
 

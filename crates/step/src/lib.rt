@@ -341,7 +341,7 @@ fn word_answer(wrong: Wrong) -> Answer
 {
     match wrong {
         Wrong::Opcode => Answer::WrongOpcode,
-        Wrong::LeftOut => Answer::NotCarriedOut,
+        Wrong::LeftOut => Answer::LeftOutWord,
         Wrong::Unlisted => Answer::IllegalWord,
         Wrong::Register => Answer::WrongRegister,
     }

@@ -209,7 +209,7 @@ pub fn is_done(answer: Answer) -> bool
         Answer::BadArguments => false,
         Answer::Overlap => false,
         Answer::WrongOpcode => false,
-        Answer::NotCarriedOut => false,
+        Answer::LeftOutWord => false,
         Answer::WrongRegister => false,
     }
 }
