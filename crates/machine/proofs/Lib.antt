@@ -8,7 +8,8 @@ pub mod StepLaws
 pub mod MatchLaws
 pub mod StartLaws
 pub mod CodeLaws
--- The theorems of specs/Theorems.antt.
+-- The theorems of specs/Theorems.antt and specs/WordTheorems.antt.
 pub mod Refusal
 pub mod NoFault
 pub mod Sealing
+pub mod WordRefusals

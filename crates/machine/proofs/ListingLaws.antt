@@ -18,11 +18,11 @@ abbrev anyDiffers : Fixed → List Fixed → Bool
 anyDiffers f [] = false
 anyDiffers f (g ∷ gs) = differs f g || anyDiffers f gs
 
-abbrev clash : List Fixed → List Fixed → Bool
+abbrev pub clash : List Fixed → List Fixed → Bool
 clash [] gs = false
 clash (f ∷ fs) gs = anyDiffers f gs || clash fs gs
 
-abbrev clashAll : Code → List Code → Bool
+abbrev pub clashAll : Code → List Code → Bool
 clashAll c [] = true
 clashAll c (d ∷ ds) = clash (c .fixed) (d .fixed) && clashAll c ds
 
@@ -30,7 +30,7 @@ abbrev pub pairwise : List Code → Bool
 pairwise [] = true
 pairwise (c ∷ cs) = clashAll c cs && pairwise cs
 
-abbrev codes : List Row → List Code
+abbrev pub codes : List Row → List Code
 codes [] = others
 codes (r ∷ rs) = r .code ∷ codes rs
 

@@ -14,4 +14,5 @@ pub mod Step
 pub mod Alike
 -- Statements of theorems about these definitions, and computed examples.
 pub mod Theorems
+pub mod WordTheorems
 pub mod Examples

@@ -1,0 +1,76 @@
+-- 02, One: which words get 10, 11, 1 and 12, in its words; and that nothing else moved. The proofs stand in proofs/WordRefusals.antt.
+use mathlib.Core.Path.{_≡_}
+use mathlib.Core.Logic.{_↔_}
+use mathlib.Core.Bool.{true, false, cond}
+use mathlib.Core.List.{List, [], _∷_, List·Memᴰ}
+use Prim.Native.Nat.{ℕ}
+use lib.Dec.{eqb}
+use Rattle.machine.specs.declared.Wrong.the-variants.{Unlisted}
+use Rattle.machine.specs.declared.Instruction.{Instruction}
+use Rattle.machine.specs.declared.Instruction.the-variants.{Illegal}
+use Rattle.machine.specs.Tests.{isIn}
+use Rattle.machine.specs.Answers.{number, rowOf, columnOf}
+use Rattle.machine.specs.Geometry.{parameters, Bench}
+use Rattle.machine.specs.Listing.{bits, Fixed, Code, Row, listing, others, lookUp, inRange}
+use Rattle.machine.specs.Faults.{soundBench, thirtyTwo}
+use Rattle.machine.specs.Step.{Outcome, outcome, stepBy}
+
+-- ---- which words are refused, and with which number
+
+-- nothing gives 8, which comes first
+abbrev pub Faultless : List ℕ → Bench → Type 0
+Faultless xs B = (soundBench B ≡ true) × (thirtyTwo xs ≡ true)
+
+abbrev pub RightOpcode : ℕ → Type 0
+RightOpcode word = bits 6 0 word ≡ 0b1110111
+
+-- "every bit which section 4.5 of source document 000 fixes for an instruction"
+abbrev pub EveryBit : ℕ → Code → Type 0
+EveryBit word c = (f : Fixed) → List·Memᴰ f (c .fixed) → bits (f .high) (f .low) word ≡ f .value
+
+-- .. "for an instruction we don't carry out"
+abbrev pub IsOther : ℕ → Type 0
+IsOther word = (c : Code) × List·Memᴰ c others × EveryBit word c
+
+-- .. "for one of ours"
+abbrev pub IsOurs : ℕ → Type 0
+IsOurs word = (r : Row) × List·Memᴰ r listing × EveryBit word (r .code)
+
+-- "A register field out of range", in a word of ours
+abbrev pub OutOfRange : ℕ → Type 0
+OutOfRange word = (r : Row) × List·Memᴰ r listing × EveryBit word (r .code) × (inRange (r .means word) ≡ false)
+
+-- the number n that a word is answered with is 10, 11, 1 or 12 exactly in these cases
+pub record RefusedAs (n word : ℕ) (xs : List ℕ) (B : Bench) : Type 0 where
+  pub ten : (n ≡ 10) ↔ Faultless xs B × ¬ RightOpcode word
+  pub eleven : (n ≡ 11) ↔ Faultless xs B × RightOpcode word × IsOther word × ¬ IsOurs word
+  pub one : (n ≡ 1) ↔ Faultless xs B × RightOpcode word × ¬ IsOther word × ¬ IsOurs word
+  pub twelve : (n ≡ 12) ↔ Faultless xs B × RightOpcode word × OutOfRange word
+
+abbrev pub WordRefusals : Type 0
+WordRefusals = (grant : ℕ → ℕ → ℕ) (word : ℕ) (xs : List ℕ) (B : Bench) → RefusedAs (number (stepBy grant word xs B .answer)) word xs B
+
+-- ---- nothing else moved
+
+-- decoding and the step as they were before One: any word that isn't ours gets 1
+abbrev pub decodeBefore : ℕ → Instruction
+decodeBefore word =
+    let i : Instruction = lookUp word (Illegal Unlisted) listing in
+    cond (eqb (bits 6 0 word) 0b1110111) (cond (inRange i) i (Illegal Unlisted)) (Illegal Unlisted)
+
+abbrev pub stepBefore : (ℕ → ℕ → ℕ) → ℕ → List ℕ → Bench → Outcome
+stepBefore grant word xs B = outcome (parameters grant (B .machine)) (decodeBefore word) xs B
+
+-- 10, 11 and 12 stand where 1 stood
+abbrev pub numberBefore : ℕ → ℕ
+numberBefore n = cond (isIn n (10 ∷ 11 ∷ 12 ∷ [])) 1 n
+
+pub record OnlyNumberMoved (after before : Outcome) : Type 0 where
+  pub same-number : numberBefore (number (after .answer)) ≡ number (before .answer)
+  pub same-row : rowOf (after .answer) ≡ rowOf (before .answer)
+  pub same-column : columnOf (after .answer) ≡ columnOf (before .answer)
+  pub same-bench : after .bench ≡ before .bench
+  pub same-scalars : after .scalars ≡ before .scalars
+
+abbrev pub NothingElseMoved : Type 0
+NothingElseMoved = (grant : ℕ → ℕ → ℕ) (word : ℕ) (xs : List ℕ) (B : Bench) → OnlyNumberMoved (stepBy grant word xs B) (stepBefore grant word xs B)
