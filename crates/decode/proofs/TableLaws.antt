@@ -1,326 +1,21 @@
--- A number that agrees with the listing at bits 31..25 and 14..12 of a word reads as the listing does.
+-- The table agrees with the listing, and so it decodes every word as the listing does.
 use mathlib.Core.Path.{_≡_, refl, sym, ap, ap₂, _∙_}
 use mathlib.Core.Bool.{Bool, true, false, cond, not, _&&_, _||_}
 use mathlib.Core.List.{List, [], _∷_}
-use Prim.Native.Nat.{ℕ, zero, suc, _+_, _*_, _/_, _%_, _<_, _≤_}
+use Prim.Native.Nat.{ℕ, zero, suc, _+_, _*_, _/_, _%_, _^_, _<_, _≤_}
 use native.Mathlib.Omega.{arith}
 use lib.Dec.{eqb, leb}
-use lib.ListN.{getD, length}
-use lib.ListN.{List·getD-eq-default}
+use lib.ListN.{getD, drop}
 use borrow.Author.Tests.{eqb-true, eqb-false, eq-eqb, ne-eqb, not-true, le-leb, leb-true}
-use Rattle.machine.proofs.TestLaws.{and-left, and-right, or-not, false-true}
-use Rattle.machine.specs.declared.Wrong.{Wrong}
+use types.Run.{OneOf}
+use Rattle.machine.proofs.TestLaws.{and-left, and-right, or-right, or-not, false-true, same-test}
+use Rattle.machine.proofs.MatchLaws.{one-of, none-of}
 use Rattle.machine.specs.declared.Wrong.the-variants.{LeftOut, Unlisted, Opcode}
 use Rattle.machine.specs.declared.Instruction.{Instruction}
 use Rattle.machine.specs.declared.Instruction.the-variants.{Illegal}
 use Rattle.machine.specs.Tests.{isIn}
-use Rattle.machine.proofs.MatchLaws.{one-of, none-of}
-use types.Run.{OneOf}
 use Rattle.machine.specs.Listing.{bits, field20, Fixed, Code, Row, has, listed, lookUp, notOurs, ranged, decode, listing, others}
-use Rattle.decode.specs.Table.{codeHas, restHas, codeFits, restFits, quiet, restIs, noOther, noRow, agreesOther, agrees, wrongOf, meant, read, fixesZero, numbers, noNumbers, rowAgrees, tableAgrees}
-
--- ---- the fields that the listing fixes
-
-record Range : Type 0 where
-  high : ℕ
-  low : ℕ
-
-abbrev range : ℕ → ℕ → Range
-range high low = record { high = high; low = low }
-
-abbrev ranges : List Range
-ranges = range 31 28 ∷ range 31 26 ∷ range 25 25 ∷ range 14 12 ∷ range 24 20 ∷ range 27 20 ∷ []
-
-abbrev known : Fixed → List Range → Bool
-known x [] = false
-known x (r ∷ rs) = (eqb (x .high) (r .high) && eqb (x .low) (r .low)) || known x rs
-
-abbrev allKnown : List Fixed → Bool
-allKnown [] = true
-allKnown (x ∷ xs) = known x ranges && allKnown xs
-
-abbrev codesKnown : List Code → Bool
-codesKnown [] = true
-codesKnown (c ∷ cs) = allKnown (c .fixed) && codesKnown cs
-
-abbrev rowsKnown : List Row → Bool
-rowsKnown [] = true
-rowsKnown (r ∷ rs) = allKnown (r .code .fixed) && rowsKnown rs
-
-others-known : codesKnown others ≡ true
-unfolding others
-others-known = refl
-
-listing-known : rowsKnown listing ≡ true
-unfolding listing
-listing-known = refl
-
-and-true : (a : Bool) → a ≡ a && true
-and-true true = refl
-and-true false = refl
-
-and-swap : (a b c d : Bool) → (a && b) && (c && d) ≡ (a && c) && (b && d)
-and-swap true true c d = refl
-and-swap true false true d = refl
-and-swap true false false d = refl
-and-swap false b c d = refl
-
--- eight bits in two parts
-eqb-parts : (a z v : ℕ) → z < 32 → eqb (a * 32 + z) v ≡ eqb a (v / 32) && eqb z (v % 32)
-eqb-parts a z v l = go (eqb a (v / 32)) refl (eqb z (v % 32)) refl
-  where
-    go : (s : Bool) → eqb a (v / 32) ≡ s → (t : Bool) → eqb z (v % 32) ≡ t → eqb (a * 32 + z) v ≡ s && t
-    go true e true g =
-        let p = eqb-true a (v / 32) e in
-        let q = eqb-true z (v % 32) g in
-        eq-eqb (a * 32 + z) v (omega arith)
-    go true e false g =
-        let q = eqb-false z (v % 32) g in
-        ne-eqb (a * 32 + z) v (λ h. q (omega arith))
-    go false e t g =
-        let p = eqb-false a (v / 32) e in
-        ne-eqb (a * 32 + z) v (λ h. p (omega arith))
-
-module _ (word : ℕ) where
-  abbrev c : ℕ
-  c = bits 31 25 word
-
-  abbrev z : ℕ
-  z = bits 24 20 word
-
-  abbrev f : ℕ
-  f = bits 14 12 word
-
-  abbrev Split : (high low : ℕ) → Type 0
-  Split high low = (v : ℕ) → eqb (bits high low word) v
-      ≡ codeHas c f (record { high = high; low = low; value = v }) && restHas z (record { high = high; low = low; value = v })
-
-  abbrev Told : List Range → Type 0
-  Told [] = Unit {0}
-  Told (r ∷ rs) = Split (r .high) (r .low) × Told rs
-
-  same : (a b v : ℕ) → a ≡ b → eqb a v ≡ eqb b v && true
-  same a b v e = ap (λ (x : ℕ). eqb x v) e ∙ and-true (eqb b v)
-
-  upper : (v : ℕ) → eqb (bits 27 20 word) v ≡ eqb (c % 8 * 32 + z) v
-  upper v =
-      let e : bits 27 20 word ≡ c % 8 * 32 + z = omega arith in
-      ap (λ (x : ℕ). eqb x v) e
-
-  told : Told ranges
-  told = (
-    λ v. same (bits 31 28 word) (c / 8) v (omega arith),
-    (
-      λ v. same (bits 31 26 word) (c / 2) v (omega arith),
-      (
-        λ v. same (bits 25 25 word) (c % 2) v (omega arith),
-        (
-          λ v. same (bits 14 12 word) f v refl,
-          (
-            λ v. refl,
-            (
-              λ v. upper v ∙ eqb-parts (c % 8) z v (omega arith),
-              tt,
-            ),
-          ),
-        ),
-      ),
-    ),
-  )
-
-  field-split : (x : Fixed) (rs : List Range) → Told rs → known x rs ≡ true → eqb (bits (x .high) (x .low) word) (x .value) ≡ codeHas c f x && restHas z x
-  field-split x [] t h = absurd (false-true h)
-  field-split x (r ∷ rs) t h = go (eqb (x .high) (r .high) && eqb (x .low) (r .low)) refl (field-split x rs (t .1))
-    where
-      go : (b : Bool) → eqb (x .high) (r .high) && eqb (x .low) (r .low) ≡ b
-          → (known x rs ≡ true → eqb (bits (x .high) (x .low) word) (x .value) ≡ codeHas c f x && restHas z x)
-          → eqb (bits (x .high) (x .low) word) (x .value) ≡ codeHas c f x && restHas z x
-      go true e ih =
-          let a : x .high ≡ r .high = eqb-true (x .high) (r .high) (and-left (eqb (x .high) (r .high)) (eqb (x .low) (r .low)) e) in
-          let b : x .low ≡ r .low = eqb-true (x .low) (r .low) (and-right (eqb (x .high) (r .high)) (eqb (x .low) (r .low)) e) in
-          ap₂ (λ (high low : ℕ). eqb (bits high low word) (x .value)) a b
-          ∙ t .0 (x .value)
-          ∙ sym (ap₂ (λ (high low : ℕ). codeHas c f (record { high = high; low = low; value = x .value }) && restHas z (record { high = high; low = low; value = x .value })) a b)
-      go false e ih = ih (or-not (eqb (x .high) (r .high) && eqb (x .low) (r .low)) (known x rs) h e)
-
-  has-split : (xs : List Fixed) → allKnown xs ≡ true → has word xs ≡ codeFits c f xs && restFits z xs
-  has-split [] h = refl
-  has-split (x ∷ xs) h =
-      ap₂ _&&_ (field-split x ranges told (and-left (known x ranges) (allKnown xs) h)) (has-split xs (and-right (known x ranges) (allKnown xs) h))
-      ∙ and-swap (codeHas c f x) (restHas z x) (codeFits c f xs) (restFits z xs)
-
-  fits : (xs : List Fixed) → allKnown xs ≡ true → codeFits c f xs ≡ true → has word xs ≡ restFits z xs
-  fits xs k h = has-split xs k ∙ ap (λ (b : Bool). b && restFits z xs) h
-
-  unfit : (xs : List Fixed) → allKnown xs ≡ true → not (codeFits c f xs) ≡ true → has word xs ≡ false
-  unfit xs k h = has-split xs k ∙ ap (λ (b : Bool). b && restFits z xs) (not-true (codeFits c f xs) h)
-
-  -- ---- bits 24..20
-
-  quiet-fits : (xs : List Fixed) → quiet xs ≡ true → restFits z xs ≡ true
-  quiet-fits [] h = refl
-  quiet-fits (x ∷ xs) h =
-      let q = and-right (not (eqb (x .high) 24)) (not (eqb (x .high) 27) && quiet xs) h in
-      let a : eqb (x .high) 24 ≡ false = not-true (eqb (x .high) 24) (and-left (not (eqb (x .high) 24)) (not (eqb (x .high) 27) && quiet xs) h) in
-      let b : eqb (x .high) 27 ≡ false = not-true (eqb (x .high) 27) (and-left (not (eqb (x .high) 27)) (quiet xs) q) in
-      rw (a, b) (quiet-fits xs (and-right (not (eqb (x .high) 27)) (quiet xs) q))
-
-  zero-rest : (v : ℕ) (t : Bool) (xs : List Fixed) → t && (eqb v 0 && quiet xs) ≡ true → eqb z v && restFits z xs ≡ cond t (eqb z 0) true
-  zero-rest v false xs h = absurd (false-true h)
-  zero-rest v true xs h =
-      let e : v ≡ 0 = eqb-true v 0 (and-left (eqb v 0) (quiet xs) h) in
-      ap₂ (λ (x : ℕ) (b : Bool). eqb z x && b) e (quiet-fits xs (and-right (eqb v 0) (quiet xs) h)) ∙ sym (and-true (eqb z 0))
-
-  rest-fits : (t : Bool) (xs : List Fixed) → restIs t xs ≡ true → restFits z xs ≡ cond t (eqb z 0) true
-  rest-fits true [] h = absurd (false-true h)
-  rest-fits false [] h = refl
-  rest-fits t (x ∷ xs) h = go (eqb (x .high) 24) (eqb (x .high) 27) h (rest-fits t xs)
-    where
-      go : (a b : Bool) → cond a (t && (eqb (x .value) 0 && quiet xs)) (cond b (t && (eqb (x .value % 32) 0 && quiet xs)) (restIs t xs)) ≡ true
-          → (restIs t xs ≡ true → restFits z xs ≡ cond t (eqb z 0) true)
-          → cond a (eqb z (x .value)) (cond b (eqb z (x .value % 32)) true) && restFits z xs ≡ cond t (eqb z 0) true
-      go true b h ih = zero-rest (x .value) t xs h
-      go false true h ih = zero-rest (x .value % 32) t xs h
-      go false false h ih = ih h
-
-  -- what bits 24..20 are to be
-  abbrev Right : ℕ → Bool
-  Right n = cond (fixesZero n) (eqb z 0) true
-
-  -- ---- entries that are not ours
-
-  none-listed : (cs : List Code) → codesKnown cs ≡ true → noOther c f cs ≡ true → listed word cs ≡ false
-  none-listed [] k h = refl
-  none-listed (x ∷ xs) k h =
-      ap₂ _||_
-      (unfit (x .fixed) (and-left (allKnown (x .fixed)) (codesKnown xs) k) (and-left (not (codeFits c f (x .fixed))) (noOther c f xs) h))
-      (none-listed xs (and-right (allKnown (x .fixed)) (codesKnown xs) k) (and-right (not (codeFits c f (x .fixed))) (noOther c f xs) h))
-
-  other-reads : (n : ℕ) (cs : List Code) → codesKnown cs ≡ true → agreesOther c f n cs ≡ true
-      → cond (listed word cs) LeftOut Unlisted ≡ cond (Right n) (wrongOf n cs) Unlisted
-  other-reads n [] k h = same-wrong (Right n)
-    where
-      same-wrong : (b : Bool) → Unlisted ≡ cond b Unlisted Unlisted
-      same-wrong true = refl
-      same-wrong false = refl
-  other-reads n (x ∷ xs) k h = go (eqb n (x .number)) h (other-reads n xs k′)
-    where
-      k₀ : allKnown (x .fixed) ≡ true
-      k₀ = and-left (allKnown (x .fixed)) (codesKnown xs) k
-
-      k′ : codesKnown xs ≡ true
-      k′ = and-right (allKnown (x .fixed)) (codesKnown xs) k
-
-      alone : (b : Bool) → cond (b || false) LeftOut Unlisted ≡ cond b LeftOut Unlisted
-      alone true = refl
-      alone false = refl
-
-      go : (t : Bool) → cond t (codeFits c f (x .fixed) && (restIs (fixesZero n) (x .fixed) && noOther c f xs)) (not (codeFits c f (x .fixed)) && agreesOther c f n xs) ≡ true
-          → (agreesOther c f n xs ≡ true → cond (listed word xs) LeftOut Unlisted ≡ cond (Right n) (wrongOf n xs) Unlisted)
-          → cond (has word (x .fixed) || listed word xs) LeftOut Unlisted ≡ cond (Right n) (cond t LeftOut (wrongOf n xs)) Unlisted
-      go true h ih =
-          let m = and-right (codeFits c f (x .fixed)) (restIs (fixesZero n) (x .fixed) && noOther c f xs) h in
-          ap₂ (λ (a b : Bool). cond (a || b) LeftOut Unlisted)
-          (fits (x .fixed) k₀ (and-left (codeFits c f (x .fixed)) (restIs (fixesZero n) (x .fixed) && noOther c f xs) h)
-          ∙ rest-fits (fixesZero n) (x .fixed) (and-left (restIs (fixesZero n) (x .fixed)) (noOther c f xs) m))
-          (none-listed xs k′ (and-right (restIs (fixesZero n) (x .fixed)) (noOther c f xs) m))
-          ∙ alone (Right n)
-      go false h ih =
-          ap (λ (a : Bool). cond (a || listed word xs) LeftOut Unlisted) (unfit (x .fixed) k₀ (and-left (not (codeFits c f (x .fixed))) (agreesOther c f n xs) h))
-          ∙ ih (and-right (not (codeFits c f (x .fixed))) (agreesOther c f n xs) h)
-
-  -- ---- and ours
-
-  none-found : (rs : List Row) → rowsKnown rs ≡ true → noRow c f rs ≡ true → lookUp word (notOurs word) rs ≡ Illegal Unlisted
-  none-found [] k h = ap (λ (b : Bool). Illegal (cond b LeftOut Unlisted)) (none-listed others others-known h)
-  none-found (r ∷ rs) k h =
-      ap₂ (λ (b : Bool) (i : Instruction). cond b (r .means word) i)
-      (unfit (r .code .fixed) (and-left (allKnown (r .code .fixed)) (rowsKnown rs) k) (and-left (not (codeFits c f (r .code .fixed))) (noRow c f rs) h))
-      (none-found rs (and-right (allKnown (r .code .fixed)) (rowsKnown rs) k) (and-right (not (codeFits c f (r .code .fixed))) (noRow c f rs) h))
-
-  inside : (b : Bool) (v w : Wrong) → Illegal (cond b v w) ≡ cond b (Illegal v) (Illegal w)
-  inside true v w = refl
-  inside false v w = refl
-
-  row-reads : (n : ℕ) (rs : List Row) → rowsKnown rs ≡ true → agrees c f n rs ≡ true → lookUp word (notOurs word) rs ≡ read n z word rs
-  row-reads n [] k h = ap Illegal (other-reads n others others-known h) ∙ inside (Right n) (wrongOf n others) Unlisted
-  row-reads n (r ∷ rs) k h = go (eqb n (r .code .number)) h (row-reads n rs k′)
-    where
-      k₀ : allKnown (r .code .fixed) ≡ true
-      k₀ = and-left (allKnown (r .code .fixed)) (rowsKnown rs) k
-
-      k′ : rowsKnown rs ≡ true
-      k′ = and-right (allKnown (r .code .fixed)) (rowsKnown rs) k
-
-      go : (t : Bool)
-          → cond t (codeFits c f (r .code .fixed) && (restIs (fixesZero n) (r .code .fixed) && noRow c f rs)) (not (codeFits c f (r .code .fixed)) && agrees c f n rs) ≡ true
-          → (agrees c f n rs ≡ true → lookUp word (notOurs word) rs ≡ read n z word rs)
-          → cond (has word (r .code .fixed)) (r .means word) (lookUp word (notOurs word) rs)
-          ≡ cond (Right n) (cond t (r .means word) (meant n word rs)) (Illegal Unlisted)
-      go true h ih =
-          let m = and-right (codeFits c f (r .code .fixed)) (restIs (fixesZero n) (r .code .fixed) && noRow c f rs) h in
-          ap₂ (λ (b : Bool) (i : Instruction). cond b (r .means word) i)
-          (fits (r .code .fixed) k₀ (and-left (codeFits c f (r .code .fixed)) (restIs (fixesZero n) (r .code .fixed) && noRow c f rs) h)
-          ∙ rest-fits (fixesZero n) (r .code .fixed) (and-left (restIs (fixesZero n) (r .code .fixed)) (noRow c f rs) m))
-          (none-found rs k′ (and-right (restIs (fixesZero n) (r .code .fixed)) (noRow c f rs) m))
-      go false h ih =
-          ap (λ (b : Bool). cond b (r .means word) (lookUp word (notOurs word) rs))
-          (unfit (r .code .fixed) k₀ (and-left (not (codeFits c f (r .code .fixed))) (agrees c f n rs) h))
-          ∙ ih (and-right (not (codeFits c f (r .code .fixed))) (agrees c f n rs) h)
-
-pub table-reads : (word n : ℕ) → bits 6 0 word ≡ 119 → agrees (bits 31 25 word) (bits 14 12 word) n listing ≡ true
-    → ranged (read n (field20 word) word listing) ≡ decode word
-unfolding decode
-table-reads word n o h = sym (ap (λ (b : Bool). cond b (ranged (lookUp word (notOurs word) listing)) (Illegal Opcode)) (eq-eqb (bits 6 0 word) 119 o) ∙ ap ranged (row-reads word n listing listing-known h))
-
--- the same, by what bits 24..20 are
-pub reads-wrong : (word n : ℕ) → bits 6 0 word ≡ 119 → agrees (bits 31 25 word) (bits 14 12 word) n listing ≡ true
-    → cond (fixesZero n) (eqb (field20 word) 0) true ≡ false → Illegal Unlisted ≡ decode word
-reads-wrong word n o h e = sym (ap (λ (b : Bool). ranged (cond b (meant n word listing) (Illegal Unlisted))) e) ∙ table-reads word n o h
-
-pub reads-right : (word n : ℕ) → bits 6 0 word ≡ 119 → agrees (bits 31 25 word) (bits 14 12 word) n listing ≡ true
-    → cond (fixesZero n) (eqb (field20 word) 0) true ≡ true → ranged (meant n word listing) ≡ decode word
-reads-right word n o h e = sym (ap (λ (b : Bool). ranged (cond b (meant n word listing) (Illegal Unlisted))) e) ∙ table-reads word n o h
-
-pub wrong-opcode : (word : ℕ) → ¬ (bits 6 0 word ≡ 119) → Illegal Opcode ≡ decode word
-unfolding decode
-wrong-opcode word d = sym (ap (λ (b : Bool). cond b (ranged (lookUp word (notOurs word) listing)) (Illegal Opcode)) (ne-eqb (bits 6 0 word) 119 d))
-
--- ---- a number that is none of ours
-
-abbrev pub Absent : ℕ → List Row → Type 0
-Absent n [] = Unit {0}
-Absent n (r ∷ rs) = (n ≡ r .code .number → ⊥) × Absent n rs
-
-other-left : (code form n : ℕ) (cs : List Code) → agreesOther code form n cs ≡ true → (n ≡ 0 → ⊥) → wrongOf n cs ≡ LeftOut
-other-left code form n [] h d = absurd (d (eqb-true n 0 h))
-other-left code form n (x ∷ xs) h d = go (eqb n (x .number)) h (λ h′. other-left code form n xs h′ d)
-  where
-    go : (t : Bool) → cond t (codeFits code form (x .fixed) && (restIs (fixesZero n) (x .fixed) && noOther code form xs)) (not (codeFits code form (x .fixed)) && agreesOther code form n xs) ≡ true
-        → (agreesOther code form n xs ≡ true → wrongOf n xs ≡ LeftOut) → cond t LeftOut (wrongOf n xs) ≡ LeftOut
-    go true h ih = refl
-    go false h ih = ih (and-right (not (codeFits code form (x .fixed))) (agreesOther code form n xs) h)
-
-pub row-left : (code form n word : ℕ) (rs : List Row) → agrees code form n rs ≡ true → Absent n rs → (n ≡ 0 → ⊥) → Illegal LeftOut ≡ meant n word rs
-row-left code form n word [] h a d = sym (ap Illegal (other-left code form n others h d))
-row-left code form n word (r ∷ rs) h a d = go (eqb n (r .code .number)) (ne-eqb n (r .code .number) (a .0)) h (λ h′. row-left code form n word rs h′ (a .1) d)
-  where
-    go : (t : Bool) → t ≡ false
-        → cond t (codeFits code form (r .code .fixed) && (restIs (fixesZero n) (r .code .fixed) && noRow code form rs)) (not (codeFits code form (r .code .fixed)) && agrees code form n rs) ≡ true
-        → (agrees code form n rs ≡ true → Illegal LeftOut ≡ meant n word rs) → Illegal LeftOut ≡ cond t (r .means word) (meant n word rs)
-    go true e h ih = absurd (false-true (sym e))
-    go false e h ih = ih (and-right (not (codeFits code form (r .code .fixed))) (agrees code form n rs) h)
-
--- what a match on the numbers of rows, in their order, says where none is met
-abbrev pub Missed : ℕ → Type 0 → List Row → Type 0
-Missed n N [] = N
-Missed n N (r ∷ rs) = Missed n (N × (n ≡ r .code .number → ⊥)) rs
-
-pub missed : (n : ℕ) (N : Type 0) (rs : List Row) → Missed n N rs → N × Absent n rs
-missed n N [] m = (m, tt)
-missed n N (r ∷ rs) m =
-    let q = missed n (N × (n ≡ r .code .number → ⊥)) rs m in
-    (q .0 .0, (q .0 .1, q .1))
+use Rattle.decode.specs.Table.{numbers, fixesZero, numberAmong, numberIn, sample, agrees, rowAgrees, blockAgrees, tableAgrees, entryOf, restRight, meant, TableDecodes}
 
 -- ---- the whole table
 
@@ -329,62 +24,321 @@ pub table-agrees : tableAgrees 0 numbers ≡ true
 unfolding numbers listing others fixesZero
 table-agrees = refl
 
-row-at : (code form : ℕ) (ns : List ℕ) → rowAgrees code form ns ≡ true → (k m : ℕ) → m ≡ form + k → m < 8 → agrees code m (getD ns k 0) listing ≡ true
+row-at : (code form : ℕ) (ns : List ℕ) → rowAgrees code form ns ≡ true → (k m : ℕ) → m ≡ form + k → m < 8 → agrees code m (getD ns k 0) ≡ true
 row-at code form [] h k m e l =
     let g = eqb-true form 8 h in
     absurd (omega arith)
 row-at code form (n ∷ ns) h zero m e l =
     let g : m ≡ form = omega arith in
-    ap (λ (x : ℕ). agrees code x n listing) g ∙ and-left (agrees code form n listing) (rowAgrees code (suc form) ns) h
-row-at code form (n ∷ ns) h (suc k) m e l = row-at code (suc form) ns (and-right (agrees code form n listing) (rowAgrees code (suc form) ns) h) k m (omega arith) l
+    ap (λ (x : ℕ). agrees code x n) g ∙ and-left (agrees code form n) (rowAgrees code (suc form) ns) h
+row-at code form (n ∷ ns) h (suc k) m e l = row-at code (suc form) ns (and-right (agrees code form n) (rowAgrees code (suc form) ns) h) k m (omega arith) l
 
-table-at : (code : ℕ) (rs : List (List ℕ)) → tableAgrees code rs ≡ true → (k m : ℕ) → m ≡ code + k → m < 128 → rowAgrees m 0 (getD rs k noNumbers) ≡ true
-table-at code [] h k m e l =
-    let g = eqb-true code 128 h in
+block-at : (high middle : ℕ) (rs : List (List ℕ)) → blockAgrees high middle rs ≡ true → (k m : ℕ) → m ≡ middle + k → m < 8 → rowAgrees (high * 8 + m) 0 (getD rs k []) ≡ true
+block-at high middle [] h k m e l =
+    let g = eqb-true middle 8 h in
     absurd (omega arith)
-table-at code (r ∷ rs) h zero m e l =
-    let g : m ≡ code = omega arith in
-    ap (λ (x : ℕ). rowAgrees x 0 r) g ∙ and-left (rowAgrees code 0 r) (tableAgrees (suc code) rs) h
-table-at code (r ∷ rs) h (suc k) m e l = table-at (suc code) rs (and-right (rowAgrees code 0 r) (tableAgrees (suc code) rs) h) k m (omega arith) l
+block-at high middle (r ∷ rs) h zero m e l =
+    let g : m ≡ middle = omega arith in
+    ap (λ (x : ℕ). rowAgrees (high * 8 + x) 0 r) g ∙ and-left (rowAgrees (high * 8 + middle) 0 r) (blockAgrees high (suc middle) rs) h
+block-at high middle (r ∷ rs) h (suc k) m e l = block-at high (suc middle) rs (and-right (rowAgrees (high * 8 + middle) 0 r) (blockAgrees high (suc middle) rs) h) k m (omega arith) l
 
--- and so every word's entry agrees
-pub entry-agrees : (code form : ℕ) → code < 128 → form < 8 → agrees code form (getD (getD numbers code noNumbers) form 0) listing ≡ true
-entry-agrees code form l m = row-at code 0 (getD numbers code noNumbers) (table-at 0 numbers table-agrees code code (omega arith) l) form form (omega arith) m
+table-at : (high : ℕ) (bs : List (List (List ℕ))) → tableAgrees high bs ≡ true → (k m : ℕ) → m ≡ high + k → m < 16 → blockAgrees m 0 (getD bs k []) ≡ true
+table-at high [] h k m e l =
+    let g = eqb-true high 16 h in
+    absurd (omega arith)
+table-at high (b ∷ bs) h zero m e l =
+    let g : m ≡ high = omega arith in
+    ap (λ (x : ℕ). blockAgrees x 0 b) g ∙ and-left (blockAgrees high 0 b) (tableAgrees (suc high) bs) h
+table-at high (b ∷ bs) h (suc k) m e l = table-at (suc high) bs (and-right (blockAgrees high 0 b) (tableAgrees (suc high) bs) h) k m (omega arith) l
 
--- and so the table reads every word as the listing does
-pub table-decodes : (word : ℕ) → bits 6 0 word ≡ 119
-    → ranged (read (getD (getD numbers (bits 31 25 word) noNumbers) (bits 14 12 word) 0) (field20 word) word listing) ≡ decode word
+-- and so the entry of every word
+entry-agrees : (word : ℕ) → agrees (bits 31 25 word) (bits 14 12 word) (entryOf word) ≡ true
+entry-agrees word =
+    let e : bits 31 25 word ≡ bits 31 28 word * 8 + bits 27 25 word = omega arith in
+    ap (λ (code : ℕ). agrees code (bits 14 12 word) (entryOf word)) e
+    ∙ row-at (bits 31 28 word * 8 + bits 27 25 word) 0 (getD (getD numbers (bits 31 28 word) []) (bits 27 25 word) [])
+    (block-at (bits 31 28 word) 0 (getD numbers (bits 31 28 word) [])
+    (table-at 0 numbers table-agrees (bits 31 28 word) (bits 31 28 word) (omega arith) (omega arith))
+    (bits 27 25 word) (bits 27 25 word) (omega arith) (omega arith))
+    (bits 14 12 word) (bits 14 12 word) (omega arith) (omega arith)
+
+-- ---- a word has the number of a sample
+
+-- the fields that entries fix; bits 24..20 and 27..20 at zero
+abbrev at : Fixed → ℕ → ℕ → Bool
+at x high low = eqb (x .high) high && eqb (x .low) low
+
+abbrev known : Fixed → Bool
+known x = at x 14 12 || (at x 31 28 || (at x 31 26 || (at x 25 25 || ((at x 24 20 || at x 27 20) && eqb (x .value) 0))))
+
+abbrev allKnown : List Fixed → Bool
+allKnown [] = true
+allKnown (x ∷ xs) = known x && allKnown xs
+
+abbrev codesKnown : List Code → Bool
+codesKnown [] = true
+codesKnown (c ∷ cs) = allKnown (c .fixed) && codesKnown cs
+
+abbrev rowsKnown : List Row → Bool
+rowsKnown [] = codesKnown others
+rowsKnown (r ∷ rs) = allKnown (r .code .fixed) && rowsKnown rs
+
+listing-known : rowsKnown listing ≡ true
+unfolding listing others
+listing-known = refl
+
+either : {P : Type 0} (a b : Bool) → a || b ≡ true → (a ≡ true → P) → (b ≡ true → P) → P
+either true b h f g = f refl
+either false b h f g = g h
+
+-- the fields of a sample
+module _ (c e f : ℕ) (c<128 : c < 128) (e<32 : e < 32) (f<8 : f < 8) where
+  at-14-12 : bits 14 12 (sample c e f) ≡ f
+  at-14-12 =
+      let q : sample c e f / 2 ^ 12 ≡ c * 8192 + e * 256 + f = omega arith in
+      rw q (omega arith)
+
+  at-20 : sample c e f / 2 ^ 20 ≡ c * 32 + e
+  at-20 = omega arith
+
+  at-25 : sample c e f / 2 ^ 25 ≡ c
+  at-25 = omega arith
+
+  at-26 : sample c e f / 2 ^ 26 ≡ c / 2
+  at-26 = omega arith
+
+  at-28 : sample c e f / 2 ^ 28 ≡ c / 8
+  at-28 = omega arith
+
+module _ (word e : ℕ) (small : e < 32) (same : eqb (field20 word) 0 ≡ eqb e 0) where
+  abbrev like : ℕ
+  like = sample (bits 31 25 word) e (bits 14 12 word)
+
+  abbrev Same : (high low value : ℕ) → Type 0
+  Same high low v = eqb (bits high low word) v ≡ eqb (bits high low like) v
+
+  abbrev Fields : Type 0
+  Fields = (bits 14 12 like ≡ bits 14 12 word) × (bits 31 28 like ≡ bits 31 28 word) × (bits 31 26 like ≡ bits 31 26 word) × (bits 25 25 like ≡ bits 25 25 word)
+      × (bits 24 20 like ≡ e) × (bits 27 20 like ≡ bits 27 25 word * 32 + e)
+
+  fields : Fields
+  fields =
+      let c : ℕ = bits 31 25 word in
+      let f : ℕ = bits 14 12 word in
+      let c<128 : c < 128 = omega arith in
+      let f<8 : f < 8 = omega arith in (
+        at-14-12 c e f c<128 small f<8,
+        rw (at-28 c e f c<128 small f<8) (omega arith),
+        rw (at-26 c e f c<128 small f<8) (omega arith),
+        rw (at-25 c e f c<128 small f<8) (omega arith),
+        rw (at-20 c e f c<128 small f<8) (omega arith),
+        rw (at-20 c e f c<128 small f<8) (omega arith),
+      )
+
+  by-bits : (high low v : ℕ) → bits high low like ≡ bits high low word → Same high low v
+  by-bits high low v q = ap (λ (x : ℕ). eqb x v) (sym q)
+
+  lower : Same 24 20 0
+  lower = same ∙ ap (λ (x : ℕ). eqb x 0) (sym (fields .4))
+
+  upper : Same 27 20 0
+  upper =
+      let a : bits 27 20 word ≡ bits 27 25 word * 32 + field20 word = omega arith in
+      same-test (eqb (bits 27 20 word) 0) (eqb (bits 27 20 like) 0)
+      (λ h.
+      let w : bits 27 20 word ≡ 0 = eqb-true (bits 27 20 word) 0 h in
+      let y : e ≡ 0 = eqb-true e 0 (sym same ∙ eq-eqb (field20 word) 0 (omega arith)) in
+      eq-eqb (bits 27 20 like) 0 (fields .5 ∙ omega arith))
+      (λ h.
+      let l : bits 27 25 word * 32 + e ≡ 0 = sym (fields .5) ∙ eqb-true (bits 27 20 like) 0 h in
+      let z : field20 word ≡ 0 = eqb-true (field20 word) 0 (same ∙ eq-eqb e 0 (omega arith)) in
+      eq-eqb (bits 27 20 word) 0 (a ∙ omega arith))
+
+  placed : (x : Fixed) (high low value : ℕ) → at x high low ≡ true → x .value ≡ value → Same high low value → Same (x .high) (x .low) (x .value)
+  placed x high low value a v s = rw (
+    eqb-true (x .high) high (and-left (eqb (x .high) high) (eqb (x .low) low) a),
+    eqb-true (x .low) low (and-right (eqb (x .high) high) (eqb (x .low) low) a),
+    v,
+  ) s
+
+  field-same : (x : Fixed) → known x ≡ true → Same (x .high) (x .low) (x .value)
+  field-same x k =
+      either (at x 14 12) _ k (λ a. placed x 14 12 (x .value) a refl (by-bits 14 12 (x .value) (fields .0))) (λ k.
+      either (at x 31 28) _ k (λ a. placed x 31 28 (x .value) a refl (by-bits 31 28 (x .value) (fields .1))) (λ k.
+      either (at x 31 26) _ k (λ a. placed x 31 26 (x .value) a refl (by-bits 31 26 (x .value) (fields .2))) (λ k.
+      either (at x 25 25) _ k (λ a. placed x 25 25 (x .value) a refl (by-bits 25 25 (x .value) (fields .3))) (λ k.
+      let v : x .value ≡ 0 = eqb-true (x .value) 0 (and-right (at x 24 20 || at x 27 20) (eqb (x .value) 0) k) in
+      either (at x 24 20) (at x 27 20) (and-left (at x 24 20 || at x 27 20) (eqb (x .value) 0) k)
+      (λ a. placed x 24 20 0 a v lower) (λ a. placed x 27 20 0 a v upper)))))
+
+  has-same : (xs : List Fixed) → allKnown xs ≡ true → has word xs ≡ has like xs
+  has-same [] k = refl
+  has-same (x ∷ xs) k = ap₂ _&&_ (field-same x (and-left (known x) (allKnown xs) k)) (has-same xs (and-right (known x) (allKnown xs) k))
+
+  among-same : (cs : List Code) → codesKnown cs ≡ true → numberAmong word cs ≡ numberAmong like cs
+  among-same [] k = refl
+  among-same (c ∷ cs) k =
+      ap₂ (λ (b : Bool) (n : ℕ). cond b (c .number) n) (has-same (c .fixed) (and-left (allKnown (c .fixed)) (codesKnown cs) k))
+      (among-same cs (and-right (allKnown (c .fixed)) (codesKnown cs) k))
+
+  number-same : (rs : List Row) → rowsKnown rs ≡ true → numberIn word rs ≡ numberIn like rs
+  number-same [] k = among-same others k
+  number-same (r ∷ rs) k =
+      ap₂ (λ (b : Bool) (n : ℕ). cond b (r .code .number) n) (has-same (r .code .fixed) (and-left (allKnown (r .code .fixed)) (rowsKnown rs) k))
+      (number-same rs (and-right (allKnown (r .code .fixed)) (rowsKnown rs) k))
+
+-- the table's number, where bits 24..20 are right
+number-is : (word : ℕ) → numberIn word listing ≡ cond (restRight (entryOf word) word) (entryOf word) 0
+number-is word = go (eqb (field20 word) 0) refl (fixesZero n) (and-left zeros others-there h) (and-right zeros others-there h)
+  where
+    n : ℕ
+    n = entryOf word
+
+    zeros : Bool
+    zeros = eqb (numberIn (sample (bits 31 25 word) 0 (bits 14 12 word)) listing) n
+
+    others-there : Bool
+    others-there = eqb (numberIn (sample (bits 31 25 word) 1 (bits 14 12 word)) listing) (cond (fixesZero n) 0 n)
+
+    h : agrees (bits 31 25 word) (bits 14 12 word) n ≡ true
+    h = entry-agrees word
+
+    go : (t : Bool) → eqb (field20 word) 0 ≡ t → (z : Bool)
+        → zeros ≡ true → eqb (numberIn (sample (bits 31 25 word) 1 (bits 14 12 word)) listing) (cond z 0 n) ≡ true
+        → numberIn word listing ≡ cond (cond z t true) n 0
+    go true e true a b = number-same word 0 (omega arith) e listing listing-known ∙ eqb-true (numberIn (sample (bits 31 25 word) 0 (bits 14 12 word)) listing) n a
+    go true e false a b = number-same word 0 (omega arith) e listing listing-known ∙ eqb-true (numberIn (sample (bits 31 25 word) 0 (bits 14 12 word)) listing) n a
+    go false e true a b = number-same word 1 (omega arith) e listing listing-known ∙ eqb-true (numberIn (sample (bits 31 25 word) 1 (bits 14 12 word)) listing) 0 b
+    go false e false a b = number-same word 1 (omega arith) e listing listing-known ∙ eqb-true (numberIn (sample (bits 31 25 word) 1 (bits 14 12 word)) listing) n b
+
+-- ---- a number names one entry
+
+abbrev freshAmong : ℕ → List Code → Bool
+freshAmong k [] = not (eqb 0 k)
+freshAmong k (c ∷ cs) = not (eqb (c .number) k) && freshAmong k cs
+
+abbrev freshIn : ℕ → List Row → Bool
+freshIn k [] = freshAmong k others
+freshIn k (r ∷ rs) = not (eqb (r .code .number) k) && freshIn k rs
+
+abbrev nonzero : List Code → Bool
+nonzero [] = true
+nonzero (c ∷ cs) = not (eqb (c .number) 0) && nonzero cs
+
+abbrev distinct : List Row → Bool
+distinct [] = nonzero others
+distinct (r ∷ rs) = freshIn (r .code .number) rs && distinct rs
+
+listing-distinct : distinct listing ≡ true
+unfolding listing others
+listing-distinct = refl
+
+fresh-among : (word k : ℕ) (cs : List Code) → freshAmong k cs ≡ true → eqb (numberAmong word cs) k ≡ false
+fresh-among word k [] h = not-true (eqb 0 k) h
+fresh-among word k (c ∷ cs) h = go (has word (c .fixed)) (fresh-among word k cs (and-right (not (eqb (c .number) k)) (freshAmong k cs) h))
+  where
+    go : (t : Bool) → eqb (numberAmong word cs) k ≡ false → eqb (cond t (c .number) (numberAmong word cs)) k ≡ false
+    go true ih = not-true (eqb (c .number) k) (and-left (not (eqb (c .number) k)) (freshAmong k cs) h)
+    go false ih = ih
+
+fresh-in : (word k : ℕ) (rs : List Row) → freshIn k rs ≡ true → eqb (numberIn word rs) k ≡ false
+fresh-in word k [] h = fresh-among word k others h
+fresh-in word k (r ∷ rs) h = go (has word (r .code .fixed)) (fresh-in word k rs (and-right (not (eqb (r .code .number) k)) (freshIn k rs) h))
+  where
+    go : (t : Bool) → eqb (numberIn word rs) k ≡ false → eqb (cond t (r .code .number) (numberIn word rs)) k ≡ false
+    go true ih = not-true (eqb (r .code .number) k) (and-left (not (eqb (r .code .number) k)) (freshIn k rs) h)
+    go false ih = ih
+
+others-read : (word : ℕ) (cs : List Code) → nonzero cs ≡ true → cond (listed word cs) LeftOut Unlisted ≡ cond (eqb (numberAmong word cs) 0) Unlisted LeftOut
+others-read word [] h = refl
+others-read word (c ∷ cs) h = go (has word (c .fixed)) (others-read word cs (and-right (not (eqb (c .number) 0)) (nonzero cs) h))
+  where
+    go : (t : Bool) → cond (listed word cs) LeftOut Unlisted ≡ cond (eqb (numberAmong word cs) 0) Unlisted LeftOut
+        → cond (t || listed word cs) LeftOut Unlisted ≡ cond (eqb (cond t (c .number) (numberAmong word cs)) 0) Unlisted LeftOut
+    go true ih = rw (not-true (eqb (c .number) 0) (and-left (not (eqb (c .number) 0)) (nonzero cs) h))
+    go false ih = ih
+
+rows-read : (word : ℕ) (rs : List Row) → distinct rs ≡ true → lookUp word (notOurs word) rs ≡ meant (numberIn word rs) word rs
+rows-read word [] h = ap Illegal (others-read word others h)
+rows-read word (r ∷ rs) h = go (has word (r .code .fixed)) (rows-read word rs (and-right (freshIn (r .code .number) rs) (distinct rs) h))
+  where
+    go : (t : Bool) → lookUp word (notOurs word) rs ≡ meant (numberIn word rs) word rs
+        → cond t (r .means word) (lookUp word (notOurs word) rs)
+        ≡ cond (eqb (cond t (r .code .number) (numberIn word rs)) (r .code .number)) (r .means word) (meant (cond t (r .code .number) (numberIn word rs)) word rs)
+    go true ih = rw (eq-eqb (r .code .number) (r .code .number) refl)
+    go false ih = rw (fresh-in word (r .code .number) rs (and-left (freshIn (r .code .number) rs) (distinct rs) h)) ih
+
+-- ---- every word
+
+pub wrong-opcode : (word : ℕ) → ¬ (bits 6 0 word ≡ 0b1110111) → Illegal Opcode ≡ decode word
+unfolding decode
+wrong-opcode word d = sym (ap (λ (b : Bool). cond b (ranged (lookUp word (notOurs word) listing)) (Illegal Opcode)) (ne-eqb (bits 6 0 word) 0b1110111 d))
+
+right-opcode : (word : ℕ) → bits 6 0 word ≡ 0b1110111 → ranged (lookUp word (notOurs word) listing) ≡ decode word
+unfolding decode
+right-opcode word o = sym (ap (λ (b : Bool). cond b (ranged (lookUp word (notOurs word) listing)) (Illegal Opcode)) (eq-eqb (bits 6 0 word) 0b1110111 o))
+
+pub no-number : (word : ℕ) → Illegal Unlisted ≡ ranged (meant 0 word listing)
+unfolding listing
+no-number word = refl
+
+pub table-decodes : TableDecodes
 table-decodes word o =
-    table-reads word (getD (getD numbers (bits 31 25 word) noNumbers) (bits 14 12 word) 0) o
-    (entry-agrees (bits 31 25 word) (bits 14 12 word) (omega arith) (omega arith))
+    go (restRight (entryOf word) word)
+    ∙ ap (λ (n : ℕ). ranged (meant n word listing)) (sym (number-is word))
+    ∙ ap ranged (sym (rows-read word listing listing-distinct)) ∙ right-opcode word o
+  where
+    go : (t : Bool) → cond t (ranged (meant (entryOf word) word listing)) (Illegal Unlisted) ≡ ranged (meant (cond t (entryOf word) 0) word listing)
+    go true = refl
+    go false = no-number word
 
--- ---- for code: the table's rows, and the entries that fix bits 24..20
+-- ---- for code: a block of the table, and the entries that fix bits 24..20
 
-pub row-is : (x k : ℕ) → x ≡ k → getD numbers k noNumbers ≡ getD numbers x noNumbers
-row-is x k e = sym (ap (λ (y : ℕ). getD numbers y noNumbers) e)
+pub row-is : (high k middle : ℕ) → high ≡ k → getD (getD numbers k []) middle [] ≡ getD (getD numbers high []) middle []
+row-is high k middle e = ap (λ (h : ℕ). getD (getD numbers h []) middle []) (sym e)
 
--- what a match on 0, 1, .. says where none is met
-abbrev pub Above : ℕ → ℕ → Type 0
-Above x zero = Unit {0}
-Above x (suc k) = Above x k × (x ≡ k → ⊥)
+-- what a match on a, a + 1, .. says where none is met
+abbrev pub Above : ℕ → ℕ → ℕ → Type 0
+Above x a zero = Unit {0}
+Above x a (suc k) = Above x a k × (x ≡ a + k → ⊥)
 
-pub above : (x k : ℕ) → Above x k → k ≤ x
-above x zero m = omega arith
-above x (suc k) m =
-    let l = above x k (m .0) in
+pub above : (x a k : ℕ) → a ≤ x → Above x a k → a + k ≤ x
+above x a zero l m = omega arith
+above x a (suc k) l m =
+    let g = above x a k l (m .0) in
     let d = m .1 in
     omega arith
 
-pub past : (x : ℕ) → Above x 128 → noNumbers ≡ getD numbers x noNumbers
-unfolding numbers
-past x m = sym (List·getD-eq-default numbers noNumbers (above x 128 m))
+pub meant-at : (n k word : ℕ) → n ≡ k → ranged (meant k word listing) ≡ ranged (meant n word listing)
+meant-at n k word e = ap (λ (x : ℕ). ranged (meant x word listing)) (sym e)
 
-or-left : (a b : Bool) → a ≡ true → a || b ≡ true
-or-left a b h = rw h
+-- what a match on the numbers of rows, in their order, says where none is met
+abbrev pub Missed : ℕ → Type 0 → List Row → Type 0
+Missed n N [] = N
+Missed n N (r ∷ rs) = Missed n (N × (n ≡ r .code .number → ⊥)) rs
 
-or-right : (a b : Bool) → b ≡ true → a || b ≡ true
-or-right true b h = refl
-or-right false b h = h
+-- the first k numbers are up to 32
+abbrev upTo32 : ℕ → List Row → Bool
+upTo32 zero rs = true
+upTo32 (suc k) [] = true
+upTo32 (suc k) (r ∷ rs) = leb (r .code .number) 32 && upTo32 k rs
+
+missed-left : (n word : ℕ) (N : Type 0) (rs : List Row) → ¬ (n ≡ 0) → Missed n N rs → N × (meant n word rs ≡ Illegal LeftOut)
+missed-left n word N [] z m = (m, rw (ne-eqb n 0 z))
+missed-left n word N (r ∷ rs) z m =
+    let q = missed-left n word (N × (n ≡ r .code .number → ⊥)) rs z m in
+    (q .0 .0, rw (ne-eqb n (r .code .number) (q .0 .1)) (q .1))
+
+past-32 : (n word k : ℕ) (rs : List Row) → 32 < n → upTo32 k rs ≡ true → meant n word rs ≡ meant n word (drop k rs)
+past-32 n word zero rs l h = refl
+past-32 n word (suc k) [] l h = refl
+past-32 n word (suc k) (r ∷ rs) l h =
+    let g = leb-true (r .code .number) 32 (and-left (leb (r .code .number) 32) (upTo32 k rs) h) in
+    rw (ne-eqb n (r .code .number) (λ e. omega arith)) (past-32 n word k rs l (and-right (leb (r .code .number) 32) (upTo32 k rs) h))
+
+pub left-out : (n word : ℕ) → 32 < n → Missed n (Unit {0}) (drop 32 listing) → Illegal LeftOut ≡ ranged (meant n word listing)
+unfolding listing
+left-out n word l m = ap ranged (sym (past-32 n word 32 listing l refl ∙ missed-left n word (Unit {0}) (drop 32 listing) (λ e. omega arith) m .1))
 
 pub zero-key : (n : ℕ) → OneOf (2 ∷ 4 ∷ 6 ∷ 8 ∷ []) n → true ≡ fixesZero n
 unfolding fixesZero
@@ -410,6 +364,3 @@ not-between a b n d = go (leb a n) refl (leb n b) refl
     go true e true g = absurd (d (leb-true a n e) (leb-true n b g))
     go true e false g = refl
     go false e t g = refl
-
-pub meant-at : (n k word : ℕ) → n ≡ k → ranged (meant k word listing) ≡ ranged (meant n word listing)
-meant-at n k word e = sym (ap (λ (x : ℕ). ranged (meant x word listing)) e)

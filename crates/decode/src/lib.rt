@@ -7,14 +7,13 @@ use machine::Instruction;
 use machine::Matrix;
 use machine::Sum;
 use machine::Wrong;
-use table::numbers;
+use table::row;
 ghost use mathlib.Core.Path.{_≡_};
-ghost use mathlib.Core.Bool.{cond, true};
-ghost use lib.Dec.{eqb};
-ghost use Rattle.machine.specs.Listing.{bits, field7, field15, field20, immediate13, listing, decode, ranged};
+ghost use Prim.Native.Nat.{_<_, _≤_};
+ghost use Rattle.machine.specs.Listing.{field7, field15, field20, immediate13, listing, decode, ranged};
 ghost use Rattle.machine.specs.Geometry.{registerCount};
-ghost use Rattle.machine.specs.declared.Instruction.the-variants.{Load, Store, Multiply, Combine, Scale, ScaleImmediate};
-ghost use Rattle.decode.specs.Table.{agrees, meant, fixesZero};
+ghost use Rattle.machine.specs.declared.Instruction.the-variants.{SetTypeImmediate, SetType, SetTileImmediate, SetTile, Load, Store, Multiply, Combine, Scale, ScaleImmediate};
+ghost use Rattle.decode.specs.Table.{entryOf, restRight, meant, fixesZero};
 
 // Bits 11..7: rd, md or ms3.
 pub fn low_field(word: u32) -> usize
@@ -42,6 +41,44 @@ fn immediate(word: u32) -> u64
     ensures { λ r. ⌜ r ≡ immediate13 word ⌝ }
 {
     (word / 32768 % 8192) as u64
+}
+
+fn set_type_immediate(word: u32) -> Instruction
+    ensures { λ r. ⌜ r ≡ SetTypeImmediate (field7 word) (immediate13 word) ⌝ }
+{
+    Instruction::SetTypeImmediate {
+        rd: low_field(word),
+        immediate: immediate(word),
+    }
+}
+
+fn set_type(word: u32) -> Instruction
+    ensures { λ r. ⌜ r ≡ SetType (field7 word) (field15 word) ⌝ }
+{
+    Instruction::SetType {
+        rd: low_field(word),
+        rs1: middle_field(word),
+    }
+}
+
+fn set_tile_immediate(word: u32, dimension: Dimension) -> Instruction
+    ensures { λ r. ⌜ r ≡ SetTileImmediate dimension (field7 word) (immediate13 word) ⌝ }
+{
+    Instruction::SetTileImmediate {
+        dimension: dimension,
+        rd: low_field(word),
+        immediate: immediate(word),
+    }
+}
+
+fn set_tile(word: u32, dimension: Dimension) -> Instruction
+    ensures { λ r. ⌜ r ≡ SetTile dimension (field7 word) (field15 word) ⌝ }
+{
+    Instruction::SetTile {
+        dimension: dimension,
+        rd: low_field(word),
+        rs1: middle_field(word),
+    }
 }
 
 fn load(word: u32, matrix: Matrix, count: usize, width: usize) -> Instruction
@@ -182,12 +219,13 @@ fn scale_immediate(word: u32, factor: Factor) -> Instruction
 
 // The table's entry for a word.
 fn number_of(word: u32) -> u8
-    ensures { λ r. ⌜ agrees (bits 31 25 word) (bits 14 12 word) r listing ≡ true ⌝ }
+    ensures { λ r. ⌜ r ≡ entryOf word ⌝ }
 {
-    let code = word / 33554432;
+    let high = word / 268435456;
+    let middle = (word / 33554432 % 8) as usize;
     let form = (word / 4096 % 8) as usize;
-    let row = numbers(code);
-    row[form]
+    let entries = row(high, middle);
+    entries[form]
 }
 
 // The entries that fix bits 24..20 at zero.
@@ -202,53 +240,29 @@ fn fixes_zero(number: u8) -> bool
     }
 }
 
-// The instruction of the entry with this number.
-fn meant(word: u32, number: u8) -> Instruction
-    requires { ⌜ agrees (bits 31 25 word) (bits 14 12 word) number listing ≡ true ⌝ }
+// Settings: the entries 1 to 8.
+fn setting(word: u32, number: u8) -> Instruction
+    requires { ⌜ (0 < number) × (number ≤ 8) ⌝ }
     ensures { λ r. ⌜ r ≡ ranged (meant number word listing) ⌝ }
 {
-    let rd = low_field(word);
-    let rs1 = middle_field(word);
-    let value = immediate(word);
     match number {
-        0 => Instruction::Illegal {
-            wrong: Wrong::Unlisted,
-        },
-        1 => Instruction::SetTypeImmediate {
-            rd: rd,
-            immediate: value,
-        },
-        2 => Instruction::SetType { rd: rd, rs1: rs1 },
-        3 => Instruction::SetTileImmediate {
-            dimension: Dimension::DimensionM,
-            rd: rd,
-            immediate: value,
-        },
-        4 => Instruction::SetTile {
-            dimension: Dimension::DimensionM,
-            rd: rd,
-            rs1: rs1,
-        },
-        5 => Instruction::SetTileImmediate {
-            dimension: Dimension::DimensionK,
-            rd: rd,
-            immediate: value,
-        },
-        6 => Instruction::SetTile {
-            dimension: Dimension::DimensionK,
-            rd: rd,
-            rs1: rs1,
-        },
-        7 => Instruction::SetTileImmediate {
-            dimension: Dimension::DimensionN,
-            rd: rd,
-            immediate: value,
-        },
-        8 => Instruction::SetTile {
-            dimension: Dimension::DimensionN,
-            rd: rd,
-            rs1: rs1,
-        },
+        1 => set_type_immediate(word),
+        2 => set_type(word),
+        3 => set_tile_immediate(word, Dimension::DimensionM),
+        4 => set_tile(word, Dimension::DimensionM),
+        5 => set_tile_immediate(word, Dimension::DimensionK),
+        6 => set_tile(word, Dimension::DimensionK),
+        7 => set_tile_immediate(word, Dimension::DimensionN),
+        _ => set_tile(word, Dimension::DimensionN),
+    }
+}
+
+// Loads: the entries 9 to 20.
+fn loading(word: u32, number: u8) -> Instruction
+    requires { ⌜ (8 < number) × (number ≤ 20) ⌝ }
+    ensures { λ r. ⌜ r ≡ ranged (meant number word listing) ⌝ }
+{
+    match number {
         9 => load(word, Matrix::MatrixA, 8, 1),
         10 => load(word, Matrix::MatrixA, 8, 2),
         11 => load(word, Matrix::MatrixA, 8, 4),
@@ -260,7 +274,16 @@ fn meant(word: u32, number: u8) -> Instruction
         17 => load(word, Matrix::MatrixC, 2, 1),
         18 => load(word, Matrix::MatrixC, 2, 2),
         19 => load(word, Matrix::MatrixC, 2, 4),
-        20 => load(word, Matrix::MatrixC, 2, 8),
+        _ => load(word, Matrix::MatrixC, 2, 8),
+    }
+}
+
+// Stores: the entries 21 to 32.
+fn storing(word: u32, number: u8) -> Instruction
+    requires { ⌜ (20 < number) × (number ≤ 32) ⌝ }
+    ensures { λ r. ⌜ r ≡ ranged (meant number word listing) ⌝ }
+{
+    match number {
         21 => store(word, Matrix::MatrixA, 8, 1),
         22 => store(word, Matrix::MatrixA, 8, 2),
         23 => store(word, Matrix::MatrixA, 8, 4),
@@ -272,7 +295,16 @@ fn meant(word: u32, number: u8) -> Instruction
         29 => store(word, Matrix::MatrixC, 2, 1),
         30 => store(word, Matrix::MatrixC, 2, 2),
         31 => store(word, Matrix::MatrixC, 2, 4),
-        32 => store(word, Matrix::MatrixC, 2, 8),
+        _ => store(word, Matrix::MatrixC, 2, 8),
+    }
+}
+
+// Multiplies and element-wise instructions: the entries from 33 on; the others are left out.
+fn arithmetic(word: u32, number: u8) -> Instruction
+    requires { ⌜ 32 < number ⌝ }
+    ensures { λ r. ⌜ r ≡ ranged (meant number word listing) ⌝ }
+{
+    match number {
         33 => multiply(word, Factor::Single),
         35 => multiply(word, Factor::Double),
         37 => multiply(word, Factor::Quadruple),
@@ -297,9 +329,30 @@ fn meant(word: u32, number: u8) -> Instruction
     }
 }
 
+// The instruction of the entry with this number.
+fn meant(word: u32, number: u8) -> Instruction
+    ensures { λ r. ⌜ r ≡ ranged (meant number word listing) ⌝ }
+{
+    if number == 0 {
+        return Instruction::Illegal {
+            wrong: Wrong::Unlisted,
+        };
+    }
+    if number <= 8 {
+        return setting(word, number);
+    }
+    if number <= 20 {
+        return loading(word, number);
+    }
+    if number <= 32 {
+        return storing(word, number);
+    }
+    arithmetic(word, number)
+}
+
 // Bits 24..20 of a word are what the entry with this number fixes.
 fn rest_right(word: u32, number: u8) -> bool
-    ensures { λ r. ⌜ r ≡ cond (fixesZero number) (eqb (field20 word) 0) true ⌝ }
+    ensures { λ r. ⌜ r ≡ restRight number word ⌝ }
 {
     let rest = high_field(word);
     let zero = fixes_zero(number);

@@ -1,20 +1,22 @@
-use mathlib.Core.Path.{_≡_, sym, ap₂, _∙_}
-use mathlib.Core.List.{List}
-use Prim.Native.Nat.{ℕ, _/_}
+use mathlib.Core.Path.{_≡_, ap, ap₂, _∙_}
+use mathlib.Core.List.{List, []}
+use Prim.Native.Nat.{ℕ, _/_, _%_}
 use native.Mathlib.Omega.{arith}
 use lib.ListN.{getD}
-use Rattle.machine.specs.Listing.{bits, listing}
-use Rattle.decode.specs.Table.{agrees}
-use Rattle.decode.proofs.TableLaws.{entry-agrees}
+use Rattle.machine.specs.Listing.{bits}
+use Rattle.decode.specs.Table.{numbers}
 use borrow.Author.Needs.{needs}
 use Rattle.decode.proofs.number_of.Statement.{statement}
 use Rattle.decode.proofs.number_of.Tie as tie
 
+cast-middle : tie.Need-cast-middle
+cast-middle c = search needs
+
 cast-form : tie.Need-cast-form
 cast-form c = search needs
 
-numbers-requires : tie.Need-numbers-requires
-numbers-requires c κs = search needs
+row-requires : tie.Need-row-requires
+row-requires c κs = search needs
 
 array-read-result : tie.Need-array-read-result
 array-read-result c = search needs
@@ -22,10 +24,9 @@ array-read-result c = search needs
 returns : tie.Need-returns
 returns c =
     let w = c .before .args .word in
-    let f = bits 14 12 w in
-    let e : w / 33554432 ≡ bits 31 25 w = omega arith in
-    ap₂ (λ (n : ℕ) (row : List ℕ). agrees n f (getD row f 0) listing) (sym e) (c .numbers .ensures)
-    ∙ entry-agrees (w / 33554432) f (omega arith) (omega arith)
+    let high : w / 268435456 ≡ bits 31 28 w = omega arith in
+    let middle : w / 33554432 % 8 ≡ bits 27 25 w = omega arith in
+    ap (λ (row : List ℕ). getD row (bits 14 12 w) 0) (c .row .ensures ∙ ap₂ (λ (h m : ℕ). getD (getD numbers h []) m []) high middle)
 
 pub number-of-spec : {M : Type 1} → statement M
-number-of-spec = tie.close (tie.spec cast-form numbers-requires array-read-result returns)
+number-of-spec = tie.close (tie.spec cast-middle cast-form row-requires array-read-result returns)
