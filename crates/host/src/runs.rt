@@ -347,7 +347,7 @@ pub extern "C" fn bodlarina_run_next(run: &mut [u8], step: &mut [u8]) -> u64
         return packed(Answer::BadArguments);
     }
     let held = run_of(run);
-    let asked = run::asking::next(held);
+    let asked = asking::next(held);
     let answer = asked.answer;
     if !tile::is_done(answer) {
         return packed(answer);

@@ -10,5 +10,3 @@ pub mod Statement
 pub mod Whole
 pub mod Sheet
 pub mod Examples
--- For the contracts of inner functions.
-pub mod Parts

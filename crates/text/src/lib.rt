@@ -1,5 +1,4 @@
 // The text side of `product`: the problem that a text poses, and the text of an answer. What both mean is defined in specs/.
-use run::asking;
 ghost use mathlib.Core.Path.{_≡_};
 ghost use mathlib.Core.Bool.{true, false};
 ghost use mathlib.Core.List.{List, _∷_, [], map};

@@ -19,7 +19,7 @@ use Rattle.machine.proofs.TestLaws.{Each, every-each}
 use Rattle.run.specs.declared.Plan.{Plan}
 use Rattle.run.specs.Plan.{narrow, wide, aAt, bAt, cAt}
 use Rattle.run.specs.Start.{format, planned, lying, distinct, apart, separate, RunStart, startRun, freshRun, noRun}
-use Rattle.run.proofs.AskingLaws.{fails, last, sews, factors, plan-small}
+use Rattle.asking.proofs.AskingLaws.{fails, last, sews, factors, plan-small}
 
 -- ---- the numbers of a plan
 

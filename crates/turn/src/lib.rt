@@ -59,7 +59,7 @@ pub fn start(plan: Plan, m: Machine, registers: &[u8], marks: &[u8], memory: &[u
     if !step::is_sound(m, registers, marks) {
         return refused(plan, Answer::BadArguments);
     }
-    if !run::asking::is_planned(plan) {
+    if !asking::is_planned(plan) {
         return refused(plan, Answer::BadArguments);
     }
     if !starting::is_lying(plan, memory) {
@@ -146,9 +146,9 @@ fn load(
     requires { ⌜ md < registerCount matrix ⌝ }
     ensures { λ r. ⌜ Loads m (Operation.load matrix md (narrow plan) (startOf layout row (column * narrow plan)) (layout .stride)) (now (registers .entry)) (now (marks .entry)) (now (memory .entry)) r (now (registers .exit)) (now (marks .exit)) ⌝ }
 {
-    let bytes = run::asking::narrow_bytes(plan);
-    let offset = run::asking::small_times(column, bytes);
-    let start = run::asking::start_of(layout.address, layout.stride, row, offset);
+    let bytes = asking::narrow_bytes(plan);
+    let offset = asking::small_times(column, bytes);
+    let start = asking::start_of(layout.address, layout.stride, row, offset);
     step::load(
         m,
         registers,
@@ -178,10 +178,10 @@ fn store(
     ensures { λ r. ⌜ carried r m (now (registers .entry)) (now (marks .entry)) (now (memory .exit))
         ≡ carriedFor plan (store row column) (benchOf m (now (registers .entry)) (now (marks .entry)) (now (memory .entry))) ⌝ }
 {
-    let bytes = run::asking::wide_bytes(plan);
-    let offset = run::asking::small_times(column, bytes);
+    let bytes = asking::wide_bytes(plan);
+    let offset = asking::small_times(column, bytes);
     let layout = plan.c;
-    let start = run::asking::start_of(layout.address, layout.stride, row, offset);
+    let start = asking::start_of(layout.address, layout.stride, row, offset);
     step::store(
         m,
         registers,
@@ -274,7 +274,7 @@ fn machine_after(run: Run, m: Machine) -> Machine
     let plan = run.plan;
     let place = run.place;
     match place {
-        Place::AtType => step::with_type(m, step::kept_type(run::asking::type_of(plan))),
+        Place::AtType => step::with_type(m, step::kept_type(asking::type_of(plan))),
         Place::AtM { row } => step::sized(m, Dimension::DimensionM, plan.m - row),
         Place::AtN { row: _, column } => step::sized(m, Dimension::DimensionN, plan.n - column),
         Place::AtClear { row: _, column: _ } => m,
@@ -340,7 +340,7 @@ fn take_turns(
         (turns smaller (running run (benchOf m (now (registers .entry)) (now (marks .entry)) (now (memory .entry)))) (r .count))) ⌝ }
 {
     let mut place = run.place;
-    if !run::asking::is_sound_run(run) {
+    if !asking::is_sound_run(run) {
         return Progress {
             answer: Answer::BadArguments,
             count: 0,
@@ -348,9 +348,9 @@ fn take_turns(
             machine: m,
         };
     }
-    let rows = run::asking::most_rows(run);
-    let columns = run::asking::most_columns(run);
-    let terms = run::asking::most_terms(run);
+    let rows = asking::most_rows(run);
+    let columns = asking::most_columns(run);
+    let terms = asking::most_terms(run);
     let mut count = 0;
     let mut machine = m;
     while count < limit {
@@ -365,7 +365,7 @@ fn take_turns(
             };
         }
         machine = machine_after(current, machine);
-        let after = run::asking::moved_run(current, rows, columns, terms);
+        let after = asking::moved_run(current, rows, columns, terms);
         place = after.place;
         count += 1;
     }

@@ -11,7 +11,7 @@ use Rattle.run.specs.declared.Place.{Place}
 use Rattle.run.specs.Words.{Op}
 use Rattle.run.specs.Plan.{typeOf}
 use Rattle.run.specs.Turn.{placed}
-use Rattle.run.proofs.AskingLaws.{run-numbered, run-placed, run-planned, run-sizes, at-m, at-store, at-multiply}
+use Rattle.asking.proofs.AskingLaws.{run-numbered, run-placed, run-planned, run-sizes, at-m, at-store, at-multiply}
 use Rattle.run.proofs.WordLaws.{decode-type, decode-m, decode-n, decode-k}
 use Rattle.turn.specs.Parts.{Carried}
 use Rattle.turn.proofs.CarriedLaws.{at-place, type-carried, size-carried, clear-keeps, multiply-keeps, a-keeps, b-keeps, c-keeps, plan-type}

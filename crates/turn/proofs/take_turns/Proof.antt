@@ -10,9 +10,9 @@ use Rattle.machine.specs.Geometry.{benchOf}
 use Rattle.machine.specs.Setting.{smaller}
 use Rattle.machine.specs.Faults.{sound, soundBench}
 use Rattle.run.specs.declared.Run.{Run}
-use Rattle.run.specs.Parts.{Most}
+use Rattle.asking.specs.Parts.{Most}
 use Rattle.run.specs.Turn.{TurnOutcome, TurnsOutcome, running, turn, turns, soundRun, runShape}
-use Rattle.run.proofs.AskingLaws.{run-numbered, moved-sound}
+use Rattle.asking.proofs.AskingLaws.{run-numbered, moved-sound}
 use Rattle.turn.proofs.TurnLaws.{taking, turns-refused, turn-sound}
 use Rattle.turn.proofs.CarriedLaws.{numbers-joined, moved-place, at-end, turn-carried, turns-carried, turn-unsound, turns-unsound, ends-done, ends-refused}
 use Rattle.turn.specs.Parts.{atPlace}

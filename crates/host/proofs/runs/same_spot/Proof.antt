@@ -1,7 +1,7 @@
 use mathlib.Core.List.{[], _∷_}
 use lib.Dec.{eqb}
 use borrow.Author.Tests.{eq-eqb, ne-eqb}
-use Rattle.run.proofs.AskingLaws.{last}
+use Rattle.asking.proofs.AskingLaws.{last}
 use Rattle.host.proofs.runs.same_spot.Statement.{statement}
 use Rattle.host.proofs.runs.same_spot.Tie as tie
 

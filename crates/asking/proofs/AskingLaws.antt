@@ -1,0 +1,299 @@
+-- For code: tests one after another, and what a sound run says.
+use mathlib.Core.Path.{_≡_, refl, sym, ap, ap₂, _∙_}
+use mathlib.Core.Bool.{Bool, true, false, cond, _||_}
+use mathlib.Core.List.{List, [], _∷_, _++_}
+use Prim.Native.Nat.{ℕ, _+_, _-_, _*_, _/_, _%_, _^_, _≤_, _<_}
+use native.Mathlib.Nat.{mul-le-mul, le-div-iff-mul-le, mod-eq-of-lt, div-add-mod'}
+use native.Mathlib.Omega.{arith}
+use lib.Dec.{leb, ltb, eqb}
+use borrow.Author.Tests.{eqb-true, ltb-true, leb-true, eq-eqb, ne-eqb}
+use Rattle.machine.specs.Tests.{every, isIn}
+use Rattle.machine.proofs.TestLaws.{Each, every-each, each-every, each-in, false-true}
+use Rattle.machine.specs.Geometry.{permitted, elen}
+use Rattle.machine.proofs.StepLaws.{permitted-lengths, permitted-bounds, smaller-grants}
+use Rattle.machine.specs.Setting.{sew, smaller}
+use Rattle.run.specs.declared.Layout.{Layout}
+use Rattle.run.specs.declared.Handed.{Handed}
+use Rattle.run.specs.declared.Plan.{Plan}
+use Rattle.run.specs.declared.Run.{Run}
+use Rattle.run.specs.declared.Place.{Place}
+use Rattle.run.specs.declared.Asked.{Asked}
+use Rattle.machine.specs.declared.Answer.{Answer}
+use Rattle.machine.specs.declared.Answer.the-variants.{Done}
+use Rattle.run.specs.declared.Place.the-variants.{AtType, AtM, AtN, AtClear, AtK, AtA, AtB, AtMultiply, AtStore, AtEnd}
+use Rattle.run.specs.Words.{Op, Shape}
+use Rattle.run.specs.Places.{headM, headN, headK, next, wordsAt}
+use Rattle.run.specs.Plan.{msew, typeOf}
+use Rattle.run.specs.Encoding.{startOf}
+use Rattle.run.specs.Start.{format, planned}
+use Rattle.run.specs.Turn.{placed, begins, soundRun, runShape, handsOut, moved, askWith, asked, ask}
+use Rattle.asking.specs.Parts.{numbered, isEnd, handedOf, shapeBy, Within, Most}
+use Rattle.run.proofs.PlaceLaws.{Sound}
+use Rattle.run.proofs.BeginLaws.{begins-next}
+use Rattle.run.proofs.WordLaws.{formats, start-wraps}
+
+-- ---- tests one after another
+
+-- those before have passed, and this one fails
+pub fails : (xs : List Bool) → Each xs → (b : Bool) → b ≡ false → (bs : List Bool) → false ≡ every (xs ++ (b ∷ bs))
+fails [] h b e bs = rw e
+fails (a ∷ xs) h b e bs = rw (h .0) (fails xs (h .1) b e bs)
+
+-- those before have passed, and this one is the last
+pub last : (xs : List Bool) → Each xs → (b : Bool) → b ≡ every (xs ++ (b ∷ []))
+last [] h true = refl
+last [] h false = refl
+last (a ∷ xs) h b = rw (h .0) (last xs (h .1) b)
+
+-- ---- formats
+
+abbrev pub sews : List ℕ
+sews = 8 ∷ 16 ∷ 32 ∷ []
+
+abbrev pub factors : List ℕ
+factors = 1 ∷ 2 ∷ 4 ∷ []
+
+pub last-factor : (x : ℕ) → eqb x 1 ≡ false → eqb x 2 ≡ false → eqb x 4 ≡ isIn x factors
+last-factor x p q = rw (p, q) (or-false (eqb x 4))
+  where
+    or-false : (t : Bool) → t ≡ t || false
+    or-false true = refl
+    or-false false = refl
+
+pub small-product : (s f : ℕ) → isIn s sews ≡ true → isIn f factors ≡ true → f * s ≤ 128
+small-product s f hs hf =
+    mul-le-mul (leb-true f 4 (each-in f factors (λ y. leb y 4) refl hf)) (leb-true s 32 (each-in s sews (λ y. leb y 32) refl hs))
+
+-- ---- a sound run
+
+module _ (R : Run) (ok : numbered R ≡ true) where
+  pub run-lengths : permitted (R .rlen) (R .mlen) ≡ true
+  unfolding numbered
+  run-lengths = every-each (permitted (R .rlen) (R .mlen) ∷ planned (R .plan) ∷ []) ok .0
+
+  pub run-planned : planned (R .plan) ≡ true
+  unfolding numbered
+  run-planned = every-each (permitted (R .rlen) (R .mlen) ∷ planned (R .plan) ∷ []) ok .1 .0
+
+  pub run-rlen : 0 < R .rlen
+  run-rlen = let b = permitted-bounds (R .rlen) (R .mlen) run-lengths in omega arith
+
+  numbers : Each (format (R .plan .sew) (R .plan .factor) ∷ leb (R .plan .m) 1024 ∷ leb (R .plan .k) 1024 ∷ leb (R .plan .n) 1024 ∷ [])
+  unfolding planned
+  numbers = every-each (format (R .plan .sew) (R .plan .factor) ∷ leb (R .plan .m) 1024 ∷ leb (R .plan .k) 1024 ∷ leb (R .plan .n) 1024 ∷ []) run-planned
+
+  pub run-format : format (R .plan .sew) (R .plan .factor) ≡ true
+  run-format = numbers .0
+
+  pub run-sizes : (R .plan .m ≤ 1024) × (R .plan .k ≤ 1024) × (R .plan .n ≤ 1024)
+  run-sizes = (leb-true (R .plan .m) 1024 (numbers .1 .0), leb-true (R .plan .k) 1024 (numbers .1 .1 .0), leb-true (R .plan .n) 1024 (numbers .1 .1 .1 .0))
+
+  pub run-sew : R .plan .sew / 8 ≡ sew (typeOf (R .plan))
+  unfolding typeOf msew
+  run-sew = sym (eqb-true (sew (typeOf (R .plan))) (R .plan .sew / 8) (formats (R .plan .sew) (R .plan .factor) run-format .0 .1 .1 .0))
+
+  pub run-bytes : 0 < R .plan .sew / 8
+  run-bytes = ltb-true 0 (R .plan .sew / 8) (formats (R .plan .sew) (R .plan .factor) run-format .0 .1 .1 .1 .1 .1 .1 .1 .1 .0)
+
+  -- the most rows, columns and terms of a block are at least 1
+  pub run-most : Sound (runShape smaller R)
+  run-most =
+      let n = permitted-lengths (R .rlen) (R .mlen) run-lengths in
+      let b : R .plan .sew / 8 ≤ 8 = leb-true (R .plan .sew / 8) 8 (formats (R .plan .sew) (R .plan .factor) run-format .0 .1 .1 .1 .1 .1 .1 .0) in
+      let columns : 0 < runShape smaller R .tn =
+      le-div-iff-mul-le {k = sew (typeOf (R .plan))} {x = 1} {y = R .rlen / 8} (omega (arith, run-sew, run-bytes)) .1 (omega (arith, run-sew, n .1)) in
+      record { rule = smaller-grants; 0<tm = n .0; 0<tk = omega (arith, n .0, columns); 0<tn = columns }
+
+module _ (R : Run) (ok : soundRun smaller R ≡ true) where
+  tests : Each (permitted (R .rlen) (R .mlen) ∷ planned (R .plan) ∷ placed (R .plan) (R .place) ∷ begins (runShape smaller R) (R .place) ∷ [])
+  unfolding soundRun
+  tests = every-each (permitted (R .rlen) (R .mlen) ∷ planned (R .plan) ∷ placed (R .plan) (R .place) ∷ begins (runShape smaller R) (R .place) ∷ []) ok
+
+  pub run-placed : placed (R .plan) (R .place) ≡ true
+  run-placed = tests .1 .1 .0
+
+  pub run-numbered : numbered R ≡ true
+  unfolding numbered
+  run-numbered = each-every (permitted (R .rlen) (R .mlen) ∷ planned (R .plan) ∷ []) (tests .0, (tests .1 .0, tt))
+
+pub plan-small : (P : Plan) → planned P ≡ true → (P .sew ≤ 32) × (P .factor ≤ 4)
+unfolding planned format
+plan-small P h =
+    let t = every-each (format (P .sew) (P .factor) ∷ leb (P .m) 1024 ∷ leb (P .k) 1024 ∷ leb (P .n) 1024 ∷ []) h in
+    let u = every-each (isIn (P .sew) sews ∷ isIn (P .factor) factors ∷ leb (P .factor * P .sew) elen ∷ []) (t .0) in
+    (leb-true (P .sew) 32 (each-in (P .sew) sews (λ y. leb y 32) refl (u .0)), leb-true (P .factor) 4 (each-in (P .factor) factors (λ y. leb y 4) refl (u .1 .0)))
+
+-- ---- addresses
+
+halves : (u v p : ℕ) → p ≡ u * 4294967296 + v → (u % 4294967296 * 4294967296 + v) % 2 ^ 64 ≡ p % 2 ^ 64
+halves u v p h = omega arith
+
+pub row-halves : (i s : ℕ) → (i * (s / 4294967296) % 4294967296 * 4294967296 + i * (s % 4294967296)) % 2 ^ 64 ≡ (i * s) % 2 ^ 64
+row-halves i s = halves (i * (s / 4294967296)) (i * (s % 4294967296)) (i * s) (omega (arith, ap (λ (x : ℕ). i * x) (sym (div-add-mod' s 4294967296))))
+
+pub start-by : (l : Layout) (i b : ℕ) → i ≤ 1024 → l .address < 2 ^ 64 → l .stride < 2 ^ 64 → b < 2 ^ 64
+    → ((l .address + (i * l .stride) % 2 ^ 64) % 2 ^ 64 + b) % 2 ^ 64 ≡ startOf l i b
+start-by l i b hi ha hs hb =
+    let ei : i % 18446744073709551616 ≡ i = mod-eq-of-lt (omega arith) in
+    let ea : l .address % 18446744073709551616 ≡ l .address = mod-eq-of-lt ha in
+    let eb : b % 18446744073709551616 ≡ b = mod-eq-of-lt hb in
+    ap (λ (x : ℕ). ((x + (i * l .stride) % 2 ^ 64) % 2 ^ 64 + b) % 2 ^ 64) (sym ea)
+    ∙ ap (λ (x : ℕ). ((l .address % 2 ^ 64 + (x * l .stride) % 2 ^ 64) % 2 ^ 64 + b) % 2 ^ 64) (sym ei)
+    ∙ ap (λ (x : ℕ). ((l .address % 2 ^ 64 + (i % 2 ^ 64 * l .stride) % 2 ^ 64) % 2 ^ 64 + x) % 2 ^ 64) (sym eb)
+    ∙ sym (start-wraps l i b hs)
+
+abbrev handed : (word address stride : ℕ) → Handed
+handed w a s = record { word = w; address = a; stride = s }
+
+pub handed-by : (s : ℕ) {w w′ a a′ : ℕ} → w ≡ w′ → a ≡ a′ → handed w a s ≡ handed w′ a′ s
+handed-by s e f = ap₂ (λ (w a : ℕ). handed w a s) e f
+
+-- ---- mtype
+
+pub type-eight : (P : Plan) (w : ℕ) → w ≡ msew P → P .factor ≡ 4 → w + 8 ≡ typeOf P
+unfolding typeOf
+type-eight P w e h = rw (eq-eqb (P .factor) 4 h) (omega arith)
+
+pub type-plain : (P : Plan) (w : ℕ) → w ≡ msew P → ¬ (P .factor ≡ 4) → w ≡ typeOf P
+unfolding typeOf
+type-plain P w e h = rw (ne-eqb (P .factor) 4 h) (omega arith)
+
+-- ---- a place in the matrices
+
+pub at-m : (P : Plan) (i : ℕ) → placed P (AtM i) ≡ true → i ≤ P .m
+at-m P i h = omega (arith, ltb-true i (P .m) h)
+
+-- a place in a block of C, and one in a block of terms
+pub at-store : (P : Plan) (i j : ℕ) → placed P (AtStore i j) ≡ true → (i ≤ P .m) × (j ≤ P .n)
+at-store P i j h =
+    let t = every-each (ltb i (P .m) ∷ ltb j (P .n) ∷ []) h in
+    omega (arith, ltb-true i (P .m) (t .0), ltb-true j (P .n) (t .1 .0))
+
+pub at-multiply : (P : Plan) (i j s : ℕ) → placed P (AtMultiply i j s) ≡ true → (i ≤ P .m) × ((j ≤ P .n) × (s ≤ P .k))
+at-multiply P i j s h =
+    let t = every-each (ltb i (P .m) ∷ ltb j (P .n) ∷ ltb s (P .k) ∷ []) h in
+    omega (arith, ltb-true i (P .m) (t .0), ltb-true j (P .n) (t .1 .0), ltb-true s (P .k) (t .1 .1 .0))
+
+-- ---- asking
+
+abbrev pub askedAs : Answer → Handed → Run → Asked
+askedAs a h R = record { answer = a; handed = h; run = R }
+
+abbrev pub runAt : Run → Place → Run
+runAt R p = record { plan = R .plan; rlen = R .rlen; mlen = R .mlen; place = p }
+
+no-words : (S : Shape) (q : Place) → isEnd q ≡ true → [] ≡ wordsAt S q
+no-words S AtType h = absurd (false-true h)
+no-words S (AtM i) h = absurd (false-true h)
+no-words S (AtN i j) h = absurd (false-true h)
+no-words S (AtClear i j) h = absurd (false-true h)
+no-words S (AtK i j s) h = absurd (false-true h)
+no-words S (AtA i j s) h = absurd (false-true h)
+no-words S (AtB i j s) h = absurd (false-true h)
+no-words S (AtMultiply i j s) h = absurd (false-true h)
+no-words S (AtStore i j) h = absurd (false-true h)
+no-words S AtEnd h = refl
+
+one-word : (S : Shape) (R : Run) (q : Place) → isEnd q ≡ false → askedAs Done (handedOf (R .plan) (wordsAt S q)) (moved smaller R) ≡ asked (askWith smaller R (wordsAt S q))
+one-word S R AtType h = refl
+one-word S R (AtM i) h = refl
+one-word S R (AtN i j) h = refl
+one-word S R (AtClear i j) h = refl
+one-word S R (AtK i j s) h = refl
+one-word S R (AtA i j s) h = refl
+one-word S R (AtB i j s) h = refl
+one-word S R (AtMultiply i j s) h = refl
+one-word S R (AtStore i j) h = refl
+one-word S R AtEnd h = absurd (false-true (sym h))
+
+module _ (R : Run) where
+  handing : soundRun smaller R ≡ true → wordsAt (runShape smaller R) (R .place) ≡ handsOut smaller R
+  handing h = ap (λ (t : Bool). cond t (wordsAt (runShape smaller R) (R .place)) []) (sym h)
+
+  pub ask-unsound : soundRun smaller R ≡ false → asked (askWith smaller R []) ≡ asked (ask smaller R)
+  ask-unsound h = ap (λ (t : Bool). asked (askWith smaller R (cond t (wordsAt (runShape smaller R) (R .place)) []))) (sym h)
+
+  pub ask-end : soundRun smaller R ≡ true → isEnd (R .place) ≡ true → asked (askWith smaller R []) ≡ asked (ask smaller R)
+  ask-end h e = ap (λ (os : List Op). asked (askWith smaller R os)) (no-words (runShape smaller R) (R .place) e ∙ handing h)
+
+  pub ask-done : soundRun smaller R ≡ true → isEnd (R .place) ≡ false
+      → askedAs Done (handedOf (R .plan) (wordsAt (runShape smaller R) (R .place))) (moved smaller R) ≡ asked (ask smaller R)
+  ask-done h e = one-word (runShape smaller R) R (R .place) e ∙ ap (λ (os : List Op). asked (askWith smaller R os)) (handing h)
+
+-- ---- the next place
+
+pub within : (P : Plan) (p : Place) → placed P p ≡ true → Within (P .m) (P .k) (P .n) p
+within P AtType h = tt
+within P (AtM i) h = at-m P i h
+within P (AtN i j) h = tt
+within P (AtClear i j) h = tt
+within P (AtK i j s) h = tt
+within P (AtA i j s) h = tt
+within P (AtB i j s) h = tt
+within P (AtMultiply i j s) h = at-multiply P i j s h .1 .1
+within P (AtStore i j) h = at-store P i j h
+within P AtEnd h = tt
+
+-- by the most rows, columns and terms as code holds them
+pub next-by : (R : Run) (rows columns terms : ℕ) → Most R rows columns terms → (p : Place)
+    → next (shapeBy (R .plan .m) (R .plan .k) (R .plan .n) rows columns terms) p ≡ next (runShape smaller R) p
+next-by R rows columns terms h p =
+    let P : Plan = R .plan in
+    ap (λ (x : ℕ). next (shapeBy (P .m) (P .k) (P .n) x columns terms) p) (h .rows-are)
+    ∙ ap (λ (x : ℕ). next (shapeBy (P .m) (P .k) (P .n) (runShape smaller R .tm) x terms) p) (h .columns-are)
+    ∙ ap (λ (x : ℕ). next (shapeBy (P .m) (P .k) (P .n) (runShape smaller R .tm) (runShape smaller R .tn) x) p) (h .terms-are)
+
+-- it lies in the matrices
+module _ (R : Run) where
+  abbrev S : Shape
+  S = runShape smaller R
+
+  abbrev P : Plan
+  P = R .plan
+
+  place-m : (i : ℕ) → placed P (headM S i) ≡ true
+  place-m i = go (ltb i (P .m)) refl
+    where
+      go : (t : Bool) → ltb i (P .m) ≡ t → placed P (cond t (AtM i) AtEnd) ≡ true
+      go true e = e
+      go false e = refl
+
+  place-n : (i j : ℕ) → ltb i (P .m) ≡ true → placed P (headN S i j) ≡ true
+  place-n i j h = go (ltb j (P .n)) refl
+    where
+      go : (t : Bool) → ltb j (P .n) ≡ t → placed P (cond t (AtN i j) (headM S (i + smaller (S .tm) (P .m - i)))) ≡ true
+      go true e = each-every (ltb i (P .m) ∷ ltb j (P .n) ∷ []) (h, (e, tt))
+      go false e = place-m (i + smaller (S .tm) (P .m - i))
+
+  place-k : (i j s : ℕ) → ltb i (P .m) ≡ true → ltb j (P .n) ≡ true → placed P (headK S i j s) ≡ true
+  place-k i j s h g = go (ltb s (P .k)) refl
+    where
+      go : (t : Bool) → ltb s (P .k) ≡ t → placed P (cond t (AtK i j s) (AtStore i j)) ≡ true
+      go true e = each-every (ltb i (P .m) ∷ ltb j (P .n) ∷ ltb s (P .k) ∷ []) (h, (g, (e, tt)))
+      go false e = each-every (ltb i (P .m) ∷ ltb j (P .n) ∷ []) (h, (g, tt))
+
+  placed-next : (p : Place) → placed P p ≡ true → placed P (next S p) ≡ true
+  placed-next AtType h = place-m 0
+  placed-next (AtM i) h = place-n i 0 h
+  placed-next (AtN i j) h = h
+  placed-next (AtClear i j) h = let t = every-each (ltb i (P .m) ∷ ltb j (P .n) ∷ []) h in place-k i j 0 (t .0) (t .1 .0)
+  placed-next (AtK i j s) h = h
+  placed-next (AtA i j s) h = h
+  placed-next (AtB i j s) h = h
+  placed-next (AtMultiply i j s) h =
+      let t = every-each (ltb i (P .m) ∷ ltb j (P .n) ∷ ltb s (P .k) ∷ []) h in place-k i j (s + smaller (S .tk) (P .k - s)) (t .0) (t .1 .0)
+  placed-next (AtStore i j) h =
+      let t = every-each (ltb i (P .m) ∷ ltb j (P .n) ∷ []) h in place-n i (j + smaller (S .tn) (P .n - j)) (t .0)
+  placed-next AtEnd h = refl
+
+-- a run that a start can have made stays one
+pub moved-sound : (R : Run) → soundRun smaller R ≡ true → soundRun smaller (moved smaller R) ≡ true
+unfolding soundRun
+moved-sound R ok =
+    let t = every-each (permitted (R .rlen) (R .mlen) ∷ planned (R .plan) ∷ placed (R .plan) (R .place) ∷ begins (runShape smaller R) (R .place) ∷ []) ok in
+    each-every (
+    permitted (R .rlen) (R .mlen)
+    ∷ planned (R .plan)
+    ∷ placed (R .plan) (next (runShape smaller R) (R .place))
+    ∷ begins (runShape smaller R) (next (runShape smaller R) (R .place)) ∷ [])
+    (t .0, (t .1 .0, (placed-next R (R .place) (t .1 .1 .0), (begins-next (runShape smaller R) (run-most R (run-numbered R ok)) (R .place) (t .1 .1 .1 .0), tt))))

@@ -1,0 +1,52 @@
+use mathlib.Core.Path.{ap, ap₂, _∙_}
+use Prim.Native.Nat.{ℕ, _+_, _*_}
+use Rattle.run.specs.Encoding.{memoryWord, startOf}
+use Rattle.asking.proofs.AskingLaws.{handed-by}
+use borrow.Author.Needs.{needs}
+use Rattle.asking.proofs.hand_store.Statement.{statement}
+use Rattle.asking.proofs.hand_store.Tie as tie
+
+width-code-requires : tie.Need-width-code-requires
+width-code-requires c κs = search needs
+
+factor-code-requires : tie.Need-factor-code-requires
+factor-code-requires c κs = search needs
+
+add-memory-word : tie.Need-add-memory-word
+add-memory-word c = search needs
+
+memory-word-requires : tie.Need-memory-word-requires
+memory-word-requires c κs = search needs
+
+wide-bytes-requires : tie.Need-wide-bytes-requires
+wide-bytes-requires c κs = search needs
+
+small-times-requires : tie.Need-small-times-requires
+small-times-requires c κs = search needs
+
+start-of-requires : tie.Need-start-of-requires
+start-of-requires c κs = search needs
+
+returns : tie.Need-returns
+returns c =
+    let t = c .before .before in
+    let n = t .before in
+    let m = n .before in
+    let f = m .before in
+    let w = f .before in
+    let a = w .before .args in
+    handed-by (a .plan .c .stride) (m .memory-word .ensures ∙ ap₂ (λ (e g : ℕ). memoryWord 1 (e + g) 0) (w .width-code .ensures .0) (f .factor-code .ensures .0))
+    (c .start-of .ensures ∙ ap (startOf (a .plan .c) (a .row)) (t .small-times .ensures ∙ ap (λ (b : ℕ). a .column * b) (n .wide-bytes .ensures .0)))
+
+pub hand-store-spec : {M : Type 1} → statement M
+hand-store-spec =
+    tie.close
+    (tie.spec
+    width-code-requires
+    factor-code-requires
+    add-memory-word
+    memory-word-requires
+    wide-bytes-requires
+    small-times-requires
+    start-of-requires
+    returns)

@@ -1,0 +1,245 @@
+use mathlib.Core.Path.{_≡_, sym, ap, _∙_, subst}
+use mathlib.Core.Bool.{true}
+use native.Mathlib.Omega.{arith}
+use Rattle.machine.specs.Setting.{smaller}
+use Rattle.run.specs.declared.Place.{Place}
+use Rattle.run.specs.Places.{wordsAt}
+use Rattle.run.specs.Turn.{placed, runShape}
+use Rattle.asking.specs.Parts.{handedOf}
+use Rattle.asking.proofs.AskingLaws.{run-numbered, run-placed, run-planned, run-sizes, at-m, at-store, at-multiply}
+use borrow.Author.Needs.{needs}
+use Rattle.asking.proofs.handed_at.Statement.{statement}
+use Rattle.asking.proofs.handed_at.Tie as tie
+
+enum-told : tie.Need-enum-told
+enum-told c = search needs
+
+hand-type-requires : tie.Need-hand-type-requires
+hand-type-requires c κs = search needs
+
+enum-known-place : tie.Need-enum-known-place
+enum-known-place c = search needs
+
+sub-hand-setting : tie.Need-sub-hand-setting
+sub-hand-setting c =
+    let p = c .before .before in
+    let s = p .before .before .before in
+    let R = s .args .run in
+    let g = p .place .given in
+    let h = subst (λ (q : Place). placed (R .plan) q ≡ true) (g .1) (run-placed R (s .pre)) in
+    let z = run-sizes R (run-numbered R (s .pre)) in
+    at-m (R .plan) (g .0 .0) h
+
+hand-setting-requires : tie.Need-hand-setting-requires
+hand-setting-requires c κs =
+    let p = c .before .before in
+    let s = p .before .before .before in
+    let R = s .args .run in
+    let g = p .place .given in
+    let h = subst (λ (q : Place). placed (R .plan) q ≡ true) (g .1) (run-placed R (s .pre)) in
+    let z = run-sizes R (run-numbered R (s .pre)) in
+    (omega arith, omega (arith, z .0))
+
+enum-known-place-2 : tie.Need-enum-known-place-2
+enum-known-place-2 c = search needs
+
+sub-hand-setting-2 : tie.Need-sub-hand-setting-2
+sub-hand-setting-2 c =
+    let p = c .before .before in
+    let s = p .before .before .before in
+    let R = s .args .run in
+    let g = p .place2 .given in
+    let h = subst (λ (q : Place). placed (R .plan) q ≡ true) (g .1) (run-placed R (s .pre)) in
+    let z = run-sizes R (run-numbered R (s .pre)) in
+    at-store (R .plan) (g .0 .0) (g .0 .1 .0) h .1
+
+hand-setting-requires-2 : tie.Need-hand-setting-requires-2
+hand-setting-requires-2 c κs =
+    let p = c .before .before in
+    let s = p .before .before .before in
+    let R = s .args .run in
+    let g = p .place2 .given in
+    let h = subst (λ (q : Place). placed (R .plan) q ≡ true) (g .1) (run-placed R (s .pre)) in
+    let z = run-sizes R (run-numbered R (s .pre)) in
+    (omega arith, omega (arith, z .2))
+
+enum-told-2 : tie.Need-enum-told-2
+enum-told-2 c = search needs
+
+hand-clear-requires : tie.Need-hand-clear-requires
+hand-clear-requires c κs = search needs
+
+enum-known-place-3 : tie.Need-enum-known-place-3
+enum-known-place-3 c = search needs
+
+sub-hand-setting-3 : tie.Need-sub-hand-setting-3
+sub-hand-setting-3 c =
+    let p = c .before .before in
+    let s = p .before .before .before in
+    let R = s .args .run in
+    let g = p .place3 .given in
+    let h = subst (λ (q : Place). placed (R .plan) q ≡ true) (g .1) (run-placed R (s .pre)) in
+    let z = run-sizes R (run-numbered R (s .pre)) in
+    at-multiply (R .plan) (g .0 .0) (g .0 .1 .0) (g .0 .1 .1 .0) h .1 .1
+
+hand-setting-requires-3 : tie.Need-hand-setting-requires-3
+hand-setting-requires-3 c κs =
+    let p = c .before .before in
+    let s = p .before .before .before in
+    let R = s .args .run in
+    let g = p .place3 .given in
+    let h = subst (λ (q : Place). placed (R .plan) q ≡ true) (g .1) (run-placed R (s .pre)) in
+    let z = run-sizes R (run-numbered R (s .pre)) in
+    (omega arith, omega (arith, z .1))
+
+enum-known-place-4 : tie.Need-enum-known-place-4
+enum-known-place-4 c = search needs
+
+hand-load-a-requires : tie.Need-hand-load-a-requires
+hand-load-a-requires c κs =
+    let p = c .before in
+    let s = p .before .before .before in
+    let R = s .args .run in
+    let g = p .place4 .given in
+    let h = subst (λ (q : Place). placed (R .plan) q ≡ true) (g .1) (run-placed R (s .pre)) in
+    let z = run-sizes R (run-numbered R (s .pre)) in
+    let b = at-multiply (R .plan) (g .0 .0) (g .0 .1 .0) (g .0 .1 .1 .0) h in
+    (run-planned R (run-numbered R (s .pre)), (omega (arith, b .0, z .0), omega (arith, b .1 .1, z .1)))
+
+enum-known-place-5 : tie.Need-enum-known-place-5
+enum-known-place-5 c = search needs
+
+hand-load-b-requires : tie.Need-hand-load-b-requires
+hand-load-b-requires c κs =
+    let p = c .before in
+    let s = p .before .before .before in
+    let R = s .args .run in
+    let g = p .place5 .given in
+    let h = subst (λ (q : Place). placed (R .plan) q ≡ true) (g .1) (run-placed R (s .pre)) in
+    let z = run-sizes R (run-numbered R (s .pre)) in
+    let b = at-multiply (R .plan) (g .0 .0) (g .0 .1 .0) (g .0 .1 .1 .0) h in
+    (run-planned R (run-numbered R (s .pre)), (omega (arith, b .1 .1, z .1), omega (arith, b .1 .0, z .2)))
+
+enum-told-3 : tie.Need-enum-told-3
+enum-told-3 c = search needs
+
+hand-multiply-requires : tie.Need-hand-multiply-requires
+hand-multiply-requires c κs = search needs
+
+enum-known-place-6 : tie.Need-enum-known-place-6
+enum-known-place-6 c = search needs
+
+hand-store-requires : tie.Need-hand-store-requires
+hand-store-requires c κs =
+    let p = c .before in
+    let s = p .before .before .before in
+    let R = s .args .run in
+    let g = p .place6 .given in
+    let h = subst (λ (q : Place). placed (R .plan) q ≡ true) (g .1) (run-placed R (s .pre)) in
+    let z = run-sizes R (run-numbered R (s .pre)) in
+    let b = at-store (R .plan) (g .0 .0) (g .0 .1 .0) h in
+    (run-planned R (run-numbered R (s .pre)), (omega (arith, b .0, z .0), omega (arith, b .1, z .2)))
+
+enum-told-4 : tie.Need-enum-told-4
+enum-told-4 c = search needs
+
+plain-step-requires : tie.Need-plain-step-requires
+plain-step-requires c κs = search needs
+
+returns : tie.Need-returns
+returns c =
+    let p = c .before in
+    let R = p .before .before .before .args .run in
+    c .hand-type .ensures ∙ ap (λ (q : Place). handedOf (R .plan) (wordsAt (runShape smaller R) q)) (sym (p .enum-told .given .1))
+
+returns-2 : tie.Need-returns-2
+returns-2 c =
+    let p = c .before .before .before in
+    let R = p .before .before .before .args .run in
+    c .hand-setting .ensures ∙ ap (λ (q : Place). handedOf (R .plan) (wordsAt (runShape smaller R) q)) (sym (p .place .given .1))
+
+returns-3 : tie.Need-returns-3
+returns-3 c =
+    let p = c .before .before .before in
+    let R = p .before .before .before .args .run in
+    c .hand-setting2 .ensures ∙ ap (λ (q : Place). handedOf (R .plan) (wordsAt (runShape smaller R) q)) (sym (p .place2 .given .1))
+
+returns-4 : tie.Need-returns-4
+returns-4 c =
+    let p = c .before in
+    let R = p .before .before .before .args .run in
+    c .hand-clear .ensures ∙ ap (λ (q : Place). handedOf (R .plan) (wordsAt (runShape smaller R) q)) (sym (p .enum-told2 .given .1))
+
+returns-5 : tie.Need-returns-5
+returns-5 c =
+    let p = c .before .before .before in
+    let R = p .before .before .before .args .run in
+    c .hand-setting3 .ensures ∙ ap (λ (q : Place). handedOf (R .plan) (wordsAt (runShape smaller R) q)) (sym (p .place3 .given .1))
+
+returns-6 : tie.Need-returns-6
+returns-6 c =
+    let p = c .before .before in
+    let R = p .before .before .before .args .run in
+    c .hand-load-a .ensures ∙ ap (λ (q : Place). handedOf (R .plan) (wordsAt (runShape smaller R) q)) (sym (p .place4 .given .1))
+
+returns-7 : tie.Need-returns-7
+returns-7 c =
+    let p = c .before .before in
+    let R = p .before .before .before .args .run in
+    c .hand-load-b .ensures ∙ ap (λ (q : Place). handedOf (R .plan) (wordsAt (runShape smaller R) q)) (sym (p .place5 .given .1))
+
+returns-8 : tie.Need-returns-8
+returns-8 c =
+    let p = c .before in
+    let R = p .before .before .before .args .run in
+    c .hand-multiply .ensures ∙ ap (λ (q : Place). handedOf (R .plan) (wordsAt (runShape smaller R) q)) (sym (p .enum-told3 .given .1))
+
+returns-9 : tie.Need-returns-9
+returns-9 c =
+    let p = c .before .before in
+    let R = p .before .before .before .args .run in
+    c .hand-store .ensures ∙ ap (λ (q : Place). handedOf (R .plan) (wordsAt (runShape smaller R) q)) (sym (p .place6 .given .1))
+
+returns-10 : tie.Need-returns-10
+returns-10 c =
+    let p = c .before in
+    let R = p .before .before .before .args .run in
+    c .plain-step .ensures ∙ ap (λ (q : Place). handedOf (R .plan) (wordsAt (runShape smaller R) q)) (sym (p .enum-told4 .given .1))
+
+pub handed-at-spec : {M : Type 1} → statement M
+handed-at-spec =
+    tie.close
+    (tie.spec
+    enum-told
+    hand-type-requires
+    enum-known-place
+    sub-hand-setting
+    hand-setting-requires
+    enum-known-place-2
+    sub-hand-setting-2
+    hand-setting-requires-2
+    enum-told-2
+    hand-clear-requires
+    enum-known-place-3
+    sub-hand-setting-3
+    hand-setting-requires-3
+    enum-known-place-4
+    hand-load-a-requires
+    enum-known-place-5
+    hand-load-b-requires
+    enum-told-3
+    hand-multiply-requires
+    enum-known-place-6
+    hand-store-requires
+    enum-told-4
+    plain-step-requires
+    returns
+    returns-2
+    returns-3
+    returns-4
+    returns-5
+    returns-6
+    returns-7
+    returns-8
+    returns-9
+    returns-10)

@@ -1,0 +1,101 @@
+use mathlib.Core.Path.{_≡_, sym, _∙_}
+use mathlib.Core.Bool.{Bool, true}
+use mathlib.Core.List.{[], _∷_}
+use borrow.Author.Tests.{not-true, not-false}
+use Rattle.machine.specs.Geometry.{permitted}
+use Rattle.machine.specs.Setting.{smaller}
+use Rattle.machine.proofs.TestLaws.{each-every}
+use Rattle.run.specs.declared.Run.{Run}
+use Rattle.run.specs.Start.{planned}
+use Rattle.run.specs.Turn.{placed, begins, runShape, soundRun}
+use Rattle.asking.specs.Parts.{numbered}
+use Rattle.asking.proofs.AskingLaws.{fails, last}
+use borrow.Author.Needs.{needs}
+use Rattle.asking.proofs.is_sound_run.Statement.{statement}
+use Rattle.asking.proofs.is_sound_run.Tie as tie
+
+-- the tests in their order
+abbrev lengths : Run → Bool
+lengths R = permitted (R .rlen) (R .mlen)
+
+abbrev plans : Run → Bool
+plans R = planned (R .plan)
+
+abbrev places : Run → Bool
+places R = placed (R .plan) (R .place)
+
+abbrev blocks : Run → Bool
+blocks R = begins (runShape smaller R) (R .place)
+
+-- those that have passed
+ok-1 : (c : tie.Else1) → lengths (c .before .before .args .run) ≡ true
+ok-1 c = sym (c .before .permitted-lengths .ensures) ∙ not-false (c .before .permitted-lengths .result) (c .if1 .left)
+
+ok-2 : (c : tie.Else2) → plans (c .before .before .before .before .before .args .run) ≡ true
+ok-2 c = sym (c .before .is-planned .ensures) ∙ not-false (c .before .is-planned .result) (c .if2 .left)
+
+ok-3 : (c : tie.Else3) → places (c .before .before .before .before .before .before .before .args .run) ≡ true
+ok-3 c = sym (c .before .is-placed .ensures) ∙ not-false (c .before .is-placed .result) (c .if3 .left)
+
+permitted-lengths-requires : tie.Need-permitted-lengths-requires
+permitted-lengths-requires c κs = search needs
+
+returns : tie.Need-returns
+unfolding soundRun
+returns c =
+    let R = c .before .before .args .run in
+    fails [] tt (lengths R) (sym (c .before .permitted-lengths .ensures) ∙ not-true (c .before .permitted-lengths .result) (c .if1 .taken))
+    (plans R ∷ places R ∷ blocks R ∷ [])
+
+is-planned-requires : tie.Need-is-planned-requires
+is-planned-requires c κs = search needs
+
+returns-2 : tie.Need-returns-2
+unfolding soundRun
+returns-2 c =
+    let o = c .before .before .before in
+    let R = o .before .before .args .run in
+    fails (lengths R ∷ []) (ok-1 o, tt) (plans R) (sym (c .before .is-planned .ensures) ∙ not-true (c .before .is-planned .result) (c .if2 .taken))
+    (places R ∷ blocks R ∷ [])
+
+is-placed-requires : tie.Need-is-placed-requires
+is-placed-requires c κs = search needs
+
+returns-3 : tie.Need-returns-3
+unfolding soundRun
+returns-3 c =
+    let e = c .before .before in
+    let o = e .before .before .before in
+    let R = o .before .before .args .run in
+    fails (lengths R ∷ plans R ∷ []) (ok-1 o, (ok-2 e, tt)) (places R) (sym (c .before .is-placed .ensures) ∙ not-true (c .before .is-placed .result) (c .if3 .taken))
+    (blocks R ∷ [])
+
+is-begun-requires : tie.Need-is-begun-requires
+unfolding numbered
+is-begun-requires c κs =
+    let e = c .before .before in
+    let o = e .before .before .before in
+    let R = o .before .before .args .run in
+    (each-every (lengths R ∷ plans R ∷ []) (ok-1 o, (ok-2 e, tt)), ok-3 c)
+
+returns-4 : tie.Need-returns-4
+unfolding soundRun
+returns-4 c =
+    let f = c .before in
+    let e = f .before .before in
+    let o = e .before .before .before in
+    let R = o .before .before .args .run in
+    c .is-begun .ensures ∙ last (lengths R ∷ plans R ∷ places R ∷ []) (ok-1 o, (ok-2 e, (ok-3 f, tt))) (blocks R)
+
+pub is-sound-run-spec : {M : Type 1} → statement M
+is-sound-run-spec =
+    tie.close
+    (tie.spec
+    permitted-lengths-requires
+    returns
+    is-planned-requires
+    returns-2
+    is-placed-requires
+    returns-3
+    is-begun-requires
+    returns-4)

@@ -1,0 +1,81 @@
+use mathlib.Core.Path.{_≡_, sym, ap₂, _∙_}
+use mathlib.Core.Bool.{true}
+use borrow.Author.Tests.{not-true, not-false}
+use Rattle.machine.specs.declared.Answer.the-variants.{Done}
+use Rattle.machine.specs.Setting.{smaller}
+use Rattle.run.specs.Turn.{soundRun}
+use Rattle.asking.proofs.AskingLaws.{run-numbered, askedAs, ask-unsound, ask-end, ask-done}
+use borrow.Author.Needs.{needs}
+use Rattle.asking.proofs.next.Statement.{statement}
+use Rattle.asking.proofs.next.Tie as tie
+
+-- the run is sound
+ok-1 : (c : tie.Else1) → soundRun smaller (c .before .before .args .run) ≡ true
+ok-1 c = sym (c .before .is-sound-run .ensures) ∙ not-false (c .before .is-sound-run .result) (c .if1 .left)
+
+is-sound-run-requires : tie.Need-is-sound-run-requires
+is-sound-run-requires c κs = search needs
+
+refused-requires : tie.Need-refused-requires
+refused-requires c κs = search needs
+
+returns : tie.Need-returns
+returns c =
+    let t = c .before .before in
+    c .refused .ensures ∙ ask-unsound (t .before .args .run) (sym (t .is-sound-run .ensures) ∙ not-true (t .is-sound-run .result) (c .before .if1 .taken))
+
+is-end-requires : tie.Need-is-end-requires
+is-end-requires c κs = search needs
+
+refused-requires-2 : tie.Need-refused-requires-2
+refused-requires-2 c κs = search needs
+
+returns-2 : tie.Need-returns-2
+returns-2 c =
+    let e = c .before .before in
+    let o = e .before in
+    c .refused2 .ensures ∙ ask-end (o .before .before .args .run) (ok-1 o) (sym (e .is-end .ensures) ∙ c .before .if2 .taken)
+
+handed-at-requires : tie.Need-handed-at-requires
+handed-at-requires c κs = ok-1 (c .before .before)
+
+most-rows-requires : tie.Need-most-rows-requires
+most-rows-requires c κs = let o = c .before .before .before in run-numbered (o .before .before .args .run) (ok-1 o)
+
+most-columns-requires : tie.Need-most-columns-requires
+most-columns-requires c κs = let o = c .before .before .before .before in run-numbered (o .before .before .args .run) (ok-1 o)
+
+most-terms-requires : tie.Need-most-terms-requires
+most-terms-requires c κs = let o = c .before .before .before .before .before in run-numbered (o .before .before .args .run) (ok-1 o)
+
+moved-run-requires : tie.Need-moved-run-requires
+moved-run-requires c κs = (
+  ok-1 (c .before .before .before .before .before .before),
+  record { rows-are = c .before .before .most-rows .ensures; columns-are = c .before .most-columns .ensures; terms-are = c .most-terms .ensures },
+)
+
+returns-3 : tie.Need-returns-3
+returns-3 c =
+    let h = c .before .before .before .before in
+    let f = h .before in
+    let e = f .before in
+    let o = e .before in
+    ap₂ (askedAs Done) (h .handed-at .ensures) (c .moved-run .ensures)
+    ∙ ask-done (o .before .before .args .run) (ok-1 o) (sym (e .is-end .ensures) ∙ f .if2 .left)
+
+pub next-spec : {M : Type 1} → statement M
+next-spec =
+    tie.close
+    (tie.spec
+    is-sound-run-requires
+    refused-requires
+    returns
+    is-end-requires
+    refused-requires-2
+    returns-2
+    handed-at-requires
+    most-rows-requires
+    most-columns-requires
+    most-terms-requires
+    moved-run-requires
+    returns-3)

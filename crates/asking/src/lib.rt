@@ -1,0 +1,680 @@
+// One word at a time: whether a run is one that a start can have made, its next place, and the step handed out.
+use run::Asked;
+use run::Handed;
+use run::Place;
+use run::Plan;
+use run::Run;
+use machine::Answer;
+ghost use mathlib.Core.Path.{_≡_};
+ghost use mathlib.Core.Bool.{true, false};
+ghost use mathlib.Core.List.{[], _∷_};
+ghost use Prim.Native.Nat.{_+_, _-_, _*_, _%_, _^_, _≤_, _<_};
+ghost use lib.Dec.{leb, ltb};
+ghost use Rattle.machine.specs.Tests.{every, isIn};
+ghost use Rattle.machine.specs.Setting.{smaller, maxM, maxN, maxK};
+ghost use Rattle.run.specs.Words.{Op, setType, clear, multiply, loadA, loadB, store, sizeM, sizeN, sizeK};
+ghost use Rattle.run.specs.Plan.{narrow, wide, msew, typeOf};
+ghost use Rattle.run.specs.Start.{format, planned};
+ghost use Rattle.run.specs.Places.{headM, headN, headK, next, wordsAt};
+ghost use Rattle.run.specs.Turn.{placed, startsM, startsN, startsK, begins, soundRun, runParameters, runShape, moved, asked, ask};
+ghost use Rattle.asking.specs.Parts.{numbered, isEnd, handedOf, shapeBy, Within, Most};
+ghost use Rattle.machine.specs.declared.Answer.the-variants.{BadArguments};
+ghost use Rattle.run.specs.Encoding.{settingWord, memoryWord, arithmeticWord, log, plain, startOf, handedFor};
+
+// ---- runs that a start can have made
+
+fn is_sew(x: u64) -> bool
+    ensures { λ r. ⌜ r ≡ isIn x (8 ∷ 16 ∷ 32 ∷ []) ⌝ }
+{
+    match x {
+        8 | 16 | 32 => true,
+        _ => false,
+    }
+}
+
+fn is_factor(x: u64) -> bool
+    ensures { λ r. ⌜ r ≡ isIn x (1 ∷ 2 ∷ 4 ∷ []) ⌝ }
+{
+    if x == 1 {
+        return true;
+    }
+    if x == 2 {
+        return true;
+    }
+    x == 4
+}
+
+// Whether a plan may have elements of sew bits, and of factor times as many in C.
+pub fn is_format(sew: u64, factor: u64) -> bool
+    ensures { λ r. ⌜ r ≡ format sew factor ⌝ }
+{
+    if !is_sew(sew) {
+        return false;
+    }
+    if !is_factor(factor) {
+        return false;
+    }
+    factor * sew <= 32
+}
+
+// Whether the numbers of a plan are permitted.
+pub fn is_planned(plan: Plan) -> bool
+    ensures { λ r. ⌜ r ≡ planned plan ⌝ }
+{
+    let sew = plan.sew;
+    let factor = plan.factor;
+    if !is_format(sew, factor) {
+        return false;
+    }
+    if plan.m > 1024 {
+        return false;
+    }
+    if plan.k > 1024 {
+        return false;
+    }
+    plan.n <= 1024
+}
+
+fn in_product(plan: Plan, row: u64, column: u64) -> bool
+    ensures { λ r. ⌜ r ≡ every (ltb row (plan .m) ∷ ltb column (plan .n) ∷ []) ⌝ }
+{
+    if row >= plan.m {
+        return false;
+    }
+    column < plan.n
+}
+
+fn in_sums(plan: Plan, row: u64, column: u64, term: u64) -> bool
+    ensures { λ r. ⌜ r ≡ every (ltb row (plan .m) ∷ ltb column (plan .n) ∷ ltb term (plan .k) ∷ []) ⌝ }
+{
+    if row >= plan.m {
+        return false;
+    }
+    if column >= plan.n {
+        return false;
+    }
+    term < plan.k
+}
+
+// Whether a place lies in the matrices.
+pub fn is_placed(plan: Plan, place: Place) -> bool
+    ensures { λ r. ⌜ r ≡ placed plan place ⌝ }
+{
+    match place {
+        Place::AtType => true,
+        Place::AtM { row } => row < plan.m,
+        Place::AtN { row, column } => in_product(plan, row, column),
+        Place::AtClear { row, column } => in_product(plan, row, column),
+        Place::AtK { row, column, term } => in_sums(plan, row, column, term),
+        Place::AtA { row, column, term } => in_sums(plan, row, column, term),
+        Place::AtB { row, column, term } => in_sums(plan, row, column, term),
+        Place::AtMultiply { row, column, term } => in_sums(plan, row, column, term),
+        Place::AtStore { row, column } => in_product(plan, row, column),
+        Place::AtEnd => true,
+    }
+}
+
+fn lesser(a: u64, b: u64) -> u64
+    ensures { λ r. ⌜ r ≡ smaller b a ⌝ }
+{
+    if a < b { a } else { b }
+}
+
+// The most rows of a block.
+pub fn most_rows(run: Run) -> u64
+    requires { ⌜ numbered run ≡ true ⌝ }
+    ensures { λ r. ⌜ r ≡ maxM (runParameters smaller run) (typeOf (run .plan)) ⌝ }
+{
+    run.mlen / run.rlen
+}
+
+// The most columns.
+pub fn most_columns(run: Run) -> u64
+    requires { ⌜ numbered run ≡ true ⌝ }
+    ensures { λ r. ⌜ r ≡ maxN (runParameters smaller run) (typeOf (run .plan)) ⌝ }
+{
+    let bytes = run.plan.sew / 8;
+    run.rlen / 8 / bytes
+}
+
+// The most terms.
+pub fn most_terms(run: Run) -> u64
+    requires { ⌜ numbered run ≡ true ⌝ }
+    ensures { λ r. ⌜ r ≡ maxK (runParameters smaller run) (typeOf (run .plan)) ⌝ }
+{
+    let rows = most_rows(run);
+    let columns = most_columns(run);
+    lesser(rows, columns)
+}
+
+// Whether a block of rows starts at this row.
+fn starts_rows(run: Run, row: u64) -> bool
+    requires { ⌜ numbered run ≡ true ⌝ }
+    requires { ⌜ row < run .plan .m ⌝ }
+    ensures { λ r. ⌜ r ≡ startsM (runShape smaller run) row ⌝ }
+{
+    let most = most_rows(run);
+    row % most == 0
+}
+
+fn starts_columns(run: Run, column: u64) -> bool
+    requires { ⌜ numbered run ≡ true ⌝ }
+    requires { ⌜ column < run .plan .n ⌝ }
+    ensures { λ r. ⌜ r ≡ startsN (runShape smaller run) column ⌝ }
+{
+    let most = most_columns(run);
+    column % most == 0
+}
+
+fn starts_terms(run: Run, term: u64) -> bool
+    requires { ⌜ numbered run ≡ true ⌝ }
+    requires { ⌜ term < run .plan .k ⌝ }
+    ensures { λ r. ⌜ r ≡ startsK (runShape smaller run) term ⌝ }
+{
+    let most = most_terms(run);
+    term % most == 0
+}
+
+fn starts_product(run: Run, row: u64, column: u64) -> bool
+    requires { ⌜ numbered run ≡ true ⌝ }
+    requires { ⌜ every (ltb row (run .plan .m) ∷ ltb column (run .plan .n) ∷ []) ≡ true ⌝ }
+    ensures { λ r. ⌜ r ≡ every (startsM (runShape smaller run) row ∷ startsN (runShape smaller run) column ∷ []) ⌝ }
+{
+    if !starts_rows(run, row) {
+        return false;
+    }
+    starts_columns(run, column)
+}
+
+fn starts_sums(run: Run, row: u64, column: u64, term: u64) -> bool
+    requires { ⌜ numbered run ≡ true ⌝ }
+    requires { ⌜ every (ltb row (run .plan .m) ∷ ltb column (run .plan .n) ∷ ltb term (run .plan .k) ∷ []) ≡ true ⌝ }
+    ensures { λ r. ⌜ r ≡ every (startsM (runShape smaller run) row ∷ startsN (runShape smaller run) column ∷ startsK (runShape smaller run) term ∷ []) ⌝ }
+{
+    if !starts_rows(run, row) {
+        return false;
+    }
+    if !starts_columns(run, column) {
+        return false;
+    }
+    starts_terms(run, term)
+}
+
+// Whether blocks start at the place of a run.
+fn is_begun(run: Run) -> bool
+    requires { ⌜ numbered run ≡ true ⌝ }
+    requires { ⌜ placed (run .plan) (run .place) ≡ true ⌝ }
+    ensures { λ r. ⌜ r ≡ begins (runShape smaller run) (run .place) ⌝ }
+{
+    let place = run.place;
+    match place {
+        Place::AtType => true,
+        Place::AtM { row } => starts_rows(run, row),
+        Place::AtN { row, column } => starts_product(run, row, column),
+        Place::AtClear { row, column } => starts_product(run, row, column),
+        Place::AtK { row, column, term } => starts_sums(run, row, column, term),
+        Place::AtA { row, column, term } => starts_sums(run, row, column, term),
+        Place::AtB { row, column, term } => starts_sums(run, row, column, term),
+        Place::AtMultiply { row, column, term } => starts_sums(run, row, column, term),
+        Place::AtStore { row, column } => starts_product(run, row, column),
+        Place::AtEnd => true,
+    }
+}
+
+// Whether the numbers of a run are ones that a run can hold, and its place one that a run comes to.
+pub fn is_sound_run(run: Run) -> bool
+    ensures { λ r. ⌜ r ≡ soundRun smaller run ⌝ }
+{
+    let rlen = run.rlen;
+    let mlen = run.mlen;
+    if !machine::permitted_lengths(rlen, mlen) {
+        return false;
+    }
+    let plan = run.plan;
+    if !is_planned(plan) {
+        return false;
+    }
+    let place = run.place;
+    if !is_placed(plan, place) {
+        return false;
+    }
+    is_begun(run)
+}
+
+// ---- the next place
+
+// Where a block ends: at most so many further, and not past the total.
+fn block_end(total: u64, at: u64, most: u64) -> u64
+    requires { ⌜ at ≤ total ⌝ }
+    ensures { λ r. ⌜ r ≡ at + smaller most (total - at) ⌝ }
+{
+    at + lesser(total - at, most)
+}
+
+// Where a loop goes on: at its next block, or past it.
+fn head_rows(m: u64, k: u64, n: u64, rows: u64, columns: u64, terms: u64, row: u64) -> Place
+    ensures { λ r. ⌜ r ≡ headM (shapeBy m k n rows columns terms) row ⌝ }
+{
+    if row < m {
+        return Place::AtM { row: row };
+    }
+    Place::AtEnd
+}
+
+fn head_columns(
+    m: u64,
+    k: u64,
+    n: u64,
+    rows: u64,
+    columns: u64,
+    terms: u64,
+    row: u64,
+    column: u64,
+) -> Place
+    requires { ⌜ row ≤ m ⌝ }
+    ensures { λ r. ⌜ r ≡ headN (shapeBy m k n rows columns terms) row column ⌝ }
+{
+    if column < n {
+        return Place::AtN {
+            row: row,
+            column: column,
+        };
+    }
+    let end = block_end(m, row, rows);
+    head_rows(m, k, n, rows, columns, terms, end)
+}
+
+fn head_terms(
+    m: u64,
+    k: u64,
+    n: u64,
+    rows: u64,
+    columns: u64,
+    terms: u64,
+    row: u64,
+    column: u64,
+    term: u64,
+) -> Place
+    ensures { λ r. ⌜ r ≡ headK (shapeBy m k n rows columns terms) row column term ⌝ }
+{
+    if term < k {
+        return Place::AtK {
+            row: row,
+            column: column,
+            term: term,
+        };
+    }
+    Place::AtStore {
+        row: row,
+        column: column,
+    }
+}
+
+// The place after this one, in a product of these sizes by blocks of at most so many rows, columns and terms.
+fn next_place(m: u64, k: u64, n: u64, rows: u64, columns: u64, terms: u64, place: Place) -> Place
+    requires { ⌜ Within m k n place ⌝ }
+    ensures { λ r. ⌜ r ≡ next (shapeBy m k n rows columns terms) place ⌝ }
+{
+    match place {
+        Place::AtType => head_rows(m, k, n, rows, columns, terms, 0),
+        Place::AtM { row } => head_columns(m, k, n, rows, columns, terms, row, 0),
+        Place::AtN { row, column } => Place::AtClear {
+            row: row,
+            column: column,
+        },
+        Place::AtClear { row, column } => {
+            head_terms(m, k, n, rows, columns, terms, row, column, 0)
+        }
+        Place::AtK { row, column, term } => Place::AtA {
+            row: row,
+            column: column,
+            term: term,
+        },
+        Place::AtA { row, column, term } => Place::AtB {
+            row: row,
+            column: column,
+            term: term,
+        },
+        Place::AtB { row, column, term } => Place::AtMultiply {
+            row: row,
+            column: column,
+            term: term,
+        },
+        Place::AtMultiply { row, column, term } => {
+            let end = block_end(k, term, terms);
+            head_terms(m, k, n, rows, columns, terms, row, column, end)
+        }
+        Place::AtStore { row, column } => {
+            let end = block_end(n, column, columns);
+            head_columns(m, k, n, rows, columns, terms, row, end)
+        }
+        Place::AtEnd => Place::AtEnd,
+    }
+}
+
+// ---- the words
+
+fn setting_word(code: u32, immediate: u64) -> u32
+    requires { ⌜ (code ≤ 6) × (immediate ≤ 1024) ⌝ }
+    ensures { λ r. ⌜ r ≡ settingWord code immediate ⌝ }
+{
+    code * 268435456 + (immediate as u32) * 32768 + 28791
+}
+
+fn memory_word(code: u32, width: u32, register: u32) -> u32
+    requires { ⌜ (code ≤ 4) × ((width ≤ 4) × (register ≤ 1)) ⌝ }
+    ensures { λ r. ⌜ r ≡ memoryWord code width register ⌝ }
+{
+    code * 33554432 + width * 4096 + register * 128 + 11862135
+}
+
+fn arithmetic_word(code: u32, field: u32) -> u32
+    requires { ⌜ (code ≤ 18) × (field ≤ 1) ⌝ }
+    ensures { λ r. ⌜ r ≡ arithmeticWord code field ⌝ }
+{
+    code * 67108864 + field * 1048576 + 24695
+}
+
+fn factor_code(factor: u64) -> u32
+    ensures { λ r. ⌜ r ≡ log factor ⌝ }
+    ensures { λ r. ⌜ r ≤ 2 ⌝ }
+{
+    if factor == 4 {
+        return 2;
+    }
+    if factor == 2 {
+        return 1;
+    }
+    0
+}
+
+fn width_code(plan: Plan) -> u32
+    ensures { λ r. ⌜ r ≡ msew plan ⌝ }
+    ensures { λ r. ⌜ r ≤ 2 ⌝ }
+{
+    if plan.sew == 32 {
+        return 2;
+    }
+    if plan.sew == 16 {
+        return 1;
+    }
+    0
+}
+
+// The mtype of the run.
+pub fn type_of(plan: Plan) -> u64
+    ensures { λ r. ⌜ r ≡ typeOf plan ⌝ }
+    ensures { λ r. ⌜ r ≤ 10 ⌝ }
+{
+    let code = width_code(plan) as u64;
+    if plan.factor == 4 {
+        return code + 8;
+    }
+    code
+}
+
+pub fn narrow_bytes(plan: Plan) -> u64
+    requires { ⌜ planned plan ≡ true ⌝ }
+    ensures { λ r. ⌜ r ≡ narrow plan ⌝ }
+    ensures { λ r. ⌜ r ≤ 4 ⌝ }
+{
+    plan.sew / 8
+}
+
+// The product of two numbers that are small.
+pub fn small_times(a: u64, b: u64) -> u64
+    requires { ⌜ (a ≤ 1024) × (b ≤ 16) ⌝ }
+    ensures { λ r. ⌜ r ≡ a * b ⌝ }
+{
+    a * b
+}
+
+pub fn wide_bytes(plan: Plan) -> u64
+    requires { ⌜ planned plan ≡ true ⌝ }
+    ensures { λ r. ⌜ r ≡ wide plan ⌝ }
+    ensures { λ r. ⌜ r ≤ 16 ⌝ }
+{
+    let bytes = narrow_bytes(plan);
+    small_times(plan.factor, bytes)
+}
+
+// The product of a row and a stride modulo 2^64, by the halves of the stride.
+fn row_times(row: u64, stride: u64) -> u64
+    requires { ⌜ row ≤ 1024 ⌝ }
+    ensures { λ r. ⌜ r ≡ (row * stride) % 2 ^ 64 ⌝ }
+{
+    let high = row * (stride / 4294967296);
+    let low = row * (stride % 4294967296);
+    std::num::wrapping_add_u64(high % 4294967296 * 4294967296, low)
+}
+
+// The address so many bytes into a row, modulo 2^64.
+pub fn start_of(address: u64, stride: u64, row: u64, bytes: u64) -> u64
+    requires { ⌜ row ≤ 1024 ⌝ }
+    ensures { λ r. ⌜ r ≡ startOf (record { address = address; stride = stride }) row bytes ⌝ }
+{
+    let away = row_times(row, stride);
+    let start = std::num::wrapping_add_u64(address, away);
+    std::num::wrapping_add_u64(start, bytes)
+}
+
+// ---- the steps
+
+// A step that names no address.
+fn plain_step(word: u32) -> Handed
+    ensures { λ r. ⌜ r ≡ plain word ⌝ }
+{
+    Handed {
+        word: word,
+        address: 0,
+        stride: 0,
+    }
+}
+
+fn hand_setting(code: u32, immediate: u64) -> Handed
+    requires { ⌜ (code ≤ 6) × (immediate ≤ 1024) ⌝ }
+    ensures { λ r. ⌜ r ≡ plain (settingWord code immediate) ⌝ }
+{
+    let word = setting_word(code, immediate);
+    plain_step(word)
+}
+
+fn hand_type(plan: Plan) -> Handed
+    ensures { λ r. ⌜ r ≡ handedFor plan setType ⌝ }
+{
+    let mtype = type_of(plan);
+    hand_setting(0, mtype)
+}
+
+fn hand_clear(plan: Plan) -> Handed
+    ensures { λ r. ⌜ r ≡ handedFor plan clear ⌝ }
+{
+    let code = factor_code(plan.factor);
+    let word = arithmetic_word(16 + code, 0);
+    plain_step(word)
+}
+
+fn hand_multiply(plan: Plan) -> Handed
+    ensures { λ r. ⌜ r ≡ handedFor plan multiply ⌝ }
+{
+    let code = factor_code(plan.factor);
+    let word = arithmetic_word(code, 1);
+    plain_step(word)
+}
+
+fn hand_load_a(plan: Plan, row: u64, term: u64) -> Handed
+    requires { ⌜ planned plan ≡ true ⌝ }
+    requires { ⌜ (row ≤ 1024) × (term ≤ 1024) ⌝ }
+    ensures { λ r. ⌜ r ≡ handedFor plan (loadA row term) ⌝ }
+{
+    let width = width_code(plan);
+    let word = memory_word(2, width, 0);
+    let bytes = narrow_bytes(plan);
+    let offset = small_times(term, bytes);
+    let layout = plan.a;
+    let start = start_of(layout.address, layout.stride, row, offset);
+    Handed {
+        word: word,
+        address: start,
+        stride: layout.stride,
+    }
+}
+
+fn hand_load_b(plan: Plan, term: u64, column: u64) -> Handed
+    requires { ⌜ planned plan ≡ true ⌝ }
+    requires { ⌜ (term ≤ 1024) × (column ≤ 1024) ⌝ }
+    ensures { λ r. ⌜ r ≡ handedFor plan (loadB term column) ⌝ }
+{
+    let width = width_code(plan);
+    let word = memory_word(4, width, 1);
+    let bytes = narrow_bytes(plan);
+    let offset = small_times(column, bytes);
+    let layout = plan.b;
+    let start = start_of(layout.address, layout.stride, term, offset);
+    Handed {
+        word: word,
+        address: start,
+        stride: layout.stride,
+    }
+}
+
+fn hand_store(plan: Plan, row: u64, column: u64) -> Handed
+    requires { ⌜ planned plan ≡ true ⌝ }
+    requires { ⌜ (row ≤ 1024) × (column ≤ 1024) ⌝ }
+    ensures { λ r. ⌜ r ≡ handedFor plan (store row column) ⌝ }
+{
+    let width = width_code(plan);
+    let code = factor_code(plan.factor);
+    let word = memory_word(1, width + code, 0);
+    let bytes = wide_bytes(plan);
+    let offset = small_times(column, bytes);
+    let layout = plan.c;
+    let start = start_of(layout.address, layout.stride, row, offset);
+    Handed {
+        word: word,
+        address: start,
+        stride: layout.stride,
+    }
+}
+
+// The step at the place of a run; all zeros at the end.
+fn handed_at(run: Run) -> Handed
+    requires { ⌜ soundRun smaller run ≡ true ⌝ }
+    ensures { λ r. ⌜ r ≡ handedOf (run .plan) (wordsAt (runShape smaller run) (run .place)) ⌝ }
+{
+    let plan = run.plan;
+    let place = run.place;
+    match place {
+        Place::AtType => hand_type(plan),
+        Place::AtM { row } => hand_setting(2, plan.m - row),
+        Place::AtN { row: _, column } => hand_setting(6, plan.n - column),
+        Place::AtClear { row: _, column: _ } => hand_clear(plan),
+        Place::AtK {
+            row: _,
+            column: _,
+            term,
+        } => hand_setting(4, plan.k - term),
+        Place::AtA {
+            row,
+            column: _,
+            term,
+        } => hand_load_a(plan, row, term),
+        Place::AtB {
+            row: _,
+            column,
+            term,
+        } => hand_load_b(plan, term, column),
+        Place::AtMultiply {
+            row: _,
+            column: _,
+            term: _,
+        } => hand_multiply(plan),
+        Place::AtStore { row, column } => hand_store(plan, row, column),
+        Place::AtEnd => plain_step(0),
+    }
+}
+
+// ---- asking for a step
+
+fn is_end(place: Place) -> bool
+    ensures { λ r. ⌜ r ≡ isEnd place ⌝ }
+{
+    match place {
+        Place::AtType => false,
+        Place::AtM { row: _ } => false,
+        Place::AtN { row: _, column: _ } => false,
+        Place::AtClear { row: _, column: _ } => false,
+        Place::AtK {
+            row: _,
+            column: _,
+            term: _,
+        } => false,
+        Place::AtA {
+            row: _,
+            column: _,
+            term: _,
+        } => false,
+        Place::AtB {
+            row: _,
+            column: _,
+            term: _,
+        } => false,
+        Place::AtMultiply {
+            row: _,
+            column: _,
+            term: _,
+        } => false,
+        Place::AtStore { row: _, column: _ } => false,
+        Place::AtEnd => true,
+    }
+}
+
+fn refused(run: Run) -> Asked
+    ensures { λ r. ⌜ r ≡ asked (record { answer = BadArguments; handed = []; run = run }) ⌝ }
+{
+    Asked {
+        answer: Answer::BadArguments,
+        handed: plain_step(0),
+        run: run,
+    }
+}
+
+// The run at its next place, by the most rows, columns and terms of its blocks.
+pub fn moved_run(run: Run, rows: u64, columns: u64, terms: u64) -> Run
+    requires { ⌜ soundRun smaller run ≡ true ⌝ }
+    requires { ⌜ Most run rows columns terms ⌝ }
+    ensures { λ r. ⌜ r ≡ moved smaller run ⌝ }
+{
+    let plan = run.plan;
+    let place = run.place;
+    let after = next_place(plan.m, plan.k, plan.n, rows, columns, terms, place);
+    Run {
+        plan: plan,
+        rlen: run.rlen,
+        mlen: run.mlen,
+        place: after,
+    }
+}
+
+// The next step of a run, and the run past it; 8 past the last, and of a run that no start can have made.
+pub fn next(run: Run) -> Asked
+    ensures { λ r. ⌜ r ≡ asked (ask smaller run) ⌝ }
+{
+    if !is_sound_run(run) {
+        return refused(run);
+    }
+    let place = run.place;
+    if is_end(place) {
+        return refused(run);
+    }
+    let handed = handed_at(run);
+    let rows = most_rows(run);
+    let columns = most_columns(run);
+    let terms = most_terms(run);
+    let after = moved_run(run, rows, columns, terms);
+    Asked {
+        answer: Answer::Done,
+        handed: handed,
+        run: after,
+    }
+}

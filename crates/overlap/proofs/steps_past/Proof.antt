@@ -1,0 +1,26 @@
+use native.Mathlib.Omega.{arith}
+use borrow.Author.Needs.{needs}
+use Rattle.overlap.proofs.OverlapLaws.{steps-passed, steps-next, steps-fit}
+use Rattle.overlap.proofs.steps_past.Statement.{statement}
+use Rattle.overlap.proofs.steps_past.Tie as tie
+
+returns : tie.Need-returns
+returns c = search needs
+
+div-result : tie.Need-div-result
+div-result c = search needs
+
+add-result : tie.Need-add-result
+add-result c =
+    let a = c .before .args in
+    omega (arith, c .before .pre .1, steps-fit (a .from) (a .to) (a .gap) (omega (arith, c .before .pre .0)) (omega (arith, c .if1 .left)))
+
+returns-2 : tie.Need-returns-2
+returns-2 c =
+    let a = c .before .args in (
+      steps-passed (a .from) (a .to) (a .gap) (omega (arith, c .before .pre .0)) (omega (arith, c .if1 .left)),
+      steps-next (a .from) (a .to) (a .gap) (omega (arith, c .before .pre .0)) (omega (arith, c .if1 .left)),
+    )
+
+pub steps-past-spec : {M : Type 1} → statement M
+steps-past-spec = tie.close (tie.spec returns div-result add-result returns-2)
