@@ -1,13 +1,13 @@
--- For code: tests one after another, and what a sound run says.
+-- For code: what a sound run says.
 use mathlib.Core.Path.{_≡_, refl, sym, ap, ap₂, _∙_}
 use mathlib.Core.Bool.{Bool, true, false, cond, _||_}
-use mathlib.Core.List.{List, [], _∷_, _++_}
+use mathlib.Core.List.{List, [], _∷_}
 use Prim.Native.Nat.{ℕ, _+_, _-_, _*_, _/_, _%_, _^_, _≤_, _<_}
 use native.Mathlib.Nat.{mul-le-mul, le-div-iff-mul-le, mod-eq-of-lt, div-add-mod'}
 use native.Mathlib.Omega.{arith}
 use lib.Dec.{leb, ltb, eqb}
 use borrow.Author.Tests.{eqb-true, ltb-true, leb-true, eq-eqb, ne-eqb}
-use Rattle.machine.specs.Tests.{every, isIn}
+use Rattle.machine.specs.Tests.{isIn}
 use Rattle.machine.proofs.TestLaws.{Each, every-each, each-every, each-in, false-true}
 use Rattle.machine.specs.Geometry.{permitted, elen}
 use Rattle.machine.proofs.StepLaws.{permitted-lengths, permitted-bounds, smaller-grants}
@@ -31,19 +31,6 @@ use Rattle.asking.specs.Parts.{numbered, isEnd, handedOf, shapeBy, Withi
 use Rattle.run.proofs.PlaceLaws.{Sound}
 use Rattle.run.proofs.BeginLaws.{begins-next}
 use Rattle.run.proofs.WordLaws.{formats, start-wraps}
-
--- ---- tests one after another
-
--- those before have passed, and this one fails
-pub fails : (xs : List Bool) → Each xs → (b : Bool) → b ≡ false → (bs : List Bool) → false ≡ every (xs ++ (b ∷ bs))
-fails [] h b e bs = rw e
-fails (a ∷ xs) h b e bs = rw (h .0) (fails xs (h .1) b e bs)
-
--- those before have passed, and this one is the last
-pub last : (xs : List Bool) → Each xs → (b : Bool) → b ≡ every (xs ++ (b ∷ []))
-last [] h true = refl
-last [] h false = refl
-last (a ∷ xs) h b = rw (h .0) (last xs (h .1) b)
 
 -- ---- formats
 

@@ -1,18 +1,18 @@
 // One word at a time: whether a run is one that a start can have made, its next place, and the step handed out.
+use machine::Answer;
 use run::Asked;
 use run::Handed;
 use run::Place;
 use run::Plan;
 use run::Run;
-use machine::Answer;
 ghost use mathlib.Core.Path.{_≡_};
 ghost use mathlib.Core.Bool.{true, false};
 ghost use mathlib.Core.List.{[], _∷_};
 ghost use Prim.Native.Nat.{_+_, _-_, _*_, _%_, _^_, _≤_, _<_};
-ghost use lib.Dec.{leb, ltb};
+ghost use lib.Dec.{ltb};
 ghost use Rattle.machine.specs.Tests.{every, isIn};
 ghost use Rattle.machine.specs.Setting.{smaller, maxM, maxN, maxK};
-ghost use Rattle.run.specs.Words.{Op, setType, clear, multiply, loadA, loadB, store, sizeM, sizeN, sizeK};
+ghost use Rattle.run.specs.Words.{setType, clear, multiply, loadA, loadB, store};
 ghost use Rattle.run.specs.Plan.{narrow, wide, msew, typeOf};
 ghost use Rattle.run.specs.Start.{format, planned};
 ghost use Rattle.run.specs.Places.{headM, headN, headK, next, wordsAt};

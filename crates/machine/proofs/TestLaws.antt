@@ -1,7 +1,7 @@
 -- Laws of the tests over ranges and lists: when one passes, and what it then says.
 use mathlib.Core.Path.{_≡_, refl, sym, ap, _∙_, subst}
 use mathlib.Core.Bool.{Bool, true, false, not, _&&_, _||_}
-use mathlib.Core.List.{List, [], _∷_}
+use mathlib.Core.List.{List, [], _∷_, _++_}
 use mathlib.Core.Logic.{_⊎_, inl, inr}
 use Prim.Native.Nat.{ℕ, zero, suc, _+_, _*_, _/_, _%_, _<_}
 use native.Mathlib.Nat.{not-suc-le-zero, eq-or-lt-of-le, le-of-suc-le-suc, mul-le-mul-right, mod-lt, div-add-mod', div-lt-iff-lt-mul, eq-zero-or-pos, mul-zero}
@@ -150,3 +150,16 @@ first-is (suc n) p i l h before = go (ltb i n) refl (first-is n p i)
         let d : i ≡ n = omega (arith, ltb-false i n e) in
         let f : first n p ≡ n = first-none n p (λ k g. before k (omega arith)) in
         rw (f, le-ltb n n (omega arith), subst (λ (j : ℕ). p j ≡ true) d h) (sym d)
+
+-- ---- tests one after another
+
+-- those before have passed, and this one fails
+pub fails : (xs : List Bool) → Each xs → (b : Bool) → b ≡ false → (bs : List Bool) → false ≡ every (xs ++ (b ∷ bs))
+fails [] h b e bs = rw e
+fails (a ∷ xs) h b e bs = rw (h .0) (fails xs (h .1) b e bs)
+
+-- those before have passed, and this one is the last
+pub last : (xs : List Bool) → Each xs → (b : Bool) → b ≡ every (xs ++ (b ∷ []))
+last [] h true = refl
+last [] h false = refl
+last (a ∷ xs) h b = rw (h .0) (last xs (h .1) b)

@@ -24,8 +24,8 @@ use Rattle.run.specs.declared.Run.{Run}
 use Rattle.run.specs.Start.{startRun}
 use Rattle.run.specs.Turn.{Running, turnOutcome, turns}
 use Rattle.run.specs.Whole.{whole}
-use Rattle.host.specs.Blocks.{machineOf, putMachine, valuesOf, putValues, putNumbers, putRun, packed}
-use Rattle.host.specs.Host.{startedOut, shownStart, hostStart, steppedOut, stepBlock, shownStep, hostStep, runStartedOut, shownRunStart, hostRunStart, turnedOut, shownRunning, heldRunning, turnBlocks, shownTurn, hostTurn, shownTurns, hostTurns, ranOut, shownRun, hostRun}
+use Rattle.blocks.specs.Blocks.{machineOf, putMachine, valuesOf, putValues, putNumbers, putRun, packed}
+use Rattle.bodlarina.specs.Host.{startedOut, shownStart, hostStart, steppedOut, stepBlock, shownStep, hostStep, runStartedOut, shownRunStart, hostRunStart, turnedOut, shownRunning, heldRunning, turnBlocks, shownTurn, hostTurn, shownTurns, hostTurns, ranOut, shownRun, hostRun}
 use Rattle.powerup.specs.Steps.{AlikeBenches}
 use Rattle.powerup.specs.Runs.{SameRunning}
 use Rattle.powerup.proofs.Steps.{step-ignores-unmarked}

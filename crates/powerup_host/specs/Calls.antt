@@ -6,7 +6,7 @@ use Prim.Native.Nat.{ℕ}
 use lib.ListN.{length}
 use Rattle.machine.specs.Alike.{Agree}
 use Rattle.run.specs.declared.Plan.{Plan}
-use Rattle.host.specs.Host.{HostStarted, hostStart, HostStepped, hostStep, HostRunStarted, hostRunStart, HostNext, hostNext, HostTurned, hostTurn, hostTurns, HostRan, hostRun}
+use Rattle.bodlarina.specs.Host.{HostStarted, hostStart, HostStepped, hostStep, HostRunStarted, hostRunStart, HostNext, hostNext, HostTurned, hostTurn, hostTurns, HostRan, hostRun}
 
 -- ---- a host's buffers, and its calls
 

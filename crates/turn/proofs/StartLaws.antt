@@ -15,11 +15,11 @@ use Rattle.machine.specs.Geometry.{elen, Parameters, Bench, parameters}
 use Rattle.machine.specs.Memory.{inside, unsealed}
 use Rattle.machine.specs.Faults.{sound}
 use Rattle.machine.specs.Setting.{smaller}
-use Rattle.machine.proofs.TestLaws.{Each, every-each}
+use Rattle.machine.proofs.TestLaws.{Each, every-each, fails, last}
 use Rattle.run.specs.declared.Plan.{Plan}
 use Rattle.run.specs.Plan.{narrow, wide, aAt, bAt, cAt}
 use Rattle.run.specs.Start.{format, planned, lying, distinct, apart, separate, RunStart, startRun, freshRun, noRun}
-use Rattle.asking.proofs.AskingLaws.{fails, last, sews, factors, plan-small}
+use Rattle.asking.proofs.AskingLaws.{sews, factors, plan-small}
 
 -- ---- the numbers of a plan
 

@@ -1,8 +1,8 @@
 // The tests of a start on memory: that the matrices lie in it, and that C lies apart from the rest.
 use machine::Machine;
-use run::Plan;
 use overlap::rows_apart;
 use overlap::rows_distinct;
+use run::Plan;
 use tile::address::rows_inside;
 use tile::address::rows_unsealed;
 ghost use mathlib.Core.Path.{_≡_};

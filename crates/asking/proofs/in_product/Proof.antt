@@ -1,7 +1,7 @@
 use mathlib.Core.List.{[], _∷_}
 use lib.Dec.{ltb}
 use borrow.Author.Tests.{lt-ltb, le-ltb}
-use Rattle.asking.proofs.AskingLaws.{fails, last}
+use Rattle.machine.proofs.TestLaws.{fails, last}
 use Rattle.asking.proofs.in_product.Statement.{statement}
 use Rattle.asking.proofs.in_product.Tie as tie
 

@@ -8,7 +8,8 @@ use borrow.Author.Tests.{not-true, not-false}
 use Rattle.machine.specs.Tests.{isIn}
 use Rattle.machine.specs.Geometry.{elen}
 use Rattle.run.specs.Start.{format}
-use Rattle.asking.proofs.AskingLaws.{sews, factors, fails, last, small-product}
+use Rattle.asking.proofs.AskingLaws.{sews, factors, small-product}
+use Rattle.machine.proofs.TestLaws.{fails, last}
 use borrow.Author.Needs.{needs}
 use Rattle.asking.proofs.is_format.Statement.{statement}
 use Rattle.asking.proofs.is_format.Tie as tie

@@ -4,7 +4,7 @@ use mathlib.Core.List.{[], _∷_}
 use lib.Dec.{leb}
 use borrow.Author.Tests.{le-leb, lt-leb, not-true, not-false}
 use Rattle.run.specs.Start.{format, planned}
-use Rattle.asking.proofs.AskingLaws.{fails, last}
+use Rattle.machine.proofs.TestLaws.{fails, last}
 use borrow.Author.Needs.{needs}
 use Rattle.asking.proofs.is_planned.Statement.{statement}
 use Rattle.asking.proofs.is_planned.Tie as tie

@@ -4,12 +4,11 @@ use mathlib.Core.List.{[], _∷_}
 use borrow.Author.Tests.{not-true, not-false}
 use Rattle.machine.specs.Geometry.{permitted}
 use Rattle.machine.specs.Setting.{smaller}
-use Rattle.machine.proofs.TestLaws.{each-every}
+use Rattle.machine.proofs.TestLaws.{each-every, fails, last}
 use Rattle.run.specs.declared.Run.{Run}
 use Rattle.run.specs.Start.{planned}
 use Rattle.run.specs.Turn.{placed, begins, runShape, soundRun}
 use Rattle.asking.specs.Parts.{numbered}
-use Rattle.asking.proofs.AskingLaws.{fails, last}
 use borrow.Author.Needs.{needs}
 use Rattle.asking.proofs.is_sound_run.Statement.{statement}
 use Rattle.asking.proofs.is_sound_run.Tie as tie

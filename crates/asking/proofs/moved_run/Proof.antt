@@ -1,6 +1,5 @@
 use mathlib.Core.Path.{ap, _∙_}
 use Rattle.asking.proofs.AskingLaws.{runAt, run-placed, within, next-by}
-use borrow.Author.Needs.{needs}
 use Rattle.asking.proofs.moved_run.Statement.{statement}
 use Rattle.asking.proofs.moved_run.Tie as tie
 

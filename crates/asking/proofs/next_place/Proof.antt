@@ -1,5 +1,4 @@
-use mathlib.Core.Path.{_≡_, sym, ap, _∙_, subst}
-use Rattle.run.specs.declared.Place.{Place}
+use mathlib.Core.Path.{sym, ap, _∙_, subst}
 use Rattle.run.specs.Places.{headN, headK, next}
 use Rattle.asking.specs.Parts.{shapeBy, Within}
 use borrow.Author.Needs.{needs}

@@ -3,9 +3,8 @@ use mathlib.Core.List.{[], _∷_}
 use lib.Dec.{ltb}
 use borrow.Author.Tests.{ltb-true, not-true, not-false}
 use Rattle.machine.specs.Setting.{smaller}
-use Rattle.machine.proofs.TestLaws.{every-each}
+use Rattle.machine.proofs.TestLaws.{every-each, fails, last}
 use Rattle.run.specs.Turn.{startsM, startsN, runShape}
-use Rattle.asking.proofs.AskingLaws.{fails, last}
 use Rattle.asking.proofs.starts_product.Statement.{statement}
 use Rattle.asking.proofs.starts_product.Tie as tie
 

@@ -4,9 +4,8 @@ use mathlib.Core.List.{[], _∷_}
 use lib.Dec.{ltb}
 use borrow.Author.Tests.{ltb-true, not-true, not-false}
 use Rattle.machine.specs.Setting.{smaller}
-use Rattle.machine.proofs.TestLaws.{every-each}
+use Rattle.machine.proofs.TestLaws.{every-each, fails, last}
 use Rattle.run.specs.Turn.{startsM, startsN, startsK, runShape}
-use Rattle.asking.proofs.AskingLaws.{fails, last}
 use Rattle.asking.proofs.starts_sums.Statement.{statement}
 use Rattle.asking.proofs.starts_sums.Tie as tie
 

@@ -1,0 +1,2 @@
+-- Laws of the blocks.
+pub mod BlockLaws

@@ -1,0 +1,51 @@
+use Rattle.width.specs.Tile.{putRow}
+use Rattle.blocks.specs.Blocks.{putNumbers, putRun}
+use borrow.Author.Needs.{needs}
+use Rattle.blocks.proofs.runs.put_run.Statement.{statement}
+use Rattle.blocks.proofs.runs.put_run.Tie as tie
+
+put-plan-requires : tie.Need-put-plan-requires
+put-plan-requires c κs = search needs
+
+write8-requires : tie.Need-write8-requires
+write8-requires c κs = search needs
+
+write8-requires-2 : tie.Need-write8-requires-2
+write8-requires-2 c κs = search needs
+
+spot-of-requires : tie.Need-spot-of-requires
+spot-of-requires c κs = search needs
+
+write8-requires-3 : tie.Need-write8-requires-3
+write8-requires-3 c κs = search needs
+
+write8-requires-4 : tie.Need-write8-requires-4
+write8-requires-4 c κs = search needs
+
+write8-requires-5 : tie.Need-write8-requires-5
+write8-requires-5 c κs = search needs
+
+write8-requires-6 : tie.Need-write8-requires-6
+write8-requires-6 c κs = search needs
+
+same-length : tie.Need-same-length
+same-length c = search needs
+
+returns : tie.Need-returns
+unfolding putRun putNumbers putRow
+returns c = cc
+
+pub put-run-spec : {M : Type 1} → statement M
+put-run-spec =
+    tie.close
+    (tie.spec
+    put-plan-requires
+    write8-requires
+    write8-requires-2
+    spot-of-requires
+    write8-requires-3
+    write8-requires-4
+    write8-requires-5
+    write8-requires-6
+    same-length
+    returns)

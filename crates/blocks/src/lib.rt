@@ -1,0 +1,102 @@
+// Numbers as a host in C passes them, in blocks of bytes. The layout is that of include/bodlarina.h; what lies where is defined in specs/.
+use machine::Answer;
+use machine::Machine;
+
+pub mod runs; // a run and a step
+
+ghost use mathlib.Core.Path.{_≡_};
+ghost use Prim.Native.Nat.{_+_, _≤_, _<_};
+ghost use lib.ListN.{length};
+ghost use Rattle.width.specs.Tile.{le, putLe};
+ghost use Rattle.blocks.specs.Blocks.{machineBytes, machineOf, putMachine, packed};
+
+fn wide(x: u8) -> u64
+    ensures { λ r. ⌜ (r ≡ x) × (r < 256) ⌝ }
+{
+    x as u64
+}
+
+// The number in the eight bytes from `at` on, low byte first.
+pub fn read8(block: &[u8], at: usize) -> u64
+    requires { ⌜ at + 8 ≤ length (now block) ⌝ }
+    ensures { λ r. ⌜ r ≡ le (now (block .entry)) at 8 ⌝ }
+{
+    wide(block[at])
+        + 256 * wide(block[at + 1])
+        + 65536 * wide(block[at + 2])
+        + 16777216 * wide(block[at + 3])
+        + 4294967296 * wide(block[at + 4])
+        + 1099511627776 * wide(block[at + 5])
+        + 281474976710656 * wide(block[at + 6])
+        + 72057594037927936 * wide(block[at + 7])
+}
+
+// Stores a number in the eight bytes from `at` on, low byte first.
+pub fn write8(block: &mut [u8], at: usize, value: u64)
+    requires { ⌜ at + 8 ≤ length (now block) ⌝ }
+    ensures { λ _. ⌜ now (block .exit) ≡ putLe at 8 value (now (block .entry)) ⌝ }
+{
+    block[at] = (value % 256) as u8;
+    block[at + 1] = (value / 256 % 256) as u8;
+    block[at + 2] = (value / 65536 % 256) as u8;
+    block[at + 3] = (value / 16777216 % 256) as u8;
+    block[at + 4] = (value / 4294967296 % 256) as u8;
+    block[at + 5] = (value / 1099511627776 % 256) as u8;
+    block[at + 6] = (value / 281474976710656 % 256) as u8;
+    block[at + 7] = (value / 72057594037927936 % 256) as u8;
+}
+
+// The machine's numbers out of their block.
+pub fn machine_of(block: &[u8]) -> Machine
+    requires { ⌜ length (now block) ≡ machineBytes ⌝ }
+    ensures { λ r. ⌜ r ≡ machineOf (now (block .entry)) ⌝ }
+{
+    Machine {
+        rlen: read8(block, 0),
+        mlen: read8(block, 8),
+        mtype: read8(block, 16),
+        tile_m: read8(block, 24),
+        tile_k: read8(block, 32),
+        tile_n: read8(block, 40),
+        seal_start: read8(block, 48),
+        seal_length: read8(block, 56),
+    }
+}
+
+// The machine's numbers into their block.
+pub fn put_machine(block: &mut [u8], m: Machine)
+    requires { ⌜ length (now block) ≡ machineBytes ⌝ }
+    ensures { λ _. ⌜ now (block .exit) ≡ putMachine m (now (block .entry)) ⌝ }
+{
+    write8(block, 0, m.rlen);
+    write8(block, 8, m.mlen);
+    write8(block, 16, m.mtype);
+    write8(block, 24, m.tile_m);
+    write8(block, 32, m.tile_k);
+    write8(block, 40, m.tile_n);
+    write8(block, 48, m.seal_start);
+    write8(block, 56, m.seal_length);
+}
+
+// An answer's number, with row and column in the bits above it.
+pub fn packed(answer: Answer) -> u64
+    ensures { λ r. ⌜ r ≡ packed answer ⌝ }
+{
+    match answer {
+        Answer::Done => 0,
+        Answer::IllegalWord => 1,
+        Answer::IllegalType => 2,
+        Answer::BadWidth => 3,
+        Answer::TileTooLarge => 4,
+        Answer::Unwritten { row, column } => {
+            5 + row % 65536 * 65536 + column % 65536 * 4294967296
+        }
+        Answer::OutsideMemory => 6,
+        Answer::SealedByte => 7,
+        Answer::BadArguments => 8,
+        Answer::Overlap => 9,
+        Answer::WrongOpcode => 10,
+        Answer::LeftOutWord => 11,
+        Answer::WrongRegister => 12,
+    }
+}

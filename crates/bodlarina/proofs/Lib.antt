@@ -1,0 +1,8 @@
+-- Only the scalars that a word names count.
+pub mod NamedScalars
+-- For code: what each return of an exported function has to show.
+pub mod HostLaws
+pub mod RunLaws
+-- The theorems of specs/Theorems.antt.
+pub mod Refusal
+pub mod Packing

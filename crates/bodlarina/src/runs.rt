@@ -1,0 +1,218 @@
+// The product run in the C interface.
+use blocks::machine_of;
+use blocks::packed;
+use blocks::put_machine;
+use blocks::runs::is_fit;
+use blocks::runs::put_handed;
+use blocks::runs::put_run;
+use blocks::runs::run_of;
+use blocks::write8;
+use machine::Answer;
+use run::Layout;
+use run::Plan;
+ghost use mathlib.Core.Path.{_≡_};
+ghost use Rattle.bodlarina.specs.Host.{planIn, runStartedOut, hostRunStart, nextOut, hostNext, turnedOut, hostTurn, hostTurns, ranOut, hostRun};
+
+// The plan in a call's numbers.
+fn plan_in(
+    sew: u64,
+    factor: u64,
+    m: u64,
+    k: u64,
+    n: u64,
+    a: u64,
+    a_stride: u64,
+    b: u64,
+    b_stride: u64,
+    c: u64,
+    c_stride: u64,
+) -> Plan
+    ensures { λ r. ⌜ r ≡ planIn sew factor m k n a «a_stride» b «b_stride» c «c_stride» ⌝ }
+{
+    Plan {
+        sew: sew,
+        factor: factor,
+        m: m,
+        k: k,
+        n: n,
+        a: Layout {
+            address: a,
+            stride: a_stride,
+        },
+        b: Layout {
+            address: b,
+            stride: b_stride,
+        },
+        c: Layout {
+            address: c,
+            stride: c_stride,
+        },
+    }
+}
+
+// Starts a run of C = A B on a machine, and writes it into the run's block.
+#[no_mangle]
+pub extern "C" fn bodlarina_run_start(
+    sew: u64,
+    factor: u64,
+    m: u64,
+    k: u64,
+    n: u64,
+    a: u64,
+    a_stride: u64,
+    b: u64,
+    b_stride: u64,
+    c: u64,
+    c_stride: u64,
+    machine: &[u8],
+    registers: &[u8],
+    marks: &[u8],
+    memory: &[u8],
+    run: &mut [u8],
+) -> u64
+    ensures { λ r. ⌜ runStartedOut r (now (machine .entry)) (now (registers .entry)) (now (marks .entry)) (now (memory .entry)) (now (run .exit))
+        ≡ hostRunStart (planIn sew factor m k n a «a_stride» b «b_stride» c «c_stride»)
+        (now (machine .entry)) (now (registers .entry)) (now (marks .entry)) (now (memory .entry)) (now (run .entry)) ⌝ }
+{
+    if machine.len() != 64 {
+        return packed(Answer::BadArguments);
+    }
+    if run.len() != 136 {
+        return packed(Answer::BadArguments);
+    }
+    let plan = plan_in(sew, factor, m, k, n, a, a_stride, b, b_stride, c, c_stride);
+    let held = machine_of(machine);
+    let started = turn::start(plan, held, registers, marks, memory);
+    let answer = started.answer;
+    if !tile::is_done(answer) {
+        return packed(answer);
+    }
+    let fresh = started.run;
+    put_run(run, fresh);
+    packed(answer)
+}
+
+// Asks a run for its next step.
+#[no_mangle]
+pub extern "C" fn bodlarina_run_next(run: &mut [u8], step: &mut [u8]) -> u64
+    ensures { λ r. ⌜ nextOut r (now (run .exit)) (now (step .exit)) ≡ hostNext (now (run .entry)) (now (step .entry)) ⌝ }
+{
+    if !is_fit(run) {
+        return packed(Answer::BadArguments);
+    }
+    if step.len() != 24 {
+        return packed(Answer::BadArguments);
+    }
+    let held = run_of(run);
+    let asked = asking::next(held);
+    let answer = asked.answer;
+    if !tile::is_done(answer) {
+        return packed(answer);
+    }
+    let handed = asked.handed;
+    let after = asked.run;
+    put_handed(step, handed);
+    put_run(run, after);
+    packed(answer)
+}
+
+// Takes one turn of a run.
+#[no_mangle]
+pub extern "C" fn bodlarina_run_turn(
+    run: &mut [u8],
+    machine: &mut [u8],
+    registers: &mut [u8],
+    marks: &mut [u8],
+    memory: &mut [u8],
+) -> u64
+    ensures { λ r. ⌜ turnedOut r (now (run .exit)) (now (machine .exit)) (now (registers .exit)) (now (marks .exit)) (now (memory .exit))
+        ≡ hostTurn (now (run .entry)) (now (machine .entry)) (now (registers .entry)) (now (marks .entry)) (now (memory .entry)) ⌝ }
+{
+    if !is_fit(run) {
+        return packed(Answer::BadArguments);
+    }
+    if machine.len() != 64 {
+        return packed(Answer::BadArguments);
+    }
+    let held = run_of(run);
+    let m = machine_of(machine);
+    let turned = turn::turn(held, m, registers, marks, memory);
+    let after = turned.run;
+    put_run(run, after);
+    let next = turned.machine;
+    put_machine(machine, next);
+    let answer = turned.answer;
+    packed(answer)
+}
+
+// Takes up to so many turns of a run, and counts them.
+#[no_mangle]
+pub extern "C" fn bodlarina_run_turns(
+    turns: u64,
+    run: &mut [u8],
+    machine: &mut [u8],
+    registers: &mut [u8],
+    marks: &mut [u8],
+    memory: &mut [u8],
+) -> u64
+    ensures { λ r. ⌜ turnedOut r (now (run .exit)) (now (machine .exit)) (now (registers .exit)) (now (marks .exit)) (now (memory .exit))
+        ≡ hostTurns turns (now (run .entry)) (now (machine .entry)) (now (registers .entry)) (now (marks .entry)) (now (memory .entry)) ⌝ }
+{
+    if !is_fit(run) {
+        return 0;
+    }
+    if machine.len() != 64 {
+        return 0;
+    }
+    let held = run_of(run);
+    let m = machine_of(machine);
+    let taken = turn::turns(turns, held, m, registers, marks, memory);
+    let after = taken.run;
+    put_run(run, after);
+    let next = taken.machine;
+    put_machine(machine, next);
+    taken.count
+}
+
+// Runs C = A B on a machine from its start to its last step.
+#[no_mangle]
+pub extern "C" fn bodlarina_run(
+    sew: u64,
+    factor: u64,
+    m: u64,
+    k: u64,
+    n: u64,
+    a: u64,
+    a_stride: u64,
+    b: u64,
+    b_stride: u64,
+    c: u64,
+    c_stride: u64,
+    machine: &mut [u8],
+    registers: &mut [u8],
+    marks: &mut [u8],
+    memory: &mut [u8],
+    steps: &mut [u8],
+) -> u64
+    ensures { λ r. ⌜ ranOut r (now (machine .exit)) (now (registers .exit)) (now (marks .exit)) (now (memory .exit)) (now (steps .exit))
+        ≡ hostRun (planIn sew factor m k n a «a_stride» b «b_stride» c «c_stride»)
+        (now (machine .entry)) (now (registers .entry)) (now (marks .entry)) (now (memory .entry)) (now (steps .entry)) ⌝ }
+{
+    if machine.len() != 64 {
+        return packed(Answer::BadArguments);
+    }
+    if steps.len() != 8 {
+        return packed(Answer::BadArguments);
+    }
+    let plan = plan_in(sew, factor, m, k, n, a, a_stride, b, b_stride, c, c_stride);
+    let held = machine_of(machine);
+    let finished = turn::product(plan, held, registers, marks, memory);
+    let answer = finished.answer;
+    if !tile::is_done(answer) {
+        return packed(answer);
+    }
+    let after = finished.machine;
+    put_machine(machine, after);
+    write8(steps, 0, finished.count);
+    packed(answer)
+}
