@@ -1,4 +1,4 @@
-//! Links the binary with libhost.a, whose folder BODLARINA_LIB names, and with the
+//! Links the binary with libbodlarina.a, whose folder BODLARINA_LIB names, and with the
 //! plain C products of its benchmark. The lib target needs neither.
 
 use std::path::{Path, PathBuf};
@@ -13,7 +13,7 @@ fn link_library() {
     println!("cargo:rerun-if-env-changed=BODLARINA_LIB");
     match std::env::var("BODLARINA_LIB") {
         Ok(folder) => {
-            let archive = Path::new(&folder).join("libhost.a");
+            let archive = Path::new(&folder).join("libbodlarina.a");
             println!("cargo:rerun-if-changed={}", archive.display());
             println!("cargo:rustc-link-arg-bins={}", archive.display());
         }

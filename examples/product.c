@@ -1,8 +1,8 @@
 /* A host in C: multiplies sealed raw counts by calibration weights in a product run, shows how far it has come while
  * it runs, and shows what refused starts look like.
  *
- *     rt staticlib host
- *     cc -std=c99 -Wall -Wextra -pedantic -Iinclude examples/product.c target/staticlib/libhost.a -o product && ./product
+ *     rt staticlib bodlarina
+ *     cc -std=c99 -Wall -Wextra -pedantic -Iinclude examples/product.c target/staticlib/libbodlarina.a -o product && ./product
  *
  * It writes examples/product.out.
  */

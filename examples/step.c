@@ -1,7 +1,7 @@
 /* A host in C: starts a machine, seals raw counts in memory, multiplies two tiles, and shows what refusals look like.
  *
- *     rt staticlib host
- *     cc -std=c99 -Wall -Wextra -pedantic -Iinclude examples/step.c target/staticlib/libhost.a -o step && ./step
+ *     rt staticlib bodlarina
+ *     cc -std=c99 -Wall -Wextra -pedantic -Iinclude examples/step.c target/staticlib/libbodlarina.a -o step && ./step
  *
  * It writes examples/step.out.
  */
