@@ -2,16 +2,15 @@
 use mathlib.Core.Path.{_≡_, refl, sym, ap, ap₂, _∙_}
 use mathlib.Core.Bool.{Bool, true, false, cond, not, _&&_, _||_}
 use mathlib.Core.List.{List, [], _∷_}
-use Prim.Native.Nat.{ℕ, zero, suc, _+_, _*_, _/_, _%_, _^_, _<_, _≤_}
+use Prim.Native.Nat.{ℕ, zero, suc, _+_, _*_, _/_, _^_, _<_, _≤_}
 use native.Mathlib.Omega.{arith}
 use lib.Dec.{eqb, leb}
 use lib.ListN.{getD, drop}
-use borrow.Author.Tests.{eqb-true, eqb-false, eq-eqb, ne-eqb, not-true, le-leb, leb-true}
+use borrow.Author.Tests.{eqb-true, eq-eqb, ne-eqb, not-true, le-leb, leb-true}
 use types.Run.{OneOf}
-use Rattle.machine.proofs.TestLaws.{and-left, and-right, or-right, or-not, false-true, same-test}
+use Rattle.machine.proofs.TestLaws.{and-left, and-right, or-right, same-test}
 use Rattle.machine.proofs.MatchLaws.{one-of, none-of}
 use Rattle.machine.specs.declared.Wrong.the-variants.{LeftOut, Unlisted, Opcode}
-use Rattle.machine.specs.declared.Instruction.{Instruction}
 use Rattle.machine.specs.declared.Instruction.the-variants.{Illegal}
 use Rattle.machine.specs.Tests.{isIn}
 use Rattle.machine.specs.Listing.{bits, field20, Fixed, Code, Row, has, listed, lookUp, notOurs, ranged, decode, listing, others}

@@ -1,7 +1,6 @@
 use mathlib.Core.Path.{_∙_}
 use Rattle.machine.specs.Listing.{listing}
 use Rattle.decode.proofs.TableLaws.{meant-at, left-out}
-use borrow.Author.Needs.{needs}
 use Rattle.decode.proofs.arithmetic.Statement.{statement}
 use Rattle.decode.proofs.arithmetic.Tie as tie
 
@@ -10,24 +9,9 @@ unfolding listing
 arithmetic-spec =
     tie.close
     (tie.spec
-    (λ c κs. search needs)
-    (λ c κs. search needs)
-    (λ c κs. search needs)
-    (λ c κs. search needs)
-    (λ c κs. search needs)
-    (λ c κs. search needs)
-    (λ c κs. search needs)
-    (λ c κs. search needs)
-    (λ c κs. search needs)
-    (λ c κs. search needs)
-    (λ c κs. search needs)
-    (λ c κs. search needs)
-    (λ c κs. search needs)
-    (λ c κs. search needs)
-    (λ c κs. search needs)
-    (λ c κs. search needs)
-    (λ c κs. search needs)
-    (λ c κs. search needs)
+    (λ c κs. tt) (λ c κs. tt) (λ c κs. tt) (λ c κs. tt) (λ c κs. tt) (λ c κs. tt)
+    (λ c κs. tt) (λ c κs. tt) (λ c κs. tt) (λ c κs. tt) (λ c κs. tt) (λ c κs. tt)
+    (λ c κs. tt) (λ c κs. tt) (λ c κs. tt) (λ c κs. tt) (λ c κs. tt) (λ c κs. tt)
     (λ c. c .multiply .ensures ∙ meant-at (c .before .before .args .number) 33 (c .before .before .args .word) (c .before .match .keys1))
     (λ c. c .multiply2 .ensures ∙ meant-at (c .before .before .args .number) 35 (c .before .before .args .word) (c .before .match .keys2))
     (λ c. c .multiply3 .ensures ∙ meant-at (c .before .before .args .number) 37 (c .before .before .args .word) (c .before .match .keys3))

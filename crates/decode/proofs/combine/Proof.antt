@@ -1,9 +1,9 @@
-use mathlib.Core.Path.{sym, ap₂, _∙_}
+use mathlib.Core.Path.{ap₂, _∙_}
 use Prim.Native.Nat.{ℕ}
 use native.Mathlib.Omega.{arith}
-use borrow.Author.Tests.{eq-eqb, ne-eqb, lt-ltb, le-ltb}
+use borrow.Author.Tests.{lt-ltb, le-ltb}
 use Rattle.machine.specs.declared.Instruction.the-variants.{Combine}
-use Rattle.machine.specs.Listing.{field7, field15, field20}
+use Rattle.machine.specs.Listing.{field7, field15}
 use Rattle.decode.proofs.Laws.{ranged-in, ranged-out}
 use borrow.Author.Needs.{needs}
 use Rattle.decode.proofs.combine.Statement.{statement}

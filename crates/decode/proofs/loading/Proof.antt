@@ -1,8 +1,7 @@
-use mathlib.Core.Path.{_∙_}
+use mathlib.Core.Path.{refl, _∙_}
 use native.Mathlib.Omega.{arith}
 use Rattle.machine.specs.Listing.{listing}
 use Rattle.decode.proofs.TableLaws.{meant-at, above}
-use borrow.Author.Needs.{needs}
 use Rattle.decode.proofs.loading.Statement.{statement}
 use Rattle.decode.proofs.loading.Tie as tie
 
@@ -11,18 +10,8 @@ unfolding listing
 loading-spec =
     tie.close
     (tie.spec
-    (λ c κs. search needs)
-    (λ c κs. search needs)
-    (λ c κs. search needs)
-    (λ c κs. search needs)
-    (λ c κs. search needs)
-    (λ c κs. search needs)
-    (λ c κs. search needs)
-    (λ c κs. search needs)
-    (λ c κs. search needs)
-    (λ c κs. search needs)
-    (λ c κs. search needs)
-    (λ c κs. search needs)
+    (λ c κs. refl) (λ c κs. refl) (λ c κs. refl) (λ c κs. refl) (λ c κs. refl) (λ c κs. refl)
+    (λ c κs. refl) (λ c κs. refl) (λ c κs. refl) (λ c κs. refl) (λ c κs. refl) (λ c κs. refl)
     (λ c. c .load .ensures ∙ meant-at (c .before .before .args .number) 9 (c .before .before .args .word) (c .before .match .keys1))
     (λ c. c .load2 .ensures ∙ meant-at (c .before .before .args .number) 10 (c .before .before .args .word) (c .before .match .keys2))
     (λ c. c .load3 .ensures ∙ meant-at (c .before .before .args .number) 11 (c .before .before .args .word) (c .before .match .keys3))

@@ -1,7 +1,6 @@
 use mathlib.Core.Path.{_∙_}
 use native.Mathlib.Omega.{arith}
 use Rattle.decode.proofs.TableLaws.{no-number, meant-at}
-use borrow.Author.Needs.{needs}
 use Rattle.decode.proofs.meant.Statement.{statement}
 use Rattle.decode.proofs.meant.Tie as tie
 

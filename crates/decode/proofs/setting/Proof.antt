@@ -2,7 +2,6 @@ use mathlib.Core.Path.{_∙_}
 use native.Mathlib.Omega.{arith}
 use Rattle.machine.specs.Listing.{listing}
 use Rattle.decode.proofs.TableLaws.{meant-at, above}
-use borrow.Author.Needs.{needs}
 use Rattle.decode.proofs.setting.Statement.{statement}
 use Rattle.decode.proofs.setting.Tie as tie
 
@@ -11,14 +10,8 @@ unfolding listing
 setting-spec =
     tie.close
     (tie.spec
-    (λ c κs. search needs)
-    (λ c κs. search needs)
-    (λ c κs. search needs)
-    (λ c κs. search needs)
-    (λ c κs. search needs)
-    (λ c κs. search needs)
-    (λ c κs. search needs)
-    (λ c κs. search needs)
+    (λ c κs. tt) (λ c κs. tt) (λ c κs. tt) (λ c κs. tt) (λ c κs. tt) (λ c κs. tt)
+    (λ c κs. tt) (λ c κs. tt)
     (λ c. c .set-type-immediate .ensures ∙ meant-at (c .before .before .args .number) 1 (c .before .before .args .word) (c .before .match .keys1))
     (λ c. c .set-type .ensures ∙ meant-at (c .before .before .args .number) 2 (c .before .before .args .word) (c .before .match .keys2))
     (λ c. c .set-tile-immediate .ensures ∙ meant-at (c .before .before .args .number) 3 (c .before .before .args .word) (c .before .match .keys3))

@@ -1,8 +1,7 @@
-use mathlib.Core.Path.{_∙_}
+use mathlib.Core.Path.{refl, _∙_}
 use native.Mathlib.Omega.{arith}
 use Rattle.machine.specs.Listing.{listing}
 use Rattle.decode.proofs.TableLaws.{meant-at, above}
-use borrow.Author.Needs.{needs}
 use Rattle.decode.proofs.storing.Statement.{statement}
 use Rattle.decode.proofs.storing.Tie as tie
 
@@ -11,18 +10,8 @@ unfolding listing
 storing-spec =
     tie.close
     (tie.spec
-    (λ c κs. search needs)
-    (λ c κs. search needs)
-    (λ c κs. search needs)
-    (λ c κs. search needs)
-    (λ c κs. search needs)
-    (λ c κs. search needs)
-    (λ c κs. search needs)
-    (λ c κs. search needs)
-    (λ c κs. search needs)
-    (λ c κs. search needs)
-    (λ c κs. search needs)
-    (λ c κs. search needs)
+    (λ c κs. refl) (λ c κs. refl) (λ c κs. refl) (λ c κs. refl) (λ c κs. refl) (λ c κs. refl)
+    (λ c κs. refl) (λ c κs. refl) (λ c κs. refl) (λ c κs. refl) (λ c κs. refl) (λ c κs. refl)
     (λ c. c .store .ensures ∙ meant-at (c .before .before .args .number) 21 (c .before .before .args .word) (c .before .match .keys1))
     (λ c. c .store2 .ensures ∙ meant-at (c .before .before .args .number) 22 (c .before .before .args .word) (c .before .match .keys2))
     (λ c. c .store3 .ensures ∙ meant-at (c .before .before .args .number) 23 (c .before .before .args .word) (c .before .match .keys3))
