@@ -416,6 +416,11 @@ pub fn name_by_code(word: u32) -> Option<&'static str> {
     printed_rows().find(|row| has_code(row.1, word)).map(|row| row.0)
 }
 
+/// The name of the row, ours or left out, whose fixed bits a word has.
+pub fn name_by_fixed_bits(word: u32) -> Option<&'static str> {
+    printed_rows().find(|row| has_fixed_bits(row.1, word)).map(|row| row.0)
+}
+
 /// The bits that a row of either table fixes, as ones.
 pub fn fixed_bits(name: &str) -> u32 {
     let fixed = columns_of(printed_by_name(name)).filter(|column| column.fixed().is_some());
