@@ -322,6 +322,7 @@ fn multiply_row(
 {
     let mut xs = [0u16; 64];
     repeat_row(&mut xs, s, a, width, k);
+    // An even number of pairs: the last may have zeros from A.
     add_row(s, c, bs, &xs, (k + 3) / 4 * 2, n);
 }
 

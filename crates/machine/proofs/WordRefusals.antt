@@ -9,7 +9,6 @@ use lib.Dec.{eqb}
 use borrow.Author.Tests.{eq-eqb, eqb-true, eqb-false}
 use Rattle.machine.specs.declared.Answer.{Answer}
 use Rattle.machine.specs.declared.Answer.the-variants.{IllegalWord, BadArguments, WrongOpcode, LeftOutWord, WrongRegister}
-use Rattle.machine.specs.declared.Dimension.{Dimension}
 use Rattle.machine.specs.declared.Wrong.{Wrong}
 use Rattle.machine.specs.declared.Wrong.the-variants.{Opcode, LeftOut, Unlisted, Register}
 use Rattle.machine.specs.declared.Instruction.{Instruction}
@@ -18,7 +17,7 @@ use Rattle.machine.specs.Tests.{isIn}
 use Rattle.machine.specs.Answers.{Check, verdict, isDone, number, rowOf, columnOf}
 use Rattle.machine.specs.Geometry.{Parameters, parameters, State, Bench}
 use Rattle.machine.specs.Listing.{bits, Fixed, Code, Row, listing, others, has, listed, lookUp, notOurs, inRange, ranged, decode}
-use Rattle.machine.specs.Operation.{operation, setSize, keepSize}
+use Rattle.machine.specs.Operation.{Operation, operation}
 use Rattle.machine.specs.Refusals.{checks, wordAnswer}
 use Rattle.machine.specs.Faults.{soundBench, thirtyTwo}
 use Rattle.machine.specs.Step
@@ -188,17 +187,19 @@ isOurs (Scale factor md ms1 rs2) = true
 isOurs (ScaleImmediate factor md ms1 immediate) = true
 
 module _ (M : Parameters) (st : State) (xs mem : List ℕ) where
-  asked-elsewhere : (d : Dimension) (a b : Bool) (u v : ℕ) → allElsewhere (checks M (cond a (cond b keepSize (setSize d u)) (setSize d v)) st mem) ≡ true
-  asked-elsewhere d true true u v = refl
-  asked-elsewhere d true false u v = refl
-  asked-elsewhere d false b u v = refl
+  abbrev Elsewhere : Operation → Type 0
+  Elsewhere o = allElsewhere (checks M o st mem) ≡ true
 
-  checks-elsewhere : (i : Instruction) → isOurs i ≡ true → allElsewhere (checks M (operation M st xs i) st mem) ≡ true
+  either-elsewhere : (t : Bool) (o p : Operation) → Elsewhere o → Elsewhere p → Elsewhere (cond t o p)
+  either-elsewhere true o p h g = h
+  either-elsewhere false o p h g = g
+
+  checks-elsewhere : (i : Instruction) → isOurs i ≡ true → Elsewhere (operation M st xs i)
   checks-elsewhere (Illegal wrong) h = absurd (false-true h)
   checks-elsewhere (SetTypeImmediate rd immediate) h = refl
   checks-elsewhere (SetType rd rs1) h = refl
   checks-elsewhere (SetTileImmediate dimension rd immediate) h = refl
-  checks-elsewhere (SetTile dimension rd rs1) h = asked-elsewhere dimension (eqb rs1 0) (eqb rd 0) _ _
+  checks-elsewhere (SetTile dimension rd rs1) h = either-elsewhere (eqb rs1 0) _ _ (either-elsewhere (eqb rd 0) _ _ refl refl) refl
   checks-elsewhere (Load matrix width md rs1 rs2) h = refl
   checks-elsewhere (Store matrix width ms3 rs1 rs2) h = refl
   checks-elsewhere (Multiply factor md ms1 ms2) h = refl
