@@ -1,7 +1,7 @@
 // The overlap tests of a start, exact: by the ends of ranges.
-use tile::address::as_signed;
-use tile::address::magnitude;
-use tile::address::row_address;
+use address::as_signed;
+use address::magnitude;
+use address::row_address;
 ghost use mathlib.Core.Path.{_≡_};
 ghost use mathlib.Core.Bool.{true, not};
 ghost use Prim.Native.Nat.{ℕ, _+_, _*_, _^_, _<_, _≤_};

@@ -13,7 +13,7 @@ use Rattle.machine.specs.Tests.{all, every}
 use Rattle.machine.specs.Answers.{verdict}
 use Rattle.machine.specs.Refusals.{marked, needs}
 use Rattle.machine.proofs.TestLaws.{all-at, all-false, all-true, all-elements, same-test, Each, every-each, each-every}
-use Rattle.tile.proofs.TestLaws.{all-next, all-same, all-not, first-here}
+use Rattle.address.proofs.TestLaws.{all-next, all-same, all-not, first-here}
 
 -- ---- the marks of a row
 

@@ -24,7 +24,6 @@ ghost use Rattle.machine.specs.declared.Answer.the-variants.{OutsideMemory};
 ghost use Rattle.machine.specs.Answers.{verdict, isDone, _otherwise_};
 ghost use Rattle.tile.specs.Checks.{storeChecks};
 
-pub mod address; // rows in memory, and the seal
 mod row; // one row: its bytes and its marks
 
 fn larger(a: u8, b: u8) -> u8

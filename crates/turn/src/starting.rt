@@ -1,10 +1,10 @@
 // The tests of a start on memory: that the matrices lie in it, and that C lies apart from the rest.
+use address::rows_inside;
+use address::rows_unsealed;
 use machine::Machine;
 use overlap::rows_apart;
 use overlap::rows_distinct;
 use run::Plan;
-use tile::address::rows_inside;
-use tile::address::rows_unsealed;
 ghost use mathlib.Core.Path.{_≡_};
 ghost use mathlib.Core.Bool.{true};
 ghost use Prim.Native.Nat.{_*_, _≤_};

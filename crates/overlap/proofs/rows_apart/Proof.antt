@@ -6,8 +6,8 @@ use mir.Syntax.{w64}
 use mir.Val.{toZ, ofZ}
 use Rattle.machine.specs.Tests.{all}
 use Rattle.machine.specs.Memory.{rowAt}
-use Rattle.tile.proofs.TestLaws.{all-next, test-failed, test-passed}
-use Rattle.tile.proofs.AddressLaws.{step, passed-on, row-inside, row-reached, row-starts}
+use Rattle.address.proofs.TestLaws.{all-next, test-failed, test-passed}
+use Rattle.address.proofs.AddressLaws.{step, passed-on, row-inside, row-reached, row-starts}
 use Rattle.overlap.proofs.OverlapLaws.{freeRows, against, apart-no-others, apart-not, apart-all}
 use Rattle.overlap.proofs.rows_apart.Statement.{statement}
 use Rattle.overlap.proofs.rows_apart.Tie as tie

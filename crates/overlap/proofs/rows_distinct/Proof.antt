@@ -6,7 +6,7 @@ use lib.IntN.{natAbs}
 use mir.Syntax.{w64}
 use mir.Val.{toZ, ofZ}
 use Rattle.machine.specs.Memory.{rowAt}
-use Rattle.tile.proofs.AddressLaws.{step, passed-on}
+use Rattle.address.proofs.AddressLaws.{step, passed-on}
 use Rattle.overlap.proofs.OverlapLaws.{distinct-no-bytes, distinct-few, distinct-test, goes}
 use Rattle.overlap.proofs.rows_distinct.Statement.{statement}
 use Rattle.overlap.proofs.rows_distinct.Tie as tie

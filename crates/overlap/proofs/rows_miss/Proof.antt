@@ -6,7 +6,7 @@ use lib.IntN.{natAbs}
 use mir.Syntax.{w64}
 use mir.Val.{toZ, ofZ}
 use Rattle.machine.specs.Memory.{rowAt}
-use Rattle.tile.proofs.AddressLaws.{step, passed-on, row-inside, row-reached, row-starts}
+use Rattle.address.proofs.AddressLaws.{step, passed-on, row-inside, row-reached, row-starts}
 use Rattle.overlap.proofs.OverlapLaws.{gap, Goes, goes, goes-up, goes-down, first-at, rows-no-bytes, rows-no-others, rows-same, up-all, up-next, down-all, down-next}
 use Rattle.overlap.proofs.rows_miss.Statement.{statement}
 use Rattle.overlap.proofs.rows_miss.Tie as tie

@@ -8,7 +8,7 @@ use lib.ListN.{length, getD}
 use Rattle.width.proofs.PutLaws.{row-fits, next-row}
 use Rattle.machine.specs.Tests.{all}
 use Rattle.machine.specs.declared.Answer.the-variants.{Done}
-use Rattle.tile.proofs.TestLaws.{all-next, test-failed, test-passed}
+use Rattle.address.proofs.TestLaws.{all-next, test-failed, test-passed}
 use Rattle.tile.proofs.MarkLaws.{rowMarked, elementMarked, row-elements, tile-marked, tile-unmarked}
 use Rattle.tile.proofs.first_unmarked.Statement.{statement}
 use Rattle.tile.proofs.first_unmarked.Tie as tie

@@ -3,7 +3,7 @@ use mathlib.Core.Bool.{true}
 use Prim.Native.Nat.{_*_}
 use lib.ListN.{length}
 use Rattle.machine.specs.Memory.{inside}
-use Rattle.tile.proofs.TestLaws.{test-failed, test-passed}
+use Rattle.address.proofs.TestLaws.{test-failed, test-passed}
 use borrow.Author.Needs.{needs}
 use Rattle.tile.proofs.load.Statement.{statement}
 use Rattle.tile.proofs.load.Tie as tie

@@ -5,7 +5,7 @@ use borrow.Author.Needs.{needs}
 use Rattle.machine.specs.Answers.{Check, verdict, isDone}
 use Rattle.machine.specs.Geometry.{Parameters}
 use Rattle.machine.proofs.CheckLaws.{Passed, passed, no-refusal}
-use Rattle.tile.proofs.TestLaws.{test-failed, test-passed}
+use Rattle.address.proofs.TestLaws.{test-failed, test-passed}
 use Rattle.tile.specs.Checks.{storeChecks}
 use Rattle.tile.proofs.AnswerLaws.{sealedBy}
 use Rattle.tile.proofs.store.Statement.{statement}

@@ -9,7 +9,7 @@ use Rattle.machine.specs.Answers.{Check, isDone}
 use Rattle.machine.specs.Geometry.{Parameters}
 use Rattle.machine.specs.Memory.{inside, unsealed}
 use Rattle.machine.proofs.CheckLaws.{no-refusal}
-use Rattle.tile.proofs.TestLaws.{test-failed, test-passed}
+use Rattle.address.proofs.TestLaws.{test-failed, test-passed}
 use Rattle.tile.specs.Checks.{marksCheck, memoryCheck, sealCheck}
 use Rattle.tile.proofs.AnswerLaws.{answer-first, answer-holds, answer-second, answer-third}
 use Rattle.tile.proofs.store_checked.Statement.{statement}

@@ -6,7 +6,7 @@ use Rattle.machine.specs.Faults.{sound}
 use Rattle.machine.specs.Setting.{smaller}
 use Rattle.run.specs.declared.RunStarted.{RunStarted}
 use Rattle.run.specs.Start.{planned, lying, separate, startedAs}
-use Rattle.tile.proofs.TestLaws.{test-failed, test-passed}
+use Rattle.address.proofs.TestLaws.{test-failed, test-passed}
 use Rattle.turn.proofs.StartLaws.{started-by}
 use Rattle.turn.proofs.start.Statement.{statement}
 use Rattle.turn.proofs.start.Tie as tie

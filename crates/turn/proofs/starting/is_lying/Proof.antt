@@ -1,7 +1,7 @@
 use mathlib.Core.Path.{_≡_, _∙_}
 use mathlib.Core.Bool.{true}
 use borrow.Author.Needs.{needs}
-use Rattle.tile.proofs.TestLaws.{test-failed, test-passed}
+use Rattle.address.proofs.TestLaws.{test-failed, test-passed}
 use Rattle.turn.proofs.StartLaws.{plan-sizes, counted, aInside, bInside, cInside, aIn, bIn, a-outside, b-outside, c-decides}
 use Rattle.turn.proofs.starting.is_lying.Statement.{statement}
 use Rattle.turn.proofs.starting.is_lying.Tie as tie

@@ -7,7 +7,7 @@ use lib.ListN.{length}
 use borrow.Author.Needs.{needs}
 use Rattle.machine.specs.Geometry.{Parameters, parameters}
 use Rattle.machine.specs.Setting.{smaller}
-use Rattle.tile.proofs.TestLaws.{test-failed, test-passed}
+use Rattle.address.proofs.TestLaws.{test-failed, test-passed}
 use Rattle.turn.proofs.StartLaws.{plan-sizes, counted, counted-both, aInside, bInside, cInside, all-inside, cDistinct, aApart, bApart, cUnsealed, rowsDiffer, fromA, fromB, rows-meet, meets-a, meets-b, seal-decides}
 use Rattle.turn.proofs.starting.is_separate.Statement.{statement}
 use Rattle.turn.proofs.starting.is_separate.Tie as tie

@@ -4,10 +4,10 @@ use native.Mathlib.Omega.{arith}
 use mir.Syntax.{w64}
 use mir.Val.{toZ}
 use mir.ValLaws.{toZ-pos}
-use Rattle.tile.proofs.AddressLaws.{below-one, signed-is}
+use Rattle.address.proofs.AddressLaws.{below-one, signed-is}
 use borrow.Author.Needs.{needs}
-use Rattle.tile.proofs.address.as_signed.Statement.{statement}
-use Rattle.tile.proofs.address.as_signed.Tie as tie
+use Rattle.address.proofs.as_signed.Statement.{statement}
+use Rattle.address.proofs.as_signed.Tie as tie
 
 cast-result : tie.Need-cast-result
 cast-result c = search needs

@@ -5,10 +5,10 @@ use lib.Dec.{leb}
 use lib.IntN.{ℤ, natAbs}
 use mir.Syntax.{w64}
 use mir.Val.{toZ, ofZ}
-use Rattle.tile.proofs.AddressLaws.{step, passed-on, inside-no-bytes, inside-no-rows, inside-first-not, inside-up, inside-down}
+use Rattle.address.proofs.AddressLaws.{step, passed-on, inside-no-bytes, inside-no-rows, inside-first-not, inside-up, inside-down}
 use borrow.Author.Needs.{needs}
-use Rattle.tile.proofs.address.rows_inside.Statement.{statement}
-use Rattle.tile.proofs.address.rows_inside.Tie as tie
+use Rattle.address.proofs.rows_inside.Statement.{statement}
+use Rattle.address.proofs.rows_inside.Tie as tie
 
 returns : tie.Need-returns
 returns c =

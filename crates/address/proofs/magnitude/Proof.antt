@@ -5,10 +5,10 @@ use lib.IntN.{pos}
 use lib.Signed.{mag, nonNeg}
 use mir.Syntax.{w64}
 use mir.ValLaws.{toZ-ofZ}
-use Rattle.tile.proofs.AddressLaws.{is-negative, not-negative, below-negative, magnitude-negative}
+use Rattle.address.proofs.AddressLaws.{is-negative, not-negative, below-negative, magnitude-negative}
 use borrow.Author.Needs.{needs}
-use Rattle.tile.proofs.address.magnitude.Statement.{statement}
-use Rattle.tile.proofs.address.magnitude.Tie as tie
+use Rattle.address.proofs.magnitude.Statement.{statement}
+use Rattle.address.proofs.magnitude.Tie as tie
 
 -- z is negative, and it fits
 below : (c : tie.Then1) → nonNeg (c .before .args .z) ≡ false

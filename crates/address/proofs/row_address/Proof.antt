@@ -6,10 +6,10 @@ use mir.Syntax.{w64}
 use mir.Val.{toZ, ofZ, SFits}
 use mir.ValLaws.{toZ-ofZ, toZ-pos}
 use Rattle.machine.specs.Memory.{address}
-use Rattle.tile.proofs.AddressLaws.{natAbs-times, mag-le, goes-down, goes-up}
+use Rattle.address.proofs.AddressLaws.{natAbs-times, mag-le, goes-down, goes-up}
 use borrow.Author.Needs.{needs}
-use Rattle.tile.proofs.address.row_address.Statement.{statement}
-use Rattle.tile.proofs.address.row_address.Tie as tie
+use Rattle.address.proofs.row_address.Statement.{statement}
+use Rattle.address.proofs.row_address.Tie as tie
 
 cast-distance : tie.Need-cast-distance
 cast-distance c = search needs

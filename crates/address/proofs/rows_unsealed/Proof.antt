@@ -8,11 +8,11 @@ use mir.Val.{toZ, ofZ}
 use Rattle.machine.specs.Tests.{all}
 use Rattle.machine.specs.Geometry.{Parameters}
 use Rattle.machine.specs.Memory.{rowAt, clear}
-use Rattle.tile.proofs.TestLaws.{all-next, test-failed, test-passed}
-use Rattle.tile.proofs.AddressLaws.{step, passed-on, row-inside, row-reached, row-starts}
-use Rattle.tile.proofs.SealLaws.{unsealed-no-bytes, unsealed-not, unsealed-all}
-use Rattle.tile.proofs.address.rows_unsealed.Statement.{statement}
-use Rattle.tile.proofs.address.rows_unsealed.Tie as tie
+use Rattle.address.proofs.TestLaws.{all-next, test-failed, test-passed}
+use Rattle.address.proofs.AddressLaws.{step, passed-on, row-inside, row-reached, row-starts}
+use Rattle.address.proofs.SealLaws.{unsealed-no-bytes, unsealed-not, unsealed-all}
+use Rattle.address.proofs.rows_unsealed.Statement.{statement}
+use Rattle.address.proofs.rows_unsealed.Tie as tie
 
 abbrev Inv-loop : tie.InvT-loop
 Inv-loop len seal size base stride rows bytes i₀ i =

@@ -4,10 +4,10 @@ use lib.Dec.{leb}
 use lib.IntN.{natAbs}
 use mir.Syntax.{w64}
 use mir.ValLaws.{toZ-ofZ}
-use Rattle.tile.proofs.AddressLaws.{no-distance, by-division}
+use Rattle.address.proofs.AddressLaws.{no-distance, by-division}
 use borrow.Author.Needs.{needs}
-use Rattle.tile.proofs.address.is_bounded.Statement.{statement}
-use Rattle.tile.proofs.address.is_bounded.Tie as tie
+use Rattle.address.proofs.is_bounded.Statement.{statement}
+use Rattle.address.proofs.is_bounded.Tie as tie
 
 returns : tie.Need-returns
 returns c = let a = c .before .args in no-distance (natAbs (a .stride)) (a .row) (a .room) (c .if1 .taken)

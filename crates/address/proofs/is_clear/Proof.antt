@@ -1,9 +1,9 @@
 use mathlib.Core.Path.{sym, _∙_}
 use native.Mathlib.Omega.{arith}
-use Rattle.tile.proofs.SealLaws.{clear-no-bytes, clear-no-seal, clear-below, clear-not, clear-from}
+use Rattle.address.proofs.SealLaws.{clear-no-bytes, clear-no-seal, clear-below, clear-not, clear-from}
 use borrow.Author.Needs.{needs}
-use Rattle.tile.proofs.address.is_clear.Statement.{statement}
-use Rattle.tile.proofs.address.is_clear.Tie as tie
+use Rattle.address.proofs.is_clear.Statement.{statement}
+use Rattle.address.proofs.is_clear.Tie as tie
 
 returns : tie.Need-returns
 returns c = λ M e f. clear-no-bytes M (c .before .args .p) (c .before .args .n) (c .if1 .taken)
