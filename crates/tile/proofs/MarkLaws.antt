@@ -64,16 +64,41 @@ module _ (ms : List ℕ) (at : ℕ → ℕ) (rows cols w : ℕ) where
       all-true w (λ b. eqb (getD ms (at i + (j * w + b)) 0) 1) (λ b l′.
       subst (λ (q : ℕ). eqb (getD ms q 0) 1 ≡ true) (omega arith) (all-at w (λ b. eqb (getD ms (at i + j * w + b) 0) 1) (all-at cols (elementMarked ms (at i) w) h j l) b l′)))
 
+  -- and not if one of them is not
+  row-unmarked : (i j : ℕ) → j < cols → elementMarked ms (at i) w j ≡ false → rowMarked ms at (cols * w) i ≡ false
+  row-unmarked i j l g =
+      all-elements cols w (λ b. eqb (getD ms (at i + b) 0) 1)
+      ∙ all-false cols (λ j. all w (λ b. eqb (getD ms (at i + (j * w + b)) 0) 1)) j l
+      (same-test (all w (λ b. eqb (getD ms (at i + (j * w + b)) 0) 1)) (elementMarked ms (at i) w j)
+      (λ h. all-true w (λ b. eqb (getD ms (at i + j * w + b) 0) 1) (λ b m. subst (λ (q : ℕ). eqb (getD ms q 0) 1 ≡ true) (omega arith) (all-at w (λ b. eqb (getD ms (at i + (j * w + b)) 0) 1) h b m)))
+      (λ h. all-true w (λ b. eqb (getD ms (at i + (j * w + b)) 0) 1) (λ b m. subst (λ (q : ℕ). eqb (getD ms q 0) 1 ≡ true) (omega arith) (all-at w (λ b. eqb (getD ms (at i + j * w + b) 0) 1) h b m)))
+      ∙ g)
+
   -- the first element without a mark
-  pub tile-unmarked : (i j : ℕ) → i < rows → j < cols → all i (rowMarked ms at (cols * w)) ≡ true → rowMarked ms at (cols * w) i ≡ false
+  pub tile-unmarked : (i j : ℕ) → i < rows → j < cols → all i (rowMarked ms at (cols * w)) ≡ true
       → all j (elementMarked ms (at i) w) ≡ true → elementMarked ms (at i) w j ≡ false → Unwritten i j ≡ verdict (needs false ms at rows cols w ∷ [])
   unfolding marked
-  tile-unmarked i j l k h g h′ g′ =
+  tile-unmarked i j l k h h′ g′ =
+      let g = row-unmarked i j k g′ in
       rw (
         all-false rows (rowMarked ms at (cols * w)) i l g,
         first-here rows (rowMarked ms at (cols * w)) i l h g,
         first-here cols (elementMarked ms (at i) w) j k h′ g′,
       )
+
+  -- the whole tile is marked
+  pub marked-done : marked ms at rows (cols * w) ≡ true → Done ≡ verdict (needs false ms at rows cols w ∷ [])
+  marked-done h = rw h
+
+-- rows of n bytes
+module _ (ms : List ℕ) (at : ℕ → ℕ) (rows n : ℕ) where
+  pub rows-marked : all rows (rowMarked ms at n) ≡ true → true ≡ marked ms at rows n
+  unfolding marked
+  rows-marked h = sym h
+
+  pub rows-unmarked : (i : ℕ) → i < rows → rowMarked ms at n i ≡ false → false ≡ marked ms at rows n
+  unfolding marked
+  rows-unmarked i l g = sym (all-false rows (rowMarked ms at n) i l g)
 
 -- ---- by quarters
 

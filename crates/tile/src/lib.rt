@@ -19,7 +19,7 @@ ghost use Rattle.machine.specs.Tests.{all, allOf, every};
 ghost use Rattle.machine.specs.Geometry.{Parameters};
 ghost use Rattle.machine.specs.Memory.{rowAt, inside};
 ghost use Rattle.machine.specs.Operation.{element};
-ghost use Rattle.machine.specs.Refusals.{needs};
+ghost use Rattle.machine.specs.Refusals.{marked, needs};
 ghost use Rattle.machine.specs.declared.Answer.the-variants.{OutsideMemory};
 ghost use Rattle.machine.specs.Answers.{verdict, isDone, _otherwise_};
 ghost use Rattle.tile.specs.Checks.{storeChecks};
@@ -71,8 +71,25 @@ pub fn marks_sound(marks: &[u8]) -> bool
     most < 2
 }
 
-// The answer of the check of a tile's marks: Done, or the first element with a byte without a mark. Rows with all their marks are
-// passed over whole.
+// Whether each byte of the rows, of n bytes each, has its mark.
+fn tile_marked(marks: &[u8], start: usize, pitch: usize, rows: usize, n: usize) -> bool
+    requires { ⌜ start + rows * pitch ≤ length (now marks) ⌝ }
+    requires { ⌜ n ≤ pitch ⌝ }
+    ensures { λ r. ⌜ r ≡ marked (now (marks .entry)) (λ i. start + i * pitch) rows n ⌝ }
+{
+    let mut first = start;
+    let mut i = 0;
+    while i < rows {
+        if !row_marked(marks, first, n) {
+            return false;
+        }
+        first += pitch;
+        i += 1;
+    }
+    true
+}
+
+// The answer of the check of a tile's marks: Done, or the first element with a byte without a mark, row by row.
 pub fn first_unmarked(
     marks: &[u8],
     start: usize,
@@ -85,15 +102,13 @@ pub fn first_unmarked(
     requires { ⌜ cols * w ≤ pitch ⌝ }
     ensures { λ r. ⌜ r ≡ verdict (needs false (now (marks .entry)) (λ i. start + i * pitch) rows cols w ∷ []) ⌝ }
 {
+    if tile_marked(marks, start, pitch, rows, cols * w) {
+        return Answer::Done;
+    }
     let mut found = Answer::Done;
     let mut first = start;
     let mut i = 0;
     'tile: while i < rows {
-        if row_marked(marks, first, cols * w) {
-            first += pitch;
-            i += 1;
-            continue 'tile;
-        }
         let mut at = first;
         let mut j = 0;
         while j < cols {

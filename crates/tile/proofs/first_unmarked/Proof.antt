@@ -9,7 +9,7 @@ use Rattle.width.proofs.PutLaws.{row-fits, next-row}
 use Rattle.machine.specs.Tests.{all}
 use Rattle.machine.specs.declared.Answer.the-variants.{Done}
 use Rattle.address.proofs.TestLaws.{all-next, test-failed, test-passed}
-use Rattle.tile.proofs.MarkLaws.{rowMarked, elementMarked, row-elements, tile-marked, tile-unmarked}
+use Rattle.tile.proofs.MarkLaws.{rowMarked, elementMarked, row-elements, marked-done, tile-marked, tile-unmarked}
 use Rattle.tile.proofs.first_unmarked.Statement.{statement}
 use Rattle.tile.proofs.first_unmarked.Tie as tie
 
@@ -27,14 +27,26 @@ Inv-tile marks start pitch rows cols w found₀ first₀ i₀ found first i =
 abbrev μ-tile : tie.MeasureT-tile
 μ-tile marks start pitch rows cols w found₀ first₀ i₀ found first i = rows - i
 
+mul-tile-marked : tie.Need-mul-tile-marked Inv-loop μ-loop Inv-tile μ-tile
+mul-tile-marked c = omega arith
+
+tile-marked-requires : tie.Need-tile-marked-requires Inv-loop μ-loop Inv-tile μ-tile
+tile-marked-requires c κs = let s = c .before in omega (arith, s .pre)
+
+returns : tie.Need-returns Inv-loop μ-loop Inv-tile μ-tile
+returns c =
+    let d = c .before in
+    let a = d .before .before .args in
+    marked-done (a .marks .now) (λ i. a .start + i * a .pitch) (a .rows) (a .cols) (a .w) (sym (d .tile-marked .ensures) ∙ c .if1 .taken)
+
 tile-holds : tie.Need-tile-holds Inv-loop μ-loop Inv-tile μ-tile
-tile-holds c = (omega arith, omega (arith, zero-mul (c .before .args .pitch)), refl, refl)
+tile-holds c = (omega arith, omega (arith, zero-mul (c .before .before .before .args .pitch)), refl, refl)
 
 -- the row lies in the marks
 row-in : (c : tie.In-tile Inv-loop μ-loop Inv-tile μ-tile) →
-    let a = c .before .before .before .args in c .before .tile .first + a .pitch ≤ length (a .marks .now)
+    let a = c .before .before .before .before .before .args in c .before .tile .first + a .pitch ≤ length (a .marks .now)
 row-in c =
-    let s = c .before .before .before in
+    let s = c .before .before .before .before .before in
     let p = row-fits (c .before .tile .i) (s .args .rows) (s .args .pitch) (c .tile-test .taken) in
     omega (arith, s .pre)
 
@@ -42,62 +54,29 @@ row-in c =
 element-in : (c : tie.In-loop Inv-loop μ-loop Inv-tile μ-tile) →
     let a = c .before .before .before .before .before .before .before .args in c .before .loop .at + a .w ≤ length (a .marks .now)
 element-in c =
-    let d = c .before .before .before .before in
-    let s = d .before .before .before in
+    let d = c .before .before in
+    let s = d .before .before .before .before .before in
     let p = row-in d in
     let q = row-fits (c .before .loop .j) (s .args .cols) (s .args .w) (c .loop-test .taken) in
     omega (arith, s .pre)
 
--- what the tests found of row i and of its element j
-row-found : (c : tie.After-row-marked Inv-loop μ-loop Inv-tile μ-tile) →
-    let a = c .before .before .before .before .args in
-    c .row-marked .result ≡ rowMarked (a .marks .now) (λ i. a .start + i * a .pitch) (a .cols * a .w) (c .before .before .tile .i)
-row-found c =
-    let a = c .before .before .before .before .args in
-    c .row-marked .ensures ∙ ap (λ (q : ℕ). all (a .cols * a .w) (λ b. eqb (getD (a .marks .now) (q + b) 0) 1)) (c .before .before .tile .inv .1)
-
-element-found : (c : tie.After-row-marked2 Inv-loop μ-loop Inv-tile μ-tile) →
-    let d = c .before .before .before .before .before in
-    let a = d .before .before .before .args in
-    c .row-marked2 .result ≡ elementMarked (a .marks .now) (d .before .tile .first) (a .w) (c .before .before .loop .j)
+-- what the test found of element j of the row
+element-found : (c : tie.After-row-marked Inv-loop μ-loop Inv-tile μ-tile) →
+    let d = c .before .before .before in
+    let a = d .before .before .before .before .before .args in
+    c .row-marked .result ≡ elementMarked (a .marks .now) (d .before .tile .first) (a .w) (c .before .before .loop .j)
 element-found c =
     let a = c .before .before .before .before .before .before .before .before .args in
-    c .row-marked2 .ensures ∙ ap (λ (q : ℕ). all (a .w) (λ b. eqb (getD (a .marks .now) (q + b) 0) 1)) (c .before .before .loop .inv .1)
-
-mul-row-marked : tie.Need-mul-row-marked Inv-loop μ-loop Inv-tile μ-tile
-mul-row-marked c = omega arith
-
-row-marked-requires : tie.Need-row-marked-requires Inv-loop μ-loop Inv-tile μ-tile
-row-marked-requires c κs = let p = row-in c in let s = c .before .before .before in omega (arith, s .pre)
-
-add-first : tie.Need-add-first Inv-loop μ-loop Inv-tile μ-tile
-add-first c = let p = row-in (c .before .before) in omega arith
-
-add-i : tie.Need-add-i Inv-loop μ-loop Inv-tile μ-tile
-add-i c = omega arith
-
-tile-less : tie.Need-tile-less Inv-loop μ-loop Inv-tile μ-tile
-tile-less c = omega arith
-
-tile-again : tie.Need-tile-again Inv-loop μ-loop Inv-tile μ-tile
-tile-again c =
-    let d = c .before in
-    let t = d .before .before .tile in
-    let a = d .before .before .before .before .args in (
-      omega arith,
-      omega (arith, next-row (t .i) (a .pitch)),
-      t .inv .2,
-      all-next (t .i) (rowMarked (a .marks .now) (λ i. a .start + i * a .pitch) (a .cols * a .w)) (t .inv .3) (sym (row-found d) ∙ c .if1 .taken),
-    )
+    c .row-marked .ensures ∙ ap (λ (q : ℕ). all (a .w) (λ b. eqb (getD (a .marks .now) (q + b) 0) 1)) (c .before .before .loop .inv .1)
 
 loop-holds : tie.Need-loop-holds Inv-loop μ-loop Inv-tile μ-tile
 loop-holds c =
-    let t = c .before .before .before .tile in
+    let t = c .before .tile in
     let a = c .before .before .before .before .before .args in
     (omega arith, omega (arith, zero-mul (a .w)), t .inv .2, refl)
 
-row-marked-requires-2 : tie.Need-row-marked-requires-2 Inv-loop μ-loop Inv-tile μ-tile
-row-marked-requires-2 c κs = element-in c
+row-marked-requires : tie.Need-row-marked-requires Inv-loop μ-loop Inv-tile μ-tile
+row-marked-requires c κs = element-in c
 
 add-at : tie.Need-add-at Inv-loop μ-loop Inv-tile μ-tile
 add-at c = let f = element-in (c .before .before) in omega arith
@@ -112,27 +91,27 @@ loop-again : tie.Need-loop-again Inv-loop μ-loop Inv-tile μ-tile
 loop-again c =
     let d = c .before in
     let l = d .before .before .loop in
-    let t = d .before .before .before .before .before .before .tile in
+    let t = d .before .before .before .before .tile in
     let a = d .before .before .before .before .before .before .before .before .args in (
       omega arith,
       omega (arith, next-row (l .j) (a .w)),
       l .inv .2,
-      all-next (l .j) (elementMarked (a .marks .now) (t .first) (a .w)) (l .inv .3) (test-passed (d .row-marked2 .result) (elementMarked (a .marks .now) (t .first) (a .w) (l .j)) (element-found d) (c .if2 .left)),
+      all-next (l .j) (elementMarked (a .marks .now) (t .first) (a .w)) (l .inv .3) (test-passed (d .row-marked .result) (elementMarked (a .marks .now) (t .first) (a .w) (l .j)) (element-found d) (c .if2 .left)),
     )
 
-add-first-2 : tie.Need-add-first-2 Inv-loop μ-loop Inv-tile μ-tile
-add-first-2 c = let p = row-in (c .before .before .before .before) in omega arith
+add-first : tie.Need-add-first Inv-loop μ-loop Inv-tile μ-tile
+add-first c = let p = row-in (c .before .before) in omega arith
 
-add-i-2 : tie.Need-add-i-2 Inv-loop μ-loop Inv-tile μ-tile
-add-i-2 c = omega arith
+add-i : tie.Need-add-i Inv-loop μ-loop Inv-tile μ-tile
+add-i c = omega arith
 
-tile-less-2 : tie.Need-tile-less-2 Inv-loop μ-loop Inv-tile μ-tile
-tile-less-2 c = omega arith
+tile-less : tie.Need-tile-less Inv-loop μ-loop Inv-tile μ-tile
+tile-less c = omega arith
 
-tile-again-2 : tie.Need-tile-again-2 Inv-loop μ-loop Inv-tile μ-tile
-tile-again-2 c =
+tile-again : tie.Need-tile-again Inv-loop μ-loop Inv-tile μ-tile
+tile-again c =
     let l = c .before .loop in
-    let t = c .before .before .before .before .before .tile in
+    let t = c .before .before .before .tile in
     let a = c .before .before .before .before .before .before .before .args in
     let e : l .j ≡ a .cols = omega arith in (
       omega arith,
@@ -144,25 +123,24 @@ tile-again-2 c =
           (subst (λ (n : ℕ). all n (elementMarked (a .marks .now) (t .first) (a .w)) ≡ true) e (l .inv .3)))),
     )
 
-returns : tie.Need-returns Inv-loop μ-loop Inv-tile μ-tile
-returns c =
+returns-2 : tie.Need-returns-2 Inv-loop μ-loop Inv-tile μ-tile
+returns-2 c =
     let t = c .before .tile in
-    let a = c .before .before .before .args in
+    let a = c .before .before .before .before .before .args in
     let e : t .i ≡ a .rows = omega arith in
     t .inv .2 ∙ tile-marked (a .marks .now) (λ i. a .start + i * a .pitch) (a .rows) (a .cols) (a .w)
     (subst (λ (n : ℕ). all n (rowMarked (a .marks .now) (λ i. a .start + i * a .pitch) (a .cols * a .w)) ≡ true) e (t .inv .3))
 
-returns-2 : tie.Need-returns-2 Inv-loop μ-loop Inv-tile μ-tile
-returns-2 c =
+returns-3 : tie.Need-returns-3 Inv-loop μ-loop Inv-tile μ-tile
+returns-3 c =
     let d = c .before in
     let l = d .before .before .loop in
-    let r = d .before .before .before .before in
-    let t = r .before .before .tile in
-    let a = r .before .before .before .before .args in
-    tile-unmarked (a .marks .now) (λ i. a .start + i * a .pitch) (a .rows) (a .cols) (a .w) (t .i) (l .j) (r .before .tile-test .taken) (d .before .loop-test .taken) (t .inv .3)
-    (sym (row-found r) ∙ d .before .before .before .if1 .left)
+    let r = d .before .before .before in
+    let t = r .before .tile in
+    let a = r .before .before .before .before .before .args in
+    tile-unmarked (a .marks .now) (λ i. a .start + i * a .pitch) (a .rows) (a .cols) (a .w) (t .i) (l .j) (r .tile-test .taken) (d .before .loop-test .taken) (t .inv .3)
     (subst (λ (q : ℕ). all (l .j) (elementMarked (a .marks .now) q (a .w)) ≡ true) (t .inv .1) (l .inv .3))
-    (subst (λ (q : ℕ). elementMarked (a .marks .now) q (a .w) (l .j) ≡ false) (t .inv .1) (test-failed (d .row-marked2 .result) (elementMarked (a .marks .now) (t .first) (a .w) (l .j)) (element-found d) (c .if2 .taken)))
+    (subst (λ (q : ℕ). elementMarked (a .marks .now) q (a .w) (l .j) ≡ false) (t .inv .1) (test-failed (d .row-marked .result) (elementMarked (a .marks .now) (t .first) (a .w) (l .j)) (element-found d) (c .if2 .taken)))
 
 pub first-unmarked-spec : {M : Type 1} → statement M
 first-unmarked-spec =
@@ -172,22 +150,19 @@ first-unmarked-spec =
     μ-loop
     Inv-tile
     μ-tile
+    mul-tile-marked
+    tile-marked-requires
+    returns
     tile-holds
-    mul-row-marked
-    row-marked-requires
-    add-first
-    add-i
-    tile-less
-    tile-again
     loop-holds
-    row-marked-requires-2
+    row-marked-requires
     add-at
     add-j
     loop-less
     loop-again
-    add-first-2
-    add-i-2
-    tile-less-2
-    tile-again-2
-    returns
-    returns-2)
+    add-first
+    add-i
+    tile-less
+    tile-again
+    returns-2
+    returns-3)
