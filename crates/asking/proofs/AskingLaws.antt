@@ -2,12 +2,13 @@
 use mathlib.Core.Path.{_≡_, refl, sym, ap, ap₂, _∙_}
 use mathlib.Core.Bool.{Bool, true, false, cond, _||_}
 use mathlib.Core.List.{List, [], _∷_}
+use mathlib.Core.Option.{Option, none}
 use Prim.Native.Nat.{ℕ, _+_, _-_, _*_, _/_, _%_, _^_, _≤_, _<_}
 use native.Mathlib.Nat.{mul-le-mul, le-div-iff-mul-le, mod-eq-of-lt, div-add-mod'}
 use native.Mathlib.Omega.{arith}
 use lib.Dec.{leb, ltb, eqb}
 use borrow.Author.Tests.{eqb-true, ltb-true, leb-true, eq-eqb, ne-eqb}
-use Rattle.machine.specs.Tests.{isIn}
+use Rattle.machine.specs.Tests.{every, isIn}
 use Rattle.machine.proofs.TestLaws.{Each, every-each, each-every, each-in, false-true}
 use Rattle.machine.specs.Geometry.{permitted, elen}
 use Rattle.machine.proofs.StepLaws.{permitted-lengths, permitted-bounds, smaller-grants}
@@ -22,14 +23,15 @@ use Rattle.machine.specs.declared.Answer.{Answer}
 use Rattle.machine.specs.declared.Answer.the-variants.{Done}
 use Rattle.run.specs.declared.Place.the-variants.{AtType, AtM, AtN, AtClear, AtK, AtA, AtB, AtMultiply, AtStore, AtEnd}
 use Rattle.run.specs.Words.{Op, Shape}
-use Rattle.run.specs.Places.{headM, headN, headK, next, wordsAt}
+use Rattle.run.specs.Places.{next, wordAt}
 use Rattle.run.specs.Plan.{msew, typeOf}
 use Rattle.run.specs.Encoding.{startOf}
 use Rattle.run.specs.Start.{format, planned}
-use Rattle.run.specs.Turn.{placed, begins, soundRun, runShape, handsOut, moved, askWith, asked, ask}
-use Rattle.asking.specs.Parts.{numbered, isEnd, handedOf, shapeBy, Within, Most}
+use Rattle.run.specs.Turn.{startsM, startsN, startsK, begins, soundRun, runShape, handsOut, moved, asked, ask}
+use Rattle.asking.specs.Parts.{numbered, placed, isEnd, handedOf, shapeBy, Within, Most}
+use Rattle.run.proofs.HandedLaws.{askWith}
 use Rattle.run.proofs.PlaceLaws.{Sound}
-use Rattle.run.proofs.BeginLaws.{begins-next}
+use Rattle.run.proofs.BeginLaws.{start-below, begins-next}
 use Rattle.run.proofs.WordLaws.{formats, start-wraps}
 
 -- ---- formats
@@ -91,17 +93,53 @@ module _ (R : Run) (ok : numbered R ≡ true) where
       le-div-iff-mul-le {k = sew (typeOf (R .plan))} {x = 1} {y = R .rlen / 8} (omega (arith, run-sew, run-bytes)) .1 (omega (arith, run-sew, n .1)) in
       record { rule = smaller-grants; 0<tm = n .0; 0<tk = omega (arith, n .0, columns); 0<tn = columns }
 
-module _ (R : Run) (ok : soundRun smaller R ≡ true) where
-  tests : Each (permitted (R .rlen) (R .mlen) ∷ planned (R .plan) ∷ placed (R .plan) (R .place) ∷ begins (runShape smaller R) (R .place) ∷ [])
-  unfolding soundRun
-  tests = every-each (permitted (R .rlen) (R .mlen) ∷ planned (R .plan) ∷ placed (R .plan) (R .place) ∷ begins (runShape smaller R) (R .place) ∷ []) ok
+-- a place at which blocks start lies in the matrices
+module _ (R : Run) (ok : numbered R ≡ true) where
+  abbrev S : Shape
+  S = runShape smaller R
 
-  pub run-placed : placed (R .plan) (R .place) ≡ true
-  run-placed = tests .1 .1 .0
+  in-m : (i : ℕ) → startsM S i ≡ true → ltb i (R .plan .m) ≡ true
+  in-m = start-below smaller smaller-grants (S .tm) (run-most R ok .0<tm) (S .m)
+
+  in-n : (j : ℕ) → startsN S j ≡ true → ltb j (R .plan .n) ≡ true
+  in-n = start-below smaller smaller-grants (S .tn) (run-most R ok .0<tn) (S .n)
+
+  in-k : (s : ℕ) → startsK S s ≡ true → ltb s (R .plan .k) ≡ true
+  in-k = start-below smaller smaller-grants (S .tk) (run-most R ok .0<tk) (S .k)
+
+  in-mn : (i j : ℕ) → every (startsM S i ∷ startsN S j ∷ []) ≡ true → every (ltb i (R .plan .m) ∷ ltb j (R .plan .n) ∷ []) ≡ true
+  in-mn i j h =
+      let t = every-each (startsM S i ∷ startsN S j ∷ []) h in
+      each-every (ltb i (R .plan .m) ∷ ltb j (R .plan .n) ∷ []) (in-m i (t .0), (in-n j (t .1 .0), tt))
+
+  in-mnk : (i j s : ℕ) → every (startsM S i ∷ startsN S j ∷ startsK S s ∷ []) ≡ true → every (ltb i (R .plan .m) ∷ ltb j (R .plan .n) ∷ ltb s (R .plan .k) ∷ []) ≡ true
+  in-mnk i j s h =
+      let t = every-each (startsM S i ∷ startsN S j ∷ startsK S s ∷ []) h in
+      each-every (ltb i (R .plan .m) ∷ ltb j (R .plan .n) ∷ ltb s (R .plan .k) ∷ []) (in-m i (t .0), (in-n j (t .1 .0), (in-k s (t .1 .1 .0), tt)))
+
+  pub place-in : (p : Place) → begins S p ≡ true → placed (R .plan) p ≡ true
+  place-in AtType h = refl
+  place-in (AtM i) h = in-m i h
+  place-in (AtN i j) h = in-mn i j h
+  place-in (AtClear i j) h = in-mn i j h
+  place-in (AtK i j s) h = in-mnk i j s h
+  place-in (AtA i j s) h = in-mnk i j s h
+  place-in (AtB i j s) h = in-mnk i j s h
+  place-in (AtMultiply i j s) h = in-mnk i j s h
+  place-in (AtStore i j) h = in-mn i j h
+  place-in AtEnd h = refl
+
+module _ (R : Run) (ok : soundRun smaller R ≡ true) where
+  tests : Each (permitted (R .rlen) (R .mlen) ∷ planned (R .plan) ∷ begins (runShape smaller R) (R .place) ∷ [])
+  unfolding soundRun
+  tests = every-each (permitted (R .rlen) (R .mlen) ∷ planned (R .plan) ∷ begins (runShape smaller R) (R .place) ∷ []) ok
 
   pub run-numbered : numbered R ≡ true
   unfolding numbered
   run-numbered = each-every (permitted (R .rlen) (R .mlen) ∷ planned (R .plan) ∷ []) (tests .0, (tests .1 .0, tt))
+
+  pub run-placed : placed (R .plan) (R .place) ≡ true
+  run-placed = place-in R run-numbered (R .place) (tests .1 .1 .0)
 
 pub plan-small : (P : Plan) → planned P ≡ true → (P .sew ≤ 32) × (P .factor ≤ 4)
 unfolding planned format
@@ -169,7 +207,7 @@ askedAs a h R = record { answer = a; handed = h; run = R }
 abbrev pub runAt : Run → Place → Run
 runAt R p = record { plan = R .plan; rlen = R .rlen; mlen = R .mlen; place = p }
 
-no-words : (S : Shape) (q : Place) → isEnd q ≡ true → [] ≡ wordsAt S q
+no-words : (S : Shape) (q : Place) → isEnd q ≡ true → none ≡ wordAt S q
 no-words S AtType h = absurd (false-true h)
 no-words S (AtM i) h = absurd (false-true h)
 no-words S (AtN i j) h = absurd (false-true h)
@@ -181,7 +219,7 @@ no-words S (AtMultiply i j s) h = absurd (false-true h)
 no-words S (AtStore i j) h = absurd (false-true h)
 no-words S AtEnd h = refl
 
-one-word : (S : Shape) (R : Run) (q : Place) → isEnd q ≡ false → askedAs Done (handedOf (R .plan) (wordsAt S q)) (moved smaller R) ≡ asked (askWith smaller R (wordsAt S q))
+one-word : (S : Shape) (R : Run) (q : Place) → isEnd q ≡ false → askedAs Done (handedOf (R .plan) (wordAt S q)) (moved smaller R) ≡ asked (askWith smaller R (wordAt S q))
 one-word S R AtType h = refl
 one-word S R (AtM i) h = refl
 one-word S R (AtN i j) h = refl
@@ -194,18 +232,18 @@ one-word S R (AtStore i j) h = refl
 one-word S R AtEnd h = absurd (false-true (sym h))
 
 module _ (R : Run) where
-  handing : soundRun smaller R ≡ true → wordsAt (runShape smaller R) (R .place) ≡ handsOut smaller R
-  handing h = ap (λ (t : Bool). cond t (wordsAt (runShape smaller R) (R .place)) []) (sym h)
+  handing : soundRun smaller R ≡ true → wordAt (runShape smaller R) (R .place) ≡ handsOut smaller R
+  handing h = ap (λ (t : Bool). cond t (wordAt (runShape smaller R) (R .place)) none) (sym h)
 
-  pub ask-unsound : soundRun smaller R ≡ false → asked (askWith smaller R []) ≡ asked (ask smaller R)
-  ask-unsound h = ap (λ (t : Bool). asked (askWith smaller R (cond t (wordsAt (runShape smaller R) (R .place)) []))) (sym h)
+  pub ask-unsound : soundRun smaller R ≡ false → asked (askWith smaller R none) ≡ asked (ask smaller R)
+  ask-unsound h = ap (λ (t : Bool). asked (askWith smaller R (cond t (wordAt (runShape smaller R) (R .place)) none))) (sym h)
 
-  pub ask-end : soundRun smaller R ≡ true → isEnd (R .place) ≡ true → asked (askWith smaller R []) ≡ asked (ask smaller R)
-  ask-end h e = ap (λ (os : List Op). asked (askWith smaller R os)) (no-words (runShape smaller R) (R .place) e ∙ handing h)
+  pub ask-end : soundRun smaller R ≡ true → isEnd (R .place) ≡ true → asked (askWith smaller R none) ≡ asked (ask smaller R)
+  ask-end h e = ap (λ (o : Option Op). asked (askWith smaller R o)) (no-words (runShape smaller R) (R .place) e ∙ handing h)
 
   pub ask-done : soundRun smaller R ≡ true → isEnd (R .place) ≡ false
-      → askedAs Done (handedOf (R .plan) (wordsAt (runShape smaller R) (R .place))) (moved smaller R) ≡ asked (ask smaller R)
-  ask-done h e = one-word (runShape smaller R) R (R .place) e ∙ ap (λ (os : List Op). asked (askWith smaller R os)) (handing h)
+      → askedAs Done (handedOf (R .plan) (wordAt (runShape smaller R) (R .place))) (moved smaller R) ≡ asked (ask smaller R)
+  ask-done h e = one-word (runShape smaller R) R (R .place) e ∙ ap (λ (o : Option Op). asked (askWith smaller R o)) (handing h)
 
 -- ---- the next place
 
@@ -230,57 +268,10 @@ next-by R rows columns terms h p =
     ∙ ap (λ (x : ℕ). next (shapeBy (P .m) (P .k) (P .n) (runShape smaller R .tm) x terms) p) (h .columns-are)
     ∙ ap (λ (x : ℕ). next (shapeBy (P .m) (P .k) (P .n) (runShape smaller R .tm) (runShape smaller R .tn) x) p) (h .terms-are)
 
--- it lies in the matrices
-module _ (R : Run) where
-  abbrev S : Shape
-  S = runShape smaller R
-
-  abbrev P : Plan
-  P = R .plan
-
-  place-m : (i : ℕ) → placed P (headM S i) ≡ true
-  place-m i = go (ltb i (P .m)) refl
-    where
-      go : (t : Bool) → ltb i (P .m) ≡ t → placed P (cond t (AtM i) AtEnd) ≡ true
-      go true e = e
-      go false e = refl
-
-  place-n : (i j : ℕ) → ltb i (P .m) ≡ true → placed P (headN S i j) ≡ true
-  place-n i j h = go (ltb j (P .n)) refl
-    where
-      go : (t : Bool) → ltb j (P .n) ≡ t → placed P (cond t (AtN i j) (headM S (i + smaller (S .tm) (P .m - i)))) ≡ true
-      go true e = each-every (ltb i (P .m) ∷ ltb j (P .n) ∷ []) (h, (e, tt))
-      go false e = place-m (i + smaller (S .tm) (P .m - i))
-
-  place-k : (i j s : ℕ) → ltb i (P .m) ≡ true → ltb j (P .n) ≡ true → placed P (headK S i j s) ≡ true
-  place-k i j s h g = go (ltb s (P .k)) refl
-    where
-      go : (t : Bool) → ltb s (P .k) ≡ t → placed P (cond t (AtK i j s) (AtStore i j)) ≡ true
-      go true e = each-every (ltb i (P .m) ∷ ltb j (P .n) ∷ ltb s (P .k) ∷ []) (h, (g, (e, tt)))
-      go false e = each-every (ltb i (P .m) ∷ ltb j (P .n) ∷ []) (h, (g, tt))
-
-  placed-next : (p : Place) → placed P p ≡ true → placed P (next S p) ≡ true
-  placed-next AtType h = place-m 0
-  placed-next (AtM i) h = place-n i 0 h
-  placed-next (AtN i j) h = h
-  placed-next (AtClear i j) h = let t = every-each (ltb i (P .m) ∷ ltb j (P .n) ∷ []) h in place-k i j 0 (t .0) (t .1 .0)
-  placed-next (AtK i j s) h = h
-  placed-next (AtA i j s) h = h
-  placed-next (AtB i j s) h = h
-  placed-next (AtMultiply i j s) h =
-      let t = every-each (ltb i (P .m) ∷ ltb j (P .n) ∷ ltb s (P .k) ∷ []) h in place-k i j (s + smaller (S .tk) (P .k - s)) (t .0) (t .1 .0)
-  placed-next (AtStore i j) h =
-      let t = every-each (ltb i (P .m) ∷ ltb j (P .n) ∷ []) h in place-n i (j + smaller (S .tn) (P .n - j)) (t .0)
-  placed-next AtEnd h = refl
-
 -- a run that a start can have made stays one
 pub moved-sound : (R : Run) → soundRun smaller R ≡ true → soundRun smaller (moved smaller R) ≡ true
 unfolding soundRun
 moved-sound R ok =
-    let t = every-each (permitted (R .rlen) (R .mlen) ∷ planned (R .plan) ∷ placed (R .plan) (R .place) ∷ begins (runShape smaller R) (R .place) ∷ []) ok in
-    each-every (
-    permitted (R .rlen) (R .mlen)
-    ∷ planned (R .plan)
-    ∷ placed (R .plan) (next (runShape smaller R) (R .place))
-    ∷ begins (runShape smaller R) (next (runShape smaller R) (R .place)) ∷ [])
-    (t .0, (t .1 .0, (placed-next R (R .place) (t .1 .1 .0), (begins-next (runShape smaller R) (run-most R (run-numbered R ok)) (R .place) (t .1 .1 .1 .0), tt))))
+    let t = every-each (permitted (R .rlen) (R .mlen) ∷ planned (R .plan) ∷ begins (runShape smaller R) (R .place) ∷ []) ok in
+    each-every (permitted (R .rlen) (R .mlen) ∷ planned (R .plan) ∷ begins (runShape smaller R) (next (runShape smaller R) (R .place)) ∷ [])
+    (t .0, (t .1 .0, (begins-next (runShape smaller R) (run-most R (run-numbered R ok)) (R .place) (t .1 .1 .0), tt)))

@@ -1,6 +1,8 @@
 -- What the contracts of inner functions name; a reader of the demand need not read it.
 use mathlib.Core.Bool.{Bool, true, false}
-use mathlib.Core.List.{List, [], _∷_}
+use mathlib.Core.List.{[], _∷_}
+use mathlib.Core.Option.{Option, none, some}
+use lib.Dec.{ltb}
 use Rattle.machine.specs.Tests.{every}
 use Rattle.machine.specs.Geometry.{permitted}
 use Rattle.run.specs.declared.Plan.{Plan}
@@ -20,6 +22,19 @@ use Rattle.run.specs.Start.{planned}
 unfoldable pub numbered : Run → Bool
 numbered R = every (permitted (R .rlen) (R .mlen) ∷ planned (R .plan) ∷ [])
 
+-- the place lies in the matrices
+abbrev pub placed : Plan → Place → Bool
+placed P AtType = true
+placed P (AtM i) = ltb i (P .m)
+placed P (AtN i j) = every (ltb i (P .m) ∷ ltb j (P .n) ∷ [])
+placed P (AtClear i j) = every (ltb i (P .m) ∷ ltb j (P .n) ∷ [])
+placed P (AtK i j s) = every (ltb i (P .m) ∷ ltb j (P .n) ∷ ltb s (P .k) ∷ [])
+placed P (AtA i j s) = every (ltb i (P .m) ∷ ltb j (P .n) ∷ ltb s (P .k) ∷ [])
+placed P (AtB i j s) = every (ltb i (P .m) ∷ ltb j (P .n) ∷ ltb s (P .k) ∷ [])
+placed P (AtMultiply i j s) = every (ltb i (P .m) ∷ ltb j (P .n) ∷ ltb s (P .k) ∷ [])
+placed P (AtStore i j) = every (ltb i (P .m) ∷ ltb j (P .n) ∷ [])
+placed P AtEnd = true
+
 -- past the last word
 abbrev pub isEnd : Place → Bool
 isEnd AtType = false
@@ -34,9 +49,9 @@ isEnd (AtStore i j) = false
 isEnd AtEnd = true
 
 -- the step of a word, and all zeros where there is none
-abbrev pub handedOf : Plan → List Op → Handed
-handedOf P [] = plain 0
-handedOf P (o ∷ os) = handedFor P o
+abbrev pub handedOf : Plan → Option Op → Handed
+handedOf P none = plain 0
+handedOf P (some o) = handedFor P o
 
 -- the sizes of a product, and the most rows, columns and terms of a block
 abbrev pub shapeBy : (m k n rows columns terms : ℕ) → Shape

@@ -8,6 +8,7 @@ use run::Run;
 ghost use mathlib.Core.Path.{_≡_};
 ghost use mathlib.Core.Bool.{true, false};
 ghost use mathlib.Core.List.{[], _∷_};
+ghost use mathlib.Core.Option.{none};
 ghost use Prim.Native.Nat.{_+_, _-_, _*_, _%_, _^_, _≤_, _<_};
 ghost use lib.Dec.{ltb};
 ghost use Rattle.machine.specs.Tests.{every, isIn};
@@ -15,9 +16,9 @@ ghost use Rattle.machine.specs.Setting.{smaller, maxM, maxN, maxK};
 ghost use Rattle.run.specs.Words.{setType, clear, multiply, loadA, loadB, store};
 ghost use Rattle.run.specs.Plan.{narrow, wide, msew, typeOf};
 ghost use Rattle.run.specs.Start.{format, planned};
-ghost use Rattle.run.specs.Places.{headM, headN, headK, next, wordsAt};
-ghost use Rattle.run.specs.Turn.{placed, startsM, startsN, startsK, begins, soundRun, runParameters, runShape, moved, asked, ask};
-ghost use Rattle.asking.specs.Parts.{numbered, isEnd, handedOf, shapeBy, Within, Most};
+ghost use Rattle.run.specs.Places.{headM, headN, headK, next, wordAt};
+ghost use Rattle.run.specs.Turn.{startsM, startsN, startsK, begins, soundRun, runParameters, runShape, moved, asked, ask};
+ghost use Rattle.asking.specs.Parts.{numbered, placed, isEnd, handedOf, shapeBy, Within, Most};
 ghost use Rattle.machine.specs.declared.Answer.the-variants.{BadArguments};
 ghost use Rattle.run.specs.Encoding.{settingWord, memoryWord, arithmeticWord, log, plain, startOf, handedFor};
 
@@ -560,7 +561,7 @@ fn hand_store(plan: Plan, row: u64, column: u64) -> Handed
 // The step at the place of a run; all zeros at the end.
 fn handed_at(run: Run) -> Handed
     requires { ⌜ soundRun smaller run ≡ true ⌝ }
-    ensures { λ r. ⌜ r ≡ handedOf (run .plan) (wordsAt (runShape smaller run) (run .place)) ⌝ }
+    ensures { λ r. ⌜ r ≡ handedOf (run .plan) (wordAt (runShape smaller run) (run .place)) ⌝ }
 {
     let plan = run.plan;
     let place = run.place;
@@ -630,7 +631,7 @@ fn is_end(place: Place) -> bool
 }
 
 fn refused(run: Run) -> Asked
-    ensures { λ r. ⌜ r ≡ asked (record { answer = BadArguments; handed = []; run = run }) ⌝ }
+    ensures { λ r. ⌜ r ≡ asked (record { answer = BadArguments; handed = none; run = run }) ⌝ }
 {
     Asked {
         answer: Answer::BadArguments,

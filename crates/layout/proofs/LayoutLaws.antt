@@ -1,47 +1,39 @@
 -- The layout of `product`: a start is accepted, the elements of A and B are the numbers that were written, and where C's elements lie.
 use mathlib.Core.Path.{_≡_, refl, sym, ap, ap₂, _∙_, subst}
-use mathlib.Core.Bool.{Bool, true, false, not, _||_}
+use mathlib.Core.Bool.{Bool, true, not, _||_}
 use mathlib.Core.List.{List, [], _∷_}
-use mathlib.Core.Logic.{_⊎_, inl, inr}
+use mathlib.Core.Logic.{inl, inr}
 use Prim.Native.Nat.{ℕ, suc, _+_, _*_, _-_, _/_, _%_, _^_, _≤_, _<_}
 use native.Mathlib.Nat.{mul-le-mul-left, mul-le-mul-right, mod-eq-of-lt, add-mul-mod-self-right, mod-mod}
 use native.Mathlib.Omega.{arith}
-use lib.Dec.{leb, eqb}
+use lib.Dec.{leb}
 use lib.ListN.{length}
 use lib.IntN.{ℤ, pos, negsuc, _+ℤ_, _*ℤ_}
-use borrow.Author.Tests.{eqb-true, le-leb, le-ltb, lt-ltb}
+use borrow.Author.Tests.{le-leb, le-ltb, lt-ltb}
 use Rattle.width.specs.Reduce.{signed, reduce, sumℤ}
 use Rattle.width.specs.Tile.{le, putLe, putRow, In}
 use Rattle.width.proofs.ReduceLaws.{sumℤ-cong}
 use Rattle.width.proofs.TileLaws.{le-cong, le-bytes, length-putRow, putRow-out, putRow-at, pitched}
 use Rattle.width.proofs.PutLaws.{putLe-low}
-use Rattle.machine.specs.declared.Answer.the-variants.{Done}
+use Rattle.machine.specs.declared.Machine.{Machine}
+use Rattle.machine.specs.declared.Answer.{Answer}
+use Rattle.machine.specs.Answers.{number}
 use Rattle.machine.specs.Tests.{isIn, every}
-use Rattle.machine.specs.Geometry.{Parameters, parameters, Bench, elen}
-use Rattle.machine.specs.Setting.{smaller}
+use Rattle.machine.specs.Geometry.{Parameters, Bench, elen}
 use Rattle.machine.specs.Memory.{rowZ, rowAt, address}
 use Rattle.machine.specs.Faults.{soundBench}
 use Rattle.machine.specs.Operation.{element}
-use Rattle.machine.proofs.TestLaws.{every-each, each-every, each, each-in, or-not, false-true}
+use Rattle.machine.proofs.TestLaws.{every-each, each-every, each, each-in, or-not}
 use Rattle.machine.proofs.MemoryLaws.{rowZ-up}
 use Rattle.element.specs.Element.{Width}
 use Rattle.element.proofs.Laws.{width-small}
-use Rattle.run.specs.Plan.{narrow, wide, aAt, bAt, cAt, total, partial}
-use Rattle.run.specs.Start.{format, planned, startRun}
-use Rattle.run.specs.Statement.{Lies, Inside, Separate, Bytes}
-use Rattle.run.proofs.Demand3.{demand-3-ours}
+use Rattle.run.specs.Plan.{narrow, wide, aAt, bAt, cAt, total, productOf}
+use Rattle.run.specs.Start.{format, planned}
+use Rattle.run.specs.Statement.{Lies, Inside, Separate, Answered}
+use Rattle.run.proofs.StartLaws.{one-of, numbers-are}
 use Rattle.layout.specs.Layout.{planFor, filled}
 
 -- ---- the widths of a format
-
-one-of : (x a b c : ℕ) → isIn x (a ∷ b ∷ c ∷ []) ≡ true → (x ≡ a) ⊎ ((x ≡ b) ⊎ (x ≡ c))
-one-of x a b c h = go (eqb x a) refl (eqb x b) refl (eqb x c) refl h
-  where
-    go : (s : Bool) → eqb x a ≡ s → (t : Bool) → eqb x b ≡ t → (u : Bool) → eqb x c ≡ u → s || (t || (u || false)) ≡ true → (x ≡ a) ⊎ ((x ≡ b) ⊎ (x ≡ c))
-    go true e t e′ u e″ h = inl (eqb-true x a e)
-    go false e true e′ u e″ h = inr (inl (eqb-true x b e′))
-    go false e false e′ true e″ h = inr (inr (eqb-true x c e″))
-    go false e false e′ false e″ h = absurd (false-true h)
 
 abbrev right : ℕ → ℕ → List Bool
 right s f = isIn (s / 8) (1 ∷ 2 ∷ 4 ∷ []) ∷ isIn (f * (s / 8)) (1 ∷ 2 ∷ 4 ∷ []) ∷ []
@@ -137,9 +129,9 @@ module _ (sew f m k n : ℕ) (formatted : format sew f ≡ true) (m≤ : m ≤ 1
     c-lies = λ i b l. lies 2048 (n * (f * (sew / 8))) c-row (length mem) i b (omega arith) (omega arith);
   }
 
-  separates : (M : Parameters) → M .sealLen ≡ 0 → Separate M (planFor sew f m k n)
+  separates : (machine : Machine) → machine .«seal_length» ≡ 0 → Separate machine (planFor sew f m k n)
   unfolding narrow
-  separates M none = record {
+  separates machine none = record {
     rows = λ i j q l g. rows-apart 2048 (n * (f * (sew / 8))) c-row i j q l;
     from-a = λ i j q l g x y. omega (arith, row-in 0 (k * (sew / 8)) a-row i q (omega arith) x, row-in 2048 (n * (f * (sew / 8))) c-row j q (omega arith) y);
     from-b = λ i j q l g x y. omega (arith, row-in 1024 (n * (sew / 8)) b-row i q (omega arith) x, row-in 2048 (n * (f * (sew / 8))) c-row j q (omega arith) y);
@@ -147,11 +139,10 @@ module _ (sew f m k n : ℕ) (formatted : format sew f ≡ true) (m≤ : m ≤ 1
   }
 
   -- a start is accepted
-  pub accepted-here : (B : Bench) → soundBench B ≡ true → B .machine .«seal_length» ≡ 0 → length (B .memory) ≡ 3072 → Bytes (B .memory)
-      → startRun smaller (planFor sew f m k n) B .answer ≡ Done
-  accepted-here B s none len bytes =
-      demand-3-ours (planFor sew f m k n) B bytes .accepted (record { state = s; plan = numbers }) (insides (B .memory) len)
-      (separates (parameters smaller (B .machine)) none)
+  pub accepted-here : (B : Bench) → soundBench B ≡ true → B .machine .«seal_length» ≡ 0 → length (B .memory) ≡ 3072
+      → (a : Answer) → Answered (planFor sew f m k n) B a → number a ≡ 0
+  accepted-here B s none len a h =
+      h .gives-0 (numbers-are (planFor sew f m k n) B s numbers) (insides (B .memory) len) (separates (B .machine) none)
 
   -- the elements of C lie row after row
   pub c-place : (mem : List ℕ) (i j : ℕ)
@@ -182,7 +173,7 @@ module _ (sew f m k n : ℕ) (formatted : format sew f ≡ true) (m≤ : m ≤ 1
         → ((q : ℕ) → q < m * k → signed (256 ^ (sew / 8)) (va q % 256 ^ (sew / 8)) ≡ za q)
         → ((q : ℕ) → q < k * n → signed (256 ^ (sew / 8)) (vb q % 256 ^ (sew / 8)) ≡ zb q)
         → (i j : ℕ) → i < m → j < n
-        → partial (record { machine = M; plan = planFor sew f m k n; memory = filled (sew / 8) m k n va vb mem }) i j k
+        → productOf (record { machine = M; plan = planFor sew f m k n; memory = filled (sew / 8) m k n va vb mem }) i j
         ≡ reduce (256 ^ (f * (sew / 8))) (sumℤ k (λ l. za (i * k + l) *ℤ zb (l * n + j)))
     unfolding narrow total
     sum-here M za zb ea eb i j i< j< =

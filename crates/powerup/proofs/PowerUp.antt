@@ -16,8 +16,9 @@ use Rattle.machine.specs.Theorems.{startedBench}
 use Rattle.machine.proofs.TestLaws.{false-true, every-each}
 use Rattle.run.specs.declared.Run.{Run}
 use Rattle.run.specs.Turn.{running}
+use Rattle.run.specs.Acts.{Act, Session, session, Acted, act}
 use Rattle.powerup.specs.Steps.{AlikeBenches}
-use Rattle.powerup.specs.PowerUp.{StartsAlike, Act, Session, session, Acted, act, Reading, reading, readings, PowerUpNeverMatters}
+use Rattle.powerup.specs.PowerUp.{StartsAlike, Reading, reading, readings, PowerUpNeverMatters}
 use Rattle.powerup.proofs.Steps.{step-ignores-unmarked}
 use Rattle.powerup.proofs.Runs.{run-start-ignores-unmarked, turns-ignore-unmarked, whole-ignores-unmarked}
 

@@ -10,16 +10,15 @@ use lib.Seq.{getD-take, getD-drop, length-take-le}
 use Rattle.width.specs.Tile.{le, putRow}
 use Rattle.width.proofs.PutLaws.{putRow-low}
 use Rattle.machine.specs.declared.Started.{Started}
-use Rattle.machine.specs.declared.Answer.the-variants.{Done}
+use Rattle.machine.specs.Answers.{number}
 use Rattle.machine.specs.Geometry.{Bench, benchOf, permitted}
 use Rattle.machine.specs.Faults.{soundBench}
 use Rattle.machine.specs.Starting.{StartOutcome, startMachine, startedAs, startable, freshMachine}
 use Rattle.machine.proofs.NoFault.{start-sound}
 use Rattle.run.specs.declared.Plan.{Plan}
 use Rattle.run.specs.Words.{steps}
-use Rattle.run.specs.Plan.{shape, partial}
+use Rattle.run.specs.Plan.{shape, productOf}
 use Rattle.run.specs.Start.{format}
-use Rattle.run.specs.Statement.{Bytes}
 use Rattle.run.specs.Whole.{WholeOutcome, Delivers}
 use Rattle.layout.specs.Layout.{planFor, jobFor}
 use Rattle.layout.proofs.LayoutLaws.{widths, matrix-small, element-in, accepted-here, c-place}
@@ -67,15 +66,15 @@ c-fits sew f formatted = matrix-small 16 16 (f * (sew / 8)) (omega arith) (omega
 
 module _ (sew f m k n : ℕ) (formatted : format sew f ≡ true) (m≤ : m ≤ 16) (k≤ : k ≤ 16) (n≤ : n ≤ 16) where
   -- from what the calls of `multiply` return and leave: the run's count, and the elements of C that were read
-  pub multiplied : (s : Started) (marks memory : List ℕ) → startedAs s zeros marks ≡ startMachine 64 256 0 0 zeros zeros → length memory ≡ 3072 → Bytes memory
+  pub multiplied : (s : Started) (marks memory : List ℕ) → startedAs s zeros marks ≡ startMachine 64 256 0 0 zeros zeros → length memory ≡ 3072
       → (P : Plan) → P ≡ planFor sew f m k n → (o : WholeOutcome) → Delivers P (benchOf (s .machine) zeros marks memory) o
       → (c : List ℕ) → ((j : ℕ) → j < 256 → getD c j 0 ≡ le (o .bench .memory) (2048 + j * (f * (sew / 8))) (f * (sew / 8)))
       → (o .count ≡ steps (shape (jobFor sew f m k n memory)))
-      × ((i j : ℕ) → i < m → j < n → getD c (i * n + j) 0 ≡ partial (jobFor sew f m k n memory) i j k)
-  multiplied s marks memory e len bytes P p o d c read =
+      × ((i j : ℕ) → i < m → j < n → getD c (i * n + j) 0 ≡ productOf (jobFor sew f m k n memory) i j)
+  multiplied s marks memory e len P p o d c read =
       let D : Delivers (planFor sew f m k n) (fresh memory) o =
       subst (λ (P : Plan). Delivers P (fresh memory) o) p (subst (λ (B : Bench). Delivers P B o) (started-fresh s marks memory e) d) in
-      let done : o .answer ≡ Done = D .answered ∙ accepted-here sew f m k n formatted m≤ k≤ n≤ (fresh memory) (fresh-sound memory) refl len bytes in (
+      let done : number (o .answer) ≡ 0 = accepted-here sew f m k n formatted m≤ k≤ n≤ (fresh memory) (fresh-sound memory) refl len (o .answer) (D .answered) in (
         D .counted done,
         λ i j hi hj.
             read (i * n + j) (omega (arith, element-in m n i j hi hj, mul-le-mul m≤ n≤))

@@ -16,7 +16,7 @@ use Rattle.machine.specs.Geometry.{parametersOf}
 use Rattle.machine.specs.Setting.{smaller}
 use Rattle.machine.proofs.TestLaws.{and-left, and-right}
 use Rattle.run.specs.Words.{steps}
-use Rattle.run.specs.Plan.{shape, partial}
+use Rattle.run.specs.Plan.{shape, productOf}
 use Rattle.run.specs.Start.{format}
 use Rattle.layout.specs.Layout.{jobFor, filled}
 use Rattle.layout.proofs.LayoutLaws.{level-signed, sum-here}
@@ -59,7 +59,7 @@ abbrev pub Solved : (numbers answer : List ℕ) → Parsed → Type 0
 Solved numbers answer Refused = Unit
 Solved numbers answer (Posed sew f m k n) =
     (mem full c : List ℕ) (count q : ℕ) → length mem ≡ 3072 → full ≡ laid numbers sew m k n mem → length c ≡ 256
-    → count ≡ steps (shape (jobFor sew f m k n full)) → ((i j : ℕ) → i < m → j < n → getD c (i * n + j) 0 ≡ partial (jobFor sew f m k n full) i j k)
+    → count ≡ steps (shape (jobFor sew f m k n full)) → ((i j : ℕ) → i < m → j < n → getD c (i * n + j) 0 ≡ productOf (jobFor sew f m k n full) i j)
     → q ≡ 256 ^ (f * (sew / 8)) → accepted count (rowsOf m n (signedAll q c)) ≡ answer
 
 module _ (p : Problem) (K : Known p) (numbers : List ℕ) (held-in : elementsIn (some p) numbers) where
@@ -89,7 +89,7 @@ module _ (p : Problem) (K : Known p) (numbers : List ℕ) (held-in : elementsIn 
   unfolding stepsOf
   solved-by mem full c count q len is-laid size counted product is-q =
       let sums : (i j : ℕ) → i < p .m → j < p .n → getD c (i * p .n + j) 0 ≡ reduce (modulus p) (sumAt p i j) = λ i j hi hj.
-      product i j hi hj ∙ ap (λ (l : List ℕ). partial (jobFor (p .sew) (p .factor) (p .m) (p .k) (p .n) l) i j (p .k)) is-laid
+      product i j hi hj ∙ ap (λ (l : List ℕ). productOf (jobFor (p .sew) (p .factor) (p .m) (p .k) (p .n) l) i j) is-laid
       ∙ sum-here (p .sew) (p .factor) (p .m) (p .k) (p .n) (K .formatted) (K .small-m) (K .small-k) (K .small-n) (λ q. getD numbers (5 + q) 0)
       (λ q. getD numbers (5 + p .m * p .k + q) 0) mem len (parametersOf smaller 64 256 0 0) (nth (p .a)) (nth (p .b)) a-is b-is i j hi hj in
       ap₂ accepted counted

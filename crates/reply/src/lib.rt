@@ -8,7 +8,7 @@ ghost use lib.ListN.{length, take, drop, getD};
 ghost use Rattle.width.specs.Tile.{putRow};
 ghost use Rattle.element.specs.Element.{Width};
 ghost use Rattle.run.specs.Words.{steps};
-ghost use Rattle.run.specs.Plan.{shape, partial};
+ghost use Rattle.run.specs.Plan.{shape, productOf};
 ghost use Rattle.run.specs.Start.{format};
 ghost use Rattle.layout.specs.Layout.{jobFor};
 ghost use Rattle.text.specs.declared.Parsed.the-variants.{Posed};
@@ -38,7 +38,7 @@ fn multiply(c: &mut [u64], memory: &mut [u8], sew: u64, factor: u64, m: u64, k: 
     requires { ⌜ (length (now memory) ≡ 3072) × (length (now c) ≡ 256) ⌝ }
     ensures { λ r. ⌜ r ≡ steps (shape (jobFor sew factor m k n (now (memory .entry)))) ⌝ }
     ensures { λ r. ⌜ ((i j : ℕ) → i < m → j < n
-        → getD (now (c .exit)) (i * n + j) 0 ≡ partial (jobFor sew factor m k n (now (memory .entry))) i j k) ⌝ }
+        → getD (now (c .exit)) (i * n + j) 0 ≡ productOf (jobFor sew factor m k n (now (memory .entry))) i j) ⌝ }
 {
     let mut registers = [0u8; 512];
     let mut marks = [0u8; 512];

@@ -7,12 +7,12 @@ use Prim.Native.Nat.{ℕ, zero, suc, _+_, _-_, _%_, _≤_, _<_, min}
 use native.Mathlib.Nat.{zero-mod, mod-eq-of-lt, mod-eq-sub-mod}
 use native.Mathlib.Omega.{arith}
 use lib.Dec.{ltb, eqb}
-use borrow.Author.Tests.{ltb-true, eqb-true, eq-eqb, ne-eqb}
+use borrow.Author.Tests.{ltb-true, lt-ltb, eqb-true, eq-eqb, ne-eqb}
 use Rattle.width.specs.Blocks.{Grants, count, starts, chunks}
 use Rattle.width.proofs.BlockLaws.{le-or-lt, granted, chunks-end, chunks-next}
 use Rattle.machine.specs.Tests.{isIn}
 use Rattle.machine.specs.Setting.{smaller}
-use Rattle.machine.proofs.TestLaws.{or-right, or-not, false-true, every-each, each-every}
+use Rattle.machine.proofs.TestLaws.{or-right, or-not, false-true, every-each, each-every, each, each-in}
 use Rattle.machine.proofs.StepLaws.{smaller-grants}
 use Rattle.run.specs.declared.Place.{Place}
 use Rattle.run.specs.declared.Place.the-variants.{AtType, AtM, AtN, AtClear, AtK, AtA, AtB, AtMultiply, AtStore, AtEnd}
@@ -50,6 +50,21 @@ module _ (grant : ℕ → ℕ → ℕ) (G : Grants grant) (max : ℕ) (0<max : z
           on false q =
               ih (omega (arith, granted grant G max 0<max (total - s) (omega arith)))
               (or-not (eqb i s) (isIn i (chunks grant max total (s + grant max (total - s)))) (rw (chunks-next grant G max 0<max total s e) at h) q) l
+
+  -- all blocks start below the total
+  each-below : (c s : ℕ) → total - s ≤ c → each (chunks grant max total s) (λ i. ltb i total) ≡ true
+  each-below zero s f = rw (chunks-end grant G max 0<max total s (omega arith))
+  each-below (suc c) s f = go (le-or-lt total s) (each-below c (s + grant max (total - s)))
+    where
+      go : (total ≤ s) ⊎ (s < total) → (total - (s + grant max (total - s)) ≤ c → each (chunks grant max total (s + grant max (total - s))) (λ i. ltb i total) ≡ true)
+          → each (chunks grant max total s) (λ i. ltb i total) ≡ true
+      go (inl e) ih = rw (chunks-end grant G max 0<max total s e)
+      go (inr e) ih =
+          rw (chunks-next grant G max 0<max total s e, lt-ltb s total e)
+          (ih (omega (arith, granted grant G max 0<max (total - s) (omega arith))))
+
+  pub start-below : (i : ℕ) → isIn i (chunks grant max total 0) ≡ true → ltb i total ≡ true
+  start-below i h = each-in i (chunks grant max total 0) (λ i. ltb i total) (each-below total 0 (omega arith)) h
 
   pub next-start : (i : ℕ) → isIn i (chunks grant max total 0) ≡ true → i + grant max (total - i) < total → isIn (i + grant max (total - i)) (chunks grant max total 0) ≡ true
   next-start i h l = after total 0 i (omega arith) h l

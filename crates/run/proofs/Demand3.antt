@@ -2,22 +2,22 @@
 use mathlib.Core.Path.{_≡_, refl, sym, ap, _∙_, subst}
 use mathlib.Core.Logic.{_⊎_, inl, inr}
 use mathlib.Core.Bool.{Bool, true, false, cond}
-use mathlib.Core.List.{List, [], _∷_, _++_}
+use mathlib.Core.List.{List, [], _∷_}
+use mathlib.Core.Option.{Option, none, some}
 use Prim.Native.Nat.{ℕ, zero, suc, _+_, _*_, _-_, _≤_, _<_, min}
 use native.Mathlib.Omega.{arith}
 use native.Mathlib.Nat.{mul-le-mul-right, mul-pos}
 use lib.ListN.{length, getD, drop, drop-of-length-le}
 use lib.Seq.{drop-cons}
-use lib.Dec.{leb, ltb}
+use lib.Dec.{leb}
 use lib.IntN.{pos}
-use borrow.Author.Tests.{leb-true, lt-ltb}
+use borrow.Author.Tests.{leb-true}
 use Rattle.width.specs.Blocks.{Grants}
 use Rattle.width.proofs.BlockLaws.{le-or-lt}
 use Rattle.machine.specs.declared.Answer.{Answer}
 use Rattle.machine.specs.declared.Answer.the-variants.{Done, BadArguments, OutsideMemory, Overlap}
-use Rattle.machine.specs.Tests.{every}
 use Rattle.machine.proofs.TestLaws.{every-each}
-use Rattle.machine.specs.Answers.{isDone, verdict, _otherwise_}
+use Rattle.machine.specs.Answers.{number, isDone, verdict, _otherwise_}
 use Rattle.machine.proofs.CheckLaws.{Passed, passed, no-refusal}
 use Rattle.machine.specs.Geometry.{Parameters, parameters, permitted, State, stateOf}
 use Rattle.machine.specs.Setting.{smaller}
@@ -37,23 +37,25 @@ use Rattle.run.specs.declared.Handed.{Handed}
 use Rattle.run.specs.declared.Run.{Run}
 use mathlib.Core.List.{map}
 use Rattle.run.specs.declared.Handed.{Handed}
-use Rattle.run.specs.Encoding.{plain}
+use Rattle.run.specs.Encoding.{plain, wordOf}
 use Rattle.run.specs.declared.Place.{Place}
 use Rattle.run.specs.declared.Place.the-variants.{AtType, AtM, AtN, AtClear, AtK, AtA, AtB, AtMultiply, AtStore, AtEnd}
 use Rattle.run.specs.Words.{Op, Shape, words, steps}
-use Rattle.run.specs.Places.{next, wordsAt}
-use Rattle.run.proofs.PlaceLaws.{rest, rest-next, rest-after, placeAfter, length-words}
+use Rattle.run.specs.Places.{next, wordAt}
+use Rattle.run.proofs.PlaceLaws.{rest, before, rest-next, rest-after, placeAfter, length-words}
 use Rattle.run.proofs.BeginLaws.{begins-next}
 use Rattle.run.specs.Plan.{Job, Kept, shape, narrow, wide}
 use Rattle.run.specs.Start.{format, planned, lying, separate, startChecks, freshRun, noRun, startRun}
-use Rattle.run.specs.Turn.{placed, begins, soundRun, handsOut, Running, Turn, turn, turnWith, afterTurns, answeredDone}
+use Rattle.run.specs.Turn.{begins, soundRun, handsOut, Ask, ask, Running, Turn, turn, afterTurns, answeredDone}
+use Rattle.run.proofs.HandedLaws.{askWith, turnWith}
+use Rattle.run.proofs.RefusalLaws.{number-done, started-idle}
 use Rattle.run.specs.Encoding.{own, handedFor}
 use Rattle.run.proofs.WordLaws as WordLaws
 use Rattle.run.proofs.WordLaws.{Reads}
 use Rattle.run.proofs.Invariant.{operationOf, Accepted, At}
 use Rattle.run.proofs.Turns
-use Rattle.run.specs.Statement.{Numbers, Inside, Separate, jobOf, Right, Bytes, Demand3}
-use Rattle.run.proofs.StartLaws.{inside-is, is-inside, separate-is, is-separate, accepted}
+use Rattle.run.specs.Statement.{Numbers, Inside, Separate, Answered, Asks, jobOf, Right, Bytes, RunsAreRight, OurRunsAreRight}
+use Rattle.run.proofs.StartLaws.{numbers-are, numbers-planned, inside-is, is-inside, separate-is, is-separate, accepted}
 
 -- ---- lists
 
@@ -68,8 +70,11 @@ length-map f (x ∷ xs) = ap suc (length-map f xs)
 
 -- ---- places
 
+none-some : (o : Op) → none ≡ some o → ⊥
+none-some o e = let z : _≡_ {A = ℕ} 0 1 = cc in omega arith
+
 -- a place either is the end, or hands out one word
-one-word : (S : Shape) (p : Place) → (p ≡ AtEnd) ⊎ ((o : Op) × (wordsAt S p ≡ o ∷ []))
+one-word : (S : Shape) (p : Place) → (p ≡ AtEnd) ⊎ ((o : Op) × (wordAt S p ≡ some o))
 one-word S AtType = inr (_, refl)
 one-word S (AtM i) = inr (_, refl)
 one-word S (AtN i j) = inr (_, refl)
@@ -80,12 +85,6 @@ one-word S (AtB i j s) = inr (_, refl)
 one-word S (AtMultiply i j s) = inr (_, refl)
 one-word S (AtStore i j) = inr (_, refl)
 one-word S AtEnd = inl refl
-
-two : (J : Job) (i j : ℕ) → i < J .plan .m → j < J .plan .n → every (ltb i (J .plan .m) ∷ ltb j (J .plan .n) ∷ []) ≡ true
-two J i j a b = rw (lt-ltb i (J .plan .m) a, lt-ltb j (J .plan .n) b)
-
-three : (J : Job) (i j s : ℕ) → i < J .plan .m → j < J .plan .n → s < J .plan .k → every (ltb i (J .plan .m) ∷ ltb j (J .plan .n) ∷ ltb s (J .plan .k) ∷ []) ≡ true
-three J i j s a b c = rw (lt-ltb i (J .plan .m) a, lt-ltb j (J .plan .n) b, lt-ltb s (J .plan .k) c)
 
 kept-at : (J : Job) (p : Place) (st : State) (mem : List ℕ) → At J p st mem → Kept J mem
 kept-at J AtType st mem h = h .1
@@ -98,19 +97,6 @@ kept-at J (AtB i j s) st mem h = h .0 .in-k .in-block .in-n .in-m .kept
 kept-at J (AtMultiply i j s) st mem h = h .0 .in-k .in-block .in-n .in-m .kept
 kept-at J (AtStore i j) st mem h = h .in-block .in-n .in-m .kept
 kept-at J AtEnd st mem h = h .0
-
--- the place of the invariant lies in the matrices
-placed-at : (J : Job) (p : Place) (st : State) (mem : List ℕ) → At J p st mem → placed (J .plan) p ≡ true
-placed-at J AtType st mem h = refl
-placed-at J (AtM i) st mem h = lt-ltb i (J .plan .m) (h .1)
-placed-at J (AtN i j) st mem h = two J i j (h .0 .i<m) (h .1)
-placed-at J (AtClear i j) st mem h = two J i j (h .in-n .i<m) (h .j<n)
-placed-at J (AtK i j s) st mem h = three J i j s (h .0 .in-block .in-n .i<m) (h .0 .in-block .j<n) (h .1)
-placed-at J (AtA i j s) st mem h = three J i j s (h .in-k .in-block .in-n .i<m) (h .in-k .in-block .j<n) (h .s<k)
-placed-at J (AtB i j s) st mem h = three J i j s (h .0 .in-k .in-block .in-n .i<m) (h .0 .in-k .in-block .j<n) (h .0 .s<k)
-placed-at J (AtMultiply i j s) st mem h = three J i j s (h .0 .in-k .in-block .in-n .i<m) (h .0 .in-k .in-block .j<n) (h .0 .s<k)
-placed-at J (AtStore i j) st mem h = two J i j (h .in-block .in-n .i<m) (h .in-block .j<n)
-placed-at J AtEnd st mem h = refl
 
 -- ---- the state of a bench
 
@@ -195,17 +181,17 @@ module _ (grant : ℕ → ℕ → ℕ) (P : Plan) (B₀ : Bench) (R : Ready gran
   whole base stride total n w 0<w h i j l l′ = inside-at (length (B₀ .memory)) base stride total (n * w) h (mul-pos {m = n} (omega arith) 0<w) i l .0
 
   -- a run in the invariant hands out its place's word
-  hands : (p : Place) (B : Bench) → Holds grant P B₀ p B → handsOut grant (at grant P B₀ p B .run) ≡ wordsAt (S grant P B₀) p
+  hands : (p : Place) (B : Bench) → Holds grant P B₀ p B → handsOut grant (at grant P B₀ p B .run) ≡ wordAt (S grant P B₀) p
   unfolding soundRun
-  hands p B h = rw (R .lengths, R .plan, placed-at (J grant P B₀) p (held B) (B .memory) (h .here), h .begun)
+  hands p B h = rw (R .lengths, R .plan, h .begun)
 
   -- every place but the end hands out a word that is done, and the invariant goes on
   abbrev Advanced : Place → Bench → Type 0
   Advanced p B = Holds grant P B₀ (next (S grant P B₀) p) (turn grant (at grant P B₀ p B) .after .bench) × ((p ≡ AtEnd) ⊎ (turn grant (at grant P B₀ p B) .answer ≡ Done))
 
-  advanced : (p : Place) (o : Op) (B : Bench) → Holds grant P B₀ p B → wordsAt (S grant P B₀) p ≡ o ∷ [] → Done′ grant P B₀ p o B → Advanced p B
+  advanced : (p : Place) (o : Op) (B : Bench) → Holds grant P B₀ p B → wordAt (S grant P B₀) p ≡ some o → Done′ grant P B₀ p o B → Advanced p B
   advanced p o B h e d =
-      subst (λ (ws : List Op). Holds grant P B₀ (next (S grant P B₀) p) (turnWith grant (at grant P B₀ p B) ws .after .bench)
+      subst (λ (ws : Option Op). Holds grant P B₀ (next (S grant P B₀) p) (turnWith grant (at grant P B₀ p B) ws .after .bench)
       × ((p ≡ AtEnd) ⊎ (turnWith grant (at grant P B₀ p B) ws .answer ≡ Done))) (sym (hands p B h ∙ e)) (d .holds, inr (d .answers))
 
   advance : (p : Place) (B : Bench) → Holds grant P B₀ p B → Advanced p B
@@ -251,7 +237,7 @@ module _ (grant : ℕ → ℕ → ℕ) (P : Plan) (B₀ : Bench) (R : Ready gran
       (small (P .c .address) (P .c .stride) (P .m) (P .n) (wide P) (A .0<wide) (A .c-in) i j (h .here .in-block .in-n .i<m) (h .here .in-block .j<n)))
       (Turns.turn-store (J grant P B₀) A i j (held B) (B .memory) (h .here)))
   advance AtEnd B h =
-      subst (λ (ws : List Op). Holds grant P B₀ AtEnd (turnWith grant (at grant P B₀ AtEnd B) ws .after .bench) × ((AtEnd ≡ AtEnd) ⊎ (turnWith grant (at grant P B₀ AtEnd B) ws .answer ≡ Done)))
+      subst (λ (ws : Option Op). Holds grant P B₀ AtEnd (turnWith grant (at grant P B₀ AtEnd B) ws .after .bench) × ((AtEnd ≡ AtEnd) ⊎ (turnWith grant (at grant P B₀ AtEnd B) ws .answer ≡ Done)))
       (sym (hands AtEnd B h)) (h, inl refl)
 
   -- ---- after t turns
@@ -259,20 +245,20 @@ module _ (grant : ℕ → ℕ → ℕ) (P : Plan) (B₀ : Bench) (R : Ready gran
   abbrev after : ℕ → Running
   after t = afterTurns grant (at grant P B₀ AtType B₀) t
 
-  abbrev Moved : Place → Bench → List Op → Type 0
+  abbrev Moved : Place → Bench → Option Op → Type 0
   Moved p B ws = turnWith grant (at grant P B₀ p B) ws .after ≡ at grant P B₀ (next (S grant P B₀) p) (turnWith grant (at grant P B₀ p B) ws .after .bench)
 
   moves : (p : Place) (B : Bench) → Holds grant P B₀ p B → Moved p B (handsOut grant (at grant P B₀ p B .run))
   moves p B h = subst (Moved p B) (sym (hands p B h)) (go (one-word (S grant P B₀) p))
     where
-      done : (o : Op) → wordsAt (S grant P B₀) p ≡ o ∷ [] → stepped grant P B₀ o B .answer ≡ Done
+      done : (o : Op) → wordAt (S grant P B₀) p ≡ some o → stepped grant P B₀ o B .answer ≡ Done
       done o e = elim (advance p B h .1) [
-        | inl z ↦ let n : _≡_ {A = ℕ} 0 1 = ap length (sym (ap (wordsAt (S grant P B₀)) z) ∙ e) in absurd (omega arith)
-        | inr d ↦ subst (λ (ws : List Op). turnWith grant (at grant P B₀ p B) ws .answer ≡ Done) (hands p B h ∙ e) d
+        | inl z ↦ absurd (none-some o (sym (ap (wordAt (S grant P B₀)) z) ∙ e))
+        | inr d ↦ subst (λ (ws : Option Op). turnWith grant (at grant P B₀ p B) ws .answer ≡ Done) (hands p B h ∙ e) d
       ]
 
-      go : (p ≡ AtEnd) ⊎ ((o : Op) × (wordsAt (S grant P B₀) p ≡ o ∷ [])) → Moved p B (wordsAt (S grant P B₀) p)
-      go (inl e) = subst (λ (p : Place). Moved p B (wordsAt (S grant P B₀) p)) (sym e) refl
+      go : (p ≡ AtEnd) ⊎ ((o : Op) × (wordAt (S grant P B₀) p ≡ some o)) → Moved p B (wordAt (S grant P B₀) p)
+      go (inl e) = subst (λ (p : Place). Moved p B (wordAt (S grant P B₀) p)) (sym e) refl
       go (inr (o, e)) = subst (Moved p B) (sym e) (ap (λ (a : Answer). record { run = cond (isDone a) (at grant P B₀ (next (S grant P B₀) p) B .run) (at grant P B₀ p B .run); bench = stepped grant P B₀ o B .bench }) (done o e))
 
   -- only the place and the bench of a run change, and the invariant holds
@@ -311,11 +297,11 @@ module _ (grant : ℕ → ℕ → ℕ) (P : Plan) (B₀ : Bench) (R : Ready gran
       none : rest (S grant P B₀) (placeAfter (S grant P B₀) t) ≡ []
       none = to-come t ∙ drop-of-length-le (words (S grant P B₀)) {i = t} (omega (arith, length-words (S grant P B₀)))
 
-      go : (placeAfter (S grant P B₀) t ≡ AtEnd) ⊎ ((o : Op) × (wordsAt (S grant P B₀) (placeAfter (S grant P B₀) t) ≡ o ∷ [])) → placeAfter (S grant P B₀) t ≡ AtEnd
+      go : (placeAfter (S grant P B₀) t ≡ AtEnd) ⊎ ((o : Op) × (wordAt (S grant P B₀) (placeAfter (S grant P B₀) t) ≡ some o)) → placeAfter (S grant P B₀) t ≡ AtEnd
       go (inl e) = e
       go (inr (o, e)) =
           let z : suc (length (rest (S grant P B₀) (next (S grant P B₀) (placeAfter (S grant P B₀) t)))) ≡ 0 =
-          ap length (ap (λ (w : List Op). w ++ rest (S grant P B₀) (next (S grant P B₀) (placeAfter (S grant P B₀) t))) (sym e) ∙ sym (rest-next (S grant P B₀) (Turns.sound (J grant P B₀) A) (placeAfter (S grant P B₀) t)) ∙ none) in
+          ap length (ap (λ (w : Option Op). before w (rest (S grant P B₀) (next (S grant P B₀) (placeAfter (S grant P B₀) t)))) (sym e) ∙ sym (rest-next (S grant P B₀) (Turns.sound (J grant P B₀) A) (placeAfter (S grant P B₀) t)) ∙ none) in
           absurd (omega arith)
 
   not-end : (t : ℕ) → t < steps (S grant P B₀) → placeAfter (S grant P B₀) t ≡ AtEnd → ⊥
@@ -324,30 +310,69 @@ module _ (grant : ℕ → ℕ → ℕ) (P : Plan) (B₀ : Bench) (R : Ready gran
       ap length (ap (rest (S grant P B₀)) (sym e) ∙ to-come t ∙ drop-cons (words (S grant P B₀)) t Op.setType (omega (arith, length-words (S grant P B₀)))) in
       omega arith
 
-  hands-out : (t : ℕ) → t < steps (S grant P B₀) → turn grant (after t) .handed ≡ handedFor P (getD (words (S grant P B₀)) t Op.setType) ∷ []
-  hands-out t l = subst (λ (r : Running). turn grant r .handed ≡ handedFor P (getD (words (S grant P B₀)) t Op.setType) ∷ []) (sym (stays t)) (go (one-word (S grant P B₀) (placeAfter (S grant P B₀) t)))
+  -- the word at the place after t turns is word t of the list
+  here-is : (t : ℕ) → t < steps (S grant P B₀) → (o : Op) × ((wordAt (S grant P B₀) (placeAfter (S grant P B₀) t) ≡ some o) × (handedFor P o ≡ wordOf (J grant P B₀) t))
+  here-is t l = go (one-word (S grant P B₀) p)
     where
       p : Place
       p = placeAfter (S grant P B₀) t
 
-      go : (p ≡ AtEnd) ⊎ ((o : Op) × (wordsAt (S grant P B₀) p ≡ o ∷ [])) → turn grant (at grant P B₀ p (after t .bench)) .handed ≡ handedFor P (getD (words (S grant P B₀)) t Op.setType) ∷ []
+      go : (p ≡ AtEnd) ⊎ ((o : Op) × (wordAt (S grant P B₀) p ≡ some o)) → (o : Op) × ((wordAt (S grant P B₀) p ≡ some o) × (handedFor P o ≡ wordOf (J grant P B₀) t))
       go (inl e) = absurd (not-end t l e)
-      go (inr (o, e)) =
-          ap (λ (w : List Op). turnWith grant (at grant P B₀ p (after t .bench)) w .handed) (hands p (after t .bench) (holding t) ∙ e)
-          ∙ ap (λ (w : List Op). handedFor P (getD w 0 Op.setType) ∷ []) (
-          ap (λ (w : List Op). w ++ rest (S grant P B₀) (next (S grant P B₀) p)) (sym e)
-          ∙ sym (rest-next (S grant P B₀) (Turns.sound (J grant P B₀) A) p) ∙ to-come t ∙ drop-cons (words (S grant P B₀)) t Op.setType (omega (arith, length-words (S grant P B₀))))
+      go (inr (o, e)) = (
+        o,
+        (
+          e,
+          ap (λ (w : List Op). handedFor P (getD w 0 Op.setType)) (
+              ap (λ (w : Option Op). before w (rest (S grant P B₀) (next (S grant P B₀) p))) (sym e)
+              ∙ sym (rest-next (S grant P B₀) (Turns.sound (J grant P B₀) A) p) ∙ to-come t ∙ drop-cons (words (S grant P B₀)) t Op.setType (omega (arith, length-words (S grant P B₀))))
+              ∙ sym (getD-map (handedFor P) (words (S grant P B₀)) t Op.setType (plain 0) (omega (arith, length-words (S grant P B₀)))),
+        ),
+      )
+
+  -- what the run at the place after t turns hands out
+  handing : (t : ℕ) → handsOut grant (at grant P B₀ (placeAfter (S grant P B₀) t) (after t .bench) .run) ≡ wordAt (S grant P B₀) (placeAfter (S grant P B₀) t)
+  handing t = hands (placeAfter (S grant P B₀) t) (after t .bench) (holding t)
+
+  hands-out : (t : ℕ) → t < steps (S grant P B₀) → turn grant (after t) .handed ≡ some (wordOf (J grant P B₀) t)
+  hands-out t l =
+      let (o, (e, w)) = here-is t l in
+      let r : Running = at grant P B₀ (placeAfter (S grant P B₀) t) (after t .bench) in
+      ap (λ (r : Running). turn grant r .handed) (stays t)
+      ∙ ap (λ (o : Option Op). turnWith grant r o .handed) (handing t ∙ e)
+      ∙ ap (λ (h : Handed). some h) w
+
+  asks-for : (t : ℕ) → t < steps (S grant P B₀) → Asks (ask grant (after t .run)) 0 (some (wordOf (J grant P B₀) t)) (after (suc t) .run)
+  asks-for t l =
+      let (o, (e, w)) = here-is t l in
+      let R : Run = at grant P B₀ (placeAfter (S grant P B₀) t) (after t .bench) .run in
+      let q : ask grant (after t .run) ≡ askWith grant R (some o) = ap (λ (r : Running). ask grant (r .run)) (stays t) ∙ ap (askWith grant R) (handing t ∙ e) in
+      record {
+        answers = ap (λ (a : Ask). number (a .answer)) q;
+        hands-out = ap (λ (a : Ask). a .handed) q ∙ ap (λ (h : Handed). some h) w;
+        leaves = ap (λ (a : Ask). a .run) q ∙ sym (ap (λ (r : Running). r .run) (stays (suc t)));
+      }
 
   is-done : (t : ℕ) → t < steps (S grant P B₀) → turn grant (after t) .answer ≡ Done
   is-done t l = subst (λ (r : Running). turn grant r .answer ≡ Done) (sym (stays t))
       (elim (advance (placeAfter (S grant P B₀) t) (after t .bench) (holding t) .1) [ inl e ↦ absurd (not-end t l e) | inr e ↦ e ])
 
-  ended : (t : ℕ) → steps (S grant P B₀) ≤ t → turn grant (after t) ≡ record { answer = BadArguments; handed = []; after = after t }
+  ended : (t : ℕ) → steps (S grant P B₀) ≤ t → turn grant (after t) ≡ record { answer = BadArguments; handed = none; after = after t }
   ended t l =
       let e : after t ≡ at grant P B₀ AtEnd (after t .bench) = stays t ∙ ap (λ (p : Place). at grant P B₀ p (after t .bench)) (at-end t l) in
       let h : Holds grant P B₀ AtEnd (after t .bench) = subst (λ (p : Place). Holds grant P B₀ p (after t .bench)) (at-end t l) (holding t) in
-      subst (λ (r : Running). turn grant r ≡ record { answer = BadArguments; handed = []; after = r }) (sym e)
+      subst (λ (r : Running). turn grant r ≡ record { answer = BadArguments; handed = none; after = r }) (sym e)
       (ap (turnWith grant (at grant P B₀ AtEnd (after t .bench))) (hands AtEnd (after t .bench) h))
+
+  asks-no-more : (t : ℕ) → steps (S grant P B₀) ≤ t → Asks (ask grant (after t .run)) 8 none (after t .run)
+  asks-no-more t l =
+      let R : Run = at grant P B₀ (placeAfter (S grant P B₀) t) (after t .bench) .run in
+      let q : ask grant (after t .run) ≡ askWith grant R none = ap (λ (r : Running). ask grant (r .run)) (stays t) ∙ ap (askWith grant R) (handing t ∙ ap (wordAt (S grant P B₀)) (at-end t l)) in
+      record {
+        answers = ap (λ (a : Ask). number (a .answer)) q;
+        hands-out = ap (λ (a : Ask). a .handed) q;
+        leaves = ap (λ (a : Ask). a .run) q ∙ sym (ap (λ (r : Running). r .run) (stays t));
+      }
 
   counted : (t : ℕ) → answeredDone grant (at grant P B₀ AtType B₀) t ≡ min t (steps (S grant P B₀))
   counted zero = omega arith
@@ -365,10 +390,16 @@ module _ (grant : ℕ → ℕ → ℕ) (P : Plan) (B₀ : Bench) (R : Ready gran
           let e : answeredDone grant (at grant P B₀ AtType B₀) (suc t) ≡ answeredDone grant (at grant P B₀ AtType B₀) t + 1 = ap more (is-done t l) in
           omega (arith, e, ih)
 
-  right : (t : ℕ) → Right grant (J grant P B₀) (at grant P B₀ AtType B₀) t
+  right : (t : ℕ) → Right (J grant P B₀) (at grant P B₀ AtType B₀) t
   right t = record {
-    next-done = λ l. (is-done t l, hands-out t l ∙ ap (λ (h : Handed). h ∷ []) (sym (getD-map (handedFor P) (words (S grant P B₀)) t Op.setType (plain 0) (omega (arith, length-words (S grant P B₀))))));
-    past-end = ended t;
+    next-done = λ l. record { answers = ap number (is-done t l); hands-out = hands-out t l; leaves = refl };
+    past-end = λ l. record {
+      answers = ap (λ (u : Turn). number (u .answer)) (ended t l);
+      hands-out = ap (λ (u : Turn). u .handed) (ended t l);
+      leaves = ap (λ (u : Turn). u .after) (ended t l);
+    };
+    asks = asks-for t;
+    asks-past-end = asks-no-more t;
     kept = kept-at (J grant P B₀) (placeAfter (S grant P B₀) t) (held (after t .bench)) (after t .bench .memory) (holding t .here);
     product = λ l i j li lj. subst (λ (p : Place). At (J grant P B₀) p (held (after t .bench)) (after t .bench .memory)) (at-end t l) (holding t .here) .1 i j li li lj;
     count = counted t;
@@ -394,47 +425,56 @@ module _ (grant : ℕ → ℕ → ℕ) (G : Grants grant) (P : Plan) (B : Bench)
         addressed = bytes .addressed;
       }
 
-  is-passed : startRun grant P B .answer ≡ Done → Passed (startChecks grant P B)
+  is-passed : number (startRun grant P B .answer) ≡ 0 → Passed (startChecks grant P B)
   unfolding startRun
-  is-passed e = passed (startChecks grant P B) refl (ap isDone e)
+  is-passed e = passed (startChecks grant P B) refl (number-done (verdict (startChecks grant P B)) e)
 
-  runs-fresh : startRun grant P B .answer ≡ Done → startRun grant P B .run ≡ freshRun (B .machine) P
+  runs-fresh : number (startRun grant P B .answer) ≡ 0 → startRun grant P B .run ≡ freshRun (B .machine) P
   unfolding startRun
-  runs-fresh e = ap (λ (a : Answer). cond (isDone a) (freshRun (B .machine) P) (noRun P)) e
+  runs-fresh e = ap (λ (t : Bool). cond t (freshRun (B .machine) P) (noRun P)) (number-done (verdict (startChecks grant P B)) e)
 
-  pub demand-3 : Demand3 grant P B
+  answers : Answered P B (startRun grant P B .answer)
   unfolding startRun
-  demand-3 = record {
-    accepted = λ n i s. no-refusal (startChecks grant P B) (n .state, (n .plan, (is-inside P (B .memory) i, (is-separate (parameters grant (B .machine)) P s, tt))));
+  answers = record {
+    gives-0 = λ n i s. ap number (no-refusal (startChecks grant P B) (n .no-fault, (numbers-planned P B n, (is-inside P (B .memory) i, (is-separate grant (B .machine) P s, tt)))));
     only-then = λ e. let c = is-passed e in
-        (record { state = c .0; plan = c .1 .0 }, inside-is P (B .memory) (c .1 .1 .0), separate-is (parameters grant (B .machine)) P (c .1 .1 .1 .0));
-    gives-8 = λ d. eight d (sound (B .machine) (B .registers) (B .marks)) refl (planned P) refl;
+        (numbers-are P B (c .0) (c .1 .0), inside-is P (B .memory) (c .1 .1 .0), separate-is grant (B .machine) P (c .1 .1 .1 .0));
+    gives-8 = λ d. eight d (soundBench B) refl (planned P) refl;
     gives-6 = λ n d. six n d (lying P (B .memory)) refl;
     gives-9 = λ n i d. nine n i d (separate (parameters grant (B .machine)) P) refl;
-    unchanged = refl;
-    as-many = length-map (handedFor P) (words (shape (jobOf grant P B))) ∙ length-words (shape (jobOf grant P B));
-    turns = λ e t. subst (λ (r : Run). Right grant (jobOf grant P B) (record { run = r; bench = B }) t) (sym (runs-fresh e)) (right grant P B (ready (is-passed e)) t);
   }
     where
-      rest-of : Bool → Bool → Bool → Bool → Answer
-      rest-of s p l d = verdict ((s otherwise BadArguments) ∷ (p otherwise BadArguments) ∷ (l otherwise OutsideMemory) ∷ (d otherwise Overlap) ∷ [])
+      rest-of : Bool → Bool → Bool → Bool → ℕ
+      rest-of s p l d = number (verdict ((s otherwise BadArguments) ∷ (p otherwise BadArguments) ∷ (l otherwise OutsideMemory) ∷ (d otherwise Overlap) ∷ []))
 
-      eight : ¬ Numbers P B → (s : Bool) → sound (B .machine) (B .registers) (B .marks) ≡ s → (p : Bool) → planned P ≡ p
-          → rest-of s p (lying P (B .memory)) (separate (parameters grant (B .machine)) P) ≡ BadArguments
-      eight d true es true ep = absurd (d (record { state = es; plan = ep }))
+      eight : ¬ Numbers P B → (s : Bool) → soundBench B ≡ s → (p : Bool) → planned P ≡ p
+          → rest-of s p (lying P (B .memory)) (separate (parameters grant (B .machine)) P) ≡ 8
+      eight d true es true ep = absurd (d (numbers-are P B es ep))
       eight d true es false ep = refl
       eight d false es p ep = refl
 
       six : Numbers P B → ¬ Inside P (B .memory) → (l : Bool) → lying P (B .memory) ≡ l
-          → rest-of (sound (B .machine) (B .registers) (B .marks)) (planned P) l (separate (parameters grant (B .machine)) P) ≡ OutsideMemory
+          → rest-of (soundBench B) (planned P) l (separate (parameters grant (B .machine)) P) ≡ 6
       six n d true e = absurd (d (inside-is P (B .memory) e))
-      six n d false e = rw (n .state, n .plan)
+      six n d false e = rw (n .no-fault, numbers-planned P B n)
 
-      nine : Numbers P B → Inside P (B .memory) → ¬ Separate (parameters grant (B .machine)) P → (d : Bool) → separate (parameters grant (B .machine)) P ≡ d
-          → rest-of (sound (B .machine) (B .registers) (B .marks)) (planned P) (lying P (B .memory)) d ≡ Overlap
-      nine n i d true e = absurd (d (separate-is (parameters grant (B .machine)) P e))
-      nine n i d false e = rw (n .state, n .plan, is-inside P (B .memory) i)
+      nine : Numbers P B → Inside P (B .memory) → ¬ Separate (B .machine) P → (d : Bool) → separate (parameters grant (B .machine)) P ≡ d
+          → rest-of (soundBench B) (planned P) (lying P (B .memory)) d ≡ 9
+      nine n i d true e = absurd (d (separate-is grant (B .machine) P e))
+      nine n i d false e = rw (n .no-fault, numbers-planned P B n, is-inside P (B .memory) i)
 
--- for our choice of sizes, on every machine, plan, state and memory
-pub demand-3-ours : (P : Plan) (B : Bench) → Bytes (B .memory) → Demand3 smaller P B
+-- ---- demand 3
+
+pub demand-3 : RunsAreRight
+unfolding startRun
+demand-3 grant G P B bytes = record {
+  answered = answers grant G P B bytes;
+  unchanged = refl;
+  as-many = length-map (handedFor P) (words (shape (jobOf grant P B))) ∙ length-words (shape (jobOf grant P B));
+  turns = λ e t. subst (λ (r : Run). Right (jobOf grant P B) (record { run = r; bench = B }) t) (sym (runs-fresh grant G P B bytes e)) (right grant P B (ready grant G P B bytes (is-passed grant G P B bytes e)) t);
+  idle = started-idle grant P B;
+}
+
+-- for our choice of sizes
+pub demand-3-ours : OurRunsAreRight
 demand-3-ours = demand-3 smaller smaller-grants

@@ -18,7 +18,7 @@ use Rattle.run.specs.declared.Plan.{Plan}
 use Rattle.run.specs.declared.Place.{Place}
 use Rattle.run.specs.declared.Place.the-variants.{AtType, AtM, AtN, AtClear, AtK, AtA, AtB, AtMultiply, AtStore, AtEnd}
 use Rattle.run.specs.Words.{Op, sizeM, sizeN, sizeK}
-use Rattle.run.specs.Plan.{Job, Kept, shape, narrow, wide, typeOf, aAt, bAt, cAt, OfC, partial}
+use Rattle.run.specs.Plan.{Job, Kept, shape, narrow, wide, typeOf, aAt, bAt, cAt, OfC, total, productOf}
 
 -- the operation of a step
 abbrev pub operationOf : Plan → Op → Operation
@@ -56,17 +56,23 @@ pub record Accepted (J : Job) : Type 0 where
 
 -- ---- the invariant
 
+-- the sum of the first s products of C(i, j): with s = k it is `productOf`
+abbrev pub partial : Job → ℕ → ℕ → ℕ → ℕ
+partial J i j s =
+    total (wide (J .plan)) (narrow (J .plan)) (λ l. element (J .memory) (aAt (J .plan)) (narrow (J .plan)) i l)
+    (λ l. element (J .memory) (bAt (J .plan)) (narrow (J .plan)) l j) s
+
 pub record Registers (J : Job) (regs marks : List ℕ) : Type 0 where
   pub regs-length : length regs ≡ 16 * (J .machine .rows * J .machine .pitch)
   pub marks-length : length marks ≡ 16 * (J .machine .rows * J .machine .pitch)
 
 -- the elements of the first i rows of C are the products'
 abbrev pub RowsDone : Job → ℕ → List ℕ → Type 0
-RowsDone J i mem = (r c : ℕ) → r < i → r < J .plan .m → c < J .plan .n → element mem (cAt (J .plan)) (wide (J .plan)) r c ≡ partial J r c (J .plan .k)
+RowsDone J i mem = (r c : ℕ) → r < i → r < J .plan .m → c < J .plan .n → element mem (cAt (J .plan)) (wide (J .plan)) r c ≡ productOf J r c
 
 -- and those of the first j columns of the block of rows from i on
 abbrev pub ColsDone : Job → ℕ → ℕ → List ℕ → Type 0
-ColsDone J i j mem = (r c : ℕ) → r < sizeM (shape J) i → c < j → c < J .plan .n → element mem (cAt (J .plan)) (wide (J .plan)) (i + r) c ≡ partial J (i + r) c (J .plan .k)
+ColsDone J i j mem = (r c : ℕ) → r < sizeM (shape J) i → c < j → c < J .plan .n → element mem (cAt (J .plan)) (wide (J .plan)) (i + r) c ≡ productOf J (i + r) c
 
 -- a tile of a register holds these values, and every byte of it has its mark
 pub record Holds (at : ℕ → ℕ) (rows cols w : ℕ) (value : ℕ → ℕ → ℕ) (regs marks : List ℕ) : Type 0 where

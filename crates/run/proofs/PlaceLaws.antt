@@ -2,6 +2,7 @@
 use mathlib.Core.Path.{_≡_, refl, sym, ap, _∙_}
 use mathlib.Core.Bool.{Bool, true, false, cond}
 use mathlib.Core.List.{List, [], _∷_, _++_, append-assoc}
+use mathlib.Core.Option.{Option, none, some}
 use Prim.Native.Nat.{ℕ, zero, suc, _+_, _*_, _-_, _<_}
 use native.Mathlib.Nat.{zero-mul}
 use native.Mathlib.Omega.{arith}
@@ -15,7 +16,7 @@ use Rattle.width.proofs.BlockLaws.{chunks-end, chunks-next, length-chunks}
 use Rattle.run.specs.declared.Place.{Place}
 use Rattle.run.specs.declared.Place.the-variants.{AtType, AtM, AtN, AtClear, AtK, AtA, AtB, AtMultiply, AtStore, AtEnd}
 use Rattle.run.specs.Words.{Op, setType, setM, setK, setN, clear, loadA, loadB, multiply, store, Shape, sizeM, sizeN, sizeK, flat, blockK, fromK, blockN, fromN, blockM, fromM, words, steps}
-use Rattle.run.specs.Places.{headM, headN, headK, next, wordsAt}
+use Rattle.run.specs.Places.{headM, headN, headK, next, wordAt}
 
 -- the words after the block
 abbrev pub afterM : Shape → ℕ → List Op
@@ -39,6 +40,11 @@ rest S (AtB i j s) = loadB s j ∷ multiply ∷ afterK S i j s
 rest S (AtMultiply i j s) = multiply ∷ afterK S i j s
 rest S (AtStore i j) = store i j ∷ afterN S i j
 rest S AtEnd = []
+
+-- a word, if there is one, before others
+abbrev pub before : Option Op → List Op → List Op
+before none os = os
+before (some o) os = o ∷ os
 
 -- the maxima are at least 1, and the rule keeps the draft's constraints
 pub record Sound (S : Shape) : Type 0 where
@@ -70,7 +76,7 @@ module _ (S : Shape) (G : Sound S) where
       go false e = rw (chunks-end (S .grant) (G .rule) (S .tk) (G .0<tk) (S .k) s (ltb-false s (S .k) e))
 
   -- a turn hands out the first of the words still to come
-  pub rest-next : (p : Place) → rest S p ≡ wordsAt S p ++ rest S (next S p)
+  pub rest-next : (p : Place) → rest S p ≡ before (wordAt S p) (rest S (next S p))
   rest-next AtType = ap (λ (l : List Op). setType ∷ l) (sym (rest-headM 0))
   rest-next (AtM i) = ap (λ (l : List Op). setM (S .m - i) ∷ l) (sym (rest-headN i 0))
   rest-next (AtN i j) = refl
@@ -88,7 +94,7 @@ placeAfter S zero = AtType
 placeAfter S (suc t) = next S (placeAfter S t)
 
 module _ (S : Shape) (G : Sound S) where
-  one-less : (p : Place) → drop 1 (wordsAt S p ++ rest S (next S p)) ≡ rest S (next S p)
+  one-less : (p : Place) → drop 1 (before (wordAt S p) (rest S (next S p))) ≡ rest S (next S p)
   one-less AtType = refl
   one-less (AtM i) = refl
   one-less (AtN i j) = refl

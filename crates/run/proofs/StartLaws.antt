@@ -1,28 +1,32 @@
 -- The tests of a start say what the statement says of bytes, both ways; and an accepted start gives what the turns need.
 use mathlib.Core.Path.{_≡_, refl, sym, subst}
-use mathlib.Core.Bool.{Bool, true, not}
+use mathlib.Core.Logic.{_⊎_, inl, inr}
+use mathlib.Core.Bool.{Bool, true, false, not, _||_}
 use mathlib.Core.List.{List, [], _∷_}
 use Prim.Native.Nat.{ℕ, _+_, _*_, _-_, _/_, _≤_, _<_}
 use native.Mathlib.Omega.{arith}
 use lib.ListN.{length}
 use lib.IntN.{ℤ, pos, negsuc, _+ℤ_}
-use borrow.Author.Tests.{leb-true, ltb-true, eqb-true, lt-ltb, not-true}
+use lib.Dec.{leb, eqb}
+use borrow.Author.Tests.{leb-true, le-leb, ltb-true, eqb-true, eq-eqb, lt-ltb, not-true}
 use Rattle.width.specs.Tile.{In}
 use Rattle.width.specs.Blocks.{Grants}
-use Rattle.machine.specs.Tests.{all, within}
-use Rattle.machine.proofs.TestLaws.{all-true, all-at, every-each, each-every, within-not, not-within, false-true}
+use Rattle.machine.specs.Tests.{all, within, isIn}
+use Rattle.machine.proofs.TestLaws.{all-true, all-at, every-each, each-every, within-not, not-within, or-right, false-true}
 use Rattle.machine.specs.Geometry.{elen, Parameters, parameters, permitted}
 use Rattle.machine.specs.Setting.{sew, mill, newType}
 use Rattle.machine.specs.Memory.{inMemory, rowZ, inside, unsealed}
 use Rattle.machine.proofs.MemoryLaws.{inside-byte, clear-at, clear-true, unsealed-at, unsealed-true}
+use Rattle.machine.specs.declared.Machine.{Machine}
 use Rattle.machine.specs.Geometry.{Bench}
+use Rattle.machine.specs.Faults.{soundBench}
 use Rattle.machine.proofs.StepLaws.{permitted-lengths}
 use Rattle.run.specs.declared.Plan.{Plan}
 use Rattle.run.specs.Plan.{narrow, wide, msew, typeOf, aAt, bAt, cAt}
-use Rattle.run.specs.Start.{format, lying, distinct, apart, separate}
+use Rattle.run.specs.Start.{format, planned, lying, distinct, apart, separate}
 use Rattle.run.proofs.WordLaws.{formats}
 use Rattle.run.proofs.Invariant.{Accepted}
-use Rattle.run.specs.Statement.{Lies, Inside, Separate, jobOf, Bytes}
+use Rattle.run.specs.Statement.{Numbers, Lies, Inside, Separate, jobOf, Bytes}
 
 -- ---- bytes in memory
 
@@ -106,7 +110,10 @@ module _ (at : ℕ → ℕ) (rows n : ℕ) where
       all-true k (λ i. all n (λ b. not (within (at k) n (at i + b)))) (λ i l′.
       all-true n (λ b. not (within (at k) n (at i + b))) (λ b l″. not-within (at k) n (at i + b) (h i k (at i + b) l′ l (omega arith)))))
 
-module _ (M : Parameters) (P : Plan) where
+module _ (grant : ℕ → ℕ → ℕ) (m : Machine) (P : Plan) where
+  abbrev M : Parameters
+  M = parameters grant m
+
   abbrev separates : List Bool
   separates =
       distinct (cAt P) (P .m) (P .n * wide P)
@@ -114,7 +121,7 @@ module _ (M : Parameters) (P : Plan) where
       ∷ apart (bAt P) (P .k) (P .n * narrow P) (cAt P) (P .m) (P .n * wide P)
       ∷ unsealed M (P .c .address) (P .c .stride) (P .m) (P .n * wide P) ∷ []
 
-  pub separate-is : separate M P ≡ true → Separate M P
+  pub separate-is : separate M P ≡ true → Separate m P
   unfolding separate
   separate-is h =
       let t = every-each separates h in
@@ -126,7 +133,7 @@ module _ (M : Parameters) (P : Plan) where
             (clear-at M (cAt P i) (P .n * wide P) (unsealed-at M (P .c .address) (P .c .stride) (P .m) (P .n * wide P) (t .1 .1 .1 .0) i l) q x);
       }
 
-  pub is-separate : Separate M P → separate M P ≡ true
+  pub is-separate : Separate m P → separate M P ≡ true
   unfolding separate
   is-separate h = each-every separates (
     at-distinct (cAt P) (P .m) (P .n * wide P) (h .rows),
@@ -143,17 +150,61 @@ module _ (M : Parameters) (P : Plan) where
     ),
   )
 
+-- ---- the numbers of a plan
+
+pub one-of : (x a b c : ℕ) → isIn x (a ∷ b ∷ c ∷ []) ≡ true → (x ≡ a) ⊎ ((x ≡ b) ⊎ (x ≡ c))
+one-of x a b c = go (eqb x a) refl (eqb x b) refl (eqb x c) refl
+  where
+    go : (s : Bool) → eqb x a ≡ s → (t : Bool) → eqb x b ≡ t → (u : Bool) → eqb x c ≡ u → s || (t || (u || false)) ≡ true → (x ≡ a) ⊎ ((x ≡ b) ⊎ (x ≡ c))
+    go true e t f u g h = inl (eqb-true x a e)
+    go false e true f u g h = inr (inl (eqb-true x b f))
+    go false e false f true g h = inr (inr (eqb-true x c g))
+    go false e false f false g h = absurd (false-true h)
+
+of-one : (x a b c : ℕ) → (x ≡ a) ⊎ ((x ≡ b) ⊎ (x ≡ c)) → isIn x (a ∷ b ∷ c ∷ []) ≡ true
+of-one x a b c (inl e) = rw (eq-eqb x a e)
+of-one x a b c (inr (inl e)) = or-right (eqb x a) (eqb x b || (eqb x c || false)) (rw (eq-eqb x b e))
+of-one x a b c (inr (inr e)) = or-right (eqb x a) (eqb x b || (eqb x c || false)) (or-right (eqb x b) (eqb x c || false) (rw (eq-eqb x c e)))
+
+module _ (P : Plan) where
+  abbrev formats-of : List Bool
+  formats-of = isIn (P .sew) (8 ∷ 16 ∷ 32 ∷ []) ∷ isIn (P .factor) (1 ∷ 2 ∷ 4 ∷ []) ∷ leb (P .factor * P .sew) elen ∷ []
+
+  abbrev sizes-of : List Bool
+  sizes-of = format (P .sew) (P .factor) ∷ leb (P .m) 1024 ∷ leb (P .k) 1024 ∷ leb (P .n) 1024 ∷ []
+
+  pub numbers-are : (B : Bench) → soundBench B ≡ true → planned P ≡ true → Numbers P B
+  unfolding planned format
+  numbers-are B s h =
+      let t = every-each sizes-of h in
+      let f = every-each formats-of (t .0) in
+      record {
+        no-fault = s;
+        sew-is = one-of (P .sew) 8 16 32 (f .0);
+        factor-is = one-of (P .factor) 1 2 4 (f .1 .0);
+        width-fits = leb-true (P .factor * P .sew) elen (f .1 .1 .0);
+        m-fits = leb-true (P .m) 1024 (t .1 .0);
+        k-fits = leb-true (P .k) 1024 (t .1 .1 .0);
+        n-fits = leb-true (P .n) 1024 (t .1 .1 .1 .0);
+      }
+
+  pub numbers-planned : (B : Bench) → Numbers P B → planned P ≡ true
+  unfolding planned format
+  numbers-planned B n = each-every sizes-of (
+    each-every formats-of (of-one (P .sew) 8 16 32 (n .sew-is), (of-one (P .factor) 1 2 4 (n .factor-is), (le-leb (P .factor * P .sew) elen (n .width-fits), tt))),
+    (le-leb (P .m) 1024 (n .m-fits), (le-leb (P .k) 1024 (n .k-fits), (le-leb (P .n) 1024 (n .n-fits), tt))),
+  )
+
 -- ---- what the turns need
 
 pub accepted : (grant : ℕ → ℕ → ℕ) → Grants grant → (P : Plan) (B : Bench) → Bytes (B .memory) → permitted (B .machine .rlen) (B .machine .mlen) ≡ true
     → format (P .sew) (P .factor) ≡ true → lying P (B .memory) ≡ true → separate (parameters grant (B .machine)) P ≡ true → Accepted (jobOf grant P B)
 unfolding narrow msew typeOf lying separate
 accepted grant G P B bytes lengths formatted l d =
-    let M : Parameters = parameters grant (B .machine) in
     let n = permitted-lengths (B .machine .rlen) (B .machine .mlen) lengths in
     let f = formats (P .sew) (P .factor) formatted .0 in
     let t = every-each (insides P (B .memory)) l in
-    let s = separate-is M P d in
+    let s = separate-is grant (B .machine) P d in
     record {
       rule = G;
       0<narrow = ltb-true 0 (P .sew / 8) (f .1 .1 .1 .1 .1 .1 .1 .1 .0);
@@ -170,7 +221,7 @@ accepted grant G P B bytes lengths formatted l d =
       a-in = t .0;
       b-in = t .1 .0;
       c-in = t .1 .1 .0;
-      c-unsealed = every-each (separates M P) d .1 .1 .1 .0;
+      c-unsealed = every-each (separates grant (B .machine) P) d .1 .1 .1 .0;
       c-rows = s .rows;
       c-a = λ i q g x c. s .from-a i (c .0) q g (c .1) x (c .2);
       c-b = λ i q g x c. s .from-b i (c .0) q g (c .1) x (c .2);

@@ -34,8 +34,8 @@ use Rattle.run.specs.Words.{Op, Shape, sizeM, sizeN, sizeK}
 use Rattle.run.specs.Places.{next, headM, headN, headK}
 use Rattle.run.proofs.PlaceLaws.{Sound}
 use Rattle.run.proofs.NumberLaws.{total-small, product-small, cleared, total-more}
-use Rattle.run.specs.Plan.{Job, Kept, shape, narrow, wide, typeOf, aAt, bAt, cAt, OfC, partial}
-use Rattle.run.proofs.Invariant.{operationOf, Accepted, Registers, RowsDone, ColsDone, Holds, HoldsC, InM, InN, InBlock, InK, InTerms, At}
+use Rattle.run.specs.Plan.{Job, Kept, shape, narrow, wide, typeOf, aAt, bAt, cAt, OfC}
+use Rattle.run.proofs.Invariant.{operationOf, Accepted, partial, Registers, RowsDone, ColsDone, Holds, HoldsC, InM, InN, InBlock, InK, InTerms, At}
 
 -- ---- writing a register tile
 

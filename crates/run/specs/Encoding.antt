@@ -2,7 +2,7 @@
 use mathlib.Core.Bool.{cond}
 use mathlib.Core.List.{List, _∷_, _++_}
 use Prim.Native.Nat.{ℕ, _+_, _*_, _^_}
-use lib.ListN.{replicate}
+use lib.ListN.{getD, replicate}
 use lib.Dec.{eqb}
 use lib.IntN.{pos, _+ℤ_}
 use Rattle.width.specs.Reduce.{reduce}
@@ -59,3 +59,7 @@ handedFor P (Op.store i j) = record { word = memoryWord 0b0000001 (msew P + log 
 -- "Otherwise the words are: msettypei; for each block of rows msettilemi; .."
 abbrev pub wordList : Job → List Handed
 wordList J = map (handedFor (J .plan)) (words (shape J))
+
+-- word t of them, from 0 on
+abbrev pub wordOf : Job → ℕ → Handed
+wordOf J t = getD (wordList J) t (plain 0)

@@ -1,4 +1,4 @@
--- Starts and places of a run that are refused, and their neighbours, computed: MLEN 128, RLEN 64, SEW 8, a memory of 64 bytes.
+-- Starts that are refused and places that hand out nothing, with their neighbours, computed: MLEN 128, RLEN 64, a memory of 64 bytes.
 use mathlib.Core.Path.{_≡_, refl}
 use mathlib.Core.List.{List, [], _∷_, map}
 use Prim.Native.Nat.{ℕ, _-_, _^_}
@@ -43,7 +43,7 @@ gives B P want = record { got = number (startRun smaller P B .answer); want = wa
 pub free : Bench
 free = bench 0 0 0
 
--- 2 x 2 x 2: A at 0, B at 8, C at 16, rows 2 bytes apart
+-- 2 x 2 x 2 at SEW 8, f = 1
 pub small : Layout → Layout → Layout → Plan
 small a b c = plan 8 1 2 2 2 a b c
 
@@ -85,7 +85,7 @@ starts = refl
 
 -- ---- asking
 
--- 4 x 4 x 16 in blocks of 2 rows, 2 terms and 8 columns
+-- 4 x 4 x 16 at SEW 8, in blocks of 2 rows, 2 terms and 8 columns
 pub asks : Place → ℕ → Line
 asks p want = record {
   got = number (ask smaller (record { plan = plan 8 1 4 4 16 (layout 0 4) (layout 0 16) (layout 0 16); rlen = 64; mlen = 128; place = p }) .answer);

@@ -1,6 +1,6 @@
 -- One word at a time: the place of a run, the word handed out there, and the place after it.
 use mathlib.Core.Bool.{cond}
-use mathlib.Core.List.{List, [], _∷_}
+use mathlib.Core.Option.{Option, none, some}
 use Prim.Native.Nat.{ℕ, _+_, _-_}
 use lib.Dec.{ltb}
 use Rattle.run.specs.declared.Place.{Place}
@@ -30,14 +30,14 @@ next S (AtStore i j) = headN S i (j + sizeN S j)
 next S AtEnd = AtEnd
 
 -- the word handed out at a place: none at the end
-abbrev pub wordsAt : Shape → Place → List Op
-wordsAt S AtType = setType ∷ []
-wordsAt S (AtM i) = setM (S .m - i) ∷ []
-wordsAt S (AtN i j) = setN (S .n - j) ∷ []
-wordsAt S (AtClear i j) = clear ∷ []
-wordsAt S (AtK i j s) = setK (S .k - s) ∷ []
-wordsAt S (AtA i j s) = loadA i s ∷ []
-wordsAt S (AtB i j s) = loadB s j ∷ []
-wordsAt S (AtMultiply i j s) = multiply ∷ []
-wordsAt S (AtStore i j) = store i j ∷ []
-wordsAt S AtEnd = []
+abbrev pub wordAt : Shape → Place → Option Op
+wordAt S AtType = some setType
+wordAt S (AtM i) = some (setM (S .m - i))
+wordAt S (AtN i j) = some (setN (S .n - j))
+wordAt S (AtClear i j) = some clear
+wordAt S (AtK i j s) = some (setK (S .k - s))
+wordAt S (AtA i j s) = some (loadA i s)
+wordAt S (AtB i j s) = some (loadB s j)
+wordAt S (AtMultiply i j s) = some multiply
+wordAt S (AtStore i j) = some (store i j)
+wordAt S AtEnd = none

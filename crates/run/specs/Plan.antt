@@ -61,12 +61,12 @@ shape J = record {
 unfoldable pub total : (wide narrow : ℕ) → (a b : ℕ → ℕ) → ℕ → ℕ
 total wide narrow a b s = reduce (256 ^ wide) (sumℤ s (λ l. signed (256 ^ narrow) (a l) *ℤ signed (256 ^ narrow) (b l)))
 
--- of A(i, l) x B(l, j), "the elements of SEW bits, signed, that memory held at the start". With s = k: "the sum, for l from 0 to
--- k - 1, of A(i, l) x B(l, j), reduced to f x SEW bits in two's complement; with k = 0 it is 0"
-abbrev pub partial : Job → ℕ → ℕ → ℕ → ℕ
-partial J i j s =
+-- "C(i, j) is the sum, for l from 0 to k - 1, of A(i, l) x B(l, j), reduced to f x SEW bits in two's complement; with k = 0 it is 0.
+-- A(i, l) and B(l, j) are the elements of SEW bits, signed, that memory held at the start"
+abbrev pub productOf : Job → ℕ → ℕ → ℕ
+productOf J i j =
     total (wide (J .plan)) (narrow (J .plan)) (λ l. element (J .memory) (aAt (J .plan)) (narrow (J .plan)) i l)
-    (λ l. element (J .memory) (bAt (J .plan)) (narrow (J .plan)) l j) s
+    (λ l. element (J .memory) (bAt (J .plan)) (narrow (J .plan)) l j) (J .plan .k)
 
 -- byte q is one of C's elements: "A row's bytes are those of its elements"
 abbrev pub OfC : Job → ℕ → Type 0

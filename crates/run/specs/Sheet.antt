@@ -7,7 +7,7 @@ use lib.IntN.{pos, negsuc}
 use Rattle.width.specs.Reduce.{reduce}
 use Rattle.machine.specs.Answers.{number}
 use Rattle.machine.specs.Geometry.{Parameters, parameters}
-use Rattle.machine.specs.Setting.{smaller, maxM, maxK, maxN, sew}
+use Rattle.machine.specs.Setting.{smaller, maxM, maxK, maxN}
 use Rattle.machine.specs.Operation.{element}
 use Rattle.machine.specs.Geometry.{Bench}
 use Rattle.machine.specs.Starting.{startMachine}
@@ -36,7 +36,7 @@ M = parameters smaller (bench [] .machine)
 unfoldable pub scalars : ℕ → List ℕ
 scalars v = 77 ∷ replicate 9 0 ++ v ∷ replicate 21 0
 
--- a product of A (bytes a, row after row) and B (bytes b) at SEW 8, with C behind them, filled with 99
+-- a product at SEW 8: A from 0 on, B behind it and C behind B, row after row
 unfoldable pub plan : (f m k n : ℕ) → Plan
 plan f m k n = record {
   sew = 8;
@@ -49,6 +49,7 @@ plan f m k n = record {
   c = record { address = m * k + k * n; stride = n * f };
 }
 
+-- its run as started: the bytes of A and B, and C filled with 99
 unfoldable pub started : (f m k n : ℕ) → List ℕ → Running
 started f m k n entries =
     let B = bench (entries ++ replicate (m * n * f) 99) in
@@ -58,10 +59,10 @@ started f m k n entries =
 unfoldable pub c : (f m k n : ℕ) → List ℕ → ℕ → ℕ → ℕ → ℕ
 c f m k n entries t i j = element (afterTurns smaller (started f m k n entries) t .bench .memory) (cAt (plan f m k n)) f i j
 
--- the number of steps by the formula and by the list of words
-unfoldable pub counts : (sew m k n : ℕ) → List ℕ
-counts s m k n =
-    let S : Shape = record { grant = smaller; tm = maxM M s; tk = maxK M s; tn = maxN M s; m = m; k = k; n = n } in
+-- the number of steps at this mtype, by the formula and by the list of words
+unfoldable pub counts : (mtype m k n : ℕ) → List ℕ
+counts t m k n =
+    let S : Shape = record { grant = smaller; tm = maxM M t; tk = maxK M t; tn = maxN M t; m = m; k = k; n = n } in
     steps S ∷ length (words S) ∷ []
 
 unfoldable pub sheet : List Line

@@ -1,30 +1,43 @@
 -- Demand 3, the statement: when a start is accepted and what it answers otherwise, and what holds after any number of turns.
 use mathlib.Core.Path.{_≡_}
 use mathlib.Core.Bool.{true}
-use mathlib.Core.List.{List, [], _∷_}
-use Prim.Native.Nat.{ℕ, _+_, _*_, _^_, _≤_, _<_, min}
+use mathlib.Core.Logic.{_⊎_}
+use mathlib.Core.List.{List}
+use mathlib.Core.Option.{Option, none, some}
+use Prim.Native.Nat.{ℕ, suc, _*_, _^_, _≤_, _<_, min}
 use lib.ListN.{length, getD}
 use lib.IntN.{ℤ, pos, _+ℤ_}
 use Rattle.width.specs.Tile.{In}
-use Rattle.machine.specs.declared.Answer.the-variants.{Done, BadArguments, OutsideMemory, Overlap}
-use Rattle.machine.specs.Geometry.{Parameters, parameters}
+use Rattle.width.specs.Blocks.{Grants}
+use Rattle.machine.specs.declared.Machine.{Machine}
+use Rattle.machine.specs.declared.Answer.{Answer}
+use Rattle.machine.specs.Answers.{number}
+use Rattle.machine.specs.Geometry.{elen, parameters, Bench}
+use Rattle.machine.specs.Setting.{smaller}
 use Rattle.machine.specs.Memory.{rowZ}
 use Rattle.machine.specs.Operation.{element}
-use Rattle.machine.specs.Geometry.{Bench}
-use Rattle.machine.specs.Faults.{sound}
+use Rattle.machine.specs.Faults.{soundBench}
 use Rattle.run.specs.declared.Plan.{Plan}
+use Rattle.run.specs.declared.Run.{Run}
+use Rattle.run.specs.declared.Handed.{Handed}
 use Rattle.run.specs.Words.{steps}
-use Rattle.run.specs.Plan.{Job, Kept, shape, narrow, wide, aAt, bAt, cAt, partial}
-use Rattle.run.specs.Start.{planned, startRun}
-use Rattle.run.specs.Encoding.{plain, wordList}
-use Rattle.run.specs.Turn.{Running, turn, afterTurns, answeredDone}
+use Rattle.run.specs.Plan.{Job, Kept, shape, narrow, wide, aAt, bAt, cAt, productOf}
+use Rattle.run.specs.Start.{startRun}
+use Rattle.run.specs.Encoding.{wordList, wordOf}
+use Rattle.run.specs.Turn.{Ask, ask, Running, Turn, turn, afterTurns, answeredDone}
 
 -- ---- when a start is accepted
 
--- 8: the state and the numbers of the plan are permitted
+-- 8: the state is not at fault (machine/specs/Faults.antt), SEW is 8, 16 or 32, f is 1, 2 or 4, f x SEW is at most ELEN, and no size is
+-- above 1,024
 pub record Numbers (P : Plan) (B : Bench) : Type 0 where
-  pub state : sound (B .machine) (B .registers) (B .marks) ≡ true
-  pub plan : planned P ≡ true
+  pub no-fault : soundBench B ≡ true
+  pub sew-is : (P .sew ≡ 8) ⊎ ((P .sew ≡ 16) ⊎ (P .sew ≡ 32))
+  pub factor-is : (P .factor ≡ 1) ⊎ ((P .factor ≡ 2) ⊎ (P .factor ≡ 4))
+  pub width-fits : P .factor * P .sew ≤ elen
+  pub m-fits : P .m ≤ 1024
+  pub k-fits : P .k ≤ 1024
+  pub n-fits : P .n ≤ 1024
 
 -- a place in a memory of len bytes
 abbrev pub Lies : ℕ → ℤ → Type 0
@@ -37,11 +50,31 @@ pub record Inside (P : Plan) (mem : List ℕ) : Type 0 where
   pub c-lies : (i b : ℕ) → i < P .m → b < P .n * wide P → Lies (length mem) (rowZ (P .c .address) (P .c .stride) i +ℤ pos b)
 
 -- 9: no byte q lies in two rows of C, in a row of A or B and one of C, or in a row of C and the seal
-pub record Separate (M : Parameters) (P : Plan) : Type 0 where
+pub record Separate (m : Machine) (P : Plan) : Type 0 where
   pub rows : (i k q : ℕ) → i < k → k < P .m → In (cAt P i) (P .n * wide P) q → ¬ In (cAt P k) (P .n * wide P) q
   pub from-a : (i k q : ℕ) → i < P .m → k < P .m → In (aAt P i) (P .k * narrow P) q → ¬ In (cAt P k) (P .n * wide P) q
   pub from-b : (i k q : ℕ) → i < P .k → k < P .m → In (bAt P i) (P .n * narrow P) q → ¬ In (cAt P k) (P .n * wide P) q
-  pub from-seal : (i q : ℕ) → i < P .m → In (cAt P i) (P .n * wide P) q → ¬ In (M .sealAt) (M .sealLen) q
+  pub from-seal : (i q : ℕ) → i < P .m → In (cAt P i) (P .n * wide P) q → ¬ In (m .«seal_start») (m .«seal_length») q
+
+-- the answer to a start: "Answer 8 for .. then 6 for an element outside memory; then 9", and 0 exactly where all three hold
+pub record Answered (P : Plan) (B : Bench) (a : Answer) : Type 0 where
+  pub gives-0 : Numbers P B → Inside P (B .memory) → Separate (B .machine) P → number a ≡ 0
+  pub only-then : number a ≡ 0 → Numbers P B × Inside P (B .memory) × Separate (B .machine) P
+  pub gives-8 : ¬ Numbers P B → number a ≡ 8
+  pub gives-6 : Numbers P B → ¬ Inside P (B .memory) → number a ≡ 6
+  pub gives-9 : Numbers P B → Inside P (B .memory) → ¬ Separate (B .machine) P → number a ≡ 9
+
+-- ---- what asking and a turn answer, hand out and leave
+
+pub record Asks (a : Ask) (n : ℕ) (handed : Option Handed) (after : Run) : Type 0 where
+  pub answers : number (a .answer) ≡ n
+  pub hands-out : a .handed ≡ handed
+  pub leaves : a .run ≡ after
+
+pub record Turns (u : Turn) (n : ℕ) (handed : Option Handed) (after : Running) : Type 0 where
+  pub answers : number (u .answer) ≡ n
+  pub hands-out : u .handed ≡ handed
+  pub leaves : u .after ≡ after
 
 -- ---- after t turns
 
@@ -52,38 +85,59 @@ jobOf grant P B = record { machine = parameters grant (B .machine); plan = P; me
 abbrev pub startedRun : (ℕ → ℕ → ℕ) → Plan → Bench → Running
 startedRun grant P B = record { run = startRun grant P B .run; bench = startRun grant P B .bench }
 
-pub record Right (grant : ℕ → ℕ → ℕ) (J : Job) (r : Running) (t : ℕ) : Type 0 where
+-- the job's run after t turns
+abbrev pub after : Job → Running → ℕ → Running
+after J r t = afterTurns (J .machine .grant) r t
+
+pub record Right (J : Job) (r : Running) (t : ℕ) : Type 0 where
   -- "Turns 1 to s each hand out one step, the next of the words above in their order, and it is answered 0."
-  pub next-done : t < steps (shape J)
-      → (turn grant (afterTurns grant r t) .answer ≡ Done) × (turn grant (afterTurns grant r t) .handed ≡ getD (wordList J) t (plain 0) ∷ [])
+  pub next-done : t < steps (shape J) → Turns (turn (J .machine .grant) (after J r t)) 0 (some (wordOf J t)) (after J r (suc t))
   -- "Every later turn gives 8 and changes nothing."
-  pub past-end : steps (shape J) ≤ t → turn grant (afterTurns grant r t) ≡ record { answer = BadArguments; handed = []; after = afterTurns grant r t }
+  pub past-end : steps (shape J) ≤ t → Turns (turn (J .machine .grant) (after J r t)) 8 none (after J r t)
+  -- "Steps are handed out one at a time": asking hands out the step that the turn would, and moves the run as the turn would
+  pub asks : t < steps (shape J) → Asks (ask (J .machine .grant) (after J r t .run)) 0 (some (wordOf J t)) (after J r (suc t) .run)
+  -- "asking past the last gives 8"
+  pub asks-past-end : steps (shape J) ≤ t → Asks (ask (J .machine .grant) (after J r t .run)) 8 none (after J r t .run)
   -- "After each turn the memory outside C's elements is as at the start."
-  pub kept : Kept J (afterTurns grant r t .bench .memory)
+  pub kept : Kept J (after J r t .bench .memory)
   -- "After turn s and each later one, C(i, j) is the sum .."
   pub product : steps (shape J) ≤ t → (i j : ℕ) → i < J .plan .m → j < J .plan .n
-      → element (afterTurns grant r t .bench .memory) (cAt (J .plan)) (wide (J .plan)) i j ≡ partial J i j (J .plan .k)
+      → element (after J r t .bench .memory) (cAt (J .plan)) (wide (J .plan)) i j ≡ productOf J i j
   -- the number of turns answered 0
-  pub count : answeredDone grant r t ≡ min t (steps (shape J))
+  pub count : answeredDone (J .machine .grant) r t ≡ min t (steps (shape J))
+
+-- after a refused start: the turns have changed nothing, the next gives 8, hands out nothing and changes nothing, and so does asking
+pub record Idle (grant : ℕ → ℕ → ℕ) (r : Running) (t : ℕ) : Type 0 where
+  pub unchanged : afterTurns grant r t ≡ r
+  pub no-turn : Turns (turn grant (afterTurns grant r t)) 8 none r
+  pub no-step : Asks (ask grant (afterTurns grant r t .run)) 8 none (r .run)
+  pub no-count : answeredDone grant r t ≡ 0
+
+-- ---- demand 3, of a plan and a bench
+
+pub record Demand3 (grant : ℕ → ℕ → ℕ) (P : Plan) (B : Bench) : Type 0 where
+  -- when the start gives 0, 8, 6 and 9
+  pub answered : Answered P B (startRun grant P B .answer)
+  -- "The start itself, accepted or refused, changes neither machine nor memory."
+  pub unchanged : startRun grant P B .bench ≡ B
+  -- "there are 1 + M(1 + N(3 + 4K)) steps"
+  pub as-many : length (wordList (jobOf grant P B)) ≡ steps (shape (jobOf grant P B))
+  -- from an accepted start on, after any number of turns
+  pub turns : number (startRun grant P B .answer) ≡ 0 → (t : ℕ) → Right (jobOf grant P B) (startedRun grant P B) t
+  -- and from a refused one on
+  pub idle : ¬ (number (startRun grant P B .answer) ≡ 0) → (t : ℕ) → Idle grant (startedRun grant P B) t
+
+-- ---- demand 3
 
 -- a slice of bytes
 pub record Bytes (mem : List ℕ) : Type 0 where
   pub below : (q : ℕ) → getD mem q 0 < 256
   pub addressed : length mem ≤ 2 ^ 64
 
--- ---- demand 3, of a plan and a bench
+-- for every choice of sizes under the three constraints, every plan, machine and state, and every memory that is a slice of bytes
+abbrev pub RunsAreRight : Type 0
+RunsAreRight = (grant : ℕ → ℕ → ℕ) → Grants grant → (P : Plan) (B : Bench) → Bytes (B .memory) → Demand3 grant P B
 
-pub record Demand3 (grant : ℕ → ℕ → ℕ) (P : Plan) (B : Bench) : Type 0 where
-  -- accepted exactly when the conditions hold
-  pub accepted : Numbers P B → Inside P (B .memory) → Separate (parameters grant (B .machine)) P → startRun grant P B .answer ≡ Done
-  pub only-then : startRun grant P B .answer ≡ Done → Numbers P B × Inside P (B .memory) × Separate (parameters grant (B .machine)) P
-  -- "Answer 8 for .. then 6 for an element outside memory; then 9"
-  pub gives-8 : ¬ Numbers P B → startRun grant P B .answer ≡ BadArguments
-  pub gives-6 : Numbers P B → ¬ Inside P (B .memory) → startRun grant P B .answer ≡ OutsideMemory
-  pub gives-9 : Numbers P B → Inside P (B .memory) → ¬ Separate (parameters grant (B .machine)) P → startRun grant P B .answer ≡ Overlap
-  -- "The start itself, accepted or refused, changes neither machine nor memory."
-  pub unchanged : startRun grant P B .bench ≡ B
-  -- "there are 1 + M(1 + N(3 + 4K)) steps"
-  pub as-many : length (wordList (jobOf grant P B)) ≡ steps (shape (jobOf grant P B))
-  -- from an accepted start on, after any number of turns
-  pub turns : startRun grant P B .answer ≡ Done → (t : ℕ) → Right grant (jobOf grant P B) (startedRun grant P B) t
+-- and for our choice of sizes
+abbrev pub OurRunsAreRight : Type 0
+OurRunsAreRight = (P : Plan) (B : Bench) → Bytes (B .memory) → Demand3 smaller P B

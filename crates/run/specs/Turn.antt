@@ -1,8 +1,8 @@
 -- A turn: a step is asked for and, if one is handed out, carried out with the run's own scalars.
 use mathlib.Core.Bool.{Bool, true, cond}
 use mathlib.Core.List.{List, [], _∷_}
+use mathlib.Core.Option.{Option, none, some, Option·getD}
 use Prim.Native.Nat.{ℕ, zero, suc, _+_}
-use lib.Dec.{ltb}
 use Rattle.machine.specs.declared.Answer.{Answer}
 use Rattle.machine.specs.declared.Answer.the-variants.{Done, BadArguments}
 use Rattle.machine.specs.Answers.{isDone}
@@ -12,7 +12,6 @@ use Rattle.machine.specs.Geometry.{Parameters, parametersOf, permitted}
 use Rattle.machine.specs.Setting.{maxM, maxK, maxN}
 use Rattle.machine.specs.Geometry.{Bench, benchOf}
 use Rattle.machine.specs.Step.{Outcome, stepBy}
-use Rattle.run.specs.declared.Plan.{Plan}
 use Rattle.run.specs.declared.Place.{Place}
 use Rattle.run.specs.declared.Place.the-variants.{AtType, AtM, AtN, AtClear, AtK, AtA, AtB, AtMultiply, AtStore, AtEnd}
 use Rattle.run.specs.declared.Run.{Run}
@@ -21,7 +20,7 @@ use Rattle.run.specs.declared.Asked.{Asked}
 use Rattle.run.specs.declared.Turned.{Turned}
 use Rattle.run.specs.declared.Taken.{Taken}
 use Rattle.run.specs.Words.{Op, Shape}
-use Rattle.run.specs.Places.{next, wordsAt}
+use Rattle.run.specs.Places.{next, wordAt}
 use Rattle.run.specs.Encoding.{own, plain, handedFor}
 use Rattle.run.specs.Plan.{typeOf}
 use Rattle.run.specs.Start.{planned}
@@ -42,19 +41,6 @@ runShape grant R = record {
   k = R .plan .k;
   n = R .plan .n;
 }
-
--- the place lies in the matrices
-abbrev pub placed : Plan → Place → Bool
-placed P AtType = true
-placed P (AtM i) = ltb i (P .m)
-placed P (AtN i j) = every (ltb i (P .m) ∷ ltb j (P .n) ∷ [])
-placed P (AtClear i j) = every (ltb i (P .m) ∷ ltb j (P .n) ∷ [])
-placed P (AtK i j s) = every (ltb i (P .m) ∷ ltb j (P .n) ∷ ltb s (P .k) ∷ [])
-placed P (AtA i j s) = every (ltb i (P .m) ∷ ltb j (P .n) ∷ ltb s (P .k) ∷ [])
-placed P (AtB i j s) = every (ltb i (P .m) ∷ ltb j (P .n) ∷ ltb s (P .k) ∷ [])
-placed P (AtMultiply i j s) = every (ltb i (P .m) ∷ ltb j (P .n) ∷ ltb s (P .k) ∷ [])
-placed P (AtStore i j) = every (ltb i (P .m) ∷ ltb j (P .n) ∷ [])
-placed P AtEnd = true
 
 -- a block of rows starts at row i; one of columns at column j; one of terms at term s
 abbrev pub startsM : Shape → ℕ → Bool
@@ -85,11 +71,11 @@ unfoldable pub soundRun : (ℕ → ℕ → ℕ) → Run → Bool
 soundRun grant R = every (
     permitted (R .rlen) (R .mlen)
     ∷ planned (R .plan)
-    ∷ placed (R .plan) (R .place)
     ∷ begins (runShape grant R) (R .place) ∷ [])
 
-abbrev pub handsOut : (ℕ → ℕ → ℕ) → Run → List Op
-handsOut grant R = cond (soundRun grant R) (wordsAt (runShape grant R) (R .place)) []
+-- the next word: none past the last, and none of a run that no start and turns can have made
+abbrev pub handsOut : (ℕ → ℕ → ℕ) → Run → Option Op
+handsOut grant R = cond (soundRun grant R) (wordAt (runShape grant R) (R .place)) none
 
 -- the run once a step is handed out
 abbrev pub moved : (ℕ → ℕ → ℕ) → Run → Run
@@ -98,25 +84,19 @@ moved grant R = record { plan = R .plan; rlen = R .rlen; mlen = R .mlen; place =
 -- what asking gives: 0, a step and the run at the next place; or, past the last, 8 and the run as it was
 pub record Ask : Type 0 where
   pub answer : Answer
-  pub handed : List Handed
+  pub handed : Option Handed
   pub run : Run
-
-abbrev pub askWith : (ℕ → ℕ → ℕ) → Run → List Op → Ask
-askWith grant R [] = record { answer = BadArguments; handed = []; run = R }
-askWith grant R (o ∷ os) = record { answer = Done; handed = handedFor (R .plan) o ∷ []; run = moved grant R }
 
 -- "Steps are handed out one at a time .. asking past the last gives 8."
 abbrev pub ask : (ℕ → ℕ → ℕ) → Run → Ask
-ask grant R = askWith grant R (handsOut grant R)
+ask grant R = elim (handsOut grant R) [
+  | none ↦ record { answer = BadArguments; handed = none; run = R }
+  | some o ↦ record { answer = Done; handed = some (handedFor (R .plan) o); run = moved grant R }
+]
 
--- the step, and all zeros where there is none
-abbrev pub firstHanded : List Handed → Handed
-firstHanded [] = plain 0
-firstHanded (h ∷ hs) = h
-
--- what asking returns: the answer, the step or all zeros where there is none, and the run
+-- what the function `next` returns: the answer, the step or all zeros where there is none, and the run
 abbrev pub asked : Ask → Asked
-asked a = record { answer = a .answer; handed = firstHanded (a .handed); run = a .run }
+asked a = record { answer = a .answer; handed = Option·getD (a .handed) (plain 0); run = a .run }
 
 -- ---- a turn
 
@@ -125,26 +105,24 @@ pub record Running : Type 0 where
   pub run : Run
   pub bench : Bench
 
+abbrev pub running : Run → Bench → Running
+running R B = record { run = R; bench = B }
+
 pub record Turn : Type 0 where
   pub answer : Answer
-  pub handed : List Handed
+  pub handed : Option Handed
   pub after : Running
 
 -- "In a turn a step is asked for and, if one is handed out, carried out with the run's own scalars." A step that is refused leaves
 -- the place where it was too: "A refusal changes nothing lent or held."
-abbrev pub carry : (ℕ → ℕ → ℕ) → Answer → List Handed → Run → Run → Bench → Turn
-carry grant a [] R R′ B = record { answer = a; handed = []; after = record { run = R; bench = B } }
-carry grant a (h ∷ hs) R R′ B =
-    let out : Outcome = stepBy grant (h .word) (own h) B in
-    record { answer = out .answer; handed = h ∷ []; after = record { run = cond (isDone (out .answer)) R′ R; bench = out .bench } }
-
-abbrev pub turnWith : (ℕ → ℕ → ℕ) → Running → List Op → Turn
-turnWith grant r os =
-    let a : Ask = askWith grant (r .run) os in
-    carry grant (a .answer) (a .handed) (r .run) (a .run) (r .bench)
-
 abbrev pub turn : (ℕ → ℕ → ℕ) → Running → Turn
-turn grant r = turnWith grant r (handsOut grant (r .run))
+turn grant r =
+    let a : Ask = ask grant (r .run) in
+    elim (a .handed) [
+      | none ↦ record { answer = a .answer; handed = none; after = r }
+      | some h ↦ let out : Outcome = stepBy grant (h .word) (own h) (r .bench) in
+          record { answer = out .answer; handed = some h; after = running (cond (isDone (out .answer)) (a .run) (r .run)) (out .bench) }
+    ]
 
 -- after t turns
 abbrev pub afterTurns : (ℕ → ℕ → ℕ) → Running → ℕ → Running
@@ -157,9 +135,6 @@ answeredDone grant r zero = 0
 answeredDone grant r (suc t) = answeredDone grant r t + cond (isDone (turn grant (afterTurns grant r t) .answer)) 1 0
 
 -- ---- what the functions `turn` and `turns` return and leave
-
-abbrev pub running : Run → Bench → Running
-running R B = record { run = R; bench = B }
 
 pub record TurnOutcome : Type 0 where
   pub answer : Answer

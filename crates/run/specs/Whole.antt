@@ -1,19 +1,19 @@
--- A whole product run: a start and, where it is accepted, turns until one is refused; and what a customer is told of it.
+-- A whole product run: a start, and as many turns as there are steps; and what a customer is told of it.
 use mathlib.Core.Path.{_≡_}
 use mathlib.Core.List.{List}
 use Prim.Native.Nat.{ℕ, _<_}
 use Rattle.machine.specs.declared.Answer.{Answer}
-use Rattle.machine.specs.declared.Answer.the-variants.{Done}
+use Rattle.machine.specs.Answers.{number}
 use Rattle.machine.specs.Geometry.{Bench, benchOf}
 use Rattle.machine.specs.Setting.{smaller}
 use Rattle.machine.specs.Operation.{element}
 use Rattle.run.specs.declared.Plan.{Plan}
 use Rattle.run.specs.declared.Finished.{Finished}
 use Rattle.run.specs.Words.{steps}
-use Rattle.run.specs.Plan.{Kept, shape, wide, cAt, partial}
+use Rattle.run.specs.Plan.{Kept, shape, wide, cAt, productOf}
 use Rattle.run.specs.Start.{startRun}
 use Rattle.run.specs.Turn.{turns}
-use Rattle.run.specs.Statement.{jobOf, startedRun}
+use Rattle.run.specs.Statement.{Answered, Bytes, jobOf, startedRun}
 
 pub record WholeOutcome : Type 0 where
   pub answer : Answer
@@ -34,14 +34,18 @@ finishedAs r registers marks memory = record { answer = r .answer; count = r .co
 
 -- The customer's sentence, of a plan, the bench at entry, and what came back
 pub record Delivers (P : Plan) (B : Bench) (o : WholeOutcome) : Type 0 where
-  -- the answer is that of the start (Statement.antt says when it is 0, 8, 6 and 9)
-  pub answered : o .answer ≡ startRun smaller P B .answer
+  -- when the answer is 0, 8, 6 and 9
+  pub answered : Answered P B (o .answer)
   -- "A refusal changes nothing lent or held."
-  pub refused : ¬ (o .answer ≡ Done) → (o .count ≡ 0) × (o .bench ≡ B)
+  pub refused : ¬ (number (o .answer) ≡ 0) → (o .count ≡ 0) × (o .bench ≡ B)
   -- "there are 1 + M(1 + N(3 + 4K)) steps"
-  pub counted : o .answer ≡ Done → o .count ≡ steps (shape (jobOf smaller P B))
+  pub counted : number (o .answer) ≡ 0 → o .count ≡ steps (shape (jobOf smaller P B))
   -- "C(i, j) is the sum, for l from 0 to k - 1, of A(i, l) x B(l, j), reduced to f x SEW bits in two's complement", of the memory at entry
-  pub product : o .answer ≡ Done → (i j : ℕ) → i < P .m → j < P .n
-      → element (o .bench .memory) (cAt P) (wide P) i j ≡ partial (jobOf smaller P B) i j (P .k)
+  pub product : number (o .answer) ≡ 0 → (i j : ℕ) → i < P .m → j < P .n
+      → element (o .bench .memory) (cAt P) (wide P) i j ≡ productOf (jobOf smaller P B) i j
   -- "the memory outside C's elements is as at the start"
   pub kept : Kept (jobOf smaller P B) (o .bench .memory)
+
+-- for every plan, machine and state, and every memory that is a slice of bytes
+abbrev pub WholeDelivers : Type 0
+WholeDelivers = (P : Plan) (B : Bench) → Bytes (B .memory) → Delivers P B (whole smaller P B)

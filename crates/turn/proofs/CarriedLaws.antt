@@ -2,6 +2,7 @@
 use mathlib.Core.Path.{_≡_, refl, sym, ap, ap₂, _∙_, subst}
 use mathlib.Core.Bool.{Bool, true, false, cond, not}
 use mathlib.Core.List.{List, [], _∷_}
+use mathlib.Core.Option.{Option, none, some}
 use Prim.Native.Nat.{ℕ, _+_, _-_, _*_, _^_, _<_}
 use native.Mathlib.Nat.{zero-add}
 use native.Mathlib.Omega.{arith}
@@ -35,10 +36,11 @@ use Rattle.run.specs.declared.Run.{Run}
 use Rattle.run.specs.declared.Place.{Place}
 use Rattle.run.specs.Words.{Op}
 use Rattle.run.specs.Plan.{narrow, wide, msew, typeOf}
-use Rattle.run.specs.Places.{wordsAt}
+use Rattle.run.specs.Places.{wordAt}
 use Rattle.run.specs.Encoding.{own, handedFor, startOf, log}
 use Rattle.run.specs.Start.{format, planned}
-use Rattle.run.specs.Turn.{soundRun, runShape, moved, Running, running, turn, turnWith, TurnOutcome, turnOutcome, turns, TurnsOutcome}
+use Rattle.run.specs.Turn.{soundRun, runShape, moved, Running, running, turn, TurnOutcome, turnOutcome, turns, TurnsOutcome}
+use Rattle.run.proofs.HandedLaws.{turnWith}
 use Rattle.run.proofs.WordLaws.{formats, decode-a, decode-b, decode-c, msew<3, narrow-is, wide<3, wide-is, type-small}
 use Rattle.turn.specs.Parts.{Carried, carried, carriedFor, carriedBy, carriedAt, atPlace, endingAt}
 use Rattle.turn.proofs.TurnLaws.{leaving, taking, turns-stop, turns-more}
@@ -74,8 +76,8 @@ pub numbers-joined : (a : Answer) (m : Machine) (regs marks mem : List ℕ) (k :
 numbers-joined a m regs marks mem k e h = ap (λ (m : Machine). carried a m regs marks mem) e ∙ h
 
 -- the word at a place of the run
-pub at-place : (R : Run) (B : Bench) (q : Place) → R .place ≡ q → carriedBy (R .plan) (wordsAt (runShape smaller R) q) B ≡ carriedAt R B
-at-place R B q e = ap (λ (q : Place). carriedBy (R .plan) (wordsAt (runShape smaller R) q) B) (sym e)
+pub at-place : (R : Run) (B : Bench) (q : Place) → R .place ≡ q → carriedBy (R .plan) (wordAt (runShape smaller R) q) B ≡ carriedAt R B
+at-place R B q e = ap (λ (q : Place). carriedBy (R .plan) (wordAt (runShape smaller R) q) B) (sym e)
 
 module _ (P : Plan) (o : Op) (m : Machine) (regs marks mem : List ℕ) (s : sound m regs marks ≡ true) where
   abbrev B : Bench
@@ -202,15 +204,15 @@ pub turn-carried : (R : Run) (B : Bench) → soundRun smaller R ≡ true → (k 
 turn-carried R B ok k e t d =
     ap (λ (t : Bool). leaving (k .answer) (running (cond t (moved smaller R) R) (k .bench))) (sym d)
     ∙ ap (λ (k : Carried). leaving (k .answer) (running (cond (isDone (k .answer)) (moved smaller R) R) (k .bench))) e
-    ∙ go (wordsAt (runShape smaller R) (R .place))
-    ∙ ap (λ (os : List Op). leaving (turnWith smaller (running R B) os .answer) (turnWith smaller (running R B) os .after))
-    (ap (λ (t : Bool). cond t (wordsAt (runShape smaller R) (R .place)) []) (sym ok))
+    ∙ go (wordAt (runShape smaller R) (R .place))
+    ∙ ap (λ (o : Option Op). leaving (turnWith smaller (running R B) o .answer) (turnWith smaller (running R B) o .after))
+    (ap (λ (t : Bool). cond t (wordAt (runShape smaller R) (R .place)) none) (sym ok))
   where
-    go : (os : List Op)
-        → leaving (carriedBy (R .plan) os B .answer) (running (cond (isDone (carriedBy (R .plan) os B .answer)) (moved smaller R) R) (carriedBy (R .plan) os B .bench))
-        ≡ leaving (turnWith smaller (running R B) os .answer) (turnWith smaller (running R B) os .after)
-    go [] = refl
-    go (o ∷ os) = refl
+    go : (o : Option Op)
+        → leaving (carriedBy (R .plan) o B .answer) (running (cond (isDone (carriedBy (R .plan) o B .answer)) (moved smaller R) R) (carriedBy (R .plan) o B .bench))
+        ≡ leaving (turnWith smaller (running R B) o .answer) (turnWith smaller (running R B) o .after)
+    go none = refl
+    go (some o) = refl
 
 -- one more, after n that were answered 0
 pub turns-carried : (r : Running) (R : Run) (B : Bench) (n : ℕ) → taking n (running R B) ≡ turns smaller r n → soundRun smaller R ≡ true → (k : Carried) → k ≡ carriedAt R B
@@ -227,7 +229,7 @@ moved-place R U A q e k =
 -- a run that no start can have made: every turn is refused
 pub turn-unsound : (R : Run) (B : Bench) → soundRun smaller R ≡ false → leaving BadArguments (running R B) ≡ turnOutcome smaller (running R B)
 turn-unsound R B h =
-    ap (λ (t : Bool). let os : List Op = cond t (wordsAt (runShape smaller R) (R .place)) [] in leaving (turnWith smaller (running R B) os .answer) (turnWith smaller (running R B) os .after)) (sym h)
+    ap (λ (t : Bool). let o : Option Op = cond t (wordAt (runShape smaller R) (R .place)) none in leaving (turnWith smaller (running R B) o .answer) (turnWith smaller (running R B) o .after)) (sym h)
 
 pub turns-unsound : (R : Run) (B : Bench) (n : ℕ) → soundRun smaller R ≡ false → taking 0 (running R B) ≡ turns smaller (running R B) n
 turns-unsound R B n h = turns-stop (running R B) 0 n (omega arith) (ap (λ (o : TurnOutcome). isDone (o .answer)) (sym (turn-unsound R B h)))

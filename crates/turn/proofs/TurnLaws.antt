@@ -1,7 +1,7 @@
 -- A turn by the cases of what is asked for; what turns leave once one is refused; states that are not at fault.
 use mathlib.Core.Path.{_≡_, refl, sym, ap, ap₂, _∙_}
 use mathlib.Core.Bool.{Bool, true, false, cond}
-use mathlib.Core.List.{List, [], _∷_}
+use mathlib.Core.Option.{Option, none, some}
 use Prim.Native.Nat.{ℕ, zero, suc, _+_, _-_, _≤_}
 use native.Mathlib.Nat.{add-zero}
 use native.Mathlib.Numerals.{add-one}
@@ -13,16 +13,16 @@ use Rattle.machine.specs.Geometry.{Bench, benchOf}
 use Rattle.machine.specs.Setting.{smaller}
 use Rattle.machine.specs.Faults.{soundBench}
 use Rattle.machine.specs.Step.{Outcome, step}
-use Rattle.machine.proofs.TestLaws.{false-true}
 use Rattle.machine.proofs.StepLaws.{smaller-grants}
-use Rattle.machine.proofs.Refusal.{refusal-changes-nothing}
 use Rattle.machine.proofs.NoFault.{step-sound}
 use Rattle.step.proofs.StepParts.{step-fault}
 use Rattle.run.specs.declared.Run.{Run}
 use Rattle.run.specs.declared.Handed.{Handed}
 use Rattle.run.specs.Words.{Op}
 use Rattle.run.specs.Encoding.{own, handedFor}
-use Rattle.run.specs.Turn.{handsOut, moved, Running, running, turn, turnWith, TurnOutcome, turnOutcome, TurnsOutcome, turns, afterTurns}
+use Rattle.run.specs.Turn.{handsOut, moved, Running, running, turn, TurnOutcome, turnOutcome, TurnsOutcome, turns, afterTurns}
+use Rattle.run.proofs.HandedLaws.{turnWith}
+use Rattle.run.proofs.RefusalLaws.{turn-refused}
 
 -- ---- one turn
 
@@ -30,27 +30,13 @@ use Rattle.run.specs.Turn.{handsOut, moved, Running, running, turn, turnWith, T
 abbrev pub leaving : Answer → Running → TurnOutcome
 leaving a r = record { answer = a; after = r }
 
--- a turn that is refused leaves everything
-pub refused-stays : (r : Running) → isDone (turn smaller r .answer) ≡ false → turn smaller r .after ≡ r
-refused-stays r = go (handsOut smaller (r .run))
-  where
-    step-stays : (h : Handed) (R : Run) → let out : Outcome = step (h .word) (own h) (r .bench) in
-        isDone (out .answer) ≡ false → running (cond (isDone (out .answer)) R (r .run)) (out .bench) ≡ r
-    step-stays h R d =
-        ap₂ (λ (t : Bool) (B : Bench). running (cond t R (r .run)) B) d
-        (refusal-changes-nothing smaller (h .word) (own h) (r .bench) (λ e. false-true (sym d ∙ ap isDone e)) .0)
-
-    go : (os : List Op) → isDone (turnWith smaller r os .answer) ≡ false → turnWith smaller r os .after ≡ r
-    go [] d = refl
-    go (o ∷ os) d = step-stays (handedFor (r .run .plan) o) _ d
-
 -- a state that is not at fault stays so
 pub turn-sound : (r : Running) → soundBench (r .bench) ≡ true → soundBench (turn smaller r .after .bench) ≡ true
 turn-sound r s = go (handsOut smaller (r .run))
   where
-    go : (os : List Op) → soundBench (turnWith smaller r os .after .bench) ≡ true
-    go [] = s
-    go (o ∷ os) = let h : Handed = handedFor (r .run .plan) o in step-sound smaller smaller-grants (h .word) (own h) (r .bench) s
+    go : (o : Option Op) → soundBench (turnWith smaller r o .after .bench) ≡ true
+    go none = s
+    go (some o) = let h : Handed = handedFor (r .run .plan) o in step-sound smaller smaller-grants (h .word) (own h) (r .bench) s
 
 -- in a state at fault every turn is refused, whether or not a step is handed out
 pub turn-fault : (R : Run) (B : Bench) → soundBench B ≡ false → leaving BadArguments (running R B) ≡ turnOutcome smaller (running R B)
@@ -60,9 +46,9 @@ turn-fault R B f = go (handsOut smaller R)
         leaving BadArguments (running R B) ≡ leaving (out .answer) (running (cond (isDone (out .answer)) R′ R) (out .bench))
     step-refused h R′ = ap (λ (out : Outcome). leaving (out .answer) (running (cond (isDone (out .answer)) R′ R) (out .bench))) (sym (step-fault (h .word) (own h) B f))
 
-    go : (os : List Op) → leaving BadArguments (running R B) ≡ leaving (turnWith smaller (running R B) os .answer) (turnWith smaller (running R B) os .after)
-    go [] = refl
-    go (o ∷ os) = step-refused (handedFor (R .plan) o) (moved smaller R)
+    go : (o : Option Op) → leaving BadArguments (running R B) ≡ leaving (turnWith smaller (running R B) o .answer) (turnWith smaller (running R B) o .after)
+    go none = refl
+    go (some o) = step-refused (handedFor (R .plan) o) (moved smaller R)
 
 -- ---- several turns
 
@@ -76,7 +62,7 @@ further t = taking (t .count + cond (isDone (turn smaller (t .after) .answer)) 1
 
 further-refused : (t : TurnsOutcome) → isDone (turn smaller (t .after) .answer) ≡ false → t ≡ further t
 further-refused t d =
-    ap₂ taking (sym (add-zero (t .count)) ∙ ap (λ (b : Bool). t .count + cond b 1 0) (sym d)) (sym (refused-stays (t .after) d))
+    ap₂ taking (sym (add-zero (t .count)) ∙ ap (λ (b : Bool). t .count + cond b 1 0) (sym d)) (sym (turn-refused smaller (t .after) d))
 
 -- once a turn is refused, so are all that follow
 pub turns-stop : (r : Running) (i n : ℕ) → i ≤ n → isDone (turn smaller (afterTurns smaller r i) .answer) ≡ false → turns smaller r i ≡ turns smaller r n
@@ -99,7 +85,7 @@ pub turns-refused : (r s : Running) (n limit : ℕ) → n ≤ limit → taking n
     → taking n (running (s .run) (benchOf (s .bench .machine) (t .after .bench .registers) (t .after .bench .marks) (t .after .bench .memory))) ≡ turns smaller r limit
 turns-refused r s n limit l e t h d =
     let f : isDone (turn smaller s .answer) ≡ false = sym (ap (λ (o : TurnOutcome). isDone (o .answer)) h) ∙ d in
-    let k : t .after ≡ s = ap (λ (o : TurnOutcome). o .after) h ∙ refused-stays s f in
+    let k : t .after ≡ s = ap (λ (o : TurnOutcome). o .after) h ∙ turn-refused smaller s f in
     ap (λ (x : Running). taking n (running (s .run) (benchOf (s .bench .machine) (x .bench .registers) (x .bench .marks) (x .bench .memory)))) k
     ∙ e ∙ turns-stop r n limit l (ap (λ (o : TurnsOutcome). isDone (turn smaller (o .after) .answer)) (sym e) ∙ f)
 

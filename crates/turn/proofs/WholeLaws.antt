@@ -1,39 +1,29 @@
--- A whole run delivers what its statement says, and takes no more turns than there are steps.
-use mathlib.Core.Path.{_≡_, refl, sym, ap, ap₂, _∙_, subst}
-use mathlib.Core.Bool.{Bool, true, false, cond}
-use Prim.Native.Nat.{ℕ, zero, suc, _+_, _*_, _-_, _≤_, _<_, _^_, min}
+-- What the calls of a whole run return is what its statement says; it takes no more turns than there are steps.
+use mathlib.Core.Path.{_≡_, sym, ap, ap₂, _∙_, subst}
+use mathlib.Core.Bool.{true, false}
+use Prim.Native.Nat.{ℕ, zero, suc, _+_, _*_, _-_, _≤_, _<_, _^_}
 use native.Mathlib.Nat.{zero-lt-suc, div-zero, div-lt-iff-lt-mul, mul-le-mul, mul-le-mul-right}
 use native.Mathlib.Omega.{arith}
 use Rattle.width.specs.Blocks.{count}
 use Rattle.machine.specs.declared.Answer.{Answer}
-use Rattle.machine.specs.declared.Answer.the-variants.{Done}
-use Rattle.machine.specs.Answers.{isDone}
-use Rattle.machine.specs.Geometry.{Bench, permitted}
+use Rattle.machine.specs.Answers.{number, isDone}
+use Rattle.machine.specs.Geometry.{Bench}
 use Rattle.machine.specs.Setting.{smaller}
+use Rattle.machine.proofs.TestLaws.{false-true}
 use Rattle.machine.proofs.CodeLaws.{only-done}
 use Rattle.run.specs.declared.Plan.{Plan}
 use Rattle.run.specs.declared.RunStarted.{RunStarted}
 use Rattle.run.specs.Words.{Shape, steps}
-use Rattle.run.specs.Plan.{Kept, shape}
-use Rattle.run.specs.Start.{RunStart, startRun, startedAs, freshRun, noRun}
-use Rattle.run.specs.Turn.{Running, running, Turn, TurnsOutcome, soundRun, turn, turns}
+use Rattle.run.specs.Plan.{shape}
+use Rattle.run.specs.Start.{RunStart, startRun, startedAs}
+use Rattle.run.specs.Turn.{running, TurnsOutcome, turn, afterTurns, turns}
 use Rattle.run.specs.Statement.{Bytes, Demand3, jobOf, startedRun}
 use Rattle.run.specs.Whole.{WholeOutcome, whole, Delivers}
+use Rattle.run.proofs.RefusalLaws.{number-done, number-refused}
+use Rattle.run.proofs.Demand1.{whole-refusal-changes-nothing}
 use Rattle.run.proofs.Demand3.{demand-3-ours}
-use Rattle.turn.proofs.StartLaws.{plan-sizes}
+use Rattle.run.proofs.Whole.{whole-delivers}
 use Rattle.turn.proofs.TurnLaws.{turns-stop}
-
--- ---- numbers and answers
-
-min-self : (n : ℕ) → min n n ≡ n
-min-self n = omega arith
-
-refusal : (a : Answer) → ¬ (a ≡ Done) → isDone a ≡ false
-refusal a d = go (isDone a) refl
-  where
-    go : (t : Bool) → isDone a ≡ t → t ≡ false
-    go true e = absurd (d (only-done a e))
-    go false e = refl
 
 -- ---- how many steps there are
 
@@ -59,25 +49,10 @@ module _ (P : Plan) (B : Bench) where
   abbrev all : ℕ
   all = steps (shape (jobOf smaller P B))
 
-  no-run : soundRun smaller (noRun P) ≡ false
-  unfolding soundRun permitted
-  no-run = refl
-
-  -- a run that hands out nothing
-  abbrev nothing : Running
-  nothing = record { run = noRun P; bench = B }
-
-  refused-turn : isDone (turn smaller nothing .answer) ≡ false
-  refused-turn = rw no-run
-
-  refused-run : isDone (startRun smaller P B .answer) ≡ false → startedRun smaller P B ≡ nothing
-  unfolding startRun
-  refused-run h = ap (λ (t : Bool). record { run = cond t (freshRun (B .machine) P) (noRun P); bench = B }) h
-
   pub whole-refused : isDone (startRun smaller P B .answer) ≡ false → whole smaller P B ≡ record { answer = startRun smaller P B .answer; count = 0; bench = B }
   whole-refused h =
-      ap (λ (o : TurnsOutcome). record { answer = startRun smaller P B .answer; count = o .count; bench = o .after .bench })
-      (ap (λ (r : Running). turns smaller r all) (refused-run h) ∙ sym (turns-stop nothing 0 all (omega arith) refused-turn))
+      let r = whole-refusal-changes-nothing smaller P B (λ z. false-true (sym h ∙ number-done (startRun smaller P B .answer) z)) in
+      ap₂ (λ (n : ℕ) (C : Bench). record { answer = startRun smaller P B .answer; count = n; bench = C }) (r .0) (r .1)
 
   -- ---- an accepted one
 
@@ -86,26 +61,10 @@ module _ (P : Plan) (B : Bench) where
     the-demand = demand-3-ours P B bytes
 
     -- no more turns are answered 0 than there are steps, however many are taken
-    pub whole-done : startRun smaller P B .answer ≡ Done → (n : ℕ) → all ≤ n → turns smaller (startedRun smaller P B) n ≡ turns smaller (startedRun smaller P B) all
+    whole-done : number (startRun smaller P B .answer) ≡ 0 → (n : ℕ) → all ≤ n → turns smaller (startedRun smaller P B) n ≡ turns smaller (startedRun smaller P B) all
     whole-done e n l =
-        sym (turns-stop (startedRun smaller P B) all n l (ap (λ (u : Turn). isDone (u .answer)) (the-demand .turns e all .past-end (omega arith))))
-
-    -- memory outside C is kept, whether the start is accepted or not
-    kept : (t : Bool) → isDone (startRun smaller P B .answer) ≡ t → Kept (jobOf smaller P B) (whole smaller P B .bench .memory)
-    kept true h = the-demand .turns (only-done (startRun smaller P B .answer) h) all .kept
-    kept false h =
-        subst (λ (o : WholeOutcome). Kept (jobOf smaller P B) (o .bench .memory)) (sym (whole-refused h))
-        (record { same-length = refl; outside = λ q d. refl })
-
-    pub delivers : Delivers P B (whole smaller P B)
-    delivers = record {
-      answered = refl;
-      refused = λ d. let e = whole-refused (refusal (startRun smaller P B .answer) d) in
-          (ap (λ (o : WholeOutcome). o .count) e, ap (λ (o : WholeOutcome). o .bench) e);
-      counted = λ e. the-demand .turns e all .count ∙ min-self all;
-      product = λ e. the-demand .turns e all .product (omega arith);
-      kept = kept (isDone (startRun smaller P B .answer)) refl;
-    }
+        let p = the-demand .turns e all .past-end (omega arith) .answers in
+        sym (turns-stop (startedRun smaller P B) all n l (number-refused (turn smaller (afterTurns smaller (startedRun smaller P B) all) .answer) (λ z. let f : 8 ≡ 0 = sym p ∙ z in omega arith)))
 
     -- ---- from what the calls return
 
@@ -113,7 +72,7 @@ module _ (P : Plan) (B : Bench) where
     Finishes o = (o ≡ whole smaller P B) × Delivers P B o
 
     finishes : (o : WholeOutcome) → o ≡ whole smaller P B → Finishes o
-    finishes o e = (e, subst (Delivers P B) (sym e) delivers)
+    finishes o e = (e, subst (Delivers P B) (sym e) (whole-delivers P B bytes))
 
     answer-is : (s : RunStarted) → startedAs s B ≡ startRun smaller P B → s .answer ≡ startRun smaller P B .answer
     answer-is s e = ap (λ (r : RunStart). r .answer) e
@@ -129,9 +88,9 @@ module _ (P : Plan) (B : Bench) where
         → Finishes (record { answer = s .answer; count = t .count; bench = t .after .bench })
     finishes-done s e d t h =
         let a = answer-is s e in
-        let ok : startRun smaller P B .answer ≡ Done = sym a ∙ only-done (s .answer) d in
-        let sizes = plan-sizes P (the-demand .only-then ok .0 .plan) in
-        let few = few-steps (shape (jobOf smaller P B)) (sizes .0) (sizes .1) (sizes .2) in
+        let ok : number (startRun smaller P B .answer) ≡ 0 = ap number (sym a ∙ only-done (s .answer) d) in
+        let n = the-demand .answered .only-then ok .0 in
+        let few = few-steps (shape (jobOf smaller P B)) (n .m-fits) (n .k-fits) (n .n-fits) in
         finishes _
         (ap₂ (λ (a : Answer) (t : TurnsOutcome). record { answer = a; count = t .count; bench = t .after .bench }) a
         (h ∙ ap (λ (r : RunStart). turns smaller (running (r .run) (r .bench)) 18446744073709551615) e ∙ whole-done ok 18446744073709551615 (omega arith)))

@@ -1,6 +1,7 @@
 -- What the contracts of inner functions name; a reader of the demand need not read it.
 use mathlib.Core.Bool.{cond}
-use mathlib.Core.List.{List, [], _∷_}
+use mathlib.Core.List.{List}
+use mathlib.Core.Option.{Option, none, some}
 use Prim.Native.Nat.{ℕ}
 use Rattle.machine.specs.declared.Answer.{Answer}
 use Rattle.machine.specs.declared.Answer.the-variants.{Done, BadArguments}
@@ -13,7 +14,7 @@ use Rattle.run.specs.declared.Place.{Place}
 use Rattle.run.specs.declared.Run.{Run}
 use Rattle.run.specs.Words.{Op}
 use Rattle.run.specs.Encoding.{own, handedFor}
-use Rattle.run.specs.Places.{wordsAt}
+use Rattle.run.specs.Places.{wordAt}
 use Rattle.run.specs.Turn.{runShape, turn, TurnsOutcome}
 use lib.Dec.{eqb}
 
@@ -29,14 +30,14 @@ carried a m registers marks memory = record { answer = a; bench = benchOf m regi
 abbrev pub carriedFor : Plan → Op → Bench → Carried
 carriedFor P o B = let out : Outcome = step (handedFor P o .word) (own (handedFor P o)) B in record { answer = out .answer; bench = out .bench }
 
--- the first of a list of words; past the last, 8
-abbrev pub carriedBy : Plan → List Op → Bench → Carried
-carriedBy P [] B = record { answer = BadArguments; bench = B }
-carriedBy P (o ∷ os) B = carriedFor P o B
+-- a word, if there is one; past the last, 8
+abbrev pub carriedBy : Plan → Option Op → Bench → Carried
+carriedBy P none B = record { answer = BadArguments; bench = B }
+carriedBy P (some o) B = carriedFor P o B
 
 -- the word at the place of a run
 abbrev pub carriedAt : Run → Bench → Carried
-carriedAt R B = carriedBy (R .plan) (wordsAt (runShape smaller R) (R .place)) B
+carriedAt R B = carriedBy (R .plan) (wordAt (runShape smaller R) (R .place)) B
 
 -- the run at another place
 abbrev pub atPlace : Run → Place → Run

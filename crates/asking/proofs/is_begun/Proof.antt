@@ -4,7 +4,8 @@ use borrow.Author.Tests.{ltb-true}
 use Rattle.machine.specs.Setting.{smaller}
 use Rattle.run.specs.declared.Run.{Run}
 use Rattle.run.specs.declared.Place.{Place}
-use Rattle.run.specs.Turn.{placed, begins, runShape}
+use Rattle.run.specs.Turn.{begins, runShape}
+use Rattle.asking.specs.Parts.{placed}
 use borrow.Author.Needs.{needs}
 use Rattle.asking.proofs.is_begun.Statement.{statement}
 use Rattle.asking.proofs.is_begun.Tie as tie

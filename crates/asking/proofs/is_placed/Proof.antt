@@ -1,5 +1,5 @@
 use mathlib.Core.Path.{sym, ap, _∙_}
-use Rattle.run.specs.Turn.{placed}
+use Rattle.asking.specs.Parts.{placed}
 use borrow.Author.Needs.{needs}
 use Rattle.asking.proofs.is_placed.Statement.{statement}
 use Rattle.asking.proofs.is_placed.Tie as tie

@@ -1,5 +1,5 @@
-use mathlib.Core.Path.{_≡_, sym, _∙_}
-use mathlib.Core.Bool.{Bool, true}
+use mathlib.Core.Path.{_≡_, refl, sym, _∙_}
+use mathlib.Core.Bool.{Bool, true, false}
 use mathlib.Core.List.{[], _∷_}
 use borrow.Author.Tests.{not-true, not-false}
 use Rattle.machine.specs.Geometry.{permitted}
@@ -7,8 +7,9 @@ use Rattle.machine.specs.Setting.{smaller}
 use Rattle.machine.proofs.TestLaws.{each-every, fails, last}
 use Rattle.run.specs.declared.Run.{Run}
 use Rattle.run.specs.Start.{planned}
-use Rattle.run.specs.Turn.{placed, begins, runShape, soundRun}
-use Rattle.asking.specs.Parts.{numbered}
+use Rattle.run.specs.Turn.{begins, runShape, soundRun}
+use Rattle.asking.specs.Parts.{numbered, placed}
+use Rattle.asking.proofs.AskingLaws.{place-in}
 use borrow.Author.Needs.{needs}
 use Rattle.asking.proofs.is_sound_run.Statement.{statement}
 use Rattle.asking.proofs.is_sound_run.Tie as tie
@@ -44,7 +45,7 @@ unfolding soundRun
 returns c =
     let R = c .before .before .args .run in
     fails [] tt (lengths R) (sym (c .before .permitted-lengths .ensures) ∙ not-true (c .before .permitted-lengths .result) (c .if1 .taken))
-    (plans R ∷ places R ∷ blocks R ∷ [])
+    (plans R ∷ blocks R ∷ [])
 
 is-planned-requires : tie.Need-is-planned-requires
 is-planned-requires c κs = search needs
@@ -55,10 +56,23 @@ returns-2 c =
     let o = c .before .before .before in
     let R = o .before .before .args .run in
     fails (lengths R ∷ []) (ok-1 o, tt) (plans R) (sym (c .before .is-planned .ensures) ∙ not-true (c .before .is-planned .result) (c .if2 .taken))
-    (places R ∷ blocks R ∷ [])
+    (blocks R ∷ [])
 
 is-placed-requires : tie.Need-is-placed-requires
 is-placed-requires c κs = search needs
+
+-- the numbers that a run can hold
+ok-numbered : (c : tie.Else2) → numbered (c .before .before .before .before .before .args .run) ≡ true
+unfolding numbered
+ok-numbered c =
+    let o = c .before .before .before in
+    let R = o .before .before .args .run in
+    each-every (lengths R ∷ plans R ∷ []) (ok-1 o, (ok-2 c, tt))
+
+-- no block starts at a place outside the matrices
+outside : (R : Run) → numbered R ≡ true → places R ≡ false → (t : Bool) → blocks R ≡ t → t ≡ false
+outside R n f true e = sym (place-in R n (R .place) e) ∙ f
+outside R n f false e = refl
 
 returns-3 : tie.Need-returns-3
 unfolding soundRun
@@ -66,16 +80,11 @@ returns-3 c =
     let e = c .before .before in
     let o = e .before .before .before in
     let R = o .before .before .args .run in
-    fails (lengths R ∷ plans R ∷ []) (ok-1 o, (ok-2 e, tt)) (places R) (sym (c .before .is-placed .ensures) ∙ not-true (c .before .is-placed .result) (c .if3 .taken))
-    (blocks R ∷ [])
+    fails (lengths R ∷ plans R ∷ []) (ok-1 o, (ok-2 e, tt)) (blocks R)
+    (outside R (ok-numbered e) (sym (c .before .is-placed .ensures) ∙ not-true (c .before .is-placed .result) (c .if3 .taken)) (blocks R) refl) []
 
 is-begun-requires : tie.Need-is-begun-requires
-unfolding numbered
-is-begun-requires c κs =
-    let e = c .before .before in
-    let o = e .before .before .before in
-    let R = o .before .before .args .run in
-    (each-every (lengths R ∷ plans R ∷ []) (ok-1 o, (ok-2 e, tt)), ok-3 c)
+is-begun-requires c κs = (ok-numbered (c .before .before), ok-3 c)
 
 returns-4 : tie.Need-returns-4
 unfolding soundRun
@@ -84,7 +93,7 @@ returns-4 c =
     let e = f .before .before in
     let o = e .before .before .before in
     let R = o .before .before .args .run in
-    c .is-begun .ensures ∙ last (lengths R ∷ plans R ∷ places R ∷ []) (ok-1 o, (ok-2 e, (ok-3 f, tt))) (blocks R)
+    c .is-begun .ensures ∙ last (lengths R ∷ plans R ∷ []) (ok-1 o, (ok-2 e, tt)) (blocks R)
 
 pub is-sound-run-spec : {M : Type 1} → statement M
 is-sound-run-spec =

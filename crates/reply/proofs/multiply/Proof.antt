@@ -1,7 +1,6 @@
 use mathlib.Core.Path.{ap}
 use Prim.Native.Nat.{ℕ, _*_, _/_, _≤_}
 use native.Mathlib.Omega.{arith}
-use Rattle.run.specs.Statement.{Bytes}
 use Rattle.run.specs.Whole.{finishedAs}
 use Rattle.layout.proofs.LayoutLaws.{widths}
 use Rattle.reply.proofs.RunLaws.{c-fits, multiplied}
@@ -60,9 +59,8 @@ returns c =
     let t = q .before .before .before in
     let s = t .before .before .before .before .before in
     let a = s .args in
-    let bytes : Bytes (a .memory .now) = record { below = λ i. omega (arith, t .before .before .before .slice-known2 .given i); addressed = omega arith } in
     multiplied (a .sew) (a .factor) (a .m) (a .k) (a .n) (s .pre .1 .0) (s .pre .0 .0) (s .pre .0 .1 .0) (s .pre .0 .1 .1)
-    (t .start .result) (t .start .last .1 .1 .1 .1 .1 .0) (a .memory .now) (t .start .ensures) (s .pre .1 .1 .0) bytes
+    (t .start .result) (t .start .last .1 .1 .1 .1 .1 .0) (a .memory .now) (t .start .ensures) (s .pre .1 .1 .0)
     (q .plan-for .result) (q .plan-for .ensures)
     (finishedAs (p .product .result) (p .product .last .1 .1 .0) (p .product .last .1 .1 .1 .0) (p .product .last .1 .1 .1 .1 .0)) (p .product .ensures .1)
     (r .read-elements .last .0) (λ j l. r .read-elements .ensures .1 j (omega arith))

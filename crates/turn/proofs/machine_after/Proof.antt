@@ -10,7 +10,7 @@ use Rattle.step.specs.Parts.{withType}
 use Rattle.run.specs.declared.Place.{Place}
 use Rattle.run.specs.Words.{Op}
 use Rattle.run.specs.Plan.{typeOf}
-use Rattle.run.specs.Turn.{placed}
+use Rattle.asking.specs.Parts.{placed}
 use Rattle.asking.proofs.AskingLaws.{run-numbered, run-placed, run-planned, run-sizes, at-m, at-store, at-multiply}
 use Rattle.run.proofs.WordLaws.{decode-type, decode-m, decode-n, decode-k}
 use Rattle.turn.specs.Parts.{Carried}

@@ -1,0 +1,127 @@
+-- Demand 2 over any list of acts: each keeps the seal and the sealed bytes.
+use mathlib.Core.Path.{_≡_, refl, sym, ap, _∙_, subst}
+use mathlib.Core.Bool.{Bool, true, false, cond}
+use mathlib.Core.List.{List, [], _∷_}
+use mathlib.Core.Option.{Option, none, some}
+use Prim.Native.Nat.{ℕ, zero, suc}
+use native.Mathlib.Omega.{arith}
+use lib.ListN.{length, getD, replicate}
+use Rattle.machine.specs.declared.Answer.the-variants.{Done, BadArguments}
+use Rattle.machine.specs.Answers.{number}
+use Rattle.machine.specs.Geometry.{Parameters, parameters, sealed, Bench, benchOf}
+use Rattle.machine.specs.Starting.{startable, startMachine, StartOutcome, freshMachine, noMachine}
+use Rattle.machine.specs.Theorems.{Unharmed, startedBench}
+use Rattle.machine.proofs.TestLaws.{in-within}
+use Rattle.machine.proofs.Sealing.{step-unharmed}
+use Rattle.run.specs.declared.Handed.{Handed}
+use Rattle.run.specs.Words.{Op, steps}
+use Rattle.run.specs.Plan.{shape}
+use Rattle.run.specs.Start.{startRun}
+use Rattle.run.specs.Encoding.{own, handedFor}
+use Rattle.run.specs.Turn.{handsOut, Running, running, turn, afterTurns}
+use Rattle.run.specs.Statement.{jobOf, startedRun}
+use Rattle.run.specs.Acts.{Act, Session, session, act, afterActs, lentBy, lentLast}
+use Rattle.run.specs.Theorems.{SealHoldsOverActs, SealKept, SealHoldsOverActsFromStart}
+use Rattle.run.proofs.HandedLaws.{turnWith}
+
+-- ---- one after another
+
+harmless : (grant : ℕ → ℕ → ℕ) (B : Bench) → Unharmed grant B B
+harmless grant B = record { same-parameters = refl; same-length = refl; same-bytes = λ q h. refl }
+
+then : (grant : ℕ → ℕ → ℕ) (B C D : Bench) → Unharmed grant B C → Unharmed grant C D → Unharmed grant B D
+then grant B C D u v = record {
+  same-parameters = v .same-parameters ∙ u .same-parameters;
+  same-length = v .same-length ∙ u .same-length;
+  same-bytes = λ q h. v .same-bytes q (subst (λ (M : Parameters). sealed M q ≡ true) (sym (u .same-parameters)) h) ∙ u .same-bytes q h;
+}
+
+-- ---- turns
+
+turn-unharmed : (grant : ℕ → ℕ → ℕ) (r : Running) → Unharmed grant (r .bench) (turn grant r .after .bench)
+turn-unharmed grant r = go (handsOut grant (r .run))
+  where
+    go : (o : Option Op) → Unharmed grant (r .bench) (turnWith grant r o .after .bench)
+    go none = harmless grant (r .bench)
+    go (some o) = let h : Handed = handedFor (r .run .plan) o in step-unharmed grant (h .word) (own h) (r .bench)
+
+turns-unharmed : (grant : ℕ → ℕ → ℕ) (r : Running) (t : ℕ) → Unharmed grant (r .bench) (afterTurns grant r t .bench)
+turns-unharmed grant r zero = harmless grant (r .bench)
+turns-unharmed grant r (suc t) =
+    then grant (r .bench) (afterTurns grant r t .bench) (afterTurns grant r (suc t) .bench) (turns-unharmed grant r t) (turn-unharmed grant (afterTurns grant r t))
+
+-- ---- acts
+
+-- a bench with another memory
+abbrev lent : Bench → List ℕ → Bench
+lent B memory = benchOf (B .machine) (B .registers) (B .marks) memory
+
+act-unharmed : (grant : ℕ → ℕ → ℕ) (a : Act) (S : Session) → Unharmed grant (lent (S .bench) (lentBy a (S .bench .memory))) (act grant a S .after .bench)
+unfolding startRun
+act-unharmed grant (Act.lend xs memory) S = harmless grant (lent (S .bench) memory)
+act-unharmed grant (Act.step word) S = step-unharmed grant word (S .scalars) (S .bench)
+act-unharmed grant (Act.runStart P) S = harmless grant (S .bench)
+act-unharmed grant Act.runNext S = harmless grant (S .bench)
+act-unharmed grant Act.runTurn S = turn-unharmed grant (running (S .run) (S .bench))
+act-unharmed grant (Act.runTurns n) S = turns-unharmed grant (running (S .run) (S .bench)) n
+act-unharmed grant (Act.run P) S = turns-unharmed grant (startedRun grant P (S .bench)) (steps (shape (jobOf grant P (S .bench))))
+
+-- what two memories have in common stays, once others are lent to both
+lent-same : (Q : List ℕ → List ℕ → Type 0) → ((m : List ℕ) → Q m m) → (acts : List Act) (m m′ : List ℕ) → Q m m′ → Q (lentLast acts m) (lentLast acts m′)
+lent-same Q r [] m m′ h = h
+lent-same Q r (Act.lend xs memory ∷ acts) m m′ h = r (lentLast acts memory)
+lent-same Q r (Act.step word ∷ acts) m m′ h = lent-same Q r acts m m′ h
+lent-same Q r (Act.runStart P ∷ acts) m m′ h = lent-same Q r acts m m′ h
+lent-same Q r (Act.runNext ∷ acts) m m′ h = lent-same Q r acts m m′ h
+lent-same Q r (Act.runTurn ∷ acts) m m′ h = lent-same Q r acts m m′ h
+lent-same Q r (Act.runTurns n ∷ acts) m m′ h = lent-same Q r acts m m′ h
+lent-same Q r (Act.run P ∷ acts) m m′ h = lent-same Q r acts m m′ h
+
+lent-unharmed : (grant : ℕ → ℕ → ℕ) (acts : List Act) (B C : Bench) → Unharmed grant B C
+    → Unharmed grant (lent B (lentLast acts (B .memory))) (lent C (lentLast acts (C .memory)))
+lent-unharmed grant acts B C u = record {
+  same-parameters = u .same-parameters;
+  same-length = lent-same (λ m m′. length m′ ≡ length m) (λ m. refl) acts (B .memory) (C .memory) (u .same-length);
+  same-bytes = λ q h. lent-same (λ m m′. getD m′ q 0 ≡ getD m q 0) (λ m. refl) acts (B .memory) (C .memory) (u .same-bytes q h);
+}
+
+pub seal-holds-over-acts : SealHoldsOverActs
+seal-holds-over-acts grant [] S = harmless grant (S .bench)
+seal-holds-over-acts grant (a ∷ acts) S =
+    let S′ : Session = act grant a S .after in
+    then grant (lent (S .bench) (lentLast acts (lentBy a (S .bench .memory)))) (lent (S′ .bench) (lentLast acts (S′ .bench .memory))) (afterActs grant acts S′ .bench)
+    (lent-unharmed grant acts (lent (S .bench) (lentBy a (S .bench .memory))) (S′ .bench) (act-unharmed grant a S))
+    (seal-holds-over-acts grant acts S′)
+
+-- ---- from a start
+
+module _ (grant : ℕ → ℕ → ℕ) (rlen mlen sealStart sealLength : ℕ) (registers marks memory : List ℕ) where
+  abbrev B₀ : Bench
+  B₀ = startedBench rlen mlen sealStart sealLength registers marks memory
+
+  fresh : number (startMachine rlen mlen sealStart sealLength registers marks .answer) ≡ 0
+      → startMachine rlen mlen sealStart sealLength registers marks .machine ≡ freshMachine rlen mlen sealStart sealLength
+  unfolding startMachine
+  fresh = go (startable rlen mlen sealStart sealLength registers marks)
+    where
+      out : Bool → StartOutcome
+      out t = cond t (record { answer = Done; machine = freshMachine rlen mlen sealStart sealLength; registers = registers; marks = replicate (length marks) 0 })
+          (record { answer = BadArguments; machine = noMachine; registers = registers; marks = marks })
+
+      go : (t : Bool) → number (out t .answer) ≡ 0 → out t .machine ≡ freshMachine rlen mlen sealStart sealLength
+      go true e = refl
+      go false e = absurd (omega arith)
+
+  pub kept-from : (B : Bench) (mem : List ℕ) → number (startMachine rlen mlen sealStart sealLength registers marks .answer) ≡ 0 → Unharmed grant (lent B₀ mem) B → SealKept sealStart sealLength mem B
+  kept-from B mem e u =
+      let p : parameters grant (B .machine) ≡ parameters grant (freshMachine rlen mlen sealStart sealLength) = u .same-parameters ∙ ap (parameters grant) (fresh e) in
+      record {
+        same-start = ap (λ (M : Parameters). M .sealAt) p;
+        same-length = ap (λ (M : Parameters). M .sealLen) p;
+        same-bytes = λ q x. u .same-bytes q (subst (λ (M : Parameters). sealed M q ≡ true) (sym (ap (parameters grant) (fresh e))) (in-within sealStart sealLength q x));
+      }
+
+pub seal-holds-over-acts-from-start : SealHoldsOverActsFromStart
+seal-holds-over-acts-from-start grant rlen mlen sealStart sealLength registers marks memory scalars R e acts =
+    let S : Session = session (startedBench rlen mlen sealStart sealLength registers marks memory) scalars R in
+    kept-from grant rlen mlen sealStart sealLength registers marks memory (afterActs grant acts S .bench) (lentLast acts memory) e (seal-holds-over-acts grant acts S)

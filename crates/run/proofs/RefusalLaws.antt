@@ -1,0 +1,91 @@
+-- Refusals of a run: a turn that is refused changes nothing, and the run of a refused start hands out nothing.
+use mathlib.Core.Path.{_≡_, refl, sym, ap, ap₂, _∙_, subst}
+use mathlib.Core.Bool.{Bool, true, false, cond}
+use mathlib.Core.Option.{Option, none, some}
+use Prim.Native.Nat.{ℕ, zero, suc, _+_}
+use native.Mathlib.Nat.{add-zero}
+use borrow.Author.Tests.{eq-eqb, ne-eqb}
+use Rattle.machine.specs.declared.Answer.{Answer}
+use Rattle.machine.specs.declared.Answer.the-variants.{BadArguments}
+use Rattle.machine.specs.Answers.{number, isDone}
+use Rattle.machine.specs.Geometry.{Bench, permitted}
+use Rattle.machine.specs.Step.{Outcome, stepBy}
+use Rattle.machine.proofs.TestLaws.{false-true}
+use Rattle.machine.proofs.Refusal.{refusal-changes-nothing, done-is-zero}
+use Rattle.run.specs.declared.Plan.{Plan}
+use Rattle.run.specs.declared.Run.{Run}
+use Rattle.run.specs.declared.Handed.{Handed}
+use Rattle.run.specs.Words.{Op}
+use Rattle.run.specs.Encoding.{own, handedFor}
+use Rattle.run.specs.Start.{startRun, freshRun, noRun}
+use Rattle.run.specs.Turn.{soundRun, handsOut, moved, Ask, ask, Running, running, Turn, turn, afterTurns, answeredDone}
+use Rattle.run.specs.Statement.{Idle, startedRun}
+use Rattle.run.proofs.HandedLaws.{askWith, turnWith}
+
+-- ---- answers by their numbers
+
+pub number-done : (a : Answer) → number a ≡ 0 → isDone a ≡ true
+number-done a e = done-is-zero a ∙ eq-eqb (number a) 0 e
+
+pub number-refused : (a : Answer) → ¬ (number a ≡ 0) → isDone a ≡ false
+number-refused a d = done-is-zero a ∙ ne-eqb (number a) 0 d
+
+-- ---- a refused turn
+
+pub turn-refused : (grant : ℕ → ℕ → ℕ) (r : Running) → isDone (turn grant r .answer) ≡ false → turn grant r .after ≡ r
+turn-refused grant r = go (handsOut grant (r .run))
+  where
+    stays : (h : Handed) (R : Run) → let out : Outcome = stepBy grant (h .word) (own h) (r .bench) in
+        isDone (out .answer) ≡ false → running (cond (isDone (out .answer)) R (r .run)) (out .bench) ≡ r
+    stays h R d =
+        ap₂ (λ (t : Bool) (B : Bench). running (cond t R (r .run)) B) d
+        (refusal-changes-nothing grant (h .word) (own h) (r .bench) (λ e. false-true (sym d ∙ ap isDone e)) .0)
+
+    go : (o : Option Op) → isDone (turnWith grant r o .answer) ≡ false → turnWith grant r o .after ≡ r
+    go none d = refl
+    go (some o) d = stays (handedFor (r .run .plan) o) (moved grant (r .run)) d
+
+-- ---- a refused start
+
+module _ (grant : ℕ → ℕ → ℕ) (P : Plan) (B : Bench) where
+  -- a run that hands out nothing
+  abbrev nothing : Running
+  nothing = running (noRun P) B
+
+  hands-none : handsOut grant (noRun P) ≡ none
+  unfolding soundRun permitted
+  hands-none = refl
+
+  abbrev refused : Running → Turn
+  refused r = record { answer = BadArguments; handed = none; after = r }
+
+  no-turn : turn grant nothing ≡ refused nothing
+  no-turn = ap (turnWith grant nothing) hands-none
+
+  stands : (t : ℕ) → afterTurns grant nothing t ≡ nothing
+  stands zero = refl
+  stands (suc t) = ap (λ (r : Running). turn grant r .after) (stands t) ∙ ap (λ (u : Turn). u .after) no-turn
+
+  no-count : (t : ℕ) → answeredDone grant nothing t ≡ 0
+  no-count zero = refl
+  no-count (suc t) =
+      ap₂ (λ (n : ℕ) (u : Turn). n + cond (isDone (u .answer)) 1 0) (no-count t) (ap (turn grant) (stands t) ∙ no-turn)
+      ∙ add-zero 0
+
+  idle : (t : ℕ) → Idle grant nothing t
+  idle t =
+      let u = ap (turn grant) (stands t) ∙ no-turn in
+      let a = ap (λ (r : Running). ask grant (r .run)) (stands t) ∙ ap (askWith grant (noRun P)) hands-none in
+      record {
+        unchanged = stands t;
+        no-turn = record { answers = ap (λ (u : Turn). number (u .answer)) u; hands-out = ap (λ (u : Turn). u .handed) u; leaves = ap (λ (u : Turn). u .after) u };
+        no-step = record { answers = ap (λ (a : Ask). number (a .answer)) a; hands-out = ap (λ (a : Ask). a .handed) a; leaves = ap (λ (a : Ask). a .run) a };
+        no-count = no-count t;
+      }
+
+  pub run-refused : isDone (startRun grant P B .answer) ≡ false → startedRun grant P B ≡ nothing
+  unfolding startRun
+  run-refused h = ap (λ (t : Bool). running (cond t (freshRun (B .machine) P) (noRun P)) B) h
+
+  pub started-idle : ¬ (number (startRun grant P B .answer) ≡ 0) → (t : ℕ) → Idle grant (startedRun grant P B) t
+  started-idle d t = subst (λ (r : Running). Idle grant r t) (sym (run-refused (number-refused (startRun grant P B .answer) d))) (idle t)

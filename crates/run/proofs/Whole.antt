@@ -1,0 +1,43 @@
+-- A whole run delivers what its statement says.
+use mathlib.Core.Path.{_≡_, refl, sym, _∙_, subst}
+use mathlib.Core.Bool.{Bool, true, false}
+use Prim.Native.Nat.{ℕ, min}
+use native.Mathlib.Omega.{arith}
+use lib.Dec.{eqb}
+use borrow.Author.Tests.{eqb-true, eqb-false}
+use Rattle.machine.specs.Answers.{number}
+use Rattle.machine.specs.Geometry.{Bench}
+use Rattle.machine.specs.Setting.{smaller}
+use Rattle.run.specs.declared.Plan.{Plan}
+use Rattle.run.specs.Words.{steps}
+use Rattle.run.specs.Plan.{Kept, shape}
+use Rattle.run.specs.Start.{startRun}
+use Rattle.run.specs.Statement.{Demand3, jobOf}
+use Rattle.run.specs.Whole.{whole, WholeDelivers}
+use Rattle.run.proofs.Demand1.{whole-refusal-changes-nothing}
+use Rattle.run.proofs.Demand3.{demand-3-ours}
+
+min-self : (n : ℕ) → min n n ≡ n
+min-self n = omega arith
+
+-- memory outside C is kept, whether the start is accepted or not
+kept : (P : Plan) (B : Bench) → Demand3 smaller P B → Kept (jobOf smaller P B) (whole smaller P B .bench .memory)
+kept P B D = go (eqb (number (startRun smaller P B .answer)) 0) refl
+  where
+    go : (t : Bool) → eqb (number (startRun smaller P B .answer)) 0 ≡ t → Kept (jobOf smaller P B) (whole smaller P B .bench .memory)
+    go true h = D .turns (eqb-true (number (startRun smaller P B .answer)) 0 h) (steps (shape (jobOf smaller P B))) .kept
+    go false h =
+        subst (λ (C : Bench). Kept (jobOf smaller P B) (C .memory)) (sym (whole-refusal-changes-nothing smaller P B (eqb-false (number (startRun smaller P B .answer)) 0 h) .1))
+        (record { same-length = refl; outside = λ q d. refl })
+
+pub whole-delivers : WholeDelivers
+whole-delivers P B bytes =
+    let all : ℕ = steps (shape (jobOf smaller P B)) in
+    let D : Demand3 smaller P B = demand-3-ours P B bytes in
+    record {
+      answered = D .answered;
+      refused = whole-refusal-changes-nothing smaller P B;
+      counted = λ e. D .turns e all .count ∙ min-self all;
+      product = λ e. D .turns e all .product (omega arith);
+      kept = kept P B D;
+    }

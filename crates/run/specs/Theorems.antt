@@ -1,0 +1,62 @@
+-- Demands 1 and 2 where product runs are made. The proofs stand in proofs/.
+use mathlib.Core.Path.{_≡_}
+use mathlib.Core.List.{List}
+use mathlib.Core.Option.{none}
+use Prim.Native.Nat.{ℕ}
+use lib.ListN.{getD}
+use Rattle.width.specs.Tile.{In}
+use Rattle.machine.specs.Answers.{number}
+use Rattle.machine.specs.Geometry.{Bench, benchOf}
+use Rattle.machine.specs.Starting.{startMachine}
+use Rattle.machine.specs.Theorems.{startedBench, Unharmed}
+use Rattle.run.specs.declared.Plan.{Plan}
+use Rattle.run.specs.declared.Run.{Run}
+use Rattle.run.specs.Start.{startRun}
+use Rattle.run.specs.Turn.{ask, Running, turn, turns}
+use Rattle.run.specs.Whole.{whole}
+use Rattle.run.specs.Acts.{Act, Session, session, afterActs, lentLast}
+
+-- ---- demand 1: "A refusal changes nothing lent or held." For every choice of sizes, run, machine, state and memory; also for runs that
+-- no start made
+
+-- a start changes neither machine nor memory, accepted or refused
+abbrev pub RunStartChangesNothing : Type 0
+RunStartChangesNothing = (grant : ℕ → ℕ → ℕ) (P : Plan) (B : Bench) → startRun grant P B .bench ≡ B
+
+-- asking that is not answered 0 hands out nothing and leaves the run
+abbrev pub AskRefusalChangesNothing : Type 0
+AskRefusalChangesNothing = (grant : ℕ → ℕ → ℕ) (R : Run) → ¬ (number (ask grant R .answer) ≡ 0)
+    → (ask grant R .handed ≡ none) × (ask grant R .run ≡ R)
+
+-- a turn that is not answered 0 leaves the run, the machine, its registers and marks, and the memory
+abbrev pub TurnRefusalChangesNothing : Type 0
+TurnRefusalChangesNothing = (grant : ℕ → ℕ → ℕ) (r : Running) → ¬ (number (turn grant r .answer) ≡ 0) → turn grant r .after ≡ r
+
+-- and so do n turns of which none is answered 0
+abbrev pub NoTurnChangesNothing : Type 0
+NoTurnChangesNothing = (grant : ℕ → ℕ → ℕ) (r : Running) (n : ℕ) → turns grant r n .count ≡ 0 → turns grant r n .after ≡ r
+
+-- a whole run that is not answered 0 takes no turn that is done, and changes nothing
+abbrev pub WholeRefusalChangesNothing : Type 0
+WholeRefusalChangesNothing = (grant : ℕ → ℕ → ℕ) (P : Plan) (B : Bench) → ¬ (number (whole grant P B .answer) ≡ 0)
+    → (whole grant P B .count ≡ 0) × (whole grant P B .bench ≡ B)
+
+-- ---- demand 2: no sealed byte changes, over any list of words, run starts, asking, turns and whole runs
+
+-- on any machine: the seal stays, and the sealed bytes are those of the memory that was lent last
+abbrev pub SealHoldsOverActs : Type 0
+SealHoldsOverActs = (grant : ℕ → ℕ → ℕ) (acts : List Act) (S : Session)
+    → Unharmed grant (benchOf (S .bench .machine) (S .bench .registers) (S .bench .marks) (lentLast acts (S .bench .memory))) (afterActs grant acts S .bench)
+
+-- a bench with this seal, whose sealed bytes are those of this memory
+pub record SealKept (sealStart sealLength : ℕ) (memory : List ℕ) (B : Bench) : Type 0 where
+  pub same-start : B .machine .«seal_start» ≡ sealStart
+  pub same-length : B .machine .«seal_length» ≡ sealLength
+  pub same-bytes : (q : ℕ) → In sealStart sealLength q → getD (B .memory) q 0 ≡ getD memory q 0
+
+-- and from a started machine, with any scalars and whatever run was there before: the range that it was started with
+abbrev pub SealHoldsOverActsFromStart : Type 0
+SealHoldsOverActsFromStart = (grant : ℕ → ℕ → ℕ) (rlen mlen sealStart sealLength : ℕ) (registers marks memory scalars : List ℕ) (R : Run)
+    → number (startMachine rlen mlen sealStart sealLength registers marks .answer) ≡ 0 → (acts : List Act)
+    → SealKept sealStart sealLength (lentLast acts memory)
+    (afterActs grant acts (session (startedBench rlen mlen sealStart sealLength registers marks memory) scalars R) .bench)
