@@ -293,8 +293,8 @@ table-decodes word o =
 
 -- ---- for code: a block of the table, and the entries that fix bits 24..20
 
-pub row-is : (high k middle : ℕ) → high ≡ k → getD (getD numbers k []) middle [] ≡ getD (getD numbers high []) middle []
-row-is high k middle e = ap (λ (h : ℕ). getD (getD numbers h []) middle []) (sym e)
+pub entry-is : (high k middle form : ℕ) → high ≡ k → getD (getD (getD numbers k []) middle []) form 0 ≡ getD (getD (getD numbers high []) middle []) form 0
+entry-is high k middle form e = ap (λ (h : ℕ). getD (getD (getD numbers h []) middle []) form 0) (sym e)
 
 -- what a match on a, a + 1, .. says where none is met
 abbrev pub Above : ℕ → ℕ → ℕ → Type 0

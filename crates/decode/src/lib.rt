@@ -7,7 +7,7 @@ use machine::Instruction;
 use machine::Matrix;
 use machine::Sum;
 use machine::Wrong;
-use table::row;
+use table::entry;
 ghost use mathlib.Core.Path.{_≡_};
 ghost use Prim.Native.Nat.{_<_, _≤_};
 ghost use Rattle.machine.specs.Listing.{field7, field15, field20, immediate13, listing, decode, ranged};
@@ -224,8 +224,7 @@ fn number_of(word: u32) -> u8
     let high = word / 268435456;
     let middle = (word / 33554432 % 8) as usize;
     let form = (word / 4096 % 8) as usize;
-    let entries = row(high, middle);
-    entries[form]
+    entry(high, middle, form)
 }
 
 // The entries that fix bits 24..20 at zero.

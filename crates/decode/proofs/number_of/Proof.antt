@@ -1,5 +1,5 @@
-use mathlib.Core.Path.{_≡_, ap, ap₂, _∙_}
-use mathlib.Core.List.{List, []}
+use mathlib.Core.Path.{_≡_, ap₂, _∙_}
+use mathlib.Core.List.{[]}
 use Prim.Native.Nat.{ℕ, _/_, _%_}
 use native.Mathlib.Omega.{arith}
 use lib.ListN.{getD}
@@ -15,18 +15,15 @@ cast-middle c = search needs
 cast-form : tie.Need-cast-form
 cast-form c = search needs
 
-row-requires : tie.Need-row-requires
-row-requires c κs = search needs
-
-array-read-result : tie.Need-array-read-result
-array-read-result c = search needs
+entry-requires : tie.Need-entry-requires
+entry-requires c κs = search needs
 
 returns : tie.Need-returns
 returns c =
     let w = c .before .args .word in
     let high : w / 268435456 ≡ bits 31 28 w = omega arith in
     let middle : w / 33554432 % 8 ≡ bits 27 25 w = omega arith in
-    ap (λ (row : List ℕ). getD row (bits 14 12 w) 0) (c .row .ensures ∙ ap₂ (λ (h m : ℕ). getD (getD numbers h []) m []) high middle)
+    c .entry .ensures ∙ ap₂ (λ (h m : ℕ). getD (getD (getD numbers h []) m []) (bits 14 12 w) 0) high middle
 
 pub number-of-spec : {M : Type 1} → statement M
-number-of-spec = tie.close (tie.spec cast-middle cast-form row-requires array-read-result returns)
+number-of-spec = tie.close (tie.spec cast-middle cast-form entry-requires returns)
