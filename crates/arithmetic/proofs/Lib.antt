@@ -1,8 +1,4 @@
--- Laws of the code's loops, then what a step needs: the effects as Operation has them, and what the checks give.
-pub mod LoopLaws
-pub mod RowLaws
-pub mod TurnLaws
+-- Laws of the code's loops; and what the checks of a step give.
 pub mod RoomLaws
 pub mod WeightLaws
-pub mod PairLaws
 pub mod Arms

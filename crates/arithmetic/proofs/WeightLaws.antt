@@ -1,11 +1,15 @@
--- Weighted sums are the element-wise instructions.
+-- Weighted sums: rows written one after another hold the values that every element had at entry, and the whole is the element-wise instructions.
 use mathlib.Core.Path.{_≡_, refl, sym, ap, ap₂, _∙_}
 use mathlib.Core.List.{List}
-use mathlib.Core.Logic.{inl, inr}
-use Prim.Native.Nat.{ℕ, zero, _+_, _*_, _%_, _^_, _≤_, _<_}
+use mathlib.Core.Logic.{_⊎_, inl, inr}
+use Prim.Native.Nat.{ℕ, zero, suc, _+_, _*_, _%_, _^_, _≤_, _<_}
+use native.Mathlib.Nat.{mul-le-mul-right}
+use native.Mathlib.Omega.{arith}
 use lib.IntN.{ℤ, one, pos, negsuc, negℤ, _+ℤ_, _*ℤ_, *ℤ-one, zero-*ℤ, *ℤ-negsuc, *ℤ-comm, +ℤ-comm, +ℤ-idl}
 use Rattle.width.specs.Reduce.{signed, reduce}
-use Rattle.width.proofs.ElementLaws.{pow-256, cut}
+use Rattle.width.specs.Tile.{In, putRow}
+use Rattle.width.proofs.ElementLaws.{pow-256, cut, still, tile-turn}
+use Rattle.width.proofs.BlockLaws.{le-or-lt}
 use Rattle.width.proofs.PutLaws.{putTile-low}
 use Rattle.width.proofs.SumLaws.{again, same-sum, same-product}
 use Rattle.machine.specs.declared.Sum.{Sum}
@@ -13,8 +17,56 @@ use Rattle.machine.specs.declared.Sum.the-variants.{Add, Subtract, ReverseSubtr
 use Rattle.machine.specs.Geometry.{Parameters, accAt}
 use Rattle.machine.specs.Operation.{sumOf, sumAt, scaledAt}
 use Rattle.element.specs.Element.{Width}
-use Rattle.arithmetic.specs.Effect.{combineTile, scaleTile}
-use Rattle.arithmetic.specs.Rows.{signedLe, weightedRow, weightedTile}
+use Rattle.arithmetic.specs.Effect.{shape, combineTile, scaleTile}
+use Rattle.arithmetic.specs.Weights.{weightedTile}
+use Rattle.sums.specs.Rows.{signedLe, weightedRow}
+
+-- ---- a turn over the rows of two accumulators, or twice the same
+
+-- a row does not meet an earlier row of the tile that is written
+acc-apart : (rows pitch d a i k : ℕ) → d < 2 → a < 2 → k < i → i < rows → (v n : ℕ) → v ≤ 4 * pitch → n ≤ 4 * pitch
+    → (q : ℕ) → In (accAt (shape rows pitch) a i) v q → (In (accAt (shape rows pitch) d k) n q → ⊥)
+acc-apart rows pitch d a i k ld la lk li v n hv hn q x y = go (le-or-lt a d) (le-or-lt d a)
+  where
+    z : ℕ
+    z = rows * pitch
+
+    hi : suc i * (4 * pitch) ≤ rows * (4 * pitch)
+    hi = mul-le-mul-right (4 * pitch) li
+
+    hk : suc k * (4 * pitch) ≤ i * (4 * pitch)
+    hk = mul-le-mul-right (4 * pitch) lk
+
+    go : (a ≤ d) ⊎ (d < a) → (d ≤ a) ⊎ (a < d) → ⊥
+    go (inl h) (inl g) =
+        let e : a ≡ d = omega arith in
+        let f : a * z ≡ d * z = ap (λ (t : ℕ). t * z) e in
+        omega (arith, hi, hk, f)
+    go (inl h) (inr g) = omega (arith, hi, hk, mul-le-mul-right z g)
+    go (inr h) _ = omega (arith, hi, hk, mul-le-mul-right z h)
+
+pub weighted-turn : (rows pitch w cw d a x y m n i from to : ℕ) (s r out : List ℕ) → d < 2 → a < 2 → m ≤ rows → i < m
+    → n * w ≤ 4 * pitch → n * cw ≤ 4 * pitch → r ≡ weightedTile (shape rows pitch) cw w d a x y i n s
+    → from ≡ accAt (shape rows pitch) a i → to ≡ accAt (shape rows pitch) d i
+    → out ≡ putRow to n cw (weightedRow r from to w cw x y) r → out ≡ weightedTile (shape rows pitch) cw w d a x y (i + 1) n s
+unfolding weightedTile
+weighted-turn rows pitch w cw d a x y m n i from to s r out ld la lm li hw hcw er ef et eo =
+    tile-turn (accAt M d) n cw value s r i er to (weightedRow r from to w cw x y) out et eo
+    (λ j l. ap₂ (λ (p q : ℕ). weightedRow r p q w cw x y j) ef et
+    ∙ ap₂ (λ (D A : ℤ). reduce (256 ^ cw) (signed (256 ^ cw) x *ℤ D +ℤ signed (256 ^ cw) y *ℤ A)) (same d ld cw hcw j l) (same a la w hw j l))
+  where
+    M : Parameters
+    M = shape rows pitch
+
+    value : ℕ → ℕ → ℕ
+    value k = weightedRow s (accAt M a k) (accAt M d k) w cw x y
+
+    same : (b : ℕ) → b < 2 → (v : ℕ) → n * v ≤ 4 * pitch → (j : ℕ) → j < n → signedLe r (accAt M b i + j * v) v ≡ signedLe s (accAt M b i + j * v) v
+    same b lb v hv j l =
+        ap (signed (256 ^ v)) (still (accAt M d) n cw value s r i er (accAt M b i + j * v) v
+        (λ k lk q hq. acc-apart rows pitch d b i k ld lb lk (omega arith) (n * v) (n * cw) hv hcw q (omega (arith, hq, mul-le-mul-right v l))))
+
+-- ---- the element-wise instructions
 
 -- the weights of md and of ms1
 abbrev pub weightD : Sum → ℤ

@@ -1,4 +1,3 @@
--- The effect of the instructions; what the rows of the code hold; and the pairs of its faster form.
+-- The effect of the instructions; and what the weighted sums leave.
 pub mod Effect
-pub mod Rows
-pub mod Pairs
+pub mod Weights

@@ -1,10 +1,6 @@
 // The effect of multiply, add, subtract, reverse subtract and multiply by a number on the register bytes.
-// An element of the output has 1, 2 or 4 bytes, and its sums are kept at that width: sums8, sums16, sums32 and pairs.
-mod pairs;
+// An element of the output has 1, 2 or 4 bytes, and its sums are kept at that width: crates sums and pairs.
 mod rows;
-mod sums16;
-mod sums32;
-mod sums8;
 mod weights;
 
 use machine::Sum;
@@ -17,7 +13,7 @@ ghost use Rattle.width.specs.Reduce.{reduce};
 ghost use Rattle.width.specs.Tile.{putTile};
 ghost use Rattle.element.specs.Element.{Width};
 ghost use Rattle.arithmetic.specs.Effect.{shape, productTile, combineTile, scaleTile};
-ghost use Rattle.arithmetic.specs.Rows.{productRow};
+ghost use Rattle.sums.specs.Rows.{productRow};
 
 // All rows of C: in pairs where elements of one or two bytes make sums of four, else row by row.
 fn multiply_rows(

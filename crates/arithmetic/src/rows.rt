@@ -4,7 +4,7 @@ ghost use Prim.Native.Nat.{_+_, _*_, _≤_};
 ghost use lib.ListN.{length};
 ghost use Rattle.width.specs.Tile.{putRow, putTile};
 ghost use Rattle.element.specs.Element.{Width};
-ghost use Rattle.arithmetic.specs.Rows.{productRow};
+ghost use Rattle.sums.specs.Rows.{productRow};
 
 // One row of C, with sums at the output's width.
 fn multiply_row(
@@ -25,14 +25,14 @@ fn multiply_row(
     ensures { λ _. ⌜ now (s .exit) ≡ putRow c n wide (productRow (now (s .entry)) wide width pitch k a b c) (now (s .entry)) ⌝ }
 {
     if wide == 1 {
-        crate::sums8::multiply_row(s, a, b, c, pitch, k, n);
+        sums::sums8::multiply_row(s, a, b, c, pitch, k, n);
         return;
     }
     if wide == 2 {
-        crate::sums16::multiply_row(s, a, b, c, pitch, width, k, n);
+        sums::sums16::multiply_row(s, a, b, c, pitch, width, k, n);
         return;
     }
-    crate::sums32::multiply_row(s, a, b, c, pitch, width, k, n);
+    sums::sums32::multiply_row(s, a, b, c, pitch, width, k, n);
 }
 
 // All rows of C, one after another.

@@ -5,7 +5,8 @@ ghost use lib.ListN.{length};
 ghost use Rattle.width.specs.Tile.{putRow};
 ghost use Rattle.element.specs.Element.{Width};
 ghost use Rattle.arithmetic.specs.Effect.{shape};
-ghost use Rattle.arithmetic.specs.Rows.{weightedRow, weightedTile};
+ghost use Rattle.arithmetic.specs.Weights.{weightedTile};
+ghost use Rattle.sums.specs.Rows.{weightedRow};
 
 // The row at `to` becomes x times itself plus y times the row at `from`, with sums at the output's width.
 fn weigh_row(
@@ -24,14 +25,14 @@ fn weigh_row(
     ensures { λ _. ⌜ now (s .exit) ≡ putRow to n wide (weightedRow (now (s .entry)) from to width wide (x % 256 ^ wide) (y % 256 ^ wide)) (now (s .entry)) ⌝ }
 {
     if wide == 1 {
-        crate::sums8::weigh_row(s, from, to, n, element::low8(x), element::low8(y));
+        sums::sums8::weigh_row(s, from, to, n, element::low8(x), element::low8(y));
         return;
     }
     if wide == 2 {
-        crate::sums16::weigh_row(s, from, to, width, n, element::low16(x), element::low16(y));
+        sums::sums16::weigh_row(s, from, to, width, n, element::low16(x), element::low16(y));
         return;
     }
-    crate::sums32::weigh_row(s, from, to, width, n, x, y);
+    sums::sums32::weigh_row(s, from, to, width, n, x, y);
 }
 
 // Accumulator d becomes x times itself plus y times accumulator a.

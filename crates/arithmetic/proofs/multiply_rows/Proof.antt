@@ -4,7 +4,7 @@ use mathlib.Core.Path.{sym, ap, _∙_}
 use Prim.Native.Nat.{ℕ, _+_, _*_}
 use Rattle.width.specs.Tile.{putTile}
 use Rattle.element.proofs.Laws.{not-4}
-use Rattle.arithmetic.specs.Rows.{productRow}
+use Rattle.sums.specs.Rows.{productRow}
 use borrow.Author.Needs.{needs}
 use Rattle.arithmetic.proofs.multiply_rows.Statement.{statement}
 use Rattle.arithmetic.proofs.multiply_rows.Tie as tie

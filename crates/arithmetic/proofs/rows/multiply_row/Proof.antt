@@ -4,7 +4,7 @@ use mathlib.Core.Path.{sym, ap, ap₂, _∙_}
 use Prim.Native.Nat.{ℕ, _*_}
 use Rattle.width.specs.Tile.{putRow}
 use Rattle.element.proofs.Laws.{is1, is4, narrow}
-use Rattle.arithmetic.specs.Rows.{productRow}
+use Rattle.sums.specs.Rows.{productRow}
 use borrow.Author.Needs.{needs}
 use Rattle.arithmetic.proofs.rows.multiply_row.Statement.{statement}
 use Rattle.arithmetic.proofs.rows.multiply_row.Tie as tie

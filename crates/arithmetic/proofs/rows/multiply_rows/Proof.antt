@@ -5,9 +5,9 @@ use Prim.Native.Nat.{ℕ, _+_, _-_, _*_, _≤_}
 use native.Mathlib.Nat.{zero-mul}
 use lib.ListN.{length}
 use Rattle.width.specs.Tile.{putTile}
-use Rattle.arithmetic.specs.Rows.{productRow}
-use Rattle.arithmetic.proofs.LoopLaws.{row-fits, next-row}
-use Rattle.arithmetic.proofs.TurnLaws.{product-turn}
+use Rattle.sums.specs.Rows.{productRow}
+use Rattle.sums.proofs.LoopLaws.{row-fits, next-row}
+use Rattle.sums.proofs.TurnLaws.{product-turn}
 use borrow.Author.Needs.{needs}
 use Rattle.arithmetic.proofs.rows.multiply_rows.Statement.{statement}
 use Rattle.arithmetic.proofs.rows.multiply_rows.Tie as tie

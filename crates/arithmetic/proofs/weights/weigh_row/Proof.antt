@@ -5,7 +5,7 @@ use Prim.Native.Nat.{ℕ, _*_, _%_, _^_}
 use native.Mathlib.Nat.{mod-eq-of-lt}
 use Rattle.width.specs.Tile.{putRow}
 use Rattle.element.proofs.Laws.{is1, is4, narrow}
-use Rattle.arithmetic.specs.Rows.{weightedRow}
+use Rattle.sums.specs.Rows.{weightedRow}
 use borrow.Author.Needs.{needs}
 use Rattle.arithmetic.proofs.weights.weigh_row.Statement.{statement}
 use Rattle.arithmetic.proofs.weights.weigh_row.Tie as tie

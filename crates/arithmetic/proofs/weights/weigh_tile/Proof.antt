@@ -7,9 +7,9 @@ use lib.ListN.{length}
 use Rattle.width.specs.Tile.{putTile}
 use Rattle.machine.specs.Geometry.{accAt}
 use Rattle.arithmetic.specs.Effect.{shape}
-use Rattle.arithmetic.specs.Rows.{weightedTile}
-use Rattle.arithmetic.proofs.LoopLaws.{next-row}
-use Rattle.arithmetic.proofs.TurnLaws.{weighted-turn}
+use Rattle.arithmetic.specs.Weights.{weightedTile}
+use Rattle.sums.proofs.LoopLaws.{next-row}
+use Rattle.arithmetic.proofs.WeightLaws.{weighted-turn}
 use Rattle.arithmetic.proofs.RoomLaws.{acc-row}
 use borrow.Author.Needs.{needs}
 use Rattle.arithmetic.proofs.weights.weigh_tile.Statement.{statement}

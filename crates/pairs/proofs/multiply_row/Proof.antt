@@ -1,0 +1,62 @@
+-- The row of A in pairs, then the row of C plus all pairs.
+use native.Mathlib.Omega.{arith}
+use mathlib.Core.Path.{_≡_, refl, _∙_}
+use Prim.Native.Nat.{ℕ, _+_, _*_, _-_, _/_, _<_}
+use lib.ListN.{getD}
+use Rattle.width.specs.Tile.{le}
+use Rattle.width.proofs.ElementLaws.{putRow-cong}
+use Rattle.sums.specs.Rows.{productRow}
+use Rattle.pairs.specs.Pairs.{pairsRow}
+use Rattle.pairs.proofs.PairLaws.{zeros, pairs-product}
+use borrow.Author.Needs.{needs}
+use Rattle.pairs.proofs.multiply_row.Statement.{statement}
+use Rattle.pairs.proofs.multiply_row.Tie as tie
+
+slice-aggregate-repeat-row : tie.Need-slice-aggregate-repeat-row
+slice-aggregate-repeat-row c = search needs
+
+repeat-row-requires : tie.Need-repeat-row-requires
+repeat-row-requires c κs =
+    let p = c .before .before .before .before .pre in (p .1 .0, ((p .0 .1, refl), (zeros 64, p .1 .1 .1 .0 .0)))
+
+slice-aggregate-add-row : tie.Need-slice-aggregate-add-row
+slice-aggregate-add-row c = search needs
+
+add-add-row : tie.Need-add-add-row
+add-add-row c = search needs
+
+mul-add-row : tie.Need-mul-add-row
+mul-add-row c = search needs
+
+add-row-requires : tie.Need-add-row-requires
+add-row-requires c κs = search needs
+
+same-length : tie.Need-same-length
+same-length c = search needs
+
+returns : tie.Need-returns
+returns c =
+    let k = c .before .before .before .before .before .before .before .before .before .before .before in
+    let a = k .args in
+    let s = a .s .now in
+    let x = c .before .before .before .before .before .before .repeat-row in
+    let bytes : (q : ℕ) → getD s q 0 < 256 = λ q. omega (arith, c .before .before .before .before .before .before .before .before .before .before .slice-known .given q) in
+    let pairs : ℕ = (a .k + 3) / 4 * 2 in
+    let e : pairs ≡ (a .k + 1) / 2 + (pairs - (a .k + 1) / 2) = omega arith in
+    c .before .before .add-row .ensures
+    ∙ putRow-cong 4 (a .c) (a .n) (pairsRow s (a .c) (x .last .0) (a .bs .now) 0 pairs) (productRow s 4 (a .width) (a .pitch) (a .k) (a .a) (a .b) (a .c)) s
+    (λ j h. pairs-product s bytes (a .width) (k .pre .1 .0) (a .a) (a .b) (a .pitch) (a .k) (a .n) (x .last .0) (a .bs .now) (x .ensures) (k .pre .1 .1 .1 .1)
+    (le s (a .c + j * 4) 4) j pairs (pairs - (a .k + 1) / 2) h e)
+
+pub multiply-row-spec : {M : Type 1} → statement M
+multiply-row-spec =
+    tie.close
+    (tie.spec
+    slice-aggregate-repeat-row
+    repeat-row-requires
+    slice-aggregate-add-row
+    add-add-row
+    mul-add-row
+    add-row-requires
+    same-length
+    returns)

@@ -1,0 +1,131 @@
+-- The loop: the first `i` rows of C are those of the product, and every element is read as at entry.
+use native.Mathlib.Omega.{arith}
+use mathlib.Core.Path.{_≡_, refl, sym, ap, _∙_}
+use Prim.Native.Nat.{ℕ, _+_, _-_, _*_, _≤_}
+use native.Mathlib.Nat.{zero-mul}
+use lib.ListN.{length}
+use Rattle.width.specs.Tile.{putTile}
+use Rattle.width.specs.Reduce.{reduce}
+use Rattle.sums.specs.Rows.{productRow}
+use Rattle.sums.proofs.LoopLaws.{row-fits, next-row}
+use Rattle.sums.proofs.TurnLaws.{same-b, product-turn}
+use borrow.Author.Needs.{needs}
+use Rattle.pairs.proofs.multiply_with.Statement.{statement}
+use Rattle.pairs.proofs.multiply_with.Tie as tie
+
+abbrev Inv-loop : tie.InvT-loop
+Inv-loop s₀ bs a b c pitch width m k n step i₀ from₀ to₀ s i from to =
+    (i ≤ m) × (from ≡ a + i * pitch) × (to ≡ c + i * (4 * pitch)) × (step ≡ 4 * pitch) × (length s ≡ length s₀)
+    × (s ≡ putTile (λ i. c + i * (4 * pitch)) i n 4 (λ i. productRow s₀ 4 width pitch k (a + i * pitch) b (c + i * (4 * pitch))) s₀)
+
+abbrev μ-loop : tie.MeasureT-loop
+μ-loop s₀ bs a b c pitch width m k n step i₀ from₀ to₀ s i from to = m - i
+
+interleave-tile-requires : tie.Need-interleave-tile-requires Inv-loop μ-loop
+interleave-tile-requires c κs = let p = c .before .before .before .before .pre in (p .1 .0, (p .0 .0, (omega (arith, p), (p .1 .1 .0 .0, omega (arith, p)))))
+
+mul-step : tie.Need-mul-step Inv-loop μ-loop
+mul-step c = search needs
+
+loop-holds : tie.Need-loop-holds Inv-loop μ-loop
+unfolding putTile
+loop-holds c =
+    let a = c .before .before .before .before .before .before .before .args in (omega arith, omega (arith, zero-mul (a .pitch)), omega (arith, zero-mul (4 * a .pitch)), refl, refl, refl)
+
+-- in a turn, the rows of A and C lie in the slice
+fits : (c : tie.In-loop Inv-loop μ-loop) →
+    let a = c .before .before .before .before .before .before .before .before .before .args in
+    let l = c .before .loop in
+    (l .from + a .pitch ≤ length (a .s .now)) × (l .to + 4 * a .pitch ≤ length (a .s .now))
+fits c =
+    let k = c .before .before .before .before .before .before .before .before .before in
+    let l = c .before .loop in
+    let p = row-fits (l .i) (k .args .m) (k .args .pitch) (c .loop-test .taken) in
+    let q = row-fits (l .i) (k .args .m) (4 * k .args .pitch) (c .loop-test .taken) in
+    (omega (arith, k .pre), omega (arith, k .pre))
+
+multiply-row-requires : tie.Need-multiply-row-requires Inv-loop μ-loop
+multiply-row-requires c κs =
+    let d = c .before .before in
+    let l = c .before .before .before .loop in
+    let k = c .before .before .before .before .before .before .before .before .before .before .before in
+    let a = k .args in
+    let p = k .pre in
+    let f = fits d in
+    let q = p .1 .1 in (
+      (p .0 .0, p .0 .1 .0),
+      (
+        p .1 .0,
+        (
+          omega (arith, c .before .before .before .before .before .before .interleave-tile .kept),
+          (
+            (omega (arith, p), omega (arith, p)),
+            λ r j lr lj. c .before .before .before .before .before .before .interleave-tile .ensures r j lr lj
+                ∙ ap (reduce 65536) (sym (same-b 4 (a .width) (a .pitch) (4 * a .pitch) (a .k) (a .n) (a .a) (a .b) (a .c) (a .m) (a .s .now)
+                (q .0 .0) (q .0 .1 .0) (q .0 .1 .1) (q .1 .0 .0) (q .1 .0 .1 .0) (l .i) (l .s) (d .loop-test .taken) (l .inv .5) r j lr lj)),
+          ),
+        ),
+      ),
+    )
+
+add-from : tie.Need-add-from Inv-loop μ-loop
+add-from c = let f = fits (c .before .before .before .before .before) in omega arith
+
+add-to : tie.Need-add-to Inv-loop μ-loop
+add-to c = let f = fits (c .before .before .before .before .before) in omega arith
+
+add-i : tie.Need-add-i Inv-loop μ-loop
+add-i c = search needs
+
+loop-less : tie.Need-loop-less Inv-loop μ-loop
+loop-less c = search needs
+
+loop-again : tie.Need-loop-again Inv-loop μ-loop
+loop-again c =
+    let d = c .before .before .before .before .before in
+    let l = d .before .loop in
+    let a = d .before .before .before .before .before .before .before .before .before .args in
+    let q = d .before .before .before .before .before .before .before .before .before .pre .1 .1 in
+    let w = c .before .before .multiply-row in (
+      omega (arith, d .loop-test),
+      omega (arith, next-row (l .i) (a .pitch)),
+      omega (arith, next-row (l .i) (4 * a .pitch)),
+      l .inv .3,
+      w .kept .0 ∙ l .inv .4,
+      product-turn 4 (a .width) (a .pitch) (4 * a .pitch) (a .k) (a .n) (a .a) (a .b) (a .c) (a .m) (a .s .now)
+          (q .0 .0) (q .0 .1 .0) (q .0 .1 .1) (q .1 .0 .0) (q .1 .0 .1 .0)
+          (l .i) (l .s) (d .loop-test .taken) (l .inv .5) (l .from) (l .to) (w .last .0) (l .inv .1) (l .inv .2) (w .ensures),
+    )
+
+same-length : tie.Need-same-length Inv-loop μ-loop
+same-length c = search needs
+
+same-length-2 : tie.Need-same-length-2 Inv-loop μ-loop
+same-length-2 c = search needs
+
+returns : tie.Need-returns Inv-loop μ-loop
+returns c =
+    let l = c .before .loop in
+    let a = c .before .before .before .before .before .before .before .before .before .args in
+    let e : l .i ≡ a .m = omega arith in
+    l .inv .5
+    ∙ ap (λ (t : ℕ). putTile (λ i. a .c + i * (4 * a .pitch)) t (a .n) 4 (λ i. productRow (a .s .now) 4 (a .width) (a .pitch) (a .k) (a .a + i * a .pitch) (a .b) (a .c + i * (4 * a .pitch))) (a .s .now)) e
+
+pub multiply-with-spec : {M : Type 1} → statement M
+multiply-with-spec =
+    tie.close
+    (tie.spec
+    Inv-loop
+    μ-loop
+    interleave-tile-requires
+    mul-step
+    loop-holds
+    multiply-row-requires
+    add-from
+    add-to
+    add-i
+    loop-less
+    loop-again
+    same-length
+    same-length-2
+    returns)

@@ -1,0 +1,54 @@
+-- Two wrapping products, added.
+use native.Mathlib.Omega.{arith}
+use Rattle.width.specs.Reduce.{signed}
+use Rattle.width.proofs.SumLaws.{pair-is}
+use borrow.Author.Needs.{needs}
+use Rattle.pairs.proofs.pair_of.Statement.{statement}
+use Rattle.pairs.proofs.pair_of.Tie as tie
+
+extend2to4-requires : tie.Need-extend2to4-requires
+extend2to4-requires c κs = search needs
+
+extend2to4-requires-2 : tie.Need-extend2to4-requires-2
+extend2to4-requires-2 c κs = search needs
+
+wrapping-mul32-requires : tie.Need-wrapping-mul32-requires
+wrapping-mul32-requires c κs = search needs
+
+extend2to4-requires-3 : tie.Need-extend2to4-requires-3
+extend2to4-requires-3 c κs = search needs
+
+extend2to4-requires-4 : tie.Need-extend2to4-requires-4
+extend2to4-requires-4 c κs = search needs
+
+wrapping-mul32-requires-2 : tie.Need-wrapping-mul32-requires-2
+wrapping-mul32-requires-2 c κs = search needs
+
+wrapping-add-u32-requires : tie.Need-wrapping-add-u32-requires
+wrapping-add-u32-requires c κs = search needs
+
+returns : tie.Need-returns
+returns c =
+    let a = c .before .before .before .before .before .before .before .args in
+    let x = c .before .before .before .before .before .before .extend2to4 in
+    let y = c .before .before .before .before .before .extend2to42 in
+    let v = c .before .before .before .extend2to43 in
+    let w = c .before .before .extend2to44 in
+    let p = c .before .before .before .before .wrapping-mul32 in
+    let q = c .before .wrapping-mul322 in
+    pair-is 4294967296 (omega arith) (c .wrapping-add-u32 .result) (p .result) (q .result) (x .result) (y .result) (v .result) (w .result)
+    (signed 65536 (a .x)) (signed 65536 (a .y)) (signed 65536 (a .v)) (signed 65536 (a .w))
+    (c .wrapping-add-u32 .ensures) (p .ensures) (q .ensures) (x .ensures) (y .ensures) (v .ensures) (w .ensures)
+
+pub pair-of-spec : {M : Type 1} → statement M
+pair-of-spec =
+    tie.close
+    (tie.spec
+    extend2to4-requires
+    extend2to4-requires-2
+    wrapping-mul32-requires
+    extend2to4-requires-3
+    extend2to4-requires-4
+    wrapping-mul32-requires-2
+    wrapping-add-u32-requires
+    returns)

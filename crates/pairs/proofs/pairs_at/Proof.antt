@@ -1,0 +1,67 @@
+-- Four pairs.
+use native.Mathlib.Omega.{arith}
+use mathlib.Core.Path.{_≡_, ap₂, _∙_}
+use Prim.Native.Nat.{ℕ, _+_, _*_}
+use Rattle.width.specs.Reduce.{reduce}
+use Rattle.pairs.specs.Pairs.{pair, lane}
+use Rattle.pairs.proofs.PairLaws.{each-of-four}
+use borrow.Author.Needs.{needs}
+use Rattle.pairs.proofs.pairs_at.Statement.{statement}
+use Rattle.pairs.proofs.pairs_at.Tie as tie
+
+pair-at-requires : tie.Need-pair-at-requires
+pair-at-requires c κs = search needs
+
+add-pair-at : tie.Need-add-pair-at
+add-pair-at c = search needs
+
+add-pair-at-2 : tie.Need-add-pair-at-2
+add-pair-at-2 c = search needs
+
+pair-at-requires-2 : tie.Need-pair-at-requires-2
+pair-at-requires-2 c κs = search needs
+
+add-pair-at-3 : tie.Need-add-pair-at-3
+add-pair-at-3 c = search needs
+
+add-pair-at-4 : tie.Need-add-pair-at-4
+add-pair-at-4 c = search needs
+
+pair-at-requires-3 : tie.Need-pair-at-requires-3
+pair-at-requires-3 c κs = search needs
+
+add-pair-at-5 : tie.Need-add-pair-at-5
+add-pair-at-5 c = search needs
+
+add-pair-at-6 : tie.Need-add-pair-at-6
+add-pair-at-6 c = search needs
+
+pair-at-requires-4 : tie.Need-pair-at-requires-4
+pair-at-requires-4 c κs = search needs
+
+returns : tie.Need-returns
+returns c =
+    let a = c .before .before .before .before .before .before .args in
+    let y : a .from ≡ a .from + 2 * 0 = omega arith in
+    let z : a .at ≡ a .at + 2 * 0 = omega arith in
+    each-of-four (λ q. lane _ q ≡ reduce 4294967296 (pair (a .xs .now) (a .from + 2 * q) (a .b .now) (a .at + 2 * q)))
+    (c .before .before .before .pair-at .ensures ∙ ap₂ (λ (h o : ℕ). reduce 4294967296 (pair (a .xs .now) h (a .b .now) o)) y z)
+    (c .before .before .pair-at2 .ensures)
+    (c .before .pair-at3 .ensures)
+    (c .pair-at4 .ensures)
+
+pub pairs-at-spec : {M : Type 1} → statement M
+pairs-at-spec =
+    tie.close
+    (tie.spec
+    pair-at-requires
+    add-pair-at
+    add-pair-at-2
+    pair-at-requires-2
+    add-pair-at-3
+    add-pair-at-4
+    pair-at-requires-3
+    add-pair-at-5
+    add-pair-at-6
+    pair-at-requires-4
+    returns)

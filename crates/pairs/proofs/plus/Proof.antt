@@ -1,0 +1,39 @@
+-- Four wrapping adds.
+use mathlib.Core.Path.{_≡_}
+use Prim.Native.Nat.{_+_, _%_}
+use Rattle.pairs.specs.Pairs.{lane}
+use Rattle.pairs.proofs.PairLaws.{each-of-four}
+use borrow.Author.Needs.{needs}
+use Rattle.pairs.proofs.plus.Statement.{statement}
+use Rattle.pairs.proofs.plus.Tie as tie
+
+wrapping-add-u32-requires : tie.Need-wrapping-add-u32-requires
+wrapping-add-u32-requires c κs = search needs
+
+wrapping-add-u32-requires-2 : tie.Need-wrapping-add-u32-requires-2
+wrapping-add-u32-requires-2 c κs = search needs
+
+wrapping-add-u32-requires-3 : tie.Need-wrapping-add-u32-requires-3
+wrapping-add-u32-requires-3 c κs = search needs
+
+wrapping-add-u32-requires-4 : tie.Need-wrapping-add-u32-requires-4
+wrapping-add-u32-requires-4 c κs = search needs
+
+returns : tie.Need-returns
+returns c =
+    let a = c .before .before .before .before .args in
+    each-of-four (λ q. lane _ q ≡ (lane (a .x) q + lane (a .y) q) % 4294967296)
+    (c .before .before .before .wrapping-add-u32 .ensures)
+    (c .before .before .wrapping-add-u322 .ensures)
+    (c .before .wrapping-add-u323 .ensures)
+    (c .wrapping-add-u324 .ensures)
+
+pub plus-spec : {M : Type 1} → statement M
+plus-spec =
+    tie.close
+    (tie.spec
+    wrapping-add-u32-requires
+    wrapping-add-u32-requires-2
+    wrapping-add-u32-requires-3
+    wrapping-add-u32-requires-4
+    returns)

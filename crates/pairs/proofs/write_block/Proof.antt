@@ -1,0 +1,63 @@
+-- Four elements, written one after another.
+use native.Mathlib.Omega.{arith}
+use mathlib.Core.Path.{refl}
+use Prim.Native.Nat.{ℕ, _+_}
+use Rattle.width.specs.Tile.{putRow}
+use Rattle.width.proofs.ElementLaws.{putRow-next}
+use Rattle.pairs.specs.Pairs.{lane}
+use borrow.Author.Needs.{needs}
+use Rattle.pairs.proofs.write_block.Statement.{statement}
+use Rattle.pairs.proofs.write_block.Tie as tie
+
+write4-requires : tie.Need-write4-requires
+write4-requires c κs = search needs
+
+add-write4 : tie.Need-add-write4
+add-write4 c = search needs
+
+write4-requires-2 : tie.Need-write4-requires-2
+write4-requires-2 c κs = search needs
+
+add-write4-2 : tie.Need-add-write4-2
+add-write4-2 c = search needs
+
+write4-requires-3 : tie.Need-write4-requires-3
+write4-requires-3 c κs = search needs
+
+add-write4-3 : tie.Need-add-write4-3
+add-write4-3 c = search needs
+
+write4-requires-4 : tie.Need-write4-requires-4
+write4-requires-4 c κs = search needs
+
+same-length : tie.Need-same-length
+same-length c = search needs
+
+returns : tie.Need-returns
+unfolding putRow
+returns c =
+    let w4 = c .before .before .write44 in
+    let w3 = c .before .before .before .before .before .before .write43 in
+    let w2 = c .before .before .before .before .before .before .before .before .before .before .write42 in
+    let w1 = c .before .before .before .before .before .before .before .before .before .before .before .before .before .before .write4 in
+    let a = c .before .before .before .before .before .before .before .before .before .before .before .before .before .before .before .before .before .args in
+    let s = a .s .now in
+    let f : ℕ → ℕ = lane (a .x) in
+    let e1 = putRow-next 4 s s (w1 .last .0) f (a .c) 0 (a .c) (a .x .e0) refl (omega arith) refl (w1 .ensures) in
+    let e2 = putRow-next 4 s (w1 .last .0) (w2 .last .0) f (a .c) 1 (a .c + 4) (a .x .e1) e1 refl refl (w2 .ensures) in
+    let e3 = putRow-next 4 s (w2 .last .0) (w3 .last .0) f (a .c) 2 (a .c + 8) (a .x .e2) e2 refl refl (w3 .ensures) in
+    putRow-next 4 s (w3 .last .0) (w4 .last .0) f (a .c) 3 (a .c + 12) (a .x .e3) e3 refl refl (w4 .ensures)
+
+pub write-block-spec : {M : Type 1} → statement M
+write-block-spec =
+    tie.close
+    (tie.spec
+    write4-requires
+    add-write4
+    write4-requires-2
+    add-write4-2
+    write4-requires-3
+    add-write4-3
+    write4-requires-4
+    same-length
+    returns)

@@ -1,0 +1,2 @@
+-- Numbers in pairs.
+pub mod Pairs

@@ -1,0 +1,4 @@
+-- Laws of the code's loops.
+pub mod LoopLaws
+pub mod RowLaws
+pub mod TurnLaws

@@ -1,0 +1,57 @@
+-- Sums of products kept at a width, once over the width: one product more, and the rows that are stored.
+use mathlib.Core.Path.{_≡_, refl, ap, _∙_}
+use mathlib.Core.List.{List}
+use Prim.Native.Nat.{ℕ, _+_, _*_, _%_, _^_, _<_}
+use lib.IntN.{ℤ, _*ℤ_}
+use lib.ListN.{getD, replicate, getD-replicate}
+use Rattle.width.specs.Reduce.{signed, reduce}
+use Rattle.width.specs.Tile.{le, putRow}
+use Rattle.width.proofs.TileLaws.{le-lt}
+use Rattle.width.proofs.ElementLaws.{pow-256, putRow-cong}
+use Rattle.width.proofs.SumLaws.{mac-is, product-more, one-times, two-products}
+use Rattle.machine.specs.Operation.{product}
+use Rattle.sums.specs.Rows.{signedLe, plusProduct, productRow, weightedRow}
+
+module _ (W : ℕ) (s : List ℕ) where
+  -- a wrapping product z of x and the element y at p, added by a wrapping add
+  pub mac-turn : (w p at r v v′ z x y : ℕ) → r ≡ (v′ + z) % 256 ^ W → z ≡ reduce (256 ^ W) (signed (256 ^ W) x *ℤ signed (256 ^ W) y)
+      → y ≡ reduce (256 ^ W) (signedLe s at w) → at ≡ p → v′ ≡ v → v < 256 ^ W → r ≡ plusProduct W v x s p w
+  mac-turn w p at r v v′ z x y er ez ey ea ev h =
+      mac-is (256 ^ W) (pow-256 W) r v v′ z x y (signedLe s p w) er ez (ey ∙ ap (λ (q : ℕ). reduce (256 ^ W) (signedLe s q w)) ea) ev h
+
+  -- product l of column j, of A's element x at `from` and B's row at `row`
+  pub product-added : (w pitch a b j l old v x from row r : ℕ)
+      → v ≡ product W w l old (λ t. le s (a + t * w) w) (λ t. le s (b + t * pitch + j * w) w)
+      → x ≡ reduce (256 ^ W) (signedLe s from w) → from ≡ a + l * w → row ≡ b + l * pitch → r ≡ plusProduct W v x s (row + j * w) w
+      → r ≡ product W w (l + 1) old (λ t. le s (a + t * w) w) (λ t. le s (b + t * pitch + j * w) w)
+  product-added w pitch a b j l old v x from row r ev ex ef eb er =
+      er ∙ ap (λ (q : ℕ). plusProduct W v x s (q + j * w) w) eb
+      ∙ product-more (256 ^ W) (pow-256 W) (signed (256 ^ W) old) (A l) (B l) l (λ t. A t *ℤ B t) v x ev (ex ∙ ap (λ (q : ℕ). reduce (256 ^ W) (signedLe s q w)) ef) refl
+    where
+      A : ℕ → ℤ
+      A t = signedLe s (a + t * w) w
+
+      B : ℕ → ℤ
+      B t = signedLe s (b + t * pitch + j * w) w
+
+  -- accumulators that start at 0: the old elements and all products, stored
+  pub row-of-products : (w pitch k a b c n size : ℕ) (old sums out : List ℕ) → 1 < 256 ^ W → ((q : ℕ) → getD s q 0 < 256) → ((j : ℕ) → j < n → j < size)
+      → ((j : ℕ) → j < n → getD old j 0 ≡ plusProduct W (getD (replicate size 0) j 0) 1 s (c + j * W) W)
+      → ((j : ℕ) → j < n → getD sums j 0 ≡ product W w k (getD old j 0) (λ l. le s (a + l * w) w) (λ l. le s (b + l * pitch + j * w) w))
+      → out ≡ putRow c n W (λ j. getD sums j 0) s → out ≡ putRow c n W (productRow s W w pitch k a b c) s
+  row-of-products w pitch k a b c n size old sums out big bytes room eo es e =
+      e ∙ putRow-cong W c n (λ j. getD sums j 0) (productRow s W w pitch k a b c) s
+      (λ j h. es j h ∙ ap (λ (o : ℕ). product W w k o (λ l. le s (a + l * w) w) (λ l. le s (b + l * pitch + j * w) w))
+      (eo j h ∙ ap (λ (v : ℕ). plusProduct W v 1 s (c + j * W) W) (getD-replicate size j 0 0 (room j h))
+      ∙ one-times (256 ^ W) (pow-256 W) big (le s (c + j * W) W) (le-lt s bytes (c + j * W) W)))
+
+  -- and two products, stored
+  pub row-of-weights : (w from to n size x y : ℕ) (one two out : List ℕ) → ((j : ℕ) → j < n → j < size)
+      → ((j : ℕ) → j < n → getD one j 0 ≡ plusProduct W (getD (replicate size 0) j 0) x s (to + j * W) W)
+      → ((j : ℕ) → j < n → getD two j 0 ≡ plusProduct W (getD one j 0) y s (from + j * w) w)
+      → out ≡ putRow to n W (λ j. getD two j 0) s → out ≡ putRow to n W (weightedRow s from to w W x y) s
+  row-of-weights w from to n size x y one two out room e1 e2 e =
+      e ∙ putRow-cong W to n (λ j. getD two j 0) (weightedRow s from to w W x y) s
+      (λ j h. e2 j h ∙ ap (λ (v : ℕ). plusProduct W v y s (from + j * w) w)
+      (e1 j h ∙ ap (λ (v : ℕ). plusProduct W v x s (to + j * W) W) (getD-replicate size j 0 0 (room j h)))
+      ∙ two-products (256 ^ W) (pow-256 W) (signed (256 ^ W) x *ℤ signedLe s (to + j * W) W) (signed (256 ^ W) y *ℤ signedLe s (from + j * w) w))

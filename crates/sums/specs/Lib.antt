@@ -1,0 +1,2 @@
+-- What the rows of the code hold.
+pub mod Rows
