@@ -98,7 +98,7 @@ static void explain(uint64_t result)
 {
     static const char *const meaning[] = {
         "done",
-        "no instruction of the draft",
+        "no row of the draft's listing",
         "mtype is illegal",
         "an element width that mtype does not allow",
         "a tile size above its maximum",

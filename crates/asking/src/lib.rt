@@ -98,7 +98,7 @@ fn in_sums(plan: Plan, row: u64, column: u64, term: u64) -> bool
 }
 
 // Whether a place lies in the matrices.
-pub fn is_placed(plan: Plan, place: Place) -> bool
+fn is_placed(plan: Plan, place: Place) -> bool
     ensures { λ r. ⌜ r ≡ placed plan place ⌝ }
 {
     match place {

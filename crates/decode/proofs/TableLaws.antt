@@ -14,12 +14,12 @@ use Rattle.machine.specs.declared.Wrong.the-variants.{LeftOut, Unlisted, Opcode
 use Rattle.machine.specs.declared.Instruction.the-variants.{Illegal}
 use Rattle.machine.specs.Tests.{isIn}
 use Rattle.machine.specs.Listing.{bits, field20, Fixed, Code, Row, has, listed, lookUp, notOurs, ranged, decode, listing, others}
-use Rattle.decode.specs.Table.{numbers, fixesZero, numberAmong, numberIn, sample, agrees, rowAgrees, blockAgrees, tableAgrees, entryOf, restRight, meant, TableDecodes}
+use Rattle.decode.specs.Table.{numbers, fixesZero, numberAmong, numberIn, sample, agrees, rowAgrees, blockAgrees, tableAgrees, TableAgrees, entryOf, restRight, meant, TableDecodes}
 
 -- ---- the whole table
 
 -- one test, at all 1,024 entries
-pub table-agrees : tableAgrees 0 numbers ≡ true
+pub table-agrees : TableAgrees
 unfolding numbers listing others fixesZero
 table-agrees = refl
 

@@ -93,7 +93,8 @@ numbers =
     ∷ [])
     ∷ none ∷ none ∷ none ∷ none ∷ none ∷ none ∷ none ∷ none ∷ []
 
--- "what other bits decide is tested beside it": settings with rs1, adds and subtracts, and conversions fix bits 24..20 at zero
+-- "what other bits decide is tested beside it": settings with rs1, adds and subtracts (float ones too), and conversions fix bits
+-- 24..20 at zero
 unfoldable pub fixesZero : ℕ → Bool
 fixesZero number = isIn number (2 ∷ 4 ∷ 6 ∷ 8 ∷ []) || ((leb 38 number && leb number 52) || (leb 61 number && leb number 74))
 
@@ -112,8 +113,8 @@ numberIn word (r ∷ rs) = cond (has word (r .code .fixed)) (r .code .number) (n
 abbrev pub sample : (code rest form : ℕ) → ℕ
 sample code rest form = code * 2 ^ 25 + rest * 2 ^ 20 + form * 2 ^ 12
 
--- n is the number of a word with these bits 31..25 and 14..12 and zeros in bits 24..20; and of one with other bits there, unless
--- its entry fixes them
+-- n is the number of a word with these bits 31..25 and 14..12 and zeros in bits 24..20; and of one with 00001 there, unless its
+-- entry fixes zeros (`TableDecodes` lifts this to every value)
 abbrev pub agrees : (code form n : ℕ) → Bool
 agrees code form n = eqb (numberIn (sample code 0 form) listing) n && eqb (numberIn (sample code 1 form) listing) (cond (fixesZero n) 0 n)
 
@@ -129,6 +130,10 @@ blockAgrees high middle (r ∷ rs) = rowAgrees (high * 8 + middle) 0 r && blockA
 abbrev pub tableAgrees : ℕ → List (List (List ℕ)) → Bool
 tableAgrees high [] = eqb high 16
 tableAgrees high (b ∷ bs) = blockAgrees high 0 b && tableAgrees (suc high) bs
+
+-- the computed test: every one of the 1,024 entries agrees
+abbrev pub TableAgrees : Type 0
+TableAgrees = tableAgrees 0 numbers ≡ true
 
 -- ---- how a word is read by the table
 

@@ -361,7 +361,7 @@ fn rest_right(word: u32, number: u8) -> bool
     true
 }
 
-// The instruction of a word; Illegal where it is none of ours.
+// The instruction of a word; Illegal, with what is wrong, where it is refused for what it is.
 pub fn decode(word: u32) -> Instruction
     ensures { λ r. ⌜ r ≡ decode word ⌝ }
 {

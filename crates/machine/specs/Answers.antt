@@ -11,7 +11,7 @@ pub record Reply : Type 0 where
   pub row : ℕ
   pub column : ℕ
 
--- 01, the table of "Numbers of the answers". "Answer 5 names the row and column of the first such element .. Elsewhere both are 0."
+-- 01, the table of "Numbers of the answers"; 10 to 12: 02, One. "Answer 5 names the row and column of the first such element .. Elsewhere both are 0."
 abbrev pub reply : Answer → Reply
 reply Done = record { number = 0; row = 0; column = 0 }
 reply IllegalWord = record { number = 1; row = 0; column = 0 }

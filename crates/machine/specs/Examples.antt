@@ -61,7 +61,7 @@ with m B = record { machine = m; registers = B .registers; marks = B .marks; mem
 
 pub examples : List Line
 examples =
-    -- 8, before 1
+    -- 8, before 10
     gives (step 0 (replicate 31 0) good) 8
     ∷ gives (step 0 (scalars 0 0) (bench 3 2 2 2 0 0 1)) 8
     ∷ gives (step 0 (scalars 0 0) (bench 4 2 2 2 0 0 1)) 8

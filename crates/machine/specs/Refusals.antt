@@ -1,4 +1,4 @@
--- 01, "Numbers of the answers": the checks 1 to 7 of an operation, in their order.
+-- 01, "Numbers of the answers", and 02, One: the checks of an operation in their order: 10, 11, 1, 12, then 2 to 7.
 use mathlib.Core.Bool.{Bool, true, false, not, _&&_, _||_}
 use mathlib.Core.List.{List, [], _∷_}
 use Prim.Native.Nat.{ℕ, zero, suc, _+_, _*_}
@@ -20,7 +20,7 @@ use Rattle.machine.specs.Setting.{sew, maccq, mill, maximum, sizeIn}
 use Rattle.machine.specs.Memory.{inside, unsealed}
 use Rattle.machine.specs.Operation.{Operation, illegal, setType, setSize, keepSize, load, store, multiply, combine, scale, rowsOf, columnsOf, tileRows, tileCols}
 
--- 10, 11, 1, 12: a word that decodes to none of ours
+-- 10, 11, 1, 12: a word that is refused for what it is
 abbrev pub wordAnswer : Wrong → Answer
 wordAnswer Opcode = WrongOpcode
 wordAnswer LeftOut = LeftOutWord

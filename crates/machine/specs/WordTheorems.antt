@@ -24,7 +24,7 @@ Faultless xs B = (soundBench B ≡ true) × (thirtyTwo xs ≡ true)
 abbrev pub RightOpcode : ℕ → Type 0
 RightOpcode word = bits 6 0 word ≡ 0b1110111
 
--- "every bit which section 4.5 of source document 000 fixes for an instruction"
+-- "every bit which section 4.5 of source document 000 fixes for an instruction", beside the opcode, which is `RightOpcode`
 abbrev pub EveryBit : ℕ → Code → Type 0
 EveryBit word c = (f : Fixed) → List·Memᴰ f (c .fixed) → bits (f .high) (f .low) word ≡ f .value
 
@@ -52,7 +52,8 @@ WordRefusals = (grant : ℕ → ℕ → ℕ) (word : ℕ) (xs : List ℕ) (B : B
 
 -- ---- nothing else moved
 
--- decoding and the step as they were before One: any word that isn't ours gets 1
+-- decoding as it was before One, over the listing as it stands: any word that isn't ours gets 1; and the step with it. What an instruction
+-- does and when it is refused (`outcome`) is the same definition in both, so this compares decoding only
 abbrev pub decodeBefore : ℕ → Instruction
 decodeBefore word =
     let i : Instruction = lookUp word (Illegal Unlisted) listing in

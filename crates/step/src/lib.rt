@@ -1,4 +1,4 @@
-// One instruction word: the checks in the order 8, then 1 to 7, and then the effect.
+// One instruction word: the checks in the order 8, then 10, 11, 1, 12, then 2 to 7, and then the effect.
 use machine::Answer;
 use machine::Dimension;
 use machine::Factor;
@@ -107,6 +107,7 @@ fn write_scalar(scalars: &mut [u64], slot: usize, value: u64)
 
 // ---- settings
 
+// Whether mtype is illegal (mill).
 pub fn is_mill(mtype: u64) -> bool
     ensures { λ r. ⌜ r ≡ mill mtype ⌝ }
 {
@@ -128,6 +129,7 @@ fn sew_bytes(mtype: u64) -> usize
     1
 }
 
+// The machine's numbers with another mtype.
 pub fn with_type(m: Machine, mtype: u64) -> Machine
     ensures { λ r. ⌜ r ≡ withType m mtype ⌝ }
 {
@@ -180,7 +182,7 @@ fn set_type(m: Machine, scalars: &mut [u64], rd: usize, value: u64) -> Machine
     with_type(m, kept)
 }
 
-// The machine's numbers after a size was asked for, which is cut to the largest.
+// The machine's numbers after a size was asked for, which is cut to the largest; under mill they stay.
 pub fn sized(m: Machine, dimension: Dimension, asked: u64) -> Machine
     requires { ⌜ Ready m ⌝ }
     ensures { λ r. ⌜ r ≡ sizeStepped m dimension asked .machine ⌝ }
@@ -475,6 +477,7 @@ fn tile_of(m: Machine, matrix: Matrix, r: usize) -> Placed
 
 // ---- loads and stores
 
+// Answers 2 to 4 and 6, and the load.
 pub fn load(
     m: Machine,
     registers: &mut [u8],
@@ -509,6 +512,7 @@ pub fn load(
     )
 }
 
+// Answers 2 to 7, and the store.
 pub fn store(
     m: Machine,
     registers: &[u8],
@@ -661,7 +665,7 @@ fn check_scale(m: Machine, marks: &[u8], factor: Factor, ms1: usize, by_zero: bo
     accumulator_marks(m, marks, ms1, width)
 }
 
-// Every byte that a multiply writes was read, so it has its mark.
+// Answers 2 to 5, and md += ms1 x ms2. Every byte written was read, so it has its mark already.
 pub fn multiply(
     m: Machine,
     registers: &mut [u8],
@@ -699,7 +703,7 @@ pub fn multiply(
     Answer::Done
 }
 
-// And so has every byte that an add or a subtract writes.
+// Answers 2 to 5, and the sum or difference. Every byte written was read, so it has its mark already.
 fn combine(
     m: Machine,
     registers: &mut [u8],
@@ -736,7 +740,7 @@ fn combine(
     Answer::Done
 }
 
-// Multiplies by a number of which multiplier is the residue at 32 bits.
+// Answers 2 to 5, and md = ms1 times a number of which multiplier is the residue at 32 bits.
 pub fn scale(
     m: Machine,
     registers: &mut [u8],
@@ -820,7 +824,7 @@ pub fn is_sound(m: Machine, registers: &[u8], marks: &[u8]) -> bool
 }
 
 // Carries out an instruction in a state that is not at fault.
-pub fn perform(
+fn perform(
     m: Machine,
     registers: &mut [u8],
     marks: &mut [u8],

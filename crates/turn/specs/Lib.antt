@@ -1,3 +1,2 @@
--- The definitions that this crate's contracts cite stand in run/specs/.
--- For the contracts of inner functions.
+-- For the contracts of inner functions; those of the public ones cite run/specs/.
 pub mod Parts

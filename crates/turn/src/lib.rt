@@ -303,7 +303,7 @@ fn machine_after(run: Run, m: Machine) -> Machine
     }
 }
 
-// What turns come to: the answer of the one that was refused, or 0; how many were answered 0; the run's place and the machine after them.
+// What turns come to: the answer of the one that was refused, or 0 (of no meaning where limit is 0); how many were answered 0; the run's place and the machine after them.
 struct Progress {
     answer: Answer,
     count: u64,
