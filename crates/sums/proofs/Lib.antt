@@ -1,4 +1,5 @@
 -- Laws of the code's loops.
 pub mod LoopLaws
 pub mod RowLaws
+pub mod KernelLaws
 pub mod TurnLaws

@@ -1,38 +1,16 @@
--- The loop: each accumulator has its first `l` products.
 use native.Mathlib.Omega.{arith}
-use mathlib.Core.Path.{_≡_, refl, ap, _∙_}
-use Prim.Native.Nat.{ℕ, _+_, _-_, _*_, _≤_, _<_}
-use native.Mathlib.Nat.{zero-mul}
-use lib.ListN.{length, getD}
-use lib.IntN.{_*ℤ_}
-use Rattle.width.specs.Tile.{le}
-use Rattle.width.proofs.SumLaws.{sum-none}
-use Rattle.machine.specs.Operation.{product}
-use Rattle.sums.specs.Rows.{signedLe}
-use Rattle.sums.proofs.LoopLaws.{row-fits, next-row}
-use Rattle.sums.proofs.RowLaws.{product-added}
+use Prim.Native.Nat.{_+_, _-_, _≤_}
+use lib.ListN.{length}
+use Rattle.sums.proofs.KernelLaws.{inside, Summed, sum-first, sum-next, sum-all}
 use borrow.Author.Needs.{needs}
 use Rattle.sums.proofs.sums16.add_products.Statement.{statement}
 use Rattle.sums.proofs.sums16.add_products.Tie as tie
 
 abbrev Inv-loop : tie.InvT-loop
-Inv-loop acc₀ s a b pitch width k n l₀ from₀ row₀ acc l from row =
-    (l ≤ k) × (from ≡ a + l * width) × (row ≡ b + l * pitch) × (length acc ≡ length acc₀)
-    × ((q : ℕ) → q < n → getD acc q 0 ≡ product 2 width l (getD acc₀ q 0) (λ t. le s (a + t * width) width) (λ t. le s (b + t * pitch + q * width) width))
+Inv-loop acc₀ s a b pitch width k n l₀ from₀ row₀ acc l from row = Summed 2 acc₀ s a b pitch width k n acc l from row
 
 abbrev μ-loop : tie.MeasureT-loop
 μ-loop acc₀ s a b pitch width k n l₀ from₀ row₀ acc l from row = k - l
-
-loop-holds : tie.Need-loop-holds Inv-loop μ-loop
-loop-holds c =
-    let a = c .before .before .args in (
-      omega arith,
-      omega (arith, zero-mul (a .width)),
-      omega (arith, zero-mul (a .pitch)),
-      refl,
-      λ q h. sum-none 65536 (omega arith) (getD (a .acc .now) q 0) (λ t. signedLe (a .s .now) (a .a + t * a .width) (a .width) *ℤ signedLe (a .s .now) (a .b + t * a .pitch + q * a .width) (a .width))
-          (omega (arith, c .before .slice-known .given q)),
-    )
 
 -- in a turn, the element of A and the row of B lie in the slice
 fits : (c : tie.In-loop Inv-loop μ-loop) →
@@ -41,72 +19,36 @@ fits : (c : tie.In-loop Inv-loop μ-loop) →
     (l .from + a .width ≤ length (a .s .now)) × (l .row + a .pitch ≤ length (a .s .now))
 fits c =
     let k = c .before .before .before .before in
+    let a = k .args in
     let l = c .before .loop in
-    let p = row-fits (l .l) (k .args .k) (k .args .width) (c .loop-test .taken) in
-    let q = row-fits (l .l) (k .args .k) (k .args .pitch) (c .loop-test .taken) in
-    (omega (arith, k .pre), omega (arith, k .pre))
-
-read-signed16-requires : tie.Need-read-signed16-requires Inv-loop μ-loop
-read-signed16-requires c κs = (c .before .before .before .before .pre .1 .0, fits c .0)
-
-mac-requires : tie.Need-mac-requires Inv-loop μ-loop
-mac-requires c κs =
-    let k = c .before .before .before .before .before .before in
-    let f = fits (c .before .before) in
-    (omega (arith, k .pre .0), (k .pre .1 .0, omega (arith, k .pre)))
-
-add-from : tie.Need-add-from Inv-loop μ-loop
-add-from c = let f = fits (c .before .before .before .before .before) in omega arith
-
-add-row : tie.Need-add-row Inv-loop μ-loop
-add-row c = let f = fits (c .before .before .before .before .before) in omega arith
-
-add-l : tie.Need-add-l Inv-loop μ-loop
-add-l c = search needs
-
-loop-less : tie.Need-loop-less Inv-loop μ-loop
-loop-less c = search needs
+    let t = c .loop-test .taken in (
+      inside (a .a) (a .width) (a .k) (l .l) (l .from) (length (a .s .now)) (l .inv .1) t (k .pre .1 .1 .1 .0),
+      inside (a .b) (a .pitch) (a .k) (l .l) (l .row) (length (a .s .now)) (l .inv .2) t (k .pre .1 .1 .1 .1),
+    )
 
 loop-again : tie.Need-loop-again Inv-loop μ-loop
 loop-again c =
     let d = c .before .before .before .before .before in
     let l = d .before .loop in
     let a = d .before .before .before .before .args in
-    let t = d .loop-test .taken in
     let m = c .before .before .mac in
-    let x = c .before .before .before .before .read-signed16 in (
-      omega arith,
-      omega (arith, next-row (l .l) (a .width)),
-      omega (arith, next-row (l .l) (a .pitch)),
-      m .kept .0 ∙ l .inv .3,
-      λ q h. product-added 2 (a .s .now) (a .width) (a .pitch) (a .a) (a .b) q (l .l) (getD (a .acc .now) q 0) (getD (l .acc) q 0) (x .result) (l .from) (l .row) (getD (m .last .0) q 0)
-          (l .inv .4 q h) (x .ensures) (l .inv .1) (l .inv .2) (m .ensures q h),
-    )
-
-same-length : tie.Need-same-length Inv-loop μ-loop
-same-length c = search needs
+    let x = c .before .before .before .before .read-signed16 in
+    sum-next 2 (a .acc .now) (a .s .now) (a .a) (a .b) (a .pitch) (a .width) (a .k) (a .n)
+    (l .acc) (m .last .0) (l .l) (l .from) (l .row) (x .result) (l .inv) (d .loop-test .taken) (m .kept .0) (x .ensures) (m .ensures)
 
 returns : tie.Need-returns Inv-loop μ-loop
 returns c =
     let l = c .before .loop in
     let a = c .before .before .before .before .args in
-    let e : l .l ≡ a .k = omega arith in
-    λ q h. l .inv .4 q h
-    ∙ ap (λ (t : ℕ). product 2 (a .width) t (getD (a .acc .now) q 0) (λ t. le (a .s .now) (a .a + t * a .width) (a .width)) (λ t. le (a .s .now) (a .b + t * a .pitch + q * a .width) (a .width))) e
+    sum-all 2 (a .acc .now) (a .s .now) (a .a) (a .b) (a .pitch) (a .width) (a .k) (a .n) (l .acc) (l .l) (l .from) (l .row) (l .inv) (omega arith)
 
 pub add-products-spec : {M : Type 1} → statement M
 add-products-spec =
     tie.close
-    (tie.spec
-    Inv-loop
-    μ-loop
-    loop-holds
-    read-signed16-requires
-    mac-requires
-    add-from
-    add-row
-    add-l
-    loop-less
-    loop-again
-    same-length
-    returns)
+    (tie.spec Inv-loop μ-loop
+    (λ c. let a = c .before .before .args in sum-first 2 (a .acc .now) (a .s .now) (a .a) (a .b) (a .pitch) (a .width) (a .k) (a .n) (λ q. omega (arith, c .before .slice-known .given q)))
+    (λ c κs. (c .before .before .before .before .pre .1 .0, fits c .0))
+    (λ c κs. let k = c .before .before .before .before .before .before in let f = fits (c .before .before) in (omega (arith, k .pre .0), (k .pre .1 .0, omega (arith, k .pre))))
+    (λ c. let f = fits (c .before .before .before .before .before) in omega arith)
+    (λ c. let f = fits (c .before .before .before .before .before) in omega arith)
+    (λ c. search needs) (λ c. search needs) loop-again (λ c. search needs) returns)

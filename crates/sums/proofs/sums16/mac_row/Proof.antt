@@ -1,105 +1,43 @@
--- The loop: below `j` the accumulators have their product, from `j` on they are as at entry.
 use native.Mathlib.Omega.{arith}
-use mathlib.Core.Path.{_≡_, refl}
-use Prim.Native.Nat.{ℕ, _+_, _-_, _*_, _≤_, _<_}
-use native.Mathlib.Nat.{zero-mul}
-use lib.ListN.{length, getD, length-set}
-use Rattle.sums.specs.Rows.{plusProduct}
-use Rattle.sums.proofs.LoopLaws.{row-fits, next-row, set-below, set-above}
-use Rattle.sums.proofs.RowLaws.{mac-turn}
+use Prim.Native.Nat.{_+_, _-_, _≤_}
+use lib.ListN.{length}
+use Rattle.sums.proofs.KernelLaws.{inside, Added, add-none, add-next}
 use borrow.Author.Needs.{needs}
 use Rattle.sums.proofs.sums16.mac_row.Statement.{statement}
 use Rattle.sums.proofs.sums16.mac_row.Tie as tie
 
 abbrev Inv-loop : tie.InvT-loop
-Inv-loop acc₀ s at width n x j₀ from₀ acc j from =
-    (j ≤ n) × (from ≡ at + j * width) × (length acc ≡ length acc₀)
-    × ((q : ℕ) → q < j → getD acc q 0 ≡ plusProduct 2 (getD acc₀ q 0) x s (at + q * width) width)
-    × ((q : ℕ) → j ≤ q → getD acc q 0 ≡ getD acc₀ q 0)
+Inv-loop acc₀ s at width n x j₀ from₀ acc j from = Added 2 acc₀ s at width n x acc j from
 
 abbrev μ-loop : tie.MeasureT-loop
 μ-loop acc₀ s at width n x j₀ from₀ acc j from = n - j
-
-loop-holds : tie.Need-loop-holds Inv-loop μ-loop
-loop-holds c = (omega arith, omega (arith, zero-mul (c .before .before .args .width)), refl, λ q h. absurd (omega arith), λ q h. refl)
 
 -- the element lies in the slice
 fits : (c : tie.In-loop Inv-loop μ-loop) →
     let a = c .before .before .before .before .args in c .before .loop .from + a .width ≤ length (a .s .now)
 fits c =
     let k = c .before .before .before .before in
-    let p = row-fits (c .before .loop .j) (k .args .n) (k .args .width) (c .loop-test .taken) in
-    omega (arith, k .pre)
-
-read-signed16-requires : tie.Need-read-signed16-requires Inv-loop μ-loop
-read-signed16-requires c κs = (c .before .before .before .before .pre .1 .0, fits c)
-
-wrapping-mul16-requires : tie.Need-wrapping-mul16-requires Inv-loop μ-loop
-wrapping-mul16-requires c κs = search needs
-
-mul-wrapping-add-u16 : tie.Need-mul-wrapping-add-u16 Inv-loop μ-loop
-mul-wrapping-add-u16 c = search needs
-
-slice-read-wrapping-add-u16 : tie.Need-slice-read-wrapping-add-u16 Inv-loop μ-loop
-slice-read-wrapping-add-u16 c = search needs
-
-wrapping-add-u16-requires : tie.Need-wrapping-add-u16-requires Inv-loop μ-loop
-wrapping-add-u16-requires c κs = search needs
-
-mul-acc : tie.Need-mul-acc Inv-loop μ-loop
-mul-acc c = search needs
-
-slice-write-acc : tie.Need-slice-write-acc Inv-loop μ-loop
-slice-write-acc c = search needs
-
-add-from : tie.Need-add-from Inv-loop μ-loop
-add-from c = let f = fits (c .before .before .before .before) in omega arith
-
-add-j : tie.Need-add-j Inv-loop μ-loop
-add-j c = search needs
-
-loop-less : tie.Need-loop-less Inv-loop μ-loop
-loop-less c = search needs
+    let l = c .before .loop in
+    inside (k .args .at) (k .args .width) (k .args .n) (l .j) (l .from) (length (k .args .s .now)) (l .inv .1) (c .loop-test .taken) (k .pre .1 .1)
 
 loop-again : tie.Need-loop-again Inv-loop μ-loop
 loop-again c =
     let l = c .before .before .before .before .before .loop in
     let k = c .before .before .before .before .before .before .before .before in
     let a = k .args in
-    let t = c .before .before .before .before .loop-test .taken in
-    let v = c .wrapping-add-u16 .result in (
-      omega arith,
-      omega (arith, next-row (l .j) (a .width)),
-      simp length-set (omega arith),
-      set-below (λ q. plusProduct 2 (getD (a .acc .now) q 0) (a .x) (a .s .now) (a .at + q * a .width) (a .width)) (l .acc) (l .j) v (omega (arith, k .pre .0)) (l .inv .3)
-          (mac-turn 2 (a .s .now) (a .width) (a .at + l .j * a .width) (l .from) v (getD (a .acc .now) (l .j) 0) (getD (l .acc) (l .j) 0) (c .before .before .wrapping-mul16 .result) (a .x) (c .before .before .before .read-signed16 .result)
-          (c .wrapping-add-u16 .ensures) (c .before .before .wrapping-mul16 .ensures) (c .before .before .before .read-signed16 .ensures) (l .inv .1) (l .inv .4 (l .j) (omega arith)) (omega (arith, c .before .before .before .before .before .before .before .slice-known .given (l .j)))),
-      set-above (λ q. getD (a .acc .now) q 0) (l .acc) (l .j) v (l .inv .4),
-    )
-
-same-length : tie.Need-same-length Inv-loop μ-loop
-same-length c = search needs
-
-returns : tie.Need-returns Inv-loop μ-loop
-returns c = λ q h. c .before .loop .inv .3 q (omega arith)
+    let z = c .before .before .wrapping-mul16 in
+    let y = c .before .before .before .read-signed16 in
+    add-next 2 (a .acc .now) (a .s .now) (a .at) (a .width) (a .n) (a .x) (l .acc) (l .j) (l .from) (c .wrapping-add-u16 .result) (z .result) (y .result)
+    (l .inv) (c .before .before .before .before .loop-test .taken) (k .pre .0) (omega (arith, c .before .before .before .before .before .before .before .slice-known .given (l .j)))
+    (c .wrapping-add-u16 .ensures) (z .ensures) (y .ensures)
 
 pub mac-row-spec : {M : Type 1} → statement M
 mac-row-spec =
     tie.close
-    (tie.spec
-    Inv-loop
-    μ-loop
-    loop-holds
-    read-signed16-requires
-    wrapping-mul16-requires
-    mul-wrapping-add-u16
-    slice-read-wrapping-add-u16
-    wrapping-add-u16-requires
-    mul-acc
-    slice-write-acc
-    add-from
-    add-j
-    loop-less
-    loop-again
-    same-length
-    returns)
+    (tie.spec Inv-loop μ-loop
+    (λ c. let a = c .before .before .args in add-none 2 (a .acc .now) (a .s .now) (a .at) (a .width) (a .n) (a .x))
+    (λ c κs. (c .before .before .before .before .pre .1 .0, fits c))
+    (λ c κs. search needs) (λ c. search needs) (λ c. search needs) (λ c κs. search needs) (λ c. search needs) (λ c. search needs)
+    (λ c. let f = fits (c .before .before .before .before) in omega arith)
+    (λ c. search needs) (λ c. search needs) loop-again (λ c. search needs)
+    (λ c q h. c .before .loop .inv .3 q (omega arith)))

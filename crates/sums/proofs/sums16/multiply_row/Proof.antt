@@ -1,4 +1,3 @@
--- The row of C, then the products, then the row stored.
 use native.Mathlib.Omega.{arith}
 use mathlib.Core.Path.{refl}
 use mathlib.Core.Logic.{inr}
@@ -7,49 +6,26 @@ use borrow.Author.Needs.{needs}
 use Rattle.sums.proofs.sums16.multiply_row.Statement.{statement}
 use Rattle.sums.proofs.sums16.multiply_row.Tie as tie
 
-slice-aggregate-mac-row : tie.Need-slice-aggregate-mac-row
-slice-aggregate-mac-row c = search needs
-
-mac-row-requires : tie.Need-mac-row-requires
-mac-row-requires c κs = let k = c .before .before .before in (k .pre .0, (inr refl, k .pre .1 .1 .1 .1 .1))
-
-slice-aggregate-add-products : tie.Need-slice-aggregate-add-products
-slice-aggregate-add-products c = search needs
-
 add-products-requires : tie.Need-add-products-requires
 add-products-requires c κs =
     let k = c .before .before .before .before .before .before .before in
     let f = c .before .before .before .mac-row in
     (omega (arith, k .pre .0, f .kept .0), (k .pre .1 .0, (k .pre .1 .1 .0, (k .pre .1 .1 .1 .0, k .pre .1 .1 .1 .1 .0))))
 
-slice-aggregate-store-row : tie.Need-slice-aggregate-store-row
-slice-aggregate-store-row c = search needs
-
-store-row-requires : tie.Need-store-row-requires
-store-row-requires c κs = search needs
-
-same-length : tie.Need-same-length
-same-length c = search needs
-
 returns : tie.Need-returns
 returns c =
     let k = c .before .before .before .before .before .before .before .before .before .before .before .before .before .before in
     let a = k .args in
-    let r = a .s .now in
     let f = c .before .before .before .before .before .before .before .before .before .before .mac-row in
     let g = c .before .before .before .before .before .before .add-products in
-    row-of-products 2 r (a .width) (a .pitch) (a .k) (a .a) (a .b) (a .c) (a .n) 64 (f .last .0) (g .last .0) (c .before .before .store-row .last .0) (omega arith)
+    row-of-products 2 (a .s .now) (a .width) (a .pitch) (a .k) (a .a) (a .b) (a .c) (a .n) 64 (f .last .0) (g .last .0) (c .before .before .store-row .last .0) (omega arith)
     (λ q. omega (arith, c .before .before .before .before .before .before .before .before .before .before .before .before .before .slice-known .given q)) (λ j h. omega (arith, k .pre .0)) (f .ensures) (g .ensures) (c .before .before .store-row .ensures)
 
 pub multiply-row-spec : {M : Type 1} → statement M
 multiply-row-spec =
     tie.close
     (tie.spec
-    slice-aggregate-mac-row
-    mac-row-requires
-    slice-aggregate-add-products
-    add-products-requires
-    slice-aggregate-store-row
-    store-row-requires
-    same-length
-    returns)
+    (λ c. search needs) (λ c κs. let k = c .before .before .before in (k .pre .0, (inr refl, k .pre .1 .1 .1 .1 .1)))
+    (λ c. search needs) add-products-requires
+    (λ c. search needs) (λ c κs. search needs)
+    (λ c. search needs) returns)

@@ -1,0 +1,112 @@
+-- The loops of the kernels, once over the width: what holds in each turn, at its start, after one turn more, and at its end.
+use mathlib.Core.Path.{_≡_, refl, sym, ap, _∙_}
+use mathlib.Core.List.{List}
+use Prim.Native.Nat.{ℕ, _+_, _*_, _%_, _^_, _≤_, _<_}
+use native.Mathlib.Nat.{zero-mul}
+use native.Mathlib.Omega.{arith}
+use lib.IntN.{_*ℤ_}
+use lib.ListN.{length, set, getD, length-set}
+use Rattle.width.specs.Reduce.{signed, reduce}
+use Rattle.width.specs.Tile.{le, putLe, putRow}
+use Rattle.width.proofs.ElementLaws.{pow-256, putRow-next}
+use Rattle.width.proofs.SumLaws.{sum-none}
+use Rattle.machine.specs.Operation.{product}
+use Rattle.sums.specs.Rows.{signedLe, plusProduct}
+use Rattle.sums.proofs.LoopLaws.{row-fits, next-row, set-below, set-above}
+use Rattle.sums.proofs.RowLaws.{mac-turn, product-added}
+
+-- element or row j of n, at `from`, ends by the end
+pub inside : (at w n j from len : ℕ) → from ≡ at + j * w → j < n → at + n * w ≤ len → from + w ≤ len
+inside at w n j from len e l h = omega (arith, row-fits j n w l)
+
+-- ---- mac_row: below j the accumulators have their product, from j on they are as at entry
+
+abbrev pub Added : ℕ → (acc₀ s : List ℕ) (at w n x : ℕ) (acc : List ℕ) (j from : ℕ) → Type 0
+Added W acc₀ s at w n x acc j from =
+    (j ≤ n) × (from ≡ at + j * w) × (length acc ≡ length acc₀)
+    × ((q : ℕ) → q < j → getD acc q 0 ≡ plusProduct W (getD acc₀ q 0) x s (at + q * w) w)
+    × ((q : ℕ) → j ≤ q → getD acc q 0 ≡ getD acc₀ q 0)
+
+module _ (W : ℕ) (acc₀ s : List ℕ) (at w n x : ℕ) where
+  pub add-none : Added W acc₀ s at w n x acc₀ 0 at
+  add-none = (omega arith, omega (arith, zero-mul w), refl, λ q h. absurd (omega arith), λ q h. refl)
+
+  pub add-next : (acc : List ℕ) (j from r z y : ℕ) → Added W acc₀ s at w n x acc j from → j < n → n ≤ length acc₀ → getD acc₀ j 0 < 256 ^ W
+      → r ≡ (getD acc j 0 + z) % 256 ^ W → z ≡ reduce (256 ^ W) (signed (256 ^ W) x *ℤ signed (256 ^ W) y) → y ≡ reduce (256 ^ W) (signedLe s from w)
+      → Added W acc₀ s at w n x (set acc j r) (j + 1) (from + w)
+  add-next acc j from r z y inv l room small er ez ey = (
+    omega arith,
+    omega (arith, next-row j w, inv .1),
+    simp length-set (inv .2),
+    set-below (λ q. plusProduct W (getD acc₀ q 0) x s (at + q * w) w) acc j r (omega (arith, inv .2)) (inv .3)
+        (mac-turn W s w (at + j * w) from r (getD acc₀ j 0) (getD acc j 0) z x y er ez ey (inv .1) (inv .4 j (omega arith)) small),
+    set-above (λ q. getD acc₀ q 0) acc j r (inv .4),
+  )
+
+-- ---- mac: the width w is the literal v
+
+pub at-literal : (at n v w len : ℕ) → w ≡ v → at + n * w ≤ len → at + n * v ≤ len
+at-literal at n v w len e h = omega (arith, ap (λ (u : ℕ). n * u) e)
+
+pub add-literal : (W : ℕ) (acc₀ s acc : List ℕ) (at v w n x : ℕ) → w ≡ v
+    → ((j : ℕ) → j < n → getD acc j 0 ≡ plusProduct W (getD acc₀ j 0) x s (at + j * v) v)
+    → (j : ℕ) → j < n → getD acc j 0 ≡ plusProduct W (getD acc₀ j 0) x s (at + j * w) w
+add-literal W acc₀ s acc at v w n x e all j h = all j h ∙ ap (λ (u : ℕ). plusProduct W (getD acc₀ j 0) x s (at + j * u) u) (sym e)
+
+-- ---- add_products: each accumulator has its first l products
+
+abbrev pub Summed : ℕ → (acc₀ s : List ℕ) (a b pitch w k n : ℕ) (acc : List ℕ) (l from row : ℕ) → Type 0
+Summed W acc₀ s a b pitch w k n acc l from row =
+    (l ≤ k) × (from ≡ a + l * w) × (row ≡ b + l * pitch) × (length acc ≡ length acc₀)
+    × ((q : ℕ) → q < n → getD acc q 0 ≡ product W w l (getD acc₀ q 0) (λ t. le s (a + t * w) w) (λ t. le s (b + t * pitch + q * w) w))
+
+module _ (W : ℕ) (acc₀ s : List ℕ) (a b pitch w k n : ℕ) where
+  pub sum-first : ((q : ℕ) → getD acc₀ q 0 < 256 ^ W) → Summed W acc₀ s a b pitch w k n acc₀ 0 a b
+  sum-first small = (
+    omega arith,
+    omega (arith, zero-mul w),
+    omega (arith, zero-mul pitch),
+    refl,
+    λ q h. sum-none (256 ^ W) (pow-256 W) (getD acc₀ q 0) (λ t. signedLe s (a + t * w) w *ℤ signedLe s (b + t * pitch + q * w) w) (small q),
+  )
+
+  pub sum-next : (acc out : List ℕ) (l from row x : ℕ) → Summed W acc₀ s a b pitch w k n acc l from row → l < k → length out ≡ length acc
+      → x ≡ reduce (256 ^ W) (signedLe s from w) → ((q : ℕ) → q < n → getD out q 0 ≡ plusProduct W (getD acc q 0) x s (row + q * w) w)
+      → Summed W acc₀ s a b pitch w k n out (l + 1) (from + w) (row + pitch)
+  sum-next acc out l from row x inv h el ex eo = (
+    omega arith,
+    omega (arith, next-row l w, inv .1),
+    omega (arith, next-row l pitch, inv .2),
+    el ∙ inv .3,
+    λ q i. product-added W s w pitch a b q l (getD acc₀ q 0) (getD acc q 0) x from row (getD out q 0) (inv .4 q i) ex (inv .1) (inv .2) (eo q i),
+  )
+
+  pub sum-all : (acc : List ℕ) (l from row : ℕ) → Summed W acc₀ s a b pitch w k n acc l from row → k ≤ l
+      → (q : ℕ) → q < n → getD acc q 0 ≡ product W w k (getD acc₀ q 0) (λ t. le s (a + t * w) w) (λ t. le s (b + t * pitch + q * w) w)
+  sum-all acc l from row inv h q i =
+      let e : l ≡ k = omega (arith, inv .0) in
+      inv .4 q i ∙ ap (λ (m : ℕ). product W w m (getD acc₀ q 0) (λ t. le s (a + t * w) w) (λ t. le s (b + t * pitch + q * w) w)) e
+
+-- ---- store_row: the first j numbers are stored
+
+abbrev pub Stored : ℕ → (s₀ acc : List ℕ) (to n : ℕ) (s : List ℕ) (j at : ℕ) → Type 0
+Stored W s₀ acc to n s j at = (j ≤ n) × (at ≡ to + j * W) × (length s ≡ length s₀) × (s ≡ putRow to j W (λ q. getD acc q 0) s₀)
+
+module _ (W : ℕ) (s₀ acc : List ℕ) (to n : ℕ) where
+  pub store-none : Stored W s₀ acc to n s₀ 0 to
+  unfolding putRow
+  store-none = (omega arith, omega (arith, zero-mul W), refl, refl)
+
+  pub store-next : (s out : List ℕ) (j at : ℕ) → Stored W s₀ acc to n s j at → j < n → length out ≡ length s → out ≡ putLe at W (getD acc j 0) s
+      → Stored W s₀ acc to n out (j + 1) (at + W)
+  store-next s out j at inv h el eo = (
+    omega arith,
+    omega (arith, next-row j W, inv .1),
+    el ∙ inv .2,
+    putRow-next W s₀ s out (λ q. getD acc q 0) to j at (getD acc j 0) (inv .3) (inv .1) refl eo,
+  )
+
+  pub store-all : (s : List ℕ) (j at : ℕ) → Stored W s₀ acc to n s j at → n ≤ j → s ≡ putRow to n W (λ q. getD acc q 0) s₀
+  store-all s j at inv h =
+      let e : j ≡ n = omega (arith, inv .0) in
+      inv .3 ∙ ap (λ (m : ℕ). putRow to m W (λ q. getD acc q 0) s₀) e
