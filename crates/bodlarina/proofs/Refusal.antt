@@ -21,7 +21,7 @@ use Rattle.run.specs.declared.Asked.{Asked}
 use Rattle.run.specs.Start.{RunStart, startRun}
 use Rattle.run.specs.Turn.{ask, asked, Running, turn, afterTurns, answeredDone, turnOutcome, turns}
 use Rattle.run.specs.Whole.{whole}
-use Rattle.turn.proofs.TurnLaws.{refused-stays}
+use Rattle.run.proofs.RefusalLaws.{turn-refused}
 use Rattle.turn.proofs.WholeLaws.{whole-refused}
 use Rattle.blocks.specs.Blocks.{machineOf, putMachine, valuesOf, putValues, putNumbers, runOf, putRun, runFit, putHanded, packed}
 use Rattle.bodlarina.specs.Host.{HostStarted, startedOut, shownStart, hostStart, HostStepped, steppedOut, stepBlock, shownStep, hostStep}
@@ -133,7 +133,7 @@ turn-refusal run machine registers marks memory small small′ = go (turnBlocks 
     go : (t : Bool) → turnBlocks run machine ≡ t → ¬ (out t .result ≡ 0) → out t ≡ turnedOut (out t .result) run machine registers marks memory
     go true h d =
         shown-same run machine registers marks memory small small′ (packed (turn smaller r .answer)) (turn smaller r .after) h
-        (refused-stays r (refused (turn smaller r .answer) d))
+        (turn-refused smaller r (refused (turn smaller r .answer) d))
     go false h d = refl
 
 -- turns of which none is answered 0 leave everything
@@ -142,7 +142,7 @@ none-stays r zero h = refl
 none-stays r (suc n) h =
     let s = afterTurns smaller r n in
     let e : s ≡ r = none-stays r n (omega arith) in
-    refused-stays s (go (isDone (turn smaller s .answer)) (omega arith)) ∙ e
+    turn-refused smaller s (go (isDone (turn smaller s .answer)) (omega arith)) ∙ e
   where
     go : (t : Bool) → _≡_ {A = ℕ} (cond t 1 0) 0 → t ≡ false
     go true h = absurd (omega arith)
