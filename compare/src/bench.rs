@@ -13,13 +13,22 @@ pub const LARGE: (u64, u64) = (512, 4096);
 
 pub fn bench() {
     println!("All times are of this one run, through the C interface, on one core, warm caches.");
-    println!("Single steps: the best of 5 batches of at least 4 ms; buffers are not cleared");
-    println!("between repetitions. A ratio to the second program is the library's time divided");
-    println!("by its time.");
+    println!("Single steps: the best of 5 batches of at least 4 ms, after a second in which the");
+    println!("core is kept busy; buffers are not cleared between repetitions. A ratio to the");
+    println!("second program is the library's time divided by its time.");
+    warm_up();
     steps_by_family();
     multiply_accumulates();
     against_the_second_program();
     crate::runs::bench::bench();
+}
+
+/// Keeps the core busy until its clock has risen.
+fn warm_up() {
+    let started = Instant::now();
+    while started.elapsed().as_secs() < 1 {
+        black_box(step_time(SMALL, 0, assemble("msettypei", &[])));
+    }
 }
 
 /// Nanoseconds of a call: the best of 5 batches of at least 4 ms, or of fewer
