@@ -22,7 +22,7 @@ use Rattle.run.specs.Start.{RunStart, startRun}
 use Rattle.run.specs.Turn.{ask, asked, Running, turn, afterTurns, answeredDone, turnOutcome, turns}
 use Rattle.run.specs.Whole.{whole}
 use Rattle.run.proofs.RefusalLaws.{turn-refused}
-use Rattle.turn.proofs.WholeLaws.{whole-refused}
+use Rattle.whole.proofs.WholeLaws.{whole-refused}
 use Rattle.blocks.specs.Blocks.{machineOf, putMachine, valuesOf, putValues, putNumbers, runOf, putRun, runFit, putHanded, packed}
 use Rattle.bodlarina.specs.Host.{HostStarted, startedOut, shownStart, hostStart, HostStepped, steppedOut, stepBlock, shownStep, hostStep}
 use Rattle.bodlarina.specs.Host.{HostRunStarted, runStartedOut, shownRunStart, hostRunStart, HostNext, nextOut, shownNext, hostNext}

@@ -82,7 +82,7 @@ pub extern "C" fn bodlarina_run_start(
     }
     let plan = plan_in(sew, factor, m, k, n, a, a_stride, b, b_stride, c, c_stride);
     let held = machine_of(machine);
-    let started = turn::start(plan, held, registers, marks, memory);
+    let started = starting::start(plan, held, registers, marks, memory);
     let answer = started.answer;
     if !tile::is_done(answer) {
         return packed(answer);
@@ -206,7 +206,7 @@ pub extern "C" fn bodlarina_run(
     }
     let plan = plan_in(sew, factor, m, k, n, a, a_stride, b, b_stride, c, c_stride);
     let held = machine_of(machine);
-    let finished = turn::product(plan, held, registers, marks, memory);
+    let finished = whole::product(plan, held, registers, marks, memory);
     let answer = finished.answer;
     if !tile::is_done(answer) {
         return packed(answer);

@@ -45,7 +45,7 @@ fn multiply(c: &mut [u64], memory: &mut [u8], sew: u64, factor: u64, m: u64, k: 
     let started = machine::start(64, 256, 0, 0, &registers, &mut marks);
     let machine = started.machine;
     let plan = layout::plan_for(sew, factor, m, k, n);
-    let finished = turn::product(plan, machine, &mut registers, &mut marks, memory);
+    let finished = whole::product(plan, machine, &mut registers, &mut marks, memory);
     let width = (factor * (sew / 8)) as usize;
     layout::read_elements(c, memory, 2048, width);
     finished.count

@@ -149,7 +149,7 @@ fn product(
     number(sew);
     say(b" f ");
     number(factor);
-    let done = turn::product(plan, machine, registers, marks, memory);
+    let done = whole::product(plan, machine, registers, marks, memory);
     let given = done.answer;
     answer(given);
     say(b" steps ");
@@ -214,138 +214,84 @@ fn runs() {
     one_larger(m, &mut registers, &mut marks, &mut memory);
 }
 
-fn main() {
+// "Word 0x000472F7 sets mtype 8 and x5 = 8. 0x100572F7 with x10 = 16 sets 2^63."
+fn type_words(m: Machine, registers: &mut [u8], marks: &mut [u8], memory: &mut [u8]) {
+    step(m, registers, marks, memory, 0, 0, 0x000472f7);
+    step(m, registers, marks, memory, 16, 0, 0x100572f7);
+}
+
+// "0x2003F077 asks 7 rows: tile_m 4, x0 untouched. 0x4001F377 at SEW 8: tile_k 3, x6 = 3."
+fn size_words(m: Machine, registers: &mut [u8], marks: &mut [u8], memory: &mut [u8]) {
+    step(m, registers, marks, memory, 0, 0, 0x2003f077);
+    step(m, registers, marks, memory, 0, 0, 0x4001f377);
+}
+
+// "then SEW 16: a 16-bit load of B gives 4"
+fn too_large(m: Machine, registers: &mut [u8], marks: &mut [u8], memory: &mut [u8]) {
+    let cut = step(m, registers, marks, memory, 0, 0, 0x0000f077);
+    step(cut, registers, marks, memory, 0, 8, 0x08b51077);
+}
+
+// Tiles of A of two by two.
+fn two_by_two(m: Machine, registers: &mut [u8], marks: &mut [u8], memory: &mut [u8]) -> Machine {
+    let rows = step(m, registers, marks, memory, 0, 0, 0x20017077);
+    step(rows, registers, marks, memory, 0, 0, 0x40017077)
+}
+
+// A store before the registers are loaded, and the load.
+fn loaded(m: Machine, registers: &mut [u8], marks: &mut [u8], memory: &mut [u8]) {
+    let minus8 = 18446744073709551608;
+    step(m, registers, marks, memory, 54, 8, 0x06b50077);
+    step(m, registers, marks, memory, 8, minus8, 0x04b50077);
+}
+
+// "A last byte at the end of memory is stored; one byte further gives 6."
+fn end_of_memory(m: Machine, registers: &mut [u8], marks: &mut [u8], memory: &mut [u8]) {
+    step(m, registers, marks, memory, 54, 8, 0x06b50077);
+    step(m, registers, marks, memory, 55, 8, 0x06b50077);
+}
+
+// "Stride -8 from a good address is done; a row that would start at address -1 gives 6."
+fn downward(m: Machine, registers: &mut [u8], marks: &mut [u8], memory: &mut [u8]) {
+    let minus8 = 18446744073709551608;
+    step(m, registers, marks, memory, 8, minus8, 0x06b50077);
+    step(m, registers, marks, memory, 7, minus8, 0x06b50077);
+}
+
+// The lines on words, on one machine.
+fn words() {
     let mut registers = [7u8; 512];
     let mut marks = [1u8; 512];
     let mut memory = [0u8; 64];
-    let minus8 = 18446744073709551608;
+    let m = start(64, 256, 0, 0, &registers, &mut marks);
+    say(b"starred words\n");
+    type_words(m, &mut registers, &mut marks, &mut memory);
+    size_words(m, &mut registers, &mut marks, &mut memory);
+    say(b"tile_n 8 set at SEW 8, then SEW 16: a 16-bit load of B gives 4\n");
+    let wide = step(m, &mut registers, &mut marks, &mut memory, 0, 0, 0x60047077);
+    too_large(wide, &mut registers, &mut marks, &mut memory);
+    say(
+        b"tiles 2 by 2 of A at SEW 8: a last byte at the end of memory is stored, one further gives 6\n",
+    );
+    let two = two_by_two(m, &mut registers, &mut marks, &mut memory);
+    loaded(two, &mut registers, &mut marks, &mut memory);
+    end_of_memory(two, &mut registers, &mut marks, &mut memory);
+    say(b"stride -8 from a good address is done, a row that would start at -1 gives 6\n");
+    downward(two, &mut registers, &mut marks, &mut memory);
+}
 
+// Starts at the bounds of what is permitted.
+fn starts() {
+    let registers = [7u8; 512];
+    let mut marks = [1u8; 512];
     start(64, 256, 18446744073709551615, 0, &registers, &mut marks);
     start(64, 256, 18446744073709551615, 1, &registers, &mut marks);
     start(64, 128, 0, 0, &registers, &mut marks);
     start(256, 256, 0, 0, &registers, &mut marks);
-    let fresh = start(64, 256, 0, 0, &registers, &mut marks);
+}
 
-    say(b"starred words\n");
-    step(
-        fresh,
-        &mut registers,
-        &mut marks,
-        &mut memory,
-        0,
-        0,
-        0x000472f7,
-    );
-    step(
-        fresh,
-        &mut registers,
-        &mut marks,
-        &mut memory,
-        16,
-        0,
-        0x100572f7,
-    );
-    step(
-        fresh,
-        &mut registers,
-        &mut marks,
-        &mut memory,
-        0,
-        0,
-        0x2003f077,
-    );
-    step(
-        fresh,
-        &mut registers,
-        &mut marks,
-        &mut memory,
-        0,
-        0,
-        0x4001f377,
-    );
-
-    say(b"tile_n 8 set at SEW 8, then SEW 16: a 16-bit load of B gives 4\n");
-    let a = step(
-        fresh,
-        &mut registers,
-        &mut marks,
-        &mut memory,
-        0,
-        0,
-        0x60047077,
-    );
-    let b = step(a, &mut registers, &mut marks, &mut memory, 0, 0, 0x0000f077);
-    step(b, &mut registers, &mut marks, &mut memory, 0, 8, 0x08b51077);
-
-    say(
-        b"tiles 2 by 2 of A at SEW 8: a last byte at the end of memory is stored, one further gives 6\n",
-    );
-    let c = step(
-        fresh,
-        &mut registers,
-        &mut marks,
-        &mut memory,
-        0,
-        0,
-        0x20017077,
-    );
-    let d = step(c, &mut registers, &mut marks, &mut memory, 0, 0, 0x40017077);
-    step(
-        d,
-        &mut registers,
-        &mut marks,
-        &mut memory,
-        54,
-        8,
-        0x06b50077,
-    );
-    step(
-        d,
-        &mut registers,
-        &mut marks,
-        &mut memory,
-        8,
-        minus8,
-        0x04b50077,
-    );
-    step(
-        d,
-        &mut registers,
-        &mut marks,
-        &mut memory,
-        54,
-        8,
-        0x06b50077,
-    );
-    step(
-        d,
-        &mut registers,
-        &mut marks,
-        &mut memory,
-        55,
-        8,
-        0x06b50077,
-    );
-
-    say(b"stride -8 from a good address is done, a row that would start at -1 gives 6\n");
-    step(
-        d,
-        &mut registers,
-        &mut marks,
-        &mut memory,
-        8,
-        minus8,
-        0x06b50077,
-    );
-    step(
-        d,
-        &mut registers,
-        &mut marks,
-        &mut memory,
-        7,
-        minus8,
-        0x06b50077,
-    );
-
+fn main() {
+    starts();
+    words();
     runs();
 }

@@ -29,8 +29,9 @@ use Rattle.machine.specs.Operation.{Operation, times, stateAfter}
 use Rattle.machine.specs.Step.{Outcome, outcome}
 use Rattle.machine.proofs.TestLaws.{every-each}
 use Rattle.machine.proofs.CodeLaws.{only-done}
-use Rattle.step.specs.Parts.{ours, withType, withSize, granted, sizeStepped, Loads, Stores}
-use Rattle.step.proofs.StepParts.{step-decoded, type-outcome, size-outcome, loads-outcome, stores-outcome}
+use Rattle.settings.specs.Parts.{ours, withType, withSize, granted, sizeStepped}
+use Rattle.operations.specs.Parts.{WritesRegisters, WritesMemory}
+use Rattle.operations.proofs.OutcomeLaws.{step-decoded, type-outcome, size-outcome, loads-outcome, stores-outcome}
 use Rattle.run.specs.declared.Plan.{Plan}
 use Rattle.run.specs.declared.Run.{Run}
 use Rattle.run.specs.declared.Place.{Place}
@@ -113,7 +114,7 @@ unfolding reduce
 zero-residue = refl
 
 module _ (P : Plan) (ok : planned P ≡ true) (m : Machine) (regs marks mem : List ℕ) (s : sound m regs marks ≡ true) (f : Factor) (e : times f ≡ P .factor) (a : Answer) (regs′ marks′ : List ℕ) where
-  pub clear-carried : Loads m (Operation.scale (times f) 0 0 (pos 0)) regs marks mem a regs′ marks′
+  pub clear-carried : WritesRegisters m (Operation.scale (times f) 0 0 (pos 0)) regs marks mem a regs′ marks′
       → carried a m regs′ marks′ mem ≡ carriedFor P Op.clear (benchOf m regs marks mem)
   clear-carried l =
       let F = formats (P .sew) (P .factor) (plan-format P ok) .1 in
@@ -121,7 +122,7 @@ module _ (P : Plan) (ok : planned P ≡ true) (m : Machine) (regs marks mem : Li
       (loads-outcome m (ScaleImmediate (F .factor) 0 0 0) (own (handedFor P Op.clear)) regs marks mem s refl (Operation.scale (times f) 0 0 (pos 0))
       (ap (λ (g : ℕ). Operation.scale g 0 0 (pos 0)) (F .is ∙ sym e)) refl a regs′ marks′ l refl refl)
 
-  pub multiply-carried : Loads m (Operation.multiply (times f) 0 0 1) regs marks mem a regs′ marks′
+  pub multiply-carried : WritesRegisters m (Operation.multiply (times f) 0 0 1) regs marks mem a regs′ marks′
       → carried a m regs′ marks′ mem ≡ carriedFor P Op.multiply (benchOf m regs marks mem)
   multiply-carried l =
       let F = formats (P .sew) (P .factor) (plan-format P ok) .1 in
@@ -132,15 +133,15 @@ module _ (P : Plan) (ok : planned P ≡ true) (m : Machine) (regs marks mem : Li
 -- ---- loads and the store
 
 -- an operation whose numbers the code has found
-pub loads-for : {m : Machine} {o o′ : Operation} {regs marks mem : List ℕ} {a : Answer} {regs′ marks′ : List ℕ} → o ≡ o′ → Loads m o regs marks mem a regs′ marks′
-    → Loads m o′ regs marks mem a regs′ marks′
-loads-for {m} {o} {o′} {regs} {marks} {mem} {a} {regs′} {marks′} e l = subst (λ (o : Operation). Loads m o regs marks mem a regs′ marks′) e l
+pub loads-for : {m : Machine} {o o′ : Operation} {regs marks mem : List ℕ} {a : Answer} {regs′ marks′ : List ℕ} → o ≡ o′ → WritesRegisters m o regs marks mem a regs′ marks′
+    → WritesRegisters m o′ regs marks mem a regs′ marks′
+loads-for {m} {o} {o′} {regs} {marks} {mem} {a} {regs′} {marks′} e l = subst (λ (o : Operation). WritesRegisters m o regs marks mem a regs′ marks′) e l
 
-pub stores-for : {m : Machine} {o o′ : Operation} {regs marks mem : List ℕ} {a : Answer} {mem′ : List ℕ} → o ≡ o′ → Stores m o regs marks mem a mem′ → Stores m o′ regs marks mem a mem′
-stores-for {m} {o} {o′} {regs} {marks} {mem} {a} {mem′} e l = subst (λ (o : Operation). Stores m o regs marks mem a mem′) e l
+pub stores-for : {m : Machine} {o o′ : Operation} {regs marks mem : List ℕ} {a : Answer} {mem′ : List ℕ} → o ≡ o′ → WritesMemory m o regs marks mem a mem′ → WritesMemory m o′ regs marks mem a mem′
+stores-for {m} {o} {o′} {regs} {marks} {mem} {a} {mem′} e l = subst (λ (o : Operation). WritesMemory m o regs marks mem a mem′) e l
 
 module _ (P : Plan) (ok : planned P ≡ true) (m : Machine) (regs marks mem : List ℕ) (s : sound m regs marks ≡ true) (a : Answer) where
-  pub a-carried : (i t : ℕ) (regs′ marks′ : List ℕ) → Loads m (Operation.load MatrixA 0 (narrow P) (startOf (P .a) i (t * narrow P)) (P .a .stride)) regs marks mem a regs′ marks′
+  pub a-carried : (i t : ℕ) (regs′ marks′ : List ℕ) → WritesRegisters m (Operation.load MatrixA 0 (narrow P) (startOf (P .a) i (t * narrow P)) (P .a .stride)) regs marks mem a regs′ marks′
       → carried a m regs′ marks′ mem ≡ carriedFor P (Op.loadA i t) (benchOf m regs marks mem)
   a-carried i t regs′ marks′ l =
       let g = plan-format P ok in
@@ -150,7 +151,7 @@ module _ (P : Plan) (ok : planned P ≡ true) (m : Machine) (regs marks mem : Li
       (loads-outcome m k (own (handedFor P (Op.loadA i t))) regs marks mem s refl (Operation.load MatrixA 0 (narrow P) p (P .a .stride))
       (ap (λ (w : ℕ). Operation.load MatrixA 0 w p (P .a .stride)) (narrow-is (ours m) P g (stateOf m regs marks))) refl a regs′ marks′ l refl refl)
 
-  pub b-carried : (t j : ℕ) (regs′ marks′ : List ℕ) → Loads m (Operation.load MatrixB 1 (narrow P) (startOf (P .b) t (j * narrow P)) (P .b .stride)) regs marks mem a regs′ marks′
+  pub b-carried : (t j : ℕ) (regs′ marks′ : List ℕ) → WritesRegisters m (Operation.load MatrixB 1 (narrow P) (startOf (P .b) t (j * narrow P)) (P .b .stride)) regs marks mem a regs′ marks′
       → carried a m regs′ marks′ mem ≡ carriedFor P (Op.loadB t j) (benchOf m regs marks mem)
   b-carried t j regs′ marks′ l =
       let g = plan-format P ok in
@@ -160,7 +161,7 @@ module _ (P : Plan) (ok : planned P ≡ true) (m : Machine) (regs marks mem : Li
       (loads-outcome m k (own (handedFor P (Op.loadB t j))) regs marks mem s refl (Operation.load MatrixB 1 (narrow P) p (P .b .stride))
       (ap (λ (w : ℕ). Operation.load MatrixB 1 w p (P .b .stride)) (narrow-is (ours m) P g (stateOf m regs marks))) refl a regs′ marks′ l refl refl)
 
-  pub c-carried : (i j : ℕ) (mem′ : List ℕ) → Stores m (Operation.store MatrixC 0 (wide P) (startOf (P .c) i (j * wide P)) (P .c .stride)) regs marks mem a mem′
+  pub c-carried : (i j : ℕ) (mem′ : List ℕ) → WritesMemory m (Operation.store MatrixC 0 (wide P) (startOf (P .c) i (j * wide P)) (P .c .stride)) regs marks mem a mem′
       → carried a m regs marks mem′ ≡ carriedFor P (Op.store i j) (benchOf m regs marks mem)
   c-carried i j mem′ l =
       let g = plan-format P ok in
@@ -175,7 +176,7 @@ module _ (P : Plan) (ok : planned P ≡ true) (m : Machine) (regs marks mem : Li
 module _ (P : Plan) (ok : planned P ≡ true) (m : Machine) (regs marks mem : List ℕ) (s : sound m regs marks ≡ true) where
   -- what an operation that writes registers leaves
   loaded : (o : Operation) → let r : Answer = verdict (checks (ours m) o (stateOf m regs marks) mem) in
-      Loads m o regs marks mem r (cond (isDone r) (stateAfter (ours m) o (stateOf m regs marks) mem .regs) regs) (cond (isDone r) (stateAfter (ours m) o (stateOf m regs marks) mem .marks) marks)
+      WritesRegisters m o regs marks mem r (cond (isDone r) (stateAfter (ours m) o (stateOf m regs marks) mem .regs) regs) (cond (isDone r) (stateAfter (ours m) o (stateOf m regs marks) mem .marks) marks)
   loaded o = record { answer-is = refl; registers-are = refl; marks-are = refl }
 
   abbrev numbers : Carried → Machine

@@ -15,7 +15,7 @@ use Rattle.machine.specs.Faults.{soundBench}
 use Rattle.machine.specs.Step.{Outcome, step}
 use Rattle.machine.proofs.StepLaws.{smaller-grants}
 use Rattle.machine.proofs.NoFault.{step-sound}
-use Rattle.step.proofs.StepParts.{step-fault}
+use Rattle.operations.proofs.OutcomeLaws.{step-fault}
 use Rattle.run.specs.declared.Run.{Run}
 use Rattle.run.specs.declared.Handed.{Handed}
 use Rattle.run.specs.Words.{Op}

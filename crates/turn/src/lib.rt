@@ -1,20 +1,15 @@
-// The product run on a machine: its start, its turns, and a whole run. What each returns and leaves is defined in run/specs/.
+// Turns of a product run on a machine. What each returns and leaves is defined in run/specs/Turn.antt.
 use machine::Answer;
 use machine::Dimension;
 use machine::Factor;
 use machine::Machine;
 use machine::Matrix;
-use run::Finished;
 use run::Layout;
 use run::Place;
 use run::Plan;
 use run::Run;
-use run::RunStarted;
 use run::Taken;
 use run::Turned;
-
-mod starting; // the tests of a start on memory
-
 ghost use mathlib.Core.Path.{_≡_};
 ghost use mathlib.Core.Bool.{true};
 ghost use mathlib.Core.List.{List, [], _∷_};
@@ -25,61 +20,14 @@ ghost use Rattle.machine.specs.Faults.{sound};
 ghost use Rattle.machine.specs.Refusals.{typed};
 ghost use Rattle.machine.specs.Setting.{smaller};
 ghost use Rattle.machine.specs.Operation.{Operation, times};
-ghost use Rattle.step.specs.Parts.{Ready, Loads};
+ghost use Rattle.operations.specs.Parts.{WritesRegisters};
+ghost use Rattle.settings.specs.Parts.{Ready};
 ghost use Rattle.run.specs.Plan.{narrow};
 ghost use Rattle.run.specs.Words.{clear, multiply, store};
 ghost use Rattle.run.specs.Encoding.{startOf};
 ghost use Rattle.turn.specs.Parts.{carried, carriedFor, carriedAt, atPlace, endingAt};
-ghost use Rattle.run.specs.Start.{startRun, startedAs, noRun, planned};
+ghost use Rattle.run.specs.Start.{planned};
 ghost use Rattle.run.specs.Turn.{running, turnOutcome, turnedAs, turns, takenAs, soundRun};
-ghost use Rattle.run.specs.Whole.{whole, finishedAs, Delivers};
-
-// ---- the start
-
-// What a refused start returns: a run that hands out nothing.
-fn refused(plan: Plan, answer: Answer) -> RunStarted
-    ensures { λ r. ⌜ r ≡ record { answer = answer; run = noRun plan } ⌝ }
-{
-    RunStarted {
-        answer: answer,
-        run: Run {
-            plan: plan,
-            rlen: 0,
-            mlen: 0,
-            place: Place::AtEnd,
-        },
-    }
-}
-
-// Starts a run on a machine: 8, then 6, then 9.
-pub fn start(plan: Plan, m: Machine, registers: &[u8], marks: &[u8], memory: &[u8]) -> RunStarted
-    ensures { λ r. ⌜ startedAs r (benchOf m (now (registers .entry)) (now (marks .entry)) (now (memory .entry)))
-        ≡ startRun smaller plan (benchOf m (now (registers .entry)) (now (marks .entry)) (now (memory .entry))) ⌝ }
-{
-    if !step::is_sound(m, registers, marks) {
-        return refused(plan, Answer::BadArguments);
-    }
-    if !asking::is_planned(plan) {
-        return refused(plan, Answer::BadArguments);
-    }
-    if !starting::is_lying(plan, memory) {
-        return refused(plan, Answer::OutsideMemory);
-    }
-    if !starting::is_separate(plan, m, memory) {
-        return refused(plan, Answer::Overlap);
-    }
-    RunStarted {
-        answer: Answer::Done,
-        run: Run {
-            plan: plan,
-            rlen: m.rlen,
-            mlen: m.mlen,
-            place: Place::AtType,
-        },
-    }
-}
-
-// ---- turns
 
 // The output's width, as a plan has it.
 fn factor_of(plan: Plan) -> Factor
@@ -99,7 +47,7 @@ fn factor_of(plan: Plan) -> Factor
 fn size_answer(m: Machine) -> Answer
     ensures { λ r. ⌜ r ≡ verdict (typed (stateOf m [] []) ∷ []) ⌝ }
 {
-    if step::is_mill(m.mtype) {
+    if settings::is_mill(m.mtype) {
         return Answer::IllegalType;
     }
     Answer::Done
@@ -113,7 +61,7 @@ fn clear(plan: Plan, m: Machine, registers: &mut [u8], marks: &mut [u8]) -> Answ
         ≡ carriedFor plan clear (benchOf m (now (registers .entry)) (now (marks .entry)) memory)) ⌝ }
 {
     let factor = factor_of(plan);
-    step::scale(m, registers, marks, factor, 0, 0, 0)
+    operations::reckoning::scale(m, registers, marks, factor, 0, 0, 0)
 }
 
 // Multiplies tr0 and tr1 to acc0.
@@ -124,10 +72,10 @@ fn multiply(plan: Plan, m: Machine, registers: &mut [u8], marks: &[u8]) -> Answe
         ≡ carriedFor plan multiply (benchOf m (now (registers .entry)) (now (marks .entry)) memory)) ⌝ }
 {
     let factor = factor_of(plan);
-    step::multiply(m, registers, marks, factor, 0, 0, 1)
+    operations::reckoning::multiply(m, registers, marks, factor, 0, 0, 1)
 }
 
-// Loads the block of A or B that starts at this row and column.
+// WritesRegisters the block of A or B that starts at this row and column.
 fn load(
     plan: Plan,
     m: Machine,
@@ -144,12 +92,12 @@ fn load(
     requires { ⌜ planned plan ≡ true ⌝ }
     requires { ⌜ (row ≤ 1024) × (column ≤ 1024) ⌝ }
     requires { ⌜ md < registerCount matrix ⌝ }
-    ensures { λ r. ⌜ Loads m (Operation.load matrix md (narrow plan) (startOf layout row (column * narrow plan)) (layout .stride)) (now (registers .entry)) (now (marks .entry)) (now (memory .entry)) r (now (registers .exit)) (now (marks .exit)) ⌝ }
+    ensures { λ r. ⌜ WritesRegisters m (Operation.load matrix md (narrow plan) (startOf layout row (column * narrow plan)) (layout .stride)) (now (registers .entry)) (now (marks .entry)) (now (memory .entry)) r (now (registers .exit)) (now (marks .exit)) ⌝ }
 {
     let bytes = asking::narrow_bytes(plan);
     let offset = asking::small_times(column, bytes);
     let start = asking::start_of(layout.address, layout.stride, row, offset);
-    step::load(
+    operations::transfers::load(
         m,
         registers,
         marks,
@@ -162,7 +110,7 @@ fn load(
     )
 }
 
-// Stores acc0 to the block of C that starts at this row and column.
+// WritesMemory acc0 to the block of C that starts at this row and column.
 fn store(
     plan: Plan,
     m: Machine,
@@ -182,7 +130,7 @@ fn store(
     let offset = asking::small_times(column, bytes);
     let layout = plan.c;
     let start = asking::start_of(layout.address, layout.stride, row, offset);
-    step::store(
+    operations::transfers::store(
         m,
         registers,
         marks,
@@ -274,15 +222,15 @@ fn machine_after(run: Run, m: Machine) -> Machine
     let plan = run.plan;
     let place = run.place;
     match place {
-        Place::AtType => step::with_type(m, step::kept_type(asking::type_of(plan))),
-        Place::AtM { row } => step::sized(m, Dimension::DimensionM, plan.m - row),
-        Place::AtN { row: _, column } => step::sized(m, Dimension::DimensionN, plan.n - column),
+        Place::AtType => settings::with_type(m, settings::kept_type(asking::type_of(plan))),
+        Place::AtM { row } => settings::sized(m, Dimension::DimensionM, plan.m - row),
+        Place::AtN { row: _, column } => settings::sized(m, Dimension::DimensionN, plan.n - column),
         Place::AtClear { row: _, column: _ } => m,
         Place::AtK {
             row: _,
             column: _,
             term,
-        } => step::sized(m, Dimension::DimensionK, plan.k - term),
+        } => settings::sized(m, Dimension::DimensionK, plan.k - term),
         Place::AtA {
             row: _,
             column: _,
@@ -388,7 +336,7 @@ pub fn turn(
     ensures { λ r. ⌜ turnedAs r (now (registers .exit)) (now (marks .exit)) (now (memory .exit))
         ≡ turnOutcome smaller (running run (benchOf m (now (registers .entry)) (now (marks .entry)) (now (memory .entry)))) ⌝ }
 {
-    if !step::is_sound(m, registers, marks) {
+    if !settings::faults::is_sound(m, registers, marks) {
         return Turned {
             answer: Answer::BadArguments,
             run: run,
@@ -419,7 +367,7 @@ pub fn turns(
     ensures { λ r. ⌜ takenAs r (now (registers .exit)) (now (marks .exit)) (now (memory .exit))
         ≡ turns smaller (running run (benchOf m (now (registers .entry)) (now (marks .entry)) (now (memory .entry)))) limit ⌝ }
 {
-    if !step::is_sound(m, registers, marks) {
+    if !settings::faults::is_sound(m, registers, marks) {
         return Taken {
             count: 0,
             run: run,
@@ -434,39 +382,5 @@ pub fn turns(
         count: progress.count,
         run: after,
         machine: machine,
-    }
-}
-
-// ---- a whole run
-
-// Starts a run and takes turns until one is refused: C becomes the product, and no other byte of memory changes.
-pub fn product(
-    plan: Plan,
-    m: Machine,
-    registers: &mut [u8],
-    marks: &mut [u8],
-    memory: &mut [u8],
-) -> Finished
-    ensures { λ r. ⌜ finishedAs r (now (registers .exit)) (now (marks .exit)) (now (memory .exit))
-        ≡ whole smaller plan (benchOf m (now (registers .entry)) (now (marks .entry)) (now (memory .entry))) ⌝ }
-    ensures { λ r. ⌜ Delivers plan (benchOf m (now (registers .entry)) (now (marks .entry)) (now (memory .entry)))
-        (finishedAs r (now (registers .exit)) (now (marks .exit)) (now (memory .exit))) ⌝ }
-{
-    let started = start(plan, m, registers, marks, memory);
-    let answer = started.answer;
-    if !tile::is_done(answer) {
-        return Finished {
-            answer: answer,
-            count: 0,
-            machine: m,
-        };
-    }
-    let run = started.run;
-    let taken = turns(18446744073709551615, run, m, registers, marks, memory);
-    let after = taken.machine;
-    Finished {
-        answer: answer,
-        count: taken.count,
-        machine: after,
     }
 }

@@ -1,6 +1,6 @@
 use Prim.Native.Nat.{_-_}
 use native.Mathlib.Omega.{arith}
-use Rattle.step.proofs.StepParts.{multiplier-is}
+use Rattle.step.proofs.WordLaws.{multiplier-is}
 use Rattle.step.proofs.multiplier.Statement.{statement}
 use Rattle.step.proofs.multiplier.Tie as tie
 

@@ -6,7 +6,7 @@ use Rattle.machine.specs.declared.Machine.{Machine}
 use Rattle.machine.specs.declared.Stepped.{Stepped}
 use Rattle.machine.specs.declared.Answer.{Answer}
 use Rattle.machine.specs.declared.Answer.the-variants.{Done}
-use Rattle.step.specs.Parts.{ours, withType}
+use Rattle.settings.specs.Parts.{ours, withType}
 use lib.ListN.{length}
 use borrow.Author.Tests.{eqb-true}
 use Rattle.width.specs.Reduce.{signed}
@@ -16,8 +16,9 @@ use Rattle.machine.specs.Operation.{Operation, operation, times}
 use Rattle.machine.specs.Step.{destination, steppedAs}
 use Rattle.machine.proofs.NoFault.{sound-is}
 use Rattle.step.specs.Parts.{Decoded}
-use Rattle.step.proofs.TransferLaws.{ready}
-use Rattle.step.proofs.StepParts.{illegal-outcome, type-outcome, size-outcome, tile-outcome, loads-outcome, stores-outcome, type-small}
+use Rattle.settings.proofs.FaultLaws.{ready}
+use Rattle.operations.proofs.OutcomeLaws.{illegal-outcome, type-outcome, size-outcome, tile-outcome, loads-outcome, stores-outcome}
+use Rattle.step.proofs.WordLaws.{type-small}
 use borrow.Author.Needs.{needs}
 use Rattle.step.proofs.perform.Statement.{statement}
 use Rattle.step.proofs.perform.Tie as tie

@@ -5,7 +5,8 @@ use borrow.Author.Tests.{eq-eqb, ne-eqb, not-true, not-false}
 use lib.ListN.{length}
 use Rattle.machine.specs.Geometry.{benchOf}
 use Rattle.machine.specs.Faults.{sound}
-use Rattle.step.proofs.StepParts.{step-fault, step-scalars, step-decoded, decoded}
+use Rattle.operations.proofs.OutcomeLaws.{step-fault, step-scalars, step-decoded}
+use Rattle.step.proofs.WordLaws.{decoded}
 use borrow.Author.Needs.{needs}
 use Rattle.step.proofs.step.Statement.{statement}
 use Rattle.step.proofs.step.Tie as tie

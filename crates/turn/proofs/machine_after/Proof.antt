@@ -6,7 +6,7 @@ use Rattle.machine.specs.declared.Machine.{Machine}
 use Rattle.machine.specs.declared.Dimension.the-variants.{DimensionM, DimensionK, DimensionN}
 use Rattle.machine.specs.Geometry.{elen, benchOf}
 use Rattle.machine.specs.Setting.{newType}
-use Rattle.step.specs.Parts.{withType}
+use Rattle.settings.specs.Parts.{withType}
 use Rattle.run.specs.declared.Place.{Place}
 use Rattle.run.specs.Words.{Op}
 use Rattle.run.specs.Plan.{typeOf}

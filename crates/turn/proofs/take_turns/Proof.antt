@@ -16,7 +16,7 @@ use Rattle.asking.proofs.AskingLaws.{run-numbered, moved-sound}
 use Rattle.turn.proofs.TurnLaws.{taking, turns-refused, turn-sound}
 use Rattle.turn.proofs.CarriedLaws.{numbers-joined, moved-place, at-end, turn-carried, turns-carried, turn-unsound, turns-unsound, ends-done, ends-refused}
 use Rattle.turn.specs.Parts.{atPlace}
-use Rattle.step.proofs.TransferLaws.{ready}
+use Rattle.settings.proofs.FaultLaws.{ready}
 use Rattle.turn.proofs.take_turns.Statement.{statement}
 use Rattle.turn.proofs.take_turns.Tie as tie
 

@@ -1,0 +1,244 @@
+// Multiply, add, subtract, reverse subtract, and multiply by a number: answers 2 to 5, and the effect.
+use super::checks::check_elementwise;
+use super::checks::check_multiply;
+use super::factor_of;
+use super::tile_of;
+use machine::Answer;
+use machine::Factor;
+use machine::Machine;
+use machine::Matrix;
+use machine::Sum;
+use settings::sew_bytes;
+ghost use lib.IntN.{ℤ};
+ghost use mathlib.Core.Path.{_≡_};
+ghost use mathlib.Core.Bool.{true};
+ghost use mathlib.Core.List.{[], _∷_};
+ghost use Prim.Native.Nat.{_<_, _*_, _^_};
+ghost use lib.Dec.{eqb};
+ghost use Rattle.width.specs.Reduce.{reduce};
+ghost use Rattle.machine.specs.Answers.{verdict, isDone};
+ghost use Rattle.machine.specs.Geometry.{accAt};
+ghost use Rattle.machine.specs.Faults.{sound};
+ghost use Rattle.machine.specs.Refusals.{isZero};
+ghost use Rattle.machine.specs.Operation.{Operation, times};
+ghost use Rattle.settings.specs.Parts.{ours};
+ghost use Rattle.operations.specs.Parts.{multiplyChecks, WritesRegisters, MarksReady, AccumulatorFits, sourceChecks, accumulatorCheck, productChecks, combineChecks, scaleChecks};
+ghost use Rattle.width.specs.Tile.{markTile};
+
+// Answer 5 of a multiply's sources: nothing is read where C has no element.
+fn source_marks(m: Machine, marks: &[u8], factor: Factor, ms1: usize, ms2: usize) -> Answer
+    requires { ⌜ MarksReady m (now marks) ⌝ }
+    requires { ⌜ isDone (verdict (multiplyChecks m (times factor))) ≡ true ⌝ }
+    requires { ⌜ (ms1 < 8) × (ms2 < 8) ⌝ }
+    ensures { λ r. ⌜ r ≡ verdict (sourceChecks m (now (marks .entry)) ms1 ms2) ⌝ }
+{
+    if m.tile_m == 0 {
+        return Answer::Done;
+    }
+    if m.tile_n == 0 {
+        return Answer::Done;
+    }
+    let w = sew_bytes(m.mtype);
+    let a = tile_of(m, Matrix::MatrixA, ms1);
+    let first = tile::first_unmarked(marks, a.start, a.pitch, a.rows, a.columns, w);
+    if !tile::is_done(first) {
+        return first;
+    }
+    let b = tile_of(m, Matrix::MatrixB, ms2);
+    tile::first_unmarked(marks, b.start, b.pitch, b.rows, b.columns, w)
+}
+
+// Answer 5 of accumulator r at width bytes an element.
+fn accumulator_marks(m: Machine, marks: &[u8], r: usize, width: usize) -> Answer
+    requires { ⌜ MarksReady m (now marks) ⌝ }
+    requires { ⌜ AccumulatorFits m r width ⌝ }
+    ensures { λ a. ⌜ a ≡ verdict (accumulatorCheck m (now (marks .entry)) r width ∷ []) ⌝ }
+{
+    let c = tile_of(m, Matrix::MatrixC, r);
+    tile::first_unmarked(marks, c.start, c.pitch, c.rows, c.columns, width)
+}
+
+// Marks the C tile of accumulator r.
+fn mark_accumulator(m: Machine, marks: &mut [u8], r: usize, width: usize)
+    requires { ⌜ MarksReady m (now marks) ⌝ }
+    requires { ⌜ AccumulatorFits m r width ⌝ }
+    ensures { λ _. ⌜ now (marks .exit) ≡ markTile (accAt (ours m) r) (m .«tile_m») (m .«tile_n» * width) (now (marks .entry)) ⌝ }
+{
+    let c = tile_of(m, Matrix::MatrixC, r);
+    tile::mark_tile(marks, c.start, c.pitch, c.rows, c.columns * width);
+}
+
+// Answers 2 to 5 of a multiply.
+fn check_product(
+    m: Machine,
+    marks: &[u8],
+    factor: Factor,
+    md: usize,
+    ms1: usize,
+    ms2: usize,
+) -> Answer
+    requires { ⌜ MarksReady m (now marks) ⌝ }
+    requires { ⌜ (md < 2) × ((ms1 < 8) × (ms2 < 8)) ⌝ }
+    ensures { λ r. ⌜ r ≡ verdict (productChecks m (now (marks .entry)) (times factor) md ms1 ms2) ⌝ }
+{
+    let fitting = check_multiply(m, factor);
+    if !tile::is_done(fitting) {
+        return fitting;
+    }
+    let sources = source_marks(m, marks, factor, ms1, ms2);
+    if !tile::is_done(sources) {
+        return sources;
+    }
+    let wide = factor_of(factor) * sew_bytes(m.mtype);
+    accumulator_marks(m, marks, md, wide)
+}
+
+// Answers 2 to 5 of add, subtract and reverse subtract.
+fn check_combine(m: Machine, marks: &[u8], factor: Factor, md: usize, ms1: usize) -> Answer
+    requires { ⌜ MarksReady m (now marks) ⌝ }
+    requires { ⌜ (md < 2) × (ms1 < 2) ⌝ }
+    ensures { λ r. ⌜ r ≡ verdict (combineChecks m (now (marks .entry)) (times factor) md ms1) ⌝ }
+{
+    let fitting = check_elementwise(m, factor);
+    if !tile::is_done(fitting) {
+        return fitting;
+    }
+    let width = sew_bytes(m.mtype);
+    let source = accumulator_marks(m, marks, ms1, width);
+    if !tile::is_done(source) {
+        return source;
+    }
+    let wide = factor_of(factor) * width;
+    accumulator_marks(m, marks, md, wide)
+}
+
+// Answers 2 to 5 of an element-wise multiply: by 0 no source is read.
+fn check_scale(m: Machine, marks: &[u8], factor: Factor, ms1: usize, by_zero: bool) -> Answer
+    requires { ⌜ MarksReady m (now marks) ⌝ }
+    requires { ⌜ ms1 < 2 ⌝ }
+    ensures { λ r. ⌜ r ≡ verdict (scaleChecks m (now (marks .entry)) (times factor) ms1 «by_zero») ⌝ }
+{
+    let fitting = check_elementwise(m, factor);
+    if !tile::is_done(fitting) {
+        return fitting;
+    }
+    if by_zero {
+        return Answer::Done;
+    }
+    let width = sew_bytes(m.mtype);
+    accumulator_marks(m, marks, ms1, width)
+}
+
+// Answers 2 to 5, and md += ms1 x ms2. Every byte written was read, so it has its mark already.
+pub fn multiply(
+    m: Machine,
+    registers: &mut [u8],
+    marks: &[u8],
+    factor: Factor,
+    md: usize,
+    ms1: usize,
+    ms2: usize,
+) -> Answer
+    requires { ⌜ sound m (now registers) (now marks) ≡ true ⌝ }
+    requires { ⌜ (md < 2) × ((ms1 < 8) × (ms2 < 8)) ⌝ }
+    ensures { λ r. ⌜ WritesRegisters m (Operation.multiply (times factor) md ms1 ms2) (now (registers .entry)) (now (marks .entry)) [] r (now (registers .exit)) (now (marks .entry)) ⌝ }
+{
+    let answer = check_product(m, marks, factor, md, ms1, ms2);
+    if !tile::is_done(answer) {
+        return answer;
+    }
+    let f = factor_of(factor);
+    let w = sew_bytes(m.mtype);
+    let rows = (m.mlen / m.rlen) as usize;
+    let pitch = (m.rlen / 8) as usize;
+    arithmetic::multiply_tile(
+        registers,
+        rows,
+        pitch,
+        f,
+        w,
+        md,
+        ms1,
+        ms2,
+        m.tile_m as usize,
+        m.tile_k as usize,
+        m.tile_n as usize,
+    );
+    Answer::Done
+}
+
+// Answers 2 to 5, and the sum or difference. Every byte written was read, so it has its mark already.
+pub fn combine(
+    m: Machine,
+    registers: &mut [u8],
+    marks: &[u8],
+    sum: Sum,
+    factor: Factor,
+    md: usize,
+    ms1: usize,
+) -> Answer
+    requires { ⌜ sound m (now registers) (now marks) ≡ true ⌝ }
+    requires { ⌜ (md < 2) × (ms1 < 2) ⌝ }
+    ensures { λ r. ⌜ WritesRegisters m (Operation.combine sum (times factor) md ms1) (now (registers .entry)) (now (marks .entry)) [] r (now (registers .exit)) (now (marks .entry)) ⌝ }
+{
+    let answer = check_combine(m, marks, factor, md, ms1);
+    if !tile::is_done(answer) {
+        return answer;
+    }
+    let f = factor_of(factor);
+    let w = sew_bytes(m.mtype);
+    let rows = (m.mlen / m.rlen) as usize;
+    let pitch = (m.rlen / 8) as usize;
+    arithmetic::combine_tile(
+        registers,
+        rows,
+        pitch,
+        sum,
+        f,
+        w,
+        md,
+        ms1,
+        m.tile_m as usize,
+        m.tile_n as usize,
+    );
+    Answer::Done
+}
+
+// Answers 2 to 5, and md = ms1 times a number of which multiplier is the residue at 32 bits.
+pub fn scale(
+    m: Machine,
+    registers: &mut [u8],
+    marks: &mut [u8],
+    factor: Factor,
+    md: usize,
+    ms1: usize,
+    multiplier: u32,
+) -> Answer
+    requires { ⌜ sound m (now registers) (now marks) ≡ true ⌝ }
+    requires { ⌜ (md < 2) × (ms1 < 2) ⌝ }
+    ensures { λ r. ⌜ ((z : ℤ) → reduce (2 ^ 32) z ≡ multiplier → isZero z ≡ eqb multiplier 0
+        → WritesRegisters m (Operation.scale (times factor) md ms1 z) (now (registers .entry)) (now (marks .entry)) [] r (now (registers .exit)) (now (marks .exit))) ⌝ }
+{
+    let answer = check_scale(m, marks, factor, ms1, multiplier == 0);
+    if !tile::is_done(answer) {
+        return answer;
+    }
+    let f = factor_of(factor);
+    let w = sew_bytes(m.mtype);
+    let rows = (m.mlen / m.rlen) as usize;
+    let pitch = (m.rlen / 8) as usize;
+    arithmetic::scale_tile(
+        registers,
+        rows,
+        pitch,
+        f,
+        w,
+        md,
+        ms1,
+        multiplier,
+        m.tile_m as usize,
+        m.tile_n as usize,
+    );
+    mark_accumulator(m, marks, md, f * w);
+    Answer::Done
+}

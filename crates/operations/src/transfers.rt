@@ -1,0 +1,85 @@
+// Loads and stores.
+use super::checks::check_transfer;
+use super::tile_of;
+use machine::Answer;
+use machine::Machine;
+use machine::Matrix;
+ghost use mathlib.Core.Path.{_≡_};
+ghost use mathlib.Core.Bool.{true};
+ghost use Prim.Native.Nat.{_<_};
+ghost use Rattle.machine.specs.Geometry.{registerCount};
+ghost use Rattle.machine.specs.Faults.{sound};
+ghost use Rattle.machine.specs.Operation.{Operation};
+ghost use Rattle.operations.specs.Parts.{WritesRegisters, WritesMemory};
+
+// Answers 2 to 4 and 6, and the load.
+pub fn load(
+    m: Machine,
+    registers: &mut [u8],
+    marks: &mut [u8],
+    memory: &[u8],
+    matrix: Matrix,
+    width: usize,
+    md: usize,
+    base: u64,
+    stride: u64,
+) -> Answer
+    requires { ⌜ sound m (now registers) (now marks) ≡ true ⌝ }
+    requires { ⌜ md < registerCount matrix ⌝ }
+    ensures { λ r. ⌜ WritesRegisters m (Operation.load matrix md width base stride) (now (registers .entry)) (now (marks .entry)) (now (memory .entry)) r (now (registers .exit)) (now (marks .exit)) ⌝ }
+{
+    let fitting = check_transfer(m, matrix, width);
+    if !tile::is_done(fitting) {
+        return fitting;
+    }
+    let p = tile_of(m, matrix, md);
+    tile::load(
+        registers,
+        marks,
+        memory,
+        p.start,
+        p.pitch,
+        base,
+        stride,
+        p.rows,
+        p.columns,
+        width,
+    )
+}
+
+// Answers 2 to 7, and the store.
+pub fn store(
+    m: Machine,
+    registers: &[u8],
+    marks: &[u8],
+    memory: &mut [u8],
+    matrix: Matrix,
+    width: usize,
+    ms3: usize,
+    base: u64,
+    stride: u64,
+) -> Answer
+    requires { ⌜ sound m (now registers) (now marks) ≡ true ⌝ }
+    requires { ⌜ ms3 < registerCount matrix ⌝ }
+    ensures { λ r. ⌜ WritesMemory m (Operation.store matrix ms3 width base stride) (now (registers .entry)) (now (marks .entry)) (now (memory .entry)) r (now (memory .exit)) ⌝ }
+{
+    let fitting = check_transfer(m, matrix, width);
+    if !tile::is_done(fitting) {
+        return fitting;
+    }
+    let p = tile_of(m, matrix, ms3);
+    tile::store(
+        registers,
+        marks,
+        memory,
+        m.seal_start,
+        m.seal_length,
+        p.start,
+        p.pitch,
+        base,
+        stride,
+        p.rows,
+        p.columns,
+        width,
+    )
+}

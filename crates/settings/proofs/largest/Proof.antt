@@ -1,0 +1,57 @@
+use mathlib.Core.Path.{sym, ap, _∙_}
+use Prim.Native.Nat.{ℕ, _-_, _/_, min}
+use native.Mathlib.Omega.{arith}
+use Rattle.machine.specs.Setting.{maximum, smaller}
+use Rattle.settings.specs.Parts.{ours}
+use Rattle.machine.proofs.CodeLaws.{arises}
+use Rattle.machine.proofs.StepLaws.{permitted-bounds}
+use borrow.Author.Needs.{needs}
+use Rattle.settings.proofs.largest.Statement.{statement}
+use Rattle.settings.proofs.largest.Tie as tie
+
+div-rows : tie.Need-div-rows
+div-rows c =
+    let s = c .before in
+    let b = permitted-bounds (s .args .m .rlen) (s .args .m .mlen) (s .pre .0 .lengths) in
+    omega arith
+
+sew-bytes-requires : tie.Need-sew-bytes-requires
+sew-bytes-requires c κs =
+    let s = c .before .before in
+    arises (s .args .m .mtype) (s .pre .0 .type-arises) (s .pre .1)
+
+div-columns : tie.Need-div-columns
+div-columns c = search needs
+
+enum-told : tie.Need-enum-told
+enum-told c = search needs
+
+enum-told-2 : tie.Need-enum-told-2
+enum-told-2 c = search needs
+
+smaller-requires : tie.Need-smaller-requires
+smaller-requires c κs = search needs
+
+enum-told-3 : tie.Need-enum-told-3
+enum-told-3 c = search needs
+
+returns : tie.Need-returns
+returns c =
+    let m = c .before .before .before .before .before .args .m in
+    ap (maximum (ours m) (m .mtype)) (sym (c .enum-told .given .1))
+
+returns-2 : tie.Need-returns-2
+returns-2 c =
+    let w = c .before .before .before in
+    let m = w .before .before .before .args .m in
+    c .smaller .ensures ∙ ap (λ (e : ℕ). min (m .mlen / m .rlen) (m .rlen / 8 / e)) (w .sew-bytes .ensures .0)
+    ∙ ap (maximum (ours m) (m .mtype)) (sym (c .before .enum-told2 .given .1))
+
+returns-3 : tie.Need-returns-3
+returns-3 c =
+    let w = c .before .before in
+    let m = w .before .before .before .args .m in
+    ap (λ (e : ℕ). m .rlen / 8 / e) (w .sew-bytes .ensures .0) ∙ ap (maximum (ours m) (m .mtype)) (sym (c .enum-told3 .given .1))
+
+pub largest-spec : {M : Type 1} → statement M
+largest-spec = tie.close (tie.spec div-rows sew-bytes-requires div-columns enum-told enum-told-2 smaller-requires enum-told-3 returns returns-2 returns-3)

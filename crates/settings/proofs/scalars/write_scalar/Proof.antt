@@ -1,0 +1,23 @@
+use Prim.Native.Nat.{_-_}
+use borrow.Author.Tests.{eq-eqb, ne-eqb}
+use borrow.Author.Needs.{needs}
+use Rattle.settings.proofs.scalars.write_scalar.Statement.{statement}
+use Rattle.settings.proofs.scalars.write_scalar.Tie as tie
+
+mul-scalars : tie.Need-mul-scalars
+mul-scalars c = search needs
+
+slice-write-scalars : tie.Need-slice-write-scalars
+slice-write-scalars c = search needs
+
+same-length : tie.Need-same-length
+same-length c = search needs
+
+returns : tie.Need-returns
+returns c = rw (ne-eqb (c .before .args .slot) 0 (c .if1 .taken))
+
+returns-2 : tie.Need-returns-2
+returns-2 c = rw (eq-eqb (c .before .args .slot) 0 (c .if1 .left))
+
+pub write-scalar-spec : {M : Type 1} → statement M
+write-scalar-spec = tie.close (tie.spec mul-scalars slice-write-scalars same-length returns returns-2)

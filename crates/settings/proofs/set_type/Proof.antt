@@ -1,0 +1,31 @@
+use mathlib.Core.Path.{ap, _∙_}
+use Prim.Native.Nat.{_-_}
+use Rattle.settings.specs.Parts.{withType}
+use Rattle.machine.specs.Geometry.{withScalar}
+use borrow.Author.Needs.{needs}
+use Rattle.settings.proofs.set_type.Statement.{statement}
+use Rattle.settings.proofs.set_type.Tie as tie
+
+kept-type-requires : tie.Need-kept-type-requires
+kept-type-requires c κs = search needs
+
+write-scalar-requires : tie.Need-write-scalar-requires
+write-scalar-requires c κs = search needs
+
+with-type-requires : tie.Need-with-type-requires
+with-type-requires c κs = search needs
+
+same-length : tie.Need-same-length
+same-length c = search needs
+
+returns : tie.Need-returns
+returns c =
+    let w = c .before .before .before in
+    let k = w .before .before in
+    let a = k .before .before .args in (
+      c .with-type .ensures ∙ ap (withType (a .m)) (k .kept-type .ensures),
+      w .write-scalar .ensures ∙ ap (withScalar (a .scalars .now) (a .rd)) (k .kept-type .ensures),
+    )
+
+pub set-type-spec : {M : Type 1} → statement M
+set-type-spec = tie.close (tie.spec kept-type-requires write-scalar-requires with-type-requires same-length returns)

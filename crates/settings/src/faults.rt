@@ -1,0 +1,58 @@
+// Answer 8: whether a state is at fault.
+use super::kept_type;
+use super::smaller;
+use machine::Machine;
+ghost use mathlib.Core.Path.{_≡_};
+ghost use lib.Dec.{eqb};
+ghost use Rattle.machine.specs.Geometry.{elen};
+ghost use Rattle.machine.specs.Setting.{newType};
+ghost use Rattle.machine.specs.Faults.{sound};
+ghost use Rattle.settings.specs.Parts.{numbersSound};
+
+// Whether the machine's numbers are ones that a machine can hold.
+fn numbers_sound(m: Machine) -> bool
+    ensures { λ r. ⌜ r ≡ numbersSound m ⌝ }
+{
+    let rlen = m.rlen;
+    let mlen = m.mlen;
+    if !machine::permitted_lengths(rlen, mlen) {
+        return false;
+    }
+    if !type_arises(m.mtype) {
+        return false;
+    }
+    let rows = mlen / rlen;
+    let pitch = rlen / 8;
+    if m.tile_m > rows {
+        return false;
+    }
+    if m.tile_k > smaller(rows, pitch) {
+        return false;
+    }
+    if m.tile_n > pitch {
+        return false;
+    }
+    m.seal_length <= 18446744073709551615 - m.seal_start
+}
+
+fn type_arises(mtype: u64) -> bool
+    ensures { λ r. ⌜ r ≡ eqb (newType elen mtype) mtype ⌝ }
+{
+    kept_type(mtype) == mtype
+}
+
+// Whether the state is not at fault.
+pub fn is_sound(m: Machine, registers: &[u8], marks: &[u8]) -> bool
+    ensures { λ r. ⌜ r ≡ sound m (now (registers .entry)) (now (marks .entry)) ⌝ }
+{
+    if !numbers_sound(m) {
+        return false;
+    }
+    if registers.len() as u64 != 2 * m.mlen {
+        return false;
+    }
+    if marks.len() as u64 != 2 * m.mlen {
+        return false;
+    }
+    tile::marks_sound(marks)
+}

@@ -1,0 +1,122 @@
+use mathlib.Core.Path.{_≡_, refl, ap, _∙_}
+use mathlib.Core.Bool.{true}
+use borrow.Author.Needs.{needs}
+use Rattle.machine.specs.Geometry.{Bench, benchOf, parameters}
+use Rattle.machine.specs.Faults.{sound}
+use Rattle.machine.specs.Setting.{smaller}
+use Rattle.run.specs.declared.RunStarted.{RunStarted}
+use Rattle.run.specs.Start.{planned, lying, separate, startedAs}
+use Rattle.address.proofs.TestLaws.{test-failed, test-passed}
+use Rattle.starting.proofs.StartLaws.{started-by}
+use Rattle.starting.proofs.start.Statement.{statement}
+use Rattle.starting.proofs.start.Tie as tie
+
+-- what the start is lent
+abbrev bench : tie.Start → Bench
+bench s = let a = s .args in benchOf (a .m) (a .registers .now) (a .marks .now) (a .memory .now)
+
+is-sound-requires : tie.Need-is-sound-requires
+is-sound-requires c κs = search needs
+
+refused-requires : tie.Need-refused-requires
+refused-requires c κs = search needs
+
+returns : tie.Need-returns
+returns c =
+    let d = c .before .before in
+    let s = d .before .before .before .before in
+    let a = s .args in
+    ap (λ (r : RunStarted). startedAs r (bench s)) (c .refused .ensures)
+    ∙ started-by (a .plan) (bench s)
+    (test-failed (d .is-sound .result) (sound (a .m) (a .registers .now) (a .marks .now)) (d .is-sound .ensures) (c .before .if1 .taken)) refl refl refl
+
+-- the state is not at fault
+fine : (c : tie.Else1) → let a = c .before .before .before .before .before .args in sound (a .m) (a .registers .now) (a .marks .now) ≡ true
+fine c =
+    let a = c .before .before .before .before .before .args in
+    test-passed (c .before .is-sound .result) (sound (a .m) (a .registers .now) (a .marks .now)) (c .before .is-sound .ensures) (c .if1 .left)
+
+is-planned-requires : tie.Need-is-planned-requires
+is-planned-requires c κs = search needs
+
+refused-requires-2 : tie.Need-refused-requires-2
+refused-requires-2 c κs = search needs
+
+returns-2 : tie.Need-returns-2
+returns-2 c =
+    let d = c .before .before in
+    let e = d .before in
+    let s = e .before .before .before .before .before in
+    ap (λ (r : RunStarted). startedAs r (bench s)) (c .refused2 .ensures)
+    ∙ started-by (s .args .plan) (bench s) (fine e) (test-failed (d .is-planned .result) (planned (s .args .plan)) (d .is-planned .ensures) (c .before .if2 .taken)) refl refl
+
+-- the plan's numbers are permitted
+plan-ok : (c : tie.Else2) → planned (c .before .before .before .before .before .before .before .args .plan) ≡ true
+plan-ok c = test-passed (c .before .is-planned .result) (planned (c .before .before .before .before .before .before .before .args .plan)) (c .before .is-planned .ensures) (c .if2 .left)
+
+is-lying-requires : tie.Need-is-lying-requires
+is-lying-requires c κs = plan-ok c
+
+refused-requires-3 : tie.Need-refused-requires-3
+refused-requires-3 c κs = search needs
+
+returns-3 : tie.Need-returns-3
+returns-3 c =
+    let d = c .before .before in
+    let f = d .before in
+    let e = f .before .before in
+    let s = e .before .before .before .before .before in
+    ap (λ (r : RunStarted). startedAs r (bench s)) (c .refused3 .ensures)
+    ∙ started-by (s .args .plan) (bench s) (fine e) (plan-ok f)
+    (test-failed (d .is-lying .result) (lying (s .args .plan) (s .args .memory .now)) (d .is-lying .ensures) (c .before .if3 .taken)) refl
+
+-- the matrices lie in memory
+lies : (c : tie.Else3) → let a = c .before .before .before .before .before .before .before .before .before .args in lying (a .plan) (a .memory .now) ≡ true
+lies c =
+    let a = c .before .before .before .before .before .before .before .before .before .args in
+    test-passed (c .before .is-lying .result) (lying (a .plan) (a .memory .now)) (c .before .is-lying .ensures) (c .if3 .left)
+
+is-separate-requires : tie.Need-is-separate-requires
+is-separate-requires c κs = (plan-ok (c .before .before), lies c)
+
+refused-requires-4 : tie.Need-refused-requires-4
+refused-requires-4 c κs = search needs
+
+returns-4 : tie.Need-returns-4
+returns-4 c =
+    let d = c .before .before in
+    let g = d .before in
+    let f = g .before .before in
+    let e = f .before .before in
+    let s = e .before .before .before .before .before in
+    ap (λ (r : RunStarted). startedAs r (bench s)) (c .refused4 .ensures)
+    ∙ started-by (s .args .plan) (bench s) (fine e) (plan-ok f) (lies g)
+    (test-failed (d .is-separate .result) (separate (parameters smaller (s .args .m)) (s .args .plan)) (d .is-separate .ensures) (c .before .if4 .taken))
+
+returns-5 : tie.Need-returns-5
+returns-5 c =
+    let d = c .before in
+    let g = d .before in
+    let f = g .before .before in
+    let e = f .before .before in
+    let s = e .before .before .before .before .before in
+    started-by (s .args .plan) (bench s) (fine e) (plan-ok f) (lies g)
+    (test-passed (d .is-separate .result) (separate (parameters smaller (s .args .m)) (s .args .plan)) (d .is-separate .ensures) (c .if4 .left))
+
+pub start-spec : {M : Type 1} → statement M
+start-spec =
+    tie.close
+    (tie.spec
+    is-sound-requires
+    refused-requires
+    returns
+    is-planned-requires
+    refused-requires-2
+    returns-2
+    is-lying-requires
+    refused-requires-3
+    returns-3
+    is-separate-requires
+    refused-requires-4
+    returns-4
+    returns-5)

@@ -1,0 +1,56 @@
+// Starting a product run on a machine: 8, then 6, then 9.
+use machine::Answer;
+use machine::Machine;
+use run::Place;
+use run::Plan;
+use run::Run;
+use run::RunStarted;
+ghost use mathlib.Core.Path.{_≡_};
+ghost use Rattle.machine.specs.Geometry.{benchOf};
+ghost use Rattle.machine.specs.Setting.{smaller};
+ghost use Rattle.run.specs.Start.{startRun, startedAs, noRun};
+
+mod tests; // the tests of a start on memory
+
+// What a refused start returns: a run that hands out nothing.
+fn refused(plan: Plan, answer: Answer) -> RunStarted
+    ensures { λ r. ⌜ r ≡ record { answer = answer; run = noRun plan } ⌝ }
+{
+    RunStarted {
+        answer: answer,
+        run: Run {
+            plan: plan,
+            rlen: 0,
+            mlen: 0,
+            place: Place::AtEnd,
+        },
+    }
+}
+
+// Starts a run on a machine: 8, then 6, then 9.
+pub fn start(plan: Plan, m: Machine, registers: &[u8], marks: &[u8], memory: &[u8]) -> RunStarted
+    ensures { λ r. ⌜ startedAs r (benchOf m (now (registers .entry)) (now (marks .entry)) (now (memory .entry)))
+        ≡ startRun smaller plan (benchOf m (now (registers .entry)) (now (marks .entry)) (now (memory .entry))) ⌝ }
+{
+    if !settings::faults::is_sound(m, registers, marks) {
+        return refused(plan, Answer::BadArguments);
+    }
+    if !asking::is_planned(plan) {
+        return refused(plan, Answer::BadArguments);
+    }
+    if !tests::is_lying(plan, memory) {
+        return refused(plan, Answer::OutsideMemory);
+    }
+    if !tests::is_separate(plan, m, memory) {
+        return refused(plan, Answer::Overlap);
+    }
+    RunStarted {
+        answer: Answer::Done,
+        run: Run {
+            plan: plan,
+            rlen: m.rlen,
+            mlen: m.mlen,
+            place: Place::AtType,
+        },
+    }
+}

@@ -1,0 +1,84 @@
+-- Multipliers, and a decoded word's fields.
+use mathlib.Core.Path.{_≡_, refl, sym, ap, _∙_, subst}
+use mathlib.Core.Bool.{Bool, true, false, cond}
+use mathlib.Core.List.{[], _∷_}
+use Prim.Native.Nat.{ℕ, zero, suc, _+_, _-_, _%_, _^_, _≤_, _<_}
+use native.Mathlib.Omega.{arith}
+use lib.Dec.{ltb, eqb}
+use lib.IntN.{pos}
+use borrow.Author.Tests.{lt-ltb, le-ltb, ltb-true, ne-eqb}
+use Rattle.width.specs.Reduce.{reduce, signed}
+use Rattle.width.proofs.ReduceLaws.{widened}
+use Rattle.machine.specs.declared.Instruction.{Instruction}
+use Rattle.machine.specs.declared.Instruction.the-variants.{Illegal, SetTypeImmediate, SetType, SetTileImmediate, SetTile, Load, Store, Multiply, Combine, Scale, ScaleImmediate}
+use mathlib.Core.Logic.{inl, inr}
+use types.Run.{OneOf}
+use Rattle.machine.proofs.MatchLaws.{found}
+use Rattle.machine.specs.Listing.{decode, inRange}
+use Rattle.machine.specs.Tests.{isIn}
+use Rattle.machine.specs.Geometry.{elen, registerCount}
+use Rattle.machine.specs.Setting.{sew, newType}
+use Rattle.machine.specs.Refusals.{isZero}
+use Rattle.machine.proofs.TestLaws.{every-each}
+use Rattle.machine.proofs.CodeLaws.{bounded, decode-bounded, types-are}
+use Rattle.settings.specs.Parts.{legalTypes}
+use Rattle.step.specs.Parts.{Multiplier, Decoded}
+
+-- ---- multipliers
+
+zero-pos : (x : ℕ) → isZero (pos x) ≡ eqb x 0
+zero-pos zero = refl
+zero-pos (suc x) = sym (ne-eqb (suc x) 0 (λ e. absurd (omega arith)))
+
+pub extend-low : (x half : ℕ) → x < half → half ≤ 2147483648 → (x ≡ reduce (2 ^ 32) (signed (half + half) x)) × (isZero (signed (half + half) x) ≡ eqb x 0)
+extend-low x half l h =
+    let t : ltb (x + x) (half + half) ≡ true = lt-ltb (x + x) (half + half) (omega arith) in
+    (sym (widened (half + half) (2 ^ 32) x (omega arith) (omega arith) ∙ rw t), rw t (zero-pos x))
+
+pub extend-high : (x half r : ℕ) → half ≤ x → x < half + half → half ≤ 2147483648 → r ≡ x + (4294967296 - half - half)
+    → (r ≡ reduce (2 ^ 32) (signed (half + half) x)) × (isZero (signed (half + half) x) ≡ eqb r 0)
+extend-high x half r g l h e =
+    let t : ltb (x + x) (half + half) ≡ false = le-ltb (x + x) (half + half) (omega arith) in
+    (e ∙ sym (widened (half + half) (2 ^ 32) x l (omega arith) ∙ rw t (omega arith)), rw t (sym (ne-eqb r 0 (λ z. absurd (omega arith)))))
+
+pub multiplier-is : (t k v r : ℕ) → t % 8 ≡ k → (r ≡ reduce (2 ^ 32) (signed (256 ^ (2 ^ k)) (v % 256 ^ (2 ^ k)))) × (isZero (signed (256 ^ (2 ^ k)) (v % 256 ^ (2 ^ k))) ≡ eqb r 0)
+    → Multiplier (signed (256 ^ sew t) (v % 256 ^ sew t)) r
+unfolding sew
+multiplier-is t k v r e h =
+    subst (λ (k : ℕ). Multiplier (signed (256 ^ (2 ^ k)) (v % 256 ^ (2 ^ k))) r) (sym e) (record { residue = sym (h .0); zero-is = h .1 })
+
+-- a decoded word's fields
+in-range : (i : Instruction) → bounded i ≡ true → inRange i ≡ true → Decoded i
+in-range (Illegal wrong) b r = tt
+in-range (SetTypeImmediate rd immediate) b r = ltb-true rd 32 (every-each (ltb rd 32 ∷ ltb immediate 8192 ∷ []) b .0)
+in-range (SetType rd rs1) b r = let t = every-each (ltb rd 32 ∷ ltb rs1 32 ∷ []) b in (ltb-true rd 32 (t .0), ltb-true rs1 32 (t .1 .0))
+in-range (SetTileImmediate dimension rd immediate) b r = ltb-true rd 32 (every-each (ltb rd 32 ∷ ltb immediate 8192 ∷ []) b .0)
+in-range (SetTile dimension rd rs1) b r = let t = every-each (ltb rd 32 ∷ ltb rs1 32 ∷ []) b in (ltb-true rd 32 (t .0), ltb-true rs1 32 (t .1 .0))
+in-range (Load matrix width md rs1 rs2) b r =
+    let t = every-each (ltb rs1 32 ∷ ltb rs2 32 ∷ []) b in (ltb-true md (registerCount matrix) r, (ltb-true rs1 32 (t .0), ltb-true rs2 32 (t .1 .0)))
+in-range (Store matrix width ms3 rs1 rs2) b r =
+    let t = every-each (ltb rs1 32 ∷ ltb rs2 32 ∷ []) b in (ltb-true ms3 (registerCount matrix) r, (ltb-true rs1 32 (t .0), ltb-true rs2 32 (t .1 .0)))
+in-range (Multiply factor md ms1 ms2) b r =
+    let t = every-each (ltb md 2 ∷ ltb ms1 8 ∷ ltb ms2 8 ∷ []) r in (ltb-true md 2 (t .0), (ltb-true ms1 8 (t .1 .0), ltb-true ms2 8 (t .1 .1 .0)))
+in-range (Combine sum factor md ms1) b r = let t = every-each (ltb md 2 ∷ ltb ms1 2 ∷ []) r in (ltb-true md 2 (t .0), ltb-true ms1 2 (t .1 .0))
+in-range (Scale factor md ms1 rs2) b r =
+    let t = every-each (ltb md 2 ∷ ltb ms1 2 ∷ []) r in ((ltb-true md 2 (t .0), ltb-true ms1 2 (t .1 .0)), ltb-true rs2 32 b)
+in-range (ScaleImmediate factor md ms1 immediate) b r =
+    let t = every-each (ltb md 2 ∷ ltb ms1 2 ∷ []) r in ((ltb-true md 2 (t .0), ltb-true ms1 2 (t .1 .0)), ltb-true immediate 32 b)
+
+pub decoded : (word : ℕ) (i : Instruction) → i ≡ decode word → Decoded i
+decoded word i e = subst Decoded (sym e) (let h = decode-bounded word in in-range (decode word) (h .0) (h .1))
+
+-- an mtype that can arise has msew 0, 1 or 2
+pub type-small : (t : ℕ) → newType elen t ≡ t → t % 8 < 3
+type-small t e = go (isIn t legalTypes) refl
+  where
+    low : OneOf legalTypes t → t % 8 < 3
+    low (inl z) = subst (λ (t : ℕ). t % 8 < 3) (sym z) (omega arith)
+    low (inr (inl z)) = subst (λ (t : ℕ). t % 8 < 3) (sym z) (omega arith)
+    low (inr (inr (inl z))) = subst (λ (t : ℕ). t % 8 < 3) (sym z) (omega arith)
+    low (inr (inr (inr z))) = subst (λ (t : ℕ). t % 8 < 3) (sym z) (omega arith)
+
+    go : (b : Bool) → isIn t legalTypes ≡ b → t % 8 < 3
+    go true d = low (found legalTypes t d)
+    go false d = let z : t ≡ 2 ^ 63 = sym e ∙ types-are t ∙ ap (λ (b : Bool). cond b t (2 ^ 63)) d in subst (λ (t : ℕ). t % 8 < 3) (sym z) (omega arith)

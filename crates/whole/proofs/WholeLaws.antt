@@ -1,0 +1,96 @@
+-- What the calls of a whole run return is what its statement says; it takes no more turns than there are steps.
+use mathlib.Core.Path.{_≡_, sym, ap, ap₂, _∙_, subst}
+use mathlib.Core.Bool.{true, false}
+use Prim.Native.Nat.{ℕ, zero, suc, _+_, _*_, _-_, _≤_, _<_, _^_}
+use native.Mathlib.Nat.{zero-lt-suc, div-zero, div-lt-iff-lt-mul, mul-le-mul, mul-le-mul-right}
+use native.Mathlib.Omega.{arith}
+use Rattle.width.specs.Blocks.{count}
+use Rattle.machine.specs.declared.Answer.{Answer}
+use Rattle.machine.specs.Answers.{number, isDone}
+use Rattle.machine.specs.Geometry.{Bench}
+use Rattle.machine.specs.Setting.{smaller}
+use Rattle.machine.proofs.TestLaws.{false-true}
+use Rattle.machine.proofs.CodeLaws.{only-done}
+use Rattle.run.specs.declared.Plan.{Plan}
+use Rattle.run.specs.declared.RunStarted.{RunStarted}
+use Rattle.run.specs.Words.{Shape, steps}
+use Rattle.run.specs.Plan.{shape}
+use Rattle.run.specs.Start.{RunStart, startRun, startedAs}
+use Rattle.run.specs.Turn.{running, TurnsOutcome, turn, afterTurns, turns}
+use Rattle.run.specs.Statement.{Bytes, Demand3, jobOf, startedRun}
+use Rattle.run.specs.Whole.{WholeOutcome, whole, Delivers}
+use Rattle.run.proofs.RefusalLaws.{number-done, number-refused}
+use Rattle.run.proofs.Demand1.{whole-refusal-changes-nothing}
+use Rattle.run.proofs.Demand3.{demand-3-ours}
+use Rattle.run.proofs.Whole.{whole-delivers}
+use Rattle.turn.proofs.TurnLaws.{turns-stop}
+
+-- ---- how many steps there are
+
+count-least : (max n : ℕ) → count max n ≤ n
+count-least zero n = omega (arith, div-zero (n + (0 - 1)))
+count-least (suc d) n =
+    let l : n + (suc d - 1) < suc n * suc d = omega (arith, mul-le-mul-right n (zero-lt-suc d)) in
+    omega (arith, div-lt-iff-lt-mul {k = suc d} {x = n + (suc d - 1)} {y = suc n} (omega arith) .1 l)
+
+-- with sizes up to 1,024
+pub few-steps : (S : Shape) → S .m ≤ 1024 → S .k ≤ 1024 → S .n ≤ 1024 → steps S < 2 ^ 64
+few-steps S hm hk hn =
+    let cm = count-least (S .tm) (S .m) in
+    let ck = count-least (S .tk) (S .k) in
+    let cn = count-least (S .tn) (S .n) in
+    let inner : count (S .tn) (S .n) * (3 + 4 * count (S .tk) (S .k)) ≤ 1024 * 4099 = mul-le-mul {n₂ = 1024} {m₂ = 4099} (omega arith) (omega arith) in
+    let outer : count (S .tm) (S .m) * (1 + count (S .tn) (S .n) * (3 + 4 * count (S .tk) (S .k))) ≤ 1024 * 4197377 = mul-le-mul {n₂ = 1024} {m₂ = 4197377} (omega arith) (omega arith) in
+    omega arith
+
+-- ---- a refused start
+
+module _ (P : Plan) (B : Bench) where
+  abbrev all : ℕ
+  all = steps (shape (jobOf smaller P B))
+
+  pub whole-refused : isDone (startRun smaller P B .answer) ≡ false → whole smaller P B ≡ record { answer = startRun smaller P B .answer; count = 0; bench = B }
+  whole-refused h =
+      let r = whole-refusal-changes-nothing smaller P B (λ z. false-true (sym h ∙ number-done (startRun smaller P B .answer) z)) in
+      ap₂ (λ (n : ℕ) (C : Bench). record { answer = startRun smaller P B .answer; count = n; bench = C }) (r .0) (r .1)
+
+  -- ---- an accepted one
+
+  module _ (bytes : Bytes (B .memory)) where
+    the-demand : Demand3 smaller P B
+    the-demand = demand-3-ours P B bytes
+
+    -- no more turns are answered 0 than there are steps, however many are taken
+    whole-done : number (startRun smaller P B .answer) ≡ 0 → (n : ℕ) → all ≤ n → turns smaller (startedRun smaller P B) n ≡ turns smaller (startedRun smaller P B) all
+    whole-done e n l =
+        let p = the-demand .turns e all .past-end (omega arith) .answers in
+        sym (turns-stop (startedRun smaller P B) all n l (number-refused (turn smaller (afterTurns smaller (startedRun smaller P B) all) .answer) (λ z. let f : 8 ≡ 0 = sym p ∙ z in omega arith)))
+
+    -- ---- from what the calls return
+
+    abbrev Finishes : WholeOutcome → Type 0
+    Finishes o = (o ≡ whole smaller P B) × Delivers P B o
+
+    finishes : (o : WholeOutcome) → o ≡ whole smaller P B → Finishes o
+    finishes o e = (e, subst (Delivers P B) (sym e) (whole-delivers P B bytes))
+
+    answer-is : (s : RunStarted) → startedAs s B ≡ startRun smaller P B → s .answer ≡ startRun smaller P B .answer
+    answer-is s e = ap (λ (r : RunStart). r .answer) e
+
+    pub finishes-refused : (s : RunStarted) → startedAs s B ≡ startRun smaller P B → isDone (s .answer) ≡ false
+        → Finishes (record { answer = s .answer; count = 0; bench = B })
+    finishes-refused s e d =
+        let a = answer-is s e in
+        finishes _ (ap (λ (a : Answer). record { answer = a; count = 0; bench = B }) a ∙ sym (whole-refused (sym (ap isDone a) ∙ d)))
+
+    pub finishes-done : (s : RunStarted) → startedAs s B ≡ startRun smaller P B → isDone (s .answer) ≡ true
+        → (t : TurnsOutcome) → t ≡ turns smaller (running (s .run) B) 18446744073709551615
+        → Finishes (record { answer = s .answer; count = t .count; bench = t .after .bench })
+    finishes-done s e d t h =
+        let a = answer-is s e in
+        let ok : number (startRun smaller P B .answer) ≡ 0 = ap number (sym a ∙ only-done (s .answer) d) in
+        let n = the-demand .answered .only-then ok .0 in
+        let few = few-steps (shape (jobOf smaller P B)) (n .m-fits) (n .k-fits) (n .n-fits) in
+        finishes _
+        (ap₂ (λ (a : Answer) (t : TurnsOutcome). record { answer = a; count = t .count; bench = t .after .bench }) a
+        (h ∙ ap (λ (r : RunStart). turns smaller (running (r .run) (r .bench)) 18446744073709551615) e ∙ whole-done ok 18446744073709551615 (omega arith)))

@@ -1,0 +1,40 @@
+// A whole product run on a machine: its start, and all its turns.
+use machine::Machine;
+use run::Finished;
+use run::Plan;
+ghost use mathlib.Core.Path.{_≡_};
+ghost use Rattle.machine.specs.Geometry.{benchOf};
+ghost use Rattle.machine.specs.Setting.{smaller};
+ghost use Rattle.run.specs.Whole.{whole, finishedAs, Delivers};
+
+// Starts a run and takes turns until one is refused: C becomes the product, and no other byte of memory changes.
+pub fn product(
+    plan: Plan,
+    m: Machine,
+    registers: &mut [u8],
+    marks: &mut [u8],
+    memory: &mut [u8],
+) -> Finished
+    ensures { λ r. ⌜ finishedAs r (now (registers .exit)) (now (marks .exit)) (now (memory .exit))
+        ≡ whole smaller plan (benchOf m (now (registers .entry)) (now (marks .entry)) (now (memory .entry))) ⌝ }
+    ensures { λ r. ⌜ Delivers plan (benchOf m (now (registers .entry)) (now (marks .entry)) (now (memory .entry)))
+        (finishedAs r (now (registers .exit)) (now (marks .exit)) (now (memory .exit))) ⌝ }
+{
+    let started = starting::start(plan, m, registers, marks, memory);
+    let answer = started.answer;
+    if !tile::is_done(answer) {
+        return Finished {
+            answer: answer,
+            count: 0,
+            machine: m,
+        };
+    }
+    let run = started.run;
+    let taken = turn::turns(18446744073709551615, run, m, registers, marks, memory);
+    let after = taken.machine;
+    Finished {
+        answer: answer,
+        count: taken.count,
+        machine: after,
+    }
+}
