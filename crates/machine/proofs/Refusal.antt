@@ -2,14 +2,14 @@
 use mathlib.Core.Path.{_≡_, refl}
 use mathlib.Core.Bool.{Bool, true, false, cond}
 use lib.ListN.{length, replicate}
-use Rattle.machine.specs.declared.Answer.the-variants.{Done, IllegalWord, IllegalType, BadWidth, TileTooLarge, Unwritten, OutsideMemory, SealedByte, BadArguments, Overlap, WrongOpcode, LeftOutWord, WrongRegister}
+use Rattle.machine.specs.declared.Answer.the-variants.{Done, BadArguments}
 use Rattle.machine.specs.Answers.{isDone, verdict}
 use Rattle.machine.specs.Geometry.{parameters}
 use Rattle.machine.specs.Listing.{decode}
 use Rattle.machine.specs.Starting.{StartOutcome, startable, startMachine, freshMachine, noMachine}
 use Rattle.machine.specs.Step
 use Rattle.machine.specs.Step.{Outcome, outcome, stepBy, stepChecks}
-use Rattle.machine.specs.Theorems.{DoneIsZero, RefusalChangesNothing, StartRefusalChangesNothing}
+use Rattle.machine.specs.Theorems.{RefusalChangesNothing, StartRefusalChangesNothing}
 
 pub refusal-changes-nothing : RefusalChangesNothing
 unfolding stepBy outcome
@@ -34,18 +34,3 @@ start-refusal-changes-nothing rlen mlen sealStart sealLength registers marks = g
     go : (t : Bool) → ¬ (out t .answer ≡ Done) → (out t .registers ≡ registers) × (out t .marks ≡ marks)
     go true d = absurd (d refl)
     go false d = (refl, refl)
-
-pub done-is-zero : DoneIsZero
-done-is-zero Done = refl
-done-is-zero IllegalWord = refl
-done-is-zero IllegalType = refl
-done-is-zero BadWidth = refl
-done-is-zero TileTooLarge = refl
-done-is-zero (Unwritten row column) = refl
-done-is-zero OutsideMemory = refl
-done-is-zero SealedByte = refl
-done-is-zero BadArguments = refl
-done-is-zero Overlap = refl
-done-is-zero WrongOpcode = refl
-done-is-zero LeftOutWord = refl
-done-is-zero WrongRegister = refl

@@ -1,7 +1,8 @@
 -- The answers and their numbers; and checks, of which the first that fails gives the answer.
-use mathlib.Core.Bool.{Bool, true, false, cond}
+use mathlib.Core.Bool.{Bool, cond}
 use mathlib.Core.List.{List, [], _∷_}
 use Prim.Native.Nat.{ℕ}
+use lib.Dec.{eqb}
 use Rattle.machine.specs.declared.Answer.{Answer}
 use Rattle.machine.specs.declared.Answer.the-variants.{Done, IllegalWord, IllegalType, BadWidth, TileTooLarge, Unwritten, OutsideMemory, SealedByte, BadArguments, Overlap, WrongOpcode, LeftOutWord, WrongRegister}
 
@@ -36,20 +37,9 @@ rowOf a = reply a .row
 abbrev pub columnOf : Answer → ℕ
 columnOf a = reply a .column
 
+-- 0: "done"
 abbrev pub isDone : Answer → Bool
-isDone Done = true
-isDone IllegalWord = false
-isDone IllegalType = false
-isDone BadWidth = false
-isDone TileTooLarge = false
-isDone (Unwritten row column) = false
-isDone OutsideMemory = false
-isDone SealedByte = false
-isDone BadArguments = false
-isDone Overlap = false
-isDone WrongOpcode = false
-isDone LeftOutWord = false
-isDone WrongRegister = false
+isDone a = eqb (number a) 0
 
 -- a test and the answer where it fails
 pub record Check : Type 0 where

@@ -6,10 +6,7 @@ use Prim.Native.Nat.{ℕ}
 use lib.ListN.{length, getD}
 use Rattle.width.specs.Tile.{In}
 use Rattle.width.specs.Blocks.{Grants}
-use lib.Dec.{eqb}
-use Rattle.machine.specs.declared.Answer.{Answer}
 use Rattle.machine.specs.declared.Answer.the-variants.{Done}
-use Rattle.machine.specs.Answers.{number, isDone}
 use Rattle.machine.specs.Geometry.{parameters, Bench, benchOf, sealed}
 use Rattle.machine.specs.Setting.{smaller}
 use Rattle.machine.specs.Starting.{startMachine}
@@ -20,12 +17,6 @@ use Rattle.machine.specs.Step.{stepBy}
 abbrev pub startedBench : (rlen mlen sealStart sealLength : ℕ) (registers marks memory : List ℕ) → Bench
 startedBench rlen mlen sealStart sealLength registers marks memory =
     let s = startMachine rlen mlen sealStart sealLength registers marks in benchOf (s .machine) (s .registers) (s .marks) memory
-
--- ---- answers
-
--- an answer is Done exactly where its number is 0
-abbrev pub DoneIsZero : Type 0
-DoneIsZero = (a : Answer) → isDone a ≡ eqb (number a) 0
 
 -- ---- refusals
 

@@ -11,7 +11,7 @@ use Rattle.machine.specs.Answers.{number, isDone}
 use Rattle.machine.specs.Geometry.{Bench, permitted}
 use Rattle.machine.specs.Step.{Outcome, stepBy}
 use Rattle.machine.proofs.TestLaws.{false-true}
-use Rattle.machine.proofs.Refusal.{refusal-changes-nothing, done-is-zero}
+use Rattle.machine.proofs.Refusal.{refusal-changes-nothing}
 use Rattle.run.specs.declared.Plan.{Plan}
 use Rattle.run.specs.declared.Run.{Run}
 use Rattle.run.specs.declared.Handed.{Handed}
@@ -25,10 +25,10 @@ use Rattle.run.proofs.HandedLaws.{askWith, turnWith}
 -- ---- answers by their numbers
 
 pub number-done : (a : Answer) → number a ≡ 0 → isDone a ≡ true
-number-done a e = done-is-zero a ∙ eq-eqb (number a) 0 e
+number-done a e = eq-eqb (number a) 0 e
 
 pub number-refused : (a : Answer) → ¬ (number a ≡ 0) → isDone a ≡ false
-number-refused a d = done-is-zero a ∙ ne-eqb (number a) 0 d
+number-refused a d = ne-eqb (number a) 0 d
 
 -- ---- a refused turn
 
