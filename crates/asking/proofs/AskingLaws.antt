@@ -9,6 +9,7 @@ use native.Mathlib.Omega.{arith}
 use lib.Dec.{leb, ltb, eqb}
 use borrow.Author.Tests.{eqb-true, ltb-true, leb-true, eq-eqb, ne-eqb}
 use Rattle.machine.specs.Tests.{every, isIn}
+use Rattle.machine.specs.Answers.{reply}
 use Rattle.machine.proofs.TestLaws.{Each, every-each, each-every, each-in, false-true}
 use Rattle.machine.specs.Geometry.{permitted, elen}
 use Rattle.machine.proofs.StepLaws.{permitted-lengths, permitted-bounds, smaller-grants}
@@ -18,7 +19,6 @@ use Rattle.run.specs.declared.Handed.{Handed}
 use Rattle.run.specs.declared.Plan.{Plan}
 use Rattle.run.specs.declared.Run.{Run}
 use Rattle.run.specs.declared.Place.{Place}
-use Rattle.run.specs.declared.Asked.{Asked}
 use Rattle.machine.specs.declared.Answer.{Answer}
 use Rattle.machine.specs.declared.Answer.the-variants.{Done}
 use Rattle.run.specs.declared.Place.the-variants.{AtType, AtM, AtN, AtClear, AtK, AtA, AtB, AtMultiply, AtStore, AtEnd}
@@ -27,7 +27,7 @@ use Rattle.run.specs.Places.{next, wordAt}
 use Rattle.run.specs.Plan.{msew, typeOf}
 use Rattle.run.specs.Encoding.{startOf}
 use Rattle.run.specs.Start.{format, planned}
-use Rattle.run.specs.Turn.{startsM, startsN, startsK, begins, soundRun, runShape, handsOut, moved, asked, ask}
+use Rattle.run.specs.Turn.{startsM, startsN, startsK, begins, soundRun, runShape, handsOut, moved, ask, AskOutcome, asked}
 use Rattle.asking.specs.Parts.{numbered, placed, isEnd, handedOf, shapeBy, Within, Most}
 use Rattle.run.proofs.HandedLaws.{askWith}
 use Rattle.run.proofs.PlaceLaws.{Sound}
@@ -201,8 +201,8 @@ at-multiply P i j s h =
 
 -- ---- asking
 
-abbrev pub askedAs : Answer → Handed → Run → Asked
-askedAs a h R = record { answer = a; handed = h; run = R }
+abbrev pub giving : Answer → Handed → Run → AskOutcome
+giving a h R = record { answer = reply a; handed = h; run = R }
 
 abbrev pub runAt : Run → Place → Run
 runAt R p = record { plan = R .plan; rlen = R .rlen; mlen = R .mlen; place = p }
@@ -219,7 +219,7 @@ no-words S (AtMultiply i j s) h = absurd (false-true h)
 no-words S (AtStore i j) h = absurd (false-true h)
 no-words S AtEnd h = refl
 
-one-word : (S : Shape) (R : Run) (q : Place) → isEnd q ≡ false → askedAs Done (handedOf (R .plan) (wordAt S q)) (moved smaller R) ≡ asked (askWith smaller R (wordAt S q))
+one-word : (S : Shape) (R : Run) (q : Place) → isEnd q ≡ false → giving Done (handedOf (R .plan) (wordAt S q)) (moved smaller R) ≡ asked (askWith smaller R (wordAt S q))
 one-word S R AtType h = refl
 one-word S R (AtM i) h = refl
 one-word S R (AtN i j) h = refl
@@ -242,7 +242,7 @@ module _ (R : Run) where
   ask-end h e = ap (λ (o : Option Op). asked (askWith smaller R o)) (no-words (runShape smaller R) (R .place) e ∙ handing h)
 
   pub ask-done : soundRun smaller R ≡ true → isEnd (R .place) ≡ false
-      → askedAs Done (handedOf (R .plan) (wordAt (runShape smaller R) (R .place))) (moved smaller R) ≡ asked (ask smaller R)
+      → giving Done (handedOf (R .plan) (wordAt (runShape smaller R) (R .place))) (moved smaller R) ≡ asked (ask smaller R)
   ask-done h e = one-word (runShape smaller R) R (R .place) e ∙ ap (λ (o : Option Op). asked (askWith smaller R o)) (handing h)
 
 -- ---- the next place

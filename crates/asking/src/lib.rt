@@ -12,12 +12,13 @@ ghost use mathlib.Core.Option.{none};
 ghost use Prim.Native.Nat.{_+_, _-_, _*_, _%_, _^_, _≤_, _<_};
 ghost use lib.Dec.{ltb};
 ghost use Rattle.machine.specs.Tests.{every, isIn};
+ghost use Rattle.machine.specs.Answers.{reply};
 ghost use Rattle.machine.specs.Setting.{smaller, maxM, maxN, maxK};
 ghost use Rattle.run.specs.Words.{setType, clear, multiply, loadA, loadB, store};
 ghost use Rattle.run.specs.Plan.{narrow, wide, msew, typeOf};
 ghost use Rattle.run.specs.Start.{format, planned};
 ghost use Rattle.run.specs.Places.{headM, headN, headK, next, wordAt};
-ghost use Rattle.run.specs.Turn.{startsM, startsN, startsK, begins, soundRun, runParameters, runShape, moved, asked, ask};
+ghost use Rattle.run.specs.Turn.{startsM, startsN, startsK, begins, soundRun, runParameters, runShape, moved, ask, asked, askedAs};
 ghost use Rattle.asking.specs.Parts.{numbered, placed, isEnd, handedOf, shapeBy, Within, Most};
 ghost use Rattle.machine.specs.declared.Answer.the-variants.{BadArguments};
 ghost use Rattle.run.specs.Encoding.{settingWord, memoryWord, arithmeticWord, log, plain, startOf, handedFor};
@@ -631,7 +632,7 @@ fn is_end(place: Place) -> bool
 }
 
 fn refused(run: Run) -> Asked
-    ensures { λ r. ⌜ r ≡ asked (record { answer = BadArguments; handed = none; run = run }) ⌝ }
+    ensures { λ r. ⌜ askedAs r ≡ asked (record { answer = reply BadArguments; handed = none; run = run }) ⌝ }
 {
     Asked {
         answer: Answer::BadArguments,
@@ -659,7 +660,7 @@ pub fn moved_run(run: Run, rows: u64, columns: u64, terms: u64) -> Run
 
 // The next step of a run, and the run past it; 8 past the last, and of a run that no start can have made.
 pub fn next(run: Run) -> Asked
-    ensures { λ r. ⌜ r ≡ asked (ask smaller run) ⌝ }
+    ensures { λ r. ⌜ askedAs r ≡ asked (ask smaller run) ⌝ }
 {
     if !is_sound_run(run) {
         return refused(run);

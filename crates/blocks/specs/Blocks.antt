@@ -9,9 +9,8 @@ use lib.Dec.{eqb}
 use Rattle.width.specs.Upto.{upto}
 use Rattle.width.specs.Tile.{le, putLe, putRow}
 use Rattle.machine.specs.declared.Machine.{Machine}
-use Rattle.machine.specs.declared.Answer.{Answer}
 use Rattle.machine.specs.Tests.{every}
-use Rattle.machine.specs.Answers.{number, rowOf, columnOf}
+use Rattle.machine.specs.Answers.{Reply}
 use Rattle.run.specs.declared.Layout.{Layout}
 use Rattle.run.specs.declared.Plan.{Plan}
 use Rattle.run.specs.declared.Place.{Place}
@@ -160,7 +159,7 @@ putHanded h block = putNumbers (h .word ∷ h .address ∷ h .stride ∷ []) blo
 -- ---- an answer as one number
 
 -- a result packs answer | row << 16 | column << 32 (row and column 0 unless the answer is 5)
--- The function takes every Answer, whose row and column are any u64, so each is cut to its 16 bits. No real answer loses by it: a tile
+-- The function takes every answer, whose row and column are any u64, so each is cut to its 16 bits. No real answer loses by it: a tile
 -- has at most 64 rows and 64 columns.
-abbrev pub packed : Answer → ℕ
-packed a = number a + rowOf a % 2 ^ 16 * 2 ^ 16 + columnOf a % 2 ^ 16 * 2 ^ 32
+abbrev pub packed : Reply → ℕ
+packed a = a .number + a .row % 2 ^ 16 * 2 ^ 16 + a .column % 2 ^ 16 * 2 ^ 32

@@ -8,6 +8,7 @@ ghost use mathlib.Core.Path.{_≡_};
 ghost use Prim.Native.Nat.{_+_, _≤_, _<_};
 ghost use lib.ListN.{length};
 ghost use Rattle.width.specs.Tile.{le, putLe};
+ghost use Rattle.machine.specs.Answers.{reply};
 ghost use Rattle.blocks.specs.Blocks.{machineBytes, machineOf, putMachine, packed};
 
 fn wide(x: u8) -> u64
@@ -80,7 +81,7 @@ pub fn put_machine(block: &mut [u8], m: Machine)
 
 // An answer's number, with row and column in the bits above it.
 pub fn packed(answer: Answer) -> u64
-    ensures { λ r. ⌜ r ≡ packed answer ⌝ }
+    ensures { λ r. ⌜ r ≡ packed (reply answer) ⌝ }
 {
     match answer {
         Answer::Done => 0,

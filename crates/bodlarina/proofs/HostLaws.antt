@@ -1,32 +1,26 @@
 -- What each return of an exported function has to show.
 use mathlib.Core.Path.{_≡_, sym, ap, ap₂, _∙_}
-use mathlib.Core.Bool.{Bool, false, cond}
+use mathlib.Core.Bool.{Bool, cond}
 use mathlib.Core.List.{List}
 use Prim.Native.Nat.{ℕ}
 use lib.ListN.{length}
 use borrow.Author.Tests.{eq-eqb, ne-eqb}
 use Rattle.machine.specs.declared.Machine.{Machine}
-use Rattle.machine.specs.declared.Answer.{Answer}
-use Rattle.machine.specs.declared.Answer.the-variants.{Done, BadArguments}
+use Rattle.machine.specs.declared.Answer.the-variants.{BadArguments}
 use Rattle.machine.specs.declared.Started.{Started}
 use Rattle.machine.specs.declared.Stepped.{Stepped}
-use Rattle.machine.specs.Answers.{isDone}
+use Rattle.machine.specs.Answers.{reply, isDone}
 use Rattle.machine.specs.Geometry.{Bench, benchOf}
-use Rattle.machine.specs.Setting.{smaller}
 use Rattle.machine.specs.Starting.{startMachine, startedAs}
-use Rattle.machine.specs.Step.{Outcome, step, steppedAs}
-use Rattle.machine.proofs.TestLaws.{false-true}
-use Rattle.machine.proofs.Refusal.{refusal-changes-nothing}
-use Rattle.blocks.specs.Blocks.{machineOf, putMachine, valuesOf, packed}
+use Rattle.machine.specs.Step.{steppedAs}
+use Rattle.blocks.specs.Blocks.{machineOf, putMachine, packed}
 use Rattle.bodlarina.specs.Host.{startedOut, shownStart, hostStart, steppedOut, stepBlock, shownStep, hostStep}
-use Rattle.bodlarina.specs.Theorems.{Bytes}
-use Rattle.blocks.proofs.BlockLaws.{putMachine-same}
 
 -- ---- starting
 
 module _ (rlen mlen sealStart sealLength : ℕ) (machine registers marks : List ℕ) where
   -- a block of another length
-  pub start-short : (r : ℕ) → ¬ (length machine ≡ 64) → r ≡ packed BadArguments
+  pub start-short : (r : ℕ) → ¬ (length machine ≡ 64) → r ≡ packed (reply BadArguments)
       → startedOut r machine registers marks ≡ hostStart rlen mlen sealStart sealLength machine registers marks
   unfolding hostStart
   start-short r h er = rw (er, ne-eqb (length machine) 64 h)
@@ -34,17 +28,14 @@ module _ (rlen mlen sealStart sealLength : ℕ) (machine registers marks : List 
   -- what the start has answered and left, and the block written exactly where it is done
   pub start-shown : (t : Bool) (s : Started) (M K : List ℕ) (r : ℕ) → length machine ≡ 64
       → startedAs s registers K ≡ startMachine rlen mlen sealStart sealLength registers marks
-      → isDone (s .answer) ≡ t → M ≡ cond t (putMachine (s .machine) machine) machine → r ≡ packed (s .answer)
+      → isDone (s .answer) ≡ t → M ≡ cond t (putMachine (s .machine) machine) machine → r ≡ packed (reply (s .answer))
       → startedOut r M registers K ≡ hostStart rlen mlen sealStart sealLength machine registers marks
   unfolding hostStart
   start-shown t s M K r h e et em er =
       ap₂ (λ (r : ℕ) (M : List ℕ). startedOut r M registers K) er (em ∙ ap (λ (t : Bool). cond t (putMachine (s .machine) machine) machine) (sym et))
       ∙ ap (shownStart machine) e
-      ∙ ap (λ (t : Bool). cond t (shownStart machine (startMachine rlen mlen sealStart sealLength registers marks)) (startedOut (packed BadArguments) machine registers marks))
+      ∙ ap (λ (t : Bool). cond t (shownStart machine (startMachine rlen mlen sealStart sealLength registers marks)) (startedOut (packed (reply BadArguments)) machine registers marks))
       (sym (eq-eqb (length machine) 64 h))
-
-pub not-done : (a : Answer) → isDone a ≡ false → ¬ (a ≡ Done)
-not-done a h e = false-true (sym h ∙ ap isDone e)
 
 -- ---- a step of the host
 
@@ -53,12 +44,12 @@ module _ (word : ℕ) (machine registers marks scalars memory : List ℕ) where
   bench = benchOf (machineOf machine) registers marks memory
 
   -- a block of another length
-  pub step-short : (r : ℕ) → ¬ (length machine ≡ 64) → r ≡ packed BadArguments
+  pub step-short : (r : ℕ) → ¬ (length machine ≡ 64) → r ≡ packed (reply BadArguments)
       → steppedOut r machine registers marks scalars memory ≡ hostStep word machine registers marks scalars memory
   unfolding hostStep
   step-short r h er = rw (er, ne-eqb (length machine) 64 h)
 
-  pub step-short-scalars : (r : ℕ) → length machine ≡ 64 → ¬ (length scalars ≡ 256) → r ≡ packed BadArguments
+  pub step-short-scalars : (r : ℕ) → length machine ≡ 64 → ¬ (length scalars ≡ 256) → r ≡ packed (reply BadArguments)
       → steppedOut r machine registers marks scalars memory ≡ hostStep word machine registers marks scalars memory
   unfolding hostStep
   step-short-scalars r h k er = rw (er, eq-eqb (length machine) 64 h, ne-eqb (length scalars) 256 k)
@@ -70,20 +61,9 @@ module _ (word : ℕ) (machine registers marks scalars memory : List ℕ) where
 
   -- done: the numbers that the step has left are written over the block
   pub step-shown : (m : Machine) (s : Stepped) (M R K S Q : List ℕ) (r : ℕ) → length machine ≡ 64 → length scalars ≡ 256 → m ≡ machineOf machine
-      → steppedAs s R K S Q ≡ stepBlock word scalars (benchOf m registers marks memory) → M ≡ putMachine (s .machine) machine → r ≡ packed (s .answer)
+      → steppedAs s R K S Q ≡ stepBlock word scalars (benchOf m registers marks memory) → M ≡ putMachine (s .machine) machine → r ≡ packed (reply (s .answer))
       → steppedOut r M R K S Q ≡ hostStep word machine registers marks scalars memory
   step-shown m s M R K S Q r h k en e em er =
       ap₂ (λ (r : ℕ) (M : List ℕ). steppedOut r M R K S Q) er em
       ∙ ap (shownStep machine) (e ∙ ap (λ (m : Machine). stepBlock word scalars (benchOf m registers marks memory)) en)
       ∙ both h k
-
-  -- refused: the block stays
-  pub step-refused : (m : Machine) (s : Stepped) (R K S Q : List ℕ) (r : ℕ) → length machine ≡ 64 → length scalars ≡ 256 → m ≡ machineOf machine
-      → steppedAs s R K S Q ≡ stepBlock word scalars (benchOf m registers marks memory) → Bytes machine → isDone (s .answer) ≡ false → r ≡ packed (s .answer)
-      → steppedOut r machine R K S Q ≡ hostStep word machine registers marks scalars memory
-  step-refused m s R K S Q r h k en e small d er =
-      let f : steppedAs s R K S Q ≡ stepBlock word scalars bench = e ∙ ap (λ (m : Machine). stepBlock word scalars (benchOf m registers marks memory)) en in
-      let n : ¬ (step word (valuesOf scalars) bench .answer ≡ Done) = λ z. not-done (s .answer) d (ap (λ (o : Outcome). o .answer) f ∙ z) in
-      let c : s .machine ≡ machineOf machine =
-      ap (λ (o : Outcome). o .bench .machine) f ∙ ap (λ (B : Bench). B .machine) (refusal-changes-nothing smaller word (valuesOf scalars) bench n .0) in
-      step-shown m s machine R K S Q r h k en e (sym (ap (λ (m : Machine). putMachine m machine) c ∙ putMachine-same machine small)) er

@@ -21,7 +21,7 @@ use Rattle.machine.specs.declared.Wrong.the-variants.{Opcode, Register}
 use Rattle.machine.specs.declared.Instruction.{Instruction}
 use Rattle.machine.specs.declared.Instruction.the-variants.{Illegal, SetTypeImmediate, SetType, SetTileImmediate, SetTile, Load, Store, Multiply, Combine, Scale, ScaleImmediate}
 use Rattle.machine.specs.Tests.{every}
-use Rattle.machine.specs.Answers.{_otherwise_, verdict, isDone}
+use Rattle.machine.specs.Answers.{Reply, reply, _otherwise_, verdict, isDone}
 use Rattle.machine.specs.Geometry.{Parameters, parameters, State, stateOf, machineAfter, Bench, benchOf, scalar, withScalar}
 use Rattle.machine.specs.Setting.{smaller}
 use Rattle.machine.specs.Listing
@@ -163,11 +163,11 @@ module _ (word : ℕ) (xs ys : List ℕ) (B : Bench) (tx : length xs ≡ 32) (ty
   abbrev ended : Answer → Operation → List ℕ → Bool → Outcome
   ended a o zs t = let left = stateAfter M o st (B .memory) in cond t
       (record {
-        answer = Done;
+        answer = reply Done;
         bench = benchOf (machineAfter (B .machine) left) (left .regs) (left .marks) (memoryAfter M o st (B .memory));
         scalars = withScalar zs (destination (decode word)) (resultOf o left);
       })
-      (record { answer = a; bench = B; scalars = zs })
+      (record { answer = reply a; bench = B; scalars = zs })
 
   abbrev meaning : List ℕ → Operation
   meaning zs = operation M st zs (decode word)
@@ -260,7 +260,7 @@ module _ (word : ℕ) (block : List ℕ) (B : Bench) (whole : length block ≡ 2
       → steppedAs s R K X Q ≡ step word xs B → S ≡ putLe (field7 word * 8) 8 (getD X (field7 word) 0) block
       → steppedAs s R K S Q ≡ stepBlock word block B
   block-named s R K X Q S xs t hd ha hb e es =
-      ap₂ (λ (a : Answer) (b : Bench). record { answer = a; bench = b; scalars = S }) (ap (λ (o : Outcome). o .answer) e ∙ g .answer) (ap (λ (o : Outcome). o .bench) e ∙ g .bench)
+      ap₂ (λ (a : Reply) (b : Bench). record { answer = a; bench = b; scalars = S }) (ap (λ (o : Outcome). o .answer) e ∙ g .answer) (ap (λ (o : Outcome). o .bench) e ∙ g .bench)
       ∙ ap (λ (S : List ℕ). record { answer = o .answer; bench = o .bench; scalars = S })
       (es ∙ ap (λ (v : ℕ). putLe (field7 word * 8) 8 v block) (ap (λ (o : Outcome). getD (o .scalars) (field7 word) 0) e ∙ g .value)
       ∙ sym (putValues-one block (o .scalars) (field7 word) whole small (omega arith) (λ j n l. g .others j n ∙ values-at block j l)))

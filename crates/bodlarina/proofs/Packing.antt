@@ -14,7 +14,7 @@ use Rattle.machine.specs.declared.Answer.the-variants.{Done, IllegalWord, Illeg
 use Rattle.machine.specs.declared.Matrix.{Matrix}
 use Rattle.machine.specs.declared.Matrix.the-variants.{MatrixA, MatrixB, MatrixC}
 use Rattle.machine.specs.Tests.{first, allOf}
-use Rattle.machine.specs.Answers.{number, rowOf, columnOf, isDone, Check, verdict}
+use Rattle.machine.specs.Answers.{Reply, reply, number, isDone, Check, verdict}
 use Rattle.machine.specs.Geometry.{elen, permitted, registerBytes, Parameters, parameters, State, Bench}
 use Rattle.machine.specs.Setting.{newType, smaller}
 use Rattle.machine.specs.Starting.{sealEnds}
@@ -40,8 +40,8 @@ first-le (suc n) p = go (ltb (first n p) n) (p n) (first-le n p)
 
 -- ---- answers with small rows and columns
 
-abbrev Small : Answer → Type 0
-Small a = (rowOf a ≤ 64) × (columnOf a ≤ 64)
+abbrev Small : Reply → Type 0
+Small a = (a .row ≤ 64) × (a .column ≤ 64)
 
 number-small : (a : Answer) → number a < 13
 number-small Done = omega arith
@@ -58,23 +58,23 @@ number-small WrongOpcode = omega arith
 number-small LeftOutWord = omega arith
 number-small WrongRegister = omega arith
 
-whole : (a : Answer) → Small a → (packed a % 2 ^ 16 ≡ number a) × (packed a / 2 ^ 16 % 2 ^ 16 ≡ rowOf a) × (packed a / 2 ^ 32 ≡ columnOf a)
-whole a s = let n = number-small a in (omega arith, omega arith, omega arith)
+whole : (a : Reply) → a .number < 13 → Small a → (packed a % 2 ^ 16 ≡ a .number) × (packed a / 2 ^ 16 % 2 ^ 16 ≡ a .row) × (packed a / 2 ^ 32 ≡ a .column)
+whole a n s = (omega arith, omega arith, omega arith)
 
 -- ---- checks whose answers are small
 
 abbrev EachSmall : List Check → Type 0
 EachSmall [] = Unit
-EachSmall (c ∷ cs) = Small (c .answer) × EachSmall cs
+EachSmall (c ∷ cs) = Small (reply (c .answer)) × EachSmall cs
 
 zeros : (_≤_ 0 64) × (_≤_ 0 64)
 zeros = (omega arith, omega arith)
 
-verdict-small : (cs : List Check) → EachSmall cs → Small (verdict cs)
+verdict-small : (cs : List Check) → EachSmall cs → Small (reply (verdict cs))
 verdict-small [] s = zeros
 verdict-small (c ∷ cs) s = go (c .holds) (verdict-small cs (s .1))
   where
-    go : (t : Bool) → Small (verdict cs) → Small (cond t (verdict cs) (c .answer))
+    go : (t : Bool) → Small (reply (verdict cs)) → Small (reply (cond t (verdict cs) (c .answer)))
     go true h = h
     go false h = s .0
 
@@ -132,7 +132,7 @@ sizes-small B h =
     let s = leb-true (m .«tile_n») (m .rlen / 8) (t .1 .1 .1 .1 .1 .1 .0) in
     (omega arith, omega arith, omega arith)
 
-answer-small : (M : Parameters) (word : ℕ) (xs : List ℕ) (B : Bench) → Small (outcome M (decode word) xs B .answer)
+answer-small : (M : Parameters) (word : ℕ) (xs : List ℕ) (B : Bench) → let a = outcome M (decode word) xs B .answer in (a .number < 13) × Small a
 unfolding outcome
 answer-small M word xs B = last (isDone (verdict cs)) (go (soundBench B) refl)
   where
@@ -142,17 +142,17 @@ answer-small M word xs B = last (isDone (verdict cs)) (go (soundBench B) refl)
     rest : List Check
     rest = checks M (meant M (decode word) xs B) (given M (decode word) xs B) (B .memory)
 
-    go : (t : Bool) → soundBench B ≡ t → Small (verdict cs)
+    go : (t : Bool) → soundBench B ≡ t → Small (reply (verdict cs))
     go true e =
         let z = sizes-small B e in
         verdict-small cs (zeros, (zeros, checks-small M (given M (decode word) xs B) (B .memory) (z .0) (z .1) (z .2) (meant M (decode word) xs B)))
     go false e = rw e zeros
 
-    last : (t : Bool) → Small (verdict cs)
-        → Small (cond t (Step.carriedOut M (decode word) xs B) (Step.refused M (decode word) xs B (verdict cs)) .answer)
-    last true h = zeros
-    last false h = h
+    last : (t : Bool) → Small (reply (verdict cs))
+        → let a = cond t (Step.carriedOut M (decode word) xs B) (Step.refused M (decode word) xs B (verdict cs)) .answer in (a .number < 13) × Small a
+    last true h = (omega arith, zeros)
+    last false h = (number-small (verdict cs), h)
 
 pub packs-whole : StepPacksWhole
 unfolding stepBy
-packs-whole word xs B = whole (step word xs B .answer) (answer-small (parameters smaller (B .machine)) word xs B)
+packs-whole word xs B = let s = answer-small (parameters smaller (B .machine)) word xs B in whole (step word xs B .answer) (s .0) (s .1)

@@ -2,26 +2,31 @@
 use mathlib.Core.Path.{_≡_, refl, ap, ap₂, _∙_}
 use mathlib.Core.Bool.{Bool, true, false, cond}
 use mathlib.Core.List.{List, [], _∷_}
+use mathlib.Core.Option.{Option, none, some}
 use Prim.Native.Nat.{ℕ, zero, suc}
 use native.Mathlib.Omega.{arith}
+use borrow.Author.Tests.{eq-eqb}
 use lib.ListN.{length, replicate}
 use lib.Dec.{eqb}
-use Rattle.machine.specs.declared.Answer.{Answer}
 use Rattle.machine.specs.declared.Answer.the-variants.{Done, BadArguments}
 use Rattle.machine.specs.Tests.{every}
-use Rattle.machine.specs.Answers.{isDone}
+use Rattle.machine.specs.Answers.{Reply, reply, done, verdict}
 use Rattle.machine.specs.Geometry.{Bench, benchOf}
 use Rattle.machine.specs.Setting.{smaller}
 use Rattle.machine.specs.Starting.{startable, startMachine, freshMachine, noMachine}
 use Rattle.machine.specs.Step.{Outcome, step}
-use Rattle.machine.proofs.TestLaws.{and-left}
-use Rattle.machine.proofs.CodeLaws.{only-done}
+use Rattle.machine.proofs.TestLaws.{and-left, false-true}
+use Rattle.machine.proofs.CodeLaws.{only-done, step-zero}
 use Rattle.machine.proofs.Refusal.{refusal-changes-nothing}
-use Rattle.run.specs.declared.Asked.{Asked}
-use Rattle.run.specs.Start.{RunStart, startRun}
-use Rattle.run.specs.Turn.{ask, asked, Running, turn, afterTurns, answeredDone, turnOutcome, turns}
+use Rattle.run.specs.declared.Plan.{Plan}
+use Rattle.run.specs.declared.Run.{Run}
+use Rattle.run.specs.Start.{RunStart, startRun, startChecks}
+use Rattle.run.specs.Turn.{handsOut, ask, AskOutcome, asked, Running, turn, afterTurns, answeredDone, turnOutcome, turns}
 use Rattle.run.specs.Whole.{whole}
+use Rattle.run.specs.Words.{Op}
+use Rattle.run.proofs.HandedLaws.{askWith}
 use Rattle.run.proofs.RefusalLaws.{turn-refused}
+use Rattle.turn.proofs.TurnLaws.{turn-zero}
 use Rattle.whole.proofs.WholeLaws.{whole-refused}
 use Rattle.blocks.specs.Blocks.{machineOf, putMachine, valuesOf, putValues, putNumbers, runOf, putRun, runFit, putHanded, packed}
 use Rattle.bodlarina.specs.Host.{HostStarted, startedOut, shownStart, hostStart, HostStepped, steppedOut, stepBlock, shownStep, hostStep}
@@ -38,9 +43,9 @@ start-refusal rlen mlen sealStart sealLength machine registers marks =
     out : Bool → Bool → HostStarted
     out t u = cond t
         (shownStart machine (cond u
-        (record { answer = Done; machine = freshMachine rlen mlen sealStart sealLength; registers = registers; marks = replicate (length marks) 0 })
-        (record { answer = BadArguments; machine = noMachine; registers = registers; marks = marks })))
-        (startedOut (packed BadArguments) machine registers marks)
+        (record { answer = reply Done; machine = freshMachine rlen mlen sealStart sealLength; registers = registers; marks = replicate (length marks) 0 })
+        (record { answer = reply BadArguments; machine = noMachine; registers = registers; marks = marks })))
+        (startedOut (packed (reply BadArguments)) machine registers marks)
 
     go : (t u : Bool) → ¬ (out t u .result ≡ 0) → out t u ≡ startedOut (out t u .result) machine registers marks
     go true true d = absurd (d refl)
@@ -58,7 +63,7 @@ step-refusal word machine registers marks scalars memory small small′ = go (ev
     o = step word (valuesOf scalars) B
 
     out : Bool → HostStepped
-    out t = cond t (shownStep machine (stepBlock word scalars B)) (steppedOut (packed BadArguments) machine registers marks scalars memory)
+    out t = cond t (shownStep machine (stepBlock word scalars B)) (steppedOut (packed (reply BadArguments)) machine registers marks scalars memory)
 
     shown : (b : Bench) (xs : List ℕ) → b ≡ B → xs ≡ valuesOf scalars
         → steppedOut (packed (o .answer)) (putMachine (b .machine) machine) (b .registers) (b .marks) (putValues xs scalars) (b .memory)
@@ -68,19 +73,30 @@ step-refusal word machine registers marks scalars memory small small′ = go (ev
 
     go : (t : Bool) → ¬ (out t .result ≡ 0) → out t ≡ steppedOut (out t .result) machine registers marks scalars memory
     go true d =
-        let k = refusal-changes-nothing smaller word (valuesOf scalars) B (λ e. d (ap packed e)) in
+        let k = refusal-changes-nothing smaller word (valuesOf scalars) B (λ e. d (ap packed (step-zero smaller word (valuesOf scalars) B (eq-eqb (o .answer .number) 0 e)))) in
         shown (o .bench) (o .scalars) (k .0) (k .1)
     go false d = refl
 
 -- ---- runs
 
--- an answer whose result is not 0
-refused : (a : Answer) → ¬ (packed a ≡ 0) → isDone a ≡ false
-refused a d = go (isDone a) refl
+-- an answer that is as `Done`'s where its number is 0, and whose result is not 0
+refused : (a : Reply) → (done a ≡ true → a ≡ reply Done) → ¬ (packed a ≡ 0) → done a ≡ false
+refused a zero-is d = go (done a) refl
   where
-    go : (t : Bool) → isDone a ≡ t → t ≡ false
-    go true e = absurd (d (ap packed (only-done a e)))
+    go : (t : Bool) → done a ≡ t → t ≡ false
+    go true e = absurd (d (ap packed (zero-is e)))
     go false e = refl
+
+start-zero : (P : Plan) (B : Bench) → done (startRun smaller P B .answer) ≡ true → startRun smaller P B .answer ≡ reply Done
+unfolding startRun
+start-zero P B e = ap reply (only-done (verdict (startChecks smaller P B)) e)
+
+ask-zero : (R : Run) → done (ask smaller R .answer) ≡ true → ask smaller R .answer ≡ reply Done
+ask-zero R = go (handsOut smaller R)
+  where
+    go : (o : Option Op) → done (askWith smaller R o .answer) ≡ true → askWith smaller R o .answer ≡ reply Done
+    go none e = absurd (false-true e)
+    go (some o) e = refl
 
 pub run-start-refusal : RunStartRefusalChangesNoByte
 unfolding hostRunStart startRun
@@ -90,25 +106,25 @@ run-start-refusal P machine registers marks memory run = go (every (eqb (length 
     s = startRun smaller P (benchOf (machineOf machine) registers marks memory)
 
     out : Bool → HostRunStarted
-    out t = cond t (shownRunStart machine run s) (runStartedOut (packed BadArguments) machine registers marks memory run)
+    out t = cond t (shownRunStart machine run s) (runStartedOut (packed (reply BadArguments)) machine registers marks memory run)
 
     go : (t : Bool) → ¬ (out t .result ≡ 0) → out t ≡ runStartedOut (out t .result) machine registers marks memory run
-    go true d = ap (λ (t : Bool). runStartedOut (packed (s .answer)) machine registers marks memory (cond t (putRun (s .run) run) run)) (refused (s .answer) d)
+    go true d = ap (λ (t : Bool). runStartedOut (packed (s .answer)) machine registers marks memory (cond t (putRun (s .run) run) run)) (refused (s .answer) (start-zero P (benchOf (machineOf machine) registers marks memory)) d)
     go false d = refl
 
 pub next-refusal : NextRefusalChangesNoByte
 unfolding hostNext
 next-refusal run step = go (every (runFit run ∷ eqb (length step) 24 ∷ []))
   where
-    a : Asked
+    a : AskOutcome
     a = asked (ask smaller (runOf run))
 
     out : Bool → HostNext
-    out t = cond t (shownNext run step a) (nextOut (packed BadArguments) run step)
+    out t = cond t (shownNext run step a) (nextOut (packed (reply BadArguments)) run step)
 
     go : (t : Bool) → ¬ (out t .result ≡ 0) → out t ≡ nextOut (out t .result) run step
     go true d =
-        ap (λ (t : Bool). nextOut (packed (a .answer)) (cond t (putRun (a .run) run) run) (cond t (putHanded (a .handed) step) step)) (refused (a .answer) d)
+        ap (λ (t : Bool). nextOut (packed (a .answer)) (cond t (putRun (a .run) run) run) (cond t (putHanded (a .handed) step) step)) (refused (a .answer) (ask-zero (runOf run)) d)
     go false d = refl
 
 -- a run and a machine that stay are written over the bytes they were read of
@@ -128,12 +144,12 @@ turn-refusal run machine registers marks memory small small′ = go (turnBlocks 
     r = heldRunning run machine registers marks memory
 
     out : Bool → HostTurned
-    out t = cond t (shownTurn run machine (turnOutcome smaller r)) (turnedOut (packed BadArguments) run machine registers marks memory)
+    out t = cond t (shownTurn run machine (turnOutcome smaller r)) (turnedOut (packed (reply BadArguments)) run machine registers marks memory)
 
     go : (t : Bool) → turnBlocks run machine ≡ t → ¬ (out t .result ≡ 0) → out t ≡ turnedOut (out t .result) run machine registers marks memory
     go true h d =
         shown-same run machine registers marks memory small small′ (packed (turn smaller r .answer)) (turn smaller r .after) h
-        (turn-refused smaller r (refused (turn smaller r .answer) d))
+        (turn-refused smaller r (refused (turn smaller r .answer) (turn-zero r) d))
     go false h d = refl
 
 -- turns of which none is answered 0 leave everything
@@ -142,7 +158,7 @@ none-stays r zero h = refl
 none-stays r (suc n) h =
     let s = afterTurns smaller r n in
     let e : s ≡ r = none-stays r n (omega arith) in
-    turn-refused smaller s (go (isDone (turn smaller s .answer)) (omega arith)) ∙ e
+    turn-refused smaller s (go (done (turn smaller s .answer)) (omega arith)) ∙ e
   where
     go : (t : Bool) → _≡_ {A = ℕ} (cond t 1 0) 0 → t ≡ false
     go true h = absurd (omega arith)
@@ -172,11 +188,11 @@ run-refusal P machine registers marks memory steps = go (every (eqb (length mach
     B = benchOf (machineOf machine) registers marks memory
 
     out : Bool → HostRan
-    out t = cond t (shownRun machine steps (whole smaller P B)) (ranOut (packed BadArguments) machine registers marks memory steps)
+    out t = cond t (shownRun machine steps (whole smaller P B)) (ranOut (packed (reply BadArguments)) machine registers marks memory steps)
 
     go : (t : Bool) → ¬ (out t .result ≡ 0) → out t ≡ ranOut (out t .result) machine registers marks memory steps
     go true d =
-        let h = refused (startRun smaller P B .answer) d in
+        let h = refused (startRun smaller P B .answer) (start-zero P B) d in
         ap (shownRun machine steps) (whole-refused P B h)
         ∙ ap (λ (t : Bool). ranOut (packed (startRun smaller P B .answer)) (cond t (putMachine (machineOf machine) machine) machine) registers marks memory
         (cond t (putNumbers (0 ∷ []) steps) steps)) h

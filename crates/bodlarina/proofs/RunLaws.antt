@@ -9,7 +9,7 @@ use borrow.Author.Tests.{eqb-true, eq-eqb, ne-eqb}
 use Rattle.machine.specs.declared.Machine.{Machine}
 use Rattle.machine.specs.declared.Answer.the-variants.{BadArguments}
 use Rattle.machine.specs.Tests.{every}
-use Rattle.machine.specs.Answers.{isDone}
+use Rattle.machine.specs.Answers.{reply, isDone}
 use Rattle.machine.specs.Geometry.{benchOf}
 use Rattle.machine.specs.Setting.{smaller}
 use Rattle.machine.proofs.TestLaws.{and-left}
@@ -21,7 +21,7 @@ use Rattle.run.specs.declared.Turned.{Turned}
 use Rattle.run.specs.declared.Taken.{Taken}
 use Rattle.run.specs.declared.Finished.{Finished}
 use Rattle.run.specs.Start.{startRun, startedAs}
-use Rattle.run.specs.Turn.{ask, asked, Running, running, turnOutcome, turnedAs, turns, takenAs}
+use Rattle.run.specs.Turn.{ask, asked, askedAs, Running, running, turnOutcome, turnedAs, turns, takenAs}
 use Rattle.run.specs.Whole.{whole, finishedAs}
 use Rattle.blocks.specs.Blocks.{machineOf, putMachine, spotIn, spotOf, placeOf, sameSpot, runFit, runOf, putRun, putHanded, putNumbers, packed}
 use Rattle.bodlarina.specs.Host.{runStartedOut, shownRunStart, hostRunStart, nextOut, shownNext, hostNext, turnBlocks, heldRunning, turnedOut, shownTurn, hostTurn, shownTurns, hostTurns, ranOut, shownRun, hostRun}
@@ -35,12 +35,12 @@ fit-length block h =
 
 module _ (P : Plan) (machine registers marks memory run : List ℕ) where
   -- a block of another length
-  pub run-start-short : (r : ℕ) → ¬ (length machine ≡ 64) → r ≡ packed BadArguments
+  pub run-start-short : (r : ℕ) → ¬ (length machine ≡ 64) → r ≡ packed (reply BadArguments)
       → runStartedOut r machine registers marks memory run ≡ hostRunStart P machine registers marks memory run
   unfolding hostRunStart
   run-start-short r h er = rw (er, ne-eqb (length machine) 64 h)
 
-  pub run-start-short-run : (r : ℕ) → length machine ≡ 64 → ¬ (length run ≡ 136) → r ≡ packed BadArguments
+  pub run-start-short-run : (r : ℕ) → length machine ≡ 64 → ¬ (length run ≡ 136) → r ≡ packed (reply BadArguments)
       → runStartedOut r machine registers marks memory run ≡ hostRunStart P machine registers marks memory run
   unfolding hostRunStart
   run-start-short-run r h k er = rw (er, eq-eqb (length machine) 64 h, ne-eqb (length run) 136 k)
@@ -53,7 +53,7 @@ module _ (P : Plan) (machine registers marks memory run : List ℕ) where
   -- what the start has answered, and the block written exactly where it is done
   pub run-start-shown : (t : Bool) (P′ : Plan) (m : Machine) (s : RunStarted) (N : List ℕ) (r : ℕ) → length machine ≡ 64 → length run ≡ 136
       → P′ ≡ P → m ≡ machineOf machine → startedAs s (benchOf m registers marks memory) ≡ startRun smaller P′ (benchOf m registers marks memory)
-      → isDone (s .answer) ≡ t → N ≡ cond t (putRun (s .run) run) run → r ≡ packed (s .answer)
+      → isDone (s .answer) ≡ t → N ≡ cond t (putRun (s .run) run) run → r ≡ packed (reply (s .answer))
       → runStartedOut r machine registers marks memory N ≡ hostRunStart P machine registers marks memory run
   run-start-shown t P′ m s N r h k eP em e et en er =
       rw (er, en, sym et)
@@ -63,11 +63,11 @@ module _ (P : Plan) (machine registers marks memory run : List ℕ) where
 
 module _ (run step : List ℕ) where
   -- a block that no run can lie in, or of another length
-  pub next-unfit : (r : ℕ) → runFit run ≡ false → r ≡ packed BadArguments → nextOut r run step ≡ hostNext run step
+  pub next-unfit : (r : ℕ) → runFit run ≡ false → r ≡ packed (reply BadArguments) → nextOut r run step ≡ hostNext run step
   unfolding hostNext
   next-unfit r h er = rw (er, h)
 
-  pub next-short : (r : ℕ) → runFit run ≡ true → ¬ (length step ≡ 24) → r ≡ packed BadArguments → nextOut r run step ≡ hostNext run step
+  pub next-short : (r : ℕ) → runFit run ≡ true → ¬ (length step ≡ 24) → r ≡ packed (reply BadArguments) → nextOut r run step ≡ hostNext run step
   unfolding hostNext
   next-short r h k er = rw (er, h, ne-eqb (length step) 24 k)
 
@@ -77,8 +77,8 @@ module _ (run step : List ℕ) where
 
   -- what was answered, and the blocks written exactly where a step is handed out
   pub next-shown : (t : Bool) (R : Run) (a : Asked) (N S : List ℕ) (r : ℕ) → runFit run ≡ true → length step ≡ 24
-      → R ≡ runOf run → a ≡ asked (ask smaller R) → isDone (a .answer) ≡ t
-      → N ≡ cond t (putRun (a .run) run) run → S ≡ cond t (putHanded (a .handed) step) step → r ≡ packed (a .answer)
+      → R ≡ runOf run → askedAs a ≡ asked (ask smaller R) → isDone (a .answer) ≡ t
+      → N ≡ cond t (putRun (a .run) run) run → S ≡ cond t (putHanded (a .handed) step) step → r ≡ packed (reply (a .answer))
       → nextOut r N S ≡ hostNext run step
   next-shown t R a N S r h k eR e et en es er =
       rw (er, en, es, sym et)
@@ -103,7 +103,7 @@ module _ (run machine registers marks memory : List ℕ) where
       → running R (benchOf m registers marks memory) ≡ heldRunning run machine registers marks memory
   held R m eR em = ap₂ (λ (R : Run) (m : Machine). running R (benchOf m registers marks memory)) eR em
 
-  pub turn-refused : (r : ℕ) → turnBlocks run machine ≡ false → r ≡ packed BadArguments
+  pub turn-refused : (r : ℕ) → turnBlocks run machine ≡ false → r ≡ packed (reply BadArguments)
       → turnedOut r run machine registers marks memory ≡ hostTurn run machine registers marks memory
   unfolding hostTurn
   turn-refused r h er = rw (er, h)
@@ -116,7 +116,7 @@ module _ (run machine registers marks memory : List ℕ) where
   -- the numbers that the turn has left are written over the blocks
   pub turn-shown : (R : Run) (m : Machine) (s : Turned) (N M G K Q : List ℕ) (r : ℕ) → turnBlocks run machine ≡ true
       → R ≡ runOf run → m ≡ machineOf machine → turnedAs s G K Q ≡ turnOutcome smaller (running R (benchOf m registers marks memory))
-      → N ≡ putRun (s .run) run → M ≡ putMachine (s .machine) machine → r ≡ packed (s .answer)
+      → N ≡ putRun (s .run) run → M ≡ putMachine (s .machine) machine → r ≡ packed (reply (s .answer))
       → turnedOut r N M G K Q ≡ hostTurn run machine registers marks memory
   turn-shown R m s N M G K Q r h eR em e en ex er =
       rw (er, en, ex) (ap (shownTurn run machine) (e ∙ ap (turnOutcome smaller) (held R m eR em)) ∙ turn-is h)
@@ -143,12 +143,12 @@ module _ (run machine registers marks memory : List ℕ) where
 
 module _ (P : Plan) (machine registers marks memory steps : List ℕ) where
   -- a block of another length
-  pub run-short : (r : ℕ) → ¬ (length machine ≡ 64) → r ≡ packed BadArguments
+  pub run-short : (r : ℕ) → ¬ (length machine ≡ 64) → r ≡ packed (reply BadArguments)
       → ranOut r machine registers marks memory steps ≡ hostRun P machine registers marks memory steps
   unfolding hostRun
   run-short r h er = rw (er, ne-eqb (length machine) 64 h)
 
-  pub run-short-steps : (r : ℕ) → length machine ≡ 64 → ¬ (length steps ≡ 8) → r ≡ packed BadArguments
+  pub run-short-steps : (r : ℕ) → length machine ≡ 64 → ¬ (length steps ≡ 8) → r ≡ packed (reply BadArguments)
       → ranOut r machine registers marks memory steps ≡ hostRun P machine registers marks memory steps
   unfolding hostRun
   run-short-steps r h k er = rw (er, eq-eqb (length machine) 64 h, ne-eqb (length steps) 8 k)
@@ -162,7 +162,7 @@ module _ (P : Plan) (machine registers marks memory steps : List ℕ) where
   pub run-shown : (t : Bool) (P′ : Plan) (m : Machine) (s : Finished) (M G K Q S : List ℕ) (r : ℕ) → length machine ≡ 64 → length steps ≡ 8
       → P′ ≡ P → m ≡ machineOf machine → finishedAs s G K Q ≡ whole smaller P′ (benchOf m registers marks memory)
       → isDone (s .answer) ≡ t → M ≡ cond t (putMachine (s .machine) machine) machine → S ≡ cond t (putNumbers (s .count ∷ []) steps) steps
-      → r ≡ packed (s .answer) → ranOut r M G K Q S ≡ hostRun P machine registers marks memory steps
+      → r ≡ packed (reply (s .answer)) → ranOut r M G K Q S ≡ hostRun P machine registers marks memory steps
   run-shown t P′ m s M G K Q S r h k eP em e et ex es er =
       rw (er, ex, es, sym et)
       (ap (shownRun machine steps) (e ∙ ap₂ (λ (P : Plan) (m : Machine). whole smaller P (benchOf m registers marks memory)) eP em) ∙ run-is h k)

@@ -6,15 +6,14 @@ use lib.ListN.{length}
 use lib.Dec.{eqb}
 use Rattle.machine.specs.declared.Answer.the-variants.{BadArguments}
 use Rattle.machine.specs.Tests.{every}
-use Rattle.machine.specs.Answers.{isDone}
+use Rattle.machine.specs.Answers.{reply, done}
 use Rattle.machine.specs.Geometry.{Bench, benchOf}
 use Rattle.machine.specs.Setting.{smaller}
 use Rattle.machine.specs.Starting.{StartOutcome, startMachine}
 use Rattle.machine.specs.Step.{Outcome, step}
 use Rattle.run.specs.declared.Plan.{Plan}
-use Rattle.run.specs.declared.Asked.{Asked}
 use Rattle.run.specs.Start.{RunStart, startRun}
-use Rattle.run.specs.Turn.{ask, asked, Running, running, TurnOutcome, turnOutcome, TurnsOutcome, turns}
+use Rattle.run.specs.Turn.{ask, AskOutcome, asked, Running, running, TurnOutcome, turnOutcome, TurnsOutcome, turns}
 use Rattle.run.specs.Whole.{WholeOutcome, whole}
 use Rattle.blocks.specs.Blocks.{machineBytes, machineOf, putMachine, scalarBytes, valuesOf, putValues, runBytes, runOf, putRun, runFit, stepBytes, putHanded, putNumbers, packed}
 
@@ -33,14 +32,14 @@ startedOut result machine registers marks = record { result = result; machine = 
 -- a start as the host sees it; a refused one leaves the machine's block
 abbrev pub shownStart : List ℕ → StartOutcome → HostStarted
 shownStart machine o =
-    startedOut (packed (o .answer)) (cond (isDone (o .answer)) (putMachine (o .machine) machine) machine) (o .registers) (o .marks)
+    startedOut (packed (o .answer)) (cond (done (o .answer)) (putMachine (o .machine) machine) machine) (o .registers) (o .marks)
 
 -- a block of the wrong length is refused with 8
 unfoldable pub hostStart : (rlen mlen sealStart sealLength : ℕ) → (machine registers marks : List ℕ) → HostStarted
 hostStart rlen mlen sealStart sealLength machine registers marks =
     cond (eqb (length machine) machineBytes)
     (shownStart machine (startMachine rlen mlen sealStart sealLength registers marks))
-    (startedOut (packed BadArguments) machine registers marks)
+    (startedOut (packed (reply BadArguments)) machine registers marks)
 
 -- ---- a step
 
@@ -78,7 +77,7 @@ unfoldable pub hostStep : ℕ → (machine registers marks scalars memory : List
 hostStep word machine registers marks scalars memory =
     cond (every (eqb (length machine) machineBytes ∷ eqb (length scalars) scalarBytes ∷ []))
     (shownStep machine (stepBlock word scalars (benchOf (machineOf machine) registers marks memory)))
-    (steppedOut (packed BadArguments) machine registers marks scalars memory)
+    (steppedOut (packed (reply BadArguments)) machine registers marks scalars memory)
 
 -- ---- starting a run
 
@@ -118,13 +117,13 @@ runStartedOut result machine registers marks memory run = record {
 abbrev pub shownRunStart : (machine run : List ℕ) → RunStart → HostRunStarted
 shownRunStart machine run s =
     runStartedOut (packed (s .answer)) machine (s .bench .registers) (s .bench .marks) (s .bench .memory)
-    (cond (isDone (s .answer)) (putRun (s .run) run) run)
+    (cond (done (s .answer)) (putRun (s .run) run) run)
 
 unfoldable pub hostRunStart : Plan → (machine registers marks memory run : List ℕ) → HostRunStarted
 hostRunStart P machine registers marks memory run =
     cond (every (eqb (length machine) machineBytes ∷ eqb (length run) runBytes ∷ []))
     (shownRunStart machine run (startRun smaller P (benchOf (machineOf machine) registers marks memory)))
-    (runStartedOut (packed BadArguments) machine registers marks memory run)
+    (runStartedOut (packed (reply BadArguments)) machine registers marks memory run)
 
 -- ---- asking a run for its next step
 
@@ -138,15 +137,15 @@ abbrev pub nextOut : ℕ → (run step : List ℕ) → HostNext
 nextOut result run step = record { result = result; run = run; step = step }
 
 -- an answer as the host sees it; both blocks stay where no step is handed out
-abbrev pub shownNext : (run step : List ℕ) → Asked → HostNext
+abbrev pub shownNext : (run step : List ℕ) → AskOutcome → HostNext
 shownNext run step a =
-    nextOut (packed (a .answer)) (cond (isDone (a .answer)) (putRun (a .run) run) run) (cond (isDone (a .answer)) (putHanded (a .handed) step) step)
+    nextOut (packed (a .answer)) (cond (done (a .answer)) (putRun (a .run) run) run) (cond (done (a .answer)) (putHanded (a .handed) step) step)
 
 unfoldable pub hostNext : (run step : List ℕ) → HostNext
 hostNext run step =
     cond (every (runFit run ∷ eqb (length step) stepBytes ∷ []))
     (shownNext run step (asked (ask smaller (runOf run))))
-    (nextOut (packed BadArguments) run step)
+    (nextOut (packed (reply BadArguments)) run step)
 
 -- ---- turns of a run
 
@@ -189,7 +188,7 @@ unfoldable pub hostTurn : (run machine registers marks memory : List ℕ) → Ho
 hostTurn run machine registers marks memory =
     cond (turnBlocks run machine)
     (shownTurn run machine (turnOutcome smaller (heldRunning run machine registers marks memory)))
-    (turnedOut (packed BadArguments) run machine registers marks memory)
+    (turnedOut (packed (reply BadArguments)) run machine registers marks memory)
 
 -- turns are counted, not answered: blocks that are refused take none
 abbrev pub shownTurns : (run machine : List ℕ) → TurnsOutcome → HostTurned
@@ -229,12 +228,12 @@ ranOut result machine registers marks memory steps = record {
 -- a whole run as the host sees it; a refused one leaves both blocks
 abbrev pub shownRun : (machine steps : List ℕ) → WholeOutcome → HostRan
 shownRun machine steps o =
-    ranOut (packed (o .answer)) (cond (isDone (o .answer)) (putMachine (o .bench .machine) machine) machine)
+    ranOut (packed (o .answer)) (cond (done (o .answer)) (putMachine (o .bench .machine) machine) machine)
     (o .bench .registers) (o .bench .marks) (o .bench .memory)
-    (cond (isDone (o .answer)) (putNumbers (o .count ∷ []) steps) steps)
+    (cond (done (o .answer)) (putNumbers (o .count ∷ []) steps) steps)
 
 unfoldable pub hostRun : Plan → (machine registers marks memory steps : List ℕ) → HostRan
 hostRun P machine registers marks memory steps =
     cond (every (eqb (length machine) machineBytes ∷ eqb (length steps) countBytes ∷ []))
     (shownRun machine steps (whole smaller P (benchOf (machineOf machine) registers marks memory)))
-    (ranOut (packed BadArguments) machine registers marks memory steps)
+    (ranOut (packed (reply BadArguments)) machine registers marks memory steps)

@@ -3,7 +3,6 @@ use mathlib.Core.Path.{_≡_}
 use mathlib.Core.List.{List}
 use Prim.Native.Nat.{ℕ, _/_, _%_, _^_, _<_}
 use lib.ListN.{getD}
-use Rattle.machine.specs.Answers.{number, rowOf, columnOf}
 use Rattle.machine.specs.Geometry.{Bench}
 use Rattle.machine.specs.Step.{step}
 use Rattle.run.specs.declared.Plan.{Plan}
@@ -56,4 +55,4 @@ RunRefusalChangesNoByte = (P : Plan) (machine registers marks memory steps : Lis
 abbrev pub StepPacksWhole : Type 0
 StepPacksWhole = (word : ℕ) (xs : List ℕ) (B : Bench)
     → let a = step word xs B .answer in
-    (packed a % 2 ^ 16 ≡ number a) × (packed a / 2 ^ 16 % 2 ^ 16 ≡ rowOf a) × (packed a / 2 ^ 32 ≡ columnOf a)
+    (packed a % 2 ^ 16 ≡ a .number) × (packed a / 2 ^ 16 % 2 ^ 16 ≡ a .row) × (packed a / 2 ^ 32 ≡ a .column)

@@ -16,8 +16,7 @@ use Rattle.width.proofs.ReduceLaws.{sumℤ-cong}
 use Rattle.width.proofs.TileLaws.{le-cong, le-bytes, length-putRow, putRow-out, putRow-at, pitched}
 use Rattle.width.proofs.PutLaws.{putLe-low}
 use Rattle.machine.specs.declared.Machine.{Machine}
-use Rattle.machine.specs.declared.Answer.{Answer}
-use Rattle.machine.specs.Answers.{number}
+use Rattle.machine.specs.Answers.{Reply}
 use Rattle.machine.specs.Tests.{isIn, every}
 use Rattle.machine.specs.Geometry.{Parameters, Bench, elen}
 use Rattle.machine.specs.Memory.{rowZ, rowAt, address}
@@ -140,7 +139,7 @@ module _ (sew f m k n : ℕ) (formatted : format sew f ≡ true) (m≤ : m ≤ 1
 
   -- a start is accepted
   pub accepted-here : (B : Bench) → soundBench B ≡ true → B .machine .«seal_length» ≡ 0 → length (B .memory) ≡ 3072
-      → (a : Answer) → Answered (planFor sew f m k n) B a → number a ≡ 0
+      → (a : Reply) → Answered (planFor sew f m k n) B a → a .number ≡ 0
   accepted-here B s none len a h =
       h .gives-0 (numbers-are (planFor sew f m k n) B s numbers) (insides (B .memory) len) (separates (B .machine) none)
 

@@ -14,8 +14,8 @@ use Rattle.machine.specs.declared.Instruction.{Instruction}
 use Rattle.machine.specs.declared.Instruction.the-variants.{Illegal, SetTypeImmediate, SetType, SetTileImmediate, SetTile, Load, Store, Multiply, Combine, Scale, ScaleImmediate}
 use Rattle.machine.specs.Tests.{all, every, isIn}
 use Rattle.machine.proofs.TestLaws.{all-at, and-left, and-right, false-true}
-use Rattle.machine.specs.Answers.{Check, verdict, isDone}
-use Rattle.machine.specs.Geometry.{elen, Parameters, machineAfter, Bench, benchOf, withScalar}
+use Rattle.machine.specs.Answers.{reply, done, Check, verdict, isDone}
+use Rattle.machine.specs.Geometry.{elen, Parameters, parameters, machineAfter, Bench, benchOf, withScalar}
 use Rattle.machine.specs.Setting.{sew, mill, legalType, newType}
 use Rattle.machine.specs.Listing.{field7, field15, field20, immediate13, Row, lookUp, notOurs, listing, ranged, inRange, decode}
 use Rattle.machine.specs.Operation.{memoryAfter, resultOf}
@@ -23,7 +23,7 @@ use Rattle.machine.specs.Refusals.{checks}
 use Rattle.machine.proofs.CheckLaws.{refusals}
 use Rattle.machine.specs.Faults.{soundBench, thirtyTwo}
 use Rattle.machine.specs.Step
-use Rattle.machine.specs.Step.{Outcome, outcome, given, meant, left, destination}
+use Rattle.machine.specs.Step.{Outcome, outcome, stepBy, stepChecks, given, meant, left, destination}
 
 -- ---- answers
 
@@ -41,6 +41,21 @@ only-done Overlap h = absurd (false-true h)
 only-done WrongOpcode h = absurd (false-true h)
 only-done LeftOutWord h = absurd (false-true h)
 only-done WrongRegister h = absurd (false-true h)
+
+-- a step that is answered 0 is answered as `Done` is
+pub step-zero : (grant : ℕ → ℕ → ℕ) (word : ℕ) (xs : List ℕ) (B : Bench) → done (stepBy grant word xs B .answer) ≡ true → stepBy grant word xs B .answer ≡ reply Done
+unfolding stepBy outcome
+step-zero grant word xs B = go (isDone told) refl
+  where
+    told : Answer
+    told = verdict (stepChecks (parameters grant (B .machine)) (decode word) xs B)
+
+    out : Bool → Outcome
+    out t = cond t (Step.carriedOut (parameters grant (B .machine)) (decode word) xs B) (Step.refused (parameters grant (B .machine)) (decode word) xs B told)
+
+    go : (t : Bool) → isDone told ≡ t → done (out t .answer) ≡ true → out t .answer ≡ reply Done
+    go true e d = refl
+    go false e d = absurd (false-true (sym e ∙ d))
 
 -- checks that are made in two parts
 pub verdict-append : (ds bs : List Check) → refusals ds ≡ true → verdict (ds ++ bs) ≡ cond (isDone (verdict ds)) (verdict bs) (verdict ds)
@@ -76,17 +91,17 @@ module _ (M : Parameters) (i : Instruction) (xs : List ℕ) (B : Bench) (s : sou
       → mem ≡ cond (isDone a) (memoryAfter M (meant M i xs B) (given M i xs B) (B .memory)) (B .memory)
       → machineAfter (B .machine) (left M i xs B) ≡ B .machine
       → withScalar xs (destination i) (resultOf (meant M i xs B) (left M i xs B)) ≡ xs
-      → record { answer = a; bench = benchOf (B .machine) regs marks mem; scalars = xs } ≡ outcome M i xs B
+      → record { answer = reply a; bench = benchOf (B .machine) regs marks mem; scalars = xs } ≡ outcome M i xs B
   outcome-of a regs marks mem e er em eo kept same = go (isDone a) refl ∙ outcome-by a (sym e)
     where
-      go : (d : Bool) → isDone a ≡ d → record { answer = a; bench = benchOf (B .machine) regs marks mem; scalars = xs } ≡ out a
+      go : (d : Bool) → isDone a ≡ d → record { answer = reply a; bench = benchOf (B .machine) regs marks mem; scalars = xs } ≡ out a
       go true d =
-          rw d (ap₂ (λ (a : Answer) (r : List ℕ). record { answer = a; bench = benchOf (B .machine) r marks mem; scalars = xs }) (only-done a d) (er ∙ rw d)
-          ∙ ap₂ (λ (k o : List ℕ). record { answer = Done; bench = benchOf (B .machine) (left M i xs B .regs) k o; scalars = xs }) (em ∙ rw d) (eo ∙ rw d)
-          ∙ ap₂ (λ (m : Machine) (x : List ℕ). record { answer = Done; bench = benchOf m (left M i xs B .regs) (left M i xs B .marks) (memoryAfter M (meant M i xs B) (given M i xs B) (B .memory)); scalars = x }) (sym kept) (sym same))
+          rw d (ap₂ (λ (a : Answer) (r : List ℕ). record { answer = reply a; bench = benchOf (B .machine) r marks mem; scalars = xs }) (only-done a d) (er ∙ rw d)
+          ∙ ap₂ (λ (k o : List ℕ). record { answer = reply Done; bench = benchOf (B .machine) (left M i xs B .regs) k o; scalars = xs }) (em ∙ rw d) (eo ∙ rw d)
+          ∙ ap₂ (λ (m : Machine) (x : List ℕ). record { answer = reply Done; bench = benchOf m (left M i xs B .regs) (left M i xs B .marks) (memoryAfter M (meant M i xs B) (given M i xs B) (B .memory)); scalars = x }) (sym kept) (sym same))
       go false d =
-          rw d (ap (λ (r : List ℕ). record { answer = a; bench = benchOf (B .machine) r marks mem; scalars = xs }) (er ∙ rw d)
-          ∙ ap₂ (λ (k o : List ℕ). record { answer = a; bench = benchOf (B .machine) (B .registers) k o; scalars = xs }) (em ∙ rw d) (eo ∙ rw d))
+          rw d (ap (λ (r : List ℕ). record { answer = reply a; bench = benchOf (B .machine) r marks mem; scalars = xs }) (er ∙ rw d)
+          ∙ ap₂ (λ (k o : List ℕ). record { answer = reply a; bench = benchOf (B .machine) (B .registers) k o; scalars = xs }) (em ∙ rw d) (eo ∙ rw d))
 
 -- ---- mtype
 

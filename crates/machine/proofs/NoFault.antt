@@ -21,7 +21,7 @@ use Rattle.machine.specs.declared.Dimension.the-variants.{DimensionM, Di
 use Rattle.machine.specs.declared.Instruction.{Instruction}
 use Rattle.machine.specs.Tests.{allOf}
 use Rattle.machine.proofs.TestLaws.{false-true, allOf-true, allOf-at, every-each, each-every}
-use Rattle.machine.specs.Answers.{isDone, verdict}
+use Rattle.machine.specs.Answers.{reply, isDone, verdict}
 use Rattle.machine.specs.Geometry.{elen}
 use Rattle.machine.specs.Faults.{soundBench}
 use Rattle.machine.specs.Geometry.{Parameters, parameters, State, stateOf, machineAfter, permitted, registerBytes}
@@ -238,11 +238,11 @@ unfolding startMachine startable newType legalType sew
 start-sound rlen mlen sealStart sealLength registers marks memory = go (startable rlen mlen sealStart sealLength registers marks) refl
   where
     out : Bool → StartOutcome
-    out t = cond t (record { answer = Done; machine = freshMachine rlen mlen sealStart sealLength; registers = registers; marks = replicate (length marks) 0 })
-        (record { answer = BadArguments; machine = noMachine; registers = registers; marks = marks })
+    out t = cond t (record { answer = reply Done; machine = freshMachine rlen mlen sealStart sealLength; registers = registers; marks = replicate (length marks) 0 })
+        (record { answer = reply BadArguments; machine = noMachine; registers = registers; marks = marks })
 
-    go : (t : Bool) → startable rlen mlen sealStart sealLength registers marks ≡ t → out t .answer ≡ Done → sound (out t .machine) (out t .registers) (out t .marks) ≡ true
-    go false e d = absurd (false-true (ap isDone d))
+    go : (t : Bool) → startable rlen mlen sealStart sealLength registers marks ≡ t → out t .answer .number ≡ 0 → sound (out t .machine) (out t .registers) (out t .marks) ≡ true
+    go false e d = absurd (false-true (ap (λ (n : ℕ). eqb n 0) d))
     go true e d =
         let c = every-each (permitted rlen mlen ∷ eqb (length registers) (registerBytes mlen) ∷ eqb (length marks) (registerBytes mlen) ∷ sealEnds sealStart sealLength ∷ []) e in
         sound-true (freshMachine rlen mlen sealStart sealLength) registers (replicate (length marks) 0) (record {

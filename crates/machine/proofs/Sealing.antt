@@ -3,13 +3,14 @@ use mathlib.Core.Path.{_≡_, refl, sym, ap, _∙_, subst}
 use mathlib.Core.Bool.{Bool, true, false, cond}
 use mathlib.Core.List.{List, [], _∷_}
 use Prim.Native.Nat.{ℕ}
+use lib.Dec.{eqb}
 use lib.ListN.{length, getD}
 use Rattle.width.proofs.TileLaws.{putTile-out, length-putTile}
 use Rattle.machine.specs.declared.Answer.the-variants.{Done, BadArguments}
 use Rattle.machine.specs.declared.Instruction.{Instruction}
 use Rattle.machine.specs.Tests.{within}
 use Rattle.machine.proofs.TestLaws.{false-true, in-within}
-use Rattle.machine.specs.Answers.{isDone, verdict}
+use Rattle.machine.specs.Answers.{reply, isDone, verdict}
 use Rattle.machine.proofs.CheckLaws.{Passed, passed, refusals}
 use Rattle.machine.specs.Geometry.{Parameters, parameters, State}
 use Rattle.machine.specs.Setting.{smaller}
@@ -114,9 +115,9 @@ seal-holds-from-start rlen mlen sealStart sealLength registers marks memory d ws
     (go (startable rlen mlen sealStart sealLength registers marks) d)
   where
     out : Bool → StartOutcome
-    out t = cond t (record { answer = Done; machine = freshMachine rlen mlen sealStart sealLength; registers = registers; marks = replicate (length marks) 0 })
-        (record { answer = BadArguments; machine = noMachine; registers = registers; marks = marks })
+    out t = cond t (record { answer = reply Done; machine = freshMachine rlen mlen sealStart sealLength; registers = registers; marks = replicate (length marks) 0 })
+        (record { answer = reply BadArguments; machine = noMachine; registers = registers; marks = marks })
 
-    go : (t : Bool) → out t .answer ≡ Done → within (out t .machine .«seal_start») (out t .machine .«seal_length») q ≡ true
-    go false d = absurd (false-true (ap isDone d))
+    go : (t : Bool) → out t .answer .number ≡ 0 → within (out t .machine .«seal_start») (out t .machine .«seal_length») q ≡ true
+    go false d = absurd (false-true (ap (λ (n : ℕ). eqb n 0) d))
     go true d = in-within sealStart sealLength q x

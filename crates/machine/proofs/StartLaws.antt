@@ -9,6 +9,7 @@ use borrow.Author.Tests.{le-leb, leb-true}
 use Rattle.machine.proofs.TestLaws.{same-test, and-true, and-left}
 use Rattle.machine.specs.declared.Answer.the-variants.{Done, BadArguments}
 use lib.Dec.{leb, ltb, eqb}
+use Rattle.machine.specs.Answers.{reply}
 use Rattle.machine.specs.Tests.{isIn, every}
 use Rattle.machine.specs.Geometry.{permitted, rlens, mlens}
 use Rattle.machine.specs.Starting.{sealEnds, startable, startMachine, StartOutcome, freshMachine, noMachine}
@@ -38,8 +39,8 @@ startable-by rlen mlen sealStart sealLength registers marks p q r s hp hq hr hs 
 
 module _ (rlen mlen sealStart sealLength : ℕ) (registers marks : List ℕ) where
   abbrev out : Bool → StartOutcome
-  out t = cond t (record { answer = Done; machine = freshMachine rlen mlen sealStart sealLength; registers = registers; marks = replicate (length marks) 0 })
-      (record { answer = BadArguments; machine = noMachine; registers = registers; marks = marks })
+  out t = cond t (record { answer = reply Done; machine = freshMachine rlen mlen sealStart sealLength; registers = registers; marks = replicate (length marks) 0 })
+      (record { answer = reply BadArguments; machine = noMachine; registers = registers; marks = marks })
 
   pub started-as : (t : Bool) → startable rlen mlen sealStart sealLength registers marks ≡ t → out t ≡ startMachine rlen mlen sealStart sealLength registers marks
   unfolding startMachine

@@ -12,7 +12,7 @@ use Rattle.machine.specs.declared.Answer.the-variants.{Done}
 use Rattle.machine.specs.declared.Instruction.{Instruction}
 use Rattle.machine.specs.Tests.{every, isIn}
 use Rattle.machine.proofs.TestLaws.{every-each, each, each-in, or-not}
-use Rattle.machine.specs.Answers.{isDone, verdict}
+use Rattle.machine.specs.Answers.{reply, isDone, verdict}
 use Rattle.machine.proofs.CheckLaws.{Passed, no-refusal}
 use Rattle.machine.specs.Geometry.{Parameters, parameters, State, machineAfter, permitted, rlens, mlens}
 use Rattle.machine.specs.Setting.{smaller}
@@ -37,7 +37,7 @@ benchAfter M o st B = record {
 module _ (M : Parameters) (i : Instruction) (xs : List ℕ) (B : Bench) (o : Operation) where
   abbrev pub doneBy : Operation → Outcome
   doneBy o = record {
-    answer = Done;
+    answer = reply Done;
     bench = benchAfter M o (given M i xs B) B;
     scalars = withScalar xs (destination i) (resultOf o (stateAfter M o (given M i xs B) (B .memory)));
   }
@@ -64,14 +64,14 @@ pub step-done : (grant : ℕ → ℕ → ℕ) (word : ℕ) (xs : List ℕ) (B : 
     → let M : Parameters = parameters grant (B .machine) in
     decode word ≡ i → soundBench B ≡ true → thirtyTwo xs ≡ true → meant M i xs B ≡ o
     → Passed (checks M o (given M i xs B) (B .memory))
-    → (stepBy grant word xs B .answer ≡ Done) × (stepBy grant word xs B .bench ≡ benchAfter M o (given M i xs B) B)
+    → (stepBy grant word xs B .answer ≡ reply Done) × (stepBy grant word xs B .bench ≡ benchAfter M o (given M i xs B) B)
 step-done grant word xs B i o d s t e p =
     let q = step-is grant word xs B i o d s t e p in
     (ap (λ (u : Outcome). u .answer) q, ap (λ (u : Outcome). u .bench) q)
 
 -- a word that a check refuses
 pub step-refused : (grant : ℕ → ℕ → ℕ) (word : ℕ) (xs : List ℕ) (B : Bench) (a : Answer) → isDone a ≡ false
-    → verdict (stepChecks (parameters grant (B .machine)) (decode word) xs B) ≡ a → stepBy grant word xs B ≡ record { answer = a; bench = B; scalars = xs }
+    → verdict (stepChecks (parameters grant (B .machine)) (decode word) xs B) ≡ a → stepBy grant word xs B ≡ record { answer = reply a; bench = B; scalars = xs }
 unfolding stepBy outcome
 step-refused grant word xs B a d e =
     let M : Parameters = parameters grant (B .machine) in

@@ -14,7 +14,7 @@ use Rattle.machine.specs.declared.Wrong.the-variants.{Opcode, LeftOut, U
 use Rattle.machine.specs.declared.Instruction.{Instruction}
 use Rattle.machine.specs.declared.Instruction.the-variants.{Illegal, SetTypeImmediate, SetType, SetTileImmediate, SetTile, Load, Store, Multiply, Combine, Scale, ScaleImmediate}
 use Rattle.machine.specs.Tests.{isIn}
-use Rattle.machine.specs.Answers.{Check, verdict, isDone, number, rowOf, columnOf}
+use Rattle.machine.specs.Answers.{reply, Check, verdict, isDone, number}
 use Rattle.machine.specs.Geometry.{Parameters, parameters, State, Bench}
 use Rattle.machine.specs.Listing.{bits, Fixed, Code, Row, listing, others, has, listed, lookUp, notOurs, inRange, ranged, decode}
 use Rattle.machine.specs.Operation.{Operation, operation}
@@ -158,18 +158,18 @@ module _ (word : ℕ) where
 abbrev four : List ℕ
 four = 1 ∷ 10 ∷ 11 ∷ 12 ∷ []
 
-abbrev elsewhere : Answer → Bool
-elsewhere a = not (isIn (number a) four)
+abbrev elsewhere : ℕ → Bool
+elsewhere n = not (isIn n four)
 
 abbrev allElsewhere : List Check → Bool
 allElsewhere [] = true
-allElsewhere (c ∷ cs) = elsewhere (c .answer) && allElsewhere cs
+allElsewhere (c ∷ cs) = elsewhere (number (c .answer)) && allElsewhere cs
 
-verdict-elsewhere : (cs : List Check) → allElsewhere cs ≡ true → elsewhere (verdict cs) ≡ true
+verdict-elsewhere : (cs : List Check) → allElsewhere cs ≡ true → elsewhere (number (verdict cs)) ≡ true
 verdict-elsewhere [] h = refl
-verdict-elsewhere (c ∷ cs) h = go (c .holds) (and-left (elsewhere (c .answer)) (allElsewhere cs) h) (verdict-elsewhere cs (and-right (elsewhere (c .answer)) (allElsewhere cs) h))
+verdict-elsewhere (c ∷ cs) h = go (c .holds) (and-left (elsewhere (number (c .answer))) (allElsewhere cs) h) (verdict-elsewhere cs (and-right (elsewhere (number (c .answer))) (allElsewhere cs) h))
   where
-    go : (t : Bool) → elsewhere (c .answer) ≡ true → elsewhere (verdict cs) ≡ true → elsewhere (cond t (verdict cs) (c .answer)) ≡ true
+    go : (t : Bool) → elsewhere (number (c .answer)) ≡ true → elsewhere (number (verdict cs)) ≡ true → elsewhere (number (cond t (verdict cs) (c .answer))) ≡ true
     go true h ih = ih
     go false h ih = h
 
@@ -208,19 +208,19 @@ module _ (M : Parameters) (st : State) (xs mem : List ℕ) where
   checks-elsewhere (ScaleImmediate factor md ms1 immediate) h = refl
 
 module _ (M : Parameters) (xs : List ℕ) (B : Bench) where
-  ours-elsewhere : (i : Instruction) → isOurs i ≡ true → elsewhere (outcome M i xs B .answer) ≡ true
+  ours-elsewhere : (i : Instruction) → isOurs i ≡ true → elsewhere (outcome M i xs B .answer .number) ≡ true
   unfolding outcome
   ours-elsewhere i h = go (isDone (verdict (stepChecks M i xs B))) (verdict-elsewhere (stepChecks M i xs B) (checks-elsewhere M (Step.given M i xs B) xs (B .memory) i h))
     where
-      go : (t : Bool) → elsewhere (verdict (stepChecks M i xs B)) ≡ true
-          → elsewhere (cond t (Step.carriedOut M i xs B) (Step.refused M i xs B (verdict (stepChecks M i xs B))) .answer) ≡ true
+      go : (t : Bool) → elsewhere (number (verdict (stepChecks M i xs B))) ≡ true
+          → elsewhere (cond t (Step.carriedOut M i xs B) (Step.refused M i xs B (verdict (stepChecks M i xs B))) .answer .number) ≡ true
       go true h = refl
       go false h = h
 
   -- ---- a word that is refused for what it is
 
   abbrev refusal : Answer → Outcome
-  refusal a = record { answer = a; bench = B; scalars = xs }
+  refusal a = record { answer = reply a; bench = B; scalars = xs }
 
   abbrev told : Bool → Bool → Wrong → Answer
   told s t w = cond s (cond t (wordAnswer w) BadArguments) BadArguments
@@ -269,7 +269,7 @@ module _ (M : Parameters) (xs : List ℕ) (B : Bench) where
   abbrev Moved : Instruction → Instruction → Type 0
   Moved i j = OnlyNumberMoved (outcome M i xs B) (outcome M j xs B)
 
-  alike : (a b : Answer) → numberBefore (number a) ≡ number b → rowOf a ≡ rowOf b → columnOf a ≡ columnOf b → OnlyNumberMoved (refusal M xs B a) (refusal M xs B b)
+  alike : (a b : Answer) → numberBefore (number a) ≡ number b → reply a .row ≡ reply b .row → reply a .column ≡ reply b .column → OnlyNumberMoved (refusal M xs B a) (refusal M xs B b)
   alike a b n r c = record { same-number = n; same-row = r; same-column = c; same-bench = refl; same-scalars = refl }
 
   illegal-moved : (w : Wrong) → Moved (Illegal w) (Illegal Unlisted)
@@ -284,7 +284,7 @@ module _ (M : Parameters) (xs : List ℕ) (B : Bench) where
       go true true Register = alike WrongRegister IllegalWord refl refl refl
 
   ours-moved : (i : Instruction) → isOurs i ≡ true → Moved i i
-  ours-moved i h = record { same-number = number-kept (number (outcome M i xs B .answer)) (ours-elsewhere M xs B i h); same-row = refl; same-column = refl; same-bench = refl; same-scalars = refl }
+  ours-moved i h = record { same-number = number-kept (outcome M i xs B .answer .number) (ours-elsewhere M xs B i h); same-row = refl; same-column = refl; same-bench = refl; same-scalars = refl }
 
   ranged-moved : (i : Instruction) (t : Bool) → isOurs i ≡ true → Moved (cond t i (Illegal Register)) (cond t i (Illegal Unlisted))
   ranged-moved i true h = ours-moved i h
@@ -366,10 +366,10 @@ module _ (word : ℕ) (xs : List ℕ) (B : Bench) where
 
   module _ (M : Parameters) where
     abbrev Answered : Instruction → Type 0
-    Answered i = Refused (number (outcome M i xs B .answer))
+    Answered i = Refused (outcome M i xs B .answer .number)
 
     illegal-answered : (w : Wrong) → (Faultless xs B → Refused (number (wordAnswer w))) → Answered (Illegal w)
-    illegal-answered w k = subst (λ (o : Outcome). Refused (number (o .answer))) (sym (illegal-told M xs B w)) (go (soundBench B) refl (thirtyTwo xs) refl)
+    illegal-answered w k = subst (λ (o : Outcome). Refused (o .answer .number)) (sym (illegal-told M xs B w)) (go (soundBench B) refl (thirtyTwo xs) refl)
       where
         go : (s : Bool) → soundBench B ≡ s → (t : Bool) → thirtyTwo xs ≡ t → Refused (number (told M xs B s t w))
         go false s t e = at-fault 8 refl (λ f. false-true (sym s ∙ f .0))
@@ -383,7 +383,7 @@ module _ (word : ℕ) (xs : List ℕ) (B : Bench) where
         → Answered (cond t (r .means word) (Illegal Register))
     ours-answered o r m h false e = illegal-answered Register (λ f. as-twelve f o (r, m, h) (r, m, h, e))
     ours-answered o r m h true e =
-        in-range (number (outcome M (r .means word) xs B .answer)) (ours-elsewhere M xs B (r .means word) (row-ours word listing (listing-ours word) r m)) o (r, m, h)
+        in-range (outcome M (r .means word) xs B .answer .number) (ours-elsewhere M xs B (r .means word) (row-ours word listing (listing-ours word) r m)) o (r, m, h)
         (λ y. false-true (sym (y .3) ∙ ap inRange (sym (found (y .0) (y .1) (y .2)) ∙ found r m h) ∙ e))
 
     word-answered : Kind word → Answered (decode word)

@@ -31,15 +31,12 @@ reply WrongRegister = record { number = 12; row = 0; column = 0 }
 abbrev pub number : Answer → ℕ
 number a = reply a .number
 
-abbrev pub rowOf : Answer → ℕ
-rowOf a = reply a .row
-
-abbrev pub columnOf : Answer → ℕ
-columnOf a = reply a .column
-
 -- 0: "done"
+abbrev pub done : Reply → Bool
+done r = eqb (r .number) 0
+
 abbrev pub isDone : Answer → Bool
-isDone a = eqb (number a) 0
+isDone a = done (reply a)
 
 -- a test and the answer where it fails
 pub record Check : Type 0 where

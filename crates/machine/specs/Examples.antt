@@ -6,8 +6,7 @@ use lib.ListN.{getD, replicate, set}
 use Rattle.width.specs.Reduce.{reduce}
 use Rattle.width.specs.Tile.{putTile, putRow, putLe, markTile, markRow}
 use Rattle.machine.specs.declared.Machine.{Machine}
-use Rattle.machine.specs.declared.Answer.{Answer}
-use Rattle.machine.specs.Answers.{number, rowOf, columnOf}
+use Rattle.machine.specs.Answers.{Reply}
 use Rattle.machine.specs.Geometry.{permitted}
 use Rattle.machine.specs.Setting.{sew, newType, legalType}
 use Rattle.machine.specs.Refusals.{widthOk, widthOf}
@@ -39,8 +38,8 @@ bench t m k n s l mark = record {
 pub scalars : ℕ → ℕ → List ℕ
 scalars a b = replicate 10 0 ++ a ∷ b ∷ replicate 20 0
 
-pub shown : Answer → List ℕ
-shown a = number a ∷ rowOf a ∷ columnOf a ∷ []
+pub shown : Reply → List ℕ
+shown a = a .number ∷ a .row ∷ a .column ∷ []
 
 -- a word is stepped, and the answer's number, row and column come out
 pub gives : Outcome → ℕ → Line

@@ -5,10 +5,10 @@ use Prim.Native.Nat.{ℕ, _+_, _-_, _^_}
 use lib.ListN.{length, replicate}
 use lib.Dec.{leb, eqb}
 use Rattle.machine.specs.declared.Machine.{Machine}
-use Rattle.machine.specs.declared.Answer.{Answer}
 use Rattle.machine.specs.declared.Answer.the-variants.{Done, BadArguments}
 use Rattle.machine.specs.declared.Started.{Started}
 use Rattle.machine.specs.Tests.{every}
+use Rattle.machine.specs.Answers.{Reply, reply}
 use Rattle.machine.specs.Geometry.{permitted, registerBytes}
 
 -- "a seal whose end exceeds 2^64 - 1": this one doesn't
@@ -42,7 +42,7 @@ freshMachine rlen mlen sealStart sealLength = record {
 
 -- what a start answers and leaves
 pub record StartOutcome : Type 0 where
-  pub answer : Answer
+  pub answer : Reply
   pub machine : Machine
   pub registers : List ℕ
   pub marks : List ℕ
@@ -51,9 +51,9 @@ pub record StartOutcome : Type 0 where
 unfoldable pub startMachine : (rlen mlen sealStart sealLength : ℕ) → (registers marks : List ℕ) → StartOutcome
 startMachine rlen mlen sealStart sealLength registers marks =
     cond (startable rlen mlen sealStart sealLength registers marks)
-    (record { answer = Done; machine = freshMachine rlen mlen sealStart sealLength; registers = registers; marks = replicate (length marks) 0 })
-    (record { answer = BadArguments; machine = noMachine; registers = registers; marks = marks })
+    (record { answer = reply Done; machine = freshMachine rlen mlen sealStart sealLength; registers = registers; marks = replicate (length marks) 0 })
+    (record { answer = reply BadArguments; machine = noMachine; registers = registers; marks = marks })
 
 -- what the function `start` returned and left
 abbrev pub startedAs : Started → (registers marks : List ℕ) → StartOutcome
-startedAs r registers marks = record { answer = r .answer; machine = r .machine; registers = registers; marks = marks }
+startedAs r registers marks = record { answer = reply (r .answer); machine = r .machine; registers = registers; marks = marks }

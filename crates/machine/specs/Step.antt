@@ -8,7 +8,7 @@ use Rattle.machine.specs.declared.Answer.the-variants.{Done, BadArgument
 use Rattle.machine.specs.declared.Stepped.{Stepped}
 use Rattle.machine.specs.declared.Instruction.{Instruction}
 use Rattle.machine.specs.declared.Instruction.the-variants.{Illegal, SetTypeImmediate, SetType, SetTileImmediate, SetTile, Load, Store, Multiply, Combine, Scale, ScaleImmediate}
-use Rattle.machine.specs.Answers.{Check, _otherwise_, verdict, isDone}
+use Rattle.machine.specs.Answers.{Reply, reply, Check, _otherwise_, verdict, isDone}
 use Rattle.machine.specs.Geometry.{Parameters, parameters, State, stateOf, machineAfter, Bench, benchOf, withScalar}
 use Rattle.machine.specs.Setting.{smaller}
 use Rattle.machine.specs.Listing.{decode}
@@ -32,7 +32,7 @@ destination (ScaleImmediate factor md ms1 immediate) = 0
 
 -- what a step answers and leaves
 pub record Outcome : Type 0 where
-  pub answer : Answer
+  pub answer : Reply
   pub bench : Bench
   pub scalars : List ℕ
 
@@ -57,14 +57,14 @@ module _ (M : Parameters) (i : Instruction) (xs : List ℕ) (B : Bench) where
 
   abbrev pub carriedOut : Outcome
   carriedOut = record {
-    answer = Done;
+    answer = reply Done;
     bench = benchOf (machineAfter (B .machine) left) (left .regs) (left .marks) (memoryAfter M meant given (B .memory));
     scalars = withScalar xs (destination i) (resultOf meant left);
   }
 
   -- "A refusal changes nothing lent or held."
   abbrev pub refused : Answer → Outcome
-  refused a = record { answer = a; bench = B; scalars = xs }
+  refused a = record { answer = reply a; bench = B; scalars = xs }
 
   unfoldable pub outcome : Outcome
   outcome = cond (isDone (verdict stepChecks)) carriedOut (refused (verdict stepChecks))
@@ -80,7 +80,7 @@ step = stepBy smaller
 -- what the function `step` returned and left
 abbrev pub steppedAs : Stepped → (registers marks scalars memory : List ℕ) → Outcome
 steppedAs r registers marks scalars memory = record {
-  answer = r .answer;
+  answer = reply (r .answer);
   bench = benchOf (r .machine) registers marks memory;
   scalars = scalars;
 }

@@ -6,7 +6,6 @@ use Prim.Native.Nat.{ℕ}
 use lib.ListN.{length, getD}
 use Rattle.width.specs.Tile.{In}
 use Rattle.width.specs.Blocks.{Grants}
-use Rattle.machine.specs.declared.Answer.the-variants.{Done}
 use Rattle.machine.specs.Geometry.{parameters, Bench, benchOf, sealed}
 use Rattle.machine.specs.Setting.{smaller}
 use Rattle.machine.specs.Starting.{startMachine}
@@ -22,13 +21,13 @@ startedBench rlen mlen sealStart sealLength registers marks memory =
 
 -- Demand 1: "A refusal changes nothing lent or held."
 abbrev pub RefusalChangesNothing : Type 0
-RefusalChangesNothing = (grant : ℕ → ℕ → ℕ) (word : ℕ) (xs : List ℕ) (B : Bench) → ¬ (stepBy grant word xs B .answer ≡ Done)
+RefusalChangesNothing = (grant : ℕ → ℕ → ℕ) (word : ℕ) (xs : List ℕ) (B : Bench) → ¬ (stepBy grant word xs B .answer .number ≡ 0)
     → (stepBy grant word xs B .bench ≡ B) × (stepBy grant word xs B .scalars ≡ xs)
 
 -- and so of a start
 abbrev pub StartRefusalChangesNothing : Type 0
 StartRefusalChangesNothing = (rlen mlen sealStart sealLength : ℕ) (registers marks : List ℕ)
-    → ¬ (startMachine rlen mlen sealStart sealLength registers marks .answer ≡ Done)
+    → ¬ (startMachine rlen mlen sealStart sealLength registers marks .answer .number ≡ 0)
     → (startMachine rlen mlen sealStart sealLength registers marks .registers ≡ registers)
     × (startMachine rlen mlen sealStart sealLength registers marks .marks ≡ marks)
 
@@ -42,7 +41,7 @@ StepKeepsSound = (grant : ℕ → ℕ → ℕ) → Grants grant → (word : ℕ)
 -- and so does a start, whatever memory is lent
 abbrev pub StartIsSound : Type 0
 StartIsSound = (rlen mlen sealStart sealLength : ℕ) (registers marks memory : List ℕ)
-    → startMachine rlen mlen sealStart sealLength registers marks .answer ≡ Done
+    → startMachine rlen mlen sealStart sealLength registers marks .answer .number ≡ 0
     → soundBench (startedBench rlen mlen sealStart sealLength registers marks memory) ≡ true
 
 -- ---- the seal, over any number of steps
@@ -70,6 +69,6 @@ SealHolds = (grant : ℕ → ℕ → ℕ) (ws : List Given) (B : Bench) → Unha
 -- and from a started machine: each byte of the range that it was started with
 abbrev pub SealHoldsFromStart : Type 0
 SealHoldsFromStart = (rlen mlen sealStart sealLength : ℕ) (registers marks memory : List ℕ)
-    → startMachine rlen mlen sealStart sealLength registers marks .answer ≡ Done
+    → startMachine rlen mlen sealStart sealLength registers marks .answer .number ≡ 0
     → (ws : List Given) (q : ℕ) → In sealStart sealLength q
     → getD (afterAll smaller ws (startedBench rlen mlen sealStart sealLength registers marks memory) .memory) q 0 ≡ getD memory q 0

@@ -9,7 +9,6 @@ use Rattle.machine.specs.declared.Wrong.the-variants.{Unlisted}
 use Rattle.machine.specs.declared.Instruction.{Instruction}
 use Rattle.machine.specs.declared.Instruction.the-variants.{Illegal}
 use Rattle.machine.specs.Tests.{isIn}
-use Rattle.machine.specs.Answers.{number, rowOf, columnOf}
 use Rattle.machine.specs.Geometry.{parameters, Bench}
 use Rattle.machine.specs.Listing.{bits, Fixed, Code, Row, listing, others, lookUp, inRange}
 use Rattle.machine.specs.Faults.{soundBench, thirtyTwo}
@@ -48,7 +47,7 @@ pub record RefusedAs (n word : ℕ) (xs : List ℕ) (B : Bench) : Type 0 where
   pub twelve : (n ≡ 12) ↔ Faultless xs B × RightOpcode word × OutOfRange word
 
 abbrev pub WordRefusals : Type 0
-WordRefusals = (grant : ℕ → ℕ → ℕ) (word : ℕ) (xs : List ℕ) (B : Bench) → RefusedAs (number (stepBy grant word xs B .answer)) word xs B
+WordRefusals = (grant : ℕ → ℕ → ℕ) (word : ℕ) (xs : List ℕ) (B : Bench) → RefusedAs (stepBy grant word xs B .answer .number) word xs B
 
 -- ---- nothing else moved
 
@@ -67,9 +66,9 @@ abbrev pub numberBefore : ℕ → ℕ
 numberBefore n = cond (isIn n (10 ∷ 11 ∷ 12 ∷ [])) 1 n
 
 pub record OnlyNumberMoved (after before : Outcome) : Type 0 where
-  pub same-number : numberBefore (number (after .answer)) ≡ number (before .answer)
-  pub same-row : rowOf (after .answer) ≡ rowOf (before .answer)
-  pub same-column : columnOf (after .answer) ≡ columnOf (before .answer)
+  pub same-number : numberBefore (after .answer .number) ≡ before .answer .number
+  pub same-row : after .answer .row ≡ before .answer .row
+  pub same-column : after .answer .column ≡ before .answer .column
   pub same-bench : after .bench ≡ before .bench
   pub same-scalars : after .scalars ≡ before .scalars
 

@@ -16,7 +16,7 @@ use Rattle.machine.specs.declared.Dimension.the-variants.{DimensionM, Dimension
 use Rattle.machine.specs.declared.Instruction.{Instruction}
 use Rattle.machine.proofs.StepLaws.{step-refused}
 use Rattle.machine.specs.Listing.{decode}
-use Rattle.machine.specs.Answers.{verdict, isDone}
+use Rattle.machine.specs.Answers.{reply, verdict, isDone}
 use Rattle.machine.specs.Geometry.{elen, State, stateOf, machineAfter, Bench, benchOf, scalar, withScalar}
 use Rattle.machine.specs.Setting.{mill, newType, maximum, smaller}
 use Rattle.machine.specs.Operation.{Operation, askedSize, stateAfter, memoryAfter, resultOf}
@@ -41,7 +41,7 @@ module _ (m : Machine) (i : Instruction) (xs regs marks mem : List ℕ) (s : sou
   here = outcome (ours m) i xs B
 
   abbrev leaves : Answer → Machine → (xs regs marks mem : List ℕ) → Outcome
-  leaves a m′ xs′ regs′ marks′ mem′ = record { answer = a; bench = benchOf m′ regs′ marks′ mem′; scalars = xs′ }
+  leaves a m′ xs′ regs′ marks′ mem′ = record { answer = reply a; bench = benchOf m′ regs′ marks′ mem′; scalars = xs′ }
 
   pub illegal-outcome : (wrong : Wrong) → meant (ours m) i xs B ≡ Operation.illegal wrong → leaves (wordAnswer wrong) m xs regs marks mem ≡ here
   illegal-outcome Opcode e = outcome-by (ours m) i xs B s t WrongOpcode (ap (λ (o : Operation). verdict (checks (ours m) o (given (ours m) i xs B) mem)) e)
@@ -53,7 +53,7 @@ module _ (m : Machine) (i : Instruction) (xs regs marks mem : List ℕ) (s : sou
       → leaves Done (withType m (newType elen v)) (withScalar xs rd (newType elen v)) regs marks mem ≡ here
   type-outcome v rd e er =
       ap₂ (λ (o : Operation) (rd : ℕ). record {
-        answer = Done;
+        answer = reply Done;
         bench = benchOf (machineAfter m (stateAfter (ours m) o (stateOf m regs marks) mem)) (stateAfter (ours m) o (stateOf m regs marks) mem .regs) (stateAfter (ours m) o (stateOf m regs marks) mem .marks) (memoryAfter (ours m) o (stateOf m regs marks) mem);
         scalars = withScalar xs rd (resultOf o (stateAfter (ours m) o (stateOf m regs marks) mem));
       }) (sym e) (sym er)
@@ -68,7 +68,7 @@ module _ (m : Machine) (i : Instruction) (xs regs marks mem : List ℕ) (s : sou
 
       granted-is : (d : Dimension) → leaves Done (withSize m d (granted m d a)) (withScalar xs rd (granted m d a)) regs marks mem
           ≡ record {
-            answer = Done;
+            answer = reply Done;
             bench = benchOf (machineAfter m (stateAfter (ours m) (Operation.setSize d a) (stateOf m regs marks) mem)) (stateAfter (ours m) (Operation.setSize d a) (stateOf m regs marks) mem .regs) (stateAfter (ours m) (Operation.setSize d a) (stateOf m regs marks) mem .marks) (memoryAfter (ours m) (Operation.setSize d a) (stateOf m regs marks) mem);
             scalars = withScalar xs rd (resultOf (Operation.setSize d a) (stateAfter (ours m) (Operation.setSize d a) (stateOf m regs marks) mem));
           }
@@ -82,7 +82,7 @@ module _ (m : Machine) (i : Instruction) (xs regs marks mem : List ℕ) (s : sou
       go false b =
           granted-is d
           ∙ ap₂ (λ (o : Operation) (rd : ℕ). record {
-            answer = Done;
+            answer = reply Done;
             bench = benchOf (machineAfter m (stateAfter (ours m) o (stateOf m regs marks) mem)) (stateAfter (ours m) o (stateOf m regs marks) mem .regs) (stateAfter (ours m) o (stateOf m regs marks) mem .marks) (memoryAfter (ours m) o (stateOf m regs marks) mem);
             scalars = withScalar xs rd (resultOf o (stateAfter (ours m) o (stateOf m regs marks) mem));
           }) (sym e) (sym er)
@@ -99,7 +99,7 @@ module _ (m : Machine) (i : Instruction) (xs regs marks mem : List ℕ) (s : sou
       go true b = outcome-by (ours m) i xs B s t IllegalType (v ∙ rw b)
       go false b =
           ap₂ (λ (o : Operation) (rd : ℕ). record {
-            answer = Done;
+            answer = reply Done;
             bench = benchOf (machineAfter m (stateAfter (ours m) o (stateOf m regs marks) mem)) (stateAfter (ours m) o (stateOf m regs marks) mem .regs) (stateAfter (ours m) o (stateOf m regs marks) mem .marks) (memoryAfter (ours m) o (stateOf m regs marks) mem);
             scalars = withScalar xs rd (resultOf o (stateAfter (ours m) o (stateOf m regs marks) mem));
           }) (sym e) (sym er)
@@ -154,10 +154,10 @@ module _ (m : Machine) (i : Instruction) (xs regs marks mem : List ℕ) (s : sou
 
 -- ---- answer 8 of a step, and its word
 
-pub step-fault : (word : ℕ) (xs : List ℕ) (B : Bench) → soundBench B ≡ false → step word xs B ≡ record { answer = BadArguments; bench = B; scalars = xs }
+pub step-fault : (word : ℕ) (xs : List ℕ) (B : Bench) → soundBench B ≡ false → step word xs B ≡ record { answer = reply BadArguments; bench = B; scalars = xs }
 step-fault word xs B h = step-refused smaller word xs B BadArguments refl (rw h)
 
-pub step-scalars : (word : ℕ) (xs : List ℕ) (B : Bench) → soundBench B ≡ true → thirtyTwo xs ≡ false → step word xs B ≡ record { answer = BadArguments; bench = B; scalars = xs }
+pub step-scalars : (word : ℕ) (xs : List ℕ) (B : Bench) → soundBench B ≡ true → thirtyTwo xs ≡ false → step word xs B ≡ record { answer = reply BadArguments; bench = B; scalars = xs }
 step-scalars word xs B h t = step-refused smaller word xs B BadArguments refl (rw (h, t))
 
 pub step-decoded : (word : ℕ) (xs : List ℕ) (B : Bench) (i : Instruction) → i ≡ decode word → outcome (ours (B .machine)) i xs B ≡ step word xs B

@@ -8,7 +8,7 @@ use lib.ListN.{length, getD, replicate}
 use lib.Dec.{eqb}
 use borrow.Author.Tests.{eqb-true}
 use Rattle.machine.specs.declared.Answer.the-variants.{Done, BadArguments}
-use Rattle.machine.specs.Answers.{isDone}
+use Rattle.machine.specs.Answers.{reply}
 use Rattle.machine.specs.Geometry.{Bench, permitted, registerBytes}
 use Rattle.machine.specs.Alike.{Agree}
 use Rattle.machine.specs.Starting.{startable, startMachine, StartOutcome, freshMachine, noMachine, sealEnds}
@@ -37,21 +37,21 @@ module _ (rlen mlen sealStart sealLength : ℕ) where
   -- what a start leaves, by its test
   abbrev startOn : (registers marks : List ℕ) → Bool → StartOutcome
   startOn registers marks t = cond t
-      (record { answer = Done; machine = freshMachine rlen mlen sealStart sealLength; registers = registers; marks = replicate (length marks) 0 })
-      (record { answer = BadArguments; machine = noMachine; registers = registers; marks = marks })
+      (record { answer = reply Done; machine = freshMachine rlen mlen sealStart sealLength; registers = registers; marks = replicate (length marks) 0 })
+      (record { answer = reply BadArguments; machine = noMachine; registers = registers; marks = marks })
 
   -- an accepted one
   abbrev fresh : List ℕ → StartOutcome
-  fresh registers = record { answer = Done; machine = freshMachine rlen mlen sealStart sealLength; registers = registers; marks = replicate (registerBytes mlen) 0 }
+  fresh registers = record { answer = reply Done; machine = freshMachine rlen mlen sealStart sealLength; registers = registers; marks = replicate (registerBytes mlen) 0 }
 
-  accepted : (registers marks : List ℕ) → startMachine rlen mlen sealStart sealLength registers marks .answer ≡ Done
+  accepted : (registers marks : List ℕ) → startMachine rlen mlen sealStart sealLength registers marks .answer .number ≡ 0
       → (startMachine rlen mlen sealStart sealLength registers marks ≡ fresh registers) × (length registers ≡ registerBytes mlen)
   unfolding startMachine startable
   accepted registers marks = go (startable rlen mlen sealStart sealLength registers marks) refl
     where
-      go : (t : Bool) → startable rlen mlen sealStart sealLength registers marks ≡ t → startOn registers marks t .answer ≡ Done
+      go : (t : Bool) → startable rlen mlen sealStart sealLength registers marks ≡ t → startOn registers marks t .answer .number ≡ 0
           → (startOn registers marks t ≡ fresh registers) × (length registers ≡ registerBytes mlen)
-      go false e d = absurd (false-true (ap isDone d))
+      go false e d = absurd (false-true (ap (λ (n : ℕ). eqb n 0) d))
       go true e d =
           let c = every-each (permitted rlen mlen ∷ eqb (length registers) (registerBytes mlen) ∷ eqb (length marks) (registerBytes mlen) ∷ sealEnds sealStart sealLength ∷ []) e in
           let n : length marks ≡ registerBytes mlen = eqb-true (length marks) (registerBytes mlen) (c .1 .1 .0) in
@@ -59,11 +59,11 @@ module _ (rlen mlen sealStart sealLength : ℕ) where
 
   -- the answer goes by the lengths of the registers and marks
   start-answer : (registers marks : List ℕ)
-      → startMachine rlen mlen sealStart sealLength registers marks .answer ≡ cond (startable rlen mlen sealStart sealLength registers marks) Done BadArguments
+      → startMachine rlen mlen sealStart sealLength registers marks .answer ≡ cond (startable rlen mlen sealStart sealLength registers marks) (reply Done) (reply BadArguments)
   unfolding startMachine
   start-answer registers marks = go (startable rlen mlen sealStart sealLength registers marks)
     where
-      go : (t : Bool) → startOn registers marks t .answer ≡ cond t Done BadArguments
+      go : (t : Bool) → startOn registers marks t .answer ≡ cond t (reply Done) (reply BadArguments)
       go true = refl
       go false = refl
 

@@ -19,7 +19,7 @@ use Rattle.machine.specs.declared.Dimension.{Dimension}
 use Rattle.machine.specs.declared.Dimension.the-variants.{DimensionM, DimensionK, DimensionN}
 use Rattle.machine.specs.declared.Instruction.{Instruction}
 use Rattle.machine.specs.declared.Instruction.the-variants.{Illegal, SetTypeImmediate, SetType, SetTileImmediate, SetTile, Load, Store, Multiply, Combine, Scale, ScaleImmediate}
-use Rattle.machine.specs.Answers.{Check, _otherwise_, verdict, isDone}
+use Rattle.machine.specs.Answers.{reply, Check, _otherwise_, verdict, isDone}
 use Rattle.machine.specs.Geometry.{Parameters, parameters, State, machineAfter, Bench, benchOf, registerAt, tileAt, accAt, withScalar}
 use Rattle.machine.specs.Setting.{sew, sizeIn}
 use Rattle.machine.specs.Listing.{decode}
@@ -222,11 +222,11 @@ module _ (M : Parameters) (i : Instruction) (xs : List ℕ) where
   outcomeAs B o a =
       cond (isDone a)
       (record {
-        answer = Done;
+        answer = reply Done;
         bench = benchOf (machineAfter (B .machine) (after B o)) (after B o .regs) (after B o .marks) (memoryAfter M o (given M i xs B) (B .memory));
         scalars = withScalar xs (destination i) (resultOf o (after B o));
       })
-      (record { answer = a; bench = B; scalars = xs })
+      (record { answer = reply a; bench = B; scalars = xs })
 
   outcome-same : (B : Bench) (ys : List ℕ) → Agree (B .marks) (B .registers) ys → SameOutcome (outcome M i xs B) (outcome M i xs (lent B ys))
   unfolding outcome

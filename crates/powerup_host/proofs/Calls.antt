@@ -11,10 +11,9 @@ use borrow.Author.Tests.{eqb-true}
 use Rattle.width.specs.Tile.{byteOf, putRow}
 use Rattle.width.proofs.TileLaws.{length-putRow, putRow-at}
 use Rattle.machine.specs.declared.Machine.{Machine}
-use Rattle.machine.specs.declared.Answer.{Answer}
 use Rattle.machine.specs.declared.Answer.the-variants.{Done, BadArguments}
 use Rattle.machine.specs.Tests.{every}
-use Rattle.machine.specs.Answers.{isDone}
+use Rattle.machine.specs.Answers.{Reply, reply, done}
 use Rattle.machine.specs.Geometry.{Bench, benchOf}
 use Rattle.machine.specs.Setting.{smaller}
 use Rattle.machine.specs.Starting.{startable, startMachine, freshMachine, noMachine}
@@ -57,9 +56,9 @@ abbrev startOn : (rlen mlen sealStart sealLength : ℕ) → Buffers → Bool →
 startOn rlen mlen sealStart sealLength b t u =
     afterStart b (cond t
     (shownStart (b .machine) (cond u
-    (record { answer = Done; machine = freshMachine rlen mlen sealStart sealLength; registers = b .registers; marks = replicate (length (b .marks)) 0 })
-    (record { answer = BadArguments; machine = noMachine; registers = b .registers; marks = b .marks })))
-    (startedOut (packed BadArguments) (b .machine) (b .registers) (b .marks)))
+    (record { answer = reply Done; machine = freshMachine rlen mlen sealStart sealLength; registers = b .registers; marks = replicate (length (b .marks)) 0 })
+    (record { answer = reply BadArguments; machine = noMachine; registers = b .registers; marks = b .marks })))
+    (startedOut (packed (reply BadArguments)) (b .machine) (b .registers) (b .marks)))
 
 module _ (b : Buffers) (ys : List ℕ) (a : Agree (b .marks) (b .registers) ys) where
   kept : AlikeBuffers b (with b ys)
@@ -90,7 +89,7 @@ module _ (b : Buffers) (ys : List ℕ) (a : Agree (b .marks) (b .registers) ys) 
     where
       out : Bool → List ℕ → Called
       out t xs =
-          afterStep b (cond t (shownStep (b .machine) (stepBlock word (b .scalars) (bench xs))) (steppedOut (packed BadArguments) (b .machine) xs (b .marks) (b .scalars) (b .memory)))
+          afterStep b (cond t (shownStep (b .machine) (stepBlock word (b .scalars) (bench xs))) (steppedOut (packed (reply BadArguments)) (b .machine) xs (b .marks) (b .scalars) (b .memory)))
 
       go : (t : Bool) → SameCalled (out t (b .registers)) (out t ys)
       go true =
@@ -116,7 +115,7 @@ module _ (b : Buffers) (ys : List ℕ) (a : Agree (b .marks) (b .registers) ys) 
     where
       out : Bool → List ℕ → Called
       out t xs =
-          afterRunStart b (cond t (shownRunStart (b .machine) (b .run) (startRun smaller P (bench xs))) (runStartedOut (packed BadArguments) (b .machine) xs (b .marks) (b .memory) (b .run)))
+          afterRunStart b (cond t (shownRunStart (b .machine) (b .run) (startRun smaller P (bench xs))) (runStartedOut (packed (reply BadArguments)) (b .machine) xs (b .marks) (b .memory) (b .run)))
 
       go : (t : Bool) → SameCalled (out t (b .registers)) (out t ys)
       go true =
@@ -129,7 +128,7 @@ module _ (b : Buffers) (ys : List ℕ) (a : Agree (b .marks) (b .registers) ys) 
               agree = k .alike-after .alike .agree;
               same-scalars = refl;
               same-memory = k .alike-after .same-memory;
-              same-run = ap₂ (λ (v : Answer) (R : Run). cond (isDone v) (putRun R (b .run)) (b .run)) (k .same-answer) (k .same-run);
+              same-run = ap₂ (λ (v : Reply) (R : Run). cond (done v) (putRun R (b .run)) (b .run)) (k .same-answer) (k .same-run);
               same-step = refl;
               same-steps = refl;
             };
@@ -163,7 +162,7 @@ module _ (b : Buffers) (ys : List ℕ) (a : Agree (b .marks) (b .registers) ys) 
     where
       out : Bool → List ℕ → Called
       out t xs =
-          afterTurn b (cond t (shownTurn (b .run) (b .machine) (turnOutcome smaller (heldRunning (b .run) (b .machine) xs (b .marks) (b .memory)))) (turnedOut (packed BadArguments) (b .run) (b .machine) xs (b .marks) (b .memory)))
+          afterTurn b (cond t (shownTurn (b .run) (b .machine) (turnOutcome smaller (heldRunning (b .run) (b .machine) xs (b .marks) (b .memory)))) (turnedOut (packed (reply BadArguments)) (b .run) (b .machine) xs (b .marks) (b .memory)))
 
       go : (t : Bool) → SameCalled (out t (b .registers)) (out t ys)
       go true =
@@ -191,7 +190,7 @@ module _ (b : Buffers) (ys : List ℕ) (a : Agree (b .marks) (b .registers) ys) 
     where
       out : Bool → List ℕ → Called
       out t xs =
-          afterRun b (cond t (shownRun (b .machine) (b .steps) (whole smaller P (bench xs))) (ranOut (packed BadArguments) (b .machine) xs (b .marks) (b .memory) (b .steps)))
+          afterRun b (cond t (shownRun (b .machine) (b .steps) (whole smaller P (bench xs))) (ranOut (packed (reply BadArguments)) (b .machine) xs (b .marks) (b .memory) (b .steps)))
 
       go : (t : Bool) → SameCalled (out t (b .registers)) (out t ys)
       go true =
@@ -199,14 +198,14 @@ module _ (b : Buffers) (ys : List ℕ) (a : Agree (b .marks) (b .registers) ys) 
           record {
             same-result = ap packed (k .same-answer);
             alike-after = record {
-              same-machine = ap₂ (λ (v : Answer) (m : Machine). cond (isDone v) (putMachine m (b .machine)) (b .machine)) (k .same-answer) (k .alike-after .alike .same-machine);
+              same-machine = ap₂ (λ (v : Reply) (m : Machine). cond (done v) (putMachine m (b .machine)) (b .machine)) (k .same-answer) (k .alike-after .alike .same-machine);
               same-marks = k .alike-after .alike .same-marks;
               agree = k .alike-after .alike .agree;
               same-scalars = refl;
               same-memory = k .alike-after .same-memory;
               same-run = refl;
               same-step = refl;
-              same-steps = ap₂ (λ (v : Answer) (n : ℕ). cond (isDone v) (putNumbers (n ∷ []) (b .steps)) (b .steps)) (k .same-answer) (k .same-count);
+              same-steps = ap₂ (λ (v : Reply) (n : ℕ). cond (done v) (putNumbers (n ∷ []) (b .steps)) (b .steps)) (k .same-answer) (k .same-count);
             };
           }
       go false = record { same-result = refl; alike-after = kept }

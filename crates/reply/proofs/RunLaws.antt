@@ -10,7 +10,6 @@ use lib.Seq.{getD-take, getD-drop, length-take-le}
 use Rattle.width.specs.Tile.{le, putRow}
 use Rattle.width.proofs.PutLaws.{putRow-low}
 use Rattle.machine.specs.declared.Started.{Started}
-use Rattle.machine.specs.Answers.{number}
 use Rattle.machine.specs.Geometry.{Bench, benchOf, permitted}
 use Rattle.machine.specs.Faults.{soundBench}
 use Rattle.machine.specs.Starting.{StartOutcome, startMachine, startedAs, startable, freshMachine}
@@ -74,7 +73,7 @@ module _ (sew f m k n : ℕ) (formatted : format sew f ≡ true) (m≤ : m ≤ 1
   multiplied s marks memory e len P p o d c read =
       let D : Delivers (planFor sew f m k n) (fresh memory) o =
       subst (λ (P : Plan). Delivers P (fresh memory) o) p (subst (λ (B : Bench). Delivers P B o) (started-fresh s marks memory e) d) in
-      let done : number (o .answer) ≡ 0 = accepted-here sew f m k n formatted m≤ k≤ n≤ (fresh memory) (fresh-sound memory) refl len (o .answer) (D .answered) in (
+      let done : o .answer .number ≡ 0 = accepted-here sew f m k n formatted m≤ k≤ n≤ (fresh memory) (fresh-sound memory) refl len (o .answer) (D .answered) in (
         D .counted done,
         λ i j hi hj.
             read (i * n + j) (omega (arith, element-in m n i j hi hj, mul-le-mul m≤ n≤))

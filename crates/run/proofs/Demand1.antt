@@ -4,7 +4,7 @@ use mathlib.Core.Bool.{Bool, true, false, cond}
 use mathlib.Core.Option.{Option, none, some}
 use Prim.Native.Nat.{zero, suc, _+_}
 use native.Mathlib.Omega.{arith}
-use Rattle.machine.specs.Answers.{number, isDone}
+use Rattle.machine.specs.Answers.{done}
 use Rattle.run.specs.Words.{Op, steps}
 use Rattle.run.specs.Plan.{shape}
 use Rattle.run.specs.Start.{startRun}
@@ -21,7 +21,7 @@ run-start-changes-nothing grant P B = refl
 pub ask-refusal-changes-nothing : AskRefusalChangesNothing
 ask-refusal-changes-nothing grant R = go (handsOut grant R)
   where
-    go : (o : Option Op) → ¬ (number (askWith grant R o .answer) ≡ 0) → (askWith grant R o .handed ≡ none) × (askWith grant R o .run ≡ R)
+    go : (o : Option Op) → ¬ (askWith grant R o .answer .number ≡ 0) → (askWith grant R o .handed ≡ none) × (askWith grant R o .run ≡ R)
     go none d = (refl, refl)
     go (some o) d = absurd (d refl)
 
@@ -30,9 +30,9 @@ turn-refusal-changes-nothing grant r d = turn-refused grant r (number-refused (t
 
 pub no-turn-changes-nothing : NoTurnChangesNothing
 no-turn-changes-nothing grant r zero = λ e. refl
-no-turn-changes-nothing grant r (suc n) = go (isDone (turn grant (afterTurns grant r n) .answer)) refl (no-turn-changes-nothing grant r n)
+no-turn-changes-nothing grant r (suc n) = go (done (turn grant (afterTurns grant r n) .answer)) refl (no-turn-changes-nothing grant r n)
   where
-    go : (t : Bool) → isDone (turn grant (afterTurns grant r n) .answer) ≡ t → (answeredDone grant r n ≡ 0 → afterTurns grant r n ≡ r)
+    go : (t : Bool) → done (turn grant (afterTurns grant r n) .answer) ≡ t → (answeredDone grant r n ≡ 0 → afterTurns grant r n ≡ r)
         → answeredDone grant r n + cond t 1 0 ≡ 0 → turn grant (afterTurns grant r n) .after ≡ r
     go true d ih e = absurd (omega arith)
     go false d ih e = turn-refused grant (afterTurns grant r n) d ∙ ih (omega arith)

@@ -7,7 +7,7 @@ use Prim.Native.Nat.{ℕ, zero, suc}
 use native.Mathlib.Omega.{arith}
 use lib.ListN.{length, getD, replicate}
 use Rattle.machine.specs.declared.Answer.the-variants.{Done, BadArguments}
-use Rattle.machine.specs.Answers.{number}
+use Rattle.machine.specs.Answers.{reply}
 use Rattle.machine.specs.Geometry.{Parameters, parameters, sealed, Bench, benchOf}
 use Rattle.machine.specs.Starting.{startable, startMachine, StartOutcome, freshMachine, noMachine}
 use Rattle.machine.specs.Theorems.{Unharmed, startedBench}
@@ -99,20 +99,20 @@ module _ (grant : ℕ → ℕ → ℕ) (rlen mlen sealStart sealLength : ℕ) (r
   abbrev B₀ : Bench
   B₀ = startedBench rlen mlen sealStart sealLength registers marks memory
 
-  fresh : number (startMachine rlen mlen sealStart sealLength registers marks .answer) ≡ 0
+  fresh : startMachine rlen mlen sealStart sealLength registers marks .answer .number ≡ 0
       → startMachine rlen mlen sealStart sealLength registers marks .machine ≡ freshMachine rlen mlen sealStart sealLength
   unfolding startMachine
   fresh = go (startable rlen mlen sealStart sealLength registers marks)
     where
       out : Bool → StartOutcome
-      out t = cond t (record { answer = Done; machine = freshMachine rlen mlen sealStart sealLength; registers = registers; marks = replicate (length marks) 0 })
-          (record { answer = BadArguments; machine = noMachine; registers = registers; marks = marks })
+      out t = cond t (record { answer = reply Done; machine = freshMachine rlen mlen sealStart sealLength; registers = registers; marks = replicate (length marks) 0 })
+          (record { answer = reply BadArguments; machine = noMachine; registers = registers; marks = marks })
 
-      go : (t : Bool) → number (out t .answer) ≡ 0 → out t .machine ≡ freshMachine rlen mlen sealStart sealLength
+      go : (t : Bool) → out t .answer .number ≡ 0 → out t .machine ≡ freshMachine rlen mlen sealStart sealLength
       go true e = refl
       go false e = absurd (omega arith)
 
-  pub kept-from : (B : Bench) (mem : List ℕ) → number (startMachine rlen mlen sealStart sealLength registers marks .answer) ≡ 0 → Unharmed grant (lent B₀ mem) B → SealKept sealStart sealLength mem B
+  pub kept-from : (B : Bench) (mem : List ℕ) → startMachine rlen mlen sealStart sealLength registers marks .answer .number ≡ 0 → Unharmed grant (lent B₀ mem) B → SealKept sealStart sealLength mem B
   kept-from B mem e u =
       let p : parameters grant (B .machine) ≡ parameters grant (freshMachine rlen mlen sealStart sealLength) = u .same-parameters ∙ ap (parameters grant) (fresh e) in
       record {

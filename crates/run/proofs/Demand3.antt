@@ -14,10 +14,9 @@ use lib.IntN.{pos}
 use borrow.Author.Tests.{leb-true}
 use Rattle.width.specs.Blocks.{Grants}
 use Rattle.width.proofs.BlockLaws.{le-or-lt}
-use Rattle.machine.specs.declared.Answer.{Answer}
 use Rattle.machine.specs.declared.Answer.the-variants.{Done, BadArguments, OutsideMemory, Overlap}
 use Rattle.machine.proofs.TestLaws.{every-each}
-use Rattle.machine.specs.Answers.{number, isDone, verdict, _otherwise_}
+use Rattle.machine.specs.Answers.{Reply, reply, number, done, verdict, _otherwise_}
 use Rattle.machine.proofs.CheckLaws.{Passed, passed, no-refusal}
 use Rattle.machine.specs.Geometry.{Parameters, parameters, permitted, State, stateOf}
 use Rattle.machine.specs.Setting.{smaller}
@@ -139,7 +138,7 @@ module _ (grant : ℕ → ℕ → ℕ) (P : Plan) (B₀ : Bench) where
   stepped o B = stepBy grant (handedFor P o .word) (own (handedFor P o)) B
 
   record Done′ (p : Place) (o : Op) (B : Bench) : Type 0 where
-    answers : stepped o B .answer ≡ Done
+    answers : stepped o B .answer ≡ reply Done
     holds : Holds (next S p) (stepped o B .bench)
 
 module _ (grant : ℕ → ℕ → ℕ) (P : Plan) (B₀ : Bench) (R : Ready grant P B₀) where
@@ -187,12 +186,12 @@ module _ (grant : ℕ → ℕ → ℕ) (P : Plan) (B₀ : Bench) (R : Ready gran
 
   -- every place but the end hands out a word that is done, and the invariant goes on
   abbrev Advanced : Place → Bench → Type 0
-  Advanced p B = Holds grant P B₀ (next (S grant P B₀) p) (turn grant (at grant P B₀ p B) .after .bench) × ((p ≡ AtEnd) ⊎ (turn grant (at grant P B₀ p B) .answer ≡ Done))
+  Advanced p B = Holds grant P B₀ (next (S grant P B₀) p) (turn grant (at grant P B₀ p B) .after .bench) × ((p ≡ AtEnd) ⊎ (turn grant (at grant P B₀ p B) .answer ≡ reply Done))
 
   advanced : (p : Place) (o : Op) (B : Bench) → Holds grant P B₀ p B → wordAt (S grant P B₀) p ≡ some o → Done′ grant P B₀ p o B → Advanced p B
   advanced p o B h e d =
       subst (λ (ws : Option Op). Holds grant P B₀ (next (S grant P B₀) p) (turnWith grant (at grant P B₀ p B) ws .after .bench)
-      × ((p ≡ AtEnd) ⊎ (turnWith grant (at grant P B₀ p B) ws .answer ≡ Done))) (sym (hands p B h ∙ e)) (d .holds, inr (d .answers))
+      × ((p ≡ AtEnd) ⊎ (turnWith grant (at grant P B₀ p B) ws .answer ≡ reply Done))) (sym (hands p B h ∙ e)) (d .holds, inr (d .answers))
 
   advance : (p : Place) (B : Bench) → Holds grant P B₀ p B → Advanced p B
   advance AtType B h =
@@ -237,7 +236,7 @@ module _ (grant : ℕ → ℕ → ℕ) (P : Plan) (B₀ : Bench) (R : Ready gran
       (small (P .c .address) (P .c .stride) (P .m) (P .n) (wide P) (A .0<wide) (A .c-in) i j (h .here .in-block .in-n .i<m) (h .here .in-block .j<n)))
       (Turns.turn-store (J grant P B₀) A i j (held B) (B .memory) (h .here)))
   advance AtEnd B h =
-      subst (λ (ws : Option Op). Holds grant P B₀ AtEnd (turnWith grant (at grant P B₀ AtEnd B) ws .after .bench) × ((AtEnd ≡ AtEnd) ⊎ (turnWith grant (at grant P B₀ AtEnd B) ws .answer ≡ Done)))
+      subst (λ (ws : Option Op). Holds grant P B₀ AtEnd (turnWith grant (at grant P B₀ AtEnd B) ws .after .bench) × ((AtEnd ≡ AtEnd) ⊎ (turnWith grant (at grant P B₀ AtEnd B) ws .answer ≡ reply Done)))
       (sym (hands AtEnd B h)) (h, inl refl)
 
   -- ---- after t turns
@@ -251,15 +250,15 @@ module _ (grant : ℕ → ℕ → ℕ) (P : Plan) (B₀ : Bench) (R : Ready gran
   moves : (p : Place) (B : Bench) → Holds grant P B₀ p B → Moved p B (handsOut grant (at grant P B₀ p B .run))
   moves p B h = subst (Moved p B) (sym (hands p B h)) (go (one-word (S grant P B₀) p))
     where
-      done : (o : Op) → wordAt (S grant P B₀) p ≡ some o → stepped grant P B₀ o B .answer ≡ Done
-      done o e = elim (advance p B h .1) [
+      zero-told : (o : Op) → wordAt (S grant P B₀) p ≡ some o → stepped grant P B₀ o B .answer ≡ reply Done
+      zero-told o e = elim (advance p B h .1) [
         | inl z ↦ absurd (none-some o (sym (ap (wordAt (S grant P B₀)) z) ∙ e))
-        | inr d ↦ subst (λ (ws : Option Op). turnWith grant (at grant P B₀ p B) ws .answer ≡ Done) (hands p B h ∙ e) d
+        | inr d ↦ subst (λ (ws : Option Op). turnWith grant (at grant P B₀ p B) ws .answer ≡ reply Done) (hands p B h ∙ e) d
       ]
 
       go : (p ≡ AtEnd) ⊎ ((o : Op) × (wordAt (S grant P B₀) p ≡ some o)) → Moved p B (wordAt (S grant P B₀) p)
       go (inl e) = subst (λ (p : Place). Moved p B (wordAt (S grant P B₀) p)) (sym e) refl
-      go (inr (o, e)) = subst (Moved p B) (sym e) (ap (λ (a : Answer). record { run = cond (isDone a) (at grant P B₀ (next (S grant P B₀) p) B .run) (at grant P B₀ p B .run); bench = stepped grant P B₀ o B .bench }) (done o e))
+      go (inr (o, e)) = subst (Moved p B) (sym e) (ap (λ (a : Reply). record { run = cond (done a) (at grant P B₀ (next (S grant P B₀) p) B .run) (at grant P B₀ p B .run); bench = stepped grant P B₀ o B .bench }) (zero-told o e))
 
   -- only the place and the bench of a run change, and the invariant holds
   both : (t : ℕ) → (after t ≡ at grant P B₀ (placeAfter (S grant P B₀) t) (after t .bench)) × Holds grant P B₀ (placeAfter (S grant P B₀) t) (after t .bench)
@@ -348,20 +347,20 @@ module _ (grant : ℕ → ℕ → ℕ) (P : Plan) (B₀ : Bench) (R : Ready gran
       let R : Run = at grant P B₀ (placeAfter (S grant P B₀) t) (after t .bench) .run in
       let q : ask grant (after t .run) ≡ askWith grant R (some o) = ap (λ (r : Running). ask grant (r .run)) (stays t) ∙ ap (askWith grant R) (handing t ∙ e) in
       record {
-        answers = ap (λ (a : Ask). number (a .answer)) q;
+        answers = ap (λ (a : Ask). a .answer .number) q;
         hands-out = ap (λ (a : Ask). a .handed) q ∙ ap (λ (h : Handed). some h) w;
         leaves = ap (λ (a : Ask). a .run) q ∙ sym (ap (λ (r : Running). r .run) (stays (suc t)));
       }
 
-  is-done : (t : ℕ) → t < steps (S grant P B₀) → turn grant (after t) .answer ≡ Done
-  is-done t l = subst (λ (r : Running). turn grant r .answer ≡ Done) (sym (stays t))
+  is-done : (t : ℕ) → t < steps (S grant P B₀) → turn grant (after t) .answer ≡ reply Done
+  is-done t l = subst (λ (r : Running). turn grant r .answer ≡ reply Done) (sym (stays t))
       (elim (advance (placeAfter (S grant P B₀) t) (after t .bench) (holding t) .1) [ inl e ↦ absurd (not-end t l e) | inr e ↦ e ])
 
-  ended : (t : ℕ) → steps (S grant P B₀) ≤ t → turn grant (after t) ≡ record { answer = BadArguments; handed = none; after = after t }
+  ended : (t : ℕ) → steps (S grant P B₀) ≤ t → turn grant (after t) ≡ record { answer = reply BadArguments; handed = none; after = after t }
   ended t l =
       let e : after t ≡ at grant P B₀ AtEnd (after t .bench) = stays t ∙ ap (λ (p : Place). at grant P B₀ p (after t .bench)) (at-end t l) in
       let h : Holds grant P B₀ AtEnd (after t .bench) = subst (λ (p : Place). Holds grant P B₀ p (after t .bench)) (at-end t l) (holding t) in
-      subst (λ (r : Running). turn grant r ≡ record { answer = BadArguments; handed = none; after = r }) (sym e)
+      subst (λ (r : Running). turn grant r ≡ record { answer = reply BadArguments; handed = none; after = r }) (sym e)
       (ap (turnWith grant (at grant P B₀ AtEnd (after t .bench))) (hands AtEnd (after t .bench) h))
 
   asks-no-more : (t : ℕ) → steps (S grant P B₀) ≤ t → Asks (ask grant (after t .run)) 8 none (after t .run)
@@ -369,7 +368,7 @@ module _ (grant : ℕ → ℕ → ℕ) (P : Plan) (B₀ : Bench) (R : Ready gran
       let R : Run = at grant P B₀ (placeAfter (S grant P B₀) t) (after t .bench) .run in
       let q : ask grant (after t .run) ≡ askWith grant R none = ap (λ (r : Running). ask grant (r .run)) (stays t) ∙ ap (askWith grant R) (handing t ∙ ap (wordAt (S grant P B₀)) (at-end t l)) in
       record {
-        answers = ap (λ (a : Ask). number (a .answer)) q;
+        answers = ap (λ (a : Ask). a .answer .number) q;
         hands-out = ap (λ (a : Ask). a .handed) q;
         leaves = ap (λ (a : Ask). a .run) q ∙ sym (ap (λ (r : Running). r .run) (stays t));
       }
@@ -378,8 +377,8 @@ module _ (grant : ℕ → ℕ → ℕ) (P : Plan) (B₀ : Bench) (R : Ready gran
   counted zero = omega arith
   counted (suc t) = go (le-or-lt (steps (S grant P B₀)) t) (counted t)
     where
-      more : Answer → ℕ
-      more a = answeredDone grant (at grant P B₀ AtType B₀) t + cond (isDone a) 1 0
+      more : Reply → ℕ
+      more a = answeredDone grant (at grant P B₀ AtType B₀) t + cond (done a) 1 0
 
       go : (steps (S grant P B₀) ≤ t) ⊎ (t < steps (S grant P B₀)) → answeredDone grant (at grant P B₀ AtType B₀) t ≡ min t (steps (S grant P B₀))
           → answeredDone grant (at grant P B₀ AtType B₀) (suc t) ≡ min (suc t) (steps (S grant P B₀))
@@ -392,9 +391,9 @@ module _ (grant : ℕ → ℕ → ℕ) (P : Plan) (B₀ : Bench) (R : Ready gran
 
   right : (t : ℕ) → Right (J grant P B₀) (at grant P B₀ AtType B₀) t
   right t = record {
-    next-done = λ l. record { answers = ap number (is-done t l); hands-out = hands-out t l; leaves = refl };
+    next-done = λ l. record { answers = ap (λ (a : Reply). a .number) (is-done t l); hands-out = hands-out t l; leaves = refl };
     past-end = λ l. record {
-      answers = ap (λ (u : Turn). number (u .answer)) (ended t l);
+      answers = ap (λ (u : Turn). u .answer .number) (ended t l);
       hands-out = ap (λ (u : Turn). u .handed) (ended t l);
       leaves = ap (λ (u : Turn). u .after) (ended t l);
     };
@@ -425,13 +424,13 @@ module _ (grant : ℕ → ℕ → ℕ) (G : Grants grant) (P : Plan) (B : Bench)
         addressed = bytes .addressed;
       }
 
-  is-passed : number (startRun grant P B .answer) ≡ 0 → Passed (startChecks grant P B)
+  is-passed : startRun grant P B .answer .number ≡ 0 → Passed (startChecks grant P B)
   unfolding startRun
-  is-passed e = passed (startChecks grant P B) refl (number-done (verdict (startChecks grant P B)) e)
+  is-passed e = passed (startChecks grant P B) refl (number-done (reply (verdict (startChecks grant P B))) e)
 
-  runs-fresh : number (startRun grant P B .answer) ≡ 0 → startRun grant P B .run ≡ freshRun (B .machine) P
+  runs-fresh : startRun grant P B .answer .number ≡ 0 → startRun grant P B .run ≡ freshRun (B .machine) P
   unfolding startRun
-  runs-fresh e = ap (λ (t : Bool). cond t (freshRun (B .machine) P) (noRun P)) (number-done (verdict (startChecks grant P B)) e)
+  runs-fresh e = ap (λ (t : Bool). cond t (freshRun (B .machine) P) (noRun P)) (number-done (reply (verdict (startChecks grant P B))) e)
 
   answers : Answered P B (startRun grant P B .answer)
   unfolding startRun

@@ -3,7 +3,7 @@ use mathlib.Core.Bool.{cond}
 use mathlib.Core.Option.{Option, none, some}
 use Prim.Native.Nat.{ℕ}
 use Rattle.machine.specs.declared.Answer.the-variants.{Done, BadArguments}
-use Rattle.machine.specs.Answers.{isDone}
+use Rattle.machine.specs.Answers.{reply, done}
 use Rattle.machine.specs.Step.{Outcome, stepBy}
 use Rattle.run.specs.declared.Run.{Run}
 use Rattle.run.specs.Words.{Op}
@@ -13,8 +13,8 @@ use Rattle.run.specs.Turn.{moved, Ask, Running, running, Turn}
 module _ (grant : ℕ → ℕ → ℕ) where
   abbrev pub askWith : Run → Option Op → Ask
   askWith R o = elim o [
-    | none ↦ record { answer = BadArguments; handed = none; run = R }
-    | some o ↦ record { answer = Done; handed = some (handedFor (R .plan) o); run = moved grant R }
+    | none ↦ record { answer = reply BadArguments; handed = none; run = R }
+    | some o ↦ record { answer = reply Done; handed = some (handedFor (R .plan) o); run = moved grant R }
   ]
 
   abbrev pub turnWith : Running → Option Op → Turn
@@ -23,5 +23,5 @@ module _ (grant : ℕ → ℕ → ℕ) where
       elim (a .handed) [
         | none ↦ record { answer = a .answer; handed = none; after = r }
         | some h ↦ let out : Outcome = stepBy grant (h .word) (own h) (r .bench) in
-            record { answer = out .answer; handed = some h; after = running (cond (isDone (out .answer)) (a .run) (r .run)) (out .bench) }
+            record { answer = out .answer; handed = some h; after = running (cond (done (out .answer)) (a .run) (r .run)) (out .bench) }
       ]

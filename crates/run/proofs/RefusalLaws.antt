@@ -4,10 +4,10 @@ use mathlib.Core.Bool.{Bool, true, false, cond}
 use mathlib.Core.Option.{Option, none, some}
 use Prim.Native.Nat.{ℕ, zero, suc, _+_}
 use native.Mathlib.Nat.{add-zero}
+use lib.Dec.{eqb}
 use borrow.Author.Tests.{eq-eqb, ne-eqb}
-use Rattle.machine.specs.declared.Answer.{Answer}
 use Rattle.machine.specs.declared.Answer.the-variants.{BadArguments}
-use Rattle.machine.specs.Answers.{number, isDone}
+use Rattle.machine.specs.Answers.{Reply, reply, done}
 use Rattle.machine.specs.Geometry.{Bench, permitted}
 use Rattle.machine.specs.Step.{Outcome, stepBy}
 use Rattle.machine.proofs.TestLaws.{false-true}
@@ -24,24 +24,24 @@ use Rattle.run.proofs.HandedLaws.{askWith, turnWith}
 
 -- ---- answers by their numbers
 
-pub number-done : (a : Answer) → number a ≡ 0 → isDone a ≡ true
-number-done a e = eq-eqb (number a) 0 e
+pub number-done : (a : Reply) → a .number ≡ 0 → done a ≡ true
+number-done a e = eq-eqb (a .number) 0 e
 
-pub number-refused : (a : Answer) → ¬ (number a ≡ 0) → isDone a ≡ false
-number-refused a d = ne-eqb (number a) 0 d
+pub number-refused : (a : Reply) → ¬ (a .number ≡ 0) → done a ≡ false
+number-refused a d = ne-eqb (a .number) 0 d
 
 -- ---- a refused turn
 
-pub turn-refused : (grant : ℕ → ℕ → ℕ) (r : Running) → isDone (turn grant r .answer) ≡ false → turn grant r .after ≡ r
+pub turn-refused : (grant : ℕ → ℕ → ℕ) (r : Running) → done (turn grant r .answer) ≡ false → turn grant r .after ≡ r
 turn-refused grant r = go (handsOut grant (r .run))
   where
     stays : (h : Handed) (R : Run) → let out : Outcome = stepBy grant (h .word) (own h) (r .bench) in
-        isDone (out .answer) ≡ false → running (cond (isDone (out .answer)) R (r .run)) (out .bench) ≡ r
+        done (out .answer) ≡ false → running (cond (done (out .answer)) R (r .run)) (out .bench) ≡ r
     stays h R d =
         ap₂ (λ (t : Bool) (B : Bench). running (cond t R (r .run)) B) d
-        (refusal-changes-nothing grant (h .word) (own h) (r .bench) (λ e. false-true (sym d ∙ ap isDone e)) .0)
+        (refusal-changes-nothing grant (h .word) (own h) (r .bench) (λ e. false-true (sym d ∙ ap (λ (n : ℕ). eqb n 0) e)) .0)
 
-    go : (o : Option Op) → isDone (turnWith grant r o .answer) ≡ false → turnWith grant r o .after ≡ r
+    go : (o : Option Op) → done (turnWith grant r o .answer) ≡ false → turnWith grant r o .after ≡ r
     go none d = refl
     go (some o) d = stays (handedFor (r .run .plan) o) (moved grant (r .run)) d
 
@@ -57,7 +57,7 @@ module _ (grant : ℕ → ℕ → ℕ) (P : Plan) (B : Bench) where
   hands-none = refl
 
   abbrev refused : Running → Turn
-  refused r = record { answer = BadArguments; handed = none; after = r }
+  refused r = record { answer = reply BadArguments; handed = none; after = r }
 
   no-turn : turn grant nothing ≡ refused nothing
   no-turn = ap (turnWith grant nothing) hands-none
@@ -69,7 +69,7 @@ module _ (grant : ℕ → ℕ → ℕ) (P : Plan) (B : Bench) where
   no-count : (t : ℕ) → answeredDone grant nothing t ≡ 0
   no-count zero = refl
   no-count (suc t) =
-      ap₂ (λ (n : ℕ) (u : Turn). n + cond (isDone (u .answer)) 1 0) (no-count t) (ap (turn grant) (stands t) ∙ no-turn)
+      ap₂ (λ (n : ℕ) (u : Turn). n + cond (done (u .answer)) 1 0) (no-count t) (ap (turn grant) (stands t) ∙ no-turn)
       ∙ add-zero 0
 
   idle : (t : ℕ) → Idle grant nothing t
@@ -78,14 +78,14 @@ module _ (grant : ℕ → ℕ → ℕ) (P : Plan) (B : Bench) where
       let a = ap (λ (r : Running). ask grant (r .run)) (stands t) ∙ ap (askWith grant (noRun P)) hands-none in
       record {
         unchanged = stands t;
-        no-turn = record { answers = ap (λ (u : Turn). number (u .answer)) u; hands-out = ap (λ (u : Turn). u .handed) u; leaves = ap (λ (u : Turn). u .after) u };
-        no-step = record { answers = ap (λ (a : Ask). number (a .answer)) a; hands-out = ap (λ (a : Ask). a .handed) a; leaves = ap (λ (a : Ask). a .run) a };
+        no-turn = record { answers = ap (λ (u : Turn). u .answer .number) u; hands-out = ap (λ (u : Turn). u .handed) u; leaves = ap (λ (u : Turn). u .after) u };
+        no-step = record { answers = ap (λ (a : Ask). a .answer .number) a; hands-out = ap (λ (a : Ask). a .handed) a; leaves = ap (λ (a : Ask). a .run) a };
         no-count = no-count t;
       }
 
-  pub run-refused : isDone (startRun grant P B .answer) ≡ false → startedRun grant P B ≡ nothing
+  pub run-refused : done (startRun grant P B .answer) ≡ false → startedRun grant P B ≡ nothing
   unfolding startRun
   run-refused h = ap (λ (t : Bool). running (cond t (freshRun (B .machine) P) (noRun P)) B) h
 
-  pub started-idle : ¬ (number (startRun grant P B .answer) ≡ 0) → (t : ℕ) → Idle grant (startedRun grant P B) t
+  pub started-idle : ¬ (startRun grant P B .answer .number ≡ 0) → (t : ℕ) → Idle grant (startedRun grant P B) t
   started-idle d t = subst (λ (r : Running). Idle grant r t) (sym (run-refused (number-refused (startRun grant P B .answer) d))) (idle t)

@@ -5,7 +5,6 @@ use Prim.Native.Nat.{ℕ, min}
 use native.Mathlib.Omega.{arith}
 use lib.Dec.{eqb}
 use borrow.Author.Tests.{eqb-true, eqb-false}
-use Rattle.machine.specs.Answers.{number}
 use Rattle.machine.specs.Geometry.{Bench}
 use Rattle.machine.specs.Setting.{smaller}
 use Rattle.run.specs.declared.Plan.{Plan}
@@ -22,12 +21,12 @@ min-self n = omega arith
 
 -- memory outside C is kept, whether the start is accepted or not
 kept : (P : Plan) (B : Bench) → Demand3 smaller P B → Kept (jobOf smaller P B) (whole smaller P B .bench .memory)
-kept P B D = go (eqb (number (startRun smaller P B .answer)) 0) refl
+kept P B D = go (eqb (startRun smaller P B .answer .number) 0) refl
   where
-    go : (t : Bool) → eqb (number (startRun smaller P B .answer)) 0 ≡ t → Kept (jobOf smaller P B) (whole smaller P B .bench .memory)
-    go true h = D .turns (eqb-true (number (startRun smaller P B .answer)) 0 h) (steps (shape (jobOf smaller P B))) .kept
+    go : (t : Bool) → eqb (startRun smaller P B .answer .number) 0 ≡ t → Kept (jobOf smaller P B) (whole smaller P B .bench .memory)
+    go true h = D .turns (eqb-true (startRun smaller P B .answer .number) 0 h) (steps (shape (jobOf smaller P B))) .kept
     go false h =
-        subst (λ (C : Bench). Kept (jobOf smaller P B) (C .memory)) (sym (whole-refusal-changes-nothing smaller P B (eqb-false (number (startRun smaller P B .answer)) 0 h) .1))
+        subst (λ (C : Bench). Kept (jobOf smaller P B) (C .memory)) (sym (whole-refusal-changes-nothing smaller P B (eqb-false (startRun smaller P B .answer .number) 0 h) .1))
         (record { same-length = refl; outside = λ q d. refl })
 
 pub whole-delivers : WholeDelivers

@@ -2,8 +2,8 @@
 use mathlib.Core.List.{List, [], _∷_}
 use mathlib.Core.Option.{Option, none}
 use Prim.Native.Nat.{ℕ}
-use Rattle.machine.specs.declared.Answer.{Answer}
 use Rattle.machine.specs.declared.Answer.the-variants.{Done}
+use Rattle.machine.specs.Answers.{Reply, reply}
 use Rattle.machine.specs.Geometry.{Bench, benchOf}
 use Rattle.machine.specs.Step.{Outcome, stepBy}
 use Rattle.run.specs.declared.Plan.{Plan}
@@ -35,18 +35,18 @@ session B xs R = record { bench = B; scalars = xs; run = R }
 
 -- what an act answers, the step it hands out and the turns it counts, and what it leaves
 pub record Acted : Type 0 where
-  pub answer : Answer
+  pub answer : Reply
   pub handed : Option Handed
   pub count : ℕ
   pub after : Session
 
-abbrev pub acted : Answer → Option Handed → ℕ → Session → Acted
+abbrev pub acted : Reply → Option Handed → ℕ → Session → Acted
 acted answer handed count after = record { answer = answer; handed = handed; count = count; after = after }
 
 module _ (grant : ℕ → ℕ → ℕ) where
   -- turns in number are counted, not answered
   abbrev pub act : Act → Session → Acted
-  act (Act.lend xs memory) S = acted Done none 0 (session (benchOf (S .bench .machine) (S .bench .registers) (S .bench .marks) memory) xs (S .run))
+  act (Act.lend xs memory) S = acted (reply Done) none 0 (session (benchOf (S .bench .machine) (S .bench .registers) (S .bench .marks) memory) xs (S .run))
   act (Act.step word) S =
       let o : Outcome = stepBy grant word (S .scalars) (S .bench) in acted (o .answer) none 0 (session (o .bench) (o .scalars) (S .run))
   act (Act.runStart P) S =
@@ -56,7 +56,7 @@ module _ (grant : ℕ → ℕ → ℕ) where
   act Act.runTurn S =
       let o : Turn = turn grant (running (S .run) (S .bench)) in acted (o .answer) (o .handed) 0 (session (o .after .bench) (S .scalars) (o .after .run))
   act (Act.runTurns n) S =
-      let o : TurnsOutcome = turns grant (running (S .run) (S .bench)) n in acted Done none (o .count) (session (o .after .bench) (S .scalars) (o .after .run))
+      let o : TurnsOutcome = turns grant (running (S .run) (S .bench)) n in acted (reply Done) none (o .count) (session (o .after .bench) (S .scalars) (o .after .run))
   act (Act.run P) S =
       let o : WholeOutcome = whole grant P (S .bench) in acted (o .answer) none (o .count) (session (o .bench) (S .scalars) (S .run))
 

@@ -4,7 +4,6 @@ use mathlib.Core.List.{List, [], _∷_, map}
 use Prim.Native.Nat.{ℕ, _-_, _^_}
 use lib.ListN.{replicate}
 use Rattle.width.specs.Blocks.{chunks}
-use Rattle.machine.specs.Answers.{number}
 use Rattle.machine.specs.Geometry.{permitted}
 use Rattle.machine.specs.Setting.{smaller, newType, legalType, sew}
 use Rattle.machine.specs.Memory.{inside, clear, unsealed}
@@ -38,7 +37,7 @@ pub record Line : Type 0 where
   pub want : ℕ
 
 pub gives : Bench → Plan → ℕ → Line
-gives B P want = record { got = number (startRun smaller P B .answer); want = want }
+gives B P want = record { got = startRun smaller P B .answer .number; want = want }
 
 pub free : Bench
 free = bench 0 0 0
@@ -88,7 +87,7 @@ starts = refl
 -- 4 x 4 x 16 at SEW 8, in blocks of 2 rows, 2 terms and 8 columns
 pub asks : Place → ℕ → Line
 asks p want = record {
-  got = number (ask smaller (record { plan = plan 8 1 4 4 16 (layout 0 4) (layout 0 16) (layout 0 16); rlen = 64; mlen = 128; place = p }) .answer);
+  got = ask smaller (record { plan = plan 8 1 4 4 16 (layout 0 4) (layout 0 16) (layout 0 16); rlen = 64; mlen = 128; place = p }) .answer .number;
   want = want;
 }
 

@@ -5,7 +5,6 @@ use Prim.Native.Nat.{ℕ, _+_, _*_, _^_}
 use lib.ListN.{length, getD, replicate}
 use lib.IntN.{pos, negsuc}
 use Rattle.width.specs.Reduce.{reduce}
-use Rattle.machine.specs.Answers.{number}
 use Rattle.machine.specs.Geometry.{Parameters, parameters}
 use Rattle.machine.specs.Setting.{smaller, maxM, maxK, maxN}
 use Rattle.machine.specs.Operation.{element}
@@ -73,16 +72,16 @@ sheet =
     ∷ record { got = maxM M 2 ∷ maxK M 2 ∷ maxN M 2 ∷ []; want = 4 ∷ 2 ∷ 2 ∷ [] }
     -- Word 0x000472F7 sets mtype 8 and x5 = 8
     ∷ (let o : Outcome = step 0x000472F7 (scalars 0) (bench []) in
-    record { got = number (o .answer) ∷ o .bench .machine .mtype ∷ getD (o .scalars) 5 0 ∷ []; want = 0 ∷ 8 ∷ 8 ∷ [] })
+    record { got = o .answer .number ∷ o .bench .machine .mtype ∷ getD (o .scalars) 5 0 ∷ []; want = 0 ∷ 8 ∷ 8 ∷ [] })
     -- 0x100572F7 with x10 = 16 sets 2^63
     ∷ (let o : Outcome = step 0x100572F7 (scalars 16) (bench []) in
-    record { got = number (o .answer) ∷ o .bench .machine .mtype ∷ getD (o .scalars) 5 0 ∷ []; want = 0 ∷ 2 ^ 63 ∷ 2 ^ 63 ∷ [] })
+    record { got = o .answer .number ∷ o .bench .machine .mtype ∷ getD (o .scalars) 5 0 ∷ []; want = 0 ∷ 2 ^ 63 ∷ 2 ^ 63 ∷ [] })
     -- 0x2003F077 asks 7 rows: tile_m 4, x0 untouched
     ∷ (let o : Outcome = step 0x2003F077 (scalars 0) (bench []) in
-    record { got = number (o .answer) ∷ o .bench .machine .«tile_m» ∷ getD (o .scalars) 0 0 ∷ []; want = 0 ∷ 4 ∷ 77 ∷ [] })
+    record { got = o .answer .number ∷ o .bench .machine .«tile_m» ∷ getD (o .scalars) 0 0 ∷ []; want = 0 ∷ 4 ∷ 77 ∷ [] })
     -- 0x4001F377 at SEW 8: tile_k 3, x6 = 3
     ∷ (let o : Outcome = step 0x4001F377 (scalars 0) (bench []) in
-    record { got = number (o .answer) ∷ o .bench .machine .«tile_k» ∷ getD (o .scalars) 6 0 ∷ []; want = 0 ∷ 3 ∷ 3 ∷ [] })
+    record { got = o .answer .number ∷ o .bench .machine .«tile_k» ∷ getD (o .scalars) 6 0 ∷ []; want = 0 ∷ 3 ∷ 3 ∷ [] })
     -- Sum 100 x 100 at SEW 8: f = 1 gives 16, f = 2 gives 10000
     ∷ record { got = c 1 1 1 1 (100 ∷ 100 ∷ []) 9 0 0 ∷ c 2 1 1 1 (100 ∷ 100 ∷ []) 9 0 0 ∷ []; want = reduce (256 ^ 1) (pos 16) ∷ reduce (256 ^ 2) (pos 10000) ∷ [] }
     -- Two products of -128 x -128: f = 2 gives -32768, f = 4 gives 32768

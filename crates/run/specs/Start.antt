@@ -5,10 +5,9 @@ use Prim.Native.Nat.{ℕ, _+_, _*_}
 use lib.ListN.{length}
 use lib.Dec.{leb}
 use Rattle.machine.specs.declared.Machine.{Machine}
-use Rattle.machine.specs.declared.Answer.{Answer}
 use Rattle.machine.specs.declared.Answer.the-variants.{BadArguments, OutsideMemory, Overlap}
 use Rattle.machine.specs.Tests.{all, every, isIn, within}
-use Rattle.machine.specs.Answers.{Check, _otherwise_, verdict, isDone}
+use Rattle.machine.specs.Answers.{Reply, reply, Check, _otherwise_, verdict, isDone}
 use Rattle.machine.specs.Geometry.{Parameters, parameters, elen}
 use Rattle.machine.specs.Memory.{inside, unsealed}
 use Rattle.machine.specs.Geometry.{Bench}
@@ -65,18 +64,18 @@ abbrev pub noRun : Plan → Run
 noRun P = record { plan = P; rlen = 0; mlen = 0; place = AtEnd }
 
 pub record RunStart : Type 0 where
-  pub answer : Answer
+  pub answer : Reply
   pub run : Run
   pub bench : Bench
 
 -- "The start itself, accepted or refused, changes neither machine nor memory."
 unfoldable pub startRun : (ℕ → ℕ → ℕ) → Plan → Bench → RunStart
 startRun grant P B = record {
-  answer = verdict (startChecks grant P B);
+  answer = reply (verdict (startChecks grant P B));
   run = cond (isDone (verdict (startChecks grant P B))) (freshRun (B .machine) P) (noRun P);
   bench = B;
 }
 
 -- what the function `start` returned, and the bench that it was lent
 abbrev pub startedAs : RunStarted → Bench → RunStart
-startedAs r B = record { answer = r .answer; run = r .run; bench = B }
+startedAs r B = record { answer = reply (r .answer); run = r .run; bench = B }

@@ -10,8 +10,7 @@ use lib.IntN.{ℤ, pos, _+ℤ_}
 use Rattle.width.specs.Tile.{In}
 use Rattle.width.specs.Blocks.{Grants}
 use Rattle.machine.specs.declared.Machine.{Machine}
-use Rattle.machine.specs.declared.Answer.{Answer}
-use Rattle.machine.specs.Answers.{number}
+use Rattle.machine.specs.Answers.{Reply}
 use Rattle.machine.specs.Geometry.{elen, parameters, Bench}
 use Rattle.machine.specs.Setting.{smaller}
 use Rattle.machine.specs.Memory.{rowZ}
@@ -57,22 +56,22 @@ pub record Separate (m : Machine) (P : Plan) : Type 0 where
   pub from-seal : (i q : ℕ) → i < P .m → In (cAt P i) (P .n * wide P) q → ¬ In (m .«seal_start») (m .«seal_length») q
 
 -- the answer to a start: "Answer 8 for .. then 6 for an element outside memory; then 9", and 0 exactly where all three hold
-pub record Answered (P : Plan) (B : Bench) (a : Answer) : Type 0 where
-  pub gives-0 : Numbers P B → Inside P (B .memory) → Separate (B .machine) P → number a ≡ 0
-  pub only-then : number a ≡ 0 → Numbers P B × Inside P (B .memory) × Separate (B .machine) P
-  pub gives-8 : ¬ Numbers P B → number a ≡ 8
-  pub gives-6 : Numbers P B → ¬ Inside P (B .memory) → number a ≡ 6
-  pub gives-9 : Numbers P B → Inside P (B .memory) → ¬ Separate (B .machine) P → number a ≡ 9
+pub record Answered (P : Plan) (B : Bench) (a : Reply) : Type 0 where
+  pub gives-0 : Numbers P B → Inside P (B .memory) → Separate (B .machine) P → a .number ≡ 0
+  pub only-then : a .number ≡ 0 → Numbers P B × Inside P (B .memory) × Separate (B .machine) P
+  pub gives-8 : ¬ Numbers P B → a .number ≡ 8
+  pub gives-6 : Numbers P B → ¬ Inside P (B .memory) → a .number ≡ 6
+  pub gives-9 : Numbers P B → Inside P (B .memory) → ¬ Separate (B .machine) P → a .number ≡ 9
 
 -- ---- what asking and a turn answer, hand out and leave
 
 pub record Asks (a : Ask) (n : ℕ) (handed : Option Handed) (after : Run) : Type 0 where
-  pub answers : number (a .answer) ≡ n
+  pub answers : a .answer .number ≡ n
   pub hands-out : a .handed ≡ handed
   pub leaves : a .run ≡ after
 
 pub record Turns (u : Turn) (n : ℕ) (handed : Option Handed) (after : Running) : Type 0 where
-  pub answers : number (u .answer) ≡ n
+  pub answers : u .answer .number ≡ n
   pub hands-out : u .handed ≡ handed
   pub leaves : u .after ≡ after
 
@@ -123,9 +122,9 @@ pub record Demand3 (grant : ℕ → ℕ → ℕ) (P : Plan) (B : Bench) : Type 0
   -- "there are 1 + M(1 + N(3 + 4K)) steps"
   pub as-many : length (wordList (jobOf grant P B)) ≡ steps (shape (jobOf grant P B))
   -- from an accepted start on, after any number of turns
-  pub turns : number (startRun grant P B .answer) ≡ 0 → (t : ℕ) → Right (jobOf grant P B) (startedRun grant P B) t
+  pub turns : startRun grant P B .answer .number ≡ 0 → (t : ℕ) → Right (jobOf grant P B) (startedRun grant P B) t
   -- and from a refused one on
-  pub idle : ¬ (number (startRun grant P B .answer) ≡ 0) → (t : ℕ) → Idle grant (startedRun grant P B) t
+  pub idle : ¬ (startRun grant P B .answer .number ≡ 0) → (t : ℕ) → Idle grant (startedRun grant P B) t
 
 -- ---- demand 3
 

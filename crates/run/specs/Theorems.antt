@@ -5,7 +5,6 @@ use mathlib.Core.Option.{none}
 use Prim.Native.Nat.{ℕ}
 use lib.ListN.{getD}
 use Rattle.width.specs.Tile.{In}
-use Rattle.machine.specs.Answers.{number}
 use Rattle.machine.specs.Geometry.{Bench, benchOf}
 use Rattle.machine.specs.Starting.{startMachine}
 use Rattle.machine.specs.Theorems.{startedBench, Unharmed}
@@ -25,12 +24,12 @@ RunStartChangesNothing = (grant : ℕ → ℕ → ℕ) (P : Plan) (B : Bench) �
 
 -- asking that is not answered 0 hands out nothing and leaves the run
 abbrev pub AskRefusalChangesNothing : Type 0
-AskRefusalChangesNothing = (grant : ℕ → ℕ → ℕ) (R : Run) → ¬ (number (ask grant R .answer) ≡ 0)
+AskRefusalChangesNothing = (grant : ℕ → ℕ → ℕ) (R : Run) → ¬ (ask grant R .answer .number ≡ 0)
     → (ask grant R .handed ≡ none) × (ask grant R .run ≡ R)
 
 -- a turn that is not answered 0 leaves the run, the machine, its registers and marks, and the memory
 abbrev pub TurnRefusalChangesNothing : Type 0
-TurnRefusalChangesNothing = (grant : ℕ → ℕ → ℕ) (r : Running) → ¬ (number (turn grant r .answer) ≡ 0) → turn grant r .after ≡ r
+TurnRefusalChangesNothing = (grant : ℕ → ℕ → ℕ) (r : Running) → ¬ (turn grant r .answer .number ≡ 0) → turn grant r .after ≡ r
 
 -- and so do n turns of which none is answered 0
 abbrev pub NoTurnChangesNothing : Type 0
@@ -38,7 +37,7 @@ NoTurnChangesNothing = (grant : ℕ → ℕ → ℕ) (r : Running) (n : ℕ) →
 
 -- a whole run that is not answered 0 takes no turn that is done, and changes nothing
 abbrev pub WholeRefusalChangesNothing : Type 0
-WholeRefusalChangesNothing = (grant : ℕ → ℕ → ℕ) (P : Plan) (B : Bench) → ¬ (number (whole grant P B .answer) ≡ 0)
+WholeRefusalChangesNothing = (grant : ℕ → ℕ → ℕ) (P : Plan) (B : Bench) → ¬ (whole grant P B .answer .number ≡ 0)
     → (whole grant P B .count ≡ 0) × (whole grant P B .bench ≡ B)
 
 -- ---- demand 2: no sealed byte changes, over any list of words, run starts, asking, turns and whole runs
@@ -57,6 +56,6 @@ pub record SealKept (sealStart sealLength : ℕ) (memory : List ℕ) (B : Bench)
 -- and from a started machine, with any scalars and whatever run was there before: the range that it was started with
 abbrev pub SealHoldsOverActsFromStart : Type 0
 SealHoldsOverActsFromStart = (grant : ℕ → ℕ → ℕ) (rlen mlen sealStart sealLength : ℕ) (registers marks memory scalars : List ℕ) (R : Run)
-    → number (startMachine rlen mlen sealStart sealLength registers marks .answer) ≡ 0 → (acts : List Act)
+    → startMachine rlen mlen sealStart sealLength registers marks .answer .number ≡ 0 → (acts : List Act)
     → SealKept sealStart sealLength (lentLast acts memory)
     (afterActs grant acts (session (startedBench rlen mlen sealStart sealLength registers marks memory) scalars R) .bench)

@@ -3,9 +3,8 @@ use mathlib.Core.Bool.{Bool, true, cond}
 use mathlib.Core.List.{List, [], _∷_}
 use mathlib.Core.Option.{Option, none, some, Option·getD}
 use Prim.Native.Nat.{ℕ, zero, suc, _+_}
-use Rattle.machine.specs.declared.Answer.{Answer}
 use Rattle.machine.specs.declared.Answer.the-variants.{Done, BadArguments}
-use Rattle.machine.specs.Answers.{isDone}
+use Rattle.machine.specs.Answers.{Reply, reply, done}
 use Rattle.width.specs.Blocks.{chunks}
 use Rattle.machine.specs.Tests.{every, isIn}
 use Rattle.machine.specs.Geometry.{Parameters, parametersOf, permitted}
@@ -83,20 +82,28 @@ moved grant R = record { plan = R .plan; rlen = R .rlen; mlen = R .mlen; place =
 
 -- what asking gives: 0, a step and the run at the next place; or, past the last, 8 and the run as it was
 pub record Ask : Type 0 where
-  pub answer : Answer
+  pub answer : Reply
   pub handed : Option Handed
   pub run : Run
 
 -- "Steps are handed out one at a time .. asking past the last gives 8."
 abbrev pub ask : (ℕ → ℕ → ℕ) → Run → Ask
 ask grant R = elim (handsOut grant R) [
-  | none ↦ record { answer = BadArguments; handed = none; run = R }
-  | some o ↦ record { answer = Done; handed = some (handedFor (R .plan) o); run = moved grant R }
+  | none ↦ record { answer = reply BadArguments; handed = none; run = R }
+  | some o ↦ record { answer = reply Done; handed = some (handedFor (R .plan) o); run = moved grant R }
 ]
 
 -- what the function `next` returns: the answer, the step or all zeros where there is none, and the run
-abbrev pub asked : Ask → Asked
+pub record AskOutcome : Type 0 where
+  pub answer : Reply
+  pub handed : Handed
+  pub run : Run
+
+abbrev pub asked : Ask → AskOutcome
 asked a = record { answer = a .answer; handed = Option·getD (a .handed) (plain 0); run = a .run }
+
+abbrev pub askedAs : Asked → AskOutcome
+askedAs r = record { answer = reply (r .answer); handed = r .handed; run = r .run }
 
 -- ---- a turn
 
@@ -109,7 +116,7 @@ abbrev pub running : Run → Bench → Running
 running R B = record { run = R; bench = B }
 
 pub record Turn : Type 0 where
-  pub answer : Answer
+  pub answer : Reply
   pub handed : Option Handed
   pub after : Running
 
@@ -121,7 +128,7 @@ turn grant r =
     elim (a .handed) [
       | none ↦ record { answer = a .answer; handed = none; after = r }
       | some h ↦ let out : Outcome = stepBy grant (h .word) (own h) (r .bench) in
-          record { answer = out .answer; handed = some h; after = running (cond (isDone (out .answer)) (a .run) (r .run)) (out .bench) }
+          record { answer = out .answer; handed = some h; after = running (cond (done (out .answer)) (a .run) (r .run)) (out .bench) }
     ]
 
 -- after t turns
@@ -132,19 +139,19 @@ afterTurns grant r (suc t) = turn grant (afterTurns grant r t) .after
 -- "The count .. is the number of turns answered 0."
 abbrev pub answeredDone : (ℕ → ℕ → ℕ) → Running → ℕ → ℕ
 answeredDone grant r zero = 0
-answeredDone grant r (suc t) = answeredDone grant r t + cond (isDone (turn grant (afterTurns grant r t) .answer)) 1 0
+answeredDone grant r (suc t) = answeredDone grant r t + cond (done (turn grant (afterTurns grant r t) .answer)) 1 0
 
 -- ---- what the functions `turn` and `turns` return and leave
 
 pub record TurnOutcome : Type 0 where
-  pub answer : Answer
+  pub answer : Reply
   pub after : Running
 
 abbrev pub turnOutcome : (ℕ → ℕ → ℕ) → Running → TurnOutcome
 turnOutcome grant r = record { answer = turn grant r .answer; after = turn grant r .after }
 
 abbrev pub turnedAs : Turned → (registers marks memory : List ℕ) → TurnOutcome
-turnedAs r registers marks memory = record { answer = r .answer; after = running (r .run) (benchOf (r .machine) registers marks memory) }
+turnedAs r registers marks memory = record { answer = reply (r .answer); after = running (r .run) (benchOf (r .machine) registers marks memory) }
 
 pub record TurnsOutcome : Type 0 where
   pub count : ℕ

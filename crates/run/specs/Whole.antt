@@ -2,8 +2,7 @@
 use mathlib.Core.Path.{_≡_}
 use mathlib.Core.List.{List}
 use Prim.Native.Nat.{ℕ, _<_}
-use Rattle.machine.specs.declared.Answer.{Answer}
-use Rattle.machine.specs.Answers.{number}
+use Rattle.machine.specs.Answers.{Reply, reply}
 use Rattle.machine.specs.Geometry.{Bench, benchOf}
 use Rattle.machine.specs.Setting.{smaller}
 use Rattle.machine.specs.Operation.{element}
@@ -16,7 +15,7 @@ use Rattle.run.specs.Turn.{turns}
 use Rattle.run.specs.Statement.{Answered, Bytes, jobOf, startedRun}
 
 pub record WholeOutcome : Type 0 where
-  pub answer : Answer
+  pub answer : Reply
   pub count : ℕ
   pub bench : Bench
 
@@ -30,18 +29,18 @@ whole grant P B = record {
 
 -- what the function `product` returned and left
 abbrev pub finishedAs : Finished → (registers marks memory : List ℕ) → WholeOutcome
-finishedAs r registers marks memory = record { answer = r .answer; count = r .count; bench = benchOf (r .machine) registers marks memory }
+finishedAs r registers marks memory = record { answer = reply (r .answer); count = r .count; bench = benchOf (r .machine) registers marks memory }
 
 -- The customer's sentence, of a plan, the bench at entry, and what came back
 pub record Delivers (P : Plan) (B : Bench) (o : WholeOutcome) : Type 0 where
   -- when the answer is 0, 8, 6 and 9
   pub answered : Answered P B (o .answer)
   -- "A refusal changes nothing lent or held."
-  pub refused : ¬ (number (o .answer) ≡ 0) → (o .count ≡ 0) × (o .bench ≡ B)
+  pub refused : ¬ (o .answer .number ≡ 0) → (o .count ≡ 0) × (o .bench ≡ B)
   -- "there are 1 + M(1 + N(3 + 4K)) steps"
-  pub counted : number (o .answer) ≡ 0 → o .count ≡ steps (shape (jobOf smaller P B))
+  pub counted : o .answer .number ≡ 0 → o .count ≡ steps (shape (jobOf smaller P B))
   -- "C(i, j) is the sum, for l from 0 to k - 1, of A(i, l) x B(l, j), reduced to f x SEW bits in two's complement", of the memory at entry
-  pub product : number (o .answer) ≡ 0 → (i j : ℕ) → i < P .m → j < P .n
+  pub product : o .answer .number ≡ 0 → (i j : ℕ) → i < P .m → j < P .n
       → element (o .bench .memory) (cAt P) (wide P) i j ≡ productOf (jobOf smaller P B) i j
   -- "the memory outside C's elements is as at the start"
   pub kept : Kept (jobOf smaller P B) (o .bench .memory)

@@ -10,7 +10,7 @@ use lib.Dec.{leb}
 use borrow.Author.Tests.{leb-true}
 use Rattle.machine.specs.declared.Answer.the-variants.{BadArguments, OutsideMemory, Overlap}
 use Rattle.machine.specs.Tests.{isIn}
-use Rattle.machine.specs.Answers.{Check, _otherwise_, verdict, isDone}
+use Rattle.machine.specs.Answers.{reply, Check, _otherwise_, verdict, isDone}
 use Rattle.machine.specs.Geometry.{elen, Parameters, Bench, parameters}
 use Rattle.machine.specs.Memory.{inside, unsealed}
 use Rattle.machine.specs.Faults.{sound}
@@ -146,7 +146,7 @@ module _ (P : Plan) (B : Bench) where
 
   abbrev out : (s p l d : Bool) → RunStart
   out s p l d = record {
-    answer = verdict (checked s p l d);
+    answer = reply (verdict (checked s p l d));
     run = cond (isDone (verdict (checked s p l d))) (freshRun (B .machine) P) (noRun P);
     bench = B;
   }

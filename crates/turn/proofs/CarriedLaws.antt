@@ -19,7 +19,7 @@ use Rattle.machine.specs.declared.Factor.the-variants.{Single, Double, Quadrupl
 use Rattle.machine.specs.declared.Matrix.the-variants.{MatrixA, MatrixB, MatrixC}
 use Rattle.machine.specs.declared.Instruction.{Instruction}
 use Rattle.machine.specs.declared.Instruction.the-variants.{SetTypeImmediate, SetTileImmediate, Load, Store, Multiply, ScaleImmediate}
-use Rattle.machine.specs.Answers.{verdict, isDone, _otherwise_}
+use Rattle.machine.specs.Answers.{Reply, reply, done, verdict, isDone, _otherwise_}
 use Rattle.machine.specs.Geometry.{elen, Bench, benchOf, stateOf}
 use Rattle.machine.specs.Setting.{smaller, newType, mill}
 use Rattle.machine.specs.Refusals.{typed, checks}
@@ -28,7 +28,6 @@ use Rattle.machine.specs.Listing.{decode}
 use Rattle.machine.specs.Operation.{Operation, times, stateAfter}
 use Rattle.machine.specs.Step.{Outcome, outcome}
 use Rattle.machine.proofs.TestLaws.{every-each}
-use Rattle.machine.proofs.CodeLaws.{only-done}
 use Rattle.settings.specs.Parts.{ours, withType, withSize, granted, sizeStepped}
 use Rattle.operations.specs.Parts.{WritesRegisters, WritesMemory}
 use Rattle.operations.proofs.OutcomeLaws.{step-decoded, type-outcome, size-outcome, loads-outcome, stores-outcome}
@@ -44,7 +43,7 @@ use Rattle.run.specs.Turn.{soundRun, runShape, moved, Running, running, turn, T
 use Rattle.run.proofs.HandedLaws.{turnWith}
 use Rattle.run.proofs.WordLaws.{formats, decode-a, decode-b, decode-c, msew<3, narrow-is, wide<3, wide-is, type-small}
 use Rattle.turn.specs.Parts.{Carried, carried, carriedFor, carriedBy, carriedAt, atPlace, endingAt}
-use Rattle.turn.proofs.TurnLaws.{leaving, taking, turns-stop, turns-more}
+use Rattle.turn.proofs.TurnLaws.{leaving, turn-zero, taking, turns-stop, turns-more}
 
 pub plan-format : (P : Plan) → planned P ≡ true → format (P .sew) (P .factor) ≡ true
 unfolding planned
@@ -67,12 +66,12 @@ factor-one P h p q = let F = formats (P .sew) (P .factor) (plan-format P h) .1 i
 -- ---- a word, from the instruction that it decodes to
 
 -- but for the machine's numbers, which are those of the word
-pub numbers-apart : (a a′ : Answer) (m : Machine) (regs marks mem : List ℕ) (k : Carried) → a′ ≡ a → carried a m regs marks mem ≡ k
+pub numbers-apart : (a a′ : Reply) (m : Machine) (regs marks mem : List ℕ) (k : Carried) → a′ ≡ a → carried a m regs marks mem ≡ k
     → carried a′ (k .bench .machine) regs marks mem ≡ k
 numbers-apart a a′ m regs marks mem k e h =
-    ap₂ (λ (a : Answer) (m : Machine). carried a m regs marks mem) e (sym (ap (λ (k : Carried). k .bench .machine) h)) ∙ h
+    ap₂ (λ (a : Reply) (m : Machine). carried a m regs marks mem) e (sym (ap (λ (k : Carried). k .bench .machine) h)) ∙ h
 
-pub numbers-joined : (a : Answer) (m : Machine) (regs marks mem : List ℕ) (k : Carried) → m ≡ k .bench .machine → carried a (k .bench .machine) regs marks mem ≡ k
+pub numbers-joined : (a : Reply) (m : Machine) (regs marks mem : List ℕ) (k : Carried) → m ≡ k .bench .machine → carried a (k .bench .machine) regs marks mem ≡ k
     → carried a m regs marks mem ≡ k
 numbers-joined a m regs marks mem k e h = ap (λ (m : Machine). carried a m regs marks mem) e ∙ h
 
@@ -91,11 +90,11 @@ module _ (P : Plan) (o : Op) (m : Machine) (regs marks mem : List ℕ) (s : soun
       → record { answer = out .answer; bench = out .bench } ≡ carriedFor P o B
   by-decoding i d out e = ap (λ (out : Outcome). record { answer = out .answer; bench = out .bench }) (e ∙ step-decoded (handedFor P o .word) xs B i (sym d))
 
-  pub type-carried : (v : ℕ) → decode (handedFor P o .word) ≡ SetTypeImmediate 0 v → carried Done (withType m (newType elen v)) regs marks mem ≡ carriedFor P o B
+  pub type-carried : (v : ℕ) → decode (handedFor P o .word) ≡ SetTypeImmediate 0 v → carried (reply Done) (withType m (newType elen v)) regs marks mem ≡ carriedFor P o B
   type-carried v d = by-decoding (SetTypeImmediate 0 v) d _ (type-outcome m (SetTypeImmediate 0 v) xs regs marks mem s refl v 0 refl refl)
 
   pub size-carried : (d : Dimension) (a : ℕ) → decode (handedFor P o .word) ≡ SetTileImmediate d 0 a
-      → carried (sizeStepped m d a .answer) (sizeStepped m d a .machine) regs marks mem ≡ carriedFor P o B
+      → carried (reply (sizeStepped m d a .answer)) (sizeStepped m d a .machine) regs marks mem ≡ carriedFor P o B
   size-carried d a c = by-decoding (SetTileImmediate d 0 a) c _ (size-outcome m (SetTileImmediate d 0 a) xs regs marks mem s refl d a 0 refl refl)
 
 -- answer 2 of a tile setting
@@ -115,7 +114,7 @@ zero-residue = refl
 
 module _ (P : Plan) (ok : planned P ≡ true) (m : Machine) (regs marks mem : List ℕ) (s : sound m regs marks ≡ true) (f : Factor) (e : times f ≡ P .factor) (a : Answer) (regs′ marks′ : List ℕ) where
   pub clear-carried : WritesRegisters m (Operation.scale (times f) 0 0 (pos 0)) regs marks mem a regs′ marks′
-      → carried a m regs′ marks′ mem ≡ carriedFor P Op.clear (benchOf m regs marks mem)
+      → carried (reply a) m regs′ marks′ mem ≡ carriedFor P Op.clear (benchOf m regs marks mem)
   clear-carried l =
       let F = formats (P .sew) (P .factor) (plan-format P ok) .1 in
       by-decoding P Op.clear m regs marks mem s (ScaleImmediate (F .factor) 0 0 0) (F .clears) _
@@ -123,7 +122,7 @@ module _ (P : Plan) (ok : planned P ≡ true) (m : Machine) (regs marks mem : Li
       (ap (λ (g : ℕ). Operation.scale g 0 0 (pos 0)) (F .is ∙ sym e)) refl a regs′ marks′ l refl refl)
 
   pub multiply-carried : WritesRegisters m (Operation.multiply (times f) 0 0 1) regs marks mem a regs′ marks′
-      → carried a m regs′ marks′ mem ≡ carriedFor P Op.multiply (benchOf m regs marks mem)
+      → carried (reply a) m regs′ marks′ mem ≡ carriedFor P Op.multiply (benchOf m regs marks mem)
   multiply-carried l =
       let F = formats (P .sew) (P .factor) (plan-format P ok) .1 in
       by-decoding P Op.multiply m regs marks mem s (Multiply (F .factor) 0 0 1) (F .multiplies) _
@@ -142,7 +141,7 @@ stores-for {m} {o} {o′} {regs} {marks} {mem} {a} {mem′} e l = subst (λ (o :
 
 module _ (P : Plan) (ok : planned P ≡ true) (m : Machine) (regs marks mem : List ℕ) (s : sound m regs marks ≡ true) (a : Answer) where
   pub a-carried : (i t : ℕ) (regs′ marks′ : List ℕ) → WritesRegisters m (Operation.load MatrixA 0 (narrow P) (startOf (P .a) i (t * narrow P)) (P .a .stride)) regs marks mem a regs′ marks′
-      → carried a m regs′ marks′ mem ≡ carriedFor P (Op.loadA i t) (benchOf m regs marks mem)
+      → carried (reply a) m regs′ marks′ mem ≡ carriedFor P (Op.loadA i t) (benchOf m regs marks mem)
   a-carried i t regs′ marks′ l =
       let g = plan-format P ok in
       let k : Instruction = Load MatrixA (2 ^ msew P) 0 10 11 in
@@ -152,7 +151,7 @@ module _ (P : Plan) (ok : planned P ≡ true) (m : Machine) (regs marks mem : Li
       (ap (λ (w : ℕ). Operation.load MatrixA 0 w p (P .a .stride)) (narrow-is (ours m) P g (stateOf m regs marks))) refl a regs′ marks′ l refl refl)
 
   pub b-carried : (t j : ℕ) (regs′ marks′ : List ℕ) → WritesRegisters m (Operation.load MatrixB 1 (narrow P) (startOf (P .b) t (j * narrow P)) (P .b .stride)) regs marks mem a regs′ marks′
-      → carried a m regs′ marks′ mem ≡ carriedFor P (Op.loadB t j) (benchOf m regs marks mem)
+      → carried (reply a) m regs′ marks′ mem ≡ carriedFor P (Op.loadB t j) (benchOf m regs marks mem)
   b-carried t j regs′ marks′ l =
       let g = plan-format P ok in
       let k : Instruction = Load MatrixB (2 ^ msew P) 1 10 11 in
@@ -162,7 +161,7 @@ module _ (P : Plan) (ok : planned P ≡ true) (m : Machine) (regs marks mem : Li
       (ap (λ (w : ℕ). Operation.load MatrixB 1 w p (P .b .stride)) (narrow-is (ours m) P g (stateOf m regs marks))) refl a regs′ marks′ l refl refl)
 
   pub c-carried : (i j : ℕ) (mem′ : List ℕ) → WritesMemory m (Operation.store MatrixC 0 (wide P) (startOf (P .c) i (j * wide P)) (P .c .stride)) regs marks mem a mem′
-      → carried a m regs marks mem′ ≡ carriedFor P (Op.store i j) (benchOf m regs marks mem)
+      → carried (reply a) m regs marks mem′ ≡ carriedFor P (Op.store i j) (benchOf m regs marks mem)
   c-carried i j mem′ l =
       let g = plan-format P ok in
       let k : Instruction = Store MatrixC (2 ^ (msew P + log (P .factor))) 0 10 11 in
@@ -200,24 +199,24 @@ module _ (P : Plan) (ok : planned P ≡ true) (m : Machine) (regs marks mem : Li
 -- ---- a turn
 
 -- the turn of a sound run, from what carrying out its word answers and leaves
-pub turn-carried : (R : Run) (B : Bench) → soundRun smaller R ≡ true → (k : Carried) → k ≡ carriedAt R B → (t : Bool) → isDone (k .answer) ≡ t
+pub turn-carried : (R : Run) (B : Bench) → soundRun smaller R ≡ true → (k : Carried) → k ≡ carriedAt R B → (t : Bool) → done (k .answer) ≡ t
     → leaving (k .answer) (running (cond t (moved smaller R) R) (k .bench)) ≡ turnOutcome smaller (running R B)
 turn-carried R B ok k e t d =
     ap (λ (t : Bool). leaving (k .answer) (running (cond t (moved smaller R) R) (k .bench))) (sym d)
-    ∙ ap (λ (k : Carried). leaving (k .answer) (running (cond (isDone (k .answer)) (moved smaller R) R) (k .bench))) e
+    ∙ ap (λ (k : Carried). leaving (k .answer) (running (cond (done (k .answer)) (moved smaller R) R) (k .bench))) e
     ∙ go (wordAt (runShape smaller R) (R .place))
     ∙ ap (λ (o : Option Op). leaving (turnWith smaller (running R B) o .answer) (turnWith smaller (running R B) o .after))
     (ap (λ (t : Bool). cond t (wordAt (runShape smaller R) (R .place)) none) (sym ok))
   where
     go : (o : Option Op)
-        → leaving (carriedBy (R .plan) o B .answer) (running (cond (isDone (carriedBy (R .plan) o B .answer)) (moved smaller R) R) (carriedBy (R .plan) o B .bench))
+        → leaving (carriedBy (R .plan) o B .answer) (running (cond (done (carriedBy (R .plan) o B .answer)) (moved smaller R) R) (carriedBy (R .plan) o B .bench))
         ≡ leaving (turnWith smaller (running R B) o .answer) (turnWith smaller (running R B) o .after)
     go none = refl
     go (some o) = refl
 
 -- one more, after n that were answered 0
 pub turns-carried : (r : Running) (R : Run) (B : Bench) (n : ℕ) → taking n (running R B) ≡ turns smaller r n → soundRun smaller R ≡ true → (k : Carried) → k ≡ carriedAt R B
-    → isDone (k .answer) ≡ true → (R′ : Run) → R′ ≡ moved smaller R → taking (n + 1) (running R′ (k .bench)) ≡ turns smaller r (n + 1)
+    → done (k .answer) ≡ true → (R′ : Run) → R′ ≡ moved smaller R → taking (n + 1) (running R′ (k .bench)) ≡ turns smaller r (n + 1)
 turns-carried r R B n e ok k ek d R′ eR =
     ap (λ (R : Run). taking (n + 1) (running R (k .bench))) eR
     ∙ turns-more r (running R B) n e (leaving (k .answer) (running (moved smaller R) (k .bench))) (turn-carried R B ok k ek true d) d
@@ -228,19 +227,19 @@ moved-place R U A q e k =
     ap (λ (A : Run). atPlace R (A .place)) k ∙ ap (λ (U : Run). atPlace R (moved smaller U .place)) e ∙ ap (moved smaller) (sym e)
 
 -- a run that no start can have made: every turn is refused
-pub turn-unsound : (R : Run) (B : Bench) → soundRun smaller R ≡ false → leaving BadArguments (running R B) ≡ turnOutcome smaller (running R B)
+pub turn-unsound : (R : Run) (B : Bench) → soundRun smaller R ≡ false → leaving (reply BadArguments) (running R B) ≡ turnOutcome smaller (running R B)
 turn-unsound R B h =
     ap (λ (t : Bool). let o : Option Op = cond t (wordAt (runShape smaller R) (R .place)) none in leaving (turnWith smaller (running R B) o .answer) (turnWith smaller (running R B) o .after)) (sym h)
 
 pub turns-unsound : (R : Run) (B : Bench) (n : ℕ) → soundRun smaller R ≡ false → taking 0 (running R B) ≡ turns smaller (running R B) n
-turns-unsound R B n h = turns-stop (running R B) 0 n (omega arith) (ap (λ (o : TurnOutcome). isDone (o .answer)) (sym (turn-unsound R B h)))
+turns-unsound R B n h = turns-stop (running R B) 0 n (omega arith) (ap (λ (o : TurnOutcome). done (o .answer)) (sym (turn-unsound R B h)))
 
 -- ---- the answer that turns end with
 
-pub ends-done : (limit count : ℕ) (t : TurnsOutcome) → eqb count limit ≡ true → Done ≡ endingAt limit count t
+pub ends-done : (limit count : ℕ) (t : TurnsOutcome) → eqb count limit ≡ true → reply Done ≡ endingAt limit count t
 ends-done limit count t e = sym (rw e)
 
-pub ends-refused : (limit count : ℕ) (t : TurnsOutcome) (a : Answer) → eqb count limit ≡ false → a ≡ turn smaller (t .after) .answer → a ≡ endingAt limit count t
+pub ends-refused : (limit count : ℕ) (t : TurnsOutcome) (a : Reply) → eqb count limit ≡ false → a ≡ turn smaller (t .after) .answer → a ≡ endingAt limit count t
 ends-refused limit count t a e h = h ∙ sym (rw e)
 
 -- the run at the place where the turns end
@@ -248,13 +247,13 @@ pub at-end : (n : ℕ) (U U′ : Run) (B : Bench) (t : TurnsOutcome) → U ≡ U
 at-end n U U′ B t e h = ap (λ (U : Run). taking n (running U B)) e ∙ h
 
 -- one turn, from what turns of at most one come to
-pub one-turn : (r : Running) (n : ℕ) (a : Answer) (after : Running) → taking n after ≡ turns smaller r 1 → a ≡ endingAt 1 n (turns smaller r n) → leaving a after ≡ turnOutcome smaller r
+pub one-turn : (r : Running) (n : ℕ) (a : Reply) (after : Running) → taking n after ≡ turns smaller r 1 → a ≡ endingAt 1 n (turns smaller r n) → leaving a after ≡ turnOutcome smaller r
 one-turn r n a after e h =
-    ap₂ leaving (go (isDone (turn smaller r .answer)) refl) (ap (λ (o : TurnsOutcome). o .after) e)
+    ap₂ leaving (go (done (turn smaller r .answer)) refl) (ap (λ (o : TurnsOutcome). o .after) e)
   where
-    count-is : (t : Bool) → isDone (turn smaller r .answer) ≡ t → n ≡ cond t 1 0
+    count-is : (t : Bool) → done (turn smaller r .answer) ≡ t → n ≡ cond t 1 0
     count-is t d = ap (λ (o : TurnsOutcome). o .count) e ∙ ap (λ (t : Bool). 0 + cond t 1 0) d ∙ zero-add (cond t 1 0)
 
-    go : (t : Bool) → isDone (turn smaller r .answer) ≡ t → a ≡ turn smaller r .answer
-    go true d = h ∙ ap (λ (n : ℕ). endingAt 1 n (turns smaller r n)) (count-is true d) ∙ sym (only-done (turn smaller r .answer) d)
+    go : (t : Bool) → done (turn smaller r .answer) ≡ t → a ≡ turn smaller r .answer
+    go true d = h ∙ ap (λ (n : ℕ). endingAt 1 n (turns smaller r n)) (count-is true d) ∙ sym (turn-zero r d)
     go false d = h ∙ ap (λ (n : ℕ). endingAt 1 n (turns smaller r n)) (count-is false d)

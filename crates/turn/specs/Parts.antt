@@ -3,9 +3,9 @@ use mathlib.Core.Bool.{cond}
 use mathlib.Core.List.{List}
 use mathlib.Core.Option.{Option, none, some}
 use Prim.Native.Nat.{ℕ}
-use Rattle.machine.specs.declared.Answer.{Answer}
 use Rattle.machine.specs.declared.Answer.the-variants.{Done, BadArguments}
 use Rattle.machine.specs.declared.Machine.{Machine}
+use Rattle.machine.specs.Answers.{Reply, reply}
 use Rattle.machine.specs.Geometry.{Bench, benchOf}
 use Rattle.machine.specs.Setting.{smaller}
 use Rattle.machine.specs.Step.{Outcome, step}
@@ -20,10 +20,10 @@ use lib.Dec.{eqb}
 
 -- what carrying out a word answers and leaves, but for the run's own scalars
 pub record Carried : Type 0 where
-  pub answer : Answer
+  pub answer : Reply
   pub bench : Bench
 
-abbrev pub carried : Answer → Machine → (registers marks memory : List ℕ) → Carried
+abbrev pub carried : Reply → Machine → (registers marks memory : List ℕ) → Carried
 carried a m registers marks memory = record { answer = a; bench = benchOf m registers marks memory }
 
 -- the word of an operation of a run
@@ -32,7 +32,7 @@ carriedFor P o B = let out : Outcome = step (handedFor P o .word) (own (handedFo
 
 -- a word, if there is one; past the last, 8
 abbrev pub carriedBy : Plan → Option Op → Bench → Carried
-carriedBy P none B = record { answer = BadArguments; bench = B }
+carriedBy P none B = record { answer = reply BadArguments; bench = B }
 carriedBy P (some o) B = carriedFor P o B
 
 -- the word at the place of a run
@@ -44,5 +44,5 @@ abbrev pub atPlace : Run → Place → Run
 atPlace R q = record { plan = R .plan; rlen = R .rlen; mlen = R .mlen; place = q }
 
 -- the answer of the turn after these, or 0 where there is none to take
-abbrev pub endingAt : (limit count : ℕ) → TurnsOutcome → Answer
-endingAt limit count t = cond (eqb count limit) Done (turn smaller (t .after) .answer)
+abbrev pub endingAt : (limit count : ℕ) → TurnsOutcome → Reply
+endingAt limit count t = cond (eqb count limit) (reply Done) (turn smaller (t .after) .answer)

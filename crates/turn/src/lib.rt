@@ -14,7 +14,7 @@ ghost use mathlib.Core.Path.{_≡_};
 ghost use mathlib.Core.Bool.{true};
 ghost use mathlib.Core.List.{List, [], _∷_};
 ghost use Prim.Native.Nat.{ℕ, _*_, _≤_, _<_};
-ghost use Rattle.machine.specs.Answers.{verdict};
+ghost use Rattle.machine.specs.Answers.{reply, verdict};
 ghost use Rattle.machine.specs.Geometry.{Bench, benchOf, stateOf, registerCount};
 ghost use Rattle.machine.specs.Faults.{sound};
 ghost use Rattle.machine.specs.Refusals.{typed};
@@ -57,7 +57,7 @@ fn size_answer(m: Machine) -> Answer
 fn clear(plan: Plan, m: Machine, registers: &mut [u8], marks: &mut [u8]) -> Answer
     requires { ⌜ sound m (now registers) (now marks) ≡ true ⌝ }
     requires { ⌜ planned plan ≡ true ⌝ }
-    ensures { λ r. ⌜ ((memory : List ℕ) → carried r m (now (registers .exit)) (now (marks .exit)) memory
+    ensures { λ r. ⌜ ((memory : List ℕ) → carried (reply r) m (now (registers .exit)) (now (marks .exit)) memory
         ≡ carriedFor plan clear (benchOf m (now (registers .entry)) (now (marks .entry)) memory)) ⌝ }
 {
     let factor = factor_of(plan);
@@ -68,7 +68,7 @@ fn clear(plan: Plan, m: Machine, registers: &mut [u8], marks: &mut [u8]) -> Answ
 fn multiply(plan: Plan, m: Machine, registers: &mut [u8], marks: &[u8]) -> Answer
     requires { ⌜ sound m (now registers) (now marks) ≡ true ⌝ }
     requires { ⌜ planned plan ≡ true ⌝ }
-    ensures { λ r. ⌜ ((memory : List ℕ) → carried r m (now (registers .exit)) (now (marks .entry)) memory
+    ensures { λ r. ⌜ ((memory : List ℕ) → carried (reply r) m (now (registers .exit)) (now (marks .entry)) memory
         ≡ carriedFor plan multiply (benchOf m (now (registers .entry)) (now (marks .entry)) memory)) ⌝ }
 {
     let factor = factor_of(plan);
@@ -123,7 +123,7 @@ fn store(
     requires { ⌜ sound m (now registers) (now marks) ≡ true ⌝ }
     requires { ⌜ planned plan ≡ true ⌝ }
     requires { ⌜ (row ≤ 1024) × (column ≤ 1024) ⌝ }
-    ensures { λ r. ⌜ carried r m (now (registers .entry)) (now (marks .entry)) (now (memory .exit))
+    ensures { λ r. ⌜ carried (reply r) m (now (registers .entry)) (now (marks .entry)) (now (memory .exit))
         ≡ carriedFor plan (store row column) (benchOf m (now (registers .entry)) (now (marks .entry)) (now (memory .entry))) ⌝ }
 {
     let bytes = asking::wide_bytes(plan);
@@ -155,7 +155,7 @@ fn carry_out(
     requires { ⌜ sound m (now registers) (now marks) ≡ true ⌝ }
     requires { ⌜ soundRun smaller run ≡ true ⌝ }
     ensures { λ r. ⌜ (let B : Bench = benchOf m (now (registers .entry)) (now (marks .entry)) (now (memory .entry)) in
-        carried r (carriedAt run B .bench .machine) (now (registers .exit)) (now (marks .exit)) (now (memory .exit)) ≡ carriedAt run B) ⌝ }
+        carried (reply r) (carriedAt run B .bench .machine) (now (registers .exit)) (now (marks .exit)) (now (memory .exit)) ≡ carriedAt run B) ⌝ }
 {
     let plan = run.plan;
     let place = run.place;
@@ -284,7 +284,7 @@ fn take_turns(
     requires { ⌜ sound m (now registers) (now marks) ≡ true ⌝ }
     ensures { λ r. ⌜ takenAs (record { count = r .count; run = atPlace run (r .place); machine = r .machine }) (now (registers .exit)) (now (marks .exit)) (now (memory .exit))
         ≡ turns smaller (running run (benchOf m (now (registers .entry)) (now (marks .entry)) (now (memory .entry)))) limit ⌝ }
-    ensures { λ r. ⌜ (0 < limit → r .answer ≡ endingAt limit (r .count)
+    ensures { λ r. ⌜ (0 < limit → reply (r .answer) ≡ endingAt limit (r .count)
         (turns smaller (running run (benchOf m (now (registers .entry)) (now (marks .entry)) (now (memory .entry)))) (r .count))) ⌝ }
 {
     let mut place = run.place;

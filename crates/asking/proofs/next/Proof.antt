@@ -4,7 +4,7 @@ use borrow.Author.Tests.{not-true, not-false}
 use Rattle.machine.specs.declared.Answer.the-variants.{Done}
 use Rattle.machine.specs.Setting.{smaller}
 use Rattle.run.specs.Turn.{soundRun}
-use Rattle.asking.proofs.AskingLaws.{run-numbered, askedAs, ask-unsound, ask-end, ask-done}
+use Rattle.asking.proofs.AskingLaws.{run-numbered, giving, ask-unsound, ask-end, ask-done}
 use borrow.Author.Needs.{needs}
 use Rattle.asking.proofs.next.Statement.{statement}
 use Rattle.asking.proofs.next.Tie as tie
@@ -60,7 +60,7 @@ returns-3 c =
     let f = h .before in
     let e = f .before in
     let o = e .before in
-    ap₂ (askedAs Done) (h .handed-at .ensures) (c .moved-run .ensures)
+    ap₂ (giving Done) (h .handed-at .ensures) (c .moved-run .ensures)
     ∙ ask-done (o .before .before .args .run) (ok-1 o) (sym (e .is-end .ensures) ∙ f .if2 .left)
 
 pub next-spec : {M : Type 1} → statement M

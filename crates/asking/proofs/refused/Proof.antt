@@ -1,7 +1,7 @@
 use mathlib.Core.Path.{ap}
 use Rattle.machine.specs.declared.Answer.the-variants.{BadArguments}
 use Rattle.run.specs.declared.Handed.{Handed}
-use Rattle.asking.proofs.AskingLaws.{askedAs}
+use Rattle.asking.proofs.AskingLaws.{giving}
 use borrow.Author.Needs.{needs}
 use Rattle.asking.proofs.refused.Statement.{statement}
 use Rattle.asking.proofs.refused.Tie as tie
@@ -10,7 +10,7 @@ plain-step-requires : tie.Need-plain-step-requires
 plain-step-requires c κs = search needs
 
 returns : tie.Need-returns
-returns c = ap (λ (h : Handed). askedAs BadArguments h (c .before .args .run)) (c .plain-step .ensures)
+returns c = ap (λ (h : Handed). giving BadArguments h (c .before .args .run)) (c .plain-step .ensures)
 
 pub refused-spec : {M : Type 1} → statement M
 refused-spec = tie.close (tie.spec plain-step-requires returns)

@@ -1,8 +1,15 @@
 use mathlib.Core.Path.{sym, ap}
+use Prim.Native.Nat.{ℕ}
 use borrow.Author.Needs.{needs}
+use Rattle.machine.specs.declared.Answer.{Answer}
+use Rattle.machine.specs.Answers.{reply}
 use Rattle.blocks.specs.Blocks.{packed}
 use Rattle.blocks.proofs.packed.Statement.{statement}
 use Rattle.blocks.proofs.packed.Tie as tie
+
+-- what the case of an answer comes to
+abbrev told : Answer → ℕ
+told a = packed (reply a)
 
 enum-told : tie.Need-enum-told
 enum-told c = search needs
@@ -56,43 +63,43 @@ enum-told-12 : tie.Need-enum-told-12
 enum-told-12 c = search needs
 
 returns : tie.Need-returns
-returns c = ap packed (sym (c .enum-told .given .1))
+returns c = ap told (sym (c .enum-told .given .1))
 
 returns-2 : tie.Need-returns-2
-returns-2 c = ap packed (sym (c .enum-told2 .given .1))
+returns-2 c = ap told (sym (c .enum-told2 .given .1))
 
 returns-3 : tie.Need-returns-3
-returns-3 c = ap packed (sym (c .enum-told3 .given .1))
+returns-3 c = ap told (sym (c .enum-told3 .given .1))
 
 returns-4 : tie.Need-returns-4
-returns-4 c = ap packed (sym (c .enum-told4 .given .1))
+returns-4 c = ap told (sym (c .enum-told4 .given .1))
 
 returns-5 : tie.Need-returns-5
-returns-5 c = ap packed (sym (c .enum-told5 .given .1))
+returns-5 c = ap told (sym (c .enum-told5 .given .1))
 
 returns-6 : tie.Need-returns-6
-returns-6 c = ap packed (sym (c .before .answer .given .1))
+returns-6 c = ap told (sym (c .before .answer .given .1))
 
 returns-7 : tie.Need-returns-7
-returns-7 c = ap packed (sym (c .enum-told6 .given .1))
+returns-7 c = ap told (sym (c .enum-told6 .given .1))
 
 returns-8 : tie.Need-returns-8
-returns-8 c = ap packed (sym (c .enum-told7 .given .1))
+returns-8 c = ap told (sym (c .enum-told7 .given .1))
 
 returns-9 : tie.Need-returns-9
-returns-9 c = ap packed (sym (c .enum-told8 .given .1))
+returns-9 c = ap told (sym (c .enum-told8 .given .1))
 
 returns-10 : tie.Need-returns-10
-returns-10 c = ap packed (sym (c .enum-told9 .given .1))
+returns-10 c = ap told (sym (c .enum-told9 .given .1))
 
 returns-11 : tie.Need-returns-11
-returns-11 c = ap packed (sym (c .enum-told10 .given .1))
+returns-11 c = ap told (sym (c .enum-told10 .given .1))
 
 returns-12 : tie.Need-returns-12
-returns-12 c = ap packed (sym (c .enum-told11 .given .1))
+returns-12 c = ap told (sym (c .enum-told11 .given .1))
 
 returns-13 : tie.Need-returns-13
-returns-13 c = ap packed (sym (c .enum-told12 .given .1))
+returns-13 c = ap told (sym (c .enum-told12 .given .1))
 
 pub packed-spec : {M : Type 1} → statement M
 packed-spec =

@@ -6,6 +6,7 @@ use borrow.Author.Needs.{needs}
 use borrow.Author.Tests.{not-true, not-false}
 use Rattle.machine.specs.declared.Machine.{Machine}
 use Rattle.machine.specs.declared.Answer.the-variants.{Done, BadArguments}
+use Rattle.machine.specs.Answers.{reply}
 use Rattle.machine.proofs.StartLaws.{started-as}
 use Rattle.machine.proofs.start.Statement.{statement}
 use Rattle.machine.proofs.start.Tie as tie
@@ -23,7 +24,7 @@ returns : tie.Need-returns
 returns c =
     let s = c .before .before in
     let a = s .before .before .before .before .args in
-    ap (λ (m : Machine). record { answer = BadArguments; machine = m; registers = a .registers .now; marks = a .marks .now }) (c .no-machine .ensures)
+    ap (λ (m : Machine). record { answer = reply BadArguments; machine = m; registers = a .registers .now; marks = a .marks .now }) (c .no-machine .ensures)
     ∙ started-as (a .rlen) (a .mlen) (a .seal-start) (a .seal-length) (a .registers .now) (a .marks .now) false
     (sym (s .is-startable .ensures) ∙ not-true (s .is-startable .result) (c .before .if1 .taken))
 
@@ -41,7 +42,7 @@ returns-2 c =
     let l = c .before .before .before in
     let s = l .before .before .before in
     let a = s .before .before .before .before .args in
-    ap₂ (λ (m : Machine) (z : List ℕ). record { answer = Done; machine = m; registers = a .registers .now; marks = z }) (c .fresh-machine .ensures) (l .clear .ensures)
+    ap₂ (λ (m : Machine) (z : List ℕ). record { answer = reply Done; machine = m; registers = a .registers .now; marks = z }) (c .fresh-machine .ensures) (l .clear .ensures)
     ∙ started-as (a .rlen) (a .mlen) (a .seal-start) (a .seal-length) (a .registers .now) (a .marks .now) true
     (sym (s .is-startable .ensures) ∙ not-false (s .is-startable .result) (l .before .before .if1 .left))
 

@@ -10,6 +10,7 @@ use Rattle.settings.specs.Parts.{ours, withType}
 use lib.ListN.{length}
 use borrow.Author.Tests.{eqb-true}
 use Rattle.width.specs.Reduce.{signed}
+use Rattle.machine.specs.Answers.{reply}
 use Rattle.machine.specs.Geometry.{elen, stateOf, withScalar, benchOf}
 use Rattle.machine.specs.Setting.{sew, newType}
 use Rattle.machine.specs.Operation.{Operation, operation, times}
@@ -234,7 +235,7 @@ returns-2 c =
     let meant = ap (operation (ours (a .m)) (stateOf (a .m) rs ms) xs) e in
     let rd = ap destination e in
     let z = c .before .before in
-    ap₂ (λ (m : Machine) (x : List ℕ). record { answer = Done; bench = benchOf m rs ms mem; scalars = x }) (z .set-type .ensures .0) (z .set-type .ensures .1)
+    ap₂ (λ (m : Machine) (x : List ℕ). record { answer = reply Done; bench = benchOf m rs ms mem; scalars = x }) (z .set-type .ensures .0) (z .set-type .ensures .1)
     ∙ type-outcome (a .m) (a .instruction) xs rs ms mem (s .pre .0) (s .pre .1 .0) _ _ meant rd
 
 same-length-2 : tie.Need-same-length-2
@@ -254,7 +255,7 @@ returns-3 c =
     let rd = ap destination e in
     let z = c .before .before in
     let v = c .before .before .before .before .read-scalar .ensures in
-    ap₂ (λ (m : Machine) (x : List ℕ). record { answer = Done; bench = benchOf m rs ms mem; scalars = x }) (z .set-type2 .ensures .0 ∙ ap (λ (v : ℕ). withType (a .m) (newType elen v)) v) (z .set-type2 .ensures .1 ∙ ap (λ (v : ℕ). withScalar xs (g .0 .0) (newType elen v)) v)
+    ap₂ (λ (m : Machine) (x : List ℕ). record { answer = reply Done; bench = benchOf m rs ms mem; scalars = x }) (z .set-type2 .ensures .0 ∙ ap (λ (v : ℕ). withType (a .m) (newType elen v)) v) (z .set-type2 .ensures .1 ∙ ap (λ (v : ℕ). withScalar xs (g .0 .0) (newType elen v)) v)
     ∙ type-outcome (a .m) (a .instruction) xs rs ms mem (s .pre .0) (s .pre .1 .0) _ _ meant rd
 
 same-length-3 : tie.Need-same-length-3
@@ -273,7 +274,7 @@ returns-4 c =
     let meant = ap (operation (ours (a .m)) (stateOf (a .m) rs ms) xs) e in
     let rd = ap destination e in
     let z = c .before .before in
-    ap₂ (λ (r : Stepped) (x : List ℕ). record { answer = r .answer; bench = benchOf (r .machine) rs ms mem; scalars = x }) (z .set-size .ensures .0) (z .set-size .ensures .1)
+    ap₂ (λ (r : Stepped) (x : List ℕ). record { answer = reply (r .answer); bench = benchOf (r .machine) rs ms mem; scalars = x }) (z .set-size .ensures .0) (z .set-size .ensures .1)
     ∙ size-outcome (a .m) (a .instruction) xs rs ms mem (s .pre .0) (s .pre .1 .0) _ _ _ meant rd
 
 same-length-4 : tie.Need-same-length-4
@@ -292,7 +293,7 @@ returns-5 c =
     let meant = ap (operation (ours (a .m)) (stateOf (a .m) rs ms) xs) e in
     let rd = ap destination e in
     let z = c .before .before in
-    ap₂ (λ (r : Stepped) (x : List ℕ). record { answer = r .answer; bench = benchOf (r .machine) rs ms mem; scalars = x }) (z .set-tile .ensures .0) (z .set-tile .ensures .1)
+    ap₂ (λ (r : Stepped) (x : List ℕ). record { answer = reply (r .answer); bench = benchOf (r .machine) rs ms mem; scalars = x }) (z .set-tile .ensures .0) (z .set-tile .ensures .1)
     ∙ tile-outcome (a .m) (a .instruction) xs rs ms mem (s .pre .0) (s .pre .1 .0) (g .0 .0) (g .0 .1 .0) (g .0 .1 .1 .0) meant rd
 
 same-length-5 : tie.Need-same-length-5

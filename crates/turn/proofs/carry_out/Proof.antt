@@ -1,8 +1,9 @@
-use mathlib.Core.Path.{_≡_, refl, _∙_, subst}
+use mathlib.Core.Path.{_≡_, refl, ap, _∙_, subst}
 use mathlib.Core.Bool.{true}
 use Prim.Native.Nat.{_-_}
 use native.Mathlib.Omega.{arith}
 use Rattle.machine.specs.declared.Dimension.the-variants.{DimensionM, DimensionK, DimensionN}
+use Rattle.machine.specs.Answers.{reply}
 use Rattle.machine.specs.Geometry.{benchOf}
 use Rattle.run.specs.declared.Place.{Place}
 use Rattle.run.specs.Words.{Op}
@@ -117,7 +118,7 @@ returns-2 c =
     let z = run-sizes R (run-numbered R (s .pre .1)) in
     let b = z .0 in
     let a = R .plan .m - t .enum-told2 .given .0 .0 in
-    numbers-apart _ _ _ _ _ _ _ (c .size-answer .ensures ∙ size-answers (s .args .m) DimensionM a)
+    numbers-apart _ _ _ _ _ _ _ (ap reply (c .size-answer .ensures ∙ size-answers (s .args .m) DimensionM a))
     (size-carried (R .plan) (Op.setM a) (s .args .m) (s .args .registers .now) (s .args .marks .now) (s .args .memory .now) (s .pre .0) DimensionM a (decode-m a (omega (arith, b)))
     ∙ at-place R (benchOf (s .args .m) (s .args .registers .now) (s .args .marks .now) (s .args .memory .now)) _ (t .enum-told2 .given .1))
 
@@ -129,7 +130,7 @@ returns-3 c =
     let z = run-sizes R (run-numbered R (s .pre .1)) in
     let b = z .2 in
     let a = R .plan .n - t .enum-told3 .given .0 .1 .0 in
-    numbers-apart _ _ _ _ _ _ _ (c .size-answer2 .ensures ∙ size-answers (s .args .m) DimensionN a)
+    numbers-apart _ _ _ _ _ _ _ (ap reply (c .size-answer2 .ensures ∙ size-answers (s .args .m) DimensionN a))
     (size-carried (R .plan) (Op.setN a) (s .args .m) (s .args .registers .now) (s .args .marks .now) (s .args .memory .now) (s .pre .0) DimensionN a (decode-n a (omega (arith, b)))
     ∙ at-place R (benchOf (s .args .m) (s .args .registers .now) (s .args .marks .now) (s .args .memory .now)) _ (t .enum-told3 .given .1))
 
@@ -153,7 +154,7 @@ returns-5 c =
     let z = run-sizes R (run-numbered R (s .pre .1)) in
     let b = z .1 in
     let a = R .plan .k - t .enum-told5 .given .0 .1 .1 .0 in
-    numbers-apart _ _ _ _ _ _ _ (c .size-answer3 .ensures ∙ size-answers (s .args .m) DimensionK a)
+    numbers-apart _ _ _ _ _ _ _ (ap reply (c .size-answer3 .ensures ∙ size-answers (s .args .m) DimensionK a))
     (size-carried (R .plan) (Op.setK a) (s .args .m) (s .args .registers .now) (s .args .marks .now) (s .args .memory .now) (s .pre .0) DimensionK a (decode-k a (omega (arith, b)))
     ∙ at-place R (benchOf (s .args .m) (s .args .registers .now) (s .args .marks .now) (s .args .memory .now)) _ (t .enum-told5 .given .1))
 
