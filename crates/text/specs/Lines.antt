@@ -4,6 +4,8 @@ use mathlib.Core.Bool.{cond}
 use mathlib.Core.List.{List, [], _∷_, _++_}
 use lib.Dec.{ltb}
 use lib.IntN.{ℤ, pos, negsuc}
+use Rattle.machine.specs.declared.Answer.the-variants.{Done, BadArguments}
+use Rattle.machine.specs.Answers.{number}
 
 -- ---- a number in decimal
 
@@ -49,10 +51,10 @@ stepsWord = 32 ∷ 115 ∷ 116 ∷ 101 ∷ 112 ∷ 115 ∷ 32 ∷ []
 abbrev pub firstLine : ℕ → ℕ → List ℕ
 firstLine answer steps = answerWord ++ (decimal answer ++ (stepsWord ++ (decimal steps ++ (10 ∷ []))))
 
--- answer 0, the count, and the rows of C
+-- 0, the count, and the rows of C
 abbrev pub accepted : ℕ → List (List ℤ) → List ℕ
-accepted count rows = firstLine 0 count ++ lines rows
+accepted count rows = firstLine (number Done) count ++ lines rows
 
 -- "the line `answer 8 steps 0` alone"
 abbrev pub refused : List ℕ
-refused = firstLine 8 0
+refused = firstLine (number BadArguments) 0
