@@ -28,7 +28,7 @@ pub fn ranges_apart(p: usize, n: usize, q: usize, o: usize) -> bool
 }
 
 // How many steps of the distance gap it takes from a number to get past another.
-pub fn steps_past(from: usize, to: usize, gap: usize) -> usize
+fn steps_past(from: usize, to: usize, gap: usize) -> usize
     requires { ⌜ 0 < gap ⌝ }
     requires { ⌜ to + 1 < 2 ^ 64 ⌝ }
     ensures passed { λ r. ⌜ ((k : ℕ) → k < r → from + k * gap ≤ to) ⌝ }

@@ -8,7 +8,7 @@ ghost use Rattle.width.specs.Tile.{markRow};
 ghost use Rattle.machine.specs.Tests.{all};
 
 // Copies the eight bytes from i on, all read before any is written: one move of eight bytes, with no test for overlap.
-pub fn copy_eight(dst: &mut [u8], src: &[u8], i: usize)
+fn copy_eight(dst: &mut [u8], src: &[u8], i: usize)
     requires { ⌜ i + 8 ≤ length (now dst) ⌝ }
     requires { ⌜ i + 8 ≤ length (now src) ⌝ }
     ensures { λ _. ⌜ now (dst .exit) ≡ upto 8 (λ b ys. set ys (i + b) (getD (now (src .entry)) (i + b) 0)) (now (dst .entry)) ⌝ }
@@ -32,7 +32,7 @@ pub fn copy_eight(dst: &mut [u8], src: &[u8], i: usize)
 }
 
 // Copies src by eights, and says how many bytes that were.
-pub fn copy_eights(dst: &mut [u8], src: &[u8]) -> usize
+fn copy_eights(dst: &mut [u8], src: &[u8]) -> usize
     requires { ⌜ length (now src) ≤ length (now dst) ⌝ }
     ensures { λ r. ⌜ r ≤ length (now (src .entry)) ⌝ }
     ensures { λ r. ⌜ now (dst .exit) ≡ upto r (λ b ys. set ys b (getD (now (src .entry)) b 0)) (now (dst .entry)) ⌝ }
@@ -46,7 +46,7 @@ pub fn copy_eights(dst: &mut [u8], src: &[u8]) -> usize
 }
 
 // Copies the bytes of src from index done on.
-pub fn copy_rest(dst: &mut [u8], src: &[u8], done: usize)
+fn copy_rest(dst: &mut [u8], src: &[u8], done: usize)
     requires { ⌜ length (now src) ≤ length (now dst) ⌝ }
     requires { ⌜ done ≤ length (now src) ⌝ }
     ensures { λ _. ⌜ now (dst .exit) ≡ upto (length (now (src .entry)) - done) (λ b ys. set ys (done + b) (getD (now (src .entry)) (done + b) 0)) (now (dst .entry)) ⌝ }
