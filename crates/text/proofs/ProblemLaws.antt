@@ -23,7 +23,7 @@ use Rattle.text.specs.declared.Parsed.{Parsed}
 use Rattle.text.specs.declared.Parsed.the-variants.{Posed, Refused}
 use Rattle.text.specs.Text.{numbers}
 use Rattle.text.specs.Problem.{Problem, problem, nth, tests, posed, posedBy, fromZero, holds}
-use Rattle.text.specs.Parts.{held, heldIn, sizeHeld, inside, parsedAs, elementsIn}
+use Rattle.text.specs.Parts.{held, heldIn, front, putFront, sizeHeld, inside, parsedAs, readInto, elementsIn}
 use Rattle.text.proofs.ListLaws.{drop-map, drop-take}
 
 never : {A : Type 0} → _≡_ {A = ℕ} 0 1 → A
@@ -226,6 +226,13 @@ problem-is t o h e = rw (le-leb (length t) 8192 h) (ap posed e)
 -- what `parse` returns and leaves
 abbrev pub Gives : List ℕ → Parsed → List ℕ → Type 0
 Gives t r out = (r ≡ parsedAs (problem t)) × elementsIn (problem t) out
+
+-- what was read stands in the buffer, and nothing of a text that is too long
+pub read-none : (t out : List ℕ) → 8192 < length t → out ≡ readInto t out
+read-none t out h = sym (rw (lt-leb (length t) 8192 h))
+
+pub read-some : (t out : List ℕ) → length t ≤ 8192 → putFront (front t) out ≡ readInto t out
+read-some t out h = sym (rw (le-leb (length t) 8192 h))
 
 pub parse-long : (t out : List ℕ) → 8192 < length t → Gives t Refused out
 unfolding problem

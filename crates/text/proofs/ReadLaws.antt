@@ -1,6 +1,6 @@
 -- Laws of words and numbers, for the functions that read.
 use Prim.Native.Nat.{ℕ, zero, suc, _+_, _*_, _-_, _≤_, _<_, min}
-use mathlib.Core.Path.{_≡_, refl, sym, ap, _∙_}
+use mathlib.Core.Path.{_≡_, refl, sym, ap, ap₂, _∙_}
 use mathlib.Core.Bool.{Bool, true, false, cond}
 use mathlib.Core.List.{List, [], _∷_, _++_, append-assoc, append-nil, map}
 use mathlib.Core.Option.{Option, none, some, Option·map}
@@ -10,13 +10,13 @@ use native.Mathlib.Numerals.{add-one}
 use native.Mathlib.Omega.{arith}
 use lib.Dec.{leb}
 use lib.IntN.{ℤ, pos, negsuc, negℤ}
-use lib.ListN.{length, take, drop, getD, set, length-append, length-take, length-drop, drop-of-length-le}
-use lib.Seq.{drop-cons, take-suc, take-suc-set, getD-drop}
+use lib.ListN.{length, take, drop, getD, set, length-append, length-take, length-drop, take-append-drop, drop-of-length-le}
+use lib.Seq.{drop-cons, drop-drop, drop-set-lt, length-take-le, take-all, take-append-seam, take-suc, take-suc-set, getD-drop}
 use borrow.Author.Tests.{leb-true, ne-eqb}
 use Rattle.machine.proofs.TestLaws.{and-left, and-right}
 use Rattle.text.specs.declared.Word.the-variants.{Value, Other}
 use Rattle.text.specs.Text.{separator, keep, wordsFrom, words, digit, valueFrom, number, numbers, before}
-use Rattle.text.specs.Parts.{held, heldIn, onto, digitsWord, heldWord}
+use Rattle.text.specs.Parts.{held, heldIn, atFront, frontOf, front, putFront, onto, digitsWord, heldWord}
 
 never : {A : Type 0} → _≡_ {A = ℕ} 0 1 → A
 never e = absurd (omega arith)
@@ -155,6 +155,28 @@ pub first-other : (t w u : List ℕ) → words t ≡ w ∷ words u → heldWord 
 unfolding heldIn
 first-other t w u e v = rw e (other-before (number w) (numbers u) v)
 
+-- ---- the numbers at its front
+
+pub front-none : (t : List ℕ) → words t ≡ [] → front t ≡ []
+unfolding front
+front-none t e = rw e
+
+value-front : (o : Option ℤ) (x : ℕ) (l : List ℕ) → heldWord o ≡ Value x → atFront o l ≡ x ∷ l
+value-front none x l e = never (cc)
+value-front (some z) x l e = let h : held z ≡ x = cc in ap (λ (y : ℕ). y ∷ l) h
+
+other-front : (o : Option ℤ) (l : List ℕ) → heldWord o ≡ Other → atFront o l ≡ []
+other-front none l e = refl
+other-front (some z) l e = never (cc)
+
+pub front-value : (t w u : List ℕ) (x : ℕ) → words t ≡ w ∷ words u → heldWord (number w) ≡ Value x → front t ≡ x ∷ front u
+unfolding front
+front-value t w u x e v = rw e (value-front (number w) x (frontOf (words u)) v)
+
+pub front-other : (t w u : List ℕ) → words t ≡ w ∷ words u → heldWord (number w) ≡ Other → front t ≡ []
+unfolding front
+front-other t w u e v = rw e (other-front (number w) (frontOf (words u)) v)
+
 -- ---- reading all: those read stand in `out`, and the others are ahead
 
 pub onto-nil : (o : Option (List ℕ)) → o ≡ onto [] o
@@ -187,3 +209,31 @@ module _ (all here : Option (List ℕ)) (out : List ℕ) (n : ℕ) (e : all ≡ 
         longer (some t) k =
             let j : take n out ++ (x ∷ t) ≡ l = cc in
             omega (arith, simp (length-append, length-take) at (ap length j))
+
+-- ---- the buffer: what is read so far stands at its start, and the rest is as it was
+
+module _ (all here out out₀ : List ℕ) (n : ℕ) (fits : n ≤ length out) (same : length out ≡ length out₀) (e : all ≡ take n out ++ here) (rest : drop n out ≡ drop n out₀) where
+  pub put-more : (next : List ℕ) (x : ℕ) → here ≡ x ∷ next → n < length out → (all ≡ take (n + 1) (set out n x) ++ next) × (drop (n + 1) (set out n x) ≡ drop (n + 1) out₀)
+  put-more next x f h =
+      let t : take (n + 1) (set out n x) ≡ take n out ++ (x ∷ []) = rw add-one (take-suc-set out n x h) in (
+        e ∙ ap (λ (l : List ℕ). take n out ++ l) f ∙ sym (append-assoc (take n out) (x ∷ []) next) ∙ ap (λ (l : List ℕ). l ++ next) (sym t),
+        drop-set-lt (n + 1) out n x (omega arith) ∙ sym (drop-drop 1 n out) ∙ ap (drop 1) rest ∙ drop-drop 1 n out₀,
+      )
+
+  -- no number more
+  pub put-last : here ≡ [] → out ≡ putFront all out₀
+  put-last f =
+      let a : all ≡ take n out = e ∙ ap (λ (l : List ℕ). take n out ++ l) f ∙ append-nil (take n out) in
+      let k : length (take n out) ≡ n = length-take-le n out fits in
+      sym (take-append-drop n out)
+      ∙ ap₂ (λ (l r : List ℕ). l ++ r) (sym (take-all (length out₀) (take n out) (omega arith))) (rest ∙ ap (λ (i : ℕ). drop i out₀) (sym k))
+      ∙ ap (λ (l : List ℕ). putFront l out₀) (sym a)
+
+  -- no room for more
+  pub put-full : n ≡ length out → out ≡ putFront all out₀
+  put-full h =
+      let t : take n out ≡ out = take-all n out (omega arith) in
+      let a : all ≡ out ++ here = e ∙ ap (λ (l : List ℕ). l ++ here) t in
+      let p : take (length out₀) all ≡ out = ap₂ take (sym same) a ∙ take-append-seam out here in
+      let d : drop (length all) out₀ ≡ [] = drop-of-length-le out₀ {i = length all} (omega (arith, ap length a, length-append out here)) in
+      sym (append-nil out) ∙ ap₂ (λ (l r : List ℕ). l ++ r) (sym p) (sym d)

@@ -16,7 +16,7 @@ use Rattle.text.specs.declared.Word.{Word}
 use Rattle.text.specs.declared.Word.the-variants.{Value, Other}
 use Rattle.text.specs.declared.Token.{Token}
 use Rattle.text.specs.declared.Token.the-variants.{Number, End, Bad}
-use Rattle.text.specs.Text.{numbers}
+use Rattle.text.specs.Text.{words, number, numbers}
 use Rattle.text.specs.Problem.{Problem}
 
 -- ---- numbers as the code holds them
@@ -29,6 +29,23 @@ held (negsuc n) = 4294967296 - min (suc n) 4294967296
 -- the numbers of a text
 unfoldable pub heldIn : List ℕ → Option (List ℕ)
 heldIn t = Option·map (map held) (numbers t)
+
+-- the numbers of words before the first that is none
+abbrev pub atFront : Option ℤ → List ℕ → List ℕ
+atFront none l = []
+atFront (some z) l = held z ∷ l
+
+abbrev pub frontOf : List (List ℕ) → List ℕ
+frontOf [] = []
+frontOf (w ∷ ws) = atFront (number w) (frontOf ws)
+
+-- and those of a text
+unfoldable pub front : List ℕ → List ℕ
+front t = frontOf (words t)
+
+-- numbers written over a buffer from its start on, as many as it has room for
+abbrev pub putFront : List ℕ → List ℕ → List ℕ
+putFront l out = take (length out) l ++ drop (length l) out
 
 -- the digits of a word: a number from 0 up, but no more than 2^32
 abbrev pub digitsWord : Option ℕ → Word
@@ -49,6 +66,12 @@ abbrev pub ahead : List ℕ → Token → Option (List ℕ)
 ahead s End = some []
 ahead s Bad = none
 ahead s (Number x next) = onto (x ∷ []) (heldIn (drop next s))
+
+-- and of the numbers at its front
+abbrev pub frontAhead : List ℕ → Token → List ℕ
+frontAhead s End = []
+frontAhead s Bad = []
+frontAhead s (Number x next) = x ∷ front (drop next s)
 
 -- a number lies after `at`, within the text
 abbrev pub onward : List ℕ → ℕ → Token → Type 0
@@ -74,6 +97,10 @@ inside h x = leb (4294967296 - h) x && ltb x (4294967296 + h)
 abbrev pub parsedAs : Option Problem → Parsed
 parsedAs none = Refused
 parsedAs (some p) = Posed (p .sew) (p .factor) (p .m) (p .k) (p .n)
+
+-- what reading a text leaves in a buffer
+abbrev pub readInto : List ℕ → List ℕ → List ℕ
+readInto t out = cond (leb (length t) 8192) (putFront (front t) out) out
 
 -- the elements of A and then of B, as the code holds them, stand in out from 5 on
 abbrev pub elementsIn : Option Problem → List ℕ → Type 0

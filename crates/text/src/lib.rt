@@ -12,7 +12,7 @@ ghost use Rattle.machine.specs.Tests.{allOf, isIn};
 ghost use Rattle.text.specs.Text.{separator, digit, words, valueFrom, number};
 ghost use Rattle.text.specs.Problem.{posed, problem};
 ghost use Rattle.text.specs.Lines.{decimal, written, spaced, lines, firstLine, accepted, refused};
-ghost use Rattle.text.specs.Parts.{held, heldIn, digitsWord, heldWord, ahead, onward, counted, sizeHeld, inside, parsedAs, elementsIn, Wrote, signedAll, rowsOf};
+ghost use Rattle.text.specs.Parts.{held, heldIn, front, putFront, digitsWord, heldWord, ahead, frontAhead, onward, counted, sizeHeld, inside, parsedAs, readInto, elementsIn, Wrote, signedAll, rowsOf};
 
 // ---- types
 
@@ -149,6 +149,7 @@ fn next_number(text: &[u8], at: usize) -> Token
     requires { ⌜ at ≤ length (now text) ⌝ }
     ensures { λ r. ⌜ heldIn (drop at (now (text .entry))) ≡ ahead (now (text .entry)) r ⌝ }
     ensures { λ r. ⌜ onward (now (text .entry)) at r ⌝ }
+    ensures { λ r. ⌜ front (drop at (now (text .entry))) ≡ frontAhead (now (text .entry)) r ⌝ }
 {
     let from = skip(text, at);
     if from == text.len() {
@@ -164,6 +165,7 @@ fn next_number(text: &[u8], at: usize) -> Token
 // All numbers of a text, as the code holds them.
 fn read_all(text: &[u8], out: &mut [u64]) -> Count
     ensures { λ r. ⌜ counted (heldIn (now (text .entry))) (now (out .exit)) r ⌝ }
+    ensures { λ r. ⌜ now (out .exit) ≡ putFront (front (now (text .entry))) (now (out .entry)) ⌝ }
 {
     let mut at: usize = 0;
     let mut n: usize = 0;
@@ -272,11 +274,13 @@ fn check(xs: &[u64]) -> Parsed
     }
 }
 
-// The problem that a text poses. Its elements, A's and then B's, stand in `out` from 5 on, as the code holds them.
+// The problem that a text poses. Its elements, A's and then B's, stand in `out` from 5 on, as the code holds them; where it poses none,
+// `out` holds the numbers that were read.
 pub fn parse(text: &[u8], out: &mut [u64]) -> Parsed
     requires { ⌜ length (now out) ≡ 517 ⌝ }
     ensures { λ r. ⌜ r ≡ parsedAs (problem (now (text .entry))) ⌝ }
     ensures { λ r. ⌜ elementsIn (problem (now (text .entry))) (now (out .exit)) ⌝ }
+    ensures { λ r. ⌜ now (out .exit) ≡ readInto (now (text .entry)) (now (out .entry)) ⌝ }
 {
     if 8192 < text.len() {
         return Parsed::Refused;

@@ -39,7 +39,7 @@ returns c =
     let p = k .before .before .before in
     let s = p .before .before .before in
     wrote-all (s .args .out .now) (c .solve .last .0) (answerText (s .args .text .now)) (c .solve .result) (omega arith)
-    (c .solve .ensures (s .args .text .now) (sym (k .sew .given .1) ∙ p .parse .ensures .0) (p .parse .ensures .1))
+    (c .solve .ensures (s .args .text .now) (sym (k .sew .given .1) ∙ p .parse .ensures .0) (p .parse .ensures .1 .0))
 
 returns-2 : tie.Need-returns-2
 returns-2 c =

@@ -7,7 +7,7 @@ use borrow.Author.Needs.{needs}
 use Rattle.text.specs.declared.Word.the-variants.{Value}
 use Rattle.text.specs.Text.{words, number}
 use Rattle.text.specs.Parts.{heldWord}
-use Rattle.text.proofs.ReadLaws.{first-none, first-value, first-other, held-bound}
+use Rattle.text.proofs.ReadLaws.{first-none, first-value, first-other, front-none, front-value, front-other, held-bound}
 use Rattle.text.proofs.next_number.Statement.{statement}
 use Rattle.text.proofs.next_number.Tie as tie
 
@@ -26,7 +26,8 @@ returns c =
     let a = c .before .before .before .args in
     let s = a .text .now in
     let l : length s ≤ c .before .skip .result = omega (arith, c .if1 .taken) in
-    (first-none (drop (a .at) s) (sym (c .before .skip .ensures .1 .0) ∙ ap words (drop-of-length-le s l)), tt)
+    let e = sym (c .before .skip .ensures .1 .0) ∙ ap words (drop-of-length-le s l) in
+    (first-none (drop (a .at) s) e, (tt, front-none (drop (a .at) s) e))
 
 word-end-requires : tie.Need-word-end-requires
 word-end-requires c κs =
@@ -58,14 +59,20 @@ returns-2 c =
     let x = c .before .held .given .0 .0 in
     let v : heldWord (number (word d)) ≡ Value x = sym (c .before .before .before .read-word .ensures) ∙ c .before .held .given .1 in (
       first-value (drop (a .at) (a .text .now)) (word d) (drop (d .word-end .result) (a .text .now)) x (ahead-words d) v,
-      (omega (arith, d .before .before .skip .ensures .0, d .word-end .ensures .0), d .word-end .ensures .0 .1, held-bound (number (word d)) x v),
+      (
+        (omega (arith, d .before .before .skip .ensures .0, d .word-end .ensures .0), d .word-end .ensures .0 .1, held-bound (number (word d)) x v),
+        front-value (drop (a .at) (a .text .now)) (word d) (drop (d .word-end .result) (a .text .now)) x (ahead-words d) v,
+      ),
     )
 
 returns-3 : tie.Need-returns-3
 returns-3 c =
     let d = c .before .before .before .before in
     let a = d .before .before .before .before .args in
-    (first-other (drop (a .at) (a .text .now)) (word d) (drop (d .word-end .result) (a .text .now)) (ahead-words d) (sym (c .before .before .read-word .ensures) ∙ c .enum-told .given .1), tt)
+    let t = drop (a .at) (a .text .now) in
+    let u = drop (d .word-end .result) (a .text .now) in
+    let v = sym (c .before .before .read-word .ensures) ∙ c .enum-told .given .1 in
+    (first-other t (word d) u (ahead-words d) v, (tt, front-other t (word d) u (ahead-words d) v))
 
 pub next-number-spec : {M : Type 1} → statement M
 next-number-spec =

@@ -3,16 +3,19 @@ use lib.Seq.{length-take-le}
 use borrow.Author.Needs.{needs}
 use Rattle.text.specs.declared.Count.the-variants.{All}
 use Rattle.text.specs.Parts.{heldIn, counted}
-use Rattle.text.proofs.ProblemLaws.{parse-long, parse-many, parse-all}
+use Rattle.text.proofs.ProblemLaws.{read-none, read-some, parse-long, parse-many, parse-all}
 use Rattle.text.proofs.parse.Statement.{statement}
 use Rattle.text.proofs.parse.Tie as tie
 
 -- what was read of the text, where all of it are numbers
 read : (c : tie.After-n) → counted (heldIn (c .before .before .before .before .before .before .before .before .before .args .text .now)) (c .before .before .before .before .read-all .last .1 .0) (All (c .n .given .0 .0))
-read c = subst (counted (heldIn (c .before .before .before .before .before .before .before .before .before .args .text .now)) (c .before .before .before .before .read-all .last .1 .0)) (c .n .given .1) (c .before .before .before .before .read-all .ensures)
+read c = subst (counted (heldIn (c .before .before .before .before .before .before .before .before .before .args .text .now)) (c .before .before .before .before .read-all .last .1 .0)) (c .n .given .1) (c .before .before .before .before .read-all .ensures .0)
 
 returns : tie.Need-returns
-returns c = parse-long (c .before .before .before .args .text .now) (c .before .before .before .args .out .now) (c .if1 .taken)
+returns c =
+    let a = c .before .before .before .args in
+    let g = parse-long (a .text .now) (a .out .now) (c .if1 .taken) in
+    (g .0, (g .1, read-none (a .text .now) (a .out .now) (c .if1 .taken)))
 
 read-all-requires : tie.Need-read-all-requires
 read-all-requires c κs = search needs
@@ -38,7 +41,11 @@ same-length c = search needs
 returns-2 : tie.Need-returns-2
 returns-2 c =
     let d = c .before .before .before in
-    parse-all (d .before .before .before .before .before .before .before .before .before .args .text .now) (d .before .before .before .before .read-all .last .1 .0) (d .n .given .0 .0) (c .check .result) (d .before .before .before .before .before .before .if1 .left) (read d .0) (read d .1) (c .check .ensures)
+    let r = d .before .before .before .before in
+    let a = d .before .before .before .before .before .before .before .before .before .args in
+    let h = d .before .before .before .before .before .before .if1 .left in
+    let g = parse-all (a .text .now) (r .read-all .last .1 .0) (d .n .given .0 .0) (c .check .result) h (read d .0) (read d .1) (c .check .ensures) in
+    (g .0, (g .1, r .read-all .ensures .1 ∙ read-some (a .text .now) (a .out .now) h))
 
 same-length-2 : tie.Need-same-length-2
 same-length-2 c = search needs
@@ -47,8 +54,10 @@ returns-3 : tie.Need-returns-3
 returns-3 c =
     let s = c .before .before .before .before .before .before .before .before .before in
     let r = c .before .before .before .before .read-all in
-    parse-many (s .args .text .now) (r .last .1 .0) (c .before .before .before .before .before .before .if1 .left) (r .kept .1 .0 ∙ s .pre)
-    (subst (counted (heldIn (s .args .text .now)) (r .last .1 .0)) (c .enum-told .given .1) (r .ensures))
+    let h = c .before .before .before .before .before .before .if1 .left in
+    let g = parse-many (s .args .text .now) (r .last .1 .0) h (r .kept .1 .0 ∙ s .pre)
+    (subst (counted (heldIn (s .args .text .now)) (r .last .1 .0)) (c .enum-told .given .1) (r .ensures .0)) in
+    (g .0, (g .1, r .ensures .1 ∙ read-some (s .args .text .now) (s .args .out .now) h))
 
 pub parse-spec : {M : Type 1} → statement M
 parse-spec =
