@@ -9,9 +9,13 @@ use borrow.Author.Tests.{ne-eqb, eq-eqb, lt-leb, le-leb, lt-ltb, le-ltb}
 use Rattle.width.proofs.BlockLaws.{le-or-lt}
 use Rattle.machine.specs.Tests.{all}
 use Rattle.machine.specs.Geometry.{Parameters}
-use Rattle.machine.specs.Memory.{rowAt, clear, unsealed}
+use Rattle.machine.specs.Memory.{rowAt, rowsMiss, clear, unsealed}
 use Rattle.machine.proofs.TestLaws.{all-true, all-false}
 use Rattle.machine.proofs.MemoryLaws.{clear-range}
+
+-- a machine with this seal
+abbrev pub sealedBy : ℕ → ℕ → Parameters
+sealedBy seal size = record { rows = 0; pitch = 0; elen = 0; grant = λ max asked. asked; sealAt = seal; sealLen = size }
 
 module _ (M : Parameters) (p n : ℕ) where
   pub clear-no-bytes : n ≡ 0 → true ≡ clear M p n
@@ -43,13 +47,13 @@ module _ (M : Parameters) (p n : ℕ) where
 
 module _ (M : Parameters) (base stride rows n : ℕ) where
   pub unsealed-no-bytes : n ≡ 0 → true ≡ unsealed M base stride rows n
-  unfolding unsealed
+  unfolding rowsMiss
   unsealed-no-bytes e = sym (all-true rows (λ i. clear M (rowAt base stride i) n) (λ i l. sym (clear-no-bytes M (rowAt base stride i) n e)))
 
   pub unsealed-not : (i at : ℕ) → i < rows → at ≡ rowAt base stride i → false ≡ clear M at n → false ≡ unsealed M base stride rows n
-  unfolding unsealed
+  unfolding rowsMiss
   unsealed-not i at l e h = sym (all-false rows (λ i. clear M (rowAt base stride i) n) i l (ap (λ (p : ℕ). clear M p n) (sym e) ∙ sym h))
 
   pub unsealed-all : (i : ℕ) → i ≡ rows → all i (λ i. clear M (rowAt base stride i) n) ≡ true → true ≡ unsealed M base stride rows n
-  unfolding unsealed
+  unfolding rowsMiss
   unsealed-all i e h = sym (ap (λ (i : ℕ). all i (λ i. clear M (rowAt base stride i) n)) (sym e) ∙ h)

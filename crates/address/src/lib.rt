@@ -5,8 +5,7 @@ ghost use Prim.Native.Nat.{_+_, _*_, _^_, _<_};
 ghost use lib.Dec.{leb};
 ghost use lib.IntN.{pos, natAbs, _+ℤ_, _*ℤ_};
 ghost use Rattle.width.specs.Reduce.{signed};
-ghost use Rattle.machine.specs.Geometry.{Parameters};
-ghost use Rattle.machine.specs.Memory.{address, inMemory, inside, clear, unsealed};
+ghost use Rattle.machine.specs.Memory.{address, inMemory, inside, misses, rowsMiss};
 
 // The signed number that the 64 bits of x stand for.
 pub fn as_signed(x: u64) -> i64
@@ -80,9 +79,9 @@ pub fn rows_inside(len: usize, base: usize, stride: u64, rows: usize, bytes: usi
 }
 
 // Whether the n bytes from p on and the seal share none.
-pub fn is_clear(seal: u64, size: u64, p: usize, n: usize) -> bool
+fn is_clear(seal: u64, size: u64, p: usize, n: usize) -> bool
     requires { ⌜ p + n < 2 ^ 64 ⌝ }
-    ensures { λ r. ⌜ ((M : Parameters) → M .sealAt ≡ seal → M .sealLen ≡ size → r ≡ clear M p n) ⌝ }
+    ensures { λ r. ⌜ r ≡ misses seal size p n ⌝ }
 {
     if n == 0 {
         return true;
@@ -115,7 +114,7 @@ pub fn rows_unsealed(
     requires { ⌜ inside len base stride rows bytes ≡ true ⌝ }
     requires { ⌜ len < 2 ^ 63 ⌝ }
     requires { ⌜ rows * bytes < 2 ^ 63 ⌝ }
-    ensures { λ r. ⌜ ((M : Parameters) → M .sealAt ≡ seal → M .sealLen ≡ size → r ≡ unsealed M base stride rows bytes) ⌝ }
+    ensures { λ r. ⌜ r ≡ rowsMiss seal size base stride rows bytes ⌝ }
 {
     if bytes == 0 {
         return true;

@@ -14,7 +14,7 @@ use Rattle.width.proofs.BlockLaws.{le-or-lt}
 use Rattle.machine.specs.Tests.{all}
 use Rattle.machine.proofs.TestLaws.{all-true, all-at, or-not, false-true, same-test, within-not, not-within}
 use Rattle.machine.specs.Geometry.{Parameters}
-use Rattle.machine.specs.Memory.{rowZ, rowAt, address, inMemory, inside, clear, unsealed}
+use Rattle.machine.specs.Memory.{rowZ, rowAt, address, inMemory, inside, misses, rowsMiss, clear, unsealed}
 use Rattle.machine.specs.Geometry.{sealed}
 
 -- the n bytes from z on lie in a memory of len bytes (for n > 0)
@@ -75,12 +75,12 @@ module _ (len base stride rows n : ℕ) where
 -- ---- the seal
 
 pub clear-at : (M : Parameters) (p n : ℕ) → clear M p n ≡ true → (q : ℕ) → In p n q → not (sealed M q) ≡ true
-unfolding clear
+unfolding misses
 clear-at M p n h q x =
     subst (λ (z : ℕ). not (sealed M z) ≡ true) (omega arith) (all-at n (λ b. not (sealed M (p + b))) h (q - p) (omega arith))
 
 pub clear-true : (M : Parameters) (p n : ℕ) → ((q : ℕ) → In p n q → not (sealed M q) ≡ true) → clear M p n ≡ true
-unfolding clear
+unfolding misses
 clear-true M p n h = all-true n (λ b. not (sealed M (p + b))) (λ b l. h (p + b) (omega arith))
 
 -- for code: the test by the ends of the two ranges
@@ -125,11 +125,11 @@ clear-range M p n = same-test (clear M p n) (eqb n 0 || (eqb (M .sealLen) 0 || (
         )
 
 pub unsealed-true : (M : Parameters) (base stride rows n : ℕ) → ((i : ℕ) → i < rows → clear M (rowAt base stride i) n ≡ true) → unsealed M base stride rows n ≡ true
-unfolding unsealed
+unfolding rowsMiss
 unsealed-true M base stride rows n h = all-true rows (λ i. clear M (rowAt base stride i) n) h
 
 pub unsealed-at : (M : Parameters) (base stride rows n : ℕ) → unsealed M base stride rows n ≡ true → (i : ℕ) → i < rows → clear M (rowAt base stride i) n ≡ true
-unfolding unsealed
+unfolding rowsMiss
 unsealed-at M base stride rows n h = all-at rows (λ i. clear M (rowAt base stride i) n) h
 
 -- a part of unsealed bytes is unsealed

@@ -10,7 +10,7 @@ use Rattle.machine.specs.Answers.{Reply}
 use Rattle.machine.specs.Geometry.{permitted}
 use Rattle.machine.specs.Setting.{sew, newType, legalType}
 use Rattle.machine.specs.Refusals.{widthOk, widthOf}
-use Rattle.machine.specs.Memory.{inside, clear, unsealed}
+use Rattle.machine.specs.Memory.{inside, misses, rowsMiss}
 use Rattle.machine.specs.Refusals.{marked}
 use Rattle.machine.specs.Listing.{decode, listing, others}
 use Rattle.machine.specs.Geometry.{Bench}
@@ -149,7 +149,7 @@ examples =
     ∷ []
 
 pub refusals : map (λ l. l .got) examples ≡ map (λ l. l .want) examples
-unfolding examples word bench scalars shown gives unwritten good marking with permitted sew newType legalType widthOk widthOf inside clear unsealed marked listing others decode sound stepBy outcome
+unfolding examples word bench scalars shown gives unwritten good marking with permitted sew newType legalType widthOk widthOf inside misses rowsMiss marked listing others decode sound stepBy outcome
 refusals = refl
 
 -- ---- effects

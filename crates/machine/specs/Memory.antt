@@ -4,8 +4,8 @@ use Prim.Native.Nat.{ℕ, _+_, _*_, _^_}
 use lib.Dec.{ltb}
 use lib.IntN.{ℤ, pos, negsuc, _+ℤ_, _*ℤ_}
 use Rattle.width.specs.Reduce.{signed}
-use Rattle.machine.specs.Tests.{all}
-use Rattle.machine.specs.Geometry.{Parameters, sealed}
+use Rattle.machine.specs.Tests.{all, within}
+use Rattle.machine.specs.Geometry.{Parameters}
 
 -- "Row i lies at rs1 + i x rs2, with rs1 unsigned and rs2 a signed 64-bit stride, as whole numbers that don't wrap."
 abbrev pub rowZ : ℕ → ℕ → ℕ → ℤ
@@ -28,10 +28,18 @@ inMemory len (negsuc p) = false
 unfoldable pub inside : ℕ → ℕ → ℕ → ℕ → ℕ → Bool
 inside len base stride rows n = all rows (λ i. all n (λ b. inMemory len (rowZ base stride i +ℤ pos b)))
 
+-- none of the n bytes from p on is one of the o bytes from q on
+unfoldable pub misses : (q o p n : ℕ) → Bool
+misses q o p n = all n (λ b. not (within q o (p + b)))
+
+-- no byte of a row of n bytes is one of them
+unfoldable pub rowsMiss : (q o base stride rows n : ℕ) → Bool
+rowsMiss q o base stride rows n = all rows (λ i. misses q o (rowAt base stride i) n)
+
 -- none of the n bytes from p on is sealed
-unfoldable pub clear : Parameters → ℕ → ℕ → Bool
-clear M p n = all n (λ b. not (sealed M (p + b)))
+abbrev pub clear : Parameters → ℕ → ℕ → Bool
+clear M p n = misses (M .sealAt) (M .sealLen) p n
 
 -- no byte of a row is sealed
-unfoldable pub unsealed : Parameters → ℕ → ℕ → ℕ → ℕ → Bool
-unsealed M base stride rows n = all rows (λ i. clear M (rowAt base stride i) n)
+abbrev pub unsealed : Parameters → ℕ → ℕ → ℕ → ℕ → Bool
+unsealed M base stride rows n = rowsMiss (M .sealAt) (M .sealLen) base stride rows n

@@ -8,7 +8,7 @@ use lib.ListN.{length, getD, replicate}
 use lib.Dec.{eqb}
 use borrow.Author.Tests.{eqb-true}
 use Rattle.machine.specs.declared.Answer.the-variants.{Done, BadArguments}
-use Rattle.machine.specs.Answers.{reply}
+use Rattle.machine.specs.Answers.{Reply, reply}
 use Rattle.machine.specs.Geometry.{Bench, permitted, registerBytes}
 use Rattle.machine.specs.Alike.{Agree}
 use Rattle.machine.specs.Starting.{startable, startMachine, StartOutcome, freshMachine, noMachine, sealEnds}
@@ -187,5 +187,5 @@ power-up-never-matters grant rlen mlen sealStart sealLength registers registers�
       e,
       λ d acts memory scalars R.
           readings-same grant acts (session (startedBench rlen mlen sealStart sealLength registers marks memory) scalars R) (session (startedBench rlen mlen sealStart sealLength registers′ marks′ memory) scalars R)
-          (record { same-scalars = refl; same-run = refl; alike-benches = starts-alike rlen mlen sealStart sealLength registers registers′ marks marks′ memory d (sym e ∙ d) }),
+          (record { same-scalars = refl; same-run = refl; alike-benches = starts-alike rlen mlen sealStart sealLength registers registers′ marks marks′ memory d (ap (λ (a : Reply). a .number) (sym e) ∙ d) }),
     )

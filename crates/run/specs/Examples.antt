@@ -6,7 +6,7 @@ use lib.ListN.{replicate}
 use Rattle.width.specs.Blocks.{chunks}
 use Rattle.machine.specs.Geometry.{permitted}
 use Rattle.machine.specs.Setting.{smaller, newType, legalType, sew}
-use Rattle.machine.specs.Memory.{inside, clear, unsealed}
+use Rattle.machine.specs.Memory.{inside, misses, rowsMiss}
 use Rattle.machine.specs.Geometry.{Bench}
 use Rattle.machine.specs.Faults.{sound}
 use Rattle.run.specs.declared.Layout.{Layout}
@@ -79,7 +79,7 @@ examples =
     ∷ []
 
 pub starts : map (λ l. l .got) examples ≡ map (λ l. l .want) examples
-unfolding examples bench layout plan gives free small permitted newType legalType sew inside clear unsealed sound narrow msew typeOf startRun format planned lying distinct apart separate
+unfolding examples bench layout plan gives free small permitted newType legalType sew inside misses rowsMiss sound narrow msew typeOf startRun format planned lying distinct apart separate
 starts = refl
 
 -- ---- asking

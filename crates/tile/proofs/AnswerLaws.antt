@@ -2,10 +2,8 @@
 use mathlib.Core.Path.{_≡_, refl, sym, ap, _∙_}
 use mathlib.Core.Bool.{Bool, true, false, cond}
 use mathlib.Core.List.{List, [], _∷_}
-use Prim.Native.Nat.{ℕ}
 use Rattle.machine.specs.declared.Answer.{Answer}
 use Rattle.machine.specs.declared.Answer.the-variants.{Done}
-use Rattle.machine.specs.Geometry.{Parameters}
 use Rattle.machine.specs.Answers.{Check, verdict, isDone}
 use Rattle.machine.proofs.TestLaws.{false-true}
 
@@ -28,7 +26,3 @@ answer-second c₁ c₂ cs e f = rw (e, f)
 
 pub answer-third : (c₁ c₂ c₃ : Check) (cs : List Check) → c₁ .holds ≡ true → c₂ .holds ≡ true → c₃ .holds ≡ false → c₃ .answer ≡ verdict (c₁ ∷ c₂ ∷ c₃ ∷ cs)
 answer-third c₁ c₂ c₃ cs e f g = rw (e, f, g)
-
--- a machine with this seal
-abbrev pub sealedBy : ℕ → ℕ → Parameters
-sealedBy seal size = record { rows = 0; pitch = 0; elen = 0; grant = λ max asked. asked; sealAt = seal; sealLen = size }

@@ -5,8 +5,7 @@ use mathlib.Core.List.{List, [], _∷_}
 use Prim.Native.Nat.{ℕ, _+_, _*_}
 use Rattle.machine.specs.declared.Answer.the-variants.{OutsideMemory, SealedByte}
 use Rattle.machine.specs.Answers.{Check, _otherwise_}
-use Rattle.machine.specs.Geometry.{Parameters}
-use Rattle.machine.specs.Memory.{inside, unsealed}
+use Rattle.machine.specs.Memory.{inside, rowsMiss}
 use Rattle.machine.specs.Refusals.{needs}
 
 abbrev pub marksCheck : List ℕ → (start pitch rows cols w : ℕ) → Check
@@ -15,9 +14,11 @@ marksCheck marks start pitch rows cols w = needs false marks (λ i. start + i * 
 abbrev pub memoryCheck : (len base stride rows n : ℕ) → Check
 memoryCheck len base stride rows n = inside len base stride rows n otherwise OutsideMemory
 
-abbrev pub sealCheck : Parameters → (base stride rows n : ℕ) → Check
-sealCheck M base stride rows n = unsealed M base stride rows n otherwise SealedByte
+abbrev pub sealCheck : (seal size base stride rows n : ℕ) → Check
+sealCheck seal size base stride rows n = rowsMiss seal size base stride rows n otherwise SealedByte
 
-abbrev pub storeChecks : Parameters → List ℕ → (start pitch len base stride rows cols w : ℕ) → List Check
-storeChecks M marks start pitch len base stride rows cols w =
-    marksCheck marks start pitch rows cols w ∷ memoryCheck len base stride rows (cols * w) ∷ sealCheck M base stride rows (cols * w) ∷ []
+abbrev pub storeChecks : (seal size : ℕ) → List ℕ → (start pitch len base stride rows cols w : ℕ) → List Check
+storeChecks seal size marks start pitch len base stride rows cols w =
+    marksCheck marks start pitch rows cols w
+    ∷ memoryCheck len base stride rows (cols * w)
+    ∷ sealCheck seal size base stride rows (cols * w) ∷ []

@@ -16,7 +16,6 @@ ghost use lib.Dec.{ltb};
 ghost use lib.ListN.{length, getD};
 ghost use Rattle.width.specs.Tile.{putTile, markTile};
 ghost use Rattle.machine.specs.Tests.{all, allOf, every};
-ghost use Rattle.machine.specs.Geometry.{Parameters};
 ghost use Rattle.machine.specs.Memory.{rowAt, inside};
 ghost use Rattle.machine.specs.Operation.{element};
 ghost use Rattle.machine.specs.Refusals.{marked, needs};
@@ -274,7 +273,7 @@ fn store_checked(
     requires { ⌜ start + rows * pitch ≤ length (now marks) ⌝ }
     requires { ⌜ cols * w ≤ pitch ⌝ }
     requires { ⌜ len < 2 ^ 63 ⌝ }
-    ensures { λ r. ⌜ ((M : Parameters) → M .sealAt ≡ seal → M .sealLen ≡ size → r ≡ verdict (storeChecks M (now (marks .entry)) start pitch len base stride rows cols w)) ⌝ }
+    ensures { λ r. ⌜ r ≡ verdict (storeChecks seal size (now (marks .entry)) start pitch len base stride rows cols w) ⌝ }
 {
     let bytes = cols * w;
     let at = base as usize;
@@ -309,7 +308,7 @@ pub fn store(
     requires { ⌜ start + rows * pitch ≤ length (now registers) ⌝ }
     requires { ⌜ length (now marks) ≡ length (now registers) ⌝ }
     requires { ⌜ cols * w ≤ pitch ⌝ }
-    ensures { λ r. ⌜ ((M : Parameters) → M .sealAt ≡ seal → M .sealLen ≡ size → r ≡ verdict (storeChecks M (now (marks .entry)) start pitch (length (now (memory .entry))) base stride rows cols w)) ⌝ }
+    ensures { λ r. ⌜ r ≡ verdict (storeChecks seal size (now (marks .entry)) start pitch (length (now (memory .entry))) base stride rows cols w) ⌝ }
     ensures { λ r. ⌜ now (memory .exit) ≡ cond (isDone r) (putTile (rowAt base stride) rows cols w (element (now (registers .entry)) (λ i. start + i * pitch) w) (now (memory .entry))) (now (memory .entry)) ⌝ }
 {
     let answer = store_checked(

@@ -6,26 +6,25 @@ use native.Mathlib.Omega.{arith}
 use mir.Syntax.{w64}
 use mir.Val.{toZ, ofZ}
 use Rattle.machine.specs.Tests.{all}
-use Rattle.machine.specs.Geometry.{Parameters}
-use Rattle.machine.specs.Memory.{rowAt, clear}
+use Rattle.machine.specs.Memory.{rowAt, misses}
 use Rattle.address.proofs.TestLaws.{all-next, test-failed, test-passed}
 use Rattle.address.proofs.AddressLaws.{step, passed-on, row-inside, row-reached, row-starts}
-use Rattle.address.proofs.SealLaws.{unsealed-no-bytes, unsealed-not, unsealed-all}
+use Rattle.address.proofs.SealLaws.{sealedBy, unsealed-no-bytes, unsealed-not, unsealed-all}
 use Rattle.address.proofs.rows_unsealed.Statement.{statement}
 use Rattle.address.proofs.rows_unsealed.Tie as tie
 
 abbrev Inv-loop : tie.InvT-loop
 Inv-loop len seal size base stride rows bytes i₀ i =
-    (i ≤ rows) × ((M : Parameters) → M .sealAt ≡ seal → M .sealLen ≡ size → all i (λ k. clear M (rowAt base stride k) bytes) ≡ true)
+    (i ≤ rows) × (all i (λ k. misses seal size (rowAt base stride k) bytes) ≡ true)
 
 abbrev μ-loop : tie.MeasureT-loop
 μ-loop len seal size base stride rows bytes i₀ i = rows - i
 
 returns : tie.Need-returns Inv-loop μ-loop
-returns c = λ M e f. let a = c .before .args in unsealed-no-bytes M (a .base) (a .stride) (a .rows) (a .bytes) (c .if1 .taken)
+returns c = let a = c .before .args in unsealed-no-bytes (sealedBy (a .seal) (a .size)) (a .base) (a .stride) (a .rows) (a .bytes) (c .if1 .taken)
 
 loop-holds : tie.Need-loop-holds Inv-loop μ-loop
-loop-holds c = (omega arith, λ M e f. refl)
+loop-holds c = (omega arith, refl)
 
 as-signed-requires : tie.Need-as-signed-requires Inv-loop μ-loop
 as-signed-requires c κs = tt
@@ -60,12 +59,11 @@ is-clear-requires c κs = let h = here c in omega (arith, h .1)
 
 returns-2 : tie.Need-returns-2 Inv-loop μ-loop
 returns-2 c =
-    λ M e f.
     let d = c .before .before in
     let t = d .before .before in
     let a = t .before .before .before .args in
-    unsealed-not M (a .base) (a .stride) (a .rows) (a .bytes) (t .before .loop .i) (d .row-address .result) (t .loop-test .taken) (here d .0)
-    (sym (test-failed (c .before .is-clear .result) (clear M (d .row-address .result) (a .bytes)) (c .before .is-clear .ensures M e f) (c .if2 .taken)))
+    unsealed-not (sealedBy (a .seal) (a .size)) (a .base) (a .stride) (a .rows) (a .bytes) (t .before .loop .i) (d .row-address .result) (t .loop-test .taken) (here d .0)
+    (sym (test-failed (c .before .is-clear .result) (misses (a .seal) (a .size) (d .row-address .result) (a .bytes)) (c .before .is-clear .ensures) (c .if2 .taken)))
 
 add-i : tie.Need-add-i Inv-loop μ-loop
 add-i c = omega (arith, c .before .before .before .before .loop-test .taken)
@@ -81,16 +79,15 @@ loop-again c =
     let l = t .before .loop in
     let r = c .before .is-clear in (
       omega (arith, t .loop-test .taken),
-      λ M p q. all-next (l .i) (λ k. clear M (rowAt (a .base) (a .stride) k) (a .bytes)) (l .inv .1 M p q)
-          (ap (λ (x : ℕ). clear M x (a .bytes)) (sym (here d .0)) ∙ test-passed (r .result) (clear M (d .row-address .result) (a .bytes)) (r .ensures M p q) (c .if2 .left)),
+      all-next (l .i) (λ k. misses (a .seal) (a .size) (rowAt (a .base) (a .stride) k) (a .bytes)) (l .inv .1)
+          (ap (λ (x : ℕ). misses (a .seal) (a .size) x (a .bytes)) (sym (here d .0)) ∙ test-passed (r .result) (misses (a .seal) (a .size) (d .row-address .result) (a .bytes)) (r .ensures) (c .if2 .left)),
     )
 
 returns-3 : tie.Need-returns-3 Inv-loop μ-loop
 returns-3 c =
-    λ M e f.
     let a = c .before .before .before .args in
     let l = c .before .loop in
-    unsealed-all M (a .base) (a .stride) (a .rows) (a .bytes) (l .i) (omega arith) (l .inv .1 M e f)
+    unsealed-all (sealedBy (a .seal) (a .size)) (a .base) (a .stride) (a .rows) (a .bytes) (l .i) (omega arith) (l .inv .1)
 
 pub rows-unsealed-spec : {M : Type 1} → statement M
 rows-unsealed-spec =

@@ -3,11 +3,9 @@ use mathlib.Core.List.{List}
 use lib.ListN.{length}
 use borrow.Author.Needs.{needs}
 use Rattle.machine.specs.Answers.{Check, verdict, isDone}
-use Rattle.machine.specs.Geometry.{Parameters}
 use Rattle.machine.proofs.CheckLaws.{Passed, passed, no-refusal}
 use Rattle.address.proofs.TestLaws.{test-failed, test-passed}
 use Rattle.tile.specs.Checks.{storeChecks}
-use Rattle.tile.proofs.AnswerLaws.{sealedBy}
 use Rattle.tile.proofs.store.Statement.{statement}
 use Rattle.tile.proofs.store.Tie as tie
 
@@ -24,23 +22,22 @@ returns c =
     (r .ensures, rw (test-failed (d .result) (isDone (r .result)) (d .ensures) (c .if1 .taken)))
 
 -- the checks, and that they passed
-abbrev checks : tie.Start → Parameters → List Check
-checks s M = let a = s .args in storeChecks M (a .marks .now) (a .start) (a .pitch) (length (a .memory .now)) (a .base) (a .stride) (a .rows) (a .cols) (a .w)
+abbrev checks : tie.Start → List Check
+checks s = let a = s .args in storeChecks (a .seal) (a .size) (a .marks .now) (a .start) (a .pitch) (length (a .memory .now)) (a .base) (a .stride) (a .rows) (a .cols) (a .w)
 
-all-passed : (c : tie.Else1) (M : Parameters) →
-    let s = c .before .before .before .before .before .before in M .sealAt ≡ s .args .seal → M .sealLen ≡ s .args .size → Passed (checks s M)
-all-passed c M e f =
+all-passed : (c : tie.Else1) → Passed (checks (c .before .before .before .before .before .before))
+all-passed c =
     let s = c .before .before .before .before .before .before in
     let r = c .before .before .store-checked in
     let d = c .before .is-done in
-    let h : r .result ≡ verdict (checks s M) = r .ensures M e f in
-    passed (checks s M) refl (sym (ap isDone h) ∙ test-passed (d .result) (isDone (r .result)) (d .ensures) (c .if1 .left))
+    let h : r .result ≡ verdict (checks s) = r .ensures in
+    passed (checks s) refl (sym (ap isDone h) ∙ test-passed (d .result) (isDone (r .result)) (d .ensures) (c .if1 .left))
 
 store-tile-requires : tie.Need-store-tile-requires
 store-tile-requires c κs =
     let d = c .before in
     let s = d .before .before .before .before .before .before in
-    (s .pre .0, (s .pre .1 .1, all-passed d (sealedBy (s .args .seal) (s .args .size)) refl refl .1 .0))
+    (s .pre .0, (s .pre .1 .1, all-passed d .1 .0))
 
 same-length : tie.Need-same-length
 same-length c = search needs
@@ -49,7 +46,7 @@ returns-2 : tie.Need-returns-2
 returns-2 c =
     let d = c .before .before .before .before in
     let s = d .before .before .before .before .before .before in
-    (λ M e f. sym (no-refusal (checks s M) (all-passed d M e f)), c .before .before .store-tile .ensures)
+    (sym (no-refusal (checks s) (all-passed d)), c .before .before .store-tile .ensures)
 
 pub store-spec : {M : Type 1} → statement M
 store-spec =

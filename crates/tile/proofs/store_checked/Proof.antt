@@ -6,8 +6,7 @@ use native.Mathlib.Nat.{mul-le-mul-left}
 use native.Mathlib.Omega.{arith}
 use borrow.Author.Needs.{needs}
 use Rattle.machine.specs.Answers.{Check, isDone}
-use Rattle.machine.specs.Geometry.{Parameters}
-use Rattle.machine.specs.Memory.{inside, unsealed}
+use Rattle.machine.specs.Memory.{inside, rowsMiss}
 use Rattle.machine.proofs.CheckLaws.{no-refusal}
 use Rattle.address.proofs.TestLaws.{test-failed, test-passed}
 use Rattle.tile.specs.Checks.{marksCheck, memoryCheck, sealCheck}
@@ -22,8 +21,8 @@ five s = let a = s .args in marksCheck (a .marks .now) (a .start) (a .pitch) (a 
 abbrev six : tie.Start → Check
 six s = let a = s .args in memoryCheck (a .len) (a .base) (a .stride) (a .rows) (a .cols * a .w)
 
-abbrev seven : tie.Start → Parameters → Check
-seven s M = let a = s .args in sealCheck M (a .base) (a .stride) (a .rows) (a .cols * a .w)
+abbrev seven : tie.Start → Check
+seven s = let a = s .args in sealCheck (a .seal) (a .size) (a .base) (a .stride) (a .rows) (a .cols * a .w)
 
 mul-bytes : tie.Need-mul-bytes
 mul-bytes c = search needs
@@ -36,11 +35,10 @@ is-done-requires c κs = search needs
 
 returns : tie.Need-returns
 returns c =
-    λ M e f.
     let s = c .before .before .before .before in
     let r = c .before .before .first-unmarked in
     let d = c .before .is-done in
-    answer-first (five s) (six s ∷ seven s M ∷ []) (r .result) (r .ensures) (test-failed (d .result) (isDone (r .result)) (d .ensures) (c .if1 .taken))
+    answer-first (five s) (six s ∷ seven s ∷ []) (r .result) (r .ensures) (test-failed (d .result) (isDone (r .result)) (d .ensures) (c .if1 .taken))
 
 -- 5 passed
 five-holds : (c : tie.Else1) → five (c .before .before .before .before) .holds ≡ true
@@ -54,12 +52,11 @@ rows-inside-requires c κs = search needs
 
 returns-2 : tie.Need-returns-2
 returns-2 c =
-    λ M e f.
     let d = c .before .before in
     let s = d .before .before .before .before in
     let a = s .args in
     let i = c .before .rows-inside in
-    answer-second (five s) (six s) (seven s M ∷ []) (five-holds d)
+    answer-second (five s) (six s) (seven s ∷ []) (five-holds d)
     (test-failed (i .result) (inside (a .len) (a .base) (a .stride) (a .rows) (a .cols * a .w)) (i .ensures) (c .if2 .taken))
 
 -- 6 passed
@@ -76,25 +73,23 @@ rows-unsealed-requires c κs =
 
 returns-3 : tie.Need-returns-3
 returns-3 c =
-    λ M e f.
     let g = c .before .before in
     let d = g .before .before in
     let s = d .before .before .before .before in
     let a = s .args in
     let u = c .before .rows-unsealed in
-    answer-third (five s) (six s) (seven s M) [] (five-holds d) (six-holds g)
-    (test-failed (u .result) (unsealed M (a .base) (a .stride) (a .rows) (a .cols * a .w)) (u .ensures M e f) (c .if3 .taken))
+    answer-third (five s) (six s) (seven s) [] (five-holds d) (six-holds g)
+    (test-failed (u .result) (rowsMiss (a .seal) (a .size) (a .base) (a .stride) (a .rows) (a .cols * a .w)) (u .ensures) (c .if3 .taken))
 
 returns-4 : tie.Need-returns-4
 returns-4 c =
-    λ M e f.
     let g = c .before .before in
     let d = g .before .before in
     let s = d .before .before .before .before in
     let a = s .args in
     let u = c .before .rows-unsealed in
-    let h = test-passed (u .result) (unsealed M (a .base) (a .stride) (a .rows) (a .cols * a .w)) (u .ensures M e f) (c .if3 .left) in
-    sym (no-refusal (five s ∷ six s ∷ seven s M ∷ []) (five-holds d, (six-holds g, (h, tt))))
+    let h = test-passed (u .result) (rowsMiss (a .seal) (a .size) (a .base) (a .stride) (a .rows) (a .cols * a .w)) (u .ensures) (c .if3 .left) in
+    sym (no-refusal (five s ∷ six s ∷ seven s ∷ []) (five-holds d, (six-holds g, (h, tt))))
 
 pub store-checked-spec : {M : Type 1} → statement M
 store-checked-spec =

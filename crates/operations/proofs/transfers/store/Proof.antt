@@ -50,7 +50,7 @@ returns-2 c =
     let t = l .before .before in
     let a = t .before .before .before .before .before .before .before .args in
     store-done (a .m) (a .registers .now) (a .marks .now) (a .memory .now) (a .matrix) (a .ms3) (a .width) (a .base) (a .stride) (t .tile-of .result) (t .tile-of .ensures) (checked (t .before)) (l .store .result) _
-    (l .store .ensures .0 (ours (a .m)) refl refl) (l .store .ensures .1)
+    (l .store .ensures .0) (l .store .ensures .1)
 
 pub store-spec : {M : Type 1} → statement M
 store-spec = tie.close (tie.spec check-transfer-requires is-done-requires returns tile-of-requires store-requires same-length returns-2)

@@ -112,7 +112,7 @@ returns-4 c =
     let e = f .before .before .before .before in
     let w = e .before .before in
     let s = w .before .before .before in
-    counted (cUnsealed (s .args .plan) (machine s)) (w .wide-row .ensures .0) (c .rows-unsealed .ensures (machine s) refl refl)
+    counted (cUnsealed (s .args .plan) (machine s)) (w .wide-row .ensures .0) (c .rows-unsealed .ensures)
     ∙ seal-decides (s .args .plan) (machine s) (rows-differ e) (from-a f) (test-passed (d .rows-apart2 .result) (fromB (s .args .plan)) (b-test d) (g .if3 .left))
 
 pub is-separate-spec : {M : Type 1} → statement M
