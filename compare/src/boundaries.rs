@@ -15,7 +15,7 @@ use model::{maximum, sew, Kind, Machine, Matrix, Row, Size, LEFT_OUT, LISTING, M
 type Made = (Case, u64);
 type Boundary = (&'static str, fn(&mut Random) -> Made);
 
-const BOUNDARIES: [Boundary; 36] = [
+const BOUNDARIES: [Boundary; 37] = [
     ("first and last byte of memory", whole_memory),
     ("one byte past the end", one_past_the_end),
     ("one byte before address 0", one_before_the_start),
@@ -39,6 +39,7 @@ const BOUNDARIES: [Boundary; 36] = [
     ("an unmarked element", unmarked_element),
     ("overlapping rows of a store", overlapping_rows),
     ("settings with both x0", both_x0),
+    ("settings with both x0 while mill is set", both_x0_and_mill),
     ("x0 asked as a maximum", asked_maximum),
     ("mtype after each value", new_mtype),
     ("a word while mill is set", mill_set),
@@ -469,17 +470,28 @@ fn overlapping_rows(random: &mut Random) -> Made {
     (moving.lay(random, -lowest, stride, extent), 0)
 }
 
-/// Sizes may stand above the maximum, and stay there.
+/// Every size below, at and above its maximum, as far as it can be.
 fn both_x0(random: &mut Random) -> Made {
     let name = random.pick(&["msettilem", "msettilek", "msettilen"]);
     let mtype = random.pick(&MTYPES);
     let mut machine = good_machine(random, mtype);
     for size in SIZES {
-        let value = random.range(0, maximum(&machine, size, 8) as u64) as i128;
+        let limit = maximum(&machine, size, sew(mtype));
+        let widest = maximum(&machine, size, 8);
+        let any = random.range(0, widest as u64) as i128;
+        let value = random.pick(&[0, limit - 1, limit, (limit + 1).min(widest), widest, any]);
         set_size(&mut machine, size, value);
     }
     let lent = bench_of(random, &machine);
     (Case { word: model::assemble(name, &[]), lent }, 0)
+}
+
+fn both_x0_and_mill(random: &mut Random) -> Made {
+    let (mut case, _) = both_x0(random);
+    let mut machine = case.lent.machine();
+    machine.mtype = MILL;
+    case.lent.set_machine(&machine);
+    (case, 2)
 }
 
 fn asked_maximum(random: &mut Random) -> Made {

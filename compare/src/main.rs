@@ -13,6 +13,7 @@ mod lent;
 mod library;
 mod powerup;
 mod random;
+mod renewed;
 mod runs;
 mod sheet;
 mod starts;
@@ -25,7 +26,7 @@ mod words;
 use std::time::Instant;
 use suite::{Context, Outcome, Suite};
 
-const SUITES: [Suite; 22] = [
+const SUITES: [Suite; 23] = [
     ("bench sheet", sheet::bench_sheet),
     ("machine starts", starts::machine_starts),
     ("codes", steps::codes),
@@ -34,6 +35,7 @@ const SUITES: [Suite; 22] = [
     ("boundaries", boundaries::boundaries),
     ("random steps", steps::random_steps),
     ("several faults", steps::several_faults),
+    ("renewed sizes", renewed::renewed_sizes),
     ("sequences", steps::sequences),
     ("power-up words", powerup::power_up_words),
     ("damaged steps", damage::damaged_steps),

@@ -1,5 +1,6 @@
 //! The second program: the rules of the scope paper and of the change requests
-//! that have landed (One; Nine asks for nothing new), each as one plain function.
+//! that have landed (One, Three; Nine asks for nothing new), each as one plain
+//! function.
 //!
 //! It is written to be read beside the paper, not to be fast. Sizes and
 //! addresses are whole numbers (`i128`), bytes are looked at one by one, and a
@@ -600,7 +601,8 @@ fn set_tile_size(machine: &mut Machine, size: Size, value: u64) {
     }
 }
 
-/// The size a setting word asks for; nothing is asked with both rs1 and rd x0.
+/// The size a setting word asks for. With both rs1 and rd x0 nothing is asked: the
+/// size as it stands is cut to the maximum (request Three).
 fn asked_size(instruction: &Instruction, scalars: &[u64], maximum: i128) -> Option<i128> {
     if let Some(immediate) = instruction.operand("mleni") {
         return Some(immediate as i128);
@@ -843,11 +845,12 @@ fn set_type(instruction: &Instruction, machine: &mut Machine, scalars: &mut [u64
 
 fn set_size(instruction: &Instruction, size: Size, machine: &mut Machine, scalars: &mut [u64]) {
     let maximum = maximum(machine, size, sew(machine.mtype));
-    if let Some(asked) = asked_size(instruction, scalars, maximum) {
-        let granted = asked.min(maximum) as u64;
-        set_tile_size(machine, size, granted);
-        set_scalar(scalars, instruction.get("rd"), granted);
-    }
+    let new_size = match asked_size(instruction, scalars, maximum) {
+        Some(asked) => asked.min(maximum),
+        None => tile_size(machine, size).min(maximum),
+    };
+    set_tile_size(machine, size, new_size as u64);
+    set_scalar(scalars, instruction.get("rd"), new_size as u64);
 }
 
 /// The bytes that a load or store moves, row by row: each one's address and its

@@ -19,7 +19,7 @@ use Rattle.machine.specs.Geometry.{elen, permitted, registerBytes, Parameters, 
 use Rattle.machine.specs.Setting.{newType, smaller}
 use Rattle.machine.specs.Starting.{sealEnds}
 use Rattle.machine.specs.Listing.{decode}
-use Rattle.machine.specs.Operation.{Operation, illegal, setType, setSize, keepSize, load, store, multiply, combine, scale, tileRows, tileCols}
+use Rattle.machine.specs.Operation.{Operation, illegal, setType, setSize, cutSize, load, store, multiply, combine, scale, tileRows, tileCols}
 use Rattle.machine.specs.Refusals.{checks}
 use Rattle.machine.specs.Faults.{sound, soundBench}
 use Rattle.machine.specs.Step
@@ -100,7 +100,7 @@ module _ (M : Parameters) (st : State) (mem : List ℕ) (hm : st .tileM ≤ 64) 
   checks-small (illegal Register) = (zeros, tt)
   checks-small (setType v) = tt
   checks-small (setSize d a) = (zeros, tt)
-  checks-small keepSize = (zeros, tt)
+  checks-small (cutSize d) = (zeros, tt)
   checks-small (load k r w base stride) = (zeros, (zeros, (zeros, (zeros, (zeros, tt)))))
   checks-small (store k r w base stride) = (zeros, (zeros, (zeros, (zeros, (within _ _ _ _ (rows-small k) (cols-small k), (zeros, (zeros, tt)))))))
   checks-small (multiply f d a b) =

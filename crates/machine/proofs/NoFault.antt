@@ -197,7 +197,33 @@ module _ (M : Parameters) (G : Grants (M .grant)) (of-elen : M .elen ≡ elen) (
     k-fits = h .k-fits;
     n-fits = omega (arith, grant-le (M .grant) G (maxN M (st .mtype)) a, div-le-self (M .pitch) (sew (st .mtype)));
   }
-  sane-after Operation.keepSize st mem h = h
+  sane-after (Operation.cutSize DimensionM) st mem h = record {
+    regs-length = h .regs-length;
+    marks-length = h .marks-length;
+    marks-two = h .marks-two;
+    type-arises = h .type-arises;
+    m-fits = omega (arith, h .m-fits);
+    k-fits = h .k-fits;
+    n-fits = h .n-fits;
+  }
+  sane-after (Operation.cutSize DimensionK) st mem h = record {
+    regs-length = h .regs-length;
+    marks-length = h .marks-length;
+    marks-two = h .marks-two;
+    type-arises = h .type-arises;
+    m-fits = h .m-fits;
+    k-fits = omega (arith, h .k-fits);
+    n-fits = h .n-fits;
+  }
+  sane-after (Operation.cutSize DimensionN) st mem h = record {
+    regs-length = h .regs-length;
+    marks-length = h .marks-length;
+    marks-two = h .marks-two;
+    type-arises = h .type-arises;
+    m-fits = h .m-fits;
+    k-fits = h .k-fits;
+    n-fits = omega (arith, h .n-fits);
+  }
   sane-after (Operation.load k r w b s) st mem h = wrote st _ _ _ _ _ h
   sane-after (Operation.store k r w b s) st mem h = h
   sane-after (Operation.combine o f d a) st mem h = wrote st _ _ _ _ _ h

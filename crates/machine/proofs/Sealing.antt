@@ -38,7 +38,7 @@ refusing M (Operation.illegal Unlisted) st mem = refl
 refusing M (Operation.illegal Register) st mem = refl
 refusing M (Operation.setType v) st mem = refl
 refusing M (Operation.setSize d a) st mem = refl
-refusing M Operation.keepSize st mem = refl
+refusing M (Operation.cutSize d) st mem = refl
 refusing M (Operation.load k r w b s) st mem = refl
 refusing M (Operation.store k r w b s) st mem = refl
 refusing M (Operation.multiply f d a b) st mem = refl
@@ -50,7 +50,7 @@ module _ (M : Parameters) (st : State) (mem : List ℕ) where
   operation-length (Operation.illegal wrong) = refl
   operation-length (Operation.setType v) = refl
   operation-length (Operation.setSize d a) = refl
-  operation-length Operation.keepSize = refl
+  operation-length (Operation.cutSize d) = refl
   operation-length (Operation.load k r w b s) = refl
   operation-length (Operation.store k r w b s) = length-putTile _ _ _ _ _ mem
   operation-length (Operation.multiply f d a b) = refl
@@ -61,7 +61,7 @@ module _ (M : Parameters) (st : State) (mem : List ℕ) where
   operation-sealed (Operation.illegal wrong) p q h = refl
   operation-sealed (Operation.setType v) p q h = refl
   operation-sealed (Operation.setSize d a) p q h = refl
-  operation-sealed Operation.keepSize p q h = refl
+  operation-sealed (Operation.cutSize d) p q h = refl
   operation-sealed (Operation.load k r w b s) p q h = refl
   operation-sealed (Operation.store k r w b s) p q h =
       putTile-out (rowAt b s) _ _ w _ mem q (λ i l x.

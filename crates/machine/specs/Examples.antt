@@ -154,13 +154,14 @@ refusals = refl
 
 -- ---- effects
 
--- settings by rs1: the scalar; the maximum where only rd is given; and with both x0 the size stays, even above the maximum
+-- settings by rs1: the scalar; the maximum where only rd is given; and with both x0 the smaller of the size and the maximum (02, Three)
 pub settings : List Line
 settings =
     (let o = step (word 0b0011000 0 10 7 3) (scalars 1 0) good in record { got = o .bench .machine .«tile_m» ∷ getD (o .scalars) 3 9 ∷ []; want = 1 ∷ 1 ∷ [] })
     ∷ (let o = step (word 0b0111000 0 0 7 3) (scalars 1 0) good in record { got = o .bench .machine .«tile_n» ∷ getD (o .scalars) 3 9 ∷ []; want = 8 ∷ 8 ∷ [] })
     ∷ (let o = step (word 0b0101000 0 0 7 10) (scalars 1 0) good in record { got = o .bench .machine .«tile_k» ∷ getD (o .scalars) 10 9 ∷ []; want = 2 ∷ 2 ∷ [] })
-    ∷ (let o = step (word 0b0111000 0 0 7 0) (scalars 1 0) (bench 1 2 2 8 0 0 1) in record { got = o .bench .machine .«tile_n» ∷ getD (o .scalars) 0 9 ∷ []; want = 8 ∷ 0 ∷ [] })
+    ∷ (let o = step (word 0b0111000 0 0 7 0) (scalars 1 0) (bench 1 2 2 8 0 0 1) in record { got = o .bench .machine .«tile_n» ∷ getD (o .scalars) 0 9 ∷ []; want = 4 ∷ 0 ∷ [] })
+    ∷ (let o = step (word 0b0111000 0 0 7 0) (scalars 1 0) (bench 1 2 2 3 0 0 1) in record { got = o .bench .machine .«tile_n» ∷ getD (o .scalars) 0 9 ∷ []; want = 3 ∷ 0 ∷ [] })
     ∷ (let o = step (word 0b0111000 0 11 7 11) (scalars 1 100) good in record { got = o .bench .machine .«tile_n» ∷ getD (o .scalars) 11 9 ∷ []; want = 8 ∷ 8 ∷ [] })
     ∷ (let o = step (word 0b0001000 0 0 7 4) (scalars 1 100) (bench 8 2 2 2 0 0 1) in record { got = o .bench .machine .mtype ∷ getD (o .scalars) 4 9 ∷ []; want = 0 ∷ 0 ∷ [] })
     -- slot 0 is read as 0 and never written
@@ -171,6 +172,34 @@ settings =
 pub settings-right : map (λ l. l .got) settings ≡ map (λ l. l .want) settings
 unfolding settings word bench scalars good permitted sew newType legalType listing others decode sound stepBy outcome
 settings-right = refl
+
+-- 02, Three: "A technician changed from 8 to 16 bits, renewed his sizes in this way and was refused with 4." Words one after another,
+-- with a memory row of 8 bytes at 0 and at 8
+pub after : List ℕ → Bench → Bench
+after [] B = B
+after (w ∷ ws) B = after ws (step w (scalars 0 8) B .bench)
+
+-- msettypei to 16 bits; msettilem, msettilek and msettilen with rs1 and rd both x0
+pub changed : List ℕ
+changed = word 0b0000000 0 1 7 0 ∷ []
+
+pub renewed : List ℕ
+renewed = word 0b0000000 0 1 7 0 ∷ word 0b0011000 0 0 7 0 ∷ word 0b0101000 0 0 7 0 ∷ word 0b0111000 0 0 7 0 ∷ []
+
+pub sizesOf : Bench → List ℕ
+sizesOf B = B .machine .«tile_m» ∷ B .machine .«tile_k» ∷ B .machine .«tile_n» ∷ []
+
+-- a load of B of 16 bits, before and after
+pub technician : List Line
+technician =
+    gives (step (word 0b0000100 11 10 1 0) (scalars 0 8) (after changed (bench 0 2 2 8 0 0 1))) 4
+    ∷ gives (step (word 0b0000100 11 10 1 0) (scalars 0 8) (after renewed (bench 0 2 2 8 0 0 1))) 0
+    ∷ record { got = sizesOf (after renewed (bench 0 2 2 8 0 0 1)); want = 2 ∷ 2 ∷ 4 ∷ [] }
+    ∷ []
+
+pub technician-right : map (λ l. l .got) technician ≡ map (λ l. l .want) technician
+unfolding technician after changed renewed sizesOf word bench scalars shown gives permitted sew newType legalType widthOf inside misses rowsMiss listing others decode sound stepBy outcome
+technician-right = refl
 
 -- acc0 and acc1 hold 0xFB, -5 at SEW 8, in every byte: one element of each instruction, with the byte after it
 pub bytes : Outcome → ℕ → List ℕ

@@ -18,30 +18,29 @@ use Rattle.machine.specs.declared.Wrong.{Wrong}
 use Rattle.machine.specs.declared.Instruction.{Instruction}
 use Rattle.machine.specs.declared.Instruction.the-variants.{Illegal, SetTypeImmediate, SetType, SetTileImmediate, SetTile, Load, Store, Multiply, Combine, Scale, ScaleImmediate}
 use Rattle.machine.specs.Geometry.{Parameters, State, registerAt, tileAt, accAt, scalar}
-use Rattle.machine.specs.Setting.{sew, newType, maximum, sizeIn}
+use Rattle.machine.specs.Setting.{sew, newType, maximum, sizeIn, smaller}
 use Rattle.machine.specs.Memory.{rowAt}
 
 -- ---- an instruction with the values of its scalars
 
--- a new mtype; a size that is asked, or none; a matrix, a register, a width, an address and a stride; an output factor, md, ms1
+-- a new mtype; a size that is asked, or none, which cuts the size; a matrix, a register, a width, an address and a stride; an output factor, md, ms1
 -- and ms2; an output factor, md, ms1 and the multiplier
 pub data Operation : Type 0 where
   illegal : Wrong → Operation
   setType : ℕ → Operation
   setSize : Dimension → ℕ → Operation
-  keepSize : Operation
+  cutSize : Dimension → Operation
   load : Matrix → (r w base stride : ℕ) → Operation
   store : Matrix → (r w base stride : ℕ) → Operation
   multiply : (f d a b : ℕ) → Operation
   combine : Sum → (f d a : ℕ) → Operation
   scale : (f d a : ℕ) → ℤ → Operation
 
--- "The asked size is .. rs1 not x0, the scalar; rs1 x0 and rd not x0, the maximum. With both x0 nothing is asked: the size keeps
--- its value as it stands, even above the maximum."
+-- "The asked size is .. rs1 not x0, the scalar; rs1 x0 and rd not x0, the maximum. With both x0 nothing is asked"
 abbrev pub askedSize : Parameters → State → Dimension → ℕ → ℕ → List ℕ → Operation
 askedSize M st d rd rs1 xs =
     cond (eqb rs1 0)
-    (cond (eqb rd 0) keepSize (setSize d (maximum M (st .mtype) d)))
+    (cond (eqb rd 0) (cutSize d) (setSize d (maximum M (st .mtype) d)))
     (setSize d (scalar xs rs1))
 
 -- "at 1, 2 or 4 times SEW"
@@ -133,11 +132,11 @@ scaledAt M x s wide narrow a i j = reduce (256 ^ wide) (signed (256 ^ narrow) (e
 abbrev pub sized : State → ℕ → ℕ → ℕ → ℕ → State
 sized st t m k n = record { regs = st .regs; marks = st .marks; mtype = t; tileM = m; tileK = k; tileN = n }
 
--- the size of a dimension, as the machine grants it
-abbrev pub resized : Parameters → Dimension → ℕ → State → State
-resized M DimensionM a st = sized st (st .mtype) (M .grant (maximum M (st .mtype) DimensionM) a) (st .tileK) (st .tileN)
-resized M DimensionK a st = sized st (st .mtype) (st .tileM) (M .grant (maximum M (st .mtype) DimensionK) a) (st .tileN)
-resized M DimensionN a st = sized st (st .mtype) (st .tileM) (st .tileK) (M .grant (maximum M (st .mtype) DimensionN) a)
+-- another size of a dimension
+abbrev pub resized : Dimension → ℕ → State → State
+resized DimensionM a st = sized st (st .mtype) a (st .tileK) (st .tileN)
+resized DimensionK a st = sized st (st .mtype) (st .tileM) a (st .tileN)
+resized DimensionN a st = sized st (st .mtype) (st .tileM) (st .tileK) a
 
 -- "All sources are read before md changes, also when md is ms1. Only bytes of C's elements change or gain a mark": every value is
 -- taken from the state before, and only the bytes of the elements are written
@@ -145,8 +144,10 @@ abbrev pub stateAfter : Parameters → Operation → State → List ℕ → Stat
 stateAfter M (illegal wrong) st mem = st
 -- "Tile sizes stay."
 stateAfter M (setType v) st mem = sized st (newType (M .elen) v) (st .tileM) (st .tileK) (st .tileN)
-stateAfter M (setSize d a) st mem = resized M d a st
-stateAfter M keepSize st mem = st
+-- "The new tile size is the smaller of the asked size and the maximum", or as the machine grants it
+stateAfter M (setSize d a) st mem = resized d (M .grant (maximum M (st .mtype) d) a) st
+-- 02, Three: "the size is kept if less than the maximum. From now on it becomes the smaller of the two."
+stateAfter M (cutSize d) st mem = resized d (smaller (maximum M (st .mtype) d) (sizeIn d st)) st
 stateAfter M (load k r w base stride) st mem =
     written st (registerAt M k r) (tileRows st k) (tileCols st k) w (element mem (rowAt base stride) w)
 stateAfter M (store k r w base stride) st mem = st
@@ -162,7 +163,7 @@ abbrev pub memoryAfter : Parameters → Operation → State → List ℕ → Lis
 memoryAfter M (illegal wrong) st mem = mem
 memoryAfter M (setType v) st mem = mem
 memoryAfter M (setSize d a) st mem = mem
-memoryAfter M keepSize st mem = mem
+memoryAfter M (cutSize d) st mem = mem
 memoryAfter M (load k r w base stride) st mem = mem
 memoryAfter M (store k r w base stride) st mem = putTile (rowAt base stride) (tileRows st k) (tileCols st k) w (element (st .regs) (registerAt M k r) w) mem
 memoryAfter M (multiply f d a b) st mem = mem
@@ -174,7 +175,7 @@ abbrev pub resultOf : Operation → State → ℕ
 resultOf (illegal wrong) st = 0
 resultOf (setType v) st = st .mtype
 resultOf (setSize d a) st = sizeIn d st
-resultOf keepSize st = 0
+resultOf (cutSize d) st = 0
 resultOf (load k r w base stride) st = 0
 resultOf (store k r w base stride) st = 0
 resultOf (multiply f d a b) st = 0

@@ -18,7 +18,7 @@ use Rattle.machine.specs.Answers.{Check, _otherwise_}
 use Rattle.machine.specs.Geometry.{Parameters, State, registerAt, tileAt, accAt}
 use Rattle.machine.specs.Setting.{sew, maccq, mill, maximum, sizeIn}
 use Rattle.machine.specs.Memory.{inside, unsealed}
-use Rattle.machine.specs.Operation.{Operation, illegal, setType, setSize, keepSize, load, store, multiply, combine, scale, rowsOf, columnsOf, tileRows, tileCols}
+use Rattle.machine.specs.Operation.{Operation, illegal, setType, setSize, cutSize, load, store, multiply, combine, scale, rowsOf, columnsOf, tileRows, tileCols}
 
 -- 10, 11, 1, 12: a word that is refused for what it is
 abbrev pub wordAnswer : Wrong → Answer
@@ -74,7 +74,7 @@ abbrev pub checks : Parameters → Operation → State → List ℕ → List Che
 checks M (illegal wrong) st mem = (false otherwise wordAnswer wrong) ∷ []
 checks M (setType v) st mem = []
 checks M (setSize d a) st mem = typed st ∷ []
-checks M keepSize st mem = typed st ∷ []
+checks M (cutSize d) st mem = typed st ∷ []
 checks M (load k r w base stride) st mem =
     typed st
     ∷ (widthOf (M .elen) (st .mtype) k w otherwise BadWidth)

@@ -2,7 +2,7 @@
 use Prim.Native.Nat.{ℕ}
 use mathlib.Core.Path.{_≡_, refl, sym, ap, ap₂, _∙_}
 use mathlib.Core.Bool.{Bool, true, false, cond, not}
-use mathlib.Core.List.{List}
+use mathlib.Core.List.{List, []}
 use lib.Dec.{eqb}
 use borrow.Author.Tests.{eqb-true}
 use Rattle.machine.specs.declared.Machine.{Machine}
@@ -18,13 +18,13 @@ use Rattle.machine.proofs.StepLaws.{step-refused}
 use Rattle.machine.specs.Listing.{decode}
 use Rattle.machine.specs.Answers.{reply, verdict, isDone}
 use Rattle.machine.specs.Geometry.{elen, State, stateOf, machineAfter, Bench, benchOf, scalar, withScalar}
-use Rattle.machine.specs.Setting.{mill, newType, maximum, smaller}
+use Rattle.machine.specs.Setting.{mill, newType, maximum, smaller, sizeIn}
 use Rattle.machine.specs.Operation.{Operation, askedSize, stateAfter, memoryAfter, resultOf}
 use Rattle.machine.specs.Refusals.{wordAnswer, checks}
 use Rattle.machine.specs.Faults.{sound, soundBench, thirtyTwo}
 use Rattle.machine.specs.Step.{Outcome, outcome, step, stepBy, given, meant, left, destination}
 use Rattle.machine.proofs.CodeLaws.{outcome-by, outcome-of}
-use Rattle.settings.specs.Parts.{ours, withType, withSize, granted, sizeStepped, sizeScalars, keepStepped, tileStepped, tileScalars}
+use Rattle.settings.specs.Parts.{ours, withType, withSize, granted, sizeStepped, sizeScalars, cutStepped, tileStepped, tileScalars}
 use Rattle.operations.specs.Parts.{WritesRegisters, WritesMemory}
 
 -- ---- the outcome of each family
@@ -88,17 +88,31 @@ module _ (m : Machine) (i : Instruction) (xs regs marks mem : List ℕ) (s : sou
           }) (sym e) (sym er)
           ∙ outcome-by (ours m) i xs B s t Done (v ∙ rw b)
 
-  pub keep-outcome : (rd : ℕ) → meant (ours m) i xs B ≡ Operation.keepSize → destination i ≡ 0
-      → leaves (keepStepped m .answer) (keepStepped m .machine) xs regs marks mem ≡ here
-  keep-outcome rd e er = go (mill (m .mtype)) refl
+  pub cut-outcome : (d : Dimension) → meant (ours m) i xs B ≡ Operation.cutSize d → destination i ≡ 0
+      → leaves (cutStepped m d .answer) (cutStepped m d .machine) xs regs marks mem ≡ here
+  cut-outcome d e er = go (mill (m .mtype)) refl
     where
       v : verdict (checks (ours m) (meant (ours m) i xs B) (given (ours m) i xs B) mem) ≡ cond (not (mill (m .mtype))) Done IllegalType
       v = ap (λ (o : Operation). verdict (checks (ours m) o (given (ours m) i xs B) mem)) e
 
-      go : (b : Bool) → mill (m .mtype) ≡ b → leaves (cond {A = Stepped} b (record { answer = IllegalType; machine = m }) (record { answer = Done; machine = m }) .answer) (cond {A = Stepped} b (record { answer = IllegalType; machine = m }) (record { answer = Done; machine = m }) .machine) xs regs marks mem ≡ here
+      least : ℕ
+      least = smaller (maximum (ours m) (m .mtype) d) (sizeIn d (stateOf m [] []))
+
+      cut-is : (d : Dimension) → leaves Done (withSize m d (smaller (maximum (ours m) (m .mtype) d) (sizeIn d (stateOf m [] [])))) xs regs marks mem
+          ≡ record {
+            answer = reply Done;
+            bench = benchOf (machineAfter m (stateAfter (ours m) (Operation.cutSize d) (stateOf m regs marks) mem)) (stateAfter (ours m) (Operation.cutSize d) (stateOf m regs marks) mem .regs) (stateAfter (ours m) (Operation.cutSize d) (stateOf m regs marks) mem .marks) mem;
+            scalars = xs;
+          }
+      cut-is DimensionM = refl
+      cut-is DimensionK = refl
+      cut-is DimensionN = refl
+
+      go : (b : Bool) → mill (m .mtype) ≡ b → leaves (cond {A = Stepped} b (record { answer = IllegalType; machine = m }) (record { answer = Done; machine = withSize m d least }) .answer) (cond {A = Stepped} b (record { answer = IllegalType; machine = m }) (record { answer = Done; machine = withSize m d least }) .machine) xs regs marks mem ≡ here
       go true b = outcome-by (ours m) i xs B s t IllegalType (v ∙ rw b)
       go false b =
-          ap₂ (λ (o : Operation) (rd : ℕ). record {
+          cut-is d
+          ∙ ap₂ (λ (o : Operation) (rd : ℕ). record {
             answer = reply Done;
             bench = benchOf (machineAfter m (stateAfter (ours m) o (stateOf m regs marks) mem)) (stateAfter (ours m) o (stateOf m regs marks) mem .regs) (stateAfter (ours m) o (stateOf m regs marks) mem .marks) (memoryAfter (ours m) o (stateOf m regs marks) mem);
             scalars = withScalar xs rd (resultOf o (stateAfter (ours m) o (stateOf m regs marks) mem));
@@ -111,16 +125,16 @@ module _ (m : Machine) (i : Instruction) (xs regs marks mem : List ℕ) (s : sou
   tile-outcome d rd rs1 e er = go (eqb rs1 0) refl (eqb rd 0) refl
     where
       stepped : Bool → Bool → Stepped
-      stepped b c = cond b (cond c (keepStepped m) (sizeStepped m d (maximum (ours m) (m .mtype) d))) (sizeStepped m d (scalar xs rs1))
+      stepped b c = cond b (cond c (cutStepped m d) (sizeStepped m d (maximum (ours m) (m .mtype) d))) (sizeStepped m d (scalar xs rs1))
 
       written : Bool → Bool → List ℕ
       written b c = cond b (cond c xs (sizeScalars m d (maximum (ours m) (m .mtype) d) rd xs)) (sizeScalars m d (scalar xs rs1) rd xs)
 
       asked : Bool → Bool → Operation
-      asked b c = cond b (cond c Operation.keepSize (Operation.setSize d (maximum (ours m) (m .mtype) d))) (Operation.setSize d (scalar xs rs1))
+      asked b c = cond b (cond c (Operation.cutSize d) (Operation.setSize d (maximum (ours m) (m .mtype) d))) (Operation.setSize d (scalar xs rs1))
 
       go : (b : Bool) → eqb rs1 0 ≡ b → (c : Bool) → eqb rd 0 ≡ c → leaves (stepped b c .answer) (stepped b c .machine) (written b c) regs marks mem ≡ here
-      go true eb true ec = keep-outcome 0 (e ∙ ap₂ asked eb ec) (er ∙ eqb-true rd 0 ec)
+      go true eb true ec = cut-outcome d (e ∙ ap₂ asked eb ec) (er ∙ eqb-true rd 0 ec)
       go true eb false ec = size-outcome d (maximum (ours m) (m .mtype) d) rd (e ∙ ap₂ asked eb ec) er
       go false eb c ec = size-outcome d (scalar xs rs1) rd (e ∙ ap₂ asked eb ec) er
 

@@ -21,7 +21,7 @@ use Rattle.machine.specs.declared.Instruction.{Instruction}
 use Rattle.machine.specs.declared.Instruction.the-variants.{Illegal, SetTypeImmediate, SetType, SetTileImmediate, SetTile, Load, Store, Multiply, Combine, Scale, ScaleImmediate}
 use Rattle.machine.specs.Answers.{reply, Check, _otherwise_, verdict, isDone}
 use Rattle.machine.specs.Geometry.{Parameters, parameters, State, machineAfter, Bench, benchOf, registerAt, tileAt, accAt, withScalar}
-use Rattle.machine.specs.Setting.{sew, sizeIn}
+use Rattle.machine.specs.Setting.{sew, maximum, sizeIn, smaller}
 use Rattle.machine.specs.Listing.{decode}
 use Rattle.machine.specs.Memory.{rowAt}
 use Rattle.machine.specs.Operation.{Operation, operation, stateAfter, memoryAfter, resultOf, element, written, resized, productAt, sumOf, rowsOf, columnsOf, tileRows, tileCols}
@@ -97,12 +97,12 @@ module _ (M : Parameters) (st : State) (ys mem : List ℕ) (a : Agree (st .marks
   size-same DimensionN = refl
 
   -- a size set
-  sized-alike : (d : Dimension) (n : ℕ) → AlikeStates (resized M d n st) (resized M d n (withRegs st ys))
+  sized-alike : (d : Dimension) (n : ℕ) → AlikeStates (resized d n st) (resized d n (withRegs st ys))
   sized-alike DimensionM n = record { same-rest = refl; agree = a }
   sized-alike DimensionK n = record { same-rest = refl; agree = a }
   sized-alike DimensionN n = record { same-rest = refl; agree = a }
 
-  sized-result : (d : Dimension) (n : ℕ) → resultOf (Operation.setSize d n) (resized M d n st) ≡ resultOf (Operation.setSize d n) (resized M d n (withRegs st ys))
+  sized-result : (d : Dimension) (n : ℕ) → resultOf (Operation.setSize d n) (resized d n st) ≡ resultOf (Operation.setSize d n) (resized d n (withRegs st ys))
   sized-result DimensionM n = refl
   sized-result DimensionK n = refl
   sized-result DimensionN n = refl
@@ -127,8 +127,13 @@ module _ (M : Parameters) (st : State) (ys mem : List ℕ) (a : Agree (st .marks
   pub unseen : (o : Operation) → Unseen M st ys mem o
   unseen (Operation.illegal wrong) = record { same-checks = refl; same-result = refl; same-memory = λ p. refl; alike-after = λ p. kept }
   unseen (Operation.setType v) = record { same-checks = refl; same-result = refl; same-memory = λ p. refl; alike-after = λ p. record { same-rest = refl; agree = a } }
-  unseen (Operation.setSize d n) = record { same-checks = refl; same-result = sized-result d n; same-memory = λ p. refl; alike-after = λ p. sized-alike d n }
-  unseen Operation.keepSize = record { same-checks = refl; same-result = refl; same-memory = λ p. refl; alike-after = λ p. kept }
+  unseen (Operation.setSize d n) = record { same-checks = refl; same-result = sized-result d (M .grant (maximum M (st .mtype) d) n); same-memory = λ p. refl; alike-after = λ p. sized-alike d (M .grant (maximum M (st .mtype) d) n) }
+  unseen (Operation.cutSize d) = record {
+    same-checks = refl;
+    same-result = refl;
+    same-memory = λ p. refl;
+    alike-after = λ p. rw (size-same d) (sized-alike d (smaller (maximum M (st .mtype) d) (sizeIn d st)));
+  }
   unseen (Operation.load k r w b s) = record {
     same-checks = rw (size-same (rowsOf k), size-same (columnsOf k));
     same-result = refl;

@@ -13,7 +13,7 @@ use Rattle.machine.specs.declared.Stepped.{Stepped}
 use Rattle.machine.specs.Tests.{every}
 use Rattle.machine.specs.Geometry.{elen, permitted, parameters, Parameters, stateOf, machineAfter, scalar, withScalar}
 use Rattle.machine.specs.Starting.{sealEnds}
-use Rattle.machine.specs.Setting.{newType, mill, maximum, smaller}
+use Rattle.machine.specs.Setting.{newType, mill, maximum, smaller, sizeIn}
 use Rattle.machine.specs.Operation.{sized}
 
 -- the machine's own parameters, under our choice of sizes
@@ -50,13 +50,17 @@ abbrev pub sizeScalars : Machine → Dimension → ℕ → ℕ → List ℕ → 
 sizeScalars m d a rd xs = cond (mill (m .mtype)) xs (withScalar xs rd (granted m d a))
 
 -- and one that asks for none
-abbrev pub keepStepped : Machine → Stepped
-keepStepped m = cond (mill (m .mtype)) (record { answer = IllegalType; machine = m }) (record { answer = Done; machine = m })
+abbrev pub cutStepped : Machine → Dimension → Stepped
+cutStepped m d =
+    cond (mill (m .mtype)) (record { answer = IllegalType; machine = m }) (record {
+      answer = Done;
+      machine = withSize m d (smaller (maximum (ours m) (m .mtype) d) (sizeIn d (stateOf m [] [])));
+    })
 
 -- and one with rs1
 abbrev pub tileStepped : Machine → Dimension → ℕ → ℕ → List ℕ → Stepped
 tileStepped m d rd rs1 xs =
-    cond (eqb rs1 0) (cond (eqb rd 0) (keepStepped m) (sizeStepped m d (maximum (ours m) (m .mtype) d))) (sizeStepped m d (scalar xs rs1))
+    cond (eqb rs1 0) (cond (eqb rd 0) (cutStepped m d) (sizeStepped m d (maximum (ours m) (m .mtype) d))) (sizeStepped m d (scalar xs rs1))
 
 abbrev pub tileScalars : Machine → Dimension → ℕ → ℕ → List ℕ → List ℕ
 tileScalars m d rd rs1 xs =

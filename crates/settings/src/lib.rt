@@ -13,7 +13,7 @@ ghost use lib.ListN.{length};
 ghost use Rattle.machine.specs.Geometry.{elen, withScalar, stateOf};
 ghost use Rattle.machine.specs.Setting.{newType, mill, maximum, sew, sizeIn};
 ghost use Rattle.machine.specs.Refusals.{fitting};
-ghost use Rattle.settings.specs.Parts.{ours, withType, withSize, sizeStepped, sizeScalars, keepStepped, tileStepped, tileScalars, Ready, legalTypes};
+ghost use Rattle.settings.specs.Parts.{ours, withType, withSize, sizeStepped, sizeScalars, cutStepped, tileStepped, tileScalars, Ready, legalTypes};
 ghost use Rattle.machine.specs.Tests.{isIn};
 
 pub mod faults; // answer 8
@@ -171,9 +171,10 @@ pub fn set_size(
     }
 }
 
-// Nothing is asked: the size stays.
-fn keep_size(m: Machine) -> Stepped
-    ensures { λ r. ⌜ r ≡ keepStepped m ⌝ }
+// Nothing is asked: the size is cut to the largest.
+fn cut_size(m: Machine, dimension: Dimension) -> Stepped
+    requires { ⌜ Ready m ⌝ }
+    ensures { λ r. ⌜ r ≡ cutStepped m dimension ⌝ }
 {
     if is_mill(m.mtype) {
         return Stepped {
@@ -181,9 +182,10 @@ fn keep_size(m: Machine) -> Stepped
             machine: m,
         };
     }
+    let size = smaller(size_of(m, dimension), largest(m, dimension));
     Stepped {
         answer: Answer::Done,
-        machine: m,
+        machine: with_size(m, dimension, size),
     }
 }
 
@@ -224,5 +226,5 @@ pub fn set_tile(
     if rd != 0 {
         return set_largest(m, scalars, dimension, rd);
     }
-    keep_size(m)
+    cut_size(m, dimension)
 }

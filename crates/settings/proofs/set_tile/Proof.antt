@@ -44,8 +44,8 @@ returns-2 c =
     let u : eqb (a .rd) 0 ≡ false = ne-eqb (a .rd) 0 (f .if2 .taken) in
     (z .set-largest .ensures .0 ∙ sym (rw (t, u)), z .set-largest .ensures .1 ∙ sym (rw (t, u)))
 
-keep-size-requires : tie.Need-keep-size-requires
-keep-size-requires c κs = search needs
+cut-size-requires : tie.Need-cut-size-requires
+cut-size-requires c κs = search needs
 
 returns-3 : tie.Need-returns-3
 returns-3 c =
@@ -54,7 +54,7 @@ returns-3 c =
     let a = e .before .before .args in
     let t : eqb (a .rs1) 0 ≡ true = eq-eqb (a .rs1) 0 (e .if1 .left) in
     let u : eqb (a .rd) 0 ≡ true = eq-eqb (a .rd) 0 (f .if2 .left) in
-    (c .keep-size .ensures ∙ sym (rw (t, u)), sym (rw (t, u)))
+    (c .cut-size .ensures ∙ sym (rw (t, u)), sym (rw (t, u)))
 
 pub set-tile-spec : {M : Type 1} → statement M
-set-tile-spec = tie.close (tie.spec read-scalar-requires set-size-requires same-length returns set-largest-requires same-length-2 returns-2 keep-size-requires returns-3)
+set-tile-spec = tie.close (tie.spec read-scalar-requires set-size-requires same-length returns set-largest-requires same-length-2 returns-2 cut-size-requires returns-3)
