@@ -7,6 +7,6 @@ fn main() {
     let mut text = [0u8; 8193];
     let read = io::read_full(STDIN_FILENO, &mut text);
     let mut out = [0u8; 8192];
-    let written = reply::answer(&text[..read], &mut out);
+    let written = solving::answer(&text[..read], &mut out);
     io::write_all(STDOUT_FILENO, &out[..written]);
 }

@@ -12,7 +12,7 @@ use Rattle.run.specs.Start.{format}
 use Rattle.text.specs.Text.{numbers}
 use Rattle.text.specs.Problem.{problem}
 use Rattle.text.specs.Lines.{decimal, refused}
-use Rattle.text.specs.Reply.{stepsOf, productRows, answerText}
+use Rattle.text.specs.Output.{stepsOf, productRows, answerText}
 
 -- ---- numbers
 

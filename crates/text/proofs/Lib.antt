@@ -3,6 +3,6 @@ pub mod ListLaws
 pub mod ReadLaws
 pub mod ProblemLaws
 pub mod WriteLaws
--- What is written is what Reply.antt says; computed examples.
-pub mod ReplyLaws
+-- What is written is what Output.antt says; computed examples.
+pub mod OutputLaws
 pub mod Examples

@@ -2,6 +2,6 @@
 pub mod Text
 pub mod Problem
 pub mod Lines
-pub mod Reply
+pub mod Output
 -- For the contracts of inner functions.
 pub mod Parts

@@ -1,4 +1,4 @@
--- What the contracts of inner functions name; a reader of Reply.antt need not read it.
+-- What the contracts of inner functions name; a reader of Output.antt need not read it.
 use Prim.Native.Nat.{ℕ, zero, suc, _+_, _*_, _-_, _≤_, _<_, min}
 use mathlib.Core.Path.{_≡_}
 use mathlib.Core.Bool.{Bool, cond, _&&_}

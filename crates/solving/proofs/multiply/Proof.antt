@@ -3,10 +3,10 @@ use Prim.Native.Nat.{ℕ, _*_, _/_, _≤_}
 use native.Mathlib.Omega.{arith}
 use Rattle.run.specs.Whole.{finishedAs}
 use Rattle.layout.proofs.LayoutLaws.{widths}
-use Rattle.reply.proofs.RunLaws.{c-fits, multiplied}
+use Rattle.solving.proofs.RunLaws.{c-fits, multiplied}
 use borrow.Author.Needs.{needs}
-use Rattle.reply.proofs.multiply.Statement.{statement}
-use Rattle.reply.proofs.multiply.Tie as tie
+use Rattle.solving.proofs.multiply.Statement.{statement}
+use Rattle.solving.proofs.multiply.Tie as tie
 
 -- 256 elements of C's width
 fits : (s : tie.Start) → 256 * (s .args .factor * (s .args .sew / 8)) ≤ 1024

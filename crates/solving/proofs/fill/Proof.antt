@@ -3,10 +3,10 @@ use Prim.Native.Nat.{ℕ, _+_, _*_}
 use native.Mathlib.Omega.{arith}
 use lib.ListN.{getD}
 use Rattle.width.specs.Tile.{putRow}
-use Rattle.reply.proofs.RunLaws.{part-length, part-put}
+use Rattle.solving.proofs.RunLaws.{part-length, part-put}
 use borrow.Author.Needs.{needs}
-use Rattle.reply.proofs.fill.Statement.{statement}
-use Rattle.reply.proofs.fill.Tie as tie
+use Rattle.solving.proofs.fill.Statement.{statement}
+use Rattle.solving.proofs.fill.Tie as tie
 
 add-middle : tie.Need-add-middle
 add-middle c = search needs

@@ -6,12 +6,12 @@ use lib.ListN.{replicate}
 use Rattle.element.specs.Element.{Width}
 use Rattle.element.proofs.Laws.{width-small}
 use Rattle.layout.proofs.LayoutLaws.{widths, matrix-small}
-use Rattle.text.specs.Reply.{answerText}
+use Rattle.text.specs.Output.{answerText}
 use Rattle.text.specs.Parts.{Wrote}
-use Rattle.reply.proofs.SolveLaws.{Solved, solved}
+use Rattle.solving.proofs.SolveLaws.{Solved, solved}
 use borrow.Author.Needs.{needs}
-use Rattle.reply.proofs.solve.Statement.{statement}
-use Rattle.reply.proofs.solve.Tie as tie
+use Rattle.solving.proofs.solve.Statement.{statement}
+use Rattle.solving.proofs.solve.Tie as tie
 
 -- the numbers of elements
 areas : (s : tie.Start) → (s .args .m * s .args .k ≤ 256) × (s .args .k * s .args .n ≤ 256)

@@ -1,8 +1,8 @@
 use mathlib.Core.Path.{sym, ap}
 use Prim.Native.Nat.{_^_}
 use Rattle.element.proofs.Laws.{is4}
-use Rattle.reply.proofs.modulus.Statement.{statement}
-use Rattle.reply.proofs.modulus.Tie as tie
+use Rattle.solving.proofs.modulus.Statement.{statement}
+use Rattle.solving.proofs.modulus.Tie as tie
 
 returns : tie.Need-returns
 returns c = ap (_^_ 256) (sym (c .if1 .taken))

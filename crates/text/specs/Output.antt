@@ -35,10 +35,10 @@ listOf (suc n) f = f 0 ∷ listOf n (λ i. f (suc i))
 unfoldable pub productRows : Problem → List (List ℤ)
 productRows p = listOf (p .m) (λ i. listOf (p .n) (λ j. productAt p i j))
 
-abbrev pub replyTo : Option Problem → List ℕ
-replyTo none = refused
-replyTo (some p) = accepted (stepsOf p) (productRows p)
+abbrev pub outputFor : Option Problem → List ℕ
+outputFor none = refused
+outputFor (some p) = accepted (stepsOf p) (productRows p)
 
 -- what `product` writes for the text t
 unfoldable pub answerText : List ℕ → List ℕ
-answerText t = replyTo (problem t)
+answerText t = outputFor (problem t)

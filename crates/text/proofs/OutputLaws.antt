@@ -8,7 +8,7 @@ use lib.ListN.{length, take, drop, getD, length-drop, length-map}
 use lib.Seq.{getD-drop}
 use Rattle.width.specs.Reduce.{signed, reduce}
 use Rattle.text.specs.Problem.{Problem, nth}
-use Rattle.text.specs.Reply.{sumAt, modulus, listOf, productAt, productRows}
+use Rattle.text.specs.Output.{sumAt, modulus, listOf, productAt, productRows}
 use Rattle.text.specs.Parts.{signedAll, rowsOf}
 use Rattle.text.proofs.WriteLaws.{row-fits}
 

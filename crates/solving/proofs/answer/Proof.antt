@@ -1,11 +1,11 @@
 use mathlib.Core.Path.{sym, _∙_, subst}
 use native.Mathlib.Omega.{arith}
-use Rattle.text.specs.Reply.{answerText}
+use Rattle.text.specs.Output.{answerText}
 use Rattle.text.specs.Parts.{Wrote}
-use Rattle.reply.proofs.SolveLaws.{Fit, posed-fits, refused-is, wrote-all}
+use Rattle.solving.proofs.SolveLaws.{Fit, posed-fits, refused-is, wrote-all}
 use borrow.Author.Needs.{needs}
-use Rattle.reply.proofs.answer.Statement.{statement}
-use Rattle.reply.proofs.answer.Tie as tie
+use Rattle.solving.proofs.answer.Statement.{statement}
+use Rattle.solving.proofs.answer.Tie as tie
 
 slice-aggregate-parse : tie.Need-slice-aggregate-parse
 slice-aggregate-parse c = search needs

@@ -13,7 +13,7 @@ ghost use Rattle.run.specs.Start.{format};
 ghost use Rattle.layout.specs.Layout.{jobFor};
 ghost use Rattle.text.specs.declared.Parsed.the-variants.{Posed};
 ghost use Rattle.text.specs.Problem.{problem};
-ghost use Rattle.text.specs.Reply.{answerText};
+ghost use Rattle.text.specs.Output.{answerText};
 ghost use Rattle.text.specs.Parts.{parsedAs, elementsIn, Wrote};
 
 // Lays the a numbers from 5 on at A's place, and the b after them at B's.

@@ -24,10 +24,10 @@ use Rattle.text.specs.declared.Parsed.{Parsed}
 use Rattle.text.specs.declared.Parsed.the-variants.{Posed, Refused}
 use Rattle.text.specs.Problem.{Problem, problem, nth, holds}
 use Rattle.text.specs.Lines.{accepted, refused}
-use Rattle.text.specs.Reply.{stepsOf, modulus, sumAt, productRows, answerText, replyTo}
+use Rattle.text.specs.Output.{stepsOf, modulus, sumAt, productRows, answerText, outputFor}
 use Rattle.text.specs.Parts.{held, parsedAs, elementsIn, Wrote, signedAll, rowsOf}
 use Rattle.text.proofs.ProblemLaws.{Known, problem-known, held-at, format-sew, format-half}
-use Rattle.text.proofs.ReplyLaws.{rows-are}
+use Rattle.text.proofs.OutputLaws.{rows-are}
 
 -- ---- a number as it is held
 
@@ -101,7 +101,7 @@ pub solved : (t numbers : List ℕ) → elementsIn (problem t) numbers → Solve
 unfolding answerText
 solved t numbers h = go (problem t) refl h
   where
-    go : (o : Option Problem) → problem t ≡ o → elementsIn o numbers → Solved numbers (replyTo o) (parsedAs o)
+    go : (o : Option Problem) → problem t ≡ o → elementsIn o numbers → Solved numbers (outputFor o) (parsedAs o)
     go none e h = tt
     go (some p) e h = solved-by p (problem-known t p e) numbers h
 
@@ -121,7 +121,7 @@ pub refused-is : (t : List ℕ) → Refused ≡ parsedAs (problem t) → refused
 unfolding answerText
 refused-is t h = go (problem t) h
   where
-    go : (o : Option Problem) → Refused ≡ parsedAs o → refused ≡ replyTo o
+    go : (o : Option Problem) → Refused ≡ parsedAs o → refused ≡ outputFor o
     go none e = refl
     go (some p) e = let z : _≡_ {A = ℕ} 0 1 = cc in absurd (omega arith)
 
