@@ -2,14 +2,11 @@
 use mathlib.Core.Path.{_≡_, refl, sym, ap, ap₂, _∙_, subst}
 use mathlib.Core.Bool.{Bool, true, false, cond}
 use mathlib.Core.List.{List, [], _∷_}
-use Prim.Native.Nat.{ℕ, zero, _+_, _*_, _/_, _%_, _<_}
+use Prim.Native.Nat.{ℕ, zero}
 use native.Mathlib.Omega.{arith}
-use lib.ListN.{length, getD, replicate}
-use lib.Seq.{ext-getD}
+use lib.ListN.{length, replicate}
 use lib.Dec.{eqb}
 use borrow.Author.Tests.{eqb-true}
-use Rattle.width.specs.Tile.{byteOf, putRow}
-use Rattle.width.proofs.TileLaws.{length-putRow, putRow-at}
 use Rattle.machine.specs.declared.Machine.{Machine}
 use Rattle.machine.specs.declared.Answer.the-variants.{Done, BadArguments}
 use Rattle.machine.specs.Tests.{every}
@@ -30,7 +27,9 @@ use Rattle.powerup.specs.Runs.{SameRunning}
 use Rattle.powerup.proofs.Steps.{step-ignores-unmarked}
 use Rattle.powerup.proofs.Runs.{run-start-ignores-unmarked, turns-ignore-unmarked, whole-ignores-unmarked}
 use Rattle.powerup.proofs.PowerUp.{unmarked-agree, startable-same}
-use Rattle.powerup_host.specs.Calls.{Buffers, buffers, Call, Called, afterStart, afterStep, afterRunStart, afterTurn, afterRun, called, AlikeBuffers, SameCalled, CallIgnoresUnmarked, CallsIgnoreUnmarked, AtPowerUp, PowerUpNeverMattersToHosts}
+use Rattle.calls.proofs.Written.{putMachine-fills}
+use Rattle.calls.specs.Calls.{Buffers, buffers, Call, Called, afterStart, afterStep, afterRunStart, afterTurn, afterRun, called}
+use Rattle.powerup_host.specs.Calls.{AlikeBuffers, SameCalled, CallIgnoresUnmarked, CallsIgnoreUnmarked, AtPowerUp, PowerUpNeverMattersToHosts}
 
 -- ---- one call, on buffers that differ in their registers only
 
@@ -232,34 +231,6 @@ calls-ignore-unmarked (c ∷ cs) b b′ t =
     let s = call-ignores-unmarked c b b′ t in (s, calls-ignore-unmarked cs (called c b .after) (called c b′ .after) (s .alike-after))
 
 -- ---- from a start on
-
-numbersOf : Machine → ℕ → ℕ
-numbersOf m j = getD (m .rlen ∷ m .mlen ∷ m .mtype ∷ m .«tile_m» ∷ m .«tile_k» ∷ m .«tile_n» ∷ m .«seal_start» ∷ m .«seal_length» ∷ []) j 0
-
-putMachine-row : (m : Machine) (xs : List ℕ) → putMachine m xs ≡ putRow 0 8 8 (numbersOf m) xs
-unfolding putMachine putRow numbersOf
-putMachine-row m xs = refl
-
--- a machine's numbers fill its block, whatever the block held
-putMachine-fills : (m : Machine) (xs ys : List ℕ) → length xs ≡ 64 → length ys ≡ 64 → putMachine m xs ≡ putMachine m ys
-putMachine-fills m xs ys ex ey =
-    putMachine-row m xs
-    ∙ ext-getD 0 (putRow 0 8 8 f xs) (putRow 0 8 8 f ys) (lx ∙ ex ∙ sym (ly ∙ ey)) (λ q l. at xs ex q (omega (arith, lx)) ∙ sym (at ys ey q (omega (arith, lx))))
-    ∙ sym (putMachine-row m ys)
-  where
-    f : ℕ → ℕ
-    f = numbersOf m
-
-    lx : length (putRow 0 8 8 f xs) ≡ length xs
-    lx = length-putRow 0 8 8 f xs
-
-    ly : length (putRow 0 8 8 f ys) ≡ length ys
-    ly = length-putRow 0 8 8 f ys
-
-    at : (zs : List ℕ) → length zs ≡ 64 → (q : ℕ) → q < 64 → getD (putRow 0 8 8 f zs) q 0 ≡ byteOf (f (q / 8)) (q % 8)
-    at zs e q l =
-        let d : q ≡ 0 + q / 8 * 8 + q % 8 = omega arith in
-        ap (λ (k : ℕ). getD (putRow 0 8 8 f zs) k 0) d ∙ putRow-at 0 8 8 f zs (omega arith) (q / 8) (omega arith) (q % 8) (omega arith)
 
 -- two starts that both pass or both fail each test
 abbrev Starts : Called → Called → Type 0

@@ -1,1 +1,1 @@
-// No code: statements and proofs about the definitions of `host`. See specs/.
+// No code: statements and proofs about the C functions as `bodlarina` defines them. See specs/.

@@ -1,0 +1,7 @@
+-- Blocks that are written over again, and numbers that stay of 64 bits.
+pub mod Written
+pub mod Numbers
+-- The theorems of specs/Composed.antt.
+pub mod Turns
+pub mod Runs
+pub mod Seal

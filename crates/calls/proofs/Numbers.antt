@@ -1,0 +1,212 @@
+-- Numbers of 64 bits stay such: those of a machine over steps, and those of a run over turns. So what is written to a block is read back.
+use mathlib.Core.Path.{_≡_, refl, sym, _∙_, subst}
+use mathlib.Core.Bool.{Bool, true, false, cond}
+use mathlib.Core.List.{List, [], _∷_, _++_, map}
+use mathlib.Core.Option.{Option, none, some}
+use Prim.Native.Nat.{ℕ, zero, suc, _+_, _/_, _^_, _≤_, _<_}
+use native.Mathlib.Nat.{div-le-self}
+use native.Mathlib.Omega.{arith}
+use lib.ListN.{length, getD}
+use lib.Dec.{ltb, eqb}
+use borrow.Author.Tests.{eqb-true, ltb-true}
+use Rattle.width.specs.Tile.{le}
+use Rattle.width.proofs.TileLaws.{le-lt}
+use Rattle.machine.specs.declared.Machine.{Machine}
+use Rattle.machine.specs.declared.Answer.the-variants.{BadArguments}
+use Rattle.machine.specs.Tests.{every, isIn}
+use Rattle.machine.specs.Answers.{isDone, verdict}
+use Rattle.machine.specs.Geometry.{elen, Bench, parameters}
+use Rattle.machine.specs.Setting.{smaller, newType}
+use Rattle.machine.specs.Faults.{soundBench}
+use Rattle.machine.specs.Listing.{decode}
+use Rattle.machine.specs.Step.{Outcome, stepBy, stepChecks}
+use Rattle.machine.proofs.TestLaws.{and-right, every-each, each-in}
+use Rattle.machine.proofs.StepLaws.{step-refused, permitted-bounds, smaller-grants}
+use Rattle.machine.proofs.CodeLaws.{legalTypes, types-are}
+use Rattle.machine.proofs.NoFault.{Sound, sound-is, step-sound}
+use Rattle.run.specs.declared.Plan.{Plan}
+use Rattle.run.specs.declared.Place.{Place}
+use Rattle.run.specs.declared.Place.the-variants.{AtType, AtM, AtN, AtClear, AtK, AtA, AtB, AtMultiply, AtStore, AtEnd}
+use Rattle.run.specs.declared.Run.{Run}
+use Rattle.run.specs.declared.Handed.{Handed}
+use Rattle.run.specs.Words.{Op}
+use Rattle.run.specs.Places.{wordAt}
+use Rattle.run.specs.Encoding.{own, handedFor}
+use Rattle.run.specs.Start.{freshRun}
+use Rattle.run.specs.Turn.{runShape, soundRun, handsOut, moved, Running, turn, afterTurns}
+use Rattle.run.proofs.HandedLaws.{turnWith}
+use Rattle.asking.specs.Parts.{placed}
+use Rattle.asking.proofs.AskingLaws.{run-numbered, run-placed, run-sizes, at-m, at-store, at-multiply, moved-sound}
+use Rattle.blocks.specs.declared.runs.Spot.{Spot}
+use Rattle.blocks.specs.Blocks.{machineOf, planOf, planNumbers, spotOf, spotIn, spotNumbers, placeOf, sameSpot, runOf, runFit}
+use Rattle.blocks.proofs.BlockLaws.{Words, RunWords}
+use Rattle.bodlarina.specs.Theorems.{Bytes}
+use Rattle.calls.specs.Composed.{PlanWords}
+
+-- ---- a machine
+
+-- read of a block of bytes
+pub machine-words : (b : List ℕ) → Bytes b → Words (machineOf b)
+unfolding machineOf
+machine-words b small = record {
+  rlen = le-lt b small 0 8;
+  mlen = le-lt b small 8 8;
+  mtype = le-lt b small 16 8;
+  tile-m = le-lt b small 24 8;
+  tile-k = le-lt b small 32 8;
+  tile-n = le-lt b small 40 8;
+  seal-start = le-lt b small 48 8;
+  seal-length = le-lt b small 56 8;
+}
+
+type-small : (v : ℕ) → newType elen v ≡ v → v < 2 ^ 64
+type-small v e = go (isIn v legalTypes) refl
+  where
+    go : (t : Bool) → isIn v legalTypes ≡ t → v < 2 ^ 64
+    go true d = let l : v < 9 = ltb-true v 9 (each-in v legalTypes (λ v. ltb v 9) refl d) in omega arith
+    go false d = let z : v ≡ 2 ^ 63 = sym e ∙ types-are v ∙ rw d in omega (arith, z)
+
+-- of a state that is not at fault
+sound-words : (m : Machine) (registers marks : List ℕ) → Sound m registers marks → Words m
+sound-words m registers marks s =
+    let l = permitted-bounds (m .rlen) (m .mlen) (s .lengths) in
+    let rows : m .mlen / m .rlen ≤ m .mlen = div-le-self (m .mlen) (m .rlen) in
+    record {
+      rlen = omega arith;
+      mlen = omega arith;
+      mtype = type-small (m .mtype) (s .state .type-arises);
+      tile-m = omega (arith, s .state .m-fits);
+      tile-k = omega (arith, s .state .k-fits);
+      tile-n = omega (arith, s .state .n-fits);
+      seal-start = omega (arith, s .seal-ends);
+      seal-length = omega (arith, s .seal-ends);
+    }
+
+-- after a step: of a state at fault nothing changes
+pub step-words : (word : ℕ) (xs : List ℕ) (B : Bench) → Words (B .machine) → Words (stepBy smaller word xs B .bench .machine)
+step-words word xs B w = go (soundBench B) refl
+  where
+    go : (t : Bool) → soundBench B ≡ t → Words (stepBy smaller word xs B .bench .machine)
+    go true e =
+        let C : Bench = stepBy smaller word xs B .bench in
+        sound-words (C .machine) (C .registers) (C .marks) (sound-is (C .machine) (C .registers) (C .marks) (step-sound smaller smaller-grants word xs B e))
+    go false e =
+        let r : verdict (stepChecks (parameters smaller (B .machine)) (decode word) xs B) ≡ BadArguments = rw e in
+        subst (λ (o : Outcome). Words (o .bench .machine)) (sym (step-refused smaller word xs B BadArguments refl r)) w
+
+-- ---- a run
+
+-- two lists that begin alike
+begin-alike : (c : ℕ) (xs ys zs : List ℕ) → ((j : ℕ) → getD (xs ++ ys) j 0 < c) → ((j : ℕ) → getD zs j 0 < c) → (j : ℕ) → getD (xs ++ zs) j 0 < c
+begin-alike c [] ys zs h k j = k j
+begin-alike c (x ∷ xs) ys zs h k zero = h zero
+begin-alike c (x ∷ xs) ys zs h k (suc j) = begin-alike c xs ys zs (λ j. h (suc j)) k j
+
+four : (s : Spot) → s .kind < 2 ^ 64 → s .row < 2 ^ 64 → s .column < 2 ^ 64 → s .term < 2 ^ 64 → (j : ℕ) → getD (spotNumbers s) j 0 < 2 ^ 64
+four s k r c t zero = k
+four s k r c t (suc zero) = r
+four s k r c t (suc (suc zero)) = c
+four s k r c t (suc (suc (suc zero))) = t
+four s k r c t (suc (suc (suc (suc j)))) = omega arith
+
+-- the plan's numbers, the lengths and the place
+parts : (R : Run) → PlanWords (R .plan) → R .rlen < 2 ^ 64 → R .mlen < 2 ^ 64 → ((j : ℕ) → getD (spotNumbers (spotOf (R .place))) j 0 < 2 ^ 64) → RunWords R
+parts R p r m s = begin-alike (2 ^ 64) (planNumbers (R .plan)) [] (R .rlen ∷ R .mlen ∷ spotNumbers (spotOf (R .place))) p tail
+  where
+    tail : (j : ℕ) → getD (R .rlen ∷ R .mlen ∷ spotNumbers (spotOf (R .place))) j 0 < 2 ^ 64
+    tail zero = r
+    tail (suc zero) = m
+    tail (suc (suc j)) = s j
+
+-- eight bytes each of a block of bytes
+values-small : (b : List ℕ) → Bytes b → (ps : List ℕ) (j : ℕ) → getD (map (λ p. le b p 8) ps) j 0 < 2 ^ 64
+values-small b small [] j = omega arith
+values-small b small (p ∷ ps) zero = le-lt b small p 8
+values-small b small (p ∷ ps) (suc j) = values-small b small ps j
+
+plan-words : (b : List ℕ) → Bytes b → PlanWords (planOf b)
+unfolding planOf
+plan-words b small = values-small b small (0 ∷ 8 ∷ 16 ∷ 24 ∷ 32 ∷ 40 ∷ 48 ∷ 56 ∷ 64 ∷ 72 ∷ 80 ∷ [])
+
+same-small : (x y : ℕ) → eqb x y ≡ true → x < 2 ^ 64 → y < 2 ^ 64
+same-small x y e l = subst (λ (z : ℕ). z < 2 ^ 64) (eqb-true x y e) l
+
+-- read of a block of bytes that a run can lie in
+pub run-words : (b : List ℕ) → Bytes b → runFit b ≡ true → RunWords (runOf b)
+unfolding runOf runFit
+run-words b small h =
+    let s : Spot = spotOf (placeOf (spotIn b)) in
+    let e = every-each (sameSpot (spotIn b) s) (and-right (eqb (length b) 136) (every (sameSpot (spotIn b) s)) h) in
+    parts (runOf b) (plan-words b small) (le-lt b small 88 8) (le-lt b small 96 8)
+    (four s (same-small (spotIn b .kind) (s .kind) (e .0) (le-lt b small 104 8)) (same-small (spotIn b .row) (s .row) (e .1 .0) (le-lt b small 112 8))
+    (same-small (spotIn b .column) (s .column) (e .1 .1 .0) (le-lt b small 120 8)) (same-small (spotIn b .term) (s .term) (e .1 .1 .1 .0) (le-lt b small 128 8)))
+
+-- at a place in matrices whose sizes are at most 1,024
+place-words : (P : Plan) (p : Place) → (P .m ≤ 1024) × (P .k ≤ 1024) × (P .n ≤ 1024) → placed P p ≡ true
+    → (j : ℕ) → getD (spotNumbers (spotOf p)) j 0 < 2 ^ 64
+place-words P AtType l h = four (spotOf AtType) (omega arith) (omega arith) (omega arith) (omega arith)
+place-words P (AtM i) l h = let b = at-m P i h in four (spotOf (AtM i)) (omega arith) (omega arith) (omega arith) (omega arith)
+place-words P (AtN i j) l h = let b = at-store P i j h in four (spotOf (AtN i j)) (omega arith) (omega arith) (omega arith) (omega arith)
+place-words P (AtClear i j) l h = let b = at-store P i j h in four (spotOf (AtClear i j)) (omega arith) (omega arith) (omega arith) (omega arith)
+place-words P (AtK i j s) l h = let b = at-multiply P i j s h in four (spotOf (AtK i j s)) (omega arith) (omega arith) (omega arith) (omega arith)
+place-words P (AtA i j s) l h = let b = at-multiply P i j s h in four (spotOf (AtA i j s)) (omega arith) (omega arith) (omega arith) (omega arith)
+place-words P (AtB i j s) l h = let b = at-multiply P i j s h in four (spotOf (AtB i j s)) (omega arith) (omega arith) (omega arith) (omega arith)
+place-words P (AtMultiply i j s) l h = let b = at-multiply P i j s h in four (spotOf (AtMultiply i j s)) (omega arith) (omega arith) (omega arith) (omega arith)
+place-words P (AtStore i j) l h = let b = at-store P i j h in four (spotOf (AtStore i j)) (omega arith) (omega arith) (omega arith) (omega arith)
+place-words P AtEnd l h = four (spotOf AtEnd) (omega arith) (omega arith) (omega arith) (omega arith)
+
+-- as a start makes it
+pub fresh-words : (m : Machine) (P : Plan) → Words m → PlanWords P → RunWords (freshRun m P)
+fresh-words m P w p = parts (freshRun m P) p (w .rlen) (w .mlen) (four (spotOf AtType) (omega arith) (omega arith) (omega arith) (omega arith))
+
+-- once a step is handed out: the plan and the lengths stay, and the next place lies in the matrices
+moved-words : (R : Run) → RunWords R → soundRun smaller R ≡ true → RunWords (moved smaller R)
+moved-words R w ok =
+    begin-alike (2 ^ 64) (planNumbers (R .plan) ++ (R .rlen ∷ R .mlen ∷ [])) (spotNumbers (spotOf (R .place))) (spotNumbers (spotOf (moved smaller R .place)))
+    w (place-words (R .plan) (moved smaller R .place) (run-sizes R (run-numbered R ok)) (run-placed (moved smaller R) (moved-sound R ok)))
+
+-- ---- turns
+
+hands-sound : (R : Run) (o : Op) → handsOut smaller R ≡ some o → soundRun smaller R ≡ true
+hands-sound R o = go (soundRun smaller R)
+  where
+    none-some : none ≡ some o → ⊥
+    none-some e = let z : _≡_ {A = ℕ} 0 1 = cc in omega arith
+
+    go : (t : Bool) → cond t (wordAt (runShape smaller R) (R .place)) none ≡ some o → t ≡ true
+    go true e = refl
+    go false e = absurd (none-some e)
+
+pub record Wordy (r : Running) : Type 0 where
+  pub run : RunWords (r .run)
+  pub machine : Words (r .bench .machine)
+
+pub turn-machine : (r : Running) → Words (r .bench .machine) → Words (turn smaller r .after .bench .machine)
+turn-machine r w = go (handsOut smaller (r .run))
+  where
+    go : (o : Option Op) → Words (turnWith smaller r o .after .bench .machine)
+    go none = w
+    go (some o) = let h : Handed = handedFor (r .run .plan) o in step-words (h .word) (own h) (r .bench) w
+
+pub turns-machine : (r : Running) → Words (r .bench .machine) → (t : ℕ) → Words (afterTurns smaller r t .bench .machine)
+turns-machine r w zero = w
+turns-machine r w (suc t) = turn-machine (afterTurns smaller r t) (turns-machine r w t)
+
+turn-run : (r : Running) → RunWords (r .run) → RunWords (turn smaller r .after .run)
+turn-run r w = go (handsOut smaller (r .run)) refl
+  where
+    chosen : (R : Run) → RunWords R → (t : Bool) → RunWords (cond t R (r .run))
+    chosen R v true = v
+    chosen R v false = w
+
+    go : (o : Option Op) → handsOut smaller (r .run) ≡ o → RunWords (turnWith smaller r o .after .run)
+    go none e = w
+    go (some o) e =
+        let h : Handed = handedFor (r .run .plan) o in
+        chosen (moved smaller (r .run)) (moved-words (r .run) w (hands-sound (r .run) o e)) (isDone (stepBy smaller (h .word) (own h) (r .bench) .answer))
+
+pub turns-wordy : (r : Running) → Wordy r → (t : ℕ) → Wordy (afterTurns smaller r t)
+turns-wordy r w zero = w
+turns-wordy r w (suc t) =
+    let v : Wordy (afterTurns smaller r t) = turns-wordy r w t in
+    record { run = turn-run (afterTurns smaller r t) (v .run); machine = turn-machine (afterTurns smaller r t) (v .machine) }

@@ -1,0 +1,291 @@
+-- Demand 3 over calls: bodlarina_run_start, bodlarina_run_turn and bodlarina_run_next; and bodlarina_run as such calls.
+use mathlib.Core.Path.{_≡_, refl, sym, ap, ap₂, _∙_, subst}
+use mathlib.Core.Bool.{Bool, true, false, cond}
+use mathlib.Core.List.{List, [], _∷_}
+use mathlib.Core.Option.{Option, none, some}
+use Prim.Native.Nat.{ℕ, suc}
+use native.Mathlib.Omega.{arith}
+use lib.ListN.{length}
+use lib.Dec.{eqb}
+use borrow.Author.Tests.{eqb-true, eq-eqb}
+use Rattle.machine.specs.declared.Answer.{Answer}
+use Rattle.machine.specs.declared.Answer.the-variants.{OutsideMemory, BadArguments, Overlap}
+use Rattle.machine.specs.Tests.{every}
+use Rattle.machine.specs.Answers.{number, isDone, verdict, _otherwise_}
+use Rattle.machine.specs.Geometry.{Bench, parameters}
+use Rattle.machine.specs.Setting.{smaller}
+use Rattle.machine.specs.Faults.{sound}
+use Rattle.machine.specs.Operation.{element}
+use Rattle.machine.proofs.TestLaws.{every-each, each-every}
+use Rattle.machine.proofs.CodeLaws.{only-done}
+use Rattle.run.specs.declared.Plan.{Plan}
+use Rattle.run.specs.declared.Run.{Run}
+use Rattle.run.specs.declared.Handed.{Handed}
+use Rattle.run.specs.Words.{steps}
+use Rattle.run.specs.Plan.{Kept, shape, wide, cAt}
+use Rattle.run.specs.Start.{planned, lying, separate, freshRun, noRun, RunStart, startRun}
+use Rattle.run.specs.Encoding.{wordOf}
+use Rattle.run.specs.Turn.{Ask, ask, asked, Running, running, turn, afterTurns}
+use Rattle.run.specs.Statement.{Asks, Right, startedRun}
+use Rattle.run.specs.Whole.{WholeOutcome, whole}
+use Rattle.run.proofs.RefusalLaws.{number-done, number-refused}
+use Rattle.run.proofs.Demand1.{run-start-changes-nothing}
+use Rattle.run.proofs.Demand3.{demand-3-ours}
+use Rattle.run.proofs.Whole.{whole-delivers}
+use Rattle.blocks.specs.Blocks.{putMachine, runFit, runOf, putRun, putHanded, putNumbers, packed}
+use Rattle.blocks.proofs.BlockLaws.{RunWords, putMachine-same, runOf-putRun, runFit-putRun}
+use Rattle.bodlarina.specs.Host.{runStartedOut, shownRunStart, hostRunStart, nextOut, shownNext, hostNext, turnBlocks, ranOut, shownRun, hostRun}
+use Rattle.bodlarina.specs.Theorems.{Bytes}
+use Rattle.bodlarina.proofs.RunLaws.{blocks-fit}
+use Rattle.calls.specs.Calls.{Buffers, buffers, Call, Called, afterRunStart, afterNext, afterRun, called}
+use Rattle.calls.specs.Composed.{afterCalls, turnCalls, benchIn, PlanWords, StartCallsAreRight, with, jobIn, afterTurnCalls, handing, TurnCalls, TurnCallsAreRight, counting, RunIsTurnCalls}
+use Rattle.calls.proofs.Written.{putRun-over}
+use Rattle.calls.proofs.Numbers.{machine-words, fresh-words, Wordy, turns-wordy}
+use Rattle.calls.proofs.Turns.{zero-is-done, eight, left, runningIn, holds, on}
+
+-- ---- bodlarina_run_start
+
+module _ (P : Plan) (b : Buffers) where
+  abbrev B : Bench
+  B = benchIn b
+
+  abbrev s : RunStart
+  s = startRun smaller P B
+
+  abbrev tests : List Bool
+  tests = eqb (length (b .machine)) 64 ∷ eqb (length (b .run)) 136 ∷ []
+
+  abbrev startOn : Bool → Called
+  startOn t =
+      afterRunStart b (cond t (shownRunStart (b .machine) (b .run) s)
+      (runStartedOut (packed BadArguments) (b .machine) (b .registers) (b .marks) (b .memory) (b .run)))
+
+  start-call : (t : Bool) → every tests ≡ t → called (Call.runStart P) b ≡ startOn t
+  unfolding hostRunStart
+  start-call t h = ap startOn h
+
+  -- the buffers with another run's block
+  abbrev having : List ℕ → Buffers
+  having R = buffers (b .machine) (b .registers) (b .marks) (b .scalars) (b .memory) R (b .step) (b .steps)
+
+  -- a start changes neither machine nor memory
+  lent-same : startOn true .after ≡ having (startOn true .after .run)
+  lent-same =
+      ap (λ (C : Bench). buffers (b .machine) (C .registers) (C .marks) (b .scalars) (C .memory) (startOn true .after .run) (b .step) (b .steps))
+      (run-start-changes-nothing smaller P B)
+
+  -- its answers name no row and column
+  start-plain : packed (s .answer) ≡ number (s .answer)
+  unfolding startRun
+  start-plain =
+      go (sound (B .machine) (B .registers) (B .marks)) (planned P) (lying P (B .memory)) (separate (parameters smaller (B .machine)) P)
+    where
+      out : (t u v w : Bool) → Answer
+      out t u v w = verdict ((t otherwise BadArguments) ∷ (u otherwise BadArguments) ∷ (v otherwise OutsideMemory) ∷ (w otherwise Overlap) ∷ [])
+
+      go : (t u v w : Bool) → packed (out t u v w) ≡ number (out t u v w)
+      go true true true true = refl
+      go true true true false = refl
+      go true true false w = refl
+      go true false v w = refl
+      go false u v w = refl
+
+pub start-calls-are-right : StartCallsAreRight
+start-calls-are-right P b lm lr bytes =
+    let call : called (Call.runStart P) b ≡ startOn P b true =
+    start-call P b true (each-every (tests P b) (eq-eqb (length (b .machine)) 64 lm, (eq-eqb (length (b .run)) 136 lr, tt))) in
+    record {
+      answered = (s P b .answer, ap (λ (o : Called). o .result) call ∙ start-plain P b, demand-3-ours P (benchIn b) bytes .answered);
+      unchanged = subst (λ (o : Called). o .after ≡ having P b (o .after .run)) (sym call) (lent-same P b);
+    }
+
+-- ---- bodlarina_run_next
+
+abbrev nextOn : Buffers → Ask → Called
+nextOn b a = afterNext b (shownNext (b .run) (b .step) (asked a))
+
+next-call : (b : Buffers) → every (runFit (b .run) ∷ eqb (length (b .step)) 24 ∷ []) ≡ true → called Call.runNext b ≡ nextOn b (ask smaller (runOf (b .run)))
+unfolding hostNext
+next-call b h =
+    ap (λ (t : Bool). afterNext b (cond t (shownNext (b .run) (b .step) (asked (ask smaller (runOf (b .run))))) (nextOut (packed BadArguments) (b .run) (b .step)))) h
+
+shown-done : (b : Buffers) (a : Ask) (h : Handed) (R : Run) → Asks a 0 (some h) R → nextOn b a ≡ left 0 (handing h (putRun R (b .run)) b)
+shown-done b a h R k =
+    ap₂ (λ (v : Answer) (g : Option Handed). nextOn b (record { answer = v; handed = g; run = a .run })) (only-done (a .answer) (number-done (a .answer) (k .answers))) (k .hands-out)
+    ∙ ap (λ (S : Run). left 0 (handing h (putRun S (b .run)) b)) (k .leaves)
+
+shown-refused : (b : Buffers) (a : Ask) (R : Run) → Asks a 8 none R → nextOn b a ≡ left 8 b
+shown-refused b a R k =
+    ap₂ (λ (n : ℕ) (t : Bool). afterNext b (nextOut n (cond t (putRun (a .run) (b .run)) (b .run)) (cond t (putHanded (asked a .handed) (b .step)) (b .step))))
+    (eight (a .answer) (k .answers)) (number-refused (a .answer) (λ z. let y : _≡_ {A = ℕ} 0 8 = sym z ∙ k .answers in omega arith))
+
+-- ---- an accepted start
+
+record Accepted (P : Plan) (b : Buffers) : Type 0 where
+  machine-long : length (b .machine) ≡ 64
+  run-long : length (b .run) ≡ 136
+  done : isDone (s P b .answer) ≡ true
+  leaves : called (Call.runStart P) b .after ≡ having P b (putRun (s P b .run) (b .run))
+
+accepted : (P : Plan) (b : Buffers) → called (Call.runStart P) b .result ≡ 0 → Accepted P b
+accepted P b e = go (every (tests P b)) refl
+  where
+    go : (t : Bool) → every (tests P b) ≡ t → Accepted P b
+    go true h =
+        let l = every-each (tests P b) h in
+        let call : called (Call.runStart P) b ≡ startOn P b true = start-call P b true h in
+        let d : isDone (s P b .answer) ≡ true =
+        sym (zero-is-done (s P b .answer)) ∙ eq-eqb (packed (s P b .answer)) 0 (sym (ap (λ (o : Called). o .result) call) ∙ e) in
+        record {
+          machine-long = eqb-true (length (b .machine)) 64 (l .0);
+          run-long = eqb-true (length (b .run)) 136 (l .1 .0);
+          done = d;
+          leaves =
+              ap (λ (o : Called). o .after) call ∙ lent-same P b
+              ∙ ap (λ (t : Bool). having P b (cond t (putRun (s P b .run) (b .run)) (b .run))) d;
+        }
+    go false h = let z : _≡_ {A = ℕ} 8 0 = sym (ap (λ (o : Called). o .result) (start-call P b false h)) ∙ e in absurd (omega arith)
+
+module _ (P : Plan) (b : Buffers) (p : PlanWords P) (small : Bytes (b .machine)) (A : Accepted P b) where
+  -- the run that was started, and the buffers with it
+  abbrev R₀ : Run
+  R₀ = s P b .run
+
+  abbrev b₀ : Buffers
+  b₀ = having P b (putRun R₀ (b .run))
+
+  abbrev r₀ : Running
+  r₀ = startedRun smaller P (benchIn b)
+
+  fresh : R₀ ≡ freshRun (benchIn b .machine) P
+  unfolding startRun
+  fresh = ap (λ (t : Bool). cond t (freshRun (benchIn b .machine) P) (noRun P)) (A .done)
+
+  words : RunWords R₀
+  words = subst RunWords (sym fresh) (fresh-words (benchIn b .machine) P (machine-words (b .machine) small) p)
+
+  read-back : runOf (putRun R₀ (b .run)) ≡ R₀
+  read-back = runOf-putRun R₀ (b .run) words (A .run-long)
+
+  held : runningIn b₀ ≡ r₀
+  held = ap₂ running read-back (sym (run-start-changes-nothing smaller P (benchIn b)))
+
+  fit₀ : turnBlocks (b₀ .run) (b₀ .machine) ≡ true
+  fit₀ = blocks-fit (b₀ .run) (b₀ .machine) (runFit-putRun R₀ (b .run) words (A .run-long)) (A .machine-long)
+
+  wordy₀ : Wordy (runningIn b₀)
+  wordy₀ = record { run = subst RunWords (sym read-back) words; machine = machine-words (b .machine) small }
+
+  same₀ : with (runningIn b₀) b₀ ≡ b₀
+  same₀ =
+      ap₂ (λ (m R : List ℕ). buffers m (b .registers) (b .marks) (b .scalars) (b .memory) R (b .step) (b .steps))
+      (putMachine-same (b .machine) small) (ap (λ (R : Run). putRun R (b₀ .run)) read-back ∙ putRun-over R₀ R₀ (b .run) (A .run-long))
+
+  over₀ : (r : Running) → with r b₀ ≡ with r b
+  over₀ r =
+      ap (λ (R : List ℕ). buffers (putMachine (r .bench .machine) (b .machine)) (r .bench .registers) (r .bench .marks) (b .scalars) (r .bench .memory) R (b .step) (b .steps))
+      (putRun-over (r .run) R₀ (b .run) (A .run-long))
+
+  -- after t turns, and t calls
+  abbrev r : ℕ → Running
+  r t = afterTurns smaller r₀ t
+
+  wordy : (t : ℕ) → Wordy (r t)
+  wordy t = subst (λ (q : Running). Wordy (afterTurns smaller q t)) held (turns-wordy (runningIn b₀) wordy₀ t)
+
+  holds₀ : (t : ℕ) → afterTurnCalls P b t ≡ with (r t) b₀
+  holds₀ t =
+      ap (afterCalls (turnCalls t)) (A .leaves) ∙ holds b₀ fit₀ wordy₀ same₀ t
+      ∙ ap (λ (q : Running). with (afterTurns smaller q t) b₀) held
+
+  holding : (t : ℕ) → afterTurnCalls P b t ≡ with (r t) b
+  holding t = holds₀ t ∙ over₀ (r t)
+
+  turning : (t : ℕ) → called Call.runTurn (afterTurnCalls P b t) ≡ left (packed (turn smaller (r t) .answer)) (with (turn smaller (r t) .after) b)
+  turning t =
+      ap (called Call.runTurn) (holds₀ t) ∙ on b₀ fit₀ (r t) (wordy t)
+      ∙ ap (left (packed (turn smaller (r t) .answer))) (over₀ (turn smaller (r t) .after))
+
+  -- ---- asking
+
+  asking : (t : ℕ) → length (b .step) ≡ 24
+      → called Call.runNext (with (r t) b) ≡ nextOn (with (r t) b) (ask smaller (r t .run))
+  asking t l =
+      let R : List ℕ = putRun (r t .run) (b .run) in
+      next-call (with (r t) b) (each-every (runFit R ∷ eqb (length (b .step)) 24 ∷ []) (runFit-putRun (r t .run) (b .run) (wordy t .run) (A .run-long), (eq-eqb (length (b .step)) 24 l, tt)))
+      ∙ ap (λ (S : Run). nextOn (with (r t) b) (ask smaller S)) (runOf-putRun (r t .run) (b .run) (wordy t .run) (A .run-long))
+
+  -- what was asked for is written over the blocks
+  asked-done : (t : ℕ) (h : Handed) → length (b .step) ≡ 24 → Asks (ask smaller (r t .run)) 0 (some h) (r (suc t) .run)
+      → called Call.runNext (with (r t) b) ≡ left 0 (handing h (with (r (suc t)) b .run) (with (r t) b))
+  asked-done t h l k =
+      asking t l ∙ shown-done (with (r t) b) (ask smaller (r t .run)) h (r (suc t) .run) k
+      ∙ ap (λ (R : List ℕ). left 0 (handing h R (with (r t) b))) (putRun-over (r (suc t) .run) (r t .run) (b .run) (A .run-long))
+
+  right : (t : ℕ) → Right (jobIn P b) r₀ t → TurnCalls P b t
+  right t T = record {
+    holds = holding t;
+    next-done = λ l.
+        ap (λ (o : Called). o .result) (turning t)
+        ∙ ap packed (only-done (turn smaller (r t) .answer) (number-done (turn smaller (r t) .answer) (T .next-done l .answers)));
+    past-end = λ l. (
+      ap (λ (o : Called). o .result) (turning t) ∙ eight (turn smaller (r t) .answer) (T .past-end l .answers),
+      ap (λ (o : Called). o .after) (turning t) ∙ ap (λ (q : Running). with q b) (T .past-end l .leaves) ∙ sym (holding t),
+    );
+    asks = λ e l.
+        subst (λ (c : Buffers). (called Call.runNext c .result ≡ 0) × (called Call.runNext c .after ≡ handing (wordOf (jobIn P b) t) (afterTurnCalls P b (suc t) .run) c)) (sym (holding t))
+        (subst (λ (d : Buffers). (called Call.runNext (with (r t) b) .result ≡ 0) × (called Call.runNext (with (r t) b) .after ≡ handing (wordOf (jobIn P b) t) (d .run) (with (r t) b))) (sym (holding (suc t)))
+        (let k = asked-done t (wordOf (jobIn P b) t) e (T .asks l) in (ap (λ (o : Called). o .result) k, ap (λ (o : Called). o .after) k)));
+    asks-past-end = λ e l.
+        subst (λ (c : Buffers). (called Call.runNext c .result ≡ 8) × (called Call.runNext c .after ≡ c)) (sym (holding t))
+        (let k = asking t e ∙ shown-refused (with (r t) b) (ask smaller (r t .run)) (r t .run) (T .asks-past-end l) in (ap (λ (o : Called). o .result) k, ap (λ (o : Called). o .after) k));
+    kept = subst (λ (c : Buffers). Kept (jobIn P b) (c .memory)) (sym (holding t)) (T .kept);
+    product = λ l i j g h. ap (λ (c : Buffers). element (c .memory) (cAt P) (wide P) i j) (holding t) ∙ T .product l i j g h;
+  }
+
+pub turn-calls-are-right : TurnCallsAreRight
+turn-calls-are-right P b p small bytes e t =
+    let A : Accepted P b = accepted P b e in
+    right P b p small A t (demand-3-ours P (benchIn b) bytes .turns (ap number (only-done (s P b .answer) (A .done))) t)
+
+-- ---- bodlarina_run
+
+module _ (P : Plan) (b : Buffers) where
+  abbrev w : WholeOutcome
+  w = whole smaller P (benchIn b)
+
+  abbrev runOn : Bool → Called
+  runOn t =
+      afterRun b (cond t (shownRun (b .machine) (b .steps) w)
+      (ranOut (packed BadArguments) (b .machine) (b .registers) (b .marks) (b .memory) (b .steps)))
+
+  run-call : (t : Bool) → every (eqb (length (b .machine)) 64 ∷ eqb (length (b .steps)) 8 ∷ []) ≡ t → called (Call.run P) b ≡ runOn t
+  unfolding hostRun
+  run-call t h = ap runOn h
+
+  run-fits : length (b .steps) ≡ 8 → eqb (length (b .machine)) 64 ≡ true → called (Call.run P) b ≡ runOn true
+  run-fits ls h = run-call true (each-every (eqb (length (b .machine)) 64 ∷ eqb (length (b .steps)) 8 ∷ []) (h, (eq-eqb (length (b .steps)) 8 ls, tt)))
+
+  same-result : length (b .run) ≡ 136 → length (b .steps) ≡ 8 → called (Call.run P) b .result ≡ called (Call.runStart P) b .result
+  same-result lr ls = go (eqb (length (b .machine)) 64) refl
+    where
+      go : (t : Bool) → eqb (length (b .machine)) 64 ≡ t → called (Call.run P) b .result ≡ called (Call.runStart P) b .result
+      go true h =
+          ap (λ (o : Called). o .result) (run-fits ls h)
+          ∙ sym (ap (λ (o : Called). o .result) (start-call P b true (each-every (tests P b) (h, (eq-eqb (length (b .run)) 136 lr, tt)))))
+      go false h =
+          ap (λ (o : Called). o .result) (run-call false (ap (λ (t : Bool). every (t ∷ eqb (length (b .steps)) 8 ∷ [])) h))
+          ∙ sym (ap (λ (o : Called). o .result) (start-call P b false (ap (λ (t : Bool). every (t ∷ eqb (length (b .run)) 136 ∷ [])) h)))
+
+pub run-is-turn-calls : RunIsTurnCalls
+run-is-turn-calls P b p small bytes lr ls = (
+  same-result P b lr ls,
+  λ e.
+      let A : Accepted P b = accepted P b (sym (same-result P b lr ls) ∙ e) in
+      let n : ℕ = steps (shape (jobIn P b)) in
+      let counted : w P b .count ≡ n = whole-delivers P (benchIn b) bytes .counted (ap number (only-done (s P b .answer) (A .done))) in
+      ap (λ (o : Called). o .after) (run-fits P b ls (eq-eqb (length (b .machine)) 64 (A .machine-long)))
+      ∙ ap₂ (λ (t : Bool) (k : ℕ). afterRun b (ranOut 0 (cond t (putMachine (w P b .bench .machine) (b .machine)) (b .machine))
+      (w P b .bench .registers) (w P b .bench .marks) (w P b .bench .memory) (cond t (putNumbers (k ∷ []) (b .steps)) (b .steps))) .after) (A .done) counted
+      ∙ ap (λ (c : Buffers). counting n c b) (sym (holding P b p small A n)),
+)

@@ -1,0 +1,188 @@
+-- bodlarina_run_turns as calls of bodlarina_run_turn: what a call writes to the blocks is what the next one reads.
+use mathlib.Core.Path.{_≡_, refl, sym, ap, ap₂, _∙_}
+use mathlib.Core.Bool.{Bool, true, false, cond}
+use mathlib.Core.List.{List, [], _∷_}
+use Prim.Native.Nat.{ℕ, zero, suc, _+_, _%_, _*_, _^_}
+use native.Mathlib.Omega.{arith}
+use lib.ListN.{length, replicate}
+use lib.Dec.{eqb}
+use borrow.Author.Tests.{eqb-true, ne-eqb}
+use Rattle.machine.specs.declared.Machine.{Machine}
+use Rattle.machine.specs.declared.Answer.{Answer}
+use Rattle.machine.specs.declared.Answer.the-variants.{Done, IllegalWord, IllegalType, BadWidth, TileTooLarge, Unwritten, OutsideMemory, SealedByte, BadArguments, Overlap, WrongOpcode, LeftOutWord, WrongRegister}
+use Rattle.machine.specs.Answers.{number, rowOf, columnOf, isDone}
+use Rattle.machine.specs.Geometry.{benchOf}
+use Rattle.machine.specs.Setting.{smaller}
+use Rattle.machine.proofs.TestLaws.{false-true, every-each}
+use Rattle.machine.proofs.CodeLaws.{only-done}
+use Rattle.run.specs.declared.Run.{Run}
+use Rattle.run.specs.Turn.{Running, running, turn, afterTurns, answeredDone, turnOutcome, turns}
+use Rattle.run.proofs.RefusalLaws.{number-done}
+use Rattle.blocks.specs.Blocks.{runFit, packed}
+use Rattle.blocks.proofs.BlockLaws.{machineOf-putMachine, putMachine-same, runOf-putRun, runFit-putRun, putRun-same}
+use Rattle.bodlarina.specs.Host.{turnBlocks, heldRunning, turnedOut, shownTurn, hostTurn, shownTurns, hostTurns}
+use Rattle.bodlarina.proofs.RunLaws.{fit-length, blocks-fit}
+use Rattle.calls.specs.Calls.{Buffers, buffers, Call, Called, afterTurn, called, calls}
+use Rattle.calls.specs.Composed.{afterCalls, turnCalls, zeros, with, TurnsAreTurnCalls}
+use Rattle.calls.proofs.Written.{length-putMachine, putMachine-over, putRun-over}
+use Rattle.calls.proofs.Numbers.{machine-words, run-words, Wordy, turns-wordy}
+
+-- ---- results
+
+-- a result is 0 exactly where the answer is done
+first-zero : (x y z : ℕ) → x + y + z ≡ 0 → x ≡ 0
+first-zero x y z e = omega arith
+
+pub zero-is-done : (a : Answer) → eqb (packed a) 0 ≡ isDone a
+zero-is-done a = go (isDone a) refl
+  where
+    go : (t : Bool) → isDone a ≡ t → eqb (packed a) 0 ≡ t
+    go true e = ap (λ (a : Answer). eqb (packed a) 0) (only-done a e)
+    go false e =
+        ne-eqb (packed a) 0 (λ z. false-true (sym e ∙ number-done a (first-zero (number a) (rowOf a % 2 ^ 16 * 2 ^ 16) (columnOf a % 2 ^ 16 * 2 ^ 32) z)))
+
+-- and the answer's number, where it names no row and column
+plain : (a : Answer) → ¬ (number a ≡ 5) → packed a ≡ number a
+plain Done d = refl
+plain IllegalWord d = refl
+plain IllegalType d = refl
+plain BadWidth d = refl
+plain TileTooLarge d = refl
+plain (Unwritten row column) d = absurd (d refl)
+plain OutsideMemory d = refl
+plain SealedByte d = refl
+plain BadArguments d = refl
+plain Overlap d = refl
+plain WrongOpcode d = refl
+plain LeftOutWord d = refl
+plain WrongRegister d = refl
+
+pub eight : (a : Answer) → number a ≡ 8 → packed a ≡ 8
+eight a e = plain a (λ d. let z : _≡_ {A = ℕ} 5 8 = sym d ∙ e in omega arith) ∙ e
+
+-- ---- one call after another: the last apart
+
+after-last : (c : Call) (t : ℕ) (b : Buffers) → afterCalls (replicate (suc t) c) b ≡ called c (afterCalls (replicate t c) b) .after
+after-last c zero b = refl
+after-last c (suc t) b = after-last c t (called c b .after)
+
+abbrev one : Called → ℕ
+one o = cond (eqb (o .result) 0) 1 0
+
+add-last : (x y z : ℕ) → x + (y + z) ≡ x + y + z
+add-last x y z = omega arith
+
+zero-last : (x : ℕ) → x + 0 ≡ 0 + x
+zero-last x = omega arith
+
+zeros-last : (c : Call) (t : ℕ) (b : Buffers)
+    → zeros (calls (replicate (suc t) c) b) ≡ zeros (calls (replicate t c) b) + one (called c (afterCalls (replicate t c) b))
+zeros-last c zero b = zero-last (one (called c b))
+zeros-last c (suc t) b =
+    let d : Buffers = called c b .after in
+    ap (λ (k : ℕ). one (called c b) + k) (zeros-last c t d)
+    ∙ add-last (one (called c b)) (zeros (calls (replicate t c) d)) (one (called c (afterCalls (replicate t c) d)))
+
+-- ---- calls of bodlarina_run_turn
+
+-- the run and the machine in the buffers
+abbrev pub runningIn : Buffers → Running
+runningIn b = heldRunning (b .run) (b .machine) (b .registers) (b .marks) (b .memory)
+
+abbrev pub left : ℕ → Buffers → Called
+left result after = record { result = result; after = after }
+
+abbrev turnOn : Buffers → Bool → Called
+turnOn b t =
+    afterTurn b (cond t (shownTurn (b .run) (b .machine) (turnOutcome smaller (runningIn b)))
+    (turnedOut (packed BadArguments) (b .run) (b .machine) (b .registers) (b .marks) (b .memory)))
+
+turn-call : (b : Buffers) (t : Bool) → turnBlocks (b .run) (b .machine) ≡ t → called Call.runTurn b ≡ turnOn b t
+unfolding hostTurn
+turn-call b t h = ap (turnOn b) h
+
+-- on blocks that are refused
+module _ (b : Buffers) (unfit : turnBlocks (b .run) (b .machine) ≡ false) where
+  refused-call : called Call.runTurn b ≡ left 8 b
+  refused-call = turn-call b false unfit
+
+  idle : (t : ℕ) → afterCalls (turnCalls t) b ≡ b
+  idle zero = refl
+  idle (suc t) = ap (λ (o : Called). afterCalls (turnCalls t) (o .after)) refused-call ∙ idle t
+
+  idle-count : (t : ℕ) → zeros (calls (turnCalls t) b) ≡ 0
+  idle-count zero = refl
+  idle-count (suc t) = ap (λ (o : Called). one o + zeros (calls (turnCalls t) (o .after))) refused-call ∙ ap (λ (k : ℕ). 0 + k) (idle-count t)
+
+-- on blocks that fit
+module _ (b : Buffers) (fit : turnBlocks (b .run) (b .machine) ≡ true) where
+  run-fits : runFit (b .run) ≡ true
+  run-fits = every-each (runFit (b .run) ∷ eqb (length (b .machine)) 64 ∷ []) fit .0
+
+  run-length : length (b .run) ≡ 136
+  run-length = fit-length (b .run) run-fits
+
+  machine-length : length (b .machine) ≡ 64
+  machine-length = eqb-true (length (b .machine)) 64 (every-each (runFit (b .run) ∷ eqb (length (b .machine)) 64 ∷ []) fit .1 .0)
+
+  module _ (r : Running) (w : Wordy r) where
+    back : runningIn (with r b) ≡ r
+    back =
+        ap₂ (λ (R : Run) (m : Machine). running R (benchOf m (r .bench .registers) (r .bench .marks) (r .bench .memory)))
+        (runOf-putRun (r .run) (b .run) (w .run) run-length) (machineOf-putMachine (r .bench .machine) (b .machine) (w .machine) machine-length)
+
+    fits : turnBlocks (with r b .run) (with r b .machine) ≡ true
+    fits =
+        blocks-fit (with r b .run) (with r b .machine) (runFit-putRun (r .run) (b .run) (w .run) run-length)
+        (length-putMachine (r .bench .machine) (b .machine) ∙ machine-length)
+
+    over : (s : Running) → with s (with r b) ≡ with s b
+    over s =
+        ap₂ (λ (m R : List ℕ). buffers m (s .bench .registers) (s .bench .marks) (b .scalars) (s .bench .memory) R (b .step) (b .steps))
+        (putMachine-over (s .bench .machine) (r .bench .machine) (b .machine) machine-length) (putRun-over (s .run) (r .run) (b .run) run-length)
+
+    pub on : called Call.runTurn (with r b) ≡ left (packed (turn smaller r .answer)) (with (turn smaller r .after) b)
+    on =
+        turn-call (with r b) true fits
+        ∙ ap (λ (q : Running). left (packed (turn smaller q .answer)) (with (turn smaller q .after) (with r b))) back
+        ∙ ap (left (packed (turn smaller r .answer))) (over (turn smaller r .after))
+
+  module _ (w : Wordy (runningIn b)) (same : with (runningIn b) b ≡ b) where
+    abbrev r : ℕ → Running
+    r t = afterTurns smaller (runningIn b) t
+
+    pub holds : (t : ℕ) → afterCalls (turnCalls t) b ≡ with (r t) b
+    holds zero = sym same
+    holds (suc t) =
+        after-last Call.runTurn t b ∙ ap (λ (c : Buffers). called Call.runTurn c .after) (holds t)
+        ∙ ap (λ (o : Called). o .after) (on (r t) (turns-wordy (runningIn b) w t))
+
+    next : (t : ℕ) → called Call.runTurn (afterCalls (turnCalls t) b) ≡ left (packed (turn smaller (r t) .answer)) (with (r (suc t)) b)
+    next t = ap (called Call.runTurn) (holds t) ∙ on (r t) (turns-wordy (runningIn b) w t)
+
+    counts : (t : ℕ) → zeros (calls (turnCalls t) b) ≡ answeredDone smaller (runningIn b) t
+    counts zero = refl
+    counts (suc t) =
+        zeros-last Call.runTurn t b
+        ∙ ap₂ (λ (n k : ℕ). n + k) (counts t) (ap one (next t) ∙ ap (λ (u : Bool). cond u 1 0) (zero-is-done (turn smaller (r t) .answer)))
+
+-- ---- bodlarina_run_turns
+
+pub turns-are-turn-calls : TurnsAreTurnCalls
+unfolding hostTurns
+turns-are-turn-calls limit b small small′ = go (turnBlocks (b .run) (b .machine)) refl
+  where
+    out : Bool → Called
+    out t =
+        afterTurn b (cond t (shownTurns (b .run) (b .machine) (turns smaller (runningIn b) limit))
+        (turnedOut 0 (b .run) (b .machine) (b .registers) (b .marks) (b .memory)))
+
+    go : (t : Bool) → turnBlocks (b .run) (b .machine) ≡ t
+        → (out t .after ≡ afterCalls (turnCalls limit) b) × (out t .result ≡ zeros (calls (turnCalls limit) b))
+    go true fit =
+        let w : Wordy (runningIn b) = record { run = run-words (b .run) small (run-fits b fit); machine = machine-words (b .machine) small′ } in
+        let same : with (runningIn b) b ≡ b =
+        ap₂ (λ (m R : List ℕ). buffers m (b .registers) (b .marks) (b .scalars) (b .memory) R (b .step) (b .steps))
+        (putMachine-same (b .machine) small′) (putRun-same (b .run) small (run-fits b fit)) in
+        (sym (holds b fit w same limit), sym (counts b fit w same limit))
+    go false unfit = (sym (idle b unfit limit), sym (idle-count b unfit limit))

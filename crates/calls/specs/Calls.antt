@@ -1,0 +1,104 @@
+-- A host's buffers, the calls that it makes of the C functions (include/bodlarina.h) and what it does between them, and what each leaves.
+use mathlib.Core.List.{List, [], _∷_}
+use Prim.Native.Nat.{ℕ}
+use Rattle.run.specs.declared.Plan.{Plan}
+use Rattle.bodlarina.specs.Host.{HostStarted, hostStart, HostStepped, hostStep, HostRunStarted, hostRunStart, HostNext, hostNext, HostTurned, hostTurn, hostTurns, HostRan, hostRun}
+
+-- ---- buffers
+
+pub record Buffers : Type 0 where
+  pub machine : List ℕ
+  pub registers : List ℕ
+  pub marks : List ℕ
+  pub scalars : List ℕ
+  pub memory : List ℕ
+  pub run : List ℕ
+  pub step : List ℕ
+  pub steps : List ℕ
+
+abbrev pub buffers : (machine registers marks scalars memory run step steps : List ℕ) → Buffers
+buffers machine registers marks scalars memory run step steps = record {
+  machine = machine;
+  registers = registers;
+  marks = marks;
+  scalars = scalars;
+  memory = memory;
+  run = run;
+  step = step;
+  steps = steps;
+}
+
+-- ---- calls
+
+-- bodlarina_start, bodlarina_step, bodlarina_run_start, bodlarina_run_next, bodlarina_run_turn, bodlarina_run_turns and bodlarina_run;
+-- and between them the host writes its buffers, all but registers and marks, as it likes
+pub data Call : Type 0 where
+  start : (rlen mlen sealStart sealLength : ℕ) → Call
+  step : (word : ℕ) → Call
+  runStart : Plan → Call
+  runNext : Call
+  runTurn : Call
+  runTurns : (limit : ℕ) → Call
+  run : Plan → Call
+  write : Buffers → Call
+
+-- what a call returns, and the buffers after it
+pub record Called : Type 0 where
+  pub result : ℕ
+  pub after : Buffers
+
+-- a call leaves every buffer that it is not lent
+abbrev pub afterStart : Buffers → HostStarted → Called
+afterStart b o = record {
+  result = o .result;
+  after = buffers (o .machine) (o .registers) (o .marks) (b .scalars) (b .memory) (b .run) (b .step) (b .steps);
+}
+
+abbrev pub afterStep : Buffers → HostStepped → Called
+afterStep b o = record {
+  result = o .result;
+  after = buffers (o .machine) (o .registers) (o .marks) (o .scalars) (o .memory) (b .run) (b .step) (b .steps);
+}
+
+abbrev pub afterRunStart : Buffers → HostRunStarted → Called
+afterRunStart b o = record {
+  result = o .result;
+  after = buffers (o .machine) (o .registers) (o .marks) (b .scalars) (o .memory) (o .run) (b .step) (b .steps);
+}
+
+abbrev pub afterNext : Buffers → HostNext → Called
+afterNext b o = record {
+  result = o .result;
+  after = buffers (b .machine) (b .registers) (b .marks) (b .scalars) (b .memory) (o .run) (o .step) (b .steps);
+}
+
+abbrev pub afterTurn : Buffers → HostTurned → Called
+afterTurn b o = record {
+  result = o .result;
+  after = buffers (o .machine) (o .registers) (o .marks) (b .scalars) (o .memory) (o .run) (b .step) (b .steps);
+}
+
+abbrev pub afterRun : Buffers → HostRan → Called
+afterRun b o = record {
+  result = o .result;
+  after = buffers (o .machine) (o .registers) (o .marks) (b .scalars) (o .memory) (b .run) (b .step) (o .steps);
+}
+
+abbrev pub called : Call → Buffers → Called
+called (Call.start rlen mlen sealStart sealLength) b =
+    afterStart b (hostStart rlen mlen sealStart sealLength (b .machine) (b .registers) (b .marks))
+called (Call.step word) b = afterStep b (hostStep word (b .machine) (b .registers) (b .marks) (b .scalars) (b .memory))
+called (Call.runStart P) b = afterRunStart b (hostRunStart P (b .machine) (b .registers) (b .marks) (b .memory) (b .run))
+called Call.runNext b = afterNext b (hostNext (b .run) (b .step))
+called Call.runTurn b = afterTurn b (hostTurn (b .run) (b .machine) (b .registers) (b .marks) (b .memory))
+called (Call.runTurns limit) b = afterTurn b (hostTurns limit (b .run) (b .machine) (b .registers) (b .marks) (b .memory))
+called (Call.run P) b = afterRun b (hostRun P (b .machine) (b .registers) (b .marks) (b .memory) (b .steps))
+called (Call.write w) b = record {
+  result = 0;
+  after = buffers (w .machine) (b .registers) (b .marks) (w .scalars) (w .memory) (w .run) (w .step) (w .steps);
+}
+
+-- one call after another
+abbrev pub calls : List Call → Buffers → List Called
+calls [] b = []
+calls (c ∷ cs) b = let o : Called = called c b in o ∷ calls cs (o .after)

@@ -1,0 +1,172 @@
+-- What holds over lists of calls of the C functions (include/bodlarina.h): demand 3 from bodlarina_run_start on, bodlarina_run_turns as
+-- that many calls of bodlarina_run_turn, bodlarina_run as a start and all its turns, and demand 2. The proofs stand in proofs/.
+use mathlib.Core.Path.{_≡_}
+use mathlib.Core.Bool.{cond}
+use mathlib.Core.List.{List, [], _∷_}
+use Prim.Native.Nat.{ℕ, suc, _+_, _^_, _≤_, _<_}
+use lib.ListN.{length, getD, replicate}
+use lib.Dec.{eqb}
+use Rattle.width.specs.Tile.{In}
+use Rattle.machine.specs.declared.Answer.{Answer}
+use Rattle.machine.specs.Answers.{number}
+use Rattle.machine.specs.Geometry.{Bench, benchOf}
+use Rattle.machine.specs.Setting.{smaller}
+use Rattle.machine.specs.Operation.{element}
+use Rattle.run.specs.declared.Plan.{Plan}
+use Rattle.run.specs.declared.Handed.{Handed}
+use Rattle.run.specs.Words.{steps}
+use Rattle.run.specs.Plan.{Job, Kept, shape, wide, cAt, productOf}
+use Rattle.run.specs.Encoding.{wordOf}
+use Rattle.run.specs.Turn.{Running, afterTurns}
+use Rattle.run.specs.Statement as Demand
+use Rattle.run.specs.Statement.{Answered, jobOf, startedRun}
+use Rattle.run.specs.Theorems.{SealKept}
+use Rattle.blocks.specs.Blocks.{machineBytes, machineOf, putMachine, runBytes, putRun, planNumbers, stepBytes, putHanded, putNumbers}
+use Rattle.bodlarina.specs.Host.{countBytes}
+use Rattle.bodlarina.specs.Theorems.{Bytes}
+use Rattle.calls.specs.Calls.{Buffers, buffers, Call, Called, called, calls}
+
+-- ---- one call after another
+
+-- the buffers after a list of calls, refused ones included
+abbrev pub afterCalls : List Call → Buffers → Buffers
+afterCalls [] b = b
+afterCalls (c ∷ cs) b = afterCalls cs (called c b .after)
+
+-- t calls of bodlarina_run_turn
+abbrev pub turnCalls : ℕ → List Call
+turnCalls t = replicate t Call.runTurn
+
+-- how many of the calls returned 0
+abbrev pub zeros : List Called → ℕ
+zeros [] = 0
+zeros (o ∷ os) = cond (eqb (o .result) 0) 1 0 + zeros os
+
+-- the machine in the buffers, with its registers, marks and memory
+abbrev pub benchIn : Buffers → Bench
+benchIn b = benchOf (machineOf (b .machine)) (b .registers) (b .marks) (b .memory)
+
+-- ---- bodlarina_run_start
+
+-- a plan's eleven numbers are uint64_t
+abbrev pub PlanWords : Plan → Type 0
+PlanWords P = (j : ℕ) → getD (planNumbers P) j 0 < 2 ^ 64
+
+-- what a call of bodlarina_run_start returns and leaves: the number of an answer that is 0, 8, 6 or 9 exactly where demand 3 says so; and
+-- no byte of any buffer but the run's block changes
+pub record StartCall (P : Plan) (b : Buffers) (o : Called) : Type 0 where
+  pub answered : (a : Answer) × (o .result ≡ number a) × Answered P (benchIn b) a
+  pub unchanged : o .after ≡ buffers (b .machine) (b .registers) (b .marks) (b .scalars) (b .memory) (o .after .run) (b .step) (b .steps)
+
+-- for every plan, on blocks of the right lengths (others get 8: bodlarina/specs/Host.antt) and a memory that is a slice of bytes
+abbrev pub StartCallsAreRight : Type 0
+StartCallsAreRight = (P : Plan) (b : Buffers) → length (b .machine) ≡ machineBytes → length (b .run) ≡ runBytes → Demand.Bytes (b .memory)
+    → StartCall P b (called (Call.runStart P) b)
+
+-- ---- demand 3: bodlarina_run_turn, from an accepted bodlarina_run_start on
+
+-- the buffers with a run, a machine and what it is lent: the numbers of both are written over their blocks, the others stay
+abbrev pub with : Running → Buffers → Buffers
+with r b =
+    buffers (putMachine (r .bench .machine) (b .machine)) (r .bench .registers) (r .bench .marks) (b .scalars) (r .bench .memory)
+    (putRun (r .run) (b .run)) (b .step) (b .steps)
+
+-- the job of a plan on the buffers at the call of bodlarina_run_start
+abbrev pub jobIn : Plan → Buffers → Job
+jobIn P b = jobOf smaller P (benchIn b)
+
+-- the buffers after bodlarina_run_start on b and t calls of bodlarina_run_turn after it
+abbrev pub afterTurnCalls : Plan → Buffers → ℕ → Buffers
+afterTurnCalls P b t = afterCalls (Call.runStart P ∷ turnCalls t) b
+
+-- the buffers with a step in the step's block, and these bytes in the run's block
+abbrev pub handing : Handed → List ℕ → Buffers → Buffers
+handing h run b =
+    buffers (b .machine) (b .registers) (b .marks) (b .scalars) (b .memory) run (putHanded h (b .step)) (b .steps)
+
+pub record TurnCalls (P : Plan) (b : Buffers) (t : ℕ) : Type 0 where
+  -- the buffers hold the run, the machine, the registers, the marks and the memory that t turns of demand 3 leave
+  pub holds : afterTurnCalls P b t ≡ with (afterTurns smaller (startedRun smaller P (benchIn b)) t) b
+  -- "Turns 1 to s each hand out one step .. and it is answered 0."
+  pub next-done : t < steps (shape (jobIn P b)) → called Call.runTurn (afterTurnCalls P b t) .result ≡ 0
+  -- "Every later turn gives 8 and changes nothing": no byte of any buffer
+  pub past-end : steps (shape (jobIn P b)) ≤ t
+      → (called Call.runTurn (afterTurnCalls P b t) .result ≡ 8) × (called Call.runTurn (afterTurnCalls P b t) .after ≡ afterTurnCalls P b t)
+  -- "Steps are handed out one at a time": asking by bodlarina_run_next (its step's block 24 bytes) gives 0 and the next step, and moves the
+  -- run as the turn would
+  pub asks : length (b .step) ≡ stepBytes → t < steps (shape (jobIn P b))
+      → (called Call.runNext (afterTurnCalls P b t) .result ≡ 0)
+      × (called Call.runNext (afterTurnCalls P b t) .after ≡ handing (wordOf (jobIn P b) t) (afterTurnCalls P b (suc t) .run) (afterTurnCalls P b t))
+  -- "asking past the last gives 8": and changes no byte
+  pub asks-past-end : length (b .step) ≡ stepBytes → steps (shape (jobIn P b)) ≤ t
+      → (called Call.runNext (afterTurnCalls P b t) .result ≡ 8) × (called Call.runNext (afterTurnCalls P b t) .after ≡ afterTurnCalls P b t)
+  -- "After each turn the memory outside C's elements is as at the start."
+  pub kept : Kept (jobIn P b) (afterTurnCalls P b t .memory)
+  -- "After turn s and each later one, C(i, j) is the sum ..", over the memory at the start
+  pub product : steps (shape (jobIn P b)) ≤ t → (i j : ℕ) → i < P .m → j < P .n
+      → element (afterTurnCalls P b t .memory) (cAt P) (wide P) i j ≡ productOf (jobIn P b) i j
+
+-- for every plan that is accepted, every machine's block of bytes, and every memory that is a slice of bytes; whatever the other buffers hold
+abbrev pub TurnCallsAreRight : Type 0
+TurnCallsAreRight = (P : Plan) (b : Buffers) → PlanWords P → Bytes (b .machine) → Demand.Bytes (b .memory)
+    → called (Call.runStart P) b .result ≡ 0 → (t : ℕ) → TurnCalls P b t
+
+-- ---- bodlarina_run_turns
+
+-- It leaves exactly the buffers that so many calls of bodlarina_run_turn leave, and returns how many of these return 0: for every run's
+-- block and machine's block of bytes, forged ones too
+abbrev pub TurnsAreTurnCalls : Type 0
+TurnsAreTurnCalls = (limit : ℕ) (b : Buffers) → Bytes (b .run) → Bytes (b .machine)
+    → (called (Call.runTurns limit) b .after ≡ afterCalls (turnCalls limit) b)
+    × (called (Call.runTurns limit) b .result ≡ zeros (calls (turnCalls limit) b))
+
+-- ---- bodlarina_run
+
+-- the buffers of b with what bodlarina_run is lent of c, and a count in the count's block
+abbrev pub counting : ℕ → Buffers → Buffers → Buffers
+counting n c b =
+    buffers (c .machine) (c .registers) (c .marks) (b .scalars) (c .memory) (b .run) (b .step) (putNumbers (n ∷ []) (b .steps))
+
+-- It returns what bodlarina_run_start returns. Where that is 0 it leaves the machine's block, registers, marks and memory as this and s
+-- calls of bodlarina_run_turn after it do, and s in its count's block, where s is the number of steps; the run's block isn't lent to it.
+abbrev pub RunIsTurnCalls : Type 0
+RunIsTurnCalls = (P : Plan) (b : Buffers) → PlanWords P → Bytes (b .machine) → Demand.Bytes (b .memory)
+    → length (b .run) ≡ runBytes → length (b .steps) ≡ countBytes
+    → let s : ℕ = steps (shape (jobIn P b)) in
+    (called (Call.run P) b .result ≡ called (Call.runStart P) b .result)
+    × (called (Call.run P) b .result ≡ 0 → called (Call.run P) b .after ≡ counting s (afterTurnCalls P b s) b)
+
+-- ---- demand 2: the seal
+
+-- byte q of memory is sealed, by the seal in the machine's block
+abbrev pub SealedIn : Buffers → ℕ → Type 0
+SealedIn b q = In (machineOf (b .machine) .«seal_start») (machineOf (b .machine) .«seal_length») q
+
+-- A call that is not bodlarina_start. Of what the host writes between calls, which is never registers or marks (Calls.antt): the machine's
+-- block and the sealed bytes of memory stay, the rest may change.
+abbrev pub SparesSeal : Call → Buffers → Type 0
+SparesSeal (Call.start rlen mlen sealStart sealLength) b = ⊥
+SparesSeal (Call.step word) b = Unit {0}
+SparesSeal (Call.runStart P) b = Unit {0}
+SparesSeal Call.runNext b = Unit {0}
+SparesSeal Call.runTurn b = Unit {0}
+SparesSeal (Call.runTurns limit) b = Unit {0}
+SparesSeal (Call.run P) b = Unit {0}
+SparesSeal (Call.write w) b = (w .machine ≡ b .machine) × ((q : ℕ) → SealedIn b q → getD (w .memory) q 0 ≡ getD (b .memory) q 0)
+
+-- so of each call of a list, on the buffers that it gets
+abbrev pub EachSparesSeal : List Call → Buffers → Type 0
+EachSparesSeal [] b = Unit {0}
+EachSparesSeal (c ∷ cs) b = SparesSeal c b × EachSparesSeal cs (called c b .after)
+
+-- over any list of such calls, refused ones included: the seal in the machine's block stays, and no sealed byte of memory changes
+abbrev pub SealHoldsOverCalls : Type 0
+SealHoldsOverCalls = (cs : List Call) (b : Buffers) → Bytes (b .machine) → EachSparesSeal cs b
+    → SealKept (machineOf (b .machine) .«seal_start») (machineOf (b .machine) .«seal_length») (b .memory) (benchIn (afterCalls cs b))
+
+-- and from an accepted bodlarina_start on: the range that it was given
+abbrev pub SealHoldsFromStartCall : Type 0
+SealHoldsFromStartCall = (rlen mlen sealStart sealLength : ℕ) (b : Buffers)
+    → let o : Called = called (Call.start rlen mlen sealStart sealLength) b in
+    o .result ≡ 0 → (cs : List Call) → EachSparesSeal cs (o .after)
+    → SealKept sealStart sealLength (b .memory) (benchIn (afterCalls cs (o .after)))
