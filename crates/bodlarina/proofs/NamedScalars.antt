@@ -5,16 +5,17 @@ use mathlib.Core.Bool.{Bool, true, false, cond}
 use mathlib.Core.Logic.{_⊎_, inl, inr}
 use mathlib.Core.List.{List, [], _∷_}
 use Prim.Native.Nat.{ℕ, _+_, _*_, _/_, _%_, _<_}
-use native.Mathlib.Nat.{mod-lt, div-add-mod'}
+use native.Mathlib.Nat.{zero-add, mod-lt, div-add-mod'}
 use native.Mathlib.Decide.{ℕ-discrete}
 use native.Mathlib.Omega.{arith}
 use lib.Dec.{eqb}
 use lib.ListN.{length, getD, set, replicate, length-set}
 use lib.Seq.{getD-set-same, getD-set-other, ext-getD}
-use borrow.Author.Tests.{eq-eqb, eqb-true}
+use borrow.Author.Tests.{eq-eqb, eqb-true, eqb-false}
 use Rattle.width.specs.Tile.{le, byteOf, putLe, putRow}
 use Rattle.width.proofs.TileLaws.{length-putLe, putLe-at, putLe-out, length-putRow, putRow-at}
 use Rattle.width.proofs.PutLaws.{le-byte}
+use Rattle.width.proofs.WordLaws.{putRow-same}
 use Rattle.machine.specs.declared.Answer.{Answer}
 use Rattle.machine.specs.declared.Answer.the-variants.{Done, BadArguments}
 use Rattle.machine.specs.declared.Wrong.the-variants.{Opcode, Register}
@@ -136,17 +137,25 @@ written-other ys d f v s h n = elim h [
     go true z = refl
     go false z = getD-set-other ys d s v 0 (λ e. n (e ∙ z))
 
+written-zero : (ys : List ℕ) (d v : ℕ) → getD (withScalar ys d v) 0 0 ≡ getD ys 0 0
+written-zero ys d v = go (eqb d 0) refl
+  where
+    go : (t : Bool) → eqb d 0 ≡ t → getD (cond t ys (set ys d v)) 0 0 ≡ getD ys 0 0
+    go true h = refl
+    go false h = getD-set-other ys d 0 v 0 (λ e. eqb-false d 0 h (sym e))
+
 -- ---- a step on two lists of values that agree in the slots of a word's fields
 
 abbrev At : List ℕ → List ℕ → ℕ → Type 0
 At xs ys s = getD xs s 0 ≡ getD ys s 0
 
--- what they leave agrees in all but the scalars, in these at slot f, and p leaves every other slot of ys
+-- what they leave agrees in all but the scalars, in these at slot f, and p leaves slot 0 and every slot of ys but f
 record Agree (f : ℕ) (ys : List ℕ) (o p : Outcome) : Type 0 where
   pub answer : o .answer ≡ p .answer
   pub bench : o .bench ≡ p .bench
   pub value : At (o .scalars) (p .scalars) f
   pub others : (s : ℕ) → ¬ (s ≡ f) → At (p .scalars) ys s
+  pub zero : At (p .scalars) ys 0
 
 module _ (word : ℕ) (xs ys : List ℕ) (B : Bench) (tx : length xs ≡ 32) (ty : length ys ≡ 32)
     (ed : At xs ys (field7 word)) (ea : At xs ys (field15 word)) (eb : At xs ys (field20 word)) where
@@ -207,8 +216,9 @@ module _ (word : ℕ) (xs ys : List ℕ) (B : Bench) (tx : length xs ≡ 32) (ty
         bench = refl;
         value = written-same xs ys (destination (decode word)) (field7 word) _ (omega arith) (tx ∙ sym ty) d ed;
         others = λ s m. written-other ys (destination (decode word)) (field7 word) _ s d m;
+        zero = written-zero ys (destination (decode word)) _;
       }
-      go false = record { answer = refl; bench = refl; value = ed; others = λ s m. refl }
+      go false = record { answer = refl; bench = refl; value = ed; others = λ s m. refl; zero = refl }
 
 -- ---- written back
 
@@ -237,6 +247,15 @@ putValues-one b zs f h small l e =
               ∙ sym (putLe-out (f * 8) 8 (value f) b (0 + j * 8 + r) (λ i. z (omega arith)))
         ]
 
+-- values that are those of the block in all slots: written over it, they change nothing
+putValues-none : (b zs : List ℕ) → Bytes b → ((s : ℕ) → s < 32 → getD zs s 0 ≡ le b (s * 8) 8) → b ≡ putValues zs b
+unfolding putValues
+putValues-none b zs small e = sym (putRow-same b small 0 32 8 (λ s. getD zs s 0) (λ s l. e s l ∙ ap (λ (p : ℕ). le b p 8) (sym (zero-add (s * 8)))))
+
+-- slot f written, if it is not slot 0
+abbrev putSlot : ℕ → ℕ → List ℕ → List ℕ
+putSlot f v b = cond (eqb f 0) b (putLe (f * 8) 8 v b)
+
 -- ---- for code
 
 -- slot s of the values is that of the block
@@ -257,13 +276,12 @@ module _ (word : ℕ) (block : List ℕ) (B : Bench) (whole : length block ≡ 2
   -- values of which those in the slots of the word's fields are right, and what the step has left in the slot of bits 11..7 written back
   block-named : (s : Stepped) (R K X Q S xs : List ℕ) → length xs ≡ 32
       → Right block xs (field7 word) → Right block xs (field15 word) → Right block xs (field20 word)
-      → steppedAs s R K X Q ≡ step word xs B → S ≡ putLe (field7 word * 8) 8 (getD X (field7 word) 0) block
+      → steppedAs s R K X Q ≡ step word xs B → S ≡ putSlot (field7 word) (getD X (field7 word) 0) block
       → steppedAs s R K S Q ≡ stepBlock word block B
   block-named s R K X Q S xs t hd ha hb e es =
       ap₂ (λ (a : Reply) (b : Bench). record { answer = a; bench = b; scalars = S }) (ap (λ (o : Outcome). o .answer) e ∙ g .answer) (ap (λ (o : Outcome). o .bench) e ∙ g .bench)
       ∙ ap (λ (S : List ℕ). record { answer = o .answer; bench = o .bench; scalars = S })
-      (es ∙ ap (λ (v : ℕ). putLe (field7 word * 8) 8 v block) (ap (λ (o : Outcome). getD (o .scalars) (field7 word) 0) e ∙ g .value)
-      ∙ sym (putValues-one block (o .scalars) (field7 word) whole small (omega arith) (λ j n l. g .others j n ∙ values-at block j l)))
+      (es ∙ ap (λ (v : ℕ). putSlot (field7 word) v block) (ap (λ (o : Outcome). getD (o .scalars) (field7 word) 0) e ∙ g .value) ∙ written (eqb (field7 word) 0) refl)
     where
       o : Outcome
       o = step word (valuesOf block) B
@@ -272,10 +290,23 @@ module _ (word : ℕ) (block : List ℕ) (B : Bench) (whole : length block ≡ 2
       g = agree word xs (valuesOf block) B t (length-values block)
           (hd ∙ sym (values-at block (field7 word) (omega arith))) (ha ∙ sym (values-at block (field15 word) (omega arith))) (hb ∙ sym (values-at block (field20 word) (omega arith)))
 
+      -- every slot but that of bits 11..7 is as it was, and this one too where it is slot 0
+      all : field7 word ≡ 0 → (j : ℕ) → j < 32 → getD (o .scalars) j 0 ≡ le block (j * 8) 8
+      all z j l = elim (ℕ-discrete j 0) [
+        | yes w ↦ ap (λ (j : ℕ). getD (o .scalars) j 0) w ∙ g .zero ∙ ap (λ (j : ℕ). getD (valuesOf block) j 0) (sym w) ∙ values-at block j l
+        | no n ↦ g .others j (λ e. n (e ∙ z)) ∙ values-at block j l
+      ]
+
+      written : (t : Bool) → eqb (field7 word) 0 ≡ t
+          → cond t block (putLe (field7 word * 8) 8 (getD (o .scalars) (field7 word) 0) block) ≡ putValues (o .scalars) block
+      written true h = putValues-none block (o .scalars) small (all (eqb-true (field7 word) 0 h))
+      written false h =
+          sym (putValues-one block (o .scalars) (field7 word) whole small (omega arith) (λ j n l. g .others j n ∙ values-at block j l))
+
   -- the code's values: zeros, and three slots filled
   pub block-stepped : (s : Stepped) (R K X Q S : List ℕ) (d a b u v w : ℕ) → d ≡ field7 word → a ≡ field15 word → b ≡ field20 word
       → u ≡ le block (d * 8) 8 → v ≡ le block (a * 8) 8 → w ≡ le block (b * 8) 8
-      → steppedAs s R K X Q ≡ step word (set (set (set (replicate 32 0) d u) a v) b w) B → S ≡ putLe (d * 8) 8 (getD X d 0) block
+      → steppedAs s R K X Q ≡ step word (set (set (set (replicate 32 0) d u) a v) b w) B → S ≡ putSlot d (getD X d 0) block
       → steppedAs s R K S Q ≡ stepBlock word block B
   block-stepped s R K X Q S d a b u v w ed ea eb eu ev ew e es =
       let z : List ℕ = replicate 32 0 in
@@ -290,4 +321,4 @@ module _ (word : ℕ) (block : List ℕ) (B : Bench) (whole : length block ≡ 2
       (subst (Right block (set y b w)) ed (still block y b w d lb ew (still block x a v d la ev (filled block z d u ld eu))))
       (subst (Right block (set y b w)) ea (still block y b w a lb ew (filled block x a v la ev)))
       (subst (Right block (set y b w)) eb (filled block y b w lb ew))
-      e (es ∙ ap (λ (d : ℕ). putLe (d * 8) 8 (getD X d 0) block) ed)
+      e (es ∙ ap (λ (d : ℕ). putSlot d (getD X d 0) block) ed)

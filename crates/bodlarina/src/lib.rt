@@ -11,7 +11,11 @@ use machine::Stepped;
 mod runs; // the product run
 
 ghost use mathlib.Core.Path.{_≡_};
+ghost use mathlib.Core.Bool.{cond};
+ghost use Prim.Native.Nat.{_*_, _<_};
 ghost use lib.ListN.{length};
+ghost use lib.Dec.{eqb};
+ghost use Rattle.width.specs.Tile.{putLe};
 ghost use Rattle.machine.specs.Geometry.{benchOf};
 ghost use Rattle.machine.specs.Step.{steppedAs};
 ghost use Rattle.blocks.specs.Blocks.{scalarBytes};
@@ -44,8 +48,20 @@ pub extern "C" fn bodlarina_start(
     packed(answer)
 }
 
+// A value into its slot of the scalars' block. Slot 0 is never written.
+fn put_scalar(scalars: &mut [u8], slot: usize, value: u64)
+    requires { ⌜ length (now scalars) ≡ scalarBytes ⌝ }
+    requires { ⌜ slot < 32 ⌝ }
+    ensures { λ _. ⌜ now (scalars .exit) ≡ cond (eqb slot 0) (now (scalars .entry)) (putLe (slot * 8) 8 value (now (scalars .entry))) ⌝ }
+{
+    if slot == 0 {
+        return;
+    }
+    write8(scalars, slot * 8, value);
+}
+
 // A step with the scalars in their block. Only the slots in the word's fields of rd, rs1 and rs2 are read out of it, and only that of
-// rd is written back: no word uses another slot, and a word without such a field leaves the slot as it was.
+// rd is written back, if it is not slot 0: no word uses another slot, and a word without such a field leaves the slot as it was.
 fn step_block(
     m: Machine,
     registers: &mut [u8],
@@ -66,7 +82,7 @@ fn step_block(
     values[rs1] = read8(scalars, rs1 * 8);
     values[rs2] = read8(scalars, rs2 * 8);
     let stepped = step::step(m, registers, marks, &mut values, memory, word);
-    write8(scalars, rd * 8, values[rd]);
+    put_scalar(scalars, rd, values[rd]);
     stepped
 }
 

@@ -56,17 +56,14 @@ slice-aggregate-step c = search needs
 step-requires : tie.Need-step-requires
 step-requires c κs = search needs
 
-mul-write8 : tie.Need-mul-write8
-mul-write8 c = search needs
+mul-put-scalar : tie.Need-mul-put-scalar
+mul-put-scalar c = search needs
 
-mul-write8-2 : tie.Need-mul-write8-2
-mul-write8-2 c = search needs
+array-read-put-scalar : tie.Need-array-read-put-scalar
+array-read-put-scalar c = search needs
 
-array-read-write8 : tie.Need-array-read-write8
-array-read-write8 c = search needs
-
-write8-requires : tie.Need-write8-requires
-write8-requires c κs = search needs
+put-scalar-requires : tie.Need-put-scalar-requires
+put-scalar-requires c κs = search needs
 
 same-length : tie.Need-same-length
 same-length c = search needs
@@ -97,7 +94,7 @@ returns c =
     (λ i. omega (arith, k .slice-known3 .given i)) (s .step .result) _ _ _ _ _
     (d .low-field .result) (a .middle-field .result) (b .high-field .result) (o .read8 .result) (p .read82 .result) (q .read83 .result)
     (d .low-field .ensures) (a .middle-field .ensures) (b .high-field .ensures) (o .read8 .ensures) (p .read82 .ensures) (q .read83 .ensures)
-    (s .step .ensures) (w .write8 .ensures)
+    (s .step .ensures) (w .put-scalar .ensures)
 
 pub step-block-spec : {M : Type 1} → statement M
 step-block-spec =
@@ -120,10 +117,9 @@ step-block-spec =
     array-write-values-3
     slice-aggregate-step
     step-requires
-    mul-write8
-    mul-write8-2
-    array-read-write8
-    write8-requires
+    mul-put-scalar
+    array-read-put-scalar
+    put-scalar-requires
     same-length
     same-length-2
     same-length-3
