@@ -4,7 +4,7 @@ use mathlib.Core.Bool.{Bool, true, false, cond, _||_}
 use mathlib.Core.List.{List, [], _∷_}
 use mathlib.Core.Option.{Option, none}
 use Prim.Native.Nat.{ℕ, _+_, _-_, _*_, _/_, _%_, _^_, _≤_, _<_}
-use native.Mathlib.Nat.{mul-le-mul, le-div-iff-mul-le, mod-eq-of-lt, div-add-mod'}
+use native.Mathlib.Nat.{mul-le-mul, le-div-iff-mul-le, div-le-self, mod-eq-of-lt, div-add-mod'}
 use native.Mathlib.Omega.{arith}
 use lib.Dec.{leb, ltb, eqb}
 use borrow.Author.Tests.{eqb-true, ltb-true, leb-true, eq-eqb, ne-eqb}
@@ -22,12 +22,14 @@ use Rattle.run.specs.declared.Place.{Place}
 use Rattle.machine.specs.declared.Answer.{Answer}
 use Rattle.machine.specs.declared.Answer.the-variants.{Done}
 use Rattle.run.specs.declared.Place.the-variants.{AtType, AtM, AtN, AtClear, AtK, AtA, AtB, AtMultiply, AtStore, AtEnd}
-use Rattle.run.specs.Words.{Op, Shape}
+use Rattle.run.specs.Words.{Op, Shape, steps}
 use Rattle.run.specs.Places.{next, wordAt}
 use Rattle.run.specs.Plan.{msew, typeOf}
 use Rattle.run.specs.Encoding.{startOf}
 use Rattle.run.specs.Start.{format, planned}
 use Rattle.run.specs.Turn.{startsM, startsN, startsK, begins, soundRun, runShape, handsOut, moved, ask, AskOutcome, asked}
+use Rattle.width.specs.Blocks.{count}
+use Rattle.asking.specs.Steps.{stepsIn}
 use Rattle.asking.specs.Parts.{numbered, placed, isEnd, handedOf, shapeBy, Within, Most}
 use Rattle.run.proofs.HandedLaws.{askWith}
 use Rattle.run.proofs.PlaceLaws.{Sound}
@@ -275,3 +277,23 @@ moved-sound R ok =
     let t = every-each (permitted (R .rlen) (R .mlen) ∷ planned (R .plan) ∷ begins (runShape smaller R) (R .place) ∷ []) ok in
     each-every (permitted (R .rlen) (R .mlen) ∷ planned (R .plan) ∷ begins (runShape smaller R) (next (runShape smaller R) (R .place)) ∷ [])
     (t .0, (t .1 .0, (begins-next (runShape smaller R) (run-most R (run-numbered R ok)) (R .place) (t .1 .1 .0), tt)))
+
+-- ---- the number of steps
+
+-- the most rows, columns and terms of a block are few
+pub run-blocks : (R : Run) → numbered R ≡ true → (runShape smaller R .tm ≤ 4096) × ((runShape smaller R .tn ≤ 4096) × (runShape smaller R .tk ≤ 4096))
+run-blocks R ok =
+    let b = permitted-bounds (R .rlen) (R .mlen) (run-lengths R ok) in
+    let rows : R .mlen / R .rlen ≤ R .mlen = div-le-self (R .mlen) (R .rlen) in
+    let columns : R .rlen / 8 / sew (typeOf (R .plan)) ≤ R .rlen / 8 = div-le-self (R .rlen / 8) (sew (typeOf (R .plan))) in
+    omega arith
+
+-- a run that no start can have made has none
+pub no-steps : (R : Run) → soundRun smaller R ≡ false → 0 ≡ stepsIn R
+no-steps R h = ap (λ (t : Bool). cond t (steps (runShape smaller R)) 0) (sym h)
+
+-- by the numbers of blocks as code holds them
+pub steps-counted : (R : Run) (r c t : ℕ) → soundRun smaller R ≡ true
+    → r ≡ count (runShape smaller R .tm) (R .plan .m) → c ≡ count (runShape smaller R .tn) (R .plan .n) → t ≡ count (runShape smaller R .tk) (R .plan .k)
+    → 1 + r * (1 + c * (3 + 4 * t)) ≡ stepsIn R
+steps-counted R r c t h er ec et = rw (er, ec, et) (ap (λ (t : Bool). cond t (steps (runShape smaller R)) 0) (sym h))

@@ -19,6 +19,8 @@ ghost use Rattle.run.specs.Plan.{narrow, wide, msew, typeOf};
 ghost use Rattle.run.specs.Start.{format, planned};
 ghost use Rattle.run.specs.Places.{headM, headN, headK, next, wordAt};
 ghost use Rattle.run.specs.Turn.{startsM, startsN, startsK, begins, soundRun, runParameters, runShape, moved, ask, asked, askedAs};
+ghost use Rattle.width.specs.Blocks.{count};
+ghost use Rattle.asking.specs.Steps.{stepsIn};
 ghost use Rattle.asking.specs.Parts.{numbered, placed, isEnd, handedOf, shapeBy, Within, Most};
 ghost use Rattle.machine.specs.declared.Answer.the-variants.{BadArguments};
 ghost use Rattle.run.specs.Encoding.{settingWord, memoryWord, arithmeticWord, log, plain, startOf, handedFor};
@@ -679,4 +681,35 @@ pub fn next(run: Run) -> Asked
         handed: handed,
         run: after,
     }
+}
+
+// ---- the number of steps
+
+// How many blocks of at most so many a size is cut into.
+fn blocks(total: u64, most: u64) -> u64
+    requires { ⌜ (total ≤ 1024) × ((0 < most) × (most ≤ 4096)) ⌝ }
+    ensures { λ r. ⌜ r ≡ count most total ⌝ }
+{
+    (total + (most - 1)) / most
+}
+
+// How many steps so many blocks of rows, columns and terms have.
+fn steps_by(rows: u64, columns: u64, terms: u64) -> u64
+    requires { ⌜ (rows ≤ 1024) × ((columns ≤ 1024) × (terms ≤ 1024)) ⌝ }
+    ensures { λ r. ⌜ r ≡ 1 + rows * (1 + columns * (3 + 4 * terms)) ⌝ }
+{
+    1 + rows * (1 + columns * (3 + 4 * terms))
+}
+
+// How many steps a run has in all; 0 of a run that no start can have made.
+pub fn steps(run: Run) -> u64
+    ensures { λ r. ⌜ r ≡ stepsIn run ⌝ }
+{
+    if !is_sound_run(run) {
+        return 0;
+    }
+    let rows = blocks(run.plan.m, most_rows(run));
+    let columns = blocks(run.plan.n, most_columns(run));
+    let terms = blocks(run.plan.k, most_terms(run));
+    steps_by(rows, columns, terms)
 }

@@ -23,8 +23,9 @@ use Rattle.run.specs.declared.Finished.{Finished}
 use Rattle.run.specs.Start.{startRun, startedAs}
 use Rattle.run.specs.Turn.{ask, asked, askedAs, Running, running, turnOutcome, turnedAs, turns, takenAs}
 use Rattle.run.specs.Whole.{whole, finishedAs}
+use Rattle.asking.specs.Steps.{stepsIn}
 use Rattle.blocks.specs.Blocks.{machineOf, putMachine, spotIn, spotOf, placeOf, sameSpot, runFit, runOf, putRun, putHanded, putNumbers, packed}
-use Rattle.bodlarina.specs.Host.{runStartedOut, shownRunStart, hostRunStart, nextOut, shownNext, hostNext, turnBlocks, heldRunning, turnedOut, shownTurn, hostTurn, shownTurns, hostTurns, ranOut, shownRun, hostRun}
+use Rattle.bodlarina.specs.Host.{runStartedOut, shownRunStart, hostRunStart, nextOut, shownNext, hostNext, hostRunSteps, turnBlocks, heldRunning, turnedOut, shownTurn, hostTurn, shownTurns, hostTurns, ranOut, shownRun, hostRun}
 
 pub fit-length : (block : List ℕ) → runFit block ≡ true → length block ≡ 136
 unfolding runFit
@@ -83,6 +84,17 @@ module _ (run step : List ℕ) where
   next-shown t R a N S r h k eR e et en es er =
       rw (er, en, es, sym et)
       (ap (shownNext run step) (e ∙ ap (λ (R : Run). asked (ask smaller R)) eR) ∙ fits h k)
+
+-- ---- the number of a run's steps
+
+module _ (run : List ℕ) where
+  pub steps-unfit : runFit run ≡ false → 0 ≡ hostRunSteps run
+  unfolding hostRunSteps
+  steps-unfit h = rw h
+
+  pub steps-fit : (R : Run) (r : ℕ) → runFit run ≡ true → R ≡ runOf run → r ≡ stepsIn R → r ≡ hostRunSteps run
+  unfolding hostRunSteps
+  steps-fit R r h eR er = rw h (er ∙ ap stepsIn eR)
 
 -- ---- turns
 

@@ -15,7 +15,14 @@ use Rattle.run.specs.declared.Plan.{Plan}
 use Rattle.run.specs.Start.{RunStart, startRun}
 use Rattle.run.specs.Turn.{ask, AskOutcome, asked, Running, running, TurnOutcome, turnOutcome, TurnsOutcome, turns}
 use Rattle.run.specs.Whole.{WholeOutcome, whole}
+use Rattle.asking.specs.Steps.{stepsIn}
 use Rattle.blocks.specs.Blocks.{machineBytes, machineOf, putMachine, scalarBytes, valuesOf, putValues, runBytes, runOf, putRun, runFit, stepBytes, putHanded, putNumbers, packed}
+
+-- ---- the version
+
+-- what a call of bodlarina_version returns: 10,000 times the major number, 100 times the minor one, and the patch number. 0.1.0
+abbrev pub hostVersion : ℕ
+hostVersion = 100
 
 -- ---- starting
 
@@ -146,6 +153,12 @@ hostNext run step =
     cond (every (runFit run ∷ eqb (length step) stepBytes ∷ []))
     (shownNext run step (asked (ask smaller (runOf run))))
     (nextOut (packed (reply BadArguments)) run step)
+
+-- ---- the number of a run's steps
+
+-- what a call of bodlarina_run_steps returns: the steps of the run in this block, wherever it has come to; 0 for a block that is refused
+unfoldable pub hostRunSteps : (run : List ℕ) → ℕ
+hostRunSteps run = cond (runFit run) (stepsIn (runOf run)) 0
 
 -- ---- turns of a run
 

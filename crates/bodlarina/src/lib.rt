@@ -19,7 +19,15 @@ ghost use Rattle.width.specs.Tile.{putLe};
 ghost use Rattle.machine.specs.Geometry.{benchOf};
 ghost use Rattle.machine.specs.Step.{steppedAs};
 ghost use Rattle.blocks.specs.Blocks.{scalarBytes};
-ghost use Rattle.bodlarina.specs.Host.{startedOut, hostStart, stepBlock, steppedOut, hostStep};
+ghost use Rattle.bodlarina.specs.Host.{hostVersion, startedOut, hostStart, stepBlock, steppedOut, hostStep};
+
+// The version of this interface.
+#[no_mangle]
+pub extern "C" fn bodlarina_version() -> u64
+    ensures { λ r. ⌜ r ≡ hostVersion ⌝ }
+{
+    100
+}
 
 // Starts a machine on the lent register bytes and marks, and writes its numbers into the machine block.
 #[no_mangle]

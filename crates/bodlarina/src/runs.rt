@@ -11,7 +11,7 @@ use machine::Answer;
 use run::Layout;
 use run::Plan;
 ghost use mathlib.Core.Path.{_≡_};
-ghost use Rattle.bodlarina.specs.Host.{planIn, runStartedOut, hostRunStart, nextOut, hostNext, turnedOut, hostTurn, hostTurns, ranOut, hostRun};
+ghost use Rattle.bodlarina.specs.Host.{planIn, runStartedOut, hostRunStart, nextOut, hostNext, hostRunSteps, turnedOut, hostTurn, hostTurns, ranOut, hostRun};
 
 // The plan in a call's numbers.
 fn plan_in(
@@ -114,6 +114,18 @@ pub extern "C" fn bodlarina_run_next(run: &mut [u8], step: &mut [u8]) -> u64
     put_handed(step, handed);
     put_run(run, after);
     packed(answer)
+}
+
+// How many steps a run has in all.
+#[no_mangle]
+pub extern "C" fn bodlarina_run_steps(run: &[u8]) -> u64
+    ensures { λ r. ⌜ r ≡ hostRunSteps (now (run .entry)) ⌝ }
+{
+    if !is_fit(run) {
+        return 0;
+    }
+    let held = run_of(run);
+    asking::steps(held)
 }
 
 // Takes one turn of a run.

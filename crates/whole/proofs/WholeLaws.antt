@@ -1,8 +1,7 @@
 -- What the calls of a whole run return is what its statement says; it takes no more turns than there are steps.
 use mathlib.Core.Path.{_≡_, sym, ap, ap₂, _∙_, subst}
 use mathlib.Core.Bool.{true, false}
-use Prim.Native.Nat.{ℕ, zero, suc, _+_, _*_, _-_, _≤_, _<_, _^_}
-use native.Mathlib.Nat.{zero-lt-suc, div-zero, div-lt-iff-lt-mul, mul-le-mul, mul-le-mul-right}
+use Prim.Native.Nat.{ℕ, _≤_, _<_, _^_}
 use native.Mathlib.Omega.{arith}
 use borrow.Author.Tests.{eqb-true}
 use Rattle.width.specs.Blocks.{count}
@@ -22,15 +21,10 @@ use Rattle.run.proofs.RefusalLaws.{number-done, number-refused}
 use Rattle.run.proofs.Demand1.{whole-refusal-changes-nothing}
 use Rattle.run.proofs.Demand3.{demand-3-ours}
 use Rattle.run.proofs.Whole.{whole-delivers}
+use Rattle.asking.proofs.CountLaws.{count-least, few-outer}
 use Rattle.turn.proofs.TurnLaws.{turns-stop}
 
 -- ---- how many steps there are
-
-count-least : (max n : ℕ) → count max n ≤ n
-count-least zero n = omega (arith, div-zero (n + (0 - 1)))
-count-least (suc d) n =
-    let l : n + (suc d - 1) < suc n * suc d = omega (arith, mul-le-mul-right n (zero-lt-suc d)) in
-    omega (arith, div-lt-iff-lt-mul {k = suc d} {x = n + (suc d - 1)} {y = suc n} (omega arith) .1 l)
 
 -- with sizes up to 1,024
 pub few-steps : (S : Shape) → S .m ≤ 1024 → S .k ≤ 1024 → S .n ≤ 1024 → steps S < 2 ^ 64
@@ -38,9 +32,7 @@ few-steps S hm hk hn =
     let cm = count-least (S .tm) (S .m) in
     let ck = count-least (S .tk) (S .k) in
     let cn = count-least (S .tn) (S .n) in
-    let inner : count (S .tn) (S .n) * (3 + 4 * count (S .tk) (S .k)) ≤ 1024 * 4099 = mul-le-mul {n₂ = 1024} {m₂ = 4099} (omega arith) (omega arith) in
-    let outer : count (S .tm) (S .m) * (1 + count (S .tn) (S .n) * (3 + 4 * count (S .tk) (S .k))) ≤ 1024 * 4197377 = mul-le-mul {n₂ = 1024} {m₂ = 4197377} (omega arith) (omega arith) in
-    omega arith
+    omega (arith, few-outer (count (S .tm) (S .m)) (count (S .tn) (S .n)) (count (S .tk) (S .k)) (omega arith) (omega arith) (omega arith))
 
 -- ---- a refused start
 
