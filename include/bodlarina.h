@@ -1,15 +1,25 @@
 /* Bodlarina: a simulator of the integer part of the RISC-V Matrix Specification 0.2, for a host in C.
  *
- * The library holds nothing. The host owns every buffer and lends it for one call; a call allocates nothing,
- * keeps nothing and calls nothing back. Each function is proved to do what its definition says for EVERY
- * argument, so a wrong length or a damaged block is answered and never undefined. The host has to ensure only
- * that
- *   - each pointer points to as many readable (and, unless const, writable) bytes as the length beside it says,
- *     and is not NULL, not even at length 0;
- *   - the buffers of one call do not overlap.
+ * A machine has eight tile registers tr0 to tr7 and two accumulators acc0 and acc1, a type (mtype) with the width of an element,
+ * and tile sizes m, k and n. A WORD is one instruction of 32 bits (bodlarina_words.h encodes each). Each call gives an ANSWER: 0
+ * is done, each other number one reason for a refusal. Each register byte has a MARK: written since the start, or not; reading an
+ * element that was never written is refused. The SEAL is a range of memory that no store may change. A TURN is one step of a
+ * product run: a word is handed out and carried out.
  *
- * Every function but bodlarina_run_turns returns a result: answer, row and column in one number (below).
- * A REFUSAL, a result other than 0, CHANGES NO BYTE OF ANY BUFFER.
+ * The library holds nothing. The host owns every buffer and lends it for one call; a call allocates nothing, keeps nothing and
+ * calls nothing back. Each function is proved to do what its definition says for EVERY argument, so a wrong length or a damaged
+ * block is answered and never undefined. The host has to ensure only that
+ *   - each pointer points to as many readable (and, unless const, writable) bytes as the length beside it says, and is not NULL,
+ *     not even at length 0: then give the address of any byte;
+ *   - the buffers of one call do not overlap.
+ * No alignment is asked. Calls on different buffers may run at once, in any number of threads; calls that share a buffer, in turn.
+ * The deepest call, bodlarina_run, was measured to use 4,040 bytes of stack (x86-64, the largest machine); tests/library.c measures
+ * it again and fails above 8 KiB.
+ *
+ * Every function but bodlarina_run_turns, bodlarina_run_steps and bodlarina_version, which return a number, returns a result:
+ * answer, row and column in one number (below). A REFUSAL, a result other than 0, CHANGES NO BYTE OF ANY BUFFER.
+ *
+ * At the end of this file stands struct bodlarina_bench, which holds the buffers, and a short form of each function on it.
  */
 #ifndef BODLARINA_H
 #define BODLARINA_H
@@ -21,10 +31,30 @@
 extern "C" {
 #endif
 
+/* For the functions that stand in the headers. */
+#if defined(__cplusplus) || (defined(__STDC_VERSION__) && __STDC_VERSION__ >= 199901L)
+#define BODLARINA_INLINE static inline
+#elif defined(__GNUC__)
+#define BODLARINA_INLINE static __inline__
+#else
+#define BODLARINA_INLINE static
+#endif
+
+/* ---- Version ---------------------------------------------------------------------------------------------- */
+
+/* The number is 10,000 times the major number, 100 times the minor one, and the patch number. While the major number is 0, the minor
+ * one goes up when a block or a signature changes: then compile the host again. */
+#define BODLARINA_VERSION "0.1.0"
+#define BODLARINA_VERSION_NUMBER 100
+
+/* The number of the library that is linked. It is BODLARINA_VERSION_NUMBER, or header and library do not belong together. */
+uint64_t bodlarina_version(void);
+
 /* ---- Results ---------------------------------------------------------------------------------------------- */
 
 /* Bits 15..0 of a result are the answer, bits 31..16 the row and bits 47..32 the column that answer 5 names.
- * Row and column are 0 with every other answer. So a call is done exactly when its result is 0. */
+ * Row and column are 0 with every other answer. So a call is done exactly when its result is 0. bodlarina_answer_text, below, has a
+ * sentence for each. */
 #define BODLARINA_ANSWER(result) ((unsigned)((result) & 0xffffu))
 #define BODLARINA_ROW(result) ((unsigned)(((result) >> 16) & 0xffffu))
 #define BODLARINA_COLUMN(result) ((unsigned)(((result) >> 32) & 0xffffu))
@@ -46,12 +76,57 @@ extern "C" {
                                         store, a float word, a conversion */
 #define BODLARINA_WRONG_REGISTER 12u /* a register field out of range: a tile register is 0 to 7, an accumulator 0 or 1 */
 
+/* What an answer, or the answer in a result, says: one line of plain text. */
+BODLARINA_INLINE const char *bodlarina_answer_text(uint64_t result)
+{
+    switch (BODLARINA_ANSWER(result)) {
+    case BODLARINA_DONE: return "done";
+    case BODLARINA_ILLEGAL_WORD: return "no instruction of the draft has these bits";
+    case BODLARINA_ILLEGAL_TYPE: return "mtype is illegal, set it first";
+    case BODLARINA_BAD_WIDTH: return "mtype does not allow this element width here";
+    case BODLARINA_TILE_TOO_LARGE: return "a tile size is above its maximum under mtype";
+    case BODLARINA_UNWRITTEN: return "a register element to be read was never written";
+    case BODLARINA_OUTSIDE_MEMORY: return "an element lies outside memory";
+    case BODLARINA_SEALED_BYTE: return "a store would write a sealed byte";
+    case BODLARINA_BAD_ARGUMENTS: return "the arguments or the state are at fault, or the run is over";
+    case BODLARINA_OVERLAP: return "C overlaps A, B, the seal or itself";
+    case BODLARINA_WRONG_OPCODE: return "the opcode is not 1110111";
+    case BODLARINA_LEFT_OUT_WORD: return "an instruction of the draft that is not carried out here";
+    case BODLARINA_WRONG_REGISTER: return "there is no such tile register or accumulator";
+    }
+    return "no answer of this version";
+}
+
 /* ---- Buffers ---------------------------------------------------------------------------------------------- */
 
-/* machine: eight numbers of 64 bits, each low byte first, at bytes 0, 8, .., 56:
- *   RLEN, MLEN (in bits), mtype, tile_m, tile_k, tile_n, the seal's start and its length.
- * bodlarina_start writes them; the host may read, keep and copy the block. */
+/* The number of 64 bits in the eight bytes at `bytes`, low byte first, and the same written. */
+BODLARINA_INLINE uint64_t bodlarina_get64(const uint8_t *bytes)
+{
+    uint64_t value = 0;
+    unsigned i;
+    for (i = 0; i < 8; i++)
+        value |= (uint64_t)bytes[i] << (8 * i);
+    return value;
+}
+
+BODLARINA_INLINE void bodlarina_put64(uint8_t *bytes, uint64_t value)
+{
+    unsigned i;
+    for (i = 0; i < 8; i++)
+        bytes[i] = (uint8_t)(value >> (8 * i) & 0xffu);
+}
+
+/* machine: eight numbers of 64 bits, each low byte first, at the bytes below. bodlarina_start writes them; the host may read, keep and
+ * copy the block: bodlarina_get64(machine + BODLARINA_MACHINE_MTYPE_AT). */
 #define BODLARINA_MACHINE_BYTES 64
+#define BODLARINA_MACHINE_RLEN_AT 0 /* RLEN and MLEN in bits */
+#define BODLARINA_MACHINE_MLEN_AT 8
+#define BODLARINA_MACHINE_MTYPE_AT 16
+#define BODLARINA_MACHINE_TILE_M_AT 24
+#define BODLARINA_MACHINE_TILE_K_AT 32
+#define BODLARINA_MACHINE_TILE_N_AT 40
+#define BODLARINA_MACHINE_SEAL_START_AT 48
+#define BODLARINA_MACHINE_SEAL_LENGTH_AT 56
 
 /* registers and marks: BODLARINA_REGISTER_BYTES(MLEN) bytes each. The registers lie one after another,
  * row by row: tr0 .. tr7 of MLEN/8 bytes in rows of RLEN/8, then acc0 and acc1 of MLEN/2 bytes in rows of RLEN/2.
@@ -62,6 +137,7 @@ extern "C" {
 /* scalars: x0 .. x31 of 64 bits, slot s at byte 8 * s, low byte first. Slot 0 is read as 0 whatever it holds and
  * is never written. A stride is a signed number in two's complement. */
 #define BODLARINA_SCALAR_BYTES 256
+#define BODLARINA_SCALAR_AT(slot) (8 * (size_t)(slot))
 
 /* memory: any number of bytes; address 0 is the first. */
 
@@ -117,10 +193,14 @@ uint64_t bodlarina_step(uint32_t word,
  * answered with 8: lengths or a plan that a start answers with 8, or a place that no run comes to. Where the matrices
  * lie is judged by the start only; of a block that the host made itself each word is checked as it is carried out. */
 #define BODLARINA_RUN_BYTES 136
-#define BODLARINA_RUN_ROW_AT 112 /* the byte at which the place's row stands: how far a run has come, out of m */
+#define BODLARINA_RUN_NEXT_AT 104 /* the byte at which the number of the next word stands */
+#define BODLARINA_RUN_OVER 9      /* there is none: every step is done */
 
-/* step: a word, then scalars 10 and 11 (address and stride) as numbers of 64 bits, low byte first. */
-#define BODLARINA_STEP_BYTES 24
+/* handed: a word, then scalars 10 and 11 (address and stride) as numbers of 64 bits, low byte first. */
+#define BODLARINA_HANDED_BYTES 24
+#define BODLARINA_HANDED_WORD_AT 0
+#define BODLARINA_HANDED_ADDRESS_AT 8
+#define BODLARINA_HANDED_STRIDE_AT 16
 
 /* Starts a run: on 0 the run block is written. */
 uint64_t bodlarina_run_start(uint64_t sew, uint64_t factor, uint64_t m, uint64_t k, uint64_t n,
@@ -134,7 +214,18 @@ uint64_t bodlarina_run_start(uint64_t sew, uint64_t factor, uint64_t m, uint64_t
 /* Hands out the next step and moves the run past it, for a host that carries it out with bodlarina_step: the word,
  * with scalars 10 and 11 as given and the others 0.
  * Answers: 0; 8 past the last step, and for a run block of the wrong length or with numbers that no run can have. */
-uint64_t bodlarina_run_next(uint8_t *run, size_t run_len, uint8_t *step, size_t step_len);
+uint64_t bodlarina_run_next(uint8_t *run, size_t run_len, uint8_t *handed, size_t handed_len);
+
+/* RETURNS HOW MANY STEPS THE RUN HAS IN ALL, not a result: 1 + M * (1 + N * (3 + 4 * K)), with M, K and N the numbers of blocks that m,
+ * k and n are cut into. It is the same before the first step and after the last, so turns done of this number is how far a run has
+ * come. 0 for a run block of the wrong length or with numbers that no run can have. */
+uint64_t bodlarina_run_steps(const uint8_t *run, size_t run_len);
+
+/* Whether a run has come to its end: 1 if each of its steps is done, 0 if there are more or the block is refused. */
+BODLARINA_INLINE int bodlarina_run_is_over(const uint8_t *run, size_t run_len)
+{
+    return bodlarina_run_steps(run, run_len) != 0 && bodlarina_get64(run + BODLARINA_RUN_NEXT_AT) == BODLARINA_RUN_OVER;
+}
 
 /* One turn: hands out the next step and carries it out with scalars of the run's own.
  * Answers: 0; 8 as bodlarina_run_next and bodlarina_step; and those of the word. A run that was started here, on
@@ -145,9 +236,10 @@ uint64_t bodlarina_run_turn(uint8_t *run, size_t run_len,
                             uint8_t *marks, size_t marks_len,
                             uint8_t *memory, size_t memory_len);
 
-/* Up to `turns` turns, stopping before the first that would be refused. RETURNS HOW MANY WERE DONE, not a result; if
- * fewer than asked, bodlarina_run_turn says why. They leave what as many calls of bodlarina_run_turn leave, and look
- * through the marks once, not once a turn: that saves most of a short turn on a machine of large MLEN. */
+/* Up to `turns` turns, stopping before the first that would be refused. RETURNS HOW MANY WERE DONE, not a result: 0 too where a block
+ * is refused. If fewer than asked, bodlarina_run_is_over tells the end of the run, and if it is not over, bodlarina_run_turn says
+ * why it stands. They leave what as many calls of bodlarina_run_turn leave, and look through the marks once, not once a turn: that
+ * saves most of a short turn on a machine of large MLEN. */
 uint64_t bodlarina_run_turns(uint64_t turns,
                              uint8_t *run, size_t run_len,
                              uint8_t *machine, size_t machine_len,
@@ -165,6 +257,116 @@ uint64_t bodlarina_run(uint64_t sew, uint64_t factor, uint64_t m, uint64_t k, ui
                        uint8_t *marks, size_t marks_len,
                        uint8_t *memory, size_t memory_len,
                        uint8_t *steps, size_t steps_len);
+
+/* ---- The same in short ------------------------------------------------------------------------------------ */
+
+/* The buffers of a machine, set once. Lengths are in bytes. run is for one product run at a time; a host without runs leaves it out.
+ *
+ *     static uint8_t machine[BODLARINA_MACHINE_BYTES], registers[BODLARINA_REGISTER_BYTES(4096)], ..;
+ *     struct bodlarina_bench bench = {machine, sizeof machine, registers, sizeof registers, ..};
+ *     result = bodlarina_bench_start(&bench, 512, 4096, 0, 0);
+ *     result = bodlarina_bench_step(&bench, bodlarina_msettypei(0, BODLARINA_E8));
+ */
+struct bodlarina_bench {
+    uint8_t *machine;
+    size_t machine_len;
+    uint8_t *registers;
+    size_t registers_len;
+    uint8_t *marks;
+    size_t marks_len;
+    uint8_t *scalars;
+    size_t scalars_len;
+    uint8_t *memory;
+    size_t memory_len;
+    uint8_t *run;
+    size_t run_len;
+};
+
+/* Where a matrix lies, and what is to be multiplied: the numbers of bodlarina_run_start. */
+struct bodlarina_matrix {
+    uint64_t address;
+    int64_t stride;
+};
+
+struct bodlarina_plan {
+    uint64_t sew, factor;
+    uint64_t m, k, n;
+    struct bodlarina_matrix a, b, c;
+};
+
+BODLARINA_INLINE uint64_t bodlarina_bench_start(const struct bodlarina_bench *bench, uint64_t rlen, uint64_t mlen,
+                                                uint64_t seal_start, uint64_t seal_length)
+{
+    return bodlarina_start(rlen, mlen, seal_start, seal_length, bench->machine, bench->machine_len, bench->registers,
+                           bench->registers_len, bench->marks, bench->marks_len);
+}
+
+BODLARINA_INLINE uint64_t bodlarina_bench_step(const struct bodlarina_bench *bench, uint32_t word)
+{
+    return bodlarina_step(word, bench->machine, bench->machine_len, bench->registers, bench->registers_len, bench->marks,
+                          bench->marks_len, bench->scalars, bench->scalars_len, bench->memory, bench->memory_len);
+}
+
+/* A scalar, x0 to x31, as a word reads it, and one set; x0 stays 0. The scalars' buffer has BODLARINA_SCALAR_BYTES. */
+BODLARINA_INLINE uint64_t bodlarina_bench_scalar(const struct bodlarina_bench *bench, unsigned slot)
+{
+    return slot % 32 == 0 ? 0 : bodlarina_get64(bench->scalars + BODLARINA_SCALAR_AT(slot % 32));
+}
+
+BODLARINA_INLINE void bodlarina_bench_set_scalar(const struct bodlarina_bench *bench, unsigned slot, uint64_t value)
+{
+    if (slot % 32 != 0)
+        bodlarina_put64(bench->scalars + BODLARINA_SCALAR_AT(slot % 32), value);
+}
+
+BODLARINA_INLINE uint64_t bodlarina_bench_run_start(const struct bodlarina_bench *bench, const struct bodlarina_plan *plan)
+{
+    return bodlarina_run_start(plan->sew, plan->factor, plan->m, plan->k, plan->n, plan->a.address, plan->a.stride,
+                               plan->b.address, plan->b.stride, plan->c.address, plan->c.stride, bench->machine,
+                               bench->machine_len, bench->registers, bench->registers_len, bench->marks, bench->marks_len,
+                               bench->memory, bench->memory_len, bench->run, bench->run_len);
+}
+
+BODLARINA_INLINE uint64_t bodlarina_bench_run_next(const struct bodlarina_bench *bench, uint8_t *handed, size_t handed_len)
+{
+    return bodlarina_run_next(bench->run, bench->run_len, handed, handed_len);
+}
+
+BODLARINA_INLINE uint64_t bodlarina_bench_run_steps(const struct bodlarina_bench *bench)
+{
+    return bodlarina_run_steps(bench->run, bench->run_len);
+}
+
+BODLARINA_INLINE int bodlarina_bench_run_is_over(const struct bodlarina_bench *bench)
+{
+    return bodlarina_run_is_over(bench->run, bench->run_len);
+}
+
+BODLARINA_INLINE uint64_t bodlarina_bench_run_turn(const struct bodlarina_bench *bench)
+{
+    return bodlarina_run_turn(bench->run, bench->run_len, bench->machine, bench->machine_len, bench->registers,
+                              bench->registers_len, bench->marks, bench->marks_len, bench->memory, bench->memory_len);
+}
+
+BODLARINA_INLINE uint64_t bodlarina_bench_run_turns(const struct bodlarina_bench *bench, uint64_t turns)
+{
+    return bodlarina_run_turns(turns, bench->run, bench->run_len, bench->machine, bench->machine_len, bench->registers,
+                               bench->registers_len, bench->marks, bench->marks_len, bench->memory, bench->memory_len);
+}
+
+/* A whole run in one call; on 0 its number of steps is in *steps, else *steps stays. */
+BODLARINA_INLINE uint64_t bodlarina_bench_run(const struct bodlarina_bench *bench, const struct bodlarina_plan *plan,
+                                              uint64_t *steps)
+{
+    uint8_t count[BODLARINA_STEPS_BYTES];
+    uint64_t result = bodlarina_run(plan->sew, plan->factor, plan->m, plan->k, plan->n, plan->a.address, plan->a.stride,
+                                    plan->b.address, plan->b.stride, plan->c.address, plan->c.stride, bench->machine,
+                                    bench->machine_len, bench->registers, bench->registers_len, bench->marks,
+                                    bench->marks_len, bench->memory, bench->memory_len, count, sizeof count);
+    if (result == 0)
+        *steps = bodlarina_get64(count);
+    return result;
+}
 
 #ifdef __cplusplus
 }

@@ -1,13 +1,21 @@
-//! The decode table as a page shows it, from the second program's listing; and
-//! the library's constants held to it.
+//! The tables of docs/INSTRUCTIONS.md, from the second program's listing; and the
+//! library's constants held to it.
 //!
 //!     table FILE
+//!     table encodings
 //!
-//! FILE is the source with the constants. The table goes to standard output, in
-//! Markdown. If one of the 1,024 constants is not the listing's number, that is
-//! said on standard error, and the exit status is 1.
+//! FILE is the source with the constants. The decode table goes to standard
+//! output, in Markdown. If one of the 1,024 constants is not the listing's
+//! number, that is said on standard error, and the exit status is 1.
+//!
+//! `encodings` writes a line for each instruction instead: its fields, what it
+//! reads and writes, and the answers that it can give, which are those of
+//! src/tally.rs.
 
-use model::{name_by_fixed_bits, LEFT_OUT, LISTING};
+#[allow(dead_code)] // only which answers can be met is asked here
+mod tally;
+
+use model::{name_by_fixed_bits, Kind, Matrix, Row, Size, LEFT_OUT, LISTING};
 
 const BLOCKS: usize = 16;
 const ROWS: usize = 8;
@@ -70,11 +78,99 @@ fn print_block(block: usize) {
     }
 }
 
+/// A word's fields from bit 31 down: fixed bits as digits, operands by name.
+fn fields(name: &str) -> String {
+    let (fixed, word) = (model::fixed_bits(name), model::assemble(name, &[]));
+    let operands = model::operands_of(name);
+    let mut text = String::new();
+    for bit in (0..32).rev() {
+        if fixed >> bit & 1 == 1 {
+            if bit < 31 && fixed >> (bit + 1) & 1 == 0
+                || [6, 11, 14, 24].contains(&bit) && !text.ends_with(' ')
+            {
+                text.push(' ');
+            }
+            text.push(if word >> bit & 1 == 1 { '1' } else { '0' });
+        } else if let Some(operand) = operands.iter().find(|operand| operand.1 == bit) {
+            text += &format!(" {}", operand.0);
+        }
+    }
+    text
+}
+
+/// The register that a load or store names, and its elements.
+fn tile(matrix: Matrix, register: &str) -> String {
+    match matrix {
+        Matrix::A => format!("tr[{register}], m by k"),
+        Matrix::B => format!("tr[{register}], k by n"),
+        Matrix::C => format!("acc[{register}], m by n"),
+    }
+}
+
+/// What an instruction reads and what it writes.
+fn reads_writes(row: &Row) -> (String, String) {
+    let has = |operand: &str| model::operands_of(row.name).iter().any(|o| o.0 == operand);
+    let acc = "acc[md], m by n".to_string();
+    match row.kind {
+        Kind::SetType => (if has("rs1") { "rs1" } else { "-" }.into(), "mtype, rd".into()),
+        Kind::SetSize(size) => {
+            let tile = match size {
+                Size::M => "tile_m",
+                Size::K => "tile_k",
+                Size::N => "tile_n",
+            };
+            (if has("rs1") { "rs1" } else { "-" }.into(), format!("{tile}, rd"))
+        }
+        Kind::Load(matrix, _) => ("rs1, rs2, memory".into(), tile(matrix, "md")),
+        Kind::Store(matrix, _) => (format!("rs1, rs2, {}", tile(matrix, "ms3")), "memory".into()),
+        Kind::Multiply(_) => (format!("tr[ms1], m by k, tr[ms2], k by n, {acc}"), acc),
+        Kind::Scale(_) if has("rs2") => ("acc[ms1], m by n, rs2".into(), acc),
+        Kind::Scale(_) => ("acc[ms1], m by n".into(), acc),
+        _ => (format!("acc[ms1], m by n, {acc}"), acc),
+    }
+}
+
+/// The answers beside 8 and 10, which every word can get. An element wider than
+/// any is always refused with 3, if not before; one of 8 bits needs SEW 8, where
+/// a size above its maximum is answer 8.
+fn answers(row: &Row) -> String {
+    let family = tally::family_of(model::assemble(row.name, &[]));
+    let width = match row.kind {
+        Kind::Load(_, width) | Kind::Store(_, width) => width,
+        _ => 0,
+    };
+    let given = (0..tally::ANSWERS).filter(|&number| match number {
+        8 | 10 => false,
+        0 | 5 | 6 | 7 if width > model::ELEN => false,
+        4 if width == 8 || width > model::ELEN => false,
+        _ => tally::reachable(family, number),
+    });
+    given.map(|number| number.to_string()).collect::<Vec<_>>().join(" ")
+}
+
+fn print_encodings() {
+    println!("| Instruction | Bits 31 to 0 | Reads | Writes | Answers |");
+    println!("|---|---|---|---|---|");
+    for row in &LISTING {
+        let (reads, writes) = reads_writes(row);
+        println!(
+            "| `{}` | `{}` | {reads} | {writes} | {} |",
+            row.name,
+            fields(row.name),
+            answers(row)
+        );
+    }
+}
+
 fn main() {
     let Some(path) = std::env::args().nth(1) else {
-        eprintln!("usage: table FILE");
+        eprintln!("usage: table FILE | encodings");
         std::process::exit(2);
     };
+    if path == "encodings" {
+        print_encodings();
+        return;
+    }
     let blocks = constants(&std::fs::read_to_string(&path).expect("the file with the constants"));
     assert!(blocks.len() == BLOCKS && blocks.iter().all(|block| block.len() == ROWS * FORMS));
     let mut wrong = 0;

@@ -58,7 +58,7 @@ const LEAST_STEPS: u64 = 200_000;
 const LEAST_RUNS: u64 = 2_000;
 
 /// One more than the highest answer.
-const ANSWERS: u64 = 13;
+pub const ANSWERS: u64 = 13;
 
 /// The listing's name up to an element width.
 pub fn family_name(name: &'static str) -> &'static str {
@@ -84,7 +84,8 @@ fn first_rows(names: impl Iterator<Item = &'static str>) -> Vec<&'static str> {
     names
 }
 
-fn family_of(word: u32) -> Call {
+/// The family of the row whose code a word has.
+pub fn family_of(word: u32) -> Call {
     let Some(name) = model::name_by_code(word) else {
         return Call::OtherWord;
     };
@@ -93,7 +94,8 @@ fn family_of(word: u32) -> Call {
     Call::Family(first.expect("every row has a family"))
 }
 
-fn reachable(call: Call, number: u64) -> bool {
+/// Whether a call can give an answer.
+pub fn reachable(call: Call, number: u64) -> bool {
     let first = match call {
         Call::MachineStart => return [0, 8].contains(&number),
         Call::OtherWord => return [1, 8, 10].contains(&number),
