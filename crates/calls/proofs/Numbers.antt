@@ -14,7 +14,7 @@ use Rattle.width.proofs.TileLaws.{le-lt}
 use Rattle.machine.specs.declared.Machine.{Machine}
 use Rattle.machine.specs.declared.Answer.the-variants.{BadArguments}
 use Rattle.machine.specs.Tests.{every, isIn}
-use Rattle.machine.specs.Answers.{isDone, verdict}
+use Rattle.machine.specs.Answers.{done, verdict}
 use Rattle.machine.specs.Geometry.{elen, Bench, parameters}
 use Rattle.machine.specs.Setting.{smaller, newType}
 use Rattle.machine.specs.Faults.{soundBench}
@@ -203,7 +203,7 @@ turn-run r w = go (handsOut smaller (r .run)) refl
     go none e = w
     go (some o) e =
         let h : Handed = handedFor (r .run .plan) o in
-        chosen (moved smaller (r .run)) (moved-words (r .run) w (hands-sound (r .run) o e)) (isDone (stepBy smaller (h .word) (own h) (r .bench) .answer))
+        chosen (moved smaller (r .run)) (moved-words (r .run) w (hands-sound (r .run) o e)) (done (stepBy smaller (h .word) (own h) (r .bench) .answer))
 
 pub turns-wordy : (r : Running) → Wordy r → (t : ℕ) → Wordy (afterTurns smaller r t)
 turns-wordy r w zero = w

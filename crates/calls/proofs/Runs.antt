@@ -9,30 +9,32 @@ use lib.ListN.{length}
 use lib.Dec.{eqb}
 use borrow.Author.Tests.{eqb-true, eq-eqb}
 use Rattle.machine.specs.declared.Answer.{Answer}
-use Rattle.machine.specs.declared.Answer.the-variants.{OutsideMemory, BadArguments, Overlap}
+use Rattle.machine.specs.declared.Answer.the-variants.{Done, OutsideMemory, BadArguments, Overlap}
 use Rattle.machine.specs.Tests.{every}
-use Rattle.machine.specs.Answers.{number, isDone, verdict, _otherwise_}
+use Rattle.machine.specs.Answers.{Reply, reply, number, done, verdict, _otherwise_}
 use Rattle.machine.specs.Geometry.{Bench, parameters}
 use Rattle.machine.specs.Setting.{smaller}
 use Rattle.machine.specs.Faults.{sound}
 use Rattle.machine.specs.Operation.{element}
-use Rattle.machine.proofs.TestLaws.{every-each, each-every}
+use Rattle.machine.proofs.TestLaws.{false-true, every-each, each-every}
 use Rattle.machine.proofs.CodeLaws.{only-done}
 use Rattle.run.specs.declared.Plan.{Plan}
 use Rattle.run.specs.declared.Run.{Run}
 use Rattle.run.specs.declared.Handed.{Handed}
-use Rattle.run.specs.Words.{steps}
+use Rattle.run.specs.Words.{Op, steps}
 use Rattle.run.specs.Plan.{Kept, shape, wide, cAt}
-use Rattle.run.specs.Start.{planned, lying, separate, freshRun, noRun, RunStart, startRun}
-use Rattle.run.specs.Encoding.{wordOf}
-use Rattle.run.specs.Turn.{Ask, ask, asked, Running, running, turn, afterTurns}
+use Rattle.run.specs.Start.{planned, lying, separate, startChecks, freshRun, noRun, RunStart, startRun}
+use Rattle.run.specs.Encoding.{handedFor, wordOf}
+use Rattle.run.specs.Turn.{handsOut, Ask, ask, asked, Running, running, turn, afterTurns}
 use Rattle.run.specs.Statement.{Asks, Right, startedRun}
 use Rattle.run.specs.Whole.{WholeOutcome, whole}
-use Rattle.run.proofs.RefusalLaws.{number-done, number-refused}
+use Rattle.run.proofs.HandedLaws.{askWith, turnWith}
+use Rattle.run.proofs.RefusalLaws.{number-done}
 use Rattle.run.proofs.Demand1.{run-start-changes-nothing}
 use Rattle.run.proofs.Demand3.{demand-3-ours}
 use Rattle.run.proofs.Whole.{whole-delivers}
-use Rattle.blocks.specs.Blocks.{putMachine, runFit, runOf, putRun, putHanded, putNumbers, packed}
+use Rattle.turn.proofs.TurnLaws.{turn-zero}
+use Rattle.blocks.specs.Blocks.{putMachine, runFit, runOf, putRun, putNumbers, packed}
 use Rattle.blocks.proofs.BlockLaws.{RunWords, putMachine-same, runOf-putRun, runFit-putRun}
 use Rattle.bodlarina.specs.Host.{runStartedOut, shownRunStart, hostRunStart, nextOut, shownNext, hostNext, turnBlocks, ranOut, shownRun, hostRun}
 use Rattle.bodlarina.specs.Theorems.{Bytes}
@@ -41,7 +43,7 @@ use Rattle.calls.specs.Calls.{Buffers, buffers, Call, Called, afterRunSt
 use Rattle.calls.specs.Composed.{afterCalls, turnCalls, benchIn, PlanWords, StartCallsAreRight, with, jobIn, afterTurnCalls, handing, TurnCalls, TurnCallsAreRight, counting, RunIsTurnCalls}
 use Rattle.calls.proofs.Written.{putRun-over}
 use Rattle.calls.proofs.Numbers.{machine-words, fresh-words, Wordy, turns-wordy}
-use Rattle.calls.proofs.Turns.{zero-is-done, eight, left, runningIn, holds, on}
+use Rattle.calls.proofs.Turns.{zero-is-done, left, runningIn, holds, on}
 
 -- ---- bodlarina_run_start
 
@@ -58,7 +60,7 @@ module _ (P : Plan) (b : Buffers) where
   abbrev startOn : Bool → Called
   startOn t =
       afterRunStart b (cond t (shownRunStart (b .machine) (b .run) s)
-      (runStartedOut (packed BadArguments) (b .machine) (b .registers) (b .marks) (b .memory) (b .run)))
+      (runStartedOut (packed (reply BadArguments)) (b .machine) (b .registers) (b .marks) (b .memory) (b .run)))
 
   start-call : (t : Bool) → every tests ≡ t → called (Call.runStart P) b ≡ startOn t
   unfolding hostRunStart
@@ -75,7 +77,7 @@ module _ (P : Plan) (b : Buffers) where
       (run-start-changes-nothing smaller P B)
 
   -- its answers name no row and column
-  start-plain : packed (s .answer) ≡ number (s .answer)
+  start-plain : packed (s .answer) ≡ s .answer .number
   unfolding startRun
   start-plain =
       go (sound (B .machine) (B .registers) (B .marks)) (planned P) (lying P (B .memory)) (separate (parameters smaller (B .machine)) P)
@@ -83,12 +85,17 @@ module _ (P : Plan) (b : Buffers) where
       out : (t u v w : Bool) → Answer
       out t u v w = verdict ((t otherwise BadArguments) ∷ (u otherwise BadArguments) ∷ (v otherwise OutsideMemory) ∷ (w otherwise Overlap) ∷ [])
 
-      go : (t u v w : Bool) → packed (out t u v w) ≡ number (out t u v w)
+      go : (t u v w : Bool) → packed (reply (out t u v w)) ≡ number (out t u v w)
       go true true true true = refl
       go true true true false = refl
       go true true false w = refl
       go true false v w = refl
       go false u v w = refl
+
+  -- and are as `Done`'s where their number is 0
+  start-zero : done (s .answer) ≡ true → s .answer ≡ reply Done
+  unfolding startRun
+  start-zero e = ap reply (only-done (verdict (startChecks smaller P B)) e)
 
 pub start-calls-are-right : StartCallsAreRight
 start-calls-are-right P b lm lr bytes =
@@ -107,24 +114,49 @@ nextOn b a = afterNext b (shownNext (b .run) (b .step) (asked a))
 next-call : (b : Buffers) → every (runFit (b .run) ∷ eqb (length (b .step)) 24 ∷ []) ≡ true → called Call.runNext b ≡ nextOn b (ask smaller (runOf (b .run)))
 unfolding hostNext
 next-call b h =
-    ap (λ (t : Bool). afterNext b (cond t (shownNext (b .run) (b .step) (asked (ask smaller (runOf (b .run))))) (nextOut (packed BadArguments) (b .run) (b .step)))) h
+    ap (λ (t : Bool). afterNext b (cond t (shownNext (b .run) (b .step) (asked (ask smaller (runOf (b .run))))) (nextOut (packed (reply BadArguments)) (b .run) (b .step)))) h
 
-shown-done : (b : Buffers) (a : Ask) (h : Handed) (R : Run) → Asks a 0 (some h) R → nextOn b a ≡ left 0 (handing h (putRun R (b .run)) b)
-shown-done b a h R k =
-    ap₂ (λ (v : Answer) (g : Option Handed). nextOn b (record { answer = v; handed = g; run = a .run })) (only-done (a .answer) (number-done (a .answer) (k .answers))) (k .hands-out)
+shown-done : (b : Buffers) (a : Ask) (h : Handed) (R : Run) → a .answer ≡ reply Done → Asks a 0 (some h) R → nextOn b a ≡ left 0 (handing h (putRun R (b .run)) b)
+shown-done b a h R d k =
+    ap₂ (λ (v : Reply) (g : Option Handed). nextOn b (record { answer = v; handed = g; run = a .run })) d (k .hands-out)
     ∙ ap (λ (S : Run). left 0 (handing h (putRun S (b .run)) b)) (k .leaves)
 
-shown-refused : (b : Buffers) (a : Ask) (R : Run) → Asks a 8 none R → nextOn b a ≡ left 8 b
-shown-refused b a R k =
-    ap₂ (λ (n : ℕ) (t : Bool). afterNext b (nextOut n (cond t (putRun (a .run) (b .run)) (b .run)) (cond t (putHanded (asked a .handed) (b .step)) (b .step))))
-    (eight (a .answer) (k .answers)) (number-refused (a .answer) (λ z. let y : _≡_ {A = ℕ} 0 8 = sym z ∙ k .answers in omega arith))
+shown-refused : (b : Buffers) (a : Ask) → a .answer ≡ reply BadArguments → nextOn b a ≡ left 8 b
+shown-refused b a e = ap (λ (v : Reply). nextOn b (record { answer = v; handed = a .handed; run = a .run })) e
+
+-- ---- answers of asking and of turns
+
+some-none : (h : Handed) → some h ≡ none → ⊥
+some-none h e = let z : _≡_ {A = ℕ} 0 1 = cc in omega arith
+
+ask-zero : (R : Run) → done (ask smaller R .answer) ≡ true → ask smaller R .answer ≡ reply Done
+ask-zero R = go (handsOut smaller R)
+  where
+    go : (o : Option Op) → done (askWith smaller R o .answer) ≡ true → askWith smaller R o .answer ≡ reply Done
+    go none e = absurd (false-true e)
+    go (some o) e = refl
+
+-- nothing is handed out
+ask-none : (R : Run) → ask smaller R .handed ≡ none → ask smaller R .answer ≡ reply BadArguments
+ask-none R = go (handsOut smaller R)
+  where
+    go : (o : Option Op) → askWith smaller R o .handed ≡ none → askWith smaller R o .answer ≡ reply BadArguments
+    go none e = refl
+    go (some o) e = absurd (some-none (handedFor (R .plan) o) e)
+
+turn-none : (r : Running) → turn smaller r .handed ≡ none → turn smaller r .answer ≡ reply BadArguments
+turn-none r = go (handsOut smaller (r .run))
+  where
+    go : (o : Option Op) → turnWith smaller r o .handed ≡ none → turnWith smaller r o .answer ≡ reply BadArguments
+    go none e = refl
+    go (some o) e = absurd (some-none (handedFor (r .run .plan) o) e)
 
 -- ---- an accepted start
 
 record Accepted (P : Plan) (b : Buffers) : Type 0 where
   machine-long : length (b .machine) ≡ 64
   run-long : length (b .run) ≡ 136
-  done : isDone (s P b .answer) ≡ true
+  done : done (s P b .answer) ≡ true
   leaves : called (Call.runStart P) b .after ≡ having P b (putRun (s P b .run) (b .run))
 
 accepted : (P : Plan) (b : Buffers) → called (Call.runStart P) b .result ≡ 0 → Accepted P b
@@ -134,8 +166,8 @@ accepted P b e = go (every (tests P b)) refl
     go true h =
         let l = every-each (tests P b) h in
         let call : called (Call.runStart P) b ≡ startOn P b true = start-call P b true h in
-        let d : isDone (s P b .answer) ≡ true =
-        sym (zero-is-done (s P b .answer)) ∙ eq-eqb (packed (s P b .answer)) 0 (sym (ap (λ (o : Called). o .result) call) ∙ e) in
+        let d : done (s P b .answer) ≡ true =
+        sym (zero-is-done (s P b .answer) (start-zero P b)) ∙ eq-eqb (packed (s P b .answer)) 0 (sym (ap (λ (o : Called). o .result) call) ∙ e) in
         record {
           machine-long = eqb-true (length (b .machine)) 64 (l .0);
           run-long = eqb-true (length (b .run)) 136 (l .1 .0);
@@ -219,7 +251,7 @@ module _ (P : Plan) (b : Buffers) (p : PlanWords P) (small : Bytes (b .machine))
   asked-done : (t : ℕ) (h : Handed) → length (b .step) ≡ 24 → Asks (ask smaller (r t .run)) 0 (some h) (r (suc t) .run)
       → called Call.runNext (with (r t) b) ≡ left 0 (handing h (with (r (suc t)) b .run) (with (r t) b))
   asked-done t h l k =
-      asking t l ∙ shown-done (with (r t) b) (ask smaller (r t .run)) h (r (suc t) .run) k
+      asking t l ∙ shown-done (with (r t) b) (ask smaller (r t .run)) h (r (suc t) .run) (ask-zero (r t .run) (number-done (ask smaller (r t .run) .answer) (k .answers))) k
       ∙ ap (λ (R : List ℕ). left 0 (handing h R (with (r t) b))) (putRun-over (r (suc t) .run) (r t .run) (b .run) (A .run-long))
 
   right : (t : ℕ) → Right (jobIn P b) r₀ t → TurnCalls P b t
@@ -227,9 +259,9 @@ module _ (P : Plan) (b : Buffers) (p : PlanWords P) (small : Bytes (b .machine))
     holds = holding t;
     next-done = λ l.
         ap (λ (o : Called). o .result) (turning t)
-        ∙ ap packed (only-done (turn smaller (r t) .answer) (number-done (turn smaller (r t) .answer) (T .next-done l .answers)));
+        ∙ ap packed (turn-zero (r t) (number-done (turn smaller (r t) .answer) (T .next-done l .answers)));
     past-end = λ l. (
-      ap (λ (o : Called). o .result) (turning t) ∙ eight (turn smaller (r t) .answer) (T .past-end l .answers),
+      ap (λ (o : Called). o .result) (turning t) ∙ ap packed (turn-none (r t) (T .past-end l .hands-out)),
       ap (λ (o : Called). o .after) (turning t) ∙ ap (λ (q : Running). with q b) (T .past-end l .leaves) ∙ sym (holding t),
     );
     asks = λ e l.
@@ -238,7 +270,7 @@ module _ (P : Plan) (b : Buffers) (p : PlanWords P) (small : Bytes (b .machine))
         (let k = asked-done t (wordOf (jobIn P b) t) e (T .asks l) in (ap (λ (o : Called). o .result) k, ap (λ (o : Called). o .after) k)));
     asks-past-end = λ e l.
         subst (λ (c : Buffers). (called Call.runNext c .result ≡ 8) × (called Call.runNext c .after ≡ c)) (sym (holding t))
-        (let k = asking t e ∙ shown-refused (with (r t) b) (ask smaller (r t .run)) (r t .run) (T .asks-past-end l) in (ap (λ (o : Called). o .result) k, ap (λ (o : Called). o .after) k));
+        (let k = asking t e ∙ shown-refused (with (r t) b) (ask smaller (r t .run)) (ask-none (r t .run) (T .asks-past-end l .hands-out)) in (ap (λ (o : Called). o .result) k, ap (λ (o : Called). o .after) k));
     kept = subst (λ (c : Buffers). Kept (jobIn P b) (c .memory)) (sym (holding t)) (T .kept);
     product = λ l i j g h. ap (λ (c : Buffers). element (c .memory) (cAt P) (wide P) i j) (holding t) ∙ T .product l i j g h;
   }
@@ -246,7 +278,7 @@ module _ (P : Plan) (b : Buffers) (p : PlanWords P) (small : Bytes (b .machine))
 pub turn-calls-are-right : TurnCallsAreRight
 turn-calls-are-right P b p small bytes e t =
     let A : Accepted P b = accepted P b e in
-    right P b p small A t (demand-3-ours P (benchIn b) bytes .turns (ap number (only-done (s P b .answer) (A .done))) t)
+    right P b p small A t (demand-3-ours P (benchIn b) bytes .turns (ap (λ (v : Reply). v .number) (start-zero P b (A .done))) t)
 
 -- ---- bodlarina_run
 
@@ -257,7 +289,7 @@ module _ (P : Plan) (b : Buffers) where
   abbrev runOn : Bool → Called
   runOn t =
       afterRun b (cond t (shownRun (b .machine) (b .steps) w)
-      (ranOut (packed BadArguments) (b .machine) (b .registers) (b .marks) (b .memory) (b .steps)))
+      (ranOut (packed (reply BadArguments)) (b .machine) (b .registers) (b .marks) (b .memory) (b .steps)))
 
   run-call : (t : Bool) → every (eqb (length (b .machine)) 64 ∷ eqb (length (b .steps)) 8 ∷ []) ≡ t → called (Call.run P) b ≡ runOn t
   unfolding hostRun
@@ -283,7 +315,7 @@ run-is-turn-calls P b p small bytes lr ls = (
   λ e.
       let A : Accepted P b = accepted P b (sym (same-result P b lr ls) ∙ e) in
       let n : ℕ = steps (shape (jobIn P b)) in
-      let counted : w P b .count ≡ n = whole-delivers P (benchIn b) bytes .counted (ap number (only-done (s P b .answer) (A .done))) in
+      let counted : w P b .count ≡ n = whole-delivers P (benchIn b) bytes .counted (ap (λ (v : Reply). v .number) (start-zero P b (A .done))) in
       ap (λ (o : Called). o .after) (run-fits P b ls (eq-eqb (length (b .machine)) 64 (A .machine-long)))
       ∙ ap₂ (λ (t : Bool) (k : ℕ). afterRun b (ranOut 0 (cond t (putMachine (w P b .bench .machine) (b .machine)) (b .machine))
       (w P b .bench .registers) (w P b .bench .marks) (w P b .bench .memory) (cond t (putNumbers (k ∷ []) (b .steps)) (b .steps))) .after) (A .done) counted

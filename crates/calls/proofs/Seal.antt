@@ -11,7 +11,7 @@ use Rattle.width.specs.Tile.{In}
 use Rattle.machine.specs.declared.Machine.{Machine}
 use Rattle.machine.specs.declared.Answer.the-variants.{Done, BadArguments}
 use Rattle.machine.specs.Tests.{every}
-use Rattle.machine.specs.Answers.{isDone}
+use Rattle.machine.specs.Answers.{reply, done}
 use Rattle.machine.specs.Geometry.{Parameters, Bench, permitted, registerBytes}
 use Rattle.machine.specs.Setting.{smaller}
 use Rattle.machine.specs.Starting.{sealEnds, startable, startMachine, freshMachine, noMachine}
@@ -86,7 +86,7 @@ module _ (b : Buffers) (w : Words (machineOf (b .machine))) where
       out : Bool → Called
       out t =
           afterStep b (cond t (shownStep (b .machine) (stepBlock word (b .scalars) (benchIn b)))
-          (steppedOut (packed BadArguments) (b .machine) (b .registers) (b .marks) (b .scalars) (b .memory)))
+          (steppedOut (packed (reply BadArguments)) (b .machine) (b .registers) (b .marks) (b .scalars) (b .memory)))
 
       go : (t : Bool) → every (eqb (length (b .machine)) 64 ∷ eqb (length (b .scalars)) 256 ∷ []) ≡ t → SafeAfter (out t)
       go true h =
@@ -101,7 +101,7 @@ module _ (b : Buffers) (w : Words (machineOf (b .machine))) where
       out : Bool → Called
       out t =
           afterRunStart b (cond t (shownRunStart (b .machine) (b .run) (startRun smaller P (benchIn b)))
-          (runStartedOut (packed BadArguments) (b .machine) (b .registers) (b .marks) (b .memory) (b .run)))
+          (runStartedOut (packed (reply BadArguments)) (b .machine) (b .registers) (b .marks) (b .memory) (b .run)))
 
       go : (t : Bool) → SafeAfter (out t)
       go true = stays (startRun smaller P (benchIn b) .bench .memory) (λ q x. ap (λ (C : Bench). getD (C .memory) q 0) (run-start-changes-nothing smaller P (benchIn b)))
@@ -121,7 +121,7 @@ module _ (b : Buffers) (w : Words (machineOf (b .machine))) where
       out : Bool → Called
       out t =
           afterTurn b (cond t (shownTurn (b .run) (b .machine) (turnOutcome smaller r))
-          (turnedOut (packed BadArguments) (b .run) (b .machine) (b .registers) (b .marks) (b .memory)))
+          (turnedOut (packed (reply BadArguments)) (b .run) (b .machine) (b .registers) (b .marks) (b .memory)))
 
       go : (t : Bool) → turnBlocks (b .run) (b .machine) ≡ t → SafeAfter (out t)
       go true h =
@@ -162,7 +162,7 @@ module _ (b : Buffers) (w : Words (machineOf (b .machine))) where
       out : Bool → Called
       out t =
           afterRun b (cond t (shownRun (b .machine) (b .steps) (whole smaller P (benchIn b)))
-          (ranOut (packed BadArguments) (b .machine) (b .registers) (b .marks) (b .memory) (b .steps)))
+          (ranOut (packed (reply BadArguments)) (b .machine) (b .registers) (b .marks) (b .memory) (b .steps)))
 
       -- after a run that is done, and after one that is not
       shown : (t : Bool) → length (b .machine) ≡ 64 → Safe b (cond t (putMachine (C .machine) (b .machine)) (b .machine)) (C .memory)
@@ -170,7 +170,7 @@ module _ (b : Buffers) (w : Words (machineOf (b .machine))) where
       shown false l = stays (C .memory) (unharmed-bytes C unharmed)
 
       go : (t : Bool) → every (eqb (length (b .machine)) 64 ∷ eqb (length (b .steps)) 8 ∷ []) ≡ t → SafeAfter (out t)
-      go true h = shown (isDone (whole smaller P (benchIn b) .answer)) (first-length (eqb (length (b .steps)) 8 ∷ []) h)
+      go true h = shown (done (whole smaller P (benchIn b) .answer)) (first-length (eqb (length (b .steps)) 8 ∷ []) h)
       go false h = unchanged
 
   call-safe : (c : Call) → SparesSeal c b → SafeAfter (called c b)
@@ -240,9 +240,9 @@ seal-holds-from-start-call rlen mlen sealStart sealLength b =
     out t u =
         afterStart b (cond t
         (shownStart (b .machine) (cond u
-        (record { answer = Done; machine = freshMachine rlen mlen sealStart sealLength; registers = b .registers; marks = replicate (length (b .marks)) 0 })
-        (record { answer = BadArguments; machine = noMachine; registers = b .registers; marks = b .marks })))
-        (startedOut (packed BadArguments) (b .machine) (b .registers) (b .marks)))
+        (record { answer = reply Done; machine = freshMachine rlen mlen sealStart sealLength; registers = b .registers; marks = replicate (length (b .marks)) 0 })
+        (record { answer = reply BadArguments; machine = noMachine; registers = b .registers; marks = b .marks })))
+        (startedOut (packed (reply BadArguments)) (b .machine) (b .registers) (b .marks)))
 
     go : (t u : Bool) → eqb (length (b .machine)) 64 ≡ t → startable rlen mlen sealStart sealLength (b .registers) (b .marks) ≡ u
         → out t u .result ≡ 0 → (cs : List Call) → EachSparesSeal cs (out t u .after)

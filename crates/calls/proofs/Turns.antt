@@ -8,16 +8,15 @@ use lib.ListN.{length, replicate}
 use lib.Dec.{eqb}
 use borrow.Author.Tests.{eqb-true, ne-eqb}
 use Rattle.machine.specs.declared.Machine.{Machine}
-use Rattle.machine.specs.declared.Answer.{Answer}
-use Rattle.machine.specs.declared.Answer.the-variants.{Done, IllegalWord, IllegalType, BadWidth, TileTooLarge, Unwritten, OutsideMemory, SealedByte, BadArguments, Overlap, WrongOpcode, LeftOutWord, WrongRegister}
-use Rattle.machine.specs.Answers.{number, rowOf, columnOf, isDone}
+use Rattle.machine.specs.declared.Answer.the-variants.{Done, BadArguments}
+use Rattle.machine.specs.Answers.{Reply, reply, done}
 use Rattle.machine.specs.Geometry.{benchOf}
 use Rattle.machine.specs.Setting.{smaller}
 use Rattle.machine.proofs.TestLaws.{false-true, every-each}
-use Rattle.machine.proofs.CodeLaws.{only-done}
 use Rattle.run.specs.declared.Run.{Run}
 use Rattle.run.specs.Turn.{Running, running, turn, afterTurns, answeredDone, turnOutcome, turns}
 use Rattle.run.proofs.RefusalLaws.{number-done}
+use Rattle.turn.proofs.TurnLaws.{turn-zero}
 use Rattle.blocks.specs.Blocks.{runFit, packed}
 use Rattle.blocks.proofs.BlockLaws.{machineOf-putMachine, putMachine-same, runOf-putRun, runFit-putRun, putRun-same}
 use Rattle.bodlarina.specs.Host.{turnBlocks, heldRunning, turnedOut, shownTurn, hostTurn, shownTurns, hostTurns}
@@ -29,36 +28,17 @@ use Rattle.calls.proofs.Numbers.{machine-words, run-words, Wordy, turns
 
 -- ---- results
 
--- a result is 0 exactly where the answer is done
+-- of an answer that is as `Done`'s where its number is 0: the result is 0 exactly there
 first-zero : (x y z : ℕ) → x + y + z ≡ 0 → x ≡ 0
 first-zero x y z e = omega arith
 
-pub zero-is-done : (a : Answer) → eqb (packed a) 0 ≡ isDone a
-zero-is-done a = go (isDone a) refl
+pub zero-is-done : (a : Reply) → (done a ≡ true → a ≡ reply Done) → eqb (packed a) 0 ≡ done a
+zero-is-done a zero-is = go (done a) refl
   where
-    go : (t : Bool) → isDone a ≡ t → eqb (packed a) 0 ≡ t
-    go true e = ap (λ (a : Answer). eqb (packed a) 0) (only-done a e)
+    go : (t : Bool) → done a ≡ t → eqb (packed a) 0 ≡ t
+    go true e = ap (λ (a : Reply). eqb (packed a) 0) (zero-is e)
     go false e =
-        ne-eqb (packed a) 0 (λ z. false-true (sym e ∙ number-done a (first-zero (number a) (rowOf a % 2 ^ 16 * 2 ^ 16) (columnOf a % 2 ^ 16 * 2 ^ 32) z)))
-
--- and the answer's number, where it names no row and column
-plain : (a : Answer) → ¬ (number a ≡ 5) → packed a ≡ number a
-plain Done d = refl
-plain IllegalWord d = refl
-plain IllegalType d = refl
-plain BadWidth d = refl
-plain TileTooLarge d = refl
-plain (Unwritten row column) d = absurd (d refl)
-plain OutsideMemory d = refl
-plain SealedByte d = refl
-plain BadArguments d = refl
-plain Overlap d = refl
-plain WrongOpcode d = refl
-plain LeftOutWord d = refl
-plain WrongRegister d = refl
-
-pub eight : (a : Answer) → number a ≡ 8 → packed a ≡ 8
-eight a e = plain a (λ d. let z : _≡_ {A = ℕ} 5 8 = sym d ∙ e in omega arith) ∙ e
+        ne-eqb (packed a) 0 (λ z. false-true (sym e ∙ number-done a (first-zero (a .number) (a .row % 2 ^ 16 * 2 ^ 16) (a .column % 2 ^ 16 * 2 ^ 32) z)))
 
 -- ---- one call after another: the last apart
 
@@ -95,7 +75,7 @@ left result after = record { result = result; after = after }
 abbrev turnOn : Buffers → Bool → Called
 turnOn b t =
     afterTurn b (cond t (shownTurn (b .run) (b .machine) (turnOutcome smaller (runningIn b)))
-    (turnedOut (packed BadArguments) (b .run) (b .machine) (b .registers) (b .marks) (b .memory)))
+    (turnedOut (packed (reply BadArguments)) (b .run) (b .machine) (b .registers) (b .marks) (b .memory)))
 
 turn-call : (b : Buffers) (t : Bool) → turnBlocks (b .run) (b .machine) ≡ t → called Call.runTurn b ≡ turnOn b t
 unfolding hostTurn
@@ -164,7 +144,7 @@ module _ (b : Buffers) (fit : turnBlocks (b .run) (b .machine) ≡ true) where
     counts zero = refl
     counts (suc t) =
         zeros-last Call.runTurn t b
-        ∙ ap₂ (λ (n k : ℕ). n + k) (counts t) (ap one (next t) ∙ ap (λ (u : Bool). cond u 1 0) (zero-is-done (turn smaller (r t) .answer)))
+        ∙ ap₂ (λ (n k : ℕ). n + k) (counts t) (ap one (next t) ∙ ap (λ (u : Bool). cond u 1 0) (zero-is-done (turn smaller (r t) .answer) (turn-zero (r t))))
 
 -- ---- bodlarina_run_turns
 

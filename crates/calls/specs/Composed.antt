@@ -7,8 +7,7 @@ use Prim.Native.Nat.{ℕ, suc, _+_, _^_, _≤_, _<_}
 use lib.ListN.{length, getD, replicate}
 use lib.Dec.{eqb}
 use Rattle.width.specs.Tile.{In}
-use Rattle.machine.specs.declared.Answer.{Answer}
-use Rattle.machine.specs.Answers.{number}
+use Rattle.machine.specs.Answers.{Reply}
 use Rattle.machine.specs.Geometry.{Bench, benchOf}
 use Rattle.machine.specs.Setting.{smaller}
 use Rattle.machine.specs.Operation.{element}
@@ -55,7 +54,7 @@ PlanWords P = (j : ℕ) → getD (planNumbers P) j 0 < 2 ^ 64
 -- what a call of bodlarina_run_start returns and leaves: the number of an answer that is 0, 8, 6 or 9 exactly where demand 3 says so; and
 -- no byte of any buffer but the run's block changes
 pub record StartCall (P : Plan) (b : Buffers) (o : Called) : Type 0 where
-  pub answered : (a : Answer) × (o .result ≡ number a) × Answered P (benchIn b) a
+  pub answered : (a : Reply) × (o .result ≡ a .number) × Answered P (benchIn b) a
   pub unchanged : o .after ≡ buffers (b .machine) (b .registers) (b .marks) (b .scalars) (b .memory) (o .after .run) (b .step) (b .steps)
 
 -- for every plan, on blocks of the right lengths (others get 8: bodlarina/specs/Host.antt) and a memory that is a slice of bytes
