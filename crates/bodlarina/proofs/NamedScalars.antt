@@ -48,8 +48,8 @@ named word (SetTypeImmediate rd immediate) = eqb rd (field7 word)
 named word (SetType rd rs1) = every (eqb rd (field7 word) ∷ eqb rs1 (field15 word) ∷ [])
 named word (SetTileImmediate dimension rd immediate) = eqb rd (field7 word)
 named word (SetTile dimension rd rs1) = every (eqb rd (field7 word) ∷ eqb rs1 (field15 word) ∷ [])
-named word (Load matrix width md rs1 rs2) = every (eqb rs1 (field15 word) ∷ eqb rs2 (field20 word) ∷ [])
-named word (Store matrix width ms3 rs1 rs2) = every (eqb rs1 (field15 word) ∷ eqb rs2 (field20 word) ∷ [])
+named word (Load form matrix width md rs1 rs2) = every (eqb rs1 (field15 word) ∷ eqb rs2 (field20 word) ∷ [])
+named word (Store form matrix width ms3 rs1 rs2) = every (eqb rs1 (field15 word) ∷ eqb rs2 (field20 word) ∷ [])
 named word (Multiply factor md ms1 ms2) = true
 named word (Combine sum factor md ms1) = true
 named word (Scale factor md ms1 rs2) = eqb rs2 (field20 word)
@@ -93,8 +93,8 @@ same-operation M st word xs ys ea eb = go
     go (SetType rd rs1) h = rw (second rd rs1 h)
     go (SetTileImmediate dimension rd immediate) h = refl
     go (SetTile dimension rd rs1) h = rw (second rd rs1 h)
-    go (Load matrix width md rs1 rs2) h = let t = both rs1 rs2 h in rw (t .0, t .1)
-    go (Store matrix width ms3 rs1 rs2) h = let t = both rs1 rs2 h in rw (t .0, t .1)
+    go (Load form matrix width md rs1 rs2) h = let t = both rs1 rs2 h in rw (t .0, t .1)
+    go (Store form matrix width ms3 rs1 rs2) h = let t = both rs1 rs2 h in rw (t .0, t .1)
     go (Multiply factor md ms1 ms2) h = refl
     go (Combine sum factor md ms1) h = refl
     go (Scale factor md ms1 rs2) h = rw (at rs2 (field20 word) h eb)
@@ -107,8 +107,8 @@ destination-named word (SetTypeImmediate rd immediate) h = inr (eqb-true rd (fie
 destination-named word (SetType rd rs1) h = inr (eqb-true rd (field7 word) (every-each (eqb rd (field7 word) ∷ eqb rs1 (field15 word) ∷ []) h .0))
 destination-named word (SetTileImmediate dimension rd immediate) h = inr (eqb-true rd (field7 word) h)
 destination-named word (SetTile dimension rd rs1) h = inr (eqb-true rd (field7 word) (every-each (eqb rd (field7 word) ∷ eqb rs1 (field15 word) ∷ []) h .0))
-destination-named word (Load matrix width md rs1 rs2) h = inl refl
-destination-named word (Store matrix width ms3 rs1 rs2) h = inl refl
+destination-named word (Load form matrix width md rs1 rs2) h = inl refl
+destination-named word (Store form matrix width ms3 rs1 rs2) h = inl refl
 destination-named word (Multiply factor md ms1 ms2) h = inl refl
 destination-named word (Combine sum factor md ms1) h = inl refl
 destination-named word (Scale factor md ms1 rs2) h = inl refl

@@ -101,8 +101,8 @@ module _ (M : Parameters) (st : State) (mem : List ℕ) (hm : st .tileM ≤ 64) 
   checks-small (setType v) = tt
   checks-small (setSize d a) = (zeros, tt)
   checks-small (cutSize d) = (zeros, tt)
-  checks-small (load k r w base stride) = (zeros, (zeros, (zeros, (zeros, (zeros, tt)))))
-  checks-small (store k r w base stride) = (zeros, (zeros, (zeros, (zeros, (within _ _ _ _ (rows-small k) (cols-small k), (zeros, (zeros, tt)))))))
+  checks-small (load f k r w base stride) = (zeros, (zeros, (zeros, (zeros, (zeros, tt)))))
+  checks-small (store f k r w base stride) = (zeros, (zeros, (zeros, (zeros, (within _ _ _ _ (rows-small k) (cols-small k), (zeros, (zeros, tt)))))))
   checks-small (multiply f d a b) =
       (zeros, (zeros, (zeros, (zeros, (zeros, (within _ _ _ _ hm hk, (within _ _ _ _ hk hn, (within _ _ _ _ hm hn, tt))))))))
   checks-small (combine o f d a) = (zeros, (zeros, (zeros, (zeros, (within _ _ _ _ hm hn, (within _ _ _ _ hm hn, tt))))))

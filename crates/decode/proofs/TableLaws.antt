@@ -11,10 +11,13 @@ use types.Run.{OneOf}
 use Rattle.machine.proofs.TestLaws.{and-left, and-right, or-right, same-test}
 use Rattle.machine.proofs.MatchLaws.{one-of, none-of}
 use Rattle.machine.specs.declared.Wrong.the-variants.{LeftOut, Unlisted, Opcode}
+use Rattle.machine.specs.declared.Form.{Form}
+use Rattle.machine.specs.declared.Form.the-variants.{Plain, Transposed}
+use Rattle.machine.specs.declared.Instruction.{Instruction}
 use Rattle.machine.specs.declared.Instruction.the-variants.{Illegal}
 use Rattle.machine.specs.Tests.{isIn}
 use Rattle.machine.specs.Listing.{bits, field20, Fixed, Code, Row, has, listed, lookUp, notOurs, ranged, decode, listing, others}
-use Rattle.decode.specs.Table.{numbers, fixesZero, numberAmong, numberIn, sample, agrees, rowAgrees, blockAgrees, tableAgrees, TableAgrees, entryOf, restRight, meant, TableDecodes}
+use Rattle.decode.specs.Table.{numbers, fixesZero, numberAmong, numberIn, sample, agrees, rowAgrees, blockAgrees, tableAgrees, TableAgrees, entryOf, restRight, meant, numbered, TableDecodes}
 
 -- ---- the whole table
 
@@ -316,11 +319,11 @@ abbrev pub Missed : ℕ → Type 0 → List Row → Type 0
 Missed n N [] = N
 Missed n N (r ∷ rs) = Missed n (N × (n ≡ r .code .number → ⊥)) rs
 
--- the first k numbers are up to 32
-abbrev upTo32 : ℕ → List Row → Bool
-upTo32 zero rs = true
-upTo32 (suc k) [] = true
-upTo32 (suc k) (r ∷ rs) = leb (r .code .number) 32 && upTo32 k rs
+-- the first k numbers are up to lo, or above hi
+abbrev apart : (lo hi k : ℕ) → List Row → Bool
+apart lo hi zero rs = true
+apart lo hi (suc k) [] = true
+apart lo hi (suc k) (r ∷ rs) = (leb (r .code .number) lo || leb (suc hi) (r .code .number)) && apart lo hi k rs
 
 missed-left : (n word : ℕ) (N : Type 0) (rs : List Row) → ¬ (n ≡ 0) → Missed n N rs → N × (meant n word rs ≡ Illegal LeftOut)
 missed-left n word N [] z m = (m, rw (ne-eqb n 0 z))
@@ -328,16 +331,35 @@ missed-left n word N (r ∷ rs) z m =
     let q = missed-left n word (N × (n ≡ r .code .number → ⊥)) rs z m in
     (q .0 .0, rw (ne-eqb n (r .code .number) (q .0 .1)) (q .1))
 
-past-32 : (n word k : ℕ) (rs : List Row) → 32 < n → upTo32 k rs ≡ true → meant n word rs ≡ meant n word (drop k rs)
-past-32 n word zero rs l h = refl
-past-32 n word (suc k) [] l h = refl
-past-32 n word (suc k) (r ∷ rs) l h =
-    let g = leb-true (r .code .number) 32 (and-left (leb (r .code .number) 32) (upTo32 k rs) h) in
-    rw (ne-eqb n (r .code .number) (λ e. omega arith)) (past-32 n word k rs l (and-right (leb (r .code .number) 32) (upTo32 k rs) h))
+past : (n word lo hi k : ℕ) (rs : List Row) → lo < n → n ≤ hi → apart lo hi k rs ≡ true → meant n word rs ≡ meant n word (drop k rs)
+past n word lo hi zero rs a b h = refl
+past n word lo hi (suc k) [] a b h = refl
+past n word lo hi (suc k) (r ∷ rs) a b h =
+    rw (ne-eqb n (r .code .number) other) (past n word lo hi k rs a b (and-right (leb (r .code .number) lo || leb (suc hi) (r .code .number)) (apart lo hi k rs) h))
+  where
+    other : ¬ (n ≡ r .code .number)
+    other e =
+        either (leb (r .code .number) lo) (leb (suc hi) (r .code .number)) (and-left (leb (r .code .number) lo || leb (suc hi) (r .code .number)) (apart lo hi k rs) h)
+        (λ t. let g = leb-true (r .code .number) lo t in omega arith) (λ t. let g = leb-true (suc hi) (r .code .number) t in omega arith)
 
-pub left-out : (n word : ℕ) → 32 < n → Missed n (Unit {0}) (drop 32 listing) → Illegal LeftOut ≡ ranged (meant n word listing)
+-- 32 plain loads, stores and settings and 24 transposed ones stand before the others
+pub left-out : (n word : ℕ) → (32 < n) × (n ≤ 108) → Missed n (Unit {0}) (drop 56 listing) → Illegal LeftOut ≡ ranged (meant n word listing)
 unfolding listing
-left-out n word l m = ap ranged (sym (past-32 n word 32 listing l refl ∙ missed-left n word (Unit {0}) (drop 32 listing) (λ e. omega arith) m .1))
+left-out n word l m =
+    let z : ¬ (n ≡ 0) = λ e. omega (arith, l .0) in
+    ap ranged (sym (past n word 32 108 56 listing (l .0) (l .1) refl ∙ missed-left n word (Unit {0}) (drop 56 listing) z m .1))
+
+pub too-large : (n word : ℕ) → 132 < n → Illegal LeftOut ≡ ranged (meant n word listing)
+unfolding listing
+too-large n word l =
+    let z : ¬ (n ≡ 0) = λ e. omega arith in
+    ap ranged (sym (past n word 132 n 74 listing l (omega arith) refl ∙ ap (λ (t : Bool). Illegal (cond t Unlisted LeftOut)) (ne-eqb n 0 z)))
+
+-- a load or store of either form
+pub numbered-at : (n k word : ℕ) (f : Form) (i : Form → Instruction) → n ≡ k → i Plain ≡ meant k word listing → i Transposed ≡ meant (100 + k) word listing
+    → ranged (i f) ≡ ranged (meant (numbered f n) word listing)
+numbered-at n k word Plain i e p t = ap ranged p ∙ meant-at n k word e
+numbered-at n k word Transposed i e p t = ap ranged t ∙ meant-at (100 + n) (100 + k) word (ap (λ (x : ℕ). 100 + x) e)
 
 pub zero-key : (n : ℕ) → OneOf (2 ∷ 4 ∷ 6 ∷ 8 ∷ []) n → true ≡ fixesZero n
 unfolding fixesZero

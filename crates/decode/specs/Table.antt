@@ -5,6 +5,8 @@ use mathlib.Core.List.{List, [], _∷_}
 use Prim.Native.Nat.{ℕ, suc, _+_, _*_, _^_}
 use lib.ListN.{getD, replicate}
 use lib.Dec.{eqb, leb}
+use Rattle.machine.specs.declared.Form.{Form}
+use Rattle.machine.specs.declared.Form.the-variants.{Plain, Transposed}
 use Rattle.machine.specs.declared.Wrong.the-variants.{LeftOut, Unlisted}
 use Rattle.machine.specs.declared.Instruction.{Instruction}
 use Rattle.machine.specs.declared.Instruction.the-variants.{Illegal}
@@ -149,6 +151,11 @@ restRight number word = cond (fixesZero number) (eqb (field20 word) 0) true
 abbrev pub meant : (number word : ℕ) → List Row → Instruction
 meant number word [] = Illegal (cond (eqb number 0) Unlisted LeftOut)
 meant number word (r ∷ rs) = cond (eqb number (r .code .number)) (r .means word) (meant number word rs)
+
+-- the number of a load or store: a transposed one has 100 added
+abbrev pub numbered : Form → ℕ → ℕ
+numbered Plain number = number
+numbered Transposed number = 100 + number
 
 -- the table decodes every word as the listing does
 abbrev pub TableDecodes : Type 0

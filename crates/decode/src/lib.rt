@@ -3,6 +3,7 @@ mod table;
 
 use machine::Dimension;
 use machine::Factor;
+use machine::Form;
 use machine::Instruction;
 use machine::Matrix;
 use machine::Sum;
@@ -13,7 +14,7 @@ ghost use Prim.Native.Nat.{_<_, _≤_};
 ghost use Rattle.machine.specs.Listing.{field7, field15, field20, immediate13, listing, decode, ranged};
 ghost use Rattle.machine.specs.Geometry.{registerCount};
 ghost use Rattle.machine.specs.declared.Instruction.the-variants.{SetTypeImmediate, SetType, SetTileImmediate, SetTile, Load, Store, Multiply, Combine, Scale, ScaleImmediate};
-ghost use Rattle.decode.specs.Table.{entryOf, restRight, meant, fixesZero};
+ghost use Rattle.decode.specs.Table.{entryOf, restRight, meant, numbered, fixesZero};
 
 // Bits 11..7: rd, md or ms3.
 pub fn low_field(word: u32) -> usize
@@ -81,9 +82,9 @@ fn set_tile(word: u32, dimension: Dimension) -> Instruction
     }
 }
 
-fn load(word: u32, matrix: Matrix, count: usize, width: usize) -> Instruction
+fn load(word: u32, form: Form, matrix: Matrix, count: usize, width: usize) -> Instruction
     requires { ⌜ count ≡ registerCount matrix ⌝ }
-    ensures { λ r. ⌜ r ≡ ranged (Load matrix width (field7 word) (field15 word) (field20 word)) ⌝ }
+    ensures { λ r. ⌜ r ≡ ranged (Load form matrix width (field7 word) (field15 word) (field20 word)) ⌝ }
 {
     let md = low_field(word);
     if md >= count {
@@ -92,6 +93,7 @@ fn load(word: u32, matrix: Matrix, count: usize, width: usize) -> Instruction
         };
     }
     Instruction::Load {
+        form: form,
         matrix: matrix,
         width: width,
         md: md,
@@ -100,9 +102,9 @@ fn load(word: u32, matrix: Matrix, count: usize, width: usize) -> Instruction
     }
 }
 
-fn store(word: u32, matrix: Matrix, count: usize, width: usize) -> Instruction
+fn store(word: u32, form: Form, matrix: Matrix, count: usize, width: usize) -> Instruction
     requires { ⌜ count ≡ registerCount matrix ⌝ }
-    ensures { λ r. ⌜ r ≡ ranged (Store matrix width (field7 word) (field15 word) (field20 word)) ⌝ }
+    ensures { λ r. ⌜ r ≡ ranged (Store form matrix width (field7 word) (field15 word) (field20 word)) ⌝ }
 {
     let ms3 = low_field(word);
     if ms3 >= count {
@@ -111,6 +113,7 @@ fn store(word: u32, matrix: Matrix, count: usize, width: usize) -> Instruction
         };
     }
     Instruction::Store {
+        form: form,
         matrix: matrix,
         width: width,
         ms3: ms3,
@@ -256,51 +259,51 @@ fn setting(word: u32, number: u8) -> Instruction
     }
 }
 
-// Loads: the entries 9 to 20.
-fn loading(word: u32, number: u8) -> Instruction
+// Loads: the entries 9 to 20, or 109 to 120.
+fn loading(word: u32, form: Form, number: u8) -> Instruction
     requires { ⌜ (8 < number) × (number ≤ 20) ⌝ }
-    ensures { λ r. ⌜ r ≡ ranged (meant number word listing) ⌝ }
+    ensures { λ r. ⌜ r ≡ ranged (meant (numbered form number) word listing) ⌝ }
 {
     match number {
-        9 => load(word, Matrix::MatrixA, 8, 1),
-        10 => load(word, Matrix::MatrixA, 8, 2),
-        11 => load(word, Matrix::MatrixA, 8, 4),
-        12 => load(word, Matrix::MatrixA, 8, 8),
-        13 => load(word, Matrix::MatrixB, 8, 1),
-        14 => load(word, Matrix::MatrixB, 8, 2),
-        15 => load(word, Matrix::MatrixB, 8, 4),
-        16 => load(word, Matrix::MatrixB, 8, 8),
-        17 => load(word, Matrix::MatrixC, 2, 1),
-        18 => load(word, Matrix::MatrixC, 2, 2),
-        19 => load(word, Matrix::MatrixC, 2, 4),
-        _ => load(word, Matrix::MatrixC, 2, 8),
+        9 => load(word, form, Matrix::MatrixA, 8, 1),
+        10 => load(word, form, Matrix::MatrixA, 8, 2),
+        11 => load(word, form, Matrix::MatrixA, 8, 4),
+        12 => load(word, form, Matrix::MatrixA, 8, 8),
+        13 => load(word, form, Matrix::MatrixB, 8, 1),
+        14 => load(word, form, Matrix::MatrixB, 8, 2),
+        15 => load(word, form, Matrix::MatrixB, 8, 4),
+        16 => load(word, form, Matrix::MatrixB, 8, 8),
+        17 => load(word, form, Matrix::MatrixC, 2, 1),
+        18 => load(word, form, Matrix::MatrixC, 2, 2),
+        19 => load(word, form, Matrix::MatrixC, 2, 4),
+        _ => load(word, form, Matrix::MatrixC, 2, 8),
     }
 }
 
-// Stores: the entries 21 to 32.
-fn storing(word: u32, number: u8) -> Instruction
+// Stores: the entries 21 to 32, or 121 to 132.
+fn storing(word: u32, form: Form, number: u8) -> Instruction
     requires { ⌜ (20 < number) × (number ≤ 32) ⌝ }
-    ensures { λ r. ⌜ r ≡ ranged (meant number word listing) ⌝ }
+    ensures { λ r. ⌜ r ≡ ranged (meant (numbered form number) word listing) ⌝ }
 {
     match number {
-        21 => store(word, Matrix::MatrixA, 8, 1),
-        22 => store(word, Matrix::MatrixA, 8, 2),
-        23 => store(word, Matrix::MatrixA, 8, 4),
-        24 => store(word, Matrix::MatrixA, 8, 8),
-        25 => store(word, Matrix::MatrixB, 8, 1),
-        26 => store(word, Matrix::MatrixB, 8, 2),
-        27 => store(word, Matrix::MatrixB, 8, 4),
-        28 => store(word, Matrix::MatrixB, 8, 8),
-        29 => store(word, Matrix::MatrixC, 2, 1),
-        30 => store(word, Matrix::MatrixC, 2, 2),
-        31 => store(word, Matrix::MatrixC, 2, 4),
-        _ => store(word, Matrix::MatrixC, 2, 8),
+        21 => store(word, form, Matrix::MatrixA, 8, 1),
+        22 => store(word, form, Matrix::MatrixA, 8, 2),
+        23 => store(word, form, Matrix::MatrixA, 8, 4),
+        24 => store(word, form, Matrix::MatrixA, 8, 8),
+        25 => store(word, form, Matrix::MatrixB, 8, 1),
+        26 => store(word, form, Matrix::MatrixB, 8, 2),
+        27 => store(word, form, Matrix::MatrixB, 8, 4),
+        28 => store(word, form, Matrix::MatrixB, 8, 8),
+        29 => store(word, form, Matrix::MatrixC, 2, 1),
+        30 => store(word, form, Matrix::MatrixC, 2, 2),
+        31 => store(word, form, Matrix::MatrixC, 2, 4),
+        _ => store(word, form, Matrix::MatrixC, 2, 8),
     }
 }
 
-// Multiplies and element-wise instructions: the entries from 33 on; the others are left out.
+// Multiplies and element-wise instructions: the entries 33 to 60; the others up to 108 are left out.
 fn arithmetic(word: u32, number: u8) -> Instruction
-    requires { ⌜ 32 < number ⌝ }
+    requires { ⌜ (32 < number) × (number ≤ 108) ⌝ }
     ensures { λ r. ⌜ r ≡ ranged (meant number word listing) ⌝ }
 {
     match number {
@@ -341,12 +344,23 @@ fn meant(word: u32, number: u8) -> Instruction
         return setting(word, number);
     }
     if number <= 20 {
-        return loading(word, number);
+        return loading(word, Form::Plain, number);
     }
     if number <= 32 {
-        return storing(word, number);
+        return storing(word, Form::Plain, number);
     }
-    arithmetic(word, number)
+    if number <= 108 {
+        return arithmetic(word, number);
+    }
+    if number <= 120 {
+        return loading(word, Form::Transposed, number - 100);
+    }
+    if number <= 132 {
+        return storing(word, Form::Transposed, number - 100);
+    }
+    Instruction::Illegal {
+        wrong: Wrong::LeftOut,
+    }
 }
 
 // Bits 24..20 of a word are what the entry with this number fixes.

@@ -224,8 +224,8 @@ module _ (M : Parameters) (G : Grants (M .grant)) (of-elen : M .elen ≡ elen) (
     k-fits = h .k-fits;
     n-fits = omega (arith, h .n-fits);
   }
-  sane-after (Operation.load k r w b s) st mem h = wrote st _ _ _ _ _ h
-  sane-after (Operation.store k r w b s) st mem h = h
+  sane-after (Operation.load f k r w b s) st mem h = wrote st _ _ _ _ _ h
+  sane-after (Operation.store f k r w b s) st mem h = h
   sane-after (Operation.combine o f d a) st mem h = wrote st _ _ _ _ _ h
   sane-after (Operation.multiply f d a b) st mem h = wrote st _ _ _ _ _ h
   sane-after (Operation.scale f d a x) st mem h = wrote st _ _ _ _ _ h

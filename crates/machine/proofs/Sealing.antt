@@ -39,8 +39,8 @@ refusing M (Operation.illegal Register) st mem = refl
 refusing M (Operation.setType v) st mem = refl
 refusing M (Operation.setSize d a) st mem = refl
 refusing M (Operation.cutSize d) st mem = refl
-refusing M (Operation.load k r w b s) st mem = refl
-refusing M (Operation.store k r w b s) st mem = refl
+refusing M (Operation.load f k r w b s) st mem = refl
+refusing M (Operation.store f k r w b s) st mem = refl
 refusing M (Operation.multiply f d a b) st mem = refl
 refusing M (Operation.combine o f d a) st mem = refl
 refusing M (Operation.scale f d a x) st mem = refl
@@ -51,8 +51,8 @@ module _ (M : Parameters) (st : State) (mem : List ℕ) where
   operation-length (Operation.setType v) = refl
   operation-length (Operation.setSize d a) = refl
   operation-length (Operation.cutSize d) = refl
-  operation-length (Operation.load k r w b s) = refl
-  operation-length (Operation.store k r w b s) = length-putTile _ _ _ _ _ mem
+  operation-length (Operation.load f k r w b s) = refl
+  operation-length (Operation.store f k r w b s) = length-putTile _ _ _ _ _ mem
   operation-length (Operation.multiply f d a b) = refl
   operation-length (Operation.combine o f d a) = refl
   operation-length (Operation.scale f d a x) = refl
@@ -62,8 +62,8 @@ module _ (M : Parameters) (st : State) (mem : List ℕ) where
   operation-sealed (Operation.setType v) p q h = refl
   operation-sealed (Operation.setSize d a) p q h = refl
   operation-sealed (Operation.cutSize d) p q h = refl
-  operation-sealed (Operation.load k r w b s) p q h = refl
-  operation-sealed (Operation.store k r w b s) p q h =
+  operation-sealed (Operation.load f k r w b s) p q h = refl
+  operation-sealed (Operation.store f k r w b s) p q h =
       putTile-out (rowAt b s) _ _ w _ mem q (λ i l x.
       false-true (rw h at (clear-at M (rowAt b s i) _ (unsealed-at M b s _ _ (p .1 .1 .1 .1 .1 .1 .0) i l) q x)))
   operation-sealed (Operation.multiply f d a b) p q h = refl

@@ -22,7 +22,7 @@ use Rattle.machine.specs.Refusals.{checks, wordAnswer}
 use Rattle.machine.specs.Faults.{soundBench, thirtyTwo}
 use Rattle.machine.specs.Step
 use Rattle.machine.specs.Step.{Outcome, outcome, stepBy, stepChecks}
-use Rattle.machine.specs.WordTheorems.{Faultless, RightOpcode, EveryBit, IsOther, IsOurs, OutOfRange, RefusedAs, WordRefusals, decodeBefore, numberBefore, OnlyNumberMoved, NothingElseMoved}
+use Rattle.machine.specs.WordTheorems.{Faultless, RightOpcode, EveryBit, IsOther, IsOurs, OutOfRange, RefusedAs, WordRefusals, isAdded, listingBefore, decodeBefore, numberBefore, OnlyNumberMoved, IsAdded, NothingElseMoved, AddedGotOne}
 use Rattle.machine.proofs.TestLaws.{and-true, and-left, and-right, false-true}
 use Rattle.machine.proofs.ListingLaws.{clash, clashAll, codes, pairwise, one-row-each, clash-apart}
 
@@ -109,12 +109,52 @@ look-up-none word none (s ∷ rs) n = go (has word (s .code .fixed)) (n s (List�
     go true h ih = absurd (h refl)
     go false h ih = ih
 
+-- the entries that were ours before: they are entries of ours, and all but those added
+before-ours : (rs : List Row) (r : Row) → List·Memᴰ r (listingBefore rs) → List·Memᴰ r rs
+before-ours [] r m = m
+before-ours (s ∷ rs) r m = go (isAdded s) (before-ours rs r) m
+  where
+    go : (t : Bool) → (List·Memᴰ r (listingBefore rs) → List·Memᴰ r rs) → List·Memᴰ r (cond t (listingBefore rs) (s ∷ listingBefore rs)) → List·Memᴰ r (s ∷ rs)
+    go true later m = List·Memᴰ·tail (later m)
+    go false later m = elim (List·Memᴰ·cases-cons m) [ inl e ↦ List·Memᴰ·head e | inr n ↦ List·Memᴰ·tail (later n) ]
+
+before-one : (word : ℕ) (none : Instruction) (rs : List Row) → pairwise (codes rs) ≡ true
+    → (r : Row) → List·Memᴰ r rs → has word (r .code .fixed) ≡ true → lookUp word none (listingBefore rs) ≡ cond (isAdded r) none (r .means word)
+before-one word none [] p r m h = absurd (List·Memᴰ·not-nil m)
+before-one word none (s ∷ rs) p r m h =
+    elim (List·Memᴰ·cases-cons m) [
+      | inl e ↦ subst (λ (x : Row). lookUp word none (listingBefore (s ∷ rs)) ≡ cond (isAdded x) none (x .means word)) (sym e)
+          (here (isAdded s) (subst (λ (x : Row). has word (x .code .fixed) ≡ true) e h))
+      | inr n ↦ there (isAdded s) (has word (s .code .fixed)) refl (clash-row (s .code) rs (and-left (clashAll (s .code) (codes rs)) (pairwise (codes rs)) p) r n)
+          (before-one word none rs (and-right (clashAll (s .code) (codes rs)) (pairwise (codes rs)) p) r n h)
+    ]
+  where
+    here : (t : Bool) → has word (s .code .fixed) ≡ true → lookUp word none (cond t (listingBefore rs) (s ∷ listingBefore rs)) ≡ cond t none (s .means word)
+    here true g = look-up-none word none (listingBefore rs) (λ q n k.
+        clash-apart word (s .code .fixed) (q .code .fixed) (clash-row (s .code) rs (and-left (clashAll (s .code) (codes rs)) (pairwise (codes rs)) p) q (before-ours rs q n)) g k)
+    here false g = ap (λ (t : Bool). cond t (s .means word) (lookUp word none (listingBefore rs))) g
+
+    there : (t u : Bool) → has word (s .code .fixed) ≡ u → clash (s .code .fixed) (r .code .fixed) ≡ true
+        → lookUp word none (listingBefore rs) ≡ cond (isAdded r) none (r .means word)
+        → lookUp word none (cond t (listingBefore rs) (s ∷ listingBefore rs)) ≡ cond (isAdded r) none (r .means word)
+    there true u e k ih = ih
+    there false true e k ih = absurd (clash-apart word (s .code .fixed) (r .code .fixed) k e h)
+    there false false e k ih = ap (λ (t : Bool). cond t (s .means word) (lookUp word none (listingBefore rs))) e ∙ ih
+
+before-none : (word : ℕ) (none : Instruction) → ((r : Row) → List·Memᴰ r listing → ¬ (has word (r .code .fixed) ≡ true)) → lookUp word none (listingBefore listing) ≡ none
+before-none word none n = look-up-none word none (listingBefore listing) (λ r m. n r (before-ours listing r m))
+
 -- ---- the kinds of words, and what each decodes to, now and before
+
+abbrev before : Row → ℕ → Instruction
+before r word =
+    let i : Instruction = cond (isAdded r) (Illegal Unlisted) (r .means word) in
+    cond (inRange i) i (Illegal Unlisted)
 
 data Kind (word : ℕ) : Type 0 where
   wrong-opcode : ¬ RightOpcode word → decode word ≡ Illegal Opcode → decodeBefore word ≡ Illegal Unlisted → Kind word
   ours : RightOpcode word → (r : Row) → List·Memᴰ r listing → EveryBit word (r .code)
-      → decode word ≡ ranged (r .means word) → decodeBefore word ≡ cond (inRange (r .means word)) (r .means word) (Illegal Unlisted) → Kind word
+      → decode word ≡ ranged (r .means word) → decodeBefore word ≡ before r word → Kind word
   left-out : RightOpcode word → IsOther word → ¬ IsOurs word → decode word ≡ Illegal LeftOut → decodeBefore word ≡ Illegal Unlisted → Kind word
   unlisted : RightOpcode word → ¬ IsOther word → ¬ IsOurs word → decode word ≡ Illegal Unlisted → decodeBefore word ≡ Illegal Unlisted → Kind word
 
@@ -129,7 +169,7 @@ module _ (word : ℕ) where
   unfolding decode
   decodes t i e l = ap₂ by e l
 
-  decoded-before : (t : Bool) (i : Instruction) → eqb (bits 6 0 word) 0b1110111 ≡ t → lookUp word (Illegal Unlisted) listing ≡ i → decodeBefore word ≡ byBefore t i
+  decoded-before : (t : Bool) (i : Instruction) → eqb (bits 6 0 word) 0b1110111 ≡ t → lookUp word (Illegal Unlisted) (listingBefore listing) ≡ i → decodeBefore word ≡ byBefore t i
   decoded-before t i e l = ap₂ byBefore e l
 
   kind : Kind word
@@ -139,19 +179,19 @@ module _ (word : ℕ) where
           → ((r : Row) × List·Memᴰ r listing × (has word (r .code .fixed) ≡ true)) ⊎ ((r : Row) → List·Memᴰ r listing → ¬ (has word (r .code .fixed) ≡ true))
           → ((c : Code) × List·Memᴰ c others × (has word (c .fixed) ≡ true)) ⊎ ((c : Code) → List·Memᴰ c others → ¬ (has word (c .fixed) ≡ true)) → Kind word
       go false e rs cs =
-          wrong-opcode (eqb-false (bits 6 0 word) 0b1110111 e) (decodes false (lookUp word (notOurs word) listing) e refl) (decoded-before false (lookUp word (Illegal Unlisted) listing) e refl)
+          wrong-opcode (eqb-false (bits 6 0 word) 0b1110111 e) (decodes false (lookUp word (notOurs word) listing) e refl) (decoded-before false (lookUp word (Illegal Unlisted) (listingBefore listing)) e refl)
       go true e (inl r) cs =
           ours (eqb-true (bits 6 0 word) 0b1110111 e) (r .0) (r .1) (has-bits word (r .0 .code .fixed) (r .2))
           (decodes true (r .0 .means word) e (look-up-one word (notOurs word) listing one-row-each (r .0) (r .1) (r .2)))
-          (decoded-before true (r .0 .means word) e (look-up-one word (Illegal Unlisted) listing one-row-each (r .0) (r .1) (r .2)))
+          (decoded-before true (cond (isAdded (r .0)) (Illegal Unlisted) (r .0 .means word)) e (before-one word (Illegal Unlisted) listing one-row-each (r .0) (r .1) (r .2)))
       go true e (inr n) (inl c) =
           left-out (eqb-true (bits 6 0 word) 0b1110111 e) (c .0, c .1, has-bits word (c .0 .fixed) (c .2)) (λ r. n (r .0) (r .1) (bits-has word (r .0 .code .fixed) (r .2)))
           (decodes true (Illegal LeftOut) e (look-up-none word (notOurs word) listing n ∙ ap (λ (b : Bool). Illegal (cond b LeftOut Unlisted)) (listed-one word others (c .0) (c .1) (c .2))))
-          (decoded-before true (Illegal Unlisted) e (look-up-none word (Illegal Unlisted) listing n))
+          (decoded-before true (Illegal Unlisted) e (before-none word (Illegal Unlisted) n))
       go true e (inr n) (inr m) =
           unlisted (eqb-true (bits 6 0 word) 0b1110111 e) (λ c. m (c .0) (c .1) (bits-has word (c .0 .fixed) (c .2))) (λ r. n (r .0) (r .1) (bits-has word (r .0 .code .fixed) (r .2)))
           (decodes true (Illegal Unlisted) e (look-up-none word (notOurs word) listing n ∙ ap (λ (b : Bool). Illegal (cond b LeftOut Unlisted)) (listed-none word others m)))
-          (decoded-before true (Illegal Unlisted) e (look-up-none word (Illegal Unlisted) listing n))
+          (decoded-before true (Illegal Unlisted) e (before-none word (Illegal Unlisted) n))
 
 -- ---- an instruction of ours gets none of the four numbers
 
@@ -179,8 +219,8 @@ isOurs (SetTypeImmediate rd immediate) = true
 isOurs (SetType rd rs1) = true
 isOurs (SetTileImmediate dimension rd immediate) = true
 isOurs (SetTile dimension rd rs1) = true
-isOurs (Load matrix width md rs1 rs2) = true
-isOurs (Store matrix width ms3 rs1 rs2) = true
+isOurs (Load form matrix width md rs1 rs2) = true
+isOurs (Store form matrix width ms3 rs1 rs2) = true
 isOurs (Multiply factor md ms1 ms2) = true
 isOurs (Combine sum factor md ms1) = true
 isOurs (Scale factor md ms1 rs2) = true
@@ -200,8 +240,8 @@ module _ (M : Parameters) (st : State) (xs mem : List ℕ) where
   checks-elsewhere (SetType rd rs1) h = refl
   checks-elsewhere (SetTileImmediate dimension rd immediate) h = refl
   checks-elsewhere (SetTile dimension rd rs1) h = either-elsewhere (eqb rs1 0) _ _ (either-elsewhere (eqb rd 0) _ _ refl refl) refl
-  checks-elsewhere (Load matrix width md rs1 rs2) h = refl
-  checks-elsewhere (Store matrix width ms3 rs1 rs2) h = refl
+  checks-elsewhere (Load form matrix width md rs1 rs2) h = refl
+  checks-elsewhere (Store form matrix width ms3 rs1 rs2) h = refl
   checks-elsewhere (Multiply factor md ms1 ms2) h = refl
   checks-elsewhere (Combine sum factor md ms1) h = refl
   checks-elsewhere (Scale factor md ms1 rs2) h = refl
@@ -293,17 +333,40 @@ module _ (M : Parameters) (xs : List ℕ) (B : Bench) where
   moved-by : (word : ℕ) (i j : Instruction) → decode word ≡ i → decodeBefore word ≡ j → Moved i j → Moved (decode word) (decodeBefore word)
   moved-by word i j d b m = subst (λ (x : Instruction). Moved x (decodeBefore word)) (sym d) (subst (λ (x : Instruction). Moved i x) (sym b) m)
 
-  word-moved : (word : ℕ) → Kind word → Moved (decode word) (decodeBefore word)
-  word-moved word (wrong-opcode o d b) = moved-by word (Illegal Opcode) (Illegal Unlisted) d b (illegal-moved Opcode)
-  word-moved word (left-out o c n d b) = moved-by word (Illegal LeftOut) (Illegal Unlisted) d b (illegal-moved LeftOut)
-  word-moved word (unlisted o c n d b) = moved-by word (Illegal Unlisted) (Illegal Unlisted) d b (illegal-moved Unlisted)
-  word-moved word (ours o r m h d b) =
-      moved-by word (ranged (r .means word)) (cond (inRange (r .means word)) (r .means word) (Illegal Unlisted)) d b
-      (ranged-moved (r .means word) (inRange (r .means word)) (row-ours word listing (listing-ours word) r m))
+  word-moved : (word : ℕ) → ¬ IsAdded word → Kind word → Moved (decode word) (decodeBefore word)
+  word-moved word a (wrong-opcode o d b) = moved-by word (Illegal Opcode) (Illegal Unlisted) d b (illegal-moved Opcode)
+  word-moved word a (left-out o c n d b) = moved-by word (Illegal LeftOut) (Illegal Unlisted) d b (illegal-moved LeftOut)
+  word-moved word a (unlisted o c n d b) = moved-by word (Illegal Unlisted) (Illegal Unlisted) d b (illegal-moved Unlisted)
+  word-moved word a (ours o r m h d b) = go (isAdded r) refl
+    where
+      same : Moved (ranged (r .means word)) (cond (inRange (r .means word)) (r .means word) (Illegal Unlisted))
+      same = ranged-moved (r .means word) (inRange (r .means word)) (row-ours word listing (listing-ours word) r m)
+
+      stays : isAdded r ≡ false → before r word ≡ cond (inRange (r .means word)) (r .means word) (Illegal Unlisted)
+      stays e = ap (λ (t : Bool). let i : Instruction = cond t (Illegal Unlisted) (r .means word) in cond (inRange i) i (Illegal Unlisted)) e
+
+      go : (t : Bool) → isAdded r ≡ t → Moved (decode word) (decodeBefore word)
+      go true e = absurd (a (o, (r, m, h, e)))
+      go false e = moved-by word (ranged (r .means word)) (cond (inRange (r .means word)) (r .means word) (Illegal Unlisted)) d (b ∙ stays e) same
+
+  added-one : (word : ℕ) → Faultless xs B → Kind word → IsAdded word → outcome M (decodeBefore word) xs B .answer .number ≡ 1
+  added-one word f k a = ap (λ (i : Instruction). outcome M i xs B .answer .number) (unlisted-before k) ∙ ap (λ (o : Outcome). o .answer .number) (illegal-told M xs B Unlisted) ∙ rw (f .0, f .1)
+    where
+      unlisted-before : Kind word → decodeBefore word ≡ Illegal Unlisted
+      unlisted-before (wrong-opcode o d b) = b
+      unlisted-before (left-out o c n d b) = b
+      unlisted-before (unlisted o c n d b) = b
+      unlisted-before (ours o r m h d b) =
+          let found = before-one word (Illegal Unlisted) listing one-row-each (a .1 .0) (a .1 .1) (bits-has word (a .1 .0 .code .fixed) (a .1 .2)) in
+          decoded-before word true (Illegal Unlisted) (eq-eqb (bits 6 0 word) 0b1110111 (a .0))
+          (found ∙ ap (λ (t : Bool). cond t (Illegal Unlisted) (a .1 .0 .means word)) (a .1 .3))
 
 pub nothing-else-moved : NothingElseMoved
 unfolding stepBy
-nothing-else-moved grant word xs B = word-moved (parameters grant (B .machine)) xs B word (kind word)
+nothing-else-moved grant word xs B a = word-moved (parameters grant (B .machine)) xs B word a (kind word)
+
+pub added-got-one : AddedGotOne
+added-got-one grant word xs B f a = added-one (parameters grant (B .machine)) xs B word f (kind word) a
 
 -- ---- which words get which number
 

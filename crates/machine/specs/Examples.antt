@@ -1,8 +1,8 @@
 -- Refusals of each number and their neighbours, computed: a machine of RLEN 64 and MLEN 128 (two rows of eight bytes).
 use mathlib.Core.Path.{_≡_, refl}
 use mathlib.Core.List.{List, [], _∷_, _++_, map}
-use Prim.Native.Nat.{ℕ, _+_, _*_, _-_, _^_}
-use lib.ListN.{getD, replicate, set}
+use Prim.Native.Nat.{ℕ, zero, suc, _+_, _*_, _-_, _^_}
+use lib.ListN.{getD, replicate, set, take, drop}
 use Rattle.width.specs.Reduce.{reduce}
 use Rattle.width.specs.Tile.{putTile, putRow, putLe, markTile, markRow}
 use Rattle.machine.specs.declared.Machine.{Machine}
@@ -79,10 +79,9 @@ examples =
     -- 10: the opcode, also of what would be a float
     ∷ gives (step 0x00007033 (scalars 0 0) good) 10
     ∷ gives (step 0x02006033 (scalars 0 0) good) 10
-    -- 11: mfma.mm, whatever its registers; mfaddc.mm; a transposed load of 64 bits; a conversion
+    -- 11: mfma.mm, whatever its registers; mfaddc.mm; a conversion
     ∷ gives (step (word 0b0000001 31 31 6 31) (scalars 0 0) good) 11
     ∷ gives (step (word 0b0001001 0 0 6 0) (scalars 0 0) good) 11
-    ∷ gives (step (word 0b0001010 11 10 3 8) (scalars 0 8) good) 11
     ∷ gives (step (word 0b0111110 0 0 6 0) (scalars 0 0) good) 11
     -- 1: bits 14..12 of 100; bits 27..20 of msettype; bits 24..20 of maddc.mm, of mfaddc.mm and of a conversion; no entry
     ∷ gives (step (word 0b0000010 0 0 4 0) (scalars 0 0) good) 1
@@ -99,6 +98,9 @@ examples =
     ∷ gives (step (word 0b0000000 8 0 6 0) (scalars 0 0) good) 12
     ∷ gives (step (word 0b0000000 0 8 6 0) (scalars 0 0) good) 12
     ∷ gives (step (word 0b0000000 0 0 6 2) (scalars 0 0) good) 12
+    -- and of transposed loads
+    ∷ gives (step (word 0b0001010 11 10 3 8) (scalars 0 8) good) 12
+    ∷ gives (step (word 0b0001000 11 10 0 2) (scalars 0 8) good) 12
     -- 2, but msettypei is done
     ∷ gives (step (word 0b0010000 0 0 7 0) (scalars 0 0) (bench (2 ^ 63) 0 0 0 0 0 1)) 2
     ∷ gives (step (word 0b0011000 0 0 7 0) (scalars 0 0) (bench (2 ^ 63) 0 0 0 0 0 1)) 2
@@ -107,6 +109,7 @@ examples =
     -- 3: a 16-bit and a 64-bit load of A at SEW 8; 32 bits of C at SEW 8, without and with maccq; double at SEW 32; quadruple
     ∷ gives (step (word 0b0000010 11 10 1 0) (scalars 0 8) good) 3
     ∷ gives (step (word 0b0000010 11 10 3 0) (scalars 0 8) good) 3
+    ∷ gives (step (word 0b0001010 11 10 3 0) (scalars 0 8) good) 3
     ∷ gives (step (word 0b0000000 11 10 2 0) (scalars 0 8) good) 3
     ∷ gives (step (word 0b0000000 11 10 2 0) (scalars 0 8) (bench 8 2 2 2 0 0 1)) 0
     ∷ gives (step (word 0b0000000 11 10 1 0) (scalars 0 8) good) 0
@@ -146,6 +149,22 @@ examples =
     ∷ gives (step (word 0b0000010 11 10 0 0) (scalars 0 8) (bench 0 2 2 2 9 1 1)) 0
     ∷ gives (step (word 0b0000011 11 10 0 0) (scalars 0 8) (bench 0 2 2 2 9 0 1)) 0
     ∷ gives (step (word 0b0000011 11 10 0 0) (scalars 9 0) (bench 0 2 0 2 9 1 1)) 0
+    -- 02, Two: B of two rows and three columns, transposed. 4 is tested over the same sizes; 5 goes by rows of the register: (0, 2) comes before
+    -- (1, 0), which lies in the first row of memory
+    ∷ gives (step (word 0b0001100 11 10 1 0) (scalars 0 8) (bench 1 2 2 8 0 0 1)) 4
+    ∷ unwritten (step (word 0b0001101 11 10 0 0) (scalars 0 8) (marking (set (set (replicate 256 1) 2 0) 8 0) (bench 0 2 2 3 0 0 1))) 0 2
+    -- 6 and 7 go by rows of memory: three rows of two bytes; A of two rows and one column lies in one row of two bytes
+    ∷ gives (step (word 0b0001100 11 10 0 0) (scalars 14 8) (bench 0 2 2 3 0 0 1)) 0
+    ∷ gives (step (word 0b0001100 11 10 0 0) (scalars 15 8) (bench 0 2 2 3 0 0 1)) 6
+    ∷ gives (step (word 0b0001010 11 10 0 0) (scalars 30 8) (bench 0 2 1 3 0 0 1)) 0
+    ∷ gives (step (word 0b0001010 11 10 0 0) (scalars 31 8) (bench 0 2 1 3 0 0 1)) 6
+    ∷ gives (step (word 0b0001001 11 10 0 0) (scalars 14 8) (bench 0 2 2 3 0 0 1)) 0
+    ∷ gives (step (word 0b0001001 11 10 0 0) (scalars 15 8) (bench 0 2 2 3 0 0 1)) 6
+    ∷ gives (step (word 0b0001101 11 10 0 0) (scalars 0 8) (bench 0 2 2 3 17 1 1)) 7
+    ∷ gives (step (word 0b0001101 11 10 0 0) (scalars 0 8) (bench 0 2 2 3 10 1 1)) 0
+    -- no element, no address, whether memory has no row or rows of no byte
+    ∷ gives (step (word 0b0001101 11 10 0 0) (scalars (2 ^ 64 - 8) 8) (bench 0 2 2 0 0 1 0)) 0
+    ∷ gives (step (word 0b0001101 11 10 0 0) (scalars (2 ^ 64 - 8) 8) (bench 0 2 0 3 0 1 0)) 0
     ∷ []
 
 pub refusals : map (λ l. l .got) examples ≡ map (λ l. l .want) examples
@@ -230,3 +249,32 @@ arithmetic =
 pub arithmetic-right : map (λ l. l .got) arithmetic ≡ map (λ l. l .want) arithmetic
 unfolding arithmetic bytes minus5 word bench scalars permitted sew newType legalType widthOk marked listing others decode sound stepBy outcome putTile putRow putLe markTile markRow reduce
 arithmetic-right = refl
+
+-- 02, Two: B of two rows and three columns, transposed. Memory, or tr0 on, counts its bytes from 0
+pub counting : ℕ → ℕ → List ℕ
+counting zero x = []
+counting (suc n) x = x ∷ counting n (x + 1)
+
+pub counted : ℕ → Bench
+counted t =
+    let B = bench t 2 2 3 0 0 1 in
+    record { machine = B .machine; registers = counting 24 0 ++ replicate 232 5; marks = B .marks; memory = counting 32 0 }
+
+pub transposed : List Line
+transposed =
+    -- mlbte8.m and mlbte16.m to tr1: rows of memory at 0, 8 and 16 become columns
+    (let o = step (word 0b0001100 11 10 0 1) (scalars 0 8) (counted 0) in
+    record { got = take 12 (drop 16 (o .bench .registers)); want = 0 ∷ 8 ∷ 16 ∷ 19 ∷ 20 ∷ 21 ∷ 22 ∷ 23 ∷ 1 ∷ 9 ∷ 17 ∷ 5 ∷ [] })
+    ∷ (let o = step (word 0b0001100 11 10 1 1) (scalars 0 8) (counted 1) in
+    record { got = take 16 (drop 16 (o .bench .registers)); want = 0 ∷ 1 ∷ 8 ∷ 9 ∷ 16 ∷ 17 ∷ 22 ∷ 23 ∷ 2 ∷ 3 ∷ 10 ∷ 11 ∷ 18 ∷ 19 ∷ 5 ∷ 5 ∷ [] })
+    -- msbte8.m of tr0 to rows at 1, 5 and 9: its columns become rows
+    ∷ (let o = step (word 0b0001101 11 10 0 0) (scalars 1 4) (counted 0) in
+    record { got = take 12 (o .bench .memory); want = 0 ∷ 0 ∷ 8 ∷ 3 ∷ 4 ∷ 1 ∷ 9 ∷ 7 ∷ 8 ∷ 2 ∷ 10 ∷ 11 ∷ [] })
+    -- at 1, 2 and 3: where they overlap the later row stays
+    ∷ (let o = step (word 0b0001101 11 10 0 0) (scalars 1 1) (counted 0) in
+    record { got = take 6 (o .bench .memory); want = 0 ∷ 0 ∷ 1 ∷ 2 ∷ 10 ∷ 5 ∷ [] })
+    ∷ []
+
+pub transposed-right : map (λ l. l .got) transposed ≡ map (λ l. l .want) transposed
+unfolding transposed counting counted word bench scalars permitted sew newType legalType widthOf inside misses rowsMiss marked listing others decode sound stepBy outcome putTile putRow putLe markTile markRow
+transposed-right = refl

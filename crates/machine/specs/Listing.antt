@@ -8,6 +8,8 @@ use lib.Dec.{ltb, eqb}
 use Rattle.machine.specs.declared.Matrix.{Matrix}
 use Rattle.machine.specs.declared.Matrix.the-variants.{MatrixA, MatrixB, MatrixC}
 use Rattle.machine.specs.declared.Dimension.the-variants.{DimensionM, DimensionK, DimensionN}
+use Rattle.machine.specs.declared.Form.{Form}
+use Rattle.machine.specs.declared.Form.the-variants.{Plain, Transposed}
 use Rattle.machine.specs.declared.Factor.{Factor}
 use Rattle.machine.specs.declared.Factor.the-variants.{Single, Double, Quadruple}
 use Rattle.machine.specs.declared.Sum.{Sum}
@@ -81,11 +83,11 @@ abbrev setting : (number funct4 : ℕ) → (ℕ → Instruction) → Row
 setting number funct4 means = meaning (entry number (fix 14 12 0b111 ∷ fix 31 28 funct4 ∷ fix 27 20 0 ∷ [])) means
 
 -- loads and stores
-abbrev loading : (number funct6 eew : ℕ) → Matrix → ℕ → Row
-loading number funct6 eew matrix width = meaning (coded number funct6 0 eew) (λ word. Load matrix width (field7 word) (field15 word) (field20 word))
+abbrev loading : (number funct6 eew : ℕ) → Form → Matrix → ℕ → Row
+loading number funct6 eew form matrix width = meaning (coded number funct6 0 eew) (λ word. Load form matrix width (field7 word) (field15 word) (field20 word))
 
-abbrev storing : (number funct6 eew : ℕ) → Matrix → ℕ → Row
-storing number funct6 eew matrix width = meaning (coded number funct6 1 eew) (λ word. Store matrix width (field7 word) (field15 word) (field20 word))
+abbrev storing : (number funct6 eew : ℕ) → Form → Matrix → ℕ → Row
+storing number funct6 eew form matrix width = meaning (coded number funct6 1 eew) (λ word. Store form matrix width (field7 word) (field15 word) (field20 word))
 
 -- multiplies and element-wise multiplies
 abbrev arithmetic : (number funct6 : ℕ) → (ℕ → Instruction) → Row
@@ -108,31 +110,57 @@ listing =
     ∷ settingI 7 0b0110 (λ word. SetTileImmediate DimensionN (field7 word) (immediate13 word))  -- msettileni
     ∷ setting 8 0b0111 (λ word. SetTile DimensionN (field7 word) (field15 word))  -- msettilen
     -- loads
-    ∷ loading 9 0b000001 0b000 MatrixA 1  -- mlae8.m
-    ∷ loading 10 0b000001 0b001 MatrixA 2  -- mlae16.m
-    ∷ loading 11 0b000001 0b010 MatrixA 4  -- mlae32.m
-    ∷ loading 12 0b000001 0b011 MatrixA 8  -- mlae64.m
-    ∷ loading 13 0b000010 0b000 MatrixB 1  -- mlbe8.m
-    ∷ loading 14 0b000010 0b001 MatrixB 2  -- mlbe16.m
-    ∷ loading 15 0b000010 0b010 MatrixB 4  -- mlbe32.m
-    ∷ loading 16 0b000010 0b011 MatrixB 8  -- mlbe64.m
-    ∷ loading 17 0b000000 0b000 MatrixC 1  -- mlce8.m
-    ∷ loading 18 0b000000 0b001 MatrixC 2  -- mlce16.m
-    ∷ loading 19 0b000000 0b010 MatrixC 4  -- mlce32.m
-    ∷ loading 20 0b000000 0b011 MatrixC 8  -- mlce64.m
+    ∷ loading 9 0b000001 0b000 Plain MatrixA 1  -- mlae8.m
+    ∷ loading 10 0b000001 0b001 Plain MatrixA 2  -- mlae16.m
+    ∷ loading 11 0b000001 0b010 Plain MatrixA 4  -- mlae32.m
+    ∷ loading 12 0b000001 0b011 Plain MatrixA 8  -- mlae64.m
+    ∷ loading 13 0b000010 0b000 Plain MatrixB 1  -- mlbe8.m
+    ∷ loading 14 0b000010 0b001 Plain MatrixB 2  -- mlbe16.m
+    ∷ loading 15 0b000010 0b010 Plain MatrixB 4  -- mlbe32.m
+    ∷ loading 16 0b000010 0b011 Plain MatrixB 8  -- mlbe64.m
+    ∷ loading 17 0b000000 0b000 Plain MatrixC 1  -- mlce8.m
+    ∷ loading 18 0b000000 0b001 Plain MatrixC 2  -- mlce16.m
+    ∷ loading 19 0b000000 0b010 Plain MatrixC 4  -- mlce32.m
+    ∷ loading 20 0b000000 0b011 Plain MatrixC 8  -- mlce64.m
     -- stores
-    ∷ storing 21 0b000001 0b000 MatrixA 1  -- msae8.m
-    ∷ storing 22 0b000001 0b001 MatrixA 2  -- msae16.m
-    ∷ storing 23 0b000001 0b010 MatrixA 4  -- msae32.m
-    ∷ storing 24 0b000001 0b011 MatrixA 8  -- msae64.m
-    ∷ storing 25 0b000010 0b000 MatrixB 1  -- msbe8.m
-    ∷ storing 26 0b000010 0b001 MatrixB 2  -- msbe16.m
-    ∷ storing 27 0b000010 0b010 MatrixB 4  -- msbe32.m
-    ∷ storing 28 0b000010 0b011 MatrixB 8  -- msbe64.m
-    ∷ storing 29 0b000000 0b000 MatrixC 1  -- msce8.m
-    ∷ storing 30 0b000000 0b001 MatrixC 2  -- msce16.m
-    ∷ storing 31 0b000000 0b010 MatrixC 4  -- msce32.m
-    ∷ storing 32 0b000000 0b011 MatrixC 8  -- msce64.m
+    ∷ storing 21 0b000001 0b000 Plain MatrixA 1  -- msae8.m
+    ∷ storing 22 0b000001 0b001 Plain MatrixA 2  -- msae16.m
+    ∷ storing 23 0b000001 0b010 Plain MatrixA 4  -- msae32.m
+    ∷ storing 24 0b000001 0b011 Plain MatrixA 8  -- msae64.m
+    ∷ storing 25 0b000010 0b000 Plain MatrixB 1  -- msbe8.m
+    ∷ storing 26 0b000010 0b001 Plain MatrixB 2  -- msbe16.m
+    ∷ storing 27 0b000010 0b010 Plain MatrixB 4  -- msbe32.m
+    ∷ storing 28 0b000010 0b011 Plain MatrixB 8  -- msbe64.m
+    ∷ storing 29 0b000000 0b000 Plain MatrixC 1  -- msce8.m
+    ∷ storing 30 0b000000 0b001 Plain MatrixC 2  -- msce16.m
+    ∷ storing 31 0b000000 0b010 Plain MatrixC 4  -- msce32.m
+    ∷ storing 32 0b000000 0b011 Plain MatrixC 8  -- msce64.m
+    -- 02, Two: transposed loads
+    ∷ loading 109 0b000101 0b000 Transposed MatrixA 1  -- mlate8.m
+    ∷ loading 110 0b000101 0b001 Transposed MatrixA 2  -- mlate16.m
+    ∷ loading 111 0b000101 0b010 Transposed MatrixA 4  -- mlate32.m
+    ∷ loading 112 0b000101 0b011 Transposed MatrixA 8  -- mlate64.m
+    ∷ loading 113 0b000110 0b000 Transposed MatrixB 1  -- mlbte8.m
+    ∷ loading 114 0b000110 0b001 Transposed MatrixB 2  -- mlbte16.m
+    ∷ loading 115 0b000110 0b010 Transposed MatrixB 4  -- mlbte32.m
+    ∷ loading 116 0b000110 0b011 Transposed MatrixB 8  -- mlbte64.m
+    ∷ loading 117 0b000100 0b000 Transposed MatrixC 1  -- mlcte8.m
+    ∷ loading 118 0b000100 0b001 Transposed MatrixC 2  -- mlcte16.m
+    ∷ loading 119 0b000100 0b010 Transposed MatrixC 4  -- mlcte32.m
+    ∷ loading 120 0b000100 0b011 Transposed MatrixC 8  -- mlcte64.m
+    -- 02, Two: transposed stores
+    ∷ storing 121 0b000101 0b000 Transposed MatrixA 1  -- msate8.m
+    ∷ storing 122 0b000101 0b001 Transposed MatrixA 2  -- msate16.m
+    ∷ storing 123 0b000101 0b010 Transposed MatrixA 4  -- msate32.m
+    ∷ storing 124 0b000101 0b011 Transposed MatrixA 8  -- msate64.m
+    ∷ storing 125 0b000110 0b000 Transposed MatrixB 1  -- msbte8.m
+    ∷ storing 126 0b000110 0b001 Transposed MatrixB 2  -- msbte16.m
+    ∷ storing 127 0b000110 0b010 Transposed MatrixB 4  -- msbte32.m
+    ∷ storing 128 0b000110 0b011 Transposed MatrixB 8  -- msbte64.m
+    ∷ storing 129 0b000100 0b000 Transposed MatrixC 1  -- mscte8.m
+    ∷ storing 130 0b000100 0b001 Transposed MatrixC 2  -- mscte16.m
+    ∷ storing 131 0b000100 0b010 Transposed MatrixC 4  -- mscte32.m
+    ∷ storing 132 0b000100 0b011 Transposed MatrixC 8  -- mscte64.m
     -- arithmetic
     ∷ arithmetic 33 0b000000 (λ word. Multiply Single (field7 word) (field15 word) (field20 word))  -- mma.mm
     ∷ arithmetic 35 0b000001 (λ word. Multiply Double (field7 word) (field15 word) (field20 word))  -- mwma.mm
@@ -157,34 +185,8 @@ listing =
 -- the entries of section 4.5 that are not ours
 unfoldable pub others : List Code
 others =
-    -- transposed loads
-    coded 109 0b000101 0 0b000  -- mlate8.m
-    ∷ coded 110 0b000101 0 0b001  -- mlate16.m
-    ∷ coded 111 0b000101 0 0b010  -- mlate32.m
-    ∷ coded 112 0b000101 0 0b011  -- mlate64.m
-    ∷ coded 113 0b000110 0 0b000  -- mlbte8.m
-    ∷ coded 114 0b000110 0 0b001  -- mlbte16.m
-    ∷ coded 115 0b000110 0 0b010  -- mlbte32.m
-    ∷ coded 116 0b000110 0 0b011  -- mlbte64.m
-    ∷ coded 117 0b000100 0 0b000  -- mlcte8.m
-    ∷ coded 118 0b000100 0 0b001  -- mlcte16.m
-    ∷ coded 119 0b000100 0 0b010  -- mlcte32.m
-    ∷ coded 120 0b000100 0 0b011  -- mlcte64.m
-    -- transposed stores
-    ∷ coded 121 0b000101 1 0b000  -- msate8.m
-    ∷ coded 122 0b000101 1 0b001  -- msate16.m
-    ∷ coded 123 0b000101 1 0b010  -- msate32.m
-    ∷ coded 124 0b000101 1 0b011  -- msate64.m
-    ∷ coded 125 0b000110 1 0b000  -- msbte8.m
-    ∷ coded 126 0b000110 1 0b001  -- msbte16.m
-    ∷ coded 127 0b000110 1 0b010  -- msbte32.m
-    ∷ coded 128 0b000110 1 0b011  -- msbte64.m
-    ∷ coded 129 0b000100 1 0b000  -- mscte8.m
-    ∷ coded 130 0b000100 1 0b001  -- mscte16.m
-    ∷ coded 131 0b000100 1 0b010  -- mscte32.m
-    ∷ coded 132 0b000100 1 0b011  -- mscte64.m
     -- floats
-    ∷ coded 34 0b000000 1 0b110  -- mfma.mm
+    coded 34 0b000000 1 0b110  -- mfma.mm
     ∷ coded 36 0b000001 1 0b110  -- mfwma.mm
     ∷ coded0 39 0b000100 1 0b110  -- mfaddc.mm
     ∷ coded0 41 0b000101 1 0b110  -- mfwaddc.mm
@@ -241,8 +243,8 @@ inRange (SetTypeImmediate rd immediate) = true
 inRange (SetType rd rs1) = true
 inRange (SetTileImmediate dimension rd immediate) = true
 inRange (SetTile dimension rd rs1) = true
-inRange (Load matrix width md rs1 rs2) = ltb md (registerCount matrix)
-inRange (Store matrix width ms3 rs1 rs2) = ltb ms3 (registerCount matrix)
+inRange (Load form matrix width md rs1 rs2) = ltb md (registerCount matrix)
+inRange (Store form matrix width ms3 rs1 rs2) = ltb ms3 (registerCount matrix)
 inRange (Multiply factor md ms1 ms2) = every (ltb md 2 ∷ ltb ms1 8 ∷ ltb ms2 8 ∷ [])
 inRange (Combine sum factor md ms1) = every (ltb md 2 ∷ ltb ms1 2 ∷ [])
 inRange (Scale factor md ms1 rs2) = every (ltb md 2 ∷ ltb ms1 2 ∷ [])

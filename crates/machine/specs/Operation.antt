@@ -1,4 +1,4 @@
--- 01, "Loading, storing, reckoning": what each instruction does, once its scalars are read.
+-- 01, "Loading, storing, reckoning", and 02, Two: what each instruction does, once its scalars are read.
 use mathlib.Core.Bool.{cond}
 use mathlib.Core.List.{List}
 use Prim.Native.Nat.{ℕ, _+_, _*_, _%_, _^_}
@@ -8,6 +8,8 @@ use Rattle.width.specs.Tile.{le, putTile, markTile}
 use Rattle.width.specs.Reduce.{signed, reduce, sumℤ}
 use Rattle.machine.specs.declared.Matrix.{Matrix}
 use Rattle.machine.specs.declared.Matrix.the-variants.{MatrixA, MatrixB, MatrixC}
+use Rattle.machine.specs.declared.Form.{Form}
+use Rattle.machine.specs.declared.Form.the-variants.{Plain, Transposed}
 use Rattle.machine.specs.declared.Dimension.{Dimension}
 use Rattle.machine.specs.declared.Dimension.the-variants.{DimensionM, DimensionK, DimensionN}
 use Rattle.machine.specs.declared.Factor.{Factor}
@@ -23,15 +25,15 @@ use Rattle.machine.specs.Memory.{rowAt}
 
 -- ---- an instruction with the values of its scalars
 
--- a new mtype; a size that is asked, or none, which cuts the size; a matrix, a register, a width, an address and a stride; an output factor, md, ms1
+-- a new mtype; a size that is asked, or none, which cuts the size; plain or transposed, a matrix, a register, a width, an address and a stride; an output factor, md, ms1
 -- and ms2; an output factor, md, ms1 and the multiplier
 pub data Operation : Type 0 where
   illegal : Wrong → Operation
   setType : ℕ → Operation
   setSize : Dimension → ℕ → Operation
   cutSize : Dimension → Operation
-  load : Matrix → (r w base stride : ℕ) → Operation
-  store : Matrix → (r w base stride : ℕ) → Operation
+  load : Form → Matrix → (r w base stride : ℕ) → Operation
+  store : Form → Matrix → (r w base stride : ℕ) → Operation
   multiply : (f d a b : ℕ) → Operation
   combine : Sum → (f d a : ℕ) → Operation
   scale : (f d a : ℕ) → ℤ → Operation
@@ -57,8 +59,8 @@ operation M st xs (SetTypeImmediate rd immediate) = setType immediate
 operation M st xs (SetType rd rs1) = setType (scalar xs rs1)
 operation M st xs (SetTileImmediate dimension rd immediate) = setSize dimension immediate
 operation M st xs (SetTile dimension rd rs1) = askedSize M st dimension rd rs1 xs
-operation M st xs (Load matrix width md rs1 rs2) = load matrix md width (scalar xs rs1) (scalar xs rs2)
-operation M st xs (Store matrix width ms3 rs1 rs2) = store matrix ms3 width (scalar xs rs1) (scalar xs rs2)
+operation M st xs (Load form matrix width md rs1 rs2) = load form matrix md width (scalar xs rs1) (scalar xs rs2)
+operation M st xs (Store form matrix width ms3 rs1 rs2) = store form matrix ms3 width (scalar xs rs1) (scalar xs rs2)
 operation M st xs (Multiply factor md ms1 ms2) = multiply (times factor) md ms1 ms2
 operation M st xs (Combine sum factor md ms1) = combine sum (times factor) md ms1
 operation M st xs (Scale factor md ms1 rs2) =
@@ -83,6 +85,20 @@ tileRows st k = sizeIn (rowsOf k) st
 
 abbrev pub tileCols : State → Matrix → ℕ
 tileCols st k = sizeIn (columnsOf k) st
+
+-- 02, Two: "In memory the tile then has the other shape (A tile_k by tile_m, and so on ..)", from the rows and columns in the register
+abbrev pub memoryRows : Form → (rows cols : ℕ) → ℕ
+memoryRows Plain rows cols = rows
+memoryRows Transposed rows cols = cols
+
+abbrev pub memoryCols : Form → (rows cols : ℕ) → ℕ
+memoryCols Plain rows cols = cols
+memoryCols Transposed rows cols = rows
+
+-- ".. and row and column change places on the way": what is element (i, j) here is element (j, i) there
+abbrev pub placed : Form → (ℕ → ℕ → ℕ) → ℕ → ℕ → ℕ
+placed Plain value = value
+placed Transposed value = λ i j. value j i
 
 -- "Element (i, j) of w bits starts in row i at byte j x w/8, low byte first."
 abbrev pub element : List ℕ → (ℕ → ℕ) → ℕ → ℕ → ℕ → ℕ
@@ -148,9 +164,9 @@ stateAfter M (setType v) st mem = sized st (newType (M .elen) v) (st .tileM) (st
 stateAfter M (setSize d a) st mem = resized d (M .grant (maximum M (st .mtype) d) a) st
 -- 02, Three: "the size is kept if less than the maximum. From now on it becomes the smaller of the two."
 stateAfter M (cutSize d) st mem = resized d (smaller (maximum M (st .mtype) d) (sizeIn d st)) st
-stateAfter M (load k r w base stride) st mem =
-    written st (registerAt M k r) (tileRows st k) (tileCols st k) w (element mem (rowAt base stride) w)
-stateAfter M (store k r w base stride) st mem = st
+stateAfter M (load f k r w base stride) st mem =
+    written st (registerAt M k r) (tileRows st k) (tileCols st k) w (placed f (element mem (rowAt base stride) w))
+stateAfter M (store f k r w base stride) st mem = st
 stateAfter M (multiply f d a b) st mem =
     written st (accAt M d) (st .tileM) (st .tileN) (f * sew (st .mtype)) (productAt M (st .regs) (f * sew (st .mtype)) (sew (st .mtype)) d a b (st .tileK))
 stateAfter M (combine o f d a) st mem =
@@ -158,14 +174,16 @@ stateAfter M (combine o f d a) st mem =
 stateAfter M (scale f d a x) st mem =
     written st (accAt M d) (st .tileM) (st .tileN) (f * sew (st .mtype)) (scaledAt M x (st .regs) (f * sew (st .mtype)) (sew (st .mtype)) a)
 
--- "Stores go row by row upward; where rows overlap the later row stays."
+-- "Stores go row by row upward; where rows overlap the later row stays.": rows of memory
 abbrev pub memoryAfter : Parameters → Operation → State → List ℕ → List ℕ
 memoryAfter M (illegal wrong) st mem = mem
 memoryAfter M (setType v) st mem = mem
 memoryAfter M (setSize d a) st mem = mem
 memoryAfter M (cutSize d) st mem = mem
-memoryAfter M (load k r w base stride) st mem = mem
-memoryAfter M (store k r w base stride) st mem = putTile (rowAt base stride) (tileRows st k) (tileCols st k) w (element (st .regs) (registerAt M k r) w) mem
+memoryAfter M (load f k r w base stride) st mem = mem
+memoryAfter M (store f k r w base stride) st mem =
+    putTile (rowAt base stride) (memoryRows f (tileRows st k) (tileCols st k)) (memoryCols f (tileRows st k) (tileCols st k)) w
+    (placed f (element (st .regs) (registerAt M k r) w)) mem
 memoryAfter M (multiply f d a b) st mem = mem
 memoryAfter M (combine o f d a) st mem = mem
 memoryAfter M (scale f d a x) st mem = mem
@@ -176,8 +194,8 @@ resultOf (illegal wrong) st = 0
 resultOf (setType v) st = st .mtype
 resultOf (setSize d a) st = sizeIn d st
 resultOf (cutSize d) st = 0
-resultOf (load k r w base stride) st = 0
-resultOf (store k r w base stride) st = 0
+resultOf (load f k r w base stride) st = 0
+resultOf (store f k r w base stride) st = 0
 resultOf (multiply f d a b) st = 0
 resultOf (combine o f d a) st = 0
 resultOf (scale f d a x) st = 0

@@ -18,7 +18,7 @@ use Rattle.machine.specs.Answers.{Check, _otherwise_}
 use Rattle.machine.specs.Geometry.{Parameters, State, registerAt, tileAt, accAt}
 use Rattle.machine.specs.Setting.{sew, maccq, mill, maximum, sizeIn}
 use Rattle.machine.specs.Memory.{inside, unsealed}
-use Rattle.machine.specs.Operation.{Operation, illegal, setType, setSize, cutSize, load, store, multiply, combine, scale, rowsOf, columnsOf, tileRows, tileCols}
+use Rattle.machine.specs.Operation.{Operation, illegal, setType, setSize, cutSize, load, store, multiply, combine, scale, rowsOf, columnsOf, tileRows, tileCols, memoryRows, memoryCols}
 
 -- 10, 11, 1, 12: a word that is refused for what it is
 abbrev pub wordAnswer : Wrong → Answer
@@ -69,26 +69,27 @@ isZero (pos zero) = true
 isZero (pos (suc n)) = false
 isZero (negsuc n) = false
 
--- 6: "an element's byte lies outside memory"; 7: "a store would write a sealed byte"; "sources go ms1, ms2, md"
+-- 6: "an element's byte lies outside memory"; 7: "a store would write a sealed byte"; "sources go ms1, ms2, md". 02, Two: "State, marks
+-- and checks are as for the plain forms; answer 5 names row and column in the register"
 abbrev pub checks : Parameters → Operation → State → List ℕ → List Check
 checks M (illegal wrong) st mem = (false otherwise wordAnswer wrong) ∷ []
 checks M (setType v) st mem = []
 checks M (setSize d a) st mem = typed st ∷ []
 checks M (cutSize d) st mem = typed st ∷ []
-checks M (load k r w base stride) st mem =
+checks M (load f k r w base stride) st mem =
     typed st
     ∷ (widthOf (M .elen) (st .mtype) k w otherwise BadWidth)
     ∷ fitting M st (rowsOf k)
     ∷ fitting M st (columnsOf k)
-    ∷ (inside (length mem) base stride (tileRows st k) (tileCols st k * w) otherwise OutsideMemory) ∷ []
-checks M (store k r w base stride) st mem =
+    ∷ (inside (length mem) base stride (memoryRows f (tileRows st k) (tileCols st k)) (memoryCols f (tileRows st k) (tileCols st k) * w) otherwise OutsideMemory) ∷ []
+checks M (store f k r w base stride) st mem =
     typed st
     ∷ (widthOf (M .elen) (st .mtype) k w otherwise BadWidth)
     ∷ fitting M st (rowsOf k)
     ∷ fitting M st (columnsOf k)
     ∷ needs false (st .marks) (registerAt M k r) (tileRows st k) (tileCols st k) w
-    ∷ (inside (length mem) base stride (tileRows st k) (tileCols st k * w) otherwise OutsideMemory)
-    ∷ (unsealed M base stride (tileRows st k) (tileCols st k * w) otherwise SealedByte) ∷ []
+    ∷ (inside (length mem) base stride (memoryRows f (tileRows st k) (tileCols st k)) (memoryCols f (tileRows st k) (tileCols st k) * w) otherwise OutsideMemory)
+    ∷ (unsealed M base stride (memoryRows f (tileRows st k) (tileCols st k)) (memoryCols f (tileRows st k) (tileCols st k) * w) otherwise SealedByte) ∷ []
 -- "A multiply reads its three tiles whole, but nothing where C has no element."
 checks M (multiply f d a b) st mem =
     typed st

@@ -1,10 +1,10 @@
--- 02, One: which words get 10, 11, 1 and 12, in its words; and that nothing else moved. The proofs stand in proofs/WordRefusals.antt.
+-- 02, One: which words get 10, 11, 1 and 12, in its words; and that nothing else moved, but the words that a later request of 02 adds. The proofs stand in proofs/WordRefusals.antt.
 use mathlib.Core.Path.{_≡_}
 use mathlib.Core.Logic.{_↔_}
-use mathlib.Core.Bool.{true, false, cond}
+use mathlib.Core.Bool.{Bool, true, false, cond}
 use mathlib.Core.List.{List, [], _∷_, List·Memᴰ}
 use Prim.Native.Nat.{ℕ}
-use lib.Dec.{eqb}
+use lib.Dec.{eqb, ltb}
 use Rattle.machine.specs.declared.Wrong.the-variants.{Unlisted}
 use Rattle.machine.specs.declared.Instruction.{Instruction}
 use Rattle.machine.specs.declared.Instruction.the-variants.{Illegal}
@@ -51,11 +51,20 @@ WordRefusals = (grant : ℕ → ℕ → ℕ) (word : ℕ) (xs : List ℕ) (B : B
 
 -- ---- nothing else moved
 
--- decoding as it was before One, over the listing as it stands: any word that isn't ours gets 1; and the step with it. What an instruction
+-- the entries that became ours with a request of 02: Two, the transposed loads and stores, whose numbers are above 100
+abbrev pub isAdded : Row → Bool
+isAdded r = ltb 100 (r .code .number)
+
+-- those that were ours before
+abbrev pub listingBefore : List Row → List Row
+listingBefore [] = []
+listingBefore (r ∷ rs) = cond (isAdded r) (listingBefore rs) (r ∷ listingBefore rs)
+
+-- decoding as it was before One, over the entries that were ours then: any other word gets 1; and the step with it. What an instruction
 -- does and when it is refused (`outcome`) is the same definition in both, so this compares decoding only
 abbrev pub decodeBefore : ℕ → Instruction
 decodeBefore word =
-    let i : Instruction = lookUp word (Illegal Unlisted) listing in
+    let i : Instruction = lookUp word (Illegal Unlisted) (listingBefore listing) in
     cond (eqb (bits 6 0 word) 0b1110111) (cond (inRange i) i (Illegal Unlisted)) (Illegal Unlisted)
 
 abbrev pub stepBefore : (ℕ → ℕ → ℕ) → ℕ → List ℕ → Bench → Outcome
@@ -72,5 +81,16 @@ pub record OnlyNumberMoved (after before : Outcome) : Type 0 where
   pub same-bench : after .bench ≡ before .bench
   pub same-scalars : after .scalars ≡ before .scalars
 
+-- a word of an entry that became ours since
+abbrev pub IsAdded : ℕ → Type 0
+IsAdded word = RightOpcode word × ((r : Row) × List·Memᴰ r listing × EveryBit word (r .code) × (isAdded r ≡ true))
+
+-- of every word but these
 abbrev pub NothingElseMoved : Type 0
-NothingElseMoved = (grant : ℕ → ℕ → ℕ) (word : ℕ) (xs : List ℕ) (B : Bench) → OnlyNumberMoved (stepBy grant word xs B) (stepBefore grant word xs B)
+NothingElseMoved = (grant : ℕ → ℕ → ℕ) (word : ℕ) (xs : List ℕ) (B : Bench) → ¬ IsAdded word
+    → OnlyNumberMoved (stepBy grant word xs B) (stepBefore grant word xs B)
+
+-- and these got 1
+abbrev pub AddedGotOne : Type 0
+AddedGotOne = (grant : ℕ → ℕ → ℕ) (word : ℕ) (xs : List ℕ) (B : Bench) → Faultless xs B → IsAdded word
+    → stepBefore grant word xs B .answer .number ≡ 1

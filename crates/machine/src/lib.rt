@@ -58,6 +58,12 @@ pub enum Dimension {
     DimensionN,
 }
 
+// Whether row and column change places between register and memory.
+pub enum Form {
+    Plain,
+    Transposed,
+}
+
 // The output's width, as a multiple of SEW.
 pub enum Factor {
     Single,
@@ -105,6 +111,7 @@ pub enum Instruction {
         rs1: usize,
     },
     Load {
+        form: Form,
         matrix: Matrix,
         width: usize,
         md: usize,
@@ -112,6 +119,7 @@ pub enum Instruction {
         rs2: usize,
     },
     Store {
+        form: Form,
         matrix: Matrix,
         width: usize,
         ms3: usize,

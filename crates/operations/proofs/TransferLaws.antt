@@ -1,4 +1,4 @@
--- WritesRegisters and stores: what the checks of answers 2 to 4 give, and what the rest then is.
+-- Loads and stores: what the checks of answers 2 to 4 give, and what the rest then is.
 use mathlib.Core.Path.{_≡_, refl, sym, ap, _∙_, subst}
 use mathlib.Core.Bool.{Bool, true, false, cond}
 use mathlib.Core.List.{List, [], _∷_}
@@ -6,6 +6,7 @@ use Prim.Native.Nat.{ℕ, _+_, _*_, _≤_, _<_}
 use lib.ListN.{length}
 use Rattle.width.specs.Tile.{putTile, markTile}
 use Rattle.machine.specs.declared.Machine.{Machine}
+use Rattle.machine.specs.declared.Form.{Form}
 use Rattle.machine.specs.declared.Matrix.{Matrix}
 use Rattle.machine.specs.declared.Answer.{Answer}
 use Rattle.machine.specs.declared.Answer.the-variants.{BadWidth, OutsideMemory, SealedByte}
@@ -14,18 +15,19 @@ use Rattle.machine.specs.Answers.{Check, _otherwise_, verdict, isDone}
 use Rattle.machine.specs.Geometry.{elen, State, stateOf, registerCount, startOf, pitchOf}
 use Rattle.machine.specs.Setting.{smaller}
 use Rattle.machine.specs.Memory.{rowAt, inside, unsealed}
-use Rattle.machine.specs.Operation.{Operation, element, rowsOf, columnsOf, tileRows, tileCols}
+use Rattle.machine.specs.Operation.{Operation, element, placed, rowsOf, columnsOf, tileRows, tileCols, memoryRows, memoryCols}
 use Rattle.machine.specs.Refusals.{needs, typed, widthOf, fitting}
 use Rattle.machine.specs.Faults.{sound}
 use Rattle.machine.proofs.CheckLaws.{passed}
 use Rattle.machine.proofs.CodeLaws.{verdict-append}
 use Rattle.machine.proofs.NoFault.{sound-is}
-use Rattle.tile.proofs.Room.{requires-hold}
+use Rattle.element.specs.Element.{Width}
+use Rattle.transfer.proofs.Room.{transfer-requires}
 use Rattle.operations.specs.declared.Placed.{Placed}
 use Rattle.settings.specs.Parts.{ours, Ready}
 use Rattle.operations.specs.Parts.{transferChecks, placedAs, WritesRegisters, WritesMemory}
 
-module _ (m : Machine) (regs marks mem : List ℕ) (k : Matrix) (r w base stride : ℕ) where
+module _ (m : Machine) (regs marks mem : List ℕ) (f : Form) (k : Matrix) (r w base stride : ℕ) where
   abbrev st : State
   st = stateOf m regs marks
 
@@ -54,14 +56,14 @@ module _ (m : Machine) (regs marks mem : List ℕ) (k : Matrix) (r w base stride
 
   -- what a transfer's tile functions require
   pub room : sound m regs marks ≡ true → r < registerCount k → isDone (verdict (transferChecks m k w)) ≡ true → (p : Placed) → p ≡ placedAs m k r
-      → (p .start + p .rows * p .pitch ≤ length regs) × ((length marks ≡ length regs) × (p .columns * w ≤ p .pitch))
+      → (p .start + p .rows * p .pitch ≤ length regs) × ((length marks ≡ length regs) × ((p .columns * w ≤ p .pitch) × (Width w × (w ≤ p .pitch))))
   room h l d′ p e′ =
       let d : isDone (verdict first) ≡ true = subst (λ (cs : List Check). isDone (verdict cs) ≡ true) first-is d′ in
       let e : p ≡ here = e′ ∙ here-is in
-      subst (λ (p : Placed). (p .start + p .rows * p .pitch ≤ length regs) × ((length marks ≡ length regs) × (p .columns * w ≤ p .pitch))) (sym e)
-      (requires-hold smaller m regs marks h k r w l (passed first refl d))
+      subst (λ (p : Placed). (p .start + p .rows * p .pitch ≤ length regs) × ((length marks ≡ length regs) × ((p .columns * w ≤ p .pitch) × (Width w × (w ≤ p .pitch))))) (sym e)
+      (transfer-requires smaller m regs marks h k r w l (passed first refl d))
 
-  pub load-refused : (a : Answer) → a ≡ verdict (transferChecks m k w) → isDone a ≡ false → WritesRegisters m (Operation.load k r w base stride) regs marks mem a regs marks
+  pub load-refused : (a : Answer) → a ≡ verdict (transferChecks m k w) → isDone a ≡ false → WritesRegisters m (Operation.load f k r w base stride) regs marks mem a regs marks
   load-refused a e′ d = let e : a ≡ verdict first = e′ ∙ ap verdict first-is in record {
     answer-is = e ∙ ap (λ (t : Bool). cond t (verdict rest) (verdict first)) (sym (sym (ap isDone e) ∙ d)) ∙ sym (verdict-append first rest refl);
     registers-are = rw d;
@@ -69,31 +71,31 @@ module _ (m : Machine) (regs marks mem : List ℕ) (k : Matrix) (r w base stride
   }
     where
       rest : List Check
-      rest = (inside (length mem) base stride (tileRows st k) (tileCols st k * w) otherwise OutsideMemory) ∷ []
+      rest = (inside (length mem) base stride (memoryRows f (tileRows st k) (tileCols st k)) (memoryCols f (tileRows st k) (tileCols st k) * w) otherwise OutsideMemory) ∷ []
 
   pub load-done : (p : Placed) → p ≡ placedAs m k r → isDone (verdict (transferChecks m k w)) ≡ true → (a : Answer) (regs′ marks′ : List ℕ)
-      → a ≡ verdict ((inside (length mem) base stride (p .rows) (p .columns * w) otherwise OutsideMemory) ∷ [])
-      → regs′ ≡ cond (isDone a) (putTile (λ i. p .start + i * p .pitch) (p .rows) (p .columns) w (element mem (rowAt base stride) w) regs) regs
+      → a ≡ verdict ((inside (length mem) base stride (memoryRows f (p .rows) (p .columns)) (memoryCols f (p .rows) (p .columns) * w) otherwise OutsideMemory) ∷ [])
+      → regs′ ≡ cond (isDone a) (putTile (λ i. p .start + i * p .pitch) (p .rows) (p .columns) w (placed f (element mem (rowAt base stride) w)) regs) regs
       → marks′ ≡ cond (isDone a) (markTile (λ i. p .start + i * p .pitch) (p .rows) (p .columns * w) marks) marks
-      → WritesRegisters m (Operation.load k r w base stride) regs marks mem a regs′ marks′
+      → WritesRegisters m (Operation.load f k r w base stride) regs marks mem a regs′ marks′
   load-done p e′ d′ a regs′ marks′ ea er em = let d : isDone (verdict first) ≡ true = subst (λ (cs : List Check). isDone (verdict cs) ≡ true) first-is d′ in let e : p ≡ here = e′ ∙ here-is in record {
-    answer-is = ea ∙ ap (λ (p : Placed). verdict ((inside (length mem) base stride (p .rows) (p .columns * w) otherwise OutsideMemory) ∷ [])) e
+    answer-is = ea ∙ ap (λ (p : Placed). verdict ((inside (length mem) base stride (memoryRows f (p .rows) (p .columns)) (memoryCols f (p .rows) (p .columns) * w) otherwise OutsideMemory) ∷ [])) e
         ∙ ap (λ (t : Bool). cond t (verdict rest) (verdict first)) (sym d) ∙ sym (verdict-append first rest refl);
-    registers-are = er ∙ ap (λ (p : Placed). cond (isDone a) (putTile (λ i. p .start + i * p .pitch) (p .rows) (p .columns) w (element mem (rowAt base stride) w) regs) regs) e;
+    registers-are = er ∙ ap (λ (p : Placed). cond (isDone a) (putTile (λ i. p .start + i * p .pitch) (p .rows) (p .columns) w (placed f (element mem (rowAt base stride) w)) regs) regs) e;
     marks-are = em ∙ ap (λ (p : Placed). cond (isDone a) (markTile (λ i. p .start + i * p .pitch) (p .rows) (p .columns * w) marks) marks) e;
   }
     where
       rest : List Check
-      rest = (inside (length mem) base stride (tileRows st k) (tileCols st k * w) otherwise OutsideMemory) ∷ []
+      rest = (inside (length mem) base stride (memoryRows f (tileRows st k) (tileCols st k)) (memoryCols f (tileRows st k) (tileCols st k) * w) otherwise OutsideMemory) ∷ []
 
   -- the checks of a store from answer 5 on
   abbrev storeRest : Placed → List Check
   storeRest p =
       needs false marks (λ i. p .start + i * p .pitch) (p .rows) (p .columns) w
-      ∷ (inside (length mem) base stride (p .rows) (p .columns * w) otherwise OutsideMemory)
-      ∷ (unsealed (ours m) base stride (p .rows) (p .columns * w) otherwise SealedByte) ∷ []
+      ∷ (inside (length mem) base stride (memoryRows f (p .rows) (p .columns)) (memoryCols f (p .rows) (p .columns) * w) otherwise OutsideMemory)
+      ∷ (unsealed (ours m) base stride (memoryRows f (p .rows) (p .columns)) (memoryCols f (p .rows) (p .columns) * w) otherwise SealedByte) ∷ []
 
-  pub store-refused : (a : Answer) → a ≡ verdict (transferChecks m k w) → isDone a ≡ false → WritesMemory m (Operation.store k r w base stride) regs marks mem a mem
+  pub store-refused : (a : Answer) → a ≡ verdict (transferChecks m k w) → isDone a ≡ false → WritesMemory m (Operation.store f k r w base stride) regs marks mem a mem
   store-refused a e′ d = let e : a ≡ verdict first = e′ ∙ ap verdict first-is in record {
     answer-is = e ∙ ap (λ (t : Bool). cond t (verdict (storeRest here)) (verdict first)) (sym (sym (ap isDone e) ∙ d)) ∙ sym (verdict-append first (storeRest here) refl);
     memory-is = rw d;
@@ -101,10 +103,10 @@ module _ (m : Machine) (regs marks mem : List ℕ) (k : Matrix) (r w base stride
 
   pub store-done : (p : Placed) → p ≡ placedAs m k r → isDone (verdict (transferChecks m k w)) ≡ true → (a : Answer) (mem′ : List ℕ)
       → a ≡ verdict (storeRest p)
-      → mem′ ≡ cond (isDone a) (putTile (rowAt base stride) (p .rows) (p .columns) w (element regs (λ i. p .start + i * p .pitch) w) mem) mem
-      → WritesMemory m (Operation.store k r w base stride) regs marks mem a mem′
+      → mem′ ≡ cond (isDone a) (putTile (rowAt base stride) (memoryRows f (p .rows) (p .columns)) (memoryCols f (p .rows) (p .columns)) w (placed f (element regs (λ i. p .start + i * p .pitch) w)) mem) mem
+      → WritesMemory m (Operation.store f k r w base stride) regs marks mem a mem′
   store-done p e′ d′ a mem′ ea em = let d : isDone (verdict first) ≡ true = subst (λ (cs : List Check). isDone (verdict cs) ≡ true) first-is d′ in let e : p ≡ here = e′ ∙ here-is in record {
     answer-is = ea ∙ ap (λ (p : Placed). verdict (storeRest p)) e
         ∙ ap (λ (t : Bool). cond t (verdict (storeRest here)) (verdict first)) (sym d) ∙ sym (verdict-append first (storeRest here) refl);
-    memory-is = em ∙ ap (λ (p : Placed). cond (isDone a) (putTile (rowAt base stride) (p .rows) (p .columns) w (element regs (λ i. p .start + i * p .pitch) w) mem) mem) e;
+    memory-is = em ∙ ap (λ (p : Placed). cond (isDone a) (putTile (rowAt base stride) (memoryRows f (p .rows) (p .columns)) (memoryCols f (p .rows) (p .columns)) w (placed f (element regs (λ i. p .start + i * p .pitch) w)) mem) mem) e;
   }

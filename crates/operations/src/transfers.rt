@@ -2,6 +2,7 @@
 use super::checks::check_transfer;
 use super::tile_of;
 use machine::Answer;
+use machine::Form;
 use machine::Machine;
 use machine::Matrix;
 ghost use mathlib.Core.Path.{_≡_};
@@ -18,6 +19,7 @@ pub fn load(
     registers: &mut [u8],
     marks: &mut [u8],
     memory: &[u8],
+    form: Form,
     matrix: Matrix,
     width: usize,
     md: usize,
@@ -26,14 +28,15 @@ pub fn load(
 ) -> Answer
     requires { ⌜ sound m (now registers) (now marks) ≡ true ⌝ }
     requires { ⌜ md < registerCount matrix ⌝ }
-    ensures { λ r. ⌜ WritesRegisters m (Operation.load matrix md width base stride) (now (registers .entry)) (now (marks .entry)) (now (memory .entry)) r (now (registers .exit)) (now (marks .exit)) ⌝ }
+    ensures { λ r. ⌜ WritesRegisters m (Operation.load form matrix md width base stride) (now (registers .entry)) (now (marks .entry)) (now (memory .entry)) r (now (registers .exit)) (now (marks .exit)) ⌝ }
 {
     let fitting = check_transfer(m, matrix, width);
     if !tile::is_done(fitting) {
         return fitting;
     }
     let p = tile_of(m, matrix, md);
-    tile::load(
+    transfer::load(
+        form,
         registers,
         marks,
         memory,
@@ -53,6 +56,7 @@ pub fn store(
     registers: &[u8],
     marks: &[u8],
     memory: &mut [u8],
+    form: Form,
     matrix: Matrix,
     width: usize,
     ms3: usize,
@@ -61,14 +65,15 @@ pub fn store(
 ) -> Answer
     requires { ⌜ sound m (now registers) (now marks) ≡ true ⌝ }
     requires { ⌜ ms3 < registerCount matrix ⌝ }
-    ensures { λ r. ⌜ WritesMemory m (Operation.store matrix ms3 width base stride) (now (registers .entry)) (now (marks .entry)) (now (memory .entry)) r (now (memory .exit)) ⌝ }
+    ensures { λ r. ⌜ WritesMemory m (Operation.store form matrix ms3 width base stride) (now (registers .entry)) (now (marks .entry)) (now (memory .entry)) r (now (memory .exit)) ⌝ }
 {
     let fitting = check_transfer(m, matrix, width);
     if !tile::is_done(fitting) {
         return fitting;
     }
     let p = tile_of(m, matrix, ms3);
-    tile::store(
+    transfer::store(
+        form,
         registers,
         marks,
         memory,

@@ -17,6 +17,8 @@ use Rattle.machine.specs.declared.Answer.the-variants.{Done, BadArguments}
 use Rattle.machine.specs.declared.Machine.{Machine}
 use Rattle.machine.specs.declared.Dimension.{Dimension}
 use Rattle.machine.specs.declared.Dimension.the-variants.{DimensionM, DimensionK, DimensionN}
+use Rattle.machine.specs.declared.Form.{Form}
+use Rattle.machine.specs.declared.Form.the-variants.{Plain, Transposed}
 use Rattle.machine.specs.declared.Instruction.{Instruction}
 use Rattle.machine.specs.declared.Instruction.the-variants.{Illegal, SetTypeImmediate, SetType, SetTileImmediate, SetTile, Load, Store, Multiply, Combine, Scale, ScaleImmediate}
 use Rattle.machine.specs.Answers.{reply, Check, _otherwise_, verdict, isDone}
@@ -24,7 +26,7 @@ use Rattle.machine.specs.Geometry.{Parameters, parameters, State, machineAfter,
 use Rattle.machine.specs.Setting.{sew, maximum, sizeIn, smaller}
 use Rattle.machine.specs.Listing.{decode}
 use Rattle.machine.specs.Memory.{rowAt}
-use Rattle.machine.specs.Operation.{Operation, operation, stateAfter, memoryAfter, resultOf, element, written, resized, productAt, sumOf, rowsOf, columnsOf, tileRows, tileCols}
+use Rattle.machine.specs.Operation.{Operation, operation, stateAfter, memoryAfter, resultOf, element, written, resized, productAt, sumOf, rowsOf, columnsOf, tileRows, tileCols, memoryRows, memoryCols, placed}
 use Rattle.machine.specs.Refusals.{marked, needs, checks, isZero}
 use Rattle.machine.specs.Faults.{sound, soundBench, thirtyTwo}
 use Rattle.machine.specs.Step.{Outcome, outcome, stepBy, given, meant, destination}
@@ -55,6 +57,12 @@ pub record Unseen (M : Parameters) (st : State) (ys mem : List ℕ) (o : Operati
   pub same-result : resultOf o (stateAfter M o st mem) ≡ resultOf o (stateAfter M o (withRegs st ys) mem)
   pub same-memory : Passed (checks M o st mem) → memoryAfter M o st mem ≡ memoryAfter M o (withRegs st ys) mem
   pub alike-after : Passed (checks M o st mem) → AlikeStates (stateAfter M o st mem) (stateAfter M o (withRegs st ys) mem)
+
+-- values that are equal over the tile in the register are so over the tile in memory
+placed-cong : (f : Form) (rows cols : ℕ) (v u : ℕ → ℕ → ℕ) → ((i j : ℕ) → i < rows → j < cols → v i j ≡ u i j)
+    → (i j : ℕ) → i < memoryRows f rows cols → j < memoryCols f rows cols → placed f v i j ≡ placed f u i j
+placed-cong Plain rows cols v u h i j l m = h i j l m
+placed-cong Transposed rows cols v u h i j l m = h j i m l
 
 -- the operands of a multiply at an element of C, read from two registers' bytes
 pub record SameOperands (M : Parameters) (xs ys : List ℕ) (wide narrow d s t terms i j : ℕ) : Type 0 where
@@ -134,18 +142,19 @@ module _ (M : Parameters) (st : State) (ys mem : List ℕ) (a : Agree (st .marks
     same-memory = λ p. refl;
     alike-after = λ p. rw (size-same d) (sized-alike d (smaller (maximum M (st .mtype) d) (sizeIn d st)));
   }
-  unseen (Operation.load k r w b s) = record {
+  unseen (Operation.load f k r w b s) = record {
     same-checks = rw (size-same (rowsOf k), size-same (columnsOf k));
     same-result = refl;
     same-memory = λ p. refl;
     alike-after = λ p. rw (size-same (rowsOf k), size-same (columnsOf k)) (wrote (registerAt M k r) _ _ w _ _ (λ i j l m. refl));
   }
-  unseen (Operation.store k r w b s) = record {
+  unseen (Operation.store f k r w b s) = record {
     same-checks = rw (size-same (rowsOf k), size-same (columnsOf k));
     same-result = refl;
     same-memory = λ p.
         rw (size-same (rowsOf k), size-same (columnsOf k))
-        (putTile-cong (rowAt b s) _ _ w _ _ mem (read (registerAt M k r) (tileRows st k) (tileCols st k) w false (p .1 .1 .1 .1 .0) refl));
+        (putTile-cong (rowAt b s) _ _ w _ _ mem (placed-cong f (tileRows st k) (tileCols st k) (element (st .regs) (registerAt M k r) w) (element ys (registerAt M k r) w)
+        (read (registerAt M k r) (tileRows st k) (tileCols st k) w false (p .1 .1 .1 .1 .0) refl)));
     alike-after = λ p. kept;
   }
   unseen (Operation.multiply f d s t) = record {
@@ -187,8 +196,8 @@ meant-same M st ys xs (SetTypeImmediate rd immediate) = refl
 meant-same M st ys xs (SetType rd rs1) = refl
 meant-same M st ys xs (SetTileImmediate dimension rd immediate) = refl
 meant-same M st ys xs (SetTile dimension rd rs1) = refl
-meant-same M st ys xs (Load matrix width md rs1 rs2) = refl
-meant-same M st ys xs (Store matrix width ms3 rs1 rs2) = refl
+meant-same M st ys xs (Load form matrix width md rs1 rs2) = refl
+meant-same M st ys xs (Store form matrix width ms3 rs1 rs2) = refl
 meant-same M st ys xs (Multiply factor md ms1 ms2) = refl
 meant-same M st ys xs (Combine sum factor md ms1) = refl
 meant-same M st ys xs (Scale factor md ms1 rs2) = refl

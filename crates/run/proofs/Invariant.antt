@@ -7,6 +7,7 @@ use lib.ListN.{length, getD}
 use lib.IntN.{pos}
 use Rattle.width.specs.Tile.{In}
 use Rattle.width.specs.Blocks.{Grants}
+use Rattle.machine.specs.declared.Form.the-variants.{Plain}
 use Rattle.machine.specs.declared.Matrix.the-variants.{MatrixA, MatrixB, MatrixC}
 use Rattle.machine.specs.declared.Dimension.the-variants.{DimensionM, DimensionK, DimensionN}
 use Rattle.machine.specs.Geometry.{State, tileAt, accAt}
@@ -27,10 +28,10 @@ operationOf P (Op.setM a) = Operation.setSize DimensionM a
 operationOf P (Op.setK a) = Operation.setSize DimensionK a
 operationOf P (Op.setN a) = Operation.setSize DimensionN a
 operationOf P Op.clear = Operation.scale (P .factor) 0 0 (pos 0)
-operationOf P (Op.loadA i s) = Operation.load MatrixA 0 (narrow P) (aAt P i + s * narrow P) (P .a .stride)
-operationOf P (Op.loadB s j) = Operation.load MatrixB 1 (narrow P) (bAt P s + j * narrow P) (P .b .stride)
+operationOf P (Op.loadA i s) = Operation.load Plain MatrixA 0 (narrow P) (aAt P i + s * narrow P) (P .a .stride)
+operationOf P (Op.loadB s j) = Operation.load Plain MatrixB 1 (narrow P) (bAt P s + j * narrow P) (P .b .stride)
 operationOf P Op.multiply = Operation.multiply (P .factor) 0 0 1
-operationOf P (Op.store i j) = Operation.store MatrixC 0 (wide P) (cAt P i + j * wide P) (P .c .stride)
+operationOf P (Op.store i j) = Operation.store Plain MatrixC 0 (wide P) (cAt P i + j * wide P) (P .c .stride)
 
 -- what an accepted start says
 pub record Accepted (J : Job) : Type 0 where

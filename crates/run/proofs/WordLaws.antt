@@ -10,6 +10,7 @@ use lib.IntN.{ℤ, pos, _+ℤ_, _*ℤ_}
 use Rattle.width.specs.Reduce.{signed, reduce}
 use Rattle.width.proofs.ReduceLaws.{reduce-add, reduce-mul, reduce-signed}
 use borrow.Author.Tests.{eqb-true, ltb-true}
+use Rattle.machine.specs.declared.Form.the-variants.{Plain}
 use Rattle.machine.specs.declared.Matrix.the-variants.{MatrixA, MatrixB, MatrixC}
 use Rattle.machine.specs.declared.Dimension.the-variants.{DimensionM, DimensionK, DimensionN}
 use Rattle.machine.specs.declared.Factor.{Factor}
@@ -60,21 +61,21 @@ decode-n imm h = let t = setting-fields 6 imm (omega arith) h in rw (t .0, t .1,
 
 -- ---- loads and stores
 
-pub decode-a : (e : ℕ) → e < 3 → decode (memoryWord 2 e 0) ≡ Load MatrixA (2 ^ e) 0 10 11
+pub decode-a : (e : ℕ) → e < 3 → decode (memoryWord 2 e 0) ≡ Load Plain MatrixA (2 ^ e) 0 10 11
 unfolding decode listing
 decode-a zero h = refl
 decode-a (suc zero) h = refl
 decode-a (suc (suc zero)) h = refl
 decode-a (suc (suc (suc e))) h = absurd (omega arith)
 
-pub decode-b : (e : ℕ) → e < 3 → decode (memoryWord 4 e 1) ≡ Load MatrixB (2 ^ e) 1 10 11
+pub decode-b : (e : ℕ) → e < 3 → decode (memoryWord 4 e 1) ≡ Load Plain MatrixB (2 ^ e) 1 10 11
 unfolding decode listing
 decode-b zero h = refl
 decode-b (suc zero) h = refl
 decode-b (suc (suc zero)) h = refl
 decode-b (suc (suc (suc e))) h = absurd (omega arith)
 
-pub decode-c : (e : ℕ) → e < 3 → decode (memoryWord 1 e 0) ≡ Store MatrixC (2 ^ e) 0 10 11
+pub decode-c : (e : ℕ) → e < 3 → decode (memoryWord 1 e 0) ≡ Store Plain MatrixC (2 ^ e) 0 10 11
 unfolding decode listing
 decode-c zero h = refl
 decode-c (suc zero) h = refl
@@ -232,21 +233,21 @@ module _ (M : Parameters) (P : Plan) (ok : format (P .sew) (P .factor) ≡ true)
 
   pub reads-a : (i s : ℕ) → rowZ (P .a .address) (P .a .stride) i ≡ pos (aAt P i) → aAt P i + s * narrow P < 2 ^ 64 → Reads M st (handedFor P (Op.loadA i s)) (operationOf P (Op.loadA i s))
   reads-a i s e small = record {
-    instruction = Load MatrixA (2 ^ msew P) 0 10 11;
+    instruction = Load Plain MatrixA (2 ^ msew P) 0 10 11;
     decodes = decode-a (msew P) msew<3;
-    means = ap₂ (λ (w p : ℕ). Operation.load MatrixA 0 w p (P .a .stride)) narrow-is (start-is (P .a) i (s * narrow P) (aAt P i) e small);
+    means = ap₂ (λ (w p : ℕ). Operation.load Plain MatrixA 0 w p (P .a .stride)) narrow-is (start-is (P .a) i (s * narrow P) (aAt P i) e small);
   }
 
   pub reads-b : (s j : ℕ) → rowZ (P .b .address) (P .b .stride) s ≡ pos (bAt P s) → bAt P s + j * narrow P < 2 ^ 64 → Reads M st (handedFor P (Op.loadB s j)) (operationOf P (Op.loadB s j))
   reads-b s j e small = record {
-    instruction = Load MatrixB (2 ^ msew P) 1 10 11;
+    instruction = Load Plain MatrixB (2 ^ msew P) 1 10 11;
     decodes = decode-b (msew P) msew<3;
-    means = ap₂ (λ (w p : ℕ). Operation.load MatrixB 1 w p (P .b .stride)) narrow-is (start-is (P .b) s (j * narrow P) (bAt P s) e small);
+    means = ap₂ (λ (w p : ℕ). Operation.load Plain MatrixB 1 w p (P .b .stride)) narrow-is (start-is (P .b) s (j * narrow P) (bAt P s) e small);
   }
 
   pub reads-store : (i j : ℕ) → rowZ (P .c .address) (P .c .stride) i ≡ pos (cAt P i) → cAt P i + j * wide P < 2 ^ 64 → Reads M st (handedFor P (Op.store i j)) (operationOf P (Op.store i j))
   reads-store i j e small = record {
-    instruction = Store MatrixC (2 ^ (msew P + log (P .factor))) 0 10 11;
+    instruction = Store Plain MatrixC (2 ^ (msew P + log (P .factor))) 0 10 11;
     decodes = decode-c (msew P + log (P .factor)) wide<3;
-    means = ap₂ (λ (w p : ℕ). Operation.store MatrixC 0 w p (P .c .stride)) wide-is (start-is (P .c) i (j * wide P) (cAt P i) e small);
+    means = ap₂ (λ (w p : ℕ). Operation.store Plain MatrixC 0 w p (P .c .stride)) wide-is (start-is (P .c) i (j * wide P) (cAt P i) e small);
   }

@@ -54,9 +54,9 @@ in-range (SetTypeImmediate rd immediate) b r = ltb-true rd 32 (every-each (ltb r
 in-range (SetType rd rs1) b r = let t = every-each (ltb rd 32 ∷ ltb rs1 32 ∷ []) b in (ltb-true rd 32 (t .0), ltb-true rs1 32 (t .1 .0))
 in-range (SetTileImmediate dimension rd immediate) b r = ltb-true rd 32 (every-each (ltb rd 32 ∷ ltb immediate 8192 ∷ []) b .0)
 in-range (SetTile dimension rd rs1) b r = let t = every-each (ltb rd 32 ∷ ltb rs1 32 ∷ []) b in (ltb-true rd 32 (t .0), ltb-true rs1 32 (t .1 .0))
-in-range (Load matrix width md rs1 rs2) b r =
+in-range (Load form matrix width md rs1 rs2) b r =
     let t = every-each (ltb rs1 32 ∷ ltb rs2 32 ∷ []) b in (ltb-true md (registerCount matrix) r, (ltb-true rs1 32 (t .0), ltb-true rs2 32 (t .1 .0)))
-in-range (Store matrix width ms3 rs1 rs2) b r =
+in-range (Store form matrix width ms3 rs1 rs2) b r =
     let t = every-each (ltb rs1 32 ∷ ltb rs2 32 ∷ []) b in (ltb-true ms3 (registerCount matrix) r, (ltb-true rs1 32 (t .0), ltb-true rs2 32 (t .1 .0)))
 in-range (Multiply factor md ms1 ms2) b r =
     let t = every-each (ltb md 2 ∷ ltb ms1 8 ∷ ltb ms2 8 ∷ []) r in (ltb-true md 2 (t .0), (ltb-true ms1 8 (t .1 .0), ltb-true ms2 8 (t .1 .1 .0)))

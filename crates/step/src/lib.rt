@@ -103,6 +103,7 @@ fn perform(
         } => set_size(m, scalars, dimension, rd, immediate),
         Instruction::SetTile { dimension, rd, rs1 } => set_tile(m, scalars, dimension, rd, rs1),
         Instruction::Load {
+            form,
             matrix,
             width,
             md,
@@ -112,11 +113,23 @@ fn perform(
             let base = read_scalar(scalars, rs1);
             let stride = read_scalar(scalars, rs2);
             Stepped {
-                answer: load(m, registers, marks, memory, matrix, width, md, base, stride),
+                answer: load(
+                    m,
+                    registers,
+                    marks,
+                    memory,
+                    form,
+                    matrix,
+                    width,
+                    md,
+                    base,
+                    stride,
+                ),
                 machine: m,
             }
         }
         Instruction::Store {
+            form,
             matrix,
             width,
             ms3,
@@ -131,6 +144,7 @@ fn perform(
                     registers,
                     marks,
                     memory,
+                    form,
                     matrix,
                     width,
                     ms3,

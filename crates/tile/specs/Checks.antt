@@ -1,5 +1,5 @@
 -- The checks that a store makes once the tile's sizes are checked: answers 5, 6 and 7. Row i of the tile starts in the registers at
--- start + i * pitch.
+-- start + i * pitch; in memory it has so many lines of n bytes each.
 use mathlib.Core.Bool.{false}
 use mathlib.Core.List.{List, [], _∷_}
 use Prim.Native.Nat.{ℕ, _+_, _*_}
@@ -17,8 +17,8 @@ memoryCheck len base stride rows n = inside len base stride rows n otherwise Out
 abbrev pub sealCheck : (seal size base stride rows n : ℕ) → Check
 sealCheck seal size base stride rows n = rowsMiss seal size base stride rows n otherwise SealedByte
 
-abbrev pub storeChecks : (seal size : ℕ) → List ℕ → (start pitch len base stride rows cols w : ℕ) → List Check
-storeChecks seal size marks start pitch len base stride rows cols w =
+abbrev pub storeChecks : (seal size : ℕ) → List ℕ → (start pitch len base stride rows cols w lines n : ℕ) → List Check
+storeChecks seal size marks start pitch len base stride rows cols w lines n =
     marksCheck marks start pitch rows cols w
-    ∷ memoryCheck len base stride rows (cols * w)
-    ∷ sealCheck seal size base stride rows (cols * w) ∷ []
+    ∷ memoryCheck len base stride lines n
+    ∷ sealCheck seal size base stride lines n ∷ []

@@ -256,8 +256,8 @@ pub fn load(
     Answer::Done
 }
 
-// The checks of a store to a memory of len bytes: answer 5, 6, 7 or Done.
-fn store_checked(
+// The checks of a store to a memory of len bytes, in lines of so many bytes each: answer 5, 6, 7 or Done.
+pub fn store_checked(
     marks: &[u8],
     len: usize,
     seal: u64,
@@ -269,22 +269,24 @@ fn store_checked(
     rows: usize,
     cols: usize,
     w: usize,
+    lines: usize,
+    bytes: usize,
 ) -> Answer
     requires { ⌜ start + rows * pitch ≤ length (now marks) ⌝ }
     requires { ⌜ cols * w ≤ pitch ⌝ }
     requires { ⌜ len < 2 ^ 63 ⌝ }
-    ensures { λ r. ⌜ r ≡ verdict (storeChecks seal size (now (marks .entry)) start pitch len base stride rows cols w) ⌝ }
+    requires { ⌜ lines * bytes < 2 ^ 63 ⌝ }
+    ensures { λ r. ⌜ r ≡ verdict (storeChecks seal size (now (marks .entry)) start pitch len base stride rows cols w lines bytes) ⌝ }
 {
-    let bytes = cols * w;
     let at = base as usize;
     let written = first_unmarked(marks, start, pitch, rows, cols, w);
     if !is_done(written) {
         return written;
     }
-    if !rows_inside(len, at, stride, rows, bytes) {
+    if !rows_inside(len, at, stride, lines, bytes) {
         return Answer::OutsideMemory;
     }
-    if !rows_unsealed(len, seal, size, at, stride, rows, bytes) {
+    if !rows_unsealed(len, seal, size, at, stride, lines, bytes) {
         return Answer::SealedByte;
     }
     Answer::Done
@@ -308,7 +310,7 @@ pub fn store(
     requires { ⌜ start + rows * pitch ≤ length (now registers) ⌝ }
     requires { ⌜ length (now marks) ≡ length (now registers) ⌝ }
     requires { ⌜ cols * w ≤ pitch ⌝ }
-    ensures { λ r. ⌜ r ≡ verdict (storeChecks seal size (now (marks .entry)) start pitch (length (now (memory .entry))) base stride rows cols w) ⌝ }
+    ensures { λ r. ⌜ r ≡ verdict (storeChecks seal size (now (marks .entry)) start pitch (length (now (memory .entry))) base stride rows cols w rows (cols * w)) ⌝ }
     ensures { λ r. ⌜ now (memory .exit) ≡ cond (isDone r) (putTile (rowAt base stride) rows cols w (element (now (registers .entry)) (λ i. start + i * pitch) w) (now (memory .entry))) (now (memory .entry)) ⌝ }
 {
     let answer = store_checked(
@@ -323,6 +325,8 @@ pub fn store(
         rows,
         cols,
         w,
+        rows,
+        cols * w,
     );
     if !is_done(answer) {
         return answer;

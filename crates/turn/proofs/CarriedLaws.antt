@@ -16,6 +16,7 @@ use Rattle.machine.specs.declared.Stepped.{Stepped}
 use Rattle.machine.specs.declared.Dimension.{Dimension}
 use Rattle.machine.specs.declared.Factor.{Factor}
 use Rattle.machine.specs.declared.Factor.the-variants.{Single, Double, Quadruple}
+use Rattle.machine.specs.declared.Form.the-variants.{Plain}
 use Rattle.machine.specs.declared.Matrix.the-variants.{MatrixA, MatrixB, MatrixC}
 use Rattle.machine.specs.declared.Instruction.{Instruction}
 use Rattle.machine.specs.declared.Instruction.the-variants.{SetTypeImmediate, SetTileImmediate, Load, Store, Multiply, ScaleImmediate}
@@ -140,35 +141,35 @@ pub stores-for : {m : Machine} {o o′ : Operation} {regs marks mem : List ℕ} 
 stores-for {m} {o} {o′} {regs} {marks} {mem} {a} {mem′} e l = subst (λ (o : Operation). WritesMemory m o regs marks mem a mem′) e l
 
 module _ (P : Plan) (ok : planned P ≡ true) (m : Machine) (regs marks mem : List ℕ) (s : sound m regs marks ≡ true) (a : Answer) where
-  pub a-carried : (i t : ℕ) (regs′ marks′ : List ℕ) → WritesRegisters m (Operation.load MatrixA 0 (narrow P) (startOf (P .a) i (t * narrow P)) (P .a .stride)) regs marks mem a regs′ marks′
+  pub a-carried : (i t : ℕ) (regs′ marks′ : List ℕ) → WritesRegisters m (Operation.load Plain MatrixA 0 (narrow P) (startOf (P .a) i (t * narrow P)) (P .a .stride)) regs marks mem a regs′ marks′
       → carried (reply a) m regs′ marks′ mem ≡ carriedFor P (Op.loadA i t) (benchOf m regs marks mem)
   a-carried i t regs′ marks′ l =
       let g = plan-format P ok in
-      let k : Instruction = Load MatrixA (2 ^ msew P) 0 10 11 in
+      let k : Instruction = Load Plain MatrixA (2 ^ msew P) 0 10 11 in
       let p = startOf (P .a) i (t * narrow P) in
       by-decoding P (Op.loadA i t) m regs marks mem s k (decode-a (msew P) (msew<3 (ours m) P g (stateOf m regs marks))) _
-      (loads-outcome m k (own (handedFor P (Op.loadA i t))) regs marks mem s refl (Operation.load MatrixA 0 (narrow P) p (P .a .stride))
-      (ap (λ (w : ℕ). Operation.load MatrixA 0 w p (P .a .stride)) (narrow-is (ours m) P g (stateOf m regs marks))) refl a regs′ marks′ l refl refl)
+      (loads-outcome m k (own (handedFor P (Op.loadA i t))) regs marks mem s refl (Operation.load Plain MatrixA 0 (narrow P) p (P .a .stride))
+      (ap (λ (w : ℕ). Operation.load Plain MatrixA 0 w p (P .a .stride)) (narrow-is (ours m) P g (stateOf m regs marks))) refl a regs′ marks′ l refl refl)
 
-  pub b-carried : (t j : ℕ) (regs′ marks′ : List ℕ) → WritesRegisters m (Operation.load MatrixB 1 (narrow P) (startOf (P .b) t (j * narrow P)) (P .b .stride)) regs marks mem a regs′ marks′
+  pub b-carried : (t j : ℕ) (regs′ marks′ : List ℕ) → WritesRegisters m (Operation.load Plain MatrixB 1 (narrow P) (startOf (P .b) t (j * narrow P)) (P .b .stride)) regs marks mem a regs′ marks′
       → carried (reply a) m regs′ marks′ mem ≡ carriedFor P (Op.loadB t j) (benchOf m regs marks mem)
   b-carried t j regs′ marks′ l =
       let g = plan-format P ok in
-      let k : Instruction = Load MatrixB (2 ^ msew P) 1 10 11 in
+      let k : Instruction = Load Plain MatrixB (2 ^ msew P) 1 10 11 in
       let p = startOf (P .b) t (j * narrow P) in
       by-decoding P (Op.loadB t j) m regs marks mem s k (decode-b (msew P) (msew<3 (ours m) P g (stateOf m regs marks))) _
-      (loads-outcome m k (own (handedFor P (Op.loadB t j))) regs marks mem s refl (Operation.load MatrixB 1 (narrow P) p (P .b .stride))
-      (ap (λ (w : ℕ). Operation.load MatrixB 1 w p (P .b .stride)) (narrow-is (ours m) P g (stateOf m regs marks))) refl a regs′ marks′ l refl refl)
+      (loads-outcome m k (own (handedFor P (Op.loadB t j))) regs marks mem s refl (Operation.load Plain MatrixB 1 (narrow P) p (P .b .stride))
+      (ap (λ (w : ℕ). Operation.load Plain MatrixB 1 w p (P .b .stride)) (narrow-is (ours m) P g (stateOf m regs marks))) refl a regs′ marks′ l refl refl)
 
-  pub c-carried : (i j : ℕ) (mem′ : List ℕ) → WritesMemory m (Operation.store MatrixC 0 (wide P) (startOf (P .c) i (j * wide P)) (P .c .stride)) regs marks mem a mem′
+  pub c-carried : (i j : ℕ) (mem′ : List ℕ) → WritesMemory m (Operation.store Plain MatrixC 0 (wide P) (startOf (P .c) i (j * wide P)) (P .c .stride)) regs marks mem a mem′
       → carried (reply a) m regs marks mem′ ≡ carriedFor P (Op.store i j) (benchOf m regs marks mem)
   c-carried i j mem′ l =
       let g = plan-format P ok in
-      let k : Instruction = Store MatrixC (2 ^ (msew P + log (P .factor))) 0 10 11 in
+      let k : Instruction = Store Plain MatrixC (2 ^ (msew P + log (P .factor))) 0 10 11 in
       let p = startOf (P .c) i (j * wide P) in
       by-decoding P (Op.store i j) m regs marks mem s k (decode-c (msew P + log (P .factor)) (wide<3 (ours m) P g (stateOf m regs marks))) _
-      (stores-outcome m k (own (handedFor P (Op.store i j))) regs marks mem s refl (Operation.store MatrixC 0 (wide P) p (P .c .stride))
-      (ap (λ (w : ℕ). Operation.store MatrixC 0 w p (P .c .stride)) (wide-is (ours m) P g (stateOf m regs marks))) refl a mem′ l refl)
+      (stores-outcome m k (own (handedFor P (Op.store i j))) regs marks mem s refl (Operation.store Plain MatrixC 0 (wide P) p (P .c .stride))
+      (ap (λ (w : ℕ). Operation.store Plain MatrixC 0 w p (P .c .stride)) (wide-is (ours m) P g (stateOf m regs marks))) refl a mem′ l refl)
 
 -- ---- only a setting changes the machine's numbers
 

@@ -2,6 +2,7 @@
 use machine::Answer;
 use machine::Dimension;
 use machine::Factor;
+use machine::Form;
 use machine::Machine;
 use machine::Matrix;
 use run::Layout;
@@ -14,6 +15,7 @@ ghost use mathlib.Core.Path.{_≡_};
 ghost use mathlib.Core.Bool.{true};
 ghost use mathlib.Core.List.{List, [], _∷_};
 ghost use Prim.Native.Nat.{ℕ, _*_, _≤_, _<_};
+ghost use Rattle.machine.specs.declared.Form.the-variants.{Plain};
 ghost use Rattle.machine.specs.Answers.{reply, verdict};
 ghost use Rattle.machine.specs.Geometry.{Bench, benchOf, stateOf, registerCount};
 ghost use Rattle.machine.specs.Faults.{sound};
@@ -92,7 +94,7 @@ fn load(
     requires { ⌜ planned plan ≡ true ⌝ }
     requires { ⌜ (row ≤ 1024) × (column ≤ 1024) ⌝ }
     requires { ⌜ md < registerCount matrix ⌝ }
-    ensures { λ r. ⌜ WritesRegisters m (Operation.load matrix md (narrow plan) (startOf layout row (column * narrow plan)) (layout .stride)) (now (registers .entry)) (now (marks .entry)) (now (memory .entry)) r (now (registers .exit)) (now (marks .exit)) ⌝ }
+    ensures { λ r. ⌜ WritesRegisters m (Operation.load Plain matrix md (narrow plan) (startOf layout row (column * narrow plan)) (layout .stride)) (now (registers .entry)) (now (marks .entry)) (now (memory .entry)) r (now (registers .exit)) (now (marks .exit)) ⌝ }
 {
     let bytes = asking::narrow_bytes(plan);
     let offset = asking::small_times(column, bytes);
@@ -102,6 +104,7 @@ fn load(
         registers,
         marks,
         memory,
+        Form::Plain,
         matrix,
         bytes as usize,
         md,
@@ -135,6 +138,7 @@ fn store(
         registers,
         marks,
         memory,
+        Form::Plain,
         Matrix::MatrixC,
         bytes as usize,
         0,

@@ -1,6 +1,7 @@
 use mathlib.Core.Path.{_∙_}
+use Prim.Native.Nat.{_+_, _-_}
 use native.Mathlib.Omega.{arith}
-use Rattle.decode.proofs.TableLaws.{no-number, meant-at}
+use Rattle.decode.proofs.TableLaws.{no-number, meant-at, too-large}
 use Rattle.decode.proofs.meant.Statement.{statement}
 use Rattle.decode.proofs.meant.Tie as tie
 
@@ -12,4 +13,13 @@ meant-spec =
     (λ c κs. omega arith) (λ c. c .setting .ensures)
     (λ c κs. omega arith) (λ c. c .loading .ensures)
     (λ c κs. omega arith) (λ c. c .storing .ensures)
-    (λ c κs. omega arith) (λ c. c .arithmetic .ensures))
+    (λ c κs. omega arith) (λ c. c .arithmetic .ensures)
+    (λ c. omega arith) (λ c κs. omega arith) (λ c.
+    let a = c .before .before .before .before .before .before .before .args in
+    c .loading2 .ensures ∙ meant-at (a .number) (100 + (a .number - 100)) (a .word) (omega arith))
+    (λ c. omega arith) (λ c κs. omega arith) (λ c.
+    let a = c .before .before .before .before .before .before .before .before .args in
+    c .storing2 .ensures ∙ meant-at (a .number) (100 + (a .number - 100)) (a .word) (omega arith))
+    (λ c.
+    let a = c .before .before .before .before .before .before .before .args in
+    too-large (a .number) (a .word) (omega arith)))

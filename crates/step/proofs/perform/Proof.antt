@@ -323,7 +323,7 @@ returns-6 c =
     let z = c .before .before .before .before in
     let base = c .before .before .before .before .before .before .before .before .before .before .read-scalar2 .ensures in
     let stride = c .before .before .before .before .before .before .before .before .read-scalar3 .ensures in
-    loads-outcome (a .m) (a .instruction) xs rs ms mem (s .pre .0) (s .pre .1 .0) _ (meant ∙ ap₂ (λ (x y : ℕ). Operation.load (g .0 .0) (g .0 .1 .1 .0) (g .0 .1 .0) x y) (sym base) (sym stride)) rd _ _ _ (z .load .ensures) refl refl
+    loads-outcome (a .m) (a .instruction) xs rs ms mem (s .pre .0) (s .pre .1 .0) _ (meant ∙ ap₂ (λ (x y : ℕ). Operation.load (g .0 .0) (g .0 .1 .0) (g .0 .1 .1 .1 .0) (g .0 .1 .1 .0) x y) (sym base) (sym stride)) rd _ _ _ (z .load .ensures) refl refl
 
 same-length-9 : tie.Need-same-length-9
 same-length-9 c = search needs
@@ -352,7 +352,7 @@ returns-7 c =
     let z = c .before .before in
     let base = c .before .before .before .before .before .before .before .before .read-scalar4 .ensures in
     let stride = c .before .before .before .before .before .before .read-scalar5 .ensures in
-    stores-outcome (a .m) (a .instruction) xs rs ms mem (s .pre .0) (s .pre .1 .0) _ (meant ∙ ap₂ (λ (x y : ℕ). Operation.store (g .0 .0) (g .0 .1 .1 .0) (g .0 .1 .0) x y) (sym base) (sym stride)) rd _ _ (z .store .ensures) refl
+    stores-outcome (a .m) (a .instruction) xs rs ms mem (s .pre .0) (s .pre .1 .0) _ (meant ∙ ap₂ (λ (x y : ℕ). Operation.store (g .0 .0) (g .0 .1 .0) (g .0 .1 .1 .1 .0) (g .0 .1 .1 .0) x y) (sym base) (sym stride)) rd _ _ (z .store .ensures) refl
 
 same-length-13 : tie.Need-same-length-13
 same-length-13 c = search needs

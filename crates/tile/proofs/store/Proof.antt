@@ -1,5 +1,8 @@
 use mathlib.Core.Path.{_≡_, refl, sym, ap, _∙_}
 use mathlib.Core.List.{List}
+use Prim.Native.Nat.{_*_}
+use native.Mathlib.Nat.{mul-le-mul-left}
+use native.Mathlib.Omega.{arith}
 use lib.ListN.{length}
 use borrow.Author.Needs.{needs}
 use Rattle.machine.specs.Answers.{Check, verdict, isDone}
@@ -9,8 +12,14 @@ use Rattle.tile.specs.Checks.{storeChecks}
 use Rattle.tile.proofs.store.Statement.{statement}
 use Rattle.tile.proofs.store.Tie as tie
 
+mul-store-checked : tie.Need-mul-store-checked
+mul-store-checked c = search needs
+
 store-checked-requires : tie.Need-store-checked-requires
-store-checked-requires c κs = search needs
+store-checked-requires c κs =
+    let s = c .before .before .before in
+    let a = s .args in
+    (omega (arith, s .pre .0, s .pre .1 .0), (s .pre .1 .1, (omega arith, omega (arith, s .pre .0, mul-le-mul-left (a .rows) (s .pre .1 .1)))))
 
 is-done-requires : tie.Need-is-done-requires
 is-done-requires c κs = search needs
@@ -23,7 +32,7 @@ returns c =
 
 -- the checks, and that they passed
 abbrev checks : tie.Start → List Check
-checks s = let a = s .args in storeChecks (a .seal) (a .size) (a .marks .now) (a .start) (a .pitch) (length (a .memory .now)) (a .base) (a .stride) (a .rows) (a .cols) (a .w)
+checks s = let a = s .args in storeChecks (a .seal) (a .size) (a .marks .now) (a .start) (a .pitch) (length (a .memory .now)) (a .base) (a .stride) (a .rows) (a .cols) (a .w) (a .rows) (a .cols * a .w)
 
 all-passed : (c : tie.Else1) → Passed (checks (c .before .before .before .before .before .before))
 all-passed c =
@@ -52,6 +61,7 @@ pub store-spec : {M : Type 1} → statement M
 store-spec =
     tie.close
     (tie.spec
+    mul-store-checked
     store-checked-requires
     is-done-requires
     returns

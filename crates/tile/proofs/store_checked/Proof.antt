@@ -1,9 +1,6 @@
 use mathlib.Core.Path.{_≡_, refl, sym}
 use mathlib.Core.Bool.{true}
 use mathlib.Core.List.{[], _∷_}
-use Prim.Native.Nat.{_*_}
-use native.Mathlib.Nat.{mul-le-mul-left}
-use native.Mathlib.Omega.{arith}
 use borrow.Author.Needs.{needs}
 use Rattle.machine.specs.Answers.{Check, isDone}
 use Rattle.machine.specs.Memory.{inside, rowsMiss}
@@ -19,13 +16,10 @@ abbrev five : tie.Start → Check
 five s = let a = s .args in marksCheck (a .marks .now) (a .start) (a .pitch) (a .rows) (a .cols) (a .w)
 
 abbrev six : tie.Start → Check
-six s = let a = s .args in memoryCheck (a .len) (a .base) (a .stride) (a .rows) (a .cols * a .w)
+six s = let a = s .args in memoryCheck (a .len) (a .base) (a .stride) (a .lines) (a .bytes)
 
 abbrev seven : tie.Start → Check
-seven s = let a = s .args in sealCheck (a .seal) (a .size) (a .base) (a .stride) (a .rows) (a .cols * a .w)
-
-mul-bytes : tie.Need-mul-bytes
-mul-bytes c = search needs
+seven s = let a = s .args in sealCheck (a .seal) (a .size) (a .base) (a .stride) (a .lines) (a .bytes)
 
 first-unmarked-requires : tie.Need-first-unmarked-requires
 first-unmarked-requires c κs = search needs
@@ -57,19 +51,19 @@ returns-2 c =
     let a = s .args in
     let i = c .before .rows-inside in
     answer-second (five s) (six s) (seven s ∷ []) (five-holds d)
-    (test-failed (i .result) (inside (a .len) (a .base) (a .stride) (a .rows) (a .cols * a .w)) (i .ensures) (c .if2 .taken))
+    (test-failed (i .result) (inside (a .len) (a .base) (a .stride) (a .lines) (a .bytes)) (i .ensures) (c .if2 .taken))
 
 -- 6 passed
 six-holds : (c : tie.Else2) → six (c .before .before .before .before .before .before) .holds ≡ true
 six-holds c =
     let a = c .before .before .before .before .before .before .args in
     let i = c .before .rows-inside in
-    test-passed (i .result) (inside (a .len) (a .base) (a .stride) (a .rows) (a .cols * a .w)) (i .ensures) (c .if2 .left)
+    test-passed (i .result) (inside (a .len) (a .base) (a .stride) (a .lines) (a .bytes)) (i .ensures) (c .if2 .left)
 
 rows-unsealed-requires : tie.Need-rows-unsealed-requires
 rows-unsealed-requires c κs =
     let s = c .before .before .before .before .before .before in
-    (six-holds c, (s .pre .1 .1, omega (arith, s .good .0 .1, mul-le-mul-left (s .args .rows) (s .pre .1 .0))))
+    (six-holds c, (s .pre .1 .1 .0, s .pre .1 .1 .1))
 
 returns-3 : tie.Need-returns-3
 returns-3 c =
@@ -79,7 +73,7 @@ returns-3 c =
     let a = s .args in
     let u = c .before .rows-unsealed in
     answer-third (five s) (six s) (seven s) [] (five-holds d) (six-holds g)
-    (test-failed (u .result) (rowsMiss (a .seal) (a .size) (a .base) (a .stride) (a .rows) (a .cols * a .w)) (u .ensures) (c .if3 .taken))
+    (test-failed (u .result) (rowsMiss (a .seal) (a .size) (a .base) (a .stride) (a .lines) (a .bytes)) (u .ensures) (c .if3 .taken))
 
 returns-4 : tie.Need-returns-4
 returns-4 c =
@@ -88,14 +82,13 @@ returns-4 c =
     let s = d .before .before .before .before in
     let a = s .args in
     let u = c .before .rows-unsealed in
-    let h = test-passed (u .result) (rowsMiss (a .seal) (a .size) (a .base) (a .stride) (a .rows) (a .cols * a .w)) (u .ensures) (c .if3 .left) in
+    let h = test-passed (u .result) (rowsMiss (a .seal) (a .size) (a .base) (a .stride) (a .lines) (a .bytes)) (u .ensures) (c .if3 .left) in
     sym (no-refusal (five s ∷ six s ∷ seven s ∷ []) (five-holds d, (six-holds g, (h, tt))))
 
 pub store-checked-spec : {M : Type 1} → statement M
 store-checked-spec =
     tie.close
     (tie.spec
-    mul-bytes
     first-unmarked-requires
     is-done-requires
     returns

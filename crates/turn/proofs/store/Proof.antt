@@ -1,5 +1,6 @@
 use mathlib.Core.Path.{ap, ap₂, _∙_}
 use Prim.Native.Nat.{ℕ, _*_}
+use Rattle.machine.specs.declared.Form.the-variants.{Plain}
 use Rattle.machine.specs.declared.Matrix.the-variants.{MatrixC}
 use Rattle.machine.specs.Operation.{Operation}
 use Rattle.run.specs.Encoding.{startOf}
@@ -33,7 +34,7 @@ returns c =
     let a = s .args in
     let w = n .wide-bytes .ensures .0 in
     let e = p .start-of .ensures ∙ ap (startOf (a .plan .c) (a .row)) (t .small-times .ensures ∙ ap (λ (b : ℕ). a .column * b) w) in
-    let o = ap₂ (λ (w p : ℕ). Operation.store MatrixC 0 w p (a .plan .c .stride)) w e in
+    let o = ap₂ (λ (w p : ℕ). Operation.store Plain MatrixC 0 w p (a .plan .c .stride)) w e in
     c-carried (a .plan) (s .pre .1 .0) (a .m) (a .registers .now) (a .marks .now) (a .memory .now) (s .pre .0) (l .store .result) (a .row) (a .column) _
     (stores-for o (l .store .ensures))
 

@@ -21,7 +21,7 @@ is-done-requires c κs = search needs
 returns : tie.Need-returns
 returns c =
     let a = c .before .before .before .before .before .before .args in
-    load-refused (a .m) (a .registers .now) (a .marks .now) (a .memory .now) (a .matrix) (a .md) (a .width) (a .base) (a .stride) (c .before .before .check-transfer .result) (c .before .before .check-transfer .ensures)
+    load-refused (a .m) (a .registers .now) (a .marks .now) (a .memory .now) (a .form) (a .matrix) (a .md) (a .width) (a .base) (a .stride) (c .before .before .check-transfer .result) (c .before .before .check-transfer .ensures)
     (sym (c .before .is-done .ensures) ∙ not-true (c .before .is-done .result) (c .if1 .taken))
 
 -- answers 2 to 4 have passed
@@ -38,7 +38,7 @@ load-requires c κs =
     let t = c .before .before in
     let s = t .before .before .before .before .before .before .before in
     let a = s .args in
-    room (a .m) (a .registers .now) (a .marks .now) (a .memory .now) (a .matrix) (a .md) (a .width) (a .base) (a .stride) (s .pre .0) (s .pre .1) (checked (t .before)) (t .tile-of .result) (t .tile-of .ensures)
+    room (a .m) (a .registers .now) (a .marks .now) (a .memory .now) (a .form) (a .matrix) (a .md) (a .width) (a .base) (a .stride) (s .pre .0) (s .pre .1) (checked (t .before)) (t .tile-of .result) (t .tile-of .ensures)
 
 same-length : tie.Need-same-length
 same-length c = search needs
@@ -51,7 +51,7 @@ returns-2 c =
     let l = c .before .before .before .before in
     let t = l .before .before .before in
     let a = t .before .before .before .before .before .before .before .args in
-    load-done (a .m) (a .registers .now) (a .marks .now) (a .memory .now) (a .matrix) (a .md) (a .width) (a .base) (a .stride) (t .tile-of .result) (t .tile-of .ensures) (checked (t .before)) (l .load .result) _ _
+    load-done (a .m) (a .registers .now) (a .marks .now) (a .memory .now) (a .form) (a .matrix) (a .md) (a .width) (a .base) (a .stride) (t .tile-of .result) (t .tile-of .ensures) (checked (t .before)) (l .load .result) _ _
     (l .load .ensures .0) (l .load .ensures .1 .0) (l .load .ensures .1 .1)
 
 pub load-spec : {M : Type 1} → statement M

@@ -22,7 +22,7 @@ is-done-requires c κs = search needs
 returns : tie.Need-returns
 returns c =
     let a = c .before .before .before .before .before .before .args in
-    store-refused (a .m) (a .registers .now) (a .marks .now) (a .memory .now) (a .matrix) (a .ms3) (a .width) (a .base) (a .stride) (c .before .before .check-transfer .result) (c .before .before .check-transfer .ensures)
+    store-refused (a .m) (a .registers .now) (a .marks .now) (a .memory .now) (a .form) (a .matrix) (a .ms3) (a .width) (a .base) (a .stride) (c .before .before .check-transfer .result) (c .before .before .check-transfer .ensures)
     (sym (c .before .is-done .ensures) ∙ not-true (c .before .is-done .result) (c .if1 .taken))
 
 -- answers 2 to 4 have passed
@@ -39,7 +39,7 @@ store-requires c κs =
     let t = c .before in
     let s = t .before .before .before .before .before .before .before in
     let a = s .args in
-    room (a .m) (a .registers .now) (a .marks .now) (a .memory .now) (a .matrix) (a .ms3) (a .width) (a .base) (a .stride) (s .pre .0) (s .pre .1) (checked (t .before)) (t .tile-of .result) (t .tile-of .ensures)
+    room (a .m) (a .registers .now) (a .marks .now) (a .memory .now) (a .form) (a .matrix) (a .ms3) (a .width) (a .base) (a .stride) (s .pre .0) (s .pre .1) (checked (t .before)) (t .tile-of .result) (t .tile-of .ensures)
 
 same-length : tie.Need-same-length
 same-length c = search needs
@@ -49,7 +49,7 @@ returns-2 c =
     let l = c .before .before in
     let t = l .before .before in
     let a = t .before .before .before .before .before .before .before .args in
-    store-done (a .m) (a .registers .now) (a .marks .now) (a .memory .now) (a .matrix) (a .ms3) (a .width) (a .base) (a .stride) (t .tile-of .result) (t .tile-of .ensures) (checked (t .before)) (l .store .result) _
+    store-done (a .m) (a .registers .now) (a .marks .now) (a .memory .now) (a .form) (a .matrix) (a .ms3) (a .width) (a .base) (a .stride) (t .tile-of .result) (t .tile-of .ensures) (checked (t .before)) (l .store .result) _
     (l .store .ensures .0) (l .store .ensures .1)
 
 pub store-spec : {M : Type 1} → statement M

@@ -1,0 +1,3 @@
+-- Laws for the proofs of the functions, and what they require from the checks.
+pub mod WalkLaws
+pub mod Room

@@ -1,0 +1,81 @@
+-- By cases of the width.
+use mathlib.Core.Path.{sym, ap, _∙_}
+use Prim.Native.Nat.{ℕ}
+use native.Mathlib.Omega.{arith}
+use borrow.Author.Needs.{needs}
+use Rattle.width.specs.Tile.{le, putLe}
+use Rattle.element.proofs.Laws.{is4}
+use Rattle.transfer.proofs.copy_element.Statement.{statement}
+use Rattle.transfer.proofs.copy_element.Tie as tie
+
+read1-requires : tie.Need-read1-requires
+read1-requires c κs = search needs
+
+write1-requires : tie.Need-write1-requires
+write1-requires c κs = search needs
+
+same-length : tie.Need-same-length
+same-length c = search needs
+
+returns : tie.Need-returns
+returns c =
+    let f = c .before .before .before .before .before in
+    let a = f .before .before .before .args in
+    c .before .before .write1 .ensures ∙ ap (λ (v : ℕ). putLe (a .to) 1 v (a .dst .now)) (c .before .before .before .read1 .ensures .0)
+    ∙ ap (λ (w : ℕ). putLe (a .to) w (le (a .src .now) (a .from) w) (a .dst .now)) (sym (f .if1 .taken))
+
+read2-requires : tie.Need-read2-requires
+read2-requires c κs = search needs
+
+write2-requires : tie.Need-write2-requires
+write2-requires c κs = search needs
+
+same-length-2 : tie.Need-same-length-2
+same-length-2 c = search needs
+
+returns-2 : tie.Need-returns-2
+returns-2 c =
+    let f = c .before .before .before .before .before in
+    let a = f .before .before .before .before .args in
+    c .before .before .write2 .ensures ∙ ap (λ (v : ℕ). putLe (a .to) 2 v (a .dst .now)) (c .before .before .before .read2 .ensures .0)
+    ∙ ap (λ (w : ℕ). putLe (a .to) w (le (a .src .now) (a .from) w) (a .dst .now)) (sym (f .if2 .taken))
+
+read4-requires : tie.Need-read4-requires
+read4-requires c κs =
+    let s = c .before .before .before .before .before in
+    let e = is4 (s .args .w) (s .pre .0) (c .before .before .if1 .left) (c .before .if2 .left) in
+    omega (arith, s .pre .1 .1)
+
+write4-requires : tie.Need-write4-requires
+write4-requires c κs =
+    let s = c .before .before .before .before .before .before in
+    let e = is4 (s .args .w) (s .pre .0) (c .before .before .before .if1 .left) (c .before .before .if2 .left) in
+    omega (arith, s .pre .1 .0)
+
+same-length-3 : tie.Need-same-length-3
+same-length-3 c = search needs
+
+returns-3 : tie.Need-returns-3
+returns-3 c =
+    let f = c .before .before .before .before .before in
+    let s = f .before .before .before .before in
+    let a = s .args in
+    c .before .before .write4 .ensures ∙ ap (λ (v : ℕ). putLe (a .to) 4 v (a .dst .now)) (c .before .before .before .read4 .ensures .0)
+    ∙ ap (λ (w : ℕ). putLe (a .to) w (le (a .src .now) (a .from) w) (a .dst .now)) (sym (is4 (a .w) (s .pre .0) (f .before .if1 .left) (f .if2 .left)))
+
+pub copy-element-spec : {M : Type 1} → statement M
+copy-element-spec =
+    tie.close
+    (tie.spec
+    read1-requires
+    write1-requires
+    same-length
+    returns
+    read2-requires
+    write2-requires
+    same-length-2
+    returns-2
+    read4-requires
+    write4-requires
+    same-length-3
+    returns-3)

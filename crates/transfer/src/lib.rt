@@ -1,0 +1,318 @@
+// Loads and stores of a tile, plain or transposed. Row i of a tile starts in the registers at start + i * pitch. In memory its rows lie
+// one stride apart from base on; in the transposed form they are the columns of the register.
+use address::as_signed;
+use address::row_address;
+use address::rows_inside;
+use element::read1;
+use element::read2;
+use element::read4;
+use element::write1;
+use element::write2;
+use element::write4;
+use machine::Answer;
+use machine::Form;
+use tile::is_done;
+use tile::mark_tile;
+use tile::store_checked;
+ghost use mathlib.Core.Path.{_≡_};
+ghost use mathlib.Core.Bool.{true, cond};
+ghost use mathlib.Core.List.{[], _∷_};
+ghost use Prim.Native.Nat.{_+_, _*_, _≤_, _<_};
+ghost use lib.ListN.{length};
+ghost use Rattle.width.specs.Tile.{le, putLe, putRow, putTile, markTile};
+ghost use Rattle.machine.specs.Memory.{rowAt, inside};
+ghost use Rattle.machine.specs.Operation.{element, placed, memoryRows, memoryCols};
+ghost use Rattle.machine.specs.declared.Answer.the-variants.{OutsideMemory};
+ghost use Rattle.machine.specs.declared.Form.the-variants.{Transposed};
+ghost use Rattle.machine.specs.Answers.{verdict, isDone, _otherwise_};
+ghost use Rattle.element.specs.Element.{Width};
+ghost use Rattle.tile.specs.Checks.{storeChecks};
+
+// Copies one element of w bytes.
+fn copy_element(dst: &mut [u8], src: &[u8], to: usize, from: usize, w: usize)
+    requires { ⌜ Width w ⌝ }
+    requires { ⌜ to + w ≤ length (now dst) ⌝ }
+    requires { ⌜ from + w ≤ length (now src) ⌝ }
+    ensures { λ _. ⌜ now (dst .exit) ≡ putLe to w (le (now (src .entry)) from w) (now (dst .entry)) ⌝ }
+{
+    if w == 1 {
+        write1(dst, to, read1(src, from));
+        return;
+    }
+    if w == 2 {
+        write2(dst, to, read2(src, from));
+        return;
+    }
+    write4(dst, to, read4(src, from));
+}
+
+// Copies n elements that lie one stride apart in src to the front of dst, one after another.
+fn gather(dst: &mut [u8], src: &[u8], base: u64, stride: u64, n: usize, w: usize)
+    requires { ⌜ Width w ⌝ }
+    requires { ⌜ n * w ≤ length (now dst) ⌝ }
+    requires { ⌜ inside (length (now src)) base stride n w ≡ true ⌝ }
+    ensures { λ _. ⌜ now (dst .exit) ≡ putRow 0 n w (λ j. le (now (src .entry)) (rowAt base stride j) w) (now (dst .entry)) ⌝ }
+{
+    let mut from = base;
+    let mut to = 0;
+    let mut j = 0;
+    while j < n {
+        copy_element(dst, src, to, from as usize, w);
+        from = std::num::wrapping_add_u64(from, stride);
+        to += w;
+        j += 1;
+    }
+}
+
+// Copies a tile that lies in memory column by column to the registers.
+fn gather_tile(
+    registers: &mut [u8],
+    memory: &[u8],
+    start: usize,
+    pitch: usize,
+    base: u64,
+    stride: u64,
+    rows: usize,
+    cols: usize,
+    w: usize,
+)
+    requires { ⌜ start + rows * pitch ≤ length (now registers) ⌝ }
+    requires { ⌜ cols * w ≤ pitch ⌝ }
+    requires { ⌜ Width w ⌝ }
+    requires { ⌜ inside (length (now memory)) base stride cols (rows * w) ≡ true ⌝ }
+    ensures { λ _. ⌜ now (registers .exit) ≡ putTile (λ i. start + i * pitch) rows cols w (placed Transposed (element (now (memory .entry)) (rowAt base stride) w)) (now (registers .entry)) ⌝ }
+{
+    if cols == 0 {
+        return;
+    }
+    let mut to = start;
+    let mut from = base;
+    let mut i = 0;
+    while i < rows {
+        gather(&mut registers[to..], memory, from, stride, cols, w);
+        to += pitch;
+        from += w as u64;
+        i += 1;
+    }
+}
+
+// Copies the columns of a tile in the registers to rows in memory, upward.
+fn scatter_tile(
+    memory: &mut [u8],
+    registers: &[u8],
+    start: usize,
+    pitch: usize,
+    base: u64,
+    stride: u64,
+    rows: usize,
+    cols: usize,
+    w: usize,
+)
+    requires { ⌜ start + rows * pitch ≤ length (now registers) ⌝ }
+    requires { ⌜ cols * w ≤ pitch ⌝ }
+    requires { ⌜ Width w ⌝ }
+    requires { ⌜ inside (length (now memory)) base stride cols (rows * w) ≡ true ⌝ }
+    ensures { λ _. ⌜ now (memory .exit) ≡ putTile (rowAt base stride) cols rows w (placed Transposed (element (now (registers .entry)) (λ i. start + i * pitch) w)) (now (memory .entry)) ⌝ }
+{
+    if rows == 0 {
+        return;
+    }
+    let mut from = start;
+    let mut j = 0;
+    while j < cols {
+        let to = row_address(base as usize, as_signed(stride), j);
+        gather(
+            &mut memory[to..],
+            registers,
+            from as u64,
+            pitch as u64,
+            rows,
+            w,
+        );
+        from += w;
+        j += 1;
+    }
+}
+
+// Loads a transposed tile and marks it, or answers 6.
+fn load_transposed(
+    registers: &mut [u8],
+    marks: &mut [u8],
+    memory: &[u8],
+    start: usize,
+    pitch: usize,
+    base: u64,
+    stride: u64,
+    rows: usize,
+    cols: usize,
+    w: usize,
+) -> Answer
+    requires { ⌜ start + rows * pitch ≤ length (now registers) ⌝ }
+    requires { ⌜ length (now marks) ≡ length (now registers) ⌝ }
+    requires { ⌜ cols * w ≤ pitch ⌝ }
+    requires { ⌜ Width w ⌝ }
+    requires { ⌜ w ≤ pitch ⌝ }
+    ensures { λ r. ⌜ r ≡ verdict ((inside (length (now (memory .entry))) base stride cols (rows * w) otherwise OutsideMemory) ∷ []) ⌝ }
+    ensures { λ r. ⌜ now (registers .exit) ≡ cond (isDone r) (putTile (λ i. start + i * pitch) rows cols w (placed Transposed (element (now (memory .entry)) (rowAt base stride) w)) (now (registers .entry))) (now (registers .entry)) ⌝ }
+    ensures { λ r. ⌜ now (marks .exit) ≡ cond (isDone r) (markTile (λ i. start + i * pitch) rows (cols * w) (now (marks .entry))) (now (marks .entry)) ⌝ }
+{
+    let len = memory.len();
+    if !rows_inside(len, base as usize, stride, cols, rows * w) {
+        return Answer::OutsideMemory;
+    }
+    gather_tile(registers, memory, start, pitch, base, stride, rows, cols, w);
+    mark_tile(marks, start, pitch, rows, cols * w);
+    Answer::Done
+}
+
+// Stores a tile transposed, or answers 5, 6 or 7.
+fn store_transposed(
+    registers: &[u8],
+    marks: &[u8],
+    memory: &mut [u8],
+    seal: u64,
+    size: u64,
+    start: usize,
+    pitch: usize,
+    base: u64,
+    stride: u64,
+    rows: usize,
+    cols: usize,
+    w: usize,
+) -> Answer
+    requires { ⌜ start + rows * pitch ≤ length (now registers) ⌝ }
+    requires { ⌜ length (now marks) ≡ length (now registers) ⌝ }
+    requires { ⌜ cols * w ≤ pitch ⌝ }
+    requires { ⌜ Width w ⌝ }
+    requires { ⌜ w ≤ pitch ⌝ }
+    ensures { λ r. ⌜ r ≡ verdict (storeChecks seal size (now (marks .entry)) start pitch (length (now (memory .entry))) base stride rows cols w cols (rows * w)) ⌝ }
+    ensures { λ r. ⌜ now (memory .exit) ≡ cond (isDone r) (putTile (rowAt base stride) cols rows w (placed Transposed (element (now (registers .entry)) (λ i. start + i * pitch) w)) (now (memory .entry))) (now (memory .entry)) ⌝ }
+{
+    let answer = store_checked(
+        marks,
+        memory.len(),
+        seal,
+        size,
+        start,
+        pitch,
+        base,
+        stride,
+        rows,
+        cols,
+        w,
+        cols,
+        rows * w,
+    );
+    if !is_done(answer) {
+        return answer;
+    }
+    scatter_tile(memory, registers, start, pitch, base, stride, rows, cols, w);
+    Answer::Done
+}
+
+// Loads a tile and marks it, or answers 6.
+pub fn load(
+    form: Form,
+    registers: &mut [u8],
+    marks: &mut [u8],
+    memory: &[u8],
+    start: usize,
+    pitch: usize,
+    base: u64,
+    stride: u64,
+    rows: usize,
+    cols: usize,
+    w: usize,
+) -> Answer
+    requires { ⌜ start + rows * pitch ≤ length (now registers) ⌝ }
+    requires { ⌜ length (now marks) ≡ length (now registers) ⌝ }
+    requires { ⌜ cols * w ≤ pitch ⌝ }
+    requires { ⌜ Width w ⌝ }
+    requires { ⌜ w ≤ pitch ⌝ }
+    ensures { λ r. ⌜ r ≡ verdict ((inside (length (now (memory .entry))) base stride (memoryRows form rows cols) (memoryCols form rows cols * w) otherwise OutsideMemory) ∷ []) ⌝ }
+    ensures { λ r. ⌜ now (registers .exit) ≡ cond (isDone r) (putTile (λ i. start + i * pitch) rows cols w (placed form (element (now (memory .entry)) (rowAt base stride) w)) (now (registers .entry))) (now (registers .entry)) ⌝ }
+    ensures { λ r. ⌜ now (marks .exit) ≡ cond (isDone r) (markTile (λ i. start + i * pitch) rows (cols * w) (now (marks .entry))) (now (marks .entry)) ⌝ }
+{
+    match form {
+        Form::Plain => tile::load(
+            registers,
+            marks,
+            memory,
+            start,
+            pitch,
+            base,
+            stride,
+            rows,
+            cols,
+            w,
+        ),
+        Form::Transposed => load_transposed(
+            registers,
+            marks,
+            memory,
+            start,
+            pitch,
+            base,
+            stride,
+            rows,
+            cols,
+            w,
+        ),
+    }
+}
+
+// Stores a tile, or answers 5, 6 or 7.
+pub fn store(
+    form: Form,
+    registers: &[u8],
+    marks: &[u8],
+    memory: &mut [u8],
+    seal: u64,
+    size: u64,
+    start: usize,
+    pitch: usize,
+    base: u64,
+    stride: u64,
+    rows: usize,
+    cols: usize,
+    w: usize,
+) -> Answer
+    requires { ⌜ start + rows * pitch ≤ length (now registers) ⌝ }
+    requires { ⌜ length (now marks) ≡ length (now registers) ⌝ }
+    requires { ⌜ cols * w ≤ pitch ⌝ }
+    requires { ⌜ Width w ⌝ }
+    requires { ⌜ w ≤ pitch ⌝ }
+    ensures { λ r. ⌜ r ≡ verdict (storeChecks seal size (now (marks .entry)) start pitch (length (now (memory .entry))) base stride rows cols w (memoryRows form rows cols) (memoryCols form rows cols * w)) ⌝ }
+    ensures { λ r. ⌜ now (memory .exit) ≡ cond (isDone r) (putTile (rowAt base stride) (memoryRows form rows cols) (memoryCols form rows cols) w (placed form (element (now (registers .entry)) (λ i. start + i * pitch) w)) (now (memory .entry))) (now (memory .entry)) ⌝ }
+{
+    match form {
+        Form::Plain => tile::store(
+            registers,
+            marks,
+            memory,
+            seal,
+            size,
+            start,
+            pitch,
+            base,
+            stride,
+            rows,
+            cols,
+            w,
+        ),
+        Form::Transposed => store_transposed(
+            registers,
+            marks,
+            memory,
+            seal,
+            size,
+            start,
+            pitch,
+            base,
+            stride,
+            rows,
+            cols,
+            w,
+        ),
+    }
+}

@@ -1,0 +1,249 @@
+-- 02, Two: a plain load, then the matching transposed store, leaves the transposed tile.
+use mathlib.Core.Path.{_≡_, refl, sym, ap, ap₂, _∙_, subst}
+use mathlib.Core.Bool.{Bool, true, false, cond}
+use mathlib.Core.List.{List}
+use Prim.Native.Nat.{ℕ, zero, _+_, _*_, _%_, _^_, _≤_, _<_}
+use native.Mathlib.Nat.{mod-eq-of-lt, mul-pos}
+use native.Mathlib.Omega.{arith}
+use lib.Dec.{ltb}
+use lib.ListN.{length, getD, set}
+use lib.Seq.{getD-set-other}
+use borrow.Author.Tests.{eq-eqb, ltb-true}
+use Rattle.width.specs.Tile.{le, putTile, markTile, markRow, In}
+use Rattle.width.proofs.UptoLaws.{upto-keeps}
+use Rattle.width.proofs.PutLaws.{row-fits}
+use Rattle.width.proofs.TileLaws.{putTile-le, putTile-out, length-putTile, pitched, le-lt}
+use Rattle.machine.specs.declared.Matrix.{Matrix}
+use Rattle.machine.specs.declared.Matrix.the-variants.{MatrixA, MatrixB, MatrixC}
+use Rattle.machine.specs.declared.Form.the-variants.{Plain, Transposed}
+use Rattle.machine.specs.declared.Instruction.{Instruction}
+use Rattle.machine.specs.declared.Instruction.the-variants.{Load, Store}
+use Rattle.machine.specs.Answers.{number, isDone, verdict}
+use Rattle.machine.specs.Geometry.{Parameters, parameters, State, stateOf, Bench, benchOf, registerAt, startOf, pitchOf, registerCount, scalar}
+use Rattle.machine.specs.Listing.{decode, inRange}
+use Rattle.machine.specs.Memory.{rowAt, inside}
+use Rattle.machine.specs.Operation.{Operation, element, written, tileRows, tileCols}
+use Rattle.machine.specs.Refusals.{checks}
+use Rattle.machine.specs.Faults.{soundBench}
+use Rattle.machine.specs.Step
+use Rattle.machine.specs.Step.{Outcome, outcome, stepBy, stepChecks, given, meant}
+use Rattle.machine.specs.Theorems.{Given}
+use Rattle.machine.proofs.TestLaws.{false-true}
+use Rattle.machine.proofs.CheckLaws.{Passed, passed}
+use Rattle.machine.proofs.MemoryLaws.{inside-at}
+use Rattle.machine.proofs.CodeLaws.{decode-bounded}
+use Rattle.machine.proofs.Sealing.{refusing}
+use Rattle.transfer.proofs.Room.{transfer-requires}
+use Rattle.transfer.proofs.WalkLaws.{width-some}
+use Rattle.transposed.specs.Transposed.{Pair, LoadThenStore, Transposes, LoadThenStoreTransposes}
+
+-- ---- a word that is accepted
+
+accepted : (M : Parameters) (i : Instruction) (xs : List ℕ) (B : Bench) → outcome M i xs B .answer .number ≡ 0
+    → (soundBench B ≡ true) × Passed (checks M (meant M i xs B) (given M i xs B) (B .memory)) × (outcome M i xs B ≡ Step.carriedOut M i xs B)
+unfolding outcome
+accepted M i xs B h = go (isDone (verdict (stepChecks M i xs B))) refl h
+  where
+    out : Bool → Outcome
+    out t = cond t (Step.carriedOut M i xs B) (Step.refused M i xs B (verdict (stepChecks M i xs B)))
+
+    go : (t : Bool) → isDone (verdict (stepChecks M i xs B)) ≡ t → out t .answer .number ≡ 0
+        → (soundBench B ≡ true) × Passed (checks M (meant M i xs B) (given M i xs B) (B .memory)) × (out t ≡ Step.carriedOut M i xs B)
+    go true e h = let p = passed (stepChecks M i xs B) (refusing M (meant M i xs B) (given M i xs B) (B .memory)) e in (p .0, p .1 .1, refl)
+    go false e h = absurd (false-true (sym e ∙ eq-eqb (number (verdict (stepChecks M i xs B))) 0 h))
+
+-- ---- tiles
+
+markRow-out : (p n : ℕ) (ms : List ℕ) (q : ℕ) → ¬ In p n q → getD (markRow p n ms) q 0 ≡ getD ms q 0
+unfolding markRow
+markRow-out p n ms q h =
+    upto-keeps (λ ys. getD ys q 0 ≡ getD ms q 0) n (λ b ys. set ys (p + b) 1) ms (λ b l ys e. getD-set-other ys (p + b) q 1 0 (λ s. h (omega arith)) ∙ e) refl
+
+markTile-out : (at : ℕ → ℕ) (rows n : ℕ) (ms : List ℕ) (q : ℕ) → ((i : ℕ) → i < rows → ¬ In (at i) n q) → getD (markTile at rows n ms) q 0 ≡ getD ms q 0
+unfolding markTile
+markTile-out at rows n ms q h =
+    upto-keeps (λ ys. getD ys q 0 ≡ getD ms q 0) rows (λ i ys. markRow (at i) n ys) ms (λ i l ys e. markRow-out (at i) n ys q (h i l) ∙ e) refl
+
+-- a tile of values written to rows that lie apart, and then its columns as rows: element (j, i) of these is value (i, j), where all
+-- values have w bytes
+module _ (at to : ℕ → ℕ) (rows cols w : ℕ) (value : ℕ → ℕ → ℕ) (regs mem : List ℕ) where
+  abbrev first : List ℕ
+  first = putTile at rows cols w value regs
+
+  abbrev second : List ℕ
+  second = putTile to cols rows w (λ j i. element first at w i j) mem
+
+  there : ((i j : ℕ) → value i j < 256 ^ w)
+      → ((i : ℕ) → i < rows → at i + cols * w ≤ length regs)
+      → ((i k : ℕ) → i < k → (q : ℕ) → In (at i) (cols * w) q → ¬ In (at k) (cols * w) q)
+      → ((j : ℕ) → j < cols → to j + rows * w ≤ length mem)
+      → ((i k : ℕ) → i < k → k < cols → (q : ℕ) → In (to i) (rows * w) q → ¬ In (to k) (rows * w) q)
+      → (i j : ℕ) → i < rows → j < cols → element second to w j i ≡ value i j
+  there small fits apart ends distinct i j l m =
+      putTile-le to cols rows w (λ j i. element first at w i j) mem j m (ends j m) i l (λ k l′ g q. distinct j k g l′ q)
+      ∙ ap (λ (v : ℕ). v % 256 ^ w) (putTile-le at rows cols w value regs i l (fits i l) j m (λ k l′ g q. apart i k g q) ∙ mod-eq-of-lt (small i j))
+      ∙ mod-eq-of-lt (small i j)
+
+-- ---- the two words
+
+-- a load leaves the sizes
+rows-same : (st : State) (at : ℕ → ℕ) (n m w : ℕ) (v : ℕ → ℕ → ℕ) (k : Matrix) → (tileRows (written st at n m w v) k ≡ tileRows st k) × (tileCols (written st at n m w v) k ≡ tileCols st k)
+rows-same st at n m w v MatrixA = (refl, refl)
+rows-same st at n m w v MatrixB = (refl, refl)
+rows-same st at n m w v MatrixC = (refl, refl)
+
+module _ (grant : ℕ → ℕ → ℕ) (k : Matrix) (w r a b c d : ℕ) (xs ys : List ℕ) (B : Bench) where
+  abbrev M : Parameters
+  M = parameters grant (B .machine)
+
+  abbrev loading : Instruction
+  loading = Load Plain k w r a b
+
+  abbrev storing : Instruction
+  storing = Store Transposed k w r c d
+
+  abbrev st : State
+  st = stateOf (B .machine) (B .registers) (B .marks)
+
+  abbrev rows : ℕ
+  rows = tileRows st k
+
+  abbrev cols : ℕ
+  cols = tileCols st k
+
+  abbrev from : ℕ → ℕ
+  from = rowAt (scalar xs a) (scalar xs b)
+
+  abbrev to : ℕ → ℕ
+  to = rowAt (scalar ys c) (scalar ys d)
+
+  abbrev regs₁ : List ℕ
+  regs₁ = putTile (registerAt M k r) rows cols w (element (B .memory) from w) (B .registers)
+
+  abbrev marks₁ : List ℕ
+  marks₁ = markTile (registerAt M k r) rows (cols * w) (B .marks)
+
+  -- what the load leaves, and after it the store
+  abbrev B₁ : Bench
+  B₁ = benchOf (B .machine) regs₁ marks₁ (B .memory)
+
+  abbrev mem₂ : List ℕ
+  mem₂ = putTile to cols rows w (λ j i. element regs₁ (registerAt M k r) w i j) (B .memory)
+
+  abbrev after : Outcome
+  after = record { answer = Step.carriedOut M loading xs B .answer; bench = benchOf (B .machine) regs₁ marks₁ mem₂; scalars = ys }
+
+  abbrev Sizes : Type 0
+  Sizes = (tileRows (stateOf (B .machine) regs₁ marks₁) k ≡ rows) × (tileCols (stateOf (B .machine) regs₁ marks₁) k ≡ cols)
+
+  sizes : Sizes
+  sizes = rows-same st (registerAt M k r) rows cols w (element (B .memory) from w) k
+
+  second-is : Step.carriedOut M storing ys B₁ ≡ after
+  second-is =
+      ap₂ (λ (n m : ℕ). record {
+        answer = Step.carriedOut M loading xs B .answer;
+        bench = benchOf (B .machine) regs₁ marks₁ (putTile to m n w (λ j i. element regs₁ (registerAt M k r) w i j) (B .memory));
+        scalars = ys;
+      }) (sizes .0) (sizes .1)
+
+  module _ (in-range : r < registerCount k) (s : soundBench B ≡ true) (p : Passed (checks M (meant M loading xs B) (given M loading xs B) (B .memory)))
+      (p₂ : Passed (checks M (meant M storing ys B₁) (given M storing ys B₁) (B₁ .memory))) where
+    abbrev Room : Type 0
+    Room = (startOf M k r + rows * pitchOf M k ≤ length (B .registers)) × (cols * w ≤ pitchOf M k) × (zero < w)
+
+    room : Room
+    room =
+        let f = transfer-requires grant (B .machine) (B .registers) (B .marks) s k r w in-range (p .0, (p .1 .0, (p .1 .1 .0, (p .1 .1 .1 .0, tt)))) in
+        (f .0, f .1 .1 .0, width-some w (f .1 .1 .1 .0))
+
+    ends : (i : ℕ) → i < rows → (j : ℕ) → j < cols → to j + rows * w ≤ length (B .memory)
+    ends i l j m =
+        let h : inside (length (B .memory)) (scalar ys c) (scalar ys d) cols (rows * w) ≡ true =
+        subst (λ (n : ℕ). inside (length (B .memory)) (scalar ys c) (scalar ys d) n (rows * w) ≡ true) (sizes .1)
+        (subst (λ (n : ℕ). inside (length (B .memory)) (scalar ys c) (scalar ys d) (tileCols (stateOf (B .machine) regs₁ marks₁) k) (n * w) ≡ true) (sizes .0) (p₂ .1 .1 .1 .1 .1 .0)) in
+        inside-at (length (B .memory)) (scalar ys c) (scalar ys d) cols (rows * w) h (mul-pos (omega arith) (room .2)) j m .1
+
+    turned : ((q : ℕ) → getD (B .memory) q 0 < 256) → ((i j : ℕ) → i < j → j < cols → (q : ℕ) → In (to i) (rows * w) q → ¬ In (to j) (rows * w) q)
+        → (i j : ℕ) → i < rows → j < cols → element mem₂ to w j i ≡ element (B .memory) from w i j
+    turned small distinct i j l m =
+        there (registerAt M k r) to rows cols w (element (B .memory) from w) (B .registers) (B .memory)
+        (λ i j. le-lt (B .memory) small (from i + j * w) w)
+        (λ i l. omega (arith, room .0, room .1, row-fits i rows (pitchOf M k) l))
+        (pitched (startOf M k r) (pitchOf M k) (cols * w) (room .1))
+        (ends i l) distinct i j l m
+
+-- ---- the theorem
+
+module _ (grant : ℕ → ℕ → ℕ) (P : Pair) (first second : Given) (B : Bench) (h : LoadThenStore grant P first second B) where
+  abbrev xs : List ℕ
+  xs = first .scalars
+
+  abbrev ys : List ℕ
+  ys = second .scalars
+
+  abbrev i₁ : Instruction
+  i₁ = Load Plain (P .matrix) (P .w) (P .register) (P .load-base) (P .load-stride)
+
+  abbrev i₂ : Instruction
+  i₂ = Store Transposed (P .matrix) (P .w) (P .register) (P .store-base) (P .store-stride)
+
+  abbrev N : Parameters
+  N = parameters grant (B .machine)
+
+  abbrev left : Bench
+  left = B₁ grant (P .matrix) (P .w) (P .register) (P .load-base) (P .load-stride) (P .store-base) (P .store-stride) xs ys B
+
+  abbrev end : Outcome
+  end = after grant (P .matrix) (P .w) (P .register) (P .load-base) (P .load-stride) (P .store-base) (P .store-stride) xs ys B
+
+  first-word : (i : Instruction) → decode (first .word) ≡ i → stepBy grant (first .word) xs B ≡ outcome N i xs B
+  unfolding stepBy
+  first-word i e = ap (λ (i : Instruction). outcome N i xs B) e
+
+  second-word : (i : Instruction) → decode (second .word) ≡ i → stepBy grant (second .word) ys left ≡ outcome N i ys left
+  unfolding stepBy
+  second-word i e = ap (λ (i : Instruction). outcome N i ys left) e
+
+  load-done : (soundBench B ≡ true) × Passed (checks N (meant N i₁ xs B) (given N i₁ xs B) (B .memory)) × (outcome N i₁ xs B ≡ Step.carriedOut N i₁ xs B)
+  load-done = accepted N i₁ xs B (ap (λ (o : Outcome). o .answer .number) (sym (first-word i₁ (h .plain-load))) ∙ h .load-accepted)
+
+  load-is : stepBy grant (first .word) xs B ≡ Step.carriedOut N i₁ xs B
+  load-is = first-word i₁ (h .plain-load) ∙ load-done .2
+
+  second-starts : stepBy grant (second .word) ys (stepBy grant (first .word) xs B .bench) ≡ outcome N i₂ ys left
+  second-starts = ap (λ (o : Outcome). stepBy grant (second .word) ys (o .bench)) load-is ∙ second-word i₂ (h .transposed-store)
+
+  store-done : (soundBench left ≡ true) × Passed (checks N (meant N i₂ ys left) (given N i₂ ys left) (left .memory)) × (outcome N i₂ ys left ≡ Step.carriedOut N i₂ ys left)
+  store-done = accepted N i₂ ys left (ap (λ (o : Outcome). o .answer .number) (sym second-starts) ∙ h .store-accepted)
+
+  store-is : stepBy grant (second .word) ys (stepBy grant (first .word) xs B .bench) ≡ end
+  store-is =
+      second-starts ∙ store-done .2
+      ∙ second-is grant (P .matrix) (P .w) (P .register) (P .load-base) (P .load-stride) (P .store-base) (P .store-stride) xs ys B
+
+  in-range : P .register < registerCount (P .matrix)
+  in-range = ltb-true (P .register) (registerCount (P .matrix)) (subst (λ (i : Instruction). inRange i ≡ true) (h .plain-load) (decode-bounded (first .word) .1))
+
+  result : Transposes grant P first second B
+  result = record {
+    transposed = λ i j l m.
+        ap (λ (o : Outcome). element (o .bench .memory) (rowAt (scalar ys (P .store-base)) (scalar ys (P .store-stride))) (P .w) j i) store-is
+        ∙ turned grant (P .matrix) (P .w) (P .register) (P .load-base) (P .load-stride) (P .store-base) (P .store-stride) xs ys B in-range (load-done .0) (load-done .1) (store-done .1)
+        (h .bytes) (h .no-byte-in-two-rows) i j l m;
+    same-length = ap (λ (o : Outcome). length (o .bench .memory)) store-is ∙ length-putTile _ _ _ _ _ (B .memory);
+    same-memory = λ q f. ap (λ (o : Outcome). getD (o .bench .memory) q 0) store-is ∙ putTile-out _ _ _ (P .w) _ (B .memory) q f;
+    as-loaded = (
+      ap (λ (o : Outcome). o .bench .registers) store-is ∙ sym (ap (λ (o : Outcome). o .bench .registers) load-is),
+      ap (λ (o : Outcome). o .bench .marks) store-is ∙ sym (ap (λ (o : Outcome). o .bench .marks) load-is),
+    );
+    same-registers = λ q f. (
+      ap (λ (o : Outcome). getD (o .bench .registers) q 0) store-is ∙ putTile-out _ _ _ (P .w) _ (B .registers) q f,
+      ap (λ (o : Outcome). getD (o .bench .marks) q 0) store-is ∙ markTile-out _ _ _ (B .marks) q f,
+    );
+    same-machine = ap (λ (o : Outcome). o .bench .machine) store-is;
+    same-scalars = (ap (λ (o : Outcome). o .scalars) load-is, ap (λ (o : Outcome). o .scalars) store-is);
+  }
+
+pub load-then-store-transposes : LoadThenStoreTransposes
+load-then-store-transposes grant P first second B h = result grant P first second B h
