@@ -72,8 +72,8 @@ uint64_t bodlarina_version(void);
                                         plan or run can have; a run that is asked past its last step */
 #define BODLARINA_OVERLAP 9u         /* a byte of C lies in two of its rows, in a row of A or B, or in the seal */
 #define BODLARINA_WRONG_OPCODE 10u   /* bits 6..0 of the word are not 1110111 */
-#define BODLARINA_LEFT_OUT_WORD 11u  /* an instruction of the draft that is not carried out here: a transposed load or
-                                        store, a float word, a conversion */
+#define BODLARINA_LEFT_OUT_WORD 11u  /* an instruction of the draft that is not carried out here: a float word or a
+                                        conversion */
 #define BODLARINA_WRONG_REGISTER 12u /* a register field out of range: a tile register is 0 to 7, an accumulator 0 or 1 */
 
 /* What an answer, or the answer in a result, says: one line of plain text. */

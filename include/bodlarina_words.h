@@ -111,6 +111,45 @@ BODLARINA_INLINE uint32_t bodlarina_msce16_m(uint32_t ms3, uint32_t rs1, uint32_
 BODLARINA_INLINE uint32_t bodlarina_msce32_m(uint32_t ms3, uint32_t rs1, uint32_t rs2) { return BODLARINA_TRANSFER_(0, 1, 2, ms3, rs1, rs2); }
 BODLARINA_INLINE uint32_t bodlarina_msce64_m(uint32_t ms3, uint32_t rs1, uint32_t rs2) { return BODLARINA_TRANSFER_(0, 1, 3, ms3, rs1, rs2); }
 
+/* The transposed forms: in memory the tile has the other shape, and row and column change places on the way. Row j in memory, at the
+ * address in rs1 + j times the stride in rs2, holds column j of the register. */
+
+/* Load an A tile, in memory k by m, into the tile register md. */
+BODLARINA_INLINE uint32_t bodlarina_mlate8_m(uint32_t md, uint32_t rs1, uint32_t rs2) { return BODLARINA_TRANSFER_(5, 0, 0, md, rs1, rs2); }
+BODLARINA_INLINE uint32_t bodlarina_mlate16_m(uint32_t md, uint32_t rs1, uint32_t rs2) { return BODLARINA_TRANSFER_(5, 0, 1, md, rs1, rs2); }
+BODLARINA_INLINE uint32_t bodlarina_mlate32_m(uint32_t md, uint32_t rs1, uint32_t rs2) { return BODLARINA_TRANSFER_(5, 0, 2, md, rs1, rs2); }
+BODLARINA_INLINE uint32_t bodlarina_mlate64_m(uint32_t md, uint32_t rs1, uint32_t rs2) { return BODLARINA_TRANSFER_(5, 0, 3, md, rs1, rs2); }
+
+/* Load a B tile, in memory n by k, into the tile register md. */
+BODLARINA_INLINE uint32_t bodlarina_mlbte8_m(uint32_t md, uint32_t rs1, uint32_t rs2) { return BODLARINA_TRANSFER_(6, 0, 0, md, rs1, rs2); }
+BODLARINA_INLINE uint32_t bodlarina_mlbte16_m(uint32_t md, uint32_t rs1, uint32_t rs2) { return BODLARINA_TRANSFER_(6, 0, 1, md, rs1, rs2); }
+BODLARINA_INLINE uint32_t bodlarina_mlbte32_m(uint32_t md, uint32_t rs1, uint32_t rs2) { return BODLARINA_TRANSFER_(6, 0, 2, md, rs1, rs2); }
+BODLARINA_INLINE uint32_t bodlarina_mlbte64_m(uint32_t md, uint32_t rs1, uint32_t rs2) { return BODLARINA_TRANSFER_(6, 0, 3, md, rs1, rs2); }
+
+/* Load a C tile, in memory n by m, into the accumulator md. */
+BODLARINA_INLINE uint32_t bodlarina_mlcte8_m(uint32_t md, uint32_t rs1, uint32_t rs2) { return BODLARINA_TRANSFER_(4, 0, 0, md, rs1, rs2); }
+BODLARINA_INLINE uint32_t bodlarina_mlcte16_m(uint32_t md, uint32_t rs1, uint32_t rs2) { return BODLARINA_TRANSFER_(4, 0, 1, md, rs1, rs2); }
+BODLARINA_INLINE uint32_t bodlarina_mlcte32_m(uint32_t md, uint32_t rs1, uint32_t rs2) { return BODLARINA_TRANSFER_(4, 0, 2, md, rs1, rs2); }
+BODLARINA_INLINE uint32_t bodlarina_mlcte64_m(uint32_t md, uint32_t rs1, uint32_t rs2) { return BODLARINA_TRANSFER_(4, 0, 3, md, rs1, rs2); }
+
+/* Store an A tile, in memory k by m, from the tile register ms3. */
+BODLARINA_INLINE uint32_t bodlarina_msate8_m(uint32_t ms3, uint32_t rs1, uint32_t rs2) { return BODLARINA_TRANSFER_(5, 1, 0, ms3, rs1, rs2); }
+BODLARINA_INLINE uint32_t bodlarina_msate16_m(uint32_t ms3, uint32_t rs1, uint32_t rs2) { return BODLARINA_TRANSFER_(5, 1, 1, ms3, rs1, rs2); }
+BODLARINA_INLINE uint32_t bodlarina_msate32_m(uint32_t ms3, uint32_t rs1, uint32_t rs2) { return BODLARINA_TRANSFER_(5, 1, 2, ms3, rs1, rs2); }
+BODLARINA_INLINE uint32_t bodlarina_msate64_m(uint32_t ms3, uint32_t rs1, uint32_t rs2) { return BODLARINA_TRANSFER_(5, 1, 3, ms3, rs1, rs2); }
+
+/* Store a B tile, in memory n by k, from the tile register ms3. */
+BODLARINA_INLINE uint32_t bodlarina_msbte8_m(uint32_t ms3, uint32_t rs1, uint32_t rs2) { return BODLARINA_TRANSFER_(6, 1, 0, ms3, rs1, rs2); }
+BODLARINA_INLINE uint32_t bodlarina_msbte16_m(uint32_t ms3, uint32_t rs1, uint32_t rs2) { return BODLARINA_TRANSFER_(6, 1, 1, ms3, rs1, rs2); }
+BODLARINA_INLINE uint32_t bodlarina_msbte32_m(uint32_t ms3, uint32_t rs1, uint32_t rs2) { return BODLARINA_TRANSFER_(6, 1, 2, ms3, rs1, rs2); }
+BODLARINA_INLINE uint32_t bodlarina_msbte64_m(uint32_t ms3, uint32_t rs1, uint32_t rs2) { return BODLARINA_TRANSFER_(6, 1, 3, ms3, rs1, rs2); }
+
+/* Store a C tile, in memory n by m, from the accumulator ms3. */
+BODLARINA_INLINE uint32_t bodlarina_mscte8_m(uint32_t ms3, uint32_t rs1, uint32_t rs2) { return BODLARINA_TRANSFER_(4, 1, 0, ms3, rs1, rs2); }
+BODLARINA_INLINE uint32_t bodlarina_mscte16_m(uint32_t ms3, uint32_t rs1, uint32_t rs2) { return BODLARINA_TRANSFER_(4, 1, 1, ms3, rs1, rs2); }
+BODLARINA_INLINE uint32_t bodlarina_mscte32_m(uint32_t ms3, uint32_t rs1, uint32_t rs2) { return BODLARINA_TRANSFER_(4, 1, 2, ms3, rs1, rs2); }
+BODLARINA_INLINE uint32_t bodlarina_mscte64_m(uint32_t ms3, uint32_t rs1, uint32_t rs2) { return BODLARINA_TRANSFER_(4, 1, 3, ms3, rs1, rs2); }
+
 /* ---- arithmetic ------------------------------------------------------------------------------------------- */
 
 /* Sources other than md have elements of SEW bits; those of md have SEW bits, in the forms mw.. 2 SEW and in the forms mq.., which

@@ -18,6 +18,7 @@ pub fn bench() {
     println!("second program is the library's time divided by its time.");
     warm_up();
     steps_by_family();
+    transposed_moves();
     multiply_accumulates();
     against_the_second_program();
     crate::runs::bench::bench();
@@ -106,7 +107,7 @@ fn steps_by_family() {
     words.push(("msce32".to_string(), assemble("msce32.m", &operands)));
     words.push(("mqemulc.mi by 0 (a clear)".to_string(), assemble("mqemulc.mi", &[])));
     words.push(("a wrong opcode".to_string(), 0));
-    words.push(("a word that is left out".to_string(), assemble("mlate8.m", &operands)));
+    words.push(("a word that is left out".to_string(), assemble("mfma.mm", &operands)));
     words.push(("a code of no row".to_string(), assemble("mlae8.m", &operands) | 1 << 31));
     words.push(("a register out of range".to_string(), assemble("mlae8.m", &[("md", 8)])));
     words.push(("a load of a wrong width".to_string(), assemble("mlae64.m", &operands)));
@@ -115,6 +116,33 @@ fn steps_by_family() {
             [SMALL, LARGE].map(|machine| step_time(machine, 8, word));
         let answers = format!("{first}, {second}");
         println!("{name:28}{small:>20.1}{large:>20.1}{:>10.2}{answers:>10}", large / small);
+    }
+}
+
+/// Transposed loads and stores of whole tiles beside the plain ones.
+fn transposed_moves() {
+    println!();
+    println!("nanoseconds of a load or store, sizes at their maxima: plain, transposed, ratio");
+    let [small, large] = [SMALL, LARGE].map(machine_name);
+    println!("{:28}{small:>30}{large:>30}{:>12}", "", "answers");
+    for (width, mtype) in [(8, 0), (16, 1), (32, 2)] {
+        for moved in ["la", "lb", "lc", "sa", "sb", "sc"] {
+            let words = ["", "t"].map(|form| {
+                let name = format!("m{moved}{form}e{width}.m");
+                assemble(&name, &[("rs1", 1), ("rs2", 2)])
+            });
+            let mut answers = Vec::new();
+            print!("{:28}", format!("m{moved}e{width}.m, m{moved}te{width}.m"));
+            for machine in [SMALL, LARGE] {
+                let [plain, transposed] = words.map(|word| {
+                    let (time, answer) = step_time(machine, mtype, word);
+                    answers.push(answer);
+                    time
+                });
+                print!("{plain:>10.1}{transposed:>10.1}{:>10.2}", transposed / plain);
+            }
+            println!("{:>12}", answers.iter().map(u64::to_string).collect::<Vec<_>>().join(","));
+        }
     }
 }
 

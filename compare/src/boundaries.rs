@@ -15,7 +15,7 @@ use model::{maximum, sew, Kind, Machine, Matrix, Row, Size, LEFT_OUT, LISTING, M
 type Made = (Case, u64);
 type Boundary = (&'static str, fn(&mut Random) -> Made);
 
-const BOUNDARIES: [Boundary; 37] = [
+const BOUNDARIES: [Boundary; 38] = [
     ("first and last byte of memory", whole_memory),
     ("one byte past the end", one_past_the_end),
     ("one byte before address 0", one_before_the_start),
@@ -37,6 +37,7 @@ const BOUNDARIES: [Boundary; 37] = [
     ("multiplier 0, unmarked ms1", multiplier_0),
     ("multiplier not 0, unmarked ms1", multiplier_not_0),
     ("an unmarked element", unmarked_element),
+    ("two unmarked elements of a store", two_unmarked_elements),
     ("overlapping rows of a store", overlapping_rows),
     ("settings with both x0", both_x0),
     ("settings with both x0 while mill is set", both_x0_and_mill),
@@ -207,8 +208,10 @@ fn huge_stride(random: &mut Random) -> Made {
 fn huge_stride_one_row(random: &mut Random) -> Made {
     let row = row_where(random, |row| is_load(row) || is_store(row));
     let mut machine = machine_for(random, row);
-    machine.tile_m = 1;
-    machine.tile_k = 1;
+    let (Kind::Load(matrix, _, form) | Kind::Store(matrix, _, form)) = row.kind else {
+        unreachable!("a load or store was picked");
+    };
+    set_size(&mut machine, model::memory_shape(matrix, form).0, 1);
     let moving = moving_on(random, row, &machine);
     let stride = random.pick(&WILD_STRIDES);
     let memory = moving.row_bytes + 3;
@@ -302,8 +305,8 @@ fn sealed_load(random: &mut Random) -> Made {
 fn sizes_used(kind: Kind) -> Vec<Size> {
     match kind {
         Kind::SetType | Kind::SetSize(_) => vec![],
-        Kind::Load(Matrix::A, _) | Kind::Store(Matrix::A, _) => vec![Size::M, Size::K],
-        Kind::Load(Matrix::B, _) | Kind::Store(Matrix::B, _) => vec![Size::K, Size::N],
+        Kind::Load(Matrix::A, ..) | Kind::Store(Matrix::A, ..) => vec![Size::M, Size::K],
+        Kind::Load(Matrix::B, ..) | Kind::Store(Matrix::B, ..) => vec![Size::K, Size::N],
         Kind::Multiply(_) => SIZES.to_vec(),
         _ => vec![Size::M, Size::N],
     }
@@ -458,6 +461,31 @@ fn unmarked_element(random: &mut Random) -> Made {
     let operands = [("ms1", 1), ("ms2", 0), ("imm", 3), ("rs1", 1), ("rs2", 2)];
     case.word = model::assemble(row.name, &operands);
     unmark_source(random, &mut case);
+    (case, 5)
+}
+
+/// Two unmarked elements of a store, the one further right in the row above: the
+/// register's order finds that one, the order of a transposed tile in memory the
+/// other.
+fn two_unmarked_elements(random: &mut Random) -> Made {
+    let row = row_where(random, is_store);
+    let mut machine = machine_for(random, row);
+    for size in SIZES {
+        let limit = maximum(&machine, size, sew(machine.mtype));
+        set_size(&mut machine, size, random.range(2, limit as u64) as i128);
+    }
+    let mut case = case_on(random, row, &machine);
+    let instruction = model::decode(case.word).expect("a store");
+    let [tile] = model::sources(&instruction, &machine, &case.lent.scalar_values())[..] else {
+        unreachable!("a store reads one tile");
+    };
+    let i = random.range(1, tile.rows as u64 - 1) as i128;
+    let j = random.range(1, tile.columns as u64 - 1) as i128;
+    let (above, left) = (random.below(i as u64) as i128, random.below(j as u64) as i128);
+    for (i, j) in [(i, left), (above, j)] {
+        let bytes = model::register_element(&machine, tile.register, i, j, tile.width);
+        case.lent.marks[random.range(bytes.start as u64, bytes.end as u64 - 1) as usize] = 0;
+    }
     (case, 5)
 }
 

@@ -7,7 +7,7 @@ use model::Plan;
 // numbers of 8 bytes.
 pub const MACHINE_BYTES: usize = 64;
 pub const SCALARS_BYTES: usize = 256;
-pub const RUN_BYTES: usize = 136;
+pub const RUN_BYTES: usize = 144;
 pub const STEP_BYTES: usize = 24;
 pub const STEPS_BYTES: usize = 8;
 
@@ -31,13 +31,14 @@ macro_rules! plan_calls {
         pub fn $name(plan: &Plan, $($buffer: &mut [u8]),*) -> u64 {
             calls! {
                 call = $function(
-                    sew: u64, factor: u64, m: u64, k: u64, n: u64,
+                    kind: u64, sew: u64, factor: u64, m: u64, k: u64, n: u64,
                     a: u64, a_stride: i64, b: u64, b_stride: i64, c: u64, c_stride: i64;
                     $($buffer),*
                 );
             }
-            let Plan { sew, factor, m, k, n, a, a_stride, b, b_stride, c, c_stride } = *plan;
-            call(sew, factor, m, k, n, a, a_stride, b, b_stride, c, c_stride, $($buffer),*)
+            let Plan { kind, sew, factor, m, k, n, .. } = *plan;
+            let Plan { a, a_stride, b, b_stride, c, c_stride, .. } = *plan;
+            call(kind, sew, factor, m, k, n, a, a_stride, b, b_stride, c, c_stride, $($buffer),*)
         }
     )*};
 }

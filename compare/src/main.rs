@@ -21,12 +21,13 @@ mod states;
 mod steps;
 mod suite;
 mod tally;
+mod transposed;
 mod words;
 
 use std::time::Instant;
 use suite::{Context, Outcome, Suite};
 
-const SUITES: [Suite; 23] = [
+const SUITES: [Suite; 24] = [
     ("bench sheet", sheet::bench_sheet),
     ("machine starts", starts::machine_starts),
     ("codes", steps::codes),
@@ -36,6 +37,7 @@ const SUITES: [Suite; 23] = [
     ("random steps", steps::random_steps),
     ("several faults", steps::several_faults),
     ("renewed sizes", renewed::renewed_sizes),
+    ("transposed tiles", transposed::transposed_tiles),
     ("sequences", steps::sequences),
     ("power-up words", powerup::power_up_words),
     ("damaged steps", damage::damaged_steps),

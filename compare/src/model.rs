@@ -1,5 +1,5 @@
 //! The second program: the rules of the scope paper and of the change requests
-//! that have landed (One, Three; Nine asks for nothing new), each as one plain
+//! that have landed (One, Two, Three; Nine asks for nothing new), each as one plain
 //! function.
 //!
 //! It is written to be read beside the paper, not to be fast. Sizes and
@@ -210,14 +210,22 @@ pub enum Matrix {
     C,
 }
 
+/// How a tile lies in memory: as in the register, or with rows and columns
+/// exchanged (request Two).
+#[derive(Clone, Copy, Debug, PartialEq, Eq)]
+pub enum Form {
+    Plain,
+    Transposed,
+}
+
 /// What an instruction does. Loads and stores name the element's width in
 /// bits, the others how many times SEW their output is wide.
 #[derive(Clone, Copy, Debug, PartialEq, Eq)]
 pub enum Kind {
     SetType,
     SetSize(Size),
-    Load(Matrix, i128),
-    Store(Matrix, i128),
+    Load(Matrix, i128, Form),
+    Store(Matrix, i128, Form),
     Multiply(i128),
     Add(i128),
     Subtract(i128),
@@ -238,11 +246,12 @@ const fn row(name: &'static str, columns: &'static str, kind: Kind) -> Row {
     Row { name, columns, kind }
 }
 
+use Form::*;
 use Kind::*;
 use Matrix::*;
 
 /// The rows that we carry out, in the listing's order.
-pub const LISTING: [Row; 50] = [
+pub const LISTING: [Row; 74] = [
     row("msettypei", "0000 mtypei 111 rd 1110111", SetType),
     row("msettype", "0001 00000000 rs1 111 rd 1110111", SetType),
     row("msettilemi", "0010 mleni 111 rd 1110111", SetSize(Size::M)),
@@ -251,30 +260,54 @@ pub const LISTING: [Row; 50] = [
     row("msettilek", "0101 00000000 rs1 111 rd 1110111", SetSize(Size::K)),
     row("msettileni", "0110 mleni 111 rd 1110111", SetSize(Size::N)),
     row("msettilen", "0111 00000000 rs1 111 rd 1110111", SetSize(Size::N)),
-    row("mlae8.m", "000001 0 rs2 rs1 000 md 1110111", Load(A, 8)),
-    row("mlae16.m", "000001 0 rs2 rs1 001 md 1110111", Load(A, 16)),
-    row("mlae32.m", "000001 0 rs2 rs1 010 md 1110111", Load(A, 32)),
-    row("mlae64.m", "000001 0 rs2 rs1 011 md 1110111", Load(A, 64)),
-    row("mlbe8.m", "000010 0 rs2 rs1 000 md 1110111", Load(B, 8)),
-    row("mlbe16.m", "000010 0 rs2 rs1 001 md 1110111", Load(B, 16)),
-    row("mlbe32.m", "000010 0 rs2 rs1 010 md 1110111", Load(B, 32)),
-    row("mlbe64.m", "000010 0 rs2 rs1 011 md 1110111", Load(B, 64)),
-    row("mlce8.m", "000000 0 rs2 rs1 000 md 1110111", Load(C, 8)),
-    row("mlce16.m", "000000 0 rs2 rs1 001 md 1110111", Load(C, 16)),
-    row("mlce32.m", "000000 0 rs2 rs1 010 md 1110111", Load(C, 32)),
-    row("mlce64.m", "000000 0 rs2 rs1 011 md 1110111", Load(C, 64)),
-    row("msae8.m", "000001 1 rs2 rs1 000 ms3 1110111", Store(A, 8)),
-    row("msae16.m", "000001 1 rs2 rs1 001 ms3 1110111", Store(A, 16)),
-    row("msae32.m", "000001 1 rs2 rs1 010 ms3 1110111", Store(A, 32)),
-    row("msae64.m", "000001 1 rs2 rs1 011 ms3 1110111", Store(A, 64)),
-    row("msbe8.m", "000010 1 rs2 rs1 000 ms3 1110111", Store(B, 8)),
-    row("msbe16.m", "000010 1 rs2 rs1 001 ms3 1110111", Store(B, 16)),
-    row("msbe32.m", "000010 1 rs2 rs1 010 ms3 1110111", Store(B, 32)),
-    row("msbe64.m", "000010 1 rs2 rs1 011 ms3 1110111", Store(B, 64)),
-    row("msce8.m", "000000 1 rs2 rs1 000 ms3 1110111", Store(C, 8)),
-    row("msce16.m", "000000 1 rs2 rs1 001 ms3 1110111", Store(C, 16)),
-    row("msce32.m", "000000 1 rs2 rs1 010 ms3 1110111", Store(C, 32)),
-    row("msce64.m", "000000 1 rs2 rs1 011 ms3 1110111", Store(C, 64)),
+    row("mlae8.m", "000001 0 rs2 rs1 000 md 1110111", Load(A, 8, Plain)),
+    row("mlae16.m", "000001 0 rs2 rs1 001 md 1110111", Load(A, 16, Plain)),
+    row("mlae32.m", "000001 0 rs2 rs1 010 md 1110111", Load(A, 32, Plain)),
+    row("mlae64.m", "000001 0 rs2 rs1 011 md 1110111", Load(A, 64, Plain)),
+    row("mlbe8.m", "000010 0 rs2 rs1 000 md 1110111", Load(B, 8, Plain)),
+    row("mlbe16.m", "000010 0 rs2 rs1 001 md 1110111", Load(B, 16, Plain)),
+    row("mlbe32.m", "000010 0 rs2 rs1 010 md 1110111", Load(B, 32, Plain)),
+    row("mlbe64.m", "000010 0 rs2 rs1 011 md 1110111", Load(B, 64, Plain)),
+    row("mlce8.m", "000000 0 rs2 rs1 000 md 1110111", Load(C, 8, Plain)),
+    row("mlce16.m", "000000 0 rs2 rs1 001 md 1110111", Load(C, 16, Plain)),
+    row("mlce32.m", "000000 0 rs2 rs1 010 md 1110111", Load(C, 32, Plain)),
+    row("mlce64.m", "000000 0 rs2 rs1 011 md 1110111", Load(C, 64, Plain)),
+    row("mlate8.m", "000101 0 rs2 rs1 000 md 1110111", Load(A, 8, Transposed)),
+    row("mlate16.m", "000101 0 rs2 rs1 001 md 1110111", Load(A, 16, Transposed)),
+    row("mlate32.m", "000101 0 rs2 rs1 010 md 1110111", Load(A, 32, Transposed)),
+    row("mlate64.m", "000101 0 rs2 rs1 011 md 1110111", Load(A, 64, Transposed)),
+    row("mlbte8.m", "000110 0 rs2 rs1 000 md 1110111", Load(B, 8, Transposed)),
+    row("mlbte16.m", "000110 0 rs2 rs1 001 md 1110111", Load(B, 16, Transposed)),
+    row("mlbte32.m", "000110 0 rs2 rs1 010 md 1110111", Load(B, 32, Transposed)),
+    row("mlbte64.m", "000110 0 rs2 rs1 011 md 1110111", Load(B, 64, Transposed)),
+    row("mlcte8.m", "000100 0 rs2 rs1 000 md 1110111", Load(C, 8, Transposed)),
+    row("mlcte16.m", "000100 0 rs2 rs1 001 md 1110111", Load(C, 16, Transposed)),
+    row("mlcte32.m", "000100 0 rs2 rs1 010 md 1110111", Load(C, 32, Transposed)),
+    row("mlcte64.m", "000100 0 rs2 rs1 011 md 1110111", Load(C, 64, Transposed)),
+    row("msae8.m", "000001 1 rs2 rs1 000 ms3 1110111", Store(A, 8, Plain)),
+    row("msae16.m", "000001 1 rs2 rs1 001 ms3 1110111", Store(A, 16, Plain)),
+    row("msae32.m", "000001 1 rs2 rs1 010 ms3 1110111", Store(A, 32, Plain)),
+    row("msae64.m", "000001 1 rs2 rs1 011 ms3 1110111", Store(A, 64, Plain)),
+    row("msbe8.m", "000010 1 rs2 rs1 000 ms3 1110111", Store(B, 8, Plain)),
+    row("msbe16.m", "000010 1 rs2 rs1 001 ms3 1110111", Store(B, 16, Plain)),
+    row("msbe32.m", "000010 1 rs2 rs1 010 ms3 1110111", Store(B, 32, Plain)),
+    row("msbe64.m", "000010 1 rs2 rs1 011 ms3 1110111", Store(B, 64, Plain)),
+    row("msce8.m", "000000 1 rs2 rs1 000 ms3 1110111", Store(C, 8, Plain)),
+    row("msce16.m", "000000 1 rs2 rs1 001 ms3 1110111", Store(C, 16, Plain)),
+    row("msce32.m", "000000 1 rs2 rs1 010 ms3 1110111", Store(C, 32, Plain)),
+    row("msce64.m", "000000 1 rs2 rs1 011 ms3 1110111", Store(C, 64, Plain)),
+    row("msate8.m", "000101 1 rs2 rs1 000 ms3 1110111", Store(A, 8, Transposed)),
+    row("msate16.m", "000101 1 rs2 rs1 001 ms3 1110111", Store(A, 16, Transposed)),
+    row("msate32.m", "000101 1 rs2 rs1 010 ms3 1110111", Store(A, 32, Transposed)),
+    row("msate64.m", "000101 1 rs2 rs1 011 ms3 1110111", Store(A, 64, Transposed)),
+    row("msbte8.m", "000110 1 rs2 rs1 000 ms3 1110111", Store(B, 8, Transposed)),
+    row("msbte16.m", "000110 1 rs2 rs1 001 ms3 1110111", Store(B, 16, Transposed)),
+    row("msbte32.m", "000110 1 rs2 rs1 010 ms3 1110111", Store(B, 32, Transposed)),
+    row("msbte64.m", "000110 1 rs2 rs1 011 ms3 1110111", Store(B, 64, Transposed)),
+    row("mscte8.m", "000100 1 rs2 rs1 000 ms3 1110111", Store(C, 8, Transposed)),
+    row("mscte16.m", "000100 1 rs2 rs1 001 ms3 1110111", Store(C, 16, Transposed)),
+    row("mscte32.m", "000100 1 rs2 rs1 010 ms3 1110111", Store(C, 32, Transposed)),
+    row("mscte64.m", "000100 1 rs2 rs1 011 ms3 1110111", Store(C, 64, Transposed)),
     row("mma.mm", "000000 0 ms2 ms1 110 md 1110111", Multiply(1)),
     row("mwma.mm", "000001 0 ms2 ms1 110 md 1110111", Multiply(2)),
     row("mqma.mm", "000010 0 ms2 ms1 110 md 1110111", Multiply(4)),
@@ -296,31 +329,7 @@ pub const LISTING: [Row; 50] = [
 ];
 
 /// The rows that we leave out, in the listing's order: name and columns.
-pub const LEFT_OUT: [(&str, &str); 48] = [
-    ("mlate8.m", "000101 0 rs2 rs1 000 md 1110111"),
-    ("mlate16.m", "000101 0 rs2 rs1 001 md 1110111"),
-    ("mlate32.m", "000101 0 rs2 rs1 010 md 1110111"),
-    ("mlate64.m", "000101 0 rs2 rs1 011 md 1110111"),
-    ("mlbte8.m", "000110 0 rs2 rs1 000 md 1110111"),
-    ("mlbte16.m", "000110 0 rs2 rs1 001 md 1110111"),
-    ("mlbte32.m", "000110 0 rs2 rs1 010 md 1110111"),
-    ("mlbte64.m", "000110 0 rs2 rs1 011 md 1110111"),
-    ("mlcte8.m", "000100 0 rs2 rs1 000 md 1110111"),
-    ("mlcte16.m", "000100 0 rs2 rs1 001 md 1110111"),
-    ("mlcte32.m", "000100 0 rs2 rs1 010 md 1110111"),
-    ("mlcte64.m", "000100 0 rs2 rs1 011 md 1110111"),
-    ("msate8.m", "000101 1 rs2 rs1 000 ms3 1110111"),
-    ("msate16.m", "000101 1 rs2 rs1 001 ms3 1110111"),
-    ("msate32.m", "000101 1 rs2 rs1 010 ms3 1110111"),
-    ("msate64.m", "000101 1 rs2 rs1 011 ms3 1110111"),
-    ("msbte8.m", "000110 1 rs2 rs1 000 ms3 1110111"),
-    ("msbte16.m", "000110 1 rs2 rs1 001 ms3 1110111"),
-    ("msbte32.m", "000110 1 rs2 rs1 010 ms3 1110111"),
-    ("msbte64.m", "000110 1 rs2 rs1 011 ms3 1110111"),
-    ("mscte8.m", "000100 1 rs2 rs1 000 ms3 1110111"),
-    ("mscte16.m", "000100 1 rs2 rs1 001 ms3 1110111"),
-    ("mscte32.m", "000100 1 rs2 rs1 010 ms3 1110111"),
-    ("mscte64.m", "000100 1 rs2 rs1 011 ms3 1110111"),
+pub const LEFT_OUT: [(&str, &str); 24] = [
     ("mfma.mm", "000000 1 ms2 ms1 110 md 1110111"),
     ("mfwma.mm", "000001 1 ms2 ms1 110 md 1110111"),
     ("mfaddc.mm", "000100 1 00000 ms1 110 md 1110111"),
@@ -487,7 +496,7 @@ impl Instruction {
     fn md(&self) -> Register {
         let number = self.operand("md").or(self.operand("ms3")).expect("a register operand");
         match self.row.kind {
-            Load(A | B, _) | Store(A | B, _) => Register::Tile(number),
+            Load(A | B, ..) | Store(A | B, ..) => Register::Tile(number),
             _ => Register::Accumulator(number),
         }
     }
@@ -620,12 +629,22 @@ fn asked_size(instruction: &Instruction, scalars: &[u64], maximum: i128) -> Opti
 // ---------------------------------------------------------------------------
 // Tiles
 
-/// Rows and columns of a matrix, by name.
+/// Rows and columns of a matrix in a register, by name.
 pub fn shape(matrix: Matrix) -> (Size, Size) {
     match matrix {
         A => (Size::M, Size::K),
         B => (Size::K, Size::N),
         C => (Size::M, Size::N),
+    }
+}
+
+/// Rows and columns of a matrix in memory: of a transposed load or store the
+/// other way round.
+pub fn memory_shape(matrix: Matrix, form: Form) -> (Size, Size) {
+    let (rows, columns) = shape(matrix);
+    match form {
+        Plain => (rows, columns),
+        Transposed => (columns, rows),
     }
 }
 
@@ -647,7 +666,7 @@ fn tile(machine: &Machine, matrix: Matrix, register: Register, width: i128) -> T
 fn output_width(instruction: &Instruction, machine: &Machine) -> i128 {
     match instruction.row.kind {
         SetType | SetSize(_) => 0,
-        Load(_, eew) | Store(_, eew) => eew,
+        Load(_, eew, _) | Store(_, eew, _) => eew,
         Multiply(f) | Add(f) | Subtract(f) | ReverseSubtract(f) | Scale(f) => {
             f * sew(machine.mtype)
         }
@@ -675,7 +694,7 @@ pub fn sources(instruction: &Instruction, machine: &Machine, scalars: &[u64]) ->
     let c_has_no_element = machine.tile_m == 0 || machine.tile_n == 0;
     match instruction.row.kind {
         SetType | SetSize(_) | Load(..) => vec![],
-        Store(matrix, _) => vec![tile(machine, matrix, instruction.md(), width)],
+        Store(matrix, ..) => vec![tile(machine, matrix, instruction.md(), width)],
         Multiply(_) if c_has_no_element => vec![],
         Multiply(_) => vec![
             tile(machine, A, instruction.ms1(), sew),
@@ -691,32 +710,25 @@ pub fn sources(instruction: &Instruction, machine: &Machine, scalars: &[u64]) ->
     }
 }
 
-/// Address of the first byte of element (i, j) of a load or store.
-fn element_address(instruction: &Instruction, scalars: &[u64], i: i128, j: i128) -> i128 {
-    let width = match instruction.row.kind {
-        Load(_, eew) | Store(_, eew) => eew,
-        _ => unreachable!("only loads and stores have addresses"),
+/// The tile of a load or store as it lies in memory.
+fn moved_tile(instruction: &Instruction, machine: &Machine, scalars: &[u64]) -> Option<Placed> {
+    let (Load(matrix, width, form) | Store(matrix, width, form)) = instruction.row.kind else {
+        return None;
     };
-    let base = scalar(scalars, instruction.get("rs1")) as i128;
-    let stride = scalar(scalars, instruction.get("rs2")) as i64 as i128;
-    base + i * stride + j * width / 8
+    let (rows, columns) = memory_shape(matrix, form);
+    Some(Placed {
+        address: scalar(scalars, instruction.get("rs1")) as i128,
+        stride: scalar(scalars, instruction.get("rs2")) as i64 as i128,
+        rows: tile_size(machine, rows),
+        columns: tile_size(machine, columns),
+        width,
+    })
 }
 
-/// Every address that a load or store touches, row by row.
+/// Every address that a load or store touches, memory row by memory row.
 fn addresses(instruction: &Instruction, machine: &Machine, scalars: &[u64]) -> Vec<i128> {
-    let (matrix, width) = match instruction.row.kind {
-        Load(matrix, eew) | Store(matrix, eew) => (matrix, eew),
-        _ => return vec![],
-    };
-    let (rows, columns) = shape(matrix);
-    let mut touched = Vec::new();
-    for i in 0..tile_size(machine, rows) {
-        for j in 0..tile_size(machine, columns) {
-            let first = element_address(instruction, scalars, i, j);
-            touched.extend(first..first + width / 8);
-        }
-    }
-    touched
+    let moved = moved_tile(instruction, machine, scalars);
+    moved.iter().flat_map(|placed| placed.bytes()).map(|(address, _)| address).collect()
 }
 
 pub fn sealed(machine: &Machine, address: i128) -> bool {
@@ -733,8 +745,8 @@ pub fn width_rule_broken(kind: Kind, mtype: u64) -> bool {
     let maccq = maccq(mtype);
     match kind {
         SetType | SetSize(_) => false,
-        Load(A | B, eew) | Store(A | B, eew) => eew != sew,
-        Load(C, eew) | Store(C, eew) => {
+        Load(A | B, eew, _) | Store(A | B, eew, _) => eew != sew,
+        Load(C, eew, _) | Store(C, eew, _) => {
             let fits = eew == sew || eew == 2 * sew || (maccq && eew == 4 * sew);
             !fits || eew > ELEN
         }
@@ -750,9 +762,9 @@ pub fn width_rule_broken(kind: Kind, mtype: u64) -> bool {
 fn size_too_large(instruction: &Instruction, machine: &Machine) -> bool {
     let used: &[Size] = match instruction.row.kind {
         SetType | SetSize(_) => &[],
-        Load(A, _) | Store(A, _) => &[Size::M, Size::K],
-        Load(B, _) | Store(B, _) => &[Size::K, Size::N],
-        Load(C, _) | Store(C, _) => &[Size::M, Size::N],
+        Load(A, ..) | Store(A, ..) => &[Size::M, Size::K],
+        Load(B, ..) | Store(B, ..) => &[Size::K, Size::N],
+        Load(C, ..) | Store(C, ..) => &[Size::M, Size::N],
         Multiply(_) => &[Size::M, Size::K, Size::N],
         Add(_) | Subtract(_) | ReverseSubtract(_) | Scale(_) => &[Size::M, Size::N],
     };
@@ -853,22 +865,26 @@ fn set_size(instruction: &Instruction, size: Size, machine: &mut Machine, scalar
     set_scalar(scalars, instruction.get("rd"), new_size as u64);
 }
 
-/// The bytes that a load or store moves, row by row: each one's address and its
-/// place among the register bytes.
+/// The bytes that a load or store moves, memory row by memory row: each one's
+/// address and its place among the register bytes.
 fn moved_bytes(
     instruction: &Instruction,
     machine: &Machine,
     scalars: &[u64],
 ) -> Vec<(usize, usize)> {
-    let (Load(matrix, width) | Store(matrix, width)) = instruction.row.kind else {
+    let (Load(_, width, form) | Store(_, width, form)) = instruction.row.kind else {
         return vec![];
     };
-    let tile = tile(machine, matrix, instruction.md(), width);
+    let placed = moved_tile(instruction, machine, scalars).expect("a load or store");
     let mut moved = Vec::new();
-    for i in 0..tile.rows {
-        for j in 0..tile.columns {
-            let address = element_address(instruction, scalars, i, j) as usize;
-            let places = register_element(machine, tile.register, i, j, width);
+    for row in 0..placed.rows {
+        for column in 0..placed.columns {
+            let (i, j) = match form {
+                Plain => (row, column),
+                Transposed => (column, row),
+            };
+            let address = placed.element(row, column) as usize;
+            let places = register_element(machine, instruction.md(), i, j, width);
             moved.extend((address..).zip(places));
         }
     }
@@ -955,8 +971,14 @@ fn scale(instruction: &Instruction, bench: &mut Bench, scalars: &[u64]) {
 // ---------------------------------------------------------------------------
 // The product run
 
+/// The kinds of a product run: A as it is, and A kept transposed (request Two).
+pub const PRODUCT: u64 = 0;
+pub const A_TRANSPOSED: u64 = 1;
+pub const KINDS: [u64; 2] = [PRODUCT, A_TRANSPOSED];
+
 #[derive(Clone, Copy, Debug, PartialEq, Eq)]
 pub struct Plan {
+    pub kind: u64,
     pub sew: u64,
     pub factor: u64,
     pub m: u64,
@@ -970,7 +992,7 @@ pub struct Plan {
     pub c_stride: i64,
 }
 
-/// A matrix of a plan in memory.
+/// A matrix or a tile in memory, by its rows there.
 #[derive(Clone, Copy, Debug)]
 pub struct Placed {
     pub address: i128,
@@ -981,8 +1003,10 @@ pub struct Placed {
 }
 
 impl Plan {
+    /// A matrix in memory; A kept transposed has k rows of m elements.
     pub fn placed(&self, matrix: Matrix) -> Placed {
         let (address, stride, rows, columns, times) = match matrix {
+            A if self.kind == A_TRANSPOSED => (self.a, self.a_stride, self.k, self.m, 1),
             A => (self.a, self.a_stride, self.m, self.k, 1),
             B => (self.b, self.b_stride, self.k, self.n, 1),
             C => (self.c, self.c_stride, self.m, self.n, self.factor),
@@ -1029,7 +1053,8 @@ pub struct Run {
 }
 
 pub fn plan_numbers_bad(plan: &Plan) -> bool {
-    ![8, 16, 32].contains(&plan.sew)
+    !KINDS.contains(&plan.kind)
+        || ![8, 16, 32].contains(&plan.sew)
         || ![1, 2, 4].contains(&plan.factor)
         || plan.factor as i128 * plan.sew as i128 > ELEN
         || [plan.m, plan.k, plan.n].iter().any(|&size| size > 1024)
@@ -1120,7 +1145,10 @@ fn steps_of(plan: &Plan, machine: &Machine) -> Vec<Handed> {
             steps.push(reckon(clear, 0));
             for l in (0..k).step_by(block(Size::K)) {
                 steps.push(set("msettileki", k - l));
-                steps.push(move_tile(format!("mlae{sew}.m"), 0, plan.placed(A), i, l));
+                steps.push(match plan.kind {
+                    A_TRANSPOSED => move_tile(format!("mlate{sew}.m"), 0, plan.placed(A), l, i),
+                    _ => move_tile(format!("mlae{sew}.m"), 0, plan.placed(A), i, l),
+                });
                 steps.push(move_tile(format!("mlbe{sew}.m"), 1, plan.placed(B), l, j));
                 steps.push(reckon(multiply_words, 1));
             }
@@ -1193,12 +1221,13 @@ pub fn elements(placed: Placed, memory: &[u8]) -> Vec<Vec<i128>> {
 pub fn product(plan: &Plan, memory: &[u8]) -> Vec<Vec<i128>> {
     let a = elements(plan.placed(A), memory);
     let b = elements(plan.placed(B), memory);
+    let of_a = |i: usize, l: usize| if plan.kind == A_TRANSPOSED { a[l][i] } else { a[i][l] };
     let mut c = vec![vec![0; plan.n as usize]; plan.m as usize];
     for i in 0..plan.m as usize {
         for j in 0..plan.n as usize {
             let mut sum: i128 = 0;
             for l in 0..plan.k as usize {
-                sum += a[i][l] * b[l][j];
+                sum += of_a(i, l) * b[l][j];
             }
             let mut bytes = [0; 4];
             let bytes = &mut bytes[..(plan.factor * plan.sew / 8) as usize];

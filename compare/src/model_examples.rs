@@ -24,6 +24,7 @@ fn plan(sew: u64, factor: u64, m: u64, k: u64, n: u64) -> Plan {
     let (a, b) = (0, m * a_row);
     let c = b + k * b_row;
     Plan {
+        kind: PRODUCT,
         sew,
         factor,
         m,
@@ -38,7 +39,14 @@ fn plan(sew: u64, factor: u64, m: u64, k: u64, n: u64) -> Plan {
     }
 }
 
-/// Runs A times B, given by rows, on MLEN 256 / RLEN 64: turns answered 0, C.
+/// The same with A kept transposed, in the same bytes.
+fn transposed_plan(sew: u64, factor: u64, m: u64, k: u64, n: u64) -> Plan {
+    let a_stride = (m * sew / 8) as i64;
+    Plan { kind: A_TRANSPOSED, a_stride, ..plan(sew, factor, m, k, n) }
+}
+
+/// Runs A times B, given by rows of memory, on MLEN 256 / RLEN 64: turns
+/// answered 0, C.
 fn run_product(plan: &Plan, a: &[i128], b: &[i128]) -> (u64, Vec<Vec<i128>>) {
     let mut bench = started(4096);
     for (matrix, values) in [(A, a), (B, b)] {
@@ -202,6 +210,51 @@ fn product_example() {
 }
 
 #[test]
+fn product_with_a_transposed() {
+    // The example's A by columns: 1 -4 / 2 5 / 3 -6.
+    let kept = transposed_plan(8, 4, 2, 3, 2);
+    let (done, c) = run_product(&kept, &[1, -4, 2, 5, 3, -6], &[7, 8, 9, 10, 11, 12]);
+    assert_eq!(done, 9);
+    assert_eq!(c, [[58, 64], [-49, -54]]);
+    // 5 by 5 by 1: blocks of 4 and 1 in rows and in terms.
+    let a: Vec<i128> = (1..=25).collect();
+    let (done, c) = run_product(&transposed_plan(16, 2, 5, 5, 1), &a, &[1, 10, 100, 1000, 10000]);
+    assert_eq!(done, 1 + 2 * (1 + 1 * (3 + 4 * 2)));
+    // Column i of A's memory, 1 + i, 6 + i, .., 21 + i.
+    assert_eq!(c, [[227161], [238272], [249383], [260494], [271605]]);
+}
+
+#[test]
+fn words_with_a_transposed() {
+    let bench = started(64);
+    let kept = Plan { a: 7, a_stride: 5, b: 40, c: 50, ..transposed_plan(8, 1, 5, 5, 1) };
+    let run = run_start(&kept, &bench).expect("accepted");
+    // mlate8.m to tr0 from x10 with x11: A(0, 0), A(0, 4), A(4, 0), A(4, 4).
+    let loads: Vec<_> = run.steps.iter().filter(|step| step.word == 0x14B50077).collect();
+    let addresses: Vec<u64> = loads.iter().map(|step| step.scalar_10).collect();
+    assert_eq!(addresses, [7, 27, 11, 31]);
+    assert!(loads.iter().all(|step| step.scalar_11 == 5));
+    assert!(run.steps.iter().all(|step| step.word != 0x04B50077));
+}
+
+#[test]
+fn starts_with_a_transposed() {
+    let bench = started(64);
+    // A is 1 by 3: three rows of one byte in memory, at 40, 50 and 60.
+    let kept = Plan { a: 40, a_stride: 10, b: 0, c: 20, ..transposed_plan(8, 1, 1, 3, 1) };
+    assert!(run_start(&kept, &bench).is_ok());
+    assert!(run_start(&Plan { a: 43, ..kept }, &bench).is_ok());
+    assert_eq!(run_start(&Plan { a: 44, ..kept }, &bench), Err(6));
+    assert!(run_start(&Plan { kind: PRODUCT, a: 44, ..kept }, &bench).is_ok());
+    assert_eq!(run_start(&Plan { c: 50, ..kept }, &bench), Err(9));
+    assert!(run_start(&Plan { c: 41, ..kept }, &bench).is_ok());
+    assert_eq!(run_start(&Plan { kind: PRODUCT, c: 41, ..kept }, &bench), Err(9));
+    for kind in [2, 3, 1 << 32, u64::MAX] {
+        assert_eq!(run_start(&Plan { kind, ..kept }, &bench), Err(8));
+    }
+}
+
+#[test]
 fn size_above_a_maximum_after_a_change_of_sew() {
     let mut bench = started(4096);
     let mut scalars = vec![0; 32];
@@ -265,6 +318,145 @@ fn later_rows_of_a_store_stay() {
     scalars[2] = -1i64 as u64;
     assert_eq!(number(store, &mut bench, &mut scalars), 0);
     assert_eq!(bench.memory, [5, 6, 4, 2]);
+}
+
+/// A load or store with an address and a stride: its answer and the bench after.
+fn moved(word: u32, (address, stride): (u64, i64), bench: &Bench) -> (Answer, Bench) {
+    let mut after = bench.clone();
+    let mut scalars = vec![0; 32];
+    scalars[1] = address;
+    scalars[2] = stride as u64;
+    // rs1 x1, rs2 x2.
+    let answer = step(word | 1 << 15 | 2 << 20, &mut after, &mut scalars);
+    (answer, after)
+}
+
+/// Memory 1, 2, 3, .. of some length, and a machine of these sizes.
+fn counting(memory: usize, [tile_m, tile_k, tile_n]: [u64; 3]) -> Bench {
+    let mut bench = started(memory);
+    bench.memory = (1..=memory as u8).collect();
+    bench.machine = Machine { tile_m, tile_k, tile_n, ..bench.machine };
+    bench
+}
+
+#[test]
+fn transposed_loads() {
+    // A is 3 by 2; in memory it has 2 rows of 3: 1 2 3 and 5 6 7.
+    let bench = counting(8, [3, 2, 0]);
+    let (answer, after) = moved(0x140000F7, (0, 4), &bench);
+    assert_eq!(answer.number, 0);
+    let mut expected = bench.clone();
+    for (place, value) in [(32, 1), (33, 5), (40, 2), (41, 6), (48, 3), (49, 7)] {
+        expected.registers[place] = value;
+        expected.marks[place] = 1;
+    }
+    assert_eq!(after, expected);
+
+    // B is 2 by 3 of 16 bits; in memory it has 3 rows of 2, downward: 9 10 11 12,
+    // 5 6 7 8, 1 2 3 4.
+    let mut bench = counting(12, [0, 2, 3]);
+    bench.machine.mtype = 1;
+    let (answer, after) = moved(0x18001077, (8, -4), &bench);
+    assert_eq!(answer.number, 0);
+    assert_eq!(after.registers[..6], [9, 10, 5, 6, 1, 2]);
+    assert_eq!(after.registers[8..14], [11, 12, 7, 8, 3, 4]);
+    assert_eq!(after.marks.iter().filter(|&&mark| mark == 1).count(), 12);
+
+    // C is 2 by 3 at 16 bits; in memory it has 3 rows of 2 which overlap: 1 2 3 4,
+    // 3 4 5 6, 5 6 7 8.
+    let bench = counting(8, [2, 0, 3]);
+    let (answer, after) = moved(0x10001077, (0, 2), &bench);
+    assert_eq!(answer.number, 0);
+    assert_eq!(after.registers[256..262], [1, 2, 3, 4, 5, 6]);
+    assert_eq!(after.registers[288..294], [3, 4, 5, 6, 7, 8]);
+}
+
+/// tr0 holds 1 2 / 3 4 / 5 6 as a 3 by 2 tile of 8 bits; memory is 0.
+fn three_by_two(memory: usize) -> Bench {
+    let mut bench = counting(0, [3, 2, 0]);
+    bench.memory = vec![0; memory];
+    for (i, row) in [[1, 2], [3, 4], [5, 6]].iter().enumerate() {
+        bench.registers[8 * i..8 * i + 2].copy_from_slice(row);
+        bench.marks[8 * i..8 * i + 2].fill(1);
+    }
+    bench
+}
+
+#[test]
+fn transposed_stores() {
+    const MSATE8: u32 = 0x16000077;
+    let bench = three_by_two(8);
+    let (answer, after) = moved(MSATE8, (1, 4), &bench);
+    assert_eq!(answer.number, 0);
+    assert_eq!(after.memory, [0, 1, 3, 5, 0, 2, 4, 6]);
+    let (_, after) = moved(MSATE8, (4, -4), &bench);
+    assert_eq!(after.memory, [2, 4, 6, 0, 1, 3, 5, 0]);
+    // One byte past the end, and one before address 0; 2 rows of 3, not 3 of 2.
+    assert_eq!(moved(MSATE8, (2, 4), &bench).0.number, 6);
+    assert_eq!(moved(MSATE8, (3, -4), &bench).0.number, 6);
+    assert_eq!(moved(MSATE8, (0, 5), &bench).0.number, 0);
+    assert_eq!(moved(MSATE8, (0, 6), &bench).0.number, 6);
+    assert_eq!(moved(MSATE8, (5, i64::MIN), &bench).0.number, 6);
+    // The seal on one byte, and between the rows.
+    let sealed = |start| {
+        let machine = Machine { seal_start: start, seal_length: 1, ..bench.machine };
+        let sealed = Bench { machine, ..bench.clone() };
+        let (answer, after) = moved(MSATE8, (1, 4), &sealed);
+        assert!(answer.number == 0 || after == sealed);
+        answer.number
+    };
+    assert_eq!([0, 1, 2, 3, 4, 5, 6, 7].map(sealed), [0, 7, 7, 7, 0, 7, 7, 7]);
+}
+
+#[test]
+fn later_rows_of_a_transposed_store_stay() {
+    // Memory's rows 1 3 5 and 2 4 6, upward and downward by one byte.
+    let bench = three_by_two(4);
+    assert_eq!(moved(0x16000077, (0, 1), &bench).1.memory, [1, 2, 4, 6]);
+    assert_eq!(moved(0x16000077, (1, -1), &bench).1.memory, [2, 4, 6, 5]);
+    assert_eq!(moved(0x16000077, (0, 0), &bench).1.memory, [2, 4, 6, 0]);
+}
+
+#[test]
+fn unwritten_elements_of_a_transposed_store() {
+    // (0, 1) comes before (1, 0) in the register, not in memory.
+    let mut bench = three_by_two(0);
+    bench.marks[8] = 0;
+    bench.marks[1] = 0;
+    let at = |row, column| Answer { number: 5, row, column };
+    assert_eq!(moved(0x16000077, (0, 1), &bench).0, at(0, 1));
+    bench.marks[1] = 1;
+    assert_eq!(moved(0x16000077, (0, 1), &bench).0, at(1, 0));
+    // No element: nothing to read, no address to check.
+    for [tile_m, tile_k] in [[0, 2], [3, 0]] {
+        bench.machine = Machine { tile_m, tile_k, ..bench.machine };
+        let (answer, after) = moved(0x16000077, (u64::MAX, i64::MIN), &bench);
+        assert_eq!((answer.number, after), (0, bench.clone()));
+    }
+}
+
+#[test]
+fn sizes_of_transposed_words() {
+    // tile_n 5 at SEW 16, where its maximum is 4: B and C use it, A doesn't.
+    let mut bench = counting(100, [1, 1, 5]);
+    bench.machine.mtype = 1;
+    assert_eq!(moved(0x14001077, (0, 8), &bench).0.number, 0);
+    assert_eq!(moved(0x18001077, (0, 8), &bench).0.number, 4);
+    assert_eq!(moved(0x10001077, (0, 8), &bench).0.number, 4);
+    bench.machine.mtype = MILL;
+    assert_eq!(moved(0x14001077, (0, 8), &bench).0.number, 2);
+}
+
+/// Request Two's theorem on one tile: a plain load, then the transposed store.
+#[test]
+fn plain_load_then_transposed_store() {
+    // B is 2 by 3: 1 2 3 / 4 5 6 at stride 3; stored as 3 rows of 2 at 7, stride 3.
+    let bench = counting(16, [0, 2, 3]);
+    let (answer, loaded) = moved(0x08000077, (0, 3), &bench);
+    assert_eq!(answer.number, 0);
+    let (answer, stored) = moved(0x1A000077, (7, 3), &loaded);
+    assert_eq!(answer.number, 0);
+    assert_eq!(stored.memory, [1, 2, 3, 4, 5, 6, 7, 1, 4, 10, 2, 5, 13, 3, 6, 16]);
 }
 
 #[test]
@@ -346,14 +538,6 @@ fn bad_words() {
         (10, 0x14000076, "mlate8.m with opcode 1110110"),
         (10, 0x04000437, "mlae8.m with opcode 0110111, md 8"),
         // Left out, whatever the registers.
-        (11, 0x14000077, "mlate8.m"),
-        (11, 0x14000FF7, "mlate8.m, md 31"),
-        (11, 0x14003077, "mlate64.m"),
-        (11, 0x18002077, "mlbte32.m"),
-        (11, 0x10001077, "mlcte16.m"),
-        (11, 0x16000077, "msate8.m"),
-        (11, 0x1A000077, "msbte8.m"),
-        (11, 0x12003077, "mscte64.m"),
         (11, 0x02006077, "mfma.mm"),
         (11, 0x03FFEFF7, "mfma.mm, all registers 31"),
         (11, 0x06006077, "mfwma.mm"),
@@ -398,6 +582,13 @@ fn bad_words() {
         (12, 0x0A001477, "msbe16.m, ms3 8"),
         (12, 0x00000177, "mlce8.m, md 2"),
         (12, 0x02003177, "msce64.m, ms3 2"),
+        (12, 0x14000477, "mlate8.m, md 8"),
+        (12, 0x14000FF7, "mlate8.m, md 31"),
+        (12, 0x18003477, "mlbte64.m, md 8"),
+        (12, 0x10000177, "mlcte8.m, md 2"),
+        (12, 0x16002477, "msate32.m, ms3 8"),
+        (12, 0x1A001477, "msbte16.m, ms3 8"),
+        (12, 0x12003177, "mscte64.m, ms3 2"),
         (12, 0x00006177, "mma.mm, md 2"),
         (12, 0x00046077, "mma.mm, ms1 8"),
         (12, 0x00806077, "mma.mm, ms2 8"),
@@ -428,6 +619,22 @@ fn good_words_at_the_bounds() {
         (0, 0x100FFFF7, "msettype, rs1 31, rd 31"),
         (0, 0x0FFFFFF7, "msettypei, all immediate bits, rd 31"),
         (3, 0x04003077, "mlae64.m is ours, but too wide"),
+        (0, 0x140003F7, "mlate8.m, md 7"),
+        (0, 0x180003F7, "mlbte8.m, md 7"),
+        (0, 0x100000F7, "mlcte8.m, md 1"),
+        (0, 0x100010F7, "mlcte16.m, md 1: twice SEW"),
+        (0, 0x160003F7, "msate8.m, ms3 7"),
+        (0, 0x1A0003F7, "msbte8.m, ms3 7"),
+        (0, 0x120010F7, "mscte16.m, ms3 1: twice SEW"),
+        (3, 0x14001077, "mlate16.m, SEW 8"),
+        (3, 0x1A002077, "msbte32.m, SEW 8"),
+        (3, 0x10002077, "mlcte32.m, SEW 8 without maccq"),
+        (3, 0x14003077, "mlate64.m"),
+        (3, 0x18003077, "mlbte64.m"),
+        (3, 0x10003077, "mlcte64.m"),
+        (3, 0x16003077, "msate64.m"),
+        (3, 0x1A003077, "msbte64.m"),
+        (3, 0x12003077, "mscte64.m"),
     ] {
         let mut bench = started(0);
         let mut scalars = vec![0; 32];
@@ -456,14 +663,14 @@ fn count_words(middle: u32, low: u32) -> [u32; 5] {
 #[test]
 fn numbers_of_words() {
     // Ours, with bits 24..20 where they are free: four settings by immediate
-    // (with bits 27..25 too) and four by scalar, 24 loads and stores, 3
+    // (with bits 27..25 too) and four by scalar, 48 loads and stores, 3
     // multiplies (ms2 0 to 7), 9 adds and subtracts, 6 multiplies by a number.
     let settings = 4 * 256 + 4;
-    let moves = 24 * 32;
+    let moves = 48 * 32;
     let element_wise = 9 + 6 * 32;
-    // Left out: 24 transposed loads and stores and 4 float words with bits
-    // 24..20 free, 6 float words and 14 conversions without.
-    let left_out = (24 + 4) * 32 + 6 + 14;
+    // Left out: 4 float words with bits 24..20 free, 6 float words and 14
+    // conversions without.
+    let left_out = 4 * 32 + 6 + 14;
     let rest = |done: u32, registers: u32| (1 << 15) - done - registers - left_out;
 
     let done = settings + moves + 3 * 8 + element_wise;
@@ -479,6 +686,7 @@ fn numbers_of_words() {
 fn reasons_of_answer_9() {
     let bench = started(256);
     let good = Plan {
+        kind: PRODUCT,
         sew: 8,
         factor: 1,
         m: 2,

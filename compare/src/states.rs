@@ -155,12 +155,12 @@ pub fn place_rows(random: &mut Random, rows: i128, row_bytes: i128) -> (u64, i64
     (address as u64, stride, (extent + slack) as usize)
 }
 
-/// Bytes in a row of the tile that a load or store moves, and its rows.
+/// Rows in memory of the tile that a load or store moves, and the bytes of one.
 pub fn moved_rows(kind: Kind, machine: &Machine) -> Option<(i128, i128)> {
-    let (Kind::Load(matrix, eew) | Kind::Store(matrix, eew)) = kind else {
+    let (Kind::Load(matrix, eew, form) | Kind::Store(matrix, eew, form)) = kind else {
         return None;
     };
-    let (rows, columns) = model::shape(matrix);
+    let (rows, columns) = model::memory_shape(matrix, form);
     let row_bytes = model::tile_size(machine, columns) * eew / 8;
     Some((model::tile_size(machine, rows), row_bytes))
 }
@@ -179,7 +179,7 @@ fn good_operands(random: &mut Random, kind: Kind) -> Vec<(&'static str, u32)> {
     let tile = [random.below(8) as u32, random.below(8) as u32, random.below(8) as u32];
     let accumulator = [random.below(2) as u32, random.below(2) as u32];
     let (md, ms1) = match kind {
-        Kind::Load(Matrix::C, _) | Kind::Store(Matrix::C, _) => (accumulator[0], 0),
+        Kind::Load(Matrix::C, ..) | Kind::Store(Matrix::C, ..) => (accumulator[0], 0),
         Kind::Load(..) | Kind::Store(..) => (tile[0], 0),
         Kind::Multiply(_) => (accumulator[0], tile[1]),
         _ => (accumulator[0], accumulator[1]),
@@ -222,9 +222,9 @@ pub fn any_row(random: &mut Random) -> &'static Row {
 pub fn register_fields(kind: Kind) -> Vec<(&'static str, u32)> {
     match kind {
         Kind::SetType | Kind::SetSize(_) => vec![],
-        Kind::Load(Matrix::C, _) => vec![("md", 2)],
+        Kind::Load(Matrix::C, ..) => vec![("md", 2)],
         Kind::Load(..) => vec![("md", 8)],
-        Kind::Store(Matrix::C, _) => vec![("ms3", 2)],
+        Kind::Store(Matrix::C, ..) => vec![("ms3", 2)],
         Kind::Store(..) => vec![("ms3", 8)],
         Kind::Multiply(_) => vec![("md", 2), ("ms1", 8), ("ms2", 8)],
         _ => vec![("md", 2), ("ms1", 2)],

@@ -157,7 +157,7 @@ pub fn following_word(random: &mut Random, lent: &mut Lent) -> u32 {
     let tile = random.below(3) as u32;
     let accumulator = random.below(2) as u32;
     let (md, ms1) = match row.kind {
-        Kind::Load(model::Matrix::C, _) | Kind::Store(model::Matrix::C, _) => (accumulator, 0),
+        Kind::Load(model::Matrix::C, ..) | Kind::Store(model::Matrix::C, ..) => (accumulator, 0),
         Kind::Load(..) | Kind::Store(..) => (tile, 0),
         Kind::Multiply(_) => (accumulator, random.below(3) as u32),
         _ => (accumulator, random.below(2) as u32),

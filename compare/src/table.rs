@@ -15,7 +15,7 @@
 #[allow(dead_code)] // only which answers can be met is asked here
 mod tally;
 
-use model::{name_by_fixed_bits, Kind, Matrix, Row, Size, LEFT_OUT, LISTING};
+use model::{name_by_fixed_bits, Form, Kind, Matrix, Row, Size, LEFT_OUT, LISTING};
 
 const BLOCKS: usize = 16;
 const ROWS: usize = 8;
@@ -24,10 +24,10 @@ const FORMS: usize = 8;
 /// The numbers that the listing prints, ours and then those left out, each in
 /// its order. The transposed loads and stores have 9 to 32 again; 100 is added.
 fn numbers() -> impl Iterator<Item = u8> {
-    let ours =
-        (1..=32).chain([33, 35, 37, 38, 40, 42, 43, 45, 47, 48, 50, 52, 53, 55, 57, 58, 59, 60]);
-    let floats = [34, 36, 39, 41, 44, 46, 49, 51, 54, 56];
-    let left_out = (109..=132).chain(floats).chain(61..=74);
+    let moves = (9..=20).chain(109..=120).chain(21..=32).chain(121..=132);
+    let arithmetic = [33, 35, 37, 38, 40, 42, 43, 45, 47, 48, 50, 52, 53, 55, 57, 58, 59, 60];
+    let ours = (1..=8).chain(moves).chain(arithmetic);
+    let left_out = [34, 36, 39, 41, 44, 46, 49, 51, 54, 56].into_iter().chain(61..=74);
     ours.chain(left_out)
 }
 
@@ -107,6 +107,16 @@ fn tile(matrix: Matrix, register: &str) -> String {
     }
 }
 
+/// What a load or store reaches of memory; a transposed tile has the other shape.
+fn memory(matrix: Matrix, form: Form) -> &'static str {
+    match (form, matrix) {
+        (Form::Plain, _) => "memory",
+        (Form::Transposed, Matrix::A) => "memory, k by m",
+        (Form::Transposed, Matrix::B) => "memory, n by k",
+        (Form::Transposed, Matrix::C) => "memory, n by m",
+    }
+}
+
 /// What an instruction reads and what it writes.
 fn reads_writes(row: &Row) -> (String, String) {
     let has = |operand: &str| model::operands_of(row.name).iter().any(|o| o.0 == operand);
@@ -121,8 +131,12 @@ fn reads_writes(row: &Row) -> (String, String) {
             };
             (if has("rs1") { "rs1" } else { "-" }.into(), format!("{tile}, rd"))
         }
-        Kind::Load(matrix, _) => ("rs1, rs2, memory".into(), tile(matrix, "md")),
-        Kind::Store(matrix, _) => (format!("rs1, rs2, {}", tile(matrix, "ms3")), "memory".into()),
+        Kind::Load(matrix, _, form) => {
+            (format!("rs1, rs2, {}", memory(matrix, form)), tile(matrix, "md"))
+        }
+        Kind::Store(matrix, _, form) => {
+            (format!("rs1, rs2, {}", tile(matrix, "ms3")), memory(matrix, form).into())
+        }
         Kind::Multiply(_) => (format!("tr[ms1], m by k, tr[ms2], k by n, {acc}"), acc),
         Kind::Scale(_) if has("rs2") => ("acc[ms1], m by n, rs2".into(), acc),
         Kind::Scale(_) => ("acc[ms1], m by n".into(), acc),
@@ -136,7 +150,7 @@ fn reads_writes(row: &Row) -> (String, String) {
 fn answers(row: &Row) -> String {
     let family = tally::family_of(model::assemble(row.name, &[]));
     let width = match row.kind {
-        Kind::Load(_, width) | Kind::Store(_, width) => width,
+        Kind::Load(_, width, _) | Kind::Store(_, width, _) => width,
         _ => 0,
     };
     let given = (0..tally::ANSWERS).filter(|&number| match number {

@@ -24,11 +24,12 @@
 //! - 11: every family that is left out.
 //! - 12: every family of ours but the settings, whose fields name scalars.
 //!
-//! A run's start, and a whole run, gives 0, 6, 8 or 9, asking for the next step 0
-//! or 8. A turn never gives 1, 10, 11 or 12, since every word of a run is good; it
-//! gives 2 to 7 only on a machine or memory that was changed between turns.
+//! The calls of a run are counted by its kind. A start, and a whole run, gives 0, 6,
+//! 8 or 9, asking for the next step 0 or 8, all of them 8 for any other kind. A turn
+//! never gives 1, 10, 11 or 12, since every word of a run is good; it gives 2 to 7
+//! only on a machine or memory that was changed between turns.
 
-use model::{Kind, LEFT_OUT, LISTING};
+use model::{Kind, KINDS, LEFT_OUT, LISTING};
 use std::collections::BTreeMap;
 
 #[derive(Clone, Copy, Debug, PartialEq, Eq, PartialOrd, Ord)]
@@ -37,25 +38,29 @@ pub enum Call {
     /// By the name of the family's first row.
     Family(&'static str),
     OtherWord,
-    RunStart,
-    RunNext,
-    RunTurn,
-    WholeRun,
+    // Of a run, by its kind.
+    RunStart(u64),
+    RunNext(u64),
+    RunTurn(u64),
+    WholeRun(u64),
 }
 
 #[derive(Default)]
 pub struct Tally {
     counts: BTreeMap<(Call, u64), u64>,
     pub steps: u64,
-    /// Runs compared after each turn.
-    pub runs: u64,
-    /// How often each reason of answer 9 was met alone.
-    pub overlaps: [u64; 4],
+    /// Runs compared after each turn, by kind.
+    pub runs: [u64; KINDS.len()],
+    /// How often each reason of answer 9 was met alone, by kind.
+    pub overlaps: [[u64; 4]; KINDS.len()],
 }
 
-// What is compared at the least, without `long`.
+// What is compared at the least, without `long`; runs of each kind.
 const LEAST_STEPS: u64 = 200_000;
-const LEAST_RUNS: u64 = 2_000;
+const LEAST_RUNS: u64 = 1_500;
+
+/// What every number counts as that is no kind.
+const UNKNOWN: u64 = KINDS.len() as u64;
 
 /// One more than the highest answer.
 pub const ANSWERS: u64 = 13;
@@ -99,9 +104,11 @@ pub fn reachable(call: Call, number: u64) -> bool {
     let first = match call {
         Call::MachineStart => return [0, 8].contains(&number),
         Call::OtherWord => return [1, 8, 10].contains(&number),
-        Call::RunStart | Call::WholeRun => return [0, 6, 8, 9].contains(&number),
-        Call::RunNext => return [0, 8].contains(&number),
-        Call::RunTurn => return number <= 8 && number != 1,
+        Call::RunStart(UNKNOWN) | Call::WholeRun(UNKNOWN) => return number == 8,
+        Call::RunNext(UNKNOWN) | Call::RunTurn(UNKNOWN) => return number == 8,
+        Call::RunStart(_) | Call::WholeRun(_) => return [0, 6, 8, 9].contains(&number),
+        Call::RunNext(_) => return [0, 8].contains(&number),
+        Call::RunTurn(_) => return number <= 8 && number != 1,
         Call::Family(first) => first,
     };
     let zeros = model::has_zeros(first);
@@ -135,6 +142,11 @@ impl Tally {
         *self.counts.entry((call, number)).or_insert(0) += 1;
     }
 
+    /// A call of a run of a kind.
+    pub fn run(&mut self, call: fn(u64) -> Call, kind: u64, number: u64) {
+        self.count(call(kind.min(UNKNOWN)), number);
+    }
+
     pub fn step(&mut self, word: u32, number: u64) {
         self.steps += 1;
         self.count(family_of(word), number);
@@ -144,18 +156,19 @@ impl Tally {
         self.counts.get(&(call, number)).copied().unwrap_or(0)
     }
 
-    fn calls() -> Vec<(Call, &'static str)> {
-        let mut calls = vec![(Call::MachineStart, "machine start")];
+    fn calls() -> Vec<(Call, String)> {
+        let mut calls = vec![(Call::MachineStart, "machine start".to_string())];
         for first in families().into_iter().chain(families_left_out()) {
-            calls.push((Call::Family(first), family_name(first)));
+            calls.push((Call::Family(first), family_name(first).to_string()));
         }
-        calls.extend([
-            (Call::OtherWord, "other words"),
-            (Call::RunStart, "run start"),
-            (Call::RunNext, "run next"),
-            (Call::RunTurn, "run turn"),
-            (Call::WholeRun, "whole run"),
-        ]);
+        calls.push((Call::OtherWord, "other words".to_string()));
+        for kind in 0..=UNKNOWN {
+            let name = if kind == UNKNOWN { "other".to_string() } else { kind.to_string() };
+            calls.push((Call::RunStart(kind), format!("run start {name}")));
+            calls.push((Call::RunNext(kind), format!("run next {name}")));
+            calls.push((Call::RunTurn(kind), format!("run turn {name}")));
+            calls.push((Call::WholeRun(kind), format!("whole run {name}")));
+        }
         calls
     }
 
@@ -174,10 +187,12 @@ impl Tally {
             }
             println!();
         }
-        println!(
-            "answer 9 by one reason alone: two rows of C {}, A {}, B {}, seal {}",
-            self.overlaps[0], self.overlaps[1], self.overlaps[2], self.overlaps[3]
-        );
+        for (kind, [rows, a, b, seal]) in self.overlaps.iter().enumerate() {
+            println!(
+                "answer 9 by one reason alone, kind {kind}: two rows of C {rows}, A {a}, B {b}, \
+                 seal {seal}"
+            );
+        }
     }
 
     /// Cells that can be met but were not, and those met that cannot be.
@@ -192,7 +207,7 @@ impl Tally {
                 }
             }
         }
-        if self.overlaps.contains(&0) {
+        if self.overlaps.as_flattened().contains(&0) {
             faults.push(format!("a reason of 9 was not met alone: {:?}", self.overlaps));
         }
         if faults.is_empty() {
@@ -204,16 +219,15 @@ impl Tally {
 
     /// Whether as much was compared as is asked for.
     pub fn amount(&self) -> Result<String, String> {
+        let whole: Vec<u64> = KINDS.map(|kind| self.get(Call::WholeRun(kind), 0)).to_vec();
         let text = format!(
-            "{} steps, {} runs turn by turn, {} whole runs in one call",
-            self.steps,
-            self.runs,
-            self.get(Call::WholeRun, 0)
+            "{} steps; by kind {:?} runs turn by turn, {whole:?} whole runs in one call",
+            self.steps, self.runs
         );
-        if self.steps >= LEAST_STEPS && self.runs >= LEAST_RUNS {
+        if self.steps >= LEAST_STEPS && self.runs.iter().all(|&runs| runs >= LEAST_RUNS) {
             Ok(text)
         } else {
-            Err(format!("{text}; asked for: {LEAST_STEPS} steps, {LEAST_RUNS} runs"))
+            Err(format!("{text}; asked for: {LEAST_STEPS} steps, {LEAST_RUNS} runs of each kind"))
         }
     }
 }

@@ -1,11 +1,11 @@
 //! Times of product runs.
 
-use super::plans::packed_plan;
+use super::plans::{packed_plan, packed_plan_of};
 use crate::bench::{full_bench, machine_name, nanoseconds, LARGE, SMALL};
 use crate::lent::{library_run_start, library_run_turn, library_run_turns, second_run_start, Lent};
 use crate::library;
 use crate::states::WIDTHS;
-use model::{Matrix, Plan};
+use model::{Matrix, Plan, KINDS};
 use std::hint::black_box;
 use std::time::Instant;
 
@@ -58,6 +58,7 @@ pub fn bench() {
     products(LARGE, [128, 256, 512, 1024]);
     products(SMALL, [32, 64, 128, 256]);
     widths();
+    transposed_runs();
 }
 
 fn start_checks() {
@@ -275,5 +276,26 @@ fn widths() {
     for widths in WIDTHS {
         let name = format!("{} bits", width_name(widths));
         product_line(&name, LARGE, widths, 256, None, second_rate(LARGE, widths));
+    }
+}
+
+/// Runs with A kept transposed beside plain ones, on the same sizes.
+fn transposed_runs() {
+    println!();
+    println!("runs of 256 in each size on {}, by run_turns: A plain and", machine_name(LARGE));
+    println!("kept transposed, each product held to the second program's");
+    println!("{:14}{:>12}{:>16}{:>10}{:>8}", "", "plain ms", "transposed ms", "ratio", "same C");
+    for widths in WIDTHS {
+        let timed = KINDS.map(|kind| {
+            let (plan, memory) = packed_plan_of(kind, widths, [256; 3]);
+            let before = plan_bench(LARGE, &plan, memory);
+            let (time, after) = library_product(LARGE, &plan, memory);
+            let found = model::elements(plan.placed(Matrix::C), &after.memory);
+            (time / 1e6, found == model::product(&plan, &before.memory))
+        });
+        let [(plain, right), (transposed, also_right)] = timed;
+        let name = format!("{} bits", width_name(widths));
+        print!("{name:14}{plain:>12.3}{transposed:>16.3}{:>10.2}", transposed / plain);
+        println!("{:>8}", if right && also_right { "yes" } else { "NO" });
     }
 }

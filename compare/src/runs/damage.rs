@@ -1,7 +1,7 @@
 //! Damaged input to the calls of a run: wrong block lengths, empty slices and
 //! forged run blocks. Buffers stand between guard bytes.
 
-use super::plans::small_plan;
+use super::plans::{small_plan, UNKNOWN_KINDS};
 use crate::lent::{
     bytes_to_words, handed_of, library_run_start, library_run_turns, packed, state_text,
     words_to_bytes, Lent,
@@ -113,8 +113,8 @@ fn wrong_lengths<const N: usize>(random: &mut Random, buffers: [&mut Vec<u8>; N]
     })
 }
 
-/// A call of a run, the length of its block, and where it is counted.
-type PlanCall = (Call, usize, fn(&mut Desk, &Plan) -> u64);
+/// Where a call of a run is counted, the length of its block, and the call.
+type PlanCall = (fn(u64) -> Call, usize, fn(&mut Desk, &Plan) -> u64);
 
 const PLAN_CALLS: [PlanCall; 2] = [
     (Call::RunStart, library::RUN_BYTES, Desk::start),
@@ -124,7 +124,7 @@ const PLAN_CALLS: [PlanCall; 2] = [
 /// Calls of a run with blocks of the wrong length: 8, and nothing changes.
 pub fn wrong_run_lengths(context: &mut Context) -> Outcome {
     each_case(context, "wrong run lengths", 3000, |_, random, tally| {
-        for (name, length, call) in PLAN_CALLS {
+        for (counted, length, call) in PLAN_CALLS {
             let (plan, mut lent) = small_plan(random);
             let mut block = random.bytes(length);
             let lengths = wrong_lengths(
@@ -134,9 +134,10 @@ pub fn wrong_run_lengths(context: &mut Context) -> Outcome {
             let mut desk = Desk::new(&block, &lent);
             let given = call(&mut desk, &plan);
             if given != 8 || !desk.holds(&block, &lent) {
+                let name = counted(plan.kind);
                 return Err(format!("{name:?} on blocks of {lengths:?} bytes gives {given}"));
             }
-            tally.count(name, 8);
+            tally.run(counted, plan.kind, 8);
         }
 
         // Asking.
@@ -148,7 +149,8 @@ pub fn wrong_run_lengths(context: &mut Context) -> Outcome {
         if given != 8 || !run_desk.holds(&bad_run) || !step_desk.holds(&step) {
             return Err(format!("RunNext on blocks of {lengths:?} bytes gives {given}"));
         }
-        tally.count(Call::RunNext, 8);
+        let kind = bytes_to_words(&run)[KIND];
+        tally.run(Call::RunNext, kind, 8);
 
         // A turn, and many.
         let (mut run, mut lent) = (run, lent);
@@ -162,7 +164,7 @@ pub fn wrong_run_lengths(context: &mut Context) -> Outcome {
         if given != 8 || done != 0 || !desk.holds(&run, &lent) {
             return Err(format!("blocks of {lengths:?} bytes: a turn gives {given}, {done} done"));
         }
-        tally.count(Call::RunTurn, 8);
+        tally.run(Call::RunTurn, kind, 8);
         Ok(())
     })
 }
@@ -195,14 +197,16 @@ pub fn empty_run_slices(context: &mut Context) -> Outcome {
 // ---------------------------------------------------------------------------
 // Forged run blocks
 
-// The numbers of a run block, by their places in it: those of the plan, the
-// machine's lengths, and the place in the run.
+// The numbers of a run block, by their places in it: those of the plan but for
+// its kind, the machine's lengths, the place in the run (a word, then row, column
+// and term), and the kind.
 const FIELDS: usize = library::RUN_BYTES / 8;
 const LENGTHS: usize = 11;
-const KIND: usize = 13;
+const WORD: usize = 13;
 const PLACE: usize = 14;
+const KIND: usize = 17;
 
-/// How many numbers each kind of place has, of row, column and term.
+/// How many numbers each word's place has, of row, column and term.
 const PLACE_NUMBERS: [usize; 10] = [0, 1, 2, 2, 3, 3, 3, 3, 2, 0];
 const AT_END: u64 = 9;
 
@@ -212,16 +216,17 @@ fn hands_out(fields: &[u64]) -> bool {
     let [sew, factor, m, k, n, a, a_stride, b, b_stride, c, c_stride] =
         fields[..LENGTHS].try_into().expect("the numbers of a plan");
     let [a_stride, b_stride, c_stride] = [a_stride, b_stride, c_stride].map(|stride| stride as i64);
-    let plan = Plan { sew, factor, m, k, n, a, a_stride, b, b_stride, c, c_stride };
-    let (rlen, mlen) = (fields[LENGTHS], fields[LENGTHS + 1]);
     let kind = fields[KIND];
-    if model::plan_numbers_bad(&plan) || !model::lengths_permitted(rlen, mlen) || kind >= AT_END {
+    let plan = Plan { kind, sew, factor, m, k, n, a, a_stride, b, b_stride, c, c_stride };
+    let (rlen, mlen) = (fields[LENGTHS], fields[LENGTHS + 1]);
+    let word = fields[WORD];
+    if model::plan_numbers_bad(&plan) || !model::lengths_permitted(rlen, mlen) || word >= AT_END {
         return false;
     }
     let machine = Machine { rlen, mlen, ..Machine::default() };
     for (at, (size, total)) in [(Size::M, m), (Size::N, n), (Size::K, k)].into_iter().enumerate() {
         let number = fields[PLACE + at];
-        let has_it = at < PLACE_NUMBERS[kind as usize];
+        let has_it = at < PLACE_NUMBERS[word as usize];
         if has_it && number >= total || !has_it && number != 0 {
             return false;
         }
@@ -251,15 +256,15 @@ pub fn forged_runs(context: &mut Context) -> Outcome {
 /// or another place.
 fn forge(random: &mut Random, good: &[u8]) -> Vec<u8> {
     let mut fields = bytes_to_words(good);
-    match random.below(12) {
+    match random.below(14) {
         0 => return random.bytes(good.len()),
         1 => return vec![random.pick(&[0, 1, 0xFF]); good.len()],
         2 => fields = (0..FIELDS).map(|_| random.below(1200)).collect(),
         3 => fields[random.below(FIELDS as u64) as usize] ^= 1 << random.below(64),
-        4 => fields[KIND] = random.pick(&[10, 11, 16, 256, 1 << 32, 1 << 63, u64::MAX]),
+        4 => fields[WORD] = random.pick(&[10, 11, 16, 256, 1 << 32, 1 << 63, u64::MAX]),
         5 | 6 => {
-            // Of another kind, its numbers around the sizes.
-            fields[KIND] = random.below(11);
+            // Another word, its numbers around the sizes.
+            fields[WORD] = random.below(11);
             for at in 0..3 {
                 let size = fields[[2, 4, 3][at]];
                 let numbers = [0, 0, 0, 1, size / 2, size.wrapping_sub(1), size, size + 1];
@@ -267,13 +272,15 @@ fn forge(random: &mut Random, good: &[u8]) -> Vec<u8> {
             }
         }
         7 => {
-            // A number that the kind does not have.
-            fields[KIND] = random.pick(&[0, 1, 2, 3, 8, 9]);
-            let from = PLACE_NUMBERS[fields[KIND] as usize];
-            fields[PLACE..].fill(0);
+            // A number that the word's place does not have.
+            fields[WORD] = random.pick(&[0, 1, 2, 3, 8, 9]);
+            let from = PLACE_NUMBERS[fields[WORD] as usize];
+            fields[PLACE..PLACE + 3].fill(0);
             let at = random.range(from as u64, 2) as usize;
             fields[PLACE + at] = random.pick(&[1, 2, 1 << 32, 1 << 63, u64::MAX]);
         }
+        8 => fields[KIND] = random.pick(&UNKNOWN_KINDS),
+        9 => fields[KIND] ^= 1,
         _ => {
             for _ in 0..random.pick(&[1, 1, 1, 2]) {
                 let field = &mut fields[random.below(FIELDS as u64) as usize];
@@ -315,7 +322,7 @@ fn check_forged(
     if hands_out(&fields) != (next == 0) {
         return complain(&format!("run_next gives {next}"));
     }
-    tally.count(Call::RunNext, next);
+    tally.run(Call::RunNext, fields[KIND], next);
 
     // A turn: as the word handed out, or 8.
     let mut desk = Desk::new(run, lent);
@@ -332,7 +339,7 @@ fn check_forged(
             "a turn gives {turn:#x}, the word asked for {expected:#x}, or other bytes"
         ));
     }
-    tally.count(Call::RunTurn, turn & 0xFFFF);
+    tally.run(Call::RunTurn, fields[KIND], turn & 0xFFFF);
 
     // Many turns: as single ones.
     let turns = random.below(20);

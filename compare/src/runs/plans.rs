@@ -6,7 +6,9 @@ use crate::states::{
     any_machine, any_scalar, bench_of, lengths, put_bench_fault, put_seal, wrapping_stride, SIZES,
     WIDTHS, WILD_STRIDES,
 };
-use model::{maximum, Machine, Matrix, Plan, Size};
+use model::{maximum, Machine, Matrix, Plan, Size, A_TRANSPOSED, KINDS, PRODUCT};
+
+pub const UNKNOWN_KINDS: [u64; 6] = [2, 3, 256, 1 << 32, 1 << 63, u64::MAX];
 
 /// A size around a multiple of the block size.
 fn size_around(random: &mut Random, machine: &Machine, size: Size, sew: u64) -> u64 {
@@ -25,6 +27,11 @@ struct Rows {
 }
 
 impl Rows {
+    fn of(plan: &Plan, matrix: Matrix) -> Rows {
+        let placed = plan.placed(matrix);
+        Rows { rows: placed.rows, row_bytes: placed.columns * placed.width / 8 }
+    }
+
     fn empty(&self) -> bool {
         self.rows == 0 || self.row_bytes == 0
     }
@@ -52,19 +59,17 @@ impl Rows {
     }
 }
 
-/// A plan that is accepted on a bench of its own, with sizes as given.
+/// A plan of either kind that is accepted on a bench of its own, with sizes as
+/// given.
 pub fn good_plan(
     random: &mut Random,
     machine: &Machine,
     (sew, factor): (u64, u64),
     [m, k, n]: [u64; 3],
 ) -> (Plan, Lent) {
-    let bytes = |elements: u64, width: u64| (elements * width / 8) as i128;
-    let a = Rows { rows: m as i128, row_bytes: bytes(k, sew) };
-    let b = Rows { rows: k as i128, row_bytes: bytes(n, sew) };
-    let c = Rows { rows: m as i128, row_bytes: bytes(n, sew * factor) };
-    let mut plan =
-        Plan { sew, factor, m, k, n, a: 0, a_stride: 0, b: 0, b_stride: 0, c: 0, c_stride: 0 };
+    let kind = random.pick(&KINDS);
+    let mut plan = unplaced(kind, (sew, factor), [m, k, n]);
+    let [a, b, c] = [Matrix::A, Matrix::B, Matrix::C].map(|matrix| Rows::of(&plan, matrix));
     let mut end = random.below(4) as i128;
     let gap = |random: &mut Random| {
         if random.chance(50) {
@@ -75,7 +80,7 @@ pub fn good_plan(
     };
     if random.chance(25) && !a.empty() && !c.empty() {
         // C's rows in A's gaps.
-        let both = Rows { rows: a.rows, row_bytes: a.row_bytes + c.row_bytes };
+        let both = Rows { rows: a.rows.max(c.rows), row_bytes: a.row_bytes + c.row_bytes };
         let (address, stride, length) = both.lay(random, end, false);
         plan.a_stride = stride;
         plan.c_stride = stride;
@@ -118,6 +123,13 @@ pub fn good_plan(
     (plan, lent)
 }
 
+/// A plan whose matrices are still to be placed.
+fn unplaced(kind: u64, (sew, factor): (u64, u64), [m, k, n]: [u64; 3]) -> Plan {
+    let (a, b, c) = (0, 0, 0);
+    let (a_stride, b_stride, c_stride) = (0, 0, 0);
+    Plan { kind, sew, factor, m, k, n, a, a_stride, b, b_stride, c, c_stride }
+}
+
 /// A plan on a machine, with sizes around its block sizes.
 pub fn plan_around(random: &mut Random, lengths: (u64, u64)) -> (Plan, Lent) {
     let machine = any_machine(random, lengths);
@@ -141,13 +153,20 @@ pub fn small_plan(random: &mut Random) -> (Plan, Lent) {
 
 /// A plan of packed matrices, one behind the other, and the length of its memory.
 /// C starts at a multiple of 8.
-pub fn packed_plan((sew, factor): (u64, u64), [m, k, n]: [u64; 3]) -> (Plan, usize) {
-    let (a_row, b_row, c_row) = (k * sew / 8, n * sew / 8, n * sew * factor / 8);
-    let b = m * a_row;
-    let c = (b + k * b_row).next_multiple_of(8);
-    let [a_stride, b_stride, c_stride] = [a_row, b_row, c_row].map(|row| row as i64);
-    let plan = Plan { sew, factor, m, k, n, a: 0, a_stride, b, b_stride, c, c_stride };
-    (plan, (c + m * c_row) as usize)
+pub fn packed_plan(widths: (u64, u64), sizes: [u64; 3]) -> (Plan, usize) {
+    packed_plan_of(PRODUCT, widths, sizes)
+}
+
+/// The same of a kind.
+pub fn packed_plan_of(kind: u64, widths: (u64, u64), sizes: [u64; 3]) -> (Plan, usize) {
+    let mut plan = unplaced(kind, widths, sizes);
+    let [a, b, c] = [Matrix::A, Matrix::B, Matrix::C].map(|matrix| Rows::of(&plan, matrix));
+    plan.b = (a.rows * a.row_bytes) as u64;
+    plan.c = (plan.b + (b.rows * b.row_bytes) as u64).next_multiple_of(8);
+    plan.a_stride = a.row_bytes as i64;
+    plan.b_stride = b.row_bytes as i64;
+    plan.c_stride = c.row_bytes as i64;
+    (plan, plan.c as usize + (c.rows * c.row_bytes) as usize)
 }
 
 /// One past the last byte of the plan's matrices.
@@ -195,7 +214,7 @@ fn spoil_once(random: &mut Random, plan: &mut Plan, lent: &mut Lent) {
             0u64.wrapping_sub(by)
         }
     };
-    match random.below(17) {
+    match random.below(19) {
         0 => plan.sew = random.pick(&[0, 1, 4, 7, 9, 24, 64, 128, 1 << 32, 1 << 61, u64::MAX]),
         1 => plan.factor = random.pick(&[0, 3, 5, 8, 1 << 32, 1 << 61, u64::MAX]),
         2 => {
@@ -216,7 +235,7 @@ fn spoil_once(random: &mut Random, plan: &mut Plan, lent: &mut Lent) {
             let length = lent.memory.len().saturating_sub(random.range(1, 2) as usize);
             lent.memory.truncate(length);
         }
-        11 => plan.a_stride = wild_stride(random, plan.m),
+        11 => plan.a_stride = wild_stride(random, plan.placed(Matrix::A).rows as u64),
         12 => plan.b_stride = wild_stride(random, plan.k),
         13 => {
             let step = random.below(row_bytes.max(1) as u64) as i64;
@@ -225,7 +244,10 @@ fn spoil_once(random: &mut Random, plan: &mut Plan, lent: &mut Lent) {
         }
         14 => plan.c = random.pick(&[plan.a, plan.a.wrapping_sub(1), plan.a.wrapping_add(1)]),
         15 => plan.c = random.pick(&[plan.b, plan.b.wrapping_sub(1), plan.b.wrapping_add(1)]),
-        _ => seal_a_byte_of_c(random, plan, lent),
+        16 => seal_a_byte_of_c(random, plan, lent),
+        17 => plan.kind = random.pick(&UNKNOWN_KINDS),
+        // The other shape of A, where the plan has laid this one.
+        _ => plan.kind ^= 1,
     }
 }
 

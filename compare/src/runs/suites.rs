@@ -46,11 +46,11 @@ fn start_both(
             state_text(&held),
         ));
     }
-    tally.count(Call::RunStart, given);
+    tally.run(Call::RunStart, plan.kind, given);
     if given == 9 {
         let reasons = model::overlaps(&plan, &lent.machine());
         if let [at] = (0..4).filter(|&at| reasons[at]).collect::<Vec<_>>()[..] {
-            tally.overlaps[at] += 1;
+            tally.overlaps[plan.kind as usize][at] += 1;
         }
     }
     Ok(second.ok().map(|run| Started { plan, lent, block, run }))
@@ -97,7 +97,7 @@ fn check_run(random: &mut Random, started: Started, tally: &mut Tally) -> Result
     }
     whole_run(random, &plan, &lent, 0, &after, count, tally)?;
     check_product(&plan, &lent.memory, &after.memory)?;
-    tally.runs += 1;
+    tally.runs[plan.kind as usize] += 1;
     Ok(())
 }
 
@@ -127,7 +127,7 @@ fn check_turn(
             report(&before, given, lent, packed(answer), &second)
         ));
     }
-    tally.count(Call::RunTurn, answer.number);
+    tally.run(Call::RunTurn, plan.kind, answer.number);
     Ok(answer.number)
 }
 
@@ -175,7 +175,7 @@ fn words_alone(
                 differences("run block, if refused", &before, &block, &before),
             ));
         }
-        tally.count(Call::RunNext, given);
+        tally.run(Call::RunNext, plan.kind, given);
     }
     if block != block_after {
         return Err(format!(
@@ -319,7 +319,7 @@ fn whole_run(
             report(before, given, &lent, answer, after)
         ));
     }
-    tally.count(Call::WholeRun, given);
+    tally.run(Call::WholeRun, plan.kind, given);
     Ok(())
 }
 
