@@ -1,7 +1,9 @@
 // One word at a time: whether a run is one that a start can have made, its next place, and the step handed out.
 use machine::Answer;
+use machine::Form;
 use run::Asked;
 use run::Handed;
+use run::Layout;
 use run::Place;
 use run::Plan;
 use run::Run;
@@ -15,7 +17,7 @@ ghost use Rattle.machine.specs.Tests.{every, isIn};
 ghost use Rattle.machine.specs.Answers.{reply};
 ghost use Rattle.machine.specs.Setting.{smaller, maxM, maxN, maxK};
 ghost use Rattle.run.specs.Words.{setType, clear, multiply, loadA, loadB, store};
-ghost use Rattle.run.specs.Plan.{narrow, wide, msew, typeOf};
+ghost use Rattle.run.specs.Plan.{narrow, wide, msew, typeOf, formOf, aRow, aColumn};
 ghost use Rattle.run.specs.Start.{format, planned};
 ghost use Rattle.run.specs.Places.{headM, headN, headK, next, wordAt};
 ghost use Rattle.run.specs.Turn.{startsM, startsN, startsK, begins, soundRun, runParameters, runShape, moved, ask, asked, askedAs};
@@ -23,7 +25,7 @@ ghost use Rattle.width.specs.Blocks.{count};
 ghost use Rattle.asking.specs.Steps.{stepsIn};
 ghost use Rattle.asking.specs.Parts.{numbered, placed, isEnd, handedOf, shapeBy, Within, Most};
 ghost use Rattle.machine.specs.declared.Answer.the-variants.{BadArguments};
-ghost use Rattle.run.specs.Encoding.{settingWord, memoryWord, arithmeticWord, log, plain, startOf, handedFor};
+ghost use Rattle.run.specs.Encoding.{settingWord, memoryWord, arithmeticWord, log, plain, startOf, loadCode, handedFor};
 
 // ---- runs that a start can have made
 
@@ -76,7 +78,10 @@ pub fn is_planned(plan: Plan) -> bool
     if plan.k > 1024 {
         return false;
     }
-    plan.n <= 1024
+    if plan.n > 1024 {
+        return false;
+    }
+    plan.kind <= 1
 }
 
 fn in_product(plan: Plan, row: u64, column: u64) -> bool
@@ -366,7 +371,7 @@ fn setting_word(code: u32, immediate: u64) -> u32
 }
 
 fn memory_word(code: u32, width: u32, register: u32) -> u32
-    requires { ⌜ (code ≤ 4) × ((width ≤ 4) × (register ≤ 1)) ⌝ }
+    requires { ⌜ (code ≤ 10) × ((width ≤ 4) × (register ≤ 1)) ⌝ }
     ensures { λ r. ⌜ r ≡ memoryWord code width register ⌝ }
 {
     code * 33554432 + width * 4096 + register * 128 + 11862135
@@ -462,6 +467,48 @@ pub fn start_of(address: u64, stride: u64, row: u64, bytes: u64) -> u64
     std::num::wrapping_add_u64(start, bytes)
 }
 
+// ---- where A is kept
+
+// The form of the loads of A.
+pub fn form_of(plan: Plan) -> Form
+    ensures { λ r. ⌜ r ≡ formOf plan ⌝ }
+{
+    if plan.kind == 1 {
+        return Form::Transposed;
+    }
+    Form::Plain
+}
+
+// The code of the loads of A.
+fn load_code(plan: Plan) -> u32
+    ensures { λ r. ⌜ r ≡ loadCode (formOf plan) ⌝ }
+    ensures { λ r. ⌜ r ≤ 10 ⌝ }
+{
+    if plan.kind == 1 {
+        return 10;
+    }
+    2
+}
+
+// The row in memory of the element of A in this row and term, and how many elements it lies into it.
+pub fn a_row(plan: Plan, row: u64, term: u64) -> u64
+    ensures { λ r. ⌜ r ≡ aRow plan row term ⌝ }
+{
+    if plan.kind == 1 {
+        return term;
+    }
+    row
+}
+
+pub fn a_column(plan: Plan, row: u64, term: u64) -> u64
+    ensures { λ r. ⌜ r ≡ aColumn plan row term ⌝ }
+{
+    if plan.kind == 1 {
+        return row;
+    }
+    term
+}
+
 // ---- the steps
 
 // A step that names no address.
@@ -506,16 +553,17 @@ fn hand_multiply(plan: Plan) -> Handed
     plain_step(word)
 }
 
-fn hand_load_a(plan: Plan, row: u64, term: u64) -> Handed
+// A load of a register from so many elements into a row of A or B.
+fn hand_load(plan: Plan, code: u32, register: u32, layout: Layout, row: u64, column: u64) -> Handed
     requires { ⌜ planned plan ≡ true ⌝ }
-    requires { ⌜ (row ≤ 1024) × (term ≤ 1024) ⌝ }
-    ensures { λ r. ⌜ r ≡ handedFor plan (loadA row term) ⌝ }
+    requires { ⌜ (code ≤ 10) × (register ≤ 1) ⌝ }
+    requires { ⌜ (row ≤ 1024) × (column ≤ 1024) ⌝ }
+    ensures { λ r. ⌜ r ≡ record { word = memoryWord code (msew plan) register; address = startOf layout row (column * narrow plan); stride = layout .stride } ⌝ }
 {
     let width = width_code(plan);
-    let word = memory_word(2, width, 0);
+    let word = memory_word(code, width, register);
     let bytes = narrow_bytes(plan);
-    let offset = small_times(term, bytes);
-    let layout = plan.a;
+    let offset = small_times(column, bytes);
     let start = start_of(layout.address, layout.stride, row, offset);
     Handed {
         word: word,
@@ -524,22 +572,25 @@ fn hand_load_a(plan: Plan, row: u64, term: u64) -> Handed
     }
 }
 
+fn hand_load_a(plan: Plan, row: u64, term: u64) -> Handed
+    requires { ⌜ planned plan ≡ true ⌝ }
+    requires { ⌜ (row ≤ 1024) × (term ≤ 1024) ⌝ }
+    ensures { λ r. ⌜ r ≡ handedFor plan (loadA row term) ⌝ }
+{
+    let code = load_code(plan);
+    let line = a_row(plan, row, term);
+    let column = a_column(plan, row, term);
+    let layout = plan.a;
+    hand_load(plan, code, 0, layout, line, column)
+}
+
 fn hand_load_b(plan: Plan, term: u64, column: u64) -> Handed
     requires { ⌜ planned plan ≡ true ⌝ }
     requires { ⌜ (term ≤ 1024) × (column ≤ 1024) ⌝ }
     ensures { λ r. ⌜ r ≡ handedFor plan (loadB term column) ⌝ }
 {
-    let width = width_code(plan);
-    let word = memory_word(4, width, 1);
-    let bytes = narrow_bytes(plan);
-    let offset = small_times(column, bytes);
     let layout = plan.b;
-    let start = start_of(layout.address, layout.stride, term, offset);
-    Handed {
-        word: word,
-        address: start,
-        stride: layout.stride,
-    }
+    hand_load(plan, 4, 1, layout, term, column)
 }
 
 fn hand_store(plan: Plan, row: u64, column: u64) -> Handed

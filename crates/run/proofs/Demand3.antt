@@ -43,7 +43,7 @@ use Rattle.run.specs.Words.{Op, Shape, words, steps}
 use Rattle.run.specs.Places.{next, wordAt}
 use Rattle.run.proofs.PlaceLaws.{rest, before, rest-next, rest-after, placeAfter, length-words}
 use Rattle.run.proofs.BeginLaws.{begins-next}
-use Rattle.run.specs.Plan.{Job, Kept, shape, narrow, wide}
+use Rattle.run.specs.Plan.{Job, Kept, shape, narrow, wide, formOf, aRow, aColumn, aRows, aColumns}
 use Rattle.run.specs.Start.{format, planned, lying, separate, startChecks, freshRun, noRun, startRun}
 use Rattle.run.specs.Turn.{begins, soundRun, handsOut, Ask, ask, Running, Turn, turn, afterTurns, answeredDone}
 use Rattle.run.proofs.HandedLaws.{askWith, turnWith}
@@ -51,6 +51,7 @@ use Rattle.run.proofs.RefusalLaws.{number-done, started-idle}
 use Rattle.run.specs.Encoding.{own, handedFor}
 use Rattle.run.proofs.WordLaws as WordLaws
 use Rattle.run.proofs.WordLaws.{Reads}
+use Rattle.run.proofs.FormLaws.{element-in}
 use Rattle.run.proofs.Invariant.{operationOf, Accepted, At}
 use Rattle.run.proofs.Turns
 use Rattle.run.specs.Statement.{Numbers, Inside, Separate, Answered, Asks, jobOf, Right, Bytes, RunsAreRight, OurRunsAreRight}
@@ -214,10 +215,11 @@ module _ (grant : ℕ → ℕ → ℕ) (P : Plan) (B₀ : Bench) (R : Ready gran
       (WordLaws.reads-k (parameters grant (B .machine)) P (R .formatted) (held B) (P .k - s) (omega (arith, R .k≤)))
       (Turns.turn-k (J grant P B₀) A i j s (held B) (B .memory) (h .here)))
   advance (AtA i j s) B h =
+      let in-a = element-in (formOf P) i s (P .m) (P .k) (h .here .in-k .in-block .in-n .i<m) (h .here .s<k) in
       advanced (AtA i j s) (Op.loadA i s) B h refl (by-word (AtA i j s) (Op.loadA i s) B h
       (WordLaws.reads-a (parameters grant (B .machine)) P (R .formatted) (held B) i s
-      (whole (P .a .address) (P .a .stride) (P .m) (P .k) (narrow P) (A .0<narrow) (A .a-in) i s (h .here .in-k .in-block .in-n .i<m) (h .here .s<k))
-      (small (P .a .address) (P .a .stride) (P .m) (P .k) (narrow P) (A .0<narrow) (A .a-in) i s (h .here .in-k .in-block .in-n .i<m) (h .here .s<k)))
+      (whole (P .a .address) (P .a .stride) (aRows P) (aColumns P) (narrow P) (A .0<narrow) (A .a-in) (aRow P i s) (aColumn P i s) (in-a .0) (in-a .1))
+      (small (P .a .address) (P .a .stride) (aRows P) (aColumns P) (narrow P) (A .0<narrow) (A .a-in) (aRow P i s) (aColumn P i s) (in-a .0) (in-a .1)))
       (Turns.turn-a (J grant P B₀) A i j s (held B) (B .memory) (h .here)))
   advance (AtB i j s) B h =
       advanced (AtB i j s) (Op.loadB s j) B h refl (by-word (AtB i j s) (Op.loadB s j) B h
@@ -410,7 +412,7 @@ module _ (grant : ℕ → ℕ → ℕ) (G : Grants grant) (P : Plan) (B : Bench)
   ready : Passed (startChecks grant P B) → Ready grant P B
   unfolding planned
   ready c =
-      let t = every-each (format (P .sew) (P .factor) ∷ leb (P .m) 1024 ∷ leb (P .k) 1024 ∷ leb (P .n) 1024 ∷ []) (c .1 .0) in
+      let t = every-each (format (P .sew) (P .factor) ∷ leb (P .m) 1024 ∷ leb (P .k) 1024 ∷ leb (P .n) 1024 ∷ leb (P .kind) 1 ∷ []) (c .1 .0) in
       record {
         rule = G;
         sane = c .0;

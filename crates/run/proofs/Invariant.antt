@@ -19,7 +19,7 @@ use Rattle.run.specs.declared.Plan.{Plan}
 use Rattle.run.specs.declared.Place.{Place}
 use Rattle.run.specs.declared.Place.the-variants.{AtType, AtM, AtN, AtClear, AtK, AtA, AtB, AtMultiply, AtStore, AtEnd}
 use Rattle.run.specs.Words.{Op, sizeM, sizeN, sizeK}
-use Rattle.run.specs.Plan.{Job, Kept, shape, narrow, wide, typeOf, aAt, bAt, cAt, OfC, total, productOf}
+use Rattle.run.specs.Plan.{Job, Kept, shape, narrow, wide, typeOf, aAt, bAt, cAt, formOf, aRow, aColumn, aRows, aColumns, aOf, bOf, OfC, total, productOf}
 
 -- the operation of a step
 abbrev pub operationOf : Plan → Op → Operation
@@ -28,7 +28,7 @@ operationOf P (Op.setM a) = Operation.setSize DimensionM a
 operationOf P (Op.setK a) = Operation.setSize DimensionK a
 operationOf P (Op.setN a) = Operation.setSize DimensionN a
 operationOf P Op.clear = Operation.scale (P .factor) 0 0 (pos 0)
-operationOf P (Op.loadA i s) = Operation.load Plain MatrixA 0 (narrow P) (aAt P i + s * narrow P) (P .a .stride)
+operationOf P (Op.loadA i s) = Operation.load (formOf P) MatrixA 0 (narrow P) (aAt P (aRow P i s) + aColumn P i s * narrow P) (P .a .stride)
 operationOf P (Op.loadB s j) = Operation.load Plain MatrixB 1 (narrow P) (bAt P s + j * narrow P) (P .b .stride)
 operationOf P Op.multiply = Operation.multiply (P .factor) 0 0 1
 operationOf P (Op.store i j) = Operation.store Plain MatrixC 0 (wide P) (cAt P i + j * wide P) (P .c .stride)
@@ -47,21 +47,19 @@ pub record Accepted (J : Job) : Type 0 where
   pub c-width : widthOf (J .machine .elen) (typeOf (J .plan)) MatrixC (wide (J .plan)) ≡ true
   pub 0<wide : zero < wide (J .plan)
   pub bytes : (q : ℕ) → getD (J .memory) q 0 < 256
-  pub a-in : inside (length (J .memory)) (J .plan .a .address) (J .plan .a .stride) (J .plan .m) (J .plan .k * narrow (J .plan)) ≡ true
+  pub a-in : inside (length (J .memory)) (J .plan .a .address) (J .plan .a .stride) (aRows (J .plan)) (aColumns (J .plan) * narrow (J .plan)) ≡ true
   pub b-in : inside (length (J .memory)) (J .plan .b .address) (J .plan .b .stride) (J .plan .k) (J .plan .n * narrow (J .plan)) ≡ true
   pub c-in : inside (length (J .memory)) (J .plan .c .address) (J .plan .c .stride) (J .plan .m) (J .plan .n * wide (J .plan)) ≡ true
   pub c-unsealed : unsealed (J .machine) (J .plan .c .address) (J .plan .c .stride) (J .plan .m) (J .plan .n * wide (J .plan)) ≡ true
   pub c-rows : (i k q : ℕ) → i < k → k < J .plan .m → In (cAt (J .plan) i) (J .plan .n * wide (J .plan)) q → ¬ In (cAt (J .plan) k) (J .plan .n * wide (J .plan)) q
-  pub c-a : (i q : ℕ) → i < J .plan .m → In (aAt (J .plan) i) (J .plan .k * narrow (J .plan)) q → ¬ OfC J q
+  pub c-a : (i q : ℕ) → i < aRows (J .plan) → In (aAt (J .plan) i) (aColumns (J .plan) * narrow (J .plan)) q → ¬ OfC J q
   pub c-b : (l q : ℕ) → l < J .plan .k → In (bAt (J .plan) l) (J .plan .n * narrow (J .plan)) q → ¬ OfC J q
 
 -- ---- the invariant
 
 -- the sum of the first s products of C(i, j): with s = k it is `productOf`
 abbrev pub partial : Job → ℕ → ℕ → ℕ → ℕ
-partial J i j s =
-    total (wide (J .plan)) (narrow (J .plan)) (λ l. element (J .memory) (aAt (J .plan)) (narrow (J .plan)) i l)
-    (λ l. element (J .memory) (bAt (J .plan)) (narrow (J .plan)) l j) s
+partial J i j s = total (wide (J .plan)) (narrow (J .plan)) (λ l. aOf J i l) (λ l. bOf J l j) s
 
 pub record Registers (J : Job) (regs marks : List ℕ) : Type 0 where
   pub regs-length : length regs ≡ 16 * (J .machine .rows * J .machine .pitch)
@@ -84,10 +82,10 @@ abbrev pub HoldsC : Job → ℕ → ℕ → ℕ → List ℕ → List ℕ → Ty
 HoldsC J i j s regs marks = Holds (accAt (J .machine) 0) (sizeM (shape J) i) (sizeN (shape J) j) (wide (J .plan)) (λ r c. partial J (i + r) (j + c) s) regs marks
 
 abbrev pub HoldsA : Job → ℕ → ℕ → List ℕ → List ℕ → Type 0
-HoldsA J i s regs marks = Holds (tileAt (J .machine) 0) (sizeM (shape J) i) (sizeK (shape J) s) (narrow (J .plan)) (λ r c. element (J .memory) (aAt (J .plan)) (narrow (J .plan)) (i + r) (s + c)) regs marks
+HoldsA J i s regs marks = Holds (tileAt (J .machine) 0) (sizeM (shape J) i) (sizeK (shape J) s) (narrow (J .plan)) (λ r c. aOf J (i + r) (s + c)) regs marks
 
 abbrev pub HoldsB : Job → ℕ → ℕ → List ℕ → List ℕ → Type 0
-HoldsB J s j regs marks = Holds (tileAt (J .machine) 1) (sizeK (shape J) s) (sizeN (shape J) j) (narrow (J .plan)) (λ r c. element (J .memory) (bAt (J .plan)) (narrow (J .plan)) (s + r) (j + c)) regs marks
+HoldsB J s j regs marks = Holds (tileAt (J .machine) 1) (sizeK (shape J) s) (sizeN (shape J) j) (narrow (J .plan)) (λ r c. bOf J (s + r) (j + c)) regs marks
 
 -- at the head of the loop over rows, columns and terms
 pub record InM (J : Job) (i : ℕ) (st : State) (mem : List ℕ) : Type 0 where

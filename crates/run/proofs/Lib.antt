@@ -1,5 +1,6 @@
 -- Laws of the definitions.
 pub mod NumberLaws
+pub mod FormLaws
 pub mod HandedLaws
 pub mod PlaceLaws
 pub mod BeginLaws

@@ -22,7 +22,7 @@ use Rattle.machine.specs.Geometry.{Bench}
 use Rattle.machine.specs.Faults.{soundBench}
 use Rattle.machine.proofs.StepLaws.{permitted-lengths}
 use Rattle.run.specs.declared.Plan.{Plan}
-use Rattle.run.specs.Plan.{narrow, wide, msew, typeOf, aAt, bAt, cAt}
+use Rattle.run.specs.Plan.{narrow, wide, msew, typeOf, aAt, bAt, cAt, aRows, aColumns}
 use Rattle.run.specs.Start.{format, planned, lying, distinct, apart, separate}
 use Rattle.run.proofs.WordLaws.{formats}
 use Rattle.run.proofs.Invariant.{Accepted}
@@ -50,7 +50,7 @@ module _ (len base stride rows n : ℕ) where
 module _ (P : Plan) (mem : List ℕ) where
   abbrev insides : List Bool
   insides =
-      inside (length mem) (P .a .address) (P .a .stride) (P .m) (P .k * narrow P)
+      inside (length mem) (P .a .address) (P .a .stride) (aRows P) (aColumns P * narrow P)
       ∷ inside (length mem) (P .b .address) (P .b .stride) (P .k) (P .n * narrow P)
       ∷ inside (length mem) (P .c .address) (P .c .stride) (P .m) (P .n * wide P) ∷ []
 
@@ -59,7 +59,7 @@ module _ (P : Plan) (mem : List ℕ) where
   inside-is h =
       let t = every-each insides h in
       record {
-        a-lies = all-lie (length mem) (P .a .address) (P .a .stride) (P .m) (P .k * narrow P) (t .0);
+        a-lies = all-lie (length mem) (P .a .address) (P .a .stride) (aRows P) (aColumns P * narrow P) (t .0);
         b-lies = all-lie (length mem) (P .b .address) (P .b .stride) (P .k) (P .n * narrow P) (t .1 .0);
         c-lies = all-lie (length mem) (P .c .address) (P .c .stride) (P .m) (P .n * wide P) (t .1 .1 .0);
       }
@@ -67,7 +67,7 @@ module _ (P : Plan) (mem : List ℕ) where
   pub is-inside : Inside P mem → lying P mem ≡ true
   unfolding lying
   is-inside h = each-every insides (
-    lie-all (length mem) (P .a .address) (P .a .stride) (P .m) (P .k * narrow P) (h .a-lies),
+    lie-all (length mem) (P .a .address) (P .a .stride) (aRows P) (aColumns P * narrow P) (h .a-lies),
     (
       lie-all (length mem) (P .b .address) (P .b .stride) (P .k) (P .n * narrow P) (h .b-lies),
       (lie-all (length mem) (P .c .address) (P .c .stride) (P .m) (P .n * wide P) (h .c-lies), tt),
@@ -117,7 +117,7 @@ module _ (grant : ℕ → ℕ → ℕ) (m : Machine) (P : Plan) where
   abbrev separates : List Bool
   separates =
       distinct (cAt P) (P .m) (P .n * wide P)
-      ∷ apart (aAt P) (P .m) (P .k * narrow P) (cAt P) (P .m) (P .n * wide P)
+      ∷ apart (aAt P) (aRows P) (aColumns P * narrow P) (cAt P) (P .m) (P .n * wide P)
       ∷ apart (bAt P) (P .k) (P .n * narrow P) (cAt P) (P .m) (P .n * wide P)
       ∷ unsealed M (P .c .address) (P .c .stride) (P .m) (P .n * wide P) ∷ []
 
@@ -127,7 +127,7 @@ module _ (grant : ℕ → ℕ → ℕ) (m : Machine) (P : Plan) where
       let t = every-each separates h in
       record {
         rows = distinct-at (cAt P) (P .m) (P .n * wide P) (t .0);
-        from-a = apart-at (aAt P) (P .m) (P .k * narrow P) (cAt P) (P .m) (P .n * wide P) (t .1 .0);
+        from-a = apart-at (aAt P) (aRows P) (aColumns P * narrow P) (cAt P) (P .m) (P .n * wide P) (t .1 .0);
         from-b = apart-at (bAt P) (P .k) (P .n * narrow P) (cAt P) (P .m) (P .n * wide P) (t .1 .1 .0);
         from-seal = λ i q l x. within-not (M .sealAt) (M .sealLen) q
             (clear-at M (cAt P i) (P .n * wide P) (unsealed-at M (P .c .address) (P .c .stride) (P .m) (P .n * wide P) (t .1 .1 .1 .0) i l) q x);
@@ -138,7 +138,7 @@ module _ (grant : ℕ → ℕ → ℕ) (m : Machine) (P : Plan) where
   is-separate h = each-every separates (
     at-distinct (cAt P) (P .m) (P .n * wide P) (h .rows),
     (
-      at-apart (aAt P) (P .m) (P .k * narrow P) (cAt P) (P .m) (P .n * wide P) (h .from-a),
+      at-apart (aAt P) (aRows P) (aColumns P * narrow P) (cAt P) (P .m) (P .n * wide P) (h .from-a),
       (
         at-apart (bAt P) (P .k) (P .n * narrow P) (cAt P) (P .m) (P .n * wide P) (h .from-b),
         (
@@ -171,7 +171,7 @@ module _ (P : Plan) where
   formats-of = isIn (P .sew) (8 ∷ 16 ∷ 32 ∷ []) ∷ isIn (P .factor) (1 ∷ 2 ∷ 4 ∷ []) ∷ leb (P .factor * P .sew) elen ∷ []
 
   abbrev sizes-of : List Bool
-  sizes-of = format (P .sew) (P .factor) ∷ leb (P .m) 1024 ∷ leb (P .k) 1024 ∷ leb (P .n) 1024 ∷ []
+  sizes-of = format (P .sew) (P .factor) ∷ leb (P .m) 1024 ∷ leb (P .k) 1024 ∷ leb (P .n) 1024 ∷ leb (P .kind) 1 ∷ []
 
   pub numbers-are : (B : Bench) → soundBench B ≡ true → planned P ≡ true → Numbers P B
   unfolding planned format
@@ -186,13 +186,14 @@ module _ (P : Plan) where
         m-fits = leb-true (P .m) 1024 (t .1 .0);
         k-fits = leb-true (P .k) 1024 (t .1 .1 .0);
         n-fits = leb-true (P .n) 1024 (t .1 .1 .1 .0);
+        kind-fits = leb-true (P .kind) 1 (t .1 .1 .1 .1 .0);
       }
 
   pub numbers-planned : (B : Bench) → Numbers P B → planned P ≡ true
   unfolding planned format
   numbers-planned B n = each-every sizes-of (
     each-every formats-of (of-one (P .sew) 8 16 32 (n .sew-is), (of-one (P .factor) 1 2 4 (n .factor-is), (le-leb (P .factor * P .sew) elen (n .width-fits), tt))),
-    (le-leb (P .m) 1024 (n .m-fits), (le-leb (P .k) 1024 (n .k-fits), (le-leb (P .n) 1024 (n .n-fits), tt))),
+    (le-leb (P .m) 1024 (n .m-fits), (le-leb (P .k) 1024 (n .k-fits), (le-leb (P .n) 1024 (n .n-fits), (le-leb (P .kind) 1 (n .kind-fits), tt)))),
   )
 
 -- ---- what the turns need

@@ -15,6 +15,8 @@ use Rattle.width.specs.Reduce.{signed, reduce}
 use Rattle.width.proofs.TileLaws as Tile
 use Rattle.width.specs.Tile.{le, In, putTile, markTile}
 use Rattle.width.proofs.BlockLaws.{granted, le-or-lt}
+use Rattle.machine.specs.declared.Form.{Form}
+use Rattle.machine.specs.declared.Form.the-variants.{Plain, Transposed}
 use Rattle.machine.specs.declared.Matrix.{Matrix}
 use Rattle.machine.specs.declared.Matrix.the-variants.{MatrixA, MatrixB, MatrixC}
 use Rattle.machine.specs.declared.Dimension.the-variants.{DimensionM, DimensionK, DimensionN}
@@ -25,7 +27,7 @@ use Rattle.machine.specs.Setting.{sew, mill, maxN, maxK}
 use Rattle.machine.specs.Refusals.{widthOk, widthOf}
 use Rattle.machine.specs.Memory.{rowAt, inside, unsealed}
 use Rattle.machine.proofs.MemoryLaws.{inside-at, block-inside, block-rowAt, clear-part, unsealed-at, unsealed-true}
-use Rattle.machine.specs.Operation.{Operation, element, product, stateAfter, memoryAfter}
+use Rattle.machine.specs.Operation.{Operation, memoryRows, memoryCols, placed, element, product, stateAfter, memoryAfter}
 use Rattle.machine.specs.Refusals.{marked, checks}
 use Rattle.run.specs.declared.Plan.{Plan}
 use Rattle.run.specs.declared.Place.{Place}
@@ -34,7 +36,8 @@ use Rattle.run.specs.Words.{Op, Shape, sizeM, sizeN, sizeK}
 use Rattle.run.specs.Places.{next, headM, headN, headK}
 use Rattle.run.proofs.PlaceLaws.{Sound}
 use Rattle.run.proofs.NumberLaws.{total-small, product-small, cleared, total-more}
-use Rattle.run.specs.Plan.{Job, Kept, shape, narrow, wide, typeOf, aAt, bAt, cAt, OfC}
+use Rattle.run.specs.Plan.{Job, Kept, shape, narrow, wide, typeOf, aAt, bAt, cAt, formOf, aRow, aColumn, aOf, bOf, OfC}
+use Rattle.run.proofs.FormLaws.{block-in}
 use Rattle.run.proofs.Invariant.{operationOf, Accepted, partial, Registers, RowsDone, ColsDone, Holds, HoldsC, InM, InN, InBlock, InK, InTerms, At}
 
 -- ---- writing a register tile
@@ -275,16 +278,17 @@ module _ (J : Job) (A : Accepted J) where
   as-started : (mem : List ℕ) → Kept J mem → (p w : ℕ) → ((q : ℕ) → In p w q → ¬ OfC J q) → le mem p w ≡ le (J .memory) p w
   as-started mem kept p w h = Tile.le-cong mem (J .memory) p p w (λ b l. kept .outside (p + b) (h (p + b) (omega arith)))
 
-  module _ (base stride total n reg i₀ j₀ rows cols : ℕ)
+  -- a block of a matrix in memory
+  module _ (base stride total n i₀ j₀ rows cols : ℕ)
       (in-memory : inside (length (J .memory)) base stride total (n * e) ≡ true)
       (apart : (i q : ℕ) → i < total → In (rowAt base stride i) (n * e) q → ¬ OfC J q)
       (0<rows : zero < rows) (0<n : zero < n) (rows≤ : i₀ + rows ≤ total) (cols≤ : j₀ + cols ≤ n) where
-    load-inside : (mem : List ℕ) → Kept J mem → inside (length mem) (rowAt base stride i₀ + j₀ * e) stride rows (cols * e) ≡ true
-    load-inside mem kept = rw (kept .same-length) (block-inside (length (J .memory)) base stride total (n * e) in-memory i₀ (j₀ * e) rows (cols * e) 0<rows (mul-pos 0<n 0<e) rows≤ (omega (arith, mul-le-mul-right e cols≤)))
+    part-inside : (mem : List ℕ) → Kept J mem → inside (length mem) (rowAt base stride i₀ + j₀ * e) stride rows (cols * e) ≡ true
+    part-inside mem kept = rw (kept .same-length) (block-inside (length (J .memory)) base stride total (n * e) in-memory i₀ (j₀ * e) rows (cols * e) 0<rows (mul-pos 0<n 0<e) rows≤ (omega (arith, mul-le-mul-right e cols≤)))
 
-    load-value : (mem : List ℕ) → Kept J mem → (r c : ℕ) → r < rows → c < cols
+    part-value : (mem : List ℕ) → Kept J mem → (r c : ℕ) → r < rows → c < cols
         → element mem (rowAt (rowAt base stride i₀ + j₀ * e) stride) e r c % 256 ^ e ≡ element (J .memory) (rowAt base stride) e (i₀ + r) (j₀ + c)
-    load-value mem kept r c l l′ =
+    part-value mem kept r c l l′ =
         let p : ℕ = rowAt base stride (i₀ + r) + (j₀ + c) * e in
         let at : rowAt (rowAt base stride i₀ + j₀ * e) stride r ≡ rowAt base stride (i₀ + r) + j₀ * e =
         block-rowAt (length (J .memory)) base stride total (n * e) in-memory i₀ (j₀ * e) rows (cols * e) 0<rows (mul-pos 0<n 0<e) rows≤ (omega (arith, mul-le-mul-right e cols≤)) r l in
@@ -293,14 +297,40 @@ module _ (J : Job) (A : Accepted J) where
         as-started mem kept p e (λ q x. apart (i₀ + r) q (omega arith) (omega (arith, mul-le-mul-right {m = suc (j₀ + c)} {n = n} e (omega arith)))) in
         ap (λ (p : ℕ). le mem p e % 256 ^ e) here ∙ ap (λ (v : ℕ). v % 256 ^ e) same ∙ mod-eq-of-lt (Tile.le-lt (J .memory) (A .bytes) p e)
 
+  -- the address of the block of a load, plain or transposed
+  abbrev from : Form → (base stride i₀ j₀ : ℕ) → ℕ
+  from f base stride i₀ j₀ = rowAt base stride (memoryRows f i₀ j₀) + memoryCols f i₀ j₀ * e
+
+  -- a matrix whose rows in memory lie inside it and apart from C
+  record Apart (f : Form) (base stride total n : ℕ) : Type 0 where
+    in-memory : inside (length (J .memory)) base stride (memoryRows f total n) (memoryCols f total n * e) ≡ true
+    apart : (i q : ℕ) → i < memoryRows f total n → In (rowAt base stride i) (memoryCols f total n * e) q → ¬ OfC J q
+
+  load-value : (f : Form) (base stride total n i₀ j₀ rows cols : ℕ) → Apart f base stride total n
+      → zero < rows → zero < cols → i₀ + rows ≤ total → j₀ + cols ≤ n → (mem : List ℕ) → Kept J mem → (r c : ℕ) → r < rows → c < cols
+      → placed f (element mem (rowAt (from f base stride i₀ j₀) stride) e) r c % 256 ^ e ≡ placed f (element (J .memory) (rowAt base stride) e) (i₀ + r) (j₀ + c)
+  load-value Plain base stride total n i₀ j₀ rows cols a h h′ g g′ mem kept r c l l′ =
+      part-value base stride total n i₀ j₀ rows cols (a .in-memory) (a .apart) h (omega arith) g g′ mem kept r c l l′
+  load-value Transposed base stride total n i₀ j₀ rows cols a h h′ g g′ mem kept r c l l′ =
+      part-value base stride n total j₀ i₀ cols rows (a .in-memory) (a .apart) h′ (omega arith) g′ g mem kept c r l′ l
+
+  module _ (f : Form) (base stride total n reg i₀ j₀ rows cols : ℕ) (a : Apart f base stride total n)
+      (0<rows : zero < rows) (0<cols : zero < cols) (rows≤ : i₀ + rows ≤ total) (cols≤ : j₀ + cols ≤ n) where
+    load-inside : (mem : List ℕ) → Kept J mem → inside (length mem) (from f base stride i₀ j₀) stride (memoryRows f rows cols) (memoryCols f rows cols * e) ≡ true
+    load-inside mem kept =
+        let b = block-in f i₀ j₀ rows cols total n 0<rows 0<cols rows≤ cols≤ in
+        part-inside base stride (memoryRows f total n) (memoryCols f total n) (memoryRows f i₀ j₀) (memoryCols f i₀ j₀) (memoryRows f rows cols) (memoryCols f rows cols)
+        (a .in-memory) (a .apart) (b .0) (b .1) (b .2) (b .3) mem kept
+
     load-holds : (regs marks mem : List ℕ) → Registers J regs marks → Kept J mem → reg < 8 → rows ≤ R → cols * e ≤ L
-        → Holds (tileAt M reg) rows cols e (λ r c. element (J .memory) (rowAt base stride) e (i₀ + r) (j₀ + c))
-        (putTile (tileAt M reg) rows cols e (element mem (rowAt (rowAt base stride i₀ + j₀ * e) stride) e) regs) (markTile (tileAt M reg) rows (cols * e) marks)
-    load-holds regs marks mem ok kept g f f′ =
-        let fit : reg * (R * L) + rows * L ≤ 16 * (R * L) = omega (arith, mul-le-mul-right L f, mul-le-mul-right (R * L) g) in
-        holds (tileAt M reg) (reg * (R * L)) L rows cols e (element mem (rowAt (rowAt base stride i₀ + j₀ * e) stride) e)
-        (λ r c. element (J .memory) (rowAt base stride) e (i₀ + r) (j₀ + c)) regs marks
-        (λ r. refl) f′ (omega (arith, fit, ok .regs-length)) (omega (arith, fit, ok .marks-length)) (load-value mem kept)
+        → Holds (tileAt M reg) rows cols e (λ r c. placed f (element (J .memory) (rowAt base stride) e) (i₀ + r) (j₀ + c))
+        (putTile (tileAt M reg) rows cols e (placed f (element mem (rowAt (from f base stride i₀ j₀) stride) e)) regs) (markTile (tileAt M reg) rows (cols * e) marks)
+    load-holds regs marks mem ok kept g fit-rows fit-cols =
+        let fit : reg * (R * L) + rows * L ≤ 16 * (R * L) = omega (arith, mul-le-mul-right L fit-rows, mul-le-mul-right (R * L) g) in
+        holds (tileAt M reg) (reg * (R * L)) L rows cols e (placed f (element mem (rowAt (from f base stride i₀ j₀) stride) e))
+        (λ r c. placed f (element (J .memory) (rowAt base stride) e) (i₀ + r) (j₀ + c)) regs marks
+        (λ r. refl) fit-cols (omega (arith, fit, ok .regs-length)) (omega (arith, fit, ok .marks-length))
+        (load-value f base stride total n i₀ j₀ rows cols a 0<rows 0<cols rows≤ cols≤ mem kept)
 
   -- ---- the checks of a block with its terms
 
@@ -327,9 +357,11 @@ module _ (J : Job) (A : Accepted J) where
       let k′ = size-k s (h .s<k) in
       let mem-ok : Kept J mem = blk .in-n .in-m .kept in
       let regs-ok = blk .in-n .in-m .registers in
-      let ins : inside (length mem) (aAt P i + s * e) (P .a .stride) (st .tileM) (st .tileK * e) ≡ true =
+      let f : Form = formOf P in
+      let a : Apart f (P .a .address) (P .a .stride) (P .m) (P .k) = record { in-memory = A .a-in; apart = A .c-a } in
+      let ins : inside (length mem) (aAt P (aRow P i s) + aColumn P i s * e) (P .a .stride) (memoryRows f (st .tileM) (st .tileK)) (memoryCols f (st .tileM) (st .tileK) * e) ≡ true =
       rw (blk .in-n .tile-m, h .tile-k)
-      (load-inside (P .a .address) (P .a .stride) (P .m) (P .k) 0 i s (sizeM S i) (sizeK S s) (A .a-in) (A .c-a) (m′ .0) (omega arith) (omega arith) (omega arith) mem mem-ok) in
+      (load-inside f (P .a .address) (P .a .stride) (P .m) (P .k) 0 i s (sizeM S i) (sizeK S s) a (m′ .0) (k′ .0) (omega arith) (omega arith) mem mem-ok) in
       done (AtA i j s) o st mem
       (no-mill st (typed i j st mem blk), (narrow-ok i j st mem blk MatrixA tt, (ok-m i j st mem blk, (ok-k i j s st mem h, (ins, tt))))) (
         record {
@@ -342,7 +374,7 @@ module _ (J : Job) (A : Accepted J) where
           tile-k = h .tile-k;
         },
         rw (blk .in-n .tile-m, h .tile-k)
-            (load-holds (P .a .address) (P .a .stride) (P .m) (P .k) 0 i s (sizeM S i) (sizeK S s) (A .a-in) (A .c-a) (m′ .0) (omega arith) (omega arith) (omega arith) (st .regs) (st .marks) mem regs-ok mem-ok (omega arith) (m′ .2) (k-narrow s (h .s<k))),
+            (load-holds f (P .a .address) (P .a .stride) (P .m) (P .k) 0 i s (sizeM S i) (sizeK S s) a (m′ .0) (k′ .0) (omega arith) (omega arith) (st .regs) (st .marks) mem regs-ok mem-ok (omega arith) (m′ .2) (k-narrow s (h .s<k))),
       )
 
   pub turn-b : (i j s : ℕ) (st : State) (mem : List ℕ) → At J (AtB i j s) st mem → Turned (AtB i j s) (operationOf P (Op.loadB s j)) st mem
@@ -355,9 +387,10 @@ module _ (J : Job) (A : Accepted J) where
       let mem-ok : Kept J mem = blk .in-n .in-m .kept in
       let regs-ok = blk .in-n .in-m .registers in
       let k≤R : sizeK S s ≤ R = omega (arith, min-le-left R (S .tn)) in
+      let b : Apart Plain (P .b .address) (P .b .stride) (P .k) (P .n) = record { in-memory = A .b-in; apart = A .c-b } in
       let ins : inside (length mem) (bAt P s + j * e) (P .b .stride) (st .tileK) (st .tileN * e) ≡ true =
       rw (h .tile-k, blk .tile-n)
-      (load-inside (P .b .address) (P .b .stride) (P .k) (P .n) 1 s j (sizeK S s) (sizeN S j) (A .b-in) (A .c-b) (k′ .0) (omega arith) (omega arith) (omega arith) mem mem-ok) in
+      (load-inside Plain (P .b .address) (P .b .stride) (P .k) (P .n) 1 s j (sizeK S s) (sizeN S j) b (k′ .0) (n′ .0) (omega arith) (omega arith) mem mem-ok) in
       done (AtB i j s) o st mem
       (no-mill st (typed i j st mem blk), (narrow-ok i j st mem blk MatrixB tt, (ok-k i j s st mem h, (ok-n i j st mem blk, (ins, tt))))) (
         record {
@@ -370,10 +403,10 @@ module _ (J : Job) (A : Accepted J) where
           tile-k = h .tile-k;
         },
         rw (h .tile-k, blk .tile-n)
-            (holds-still (tileAt M 0) (sizeM S i) (sizeK S s) e (λ r c. element (J .memory) (aAt P) e (i + r) (s + c)) (tileAt M 1) (sizeK S s) (sizeN S j) e _ (st .regs) (st .marks)
+            (holds-still (tileAt M 0) (sizeM S i) (sizeK S s) e (λ r c. aOf J (i + r) (s + c)) (tileAt M 1) (sizeK S s) (sizeN S j) e _ (st .regs) (st .marks)
             (λ x y l l′. inl (omega (arith, mul-le-mul-right {m = suc x} {n = R} L (omega (arith, size-m i (blk .in-n .i<m))), k-narrow s (h .s<k)))) ha),
         rw (h .tile-k, blk .tile-n)
-            (load-holds (P .b .address) (P .b .stride) (P .k) (P .n) 1 s j (sizeK S s) (sizeN S j) (A .b-in) (A .c-b) (k′ .0) (omega arith) (omega arith) (omega arith) (st .regs) (st .marks) mem regs-ok mem-ok (omega arith) k≤R (n-narrow j (blk .j<n))),
+            (load-holds Plain (P .b .address) (P .b .stride) (P .k) (P .n) 1 s j (sizeK S s) (sizeN S j) b (k′ .0) (n′ .0) (omega arith) (omega arith) (st .regs) (st .marks) mem regs-ok mem-ok (omega arith) k≤R (n-narrow j (blk .j<n))),
       )
 
   -- ---- multiply
@@ -414,7 +447,7 @@ module _ (J : Job) (A : Accepted J) where
         holds-c = rw (blk .in-n .tile-m, blk .tile-n, h .tile-k, w-is i j st mem blk, e-is i j st mem blk) (
             holds (accAt M 0) (8 * (R * L)) (4 * L) (sizeM S i) (sizeN S j) W value (λ r c. partial J (i + r) (j + c) (s + sizeK S s)) (st .regs) (st .marks)
             (λ r. omega arith) (n-wide j (blk .j<n)) (omega (arith, acc-fits i j st mem blk, regs-ok .regs-length)) (omega (arith, acc-fits i j st mem blk, regs-ok .marks-length))
-            (λ r c l l′. product-small W e (sizeK S s) (element (st .regs) (accAt M 0) W r c) (λ t. element (st .regs) (tileAt M 0) e r t) (λ t. element (st .regs) (tileAt M 1) e t c) ∙ total-more W e (λ l. element (J .memory) (aAt P) e (i + r) l) (λ l. element (J .memory) (bAt P) e l (j + c)) s (sizeK S s) (element (st .regs) (accAt M 0) W r c) (λ t. element (st .regs) (tileAt M 0) e r t) (λ t. element (st .regs) (tileAt M 1) e t c)
+            (λ r c l l′. product-small W e (sizeK S s) (element (st .regs) (accAt M 0) W r c) (λ t. element (st .regs) (tileAt M 0) e r t) (λ t. element (st .regs) (tileAt M 1) e t c) ∙ total-more W e (λ l. aOf J (i + r) l) (λ l. bOf J l (j + c)) s (sizeK S s) (element (st .regs) (accAt M 0) W r c) (λ t. element (st .regs) (tileAt M 0) e r t) (λ t. element (st .regs) (tileAt M 1) e t c)
             (h .in-k .holds-c .values r c l l′) (λ t g. ha .values r t l g) (λ t g. hb .values t c g l′)));
       }))
 

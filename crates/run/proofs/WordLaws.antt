@@ -10,7 +10,8 @@ use lib.IntN.{ℤ, pos, _+ℤ_, _*ℤ_}
 use Rattle.width.specs.Reduce.{signed, reduce}
 use Rattle.width.proofs.ReduceLaws.{reduce-add, reduce-mul, reduce-signed}
 use borrow.Author.Tests.{eqb-true, ltb-true}
-use Rattle.machine.specs.declared.Form.the-variants.{Plain}
+use Rattle.machine.specs.declared.Form.{Form}
+use Rattle.machine.specs.declared.Form.the-variants.{Plain, Transposed}
 use Rattle.machine.specs.declared.Matrix.the-variants.{MatrixA, MatrixB, MatrixC}
 use Rattle.machine.specs.declared.Dimension.the-variants.{DimensionM, DimensionK, DimensionN}
 use Rattle.machine.specs.declared.Factor.{Factor}
@@ -31,9 +32,9 @@ use Rattle.run.specs.declared.Layout.{Layout}
 use Rattle.run.specs.declared.Plan.{Plan}
 use Rattle.run.specs.declared.Handed.{Handed}
 use Rattle.run.specs.Words.{Op}
-use Rattle.run.specs.Plan.{narrow, wide, msew, typeOf, aAt, bAt, cAt}
+use Rattle.run.specs.Plan.{narrow, wide, msew, typeOf, aAt, bAt, cAt, formOf, aRow, aColumn}
 use Rattle.run.specs.Start.{format}
-use Rattle.run.specs.Encoding.{settingWord, memoryWord, arithmeticWord, log, own, startOf, handedFor}
+use Rattle.run.specs.Encoding.{settingWord, memoryWord, arithmeticWord, log, own, startOf, loadCode, handedFor}
 use Rattle.run.proofs.Invariant.{operationOf}
 
 -- ---- settings
@@ -61,12 +62,16 @@ decode-n imm h = let t = setting-fields 6 imm (omega arith) h in rw (t .0, t .1,
 
 -- ---- loads and stores
 
-pub decode-a : (e : ℕ) → e < 3 → decode (memoryWord 2 e 0) ≡ Load Plain MatrixA (2 ^ e) 0 10 11
+pub decode-a : (f : Form) (e : ℕ) → e < 3 → decode (memoryWord (loadCode f) e 0) ≡ Load f MatrixA (2 ^ e) 0 10 11
 unfolding decode listing
-decode-a zero h = refl
-decode-a (suc zero) h = refl
-decode-a (suc (suc zero)) h = refl
-decode-a (suc (suc (suc e))) h = absurd (omega arith)
+decode-a Plain zero h = refl
+decode-a Plain (suc zero) h = refl
+decode-a Plain (suc (suc zero)) h = refl
+decode-a Plain (suc (suc (suc e))) h = absurd (omega arith)
+decode-a Transposed zero h = refl
+decode-a Transposed (suc zero) h = refl
+decode-a Transposed (suc (suc zero)) h = refl
+decode-a Transposed (suc (suc (suc e))) h = absurd (omega arith)
 
 pub decode-b : (e : ℕ) → e < 3 → decode (memoryWord 4 e 1) ≡ Load Plain MatrixB (2 ^ e) 1 10 11
 unfolding decode listing
@@ -231,11 +236,12 @@ module _ (M : Parameters) (P : Plan) (ok : format (P .sew) (P .factor) ≡ true)
     means = ap (λ (f : ℕ). Operation.multiply f 0 0 1) (of-factor .is);
   }
 
-  pub reads-a : (i s : ℕ) → rowZ (P .a .address) (P .a .stride) i ≡ pos (aAt P i) → aAt P i + s * narrow P < 2 ^ 64 → Reads M st (handedFor P (Op.loadA i s)) (operationOf P (Op.loadA i s))
+  pub reads-a : (i s : ℕ) → rowZ (P .a .address) (P .a .stride) (aRow P i s) ≡ pos (aAt P (aRow P i s)) → aAt P (aRow P i s) + aColumn P i s * narrow P < 2 ^ 64
+      → Reads M st (handedFor P (Op.loadA i s)) (operationOf P (Op.loadA i s))
   reads-a i s e small = record {
-    instruction = Load Plain MatrixA (2 ^ msew P) 0 10 11;
-    decodes = decode-a (msew P) msew<3;
-    means = ap₂ (λ (w p : ℕ). Operation.load Plain MatrixA 0 w p (P .a .stride)) narrow-is (start-is (P .a) i (s * narrow P) (aAt P i) e small);
+    instruction = Load (formOf P) MatrixA (2 ^ msew P) 0 10 11;
+    decodes = decode-a (formOf P) (msew P) msew<3;
+    means = ap₂ (λ (w p : ℕ). Operation.load (formOf P) MatrixA 0 w p (P .a .stride)) narrow-is (start-is (P .a) (aRow P i s) (aColumn P i s * narrow P) (aAt P (aRow P i s)) e small);
   }
 
   pub reads-b : (s j : ℕ) → rowZ (P .b .address) (P .b .stride) s ≡ pos (bAt P s) → bAt P s + j * narrow P < 2 ^ 64 → Reads M st (handedFor P (Op.loadB s j)) (operationOf P (Op.loadB s j))

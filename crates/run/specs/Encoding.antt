@@ -6,12 +6,14 @@ use lib.ListN.{getD, replicate}
 use lib.Dec.{eqb}
 use lib.IntN.{pos, _+ℤ_}
 use Rattle.width.specs.Reduce.{reduce}
+use Rattle.machine.specs.declared.Form.{Form}
+use Rattle.machine.specs.declared.Form.the-variants.{Plain, Transposed}
 use Rattle.machine.specs.Memory.{rowZ}
 use Rattle.run.specs.declared.Layout.{Layout}
 use Rattle.run.specs.declared.Plan.{Plan}
 use Rattle.run.specs.declared.Handed.{Handed}
 use Rattle.run.specs.Words.{Op}
-use Rattle.run.specs.Plan.{narrow, wide, msew, typeOf}
+use Rattle.run.specs.Plan.{narrow, wide, msew, typeOf, formOf, aRow, aColumn}
 use mathlib.Core.List.{map}
 use Rattle.run.specs.Words.{words}
 use Rattle.run.specs.Plan.{Job, shape}
@@ -43,15 +45,24 @@ plain word = record { word = word; address = 0; stride = 0 }
 abbrev pub startOf : Layout → ℕ → ℕ → ℕ
 startOf l i b = reduce (2 ^ 64) (rowZ (l .address) (l .stride) i +ℤ pos b)
 
+-- mlae, or where A is kept transposed mlate
+abbrev pub loadCode : Form → ℕ
+loadCode Plain = 0b0000010
+loadCode Transposed = 0b0001010
+
 -- msettypei, msettilemi, msettileki, msettileni; memulc.mi, mwemulc.mi or mqemulc.mi with immediate 0 ("the clear names acc0 as md
--- and ms1"); mlae to tr0; mlbe to tr1; mma, mwma or mqma of tr0 and tr1 to acc0; msce of acc0 at f x SEW
+-- and ms1"); mlae, or mlate by the kind, to tr0; mlbe to tr1; mma, mwma or mqma of tr0 and tr1 to acc0; msce of acc0 at f x SEW
 abbrev pub handedFor : Plan → Op → Handed
 handedFor P Op.setType = plain (settingWord 0b0000 (typeOf P))
 handedFor P (Op.setM a) = plain (settingWord 0b0010 a)
 handedFor P (Op.setK a) = plain (settingWord 0b0100 a)
 handedFor P (Op.setN a) = plain (settingWord 0b0110 a)
 handedFor P Op.clear = plain (arithmeticWord (0b010000 + log (P .factor)) 0)
-handedFor P (Op.loadA i s) = record { word = memoryWord 0b0000010 (msew P) 0; address = startOf (P .a) i (s * narrow P); stride = P .a .stride }
+handedFor P (Op.loadA i s) = record {
+  word = memoryWord (loadCode (formOf P)) (msew P) 0;
+  address = startOf (P .a) (aRow P i s) (aColumn P i s * narrow P);
+  stride = P .a .stride;
+}
 handedFor P (Op.loadB s j) = record { word = memoryWord 0b0000100 (msew P) 1; address = startOf (P .b) s (j * narrow P); stride = P .b .stride }
 handedFor P Op.multiply = plain (arithmeticWord (log (P .factor)) 1)
 handedFor P (Op.store i j) = record { word = memoryWord 0b0000001 (msew P + log (P .factor)) 0; address = startOf (P .c) i (j * wide P); stride = P .c .stride }

@@ -1,21 +1,32 @@
--- Starts that are refused and places that hand out nothing, with their neighbours, computed: MLEN 128, RLEN 64, a memory of 64 bytes.
+-- Starts that are refused and places that hand out nothing, with their neighbours, and a run that keeps A transposed, computed: MLEN
+-- 128, RLEN 64, a memory of 64 bytes.
 use mathlib.Core.Path.{_≡_, refl}
-use mathlib.Core.List.{List, [], _∷_, map}
+use mathlib.Core.List.{List, [], _∷_, _++_, map}
 use Prim.Native.Nat.{ℕ, _-_, _^_}
 use lib.ListN.{replicate}
+use lib.IntN.{pos, negsuc}
+use Rattle.width.specs.Reduce.{reduce}
+use Rattle.width.specs.Tile.{putTile, putRow, putLe, markTile, markRow}
 use Rattle.width.specs.Blocks.{chunks}
 use Rattle.machine.specs.Geometry.{permitted}
 use Rattle.machine.specs.Setting.{smaller, newType, legalType, sew}
 use Rattle.machine.specs.Memory.{inside, misses, rowsMiss}
+use Rattle.machine.specs.Operation.{element}
+use Rattle.machine.specs.Refusals.{widthOk, widthOf, marked}
+use Rattle.machine.specs.Listing.{decode, listing}
+use Rattle.machine.specs.Step.{stepBy, outcome}
 use Rattle.machine.specs.Geometry.{Bench}
 use Rattle.machine.specs.Faults.{sound}
 use Rattle.run.specs.declared.Layout.{Layout}
 use Rattle.run.specs.declared.Plan.{Plan}
 use Rattle.run.specs.declared.Place.{Place}
 use Rattle.run.specs.declared.Place.the-variants.{AtType, AtM, AtN, AtMultiply, AtStore, AtEnd}
-use Rattle.run.specs.Plan.{narrow, msew, typeOf}
+use Rattle.run.specs.declared.Handed.{Handed}
+use Rattle.run.specs.Words.{loadA}
+use Rattle.run.specs.Plan.{narrow, msew, typeOf, cAt}
+use Rattle.run.specs.Encoding.{handedFor}
 use Rattle.run.specs.Start.{startRun, format, planned, lying, distinct, apart, separate}
-use Rattle.run.specs.Turn.{soundRun, ask}
+use Rattle.run.specs.Turn.{soundRun, ask, Running, afterTurns, answeredDone}
 
 -- a sound machine with a seal, or one at fault for its mtype
 pub bench : (mtype sealStart sealLength : ℕ) → Bench
@@ -30,7 +41,10 @@ pub layout : ℕ → ℕ → Layout
 layout address stride = record { address = address; stride = stride }
 
 pub plan : (s f m k n : ℕ) → Layout → Layout → Layout → Plan
-plan s f m k n a b c = record { sew = s; factor = f; m = m; k = k; n = n; a = a; b = b; c = c }
+plan s f m k n a b c = record { kind = 0; sew = s; factor = f; m = m; k = k; n = n; a = a; b = b; c = c }
+
+pub ofKind : ℕ → Plan → Plan
+ofKind kind P = record { kind = kind; sew = P .sew; factor = P .factor; m = P .m; k = P .k; n = P .n; a = P .a; b = P .b; c = P .c }
 
 pub record Line : Type 0 where
   pub got : ℕ
@@ -41,6 +55,10 @@ gives B P want = record { got = startRun smaller P B .answer .number; want = wan
 
 pub free : Bench
 free = bench 0 0 0
+
+-- 1 x 3 x 1 at SEW 8, f = 1, with A's rows 2 bytes apart
+pub dot : (a c : ℕ) → Plan
+dot a c = plan 8 1 1 3 1 (layout a 2) (layout 8 1) (layout c 1)
 
 -- 2 x 2 x 2 at SEW 8, f = 1
 pub small : Layout → Layout → Layout → Plan
@@ -76,10 +94,19 @@ examples =
     ∷ gives (bench 0 17 0) (small (layout 0 2) (layout 8 2) (layout 16 2)) 0
     -- C's rows may lie in the gaps of A; A and B may share bytes; sealed bytes may be read
     ∷ gives (bench 0 0 10) (small (layout 0 8) (layout 0 8) (layout 10 4)) 0
+    -- of kind 1, A is 3 rows of 1 element, not 1 row of 3: 6 and 9. There is no kind 2
+    ∷ gives free (dot 61 16) 0
+    ∷ gives free (ofKind 1 (dot 61 16)) 6
+    ∷ gives free (ofKind 1 (dot 59 16)) 0
+    ∷ gives free (dot 12 13) 9
+    ∷ gives free (ofKind 1 (dot 12 13)) 0
+    ∷ gives free (dot 12 16) 0
+    ∷ gives free (ofKind 1 (dot 12 16)) 9
+    ∷ gives free (ofKind 2 (dot 59 16)) 8
     ∷ []
 
 pub starts : map (λ l. l .got) examples ≡ map (λ l. l .want) examples
-unfolding examples bench layout plan gives free small permitted newType legalType sew inside misses rowsMiss sound narrow msew typeOf startRun format planned lying distinct apart separate
+unfolding examples bench layout plan ofKind dot gives free small permitted newType legalType sew inside misses rowsMiss sound narrow msew typeOf startRun format planned lying distinct apart separate
 starts = refl
 
 -- ---- asking
@@ -111,3 +138,36 @@ places =
 pub asked-at : map (λ l. l .got) places ≡ map (λ l. l .want) places
 unfolding places asks layout plan permitted sew msew typeOf format planned soundRun chunks
 asked-at = refl
+
+-- ---- A kept transposed
+
+-- the load of A for the block at row 2 and term 4, at SEW 16: mlae16 from row 2 and 4 elements, mlate16 from row 4 and 2 elements
+pub load : ℕ → List ℕ
+load kind =
+    let h : Handed = handedFor (ofKind kind (plan 16 1 8 8 8 (layout 100 32) (layout 0 16) (layout 0 16))) (loadA 2 4) in h .word ∷ h .address ∷ h .stride ∷ []
+
+pub loads : load 0 ++ load 1 ≡ 0x04B51077 ∷ 172 ∷ 32 ∷ 0x14B51077 ∷ 232 ∷ 32 ∷ []
+unfolding load ofKind plan layout narrow msew reduce
+loads = refl
+
+-- 01's product example with A's rows, 1 2 3 and -4 5 -6, kept as columns; its terms go in two blocks
+pub columns : Plan
+columns = ofKind 1 (plan 8 4 2 3 2 (layout 0 2) (layout 6 2) (layout 12 8))
+
+pub counted : Running
+counted =
+    let B : Bench = record {
+      machine = free .machine;
+      registers = free .registers;
+      marks = free .marks;
+      memory = 1 ∷ 252 ∷ 2 ∷ 5 ∷ 3 ∷ 250 ∷ 7 ∷ 8 ∷ 9 ∷ 10 ∷ 11 ∷ 12 ∷ replicate 16 99;
+    } in
+    record { run = startRun smaller columns B .run; bench = B }
+
+pub after : ℕ → ℕ → ℕ → ℕ
+after t i j = element (afterTurns smaller counted t .bench .memory) (cAt columns) 4 i j
+
+pub product-is : answeredDone smaller counted 15 ∷ after 13 0 0 ∷ after 13 0 1 ∷ after 13 1 0 ∷ after 13 1 1 ∷ []
+    ≡ 13 ∷ reduce (256 ^ 4) (pos 58) ∷ reduce (256 ^ 4) (pos 64) ∷ reduce (256 ^ 4) (negsuc 48) ∷ reduce (256 ^ 4) (negsuc 53) ∷ []
+unfolding columns counted after ofKind plan layout free bench permitted sew newType legalType widthOk widthOf inside misses rowsMiss marked listing decode sound stepBy outcome narrow msew typeOf startRun soundRun format planned lying distinct apart separate chunks putTile putRow putLe markTile markRow reduce
+product-is = refl

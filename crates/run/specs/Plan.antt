@@ -8,10 +8,12 @@ use lib.Dec.{eqb}
 use lib.IntN.{_*ℤ_}
 use Rattle.width.specs.Reduce.{signed, reduce, sumℤ}
 use Rattle.width.specs.Tile.{In}
+use Rattle.machine.specs.declared.Form.{Form}
+use Rattle.machine.specs.declared.Form.the-variants.{Plain, Transposed}
 use Rattle.machine.specs.Geometry.{Parameters}
 use Rattle.machine.specs.Setting.{maxM, maxK, maxN}
 use Rattle.machine.specs.Memory.{rowAt}
-use Rattle.machine.specs.Operation.{element}
+use Rattle.machine.specs.Operation.{element, memoryRows, memoryCols, placed}
 use Rattle.run.specs.declared.Plan.{Plan}
 use Rattle.run.specs.Words.{Shape}
 
@@ -39,6 +41,24 @@ bAt P i = rowAt (P .b .address) (P .b .stride) i
 abbrev pub cAt : Plan → ℕ → ℕ
 cAt P i = rowAt (P .c .address) (P .c .stride) i
 
+-- 02, Two: "Add a product run in which A is kept transposed": that of kind 1, which loads A transposed; all else of a run is the same
+abbrev pub formOf : Plan → Form
+formOf P = cond (eqb (P .kind) 1) Transposed Plain
+
+-- where element (i, l) of A is kept: row i, element l; "A(i, l) is element i of row l in memory" where A is kept transposed
+abbrev pub aRow : Plan → ℕ → ℕ → ℕ
+aRow P i l = memoryRows (formOf P) i l
+
+abbrev pub aColumn : Plan → ℕ → ℕ → ℕ
+aColumn P i l = memoryCols (formOf P) i l
+
+-- A's rows in memory, and the elements of each: m rows of k, or transposed k rows of m
+abbrev pub aRows : Plan → ℕ
+aRows P = memoryRows (formOf P) (P .m) (P .k)
+
+abbrev pub aColumns : Plan → ℕ
+aColumns P = memoryCols (formOf P) (P .m) (P .k)
+
 -- a machine, a plan and the memory at the start
 pub record Job : Type 0 where
   pub machine : Parameters
@@ -61,12 +81,17 @@ shape J = record {
 unfoldable pub total : (wide narrow : ℕ) → (a b : ℕ → ℕ) → ℕ → ℕ
 total wide narrow a b s = reduce (256 ^ wide) (sumℤ s (λ l. signed (256 ^ narrow) (a l) *ℤ signed (256 ^ narrow) (b l)))
 
--- "C(i, j) is the sum, for l from 0 to k - 1, of A(i, l) x B(l, j), reduced to f x SEW bits in two's complement; with k = 0 it is 0.
--- A(i, l) and B(l, j) are the elements of SEW bits, signed, that memory held at the start"
+-- A(i, l) and B(l, j) "are the elements of SEW bits, signed, that memory held at the start"; and of a run that keeps A transposed,
+-- "A(i, l) is element i of row l in memory"
+abbrev pub aOf : Job → ℕ → ℕ → ℕ
+aOf J = placed (formOf (J .plan)) (element (J .memory) (aAt (J .plan)) (narrow (J .plan)))
+
+abbrev pub bOf : Job → ℕ → ℕ → ℕ
+bOf J = element (J .memory) (bAt (J .plan)) (narrow (J .plan))
+
+-- "C(i, j) is the sum, for l from 0 to k - 1, of A(i, l) x B(l, j), reduced to f x SEW bits in two's complement; with k = 0 it is 0."
 abbrev pub productOf : Job → ℕ → ℕ → ℕ
-productOf J i j =
-    total (wide (J .plan)) (narrow (J .plan)) (λ l. element (J .memory) (aAt (J .plan)) (narrow (J .plan)) i l)
-    (λ l. element (J .memory) (bAt (J .plan)) (narrow (J .plan)) l j) (J .plan .k)
+productOf J i j = total (wide (J .plan)) (narrow (J .plan)) (λ l. aOf J i l) (λ l. bOf J l j) (J .plan .k)
 
 -- byte q is one of C's elements: "A row's bytes are those of its elements"
 abbrev pub OfC : Job → ℕ → Type 0

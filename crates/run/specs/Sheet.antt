@@ -38,6 +38,7 @@ scalars v = 77 ∷ replicate 9 0 ++ v ∷ replicate 21 0
 -- a product at SEW 8: A from 0 on, B behind it and C behind B, row after row
 unfoldable pub plan : (f m k n : ℕ) → Plan
 plan f m k n = record {
+  kind = 0;
   sew = 8;
   factor = f;
   m = m;

@@ -16,19 +16,20 @@ use Rattle.run.specs.declared.Plan.{Plan}
 use Rattle.run.specs.declared.Run.{Run}
 use Rattle.run.specs.declared.RunStarted.{RunStarted}
 use Rattle.run.specs.declared.Place.the-variants.{AtType, AtEnd}
-use Rattle.run.specs.Plan.{narrow, wide, aAt, bAt, cAt}
+use Rattle.run.specs.Plan.{narrow, wide, aAt, bAt, cAt, aRows, aColumns}
 
 -- "Answer 8 for .. SEW not 8, 16 or 32, f not 1, 2 or 4, f x SEW above ELEN, or a size above 1,024"
 unfoldable pub format : ℕ → ℕ → Bool
 format sew f = every (isIn sew (8 ∷ 16 ∷ 32 ∷ []) ∷ isIn f (1 ∷ 2 ∷ 4 ∷ []) ∷ leb (f * sew) elen ∷ [])
 
+-- and for a kind that is not 0 or 1
 unfoldable pub planned : Plan → Bool
-planned P = every (format (P .sew) (P .factor) ∷ leb (P .m) 1024 ∷ leb (P .k) 1024 ∷ leb (P .n) 1024 ∷ [])
+planned P = every (format (P .sew) (P .factor) ∷ leb (P .m) 1024 ∷ leb (P .k) 1024 ∷ leb (P .n) 1024 ∷ leb (P .kind) 1 ∷ [])
 
 -- "then 6 for an element outside memory": every byte of every row of A, B and C lies in memory
 unfoldable pub lying : Plan → List ℕ → Bool
 lying P mem = every (
-    inside (length mem) (P .a .address) (P .a .stride) (P .m) (P .k * narrow P)
+    inside (length mem) (P .a .address) (P .a .stride) (aRows P) (aColumns P * narrow P)
     ∷ inside (length mem) (P .b .address) (P .b .stride) (P .k) (P .n * narrow P)
     ∷ inside (length mem) (P .c .address) (P .c .stride) (P .m) (P .n * wide P) ∷ [])
 
@@ -44,7 +45,7 @@ apart at rows n at′ rows′ o = all rows (λ i. all n (λ b. all rows′ (λ k
 unfoldable pub separate : Parameters → Plan → Bool
 separate M P = every (
     distinct (cAt P) (P .m) (P .n * wide P)
-    ∷ apart (aAt P) (P .m) (P .k * narrow P) (cAt P) (P .m) (P .n * wide P)
+    ∷ apart (aAt P) (aRows P) (aColumns P * narrow P) (cAt P) (P .m) (P .n * wide P)
     ∷ apart (bAt P) (P .k) (P .n * narrow P) (cAt P) (P .m) (P .n * wide P)
     ∷ unsealed M (P .c .address) (P .c .stride) (P .m) (P .n * wide P) ∷ [])
 

@@ -20,15 +20,15 @@ use Rattle.run.specs.declared.Plan.{Plan}
 use Rattle.run.specs.declared.Run.{Run}
 use Rattle.run.specs.declared.Handed.{Handed}
 use Rattle.run.specs.Words.{steps}
-use Rattle.run.specs.Plan.{Job, Kept, shape, narrow, wide, aAt, bAt, cAt, productOf}
+use Rattle.run.specs.Plan.{Job, Kept, shape, narrow, wide, aAt, bAt, cAt, aRows, aColumns, productOf}
 use Rattle.run.specs.Start.{startRun}
 use Rattle.run.specs.Encoding.{wordList, wordOf}
 use Rattle.run.specs.Turn.{Ask, ask, Running, Turn, turn, afterTurns, answeredDone}
 
 -- ---- when a start is accepted
 
--- 8: the state is not at fault (machine/specs/Faults.antt), SEW is 8, 16 or 32, f is 1, 2 or 4, f x SEW is at most ELEN, and no size is
--- above 1,024
+-- 8: the state is not at fault (machine/specs/Faults.antt), SEW is 8, 16 or 32, f is 1, 2 or 4, f x SEW is at most ELEN, no size is
+-- above 1,024, and the kind is 0 or 1
 pub record Numbers (P : Plan) (B : Bench) : Type 0 where
   pub no-fault : soundBench B ≡ true
   pub sew-is : (P .sew ≡ 8) ⊎ ((P .sew ≡ 16) ⊎ (P .sew ≡ 32))
@@ -37,6 +37,7 @@ pub record Numbers (P : Plan) (B : Bench) : Type 0 where
   pub m-fits : P .m ≤ 1024
   pub k-fits : P .k ≤ 1024
   pub n-fits : P .n ≤ 1024
+  pub kind-fits : P .kind ≤ 1
 
 -- a place in a memory of len bytes
 abbrev pub Lies : ℕ → ℤ → Type 0
@@ -44,14 +45,14 @@ Lies len z = (p : ℕ) × (z ≡ pos p) × (p < len)
 
 -- 6: every byte of every row of A, B and C lies in memory
 pub record Inside (P : Plan) (mem : List ℕ) : Type 0 where
-  pub a-lies : (i b : ℕ) → i < P .m → b < P .k * narrow P → Lies (length mem) (rowZ (P .a .address) (P .a .stride) i +ℤ pos b)
+  pub a-lies : (i b : ℕ) → i < aRows P → b < aColumns P * narrow P → Lies (length mem) (rowZ (P .a .address) (P .a .stride) i +ℤ pos b)
   pub b-lies : (i b : ℕ) → i < P .k → b < P .n * narrow P → Lies (length mem) (rowZ (P .b .address) (P .b .stride) i +ℤ pos b)
   pub c-lies : (i b : ℕ) → i < P .m → b < P .n * wide P → Lies (length mem) (rowZ (P .c .address) (P .c .stride) i +ℤ pos b)
 
 -- 9: no byte q lies in two rows of C, in a row of A or B and one of C, or in a row of C and the seal
 pub record Separate (m : Machine) (P : Plan) : Type 0 where
   pub rows : (i k q : ℕ) → i < k → k < P .m → In (cAt P i) (P .n * wide P) q → ¬ In (cAt P k) (P .n * wide P) q
-  pub from-a : (i k q : ℕ) → i < P .m → k < P .m → In (aAt P i) (P .k * narrow P) q → ¬ In (cAt P k) (P .n * wide P) q
+  pub from-a : (i k q : ℕ) → i < aRows P → k < P .m → In (aAt P i) (aColumns P * narrow P) q → ¬ In (cAt P k) (P .n * wide P) q
   pub from-b : (i k q : ℕ) → i < P .k → k < P .m → In (bAt P i) (P .n * narrow P) q → ¬ In (cAt P k) (P .n * wide P) q
   pub from-seal : (i q : ℕ) → i < P .m → In (cAt P i) (P .n * wide P) q → ¬ In (m .«seal_start») (m .«seal_length») q
 

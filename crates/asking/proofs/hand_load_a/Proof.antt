@@ -1,43 +1,41 @@
-use mathlib.Core.Path.{ap, _∙_}
-use Prim.Native.Nat.{ℕ, _*_}
+use mathlib.Core.Path.{sym, ap, ap₂, _∙_, subst}
+use Prim.Native.Nat.{ℕ, _*_, _≤_}
+use native.Mathlib.Omega.{arith}
+use Rattle.run.specs.Plan.{narrow, msew, formOf}
 use Rattle.run.specs.Encoding.{memoryWord, startOf}
+use Rattle.run.proofs.FormLaws.{most-in}
 use Rattle.asking.proofs.AskingLaws.{handed-by}
 use borrow.Author.Needs.{needs}
 use Rattle.asking.proofs.hand_load_a.Statement.{statement}
 use Rattle.asking.proofs.hand_load_a.Tie as tie
 
-width-code-requires : tie.Need-width-code-requires
-width-code-requires c κs = search needs
+load-code-requires : tie.Need-load-code-requires
+load-code-requires c κs = search needs
 
-memory-word-requires : tie.Need-memory-word-requires
-memory-word-requires c κs = search needs
+a-row-requires : tie.Need-a-row-requires
+a-row-requires c κs = search needs
 
-narrow-bytes-requires : tie.Need-narrow-bytes-requires
-narrow-bytes-requires c κs = search needs
+a-column-requires : tie.Need-a-column-requires
+a-column-requires c κs = search needs
 
-small-times-requires : tie.Need-small-times-requires
-small-times-requires c κs = search needs
-
-start-of-requires : tie.Need-start-of-requires
-start-of-requires c κs = search needs
+hand-load-requires : tie.Need-hand-load-requires
+hand-load-requires c κs =
+    let k = c .before in
+    let r = k .before in
+    let l = r .before in
+    let s = l .before in
+    let b = most-in (formOf (s .args .plan)) (s .args .row) (s .args .term) 1024 (s .pre .1 .0) (s .pre .1 .1) in
+    (s .pre .0, ((l .load-code .ensures .1, omega arith), (subst (λ (x : ℕ). x ≤ 1024) (sym (r .a-row .ensures)) (b .0), subst (λ (x : ℕ). x ≤ 1024) (sym (k .a-column .ensures)) (b .1))))
 
 returns : tie.Need-returns
 returns c =
-    let t = c .before .before in
-    let n = t .before in
-    let m = n .before in
-    let w = m .before in
-    let a = w .before .args in
-    handed-by (a .plan .a .stride) (m .memory-word .ensures ∙ ap (λ (e : ℕ). memoryWord 2 e 0) (w .width-code .ensures .0))
-    (c .start-of .ensures ∙ ap (startOf (a .plan .a) (a .row)) (t .small-times .ensures ∙ ap (λ (b : ℕ). a .term * b) (n .narrow-bytes .ensures .0)))
+    let k = c .before .before in
+    let r = k .before in
+    let l = r .before in
+    let P = l .before .args .plan in
+    c .hand-load .ensures
+    ∙ handed-by (P .a .stride) (ap (λ (code : ℕ). memoryWord code (msew P) 0) (l .load-code .ensures .0))
+    (ap₂ (λ (i j : ℕ). startOf (P .a) i (j * narrow P)) (r .a-row .ensures) (k .a-column .ensures))
 
 pub hand-load-a-spec : {M : Type 1} → statement M
-hand-load-a-spec =
-    tie.close
-    (tie.spec
-    width-code-requires
-    memory-word-requires
-    narrow-bytes-requires
-    small-times-requires
-    start-of-requires
-    returns)
+hand-load-a-spec = tie.close (tie.spec load-code-requires a-row-requires a-column-requires hand-load-requires returns)

@@ -1,4 +1,4 @@
-use mathlib.Core.Path.{_≡_, sym, ap, _∙_, subst}
+use mathlib.Core.Path.{_≡_, refl, sym, ap, _∙_, subst}
 use mathlib.Core.Bool.{Bool, true}
 use borrow.Author.Tests.{ltb-true}
 use Rattle.machine.specs.Setting.{smaller}
@@ -101,7 +101,7 @@ enum-told-2 : tie.Need-enum-told-2
 enum-told-2 c = search needs
 
 returns : tie.Need-returns
-returns c = search needs
+returns c = at-place (c .before .before .args .run) (c .enum-told .given .1) refl
 
 returns-2 : tie.Need-returns-2
 returns-2 c =
@@ -144,7 +144,7 @@ returns-9 c =
     at-place (p .before .before .args .run) (p .place8 .given .1) (c .starts-product3 .ensures)
 
 returns-10 : tie.Need-returns-10
-returns-10 c = search needs
+returns-10 c = at-place (c .before .before .args .run) (c .enum-told2 .given .1) refl
 
 pub is-begun-spec : {M : Type 1} → statement M
 is-begun-spec =
