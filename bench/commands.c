@@ -1,0 +1,170 @@
+#define _POSIX_C_SOURCE 200112L
+
+#include "commands.h"
+
+#include <inttypes.h>
+#include <stdio.h>
+#include <string.h>
+#include <unistd.h>
+
+#include "trace.h"
+
+/* ---- the machine and its scalars ---- */
+
+static int run_machine(struct session *session)
+{
+    struct reader *reader = &session->reader;
+    uint64_t rlen, mlen;
+    if (!take_any(reader, "RLEN", &rlen) || !take_any(reader, "MLEN", &mlen) || !take_end(reader))
+        return 0;
+    if (session->device.started)
+        return not_now(session, "the machine is started already");
+    device_start(&session->device, rlen, mlen);
+    report(session, "machine");
+    return 1;
+}
+
+static int run_scalar(struct session *session)
+{
+    struct reader *reader = &session->reader;
+    size_t at = next_at(reader);
+    uint64_t slot, value;
+    if (!take_unsigned(reader, "the number of a scalar", 31, &slot) || !take_either(reader, "a value", &value) || !take_end(reader))
+        return 0;
+    if (slot == 0)
+        return refuse(reader, at, "x0 is always 0");
+    device_set_scalar(&session->device, (unsigned)slot, value);
+    return 1;
+}
+
+/* ---- steps ---- */
+
+/* Carries out a word and says what became of it. */
+static int step_word(struct session *session, uint32_t word)
+{
+    struct device *device = &session->device;
+    struct settings before = device_settings(device);
+    struct turn turn;
+    char text[INSTRUCTION_TEXT_BYTES];
+    turn.word = word;
+    turn.address = device_scalar(device, (unsigned)field_of(word, BASE));
+    turn.stride = device_scalar(device, (unsigned)field_of(word, RS2));
+    device_step(device, word);
+    write_instruction(word, text);
+    if (session->trace)
+        trace_step(device, &turn, before);
+    else
+        report(session, text);
+    return 1;
+}
+
+static int run_word(struct session *session)
+{
+    struct reader *reader = &session->reader;
+    struct span span = take_span(reader);
+    uint32_t word = 0;
+    size_t i, skip = span.length == 10 && memcmp(span.text, "0x", 2) == 0 ? 2 : 0;
+    for (i = skip; i < span.length && hex_digit(span.text[i]) >= 0; i++)
+        word = word << 4 | (uint32_t)hex_digit(span.text[i]);
+    if (i != span.length || span.length != 8 + skip)
+        return refuse(reader, span.at, "expected a word, eight hexadecimal digits");
+    return take_end(reader) && needs_machine(session) && step_word(session, word);
+}
+
+/* ---- product runs ---- */
+
+static int take_matrix(struct reader *reader, struct bodlarina_matrix *matrix)
+{
+    return take_any(reader, "an address", &matrix->address) && take_signed(reader, "a stride", 64, &matrix->stride);
+}
+
+static int take_plan(struct reader *reader, struct bodlarina_plan *plan)
+{
+    memset(plan, 0, sizeof *plan);
+    return take_any(reader, "SEW", &plan->sew) && take_any(reader, "the factor", &plan->factor) && take_any(reader, "m", &plan->m)
+           && take_any(reader, "k", &plan->k) && take_any(reader, "n", &plan->n) && take_matrix(reader, &plan->a)
+           && take_matrix(reader, &plan->b) && take_matrix(reader, &plan->c) && take_end(reader);
+}
+
+/* Takes the turns one by one and traces each; how many were done. */
+static uint64_t traced_turns(struct session *session, uint64_t all)
+{
+    struct device *device = &session->device;
+    uint64_t done;
+    for (done = 0; done < all; done++) {
+        struct settings before = device_settings(device);
+        struct turn turn;
+        device_turn(device, &turn);
+        trace_step(device, &turn, before);
+        if (device->result != 0)
+            break;
+    }
+    return done;
+}
+
+/* Takes the turns some thousands at a time, and says on a terminal how far the run has come. */
+static uint64_t counted_turns(struct session *session, uint64_t all)
+{
+    uint64_t total = 0, done;
+    struct turn turn;
+    int terminal = isatty(STDERR_FILENO) == 1;
+    do {
+        done = device_turns(&session->device, 4096);
+        total += done;
+        if (terminal)
+            fprintf(stderr, "\rproduct: %" PRIu64 " of %" PRIu64 " steps, %" PRIu64 " %%", total, all, all == 0 ? 100 : 100 * total / all);
+    } while (done == 4096);
+    if (terminal)
+        fprintf(stderr, "\r%60s\r", "");
+    if (total < all)
+        device_turn(&session->device, &turn); /* says why */
+    return total;
+}
+
+static int run_product(struct session *session)
+{
+    struct device *device = &session->device;
+    struct bodlarina_plan plan;
+    uint64_t all, done;
+    if (!take_plan(&session->reader, &plan) || !needs_machine(session))
+        return 0;
+    if (device_run_start(device, &plan) == 0) {
+        all = device_run_steps(device);
+        done = session->trace ? traced_turns(session, all) : counted_turns(session, all);
+        if (done == all)
+            printf("%s:%lu: product: %" PRIu64 " steps\n", session->reader.path, session->reader.line, done);
+    }
+    report(session, "product");
+    return 1;
+}
+
+/* ---- a line ---- */
+
+static const struct {
+    const char *name;
+    int (*run)(struct session *session);
+} commands[] = {
+    {"machine", run_machine}, {"memory", run_memory}, {"seal", run_seal},   {"bytes", run_bytes}, {"int8", run_int8},
+    {"int16", run_int16},     {"int32", run_int32},   {"load", run_load},   {"x", run_scalar},    {"word", run_word},
+    {"product", run_product}, {"expect", run_expect}, {"show", run_show},
+};
+
+int run_line(struct session *session)
+{
+    struct reader *reader = &session->reader;
+    const struct instruction *instruction;
+    struct span span;
+    uint32_t word;
+    size_t i;
+    if (at_end(reader))
+        return 1;
+    span = take_span(reader);
+    session->command_at = span.at;
+    for (i = 0; i < sizeof commands / sizeof commands[0]; i++)
+        if (span_is(span, commands[i].name))
+            return commands[i].run(session);
+    instruction = instruction_called(span);
+    if (instruction == NULL)
+        return refuse(reader, span.at, "this is no command, and no instruction of the unit");
+    return take_operands(reader, instruction, &word) && needs_machine(session) && step_word(session, word);
+}

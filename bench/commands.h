@@ -1,0 +1,23 @@
+/* The commands of a script. Each carries out the rest of its line, and returns 0 if that is refused. */
+#ifndef COMMANDS_H
+#define COMMANDS_H
+
+#include "session.h"
+
+/* entering.c */
+int run_memory(struct session *session);
+int run_seal(struct session *session);
+int run_bytes(struct session *session);
+int run_int8(struct session *session);
+int run_int16(struct session *session);
+int run_int32(struct session *session);
+int run_load(struct session *session);
+
+/* looking.c */
+int run_expect(struct session *session);
+int run_show(struct session *session);
+
+/* The line at which the reader stands. */
+int run_line(struct session *session);
+
+#endif

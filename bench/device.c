@@ -1,0 +1,288 @@
+#include "device.h"
+
+#include <stdio.h>
+#include <stdlib.h>
+#include <string.h>
+
+/* ---- calls of the library ---- */
+
+int library_fits(void) { return bodlarina_version() == BODLARINA_VERSION_NUMBER; }
+
+/* The device's buffers, lent for one call. */
+static struct bodlarina_bench lent(struct device *device)
+{
+    static uint8_t no_memory;
+    struct bodlarina_bench bench;
+    size_t bytes = device->mlen <= MLEN_MOST ? BODLARINA_REGISTER_BYTES(device->mlen) : sizeof device->registers;
+    memset(&bench, 0, sizeof bench);
+    bench.machine = device->machine;
+    bench.machine_len = sizeof device->machine;
+    bench.registers = device->registers;
+    bench.marks = device->marks;
+    bench.registers_len = bench.marks_len = bytes;
+    bench.scalars = device->scalars;
+    bench.scalars_len = sizeof device->scalars;
+    bench.memory = device->memory == NULL ? &no_memory : device->memory;
+    bench.memory_len = device->memory_bytes;
+    bench.run = device->run;
+    bench.run_len = sizeof device->run;
+    return bench;
+}
+
+static uint64_t answer(struct device *device, uint64_t result)
+{
+    device->answered = 1;
+    device->result = result;
+    return result;
+}
+
+uint64_t device_start(struct device *device, uint64_t rlen, uint64_t mlen)
+{
+    struct bodlarina_bench bench;
+    device->rlen = rlen;
+    device->mlen = mlen;
+    bench = lent(device);
+    answer(device, bodlarina_bench_start(&bench, rlen, mlen, device->seal_start, device->seal_length));
+    device->started = device->result == 0;
+    return device->result;
+}
+
+static void remember_named(struct device *device, uint32_t word);
+
+uint64_t device_step(struct device *device, uint32_t word)
+{
+    struct bodlarina_bench bench = lent(device);
+    device->steps++;
+    answer(device, bodlarina_bench_step(&bench, word));
+    remember_named(device, word);
+    return device->result;
+}
+
+uint64_t device_run_start(struct device *device, const struct bodlarina_plan *plan)
+{
+    struct bodlarina_bench bench = lent(device);
+    return answer(device, bodlarina_bench_run_start(&bench, plan));
+}
+
+/* A copy of the run is asked for the word that the turn will carry out. */
+uint64_t device_turn(struct device *device, struct turn *turn)
+{
+    struct bodlarina_bench bench = lent(device), asked = bench;
+    uint8_t run[BODLARINA_RUN_BYTES], handed[BODLARINA_HANDED_BYTES] = {0};
+    memcpy(run, device->run, sizeof run);
+    asked.run = run;
+    bodlarina_bench_run_next(&asked, handed, sizeof handed);
+    turn->word = (uint32_t)bodlarina_get64(handed + BODLARINA_HANDED_WORD_AT);
+    turn->address = bodlarina_get64(handed + BODLARINA_HANDED_ADDRESS_AT);
+    turn->stride = bodlarina_get64(handed + BODLARINA_HANDED_STRIDE_AT);
+    device->steps++;
+    answer(device, bodlarina_bench_run_turn(&bench));
+    remember_named(device, turn->word);
+    return device->result;
+}
+
+uint64_t device_turns(struct device *device, uint64_t most)
+{
+    struct bodlarina_bench bench = lent(device);
+    uint64_t done = bodlarina_bench_run_turns(&bench, most);
+    device->steps += (unsigned long)done;
+    return done;
+}
+
+uint64_t device_run_steps(struct device *device)
+{
+    struct bodlarina_bench bench = lent(device);
+    return bodlarina_bench_run_steps(&bench);
+}
+
+uint64_t device_scalar(const struct device *device, unsigned slot)
+{
+    return slot % 32 == 0 ? 0 : bodlarina_get64(device->scalars + BODLARINA_SCALAR_AT(slot % 32));
+}
+
+void device_set_scalar(struct device *device, unsigned slot, uint64_t value)
+{
+    struct bodlarina_bench bench = lent(device);
+    bodlarina_bench_set_scalar(&bench, slot, value);
+}
+
+/* ---- memory ---- */
+
+int device_memory(struct device *device, size_t bytes)
+{
+    device->memory = calloc(bytes + 1, 1);
+    device->memory_bytes = device->memory == NULL ? 0 : bytes;
+    return device->memory != NULL;
+}
+
+void device_free(struct device *device)
+{
+    free(device->memory);
+    device->memory = NULL;
+    device->memory_bytes = 0;
+}
+
+int in_seal(const struct device *device, uint64_t address)
+{
+    return address >= device->seal_start && address - device->seal_start < device->seal_length;
+}
+
+int64_t signed_bytes(const uint8_t *bytes, unsigned width)
+{
+    int64_t value = bytes[width - 1] < 0x80 ? bytes[width - 1] : (int64_t)bytes[width - 1] - 0x100;
+    unsigned i;
+    for (i = width - 1; i > 0; i--)
+        value = value * 0x100 + bytes[i - 1];
+    return value;
+}
+
+/* ---- settings ---- */
+
+struct settings device_settings(const struct device *device)
+{
+    struct settings settings;
+    settings.mtype = bodlarina_get64(device->machine + BODLARINA_MACHINE_MTYPE_AT);
+    settings.m = bodlarina_get64(device->machine + BODLARINA_MACHINE_TILE_M_AT);
+    settings.k = bodlarina_get64(device->machine + BODLARINA_MACHINE_TILE_K_AT);
+    settings.n = bodlarina_get64(device->machine + BODLARINA_MACHINE_TILE_N_AT);
+    return settings;
+}
+
+unsigned device_sew(const struct device *device)
+{
+    uint64_t mtype = device_settings(device).mtype;
+    return mtype >> 63 != 0 ? 0 : 1u << (mtype & 3);
+}
+
+struct settings device_maxima(const struct device *device)
+{
+    struct settings most = {0, 0, 0, 0};
+    unsigned sew = device_sew(device);
+    if (sew == 0)
+        return most;
+    most.m = device->mlen / device->rlen;
+    most.n = device->rlen / (8 * sew);
+    most.k = most.m < most.n ? most.m : most.n;
+    return most;
+}
+
+/* ---- registers ---- */
+
+unsigned register_rows(const struct device *device) { return (unsigned)(device->mlen / device->rlen); }
+
+unsigned register_row_bytes(const struct device *device, unsigned reg)
+{
+    return (unsigned)(reg < ACCUMULATOR_0 ? device->rlen / 8 : device->rlen / 2);
+}
+
+size_t register_at(const struct device *device, unsigned reg, unsigned row, unsigned byte)
+{
+    size_t mlen = (size_t)device->mlen;
+    size_t start = reg < ACCUMULATOR_0 ? reg * (mlen / 8) : mlen + (reg - ACCUMULATOR_0) * (mlen / 2);
+    return start + (size_t)row * register_row_bytes(device, reg) + byte;
+}
+
+void register_name(unsigned reg, char text[8])
+{
+    if (reg < ACCUMULATOR_0)
+        snprintf(text, 8, "tr%u", reg % 8);
+    else
+        snprintf(text, 8, "acc%u", (reg - ACCUMULATOR_0) % 2);
+}
+
+int element_written(const struct device *device, unsigned reg, unsigned row, unsigned column, unsigned width)
+{
+    const uint8_t *marks = device->marks + register_at(device, reg, row, column * width);
+    unsigned i;
+    for (i = 0; i < width; i++)
+        if (marks[i] == 0)
+            return 0;
+    return 1;
+}
+
+int64_t element_value(const struct device *device, unsigned reg, unsigned row, unsigned column, unsigned width)
+{
+    return signed_bytes(device->registers + register_at(device, reg, row, column * width), width);
+}
+
+/* ---- what a word reads and writes ---- */
+
+static struct tile make_tile(const struct device *device, unsigned reg, enum shape shape, unsigned width)
+{
+    struct settings size = device_settings(device);
+    struct tile tile;
+    tile.reg = reg;
+    tile.rows = (unsigned)(shape == B ? size.k : size.m);
+    tile.columns = (unsigned)(shape == A ? size.k : size.n);
+    tile.width = width;
+    return tile;
+}
+
+/* The register that an operand names: accumulators follow the tile registers. */
+static unsigned register_in(uint32_t word, enum operand operand)
+{
+    uint32_t field = field_of(word, operand);
+    return (unsigned)(operand == ACC_D || operand == ACC_1 ? ACCUMULATOR_0 + field : field);
+}
+
+struct tile word_tile(const struct device *device, const struct instruction *instruction, uint32_t word)
+{
+    int transfer = instruction->action == LOADS || instruction->action == STORES;
+    unsigned width = transfer ? instruction->width / 8 : instruction->width * device_sew(device);
+    return make_tile(device, register_in(word, instruction->operands[0]), instruction->shape, width);
+}
+
+/* The tiles that a word reads, in the order ms1, ms2, md; how many. */
+static unsigned word_sources(const struct device *device, const struct instruction *instruction, uint32_t word,
+                             struct tile tiles[3])
+{
+    unsigned sew = device_sew(device);
+    unsigned first = register_in(word, instruction->operands[1]), second = register_in(word, instruction->operands[2]);
+    switch (instruction->action) {
+    case SETS: case LOADS: return 0;
+    case STORES: tiles[0] = word_tile(device, instruction, word); return 1;
+    case MULTIPLIES:
+        tiles[0] = make_tile(device, first, A, sew);
+        tiles[1] = make_tile(device, second, B, sew);
+        tiles[2] = word_tile(device, instruction, word);
+        return 3;
+    case COMBINES:
+        tiles[0] = make_tile(device, first, C, sew);
+        tiles[1] = word_tile(device, instruction, word);
+        return 2;
+    case SCALES: tiles[0] = make_tile(device, first, C, sew); return 1;
+    }
+    return 0;
+}
+
+/* A refusal 5 names row and column of the first source that has an unwritten element: this finds which one that is. */
+static void remember_named(struct device *device, uint32_t word)
+{
+    const struct instruction *instruction = instruction_of(word);
+    unsigned row = BODLARINA_ROW(device->result), column = BODLARINA_COLUMN(device->result), i, count;
+    struct tile tiles[3];
+    if (BODLARINA_ANSWER(device->result) != BODLARINA_UNWRITTEN)
+        return;
+    device->named.known = 0;
+    if (instruction == NULL)
+        return;
+    count = word_sources(device, instruction, word, tiles);
+    for (i = 0; i < count && !device->named.known; i++)
+        if (row < tiles[i].rows && column < tiles[i].columns
+            && !element_written(device, tiles[i].reg, row, column, tiles[i].width)) {
+            struct element named = {1, tiles[i].reg, row, column, tiles[i].width};
+            device->named = named;
+        }
+}
+
+int named_stands(const struct device *device)
+{
+    const struct element *named = &device->named;
+    return named->known && !element_written(device, named->reg, named->row, named->column, named->width);
+}
+
+int is_named(const struct device *device, unsigned reg, unsigned row, unsigned byte)
+{
+    const struct element *named = &device->named;
+    return named_stands(device) && reg == named->reg && row == named->row && byte / named->width == named->column;
+}

@@ -1,0 +1,108 @@
+/* The machine of a script with its buffers: every call of the library stands in device.c. */
+#ifndef DEVICE_H
+#define DEVICE_H
+
+#include "bodlarina.h"
+#include "instructions.h"
+
+/* The largest machine, and the most bytes of memory that a script may ask for. */
+#define MLEN_MOST 4096
+#define MEMORY_BYTES_MOST 268435456
+
+/* Registers by number: tr0 to tr7 are 0 to 7, acc0 and acc1 are 8 and 9. */
+#define REGISTERS 10
+#define ACCUMULATOR_0 8
+
+/* The part of a register that a word reads or writes; width of an element in bytes. */
+struct tile {
+    unsigned reg;
+    unsigned rows, columns, width;
+};
+
+/* An element that a refusal named, if any. */
+struct element {
+    int known;
+    unsigned reg;
+    unsigned row, column, width;
+};
+
+struct settings {
+    uint64_t mtype, m, k, n;
+};
+
+struct device {
+    uint8_t machine[BODLARINA_MACHINE_BYTES];
+    uint8_t registers[BODLARINA_REGISTER_BYTES(MLEN_MOST)];
+    uint8_t marks[BODLARINA_REGISTER_BYTES(MLEN_MOST)];
+    uint8_t scalars[BODLARINA_SCALAR_BYTES];
+    uint8_t run[BODLARINA_RUN_BYTES];
+    uint8_t *memory; /* NULL until the script gives its size */
+    size_t memory_bytes;
+    uint64_t rlen, mlen;
+    uint64_t seal_start, seal_length;
+    int sealed, started;
+    int answered;         /* whether there was a start, a step or a run */
+    uint64_t result;      /* of the last one */
+    unsigned long steps;  /* words carried out or refused */
+    struct element named; /* by the last refusal 5 */
+};
+
+/* A word, with the address and the stride that it has if it is a load or store. */
+struct turn {
+    uint32_t word;
+    uint64_t address, stride;
+};
+
+/* Whether the library that is linked is the one of the header. */
+int library_fits(void);
+
+/* memory of this size, zeros; 0 if there is no room. */
+int device_memory(struct device *device, size_t bytes);
+void device_free(struct device *device);
+
+/* Each call leaves its result in the device and returns it. */
+uint64_t device_start(struct device *device, uint64_t rlen, uint64_t mlen);
+uint64_t device_step(struct device *device, uint32_t word);
+uint64_t device_run_start(struct device *device, const struct bodlarina_plan *plan);
+
+/* One turn of the run, and which word it was. */
+uint64_t device_turn(struct device *device, struct turn *turn);
+
+/* Up to `most` turns; how many were done. And all that the run has. */
+uint64_t device_turns(struct device *device, uint64_t most);
+uint64_t device_run_steps(struct device *device);
+
+uint64_t device_scalar(const struct device *device, unsigned slot);
+void device_set_scalar(struct device *device, unsigned slot, uint64_t value);
+
+struct settings device_settings(const struct device *device);
+
+/* SEW in bytes; 0 if mtype is illegal. */
+unsigned device_sew(const struct device *device);
+
+/* The maxima of m, k and n under mtype; all 0 if it is illegal. */
+struct settings device_maxima(const struct device *device);
+
+/* A register's rows, the bytes of a row, and where a byte of it stands. */
+unsigned register_rows(const struct device *device);
+unsigned register_row_bytes(const struct device *device, unsigned reg);
+size_t register_at(const struct device *device, unsigned reg, unsigned row, unsigned byte);
+void register_name(unsigned reg, char text[8]);
+
+/* Whether each byte of an element is written, and its value, signed. */
+int element_written(const struct device *device, unsigned reg, unsigned row, unsigned column, unsigned width);
+int64_t element_value(const struct device *device, unsigned reg, unsigned row, unsigned column, unsigned width);
+
+/* Whether a byte of a register belongs to the element that a refusal named and that is still unwritten. */
+int is_named(const struct device *device, unsigned reg, unsigned row, unsigned byte);
+int named_stands(const struct device *device);
+
+/* The tile that a word writes into a register or stores from one; rows and columns under the settings as they are. */
+struct tile word_tile(const struct device *device, const struct instruction *instruction, uint32_t word);
+
+int in_seal(const struct device *device, uint64_t address);
+
+/* The signed number of `width` bytes, low byte first. */
+int64_t signed_bytes(const uint8_t *bytes, unsigned width);
+
+#endif

@@ -1,0 +1,126 @@
+/* Commands that enter bytes into memory, and the seal. */
+#include "commands.h"
+
+#include <stdlib.h>
+#include <string.h>
+
+/* The longest path. */
+#define PATH_BYTES 4096
+
+int run_memory(struct session *session)
+{
+    struct reader *reader = &session->reader;
+    uint64_t size;
+    if (!take_unsigned(reader, "a size", MEMORY_BYTES_MOST, &size) || !take_end(reader))
+        return 0;
+    if (session->device.memory != NULL)
+        return not_now(session, "memory has its size already");
+    return device_memory(&session->device, (size_t)size) || not_now(session, "there is no room for so much memory");
+}
+
+int run_seal(struct session *session)
+{
+    struct reader *reader = &session->reader;
+    struct device *device = &session->device;
+    uint64_t start, length;
+    if (!take_any(reader, "the start of the seal", &start) || !take_any(reader, "its length", &length) || !take_end(reader))
+        return 0;
+    if (device->started || device->sealed)
+        return not_now(session, "there is one seal, given before the machine starts");
+    device->sealed = 1;
+    device->seal_start = start;
+    device->seal_length = length;
+    return 1;
+}
+
+/* Two hexadecimal digits a byte, with blanks between bytes or without. */
+int run_bytes(struct session *session)
+{
+    struct reader *reader = &session->reader;
+    uint64_t address;
+    if (!needs_memory(session) || !take_any(reader, "an address", &address))
+        return 0;
+    do {
+        size_t at = next_at(reader);
+        int empty = at_end(reader);
+        int high = empty ? -1 : hex_digit(reader->text[at]);
+        int low = empty || at + 1 == reader->line_end ? -1 : hex_digit(reader->text[at + 1]);
+        if (high < 0 || low < 0)
+            return refuse(reader, at, "expected a byte, two hexadecimal digits");
+        if (!in_memory(session, at, address, 1, 1))
+            return 0;
+        session->device.memory[address++] = (uint8_t)(16 * high + low);
+        reader->at = at + 2;
+    } while (!at_end(reader));
+    return 1;
+}
+
+static void put_number(uint8_t *bytes, unsigned width, int64_t value)
+{
+    unsigned i;
+    for (i = 0; i < width; i++)
+        bytes[i] = (uint8_t)((uint64_t)value >> (8 * i) & 0xff);
+}
+
+static int run_numbers(struct session *session, unsigned width)
+{
+    struct reader *reader = &session->reader;
+    uint64_t address;
+    int64_t value;
+    if (!needs_memory(session) || !take_any(reader, "an address", &address))
+        return 0;
+    do {
+        size_t at = next_at(reader);
+        if (!take_signed(reader, "a value", 8 * width, &value) || !in_memory(session, at, address, 1, width))
+            return 0;
+        put_number(session->device.memory + address, width, value);
+        address += width;
+    } while (!at_end(reader));
+    return 1;
+}
+
+int run_int8(struct session *session) { return run_numbers(session, 1); }
+int run_int16(struct session *session) { return run_numbers(session, 2); }
+int run_int32(struct session *session) { return run_numbers(session, 4); }
+
+/* The path of a file that a script names: beside the script, unless it starts with a slash. */
+static int beside_script(const struct session *session, struct span name, char path[PATH_BYTES])
+{
+    const char *script = session->reader.path, *slash = strrchr(script, '/');
+    size_t folder = slash == NULL || name.text[0] == '/' ? 0 : (size_t)(slash - script) + 1;
+    if (memchr(name.text, '\0', name.length) != NULL || folder + name.length >= PATH_BYTES)
+        return 0;
+    memcpy(path, script, folder);
+    memcpy(path + folder, name.text, name.length);
+    path[folder + name.length] = '\0';
+    return 1;
+}
+
+/* Reads a file into memory from an address on. */
+static int load_file(struct session *session, size_t at, const char *path, size_t address)
+{
+    struct device *device = &session->device;
+    const char *fault;
+    size_t length;
+    char *bytes = read_file(path, device->memory_bytes - address, &length, &fault);
+    if (bytes == NULL)
+        return refuse(&session->reader, at, "this file %s", fault);
+    memcpy(device->memory + address, bytes, length);
+    free(bytes);
+    return 1;
+}
+
+int run_load(struct session *session)
+{
+    struct reader *reader = &session->reader;
+    char path[PATH_BYTES];
+    uint64_t address;
+    size_t at = next_at(reader);
+    struct span name;
+    if (!needs_memory(session) || !take_any(reader, "an address", &address) || !in_memory(session, at, address, 0, 1))
+        return 0;
+    name = take_span(reader);
+    if (name.length == 0 || !beside_script(session, name, path))
+        return refuse(reader, name.at, "expected the name of a file");
+    return take_end(reader) && load_file(session, name.at, path, (size_t)address);
+}

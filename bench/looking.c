@@ -1,0 +1,171 @@
+/* Commands that look: expect and show. */
+#include "commands.h"
+
+#include <inttypes.h>
+#include <stdio.h>
+
+#include "show.h"
+#include "trace.h"
+
+/* The most bytes or numbers that one `show memory` prints. */
+#define SHOWN_MOST 65536
+
+/* ---- expect ---- */
+
+static void failed(struct session *session)
+{
+    session->failures++;
+    printf("%s:%lu: NOT AS EXPECTED: ", session->reader.path, session->reader.line);
+}
+
+static int expect_answer(struct session *session)
+{
+    struct reader *reader = &session->reader;
+    const struct device *device = &session->device;
+    uint64_t number, row = 0, column = 0;
+    int placed;
+    if (!take_unsigned(reader, "memory or the number of an answer", 0xffff, &number))
+        return 0;
+    placed = !at_end(reader);
+    if (placed && (!take_unsigned(reader, "a row", 0xffff, &row) || !take_unsigned(reader, "a column", 0xffff, &column)))
+        return 0;
+    if (!take_end(reader))
+        return 0;
+    if (!device->answered)
+        return not_now(session, "nothing has answered yet");
+    if (number == BODLARINA_ANSWER(device->result)
+        && (!placed || (row == BODLARINA_ROW(device->result) && column == BODLARINA_COLUMN(device->result))))
+        return 1;
+    failed(session);
+    printf("%" PRIu64, number);
+    if (placed)
+        printf(", row %" PRIu64 ", column %" PRIu64, row, column);
+    printf("; the answer is %u, %s", BODLARINA_ANSWER(device->result), bodlarina_answer_text(device->result));
+    write_place(device);
+    printf("\n");
+    return 1;
+}
+
+/* A signed number of `width` bytes, or a byte if width is 0: taken from the line, and as memory holds it. */
+static int take_number_of(struct reader *reader, unsigned width, int64_t *value)
+{
+    uint64_t byte;
+    if (width != 0)
+        return take_signed(reader, "a value", 8 * width, value);
+    if (!take_unsigned(reader, "a byte", 255, &byte))
+        return 0;
+    *value = (int64_t)byte;
+    return 1;
+}
+
+static int64_t number_at(const struct device *device, uint64_t address, unsigned width)
+{
+    return width == 0 ? device->memory[address] : signed_bytes(device->memory + address, width);
+}
+
+/* expect memory [int8|int16|int32] ADDRESS numbers..; without a width, bytes of 0 to 255. */
+static int expect_memory(struct session *session)
+{
+    struct reader *reader = &session->reader;
+    unsigned width = take_width(reader), bytes = width == 0 ? 1 : width;
+    uint64_t address;
+    int64_t value, found;
+    if (!needs_memory(session) || !take_any(reader, "int8, int16, int32 or an address", &address))
+        return 0;
+    do {
+        size_t at = next_at(reader);
+        if (!take_number_of(reader, width, &value) || !in_memory(session, at, address, 1, bytes))
+            return 0;
+        found = number_at(&session->device, address, width);
+        if (found != value) {
+            failed(session);
+            printf("memory at %" PRIu64 " is %" PRId64 ", not %" PRId64 "\n", address, found, value);
+        }
+        address += bytes;
+    } while (!at_end(reader));
+    return 1;
+}
+
+int run_expect(struct session *session)
+{
+    struct reader *reader = &session->reader;
+    size_t before = reader->at;
+    if (span_is(take_span(reader), "memory"))
+        return expect_memory(session);
+    reader->at = before;
+    return expect_answer(session);
+}
+
+/* ---- show ---- */
+
+static int show_range(struct session *session)
+{
+    struct reader *reader = &session->reader;
+    unsigned width = take_width(reader);
+    uint64_t address, count;
+    size_t at = next_at(reader);
+    if (!needs_memory(session) || !take_any(reader, "int8, int16, int32 or an address", &address)
+        || !take_unsigned(reader, "how many", SHOWN_MOST, &count) || !take_end(reader)
+        || !in_memory(session, at, address, count, width == 0 ? 1 : width))
+        return 0;
+    show_memory(&session->device, (size_t)address, (size_t)count, width);
+    return 1;
+}
+
+/* The register of this name, or REGISTERS. */
+static unsigned register_called(struct span span)
+{
+    unsigned reg;
+    char name[8];
+    for (reg = 0; reg < REGISTERS; reg++) {
+        register_name(reg, name);
+        if (span_is(span, name))
+            break;
+    }
+    return reg;
+}
+
+/* show tr0 [8|16|32]; without a width, SEW. */
+static int show_one_register(struct session *session, unsigned reg)
+{
+    struct reader *reader = &session->reader;
+    unsigned width = device_sew(&session->device);
+    if (!at_end(reader)) {
+        struct span span = take_span(reader);
+        width = span_is(span, "8") ? 1 : span_is(span, "16") ? 2 : span_is(span, "32") ? 4 : 0;
+        if (width == 0)
+            return refuse(reader, span.at, "expected the width of an element, 8, 16 or 32");
+    }
+    if (!take_end(reader))
+        return 0;
+    if (width == 0)
+        return not_now(session, "mtype is illegal, so elements have no width: give 8, 16 or 32");
+    show_register(&session->device, reg, width);
+    return 1;
+}
+
+static const struct {
+    const char *name;
+    void (*show)(const struct device *device);
+} shown[] = {
+    {"x", show_scalars}, {"mtype", show_mtype}, {"sizes", show_sizes}, {"marks", show_marks},
+};
+
+int run_show(struct session *session)
+{
+    struct reader *reader = &session->reader;
+    struct span span = take_span(reader);
+    size_t i;
+    if (span_is(span, "memory"))
+        return show_range(session);
+    for (i = 0; i < sizeof shown / sizeof shown[0]; i++)
+        if (span_is(span, shown[i].name)) {
+            if (!take_end(reader) || !needs_machine(session))
+                return 0;
+            shown[i].show(&session->device);
+            return 1;
+        }
+    if (register_called(span) == REGISTERS)
+        return refuse(reader, span.at, "expected x, mtype, sizes, marks, memory, tr0 to tr7, acc0 or acc1");
+    return needs_machine(session) && show_one_register(session, register_called(span));
+}

@@ -1,0 +1,32 @@
+/* A script and its machine, and what the commands share. */
+#ifndef SESSION_H
+#define SESSION_H
+
+#include "device.h"
+
+struct session {
+    struct reader reader;
+    struct device device;
+    size_t command_at; /* where the command of the line stands */
+    int trace;
+    unsigned long failures; /* expectations that did not hold */
+};
+
+/* Refuses the command because of what came before it. */
+int not_now(const struct session *session, const char *sentence);
+int needs_machine(const struct session *session);
+int needs_memory(const struct session *session);
+
+/* A number of 64 bits. */
+int take_any(struct reader *reader, const char *what, uint64_t *value);
+
+/* int8, int16 or int32: the width in bytes; else 0, and nothing is taken. */
+unsigned take_width(struct reader *reader);
+
+/* Whether `count` numbers of `width` bytes at an address lie in memory; else the line is refused. */
+int in_memory(const struct session *session, size_t at, uint64_t address, uint64_t count, uint64_t width);
+
+/* Prints the last answer if it is a refusal. */
+void report(const struct session *session, const char *what);
+
+#endif

@@ -1,0 +1,95 @@
+#include "trace.h"
+
+#include <inttypes.h>
+#include <stdio.h>
+
+void write_place(const struct device *device)
+{
+    char name[8];
+    if (BODLARINA_ANSWER(device->result) != BODLARINA_UNWRITTEN)
+        return;
+    printf(": row %u, column %u", BODLARINA_ROW(device->result), BODLARINA_COLUMN(device->result));
+    if (device->named.known) {
+        register_name(device->named.reg, name);
+        printf(" of %s", name);
+    }
+}
+
+/* An mtype that is illegal is 2^63; no size is as large. */
+static void write_setting(uint64_t value)
+{
+    if (value >> 63 != 0)
+        printf("illegal");
+    else
+        printf("%" PRIu64, value);
+}
+
+static void write_change(const char *name, uint64_t before, uint64_t after)
+{
+    if (before == after)
+        return;
+    printf("; %s ", name);
+    write_setting(before);
+    printf(" -> ");
+    write_setting(after);
+}
+
+/* mtype, tile sizes and rd of a setting. */
+static void write_settings(const struct device *device, uint32_t word, struct settings before)
+{
+    struct settings after = device_settings(device);
+    unsigned rd = (unsigned)field_of(word, RD);
+    write_change("mtype", before.mtype, after.mtype);
+    write_change("m", before.m, after.m);
+    write_change("k", before.k, after.k);
+    write_change("n", before.n, after.n);
+    if (rd != 0)
+        printf("; x%u = %" PRIu64, rd, device_scalar(device, rd));
+}
+
+/* The register and the rows and columns of a tile. */
+static void write_tile(struct tile tile)
+{
+    char name[8];
+    register_name(tile.reg, name);
+    if (tile.rows == 0 || tile.columns == 0)
+        printf("; %s, no element", name);
+    else
+        printf("; %s rows 0 to %u, columns 0 to %u of %u bits", name, tile.rows - 1, tile.columns - 1, 8 * tile.width);
+}
+
+static void write_stride(uint64_t stride)
+{
+    if (stride >> 63 == 0)
+        printf(", stride %" PRIu64, stride);
+    else
+        printf(", stride -%" PRIu64, 0 - stride);
+}
+
+static void write_changes(const struct device *device, const struct turn *turn, struct settings before)
+{
+    const struct instruction *instruction = instruction_of(turn->word);
+    if (instruction == NULL)
+        return;
+    if (instruction->action == SETS) {
+        write_settings(device, turn->word, before);
+        return;
+    }
+    write_tile(word_tile(device, instruction, turn->word));
+    if (instruction->action == LOADS || instruction->action == STORES) {
+        printf(" %s memory at %" PRIu64, instruction->action == LOADS ? "from" : "to", turn->address);
+        write_stride(turn->stride);
+    }
+}
+
+void trace_step(const struct device *device, const struct turn *turn, struct settings before)
+{
+    char text[INSTRUCTION_TEXT_BYTES];
+    write_instruction(turn->word, text);
+    printf("%5lu  %08" PRIX32 "  %-26s  %u %s", device->steps, turn->word, text, BODLARINA_ANSWER(device->result),
+           bodlarina_answer_text(device->result));
+    write_place(device);
+    if (device->result == 0)
+        write_changes(device, turn, before);
+    printf("\n");
+}
