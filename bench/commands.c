@@ -78,12 +78,26 @@ static int take_matrix(struct reader *reader, struct bodlarina_matrix *matrix)
     return take_any(reader, "an address", &matrix->address) && take_signed(reader, "a stride", 64, &matrix->stride);
 }
 
+/* The end of the line, or the word transposed, and the end. */
+static int take_kind(struct reader *reader, uint64_t *kind)
+{
+    struct span span;
+    *kind = BODLARINA_PRODUCT;
+    if (at_end(reader))
+        return 1;
+    span = take_span(reader);
+    if (!span_is(span, "transposed"))
+        return refuse(reader, span.at, "the line should end here, or with transposed");
+    *kind = BODLARINA_A_TRANSPOSED;
+    return take_end(reader);
+}
+
 static int take_plan(struct reader *reader, struct bodlarina_plan *plan)
 {
     memset(plan, 0, sizeof *plan);
     return take_any(reader, "SEW", &plan->sew) && take_any(reader, "the factor", &plan->factor) && take_any(reader, "m", &plan->m)
            && take_any(reader, "k", &plan->k) && take_any(reader, "n", &plan->n) && take_matrix(reader, &plan->a)
-           && take_matrix(reader, &plan->b) && take_matrix(reader, &plan->c) && take_end(reader);
+           && take_matrix(reader, &plan->b) && take_matrix(reader, &plan->c) && take_kind(reader, &plan->kind);
 }
 
 /* Takes the turns one by one and traces each; how many were done. */

@@ -44,8 +44,8 @@ extern "C" {
 
 /* The number is 10,000 times the major number, 100 times the minor one, and the patch number. While the major number is 0, the minor
  * one goes up when a block or a signature changes: then compile the host again. */
-#define BODLARINA_VERSION "0.1.0"
-#define BODLARINA_VERSION_NUMBER 100
+#define BODLARINA_VERSION "0.2.0"
+#define BODLARINA_VERSION_NUMBER 200
 
 /* The number of the library that is linked. It is BODLARINA_VERSION_NUMBER, or header and library do not belong together. */
 uint64_t bodlarina_version(void);
@@ -185,14 +185,18 @@ uint64_t bodlarina_step(uint32_t word,
  *   9   a byte of C lies in two of its rows, in a row of A or B, or in the seal
  * A matrix with no element has nothing to test. */
 
-/* run: seventeen numbers of 64 bits, each low byte first, at bytes 0, 8, .., 128:
+/* kind: what is multiplied, and how A lies in memory. */
+#define BODLARINA_PRODUCT 0u      /* A, m by k, times B, k by n */
+#define BODLARINA_A_TRANSPOSED 1u /* the same with A kept transposed: k rows of m elements, A(i, l) is element i of row l */
+
+/* run: eighteen numbers of 64 bits, each low byte first, at bytes 0, 8, .., 136:
  *   sew, factor, m, k, n, then address and stride of A, of B and of C, RLEN, MLEN,
- *   and the place: which word comes next (0 to 8 in the order of a run, 9 none), and the row and column of C and
- *   the term of the sums at which its block starts.
+ *   the place: which word comes next (0 to 8 in the order of a run, 9 none), and the row and column of C and
+ *   the term of the sums at which its block starts; and the kind.
  * bodlarina_run_start writes them; the host may read, keep and copy the block. Numbers that no run can have are
  * answered with 8: lengths or a plan that a start answers with 8, or a place that no run comes to. Where the matrices
  * lie is judged by the start only; of a block that the host made itself each word is checked as it is carried out. */
-#define BODLARINA_RUN_BYTES 136
+#define BODLARINA_RUN_BYTES 144
 #define BODLARINA_RUN_NEXT_AT 104 /* the byte at which the number of the next word stands */
 #define BODLARINA_RUN_OVER 9      /* there is none: every step is done */
 
@@ -203,7 +207,7 @@ uint64_t bodlarina_step(uint32_t word,
 #define BODLARINA_HANDED_STRIDE_AT 16
 
 /* Starts a run: on 0 the run block is written. */
-uint64_t bodlarina_run_start(uint64_t sew, uint64_t factor, uint64_t m, uint64_t k, uint64_t n,
+uint64_t bodlarina_run_start(uint64_t kind, uint64_t sew, uint64_t factor, uint64_t m, uint64_t k, uint64_t n,
                              uint64_t a, int64_t a_stride, uint64_t b, int64_t b_stride, uint64_t c, int64_t c_stride,
                              const uint8_t *machine, size_t machine_len,
                              const uint8_t *registers, size_t registers_len,
@@ -250,7 +254,7 @@ uint64_t bodlarina_run_turns(uint64_t turns,
 /* A whole run in one call: starts it and takes all its turns. Answers are those of the start. On 0 C is the product,
  * and the steps block of 8 bytes has the number of steps, low byte first. */
 #define BODLARINA_STEPS_BYTES 8
-uint64_t bodlarina_run(uint64_t sew, uint64_t factor, uint64_t m, uint64_t k, uint64_t n,
+uint64_t bodlarina_run(uint64_t kind, uint64_t sew, uint64_t factor, uint64_t m, uint64_t k, uint64_t n,
                        uint64_t a, int64_t a_stride, uint64_t b, int64_t b_stride, uint64_t c, int64_t c_stride,
                        uint8_t *machine, size_t machine_len,
                        uint8_t *registers, size_t registers_len,
@@ -292,6 +296,7 @@ struct bodlarina_plan {
     uint64_t sew, factor;
     uint64_t m, k, n;
     struct bodlarina_matrix a, b, c;
+    uint64_t kind; /* BODLARINA_PRODUCT, 0, unless it is set */
 };
 
 BODLARINA_INLINE uint64_t bodlarina_bench_start(const struct bodlarina_bench *bench, uint64_t rlen, uint64_t mlen,
@@ -321,8 +326,8 @@ BODLARINA_INLINE void bodlarina_bench_set_scalar(const struct bodlarina_bench *b
 
 BODLARINA_INLINE uint64_t bodlarina_bench_run_start(const struct bodlarina_bench *bench, const struct bodlarina_plan *plan)
 {
-    return bodlarina_run_start(plan->sew, plan->factor, plan->m, plan->k, plan->n, plan->a.address, plan->a.stride,
-                               plan->b.address, plan->b.stride, plan->c.address, plan->c.stride, bench->machine,
+    return bodlarina_run_start(plan->kind, plan->sew, plan->factor, plan->m, plan->k, plan->n, plan->a.address,
+                               plan->a.stride, plan->b.address, plan->b.stride, plan->c.address, plan->c.stride, bench->machine,
                                bench->machine_len, bench->registers, bench->registers_len, bench->marks, bench->marks_len,
                                bench->memory, bench->memory_len, bench->run, bench->run_len);
 }
@@ -359,8 +364,8 @@ BODLARINA_INLINE uint64_t bodlarina_bench_run(const struct bodlarina_bench *benc
                                               uint64_t *steps)
 {
     uint8_t count[BODLARINA_STEPS_BYTES];
-    uint64_t result = bodlarina_run(plan->sew, plan->factor, plan->m, plan->k, plan->n, plan->a.address, plan->a.stride,
-                                    plan->b.address, plan->b.stride, plan->c.address, plan->c.stride, bench->machine,
+    uint64_t result = bodlarina_run(plan->kind, plan->sew, plan->factor, plan->m, plan->k, plan->n, plan->a.address,
+                                    plan->a.stride, plan->b.address, plan->b.stride, plan->c.address, plan->c.stride, bench->machine,
                                     bench->machine_len, bench->registers, bench->registers_len, bench->marks,
                                     bench->marks_len, bench->memory, bench->memory_len, count, sizeof count);
     if (result == 0)

@@ -72,9 +72,10 @@ putValues values block = putRow 0 32 8 (λ s. getD values s 0) block
 unfoldable pub putNumbers : List ℕ → List ℕ → List ℕ
 putNumbers numbers block = putRow 0 (length numbers) 8 (λ j. getD numbers j 0) block
 
--- seventeen numbers of 64 bits, low byte first: the plan's eleven, the machine's lengths, and the place's kind, row, column and term
+-- eighteen numbers of 64 bits, low byte first: the plan's eleven without its kind, the machine's lengths, the place's kind, row, column
+-- and term, and the plan's kind
 abbrev pub runBytes : ℕ
-runBytes = 136
+runBytes = 144
 
 -- a place's kind, and its row, column and term, 0 where it has none
 abbrev pub spot : (kind row column term : ℕ) → Spot
@@ -106,6 +107,7 @@ layoutOf block at = record { address = le block at 8; stride = le block (at + 8)
 
 unfoldable pub planOf : List ℕ → Plan
 planOf block = record {
+  kind = le block 136 8;
   sew = le block 0 8;
   factor = le block 8 8;
   m = le block 16 8;
@@ -127,6 +129,7 @@ runOf block = record {
   place = placeOf (spotIn block);
 }
 
+-- the numbers of a plan but for its kind, which stands last
 abbrev pub planNumbers : Plan → List ℕ
 planNumbers P =
     P .sew ∷ P .factor ∷ P .m ∷ P .k ∷ P .n
@@ -135,9 +138,13 @@ planNumbers P =
 abbrev pub spotNumbers : Spot → List ℕ
 spotNumbers s = s .kind ∷ s .row ∷ s .column ∷ s .term ∷ []
 
+-- the numbers of a run in their order
+abbrev pub runNumbers : Plan → (rlen mlen : ℕ) → Spot → List ℕ
+runNumbers P rlen mlen s = planNumbers P ++ (rlen ∷ mlen ∷ (spotNumbers s ++ (P .kind ∷ [])))
+
 -- the numbers of a run written over a block, each where runOf reads it
 unfoldable pub putRun : Run → List ℕ → List ℕ
-putRun R block = putNumbers (planNumbers (R .plan) ++ (R .rlen ∷ R .mlen ∷ spotNumbers (spotOf (R .place)))) block
+putRun R block = putNumbers (runNumbers (R .plan) (R .rlen) (R .mlen) (spotOf (R .place))) block
 
 -- the four numbers are the same
 abbrev pub sameSpot : Spot → Spot → List Bool

@@ -119,6 +119,7 @@ fn plan_of(block: &[u8]) -> Plan
     let b = layout_of(block, 56);
     let c = layout_of(block, 72);
     Plan {
+        kind: read8(block, 136),
         sew: read8(block, 0),
         factor: read8(block, 8),
         m: read8(block, 16),
@@ -178,7 +179,7 @@ fn same_spot(s: Spot, t: Spot) -> bool
 pub fn is_fit(block: &[u8]) -> bool
     ensures { λ r. ⌜ r ≡ runFit (now (block .entry)) ⌝ }
 {
-    if block.len() != 136 {
+    if block.len() != 144 {
         return false;
     }
     let held = spot_in(block);
@@ -222,6 +223,17 @@ fn put_plan(block: &mut [u8], plan: Plan)
     put_layout(block, 72, c);
 }
 
+fn put_spot(block: &mut [u8], spot: Spot)
+    requires { ⌜ length (now block) ≡ runBytes ⌝ }
+    ensures { λ _. ⌜ now (block .exit)
+        ≡ putLe 128 8 (spot .term) (putLe 120 8 (spot .column) (putLe 112 8 (spot .row) (putLe 104 8 (spot .kind) (now (block .entry))))) ⌝ }
+{
+    write8(block, 104, spot.kind);
+    write8(block, 112, spot.row);
+    write8(block, 120, spot.column);
+    write8(block, 128, spot.term);
+}
+
 // A run into its block.
 pub fn put_run(block: &mut [u8], run: Run)
     requires { ⌜ length (now block) ≡ runBytes ⌝ }
@@ -233,10 +245,8 @@ pub fn put_run(block: &mut [u8], run: Run)
     write8(block, 96, run.mlen);
     let place = run.place;
     let spot = spot_of(place);
-    write8(block, 104, spot.kind);
-    write8(block, 112, spot.row);
-    write8(block, 120, spot.column);
-    write8(block, 128, spot.term);
+    put_spot(block, spot);
+    write8(block, 136, plan.kind);
 }
 
 // A step into its block.

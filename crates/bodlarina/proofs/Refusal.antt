@@ -100,7 +100,7 @@ ask-zero R = go (handsOut smaller R)
 
 pub run-start-refusal : RunStartRefusalChangesNoByte
 unfolding hostRunStart startRun
-run-start-refusal P machine registers marks memory run = go (every (eqb (length machine) 64 ∷ eqb (length run) 136 ∷ []))
+run-start-refusal P machine registers marks memory run = go (every (eqb (length machine) 64 ∷ eqb (length run) 144 ∷ []))
   where
     s : RunStart
     s = startRun smaller P (benchOf (machineOf machine) registers marks memory)

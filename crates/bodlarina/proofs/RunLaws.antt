@@ -27,10 +27,10 @@ use Rattle.asking.specs.Steps.{stepsIn}
 use Rattle.blocks.specs.Blocks.{machineOf, putMachine, spotIn, spotOf, placeOf, sameSpot, runFit, runOf, putRun, putHanded, putNumbers, packed}
 use Rattle.bodlarina.specs.Host.{runStartedOut, shownRunStart, hostRunStart, nextOut, shownNext, hostNext, hostRunSteps, turnBlocks, heldRunning, turnedOut, shownTurn, hostTurn, shownTurns, hostTurns, ranOut, shownRun, hostRun}
 
-pub fit-length : (block : List ℕ) → runFit block ≡ true → length block ≡ 136
+pub fit-length : (block : List ℕ) → runFit block ≡ true → length block ≡ 144
 unfolding runFit
 fit-length block h =
-    eqb-true (length block) 136 (and-left (eqb (length block) 136) (every (sameSpot (spotIn block) (spotOf (placeOf (spotIn block))))) h)
+    eqb-true (length block) 144 (and-left (eqb (length block) 144) (every (sameSpot (spotIn block) (spotOf (placeOf (spotIn block))))) h)
 
 -- ---- starting a run
 
@@ -41,18 +41,18 @@ module _ (P : Plan) (machine registers marks memory run : List ℕ) where
   unfolding hostRunStart
   run-start-short r h er = rw (er, ne-eqb (length machine) 64 h)
 
-  pub run-start-short-run : (r : ℕ) → length machine ≡ 64 → ¬ (length run ≡ 136) → r ≡ packed (reply BadArguments)
+  pub run-start-short-run : (r : ℕ) → length machine ≡ 64 → ¬ (length run ≡ 144) → r ≡ packed (reply BadArguments)
       → runStartedOut r machine registers marks memory run ≡ hostRunStart P machine registers marks memory run
   unfolding hostRunStart
-  run-start-short-run r h k er = rw (er, eq-eqb (length machine) 64 h, ne-eqb (length run) 136 k)
+  run-start-short-run r h k er = rw (er, eq-eqb (length machine) 64 h, ne-eqb (length run) 144 k)
 
-  run-start-is : length machine ≡ 64 → length run ≡ 136
+  run-start-is : length machine ≡ 64 → length run ≡ 144
       → shownRunStart machine run (startRun smaller P (benchOf (machineOf machine) registers marks memory)) ≡ hostRunStart P machine registers marks memory run
   unfolding hostRunStart
-  run-start-is h k = rw (eq-eqb (length machine) 64 h, eq-eqb (length run) 136 k)
+  run-start-is h k = rw (eq-eqb (length machine) 64 h, eq-eqb (length run) 144 k)
 
   -- what the start has answered, and the block written exactly where it is done
-  pub run-start-shown : (t : Bool) (P′ : Plan) (m : Machine) (s : RunStarted) (N : List ℕ) (r : ℕ) → length machine ≡ 64 → length run ≡ 136
+  pub run-start-shown : (t : Bool) (P′ : Plan) (m : Machine) (s : RunStarted) (N : List ℕ) (r : ℕ) → length machine ≡ 64 → length run ≡ 144
       → P′ ≡ P → m ≡ machineOf machine → startedAs s (benchOf m registers marks memory) ≡ startRun smaller P′ (benchOf m registers marks memory)
       → isDone (s .answer) ≡ t → N ≡ cond t (putRun (s .run) run) run → r ≡ packed (reply (s .answer))
       → runStartedOut r machine registers marks memory N ≡ hostRunStart P machine registers marks memory run

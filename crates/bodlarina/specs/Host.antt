@@ -20,9 +20,9 @@ use Rattle.blocks.specs.Blocks.{machineBytes, machineOf, putMachine, scalarByte
 
 -- ---- the version
 
--- what a call of bodlarina_version returns: 10,000 times the major number, 100 times the minor one, and the patch number. 0.1.0
+-- what a call of bodlarina_version returns: 10,000 times the major number, 100 times the minor one, and the patch number. 0.2.0
 abbrev pub hostVersion : ℕ
-hostVersion = 100
+hostVersion = 200
 
 -- ---- starting
 
@@ -89,8 +89,9 @@ hostStep word machine registers marks scalars memory =
 -- ---- starting a run
 
 -- the plan in a call's numbers
-abbrev pub planIn : (sew factor m k n a aStride b bStride c cStride : ℕ) → Plan
-planIn sew factor m k n a aStride b bStride c cStride = record {
+abbrev pub planIn : (kind sew factor m k n a aStride b bStride c cStride : ℕ) → Plan
+planIn kind sew factor m k n a aStride b bStride c cStride = record {
+  kind = kind;
   sew = sew;
   factor = factor;
   m = m;

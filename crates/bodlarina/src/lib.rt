@@ -26,7 +26,7 @@ ghost use Rattle.bodlarina.specs.Host.{hostVersion, startedOut, hostStar
 pub extern "C" fn bodlarina_version() -> u64
     ensures { λ r. ⌜ r ≡ hostVersion ⌝ }
 {
-    100
+    200
 }
 
 // Starts a machine on the lent register bytes and marks, and writes its numbers into the machine block.

@@ -15,6 +15,7 @@ ghost use Rattle.bodlarina.specs.Host.{planIn, runStartedOut, hostRunSta
 
 // The plan in a call's numbers.
 fn plan_in(
+    kind: u64,
     sew: u64,
     factor: u64,
     m: u64,
@@ -27,9 +28,10 @@ fn plan_in(
     c: u64,
     c_stride: u64,
 ) -> Plan
-    ensures { λ r. ⌜ r ≡ planIn sew factor m k n a «a_stride» b «b_stride» c «c_stride» ⌝ }
+    ensures { λ r. ⌜ r ≡ planIn kind sew factor m k n a «a_stride» b «b_stride» c «c_stride» ⌝ }
 {
     Plan {
+        kind: kind,
         sew: sew,
         factor: factor,
         m: m,
@@ -50,9 +52,10 @@ fn plan_in(
     }
 }
 
-// Starts a run of C = A B on a machine, and writes it into the run's block.
+// Starts a run of C = A B on a machine, of kind 1 with A kept transposed, and writes it into the run's block.
 #[no_mangle]
 pub extern "C" fn bodlarina_run_start(
+    kind: u64,
     sew: u64,
     factor: u64,
     m: u64,
@@ -71,16 +74,29 @@ pub extern "C" fn bodlarina_run_start(
     run: &mut [u8],
 ) -> u64
     ensures { λ r. ⌜ runStartedOut r (now (machine .entry)) (now (registers .entry)) (now (marks .entry)) (now (memory .entry)) (now (run .exit))
-        ≡ hostRunStart (planIn sew factor m k n a «a_stride» b «b_stride» c «c_stride»)
+        ≡ hostRunStart (planIn kind sew factor m k n a «a_stride» b «b_stride» c «c_stride»)
         (now (machine .entry)) (now (registers .entry)) (now (marks .entry)) (now (memory .entry)) (now (run .entry)) ⌝ }
 {
     if machine.len() != 64 {
         return packed(Answer::BadArguments);
     }
-    if run.len() != 136 {
+    if run.len() != 144 {
         return packed(Answer::BadArguments);
     }
-    let plan = plan_in(sew, factor, m, k, n, a, a_stride, b, b_stride, c, c_stride);
+    let plan = plan_in(
+        kind,
+        sew,
+        factor,
+        m,
+        k,
+        n,
+        a,
+        a_stride,
+        b,
+        b_stride,
+        c,
+        c_stride,
+    );
     let held = machine_of(machine);
     let started = starting::start(plan, held, registers, marks, memory);
     let answer = started.answer;
@@ -186,9 +202,10 @@ pub extern "C" fn bodlarina_run_turns(
     taken.count
 }
 
-// Runs C = A B on a machine from its start to its last step.
+// Runs C = A B on a machine, of kind 1 with A kept transposed, from its start to its last step.
 #[no_mangle]
 pub extern "C" fn bodlarina_run(
+    kind: u64,
     sew: u64,
     factor: u64,
     m: u64,
@@ -207,7 +224,7 @@ pub extern "C" fn bodlarina_run(
     steps: &mut [u8],
 ) -> u64
     ensures { λ r. ⌜ ranOut r (now (machine .exit)) (now (registers .exit)) (now (marks .exit)) (now (memory .exit)) (now (steps .exit))
-        ≡ hostRun (planIn sew factor m k n a «a_stride» b «b_stride» c «c_stride»)
+        ≡ hostRun (planIn kind sew factor m k n a «a_stride» b «b_stride» c «c_stride»)
         (now (machine .entry)) (now (registers .entry)) (now (marks .entry)) (now (memory .entry)) (now (steps .entry)) ⌝ }
 {
     if machine.len() != 64 {
@@ -216,7 +233,20 @@ pub extern "C" fn bodlarina_run(
     if steps.len() != 8 {
         return packed(Answer::BadArguments);
     }
-    let plan = plan_in(sew, factor, m, k, n, a, a_stride, b, b_stride, c, c_stride);
+    let plan = plan_in(
+        kind,
+        sew,
+        factor,
+        m,
+        k,
+        n,
+        a,
+        a_stride,
+        b,
+        b_stride,
+        c,
+        c_stride,
+    );
     let held = machine_of(machine);
     let finished = whole::product(plan, held, registers, marks, memory);
     let answer = finished.answer;

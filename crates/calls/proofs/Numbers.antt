@@ -136,7 +136,7 @@ pub run-words : (b : List ℕ) → Bytes b → runFit b ≡ true → RunWords (r
 unfolding runOf runFit
 run-words b small h =
     let s : Spot = spotOf (placeOf (spotIn b)) in
-    let e = every-each (sameSpot (spotIn b) s) (and-right (eqb (length b) 136) (every (sameSpot (spotIn b) s)) h) in
+    let e = every-each (sameSpot (spotIn b) s) (and-right (eqb (length b) 144) (every (sameSpot (spotIn b) s)) h) in
     parts (runOf b) (plan-words b small) (le-lt b small 88 8) (le-lt b small 96 8)
     (four s (same-small (spotIn b .kind) (s .kind) (e .0) (le-lt b small 104 8)) (same-small (spotIn b .row) (s .row) (e .1 .0) (le-lt b small 112 8))
     (same-small (spotIn b .column) (s .column) (e .1 .1 .0) (le-lt b small 120 8)) (same-small (spotIn b .term) (s .term) (e .1 .1 .1 .0) (le-lt b small 128 8)))

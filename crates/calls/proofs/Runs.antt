@@ -55,7 +55,7 @@ module _ (P : Plan) (b : Buffers) where
   s = startRun smaller P B
 
   abbrev tests : List Bool
-  tests = eqb (length (b .machine)) 64 ∷ eqb (length (b .run)) 136 ∷ []
+  tests = eqb (length (b .machine)) 64 ∷ eqb (length (b .run)) 144 ∷ []
 
   abbrev startOn : Bool → Called
   startOn t =
@@ -100,7 +100,7 @@ module _ (P : Plan) (b : Buffers) where
 pub start-calls-are-right : StartCallsAreRight
 start-calls-are-right P b lm lr bytes =
     let call : called (Call.runStart P) b ≡ startOn P b true =
-    start-call P b true (each-every (tests P b) (eq-eqb (length (b .machine)) 64 lm, (eq-eqb (length (b .run)) 136 lr, tt))) in
+    start-call P b true (each-every (tests P b) (eq-eqb (length (b .machine)) 64 lm, (eq-eqb (length (b .run)) 144 lr, tt))) in
     record {
       answered = (s P b .answer, ap (λ (o : Called). o .result) call ∙ start-plain P b, demand-3-ours P (benchIn b) bytes .answered);
       unchanged = subst (λ (o : Called). o .after ≡ having P b (o .after .run)) (sym call) (lent-same P b);
@@ -155,7 +155,7 @@ turn-none r = go (handsOut smaller (r .run))
 
 record Accepted (P : Plan) (b : Buffers) : Type 0 where
   machine-long : length (b .machine) ≡ 64
-  run-long : length (b .run) ≡ 136
+  run-long : length (b .run) ≡ 144
   done : done (s P b .answer) ≡ true
   leaves : called (Call.runStart P) b .after ≡ having P b (putRun (s P b .run) (b .run))
 
@@ -170,7 +170,7 @@ accepted P b e = go (every (tests P b)) refl
         sym (zero-is-done (s P b .answer) (start-zero P b)) ∙ eq-eqb (packed (s P b .answer)) 0 (sym (ap (λ (o : Called). o .result) call) ∙ e) in
         record {
           machine-long = eqb-true (length (b .machine)) 64 (l .0);
-          run-long = eqb-true (length (b .run)) 136 (l .1 .0);
+          run-long = eqb-true (length (b .run)) 144 (l .1 .0);
           done = d;
           leaves =
               ap (λ (o : Called). o .after) call ∙ lent-same P b
@@ -298,16 +298,16 @@ module _ (P : Plan) (b : Buffers) where
   run-fits : length (b .steps) ≡ 8 → eqb (length (b .machine)) 64 ≡ true → called (Call.run P) b ≡ runOn true
   run-fits ls h = run-call true (each-every (eqb (length (b .machine)) 64 ∷ eqb (length (b .steps)) 8 ∷ []) (h, (eq-eqb (length (b .steps)) 8 ls, tt)))
 
-  same-result : length (b .run) ≡ 136 → length (b .steps) ≡ 8 → called (Call.run P) b .result ≡ called (Call.runStart P) b .result
+  same-result : length (b .run) ≡ 144 → length (b .steps) ≡ 8 → called (Call.run P) b .result ≡ called (Call.runStart P) b .result
   same-result lr ls = go (eqb (length (b .machine)) 64) refl
     where
       go : (t : Bool) → eqb (length (b .machine)) 64 ≡ t → called (Call.run P) b .result ≡ called (Call.runStart P) b .result
       go true h =
           ap (λ (o : Called). o .result) (run-fits ls h)
-          ∙ sym (ap (λ (o : Called). o .result) (start-call P b true (each-every (tests P b) (h, (eq-eqb (length (b .run)) 136 lr, tt)))))
+          ∙ sym (ap (λ (o : Called). o .result) (start-call P b true (each-every (tests P b) (h, (eq-eqb (length (b .run)) 144 lr, tt)))))
       go false h =
           ap (λ (o : Called). o .result) (run-call false (ap (λ (t : Bool). every (t ∷ eqb (length (b .steps)) 8 ∷ [])) h))
-          ∙ sym (ap (λ (o : Called). o .result) (start-call P b false (ap (λ (t : Bool). every (t ∷ eqb (length (b .run)) 136 ∷ [])) h)))
+          ∙ sym (ap (λ (o : Called). o .result) (start-call P b false (ap (λ (t : Bool). every (t ∷ eqb (length (b .run)) 144 ∷ [])) h)))
 
 pub run-is-turn-calls : RunIsTurnCalls
 run-is-turn-calls P b p small bytes lr ls = (

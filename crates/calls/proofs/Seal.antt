@@ -96,7 +96,7 @@ module _ (b : Buffers) (w : Words (machineOf (b .machine))) where
 
   run-start-safe : (P : Plan) → SafeAfter (called (Call.runStart P) b)
   unfolding hostRunStart
-  run-start-safe P = go (every (eqb (length (b .machine)) 64 ∷ eqb (length (b .run)) 136 ∷ []))
+  run-start-safe P = go (every (eqb (length (b .machine)) 64 ∷ eqb (length (b .run)) 144 ∷ []))
     where
       out : Bool → Called
       out t =

@@ -99,7 +99,7 @@ module _ (b : Buffers) (fit : turnBlocks (b .run) (b .machine) ≡ true) where
   run-fits : runFit (b .run) ≡ true
   run-fits = every-each (runFit (b .run) ∷ eqb (length (b .machine)) 64 ∷ []) fit .0
 
-  run-length : length (b .run) ≡ 136
+  run-length : length (b .run) ≡ 144
   run-length = fit-length (b .run) run-fits
 
   machine-length : length (b .machine) ≡ 64

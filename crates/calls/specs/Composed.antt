@@ -47,7 +47,7 @@ benchIn b = benchOf (machineOf (b .machine)) (b .registers) (b .marks) (b .memor
 
 -- ---- bodlarina_run_start
 
--- a plan's eleven numbers are uint64_t
+-- a plan's twelve numbers are uint64_t
 abbrev pub PlanWords : Plan → Type 0
 PlanWords P = (j : ℕ) → getD (planNumbers P) j 0 < 2 ^ 64
 

@@ -117,8 +117,8 @@ module _ (sew f m k n : ℕ) (formatted : format sew f ≡ true) (m≤ : m ≤ 1
 
   numbers : planned (planFor sew f m k n) ≡ true
   unfolding planned
-  numbers = each-every (format sew f ∷ leb m 1024 ∷ leb k 1024 ∷ leb n 1024 ∷ [])
-      (formatted, (le-leb m 1024 (omega arith), (le-leb k 1024 (omega arith), (le-leb n 1024 (omega arith), tt))))
+  numbers = each-every (format sew f ∷ leb m 1024 ∷ leb k 1024 ∷ leb n 1024 ∷ leb 0 1 ∷ [])
+      (formatted, (le-leb m 1024 (omega arith), (le-leb k 1024 (omega arith), (le-leb n 1024 (omega arith), (refl, tt)))))
 
   insides : (mem : List ℕ) → length mem ≡ 3072 → Inside (planFor sew f m k n) mem
   unfolding narrow

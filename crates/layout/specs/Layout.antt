@@ -10,6 +10,7 @@ use Rattle.run.specs.Plan.{Job}
 -- the plan for the numbers that `product` reads
 abbrev pub planFor : (sew f m k n : ℕ) → Plan
 planFor sew f m k n = record {
+  kind = 0;
   sew = sew;
   factor = f;
   m = m;

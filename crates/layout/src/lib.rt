@@ -19,6 +19,7 @@ pub fn plan_for(sew: u64, factor: u64, m: u64, k: u64, n: u64) -> Plan
     let width = sew / 8;
     let wide = factor * width;
     Plan {
+        kind: 0,
         sew,
         factor,
         m,

@@ -110,7 +110,7 @@ module _ (b : Buffers) (ys : List ℕ) (a : Agree (b .marks) (b .registers) ys) 
 
   run-start-same : (P : Plan) → SameCalled (called (Call.runStart P) b) (called (Call.runStart P) (with b ys))
   unfolding hostRunStart
-  run-start-same P = go (every (eqb (length (b .machine)) 64 ∷ eqb (length (b .run)) 136 ∷ []))
+  run-start-same P = go (every (eqb (length (b .machine)) 64 ∷ eqb (length (b .run)) 144 ∷ []))
     where
       out : Bool → List ℕ → Called
       out t xs =

@@ -121,6 +121,7 @@ fn product(
     c_stride: u64,
 ) {
     let plan = Plan {
+        kind: 0,
         sew: sew,
         factor: factor,
         m: m,

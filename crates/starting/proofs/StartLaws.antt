@@ -17,19 +17,24 @@ use Rattle.machine.specs.Faults.{sound}
 use Rattle.machine.specs.Setting.{smaller}
 use Rattle.machine.proofs.TestLaws.{Each, every-each, fails, last}
 use Rattle.run.specs.declared.Plan.{Plan}
-use Rattle.run.specs.Plan.{narrow, wide, aAt, bAt, cAt}
+use Rattle.run.specs.Plan.{narrow, wide, aAt, bAt, cAt, formOf, aRows, aColumns}
+use Rattle.run.proofs.FormLaws.{most-in}
 use Rattle.run.specs.Start.{format, planned, lying, distinct, apart, separate, RunStart, startRun, freshRun, noRun}
 use Rattle.asking.proofs.AskingLaws.{sews, factors, plan-small}
 
 -- ---- the numbers of a plan
 
 module _ (P : Plan) (ok : planned P ≡ true) where
-  numbers : Each (format (P .sew) (P .factor) ∷ leb (P .m) 1024 ∷ leb (P .k) 1024 ∷ leb (P .n) 1024 ∷ [])
+  numbers : Each (format (P .sew) (P .factor) ∷ leb (P .m) 1024 ∷ leb (P .k) 1024 ∷ leb (P .n) 1024 ∷ leb (P .kind) 1 ∷ [])
   unfolding planned
-  numbers = every-each (format (P .sew) (P .factor) ∷ leb (P .m) 1024 ∷ leb (P .k) 1024 ∷ leb (P .n) 1024 ∷ []) ok
+  numbers = every-each (format (P .sew) (P .factor) ∷ leb (P .m) 1024 ∷ leb (P .k) 1024 ∷ leb (P .n) 1024 ∷ leb (P .kind) 1 ∷ []) ok
 
   pub plan-sizes : (P .m ≤ 1024) × (P .k ≤ 1024) × (P .n ≤ 1024)
   plan-sizes = (leb-true (P .m) 1024 (numbers .1 .0), leb-true (P .k) 1024 (numbers .1 .1 .0), leb-true (P .n) 1024 (numbers .1 .1 .1 .0))
+
+  -- and of A's rows in memory
+  pub a-sizes : (aRows P ≤ 1024) × (aColumns P ≤ 1024)
+  a-sizes = most-in (formOf P) (P .m) (P .k) 1024 (plan-sizes .0) (plan-sizes .1)
 
   -- an element has at most 4 bytes
   pub wide-most : P .factor * (P .sew / 8) ≤ 4
@@ -53,12 +58,15 @@ counted test e h = h ∙ ap test e
 pub counted-both : (test : ℕ → ℕ → Bool) {n n′ o o′ : ℕ} {r : Bool} → n ≡ n′ → o ≡ o′ → r ≡ test n o → r ≡ test n′ o′
 counted-both test e f h = h ∙ ap₂ test e f
 
+pub counted-all : (test : ℕ → ℕ → ℕ → Bool) {k k′ n n′ o o′ : ℕ} {r : Bool} → k ≡ k′ → n ≡ n′ → o ≡ o′ → r ≡ test k n o → r ≡ test k′ n′ o′
+counted-all test {k′ = k′} {n = n} {o = o} d e f h = h ∙ ap (λ (k : ℕ). test k n o) d ∙ ap₂ (test k′) e f
+
 -- ---- whether the matrices lie in memory
 
 module _ (P : Plan) (mem : List ℕ) where
-  -- by the bytes of a row
-  abbrev pub aInside : ℕ → Bool
-  aInside n = inside (length mem) (P .a .address) (P .a .stride) (P .m) n
+  -- by the bytes of a row, and for A by its rows
+  abbrev pub aInside : ℕ → ℕ → Bool
+  aInside rows n = inside (length mem) (P .a .address) (P .a .stride) rows n
 
   abbrev pub bInside : ℕ → Bool
   bInside n = inside (length mem) (P .b .address) (P .b .stride) (P .k) n
@@ -68,7 +76,7 @@ module _ (P : Plan) (mem : List ℕ) where
 
   -- and of as many as the plan gives it
   abbrev pub aIn : Bool
-  aIn = aInside (P .k * narrow P)
+  aIn = aInside (aRows P) (aColumns P * narrow P)
 
   abbrev pub bIn : Bool
   bIn = bInside (P .n * narrow P)
@@ -95,12 +103,12 @@ module _ (P : Plan) (mem : List ℕ) where
 -- ---- whether C lies apart from the rest
 
 module _ (P : Plan) where
-  -- by the bytes of a row of A or B, and of C
+  -- by the rows of A, and by the bytes of a row of A or B, and of C
   abbrev pub cDistinct : ℕ → Bool
   cDistinct o = distinct (cAt P) (P .m) o
 
-  abbrev pub aApart : ℕ → ℕ → Bool
-  aApart n o = apart (aAt P) (P .m) n (cAt P) (P .m) o
+  abbrev pub aApart : ℕ → ℕ → ℕ → Bool
+  aApart rows n o = apart (aAt P) rows n (cAt P) (P .m) o
 
   abbrev pub bApart : ℕ → ℕ → Bool
   bApart n o = apart (bAt P) (P .k) n (cAt P) (P .m) o
@@ -113,7 +121,7 @@ module _ (P : Plan) where
   rowsDiffer = cDistinct (P .n * wide P)
 
   abbrev pub fromA : Bool
-  fromA = aApart (P .k * narrow P) (P .n * wide P)
+  fromA = aApart (aRows P) (aColumns P * narrow P) (P .n * wide P)
 
   abbrev pub fromB : Bool
   fromB = bApart (P .n * narrow P) (P .n * wide P)

@@ -1,6 +1,8 @@
 // The tests of a start on memory: that the matrices lie in it, and that C lies apart from the rest.
 use address::rows_inside;
 use address::rows_unsealed;
+use asking::a_column;
+use asking::a_row;
 use machine::Machine;
 use overlap::rows_apart;
 use overlap::rows_distinct;
@@ -37,13 +39,14 @@ pub fn is_lying(plan: Plan, memory: &[u8]) -> bool
 {
     let len = memory.len();
     let a = plan.a;
-    let m = plan.m as usize;
+    let rows = a_row(plan, plan.m, plan.k);
+    let columns = a_column(plan, plan.m, plan.k);
     if !rows_inside(
         len,
         a.address as usize,
         a.stride,
-        m,
-        narrow_row(plan, plan.k),
+        rows as usize,
+        narrow_row(plan, columns),
     ) {
         return false;
     }
@@ -59,7 +62,13 @@ pub fn is_lying(plan: Plan, memory: &[u8]) -> bool
         return false;
     }
     let c = plan.c;
-    rows_inside(len, c.address as usize, c.stride, m, wide_row(plan))
+    rows_inside(
+        len,
+        c.address as usize,
+        c.stride,
+        plan.m as usize,
+        wide_row(plan),
+    )
 }
 
 // Whether no byte of C lies in two of its rows, in a row of A or B, or in the seal.
@@ -77,12 +86,14 @@ pub fn is_separate(plan: Plan, m: Machine, memory: &[u8]) -> bool
         return false;
     }
     let a = plan.a;
+    let lines = a_row(plan, plan.m, plan.k);
+    let elements = a_column(plan, plan.m, plan.k);
     if !rows_apart(
         len,
         a.address as usize,
         a.stride,
-        rows,
-        narrow_row(plan, plan.k),
+        lines as usize,
+        narrow_row(plan, elements),
         at,
         c.stride,
         rows,

@@ -36,7 +36,7 @@ use Rattle.run.specs.declared.Plan.{Plan}
 use Rattle.run.specs.declared.Run.{Run}
 use Rattle.run.specs.declared.Place.{Place}
 use Rattle.run.specs.Words.{Op}
-use Rattle.run.specs.Plan.{narrow, wide, msew, typeOf}
+use Rattle.run.specs.Plan.{narrow, wide, msew, typeOf, formOf, aRow, aColumn}
 use Rattle.run.specs.Places.{wordAt}
 use Rattle.run.specs.Encoding.{own, handedFor, startOf, log}
 use Rattle.run.specs.Start.{format, planned}
@@ -48,7 +48,7 @@ use Rattle.turn.proofs.TurnLaws.{leaving, turn-zero, taking, turns-stop
 
 pub plan-format : (P : Plan) → planned P ≡ true → format (P .sew) (P .factor) ≡ true
 unfolding planned
-plan-format P h = every-each (format (P .sew) (P .factor) ∷ leb (P .m) 1024 ∷ leb (P .k) 1024 ∷ leb (P .n) 1024 ∷ []) h .0
+plan-format P h = every-each (format (P .sew) (P .factor) ∷ leb (P .m) 1024 ∷ leb (P .k) 1024 ∷ leb (P .n) 1024 ∷ leb (P .kind) 1 ∷ []) h .0
 
 pub plan-type : (P : Plan) → planned P ≡ true → typeOf P < 8192
 plan-type P h = type-small (ours nothing) P (plan-format P h) (stateOf nothing [] [])
@@ -141,15 +141,16 @@ pub stores-for : {m : Machine} {o o′ : Operation} {regs marks mem : List ℕ} 
 stores-for {m} {o} {o′} {regs} {marks} {mem} {a} {mem′} e l = subst (λ (o : Operation). WritesMemory m o regs marks mem a mem′) e l
 
 module _ (P : Plan) (ok : planned P ≡ true) (m : Machine) (regs marks mem : List ℕ) (s : sound m regs marks ≡ true) (a : Answer) where
-  pub a-carried : (i t : ℕ) (regs′ marks′ : List ℕ) → WritesRegisters m (Operation.load Plain MatrixA 0 (narrow P) (startOf (P .a) i (t * narrow P)) (P .a .stride)) regs marks mem a regs′ marks′
+  pub a-carried : (i t : ℕ) (regs′ marks′ : List ℕ)
+      → WritesRegisters m (Operation.load (formOf P) MatrixA 0 (narrow P) (startOf (P .a) (aRow P i t) (aColumn P i t * narrow P)) (P .a .stride)) regs marks mem a regs′ marks′
       → carried (reply a) m regs′ marks′ mem ≡ carriedFor P (Op.loadA i t) (benchOf m regs marks mem)
   a-carried i t regs′ marks′ l =
       let g = plan-format P ok in
-      let k : Instruction = Load Plain MatrixA (2 ^ msew P) 0 10 11 in
-      let p = startOf (P .a) i (t * narrow P) in
-      by-decoding P (Op.loadA i t) m regs marks mem s k (decode-a (msew P) (msew<3 (ours m) P g (stateOf m regs marks))) _
-      (loads-outcome m k (own (handedFor P (Op.loadA i t))) regs marks mem s refl (Operation.load Plain MatrixA 0 (narrow P) p (P .a .stride))
-      (ap (λ (w : ℕ). Operation.load Plain MatrixA 0 w p (P .a .stride)) (narrow-is (ours m) P g (stateOf m regs marks))) refl a regs′ marks′ l refl refl)
+      let k : Instruction = Load (formOf P) MatrixA (2 ^ msew P) 0 10 11 in
+      let p = startOf (P .a) (aRow P i t) (aColumn P i t * narrow P) in
+      by-decoding P (Op.loadA i t) m regs marks mem s k (decode-a (formOf P) (msew P) (msew<3 (ours m) P g (stateOf m regs marks))) _
+      (loads-outcome m k (own (handedFor P (Op.loadA i t))) regs marks mem s refl (Operation.load (formOf P) MatrixA 0 (narrow P) p (P .a .stride))
+      (ap (λ (w : ℕ). Operation.load (formOf P) MatrixA 0 w p (P .a .stride)) (narrow-is (ours m) P g (stateOf m regs marks))) refl a regs′ marks′ l refl refl)
 
   pub b-carried : (t j : ℕ) (regs′ marks′ : List ℕ) → WritesRegisters m (Operation.load Plain MatrixB 1 (narrow P) (startOf (P .b) t (j * narrow P)) (P .b .stride)) regs marks mem a regs′ marks′
       → carried (reply a) m regs′ marks′ mem ≡ carriedFor P (Op.loadB t j) (benchOf m regs marks mem)

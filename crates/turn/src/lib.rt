@@ -15,7 +15,6 @@ ghost use mathlib.Core.Path.{_≡_};
 ghost use mathlib.Core.Bool.{true};
 ghost use mathlib.Core.List.{List, [], _∷_};
 ghost use Prim.Native.Nat.{ℕ, _*_, _≤_, _<_};
-ghost use Rattle.machine.specs.declared.Form.the-variants.{Plain};
 ghost use Rattle.machine.specs.Answers.{reply, verdict};
 ghost use Rattle.machine.specs.Geometry.{Bench, benchOf, stateOf, registerCount};
 ghost use Rattle.machine.specs.Faults.{sound};
@@ -25,7 +24,7 @@ ghost use Rattle.machine.specs.Operation.{Operation, times};
 ghost use Rattle.operations.specs.Parts.{WritesRegisters};
 ghost use Rattle.settings.specs.Parts.{Ready};
 ghost use Rattle.run.specs.Plan.{narrow};
-ghost use Rattle.run.specs.Words.{clear, multiply, store};
+ghost use Rattle.run.specs.Words.{clear, loadA, multiply, store};
 ghost use Rattle.run.specs.Encoding.{startOf};
 ghost use Rattle.turn.specs.Parts.{carried, carriedFor, carriedAt, atPlace, endingAt};
 ghost use Rattle.run.specs.Start.{planned};
@@ -77,13 +76,14 @@ fn multiply(plan: Plan, m: Machine, registers: &mut [u8], marks: &[u8]) -> Answe
     operations::reckoning::multiply(m, registers, marks, factor, 0, 0, 1)
 }
 
-// WritesRegisters the block of A or B that starts at this row and column.
+// Loads the block of A or B that starts at this row of memory and so many elements into it.
 fn load(
     plan: Plan,
     m: Machine,
     registers: &mut [u8],
     marks: &mut [u8],
     memory: &[u8],
+    form: Form,
     matrix: Matrix,
     md: usize,
     layout: Layout,
@@ -94,7 +94,7 @@ fn load(
     requires { ⌜ planned plan ≡ true ⌝ }
     requires { ⌜ (row ≤ 1024) × (column ≤ 1024) ⌝ }
     requires { ⌜ md < registerCount matrix ⌝ }
-    ensures { λ r. ⌜ WritesRegisters m (Operation.load Plain matrix md (narrow plan) (startOf layout row (column * narrow plan)) (layout .stride)) (now (registers .entry)) (now (marks .entry)) (now (memory .entry)) r (now (registers .exit)) (now (marks .exit)) ⌝ }
+    ensures { λ r. ⌜ WritesRegisters m (Operation.load form matrix md (narrow plan) (startOf layout row (column * narrow plan)) (layout .stride)) (now (registers .entry)) (now (marks .entry)) (now (memory .entry)) r (now (registers .exit)) (now (marks .exit)) ⌝ }
 {
     let bytes = asking::narrow_bytes(plan);
     let offset = asking::small_times(column, bytes);
@@ -104,7 +104,7 @@ fn load(
         registers,
         marks,
         memory,
-        Form::Plain,
+        form,
         matrix,
         bytes as usize,
         md,
@@ -113,7 +113,42 @@ fn load(
     )
 }
 
-// WritesMemory acc0 to the block of C that starts at this row and column.
+// Loads tr0 from the block of A that starts at this row and term.
+fn load_a(
+    plan: Plan,
+    m: Machine,
+    registers: &mut [u8],
+    marks: &mut [u8],
+    memory: &[u8],
+    row: u64,
+    term: u64,
+) -> Answer
+    requires { ⌜ sound m (now registers) (now marks) ≡ true ⌝ }
+    requires { ⌜ planned plan ≡ true ⌝ }
+    requires { ⌜ (row ≤ 1024) × (term ≤ 1024) ⌝ }
+    ensures { λ r. ⌜ carried (reply r) m (now (registers .exit)) (now (marks .exit)) (now (memory .entry))
+        ≡ carriedFor plan (loadA row term) (benchOf m (now (registers .entry)) (now (marks .entry)) (now (memory .entry))) ⌝ }
+{
+    let form = asking::form_of(plan);
+    let line = asking::a_row(plan, row, term);
+    let column = asking::a_column(plan, row, term);
+    let layout = plan.a;
+    load(
+        plan,
+        m,
+        registers,
+        marks,
+        memory,
+        form,
+        Matrix::MatrixA,
+        0,
+        layout,
+        line,
+        column,
+    )
+}
+
+// Stores acc0 to the block of C that starts at this row and column.
 fn store(
     plan: Plan,
     m: Machine,
@@ -163,7 +198,6 @@ fn carry_out(
 {
     let plan = run.plan;
     let place = run.place;
-    let a = plan.a;
     let b = plan.b;
     match place {
         Place::AtType => Answer::Done,
@@ -179,18 +213,7 @@ fn carry_out(
             row,
             column: _,
             term,
-        } => load(
-            plan,
-            m,
-            registers,
-            marks,
-            memory,
-            Matrix::MatrixA,
-            0,
-            a,
-            row,
-            term,
-        ),
+        } => load_a(plan, m, registers, marks, memory, row, term),
         Place::AtB {
             row: _,
             column,
@@ -201,6 +224,7 @@ fn carry_out(
             registers,
             marks,
             memory,
+            Form::Plain,
             Matrix::MatrixB,
             1,
             b,

@@ -1,7 +1,6 @@
 use mathlib.Core.Path.{ap, ap₂, _∙_}
 use Prim.Native.Nat.{ℕ, _*_}
 use Rattle.run.specs.Encoding.{startOf}
-use Rattle.machine.specs.declared.Form.the-variants.{Plain}
 use Rattle.machine.specs.Operation.{Operation}
 use Rattle.turn.proofs.CarriedLaws.{loads-for}
 use borrow.Author.Needs.{needs}
@@ -36,7 +35,7 @@ returns c =
     let a = s .args in
     let w = n .narrow-bytes .ensures .0 in
     let e = p .start-of .ensures ∙ ap (startOf (a .layout) (a .row)) (t .small-times .ensures ∙ ap (λ (b : ℕ). a .column * b) w) in
-    let o = ap₂ (λ (w p : ℕ). Operation.load Plain (a .matrix) (a .md) w p (a .layout .stride)) w e in
+    let o = ap₂ (λ (w p : ℕ). Operation.load (a .form) (a .matrix) (a .md) w p (a .layout .stride)) w e in
     loads-for o (l .load .ensures)
 
 pub load-spec : {M : Type 1} → statement M

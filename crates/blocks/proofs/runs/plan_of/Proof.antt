@@ -27,6 +27,9 @@ read8-requires-4 c κs = search needs
 read8-requires-5 : tie.Need-read8-requires-5
 read8-requires-5 c κs = search needs
 
+read8-requires-6 : tie.Need-read8-requires-6
+read8-requires-6 c κs = search needs
+
 returns : tie.Need-returns
 unfolding planOf
 returns c = cc
@@ -43,4 +46,5 @@ plan-of-spec =
     read8-requires-3
     read8-requires-4
     read8-requires-5
+    read8-requires-6
     returns)

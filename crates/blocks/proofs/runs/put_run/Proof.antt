@@ -16,17 +16,11 @@ write8-requires-2 c κs = search needs
 spot-of-requires : tie.Need-spot-of-requires
 spot-of-requires c κs = search needs
 
+put-spot-requires : tie.Need-put-spot-requires
+put-spot-requires c κs = search needs
+
 write8-requires-3 : tie.Need-write8-requires-3
 write8-requires-3 c κs = search needs
-
-write8-requires-4 : tie.Need-write8-requires-4
-write8-requires-4 c κs = search needs
-
-write8-requires-5 : tie.Need-write8-requires-5
-write8-requires-5 c κs = search needs
-
-write8-requires-6 : tie.Need-write8-requires-6
-write8-requires-6 c κs = search needs
 
 same-length : tie.Need-same-length
 same-length c = search needs
@@ -43,9 +37,7 @@ put-run-spec =
     write8-requires
     write8-requires-2
     spot-of-requires
+    put-spot-requires
     write8-requires-3
-    write8-requires-4
-    write8-requires-5
-    write8-requires-6
     same-length
     returns)
