@@ -16,8 +16,9 @@
  * The deepest call, bodlarina_run, was measured to use 4,040 bytes of stack (x86-64, the largest machine); tests/library.c measures
  * it again and fails above 8 KiB.
  *
- * Every function but bodlarina_run_turns, bodlarina_run_steps and bodlarina_version, which return a number, returns a result:
- * answer, row and column in one number (below). A REFUSAL, a result other than 0, CHANGES NO BYTE OF ANY BUFFER.
+ * Every function but bodlarina_run_turns, bodlarina_run_steps and bodlarina_version, which return a number, returns a result: the
+ * answer, with row and column or with a length or place, in one number (below). A REFUSAL, a result whose answer is not 0, CHANGES
+ * NO BYTE OF ANY BUFFER.
  *
  * At the end of this file stands struct bodlarina_bench, which holds the buffers, and a short form of each function on it.
  */
@@ -53,11 +54,14 @@ uint64_t bodlarina_version(void);
 /* ---- Results ---------------------------------------------------------------------------------------------- */
 
 /* Bits 15..0 of a result are the answer, bits 31..16 the row and bits 47..32 the column that answer 5 names.
- * Row and column are 0 with every other answer. So a call is done exactly when its result is 0. bodlarina_answer_text, below, has a
- * sentence for each. */
+ * Row and column are 0 with every other answer. So a call is done exactly when its result is 0; but a result of the functions on
+ * images has a length in bits 63..16 where it is done, and the place that answer 15 names: there test BODLARINA_ANSWER(result).
+ * bodlarina_answer_text, below, has a sentence for each. */
 #define BODLARINA_ANSWER(result) ((unsigned)((result) & 0xffffu))
 #define BODLARINA_ROW(result) ((unsigned)(((result) >> 16) & 0xffffu))
 #define BODLARINA_COLUMN(result) ((unsigned)(((result) >> 32) & 0xffffu))
+#define BODLARINA_LENGTH(result) ((result) >> 16)
+#define BODLARINA_PLACE(result) ((result) >> 16)
 
 #define BODLARINA_DONE 0u            /* done */
 #define BODLARINA_ILLEGAL_WORD 1u    /* no row of the draft's listing (section 4.5) has all its fixed bits in the word */
@@ -75,6 +79,9 @@ uint64_t bodlarina_version(void);
 #define BODLARINA_LEFT_OUT_WORD 11u  /* an instruction of the draft that is not carried out here: a float word or a
                                         conversion */
 #define BODLARINA_WRONG_REGISTER 12u /* a register field out of range: a tile register is 0 to 7, an accumulator 0 or 1 */
+#define BODLARINA_NO_ROOM 14u        /* an image does not fit the lent room */
+#define BODLARINA_DAMAGED 15u        /* not an image; the place is that of the first byte at which no image can go on,
+                                        the length if it is only cut short */
 
 /* What an answer, or the answer in a result, says: one line of plain text. */
 BODLARINA_INLINE const char *bodlarina_answer_text(uint64_t result)
@@ -93,6 +100,8 @@ BODLARINA_INLINE const char *bodlarina_answer_text(uint64_t result)
     case BODLARINA_WRONG_OPCODE: return "the opcode is not 1110111";
     case BODLARINA_LEFT_OUT_WORD: return "an instruction of the draft that is not carried out here";
     case BODLARINA_WRONG_REGISTER: return "there is no such tile register or accumulator";
+    case BODLARINA_NO_ROOM: return "the image does not fit the room";
+    case BODLARINA_DAMAGED: return "this is no image, or it is cut short";
     }
     return "no answer of this version";
 }
@@ -372,6 +381,36 @@ BODLARINA_INLINE uint64_t bodlarina_bench_run(const struct bodlarina_bench *benc
         *steps = bodlarina_get64(count);
     return result;
 }
+/* ---- Images ----------------------------------------------------------------------------------------------- */
+
+/* The image of a machine: its numbers and its marked register bytes, to hand it over. Two machines have the same image
+ * exactly if they differ at most in unmarked register bytes. It is made of numbers in groups of seven bits, low group
+ * first, the top bit set on all but the last group, in the shortest form: version 1, the exponents of RLEN and MLEN,
+ * mtype, tile_m, tile_k, tile_n, the seal's start and length, the number of runs; then for each maximal run of marked
+ * bytes, in the order of the registers, its gap from the end of the run before it (or from the start), its length, and
+ * its bytes as they are. */
+
+/* The length of a machine's image, in bits 63..16.
+ * Answers: 0; 8 for a state at fault as in bodlarina_step. */
+uint64_t bodlarina_image_size(const uint8_t *machine, size_t machine_len,
+                              const uint8_t *registers, size_t registers_len,
+                              const uint8_t *marks, size_t marks_len);
+
+/* Writes a machine's image to the front of image, and leaves the bytes past it. Its length is in bits 63..16.
+ * Answers: 0; 8 for a state at fault as in bodlarina_step; then 14 if the image is longer than image_len. */
+uint64_t bodlarina_image_write(const uint8_t *machine, size_t machine_len,
+                               const uint8_t *registers, size_t registers_len,
+                               const uint8_t *marks, size_t marks_len,
+                               uint8_t *image, size_t image_len);
+
+/* Makes the machine whose image it is: writes the machine block, the marks and the marked register bytes, and leaves
+ * the other register bytes. image_len is the image's length, no more.
+ * Answers: 0; 15 with the place in bits 63..16 if it is no image of a machine that is not at fault; then 8 if the machine
+ * block, registers or marks are not of its machine's size. */
+uint64_t bodlarina_image_read(const uint8_t *image, size_t image_len,
+                              uint8_t *machine, size_t machine_len,
+                              uint8_t *registers, size_t registers_len,
+                              uint8_t *marks, size_t marks_len);
 
 #ifdef __cplusplus
 }

@@ -1,4 +1,5 @@
 -- What a reader must believe, after blocks/specs/: what each call answers and leaves.
 pub mod Host
+pub mod Images
 -- Statements of theorems about these definitions.
 pub mod Theorems

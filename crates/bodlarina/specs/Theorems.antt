@@ -8,6 +8,7 @@ use Rattle.machine.specs.Step.{step}
 use Rattle.run.specs.declared.Plan.{Plan}
 use Rattle.blocks.specs.Blocks.{packed}
 use Rattle.bodlarina.specs.Host.{startedOut, hostStart, steppedOut, hostStep, runStartedOut, hostRunStart, nextOut, hostNext, turnedOut, hostTurn, hostTurns, ranOut, hostRun}
+use Rattle.bodlarina.specs.Images.{writtenOut, hostImageWrite, readOut, hostImageRead}
 
 -- a buffer of bytes
 abbrev pub Bytes : List ℕ → Type 0
@@ -49,6 +50,17 @@ abbrev pub RunRefusalChangesNoByte : Type 0
 RunRefusalChangesNoByte = (P : Plan) (machine registers marks memory steps : List ℕ)
     → let o = hostRun P machine registers marks memory steps in
     ¬ (o .result ≡ 0) → o ≡ ranOut (o .result) machine registers marks memory steps
+
+-- a refusal of these: an answer, in bits 15..0, that is not 0
+abbrev pub ImageWriteRefusalChangesNoByte : Type 0
+ImageWriteRefusalChangesNoByte = (machine registers marks image : List ℕ)
+    → let o = hostImageWrite machine registers marks image in
+    ¬ (o .result % 2 ^ 16 ≡ 0) → o ≡ writtenOut (o .result) image
+
+abbrev pub ImageReadRefusalChangesNoByte : Type 0
+ImageReadRefusalChangesNoByte = (image machine registers marks : List ℕ)
+    → let o = hostImageRead image machine registers marks in
+    ¬ (o .result % 2 ^ 16 ≡ 0) → o ≡ readOut (o .result) machine registers marks
 
 -- What the host takes out of a result: bits 15..0 are the number, bits 31..16 the row and bits 47..32 the column of the step's answer,
 -- none of them cut.

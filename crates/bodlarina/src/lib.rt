@@ -8,6 +8,7 @@ use machine::Answer;
 use machine::Machine;
 use machine::Stepped;
 
+mod images; // images of machines
 mod runs; // the product run
 
 ghost use mathlib.Core.Path.{_≡_};

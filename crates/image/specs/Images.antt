@@ -1,0 +1,88 @@
+-- 02, Six: the image of a machine.
+use mathlib.Core.Path.{_≡_}
+use mathlib.Core.Bool.{true, cond}
+use mathlib.Core.List.{List, [], _∷_, _++_}
+use Prim.Native.Nat.{ℕ, zero, suc, _/_, _^_}
+use lib.ListN.{length}
+use lib.Dec.{ltb}
+use Rattle.format.specs.Numbers.{encode, encodeAll, Bytes}
+use Rattle.machine.specs.declared.Machine.{Machine}
+use Rattle.machine.specs.Faults.{sound}
+use Rattle.image.specs.Cells.{Run, runs, cellsOf}
+use Rattle.image.specs.Cells.Run.{run}
+
+-- ---- the numbers
+
+-- how often n can be halved before it is 1: the exponent of a power of two
+unfoldable pub halvings : (most n : ℕ) → ℕ
+halvings zero n = 0
+halvings (suc f) n = cond (ltb n 2) 0 (suc (halvings f (n / 2)))
+
+abbrev pub exponent : ℕ → ℕ
+exponent n = halvings 64 n
+
+-- a machine's numbers as an image has them: "the exponents of RLEN and MLEN, mtype, tile_m, tile_k, tile_n, seal start and length"
+pub record Header : Type 0 where
+  pub rlen : ℕ
+  pub mlen : ℕ
+  pub mtype : ℕ
+  pub tileM : ℕ
+  pub tileK : ℕ
+  pub tileN : ℕ
+  pub sealStart : ℕ
+  pub sealLength : ℕ
+
+abbrev pub headerOf : Machine → Header
+headerOf m = record {
+  rlen = exponent (m .rlen);
+  mlen = exponent (m .mlen);
+  mtype = m .mtype;
+  tileM = m .«tile_m»;
+  tileK = m .«tile_k»;
+  tileN = m .«tile_n»;
+  sealStart = m .«seal_start»;
+  sealLength = m .«seal_length»;
+}
+
+-- the machine with these numbers
+abbrev pub machineFrom : Header → Machine
+machineFrom h = record {
+  rlen = 2 ^ h .rlen;
+  mlen = 2 ^ h .mlen;
+  mtype = h .mtype;
+  «tile_m» = h .tileM;
+  «tile_k» = h .tileK;
+  «tile_n» = h .tileN;
+  «seal_start» = h .sealStart;
+  «seal_length» = h .sealLength;
+}
+
+-- ---- the bytes
+
+-- "The fields are version 1, the exponents of RLEN and MLEN, mtype, tile_m, tile_k, tile_n, seal start and length"
+abbrev pub fields : Header → List ℕ
+fields h = 1 ∷ h .rlen ∷ h .mlen ∷ h .mtype ∷ h .tileM ∷ h .tileK ∷ h .tileN ∷ h .sealStart ∷ h .sealLength ∷ []
+
+-- "A run is ..: its gap .., its length, then its bytes as they are."
+abbrev pub runsBytes : List Run → List ℕ
+runsBytes [] = []
+runsBytes (run g b ∷ rs) = encode g ++ (encode (length b) ++ (b ++ runsBytes rs))
+
+-- the fields, "then the number of runs", then the runs
+abbrev pub spelled : Header → List Run → List ℕ
+spelled h rs = encodeAll (fields h) (encode (length rs) ++ runsBytes rs)
+
+-- the image of a machine
+unfoldable pub imageOf : Machine → (registers marks : List ℕ) → List ℕ
+imageOf m registers marks = spelled (headerOf m) (runs (cellsOf registers marks))
+
+-- ---- accepted images
+
+-- "Numbers must be ones a machine can hold": an image is accepted if it is that of a machine that is not at fault
+pub record IsImage (s : List ℕ) : Type 0 where
+  pub machine : Machine
+  pub registers : List ℕ
+  pub marks : List ℕ
+  pub not-at-fault : sound machine registers marks ≡ true
+  pub are-bytes : Bytes registers
+  pub is-its-image : s ≡ imageOf machine registers marks

@@ -1,0 +1,62 @@
+-- 02, Six: reading an image.
+use mathlib.Core.Bool.{Bool, cond}
+use mathlib.Core.List.{List, [], _∷_}
+use Prim.Native.Nat.{ℕ}
+use lib.ListN.{length}
+use lib.Dec.{eqb}
+use Rattle.format.specs.Parser.{Parsed, parse}
+use Rattle.format.specs.Parser.Parsed.{whole, stopped}
+use Rattle.machine.specs.declared.Machine.{Machine}
+use Rattle.machine.specs.Tests.{every}
+use Rattle.machine.specs.Geometry.{registerBytes}
+use Rattle.machine.specs.Starting.{noMachine}
+use Rattle.image.specs.declared.Imaged.{Imaged}
+use Rattle.image.specs.declared.Imaged.the-variants.{Done, BadArguments, Damaged}
+use Rattle.image.specs.declared.Restored.{Restored}
+use Rattle.image.specs.Answers.{ImageReply, imageReply}
+use Rattle.image.specs.Cells.{Cell, spread, over, marksOf}
+use Rattle.image.specs.Images.{machineFrom}
+use Rattle.image.specs.ImageFormat.{Described, total, imageFormat}
+
+-- whether an input is an image, or the place of its fault
+abbrev pub verdictOf : Parsed Described → Imaged
+verdictOf (whole d) = Done
+verdictOf (stopped p) = Damaged p
+
+unfoldable pub checkImage : List ℕ → Imaged
+checkImage image = verdictOf (parse imageFormat image)
+
+pub record ReadOutcome : Type 0 where
+  pub answer : ImageReply
+  pub machine : Machine
+  pub registers : List ℕ
+  pub marks : List ℕ
+
+abbrev pub restored : Imaged → Machine → (registers marks : List ℕ) → ReadOutcome
+restored answer machine registers marks = record { answer = imageReply answer; machine = machine; registers = registers; marks = marks }
+
+-- the cells of the machine whose image it is
+abbrev pub cellsIn : Described → List Cell
+cellsIn d = spread (total (d .header .mlen)) (d .body)
+
+-- the lent buffers are of its machine's size
+abbrev pub fitted : Described → (registers marks : List ℕ) → Bool
+fitted d registers marks =
+    let size : ℕ = registerBytes (machineFrom (d .header) .mlen) in
+    every (eqb (length registers) size ∷ eqb (length marks) size ∷ [])
+
+-- "Reading leaves unmarked register bytes as lent and makes the machine whose image it is"; ".. gives 15 first, then 8 if the lent buffers
+-- aren't of its machine's size." A refusal changes nothing.
+abbrev pub readAs : Parsed Described → (registers marks : List ℕ) → ReadOutcome
+readAs (stopped p) registers marks = restored (Damaged p) noMachine registers marks
+readAs (whole d) registers marks =
+    cond (fitted d registers marks)
+    (restored Done (machineFrom (d .header)) (over (cellsIn d) registers) (marksOf (cellsIn d)))
+    (restored BadArguments noMachine registers marks)
+
+unfoldable pub readImage : (image registers marks : List ℕ) → ReadOutcome
+readImage image registers marks = readAs (parse imageFormat image) registers marks
+
+-- what the function `read_image` returned and left
+abbrev pub restoredAs : Restored → (registers marks : List ℕ) → ReadOutcome
+restoredAs r registers marks = restored (r .answer) (r .machine) registers marks

@@ -1,0 +1,23 @@
+-- Setting marks one after the other.
+use mathlib.Core.Path.{_≡_, refl, ap, _∙_}
+use mathlib.Core.List.{List, [], _∷_}
+use Prim.Native.Nat.{ℕ, suc, _+_, _-_, _≤_, _<_}
+use native.Mathlib.Omega.{arith}
+use lib.ListN.{length, set, replicate}
+use lib.Seq.{sets}
+
+module _ (xs : List ℕ) (at n v : ℕ) where
+  pub marks-start : (i : ℕ) → i ≡ 0 → sets xs (at + i) (replicate (n - i) v) ≡ sets xs at (replicate n v)
+  marks-start i e =
+      let l : at + i ≡ at = omega arith in
+      let m : n - i ≡ n = omega arith in
+      rw (l, m)
+
+  pub marks-more : (i : ℕ) → i < n → sets xs (at + i) (replicate (n - i) v) ≡ sets (set xs (at + i) v) (at + (i + 1)) (replicate (n - (i + 1)) v)
+  marks-more i h =
+      let e : n - i ≡ suc (n - (i + 1)) = omega arith in
+      let l : suc (at + i) ≡ at + (i + 1) = omega arith in
+      ap (λ (x : ℕ). sets xs (at + i) (replicate x v)) e ∙ ap (λ (a : ℕ). sets (set xs (at + i) v) a (replicate (n - (i + 1)) v)) l
+
+  pub marks-end : (i : ℕ) → n ≤ i → sets xs (at + i) (replicate (n - i) v) ≡ xs
+  marks-end i h = let e : n - i ≡ 0 = omega arith in ap (λ (x : ℕ). sets xs (at + i) (replicate x v)) e

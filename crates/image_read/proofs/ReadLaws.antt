@@ -1,0 +1,140 @@
+-- What a return of the entry points has to show.
+use mathlib.Core.Path.{_≡_, refl, sym, ap, ap₂, _∙_, subst}
+use mathlib.Core.Bool.{Bool, true, false, true≢false}
+use mathlib.Core.List.{List, [], _∷_, _++_, append-nil}
+use Prim.Native.Nat.{ℕ, zero, suc, _+_, _*_, _≤_, _<_}
+use native.Mathlib.Omega.{arith}
+use lib.ListN.{length, drop, getD, replicate, length-replicate, drop-of-length-le}
+use lib.Seq.{sets, sets-eq}
+use lib.Dec.{eqb}
+use borrow.Author.Tests.{eqb-true}
+use Rattle.format.specs.Numbers.{Bytes}
+use Rattle.format.specs.Formats.{Accepts}
+use Rattle.format.specs.Parser.{Parsed, parse}
+use Rattle.format.specs.Parser.Parsed.{whole, stopped}
+use Rattle.format.proofs.FormatLaws.{ParseRight, parse-right}
+use Rattle.machine.specs.declared.Machine.{Machine}
+use Rattle.machine.specs.Starting.{noMachine}
+use Rattle.image.specs.declared.Imaged.{Imaged}
+use Rattle.image.specs.declared.Imaged.the-variants.{Done, BadArguments, NoRoom, Damaged}
+use Rattle.image.specs.Answers.{imageReply}
+use Rattle.image.specs.Cells.{Run, spread, Fit, over, marksOf}
+use Rattle.image.specs.Images.{machineFrom}
+use Rattle.image.specs.ImageFormat.{Described, total, imageFormat}
+use Rattle.image.specs.Reading.{verdictOf, checkImage, ReadOutcome, restored, readAs, readImage}
+use Rattle.image.specs.Theorems.{Fits}
+use Rattle.image.proofs.ImageLaws.{image-live, image-out}
+use Rattle.image.proofs.Images.{fits-true, read-done, read-unfit}
+use Rattle.image_read.specs.declared.head.Head.the-variants.{HeadBad}
+use Rattle.image_read.specs.Parts.{describe, runsFrom, runsVerdict, isSound, bodyOf, bodyAt, ones, HeadedOk, HeadOk}
+use Rattle.image_read.proofs.RunsLaws.{mapped, damaged-done}
+use Rattle.image_read.proofs.HeadLaws.{head-parse}
+use Rattle.image_read.proofs.FillLaws.{marks-ones}
+
+pub bytes-all : (s : List ℕ) → ((q : ℕ) → getD s q 0 < 256) → Bytes s
+bytes-all [] h = tt
+bytes-all (b ∷ s) h = (h 0, bytes-all s (λ q. h (suc q)))
+
+-- every mark set to a value
+pub sets-all : (xs : List ℕ) (n v : ℕ) → n ≡ length xs → sets xs 0 (replicate n v) ≡ replicate n v
+sets-all xs n v e =
+    let long : length (replicate n v) ≡ n = length-replicate n v in
+    sets-eq (replicate n v) xs 0 (omega (arith, long, e))
+    ∙ ap (λ (l : List ℕ). replicate n v ++ l) (drop-of-length-le xs {i = 0 + length (replicate n v)} (omega (arith, long, e)))
+    ∙ append-nil (replicate n v)
+
+-- numbers at fault
+module _ (s registers marks : List ℕ) (p : ℕ) (h : HeadOk s (HeadBad p)) where
+  pub check-bad : Damaged p ≡ checkImage s
+  unfolding checkImage
+  check-bad = ap verdictOf (sym h)
+
+  pub read-bad : restored (Damaged p) noMachine registers marks ≡ readImage s registers marks
+  unfolding readImage
+  read-bad = ap (λ (q : Parsed Described). readAs q registers marks) (sym h)
+
+module _ (s : List ℕ) (m : Machine) (c a : ℕ) (h : HeadedOk s m c a) (v : Imaged) (is : v ≡ runsVerdict s a c 0 (2 * m .mlen)) where
+  abbrev runsLeft : Parsed Described
+  runsLeft = runsFrom s a c 0 (2 * m .mlen)
+
+  abbrev built : Parsed Described → Parsed Described
+  built = mapped (λ d. describe (h .header) (d .body))
+
+  pub check-runs-is : v ≡ checkImage s
+  unfolding checkImage runsVerdict
+  check-runs-is = is ∙ go runsLeft ∙ ap verdictOf (sym (head-parse s m c a h))
+    where
+      go : (q : Parsed Described) → verdictOf q ≡ verdictOf (built q)
+      go (whole d) = refl
+      go (stopped p) = refl
+
+  -- runs at fault
+  pub read-wrong : (registers marks : List ℕ) → isSound v ≡ false → restored v noMachine registers marks ≡ readImage s registers marks
+  unfolding readImage runsVerdict
+  read-wrong registers marks f = go runsLeft refl
+    where
+      go : (q : Parsed Described) → runsLeft ≡ q → restored v noMachine registers marks ≡ readAs (parse imageFormat s) registers marks
+      go (whole d) e = absurd (true≢false (sym (ap isSound (is ∙ ap verdictOf e)) ∙ f))
+      go (stopped p) e =
+          ap (λ (x : Imaged). restored x noMachine registers marks) (is ∙ ap verdictOf e)
+          ∙ ap (λ (q : Parsed Described). readAs q registers marks) (sym (head-parse s m c a h ∙ ap built e))
+
+  module _ (f : isSound v ≡ true) where
+    pub runs-done : runsVerdict s a c 0 (2 * m .mlen) ≡ Done
+    unfolding runsVerdict
+    runs-done = go runsLeft refl
+      where
+        go : (q : Parsed Described) → runsLeft ≡ q → verdictOf runsLeft ≡ Done
+        go (whole d) e = ap verdictOf e
+        go (stopped p) e = absurd (true≢false (sym f ∙ ap isSound (is ∙ ap verdictOf e)))
+
+    abbrev body : List Run
+    body = bodyAt s a c 0 (2 * m .mlen)
+
+    pub parsed : parse imageFormat s ≡ whole (describe (h .header) body)
+    unfolding bodyAt runsVerdict
+    parsed = head-parse s m c a h ∙ go runsLeft refl
+      where
+        go : (q : Parsed Described) → runsLeft ≡ q → built runsLeft ≡ whole (describe (h .header) (bodyOf runsLeft))
+        go (whole d) e = rw e
+        go (stopped p) e = absurd (true≢false (sym f ∙ ap isSound (is ∙ ap verdictOf e)))
+
+    size-is : 2 * m .mlen ≡ total (h .header .mlen)
+    size-is = ap (λ (x : Machine). 2 * x .mlen) (h .machine-is)
+
+    pub read-unfit-is : (registers marks : List ℕ) → ¬ ((length registers ≡ 2 * m .mlen) × (length marks ≡ 2 * m .mlen)) → restored BadArguments noMachine registers marks ≡ readImage s registers marks
+    unfolding readImage
+    read-unfit-is registers marks n =
+        sym (ap (λ (q : Parsed Described). readAs q registers marks) parsed
+        ∙ read-unfit (describe (h .header) body) registers marks (λ g. n (g .0 ∙ sym size-is, g .1 ∙ sym size-is)))
+
+    fits-body : Bytes s → Fit 0 (total (h .header .mlen)) body
+    fits-body b =
+        let a′ : Accepts imageFormat s (describe (h .header) body) = subst (ParseRight imageFormat s) parsed (parse-right imageFormat s image-live b) in
+        image-out s (describe (h .header) body) a′ .fits
+
+    -- the buffers as they are left
+    pub read-done-is : Bytes s → (registers marks cleared registers′ marks′ : List ℕ) (n : ℕ) → length registers ≡ 2 * m .mlen → length marks ≡ 2 * m .mlen → n ≡ length marks
+        → cleared ≡ sets marks 0 (replicate n 0)
+        → registers′ ≡ over (spread (length registers) (bodyAt s a c 0 (length registers))) registers
+        → marks′ ≡ over (spread (length registers) (ones (bodyAt s a c 0 (length registers)))) cleared
+        → restored Done m registers′ marks′ ≡ readImage s registers marks
+    unfolding readImage
+    read-done-is b registers marks cleared registers′ marks′ n lr lm en ec er em =
+        let N : ℕ = total (h .header .mlen) in
+        let d : Described = describe (h .header) body in
+        let ln : length registers ≡ N = lr ∙ size-is in
+        let zeros : cleared ≡ replicate N 0 = ec ∙ sets-all marks n 0 en ∙ ap (λ (x : ℕ). replicate x 0) (en ∙ lm ∙ size-is) in
+        let r : registers′ ≡ over (spread N body) registers = er ∙ ap₂ (λ (x y : ℕ). over (spread x (bodyAt s a c 0 y)) registers) ln lr in
+        let k : marks′ ≡ marksOf (spread N body) =
+        em ∙ ap₂ (λ (x y : ℕ). over (spread x (ones (bodyAt s a c 0 y))) cleared) ln lr ∙ ap (over (spread N (ones body))) zeros ∙ sym (marks-ones 0 N body (fits-body b)) in
+        ap₂ (λ (x y : List ℕ). restored Done m x y) r k
+        ∙ ap (λ (x : Machine). restored Done x (over (spread N body) registers) (marksOf (spread N body))) (h .machine-is)
+        ∙ sym (ap (λ (q : Parsed Described). readAs q registers marks) parsed ∙ read-done d registers marks (fits-true d registers marks (ln, lm ∙ size-is)))
+
+-- done by the number
+pub sound-number : (v : Imaged) → isSound v ≡ eqb (imageReply v .number) 0
+sound-number Done = refl
+sound-number BadArguments = refl
+sound-number NoRoom = refl
+sound-number (Damaged p) = refl

@@ -1,0 +1,94 @@
+// Reading an image: its check, and the machine that it makes of the lent buffers. What an image is, and what reading leaves, is defined in
+// image/specs/. The first pass finds the place of a fault; only the second writes, so that a refusal changes nothing.
+use body::check_runs;
+use body::fill_runs;
+use body::put_marks;
+use head::Head;
+use head::head_of;
+use image::Imaged;
+use image::Restored;
+use machine::Machine;
+ghost use mathlib.Core.Path.{_≡_};
+ghost use Rattle.image.specs.Reading.{checkImage, restoredAs, readImage};
+ghost use Rattle.machine.specs.Starting.{noMachine};
+ghost use Rattle.image_read.specs.Parts.{isSound};
+
+mod body; // the runs of an image
+mod head; // its numbers
+
+// Whether s is an image, or else the place of the first byte at which no image can go on.
+pub fn check_image(s: &[u8]) -> Imaged
+    ensures { λ r. ⌜ r ≡ checkImage (now (s .entry)) ⌝ }
+{
+    match head_of(s) {
+        Head::HeadBad(p) => {
+            return Imaged::Damaged { place: p as u64 };
+        }
+        Head::Headed(m, count, at) => {
+            return check_runs(s, at, count, 2 * m.mlen);
+        }
+    }
+}
+
+// Whether nothing was refused.
+pub fn is_done(answer: Imaged) -> bool
+    ensures { λ r. ⌜ r ≡ isSound answer ⌝ }
+{
+    match answer {
+        Imaged::Done => true,
+        Imaged::BadArguments => false,
+        Imaged::NoRoom => false,
+        Imaged::Damaged { place: _ } => false,
+    }
+}
+
+// What a refused read returns.
+fn refused(answer: Imaged) -> Restored
+    ensures { λ r. ⌜ r ≡ record { answer = answer; machine = noMachine } ⌝ }
+{
+    Restored {
+        answer: answer,
+        machine: Machine {
+            rlen: 0,
+            mlen: 0,
+            mtype: 0,
+            tile_m: 0,
+            tile_k: 0,
+            tile_n: 0,
+            seal_start: 0,
+            seal_length: 0,
+        },
+    }
+}
+
+// Reads an image into lent registers and marks. Refused, it changes nothing.
+pub fn read_image(image: &[u8], registers: &mut [u8], marks: &mut [u8]) -> Restored
+    ensures { λ r. ⌜ restoredAs r (now (registers .exit)) (now (marks .exit))
+        ≡ readImage (now (image .entry)) (now (registers .entry)) (now (marks .entry)) ⌝ }
+{
+    match head_of(image) {
+        Head::HeadBad(p) => {
+            return refused(Imaged::Damaged { place: p as u64 });
+        }
+        Head::Headed(m, count, at) => {
+            let total = 2 * m.mlen;
+            let verdict = check_runs(image, at, count, total);
+            if !is_done(verdict) {
+                return refused(verdict);
+            }
+            if registers.len() as u64 != total {
+                return refused(Imaged::BadArguments);
+            }
+            if marks.len() as u64 != total {
+                return refused(Imaged::BadArguments);
+            }
+            let n = marks.len();
+            put_marks(marks, 0, n, 0);
+            fill_runs(image, at, count, registers, marks);
+            return Restored {
+                answer: Imaged::Done,
+                machine: m,
+            };
+        }
+    }
+}

@@ -1,0 +1,86 @@
+-- What the entry points have to show: an image is its numbers, then its runs.
+use mathlib.Core.Path.{_≡_, refl, sym, ap, _∙_, subst}
+use mathlib.Core.Bool.{Bool, true, false}
+use mathlib.Core.List.{List, [], _∷_, _++_}
+use Prim.Native.Nat.{ℕ, _+_, _*_, _^_, _≤_, _<_}
+use native.Mathlib.Omega.{arith}
+use lib.ListN.{length, drop, length-append}
+use lib.Seq.{sets}
+use lib.Dec.{leb}
+use borrow.Author.Tests.{le-leb, lt-leb}
+use Rattle.format.specs.Numbers.{encode, encodeAll}
+use Rattle.machine.specs.declared.Machine.{Machine}
+use Rattle.machine.specs.Faults.{sound}
+use Rattle.machine.proofs.StepLaws.{permitted-bounds}
+use Rattle.machine.proofs.NoFault.{sound-is}
+use Rattle.image.specs.declared.Imaged.the-variants.{Done, BadArguments, NoRoom}
+use Rattle.image.specs.Cells.{cellsOf, runs}
+use Rattle.image.specs.Images.{fields, headerOf, runsBytes, imageOf}
+use Rattle.image.specs.Writing.{sized, sizeImage, written, writeImage}
+use Rattle.image_write.specs.Parts.{TwoValued, TallyOk}
+use Rattle.image_write.proofs.PutLaws.{sets-append, sets-front, all-last}
+
+module _ (m : Machine) (registers marks : List ℕ) where
+  module _ (s : sound m registers marks ≡ true) where
+    pub two-valued : TwoValued marks
+    two-valued = sound-is m registers marks s .state .marks-two
+
+    pub same-size : length registers ≡ length marks
+    same-size = let st = sound-is m registers marks s .state in st .regs-length ∙ sym (st .marks-length)
+
+    pub few-marks : length marks ≤ 8192
+    few-marks =
+        let k = sound-is m registers marks s in
+        omega (arith, k .state .marks-length, permitted-bounds (m .rlen) (m .mlen) (k .lengths))
+
+    module _ (count size : ℕ) (t : TallyOk marks count size) where
+      abbrev numbersOf : List ℕ
+      numbersOf = encodeAll (fields (headerOf m) ++ (count ∷ [])) []
+
+      abbrev runsOf : List ℕ
+      runsOf = runsBytes (runs (cellsOf registers marks))
+
+      pub image-parts : imageOf m registers marks ≡ numbersOf ++ runsOf
+      unfolding imageOf
+      image-parts =
+          ap (λ (x : ℕ). encodeAll (fields (headerOf m)) (encode x ++ runsOf)) (sym (t .counted registers same-size))
+          ∙ sym (all-last (fields (headerOf m)) count runsOf)
+
+      pub size-is : length (imageOf m registers marks) ≡ length numbersOf + length runsOf
+      size-is = ap length image-parts ∙ length-append numbersOf runsOf
+
+      pub image-size-is : (n : ℕ) → n ≡ length numbersOf → n + size ≡ length (imageOf m registers marks)
+      image-size-is n e = omega (arith, e, t .sized registers same-size, size-is)
+
+      pub image-put : (room room₁ room₂ : List ℕ) (at : ℕ) → room₁ ≡ sets room 0 numbersOf → at ≡ length numbersOf → room₂ ≡ sets room₁ at runsOf
+          → room₂ ≡ sets room 0 (imageOf m registers marks)
+      image-put room room₁ room₂ at e₁ ea e₂ =
+          e₂ ∙ ap (λ (x : List ℕ). sets x at runsOf) e₁ ∙ ap (λ (x : ℕ). sets (sets room 0 numbersOf) x runsOf) {x = at} {y = 0 + length numbersOf} (omega (arith, ea))
+          ∙ sym (sets-append numbersOf runsOf room 0) ∙ ap (sets room 0) (sym image-parts)
+
+  -- ---- what is returned
+
+  pub size-refused : sound m registers marks ≡ false → sized BadArguments 0 ≡ sizeImage m registers marks
+  unfolding sizeImage
+  size-refused e = rw e
+
+  pub size-done : sound m registers marks ≡ true → (n : ℕ) → n ≡ length (imageOf m registers marks) → sized Done n ≡ sizeImage m registers marks
+  unfolding sizeImage
+  size-done e n q = rw e (ap (sized Done) q)
+
+  module _ (room : List ℕ) where
+    pub write-refused : sound m registers marks ≡ false → written BadArguments 0 room ≡ writeImage m registers marks room
+    unfolding writeImage
+    write-refused e = rw e
+
+    pub write-short : sound m registers marks ≡ true → (n : ℕ) → n ≡ length (imageOf m registers marks) → length room < n → written NoRoom 0 room ≡ writeImage m registers marks room
+    unfolding writeImage
+    write-short e n q h = rw (e, lt-leb (length (imageOf m registers marks)) (length room) (omega (arith, q)))
+
+    pub write-done : sound m registers marks ≡ true → (n : ℕ) → n ≡ length (imageOf m registers marks) → n ≤ length room → (room₁ : List ℕ) → room₁ ≡ sets room 0 (imageOf m registers marks)
+        → written Done n room₁ ≡ writeImage m registers marks room
+    unfolding writeImage
+    write-done e n q h room₁ r =
+        let fits : length (imageOf m registers marks) ≤ length room = omega (arith, q) in
+        rw (e, le-leb (length (imageOf m registers marks)) (length room) fits)
+        (ap (λ (x : ℕ). written Done x room₁) q ∙ ap (written Done (length (imageOf m registers marks))) (r ∙ sets-front (imageOf m registers marks) room fits))

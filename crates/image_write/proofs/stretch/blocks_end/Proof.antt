@@ -1,0 +1,58 @@
+-- `image_write::stretch::blocks_end` meets its contract.
+use mathlib.Core.Path.{_≡_, sym, _∙_}
+use Prim.Native.Nat.{ℕ, _-_, _≤_}
+use native.Mathlib.Omega.{arith}
+use borrow.Author.Tests.{not-false}
+use lib.ListN.{length}
+use Rattle.image_write.proofs.StretchLaws.{AllSame, block-more}
+use Rattle.image_write.proofs.stretch.blocks_end.Statement.{statement}
+use Rattle.image_write.proofs.stretch.blocks_end.Tie as tie
+
+abbrev Inv-loop : tie.InvT-loop
+Inv-loop marks from value i₀ i = (from ≤ i) × (i ≤ length marks) × AllSame marks from i value
+
+abbrev μ-loop : tie.MeasureT-loop
+μ-loop marks from value i₀ i = length marks - i
+
+loop-holds : tie.Need-loop-holds Inv-loop μ-loop
+loop-holds c = (omega arith, omega arith, λ q k l. absurd (omega arith))
+
+sub-loop : tie.Need-sub-loop Inv-loop μ-loop
+sub-loop c = omega arith
+
+all-are-requires : tie.Need-all-are-requires Inv-loop μ-loop
+all-are-requires c κs = omega arith
+
+returns : tie.Need-returns Inv-loop μ-loop
+returns c = let l = c .before .before .before .loop in record { from-there = l .inv .0; in-marks = l .inv .1; all-same = l .inv .2 }
+
+add-i : tie.Need-add-i Inv-loop μ-loop
+add-i c = omega arith
+
+loop-less : tie.Need-loop-less Inv-loop μ-loop
+loop-less c = omega arith
+
+loop-again : tie.Need-loop-again Inv-loop μ-loop
+loop-again c =
+    let l = c .before .before .before .loop in
+    let a = c .before .before .before .before .before .args in
+    let r = c .before .all-are in
+    (omega arith, omega arith, block-more (a .marks .now) (a .from) (l .i) 64 (a .value) (l .inv .2) (sym (r .ensures) ∙ not-false (r .result) (c .if1 .left)))
+
+returns-2 : tie.Need-returns-2 Inv-loop μ-loop
+returns-2 c = let l = c .before .loop in record { from-there = l .inv .0; in-marks = l .inv .1; all-same = l .inv .2 }
+
+pub blocks-end-spec : {M : Type 1} → statement M
+blocks-end-spec =
+    tie.close
+    (tie.spec
+    Inv-loop
+    μ-loop
+    loop-holds
+    sub-loop
+    all-are-requires
+    returns
+    add-i
+    loop-less
+    loop-again
+    returns-2)

@@ -1,0 +1,63 @@
+-- `image_write::stretch::end_before` meets its contract.
+use mathlib.Core.Path.{_≡_}
+use Prim.Native.Nat.{ℕ, _-_, _≤_}
+use native.Mathlib.Omega.{arith}
+use Rattle.image_write.proofs.StretchLaws.{AllSame, one-more}
+use Rattle.image_write.proofs.stretch.end_before.Statement.{statement}
+use Rattle.image_write.proofs.stretch.end_before.Tie as tie
+
+abbrev Inv-loop : tie.InvT-loop
+Inv-loop marks from limit value i₀ i = (from ≤ i) × (i ≤ limit) × AllSame marks from i value
+
+abbrev μ-loop : tie.MeasureT-loop
+μ-loop marks from limit value i₀ i = limit - i
+
+loop-holds : tie.Need-loop-holds Inv-loop μ-loop
+loop-holds c = (omega arith, omega arith, λ q k l. absurd (omega arith))
+
+shared-slice-read-if1 : tie.Need-shared-slice-read-if1 Inv-loop μ-loop
+shared-slice-read-if1 c = omega arith
+
+returns : tie.Need-returns Inv-loop μ-loop
+returns c =
+    let l = c .before .before .before .loop in
+    record {
+      to = record { from-there = l .inv .0; in-marks = omega arith; all-same = l .inv .2 };
+      within = l .inv .1;
+      other = λ k. c .if1 .taken;
+    }
+
+add-i : tie.Need-add-i Inv-loop μ-loop
+add-i c = omega arith
+
+loop-less : tie.Need-loop-less Inv-loop μ-loop
+loop-less c = omega arith
+
+loop-again : tie.Need-loop-again Inv-loop μ-loop
+loop-again c =
+    let l = c .before .before .before .loop in
+    let a = c .before .before .before .before .args in
+    (omega arith, omega arith, one-more (a .marks .now) (a .from) (l .i) (a .value) (l .inv .2) (c .if1 .left))
+
+returns-2 : tie.Need-returns-2 Inv-loop μ-loop
+returns-2 c =
+    let l = c .before .loop in
+    record {
+      to = record { from-there = l .inv .0; in-marks = omega arith; all-same = l .inv .2 };
+      within = l .inv .1;
+      other = λ k. absurd (omega arith);
+    }
+
+pub end-before-spec : {M : Type 1} → statement M
+end-before-spec =
+    tie.close
+    (tie.spec
+    Inv-loop
+    μ-loop
+    loop-holds
+    shared-slice-read-if1
+    returns
+    add-i
+    loop-less
+    loop-again
+    returns-2)

@@ -1,0 +1,29 @@
+-- What the parts of a write find.
+use mathlib.Core.Path.{_≡_}
+use mathlib.Core.List.{List}
+use Prim.Native.Nat.{ℕ, _*_, _≤_, _<_}
+use lib.ListN.{length, getD}
+use Rattle.image.specs.Cells.{runs, cellsOf}
+use Rattle.image.specs.Images.{runsBytes}
+
+-- every mark is 0 or 1
+abbrev pub TwoValued : List ℕ → Type 0
+TwoValued marks = (q : ℕ) → getD marks q 0 < 2
+
+-- the marks from a place to another all have the value
+pub record StretchTo (marks : List ℕ) (from value end : ℕ) : Type 0 where
+  pub from-there : from ≤ end
+  pub in-marks : end ≤ length marks
+  pub all-same : (q : ℕ) → from ≤ q → q < end → getD marks q 0 ≡ value
+
+-- and the next one, if it lies before a limit, has another
+pub record Stretch (marks : List ℕ) (from limit value end : ℕ) : Type 0 where
+  pub to : StretchTo marks from value end
+  pub within : end ≤ limit
+  pub other : end < limit → ¬ (getD marks end 0 ≡ value)
+
+-- the runs that the marks have, whatever the registers hold: their number, and how many bytes they take
+pub record TallyOk (marks : List ℕ) (count size : ℕ) : Type 0 where
+  pub counted : (registers : List ℕ) → length registers ≡ length marks → count ≡ length (runs (cellsOf registers marks))
+  pub sized : (registers : List ℕ) → length registers ≡ length marks → size ≡ length (runsBytes (runs (cellsOf registers marks)))
+  pub few : size ≤ 21 * length marks

@@ -1,0 +1,140 @@
+// Sizing and writing an image. What an image is, and what sizing and writing answer and leave, is defined in image/specs/. The first pass
+// finds the image's length; only the second writes, so that a refusal changes nothing.
+use image::Imaged;
+use image::Sized;
+use image::Written;
+use machine::Machine;
+use numbers::numbers_size;
+use numbers::put_numbers;
+use runs::put_runs;
+use runs::tally_of;
+ghost use mathlib.Core.Path.{_≡_};
+ghost use mathlib.Core.Bool.{true};
+ghost use mathlib.Core.List.{[], _∷_, _++_};
+ghost use Prim.Native.Nat.{_+_, _^_, _≤_, _<_};
+ghost use lib.ListN.{length};
+ghost use lib.Seq.{sets};
+ghost use Rattle.format.specs.Numbers.{encodeAll};
+ghost use Rattle.machine.specs.Faults.{sound};
+ghost use Rattle.image.specs.Images.{exponent, fields, headerOf, imageOf};
+ghost use Rattle.image.specs.Writing.{sizeImage, sizedAs, writeImage, writtenAs};
+
+mod numbers; // several numbers
+mod runs; // the runs of marked bytes
+mod stretch; // marks of one value
+
+// How often n can be halved before it is 1.
+fn exponent(n: u64) -> u64
+    ensures { λ r. ⌜ (r ≡ exponent n) × (r ≤ 64) ⌝ }
+{
+    let mut x = n;
+    let mut e: u64 = 0;
+    while 2 <= x {
+        x = x / 2;
+        e += 1;
+    }
+    e
+}
+
+// How many bytes the numbers of an image take.
+fn header_size(m: Machine, count: u64) -> usize
+    ensures { λ r. ⌜ (r ≡ length (encodeAll (fields (headerOf m) ++ (count ∷ [])) [])) × (r ≤ 100) ⌝ }
+{
+    let numbers = [
+        1,
+        exponent(m.rlen),
+        exponent(m.mlen),
+        m.mtype,
+        m.tile_m,
+        m.tile_k,
+        m.tile_n,
+        m.seal_start,
+        m.seal_length,
+        count,
+    ];
+    numbers_size(&numbers)
+}
+
+// Puts the numbers of an image into the room, and gives the place behind them.
+fn put_header(room: &mut [u8], m: Machine, count: u64) -> usize
+    requires { ⌜ length (encodeAll (fields (headerOf m) ++ (count ∷ [])) []) ≤ length (now room) ⌝ }
+    ensures { λ r. ⌜ r ≡ length (encodeAll (fields (headerOf m) ++ (count ∷ [])) []) ⌝ }
+    ensures { λ _. ⌜ now (room .exit) ≡ sets (now (room .entry)) 0 (encodeAll (fields (headerOf m) ++ (count ∷ [])) []) ⌝ }
+{
+    let numbers = [
+        1,
+        exponent(m.rlen),
+        exponent(m.mlen),
+        m.mtype,
+        m.tile_m,
+        m.tile_k,
+        m.tile_n,
+        m.seal_start,
+        m.seal_length,
+        count,
+    ];
+    put_numbers(room, 0, &numbers)
+}
+
+// The length of the image of a machine that is not at fault.
+fn size_of(m: Machine, registers: &[u8], marks: &[u8]) -> usize
+    requires { ⌜ sound m (now registers) (now marks) ≡ true ⌝ }
+    ensures { λ r. ⌜ r ≡ length (imageOf m (now (registers .entry)) (now (marks .entry))) ⌝ }
+{
+    let tally = tally_of(marks);
+    let count = tally.runs;
+    let bytes = tally.bytes;
+    header_size(m, count) + bytes
+}
+
+// Writes the image of a machine that is not at fault into room that it fits.
+fn put_image(m: Machine, registers: &[u8], marks: &[u8], room: &mut [u8])
+    requires { ⌜ sound m (now registers) (now marks) ≡ true ⌝ }
+    requires { ⌜ length (imageOf m (now registers) (now marks)) ≤ length (now room) ⌝ }
+    ensures { λ _. ⌜ now (room .exit) ≡ sets (now (room .entry)) 0 (imageOf m (now (registers .entry)) (now (marks .entry))) ⌝ }
+{
+    let tally = tally_of(marks);
+    let count = tally.runs;
+    let at = put_header(room, m, count);
+    put_runs(room, at, registers, marks);
+}
+
+// The length of a machine's image.
+pub fn image_size(m: Machine, registers: &[u8], marks: &[u8]) -> Sized
+    ensures { λ r. ⌜ sizedAs r ≡ sizeImage m (now (registers .entry)) (now (marks .entry)) ⌝ }
+{
+    if !settings::faults::is_sound(m, registers, marks) {
+        return Sized {
+            answer: Imaged::BadArguments,
+            size: 0,
+        };
+    }
+    Sized {
+        answer: Imaged::Done,
+        size: size_of(m, registers, marks) as u64,
+    }
+}
+
+// Writes a machine's image into the room. Refused, it changes nothing.
+pub fn write_image(m: Machine, registers: &[u8], marks: &[u8], room: &mut [u8]) -> Written
+    ensures { λ r. ⌜ writtenAs r (now (room .exit)) ≡ writeImage m (now (registers .entry)) (now (marks .entry)) (now (room .entry)) ⌝ }
+{
+    if !settings::faults::is_sound(m, registers, marks) {
+        return Written {
+            answer: Imaged::BadArguments,
+            length: 0,
+        };
+    }
+    let size = size_of(m, registers, marks);
+    if room.len() < size {
+        return Written {
+            answer: Imaged::NoRoom,
+            length: 0,
+        };
+    }
+    put_image(m, registers, marks, room);
+    Written {
+        answer: Imaged::Done,
+        length: size as u64,
+    }
+}

@@ -1,0 +1,2 @@
+-- The theorems of specs/ImagesStay.antt.
+pub mod ImagesStay

@@ -1,0 +1,25 @@
+-- Request Nine, of images: two machines that differ at most in unmarked register bytes, "given the same words one after another, .. again
+-- differ at most in unmarked register bytes after each, refusals included. Images are equal too." Before the first word, and after each, for
+-- every choice of sizes, words, scalars and memory. The proofs stand in proofs/.
+use mathlib.Core.Path.{_≡_}
+use mathlib.Core.List.{List, map}
+use Prim.Native.Nat.{ℕ}
+use Rattle.machine.specs.Geometry.{Bench}
+use Rattle.machine.specs.Step.{Outcome}
+use Rattle.machine.specs.Theorems.{Given}
+use Rattle.image.specs.Theorems.{imageIn}
+use Rattle.powerup.specs.Steps.{AlikeBenches, outcomes, outcomesGiven}
+
+-- the image after each word
+abbrev pub imagesAfter : List Outcome → List (List ℕ)
+imagesAfter os = map (λ (o : Outcome). imageIn (o .bench)) os
+
+-- the scalars lent once
+abbrev pub ImagesStayEqual : Type 0
+ImagesStayEqual = (grant : ℕ → ℕ → ℕ) (ws xs : List ℕ) (B B′ : Bench) → AlikeBenches B B′
+    → (imageIn B ≡ imageIn B′) × (imagesAfter (outcomes grant ws xs B) ≡ imagesAfter (outcomes grant ws xs B′))
+
+-- the scalars given with each word
+abbrev pub ImagesStayEqualGiven : Type 0
+ImagesStayEqualGiven = (grant : ℕ → ℕ → ℕ) (ws : List Given) (B B′ : Bench) → AlikeBenches B B′
+    → (imageIn B ≡ imageIn B′) × (imagesAfter (outcomesGiven grant ws B) ≡ imagesAfter (outcomesGiven grant ws B′))

@@ -1,0 +1,2 @@
+-- Request Nine: "Images are equal too."
+pub mod ImagesStay

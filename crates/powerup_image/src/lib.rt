@@ -1,0 +1,1 @@
+// No code: statements and proofs about the definitions of `machine` and `image`. See specs/.

@@ -1,0 +1,6 @@
+-- For code.
+pub mod AtLaws
+pub mod PutLaws
+pub mod SizeLaws
+pub mod CopyLaws
+pub mod FromLaws

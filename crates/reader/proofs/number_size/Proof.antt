@@ -1,0 +1,33 @@
+-- `reader::number_size` meets its contract.
+use mathlib.Core.Path.{_≡_}
+use Prim.Native.Nat.{ℕ, _+_, _≤_}
+use native.Mathlib.Omega.{arith}
+use lib.ListN.{length}
+use Rattle.format.specs.Numbers.{encode}
+use Rattle.reader.proofs.PutLaws.{length-last, length-more}
+use Rattle.reader.proofs.number_size.Statement.{statement}
+use Rattle.reader.proofs.number_size.Tie as tie
+
+abbrev Inv-loop : tie.InvT-loop
+Inv-loop n x₀ k₀ x k = (k + x ≤ n + 1) × (k + length (encode x) ≡ 1 + length (encode n))
+
+abbrev μ-loop : tie.MeasureT-loop
+μ-loop n x₀ k₀ x k = x
+
+loop-holds : tie.Need-loop-holds Inv-loop μ-loop
+loop-holds c = omega arith
+
+add-k : tie.Need-add-k Inv-loop μ-loop
+add-k c = omega arith
+
+loop-less : tie.Need-loop-less Inv-loop μ-loop
+loop-less c = omega arith
+
+loop-again : tie.Need-loop-again Inv-loop μ-loop
+loop-again c = omega (arith, length-more (c .before .loop .x) (omega arith))
+
+returns : tie.Need-returns Inv-loop μ-loop
+returns c = omega (arith, length-last (c .before .loop .x) (omega arith))
+
+pub number-size-spec : {M : Type 1} → statement M
+number-size-spec = tie.close (tie.spec Inv-loop μ-loop loop-holds add-k loop-less loop-again returns)

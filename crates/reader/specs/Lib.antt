@@ -1,0 +1,2 @@
+-- The number at a place, as the code answers it.
+pub mod At
