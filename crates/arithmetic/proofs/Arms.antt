@@ -10,6 +10,7 @@ use lib.Dec.{leb, ltb, eqb}
 use lib.ListN.{length}
 use lib.IntN.{ℤ}
 use borrow.Author.Tests.{leb-true, eqb-true}
+use Rattle.element.specs.Bounds.{mostPitch, mostColumns, mostSize, mostTerms}
 use Rattle.element.specs.Element.{Width}
 use Rattle.machine.specs.declared.Machine.{Machine}
 use Rattle.machine.specs.declared.Sum.{Sum}
@@ -65,16 +66,16 @@ widths t f h =
 -- ---- sizes
 
 abbrev most : ℕ → ℕ → List Bool
-most r m = leb (min (m / r) (r / 8)) 16 ∷ leb (r / 8) 64 ∷ []
+most r m = leb (min (m / r) (r / 8)) mostTerms ∷ leb (r / 8) mostPitch ∷ []
 
-permitted-most : (rlen mlen : ℕ) → permitted rlen mlen ≡ true → (min (mlen / rlen) (rlen / 8) ≤ 16) × (rlen / 8 ≤ 64)
+permitted-most : (rlen mlen : ℕ) → permitted rlen mlen ≡ true → (min (mlen / rlen) (rlen / 8) ≤ mostTerms) × (rlen / 8 ≤ mostPitch)
 unfolding permitted
 permitted-most r m h =
     let t = every-each (isIn r rlens ∷ isIn m mlens ∷ ltb r m ∷ []) h in
     let p : not (ltb r m) || every (most r m) ≡ true =
     each-in m mlens (λ m. not (ltb r m) || every (most r m)) (each-in r rlens (λ r. each mlens (λ m. not (ltb r m) || every (most r m))) refl (t .0)) (t .1 .0) in
     let q = every-each (most r m) (or-not (not (ltb r m)) (every (most r m)) p (rw (t .1 .1 .0))) in
-    (leb-true (min (m / r) (r / 8)) 16 (q .0), leb-true (r / 8) 64 (q .1 .0))
+    (leb-true (min (m / r) (r / 8)) mostTerms (q .0), leb-true (r / 8) mostPitch (q .1 .0))
 
 -- columns of x bytes that fit a row
 fit : (n p x : ℕ) → Width x → n ≤ p / x → (n * x ≤ p) × (n ≤ p)
@@ -97,7 +98,7 @@ module _ (grant : ℕ → ℕ → ℕ) (m : Machine) (registers marks mem : List
   lengths = sound-is m registers marks ok .lengths
 
   abbrev pub Bytes : Type 0
-  Bytes = (M .rows * M .pitch ≤ 512) × ((M .pitch ≤ 64) × (length registers ≡ 16 * (M .rows * M .pitch)))
+  Bytes = (M .rows * M .pitch ≤ mostSize) × ((M .pitch ≤ mostPitch) × (length registers ≡ 16 * (M .rows * M .pitch)))
 
   bytes : Bytes
   bytes =
@@ -109,8 +110,8 @@ module _ (grant : ℕ → ℕ → ℕ) (m : Machine) (registers marks mem : List
   abbrev pub Multiplies : (f d a b : ℕ) → Type 0
   Multiplies f d a b =
       ((d < 2) × ((a < 8) × (b < 8))) × (Bytes × (Width w × (Width (f * w) × ((f ≤ 4)
-      × (((m .«tile_m» ≤ M .rows) × ((m .«tile_k» ≤ M .rows) × (m .«tile_k» ≤ 16)))
-      × ((m .«tile_n» ≤ 64) × ((m .«tile_n» * w ≤ M .pitch) × (m .«tile_k» * w ≤ M .pitch))))))))
+      × (((m .«tile_m» ≤ M .rows) × ((m .«tile_k» ≤ M .rows) × (m .«tile_k» ≤ mostTerms)))
+      × ((m .«tile_n» ≤ mostColumns) × ((m .«tile_n» * w ≤ M .pitch) × (m .«tile_k» * w ≤ M .pitch))))))))
 
   pub multiply-ready : (f d a b : ℕ) → (d < 2) × ((a < 8) × (b < 8)) → Passed (checks M (multiply f d a b) st mem) → Multiplies f d a b
   multiply-ready f d a b regs p =
@@ -143,7 +144,7 @@ module _ (grant : ℕ → ℕ → ℕ) (m : Machine) (registers marks mem : List
   abbrev pub Combines : (f d a : ℕ) → Type 0
   Combines f d a =
       ((d < 2) × (a < 2)) × (Bytes × (Width w × (Width (f * w) × ((f ≤ 4)
-      × ((m .«tile_m» ≤ M .rows) × ((m .«tile_n» ≤ 64) × (m .«tile_n» * w ≤ M .pitch)))))))
+      × ((m .«tile_m» ≤ M .rows) × ((m .«tile_n» ≤ mostColumns) × (m .«tile_n» * w ≤ M .pitch)))))))
 
   combines : (f d a : ℕ) → (d < 2) × (a < 2) → widthOk (M .elen) (m .mtype) f ≡ true → leb (m .«tile_m») (M .rows) ≡ true
       → leb (m .«tile_n») (M .pitch / w) ≡ true → Combines f d a

@@ -5,6 +5,7 @@ use mathlib.Core.Logic.{inl, inr}
 use native.Mathlib.Nat.{mul-le-mul-right}
 use native.Mathlib.Omega.{arith}
 use Rattle.machine.specs.Geometry.{accAt}
+use Rattle.element.specs.Bounds.{mostPitch, mostColumns, mostSize, mostTerms}
 use Rattle.element.specs.Element.{Width}
 use Rattle.element.proofs.Laws.{width-small}
 use Rattle.arithmetic.specs.Effect.{shape}
@@ -38,10 +39,10 @@ pub record Room (rows pitch f w d a b m k n len : ℕ) : Type 0 where
   pub c-ends : (8 + 4 * d) * (rows * pitch) + m * (4 * pitch) ≤ len
   pub c-row : n * (f * w) ≤ 4 * pitch
   pub narrow : f * w ≤ 4
-  pub size : len ≤ 8192
+  pub size : len ≤ 16 * mostSize
 
-pub room : (rows pitch f w d a b m k n len : ℕ) → (d < 2) × ((a < 8) × (b < 8)) → (rows * pitch ≤ 512) × ((pitch ≤ 64) × (len ≡ 16 * (rows * pitch)))
-    → Width (f * w) → f ≤ 4 → (m ≤ rows) × ((k ≤ rows) × (k ≤ 16)) → (n ≤ 64) × ((n * w ≤ pitch) × (k * w ≤ pitch))
+pub room : (rows pitch f w d a b m k n len : ℕ) → (d < 2) × ((a < 8) × (b < 8)) → (rows * pitch ≤ mostSize) × ((pitch ≤ mostPitch) × (len ≡ 16 * (rows * pitch)))
+    → Width (f * w) → f ≤ 4 → (m ≤ rows) × ((k ≤ rows) × (k ≤ mostTerms)) → (n ≤ mostColumns) × ((n * w ≤ pitch) × (k * w ≤ pitch))
     → Room rows pitch f w d a b m k n len
 room rows pitch f w d a b m k n len regs bytes wide lf sizes cols = record {
   a-ends = in-eight a (m * pitch) (rows * pitch) (regs .1 .0) (mul-le-mul-right pitch (sizes .0));

@@ -11,6 +11,7 @@ ghost use lib.IntN.{ℤ};
 ghost use lib.ListN.{length};
 ghost use Rattle.width.specs.Reduce.{reduce};
 ghost use Rattle.width.specs.Tile.{putTile};
+ghost use Rattle.element.specs.Bounds.{mostPitch, mostColumns, mostSize, mostTerms};
 ghost use Rattle.element.specs.Element.{Width};
 ghost use Rattle.arithmetic.specs.Effect.{shape, productTile, combineTile, scaleTile};
 ghost use Rattle.sums.specs.Rows.{productRow};
@@ -28,7 +29,7 @@ fn multiply_rows(
     k: usize,
     n: usize,
 )
-    requires { ⌜ (n ≤ 64) × ((k ≤ 16) × (pitch ≤ 64)) ⌝ }
+    requires { ⌜ (n ≤ mostColumns) × ((k ≤ mostTerms) × (pitch ≤ mostPitch)) ⌝ }
     requires { ⌜ (Width width) × ((Width wide) × (width ≤ wide)) ⌝ }
     requires { ⌜ (n * width ≤ pitch) × ((k * width ≤ pitch) × (n * wide ≤ 4 * pitch)) ⌝ }
     requires { ⌜ (a + m * pitch ≤ c) × ((b + k * pitch ≤ c) × (c + m * (4 * pitch) ≤ length (now s))) ⌝ }
@@ -60,12 +61,12 @@ pub fn multiply_tile(
     n: usize,
 )
     requires { ⌜ (d < 2) × ((a < 8) × (b < 8)) ⌝ }
-    requires { ⌜ (rows * pitch ≤ 512) × ((pitch ≤ 64) × (length (now registers) ≡ 16 * (rows * pitch))) ⌝ }
+    requires { ⌜ (rows * pitch ≤ mostSize) × ((pitch ≤ mostPitch) × (length (now registers) ≡ 16 * (rows * pitch))) ⌝ }
     requires { ⌜ Width width ⌝ }
     requires { ⌜ Width (factor * width) ⌝ }
     requires { ⌜ factor ≤ 4 ⌝ }
-    requires { ⌜ (m ≤ rows) × ((k ≤ rows) × (k ≤ 16)) ⌝ }
-    requires { ⌜ (n ≤ 64) × ((n * width ≤ pitch) × (k * width ≤ pitch)) ⌝ }
+    requires { ⌜ (m ≤ rows) × ((k ≤ rows) × (k ≤ mostTerms)) ⌝ }
+    requires { ⌜ (n ≤ mostColumns) × ((n * width ≤ pitch) × (k * width ≤ pitch)) ⌝ }
     ensures { λ _. ⌜ now (registers .exit) ≡ productTile (shape rows pitch) (factor * width) width d a b m k n (now (registers .entry)) ⌝ }
 {
     let size = rows * pitch;
@@ -90,11 +91,11 @@ pub fn combine_tile(
     n: usize,
 )
     requires { ⌜ (d < 2) × (a < 2) ⌝ }
-    requires { ⌜ (rows * pitch ≤ 512) × ((pitch ≤ 64) × (length (now registers) ≡ 16 * (rows * pitch))) ⌝ }
+    requires { ⌜ (rows * pitch ≤ mostSize) × ((pitch ≤ mostPitch) × (length (now registers) ≡ 16 * (rows * pitch))) ⌝ }
     requires { ⌜ Width width ⌝ }
     requires { ⌜ Width (factor * width) ⌝ }
     requires { ⌜ factor ≤ 4 ⌝ }
-    requires { ⌜ (m ≤ rows) × ((n ≤ 64) × (n * width ≤ pitch)) ⌝ }
+    requires { ⌜ (m ≤ rows) × ((n ≤ mostColumns) × (n * width ≤ pitch)) ⌝ }
     ensures { λ _. ⌜ now (registers .exit) ≡ combineTile (shape rows pitch) sum (factor * width) width d a m n (now (registers .entry)) ⌝ }
 {
     let wide = factor * width;
@@ -123,11 +124,11 @@ pub fn scale_tile(
     n: usize,
 )
     requires { ⌜ (d < 2) × (a < 2) ⌝ }
-    requires { ⌜ (rows * pitch ≤ 512) × ((pitch ≤ 64) × (length (now registers) ≡ 16 * (rows * pitch))) ⌝ }
+    requires { ⌜ (rows * pitch ≤ mostSize) × ((pitch ≤ mostPitch) × (length (now registers) ≡ 16 * (rows * pitch))) ⌝ }
     requires { ⌜ Width width ⌝ }
     requires { ⌜ Width (factor * width) ⌝ }
     requires { ⌜ factor ≤ 4 ⌝ }
-    requires { ⌜ (m ≤ rows) × ((n ≤ 64) × (n * width ≤ pitch)) ⌝ }
+    requires { ⌜ (m ≤ rows) × ((n ≤ mostColumns) × (n * width ≤ pitch)) ⌝ }
     ensures { λ _. ⌜ ((z : ℤ) → reduce (2 ^ 32) z ≡ x → now (registers .exit) ≡ scaleTile (shape rows pitch) (factor * width) width d a z m n (now (registers .entry))) ⌝ }
 {
     let wide = factor * width;

@@ -3,6 +3,7 @@ ghost use mathlib.Core.Path.{_≡_};
 ghost use Prim.Native.Nat.{_+_, _*_, _≤_};
 ghost use lib.ListN.{length};
 ghost use Rattle.width.specs.Tile.{putRow, putTile};
+ghost use Rattle.element.specs.Bounds.{mostPitch, mostColumns};
 ghost use Rattle.element.specs.Element.{Width};
 ghost use Rattle.sums.specs.Rows.{productRow};
 
@@ -18,7 +19,7 @@ fn multiply_row(
     k: usize,
     n: usize,
 )
-    requires { ⌜ n ≤ 64 ⌝ }
+    requires { ⌜ n ≤ mostColumns ⌝ }
     requires { ⌜ (Width width) × ((Width wide) × (width ≤ wide)) ⌝ }
     requires { ⌜ n * width ≤ pitch ⌝ }
     requires { ⌜ (a + k * width ≤ length (now s)) × ((b + k * pitch ≤ length (now s)) × (c + n * wide ≤ length (now s))) ⌝ }
@@ -48,7 +49,7 @@ pub fn multiply_rows(
     k: usize,
     n: usize,
 )
-    requires { ⌜ (n ≤ 64) × (pitch ≤ 64) ⌝ }
+    requires { ⌜ (n ≤ mostColumns) × (pitch ≤ mostPitch) ⌝ }
     requires { ⌜ (Width width) × ((Width wide) × (width ≤ wide)) ⌝ }
     requires { ⌜ (n * width ≤ pitch) × ((k * width ≤ pitch) × (n * wide ≤ 4 * pitch)) ⌝ }
     requires { ⌜ (a + m * pitch ≤ c) × ((b + k * pitch ≤ c) × (c + m * (4 * pitch) ≤ length (now s))) ⌝ }

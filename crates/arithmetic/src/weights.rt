@@ -3,6 +3,7 @@ ghost use mathlib.Core.Path.{_≡_};
 ghost use Prim.Native.Nat.{_+_, _*_, _%_, _^_, _≤_, _<_};
 ghost use lib.ListN.{length};
 ghost use Rattle.width.specs.Tile.{putRow};
+ghost use Rattle.element.specs.Bounds.{mostPitch, mostColumns, mostSize};
 ghost use Rattle.element.specs.Element.{Width};
 ghost use Rattle.arithmetic.specs.Effect.{shape};
 ghost use Rattle.arithmetic.specs.Weights.{weightedTile};
@@ -19,7 +20,7 @@ fn weigh_row(
     x: u32,
     y: u32,
 )
-    requires { ⌜ n ≤ 64 ⌝ }
+    requires { ⌜ n ≤ mostColumns ⌝ }
     requires { ⌜ (Width width) × ((Width wide) × (width ≤ wide)) ⌝ }
     requires { ⌜ (from + n * width ≤ length (now s)) × (to + n * wide ≤ length (now s)) ⌝ }
     ensures { λ _. ⌜ now (s .exit) ≡ putRow to n wide (weightedRow (now (s .entry)) from to width wide (x % 256 ^ wide) (y % 256 ^ wide)) (now (s .entry)) ⌝ }
@@ -50,9 +51,9 @@ pub fn weigh_tile(
     n: usize,
 )
     requires { ⌜ (d < 2) × (a < 2) ⌝ }
-    requires { ⌜ (rows * pitch ≤ 512) × ((pitch ≤ 64) × (length (now registers) ≡ 16 * (rows * pitch))) ⌝ }
+    requires { ⌜ (rows * pitch ≤ mostSize) × ((pitch ≤ mostPitch) × (length (now registers) ≡ 16 * (rows * pitch))) ⌝ }
     requires { ⌜ (Width width) × ((Width wide) × (width ≤ wide)) ⌝ }
-    requires { ⌜ (m ≤ rows) × ((n ≤ 64) × ((n * width ≤ 4 * pitch) × (n * wide ≤ 4 * pitch))) ⌝ }
+    requires { ⌜ (m ≤ rows) × ((n ≤ mostColumns) × ((n * width ≤ 4 * pitch) × (n * wide ≤ 4 * pitch))) ⌝ }
     ensures { λ _. ⌜ now (registers .exit) ≡ weightedTile (shape rows pitch) wide width d a (x % 256 ^ wide) (y % 256 ^ wide) m n (now (registers .entry)) ⌝ }
 {
     let size = rows * pitch;

@@ -7,6 +7,12 @@ ghost use Rattle.width.specs.Tile.{le, putLe};
 ghost use Rattle.width.specs.Reduce.{reduce, signed};
 ghost use Rattle.element.specs.Element.{Width, Narrow};
 
+// The columns of the largest tile (specs/Bounds.antt: mostColumns).
+pub const COLUMNS: usize = 64;
+
+// The terms of the longest product (mostTerms).
+pub const TERMS: usize = 16;
+
 // The element of one byte that starts at `at`.
 pub fn read1(s: &[u8], at: usize) -> u8
     requires { ⌜ at + 1 ≤ length (now s) ⌝ }

@@ -22,9 +22,10 @@ use Rattle.width.proofs.ReduceLaws.{reduce-lt, sumℤ-cong}
 use Rattle.width.proofs.ElementLaws.{pow-256, signed-widened}
 use Rattle.width.proofs.SumLaws.{wrapping-add, sum-none, sum-more, sum-in-pairs}
 use Rattle.machine.specs.Operation.{product}
+use Rattle.element.specs.Bounds.{mostColumns}
 use Rattle.element.specs.Element.{Narrow}
 use Rattle.sums.specs.Rows.{signedLe}
-use Rattle.pairs.specs.Pairs.{half, padded, placeOf, pair, plusPairs, pairsRow}
+use Rattle.pairs.specs.Pairs.{half, padded, pairPlaces, placeOf, pair, plusPairs, pairsRow}
 
 -- ---- blocks
 
@@ -126,8 +127,8 @@ repeat-all s a w k d l lk z all none p q lq = by-cases (ltb (2 * p) l) refl
         let f : 0 ≡ padded s a w k (2 * p + 1) = rw (le-ltb (2 * p + 1) k (omega arith)) in
         (none (8 * p + 2 * q) (omega arith) ∙ e, none (8 * p + 2 * q + 1) (omega arith) ∙ f)
 
--- rows below an even l, unchanged below 64 * l, and row l after them
-pub row-more : (F : ℕ → ℕ → ℕ) (d m : List ℕ) (l n to : ℕ) → n ≤ 64 → l % 2 ≡ 0 → to ≡ 64 * l
+-- rows below an even l, unchanged below mostColumns * l, and row l after them
+pub row-more : (F : ℕ → ℕ → ℕ) (d m : List ℕ) (l n to : ℕ) → n ≤ mostColumns → l % 2 ≡ 0 → to ≡ mostColumns * l
     → ((r j : ℕ) → r < l → j < n → getD d (placeOf r j) 0 ≡ F r j) → ((i : ℕ) → i < to → getD m i 0 ≡ getD d i 0)
     → ((j : ℕ) → j < n → getD m (to + 2 * j) 0 ≡ F l j)
     → (r : ℕ) → r < l + 1 → (j : ℕ) → j < n → getD m (placeOf r j) 0 ≡ F r j
@@ -137,7 +138,7 @@ row-more F d m l n to g z e all keep new =
     (λ j h. (let f : placeOf l j ≡ to + 2 * j = omega arith in ap (λ (t : ℕ). getD m t 0) f ∙ new j h))
 
 -- and row l + 1
-pub rows-more : (F : ℕ → ℕ → ℕ) (d m : List ℕ) (l n to : ℕ) → n ≤ 64 → l % 2 ≡ 0 → to ≡ 64 * l
+pub rows-more : (F : ℕ → ℕ → ℕ) (d m : List ℕ) (l n to : ℕ) → n ≤ mostColumns → l % 2 ≡ 0 → to ≡ mostColumns * l
     → ((r j : ℕ) → r < l → j < n → getD d (placeOf r j) 0 ≡ F r j) → ((i : ℕ) → i < to → getD m i 0 ≡ getD d i 0)
     → ((j : ℕ) → j < n → getD m (to + 2 * j) 0 ≡ F l j) → ((j : ℕ) → j < n → getD m (to + 2 * j + 1) 0 ≡ F (l + 1) j)
     → (r : ℕ) → r < l + 1 + 1 → (j : ℕ) → j < n → getD m (placeOf r j) 0 ≡ F r j
@@ -150,13 +151,13 @@ rows-more F d m l n to g z e all keep new next =
 
 module _ (v : ℕ) (xs : List ℕ) (h : ℕ) (b : List ℕ) (o : ℕ) where
   abbrev term-of : ℕ → ℤ
-  term-of p = pair xs (h + 8 * p) b (o + 128 * p)
+  term-of p = pair xs (h + 8 * p) b (o + pairPlaces * p)
 
   pub no-pairs : v < 256 ^ 4 → v ≡ plusPairs v xs h b o 0
   no-pairs l = sum-none (256 ^ 4) (pow-256 4) v term-of l
 
   -- a wrapping add of the pair y at g and i to the sum x
-  pub pair-added : (p x y g i : ℕ) → x ≡ plusPairs v xs h b o p → y ≡ reduce (256 ^ 4) (pair xs g b i) → g ≡ h + 8 * p → i ≡ o + 128 * p
+  pub pair-added : (p x y g i : ℕ) → x ≡ plusPairs v xs h b o p → y ≡ reduce (256 ^ 4) (pair xs g b i) → g ≡ h + 8 * p → i ≡ o + pairPlaces * p
       → (x + y) % 256 ^ 4 ≡ plusPairs v xs h b o (p + 1)
   pair-added p x y g i ex ey eg ei =
       ap (λ (y : ℕ). (x + y) % 256 ^ 4) (ey ∙ ap₂ (λ (g i : ℕ). reduce (256 ^ 4) (pair xs g b i)) eg ei)
@@ -195,11 +196,11 @@ module _ (s : List ℕ) (bytes : (q : ℕ) → getD s q 0 < 256) (w : ℕ) (ok :
   term-none : (j l : ℕ) → k ≤ l → term j l ≡ pos 0
   term-none j l h = rw (le-ltb l k h) (zero-*ℤ (signed (256 ^ 2) (getD bs (placeOf l j) 0)))
 
-  pair-terms : (j p : ℕ) → pair xs (2 * (j % 4) + 8 * p) bs (0 + 2 * j + 128 * p) ≡ term j (2 * p) +ℤ term j (2 * p + 1)
+  pair-terms : (j p : ℕ) → pair xs (2 * (j % 4) + 8 * p) bs (0 + 2 * j + pairPlaces * p) ≡ term j (2 * p) +ℤ term j (2 * p + 1)
   pair-terms j p =
       let x : 2 * (j % 4) + 8 * p ≡ 8 * p + 2 * (j % 4) = omega arith in
-      let y : 0 + 2 * j + 128 * p ≡ placeOf (2 * p) j = omega arith in
-      let z : 0 + 2 * j + 128 * p + 1 ≡ placeOf (2 * p + 1) j = omega arith in
+      let y : 0 + 2 * j + pairPlaces * p ≡ placeOf (2 * p) j = omega arith in
+      let z : 0 + 2 * j + pairPlaces * p + 1 ≡ placeOf (2 * p + 1) j = omega arith in
       let r = row p (j % 4) (omega arith) in
       ap₂ _+ℤ_
       (ap₂ (λ (u v : ℕ). signed (256 ^ 2) u *ℤ signed (256 ^ 2) v) (ap (λ (t : ℕ). getD xs t 0) x ∙ r .0) (ap (λ (t : ℕ). getD bs t 0) y))
@@ -210,7 +211,7 @@ module _ (s : List ℕ) (bytes : (q : ℕ) → getD s q 0 < 256) (w : ℕ) (ok :
       → plusPairs v xs (2 * (j % 4)) bs (0 + 2 * j) pairs ≡ product 4 w k v (λ l. le s (a + l * w) w) (λ l. le s (b + l * pitch + j * w) w)
   pairs-product v j pairs d lj e =
       ap (λ (z : ℤ). reduce (256 ^ 4) (signed (256 ^ 4) v +ℤ z))
-      (sumℤ-cong pairs (λ p. pair xs (2 * (j % 4) + 8 * p) bs (0 + 2 * j + 128 * p)) two (λ p lp. pair-terms j p)
+      (sumℤ-cong pairs (λ p. pair xs (2 * (j % 4) + 8 * p) bs (0 + 2 * j + pairPlaces * p)) two (λ p lp. pair-terms j p)
       ∙ ap (λ (n : ℕ). sumℤ n two) e
       ∙ sum-rest two ((k + 1) / 2) d (λ p h. ap₂ _+ℤ_ (term-none j (2 * p) (omega arith)) (term-none j (2 * p + 1) (omega arith)))
       ∙ sum-in-pairs (term j) k (term-none j k (omega arith))

@@ -7,6 +7,7 @@ use lib.IntN.{ℤ, _+ℤ_, _*ℤ_}
 use lib.ListN.{getD}
 use Rattle.width.specs.Reduce.{signed, reduce, sumℤ}
 use Rattle.width.specs.Tile.{le}
+use Rattle.element.specs.Bounds.{mostColumns, mostTerms}
 use Rattle.pairs.specs.declared.Block.{Block}
 use Rattle.sums.specs.Rows.{signedLe}
 
@@ -18,18 +19,26 @@ half s p w = reduce (256 ^ 2) (signedLe s p w)
 abbrev pub padded : List ℕ → (a w k l : ℕ) → ℕ
 padded s a w k l = cond (ltb l k) (half s (a + l * w) w) 0
 
--- where element j of row l of B stands: the rows in pairs, 128 places for each pair, its two rows interleaved
+-- the places of a pair of rows of B: two for each column
+abbrev pub pairPlaces : ℕ
+pairPlaces = 2 * mostColumns
+
+-- the places of a row of A: each pair of terms four times
+abbrev pub factorPlaces : ℕ
+factorPlaces = 4 * mostTerms
+
+-- where element j of row l of B stands: the rows in pairs, pairPlaces for each pair, its two rows interleaved
 abbrev pub placeOf : ℕ → ℕ → ℕ
-placeOf l j = 128 * (l / 2) + 2 * j + l % 2
+placeOf l j = pairPlaces * (l / 2) + 2 * j + l % 2
 
 -- the two products of the pairs at h and at o
 abbrev pub pair : List ℕ → ℕ → List ℕ → ℕ → ℤ
 pair xs h b o =
     signed (256 ^ 2) (getD xs h 0) *ℤ signed (256 ^ 2) (getD b o 0) +ℤ signed (256 ^ 2) (getD xs (h + 1) 0) *ℤ signed (256 ^ 2) (getD b (o + 1) 0)
 
--- the accumulator v plus n pairs, which stand 8 apart in xs and 128 apart in b
+-- the accumulator v plus n pairs, which stand 8 apart in xs and pairPlaces apart in b
 abbrev pub plusPairs : ℕ → List ℕ → ℕ → List ℕ → ℕ → ℕ → ℕ
-plusPairs v xs h b o n = reduce (256 ^ 4) (signed (256 ^ 4) v +ℤ sumℤ n (λ p. pair xs (h + 8 * p) b (o + 128 * p)))
+plusPairs v xs h b o n = reduce (256 ^ 4) (signed (256 ^ 4) v +ℤ sumℤ n (λ p. pair xs (h + 8 * p) b (o + pairPlaces * p)))
 
 -- element q of a block
 abbrev pub lane : Block → ℕ → ℕ

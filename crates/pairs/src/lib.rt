@@ -7,9 +7,19 @@ ghost use lib.IntN.{_+ℤ_, _*ℤ_};
 ghost use lib.ListN.{length, getD};
 ghost use Rattle.width.specs.Reduce.{reduce, signed};
 ghost use Rattle.width.specs.Tile.{le, putLe, putRow, putTile};
+ghost use Rattle.element.specs.Bounds.{mostPitch, mostColumns, mostTerms};
 ghost use Rattle.element.specs.Element.{Narrow};
 ghost use Rattle.sums.specs.Rows.{productRow};
-ghost use Rattle.pairs.specs.Pairs.{half, padded, placeOf, pair, plusPairs, lane, pairsRow};
+ghost use Rattle.pairs.specs.Pairs.{half, padded, pairPlaces, factorPlaces, placeOf, pair, plusPairs, lane, pairsRow};
+
+// The places of a pair of rows of B (specs/Pairs.antt: pairPlaces).
+const PLACES: usize = 2 * element::COLUMNS;
+
+// Those of two pairs.
+const TWO_PAIRS: usize = 2 * PLACES;
+
+// The places of a row of A (factorPlaces).
+const FACTORS: usize = 4 * element::TERMS;
 
 // x times y plus v times w, signed.
 fn pair_of(x: u16, y: u16, v: u16, w: u16) -> u32
@@ -96,7 +106,7 @@ fn pairs_at(xs: &[u16], from: usize, b: &[u16], at: usize) -> Block
 // A pair is added one turn after it is formed: LLVM then keeps its two products as one instruction.
 fn add_block(s: &mut [u8], c: usize, b: &[u16], o: usize, xs: &[u16], pairs: usize)
     requires { ⌜ c + 16 ≤ length (now s) ⌝ }
-    requires { ⌜ (o + 8 ≤ 128) × (pairs * 128 ≤ length (now b)) ⌝ }
+    requires { ⌜ (o + 8 ≤ pairPlaces) × (pairs * pairPlaces ≤ length (now b)) ⌝ }
     requires { ⌜ (pairs % 2 ≡ 0) × (pairs * 8 ≤ length (now xs)) ⌝ }
     ensures { λ _. ⌜ now (s .exit) ≡ putRow c 4 4 (pairsRow (now (s .entry)) c (now (xs .entry)) (now (b .entry)) o pairs) (now (s .entry)) ⌝ }
 {
@@ -114,8 +124,8 @@ fn add_block(s: &mut [u8], c: usize, b: &[u16], o: usize, xs: &[u16], pairs: usi
     while p < pairs {
         sum = plus(plus(sum, t), u);
         t = pairs_at(xs, h, b, at);
-        u = pairs_at(xs, h + 8, b, at + 128);
-        at += 256;
+        u = pairs_at(xs, h + 8, b, at + PLACES);
+        at += TWO_PAIRS;
         h += 16;
         p += 2;
     }
@@ -125,7 +135,7 @@ fn add_block(s: &mut [u8], c: usize, b: &[u16], o: usize, xs: &[u16], pairs: usi
 // The element of C at `c` plus all pairs of its column, which start at `o` in b and at `from` in xs.
 fn add_column(s: &mut [u8], c: usize, b: &[u16], o: usize, xs: &[u16], from: usize, pairs: usize)
     requires { ⌜ c + 4 ≤ length (now s) ⌝ }
-    requires { ⌜ (o + 2 ≤ 128) × (pairs * 128 ≤ length (now b)) ⌝ }
+    requires { ⌜ (o + 2 ≤ pairPlaces) × (pairs * pairPlaces ≤ length (now b)) ⌝ }
     requires { ⌜ (from + 2 ≤ 8) × (pairs * 8 ≤ length (now xs)) ⌝ }
     ensures { λ _. ⌜ now (s .exit) ≡ putLe c 4 (plusPairs (le (now (s .entry)) c 4) (now (xs .entry)) from (now (b .entry)) o pairs) (now (s .entry)) ⌝ }
 {
@@ -135,7 +145,7 @@ fn add_column(s: &mut [u8], c: usize, b: &[u16], o: usize, xs: &[u16], from: usi
     let mut h = from;
     while p < pairs {
         sum = std::num::wrapping_add_u32(sum, pair_at(xs, h, b, at));
-        at += 128;
+        at += PLACES;
         h += 8;
         p += 1;
     }
@@ -145,7 +155,7 @@ fn add_column(s: &mut [u8], c: usize, b: &[u16], o: usize, xs: &[u16], from: usi
 // At most three elements of C from `c` on, one after another.
 fn add_columns(s: &mut [u8], c: usize, b: &[u16], o: usize, xs: &[u16], pairs: usize, n: usize)
     requires { ⌜ (n < 4) × (c + n * 4 ≤ length (now s)) ⌝ }
-    requires { ⌜ (o + n * 2 ≤ 128) × (pairs * 128 ≤ length (now b)) ⌝ }
+    requires { ⌜ (o + n * 2 ≤ pairPlaces) × (pairs * pairPlaces ≤ length (now b)) ⌝ }
     requires { ⌜ pairs * 8 ≤ length (now xs) ⌝ }
     ensures { λ _. ⌜ now (s .exit) ≡ putRow c n 4 (pairsRow (now (s .entry)) c (now (xs .entry)) (now (b .entry)) o pairs) (now (s .entry)) ⌝ }
 {
@@ -164,8 +174,8 @@ fn add_columns(s: &mut [u8], c: usize, b: &[u16], o: usize, xs: &[u16], pairs: u
 
 // The row of C at `c`, in blocks of four; what is left of it in single columns.
 fn add_row(s: &mut [u8], c: usize, b: &[u16], xs: &[u16], pairs: usize, n: usize)
-    requires { ⌜ (n ≤ 64) × (c + n * 4 ≤ length (now s)) ⌝ }
-    requires { ⌜ pairs * 128 ≤ length (now b) ⌝ }
+    requires { ⌜ (n ≤ mostColumns) × (c + n * 4 ≤ length (now s)) ⌝ }
+    requires { ⌜ pairs * pairPlaces ≤ length (now b) ⌝ }
     requires { ⌜ (pairs % 2 ≡ 0) × (pairs * 8 ≤ length (now xs)) ⌝ }
     ensures { λ _. ⌜ now (s .exit) ≡ putRow c n 4 (pairsRow (now (s .entry)) c (now (xs .entry)) (now (b .entry)) 0 pairs) (now (s .entry)) ⌝ }
 {
@@ -200,7 +210,7 @@ fn repeat4(d: &mut [u16], o: usize, x: u16, y: u16)
 // The row of A at `a` in pairs, each pair four times; after its last element stand zeros.
 fn repeat_row(d: &mut [u16], s: &[u8], a: usize, width: usize, k: usize)
     requires { ⌜ Narrow width ⌝ }
-    requires { ⌜ (k ≤ 16) × (length (now d) ≡ 64) ⌝ }
+    requires { ⌜ (k ≤ mostTerms) × (length (now d) ≡ factorPlaces) ⌝ }
     requires { ⌜ ((i : ℕ) → getD (now d) i 0 ≡ 0) ⌝ }
     requires { ⌜ a + k * width ≤ length (now s) ⌝ }
     ensures { λ _. ⌜ ((p q : ℕ) → q < 4 → (getD (now (d .exit)) (8 * p + 2 * q) 0 ≡ padded (now (s .entry)) a width k (2 * p)) × (getD (now (d .exit)) (8 * p + 2 * q + 1) 0 ≡ padded (now (s .entry)) a width k (2 * p + 1))) ⌝ }
@@ -256,8 +266,8 @@ fn interleave_rows(
     n: usize,
 )
     requires { ⌜ Narrow width ⌝ }
-    requires { ⌜ n ≤ 64 ⌝ }
-    requires { ⌜ (k + 1) / 2 * 128 ≤ length (now d) ⌝ }
+    requires { ⌜ n ≤ mostColumns ⌝ }
+    requires { ⌜ (k + 1) / 2 * pairPlaces ≤ length (now d) ⌝ }
     requires { ⌜ n * width ≤ pitch ⌝ }
     requires { ⌜ b + k * pitch ≤ length (now s) ⌝ }
     ensures { λ _. ⌜ ((l j : ℕ) → l < k → j < n → getD (now (d .exit)) (placeOf l j) 0 ≡ half (now (s .entry)) (b + l * pitch + j * width) width) ⌝ }
@@ -269,7 +279,7 @@ fn interleave_rows(
         interleave(d, to, s, row, row + pitch, width, n);
         row += pitch;
         row += pitch;
-        to += 128;
+        to += PLACES;
         l += 2;
     }
     if l < k {
@@ -288,8 +298,8 @@ fn interleave_tile(
     n: usize,
 )
     requires { ⌜ Narrow width ⌝ }
-    requires { ⌜ n ≤ 64 ⌝ }
-    requires { ⌜ (k + 1) / 2 * 128 ≤ length (now d) ⌝ }
+    requires { ⌜ n ≤ mostColumns ⌝ }
+    requires { ⌜ (k + 1) / 2 * pairPlaces ≤ length (now d) ⌝ }
     requires { ⌜ n * width ≤ pitch ⌝ }
     requires { ⌜ b + k * pitch ≤ length (now s) ⌝ }
     ensures { λ _. ⌜ ((l j : ℕ) → l < k → j < n → getD (now (d .exit)) (placeOf l j) 0 ≡ half (now (s .entry)) (b + l * pitch + j * width) width) ⌝ }
@@ -313,14 +323,14 @@ fn multiply_row(
     k: usize,
     n: usize,
 )
-    requires { ⌜ (n ≤ 64) × (k ≤ 16) ⌝ }
+    requires { ⌜ (n ≤ mostColumns) × (k ≤ mostTerms) ⌝ }
     requires { ⌜ Narrow width ⌝ }
-    requires { ⌜ (k + 3) / 4 * 256 ≤ length (now bs) ⌝ }
+    requires { ⌜ (k + 3) / 4 * (2 * pairPlaces) ≤ length (now bs) ⌝ }
     requires { ⌜ (a + k * width ≤ length (now s)) × (c + n * 4 ≤ length (now s)) ⌝ }
     requires { ⌜ ((l j : ℕ) → l < k → j < n → getD (now bs) (placeOf l j) 0 ≡ half (now s) (b + l * pitch + j * width) width) ⌝ }
     ensures { λ _. ⌜ now (s .exit) ≡ putRow c n 4 (productRow (now (s .entry)) 4 width pitch k a b c) (now (s .entry)) ⌝ }
 {
-    let mut xs = [0u16; 64];
+    let mut xs = [0u16; FACTORS];
     repeat_row(&mut xs, s, a, width, k);
     // An even number of pairs: the last may have zeros from A.
     add_row(s, c, bs, &xs, (k + 3) / 4 * 2, n);
@@ -339,11 +349,11 @@ fn multiply_with(
     k: usize,
     n: usize,
 )
-    requires { ⌜ (n ≤ 64) × ((k ≤ 16) × (pitch ≤ 64)) ⌝ }
+    requires { ⌜ (n ≤ mostColumns) × ((k ≤ mostTerms) × (pitch ≤ mostPitch)) ⌝ }
     requires { ⌜ Narrow width ⌝ }
     requires { ⌜ (n * width ≤ pitch) × ((k * width ≤ pitch) × (n * 4 ≤ 4 * pitch)) ⌝ }
     requires { ⌜ (a + m * pitch ≤ c) × ((b + k * pitch ≤ c) × (c + m * (4 * pitch) ≤ length (now s))) ⌝ }
-    requires { ⌜ (k + 3) / 4 * 256 ≤ length (now bs) ⌝ }
+    requires { ⌜ (k + 3) / 4 * (2 * pairPlaces) ≤ length (now bs) ⌝ }
     ensures { λ _. ⌜ now (s .exit) ≡ putTile (λ i. c + i * (4 * pitch)) m n 4 (λ i. productRow (now (s .entry)) 4 width pitch k (a + i * pitch) b (c + i * (4 * pitch))) (now (s .entry)) ⌝ }
 {
     interleave_tile(bs, s, b, pitch, width, k, n);
@@ -371,22 +381,22 @@ pub fn multiply_rows(
     k: usize,
     n: usize,
 )
-    requires { ⌜ (n ≤ 64) × ((k ≤ 16) × (pitch ≤ 64)) ⌝ }
+    requires { ⌜ (n ≤ mostColumns) × ((k ≤ mostTerms) × (pitch ≤ mostPitch)) ⌝ }
     requires { ⌜ Narrow width ⌝ }
     requires { ⌜ (n * width ≤ pitch) × ((k * width ≤ pitch) × (n * 4 ≤ 4 * pitch)) ⌝ }
     requires { ⌜ (a + m * pitch ≤ c) × ((b + k * pitch ≤ c) × (c + m * (4 * pitch) ≤ length (now s))) ⌝ }
     ensures { λ _. ⌜ now (s .exit) ≡ putTile (λ i. c + i * (4 * pitch)) m n 4 (λ i. productRow (now (s .entry)) 4 width pitch k (a + i * pitch) b (c + i * (4 * pitch))) (now (s .entry)) ⌝ }
 {
     if k <= 4 {
-        let mut bs = [0u16; 256];
+        let mut bs = [0u16; TWO_PAIRS];
         multiply_with(s, &mut bs, a, b, c, pitch, width, m, k, n);
         return;
     }
     if k <= 8 {
-        let mut bs = [0u16; 512];
+        let mut bs = [0u16; 2 * TWO_PAIRS];
         multiply_with(s, &mut bs, a, b, c, pitch, width, m, k, n);
         return;
     }
-    let mut bs = [0u16; 1024];
+    let mut bs = [0u16; element::TERMS / 4 * TWO_PAIRS];
     multiply_with(s, &mut bs, a, b, c, pitch, width, m, k, n);
 }

@@ -5,6 +5,7 @@ ghost use Prim.Native.Nat.{ℕ, _+_, _*_, _≤_, _<_};
 ghost use lib.ListN.{length, getD};
 ghost use Rattle.width.specs.Tile.{le, putRow};
 ghost use Rattle.machine.specs.Operation.{product};
+ghost use Rattle.element.specs.Bounds.{mostColumns};
 ghost use Rattle.element.specs.Element.{Narrow};
 ghost use Rattle.sums.specs.Rows.{plusProduct, productRow, weightedRow};
 
@@ -95,13 +96,13 @@ pub fn multiply_row(
     k: usize,
     n: usize,
 )
-    requires { ⌜ n ≤ 64 ⌝ }
+    requires { ⌜ n ≤ mostColumns ⌝ }
     requires { ⌜ Narrow width ⌝ }
     requires { ⌜ n * width ≤ pitch ⌝ }
     requires { ⌜ (a + k * width ≤ length (now s)) × ((b + k * pitch ≤ length (now s)) × (c + n * 2 ≤ length (now s))) ⌝ }
     ensures { λ _. ⌜ now (s .exit) ≡ putRow c n 2 (productRow (now (s .entry)) 2 width pitch k a b c) (now (s .entry)) ⌝ }
 {
-    let mut acc = [0u16; 64];
+    let mut acc = [0u16; element::COLUMNS];
     mac_row(&mut acc, s, c, 2, n, 1);
     add_products(&mut acc, s, a, b, pitch, width, k, n);
     store_row(s, &acc, c, n);
@@ -109,12 +110,12 @@ pub fn multiply_row(
 
 // The row at `to` becomes x times itself plus y times the row at `from`.
 pub fn weigh_row(s: &mut [u8], from: usize, to: usize, width: usize, n: usize, x: u16, y: u16)
-    requires { ⌜ n ≤ 64 ⌝ }
+    requires { ⌜ n ≤ mostColumns ⌝ }
     requires { ⌜ Narrow width ⌝ }
     requires { ⌜ (from + n * width ≤ length (now s)) × (to + n * 2 ≤ length (now s)) ⌝ }
     ensures { λ _. ⌜ now (s .exit) ≡ putRow to n 2 (weightedRow (now (s .entry)) from to width 2 x y) (now (s .entry)) ⌝ }
 {
-    let mut acc = [0u16; 64];
+    let mut acc = [0u16; element::COLUMNS];
     mac_row(&mut acc, s, to, 2, n, x);
     mac(&mut acc, s, from, width, n, y);
     store_row(s, &acc, to, n);

@@ -5,6 +5,7 @@ ghost use Prim.Native.Nat.{ℕ, _+_, _*_, _≤_, _<_};
 ghost use lib.ListN.{length, getD};
 ghost use Rattle.width.specs.Tile.{le, putRow};
 ghost use Rattle.machine.specs.Operation.{product};
+ghost use Rattle.element.specs.Bounds.{mostColumns};
 ghost use Rattle.element.specs.Element.{Width};
 ghost use Rattle.sums.specs.Rows.{plusProduct, productRow, weightedRow};
 
@@ -99,13 +100,13 @@ pub fn multiply_row(
     k: usize,
     n: usize,
 )
-    requires { ⌜ n ≤ 64 ⌝ }
+    requires { ⌜ n ≤ mostColumns ⌝ }
     requires { ⌜ Width width ⌝ }
     requires { ⌜ n * width ≤ pitch ⌝ }
     requires { ⌜ (a + k * width ≤ length (now s)) × ((b + k * pitch ≤ length (now s)) × (c + n * 4 ≤ length (now s))) ⌝ }
     ensures { λ _. ⌜ now (s .exit) ≡ putRow c n 4 (productRow (now (s .entry)) 4 width pitch k a b c) (now (s .entry)) ⌝ }
 {
-    let mut acc = [0u32; 64];
+    let mut acc = [0u32; element::COLUMNS];
     mac_row(&mut acc, s, c, 4, n, 1);
     add_products(&mut acc, s, a, b, pitch, width, k, n);
     store_row(s, &acc, c, n);
@@ -113,12 +114,12 @@ pub fn multiply_row(
 
 // The row at `to` becomes x times itself plus y times the row at `from`.
 pub fn weigh_row(s: &mut [u8], from: usize, to: usize, width: usize, n: usize, x: u32, y: u32)
-    requires { ⌜ n ≤ 64 ⌝ }
+    requires { ⌜ n ≤ mostColumns ⌝ }
     requires { ⌜ Width width ⌝ }
     requires { ⌜ (from + n * width ≤ length (now s)) × (to + n * 4 ≤ length (now s)) ⌝ }
     ensures { λ _. ⌜ now (s .exit) ≡ putRow to n 4 (weightedRow (now (s .entry)) from to width 4 x y) (now (s .entry)) ⌝ }
 {
-    let mut acc = [0u32; 64];
+    let mut acc = [0u32; element::COLUMNS];
     mac_row(&mut acc, s, to, 4, n, x);
     mac(&mut acc, s, from, width, n, y);
     store_row(s, &acc, to, n);

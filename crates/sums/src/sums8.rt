@@ -5,6 +5,7 @@ ghost use Prim.Native.Nat.{ℕ, _+_, _*_, _≤_, _<_};
 ghost use lib.ListN.{length, getD};
 ghost use Rattle.width.specs.Tile.{le, putRow};
 ghost use Rattle.machine.specs.Operation.{product};
+ghost use Rattle.element.specs.Bounds.{mostColumns};
 ghost use Rattle.sums.specs.Rows.{plusProduct, productRow, weightedRow};
 
 // acc[j] plus x times the signed element j of the row at `at`.
@@ -60,12 +61,12 @@ fn store_row(s: &mut [u8], acc: &[u8], to: usize, n: usize)
 
 // One row of C: its old elements enter the sums as one more product, with the factor 1.
 pub fn multiply_row(s: &mut [u8], a: usize, b: usize, c: usize, pitch: usize, k: usize, n: usize)
-    requires { ⌜ n ≤ 64 ⌝ }
+    requires { ⌜ n ≤ mostColumns ⌝ }
     requires { ⌜ n ≤ pitch ⌝ }
     requires { ⌜ (a + k ≤ length (now s)) × ((b + k * pitch ≤ length (now s)) × (c + n ≤ length (now s))) ⌝ }
     ensures { λ _. ⌜ now (s .exit) ≡ putRow c n 1 (productRow (now (s .entry)) 1 1 pitch k a b c) (now (s .entry)) ⌝ }
 {
-    let mut acc = [0u8; 64];
+    let mut acc = [0u8; element::COLUMNS];
     mac_row(&mut acc, s, c, n, 1);
     add_products(&mut acc, s, a, b, pitch, k, n);
     store_row(s, &acc, c, n);
@@ -73,11 +74,11 @@ pub fn multiply_row(s: &mut [u8], a: usize, b: usize, c: usize, pitch: usize, k:
 
 // The row at `to` becomes x times itself plus y times the row at `from`.
 pub fn weigh_row(s: &mut [u8], from: usize, to: usize, n: usize, x: u8, y: u8)
-    requires { ⌜ n ≤ 64 ⌝ }
+    requires { ⌜ n ≤ mostColumns ⌝ }
     requires { ⌜ (from + n ≤ length (now s)) × (to + n ≤ length (now s)) ⌝ }
     ensures { λ _. ⌜ now (s .exit) ≡ putRow to n 1 (weightedRow (now (s .entry)) from to 1 1 x y) (now (s .entry)) ⌝ }
 {
-    let mut acc = [0u8; 64];
+    let mut acc = [0u8; element::COLUMNS];
     mac_row(&mut acc, s, to, n, x);
     mac_row(&mut acc, s, from, n, y);
     store_row(s, &acc, to, n);

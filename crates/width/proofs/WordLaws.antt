@@ -1,23 +1,46 @@
--- For code that keeps numbers in blocks of bytes: a number of eight bytes byte by byte, what is read back of a row that was written,
+-- For code that keeps numbers in bytes: a number written byte by byte, what is read back of a row that was written,
 -- and a row written over itself.
-use mathlib.Core.Path.{_≡_, refl, ap, _∙_}
+use mathlib.Core.Path.{_≡_, refl, sym, ap, ap₂, _∙_}
 use mathlib.Core.List.{List}
-use Prim.Native.Nat.{ℕ, _+_, _*_, _/_, _%_, _^_, _≤_, _<_}
+use Prim.Native.Nat.{ℕ, zero, suc, _+_, _*_, _/_, _%_, _^_, _≤_, _<_}
 use native.Mathlib.Nat.{add-zero, pow-zero, div-one}
 use lib.ListN.{length, getD, set}
 use lib.Seq.{set-getD}
+use Rattle.width.specs.Upto.{upto}
 use Rattle.width.specs.Tile.{le, byteOf, putLe, putRow}
-use Rattle.width.proofs.UptoLaws.{upto-keeps}
+use Rattle.width.proofs.UptoLaws.{upto-keeps, upto-cong}
 use Rattle.width.proofs.TileLaws.{le-bytes, putRow-at}
 use Rattle.width.proofs.PutLaws.{le-byte}
 
--- ---- a number of eight bytes
+-- ---- a number byte by byte
 
-pub put-word : (p v : ℕ) (xs : List ℕ)
-    → set (set (set (set (set (set (set (set xs p (v % 256)) (p + 1) (v / 256 % 256)) (p + 2) (v / 65536 % 256)) (p + 3) (v / 16777216 % 256)) (p + 4) (v / 4294967296 % 256)) (p + 5) (v / 1099511627776 % 256)) (p + 6) (v / 281474976710656 % 256)) (p + 7) (v / 72057594037927936 % 256)
-    ≡ putLe p 8 v xs
+-- where code puts byte b, and what is left of the number there
+abbrev pub placeAt : ℕ → ℕ → ℕ
+placeAt p zero = p
+placeAt p (suc b) = p + suc b
+
+abbrev pub restAt : ℕ → ℕ → ℕ
+restAt v zero = v
+restAt v (suc b) = v / 256 ^ suc b
+
+place-is : (p b : ℕ) → placeAt p b ≡ p + b
+place-is p zero = sym (add-zero p)
+place-is p (suc b) = refl
+
+rest-is : (v b : ℕ) → restAt v b ≡ v / 256 ^ b
+rest-is v zero = rw (pow-zero, div-one)
+rest-is v (suc b) = refl
+
+-- w bytes and the last, one after another, are the number's bytes
+pub put-bytes : (w p v last : ℕ) (xs : List ℕ) → last ≡ byteOf v w
+    → set (upto w (λ b ys. set ys (placeAt p b) (restAt v b % 256)) xs) (placeAt p w) last ≡ putLe p (suc w) v xs
 unfolding putLe
-put-word p v xs = rw (add-zero, pow-zero, div-one)
+put-bytes w p v last xs e =
+    ap₂ (λ (ys : List ℕ) (q : ℕ). set ys q last)
+    (upto-cong w (λ b ys. set ys (placeAt p b) (restAt v b % 256)) (λ b ys. set ys (p + b) (byteOf v b)) xs
+    (λ b l ys. ap₂ (λ (q u : ℕ). set ys q (u % 256)) (place-is p b) (rest-is v b)))
+    (place-is p w)
+    ∙ ap (set (upto w (λ b ys. set ys (p + b) (byteOf v b)) xs) (p + w)) e
 
 -- ---- read back what was written
 

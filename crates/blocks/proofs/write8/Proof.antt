@@ -1,7 +1,8 @@
+use mathlib.Core.Path.{refl}
 use native.Mathlib.Omega.{arith}
 use lib.ListN.{length-set}
 use borrow.Author.Needs.{needs}
-use Rattle.width.proofs.WordLaws.{put-word}
+use Rattle.width.proofs.WordLaws.{put-bytes}
 use Rattle.blocks.proofs.write8.Statement.{statement}
 use Rattle.blocks.proofs.write8.Tie as tie
 
@@ -78,7 +79,7 @@ same-length : tie.Need-same-length
 same-length c = search needs
 
 returns : tie.Need-returns
-returns c = put-word (c .args .at) (c .args .value) (c .args .block .now)
+returns c = put-bytes 7 (c .args .at) (c .args .value) _ (c .args .block .now) refl
 
 pub write8-spec : {M : Type 1} → statement M
 write8-spec =

@@ -1,6 +1,8 @@
 -- The byte stored.
+use native.Mathlib.Omega.{arith}
+use Prim.Native.Nat.{_^_, _<_}
 use borrow.Author.Needs.{needs}
-use Rattle.element.proofs.Laws.{put1}
+use Rattle.width.proofs.WordLaws.{put-bytes}
 use Rattle.element.proofs.write1.Statement.{statement}
 use Rattle.element.proofs.write1.Tie as tie
 
@@ -11,7 +13,9 @@ same-length : tie.Need-same-length
 same-length c = search needs
 
 returns : tie.Need-returns
-returns c = put1 (c .args .s .now) (c .args .at) (c .args .v) (search needs)
+returns c =
+    let small : c .args .v < 256 ^ 1 = search needs in
+    put-bytes 0 (c .args .at) (c .args .v) (c .args .v) (c .args .s .now) (omega arith)
 
 pub write1-spec : {M : Type 1} → statement M
 write1-spec = tie.close (tie.spec slice-write-s same-length returns)

@@ -1,8 +1,9 @@
 -- The two bytes stored.
+use Prim.Native.Nat.{_/_, _^_, _<_}
 use lib.ListN.{length-set}
 use native.Mathlib.Omega.{arith}
 use borrow.Author.Needs.{needs}
-use Rattle.element.proofs.Laws.{put2}
+use Rattle.width.proofs.WordLaws.{put-bytes}
 use Rattle.element.proofs.write2.Statement.{statement}
 use Rattle.element.proofs.write2.Tie as tie
 
@@ -25,7 +26,9 @@ same-length : tie.Need-same-length
 same-length c = search needs
 
 returns : tie.Need-returns
-returns c = put2 (c .args .s .now) (c .args .at) (c .args .v) (search needs)
+returns c =
+    let small : c .args .v < 256 ^ 2 = search needs in
+    put-bytes 1 (c .args .at) (c .args .v) (c .args .v / 256) (c .args .s .now) (omega arith)
 
 pub write2-spec : {M : Type 1} → statement M
 write2-spec =

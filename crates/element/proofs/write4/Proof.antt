@@ -1,8 +1,9 @@
 -- The four bytes stored.
+use Prim.Native.Nat.{_/_, _^_, _<_}
 use lib.ListN.{length-set}
 use native.Mathlib.Omega.{arith}
 use borrow.Author.Needs.{needs}
-use Rattle.element.proofs.Laws.{put4}
+use Rattle.width.proofs.WordLaws.{put-bytes}
 use Rattle.element.proofs.write4.Statement.{statement}
 use Rattle.element.proofs.write4.Tie as tie
 
@@ -43,7 +44,9 @@ same-length : tie.Need-same-length
 same-length c = search needs
 
 returns : tie.Need-returns
-returns c = put4 (c .args .s .now) (c .args .at) (c .args .v) (search needs)
+returns c =
+    let small : c .args .v < 256 ^ 4 = search needs in
+    put-bytes 3 (c .args .at) (c .args .v) (c .args .v / 16777216) (c .args .s .now) (omega arith)
 
 pub write4-spec : {M : Type 1} → statement M
 write4-spec =

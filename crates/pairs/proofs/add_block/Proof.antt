@@ -7,7 +7,7 @@ use Rattle.width.specs.Tile.{le}
 use Rattle.width.proofs.TileLaws.{le-lt}
 use Rattle.width.proofs.ElementLaws.{putRow-cong}
 use Rattle.pairs.specs.declared.Block.{Block}
-use Rattle.pairs.specs.Pairs.{lane, pairsRow}
+use Rattle.pairs.specs.Pairs.{pairPlaces, lane, pairsRow}
 use Rattle.pairs.proofs.PairLaws.{each-of-four, no-pairs, pair-added}
 use borrow.Author.Needs.{needs}
 use Rattle.pairs.proofs.add_block.Statement.{statement}
@@ -15,7 +15,7 @@ use Rattle.pairs.proofs.add_block.Tie as tie
 
 abbrev Inv-loop : tie.InvT-loop
 Inv-loop s c b o xs pairs sum₀ t₀ u₀ p₀ at₀ h₀ sum t u p at h =
-    (p ≤ pairs) × (p % 2 ≡ 0) × (at ≡ o + 128 * p) × (h ≡ 8 * p)
+    (p ≤ pairs) × (p % 2 ≡ 0) × (at ≡ o + pairPlaces * p) × (h ≡ 8 * p)
     × ((q : ℕ) → q < 4 → ((lane sum q + lane t q) % 4294967296 + lane u q) % 4294967296 ≡ pairsRow s c xs b o p q)
 
 abbrev μ-loop : tie.MeasureT-loop
@@ -28,7 +28,7 @@ read-block-requires c κs = search needs
 fits : (c : tie.In-loop Inv-loop μ-loop) →
     let a = c .before .before .before .before .before .before .before .args in
     let l = c .before .loop in
-    (l .p + 2 ≤ a .pairs) × (l .at + 136 ≤ length (a .b .now)) × (l .h + 16 ≤ length (a .xs .now)) × (l .at + 256 < 2 ^ 64) × (l .h + 16 < 2 ^ 64)
+    (l .p + 2 ≤ a .pairs) × (l .at + pairPlaces + 8 ≤ length (a .b .now)) × (l .h + 16 ≤ length (a .xs .now)) × (l .at + 2 * pairPlaces < 2 ^ 64) × (l .h + 16 < 2 ^ 64)
 fits c =
     let p = c .before .before .before .before .before .before .before .pre in
     let t = c .loop-test .taken in
@@ -98,7 +98,7 @@ loop-again c =
           let t = c .before .pairs-at in
           let u = c .pairs-at2 in
           let e1 = add (l .p) (lane (c .before .before .plus2 .result) q) (lane (t .result) q) (l .h + 2 * q) (l .at + 2 * q) e (t .ensures q h) (omega arith) (omega arith) in
-          let e2 = add (l .p + 1) ((lane (c .before .before .plus2 .result) q + lane (t .result) q) % 4294967296) (lane (u .result) q) (l .h + 8 + 2 * q) (l .at + 128 + 2 * q)
+          let e2 = add (l .p + 1) ((lane (c .before .before .plus2 .result) q + lane (t .result) q) % 4294967296) (lane (u .result) q) (l .h + 8 + 2 * q) (l .at + pairPlaces + 2 * q)
           e1 (u .ensures q h) (omega arith) (omega arith) in
           let two : l .p + 1 + 1 ≡ l .p + 2 = omega arith in
           e2 ∙ ap row two),

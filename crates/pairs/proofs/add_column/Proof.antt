@@ -3,7 +3,7 @@ use native.Mathlib.Omega.{arith}
 use mathlib.Core.Path.{_≡_, ap, _∙_}
 use Prim.Native.Nat.{ℕ, _+_, _-_, _*_, _≤_}
 use Rattle.width.specs.Tile.{le, putLe}
-use Rattle.pairs.specs.Pairs.{plusPairs}
+use Rattle.pairs.specs.Pairs.{pairPlaces, plusPairs}
 use Rattle.pairs.proofs.PairLaws.{no-pairs, pair-added}
 use borrow.Author.Needs.{needs}
 use Rattle.pairs.proofs.add_column.Statement.{statement}
@@ -11,7 +11,7 @@ use Rattle.pairs.proofs.add_column.Tie as tie
 
 abbrev Inv-loop : tie.InvT-loop
 Inv-loop s c b o xs from pairs sum₀ p₀ at₀ h₀ sum p at h =
-    (p ≤ pairs) × (at ≡ o + 128 * p) × (h ≡ from + 8 * p) × (sum ≡ plusPairs (le s c 4) xs from b o p)
+    (p ≤ pairs) × (at ≡ o + pairPlaces * p) × (h ≡ from + 8 * p) × (sum ≡ plusPairs (le s c 4) xs from b o p)
 
 abbrev μ-loop : tie.MeasureT-loop
 μ-loop s c b o xs from pairs sum₀ p₀ at₀ h₀ sum p at h = pairs - p

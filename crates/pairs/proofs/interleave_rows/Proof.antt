@@ -4,6 +4,7 @@ use mathlib.Core.Path.{_≡_, refl, ap, _∙_}
 use Prim.Native.Nat.{ℕ, _+_, _-_, _*_, _%_, _≤_, _<_}
 use native.Mathlib.Nat.{zero-mul}
 use lib.ListN.{length, getD}
+use Rattle.element.specs.Bounds.{mostColumns}
 use Rattle.pairs.specs.Pairs.{half, placeOf}
 use Rattle.sums.proofs.LoopLaws.{row-fits}
 use Rattle.pairs.proofs.PairLaws.{row-more, rows-more}
@@ -13,7 +14,7 @@ use Rattle.pairs.proofs.interleave_rows.Tie as tie
 
 abbrev Inv-loop : tie.InvT-loop
 Inv-loop d₀ s b pitch width k n l₀ to₀ row₀ d l to row =
-    (l ≤ k) × (to ≡ 64 * l) × (row ≡ b + l * pitch) × (length d ≡ length d₀) × (l % 2 ≡ 0)
+    (l ≤ k) × (to ≡ mostColumns * l) × (row ≡ b + l * pitch) × (length d ≡ length d₀) × (l % 2 ≡ 0)
     × ((r j : ℕ) → r < l → j < n → getD d (placeOf r j) 0 ≡ half s (b + r * pitch + j * width) width)
 
 abbrev μ-loop : tie.MeasureT-loop

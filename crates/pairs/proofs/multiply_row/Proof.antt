@@ -6,7 +6,7 @@ use lib.ListN.{getD}
 use Rattle.width.specs.Tile.{le}
 use Rattle.width.proofs.ElementLaws.{putRow-cong}
 use Rattle.sums.specs.Rows.{productRow}
-use Rattle.pairs.specs.Pairs.{pairsRow}
+use Rattle.pairs.specs.Pairs.{factorPlaces, pairsRow}
 use Rattle.pairs.proofs.PairLaws.{zeros, pairs-product}
 use borrow.Author.Needs.{needs}
 use Rattle.pairs.proofs.multiply_row.Statement.{statement}
@@ -17,7 +17,7 @@ slice-aggregate-repeat-row c = search needs
 
 repeat-row-requires : tie.Need-repeat-row-requires
 repeat-row-requires c κs =
-    let p = c .before .before .before .before .pre in (p .1 .0, ((p .0 .1, refl), (zeros 64, p .1 .1 .1 .0 .0)))
+    let p = c .before .before .before .before .pre in (p .1 .0, ((p .0 .1, refl), (zeros factorPlaces, p .1 .1 .1 .0 .0)))
 
 slice-aggregate-add-row : tie.Need-slice-aggregate-add-row
 slice-aggregate-add-row c = search needs

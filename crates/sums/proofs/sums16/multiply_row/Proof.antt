@@ -1,6 +1,7 @@
 use native.Mathlib.Omega.{arith}
 use mathlib.Core.Path.{refl}
 use mathlib.Core.Logic.{inr}
+use Rattle.element.specs.Bounds.{mostColumns}
 use Rattle.sums.proofs.RowLaws.{row-of-products}
 use borrow.Author.Needs.{needs}
 use Rattle.sums.proofs.sums16.multiply_row.Statement.{statement}
@@ -18,7 +19,7 @@ returns c =
     let a = k .args in
     let f = c .before .before .before .before .before .before .before .before .before .before .mac-row in
     let g = c .before .before .before .before .before .before .add-products in
-    row-of-products 2 (a .s .now) (a .width) (a .pitch) (a .k) (a .a) (a .b) (a .c) (a .n) 64 (f .last .0) (g .last .0) (c .before .before .store-row .last .0) (omega arith)
+    row-of-products 2 (a .s .now) (a .width) (a .pitch) (a .k) (a .a) (a .b) (a .c) (a .n) mostColumns (f .last .0) (g .last .0) (c .before .before .store-row .last .0) (omega arith)
     (λ q. omega (arith, c .before .before .before .before .before .before .before .before .before .before .before .before .before .slice-known .given q)) (λ j h. omega (arith, k .pre .0)) (f .ensures) (g .ensures) (c .before .before .store-row .ensures)
 
 pub multiply-row-spec : {M : Type 1} → statement M

@@ -1,6 +1,7 @@
 use native.Mathlib.Omega.{arith}
 use mathlib.Core.Path.{refl}
 use mathlib.Core.Logic.{inr}
+use Rattle.element.specs.Bounds.{mostColumns}
 use Rattle.sums.proofs.RowLaws.{row-of-weights}
 use borrow.Author.Needs.{needs}
 use Rattle.sums.proofs.sums32.weigh_row.Statement.{statement}
@@ -12,7 +13,7 @@ returns c =
     let a = k .args in
     let f = c .before .before .before .before .before .before .before .before .before .before .mac-row in
     let g = c .before .before .before .before .before .before .mac in
-    row-of-weights 4 (a .s .now) (a .width) (a .from) (a .to) (a .n) 64 (a .x) (a .y) (f .last .0) (g .last .0) (c .before .before .store-row .last .0) (λ j h. omega (arith, k .pre .0))
+    row-of-weights 4 (a .s .now) (a .width) (a .from) (a .to) (a .n) mostColumns (a .x) (a .y) (f .last .0) (g .last .0) (c .before .before .store-row .last .0) (λ j h. omega (arith, k .pre .0))
     (f .ensures) (g .ensures) (c .before .before .store-row .ensures)
 
 pub weigh-row-spec : {M : Type 1} → statement M

@@ -1,4 +1,5 @@
 use native.Mathlib.Omega.{arith}
+use Rattle.element.specs.Bounds.{mostColumns}
 use Rattle.sums.proofs.RowLaws.{row-of-products}
 use borrow.Author.Needs.{needs}
 use Rattle.sums.proofs.sums8.multiply_row.Statement.{statement}
@@ -16,7 +17,7 @@ returns c =
     let a = k .args in
     let f = c .before .before .before .before .before .before .before .before .before .before .mac-row in
     let g = c .before .before .before .before .before .before .add-products in
-    row-of-products 1 (a .s .now) 1 (a .pitch) (a .k) (a .a) (a .b) (a .c) (a .n) 64 (f .last .0) (g .last .0) (c .before .before .store-row .last .0) (omega arith)
+    row-of-products 1 (a .s .now) 1 (a .pitch) (a .k) (a .a) (a .b) (a .c) (a .n) mostColumns (f .last .0) (g .last .0) (c .before .before .store-row .last .0) (omega arith)
     (λ q. omega (arith, c .before .before .before .before .before .before .before .before .before .before .before .before .before .slice-known .given q)) (λ j h. omega (arith, k .pre .0)) (f .ensures) (g .ensures) (c .before .before .store-row .ensures)
 
 pub multiply-row-spec : {M : Type 1} → statement M

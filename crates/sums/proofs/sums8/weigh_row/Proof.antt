@@ -1,4 +1,5 @@
 use native.Mathlib.Omega.{arith}
+use Rattle.element.specs.Bounds.{mostColumns}
 use Rattle.sums.proofs.RowLaws.{row-of-weights}
 use borrow.Author.Needs.{needs}
 use Rattle.sums.proofs.sums8.weigh_row.Statement.{statement}
@@ -10,7 +11,7 @@ returns c =
     let a = k .args in
     let f = c .before .before .before .before .before .before .before .before .before .before .mac-row in
     let g = c .before .before .before .before .before .before .mac-row2 in
-    row-of-weights 1 (a .s .now) 1 (a .from) (a .to) (a .n) 64 (a .x) (a .y) (f .last .0) (g .last .0) (c .before .before .store-row .last .0) (λ j h. omega (arith, k .pre .0))
+    row-of-weights 1 (a .s .now) 1 (a .from) (a .to) (a .n) mostColumns (a .x) (a .y) (f .last .0) (g .last .0) (c .before .before .store-row .last .0) (λ j h. omega (arith, k .pre .0))
     (f .ensures) (g .ensures) (c .before .before .store-row .ensures)
 
 pub weigh-row-spec : {M : Type 1} → statement M
