@@ -1,5 +1,6 @@
 //! Times through the C interface, all from one run. Nothing here can fail.
 
+use crate::lent::{library_image_read, library_image_size, library_image_write};
 use crate::lent::{library_step, started, Lent};
 use crate::random::Random;
 use crate::states::{set_size, SIZES, WIDTHS};
@@ -21,6 +22,7 @@ pub fn bench() {
     transposed_moves();
     multiply_accumulates();
     against_the_second_program();
+    images();
     crate::runs::bench::bench();
 }
 
@@ -188,5 +190,35 @@ fn against_the_second_program() {
             black_box(model::step(black_box(word), &mut bench, &mut scalars));
         });
         println!("{:28}{time:>14.1}{second:>16.1}{:>10.4}", machine_name(machine), time / second);
+    }
+}
+
+/// Images of the largest machine beside a copy of its register bytes.
+fn images() {
+    println!();
+    println!("images on {}: nanoseconds, and GB of register bytes a second", machine_name(LARGE));
+    println!("{:28}{:>12}{:>12}{:>12}{:>12}", "", "ns", "GB/s", "image", "answer");
+    let mut lent = full_bench(LARGE, 0, 0);
+    let total = lent.registers.len();
+    let line = |name: String, time: f64, image: usize, answer: u64| {
+        println!("{name:28}{time:>12.1}{:>12.2}{image:>12}{answer:>12}", total as f64 / time);
+    };
+    let mut copy = vec![0; total];
+    let time = nanoseconds(|| black_box(&mut copy).copy_from_slice(black_box(&lent.registers)));
+    line("memcpy".to_string(), time, 0, 0);
+    let patterns: [(&str, fn(usize) -> bool); 3] =
+        [("all marked", |_| true), ("every second", |at| at % 2 == 1), ("no mark", |_| false)];
+    for (name, marked) in patterns {
+        lent.marks.iter_mut().enumerate().for_each(|(at, mark)| *mark = u8::from(marked(at)));
+        let mut image = vec![0; 3 * total];
+        let mut answer = 0;
+        let time = nanoseconds(|| answer = black_box(library_image_size(&mut lent)));
+        let length = (answer >> 16) as usize;
+        line(format!("{name}, size"), time, length, answer & 0xFFFF);
+        let time = nanoseconds(|| answer = black_box(library_image_write(&mut lent, &mut image)));
+        line(format!("{name}, written"), time, length, answer & 0xFFFF);
+        image.truncate(length);
+        let time = nanoseconds(|| answer = black_box(library_image_read(&mut image, &mut lent)));
+        line(format!("{name}, read"), time, length, answer & 0xFFFF);
     }
 }

@@ -152,6 +152,21 @@ pub fn library_run(plan: &Plan, lent: &mut Lent, steps: &mut [u8]) -> u64 {
     library::run(plan, machine, registers, marks, memory, steps)
 }
 
+pub fn library_image_size(lent: &mut Lent) -> u64 {
+    let Lent { machine, registers, marks, .. } = lent;
+    library::image_size(machine, registers, marks)
+}
+
+pub fn library_image_write(lent: &mut Lent, room: &mut [u8]) -> u64 {
+    let Lent { machine, registers, marks, .. } = lent;
+    library::image_write(machine, registers, marks, room)
+}
+
+pub fn library_image_read(image: &mut [u8], lent: &mut Lent) -> u64 {
+    let Lent { machine, registers, marks, .. } = lent;
+    library::image_read(image, machine, registers, marks)
+}
+
 // ---------------------------------------------------------------------------
 // The second program
 
@@ -191,6 +206,37 @@ pub fn second_run_turns(turns: u64, run: &mut Run, lent: &mut Lent) -> u64 {
     let done = model::run_turns(turns, run, &mut bench);
     lent.take(bench);
     done
+}
+
+/// The image of a machine; `None` is answer 8.
+pub fn second_image(lent: &Lent) -> Option<Vec<u8>> {
+    model::images::image(&lent.bench()?)
+}
+
+/// The result of writing an image, as the C interface packs it.
+pub fn second_image_write(lent: &Lent, room: &mut [u8]) -> u64 {
+    let Some(bench) = lent.bench() else {
+        return BAD_ARGUMENTS.number;
+    };
+    match model::images::write(&bench, room) {
+        Ok(length) => (length as u64) << 16,
+        Err(number) => number,
+    }
+}
+
+/// The result of reading an image, as the C interface packs it.
+pub fn second_image_read(image: &[u8], lent: &mut Lent) -> u64 {
+    let mut read = lent.clone();
+    let result = model::images::read(image, &mut read.registers, &mut read.marks);
+    match result {
+        Err((number, place)) => number | (place as u64) << 16,
+        Ok(_) if lent.machine.len() != library::MACHINE_BYTES => BAD_ARGUMENTS.number,
+        Ok(machine) => {
+            read.set_machine(&machine);
+            *lent = read;
+            0
+        }
+    }
 }
 
 // ---------------------------------------------------------------------------
@@ -234,7 +280,7 @@ pub fn differences(name: &str, before: &[u8], library: &[u8], second: &[u8]) -> 
     text
 }
 
-fn hex(bytes: &[u8]) -> String {
+pub fn hex(bytes: &[u8]) -> String {
     bytes.iter().map(|byte| format!("{byte:02x}")).collect::<Vec<_>>().join(" ")
 }
 

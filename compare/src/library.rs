@@ -51,6 +51,9 @@ calls! {
     run_next = bodlarina_run_next(; run, step);
     run_turn = bodlarina_run_turn(; run, machine, registers, marks, memory);
     run_turns = bodlarina_run_turns(turns: u64; run, machine, registers, marks, memory);
+    image_size = bodlarina_image_size(; machine, registers, marks);
+    image_write = bodlarina_image_write(; machine, registers, marks, image);
+    image_read = bodlarina_image_read(; image, machine, registers, marks);
 }
 
 plan_calls! {

@@ -9,6 +9,7 @@
 mod bench;
 mod boundaries;
 mod damage;
+mod images;
 mod lent;
 mod library;
 mod powerup;
@@ -27,7 +28,7 @@ mod words;
 use std::time::Instant;
 use suite::{Context, Outcome, Suite};
 
-const SUITES: [Suite; 24] = [
+const SUITES: [Suite; 30] = [
     ("bench sheet", sheet::bench_sheet),
     ("machine starts", starts::machine_starts),
     ("codes", steps::codes),
@@ -52,6 +53,12 @@ const SUITES: [Suite; 24] = [
     ("wrong run lengths", runs::damage::wrong_run_lengths),
     ("forged runs", runs::damage::forged_runs),
     ("empty run slices", runs::damage::empty_run_slices),
+    ("images", images::images),
+    ("faulty images", images::faulty_images),
+    ("image buffers", images::image_buffers),
+    ("damaged images", images::damaged_images),
+    ("image numbers", images::image_numbers),
+    ("random images", images::random_images),
 ];
 
 /// `long` takes this many times the random steps and runs: above ten million steps.

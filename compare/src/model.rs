@@ -1,12 +1,15 @@
 //! The second program: the rules of the scope paper and of the change requests
-//! that have landed (One, Two, Three; Nine asks for nothing new), each as one plain
-//! function.
+//! that have landed (One, Two, Three, Six; Nine asks for nothing new), each as one
+//! plain function.
 //!
 //! It is written to be read beside the paper, not to be fast. Sizes and
 //! addresses are whole numbers (`i128`), bytes are looked at one by one, and a
 //! product run is the list of its steps.
 
 use std::collections::HashMap;
+
+#[path = "model_images.rs"]
+pub mod images;
 
 /// Widest element in bits.
 pub const ELEN: i128 = 32;

@@ -1,5 +1,5 @@
-//! How often each answer was met for each instruction family and for the calls of
-//! a run.
+//! How often each answer was met for each instruction family, for the calls of a run
+//! and for those on images.
 //!
 //! A word belongs to the family whose code it has, whatever its opcode and
 //! operands; a family is ours or left out. Which cells can be met, by the scope
@@ -28,6 +28,8 @@
 //! 8 or 9, asking for the next step 0 or 8, all of them 8 for any other kind. A turn
 //! never gives 1, 10, 11 or 12, since every word of a run is good; it gives 2 to 7
 //! only on a machine or memory that was changed between turns.
+//!
+//! The size of an image gives 0 or 8, writing one 14 too, reading one 0, 8 or 15.
 
 use model::{Kind, KINDS, LEFT_OUT, LISTING};
 use std::collections::BTreeMap;
@@ -43,6 +45,9 @@ pub enum Call {
     RunNext(u64),
     RunTurn(u64),
     WholeRun(u64),
+    ImageSize,
+    ImageWrite,
+    ImageRead,
 }
 
 #[derive(Default)]
@@ -63,7 +68,7 @@ const LEAST_RUNS: u64 = 1_500;
 const UNKNOWN: u64 = KINDS.len() as u64;
 
 /// One more than the highest answer.
-pub const ANSWERS: u64 = 13;
+pub const ANSWERS: u64 = 16;
 
 /// The listing's name up to an element width.
 pub fn family_name(name: &'static str) -> &'static str {
@@ -109,6 +114,9 @@ pub fn reachable(call: Call, number: u64) -> bool {
         Call::RunStart(_) | Call::WholeRun(_) => return [0, 6, 8, 9].contains(&number),
         Call::RunNext(_) => return [0, 8].contains(&number),
         Call::RunTurn(_) => return number <= 8 && number != 1,
+        Call::ImageSize => return [0, 8].contains(&number),
+        Call::ImageWrite => return [0, 8, 14].contains(&number),
+        Call::ImageRead => return [0, 8, 15].contains(&number),
         Call::Family(first) => first,
     };
     let zeros = model::has_zeros(first);
@@ -169,6 +177,9 @@ impl Tally {
             calls.push((Call::RunTurn(kind), format!("run turn {name}")));
             calls.push((Call::WholeRun(kind), format!("whole run {name}")));
         }
+        calls.push((Call::ImageSize, "image size".to_string()));
+        calls.push((Call::ImageWrite, "image write".to_string()));
+        calls.push((Call::ImageRead, "image read".to_string()));
         calls
     }
 

@@ -23,7 +23,7 @@ a-column-requires c κs = search needs
 
 load-requires : tie.Need-load-requires
 load-requires c κs =
-    let k = c .before .before .before .before in
+    let k = c .before .before .before in
     let r = k .before in
     let s = r .before .before .before .before .before in
     let b = most-in (formOf (s .args .plan)) (s .args .row) (s .args .term) 1024 (s .pre .1 .1 .0) (s .pre .1 .1 .1) in
@@ -38,7 +38,7 @@ same-length-2 c = search needs
 returns : tie.Need-returns
 returns c =
     let l = c .before .before .before .before in
-    let k = l .before .before .before .before .before in
+    let k = l .before .before .before .before in
     let r = k .before in
     let f = r .before in
     let s = f .before .before .before .before in
