@@ -13,6 +13,10 @@ int run_int16(struct session *session);
 int run_int32(struct session *session);
 int run_load(struct session *session);
 
+/* images.c */
+int run_save(struct session *session);
+int run_restore(struct session *session);
+
 /* looking.c */
 int run_expect(struct session *session);
 int run_show(struct session *session);

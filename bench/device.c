@@ -95,6 +95,40 @@ uint64_t device_run_steps(struct device *device)
     return bodlarina_bench_run_steps(&bench);
 }
 
+uint8_t *device_image(struct device *device, size_t *length)
+{
+    struct bodlarina_bench bench = lent(device);
+    uint8_t *image;
+    *length = (size_t)BODLARINA_LENGTH(bodlarina_bench_image_size(&bench));
+    image = malloc(*length + 1);
+    if (image == NULL)
+        return NULL;
+    if (answer(device, BODLARINA_ANSWER(bodlarina_bench_image_write(&bench, image, *length))) == 0)
+        return image;
+    free(image);
+    return NULL;
+}
+
+/* A machine's numbers beside its block. An element of the machine before is named no more. */
+static void take_numbers(struct device *device)
+{
+    device->rlen = bodlarina_get64(device->machine + BODLARINA_MACHINE_RLEN_AT);
+    device->mlen = bodlarina_get64(device->machine + BODLARINA_MACHINE_MLEN_AT);
+    device->seal_start = bodlarina_get64(device->machine + BODLARINA_MACHINE_SEAL_START_AT);
+    device->seal_length = bodlarina_get64(device->machine + BODLARINA_MACHINE_SEAL_LENGTH_AT);
+    device->named.known = 0;
+    device->started = 1;
+}
+
+uint64_t device_restore(struct device *device, const uint8_t *image, size_t length)
+{
+    struct bodlarina_bench bench = lent(device);
+    bench.registers_len = bench.marks_len = BODLARINA_REGISTER_BYTES(bodlarina_image_mlen(image, length));
+    if (answer(device, bodlarina_bench_image_read(&bench, image, length)) == 0)
+        take_numbers(device);
+    return device->result;
+}
+
 uint64_t device_scalar(const struct device *device, unsigned slot)
 {
     return slot % 32 == 0 ? 0 : bodlarina_get64(device->scalars + BODLARINA_SCALAR_AT(slot % 32));

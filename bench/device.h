@@ -41,7 +41,7 @@ struct device {
     uint64_t rlen, mlen;
     uint64_t seal_start, seal_length;
     int sealed, started;
-    int answered;         /* whether there was a start, a step or a run */
+    int answered;         /* whether there was a start, a step, a run or an image */
     uint64_t result;      /* of the last one */
     unsigned long steps;  /* words carried out or refused */
     struct element named; /* by the last refusal 5 */
@@ -71,6 +71,12 @@ uint64_t device_turn(struct device *device, struct turn *turn);
 /* Up to `most` turns; how many were done. And all that the run has. */
 uint64_t device_turns(struct device *device, uint64_t most);
 uint64_t device_run_steps(struct device *device);
+
+/* The machine's image, and its length; NULL if there is no room or the library refuses. The caller frees it. */
+uint8_t *device_image(struct device *device, size_t *length);
+
+/* The machine becomes the one whose image it is, whatever it was, and is then started. */
+uint64_t device_restore(struct device *device, const uint8_t *image, size_t length);
 
 uint64_t device_scalar(const struct device *device, unsigned slot);
 void device_set_scalar(struct device *device, unsigned slot, uint64_t value);

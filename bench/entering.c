@@ -4,9 +4,6 @@
 #include <stdlib.h>
 #include <string.h>
 
-/* The longest path. */
-#define PATH_BYTES 4096
-
 int run_memory(struct session *session)
 {
     struct reader *reader = &session->reader;
@@ -83,19 +80,6 @@ int run_int8(struct session *session) { return run_numbers(session, 1); }
 int run_int16(struct session *session) { return run_numbers(session, 2); }
 int run_int32(struct session *session) { return run_numbers(session, 4); }
 
-/* The path of a file that a script names: beside the script, unless it starts with a slash. */
-static int beside_script(const struct session *session, struct span name, char path[PATH_BYTES])
-{
-    const char *script = session->reader.path, *slash = strrchr(script, '/');
-    size_t folder = slash == NULL || name.text[0] == '/' ? 0 : (size_t)(slash - script) + 1;
-    if (memchr(name.text, '\0', name.length) != NULL || folder + name.length >= PATH_BYTES)
-        return 0;
-    memcpy(path, script, folder);
-    memcpy(path + folder, name.text, name.length);
-    path[folder + name.length] = '\0';
-    return 1;
-}
-
 /* Reads a file into memory from an address on. */
 static int load_file(struct session *session, size_t at, const char *path, size_t address)
 {
@@ -116,11 +100,7 @@ int run_load(struct session *session)
     char path[PATH_BYTES];
     uint64_t address;
     size_t at = next_at(reader);
-    struct span name;
     if (!needs_memory(session) || !take_any(reader, "an address", &address) || !in_memory(session, at, address, 0, 1))
         return 0;
-    name = take_span(reader);
-    if (name.length == 0 || !beside_script(session, name, path))
-        return refuse(reader, name.at, "expected the name of a file");
-    return take_end(reader) && load_file(session, name.at, path, (size_t)address);
+    return take_file(session, &at, path) && load_file(session, at, path, (size_t)address);
 }

@@ -3,6 +3,7 @@
 
 #include <inttypes.h>
 #include <stdio.h>
+#include <string.h>
 
 #include "show.h"
 #include "trace.h"
@@ -18,28 +19,51 @@ static void failed(struct session *session)
     printf("%s:%lu: NOT AS EXPECTED: ", session->reader.path, session->reader.line);
 }
 
+/* An answer as a script expects it; placed if it names row and column, or the place of 15. */
+struct expected {
+    uint64_t number, row, column, place;
+    int placed;
+};
+
+static int take_expected(struct reader *reader, struct expected *expected)
+{
+    memset(expected, 0, sizeof *expected);
+    if (!take_unsigned(reader, "memory or the number of an answer", 0xffff, &expected->number))
+        return 0;
+    expected->placed = !at_end(reader);
+    if (!expected->placed)
+        return 1;
+    if (expected->number == BODLARINA_DAMAGED)
+        return take_any(reader, "a place", &expected->place) && take_end(reader);
+    return take_unsigned(reader, "a row", 0xffff, &expected->row) && take_unsigned(reader, "a column", 0xffff, &expected->column)
+           && take_end(reader);
+}
+
+static int is_expected(const struct expected *expected, uint64_t result)
+{
+    if (expected->number != BODLARINA_ANSWER(result) || !expected->placed)
+        return expected->number == BODLARINA_ANSWER(result);
+    if (expected->number == BODLARINA_DAMAGED)
+        return expected->place == BODLARINA_PLACE(result);
+    return expected->row == BODLARINA_ROW(result) && expected->column == BODLARINA_COLUMN(result);
+}
+
 static int expect_answer(struct session *session)
 {
-    struct reader *reader = &session->reader;
     const struct device *device = &session->device;
-    uint64_t number, row = 0, column = 0;
-    int placed;
-    if (!take_unsigned(reader, "memory or the number of an answer", 0xffff, &number))
-        return 0;
-    placed = !at_end(reader);
-    if (placed && (!take_unsigned(reader, "a row", 0xffff, &row) || !take_unsigned(reader, "a column", 0xffff, &column)))
-        return 0;
-    if (!take_end(reader))
+    struct expected expected;
+    if (!take_expected(&session->reader, &expected))
         return 0;
     if (!device->answered)
         return not_now(session, "nothing has answered yet");
-    if (number == BODLARINA_ANSWER(device->result)
-        && (!placed || (row == BODLARINA_ROW(device->result) && column == BODLARINA_COLUMN(device->result))))
+    if (is_expected(&expected, device->result))
         return 1;
     failed(session);
-    printf("%" PRIu64, number);
-    if (placed)
-        printf(", row %" PRIu64 ", column %" PRIu64, row, column);
+    printf("%" PRIu64, expected.number);
+    if (expected.placed && expected.number == BODLARINA_DAMAGED)
+        printf(", place %" PRIu64, expected.place);
+    else if (expected.placed)
+        printf(", row %" PRIu64 ", column %" PRIu64, expected.row, expected.column);
     printf("; the answer is %u, %s", BODLARINA_ANSWER(device->result), bodlarina_answer_text(device->result));
     write_place(device);
     printf("\n");

@@ -2,6 +2,7 @@
 
 #include <inttypes.h>
 #include <stdio.h>
+#include <string.h>
 
 #include "trace.h"
 
@@ -38,6 +39,28 @@ unsigned take_width(struct reader *reader)
     if (width == 0)
         reader->at = before;
     return width;
+}
+
+/* The path of a file that a script names: beside the script, unless it starts with a slash. */
+static int beside_script(const struct session *session, struct span name, char path[PATH_BYTES])
+{
+    const char *script = session->reader.path, *slash = strrchr(script, '/');
+    size_t folder = slash == NULL || name.text[0] == '/' ? 0 : (size_t)(slash - script) + 1;
+    if (memchr(name.text, '\0', name.length) != NULL || folder + name.length >= PATH_BYTES)
+        return 0;
+    memcpy(path, script, folder);
+    memcpy(path + folder, name.text, name.length);
+    path[folder + name.length] = '\0';
+    return 1;
+}
+
+int take_file(struct session *session, size_t *at, char path[PATH_BYTES])
+{
+    struct span name = take_span(&session->reader);
+    *at = name.at;
+    if (name.length == 0 || !beside_script(session, name, path))
+        return refuse(&session->reader, name.at, "expected the name of a file");
+    return take_end(&session->reader);
 }
 
 void report(const struct session *session, const char *what)

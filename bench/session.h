@@ -12,6 +12,9 @@ struct session {
     unsigned long failures; /* expectations that did not hold */
 };
 
+/* The longest path. */
+#define PATH_BYTES 4096
+
 /* Refuses the command because of what came before it. */
 int not_now(const struct session *session, const char *sentence);
 int needs_machine(const struct session *session);
@@ -22,6 +25,9 @@ int take_any(struct reader *reader, const char *what, uint64_t *value);
 
 /* int8, int16 or int32: the width in bytes; else 0, and nothing is taken. */
 unsigned take_width(struct reader *reader);
+
+/* The name of a file, where it stands, and the end of the line. A path starts at the script's folder, unless it starts with a slash. */
+int take_file(struct session *session, size_t *at, char path[PATH_BYTES]);
 
 /* Whether `count` numbers of `width` bytes at an address lie in memory; else the line is refused. */
 int in_memory(const struct session *session, size_t at, uint64_t address, uint64_t count, uint64_t width);

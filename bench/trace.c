@@ -6,6 +6,8 @@
 void write_place(const struct device *device)
 {
     char name[8];
+    if (BODLARINA_ANSWER(device->result) == BODLARINA_DAMAGED)
+        printf(": place %" PRIu64, BODLARINA_PLACE(device->result));
     if (BODLARINA_ANSWER(device->result) != BODLARINA_UNWRITTEN)
         return;
     printf(": row %u, column %u", BODLARINA_ROW(device->result), BODLARINA_COLUMN(device->result));

@@ -44,7 +44,7 @@ static int64_t signed32(const uint8_t *x)
 /* The counts times the weights, into sums at the address c. */
 static struct bodlarina_plan plan(uint64_t c)
 {
-    struct bodlarina_plan p = {8, 4, M, K, N, {COUNTS, K}, {WEIGHTS, N}, {0, 4 * N}};
+    struct bodlarina_plan p = {8, 4, M, K, N, {COUNTS, K}, {WEIGHTS, N}, {0, 4 * N}, BODLARINA_PRODUCT};
     p.c.address = c;
     return p;
 }

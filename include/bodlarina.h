@@ -271,6 +271,43 @@ uint64_t bodlarina_run(uint64_t kind, uint64_t sew, uint64_t factor, uint64_t m,
                        uint8_t *memory, size_t memory_len,
                        uint8_t *steps, size_t steps_len);
 
+/* ---- Images ----------------------------------------------------------------------------------------------- */
+
+/* The image of a machine: its numbers and its marked register bytes, to hand it over. Two machines have the same image
+ * exactly if they differ at most in unmarked register bytes. It is made of numbers in groups of seven bits, low group
+ * first, the top bit set on all but the last group, in the shortest form: version 1, the exponents of RLEN and MLEN,
+ * mtype, tile_m, tile_k, tile_n, the seal's start and length, the number of runs; then for each maximal run of marked
+ * bytes, in the order of the registers, its gap from the end of the run before it (or from the start), its length, and
+ * its bytes as they are. */
+
+/* The length of a machine's image, in bits 63..16.
+ * Answers: 0; 8 for a state at fault as in bodlarina_step. */
+uint64_t bodlarina_image_size(const uint8_t *machine, size_t machine_len,
+                              const uint8_t *registers, size_t registers_len,
+                              const uint8_t *marks, size_t marks_len);
+
+/* Writes a machine's image to the front of image, and leaves the bytes past it. Its length is in bits 63..16.
+ * Answers: 0; 8 for a state at fault as in bodlarina_step; then 14 if the image is longer than image_len. */
+uint64_t bodlarina_image_write(const uint8_t *machine, size_t machine_len,
+                               const uint8_t *registers, size_t registers_len,
+                               const uint8_t *marks, size_t marks_len,
+                               uint8_t *image, size_t image_len);
+
+/* Makes the machine whose image it is: writes the machine block, the marks and the marked register bytes, and leaves
+ * the other register bytes. What machine and marks held before does not matter. image_len is the image's length, no more.
+ * Answers: 0; 15 with the place in bits 63..16 if it is no image of a machine that is not at fault; then 8 if the machine
+ * block, registers or marks are not of its machine's size. */
+uint64_t bodlarina_image_read(const uint8_t *image, size_t image_len,
+                              uint8_t *machine, size_t machine_len,
+                              uint8_t *registers, size_t registers_len,
+                              uint8_t *marks, size_t marks_len);
+
+/* MLEN of the machine whose image this is, which gives the lengths of registers and marks; 0 if no image starts like this. */
+BODLARINA_INLINE uint64_t bodlarina_image_mlen(const uint8_t *image, size_t image_len)
+{
+    return image_len < 3 || image[2] < 7 || image[2] > 12 ? 0 : (uint64_t)1 << image[2];
+}
+
 /* ---- The same in short ------------------------------------------------------------------------------------ */
 
 /* The buffers of a machine, set once. Lengths are in bytes. run is for one product run at a time; a host without runs leaves it out.
@@ -381,36 +418,24 @@ BODLARINA_INLINE uint64_t bodlarina_bench_run(const struct bodlarina_bench *benc
         *steps = bodlarina_get64(count);
     return result;
 }
-/* ---- Images ----------------------------------------------------------------------------------------------- */
 
-/* The image of a machine: its numbers and its marked register bytes, to hand it over. Two machines have the same image
- * exactly if they differ at most in unmarked register bytes. It is made of numbers in groups of seven bits, low group
- * first, the top bit set on all but the last group, in the shortest form: version 1, the exponents of RLEN and MLEN,
- * mtype, tile_m, tile_k, tile_n, the seal's start and length, the number of runs; then for each maximal run of marked
- * bytes, in the order of the registers, its gap from the end of the run before it (or from the start), its length, and
- * its bytes as they are. */
+BODLARINA_INLINE uint64_t bodlarina_bench_image_size(const struct bodlarina_bench *bench)
+{
+    return bodlarina_image_size(bench->machine, bench->machine_len, bench->registers, bench->registers_len, bench->marks,
+                                bench->marks_len);
+}
 
-/* The length of a machine's image, in bits 63..16.
- * Answers: 0; 8 for a state at fault as in bodlarina_step. */
-uint64_t bodlarina_image_size(const uint8_t *machine, size_t machine_len,
-                              const uint8_t *registers, size_t registers_len,
-                              const uint8_t *marks, size_t marks_len);
+BODLARINA_INLINE uint64_t bodlarina_bench_image_write(const struct bodlarina_bench *bench, uint8_t *image, size_t image_len)
+{
+    return bodlarina_image_write(bench->machine, bench->machine_len, bench->registers, bench->registers_len, bench->marks,
+                                 bench->marks_len, image, image_len);
+}
 
-/* Writes a machine's image to the front of image, and leaves the bytes past it. Its length is in bits 63..16.
- * Answers: 0; 8 for a state at fault as in bodlarina_step; then 14 if the image is longer than image_len. */
-uint64_t bodlarina_image_write(const uint8_t *machine, size_t machine_len,
-                               const uint8_t *registers, size_t registers_len,
-                               const uint8_t *marks, size_t marks_len,
-                               uint8_t *image, size_t image_len);
-
-/* Makes the machine whose image it is: writes the machine block, the marks and the marked register bytes, and leaves
- * the other register bytes. image_len is the image's length, no more.
- * Answers: 0; 15 with the place in bits 63..16 if it is no image of a machine that is not at fault; then 8 if the machine
- * block, registers or marks are not of its machine's size. */
-uint64_t bodlarina_image_read(const uint8_t *image, size_t image_len,
-                              uint8_t *machine, size_t machine_len,
-                              uint8_t *registers, size_t registers_len,
-                              uint8_t *marks, size_t marks_len);
+BODLARINA_INLINE uint64_t bodlarina_bench_image_read(const struct bodlarina_bench *bench, const uint8_t *image, size_t image_len)
+{
+    return bodlarina_image_read(image, image_len, bench->machine, bench->machine_len, bench->registers, bench->registers_len,
+                                bench->marks, bench->marks_len);
+}
 
 #ifdef __cplusplus
 }

@@ -1,6 +1,6 @@
 /* damage PROGRAM COUNT OUT SCRIPT..: damages the scripts in COUNT ways, the same ones each time, writes each to the file OUT and runs
  * PROGRAM on it, with and without --trace and --marks. It must exit with 0, 1 or 2: a signal, another status or ten seconds of work is
- * a crash, and that script is printed. */
+ * a crash, and that script is printed. No script names a file outside the folder of OUT: it may save one there. */
 #define _POSIX_C_SOURCE 200809L
 
 #include <fcntl.h>
@@ -71,7 +71,7 @@ static const char *const numbers[] = {
 static const char *const odd[] = {
     "-", "x0", "x31", "x32", "tr0", "tr7", "tr8", "acc0", "acc1", "(x10)", "(", ")", ",", "#", "e8", "e16, accq", "e64", "memory", "int32",
     "machine", "seal", "product", "expect", "show", "show marks", "show acc1 32", "show x", "word 0x48006077", "word FFFFFFFF",
-    "mqma.mm acc0, tr0, tr1", "msettypei x5, 8191", "msettilen x0, x0", "load 0 .", "load 0 out", "\n", "\r", "\t", "",
+    "mqma.mm acc0, tr0, tr1", "msettypei x5, 8191", "msettilen x0, x0", "load 0 .", "load 0 out", "save out", "restore out", "save s.img", "restore s.img", "restore damaged.img", "\n", "\r", "\t", "",
     "product 8 4 2 3 2 0 3 6 2 16 8", "msce32.m acc1, (x1), x2", "x 11 -8", "bytes 0 00", "machine 512 4096",
 };
 
@@ -98,6 +98,15 @@ static void damage_once(const struct text *other)
     case 10: replace_text(below(damaged.length), damaged.length, ""); break;
     case 11: from = below(other->length); replace(to, to, other->bytes + from, below(other->length - from)); break;
     }
+}
+
+/* No path leads out of the folder. */
+static void keep_inside(void)
+{
+    size_t i;
+    for (i = 0; i < damaged.length; i++)
+        if (damaged.bytes[i] == '/')
+            damaged.bytes[i] = '|';
 }
 
 static void fail(const char *what)
@@ -169,6 +178,7 @@ int main(int count, char **words)
         damaged = scripts[i % (unsigned long)given];
         while (times-- > 0)
             damage_once(&scripts[below((size_t)given)]);
+        keep_inside();
         write_text(&damaged, words[3]);
         status = run(words[1], words[3], i % 2 == 1, i % 8 == 0);
         if (WIFEXITED(status) && WEXITSTATUS(status) <= 2) {

@@ -1,5 +1,5 @@
 /* What the headers say beside the words: the version, the texts, the number of a run's steps, that slot 0 of the scalars is not
- * written, and how much stack a call uses. Writes a line for each, and ends with 'N passed, M failed'. */
+ * written, images, and how much stack a call uses. Writes a line for each, and ends with 'N passed, M failed'. */
 #define _GNU_SOURCE
 #include <inttypes.h>
 #include <pthread.h>
@@ -40,12 +40,14 @@ static void texts(void)
 {
     const char *unknown = bodlarina_answer_text(0xffff);
     int right = 1;
-    for (unsigned i = 0; i <= BODLARINA_WRONG_REGISTER; i++)
-        for (unsigned j = 0; j < i; j++)
+    for (unsigned i = 0; i <= BODLARINA_DAMAGED + 1; i++) {
+        int named = i <= BODLARINA_WRONG_REGISTER || i == BODLARINA_NO_ROOM || i == BODLARINA_DAMAGED;
+        right = right && (bodlarina_answer_text(i) != unknown) == named;
+        for (unsigned j = 0; named && j < i; j++)
             right = right && strcmp(bodlarina_answer_text(i), bodlarina_answer_text(j)) != 0;
-    for (unsigned i = 0; i <= BODLARINA_WRONG_REGISTER; i++)
-        right = right && strcmp(bodlarina_answer_text(i), unknown) != 0;
-    right = right && bodlarina_answer_text(BODLARINA_WRONG_REGISTER + 1) == unknown;
+    }
+    right = right && strcmp(bodlarina_answer_text(14), "the image does not fit the room") == 0;
+    right = right && strcmp(bodlarina_answer_text(15 | 70 << 16), "this is no image, or it is cut short") == 0;
     check(right, "a text for each answer");
 }
 
@@ -54,7 +56,7 @@ static uint64_t blocks(uint64_t size, uint64_t most) { return (size + most - 1) 
 /* The number of steps is the formula's and that of the turns answered 0, and the same at every place of the run. */
 static int steps_right(uint64_t sew, uint64_t factor, uint64_t m, uint64_t k, uint64_t n)
 {
-    struct bodlarina_plan plan = {sew, factor, m, k, n, {0, 400}, {150000, 400}, {300000, 400}};
+    struct bodlarina_plan plan = {sew, factor, m, k, n, {0, 400}, {150000, 400}, {300000, 400}, BODLARINA_PRODUCT};
     uint64_t rows = MLEN / RLEN, columns = RLEN / sew, terms = rows < columns ? rows : columns, turns = 0, whole = 0;
     uint64_t all = 1 + blocks(m, rows) * (1 + blocks(n, columns) * (3 + 4 * blocks(k, terms)));
     int right = bodlarina_bench_run_start(&bench, &plan) == 0;
@@ -101,9 +103,126 @@ static void slot0(void)
     munmap(pages, 2 * page);
 }
 
+/* ---- images of a machine of RLEN 64 and MLEN 128 ---- */
+
+enum { SMALL = 128, SMALL_BYTES = BODLARINA_REGISTER_BYTES(SMALL) };
+
+/* mtype e16; sizes 2, 2 and 3; 300 bytes sealed from 5 on (300 is 44 + 128, then 2); tr0 has two bytes from 1 on, acc1 its last byte,
+ * 255, behind a gap of 252 (124 + 128, then 1). */
+static const uint8_t image[] = {1, 6, 7, 1, 2, 2, 3, 5, 172, 2, 2, 1, 2, 11, 0, 252, 1, 1, 255};
+static uint8_t small_machine[BODLARINA_MACHINE_BYTES], small_registers[SMALL_BYTES], small_marks[SMALL_BYTES];
+static struct bodlarina_bench small = {
+    small_machine, sizeof small_machine, small_registers, SMALL_BYTES, small_marks, SMALL_BYTES,
+    scalars, sizeof scalars, memory, sizeof memory, run, sizeof run,
+};
+
+/* Everything that a read may write, filled with 7. */
+static void fill(void)
+{
+    memset(small_machine, 7, sizeof small_machine);
+    memset(small_registers, 7, sizeof small_registers);
+    memset(small_marks, 7, sizeof small_marks);
+}
+
+static int all(const uint8_t *bytes, size_t from, size_t to, uint8_t value)
+{
+    while (from < to && bytes[from] == value)
+        from++;
+    return from >= to;
+}
+
+static int untouched(void)
+{
+    return all(small_machine, 0, sizeof small_machine, 7) && all(small_registers, 0, SMALL_BYTES, 7) && all(small_marks, 0, SMALL_BYTES, 7);
+}
+
+static void image_read(void)
+{
+    static const uint64_t numbers[] = {64, 128, 1, 2, 2, 3, 5, 300};
+    fill();
+    int right = bodlarina_image_mlen(image, sizeof image) == SMALL && bodlarina_bench_image_read(&small, image, sizeof image) == 0;
+    for (size_t i = 0; i < 8; i++)
+        right = right && bodlarina_get64(small_machine + 8 * i) == numbers[i];
+    check(right, "an image is read: the machine's numbers");
+    right = small_registers[1] == 11 && small_registers[2] == 0 && small_registers[255] == 255;
+    right = right && small_registers[0] == 7 && all(small_registers, 3, 255, 7);
+    right = right && small_marks[0] == 0 && all(small_marks, 1, 3, 1) && all(small_marks, 3, 255, 0) && small_marks[255] == 1;
+    check(right, "an image is read: marks and marked bytes, the other register bytes stay");
+}
+
+/* A byte of the image changed, or its end cut off: refused with 15 and this place. */
+static int damaged(size_t length, size_t at, uint8_t value, uint64_t place)
+{
+    uint8_t bytes[sizeof image];
+    memcpy(bytes, image, sizeof image);
+    bytes[at] = value;
+    fill();
+    return bodlarina_bench_image_read(&small, bytes, length) == (place << 16 | BODLARINA_DAMAGED) && untouched();
+}
+
+static void image_damaged(void)
+{
+    size_t whole = sizeof image;
+    int right = 1;
+    for (size_t length = 0; length < whole; length++)
+        right = right && damaged(length, 0, 1, length);
+    check(right, "an image that is cut short: 15 and its length");
+    right = damaged(whole, 0, 2, 0) && damaged(whole, 1, 5, 1) && damaged(whole, 1, 10, 1); /* version, RLEN */
+    right = right && damaged(whole, 2, 6, 2) && damaged(whole, 2, 13, 2);                   /* MLEN */
+    right = right && damaged(whole, 3, 3, 3) && damaged(whole, 4, 3, 4);                    /* mtype, tile_m */
+    right = right && damaged(whole, 9, 0, 9);                                               /* not the shortest form */
+    right = right && damaged(whole, 10, 1, 15);                                             /* a run too many */
+    right = right && damaged(whole, 12, 0, 12) && damaged(whole, 15, 0, 15);                /* no length, no gap */
+    right = right && damaged(whole, 15, 253, 15) && damaged(whole, 16, 2, 16);              /* a gap past the registers */
+    right = right && damaged(whole, 17, 2, 17);                                             /* a length past the registers */
+    check(right, "a damaged image: 15 and the place, and nothing changes");
+}
+
+static void image_sizes(void)
+{
+    struct bodlarina_bench other = small;
+    int right = 1;
+    fill();
+    other.registers_len--;
+    right = right && bodlarina_bench_image_read(&other, image, sizeof image) == BODLARINA_BAD_ARGUMENTS && untouched();
+    right = right && bodlarina_bench_image_read(&other, image, 3) == (3u << 16 | BODLARINA_DAMAGED) && untouched();
+    other = small;
+    other.machine_len--;
+    right = right && bodlarina_bench_image_read(&other, image, sizeof image) == BODLARINA_BAD_ARGUMENTS && untouched();
+    check(right, "an image for buffers of another size: 15 first, then 8");
+}
+
+static void image_written(void)
+{
+    uint8_t room[sizeof image + 3];
+    memset(room, 9, sizeof room);
+    int right = bodlarina_bench_image_read(&small, image, sizeof image) == 0;
+    right = right && bodlarina_bench_image_size(&small) == (uint64_t)sizeof image << 16;
+    right = right && bodlarina_bench_image_write(&small, room, sizeof image - 1) == BODLARINA_NO_ROOM && all(room, 0, sizeof room, 9);
+    right = right && bodlarina_bench_image_write(&small, room, sizeof room) == (uint64_t)sizeof image << 16;
+    check(right && memcmp(room, image, sizeof image) == 0 && all(room, sizeof image, sizeof room, 9), "an image is written as it was read");
+    small_registers[3] ^= 255;
+    memset(room, 9, sizeof room);
+    right = bodlarina_bench_image_write(&small, room, sizeof image) == (uint64_t)sizeof image << 16;
+    check(right && memcmp(room, image, sizeof image) == 0, "an unmarked byte is not in the image");
+    small_marks[3] = 2;
+    memset(room, 9, sizeof room);
+    right = bodlarina_bench_image_size(&small) == BODLARINA_BAD_ARGUMENTS;
+    right = right && bodlarina_bench_image_write(&small, room, 0) == BODLARINA_BAD_ARGUMENTS && all(room, 0, sizeof room, 9);
+    check(right, "a machine at fault has no image: 8, also where there is no room");
+}
+
+static void images(void)
+{
+    image_read();
+    image_damaged();
+    image_sizes();
+    image_written();
+}
+
 /* ---- stack: a call in a thread whose stack was painted ---- */
 
-static struct bodlarina_plan stack_plan = {8, 4, 70, 70, 70, {0, 400}, {150000, 400}, {300000, 400}};
+static struct bodlarina_plan stack_plan = {8, 4, 70, 70, 70, {0, 400}, {150000, 400}, {300000, 400}, BODLARINA_PRODUCT};
 static uint64_t count;
 static uint32_t stack_word;
 
@@ -111,6 +230,16 @@ static void no_call(void) {}
 static void whole_run(void) { bodlarina_bench_run(&bench, &stack_plan, &count); }
 static void all_turns(void) { bodlarina_bench_run_turns(&bench, UINT64_MAX); }
 static void one_step(void) { bodlarina_bench_step(&bench, stack_word); }
+
+static uint8_t stack_image[4 * sizeof registers];
+static size_t stack_image_length;
+
+static void write_image(void)
+{
+    stack_image_length = (size_t)BODLARINA_LENGTH(bodlarina_bench_image_write(&bench, stack_image, sizeof stack_image));
+}
+
+static void read_image(void) { bodlarina_bench_image_read(&bench, stack_image, stack_image_length); }
 
 static void *call(void *function)
 {
@@ -151,6 +280,10 @@ static void stack(void)
             stack_word = bodlarina_mma_mm(0, 0, 1);
             used = stack_of(one_step) - none;
             most = used > most ? used : most;
+            used = stack_of(write_image) - none;
+            most = used > most ? used : most;
+            used = stack_of(read_image) - none;
+            most = used > most ? used : most;
         }
     printf("stack: %zu bytes\n", most);
     check(most > 0 && most <= MOST_STACK, "the stack of the deepest call");
@@ -162,6 +295,7 @@ int main(void)
     texts();
     steps();
     slot0();
+    images();
     stack();
     printf("%d passed, %d failed\n", passed, failed);
     return failed != 0;
