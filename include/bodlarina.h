@@ -302,10 +302,13 @@ uint64_t bodlarina_image_read(const uint8_t *image, size_t image_len,
                               uint8_t *registers, size_t registers_len,
                               uint8_t *marks, size_t marks_len);
 
-/* MLEN of the machine whose image this is, which gives the lengths of registers and marks; 0 if no image starts like this. */
+/* MLEN of the machine whose image starts like this, which gives the lengths of registers and marks; 0 if no image does: it starts
+ * with the version, 1, and the exponents of RLEN and MLEN. */
 BODLARINA_INLINE uint64_t bodlarina_image_mlen(const uint8_t *image, size_t image_len)
 {
-    return image_len < 3 || image[2] < 7 || image[2] > 12 ? 0 : (uint64_t)1 << image[2];
+    if (image_len < 3 || image[0] != 1 || image[1] < 6 || image[1] > 9 || image[2] <= image[1] || image[2] > 12)
+        return 0;
+    return (uint64_t)1 << image[2];
 }
 
 /* ---- The same in short ------------------------------------------------------------------------------------ */

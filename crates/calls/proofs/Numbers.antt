@@ -109,14 +109,22 @@ four s k r c t (suc (suc zero)) = c
 four s k r c t (suc (suc (suc zero))) = t
 four s k r c t (suc (suc (suc (suc j)))) = omega arith
 
+-- a place's numbers, and the plan's kind after them
+with-kind : (s : Spot) (k : ℕ) → ((j : ℕ) → getD (spotNumbers s) j 0 < 2 ^ 64) → k < 2 ^ 64 → (j : ℕ) → getD (spotNumbers s ++ (k ∷ [])) j 0 < 2 ^ 64
+with-kind s k h l = begin-alike (2 ^ 64) (spotNumbers s) [] (k ∷ []) h last
+  where
+    last : (j : ℕ) → getD (k ∷ []) j 0 < 2 ^ 64
+    last zero = l
+    last (suc j) = omega arith
+
 -- the plan's numbers, the lengths and the place
 parts : (R : Run) → PlanWords (R .plan) → R .rlen < 2 ^ 64 → R .mlen < 2 ^ 64 → ((j : ℕ) → getD (spotNumbers (spotOf (R .place))) j 0 < 2 ^ 64) → RunWords R
-parts R p r m s = begin-alike (2 ^ 64) (planNumbers (R .plan)) [] (R .rlen ∷ R .mlen ∷ spotNumbers (spotOf (R .place))) p tail
+parts R p r m s = begin-alike (2 ^ 64) (planNumbers (R .plan)) (R .plan .kind ∷ []) (R .rlen ∷ R .mlen ∷ (spotNumbers (spotOf (R .place)) ++ (R .plan .kind ∷ []))) p tail
   where
-    tail : (j : ℕ) → getD (R .rlen ∷ R .mlen ∷ spotNumbers (spotOf (R .place))) j 0 < 2 ^ 64
+    tail : (j : ℕ) → getD (R .rlen ∷ R .mlen ∷ (spotNumbers (spotOf (R .place)) ++ (R .plan .kind ∷ []))) j 0 < 2 ^ 64
     tail zero = r
     tail (suc zero) = m
-    tail (suc (suc j)) = s j
+    tail (suc (suc j)) = with-kind (spotOf (R .place)) (R .plan .kind) s (p 11) j
 
 -- eight bytes each of a block of bytes
 values-small : (b : List ℕ) → Bytes b → (ps : List ℕ) (j : ℕ) → getD (map (λ p. le b p 8) ps) j 0 < 2 ^ 64
@@ -126,7 +134,7 @@ values-small b small (p ∷ ps) (suc j) = values-small b small ps j
 
 plan-words : (b : List ℕ) → Bytes b → PlanWords (planOf b)
 unfolding planOf
-plan-words b small = values-small b small (0 ∷ 8 ∷ 16 ∷ 24 ∷ 32 ∷ 40 ∷ 48 ∷ 56 ∷ 64 ∷ 72 ∷ 80 ∷ [])
+plan-words b small = values-small b small (0 ∷ 8 ∷ 16 ∷ 24 ∷ 32 ∷ 40 ∷ 48 ∷ 56 ∷ 64 ∷ 72 ∷ 80 ∷ 136 ∷ [])
 
 same-small : (x y : ℕ) → eqb x y ≡ true → x < 2 ^ 64 → y < 2 ^ 64
 same-small x y e l = subst (λ (z : ℕ). z < 2 ^ 64) (eqb-true x y e) l
@@ -162,8 +170,10 @@ fresh-words m P w p = parts (freshRun m P) p (w .rlen) (w .mlen) (four (spotOf A
 -- once a step is handed out: the plan and the lengths stay, and the next place lies in the matrices
 moved-words : (R : Run) → RunWords R → soundRun smaller R ≡ true → RunWords (moved smaller R)
 moved-words R w ok =
-    begin-alike (2 ^ 64) (planNumbers (R .plan) ++ (R .rlen ∷ R .mlen ∷ [])) (spotNumbers (spotOf (R .place))) (spotNumbers (spotOf (moved smaller R .place)))
-    w (place-words (R .plan) (moved smaller R .place) (run-sizes R (run-numbered R ok)) (run-placed (moved smaller R) (moved-sound R ok)))
+    begin-alike (2 ^ 64) (planNumbers (R .plan) ++ (R .rlen ∷ R .mlen ∷ [])) (spotNumbers (spotOf (R .place)) ++ (R .plan .kind ∷ []))
+    (spotNumbers (spotOf (moved smaller R .place)) ++ (R .plan .kind ∷ []))
+    w (with-kind (spotOf (moved smaller R .place)) (R .plan .kind)
+    (place-words (R .plan) (moved smaller R .place) (run-sizes R (run-numbered R ok)) (run-placed (moved smaller R) (moved-sound R ok))) (w 17))
 
 -- ---- turns
 

@@ -50,4 +50,4 @@ putMachine-over m m′ xs e = putMachine-fills m (putMachine m′ xs) xs (length
 
 pub putRun-over : (R R′ : Run) (xs : List ℕ) → length xs ≡ 144 → putRun R (putRun R′ xs) ≡ putRun R xs
 unfolding putRun putNumbers
-putRun-over R R′ xs e = fills 17 (λ j. getD (numbersOfRun R) j 0) (putRun R′ xs) xs (length-putRun R′ xs ∙ e) e
+putRun-over R R′ xs e = fills 18 (λ j. getD (numbersOfRun R) j 0) (putRun R′ xs) xs (length-putRun R′ xs ∙ e) e

@@ -2,7 +2,7 @@
 -- that many calls of bodlarina_run_turn, bodlarina_run as a start and all its turns, and demand 2. The proofs stand in proofs/.
 use mathlib.Core.Path.{_≡_}
 use mathlib.Core.Bool.{cond}
-use mathlib.Core.List.{List, [], _∷_}
+use mathlib.Core.List.{List, [], _∷_, _++_}
 use Prim.Native.Nat.{ℕ, suc, _+_, _^_, _≤_, _<_}
 use lib.ListN.{length, getD, replicate}
 use lib.Dec.{eqb}
@@ -49,7 +49,7 @@ benchIn b = benchOf (machineOf (b .machine)) (b .registers) (b .marks) (b .memor
 
 -- a plan's twelve numbers are uint64_t
 abbrev pub PlanWords : Plan → Type 0
-PlanWords P = (j : ℕ) → getD (planNumbers P) j 0 < 2 ^ 64
+PlanWords P = (j : ℕ) → getD (planNumbers P ++ (P .kind ∷ [])) j 0 < 2 ^ 64
 
 -- what a call of bodlarina_run_start returns and leaves: the number of an answer that is 0, 8, 6 or 9 exactly where demand 3 says so; and
 -- no byte of any buffer but the run's block changes

@@ -1,11 +1,18 @@
 -- Computed examples of images.
 use mathlib.Core.Path.{_≡_, refl}
 use mathlib.Core.List.{List, [], _∷_, _++_}
-use Prim.Native.Nat.{ℕ}
+use Prim.Native.Nat.{ℕ, _-_}
+use lib.ListN.{length, take}
 use Rattle.format.specs.Numbers.{groups, encode}
+use Rattle.format.specs.Parser.{isAmong, nonempty, readNumber, parse}
 use Rattle.image.specs.Cells.{cellsOf, Run, runs}
 use Rattle.image.specs.Cells.Run.{run}
 use Rattle.image.specs.Images.{halvings, exponent, headerOf, spelled, imageOf}
+use Rattle.image.specs.declared.Imaged.{Imaged}
+use Rattle.image.specs.declared.Imaged.the-variants.{Done, Damaged}
+use Rattle.image.specs.Answers.{imageReply}
+use Rattle.image.specs.ImageFormat.{runsFormat, imageFormat}
+use Rattle.image.specs.Reading.{checkImage, readImage}
 use Rattle.machine.specs.Starting.{freshMachine}
 
 -- runs of seven bytes: the second starts behind a gap of two
@@ -20,3 +27,32 @@ image : spelled (headerOf (freshMachine 64 256 5 300)) (run 1 (11 ∷ 12 ∷ [])
     ≡ 1 ∷ 6 ∷ 8 ∷ 0 ∷ 0 ∷ 0 ∷ 0 ∷ 5 ∷ 172 ∷ 2 ∷ 2 ∷ 1 ∷ 2 ∷ 11 ∷ 12 ∷ 2 ∷ 1 ∷ 15 ∷ []
 unfolding groups encode halvings
 image = refl
+
+-- the numbers of a fresh machine of RLEN 64 and MLEN 128, 256 register bytes, before what follows
+abbrev smallest : List ℕ → List ℕ
+smallest t = 1 ∷ 6 ∷ 7 ∷ 0 ∷ 0 ∷ 0 ∷ 0 ∷ 0 ∷ 0 ∷ t
+
+-- no run; one at each end of the registers; two runs; the same cut short after each of its parts; and with a byte behind it
+abbrev twoRuns : List ℕ
+twoRuns = smallest (2 ∷ 0 ∷ 1 ∷ 9 ∷ 1 ∷ 1 ∷ 9 ∷ [])
+
+checked : checkImage (smallest (0 ∷ [])) ∷ checkImage (smallest (1 ∷ 0 ∷ 1 ∷ 9 ∷ [])) ∷ checkImage (smallest (1 ∷ 255 ∷ 1 ∷ 1 ∷ 9 ∷ []))
+    ∷ checkImage twoRuns ∷ checkImage (take 9 twoRuns) ∷ checkImage (take 10 twoRuns) ∷ checkImage (take 11 twoRuns) ∷ checkImage (take 15 twoRuns)
+    ∷ checkImage (smallest (2 ∷ 0 ∷ 1 ∷ 9 ∷ 1 ∷ 1 ∷ 9 ∷ 0 ∷ [])) ∷ []
+    ≡ Done ∷ Done ∷ Done ∷ Done ∷ Damaged 9 ∷ Damaged 10 ∷ Damaged 11 ∷ Damaged 15 ∷ Damaged 16 ∷ []
+unfolding checkImage parse readNumber isAmong nonempty imageFormat runsFormat
+checked = refl
+
+-- another version; MLEN not above RLEN; an mtype that cannot arise; a tile size above its maximum; a run that touches the one before it; a run
+-- without a byte; a gap that ends past the registers, seen in its second byte; one that leaves no room for the second run, seen in its first
+damaged : checkImage (2 ∷ []) ∷ checkImage (1 ∷ 7 ∷ 7 ∷ []) ∷ checkImage (1 ∷ 6 ∷ 7 ∷ 3 ∷ []) ∷ checkImage (1 ∷ 6 ∷ 7 ∷ 0 ∷ 3 ∷ [])
+    ∷ checkImage (smallest (2 ∷ 0 ∷ 1 ∷ 9 ∷ 0 ∷ 1 ∷ 9 ∷ [])) ∷ checkImage (smallest (1 ∷ 0 ∷ 0 ∷ []))
+    ∷ checkImage (smallest (1 ∷ 128 ∷ 2 ∷ 1 ∷ 9 ∷ [])) ∷ checkImage (smallest (2 ∷ 254 ∷ 1 ∷ 1 ∷ 9 ∷ [])) ∷ []
+    ≡ Damaged 0 ∷ Damaged 2 ∷ Damaged 3 ∷ Damaged 4 ∷ Damaged 13 ∷ Damaged 11 ∷ Damaged 11 ∷ Damaged 10 ∷ []
+unfolding checkImage parse readNumber isAmong nonempty imageFormat runsFormat
+damaged = refl
+
+-- buffers that aren't of the machine's size stay as they are
+unfit : readImage twoRuns (5 ∷ []) (1 ∷ 0 ∷ []) .marks ≡ 1 ∷ 0 ∷ []
+unfolding readImage parse readNumber isAmong nonempty imageFormat runsFormat
+unfit = refl

@@ -33,30 +33,34 @@ module _ (m : Machine) (registers marks : List ℕ) where
         let k = sound-is m registers marks s in
         omega (arith, k .state .marks-length, permitted-bounds (m .rlen) (m .mlen) (k .lengths))
 
-    module _ (count size : ℕ) (t : TallyOk marks count size) where
+    module _ (count : ℕ) (is : count ≡ length (runs (cellsOf registers marks))) where
       abbrev numbersOf : List ℕ
       numbersOf = encodeAll (fields (headerOf m) ++ (count ∷ [])) []
 
       abbrev runsOf : List ℕ
       runsOf = runsBytes (runs (cellsOf registers marks))
 
-      pub image-parts : imageOf m registers marks ≡ numbersOf ++ runsOf
+      image-parts : imageOf m registers marks ≡ numbersOf ++ runsOf
       unfolding imageOf
       image-parts =
-          ap (λ (x : ℕ). encodeAll (fields (headerOf m)) (encode x ++ runsOf)) (sym (t .counted registers same-size))
+          ap (λ (x : ℕ). encodeAll (fields (headerOf m)) (encode x ++ runsOf)) (sym is)
           ∙ sym (all-last (fields (headerOf m)) count runsOf)
 
       pub size-is : length (imageOf m registers marks) ≡ length numbersOf + length runsOf
       size-is = ap length image-parts ∙ length-append numbersOf runsOf
-
-      pub image-size-is : (n : ℕ) → n ≡ length numbersOf → n + size ≡ length (imageOf m registers marks)
-      image-size-is n e = omega (arith, e, t .sized registers same-size, size-is)
 
       pub image-put : (room room₁ room₂ : List ℕ) (at : ℕ) → room₁ ≡ sets room 0 numbersOf → at ≡ length numbersOf → room₂ ≡ sets room₁ at runsOf
           → room₂ ≡ sets room 0 (imageOf m registers marks)
       image-put room room₁ room₂ at e₁ ea e₂ =
           e₂ ∙ ap (λ (x : List ℕ). sets x at runsOf) e₁ ∙ ap (λ (x : ℕ). sets (sets room 0 numbersOf) x runsOf) {x = at} {y = 0 + length numbersOf} (omega (arith, ea))
           ∙ sym (sets-append numbersOf runsOf room 0) ∙ ap (sets room 0) (sym image-parts)
+
+    module _ (count size : ℕ) (t : TallyOk marks count size) where
+      pub count-is : count ≡ length (runs (cellsOf registers marks))
+      count-is = t .counted registers same-size
+
+      pub image-size-is : (n : ℕ) → n ≡ length (encodeAll (fields (headerOf m) ++ (count ∷ [])) []) → n + size ≡ length (imageOf m registers marks)
+      image-size-is n e = omega (arith, e, t .sized registers same-size, size-is count count-is)
 
   -- ---- what is returned
 

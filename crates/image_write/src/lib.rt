@@ -16,6 +16,7 @@ ghost use lib.ListN.{length};
 ghost use lib.Seq.{sets};
 ghost use Rattle.format.specs.Numbers.{encodeAll};
 ghost use Rattle.machine.specs.Faults.{sound};
+ghost use Rattle.image.specs.Cells.{cellsOf, runs};
 ghost use Rattle.image.specs.Images.{exponent, fields, headerOf, imageOf};
 ghost use Rattle.image.specs.Writing.{sizeImage, sizedAs, writeImage, writtenAs};
 
@@ -76,25 +77,34 @@ fn put_header(room: &mut [u8], m: Machine, count: u64) -> usize
     put_numbers(room, 0, &numbers)
 }
 
-// The length of the image of a machine that is not at fault.
-fn size_of(m: Machine, registers: &[u8], marks: &[u8]) -> usize
+// The number of runs of a machine, and the length of its image.
+pub struct Measure {
+    pub count: u64,
+    pub size: usize,
+}
+
+// Measures the image of a machine that is not at fault.
+fn measure_of(m: Machine, registers: &[u8], marks: &[u8]) -> Measure
     requires { ⌜ sound m (now registers) (now marks) ≡ true ⌝ }
-    ensures { λ r. ⌜ r ≡ length (imageOf m (now (registers .entry)) (now (marks .entry))) ⌝ }
+    ensures { λ r. ⌜ r .count ≡ length (runs (cellsOf (now (registers .entry)) (now (marks .entry)))) ⌝ }
+    ensures { λ r. ⌜ r .size ≡ length (imageOf m (now (registers .entry)) (now (marks .entry))) ⌝ }
 {
     let tally = tally_of(marks);
     let count = tally.runs;
     let bytes = tally.bytes;
-    header_size(m, count) + bytes
+    Measure {
+        count: count,
+        size: header_size(m, count) + bytes,
+    }
 }
 
-// Writes the image of a machine that is not at fault into room that it fits.
-fn put_image(m: Machine, registers: &[u8], marks: &[u8], room: &mut [u8])
+// Writes the image of a machine that is not at fault, with so many runs, into room that it fits.
+fn put_image(m: Machine, count: u64, registers: &[u8], marks: &[u8], room: &mut [u8])
     requires { ⌜ sound m (now registers) (now marks) ≡ true ⌝ }
+    requires { ⌜ count ≡ length (runs (cellsOf (now registers) (now marks))) ⌝ }
     requires { ⌜ length (imageOf m (now registers) (now marks)) ≤ length (now room) ⌝ }
     ensures { λ _. ⌜ now (room .exit) ≡ sets (now (room .entry)) 0 (imageOf m (now (registers .entry)) (now (marks .entry))) ⌝ }
 {
-    let tally = tally_of(marks);
-    let count = tally.runs;
     let at = put_header(room, m, count);
     put_runs(room, at, registers, marks);
 }
@@ -109,9 +119,10 @@ pub fn image_size(m: Machine, registers: &[u8], marks: &[u8]) -> Sized
             size: 0,
         };
     }
+    let measure = measure_of(m, registers, marks);
     Sized {
         answer: Imaged::Done,
-        size: size_of(m, registers, marks) as u64,
+        size: measure.size as u64,
     }
 }
 
@@ -125,14 +136,16 @@ pub fn write_image(m: Machine, registers: &[u8], marks: &[u8], room: &mut [u8]) 
             length: 0,
         };
     }
-    let size = size_of(m, registers, marks);
+    let measure = measure_of(m, registers, marks);
+    let count = measure.count;
+    let size = measure.size;
     if room.len() < size {
         return Written {
             answer: Imaged::NoRoom,
             length: 0,
         };
     }
-    put_image(m, registers, marks, room);
+    put_image(m, count, registers, marks, room);
     Written {
         answer: Imaged::Done,
         length: size as u64,

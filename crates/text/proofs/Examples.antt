@@ -2,8 +2,8 @@
 use Prim.Native.Nat.{ℕ}
 use mathlib.Core.Path.{_≡_, refl}
 use mathlib.Core.List.{List, [], _∷_, map}
-use mathlib.Core.Option.{Option, none, some}
-use lib.IntN.{ℤ, pos, negsuc}
+use mathlib.Core.Option.{none, some}
+use lib.IntN.{pos, negsuc}
 use lib.ListN.{replicate}
 use Rattle.width.specs.Reduce.{reduce}
 use Rattle.machine.specs.Setting.{sew}

@@ -19,8 +19,8 @@ returns c =
     let s : sound (a .m) R M ≡ false = sym (c .before .is-sound .ensures) ∙ not-true (c .before .is-sound .result) (c .if1 .taken) in
     size-refused (a .m) R M s
 
-size-of-requires : tie.Need-size-of-requires
-size-of-requires c κs =
+measure-of-requires : tie.Need-measure-of-requires
+measure-of-requires c κs =
     let a = c .before .before .before .before .args in
     let R = a .registers .now in
     let M = a .marks .now in
@@ -33,7 +33,7 @@ returns-2 c =
     let R = a .registers .now in
     let M = a .marks .now in
     let s : sound (a .m) R M ≡ true = sym (c .before .before .is-sound .ensures) ∙ not-false (c .before .before .is-sound .result) (c .before .if1 .left) in
-    size-done (a .m) R M s (c .size-of .result) (c .size-of .ensures)
+    size-done (a .m) R M s (c .measure-of .result .size) (c .measure-of .ensures .1)
 
 pub image-size-spec : {M : Type 1} → statement M
-image-size-spec = tie.close (tie.spec is-sound-requires returns size-of-requires returns-2)
+image-size-spec = tie.close (tie.spec is-sound-requires returns measure-of-requires returns-2)

@@ -20,8 +20,8 @@ returns c =
     let s : sound (a .m) R M ≡ false = sym (c .before .is-sound .ensures) ∙ not-true (c .before .is-sound .result) (c .if1 .taken) in
     write-refused (a .m) R M (a .room .now) s
 
-size-of-requires : tie.Need-size-of-requires
-size-of-requires c κs =
+measure-of-requires : tie.Need-measure-of-requires
+measure-of-requires c κs =
     let a = c .before .before .before .before .before .args in
     let R = a .registers .now in
     let M = a .marks .now in
@@ -34,8 +34,8 @@ returns-2 c =
     let R = a .registers .now in
     let M = a .marks .now in
     let s : sound (a .m) R M ≡ true = sym (c .before .before .before .is-sound .ensures) ∙ not-false (c .before .before .before .is-sound .result) (c .before .before .if1 .left) in
-    let z = c .before .size-of in
-    write-short (a .m) R M (a .room .now) s (z .result) (z .ensures) (c .if2 .taken)
+    let z = c .before .measure-of in
+    write-short (a .m) R M (a .room .now) s (z .result .size) (z .ensures .1) (c .if2 .taken)
 
 put-image-requires : tie.Need-put-image-requires
 put-image-requires c κs =
@@ -43,8 +43,8 @@ put-image-requires c κs =
     let R = a .registers .now in
     let M = a .marks .now in
     let s : sound (a .m) R M ≡ true = sym (c .before .before .before .before .is-sound .ensures) ∙ not-false (c .before .before .before .before .is-sound .result) (c .before .before .before .if1 .left) in
-    let z = c .before .before .size-of in
-    (s, omega (arith, z .ensures, c .before .if2 .left))
+    let z = c .before .before .measure-of in
+    (s, (z .ensures .0, omega (arith, z .ensures .1, c .before .if2 .left)))
 
 same-length : tie.Need-same-length
 same-length c = search needs
@@ -55,9 +55,9 @@ returns-3 c =
     let R = a .registers .now in
     let M = a .marks .now in
     let s : sound (a .m) R M ≡ true = sym (c .before .before .before .before .before .before .before .is-sound .ensures) ∙ not-false (c .before .before .before .before .before .before .before .is-sound .result) (c .before .before .before .before .before .before .if1 .left) in
-    let z = c .before .before .before .before .before .size-of in
+    let z = c .before .before .before .before .before .measure-of in
     let p = c .before .before .put-image in
-    write-done (a .m) R M (a .room .now) s (z .result) (z .ensures) (omega (arith, c .before .before .before .before .if2 .left)) (p .last .1 .1 .1 .0) (p .ensures)
+    write-done (a .m) R M (a .room .now) s (z .result .size) (z .ensures .1) (omega (arith, c .before .before .before .before .if2 .left)) (p .last .1 .1 .1 .1 .0) (p .ensures)
 
 pub write-image-spec : {M : Type 1} → statement M
 write-image-spec =
@@ -65,7 +65,7 @@ write-image-spec =
     (tie.spec
     is-sound-requires
     returns
-    size-of-requires
+    measure-of-requires
     returns-2
     put-image-requires
     same-length

@@ -1,9 +1,9 @@
--- `image_write::size_of` meets its contract.
+-- `image_write::measure_of` meets its contract.
 use native.Mathlib.Omega.{arith}
 use borrow.Author.Needs.{needs}
-use Rattle.image_write.proofs.WriteLaws.{two-valued, few-marks, image-size-is}
-use Rattle.image_write.proofs.size_of.Statement.{statement}
-use Rattle.image_write.proofs.size_of.Tie as tie
+use Rattle.image_write.proofs.WriteLaws.{two-valued, few-marks, count-is, image-size-is}
+use Rattle.image_write.proofs.measure_of.Statement.{statement}
+use Rattle.image_write.proofs.measure_of.Tie as tie
 
 tally-of-requires : tie.Need-tally-of-requires
 tally-of-requires c κs =
@@ -17,8 +17,8 @@ tally-of-requires c κs =
 header-size-requires : tie.Need-header-size-requires
 header-size-requires c κs = search needs
 
-add-result : tie.Need-add-result
-add-result c =
+add-t8 : tie.Need-add-t8
+add-t8 c =
     let st = c .before .before .before .before in
     let a = st .args in
     let s = st .pre in
@@ -35,7 +35,7 @@ returns c =
     let R = a .registers .now in
     let M = a .marks .now in
     let t = c .before .tally-of in
-    image-size-is (a .m) R M s (t .result .runs) (t .result .bytes) (t .ensures) (c .header-size .result) (c .header-size .ensures .0)
+    (count-is (a .m) R M s (t .result .runs) (t .result .bytes) (t .ensures), image-size-is (a .m) R M s (t .result .runs) (t .result .bytes) (t .ensures) (c .header-size .result) (c .header-size .ensures .0))
 
-pub size-of-spec : {M : Type 1} → statement M
-size-of-spec = tie.close (tie.spec tally-of-requires header-size-requires add-result returns)
+pub measure-of-spec : {M : Type 1} → statement M
+measure-of-spec = tie.close (tie.spec tally-of-requires header-size-requires add-t8 returns)
