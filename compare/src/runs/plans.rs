@@ -6,7 +6,7 @@ use crate::states::{
     any_machine, any_scalar, bench_of, lengths, put_bench_fault, put_seal, wrapping_stride, SIZES,
     WIDTHS, WILD_STRIDES,
 };
-use model::{maximum, Machine, Matrix, Plan, Size, A_TRANSPOSED, KINDS, PRODUCT};
+use model::{maximum, Machine, Matrix, Plan, Size, KINDS, PRODUCT};
 
 pub const UNKNOWN_KINDS: [u64; 6] = [2, 3, 256, 1 << 32, 1 << 63, u64::MAX];
 
