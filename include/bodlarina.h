@@ -13,7 +13,7 @@
  *     not even at length 0: then give the address of any byte;
  *   - the buffers of one call do not overlap.
  * No alignment is asked. Calls on different buffers may run at once, in any number of threads; calls that share a buffer, in turn.
- * The deepest call, bodlarina_run, was measured to use 4,040 bytes of stack (x86-64, the largest machine); tests/library.c measures
+ * The deepest call, bodlarina_run, was measured to use 4,072 bytes of stack (x86-64, the largest machine); tests/library.c measures
  * it again and fails above 8 KiB.
  *
  * Every function but bodlarina_run_turns, bodlarina_run_steps and bodlarina_version, which return a number, returns a result: the
@@ -55,7 +55,8 @@ uint64_t bodlarina_version(void);
 
 /* Bits 15..0 of a result are the answer, bits 31..16 the row and bits 47..32 the column that answer 5 names.
  * Row and column are 0 with every other answer. So a call is done exactly when its result is 0; but a result of the functions on
- * images has a length in bits 63..16 where it is done, and the place that answer 15 names: there test BODLARINA_ANSWER(result).
+ * images has in bits 63..16 the length of an image that was sized or written, or the place that answer 15 names: there test
+ * BODLARINA_ANSWER(result).
  * bodlarina_answer_text, below, has a sentence for each. */
 #define BODLARINA_ANSWER(result) ((unsigned)((result) & 0xffffu))
 #define BODLARINA_ROW(result) ((unsigned)(((result) >> 16) & 0xffffu))

@@ -1,4 +1,5 @@
--- A host's buffers, the calls that it makes of the C functions (include/bodlarina.h) and what it does between them, and what each leaves.
+-- A host's buffers, the calls that it makes of the C functions on machines and runs (include/bodlarina.h; those on images are not among
+-- them), what it does between them, and what each leaves.
 use mathlib.Core.List.{List, [], _∷_}
 use Prim.Native.Nat.{ℕ}
 use Rattle.run.specs.declared.Plan.{Plan}
