@@ -622,28 +622,12 @@ fn handed_at(run: Run) -> Handed
     match place {
         Place::AtType => hand_type(plan),
         Place::AtM { row } => hand_setting(2, plan.m - row),
-        Place::AtN { row: _, column } => hand_setting(6, plan.n - column),
-        Place::AtClear { row: _, column: _ } => hand_clear(plan),
-        Place::AtK {
-            row: _,
-            column: _,
-            term,
-        } => hand_setting(4, plan.k - term),
-        Place::AtA {
-            row,
-            column: _,
-            term,
-        } => hand_load_a(plan, row, term),
-        Place::AtB {
-            row: _,
-            column,
-            term,
-        } => hand_load_b(plan, term, column),
-        Place::AtMultiply {
-            row: _,
-            column: _,
-            term: _,
-        } => hand_multiply(plan),
+        Place::AtN { column, .. } => hand_setting(6, plan.n - column),
+        Place::AtClear { .. } => hand_clear(plan),
+        Place::AtK { term, .. } => hand_setting(4, plan.k - term),
+        Place::AtA { row, term, .. } => hand_load_a(plan, row, term),
+        Place::AtB { column, term, .. } => hand_load_b(plan, term, column),
+        Place::AtMultiply { .. } => hand_multiply(plan),
         Place::AtStore { row, column } => hand_store(plan, row, column),
         Place::AtEnd => plain_step(0),
     }
@@ -656,30 +640,14 @@ fn is_end(place: Place) -> bool
 {
     match place {
         Place::AtType => false,
-        Place::AtM { row: _ } => false,
-        Place::AtN { row: _, column: _ } => false,
-        Place::AtClear { row: _, column: _ } => false,
-        Place::AtK {
-            row: _,
-            column: _,
-            term: _,
-        } => false,
-        Place::AtA {
-            row: _,
-            column: _,
-            term: _,
-        } => false,
-        Place::AtB {
-            row: _,
-            column: _,
-            term: _,
-        } => false,
-        Place::AtMultiply {
-            row: _,
-            column: _,
-            term: _,
-        } => false,
-        Place::AtStore { row: _, column: _ } => false,
+        Place::AtM { .. } => false,
+        Place::AtN { .. } => false,
+        Place::AtClear { .. } => false,
+        Place::AtK { .. } => false,
+        Place::AtA { .. } => false,
+        Place::AtB { .. } => false,
+        Place::AtMultiply { .. } => false,
+        Place::AtStore { .. } => false,
         Place::AtEnd => true,
     }
 }

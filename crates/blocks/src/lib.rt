@@ -1,9 +1,6 @@
 // Numbers as a host in C passes them, in blocks of bytes. The layout is that of include/bodlarina.h; what lies where is defined in specs/.
 use machine::Answer;
 use machine::Machine;
-
-pub mod runs; // a run and a step
-
 ghost use mathlib.Core.Path.{_≡_};
 ghost use Prim.Native.Nat.{_+_, _≤_, _<_};
 ghost use lib.ListN.{length};
@@ -83,21 +80,6 @@ pub fn put_machine(block: &mut [u8], m: Machine)
 pub fn packed(answer: Answer) -> u64
     ensures { λ r. ⌜ r ≡ packed (reply answer) ⌝ }
 {
-    match answer {
-        Answer::Done => 0,
-        Answer::IllegalWord => 1,
-        Answer::IllegalType => 2,
-        Answer::BadWidth => 3,
-        Answer::TileTooLarge => 4,
-        Answer::Unwritten { row, column } => {
-            5 + row % 65536 * 65536 + column % 65536 * 4294967296
-        }
-        Answer::OutsideMemory => 6,
-        Answer::SealedByte => 7,
-        Answer::BadArguments => 8,
-        Answer::Overlap => 9,
-        Answer::WrongOpcode => 10,
-        Answer::LeftOutWord => 11,
-        Answer::WrongRegister => 12,
-    }
+    let reply = machine::reply_of(answer);
+    reply.number + reply.row % 65536 * 65536 + reply.column % 65536 * 4294967296
 }

@@ -14,7 +14,8 @@ use Rattle.machine.specs.Geometry.{Bench, benchOf}
 use Rattle.machine.specs.Starting.{startMachine, startedAs}
 use Rattle.machine.specs.Step.{steppedAs}
 use Rattle.blocks.specs.Blocks.{machineOf, putMachine, packed}
-use Rattle.bodlarina.specs.Host.{startedOut, shownStart, hostStart, steppedOut, stepBlock, shownStep, hostStep}
+use Rattle.scalar_block.specs.ScalarBlock.{stepBlock}
+use Rattle.bodlarina.specs.Host.{startedOut, shownStart, hostStart, steppedOut, shownStep, hostStep}
 
 -- ---- starting
 

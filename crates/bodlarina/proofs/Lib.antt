@@ -1,5 +1,3 @@
--- Only the scalars that a word names count.
-pub mod NamedScalars
 -- For code: what each return of an exported function has to show.
 pub mod HostLaws
 pub mod RunLaws

@@ -14,7 +14,8 @@ use Rattle.machine.specs.declared.Answer.the-variants.{Done, IllegalWord, Illeg
 use Rattle.machine.specs.declared.Matrix.{Matrix}
 use Rattle.machine.specs.declared.Matrix.the-variants.{MatrixA, MatrixB, MatrixC}
 use Rattle.machine.specs.Tests.{first, allOf}
-use Rattle.machine.specs.Answers.{Reply, reply, number, isDone, Check, verdict}
+use Rattle.machine.specs.declared.Reply.{Reply}
+use Rattle.machine.specs.Answers.{reply, number, isDone, Check, verdict}
 use Rattle.machine.specs.Geometry.{elen, permitted, registerBytes, Parameters, parameters, State, Bench}
 use Rattle.machine.specs.Setting.{newType, smaller}
 use Rattle.machine.specs.Starting.{sealEnds}
@@ -25,6 +26,7 @@ use Rattle.machine.specs.Faults.{sound, soundBench}
 use Rattle.machine.specs.Step
 use Rattle.machine.specs.Step.{outcome, stepBy, step, stepChecks, given, meant}
 use Rattle.machine.proofs.TestLaws.{every-each}
+use Rattle.machine.proofs.AnswerLaws.{number-small}
 use Rattle.machine.proofs.StepLaws.{permitted-bounds}
 use Rattle.blocks.specs.Blocks.{packed}
 use Rattle.bodlarina.specs.Theorems.{StepPacksWhole}
@@ -43,22 +45,7 @@ first-le (suc n) p = go (ltb (first n p) n) (p n) (first-le n p)
 abbrev Small : Reply → Type 0
 Small a = (a .row ≤ 64) × (a .column ≤ 64)
 
-number-small : (a : Answer) → number a < 13
-number-small Done = omega arith
-number-small IllegalWord = omega arith
-number-small IllegalType = omega arith
-number-small BadWidth = omega arith
-number-small TileTooLarge = omega arith
-number-small (Unwritten row column) = omega arith
-number-small OutsideMemory = omega arith
-number-small SealedByte = omega arith
-number-small BadArguments = omega arith
-number-small Overlap = omega arith
-number-small WrongOpcode = omega arith
-number-small LeftOutWord = omega arith
-number-small WrongRegister = omega arith
-
-whole : (a : Reply) → a .number < 13 → Small a → (packed a % 2 ^ 16 ≡ a .number) × (packed a / 2 ^ 16 % 2 ^ 16 ≡ a .row) × (packed a / 2 ^ 32 ≡ a .column)
+whole : (a : Reply) → a .number < 2 ^ 16 → Small a → (packed a % 2 ^ 16 ≡ a .number) × (packed a / 2 ^ 16 % 2 ^ 16 ≡ a .row) × (packed a / 2 ^ 32 ≡ a .column)
 whole a n s = (omega arith, omega arith, omega arith)
 
 -- ---- checks whose answers are small
@@ -132,7 +119,7 @@ sizes-small B h =
     let s = leb-true (m .«tile_n») (m .rlen / 8) (t .1 .1 .1 .1 .1 .1 .0) in
     (omega arith, omega arith, omega arith)
 
-answer-small : (M : Parameters) (word : ℕ) (xs : List ℕ) (B : Bench) → let a = outcome M (decode word) xs B .answer in (a .number < 13) × Small a
+answer-small : (M : Parameters) (word : ℕ) (xs : List ℕ) (B : Bench) → let a = outcome M (decode word) xs B .answer in (a .number < 2 ^ 16) × Small a
 unfolding outcome
 answer-small M word xs B = last (isDone (verdict cs)) (go (soundBench B) refl)
   where
@@ -149,7 +136,7 @@ answer-small M word xs B = last (isDone (verdict cs)) (go (soundBench B) refl)
     go false e = rw e zeros
 
     last : (t : Bool) → Small (reply (verdict cs))
-        → let a = cond t (Step.carriedOut M (decode word) xs B) (Step.refused M (decode word) xs B (verdict cs)) .answer in (a .number < 13) × Small a
+        → let a = cond t (Step.carriedOut M (decode word) xs B) (Step.refused M (decode word) xs B (verdict cs)) .answer in (a .number < 2 ^ 16) × Small a
     last true h = (omega arith, zeros)
     last false h = (number-small (verdict cs), h)
 

@@ -10,7 +10,8 @@ use lib.ListN.{length, replicate}
 use lib.Dec.{eqb}
 use Rattle.machine.specs.declared.Answer.the-variants.{Done, BadArguments}
 use Rattle.machine.specs.Tests.{every}
-use Rattle.machine.specs.Answers.{Reply, reply, done, verdict}
+use Rattle.machine.specs.declared.Reply.{Reply}
+use Rattle.machine.specs.Answers.{reply, done, verdict}
 use Rattle.machine.specs.Geometry.{Bench, benchOf}
 use Rattle.machine.specs.Setting.{smaller}
 use Rattle.machine.specs.Starting.{startable, startMachine, freshMachine, noMachine}
@@ -28,12 +29,15 @@ use Rattle.run.proofs.HandedLaws.{askWith}
 use Rattle.run.proofs.RefusalLaws.{turn-refused}
 use Rattle.turn.proofs.TurnLaws.{turn-zero}
 use Rattle.whole.proofs.WholeLaws.{whole-refused}
-use Rattle.blocks.specs.Blocks.{machineOf, putMachine, valuesOf, putValues, putNumbers, runOf, putRun, runFit, putHanded, packed}
-use Rattle.bodlarina.specs.Host.{HostStarted, startedOut, shownStart, hostStart, HostStepped, steppedOut, stepBlock, shownStep, hostStep}
+use Rattle.blocks.specs.Blocks.{machineOf, putMachine, valuesOf, putValues, putNumbers, packed}
+use Rattle.run_blocks.specs.RunBlocks.{runOf, putRun, runFit, putHanded}
+use Rattle.scalar_block.specs.ScalarBlock.{stepBlock}
+use Rattle.bodlarina.specs.Host.{HostStarted, startedOut, shownStart, hostStart, HostStepped, steppedOut, shownStep, hostStep}
 use Rattle.bodlarina.specs.Host.{HostRunStarted, runStartedOut, shownRunStart, hostRunStart, HostNext, nextOut, shownNext, hostNext}
 use Rattle.bodlarina.specs.Host.{HostTurned, turnedOut, shownRunning, heldRunning, turnBlocks, shownTurn, hostTurn, shownTurns, hostTurns, HostRan, ranOut, shownRun, hostRun}
 use Rattle.bodlarina.specs.Theorems.{Bytes, StartRefusalChangesNoByte, StepRefusalChangesNoByte, RunStartRefusalChangesNoByte, NextRefusalChangesNoByte, TurnRefusalChangesNoByte, NoTurnChangesNoByte, RunRefusalChangesNoByte}
-use Rattle.blocks.proofs.BlockLaws.{putMachine-same, putValues-same, putRun-same}
+use Rattle.blocks.proofs.BlockLaws.{putMachine-same, putValues-same}
+use Rattle.run_blocks.proofs.RunBlockLaws.{putRun-same}
 
 pub start-refusal : StartRefusalChangesNoByte
 unfolding hostStart startMachine

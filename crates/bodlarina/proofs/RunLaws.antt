@@ -24,7 +24,8 @@ use Rattle.run.specs.Start.{startRun, startedAs}
 use Rattle.run.specs.Turn.{ask, asked, askedAs, Running, running, turnOutcome, turnedAs, turns, takenAs}
 use Rattle.run.specs.Whole.{whole, finishedAs}
 use Rattle.asking.specs.Steps.{stepsIn}
-use Rattle.blocks.specs.Blocks.{machineOf, putMachine, spotIn, spotOf, placeOf, sameSpot, runFit, runOf, putRun, putHanded, putNumbers, packed}
+use Rattle.blocks.specs.Blocks.{machineOf, putMachine, putNumbers, packed}
+use Rattle.run_blocks.specs.RunBlocks.{spotIn, spotOf, placeOf, sameSpot, runFit, runOf, putRun, putHanded}
 use Rattle.bodlarina.specs.Host.{runStartedOut, shownRunStart, hostRunStart, nextOut, shownNext, hostNext, hostRunSteps, turnBlocks, heldRunning, turnedOut, shownTurn, hostTurn, shownTurns, hostTurns, ranOut, shownRun, hostRun}
 
 pub fit-length : (block : List ℕ) → runFit block ≡ true → length block ≡ 144

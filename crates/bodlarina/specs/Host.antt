@@ -10,13 +10,15 @@ use Rattle.machine.specs.Answers.{reply, done}
 use Rattle.machine.specs.Geometry.{Bench, benchOf}
 use Rattle.machine.specs.Setting.{smaller}
 use Rattle.machine.specs.Starting.{StartOutcome, startMachine}
-use Rattle.machine.specs.Step.{Outcome, step}
+use Rattle.machine.specs.Step.{Outcome}
 use Rattle.run.specs.declared.Plan.{Plan}
 use Rattle.run.specs.Start.{RunStart, startRun}
 use Rattle.run.specs.Turn.{ask, AskOutcome, asked, Running, running, TurnOutcome, turnOutcome, TurnsOutcome, turns}
 use Rattle.run.specs.Whole.{WholeOutcome, whole}
 use Rattle.asking.specs.Steps.{stepsIn}
-use Rattle.blocks.specs.Blocks.{machineBytes, machineOf, putMachine, scalarBytes, valuesOf, putValues, runBytes, runOf, putRun, runFit, stepBytes, putHanded, putNumbers, packed}
+use Rattle.blocks.specs.Blocks.{machineBytes, machineOf, putMachine, scalarBytes, putNumbers, packed}
+use Rattle.scalar_block.specs.ScalarBlock.{stepBlock}
+use Rattle.run_blocks.specs.RunBlocks.{runBytes, runOf, putRun, runFit, stepBytes, putHanded}
 
 -- ---- the version
 
@@ -68,11 +70,6 @@ steppedOut result machine registers marks scalars memory = record {
   scalars = scalars;
   memory = memory;
 }
-
--- a step on the scalars' block: what it leaves of the scalars is written over the block
-abbrev pub stepBlock : ℕ → List ℕ → Bench → Outcome
-stepBlock word scalars B =
-    let o = step word (valuesOf scalars) B in record { answer = o .answer; bench = o .bench; scalars = putValues (o .scalars) scalars }
 
 -- a step as the host sees it: what it leaves of the machine's numbers is written over the block
 abbrev pub shownStep : List ℕ → Outcome → HostStepped

@@ -2,14 +2,14 @@
 use blocks::machine_of;
 use blocks::packed;
 use blocks::put_machine;
-use blocks::runs::is_fit;
-use blocks::runs::put_handed;
-use blocks::runs::put_run;
-use blocks::runs::run_of;
 use blocks::write8;
 use machine::Answer;
 use run::Layout;
 use run::Plan;
+use run_blocks::is_fit;
+use run_blocks::put_handed;
+use run_blocks::put_run;
+use run_blocks::run_of;
 ghost use mathlib.Core.Path.{_≡_};
 ghost use Rattle.bodlarina.specs.Host.{planIn, runStartedOut, hostRunStart, nextOut, hostNext, hostRunSteps, turnedOut, hostTurn, hostTurns, ranOut, hostRun};
 
@@ -100,7 +100,7 @@ pub extern "C" fn bodlarina_run_start(
     let held = machine_of(machine);
     let started = starting::start(plan, held, registers, marks, memory);
     let answer = started.answer;
-    if !tile::is_done(answer) {
+    if !machine::is_done(answer) {
         return packed(answer);
     }
     let fresh = started.run;
@@ -122,7 +122,7 @@ pub extern "C" fn bodlarina_run_next(run: &mut [u8], step: &mut [u8]) -> u64
     let held = run_of(run);
     let asked = asking::next(held);
     let answer = asked.answer;
-    if !tile::is_done(answer) {
+    if !machine::is_done(answer) {
         return packed(answer);
     }
     let handed = asked.handed;
@@ -248,9 +248,9 @@ pub extern "C" fn bodlarina_run(
         c_stride,
     );
     let held = machine_of(machine);
-    let finished = whole::product(plan, held, registers, marks, memory);
+    let finished = whole::whole(plan, held, registers, marks, memory);
     let answer = finished.answer;
-    if !tile::is_done(answer) {
+    if !machine::is_done(answer) {
         return packed(answer);
     }
     let after = finished.machine;

@@ -37,9 +37,11 @@ use Rattle.run.specs.Turn.{runShape, soundRun, handsOut, moved, Running, turn, 
 use Rattle.run.proofs.HandedLaws.{turnWith}
 use Rattle.asking.specs.Parts.{placed}
 use Rattle.asking.proofs.AskingLaws.{run-numbered, run-placed, run-sizes, at-m, at-store, at-multiply, moved-sound}
-use Rattle.blocks.specs.declared.runs.Spot.{Spot}
-use Rattle.blocks.specs.Blocks.{machineOf, planOf, planNumbers, spotOf, spotIn, spotNumbers, placeOf, sameSpot, runOf, runFit}
-use Rattle.blocks.proofs.BlockLaws.{Words, RunWords}
+use Rattle.run_blocks.specs.declared.Spot.{Spot}
+use Rattle.blocks.specs.Blocks.{machineOf}
+use Rattle.run_blocks.specs.RunBlocks.{planOf, planNumbers, spotOf, spotIn, spotNumbers, placeOf, sameSpot, runOf, runFit}
+use Rattle.blocks.proofs.BlockLaws.{Words}
+use Rattle.run_blocks.proofs.RunBlockLaws.{RunWords}
 use Rattle.bodlarina.specs.Theorems.{Bytes}
 use Rattle.calls.specs.Composed.{PlanWords}
 

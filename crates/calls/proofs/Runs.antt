@@ -11,7 +11,8 @@ use borrow.Author.Tests.{eqb-true, eq-eqb}
 use Rattle.machine.specs.declared.Answer.{Answer}
 use Rattle.machine.specs.declared.Answer.the-variants.{Done, OutsideMemory, BadArguments, Overlap}
 use Rattle.machine.specs.Tests.{every}
-use Rattle.machine.specs.Answers.{Reply, reply, number, done, verdict, _otherwise_}
+use Rattle.machine.specs.declared.Reply.{Reply}
+use Rattle.machine.specs.Answers.{reply, number, done, verdict, _otherwise_}
 use Rattle.machine.specs.Geometry.{Bench, parameters}
 use Rattle.machine.specs.Setting.{smaller}
 use Rattle.machine.specs.Faults.{sound}
@@ -34,8 +35,10 @@ use Rattle.run.proofs.Demand1.{run-start-changes-nothing}
 use Rattle.run.proofs.Demand3.{demand-3-ours}
 use Rattle.run.proofs.Whole.{whole-delivers}
 use Rattle.turn.proofs.TurnLaws.{turn-zero}
-use Rattle.blocks.specs.Blocks.{putMachine, runFit, runOf, putRun, putNumbers, packed}
-use Rattle.blocks.proofs.BlockLaws.{RunWords, putMachine-same, runOf-putRun, runFit-putRun}
+use Rattle.blocks.specs.Blocks.{putMachine, putNumbers, packed}
+use Rattle.run_blocks.specs.RunBlocks.{runFit, runOf, putRun}
+use Rattle.blocks.proofs.BlockLaws.{putMachine-same}
+use Rattle.run_blocks.proofs.RunBlockLaws.{RunWords, runOf-putRun, runFit-putRun}
 use Rattle.bodlarina.specs.Host.{runStartedOut, shownRunStart, hostRunStart, nextOut, shownNext, hostNext, turnBlocks, ranOut, shownRun, hostRun}
 use Rattle.bodlarina.specs.Theorems.{Bytes}
 use Rattle.bodlarina.proofs.RunLaws.{blocks-fit}

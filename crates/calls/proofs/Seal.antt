@@ -31,9 +31,11 @@ use Rattle.run.specs.Acts.{Act, session}
 use Rattle.run.specs.Theorems.{SealKept}
 use Rattle.run.proofs.Demand1.{run-start-changes-nothing}
 use Rattle.run.proofs.Demand2.{seal-holds-over-acts}
-use Rattle.blocks.specs.Blocks.{machineOf, putMachine, valuesOf, runFit, runOf, packed}
+use Rattle.blocks.specs.Blocks.{machineOf, putMachine, valuesOf, packed}
+use Rattle.run_blocks.specs.RunBlocks.{runFit, runOf}
 use Rattle.blocks.proofs.BlockLaws.{Words, machineOf-putMachine}
-use Rattle.bodlarina.specs.Host.{startedOut, shownStart, hostStart, steppedOut, stepBlock, shownStep, hostStep, runStartedOut, shownRunStart, hostRunStart, turnBlocks, heldRunning, turnedOut, shownTurn, hostTurn, shownTurns, hostTurns, ranOut, shownRun, hostRun}
+use Rattle.scalar_block.specs.ScalarBlock.{stepBlock}
+use Rattle.bodlarina.specs.Host.{startedOut, shownStart, hostStart, steppedOut, shownStep, hostStep, runStartedOut, shownRunStart, hostRunStart, turnBlocks, heldRunning, turnedOut, shownTurn, hostTurn, shownTurns, hostTurns, ranOut, shownRun, hostRun}
 use Rattle.calls.specs.Calls.{Buffers, Call, Called, afterStart, afterStep, afterRunStart, afterTurn, afterRun, called}
 use Rattle.calls.specs.Composed.{afterCalls, benchIn, SealedIn, SparesSeal, EachSparesSeal, SealHoldsOverCalls, SealHoldsFromStartCall}
 use Rattle.calls.proofs.Numbers.{machine-words, step-words, turn-machine, turns-machine}

@@ -9,7 +9,8 @@ use lib.Dec.{eqb}
 use borrow.Author.Tests.{eqb-true, ne-eqb}
 use Rattle.machine.specs.declared.Machine.{Machine}
 use Rattle.machine.specs.declared.Answer.the-variants.{Done, BadArguments}
-use Rattle.machine.specs.Answers.{Reply, reply, done}
+use Rattle.machine.specs.declared.Reply.{Reply}
+use Rattle.machine.specs.Answers.{reply, done}
 use Rattle.machine.specs.Geometry.{benchOf}
 use Rattle.machine.specs.Setting.{smaller}
 use Rattle.machine.proofs.TestLaws.{false-true, every-each}
@@ -17,8 +18,10 @@ use Rattle.run.specs.declared.Run.{Run}
 use Rattle.run.specs.Turn.{Running, running, turn, afterTurns, answeredDone, turnOutcome, turns}
 use Rattle.run.proofs.RefusalLaws.{number-done}
 use Rattle.turn.proofs.TurnLaws.{turn-zero}
-use Rattle.blocks.specs.Blocks.{runFit, packed}
-use Rattle.blocks.proofs.BlockLaws.{machineOf-putMachine, putMachine-same, runOf-putRun, runFit-putRun, putRun-same}
+use Rattle.blocks.specs.Blocks.{packed}
+use Rattle.run_blocks.specs.RunBlocks.{runFit}
+use Rattle.blocks.proofs.BlockLaws.{machineOf-putMachine, putMachine-same}
+use Rattle.run_blocks.proofs.RunBlockLaws.{runOf-putRun, runFit-putRun, putRun-same}
 use Rattle.bodlarina.specs.Host.{turnBlocks, heldRunning, turnedOut, shownTurn, hostTurn, shownTurns, hostTurns}
 use Rattle.bodlarina.proofs.RunLaws.{fit-length, blocks-fit}
 use Rattle.calls.specs.Calls.{Buffers, buffers, Call, Called, afterTurn, called, calls}

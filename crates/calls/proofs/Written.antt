@@ -9,8 +9,9 @@ use Rattle.width.specs.Tile.{byteOf, putRow}
 use Rattle.width.proofs.TileLaws.{length-putRow, putRow-at}
 use Rattle.machine.specs.declared.Machine.{Machine}
 use Rattle.run.specs.declared.Run.{Run}
-use Rattle.blocks.specs.Blocks.{putMachine, putNumbers, putRun}
-use Rattle.blocks.proofs.BlockLaws.{length-putRun, numbersOfRun}
+use Rattle.blocks.specs.Blocks.{putMachine, putNumbers}
+use Rattle.run_blocks.specs.RunBlocks.{putRun}
+use Rattle.run_blocks.proofs.RunBlockLaws.{length-putRun, numbersOfRun}
 
 -- n numbers of eight bytes
 fills : (n : ℕ) (f : ℕ → ℕ) (xs ys : List ℕ) → length xs ≡ n * 8 → length ys ≡ n * 8 → putRow 0 n 8 f xs ≡ putRow 0 n 8 f ys

@@ -7,7 +7,7 @@ use Prim.Native.Nat.{ℕ, suc, _+_, _^_, _≤_, _<_}
 use lib.ListN.{length, getD, replicate}
 use lib.Dec.{eqb}
 use Rattle.width.specs.Tile.{In}
-use Rattle.machine.specs.Answers.{Reply}
+use Rattle.machine.specs.declared.Reply.{Reply}
 use Rattle.machine.specs.Geometry.{Bench, benchOf}
 use Rattle.machine.specs.Setting.{smaller}
 use Rattle.machine.specs.Operation.{element}
@@ -20,7 +20,8 @@ use Rattle.run.specs.Turn.{Running, afterTurns}
 use Rattle.run.specs.Statement as Demand
 use Rattle.run.specs.Statement.{Answered, jobOf, startedRun}
 use Rattle.run.specs.Theorems.{SealKept}
-use Rattle.blocks.specs.Blocks.{machineBytes, machineOf, putMachine, runBytes, putRun, planNumbers, stepBytes, putHanded, putNumbers}
+use Rattle.blocks.specs.Blocks.{machineBytes, machineOf, putMachine, putNumbers}
+use Rattle.run_blocks.specs.RunBlocks.{runBytes, putRun, planNumbers, stepBytes, putHanded}
 use Rattle.bodlarina.specs.Host.{countBytes}
 use Rattle.bodlarina.specs.Theorems.{Bytes}
 use Rattle.calls.specs.Calls.{Buffers, buffers, Call, Called, called, calls}

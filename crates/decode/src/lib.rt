@@ -1,6 +1,6 @@
 // A word to its instruction, by a table that has the numbers of the listing.
-mod table;
 
+use decode_table::entry;
 use machine::Dimension;
 use machine::Factor;
 use machine::Form;
@@ -8,13 +8,12 @@ use machine::Instruction;
 use machine::Matrix;
 use machine::Sum;
 use machine::Wrong;
-use table::entry;
 ghost use mathlib.Core.Path.{_≡_};
 ghost use Prim.Native.Nat.{_<_, _≤_};
 ghost use Rattle.machine.specs.Listing.{field7, field15, field20, immediate13, listing, decode, ranged};
 ghost use Rattle.machine.specs.Geometry.{registerCount};
 ghost use Rattle.machine.specs.declared.Instruction.the-variants.{SetTypeImmediate, SetType, SetTileImmediate, SetTile, Load, Store, Multiply, Combine, Scale, ScaleImmediate};
-ghost use Rattle.decode.specs.Table.{entryOf, restRight, meant, numbered, fixesZero};
+ghost use Rattle.decode_table.specs.Table.{entryOf, restRight, meant, numbered, fixesZero};
 
 // Bits 11..7: rd, md or ms3.
 pub fn low_field(word: u32) -> usize

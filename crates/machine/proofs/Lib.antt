@@ -7,6 +7,7 @@ pub mod StepLaws
 -- For code.
 pub mod MatchLaws
 pub mod StartLaws
+pub mod AnswerLaws
 pub mod CodeLaws
 -- The theorems of specs/Theorems.antt and specs/WordTheorems.antt.
 pub mod Refusal

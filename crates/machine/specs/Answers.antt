@@ -4,29 +4,28 @@ use mathlib.Core.List.{List, [], _∷_}
 use Prim.Native.Nat.{ℕ}
 use lib.Dec.{eqb}
 use Rattle.machine.specs.declared.Answer.{Answer}
+use Rattle.machine.specs.declared.Reply.{Reply}
 use Rattle.machine.specs.declared.Answer.the-variants.{Done, IllegalWord, IllegalType, BadWidth, TileTooLarge, Unwritten, OutsideMemory, SealedByte, BadArguments, Overlap, WrongOpcode, LeftOutWord, WrongRegister}
 
--- an answer's number, and the row and column that it names
-pub record Reply : Type 0 where
-  pub number : ℕ
-  pub row : ℕ
-  pub column : ℕ
+-- a number that names no row and no column
+abbrev pub plain : ℕ → Reply
+plain n = record { number = n; row = 0; column = 0 }
 
 -- 01, the table of "Numbers of the answers"; 10 to 12: 02, One. "Answer 5 names the row and column of the first such element .. Elsewhere both are 0."
 abbrev pub reply : Answer → Reply
-reply Done = record { number = 0; row = 0; column = 0 }
-reply IllegalWord = record { number = 1; row = 0; column = 0 }
-reply IllegalType = record { number = 2; row = 0; column = 0 }
-reply BadWidth = record { number = 3; row = 0; column = 0 }
-reply TileTooLarge = record { number = 4; row = 0; column = 0 }
+reply Done = plain 0
+reply IllegalWord = plain 1
+reply IllegalType = plain 2
+reply BadWidth = plain 3
+reply TileTooLarge = plain 4
 reply (Unwritten row column) = record { number = 5; row = row; column = column }
-reply OutsideMemory = record { number = 6; row = 0; column = 0 }
-reply SealedByte = record { number = 7; row = 0; column = 0 }
-reply BadArguments = record { number = 8; row = 0; column = 0 }
-reply Overlap = record { number = 9; row = 0; column = 0 }
-reply WrongOpcode = record { number = 10; row = 0; column = 0 }
-reply LeftOutWord = record { number = 11; row = 0; column = 0 }
-reply WrongRegister = record { number = 12; row = 0; column = 0 }
+reply OutsideMemory = plain 6
+reply SealedByte = plain 7
+reply BadArguments = plain 8
+reply Overlap = plain 9
+reply WrongOpcode = plain 10
+reply LeftOutWord = plain 11
+reply WrongRegister = plain 12
 
 abbrev pub number : Answer → ℕ
 number a = reply a .number

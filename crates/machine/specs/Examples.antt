@@ -6,7 +6,7 @@ use lib.ListN.{getD, replicate, set, take, drop}
 use Rattle.width.specs.Reduce.{reduce}
 use Rattle.width.specs.Tile.{putTile, putRow, putLe, markTile, markRow}
 use Rattle.machine.specs.declared.Machine.{Machine}
-use Rattle.machine.specs.Answers.{Reply}
+use Rattle.machine.specs.declared.Reply.{Reply}
 use Rattle.machine.specs.Geometry.{permitted}
 use Rattle.machine.specs.Setting.{sew, newType, legalType}
 use Rattle.machine.specs.Refusals.{widthOk, widthOf}

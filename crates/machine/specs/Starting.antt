@@ -8,7 +8,8 @@ use Rattle.machine.specs.declared.Machine.{Machine}
 use Rattle.machine.specs.declared.Answer.the-variants.{Done, BadArguments}
 use Rattle.machine.specs.declared.Started.{Started}
 use Rattle.machine.specs.Tests.{every}
-use Rattle.machine.specs.Answers.{Reply, reply}
+use Rattle.machine.specs.declared.Reply.{Reply}
+use Rattle.machine.specs.Answers.{reply}
 use Rattle.machine.specs.Geometry.{permitted, registerBytes}
 
 -- "a seal whose end exceeds 2^64 - 1": this one doesn't

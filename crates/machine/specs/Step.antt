@@ -8,7 +8,8 @@ use Rattle.machine.specs.declared.Answer.the-variants.{Done, BadArgument
 use Rattle.machine.specs.declared.Stepped.{Stepped}
 use Rattle.machine.specs.declared.Instruction.{Instruction}
 use Rattle.machine.specs.declared.Instruction.the-variants.{Illegal, SetTypeImmediate, SetType, SetTileImmediate, SetTile, Load, Store, Multiply, Combine, Scale, ScaleImmediate}
-use Rattle.machine.specs.Answers.{Reply, reply, Check, _otherwise_, verdict, isDone}
+use Rattle.machine.specs.declared.Reply.{Reply}
+use Rattle.machine.specs.Answers.{reply, Check, _otherwise_, verdict, isDone}
 use Rattle.machine.specs.Geometry.{Parameters, parameters, State, stateOf, machineAfter, Bench, benchOf, withScalar}
 use Rattle.machine.specs.Setting.{smaller}
 use Rattle.machine.specs.Listing.{decode}

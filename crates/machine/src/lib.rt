@@ -2,6 +2,7 @@
 ghost use mathlib.Core.Path.{_≡_};
 ghost use lib.ListN.{length, replicate};
 ghost use Rattle.machine.specs.Tests.{isIn};
+ghost use Rattle.machine.specs.Answers.{plain, reply, isDone};
 ghost use Rattle.machine.specs.Geometry.{permitted, rlens, mlens};
 ghost use Rattle.machine.specs.Starting.{startable, startMachine, startedAs, noMachine, freshMachine};
 
@@ -32,6 +33,13 @@ pub enum Answer {
     WrongOpcode,
     LeftOutWord,
     WrongRegister,
+}
+
+// An answer's number, and the row and column that it names; 0 where it names none.
+pub struct Reply {
+    pub number: u64,
+    pub row: u64,
+    pub column: u64,
 }
 
 // What a start returns: the machine, or zeros where it is refused.
@@ -150,6 +158,49 @@ pub enum Instruction {
         ms1: usize,
         immediate: u64,
     },
+}
+
+// A number that names no row and no column.
+fn plain(number: u64) -> Reply
+    ensures { λ r. ⌜ r ≡ plain number ⌝ }
+{
+    Reply {
+        number: number,
+        row: 0,
+        column: 0,
+    }
+}
+
+// An answer's number, row and column.
+pub fn reply_of(answer: Answer) -> Reply
+    ensures { λ r. ⌜ r ≡ reply answer ⌝ }
+{
+    match answer {
+        Answer::Done => plain(0),
+        Answer::IllegalWord => plain(1),
+        Answer::IllegalType => plain(2),
+        Answer::BadWidth => plain(3),
+        Answer::TileTooLarge => plain(4),
+        Answer::Unwritten { row, column } => Reply {
+            number: 5,
+            row: row,
+            column: column,
+        },
+        Answer::OutsideMemory => plain(6),
+        Answer::SealedByte => plain(7),
+        Answer::BadArguments => plain(8),
+        Answer::Overlap => plain(9),
+        Answer::WrongOpcode => plain(10),
+        Answer::LeftOutWord => plain(11),
+        Answer::WrongRegister => plain(12),
+    }
+}
+
+// Whether nothing was refused.
+pub fn is_done(answer: Answer) -> bool
+    ensures { λ r. ⌜ r ≡ isDone answer ⌝ }
+{
+    reply_of(answer).number == 0
 }
 
 fn is_rlen(x: u64) -> bool

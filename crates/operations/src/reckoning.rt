@@ -41,7 +41,7 @@ fn source_marks(m: Machine, marks: &[u8], factor: Factor, ms1: usize, ms2: usize
     let w = sew_bytes(m.mtype);
     let a = tile_of(m, Matrix::MatrixA, ms1);
     let first = tile::first_unmarked(marks, a.start, a.pitch, a.rows, a.columns, w);
-    if !tile::is_done(first) {
+    if !machine::is_done(first) {
         return first;
     }
     let b = tile_of(m, Matrix::MatrixB, ms2);
@@ -82,11 +82,11 @@ fn check_product(
     ensures { λ r. ⌜ r ≡ verdict (productChecks m (now (marks .entry)) (times factor) md ms1 ms2) ⌝ }
 {
     let fitting = check_multiply(m, factor);
-    if !tile::is_done(fitting) {
+    if !machine::is_done(fitting) {
         return fitting;
     }
     let sources = source_marks(m, marks, factor, ms1, ms2);
-    if !tile::is_done(sources) {
+    if !machine::is_done(sources) {
         return sources;
     }
     let wide = factor_of(factor) * sew_bytes(m.mtype);
@@ -100,12 +100,12 @@ fn check_combine(m: Machine, marks: &[u8], factor: Factor, md: usize, ms1: usize
     ensures { λ r. ⌜ r ≡ verdict (combineChecks m (now (marks .entry)) (times factor) md ms1) ⌝ }
 {
     let fitting = check_elementwise(m, factor);
-    if !tile::is_done(fitting) {
+    if !machine::is_done(fitting) {
         return fitting;
     }
     let width = sew_bytes(m.mtype);
     let source = accumulator_marks(m, marks, ms1, width);
-    if !tile::is_done(source) {
+    if !machine::is_done(source) {
         return source;
     }
     let wide = factor_of(factor) * width;
@@ -119,7 +119,7 @@ fn check_scale(m: Machine, marks: &[u8], factor: Factor, ms1: usize, by_zero: bo
     ensures { λ r. ⌜ r ≡ verdict (scaleChecks m (now (marks .entry)) (times factor) ms1 «by_zero») ⌝ }
 {
     let fitting = check_elementwise(m, factor);
-    if !tile::is_done(fitting) {
+    if !machine::is_done(fitting) {
         return fitting;
     }
     if by_zero {
@@ -144,7 +144,7 @@ pub fn multiply(
     ensures { λ r. ⌜ WritesRegisters m (Operation.multiply (times factor) md ms1 ms2) (now (registers .entry)) (now (marks .entry)) [] r (now (registers .exit)) (now (marks .entry)) ⌝ }
 {
     let answer = check_product(m, marks, factor, md, ms1, ms2);
-    if !tile::is_done(answer) {
+    if !machine::is_done(answer) {
         return answer;
     }
     let f = factor_of(factor);
@@ -182,7 +182,7 @@ pub fn combine(
     ensures { λ r. ⌜ WritesRegisters m (Operation.combine sum (times factor) md ms1) (now (registers .entry)) (now (marks .entry)) [] r (now (registers .exit)) (now (marks .entry)) ⌝ }
 {
     let answer = check_combine(m, marks, factor, md, ms1);
-    if !tile::is_done(answer) {
+    if !machine::is_done(answer) {
         return answer;
     }
     let f = factor_of(factor);
@@ -220,7 +220,7 @@ pub fn scale(
         → WritesRegisters m (Operation.scale (times factor) md ms1 z) (now (registers .entry)) (now (marks .entry)) [] r (now (registers .exit)) (now (marks .exit))) ⌝ }
 {
     let answer = check_scale(m, marks, factor, ms1, multiplier == 0);
-    if !tile::is_done(answer) {
+    if !machine::is_done(answer) {
         return answer;
     }
     let f = factor_of(factor);

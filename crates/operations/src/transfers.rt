@@ -31,7 +31,7 @@ pub fn load(
     ensures { λ r. ⌜ WritesRegisters m (Operation.load form matrix md width base stride) (now (registers .entry)) (now (marks .entry)) (now (memory .entry)) r (now (registers .exit)) (now (marks .exit)) ⌝ }
 {
     let fitting = check_transfer(m, matrix, width);
-    if !tile::is_done(fitting) {
+    if !machine::is_done(fitting) {
         return fitting;
     }
     let p = tile_of(m, matrix, md);
@@ -68,7 +68,7 @@ pub fn store(
     ensures { λ r. ⌜ WritesMemory m (Operation.store form matrix ms3 width base stride) (now (registers .entry)) (now (marks .entry)) (now (memory .entry)) r (now (memory .exit)) ⌝ }
 {
     let fitting = check_transfer(m, matrix, width);
-    if !tile::is_done(fitting) {
+    if !machine::is_done(fitting) {
         return fitting;
     }
     let p = tile_of(m, matrix, ms3);

@@ -8,7 +8,8 @@ use lib.ListN.{length, getD, replicate}
 use lib.Dec.{eqb}
 use borrow.Author.Tests.{eqb-true}
 use Rattle.machine.specs.declared.Answer.the-variants.{Done, BadArguments}
-use Rattle.machine.specs.Answers.{Reply, reply}
+use Rattle.machine.specs.declared.Reply.{Reply}
+use Rattle.machine.specs.Answers.{reply}
 use Rattle.machine.specs.Geometry.{Bench, permitted, registerBytes}
 use Rattle.machine.specs.Alike.{Agree}
 use Rattle.machine.specs.Starting.{startable, startMachine, StartOutcome, freshMachine, noMachine, sealEnds}

@@ -10,7 +10,8 @@ use borrow.Author.Tests.{eqb-true}
 use Rattle.machine.specs.declared.Machine.{Machine}
 use Rattle.machine.specs.declared.Answer.the-variants.{Done, BadArguments}
 use Rattle.machine.specs.Tests.{every}
-use Rattle.machine.specs.Answers.{Reply, reply, done}
+use Rattle.machine.specs.declared.Reply.{Reply}
+use Rattle.machine.specs.Answers.{reply, done}
 use Rattle.machine.specs.Geometry.{Bench, benchOf}
 use Rattle.machine.specs.Setting.{smaller}
 use Rattle.machine.specs.Starting.{startable, startMachine, freshMachine, noMachine}
@@ -20,8 +21,10 @@ use Rattle.run.specs.declared.Run.{Run}
 use Rattle.run.specs.Start.{startRun}
 use Rattle.run.specs.Turn.{Running, turnOutcome, turns}
 use Rattle.run.specs.Whole.{whole}
-use Rattle.blocks.specs.Blocks.{machineOf, putMachine, valuesOf, putValues, putNumbers, putRun, packed}
-use Rattle.bodlarina.specs.Host.{startedOut, shownStart, hostStart, steppedOut, stepBlock, shownStep, hostStep, runStartedOut, shownRunStart, hostRunStart, turnedOut, shownRunning, heldRunning, turnBlocks, shownTurn, hostTurn, shownTurns, hostTurns, ranOut, shownRun, hostRun}
+use Rattle.blocks.specs.Blocks.{machineOf, putMachine, valuesOf, putValues, putNumbers, packed}
+use Rattle.run_blocks.specs.RunBlocks.{putRun}
+use Rattle.scalar_block.specs.ScalarBlock.{stepBlock}
+use Rattle.bodlarina.specs.Host.{startedOut, shownStart, hostStart, steppedOut, shownStep, hostStep, runStartedOut, shownRunStart, hostRunStart, turnedOut, shownRunning, heldRunning, turnBlocks, shownTurn, hostTurn, shownTurns, hostTurns, ranOut, shownRun, hostRun}
 use Rattle.powerup.specs.Steps.{AlikeBenches}
 use Rattle.powerup.specs.Runs.{SameRunning}
 use Rattle.powerup.proofs.Steps.{step-ignores-unmarked}

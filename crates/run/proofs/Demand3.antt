@@ -16,7 +16,8 @@ use Rattle.width.specs.Blocks.{Grants}
 use Rattle.width.proofs.BlockLaws.{le-or-lt}
 use Rattle.machine.specs.declared.Answer.the-variants.{Done, BadArguments, OutsideMemory, Overlap}
 use Rattle.machine.proofs.TestLaws.{every-each}
-use Rattle.machine.specs.Answers.{Reply, reply, number, done, verdict, _otherwise_}
+use Rattle.machine.specs.declared.Reply.{Reply}
+use Rattle.machine.specs.Answers.{reply, number, done, verdict, _otherwise_}
 use Rattle.machine.proofs.CheckLaws.{Passed, passed, no-refusal}
 use Rattle.machine.specs.Geometry.{Parameters, parameters, permitted, State, stateOf}
 use Rattle.machine.specs.Setting.{smaller}

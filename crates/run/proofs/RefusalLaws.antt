@@ -7,7 +7,8 @@ use native.Mathlib.Nat.{add-zero}
 use lib.Dec.{eqb}
 use borrow.Author.Tests.{eq-eqb, ne-eqb}
 use Rattle.machine.specs.declared.Answer.the-variants.{BadArguments}
-use Rattle.machine.specs.Answers.{Reply, reply, done}
+use Rattle.machine.specs.declared.Reply.{Reply}
+use Rattle.machine.specs.Answers.{reply, done}
 use Rattle.machine.specs.Geometry.{Bench, permitted}
 use Rattle.machine.specs.Step.{Outcome, stepBy}
 use Rattle.machine.proofs.TestLaws.{false-true}

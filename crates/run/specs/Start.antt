@@ -7,7 +7,8 @@ use lib.Dec.{leb}
 use Rattle.machine.specs.declared.Machine.{Machine}
 use Rattle.machine.specs.declared.Answer.the-variants.{BadArguments, OutsideMemory, Overlap}
 use Rattle.machine.specs.Tests.{all, every, isIn, within}
-use Rattle.machine.specs.Answers.{Reply, reply, Check, _otherwise_, verdict, isDone}
+use Rattle.machine.specs.declared.Reply.{Reply}
+use Rattle.machine.specs.Answers.{reply, Check, _otherwise_, verdict, isDone}
 use Rattle.machine.specs.Geometry.{Parameters, parameters, elen}
 use Rattle.machine.specs.Memory.{inside, unsealed}
 use Rattle.machine.specs.Geometry.{Bench}

@@ -10,7 +10,7 @@ use lib.IntN.{ℤ, pos, _+ℤ_}
 use Rattle.width.specs.Tile.{In}
 use Rattle.width.specs.Blocks.{Grants}
 use Rattle.machine.specs.declared.Machine.{Machine}
-use Rattle.machine.specs.Answers.{Reply}
+use Rattle.machine.specs.declared.Reply.{Reply}
 use Rattle.machine.specs.Geometry.{elen, parameters, Bench}
 use Rattle.machine.specs.Setting.{smaller}
 use Rattle.machine.specs.Memory.{rowZ}

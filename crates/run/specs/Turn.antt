@@ -4,7 +4,8 @@ use mathlib.Core.List.{List, [], _∷_}
 use mathlib.Core.Option.{Option, none, some, Option·getD}
 use Prim.Native.Nat.{ℕ, zero, suc, _+_}
 use Rattle.machine.specs.declared.Answer.the-variants.{Done, BadArguments}
-use Rattle.machine.specs.Answers.{Reply, reply, done}
+use Rattle.machine.specs.declared.Reply.{Reply}
+use Rattle.machine.specs.Answers.{reply, done}
 use Rattle.width.specs.Blocks.{chunks}
 use Rattle.machine.specs.Tests.{every, isIn}
 use Rattle.machine.specs.Geometry.{Parameters, parametersOf, permitted}

@@ -2,7 +2,8 @@
 use mathlib.Core.Path.{_≡_}
 use mathlib.Core.List.{List}
 use Prim.Native.Nat.{ℕ, _<_}
-use Rattle.machine.specs.Answers.{Reply, reply}
+use Rattle.machine.specs.declared.Reply.{Reply}
+use Rattle.machine.specs.Answers.{reply}
 use Rattle.machine.specs.Geometry.{Bench, benchOf}
 use Rattle.machine.specs.Setting.{smaller}
 use Rattle.machine.specs.Operation.{element}

@@ -15,26 +15,14 @@ fn number(n: u64) {
 
 // The answer's number; answer 5 with its row and column.
 fn answer(a: Answer) {
+    let reply = machine::reply_of(a);
     say(b" answer ");
-    match a {
-        Answer::Done => say(b"0"),
-        Answer::IllegalWord => say(b"1"),
-        Answer::IllegalType => say(b"2"),
-        Answer::BadWidth => say(b"3"),
-        Answer::TileTooLarge => say(b"4"),
-        Answer::Unwritten { row, column } => {
-            say(b"5 row ");
-            number(row);
-            say(b" column ");
-            number(column);
-        }
-        Answer::OutsideMemory => say(b"6"),
-        Answer::SealedByte => say(b"7"),
-        Answer::BadArguments => say(b"8"),
-        Answer::Overlap => say(b"9"),
-        Answer::WrongOpcode => say(b"10"),
-        Answer::LeftOutWord => say(b"11"),
-        Answer::WrongRegister => say(b"12"),
+    number(reply.number);
+    if reply.number == 5 {
+        say(b" row ");
+        number(reply.row);
+        say(b" column ");
+        number(reply.column);
     }
 }
 
@@ -105,99 +93,156 @@ fn step(
     next
 }
 
-// A whole run of m by k by n: A at 0, B at 2048, C at 4096, with these strides. Shows its answer and its steps.
-fn product(
-    machine: Machine,
-    registers: &mut [u8],
-    marks: &mut [u8],
-    memory: &mut [u8],
-    sew: u64,
-    factor: u64,
-    m: u64,
-    k: u64,
-    n: u64,
-    a_stride: u64,
-    b_stride: u64,
-    c_stride: u64,
-) {
-    let plan = Plan {
-        kind: 0,
-        sew: sew,
-        factor: factor,
-        m: m,
-        k: k,
-        n: n,
-        a: Layout {
-            address: 0,
-            stride: a_stride,
-        },
-        b: Layout {
-            address: 2048,
-            stride: b_stride,
-        },
-        c: Layout {
-            address: 4096,
-            stride: c_stride,
-        },
-    };
-    say(b"run ");
-    number(m);
-    say(b" by ");
-    number(k);
-    say(b" by ");
-    number(n);
-    say(b" SEW ");
-    number(sew);
-    say(b" f ");
-    number(factor);
-    let done = whole::product(plan, machine, registers, marks, memory);
-    let given = done.answer;
-    answer(given);
-    say(b" steps ");
-    number(done.count);
-    say(b"\n");
-}
+// ---- the lines on words
 
-fn byte(b: u8) {
-    number(b as u64);
-}
+// A word with its x10 and x11; 1 before it: on the machine as it was started, 0: as the word before left it. 0xfffffffffffffff8 is -8.
+const WORDS: [[u64; 4]; 15] = [
+    // "Word 0x000472F7 sets mtype 8 and x5 = 8. 0x100572F7 with x10 = 16 sets 2^63."
+    [1, 0, 0, 0x000472f7],
+    [1, 16, 0, 0x100572f7],
+    // "0x2003F077 asks 7 rows: tile_m 4, x0 untouched. 0x4001F377 at SEW 8: tile_k 3, x6 = 3."
+    [1, 0, 0, 0x2003f077],
+    [1, 0, 0, 0x4001f377],
+    // "tile_n 8 set at SEW 8, then SEW 16: a 16-bit load of B gives 4"
+    [1, 0, 0, 0x60047077],
+    [0, 0, 0, 0x0000f077],
+    [0, 0, 8, 0x08b51077],
+    // tiles of A of two by two: a store before the registers are loaded, and the load
+    [1, 0, 0, 0x20017077],
+    [0, 0, 0, 0x40017077],
+    [0, 54, 8, 0x06b50077],
+    [0, 8, 0xfffffffffffffff8, 0x04b50077],
+    // "A last byte at the end of memory is stored; one byte further gives 6."
+    [0, 54, 8, 0x06b50077],
+    [0, 55, 8, 0x06b50077],
+    // "Stride -8 from a good address is done; a row that would start at address -1 gives 6."
+    [0, 8, 0xfffffffffffffff8, 0x06b50077],
+    [0, 7, 0xfffffffffffffff8, 0x06b50077],
+];
 
-// A byte of memory, as a line of its own.
-fn show_byte(memory: &[u8], at: usize) {
-    if at < memory.len() {
-        say(b"C ");
-        byte(memory[at]);
-        say(b"\n");
+// What stands above a word.
+fn word_heading(i: usize) {
+    match i {
+        0 => say(b"starred words\n"),
+        4 => say(b"tile_n 8 set at SEW 8, then SEW 16: a 16-bit load of B gives 4\n"),
+        7 => say(
+            b"tiles 2 by 2 of A at SEW 8: a last byte at the end of memory is stored, one further gives 6\n",
+        ),
+        13 => say(b"stride -8 from a good address is done, a row that would start at -1 gives 6\n"),
+        _ => (),
     }
 }
 
-// 01: "Steps for 7 by 8 by 14: 91 at SEW 16, 47 at SEW 8. m = 0: 1."
-fn step_counts(m: Machine, registers: &mut [u8], marks: &mut [u8], memory: &mut [u8]) {
-    product(m, registers, marks, memory, 16, 1, 7, 8, 14, 16, 28, 28);
-    product(m, registers, marks, memory, 8, 1, 7, 8, 14, 8, 14, 14);
-    product(m, registers, marks, memory, 8, 1, 0, 8, 14, 8, 14, 14);
+// The machine that a word is stepped on.
+fn before(kind: u64, started: Machine, left: Machine) -> Machine {
+    if kind == 1 {
+        return started;
+    }
+    left
 }
 
-// "m = n = 1, k = 0: 5, and C is 0"; and of three ones by three it is 3.
-fn no_terms(m: Machine, registers: &mut [u8], marks: &mut [u8], memory: &mut [u8]) {
-    product(m, registers, marks, memory, 8, 1, 1, 3, 1, 3, 1, 1);
-    show_byte(memory, 4096);
-    product(m, registers, marks, memory, 8, 1, 1, 0, 1, 0, 1, 1);
-    show_byte(memory, 4096);
+// The lines on words, on one machine.
+fn words() {
+    let mut registers = [7u8; 512];
+    let mut marks = [1u8; 512];
+    let mut memory = [0u8; 64];
+    let started = start(64, 256, 0, 0, &registers, &mut marks);
+    let mut m = started;
+    let mut i: usize = 0;
+    while i < 15 {
+        word_heading(i);
+        let word = (WORDS[i][3] % 4294967296) as u32;
+        m = step(
+            before(WORDS[i][0], started, m),
+            &mut registers,
+            &mut marks,
+            &mut memory,
+            WORDS[i][1],
+            WORDS[i][2],
+            word,
+        );
+        i += 1;
+    }
 }
 
-// "Size 1,024 is run"
-fn largest_sizes(m: Machine, registers: &mut [u8], marks: &mut [u8], memory: &mut [u8]) {
-    product(m, registers, marks, memory, 8, 1, 1024, 1, 1, 1, 1, 1);
-    product(m, registers, marks, memory, 8, 1, 1, 1024, 1, 1024, 1, 1);
-    product(m, registers, marks, memory, 8, 1, 1, 1, 1024, 1, 1024, 1024);
+// ---- the lines on runs
+
+// SEW, f, m, k, n, and the strides of A, B and C, which lie at 0, 2048 and 4096.
+const RUNS: [[u64; 8]; 11] = [
+    // "Steps for 7 by 8 by 14: 91 at SEW 16, 47 at SEW 8. m = 0: 1."
+    [16, 1, 7, 8, 14, 16, 28, 28],
+    [8, 1, 7, 8, 14, 8, 14, 14],
+    [8, 1, 0, 8, 14, 8, 14, 14],
+    // "m = n = 1, k = 0: 5, and C is 0"; and of three ones by three it is 3
+    [8, 1, 1, 3, 1, 3, 1, 1],
+    [8, 1, 1, 0, 1, 0, 1, 1],
+    // "Size 1,024 is run"
+    [8, 1, 1024, 1, 1, 1, 1, 1],
+    [8, 1, 1, 1024, 1, 1024, 1, 1],
+    [8, 1, 1, 1, 1024, 1, 1024, 1024],
+    // "1,025 gives 8"
+    [8, 1, 1025, 1, 1, 1, 1, 1],
+    [8, 1, 1, 1025, 1, 1025, 1, 1],
+    [8, 1, 1, 1, 1025, 1, 1025, 1025],
+];
+
+// What stands above a run.
+fn run_heading(i: usize) {
+    match i {
+        0 => say(b"7 by 8 by 14: 91 steps at SEW 16, 47 at SEW 8; m = 0: 1\n"),
+        3 => say(b"three ones by three; and k = 0: 5 steps, and C is 0\n"),
+        5 => say(b"size 1,024 is run, 1,025 gives 8\n"),
+        _ => (),
+    }
 }
 
-// "1,025 gives 8"
-fn one_larger(m: Machine, registers: &mut [u8], marks: &mut [u8], memory: &mut [u8]) {
-    product(m, registers, marks, memory, 8, 1, 1025, 1, 1, 1, 1, 1);
-    product(m, registers, marks, memory, 8, 1, 1, 1025, 1, 1025, 1, 1);
-    product(m, registers, marks, memory, 8, 1, 1, 1, 1025, 1, 1025, 1025);
+fn plan_of(numbers: [u64; 8]) -> Plan {
+    Plan {
+        kind: 0,
+        sew: numbers[0],
+        factor: numbers[1],
+        m: numbers[2],
+        k: numbers[3],
+        n: numbers[4],
+        a: Layout {
+            address: 0,
+            stride: numbers[5],
+        },
+        b: Layout {
+            address: 2048,
+            stride: numbers[6],
+        },
+        c: Layout {
+            address: 4096,
+            stride: numbers[7],
+        },
+    }
+}
+
+fn show_plan(plan: Plan) {
+    say(b"run ");
+    number(plan.m);
+    say(b" by ");
+    number(plan.k);
+    say(b" by ");
+    number(plan.n);
+    say(b" SEW ");
+    number(plan.sew);
+    say(b" f ");
+    number(plan.factor);
+}
+
+// What a run answers, and its steps; the first byte of C where it is of one element.
+fn show_run(plan: Plan, given: Answer, steps: u64, first: u8) {
+    answer(given);
+    say(b" steps ");
+    number(steps);
+    say(b"\n");
+    if plan.m == 1 && plan.n == 1 && plan.k < 4 {
+        say(b"C ");
+        number(first as u64);
+        say(b"\n");
+    }
 }
 
 // The lines on runs, on a machine started anew.
@@ -206,79 +251,16 @@ fn runs() {
     let mut marks = [1u8; 512];
     let mut memory = [1u8; 8192];
     let m = start(64, 256, 0, 0, &registers, &mut marks);
-    say(b"7 by 8 by 14: 91 steps at SEW 16, 47 at SEW 8; m = 0: 1\n");
-    step_counts(m, &mut registers, &mut marks, &mut memory);
-    say(b"three ones by three; and k = 0: 5 steps, and C is 0\n");
-    no_terms(m, &mut registers, &mut marks, &mut memory);
-    say(b"size 1,024 is run, 1,025 gives 8\n");
-    largest_sizes(m, &mut registers, &mut marks, &mut memory);
-    one_larger(m, &mut registers, &mut marks, &mut memory);
-}
-
-// "Word 0x000472F7 sets mtype 8 and x5 = 8. 0x100572F7 with x10 = 16 sets 2^63."
-fn type_words(m: Machine, registers: &mut [u8], marks: &mut [u8], memory: &mut [u8]) {
-    step(m, registers, marks, memory, 0, 0, 0x000472f7);
-    step(m, registers, marks, memory, 16, 0, 0x100572f7);
-}
-
-// "0x2003F077 asks 7 rows: tile_m 4, x0 untouched. 0x4001F377 at SEW 8: tile_k 3, x6 = 3."
-fn size_words(m: Machine, registers: &mut [u8], marks: &mut [u8], memory: &mut [u8]) {
-    step(m, registers, marks, memory, 0, 0, 0x2003f077);
-    step(m, registers, marks, memory, 0, 0, 0x4001f377);
-}
-
-// "then SEW 16: a 16-bit load of B gives 4"
-fn too_large(m: Machine, registers: &mut [u8], marks: &mut [u8], memory: &mut [u8]) {
-    let cut = step(m, registers, marks, memory, 0, 0, 0x0000f077);
-    step(cut, registers, marks, memory, 0, 8, 0x08b51077);
-}
-
-// Tiles of A of two by two.
-fn two_by_two(m: Machine, registers: &mut [u8], marks: &mut [u8], memory: &mut [u8]) -> Machine {
-    let rows = step(m, registers, marks, memory, 0, 0, 0x20017077);
-    step(rows, registers, marks, memory, 0, 0, 0x40017077)
-}
-
-// A store before the registers are loaded, and the load.
-fn loaded(m: Machine, registers: &mut [u8], marks: &mut [u8], memory: &mut [u8]) {
-    let minus8 = 18446744073709551608;
-    step(m, registers, marks, memory, 54, 8, 0x06b50077);
-    step(m, registers, marks, memory, 8, minus8, 0x04b50077);
-}
-
-// "A last byte at the end of memory is stored; one byte further gives 6."
-fn end_of_memory(m: Machine, registers: &mut [u8], marks: &mut [u8], memory: &mut [u8]) {
-    step(m, registers, marks, memory, 54, 8, 0x06b50077);
-    step(m, registers, marks, memory, 55, 8, 0x06b50077);
-}
-
-// "Stride -8 from a good address is done; a row that would start at address -1 gives 6."
-fn downward(m: Machine, registers: &mut [u8], marks: &mut [u8], memory: &mut [u8]) {
-    let minus8 = 18446744073709551608;
-    step(m, registers, marks, memory, 8, minus8, 0x06b50077);
-    step(m, registers, marks, memory, 7, minus8, 0x06b50077);
-}
-
-// The lines on words, on one machine.
-fn words() {
-    let mut registers = [7u8; 512];
-    let mut marks = [1u8; 512];
-    let mut memory = [0u8; 64];
-    let m = start(64, 256, 0, 0, &registers, &mut marks);
-    say(b"starred words\n");
-    type_words(m, &mut registers, &mut marks, &mut memory);
-    size_words(m, &mut registers, &mut marks, &mut memory);
-    say(b"tile_n 8 set at SEW 8, then SEW 16: a 16-bit load of B gives 4\n");
-    let wide = step(m, &mut registers, &mut marks, &mut memory, 0, 0, 0x60047077);
-    too_large(wide, &mut registers, &mut marks, &mut memory);
-    say(
-        b"tiles 2 by 2 of A at SEW 8: a last byte at the end of memory is stored, one further gives 6\n",
-    );
-    let two = two_by_two(m, &mut registers, &mut marks, &mut memory);
-    loaded(two, &mut registers, &mut marks, &mut memory);
-    end_of_memory(two, &mut registers, &mut marks, &mut memory);
-    say(b"stride -8 from a good address is done, a row that would start at -1 gives 6\n");
-    downward(two, &mut registers, &mut marks, &mut memory);
+    let mut i: usize = 0;
+    while i < 11 {
+        run_heading(i);
+        let plan = plan_of(RUNS[i]);
+        show_plan(plan);
+        let done = whole::whole(plan, m, &mut registers, &mut marks, &mut memory);
+        let given = done.answer;
+        show_run(plan, given, done.count, memory[4096]);
+        i += 1;
+    }
 }
 
 // Starts at the bounds of what is permitted.

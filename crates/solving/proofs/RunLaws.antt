@@ -19,8 +19,8 @@ use Rattle.run.specs.Words.{steps}
 use Rattle.run.specs.Plan.{shape, productOf}
 use Rattle.run.specs.Start.{format}
 use Rattle.run.specs.Whole.{WholeOutcome, Delivers}
-use Rattle.layout.specs.Layout.{planFor, jobFor}
-use Rattle.layout.proofs.LayoutLaws.{widths, matrix-small, element-in, accepted-here, c-place}
+use Rattle.product_memory.specs.Memory.{planFor, jobFor}
+use Rattle.product_memory.proofs.MemoryLaws.{widths, matrix-small, element-in, accepted-here, c-place}
 
 -- ---- n numbers from p on, as code lends them
 

@@ -18,8 +18,8 @@ use Rattle.machine.proofs.TestLaws.{and-left, and-right}
 use Rattle.run.specs.Words.{steps}
 use Rattle.run.specs.Plan.{shape, productOf}
 use Rattle.run.specs.Start.{format}
-use Rattle.layout.specs.Layout.{jobFor, filled}
-use Rattle.layout.proofs.LayoutLaws.{level-signed, sum-here}
+use Rattle.product_memory.specs.Memory.{jobFor, filled}
+use Rattle.product_memory.proofs.MemoryLaws.{level-signed, sum-here}
 use Rattle.text.specs.declared.Parsed.{Parsed}
 use Rattle.text.specs.declared.Parsed.the-variants.{Posed, Refused}
 use Rattle.text.specs.Problem.{Problem, problem, nth, holds}

@@ -10,7 +10,7 @@ ghost use Rattle.element.specs.Element.{Width};
 ghost use Rattle.run.specs.Words.{steps};
 ghost use Rattle.run.specs.Plan.{shape, productOf};
 ghost use Rattle.run.specs.Start.{format};
-ghost use Rattle.layout.specs.Layout.{jobFor};
+ghost use Rattle.product_memory.specs.Memory.{jobFor};
 ghost use Rattle.text.specs.declared.Parsed.the-variants.{Posed};
 ghost use Rattle.text.specs.Problem.{problem};
 ghost use Rattle.text.specs.Output.{answerText};
@@ -27,8 +27,8 @@ fn fill(memory: &mut [u8], numbers: &[u64], width: usize, a: usize, b: usize)
 {
     let middle = 5 + a;
     let end = middle + b;
-    layout::put_elements(memory, 0, width, &numbers[5..middle]);
-    layout::put_elements(memory, 1024, width, &numbers[middle..end]);
+    product_memory::put_elements(memory, 0, width, &numbers[5..middle]);
+    product_memory::put_elements(memory, 1024, width, &numbers[middle..end]);
 }
 
 // Runs the product of the matrices that lie in memory, and reads the elements of C's place. Returns the count of steps.
@@ -44,10 +44,10 @@ fn multiply(c: &mut [u64], memory: &mut [u8], sew: u64, factor: u64, m: u64, k: 
     let mut marks = [0u8; 512];
     let started = machine::start(64, 256, 0, 0, &registers, &mut marks);
     let machine = started.machine;
-    let plan = layout::plan_for(sew, factor, m, k, n);
-    let finished = whole::product(plan, machine, &mut registers, &mut marks, memory);
+    let plan = product_memory::plan_for(sew, factor, m, k, n);
+    let finished = whole::whole(plan, machine, &mut registers, &mut marks, memory);
     let width = (factor * (sew / 8)) as usize;
-    layout::read_elements(c, memory, 2048, width);
+    product_memory::read_elements(c, memory, 2048, width);
     finished.count
 }
 

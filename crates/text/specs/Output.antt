@@ -6,7 +6,7 @@ use lib.IntN.{ℤ, _*ℤ_}
 use Rattle.width.specs.Reduce.{signed, reduce, sumℤ}
 use Rattle.run.specs.Words.{steps}
 use Rattle.run.specs.Plan.{shape}
-use Rattle.layout.specs.Layout.{jobFor}
+use Rattle.product_memory.specs.Memory.{jobFor}
 use Rattle.text.specs.Problem.{Problem, nth, problem}
 use Rattle.text.specs.Lines.{accepted, refused}
 

@@ -5,6 +5,7 @@ use address::row_address;
 use address::rows_inside;
 use address::rows_unsealed;
 use machine::Answer;
+use machine::is_done;
 use row::mark_row;
 use row::row_marked;
 use row::write_row;
@@ -203,27 +204,6 @@ fn store_tile(
         write_row(&mut memory[to..], &registers[from..end]);
         from += pitch;
         i += 1;
-    }
-}
-
-// Whether nothing was refused.
-pub fn is_done(answer: Answer) -> bool
-    ensures { λ r. ⌜ r ≡ isDone answer ⌝ }
-{
-    match answer {
-        Answer::Done => true,
-        Answer::IllegalWord => false,
-        Answer::IllegalType => false,
-        Answer::BadWidth => false,
-        Answer::TileTooLarge => false,
-        Answer::Unwritten { row: _, column: _ } => false,
-        Answer::OutsideMemory => false,
-        Answer::SealedByte => false,
-        Answer::BadArguments => false,
-        Answer::Overlap => false,
-        Answer::WrongOpcode => false,
-        Answer::LeftOutWord => false,
-        Answer::WrongRegister => false,
     }
 }
 

@@ -11,7 +11,7 @@ use element::write2;
 use element::write4;
 use machine::Answer;
 use machine::Form;
-use tile::is_done;
+use machine::is_done;
 use tile::mark_tile;
 use tile::store_checked;
 ghost use mathlib.Core.Path.{_≡_};

@@ -20,7 +20,8 @@ use Rattle.machine.specs.declared.Form.the-variants.{Plain}
 use Rattle.machine.specs.declared.Matrix.the-variants.{MatrixA, MatrixB, MatrixC}
 use Rattle.machine.specs.declared.Instruction.{Instruction}
 use Rattle.machine.specs.declared.Instruction.the-variants.{SetTypeImmediate, SetTileImmediate, Load, Store, Multiply, ScaleImmediate}
-use Rattle.machine.specs.Answers.{Reply, reply, done, verdict, isDone, _otherwise_}
+use Rattle.machine.specs.declared.Reply.{Reply}
+use Rattle.machine.specs.Answers.{reply, done, verdict, isDone, _otherwise_}
 use Rattle.machine.specs.Geometry.{elen, Bench, benchOf, stateOf}
 use Rattle.machine.specs.Setting.{smaller, newType, mill}
 use Rattle.machine.specs.Refusals.{typed, checks}

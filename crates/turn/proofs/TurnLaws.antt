@@ -7,7 +7,8 @@ use native.Mathlib.Nat.{add-zero}
 use native.Mathlib.Numerals.{add-one}
 use native.Mathlib.Omega.{arith}
 use Rattle.machine.specs.declared.Answer.the-variants.{Done, BadArguments}
-use Rattle.machine.specs.Answers.{Reply, reply, done}
+use Rattle.machine.specs.declared.Reply.{Reply}
+use Rattle.machine.specs.Answers.{reply, done}
 use Rattle.machine.specs.Geometry.{Bench, benchOf}
 use Rattle.machine.specs.Setting.{smaller}
 use Rattle.machine.specs.Faults.{soundBench}

@@ -201,24 +201,12 @@ fn carry_out(
     let b = plan.b;
     match place {
         Place::AtType => Answer::Done,
-        Place::AtM { row: _ } => size_answer(m),
-        Place::AtN { row: _, column: _ } => size_answer(m),
-        Place::AtClear { row: _, column: _ } => clear(plan, m, registers, marks),
-        Place::AtK {
-            row: _,
-            column: _,
-            term: _,
-        } => size_answer(m),
-        Place::AtA {
-            row,
-            column: _,
-            term,
-        } => load_a(plan, m, registers, marks, memory, row, term),
-        Place::AtB {
-            row: _,
-            column,
-            term,
-        } => load(
+        Place::AtM { .. } => size_answer(m),
+        Place::AtN { .. } => size_answer(m),
+        Place::AtClear { .. } => clear(plan, m, registers, marks),
+        Place::AtK { .. } => size_answer(m),
+        Place::AtA { row, term, .. } => load_a(plan, m, registers, marks, memory, row, term),
+        Place::AtB { column, term, .. } => load(
             plan,
             m,
             registers,
@@ -231,11 +219,7 @@ fn carry_out(
             term,
             column,
         ),
-        Place::AtMultiply {
-            row: _,
-            column: _,
-            term: _,
-        } => multiply(plan, m, registers, marks),
+        Place::AtMultiply { .. } => multiply(plan, m, registers, marks),
         Place::AtStore { row, column } => store(plan, m, registers, marks, memory, row, column),
         Place::AtEnd => Answer::BadArguments,
     }
@@ -252,29 +236,13 @@ fn machine_after(run: Run, m: Machine) -> Machine
     match place {
         Place::AtType => settings::with_type(m, settings::kept_type(asking::type_of(plan))),
         Place::AtM { row } => settings::sized(m, Dimension::DimensionM, plan.m - row),
-        Place::AtN { row: _, column } => settings::sized(m, Dimension::DimensionN, plan.n - column),
-        Place::AtClear { row: _, column: _ } => m,
-        Place::AtK {
-            row: _,
-            column: _,
-            term,
-        } => settings::sized(m, Dimension::DimensionK, plan.k - term),
-        Place::AtA {
-            row: _,
-            column: _,
-            term: _,
-        } => m,
-        Place::AtB {
-            row: _,
-            column: _,
-            term: _,
-        } => m,
-        Place::AtMultiply {
-            row: _,
-            column: _,
-            term: _,
-        } => m,
-        Place::AtStore { row: _, column: _ } => m,
+        Place::AtN { column, .. } => settings::sized(m, Dimension::DimensionN, plan.n - column),
+        Place::AtClear { .. } => m,
+        Place::AtK { term, .. } => settings::sized(m, Dimension::DimensionK, plan.k - term),
+        Place::AtA { .. } => m,
+        Place::AtB { .. } => m,
+        Place::AtMultiply { .. } => m,
+        Place::AtStore { .. } => m,
         Place::AtEnd => m,
     }
 }
@@ -332,7 +300,7 @@ fn take_turns(
     while count < limit {
         let current = at_place(run, place);
         let answer = carry_out(current, machine, registers, marks, memory);
-        if !tile::is_done(answer) {
+        if !machine::is_done(answer) {
             return Progress {
                 answer: answer,
                 count: count,

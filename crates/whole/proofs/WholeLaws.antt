@@ -5,7 +5,8 @@ use Prim.Native.Nat.{ℕ, _≤_, _<_, _^_}
 use native.Mathlib.Omega.{arith}
 use borrow.Author.Tests.{eqb-true}
 use Rattle.width.specs.Blocks.{count}
-use Rattle.machine.specs.Answers.{Reply, reply, number, done, isDone}
+use Rattle.machine.specs.declared.Reply.{Reply}
+use Rattle.machine.specs.Answers.{reply, number, done, isDone}
 use Rattle.machine.specs.Geometry.{Bench}
 use Rattle.machine.specs.Setting.{smaller}
 use Rattle.machine.proofs.TestLaws.{false-true}

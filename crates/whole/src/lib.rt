@@ -8,7 +8,7 @@ ghost use Rattle.machine.specs.Setting.{smaller};
 ghost use Rattle.run.specs.Whole.{whole, finishedAs, Delivers};
 
 // Starts a run and takes turns until one is refused: C becomes the product, and no other byte of memory changes.
-pub fn product(
+pub fn whole(
     plan: Plan,
     m: Machine,
     registers: &mut [u8],
@@ -22,7 +22,7 @@ pub fn product(
 {
     let started = starting::start(plan, m, registers, marks, memory);
     let answer = started.answer;
-    if !tile::is_done(answer) {
+    if !machine::is_done(answer) {
         return Finished {
             answer: answer,
             count: 0,

@@ -1,137 +1,36 @@
-use mathlib.Core.Path.{sym, ap}
-use Prim.Native.Nat.{ℕ}
+use mathlib.Core.Path.{ap}
+use native.Mathlib.Omega.{arith}
+use Prim.Native.Nat.{_^_, _<_}
 use borrow.Author.Needs.{needs}
-use Rattle.machine.specs.declared.Answer.{Answer}
-use Rattle.machine.specs.Answers.{reply}
+use Rattle.machine.proofs.AnswerLaws.{number-small}
 use Rattle.blocks.specs.Blocks.{packed}
 use Rattle.blocks.proofs.packed.Statement.{statement}
 use Rattle.blocks.proofs.packed.Tie as tie
 
--- what the case of an answer comes to
-abbrev told : Answer → ℕ
-told a = packed (reply a)
-
-enum-told : tie.Need-enum-told
-enum-told c = search needs
-
-enum-told-2 : tie.Need-enum-told-2
-enum-told-2 c = search needs
-
-enum-told-3 : tie.Need-enum-told-3
-enum-told-3 c = search needs
-
-enum-told-4 : tie.Need-enum-told-4
-enum-told-4 c = search needs
-
-enum-told-5 : tie.Need-enum-told-5
-enum-told-5 c = search needs
-
-enum-known-answer : tie.Need-enum-known-answer
-enum-known-answer c = search needs
+reply-of-requires : tie.Need-reply-of-requires
+reply-of-requires c κs = search needs
 
 mul-result : tie.Need-mul-result
 mul-result c = search needs
 
 add-result : tie.Need-add-result
-add-result c = search needs
+add-result c =
+    let d = c .before .before in
+    let number : d .reply-of .result .number < 2 ^ 16 = rw (d .reply-of .ensures) (number-small (d .before .args .answer)) in
+    omega arith
 
 mul-result-2 : tie.Need-mul-result-2
 mul-result-2 c = search needs
 
 add-result-2 : tie.Need-add-result-2
-add-result-2 c = search needs
-
-enum-told-6 : tie.Need-enum-told-6
-enum-told-6 c = search needs
-
-enum-told-7 : tie.Need-enum-told-7
-enum-told-7 c = search needs
-
-enum-told-8 : tie.Need-enum-told-8
-enum-told-8 c = search needs
-
-enum-told-9 : tie.Need-enum-told-9
-enum-told-9 c = search needs
-
-enum-told-10 : tie.Need-enum-told-10
-enum-told-10 c = search needs
-
-enum-told-11 : tie.Need-enum-told-11
-enum-told-11 c = search needs
-
-enum-told-12 : tie.Need-enum-told-12
-enum-told-12 c = search needs
+add-result-2 c =
+    let d = c .before .before .before in
+    let number : d .reply-of .result .number < 2 ^ 16 = rw (d .reply-of .ensures) (number-small (d .before .args .answer)) in
+    omega arith
 
 returns : tie.Need-returns
-returns c = ap told (sym (c .enum-told .given .1))
-
-returns-2 : tie.Need-returns-2
-returns-2 c = ap told (sym (c .enum-told2 .given .1))
-
-returns-3 : tie.Need-returns-3
-returns-3 c = ap told (sym (c .enum-told3 .given .1))
-
-returns-4 : tie.Need-returns-4
-returns-4 c = ap told (sym (c .enum-told4 .given .1))
-
-returns-5 : tie.Need-returns-5
-returns-5 c = ap told (sym (c .enum-told5 .given .1))
-
-returns-6 : tie.Need-returns-6
-returns-6 c = ap told (sym (c .before .answer .given .1))
-
-returns-7 : tie.Need-returns-7
-returns-7 c = ap told (sym (c .enum-told6 .given .1))
-
-returns-8 : tie.Need-returns-8
-returns-8 c = ap told (sym (c .enum-told7 .given .1))
-
-returns-9 : tie.Need-returns-9
-returns-9 c = ap told (sym (c .enum-told8 .given .1))
-
-returns-10 : tie.Need-returns-10
-returns-10 c = ap told (sym (c .enum-told9 .given .1))
-
-returns-11 : tie.Need-returns-11
-returns-11 c = ap told (sym (c .enum-told10 .given .1))
-
-returns-12 : tie.Need-returns-12
-returns-12 c = ap told (sym (c .enum-told11 .given .1))
-
-returns-13 : tie.Need-returns-13
-returns-13 c = ap told (sym (c .enum-told12 .given .1))
+returns c = ap packed (c .before .before .before .reply-of .ensures)
 
 pub packed-spec : {M : Type 1} → statement M
 packed-spec =
-    tie.close
-    (tie.spec
-    enum-told
-    enum-told-2
-    enum-told-3
-    enum-told-4
-    enum-told-5
-    enum-known-answer
-    mul-result
-    add-result
-    mul-result-2
-    add-result-2
-    enum-told-6
-    enum-told-7
-    enum-told-8
-    enum-told-9
-    enum-told-10
-    enum-told-11
-    enum-told-12
-    returns
-    returns-2
-    returns-3
-    returns-4
-    returns-5
-    returns-6
-    returns-7
-    returns-8
-    returns-9
-    returns-10
-    returns-11
-    returns-12
-    returns-13)
+    tie.close (tie.spec reply-of-requires mul-result add-result mul-result-2 add-result-2 returns)

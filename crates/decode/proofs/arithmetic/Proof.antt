@@ -1,6 +1,6 @@
 use mathlib.Core.Path.{_∙_}
 use Rattle.machine.specs.Listing.{listing}
-use Rattle.decode.proofs.TableLaws.{meant-at, left-out}
+use Rattle.decode_table.proofs.TableLaws.{meant-at, left-out}
 use Rattle.decode.proofs.arithmetic.Statement.{statement}
 use Rattle.decode.proofs.arithmetic.Tie as tie
 

@@ -6,8 +6,8 @@ use borrow.Author.Tests.{not-true, not-false}
 use Rattle.machine.specs.declared.Wrong.the-variants.{Unlisted}
 use Rattle.machine.specs.declared.Instruction.the-variants.{Illegal}
 use Rattle.machine.specs.Listing.{bits, listing, ranged, decode}
-use Rattle.decode.specs.Table.{entryOf, restRight, meant}
-use Rattle.decode.proofs.TableLaws.{wrong-opcode, table-decodes}
+use Rattle.decode_table.specs.Table.{entryOf, restRight, meant}
+use Rattle.decode_table.proofs.TableLaws.{wrong-opcode, table-decodes}
 use borrow.Author.Needs.{needs}
 use Rattle.decode.proofs.decode.Statement.{statement}
 use Rattle.decode.proofs.decode.Tie as tie

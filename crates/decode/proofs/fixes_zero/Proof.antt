@@ -1,5 +1,5 @@
 use native.Mathlib.Omega.{arith}
-use Rattle.decode.proofs.TableLaws.{zero-key, zero-low, zero-high, zero-none, not-between}
+use Rattle.decode_table.proofs.TableLaws.{zero-key, zero-low, zero-high, zero-none, not-between}
 use Rattle.decode.proofs.fixes_zero.Statement.{statement}
 use Rattle.decode.proofs.fixes_zero.Tie as tie
 

@@ -1,7 +1,7 @@
 use mathlib.Core.Path.{_∙_}
 use Prim.Native.Nat.{_+_, _-_}
 use native.Mathlib.Omega.{arith}
-use Rattle.decode.proofs.TableLaws.{no-number, meant-at, too-large}
+use Rattle.decode_table.proofs.TableLaws.{no-number, meant-at, too-large}
 use Rattle.decode.proofs.meant.Statement.{statement}
 use Rattle.decode.proofs.meant.Tie as tie
 

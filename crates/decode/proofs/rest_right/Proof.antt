@@ -3,7 +3,7 @@ use mathlib.Core.Bool.{Bool, true, false, cond}
 use Prim.Native.Nat.{ℕ}
 use lib.Dec.{eqb}
 use Rattle.machine.specs.Listing.{field20}
-use Rattle.decode.specs.Table.{fixesZero}
+use Rattle.decode_table.specs.Table.{fixesZero}
 use borrow.Author.Needs.{needs}
 use Rattle.decode.proofs.rest_right.Statement.{statement}
 use Rattle.decode.proofs.rest_right.Tie as tie

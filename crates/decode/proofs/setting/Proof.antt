@@ -1,7 +1,7 @@
 use mathlib.Core.Path.{_∙_}
 use native.Mathlib.Omega.{arith}
 use Rattle.machine.specs.Listing.{listing}
-use Rattle.decode.proofs.TableLaws.{meant-at, above}
+use Rattle.decode_table.proofs.TableLaws.{meant-at, above}
 use Rattle.decode.proofs.setting.Statement.{statement}
 use Rattle.decode.proofs.setting.Tie as tie
 

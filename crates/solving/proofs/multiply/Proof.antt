@@ -2,7 +2,7 @@ use mathlib.Core.Path.{ap}
 use Prim.Native.Nat.{ℕ, _*_, _/_, _≤_}
 use native.Mathlib.Omega.{arith}
 use Rattle.run.specs.Whole.{finishedAs}
-use Rattle.layout.proofs.LayoutLaws.{widths}
+use Rattle.product_memory.proofs.MemoryLaws.{widths}
 use Rattle.solving.proofs.RunLaws.{c-fits, multiplied}
 use borrow.Author.Needs.{needs}
 use Rattle.solving.proofs.multiply.Statement.{statement}
@@ -24,14 +24,14 @@ start-requires c κs = search needs
 plan-for-requires : tie.Need-plan-for-requires
 plan-for-requires c κs = search needs
 
-slice-aggregate-product : tie.Need-slice-aggregate-product
-slice-aggregate-product c = search needs
+slice-aggregate-whole : tie.Need-slice-aggregate-whole
+slice-aggregate-whole c = search needs
 
-slice-aggregate-product-2 : tie.Need-slice-aggregate-product-2
-slice-aggregate-product-2 c = search needs
+slice-aggregate-whole-2 : tie.Need-slice-aggregate-whole-2
+slice-aggregate-whole-2 c = search needs
 
-product-requires : tie.Need-product-requires
-product-requires c κs = search needs
+whole-requires : tie.Need-whole-requires
+whole-requires c κs = search needs
 
 mul-width : tie.Need-mul-width
 mul-width c =
@@ -43,7 +43,7 @@ read-elements-requires c κs =
     let p = c .before .before .before .before .before .before in
     let s = p .before .before .before .before .before .before .before .before .before .before .before .before in
     let e = ap (λ (t : ℕ). t * (s .args .factor * (s .args .sew / 8))) (s .pre .1 .1 .1) in
-    (widths (s .args .sew) (s .args .factor) (s .pre .1 .0) .1, omega (arith, fits s, p .product .kept .1 .1 .1 .1 .0))
+    (widths (s .args .sew) (s .args .factor) (s .pre .1 .0) .1, omega (arith, fits s, p .whole .kept .1 .1 .1 .1 .0))
 
 same-length : tie.Need-same-length
 same-length c = search needs
@@ -62,7 +62,7 @@ returns c =
     multiplied (a .sew) (a .factor) (a .m) (a .k) (a .n) (s .pre .1 .0) (s .pre .0 .0) (s .pre .0 .1 .0) (s .pre .0 .1 .1)
     (t .start .result) (t .start .last .1 .1 .1 .1 .1 .0) (a .memory .now) (t .start .ensures) (s .pre .1 .1 .0)
     (q .plan-for .result) (q .plan-for .ensures)
-    (finishedAs (p .product .result) (p .product .last .1 .1 .0) (p .product .last .1 .1 .1 .0) (p .product .last .1 .1 .1 .1 .0)) (p .product .ensures .1)
+    (finishedAs (p .whole .result) (p .whole .last .1 .1 .0) (p .whole .last .1 .1 .1 .0) (p .whole .last .1 .1 .1 .1 .0)) (p .whole .ensures .1)
     (r .read-elements .last .0) (λ j l. r .read-elements .ensures .1 j (omega arith))
 
 pub multiply-spec : {M : Type 1} → statement M
@@ -73,9 +73,9 @@ multiply-spec =
     slice-aggregate-start-2
     start-requires
     plan-for-requires
-    slice-aggregate-product
-    slice-aggregate-product-2
-    product-requires
+    slice-aggregate-whole
+    slice-aggregate-whole-2
+    whole-requires
     mul-width
     read-elements-requires
     same-length

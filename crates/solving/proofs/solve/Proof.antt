@@ -5,7 +5,7 @@ use native.Mathlib.Omega.{arith}
 use lib.ListN.{replicate}
 use Rattle.element.specs.Element.{Width}
 use Rattle.element.proofs.Laws.{width-small}
-use Rattle.layout.proofs.LayoutLaws.{widths, matrix-small}
+use Rattle.product_memory.proofs.MemoryLaws.{widths, matrix-small}
 use Rattle.text.specs.Output.{answerText}
 use Rattle.text.specs.Parts.{Wrote}
 use Rattle.solving.proofs.SolveLaws.{Solved, solved}

@@ -30,8 +30,8 @@ plan-in-requires c κs = search needs
 machine-of-requires : tie.Need-machine-of-requires
 machine-of-requires c κs = search needs
 
-product-requires : tie.Need-product-requires
-product-requires c κs = search needs
+whole-requires : tie.Need-whole-requires
+whole-requires c κs = search needs
 
 is-done-requires : tie.Need-is-done-requires
 is-done-requires c κs = search needs
@@ -60,8 +60,8 @@ returns-3 c =
     let l = p .before in
     let a = l .before .before .before .before .before .before .before .args in
     run-shown _ (a .machine .now) (a .registers .now) (a .marks .now) (a .memory .now) (a .steps .now)
-    false (p .plan-in .result) (m .machine-of .result) (s .product .result) _ _ _ _ _ (c .packed3 .result)
-    (l .before .if1 .left) (l .if2 .left) (p .plan-in .ensures) (m .machine-of .ensures) (s .product .ensures .0)
+    false (p .plan-in .result) (m .machine-of .result) (s .whole .result) _ _ _ _ _ (c .packed3 .result)
+    (l .before .if1 .left) (l .if2 .left) (p .plan-in .ensures) (m .machine-of .ensures) (s .whole .ensures .0)
     (sym (d .is-done .ensures) ∙ not-true (d .is-done .result) (c .before .if3 .taken)) refl refl (c .packed3 .ensures)
 
 put-machine-requires : tie.Need-put-machine-requires
@@ -101,8 +101,8 @@ returns-4 c =
     let l = p .before in
     let a = l .before .before .before .before .before .before .before .args in
     run-shown _ (a .machine .now) (a .registers .now) (a .marks .now) (a .memory .now) (a .steps .now)
-    true (p .plan-in .result) (m .machine-of .result) (s .product .result) _ _ _ _ _ (c .packed4 .result)
-    (l .before .if1 .left) (l .if2 .left) (p .plan-in .ensures) (m .machine-of .ensures) (s .product .ensures .0)
+    true (p .plan-in .result) (m .machine-of .result) (s .whole .result) _ _ _ _ _ (c .packed4 .result)
+    (l .before .if1 .left) (l .if2 .left) (p .plan-in .ensures) (m .machine-of .ensures) (s .whole .ensures .0)
     (sym (d .is-done .ensures) ∙ not-false (d .is-done .result) (i .if3 .left)) (x .put-machine .ensures) (w .write8 .ensures) (c .packed4 .ensures)
 
 pub bodlarina-run-spec : {M : Type 1} → statement M
@@ -115,7 +115,7 @@ bodlarina-run-spec =
     returns-2
     plan-in-requires
     machine-of-requires
-    product-requires
+    whole-requires
     is-done-requires
     packed-requires-3
     same-length

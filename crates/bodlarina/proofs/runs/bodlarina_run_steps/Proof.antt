@@ -1,7 +1,7 @@
 use mathlib.Core.Path.{_≡_, sym, _∙_}
 use mathlib.Core.Bool.{true}
 use borrow.Author.Tests.{not-true, not-false}
-use Rattle.blocks.specs.Blocks.{runFit}
+use Rattle.run_blocks.specs.RunBlocks.{runFit}
 use Rattle.bodlarina.proofs.RunLaws.{fit-length, steps-unfit, steps-fit}
 use borrow.Author.Needs.{needs}
 use Rattle.bodlarina.proofs.runs.bodlarina_run_steps.Statement.{statement}

@@ -1,0 +1,2 @@
+-- Laws of the table, and its agreement with the listing.
+pub mod TableLaws

@@ -1,0 +1,90 @@
+-- The loop: the first `i` values are stored.
+use mathlib.Core.Path.{_≡_, refl, ap, _∙_}
+use Prim.Native.Nat.{ℕ, _+_, _-_, _*_, _≤_}
+use native.Mathlib.Nat.{zero-mul}
+use native.Mathlib.Omega.{arith}
+use lib.ListN.{length, getD}
+use borrow.Author.Needs.{needs}
+use Rattle.width.specs.Tile.{putRow}
+use Rattle.width.proofs.PutLaws.{row-fits, next-row}
+use Rattle.width.proofs.ElementLaws.{putRow-next}
+use Rattle.product_memory.proofs.put_elements.Statement.{statement}
+use Rattle.product_memory.proofs.put_elements.Tie as tie
+
+abbrev Inv-loop : tie.InvT-loop
+Inv-loop memory₀ at width values to₀ i₀ memory to i =
+    (i ≤ length values) × (to ≡ at + i * width) × (length memory ≡ length memory₀) × (memory ≡ putRow at i width (λ q. getD values q 0) memory₀)
+
+abbrev μ-loop : tie.MeasureT-loop
+μ-loop memory₀ at width values to₀ i₀ memory to i = length values - i
+
+loop-holds : tie.Need-loop-holds Inv-loop μ-loop
+unfolding putRow
+loop-holds c = (omega arith, omega (arith, zero-mul (c .before .before .args .width)), refl, refl)
+
+-- the element lies in memory
+fits : (c : tie.In-loop Inv-loop μ-loop) →
+    let a = c .before .before .before .before .args in c .before .loop .to + a .width ≤ length (a .memory .now)
+fits c =
+    let s = c .before .before .before .before in
+    let p = row-fits (c .before .loop .i) (length (s .args .values .now)) (s .args .width) (c .loop-test .taken) in
+    omega (arith, s .pre)
+
+mul-put-element : tie.Need-mul-put-element Inv-loop μ-loop
+mul-put-element c = search needs
+
+shared-slice-read-put-element : tie.Need-shared-slice-read-put-element Inv-loop μ-loop
+shared-slice-read-put-element c = search needs
+
+put-element-requires : tie.Need-put-element-requires Inv-loop μ-loop
+put-element-requires c κs =
+    let f = fits (c .before .before) in (c .before .before .before .before .before .before .pre .0, omega arith)
+
+add-to : tie.Need-add-to Inv-loop μ-loop
+add-to c = let f = fits (c .before .before .before .before .before) in omega arith
+
+add-i : tie.Need-add-i Inv-loop μ-loop
+add-i c = search needs
+
+loop-less : tie.Need-loop-less Inv-loop μ-loop
+loop-less c = search needs
+
+loop-again : tie.Need-loop-again Inv-loop μ-loop
+loop-again c =
+    let d = c .before .before .before .before .before in
+    let l = d .before .loop in
+    let a = d .before .before .before .before .args in
+    let t = d .loop-test .taken in
+    let w = c .before .before .put-element in (
+      omega arith,
+      omega (arith, next-row (l .i) (a .width)),
+      w .kept .0 ∙ l .inv .2,
+      putRow-next (a .width) (a .memory .now) (l .memory) (w .last .0) (λ q. getD (a .values .now) q 0) (a .at) (l .i) (l .to) (getD (a .values .now) (l .i) 0)
+          (l .inv .3) (l .inv .1) refl (w .ensures),
+    )
+
+same-length : tie.Need-same-length Inv-loop μ-loop
+same-length c = search needs
+
+returns : tie.Need-returns Inv-loop μ-loop
+returns c =
+    let l = c .before .loop in
+    let a = c .before .before .before .before .args in
+    l .inv .3 ∙ ap (λ (t : ℕ). putRow (a .at) t (a .width) (λ q. getD (a .values .now) q 0) (a .memory .now)) (omega arith)
+
+pub put-elements-spec : {M : Type 1} → statement M
+put-elements-spec =
+    tie.close
+    (tie.spec
+    Inv-loop
+    μ-loop
+    loop-holds
+    mul-put-element
+    shared-slice-read-put-element
+    put-element-requires
+    add-to
+    add-i
+    loop-less
+    loop-again
+    same-length
+    returns)

@@ -1,0 +1,87 @@
+-- The loop: below `j` the values are the elements.
+use mathlib.Core.Path.{_≡_, refl, ap, _∙_}
+use Prim.Native.Nat.{ℕ, _+_, _-_, _*_, _≤_, _<_}
+use native.Mathlib.Nat.{zero-mul}
+use native.Mathlib.Omega.{arith}
+use lib.ListN.{length, getD, set, length-set}
+use lib.Seq.{getD-set-same, getD-set-other}
+use borrow.Author.Count.{below-more}
+use borrow.Author.Needs.{needs}
+use Rattle.width.specs.Tile.{le}
+use Rattle.width.proofs.PutLaws.{row-fits, next-row}
+use Rattle.product_memory.proofs.read_elements.Statement.{statement}
+use Rattle.product_memory.proofs.read_elements.Tie as tie
+
+abbrev Inv-loop : tie.InvT-loop
+Inv-loop values₀ memory at width from₀ j₀ values from j =
+    (j ≤ length values) × (from ≡ at + j * width) × (length values ≡ length values₀)
+    × ((q : ℕ) → q < j → getD values q 0 ≡ le memory (at + q * width) width)
+
+abbrev μ-loop : tie.MeasureT-loop
+μ-loop values₀ memory at width from₀ j₀ values from j = length values - j
+
+loop-holds : tie.Need-loop-holds Inv-loop μ-loop
+loop-holds c = (omega arith, omega (arith, zero-mul (c .before .before .args .width)), refl, λ q h. absurd (omega arith))
+
+-- the element lies in memory
+fits : (c : tie.In-loop Inv-loop μ-loop) →
+    let a = c .before .before .before .before .args in c .before .loop .from + a .width ≤ length (a .memory .now)
+fits c =
+    let s = c .before .before .before .before in
+    let p = row-fits (c .before .loop .j) (length (s .args .values .now)) (s .args .width) (omega (arith, c .loop-test .taken)) in
+    omega (arith, s .pre)
+
+read-element-requires : tie.Need-read-element-requires Inv-loop μ-loop
+read-element-requires c κs = (c .before .before .before .before .pre .0, fits c)
+
+mul-values : tie.Need-mul-values Inv-loop μ-loop
+mul-values c = search needs
+
+slice-write-values : tie.Need-slice-write-values Inv-loop μ-loop
+slice-write-values c = search needs
+
+add-from : tie.Need-add-from Inv-loop μ-loop
+add-from c = let f = fits (c .before) in omega arith
+
+add-j : tie.Need-add-j Inv-loop μ-loop
+add-j c = search needs
+
+loop-less : tie.Need-loop-less Inv-loop μ-loop
+loop-less c = simp length-set (omega arith)
+
+loop-again : tie.Need-loop-again Inv-loop μ-loop
+loop-again c =
+    let l = c .before .before .loop in
+    let a = c .before .before .before .before .before .args in
+    let t = c .before .loop-test .taken in
+    let r = c .read-element in (
+      simp length-set (omega arith),
+      omega (arith, next-row (l .j) (a .width)),
+      simp length-set (omega arith),
+      below-more (λ q. getD (set (l .values) (l .j) (r .result)) q 0 ≡ le (a .memory .now) (a .at + q * a .width) (a .width)) (l .j)
+          (λ q k. getD-set-other (l .values) (l .j) q (r .result) 0 (λ e. omega arith) ∙ l .inv .3 q k)
+          (getD-set-same (l .values) (l .j) (r .result) 0 (omega arith) ∙ r .ensures ∙ ap (λ (p : ℕ). le (a .memory .now) p (a .width)) (l .inv .1)),
+    )
+
+same-length : tie.Need-same-length Inv-loop μ-loop
+same-length c = search needs
+
+returns : tie.Need-returns Inv-loop μ-loop
+returns c = let l = c .before .loop in (l .inv .2, λ q h. l .inv .3 q (omega arith))
+
+pub read-elements-spec : {M : Type 1} → statement M
+read-elements-spec =
+    tie.close
+    (tie.spec
+    Inv-loop
+    μ-loop
+    loop-holds
+    read-element-requires
+    mul-values
+    slice-write-values
+    add-from
+    add-j
+    loop-less
+    loop-again
+    same-length
+    returns)

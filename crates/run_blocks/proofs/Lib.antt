@@ -1,0 +1,2 @@
+-- Laws of a run's block.
+pub mod RunBlockLaws

@@ -1,0 +1,49 @@
+use mathlib.Core.Path.{ap, ap₂, _∙_}
+use lib.ListN.{length}
+use borrow.Author.Tests.{eq-eqb, ne-eqb}
+use Rattle.machine.specs.Tests.{every}
+use Rattle.run_blocks.specs.declared.Spot.{Spot}
+use Rattle.run_blocks.specs.RunBlocks.{spotOf, placeOf, sameSpot, runFit}
+use borrow.Author.Needs.{needs}
+use Rattle.run_blocks.proofs.is_fit.Statement.{statement}
+use Rattle.run_blocks.proofs.is_fit.Tie as tie
+
+returns : tie.Need-returns
+unfolding runFit
+returns c = rw (ne-eqb (length (c .before .before .args .block .now)) 144 (c .if1 .taken))
+
+spot-in-requires : tie.Need-spot-in-requires
+spot-in-requires c κs = search needs
+
+place-of-requires : tie.Need-place-of-requires
+place-of-requires c κs = search needs
+
+spot-of-requires : tie.Need-spot-of-requires
+spot-of-requires c κs = search needs
+
+same-spot-requires : tie.Need-same-spot-requires
+same-spot-requires c κs = search needs
+
+returns-2 : tie.Need-returns-2
+unfolding runFit
+returns-2 c =
+    let o = c .before in
+    let p = o .before in
+    let s = p .before in
+    let e = s .before in
+    let b = e .before .before .args .block .now in
+    rw (eq-eqb (length b) 144 (e .if1 .left))
+    (c .same-spot .ensures
+    ∙ ap₂ (λ (s t : Spot). every (sameSpot s t)) (s .spot-in .ensures)
+    (o .spot-of .ensures ∙ ap spotOf (p .place-of .ensures ∙ ap placeOf (s .spot-in .ensures))))
+
+pub is-fit-spec : {M : Type 1} → statement M
+is-fit-spec =
+    tie.close
+    (tie.spec
+    returns
+    spot-in-requires
+    place-of-requires
+    spot-of-requires
+    same-spot-requires
+    returns-2)

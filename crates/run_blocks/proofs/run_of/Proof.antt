@@ -1,0 +1,34 @@
+use Rattle.run_blocks.specs.RunBlocks.{runOf}
+use borrow.Author.Needs.{needs}
+use Rattle.run_blocks.proofs.run_of.Statement.{statement}
+use Rattle.run_blocks.proofs.run_of.Tie as tie
+
+plan-of-requires : tie.Need-plan-of-requires
+plan-of-requires c κs = search needs
+
+spot-in-requires : tie.Need-spot-in-requires
+spot-in-requires c κs = search needs
+
+place-of-requires : tie.Need-place-of-requires
+place-of-requires c κs = search needs
+
+read8-requires : tie.Need-read8-requires
+read8-requires c κs = search needs
+
+read8-requires-2 : tie.Need-read8-requires-2
+read8-requires-2 c κs = search needs
+
+returns : tie.Need-returns
+unfolding runOf
+returns c = cc
+
+pub run-of-spec : {M : Type 1} → statement M
+run-of-spec =
+    tie.close
+    (tie.spec
+    plan-of-requires
+    spot-in-requires
+    place-of-requires
+    read8-requires
+    read8-requires-2
+    returns)

@@ -1,0 +1,130 @@
+use mathlib.Core.Path.{sym, ap, _∙_}
+use Rattle.run_blocks.specs.RunBlocks.{spotOf}
+use borrow.Author.Needs.{needs}
+use Rattle.run_blocks.proofs.spot_of.Statement.{statement}
+use Rattle.run_blocks.proofs.spot_of.Tie as tie
+
+enum-told : tie.Need-enum-told
+enum-told c = search needs
+
+spot-at-requires : tie.Need-spot-at-requires
+spot-at-requires c κs = search needs
+
+enum-known-place : tie.Need-enum-known-place
+enum-known-place c = search needs
+
+spot-at-requires-2 : tie.Need-spot-at-requires-2
+spot-at-requires-2 c κs = search needs
+
+enum-known-place-2 : tie.Need-enum-known-place-2
+enum-known-place-2 c = search needs
+
+spot-at-requires-3 : tie.Need-spot-at-requires-3
+spot-at-requires-3 c κs = search needs
+
+enum-known-place-3 : tie.Need-enum-known-place-3
+enum-known-place-3 c = search needs
+
+spot-at-requires-4 : tie.Need-spot-at-requires-4
+spot-at-requires-4 c κs = search needs
+
+enum-known-place-4 : tie.Need-enum-known-place-4
+enum-known-place-4 c = search needs
+
+spot-at-requires-5 : tie.Need-spot-at-requires-5
+spot-at-requires-5 c κs = search needs
+
+enum-known-place-5 : tie.Need-enum-known-place-5
+enum-known-place-5 c = search needs
+
+spot-at-requires-6 : tie.Need-spot-at-requires-6
+spot-at-requires-6 c κs = search needs
+
+enum-known-place-6 : tie.Need-enum-known-place-6
+enum-known-place-6 c = search needs
+
+spot-at-requires-7 : tie.Need-spot-at-requires-7
+spot-at-requires-7 c κs = search needs
+
+enum-known-place-7 : tie.Need-enum-known-place-7
+enum-known-place-7 c = search needs
+
+spot-at-requires-8 : tie.Need-spot-at-requires-8
+spot-at-requires-8 c κs = search needs
+
+enum-known-place-8 : tie.Need-enum-known-place-8
+enum-known-place-8 c = search needs
+
+spot-at-requires-9 : tie.Need-spot-at-requires-9
+spot-at-requires-9 c κs = search needs
+
+enum-told-2 : tie.Need-enum-told-2
+enum-told-2 c = search needs
+
+spot-at-requires-10 : tie.Need-spot-at-requires-10
+spot-at-requires-10 c κs = search needs
+
+returns : tie.Need-returns
+returns c = c .spot-at .ensures ∙ ap spotOf (sym (c .before .enum-told .given .1))
+
+returns-2 : tie.Need-returns-2
+returns-2 c = c .spot-at2 .ensures ∙ ap spotOf (sym (c .before .before .place .given .1))
+
+returns-3 : tie.Need-returns-3
+returns-3 c = c .spot-at3 .ensures ∙ ap spotOf (sym (c .before .before .place2 .given .1))
+
+returns-4 : tie.Need-returns-4
+returns-4 c = c .spot-at4 .ensures ∙ ap spotOf (sym (c .before .before .place3 .given .1))
+
+returns-5 : tie.Need-returns-5
+returns-5 c = c .spot-at5 .ensures ∙ ap spotOf (sym (c .before .before .place4 .given .1))
+
+returns-6 : tie.Need-returns-6
+returns-6 c = c .spot-at6 .ensures ∙ ap spotOf (sym (c .before .before .place5 .given .1))
+
+returns-7 : tie.Need-returns-7
+returns-7 c = c .spot-at7 .ensures ∙ ap spotOf (sym (c .before .before .place6 .given .1))
+
+returns-8 : tie.Need-returns-8
+returns-8 c = c .spot-at8 .ensures ∙ ap spotOf (sym (c .before .before .place7 .given .1))
+
+returns-9 : tie.Need-returns-9
+returns-9 c = c .spot-at9 .ensures ∙ ap spotOf (sym (c .before .before .place8 .given .1))
+
+returns-10 : tie.Need-returns-10
+returns-10 c = c .spot-at10 .ensures ∙ ap spotOf (sym (c .before .enum-told2 .given .1))
+
+pub spot-of-spec : {M : Type 1} → statement M
+spot-of-spec =
+    tie.close
+    (tie.spec
+    enum-told
+    spot-at-requires
+    enum-known-place
+    spot-at-requires-2
+    enum-known-place-2
+    spot-at-requires-3
+    enum-known-place-3
+    spot-at-requires-4
+    enum-known-place-4
+    spot-at-requires-5
+    enum-known-place-5
+    spot-at-requires-6
+    enum-known-place-6
+    spot-at-requires-7
+    enum-known-place-7
+    spot-at-requires-8
+    enum-known-place-8
+    spot-at-requires-9
+    enum-told-2
+    spot-at-requires-10
+    returns
+    returns-2
+    returns-3
+    returns-4
+    returns-5
+    returns-6
+    returns-7
+    returns-8
+    returns-9
+    returns-10)

@@ -1,0 +1,2 @@
+-- Only the scalars that a word names count.
+pub mod NamedScalars

@@ -1,0 +1,25 @@
+use borrow.Author.Tests.{eq-eqb, ne-eqb}
+use borrow.Author.Needs.{needs}
+use Rattle.scalar_block.proofs.put_scalar.Statement.{statement}
+use Rattle.scalar_block.proofs.put_scalar.Tie as tie
+
+returns : tie.Need-returns
+returns c = rw (eq-eqb (c .before .before .args .slot) 0 (c .if1 .taken))
+
+mul-write8 : tie.Need-mul-write8
+mul-write8 c = search needs
+
+write8-requires : tie.Need-write8-requires
+write8-requires c κs = search needs
+
+same-length : tie.Need-same-length
+same-length c = search needs
+
+returns-2 : tie.Need-returns-2
+returns-2 c =
+    let w = c .before .before in
+    let i = w .before .before in
+    rw (ne-eqb (i .before .before .args .slot) 0 (i .if1 .left)) (w .write8 .ensures)
+
+pub put-scalar-spec : {M : Type 1} → statement M
+put-scalar-spec = tie.close (tie.spec returns mul-write8 write8-requires same-length returns-2)
