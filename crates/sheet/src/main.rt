@@ -13,6 +13,10 @@ fn number(n: u64) {
     io::print_decimal(STDOUT_FILENO, n);
 }
 
+fn byte(b: u8) {
+    number(b as u64);
+}
+
 // The answer's number; answer 5 with its row and column.
 fn answer(a: Answer) {
     let reply = machine::reply_of(a);
@@ -141,28 +145,26 @@ fn before(kind: u64, started: Machine, left: Machine) -> Machine {
     left
 }
 
+fn step_words(started: Machine, registers: &mut [u8], marks: &mut [u8], memory: &mut [u8]) {
+    let mut m = started;
+    let mut i: usize = 0;
+    while i < 15 {
+        word_heading(i);
+        let row = WORDS[i];
+        let word = (row[3] % 4294967296) as u32;
+        let from = before(row[0], started, m);
+        m = step(from, registers, marks, memory, row[1], row[2], word);
+        i += 1;
+    }
+}
+
 // The lines on words, on one machine.
 fn words() {
     let mut registers = [7u8; 512];
     let mut marks = [1u8; 512];
     let mut memory = [0u8; 64];
     let started = start(64, 256, 0, 0, &registers, &mut marks);
-    let mut m = started;
-    let mut i: usize = 0;
-    while i < 15 {
-        word_heading(i);
-        let word = (WORDS[i][3] % 4294967296) as u32;
-        m = step(
-            before(WORDS[i][0], started, m),
-            &mut registers,
-            &mut marks,
-            &mut memory,
-            WORDS[i][1],
-            WORDS[i][2],
-            word,
-        );
-        i += 1;
-    }
+    step_words(started, &mut registers, &mut marks, &mut memory);
 }
 
 // ---- the lines on runs
@@ -232,16 +234,29 @@ fn show_plan(plan: Plan) {
     number(plan.factor);
 }
 
-// What a run answers, and its steps; the first byte of C where it is of one element.
-fn show_run(plan: Plan, given: Answer, steps: u64, first: u8) {
+// What a run answers, and its steps; and C where it is one element.
+fn show_run(plan: Plan, given: Answer, steps: u64, memory: &[u8]) {
     answer(given);
     say(b" steps ");
     number(steps);
     say(b"\n");
-    if plan.m == 1 && plan.n == 1 && plan.k < 4 {
+    if plan.m == 1 && plan.n == 1 && plan.k < 4 && 4096 < memory.len() {
         say(b"C ");
-        number(first as u64);
+        byte(memory[4096]);
         say(b"\n");
+    }
+}
+
+fn run_plans(m: Machine, registers: &mut [u8], marks: &mut [u8], memory: &mut [u8]) {
+    let mut i: usize = 0;
+    while i < 11 {
+        run_heading(i);
+        let plan = plan_of(RUNS[i]);
+        show_plan(plan);
+        let done = whole::whole(plan, m, registers, marks, memory);
+        let given = done.answer;
+        show_run(plan, given, done.count, memory);
+        i += 1;
     }
 }
 
@@ -251,16 +266,7 @@ fn runs() {
     let mut marks = [1u8; 512];
     let mut memory = [1u8; 8192];
     let m = start(64, 256, 0, 0, &registers, &mut marks);
-    let mut i: usize = 0;
-    while i < 11 {
-        run_heading(i);
-        let plan = plan_of(RUNS[i]);
-        show_plan(plan);
-        let done = whole::whole(plan, m, &mut registers, &mut marks, &mut memory);
-        let given = done.answer;
-        show_run(plan, given, done.count, memory[4096]);
-        i += 1;
-    }
+    run_plans(m, &mut registers, &mut marks, &mut memory);
 }
 
 // Starts at the bounds of what is permitted.

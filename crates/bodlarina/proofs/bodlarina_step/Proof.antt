@@ -2,12 +2,6 @@ use Rattle.bodlarina.proofs.HostLaws.{step-short, step-short-scalars, s
 use borrow.Author.Needs.{needs}
 use Rattle.bodlarina.proofs.bodlarina_step.Statement.{statement}
 use Rattle.bodlarina.proofs.bodlarina_step.Tie as tie
-use Rattle.bodlarina.proofs.bodlarina_step.Reads as reads
-use Rattle.bodlarina.proofs.bodlarina_step.Lts as lts
-use Rattle.blocks.proofs.machine_of.Reads as machine-of-reads
-use Rattle.blocks.proofs.packed.Reads as packed-reads
-use Rattle.blocks.proofs.put_machine.Reads as put-machine-reads
-use Rattle.bodlarina.proofs.step_block.Reads as step-block-reads
 
 packed-requires : tie.Need-packed-requires
 packed-requires c κs = search needs
