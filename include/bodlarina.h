@@ -80,6 +80,7 @@ uint64_t bodlarina_version(void);
 #define BODLARINA_LEFT_OUT_WORD 11u  /* an instruction of the draft that is not carried out here: a float word or a
                                         conversion */
 #define BODLARINA_WRONG_REGISTER 12u /* a register field out of range: a tile register is 0 to 7, an accumulator 0 or 1 */
+#define BODLARINA_ROWS_OVERLAP 13u   /* a byte of a store lies in two of its rows in memory */
 #define BODLARINA_NO_ROOM 14u        /* an image does not fit the lent room */
 #define BODLARINA_DAMAGED 15u        /* not an image; the place is that of the first byte at which no image can go on,
                                         the length if it is only cut short */
@@ -101,6 +102,7 @@ BODLARINA_INLINE const char *bodlarina_answer_text(uint64_t result)
     case BODLARINA_WRONG_OPCODE: return "the opcode is not 1110111";
     case BODLARINA_LEFT_OUT_WORD: return "an instruction of the draft that is not carried out here";
     case BODLARINA_WRONG_REGISTER: return "there is no such tile register or accumulator";
+    case BODLARINA_ROWS_OVERLAP: return "a byte of a store lies in two of its rows";
     case BODLARINA_NO_ROOM: return "the image does not fit the room";
     case BODLARINA_DAMAGED: return "this is no image, or it is cut short";
     }
@@ -165,10 +167,10 @@ uint64_t bodlarina_start(uint64_t rlen, uint64_t mlen, uint64_t seal_start, uint
                          uint8_t *marks, size_t marks_len);
 
 /* Carries out one instruction word. rs1 and rs2 are read from scalars, rd is written there.
- * Answers: 0, or the first that applies in the order 8, then 10, 11, 1, 12 (the word itself), then 2 to 7. 8 means
- * that the state is at fault: lengths that are not permitted, a buffer of the wrong size, an mtype that cannot arise, a
- * tile size above its maximum at 8 bits, a seal whose end is above 2^64 - 1, or a mark other than 0 and 1. With buffers
- * of the right size, a started machine that nothing but these functions has written never gets 8. */
+ * Answers: 0, or the first that applies in the order 8, then 10, 11, 1, 12 (the word itself), then 2 to 6, 13, 7.
+ * 8 means that the state is at fault: lengths that are not permitted, a buffer of the wrong size, an mtype that cannot
+ * arise, a tile size above its maximum at 8 bits, a seal whose end is above 2^64 - 1, or a mark other than 0 and 1. With
+ * buffers of the right size, a started machine that nothing but these functions has written never gets 8. */
 uint64_t bodlarina_step(uint32_t word,
                         uint8_t *machine, size_t machine_len,
                         uint8_t *registers, size_t registers_len,

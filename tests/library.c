@@ -41,7 +41,7 @@ static void texts(void)
     const char *unknown = bodlarina_answer_text(0xffff);
     int right = 1;
     for (unsigned i = 0; i <= BODLARINA_DAMAGED + 1; i++) {
-        int named = i <= BODLARINA_WRONG_REGISTER || i == BODLARINA_NO_ROOM || i == BODLARINA_DAMAGED;
+        int named = i <= BODLARINA_DAMAGED;
         right = right && (bodlarina_answer_text(i) != unknown) == named;
         for (unsigned j = 0; named && j < i; j++)
             right = right && strcmp(bodlarina_answer_text(i), bodlarina_answer_text(j)) != 0;

@@ -2,3 +2,4 @@
 pub mod TestLaws
 pub mod AddressLaws
 pub mod SealLaws
+pub mod DistinctLaws

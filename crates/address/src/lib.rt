@@ -1,11 +1,12 @@
-// Where the rows of a tile lie in memory: row i at base + i * stride. The stride is signed, so rows go down as well as up.
+// Where the rows of a tile lie in memory: row i at base + i * stride. The stride is signed, so rows go down as well as up. The tests
+// on all rows: in memory, no byte in two of them, none sealed.
 ghost use mathlib.Core.Path.{_≡_};
 ghost use mathlib.Core.Bool.{true, false};
 ghost use Prim.Native.Nat.{_+_, _*_, _^_, _<_};
 ghost use lib.Dec.{leb};
 ghost use lib.IntN.{pos, natAbs, _+ℤ_, _*ℤ_};
 ghost use Rattle.width.specs.Reduce.{signed};
-ghost use Rattle.machine.specs.Memory.{address, inMemory, inside, misses, rowsMiss};
+ghost use Rattle.machine.specs.Memory.{rowAt, address, inMemory, inside, distinct, misses, rowsMiss};
 
 // The signed number that the 64 bits of x stand for.
 pub fn as_signed(x: u64) -> i64
@@ -76,6 +77,20 @@ pub fn rows_inside(len: usize, base: usize, stride: u64, rows: usize, bytes: usi
         return is_bounded(step, rows - 1, base);
     }
     is_bounded(step, rows - 1, end - base)
+}
+
+// Whether no byte of the rows, which lie in memory, is in two of them: two rows or more are as far from each other as they are long.
+pub fn rows_distinct(len: usize, base: usize, stride: u64, rows: usize, bytes: usize) -> bool
+    requires { ⌜ inside len base stride rows bytes ≡ true ⌝ }
+    ensures { λ r. ⌜ r ≡ distinct (rowAt base stride) rows bytes ⌝ }
+{
+    if bytes == 0 {
+        return true;
+    }
+    if rows < 2 {
+        return true;
+    }
+    bytes <= magnitude(as_signed(stride))
 }
 
 // Whether the n bytes from p on and the seal share none.

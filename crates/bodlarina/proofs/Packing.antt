@@ -10,7 +10,7 @@ use lib.Dec.{leb, ltb, eqb}
 use borrow.Author.Tests.{leb-true}
 use Rattle.machine.specs.declared.Answer.{Answer}
 use Rattle.machine.specs.declared.Wrong.the-variants.{Opcode, LeftOut, Unlisted, Register}
-use Rattle.machine.specs.declared.Answer.the-variants.{Done, IllegalWord, IllegalType, BadWidth, TileTooLarge, Unwritten, OutsideMemory, SealedByte, BadArguments, Overlap, WrongOpcode, LeftOutWord, WrongRegister}
+use Rattle.machine.specs.declared.Answer.the-variants.{Done, IllegalWord, IllegalType, BadWidth, TileTooLarge, Unwritten, OutsideMemory, SealedByte, BadArguments, Overlap, WrongOpcode, LeftOutWord, WrongRegister, RowsOverlap}
 use Rattle.machine.specs.declared.Matrix.{Matrix}
 use Rattle.machine.specs.declared.Matrix.the-variants.{MatrixA, MatrixB, MatrixC}
 use Rattle.machine.specs.Tests.{first, allOf}
@@ -89,7 +89,7 @@ module _ (M : Parameters) (st : State) (mem : List ℕ) (hm : st .tileM ≤ 64) 
   checks-small (setSize d a) = (zeros, tt)
   checks-small (cutSize d) = (zeros, tt)
   checks-small (load f k r w base stride) = (zeros, (zeros, (zeros, (zeros, (zeros, tt)))))
-  checks-small (store f k r w base stride) = (zeros, (zeros, (zeros, (zeros, (within _ _ _ _ (rows-small k) (cols-small k), (zeros, (zeros, tt)))))))
+  checks-small (store f k r w base stride) = (zeros, (zeros, (zeros, (zeros, (within _ _ _ _ (rows-small k) (cols-small k), (zeros, (zeros, (zeros, tt))))))))
   checks-small (multiply f d a b) =
       (zeros, (zeros, (zeros, (zeros, (zeros, (within _ _ _ _ hm hk, (within _ _ _ _ hk hn, (within _ _ _ _ hm hn, tt))))))))
   checks-small (combine o f d a) = (zeros, (zeros, (zeros, (zeros, (within _ _ _ _ hm hn, (within _ _ _ _ hm hn, tt))))))

@@ -2,7 +2,7 @@
 use Prim.Native.Nat.{_^_, _<_}
 use native.Mathlib.Omega.{arith}
 use Rattle.machine.specs.declared.Answer.{Answer}
-use Rattle.machine.specs.declared.Answer.the-variants.{Done, IllegalWord, IllegalType, BadWidth, TileTooLarge, Unwritten, OutsideMemory, SealedByte, BadArguments, Overlap, WrongOpcode, LeftOutWord, WrongRegister}
+use Rattle.machine.specs.declared.Answer.the-variants.{Done, IllegalWord, IllegalType, BadWidth, TileTooLarge, Unwritten, OutsideMemory, SealedByte, BadArguments, Overlap, WrongOpcode, LeftOutWord, WrongRegister, RowsOverlap}
 use Rattle.machine.specs.Answers.{number}
 
 pub number-small : (a : Answer) → number a < 2 ^ 16
@@ -19,3 +19,4 @@ number-small Overlap = omega arith
 number-small WrongOpcode = omega arith
 number-small LeftOutWord = omega arith
 number-small WrongRegister = omega arith
+number-small RowsOverlap = omega arith

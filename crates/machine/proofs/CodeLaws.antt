@@ -8,7 +8,7 @@ use lib.Dec.{ltb, eqb}
 use borrow.Author.Tests.{eqb-true, ltb-true, ltb-false, lt-ltb, ne-eqb}
 use Rattle.machine.specs.declared.Machine.{Machine}
 use Rattle.machine.specs.declared.Answer.{Answer}
-use Rattle.machine.specs.declared.Answer.the-variants.{Done, IllegalWord, IllegalType, BadWidth, TileTooLarge, Unwritten, OutsideMemory, SealedByte, BadArguments, Overlap, WrongOpcode, LeftOutWord, WrongRegister}
+use Rattle.machine.specs.declared.Answer.the-variants.{Done, IllegalWord, IllegalType, BadWidth, TileTooLarge, Unwritten, OutsideMemory, SealedByte, BadArguments, Overlap, WrongOpcode, LeftOutWord, WrongRegister, RowsOverlap}
 use Rattle.machine.specs.declared.Wrong.the-variants.{Opcode, Register}
 use Rattle.machine.specs.declared.Instruction.{Instruction}
 use Rattle.machine.specs.declared.Instruction.the-variants.{Illegal, SetTypeImmediate, SetType, SetTileImmediate, SetTile, Load, Store, Multiply, Combine, Scale, ScaleImmediate}
@@ -41,6 +41,7 @@ only-done Overlap h = absurd (false-true h)
 only-done WrongOpcode h = absurd (false-true h)
 only-done LeftOutWord h = absurd (false-true h)
 only-done WrongRegister h = absurd (false-true h)
+only-done RowsOverlap h = absurd (false-true h)
 
 -- a step that is answered 0 is answered as `Done` is
 pub step-zero : (grant : ℕ → ℕ → ℕ) (word : ℕ) (xs : List ℕ) (B : Bench) → done (stepBy grant word xs B .answer) ≡ true → stepBy grant word xs B .answer ≡ reply Done

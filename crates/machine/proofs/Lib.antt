@@ -2,6 +2,7 @@
 pub mod TestLaws
 pub mod CheckLaws
 pub mod MemoryLaws
+pub mod StoreLaws
 pub mod ListingLaws
 pub mod StepLaws
 -- For code.
@@ -13,4 +14,5 @@ pub mod CodeLaws
 pub mod Refusal
 pub mod NoFault
 pub mod Sealing
+pub mod Stores
 pub mod WordRefusals

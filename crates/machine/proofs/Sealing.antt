@@ -5,7 +5,6 @@ use mathlib.Core.List.{List, [], _∷_}
 use Prim.Native.Nat.{ℕ}
 use lib.Dec.{eqb}
 use lib.ListN.{length, getD}
-use Rattle.width.proofs.TileLaws.{putTile-out, length-putTile}
 use Rattle.machine.specs.declared.Answer.the-variants.{Done, BadArguments}
 use Rattle.machine.specs.declared.Instruction.{Instruction}
 use Rattle.machine.specs.Tests.{within}
@@ -17,6 +16,7 @@ use Rattle.machine.specs.Setting.{smaller}
 use Rattle.machine.specs.Geometry.{sealed}
 use Rattle.machine.specs.Memory.{rowAt}
 use Rattle.machine.proofs.MemoryLaws.{clear-at, unsealed-at}
+use Rattle.machine.proofs.StoreLaws.{length-stored, stored-out}
 use Rattle.machine.specs.Listing.{decode}
 use Rattle.machine.specs.declared.Wrong.the-variants.{Opcode, LeftOut, Unlisted, Register}
 use Rattle.machine.specs.Operation.{Operation, memoryAfter}
@@ -52,7 +52,7 @@ module _ (M : Parameters) (st : State) (mem : List ℕ) where
   operation-length (Operation.setSize d a) = refl
   operation-length (Operation.cutSize d) = refl
   operation-length (Operation.load f k r w b s) = refl
-  operation-length (Operation.store f k r w b s) = length-putTile _ _ _ _ _ mem
+  operation-length (Operation.store f k r w b s) = length-stored _ _ _ _ _ mem
   operation-length (Operation.multiply f d a b) = refl
   operation-length (Operation.combine o f d a) = refl
   operation-length (Operation.scale f d a x) = refl
@@ -64,8 +64,8 @@ module _ (M : Parameters) (st : State) (mem : List ℕ) where
   operation-sealed (Operation.cutSize d) p q h = refl
   operation-sealed (Operation.load f k r w b s) p q h = refl
   operation-sealed (Operation.store f k r w b s) p q h =
-      putTile-out (rowAt b s) _ _ w _ mem q (λ i l x.
-      false-true (rw h at (clear-at M (rowAt b s i) _ (unsealed-at M b s _ _ (p .1 .1 .1 .1 .1 .1 .0) i l) q x)))
+      stored-out (rowAt b s) _ _ w _ mem q (λ i l x.
+      false-true (rw h at (clear-at M (rowAt b s i) _ (unsealed-at M b s _ _ (p .1 .1 .1 .1 .1 .1 .1 .0) i l) q x)))
   operation-sealed (Operation.multiply f d a b) p q h = refl
   operation-sealed (Operation.combine o f d a) p q h = refl
   operation-sealed (Operation.scale f d a x) p q h = refl

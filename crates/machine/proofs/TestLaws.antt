@@ -1,9 +1,9 @@
 -- Laws of the tests over ranges and lists: when one passes, and what it then says.
 use mathlib.Core.Path.{_≡_, refl, sym, ap, _∙_, subst}
-use mathlib.Core.Bool.{Bool, true, false, not, _&&_, _||_}
+use mathlib.Core.Bool.{Bool, true, false, not, cond, _&&_, _||_}
 use mathlib.Core.List.{List, [], _∷_, _++_}
 use mathlib.Core.Logic.{_⊎_, inl, inr}
-use Prim.Native.Nat.{ℕ, zero, suc, _+_, _*_, _/_, _%_, _<_}
+use Prim.Native.Nat.{ℕ, zero, suc, _+_, _*_, _/_, _%_, _≤_, _<_}
 use native.Mathlib.Nat.{not-suc-le-zero, eq-or-lt-of-le, le-of-suc-le-suc, mul-le-mul-right, mod-lt, div-add-mod', div-lt-iff-lt-mul, eq-zero-or-pos, mul-zero}
 use native.Mathlib.Omega.{arith}
 use lib.ListN.{length, getD}
@@ -150,6 +150,37 @@ first-is (suc n) p i l h before = go (ltb i n) refl (first-is n p i)
         let d : i ≡ n = omega (arith, ltb-false i n e) in
         let f : first n p ≡ n = first-none n p (λ k g. before k (omega arith)) in
         rw (f, le-ltb n n (omega arith), subst (λ (j : ℕ). p j ≡ true) d h) (sym d)
+
+-- where one passes, the first is below n
+first-found : (n : ℕ) (p : ℕ → Bool) (i : ℕ) → i < n → p i ≡ true → first n p < n
+first-found zero p i l h = absurd (not-suc-le-zero l)
+first-found (suc n) p i l h = go (ltb (first n p) n) refl (p n) refl (first-found n p i) (eq-or-lt-of-le (le-of-suc-le-suc l))
+  where
+    go : (s : Bool) → ltb (first n p) n ≡ s → (t : Bool) → p n ≡ t → (i < n → p i ≡ true → first n p < n) → (i ≡ n) ⊎ (i < n)
+        → cond s (first n p) (cond t n (suc n)) < suc n
+    go true e t f ih d = omega (arith, ltb-true (first n p) n e)
+    go false e true f ih d = omega arith
+    go false e false f ih (inl d) = absurd (false-true (sym f ∙ subst (λ (j : ℕ). p j ≡ true) d h))
+    go false e false f ih (inr d) = absurd (omega (arith, ltb-false (first n p) n e, ih d h))
+
+-- it passes if there is one
+pub first-passes : (n : ℕ) (p : ℕ → Bool) → first n p < n → p (first n p) ≡ true
+first-passes zero p l = absurd (not-suc-le-zero l)
+first-passes (suc n) p l = go (ltb (first n p) n) refl (p n) refl (first-passes n p) l
+  where
+    go : (s : Bool) → ltb (first n p) n ≡ s → (t : Bool) → p n ≡ t → (first n p < n → p (first n p) ≡ true) → cond s (first n p) (cond t n (suc n)) < suc n
+        → p (cond s (first n p) (cond t n (suc n))) ≡ true
+    go true e t f ih l = ih (ltb-true (first n p) n e)
+    go false e true f ih l = f
+    go false e false f ih l = absurd (omega arith)
+
+-- and there is none if it is n
+pub none-passes : (n : ℕ) (p : ℕ → Bool) → n ≤ first n p → (i : ℕ) → i < n → p i ≡ false
+none-passes n p h i l = go (p i) refl
+  where
+    go : (t : Bool) → p i ≡ t → t ≡ false
+    go true e = absurd (omega (arith, first-found n p i l e))
+    go false e = refl
 
 -- ---- tests one after another
 

@@ -5,13 +5,13 @@ use Prim.Native.Nat.{ℕ}
 use lib.Dec.{eqb}
 use Rattle.machine.specs.declared.Answer.{Answer}
 use Rattle.machine.specs.declared.Reply.{Reply}
-use Rattle.machine.specs.declared.Answer.the-variants.{Done, IllegalWord, IllegalType, BadWidth, TileTooLarge, Unwritten, OutsideMemory, SealedByte, BadArguments, Overlap, WrongOpcode, LeftOutWord, WrongRegister}
+use Rattle.machine.specs.declared.Answer.the-variants.{Done, IllegalWord, IllegalType, BadWidth, TileTooLarge, Unwritten, OutsideMemory, SealedByte, BadArguments, Overlap, WrongOpcode, LeftOutWord, WrongRegister, RowsOverlap}
 
 -- a number that names no row and no column
 abbrev pub plain : ℕ → Reply
 plain n = record { number = n; row = 0; column = 0 }
 
--- 01, the table of "Numbers of the answers"; 10 to 12: 02, One. "Answer 5 names the row and column of the first such element .. Elsewhere both are 0."
+-- 01, the table of "Numbers of the answers"; 10 to 12: 02, One; 13: 02, Seven. "Answer 5 names the row and column of the first such element .. Elsewhere both are 0."
 abbrev pub reply : Answer → Reply
 reply Done = plain 0
 reply IllegalWord = plain 1
@@ -26,6 +26,7 @@ reply Overlap = plain 9
 reply WrongOpcode = plain 10
 reply LeftOutWord = plain 11
 reply WrongRegister = plain 12
+reply RowsOverlap = plain 13
 
 abbrev pub number : Answer → ℕ
 number a = reply a .number

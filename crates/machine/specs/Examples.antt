@@ -10,7 +10,7 @@ use Rattle.machine.specs.declared.Reply.{Reply}
 use Rattle.machine.specs.Geometry.{permitted}
 use Rattle.machine.specs.Setting.{sew, newType, legalType}
 use Rattle.machine.specs.Refusals.{widthOk, widthOf}
-use Rattle.machine.specs.Memory.{inside, misses, rowsMiss}
+use Rattle.machine.specs.Memory.{inside, misses, rowsMiss, distinct, stored}
 use Rattle.machine.specs.Refusals.{marked}
 use Rattle.machine.specs.Listing.{decode, listing, others}
 use Rattle.machine.specs.Geometry.{Bench}
@@ -168,8 +168,40 @@ examples =
     ∷ []
 
 pub refusals : map (λ l. l .got) examples ≡ map (λ l. l .want) examples
-unfolding examples word bench scalars shown gives unwritten good marking with permitted sew newType legalType widthOk widthOf inside misses rowsMiss marked listing others decode sound stepBy outcome
+unfolding examples word bench scalars shown gives unwritten good marking with permitted sew newType legalType widthOk widthOf inside misses rowsMiss distinct marked listing others decode sound stepBy outcome
 refusals = refl
+
+-- 02, Seven: "Refuse a store .. in which a byte belongs to two rows". A of two rows of two bytes
+pub overlapping : List Line
+overlapping =
+    -- strides shorter than a row by one byte, exactly a row, none, and down
+    gives (step (word 0b0000011 11 10 0 0) (scalars 0 1) good) 13
+    ∷ gives (step (word 0b0000011 11 10 0 0) (scalars 0 2) good) 0
+    ∷ gives (step (word 0b0000011 11 10 0 0) (scalars 0 0) good) 13
+    ∷ gives (step (word 0b0000011 11 10 0 0) (scalars 8 (2 ^ 64 - 1)) good) 13
+    ∷ gives (step (word 0b0000011 11 10 0 0) (scalars 8 (2 ^ 64 - 2)) good) 0
+    -- two elements of two bytes
+    ∷ gives (step (word 0b0000011 11 10 1 0) (scalars 0 3) (bench 1 2 2 2 0 0 1)) 13
+    ∷ gives (step (word 0b0000011 11 10 1 0) (scalars 0 4) (bench 1 2 2 2 0 0 1)) 0
+    -- one row, whatever the stride; rows of no byte; a load
+    ∷ gives (step (word 0b0000011 11 10 0 0) (scalars 0 0) (bench 0 1 2 2 0 0 1)) 0
+    ∷ gives (step (word 0b0000011 11 10 0 0) (scalars 0 (2 ^ 63)) (bench 0 1 2 2 0 0 1)) 0
+    ∷ gives (step (word 0b0000011 11 10 0 0) (scalars 0 0) (bench 0 2 0 2 0 0 1)) 0
+    ∷ gives (step (word 0b0000010 11 10 0 0) (scalars 0 1) good) 0
+    -- after 5 and 6, before 7
+    ∷ unwritten (step (word 0b0000011 11 10 0 0) (scalars 0 1) (bench 0 2 2 2 0 0 0)) 0 0
+    ∷ gives (step (word 0b0000011 11 10 0 0) (scalars 30 1) good) 6
+    ∷ gives (step (word 0b0000011 11 10 0 0) (scalars 0 (2 ^ 63)) good) 6
+    ∷ gives (step (word 0b0000011 11 10 0 0) (scalars 0 1) (bench 0 2 2 2 0 1 1)) 13
+    -- the rows in memory: B of two rows and three columns is two rows of three bytes, transposed three rows of two
+    ∷ gives (step (word 0b0000101 11 10 0 0) (scalars 0 2) (bench 0 2 2 3 0 0 1)) 13
+    ∷ gives (step (word 0b0001101 11 10 0 0) (scalars 0 2) (bench 0 2 2 3 0 0 1)) 0
+    ∷ gives (step (word 0b0001101 11 10 0 0) (scalars 0 1) (bench 0 2 2 3 0 0 1)) 13
+    ∷ []
+
+pub overlapping-right : map (λ l. l .got) overlapping ≡ map (λ l. l .want) overlapping
+unfolding overlapping word bench scalars shown gives unwritten good permitted sew newType legalType widthOf inside misses rowsMiss distinct marked listing others decode sound stepBy outcome
+overlapping-right = refl
 
 -- ---- effects
 
@@ -270,11 +302,13 @@ transposed =
     -- msbte8.m of tr0 to rows at 1, 5 and 9: its columns become rows
     ∷ (let o = step (word 0b0001101 11 10 0 0) (scalars 1 4) (counted 0) in
     record { got = take 12 (o .bench .memory); want = 0 ∷ 0 ∷ 8 ∷ 3 ∷ 4 ∷ 1 ∷ 9 ∷ 7 ∷ 8 ∷ 2 ∷ 10 ∷ 11 ∷ [] })
-    -- at 1, 2 and 3: where they overlap the later row stays
-    ∷ (let o = step (word 0b0001101 11 10 0 0) (scalars 1 1) (counted 0) in
-    record { got = take 6 (o .bench .memory); want = 0 ∷ 0 ∷ 1 ∷ 2 ∷ 10 ∷ 5 ∷ [] })
+    -- at 1, 3 and 5, and at 5, 3 and 1: rows that touch
+    ∷ (let o = step (word 0b0001101 11 10 0 0) (scalars 1 2) (counted 0) in
+    record { got = take 8 (o .bench .memory); want = 0 ∷ 0 ∷ 8 ∷ 1 ∷ 9 ∷ 2 ∷ 10 ∷ 7 ∷ [] })
+    ∷ (let o = step (word 0b0001101 11 10 0 0) (scalars 5 (2 ^ 64 - 2)) (counted 0) in
+    record { got = take 8 (o .bench .memory); want = 0 ∷ 2 ∷ 10 ∷ 1 ∷ 9 ∷ 0 ∷ 8 ∷ 7 ∷ [] })
     ∷ []
 
 pub transposed-right : map (λ l. l .got) transposed ≡ map (λ l. l .want) transposed
-unfolding transposed counting counted word bench scalars permitted sew newType legalType widthOf inside misses rowsMiss marked listing others decode sound stepBy outcome putTile putRow putLe markTile markRow
+unfolding transposed counting counted word bench scalars permitted sew newType legalType widthOf inside misses rowsMiss distinct stored marked listing others decode sound stepBy outcome putTile putRow putLe markTile markRow
 transposed-right = refl

@@ -1,10 +1,12 @@
--- 01, "Loading, storing, reckoning": rows of elements in memory, and the tests on their bytes.
-use mathlib.Core.Bool.{Bool, false, not}
-use Prim.Native.Nat.{ℕ, _+_, _*_, _^_}
+-- 01, "Loading, storing, reckoning", and 02, Seven: rows of elements in memory, the tests on their bytes, and rows stored.
+use mathlib.Core.Bool.{Bool, false, not, cond}
+use mathlib.Core.List.{List, [], _∷_}
+use Prim.Native.Nat.{ℕ, suc, _+_, _*_, _-_, _/_, _%_, _^_}
 use lib.Dec.{ltb}
 use lib.IntN.{ℤ, pos, negsuc, _+ℤ_, _*ℤ_}
 use Rattle.width.specs.Reduce.{signed}
-use Rattle.machine.specs.Tests.{all, within}
+use Rattle.width.specs.Tile.{byteOf}
+use Rattle.machine.specs.Tests.{all, first, within}
 use Rattle.machine.specs.Geometry.{Parameters}
 
 -- "Row i lies at rs1 + i x rs2, with rs1 unsigned and rs2 a signed 64-bit stride, as whole numbers that don't wrap."
@@ -36,6 +38,10 @@ misses q o p n = all n (λ b. not (within q o (p + b)))
 unfoldable pub rowsMiss : (q o base stride rows n : ℕ) → Bool
 rowsMiss q o base stride rows n = all rows (λ i. misses q o (rowAt base stride i) n)
 
+-- 02, Seven: no "byte belongs to two rows" of n bytes; a row of no byte shares none
+unfoldable pub distinct : (ℕ → ℕ) → (rows n : ℕ) → Bool
+distinct at rows n = all rows (λ k. all k (λ i. misses (at k) n (at i) n))
+
 -- none of the n bytes from p on is sealed
 abbrev pub clear : Parameters → ℕ → ℕ → Bool
 clear M p n = misses (M .sealAt) (M .sealLen) p n
@@ -43,3 +49,25 @@ clear M p n = misses (M .sealAt) (M .sealLen) p n
 -- no byte of a row is sealed
 abbrev pub unsealed : Parameters → ℕ → ℕ → ℕ → ℕ → Bool
 unsealed M base stride rows n = rowsMiss (M .sealAt) (M .sealLen) base stride rows n
+
+-- ---- rows stored
+
+-- the row that byte q belongs to, of rows of n bytes of which no two share one; the number of rows if it belongs to none
+abbrev pub rowWith : (ℕ → ℕ) → (rows n : ℕ) → ℕ → ℕ
+rowWith at rows n q = first rows (λ i. within (at i) n q)
+
+-- byte q of memory, which was x: that of the element of w bytes to which it belongs, or as it was
+abbrev pub storedByte : (ℕ → ℕ) → (rows cols w : ℕ) → (ℕ → ℕ → ℕ) → (q x : ℕ) → ℕ
+storedByte at rows cols w value q x =
+    let i = rowWith at rows (cols * w) q in
+    let b = q - at i in
+    cond (ltb i rows) (byteOf (value i (b / w)) (b % w)) x
+
+-- each byte of a list anew, by its place and what it was
+abbrev pub anew : (ℕ → ℕ → ℕ) → ℕ → List ℕ → List ℕ
+anew f p [] = []
+anew f p (x ∷ xs) = f p x ∷ anew f (suc p) xs
+
+-- memory with each element (i, j) where it belongs
+unfoldable pub stored : (ℕ → ℕ) → (rows cols w : ℕ) → (ℕ → ℕ → ℕ) → List ℕ → List ℕ
+stored at rows cols w value mem = anew (storedByte at rows cols w value) 0 mem

@@ -1,4 +1,4 @@
--- 01, "Loading, storing, reckoning", and 02, Two: what each instruction does, once its scalars are read.
+-- 01, "Loading, storing, reckoning", and 02, Two and Seven: what each instruction does, once its scalars are read.
 use mathlib.Core.Bool.{cond}
 use mathlib.Core.List.{List}
 use Prim.Native.Nat.{ℕ, _+_, _*_, _%_, _^_}
@@ -21,7 +21,7 @@ use Rattle.machine.specs.declared.Instruction.{Instruction}
 use Rattle.machine.specs.declared.Instruction.the-variants.{Illegal, SetTypeImmediate, SetType, SetTileImmediate, SetTile, Load, Store, Multiply, Combine, Scale, ScaleImmediate}
 use Rattle.machine.specs.Geometry.{Parameters, State, registerAt, tileAt, accAt, scalar}
 use Rattle.machine.specs.Setting.{sew, newType, maximum, sizeIn, smaller}
-use Rattle.machine.specs.Memory.{rowAt}
+use Rattle.machine.specs.Memory.{rowAt, stored}
 
 -- ---- an instruction with the values of its scalars
 
@@ -174,7 +174,7 @@ stateAfter M (combine o f d a) st mem =
 stateAfter M (scale f d a x) st mem =
     written st (accAt M d) (st .tileM) (st .tileN) (f * sew (st .mtype)) (scaledAt M x (st .regs) (f * sew (st .mtype)) (sew (st .mtype)) a)
 
--- "Stores go row by row upward; where rows overlap the later row stays.": rows of memory
+-- a store is refused where "a byte belongs to two rows" (02, Seven), so each element lies where it belongs, whatever the order of rows
 abbrev pub memoryAfter : Parameters → Operation → State → List ℕ → List ℕ
 memoryAfter M (illegal wrong) st mem = mem
 memoryAfter M (setType v) st mem = mem
@@ -182,7 +182,7 @@ memoryAfter M (setSize d a) st mem = mem
 memoryAfter M (cutSize d) st mem = mem
 memoryAfter M (load f k r w base stride) st mem = mem
 memoryAfter M (store f k r w base stride) st mem =
-    putTile (rowAt base stride) (memoryRows f (tileRows st k) (tileCols st k)) (memoryCols f (tileRows st k) (tileCols st k)) w
+    stored (rowAt base stride) (memoryRows f (tileRows st k) (tileCols st k)) (memoryCols f (tileRows st k) (tileCols st k)) w
     (placed f (element (st .regs) (registerAt M k r) w)) mem
 memoryAfter M (multiply f d a b) st mem = mem
 memoryAfter M (combine o f d a) st mem = mem

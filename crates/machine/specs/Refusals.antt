@@ -1,4 +1,4 @@
--- 01, "Numbers of the answers", and 02, One: the checks of an operation in their order: 10, 11, 1, 12, then 2 to 7.
+-- 01, "Numbers of the answers", and 02, One and Seven: the checks of an operation in their order: 10, 11, 1, 12, then 2 to 6, 13, 7.
 use mathlib.Core.Bool.{Bool, true, false, not, _&&_, _||_}
 use mathlib.Core.List.{List, [], _∷_}
 use Prim.Native.Nat.{ℕ, zero, suc, _+_, _*_}
@@ -6,7 +6,7 @@ use lib.ListN.{length, getD}
 use lib.Dec.{leb, eqb}
 use lib.IntN.{ℤ, pos, negsuc}
 use Rattle.machine.specs.declared.Answer.{Answer}
-use Rattle.machine.specs.declared.Answer.the-variants.{IllegalWord, IllegalType, BadWidth, TileTooLarge, Unwritten, OutsideMemory, SealedByte, WrongOpcode, LeftOutWord, WrongRegister}
+use Rattle.machine.specs.declared.Answer.the-variants.{IllegalWord, IllegalType, BadWidth, TileTooLarge, Unwritten, OutsideMemory, SealedByte, WrongOpcode, LeftOutWord, WrongRegister, RowsOverlap}
 use Rattle.machine.specs.declared.Wrong.{Wrong}
 use Rattle.machine.specs.declared.Wrong.the-variants.{Opcode, LeftOut, Unlisted, Register}
 use Rattle.machine.specs.declared.Matrix.{Matrix}
@@ -17,7 +17,7 @@ use Rattle.machine.specs.Tests.{all, first}
 use Rattle.machine.specs.Answers.{Check, _otherwise_}
 use Rattle.machine.specs.Geometry.{Parameters, State, registerAt, tileAt, accAt}
 use Rattle.machine.specs.Setting.{sew, maccq, mill, maximum, sizeIn}
-use Rattle.machine.specs.Memory.{inside, unsealed}
+use Rattle.machine.specs.Memory.{rowAt, inside, distinct, unsealed}
 use Rattle.machine.specs.Operation.{Operation, illegal, setType, setSize, cutSize, load, store, multiply, combine, scale, rowsOf, columnsOf, tileRows, tileCols, memoryRows, memoryCols}
 
 -- 10, 11, 1, 12: a word that is refused for what it is
@@ -70,7 +70,8 @@ isZero (pos (suc n)) = false
 isZero (negsuc n) = false
 
 -- 6: "an element's byte lies outside memory"; 7: "a store would write a sealed byte"; "sources go ms1, ms2, md". 02, Two: "State, marks
--- and checks are as for the plain forms; answer 5 names row and column in the register"
+-- and checks are as for the plain forms; answer 5 names row and column in the register". 02, Seven: "Refuse a store, transposed too, in
+-- which a byte belongs to two rows. .. 13, after 6 and before 7."
 abbrev pub checks : Parameters → Operation → State → List ℕ → List Check
 checks M (illegal wrong) st mem = (false otherwise wordAnswer wrong) ∷ []
 checks M (setType v) st mem = []
@@ -89,6 +90,7 @@ checks M (store f k r w base stride) st mem =
     ∷ fitting M st (columnsOf k)
     ∷ needs false (st .marks) (registerAt M k r) (tileRows st k) (tileCols st k) w
     ∷ (inside (length mem) base stride (memoryRows f (tileRows st k) (tileCols st k)) (memoryCols f (tileRows st k) (tileCols st k) * w) otherwise OutsideMemory)
+    ∷ (distinct (rowAt base stride) (memoryRows f (tileRows st k) (tileCols st k)) (memoryCols f (tileRows st k) (tileCols st k) * w) otherwise RowsOverlap)
     ∷ (unsealed M base stride (memoryRows f (tileRows st k) (tileCols st k)) (memoryCols f (tileRows st k) (tileCols st k) * w) otherwise SealedByte) ∷ []
 -- "A multiply reads its three tiles whole, but nothing where C has no element."
 checks M (multiply f d a b) st mem =

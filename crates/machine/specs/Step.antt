@@ -1,5 +1,5 @@
--- A step: the word is decoded, the scalars are read, the checks are made in the order 8, then 10, 11, 1, 12, then 2 to 7, and the effect
--- follows.
+-- A step: the word is decoded, the scalars are read, the checks are made in the order 8, then 10, 11, 1, 12, then 2 to 6, 13, 7, and the
+-- effect follows.
 use mathlib.Core.Bool.{cond}
 use mathlib.Core.List.{List, _∷_}
 use Prim.Native.Nat.{ℕ}
@@ -46,7 +46,7 @@ module _ (M : Parameters) (i : Instruction) (xs : List ℕ) (B : Bench) where
   abbrev pub meant : Operation
   meant = operation M given xs i
 
-  -- "For a step the order is 8, then 1 to 7"; 02, One: 10, 11, 1, 12 "at the place where 1 stood"
+  -- "For a step the order is 8, then 1 to 7"; 02, One: 10, 11, 1, 12 "at the place where 1 stood"; 02, Seven: 13, "after 6 and before 7"
   abbrev pub stepChecks : List Check
   stepChecks =
       (soundBench B otherwise BadArguments)

@@ -2,14 +2,20 @@
 use mathlib.Core.Path.{_≡_}
 use mathlib.Core.Bool.{true}
 use mathlib.Core.List.{List, [], _∷_}
-use Prim.Native.Nat.{ℕ}
+use Prim.Native.Nat.{ℕ, _+_, _*_, _<_}
 use lib.ListN.{length, getD}
-use Rattle.width.specs.Tile.{In}
+use Rattle.width.specs.Tile.{byteOf, In}
 use Rattle.width.specs.Blocks.{Grants}
-use Rattle.machine.specs.Geometry.{parameters, Bench, benchOf, sealed}
+use Rattle.machine.specs.declared.Form.{Form}
+use Rattle.machine.specs.declared.Matrix.{Matrix}
+use Rattle.machine.specs.declared.Instruction.the-variants.{Store}
+use Rattle.machine.specs.Geometry.{parameters, State, stateOf, registerAt, scalar, Bench, benchOf, sealed}
 use Rattle.machine.specs.Setting.{smaller}
 use Rattle.machine.specs.Starting.{startMachine}
 use Rattle.machine.specs.Faults.{soundBench}
+use Rattle.machine.specs.Listing.{decode}
+use Rattle.machine.specs.Memory.{rowAt}
+use Rattle.machine.specs.Operation.{element, placed, tileRows, tileCols, memoryRows, memoryCols}
 use Rattle.machine.specs.Step.{stepBy}
 
 -- a bench as a start leaves it, with a memory
@@ -43,6 +49,38 @@ abbrev pub StartIsSound : Type 0
 StartIsSound = (rlen mlen sealStart sealLength : ℕ) (registers marks memory : List ℕ)
     → startMachine rlen mlen sealStart sealLength registers marks .answer .number ≡ 0
     → soundBench (startedBench rlen mlen sealStart sealLength registers marks memory) ≡ true
+
+-- ---- stores
+
+-- what a store of a tile, plain or transposed, leaves in memory, over the rows and columns that it has there: no byte is in two rows, each
+-- byte of element (i, j) is that of the register's element, every other byte is as before, and so is the length
+module _ (grant : ℕ → ℕ → ℕ) (xs : List ℕ) (B : Bench) (f : Form) (k : Matrix) (w r rs1 rs2 : ℕ) where
+  abbrev tile : State
+  tile = stateOf (B .machine) (B .registers) (B .marks)
+
+  abbrev rows : ℕ
+  rows = memoryRows f (tileRows tile k) (tileCols tile k)
+
+  abbrev cols : ℕ
+  cols = memoryCols f (tileRows tile k) (tileCols tile k)
+
+  abbrev at : ℕ → ℕ
+  at = rowAt (scalar xs rs1) (scalar xs rs2)
+
+  abbrev value : ℕ → ℕ → ℕ
+  value = placed f (element (B .registers) (registerAt (parameters grant (B .machine)) k r) w)
+
+  pub record Stores (mem′ : List ℕ) : Type 0 where
+    pub no-byte-in-two-rows : (i j q : ℕ) → i < j → j < rows → In (at i) (cols * w) q → ¬ In (at j) (cols * w) q
+    pub elements : (i j b : ℕ) → i < rows → j < cols → b < w → getD mem′ (at i + j * w + b) 0 ≡ byteOf (value i j) b
+    pub others : (q : ℕ) → ((i : ℕ) → i < rows → ¬ In (at i) (cols * w) q) → getD mem′ q 0 ≡ getD (B .memory) q 0
+    pub same-length : length mem′ ≡ length (B .memory)
+
+-- 02, Seven: each element where it belongs, with no order of rows
+abbrev pub StoresAreExact : Type 0
+StoresAreExact = (grant : ℕ → ℕ → ℕ) (word : ℕ) (xs : List ℕ) (B : Bench) (f : Form) (k : Matrix) (w r rs1 rs2 : ℕ)
+    → decode word ≡ Store f k w r rs1 rs2 → stepBy grant word xs B .answer .number ≡ 0
+    → Stores grant xs B f k w r rs1 rs2 (stepBy grant word xs B .bench .memory)
 
 -- ---- the seal, over any number of steps
 

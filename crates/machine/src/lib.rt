@@ -33,6 +33,7 @@ pub enum Answer {
     WrongOpcode,
     LeftOutWord,
     WrongRegister,
+    RowsOverlap,
 }
 
 // An answer's number, and the row and column that it names; 0 where it names none.
@@ -193,6 +194,7 @@ pub fn reply_of(answer: Answer) -> Reply
         Answer::WrongOpcode => plain(10),
         Answer::LeftOutWord => plain(11),
         Answer::WrongRegister => plain(12),
+        Answer::RowsOverlap => plain(13),
     }
 }
 

@@ -9,16 +9,18 @@ use Rattle.machine.specs.declared.Machine.{Machine}
 use Rattle.machine.specs.declared.Form.{Form}
 use Rattle.machine.specs.declared.Matrix.{Matrix}
 use Rattle.machine.specs.declared.Answer.{Answer}
-use Rattle.machine.specs.declared.Answer.the-variants.{BadWidth, OutsideMemory, SealedByte}
+use Rattle.machine.specs.declared.Answer.the-variants.{BadWidth, OutsideMemory, SealedByte, RowsOverlap}
 use Rattle.machine.specs.declared.Matrix.the-variants.{MatrixA, MatrixB, MatrixC}
 use Rattle.machine.specs.Answers.{Check, _otherwise_, verdict, isDone}
-use Rattle.machine.specs.Geometry.{elen, State, stateOf, registerCount, startOf, pitchOf}
+use Rattle.machine.specs.Geometry.{elen, State, stateOf, registerCount, registerAt, startOf, pitchOf}
 use Rattle.machine.specs.Setting.{smaller}
-use Rattle.machine.specs.Memory.{rowAt, inside, unsealed}
-use Rattle.machine.specs.Operation.{Operation, element, placed, rowsOf, columnsOf, tileRows, tileCols, memoryRows, memoryCols}
+use Rattle.machine.specs.Memory.{rowAt, inside, distinct, unsealed}
+use Rattle.machine.specs.Operation.{Operation, memoryAfter, element, placed, rowsOf, columnsOf, tileRows, tileCols, memoryRows, memoryCols}
 use Rattle.machine.specs.Refusals.{needs, typed, widthOf, fitting}
 use Rattle.machine.specs.Faults.{sound}
 use Rattle.machine.proofs.CheckLaws.{passed}
+use Rattle.machine.proofs.MemoryLaws.{inside-at}
+use Rattle.machine.proofs.StoreLaws.{stored-puts}
 use Rattle.machine.proofs.CodeLaws.{verdict-append}
 use Rattle.machine.proofs.NoFault.{sound-is}
 use Rattle.element.specs.Element.{Width}
@@ -93,6 +95,7 @@ module _ (m : Machine) (regs marks mem : List ℕ) (f : Form) (k : Matrix) (r w 
   storeRest p =
       needs false marks (λ i. p .start + i * p .pitch) (p .rows) (p .columns) w
       ∷ (inside (length mem) base stride (memoryRows f (p .rows) (p .columns)) (memoryCols f (p .rows) (p .columns) * w) otherwise OutsideMemory)
+      ∷ (distinct (rowAt base stride) (memoryRows f (p .rows) (p .columns)) (memoryCols f (p .rows) (p .columns) * w) otherwise RowsOverlap)
       ∷ (unsealed (ours m) base stride (memoryRows f (p .rows) (p .columns)) (memoryCols f (p .rows) (p .columns) * w) otherwise SealedByte) ∷ []
 
   pub store-refused : (a : Answer) → a ≡ verdict (transferChecks m k w) → isDone a ≡ false → WritesMemory m (Operation.store f k r w base stride) regs marks mem a mem
@@ -101,6 +104,15 @@ module _ (m : Machine) (regs marks mem : List ℕ) (f : Form) (k : Matrix) (r w 
     memory-is = rw d;
   }
 
+  -- where these pass, the rows written one after another are the rows stored
+  put-or-kept : (t : Bool) → isDone (verdict (storeRest here)) ≡ t
+      → cond t (putTile (rowAt base stride) (memoryRows f (tileRows st k) (tileCols st k)) (memoryCols f (tileRows st k) (tileCols st k)) w (placed f (element regs (registerAt (ours m) k r) w)) mem) mem
+      ≡ cond t (memoryAfter (ours m) (Operation.store f k r w base stride) st mem) mem
+  put-or-kept true e =
+      let q = passed (storeRest here) refl e in
+      sym (stored-puts (rowAt base stride) _ _ w _ mem (q .1 .1 .0) (λ i l some. inside-at (length mem) base stride _ _ (q .1 .0) some i l .1))
+  put-or-kept false e = refl
+
   pub store-done : (p : Placed) → p ≡ placedAs m k r → isDone (verdict (transferChecks m k w)) ≡ true → (a : Answer) (mem′ : List ℕ)
       → a ≡ verdict (storeRest p)
       → mem′ ≡ cond (isDone a) (putTile (rowAt base stride) (memoryRows f (p .rows) (p .columns)) (memoryCols f (p .rows) (p .columns)) w (placed f (element regs (λ i. p .start + i * p .pitch) w)) mem) mem
@@ -108,5 +120,6 @@ module _ (m : Machine) (regs marks mem : List ℕ) (f : Form) (k : Matrix) (r w 
   store-done p e′ d′ a mem′ ea em = let d : isDone (verdict first) ≡ true = subst (λ (cs : List Check). isDone (verdict cs) ≡ true) first-is d′ in let e : p ≡ here = e′ ∙ here-is in record {
     answer-is = ea ∙ ap (λ (p : Placed). verdict (storeRest p)) e
         ∙ ap (λ (t : Bool). cond t (verdict (storeRest here)) (verdict first)) (sym d) ∙ sym (verdict-append first (storeRest here) refl);
-    memory-is = em ∙ ap (λ (p : Placed). cond (isDone a) (putTile (rowAt base stride) (memoryRows f (p .rows) (p .columns)) (memoryCols f (p .rows) (p .columns)) w (placed f (element regs (λ i. p .start + i * p .pitch) w)) mem) mem) e;
+    memory-is = em ∙ ap (λ (p : Placed). cond (isDone a) (putTile (rowAt base stride) (memoryRows f (p .rows) (p .columns)) (memoryCols f (p .rows) (p .columns)) w (placed f (element regs (λ i. p .start + i * p .pitch) w)) mem) mem) e
+        ∙ put-or-kept (isDone a) (ap isDone (sym (ea ∙ ap (λ (p : Placed). verdict (storeRest p)) e)));
   }

@@ -50,7 +50,7 @@ pub fn load(
     )
 }
 
-// Answers 2 to 7, and the store.
+// Answers 2 to 6, 13 and 7, and the store.
 pub fn store(
     m: Machine,
     registers: &[u8],

@@ -2,20 +2,18 @@
 use mathlib.Core.Path.{_≡_, refl, sym, ap, _∙_, subst}
 use mathlib.Core.Logic.{_⊎_, inl, inr}
 use mathlib.Core.Bool.{Bool, true, false, not, _||_}
-use Prim.Native.Nat.{ℕ, zero, suc, _+_, _*_, _-_, _/_, _^_, _≤_, _<_}
+use Prim.Native.Nat.{ℕ, zero, _+_, _*_, _-_, _/_, _≤_, _<_}
 use native.Mathlib.Nat.{mul-le-mul-right, le-mul-of-pos-right, div-add-mod', mod-lt}
 use native.Mathlib.Omega.{arith}
-use lib.Dec.{leb, ltb, eqb}
-use lib.IntN.{natAbs}
-use borrow.Author.Tests.{leb-true, eqb-true, eqb-false, leb-false, eq-eqb, ne-eqb, le-leb, lt-leb, lt-ltb, le-ltb}
-use Rattle.width.specs.Reduce.{signed}
+use lib.Dec.{leb, eqb}
+use borrow.Author.Tests.{leb-true, eqb-true, eqb-false, leb-false, eq-eqb, ne-eqb, le-leb, lt-leb}
 use Rattle.width.specs.Tile.{In}
 use Rattle.width.proofs.BlockLaws.{le-or-lt}
 use Rattle.machine.specs.Tests.{all, within}
 use Rattle.machine.proofs.TestLaws.{all-true, all-at, all-false, or-not, false-true, same-test, within-not, not-within}
-use Rattle.machine.specs.Memory.{rowZ, rowAt, address, inside}
-use Rattle.machine.proofs.MemoryLaws.{fits-true, inside-at, rowZ-up, rowZ-down, rowZ-below}
-use Rattle.run.specs.Start.{distinct, apart}
+use Rattle.machine.specs.Memory.{rowAt}
+use Rattle.address.proofs.DistinctLaws.{gap, Up, Down, Goes}
+use Rattle.run.specs.Start.{apart}
 
 -- none of the n bytes from p on is one of the o bytes from q on
 abbrev pub free : ℕ → ℕ → ℕ → ℕ → Bool
@@ -97,21 +95,6 @@ module _ (at : ℕ → ℕ) (rows n q o : ℕ) where
 
 -- ---- the tests of a start, a row of C at a time
 
--- none of the rows before row k has a byte of it
-abbrev pub before : (ℕ → ℕ) → ℕ → ℕ → Bool
-before at n k = freeRows at k n (at k) n
-
-module _ (at : ℕ → ℕ) (rows n : ℕ) where
-  pub distinct-by : distinct at rows n ≡ all rows (before at n)
-  unfolding distinct
-  distinct-by = refl
-
-  pub distinct-no-bytes : n ≡ 0 → true ≡ distinct at rows n
-  distinct-no-bytes e = sym (distinct-by ∙ all-true rows (before at n) (λ k l. sym (rows-no-bytes at k n (at k) n e)))
-
-  pub distinct-not : (k q : ℕ) → k < rows → q ≡ at k → freeRows at k n q n ≡ false → false ≡ distinct at rows n
-  distinct-not k q l e h = sym (distinct-by ∙ all-false rows (before at n) k l (ap (λ (q : ℕ). freeRows at k n q n) (sym e) ∙ h))
-
 module _ (at : ℕ → ℕ) (rows n : ℕ) (at′ : ℕ → ℕ) (rows′ o : ℕ) where
   -- none of the rows has a byte of the other rows' row k
   abbrev pub against : ℕ → Bool
@@ -138,48 +121,7 @@ module _ (at : ℕ → ℕ) (rows n : ℕ) (at′ : ℕ → ℕ) (rows′ o : �
   pub apart-all : (k : ℕ) → k ≡ rows′ → all k against ≡ true → true ≡ apart at rows n at′ rows′ o
   apart-all k e h = sym (apart-by ∙ ap (λ (k : ℕ). all k against) (sym e) ∙ h)
 
--- ---- rows at a stride go up or down by the same distance
-
-abbrev pub gap : ℕ → ℕ
-gap stride = natAbs (signed (2 ^ 64) stride)
-
-abbrev pub Up : ℕ → ℕ → ℕ → Type 0
-Up base stride rows = (i : ℕ) → i < rows → rowAt base stride i ≡ base + i * gap stride
-
-abbrev pub Down : ℕ → ℕ → ℕ → Type 0
-Down base stride rows = (i : ℕ) → i < rows → rowAt base stride i + i * gap stride ≡ base
-
-abbrev pub Goes : ℕ → ℕ → ℕ → Type 0
-Goes base stride rows = Up base stride rows ⊎ Down base stride rows
-
-pub goes-up : (base stride rows : ℕ) → stride < 2 ^ 63 → Up base stride rows
-goes-up base stride rows h i l =
-    let x : stride + stride < 2 ^ 64 = omega arith in
-    let e : ltb (stride + stride) (2 ^ 64) ≡ true = lt-ltb (stride + stride) (2 ^ 64) x in
-    let g : gap stride ≡ stride = rw e in
-    ap address (rowZ-up base stride i x) ∙ ap (λ (x : ℕ). base + i * x) (sym g)
-
-module _ (len base stride rows n : ℕ) (h : inside len base stride rows n ≡ true) (some : zero < n) (word : stride < 2 ^ 64) where
-  pub goes-down : 2 ^ 63 ≤ stride → Down base stride rows
-  goes-down high =
-      let x : 2 ^ 64 ≤ stride + stride = omega arith in
-      let e : ltb (stride + stride) (2 ^ 64) ≡ false = le-ltb (stride + stride) (2 ^ 64) x in
-      let g : gap stride ≡ suc (2 ^ 64 - suc stride) = rw e in
-      down (2 ^ 64 - suc stride) (omega arith) x g
-    where
-      down : (d : ℕ) → stride + suc d ≡ 2 ^ 64 → 2 ^ 64 ≤ stride + stride → gap stride ≡ suc d → Down base stride rows
-      down d w s g i l = lies (le-or-lt (i * suc d) base)
-        where
-          lies : (i * suc d ≤ base) ⊎ (base < i * suc d) → rowAt base stride i + i * gap stride ≡ base
-          lies (inl x) =
-              let a : rowAt base stride i ≡ base - i * suc d = ap address (rowZ-down base stride i d s w x) in
-              omega (arith, a, ap (λ (y : ℕ). i * y) g)
-          lies (inr x) =
-              let f = inside-at len base stride rows n h some i l in
-              absurd (false-true (sym (rowZ-below len n base stride i d s w x) ∙ fits-true len n (rowAt base stride i) (rowZ base stride i) (f .0) (f .1)))
-
-  pub goes : Goes base stride rows
-  goes = elim (le-or-lt (2 ^ 63) stride) [ inl x ↦ inr (goes-down x) | inr x ↦ inl (goes-up base stride rows x) ]
+-- ---- rows at a stride against a range
 
 module _ (p n q o : ℕ) where
   free-before : p + n ≤ q → free p n q o ≡ true
@@ -190,42 +132,6 @@ module _ (p n q o : ℕ) where
 
   free-not : ¬ (n ≡ 0) → ¬ (o ≡ 0) → q < p + n → p < q + o → free p n q o ≡ false
   free-not h g l l′ = free-range p n q o ∙ rw (ne-eqb n 0 h, ne-eqb o 0 g, lt-leb (p + n) q l, lt-leb (q + o) p l′)
-
-module _ (base stride rows n : ℕ) where
-  pub distinct-few : rows < 2 → true ≡ distinct (rowAt base stride) rows n
-  distinct-few h = sym (distinct-by (rowAt base stride) rows n ∙ all-true rows (before (rowAt base stride) n) (λ k l.
-      all-true k (λ i. free (rowAt base stride i) n (rowAt base stride k) n) (λ i g. absurd (omega arith))))
-
-  distinct-wide : Goes base stride rows → n ≤ gap stride → distinct (rowAt base stride) rows n ≡ true
-  distinct-wide w h = distinct-by (rowAt base stride) rows n ∙ all-true rows (before (rowAt base stride) n) (λ k l.
-      all-true k (λ i. free (rowAt base stride i) n (rowAt base stride k) n) (λ i g. pair k l i g w))
-    where
-      pair : (k : ℕ) → k < rows → (i : ℕ) → i < k → Goes base stride rows → free (rowAt base stride i) n (rowAt base stride k) n ≡ true
-      pair k l i g (inl up) = free-before (rowAt base stride i) n (rowAt base stride k) n (omega (arith, up k l, up i (omega arith), mul-le-mul-right (gap stride) g))
-      pair k l i g (inr down) = free-after (rowAt base stride i) n (rowAt base stride k) n (omega (arith, down k l, down i (omega arith), mul-le-mul-right (gap stride) g))
-
-  distinct-narrow : Goes base stride rows → ¬ (n ≡ 0) → 1 < rows → gap stride < n → false ≡ distinct (rowAt base stride) rows n
-  distinct-narrow w some more h =
-      distinct-not (rowAt base stride) rows n 1 (rowAt base stride 1) more refl
-      (all-false 1 (λ i. free (rowAt base stride i) n (rowAt base stride 1) n) 0 (omega arith) (pair w))
-    where
-      pair : Goes base stride rows → free (rowAt base stride 0) n (rowAt base stride 1) n ≡ false
-      pair (inl up) =
-          let a : rowAt base stride 0 ≡ base + 0 * gap stride = up 0 (omega arith) in
-          let b : rowAt base stride 1 ≡ base + 1 * gap stride = up 1 more in
-          free-not (rowAt base stride 0) n (rowAt base stride 1) n some some (omega (arith, a, b)) (omega (arith, a, b))
-      pair (inr down) =
-          let a : rowAt base stride 0 + 0 * gap stride ≡ base = down 0 (omega arith) in
-          let b : rowAt base stride 1 + 1 * gap stride ≡ base = down 1 more in
-          free-not (rowAt base stride 0) n (rowAt base stride 1) n some some (omega (arith, a, b)) (omega (arith, a, b))
-
-  -- two rows or more are distinct if they are as far from each other as they are long
-  pub distinct-test : Goes base stride rows → ¬ (n ≡ 0) → 1 < rows → leb n (gap stride) ≡ distinct (rowAt base stride) rows n
-  distinct-test w some more = by (le-or-lt n (gap stride))
-    where
-      by : (n ≤ gap stride) ⊎ (gap stride < n) → leb n (gap stride) ≡ distinct (rowAt base stride) rows n
-      by (inl l) = le-leb n (gap stride) l ∙ sym (distinct-wide w l)
-      by (inr l) = lt-leb n (gap stride) l ∙ distinct-narrow w some more l
 
 pub first-at : (base stride rows : ℕ) → Goes base stride rows → zero < rows → rowAt base stride 0 ≡ base
 first-at base stride rows (inl up) l = let a : rowAt base stride 0 ≡ base + 0 * gap stride = up 0 l in omega (arith, a)

@@ -7,7 +7,7 @@ ghost use mathlib.Core.Bool.{true, not};
 ghost use Prim.Native.Nat.{ℕ, _+_, _*_, _^_, _<_, _≤_};
 ghost use Rattle.machine.specs.Tests.{all, within};
 ghost use Rattle.machine.specs.Memory.{rowAt, inside};
-ghost use Rattle.run.specs.Start.{distinct, apart};
+ghost use Rattle.run.specs.Start.{apart};
 
 // Whether the n bytes from p on and the o bytes from q on share none.
 pub fn ranges_apart(p: usize, n: usize, q: usize, o: usize) -> bool
@@ -82,20 +82,6 @@ pub fn rows_miss(
         return true;
     }
     ranges_apart(row_address(base, as_signed(stride), below), bytes, q, o)
-}
-
-// Whether no byte of the rows, which lie in memory, is in two of them: two rows or more are as far from each other as they are long.
-pub fn rows_distinct(len: usize, base: usize, stride: u64, rows: usize, bytes: usize) -> bool
-    requires { ⌜ inside len base stride rows bytes ≡ true ⌝ }
-    ensures { λ r. ⌜ r ≡ distinct (rowAt base stride) rows bytes ⌝ }
-{
-    if bytes == 0 {
-        return true;
-    }
-    if rows < 2 {
-        return true;
-    }
-    bytes <= magnitude(as_signed(stride))
 }
 
 // Whether no byte of the rows is in one of the others; both lie in memory.

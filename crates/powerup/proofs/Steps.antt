@@ -32,6 +32,7 @@ use Rattle.machine.specs.Faults.{sound, soundBench, thirtyTwo}
 use Rattle.machine.specs.Step.{Outcome, outcome, stepBy, given, meant, destination}
 use Rattle.machine.specs.Alike.{Agree}
 use Rattle.machine.proofs.TestLaws.{or-not}
+use Rattle.machine.proofs.StoreLaws.{stored-puts, store-ends}
 use Rattle.machine.proofs.CheckLaws.{Passed, passed}
 use Rattle.machine.proofs.Sealing.{refusing}
 use Rattle.powerup.specs.Steps.{AlikeBenches, SameOutcome, EachSame, outcomes, StepIgnoresUnmarked, WordsIgnoreUnmarked, GivenWordsIgnoreUnmarked}
@@ -152,9 +153,13 @@ module _ (M : Parameters) (st : State) (ys mem : List ℕ) (a : Agree (st .marks
     same-checks = rw (size-same (rowsOf k), size-same (columnsOf k));
     same-result = refl;
     same-memory = λ p.
+        let apart = p .1 .1 .1 .1 .1 .1 .0 in
+        let ends = store-ends M st mem f k r w b s p in
         rw (size-same (rowsOf k), size-same (columnsOf k))
-        (putTile-cong (rowAt b s) _ _ w _ _ mem (placed-cong f (tileRows st k) (tileCols st k) (element (st .regs) (registerAt M k r) w) (element ys (registerAt M k r) w)
-        (read (registerAt M k r) (tileRows st k) (tileCols st k) w false (p .1 .1 .1 .1 .0) refl)));
+        (stored-puts (rowAt b s) _ _ w _ mem apart ends
+        ∙ putTile-cong (rowAt b s) _ _ w _ _ mem (placed-cong f (tileRows st k) (tileCols st k) (element (st .regs) (registerAt M k r) w) (element ys (registerAt M k r) w)
+        (read (registerAt M k r) (tileRows st k) (tileCols st k) w false (p .1 .1 .1 .1 .0) refl))
+        ∙ sym (stored-puts (rowAt b s) _ _ w _ mem apart ends));
     alike-after = λ p. kept;
   }
   unseen (Operation.multiply f d s t) = record {

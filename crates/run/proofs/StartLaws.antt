@@ -15,7 +15,8 @@ use Rattle.machine.specs.Tests.{all, within, isIn}
 use Rattle.machine.proofs.TestLaws.{all-true, all-at, every-each, each-every, within-not, not-within, or-right, false-true}
 use Rattle.machine.specs.Geometry.{elen, Parameters, parameters, permitted}
 use Rattle.machine.specs.Setting.{sew, mill, newType}
-use Rattle.machine.specs.Memory.{inMemory, rowZ, inside, unsealed}
+use Rattle.machine.specs.Memory.{inMemory, rowZ, inside, distinct, unsealed}
+use Rattle.machine.proofs.StoreLaws.{distinct-at, at-distinct}
 use Rattle.machine.proofs.MemoryLaws.{inside-byte, clear-at, clear-true, unsealed-at, unsealed-true}
 use Rattle.machine.specs.declared.Machine.{Machine}
 use Rattle.machine.specs.Geometry.{Bench}
@@ -23,7 +24,7 @@ use Rattle.machine.specs.Faults.{soundBench}
 use Rattle.machine.proofs.StepLaws.{permitted-lengths}
 use Rattle.run.specs.declared.Plan.{Plan}
 use Rattle.run.specs.Plan.{narrow, wide, msew, typeOf, aAt, bAt, cAt, aRows, aColumns}
-use Rattle.run.specs.Start.{format, planned, lying, distinct, apart, separate}
+use Rattle.run.specs.Start.{format, planned, lying, apart, separate}
 use Rattle.run.proofs.WordLaws.{formats}
 use Rattle.run.proofs.Invariant.{Accepted}
 use Rattle.run.specs.Statement.{Numbers, Lies, Inside, Separate, jobOf, Bytes}
@@ -92,23 +93,6 @@ module _ (at : ℕ → ℕ) (rows n : ℕ) (at′ : ℕ → ℕ) (rows′ o : �
       all-true rows (λ i. all n (λ b. all rows′ (λ k. not (within (at′ k) o (at i + b))))) (λ i l.
       all-true n (λ b. all rows′ (λ k. not (within (at′ k) o (at i + b)))) (λ b l′.
       all-true rows′ (λ k. not (within (at′ k) o (at i + b))) (λ k l″. not-within (at′ k) o (at i + b) (h i k (at i + b) l l″ (omega arith)))))
-
-module _ (at : ℕ → ℕ) (rows n : ℕ) where
-  distinct-at : distinct at rows n ≡ true → (i k q : ℕ) → i < k → k < rows → In (at i) n q → ¬ In (at k) n q
-  unfolding distinct
-  distinct-at h i k q l l′ x =
-      let e : at i + (q - at i) ≡ q = omega arith in
-      subst (λ (z : ℕ). ¬ In (at k) n z) e (within-not (at k) n (at i + (q - at i))
-      (all-at n (λ b. not (within (at k) n (at i + b)))
-      (all-at k (λ i. all n (λ b. not (within (at k) n (at i + b))))
-      (all-at rows (λ k. all k (λ i. all n (λ b. not (within (at k) n (at i + b))))) h k l′) i l) (q - at i) (omega arith)))
-
-  at-distinct : ((i k q : ℕ) → i < k → k < rows → In (at i) n q → ¬ In (at k) n q) → distinct at rows n ≡ true
-  unfolding distinct
-  at-distinct h =
-      all-true rows (λ k. all k (λ i. all n (λ b. not (within (at k) n (at i + b))))) (λ k l.
-      all-true k (λ i. all n (λ b. not (within (at k) n (at i + b)))) (λ i l′.
-      all-true n (λ b. not (within (at k) n (at i + b))) (λ b l″. not-within (at k) n (at i + b) (h i k (at i + b) l′ l (omega arith)))))
 
 module _ (grant : ℕ → ℕ → ℕ) (m : Machine) (P : Plan) where
   abbrev M : Parameters

@@ -25,7 +25,8 @@ use Rattle.machine.proofs.CheckLaws.{Passed, marked-true}
 use Rattle.machine.specs.Geometry.{Parameters, State, tileAt, accAt}
 use Rattle.machine.specs.Setting.{sew, mill, maxN, maxK}
 use Rattle.machine.specs.Refusals.{widthOk, widthOf}
-use Rattle.machine.specs.Memory.{rowAt, inside, unsealed}
+use Rattle.machine.specs.Memory.{rowAt, inside, distinct, unsealed}
+use Rattle.machine.proofs.StoreLaws.{at-distinct, stored-puts}
 use Rattle.machine.proofs.MemoryLaws.{inside-at, block-inside, block-rowAt, clear-part, unsealed-at, unsealed-true}
 use Rattle.machine.specs.Operation.{Operation, memoryRows, memoryCols, placed, element, product, stateAfter, memoryAfter}
 use Rattle.machine.specs.Refusals.{marked, checks}
@@ -503,11 +504,19 @@ module _ (J : Job) (A : Accepted J) where
         (unsealed-at M (P .c .address) (P .c .stride) (P .m) (P .n * W) (A .c-unsealed) (i + r) (omega (arith, bound-m, blk .in-n .i<m)))
         (omega arith) (omega (arith, width≤))))
 
+    store-distinct : distinct (rowAt (cAt P i + j * W) (P .c .stride)) (sizeM S i) (sizeN S j * W) ≡ true
+    store-distinct =
+        at-distinct (rowAt (cAt P i + j * W) (P .c .stride)) (sizeM S i) (sizeN S j * W) (λ r r′ q l l′ x y.
+        A .c-rows (i + r) (i + r′) q (omega arith) (omega (arith, bound-m, blk .in-n .i<m))
+        (in-c r q (omega (arith, row-is r (omega arith)))) (in-c r′ q (omega (arith, row-is r′ l′))))
+
     stored-is : memoryAfter M (operationOf P (Op.store i j)) st mem ≡ storedBy i j (st .regs) mem
     unfolding storedBy
     stored-is =
         rw (blk .in-n .tile-m, blk .tile-n)
-        (Tile.putTile-rows (rowAt (cAt P i + j * W) (P .c .stride)) (blockAt i j) (sizeM S i) (sizeN S j) W (element (st .regs) (accAt M 0) W) mem row-is)
+        (stored-puts (rowAt (cAt P i + j * W) (P .c .stride)) (sizeM S i) (sizeN S j) W (element (st .regs) (accAt M 0) W) mem store-distinct
+        (λ r l some. inside-at (length mem) (cAt P i + j * W) (P .c .stride) (sizeM S i) (sizeN S j * W) store-inside some r l .1)
+        ∙ Tile.putTile-rows (rowAt (cAt P i + j * W) (P .c .stride)) (blockAt i j) (sizeM S i) (sizeN S j) W (element (st .regs) (accAt M 0) W) mem row-is)
 
     stored-kept : Kept J (storedBy i j (st .regs) mem)
     unfolding storedBy
@@ -558,10 +567,12 @@ module _ (J : Job) (A : Accepted J) where
       rw (b .in-n .tile-m, b .tile-n) (marked-true (st .marks) (accAt M 0) (sizeM S i) (sizeN S j * W) (h .holds-c .written)) in
       let ins : inside (length mem) (cAt P i + j * W) (P .c .stride) (st .tileM) (st .tileN * W) ≡ true =
       rw (b .in-n .tile-m, b .tile-n) (store-inside i j st mem h) in
+      let dis : distinct (rowAt (cAt P i + j * W) (P .c .stride)) (st .tileM) (st .tileN * W) ≡ true =
+      rw (b .in-n .tile-m, b .tile-n) (store-distinct i j st mem h) in
       let uns : unsealed M (cAt P i + j * W) (P .c .stride) (st .tileM) (st .tileN * W) ≡ true =
       rw (b .in-n .tile-m, b .tile-n) (store-unsealed i j st mem h) in
       done (AtStore i j) o st mem
-      (no-mill st (typed i j st mem b), (wide-ok i j st mem b, (ok-m i j st mem b, (ok-n i j st mem b, (mark-c, (ins, (uns, tt)))))))
+      (no-mill st (typed i j st mem b), (wide-ok i j st mem b, (ok-m i j st mem b, (ok-n i j st mem b, (mark-c, (ins, (dis, (uns, tt))))))))
       (rw (stored-is i j st mem h)
       (open-n i (j + sizeN S j) st (storedBy i j (st .regs) mem) (record {
         in-m = record { registers = b .in-n .in-m .registers; kept = stored-kept i j st mem h; rows-done = stored-rows i j st mem h; typed = b .in-n .in-m .typed };

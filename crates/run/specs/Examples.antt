@@ -10,7 +10,7 @@ use Rattle.width.specs.Tile.{putTile, putRow, putLe, markTile, markRow}
 use Rattle.width.specs.Blocks.{chunks}
 use Rattle.machine.specs.Geometry.{permitted}
 use Rattle.machine.specs.Setting.{smaller, newType, legalType, sew}
-use Rattle.machine.specs.Memory.{inside, misses, rowsMiss}
+use Rattle.machine.specs.Memory.{inside, misses, rowsMiss, distinct, stored}
 use Rattle.machine.specs.Operation.{element}
 use Rattle.machine.specs.Refusals.{widthOk, widthOf, marked}
 use Rattle.machine.specs.Listing.{decode, listing}
@@ -25,7 +25,7 @@ use Rattle.run.specs.declared.Handed.{Handed}
 use Rattle.run.specs.Words.{loadA}
 use Rattle.run.specs.Plan.{narrow, msew, typeOf, cAt}
 use Rattle.run.specs.Encoding.{handedFor}
-use Rattle.run.specs.Start.{startRun, format, planned, lying, distinct, apart, separate}
+use Rattle.run.specs.Start.{startRun, format, planned, lying, apart, separate}
 use Rattle.run.specs.Turn.{soundRun, ask, Running, afterTurns, answeredDone}
 
 -- a sound machine with a seal, or one at fault for its mtype
@@ -106,7 +106,7 @@ examples =
     ∷ []
 
 pub starts : map (λ l. l .got) examples ≡ map (λ l. l .want) examples
-unfolding examples bench layout plan ofKind dot gives free small permitted newType legalType sew inside misses rowsMiss sound narrow msew typeOf startRun format planned lying distinct apart separate
+unfolding examples bench layout plan ofKind dot gives free small permitted newType legalType sew inside misses rowsMiss distinct sound narrow msew typeOf startRun format planned lying apart separate
 starts = refl
 
 -- ---- asking
@@ -169,5 +169,5 @@ after t i j = element (afterTurns smaller counted t .bench .memory) (cAt columns
 
 pub product-is : answeredDone smaller counted 15 ∷ after 13 0 0 ∷ after 13 0 1 ∷ after 13 1 0 ∷ after 13 1 1 ∷ []
     ≡ 13 ∷ reduce (256 ^ 4) (pos 58) ∷ reduce (256 ^ 4) (pos 64) ∷ reduce (256 ^ 4) (negsuc 48) ∷ reduce (256 ^ 4) (negsuc 53) ∷ []
-unfolding columns counted after ofKind plan layout free bench permitted sew newType legalType widthOk widthOf inside misses rowsMiss marked listing decode sound stepBy outcome narrow msew typeOf startRun soundRun format planned lying distinct apart separate chunks putTile putRow putLe markTile markRow reduce
+unfolding columns counted after ofKind plan layout free bench permitted sew newType legalType widthOk widthOf inside misses rowsMiss distinct stored marked listing decode sound stepBy outcome narrow msew typeOf startRun soundRun format planned lying apart separate chunks putTile putRow putLe markTile markRow reduce
 product-is = refl

@@ -10,7 +10,7 @@ use Rattle.machine.specs.Tests.{all, every, isIn, within}
 use Rattle.machine.specs.declared.Reply.{Reply}
 use Rattle.machine.specs.Answers.{reply, Check, _otherwise_, verdict, isDone}
 use Rattle.machine.specs.Geometry.{Parameters, parameters, elen}
-use Rattle.machine.specs.Memory.{inside, unsealed}
+use Rattle.machine.specs.Memory.{inside, distinct, unsealed}
 use Rattle.machine.specs.Geometry.{Bench}
 use Rattle.machine.specs.Faults.{sound}
 use Rattle.run.specs.declared.Plan.{Plan}
@@ -33,10 +33,6 @@ lying P mem = every (
     inside (length mem) (P .a .address) (P .a .stride) (aRows P) (aColumns P * narrow P)
     ∷ inside (length mem) (P .b .address) (P .b .stride) (P .k) (P .n * narrow P)
     ∷ inside (length mem) (P .c .address) (P .c .stride) (P .m) (P .n * wide P) ∷ [])
-
--- no byte of a row is in a later row
-unfoldable pub distinct : (ℕ → ℕ) → ℕ → ℕ → Bool
-distinct at rows n = all rows (λ k. all k (λ i. all n (λ b. not (within (at k) n (at i + b)))))
 
 -- no byte of a row of n bytes is in one of the other rows, of o bytes
 unfoldable pub apart : (ℕ → ℕ) → ℕ → ℕ → (ℕ → ℕ) → ℕ → ℕ → Bool

@@ -12,14 +12,14 @@ use Rattle.machine.specs.declared.Answer.the-variants.{BadArguments, OutsideMem
 use Rattle.machine.specs.Tests.{isIn}
 use Rattle.machine.specs.Answers.{reply, Check, _otherwise_, verdict, isDone}
 use Rattle.machine.specs.Geometry.{elen, Parameters, Bench, parameters}
-use Rattle.machine.specs.Memory.{inside, unsealed}
+use Rattle.machine.specs.Memory.{inside, distinct, unsealed}
 use Rattle.machine.specs.Faults.{sound}
 use Rattle.machine.specs.Setting.{smaller}
 use Rattle.machine.proofs.TestLaws.{Each, every-each, fails, last}
 use Rattle.run.specs.declared.Plan.{Plan}
 use Rattle.run.specs.Plan.{narrow, wide, aAt, bAt, cAt, formOf, aRows, aColumns}
 use Rattle.run.proofs.FormLaws.{most-in}
-use Rattle.run.specs.Start.{format, planned, lying, distinct, apart, separate, RunStart, startRun, freshRun, noRun}
+use Rattle.run.specs.Start.{format, planned, lying, apart, separate, RunStart, startRun, freshRun, noRun}
 use Rattle.asking.proofs.AskingLaws.{sews, factors, plan-small}
 
 -- ---- the numbers of a plan

@@ -1,11 +1,11 @@
 // The tests of a start on memory: that the matrices lie in it, and that C lies apart from the rest.
+use address::rows_distinct;
 use address::rows_inside;
 use address::rows_unsealed;
 use asking::a_column;
 use asking::a_row;
 use machine::Machine;
 use overlap::rows_apart;
-use overlap::rows_distinct;
 use run::Plan;
 ghost use mathlib.Core.Path.{_≡_};
 ghost use mathlib.Core.Bool.{true};

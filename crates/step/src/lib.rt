@@ -1,4 +1,4 @@
-// One instruction word: the checks in the order 8, then 10, 11, 1, 12, then 2 to 7, and then the effect.
+// One instruction word: the checks in the order 8, then 10, 11, 1, 12, then 2 to 6, 13, 7, and then the effect.
 use machine::Answer;
 use machine::Instruction;
 use machine::Machine;

@@ -1,11 +1,11 @@
--- The checks that a store makes once the tile's sizes are checked: answers 5, 6 and 7. Row i of the tile starts in the registers at
+-- The checks that a store makes once the tile's sizes are checked: answers 5, 6, 13 and 7. Row i of the tile starts in the registers at
 -- start + i * pitch; in memory it has so many lines of n bytes each.
 use mathlib.Core.Bool.{false}
 use mathlib.Core.List.{List, [], _∷_}
 use Prim.Native.Nat.{ℕ, _+_, _*_}
-use Rattle.machine.specs.declared.Answer.the-variants.{OutsideMemory, SealedByte}
+use Rattle.machine.specs.declared.Answer.the-variants.{OutsideMemory, SealedByte, RowsOverlap}
 use Rattle.machine.specs.Answers.{Check, _otherwise_}
-use Rattle.machine.specs.Memory.{inside, rowsMiss}
+use Rattle.machine.specs.Memory.{rowAt, inside, distinct, rowsMiss}
 use Rattle.machine.specs.Refusals.{needs}
 
 abbrev pub marksCheck : List ℕ → (start pitch rows cols w : ℕ) → Check
@@ -14,6 +14,9 @@ marksCheck marks start pitch rows cols w = needs false marks (λ i. start + i * 
 abbrev pub memoryCheck : (len base stride rows n : ℕ) → Check
 memoryCheck len base stride rows n = inside len base stride rows n otherwise OutsideMemory
 
+abbrev pub overlapCheck : (base stride rows n : ℕ) → Check
+overlapCheck base stride rows n = distinct (rowAt base stride) rows n otherwise RowsOverlap
+
 abbrev pub sealCheck : (seal size base stride rows n : ℕ) → Check
 sealCheck seal size base stride rows n = rowsMiss seal size base stride rows n otherwise SealedByte
 
@@ -21,4 +24,5 @@ abbrev pub storeChecks : (seal size : ℕ) → List ℕ → (start pitch len bas
 storeChecks seal size marks start pitch len base stride rows cols w lines n =
     marksCheck marks start pitch rows cols w
     ∷ memoryCheck len base stride lines n
+    ∷ overlapCheck base stride lines n
     ∷ sealCheck seal size base stride lines n ∷ []

@@ -2,6 +2,7 @@
 // start + i * pitch, and in memory at base + i * stride, where the stride is the signed number of its 64 bits.
 use address::as_signed;
 use address::row_address;
+use address::rows_distinct;
 use address::rows_inside;
 use address::rows_unsealed;
 use machine::Answer;
@@ -236,7 +237,7 @@ pub fn load(
     Answer::Done
 }
 
-// The checks of a store to a memory of len bytes, in lines of so many bytes each: answer 5, 6, 7 or Done.
+// The checks of a store to a memory of len bytes, in lines of so many bytes each: answer 5, 6, 13, 7 or Done.
 pub fn store_checked(
     marks: &[u8],
     len: usize,
@@ -266,13 +267,16 @@ pub fn store_checked(
     if !rows_inside(len, at, stride, lines, bytes) {
         return Answer::OutsideMemory;
     }
+    if !rows_distinct(len, at, stride, lines, bytes) {
+        return Answer::RowsOverlap;
+    }
     if !rows_unsealed(len, seal, size, at, stride, lines, bytes) {
         return Answer::SealedByte;
     }
     Answer::Done
 }
 
-// Stores a tile, or answers 5, 6 or 7.
+// Stores a tile, or answers 5, 6, 13 or 7.
 pub fn store(
     registers: &[u8],
     marks: &[u8],

@@ -165,7 +165,7 @@ fn load_transposed(
     Answer::Done
 }
 
-// Stores a tile transposed, or answers 5, 6 or 7.
+// Stores a tile transposed, or answers 5, 6, 13 or 7.
 fn store_transposed(
     registers: &[u8],
     marks: &[u8],
@@ -261,7 +261,7 @@ pub fn load(
     }
 }
 
-// Stores a tile, or answers 5, 6 or 7.
+// Stores a tile, or answers 5, 6, 13 or 7.
 pub fn store(
     form: Form,
     registers: &[u8],

@@ -1,56 +1,39 @@
 -- 02, Two: a plain load, then the matching transposed store, leaves the transposed tile.
-use mathlib.Core.Path.{_≡_, refl, sym, ap, ap₂, _∙_, subst}
-use mathlib.Core.Bool.{Bool, true, false, cond}
+use mathlib.Core.Path.{_≡_, refl, sym, ap, _∙_, subst}
+use mathlib.Core.Bool.{true}
 use mathlib.Core.List.{List}
 use Prim.Native.Nat.{ℕ, zero, _+_, _*_, _%_, _^_, _≤_, _<_}
-use native.Mathlib.Nat.{mod-eq-of-lt, mul-pos}
+use native.Mathlib.Nat.{mod-eq-of-lt}
 use native.Mathlib.Omega.{arith}
-use lib.Dec.{ltb}
 use lib.ListN.{length, getD, set}
 use lib.Seq.{getD-set-other}
-use borrow.Author.Tests.{eq-eqb, ltb-true}
-use Rattle.width.specs.Tile.{le, putTile, markTile, markRow, In}
+use borrow.Author.Tests.{ltb-true}
+use Rattle.width.specs.Tile.{putTile, markTile, markRow, In}
 use Rattle.width.proofs.UptoLaws.{upto-keeps}
 use Rattle.width.proofs.PutLaws.{row-fits}
-use Rattle.width.proofs.TileLaws.{putTile-le, putTile-out, length-putTile, pitched, le-lt}
+use Rattle.width.proofs.TileLaws.{putTile-le, putTile-out, pitched, le-bytes, le-lt}
 use Rattle.machine.specs.declared.Matrix.{Matrix}
 use Rattle.machine.specs.declared.Matrix.the-variants.{MatrixA, MatrixB, MatrixC}
 use Rattle.machine.specs.declared.Form.the-variants.{Plain, Transposed}
 use Rattle.machine.specs.declared.Instruction.{Instruction}
 use Rattle.machine.specs.declared.Instruction.the-variants.{Load, Store}
-use Rattle.machine.specs.Answers.{number, isDone, verdict}
+use Rattle.machine.specs.Answers.{number}
 use Rattle.machine.specs.Geometry.{Parameters, parameters, State, stateOf, Bench, benchOf, registerAt, startOf, pitchOf, registerCount, scalar}
 use Rattle.machine.specs.Listing.{decode, inRange}
-use Rattle.machine.specs.Memory.{rowAt, inside}
-use Rattle.machine.specs.Operation.{Operation, element, written, tileRows, tileCols}
+use Rattle.machine.specs.Memory.{rowAt}
+use Rattle.machine.specs.Operation.{memoryAfter, element, written, tileRows, tileCols}
 use Rattle.machine.specs.Refusals.{checks}
 use Rattle.machine.specs.Faults.{soundBench}
 use Rattle.machine.specs.Step
-use Rattle.machine.specs.Step.{Outcome, outcome, stepBy, stepChecks, given, meant}
+use Rattle.machine.specs.Step.{Outcome, outcome, stepBy, given, meant}
 use Rattle.machine.specs.Theorems.{Given}
-use Rattle.machine.proofs.TestLaws.{false-true}
-use Rattle.machine.proofs.CheckLaws.{Passed, passed}
-use Rattle.machine.proofs.MemoryLaws.{inside-at}
+use Rattle.machine.proofs.CheckLaws.{Passed}
 use Rattle.machine.proofs.CodeLaws.{decode-bounded}
-use Rattle.machine.proofs.Sealing.{refusing}
+use Rattle.machine.proofs.StoreLaws.{length-stored, stored-out, store-byte}
+use Rattle.machine.proofs.Stores.{accepted}
 use Rattle.transfer.proofs.Room.{transfer-requires}
 use Rattle.transfer.proofs.WalkLaws.{width-some}
 use Rattle.transposed.specs.Transposed.{Pair, LoadThenStore, Transposes, LoadThenStoreTransposes}
-
--- ---- a word that is accepted
-
-accepted : (M : Parameters) (i : Instruction) (xs : List ℕ) (B : Bench) → outcome M i xs B .answer .number ≡ 0
-    → (soundBench B ≡ true) × Passed (checks M (meant M i xs B) (given M i xs B) (B .memory)) × (outcome M i xs B ≡ Step.carriedOut M i xs B)
-unfolding outcome
-accepted M i xs B h = go (isDone (verdict (stepChecks M i xs B))) refl h
-  where
-    out : Bool → Outcome
-    out t = cond t (Step.carriedOut M i xs B) (Step.refused M i xs B (verdict (stepChecks M i xs B)))
-
-    go : (t : Bool) → isDone (verdict (stepChecks M i xs B)) ≡ t → out t .answer .number ≡ 0
-        → (soundBench B ≡ true) × Passed (checks M (meant M i xs B) (given M i xs B) (B .memory)) × (out t ≡ Step.carriedOut M i xs B)
-    go true e h = let p = passed (stepChecks M i xs B) (refusing M (meant M i xs B) (given M i xs B) (B .memory)) e in (p .0, p .1 .1, refl)
-    go false e h = absurd (false-true (sym e ∙ eq-eqb (number (verdict (stepChecks M i xs B))) 0 h))
 
 -- ---- tiles
 
@@ -63,26 +46,6 @@ markTile-out : (at : ℕ → ℕ) (rows n : ℕ) (ms : List ℕ) (q : ℕ) → (
 unfolding markTile
 markTile-out at rows n ms q h =
     upto-keeps (λ ys. getD ys q 0 ≡ getD ms q 0) rows (λ i ys. markRow (at i) n ys) ms (λ i l ys e. markRow-out (at i) n ys q (h i l) ∙ e) refl
-
--- a tile of values written to rows that lie apart, and then its columns as rows: element (j, i) of these is value (i, j), where all
--- values have w bytes
-module _ (at to : ℕ → ℕ) (rows cols w : ℕ) (value : ℕ → ℕ → ℕ) (regs mem : List ℕ) where
-  abbrev first : List ℕ
-  first = putTile at rows cols w value regs
-
-  abbrev second : List ℕ
-  second = putTile to cols rows w (λ j i. element first at w i j) mem
-
-  there : ((i j : ℕ) → value i j < 256 ^ w)
-      → ((i : ℕ) → i < rows → at i + cols * w ≤ length regs)
-      → ((i k : ℕ) → i < k → (q : ℕ) → In (at i) (cols * w) q → ¬ In (at k) (cols * w) q)
-      → ((j : ℕ) → j < cols → to j + rows * w ≤ length mem)
-      → ((i k : ℕ) → i < k → k < cols → (q : ℕ) → In (to i) (rows * w) q → ¬ In (to k) (rows * w) q)
-      → (i j : ℕ) → i < rows → j < cols → element second to w j i ≡ value i j
-  there small fits apart ends distinct i j l m =
-      putTile-le to cols rows w (λ j i. element first at w i j) mem j m (ends j m) i l (λ k l′ g q. distinct j k g l′ q)
-      ∙ ap (λ (v : ℕ). v % 256 ^ w) (putTile-le at rows cols w value regs i l (fits i l) j m (λ k l′ g q. apart i k g q) ∙ mod-eq-of-lt (small i j))
-      ∙ mod-eq-of-lt (small i j)
 
 -- ---- the two words
 
@@ -127,25 +90,14 @@ module _ (grant : ℕ → ℕ → ℕ) (k : Matrix) (w r a b c d : ℕ) (xs ys :
   abbrev B₁ : Bench
   B₁ = benchOf (B .machine) regs₁ marks₁ (B .memory)
 
-  abbrev mem₂ : List ℕ
-  mem₂ = putTile to cols rows w (λ j i. element regs₁ (registerAt M k r) w i j) (B .memory)
-
-  abbrev after : Outcome
-  after = record { answer = Step.carriedOut M loading xs B .answer; bench = benchOf (B .machine) regs₁ marks₁ mem₂; scalars = ys }
+  abbrev st₁ : State
+  st₁ = stateOf (B .machine) regs₁ marks₁
 
   abbrev Sizes : Type 0
   Sizes = (tileRows (stateOf (B .machine) regs₁ marks₁) k ≡ rows) × (tileCols (stateOf (B .machine) regs₁ marks₁) k ≡ cols)
 
   sizes : Sizes
   sizes = rows-same st (registerAt M k r) rows cols w (element (B .memory) from w) k
-
-  second-is : Step.carriedOut M storing ys B₁ ≡ after
-  second-is =
-      ap₂ (λ (n m : ℕ). record {
-        answer = Step.carriedOut M loading xs B .answer;
-        bench = benchOf (B .machine) regs₁ marks₁ (putTile to m n w (λ j i. element regs₁ (registerAt M k r) w i j) (B .memory));
-        scalars = ys;
-      }) (sizes .0) (sizes .1)
 
   module _ (in-range : r < registerCount k) (s : soundBench B ≡ true) (p : Passed (checks M (meant M loading xs B) (given M loading xs B) (B .memory)))
       (p₂ : Passed (checks M (meant M storing ys B₁) (given M storing ys B₁) (B₁ .memory))) where
@@ -157,21 +109,24 @@ module _ (grant : ℕ → ℕ → ℕ) (k : Matrix) (w r a b c d : ℕ) (xs ys :
         let f = transfer-requires grant (B .machine) (B .registers) (B .marks) s k r w in-range (p .0, (p .1 .0, (p .1 .1 .0, (p .1 .1 .1 .0, tt)))) in
         (f .0, f .1 .1 .0, width-some w (f .1 .1 .1 .0))
 
-    ends : (i : ℕ) → i < rows → (j : ℕ) → j < cols → to j + rows * w ≤ length (B .memory)
-    ends i l j m =
-        let h : inside (length (B .memory)) (scalar ys c) (scalar ys d) cols (rows * w) ≡ true =
-        subst (λ (n : ℕ). inside (length (B .memory)) (scalar ys c) (scalar ys d) n (rows * w) ≡ true) (sizes .1)
-        (subst (λ (n : ℕ). inside (length (B .memory)) (scalar ys c) (scalar ys d) (tileCols (stateOf (B .machine) regs₁ marks₁) k) (n * w) ≡ true) (sizes .0) (p₂ .1 .1 .1 .1 .1 .0)) in
-        inside-at (length (B .memory)) (scalar ys c) (scalar ys d) cols (rows * w) h (mul-pos (omega arith) (room .2)) j m .1
+    -- element (i, j) of the register is element (i, j) of memory
+    held : ((q : ℕ) → getD (B .memory) q 0 < 256) → (i j : ℕ) → i < rows → j < cols → element regs₁ (registerAt M k r) w i j ≡ element (B .memory) from w i j
+    held small i j l m =
+        putTile-le (registerAt M k r) rows cols w (element (B .memory) from w) (B .registers) i l (omega (arith, room .0, room .1, row-fits i rows (pitchOf M k) l)) j m
+        (λ k′ l′ g q. pitched (startOf M k r) (pitchOf M k) (cols * w) (room .1) i k′ g q)
+        ∙ mod-eq-of-lt (le-lt (B .memory) small (from i + j * w) w)
 
-    turned : ((q : ℕ) → getD (B .memory) q 0 < 256) → ((i j : ℕ) → i < j → j < cols → (q : ℕ) → In (to i) (rows * w) q → ¬ In (to j) (rows * w) q)
-        → (i j : ℕ) → i < rows → j < cols → element mem₂ to w j i ≡ element (B .memory) from w i j
-    turned small distinct i j l m =
-        there (registerAt M k r) to rows cols w (element (B .memory) from w) (B .registers) (B .memory)
-        (λ i j. le-lt (B .memory) small (from i + j * w) w)
-        (λ i l. omega (arith, room .0, room .1, row-fits i rows (pitchOf M k) l))
-        (pitched (startOf M k r) (pitchOf M k) (cols * w) (room .1))
-        (ends i l) distinct i j l m
+    turned : ((q : ℕ) → getD (B .memory) q 0 < 256) → (i j : ℕ) → i < rows → j < cols
+        → element (memoryAfter M (meant M storing ys B₁) st₁ (B .memory)) to w j i ≡ element (B .memory) from w i j
+    turned small i j l m =
+        le-bytes (memoryAfter M (meant M storing ys B₁) st₁ (B .memory)) (to j + i * w) w (element regs₁ (registerAt M k r) w i j) (λ b n.
+        store-byte M st₁ (B .memory) Transposed k r w (scalar ys c) (scalar ys d) p₂ j i b (subst (λ (x : ℕ). j < x) (sym (sizes .1)) m) (subst (λ (x : ℕ). i < x) (sym (sizes .0)) l) n)
+        ∙ ap (λ (v : ℕ). v % 256 ^ w) (held small i j l m) ∙ mod-eq-of-lt (le-lt (B .memory) small (from i + j * w) w)
+
+  -- a byte that is in no row of the store
+  kept : (q : ℕ) → ((j : ℕ) → j < cols → ¬ In (to j) (rows * w) q) → getD (memoryAfter M (meant M storing ys B₁) st₁ (B .memory)) q 0 ≡ getD (B .memory) q 0
+  kept q h = stored-out to _ _ w _ (B .memory) q (λ j l.
+      subst (λ (x : ℕ). ¬ In (to j) (x * w) q) (sym (sizes .0)) (h j (subst (λ (x : ℕ). j < x) (sizes .1) l)))
 
 -- ---- the theorem
 
@@ -195,7 +150,7 @@ module _ (grant : ℕ → ℕ → ℕ) (P : Pair) (first second : Given) (B : Be
   left = B₁ grant (P .matrix) (P .w) (P .register) (P .load-base) (P .load-stride) (P .store-base) (P .store-stride) xs ys B
 
   abbrev end : Outcome
-  end = after grant (P .matrix) (P .w) (P .register) (P .load-base) (P .load-stride) (P .store-base) (P .store-stride) xs ys B
+  end = Step.carriedOut N i₂ ys left
 
   first-word : (i : Instruction) → decode (first .word) ≡ i → stepBy grant (first .word) xs B ≡ outcome N i xs B
   unfolding stepBy
@@ -218,9 +173,7 @@ module _ (grant : ℕ → ℕ → ℕ) (P : Pair) (first second : Given) (B : Be
   store-done = accepted N i₂ ys left (ap (λ (o : Outcome). o .answer .number) (sym second-starts) ∙ h .store-accepted)
 
   store-is : stepBy grant (second .word) ys (stepBy grant (first .word) xs B .bench) ≡ end
-  store-is =
-      second-starts ∙ store-done .2
-      ∙ second-is grant (P .matrix) (P .w) (P .register) (P .load-base) (P .load-stride) (P .store-base) (P .store-stride) xs ys B
+  store-is = second-starts ∙ store-done .2
 
   in-range : P .register < registerCount (P .matrix)
   in-range = ltb-true (P .register) (registerCount (P .matrix)) (subst (λ (i : Instruction). inRange i ≡ true) (h .plain-load) (decode-bounded (first .word) .1))
@@ -230,9 +183,11 @@ module _ (grant : ℕ → ℕ → ℕ) (P : Pair) (first second : Given) (B : Be
     transposed = λ i j l m.
         ap (λ (o : Outcome). element (o .bench .memory) (rowAt (scalar ys (P .store-base)) (scalar ys (P .store-stride))) (P .w) j i) store-is
         ∙ turned grant (P .matrix) (P .w) (P .register) (P .load-base) (P .load-stride) (P .store-base) (P .store-stride) xs ys B in-range (load-done .0) (load-done .1) (store-done .1)
-        (h .bytes) (h .no-byte-in-two-rows) i j l m;
-    same-length = ap (λ (o : Outcome). length (o .bench .memory)) store-is ∙ length-putTile _ _ _ _ _ (B .memory);
-    same-memory = λ q f. ap (λ (o : Outcome). getD (o .bench .memory) q 0) store-is ∙ putTile-out _ _ _ (P .w) _ (B .memory) q f;
+        (h .bytes) i j l m;
+    same-length = ap (λ (o : Outcome). length (o .bench .memory)) store-is ∙ length-stored _ _ _ _ _ (B .memory);
+    same-memory = λ q f.
+        ap (λ (o : Outcome). getD (o .bench .memory) q 0) store-is
+        ∙ kept grant (P .matrix) (P .w) (P .register) (P .load-base) (P .load-stride) (P .store-base) (P .store-stride) xs ys B q f;
     as-loaded = (
       ap (λ (o : Outcome). o .bench .registers) store-is ∙ sym (ap (λ (o : Outcome). o .bench .registers) load-is),
       ap (λ (o : Outcome). o .bench .marks) store-is ∙ sym (ap (λ (o : Outcome). o .bench .marks) load-is),

@@ -1,8 +1,7 @@
 -- 02, Two: "Prove once over all three that a plain load, then the matching transposed store of that register and width, leaves the
--- transposed tile, where both are accepted, nothing comes between and no byte lies in two of the store's rows." The proof stands in
--- proofs/Transposed.antt.
+-- transposed tile, where both are accepted, nothing comes between and no byte lies in two of the store's rows." Since 02, Seven, no byte
+-- lies in two rows of a store that is accepted. The proof stands in proofs/Transposed.antt.
 use mathlib.Core.Path.{_≡_}
-use mathlib.Core.List.{List}
 use Prim.Native.Nat.{ℕ, _*_, _<_}
 use lib.ListN.{length, getD}
 use Rattle.width.specs.Tile.{In}
@@ -53,14 +52,12 @@ module _ (grant : ℕ → ℕ → ℕ) (P : Pair) (first second : Given) (B : Be
   abbrev pub place : ℕ → ℕ
   place = registerAt (parameters grant (B .machine)) (P .matrix) (P .register)
 
-  -- "a plain load, then the matching transposed store of that register and width .. where both are accepted .. and no byte lies in two
-  -- of the store's rows"; memory holds bytes
+  -- "a plain load, then the matching transposed store of that register and width .. where both are accepted"; memory holds bytes
   pub record LoadThenStore : Type 0 where
     pub plain-load : decode (first .word) ≡ Load Plain (P .matrix) (P .w) (P .register) (P .load-base) (P .load-stride)
     pub transposed-store : decode (second .word) ≡ Store Transposed (P .matrix) (P .w) (P .register) (P .store-base) (P .store-stride)
     pub load-accepted : loaded .answer .number ≡ 0
     pub store-accepted : stored .answer .number ≡ 0
-    pub no-byte-in-two-rows : (i j : ℕ) → i < j → j < cols → (q : ℕ) → In (to i) (rows * P .w) q → ¬ In (to j) (rows * P .w) q
     pub bytes : (q : ℕ) → getD (B .memory) q 0 < 256
 
   -- "leaves the transposed tile": element (j, i) of what is stored is element (i, j) of what was loaded. All other bytes of memory are as

@@ -79,6 +79,12 @@ enum-told-12 c = search needs
 plain-requires-12 : tie.Need-plain-requires-12
 plain-requires-12 c κs = search needs
 
+enum-told-13 : tie.Need-enum-told-13
+enum-told-13 c = search needs
+
+plain-requires-13 : tie.Need-plain-requires-13
+plain-requires-13 c κs = search needs
+
 returns : tie.Need-returns
 returns c = c .plain .ensures ∙ ap reply (sym (c .before .enum-told .given .1))
 
@@ -118,6 +124,9 @@ returns-12 c = c .plain11 .ensures ∙ ap reply (sym (c .before .enum-told11 .gi
 returns-13 : tie.Need-returns-13
 returns-13 c = c .plain12 .ensures ∙ ap reply (sym (c .before .enum-told12 .given .1))
 
+returns-14 : tie.Need-returns-14
+returns-14 c = c .plain13 .ensures ∙ ap reply (sym (c .before .enum-told13 .given .1))
+
 pub reply-of-spec : {M : Type 1} → statement M
 reply-of-spec =
     tie.close
@@ -147,6 +156,8 @@ reply-of-spec =
     plain-requires-11
     enum-told-12
     plain-requires-12
+    enum-told-13
+    plain-requires-13
     returns
     returns-2
     returns-3
@@ -159,4 +170,5 @@ reply-of-spec =
     returns-10
     returns-11
     returns-12
-    returns-13)
+    returns-13
+    returns-14)

@@ -7,7 +7,8 @@ use mir.Syntax.{w64}
 use mir.Val.{toZ, ofZ}
 use Rattle.machine.specs.Memory.{rowAt}
 use Rattle.address.proofs.AddressLaws.{step, passed-on, row-inside, row-reached, row-starts}
-use Rattle.overlap.proofs.OverlapLaws.{gap, Goes, goes, goes-up, goes-down, first-at, rows-no-bytes, rows-no-others, rows-same, up-all, up-next, down-all, down-next}
+use Rattle.address.proofs.DistinctLaws.{gap, Goes, rows-go, rows-up, rows-down}
+use Rattle.overlap.proofs.OverlapLaws.{first-at, rows-no-bytes, rows-no-others, rows-same, up-all, up-next, down-all, down-next}
 use Rattle.overlap.proofs.rows_miss.Statement.{statement}
 use Rattle.overlap.proofs.rows_miss.Tie as tie
 
@@ -39,7 +40,7 @@ ways : (c : tie.After-magnitude) → let a = c .before .before .before .before .
 ways c =
     let s = c .before .before .before .before .before in
     let a = s .args in
-    goes (a .len) (a .base) (a .stride) (a .rows) (a .bytes) (s .pre .0) (some c) (s .fits .stride .fits)
+    rows-go (a .len) (a .base) (a .stride) (a .rows) (a .bytes) (s .pre .0) (some c) (s .fits .stride .fits)
 
 lies : (c : tie.After-magnitude) → let a = c .before .before .before .before .before .args in (i : ℕ) → i < a .rows → rowAt (a .base) (a .stride) i + a .bytes ≤ a .len
 lies c i l =
@@ -87,7 +88,7 @@ returns-5 c =
     let d = e .before .before .before in
     let a = d .before .before .before .before .before .args in
     up-all (a .base) (a .stride) (a .rows) (a .bytes) (a .q) (a .o) (d .before .before .before .before .if1 .left) (d .before .before .before .if2 .left)
-    (goes-up (a .base) (a .stride) (a .rows) (e .before .if5 .taken)) (e .steps-past .result) (up-passed e .0) (omega (arith, c .if6 .taken))
+    (rows-up (a .base) (a .stride) (a .rows) (e .before .if5 .taken)) (e .steps-past .result) (up-passed e .0) (omega (arith, c .if6 .taken))
 
 as-signed-requires-2 : tie.Need-as-signed-requires-2
 as-signed-requires-2 c κs = tt
@@ -120,7 +121,7 @@ returns-6 c =
     let a = d .before .before .before .before .before .args in
     c .ranges-apart2 .ensures
     ∙ up-next (a .base) (a .stride) (a .rows) (a .bytes) (a .q) (a .o) (d .before .before .before .before .if1 .left) (d .before .before .before .if2 .left)
-    (goes-up (a .base) (a .stride) (a .rows) (e .before .if5 .taken)) (e .steps-past .result) (up-passed e .0) (c .before .row-address .result) (up-row (c .before)) (up-passed e .1)
+    (rows-up (a .base) (a .stride) (a .rows) (e .before .if5 .taken)) (e .steps-past .result) (up-passed e .0) (c .before .row-address .result) (up-row (c .before)) (up-passed e .1)
     (omega (arith, c .before .before .before .if6 .left))
 
 add-steps-past-2 : tie.Need-add-steps-past-2
@@ -145,7 +146,7 @@ returns-7 c =
     let s = d .before .before .before .before .before in
     let a = s .args in
     down-all (a .base) (a .stride) (a .rows) (a .bytes) (a .q) (a .o) (d .before .before .before .before .if1 .left) (d .before .before .before .if2 .left)
-    (goes-down (a .len) (a .base) (a .stride) (a .rows) (a .bytes) (s .pre .0) (some d) (s .fits .stride .fits) (omega (arith, e .before .if5 .left)))
+    (rows-down (a .len) (a .base) (a .stride) (a .rows) (a .bytes) (s .pre .0) (some d) (s .fits .stride .fits) (omega (arith, e .before .if5 .left)))
     (e .steps-past2 .result) (down-passed e .0) (omega (arith, c .if7 .taken))
 
 as-signed-requires-3 : tie.Need-as-signed-requires-3
@@ -180,7 +181,7 @@ returns-8 c =
     let a = s .args in
     c .ranges-apart3 .ensures
     ∙ down-next (a .base) (a .stride) (a .rows) (a .bytes) (a .q) (a .o) (d .before .before .before .before .if1 .left) (d .before .before .before .if2 .left)
-    (goes-down (a .len) (a .base) (a .stride) (a .rows) (a .bytes) (s .pre .0) (some d) (s .fits .stride .fits) (omega (arith, e .before .if5 .left)))
+    (rows-down (a .len) (a .base) (a .stride) (a .rows) (a .bytes) (s .pre .0) (some d) (s .fits .stride .fits) (omega (arith, e .before .if5 .left)))
     (e .steps-past2 .result) (down-passed e .0) (c .before .row-address2 .result) (down-row (c .before)) (down-passed e .1)
     (omega (arith, c .before .before .before .if7 .left))
 

@@ -5,14 +5,13 @@ use lib.Dec.{leb}
 use lib.IntN.{natAbs}
 use mir.Syntax.{w64}
 use mir.Val.{toZ, ofZ}
-use Rattle.machine.specs.Memory.{rowAt}
 use Rattle.address.proofs.AddressLaws.{step, passed-on}
-use Rattle.overlap.proofs.OverlapLaws.{distinct-no-bytes, distinct-few, distinct-test, goes}
-use Rattle.overlap.proofs.rows_distinct.Statement.{statement}
-use Rattle.overlap.proofs.rows_distinct.Tie as tie
+use Rattle.address.proofs.DistinctLaws.{distinct-no-bytes, distinct-few, distinct-test, rows-go}
+use Rattle.address.proofs.rows_distinct.Statement.{statement}
+use Rattle.address.proofs.rows_distinct.Tie as tie
 
 returns : tie.Need-returns
-returns c = let a = c .before .args in distinct-no-bytes (rowAt (a .base) (a .stride)) (a .rows) (a .bytes) (c .if1 .taken)
+returns c = let a = c .before .args in distinct-no-bytes (a .base) (a .stride) (a .rows) (a .bytes) (c .if1 .taken)
 
 returns-2 : tie.Need-returns-2
 returns-2 c = let a = c .before .before .args in distinct-few (a .base) (a .stride) (a .rows) (a .bytes) (c .if2 .taken)
@@ -34,7 +33,7 @@ returns-3 c =
     let a = s .args in
     ap (λ (x : ℕ). leb (a .bytes) x) (c .magnitude .ensures ∙ ap natAbs (stride-is (c .before)))
     ∙ distinct-test (a .base) (a .stride) (a .rows) (a .bytes)
-    (goes (a .len) (a .base) (a .stride) (a .rows) (a .bytes) (s .pre) (omega (arith, t .before .if1 .left)) (s .fits .stride .fits))
+    (rows-go (a .len) (a .base) (a .stride) (a .rows) (a .bytes) (s .pre) (omega (arith, t .before .if1 .left)) (s .fits .stride .fits))
     (t .before .if1 .left) (omega (arith, t .if2 .left))
 
 pub rows-distinct-spec : {M : Type 1} → statement M
