@@ -12,6 +12,7 @@ mod damage;
 mod images;
 mod lent;
 mod library;
+mod overlapping;
 mod powerup;
 mod random;
 mod renewed;
@@ -28,7 +29,7 @@ mod words;
 use std::time::Instant;
 use suite::{Context, Outcome, Suite};
 
-const SUITES: [Suite; 30] = [
+const SUITES: [Suite; 33] = [
     ("bench sheet", sheet::bench_sheet),
     ("machine starts", starts::machine_starts),
     ("codes", steps::codes),
@@ -39,6 +40,8 @@ const SUITES: [Suite; 30] = [
     ("several faults", steps::several_faults),
     ("renewed sizes", renewed::renewed_sizes),
     ("transposed tiles", transposed::transposed_tiles),
+    ("overlapping rows", overlapping::overlapping_rows),
+    ("overlapping stores", overlapping::overlapping_stores),
     ("sequences", steps::sequences),
     ("power-up words", powerup::power_up_words),
     ("damaged steps", damage::damaged_steps),
@@ -46,6 +49,7 @@ const SUITES: [Suite; 30] = [
     ("run starts", runs::suites::run_starts),
     ("turns", runs::suites::turns),
     ("disturbed turns", runs::suites::disturbed_turns),
+    ("overlapping turns", runs::suites::overlapping_turns),
     ("whole runs", runs::suites::whole_runs),
     ("power-up runs", runs::powerup::power_up_runs),
     ("largest sizes", runs::suites::largest_sizes),

@@ -1,6 +1,6 @@
 //! The second program: the rules of the scope paper and of the change requests
-//! that have landed (One, Two, Three, Six; Nine asks for nothing new), each as one
-//! plain function.
+//! that have landed (One, Two, Three, Six, Seven; Nine asks for nothing new), each as
+//! one plain function.
 //!
 //! It is written to be read beside the paper, not to be fast. Sizes and
 //! addresses are whole numbers (`i128`), bytes are looked at one by one, and a
@@ -796,6 +796,13 @@ fn outside_memory(addresses: &[i128], memory: &[u8]) -> bool {
     addresses.iter().any(|&address| address < 0 || address >= memory.len() as i128)
 }
 
+/// Answer 13 (request Seven): a store with a byte that belongs to two of its rows in
+/// memory. Loads may read a byte twice.
+fn stores_over_itself(instruction: &Instruction, machine: &Machine, scalars: &[u64]) -> bool {
+    let moved = moved_tile(instruction, machine, scalars);
+    matches!(instruction.row.kind, Store(..)) && moved.is_some_and(|placed| placed.rows_meet())
+}
+
 /// Answer 7.
 fn writes_sealed_byte(instruction: &Instruction, machine: &Machine, addresses: &[i128]) -> bool {
     matches!(instruction.row.kind, Store(..)) && addresses.iter().any(|&a| sealed(machine, a))
@@ -826,6 +833,9 @@ pub fn step(word: u32, bench: &mut Bench, scalars: &mut [u64]) -> Answer {
     let addresses = addresses(&instruction, &bench.machine, scalars);
     if outside_memory(&addresses, &bench.memory) {
         return answer(6);
+    }
+    if stores_over_itself(&instruction, &bench.machine, scalars) {
+        return answer(13);
     }
     if writes_sealed_byte(&instruction, &bench.machine, &addresses) {
         return answer(7);
@@ -1039,6 +1049,21 @@ impl Placed {
             })
         })
     }
+
+    /// Every address, with the first row it lies in.
+    pub fn first_rows(&self) -> HashMap<i128, i128> {
+        let mut row_of = HashMap::new();
+        for (address, row) in self.bytes() {
+            row_of.entry(address).or_insert(row);
+        }
+        row_of
+    }
+
+    /// Whether a byte belongs to two rows.
+    pub fn rows_meet(&self) -> bool {
+        let row_of = self.first_rows();
+        self.bytes().any(|(address, row)| row_of[&address] != row)
+    }
 }
 
 /// A step that a run hands out.
@@ -1071,26 +1096,12 @@ fn plan_outside_memory(plan: &Plan, memory: &[u8]) -> bool {
     })
 }
 
-/// Every byte of C, with the first row it lies in.
-fn bytes_of_c(plan: &Plan) -> HashMap<i128, i128> {
-    let mut row_of = HashMap::new();
-    for (address, row) in plan.placed(C).bytes() {
-        row_of.entry(address).or_insert(row);
-    }
-    row_of
-}
-
 /// The reasons of answer 9: a byte of C lies in two of its rows, in a row of
 /// A, in a row of B, or in the seal.
 pub fn overlaps(plan: &Plan, machine: &Machine) -> [bool; 4] {
-    let row_of = bytes_of_c(plan);
+    let row_of = plan.placed(C).first_rows();
     let meets = |matrix| plan.placed(matrix).bytes().any(|(at, _)| row_of.contains_key(&at));
-    [
-        plan.placed(C).bytes().any(|(at, row)| row_of[&at] != row),
-        meets(A),
-        meets(B),
-        row_of.keys().any(|&at| sealed(machine, at)),
-    ]
+    [plan.placed(C).rows_meet(), meets(A), meets(B), row_of.keys().any(|&at| sealed(machine, at))]
 }
 
 /// Starts a run; an error is the answer's number.

@@ -190,8 +190,10 @@ fn likely_row(random: &mut Random) -> &'static Row {
 /// An address and a stride whose rows mostly lie in a memory of this length.
 fn place_within(random: &mut Random, rows: i128, row_bytes: i128, memory: usize) -> (u64, i64) {
     let stride = match random.below(10) {
-        0..=4 => random.below(40) as i64,
-        5..=8 => -(random.below(40) as i64),
+        0..=2 => random.below(40) as i64,
+        3 | 4 => row_bytes as i64 + random.below(10) as i64,
+        5 | 6 => -(row_bytes as i64) - random.below(10) as i64,
+        7 | 8 => -(random.below(40) as i64),
         _ => random.pick(&WILD_STRIDES),
     };
     let spread = (rows - 1).max(0) * stride as i128;

@@ -155,7 +155,7 @@ fn answers(row: &Row) -> String {
     };
     let given = (0..tally::ANSWERS).filter(|&number| match number {
         8 | 10 => false,
-        0 | 5 | 6 | 7 if width > model::ELEN => false,
+        0 | 5 | 6 | 7 | 13 if width > model::ELEN => false,
         4 if width == 8 || width > model::ELEN => false,
         _ => tally::reachable(family, number),
     });

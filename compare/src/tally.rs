@@ -3,7 +3,7 @@
 //!
 //! A word belongs to the family whose code it has, whatever its opcode and
 //! operands; a family is ours or left out. Which cells can be met, by the scope
-//! paper and request One:
+//! paper and the requests:
 //!
 //! - 0: every family of ours.
 //! - 1: families in which the listing fixes zeros beside the code (settings by
@@ -17,7 +17,7 @@
 //!   maximum is answer 8. (tile_m's maximum is the same at every SEW, so
 //!   loads and stores of A get 4 by tile_k, those of C by tile_n.)
 //! - 5: what reads registers: stores, multiplies and element-wise words.
-//! - 6: loads and stores. 7: stores.
+//! - 6: loads and stores. 7 and 13: stores.
 //! - 8: every word, since the state is tested before the word.
 //! - 9: no word.
 //! - 10: every word, since the opcode is tested before the rest of it.
@@ -27,7 +27,8 @@
 //! The calls of a run are counted by its kind. A start, and a whole run, gives 0, 6,
 //! 8 or 9, asking for the next step 0 or 8, all of them 8 for any other kind. A turn
 //! never gives 1, 10, 11 or 12, since every word of a run is good; it gives 2 to 7
-//! only on a machine or memory that was changed between turns.
+//! and 13 only on a machine or memory that was changed between turns, or for a run
+//! block that no start made.
 //!
 //! The size of an image gives 0 or 8, writing one 14 too, reading one 0, 8 or 15.
 
@@ -113,7 +114,7 @@ pub fn reachable(call: Call, number: u64) -> bool {
         Call::RunNext(UNKNOWN) | Call::RunTurn(UNKNOWN) => return number == 8,
         Call::RunStart(_) | Call::WholeRun(_) => return [0, 6, 8, 9].contains(&number),
         Call::RunNext(_) => return [0, 8].contains(&number),
-        Call::RunTurn(_) => return number <= 8 && number != 1,
+        Call::RunTurn(_) => return number <= 8 && number != 1 || number == 13,
         Call::ImageSize => return [0, 8].contains(&number),
         Call::ImageWrite => return [0, 8, 14].contains(&number),
         Call::ImageRead => return [0, 8, 15].contains(&number),
@@ -139,7 +140,7 @@ pub fn reachable(call: Call, number: u64) -> bool {
         4 => !setting && factor != 4,
         5 => !setting && !load,
         6 => load || store,
-        7 => store,
+        7 | 13 => store,
         12 => !setting,
         _ => false,
     }

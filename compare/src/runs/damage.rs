@@ -201,6 +201,7 @@ pub fn empty_run_slices(context: &mut Context) -> Outcome {
 // its kind, the machine's lengths, the place in the run (a word, then row, column
 // and term), and the kind.
 const FIELDS: usize = library::RUN_BYTES / 8;
+const C_STRIDE: usize = 10;
 const LENGTHS: usize = 11;
 const WORD: usize = 13;
 const PLACE: usize = 14;
@@ -256,7 +257,7 @@ pub fn forged_runs(context: &mut Context) -> Outcome {
 /// or another place.
 fn forge(random: &mut Random, good: &[u8]) -> Vec<u8> {
     let mut fields = bytes_to_words(good);
-    match random.below(14) {
+    match random.below(15) {
         0 => return random.bytes(good.len()),
         1 => return vec![random.pick(&[0, 1, 0xFF]); good.len()],
         2 => fields = (0..FIELDS).map(|_| random.below(1200)).collect(),
@@ -281,6 +282,8 @@ fn forge(random: &mut Random, good: &[u8]) -> Vec<u8> {
         }
         8 => fields[KIND] = random.pick(&UNKNOWN_KINDS),
         9 => fields[KIND] ^= 1,
+        // C's rows over each other.
+        10 => fields[C_STRIDE] = random.pick(&[0, 1, u64::MAX]),
         _ => {
             for _ in 0..random.pick(&[1, 1, 1, 2]) {
                 let field = &mut fields[random.below(FIELDS as u64) as usize];

@@ -5,7 +5,7 @@ use super::plans::{plan_around, spoil};
 use super::suites::machine_of_case;
 use crate::lent::{library_run, library_run_start, library_run_turn, library_run_turns, Lent};
 use crate::library;
-use crate::powerup::Pair;
+use crate::powerup::{Met, Pair};
 use crate::random::Random;
 use crate::suite::{each_case, Context, Outcome};
 use model::Plan;
@@ -57,10 +57,9 @@ fn any_plan(random: &mut Random, case: u64) -> (Plan, Lent) {
 }
 
 /// Turn by turn to the end and two past it, or until refused; at times marks
-/// are taken away from both sides, and the bytes under them set apart. How often
-/// each answer was given.
-fn single_turns(random: &mut Random, pair: &mut Pair, name: &str) -> Result<[u64; 13], String> {
-    let mut met = [0; 13];
+/// are taken away from both sides, and the bytes under them set apart.
+fn single_turns(random: &mut Random, pair: &mut Pair, name: &str) -> Result<Met, String> {
+    let mut met = Met::default();
     let disturbed = random.chance(40);
     let mut refused = 0;
     while refused < 2 {

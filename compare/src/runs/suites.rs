@@ -14,7 +14,7 @@ use crate::states::{
 };
 use crate::suite::{each_case, Context, Outcome};
 use crate::tally::{Call, Tally};
-use model::{Matrix, Plan, Run, MILL};
+use model::{maximum, Handed, Kind, Matrix, Plan, Run, Size, MILL};
 
 /// A run that both programs started.
 struct Started {
@@ -405,6 +405,54 @@ pub fn disturbed_turns(context: &mut Context) -> Outcome {
         }
         Ok(())
     })
+}
+
+/// Runs whose machine is given a wider tile before the first store of C (request
+/// Seven): the turn gets 13 if its rows then meet, and the run goes on to its end
+/// once the tile is as it was.
+pub fn overlapping_turns(context: &mut Context) -> Outcome {
+    let count = 40 * model::permitted_lengths().len() as u64;
+    each_case(context, "overlapping turns", count, |case, random, tally| {
+        let machine = any_machine(random, machine_of_case(case));
+        let widths = random.pick(&WIDTHS);
+        let [rows, widest] =
+            [Size::M, Size::N].map(|size| maximum(&machine, size, widths.0 as i128) as u64);
+        let sizes = [random.range(2, 2 * rows), random.range(0, 3), random.range(1, widest - 1)];
+        let good = good_plan(random, &machine, widths, sizes);
+        let Started { plan, mut lent, mut block, mut run } = start_good(random, good, tally)?;
+        let before = lent.memory.clone();
+        while !is_store(&run.steps[run.place]) {
+            check_turn(&plan, &mut block, &mut run, &mut lent, tally)?;
+        }
+        let row_bytes = widest * widths.0 * widths.1 / 8;
+        let expected = if plan.c_stride.unsigned_abs() < row_bytes { 13 } else { 0 };
+        let mut wide = widened(&lent, widest);
+        let (mut wide_block, mut wide_run) = (block.clone(), run.clone());
+        let number = check_turn(&plan, &mut wide_block, &mut wide_run, &mut wide, tally)?;
+        if number != expected {
+            return Err(format!("{plan:?}: both give {number}, the paper {expected}"));
+        }
+        while run.place < run.steps.len() {
+            check_turn(&plan, &mut block, &mut run, &mut lent, tally)?;
+        }
+        check_product(&plan, &before, &lent.memory)
+    })
+}
+
+fn is_store(handed: &Handed) -> bool {
+    let instruction = model::decode(handed.word).expect("a good word");
+    matches!(instruction.row.kind, Kind::Store(..))
+}
+
+/// A bench with more columns, all of them written, and memory beyond them.
+fn widened(lent: &Lent, columns: u64) -> Lent {
+    let mut wide = lent.clone();
+    let mut machine = wide.machine();
+    machine.tile_n = columns;
+    wide.set_machine(&machine);
+    wide.marks.fill(1);
+    wide.memory.resize(lent.memory.len() + 256, 0);
+    wide
 }
 
 /// `run_turns` on copies, against the second program.
