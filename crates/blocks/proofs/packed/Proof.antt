@@ -28,14 +28,8 @@ add-result-2 c =
     let number : d .reply-of .result .number < 2 ^ 16 = rw (d .reply-of .ensures) (number-small (d .before .args .answer)) in
     omega arith
 
-enum-told-13 : tie.Need-enum-told-13
-enum-told-13 c = search needs
-
 returns : tie.Need-returns
 returns c = ap packed (c .before .before .before .reply-of .ensures)
-
-returns-14 : tie.Need-returns-14
-returns-14 c = ap told (sym (c .enum-told13 .given .1))
 
 pub packed-spec : {M : Type 1} → statement M
 packed-spec =
