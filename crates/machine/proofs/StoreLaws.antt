@@ -7,6 +7,7 @@ use Prim.Native.Nat.{ℕ, zero, suc, _+_, _*_, _-_, _/_, _%_, _≤_, _<_}
 use native.Mathlib.Nat.{not-suc-le-zero, le-of-suc-le-suc, mod-lt, div-add-mod', div-lt-iff-lt-mul, eq-zero-or-pos, mul-zero, mul-pos, mul-le-mul-right}
 use native.Mathlib.Omega.{arith}
 use lib.Dec.{ltb}
+use lib.IntN.{pos}
 use lib.ListN.{length, getD, List·getD-eq-default}
 use lib.Seq.{ext-getD}
 use borrow.Author.Tests.{le-ltb, ltb-true, ltb-false}
@@ -21,7 +22,7 @@ use Rattle.machine.specs.Operation.{Operation, element, placed, tileRows
 use Rattle.machine.specs.Refusals.{checks}
 use Rattle.machine.proofs.CheckLaws.{Passed}
 use Rattle.machine.proofs.MemoryLaws.{inside-at}
-use Rattle.machine.specs.Memory.{rowAt, misses, distinct, rowWith, storedByte, anew, stored}
+use Rattle.machine.specs.Memory.{rowZ, rowAt, misses, distinct, rowWith, storedByte, anew, stored}
 use Rattle.machine.proofs.TestLaws.{all-true, all-at, not-within, within-not, within-in, in-within, first-none, first-passes, none-passes, false-true}
 
 without : (p n q : ℕ) → ¬ In p n q → within p n q ≡ false
@@ -132,8 +133,11 @@ module _ (M : Parameters) (st : State) (mem : List ℕ) (f : Form) (k : Matrix) 
   after = memoryAfter M (Operation.store f k r w base stride) st mem
 
   module _ (p : Passed (checks M (Operation.store f k r w base stride) st mem)) where
+    pub store-lies : (i : ℕ) → i < rows → zero < cols * w → (rowZ base stride i ≡ pos (at i)) × (at i + cols * w ≤ length mem)
+    store-lies i l some = inside-at (length mem) base stride rows (cols * w) (p .1 .1 .1 .1 .1 .0) some i l
+
     pub store-ends : (i : ℕ) → i < rows → zero < cols * w → at i + cols * w ≤ length mem
-    store-ends i l some = inside-at (length mem) base stride rows (cols * w) (p .1 .1 .1 .1 .1 .0) some i l .1
+    store-ends i l some = store-lies i l some .1
 
     pub store-apart : (i j q : ℕ) → i < j → j < rows → In (at i) (cols * w) q → ¬ In (at j) (cols * w) q
     store-apart = distinct-at at rows (cols * w) (p .1 .1 .1 .1 .1 .1 .0)

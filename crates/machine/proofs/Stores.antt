@@ -15,7 +15,7 @@ use Rattle.machine.specs.Step.{Outcome, outcome, stepBy, stepChecks, giv
 use Rattle.machine.specs.Theorems.{Stores, StoresAreExact}
 use Rattle.machine.proofs.TestLaws.{false-true}
 use Rattle.machine.proofs.CheckLaws.{Passed, passed}
-use Rattle.machine.proofs.StoreLaws.{length-stored, stored-out, store-apart, store-byte}
+use Rattle.machine.proofs.StoreLaws.{length-stored, stored-out, store-lies, store-apart, store-byte}
 use Rattle.machine.proofs.Sealing.{refusing}
 
 -- ---- a word that is accepted
@@ -43,6 +43,7 @@ stores-are-exact grant word xs B f k w r rs1 rs2 d h =
     let e : stepBy grant word xs B ≡ outcome M i xs B = ap (λ (i : Instruction). outcome M i xs B) d in
     let a = accepted M i xs B (ap (λ (o : Outcome). o .answer .number) (sym e) ∙ h) in
     subst (λ (o : Outcome). Stores grant xs B f k w r rs1 rs2 (o .bench .memory)) (sym (e ∙ a .2)) (record {
+      lie-in-memory = store-lies M (given M i xs B) (B .memory) f k r w (scalar xs rs1) (scalar xs rs2) (a .1);
       no-byte-in-two-rows = store-apart M (given M i xs B) (B .memory) f k r w (scalar xs rs1) (scalar xs rs2) (a .1);
       elements = store-byte M (given M i xs B) (B .memory) f k r w (scalar xs rs1) (scalar xs rs2) (a .1);
       others = stored-out _ _ _ w _ (B .memory);

@@ -8,25 +8,25 @@ use Rattle.machine.specs.declared.Reply.{Reply}
 use Rattle.machine.specs.declared.Answer.the-variants.{Done, IllegalWord, IllegalType, BadWidth, TileTooLarge, Unwritten, OutsideMemory, SealedByte, BadArguments, Overlap, WrongOpcode, LeftOutWord, WrongRegister, RowsOverlap}
 
 -- a number that names no row and no column
-abbrev pub plain : ℕ → Reply
-plain n = record { number = n; row = 0; column = 0 }
+abbrev pub bare : ℕ → Reply
+bare n = record { number = n; row = 0; column = 0 }
 
 -- 01, the table of "Numbers of the answers"; 10 to 12: 02, One; 13: 02, Seven. "Answer 5 names the row and column of the first such element .. Elsewhere both are 0."
 abbrev pub reply : Answer → Reply
-reply Done = plain 0
-reply IllegalWord = plain 1
-reply IllegalType = plain 2
-reply BadWidth = plain 3
-reply TileTooLarge = plain 4
+reply Done = bare 0
+reply IllegalWord = bare 1
+reply IllegalType = bare 2
+reply BadWidth = bare 3
+reply TileTooLarge = bare 4
 reply (Unwritten row column) = record { number = 5; row = row; column = column }
-reply OutsideMemory = plain 6
-reply SealedByte = plain 7
-reply BadArguments = plain 8
-reply Overlap = plain 9
-reply WrongOpcode = plain 10
-reply LeftOutWord = plain 11
-reply WrongRegister = plain 12
-reply RowsOverlap = plain 13
+reply OutsideMemory = bare 6
+reply SealedByte = bare 7
+reply BadArguments = bare 8
+reply Overlap = bare 9
+reply WrongOpcode = bare 10
+reply LeftOutWord = bare 11
+reply WrongRegister = bare 12
+reply RowsOverlap = bare 13
 
 abbrev pub number : Answer → ℕ
 number a = reply a .number

@@ -183,6 +183,9 @@ overlapping =
     -- two elements of two bytes
     ∷ gives (step (word 0b0000011 11 10 1 0) (scalars 0 3) (bench 1 2 2 2 0 0 1)) 13
     ∷ gives (step (word 0b0000011 11 10 1 0) (scalars 0 4) (bench 1 2 2 2 0 0 1)) 0
+    -- C of two rows of two elements of 16 bits, at SEW 8
+    ∷ gives (step (word 0b0000001 11 10 1 0) (scalars 0 3) good) 13
+    ∷ gives (step (word 0b0000001 11 10 1 0) (scalars 0 4) good) 0
     -- one row, whatever the stride; rows of no byte; a load
     ∷ gives (step (word 0b0000011 11 10 0 0) (scalars 0 0) (bench 0 1 2 2 0 0 1)) 0
     ∷ gives (step (word 0b0000011 11 10 0 0) (scalars 0 (2 ^ 63)) (bench 0 1 2 2 0 0 1)) 0
@@ -197,6 +200,8 @@ overlapping =
     ∷ gives (step (word 0b0000101 11 10 0 0) (scalars 0 2) (bench 0 2 2 3 0 0 1)) 13
     ∷ gives (step (word 0b0001101 11 10 0 0) (scalars 0 2) (bench 0 2 2 3 0 0 1)) 0
     ∷ gives (step (word 0b0001101 11 10 0 0) (scalars 0 1) (bench 0 2 2 3 0 0 1)) 13
+    ∷ gives (step (word 0b0001101 11 10 0 0) (scalars 4 (2 ^ 64 - 1)) (bench 0 2 2 3 0 0 1)) 13
+    ∷ gives (step (word 0b0001101 11 10 0 0) (scalars 0 1) (bench 0 2 2 3 0 1 1)) 13
     ∷ []
 
 pub overlapping-right : map (λ l. l .got) overlapping ≡ map (λ l. l .want) overlapping

@@ -38,7 +38,7 @@ misses q o p n = all n (λ b. not (within q o (p + b)))
 unfoldable pub rowsMiss : (q o base stride rows n : ℕ) → Bool
 rowsMiss q o base stride rows n = all rows (λ i. misses q o (rowAt base stride i) n)
 
--- 02, Seven: no "byte belongs to two rows" of n bytes; a row of no byte shares none
+-- 02, Seven: no "byte belongs to two rows", each of n bytes; a row of no byte shares none. Answer 9 reads it of C's rows too
 unfoldable pub distinct : (ℕ → ℕ) → (rows n : ℕ) → Bool
 distinct at rows n = all rows (λ k. all k (λ i. misses (at k) n (at i) n))
 

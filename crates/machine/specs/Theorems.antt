@@ -2,8 +2,9 @@
 use mathlib.Core.Path.{_≡_}
 use mathlib.Core.Bool.{true}
 use mathlib.Core.List.{List, [], _∷_}
-use Prim.Native.Nat.{ℕ, _+_, _*_, _<_}
+use Prim.Native.Nat.{ℕ, _+_, _*_, _≤_, _<_}
 use lib.ListN.{length, getD}
+use lib.IntN.{pos}
 use Rattle.width.specs.Tile.{byteOf, In}
 use Rattle.width.specs.Blocks.{Grants}
 use Rattle.machine.specs.declared.Form.{Form}
@@ -14,7 +15,7 @@ use Rattle.machine.specs.Setting.{smaller}
 use Rattle.machine.specs.Starting.{startMachine}
 use Rattle.machine.specs.Faults.{soundBench}
 use Rattle.machine.specs.Listing.{decode}
-use Rattle.machine.specs.Memory.{rowAt}
+use Rattle.machine.specs.Memory.{rowZ, rowAt}
 use Rattle.machine.specs.Operation.{element, placed, tileRows, tileCols, memoryRows, memoryCols}
 use Rattle.machine.specs.Step.{stepBy}
 
@@ -52,8 +53,8 @@ StartIsSound = (rlen mlen sealStart sealLength : ℕ) (registers marks memory : 
 
 -- ---- stores
 
--- what a store of a tile, plain or transposed, leaves in memory, over the rows and columns that it has there: no byte is in two rows, each
--- byte of element (i, j) is that of the register's element, every other byte is as before, and so is the length
+-- what a store of a tile, plain or transposed, leaves in memory, over the rows and columns that it has there: its rows lie in memory, no
+-- byte is in two of them, each byte of element (i, j) is that of the register's element, every other byte is as before, and so is the length
 module _ (grant : ℕ → ℕ → ℕ) (xs : List ℕ) (B : Bench) (f : Form) (k : Matrix) (w r rs1 rs2 : ℕ) where
   abbrev tile : State
   tile = stateOf (B .machine) (B .registers) (B .marks)
@@ -71,6 +72,8 @@ module _ (grant : ℕ → ℕ → ℕ) (xs : List ℕ) (B : Bench) (f : Form) (k
   value = placed f (element (B .registers) (registerAt (parameters grant (B .machine)) k r) w)
 
   pub record Stores (mem′ : List ℕ) : Type 0 where
+    pub lie-in-memory : (i : ℕ) → i < rows → 0 < cols * w
+        → (rowZ (scalar xs rs1) (scalar xs rs2) i ≡ pos (at i)) × (at i + cols * w ≤ length (B .memory))
     pub no-byte-in-two-rows : (i j q : ℕ) → i < j → j < rows → In (at i) (cols * w) q → ¬ In (at j) (cols * w) q
     pub elements : (i j b : ℕ) → i < rows → j < cols → b < w → getD mem′ (at i + j * w + b) 0 ≡ byteOf (value i j) b
     pub others : (q : ℕ) → ((i : ℕ) → i < rows → ¬ In (at i) (cols * w) q) → getD mem′ q 0 ≡ getD (B .memory) q 0

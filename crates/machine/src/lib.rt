@@ -2,7 +2,7 @@
 ghost use mathlib.Core.Path.{_≡_};
 ghost use lib.ListN.{length, replicate};
 ghost use Rattle.machine.specs.Tests.{isIn};
-ghost use Rattle.machine.specs.Answers.{plain, reply, isDone};
+ghost use Rattle.machine.specs.Answers.{bare, reply, isDone};
 ghost use Rattle.machine.specs.Geometry.{permitted, rlens, mlens};
 ghost use Rattle.machine.specs.Starting.{startable, startMachine, startedAs, noMachine, freshMachine};
 
@@ -162,8 +162,8 @@ pub enum Instruction {
 }
 
 // A number that names no row and no column.
-fn plain(number: u64) -> Reply
-    ensures { λ r. ⌜ r ≡ plain number ⌝ }
+fn bare(number: u64) -> Reply
+    ensures { λ r. ⌜ r ≡ bare number ⌝ }
 {
     Reply {
         number: number,
@@ -177,24 +177,24 @@ pub fn reply_of(answer: Answer) -> Reply
     ensures { λ r. ⌜ r ≡ reply answer ⌝ }
 {
     match answer {
-        Answer::Done => plain(0),
-        Answer::IllegalWord => plain(1),
-        Answer::IllegalType => plain(2),
-        Answer::BadWidth => plain(3),
-        Answer::TileTooLarge => plain(4),
+        Answer::Done => bare(0),
+        Answer::IllegalWord => bare(1),
+        Answer::IllegalType => bare(2),
+        Answer::BadWidth => bare(3),
+        Answer::TileTooLarge => bare(4),
         Answer::Unwritten { row, column } => Reply {
             number: 5,
             row: row,
             column: column,
         },
-        Answer::OutsideMemory => plain(6),
-        Answer::SealedByte => plain(7),
-        Answer::BadArguments => plain(8),
-        Answer::Overlap => plain(9),
-        Answer::WrongOpcode => plain(10),
-        Answer::LeftOutWord => plain(11),
-        Answer::WrongRegister => plain(12),
-        Answer::RowsOverlap => plain(13),
+        Answer::OutsideMemory => bare(6),
+        Answer::SealedByte => bare(7),
+        Answer::BadArguments => bare(8),
+        Answer::Overlap => bare(9),
+        Answer::WrongOpcode => bare(10),
+        Answer::LeftOutWord => bare(11),
+        Answer::WrongRegister => bare(12),
+        Answer::RowsOverlap => bare(13),
     }
 }
 

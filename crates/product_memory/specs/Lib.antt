@@ -1,1 +1,2 @@
+-- Where the matrices of the program `product` lie.
 pub mod Memory

@@ -99,7 +99,8 @@ fn step(
 
 // ---- the lines on words
 
-// A word with its x10 and x11; 1 before it: on the machine as it was started, 0: as the word before left it. 0xfffffffffffffff8 is -8.
+// In each row: 1, to step the word with the machine's numbers as they were started, or 0, as the row before left them (registers, marks and
+// memory go on); x10; x11; the word. 0xfffffffffffffff8 is -8.
 const WORDS: [[u64; 4]; 15] = [
     // "Word 0x000472F7 sets mtype 8 and x5 = 8. 0x100572F7 with x10 = 16 sets 2^63."
     [1, 0, 0, 0x000472f7],
@@ -234,7 +235,7 @@ fn show_plan(plan: Plan) {
     number(plan.factor);
 }
 
-// What a run answers, and its steps; and C where it is one element.
+// What a run answers, and its steps; and C where it is one element of fewer than four terms.
 fn show_run(plan: Plan, given: Answer, steps: u64, memory: &[u8]) {
     answer(given);
     say(b" steps ");

@@ -27,11 +27,11 @@ pub record Pair : Type 0 where
 
 module _ (grant : ℕ → ℕ → ℕ) (P : Pair) (first second : Given) (B : Bench) where
   -- "nothing comes between"
-  abbrev pub loaded : Outcome
-  loaded = stepBy grant (first .word) (first .scalars) B
+  abbrev pub afterLoad : Outcome
+  afterLoad = stepBy grant (first .word) (first .scalars) B
 
-  abbrev pub stored : Outcome
-  stored = stepBy grant (second .word) (second .scalars) (loaded .bench)
+  abbrev pub afterStore : Outcome
+  afterStore = stepBy grant (second .word) (second .scalars) (afterLoad .bench)
 
   -- the tile in the register, and its rows in memory, from which it is loaded and to which it is stored
   abbrev held : State
@@ -56,21 +56,21 @@ module _ (grant : ℕ → ℕ → ℕ) (P : Pair) (first second : Given) (B : Be
   pub record LoadThenStore : Type 0 where
     pub plain-load : decode (first .word) ≡ Load Plain (P .matrix) (P .w) (P .register) (P .load-base) (P .load-stride)
     pub transposed-store : decode (second .word) ≡ Store Transposed (P .matrix) (P .w) (P .register) (P .store-base) (P .store-stride)
-    pub load-accepted : loaded .answer .number ≡ 0
-    pub store-accepted : stored .answer .number ≡ 0
+    pub load-accepted : afterLoad .answer .number ≡ 0
+    pub store-accepted : afterStore .answer .number ≡ 0
     pub bytes : (q : ℕ) → getD (B .memory) q 0 < 256
 
   -- "leaves the transposed tile": element (j, i) of what is stored is element (i, j) of what was loaded. All other bytes of memory are as
   -- before, the registers and marks as the load left them, which outside its tile is as before, and the numbers and scalars as before
   pub record Transposes : Type 0 where
-    pub transposed : (i j : ℕ) → i < rows → j < cols → element (stored .bench .memory) to (P .w) j i ≡ element (B .memory) from (P .w) i j
-    pub same-length : length (stored .bench .memory) ≡ length (B .memory)
-    pub same-memory : (q : ℕ) → ((j : ℕ) → j < cols → ¬ In (to j) (rows * P .w) q) → getD (stored .bench .memory) q 0 ≡ getD (B .memory) q 0
-    pub as-loaded : (stored .bench .registers ≡ loaded .bench .registers) × (stored .bench .marks ≡ loaded .bench .marks)
+    pub transposed : (i j : ℕ) → i < rows → j < cols → element (afterStore .bench .memory) to (P .w) j i ≡ element (B .memory) from (P .w) i j
+    pub same-length : length (afterStore .bench .memory) ≡ length (B .memory)
+    pub same-memory : (q : ℕ) → ((j : ℕ) → j < cols → ¬ In (to j) (rows * P .w) q) → getD (afterStore .bench .memory) q 0 ≡ getD (B .memory) q 0
+    pub as-loaded : (afterStore .bench .registers ≡ afterLoad .bench .registers) × (afterStore .bench .marks ≡ afterLoad .bench .marks)
     pub same-registers : (q : ℕ) → ((i : ℕ) → i < rows → ¬ In (place i) (cols * P .w) q)
-        → (getD (stored .bench .registers) q 0 ≡ getD (B .registers) q 0) × (getD (stored .bench .marks) q 0 ≡ getD (B .marks) q 0)
-    pub same-machine : stored .bench .machine ≡ B .machine
-    pub same-scalars : (loaded .scalars ≡ first .scalars) × (stored .scalars ≡ second .scalars)
+        → (getD (afterStore .bench .registers) q 0 ≡ getD (B .registers) q 0) × (getD (afterStore .bench .marks) q 0 ≡ getD (B .marks) q 0)
+    pub same-machine : afterStore .bench .machine ≡ B .machine
+    pub same-scalars : (afterLoad .scalars ≡ first .scalars) × (afterStore .scalars ≡ second .scalars)
 
 abbrev pub LoadThenStoreTransposes : Type 0
 LoadThenStoreTransposes = (grant : ℕ → ℕ → ℕ) (P : Pair) (first second : Given) (B : Bench) → LoadThenStore grant P first second B → Transposes grant P first second B

@@ -7,32 +7,32 @@ use Rattle.machine.proofs.reply_of.Tie as tie
 enum-told : tie.Need-enum-told
 enum-told c = search needs
 
-plain-requires : tie.Need-plain-requires
-plain-requires c κs = search needs
+bare-requires : tie.Need-bare-requires
+bare-requires c κs = search needs
 
 enum-told-2 : tie.Need-enum-told-2
 enum-told-2 c = search needs
 
-plain-requires-2 : tie.Need-plain-requires-2
-plain-requires-2 c κs = search needs
+bare-requires-2 : tie.Need-bare-requires-2
+bare-requires-2 c κs = search needs
 
 enum-told-3 : tie.Need-enum-told-3
 enum-told-3 c = search needs
 
-plain-requires-3 : tie.Need-plain-requires-3
-plain-requires-3 c κs = search needs
+bare-requires-3 : tie.Need-bare-requires-3
+bare-requires-3 c κs = search needs
 
 enum-told-4 : tie.Need-enum-told-4
 enum-told-4 c = search needs
 
-plain-requires-4 : tie.Need-plain-requires-4
-plain-requires-4 c κs = search needs
+bare-requires-4 : tie.Need-bare-requires-4
+bare-requires-4 c κs = search needs
 
 enum-told-5 : tie.Need-enum-told-5
 enum-told-5 c = search needs
 
-plain-requires-5 : tie.Need-plain-requires-5
-plain-requires-5 c κs = search needs
+bare-requires-5 : tie.Need-bare-requires-5
+bare-requires-5 c κs = search needs
 
 enum-known-answer : tie.Need-enum-known-answer
 enum-known-answer c = search needs
@@ -40,124 +40,124 @@ enum-known-answer c = search needs
 enum-told-6 : tie.Need-enum-told-6
 enum-told-6 c = search needs
 
-plain-requires-6 : tie.Need-plain-requires-6
-plain-requires-6 c κs = search needs
+bare-requires-6 : tie.Need-bare-requires-6
+bare-requires-6 c κs = search needs
 
 enum-told-7 : tie.Need-enum-told-7
 enum-told-7 c = search needs
 
-plain-requires-7 : tie.Need-plain-requires-7
-plain-requires-7 c κs = search needs
+bare-requires-7 : tie.Need-bare-requires-7
+bare-requires-7 c κs = search needs
 
 enum-told-8 : tie.Need-enum-told-8
 enum-told-8 c = search needs
 
-plain-requires-8 : tie.Need-plain-requires-8
-plain-requires-8 c κs = search needs
+bare-requires-8 : tie.Need-bare-requires-8
+bare-requires-8 c κs = search needs
 
 enum-told-9 : tie.Need-enum-told-9
 enum-told-9 c = search needs
 
-plain-requires-9 : tie.Need-plain-requires-9
-plain-requires-9 c κs = search needs
+bare-requires-9 : tie.Need-bare-requires-9
+bare-requires-9 c κs = search needs
 
 enum-told-10 : tie.Need-enum-told-10
 enum-told-10 c = search needs
 
-plain-requires-10 : tie.Need-plain-requires-10
-plain-requires-10 c κs = search needs
+bare-requires-10 : tie.Need-bare-requires-10
+bare-requires-10 c κs = search needs
 
 enum-told-11 : tie.Need-enum-told-11
 enum-told-11 c = search needs
 
-plain-requires-11 : tie.Need-plain-requires-11
-plain-requires-11 c κs = search needs
+bare-requires-11 : tie.Need-bare-requires-11
+bare-requires-11 c κs = search needs
 
 enum-told-12 : tie.Need-enum-told-12
 enum-told-12 c = search needs
 
-plain-requires-12 : tie.Need-plain-requires-12
-plain-requires-12 c κs = search needs
+bare-requires-12 : tie.Need-bare-requires-12
+bare-requires-12 c κs = search needs
 
 enum-told-13 : tie.Need-enum-told-13
 enum-told-13 c = search needs
 
-plain-requires-13 : tie.Need-plain-requires-13
-plain-requires-13 c κs = search needs
+bare-requires-13 : tie.Need-bare-requires-13
+bare-requires-13 c κs = search needs
 
 returns : tie.Need-returns
-returns c = c .plain .ensures ∙ ap reply (sym (c .before .enum-told .given .1))
+returns c = c .bare .ensures ∙ ap reply (sym (c .before .enum-told .given .1))
 
 returns-2 : tie.Need-returns-2
-returns-2 c = c .plain2 .ensures ∙ ap reply (sym (c .before .enum-told2 .given .1))
+returns-2 c = c .bare2 .ensures ∙ ap reply (sym (c .before .enum-told2 .given .1))
 
 returns-3 : tie.Need-returns-3
-returns-3 c = c .plain3 .ensures ∙ ap reply (sym (c .before .enum-told3 .given .1))
+returns-3 c = c .bare3 .ensures ∙ ap reply (sym (c .before .enum-told3 .given .1))
 
 returns-4 : tie.Need-returns-4
-returns-4 c = c .plain4 .ensures ∙ ap reply (sym (c .before .enum-told4 .given .1))
+returns-4 c = c .bare4 .ensures ∙ ap reply (sym (c .before .enum-told4 .given .1))
 
 returns-5 : tie.Need-returns-5
-returns-5 c = c .plain5 .ensures ∙ ap reply (sym (c .before .enum-told5 .given .1))
+returns-5 c = c .bare5 .ensures ∙ ap reply (sym (c .before .enum-told5 .given .1))
 
 returns-6 : tie.Need-returns-6
 returns-6 c = ap reply (sym (c .before .answer .given .1))
 
 returns-7 : tie.Need-returns-7
-returns-7 c = c .plain6 .ensures ∙ ap reply (sym (c .before .enum-told6 .given .1))
+returns-7 c = c .bare6 .ensures ∙ ap reply (sym (c .before .enum-told6 .given .1))
 
 returns-8 : tie.Need-returns-8
-returns-8 c = c .plain7 .ensures ∙ ap reply (sym (c .before .enum-told7 .given .1))
+returns-8 c = c .bare7 .ensures ∙ ap reply (sym (c .before .enum-told7 .given .1))
 
 returns-9 : tie.Need-returns-9
-returns-9 c = c .plain8 .ensures ∙ ap reply (sym (c .before .enum-told8 .given .1))
+returns-9 c = c .bare8 .ensures ∙ ap reply (sym (c .before .enum-told8 .given .1))
 
 returns-10 : tie.Need-returns-10
-returns-10 c = c .plain9 .ensures ∙ ap reply (sym (c .before .enum-told9 .given .1))
+returns-10 c = c .bare9 .ensures ∙ ap reply (sym (c .before .enum-told9 .given .1))
 
 returns-11 : tie.Need-returns-11
-returns-11 c = c .plain10 .ensures ∙ ap reply (sym (c .before .enum-told10 .given .1))
+returns-11 c = c .bare10 .ensures ∙ ap reply (sym (c .before .enum-told10 .given .1))
 
 returns-12 : tie.Need-returns-12
-returns-12 c = c .plain11 .ensures ∙ ap reply (sym (c .before .enum-told11 .given .1))
+returns-12 c = c .bare11 .ensures ∙ ap reply (sym (c .before .enum-told11 .given .1))
 
 returns-13 : tie.Need-returns-13
-returns-13 c = c .plain12 .ensures ∙ ap reply (sym (c .before .enum-told12 .given .1))
+returns-13 c = c .bare12 .ensures ∙ ap reply (sym (c .before .enum-told12 .given .1))
 
 returns-14 : tie.Need-returns-14
-returns-14 c = c .plain13 .ensures ∙ ap reply (sym (c .before .enum-told13 .given .1))
+returns-14 c = c .bare13 .ensures ∙ ap reply (sym (c .before .enum-told13 .given .1))
 
 pub reply-of-spec : {M : Type 1} → statement M
 reply-of-spec =
     tie.close
     (tie.spec
     enum-told
-    plain-requires
+    bare-requires
     enum-told-2
-    plain-requires-2
+    bare-requires-2
     enum-told-3
-    plain-requires-3
+    bare-requires-3
     enum-told-4
-    plain-requires-4
+    bare-requires-4
     enum-told-5
-    plain-requires-5
+    bare-requires-5
     enum-known-answer
     enum-told-6
-    plain-requires-6
+    bare-requires-6
     enum-told-7
-    plain-requires-7
+    bare-requires-7
     enum-told-8
-    plain-requires-8
+    bare-requires-8
     enum-told-9
-    plain-requires-9
+    bare-requires-9
     enum-told-10
-    plain-requires-10
+    bare-requires-10
     enum-told-11
-    plain-requires-11
+    bare-requires-11
     enum-told-12
-    plain-requires-12
+    bare-requires-12
     enum-told-13
-    plain-requires-13
+    bare-requires-13
     returns
     returns-2
     returns-3
