@@ -78,7 +78,7 @@ static int take_matrix(struct reader *reader, struct bodlarina_matrix *matrix)
     return take_any(reader, "an address", &matrix->address) && take_signed(reader, "a stride", 64, &matrix->stride);
 }
 
-/* The end of the line, or the word transposed, and the end. */
+/* The end of the line, or the word transposed or float, and the end. */
 static int take_kind(struct reader *reader, uint64_t *kind)
 {
     struct span span;
@@ -86,9 +86,9 @@ static int take_kind(struct reader *reader, uint64_t *kind)
     if (at_end(reader))
         return 1;
     span = take_span(reader);
-    if (!span_is(span, "transposed"))
-        return refuse(reader, span.at, "the line should end here, or with transposed");
-    *kind = BODLARINA_A_TRANSPOSED;
+    *kind = span_is(span, "transposed") ? BODLARINA_A_TRANSPOSED : BODLARINA_FLOAT;
+    if (*kind == BODLARINA_FLOAT && !span_is(span, "float"))
+        return refuse(reader, span.at, "the line should end here, or with transposed or float");
     return take_end(reader);
 }
 
@@ -158,9 +158,10 @@ static const struct {
     const char *name;
     int (*run)(struct session *session);
 } commands[] = {
-    {"machine", run_machine}, {"memory", run_memory}, {"seal", run_seal},   {"bytes", run_bytes}, {"int8", run_int8},
-    {"int16", run_int16},     {"int32", run_int32},   {"load", run_load},   {"x", run_scalar},    {"word", run_word},
-    {"product", run_product}, {"save", run_save},     {"restore", run_restore}, {"expect", run_expect}, {"show", run_show},
+    {"machine", run_machine}, {"memory", run_memory}, {"seal", run_seal},       {"bytes", run_bytes},     {"int8", run_int8},
+    {"int16", run_int16},     {"int32", run_int32},   {"float32", run_float32}, {"load", run_load},       {"x", run_scalar},
+    {"word", run_word},       {"product", run_product}, {"save", run_save},     {"restore", run_restore}, {"expect", run_expect},
+    {"show", run_show},
 };
 
 int run_line(struct session *session)

@@ -161,15 +161,6 @@ int in_seal(const struct device *device, uint64_t address)
     return address >= device->seal_start && address - device->seal_start < device->seal_length;
 }
 
-int64_t signed_bytes(const uint8_t *bytes, unsigned width)
-{
-    int64_t value = bytes[width - 1] < 0x80 ? bytes[width - 1] : (int64_t)bytes[width - 1] - 0x100;
-    unsigned i;
-    for (i = width - 1; i > 0; i--)
-        value = value * 0x100 + bytes[i - 1];
-    return value;
-}
-
 /* ---- settings ---- */
 
 struct settings device_settings(const struct device *device)
@@ -232,11 +223,6 @@ int element_written(const struct device *device, unsigned reg, unsigned row, uns
         if (marks[i] == 0)
             return 0;
     return 1;
-}
-
-int64_t element_value(const struct device *device, unsigned reg, unsigned row, unsigned column, unsigned width)
-{
-    return signed_bytes(device->registers + register_at(device, reg, row, column * width), width);
 }
 
 /* ---- what a word reads and writes ---- */

@@ -95,9 +95,8 @@ unsigned register_row_bytes(const struct device *device, unsigned reg);
 size_t register_at(const struct device *device, unsigned reg, unsigned row, unsigned byte);
 void register_name(unsigned reg, char text[8]);
 
-/* Whether each byte of an element is written, and its value, signed. */
+/* Whether each byte of an element is written. */
 int element_written(const struct device *device, unsigned reg, unsigned row, unsigned column, unsigned width);
-int64_t element_value(const struct device *device, unsigned reg, unsigned row, unsigned column, unsigned width);
 
 /* Whether a byte of a register belongs to the element that a refusal named and that is still unwritten. */
 int is_named(const struct device *device, unsigned reg, unsigned row, unsigned byte);
@@ -107,8 +106,5 @@ int named_stands(const struct device *device);
 struct tile word_tile(const struct device *device, const struct instruction *instruction, uint32_t word);
 
 int in_seal(const struct device *device, uint64_t address);
-
-/* The signed number of `width` bytes, low byte first. */
-int64_t signed_bytes(const uint8_t *bytes, unsigned width);
 
 #endif

@@ -4,6 +4,8 @@
 #include <stdlib.h>
 #include <string.h>
 
+#include "numbers.h"
+
 int run_memory(struct session *session)
 {
     struct reader *reader = &session->reader;
@@ -52,14 +54,7 @@ int run_bytes(struct session *session)
     return 1;
 }
 
-static void put_number(uint8_t *bytes, unsigned width, int64_t value)
-{
-    unsigned i;
-    for (i = 0; i < width; i++)
-        bytes[i] = (uint8_t)((uint64_t)value >> (8 * i) & 0xff);
-}
-
-static int run_numbers(struct session *session, unsigned width)
+static int run_numbers(struct session *session, enum form form)
 {
     struct reader *reader = &session->reader;
     uint64_t address;
@@ -68,17 +63,18 @@ static int run_numbers(struct session *session, unsigned width)
         return 0;
     do {
         size_t at = next_at(reader);
-        if (!take_signed(reader, "a value", 8 * width, &value) || !in_memory(session, at, address, 1, width))
+        if (!take_number_of(reader, form, &value) || !in_memory(session, at, address, 1, form_bytes(form)))
             return 0;
-        put_number(session->device.memory + address, width, value);
-        address += width;
+        put_number(session->device.memory + address, form, value);
+        address += form_bytes(form);
     } while (!at_end(reader));
     return 1;
 }
 
-int run_int8(struct session *session) { return run_numbers(session, 1); }
-int run_int16(struct session *session) { return run_numbers(session, 2); }
-int run_int32(struct session *session) { return run_numbers(session, 4); }
+int run_int8(struct session *session) { return run_numbers(session, INT8); }
+int run_int16(struct session *session) { return run_numbers(session, INT16); }
+int run_int32(struct session *session) { return run_numbers(session, INT32); }
+int run_float32(struct session *session) { return run_numbers(session, FLOAT32); }
 
 /* Reads a file into memory from an address on. */
 static int load_file(struct session *session, size_t at, const char *path, size_t address)

@@ -5,6 +5,7 @@
 #include <stdio.h>
 #include <string.h>
 
+#include "numbers.h"
 #include "show.h"
 #include "trace.h"
 
@@ -70,42 +71,33 @@ static int expect_answer(struct session *session)
     return 1;
 }
 
-/* A signed number of `width` bytes, or a byte if width is 0: taken from the line, and as memory holds it. */
-static int take_number_of(struct reader *reader, unsigned width, int64_t *value)
+/* A number that memory holds, and the one that the script expects there. */
+static void other_number(struct session *session, uint64_t address, enum form form, int64_t found, int64_t value)
 {
-    uint64_t byte;
-    if (width != 0)
-        return take_signed(reader, "a value", 8 * width, value);
-    if (!take_unsigned(reader, "a byte", 255, &byte))
-        return 0;
-    *value = (int64_t)byte;
-    return 1;
+    char holds[NUMBER_TEXT_BYTES], expected[NUMBER_TEXT_BYTES];
+    write_number(form, found, holds);
+    write_number(form, value, expected);
+    failed(session);
+    printf("memory at %" PRIu64 " is %s, not %s\n", address, holds, expected);
 }
 
-static int64_t number_at(const struct device *device, uint64_t address, unsigned width)
-{
-    return width == 0 ? device->memory[address] : signed_bytes(device->memory + address, width);
-}
-
-/* expect memory [int8|int16|int32] ADDRESS numbers..; without a width, bytes of 0 to 255. */
+/* expect memory [int8|int16|int32|float32] ADDRESS numbers..; without a form, bytes of 0 to 255. */
 static int expect_memory(struct session *session)
 {
     struct reader *reader = &session->reader;
-    unsigned width = take_width(reader), bytes = width == 0 ? 1 : width;
+    enum form form = take_form(reader);
     uint64_t address;
     int64_t value, found;
-    if (!needs_memory(session) || !take_any(reader, "int8, int16, int32 or an address", &address))
+    if (!needs_memory(session) || !take_any(reader, "int8, int16, int32, float32 or an address", &address))
         return 0;
     do {
         size_t at = next_at(reader);
-        if (!take_number_of(reader, width, &value) || !in_memory(session, at, address, 1, bytes))
+        if (!take_number_of(reader, form, &value) || !in_memory(session, at, address, 1, form_bytes(form)))
             return 0;
-        found = number_at(&session->device, address, width);
-        if (found != value) {
-            failed(session);
-            printf("memory at %" PRIu64 " is %" PRId64 ", not %" PRId64 "\n", address, found, value);
-        }
-        address += bytes;
+        found = number_at(session->device.memory + address, form);
+        if (found != value)
+            other_number(session, address, form, found, value);
+        address += form_bytes(form);
     } while (!at_end(reader));
     return 1;
 }
@@ -125,14 +117,14 @@ int run_expect(struct session *session)
 static int show_range(struct session *session)
 {
     struct reader *reader = &session->reader;
-    unsigned width = take_width(reader);
+    enum form form = take_form(reader);
     uint64_t address, count;
     size_t at = next_at(reader);
-    if (!needs_memory(session) || !take_any(reader, "int8, int16, int32 or an address", &address)
+    if (!needs_memory(session) || !take_any(reader, "int8, int16, int32, float32 or an address", &address)
         || !take_unsigned(reader, "how many", SHOWN_MOST, &count) || !take_end(reader)
-        || !in_memory(session, at, address, count, width == 0 ? 1 : width))
+        || !in_memory(session, at, address, count, form_bytes(form)))
         return 0;
-    show_memory(&session->device, (size_t)address, (size_t)count, width);
+    show_memory(&session->device, (size_t)address, (size_t)count, form);
     return 1;
 }
 
@@ -149,22 +141,29 @@ static unsigned register_called(struct span span)
     return reg;
 }
 
-/* show tr0 [8|16|32]; without a width, SEW. */
+/* The form of elements of SEW bits; BYTE if mtype is illegal. */
+static enum form form_of_sew(const struct device *device)
+{
+    unsigned sew = device_sew(device);
+    return sew == 0 ? BYTE : sew == 1 ? INT8 : sew == 2 ? INT16 : INT32;
+}
+
+/* show tr0 [8|16|32|float32]; without one of them, signed numbers of SEW bits. */
 static int show_one_register(struct session *session, unsigned reg)
 {
     struct reader *reader = &session->reader;
-    unsigned width = device_sew(&session->device);
+    enum form form = form_of_sew(&session->device);
     if (!at_end(reader)) {
         struct span span = take_span(reader);
-        width = span_is(span, "8") ? 1 : span_is(span, "16") ? 2 : span_is(span, "32") ? 4 : 0;
-        if (width == 0)
-            return refuse(reader, span.at, "expected the width of an element, 8, 16 or 32");
+        form = span_is(span, "8") ? INT8 : span_is(span, "16") ? INT16 : span_is(span, "32") ? INT32 : FLOAT32;
+        if (form == FLOAT32 && !span_is(span, "float32"))
+            return refuse(reader, span.at, "expected the width of an element, 8, 16 or 32, or float32");
     }
     if (!take_end(reader))
         return 0;
-    if (width == 0)
-        return not_now(session, "mtype is illegal, so elements have no width: give 8, 16 or 32");
-    show_register(&session->device, reg, width);
+    if (form == BYTE)
+        return not_now(session, "mtype is illegal, so elements have no width: give 8, 16, 32 or float32");
+    show_register(&session->device, reg, form);
     return 1;
 }
 

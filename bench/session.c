@@ -31,16 +31,6 @@ int in_memory(const struct session *session, size_t at, uint64_t address, uint64
     return refuse(&session->reader, at, "this lies outside the %" PRIu64 " bytes of memory", bytes);
 }
 
-unsigned take_width(struct reader *reader)
-{
-    size_t before = reader->at;
-    struct span span = take_span(reader);
-    unsigned width = span_is(span, "int8") ? 1 : span_is(span, "int16") ? 2 : span_is(span, "int32") ? 4 : 0;
-    if (width == 0)
-        reader->at = before;
-    return width;
-}
-
 /* The path of a file that a script names: beside the script, unless it starts with a slash. */
 static int beside_script(const struct session *session, struct span name, char path[PATH_BYTES])
 {

@@ -23,9 +23,6 @@ int needs_memory(const struct session *session);
 /* A number of 64 bits. */
 int take_any(struct reader *reader, const char *what, uint64_t *value);
 
-/* int8, int16 or int32: the width in bytes; else 0, and nothing is taken. */
-unsigned take_width(struct reader *reader);
-
 /* The name of a file, where it stands, and the end of the line. A path starts at the script's folder, unless it starts with a slash. */
 int take_file(struct session *session, size_t *at, char path[PATH_BYTES]);
 

@@ -36,32 +36,29 @@ void show_sizes(const struct device *device)
 
 /* ---- registers ---- */
 
-/* The characters that a number of `width` bytes takes. */
-static int number_room(unsigned width) { return width == 1 ? 4 : width == 2 ? 6 : 11; }
-
-static void show_row(const struct device *device, unsigned reg, unsigned row, unsigned width)
+static void show_row(const struct device *device, unsigned reg, unsigned row, enum form form)
 {
-    unsigned column, columns = register_row_bytes(device, reg) / width;
+    unsigned column, width = form_bytes(form), columns = register_row_bytes(device, reg) / width;
+    char text[NUMBER_TEXT_BYTES];
     printf("%5u:", row);
-    for (column = 0; column < columns; column++)
-        if (element_written(device, reg, row, column, width))
-            printf(" %*" PRId64, number_room(width), element_value(device, reg, row, column, width));
-        else
-            printf(" %*s", number_room(width), "--");
+    for (column = 0; column < columns; column++) {
+        write_number(form, number_at(device->registers + register_at(device, reg, row, column * width), form), text);
+        printf(" %*s", form_room(form), element_written(device, reg, row, column, width) ? text : "--");
+    }
     printf("\n");
 }
 
-void show_register(const struct device *device, unsigned reg, unsigned width)
+void show_register(const struct device *device, unsigned reg, enum form form)
 {
-    unsigned column, row;
+    unsigned column, row, width = form_bytes(form);
     char name[8];
     register_name(reg, name);
     printf("%s, elements of %u bits\n      ", name, 8 * width);
     for (column = 0; column < register_row_bytes(device, reg) / width; column++)
-        printf(" %*u", number_room(width), column);
+        printf(" %*u", form_room(form), column);
     printf("\n");
     for (row = 0; row < register_rows(device); row++)
-        show_row(device, reg, row, width);
+        show_row(device, reg, row, form);
 }
 
 /* ---- memory ---- */
@@ -77,25 +74,27 @@ static int touches_seal(const struct device *device, size_t address, unsigned wi
 }
 
 /* A number with brackets around it if it is sealed; `more` if another follows on the line. */
-static void show_number(const struct device *device, size_t address, unsigned width, int more)
+static void show_number(const struct device *device, size_t address, enum form form, int more)
 {
-    int sealed = touches_seal(device, address, width == 0 ? 1 : width);
+    int sealed = touches_seal(device, address, form_bytes(form));
+    char text[NUMBER_TEXT_BYTES];
     printf(" %c", sealed ? '[' : ' ');
-    if (width == 0)
+    write_number(form, number_at(device->memory + address, form), text);
+    if (form == BYTE)
         printf("%02x", device->memory[address]);
     else
-        printf("%*" PRId64, number_room(width), signed_bytes(device->memory + address, width));
+        printf("%*s", form_room(form), text);
     printf("%s", sealed ? "]" : more ? " " : "");
 }
 
-void show_memory(const struct device *device, size_t address, size_t count, unsigned width)
+void show_memory(const struct device *device, size_t address, size_t count, enum form form)
 {
-    size_t i, a_line = width == 0 ? 16 : width == 4 ? 4 : 8, bytes = width == 0 ? 1 : width;
+    size_t i, bytes = form_bytes(form), a_line = form == BYTE ? 16 : bytes == 4 ? 4 : 8;
     for (i = 0; i < count; i++) {
         int last = i % a_line == a_line - 1 || i == count - 1;
         if (i % a_line == 0)
             printf("%9lu:", (unsigned long)(address + i * bytes));
-        show_number(device, address + i * bytes, width, !last);
+        show_number(device, address + i * bytes, form, !last);
         if (last)
             printf("\n");
     }

@@ -1,4 +1,5 @@
-/* Bodlarina: a simulator of the integer part of the RISC-V Matrix Specification 0.2, for a host in C.
+/* Bodlarina: a simulator of the integer part of the RISC-V Matrix Specification 0.2, and of its float multiply mfma.mm on binary32,
+ * for a host in C.
  *
  * A machine has eight tile registers tr0 to tr7 and two accumulators acc0 and acc1, a type (mtype) with the width of an element,
  * and tile sizes m, k and n. A WORD is one instruction of 32 bits (bodlarina_words.h encodes each). Each call gives an ANSWER: 0
@@ -11,9 +12,11 @@
  * block is answered and never undefined. The host has to ensure only that
  *   - each pointer points to as many readable (and, unless const, writable) bytes as the length beside it says, and is not NULL,
  *     not even at length 0: then give the address of any byte;
- *   - the buffers of one call do not overlap.
+ *   - the buffers of one call do not overlap;
+ *   - while mfma.mm or a float run is carried out, the processor works with floats as C starts it: it rounds to the nearest, ties to
+ *     even, and flushes no subnormal number to zero (no fesetround, no -ffast-math at the link, DAZ and FTZ off in MXCSR).
  * No alignment is asked. Calls on different buffers may run at once, in any number of threads; calls that share a buffer, in turn.
- * The deepest call, bodlarina_run, was measured to use 4,072 bytes of stack (x86-64, the largest machine); tests/library.c measures
+ * The deepest call, bodlarina_run, was measured to use 4,168 bytes of stack (x86-64, the largest machine); tests/library.c measures
  * it again and fails above 8 KiB.
  *
  * Every function but bodlarina_run_turns, bodlarina_run_steps and bodlarina_version, which return a number, returns a result: the
@@ -77,8 +80,8 @@ uint64_t bodlarina_version(void);
                                         plan or run can have; a run that is asked past its last step */
 #define BODLARINA_OVERLAP 9u         /* a byte of C lies in two of its rows, in a row of A or B, or in the seal */
 #define BODLARINA_WRONG_OPCODE 10u   /* bits 6..0 of the word are not 1110111 */
-#define BODLARINA_LEFT_OUT_WORD 11u  /* an instruction of the draft that is not carried out here: a float word or a
-                                        conversion */
+#define BODLARINA_LEFT_OUT_WORD 11u  /* an instruction of the draft that is not carried out here: a float word other
+                                        than mfma.mm or a conversion */
 #define BODLARINA_WRONG_REGISTER 12u /* a register field out of range: a tile register is 0 to 7, an accumulator 0 or 1 */
 #define BODLARINA_ROWS_OVERLAP 13u   /* a byte of a store lies in two of its rows in memory */
 #define BODLARINA_NO_ROOM 14u        /* an image does not fit the lent room */
@@ -187,12 +190,17 @@ uint64_t bodlarina_step(uint32_t word,
  *   sew      8, 16 or 32
  *   factor   1, 2 or 4, with factor * sew at most 32
  *
+ * In a float run (BODLARINA_FLOAT) the elements of A, B and C are binary32 numbers; sew is 32 and factor 1. C(i, j) is, bit for bit, the
+ * plain sum from +0 in the order of l = 0, 1, ..: each product is rounded, then each sum, to the nearest, ties to even. A result that is
+ * not a number is stored as 0x7FC00000. Where all elements are whole numbers, and all products and partial sums lie between -2^24 and
+ * 2^24, each C(i, j) is exactly the sum.
+ *
  * A start checks the plan and the machine, and changes neither machine nor memory. Then each turn hands out one
  * instruction word and carries it out, until all are done. The machine may have been used before, and may be used
  * between runs; between the turns of one run, leave machine, registers, marks and memory to the run.
  *
  * Answers of a start, the first that applies:
- *   8   a state at fault as in bodlarina_step, other widths or factors, or a size above 1,024
+ *   8   a state at fault as in bodlarina_step, another kind, other widths or factors, or a size above 1,024
  *   6   an element of A, B or C lies outside memory
  *   9   a byte of C lies in two of its rows, in a row of A or B, or in the seal
  * A matrix with no element has nothing to test. */
@@ -200,6 +208,7 @@ uint64_t bodlarina_step(uint32_t word,
 /* kind: what is multiplied, and how A lies in memory. */
 #define BODLARINA_PRODUCT 0u      /* A, m by k, times B, k by n */
 #define BODLARINA_A_TRANSPOSED 1u /* the same with A kept transposed: k rows of m elements, A(i, l) is element i of row l */
+#define BODLARINA_FLOAT 2u        /* A, m by k, times B, k by n, of binary32 numbers */
 
 /* run: eighteen numbers of 64 bits, each low byte first, at bytes 0, 8, .., 136:
  *   sew, factor, m, k, n, then address and stride of A, of B and of C, RLEN, MLEN,

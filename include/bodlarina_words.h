@@ -47,7 +47,7 @@
     ((uint32_t)(code) << 26 | (uint32_t)(store) << 25 | ((uint32_t)(rs2) & 31u) << 20 | ((uint32_t)(rs1) & 31u) << 15 \
      | (uint32_t)(width) << 12 | ((uint32_t)(reg) & 31u) << 7 | BODLARINA_OPCODE)
 
-/* Arithmetic: code 31..26, 0 in 25, the second source or zeros in 24..20, ms1 19..15, 110 in 14..12, md 11..7. */
+/* Arithmetic: code 31..26, 0 in 25 (1 of a float word), the second source or zeros in 24..20, ms1 19..15, 110 in 14..12, md 11..7. */
 #define BODLARINA_ARITHMETIC_(code, md, ms1, second) \
     ((uint32_t)(code) << 26 | ((uint32_t)(second) & 31u) << 20 | ((uint32_t)(ms1) & 31u) << 15 | 6u << 12 \
      | ((uint32_t)(md) & 31u) << 7 | BODLARINA_OPCODE)
@@ -160,6 +160,11 @@ BODLARINA_INLINE uint32_t bodlarina_mscte64_m(uint32_t ms3, uint32_t rs1, uint32
 BODLARINA_INLINE uint32_t bodlarina_mma_mm(uint32_t md, uint32_t ms1, uint32_t ms2) { return BODLARINA_ARITHMETIC_(0, md, ms1, ms2); }
 BODLARINA_INLINE uint32_t bodlarina_mwma_mm(uint32_t md, uint32_t ms1, uint32_t ms2) { return BODLARINA_ARITHMETIC_(1, md, ms1, ms2); }
 BODLARINA_INLINE uint32_t bodlarina_mqma_mm(uint32_t md, uint32_t ms1, uint32_t ms2) { return BODLARINA_ARITHMETIC_(2, md, ms1, ms2); }
+
+/* C += A x B on binary32 numbers: SEW must be 32, any other gets 3. Each element of md starts from its old value; for each term in
+ * turn the product is rounded, then the sum, to the nearest, ties to even; a result that is not a number is stored as 0x7FC00000. md
+ * is read too: bodlarina_memulc_mi(md, md, 0) clears it to +0. */
+BODLARINA_INLINE uint32_t bodlarina_mfma_mm(uint32_t md, uint32_t ms1, uint32_t ms2) { return 1u << 25 | BODLARINA_ARITHMETIC_(0, md, ms1, ms2); }
 
 /* md += ms1, element by element: accumulators md and ms1. */
 BODLARINA_INLINE uint32_t bodlarina_maddc_mm(uint32_t md, uint32_t ms1) { return BODLARINA_ARITHMETIC_(4, md, ms1, 0); }

@@ -72,7 +72,8 @@ static const char *const odd[] = {
     "-", "x0", "x31", "x32", "tr0", "tr7", "tr8", "acc0", "acc1", "(x10)", "(", ")", ",", "#", "e8", "e16, accq", "e64", "memory", "int32",
     "machine", "seal", "product", "expect", "show", "show marks", "show acc1 32", "show x", "word 0x48006077", "word FFFFFFFF",
     "mqma.mm acc0, tr0, tr1", "msettypei x5, 8191", "msettilen x0, x0", "load 0 .", "load 0 out", "save out", "restore out", "save s.img", "restore s.img", "restore damaged.img", "\n", "\r", "\t", "",
-    "product 8 4 2 3 2 0 3 6 2 16 8", "msce32.m acc1, (x1), x2", "x 11 -8", "bytes 0 00", "machine 512 4096",
+    "product 8 4 2 3 2 0 3 6 2 16 8", "product 32 1 2 2 2 0 8 16 8 32 8 float", "float", "float32", "float32 0 1e39", "nan", "-1e-45", "1.5.",
+    "show acc1 float32", "show memory float32 0 4", "mfma.mm acc0, tr0, tr1", "msce32.m acc1, (x1), x2", "x 11 -8", "bytes 0 00", "machine 512 4096",
 };
 
 /* Any text in the place of the bytes from `from` to `to`. */

@@ -1,5 +1,5 @@
 /* What the headers say beside the words: the version, the texts, the number of a run's steps, that slot 0 of the scalars is not
- * written, images, and how much stack a call uses. Writes a line for each, and ends with 'N passed, M failed'. */
+ * written, float runs, images, and how much stack a call uses. Writes a line for each, and ends with 'N passed, M failed'. */
 #define _GNU_SOURCE
 #include <inttypes.h>
 #include <pthread.h>
@@ -101,6 +101,74 @@ static void slot0(void)
     right = right && bodlarina_bench_step(&other, 0) != 0;
     check(right && bodlarina_bench_scalar(&other, 3) == MLEN / RLEN, "slot 0 of the scalars is not written");
     munmap(pages, 2 * page);
+}
+
+/* ---- float runs ---- */
+
+enum { FLOATS_M = 21, FLOATS_K = 35, FLOATS_N = 19, FLOATS_A = 0, FLOATS_B = 8192, FLOATS_C = 16384 };
+
+static struct bodlarina_plan float_plan = {
+    32, 1, FLOATS_M, FLOATS_K, FLOATS_N,
+    {FLOATS_A, 4 * FLOATS_K}, {FLOATS_B, 4 * FLOATS_N}, {FLOATS_C, 4 * FLOATS_N}, BODLARINA_FLOAT,
+};
+
+static float float_at(size_t address, size_t element)
+{
+    float value;
+    memcpy(&value, memory + address + 4 * element, sizeof value);
+    return value;
+}
+
+/* The bits of the plain sum from +0 in rising order; volatile, so that each product and each sum is rounded by itself. */
+static uint32_t plain_sum(size_t i, size_t j)
+{
+    volatile float sum = 0, product;
+    float result;
+    uint32_t bits;
+    for (size_t k = 0; k < FLOATS_K; k++) {
+        product = float_at(FLOATS_A, i * FLOATS_K + k) * float_at(FLOATS_B, k * FLOATS_N + j);
+        sum = sum + product;
+    }
+    result = sum;
+    memcpy(&bits, &result, sizeof bits);
+    return result != result ? 0x7fc00000u : bits;
+}
+
+/* Elements of any bits with exponents in a range of `range` from `least` on: narrow ones that round at each step, small ones whose
+ * products are subnormal, or all, with infinities and what is not a number. */
+static int floats_right(uint32_t least, uint32_t range)
+{
+    uint64_t state = 0x9e3779b97f4a7c15u, steps;
+    uint32_t bits;
+    for (size_t at = 0; at < FLOATS_C; at += 4) {
+        state = state * 6364136223846793005u + 1442695040888963407u;
+        bits = (uint32_t)(state >> 32) & 0x807fffffu;
+        bits |= (least + (uint32_t)(state >> 8 & 0xffff) % range) << 23;
+        memcpy(memory + at, &bits, sizeof bits);
+    }
+    int right = bodlarina_bench_start(&bench, RLEN, MLEN, 0, 0) == 0 && bodlarina_bench_run(&bench, &float_plan, &steps) == 0;
+    for (size_t i = 0; i < FLOATS_M; i++)
+        for (size_t j = 0; j < FLOATS_N; j++) {
+            memcpy(&bits, memory + FLOATS_C + 4 * (i * FLOATS_N + j), sizeof bits);
+            right = right && bits == plain_sum(i, j);
+        }
+    return right;
+}
+
+static int float_start(uint64_t kind, uint64_t sew, uint64_t factor)
+{
+    struct bodlarina_plan plan = float_plan;
+    plan.kind = kind;
+    plan.sew = sew;
+    plan.factor = factor;
+    return BODLARINA_ANSWER(bodlarina_bench_run_start(&bench, &plan)) == BODLARINA_BAD_ARGUMENTS;
+}
+
+static void floats(void)
+{
+    check(floats_right(125, 4) && floats_right(56, 10) && floats_right(0, 256), "a float run is the plain sum, bit for bit");
+    check(float_start(BODLARINA_FLOAT, 16, 1) && float_start(BODLARINA_FLOAT, 16, 2) && float_start(BODLARINA_FLOAT, 8, 4)
+          && float_start(3, 32, 1) && !float_start(BODLARINA_FLOAT, 32, 1), "a float run has SEW 32 and factor 1; there is no kind 3");
 }
 
 /* ---- images of a machine of RLEN 64 and MLEN 128 ---- */
@@ -264,27 +332,34 @@ static size_t stack_of(void (*function)(void))
     return STACK_BYTES - clean;
 }
 
+/* The stack of the calls on a plan of this kind, and of a multiply under its mtype. */
+static size_t stack_of_plan(uint64_t kind, uint64_t sew, uint64_t factor)
+{
+    void (*const calls[])(void) = {whole_run, all_turns, one_step, write_image, read_image};
+    size_t used, most = 0;
+    stack_plan.kind = kind;
+    stack_plan.sew = sew;
+    stack_plan.factor = factor;
+    stack_word = kind == BODLARINA_FLOAT ? bodlarina_mfma_mm(0, 0, 1) : bodlarina_mma_mm(0, 0, 1);
+    for (unsigned i = 0; i < sizeof calls / sizeof calls[0]; i++) {
+        bodlarina_bench_run_start(&bench, &stack_plan);
+        used = stack_of(calls[i]);
+        most = used > most ? used : most;
+    }
+    return most;
+}
+
 static void stack(void)
 {
-    size_t none = stack_of(no_call), most = 0;
+    size_t none = stack_of(no_call), most = 0, used;
     bodlarina_bench_start(&bench, RLEN, MLEN, 0, 0);
     for (uint64_t sew = 8; sew <= 32; sew *= 2)
         for (uint64_t factor = 1; factor * sew <= 32; factor *= 2) {
-            stack_plan.sew = sew;
-            stack_plan.factor = factor;
-            size_t used = stack_of(whole_run) - none;
-            most = used > most ? used : most;
-            bodlarina_bench_run_start(&bench, &stack_plan);
-            used = stack_of(all_turns) - none;
-            most = used > most ? used : most;
-            stack_word = bodlarina_mma_mm(0, 0, 1);
-            used = stack_of(one_step) - none;
-            most = used > most ? used : most;
-            used = stack_of(write_image) - none;
-            most = used > most ? used : most;
-            used = stack_of(read_image) - none;
+            used = stack_of_plan(BODLARINA_PRODUCT, sew, factor);
             most = used > most ? used : most;
         }
+    used = stack_of_plan(BODLARINA_FLOAT, 32, 1);
+    most = (used > most ? used : most) - none;
     printf("stack: %zu bytes\n", most);
     check(most > 0 && most <= MOST_STACK, "the stack of the deepest call");
 }
@@ -295,6 +370,7 @@ int main(void)
     texts();
     steps();
     slot0();
+    floats();
     images();
     stack();
     printf("%d passed, %d failed\n", passed, failed);

@@ -26,7 +26,7 @@ use Rattle.run.specs.Words.{Op, Shape, steps}
 use Rattle.run.specs.Places.{next, wordAt}
 use Rattle.run.specs.Plan.{msew, typeOf}
 use Rattle.run.specs.Encoding.{startOf}
-use Rattle.run.specs.Start.{format, planned}
+use Rattle.run.specs.Start.{format, kinded, planned}
 use Rattle.run.specs.Turn.{startsM, startsN, startsK, begins, soundRun, runShape, handsOut, moved, ask, AskOutcome, asked}
 use Rattle.width.specs.Blocks.{count}
 use Rattle.asking.specs.Steps.{stepsIn}
@@ -69,9 +69,9 @@ module _ (R : Run) (ok : numbered R ≡ true) where
   pub run-rlen : 0 < R .rlen
   run-rlen = let b = permitted-bounds (R .rlen) (R .mlen) run-lengths in omega arith
 
-  numbers : Each (format (R .plan .sew) (R .plan .factor) ∷ leb (R .plan .m) 1024 ∷ leb (R .plan .k) 1024 ∷ leb (R .plan .n) 1024 ∷ leb (R .plan .kind) 1 ∷ [])
+  numbers : Each (format (R .plan .sew) (R .plan .factor) ∷ leb (R .plan .m) 1024 ∷ leb (R .plan .k) 1024 ∷ leb (R .plan .n) 1024 ∷ kinded (R .plan) ∷ [])
   unfolding planned
-  numbers = every-each (format (R .plan .sew) (R .plan .factor) ∷ leb (R .plan .m) 1024 ∷ leb (R .plan .k) 1024 ∷ leb (R .plan .n) 1024 ∷ leb (R .plan .kind) 1 ∷ []) run-planned
+  numbers = every-each (format (R .plan .sew) (R .plan .factor) ∷ leb (R .plan .m) 1024 ∷ leb (R .plan .k) 1024 ∷ leb (R .plan .n) 1024 ∷ kinded (R .plan) ∷ []) run-planned
 
   pub run-format : format (R .plan .sew) (R .plan .factor) ≡ true
   run-format = numbers .0
@@ -146,7 +146,7 @@ module _ (R : Run) (ok : soundRun smaller R ≡ true) where
 pub plan-small : (P : Plan) → planned P ≡ true → (P .sew ≤ 32) × (P .factor ≤ 4)
 unfolding planned format
 plan-small P h =
-    let t = every-each (format (P .sew) (P .factor) ∷ leb (P .m) 1024 ∷ leb (P .k) 1024 ∷ leb (P .n) 1024 ∷ leb (P .kind) 1 ∷ []) h in
+    let t = every-each (format (P .sew) (P .factor) ∷ leb (P .m) 1024 ∷ leb (P .k) 1024 ∷ leb (P .n) 1024 ∷ kinded P ∷ []) h in
     let u = every-each (isIn (P .sew) sews ∷ isIn (P .factor) factors ∷ leb (P .factor * P .sew) elen ∷ []) (t .0) in
     (leb-true (P .sew) 32 (each-in (P .sew) sews (λ y. leb y 32) refl (u .0)), leb-true (P .factor) 4 (each-in (P .factor) factors (λ y. leb y 4) refl (u .1 .0)))
 

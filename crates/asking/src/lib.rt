@@ -18,7 +18,7 @@ ghost use Rattle.machine.specs.Answers.{reply};
 ghost use Rattle.machine.specs.Setting.{smaller, maxM, maxN, maxK};
 ghost use Rattle.run.specs.Words.{setType, clear, multiply, loadA, loadB, store};
 ghost use Rattle.run.specs.Plan.{narrow, wide, msew, typeOf, formOf, aRow, aColumn};
-ghost use Rattle.run.specs.Start.{format, planned};
+ghost use Rattle.run.specs.Start.{format, kinded, planned};
 ghost use Rattle.run.specs.Places.{headM, headN, headK, next, wordAt};
 ghost use Rattle.run.specs.Turn.{startsM, startsN, startsK, begins, soundRun, runParameters, runShape, moved, ask, asked, askedAs};
 ghost use Rattle.width.specs.Blocks.{count};
@@ -63,6 +63,19 @@ pub fn is_format(sew: u64, factor: u64) -> bool
     factor * sew <= 32
 }
 
+// Whether there is such a kind, with these elements.
+fn is_kinded(plan: Plan) -> bool
+    ensures { λ r. ⌜ r ≡ kinded plan ⌝ }
+{
+    if plan.kind != 2 {
+        return plan.kind <= 1;
+    }
+    if plan.sew != 32 {
+        return false;
+    }
+    plan.factor == 1
+}
+
 // Whether the numbers of a plan are permitted.
 pub fn is_planned(plan: Plan) -> bool
     ensures { λ r. ⌜ r ≡ planned plan ⌝ }
@@ -81,7 +94,7 @@ pub fn is_planned(plan: Plan) -> bool
     if plan.n > 1024 {
         return false;
     }
-    plan.kind <= 1
+    is_kinded(plan)
 }
 
 fn in_product(plan: Plan, row: u64, column: u64) -> bool
@@ -548,6 +561,10 @@ fn hand_clear(plan: Plan) -> Handed
 fn hand_multiply(plan: Plan) -> Handed
     ensures { λ r. ⌜ r ≡ handedFor plan multiply ⌝ }
 {
+    if plan.kind == 2 {
+        // mfma.mm: mma.mm with bit 25 set.
+        return plain_step(34627703);
+    }
     let code = factor_code(plan.factor);
     let word = arithmetic_word(code, 1);
     plain_step(word)

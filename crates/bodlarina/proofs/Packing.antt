@@ -20,7 +20,7 @@ use Rattle.machine.specs.Geometry.{elen, permitted, registerBytes, Parameters, 
 use Rattle.machine.specs.Setting.{newType, smaller}
 use Rattle.machine.specs.Starting.{sealEnds}
 use Rattle.machine.specs.Listing.{decode}
-use Rattle.machine.specs.Operation.{Operation, illegal, setType, setSize, cutSize, load, store, multiply, combine, scale, tileRows, tileCols}
+use Rattle.machine.specs.Operation.{Operation, illegal, setType, setSize, cutSize, load, store, multiply, combine, scale, floatMultiply, tileRows, tileCols}
 use Rattle.machine.specs.Refusals.{checks}
 use Rattle.machine.specs.Faults.{sound, soundBench}
 use Rattle.machine.specs.Step
@@ -94,6 +94,8 @@ module _ (M : Parameters) (st : State) (mem : List ℕ) (hm : st .tileM ≤ 64) 
       (zeros, (zeros, (zeros, (zeros, (zeros, (within _ _ _ _ hm hk, (within _ _ _ _ hk hn, (within _ _ _ _ hm hn, tt))))))))
   checks-small (combine o f d a) = (zeros, (zeros, (zeros, (zeros, (within _ _ _ _ hm hn, (within _ _ _ _ hm hn, tt))))))
   checks-small (scale f d a x) = (zeros, (zeros, (zeros, (zeros, (within _ _ _ _ hm hn, tt)))))
+  checks-small (floatMultiply d a b) =
+      (zeros, (zeros, (zeros, (zeros, (zeros, (within _ _ _ _ hm hk, (within _ _ _ _ hk hn, (within _ _ _ _ hm hn, tt))))))))
 
 -- ---- a step
 

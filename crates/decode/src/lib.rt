@@ -9,10 +9,13 @@ use machine::Matrix;
 use machine::Sum;
 use machine::Wrong;
 ghost use mathlib.Core.Path.{_≡_};
+ghost use mathlib.Core.List.{[], _∷_};
 ghost use Prim.Native.Nat.{_<_, _≤_};
+ghost use lib.Dec.{ltb};
+ghost use Rattle.machine.specs.Tests.{every};
 ghost use Rattle.machine.specs.Listing.{field7, field15, field20, immediate13, listing, decode, ranged};
 ghost use Rattle.machine.specs.Geometry.{registerCount};
-ghost use Rattle.machine.specs.declared.Instruction.the-variants.{SetTypeImmediate, SetType, SetTileImmediate, SetTile, Load, Store, Multiply, Combine, Scale, ScaleImmediate};
+ghost use Rattle.machine.specs.declared.Instruction.the-variants.{SetTypeImmediate, SetType, SetTileImmediate, SetTile, Load, Store, Multiply, Combine, Scale, ScaleImmediate, FloatMultiply};
 ghost use Rattle.decode_table.specs.Table.{entryOf, restRight, meant, numbered, fixesZero};
 
 // Bits 11..7: rd, md or ms3.
@@ -121,29 +124,50 @@ fn store(word: u32, form: Form, matrix: Matrix, count: usize, width: usize) -> I
     }
 }
 
+// Whether these are an accumulator and two tile registers.
+fn are_registers(md: usize, ms1: usize, ms2: usize) -> bool
+    ensures { λ r. ⌜ r ≡ every (ltb md 2 ∷ ltb ms1 8 ∷ ltb ms2 8 ∷ []) ⌝ }
+{
+    if md >= 2 {
+        return false;
+    }
+    if ms1 >= 8 {
+        return false;
+    }
+    ms2 < 8
+}
+
 fn multiply(word: u32, factor: Factor) -> Instruction
     ensures { λ r. ⌜ r ≡ ranged (Multiply factor (field7 word) (field15 word) (field20 word)) ⌝ }
 {
     let md = low_field(word);
     let ms1 = middle_field(word);
     let ms2 = high_field(word);
-    if md >= 2 {
-        return Instruction::Illegal {
-            wrong: Wrong::Register,
-        };
-    }
-    if ms1 >= 8 {
-        return Instruction::Illegal {
-            wrong: Wrong::Register,
-        };
-    }
-    if ms2 >= 8 {
+    if !are_registers(md, ms1, ms2) {
         return Instruction::Illegal {
             wrong: Wrong::Register,
         };
     }
     Instruction::Multiply {
         factor: factor,
+        md: md,
+        ms1: ms1,
+        ms2: ms2,
+    }
+}
+
+fn float_multiply(word: u32) -> Instruction
+    ensures { λ r. ⌜ r ≡ ranged (FloatMultiply (field7 word) (field15 word) (field20 word)) ⌝ }
+{
+    let md = low_field(word);
+    let ms1 = middle_field(word);
+    let ms2 = high_field(word);
+    if !are_registers(md, ms1, ms2) {
+        return Instruction::Illegal {
+            wrong: Wrong::Register,
+        };
+    }
+    Instruction::FloatMultiply {
         md: md,
         ms1: ms1,
         ms2: ms2,
@@ -307,6 +331,7 @@ fn arithmetic(word: u32, number: u8) -> Instruction
 {
     match number {
         33 => multiply(word, Factor::Single),
+        34 => float_multiply(word),
         35 => multiply(word, Factor::Double),
         37 => multiply(word, Factor::Quadruple),
         38 => combine(word, Sum::Add, Factor::Single),

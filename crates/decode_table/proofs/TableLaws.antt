@@ -353,7 +353,7 @@ pub too-large : (n word : ℕ) → 132 < n → Illegal LeftOut ≡ ranged (meant
 unfolding listing
 too-large n word l =
     let z : ¬ (n ≡ 0) = λ e. omega arith in
-    ap ranged (sym (past n word 132 n 74 listing l (omega arith) refl ∙ ap (λ (t : Bool). Illegal (cond t Unlisted LeftOut)) (ne-eqb n 0 z)))
+    ap ranged (sym (past n word 132 n 75 listing l (omega arith) refl ∙ ap (λ (t : Bool). Illegal (cond t Unlisted LeftOut)) (ne-eqb n 0 z)))
 
 -- a load or store of either form
 pub numbered-at : (n k word : ℕ) (f : Form) (i : Form → Instruction) → n ≡ k → i Plain ≡ meant k word listing → i Transposed ≡ meant (100 + k) word listing

@@ -229,6 +229,7 @@ module _ (M : Parameters) (G : Grants (M .grant)) (of-elen : M .elen ≡ elen) (
   sane-after (Operation.combine o f d a) st mem h = wrote st _ _ _ _ _ h
   sane-after (Operation.multiply f d a b) st mem h = wrote st _ _ _ _ _ h
   sane-after (Operation.scale f d a x) st mem h = wrote st _ _ _ _ _ h
+  sane-after (Operation.floatMultiply d a b) st mem h = wrote st _ _ _ _ _ h
 
 -- ---- no step leaves a machine at fault
 

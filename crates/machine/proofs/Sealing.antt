@@ -44,6 +44,7 @@ refusing M (Operation.store f k r w b s) st mem = refl
 refusing M (Operation.multiply f d a b) st mem = refl
 refusing M (Operation.combine o f d a) st mem = refl
 refusing M (Operation.scale f d a x) st mem = refl
+refusing M (Operation.floatMultiply d a b) st mem = refl
 
 module _ (M : Parameters) (st : State) (mem : List ℕ) where
   pub operation-length : (o : Operation) → length (memoryAfter M o st mem) ≡ length mem
@@ -56,6 +57,7 @@ module _ (M : Parameters) (st : State) (mem : List ℕ) where
   operation-length (Operation.multiply f d a b) = refl
   operation-length (Operation.combine o f d a) = refl
   operation-length (Operation.scale f d a x) = refl
+  operation-length (Operation.floatMultiply d a b) = refl
 
   operation-sealed : (o : Operation) → Passed (checks M o st mem) → (q : ℕ) → sealed M q ≡ true → getD (memoryAfter M o st mem) q 0 ≡ getD mem q 0
   operation-sealed (Operation.illegal wrong) p q h = refl
@@ -69,6 +71,7 @@ module _ (M : Parameters) (st : State) (mem : List ℕ) where
   operation-sealed (Operation.multiply f d a b) p q h = refl
   operation-sealed (Operation.combine o f d a) p q h = refl
   operation-sealed (Operation.scale f d a x) p q h = refl
+  operation-sealed (Operation.floatMultiply d a b) p q h = refl
 
 -- ---- one step
 

@@ -12,7 +12,7 @@ use Rattle.machine.specs.declared.Answer.the-variants.{IllegalWord, BadA
 use Rattle.machine.specs.declared.Wrong.{Wrong}
 use Rattle.machine.specs.declared.Wrong.the-variants.{Opcode, LeftOut, Unlisted, Register}
 use Rattle.machine.specs.declared.Instruction.{Instruction}
-use Rattle.machine.specs.declared.Instruction.the-variants.{Illegal, SetTypeImmediate, SetType, SetTileImmediate, SetTile, Load, Store, Multiply, Combine, Scale, ScaleImmediate}
+use Rattle.machine.specs.declared.Instruction.the-variants.{Illegal, SetTypeImmediate, SetType, SetTileImmediate, SetTile, Load, Store, Multiply, Combine, Scale, ScaleImmediate, FloatMultiply}
 use Rattle.machine.specs.Tests.{isIn}
 use Rattle.machine.specs.Answers.{reply, Check, verdict, isDone, number}
 use Rattle.machine.specs.Geometry.{Parameters, parameters, State, Bench}
@@ -225,6 +225,7 @@ isOurs (Multiply factor md ms1 ms2) = true
 isOurs (Combine sum factor md ms1) = true
 isOurs (Scale factor md ms1 rs2) = true
 isOurs (ScaleImmediate factor md ms1 immediate) = true
+isOurs (FloatMultiply md ms1 ms2) = true
 
 module _ (M : Parameters) (st : State) (xs mem : List ℕ) where
   abbrev Elsewhere : Operation → Type 0
@@ -246,6 +247,7 @@ module _ (M : Parameters) (st : State) (xs mem : List ℕ) where
   checks-elsewhere (Combine sum factor md ms1) h = refl
   checks-elsewhere (Scale factor md ms1 rs2) h = refl
   checks-elsewhere (ScaleImmediate factor md ms1 immediate) h = refl
+  checks-elsewhere (FloatMultiply md ms1 ms2) h = refl
 
 module _ (M : Parameters) (xs : List ℕ) (B : Bench) where
   ours-elsewhere : (i : Instruction) → isOurs i ≡ true → elsewhere (outcome M i xs B .answer .number) ≡ true

@@ -3,8 +3,10 @@ use mathlib.Core.Path.{_≡_, refl}
 use mathlib.Core.List.{List, [], _∷_, _++_, map}
 use Prim.Native.Nat.{ℕ, zero, suc, _+_, _*_, _-_, _^_}
 use lib.ListN.{getD, replicate, set, take, drop}
+use lib.Ieee as Ieee
 use Rattle.width.specs.Reduce.{reduce}
 use Rattle.width.specs.Tile.{putTile, putRow, putLe, markTile, markRow}
+use Rattle.width.specs.Binary32.{valueOf, settled, multiplyAdd, floatSum, floatProduct}
 use Rattle.machine.specs.declared.Machine.{Machine}
 use Rattle.machine.specs.declared.Reply.{Reply}
 use Rattle.machine.specs.Geometry.{permitted}
@@ -79,8 +81,8 @@ examples =
     -- 10: the opcode, also of what would be a float
     ∷ gives (step 0x00007033 (scalars 0 0) good) 10
     ∷ gives (step 0x02006033 (scalars 0 0) good) 10
-    -- 11: mfma.mm, whatever its registers; mfaddc.mm; a conversion
-    ∷ gives (step (word 0b0000001 31 31 6 31) (scalars 0 0) good) 11
+    -- 11: mfwma.mm, whatever its registers; mfaddc.mm; a conversion
+    ∷ gives (step (word 0b0000011 31 31 6 31) (scalars 0 0) good) 11
     ∷ gives (step (word 0b0001001 0 0 6 0) (scalars 0 0) good) 11
     ∷ gives (step (word 0b0111110 0 0 6 0) (scalars 0 0) good) 11
     -- 1: bits 14..12 of 100; bits 27..20 of msettype; bits 24..20 of maddc.mm, of mfaddc.mm and of a conversion; no entry
@@ -98,6 +100,7 @@ examples =
     ∷ gives (step (word 0b0000000 8 0 6 0) (scalars 0 0) good) 12
     ∷ gives (step (word 0b0000000 0 8 6 0) (scalars 0 0) good) 12
     ∷ gives (step (word 0b0000000 0 0 6 2) (scalars 0 0) good) 12
+    ∷ gives (step (word 0b0000001 0 0 6 2) (scalars 0 0) good) 12
     -- and of transposed loads
     ∷ gives (step (word 0b0001010 11 10 3 8) (scalars 0 8) good) 12
     ∷ gives (step (word 0b0001000 11 10 0 2) (scalars 0 8) good) 12
@@ -116,6 +119,12 @@ examples =
     ∷ gives (step (word 0b0000010 1 0 6 0) (scalars 0 0) (bench 2 2 2 2 0 0 1)) 3
     ∷ gives (step (word 0b0000100 1 0 6 0) (scalars 0 0) good) 3
     ∷ gives (step (word 0b0000100 1 0 6 0) (scalars 0 0) (bench 8 2 2 2 0 0 1)) 0
+    -- 02, Four: mfma.mm at SEW 8, 16 and 32; 2 comes before, 4 after
+    ∷ gives (step (word 0b0000001 1 0 6 0) (scalars 0 0) good) 3
+    ∷ gives (step (word 0b0000001 1 0 6 0) (scalars 0 0) (bench 1 2 2 8 0 0 1)) 3
+    ∷ gives (step (word 0b0000001 1 0 6 0) (scalars 0 0) (bench 2 2 2 2 0 0 1)) 0
+    ∷ gives (step (word 0b0000001 1 0 6 0) (scalars 0 0) (bench (2 ^ 63) 2 2 2 0 0 1)) 2
+    ∷ gives (step (word 0b0000001 1 0 6 0) (scalars 0 0) (bench 2 2 2 8 0 0 1)) 4
     -- 4: "tile_n 8 set at SEW 8, then SEW 16: a 16-bit load of B gives 4"; A does not use tile_n
     ∷ gives (step (word 0b0000100 11 10 1 0) (scalars 0 8) (bench 1 2 2 8 0 0 1)) 4
     ∷ gives (step (word 0b0000010 11 10 1 0) (scalars 0 8) (bench 1 2 2 8 0 0 1)) 0
@@ -125,6 +134,8 @@ examples =
     ∷ unwritten (step (word 0b0000000 1 0 6 0) (scalars 0 0) (marking (set (set (replicate 256 1) 8 0) 16 0) good)) 1 0
     ∷ unwritten (step (word 0b0000000 1 0 6 0) (scalars 0 0) (marking (set (set (replicate 256 1) 17 0) 128 0) good)) 0 1
     ∷ unwritten (step (word 0b0000010 1 0 6 0) (scalars 0 0) (marking (set (replicate 256 1) 163 0) good)) 1 1
+    ∷ unwritten (step (word 0b0000001 1 0 6 0) (scalars 0 0) (marking (set (set (replicate 256 1) 12 0) 16 0) (bench 2 2 2 2 0 0 1))) 1 1
+    ∷ unwritten (step (word 0b0000001 1 0 6 0) (scalars 0 0) (marking (set (replicate 256 1) 167 0) (bench 2 2 0 2 0 0 1))) 1 1
     ∷ gives (step (word 0b0000000 1 0 6 0) (scalars 0 0) (bench 0 0 2 2 0 0 0)) 0
     ∷ unwritten (step (word 0b0000000 1 0 6 0) (scalars 0 0) (bench 0 2 0 2 0 0 0)) 0 0
     ∷ unwritten (step (word 0b0001000 0 1 6 0) (scalars 0 0) (marking (set (replicate 256 1) 192 0) good)) 0 0
@@ -286,6 +297,22 @@ arithmetic =
 pub arithmetic-right : map (λ l. l .got) arithmetic ≡ map (λ l. l .want) arithmetic
 unfolding arithmetic bytes minus5 word bench scalars permitted sew newType legalType widthOk marked listing others decode sound stepBy outcome putTile putRow putLe markTile markRow reduce
 arithmetic-right = refl
+
+-- 02, Four: mfma.mm acc0, tr0, tr1 of one row, two terms and one column: 0.5 + 1.5 x 2 + -3 x 4 is -8.5, and other bytes stay
+pub halves : Bench
+halves =
+    let B = bench 2 1 2 1 0 0 1 in
+    record {
+      machine = B .machine;
+      registers = 0 ∷ 0 ∷ 0xC0 ∷ 0x3F ∷ 0 ∷ 0 ∷ 0x40 ∷ 0xC0 ∷ replicate 8 9
+          ++ 0 ∷ 0 ∷ 0 ∷ 0x40 ∷ replicate 4 9 ++ 0 ∷ 0 ∷ 0x80 ∷ 0x40 ∷ replicate 100 9 ++ 0 ∷ 0 ∷ 0 ∷ 0x3F ∷ replicate 124 9;
+      marks = B .marks;
+      memory = [];
+    }
+
+pub halves-right : drop 126 (take 134 (step (word 0b0000001 1 0 6 0) (scalars 0 0) halves .bench .registers)) ≡ 9 ∷ 9 ∷ 0 ∷ 0 ∷ 0x08 ∷ 0xC1 ∷ 9 ∷ 9 ∷ []
+unfolding halves word bench scalars permitted sew newType legalType marked listing others decode sound stepBy outcome putTile putRow putLe markTile markRow valueOf settled multiplyAdd floatSum floatProduct Ieee.add Ieee.mul Ieee.ofBits Ieee.toBits
+halves-right = refl
 
 -- 02, Two: B of two rows and three columns, transposed. Memory, or tr0 on, counts its bytes from 0
 pub counting : ℕ → ℕ → List ℕ

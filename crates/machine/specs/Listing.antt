@@ -16,7 +16,7 @@ use Rattle.machine.specs.declared.Sum.{Sum}
 use Rattle.machine.specs.declared.Sum.the-variants.{Add, Subtract, ReverseSubtract}
 use Rattle.machine.specs.declared.Wrong.the-variants.{Opcode, LeftOut, Unlisted, Register}
 use Rattle.machine.specs.declared.Instruction.{Instruction}
-use Rattle.machine.specs.declared.Instruction.the-variants.{Illegal, SetTypeImmediate, SetType, SetTileImmediate, SetTile, Load, Store, Multiply, Combine, Scale, ScaleImmediate}
+use Rattle.machine.specs.declared.Instruction.the-variants.{Illegal, SetTypeImmediate, SetType, SetTileImmediate, SetTile, Load, Store, Multiply, Combine, Scale, ScaleImmediate, FloatMultiply}
 use Rattle.machine.specs.Tests.{every}
 use Rattle.machine.specs.Geometry.{registerCount}
 
@@ -163,6 +163,7 @@ listing =
     ∷ storing 132 0b000100 0b011 Transposed MatrixC 8  -- mscte64.m
     -- arithmetic
     ∷ arithmetic 33 0b000000 (λ word. Multiply Single (field7 word) (field15 word) (field20 word))  -- mma.mm
+    ∷ meaning (coded 34 0b000000 1 0b110) (λ word. FloatMultiply (field7 word) (field15 word) (field20 word))  -- mfma.mm: 02, Four
     ∷ arithmetic 35 0b000001 (λ word. Multiply Double (field7 word) (field15 word) (field20 word))  -- mwma.mm
     ∷ arithmetic 37 0b000010 (λ word. Multiply Quadruple (field7 word) (field15 word) (field20 word))  -- mqma.mm
     ∷ combining 38 0b000100 Add Single  -- maddc.mm
@@ -186,8 +187,7 @@ listing =
 unfoldable pub others : List Code
 others =
     -- floats
-    coded 34 0b000000 1 0b110  -- mfma.mm
-    ∷ coded 36 0b000001 1 0b110  -- mfwma.mm
+    coded 36 0b000001 1 0b110  -- mfwma.mm
     ∷ coded0 39 0b000100 1 0b110  -- mfaddc.mm
     ∷ coded0 41 0b000101 1 0b110  -- mfwaddc.mm
     ∷ coded0 44 0b000111 1 0b110  -- mfsubc.mm
@@ -249,6 +249,7 @@ inRange (Multiply factor md ms1 ms2) = every (ltb md 2 ∷ ltb ms1 8 ∷ ltb ms2
 inRange (Combine sum factor md ms1) = every (ltb md 2 ∷ ltb ms1 2 ∷ [])
 inRange (Scale factor md ms1 rs2) = every (ltb md 2 ∷ ltb ms1 2 ∷ [])
 inRange (ScaleImmediate factor md ms1 immediate) = every (ltb md 2 ∷ ltb ms1 2 ∷ [])
+inRange (FloatMultiply md ms1 ms2) = every (ltb md 2 ∷ ltb ms1 8 ∷ ltb ms2 8 ∷ [])
 
 -- 12: "A register field out of range"
 abbrev pub ranged : Instruction → Instruction

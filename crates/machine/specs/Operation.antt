@@ -1,4 +1,4 @@
--- 01, "Loading, storing, reckoning", and 02, Two and Seven: what each instruction does, once its scalars are read.
+-- 01, "Loading, storing, reckoning", and 02, Two and Seven and Four: what each instruction does, once its scalars are read.
 use mathlib.Core.Bool.{cond}
 use mathlib.Core.List.{List}
 use Prim.Native.Nat.{ℕ, _+_, _*_, _%_, _^_}
@@ -6,6 +6,7 @@ use lib.Dec.{eqb}
 use lib.IntN.{ℤ, _+ℤ_, _-ℤ_, _*ℤ_}
 use Rattle.width.specs.Tile.{le, putTile, markTile}
 use Rattle.width.specs.Reduce.{signed, reduce, sumℤ}
+use Rattle.width.specs.Binary32.{floatProduct}
 use Rattle.machine.specs.declared.Matrix.{Matrix}
 use Rattle.machine.specs.declared.Matrix.the-variants.{MatrixA, MatrixB, MatrixC}
 use Rattle.machine.specs.declared.Form.{Form}
@@ -18,7 +19,7 @@ use Rattle.machine.specs.declared.Sum.{Sum}
 use Rattle.machine.specs.declared.Sum.the-variants.{Add, Subtract, ReverseSubtract}
 use Rattle.machine.specs.declared.Wrong.{Wrong}
 use Rattle.machine.specs.declared.Instruction.{Instruction}
-use Rattle.machine.specs.declared.Instruction.the-variants.{Illegal, SetTypeImmediate, SetType, SetTileImmediate, SetTile, Load, Store, Multiply, Combine, Scale, ScaleImmediate}
+use Rattle.machine.specs.declared.Instruction.the-variants.{Illegal, SetTypeImmediate, SetType, SetTileImmediate, SetTile, Load, Store, Multiply, Combine, Scale, ScaleImmediate, FloatMultiply}
 use Rattle.machine.specs.Geometry.{Parameters, State, registerAt, tileAt, accAt, scalar}
 use Rattle.machine.specs.Setting.{sew, newType, maximum, sizeIn, smaller}
 use Rattle.machine.specs.Memory.{rowAt, stored}
@@ -26,7 +27,7 @@ use Rattle.machine.specs.Memory.{rowAt, stored}
 -- ---- an instruction with the values of its scalars
 
 -- a new mtype; a size that is asked, or none, which cuts the size; plain or transposed, a matrix, a register, a width, an address and a stride; an output factor, md, ms1
--- and ms2; an output factor, md, ms1 and the multiplier
+-- and ms2; an output factor, md, ms1 and the multiplier; md, ms1 and ms2
 pub data Operation : Type 0 where
   illegal : Wrong → Operation
   setType : ℕ → Operation
@@ -37,6 +38,7 @@ pub data Operation : Type 0 where
   multiply : (f d a b : ℕ) → Operation
   combine : Sum → (f d a : ℕ) → Operation
   scale : (f d a : ℕ) → ℤ → Operation
+  floatMultiply : (d a b : ℕ) → Operation
 
 -- "The asked size is .. rs1 not x0, the scalar; rs1 x0 and rd not x0, the maximum. With both x0 nothing is asked"
 abbrev pub askedSize : Parameters → State → Dimension → ℕ → ℕ → List ℕ → Operation
@@ -66,6 +68,7 @@ operation M st xs (Combine sum factor md ms1) = combine sum (times factor) md ms
 operation M st xs (Scale factor md ms1 rs2) =
     scale (times factor) md ms1 (signed (256 ^ sew (st .mtype)) (scalar xs rs2 % 256 ^ sew (st .mtype)))
 operation M st xs (ScaleImmediate factor md ms1 immediate) = scale (times factor) md ms1 (signed 32 immediate)
+operation M st xs (FloatMultiply md ms1 ms2) = floatMultiply md ms1 ms2
 
 -- ---- tiles
 
@@ -133,6 +136,11 @@ abbrev pub productAt : Parameters → List ℕ → (wide narrow d a b terms : �
 productAt M s wide narrow d a b terms i j =
     product wide narrow terms (element s (accAt M d) wide i j) (λ l. element s (tileAt M a) narrow i l) (λ l. element s (tileAt M b) narrow l j)
 
+-- 02, Four: "mfma.mm at SEW 32 on binary32 elements"; w is SEW in bytes
+abbrev pub floatProductAt : Parameters → List ℕ → (w d a b terms : ℕ) → ℕ → ℕ → ℕ
+floatProductAt M s w d a b terms i j =
+    floatProduct terms (element s (accAt M d) w i j) (λ l. element s (tileAt M a) w i l) (λ l. element s (tileAt M b) w l j)
+
 -- "Add, subtract and reverse subtract take md at the output width and ms1 at SEW, signed. .. Each element-wise result is reduced to
 -- the output width in the same way."
 abbrev pub sumAt : Parameters → Sum → List ℕ → (wide narrow d a : ℕ) → ℕ → ℕ → ℕ
@@ -173,6 +181,8 @@ stateAfter M (combine o f d a) st mem =
     written st (accAt M d) (st .tileM) (st .tileN) (f * sew (st .mtype)) (sumAt M o (st .regs) (f * sew (st .mtype)) (sew (st .mtype)) d a)
 stateAfter M (scale f d a x) st mem =
     written st (accAt M d) (st .tileM) (st .tileN) (f * sew (st .mtype)) (scaledAt M x (st .regs) (f * sew (st .mtype)) (sew (st .mtype)) a)
+stateAfter M (floatMultiply d a b) st mem =
+    written st (accAt M d) (st .tileM) (st .tileN) (sew (st .mtype)) (floatProductAt M (st .regs) (sew (st .mtype)) d a b (st .tileK))
 
 -- a store is refused where "a byte belongs to two rows" (02, Seven), so each element lies where it belongs, whatever the order of rows
 abbrev pub memoryAfter : Parameters → Operation → State → List ℕ → List ℕ
@@ -187,6 +197,7 @@ memoryAfter M (store f k r w base stride) st mem =
 memoryAfter M (multiply f d a b) st mem = mem
 memoryAfter M (combine o f d a) st mem = mem
 memoryAfter M (scale f d a x) st mem = mem
+memoryAfter M (floatMultiply d a b) st mem = mem
 
 -- what rd receives, of the state after: "rd receives the new mtype", "The new tile size .. goes to rd too"
 abbrev pub resultOf : Operation → State → ℕ
@@ -199,3 +210,4 @@ resultOf (store f k r w base stride) st = 0
 resultOf (multiply f d a b) st = 0
 resultOf (combine o f d a) st = 0
 resultOf (scale f d a x) st = 0
+resultOf (floatMultiply d a b) st = 0

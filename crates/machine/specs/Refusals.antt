@@ -18,7 +18,7 @@ use Rattle.machine.specs.Answers.{Check, _otherwise_}
 use Rattle.machine.specs.Geometry.{Parameters, State, registerAt, tileAt, accAt}
 use Rattle.machine.specs.Setting.{sew, maccq, mill, maximum, sizeIn}
 use Rattle.machine.specs.Memory.{rowAt, inside, distinct, unsealed}
-use Rattle.machine.specs.Operation.{Operation, illegal, setType, setSize, cutSize, load, store, multiply, combine, scale, rowsOf, columnsOf, tileRows, tileCols, memoryRows, memoryCols}
+use Rattle.machine.specs.Operation.{Operation, illegal, setType, setSize, cutSize, load, store, multiply, combine, scale, floatMultiply, rowsOf, columnsOf, tileRows, tileCols, memoryRows, memoryCols}
 
 -- 10, 11, 1, 12: a word that is refused for what it is
 abbrev pub wordAnswer : Wrong → Answer
@@ -69,6 +69,16 @@ isZero (pos zero) = true
 isZero (pos (suc n)) = false
 isZero (negsuc n) = false
 
+-- 4 and 5 of a multiply: "A multiply reads its three tiles whole, but nothing where C has no element."
+abbrev pub multiplyReads : Parameters → (f d a b : ℕ) → State → List Check
+multiplyReads M f d a b st =
+    fitting M st DimensionM
+    ∷ fitting M st DimensionK
+    ∷ fitting M st DimensionN
+    ∷ needs (eqb (st .tileM * st .tileN) 0) (st .marks) (tileAt M a) (st .tileM) (st .tileK) (sew (st .mtype))
+    ∷ needs (eqb (st .tileM * st .tileN) 0) (st .marks) (tileAt M b) (st .tileK) (st .tileN) (sew (st .mtype))
+    ∷ needs false (st .marks) (accAt M d) (st .tileM) (st .tileN) (f * sew (st .mtype)) ∷ []
+
 -- 6: "an element's byte lies outside memory"; 7: "a store would write a sealed byte"; "sources go ms1, ms2, md". 02, Two: "State, marks
 -- and checks are as for the plain forms; answer 5 names row and column in the register". 02, Seven: "Refuse a store, transposed too, in
 -- which a byte belongs to two rows. .. 13, after 6 and before 7."
@@ -92,16 +102,10 @@ checks M (store f k r w base stride) st mem =
     ∷ (inside (length mem) base stride (memoryRows f (tileRows st k) (tileCols st k)) (memoryCols f (tileRows st k) (tileCols st k) * w) otherwise OutsideMemory)
     ∷ (distinct (rowAt base stride) (memoryRows f (tileRows st k) (tileCols st k)) (memoryCols f (tileRows st k) (tileCols st k) * w) otherwise RowsOverlap)
     ∷ (unsealed M base stride (memoryRows f (tileRows st k) (tileCols st k)) (memoryCols f (tileRows st k) (tileCols st k) * w) otherwise SealedByte) ∷ []
--- "A multiply reads its three tiles whole, but nothing where C has no element."
 checks M (multiply f d a b) st mem =
     typed st
     ∷ (widthOk (M .elen) (st .mtype) f otherwise BadWidth)
-    ∷ fitting M st DimensionM
-    ∷ fitting M st DimensionK
-    ∷ fitting M st DimensionN
-    ∷ needs (eqb (st .tileM * st .tileN) 0) (st .marks) (tileAt M a) (st .tileM) (st .tileK) (sew (st .mtype))
-    ∷ needs (eqb (st .tileM * st .tileN) 0) (st .marks) (tileAt M b) (st .tileK) (st .tileN) (sew (st .mtype))
-    ∷ needs false (st .marks) (accAt M d) (st .tileM) (st .tileN) (f * sew (st .mtype)) ∷ []
+    ∷ multiplyReads M f d a b st
 checks M (combine o f d a) st mem =
     typed st
     ∷ (widthOk (M .elen) (st .mtype) f otherwise BadWidth)
@@ -116,3 +120,8 @@ checks M (scale f d a x) st mem =
     ∷ fitting M st DimensionM
     ∷ fitting M st DimensionN
     ∷ needs (isZero x) (st .marks) (accAt M a) (st .tileM) (st .tileN) (sew (st .mtype)) ∷ []
+-- 02, Four: "a SEW other than 32 gets 3"; all else as for mma.mm
+checks M (floatMultiply d a b) st mem =
+    typed st
+    ∷ (eqb (8 * sew (st .mtype)) 32 otherwise BadWidth)
+    ∷ multiplyReads M 1 d a b st

@@ -7,7 +7,7 @@ use Rattle.machine.specs.declared.Answer.{Answer}
 use Rattle.machine.specs.declared.Answer.the-variants.{Done, BadArguments}
 use Rattle.machine.specs.declared.Stepped.{Stepped}
 use Rattle.machine.specs.declared.Instruction.{Instruction}
-use Rattle.machine.specs.declared.Instruction.the-variants.{Illegal, SetTypeImmediate, SetType, SetTileImmediate, SetTile, Load, Store, Multiply, Combine, Scale, ScaleImmediate}
+use Rattle.machine.specs.declared.Instruction.the-variants.{Illegal, SetTypeImmediate, SetType, SetTileImmediate, SetTile, Load, Store, Multiply, Combine, Scale, ScaleImmediate, FloatMultiply}
 use Rattle.machine.specs.declared.Reply.{Reply}
 use Rattle.machine.specs.Answers.{reply, Check, _otherwise_, verdict, isDone}
 use Rattle.machine.specs.Geometry.{Parameters, parameters, State, stateOf, machineAfter, Bench, benchOf, withScalar}
@@ -30,6 +30,7 @@ destination (Multiply factor md ms1 ms2) = 0
 destination (Combine sum factor md ms1) = 0
 destination (Scale factor md ms1 rs2) = 0
 destination (ScaleImmediate factor md ms1 immediate) = 0
+destination (FloatMultiply md ms1 ms2) = 0
 
 -- what a step answers and leaves
 pub record Outcome : Type 0 where

@@ -1,7 +1,7 @@
 -- 02, One: which words get 10, 11, 1 and 12, in its words; and that nothing else moved, but the words that a later request of 02 adds. The proofs stand in proofs/WordRefusals.antt.
 use mathlib.Core.Path.{_≡_}
 use mathlib.Core.Logic.{_↔_}
-use mathlib.Core.Bool.{Bool, true, false, cond}
+use mathlib.Core.Bool.{Bool, true, false, cond, _||_}
 use mathlib.Core.List.{List, [], _∷_, List·Memᴰ}
 use Prim.Native.Nat.{ℕ}
 use lib.Dec.{eqb, ltb}
@@ -51,9 +51,9 @@ WordRefusals = (grant : ℕ → ℕ → ℕ) (word : ℕ) (xs : List ℕ) (B : B
 
 -- ---- nothing else moved
 
--- the entries that became ours with a request of 02: Two, the transposed loads and stores, whose numbers are above 100
+-- the entries that became ours with a request of 02: Two, the transposed loads and stores, whose numbers are above 100; Four, mfma.mm, No. 34
 abbrev pub isAdded : Row → Bool
-isAdded r = ltb 100 (r .code .number)
+isAdded r = ltb 100 (r .code .number) || eqb (r .code .number) 34
 
 -- those that were ours before
 abbrev pub listingBefore : List Row → List Row

@@ -159,6 +159,11 @@ pub enum Instruction {
         ms1: usize,
         immediate: u64,
     },
+    FloatMultiply {
+        md: usize,
+        ms1: usize,
+        ms2: usize,
+    },
 }
 
 // A number that names no row and no column.

@@ -5,7 +5,7 @@ use mathlib.Core.List.{List, _++_}
 use Prim.Native.Nat.{ℕ, _+_, _*_, _/_, _^_, _≤_, _<_}
 use native.Mathlib.Omega.{arith}
 use lib.Dec.{eqb}
-use borrow.Author.Tests.{not-true}
+use borrow.Author.Tests.{not-true, eq-eqb, ne-eqb, le-leb}
 use Rattle.machine.specs.declared.Machine.{Machine}
 use mathlib.Core.Logic.{inl, inr}
 use types.Run.{OneOf}
@@ -20,10 +20,11 @@ use Rattle.machine.specs.Setting.{sew, mill, maccq}
 use Rattle.machine.specs.Refusals.{widthOk}
 use Rattle.machine.proofs.CodeLaws.{arises, verdict-append}
 use Rattle.machine.specs.declared.Answer.{Answer}
+use Rattle.machine.specs.declared.Answer.the-variants.{IllegalType, BadWidth}
 use Rattle.machine.proofs.CheckLaws.{passed, refusals}
 use Rattle.machine.specs.Answers.{Check, verdict, isDone}
 use Rattle.settings.specs.Parts.{legalTypes, Ready}
-use Rattle.operations.specs.Parts.{multiplyChecks, elementwiseChecks}
+use Rattle.operations.specs.Parts.{multiplyChecks, elementwiseChecks, productChecks, floatChecks}
 
 -- ---- the width rule of arithmetic
 
@@ -48,6 +49,20 @@ module _ (t : ℕ) (legal : isIn t legalTypes ≡ true) where
   pub quadruple-ok : maccq t ≡ widthOk elen t 4
   unfolding widthOk sew
   quadruple-ok = by-type (λ t. maccq t ≡ widthOk elen t 4) refl refl refl refl
+
+-- ---- a float multiply
+
+module _ (m : Machine) (marks : List ℕ) (d a b : ℕ) where
+  pub float-type : mill (m .mtype) ≡ true → IllegalType ≡ verdict (floatChecks m marks d a b)
+  float-type h = rw h
+
+  pub float-width : mill (m .mtype) ≡ false → ¬ (sew (m .mtype) ≡ 4) → BadWidth ≡ verdict (floatChecks m marks d a b)
+  float-width h w = rw (h, ne-eqb (8 * sew (m .mtype)) 32 (λ e. w (omega arith)))
+
+  -- at SEW 32 it is refused exactly as a multiply of single width is
+  pub float-rest : mill (m .mtype) ≡ false → sew (m .mtype) ≡ 4 → verdict (productChecks m marks 1 d a b) ≡ verdict (floatChecks m marks d a b)
+  unfolding widthOk
+  float-rest h w = rw (h, eq-eqb (8 * sew (m .mtype)) 32 (ap (λ (x : ℕ). 8 * x) w), le-leb (1 * (8 * sew (m .mtype))) 32 (omega arith))
 
 -- ---- register geometry
 

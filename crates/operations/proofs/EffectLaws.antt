@@ -3,16 +3,18 @@ use mathlib.Core.Path.{_≡_, refl, sym, ap, ap₂, _∙_, subst}
 use mathlib.Core.Bool.{Bool, true, false}
 use mathlib.Core.List.{List, []}
 use Prim.Native.Nat.{ℕ, _+_, _*_, _/_, _≤_, _<_}
+use native.Mathlib.Nat.{one-mul}
+use native.Mathlib.Omega.{arith}
 use lib.Dec.{eqb}
 use lib.IntN.{ℤ, pos}
 use lib.ListN.{length, getD, set}
 use lib.Seq.{set-getD}
-use borrow.Author.Tests.{eqb-true}
+use borrow.Author.Tests.{eqb-true, le-leb}
 use Rattle.width.specs.Upto.{upto}
-use Rattle.width.specs.Tile.{markRow, markTile}
+use Rattle.width.specs.Tile.{putTile, markRow, markTile}
 use Rattle.width.proofs.UptoLaws.{upto-keeps}
 use Rattle.machine.specs.Tests.{all}
-use Rattle.machine.specs.Refusals.{marked}
+use Rattle.machine.specs.Refusals.{marked, widthOk}
 use Rattle.machine.proofs.TestLaws.{all-at}
 use Rattle.machine.specs.declared.Machine.{Machine}
 use Rattle.machine.specs.declared.Sum.{Sum}
@@ -21,18 +23,20 @@ use Rattle.machine.specs.declared.Answer.the-variants.{Done}
 use Rattle.machine.specs.Answers.{verdict, isDone}
 use Rattle.machine.specs.Geometry.{State, stateOf, accAt}
 use Rattle.machine.specs.Setting.{sew, smaller}
-use Rattle.machine.specs.Operation.{Operation, stateAfter}
+use Rattle.machine.specs.Operation.{Operation, floatProductAt, stateAfter}
 use Rattle.machine.specs.Refusals.{checks, isZero}
 use Rattle.machine.specs.Faults.{sound}
-use Rattle.machine.proofs.CheckLaws.{passed}
+use Rattle.machine.proofs.CheckLaws.{Passed, passed}
 use Rattle.machine.proofs.CodeLaws.{only-done}
 use Rattle.machine.proofs.NoFault.{Sound, sound-is}
 use Rattle.machine.proofs.StepLaws.{permitted-lengths}
+use Rattle.element.specs.Bounds.{mostPitch, mostSize, mostTerms}
 use Rattle.element.specs.Element.{Width}
 use Rattle.arithmetic.specs.Effect.{shape, productTile, combineTile, scaleTile}
+use Rattle.floats.specs.Rows.{floatTile}
 use Rattle.arithmetic.proofs.Arms.{multiply-ready, combine-ready, scale-ready}
 use Rattle.settings.specs.Parts.{ours}
-use Rattle.operations.specs.Parts.{MarksReady, WritesRegisters, productChecks, combineChecks, scaleChecks}
+use Rattle.operations.specs.Parts.{MarksReady, WritesRegisters, productChecks, floatChecks, combineChecks, scaleChecks}
 use Rattle.settings.proofs.FaultLaws.{ready}
 
 -- marking what is marked changes nothing
@@ -70,6 +74,31 @@ module _ (m : Machine) (regs marks : List ℕ) (h : sound m regs marks ≡ true)
   done : (o : Operation) → isDone (verdict (checks (ours m) o st [])) ≡ true → (regs′ marks′ : List ℕ)
       → regs′ ≡ stateAfter (ours m) o st [] .regs → marks′ ≡ stateAfter (ours m) o st [] .marks → WritesRegisters m o regs marks [] Done regs′ marks′
   done o d regs′ marks′ er em = record { answer-is = sym (only-done (verdict (checks (ours m) o st [])) d); registers-are = er; marks-are = em }
+
+  -- a float multiply that passed has elements of four bytes
+  module _ (d a b : ℕ) (p : isDone (verdict (floatChecks m marks d a b)) ≡ true) where
+    passes : Passed (floatChecks m marks d a b)
+    passes = passed (floatChecks m marks d a b) refl p
+
+    four : sew (m .mtype) ≡ 4
+    four = let e = eqb-true (8 * sew (m .mtype)) 32 (passes .1 .0) in omega arith
+
+    pub float-asks : (d < 2) × ((a < 8) × (b < 8)) → ((d < 2) × ((a < 8) × (b < 8))) × (((R * P ≤ mostSize) × ((P ≤ mostPitch) × (length regs ≡ 16 * (R * P))))
+        × (((m .«tile_m» ≤ R) × ((m .«tile_k» ≤ R) × (m .«tile_k» ≤ mostTerms))) × ((m .«tile_n» * 4 ≤ P) × (m .«tile_k» * 4 ≤ P))))
+    unfolding widthOk
+    float-asks l =
+        let q = multiply-ready smaller m regs marks [] h 1 d a b l (passes .0, (rw (le-leb (1 * (8 * sew (m .mtype))) 32 (omega (arith, four))), passes .1 .1)) in
+        let t = q .1 .1 .1 .1 .1 in
+        (q .0, (q .1 .0, (t .0, subst (λ (w : ℕ). (m .«tile_n» * w ≤ P) × (m .«tile_k» * w ≤ P)) four (t .1 .1))))
+
+    pub float-loads : (regs′ : List ℕ) → regs′ ≡ floatTile (shape R P) d a b (m .«tile_m») (m .«tile_k») (m .«tile_n») regs
+        → WritesRegisters m (Operation.floatMultiply d a b) regs marks [] Done regs′ marks
+    unfolding floatTile
+    float-loads regs′ er =
+        done (Operation.floatMultiply d a b) p regs′ marks
+        (er ∙ ap (λ (w : ℕ). putTile (accAt (shape R P) d) (m .«tile_m») (m .«tile_n») w (floatProductAt (shape R P) regs w d a b (m .«tile_k»)) regs) (sym four))
+        (subst (λ (w : ℕ). marks ≡ markTile (accAt (ours m) d) (m .«tile_m») (m .«tile_n» * w) marks) (one-mul (sew (m .mtype)))
+        (mark-again marks (accAt (ours m) d) (m .«tile_m») (m .«tile_n» * (1 * sew (m .mtype))) (passes .1 .1 .1 .1 .1 .1 .1 .0)))
 
   -- a width and a factor as the code has them
   module _ (f w f′ : ℕ) (ef : f′ ≡ f) (ew : w ≡ sew (m .mtype)) where

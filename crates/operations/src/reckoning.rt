@@ -1,4 +1,4 @@
-// Multiply, add, subtract, reverse subtract, and multiply by a number: answers 2 to 5, and the effect.
+// Multiply, float multiply, add, subtract, reverse subtract, and multiply by a number: answers 2 to 5, and the effect.
 use super::checks::check_elementwise;
 use super::checks::check_multiply;
 use super::factor_of;
@@ -8,6 +8,7 @@ use machine::Factor;
 use machine::Machine;
 use machine::Matrix;
 use machine::Sum;
+use settings::is_mill;
 use settings::sew_bytes;
 ghost use lib.IntN.{ℤ};
 ghost use mathlib.Core.Path.{_≡_};
@@ -22,7 +23,7 @@ ghost use Rattle.machine.specs.Faults.{sound};
 ghost use Rattle.machine.specs.Refusals.{isZero};
 ghost use Rattle.machine.specs.Operation.{Operation, times};
 ghost use Rattle.settings.specs.Parts.{ours};
-ghost use Rattle.operations.specs.Parts.{multiplyChecks, WritesRegisters, MarksReady, AccumulatorFits, sourceChecks, accumulatorCheck, productChecks, combineChecks, scaleChecks};
+ghost use Rattle.operations.specs.Parts.{multiplyChecks, WritesRegisters, MarksReady, AccumulatorFits, sourceChecks, accumulatorCheck, productChecks, floatChecks, combineChecks, scaleChecks};
 ghost use Rattle.width.specs.Tile.{markTile};
 
 // Answer 5 of a multiply's sources: nothing is read where C has no element.
@@ -127,6 +128,21 @@ fn check_scale(m: Machine, marks: &[u8], factor: Factor, ms1: usize, by_zero: bo
     }
     let width = sew_bytes(m.mtype);
     accumulator_marks(m, marks, ms1, width)
+}
+
+// Answers 2 to 5 of a float multiply: SEW is 32, all else as for a multiply of single width.
+fn check_float(m: Machine, marks: &[u8], md: usize, ms1: usize, ms2: usize) -> Answer
+    requires { ⌜ MarksReady m (now marks) ⌝ }
+    requires { ⌜ (md < 2) × ((ms1 < 8) × (ms2 < 8)) ⌝ }
+    ensures { λ r. ⌜ r ≡ verdict (floatChecks m (now (marks .entry)) md ms1 ms2) ⌝ }
+{
+    if is_mill(m.mtype) {
+        return Answer::IllegalType;
+    }
+    if sew_bytes(m.mtype) != 4 {
+        return Answer::BadWidth;
+    }
+    check_product(m, marks, Factor::Single, md, ms1, ms2)
 }
 
 // Answers 2 to 5, and md += ms1 x ms2. Every byte written was read, so it has its mark already.
@@ -240,5 +256,38 @@ pub fn scale(
         m.tile_n as usize,
     );
     mark_accumulator(m, marks, md, f * w);
+    Answer::Done
+}
+
+// Answers 2 to 5, and md += ms1 x ms2 of binary32 elements. Every byte written was read, so it has its mark already.
+pub fn float_multiply(
+    m: Machine,
+    registers: &mut [u8],
+    marks: &[u8],
+    md: usize,
+    ms1: usize,
+    ms2: usize,
+) -> Answer
+    requires { ⌜ sound m (now registers) (now marks) ≡ true ⌝ }
+    requires { ⌜ (md < 2) × ((ms1 < 8) × (ms2 < 8)) ⌝ }
+    ensures { λ r. ⌜ WritesRegisters m (Operation.floatMultiply md ms1 ms2) (now (registers .entry)) (now (marks .entry)) [] r (now (registers .exit)) (now (marks .entry)) ⌝ }
+{
+    let answer = check_float(m, marks, md, ms1, ms2);
+    if !machine::is_done(answer) {
+        return answer;
+    }
+    let rows = (m.mlen / m.rlen) as usize;
+    let pitch = (m.rlen / 8) as usize;
+    floats::multiply_tile(
+        registers,
+        rows,
+        pitch,
+        md,
+        ms1,
+        ms2,
+        m.tile_m as usize,
+        m.tile_k as usize,
+        m.tile_n as usize,
+    );
     Answer::Done
 }

@@ -4,14 +4,16 @@ use mathlib.Core.Path.{_≡_, refl, sym, ap, ap₂, _∙_, subst}
 use mathlib.Core.Bool.{Bool, true, false, cond}
 use mathlib.Core.List.{List, [], _∷_}
 use Prim.Native.Nat.{ℕ, zero, suc, _*_, _^_, _<_}
-use native.Mathlib.Nat.{mul-pos}
+use native.Mathlib.Nat.{mul-pos, one-mul}
 use native.Mathlib.Omega.{arith}
 use lib.ListN.{length}
 use lib.Dec.{eqb}
 use lib.IntN.{ℤ, pos, negsuc, _+ℤ_, _*ℤ_, *ℤ-zero}
 use borrow.Author.Tests.{ne-eqb}
 use Rattle.width.specs.Reduce.{signed, reduce}
+use Rattle.width.specs.Binary32.{floatProduct}
 use Rattle.width.proofs.ReduceLaws.{sumℤ-cong}
+use Rattle.width.proofs.Binary32Laws.{product-cong}
 use Rattle.machine.specs.declared.Answer.{Answer}
 use Rattle.machine.specs.declared.Answer.the-variants.{Done, BadArguments}
 use Rattle.machine.specs.declared.Machine.{Machine}
@@ -20,13 +22,13 @@ use Rattle.machine.specs.declared.Dimension.the-variants.{DimensionM, Dimension
 use Rattle.machine.specs.declared.Form.{Form}
 use Rattle.machine.specs.declared.Form.the-variants.{Plain, Transposed}
 use Rattle.machine.specs.declared.Instruction.{Instruction}
-use Rattle.machine.specs.declared.Instruction.the-variants.{Illegal, SetTypeImmediate, SetType, SetTileImmediate, SetTile, Load, Store, Multiply, Combine, Scale, ScaleImmediate}
+use Rattle.machine.specs.declared.Instruction.the-variants.{Illegal, SetTypeImmediate, SetType, SetTileImmediate, SetTile, Load, Store, Multiply, Combine, Scale, ScaleImmediate, FloatMultiply}
 use Rattle.machine.specs.Answers.{reply, Check, _otherwise_, verdict, isDone}
 use Rattle.machine.specs.Geometry.{Parameters, parameters, State, machineAfter, Bench, benchOf, registerAt, tileAt, accAt, withScalar}
 use Rattle.machine.specs.Setting.{sew, maximum, sizeIn, smaller}
 use Rattle.machine.specs.Listing.{decode}
 use Rattle.machine.specs.Memory.{rowAt}
-use Rattle.machine.specs.Operation.{Operation, operation, stateAfter, memoryAfter, resultOf, element, written, resized, productAt, sumOf, rowsOf, columnsOf, tileRows, tileCols, memoryRows, memoryCols, placed}
+use Rattle.machine.specs.Operation.{Operation, operation, stateAfter, memoryAfter, resultOf, element, written, resized, productAt, floatProductAt, sumOf, rowsOf, columnsOf, tileRows, tileCols, memoryRows, memoryCols, placed}
 use Rattle.machine.specs.Refusals.{marked, needs, checks, isZero}
 use Rattle.machine.specs.Faults.{sound, soundBench, thirtyTwo}
 use Rattle.machine.specs.Step.{Outcome, outcome, stepBy, given, meant, destination}
@@ -81,6 +83,13 @@ product-same M xs ys wide narrow d s t terms i j e =
     (λ k. signed (256 ^ narrow) (element xs (tileAt M s) narrow i k) *ℤ signed (256 ^ narrow) (element xs (tileAt M t) narrow k j))
     (λ k. signed (256 ^ narrow) (element ys (tileAt M s) narrow i k) *ℤ signed (256 ^ narrow) (element ys (tileAt M t) narrow k j))
     (λ k l. ap₂ (λ (x y : ℕ). signed (256 ^ narrow) x *ℤ signed (256 ^ narrow) y) (e .same-left k l) (e .same-right k l)))
+
+float-same : (M : Parameters) (xs ys : List ℕ) (w d s t terms i j : ℕ) → SameOperands M xs ys w w d s t terms i j
+    → floatProductAt M xs w d s t terms i j ≡ floatProductAt M ys w d s t terms i j
+float-same M xs ys w d s t terms i j e =
+    ap (λ (o : ℕ). floatProduct terms o (λ k. element xs (tileAt M s) w i k) (λ k. element xs (tileAt M t) w k j)) (e .same-old)
+    ∙ product-cong (element ys (accAt M d) w i j) terms (λ k. element xs (tileAt M s) w i k) (λ k. element xs (tileAt M t) w k j)
+    (λ k. element ys (tileAt M s) w i k) (λ k. element ys (tileAt M t) w k j) (e .same-left) (e .same-right)
 
 -- a multiplier of 0 makes 0 of any element; any other is given equal ones
 zero-or-same : (n u v : ℕ) (x : ℤ) → (isZero x ≡ false → u ≡ v) → signed n u *ℤ x ≡ signed n v *ℤ x
@@ -193,6 +202,16 @@ module _ (M : Parameters) (st : State) (ys mem : List ℕ) (a : Agree (st .marks
         ap (reduce (256 ^ (f * v))) (zero-or-same (256 ^ v) (element (st .regs) (accAt M s) v i j) (element ys (accAt M s) v i j) x
         (λ e. read (accAt M s) (st .tileM) (st .tileN) v (isZero x) (p .1 .1 .1 .1 .0) e i j l m)));
   }
+  unseen (Operation.floatMultiply d s t) = record {
+    same-checks = refl;
+    same-result = refl;
+    same-memory = λ p. refl;
+    alike-after = λ p.
+        let q = p .1 .1 .1 .1 .1 in
+        let v = sew (st .mtype) in
+        let hd = subst (λ (w : ℕ). needs false (st .marks) (accAt M d) (st .tileM) (st .tileN) w .holds ≡ true) (one-mul v) (q .1 .1 .0) in
+        wrote (accAt M d) _ _ _ _ _ (λ i j l m. float-same M (st .regs) ys v d s t (st .tileK) i j (operands-same v v d s t (q .0) (q .1 .0) hd i j l m));
+  }
 
 -- an instruction means the same operation
 meant-same : (M : Parameters) (st : State) (ys xs : List ℕ) (i : Instruction) → operation M st xs i ≡ operation M (withRegs st ys) xs i
@@ -207,6 +226,7 @@ meant-same M st ys xs (Multiply factor md ms1 ms2) = refl
 meant-same M st ys xs (Combine sum factor md ms1) = refl
 meant-same M st ys xs (Scale factor md ms1 rs2) = refl
 meant-same M st ys xs (ScaleImmediate factor md ms1 immediate) = refl
+meant-same M st ys xs (FloatMultiply md ms1 ms2) = refl
 
 -- ---- one step
 

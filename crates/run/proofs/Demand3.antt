@@ -45,7 +45,7 @@ use Rattle.run.specs.Places.{next, wordAt}
 use Rattle.run.proofs.PlaceLaws.{rest, before, rest-next, rest-after, placeAfter, length-words}
 use Rattle.run.proofs.BeginLaws.{begins-next}
 use Rattle.run.specs.Plan.{Job, Kept, shape, narrow, wide, formOf, aRow, aColumn, aRows, aColumns}
-use Rattle.run.specs.Start.{format, planned, lying, separate, startChecks, freshRun, noRun, startRun}
+use Rattle.run.specs.Start.{format, kinded, planned, lying, separate, startChecks, freshRun, noRun, startRun}
 use Rattle.run.specs.Turn.{begins, soundRun, handsOut, Ask, ask, Running, Turn, turn, afterTurns, answeredDone}
 use Rattle.run.proofs.HandedLaws.{askWith, turnWith}
 use Rattle.run.proofs.RefusalLaws.{number-done, started-idle}
@@ -413,13 +413,13 @@ module _ (grant : ℕ → ℕ → ℕ) (G : Grants grant) (P : Plan) (B : Bench)
   ready : Passed (startChecks grant P B) → Ready grant P B
   unfolding planned
   ready c =
-      let t = every-each (format (P .sew) (P .factor) ∷ leb (P .m) 1024 ∷ leb (P .k) 1024 ∷ leb (P .n) 1024 ∷ leb (P .kind) 1 ∷ []) (c .1 .0) in
+      let t = every-each (format (P .sew) (P .factor) ∷ leb (P .m) 1024 ∷ leb (P .k) 1024 ∷ leb (P .n) 1024 ∷ kinded P ∷ []) (c .1 .0) in
       record {
         rule = G;
         sane = c .0;
         lengths = sound-is (B .machine) (B .registers) (B .marks) (c .0) .lengths;
         plan = c .1 .0;
-        accepts = accepted grant G P B bytes (sound-is (B .machine) (B .registers) (B .marks) (c .0) .lengths) (t .0) (c .1 .1 .0) (c .1 .1 .1 .0);
+        accepts = accepted grant G P B bytes (sound-is (B .machine) (B .registers) (B .marks) (c .0) .lengths) (t .0) (t .1 .1 .1 .1 .0) (c .1 .1 .0) (c .1 .1 .1 .0);
         formatted = t .0;
         m≤ = leb-true (P .m) 1024 (t .1 .0);
         k≤ = leb-true (P .k) 1024 (t .1 .1 .0);

@@ -19,7 +19,8 @@ use Rattle.run.specs.declared.Plan.{Plan}
 use Rattle.run.specs.declared.Place.{Place}
 use Rattle.run.specs.declared.Place.the-variants.{AtType, AtM, AtN, AtClear, AtK, AtA, AtB, AtMultiply, AtStore, AtEnd}
 use Rattle.run.specs.Words.{Op, sizeM, sizeN, sizeK}
-use Rattle.run.specs.Plan.{Job, Kept, shape, narrow, wide, typeOf, aAt, bAt, cAt, formOf, aRow, aColumn, aRows, aColumns, aOf, bOf, OfC, total, productOf}
+use Rattle.run.specs.Plan.{elementsOf, Job, Kept, shape, narrow, wide, typeOf, aAt, bAt, cAt, formOf, aRow, aColumn, aRows, aColumns, aOf, bOf, OfC, total, productOf}
+use Rattle.run.proofs.NumberLaws.{Suits, multiplyOf}
 
 -- the operation of a step
 abbrev pub operationOf : Plan → Op → Operation
@@ -30,7 +31,7 @@ operationOf P (Op.setN a) = Operation.setSize DimensionN a
 operationOf P Op.clear = Operation.scale (P .factor) 0 0 (pos 0)
 operationOf P (Op.loadA i s) = Operation.load (formOf P) MatrixA 0 (narrow P) (aAt P (aRow P i s) + aColumn P i s * narrow P) (P .a .stride)
 operationOf P (Op.loadB s j) = Operation.load Plain MatrixB 1 (narrow P) (bAt P s + j * narrow P) (P .b .stride)
-operationOf P Op.multiply = Operation.multiply (P .factor) 0 0 1
+operationOf P Op.multiply = multiplyOf (elementsOf P) (P .factor)
 operationOf P (Op.store i j) = Operation.store Plain MatrixC 0 (wide P) (cAt P i + j * wide P) (P .c .stride)
 
 -- what an accepted start says
@@ -46,6 +47,7 @@ pub record Accepted (J : Job) : Type 0 where
   pub width : widthOk (J .machine .elen) (typeOf (J .plan)) (J .plan .factor) ≡ true
   pub c-width : widthOf (J .machine .elen) (typeOf (J .plan)) MatrixC (wide (J .plan)) ≡ true
   pub 0<wide : zero < wide (J .plan)
+  pub suits : Suits (elementsOf (J .plan)) (J .plan .factor) (narrow (J .plan))
   pub bytes : (q : ℕ) → getD (J .memory) q 0 < 256
   pub a-in : inside (length (J .memory)) (J .plan .a .address) (J .plan .a .stride) (aRows (J .plan)) (aColumns (J .plan) * narrow (J .plan)) ≡ true
   pub b-in : inside (length (J .memory)) (J .plan .b .address) (J .plan .b .stride) (J .plan .k) (J .plan .n * narrow (J .plan)) ≡ true
@@ -59,7 +61,7 @@ pub record Accepted (J : Job) : Type 0 where
 
 -- the sum of the first s products of C(i, j): with s = k it is `productOf`
 abbrev pub partial : Job → ℕ → ℕ → ℕ → ℕ
-partial J i j s = total (wide (J .plan)) (narrow (J .plan)) (λ l. aOf J i l) (λ l. bOf J l j) s
+partial J i j s = total (elementsOf (J .plan)) (wide (J .plan)) (narrow (J .plan)) (λ l. aOf J i l) (λ l. bOf J l j) s
 
 pub record Registers (J : Job) (regs marks : List ℕ) : Type 0 where
   pub regs-length : length regs ≡ 16 * (J .machine .rows * J .machine .pitch)

@@ -1,17 +1,18 @@
 -- The tests of a start say what the statement says of bytes, both ways; and an accepted start gives what the turns need.
-use mathlib.Core.Path.{_≡_, refl, sym, subst}
+use mathlib.Core.Path.{_≡_, refl, sym, ap, subst}
 use mathlib.Core.Logic.{_⊎_, inl, inr}
-use mathlib.Core.Bool.{Bool, true, false, not, _||_}
+use mathlib.Core.Bool.{Bool, true, false, cond, not, _||_}
 use mathlib.Core.List.{List, [], _∷_}
 use Prim.Native.Nat.{ℕ, _+_, _*_, _-_, _/_, _≤_, _<_}
 use native.Mathlib.Omega.{arith}
 use lib.ListN.{length}
 use lib.IntN.{ℤ, pos, negsuc, _+ℤ_}
 use lib.Dec.{leb, eqb}
-use borrow.Author.Tests.{leb-true, le-leb, ltb-true, eqb-true, eq-eqb, lt-ltb, not-true}
+use borrow.Author.Tests.{leb-true, le-leb, ltb-true, eqb-true, eqb-false, eq-eqb, lt-ltb, not-true}
 use Rattle.width.specs.Tile.{In}
 use Rattle.width.specs.Blocks.{Grants}
-use Rattle.machine.specs.Tests.{all, within, isIn}
+use Rattle.width.proofs.BlockLaws.{le-or-lt}
+use Rattle.machine.specs.Tests.{all, every, within, isIn}
 use Rattle.machine.proofs.TestLaws.{all-true, all-at, every-each, each-every, within-not, not-within, or-right, false-true}
 use Rattle.machine.specs.Geometry.{elen, Parameters, parameters, permitted}
 use Rattle.machine.specs.Setting.{sew, mill, newType}
@@ -23,8 +24,9 @@ use Rattle.machine.specs.Geometry.{Bench}
 use Rattle.machine.specs.Faults.{soundBench}
 use Rattle.machine.proofs.StepLaws.{permitted-lengths}
 use Rattle.run.specs.declared.Plan.{Plan}
-use Rattle.run.specs.Plan.{narrow, wide, msew, typeOf, aAt, bAt, cAt, aRows, aColumns}
-use Rattle.run.specs.Start.{format, planned, lying, apart, separate}
+use Rattle.run.specs.Plan.{integers, floats, elementsOf, narrow, wide, msew, typeOf, aAt, bAt, cAt, aRows, aColumns}
+use Rattle.run.specs.Start.{format, kinded, planned, lying, apart, separate}
+use Rattle.run.proofs.NumberLaws.{Suits}
 use Rattle.run.proofs.WordLaws.{formats}
 use Rattle.run.proofs.Invariant.{Accepted}
 use Rattle.run.specs.Statement.{Numbers, Lies, Inside, Separate, jobOf, Bytes}
@@ -155,7 +157,38 @@ module _ (P : Plan) where
   formats-of = isIn (P .sew) (8 ∷ 16 ∷ 32 ∷ []) ∷ isIn (P .factor) (1 ∷ 2 ∷ 4 ∷ []) ∷ leb (P .factor * P .sew) elen ∷ []
 
   abbrev sizes-of : List Bool
-  sizes-of = format (P .sew) (P .factor) ∷ leb (P .m) 1024 ∷ leb (P .k) 1024 ∷ leb (P .n) 1024 ∷ leb (P .kind) 1 ∷ []
+  sizes-of = format (P .sew) (P .factor) ∷ leb (P .m) 1024 ∷ leb (P .k) 1024 ∷ leb (P .n) 1024 ∷ kinded P ∷ []
+
+  -- the kind, by the two ways that its test goes
+  kind-is : kinded P ≡ true → (P .kind ≤ 2) × (P .kind ≡ 2 → (P .sew ≡ 32) × (P .factor ≡ 1))
+  unfolding kinded
+  kind-is = go (eqb (P .kind) 2) refl
+    where
+      go : (t : Bool) → eqb (P .kind) 2 ≡ t → cond t (every (eqb (P .sew) 32 ∷ eqb (P .factor) 1 ∷ [])) (leb (P .kind) 1) ≡ true
+          → (P .kind ≤ 2) × (P .kind ≡ 2 → (P .sew ≡ 32) × (P .factor ≡ 1))
+      go true e h =
+          let c = every-each (eqb (P .sew) 32 ∷ eqb (P .factor) 1 ∷ []) h in
+          (omega (arith, eqb-true (P .kind) 2 e), λ k. (eqb-true (P .sew) 32 (c .0), eqb-true (P .factor) 1 (c .1 .0)))
+      go false e h = (omega (arith, leb-true (P .kind) 1 h), λ k. absurd (eqb-false (P .kind) 2 e k))
+
+  is-kind : P .kind ≤ 2 → (P .kind ≡ 2 → (P .sew ≡ 32) × (P .factor ≡ 1)) → kinded P ≡ true
+  unfolding kinded
+  is-kind l f = go (eqb (P .kind) 2) refl
+    where
+      go : (t : Bool) → eqb (P .kind) 2 ≡ t → cond t (every (eqb (P .sew) 32 ∷ eqb (P .factor) 1 ∷ [])) (leb (P .kind) 1) ≡ true
+      go true e = let c = f (eqb-true (P .kind) 2 e) in rw (eq-eqb (P .sew) 32 (c .0), eq-eqb (P .factor) 1 (c .1))
+      go false e = let d = eqb-false (P .kind) 2 e in le-leb (P .kind) 1 (below d)
+        where
+          below : ¬ (P .kind ≡ 2) → P .kind ≤ 1
+          below d = elim (le-or-lt 2 (P .kind)) [ inl g ↦ absurd (d (omega arith)) | inr g ↦ omega arith ]
+
+  suits-of : kinded P ≡ true → Suits (elementsOf P) (P .factor) (narrow P)
+  unfolding narrow
+  suits-of h = go (eqb (P .kind) 2) refl
+    where
+      go : (t : Bool) → eqb (P .kind) 2 ≡ t → Suits (cond t floats integers) (P .factor) (P .sew / 8)
+      go true e = let c = kind-is h .1 (eqb-true (P .kind) 2 e) in (c .1, ap (λ (s : ℕ). s / 8) (c .0))
+      go false e = tt
 
   pub numbers-are : (B : Bench) → soundBench B ≡ true → planned P ≡ true → Numbers P B
   unfolding planned format
@@ -170,22 +203,23 @@ module _ (P : Plan) where
         m-fits = leb-true (P .m) 1024 (t .1 .0);
         k-fits = leb-true (P .k) 1024 (t .1 .1 .0);
         n-fits = leb-true (P .n) 1024 (t .1 .1 .1 .0);
-        kind-fits = leb-true (P .kind) 1 (t .1 .1 .1 .1 .0);
+        kind-fits = kind-is (t .1 .1 .1 .1 .0) .0;
+        float-fits = kind-is (t .1 .1 .1 .1 .0) .1;
       }
 
   pub numbers-planned : (B : Bench) → Numbers P B → planned P ≡ true
   unfolding planned format
   numbers-planned B n = each-every sizes-of (
     each-every formats-of (of-one (P .sew) 8 16 32 (n .sew-is), (of-one (P .factor) 1 2 4 (n .factor-is), (le-leb (P .factor * P .sew) elen (n .width-fits), tt))),
-    (le-leb (P .m) 1024 (n .m-fits), (le-leb (P .k) 1024 (n .k-fits), (le-leb (P .n) 1024 (n .n-fits), (le-leb (P .kind) 1 (n .kind-fits), tt)))),
+    (le-leb (P .m) 1024 (n .m-fits), (le-leb (P .k) 1024 (n .k-fits), (le-leb (P .n) 1024 (n .n-fits), (is-kind (n .kind-fits) (n .float-fits), tt)))),
   )
 
 -- ---- what the turns need
 
 pub accepted : (grant : ℕ → ℕ → ℕ) → Grants grant → (P : Plan) (B : Bench) → Bytes (B .memory) → permitted (B .machine .rlen) (B .machine .mlen) ≡ true
-    → format (P .sew) (P .factor) ≡ true → lying P (B .memory) ≡ true → separate (parameters grant (B .machine)) P ≡ true → Accepted (jobOf grant P B)
+    → format (P .sew) (P .factor) ≡ true → kinded P ≡ true → lying P (B .memory) ≡ true → separate (parameters grant (B .machine)) P ≡ true → Accepted (jobOf grant P B)
 unfolding narrow msew typeOf lying separate
-accepted grant G P B bytes lengths formatted l d =
+accepted grant G P B bytes lengths formatted kind l d =
     let n = permitted-lengths (B .machine .rlen) (B .machine .mlen) lengths in
     let f = formats (P .sew) (P .factor) formatted .0 in
     let t = every-each (insides P (B .memory)) l in
@@ -202,6 +236,7 @@ accepted grant G P B bytes lengths formatted l d =
       width = f .1 .1 .1 .0;
       c-width = f .1 .1 .1 .1 .1 .1 .1 .0;
       0<wide = ltb-true 0 (wide P) (f .1 .1 .1 .1 .0);
+      suits = suits-of P kind;
       bytes = bytes .below;
       a-in = t .0;
       b-in = t .1 .0;

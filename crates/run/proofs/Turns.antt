@@ -28,7 +28,7 @@ use Rattle.machine.specs.Refusals.{widthOk, widthOf}
 use Rattle.machine.specs.Memory.{rowAt, inside, distinct, unsealed}
 use Rattle.machine.proofs.StoreLaws.{at-distinct, stored-puts}
 use Rattle.machine.proofs.MemoryLaws.{inside-at, block-inside, block-rowAt, clear-part, unsealed-at, unsealed-true}
-use Rattle.machine.specs.Operation.{Operation, memoryRows, memoryCols, placed, element, product, stateAfter, memoryAfter}
+use Rattle.machine.specs.Operation.{Operation, memoryRows, memoryCols, placed, element, written, stateAfter, memoryAfter}
 use Rattle.machine.specs.Refusals.{marked, checks}
 use Rattle.run.specs.declared.Plan.{Plan}
 use Rattle.run.specs.declared.Place.{Place}
@@ -36,8 +36,8 @@ use Rattle.run.specs.declared.Place.the-variants.{AtType, AtM, AtN, AtCl
 use Rattle.run.specs.Words.{Op, Shape, sizeM, sizeN, sizeK}
 use Rattle.run.specs.Places.{next, headM, headN, headK}
 use Rattle.run.proofs.PlaceLaws.{Sound}
-use Rattle.run.proofs.NumberLaws.{total-small, product-small, cleared, total-more}
-use Rattle.run.specs.Plan.{Job, Kept, shape, narrow, wide, typeOf, aAt, bAt, cAt, formOf, aRow, aColumn, aOf, bOf, OfC}
+use Rattle.run.proofs.NumberLaws.{Suits, multiplyOf, productBy, multiply-passes, multiply-leaves, multiply-memory, total-small, product-small, cleared, total-more}
+use Rattle.run.specs.Plan.{Elements, elementsOf, Job, Kept, shape, narrow, wide, typeOf, aAt, bAt, cAt, formOf, aRow, aColumn, aOf, bOf, OfC}
 use Rattle.run.proofs.FormLaws.{block-in}
 use Rattle.run.proofs.Invariant.{operationOf, Accepted, partial, Registers, RowsDone, ColsDone, Holds, HoldsC, InM, InN, InBlock, InK, InTerms, At}
 
@@ -270,7 +270,7 @@ module _ (J : Job) (A : Accepted J) where
         holds-c = rw (h .in-n .tile-m, h .tile-n, w-is i j st mem h) (
             holds (accAt M 0) (8 * (R * L)) (4 * L) (sizeM S i) (sizeN S j) W (λ r c. reduce (256 ^ W) (old r c *ℤ pos 0)) (λ r c. partial J (i + r) (j + c) 0) (st .regs) (st .marks)
             (λ r. omega arith) (n-wide j (h .j<n)) (omega (arith, acc-fits i j st mem h, regs-ok .regs-length)) (omega (arith, acc-fits i j st mem h, regs-ok .marks-length))
-            (λ r c l l′. cleared W e _ _ (old r c)));
+            (λ r c l l′. cleared (P .factor) e (elementsOf P) _ _ (old r c)));
       }))
 
   -- ---- loads
@@ -414,19 +414,21 @@ module _ (J : Job) (A : Accepted J) where
 
   pub turn-multiply : (i j s : ℕ) (st : State) (mem : List ℕ) → At J (AtMultiply i j s) st mem → Turned (AtMultiply i j s) (operationOf P Op.multiply) st mem
   turn-multiply i j s st mem (h, ha, hb) =
-      let o : Operation = operationOf P Op.multiply in
-      let st′ : State = stateAfter M o st mem in
+      let q : Elements = elementsOf P in
+      let f : ℕ = P .factor in
       let blk : InBlock J i j st mem = h .in-k .in-block in
       let regs-ok = blk .in-n .in-m .registers in
       let k′ = size-k s (h .s<k) in
-      let value : ℕ → ℕ → ℕ = λ r c. product W e (sizeK S s) (element (st .regs) (accAt M 0) W r c) (λ l. element (st .regs) (tileAt M 0) e r l) (λ l. element (st .regs) (tileAt M 1) e l c) in
+      let suits : Suits q f (sew (st .mtype)) = subst (Suits q f) (sym (e-is i j st mem blk)) (A .suits) in
+      let value : (w n t : ℕ) → ℕ → ℕ → ℕ = λ w n t r c. productBy q w n t (element (st .regs) (accAt M 0) w r c) (λ l. element (st .regs) (tileAt M 0) n r l) (λ l. element (st .regs) (tileAt M 1) n l c) in
+      let st′ : State = written st (accAt M 0) (st .tileM) (st .tileN) (f * sew (st .mtype)) (value (f * sew (st .mtype)) (sew (st .mtype)) (st .tileK)) in
       let mark-a : marked (st .marks) (tileAt M 0) (st .tileM) (st .tileK * sew (st .mtype)) ≡ true =
       rw (blk .in-n .tile-m, h .tile-k, e-is i j st mem blk) (marked-true (st .marks) (tileAt M 0) (sizeM S i) (sizeK S s * e) (ha .written)) in
       let mark-b : marked (st .marks) (tileAt M 1) (st .tileK) (st .tileN * sew (st .mtype)) ≡ true =
       rw (h .tile-k, blk .tile-n, e-is i j st mem blk) (marked-true (st .marks) (tileAt M 1) (sizeK S s) (sizeN S j * e) (hb .written)) in
-      let mark-c : marked (st .marks) (accAt M 0) (st .tileM) (st .tileN * (P .factor * sew (st .mtype))) ≡ true =
+      let mark-c : marked (st .marks) (accAt M 0) (st .tileM) (st .tileN * (f * sew (st .mtype))) ≡ true =
       rw (blk .in-n .tile-m, blk .tile-n, w-is i j st mem blk) (marked-true (st .marks) (accAt M 0) (sizeM S i) (sizeN S j * W) (h .in-k .holds-c .written)) in
-      done (AtMultiply i j s) o st mem (
+      let passes : Passed (checks M (Operation.multiply f 0 0 1) st mem) = (
         no-mill st (typed i j st mem blk),
         (
           ok-w i j st mem blk,
@@ -441,16 +443,20 @@ module _ (J : Job) (A : Accepted J) where
             ),
           ),
         ),
-      )
-      (open-k i j (s + sizeK S s) st′ mem (record {
+      ) in
+      let after : At J (headK S i j (s + sizeK S s)) st′ mem = open-k i j (s + sizeK S s) st′ mem (record {
         in-block = carry-b i j st st′ mem blk (registers-still _ _ _ _ _ _ _ regs-ok) refl refl refl;
         s≤k = omega arith;
         holds-c = rw (blk .in-n .tile-m, blk .tile-n, h .tile-k, w-is i j st mem blk, e-is i j st mem blk) (
-            holds (accAt M 0) (8 * (R * L)) (4 * L) (sizeM S i) (sizeN S j) W value (λ r c. partial J (i + r) (j + c) (s + sizeK S s)) (st .regs) (st .marks)
+            holds (accAt M 0) (8 * (R * L)) (4 * L) (sizeM S i) (sizeN S j) W (value W e (sizeK S s)) (λ r c. partial J (i + r) (j + c) (s + sizeK S s)) (st .regs) (st .marks)
             (λ r. omega arith) (n-wide j (blk .j<n)) (omega (arith, acc-fits i j st mem blk, regs-ok .regs-length)) (omega (arith, acc-fits i j st mem blk, regs-ok .marks-length))
-            (λ r c l l′. product-small W e (sizeK S s) (element (st .regs) (accAt M 0) W r c) (λ t. element (st .regs) (tileAt M 0) e r t) (λ t. element (st .regs) (tileAt M 1) e t c) ∙ total-more W e (λ l. aOf J (i + r) l) (λ l. bOf J l (j + c)) s (sizeK S s) (element (st .regs) (accAt M 0) W r c) (λ t. element (st .regs) (tileAt M 0) e r t) (λ t. element (st .regs) (tileAt M 1) e t c)
+            (λ r c l l′. product-small f e q (A .suits) (sizeK S s) (element (st .regs) (accAt M 0) W r c) (λ t. element (st .regs) (tileAt M 0) e r t) (λ t. element (st .regs) (tileAt M 1) e t c)
+            ∙ total-more f e q (λ l. aOf J (i + r) l) (λ l. bOf J l (j + c)) s (sizeK S s) (element (st .regs) (accAt M 0) W r c) (λ t. element (st .regs) (tileAt M 0) e r t) (λ t. element (st .regs) (tileAt M 1) e t c)
             (h .in-k .holds-c .values r c l l′) (λ t g. ha .values r t l g) (λ t g. hb .values t c g l′)));
-      }))
+      }) in
+      done (AtMultiply i j s) (multiplyOf q f) st mem (multiply-passes M st mem f q suits passes)
+      (subst (λ (m : List ℕ). At J (headK S i j (s + sizeK S s)) (stateAfter M (multiplyOf q f) st mem) m) (sym (multiply-memory M st mem f q))
+      (subst (λ (z : State). At J (headK S i j (s + sizeK S s)) z mem) (sym (multiply-leaves M st mem f q suits)) after))
 
   -- ---- store
 
@@ -551,7 +557,7 @@ module _ (J : Job) (A : Accepted J) where
             (omega (arith, width≤, blk .in-n .in-m .kept .same-length, inside-at (length (J .memory)) (P .c .address) (P .c .stride) (P .m) (P .n * W) (A .c-in) (mul-pos {m = P .n} (omega (arith, blk .j<n)) (A .0<wide)) (i + r) (omega (arith, bound-m, blk .in-n .i<m)) .1))
             c′ g (λ k g′ d q x y. A .c-rows (i + r) (i + k) q (omega arith) (omega (arith, bound-m, blk .in-n .i<m)) (in-c r q x) (in-c k q y))
             ∙ ap (λ (v : ℕ). v % 256 ^ W) (h .holds-c .values r c′ l g)
-            ∙ total-small W e _ _ (P .k)
+            ∙ total-small (P .factor) e (elementsOf P) (A .suits) _ _ (P .k)
 
         split : (j ≤ c) ⊎ (c < j) → element (storedBy i j (st .regs) mem) (cAt P) W (i + r) c ≡ partial J (i + r) c (P .k)
         split (inl g) =

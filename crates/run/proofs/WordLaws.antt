@@ -17,7 +17,7 @@ use Rattle.machine.specs.declared.Dimension.the-variants.{DimensionM, Dimension
 use Rattle.machine.specs.declared.Factor.{Factor}
 use Rattle.machine.specs.declared.Factor.the-variants.{Single, Double, Quadruple}
 use Rattle.machine.specs.declared.Instruction.{Instruction}
-use Rattle.machine.specs.declared.Instruction.the-variants.{SetTypeImmediate, SetTileImmediate, Load, Store, Multiply, ScaleImmediate}
+use Rattle.machine.specs.declared.Instruction.the-variants.{SetTypeImmediate, SetTileImmediate, Load, Store, Multiply, ScaleImmediate, FloatMultiply}
 use Rattle.machine.specs.Tests.{every, isIn}
 use Rattle.machine.proofs.TestLaws.{Each, every-each, each, each-in, or-not}
 use Rattle.machine.specs.Geometry.{Parameters, State, elen}
@@ -32,9 +32,10 @@ use Rattle.run.specs.declared.Layout.{Layout}
 use Rattle.run.specs.declared.Plan.{Plan}
 use Rattle.run.specs.declared.Handed.{Handed}
 use Rattle.run.specs.Words.{Op}
-use Rattle.run.specs.Plan.{narrow, wide, msew, typeOf, aAt, bAt, cAt, formOf, aRow, aColumn}
+use Rattle.run.specs.Plan.{Elements, integers, floats, elementsOf, narrow, wide, msew, typeOf, aAt, bAt, cAt, formOf, aRow, aColumn}
 use Rattle.run.specs.Start.{format}
-use Rattle.run.specs.Encoding.{settingWord, memoryWord, arithmeticWord, log, own, startOf, loadCode, handedFor}
+use Rattle.run.specs.Encoding.{settingWord, memoryWord, arithmeticWord, log, own, plain, startOf, loadCode, multiplyWord, handedFor}
+use Rattle.run.proofs.NumberLaws.{multiplyOf}
 use Rattle.run.proofs.Invariant.{operationOf}
 
 -- ---- settings
@@ -98,6 +99,10 @@ pub record Factored (f : ℕ) : Type 0 where
   pub is : times factor ≡ f
   pub multiplies : decode (arithmeticWord (log f) 1) ≡ Multiply factor 0 0 1
   pub clears : decode (arithmeticWord (16 + log f) 0) ≡ ScaleImmediate factor 0 0 0
+
+pub decode-float : decode (multiplyWord floats 1) ≡ FloatMultiply 0 0 1
+unfolding decode listing
+decode-float = refl
 
 abbrev EachOf : List ℕ → (ℕ → Type 0) → Type 0
 EachOf [] Q = Unit {0}
@@ -230,11 +235,15 @@ module _ (M : Parameters) (P : Plan) (ok : format (P .sew) (P .factor) ≡ true)
   }
 
   pub reads-multiply : Reads M st (handedFor P Op.multiply) (operationOf P Op.multiply)
-  reads-multiply = record {
-    instruction = Multiply (of-factor .factor) 0 0 1;
-    decodes = of-factor .multiplies;
-    means = ap (λ (f : ℕ). Operation.multiply f 0 0 1) (of-factor .is);
-  }
+  reads-multiply = by (elementsOf P)
+    where
+      by : (q : Elements) → Reads M st (plain (multiplyWord q (P .factor))) (multiplyOf q (P .factor))
+      by integers = record {
+        instruction = Multiply (of-factor .factor) 0 0 1;
+        decodes = of-factor .multiplies;
+        means = ap (λ (f : ℕ). Operation.multiply f 0 0 1) (of-factor .is);
+      }
+      by floats = record { instruction = FloatMultiply 0 0 1; decodes = decode-float; means = refl }
 
   pub reads-a : (i s : ℕ) → rowZ (P .a .address) (P .a .stride) (aRow P i s) ≡ pos (aAt P (aRow P i s)) → aAt P (aRow P i s) + aColumn P i s * narrow P < 2 ^ 64
       → Reads M st (handedFor P (Op.loadA i s)) (operationOf P (Op.loadA i s))

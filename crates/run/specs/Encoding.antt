@@ -13,7 +13,7 @@ use Rattle.run.specs.declared.Layout.{Layout}
 use Rattle.run.specs.declared.Plan.{Plan}
 use Rattle.run.specs.declared.Handed.{Handed}
 use Rattle.run.specs.Words.{Op}
-use Rattle.run.specs.Plan.{narrow, wide, msew, typeOf, formOf, aRow, aColumn}
+use Rattle.run.specs.Plan.{Elements, integers, floats, elementsOf, narrow, wide, msew, typeOf, formOf, aRow, aColumn}
 use mathlib.Core.List.{map}
 use Rattle.run.specs.Words.{words}
 use Rattle.run.specs.Plan.{Job, shape}
@@ -50,8 +50,13 @@ abbrev pub loadCode : Form → ℕ
 loadCode Plain = 0b0000010
 loadCode Transposed = 0b0001010
 
+-- mma, mwma or mqma of tr0 and tr1 to acc0; of a float run mfma, whose code is that of mma with bit 25 set
+abbrev pub multiplyWord : Elements → (factor : ℕ) → ℕ
+multiplyWord integers factor = arithmeticWord (log factor) 1
+multiplyWord floats factor = arithmeticWord 0 1 + 2 ^ 25
+
 -- msettypei, msettilemi, msettileki, msettileni; memulc.mi, mwemulc.mi or mqemulc.mi with immediate 0 ("the clear names acc0 as md
--- and ms1"); mlae, or mlate by the kind, to tr0; mlbe to tr1; mma, mwma or mqma of tr0 and tr1 to acc0; msce of acc0 at f x SEW
+-- and ms1"); mlae, or mlate by the kind, to tr0; mlbe to tr1; the multiply by the kind; msce of acc0 at f x SEW
 abbrev pub handedFor : Plan → Op → Handed
 handedFor P Op.setType = plain (settingWord 0b0000 (typeOf P))
 handedFor P (Op.setM a) = plain (settingWord 0b0010 a)
@@ -64,7 +69,7 @@ handedFor P (Op.loadA i s) = record {
   stride = P .a .stride;
 }
 handedFor P (Op.loadB s j) = record { word = memoryWord 0b0000100 (msew P) 1; address = startOf (P .b) s (j * narrow P); stride = P .b .stride }
-handedFor P Op.multiply = plain (arithmeticWord (log (P .factor)) 1)
+handedFor P Op.multiply = plain (multiplyWord (elementsOf P) (P .factor))
 handedFor P (Op.store i j) = record { word = memoryWord 0b0000001 (msew P + log (P .factor)) 0; address = startOf (P .c) i (j * wide P); stride = P .c .stride }
 
 -- "Otherwise the words are: msettypei; for each block of rows msettilemi; .."

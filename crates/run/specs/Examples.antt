@@ -1,13 +1,15 @@
--- Starts that are refused and places that hand out nothing, with their neighbours, and a run that keeps A transposed, computed: MLEN
--- 128, RLEN 64, a memory of 64 bytes.
+-- Starts that are refused and places that hand out nothing, with their neighbours, a run that keeps A transposed and a float run,
+-- computed: MLEN 128, RLEN 64, a memory of 64 bytes.
 use mathlib.Core.Path.{_≡_, refl}
 use mathlib.Core.List.{List, [], _∷_, _++_, map}
 use Prim.Native.Nat.{ℕ, _-_, _^_}
 use lib.ListN.{replicate}
+use lib.Ieee as Ieee
 use lib.IntN.{pos, negsuc}
 use Rattle.width.specs.Reduce.{reduce}
 use Rattle.width.specs.Tile.{putTile, putRow, putLe, markTile, markRow}
 use Rattle.width.specs.Blocks.{chunks}
+use Rattle.width.specs.Binary32.{valueOf, settled, multiplyAdd, floatSum, floatProduct}
 use Rattle.machine.specs.Geometry.{permitted}
 use Rattle.machine.specs.Setting.{smaller, newType, legalType, sew}
 use Rattle.machine.specs.Memory.{inside, misses, rowsMiss, distinct, stored}
@@ -22,10 +24,10 @@ use Rattle.run.specs.declared.Plan.{Plan}
 use Rattle.run.specs.declared.Place.{Place}
 use Rattle.run.specs.declared.Place.the-variants.{AtType, AtM, AtN, AtMultiply, AtStore, AtEnd}
 use Rattle.run.specs.declared.Handed.{Handed}
-use Rattle.run.specs.Words.{loadA}
+use Rattle.run.specs.Words.{loadA, multiply}
 use Rattle.run.specs.Plan.{narrow, msew, typeOf, cAt}
 use Rattle.run.specs.Encoding.{handedFor}
-use Rattle.run.specs.Start.{startRun, format, planned, lying, apart, separate}
+use Rattle.run.specs.Start.{startRun, format, kinded, planned, lying, apart, separate}
 use Rattle.run.specs.Turn.{soundRun, ask, Running, afterTurns, answeredDone}
 
 -- a sound machine with a seal, or one at fault for its mtype
@@ -94,7 +96,7 @@ examples =
     ∷ gives (bench 0 17 0) (small (layout 0 2) (layout 8 2) (layout 16 2)) 0
     -- C's rows may lie in the gaps of A; A and B may share bytes; sealed bytes may be read
     ∷ gives (bench 0 0 10) (small (layout 0 8) (layout 0 8) (layout 10 4)) 0
-    -- of kind 1, A is 3 rows of 1 element, not 1 row of 3: 6 and 9. There is no kind 2
+    -- of kind 1, A is 3 rows of 1 element, not 1 row of 3: 6 and 9
     ∷ gives free (dot 61 16) 0
     ∷ gives free (ofKind 1 (dot 61 16)) 6
     ∷ gives free (ofKind 1 (dot 59 16)) 0
@@ -102,11 +104,15 @@ examples =
     ∷ gives free (ofKind 1 (dot 12 13)) 0
     ∷ gives free (dot 12 16) 0
     ∷ gives free (ofKind 1 (dot 12 16)) 9
-    ∷ gives free (ofKind 2 (dot 59 16)) 8
+    -- of kind 2, SEW is 32 and f is 1; there is no kind 3
+    ∷ gives free (ofKind 2 (plan 32 1 1 1 1 (layout 0 4) (layout 8 4) (layout 16 4))) 0
+    ∷ gives free (ofKind 2 (plan 16 1 1 1 1 (layout 0 4) (layout 8 4) (layout 16 4))) 8
+    ∷ gives free (ofKind 2 (plan 16 2 1 1 1 (layout 0 4) (layout 8 4) (layout 16 4))) 8
+    ∷ gives free (ofKind 3 (plan 32 1 1 1 1 (layout 0 4) (layout 8 4) (layout 16 4))) 8
     ∷ []
 
 pub starts : map (λ l. l .got) examples ≡ map (λ l. l .want) examples
-unfolding examples bench layout plan ofKind dot gives free small permitted newType legalType sew inside misses rowsMiss distinct sound narrow msew typeOf startRun format planned lying apart separate
+unfolding examples bench layout plan ofKind dot gives free small permitted newType legalType sew inside misses rowsMiss distinct sound narrow msew typeOf startRun format kinded planned lying apart separate
 starts = refl
 
 -- ---- asking
@@ -136,7 +142,7 @@ places =
     ∷ []
 
 pub asked-at : map (λ l. l .got) places ≡ map (λ l. l .want) places
-unfolding places asks layout plan permitted sew msew typeOf format planned soundRun chunks
+unfolding places asks layout plan permitted sew msew typeOf format kinded planned soundRun chunks
 asked-at = refl
 
 -- ---- A kept transposed
@@ -169,5 +175,39 @@ after t i j = element (afterTurns smaller counted t .bench .memory) (cAt columns
 
 pub product-is : answeredDone smaller counted 15 ∷ after 13 0 0 ∷ after 13 0 1 ∷ after 13 1 0 ∷ after 13 1 1 ∷ []
     ≡ 13 ∷ reduce (256 ^ 4) (pos 58) ∷ reduce (256 ^ 4) (pos 64) ∷ reduce (256 ^ 4) (negsuc 48) ∷ reduce (256 ^ 4) (negsuc 53) ∷ []
-unfolding columns counted after ofKind plan layout free bench permitted sew newType legalType widthOk widthOf inside misses rowsMiss distinct stored marked listing decode sound stepBy outcome narrow msew typeOf startRun soundRun format planned lying apart separate chunks putTile putRow putLe markTile markRow reduce
+unfolding columns counted after ofKind plan layout free bench permitted sew newType legalType widthOk widthOf inside misses rowsMiss distinct stored marked listing decode sound stepBy outcome narrow msew typeOf startRun soundRun format kinded planned lying apart separate chunks putTile putRow putLe markTile markRow reduce
 product-is = refl
+
+-- ---- a float run
+
+-- the multiply: mma.mm and mfma.mm of tr0 and tr1 to acc0
+pub multiplied : ℕ → ℕ
+multiplied kind = handedFor (ofKind kind (plan 32 1 2 3 2 (layout 0 12) (layout 24 8) (layout 48 8))) multiply .word
+
+pub multiplies : multiplied 0 ∷ multiplied 2 ∷ [] ≡ 0x00106077 ∷ 0x02106077 ∷ []
+unfolding multiplied ofKind plan layout
+multiplies = refl
+
+-- A is 1.5, 2, -3 and 0.1, 2^24, 1; B is 2, -0 and 4, 1 and 0.5, a NaN; its terms go in two blocks. 0.1 x 2 + 2^24 x 4 is 2^26, the 0.5
+-- after it is lost
+pub numbers : Plan
+numbers = ofKind 2 (plan 32 1 2 3 2 (layout 0 12) (layout 24 8) (layout 48 8))
+
+pub entered : Running
+entered =
+    let B : Bench = record {
+      machine = free .machine;
+      registers = free .registers;
+      marks = free .marks;
+      memory = 0 ∷ 0 ∷ 192 ∷ 63 ∷ 0 ∷ 0 ∷ 0 ∷ 64 ∷ 0 ∷ 0 ∷ 64 ∷ 192 ∷ 205 ∷ 204 ∷ 204 ∷ 61 ∷ 0 ∷ 0 ∷ 128 ∷ 75 ∷ 0 ∷ 0 ∷ 128 ∷ 63
+          ∷ 0 ∷ 0 ∷ 0 ∷ 64 ∷ 0 ∷ 0 ∷ 0 ∷ 128 ∷ 0 ∷ 0 ∷ 128 ∷ 64 ∷ 0 ∷ 0 ∷ 128 ∷ 63 ∷ 0 ∷ 0 ∷ 0 ∷ 63 ∷ 52 ∷ 18 ∷ 192 ∷ 255 ∷ replicate 16 99;
+    } in
+    record { run = startRun smaller numbers B .run; bench = B }
+
+pub float-after : ℕ → ℕ → ℕ → ℕ
+float-after t i j = element (afterTurns smaller entered t .bench .memory) (cAt numbers) 4 i j
+
+pub floats-are : answeredDone smaller entered 15 ∷ float-after 13 0 0 ∷ float-after 13 0 1 ∷ float-after 13 1 0 ∷ float-after 13 1 1 ∷ []
+    ≡ 13 ∷ 0x41180000 ∷ 0x7FC00000 ∷ 0x4C800000 ∷ 0x7FC00000 ∷ []
+unfolding numbers entered float-after ofKind plan layout free bench permitted sew newType legalType widthOk widthOf inside misses rowsMiss marked listing decode sound stepBy outcome narrow msew typeOf startRun soundRun format kinded planned lying distinct stored apart separate chunks putTile putRow putLe markTile markRow reduce valueOf settled multiplyAdd floatSum floatProduct Ieee.add Ieee.mul Ieee.ofBits Ieee.toBits
+floats-are = refl

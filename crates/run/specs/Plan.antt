@@ -7,6 +7,7 @@ use lib.ListN.{length, getD}
 use lib.Dec.{eqb}
 use lib.IntN.{_*ℤ_}
 use Rattle.width.specs.Reduce.{signed, reduce, sumℤ}
+use Rattle.width.specs.Binary32.{valueOf, settled, floatSum, plusZero}
 use Rattle.width.specs.Tile.{In}
 use Rattle.machine.specs.declared.Form.{Form}
 use Rattle.machine.specs.declared.Form.the-variants.{Plain, Transposed}
@@ -45,6 +46,14 @@ cAt P i = rowAt (P .c .address) (P .c .stride) i
 abbrev pub formOf : Plan → Form
 formOf P = cond (eqb (P .kind) 1) Transposed Plain
 
+-- 02, Four: "A float product run is the integer run at f = 1 with this multiply": that of kind 2, whose elements are binary32 numbers
+pub data Elements : Type 0 where
+  integers : Elements
+  floats : Elements
+
+abbrev pub elementsOf : Plan → Elements
+elementsOf P = cond (eqb (P .kind) 2) floats integers
+
 -- where element (i, l) of A is kept: row i, element l; "A(i, l) is element i of row l in memory" where A is kept transposed
 abbrev pub aRow : Plan → ℕ → ℕ → ℕ
 aRow P i l = memoryRows (formOf P) i l
@@ -77,9 +86,11 @@ shape J = record {
   n = J .plan .n;
 }
 
--- the sum of the first s of the products a(l) x b(l) of residues, signed, reduced to `wide` bytes in two's complement
-unfoldable pub total : (wide narrow : ℕ) → (a b : ℕ → ℕ) → ℕ → ℕ
-total wide narrow a b s = reduce (256 ^ wide) (sumℤ s (λ l. signed (256 ^ narrow) (a l) *ℤ signed (256 ^ narrow) (b l)))
+-- the sum of the first s of the products a(l) x b(l): of residues, signed, reduced to `wide` bytes in two's complement; of binary32
+-- elements "bit for bit, the plain sum from +0 in rising k under the same rules"
+unfoldable pub total : Elements → (wide narrow : ℕ) → (a b : ℕ → ℕ) → ℕ → ℕ
+total integers wide narrow a b s = reduce (256 ^ wide) (sumℤ s (λ l. signed (256 ^ narrow) (a l) *ℤ signed (256 ^ narrow) (b l)))
+total floats wide narrow a b s = settled (floatSum plusZero s (λ l. valueOf (a l)) (λ l. valueOf (b l)))
 
 -- A(i, l) and B(l, j) "are the elements of SEW bits, signed, that memory held at the start"; and of a run that keeps A transposed,
 -- "A(i, l) is element i of row l in memory"
@@ -89,9 +100,10 @@ aOf J = placed (formOf (J .plan)) (element (J .memory) (aAt (J .plan)) (narrow (
 abbrev pub bOf : Job → ℕ → ℕ → ℕ
 bOf J = element (J .memory) (bAt (J .plan)) (narrow (J .plan))
 
--- "C(i, j) is the sum, for l from 0 to k - 1, of A(i, l) x B(l, j), reduced to f x SEW bits in two's complement; with k = 0 it is 0."
+-- "C(i, j) is the sum, for l from 0 to k - 1, of A(i, l) x B(l, j), reduced to f x SEW bits in two's complement; with k = 0 it is 0.";
+-- of a float run the sum above
 abbrev pub productOf : Job → ℕ → ℕ → ℕ
-productOf J i j = total (wide (J .plan)) (narrow (J .plan)) (λ l. aOf J i l) (λ l. bOf J l j) (J .plan .k)
+productOf J i j = total (elementsOf (J .plan)) (wide (J .plan)) (narrow (J .plan)) (λ l. aOf J i l) (λ l. bOf J l j) (J .plan .k)
 
 -- byte q is one of C's elements: "A row's bytes are those of its elements"
 abbrev pub OfC : Job → ℕ → Type 0

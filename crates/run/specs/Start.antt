@@ -3,7 +3,7 @@ use mathlib.Core.Bool.{Bool, cond, not}
 use mathlib.Core.List.{List, [], _∷_}
 use Prim.Native.Nat.{ℕ, _+_, _*_}
 use lib.ListN.{length}
-use lib.Dec.{leb}
+use lib.Dec.{leb, eqb}
 use Rattle.machine.specs.declared.Machine.{Machine}
 use Rattle.machine.specs.declared.Answer.the-variants.{BadArguments, OutsideMemory, Overlap}
 use Rattle.machine.specs.Tests.{all, every, isIn, within}
@@ -23,9 +23,12 @@ use Rattle.run.specs.Plan.{narrow, wide, aAt, bAt, cAt, aRows, aColumns}
 unfoldable pub format : ℕ → ℕ → Bool
 format sew f = every (isIn sew (8 ∷ 16 ∷ 32 ∷ []) ∷ isIn f (1 ∷ 2 ∷ 4 ∷ []) ∷ leb (f * sew) elen ∷ [])
 
--- and for a kind that is not 0 or 1
+-- and for a kind that is not 0, 1 or 2; of kind 2, 02, Four: "a SEW other than 32 gets 3; in the run it, or another f, gets 8"
+unfoldable pub kinded : Plan → Bool
+kinded P = cond (eqb (P .kind) 2) (every (eqb (P .sew) 32 ∷ eqb (P .factor) 1 ∷ [])) (leb (P .kind) 1)
+
 unfoldable pub planned : Plan → Bool
-planned P = every (format (P .sew) (P .factor) ∷ leb (P .m) 1024 ∷ leb (P .k) 1024 ∷ leb (P .n) 1024 ∷ leb (P .kind) 1 ∷ [])
+planned P = every (format (P .sew) (P .factor) ∷ leb (P .m) 1024 ∷ leb (P .k) 1024 ∷ leb (P .n) 1024 ∷ kinded P ∷ [])
 
 -- "then 6 for an element outside memory": every byte of every row of A, B and C lies in memory
 unfoldable pub lying : Plan → List ℕ → Bool

@@ -28,7 +28,7 @@ use Rattle.run.specs.Turn.{Ask, ask, Running, Turn, turn, afterTurns, an
 -- ---- when a start is accepted
 
 -- 8: the state is not at fault (machine/specs/Faults.antt), SEW is 8, 16 or 32, f is 1, 2 or 4, f x SEW is at most ELEN, no size is
--- above 1,024, and the kind is 0 or 1
+-- above 1,024, and the kind is 0, 1 or 2, with SEW 32 and f = 1 where it is 2
 pub record Numbers (P : Plan) (B : Bench) : Type 0 where
   pub no-fault : soundBench B ≡ true
   pub sew-is : (P .sew ≡ 8) ⊎ ((P .sew ≡ 16) ⊎ (P .sew ≡ 32))
@@ -37,7 +37,8 @@ pub record Numbers (P : Plan) (B : Bench) : Type 0 where
   pub m-fits : P .m ≤ 1024
   pub k-fits : P .k ≤ 1024
   pub n-fits : P .n ≤ 1024
-  pub kind-fits : P .kind ≤ 1
+  pub kind-fits : P .kind ≤ 2
+  pub float-fits : P .kind ≡ 2 → (P .sew ≡ 32) × (P .factor ≡ 1)
 
 -- a place in a memory of len bytes
 abbrev pub Lies : ℕ → ℤ → Type 0

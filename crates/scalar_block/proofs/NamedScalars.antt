@@ -20,7 +20,7 @@ use Rattle.machine.specs.declared.Answer.{Answer}
 use Rattle.machine.specs.declared.Answer.the-variants.{Done, BadArguments}
 use Rattle.machine.specs.declared.Wrong.the-variants.{Opcode, Register}
 use Rattle.machine.specs.declared.Instruction.{Instruction}
-use Rattle.machine.specs.declared.Instruction.the-variants.{Illegal, SetTypeImmediate, SetType, SetTileImmediate, SetTile, Load, Store, Multiply, Combine, Scale, ScaleImmediate}
+use Rattle.machine.specs.declared.Instruction.the-variants.{Illegal, SetTypeImmediate, SetType, SetTileImmediate, SetTile, Load, Store, Multiply, Combine, Scale, ScaleImmediate, FloatMultiply}
 use Rattle.machine.specs.Tests.{every}
 use Rattle.machine.specs.declared.Reply.{Reply}
 use Rattle.machine.specs.Answers.{reply, _otherwise_, verdict, isDone}
@@ -54,6 +54,7 @@ named word (Multiply factor md ms1 ms2) = true
 named word (Combine sum factor md ms1) = true
 named word (Scale factor md ms1 rs2) = eqb rs2 (field20 word)
 named word (ScaleImmediate factor md ms1 immediate) = true
+named word (FloatMultiply md ms1 ms2) = true
 
 decode-named : (word : ℕ) → named word (decode word) ≡ true
 unfolding decode listing
@@ -99,6 +100,7 @@ same-operation M st word xs ys ea eb = go
     go (Combine sum factor md ms1) h = refl
     go (Scale factor md ms1 rs2) h = rw (at rs2 (field20 word) h eb)
     go (ScaleImmediate factor md ms1 immediate) h = refl
+    go (FloatMultiply md ms1 ms2) h = refl
 
 -- what it writes stands in that of bits 11..7
 destination-named : (word : ℕ) (i : Instruction) → named word i ≡ true → (destination i ≡ 0) ⊎ (destination i ≡ field7 word)
@@ -113,6 +115,7 @@ destination-named word (Multiply factor md ms1 ms2) h = inl refl
 destination-named word (Combine sum factor md ms1) h = inl refl
 destination-named word (Scale factor md ms1 rs2) h = inl refl
 destination-named word (ScaleImmediate factor md ms1 immediate) h = inl refl
+destination-named word (FloatMultiply md ms1 ms2) h = inl refl
 
 -- ---- a write at 0 or at slot f
 

@@ -5,7 +5,7 @@ use Prim.Native.Nat.{ℕ, _^_, _<_}
 use lib.Dec.{eqb}
 use Rattle.machine.specs.Geometry.{registerCount}
 use Rattle.machine.specs.declared.Instruction.{Instruction}
-use Rattle.machine.specs.declared.Instruction.the-variants.{Illegal, SetTypeImmediate, SetType, SetTileImmediate, SetTile, Load, Store, Multiply, Combine, Scale, ScaleImmediate}
+use Rattle.machine.specs.declared.Instruction.the-variants.{Illegal, SetTypeImmediate, SetType, SetTileImmediate, SetTile, Load, Store, Multiply, Combine, Scale, ScaleImmediate, FloatMultiply}
 use Rattle.machine.specs.Refusals.{isZero}
 use Rattle.width.specs.Reduce.{reduce}
 
@@ -27,3 +27,4 @@ Decoded (Multiply factor md ms1 ms2) = (md < 2) × ((ms1 < 8) × (ms2 < 8))
 Decoded (Combine sum factor md ms1) = (md < 2) × (ms1 < 2)
 Decoded (Scale factor md ms1 rs2) = ((md < 2) × (ms1 < 2)) × (rs2 < 32)
 Decoded (ScaleImmediate factor md ms1 immediate) = ((md < 2) × (ms1 < 2)) × (immediate < 32)
+Decoded (FloatMultiply md ms1 ms2) = (md < 2) × ((ms1 < 8) × (ms2 < 8))

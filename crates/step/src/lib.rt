@@ -5,6 +5,7 @@ use machine::Machine;
 use machine::Stepped;
 use machine::Wrong;
 use operations::reckoning::combine;
+use operations::reckoning::float_multiply;
 use operations::reckoning::multiply;
 use operations::reckoning::scale;
 use operations::transfers::load;
@@ -196,6 +197,10 @@ fn perform(
                 machine: m,
             }
         }
+        Instruction::FloatMultiply { md, ms1, ms2 } => Stepped {
+            answer: float_multiply(m, registers, marks, md, ms1, ms2),
+            machine: m,
+        },
     }
 }
 

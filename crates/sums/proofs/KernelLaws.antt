@@ -38,9 +38,9 @@ module _ (W : ℕ) (acc₀ s : List ℕ) (at w n x : ℕ) where
     omega arith,
     omega (arith, next-row j w, inv .1),
     simp length-set (inv .2),
-    set-below (λ q. plusProduct W (getD acc₀ q 0) x s (at + q * w) w) acc j r (omega (arith, inv .2)) (inv .3)
+    set-below 0 (λ q. plusProduct W (getD acc₀ q 0) x s (at + q * w) w) acc j r (omega (arith, inv .2)) (inv .3)
         (mac-turn W s w (at + j * w) from r (getD acc₀ j 0) (getD acc j 0) z x y er ez ey (inv .1) (inv .4 j (omega arith)) small),
-    set-above (λ q. getD acc₀ q 0) acc j r (inv .4),
+    set-above 0 (λ q. getD acc₀ q 0) acc j r (inv .4),
   )
 
 -- ---- mac: the width w is the literal v
@@ -89,24 +89,24 @@ module _ (W : ℕ) (acc₀ s : List ℕ) (a b pitch w k n : ℕ) where
 
 -- ---- store_row: the first j numbers are stored
 
-abbrev pub Stored : ℕ → (s₀ acc : List ℕ) (to n : ℕ) (s : List ℕ) (j at : ℕ) → Type 0
-Stored W s₀ acc to n s j at = (j ≤ n) × (at ≡ to + j * W) × (length s ≡ length s₀) × (s ≡ putRow to j W (λ q. getD acc q 0) s₀)
+abbrev pub Stored : ℕ → (s₀ : List ℕ) (value : ℕ → ℕ) (to n : ℕ) (s : List ℕ) (j at : ℕ) → Type 0
+Stored W s₀ value to n s j at = (j ≤ n) × (at ≡ to + j * W) × (length s ≡ length s₀) × (s ≡ putRow to j W value s₀)
 
-module _ (W : ℕ) (s₀ acc : List ℕ) (to n : ℕ) where
-  pub store-none : Stored W s₀ acc to n s₀ 0 to
+module _ (W : ℕ) (s₀ : List ℕ) (value : ℕ → ℕ) (to n : ℕ) where
+  pub store-none : Stored W s₀ value to n s₀ 0 to
   unfolding putRow
   store-none = (omega arith, omega (arith, zero-mul W), refl, refl)
 
-  pub store-next : (s out : List ℕ) (j at : ℕ) → Stored W s₀ acc to n s j at → j < n → length out ≡ length s → out ≡ putLe at W (getD acc j 0) s
-      → Stored W s₀ acc to n out (j + 1) (at + W)
-  store-next s out j at inv h el eo = (
+  pub store-next : (s out : List ℕ) (j at v : ℕ) → Stored W s₀ value to n s j at → j < n → length out ≡ length s → v ≡ value j → out ≡ putLe at W v s
+      → Stored W s₀ value to n out (j + 1) (at + W)
+  store-next s out j at v inv h el ev eo = (
     omega arith,
     omega (arith, next-row j W, inv .1),
     el ∙ inv .2,
-    putRow-next W s₀ s out (λ q. getD acc q 0) to j at (getD acc j 0) (inv .3) (inv .1) refl eo,
+    putRow-next W s₀ s out value to j at v (inv .3) (inv .1) ev eo,
   )
 
-  pub store-all : (s : List ℕ) (j at : ℕ) → Stored W s₀ acc to n s j at → n ≤ j → s ≡ putRow to n W (λ q. getD acc q 0) s₀
+  pub store-all : (s : List ℕ) (j at : ℕ) → Stored W s₀ value to n s j at → n ≤ j → s ≡ putRow to n W value s₀
   store-all s j at inv h =
       let e : j ≡ n = omega (arith, inv .0) in
-      inv .3 ∙ ap (λ (m : ℕ). putRow to m W (λ q. getD acc q 0) s₀) e
+      inv .3 ∙ ap (λ (m : ℕ). putRow to m W value s₀) e

@@ -16,15 +16,17 @@ row-fits i n p h = omega (arith, mul-le-mul-right p h, suc-mul i p)
 pub next-row : (i p : ℕ) → (i + 1) * p ≡ i * p + p
 next-row i p = rw add-one (suc-mul i p)
 
--- a store at i: what held below i of the elements holds below i + 1
-pub set-below : (F : ℕ → ℕ) (l : List ℕ) (i v : ℕ) → i < length l → ((q : ℕ) → q < i → getD l q 0 ≡ F q) → v ≡ F i
-    → (q : ℕ) → q < i + 1 → getD (set l i v) q 0 ≡ F q
-set-below F l i v h all e =
-    below-more (λ q. getD (set l i v) q 0 ≡ F q) i
-    (λ q k. getD-set-other l i q v 0 (λ s. omega arith) ∙ all q k)
-    (getD-set-same l i v 0 h ∙ e)
+-- accumulators of any type; past the last there is x
+module _ {A : Type 0} (x : A) where
+  -- a store at i: what held below i of the elements holds below i + 1
+  pub set-below : (F : ℕ → A) (l : List A) (i : ℕ) (v : A) → i < length l → ((q : ℕ) → q < i → getD l q x ≡ F q) → v ≡ F i
+      → (q : ℕ) → q < i + 1 → getD (set l i v) q x ≡ F q
+  set-below F l i v h all e =
+      below-more (λ q. getD (set l i v) q x ≡ F q) i
+      (λ q k. getD-set-other l i q v x (λ s. omega arith) ∙ all q k)
+      (getD-set-same l i v x h ∙ e)
 
--- and what held from i on holds from i + 1 on
-pub set-above : (F : ℕ → ℕ) (l : List ℕ) (i v : ℕ) → ((q : ℕ) → i ≤ q → getD l q 0 ≡ F q)
-    → (q : ℕ) → i + 1 ≤ q → getD (set l i v) q 0 ≡ F q
-set-above F l i v all q k = getD-set-other l i q v 0 (λ s. omega arith) ∙ all q (omega arith)
+  -- and what held from i on holds from i + 1 on
+  pub set-above : (F : ℕ → A) (l : List A) (i : ℕ) (v : A) → ((q : ℕ) → i ≤ q → getD l q x ≡ F q)
+      → (q : ℕ) → i + 1 ≤ q → getD (set l i v) q x ≡ F q
+  set-above F l i v all q k = getD-set-other l i q v x (λ s. omega arith) ∙ all q (omega arith)

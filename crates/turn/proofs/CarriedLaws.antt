@@ -19,7 +19,7 @@ use Rattle.machine.specs.declared.Factor.the-variants.{Single, Double, Quadrupl
 use Rattle.machine.specs.declared.Form.the-variants.{Plain}
 use Rattle.machine.specs.declared.Matrix.the-variants.{MatrixA, MatrixB, MatrixC}
 use Rattle.machine.specs.declared.Instruction.{Instruction}
-use Rattle.machine.specs.declared.Instruction.the-variants.{SetTypeImmediate, SetTileImmediate, Load, Store, Multiply, ScaleImmediate}
+use Rattle.machine.specs.declared.Instruction.the-variants.{SetTypeImmediate, SetTileImmediate, Load, Store, Multiply, ScaleImmediate, FloatMultiply}
 use Rattle.machine.specs.declared.Reply.{Reply}
 use Rattle.machine.specs.Answers.{reply, done, verdict, isDone, _otherwise_}
 use Rattle.machine.specs.Geometry.{elen, Bench, benchOf, stateOf}
@@ -37,19 +37,20 @@ use Rattle.run.specs.declared.Plan.{Plan}
 use Rattle.run.specs.declared.Run.{Run}
 use Rattle.run.specs.declared.Place.{Place}
 use Rattle.run.specs.Words.{Op}
-use Rattle.run.specs.Plan.{narrow, wide, msew, typeOf, formOf, aRow, aColumn}
+use Rattle.run.specs.Plan.{Elements, integers, floats, elementsOf, narrow, wide, msew, typeOf, formOf, aRow, aColumn}
 use Rattle.run.specs.Places.{wordAt}
-use Rattle.run.specs.Encoding.{own, handedFor, startOf, log}
-use Rattle.run.specs.Start.{format, planned}
+use Rattle.run.specs.Encoding.{own, multiplyWord, handedFor, startOf, log}
+use Rattle.run.specs.Start.{format, kinded, planned}
 use Rattle.run.specs.Turn.{soundRun, runShape, moved, Running, running, turn, TurnOutcome, turnOutcome, turns, TurnsOutcome}
 use Rattle.run.proofs.HandedLaws.{turnWith}
-use Rattle.run.proofs.WordLaws.{formats, decode-a, decode-b, decode-c, msew<3, narrow-is, wide<3, wide-is, type-small}
+use Rattle.run.proofs.NumberLaws.{multiplyOf}
+use Rattle.run.proofs.WordLaws.{formats, decode-float, decode-a, decode-b, decode-c, msew<3, narrow-is, wide<3, wide-is, type-small}
 use Rattle.turn.specs.Parts.{Carried, carried, carriedFor, carriedBy, carriedAt, atPlace, endingAt}
 use Rattle.turn.proofs.TurnLaws.{leaving, turn-zero, taking, turns-stop, turns-more}
 
 pub plan-format : (P : Plan) → planned P ≡ true → format (P .sew) (P .factor) ≡ true
 unfolding planned
-plan-format P h = every-each (format (P .sew) (P .factor) ∷ leb (P .m) 1024 ∷ leb (P .k) 1024 ∷ leb (P .n) 1024 ∷ leb (P .kind) 1 ∷ []) h .0
+plan-format P h = every-each (format (P .sew) (P .factor) ∷ leb (P .m) 1024 ∷ leb (P .k) 1024 ∷ leb (P .n) 1024 ∷ kinded P ∷ []) h .0
 
 pub plan-type : (P : Plan) → planned P ≡ true → typeOf P < 8192
 plan-type P h = type-small (ours nothing) P (plan-format P h) (stateOf nothing [] [])
@@ -123,13 +124,17 @@ module _ (P : Plan) (ok : planned P ≡ true) (m : Machine) (regs marks mem : Li
       (loads-outcome m (ScaleImmediate (F .factor) 0 0 0) (own (handedFor P Op.clear)) regs marks mem s refl (Operation.scale (times f) 0 0 (pos 0))
       (ap (λ (g : ℕ). Operation.scale g 0 0 (pos 0)) (F .is ∙ sym e)) refl a regs′ marks′ l refl refl)
 
-  pub multiply-carried : WritesRegisters m (Operation.multiply (times f) 0 0 1) regs marks mem a regs′ marks′
+  -- by the elements of the run
+  pub multiply-carried : (q : Elements) → elementsOf P ≡ q → WritesRegisters m (multiplyOf q (times f)) regs marks mem a regs′ marks′
       → carried (reply a) m regs′ marks′ mem ≡ carriedFor P Op.multiply (benchOf m regs marks mem)
-  multiply-carried l =
+  multiply-carried integers k l =
       let F = formats (P .sew) (P .factor) (plan-format P ok) .1 in
-      by-decoding P Op.multiply m regs marks mem s (Multiply (F .factor) 0 0 1) (F .multiplies) _
+      by-decoding P Op.multiply m regs marks mem s (Multiply (F .factor) 0 0 1) (ap (λ (q : Elements). decode (multiplyWord q (P .factor))) k ∙ F .multiplies) _
       (loads-outcome m (Multiply (F .factor) 0 0 1) (own (handedFor P Op.multiply)) regs marks mem s refl (Operation.multiply (times f) 0 0 1)
       (ap (λ (g : ℕ). Operation.multiply g 0 0 1) (F .is ∙ sym e)) refl a regs′ marks′ l refl refl)
+  multiply-carried floats k l =
+      by-decoding P Op.multiply m regs marks mem s (FloatMultiply 0 0 1) (ap (λ (q : Elements). decode (multiplyWord q (P .factor))) k ∙ decode-float) _
+      (loads-outcome m (FloatMultiply 0 0 1) (own (handedFor P Op.multiply)) regs marks mem s refl (Operation.floatMultiply 0 0 1) refl refl a regs′ marks′ l refl refl)
 
 -- ---- loads and the store
 
@@ -188,7 +193,7 @@ module _ (P : Plan) (ok : planned P ≡ true) (m : Machine) (regs marks mem : Li
   clear-keeps = let F = formats (P .sew) (P .factor) (plan-format P ok) .1 in ap numbers (clear-carried P ok m regs marks mem s (F .factor) (F .is) _ _ _ (loaded _))
 
   pub multiply-keeps : m ≡ numbers (carriedFor P Op.multiply (benchOf m regs marks mem))
-  multiply-keeps = let F = formats (P .sew) (P .factor) (plan-format P ok) .1 in ap numbers (multiply-carried P ok m regs marks mem s (F .factor) (F .is) _ _ _ (loaded _))
+  multiply-keeps = let F = formats (P .sew) (P .factor) (plan-format P ok) .1 in ap numbers (multiply-carried P ok m regs marks mem s (F .factor) (F .is) _ _ _ (elementsOf P) refl (loaded _))
 
   pub a-keeps : (i t : ℕ) → m ≡ numbers (carriedFor P (Op.loadA i t) (benchOf m regs marks mem))
   a-keeps i t = ap numbers (a-carried P ok m regs marks mem s _ i t _ _ (loaded _))

@@ -72,6 +72,9 @@ fn multiply(plan: Plan, m: Machine, registers: &mut [u8], marks: &[u8]) -> Answe
     ensures { λ r. ⌜ ((memory : List ℕ) → carried (reply r) m (now (registers .exit)) (now (marks .entry)) memory
         ≡ carriedFor plan multiply (benchOf m (now (registers .entry)) (now (marks .entry)) memory)) ⌝ }
 {
+    if plan.kind == 2 {
+        return operations::reckoning::float_multiply(m, registers, marks, 0, 0, 1);
+    }
     let factor = factor_of(plan);
     operations::reckoning::multiply(m, registers, marks, factor, 0, 0, 1)
 }

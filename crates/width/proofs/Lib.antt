@@ -2,6 +2,7 @@
 pub mod UptoLaws
 pub mod TileLaws
 pub mod ReduceLaws
+pub mod Binary32Laws
 pub mod BlockLaws
 -- For code: a row writer that is lent a part, one turn more of a loop, elements, and sums kept at a width.
 pub mod PartLaws

@@ -2,4 +2,7 @@
 pub mod Upto
 pub mod Tile
 pub mod Reduce
+pub mod Binary32
 pub mod Blocks
+-- Computed examples.
+pub mod Examples

@@ -1,24 +1,20 @@
 use mathlib.Core.Path.{ap, _∙_}
 use Prim.Native.Nat.{ℕ}
+use borrow.Author.Tests.{eq-eqb, ne-eqb}
 use Rattle.run.specs.Encoding.{plain, arithmeticWord}
 use borrow.Author.Needs.{needs}
 use Rattle.asking.proofs.hand_multiply.Statement.{statement}
 use Rattle.asking.proofs.hand_multiply.Tie as tie
 
-factor-code-requires : tie.Need-factor-code-requires
-factor-code-requires c κs = search needs
-
-arithmetic-word-requires : tie.Need-arithmetic-word-requires
-arithmetic-word-requires c κs = search needs
-
-plain-step-requires : tie.Need-plain-step-requires
-plain-step-requires c κs = search needs
-
 returns : tie.Need-returns
-returns c =
-    c .plain-step .ensures ∙ ap plain (c .before .arithmetic-word .ensures)
+returns c = c .plain-step .ensures ∙ rw (eq-eqb (c .before .before .before .args .plan .kind) 2 (c .before .if1 .taken))
+
+returns-2 : tie.Need-returns-2
+returns-2 c =
+    c .plain-step2 .ensures ∙ ap plain (c .before .arithmetic-word .ensures)
     ∙ ap (λ (f : ℕ). plain (arithmeticWord f 1)) (c .before .before .factor-code .ensures .0)
+    ∙ rw (ne-eqb (c .before .before .before .before .before .args .plan .kind) 2 (c .before .before .before .if1 .left))
 
 pub hand-multiply-spec : {M : Type 1} → statement M
 hand-multiply-spec =
-    tie.close (tie.spec factor-code-requires arithmetic-word-requires plain-step-requires returns)
+    tie.close (tie.spec (λ c κs. search needs) returns (λ c κs. search needs) (λ c κs. search needs) (λ c κs. search needs) returns-2)

@@ -1,11 +1,11 @@
 -- The loop: the first `i` rows of C are those of the product, and every element is read as at entry.
 use native.Mathlib.Omega.{arith}
 use mathlib.Core.Path.{_≡_, refl, sym, ap, _∙_}
-use Prim.Native.Nat.{ℕ, _+_, _-_, _*_, _≤_}
+use Prim.Native.Nat.{ℕ, _+_, _-_, _*_, _^_, _≤_}
 use native.Mathlib.Nat.{zero-mul}
 use lib.ListN.{length}
 use Rattle.width.specs.Tile.{putTile}
-use Rattle.width.specs.Reduce.{reduce}
+use Rattle.width.specs.Reduce.{signed, reduce}
 use Rattle.sums.specs.Rows.{productRow}
 use Rattle.sums.proofs.LoopLaws.{row-fits, next-row}
 use Rattle.sums.proofs.TurnLaws.{same-b, product-turn}
@@ -61,8 +61,10 @@ multiply-row-requires c κs =
           (
             (omega (arith, p), omega (arith, p)),
             λ r j lr lj. c .before .before .before .before .before .before .interleave-tile .ensures r j lr lj
-                ∙ ap (reduce 65536) (sym (same-b 4 (a .width) (a .pitch) (4 * a .pitch) (a .k) (a .n) (a .a) (a .b) (a .c) (a .m) (a .s .now)
-                (q .0 .0) (q .0 .1 .0) (q .0 .1 .1) (q .1 .0 .0) (q .1 .0 .1 .0) (l .i) (l .s) (d .loop-test .taken) (l .inv .5) r j lr lj)),
+                ∙ ap (λ (x : ℕ). reduce 65536 (signed (256 ^ a .width) x)) (sym (same-b 4 (a .width) (a .pitch) (4 * a .pitch) (a .k) (a .n) (a .a) (a .b) (a .c) (a .m) (a .s .now)
+                (q .0 .0) (q .0 .1 .0) (q .0 .1 .1) (q .1 .0 .0) (q .1 .0 .1 .0)
+                (λ i. productRow (a .s .now) 4 (a .width) (a .pitch) (a .k) (a .a + i * a .pitch) (a .b) (a .c + i * (4 * a .pitch)))
+                (l .i) (l .s) (d .loop-test .taken) (l .inv .5) r j lr lj)),
           ),
         ),
       ),

@@ -204,6 +204,17 @@ scale-requires-2 c κs =
     let n : length (s .args .scalars .now) ≡ 32 = eqb-true (length (s .args .scalars .now)) 32 (s .pre .1 .0) in
     (s .pre .0, d .0)
 
+enum-known-instruction-12 : tie.Need-enum-known-instruction-12
+enum-known-instruction-12 c = search needs
+
+float-multiply-requires : tie.Need-float-multiply-requires
+float-multiply-requires c κs =
+    let g = c .before .before .before .instruction12 .given in
+    let s = c .before .before .before .before .before .before .before .before .before in
+    let d = subst Decoded (g .1) (s .pre .1 .1) in
+    let n : length (s .args .scalars .now) ≡ 32 = eqb-true (length (s .args .scalars .now)) 32 (s .pre .1 .0) in
+    (s .pre .0, d)
+
 returns : tie.Need-returns
 returns c =
     let h = c .before .before in
@@ -445,5 +456,26 @@ returns-11 c =
     let l = c .before .before .before .before .scale2 .ensures (signed 32 (g .0 .1 .1 .1 .0)) (sym (k .0)) (k .1) in
     loads-outcome (a .m) (a .instruction) xs rs ms mem (s .pre .0) (s .pre .1 .0) _ meant rd _ _ _ (record { answer-is = l .answer-is; registers-are = l .registers-are; marks-are = l .marks-are }) refl refl
 
+same-length-22 : tie.Need-same-length-22
+same-length-22 c = search needs
+
+same-length-23 : tie.Need-same-length-23
+same-length-23 c = search needs
+
+returns-12 : tie.Need-returns-12
+returns-12 c =
+    let g = c .before .before .before .before .before .before .instruction12 .given in
+    let s = c .before .before .before .before .before .before .before .before .before .before .before .before in
+    let e = g .1 in
+    let a = s .args in
+    let xs = a .scalars .now in
+    let rs = a .registers .now in
+    let ms = a .marks .now in
+    let mem = a .memory .now in
+    let meant = ap (operation (ours (a .m)) (stateOf (a .m) rs ms) xs) e in
+    let rd = ap destination e in
+    let l = c .before .before .float-multiply .ensures in
+    loads-outcome (a .m) (a .instruction) xs rs ms mem (s .pre .0) (s .pre .1 .0) _ meant rd _ _ _ (record { answer-is = l .answer-is; registers-are = l .registers-are; marks-are = l .marks-are }) refl refl
+
 pub perform-spec : {M : Type 1} → statement M
-perform-spec = tie.close (tie.spec enum-known-instruction word-answer-requires enum-known-instruction-2 set-type-requires enum-known-instruction-3 read-scalar-requires set-type-requires-2 enum-known-instruction-4 set-size-requires enum-known-instruction-5 set-tile-requires enum-known-instruction-6 read-scalar-requires-2 read-scalar-requires-3 load-requires enum-known-instruction-7 read-scalar-requires-4 read-scalar-requires-5 store-requires enum-known-instruction-8 multiply-requires enum-known-instruction-9 combine-requires enum-known-instruction-10 read-scalar-requires-6 multiplier-requires scale-requires enum-known-instruction-11 sign-extend-requires scale-requires-2 returns same-length returns-2 same-length-2 returns-3 same-length-3 returns-4 same-length-4 returns-5 same-length-5 same-length-6 same-length-7 same-length-8 returns-6 same-length-9 same-length-10 same-length-11 same-length-12 returns-7 same-length-13 same-length-14 returns-8 same-length-15 same-length-16 returns-9 same-length-17 same-length-18 same-length-19 returns-10 same-length-20 same-length-21 returns-11)
+perform-spec = tie.close (tie.spec enum-known-instruction word-answer-requires enum-known-instruction-2 set-type-requires enum-known-instruction-3 read-scalar-requires set-type-requires-2 enum-known-instruction-4 set-size-requires enum-known-instruction-5 set-tile-requires enum-known-instruction-6 read-scalar-requires-2 read-scalar-requires-3 load-requires enum-known-instruction-7 read-scalar-requires-4 read-scalar-requires-5 store-requires enum-known-instruction-8 multiply-requires enum-known-instruction-9 combine-requires enum-known-instruction-10 read-scalar-requires-6 multiplier-requires scale-requires enum-known-instruction-11 sign-extend-requires scale-requires-2 enum-known-instruction-12 float-multiply-requires returns same-length returns-2 same-length-2 returns-3 same-length-3 returns-4 same-length-4 returns-5 same-length-5 same-length-6 same-length-7 same-length-8 returns-6 same-length-9 same-length-10 same-length-11 same-length-12 returns-7 same-length-13 same-length-14 returns-8 same-length-15 same-length-16 returns-9 same-length-17 same-length-18 same-length-19 returns-10 same-length-20 same-length-21 returns-11 same-length-22 same-length-23 returns-12)

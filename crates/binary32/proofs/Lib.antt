@@ -1,0 +1,2 @@
+-- Laws of values and bits.
+pub mod Laws

@@ -1,0 +1,24 @@
+use mathlib.Core.Path.{refl, sym, _∙_}
+use borrow.Author.Needs.{needs}
+use lib.Ieee.{binary32, div, ofBits, nanBits}
+use Rattle.width.specs.Binary32.{valueOf}
+use Rattle.binary32.proofs.Laws.{nan-value, no-nan}
+use Rattle.binary32.proofs.value_of.Statement.{statement}
+use Rattle.binary32.proofs.value_of.Tie as tie
+
+is-nan-bits-requires : tie.Need-is-nan-bits-requires
+is-nan-bits-requires c κs = search needs
+
+float-from-bits-result : tie.Need-float-from-bits-result
+float-from-bits-result c = no-nan (nanBits binary32 (c .before .before .args .bits)) (sym (c .before .is-nan-bits .ensures) ∙ c .if1 .left)
+
+returns : tie.Need-returns
+unfolding div ofBits
+returns c = sym (nan-value (c .before .before .args .bits) (sym (c .before .is-nan-bits .ensures) ∙ c .if1 .taken))
+
+returns-2 : tie.Need-returns-2
+unfolding valueOf
+returns-2 c = refl
+
+pub value-of-spec : {M : Type 1} → statement M
+value-of-spec = tie.close (tie.spec is-nan-bits-requires float-from-bits-result returns returns-2)

@@ -1,0 +1,23 @@
+-- Which bits stand for whole numbers, computed.
+use mathlib.Core.Path.{_≡_, refl}
+use Prim.Native.Nat.{ℕ}
+use native.Mathlib.Omega.{arith}
+use lib.IntN.{pos, negsuc}
+use lib.Ieee.{binary32, ofBits, toBits, ofInt}
+use Rattle.width.specs.Binary32.{valueOf, settled}
+use Rattle.exact.specs.Exact.{Is}
+
+-- 3, -5, -0 and 2^24
+pub wholes : Is (valueOf 0x40400000) (pos 3) × Is (valueOf 0xC0A00000) (negsuc 4) × Is (valueOf 0x80000000) (pos 0) × Is (valueOf 0x4B800000) (pos 16777216)
+unfolding valueOf ofBits
+wholes = (refl, refl, refl, refl)
+
+-- and their bits; 0 is +0
+pub bits : (settled (ofInt binary32 (pos 3)) ≡ 0x40400000) × (settled (ofInt binary32 (negsuc 4)) ≡ 0xC0A00000) × (settled (ofInt binary32 (pos 0)) ≡ 0)
+unfolding settled ofInt toBits
+bits = (refl, refl, refl)
+
+-- a half is no whole number
+pub half : Is (valueOf 0x3F000000) (pos 0) → ⊥
+unfolding valueOf ofBits
+half h = let z : _≡_ {A = ℕ} 1 0 = cc in omega arith

@@ -1,0 +1,3 @@
+-- The statement, and computed examples.
+pub mod Exact
+pub mod Examples

@@ -1,0 +1,54 @@
+use native.Mathlib.Omega.{arith}
+use mathlib.Core.Path.{ap, _∙_}
+use Prim.Native.Nat.{_+_, _-_, _≤_}
+use lib.ListN.{length}
+use Rattle.width.specs.Binary32.{valueOf}
+use Rattle.element.specs.Bounds.{mostWords}
+use Rattle.floats.proofs.RowLaws.{Summed, sum-none, sum-next, sum-all}
+use borrow.Author.Needs.{needs}
+use Rattle.floats.proofs.add_products.Statement.{statement}
+use Rattle.floats.proofs.add_products.Tie as tie
+
+abbrev Inv-loop : tie.InvT-loop
+Inv-loop sums₀ d s a k l₀ from₀ row₀ sums l from row = Summed sums₀ d s a k sums l from row
+
+abbrev μ-loop : tie.MeasureT-loop
+μ-loop sums₀ d s a k l₀ from₀ row₀ sums l from row = k - l
+
+-- in a turn, the element of A and the values of B's row lie in their slices
+fits : (c : tie.In-loop Inv-loop μ-loop) →
+    let a = c .before .before .before .before .before .args in
+    let l = c .before .loop in
+    (l .from + 4 ≤ length (a .s .now)) × (l .row + mostWords ≤ length (a .d .now))
+fits c =
+    let k = c .before .before .before .before .before in
+    let l = c .before .loop in
+    (omega (arith, k .pre, l .inv .1, c .loop-test .taken), omega (arith, k .pre, l .inv .2, c .loop-test .taken))
+
+loop-again : tie.Need-loop-again Inv-loop μ-loop
+loop-again c =
+    let e = c .before .before .before .before .before .before in
+    let l = e .before .loop in
+    let a = e .before .before .before .before .before .args in
+    let m = c .before .before .mac-row in
+    let x = c .before .before .before .before .value-of in
+    sum-next (a .sums .now) (a .d .now) (a .s .now) (a .a) (a .k) (l .sums) (m .last .0) (l .l) (l .from) (l .row) (x .result) (l .inv) (e .loop-test .taken) (m .kept .0)
+    (x .ensures ∙ ap valueOf (c .before .before .before .before .before .read4 .ensures .0)) (m .ensures)
+
+returns : tie.Need-returns Inv-loop μ-loop
+returns c =
+    let l = c .before .loop in
+    let a = c .before .before .before .before .before .args in
+    sum-all (a .sums .now) (a .d .now) (a .s .now) (a .a) (a .k) (l .sums) (l .l) (l .from) (l .row) (l .inv) (omega arith)
+
+pub add-products-spec : {M : Type 1} → statement M
+add-products-spec =
+    tie.close
+    (tie.spec Inv-loop μ-loop
+    (λ c. let a = c .before .before .before .args in sum-none (a .sums .now) (a .d .now) (a .s .now) (a .a) (a .k))
+    (λ c κs. fits c .0)
+    (λ c κs. search needs)
+    (λ c κs. (omega (arith, c .before .before .before .before .before .before .before .before .pre .0, c .before .before .before .before .loop .inv .3), fits (c .before .before .before) .1))
+    (λ c. let f = fits (c .before .before .before .before .before .before) in omega arith)
+    (λ c. let f = fits (c .before .before .before .before .before .before) in omega arith)
+    (λ c. search needs) (λ c. search needs) loop-again (λ c. search needs) returns)

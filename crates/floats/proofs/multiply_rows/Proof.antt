@@ -1,0 +1,94 @@
+-- The loop: the first `i` rows of C are those of the product, and every element is read as at entry.
+use native.Mathlib.Omega.{arith}
+use mathlib.Core.Path.{_≡_, refl, sym, ap, _∙_}
+use Prim.Native.Nat.{ℕ, _+_, _-_, _*_, _≤_}
+use native.Mathlib.Nat.{zero-mul}
+use lib.ListN.{length}
+use Rattle.width.specs.Tile.{putTile}
+use Rattle.width.specs.Binary32.{valueOf, floatProduct}
+use Rattle.width.proofs.Binary32Laws.{product-cong}
+use Rattle.sums.proofs.LoopLaws.{row-fits, next-row}
+use Rattle.sums.proofs.TurnLaws.{same-b, rule-turn}
+use Rattle.floats.specs.Rows.{floatRow}
+use borrow.Author.Needs.{needs}
+use Rattle.floats.proofs.multiply_rows.Statement.{statement}
+use Rattle.floats.proofs.multiply_rows.Tie as tie
+
+abbrev Inv-loop : tie.InvT-loop
+Inv-loop s₀ a b c pitch m k n d step i₀ from₀ to₀ s i from to =
+    (i ≤ m) × (from ≡ a + i * pitch) × (to ≡ c + i * (4 * pitch)) × (step ≡ 4 * pitch) × (length s ≡ length s₀)
+    × (s ≡ putTile (λ i. c + i * (4 * pitch)) i n 4 (λ i. floatRow s₀ pitch k (a + i * pitch) b (c + i * (4 * pitch))) s₀)
+
+abbrev μ-loop : tie.MeasureT-loop
+μ-loop s₀ a b c pitch m k n d step i₀ from₀ to₀ s i from to = m - i
+
+loop-holds : tie.Need-loop-holds Inv-loop μ-loop
+unfolding putTile
+loop-holds c = let a = c .before .before .before .before .before .args in (omega arith, omega (arith, zero-mul (a .pitch)), omega (arith, zero-mul (4 * a .pitch)), refl, refl, refl)
+
+-- in a turn, the rows of A and C lie in the slice
+fits : (c : tie.In-loop Inv-loop μ-loop) →
+    let a = c .before .before .before .before .before .before .before .args in
+    let l = c .before .loop in
+    (l .from + a .pitch ≤ length (a .s .now)) × (l .to + 4 * a .pitch ≤ length (a .s .now))
+fits c =
+    let k = c .before .before .before .before .before .before .before in
+    let l = c .before .loop in
+    let p = row-fits (l .i) (k .args .m) (k .args .pitch) (c .loop-test .taken) in
+    let q = row-fits (l .i) (k .args .m) (4 * k .args .pitch) (c .loop-test .taken) in
+    (omega (arith, k .pre), omega (arith, k .pre))
+
+multiply-row-requires : tie.Need-multiply-row-requires Inv-loop μ-loop
+multiply-row-requires c κs =
+    let e = c .before .before in
+    let l = e .before .loop in
+    let k = e .before .before .before .before .before .before .before in
+    let a = k .args in
+    let p = k .pre in
+    let f = fits e in
+    let t = e .before .before .before .fetch-tile in (
+      (p .0 .0, omega (arith, p, t .kept .0)),
+      (
+        (omega (arith, p), omega (arith, p)),
+        λ r j lr lj. t .ensures r j lr lj
+            ∙ ap valueOf (sym (same-b 4 4 (a .pitch) (4 * a .pitch) (a .k) (a .n) (a .a) (a .b) (a .c) (a .m) (a .s .now)
+            (p .1 .0 .0) (p .1 .0 .1) (omega (arith, p)) (p .1 .1 .0) (p .1 .1 .1 .0)
+            (λ i. floatRow (a .s .now) (a .pitch) (a .k) (a .a + i * a .pitch) (a .b) (a .c + i * (4 * a .pitch)))
+            (l .i) (l .s) (e .loop-test .taken) (l .inv .5) r j lr lj)),
+      ),
+    )
+
+loop-again : tie.Need-loop-again Inv-loop μ-loop
+loop-again c =
+    let e = c .before .before .before .before .before in
+    let l = e .before .loop in
+    let a = e .before .before .before .before .before .before .before .args in
+    let p = e .before .before .before .before .before .before .before .pre in
+    let w = c .before .before .multiply-row in (
+      omega (arith, e .loop-test),
+      omega (arith, next-row (l .i) (a .pitch)),
+      omega (arith, next-row (l .i) (4 * a .pitch)),
+      l .inv .3,
+      w .kept .0 ∙ l .inv .4,
+      rule-turn 4 4 (a .pitch) (4 * a .pitch) (a .k) (a .n) (a .a) (a .b) (a .c) (a .m) (a .s .now)
+          (p .1 .0 .0) (p .1 .0 .1) (omega (arith, p)) (p .1 .1 .0) (p .1 .1 .1 .0)
+          (floatProduct (a .k)) (λ old x y u v. product-cong old (a .k) x y u v)
+          (l .i) (l .s) (e .loop-test .taken) (l .inv .5) (l .from) (l .to) (w .last .0) (l .inv .1) (l .inv .2) (w .ensures),
+    )
+
+returns : tie.Need-returns Inv-loop μ-loop
+returns c =
+    let l = c .before .loop in
+    let a = c .before .before .before .before .before .before .before .args in
+    let e : l .i ≡ a .m = omega arith in
+    l .inv .5
+    ∙ ap (λ (t : ℕ). putTile (λ i. a .c + i * (4 * a .pitch)) t (a .n) 4 (λ i. floatRow (a .s .now) (a .pitch) (a .k) (a .a + i * a .pitch) (a .b) (a .c + i * (4 * a .pitch))) (a .s .now)) e
+
+pub multiply-rows-spec : {M : Type 1} → statement M
+multiply-rows-spec =
+    tie.close
+    (tie.spec Inv-loop μ-loop
+    (λ c. search needs) (λ c κs. let p = c .before .before .before .pre in ((p .0 .0, omega (arith, p)), (p .1 .0 .0, omega (arith, p)))) (λ c. search needs) loop-holds
+    (λ c. search needs) multiply-row-requires
+    (λ c. let f = fits (c .before .before .before .before .before) in omega arith) (λ c. let f = fits (c .before .before .before .before .before) in omega arith) (λ c. search needs) (λ c. search needs)
+    loop-again (λ c. search needs) returns)

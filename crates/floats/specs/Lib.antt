@@ -1,0 +1,2 @@
+-- What float rows and tiles hold.
+pub mod Rows

@@ -1,0 +1,175 @@
+// Products of binary32 elements. s is the register bytes. A row of C is kept as values while its products are added, for k rising,
+// in all columns that the largest machine has: LLVM then keeps the sums in vector registers. What is past the tile's columns counts
+// for nothing. The values of B are fetched once for all rows.
+ghost use mathlib.Core.Path.{_≡_};
+ghost use Prim.Native.Nat.{ℕ, _+_, _*_, _≤_, _<_};
+ghost use lib.ListN.{length, getD};
+ghost use lib.Ieee.{nan};
+ghost use Rattle.width.specs.Tile.{putRow, putTile};
+ghost use Rattle.width.specs.Binary32.{settled, multiplyAdd, floatSum};
+ghost use Rattle.element.specs.Bounds.{mostPitch, mostWords, mostSize, mostTerms};
+ghost use Rattle.arithmetic.specs.Effect.{shape};
+ghost use Rattle.floats.specs.Rows.{floatAt, floatRow, floatTile};
+
+// The columns of the largest tile (element/specs/Bounds.antt: mostWords).
+const WORDS: usize = element::COLUMNS / 4;
+
+// The values of the largest tile of B.
+const VALUES: usize = element::TERMS * WORDS;
+
+// The values of the row of n elements at `at`, from `to` on.
+fn fetch_row(d: &mut [f32], to: usize, s: &[u8], at: usize, n: usize)
+    requires { ⌜ to + n ≤ length (now d) ⌝ }
+    requires { ⌜ at + n * 4 ≤ length (now s) ⌝ }
+    ensures { λ _. ⌜ ((j : ℕ) → j < n → getD (now (d .exit)) (to + j) nan ≡ floatAt (now (s .entry)) (at + j * 4)) ⌝ }
+    ensures { λ _. ⌜ ((i : ℕ) → i < to → getD (now (d .exit)) i nan ≡ getD (now (d .entry)) i nan) ⌝ }
+{
+    let mut j = 0;
+    let mut from = at;
+    while j < n {
+        d[to + j] = binary32::value_of(element::read4(s, from));
+        from += 4;
+        j += 1;
+    }
+}
+
+// The values of B's tile, each row from its own place on.
+fn fetch_tile(d: &mut [f32], s: &[u8], b: usize, pitch: usize, k: usize, n: usize)
+    requires { ⌜ (n ≤ mostWords) × (k * mostWords ≤ length (now d)) ⌝ }
+    requires { ⌜ (n * 4 ≤ pitch) × (b + k * pitch ≤ length (now s)) ⌝ }
+    ensures { λ _. ⌜ ((l j : ℕ) → l < k → j < n → getD (now (d .exit)) (l * mostWords + j) nan ≡ floatAt (now (s .entry)) (b + l * pitch + j * 4)) ⌝ }
+{
+    let mut l = 0;
+    let mut row = b;
+    let mut to = 0;
+    while l < k {
+        fetch_row(d, to, s, row, n);
+        row += pitch;
+        to += WORDS;
+        l += 1;
+    }
+}
+
+// Each sum plus x times its value of the row at `at`.
+fn mac_row(sums: &mut [f32], d: &[f32], at: usize, x: f32)
+    requires { ⌜ mostWords ≤ length (now sums) ⌝ }
+    requires { ⌜ at + mostWords ≤ length (now d) ⌝ }
+    ensures { λ _. ⌜ ((j : ℕ) → j < mostWords → getD (now (sums .exit)) j nan ≡ multiplyAdd (getD (now (sums .entry)) j nan) x (getD (now (d .entry)) (at + j) nan)) ⌝ }
+{
+    let mut j = 0;
+    while j < WORDS {
+        sums[j] = binary32::multiply_add(sums[j], x, d[at + j]);
+        j += 1;
+    }
+}
+
+// Each sum, and on from it the products of A(l) and its column's values, for l rising.
+fn add_products(sums: &mut [f32], d: &[f32], s: &[u8], a: usize, k: usize)
+    requires { ⌜ mostWords ≤ length (now sums) ⌝ }
+    requires { ⌜ k * mostWords ≤ length (now d) ⌝ }
+    requires { ⌜ a + k * 4 ≤ length (now s) ⌝ }
+    ensures { λ _. ⌜ ((j : ℕ) → j < mostWords → getD (now (sums .exit)) j nan ≡ floatSum (getD (now (sums .entry)) j nan) k (λ l. floatAt (now (s .entry)) (a + l * 4)) (λ l. getD (now (d .entry)) (l * mostWords + j) nan)) ⌝ }
+{
+    let mut l = 0;
+    let mut from = a;
+    let mut row = 0;
+    while l < k {
+        let x = binary32::value_of(element::read4(s, from));
+        mac_row(sums, d, row, x);
+        from += 4;
+        row += WORDS;
+        l += 1;
+    }
+}
+
+// Stores the first n sums from `to` on.
+fn store_row(s: &mut [u8], sums: &[f32], to: usize, n: usize)
+    requires { ⌜ n ≤ length (now sums) ⌝ }
+    requires { ⌜ to + n * 4 ≤ length (now s) ⌝ }
+    ensures { λ _. ⌜ now (s .exit) ≡ putRow to n 4 (λ j. settled (getD (now (sums .entry)) j nan)) (now (s .entry)) ⌝ }
+{
+    let mut j = 0;
+    let mut at = to;
+    while j < n {
+        element::write4(s, at, binary32::stored_bits(sums[j]));
+        at += 4;
+        j += 1;
+    }
+}
+
+// One row of C; d holds the values of B's tile.
+fn multiply_row(
+    s: &mut [u8],
+    d: &[f32],
+    a: usize,
+    b: usize,
+    c: usize,
+    pitch: usize,
+    k: usize,
+    n: usize,
+)
+    requires { ⌜ (n ≤ mostWords) × (k * mostWords ≤ length (now d)) ⌝ }
+    requires { ⌜ (a + k * 4 ≤ length (now s)) × (c + n * 4 ≤ length (now s)) ⌝ }
+    requires { ⌜ ((l j : ℕ) → l < k → j < n → getD (now d) (l * mostWords + j) nan ≡ floatAt (now s) (b + l * pitch + j * 4)) ⌝ }
+    ensures { λ _. ⌜ now (s .exit) ≡ putRow c n 4 (floatRow (now (s .entry)) pitch k a b c) (now (s .entry)) ⌝ }
+{
+    let mut sums = [0.0f32; WORDS];
+    fetch_row(&mut sums, 0, s, c, n);
+    add_products(&mut sums, d, s, a, k);
+    store_row(s, &sums, c, n);
+}
+
+// All rows of C, one after another.
+fn multiply_rows(
+    s: &mut [u8],
+    a: usize,
+    b: usize,
+    c: usize,
+    pitch: usize,
+    m: usize,
+    k: usize,
+    n: usize,
+)
+    requires { ⌜ (n ≤ mostWords) × ((k ≤ mostTerms) × (pitch ≤ mostPitch)) ⌝ }
+    requires { ⌜ (n * 4 ≤ pitch) × (k * 4 ≤ pitch) ⌝ }
+    requires { ⌜ (a + m * pitch ≤ c) × ((b + k * pitch ≤ c) × (c + m * (4 * pitch) ≤ length (now s))) ⌝ }
+    ensures { λ _. ⌜ now (s .exit) ≡ putTile (λ i. c + i * (4 * pitch)) m n 4 (λ i. floatRow (now (s .entry)) pitch k (a + i * pitch) b (c + i * (4 * pitch))) (now (s .entry)) ⌝ }
+{
+    let mut d = [0.0f32; VALUES];
+    fetch_tile(&mut d, s, b, pitch, k, n);
+    let step = 4 * pitch;
+    let mut i = 0;
+    let mut from = a;
+    let mut to = c;
+    while i < m {
+        multiply_row(s, &d, from, b, to, pitch, k, n);
+        from += pitch;
+        to += step;
+        i += 1;
+    }
+}
+
+// Multiplies tile registers a and b and adds the product to accumulator d.
+pub fn multiply_tile(
+    registers: &mut [u8],
+    rows: usize,
+    pitch: usize,
+    d: usize,
+    a: usize,
+    b: usize,
+    m: usize,
+    k: usize,
+    n: usize,
+)
+    requires { ⌜ (d < 2) × ((a < 8) × (b < 8)) ⌝ }
+    requires { ⌜ (rows * pitch ≤ mostSize) × ((pitch ≤ mostPitch) × (length (now registers) ≡ 16 * (rows * pitch))) ⌝ }
+    requires { ⌜ (m ≤ rows) × ((k ≤ rows) × (k ≤ mostTerms)) ⌝ }
+    requires { ⌜ (n * 4 ≤ pitch) × (k * 4 ≤ pitch) ⌝ }
+    ensures { λ _. ⌜ now (registers .exit) ≡ floatTile (shape rows pitch) d a b m k n (now (registers .entry)) ⌝ }
+{
+    let size = rows * pitch;
+    let at_a = a * size;
+    let at_b = b * size;
+    let at_c = (8 + 4 * d) * size;
+    multiply_rows(registers, at_a, at_b, at_c, pitch, m, k, n);
+}

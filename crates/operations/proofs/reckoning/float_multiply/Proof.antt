@@ -1,0 +1,50 @@
+use mathlib.Core.Path.{_≡_, sym, ap, _∙_}
+use mathlib.Core.Bool.{true}
+use native.Mathlib.Omega.{arith}
+use borrow.Author.Tests.{not-true, not-false}
+use Rattle.machine.specs.Answers.{verdict, isDone}
+use Rattle.machine.specs.Operation.{Operation}
+use Rattle.machine.proofs.NoFault.{sound-is}
+use Rattle.machine.proofs.StepLaws.{permitted-bounds}
+use Rattle.operations.specs.Parts.{floatChecks}
+use Rattle.operations.proofs.EffectLaws.{marks-ready, arithmetic-refused, float-asks, float-loads}
+use borrow.Author.Needs.{needs}
+use Rattle.operations.proofs.reckoning.float_multiply.Statement.{statement}
+use Rattle.operations.proofs.reckoning.float_multiply.Tie as tie
+
+-- the checks have passed
+checked : (c : tie.Else1) → let a = c .before .before .before .before .before .args in isDone (verdict (floatChecks (a .m) (a .marks .now) (a .md) (a .ms1) (a .ms2))) ≡ true
+checked c = sym (ap isDone (c .before .before .check-float .ensures)) ∙ sym (c .before .is-done .ensures) ∙ not-false (c .before .is-done .result) (c .if1 .left)
+
+check-float-requires : tie.Need-check-float-requires
+check-float-requires c κs =
+    let s = c .before .before in
+    (marks-ready (s .args .m) (s .args .registers .now) (s .args .marks .now) (s .pre .0), s .pre .1)
+
+returns : tie.Need-returns
+returns c =
+    let s = c .before .before .before .before .before in
+    let a = s .args in
+    arithmetic-refused (a .m) (a .registers .now) (a .marks .now) (s .pre .0) (Operation.floatMultiply (a .md) (a .ms1) (a .ms2)) (c .before .before .check-float .result) (c .before .before .check-float .ensures)
+    (sym (c .before .is-done .ensures) ∙ not-true (c .before .is-done .result) (c .if1 .taken))
+
+div-rows : tie.Need-div-rows
+div-rows c =
+    let s = c .before .before .before .before .before .before in
+    let b = permitted-bounds (s .args .m .rlen) (s .args .m .mlen) (sound-is (s .args .m) (s .args .registers .now) (s .args .marks .now) (s .pre .0) .lengths) in
+    omega arith
+
+multiply-tile-requires : tie.Need-multiply-tile-requires
+multiply-tile-requires c κs =
+    let s = c .before .before .before .before .before .before .before .before in
+    let a = s .args in
+    float-asks (a .m) (a .registers .now) (a .marks .now) (s .pre .0) (a .md) (a .ms1) (a .ms2) (checked (c .before .before .before)) (s .pre .1)
+
+returns-2 : tie.Need-returns-2
+returns-2 c =
+    let s = c .before .before .before .before .before .before .before .before .before .before .before in
+    let a = s .args in
+    float-loads (a .m) (a .registers .now) (a .marks .now) (s .pre .0) (a .md) (a .ms1) (a .ms2) (checked (c .before .before .before .before .before .before)) _ (c .before .before .multiply-tile .ensures)
+
+pub float-multiply-spec : {M : Type 1} → statement M
+float-multiply-spec = tie.close (tie.spec check-float-requires (λ c κs. search needs) returns div-rows multiply-tile-requires (λ c. search needs) returns-2)
