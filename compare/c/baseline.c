@@ -81,3 +81,21 @@ void slow_product(int width, int output, size_t m, size_t k, size_t n,
     case 3232: slow_32_to_32(m, k, n, a, b, c); break;
     }
 }
+
+void anchor_float_product(size_t m, size_t k, size_t n, const float *restrict a,
+                          const float *restrict b, float *restrict c)
+{
+    for (size_t i = 0; i < m; i++) {
+        float *c_row = c + i * n;
+        for (size_t j = 0; j < n; j++) {
+            c_row[j] = 0;
+        }
+        for (size_t l = 0; l < k; l++) {
+            const float *b_row = b + l * n;
+            float times = a[i * k + l];
+            for (size_t j = 0; j < n; j++) {
+                c_row[j] += times * b_row[j];
+            }
+        }
+    }
+}

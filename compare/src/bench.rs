@@ -1,5 +1,6 @@
 //! Times through the C interface, all from one run. Nothing here can fail.
 
+use crate::float_numbers::near;
 use crate::lent::{library_image_read, library_image_size, library_image_write};
 use crate::lent::{library_step, started, Lent};
 use crate::random::Random;
@@ -109,7 +110,7 @@ fn steps_by_family() {
     words.push(("msce32".to_string(), assemble("msce32.m", &operands)));
     words.push(("mqemulc.mi by 0 (a clear)".to_string(), assemble("mqemulc.mi", &[])));
     words.push(("a wrong opcode".to_string(), 0));
-    words.push(("a word that is left out".to_string(), assemble("mfma.mm", &operands)));
+    words.push(("a word that is left out".to_string(), assemble("mfwma.mm", &operands)));
     words.push(("a code of no row".to_string(), assemble("mlae8.m", &operands) | 1 << 31));
     words.push(("a register out of range".to_string(), assemble("mlae8.m", &[("md", 8)])));
     words.push(("a load of a wrong width".to_string(), assemble("mlae64.m", &operands)));
@@ -163,17 +164,32 @@ fn multiply_accumulates() {
             (16, _) => 1,
             _ => 2,
         };
-        let word = assemble(name, &[("ms1", 0), ("ms2", 1)]);
-        let (time, answer) = step_time(LARGE, mtype, word);
-        let machine = full_bench(LARGE, mtype, 0).machine();
-        let count = (machine.tile_m * machine.tile_k * machine.tile_n) as f64;
-        println!(
-            "{:28}{time:>12.1}{count:>12}{:>12.3}{:>14.2e}{answer:>10}",
-            format!("{name} at SEW {width}"),
-            time / count,
-            count / time * 1e9
-        );
+        multiply_line(name, width, full_bench(LARGE, mtype, 0));
     }
+    let mut lent = full_bench(LARGE, 2, 0);
+    lent.registers = near_one(lent.registers.len());
+    multiply_line("mfma.mm", 32, lent);
+}
+
+/// Float numbers near 1, as bytes.
+pub fn near_one(length: usize) -> Vec<u8> {
+    let mut random = Random::for_case(1, "bench floats", 0);
+    (0..length / 4).flat_map(|_| near(&mut random, 120, 8, 23).to_le_bytes()).collect()
+}
+
+fn multiply_line(name: &str, width: u64, mut lent: Lent) {
+    let word = assemble(name, &[("ms1", 0), ("ms2", 1)]);
+    let mut answer = 0;
+    let time = nanoseconds(|| answer = black_box(library_step(black_box(word), &mut lent)));
+    let machine = lent.machine();
+    let count = (machine.tile_m * machine.tile_k * machine.tile_n) as f64;
+    println!(
+        "{:28}{time:>12.1}{count:>12}{:>12.3}{:>14.2e}{:>10}",
+        format!("{name} at SEW {width}"),
+        time / count,
+        count / time * 1e9,
+        answer & 0xFFFF
+    );
 }
 
 fn against_the_second_program() {

@@ -5,8 +5,8 @@ use crate::lent::Lent;
 use crate::random::Random;
 use crate::states::{
     any_operands, any_row, any_scalar, bench_of, good_case, good_machine, left_out_word,
-    moved_rows, put_state_fault, register_fields, set_size, unmark_source, wrapping_stride, Case,
-    MTYPES, SIZES, WILD_STRIDES,
+    moved_rows, put_state_fault, raise_sizes, register_fields, set_size, unmark_source,
+    wrapping_stride, Case, MTYPES, SIZES, WILD_STRIDES,
 };
 use crate::suite::{check_step, each_case, Context, Outcome};
 use model::{maximum, sew, Kind, Machine, Matrix, Row, Size, LEFT_OUT, LISTING, MILL};
@@ -15,7 +15,7 @@ use model::{maximum, sew, Kind, Machine, Matrix, Row, Size, LEFT_OUT, LISTING, M
 pub type Made = (Case, u64);
 pub type Boundary = (&'static str, fn(&mut Random) -> Made);
 
-const BOUNDARIES: [Boundary; 37] = [
+const BOUNDARIES: [Boundary; 38] = [
     ("first and last byte of memory", whole_memory),
     ("one byte past the end", one_past_the_end),
     ("one byte before address 0", one_before_the_start),
@@ -44,6 +44,7 @@ const BOUNDARIES: [Boundary; 37] = [
     ("mtype after each value", new_mtype),
     ("a word while mill is set", mill_set),
     ("64-bit loads and stores", too_wide),
+    ("float products at another SEW", float_at_another_sew),
     ("state faults", faulty_state),
     ("another opcode", wrong_opcode),
     ("words that are left out", left_out),
@@ -103,8 +104,13 @@ fn factor(row: &Row) -> i128 {
     match row.kind {
         Kind::Multiply(f) | Kind::Add(f) | Kind::Subtract(f) => f,
         Kind::ReverseSubtract(f) | Kind::Scale(f) => f,
+        Kind::FloatMultiply => 1,
         _ => 0,
     }
+}
+
+fn is_multiply(row: &Row) -> bool {
+    matches!(row.kind, Kind::Multiply(_) | Kind::FloatMultiply)
 }
 
 /// A machine for a row, with no tile size of 0.
@@ -311,7 +317,7 @@ fn sizes_used(kind: Kind) -> Vec<Size> {
         Kind::SetType | Kind::SetSize(_) => vec![],
         Kind::Load(Matrix::A, ..) | Kind::Store(Matrix::A, ..) => vec![Size::M, Size::K],
         Kind::Load(Matrix::B, ..) | Kind::Store(Matrix::B, ..) => vec![Size::K, Size::N],
-        Kind::Multiply(_) => SIZES.to_vec(),
+        Kind::Multiply(_) | Kind::FloatMultiply => SIZES.to_vec(),
         _ => vec![Size::M, Size::N],
     }
 }
@@ -363,7 +369,7 @@ fn no_element(random: &mut Random) -> Made {
     let row = row_where(random, |row| !sizes_used(row.kind).is_empty() && !row.name.contains("64"));
     let mut machine = machine_for(random, row);
     let size = match row.kind {
-        Kind::Multiply(_) => random.pick(&[Size::M, Size::N]),
+        _ if is_multiply(row) => random.pick(&[Size::M, Size::N]),
         _ => {
             let used = sizes_used(row.kind);
             random.pick(&used)
@@ -381,7 +387,7 @@ fn no_element(random: &mut Random) -> Made {
 
 /// Reads md alone: its bytes stay as they are.
 fn no_terms(random: &mut Random) -> Made {
-    let row = row_where(random, |row| matches!(row.kind, Kind::Multiply(_)));
+    let row = row_where(random, is_multiply);
     let mut machine = machine_for(random, row);
     machine.tile_k = 0;
     let mut case = case_on(random, row, &machine);
@@ -403,7 +409,7 @@ fn unmark_source_of_md(random: &mut Random, case: &mut Case, row: &Row) {
 }
 
 fn wider_element_wise(row: &Row) -> bool {
-    factor(row) > 1 && !matches!(row.kind, Kind::Multiply(_))
+    factor(row) > 1 && !is_multiply(row)
 }
 
 fn same_register_wider(random: &mut Random) -> Made {
@@ -556,6 +562,21 @@ fn too_wide(random: &mut Random) -> Made {
     let row = row_where(random, |row| row.name.contains("64"));
     let machine = machine_for(random, row);
     (case_on(random, row, &machine), 3)
+}
+
+/// 3, also where a size is above its maximum or an element is not marked.
+fn float_at_another_sew(random: &mut Random) -> Made {
+    let row = row_where(random, |row| row.kind == Kind::FloatMultiply);
+    let mut machine = machine_for(random, row);
+    machine.mtype = random.pick(&[0, 1, 8]);
+    if random.chance(50) {
+        raise_sizes(random, &mut machine);
+    }
+    let mut case = case_on(random, row, &machine);
+    if random.chance(50) {
+        case.lent.marks.fill(0);
+    }
+    (case, 3)
 }
 
 fn faulty_state(random: &mut Random) -> Made {

@@ -9,6 +9,9 @@
 mod bench;
 mod boundaries;
 mod damage;
+mod float_examples;
+mod float_numbers;
+mod floats;
 mod images;
 mod lent;
 mod library;
@@ -29,7 +32,7 @@ mod words;
 use std::time::Instant;
 use suite::{Context, Outcome, Suite};
 
-const SUITES: [Suite; 33] = [
+const SUITES: [Suite; 40] = [
     ("bench sheet", sheet::bench_sheet),
     ("machine starts", starts::machine_starts),
     ("codes", steps::codes),
@@ -42,6 +45,11 @@ const SUITES: [Suite; 33] = [
     ("transposed tiles", transposed::transposed_tiles),
     ("overlapping rows", overlapping::overlapping_rows),
     ("overlapping stores", overlapping::overlapping_stores),
+    ("float examples", floats::float_examples),
+    ("float specials", floats::float_specials),
+    ("random floats", floats::random_floats),
+    ("whole floats", floats::whole_floats),
+    ("host floats", floats::host_floats),
     ("sequences", steps::sequences),
     ("power-up words", powerup::power_up_words),
     ("damaged steps", damage::damaged_steps),
@@ -51,6 +59,8 @@ const SUITES: [Suite; 33] = [
     ("disturbed turns", runs::suites::disturbed_turns),
     ("overlapping turns", runs::suites::overlapping_turns),
     ("whole runs", runs::suites::whole_runs),
+    ("float runs", runs::floats::float_runs),
+    ("whole float runs", runs::floats::whole_float_runs),
     ("power-up runs", runs::powerup::power_up_runs),
     ("largest sizes", runs::suites::largest_sizes),
     ("larger products", runs::suites::larger_products),

@@ -1,6 +1,6 @@
 //! The second program: the rules of the scope paper and of the change requests
-//! that have landed (One, Two, Three, Six, Seven; Nine asks for nothing new), each as
-//! one plain function.
+//! that have landed (One, Two, Three, Four, Six, Seven; Nine asks for nothing new), each
+//! as one plain function.
 //!
 //! It is written to be read beside the paper, not to be fast. Sizes and
 //! addresses are whole numbers (`i128`), bytes are looked at one by one, and a
@@ -8,6 +8,8 @@
 
 use std::collections::HashMap;
 
+#[path = "model_floats.rs"]
+pub mod floats;
 #[path = "model_images.rs"]
 pub mod images;
 
@@ -230,6 +232,8 @@ pub enum Kind {
     Load(Matrix, i128, Form),
     Store(Matrix, i128, Form),
     Multiply(i128),
+    /// On binary32 elements (request Four).
+    FloatMultiply,
     Add(i128),
     Subtract(i128),
     ReverseSubtract(i128),
@@ -254,7 +258,7 @@ use Kind::*;
 use Matrix::*;
 
 /// The rows that we carry out, in the listing's order.
-pub const LISTING: [Row; 74] = [
+pub const LISTING: [Row; 75] = [
     row("msettypei", "0000 mtypei 111 rd 1110111", SetType),
     row("msettype", "0001 00000000 rs1 111 rd 1110111", SetType),
     row("msettilemi", "0010 mleni 111 rd 1110111", SetSize(Size::M)),
@@ -312,6 +316,7 @@ pub const LISTING: [Row; 74] = [
     row("mscte32.m", "000100 1 rs2 rs1 010 ms3 1110111", Store(C, 32, Transposed)),
     row("mscte64.m", "000100 1 rs2 rs1 011 ms3 1110111", Store(C, 64, Transposed)),
     row("mma.mm", "000000 0 ms2 ms1 110 md 1110111", Multiply(1)),
+    row("mfma.mm", "000000 1 ms2 ms1 110 md 1110111", FloatMultiply),
     row("mwma.mm", "000001 0 ms2 ms1 110 md 1110111", Multiply(2)),
     row("mqma.mm", "000010 0 ms2 ms1 110 md 1110111", Multiply(4)),
     row("maddc.mm", "000100 0 00000 ms1 110 md 1110111", Add(1)),
@@ -332,8 +337,7 @@ pub const LISTING: [Row; 74] = [
 ];
 
 /// The rows that we leave out, in the listing's order: name and columns.
-pub const LEFT_OUT: [(&str, &str); 24] = [
-    ("mfma.mm", "000000 1 ms2 ms1 110 md 1110111"),
+pub const LEFT_OUT: [(&str, &str); 23] = [
     ("mfwma.mm", "000001 1 ms2 ms1 110 md 1110111"),
     ("mfaddc.mm", "000100 1 00000 ms1 110 md 1110111"),
     ("mfwaddc.mm", "000101 1 00000 ms1 110 md 1110111"),
@@ -507,7 +511,7 @@ impl Instruction {
     /// The first source: a tile register of a multiply, else an accumulator.
     fn ms1(&self) -> Register {
         match self.row.kind {
-            Multiply(_) => Register::Tile(self.get("ms1")),
+            Multiply(_) | FloatMultiply => Register::Tile(self.get("ms1")),
             _ => Register::Accumulator(self.get("ms1")),
         }
     }
@@ -528,7 +532,7 @@ fn registers_in_range(instruction: &Instruction) -> bool {
     match instruction.row.kind {
         SetType | SetSize(_) => true,
         Load(..) | Store(..) => register_in_range(instruction.md()),
-        Multiply(_) => [instruction.ms1(), instruction.ms2(), instruction.md()]
+        Multiply(_) | FloatMultiply => [instruction.ms1(), instruction.ms2(), instruction.md()]
             .into_iter()
             .all(register_in_range),
         Add(_) | Subtract(_) | ReverseSubtract(_) | Scale(_) => {
@@ -673,6 +677,7 @@ fn output_width(instruction: &Instruction, machine: &Machine) -> i128 {
         Multiply(f) | Add(f) | Subtract(f) | ReverseSubtract(f) | Scale(f) => {
             f * sew(machine.mtype)
         }
+        FloatMultiply => sew(machine.mtype),
     }
 }
 
@@ -698,8 +703,8 @@ pub fn sources(instruction: &Instruction, machine: &Machine, scalars: &[u64]) ->
     match instruction.row.kind {
         SetType | SetSize(_) | Load(..) => vec![],
         Store(matrix, ..) => vec![tile(machine, matrix, instruction.md(), width)],
-        Multiply(_) if c_has_no_element => vec![],
-        Multiply(_) => vec![
+        Multiply(_) | FloatMultiply if c_has_no_element => vec![],
+        Multiply(_) | FloatMultiply => vec![
             tile(machine, A, instruction.ms1(), sew),
             tile(machine, B, instruction.ms2(), sew),
             tile(machine, C, instruction.md(), width),
@@ -758,6 +763,7 @@ pub fn width_rule_broken(kind: Kind, mtype: u64) -> bool {
             2 => 2 * sew > ELEN,
             _ => !maccq,
         },
+        FloatMultiply => sew != 32,
     }
 }
 
@@ -768,7 +774,7 @@ fn size_too_large(instruction: &Instruction, machine: &Machine) -> bool {
         Load(A, ..) | Store(A, ..) => &[Size::M, Size::K],
         Load(B, ..) | Store(B, ..) => &[Size::K, Size::N],
         Load(C, ..) | Store(C, ..) => &[Size::M, Size::N],
-        Multiply(_) => &[Size::M, Size::K, Size::N],
+        Multiply(_) | FloatMultiply => &[Size::M, Size::K, Size::N],
         Add(_) | Subtract(_) | ReverseSubtract(_) | Scale(_) => &[Size::M, Size::N],
     };
     let sew = sew(machine.mtype);
@@ -854,6 +860,7 @@ fn carry_out(instruction: &Instruction, bench: &mut Bench, scalars: &mut [u64]) 
         Load(..) => load(instruction, bench, scalars),
         Store(..) => store(instruction, bench, scalars),
         Multiply(_) => multiply(instruction, bench),
+        FloatMultiply => float_multiply(instruction, bench),
         Add(_) | Subtract(_) | ReverseSubtract(_) => add_or_subtract(instruction, bench),
         Scale(_) => scale(instruction, bench, scalars),
     }
@@ -953,6 +960,22 @@ fn multiply(instruction: &Instruction, bench: &mut Bench) {
     write_tile(bench, output, &c);
 }
 
+/// Elements are taken as the bits of binary32 numbers.
+fn float_multiply(instruction: &Instruction, bench: &mut Bench) {
+    let machine = bench.machine;
+    let output = tile(&machine, C, instruction.md(), output_width(instruction, &machine));
+    let a = read_tile(bench, tile(&machine, A, instruction.ms1(), sew(machine.mtype)));
+    let b = read_tile(bench, tile(&machine, B, instruction.ms2(), sew(machine.mtype)));
+    let mut c = read_tile(bench, output);
+    for i in 0..machine.tile_m as usize {
+        for j in 0..machine.tile_n as usize {
+            let terms = (0..machine.tile_k as usize).map(|l| (a[i][l] as u32, b[l][j] as u32));
+            c[i][j] = floats::accumulated(c[i][j] as u32, terms) as i128;
+        }
+    }
+    write_tile(bench, output, &c);
+}
+
 fn add_or_subtract(instruction: &Instruction, bench: &mut Bench) {
     let machine = bench.machine;
     let output = tile(&machine, C, instruction.md(), output_width(instruction, &machine));
@@ -984,10 +1007,12 @@ fn scale(instruction: &Instruction, bench: &mut Bench, scalars: &[u64]) {
 // ---------------------------------------------------------------------------
 // The product run
 
-/// The kinds of a product run: A as it is, and A kept transposed (request Two).
+/// The kinds of a product run: A as it is, A kept transposed (request Two), and binary32
+/// elements (request Four).
 pub const PRODUCT: u64 = 0;
 pub const A_TRANSPOSED: u64 = 1;
-pub const KINDS: [u64; 2] = [PRODUCT, A_TRANSPOSED];
+pub const FLOAT: u64 = 2;
+pub const KINDS: [u64; 3] = [PRODUCT, A_TRANSPOSED, FLOAT];
 
 #[derive(Clone, Copy, Debug, PartialEq, Eq)]
 pub struct Plan {
@@ -1085,6 +1110,7 @@ pub fn plan_numbers_bad(plan: &Plan) -> bool {
         || ![8, 16, 32].contains(&plan.sew)
         || ![1, 2, 4].contains(&plan.factor)
         || plan.factor as i128 * plan.sew as i128 > ELEN
+        || plan.kind == FLOAT && (plan.sew, plan.factor) != (32, 1)
         || [plan.m, plan.k, plan.n].iter().any(|&size| size > 1024)
 }
 
@@ -1141,6 +1167,7 @@ fn steps_of(plan: &Plan, machine: &Machine) -> Vec<Handed> {
         scalar_11: 0,
     };
     let (clear, multiply_words, maccq) = match plan.factor {
+        _ if plan.kind == FLOAT => ("memulc.mi", "mfma.mm", 0),
         1 => ("memulc.mi", "mma.mm", 0),
         2 => ("mwemulc.mi", "mwma.mm", 0),
         _ => ("mqemulc.mi", "mqma.mm", 8),
@@ -1230,26 +1257,28 @@ pub fn elements(placed: Placed, memory: &[u8]) -> Vec<Vec<i128>> {
     (0..placed.rows).map(|i| (0..placed.columns).map(|j| element(i, j)).collect()).collect()
 }
 
-/// What C holds after a run: sums of products of what memory holds now,
-/// reduced to C's width, signed.
+/// What C holds after a run: sums of products of what memory holds now, reduced to C's
+/// width, signed; of a float run the bits of plain sums from +0 in rising k.
 pub fn product(plan: &Plan, memory: &[u8]) -> Vec<Vec<i128>> {
     let a = elements(plan.placed(A), memory);
     let b = elements(plan.placed(B), memory);
     let of_a = |i: usize, l: usize| if plan.kind == A_TRANSPOSED { a[l][i] } else { a[i][l] };
-    let mut c = vec![vec![0; plan.n as usize]; plan.m as usize];
-    for i in 0..plan.m as usize {
-        for j in 0..plan.n as usize {
-            let mut sum: i128 = 0;
-            for l in 0..plan.k as usize {
-                sum += of_a(i, l) * b[l][j];
-            }
-            let mut bytes = [0; 4];
-            let bytes = &mut bytes[..(plan.factor * plan.sew / 8) as usize];
-            put(sum, bytes);
-            c[i][j] = signed(bytes);
+    let element = |i: usize, j: usize| {
+        let terms = (0..plan.k as usize).map(|l| (of_a(i, l), b[l][j]));
+        if plan.kind == FLOAT {
+            floats::accumulated(0, terms.map(|(a, b)| (a as u32, b as u32))) as i128
+        } else {
+            terms.map(|(a, b)| a * b).sum()
         }
-    }
-    c
+    };
+    let reduced = |value: i128| {
+        let mut bytes = [0; 4];
+        let bytes = &mut bytes[..(plan.factor * plan.sew / 8) as usize];
+        put(value, bytes);
+        signed(bytes)
+    };
+    let row = |i: usize| (0..plan.n as usize).map(|j| reduced(element(i, j))).collect();
+    (0..plan.m as usize).map(row).collect()
 }
 
 #[cfg(test)]

@@ -249,8 +249,224 @@ fn starts_with_a_transposed() {
     assert_eq!(run_start(&Plan { c: 50, ..kept }, &bench), Err(9));
     assert!(run_start(&Plan { c: 41, ..kept }, &bench).is_ok());
     assert_eq!(run_start(&Plan { kind: PRODUCT, c: 41, ..kept }, &bench), Err(9));
-    for kind in [2, 3, 1 << 32, u64::MAX] {
+    for kind in [3, 4, 1 << 32, u64::MAX] {
         assert_eq!(run_start(&Plan { kind, ..kept }, &bench), Err(8));
+    }
+}
+
+// ---------------------------------------------------------------------------
+// Float products
+
+/// mfma.mm of acc0, tr0 and tr1.
+const MFMA: u32 = 0x02106077;
+
+/// A machine at SEW 32 with all bytes marked; A in tr0, B in tr1 and C in acc0 hold
+/// these bits.
+fn float_bench(a: &[&[u32]], b: &[&[u32]], c: &[&[u32]]) -> Bench {
+    let mut bench = started(0);
+    bench.marks.fill(1);
+    let (tile_m, tile_k, tile_n) = (c.len() as u64, b.len() as u64, c[0].len() as u64);
+    bench.machine = Machine { mtype: 2, tile_m, tile_k, tile_n, ..bench.machine };
+    for (start, pitch, rows) in [(0, 8, a), (32, 8, b), (256, 32, c)] {
+        for (i, row) in rows.iter().enumerate() {
+            for (j, bits) in row.iter().enumerate() {
+                let at = start + i * pitch + 4 * j;
+                bench.registers[at..at + 4].copy_from_slice(&bits.to_le_bytes());
+            }
+        }
+    }
+    bench
+}
+
+/// An element of acc0.
+fn bits_of_c(bench: &Bench, i: usize, j: usize) -> u32 {
+    let at = 256 + 32 * i + 4 * j;
+    u32::from_le_bytes(bench.registers[at..at + 4].try_into().unwrap())
+}
+
+#[test]
+fn float_multiply_word() {
+    const ONE: u32 = 0x3F80_0000;
+    const MILLIONS: u32 = 0x4B80_0000;
+    // 2^24 x 1 + 1 x 1 from 0, from 1, from -0; 1 x 2 + 3 x 1/2 from -1.
+    let a: [&[u32]; 2] = [&[MILLIONS, ONE], &[ONE, 0x4040_0000]];
+    let b: [&[u32]; 2] = [&[ONE, 0x4000_0000], &[ONE, 0x3F00_0000]];
+    let before = float_bench(&a, &b, &[&[0, 0x8000_0000], &[ONE, 0xBF80_0000]]);
+    let mut after = before.clone();
+    assert_eq!(number(MFMA, &mut after, &mut [7; 32]), 0);
+    let found = [(0, 0), (0, 1), (1, 0), (1, 1)].map(|(i, j)| bits_of_c(&after, i, j));
+    // 2^24; 2^25 + 1/2; 1 + 1 + 3; -1 + 2 + 1 1/2.
+    assert_eq!(found, [MILLIONS, 0x4C00_0000, 0x40A0_0000, 0x4020_0000]);
+    // Nothing else changes.
+    for at in 0..512 {
+        let of_c = at >= 256 && at < 256 + 64 && (at - 256) % 32 < 8;
+        assert!(of_c || after.registers[at] == before.registers[at], "{at}");
+    }
+    assert_eq!((after.machine, after.marks), (before.machine, before.marks));
+}
+
+#[test]
+fn float_multiply_without_terms() {
+    // A NaN is settled, -0 and infinity stay; md alone is read.
+    let mut bench = float_bench(&[], &[], &[&[0xFF80_0001, 0x8000_0000], &[0x7F80_0000, 0]]);
+    bench.marks[..256].fill(0);
+    assert_eq!(number(MFMA, &mut bench, &mut [0; 32]), 0);
+    let found = [(0, 0), (0, 1), (1, 0), (1, 1)].map(|(i, j)| bits_of_c(&bench, i, j));
+    assert_eq!(found, [0x7FC0_0000, 0x8000_0000, 0x7F80_0000, 0]);
+    bench.marks[256 + 32 + 5] = 0;
+    let at = |row, column| Answer { number: 5, row, column };
+    assert_eq!(step(MFMA, &mut bench, &mut [0; 32]), at(1, 1));
+}
+
+#[test]
+fn answers_of_a_float_multiply() {
+    let row: &[u32] = &[0, 0];
+    let good = float_bench(&[row; 3], &[row; 2], &[row; 3]);
+    let with = |change: fn(&mut Bench)| {
+        let mut bench = good.clone();
+        change(&mut bench);
+        let before = bench.clone();
+        let answer = step(MFMA, &mut bench, &mut [0; 32]);
+        assert!(answer.number == 0 || bench == before);
+        (answer.number, answer.row, answer.column)
+    };
+    assert_eq!(with(|_| ()), (0, 0, 0));
+    assert_eq!(with(|bench| bench.machine.mtype = MILL), (2, 0, 0));
+    // Another SEW: 3, before 4 and 5.
+    for mtype in [0, 1, 8] {
+        let mut bench = good.clone();
+        bench.machine.mtype = mtype;
+        assert_eq!(number(MFMA, &mut bench, &mut [0; 32]), 3);
+        bench.machine.tile_n = 8;
+        bench.marks.fill(0);
+        assert_eq!(number(MFMA, &mut bench, &mut [0; 32]), 3);
+    }
+    // A size above its maximum at SEW 32: 4, before 5, also where C has no element.
+    assert_eq!(with(|bench| bench.machine.tile_k = 3), (4, 0, 0));
+    assert_eq!(with(|bench| bench.machine.tile_n = 3), (4, 0, 0));
+    assert_eq!(with(|bench| (bench.machine.tile_m, bench.machine.tile_k) = (0, 3)), (4, 0, 0));
+    // ms1, ms2, md.
+    assert_eq!(with(|bench| bench.marks[256 + 4] = 0), (5, 0, 1));
+    assert_eq!(with(|bench| (bench.marks[256], bench.marks[32 + 8]) = (0, 0)), (5, 1, 0));
+    assert_eq!(with(|bench| (bench.marks[32], bench.marks[16 + 7]) = (0, 0)), (5, 2, 1));
+    // Nothing is read where C has no element.
+    assert_eq!(with(|bench| (bench.machine.tile_m, bench.marks) = (0, vec![0; 512])), (0, 0, 0));
+    assert_eq!(with(|bench| (bench.machine.tile_n, bench.marks) = (0, vec![0; 512])), (0, 0, 0));
+}
+
+fn float_plan(m: u64, k: u64, n: u64) -> Plan {
+    Plan { kind: FLOAT, ..plan(32, 1, m, k, n) }
+}
+
+#[test]
+fn words_of_a_float_run() {
+    let bench = started(64);
+    let of = |kind| run_start(&Plan { kind, ..float_plan(1, 3, 1) }, &bench).expect("accepted");
+    let (float, integer) = (of(FLOAT).steps, of(PRODUCT).steps);
+    // msettypei 2, one row, one column, memulc.mi by 0; then blocks of 2 and 1.
+    let words: Vec<u32> = float.iter().map(|step| step.word).collect();
+    let block = [0x04B52077, 0x08B520F7, MFMA];
+    let mut expected = vec![0x00017077, 0x2000F077, 0x6000F077, 0x40006077];
+    expected.extend([&[0x4001F077][..], &block, &[0x4000F077], &block, &[0x02B52077]].concat());
+    assert_eq!(words, expected);
+    // As the integer run, but for the multiply.
+    for (float, integer) in float.iter().zip(&integer) {
+        let word = if integer.word == 0x00106077 { MFMA } else { integer.word };
+        assert_eq!(*float, Handed { word, ..*integer });
+    }
+    assert_eq!(float.len(), integer.len());
+}
+
+#[test]
+fn starts_of_a_float_run() {
+    let bench = started(64);
+    let good = float_plan(1, 1, 1);
+    assert!(run_start(&good, &bench).is_ok());
+    for (sew, factor) in [(8, 1), (16, 1), (16, 2), (8, 4), (32, 2), (32, 4), (64, 1), (0, 1)] {
+        assert_eq!(run_start(&Plan { sew, factor, ..good }, &bench), Err(8));
+    }
+    assert_eq!(run_start(&Plan { kind: 3, ..good }, &bench), Err(8));
+    assert_eq!(run_start(&Plan { c: 61, ..good }, &bench), Err(6));
+    assert_eq!(run_start(&Plan { c: 7, ..good }, &bench), Err(9));
+    // A matrix without elements is not placed; the widths are judged all the same.
+    assert!(run_start(&Plan { m: 0, c: u64::MAX, ..good }, &bench).is_ok());
+    assert_eq!(run_start(&Plan { m: 0, sew: 16, ..good }, &bench), Err(8));
+}
+
+/// C of a float run on a machine, word by word, held to the plain sums.
+fn float_product(plan: &Plan, memory: &[u8], (rlen, mlen): (u64, u64)) -> Vec<Vec<i128>> {
+    let mut bench = started_as(rlen, mlen, 0);
+    bench.memory = memory.to_vec();
+    let mut run = run_start(plan, &bench).expect("accepted");
+    let done = run_turns(u64::MAX, &mut run, &mut bench);
+    assert_eq!(done, step_count(plan, &bench.machine));
+    let c = elements(plan.placed(C), &bench.memory);
+    assert_eq!(c, product(plan, memory), "{rlen} {mlen}");
+    c
+}
+
+/// Memory of a packed plan with these bits one after the other.
+fn float_memory(bits: &[u32]) -> Vec<u8> {
+    bits.iter().flat_map(|bits| bits.to_le_bytes()).collect()
+}
+
+#[test]
+fn float_runs_by_hand() {
+    const ONE: u32 = 0x3F80_0000;
+    let lengths = (64, 256);
+    // 2^24 + 1 - 2^24 + 1, blocks of 2: the first 1 is lost, the second is not.
+    let terms = [0x4B80_0000, ONE, 0xCB80_0000, ONE, ONE, ONE, ONE, ONE, 0];
+    assert_eq!(
+        float_product(&float_plan(1, 4, 1), &float_memory(&terms), lengths),
+        [[ONE as i128]]
+    );
+    // A NaN in the first block is one in C.
+    let terms = [0xFFFF_FFFF, ONE, ONE, ONE, ONE, ONE, 0];
+    assert_eq!(
+        float_product(&float_plan(1, 3, 1), &float_memory(&terms), lengths),
+        [[0x7FC0_0000]]
+    );
+    // No term: +0. One that is -0: +0 + -0.
+    assert_eq!(float_product(&float_plan(1, 0, 1), &float_memory(&[ONE]), lengths), [[0]]);
+    let terms = [0x8000_0000, ONE, ONE];
+    assert_eq!(float_product(&float_plan(1, 1, 1), &float_memory(&terms), lengths), [[0]]);
+}
+
+/// Bits that are near each other, and some that are not finite.
+fn some_bits(count: usize, seed: u32) -> Vec<u32> {
+    let mut state = seed;
+    let next = |_| {
+        state = state.wrapping_mul(1_664_525).wrapping_add(1_013_904_223);
+        match state >> 24 {
+            0..=3 => [0x7FC0_0001, 0xFF80_0000, 0x7F80_0000, 0x8000_0000][(state >> 24) as usize],
+            _ => (state >> 1 & 0x8000_0000) | (120 + (state >> 8) % 16) << 23 | (state >> 9),
+        }
+    };
+    (0..count).map(next).collect()
+}
+
+/// Products of 5 by 37 by 3: on every machine the same sums, other ones if the terms
+/// come the other way round.
+#[test]
+fn float_runs_do_not_depend_on_the_machine() {
+    let plan = float_plan(5, 37, 3);
+    for (seed, finite) in [(1, true), (2, true), (3, false), (4, false)] {
+        let finite_bits = |bits: &mut u32| *bits = if *bits << 1 < 0xFF00_0000 { *bits } else { 0 };
+        let mut bits = some_bits(5 * 37 + 37 * 3, seed);
+        if finite {
+            bits.iter_mut().for_each(finite_bits);
+        }
+        let (a, b) = bits.split_at(5 * 37);
+        let c = [0; 5 * 3];
+        let memory = float_memory(&[a, b, &c].concat());
+        let first = float_product(&plan, &memory, (64, 128));
+        for lengths in permitted_lengths() {
+            assert_eq!(float_product(&plan, &memory, lengths), first);
+        }
+        let a: Vec<u32> = a.chunks(37).flat_map(|row| row.iter().rev().copied()).collect();
+        let b: Vec<u32> = b.chunks(3).rev().flatten().copied().collect();
+        let backward = float_memory(&[&a, &b[..], &c].concat());
+        assert!(!finite || float_product(&plan, &backward, (64, 128)) != first);
     }
 }
 
@@ -645,9 +861,8 @@ fn bad_words() {
         (10, 0x14000076, "mlate8.m with opcode 1110110"),
         (10, 0x04000437, "mlae8.m with opcode 0110111, md 8"),
         // Left out, whatever the registers.
-        (11, 0x02006077, "mfma.mm"),
-        (11, 0x03FFEFF7, "mfma.mm, all registers 31"),
         (11, 0x06006077, "mfwma.mm"),
+        (11, 0x07FFEFF7, "mfwma.mm, all registers 31"),
         (11, 0x12006077, "mfaddc.mm"),
         (11, 0x120FEFF7, "mfaddc.mm, ms1 and md 31"),
         (11, 0x16006077, "mfwaddc.mm"),
@@ -699,6 +914,10 @@ fn bad_words() {
         (12, 0x00006177, "mma.mm, md 2"),
         (12, 0x00046077, "mma.mm, ms1 8"),
         (12, 0x00806077, "mma.mm, ms2 8"),
+        (12, 0x02006177, "mfma.mm, md 2"),
+        (12, 0x02046077, "mfma.mm, ms1 8"),
+        (12, 0x02806077, "mfma.mm, ms2 8"),
+        (12, 0x03FFEFF7, "mfma.mm, all registers 31"),
         (12, 0x10016077, "maddc.mm, ms1 2"),
         (12, 0x10006FF7, "maddc.mm, md 31"),
         (12, 0x34006177, "memulc.mx, md 2"),
@@ -725,6 +944,7 @@ fn good_words_at_the_bounds() {
         (0, 0x35F0E0F7, "memulc.mx, md 1, ms1 1, rs2 31"),
         (0, 0x100FFFF7, "msettype, rs1 31, rd 31"),
         (0, 0x0FFFFFF7, "msettypei, all immediate bits, rd 31"),
+        (3, 0x0273E0F7, "mfma.mm, md 1, ms1 7, ms2 7: SEW 8"),
         (3, 0x04003077, "mlae64.m is ours, but too wide"),
         (0, 0x140003F7, "mlate8.m, md 7"),
         (0, 0x180003F7, "mlbte8.m, md 7"),
@@ -770,22 +990,22 @@ fn count_words(middle: u32, low: u32) -> [u32; 5] {
 #[test]
 fn numbers_of_words() {
     // Ours, with bits 24..20 where they are free: four settings by immediate
-    // (with bits 27..25 too) and four by scalar, 48 loads and stores, 3
+    // (with bits 27..25 too) and four by scalar, 48 loads and stores, 4
     // multiplies (ms2 0 to 7), 9 adds and subtracts, 6 multiplies by a number.
     let settings = 4 * 256 + 4;
     let moves = 48 * 32;
     let element_wise = 9 + 6 * 32;
-    // Left out: 4 float words with bits 24..20 free, 6 float words and 14
+    // Left out: 3 float words with bits 24..20 free, 6 float words and 14
     // conversions without.
-    let left_out = 4 * 32 + 6 + 14;
+    let left_out = 3 * 32 + 6 + 14;
     let rest = |done: u32, registers: u32| (1 << 15) - done - registers - left_out;
 
-    let done = settings + moves + 3 * 8 + element_wise;
-    let registers = 3 * 24;
+    let done = settings + moves + 4 * 8 + element_wise;
+    let registers = 4 * 24;
     assert_eq!(count_words(0, 0), [done, rest(done, registers), 0, left_out, registers]);
     assert_eq!(count_words(1, 1), [done, rest(done, registers), 0, left_out, registers]);
     // No register is 31.
-    let registers = moves + 3 * 32 + element_wise;
+    let registers = moves + 4 * 32 + element_wise;
     assert_eq!(count_words(31, 31), [settings, rest(settings, registers), 0, left_out, registers]);
 }
 

@@ -10,6 +10,7 @@ use crate::states::{bad_word, bench_of, good_machine, MTYPES};
 use crate::steps::following_word;
 use crate::suite::{each_case, Context, Outcome};
 use crate::tally::ANSWERS;
+use model::{decode, sew, Kind};
 
 /// A bench, and the block of a run where there is one.
 #[derive(Clone)]
@@ -169,28 +170,43 @@ fn any_pair(random: &mut Random) -> Result<Pair, String> {
 /// How often each answer was given.
 pub type Met = [u64; ANSWERS as usize];
 
+/// A word that mostly suits the state; float products more often than others.
+fn any_word(random: &mut Random, lent: &mut Lent) -> u32 {
+    let word = following_word(random, lent);
+    if random.chance(5) {
+        return bad_word(random, word);
+    }
+    if sew(lent.machine().mtype) == 32 && random.chance(10) {
+        let registers = [("ms1", 3), ("ms2", 3), ("md", 2)];
+        let operands = registers.map(|(field, count)| (field, random.below(count) as u32));
+        return model::assemble("mfma.mm", &operands);
+    }
+    word
+}
+
 /// Words one after the other on both sides, by a step that is to be tested.
 /// In some lists the scalars are set for each word, in others they are what the
-/// words before left.
+/// words before left. How often each answer was given to them, and to the float
+/// products among them.
 fn word_list(
     random: &mut Random,
     pair: &mut Pair,
     step: fn(u32, &mut Lent) -> u64,
-    met: &mut Met,
+    [met, met_by_floats]: &mut [Met; 2],
 ) -> Result<(), String> {
     let set_scalars = random.chance(50);
     for _ in 0..60 {
         let mut lent = pair.0[0].lent.clone();
-        let mut word = following_word(random, &mut lent);
-        if random.chance(5) {
-            word = bad_word(random, word);
-        }
+        let word = any_word(random, &mut lent);
         if set_scalars {
             pair.change(|side| side.lent.scalars.clone_from(&lent.scalars));
         }
         let name = format!("word {word:#010x}: {}", model::describe(word));
         let result = pair.call(&name, |side| step(word, &mut side.lent))?;
-        met[(result & 0xFFFF) as usize] += 1;
+        let number = (result & 0xFFFF) as usize;
+        met[number] += 1;
+        let by_float = decode(word).is_ok_and(|found| found.row.kind == Kind::FloatMultiply);
+        met_by_floats[number] += u64::from(by_float);
     }
     Ok(())
 }
@@ -208,33 +224,38 @@ fn step_without_marks(word: u32, lent: &mut Lent) -> u64 {
 /// that looks at no mark: that one has to be found out, in most lists.
 pub fn power_up_words(context: &mut Context) -> Outcome {
     let count = 4_000 * context.scale;
-    let mut met = Met::default();
+    let mut both = [Met::default(); 2];
     let (mut lists, mut found_out) = (0, 0);
     let cases = each_case(context, "power-up words", count, |case, random, _| {
         let mut pair = any_pair(random)?;
         pair.check_comparison(random)?;
-        word_list(random, &mut pair, library_step, &mut met)?;
+        word_list(random, &mut pair, library_step, &mut both)?;
         pair.check_comparison(random)?;
         if case % 10 == 0 {
             let mut pair = any_pair(random)?;
-            let outcome = word_list(random, &mut pair, step_without_marks, &mut Met::default());
+            let outcome = word_list(random, &mut pair, step_without_marks, &mut Default::default());
             lists += 1;
             found_out += u64::from(outcome.is_err());
         }
         Ok(())
     })?;
+    let [met, met_by_floats] = both;
     // No state is at fault here, and 9, 14 and 15 are no answers of a step.
     let missing: Vec<usize> = (0..met.len())
         .filter(|&number| met[number] == 0 && ![8, 9, 14, 15].contains(&number))
         .collect();
     let text = format!(
-        "{cases}, {} words done, {} refused with 5, {} otherwise; without marks {found_out} of \
-         {lists} lists found out",
+        "{cases}, {} words done, {} refused with 5, {} otherwise; of float products {} and {}; \
+         without marks {found_out} of {lists} lists found out",
         met[0],
         met[5],
-        met.iter().sum::<u64>() - met[0] - met[5]
+        met.iter().sum::<u64>() - met[0] - met[5],
+        met_by_floats[0],
+        met_by_floats[5],
     );
-    if context.only_case.is_none() && (!missing.is_empty() || 2 * found_out < lists) {
+    let floats_missing = met_by_floats[0] == 0 || met_by_floats[5] == 0;
+    let too_few = !missing.is_empty() || floats_missing || 2 * found_out < lists;
+    if context.only_case.is_none() && too_few {
         return Err(format!("{text}; answers not met: {missing:?}"));
     }
     Ok(text)

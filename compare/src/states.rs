@@ -1,6 +1,7 @@
 //! Seeded states and words. A case is made so that it would be done, then
 //! faults are put in, each by chance.
 
+use crate::float_numbers;
 use crate::lent::{machine_block, words_to_bytes, Lent};
 use crate::random::Random;
 use model::{maximum, sew, Kind, Machine, Matrix, Row, Size, LEFT_OUT, LISTING, MILL};
@@ -181,7 +182,7 @@ fn good_operands(random: &mut Random, kind: Kind) -> Vec<(&'static str, u32)> {
     let (md, ms1) = match kind {
         Kind::Load(Matrix::C, ..) | Kind::Store(Matrix::C, ..) => (accumulator[0], 0),
         Kind::Load(..) | Kind::Store(..) => (tile[0], 0),
-        Kind::Multiply(_) => (accumulator[0], tile[1]),
+        Kind::Multiply(_) | Kind::FloatMultiply => (accumulator[0], tile[1]),
         _ => (accumulator[0], accumulator[1]),
     };
     let imm = if random.chance(20) { 0 } else { random.below(32) as u32 };
@@ -226,7 +227,7 @@ pub fn register_fields(kind: Kind) -> Vec<(&'static str, u32)> {
         Kind::Load(..) => vec![("md", 8)],
         Kind::Store(Matrix::C, ..) => vec![("ms3", 2)],
         Kind::Store(..) => vec![("ms3", 8)],
-        Kind::Multiply(_) => vec![("md", 2), ("ms1", 8), ("ms2", 8)],
+        Kind::Multiply(_) | Kind::FloatMultiply => vec![("md", 2), ("ms1", 8), ("ms2", 8)],
         _ => vec![("md", 2), ("ms1", 2)],
     }
 }
@@ -310,7 +311,8 @@ pub fn good_case(random: &mut Random, row: &'static Row) -> Case {
     Case { word, lent }
 }
 
-/// Sets the scalars that a word reads, and the memory that it moves.
+/// Sets the scalars that a word reads, the memory that it moves, or the float numbers
+/// that it multiplies.
 fn aim(random: &mut Random, kind: Kind, operands: &[(&str, u32)], lent: &mut Lent) {
     let machine = lent.machine();
     let (rs1, rs2) = (operand(operands, "rs1"), operand(operands, "rs2"));
@@ -321,6 +323,8 @@ fn aim(random: &mut Random, kind: Kind, operands: &[(&str, u32)], lent: &mut Len
         lent.set_scalar(rs1, address);
     } else if let Kind::Scale(_) = kind {
         lent.set_scalar(rs2, multiplier(random));
+    } else if let Kind::FloatMultiply = kind {
+        lent.registers = float_numbers::registers(random, machine.mlen);
     } else {
         lent.set_scalar(rs1, asked_value(random, kind, &machine));
     }

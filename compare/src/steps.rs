@@ -159,7 +159,7 @@ pub fn following_word(random: &mut Random, lent: &mut Lent) -> u32 {
     let (md, ms1) = match row.kind {
         Kind::Load(model::Matrix::C, ..) | Kind::Store(model::Matrix::C, ..) => (accumulator, 0),
         Kind::Load(..) | Kind::Store(..) => (tile, 0),
-        Kind::Multiply(_) => (accumulator, random.below(3) as u32),
+        Kind::Multiply(_) | Kind::FloatMultiply => (accumulator, random.below(3) as u32),
         _ => (accumulator, random.below(2) as u32),
     };
     let operands = [

@@ -25,9 +25,9 @@ const FORMS: usize = 8;
 /// its order. The transposed loads and stores have 9 to 32 again; 100 is added.
 fn numbers() -> impl Iterator<Item = u8> {
     let moves = (9..=20).chain(109..=120).chain(21..=32).chain(121..=132);
-    let arithmetic = [33, 35, 37, 38, 40, 42, 43, 45, 47, 48, 50, 52, 53, 55, 57, 58, 59, 60];
+    let arithmetic = [33, 34, 35, 37, 38, 40, 42, 43, 45, 47, 48, 50, 52, 53, 55, 57, 58, 59, 60];
     let ours = (1..=8).chain(moves).chain(arithmetic);
-    let left_out = [34, 36, 39, 41, 44, 46, 49, 51, 54, 56].into_iter().chain(61..=74);
+    let left_out = [36, 39, 41, 44, 46, 49, 51, 54, 56].into_iter().chain(61..=74);
     ours.chain(left_out)
 }
 
@@ -137,7 +137,9 @@ fn reads_writes(row: &Row) -> (String, String) {
         Kind::Store(matrix, _, form) => {
             (format!("rs1, rs2, {}", tile(matrix, "ms3")), memory(matrix, form).into())
         }
-        Kind::Multiply(_) => (format!("tr[ms1], m by k, tr[ms2], k by n, {acc}"), acc),
+        Kind::Multiply(_) | Kind::FloatMultiply => {
+            (format!("tr[ms1], m by k, tr[ms2], k by n, {acc}"), acc)
+        }
         Kind::Scale(_) if has("rs2") => ("acc[ms1], m by n, rs2".into(), acc),
         Kind::Scale(_) => ("acc[ms1], m by n".into(), acc),
         _ => (format!("acc[ms1], m by n, {acc}"), acc),

@@ -10,8 +10,8 @@
 //!   a scalar, adds, subtracts and conversions, float ones too), and words of
 //!   no family.
 //! - 2: every family but msettype and msettypei.
-//! - 3: loads and stores, and the double and quadruple forms. At the output
-//!   width SEW no width rule can be broken.
+//! - 3: loads and stores, the double and quadruple forms, and the float product. Of
+//!   the other words at the output width SEW no width rule can be broken.
 //! - 4: loads, stores, multiplies and element-wise words, but not their
 //!   quadruple forms: those need maccq, so SEW is 8, where a size above its
 //!   maximum is answer 8. (tile_m's maximum is the same at every SEW, so
@@ -136,7 +136,7 @@ pub fn reachable(call: Call, number: u64) -> bool {
         0 | 8 | 10 => true,
         1 => zeros,
         2 => row.kind != Kind::SetType,
-        3 => load || store || factor > 1,
+        3 => load || store || factor > 1 || row.kind == Kind::FloatMultiply,
         4 => !setting && factor != 4,
         5 => !setting && !load,
         6 => load || store,

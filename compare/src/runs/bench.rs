@@ -1,11 +1,11 @@
 //! Times of product runs.
 
 use super::plans::{packed_plan, packed_plan_of};
-use crate::bench::{full_bench, machine_name, nanoseconds, LARGE, SMALL};
+use crate::bench::{full_bench, machine_name, nanoseconds, near_one, LARGE, SMALL};
 use crate::lent::{library_run_start, library_run_turn, library_run_turns, second_run_start, Lent};
 use crate::library;
 use crate::states::WIDTHS;
-use model::{Matrix, Plan, KINDS};
+use model::{Matrix, Plan, A_TRANSPOSED, FLOAT, PRODUCT};
 use std::hint::black_box;
 use std::time::Instant;
 
@@ -35,6 +35,14 @@ extern "C" {
         b: *const u8,
         c: *mut u8,
     );
+    fn anchor_float_product(
+        m: usize,
+        k: usize,
+        n: usize,
+        a: *const f32,
+        b: *const f32,
+        c: *mut f32,
+    );
 }
 
 /// A product is left out if it is foreseen to take longer, in nanoseconds.
@@ -59,6 +67,7 @@ pub fn bench() {
     products(SMALL, [32, 64, 128, 256]);
     widths();
     transposed_runs();
+    float_runs();
 }
 
 fn start_checks() {
@@ -128,6 +137,9 @@ fn width_name((sew, factor): (u64, u64)) -> String {
 /// A bench for a plan: A and B filled, C cleared.
 fn plan_bench(machine: (u64, u64), plan: &Plan, memory: usize) -> Lent {
     let mut lent = full_bench(machine, 0, memory);
+    if plan.kind == FLOAT {
+        lent.memory = near_one(memory);
+    }
     lent.memory[plan.c as usize..].fill(0);
     lent
 }
@@ -206,7 +218,12 @@ fn call_plain(product: PlainProduct, plan: &Plan, memory: &mut [u8]) {
 
 /// Nanoseconds a multiply-accumulate of the second program, start left out.
 fn second_rate(machine: (u64, u64), widths: (u64, u64)) -> f64 {
-    let (plan, memory) = packed_plan(widths, [SECOND_SIZE; 3]);
+    second_rate_of(machine, PRODUCT, widths)
+}
+
+/// The same of a kind of run.
+fn second_rate_of(machine: (u64, u64), kind: u64, widths: (u64, u64)) -> f64 {
+    let (plan, memory) = packed_plan_of(kind, widths, [SECOND_SIZE; 3]);
     let lent = plan_bench(machine, &plan, memory);
     let run = second_run_start(&plan, &lent).expect("a packed plan is accepted");
     let bench = lent.bench().expect("a whole machine block");
@@ -286,7 +303,7 @@ fn transposed_runs() {
     println!("kept transposed, each product held to the second program's");
     println!("{:14}{:>12}{:>16}{:>10}{:>8}", "", "plain ms", "transposed ms", "ratio", "same C");
     for widths in WIDTHS {
-        let timed = KINDS.map(|kind| {
+        let timed = [PRODUCT, A_TRANSPOSED].map(|kind| {
             let (plan, memory) = packed_plan_of(kind, widths, [256; 3]);
             let before = plan_bench(LARGE, &plan, memory);
             let (time, after) = library_product(LARGE, &plan, memory);
@@ -298,4 +315,53 @@ fn transposed_runs() {
         print!("{name:14}{plain:>12.3}{transposed:>16.3}{:>10.2}", transposed / plain);
         println!("{:>8}", if right && also_right { "yes" } else { "NO" });
     }
+}
+
+/// Float runs beside integer ones of 32 bits and beside the anchor's loops on floats.
+fn float_runs() {
+    println!();
+    println!(
+        "float runs on {}, by run_turns, one size for m, k, n: nanoseconds",
+        machine_name(LARGE)
+    );
+    println!(
+        "a MAC, beside the integer run at 32 bits, the anchor's loops on floats in plain C and"
+    );
+    println!("the second program (timed on {SECOND_SIZE} in each size)");
+    print!("{:14}{:>12}{:>12}{:>12}{:>12}", "", "library", "integer", "anchor", "second");
+    println!("{:>18}{:>8}", "ratio to anchor", "same C");
+    let second = second_rate_of(LARGE, FLOAT, (32, 1));
+    for size in [64, 128, 256] {
+        let count = (size * size * size) as f64;
+        let (plan, memory) = packed_plan_of(FLOAT, (32, 1), [size; 3]);
+        let (time, after) = library_product(LARGE, &plan, memory);
+        let (integer, _) = library_product(LARGE, &Plan { kind: PRODUCT, ..plan }, memory);
+        let (anchor, by_anchor) = float_anchor(&plan, &plan_bench(LARGE, &plan, memory));
+        let [ours, plain] = [&after.memory, &by_anchor]
+            .map(|memory| model::elements(plan.placed(Matrix::C), memory));
+        let [time, integer, anchor] = [time, integer, anchor].map(|time| time / count);
+        print!("{size:<14}{time:>12.3}{integer:>12.3}{anchor:>12.3}{second:>12.1}");
+        println!("{:>18.2}{:>8}", time / anchor, if ours == plain { "yes" } else { "NO" });
+    }
+}
+
+/// Nanoseconds of the anchor's loops on floats, and the memory they leave.
+fn float_anchor(plan: &Plan, lent: &Lent) -> (f64, Vec<u8>) {
+    let [m, k, n] = [plan.m, plan.k, plan.n].map(|size| size as usize);
+    let mut numbers: Vec<f32> = lent
+        .memory
+        .chunks_exact(4)
+        .map(|bytes| f32::from_bits(u32::from_le_bytes(bytes.try_into().unwrap())))
+        .collect();
+    let time = best(
+        &mut numbers[..],
+        |numbers| numbers[plan.c as usize / 4..].fill(0.0),
+        // The three ranges lie in memory and do not overlap.
+        |numbers| unsafe {
+            let start = numbers.as_mut_ptr();
+            let [a, b, c] = [plan.a, plan.b, plan.c].map(|address| start.add(address as usize / 4));
+            anchor_float_product(m, k, n, a, b, c)
+        },
+    );
+    (time, numbers.iter().flat_map(|number| number.to_bits().to_le_bytes()).collect())
 }

@@ -11,7 +11,7 @@ use crate::random::Random;
 use crate::states::{any_machine, bench_of, lengths, wrong_length};
 use crate::suite::{each_case, Context, Outcome};
 use crate::tally::{Call, Tally};
-use model::{maximum, Machine, Plan, Size};
+use model::{maximum, Machine, Plan, Size, KINDS};
 
 const GUARD: usize = 32;
 
@@ -281,7 +281,7 @@ fn forge(random: &mut Random, good: &[u8]) -> Vec<u8> {
             fields[PLACE + at] = random.pick(&[1, 2, 1 << 32, 1 << 63, u64::MAX]);
         }
         8 => fields[KIND] = random.pick(&UNKNOWN_KINDS),
-        9 => fields[KIND] ^= 1,
+        9 => fields[KIND] = random.pick(&KINDS),
         // C's rows over each other.
         10 => fields[C_STRIDE] = random.pick(&[0, 1, u64::MAX]),
         _ => {

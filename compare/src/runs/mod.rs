@@ -2,6 +2,7 @@
 
 pub mod bench;
 pub mod damage;
+pub mod floats;
 pub mod plans;
 pub mod powerup;
 pub mod suites;

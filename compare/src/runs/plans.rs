@@ -1,14 +1,15 @@
 //! Seeded plans of product runs, with a bench to run them on.
 
+use crate::float_numbers::{any_style, number};
 use crate::lent::{machine_of, Lent};
 use crate::random::Random;
 use crate::states::{
     any_machine, any_scalar, bench_of, lengths, put_bench_fault, put_seal, wrapping_stride, SIZES,
     WIDTHS, WILD_STRIDES,
 };
-use model::{maximum, Machine, Matrix, Plan, Size, KINDS, PRODUCT};
+use model::{maximum, Machine, Matrix, Plan, Size, FLOAT, KINDS, PRODUCT};
 
-pub const UNKNOWN_KINDS: [u64; 6] = [2, 3, 256, 1 << 32, 1 << 63, u64::MAX];
+pub const UNKNOWN_KINDS: [u64; 6] = [3, 4, 258, 1 << 32, (1 << 63) + 2, u64::MAX];
 
 /// A size around a multiple of the block size.
 fn size_around(random: &mut Random, machine: &Machine, size: Size, sew: u64) -> u64 {
@@ -59,16 +60,25 @@ impl Rows {
     }
 }
 
-/// A plan of either kind that is accepted on a bench of its own, with sizes as
-/// given.
+/// What a run multiplies: its kind, SEW and factor.
+pub type Numbers = (u64, (u64, u64));
+
+/// Any kind, with widths that it permits.
+pub fn any_numbers(random: &mut Random) -> Numbers {
+    match random.pick(&KINDS) {
+        FLOAT => (FLOAT, (32, 1)),
+        kind => (kind, random.pick(&WIDTHS)),
+    }
+}
+
+/// A plan that is accepted on a bench of its own, with numbers and sizes as given.
 pub fn good_plan(
     random: &mut Random,
     machine: &Machine,
-    (sew, factor): (u64, u64),
+    (kind, widths): Numbers,
     [m, k, n]: [u64; 3],
 ) -> (Plan, Lent) {
-    let kind = random.pick(&KINDS);
-    let mut plan = unplaced(kind, (sew, factor), [m, k, n]);
+    let mut plan = unplaced(kind, widths, [m, k, n]);
     let [a, b, c] = [Matrix::A, Matrix::B, Matrix::C].map(|matrix| Rows::of(&plan, matrix));
     let mut end = random.below(4) as i128;
     let gap = |random: &mut Random| {
@@ -117,10 +127,26 @@ pub fn good_plan(
     let memory = trimmed_end(&plan, end) + gap(random) as usize;
     let mut lent = bench_of(random, machine);
     lent.memory = random.bytes(memory);
+    if kind == FLOAT {
+        put_floats(random, &plan, &mut lent.memory);
+    }
     for mark in lent.marks.iter_mut() {
         *mark = random.below(2) as u8;
     }
     (plan, lent)
+}
+
+/// Float numbers as the elements of A and B.
+pub fn put_floats(random: &mut Random, plan: &Plan, memory: &mut [u8]) {
+    let style = any_style(random);
+    for placed in [Matrix::A, Matrix::B].map(|matrix| plan.placed(matrix)) {
+        for i in 0..placed.rows {
+            for j in 0..placed.columns {
+                let at = placed.element(i, j) as usize;
+                memory[at..at + 4].copy_from_slice(&number(random, style, false).to_le_bytes());
+            }
+        }
+    }
 }
 
 /// A plan whose matrices are still to be placed.
@@ -133,9 +159,9 @@ fn unplaced(kind: u64, (sew, factor): (u64, u64), [m, k, n]: [u64; 3]) -> Plan {
 /// A plan on a machine, with sizes around its block sizes.
 pub fn plan_around(random: &mut Random, lengths: (u64, u64)) -> (Plan, Lent) {
     let machine = any_machine(random, lengths);
-    let widths = random.pick(&WIDTHS);
+    let (kind, widths) = any_numbers(random);
     let sizes = SIZES.map(|size| size_around(random, &machine, size, widths.0));
-    let (plan, mut lent) = good_plan(random, &machine, widths, sizes);
+    let (plan, mut lent) = good_plan(random, &machine, (kind, widths), sizes);
     if random.chance(40) {
         harmless_seal(random, &plan, &mut lent);
     }
@@ -146,9 +172,9 @@ pub fn plan_around(random: &mut Random, lengths: (u64, u64)) -> (Plan, Lent) {
 pub fn small_plan(random: &mut Random) -> (Plan, Lent) {
     let lengths = lengths(random);
     let machine = any_machine(random, lengths);
-    let widths = random.pick(&WIDTHS);
+    let numbers = any_numbers(random);
     let sizes = SIZES.map(|_| random.range(0, 9));
-    good_plan(random, &machine, widths, sizes)
+    good_plan(random, &machine, numbers, sizes)
 }
 
 /// A plan of packed matrices, one behind the other, and the length of its memory.
@@ -214,7 +240,7 @@ fn spoil_once(random: &mut Random, plan: &mut Plan, lent: &mut Lent) {
             0u64.wrapping_sub(by)
         }
     };
-    match random.below(19) {
+    match random.below(20) {
         0 => plan.sew = random.pick(&[0, 1, 4, 7, 9, 24, 64, 128, 1 << 32, 1 << 61, u64::MAX]),
         1 => plan.factor = random.pick(&[0, 3, 5, 8, 1 << 32, 1 << 61, u64::MAX]),
         2 => {
@@ -246,8 +272,9 @@ fn spoil_once(random: &mut Random, plan: &mut Plan, lent: &mut Lent) {
         15 => plan.c = random.pick(&[plan.b, plan.b.wrapping_sub(1), plan.b.wrapping_add(1)]),
         16 => seal_a_byte_of_c(random, plan, lent),
         17 => plan.kind = random.pick(&UNKNOWN_KINDS),
-        // The other shape of A, where the plan has laid this one.
-        _ => plan.kind ^= 1,
+        // Another shape of A, or other widths, where the plan has laid these.
+        18 => plan.kind = random.pick(&KINDS),
+        _ => (plan.sew, plan.factor) = random.pick(&WIDTHS),
     }
 }
 

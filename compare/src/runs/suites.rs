@@ -1,7 +1,7 @@
 //! Product runs: starts, every turn, the words alone, many turns at once, whole
 //! runs in one call.
 
-use super::plans::{good_lengths, good_plan, plan_around, spoil};
+use super::plans::{any_numbers, good_lengths, good_plan, plan_around, spoil};
 use crate::lent::{
     differences, handed_block, handed_of, library_run, library_run_start, library_run_turn,
     library_run_turns, library_step, packed, report, second_run_start, second_run_turn,
@@ -14,7 +14,7 @@ use crate::states::{
 };
 use crate::suite::{each_case, Context, Outcome};
 use crate::tally::{Call, Tally};
-use model::{maximum, Handed, Kind, Matrix, Plan, Run, Size, MILL};
+use model::{maximum, Handed, Kind, Matrix, Plan, Run, Size, A_TRANSPOSED, FLOAT, MILL, PRODUCT};
 
 /// A run that both programs started.
 struct Started {
@@ -74,7 +74,7 @@ pub fn machine_of_case(case: u64) -> (u64, u64) {
 
 /// Accepted plans, each turn compared with everything lent.
 pub fn turns(context: &mut Context) -> Outcome {
-    let count = 4000 * context.scale;
+    let count = 6000 * context.scale;
     each_case(context, "turns", count, |case, random, tally| {
         let good = plan_around(random, machine_of_case(case));
         let started = start_good(random, good, tally)?;
@@ -248,7 +248,7 @@ fn words_by_step(plan: &Plan, lent: &Lent, block: &[u8], after: &Lent) -> Result
 }
 
 /// C is the product, and no other byte of memory changed.
-fn check_product(plan: &Plan, before: &[u8], after: &[u8]) -> Result<(), String> {
+pub fn check_product(plan: &Plan, before: &[u8], after: &[u8]) -> Result<(), String> {
     let expected = model::product(plan, before);
     let found = model::elements(plan.placed(Matrix::C), after);
     if found != expected {
@@ -266,7 +266,7 @@ fn check_product(plan: &Plan, before: &[u8], after: &[u8]) -> Result<(), String>
 
 /// Starts of plans that were spoiled; those still accepted are run.
 pub fn run_starts(context: &mut Context) -> Outcome {
-    each_case(context, "run starts", 6000, |case, random, tally| {
+    each_case(context, "run starts", 9000, |case, random, tally| {
         let lengths = match random.below(4) {
             0 => machine_of_case(case),
             _ => lengths(random),
@@ -328,14 +328,14 @@ pub fn largest_sizes(context: &mut Context) -> Outcome {
     let pairs = model::permitted_lengths().len() as u64;
     each_case(context, "largest sizes", 4 * pairs, |case, random, tally| {
         let machine = any_machine(random, machine_of_case(case));
-        let widths = random.pick(&WIDTHS);
+        let numbers = any_numbers(random);
         let large = random.pick(&[1023, 1024]);
         let mut sizes = SIZES.map(|_| random.range(1, 24));
         sizes[case as usize / pairs as usize % 3] = large;
         if case / pairs == 3 {
             sizes = random.pick(&[[1024, 0, 16], [0, 1024, 1024], [1024, 1024, 0]]);
         }
-        let (plan, lent) = good_plan(random, &machine, widths, sizes);
+        let (plan, lent) = good_plan(random, &machine, numbers, sizes);
         let above = |size: u64| if size >= 1023 { 1025 } else { size };
         let too_large = Plan { m: above(plan.m), k: above(plan.k), n: above(plan.n), ..plan };
         if start_both(random, too_large, lent.clone(), tally)?.is_some() {
@@ -372,11 +372,16 @@ fn compare_at_end(random: &mut Random, started: Started, tally: &mut Tally) -> R
 
 /// Larger plans, compared at the end only.
 pub fn larger_products(context: &mut Context) -> Outcome {
-    each_case(context, "larger products", 72, |case, random, tally| {
+    each_case(context, "larger products", 90, |case, random, tally| {
         let machine = any_machine(random, machine_of_case(case));
-        let widths = WIDTHS[case as usize % WIDTHS.len()];
-        let sizes = SIZES.map(|_| random.range(20, 160));
-        let good = good_plan(random, &machine, widths, sizes);
+        let kind = random.pick(&[PRODUCT, A_TRANSPOSED]);
+        let numbers = match case {
+            0..72 => (kind, WIDTHS[case as usize % WIDTHS.len()]),
+            _ => (FLOAT, (32, 1)),
+        };
+        let largest = if numbers.0 == FLOAT { 100 } else { 160 };
+        let sizes = SIZES.map(|_| random.range(20, largest));
+        let good = good_plan(random, &machine, numbers, sizes);
         let started = start_good(random, good, tally)?;
         compare_at_end(random, started, tally)
     })
@@ -385,7 +390,7 @@ pub fn larger_products(context: &mut Context) -> Outcome {
 /// Turns on a bench that was changed between them: the words are carried out
 /// as any other, and a refusal leaves everything as it was.
 pub fn disturbed_turns(context: &mut Context) -> Outcome {
-    each_case(context, "disturbed turns", 2500, |_, random, tally| {
+    each_case(context, "disturbed turns", 5000, |_, random, tally| {
         let lengths = lengths(random);
         let good = plan_around(random, lengths);
         let Started { plan, mut lent, mut block, mut run } = start_good(random, good, tally)?;
@@ -414,11 +419,11 @@ pub fn overlapping_turns(context: &mut Context) -> Outcome {
     let count = 40 * model::permitted_lengths().len() as u64;
     each_case(context, "overlapping turns", count, |case, random, tally| {
         let machine = any_machine(random, machine_of_case(case));
-        let widths = random.pick(&WIDTHS);
+        let (kind, widths) = any_numbers(random);
         let [rows, widest] =
             [Size::M, Size::N].map(|size| maximum(&machine, size, widths.0 as i128) as u64);
         let sizes = [random.range(2, 2 * rows), random.range(0, 3), random.range(1, widest - 1)];
-        let good = good_plan(random, &machine, widths, sizes);
+        let good = good_plan(random, &machine, (kind, widths), sizes);
         let Started { plan, mut lent, mut block, mut run } = start_good(random, good, tally)?;
         let before = lent.memory.clone();
         while !is_store(&run.steps[run.place]) {
