@@ -11,15 +11,29 @@
 
 /* ---- the machine and its scalars ---- */
 
+/* The end of the line, or this word and the end; whether the word stands there. */
+static int take_word(struct reader *reader, const char *word, int *stands)
+{
+    struct span span;
+    *stands = !at_end(reader);
+    if (!*stands)
+        return 1;
+    span = take_span(reader);
+    if (!span_is(span, word))
+        return refuse(reader, span.at, "the line should end here, or with %s", word);
+    return take_end(reader);
+}
+
 static int run_machine(struct session *session)
 {
     struct reader *reader = &session->reader;
     uint64_t rlen, mlen;
-    if (!take_any(reader, "RLEN", &rlen) || !take_any(reader, "MLEN", &mlen) || !take_end(reader))
+    int halving;
+    if (!take_any(reader, "RLEN", &rlen) || !take_any(reader, "MLEN", &mlen) || !take_word(reader, "halving", &halving))
         return 0;
     if (session->device.started)
         return not_now(session, "the machine is started already");
-    device_start(&session->device, rlen, mlen);
+    device_start(&session->device, rlen, mlen, halving ? BODLARINA_HALVING : BODLARINA_SMALLER);
     report(session, "machine");
     return 1;
 }
@@ -81,15 +95,12 @@ static int take_matrix(struct reader *reader, struct bodlarina_matrix *matrix)
 /* The end of the line, or the word transposed or float, and the end. */
 static int take_kind(struct reader *reader, uint64_t *kind)
 {
-    struct span span;
-    *kind = BODLARINA_PRODUCT;
-    if (at_end(reader))
-        return 1;
-    span = take_span(reader);
+    int transposed;
     *kind = span_is(span, "transposed") ? BODLARINA_A_TRANSPOSED : BODLARINA_FLOAT;
-    if (*kind == BODLARINA_FLOAT && !span_is(span, "float"))
-        return refuse(reader, span.at, "the line should end here, or with transposed or float");
-    return take_end(reader);
+    if (*kind == BODLARINA_FLOAT && !take_word(reader, "float", &transposed))
+        return refuse(reader, span.at, "the line should end here, or with transposed0;
+    *kind or float")transposed ? BODLARINA_A_TRANSPOSED : BODLARINA_PRODUCT;
+    return 1;
 }
 
 static int take_plan(struct reader *reader, struct bodlarina_plan *plan)

@@ -26,6 +26,7 @@ static struct bodlarina_bench lent(struct device *device)
     bench.memory_len = device->memory_bytes;
     bench.run = device->run;
     bench.run_len = sizeof device->run;
+    bench.rule = device->rule;
     return bench;
 }
 
@@ -36,11 +37,12 @@ static uint64_t answer(struct device *device, uint64_t result)
     return result;
 }
 
-uint64_t device_start(struct device *device, uint64_t rlen, uint64_t mlen)
+uint64_t device_start(struct device *device, uint64_t rlen, uint64_t mlen, uint64_t rule)
 {
     struct bodlarina_bench bench;
     device->rlen = rlen;
     device->mlen = mlen;
+    device->rule = rule;
     bench = lent(device);
     answer(device, bodlarina_bench_start(&bench, rlen, mlen, device->seal_start, device->seal_length));
     device->started = device->result == 0;
@@ -114,6 +116,7 @@ static void take_numbers(struct device *device)
 {
     device->rlen = bodlarina_get64(device->machine + BODLARINA_MACHINE_RLEN_AT);
     device->mlen = bodlarina_get64(device->machine + BODLARINA_MACHINE_MLEN_AT);
+    device->rule = bodlarina_get64(device->machine + BODLARINA_MACHINE_RULE_AT);
     device->seal_start = bodlarina_get64(device->machine + BODLARINA_MACHINE_SEAL_START_AT);
     device->seal_length = bodlarina_get64(device->machine + BODLARINA_MACHINE_SEAL_LENGTH_AT);
     device->named.known = 0;

@@ -38,7 +38,7 @@ struct device {
     uint8_t run[BODLARINA_RUN_BYTES];
     uint8_t *memory; /* NULL until the script gives its size */
     size_t memory_bytes;
-    uint64_t rlen, mlen;
+    uint64_t rlen, mlen, rule;
     uint64_t seal_start, seal_length;
     int sealed, started;
     int answered;         /* whether there was a start, a step, a run or an image */
@@ -61,7 +61,7 @@ int device_memory(struct device *device, size_t bytes);
 void device_free(struct device *device);
 
 /* Each call leaves its result in the device and returns it. */
-uint64_t device_start(struct device *device, uint64_t rlen, uint64_t mlen);
+uint64_t device_start(struct device *device, uint64_t rlen, uint64_t mlen, uint64_t rule);
 uint64_t device_step(struct device *device, uint32_t word);
 uint64_t device_run_start(struct device *device, const struct bodlarina_plan *plan);
 

@@ -16,7 +16,7 @@ static uint8_t machine[BODLARINA_MACHINE_BYTES], registers[BODLARINA_REGISTER_BY
 static uint8_t scalars[BODLARINA_SCALAR_BYTES], memory[MEMORY_BYTES], run[BODLARINA_RUN_BYTES];
 static struct bodlarina_bench bench = {
     machine, sizeof machine, registers, sizeof registers, marks, sizeof marks,
-    scalars, sizeof scalars, memory, sizeof memory, run, sizeof run,
+    scalars, sizeof scalars, memory, sizeof memory, run, sizeof run, BODLARINA_SMALLER,
 };
 static int passed, failed;
 
@@ -72,17 +72,48 @@ static int steps_right(uint64_t sew, uint64_t factor, uint64_t m, uint64_t k, ui
 static void steps(void)
 {
     static const uint64_t sizes[] = {0, 1, 7, 8, 9, 64, 65, 100};
-    int right = bodlarina_bench_start(&bench, RLEN, MLEN, 0, 0) == 0;
-    for (unsigned i = 0; i < 8; i++)
-        for (unsigned j = 0; j < 8; j++) {
-            right = right && steps_right(8, 4, sizes[i], sizes[j], sizes[(i + j) % 8]);
-            right = right && steps_right(32, 1, sizes[j], sizes[(i + 3) % 8], sizes[i]);
-        }
-    check(right, "the number of a run's steps");
+    int right = 1;
+    for (bench.rule = BODLARINA_SMALLER; bench.rule <= BODLARINA_HALVING; bench.rule++) {
+        right = right && bodlarina_bench_start(&bench, RLEN, MLEN, 0, 0) == 0;
+        for (unsigned i = 0; i < 8; i++)
+            for (unsigned j = 0; j < 8; j++) {
+                right = right && steps_right(8, 4, sizes[i], sizes[j], sizes[(i + j) % 8]);
+                right = right && steps_right(32, 1, sizes[j], sizes[(i + 3) % 8], sizes[i]);
+            }
+    }
+    bench.rule = BODLARINA_SMALLER;
+    check(right, "the number of a run's steps, by either rule");
     right = bodlarina_run_steps(run, sizeof run - 1) == 0 && !bodlarina_run_is_over(run, sizeof run - 1);
     bodlarina_put64(run, 9); /* no such SEW */
     right = right && bodlarina_bench_run_steps(&bench) == 0 && !bodlarina_bench_run_is_over(&bench);
     check(right && bodlarina_bench_run_turns(&bench, 5) == 0, "a refused run block has no steps and is not over");
+}
+
+/* The size that is given of each that is asked, up to past twice the maximum. */
+static int sizes_right(void)
+{
+    unsigned most = MLEN / RLEN;
+    int right = bodlarina_bench_start(&bench, RLEN, MLEN, 0, 0) == 0;
+    for (unsigned asked = 0; asked < 2 * most + 3; asked++) {
+        unsigned smaller = asked < most ? asked : most;
+        unsigned given = bench.rule == BODLARINA_HALVING && most < asked && asked < 2 * most ? (asked + 1) / 2 : smaller;
+        right = right && bodlarina_bench_step(&bench, bodlarina_msettilemi(3, asked)) == 0 && bodlarina_bench_scalar(&bench, 3) == given;
+    }
+    return right;
+}
+
+static void rules(void)
+{
+    int right = 1;
+    for (bench.rule = BODLARINA_SMALLER; bench.rule <= BODLARINA_HALVING; bench.rule++)
+        right = right && sizes_right();
+    check(right, "the sizes that each rule gives");
+    right = bodlarina_bench_start(&bench, RLEN, MLEN, 0, 0) == BODLARINA_BAD_ARGUMENTS;
+    bodlarina_put64(machine + BODLARINA_MACHINE_RULE_AT, 2);
+    right = right && bodlarina_bench_step(&bench, bodlarina_msettypei(0, BODLARINA_E8)) == BODLARINA_BAD_ARGUMENTS;
+    right = right && bodlarina_bench_image_size(&bench) == BODLARINA_BAD_ARGUMENTS;
+    check(right, "an unknown rule: 8");
+    bench.rule = BODLARINA_SMALLER;
 }
 
 /* Slot 0 lies at the end of a page that cannot be written, the other slots on the next page. */
@@ -181,7 +212,7 @@ static const uint8_t image[] = {1, 6, 7, 1, 2, 2, 3, 5, 172, 2, 2, 1, 2, 11, 0, 
 static uint8_t small_machine[BODLARINA_MACHINE_BYTES], small_registers[SMALL_BYTES], small_marks[SMALL_BYTES];
 static struct bodlarina_bench small = {
     small_machine, sizeof small_machine, small_registers, SMALL_BYTES, small_marks, SMALL_BYTES,
-    scalars, sizeof scalars, memory, sizeof memory, run, sizeof run,
+    scalars, sizeof scalars, memory, sizeof memory, run, sizeof run, BODLARINA_SMALLER,
 };
 
 /* Everything that a read may write, filled with 7. */
@@ -206,10 +237,10 @@ static int untouched(void)
 
 static void image_read(void)
 {
-    static const uint64_t numbers[] = {64, 128, 1, 2, 2, 3, 5, 300};
+    static const uint64_t numbers[] = {64, 128, 1, 2, 2, 3, 5, 300, 0};
     fill();
     int right = bodlarina_image_mlen(image, sizeof image) == SMALL && bodlarina_bench_image_read(&small, image, sizeof image) == 0;
-    for (size_t i = 0; i < 8; i++)
+    for (size_t i = 0; i < 9; i++)
         right = right && bodlarina_get64(small_machine + 8 * i) == numbers[i];
     check(right, "an image is read: the machine's numbers");
     right = small_registers[1] == 11 && small_registers[2] == 0 && small_registers[255] == 255;
@@ -235,7 +266,8 @@ static void image_damaged(void)
     for (size_t length = 0; length < whole; length++)
         right = right && damaged(length, 0, 1, length);
     check(right, "an image that is cut short: 15 and its length");
-    right = damaged(whole, 0, 2, 0) && damaged(whole, 1, 5, 1) && damaged(whole, 1, 10, 1); /* version, RLEN */
+    right = damaged(whole, 0, 3, 0) && damaged(whole, 0, 2, 1);                             /* version, no rule after version 2 */
+    right = right && damaged(whole, 1, 5, 1) && damaged(whole, 1, 10, 1);                   /* RLEN */
     right = right && damaged(whole, 2, 6, 2) && damaged(whole, 2, 13, 2);                   /* MLEN */
     right = right && damaged(whole, 3, 3, 3) && damaged(whole, 4, 3, 4);                    /* mtype, tile_m */
     right = right && damaged(whole, 9, 0, 9);                                               /* not the shortest form */
@@ -280,12 +312,24 @@ static void image_written(void)
     check(right, "a machine at fault has no image: 8, also where there is no room");
 }
 
+/* Of a halving machine the image has version 2 and the rule, then what the other has behind version 1. */
+static void image_halving(void)
+{
+    uint8_t halving[sizeof image + 1] = {2}, room[sizeof halving];
+    memcpy(halving + 1, image, sizeof image);
+    int right = bodlarina_image_mlen(halving, sizeof halving) == SMALL && bodlarina_bench_image_read(&small, halving, sizeof halving) == 0;
+    right = right && bodlarina_get64(small_machine + BODLARINA_MACHINE_RULE_AT) == BODLARINA_HALVING;
+    right = right && bodlarina_bench_image_write(&small, room, sizeof room) == (uint64_t)sizeof room << 16;
+    check(right && memcmp(room, halving, sizeof halving) == 0, "the image of a halving machine is read and written");
+}
+
 static void images(void)
 {
     image_read();
     image_damaged();
     image_sizes();
     image_written();
+    image_halving();
 }
 
 /* ---- stack: a call in a thread whose stack was painted ---- */
@@ -369,6 +413,7 @@ int main(void)
     version();
     texts();
     steps();
+    rules();
     slot0();
     floats();
     images();

@@ -84,7 +84,7 @@ fit n p x hx h =
     let k : 1 ≤ x = ⊎-elim (λ e. omega arith) (λ g. ⊎-elim (λ e. omega arith) (λ e. omega arith) g) hx in
     (e, omega (arith, mul-le-mul-right n k))
 
-module _ (grant : ℕ → ℕ → ℕ) (m : Machine) (registers marks mem : List ℕ) (ok : sound m registers marks ≡ true) where
+module _ (grant : ℕ → ℕ → ℕ → ℕ) (m : Machine) (registers marks mem : List ℕ) (ok : sound m registers marks ≡ true) where
   abbrev M : Parameters
   M = parameters grant m
 

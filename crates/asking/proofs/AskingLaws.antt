@@ -12,8 +12,10 @@ use Rattle.machine.specs.Tests.{every, isIn}
 use Rattle.machine.specs.Answers.{reply}
 use Rattle.machine.proofs.TestLaws.{Each, every-each, each-every, each-in, false-true}
 use Rattle.machine.specs.Geometry.{permitted, elen}
-use Rattle.machine.proofs.StepLaws.{permitted-lengths, permitted-bounds, smaller-grants}
-use Rattle.machine.specs.Setting.{sew, smaller}
+use Rattle.machine.proofs.StepLaws.{permitted-lengths, permitted-bounds}
+use Rattle.machine.proofs.SizeLaws.{chosen-grants}
+use Rattle.machine.specs.Starting.{isRule}
+use Rattle.machine.specs.Setting.{sew, chosen}
 use Rattle.run.specs.declared.Layout.{Layout}
 use Rattle.run.specs.declared.Handed.{Handed}
 use Rattle.run.specs.declared.Plan.{Plan}
@@ -60,11 +62,11 @@ small-product s f hs hf =
 module _ (R : Run) (ok : numbered R ≡ true) where
   pub run-lengths : permitted (R .rlen) (R .mlen) ≡ true
   unfolding numbered
-  run-lengths = every-each (permitted (R .rlen) (R .mlen) ∷ planned (R .plan) ∷ []) ok .0
+  run-lengths = every-each (permitted (R .rlen) (R .mlen) ∷ isRule (R .rule) ∷ planned (R .plan) ∷ []) ok .0
 
   pub run-planned : planned (R .plan) ≡ true
   unfolding numbered
-  run-planned = every-each (permitted (R .rlen) (R .mlen) ∷ planned (R .plan) ∷ []) ok .1 .0
+  run-planned = every-each (permitted (R .rlen) (R .mlen) ∷ isRule (R .rule) ∷ planned (R .plan) ∷ []) ok .1 .1 .0
 
   pub run-rlen : 0 < R .rlen
   run-rlen = let b = permitted-bounds (R .rlen) (R .mlen) run-lengths in omega arith
@@ -87,27 +89,27 @@ module _ (R : Run) (ok : numbered R ≡ true) where
   run-bytes = ltb-true 0 (R .plan .sew / 8) (formats (R .plan .sew) (R .plan .factor) run-format .0 .1 .1 .1 .1 .1 .1 .1 .1 .0)
 
   -- the most rows, columns and terms of a block are at least 1
-  pub run-most : Sound (runShape smaller R)
+  pub run-most : Sound (runShape chosen R)
   run-most =
       let n = permitted-lengths (R .rlen) (R .mlen) run-lengths in
       let b : R .plan .sew / 8 ≤ 8 = leb-true (R .plan .sew / 8) 8 (formats (R .plan .sew) (R .plan .factor) run-format .0 .1 .1 .1 .1 .1 .1 .0) in
-      let columns : 0 < runShape smaller R .tn =
+      let columns : 0 < runShape chosen R .tn =
       le-div-iff-mul-le {k = sew (typeOf (R .plan))} {x = 1} {y = R .rlen / 8} (omega (arith, run-sew, run-bytes)) .1 (omega (arith, run-sew, n .1)) in
-      record { rule = smaller-grants; 0<tm = n .0; 0<tk = omega (arith, n .0, columns); 0<tn = columns }
+      record { rule = chosen-grants (R .rule); 0<tm = n .0; 0<tk = omega (arith, n .0, columns); 0<tn = columns }
 
 -- a place at which blocks start lies in the matrices
 module _ (R : Run) (ok : numbered R ≡ true) where
   abbrev S : Shape
-  S = runShape smaller R
+  S = runShape chosen R
 
   in-m : (i : ℕ) → startsM S i ≡ true → ltb i (R .plan .m) ≡ true
-  in-m = start-below smaller smaller-grants (S .tm) (run-most R ok .0<tm) (S .m)
+  in-m = start-below (chosen (R .rule)) (chosen-grants (R .rule)) (S .tm) (run-most R ok .0<tm) (S .m)
 
   in-n : (j : ℕ) → startsN S j ≡ true → ltb j (R .plan .n) ≡ true
-  in-n = start-below smaller smaller-grants (S .tn) (run-most R ok .0<tn) (S .n)
+  in-n = start-below (chosen (R .rule)) (chosen-grants (R .rule)) (S .tn) (run-most R ok .0<tn) (S .n)
 
   in-k : (s : ℕ) → startsK S s ≡ true → ltb s (R .plan .k) ≡ true
-  in-k = start-below smaller smaller-grants (S .tk) (run-most R ok .0<tk) (S .k)
+  in-k = start-below (chosen (R .rule)) (chosen-grants (R .rule)) (S .tk) (run-most R ok .0<tk) (S .k)
 
   in-mn : (i j : ℕ) → every (startsM S i ∷ startsN S j ∷ []) ≡ true → every (ltb i (R .plan .m) ∷ ltb j (R .plan .n) ∷ []) ≡ true
   in-mn i j h =
@@ -131,17 +133,17 @@ module _ (R : Run) (ok : numbered R ≡ true) where
   place-in (AtStore i j) h = in-mn i j h
   place-in AtEnd h = refl
 
-module _ (R : Run) (ok : soundRun smaller R ≡ true) where
-  tests : Each (permitted (R .rlen) (R .mlen) ∷ planned (R .plan) ∷ begins (runShape smaller R) (R .place) ∷ [])
+module _ (R : Run) (ok : soundRun chosen R ≡ true) where
+  tests : Each (permitted (R .rlen) (R .mlen) ∷ isRule (R .rule) ∷ planned (R .plan) ∷ begins (runShape chosen R) (R .place) ∷ [])
   unfolding soundRun
-  tests = every-each (permitted (R .rlen) (R .mlen) ∷ planned (R .plan) ∷ begins (runShape smaller R) (R .place) ∷ []) ok
+  tests = every-each (permitted (R .rlen) (R .mlen) ∷ isRule (R .rule) ∷ planned (R .plan) ∷ begins (runShape chosen R) (R .place) ∷ []) ok
 
   pub run-numbered : numbered R ≡ true
   unfolding numbered
-  run-numbered = each-every (permitted (R .rlen) (R .mlen) ∷ planned (R .plan) ∷ []) (tests .0, (tests .1 .0, tt))
+  run-numbered = each-every (permitted (R .rlen) (R .mlen) ∷ isRule (R .rule) ∷ planned (R .plan) ∷ []) (tests .0, (tests .1 .0, (tests .1 .1 .0, tt)))
 
   pub run-placed : placed (R .plan) (R .place) ≡ true
-  run-placed = place-in R run-numbered (R .place) (tests .1 .1 .0)
+  run-placed = place-in R run-numbered (R .place) (tests .1 .1 .1 .0)
 
 pub plan-small : (P : Plan) → planned P ≡ true → (P .sew ≤ 32) × (P .factor ≤ 4)
 unfolding planned format
@@ -207,7 +209,7 @@ abbrev pub giving : Answer → Handed → Run → AskOutcome
 giving a h R = record { answer = reply a; handed = h; run = R }
 
 abbrev pub runAt : Run → Place → Run
-runAt R p = record { plan = R .plan; rlen = R .rlen; mlen = R .mlen; place = p }
+runAt R p = record { plan = R .plan; rlen = R .rlen; mlen = R .mlen; rule = R .rule; place = p }
 
 no-words : (S : Shape) (q : Place) → isEnd q ≡ true → none ≡ wordAt S q
 no-words S AtType h = absurd (false-true h)
@@ -221,7 +223,7 @@ no-words S (AtMultiply i j s) h = absurd (false-true h)
 no-words S (AtStore i j) h = absurd (false-true h)
 no-words S AtEnd h = refl
 
-one-word : (S : Shape) (R : Run) (q : Place) → isEnd q ≡ false → giving Done (handedOf (R .plan) (wordAt S q)) (moved smaller R) ≡ asked (askWith smaller R (wordAt S q))
+one-word : (S : Shape) (R : Run) (q : Place) → isEnd q ≡ false → giving Done (handedOf (R .plan) (wordAt S q)) (moved chosen R) ≡ asked (askWith chosen R (wordAt S q))
 one-word S R AtType h = refl
 one-word S R (AtM i) h = refl
 one-word S R (AtN i j) h = refl
@@ -234,18 +236,18 @@ one-word S R (AtStore i j) h = refl
 one-word S R AtEnd h = absurd (false-true (sym h))
 
 module _ (R : Run) where
-  handing : soundRun smaller R ≡ true → wordAt (runShape smaller R) (R .place) ≡ handsOut smaller R
-  handing h = ap (λ (t : Bool). cond t (wordAt (runShape smaller R) (R .place)) none) (sym h)
+  handing : soundRun chosen R ≡ true → wordAt (runShape chosen R) (R .place) ≡ handsOut chosen R
+  handing h = ap (λ (t : Bool). cond t (wordAt (runShape chosen R) (R .place)) none) (sym h)
 
-  pub ask-unsound : soundRun smaller R ≡ false → asked (askWith smaller R none) ≡ asked (ask smaller R)
-  ask-unsound h = ap (λ (t : Bool). asked (askWith smaller R (cond t (wordAt (runShape smaller R) (R .place)) none))) (sym h)
+  pub ask-unsound : soundRun chosen R ≡ false → asked (askWith chosen R none) ≡ asked (ask chosen R)
+  ask-unsound h = ap (λ (t : Bool). asked (askWith chosen R (cond t (wordAt (runShape chosen R) (R .place)) none))) (sym h)
 
-  pub ask-end : soundRun smaller R ≡ true → isEnd (R .place) ≡ true → asked (askWith smaller R none) ≡ asked (ask smaller R)
-  ask-end h e = ap (λ (o : Option Op). asked (askWith smaller R o)) (no-words (runShape smaller R) (R .place) e ∙ handing h)
+  pub ask-end : soundRun chosen R ≡ true → isEnd (R .place) ≡ true → asked (askWith chosen R none) ≡ asked (ask chosen R)
+  ask-end h e = ap (λ (o : Option Op). asked (askWith chosen R o)) (no-words (runShape chosen R) (R .place) e ∙ handing h)
 
-  pub ask-done : soundRun smaller R ≡ true → isEnd (R .place) ≡ false
-      → giving Done (handedOf (R .plan) (wordAt (runShape smaller R) (R .place))) (moved smaller R) ≡ asked (ask smaller R)
-  ask-done h e = one-word (runShape smaller R) R (R .place) e ∙ ap (λ (o : Option Op). asked (askWith smaller R o)) (handing h)
+  pub ask-done : soundRun chosen R ≡ true → isEnd (R .place) ≡ false
+      → giving Done (handedOf (R .plan) (wordAt (runShape chosen R) (R .place))) (moved chosen R) ≡ asked (ask chosen R)
+  ask-done h e = one-word (runShape chosen R) R (R .place) e ∙ ap (λ (o : Option Op). asked (askWith chosen R o)) (handing h)
 
 -- ---- the next place
 
@@ -263,25 +265,25 @@ within P AtEnd h = tt
 
 -- by the most rows, columns and terms as code holds them
 pub next-by : (R : Run) (rows columns terms : ℕ) → Most R rows columns terms → (p : Place)
-    → next (shapeBy (R .plan .m) (R .plan .k) (R .plan .n) rows columns terms) p ≡ next (runShape smaller R) p
+    → next (shapeBy (R .rule) (R .plan .m) (R .plan .k) (R .plan .n) rows columns terms) p ≡ next (runShape chosen R) p
 next-by R rows columns terms h p =
     let P : Plan = R .plan in
-    ap (λ (x : ℕ). next (shapeBy (P .m) (P .k) (P .n) x columns terms) p) (h .rows-are)
-    ∙ ap (λ (x : ℕ). next (shapeBy (P .m) (P .k) (P .n) (runShape smaller R .tm) x terms) p) (h .columns-are)
-    ∙ ap (λ (x : ℕ). next (shapeBy (P .m) (P .k) (P .n) (runShape smaller R .tm) (runShape smaller R .tn) x) p) (h .terms-are)
+    ap (λ (x : ℕ). next (shapeBy (R .rule) (P .m) (P .k) (P .n) x columns terms) p) (h .rows-are)
+    ∙ ap (λ (x : ℕ). next (shapeBy (R .rule) (P .m) (P .k) (P .n) (runShape chosen R .tm) x terms) p) (h .columns-are)
+    ∙ ap (λ (x : ℕ). next (shapeBy (R .rule) (P .m) (P .k) (P .n) (runShape chosen R .tm) (runShape chosen R .tn) x) p) (h .terms-are)
 
 -- a run that a start can have made stays one
-pub moved-sound : (R : Run) → soundRun smaller R ≡ true → soundRun smaller (moved smaller R) ≡ true
+pub moved-sound : (R : Run) → soundRun chosen R ≡ true → soundRun chosen (moved chosen R) ≡ true
 unfolding soundRun
 moved-sound R ok =
-    let t = every-each (permitted (R .rlen) (R .mlen) ∷ planned (R .plan) ∷ begins (runShape smaller R) (R .place) ∷ []) ok in
-    each-every (permitted (R .rlen) (R .mlen) ∷ planned (R .plan) ∷ begins (runShape smaller R) (next (runShape smaller R) (R .place)) ∷ [])
-    (t .0, (t .1 .0, (begins-next (runShape smaller R) (run-most R (run-numbered R ok)) (R .place) (t .1 .1 .0), tt)))
+    let t = every-each (permitted (R .rlen) (R .mlen) ∷ isRule (R .rule) ∷ planned (R .plan) ∷ begins (runShape chosen R) (R .place) ∷ []) ok in
+    each-every (permitted (R .rlen) (R .mlen) ∷ isRule (R .rule) ∷ planned (R .plan) ∷ begins (runShape chosen R) (next (runShape chosen R) (R .place)) ∷ [])
+    (t .0, (t .1 .0, (t .1 .1 .0, (begins-next (runShape chosen R) (run-most R (run-numbered R ok)) (R .place) (t .1 .1 .1 .0), tt))))
 
 -- ---- the number of steps
 
 -- the most rows, columns and terms of a block are few
-pub run-blocks : (R : Run) → numbered R ≡ true → (runShape smaller R .tm ≤ 4096) × ((runShape smaller R .tn ≤ 4096) × (runShape smaller R .tk ≤ 4096))
+pub run-blocks : (R : Run) → numbered R ≡ true → (runShape chosen R .tm ≤ 4096) × ((runShape chosen R .tn ≤ 4096) × (runShape chosen R .tk ≤ 4096))
 run-blocks R ok =
     let b = permitted-bounds (R .rlen) (R .mlen) (run-lengths R ok) in
     let rows : R .mlen / R .rlen ≤ R .mlen = div-le-self (R .mlen) (R .rlen) in
@@ -289,11 +291,11 @@ run-blocks R ok =
     omega arith
 
 -- a run that no start can have made has none
-pub no-steps : (R : Run) → soundRun smaller R ≡ false → 0 ≡ stepsIn R
-no-steps R h = ap (λ (t : Bool). cond t (steps (runShape smaller R)) 0) (sym h)
+pub no-steps : (R : Run) → soundRun chosen R ≡ false → 0 ≡ stepsIn R
+no-steps R h = ap (λ (t : Bool). cond t (steps (runShape chosen R)) 0) (sym h)
 
 -- by the numbers of blocks as code holds them
-pub steps-counted : (R : Run) (r c t : ℕ) → soundRun smaller R ≡ true
-    → r ≡ count (runShape smaller R .tm) (R .plan .m) → c ≡ count (runShape smaller R .tn) (R .plan .n) → t ≡ count (runShape smaller R .tk) (R .plan .k)
+pub steps-counted : (R : Run) (r c t : ℕ) → soundRun chosen R ≡ true
+    → r ≡ count (runShape chosen R .tm) (R .plan .m) → c ≡ count (runShape chosen R .tn) (R .plan .n) → t ≡ count (runShape chosen R .tk) (R .plan .k)
     → 1 + r * (1 + c * (3 + 4 * t)) ≡ stepsIn R
-steps-counted R r c t h er ec et = rw (er, ec, et) (ap (λ (t : Bool). cond t (steps (runShape smaller R)) 0) (sym h))
+steps-counted R r c t h er ec et = rw (er, ec, et) (ap (λ (t : Bool). cond t (steps (runShape chosen R)) 0) (sym h))

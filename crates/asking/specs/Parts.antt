@@ -12,15 +12,16 @@ use Rattle.run.specs.declared.Run.{Run}
 use Rattle.run.specs.declared.Handed.{Handed}
 use Rattle.run.specs.Words.{Op, Shape}
 use Rattle.run.specs.Turn.{runShape}
-use Rattle.machine.specs.Setting.{smaller}
+use Rattle.machine.specs.Starting.{isRule}
+use Rattle.machine.specs.Setting.{chosen}
 use Prim.Native.Nat.{ℕ, _≤_}
 use mathlib.Core.Path.{_≡_}
 use Rattle.run.specs.Encoding.{plain, handedFor}
 use Rattle.run.specs.Start.{planned}
 
--- the lengths and the plan of a run are ones that it can hold
+-- the lengths, the rule and the plan of a run are ones that it can hold
 unfoldable pub numbered : Run → Bool
-numbered R = every (permitted (R .rlen) (R .mlen) ∷ planned (R .plan) ∷ [])
+numbered R = every (permitted (R .rlen) (R .mlen) ∷ isRule (R .rule) ∷ planned (R .plan) ∷ [])
 
 -- the place lies in the matrices
 abbrev pub placed : Plan → Place → Bool
@@ -53,9 +54,9 @@ abbrev pub handedOf : Plan → Option Op → Handed
 handedOf P none = plain 0
 handedOf P (some o) = handedFor P o
 
--- the sizes of a product, and the most rows, columns and terms of a block
-abbrev pub shapeBy : (m k n rows columns terms : ℕ) → Shape
-shapeBy m k n rows columns terms = record { grant = smaller; tm = rows; tk = terms; tn = columns; m = m; k = k; n = n }
+-- the rule, the sizes of a product, and the most rows, columns and terms of a block
+abbrev pub shapeBy : (rule m k n rows columns terms : ℕ) → Shape
+shapeBy rule m k n rows columns terms = record { grant = chosen rule; tm = rows; tk = terms; tn = columns; m = m; k = k; n = n }
 
 -- the numbers that the next place is reckoned from lie in the product
 abbrev pub Within : (m k n : ℕ) → Place → Type 0
@@ -72,6 +73,6 @@ Within m k n AtEnd = Unit {0}
 
 -- the most rows, columns and terms of a run's blocks
 pub record Most (R : Run) (rows columns terms : ℕ) : Type 0 where
-  pub rows-are : rows ≡ runShape smaller R .tm
-  pub columns-are : columns ≡ runShape smaller R .tn
-  pub terms-are : terms ≡ runShape smaller R .tk
+  pub rows-are : rows ≡ runShape chosen R .tm
+  pub columns-are : columns ≡ runShape chosen R .tn
+  pub terms-are : terms ≡ runShape chosen R .tk

@@ -15,13 +15,13 @@ ghost use Prim.Native.Nat.{_+_, _-_, _*_, _%_, _^_, _≤_, _<_};
 ghost use lib.Dec.{ltb};
 ghost use Rattle.machine.specs.Tests.{every, isIn};
 ghost use Rattle.machine.specs.Answers.{reply};
-ghost use Rattle.machine.specs.Setting.{smaller, maxM, maxN, maxK};
+ghost use Rattle.machine.specs.Setting.{chosen, maxM, maxN, maxK};
 ghost use Rattle.run.specs.Words.{setType, clear, multiply, loadA, loadB, store};
 ghost use Rattle.run.specs.Plan.{narrow, wide, msew, typeOf, formOf, aRow, aColumn};
 ghost use Rattle.run.specs.Start.{format, kinded, planned};
 ghost use Rattle.run.specs.Places.{headM, headN, headK, next, wordAt};
 ghost use Rattle.run.specs.Turn.{startsM, startsN, startsK, begins, soundRun, runParameters, runShape, moved, ask, asked, askedAs};
-ghost use Rattle.width.specs.Blocks.{count};
+ghost use Rattle.width.specs.Blocks.{count, chunks};
 ghost use Rattle.asking.specs.Steps.{stepsIn};
 ghost use Rattle.asking.specs.Parts.{numbered, placed, isEnd, handedOf, shapeBy, Within, Most};
 ghost use Rattle.machine.specs.declared.Answer.the-variants.{BadArguments};
@@ -136,16 +136,10 @@ fn is_placed(plan: Plan, place: Place) -> bool
     }
 }
 
-fn lesser(a: u64, b: u64) -> u64
-    ensures { λ r. ⌜ r ≡ smaller b a ⌝ }
-{
-    if a < b { a } else { b }
-}
-
 // The most rows of a block.
 pub fn most_rows(run: Run) -> u64
     requires { ⌜ numbered run ≡ true ⌝ }
-    ensures { λ r. ⌜ r ≡ maxM (runParameters smaller run) (typeOf (run .plan)) ⌝ }
+    ensures { λ r. ⌜ r ≡ maxM (runParameters chosen run) (typeOf (run .plan)) ⌝ }
 {
     run.mlen / run.rlen
 }
@@ -153,7 +147,7 @@ pub fn most_rows(run: Run) -> u64
 // The most columns.
 pub fn most_columns(run: Run) -> u64
     requires { ⌜ numbered run ≡ true ⌝ }
-    ensures { λ r. ⌜ r ≡ maxN (runParameters smaller run) (typeOf (run .plan)) ⌝ }
+    ensures { λ r. ⌜ r ≡ maxN (runParameters chosen run) (typeOf (run .plan)) ⌝ }
 {
     let bytes = run.plan.sew / 8;
     run.rlen / 8 / bytes
@@ -162,45 +156,65 @@ pub fn most_columns(run: Run) -> u64
 // The most terms.
 pub fn most_terms(run: Run) -> u64
     requires { ⌜ numbered run ≡ true ⌝ }
-    ensures { λ r. ⌜ r ≡ maxK (runParameters smaller run) (typeOf (run .plan)) ⌝ }
+    ensures { λ r. ⌜ r ≡ maxK (runParameters chosen run) (typeOf (run .plan)) ⌝ }
 {
     let rows = most_rows(run);
     let columns = most_columns(run);
-    lesser(rows, columns)
+    machine::smaller(rows, columns)
+}
+
+// Where the block of a rule ends that starts here: the maximum, and what of the total is left to ask for.
+fn block_end(rule: u64, total: u64, at: u64, most: u64) -> u64
+    requires { ⌜ at ≤ total ⌝ }
+    ensures { λ r. ⌜ r ≡ at + chosen rule most (total - at) ⌝ }
+{
+    at + machine::chosen(rule, most, total - at)
+}
+
+// Whether a block starts here: at 0, or where the block of the last multiple of the most before it ends.
+fn starts_block(rule: u64, total: u64, at: u64, most: u64) -> bool
+    requires { ⌜ (0 < most) × (at < total) ⌝ }
+    ensures { λ r. ⌜ r ≡ isIn at (chunks (chosen rule) most total 0) ⌝ }
+{
+    if at == 0 {
+        return true;
+    }
+    let base = (at - 1) / most * most;
+    block_end(rule, total, base, most) == at
 }
 
 // Whether a block of rows starts at this row.
 fn starts_rows(run: Run, row: u64) -> bool
     requires { ⌜ numbered run ≡ true ⌝ }
     requires { ⌜ row < run .plan .m ⌝ }
-    ensures { λ r. ⌜ r ≡ startsM (runShape smaller run) row ⌝ }
+    ensures { λ r. ⌜ r ≡ startsM (runShape chosen run) row ⌝ }
 {
     let most = most_rows(run);
-    row % most == 0
+    starts_block(run.rule, run.plan.m, row, most)
 }
 
 fn starts_columns(run: Run, column: u64) -> bool
     requires { ⌜ numbered run ≡ true ⌝ }
     requires { ⌜ column < run .plan .n ⌝ }
-    ensures { λ r. ⌜ r ≡ startsN (runShape smaller run) column ⌝ }
+    ensures { λ r. ⌜ r ≡ startsN (runShape chosen run) column ⌝ }
 {
     let most = most_columns(run);
-    column % most == 0
+    starts_block(run.rule, run.plan.n, column, most)
 }
 
 fn starts_terms(run: Run, term: u64) -> bool
     requires { ⌜ numbered run ≡ true ⌝ }
     requires { ⌜ term < run .plan .k ⌝ }
-    ensures { λ r. ⌜ r ≡ startsK (runShape smaller run) term ⌝ }
+    ensures { λ r. ⌜ r ≡ startsK (runShape chosen run) term ⌝ }
 {
     let most = most_terms(run);
-    term % most == 0
+    starts_block(run.rule, run.plan.k, term, most)
 }
 
 fn starts_product(run: Run, row: u64, column: u64) -> bool
     requires { ⌜ numbered run ≡ true ⌝ }
     requires { ⌜ every (ltb row (run .plan .m) ∷ ltb column (run .plan .n) ∷ []) ≡ true ⌝ }
-    ensures { λ r. ⌜ r ≡ every (startsM (runShape smaller run) row ∷ startsN (runShape smaller run) column ∷ []) ⌝ }
+    ensures { λ r. ⌜ r ≡ every (startsM (runShape chosen run) row ∷ startsN (runShape chosen run) column ∷ []) ⌝ }
 {
     if !starts_rows(run, row) {
         return false;
@@ -211,7 +225,7 @@ fn starts_product(run: Run, row: u64, column: u64) -> bool
 fn starts_sums(run: Run, row: u64, column: u64, term: u64) -> bool
     requires { ⌜ numbered run ≡ true ⌝ }
     requires { ⌜ every (ltb row (run .plan .m) ∷ ltb column (run .plan .n) ∷ ltb term (run .plan .k) ∷ []) ≡ true ⌝ }
-    ensures { λ r. ⌜ r ≡ every (startsM (runShape smaller run) row ∷ startsN (runShape smaller run) column ∷ startsK (runShape smaller run) term ∷ []) ⌝ }
+    ensures { λ r. ⌜ r ≡ every (startsM (runShape chosen run) row ∷ startsN (runShape chosen run) column ∷ startsK (runShape chosen run) term ∷ []) ⌝ }
 {
     if !starts_rows(run, row) {
         return false;
@@ -226,7 +240,7 @@ fn starts_sums(run: Run, row: u64, column: u64, term: u64) -> bool
 fn is_begun(run: Run) -> bool
     requires { ⌜ numbered run ≡ true ⌝ }
     requires { ⌜ placed (run .plan) (run .place) ≡ true ⌝ }
-    ensures { λ r. ⌜ r ≡ begins (runShape smaller run) (run .place) ⌝ }
+    ensures { λ r. ⌜ r ≡ begins (runShape chosen run) (run .place) ⌝ }
 {
     let place = run.place;
     match place {
@@ -245,11 +259,14 @@ fn is_begun(run: Run) -> bool
 
 // Whether the numbers of a run are ones that a run can hold, and its place one that a run comes to.
 pub fn is_sound_run(run: Run) -> bool
-    ensures { λ r. ⌜ r ≡ soundRun smaller run ⌝ }
+    ensures { λ r. ⌜ r ≡ soundRun chosen run ⌝ }
 {
     let rlen = run.rlen;
     let mlen = run.mlen;
     if !machine::permitted_lengths(rlen, mlen) {
+        return false;
+    }
+    if run.rule > 1 {
         return false;
     }
     let plan = run.plan;
@@ -265,17 +282,18 @@ pub fn is_sound_run(run: Run) -> bool
 
 // ---- the next place
 
-// Where a block ends: at most so many further, and not past the total.
-fn block_end(total: u64, at: u64, most: u64) -> u64
-    requires { ⌜ at ≤ total ⌝ }
-    ensures { λ r. ⌜ r ≡ at + smaller most (total - at) ⌝ }
-{
-    at + lesser(total - at, most)
-}
-
 // Where a loop goes on: at its next block, or past it.
-fn head_rows(m: u64, k: u64, n: u64, rows: u64, columns: u64, terms: u64, row: u64) -> Place
-    ensures { λ r. ⌜ r ≡ headM (shapeBy m k n rows columns terms) row ⌝ }
+fn head_rows(
+    rule: u64,
+    m: u64,
+    k: u64,
+    n: u64,
+    rows: u64,
+    columns: u64,
+    terms: u64,
+    row: u64,
+) -> Place
+    ensures { λ r. ⌜ r ≡ headM (shapeBy rule m k n rows columns terms) row ⌝ }
 {
     if row < m {
         return Place::AtM { row: row };
@@ -284,6 +302,7 @@ fn head_rows(m: u64, k: u64, n: u64, rows: u64, columns: u64, terms: u64, row: u
 }
 
 fn head_columns(
+    rule: u64,
     m: u64,
     k: u64,
     n: u64,
@@ -294,7 +313,7 @@ fn head_columns(
     column: u64,
 ) -> Place
     requires { ⌜ row ≤ m ⌝ }
-    ensures { λ r. ⌜ r ≡ headN (shapeBy m k n rows columns terms) row column ⌝ }
+    ensures { λ r. ⌜ r ≡ headN (shapeBy rule m k n rows columns terms) row column ⌝ }
 {
     if column < n {
         return Place::AtN {
@@ -302,11 +321,12 @@ fn head_columns(
             column: column,
         };
     }
-    let end = block_end(m, row, rows);
-    head_rows(m, k, n, rows, columns, terms, end)
+    let end = block_end(rule, m, row, rows);
+    head_rows(rule, m, k, n, rows, columns, terms, end)
 }
 
 fn head_terms(
+    rule: u64,
     m: u64,
     k: u64,
     n: u64,
@@ -317,7 +337,7 @@ fn head_terms(
     column: u64,
     term: u64,
 ) -> Place
-    ensures { λ r. ⌜ r ≡ headK (shapeBy m k n rows columns terms) row column term ⌝ }
+    ensures { λ r. ⌜ r ≡ headK (shapeBy rule m k n rows columns terms) row column term ⌝ }
 {
     if term < k {
         return Place::AtK {
@@ -332,20 +352,29 @@ fn head_terms(
     }
 }
 
-// The place after this one, in a product of these sizes by blocks of at most so many rows, columns and terms.
-fn next_place(m: u64, k: u64, n: u64, rows: u64, columns: u64, terms: u64, place: Place) -> Place
+// The place after this one, in a product of these sizes by blocks of a rule and of at most so many rows, columns and terms.
+fn next_place(
+    rule: u64,
+    m: u64,
+    k: u64,
+    n: u64,
+    rows: u64,
+    columns: u64,
+    terms: u64,
+    place: Place,
+) -> Place
     requires { ⌜ Within m k n place ⌝ }
-    ensures { λ r. ⌜ r ≡ next (shapeBy m k n rows columns terms) place ⌝ }
+    ensures { λ r. ⌜ r ≡ next (shapeBy rule m k n rows columns terms) place ⌝ }
 {
     match place {
-        Place::AtType => head_rows(m, k, n, rows, columns, terms, 0),
-        Place::AtM { row } => head_columns(m, k, n, rows, columns, terms, row, 0),
+        Place::AtType => head_rows(rule, m, k, n, rows, columns, terms, 0),
+        Place::AtM { row } => head_columns(rule, m, k, n, rows, columns, terms, row, 0),
         Place::AtN { row, column } => Place::AtClear {
             row: row,
             column: column,
         },
         Place::AtClear { row, column } => {
-            head_terms(m, k, n, rows, columns, terms, row, column, 0)
+            head_terms(rule, m, k, n, rows, columns, terms, row, column, 0)
         }
         Place::AtK { row, column, term } => Place::AtA {
             row: row,
@@ -363,12 +392,12 @@ fn next_place(m: u64, k: u64, n: u64, rows: u64, columns: u64, terms: u64, place
             term: term,
         },
         Place::AtMultiply { row, column, term } => {
-            let end = block_end(k, term, terms);
-            head_terms(m, k, n, rows, columns, terms, row, column, end)
+            let end = block_end(rule, k, term, terms);
+            head_terms(rule, m, k, n, rows, columns, terms, row, column, end)
         }
         Place::AtStore { row, column } => {
-            let end = block_end(n, column, columns);
-            head_columns(m, k, n, rows, columns, terms, row, end)
+            let end = block_end(rule, n, column, columns);
+            head_columns(rule, m, k, n, rows, columns, terms, row, end)
         }
         Place::AtEnd => Place::AtEnd,
     }
@@ -631,8 +660,8 @@ fn hand_store(plan: Plan, row: u64, column: u64) -> Handed
 
 // The step at the place of a run; all zeros at the end.
 fn handed_at(run: Run) -> Handed
-    requires { ⌜ soundRun smaller run ≡ true ⌝ }
-    ensures { λ r. ⌜ r ≡ handedOf (run .plan) (wordAt (runShape smaller run) (run .place)) ⌝ }
+    requires { ⌜ soundRun chosen run ≡ true ⌝ }
+    ensures { λ r. ⌜ r ≡ handedOf (run .plan) (wordAt (runShape chosen run) (run .place)) ⌝ }
 {
     let plan = run.plan;
     let place = run.place;
@@ -681,24 +710,34 @@ fn refused(run: Run) -> Asked
 
 // The run at its next place, by the most rows, columns and terms of its blocks.
 pub fn moved_run(run: Run, rows: u64, columns: u64, terms: u64) -> Run
-    requires { ⌜ soundRun smaller run ≡ true ⌝ }
+    requires { ⌜ soundRun chosen run ≡ true ⌝ }
     requires { ⌜ Most run rows columns terms ⌝ }
-    ensures { λ r. ⌜ r ≡ moved smaller run ⌝ }
+    ensures { λ r. ⌜ r ≡ moved chosen run ⌝ }
 {
     let plan = run.plan;
     let place = run.place;
-    let after = next_place(plan.m, plan.k, plan.n, rows, columns, terms, place);
+    let after = next_place(
+        run.rule,
+        plan.m,
+        plan.k,
+        plan.n,
+        rows,
+        columns,
+        terms,
+        place,
+    );
     Run {
         plan: plan,
         rlen: run.rlen,
         mlen: run.mlen,
+        rule: run.rule,
         place: after,
     }
 }
 
 // The next step of a run, and the run past it; 8 past the last, and of a run that no start can have made.
 pub fn next(run: Run) -> Asked
-    ensures { λ r. ⌜ askedAs r ≡ asked (ask smaller run) ⌝ }
+    ensures { λ r. ⌜ askedAs r ≡ asked (ask chosen run) ⌝ }
 {
     if !is_sound_run(run) {
         return refused(run);

@@ -10,7 +10,7 @@ use lib.Seq.{getD-at}
 use Rattle.width.specs.Tile.{le, putRow}
 use Rattle.width.proofs.WordLaws.{le-putRow, putRow-same}
 use Rattle.machine.specs.declared.Machine.{Machine}
-use Rattle.blocks.specs.Blocks.{machineOf, putMachine, firstValues, valuesOf, putValues}
+use Rattle.blocks.specs.Blocks.{machineBytes, machineOf, putMachine, firstValues, valuesOf, putValues}
 
 -- ---- values of eight bytes, one after another
 
@@ -36,13 +36,13 @@ put-same n b small =
 
 -- the numbers in their order
 abbrev numbersOf : Machine → List ℕ
-numbersOf m = m .rlen ∷ m .mlen ∷ m .mtype ∷ m .«tile_m» ∷ m .«tile_k» ∷ m .«tile_n» ∷ m .«seal_start» ∷ m .«seal_length» ∷ []
+numbersOf m = m .rlen ∷ m .mlen ∷ m .mtype ∷ m .«tile_m» ∷ m .«tile_k» ∷ m .«tile_n» ∷ m .«seal_start» ∷ m .«seal_length» ∷ m .rule ∷ []
 
-putMachine-row : (m : Machine) (b : List ℕ) → putMachine m b ≡ putRow 0 8 8 (λ j. getD (numbersOf m) j 0) b
+putMachine-row : (m : Machine) (b : List ℕ) → putMachine m b ≡ putRow 0 9 8 (λ j. getD (numbersOf m) j 0) b
 unfolding putMachine putRow
 putMachine-row m b = refl
 
-numbersOf-machineOf : (b : List ℕ) → numbersOf (machineOf b) ≡ firstValues 8 b
+numbersOf-machineOf : (b : List ℕ) → numbersOf (machineOf b) ≡ firstValues 9 b
 unfolding machineOf
 numbersOf-machineOf b = refl
 
@@ -56,9 +56,10 @@ pub record Words (m : Machine) : Type 0 where
   pub tile-n : m .«tile_n» < 2 ^ 64
   pub seal-start : m .«seal_start» < 2 ^ 64
   pub seal-length : m .«seal_length» < 2 ^ 64
+  pub rule : m .rule < 2 ^ 64
 
 -- the machine that was written is read back
-pub machineOf-putMachine : (m : Machine) (b : List ℕ) → Words m → length b ≡ 64 → machineOf (putMachine m b) ≡ m
+pub machineOf-putMachine : (m : Machine) (b : List ℕ) → Words m → length b ≡ machineBytes → machineOf (putMachine m b) ≡ m
 unfolding machineOf
 machineOf-putMachine m b w h =
     rw (
@@ -70,18 +71,19 @@ machineOf-putMachine m b w h =
       at 5 (m .«tile_n») (omega arith) refl (w .tile-n),
       at 6 (m .«seal_start») (omega arith) refl (w .seal-start),
       at 7 (m .«seal_length») (omega arith) refl (w .seal-length),
+      at 8 (m .rule) (omega arith) refl (w .rule),
     )
   where
-    at : (j v : ℕ) → j < 8 → getD (numbersOf m) j 0 ≡ v → v < 2 ^ 64 → le (putMachine m b) (0 + j * 8) 8 ≡ v
+    at : (j v : ℕ) → j < 9 → getD (numbersOf m) j 0 ≡ v → v < 2 ^ 64 → le (putMachine m b) (0 + j * 8) 8 ≡ v
     at j v l e f =
         ap (λ (x : List ℕ). le x (0 + j * 8) 8) (putMachine-row m b)
-        ∙ le-putRow 0 8 8 (λ j. getD (numbersOf m) j 0) b (omega arith) j l
+        ∙ le-putRow 0 9 8 (λ j. getD (numbersOf m) j 0) b (omega arith) j l
         ∙ ap (λ (x : ℕ). x % 256 ^ 8) e ∙ mod-eq-of-lt f
 
 -- a block written over with its own numbers stays
 pub putMachine-same : (b : List ℕ) → ((q : ℕ) → getD b q 0 < 256) → putMachine (machineOf b) b ≡ b
 putMachine-same b small =
-    putMachine-row (machineOf b) b ∙ ap (λ (vs : List ℕ). putRow 0 8 8 (λ j. getD vs j 0) b) (numbersOf-machineOf b) ∙ put-same 8 b small
+    putMachine-row (machineOf b) b ∙ ap (λ (vs : List ℕ). putRow 0 9 8 (λ j. getD vs j 0) b) (numbersOf-machineOf b) ∙ put-same 9 b small
 
 -- ---- the scalars' block
 

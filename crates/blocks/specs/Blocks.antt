@@ -14,9 +14,9 @@ use Rattle.machine.specs.declared.Reply.{Reply}
 
 -- ---- the machine's block
 
--- eight numbers of 64 bits, low byte first, in the order of the struct Machine
+-- nine numbers of 64 bits, low byte first, in the order of the struct Machine
 abbrev pub machineBytes : ℕ
-machineBytes = 64
+machineBytes = 72
 
 unfoldable pub machineOf : List ℕ → Machine
 machineOf block = record {
@@ -28,19 +28,21 @@ machineOf block = record {
   «tile_n» = le block 40 8;
   «seal_start» = le block 48 8;
   «seal_length» = le block 56 8;
+  rule = le block 64 8;
 }
 
 -- the numbers of a machine written over a block, each where machineOf reads it
 unfoldable pub putMachine : Machine → List ℕ → List ℕ
 putMachine m block =
-    putLe 56 8 (m .«seal_length»)
+    putLe 64 8 (m .rule)
+    (putLe 56 8 (m .«seal_length»)
     (putLe 48 8 (m .«seal_start»)
     (putLe 40 8 (m .«tile_n»)
     (putLe 32 8 (m .«tile_k»)
     (putLe 24 8 (m .«tile_m»)
     (putLe 16 8 (m .mtype)
     (putLe 8 8 (m .mlen)
-    (putLe 0 8 (m .rlen) block)))))))
+    (putLe 0 8 (m .rlen) block))))))))
 
 -- ---- the scalars' block
 

@@ -8,6 +8,9 @@ ghost use Rattle.width.specs.Tile.{le, putLe};
 ghost use Rattle.machine.specs.Answers.{reply};
 ghost use Rattle.blocks.specs.Blocks.{machineBytes, machineOf, putMachine, packed};
 
+// The bytes of the machine's block.
+pub const MACHINE_BYTES: usize = 72;
+
 fn wide(x: u8) -> u64
     ensures { λ r. ⌜ (r ≡ x) × (r < 256) ⌝ }
 {
@@ -58,6 +61,7 @@ pub fn machine_of(block: &[u8]) -> Machine
         tile_n: read8(block, 40),
         seal_start: read8(block, 48),
         seal_length: read8(block, 56),
+        rule: read8(block, 64),
     }
 }
 
@@ -74,6 +78,7 @@ pub fn put_machine(block: &mut [u8], m: Machine)
     write8(block, 40, m.tile_n);
     write8(block, 48, m.seal_start);
     write8(block, 56, m.seal_length);
+    write8(block, 64, m.rule);
 }
 
 // An answer's number, with row and column in the bits above it.

@@ -18,7 +18,7 @@ use Rattle.image.specs.Writing.{SizeOutcome, sizeImage, sizedAs, WriteOutcome, 
 use Rattle.image.specs.Reading.{checkImage, readImage, restoredAs}
 use Rattle.image_read.specs.Parts.{isSound}
 use Rattle.image_read.proofs.ReadLaws.{sound-number}
-use Rattle.blocks.specs.Blocks.{machineOf, putMachine}
+use Rattle.blocks.specs.Blocks.{machineBytes, machineOf, putMachine}
 use Rattle.bodlarina.specs.Images.{packedReply, hostImageSize, writtenOut, hostImageWrite, blockRefused, readOut, shownRead, hostImageRead}
 
 -- ---- results
@@ -44,44 +44,44 @@ module _ (a : Imaged) (size : ℕ) where
 
 module _ (machine registers marks : List ℕ) where
   -- a block of another length
-  pub size-short : (r : ℕ) → ¬ (length machine ≡ 64) → r ≡ packedReply (imageReply BadArguments) 0 → r ≡ hostImageSize machine registers marks
+  pub size-short : (r : ℕ) → ¬ (length machine ≡ machineBytes) → r ≡ packedReply (imageReply BadArguments) 0 → r ≡ hostImageSize machine registers marks
   unfolding hostImageSize
-  size-short r h er = rw (er, ne-eqb (length machine) 64 h)
+  size-short r h er = rw (er, ne-eqb (length machine) machineBytes h)
 
-  pub size-shown : (m : Machine) (s : Sized) (r : ℕ) → length machine ≡ 64 → m ≡ machineOf machine → sizedAs s ≡ sizeImage m registers marks
+  pub size-shown : (m : Machine) (s : Sized) (r : ℕ) → length machine ≡ machineBytes → m ≡ machineOf machine → sizedAs s ≡ sizeImage m registers marks
       → r ≡ packedReply (imageReply (s .answer)) (s .size) → r ≡ hostImageSize machine registers marks
   unfolding hostImageSize
   size-shown m s r h em e er =
       er ∙ ap (λ (o : SizeOutcome). packedReply (o .answer) (o .size)) (e ∙ ap (λ (x : Machine). sizeImage x registers marks) em)
       ∙ ap (λ (t : Bool). cond t (packedReply (sizeImage (machineOf machine) registers marks .answer) (sizeImage (machineOf machine) registers marks .size)) (packedReply (imageReply BadArguments) 0))
-      (sym (eq-eqb (length machine) 64 h))
+      (sym (eq-eqb (length machine) machineBytes h))
 
-  pub write-short : (image : List ℕ) (r : ℕ) → ¬ (length machine ≡ 64) → r ≡ packedReply (imageReply BadArguments) 0 → writtenOut r image ≡ hostImageWrite machine registers marks image
+  pub write-short : (image : List ℕ) (r : ℕ) → ¬ (length machine ≡ machineBytes) → r ≡ packedReply (imageReply BadArguments) 0 → writtenOut r image ≡ hostImageWrite machine registers marks image
   unfolding hostImageWrite
-  write-short image r h er = rw (er, ne-eqb (length machine) 64 h)
+  write-short image r h er = rw (er, ne-eqb (length machine) machineBytes h)
 
-  pub write-shown : (image image′ : List ℕ) (m : Machine) (s : Written) (r : ℕ) → length machine ≡ 64 → m ≡ machineOf machine → writtenAs s image′ ≡ writeImage m registers marks image
+  pub write-shown : (image image′ : List ℕ) (m : Machine) (s : Written) (r : ℕ) → length machine ≡ machineBytes → m ≡ machineOf machine → writtenAs s image′ ≡ writeImage m registers marks image
       → r ≡ packedReply (imageReply (s .answer)) (s .length) → writtenOut r image′ ≡ hostImageWrite machine registers marks image
   unfolding hostImageWrite
   write-shown image image′ m s r h em e er =
       ap (λ (x : ℕ). writtenOut x image′) er
       ∙ ap (λ (o : WriteOutcome). writtenOut (packedReply (o .answer) (o .size)) (o .room)) (e ∙ ap (λ (x : Machine). writeImage x registers marks image) em)
       ∙ ap (λ (t : Bool). cond t (writtenOut (packedReply (writeImage (machineOf machine) registers marks image .answer) (writeImage (machineOf machine) registers marks image .size)) (writeImage (machineOf machine) registers marks image .room)) (writtenOut (packedReply (imageReply BadArguments) 0) image))
-      (sym (eq-eqb (length machine) 64 h))
+      (sym (eq-eqb (length machine) machineBytes h))
 
 -- ---- reading
 
 module _ (image machine registers marks : List ℕ) where
-  pub read-short : (v w : Imaged) (r : ℕ) → ¬ (length machine ≡ 64) → v ≡ checkImage image → w ≡ blockRefused v → r ≡ packedReply (imageReply w) 0
+  pub read-short : (v w : Imaged) (r : ℕ) → ¬ (length machine ≡ machineBytes) → v ≡ checkImage image → w ≡ blockRefused v → r ≡ packedReply (imageReply w) 0
       → readOut r machine registers marks ≡ hostImageRead image machine registers marks
   unfolding hostImageRead
   read-short v w r h ev ew er =
       ap (λ (x : ℕ). readOut x machine registers marks) (er ∙ ap (λ (x : Imaged). packedReply (imageReply x) 0) (ew ∙ ap blockRefused ev))
       ∙ ap (λ (t : Bool). cond t (shownRead machine (readImage image registers marks)) (readOut (packedReply (imageReply (blockRefused (checkImage image))) 0) machine registers marks))
-      (sym (ne-eqb (length machine) 64 h))
+      (sym (ne-eqb (length machine) machineBytes h))
 
   -- what the read has answered and left, and the block written exactly where it is done
-  pub read-shown : (t : Bool) (s : Restored) (M R K : List ℕ) (r : ℕ) → length machine ≡ 64
+  pub read-shown : (t : Bool) (s : Restored) (M R K : List ℕ) (r : ℕ) → length machine ≡ machineBytes
       → restoredAs s R K ≡ readImage image registers marks
       → isSound (s .answer) ≡ t → M ≡ cond t (putMachine (s .machine) machine) machine → r ≡ packedReply (imageReply (s .answer)) 0
       → readOut r M R K ≡ hostImageRead image machine registers marks
@@ -90,4 +90,4 @@ module _ (image machine registers marks : List ℕ) where
       ap₂ (λ (x : ℕ) (y : List ℕ). readOut x y R K) er (em ∙ ap (λ (t : Bool). cond t (putMachine (s .machine) machine) machine) (sym et ∙ sound-number (s .answer)))
       ∙ ap (shownRead machine) e
       ∙ ap (λ (t : Bool). cond t (shownRead machine (readImage image registers marks)) (readOut (packedReply (imageReply (blockRefused (checkImage image))) 0) machine registers marks))
-      (sym (eq-eqb (length machine) 64 h))
+      (sym (eq-eqb (length machine) machineBytes h))

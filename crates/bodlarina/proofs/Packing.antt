@@ -2,32 +2,29 @@
 use mathlib.Core.Path.{_≡_, refl}
 use mathlib.Core.Bool.{Bool, true, false, cond}
 use mathlib.Core.List.{List, [], _∷_}
-use Prim.Native.Nat.{ℕ, zero, suc, _/_, _%_, _^_, _≤_, _<_, min}
+use Prim.Native.Nat.{ℕ, zero, suc, _/_, _%_, _^_, _≤_, _<_}
 use native.Mathlib.Nat.{mul-le-mul-left}
 use native.Mathlib.Omega.{arith}
-use lib.ListN.{length}
-use lib.Dec.{leb, ltb, eqb}
-use borrow.Author.Tests.{leb-true}
+use lib.Dec.{ltb}
 use Rattle.machine.specs.declared.Answer.{Answer}
 use Rattle.machine.specs.declared.Wrong.the-variants.{Opcode, LeftOut, Unlisted, Register}
 use Rattle.machine.specs.declared.Answer.the-variants.{Done, IllegalWord, IllegalType, BadWidth, TileTooLarge, Unwritten, OutsideMemory, SealedByte, BadArguments, Overlap, WrongOpcode, LeftOutWord, WrongRegister, RowsOverlap}
 use Rattle.machine.specs.declared.Matrix.{Matrix}
 use Rattle.machine.specs.declared.Matrix.the-variants.{MatrixA, MatrixB, MatrixC}
-use Rattle.machine.specs.Tests.{first, allOf}
+use Rattle.machine.specs.Tests.{first}
 use Rattle.machine.specs.declared.Reply.{Reply}
 use Rattle.machine.specs.Answers.{reply, number, isDone, Check, verdict}
-use Rattle.machine.specs.Geometry.{elen, permitted, registerBytes, Parameters, parameters, State, Bench}
-use Rattle.machine.specs.Setting.{newType, smaller}
-use Rattle.machine.specs.Starting.{sealEnds}
+use Rattle.machine.specs.Geometry.{Parameters, parameters, State, Bench}
+use Rattle.machine.specs.Setting.{chosen}
 use Rattle.machine.specs.Listing.{decode}
 use Rattle.machine.specs.Operation.{Operation, illegal, setType, setSize, cutSize, load, store, multiply, combine, scale, floatMultiply, tileRows, tileCols}
 use Rattle.machine.specs.Refusals.{checks}
-use Rattle.machine.specs.Faults.{sound, soundBench}
+use Rattle.machine.specs.Faults.{soundBench}
 use Rattle.machine.specs.Step
 use Rattle.machine.specs.Step.{outcome, stepBy, step, stepChecks, given, meant}
-use Rattle.machine.proofs.TestLaws.{every-each}
 use Rattle.machine.proofs.AnswerLaws.{number-small}
 use Rattle.machine.proofs.StepLaws.{permitted-bounds}
+use Rattle.machine.proofs.NoFault.{sound-is}
 use Rattle.blocks.specs.Blocks.{packed}
 use Rattle.bodlarina.specs.Theorems.{StepPacksWhole}
 
@@ -101,25 +98,12 @@ module _ (M : Parameters) (st : State) (mem : List ℕ) (hm : st .tileM ≤ 64) 
 
 -- a state that is not at fault has at most 64 rows and columns in its tiles
 sizes-small : (B : Bench) → soundBench B ≡ true → (B .machine .«tile_m» ≤ 64) × (B .machine .«tile_k» ≤ 64) × (B .machine .«tile_n» ≤ 64)
-unfolding sound
 sizes-small B h =
     let m = B .machine in
-    let t = every-each (
-    permitted (m .rlen) (m .mlen)
-    ∷ eqb (length (B .registers)) (registerBytes (m .mlen))
-    ∷ eqb (length (B .marks)) (registerBytes (m .mlen))
-    ∷ eqb (newType elen (m .mtype)) (m .mtype)
-    ∷ leb (m .«tile_m») (m .mlen / m .rlen)
-    ∷ leb (m .«tile_k») (min (m .mlen / m .rlen) (m .rlen / 8))
-    ∷ leb (m .«tile_n») (m .rlen / 8)
-    ∷ sealEnds (m .«seal_start») (m .«seal_length»)
-    ∷ allOf (λ mark. ltb mark 2) (B .marks) ∷ []) h in
-    let b = permitted-bounds (m .rlen) (m .mlen) (t .0) in
+    let s = sound-is m (B .registers) (B .marks) h in
+    let b = permitted-bounds (m .rlen) (m .mlen) (s .lengths) in
     let r : m .mlen / m .rlen ≤ 64 = omega (arith, mul-le-mul-left (m .mlen / m .rlen) (b .0)) in
-    let p = leb-true (m .«tile_m») (m .mlen / m .rlen) (t .1 .1 .1 .1 .0) in
-    let q = leb-true (m .«tile_k») (min (m .mlen / m .rlen) (m .rlen / 8)) (t .1 .1 .1 .1 .1 .0) in
-    let s = leb-true (m .«tile_n») (m .rlen / 8) (t .1 .1 .1 .1 .1 .1 .0) in
-    (omega arith, omega arith, omega arith)
+    (omega (arith, s .state .m-fits), omega (arith, s .state .k-fits), omega (arith, s .state .n-fits))
 
 answer-small : (M : Parameters) (word : ℕ) (xs : List ℕ) (B : Bench) → let a = outcome M (decode word) xs B .answer in (a .number < 2 ^ 16) × Small a
 unfolding outcome
@@ -144,4 +128,4 @@ answer-small M word xs B = last (isDone (verdict cs)) (go (soundBench B) refl)
 
 pub packs-whole : StepPacksWhole
 unfolding stepBy
-packs-whole word xs B = let s = answer-small (parameters smaller (B .machine)) word xs B in whole (step word xs B .answer) (s .0) (s .1)
+packs-whole word xs B = let s = answer-small (parameters chosen (B .machine)) word xs B in whole (step word xs B .answer) (s .0) (s .1)

@@ -13,7 +13,7 @@ use Rattle.machine.specs.Tests.{every}
 use Rattle.machine.specs.declared.Reply.{Reply}
 use Rattle.machine.specs.Answers.{reply, done, verdict}
 use Rattle.machine.specs.Geometry.{Bench, benchOf}
-use Rattle.machine.specs.Setting.{smaller}
+use Rattle.machine.specs.Setting.{chosen}
 use Rattle.machine.specs.Starting.{startable, startMachine, freshMachine, noMachine}
 use Rattle.machine.specs.Step.{Outcome, step}
 use Rattle.machine.proofs.TestLaws.{and-left, false-true}
@@ -29,8 +29,8 @@ use Rattle.run.proofs.HandedLaws.{askWith}
 use Rattle.run.proofs.RefusalLaws.{turn-refused}
 use Rattle.turn.proofs.TurnLaws.{turn-zero}
 use Rattle.whole.proofs.WholeLaws.{whole-refused}
-use Rattle.blocks.specs.Blocks.{machineOf, putMachine, valuesOf, putValues, putNumbers, packed}
-use Rattle.run_blocks.specs.RunBlocks.{runOf, putRun, runFit, putHanded}
+use Rattle.blocks.specs.Blocks.{machineBytes, machineOf, putMachine, valuesOf, putValues, putNumbers, packed}
+use Rattle.run_blocks.specs.RunBlocks.{runBytes, runOf, putRun, runFit, putHanded}
 use Rattle.scalar_block.specs.ScalarBlock.{stepBlock}
 use Rattle.bodlarina.specs.Host.{HostStarted, startedOut, shownStart, hostStart, HostStepped, steppedOut, shownStep, hostStep}
 use Rattle.bodlarina.specs.Host.{HostRunStarted, runStartedOut, shownRunStart, hostRunStart, HostNext, nextOut, shownNext, hostNext}
@@ -41,13 +41,13 @@ use Rattle.run_blocks.proofs.RunBlockLaws.{putRun-same}
 
 pub start-refusal : StartRefusalChangesNoByte
 unfolding hostStart startMachine
-start-refusal rlen mlen sealStart sealLength machine registers marks =
-    go (eqb (length machine) 64) (startable rlen mlen sealStart sealLength registers marks)
+start-refusal rlen mlen rule sealStart sealLength machine registers marks =
+    go (eqb (length machine) machineBytes) (startable rlen mlen rule sealStart sealLength registers marks)
   where
     out : Bool → Bool → HostStarted
     out t u = cond t
         (shownStart machine (cond u
-        (record { answer = reply Done; machine = freshMachine rlen mlen sealStart sealLength; registers = registers; marks = replicate (length marks) 0 })
+        (record { answer = reply Done; machine = freshMachine rlen mlen rule sealStart sealLength; registers = registers; marks = replicate (length marks) 0 })
         (record { answer = reply BadArguments; machine = noMachine; registers = registers; marks = marks })))
         (startedOut (packed (reply BadArguments)) machine registers marks)
 
@@ -58,7 +58,7 @@ start-refusal rlen mlen sealStart sealLength machine registers marks =
 
 pub step-refusal : StepRefusalChangesNoByte
 unfolding hostStep
-step-refusal word machine registers marks scalars memory small small′ = go (every (eqb (length machine) 64 ∷ eqb (length scalars) 256 ∷ []))
+step-refusal word machine registers marks scalars memory small small′ = go (every (eqb (length machine) machineBytes ∷ eqb (length scalars) 256 ∷ []))
   where
     B : Bench
     B = benchOf (machineOf machine) registers marks memory
@@ -77,7 +77,7 @@ step-refusal word machine registers marks scalars memory small small′ = go (ev
 
     go : (t : Bool) → ¬ (out t .result ≡ 0) → out t ≡ steppedOut (out t .result) machine registers marks scalars memory
     go true d =
-        let k = refusal-changes-nothing smaller word (valuesOf scalars) B (λ e. d (ap packed (step-zero smaller word (valuesOf scalars) B (eq-eqb (o .answer .number) 0 e)))) in
+        let k = refusal-changes-nothing chosen word (valuesOf scalars) B (λ e. d (ap packed (step-zero chosen word (valuesOf scalars) B (eq-eqb (o .answer .number) 0 e)))) in
         shown (o .bench) (o .scalars) (k .0) (k .1)
     go false d = refl
 
@@ -91,23 +91,23 @@ refused a zero-is d = go (done a) refl
     go true e = absurd (d (ap packed (zero-is e)))
     go false e = refl
 
-start-zero : (P : Plan) (B : Bench) → done (startRun smaller P B .answer) ≡ true → startRun smaller P B .answer ≡ reply Done
+start-zero : (P : Plan) (B : Bench) → done (startRun chosen P B .answer) ≡ true → startRun chosen P B .answer ≡ reply Done
 unfolding startRun
-start-zero P B e = ap reply (only-done (verdict (startChecks smaller P B)) e)
+start-zero P B e = ap reply (only-done (verdict (startChecks chosen P B)) e)
 
-ask-zero : (R : Run) → done (ask smaller R .answer) ≡ true → ask smaller R .answer ≡ reply Done
-ask-zero R = go (handsOut smaller R)
+ask-zero : (R : Run) → done (ask chosen R .answer) ≡ true → ask chosen R .answer ≡ reply Done
+ask-zero R = go (handsOut chosen R)
   where
-    go : (o : Option Op) → done (askWith smaller R o .answer) ≡ true → askWith smaller R o .answer ≡ reply Done
+    go : (o : Option Op) → done (askWith chosen R o .answer) ≡ true → askWith chosen R o .answer ≡ reply Done
     go none e = absurd (false-true e)
     go (some o) e = refl
 
 pub run-start-refusal : RunStartRefusalChangesNoByte
 unfolding hostRunStart startRun
-run-start-refusal P machine registers marks memory run = go (every (eqb (length machine) 64 ∷ eqb (length run) 144 ∷ []))
+run-start-refusal P machine registers marks memory run = go (every (eqb (length machine) machineBytes ∷ eqb (length run) runBytes ∷ []))
   where
     s : RunStart
-    s = startRun smaller P (benchOf (machineOf machine) registers marks memory)
+    s = startRun chosen P (benchOf (machineOf machine) registers marks memory)
 
     out : Bool → HostRunStarted
     out t = cond t (shownRunStart machine run s) (runStartedOut (packed (reply BadArguments)) machine registers marks memory run)
@@ -121,7 +121,7 @@ unfolding hostNext
 next-refusal run step = go (every (runFit run ∷ eqb (length step) 24 ∷ []))
   where
     a : AskOutcome
-    a = asked (ask smaller (runOf run))
+    a = asked (ask chosen (runOf run))
 
     out : Bool → HostNext
     out t = cond t (shownNext run step a) (nextOut (packed (reply BadArguments)) run step)
@@ -138,7 +138,7 @@ module _ (run machine registers marks memory : List ℕ) (small : Bytes run) (sm
   shown-same result r h e =
       ap (shownRunning result run machine) e
       ∙ ap₂ (λ (x y : List ℕ). turnedOut result x y registers marks memory)
-      (putRun-same run small (and-left (runFit run) (every (eqb (length machine) 64 ∷ [])) h)) (putMachine-same machine small′)
+      (putRun-same run small (and-left (runFit run) (every (eqb (length machine) machineBytes ∷ [])) h)) (putMachine-same machine small′)
 
 pub turn-refusal : TurnRefusalChangesNoByte
 unfolding hostTurn
@@ -148,21 +148,21 @@ turn-refusal run machine registers marks memory small small′ = go (turnBlocks 
     r = heldRunning run machine registers marks memory
 
     out : Bool → HostTurned
-    out t = cond t (shownTurn run machine (turnOutcome smaller r)) (turnedOut (packed (reply BadArguments)) run machine registers marks memory)
+    out t = cond t (shownTurn run machine (turnOutcome chosen r)) (turnedOut (packed (reply BadArguments)) run machine registers marks memory)
 
     go : (t : Bool) → turnBlocks run machine ≡ t → ¬ (out t .result ≡ 0) → out t ≡ turnedOut (out t .result) run machine registers marks memory
     go true h d =
-        shown-same run machine registers marks memory small small′ (packed (turn smaller r .answer)) (turn smaller r .after) h
-        (turn-refused smaller r (refused (turn smaller r .answer) (turn-zero r) d))
+        shown-same run machine registers marks memory small small′ (packed (turn chosen r .answer)) (turn chosen r .after) h
+        (turn-refused chosen r (refused (turn chosen r .answer) (turn-zero r) d))
     go false h d = refl
 
 -- turns of which none is answered 0 leave everything
-none-stays : (r : Running) (n : ℕ) → answeredDone smaller r n ≡ 0 → afterTurns smaller r n ≡ r
+none-stays : (r : Running) (n : ℕ) → answeredDone chosen r n ≡ 0 → afterTurns chosen r n ≡ r
 none-stays r zero h = refl
 none-stays r (suc n) h =
-    let s = afterTurns smaller r n in
+    let s = afterTurns chosen r n in
     let e : s ≡ r = none-stays r n (omega arith) in
-    turn-refused smaller s (go (done (turn smaller s .answer)) (omega arith)) ∙ e
+    turn-refused chosen s (go (done (turn chosen s .answer)) (omega arith)) ∙ e
   where
     go : (t : Bool) → _≡_ {A = ℕ} (cond t 1 0) 0 → t ≡ false
     go true h = absurd (omega arith)
@@ -176,28 +176,28 @@ no-turn limit run machine registers marks memory small small′ = go (turnBlocks
     r = heldRunning run machine registers marks memory
 
     out : Bool → HostTurned
-    out t = cond t (shownTurns run machine (turns smaller r limit)) (turnedOut 0 run machine registers marks memory)
+    out t = cond t (shownTurns run machine (turns chosen r limit)) (turnedOut 0 run machine registers marks memory)
 
     go : (t : Bool) → turnBlocks run machine ≡ t → out t .result ≡ 0 → out t ≡ turnedOut 0 run machine registers marks memory
     go true h d =
-        ap (λ (n : ℕ). shownRunning n run machine (afterTurns smaller r limit)) d
-        ∙ shown-same run machine registers marks memory small small′ 0 (afterTurns smaller r limit) h (none-stays r limit d)
+        ap (λ (n : ℕ). shownRunning n run machine (afterTurns chosen r limit)) d
+        ∙ shown-same run machine registers marks memory small small′ 0 (afterTurns chosen r limit) h (none-stays r limit d)
     go false h d = refl
 
 pub run-refusal : RunRefusalChangesNoByte
 unfolding hostRun
-run-refusal P machine registers marks memory steps = go (every (eqb (length machine) 64 ∷ eqb (length steps) 8 ∷ []))
+run-refusal P machine registers marks memory steps = go (every (eqb (length machine) machineBytes ∷ eqb (length steps) 8 ∷ []))
   where
     B : Bench
     B = benchOf (machineOf machine) registers marks memory
 
     out : Bool → HostRan
-    out t = cond t (shownRun machine steps (whole smaller P B)) (ranOut (packed (reply BadArguments)) machine registers marks memory steps)
+    out t = cond t (shownRun machine steps (whole chosen P B)) (ranOut (packed (reply BadArguments)) machine registers marks memory steps)
 
     go : (t : Bool) → ¬ (out t .result ≡ 0) → out t ≡ ranOut (out t .result) machine registers marks memory steps
     go true d =
-        let h = refused (startRun smaller P B .answer) (start-zero P B) d in
+        let h = refused (startRun chosen P B .answer) (start-zero P B) d in
         ap (shownRun machine steps) (whole-refused P B h)
-        ∙ ap (λ (t : Bool). ranOut (packed (startRun smaller P B .answer)) (cond t (putMachine (machineOf machine) machine) machine) registers marks memory
+        ∙ ap (λ (t : Bool). ranOut (packed (startRun chosen P B .answer)) (cond t (putMachine (machineOf machine) machine) machine) registers marks memory
         (cond t (putNumbers (0 ∷ []) steps) steps)) h
     go false d = refl

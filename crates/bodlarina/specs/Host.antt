@@ -8,7 +8,7 @@ use Rattle.machine.specs.declared.Answer.the-variants.{BadArguments}
 use Rattle.machine.specs.Tests.{every}
 use Rattle.machine.specs.Answers.{reply, done}
 use Rattle.machine.specs.Geometry.{Bench, benchOf}
-use Rattle.machine.specs.Setting.{smaller}
+use Rattle.machine.specs.Setting.{chosen}
 use Rattle.machine.specs.Starting.{StartOutcome, startMachine}
 use Rattle.machine.specs.Step.{Outcome}
 use Rattle.run.specs.declared.Plan.{Plan}
@@ -22,9 +22,9 @@ use Rattle.run_blocks.specs.RunBlocks.{runBytes, runOf, putRun, runFit, stepByt
 
 -- ---- the version
 
--- what a call of bodlarina_version returns: 10,000 times the major number, 100 times the minor one, and the patch number. 0.2.0
+-- what a call of bodlarina_version returns: 10,000 times the major number, 100 times the minor one, and the patch number. 0.3.0
 abbrev pub hostVersion : ℕ
-hostVersion = 200
+hostVersion = 300
 
 -- ---- starting
 
@@ -44,10 +44,10 @@ shownStart machine o =
     startedOut (packed (o .answer)) (cond (done (o .answer)) (putMachine (o .machine) machine) machine) (o .registers) (o .marks)
 
 -- a block of the wrong length is refused with 8
-unfoldable pub hostStart : (rlen mlen sealStart sealLength : ℕ) → (machine registers marks : List ℕ) → HostStarted
-hostStart rlen mlen sealStart sealLength machine registers marks =
+unfoldable pub hostStart : (rlen mlen rule sealStart sealLength : ℕ) → (machine registers marks : List ℕ) → HostStarted
+hostStart rlen mlen rule sealStart sealLength machine registers marks =
     cond (eqb (length machine) machineBytes)
-    (shownStart machine (startMachine rlen mlen sealStart sealLength registers marks))
+    (shownStart machine (startMachine rlen mlen rule sealStart sealLength registers marks))
     (startedOut (packed (reply BadArguments)) machine registers marks)
 
 -- ---- a step
@@ -127,7 +127,7 @@ shownRunStart machine run s =
 unfoldable pub hostRunStart : Plan → (machine registers marks memory run : List ℕ) → HostRunStarted
 hostRunStart P machine registers marks memory run =
     cond (every (eqb (length machine) machineBytes ∷ eqb (length run) runBytes ∷ []))
-    (shownRunStart machine run (startRun smaller P (benchOf (machineOf machine) registers marks memory)))
+    (shownRunStart machine run (startRun chosen P (benchOf (machineOf machine) registers marks memory)))
     (runStartedOut (packed (reply BadArguments)) machine registers marks memory run)
 
 -- ---- asking a run for its next step
@@ -149,7 +149,7 @@ shownNext run step a =
 unfoldable pub hostNext : (run step : List ℕ) → HostNext
 hostNext run step =
     cond (every (runFit run ∷ eqb (length step) stepBytes ∷ []))
-    (shownNext run step (asked (ask smaller (runOf run))))
+    (shownNext run step (asked (ask chosen (runOf run))))
     (nextOut (packed (reply BadArguments)) run step)
 
 -- ---- the number of a run's steps
@@ -198,7 +198,7 @@ shownTurn run machine o = shownRunning (packed (o .answer)) run machine (o .afte
 unfoldable pub hostTurn : (run machine registers marks memory : List ℕ) → HostTurned
 hostTurn run machine registers marks memory =
     cond (turnBlocks run machine)
-    (shownTurn run machine (turnOutcome smaller (heldRunning run machine registers marks memory)))
+    (shownTurn run machine (turnOutcome chosen (heldRunning run machine registers marks memory)))
     (turnedOut (packed (reply BadArguments)) run machine registers marks memory)
 
 -- turns are counted, not answered: blocks that are refused take none
@@ -208,7 +208,7 @@ shownTurns run machine o = shownRunning (o .count) run machine (o .after)
 unfoldable pub hostTurns : ℕ → (run machine registers marks memory : List ℕ) → HostTurned
 hostTurns limit run machine registers marks memory =
     cond (turnBlocks run machine)
-    (shownTurns run machine (turns smaller (heldRunning run machine registers marks memory) limit))
+    (shownTurns run machine (turns chosen (heldRunning run machine registers marks memory) limit))
     (turnedOut 0 run machine registers marks memory)
 
 -- ---- a whole run
@@ -246,5 +246,5 @@ shownRun machine steps o =
 unfoldable pub hostRun : Plan → (machine registers marks memory steps : List ℕ) → HostRan
 hostRun P machine registers marks memory steps =
     cond (every (eqb (length machine) machineBytes ∷ eqb (length steps) countBytes ∷ []))
-    (shownRun machine steps (whole smaller P (benchOf (machineOf machine) registers marks memory)))
+    (shownRun machine steps (whole chosen P (benchOf (machineOf machine) registers marks memory)))
     (ranOut (packed (reply BadArguments)) machine registers marks memory steps)

@@ -16,8 +16,8 @@ Bytes xs = (q : ℕ) → getD xs q 0 < 256
 
 -- "A refusal changes no byte of any buffer."
 abbrev pub StartRefusalChangesNoByte : Type 0
-StartRefusalChangesNoByte = (rlen mlen sealStart sealLength : ℕ) (machine registers marks : List ℕ)
-    → let o = hostStart rlen mlen sealStart sealLength machine registers marks in
+StartRefusalChangesNoByte = (rlen mlen rule sealStart sealLength : ℕ) (machine registers marks : List ℕ)
+    → let o = hostStart rlen mlen rule sealStart sealLength machine registers marks in
     ¬ (o .result ≡ 0) → o ≡ startedOut (o .result) machine registers marks
 
 abbrev pub StepRefusalChangesNoByte : Type 0

@@ -1,4 +1,5 @@
 // Images in the C interface.
+use blocks::MACHINE_BYTES;
 use blocks::machine_of;
 use blocks::put_machine;
 use image::Imaged;
@@ -35,7 +36,7 @@ fn block_refused(verdict: Imaged) -> Imaged
 pub extern "C" fn bodlarina_image_size(machine: &[u8], registers: &[u8], marks: &[u8]) -> u64
     ensures { λ r. ⌜ r ≡ hostImageSize (now (machine .entry)) (now (registers .entry)) (now (marks .entry)) ⌝ }
 {
-    if machine.len() != 64 {
+    if machine.len() != MACHINE_BYTES {
         return packed_reply(Imaged::BadArguments, 0);
     }
     let m = machine_of(machine);
@@ -54,7 +55,7 @@ pub extern "C" fn bodlarina_image_write(
 ) -> u64
     ensures { λ r. ⌜ writtenOut r (now (image .exit)) ≡ hostImageWrite (now (machine .entry)) (now (registers .entry)) (now (marks .entry)) (now (image .entry)) ⌝ }
 {
-    if machine.len() != 64 {
+    if machine.len() != MACHINE_BYTES {
         return packed_reply(Imaged::BadArguments, 0);
     }
     let m = machine_of(machine);
@@ -74,7 +75,7 @@ pub extern "C" fn bodlarina_image_read(
     ensures { λ r. ⌜ readOut r (now (machine .exit)) (now (registers .exit)) (now (marks .exit))
         ≡ hostImageRead (now (image .entry)) (now (machine .entry)) (now (registers .entry)) (now (marks .entry)) ⌝ }
 {
-    if machine.len() != 64 {
+    if machine.len() != MACHINE_BYTES {
         let verdict = image_read::check_image(image);
         return packed_reply(block_refused(verdict), 0);
     }

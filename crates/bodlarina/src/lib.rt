@@ -1,4 +1,5 @@
 // The C interface: numbers and lent byte buffers in, one number out. What each call answers and leaves is defined in specs/.
+use blocks::MACHINE_BYTES;
 use blocks::machine_of;
 use blocks::packed;
 use blocks::put_machine;
@@ -15,14 +16,15 @@ ghost use Rattle.bodlarina.specs.Host.{hostVersion, startedOut, hostStar
 pub extern "C" fn bodlarina_version() -> u64
     ensures { λ r. ⌜ r ≡ hostVersion ⌝ }
 {
-    200
+    300
 }
 
-// Starts a machine on the lent register bytes and marks, and writes its numbers into the machine block.
+// Starts a machine of this rule on the lent register bytes and marks, and writes its numbers into the machine block.
 #[no_mangle]
 pub extern "C" fn bodlarina_start(
     rlen: u64,
     mlen: u64,
+    rule: u64,
     seal_start: u64,
     seal_length: u64,
     machine: &mut [u8],
@@ -30,12 +32,12 @@ pub extern "C" fn bodlarina_start(
     marks: &mut [u8],
 ) -> u64
     ensures { λ r. ⌜ startedOut r (now (machine .exit)) (now (registers .entry)) (now (marks .exit))
-        ≡ hostStart rlen mlen «seal_start» «seal_length» (now (machine .entry)) (now (registers .entry)) (now (marks .entry)) ⌝ }
+        ≡ hostStart rlen mlen rule «seal_start» «seal_length» (now (machine .entry)) (now (registers .entry)) (now (marks .entry)) ⌝ }
 {
-    if machine.len() != 64 {
+    if machine.len() != MACHINE_BYTES {
         return packed(Answer::BadArguments);
     }
-    let started = machine::start(rlen, mlen, seal_start, seal_length, registers, marks);
+    let started = machine::start(rlen, mlen, rule, seal_start, seal_length, registers, marks);
     let answer = started.answer;
     if !machine::is_done(answer) {
         return packed(answer);
@@ -58,7 +60,7 @@ pub extern "C" fn bodlarina_step(
     ensures { λ r. ⌜ steppedOut r (now (machine .exit)) (now (registers .exit)) (now (marks .exit)) (now (scalars .exit)) (now (memory .exit))
         ≡ hostStep word (now (machine .entry)) (now (registers .entry)) (now (marks .entry)) (now (scalars .entry)) (now (memory .entry)) ⌝ }
 {
-    if machine.len() != 64 {
+    if machine.len() != MACHINE_BYTES {
         return packed(Answer::BadArguments);
     }
     if scalars.len() != 256 {

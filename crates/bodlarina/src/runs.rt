@@ -1,4 +1,5 @@
 // The product run in the C interface.
+use blocks::MACHINE_BYTES;
 use blocks::machine_of;
 use blocks::packed;
 use blocks::put_machine;
@@ -6,6 +7,7 @@ use blocks::write8;
 use machine::Answer;
 use run::Layout;
 use run::Plan;
+use run_blocks::RUN_BYTES;
 use run_blocks::is_fit;
 use run_blocks::put_handed;
 use run_blocks::put_run;
@@ -77,10 +79,10 @@ pub extern "C" fn bodlarina_run_start(
         ≡ hostRunStart (planIn kind sew factor m k n a «a_stride» b «b_stride» c «c_stride»)
         (now (machine .entry)) (now (registers .entry)) (now (marks .entry)) (now (memory .entry)) (now (run .entry)) ⌝ }
 {
-    if machine.len() != 64 {
+    if machine.len() != MACHINE_BYTES {
         return packed(Answer::BadArguments);
     }
-    if run.len() != 144 {
+    if run.len() != RUN_BYTES {
         return packed(Answer::BadArguments);
     }
     let plan = plan_in(
@@ -159,7 +161,7 @@ pub extern "C" fn bodlarina_run_turn(
     if !is_fit(run) {
         return packed(Answer::BadArguments);
     }
-    if machine.len() != 64 {
+    if machine.len() != MACHINE_BYTES {
         return packed(Answer::BadArguments);
     }
     let held = run_of(run);
@@ -189,7 +191,7 @@ pub extern "C" fn bodlarina_run_turns(
     if !is_fit(run) {
         return 0;
     }
-    if machine.len() != 64 {
+    if machine.len() != MACHINE_BYTES {
         return 0;
     }
     let held = run_of(run);
@@ -227,7 +229,7 @@ pub extern "C" fn bodlarina_run(
         ≡ hostRun (planIn kind sew factor m k n a «a_stride» b «b_stride» c «c_stride»)
         (now (machine .entry)) (now (registers .entry)) (now (marks .entry)) (now (memory .entry)) (now (steps .entry)) ⌝ }
 {
-    if machine.len() != 64 {
+    if machine.len() != MACHINE_BYTES {
         return packed(Answer::BadArguments);
     }
     if steps.len() != 8 {

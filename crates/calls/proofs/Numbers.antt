@@ -8,7 +8,7 @@ use native.Mathlib.Nat.{div-le-self}
 use native.Mathlib.Omega.{arith}
 use lib.ListN.{length, getD}
 use lib.Dec.{ltb, eqb}
-use borrow.Author.Tests.{eqb-true, ltb-true}
+use borrow.Author.Tests.{eqb-true, ltb-true, leb-true}
 use Rattle.width.specs.Tile.{le}
 use Rattle.width.proofs.TileLaws.{le-lt}
 use Rattle.machine.specs.declared.Machine.{Machine}
@@ -16,12 +16,13 @@ use Rattle.machine.specs.declared.Answer.the-variants.{BadArguments}
 use Rattle.machine.specs.Tests.{every, isIn}
 use Rattle.machine.specs.Answers.{done, verdict}
 use Rattle.machine.specs.Geometry.{elen, Bench, parameters}
-use Rattle.machine.specs.Setting.{smaller, newType}
+use Rattle.machine.specs.Setting.{chosen, newType}
 use Rattle.machine.specs.Faults.{soundBench}
 use Rattle.machine.specs.Listing.{decode}
 use Rattle.machine.specs.Step.{Outcome, stepBy, stepChecks}
 use Rattle.machine.proofs.TestLaws.{and-right, every-each, each-in}
-use Rattle.machine.proofs.StepLaws.{step-refused, permitted-bounds, smaller-grants}
+use Rattle.machine.proofs.StepLaws.{step-refused, permitted-bounds}
+use Rattle.machine.proofs.SizeLaws.{chosen-grants}
 use Rattle.machine.proofs.CodeLaws.{legalTypes, types-are}
 use Rattle.machine.proofs.NoFault.{Sound, sound-is, step-sound}
 use Rattle.run.specs.declared.Plan.{Plan}
@@ -39,7 +40,7 @@ use Rattle.asking.specs.Parts.{placed}
 use Rattle.asking.proofs.AskingLaws.{run-numbered, run-placed, run-sizes, at-m, at-store, at-multiply, moved-sound}
 use Rattle.run_blocks.specs.declared.Spot.{Spot}
 use Rattle.blocks.specs.Blocks.{machineOf}
-use Rattle.run_blocks.specs.RunBlocks.{planOf, planNumbers, spotOf, spotIn, spotNumbers, placeOf, sameSpot, runOf, runFit}
+use Rattle.run_blocks.specs.RunBlocks.{runBytes, planOf, planNumbers, spotOf, spotIn, spotNumbers, placeOf, sameSpot, runOf, runFit}
 use Rattle.blocks.proofs.BlockLaws.{Words}
 use Rattle.run_blocks.proofs.RunBlockLaws.{RunWords}
 use Rattle.bodlarina.specs.Theorems.{Bytes}
@@ -59,6 +60,7 @@ machine-words b small = record {
   tile-n = le-lt b small 40 8;
   seal-start = le-lt b small 48 8;
   seal-length = le-lt b small 56 8;
+  rule = le-lt b small 64 8;
 }
 
 type-small : (v : ℕ) → newType elen v ≡ v → v < 2 ^ 64
@@ -82,19 +84,20 @@ sound-words m registers marks s =
       tile-n = omega (arith, s .state .n-fits);
       seal-start = omega (arith, s .seal-ends);
       seal-length = omega (arith, s .seal-ends);
+      rule = omega (arith, leb-true (m .rule) 1 (s .rule-is));
     }
 
 -- after a step: of a state at fault nothing changes
-pub step-words : (word : ℕ) (xs : List ℕ) (B : Bench) → Words (B .machine) → Words (stepBy smaller word xs B .bench .machine)
+pub step-words : (word : ℕ) (xs : List ℕ) (B : Bench) → Words (B .machine) → Words (stepBy chosen word xs B .bench .machine)
 step-words word xs B w = go (soundBench B) refl
   where
-    go : (t : Bool) → soundBench B ≡ t → Words (stepBy smaller word xs B .bench .machine)
+    go : (t : Bool) → soundBench B ≡ t → Words (stepBy chosen word xs B .bench .machine)
     go true e =
-        let C : Bench = stepBy smaller word xs B .bench in
-        sound-words (C .machine) (C .registers) (C .marks) (sound-is (C .machine) (C .registers) (C .marks) (step-sound smaller smaller-grants word xs B e))
+        let C : Bench = stepBy chosen word xs B .bench in
+        sound-words (C .machine) (C .registers) (C .marks) (sound-is (C .machine) (C .registers) (C .marks) (step-sound chosen chosen-grants word xs B e))
     go false e =
-        let r : verdict (stepChecks (parameters smaller (B .machine)) (decode word) xs B) ≡ BadArguments = rw e in
-        subst (λ (o : Outcome). Words (o .bench .machine)) (sym (step-refused smaller word xs B BadArguments refl r)) w
+        let r : verdict (stepChecks (parameters chosen (B .machine)) (decode word) xs B) ≡ BadArguments = rw e in
+        subst (λ (o : Outcome). Words (o .bench .machine)) (sym (step-refused chosen word xs B BadArguments refl r)) w
 
 -- ---- a run
 
@@ -111,22 +114,23 @@ four s k r c t (suc (suc zero)) = c
 four s k r c t (suc (suc (suc zero))) = t
 four s k r c t (suc (suc (suc (suc j)))) = omega arith
 
--- a place's numbers, and the plan's kind after them
-with-kind : (s : Spot) (k : ℕ) → ((j : ℕ) → getD (spotNumbers s) j 0 < 2 ^ 64) → k < 2 ^ 64 → (j : ℕ) → getD (spotNumbers s ++ (k ∷ [])) j 0 < 2 ^ 64
-with-kind s k h l = begin-alike (2 ^ 64) (spotNumbers s) [] (k ∷ []) h last
+-- a place's numbers, and the plan's kind and the rule after them
+with-kind : (s : Spot) (k r : ℕ) → ((j : ℕ) → getD (spotNumbers s) j 0 < 2 ^ 64) → k < 2 ^ 64 → r < 2 ^ 64 → (j : ℕ) → getD (spotNumbers s ++ (k ∷ r ∷ [])) j 0 < 2 ^ 64
+with-kind s k r h lk lr = begin-alike (2 ^ 64) (spotNumbers s) [] (k ∷ r ∷ []) h last
   where
-    last : (j : ℕ) → getD (k ∷ []) j 0 < 2 ^ 64
-    last zero = l
-    last (suc j) = omega arith
+    last : (j : ℕ) → getD (k ∷ r ∷ []) j 0 < 2 ^ 64
+    last zero = lk
+    last (suc zero) = lr
+    last (suc (suc j)) = omega arith
 
--- the plan's numbers, the lengths and the place
-parts : (R : Run) → PlanWords (R .plan) → R .rlen < 2 ^ 64 → R .mlen < 2 ^ 64 → ((j : ℕ) → getD (spotNumbers (spotOf (R .place))) j 0 < 2 ^ 64) → RunWords R
-parts R p r m s = begin-alike (2 ^ 64) (planNumbers (R .plan)) (R .plan .kind ∷ []) (R .rlen ∷ R .mlen ∷ (spotNumbers (spotOf (R .place)) ++ (R .plan .kind ∷ []))) p tail
+-- the plan's numbers, the lengths, the rule and the place
+parts : (R : Run) → PlanWords (R .plan) → R .rlen < 2 ^ 64 → R .mlen < 2 ^ 64 → R .rule < 2 ^ 64 → ((j : ℕ) → getD (spotNumbers (spotOf (R .place))) j 0 < 2 ^ 64) → RunWords R
+parts R p r m u s = begin-alike (2 ^ 64) (planNumbers (R .plan)) (R .plan .kind ∷ []) (R .rlen ∷ R .mlen ∷ (spotNumbers (spotOf (R .place)) ++ (R .plan .kind ∷ R .rule ∷ []))) p tail
   where
-    tail : (j : ℕ) → getD (R .rlen ∷ R .mlen ∷ (spotNumbers (spotOf (R .place)) ++ (R .plan .kind ∷ []))) j 0 < 2 ^ 64
+    tail : (j : ℕ) → getD (R .rlen ∷ R .mlen ∷ (spotNumbers (spotOf (R .place)) ++ (R .plan .kind ∷ R .rule ∷ []))) j 0 < 2 ^ 64
     tail zero = r
     tail (suc zero) = m
-    tail (suc (suc j)) = with-kind (spotOf (R .place)) (R .plan .kind) s (p 11) j
+    tail (suc (suc j)) = with-kind (spotOf (R .place)) (R .plan .kind) (R .rule) s (p 11) u j
 
 -- eight bytes each of a block of bytes
 values-small : (b : List ℕ) → Bytes b → (ps : List ℕ) (j : ℕ) → getD (map (λ p. le b p 8) ps) j 0 < 2 ^ 64
@@ -146,8 +150,8 @@ pub run-words : (b : List ℕ) → Bytes b → runFit b ≡ true → RunWords (r
 unfolding runOf runFit
 run-words b small h =
     let s : Spot = spotOf (placeOf (spotIn b)) in
-    let e = every-each (sameSpot (spotIn b) s) (and-right (eqb (length b) 144) (every (sameSpot (spotIn b) s)) h) in
-    parts (runOf b) (plan-words b small) (le-lt b small 88 8) (le-lt b small 96 8)
+    let e = every-each (sameSpot (spotIn b) s) (and-right (eqb (length b) runBytes) (every (sameSpot (spotIn b) s)) h) in
+    parts (runOf b) (plan-words b small) (le-lt b small 88 8) (le-lt b small 96 8) (le-lt b small 144 8)
     (four s (same-small (spotIn b .kind) (s .kind) (e .0) (le-lt b small 104 8)) (same-small (spotIn b .row) (s .row) (e .1 .0) (le-lt b small 112 8))
     (same-small (spotIn b .column) (s .column) (e .1 .1 .0) (le-lt b small 120 8)) (same-small (spotIn b .term) (s .term) (e .1 .1 .1 .0) (le-lt b small 128 8)))
 
@@ -167,25 +171,25 @@ place-words P AtEnd l h = four (spotOf AtEnd) (omega arith) (omega arith) (omega
 
 -- as a start makes it
 pub fresh-words : (m : Machine) (P : Plan) → Words m → PlanWords P → RunWords (freshRun m P)
-fresh-words m P w p = parts (freshRun m P) p (w .rlen) (w .mlen) (four (spotOf AtType) (omega arith) (omega arith) (omega arith) (omega arith))
+fresh-words m P w p = parts (freshRun m P) p (w .rlen) (w .mlen) (w .rule) (four (spotOf AtType) (omega arith) (omega arith) (omega arith) (omega arith))
 
--- once a step is handed out: the plan and the lengths stay, and the next place lies in the matrices
-moved-words : (R : Run) → RunWords R → soundRun smaller R ≡ true → RunWords (moved smaller R)
+-- once a step is handed out: the plan, the lengths and the rule stay, and the next place lies in the matrices
+moved-words : (R : Run) → RunWords R → soundRun chosen R ≡ true → RunWords (moved chosen R)
 moved-words R w ok =
-    begin-alike (2 ^ 64) (planNumbers (R .plan) ++ (R .rlen ∷ R .mlen ∷ [])) (spotNumbers (spotOf (R .place)) ++ (R .plan .kind ∷ []))
-    (spotNumbers (spotOf (moved smaller R .place)) ++ (R .plan .kind ∷ []))
-    w (with-kind (spotOf (moved smaller R .place)) (R .plan .kind)
-    (place-words (R .plan) (moved smaller R .place) (run-sizes R (run-numbered R ok)) (run-placed (moved smaller R) (moved-sound R ok))) (w 17))
+    begin-alike (2 ^ 64) (planNumbers (R .plan) ++ (R .rlen ∷ R .mlen ∷ [])) (spotNumbers (spotOf (R .place)) ++ (R .plan .kind ∷ R .rule ∷ []))
+    (spotNumbers (spotOf (moved chosen R .place)) ++ (R .plan .kind ∷ R .rule ∷ []))
+    w (with-kind (spotOf (moved chosen R .place)) (R .plan .kind) (R .rule)
+    (place-words (R .plan) (moved chosen R .place) (run-sizes R (run-numbered R ok)) (run-placed (moved chosen R) (moved-sound R ok))) (w 17) (w 18))
 
 -- ---- turns
 
-hands-sound : (R : Run) (o : Op) → handsOut smaller R ≡ some o → soundRun smaller R ≡ true
-hands-sound R o = go (soundRun smaller R)
+hands-sound : (R : Run) (o : Op) → handsOut chosen R ≡ some o → soundRun chosen R ≡ true
+hands-sound R o = go (soundRun chosen R)
   where
     none-some : none ≡ some o → ⊥
     none-some e = let z : _≡_ {A = ℕ} 0 1 = cc in omega arith
 
-    go : (t : Bool) → cond t (wordAt (runShape smaller R) (R .place)) none ≡ some o → t ≡ true
+    go : (t : Bool) → cond t (wordAt (runShape chosen R) (R .place)) none ≡ some o → t ≡ true
     go true e = refl
     go false e = absurd (none-some e)
 
@@ -193,32 +197,32 @@ pub record Wordy (r : Running) : Type 0 where
   pub run : RunWords (r .run)
   pub machine : Words (r .bench .machine)
 
-pub turn-machine : (r : Running) → Words (r .bench .machine) → Words (turn smaller r .after .bench .machine)
-turn-machine r w = go (handsOut smaller (r .run))
+pub turn-machine : (r : Running) → Words (r .bench .machine) → Words (turn chosen r .after .bench .machine)
+turn-machine r w = go (handsOut chosen (r .run))
   where
-    go : (o : Option Op) → Words (turnWith smaller r o .after .bench .machine)
+    go : (o : Option Op) → Words (turnWith chosen r o .after .bench .machine)
     go none = w
     go (some o) = let h : Handed = handedFor (r .run .plan) o in step-words (h .word) (own h) (r .bench) w
 
-pub turns-machine : (r : Running) → Words (r .bench .machine) → (t : ℕ) → Words (afterTurns smaller r t .bench .machine)
+pub turns-machine : (r : Running) → Words (r .bench .machine) → (t : ℕ) → Words (afterTurns chosen r t .bench .machine)
 turns-machine r w zero = w
-turns-machine r w (suc t) = turn-machine (afterTurns smaller r t) (turns-machine r w t)
+turns-machine r w (suc t) = turn-machine (afterTurns chosen r t) (turns-machine r w t)
 
-turn-run : (r : Running) → RunWords (r .run) → RunWords (turn smaller r .after .run)
-turn-run r w = go (handsOut smaller (r .run)) refl
+turn-run : (r : Running) → RunWords (r .run) → RunWords (turn chosen r .after .run)
+turn-run r w = go (handsOut chosen (r .run)) refl
   where
-    chosen : (R : Run) → RunWords R → (t : Bool) → RunWords (cond t R (r .run))
-    chosen R v true = v
-    chosen R v false = w
+    either : (R : Run) → RunWords R → (t : Bool) → RunWords (cond t R (r .run))
+    either R v true = v
+    either R v false = w
 
-    go : (o : Option Op) → handsOut smaller (r .run) ≡ o → RunWords (turnWith smaller r o .after .run)
+    go : (o : Option Op) → handsOut chosen (r .run) ≡ o → RunWords (turnWith chosen r o .after .run)
     go none e = w
     go (some o) e =
         let h : Handed = handedFor (r .run .plan) o in
-        chosen (moved smaller (r .run)) (moved-words (r .run) w (hands-sound (r .run) o e)) (done (stepBy smaller (h .word) (own h) (r .bench) .answer))
+        either (moved chosen (r .run)) (moved-words (r .run) w (hands-sound (r .run) o e)) (done (stepBy chosen (h .word) (own h) (r .bench) .answer))
 
-pub turns-wordy : (r : Running) → Wordy r → (t : ℕ) → Wordy (afterTurns smaller r t)
+pub turns-wordy : (r : Running) → Wordy r → (t : ℕ) → Wordy (afterTurns chosen r t)
 turns-wordy r w zero = w
 turns-wordy r w (suc t) =
-    let v : Wordy (afterTurns smaller r t) = turns-wordy r w t in
-    record { run = turn-run (afterTurns smaller r t) (v .run); machine = turn-machine (afterTurns smaller r t) (v .machine) }
+    let v : Wordy (afterTurns chosen r t) = turns-wordy r w t in
+    record { run = turn-run (afterTurns chosen r t) (v .run); machine = turn-machine (afterTurns chosen r t) (v .machine) }

@@ -14,7 +14,7 @@ use Rattle.machine.specs.Tests.{every}
 use Rattle.machine.specs.declared.Reply.{Reply}
 use Rattle.machine.specs.Answers.{reply, number, done, verdict, _otherwise_}
 use Rattle.machine.specs.Geometry.{Bench, parameters}
-use Rattle.machine.specs.Setting.{smaller}
+use Rattle.machine.specs.Setting.{chosen}
 use Rattle.machine.specs.Faults.{sound}
 use Rattle.machine.specs.Operation.{element}
 use Rattle.machine.proofs.TestLaws.{false-true, every-each, each-every}
@@ -35,8 +35,8 @@ use Rattle.run.proofs.Demand1.{run-start-changes-nothing}
 use Rattle.run.proofs.Demand3.{demand-3-ours}
 use Rattle.run.proofs.Whole.{whole-delivers}
 use Rattle.turn.proofs.TurnLaws.{turn-zero}
-use Rattle.blocks.specs.Blocks.{putMachine, putNumbers, packed}
-use Rattle.run_blocks.specs.RunBlocks.{runFit, runOf, putRun}
+use Rattle.blocks.specs.Blocks.{machineBytes, putMachine, putNumbers, packed}
+use Rattle.run_blocks.specs.RunBlocks.{runBytes, runFit, runOf, putRun}
 use Rattle.blocks.proofs.BlockLaws.{putMachine-same}
 use Rattle.run_blocks.proofs.RunBlockLaws.{RunWords, runOf-putRun, runFit-putRun}
 use Rattle.bodlarina.specs.Host.{runStartedOut, shownRunStart, hostRunStart, nextOut, shownNext, hostNext, turnBlocks, ranOut, shownRun, hostRun}
@@ -55,10 +55,10 @@ module _ (P : Plan) (b : Buffers) where
   B = benchIn b
 
   abbrev s : RunStart
-  s = startRun smaller P B
+  s = startRun chosen P B
 
   abbrev tests : List Bool
-  tests = eqb (length (b .machine)) 64 ∷ eqb (length (b .run)) 144 ∷ []
+  tests = eqb (length (b .machine)) machineBytes ∷ eqb (length (b .run)) runBytes ∷ []
 
   abbrev startOn : Bool → Called
   startOn t =
@@ -77,13 +77,13 @@ module _ (P : Plan) (b : Buffers) where
   lent-same : startOn true .after ≡ having (startOn true .after .run)
   lent-same =
       ap (λ (C : Bench). buffers (b .machine) (C .registers) (C .marks) (b .scalars) (C .memory) (startOn true .after .run) (b .step) (b .steps))
-      (run-start-changes-nothing smaller P B)
+      (run-start-changes-nothing chosen P B)
 
   -- its answers name no row and column
   start-plain : packed (s .answer) ≡ s .answer .number
   unfolding startRun
   start-plain =
-      go (sound (B .machine) (B .registers) (B .marks)) (planned P) (lying P (B .memory)) (separate (parameters smaller (B .machine)) P)
+      go (sound (B .machine) (B .registers) (B .marks)) (planned P) (lying P (B .memory)) (separate (parameters chosen (B .machine)) P)
     where
       out : (t u v w : Bool) → Answer
       out t u v w = verdict ((t otherwise BadArguments) ∷ (u otherwise BadArguments) ∷ (v otherwise OutsideMemory) ∷ (w otherwise Overlap) ∷ [])
@@ -98,12 +98,12 @@ module _ (P : Plan) (b : Buffers) where
   -- and are as `Done`'s where their number is 0
   start-zero : done (s .answer) ≡ true → s .answer ≡ reply Done
   unfolding startRun
-  start-zero e = ap reply (only-done (verdict (startChecks smaller P B)) e)
+  start-zero e = ap reply (only-done (verdict (startChecks chosen P B)) e)
 
 pub start-calls-are-right : StartCallsAreRight
 start-calls-are-right P b lm lr bytes =
     let call : called (Call.runStart P) b ≡ startOn P b true =
-    start-call P b true (each-every (tests P b) (eq-eqb (length (b .machine)) 64 lm, (eq-eqb (length (b .run)) 144 lr, tt))) in
+    start-call P b true (each-every (tests P b) (eq-eqb (length (b .machine)) machineBytes lm, (eq-eqb (length (b .run)) runBytes lr, tt))) in
     record {
       answered = (s P b .answer, ap (λ (o : Called). o .result) call ∙ start-plain P b, demand-3-ours P (benchIn b) bytes .answered);
       unchanged = subst (λ (o : Called). o .after ≡ having P b (o .after .run)) (sym call) (lent-same P b);
@@ -114,10 +114,10 @@ start-calls-are-right P b lm lr bytes =
 abbrev nextOn : Buffers → Ask → Called
 nextOn b a = afterNext b (shownNext (b .run) (b .step) (asked a))
 
-next-call : (b : Buffers) → every (runFit (b .run) ∷ eqb (length (b .step)) 24 ∷ []) ≡ true → called Call.runNext b ≡ nextOn b (ask smaller (runOf (b .run)))
+next-call : (b : Buffers) → every (runFit (b .run) ∷ eqb (length (b .step)) 24 ∷ []) ≡ true → called Call.runNext b ≡ nextOn b (ask chosen (runOf (b .run)))
 unfolding hostNext
 next-call b h =
-    ap (λ (t : Bool). afterNext b (cond t (shownNext (b .run) (b .step) (asked (ask smaller (runOf (b .run))))) (nextOut (packed (reply BadArguments)) (b .run) (b .step)))) h
+    ap (λ (t : Bool). afterNext b (cond t (shownNext (b .run) (b .step) (asked (ask chosen (runOf (b .run))))) (nextOut (packed (reply BadArguments)) (b .run) (b .step)))) h
 
 shown-done : (b : Buffers) (a : Ask) (h : Handed) (R : Run) → a .answer ≡ reply Done → Asks a 0 (some h) R → nextOn b a ≡ left 0 (handing h (putRun R (b .run)) b)
 shown-done b a h R d k =
@@ -132,33 +132,33 @@ shown-refused b a e = ap (λ (v : Reply). nextOn b (record { answer = v; handed 
 some-none : (h : Handed) → some h ≡ none → ⊥
 some-none h e = let z : _≡_ {A = ℕ} 0 1 = cc in omega arith
 
-ask-zero : (R : Run) → done (ask smaller R .answer) ≡ true → ask smaller R .answer ≡ reply Done
-ask-zero R = go (handsOut smaller R)
+ask-zero : (R : Run) → done (ask chosen R .answer) ≡ true → ask chosen R .answer ≡ reply Done
+ask-zero R = go (handsOut chosen R)
   where
-    go : (o : Option Op) → done (askWith smaller R o .answer) ≡ true → askWith smaller R o .answer ≡ reply Done
+    go : (o : Option Op) → done (askWith chosen R o .answer) ≡ true → askWith chosen R o .answer ≡ reply Done
     go none e = absurd (false-true e)
     go (some o) e = refl
 
 -- nothing is handed out
-ask-none : (R : Run) → ask smaller R .handed ≡ none → ask smaller R .answer ≡ reply BadArguments
-ask-none R = go (handsOut smaller R)
+ask-none : (R : Run) → ask chosen R .handed ≡ none → ask chosen R .answer ≡ reply BadArguments
+ask-none R = go (handsOut chosen R)
   where
-    go : (o : Option Op) → askWith smaller R o .handed ≡ none → askWith smaller R o .answer ≡ reply BadArguments
+    go : (o : Option Op) → askWith chosen R o .handed ≡ none → askWith chosen R o .answer ≡ reply BadArguments
     go none e = refl
     go (some o) e = absurd (some-none (handedFor (R .plan) o) e)
 
-turn-none : (r : Running) → turn smaller r .handed ≡ none → turn smaller r .answer ≡ reply BadArguments
-turn-none r = go (handsOut smaller (r .run))
+turn-none : (r : Running) → turn chosen r .handed ≡ none → turn chosen r .answer ≡ reply BadArguments
+turn-none r = go (handsOut chosen (r .run))
   where
-    go : (o : Option Op) → turnWith smaller r o .handed ≡ none → turnWith smaller r o .answer ≡ reply BadArguments
+    go : (o : Option Op) → turnWith chosen r o .handed ≡ none → turnWith chosen r o .answer ≡ reply BadArguments
     go none e = refl
     go (some o) e = absurd (some-none (handedFor (r .run .plan) o) e)
 
 -- ---- an accepted start
 
 record Accepted (P : Plan) (b : Buffers) : Type 0 where
-  machine-long : length (b .machine) ≡ 64
-  run-long : length (b .run) ≡ 144
+  machine-long : length (b .machine) ≡ machineBytes
+  run-long : length (b .run) ≡ runBytes
   done : done (s P b .answer) ≡ true
   leaves : called (Call.runStart P) b .after ≡ having P b (putRun (s P b .run) (b .run))
 
@@ -172,8 +172,8 @@ accepted P b e = go (every (tests P b)) refl
         let d : done (s P b .answer) ≡ true =
         sym (zero-is-done (s P b .answer) (start-zero P b)) ∙ eq-eqb (packed (s P b .answer)) 0 (sym (ap (λ (o : Called). o .result) call) ∙ e) in
         record {
-          machine-long = eqb-true (length (b .machine)) 64 (l .0);
-          run-long = eqb-true (length (b .run)) 144 (l .1 .0);
+          machine-long = eqb-true (length (b .machine)) machineBytes (l .0);
+          run-long = eqb-true (length (b .run)) runBytes (l .1 .0);
           done = d;
           leaves =
               ap (λ (o : Called). o .after) call ∙ lent-same P b
@@ -190,7 +190,7 @@ module _ (P : Plan) (b : Buffers) (p : PlanWords P) (small : Bytes (b .machine))
   b₀ = having P b (putRun R₀ (b .run))
 
   abbrev r₀ : Running
-  r₀ = startedRun smaller P (benchIn b)
+  r₀ = startedRun chosen P (benchIn b)
 
   fresh : R₀ ≡ freshRun (benchIn b .machine) P
   unfolding startRun
@@ -203,7 +203,7 @@ module _ (P : Plan) (b : Buffers) (p : PlanWords P) (small : Bytes (b .machine))
   read-back = runOf-putRun R₀ (b .run) words (A .run-long)
 
   held : runningIn b₀ ≡ r₀
-  held = ap₂ running read-back (sym (run-start-changes-nothing smaller P (benchIn b)))
+  held = ap₂ running read-back (sym (run-start-changes-nothing chosen P (benchIn b)))
 
   fit₀ : turnBlocks (b₀ .run) (b₀ .machine) ≡ true
   fit₀ = blocks-fit (b₀ .run) (b₀ .machine) (runFit-putRun R₀ (b .run) words (A .run-long)) (A .machine-long)
@@ -223,46 +223,46 @@ module _ (P : Plan) (b : Buffers) (p : PlanWords P) (small : Bytes (b .machine))
 
   -- after t turns, and t calls
   abbrev r : ℕ → Running
-  r t = afterTurns smaller r₀ t
+  r t = afterTurns chosen r₀ t
 
   wordy : (t : ℕ) → Wordy (r t)
-  wordy t = subst (λ (q : Running). Wordy (afterTurns smaller q t)) held (turns-wordy (runningIn b₀) wordy₀ t)
+  wordy t = subst (λ (q : Running). Wordy (afterTurns chosen q t)) held (turns-wordy (runningIn b₀) wordy₀ t)
 
   holds₀ : (t : ℕ) → afterTurnCalls P b t ≡ with (r t) b₀
   holds₀ t =
       ap (afterCalls (turnCalls t)) (A .leaves) ∙ holds b₀ fit₀ wordy₀ same₀ t
-      ∙ ap (λ (q : Running). with (afterTurns smaller q t) b₀) held
+      ∙ ap (λ (q : Running). with (afterTurns chosen q t) b₀) held
 
   holding : (t : ℕ) → afterTurnCalls P b t ≡ with (r t) b
   holding t = holds₀ t ∙ over₀ (r t)
 
-  turning : (t : ℕ) → called Call.runTurn (afterTurnCalls P b t) ≡ left (packed (turn smaller (r t) .answer)) (with (turn smaller (r t) .after) b)
+  turning : (t : ℕ) → called Call.runTurn (afterTurnCalls P b t) ≡ left (packed (turn chosen (r t) .answer)) (with (turn chosen (r t) .after) b)
   turning t =
       ap (called Call.runTurn) (holds₀ t) ∙ on b₀ fit₀ (r t) (wordy t)
-      ∙ ap (left (packed (turn smaller (r t) .answer))) (over₀ (turn smaller (r t) .after))
+      ∙ ap (left (packed (turn chosen (r t) .answer))) (over₀ (turn chosen (r t) .after))
 
   -- ---- asking
 
   asking : (t : ℕ) → length (b .step) ≡ 24
-      → called Call.runNext (with (r t) b) ≡ nextOn (with (r t) b) (ask smaller (r t .run))
+      → called Call.runNext (with (r t) b) ≡ nextOn (with (r t) b) (ask chosen (r t .run))
   asking t l =
       let R : List ℕ = putRun (r t .run) (b .run) in
       next-call (with (r t) b) (each-every (runFit R ∷ eqb (length (b .step)) 24 ∷ []) (runFit-putRun (r t .run) (b .run) (wordy t .run) (A .run-long), (eq-eqb (length (b .step)) 24 l, tt)))
-      ∙ ap (λ (S : Run). nextOn (with (r t) b) (ask smaller S)) (runOf-putRun (r t .run) (b .run) (wordy t .run) (A .run-long))
+      ∙ ap (λ (S : Run). nextOn (with (r t) b) (ask chosen S)) (runOf-putRun (r t .run) (b .run) (wordy t .run) (A .run-long))
 
   -- what was asked for is written over the blocks
-  asked-done : (t : ℕ) (h : Handed) → length (b .step) ≡ 24 → Asks (ask smaller (r t .run)) 0 (some h) (r (suc t) .run)
+  asked-done : (t : ℕ) (h : Handed) → length (b .step) ≡ 24 → Asks (ask chosen (r t .run)) 0 (some h) (r (suc t) .run)
       → called Call.runNext (with (r t) b) ≡ left 0 (handing h (with (r (suc t)) b .run) (with (r t) b))
   asked-done t h l k =
-      asking t l ∙ shown-done (with (r t) b) (ask smaller (r t .run)) h (r (suc t) .run) (ask-zero (r t .run) (number-done (ask smaller (r t .run) .answer) (k .answers))) k
+      asking t l ∙ shown-done (with (r t) b) (ask chosen (r t .run)) h (r (suc t) .run) (ask-zero (r t .run) (number-done (ask chosen (r t .run) .answer) (k .answers))) k
       ∙ ap (λ (R : List ℕ). left 0 (handing h R (with (r t) b))) (putRun-over (r (suc t) .run) (r t .run) (b .run) (A .run-long))
 
-  right : (t : ℕ) → Right (jobIn P b) r₀ t → TurnCalls P b t
+  right : (t : ℕ) → Right chosen (jobIn P b) r₀ t → TurnCalls P b t
   right t T = record {
     holds = holding t;
     next-done = λ l.
         ap (λ (o : Called). o .result) (turning t)
-        ∙ ap packed (turn-zero (r t) (number-done (turn smaller (r t) .answer) (T .next-done l .answers)));
+        ∙ ap packed (turn-zero (r t) (number-done (turn chosen (r t) .answer) (T .next-done l .answers)));
     past-end = λ l. (
       ap (λ (o : Called). o .result) (turning t) ∙ ap packed (turn-none (r t) (T .past-end l .hands-out)),
       ap (λ (o : Called). o .after) (turning t) ∙ ap (λ (q : Running). with q b) (T .past-end l .leaves) ∙ sym (holding t),
@@ -273,7 +273,7 @@ module _ (P : Plan) (b : Buffers) (p : PlanWords P) (small : Bytes (b .machine))
         (let k = asked-done t (wordOf (jobIn P b) t) e (T .asks l) in (ap (λ (o : Called). o .result) k, ap (λ (o : Called). o .after) k)));
     asks-past-end = λ e l.
         subst (λ (c : Buffers). (called Call.runNext c .result ≡ 8) × (called Call.runNext c .after ≡ c)) (sym (holding t))
-        (let k = asking t e ∙ shown-refused (with (r t) b) (ask smaller (r t .run)) (ask-none (r t .run) (T .asks-past-end l .hands-out)) in (ap (λ (o : Called). o .result) k, ap (λ (o : Called). o .after) k));
+        (let k = asking t e ∙ shown-refused (with (r t) b) (ask chosen (r t .run)) (ask-none (r t .run) (T .asks-past-end l .hands-out)) in (ap (λ (o : Called). o .result) k, ap (λ (o : Called). o .after) k));
     kept = subst (λ (c : Buffers). Kept (jobIn P b) (c .memory)) (sym (holding t)) (T .kept);
     product = λ l i j g h. ap (λ (c : Buffers). element (c .memory) (cAt P) (wide P) i j) (holding t) ∙ T .product l i j g h;
   }
@@ -287,30 +287,30 @@ turn-calls-are-right P b p small bytes e t =
 
 module _ (P : Plan) (b : Buffers) where
   abbrev w : WholeOutcome
-  w = whole smaller P (benchIn b)
+  w = whole chosen P (benchIn b)
 
   abbrev runOn : Bool → Called
   runOn t =
       afterRun b (cond t (shownRun (b .machine) (b .steps) w)
       (ranOut (packed (reply BadArguments)) (b .machine) (b .registers) (b .marks) (b .memory) (b .steps)))
 
-  run-call : (t : Bool) → every (eqb (length (b .machine)) 64 ∷ eqb (length (b .steps)) 8 ∷ []) ≡ t → called (Call.run P) b ≡ runOn t
+  run-call : (t : Bool) → every (eqb (length (b .machine)) machineBytes ∷ eqb (length (b .steps)) 8 ∷ []) ≡ t → called (Call.run P) b ≡ runOn t
   unfolding hostRun
   run-call t h = ap runOn h
 
-  run-fits : length (b .steps) ≡ 8 → eqb (length (b .machine)) 64 ≡ true → called (Call.run P) b ≡ runOn true
-  run-fits ls h = run-call true (each-every (eqb (length (b .machine)) 64 ∷ eqb (length (b .steps)) 8 ∷ []) (h, (eq-eqb (length (b .steps)) 8 ls, tt)))
+  run-fits : length (b .steps) ≡ 8 → eqb (length (b .machine)) machineBytes ≡ true → called (Call.run P) b ≡ runOn true
+  run-fits ls h = run-call true (each-every (eqb (length (b .machine)) machineBytes ∷ eqb (length (b .steps)) 8 ∷ []) (h, (eq-eqb (length (b .steps)) 8 ls, tt)))
 
-  same-result : length (b .run) ≡ 144 → length (b .steps) ≡ 8 → called (Call.run P) b .result ≡ called (Call.runStart P) b .result
-  same-result lr ls = go (eqb (length (b .machine)) 64) refl
+  same-result : length (b .run) ≡ runBytes → length (b .steps) ≡ 8 → called (Call.run P) b .result ≡ called (Call.runStart P) b .result
+  same-result lr ls = go (eqb (length (b .machine)) machineBytes) refl
     where
-      go : (t : Bool) → eqb (length (b .machine)) 64 ≡ t → called (Call.run P) b .result ≡ called (Call.runStart P) b .result
+      go : (t : Bool) → eqb (length (b .machine)) machineBytes ≡ t → called (Call.run P) b .result ≡ called (Call.runStart P) b .result
       go true h =
           ap (λ (o : Called). o .result) (run-fits ls h)
-          ∙ sym (ap (λ (o : Called). o .result) (start-call P b true (each-every (tests P b) (h, (eq-eqb (length (b .run)) 144 lr, tt)))))
+          ∙ sym (ap (λ (o : Called). o .result) (start-call P b true (each-every (tests P b) (h, (eq-eqb (length (b .run)) runBytes lr, tt)))))
       go false h =
           ap (λ (o : Called). o .result) (run-call false (ap (λ (t : Bool). every (t ∷ eqb (length (b .steps)) 8 ∷ [])) h))
-          ∙ sym (ap (λ (o : Called). o .result) (start-call P b false (ap (λ (t : Bool). every (t ∷ eqb (length (b .run)) 144 ∷ [])) h)))
+          ∙ sym (ap (λ (o : Called). o .result) (start-call P b false (ap (λ (t : Bool). every (t ∷ eqb (length (b .run)) runBytes ∷ [])) h)))
 
 pub run-is-turn-calls : RunIsTurnCalls
 run-is-turn-calls P b p small bytes lr ls = (
@@ -319,7 +319,7 @@ run-is-turn-calls P b p small bytes lr ls = (
       let A : Accepted P b = accepted P b (sym (same-result P b lr ls) ∙ e) in
       let n : ℕ = steps (shape (jobIn P b)) in
       let counted : w P b .count ≡ n = whole-delivers P (benchIn b) bytes .counted (ap (λ (v : Reply). v .number) (start-zero P b (A .done))) in
-      ap (λ (o : Called). o .after) (run-fits P b ls (eq-eqb (length (b .machine)) 64 (A .machine-long)))
+      ap (λ (o : Called). o .after) (run-fits P b ls (eq-eqb (length (b .machine)) machineBytes (A .machine-long)))
       ∙ ap₂ (λ (t : Bool) (k : ℕ). afterRun b (ranOut 0 (cond t (putMachine (w P b .bench .machine) (b .machine)) (b .machine))
       (w P b .bench .registers) (w P b .bench .marks) (w P b .bench .memory) (cond t (putNumbers (k ∷ []) (b .steps)) (b .steps))) .after) (A .done) counted
       ∙ ap (λ (c : Buffers). counting n c b) (sym (holding P b p small A n)),

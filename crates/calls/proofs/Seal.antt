@@ -13,8 +13,8 @@ use Rattle.machine.specs.declared.Answer.the-variants.{Done, BadArguments}
 use Rattle.machine.specs.Tests.{every}
 use Rattle.machine.specs.Answers.{reply, done}
 use Rattle.machine.specs.Geometry.{Parameters, Bench, permitted, registerBytes}
-use Rattle.machine.specs.Setting.{smaller}
-use Rattle.machine.specs.Starting.{sealEnds, startable, startMachine, freshMachine, noMachine}
+use Rattle.machine.specs.Setting.{chosen}
+use Rattle.machine.specs.Starting.{isRule, sealEnds, startable, startMachine, freshMachine, noMachine}
 use Rattle.machine.specs.Step.{step}
 use Rattle.machine.specs.Theorems.{Unharmed}
 use Rattle.machine.proofs.TestLaws.{in-within, every-each}
@@ -31,8 +31,8 @@ use Rattle.run.specs.Acts.{Act, session}
 use Rattle.run.specs.Theorems.{SealKept}
 use Rattle.run.proofs.Demand1.{run-start-changes-nothing}
 use Rattle.run.proofs.Demand2.{seal-holds-over-acts}
-use Rattle.blocks.specs.Blocks.{machineOf, putMachine, valuesOf, packed}
-use Rattle.run_blocks.specs.RunBlocks.{runFit, runOf}
+use Rattle.blocks.specs.Blocks.{machineBytes, machineOf, putMachine, valuesOf, packed}
+use Rattle.run_blocks.specs.RunBlocks.{runBytes, runFit, runOf}
 use Rattle.blocks.proofs.BlockLaws.{Words, machineOf-putMachine}
 use Rattle.scalar_block.specs.ScalarBlock.{stepBlock}
 use Rattle.bodlarina.specs.Host.{startedOut, shownStart, hostStart, steppedOut, shownStep, hostStep, runStartedOut, shownRunStart, hostRunStart, turnBlocks, heldRunning, turnedOut, shownTurn, hostTurn, shownTurns, hostTurns, ranOut, shownRun, hostRun}
@@ -51,7 +51,7 @@ record Safe (b : Buffers) (machine memory : List ℕ) : Type 0 where
 
 module _ (b : Buffers) (w : Words (machineOf (b .machine))) where
   -- the definitions: what they leave of memory
-  unharmed-bytes : (C : Bench) → Unharmed smaller (benchIn b) C → (q : ℕ) → SealedIn b q → getD (C .memory) q 0 ≡ getD (b .memory) q 0
+  unharmed-bytes : (C : Bench) → Unharmed chosen (benchIn b) C → (q : ℕ) → SealedIn b q → getD (C .memory) q 0 ≡ getD (b .memory) q 0
   unharmed-bytes C u q x = u .same-bytes q (in-within (machineOf (b .machine) .«seal_start») (machineOf (b .machine) .«seal_length») q x)
 
   -- the machine's block stays
@@ -62,7 +62,7 @@ module _ (b : Buffers) (w : Words (machineOf (b .machine))) where
   unchanged = stays (b .memory) (λ q x. refl)
 
   -- the machine's numbers are written over their block
-  written : (C : Bench) → length (b .machine) ≡ 64 → Words (C .machine) → Unharmed smaller (benchIn b) C
+  written : (C : Bench) → length (b .machine) ≡ machineBytes → Words (C .machine) → Unharmed chosen (benchIn b) C
       → Safe b (putMachine (C .machine) (b .machine)) (C .memory)
   written C l v u =
       let e : machineOf (putMachine (C .machine) (b .machine)) ≡ C .machine = machineOf-putMachine (C .machine) (b .machine) v l in
@@ -78,43 +78,43 @@ module _ (b : Buffers) (w : Words (machineOf (b .machine))) where
   abbrev SafeAfter : Called → Type 0
   SafeAfter o = Safe b (o .after .machine) (o .after .memory)
 
-  first-length : (ts : List Bool) → every (eqb (length (b .machine)) 64 ∷ ts) ≡ true → length (b .machine) ≡ 64
-  first-length ts h = eqb-true (length (b .machine)) 64 (every-each (eqb (length (b .machine)) 64 ∷ ts) h .0)
+  first-length : (ts : List Bool) → every (eqb (length (b .machine)) machineBytes ∷ ts) ≡ true → length (b .machine) ≡ machineBytes
+  first-length ts h = eqb-true (length (b .machine)) machineBytes (every-each (eqb (length (b .machine)) machineBytes ∷ ts) h .0)
 
   step-safe : (word : ℕ) → SafeAfter (called (Call.step word) b)
   unfolding hostStep
-  step-safe word = go (every (eqb (length (b .machine)) 64 ∷ eqb (length (b .scalars)) 256 ∷ [])) refl
+  step-safe word = go (every (eqb (length (b .machine)) machineBytes ∷ eqb (length (b .scalars)) 256 ∷ [])) refl
     where
       out : Bool → Called
       out t =
           afterStep b (cond t (shownStep (b .machine) (stepBlock word (b .scalars) (benchIn b)))
           (steppedOut (packed (reply BadArguments)) (b .machine) (b .registers) (b .marks) (b .scalars) (b .memory)))
 
-      go : (t : Bool) → every (eqb (length (b .machine)) 64 ∷ eqb (length (b .scalars)) 256 ∷ []) ≡ t → SafeAfter (out t)
+      go : (t : Bool) → every (eqb (length (b .machine)) machineBytes ∷ eqb (length (b .scalars)) 256 ∷ []) ≡ t → SafeAfter (out t)
       go true h =
           written (step word (valuesOf (b .scalars)) (benchIn b) .bench) (first-length (eqb (length (b .scalars)) 256 ∷ []) h)
-          (step-words word (valuesOf (b .scalars)) (benchIn b) w) (step-unharmed smaller word (valuesOf (b .scalars)) (benchIn b))
+          (step-words word (valuesOf (b .scalars)) (benchIn b) w) (step-unharmed chosen word (valuesOf (b .scalars)) (benchIn b))
       go false h = unchanged
 
   run-start-safe : (P : Plan) → SafeAfter (called (Call.runStart P) b)
   unfolding hostRunStart
-  run-start-safe P = go (every (eqb (length (b .machine)) 64 ∷ eqb (length (b .run)) 144 ∷ []))
+  run-start-safe P = go (every (eqb (length (b .machine)) machineBytes ∷ eqb (length (b .run)) runBytes ∷ []))
     where
       out : Bool → Called
       out t =
-          afterRunStart b (cond t (shownRunStart (b .machine) (b .run) (startRun smaller P (benchIn b)))
+          afterRunStart b (cond t (shownRunStart (b .machine) (b .run) (startRun chosen P (benchIn b)))
           (runStartedOut (packed (reply BadArguments)) (b .machine) (b .registers) (b .marks) (b .memory) (b .run)))
 
       go : (t : Bool) → SafeAfter (out t)
-      go true = stays (startRun smaller P (benchIn b) .bench .memory) (λ q x. ap (λ (C : Bench). getD (C .memory) q 0) (run-start-changes-nothing smaller P (benchIn b)))
+      go true = stays (startRun chosen P (benchIn b) .bench .memory) (λ q x. ap (λ (C : Bench). getD (C .memory) q 0) (run-start-changes-nothing chosen P (benchIn b)))
       go false = unchanged
 
   -- the run and the machine in the blocks
   abbrev r : Running
   r = heldRunning (b .run) (b .machine) (b .registers) (b .marks) (b .memory)
 
-  blocks-length : turnBlocks (b .run) (b .machine) ≡ true → length (b .machine) ≡ 64
-  blocks-length h = eqb-true (length (b .machine)) 64 (every-each (runFit (b .run) ∷ eqb (length (b .machine)) 64 ∷ []) h .1 .0)
+  blocks-length : turnBlocks (b .run) (b .machine) ≡ true → length (b .machine) ≡ machineBytes
+  blocks-length h = eqb-true (length (b .machine)) machineBytes (every-each (runFit (b .run) ∷ eqb (length (b .machine)) machineBytes ∷ []) h .1 .0)
 
   turn-safe : SafeAfter (called Call.runTurn b)
   unfolding hostTurn
@@ -122,13 +122,13 @@ module _ (b : Buffers) (w : Words (machineOf (b .machine))) where
     where
       out : Bool → Called
       out t =
-          afterTurn b (cond t (shownTurn (b .run) (b .machine) (turnOutcome smaller r))
+          afterTurn b (cond t (shownTurn (b .run) (b .machine) (turnOutcome chosen r))
           (turnedOut (packed (reply BadArguments)) (b .run) (b .machine) (b .registers) (b .marks) (b .memory)))
 
       go : (t : Bool) → turnBlocks (b .run) (b .machine) ≡ t → SafeAfter (out t)
       go true h =
-          written (turn smaller r .after .bench) (blocks-length h) (turn-machine r w)
-          (seal-holds-over-acts smaller (Act.runTurn ∷ []) (session (benchIn b) [] (runOf (b .run))))
+          written (turn chosen r .after .bench) (blocks-length h) (turn-machine r w)
+          (seal-holds-over-acts chosen (Act.runTurn ∷ []) (session (benchIn b) [] (runOf (b .run))))
       go false h = unchanged
 
   turns-safe : (limit : ℕ) → SafeAfter (called (Call.runTurns limit) b)
@@ -137,46 +137,46 @@ module _ (b : Buffers) (w : Words (machineOf (b .machine))) where
     where
       out : Bool → Called
       out t =
-          afterTurn b (cond t (shownTurns (b .run) (b .machine) (turns smaller r limit))
+          afterTurn b (cond t (shownTurns (b .run) (b .machine) (turns chosen r limit))
           (turnedOut 0 (b .run) (b .machine) (b .registers) (b .marks) (b .memory)))
 
       go : (t : Bool) → turnBlocks (b .run) (b .machine) ≡ t → SafeAfter (out t)
       go true h =
-          written (afterTurns smaller r limit .bench) (blocks-length h) (turns-machine r w limit)
-          (seal-holds-over-acts smaller (Act.runTurns limit ∷ []) (session (benchIn b) [] (runOf (b .run))))
+          written (afterTurns chosen r limit .bench) (blocks-length h) (turns-machine r w limit)
+          (seal-holds-over-acts chosen (Act.runTurns limit ∷ []) (session (benchIn b) [] (runOf (b .run))))
       go false h = unchanged
 
   run-safe : (P : Plan) → SafeAfter (called (Call.run P) b)
   unfolding hostRun
-  run-safe P = go (every (eqb (length (b .machine)) 64 ∷ eqb (length (b .steps)) 8 ∷ [])) refl
+  run-safe P = go (every (eqb (length (b .machine)) machineBytes ∷ eqb (length (b .steps)) 8 ∷ [])) refl
     where
       C : Bench
-      C = whole smaller P (benchIn b) .bench
+      C = whole chosen P (benchIn b) .bench
 
-      unharmed : Unharmed smaller (benchIn b) C
-      unharmed = seal-holds-over-acts smaller (Act.run P ∷ []) (session (benchIn b) [] (runOf (b .run)))
+      unharmed : Unharmed chosen (benchIn b) C
+      unharmed = seal-holds-over-acts chosen (Act.run P ∷ []) (session (benchIn b) [] (runOf (b .run)))
 
       words : Words (C .machine)
       words =
-          turns-machine (startedRun smaller P (benchIn b)) (subst (λ (D : Bench). Words (D .machine)) (sym (run-start-changes-nothing smaller P (benchIn b))) w)
-          (steps (shape (jobOf smaller P (benchIn b))))
+          turns-machine (startedRun chosen P (benchIn b)) (subst (λ (D : Bench). Words (D .machine)) (sym (run-start-changes-nothing chosen P (benchIn b))) w)
+          (steps (shape (jobOf chosen P (benchIn b))))
 
       out : Bool → Called
       out t =
-          afterRun b (cond t (shownRun (b .machine) (b .steps) (whole smaller P (benchIn b)))
+          afterRun b (cond t (shownRun (b .machine) (b .steps) (whole chosen P (benchIn b)))
           (ranOut (packed (reply BadArguments)) (b .machine) (b .registers) (b .marks) (b .memory) (b .steps)))
 
       -- after a run that is done, and after one that is not
-      shown : (t : Bool) → length (b .machine) ≡ 64 → Safe b (cond t (putMachine (C .machine) (b .machine)) (b .machine)) (C .memory)
+      shown : (t : Bool) → length (b .machine) ≡ machineBytes → Safe b (cond t (putMachine (C .machine) (b .machine)) (b .machine)) (C .memory)
       shown true l = written C l words unharmed
       shown false l = stays (C .memory) (unharmed-bytes C unharmed)
 
-      go : (t : Bool) → every (eqb (length (b .machine)) 64 ∷ eqb (length (b .steps)) 8 ∷ []) ≡ t → SafeAfter (out t)
-      go true h = shown (done (whole smaller P (benchIn b) .answer)) (first-length (eqb (length (b .steps)) 8 ∷ []) h)
+      go : (t : Bool) → every (eqb (length (b .machine)) machineBytes ∷ eqb (length (b .steps)) 8 ∷ []) ≡ t → SafeAfter (out t)
+      go true h = shown (done (whole chosen P (benchIn b) .answer)) (first-length (eqb (length (b .steps)) 8 ∷ []) h)
       go false h = unchanged
 
   call-safe : (c : Call) → SparesSeal c b → SafeAfter (called c b)
-  call-safe (Call.start rlen mlen sealStart sealLength) h = absurd h
+  call-safe (Call.start rlen mlen rule sealStart sealLength) h = absurd h
   call-safe (Call.step word) h = step-safe word
   call-safe (Call.runStart P) h = run-start-safe P
   call-safe Call.runNext h = unchanged
@@ -212,16 +212,16 @@ seal-holds-over-calls cs b small = calls-keep cs b (machine-words (b .machine) s
 
 -- ---- from a start on
 
-module _ (rlen mlen sealStart sealLength : ℕ) where
+module _ (rlen mlen rule sealStart sealLength : ℕ) where
   abbrev fresh : Machine
-  fresh = freshMachine rlen mlen sealStart sealLength
+  fresh = freshMachine rlen mlen rule sealStart sealLength
 
-  fresh-words : (registers marks : List ℕ) → startable rlen mlen sealStart sealLength registers marks ≡ true → Words fresh
+  fresh-words : (registers marks : List ℕ) → startable rlen mlen rule sealStart sealLength registers marks ≡ true → Words fresh
   unfolding startable
   fresh-words registers marks h =
-      let t = every-each (permitted rlen mlen ∷ eqb (length registers) (registerBytes mlen) ∷ eqb (length marks) (registerBytes mlen) ∷ sealEnds sealStart sealLength ∷ []) h in
+      let t = every-each (permitted rlen mlen ∷ eqb (length registers) (registerBytes mlen) ∷ eqb (length marks) (registerBytes mlen) ∷ isRule rule ∷ sealEnds sealStart sealLength ∷ []) h in
       let l = permitted-bounds rlen mlen (t .0) in
-      let e : sealStart + sealLength ≤ 2 ^ 64 - 1 = leb-true (sealStart + sealLength) (2 ^ 64 - 1) (t .1 .1 .1 .0) in
+      let e : sealStart + sealLength ≤ 2 ^ 64 - 1 = leb-true (sealStart + sealLength) (2 ^ 64 - 1) (t .1 .1 .1 .1 .0) in
       record {
         rlen = omega arith;
         mlen = omega arith;
@@ -231,28 +231,29 @@ module _ (rlen mlen sealStart sealLength : ℕ) where
         tile-n = omega arith;
         seal-start = omega arith;
         seal-length = omega arith;
+        rule = omega (arith, leb-true rule 1 (t .1 .1 .1 .0));
       }
 
 pub seal-holds-from-start-call : SealHoldsFromStartCall
 unfolding hostStart startMachine
-seal-holds-from-start-call rlen mlen sealStart sealLength b =
-    go (eqb (length (b .machine)) 64) (startable rlen mlen sealStart sealLength (b .registers) (b .marks)) refl refl
+seal-holds-from-start-call rlen mlen rule sealStart sealLength b =
+    go (eqb (length (b .machine)) machineBytes) (startable rlen mlen rule sealStart sealLength (b .registers) (b .marks)) refl refl
   where
     out : Bool → Bool → Called
     out t u =
         afterStart b (cond t
         (shownStart (b .machine) (cond u
-        (record { answer = reply Done; machine = freshMachine rlen mlen sealStart sealLength; registers = b .registers; marks = replicate (length (b .marks)) 0 })
+        (record { answer = reply Done; machine = freshMachine rlen mlen rule sealStart sealLength; registers = b .registers; marks = replicate (length (b .marks)) 0 })
         (record { answer = reply BadArguments; machine = noMachine; registers = b .registers; marks = b .marks })))
         (startedOut (packed (reply BadArguments)) (b .machine) (b .registers) (b .marks)))
 
-    go : (t u : Bool) → eqb (length (b .machine)) 64 ≡ t → startable rlen mlen sealStart sealLength (b .registers) (b .marks) ≡ u
+    go : (t u : Bool) → eqb (length (b .machine)) machineBytes ≡ t → startable rlen mlen rule sealStart sealLength (b .registers) (b .marks) ≡ u
         → out t u .result ≡ 0 → (cs : List Call) → EachSparesSeal cs (out t u .after)
         → SealKept sealStart sealLength (b .memory) (benchIn (afterCalls cs (out t u .after)))
     go true true e f z cs h =
-        let w : Words (freshMachine rlen mlen sealStart sealLength) = fresh-words rlen mlen sealStart sealLength (b .registers) (b .marks) f in
-        let m : machineOf (out true true .after .machine) ≡ freshMachine rlen mlen sealStart sealLength =
-        machineOf-putMachine (freshMachine rlen mlen sealStart sealLength) (b .machine) w (eqb-true (length (b .machine)) 64 e) in
+        let w : Words (freshMachine rlen mlen rule sealStart sealLength) = fresh-words rlen mlen rule sealStart sealLength (b .registers) (b .marks) f in
+        let m : machineOf (out true true .after .machine) ≡ freshMachine rlen mlen rule sealStart sealLength =
+        machineOf-putMachine (freshMachine rlen mlen rule sealStart sealLength) (b .machine) w (eqb-true (length (b .machine)) machineBytes e) in
         subst (λ (m : Machine). SealKept (m .«seal_start») (m .«seal_length») (b .memory) (benchIn (afterCalls cs (out true true .after)))) m
         (calls-keep cs (out true true .after) (subst Words (sym m) w) h)
     go true false e f z cs h = let y : _≡_ {A = ℕ} 8 0 = z in absurd (omega arith)

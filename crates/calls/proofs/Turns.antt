@@ -12,14 +12,14 @@ use Rattle.machine.specs.declared.Answer.the-variants.{Done, BadArguments}
 use Rattle.machine.specs.declared.Reply.{Reply}
 use Rattle.machine.specs.Answers.{reply, done}
 use Rattle.machine.specs.Geometry.{benchOf}
-use Rattle.machine.specs.Setting.{smaller}
+use Rattle.machine.specs.Setting.{chosen}
 use Rattle.machine.proofs.TestLaws.{false-true, every-each}
 use Rattle.run.specs.declared.Run.{Run}
 use Rattle.run.specs.Turn.{Running, running, turn, afterTurns, answeredDone, turnOutcome, turns}
 use Rattle.run.proofs.RefusalLaws.{number-done}
 use Rattle.turn.proofs.TurnLaws.{turn-zero}
-use Rattle.blocks.specs.Blocks.{packed}
-use Rattle.run_blocks.specs.RunBlocks.{runFit}
+use Rattle.blocks.specs.Blocks.{machineBytes, packed}
+use Rattle.run_blocks.specs.RunBlocks.{runBytes, runFit}
 use Rattle.blocks.proofs.BlockLaws.{machineOf-putMachine, putMachine-same}
 use Rattle.run_blocks.proofs.RunBlockLaws.{runOf-putRun, runFit-putRun, putRun-same}
 use Rattle.bodlarina.specs.Host.{turnBlocks, heldRunning, turnedOut, shownTurn, hostTurn, shownTurns, hostTurns}
@@ -77,7 +77,7 @@ left result after = record { result = result; after = after }
 
 abbrev turnOn : Buffers → Bool → Called
 turnOn b t =
-    afterTurn b (cond t (shownTurn (b .run) (b .machine) (turnOutcome smaller (runningIn b)))
+    afterTurn b (cond t (shownTurn (b .run) (b .machine) (turnOutcome chosen (runningIn b)))
     (turnedOut (packed (reply BadArguments)) (b .run) (b .machine) (b .registers) (b .marks) (b .memory)))
 
 turn-call : (b : Buffers) (t : Bool) → turnBlocks (b .run) (b .machine) ≡ t → called Call.runTurn b ≡ turnOn b t
@@ -100,13 +100,13 @@ module _ (b : Buffers) (unfit : turnBlocks (b .run) (b .machine) ≡ false) wher
 -- on blocks that fit
 module _ (b : Buffers) (fit : turnBlocks (b .run) (b .machine) ≡ true) where
   run-fits : runFit (b .run) ≡ true
-  run-fits = every-each (runFit (b .run) ∷ eqb (length (b .machine)) 64 ∷ []) fit .0
+  run-fits = every-each (runFit (b .run) ∷ eqb (length (b .machine)) machineBytes ∷ []) fit .0
 
-  run-length : length (b .run) ≡ 144
+  run-length : length (b .run) ≡ runBytes
   run-length = fit-length (b .run) run-fits
 
-  machine-length : length (b .machine) ≡ 64
-  machine-length = eqb-true (length (b .machine)) 64 (every-each (runFit (b .run) ∷ eqb (length (b .machine)) 64 ∷ []) fit .1 .0)
+  machine-length : length (b .machine) ≡ machineBytes
+  machine-length = eqb-true (length (b .machine)) machineBytes (every-each (runFit (b .run) ∷ eqb (length (b .machine)) machineBytes ∷ []) fit .1 .0)
 
   module _ (r : Running) (w : Wordy r) where
     back : runningIn (with r b) ≡ r
@@ -124,15 +124,15 @@ module _ (b : Buffers) (fit : turnBlocks (b .run) (b .machine) ≡ true) where
         ap₂ (λ (m R : List ℕ). buffers m (s .bench .registers) (s .bench .marks) (b .scalars) (s .bench .memory) R (b .step) (b .steps))
         (putMachine-over (s .bench .machine) (r .bench .machine) (b .machine) machine-length) (putRun-over (s .run) (r .run) (b .run) run-length)
 
-    pub on : called Call.runTurn (with r b) ≡ left (packed (turn smaller r .answer)) (with (turn smaller r .after) b)
+    pub on : called Call.runTurn (with r b) ≡ left (packed (turn chosen r .answer)) (with (turn chosen r .after) b)
     on =
         turn-call (with r b) true fits
-        ∙ ap (λ (q : Running). left (packed (turn smaller q .answer)) (with (turn smaller q .after) (with r b))) back
-        ∙ ap (left (packed (turn smaller r .answer))) (over (turn smaller r .after))
+        ∙ ap (λ (q : Running). left (packed (turn chosen q .answer)) (with (turn chosen q .after) (with r b))) back
+        ∙ ap (left (packed (turn chosen r .answer))) (over (turn chosen r .after))
 
   module _ (w : Wordy (runningIn b)) (same : with (runningIn b) b ≡ b) where
     abbrev r : ℕ → Running
-    r t = afterTurns smaller (runningIn b) t
+    r t = afterTurns chosen (runningIn b) t
 
     pub holds : (t : ℕ) → afterCalls (turnCalls t) b ≡ with (r t) b
     holds zero = sym same
@@ -140,14 +140,14 @@ module _ (b : Buffers) (fit : turnBlocks (b .run) (b .machine) ≡ true) where
         after-last Call.runTurn t b ∙ ap (λ (c : Buffers). called Call.runTurn c .after) (holds t)
         ∙ ap (λ (o : Called). o .after) (on (r t) (turns-wordy (runningIn b) w t))
 
-    next : (t : ℕ) → called Call.runTurn (afterCalls (turnCalls t) b) ≡ left (packed (turn smaller (r t) .answer)) (with (r (suc t)) b)
+    next : (t : ℕ) → called Call.runTurn (afterCalls (turnCalls t) b) ≡ left (packed (turn chosen (r t) .answer)) (with (r (suc t)) b)
     next t = ap (called Call.runTurn) (holds t) ∙ on (r t) (turns-wordy (runningIn b) w t)
 
-    counts : (t : ℕ) → zeros (calls (turnCalls t) b) ≡ answeredDone smaller (runningIn b) t
+    counts : (t : ℕ) → zeros (calls (turnCalls t) b) ≡ answeredDone chosen (runningIn b) t
     counts zero = refl
     counts (suc t) =
         zeros-last Call.runTurn t b
-        ∙ ap₂ (λ (n k : ℕ). n + k) (counts t) (ap one (next t) ∙ ap (λ (u : Bool). cond u 1 0) (zero-is-done (turn smaller (r t) .answer) (turn-zero (r t))))
+        ∙ ap₂ (λ (n k : ℕ). n + k) (counts t) (ap one (next t) ∙ ap (λ (u : Bool). cond u 1 0) (zero-is-done (turn chosen (r t) .answer) (turn-zero (r t))))
 
 -- ---- bodlarina_run_turns
 
@@ -157,7 +157,7 @@ turns-are-turn-calls limit b small small′ = go (turnBlocks (b .run) (b .machin
   where
     out : Bool → Called
     out t =
-        afterTurn b (cond t (shownTurns (b .run) (b .machine) (turns smaller (runningIn b) limit))
+        afterTurn b (cond t (shownTurns (b .run) (b .machine) (turns chosen (runningIn b) limit))
         (turnedOut 0 (b .run) (b .machine) (b .registers) (b .marks) (b .memory)))
 
     go : (t : Bool) → turnBlocks (b .run) (b .machine) ≡ t

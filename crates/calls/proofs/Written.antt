@@ -9,8 +9,8 @@ use Rattle.width.specs.Tile.{byteOf, putRow}
 use Rattle.width.proofs.TileLaws.{length-putRow, putRow-at}
 use Rattle.machine.specs.declared.Machine.{Machine}
 use Rattle.run.specs.declared.Run.{Run}
-use Rattle.blocks.specs.Blocks.{putMachine, putNumbers}
-use Rattle.run_blocks.specs.RunBlocks.{putRun}
+use Rattle.blocks.specs.Blocks.{machineBytes, putMachine, putNumbers}
+use Rattle.run_blocks.specs.RunBlocks.{runBytes, putRun}
 use Rattle.run_blocks.proofs.RunBlockLaws.{length-putRun, numbersOfRun}
 
 -- n numbers of eight bytes
@@ -32,23 +32,23 @@ fills n f xs ys ex ey =
 -- ---- the machine's block
 
 numbersOf : Machine → ℕ → ℕ
-numbersOf m j = getD (m .rlen ∷ m .mlen ∷ m .mtype ∷ m .«tile_m» ∷ m .«tile_k» ∷ m .«tile_n» ∷ m .«seal_start» ∷ m .«seal_length» ∷ []) j 0
+numbersOf m j = getD (m .rlen ∷ m .mlen ∷ m .mtype ∷ m .«tile_m» ∷ m .«tile_k» ∷ m .«tile_n» ∷ m .«seal_start» ∷ m .«seal_length» ∷ m .rule ∷ []) j 0
 
-putMachine-row : (m : Machine) (xs : List ℕ) → putMachine m xs ≡ putRow 0 8 8 (numbersOf m) xs
+putMachine-row : (m : Machine) (xs : List ℕ) → putMachine m xs ≡ putRow 0 9 8 (numbersOf m) xs
 unfolding putMachine putRow numbersOf
 putMachine-row m xs = refl
 
 pub length-putMachine : (m : Machine) (xs : List ℕ) → length (putMachine m xs) ≡ length xs
-length-putMachine m xs = ap length (putMachine-row m xs) ∙ length-putRow 0 8 8 (numbersOf m) xs
+length-putMachine m xs = ap length (putMachine-row m xs) ∙ length-putRow 0 9 8 (numbersOf m) xs
 
-pub putMachine-fills : (m : Machine) (xs ys : List ℕ) → length xs ≡ 64 → length ys ≡ 64 → putMachine m xs ≡ putMachine m ys
-putMachine-fills m xs ys ex ey = putMachine-row m xs ∙ fills 8 (numbersOf m) xs ys ex ey ∙ sym (putMachine-row m ys)
+pub putMachine-fills : (m : Machine) (xs ys : List ℕ) → length xs ≡ machineBytes → length ys ≡ machineBytes → putMachine m xs ≡ putMachine m ys
+putMachine-fills m xs ys ex ey = putMachine-row m xs ∙ fills 9 (numbersOf m) xs ys ex ey ∙ sym (putMachine-row m ys)
 
-pub putMachine-over : (m m′ : Machine) (xs : List ℕ) → length xs ≡ 64 → putMachine m (putMachine m′ xs) ≡ putMachine m xs
+pub putMachine-over : (m m′ : Machine) (xs : List ℕ) → length xs ≡ machineBytes → putMachine m (putMachine m′ xs) ≡ putMachine m xs
 putMachine-over m m′ xs e = putMachine-fills m (putMachine m′ xs) xs (length-putMachine m′ xs ∙ e) e
 
 -- ---- a run's block
 
-pub putRun-over : (R R′ : Run) (xs : List ℕ) → length xs ≡ 144 → putRun R (putRun R′ xs) ≡ putRun R xs
+pub putRun-over : (R R′ : Run) (xs : List ℕ) → length xs ≡ runBytes → putRun R (putRun R′ xs) ≡ putRun R xs
 unfolding putRun putNumbers
-putRun-over R R′ xs e = fills 18 (λ j. getD (numbersOfRun R) j 0) (putRun R′ xs) xs (length-putRun R′ xs ∙ e) e
+putRun-over R R′ xs e = fills 19 (λ j. getD (numbersOfRun R) j 0) (putRun R′ xs) xs (length-putRun R′ xs ∙ e) e

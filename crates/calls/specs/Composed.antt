@@ -9,7 +9,7 @@ use lib.Dec.{eqb}
 use Rattle.width.specs.Tile.{In}
 use Rattle.machine.specs.declared.Reply.{Reply}
 use Rattle.machine.specs.Geometry.{Bench, benchOf}
-use Rattle.machine.specs.Setting.{smaller}
+use Rattle.machine.specs.Setting.{chosen}
 use Rattle.machine.specs.Operation.{element}
 use Rattle.run.specs.declared.Plan.{Plan}
 use Rattle.run.specs.declared.Handed.{Handed}
@@ -73,7 +73,7 @@ with r b =
 
 -- the job of a plan on the buffers at the call of bodlarina_run_start
 abbrev pub jobIn : Plan → Buffers → Job
-jobIn P b = jobOf smaller P (benchIn b)
+jobIn P b = jobOf chosen P (benchIn b)
 
 -- the buffers after bodlarina_run_start on b and t calls of bodlarina_run_turn after it
 abbrev pub afterTurnCalls : Plan → Buffers → ℕ → Buffers
@@ -86,7 +86,7 @@ handing h run b =
 
 pub record TurnCalls (P : Plan) (b : Buffers) (t : ℕ) : Type 0 where
   -- the buffers hold the run, the machine, the registers, the marks and the memory that t turns of demand 3 leave
-  pub holds : afterTurnCalls P b t ≡ with (afterTurns smaller (startedRun smaller P (benchIn b)) t) b
+  pub holds : afterTurnCalls P b t ≡ with (afterTurns chosen (startedRun chosen P (benchIn b)) t) b
   -- "Turns 1 to s each hand out one step .. and it is answered 0."
   pub next-done : t < steps (shape (jobIn P b)) → called Call.runTurn (afterTurnCalls P b t) .result ≡ 0
   -- "Every later turn gives 8 and changes nothing": no byte of any buffer
@@ -145,7 +145,7 @@ SealedIn b q = In (machineOf (b .machine) .«seal_start») (machineOf (b .machin
 -- A call that is not bodlarina_start. Of what the host writes between calls, which is never registers or marks (Calls.antt): the machine's
 -- block and the sealed bytes of memory stay, the rest may change.
 abbrev pub SparesSeal : Call → Buffers → Type 0
-SparesSeal (Call.start rlen mlen sealStart sealLength) b = ⊥
+SparesSeal (Call.start rlen mlen rule sealStart sealLength) b = ⊥
 SparesSeal (Call.step word) b = Unit {0}
 SparesSeal (Call.runStart P) b = Unit {0}
 SparesSeal Call.runNext b = Unit {0}
@@ -166,7 +166,7 @@ SealHoldsOverCalls = (cs : List Call) (b : Buffers) → Bytes (b .machine) → E
 
 -- and from an accepted bodlarina_start on: the range that it was given
 abbrev pub SealHoldsFromStartCall : Type 0
-SealHoldsFromStartCall = (rlen mlen sealStart sealLength : ℕ) (b : Buffers)
-    → let o : Called = called (Call.start rlen mlen sealStart sealLength) b in
+SealHoldsFromStartCall = (rlen mlen rule sealStart sealLength : ℕ) (b : Buffers)
+    → let o : Called = called (Call.start rlen mlen rule sealStart sealLength) b in
     o .result ≡ 0 → (cs : List Call) → EachSparesSeal cs (o .after)
     → SealKept sealStart sealLength (b .memory) (benchIn (afterCalls cs (o .after)))

@@ -130,10 +130,11 @@ module _ (m : Machine) (registers marks : List ℕ) (s : sound m registers marks
         tile-k-ok = subst (λ (x : ℕ). m .«tile_k» ≤ x) least (st .k-fits);
         tile-n-ok = subst (λ (x : ℕ). m .«tile_n» ≤ x) (sym (p .columns-are)) (st .n-fits);
         seal-ok = omega (arith, facts .seal-ends);
+        rule-ok = leb-true (m .rule) 1 (facts .rule-is);
       }
 
   pub machine-back : machineFrom (headerOf m) ≡ m
-  machine-back = ap₂ (λ (r l : ℕ). record { rlen = r; mlen = l; mtype = m .mtype; «tile_m» = m .«tile_m»; «tile_k» = m .«tile_k»; «tile_n» = m .«tile_n»; «seal_start» = m .«seal_start»; «seal_length» = m .«seal_length» })
+  machine-back = ap₂ (λ (r l : ℕ). record { rlen = r; mlen = l; mtype = m .mtype; «tile_m» = m .«tile_m»; «tile_k» = m .«tile_k»; «tile_n» = m .«tile_n»; «seal_start» = m .«seal_start»; «seal_length» = m .«seal_length»; rule = m .rule })
       (powers .rlen-is) (powers .mlen-is)
 
   pub registers-sized : length registers ≡ total (exponent (m .mlen))
@@ -150,7 +151,7 @@ module _ (h : Header) (k : Held h) where
   lengths-of = powers-permitted (h .rlen) (h .mlen) (k .rlen-ok .0) (k .rlen-ok .1) (k .mlen-ok .1) (k .mlen-ok .2)
 
   pub header-back : headerOf (machineFrom h) ≡ h
-  header-back = ap₂ (λ (r l : ℕ). record { rlen = r; mlen = l; mtype = h .mtype; tileM = h .tileM; tileK = h .tileK; tileN = h .tileN; sealStart = h .sealStart; sealLength = h .sealLength })
+  header-back = ap₂ (λ (r l : ℕ). record { rlen = r; mlen = l; mtype = h .mtype; tileM = h .tileM; tileK = h .tileK; tileN = h .tileN; sealStart = h .sealStart; sealLength = h .sealLength; rule = h .rule })
       (lengths-of .rlen-back) (lengths-of .mlen-back)
 
   pub sound-from : (registers marks : List ℕ) → length registers ≡ total (h .mlen) → length marks ≡ total (h .mlen) → ((q : ℕ) → getD marks q 0 < 2)
@@ -159,6 +160,7 @@ module _ (h : Header) (k : Held h) where
       let l = lengths-of in
       sound-true (machineFrom h) registers marks (record {
         lengths = l .allowed;
+        rule-is = le-leb (h .rule) 1 (k .rule-ok);
         seal-ends = omega (arith, k .seal-ok);
         state = record {
           regs-length = nr;

@@ -1,20 +1,23 @@
 -- The format accepts the bytes of a header that a machine can hold and of runs that fit, and nothing else.
 use mathlib.Core.Path.{_≡_, refl, sym, ap, ap₂, _∙_, subst}
+use mathlib.Core.Bool.{Bool, true, false, cond}
 use mathlib.Core.List.{List, [], _∷_, _++_, map}
 use mathlib.Core.Option.{none, some}
 use mathlib.Core.Logic.{_⊎_, inl, inr}
 use Prim.Native.Nat.{ℕ, zero, suc, _+_, _-_, _*_, _^_, _≤_, _<_, max, min}
 use native.Mathlib.Omega.{arith}
 use lib.ListN.{length, replicate}
-use Rattle.format.specs.Numbers.{Range, span, Among, encode, Bytes}
+use lib.Dec.{eqb}
+use borrow.Author.Tests.{eqb-true, eqb-false}
+use Rattle.format.specs.Numbers.{Range, span, Among, encode, encodeAll, Bytes}
 use Rattle.format.specs.Formats.{Format, Accepts}
 use Rattle.format.specs.Formats.Format.{done, number, bytes}
 use Rattle.format.specs.Parser.{Live}
 use Rattle.format.proofs.NumberLaws.{among-nonempty}
 use Rattle.image.specs.Cells.{Cell, widen, join, Run, runs, spread, Fit}
 use Rattle.image.specs.Cells.Run.{run}
-use Rattle.image.specs.Images.{Header, runsBytes, spelled}
-use Rattle.image.specs.ImageFormat.{Described, mtypes, total, runsFormat, imageFormat}
+use Rattle.image.specs.Images.{Header, version, fields, runsBytes, spelled}
+use Rattle.image.specs.ImageFormat.{Described, mtypes, tilesFormat, sealFormat, total, runsFormat, imageFormat}
 use Rattle.image.proofs.RunLaws.{fit-many}
 
 -- numbers that a machine can hold
@@ -26,6 +29,7 @@ pub record Held (h : Header) : Type 0 where
   pub tile-k-ok : h .tileK ≤ min (2 ^ (h .mlen - h .rlen)) (2 ^ (h .rlen - 3))
   pub tile-n-ok : h .tileN ≤ 2 ^ (h .rlen - 3)
   pub seal-ok : h .sealStart + h .sealLength < 2 ^ 64
+  pub rule-ok : h .rule ≤ 1
 
 -- there is room for l more runs
 abbrev pub Room : ℕ → ℕ → ℕ → Type 0
@@ -118,31 +122,37 @@ fit-first : (n : ℕ) (rs : List Run) → Fit 0 n rs → 2 * length rs ≤ n + 1
 fit-first n [] h = omega arith
 fit-first n (run g b ∷ rs) h = omega (arith, h .0, fit-many (n - (g + length b)) rs (h .1))
 
-pub image-live : Live imageFormat
-unfolding imageFormat
-image-live = (
-  among-nonempty 1 (span 1 1) (inl (omega arith)),
-  λ v hv. (
-    among-nonempty 6 (span 6 9) (inl (omega arith)),
-    λ r hr. let kr = among-span hr in (
-      among-nonempty 12 (span (max 7 (suc r)) 12) (inl (omega arith)),
-      λ m hm. (
-        among-nonempty 0 mtypes (inl (omega arith)),
-        λ t ht. (
-          among-nonempty 0 (span 0 (2 ^ (m - r))) (inl (omega arith)),
-          λ tm htm. (
-            among-nonempty 0 (span 0 (min (2 ^ (m - r)) (2 ^ (r - 3)))) (inl (omega arith)),
-            λ tk htk. (
-              among-nonempty 0 (span 0 (2 ^ (r - 3))) (inl (omega arith)),
-              λ tn htn. (
-                among-nonempty 0 (span 0 (2 ^ 64 - 1)) (inl (omega arith)),
-                λ st hst. (
-                  among-nonempty 0 (span 0 (2 ^ 64 - 1 - st)) (inl (omega arith)),
-                  λ ln hln. (
-                    among-nonempty 0 (span 0 (2 ^ m)) (inl (omega arith)),
-                    λ c hc. let kc = among-span hc in
-                        runs-live _ c 0 (total m) (room-first c (2 ^ m) (kc .1)),
-                  ),
+-- what follows the version and the rule
+abbrev afterRule : (rule : ℕ) → Format Described
+afterRule rule =
+    number (span 6 9) λ r.
+    number (span (max 7 (suc r)) 12) λ m.
+    tilesFormat (2 ^ (m - r)) (2 ^ (r - 3)) λ t tm tk tn.
+    sealFormat λ st ln.
+    number (span 0 (2 ^ m)) λ c.
+    runsFormat (λ rs. record { header = record { rlen = r; mlen = m; mtype = t; tileM = tm; tileK = tk; tileN = tn; sealStart = st; sealLength = ln; rule = rule }; body = rs }) c 0 (total m)
+
+after-live : (rule : ℕ) → Live (afterRule rule)
+after-live rule = (
+  among-nonempty 6 (span 6 9) (inl (omega arith)),
+  λ r hr. let kr = among-span hr in (
+    among-nonempty 12 (span (max 7 (suc r)) 12) (inl (omega arith)),
+    λ m hm. (
+      among-nonempty 0 mtypes (inl (omega arith)),
+      λ t ht. (
+        among-nonempty 0 (span 0 (2 ^ (m - r))) (inl (omega arith)),
+        λ tm htm. (
+          among-nonempty 0 (span 0 (min (2 ^ (m - r)) (2 ^ (r - 3)))) (inl (omega arith)),
+          λ tk htk. (
+            among-nonempty 0 (span 0 (2 ^ (r - 3))) (inl (omega arith)),
+            λ tn htn. (
+              among-nonempty 0 (span 0 (2 ^ 64 - 1)) (inl (omega arith)),
+              λ st hst. (
+                among-nonempty 0 (span 0 (2 ^ 64 - 1 - st)) (inl (omega arith)),
+                λ ln hln. (
+                  among-nonempty 0 (span 0 (2 ^ m)) (inl (omega arith)),
+                  λ c hc. let kc = among-span hc in
+                      runs-live _ c 0 (total m) (room-first c (2 ^ m) (kc .1)),
                 ),
               ),
             ),
@@ -153,6 +163,14 @@ image-live = (
   ),
 )
 
+pub image-live : Live imageFormat
+unfolding imageFormat
+image-live = (among-nonempty 1 (span 1 2) (inl (omega arith)), λ v hv. by (eqb v 2))
+  where
+    by : (t : Bool) → Live (cond t (number (span 1 1) afterRule) (afterRule 0))
+    by true = (among-nonempty 1 (span 1 1) (inl (omega arith)), λ r hr. after-live r)
+    by false = after-live 0
+
 -- s is the spelled form of d, a machine's numbers and runs
 pub record Spelling (s : List ℕ) (d : Described) : Type 0 where
   pub sound : Held (d .header)
@@ -160,11 +178,21 @@ pub record Spelling (s : List ℕ) (d : Described) : Type 0 where
   pub all-bytes : AllBytes (d .body)
   pub are : s ≡ spelled (d .header) (d .body)
 
-pub image-out : (s : List ℕ) (d : Described) → Accepts imageFormat s d → Spelling s d
-unfolding imageFormat
-image-out s d (v, t0, hv, e0, (r, t1, hr, e1, (m, t2, hm, e2, (ty, t3, hty, e3, (tm, t4, htm, e4, (tk, t5, htk, e5, (tn, t6, htn, e6, (st, t7, hst, e7, (ln, t8, hln, e8, (c, t9, hc, e9, a)))))))))) =
-    let h : Header = record { rlen = r; mlen = m; mtype = ty; tileM = tm; tileK = tk; tileN = tn; sealStart = st; sealLength = ln } in
-    let one = among-span hv in
+-- the bytes behind the version and the rule
+abbrev bytesAfter : Header → List Run → List ℕ
+bytesAfter h rs = encodeAll (fields h) (encode (length rs) ++ runsBytes rs)
+
+-- s is what follows the rule in the spelled form of d
+record SpellingAfter (rule : ℕ) (s : List ℕ) (d : Described) : Type 0 where
+  sound : Held (d .header)
+  fits : Fit 0 (total (d .header .mlen)) (d .body)
+  all-bytes : AllBytes (d .body)
+  rule-is : d .header .rule ≡ rule
+  are : s ≡ bytesAfter (d .header) (d .body)
+
+after-out : (rule : ℕ) → rule ≤ 1 → (s : List ℕ) (d : Described) → Accepts (afterRule rule) s d → SpellingAfter rule s d
+after-out rule u s d (r, t1, hr, e1, (m, t2, hm, e2, (ty, t3, hty, e3, (tm, t4, htm, e4, (tk, t5, htk, e5, (tn, t6, htn, e6, (st, t7, hst, e7, (ln, t8, hln, e8, (c, t9, hc, e9, a))))))))) =
+    let h : Header = record { rlen = r; mlen = m; mtype = ty; tileM = tm; tileK = tk; tileN = tn; sealStart = st; sealLength = ln; rule = rule } in
     let kr = among-span hr in
     let km = among-span hm in
     let ktm = among-span htm in
@@ -174,8 +202,7 @@ image-out s d (v, t0, hv, e0, (r, t1, hr, e1, (m, t2, hm, e2, (ty, t3, hty, e3, 
     let kln = among-span hln in
     let kc = among-span hc in
     let w = runs-out (λ rs. record { header = h; body = rs }) c 0 (total m) (room-first c (2 ^ m) (kc .1)) t9 d a in
-    let v-is : v ≡ 1 = omega arith in
-    subst (Spelling s) (w .is)
+    subst (SpellingAfter rule s) (w .is)
     (record {
       sound = record {
         rlen-ok = kr;
@@ -185,12 +212,13 @@ image-out s d (v, t0, hv, e0, (r, t1, hr, e1, (m, t2, hm, e2, (ty, t3, hty, e3, 
         tile-k-ok = ktk .1;
         tile-n-ok = ktn .1;
         seal-ok = omega arith;
+        rule-ok = u;
       };
       fits = w .fits;
       all-bytes = w .all-bytes;
+      rule-is = refl;
       are =
-          e0 ∙ ap₂ (λ (x : ℕ) (z : List ℕ). encode x ++ z) v-is
-          (e1 ∙ ap (λ (z : List ℕ). encode r ++ z)
+          e1 ∙ ap (λ (z : List ℕ). encode r ++ z)
           (e2 ∙ ap (λ (z : List ℕ). encode m ++ z)
           (e3 ∙ ap (λ (z : List ℕ). encode ty ++ z)
           (e4 ∙ ap (λ (z : List ℕ). encode tm ++ z)
@@ -198,65 +226,83 @@ image-out s d (v, t0, hv, e0, (r, t1, hr, e1, (m, t2, hm, e2, (ty, t3, hty, e3, 
           (e6 ∙ ap (λ (z : List ℕ). encode tn ++ z)
           (e7 ∙ ap (λ (z : List ℕ). encode st ++ z)
           (e8 ∙ ap (λ (z : List ℕ). encode ln ++ z)
-          (e9 ∙ ap₂ (λ (x : ℕ) (z : List ℕ). encode x ++ z) (sym (w .many)) (w .bytes-are))))))))));
+          (e9 ∙ ap₂ (λ (x : ℕ) (z : List ℕ). encode x ++ z) (sym (w .many)) (w .bytes-are)))))))));
     })
 
-pub image-in : (h : Header) (rs : List Run) → Held h → Fit 0 (total (h .mlen)) rs → AllBytes rs
-    → Accepts imageFormat (spelled h rs) (record { header = h; body = rs })
+spelling-behind : (rule : ℕ) (s t : List ℕ) (d : Described) → s ≡ encodeAll (version rule) t → SpellingAfter rule t d → Spelling s d
+spelling-behind rule s t d e k = record {
+  sound = k .sound;
+  fits = k .fits;
+  all-bytes = k .all-bytes;
+  are = e ∙ ap₂ (λ (x : ℕ) (z : List ℕ). encodeAll (version x) z) (sym (k .rule-is)) (k .are);
+}
+
+pub image-out : (s : List ℕ) (d : Described) → Accepts imageFormat s d → Spelling s d
 unfolding imageFormat
-image-in h rs k f b =
+image-out s d (v, t, hv, e, a) = by (eqb v 2) refl a
+  where
+    start : (x : ℕ) → v ≡ x → s ≡ encode x ++ t
+    start x q = e ∙ ap (λ (y : ℕ). encode y ++ t) q
+
+    by : (b : Bool) → eqb v 2 ≡ b → Accepts (cond b (number (span 1 1) afterRule) (afterRule 0)) t d → Spelling s d
+    by true q (r, t′, hr, e′, a) =
+        let kr = among-span hr in
+        let one : r ≡ 1 = omega arith in
+        spelling-behind 1 s t′ d (start 2 (eqb-true v 2 q) ∙ ap (λ (z : List ℕ). encode 2 ++ z) (e′ ∙ ap (λ (x : ℕ). encode x ++ t′) one))
+        (subst (λ (x : ℕ). SpellingAfter x t′ d) one (after-out r (omega arith) t′ d a))
+    by false q a =
+        let kv = among-span hv in
+        spelling-behind 0 s t d (start 1 (omega (arith, eqb-false v 2 q))) (after-out 0 (omega arith) t d a)
+
+after-in : (h : Header) (rs : List Run) → Held h → Fit 0 (total (h .mlen)) rs → AllBytes rs
+    → Accepts (afterRule (h .rule)) (bytesAfter h rs) (record { header = h; body = rs })
+after-in h rs k f b =
     let many = fit-first (total (h .mlen)) rs f in (
-      1,
+      h .rlen,
       _,
-      inl (omega arith),
+      inl (k .rlen-ok),
       refl,
       (
-        h .rlen,
+        h .mlen,
         _,
-        inl (k .rlen-ok),
+        inl (omega (arith, k .mlen-ok, k .rlen-ok)),
         refl,
         (
-          h .mlen,
+          h .mtype,
           _,
-          inl (omega (arith, k .mlen-ok, k .rlen-ok)),
+          k .mtype-ok,
           refl,
           (
-            h .mtype,
+            h .tileM,
             _,
-            k .mtype-ok,
+            inl (omega arith, k .tile-m-ok),
             refl,
             (
-              h .tileM,
+              h .tileK,
               _,
-              inl (omega arith, k .tile-m-ok),
+              inl (omega arith, k .tile-k-ok),
               refl,
               (
-                h .tileK,
+                h .tileN,
                 _,
-                inl (omega arith, k .tile-k-ok),
+                inl (omega arith, k .tile-n-ok),
                 refl,
                 (
-                  h .tileN,
+                  h .sealStart,
                   _,
-                  inl (omega arith, k .tile-n-ok),
+                  inl (omega (arith, k .seal-ok)),
                   refl,
                   (
-                    h .sealStart,
+                    h .sealLength,
                     _,
                     inl (omega (arith, k .seal-ok)),
                     refl,
                     (
-                      h .sealLength,
+                      length rs,
                       _,
-                      inl (omega (arith, k .seal-ok)),
+                      inl (omega arith),
                       refl,
-                      (
-                        length rs,
-                        _,
-                        inl (omega arith),
-                        refl,
-                        runs-in (λ qs. record { header = h; body = qs }) 0 (total (h .mlen)) rs f b,
-                      ),
+                      runs-in (λ qs. record { header = h; body = qs }) 0 (total (h .mlen)) rs f b,
                     ),
                   ),
                 ),
@@ -266,6 +312,21 @@ image-in h rs k f b =
         ),
       ),
     )
+
+pub image-in : (h : Header) (rs : List Run) → Held h → Fit 0 (total (h .mlen)) rs → AllBytes rs
+    → Accepts imageFormat (spelled h rs) (record { header = h; body = rs })
+unfolding imageFormat
+image-in h rs k f b = by (eqb (h .rule) 1) refl
+  where
+    d : Described
+    d = record { header = h; body = rs }
+
+    rest : (x : ℕ) → h .rule ≡ x → Accepts (afterRule x) (bytesAfter h rs) d
+    rest x q = subst (λ (x : ℕ). Accepts (afterRule x) (bytesAfter h rs) d) q (after-in h rs k f b)
+
+    by : (t : Bool) → eqb (h .rule) 1 ≡ t → Accepts imageFormat (encodeAll (cond t (2 ∷ 1 ∷ []) (1 ∷ [])) (bytesAfter h rs)) d
+    by true q = (2, _, inl (omega arith), refl, (1, _, inl (omega arith), refl, rest 1 (eqb-true (h .rule) 1 q)))
+    by false q = (1, _, inl (omega arith), refl, rest 0 (omega (arith, k .rule-ok, eqb-false (h .rule) 1 q)))
 
 -- ---- the bytes of runs and of cells
 

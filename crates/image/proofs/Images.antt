@@ -19,7 +19,7 @@ use Rattle.format.proofs.FormatLaws.{accepts-parse, parser-right, accepts-one, 
 use Rattle.machine.specs.declared.Machine.{Machine}
 use Rattle.machine.specs.Tests.{every}
 use Rattle.machine.specs.Geometry.{registerBytes, Bench, benchOf, sealed, parameters}
-use Rattle.machine.specs.Setting.{smaller}
+use Rattle.machine.specs.Setting.{chosen}
 use Rattle.machine.specs.Starting.{noMachine}
 use Rattle.machine.specs.Faults.{sound, soundBench}
 use Rattle.machine.specs.Alike.{Agree, Alike}
@@ -268,7 +268,7 @@ read-makes s registers marks b h =
 pub seal-holds-from-read : SealHoldsFromRead
 seal-holds-from-read s registers marks memory b h ws q x =
     let o : ReadOutcome = readImage s registers marks in
-    seal-holds smaller ws (benchOf (o .machine) (o .registers) (o .marks) memory) .same-bytes q
+    seal-holds chosen ws (benchOf (o .machine) (o .registers) (o .marks) memory) .same-bytes q
     (in-within (o .machine .«seal_start») (o .machine .«seal_length») q x)
 
 -- ---- there and back

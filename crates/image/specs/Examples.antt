@@ -23,10 +23,15 @@ sevenRuns = refl
 
 -- a fresh machine of RLEN 64 and MLEN 256 with 300 bytes sealed from address 5 on, and two runs: version, exponents, mtype, three tile sizes,
 -- seal, number of runs, and the runs
-image : spelled (headerOf (freshMachine 64 256 5 300)) (run 1 (11 ∷ 12 ∷ []) ∷ run 2 (15 ∷ []) ∷ [])
+image : spelled (headerOf (freshMachine 64 256 0 5 300)) (run 1 (11 ∷ 12 ∷ []) ∷ run 2 (15 ∷ []) ∷ [])
     ≡ 1 ∷ 6 ∷ 8 ∷ 0 ∷ 0 ∷ 0 ∷ 0 ∷ 5 ∷ 172 ∷ 2 ∷ 2 ∷ 1 ∷ 2 ∷ 11 ∷ 12 ∷ 2 ∷ 1 ∷ 15 ∷ []
 unfolding groups encode halvings
 image = refl
+
+-- of a halving machine: version 2 and the rule, then the same
+halvingImage : spelled (headerOf (freshMachine 64 256 1 5 300)) [] ≡ 2 ∷ 1 ∷ 6 ∷ 8 ∷ 0 ∷ 0 ∷ 0 ∷ 0 ∷ 5 ∷ 172 ∷ 2 ∷ 0 ∷ []
+unfolding groups encode halvings
+halvingImage = refl
 
 -- the numbers of a fresh machine of RLEN 64 and MLEN 128, 256 register bytes, before what follows
 abbrev smallest : List ℕ → List ℕ
@@ -43,9 +48,15 @@ checked : checkImage (smallest (0 ∷ [])) ∷ checkImage (smallest (1 ∷ 0 ∷
 unfolding checkImage parse readNumber isAmong nonempty imageFormat runsFormat
 checked = refl
 
+-- of version 2, a rule that is 1; one that is not, seen at once; no rule
+versions : checkImage (2 ∷ 1 ∷ 6 ∷ 7 ∷ 0 ∷ 0 ∷ 0 ∷ 0 ∷ 0 ∷ 0 ∷ 0 ∷ []) ∷ checkImage (2 ∷ 0 ∷ []) ∷ checkImage (2 ∷ 2 ∷ []) ∷ checkImage (2 ∷ 129 ∷ []) ∷ checkImage (2 ∷ []) ∷ []
+    ≡ Done ∷ Damaged 1 ∷ Damaged 1 ∷ Damaged 1 ∷ Damaged 1 ∷ []
+unfolding checkImage parse readNumber isAmong nonempty imageFormat runsFormat
+versions = refl
+
 -- another version; MLEN not above RLEN; an mtype that cannot arise; a tile size above its maximum; a run that touches the one before it; a run
 -- without a byte; a gap that ends past the registers, seen in its second byte; one that leaves no room for the second run, seen in its first
-damaged : checkImage (2 ∷ []) ∷ checkImage (1 ∷ 7 ∷ 7 ∷ []) ∷ checkImage (1 ∷ 6 ∷ 7 ∷ 3 ∷ []) ∷ checkImage (1 ∷ 6 ∷ 7 ∷ 0 ∷ 3 ∷ [])
+damaged : checkImage (3 ∷ []) ∷ checkImage (1 ∷ 7 ∷ 7 ∷ []) ∷ checkImage (1 ∷ 6 ∷ 7 ∷ 3 ∷ []) ∷ checkImage (1 ∷ 6 ∷ 7 ∷ 0 ∷ 3 ∷ [])
     ∷ checkImage (smallest (2 ∷ 0 ∷ 1 ∷ 9 ∷ 0 ∷ 1 ∷ 9 ∷ [])) ∷ checkImage (smallest (1 ∷ 0 ∷ 0 ∷ []))
     ∷ checkImage (smallest (1 ∷ 128 ∷ 2 ∷ 1 ∷ 9 ∷ [])) ∷ checkImage (smallest (2 ∷ 254 ∷ 1 ∷ 1 ∷ 9 ∷ [])) ∷ []
     ≡ Damaged 0 ∷ Damaged 2 ∷ Damaged 3 ∷ Damaged 4 ∷ Damaged 13 ∷ Damaged 11 ∷ Damaged 11 ∷ Damaged 10 ∷ []

@@ -1,7 +1,9 @@
 -- The format of all images: each number has the range that the numbers before it leave. specs/Theorems.antt says that it accepts exactly
 -- the images of machines that are not at fault.
+use mathlib.Core.Bool.{cond}
 use mathlib.Core.List.{List, [], _∷_}
 use Prim.Native.Nat.{ℕ, zero, suc, _+_, _-_, _*_, _^_, max, min}
+use lib.Dec.{eqb}
 use Rattle.format.specs.Numbers.{Range, span}
 use Rattle.format.specs.Formats.{Format}
 use Rattle.format.specs.Formats.Format.{done, number, bytes}
@@ -14,13 +16,17 @@ pub record Described : Type 0 where
   pub header : Header
   pub body : List Run
 
--- the version, and the exponents of RLEN (64 to 512) and MLEN (128 to 4,096, above RLEN)
-abbrev pub shapeFormat : (ℕ → ℕ → Format Described) → Format Described
+-- the version, and the rule: of version 2 it follows and is 1, of version 1 it is 0
+abbrev pub ruleFormat : (ℕ → Format Described) → Format Described
+ruleFormat K = number (span 1 2) λ version. cond (eqb version 2) (number (span 1 1) K) (K 0)
+
+-- and the exponents of RLEN (64 to 512) and MLEN (128 to 4,096, above RLEN)
+abbrev pub shapeFormat : (ℕ → ℕ → ℕ → Format Described) → Format Described
 shapeFormat K =
-    number (span 1 1) λ version.
+    ruleFormat λ rule.
     number (span 6 9) λ rlen.
     number (span (max 7 (suc rlen)) 12) λ mlen.
-    K rlen mlen
+    K rule rlen mlen
 
 -- the mtypes that can arise
 abbrev pub mtypes : List Range
@@ -59,7 +65,7 @@ total mlen = 2 * 2 ^ mlen
 unfoldable pub imageFormat : Format Described
 unfolding runsFormat
 imageFormat =
-    shapeFormat λ rlen mlen.
+    shapeFormat λ rule rlen mlen.
     tilesFormat (2 ^ (mlen - rlen)) (2 ^ (rlen - 3)) λ mtype tileM tileK tileN.
     sealFormat λ start size.
     number (span 0 (2 ^ mlen)) λ count.
@@ -73,6 +79,7 @@ imageFormat =
         tileN = tileN;
         sealStart = start;
         sealLength = size;
+        rule = rule;
       };
       body = rs;
     })

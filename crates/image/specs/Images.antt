@@ -4,7 +4,7 @@ use mathlib.Core.Bool.{true, cond}
 use mathlib.Core.List.{List, [], _∷_, _++_}
 use Prim.Native.Nat.{ℕ, zero, suc, _/_, _^_}
 use lib.ListN.{length}
-use lib.Dec.{ltb}
+use lib.Dec.{ltb, eqb}
 use Rattle.format.specs.Numbers.{encode, encodeAll, Bytes}
 use Rattle.machine.specs.declared.Machine.{Machine}
 use Rattle.machine.specs.Faults.{sound}
@@ -21,7 +21,8 @@ halvings (suc f) n = cond (ltb n 2) 0 (suc (halvings f (n / 2)))
 abbrev pub exponent : ℕ → ℕ
 exponent n = halvings 64 n
 
--- a machine's numbers as an image has them: "the exponents of RLEN and MLEN, mtype, tile_m, tile_k, tile_n, seal start and length"
+-- a machine's numbers as an image has them: "the exponents of RLEN and MLEN, mtype, tile_m, tile_k, tile_n, seal start and length", and, 02,
+-- Eight, the rule
 pub record Header : Type 0 where
   pub rlen : ℕ
   pub mlen : ℕ
@@ -31,6 +32,7 @@ pub record Header : Type 0 where
   pub tileN : ℕ
   pub sealStart : ℕ
   pub sealLength : ℕ
+  pub rule : ℕ
 
 abbrev pub headerOf : Machine → Header
 headerOf m = record {
@@ -42,6 +44,7 @@ headerOf m = record {
   tileN = m .«tile_n»;
   sealStart = m .«seal_start»;
   sealLength = m .«seal_length»;
+  rule = m .rule;
 }
 
 -- the machine with these numbers
@@ -55,22 +58,27 @@ machineFrom h = record {
   «tile_n» = h .tileN;
   «seal_start» = h .sealStart;
   «seal_length» = h .sealLength;
+  rule = h .rule;
 }
 
 -- ---- the bytes
 
--- "The fields are version 1, the exponents of RLEN and MLEN, mtype, tile_m, tile_k, tile_n, seal start and length"
+-- 02, Eight: "An image of a halving machine has version 2, with the rule (1) after the version; version 1 stays the form of the others."
+abbrev pub version : (rule : ℕ) → List ℕ
+version rule = cond (eqb rule 1) (2 ∷ 1 ∷ []) (1 ∷ [])
+
+-- "The fields are version 1, the exponents of RLEN and MLEN, mtype, tile_m, tile_k, tile_n, seal start and length": those behind the version
 abbrev pub fields : Header → List ℕ
-fields h = 1 ∷ h .rlen ∷ h .mlen ∷ h .mtype ∷ h .tileM ∷ h .tileK ∷ h .tileN ∷ h .sealStart ∷ h .sealLength ∷ []
+fields h = h .rlen ∷ h .mlen ∷ h .mtype ∷ h .tileM ∷ h .tileK ∷ h .tileN ∷ h .sealStart ∷ h .sealLength ∷ []
 
 -- "A run is ..: its gap .., its length, then its bytes as they are."
 abbrev pub runsBytes : List Run → List ℕ
 runsBytes [] = []
 runsBytes (run g b ∷ rs) = encode g ++ (encode (length b) ++ (b ++ runsBytes rs))
 
--- the fields, "then the number of runs", then the runs
+-- the version, the fields, "then the number of runs", then the runs
 abbrev pub spelled : Header → List Run → List ℕ
-spelled h rs = encodeAll (fields h) (encode (length rs) ++ runsBytes rs)
+spelled h rs = encodeAll (version (h .rule)) (encodeAll (fields h) (encode (length rs) ++ runsBytes rs))
 
 -- the image of a machine
 unfoldable pub imageOf : Machine → (registers marks : List ℕ) → List ℕ

@@ -10,7 +10,7 @@ use Rattle.format.specs.Numbers.{Bytes}
 use Rattle.format.specs.Formats.{Ends, Accepted}
 use Rattle.machine.specs.declared.Machine.{Machine}
 use Rattle.machine.specs.Geometry.{registerBytes, Bench, benchOf}
-use Rattle.machine.specs.Setting.{smaller}
+use Rattle.machine.specs.Setting.{chosen}
 use Rattle.machine.specs.Faults.{sound, soundBench}
 use Rattle.machine.specs.Alike.{Alike}
 use Rattle.machine.specs.Theorems.{Given, afterAll}
@@ -90,7 +90,7 @@ ReadMakesItsMachine = (s registers marks : List ℕ) → Bytes s → let o = rea
 abbrev pub SealHoldsFromRead : Type 0
 SealHoldsFromRead = (s registers marks memory : List ℕ) → Bytes s → let o = readImage s registers marks in o .answer ≡ imageReply Done
     → (ws : List Given) (q : ℕ) → In (o .machine .«seal_start») (o .machine .«seal_length») q
-    → getD (afterAll smaller ws (benchOf (o .machine) (o .registers) (o .marks) memory) .memory) q 0 ≡ getD memory q 0
+    → getD (afterAll chosen ws (benchOf (o .machine) (o .registers) (o .marks) memory) .memory) q 0 ≡ getD memory q 0
 
 -- ---- there and back
 

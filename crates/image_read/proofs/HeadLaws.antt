@@ -7,9 +7,9 @@ use Prim.Native.Nat.{ℕ, suc, _+_, _-_, _*_, _/_, _^_, _≤_, _<_, max, min}
 use native.Mathlib.Omega.{arith}
 use lib.ListN.{length, drop, getD, drop-of-length-le}
 use lib.Seq.{drop-cons}
-use lib.Dec.{leb}
+use lib.Dec.{leb, eqb}
 use lib.Pow.{pow-mono}
-use borrow.Author.Tests.{lt-ltb, le-ltb, le-leb, lt-leb, leb-true}
+use borrow.Author.Tests.{lt-ltb, le-ltb, le-leb, lt-leb, leb-true, eq-eqb, ne-eqb}
 use Rattle.format.specs.Numbers.{span, Among}
 use Rattle.format.specs.Formats.{Format}
 use Rattle.format.specs.Formats.Format.{number}
@@ -17,33 +17,55 @@ use Rattle.format.specs.Parser.{isAmong, nonempty, grow, readNumber, parse, fro
 use Rattle.format.specs.Parser.Parsed.{whole, stopped}
 use Rattle.format.proofs.NumberLaws.{reads-last, reads-more, read-empty}
 use Rattle.machine.specs.declared.Machine.{Machine}
+use Rattle.reader.specs.declared.Number.{Number}
 use Rattle.reader.specs.declared.Number.the-variants.{Value, Fault}
 use Rattle.reader.specs.At.{found, numberAt}
 use Rattle.reader.proofs.FromLaws.{from-number, from-fault, from-value, from-stuck, from-start, took, took-in}
 use Rattle.image.specs.Images.{Header, machineFrom}
-use Rattle.image.specs.ImageFormat.{Described, mtypes, shapeFormat, tilesFormat, runsFormat, total, imageFormat}
+use Rattle.image.specs.ImageFormat.{Described, mtypes, ruleFormat, shapeFormat, tilesFormat, runsFormat, total, imageFormat}
 use Rattle.image_read.specs.declared.head.Shape.the-variants.{ShapeBad}
 use Rattle.image_read.specs.declared.head.Tiles.the-variants.{TilesBad}
 use Rattle.image_read.specs.declared.head.Tail.the-variants.{TailBad}
 use Rattle.image_read.specs.declared.head.Head.the-variants.{HeadBad}
-use Rattle.image_read.specs.Parts.{ShapedOk, ShapeOk, mtypeAt, TiledOk, TilesOk, tailFormat, TailedOk, TailOk, describe, runsFrom, HeadedOk, HeadOk}
+use Rattle.image_read.specs.Parts.{RuledOk, RuleOk, ShapedOk, ShapeOk, mtypeAt, TiledOk, TilesOk, tailFormat, TailedOk, TailOk, describe, runsFrom, HeadedOk, HeadOk}
 use Rattle.image_read.proofs.RunsLaws.{mapped, runs-with}
 
--- ---- the version and the exponents
+-- ---- the version, the rule and the exponents
+
+module _ (s : List ℕ) where
+  pub version-bad : (p : ℕ) → numberAt s 0 1 2 ≡ Fault p → RuleOk s (Fault p)
+  version-bad p e K = from-fault s 0 1 2 p _ e
+
+  module _ (v a : ℕ) (e : numberAt s 0 1 2 ≡ Value v a) where
+    past-version : (t : Bool) → eqb v 2 ≡ t → (K : ℕ → Format Described) → from (ruleFormat K) s 0 ≡ from (cond t (number (span 1 1) K) (K 0)) s a
+    past-version t q K = from-number s 0 1 2 v a _ e ∙ ap (λ (t : Bool). from (cond t (number (span 1 1) K) (K 0)) s a) q
+
+    version-there : a ≤ length s
+    version-there = took s 0 1 2 v a e .behind (omega arith)
+
+    pub version-one : ¬ (v ≡ 2) → RuleOk s (Value 0 a)
+    version-one h = record { goes-on = past-version false (ne-eqb v 2 h); there = version-there }
+
+    pub version-two : v ≡ 2 → (n : Number) → n ≡ numberAt s a 1 1 → RuleOk s n
+    version-two h (Value r b) q = record {
+      goes-on = λ K. past-version true (eq-eqb v 2 h) K ∙ from-number s a 1 1 r b K (sym q);
+      there = took s a 1 1 r b (sym q) .behind version-there;
+    }
+    version-two h (Fault p) q = λ K. past-version true (eq-eqb v 2 h) K ∙ from-fault s a 1 1 p K (sym q)
 
 abbrev mlenThen : (ℕ → ℕ → Format Described) → ℕ → Format Described
 mlenThen K r = number (span (max 7 (suc r)) 12) (K r)
 
-abbrev rlenThen : (ℕ → ℕ → Format Described) → ℕ → Format Described
-rlenThen K v = number (span 6 9) (mlenThen K)
+abbrev rlenThen : (ℕ → ℕ → ℕ → Format Described) → ℕ → Format Described
+rlenThen K rule = number (span 6 9) (mlenThen (K rule))
 
 module _ (s : List ℕ) where
-  pub version-bad : (p : ℕ) → numberAt s 0 1 1 ≡ Fault p → ShapeOk s (ShapeBad p)
-  version-bad p e K = from-fault s 0 1 1 p (rlenThen K) e
+  pub rule-bad : (p : ℕ) → RuleOk s (Fault p) → ShapeOk s (ShapeBad p)
+  rule-bad p h K = h (rlenThen K)
 
-  module _ (v a : ℕ) (e : numberAt s 0 1 1 ≡ Value v a) where
+  module _ (rule a : ℕ) (h : RuleOk s (Value rule a)) where
     pub rlen-bad : (p : ℕ) → numberAt s a 6 9 ≡ Fault p → ShapeOk s (ShapeBad p)
-    rlen-bad p e₁ K = from-number s 0 1 1 v a (rlenThen K) e ∙ from-fault s a 6 9 p (mlenThen K) e₁
+    rlen-bad p e₁ K = h .goes-on (rlenThen K) ∙ from-fault s a 6 9 p (mlenThen (K rule)) e₁
 
     module _ (r b : ℕ) (e₁ : numberAt s a 6 9 ≡ Value r b) where
       low : r + 1 ≡ max 7 (suc r)
@@ -51,20 +73,19 @@ module _ (s : List ℕ) where
 
       pub mlen-bad : (p : ℕ) → numberAt s b (r + 1) 12 ≡ Fault p → ShapeOk s (ShapeBad p)
       mlen-bad p e₂ K =
-          from-number s 0 1 1 v a (rlenThen K) e ∙ from-number s a 6 9 r b (mlenThen K) e₁
-          ∙ from-fault s b (max 7 (suc r)) 12 p (K r) (subst (λ (x : ℕ). numberAt s b x 12 ≡ Fault p) low e₂)
+          h .goes-on (rlenThen K) ∙ from-number s a 6 9 r b (mlenThen (K rule)) e₁
+          ∙ from-fault s b (max 7 (suc r)) 12 p (K rule r) (subst (λ (x : ℕ). numberAt s b x 12 ≡ Fault p) low e₂)
 
-      pub shaped : (m d : ℕ) → numberAt s b (r + 1) 12 ≡ Value m d → ShapedOk s r m d
+      pub shaped : (m d : ℕ) → numberAt s b (r + 1) 12 ≡ Value m d → ShapedOk s r m rule d
       shaped m d e₂ =
           let e₃ : numberAt s b (max 7 (suc r)) 12 ≡ Value m d = subst (λ (x : ℕ). numberAt s b x 12 ≡ Value m d) low e₂ in
-          let t = took s 0 1 1 v a e in
           let t₁ = took s a 6 9 r b e₁ in
           let t₂ = took s b (r + 1) 12 m d e₂ in
           record {
-            goes-on = λ K. from-number s 0 1 1 v a (rlenThen K) e ∙ from-number s a 6 9 r b (mlenThen K) e₁ ∙ from-number s b (max 7 (suc r)) 12 m d (K r) e₃;
+            goes-on = λ K. h .goes-on (rlenThen K) ∙ from-number s a 6 9 r b (mlenThen (K rule)) e₁ ∙ from-number s b (max 7 (suc r)) 12 m d (K rule r) e₃;
             rlen-ok = (t₁ .least, t₁ .most);
             mlen-ok = (omega (arith, t₂ .least), t₂ .most);
-            there = t₂ .behind (t₁ .behind (t .behind (omega arith)));
+            there = t₂ .behind (t₁ .behind (h .there));
           }
 
 -- ---- mtype: the permitted values are three ranges, of which only 2^63 takes more than a byte
@@ -170,14 +191,14 @@ module _ (s : List ℕ) (at most : ℕ) where
 -- ---- all of them
 
 module _ (s : List ℕ) where
-  abbrev built : (r m t tm tk tn st ln : ℕ) → Header
-  built r m t tm tk tn st ln = record { rlen = r; mlen = m; mtype = t; tileM = tm; tileK = tk; tileN = tn; sealStart = st; sealLength = ln }
+  abbrev built : (rule r m t tm tk tn st ln : ℕ) → Header
+  built rule r m t tm tk tn st ln = record { rlen = r; mlen = m; mtype = t; tileM = tm; tileK = tk; tileN = tn; sealStart = st; sealLength = ln; rule = rule }
 
-  abbrev lastPart : (r m t tm tk tn : ℕ) → Format Described
-  lastPart r m t tm tk tn = tailFormat (2 ^ m) λ st ln c. runsFormat (describe (built r m t tm tk tn st ln)) c 0 (total m)
+  abbrev lastPart : (rule r m t tm tk tn : ℕ) → Format Described
+  lastPart rule r m t tm tk tn = tailFormat (2 ^ m) λ st ln c. runsFormat (describe (built rule r m t tm tk tn st ln)) c 0 (total m)
 
-  abbrev middlePart : (r m : ℕ) → Format Described
-  middlePart r m = tilesFormat (2 ^ (m - r)) (2 ^ (r - 3)) (lastPart r m)
+  abbrev middlePart : (rule r m : ℕ) → Format Described
+  middlePart rule r m = tilesFormat (2 ^ (m - r)) (2 ^ (r - 3)) (lastPart rule r m)
 
   parts : parse imageFormat s ≡ from (shapeFormat middlePart) s 0
   unfolding imageFormat
@@ -186,27 +207,27 @@ module _ (s : List ℕ) where
   pub shape-wrong : (p : ℕ) → ShapeOk s (ShapeBad p) → HeadOk s (HeadBad p)
   shape-wrong p h = parts ∙ h middlePart
 
-  module _ (r m a : ℕ) (sh : ShapedOk s r m a) (rows columns : ℕ) (er : rows ≡ 2 ^ (m - r)) (ec : columns ≡ 2 ^ (r - 3)) where
-    middle : parse imageFormat s ≡ from (tilesFormat rows columns (lastPart r m)) s a
+  module _ (r m rule a : ℕ) (sh : ShapedOk s r m rule a) (rows columns : ℕ) (er : rows ≡ 2 ^ (m - r)) (ec : columns ≡ 2 ^ (r - 3)) where
+    middle : parse imageFormat s ≡ from (tilesFormat rows columns (lastPart rule r m)) s a
     middle = parts ∙ sh .goes-on middlePart ∙ rw (er, ec)
 
     pub tiles-wrong : (p : ℕ) → TilesOk s a rows columns (TilesBad p) → HeadOk s (HeadBad p)
-    tiles-wrong p h = middle ∙ h (lastPart r m)
+    tiles-wrong p h = middle ∙ h (lastPart rule r m)
 
     module _ (t tm tk tn b : ℕ) (ti : TiledOk s a rows columns t tm tk tn b) (most : ℕ) (em : most ≡ 2 ^ m) where
       late : (K : ℕ → ℕ → ℕ → Format Described) → from (tailFormat (2 ^ m) K) s b ≡ from (tailFormat most K) s b
       late K = rw em
 
       pub tail-wrong : (p : ℕ) → TailOk s b most (TailBad p) → HeadOk s (HeadBad p)
-      tail-wrong p h = middle ∙ ti .goes-on (lastPart r m) ∙ late (λ st ln c. runsFormat (describe (built r m t tm tk tn st ln)) c 0 (total m)) ∙ h (λ st ln c. runsFormat (describe (built r m t tm tk tn st ln)) c 0 (total m))
+      tail-wrong p h = middle ∙ ti .goes-on (lastPart rule r m) ∙ late (λ st ln c. runsFormat (describe (built rule r m t tm tk tn st ln)) c 0 (total m)) ∙ h (λ st ln c. runsFormat (describe (built rule r m t tm tk tn st ln)) c 0 (total m))
 
       pub headed : (rlen : ℕ) → rlen ≡ 2 ^ r → (st ln c d : ℕ) → TailedOk s b most st ln c d
-          → HeadedOk s (record { rlen = rlen; mlen = most; mtype = t; «tile_m» = tm; «tile_k» = tk; «tile_n» = tn; «seal_start» = st; «seal_length» = ln }) c d
+          → HeadedOk s (record { rlen = rlen; mlen = most; mtype = t; «tile_m» = tm; «tile_k» = tk; «tile_n» = tn; «seal_start» = st; «seal_length» = ln; rule = rule }) c d
       headed rlen el st ln c d ta =
           record {
-            header = built r m t tm tk tn st ln;
+            header = built rule r m t tm tk tn st ln;
             machine-is = rw (el, em);
-            goes-on = middle ∙ ti .goes-on (lastPart r m) ∙ late (λ st ln c. runsFormat (describe (built r m t tm tk tn st ln)) c 0 (total m)) ∙ ta .goes-on (λ st ln c. runsFormat (describe (built r m t tm tk tn st ln)) c 0 (total m));
+            goes-on = middle ∙ ti .goes-on (lastPart rule r m) ∙ late (λ st ln c. runsFormat (describe (built rule r m t tm tk tn st ln)) c 0 (total m)) ∙ ta .goes-on (λ st ln c. runsFormat (describe (built rule r m t tm tk tn st ln)) c 0 (total m));
             mlen-ok = sh .mlen-ok .1;
             count-ok = subst (λ (x : ℕ). c ≤ x) em (ta .count-ok);
             there = ta .there (ti .there (sh .there));

@@ -11,13 +11,14 @@ use Rattle.format.specs.Parser.{readNumber, Parsed, parse, from}
 use Rattle.format.specs.Parser.Parsed.{whole, stopped}
 use Rattle.machine.specs.declared.Machine.{Machine}
 use Rattle.reader.specs.declared.Number.{Number}
+use Rattle.reader.specs.declared.Number.the-variants.{Value, Fault}
 use Rattle.reader.specs.At.{found}
 use Rattle.image.specs.declared.Imaged.{Imaged}
 use Rattle.image.specs.declared.Imaged.the-variants.{Done, BadArguments, NoRoom, Damaged}
 use Rattle.image.specs.Cells.{Run}
 use Rattle.image.specs.Cells.Run.{run}
 use Rattle.image.specs.Images.{Header, machineFrom}
-use Rattle.image.specs.ImageFormat.{Described, mtypes, shapeFormat, tilesFormat, sealFormat, runsFormat, total, imageFormat}
+use Rattle.image.specs.ImageFormat.{Described, mtypes, ruleFormat, shapeFormat, tilesFormat, sealFormat, runsFormat, total, imageFormat}
 use Rattle.image.specs.Reading.{verdictOf}
 use Rattle.image_read.specs.declared.head.Shape.{Shape}
 use Rattle.image_read.specs.declared.head.Shape.the-variants.{Shaped, ShapeBad}
@@ -30,16 +31,25 @@ use Rattle.image_read.specs.declared.head.Head.the-variants.{Headed, Hea
 
 -- ---- the numbers
 
--- the version and the exponents are passed: whatever follows them is read from a place on
-pub record ShapedOk (s : List ℕ) (r m at : ℕ) : Type 0 where
-  pub goes-on : (K : ℕ → ℕ → Format Described) → from (shapeFormat K) s 0 ≡ from (K r m) s at
+-- the version and the rule are passed: whatever follows them is read from a place on
+pub record RuledOk (s : List ℕ) (rule at : ℕ) : Type 0 where
+  pub goes-on : (K : ℕ → Format Described) → from (ruleFormat K) s 0 ≡ from (K rule) s at
+  pub there : at ≤ length s
+
+abbrev pub RuleOk : List ℕ → Number → Type 0
+RuleOk s (Value rule at) = RuledOk s rule at
+RuleOk s (Fault p) = (K : ℕ → Format Described) → from (ruleFormat K) s 0 ≡ stopped p
+
+-- and the exponents
+pub record ShapedOk (s : List ℕ) (r m rule at : ℕ) : Type 0 where
+  pub goes-on : (K : ℕ → ℕ → ℕ → Format Described) → from (shapeFormat K) s 0 ≡ from (K rule r m) s at
   pub rlen-ok : (6 ≤ r) × (r ≤ 9)
   pub mlen-ok : (r < m) × (m ≤ 12)
   pub there : at ≤ length s
 
 abbrev pub ShapeOk : List ℕ → Shape → Type 0
-ShapeOk s (Shaped r m at) = ShapedOk s r m at
-ShapeOk s (ShapeBad p) = (K : ℕ → ℕ → Format Described) → from (shapeFormat K) s 0 ≡ stopped p
+ShapeOk s (Shaped r m rule at) = ShapedOk s r m rule at
+ShapeOk s (ShapeBad p) = (K : ℕ → ℕ → ℕ → Format Described) → from (shapeFormat K) s 0 ≡ stopped p
 
 unfoldable pub mtypeAt : List ℕ → ℕ → Number
 mtypeAt s at = found at (readNumber mtypes (drop at s))
@@ -85,7 +95,7 @@ HeadOk s (HeadBad p) = parse imageFormat s ≡ stopped p
 
 -- a machine's numbers don't matter to its runs
 abbrev pub noHeader : Header
-noHeader = record { rlen = 0; mlen = 0; mtype = 0; tileM = 0; tileK = 0; tileN = 0; sealStart = 0; sealLength = 0 }
+noHeader = record { rlen = 0; mlen = 0; mtype = 0; tileM = 0; tileK = 0; tileN = 0; sealStart = 0; sealLength = 0; rule = 0 }
 
 -- so many runs in room bytes, from a place of the input on
 unfoldable pub runsFrom : (s : List ℕ) (at count least room : ℕ) → Parsed Described

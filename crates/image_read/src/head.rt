@@ -4,11 +4,11 @@ use reader::Number;
 use reader::number_from;
 ghost use mathlib.Core.Path.{_≡_};
 ghost use Prim.Native.Nat.{_^_, _≤_, min};
-ghost use Rattle.image_read.specs.Parts.{ShapeOk, mtypeAt, TilesOk, TailOk, HeadOk};
+ghost use Rattle.image_read.specs.Parts.{RuleOk, ShapeOk, mtypeAt, TilesOk, TailOk, HeadOk};
 
-// The exponents of RLEN and MLEN and the place behind them, or the place of a fault.
+// The exponents of RLEN and MLEN, the rule and the place behind them, or the place of a fault.
 pub enum Shape {
-    Shaped(u64, u64, usize),
+    Shaped(u64, u64, u64, usize),
     ShapeBad(usize),
 }
 
@@ -36,15 +36,32 @@ fn wide(b: u8) -> u64
     b as u64
 }
 
-// The version and the two exponents at the start of an image.
+// The rule at the start of an image: behind version 2; of version 1 it is 0.
+fn rule_of(s: &[u8]) -> Number
+    ensures { λ r. ⌜ RuleOk (now (s .entry)) r ⌝ }
+{
+    match number_from(s, 0, 1, 2) {
+        Number::Fault(p) => {
+            return Number::Fault(p);
+        }
+        Number::Value(version, a) => {
+            if version == 2 {
+                return number_from(s, a, 1, 1);
+            }
+            return Number::Value(0, a);
+        }
+    }
+}
+
+// The rule and the two exponents at the start of an image.
 fn shape_of(s: &[u8]) -> Shape
     ensures { λ r. ⌜ ShapeOk (now (s .entry)) r ⌝ }
 {
-    match number_from(s, 0, 1, 1) {
+    match rule_of(s) {
         Number::Fault(p) => {
             return Shape::ShapeBad(p);
         }
-        Number::Value(_, a) => match number_from(s, a, 6, 9) {
+        Number::Value(rule, a) => match number_from(s, a, 6, 9) {
             Number::Fault(p) => {
                 return Shape::ShapeBad(p);
             }
@@ -53,7 +70,7 @@ fn shape_of(s: &[u8]) -> Shape
                     return Shape::ShapeBad(p);
                 }
                 Number::Value(m, e) => {
-                    return Shape::Shaped(r, m, e);
+                    return Shape::Shaped(r, m, rule, e);
                 }
             },
         },
@@ -170,7 +187,7 @@ pub fn head_of(s: &[u8]) -> Head
         Shape::ShapeBad(p) => {
             return Head::HeadBad(p);
         }
-        Shape::Shaped(r, m, a) => {
+        Shape::Shaped(r, m, rule, a) => {
             let rows = power(m - r);
             let columns = power(r - 3);
             let mlen = power(m);
@@ -192,6 +209,7 @@ pub fn head_of(s: &[u8]) -> Head
                             tile_n: tile_n,
                             seal_start: seal_start,
                             seal_length: seal_length,
+                            rule: rule,
                         };
                         return Head::Headed(machine, count, e);
                     }

@@ -57,6 +57,7 @@ fn refused(answer: Imaged) -> Restored
             tile_n: 0,
             seal_start: 0,
             seal_length: 0,
+            rule: 0,
         },
     }
 }

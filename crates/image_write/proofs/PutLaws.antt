@@ -6,9 +6,10 @@ use native.Mathlib.Omega.{arith}
 use native.Mathlib.Numerals.{add-one}
 use lib.ListN.{length, take, drop, getD, set, length-append, length-drop, drop-of-length-le}
 use lib.Seq.{sets, sets-eq, length-sets, drop-cons}
-use Rattle.format.specs.Numbers.{encode, encodeAll}
+use borrow.Author.Tests.{eq-eqb, ne-eqb}
+use Rattle.format.specs.Numbers.{groups, encode, encodeAll}
 use Rattle.machine.specs.declared.Machine.{Machine}
-use Rattle.image.specs.Images.{exponent, fields, headerOf}
+use Rattle.image.specs.Images.{exponent, version, fields, headerOf}
 
 -- bytes, then more behind them
 pub sets-append : (a t room : List ℕ) (at : ℕ) → sets room at (a ++ t) ≡ sets (sets room at a) (at + length a) t
@@ -56,9 +57,25 @@ put-three room a b d t room₁ room₂ room₃ at at₁ at₂ at₃ r₁ e₁ r�
     ∙ sets-append b (d ++ t) room₁ at₁ ∙ ap₂ (λ (x : List ℕ) (y : ℕ). sets x y (d ++ t)) (sym r₂) (sym e₂)
     ∙ sets-append d t room₂ at₂ ∙ ap₂ (λ (x : List ℕ) (y : ℕ). sets x y t) (sym r₃) (sym e₃)
 
--- ---- the numbers of an image
+-- ---- the version of an image, with the rule of a halving machine
+
+pub version-two : (rule : ℕ) → rule ≡ 1 → 2 ∷ 1 ∷ [] ≡ version rule
+version-two rule e = rw (eq-eqb rule 1 e)
+
+pub version-one : (rule : ℕ) → ¬ (rule ≡ 1) → 1 ∷ [] ≡ version rule
+version-one rule d = rw (ne-eqb rule 1 d)
+
+pub size-two : 2 ≡ length (encodeAll (2 ∷ 1 ∷ []) [])
+unfolding encode groups
+size-two = refl
+
+pub size-one : 1 ≡ length (encodeAll (1 ∷ []) [])
+unfolding encode groups
+size-one = refl
+
+-- ---- the other numbers
 
 pub header-is : (m : Machine) (count r l : ℕ) → r ≡ exponent (m .rlen) → l ≡ exponent (m .mlen)
-    → 1 ∷ r ∷ l ∷ m .mtype ∷ m .«tile_m» ∷ m .«tile_k» ∷ m .«tile_n» ∷ m .«seal_start» ∷ m .«seal_length» ∷ count ∷ [] ≡ fields (headerOf m) ++ (count ∷ [])
+    → r ∷ l ∷ m .mtype ∷ m .«tile_m» ∷ m .«tile_k» ∷ m .«tile_n» ∷ m .«seal_start» ∷ m .«seal_length» ∷ count ∷ [] ≡ fields (headerOf m) ++ (count ∷ [])
 header-is m count r l er el =
-    ap₂ (λ (x y : ℕ). 1 ∷ x ∷ y ∷ m .mtype ∷ m .«tile_m» ∷ m .«tile_k» ∷ m .«tile_n» ∷ m .«seal_start» ∷ m .«seal_length» ∷ count ∷ []) er el
+    ap₂ (λ (x y : ℕ). x ∷ y ∷ m .mtype ∷ m .«tile_m» ∷ m .«tile_k» ∷ m .«tile_n» ∷ m .«seal_start» ∷ m .«seal_length» ∷ count ∷ []) er el

@@ -1,5 +1,5 @@
 -- What the entry points have to show: an image is its numbers, then its runs.
-use mathlib.Core.Path.{_≡_, refl, sym, ap, _∙_, subst}
+use mathlib.Core.Path.{_≡_, refl, sym, ap, ap₂, _∙_, subst}
 use mathlib.Core.Bool.{Bool, true, false}
 use mathlib.Core.List.{List, [], _∷_, _++_}
 use Prim.Native.Nat.{ℕ, _+_, _*_, _^_, _≤_, _<_}
@@ -15,10 +15,10 @@ use Rattle.machine.proofs.StepLaws.{permitted-bounds}
 use Rattle.machine.proofs.NoFault.{sound-is}
 use Rattle.image.specs.declared.Imaged.the-variants.{Done, BadArguments, NoRoom}
 use Rattle.image.specs.Cells.{cellsOf, runs}
-use Rattle.image.specs.Images.{fields, headerOf, runsBytes, imageOf}
+use Rattle.image.specs.Images.{version, fields, headerOf, runsBytes, imageOf}
 use Rattle.image.specs.Writing.{sized, sizeImage, written, writeImage}
 use Rattle.image_write.specs.Parts.{TwoValued, TallyOk}
-use Rattle.image_write.proofs.PutLaws.{sets-append, sets-front, all-last}
+use Rattle.image_write.proofs.PutLaws.{sets-append, sets-front, all-append, all-last}
 
 module _ (m : Machine) (registers marks : List ℕ) where
   module _ (s : sound m registers marks ≡ true) where
@@ -34,33 +34,42 @@ module _ (m : Machine) (registers marks : List ℕ) where
         omega (arith, k .state .marks-length, permitted-bounds (m .rlen) (m .mlen) (k .lengths))
 
     module _ (count : ℕ) (is : count ≡ length (runs (cellsOf registers marks))) where
+      abbrev versionOf : List ℕ
+      versionOf = encodeAll (version (m .rule)) []
+
       abbrev numbersOf : List ℕ
       numbersOf = encodeAll (fields (headerOf m) ++ (count ∷ [])) []
 
       abbrev runsOf : List ℕ
       runsOf = runsBytes (runs (cellsOf registers marks))
 
-      image-parts : imageOf m registers marks ≡ numbersOf ++ runsOf
+      image-parts : imageOf m registers marks ≡ versionOf ++ (numbersOf ++ runsOf)
       unfolding imageOf
       image-parts =
-          ap (λ (x : ℕ). encodeAll (fields (headerOf m)) (encode x ++ runsOf)) (sym is)
-          ∙ sym (all-last (fields (headerOf m)) count runsOf)
+          all-append (version (m .rule)) _
+          ∙ ap (λ (z : List ℕ). versionOf ++ z) (ap (λ (x : ℕ). encodeAll (fields (headerOf m)) (encode x ++ runsOf)) (sym is) ∙ sym (all-last (fields (headerOf m)) count runsOf))
 
-      pub size-is : length (imageOf m registers marks) ≡ length numbersOf + length runsOf
-      size-is = ap length image-parts ∙ length-append numbersOf runsOf
+      pub size-is : length (imageOf m registers marks) ≡ length versionOf + (length numbersOf + length runsOf)
+      size-is = ap length image-parts ∙ length-append versionOf (numbersOf ++ runsOf) ∙ ap (λ (n : ℕ). length versionOf + n) (length-append numbersOf runsOf)
 
-      pub image-put : (room room₁ room₂ : List ℕ) (at : ℕ) → room₁ ≡ sets room 0 numbersOf → at ≡ length numbersOf → room₂ ≡ sets room₁ at runsOf
-          → room₂ ≡ sets room 0 (imageOf m registers marks)
-      image-put room room₁ room₂ at e₁ ea e₂ =
-          e₂ ∙ ap (λ (x : List ℕ). sets x at runsOf) e₁ ∙ ap (λ (x : ℕ). sets (sets room 0 numbersOf) x runsOf) {x = at} {y = 0 + length numbersOf} (omega (arith, ea))
-          ∙ sym (sets-append numbersOf runsOf room 0) ∙ ap (sets room 0) (sym image-parts)
+      -- put one after the other
+      pub image-put : (room room₁ room₂ room₃ : List ℕ) (at at₁ : ℕ) → room₁ ≡ sets room 0 versionOf → at ≡ length versionOf
+          → room₂ ≡ sets room₁ at numbersOf → at₁ ≡ at + length numbersOf → room₃ ≡ sets room₂ at₁ runsOf → room₃ ≡ sets room 0 (imageOf m registers marks)
+      image-put room room₁ room₂ room₃ at at₁ e₁ ea e₂ eb e₃ =
+          e₃ ∙ ap₂ (λ (x : List ℕ) (y : ℕ). sets x y runsOf) e₂ eb ∙ sym (sets-append numbersOf runsOf room₁ at)
+          ∙ ap₂ (λ (x : List ℕ) (y : ℕ). sets x y (numbersOf ++ runsOf)) e₁ starts
+          ∙ sym (sets-append versionOf (numbersOf ++ runsOf) room 0) ∙ ap (sets room 0) (sym image-parts)
+        where
+          starts : at ≡ 0 + length versionOf
+          starts = omega (arith, ea)
 
     module _ (count size : ℕ) (t : TallyOk marks count size) where
       pub count-is : count ≡ length (runs (cellsOf registers marks))
       count-is = t .counted registers same-size
 
-      pub image-size-is : (n : ℕ) → n ≡ length (encodeAll (fields (headerOf m) ++ (count ∷ [])) []) → n + size ≡ length (imageOf m registers marks)
-      image-size-is n e = omega (arith, e, t .sized registers same-size, size-is count count-is)
+      pub image-size-is : (v n : ℕ) → v ≡ length (encodeAll (version (m .rule)) []) → n ≡ length (encodeAll (fields (headerOf m) ++ (count ∷ [])) [])
+          → v + n + size ≡ length (imageOf m registers marks)
+      image-size-is v n d e = omega (arith, d, e, t .sized registers same-size, size-is count count-is)
 
   -- ---- what is returned
 

@@ -17,7 +17,7 @@ ghost use lib.Seq.{sets};
 ghost use Rattle.format.specs.Numbers.{encodeAll};
 ghost use Rattle.machine.specs.Faults.{sound};
 ghost use Rattle.image.specs.Cells.{cellsOf, runs};
-ghost use Rattle.image.specs.Images.{exponent, fields, headerOf, imageOf};
+ghost use Rattle.image.specs.Images.{exponent, version, fields, headerOf, imageOf};
 ghost use Rattle.image.specs.Writing.{sizeImage, sizedAs, writeImage, writtenAs};
 
 mod numbers; // several numbers
@@ -37,12 +37,35 @@ fn exponent(n: u64) -> u64
     e
 }
 
-// How many bytes the numbers of an image take.
+// How many bytes the version of an image and its rule take.
+fn version_size(rule: u64) -> usize
+    ensures { λ r. ⌜ (r ≡ length (encodeAll (version rule) [])) × (r ≤ 2) ⌝ }
+{
+    if rule == 1 {
+        return 2;
+    }
+    1
+}
+
+// Puts the version of an image into the room, with the rule of a halving machine, and gives the place behind them.
+fn put_version(room: &mut [u8], rule: u64) -> usize
+    requires { ⌜ length (encodeAll (version rule) []) ≤ length (now room) ⌝ }
+    ensures { λ r. ⌜ r ≡ length (encodeAll (version rule) []) ⌝ }
+    ensures { λ _. ⌜ now (room .exit) ≡ sets (now (room .entry)) 0 (encodeAll (version rule) []) ⌝ }
+{
+    if rule == 1 {
+        let numbers = [2, 1];
+        return put_numbers(room, 0, &numbers);
+    }
+    let numbers = [1];
+    put_numbers(room, 0, &numbers)
+}
+
+// How many bytes the other numbers of an image take.
 fn header_size(m: Machine, count: u64) -> usize
-    ensures { λ r. ⌜ (r ≡ length (encodeAll (fields (headerOf m) ++ (count ∷ [])) [])) × (r ≤ 100) ⌝ }
+    ensures { λ r. ⌜ (r ≡ length (encodeAll (fields (headerOf m) ++ (count ∷ [])) [])) × (r ≤ 90) ⌝ }
 {
     let numbers = [
-        1,
         exponent(m.rlen),
         exponent(m.mlen),
         m.mtype,
@@ -56,14 +79,13 @@ fn header_size(m: Machine, count: u64) -> usize
     numbers_size(&numbers)
 }
 
-// Puts the numbers of an image into the room, and gives the place behind them.
-fn put_header(room: &mut [u8], m: Machine, count: u64) -> usize
-    requires { ⌜ length (encodeAll (fields (headerOf m) ++ (count ∷ [])) []) ≤ length (now room) ⌝ }
-    ensures { λ r. ⌜ r ≡ length (encodeAll (fields (headerOf m) ++ (count ∷ [])) []) ⌝ }
-    ensures { λ _. ⌜ now (room .exit) ≡ sets (now (room .entry)) 0 (encodeAll (fields (headerOf m) ++ (count ∷ [])) []) ⌝ }
+// Puts the other numbers of an image into the room, from a place on, and gives the place behind them.
+fn put_header(room: &mut [u8], start: usize, m: Machine, count: u64) -> usize
+    requires { ⌜ start + length (encodeAll (fields (headerOf m) ++ (count ∷ [])) []) ≤ length (now room) ⌝ }
+    ensures { λ r. ⌜ r ≡ start + length (encodeAll (fields (headerOf m) ++ (count ∷ [])) []) ⌝ }
+    ensures { λ _. ⌜ now (room .exit) ≡ sets (now (room .entry)) start (encodeAll (fields (headerOf m) ++ (count ∷ [])) []) ⌝ }
 {
     let numbers = [
-        1,
         exponent(m.rlen),
         exponent(m.mlen),
         m.mtype,
@@ -74,7 +96,7 @@ fn put_header(room: &mut [u8], m: Machine, count: u64) -> usize
         m.seal_length,
         count,
     ];
-    put_numbers(room, 0, &numbers)
+    put_numbers(room, start, &numbers)
 }
 
 // The number of runs of a machine, and the length of its image.
@@ -94,7 +116,7 @@ fn measure_of(m: Machine, registers: &[u8], marks: &[u8]) -> Measure
     let bytes = tally.bytes;
     Measure {
         count: count,
-        size: header_size(m, count) + bytes,
+        size: version_size(m.rule) + header_size(m, count) + bytes,
     }
 }
 
@@ -105,7 +127,8 @@ fn put_image(m: Machine, count: u64, registers: &[u8], marks: &[u8], room: &mut 
     requires { ⌜ length (imageOf m (now registers) (now marks)) ≤ length (now room) ⌝ }
     ensures { λ _. ⌜ now (room .exit) ≡ sets (now (room .entry)) 0 (imageOf m (now (registers .entry)) (now (marks .entry))) ⌝ }
 {
-    let at = put_header(room, m, count);
+    let start = put_version(room, m.rule);
+    let at = put_header(room, start, m, count);
     put_runs(room, at, registers, marks);
 }
 

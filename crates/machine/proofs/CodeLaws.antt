@@ -44,7 +44,7 @@ only-done WrongRegister h = absurd (false-true h)
 only-done RowsOverlap h = absurd (false-true h)
 
 -- a step that is answered 0 is answered as `Done` is
-pub step-zero : (grant : ℕ → ℕ → ℕ) (word : ℕ) (xs : List ℕ) (B : Bench) → done (stepBy grant word xs B .answer) ≡ true → stepBy grant word xs B .answer ≡ reply Done
+pub step-zero : (grant : ℕ → ℕ → ℕ → ℕ) (word : ℕ) (xs : List ℕ) (B : Bench) → done (stepBy grant word xs B .answer) ≡ true → stepBy grant word xs B .answer ≡ reply Done
 unfolding stepBy outcome
 step-zero grant word xs B = go (isDone told) refl
   where

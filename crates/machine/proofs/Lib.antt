@@ -5,6 +5,7 @@ pub mod MemoryLaws
 pub mod StoreLaws
 pub mod ListingLaws
 pub mod StepLaws
+pub mod SizeLaws
 -- For code.
 pub mod MatchLaws
 pub mod StartLaws

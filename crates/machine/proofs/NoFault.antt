@@ -15,7 +15,7 @@ use Rattle.width.proofs.UptoLaws.{upto-keeps}
 use Rattle.width.specs.Tile.{markTile, markRow}
 use Rattle.width.proofs.TileLaws.{length-putTile, length-markTile}
 use Rattle.width.specs.Blocks.{Grants}
-use Rattle.width.proofs.BlockLaws.{le-or-lt}
+use Rattle.width.proofs.BlockLaws.{le-or-lt, at-most}
 use Rattle.machine.specs.declared.Machine.{Machine}
 use Rattle.machine.specs.declared.Dimension.the-variants.{DimensionM, DimensionK, DimensionN}
 use Rattle.machine.specs.declared.Instruction.{Instruction}
@@ -29,7 +29,7 @@ use Rattle.machine.specs.Setting.{legalType, newType, maxK, maxN, sew}
 use Rattle.machine.specs.Operation
 use Rattle.machine.specs.Operation.{Operation, stateAfter, written}
 use Rattle.machine.specs.Faults.{sound}
-use Rattle.machine.specs.Starting.{sealEnds, startable, startMachine, StartOutcome, freshMachine, noMachine}
+use Rattle.machine.specs.Starting.{isRule, sealEnds, startable, startMachine, StartOutcome, freshMachine, noMachine}
 use Rattle.machine.specs.Theorems.{StepKeepsSound, StartIsSound}
 use Rattle.machine.specs.declared.Answer.the-variants.{Done, BadArguments}
 use Rattle.machine.specs.Listing
@@ -48,6 +48,7 @@ pub record Sane (rows pitch total : ℕ) (st : State) : Type 0 where
 
 pub record Sound (m : Machine) (registers marks : List ℕ) : Type 0 where
   pub lengths : permitted (m .rlen) (m .mlen) ≡ true
+  pub rule-is : isRule (m .rule) ≡ true
   pub seal-ends : m .«seal_start» + m .«seal_length» ≤ 2 ^ 64 - 1
   pub state : Sane (m .mlen / m .rlen) (m .rlen / 8) (registerBytes (m .mlen)) (stateOf m registers marks)
 
@@ -61,6 +62,7 @@ module _ (m : Machine) (registers marks : List ℕ) where
       ∷ leb (m .«tile_m») (m .mlen / m .rlen)
       ∷ leb (m .«tile_k») (min (m .mlen / m .rlen) (m .rlen / 8))
       ∷ leb (m .«tile_n») (m .rlen / 8)
+      ∷ isRule (m .rule)
       ∷ sealEnds (m .«seal_start») (m .«seal_length»)
       ∷ allOf (λ mark. ltb mark 2) marks ∷ []
 
@@ -70,13 +72,14 @@ module _ (m : Machine) (registers marks : List ℕ) where
       let t = every-each tests h in
       record {
         lengths = t .0;
-        seal-ends = leb-true (m .«seal_start» + m .«seal_length») (2 ^ 64 - 1) (t .1 .1 .1 .1 .1 .1 .1 .0);
+        rule-is = t .1 .1 .1 .1 .1 .1 .1 .0;
+        seal-ends = leb-true (m .«seal_start» + m .«seal_length») (2 ^ 64 - 1) (t .1 .1 .1 .1 .1 .1 .1 .1 .0);
         state = record {
           regs-length = eqb-true (length registers) (registerBytes (m .mlen)) (t .1 .0);
           marks-length = eqb-true (length marks) (registerBytes (m .mlen)) (t .1 .1 .0);
           marks-two = λ q. elim (le-or-lt (length marks) q) [
             | inl l ↦ rw (List·getD-eq-default marks 0 {n = q} l) (omega arith)
-            | inr l ↦ ltb-true (getD marks q 0) 2 (allOf-at (λ mark. ltb mark 2) marks (t .1 .1 .1 .1 .1 .1 .1 .1 .0) q l)
+            | inr l ↦ ltb-true (getD marks q 0) 2 (allOf-at (λ mark. ltb mark 2) marks (t .1 .1 .1 .1 .1 .1 .1 .1 .1 .0) q l)
           ];
           type-arises = eqb-true (newType elen (m .mtype)) (m .mtype) (t .1 .1 .1 .0);
           m-fits = leb-true (m .«tile_m») (m .mlen / m .rlen) (t .1 .1 .1 .1 .0);
@@ -104,8 +107,11 @@ module _ (m : Machine) (registers marks : List ℕ) where
                   (
                     le-leb (m .«tile_n») (m .rlen / 8) (s .n-fits),
                     (
-                      le-leb (m .«seal_start» + m .«seal_length») (2 ^ 64 - 1) (h .seal-ends),
-                      (allOf-true (λ mark. ltb mark 2) marks (λ q l. lt-ltb (getD marks q 0) 2 (s .marks-two q)), tt),
+                      h .rule-is,
+                      (
+                        le-leb (m .«seal_start» + m .«seal_length») (2 ^ 64 - 1) (h .seal-ends),
+                        (allOf-true (λ mark. ltb mark 2) marks (λ q l. lt-ltb (getD marks q 0) 2 (s .marks-two q)), tt),
+                      ),
                     ),
                   ),
                 ),
@@ -141,9 +147,6 @@ new-arises v = go (legalType elen v) refl
     go true e = rw e
     go false e = refl
 
-grant-le : (grant : ℕ → ℕ → ℕ) → Grants grant → (max a : ℕ) → grant max a ≤ max
-grant-le grant G max a = elim (le-or-lt (2 * max) a) [ inl l ↦ omega (arith, G .large max a l) | inr l ↦ omega (arith, G .middle max a l) ]
-
 module _ (M : Parameters) (G : Grants (M .grant)) (of-elen : M .elen ≡ elen) (total : ℕ) where
   abbrev Right : State → Type 0
   Right st = Sane (M .rows) (M .pitch) total st
@@ -175,7 +178,7 @@ module _ (M : Parameters) (G : Grants (M .grant)) (of-elen : M .elen ≡ elen) (
     marks-length = h .marks-length;
     marks-two = h .marks-two;
     type-arises = h .type-arises;
-    m-fits = grant-le (M .grant) G (M .rows) a;
+    m-fits = at-most (M .grant) G (M .rows) a .0;
     k-fits = h .k-fits;
     n-fits = h .n-fits;
   }
@@ -185,7 +188,7 @@ module _ (M : Parameters) (G : Grants (M .grant)) (of-elen : M .elen ≡ elen) (
     marks-two = h .marks-two;
     type-arises = h .type-arises;
     m-fits = h .m-fits;
-    k-fits = omega (arith, grant-le (M .grant) G (maxK M (st .mtype)) a, div-le-self (M .pitch) (sew (st .mtype)));
+    k-fits = omega (arith, at-most (M .grant) G (maxK M (st .mtype)) a, div-le-self (M .pitch) (sew (st .mtype)));
     n-fits = h .n-fits;
   }
   sane-after (Operation.setSize DimensionN a) st mem h = record {
@@ -195,7 +198,7 @@ module _ (M : Parameters) (G : Grants (M .grant)) (of-elen : M .elen ≡ elen) (
     type-arises = h .type-arises;
     m-fits = h .m-fits;
     k-fits = h .k-fits;
-    n-fits = omega (arith, grant-le (M .grant) G (maxN M (st .mtype)) a, div-le-self (M .pitch) (sew (st .mtype)));
+    n-fits = omega (arith, at-most (M .grant) G (maxN M (st .mtype)) a, div-le-self (M .pitch) (sew (st .mtype)));
   }
   sane-after (Operation.cutSize DimensionM) st mem h = record {
     regs-length = h .regs-length;
@@ -247,10 +250,10 @@ step-sound grant G word xs B h = go (isDone (verdict (stepChecks M i xs B)))
     s = sound-is (B .machine) (B .registers) (B .marks) h
 
     after : Sane (M .rows) (M .pitch) (registerBytes (B .machine .mlen)) (left M i xs B)
-    after = sane-after M G refl (registerBytes (B .machine .mlen)) (meant M i xs B) (given M i xs B) (B .memory) (s .state)
+    after = sane-after M (G (B .machine .rule)) refl (registerBytes (B .machine .mlen)) (meant M i xs B) (given M i xs B) (B .memory) (s .state)
 
     go : (t : Bool) → soundBench (cond t (Step.carriedOut M i xs B) (Step.refused M i xs B (verdict (stepChecks M i xs B))) .bench) ≡ true
-    go true = sound-true (machineAfter (B .machine) (left M i xs B)) (left M i xs B .regs) (left M i xs B .marks) (record { lengths = s .lengths; seal-ends = s .seal-ends; state = after })
+    go true = sound-true (machineAfter (B .machine) (left M i xs B)) (left M i xs B .regs) (left M i xs B .marks) (record { lengths = s .lengths; rule-is = s .rule-is; seal-ends = s .seal-ends; state = after })
     go false = h
 
 -- ---- and no start either
@@ -262,19 +265,20 @@ zeros (suc n) (suc q) = zeros n q
 
 pub start-sound : StartIsSound
 unfolding startMachine startable newType legalType sew
-start-sound rlen mlen sealStart sealLength registers marks memory = go (startable rlen mlen sealStart sealLength registers marks) refl
+start-sound rlen mlen rule sealStart sealLength registers marks memory = go (startable rlen mlen rule sealStart sealLength registers marks) refl
   where
     out : Bool → StartOutcome
-    out t = cond t (record { answer = reply Done; machine = freshMachine rlen mlen sealStart sealLength; registers = registers; marks = replicate (length marks) 0 })
+    out t = cond t (record { answer = reply Done; machine = freshMachine rlen mlen rule sealStart sealLength; registers = registers; marks = replicate (length marks) 0 })
         (record { answer = reply BadArguments; machine = noMachine; registers = registers; marks = marks })
 
-    go : (t : Bool) → startable rlen mlen sealStart sealLength registers marks ≡ t → out t .answer .number ≡ 0 → sound (out t .machine) (out t .registers) (out t .marks) ≡ true
+    go : (t : Bool) → startable rlen mlen rule sealStart sealLength registers marks ≡ t → out t .answer .number ≡ 0 → sound (out t .machine) (out t .registers) (out t .marks) ≡ true
     go false e d = absurd (false-true (ap (λ (n : ℕ). eqb n 0) d))
     go true e d =
-        let c = every-each (permitted rlen mlen ∷ eqb (length registers) (registerBytes mlen) ∷ eqb (length marks) (registerBytes mlen) ∷ sealEnds sealStart sealLength ∷ []) e in
-        sound-true (freshMachine rlen mlen sealStart sealLength) registers (replicate (length marks) 0) (record {
+        let c = every-each (permitted rlen mlen ∷ eqb (length registers) (registerBytes mlen) ∷ eqb (length marks) (registerBytes mlen) ∷ isRule rule ∷ sealEnds sealStart sealLength ∷ []) e in
+        sound-true (freshMachine rlen mlen rule sealStart sealLength) registers (replicate (length marks) 0) (record {
           lengths = c .0;
-          seal-ends = leb-true (sealStart + sealLength) (2 ^ 64 - 1) (c .1 .1 .1 .0);
+          rule-is = c .1 .1 .1 .0;
+          seal-ends = leb-true (sealStart + sealLength) (2 ^ 64 - 1) (c .1 .1 .1 .1 .0);
           state = record {
             regs-length = eqb-true (length registers) (registerBytes mlen) (c .1 .0);
             marks-length = length-replicate (length marks) 0 ∙ eqb-true (length marks) (registerBytes mlen) (c .1 .1 .0);

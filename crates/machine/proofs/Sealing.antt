@@ -12,7 +12,7 @@ use Rattle.machine.proofs.TestLaws.{false-true, in-within}
 use Rattle.machine.specs.Answers.{reply, isDone, verdict}
 use Rattle.machine.proofs.CheckLaws.{Passed, passed, refusals}
 use Rattle.machine.specs.Geometry.{Parameters, parameters, State}
-use Rattle.machine.specs.Setting.{smaller}
+use Rattle.machine.specs.Setting.{chosen}
 use Rattle.machine.specs.Geometry.{sealed}
 use Rattle.machine.specs.Memory.{rowAt}
 use Rattle.machine.proofs.MemoryLaws.{clear-at, unsealed-at}
@@ -75,7 +75,7 @@ module _ (M : Parameters) (st : State) (mem : List ℕ) where
 
 -- ---- one step
 
-pub step-unharmed : (grant : ℕ → ℕ → ℕ) (word : ℕ) (xs : List ℕ) (B : Bench) → Unharmed grant B (stepBy grant word xs B .bench)
+pub step-unharmed : (grant : ℕ → ℕ → ℕ → ℕ) (word : ℕ) (xs : List ℕ) (B : Bench) → Unharmed grant B (stepBy grant word xs B .bench)
 unfolding stepBy outcome
 step-unharmed grant word xs B = go (isDone (verdict (stepChecks M i xs B))) refl
   where
@@ -113,12 +113,12 @@ seal-holds grant (w ∷ ws) B =
 
 pub seal-holds-from-start : SealHoldsFromStart
 unfolding startMachine
-seal-holds-from-start rlen mlen sealStart sealLength registers marks memory d ws q x =
-    seal-holds smaller ws (startedBench rlen mlen sealStart sealLength registers marks memory) .same-bytes q
-    (go (startable rlen mlen sealStart sealLength registers marks) d)
+seal-holds-from-start rlen mlen rule sealStart sealLength registers marks memory d ws q x =
+    seal-holds chosen ws (startedBench rlen mlen rule sealStart sealLength registers marks memory) .same-bytes q
+    (go (startable rlen mlen rule sealStart sealLength registers marks) d)
   where
     out : Bool → StartOutcome
-    out t = cond t (record { answer = reply Done; machine = freshMachine rlen mlen sealStart sealLength; registers = registers; marks = replicate (length marks) 0 })
+    out t = cond t (record { answer = reply Done; machine = freshMachine rlen mlen rule sealStart sealLength; registers = registers; marks = replicate (length marks) 0 })
         (record { answer = reply BadArguments; machine = noMachine; registers = registers; marks = marks })
 
     go : (t : Bool) → out t .answer .number ≡ 0 → within (out t .machine .«seal_start») (out t .machine .«seal_length») q ≡ true

@@ -12,7 +12,7 @@ use lib.Dec.{leb, ltb, eqb}
 use Rattle.machine.specs.Answers.{reply}
 use Rattle.machine.specs.Tests.{isIn, every}
 use Rattle.machine.specs.Geometry.{permitted, rlens, mlens}
-use Rattle.machine.specs.Starting.{sealEnds, startable, startMachine, StartOutcome, freshMachine, noMachine}
+use Rattle.machine.specs.Starting.{isRule, sealEnds, startable, startMachine, StartOutcome, freshMachine, noMachine}
 
 pub permitted-by : (r m : ℕ) (a b : Bool) → isIn r rlens ≡ a → isIn m mlens ≡ b → a && (b && ltb r m) ≡ permitted r m
 unfolding permitted
@@ -30,18 +30,18 @@ seal-fits start size h = same-test (leb size (2 ^ 64 - 1 - start)) (sealEnds sta
     (λ t. and-true (sealEnds start size) true (le-leb (start + size) (2 ^ 64 - 1) (omega (arith, leb-true size (2 ^ 64 - 1 - start) t))) refl)
     (λ t. le-leb size (2 ^ 64 - 1 - start) (omega (arith, leb-true (start + size) (2 ^ 64 - 1) (and-left (sealEnds start size) true t))))
 
--- the lengths of the lent buffers decide
-pub startable-by : (rlen mlen sealStart sealLength : ℕ) (registers marks : List ℕ) (p q r s : Bool)
-    → permitted rlen mlen ≡ p → eqb (length registers) (2 * mlen) ≡ q → eqb (length marks) (2 * mlen) ≡ r → sealEnds sealStart sealLength ≡ s
-    → every (p ∷ q ∷ r ∷ s ∷ []) ≡ startable rlen mlen sealStart sealLength registers marks
+-- by its tests
+pub startable-by : (rlen mlen rule sealStart sealLength : ℕ) (registers marks : List ℕ) (p q r s t : Bool)
+    → permitted rlen mlen ≡ p → eqb (length registers) (2 * mlen) ≡ q → eqb (length marks) (2 * mlen) ≡ r → isRule rule ≡ s → sealEnds sealStart sealLength ≡ t
+    → every (p ∷ q ∷ r ∷ s ∷ t ∷ []) ≡ startable rlen mlen rule sealStart sealLength registers marks
 unfolding startable
-startable-by rlen mlen sealStart sealLength registers marks p q r s hp hq hr hs = rw (hp, hq, hr, hs)
+startable-by rlen mlen rule sealStart sealLength registers marks p q r s t hp hq hr hs ht = rw (hp, hq, hr, hs, ht)
 
-module _ (rlen mlen sealStart sealLength : ℕ) (registers marks : List ℕ) where
+module _ (rlen mlen rule sealStart sealLength : ℕ) (registers marks : List ℕ) where
   abbrev out : Bool → StartOutcome
-  out t = cond t (record { answer = reply Done; machine = freshMachine rlen mlen sealStart sealLength; registers = registers; marks = replicate (length marks) 0 })
+  out t = cond t (record { answer = reply Done; machine = freshMachine rlen mlen rule sealStart sealLength; registers = registers; marks = replicate (length marks) 0 })
       (record { answer = reply BadArguments; machine = noMachine; registers = registers; marks = marks })
 
-  pub started-as : (t : Bool) → startable rlen mlen sealStart sealLength registers marks ≡ t → out t ≡ startMachine rlen mlen sealStart sealLength registers marks
+  pub started-as : (t : Bool) → startable rlen mlen rule sealStart sealLength registers marks ≡ t → out t ≡ startMachine rlen mlen rule sealStart sealLength registers marks
   unfolding startMachine
   started-as t e = ap out (sym e)

@@ -6,7 +6,6 @@ use Prim.Native.Nat.{ℕ, zero, _*_, _/_, _≤_, _<_}
 use lib.Dec.{leb, ltb, eqb}
 use borrow.Author.Tests.{leb-true, ltb-true, eqb-true}
 use native.Mathlib.Omega.{arith}
-use Rattle.width.specs.Blocks.{Grants}
 use Rattle.machine.specs.declared.Answer.{Answer}
 use Rattle.machine.specs.declared.Answer.the-variants.{Done}
 use Rattle.machine.specs.declared.Instruction.{Instruction}
@@ -15,7 +14,6 @@ use Rattle.machine.proofs.TestLaws.{every-each, each, each-in, or-not}
 use Rattle.machine.specs.Answers.{reply, isDone, verdict}
 use Rattle.machine.proofs.CheckLaws.{Passed, no-refusal}
 use Rattle.machine.specs.Geometry.{Parameters, parameters, State, machineAfter, permitted, rlens, mlens}
-use Rattle.machine.specs.Setting.{smaller}
 use Rattle.machine.specs.Listing.{decode}
 use Rattle.machine.specs.Operation.{Operation, stateAfter, memoryAfter, resultOf}
 use Rattle.machine.specs.Refusals.{checks}
@@ -51,7 +49,7 @@ module _ (M : Parameters) (i : Instruction) (xs : List ℕ) (B : Bench) (o : Ope
       ap (λ (a : Answer). cond (isDone a) (Step.carriedOut M i xs B) (Step.refused M i xs B a)) v ∙ ap doneBy e
 
 -- a word that decodes to an instruction, which with its scalars is the operation o, and whose checks pass
-pub step-is : (grant : ℕ → ℕ → ℕ) (word : ℕ) (xs : List ℕ) (B : Bench) (i : Instruction) (o : Operation)
+pub step-is : (grant : ℕ → ℕ → ℕ → ℕ) (word : ℕ) (xs : List ℕ) (B : Bench) (i : Instruction) (o : Operation)
     → let M : Parameters = parameters grant (B .machine) in
     decode word ≡ i → soundBench B ≡ true → thirtyTwo xs ≡ true → meant M i xs B ≡ o
     → Passed (checks M o (given M i xs B) (B .memory)) → stepBy grant word xs B ≡ doneBy M i xs B o o
@@ -60,7 +58,7 @@ step-is grant word xs B i o d s t e p =
     let M : Parameters = parameters grant (B .machine) in
     ap (λ (i : Instruction). outcome M i xs B) d ∙ outcome-done M i xs B o s t e p
 
-pub step-done : (grant : ℕ → ℕ → ℕ) (word : ℕ) (xs : List ℕ) (B : Bench) (i : Instruction) (o : Operation)
+pub step-done : (grant : ℕ → ℕ → ℕ → ℕ) (word : ℕ) (xs : List ℕ) (B : Bench) (i : Instruction) (o : Operation)
     → let M : Parameters = parameters grant (B .machine) in
     decode word ≡ i → soundBench B ≡ true → thirtyTwo xs ≡ true → meant M i xs B ≡ o
     → Passed (checks M o (given M i xs B) (B .memory))
@@ -70,7 +68,7 @@ step-done grant word xs B i o d s t e p =
     (ap (λ (u : Outcome). u .answer) q, ap (λ (u : Outcome). u .bench) q)
 
 -- a word that a check refuses
-pub step-refused : (grant : ℕ → ℕ → ℕ) (word : ℕ) (xs : List ℕ) (B : Bench) (a : Answer) → isDone a ≡ false
+pub step-refused : (grant : ℕ → ℕ → ℕ → ℕ) (word : ℕ) (xs : List ℕ) (B : Bench) (a : Answer) → isDone a ≡ false
     → verdict (stepChecks (parameters grant (B .machine)) (decode word) xs B) ≡ a → stepBy grant word xs B ≡ record { answer = reply a; bench = B; scalars = xs }
 unfolding stepBy outcome
 step-refused grant word xs B a d e =
@@ -110,7 +108,3 @@ permitted-bounds r m h =
       eqb-true (m / r * r) m (q .1 .1 .1 .0),
       eqb-true (r / 8 * 8) r (q .1 .1 .1 .1 .0),
     )
-
--- our choice of sizes keeps the draft's three constraints
-pub smaller-grants : Grants smaller
-smaller-grants = record { small = λ m a h. omega arith; middle = λ m a h. omega arith; large = λ m a h. omega arith }

@@ -10,7 +10,7 @@ use Rattle.width.specs.Binary32.{valueOf, settled, multiplyAdd, floatSum, float
 use Rattle.machine.specs.declared.Machine.{Machine}
 use Rattle.machine.specs.declared.Reply.{Reply}
 use Rattle.machine.specs.Geometry.{permitted}
-use Rattle.machine.specs.Setting.{sew, newType, legalType}
+use Rattle.machine.specs.Setting.{sew, newType, legalType, halving, chosen}
 use Rattle.machine.specs.Refusals.{widthOk, widthOf}
 use Rattle.machine.specs.Memory.{inside, misses, rowsMiss, distinct, stored}
 use Rattle.machine.specs.Refusals.{marked}
@@ -30,7 +30,7 @@ word f e d c b = f * 2 ^ 25 + e * 2 ^ 20 + d * 2 ^ 15 + c * 2 ^ 12 + b * 2 ^ 7 +
 -- mtype, the tile sizes, a seal, and a mark for every byte; a memory of 32 bytes
 pub bench : (t m k n sealStart sealLength mark : ℕ) → Bench
 bench t m k n s l mark = record {
-  machine = record { rlen = 64; mlen = 128; mtype = t; «tile_m» = m; «tile_k» = k; «tile_n» = n; «seal_start» = s; «seal_length» = l };
+  machine = record { rlen = 64; mlen = 128; mtype = t; «tile_m» = m; «tile_k» = k; «tile_n» = n; «seal_start» = s; «seal_length» = l; rule = 0 };
   registers = replicate 256 5;
   marks = replicate 256 mark;
   memory = replicate 32 9;
@@ -60,6 +60,11 @@ marking ms B = record { machine = B .machine; registers = B .registers; marks = 
 pub with : Machine → Bench → Bench
 with m B = record { machine = m; registers = B .registers; marks = B .marks; memory = B .memory }
 
+-- with another rule
+pub ruled : ℕ → Bench → Bench
+ruled r B = let m = B .machine in
+    with (record { rlen = m .rlen; mlen = m .mlen; mtype = m .mtype; «tile_m» = m .«tile_m»; «tile_k» = m .«tile_k»; «tile_n» = m .«tile_n»; «seal_start» = m .«seal_start»; «seal_length» = m .«seal_length»; rule = r }) B
+
 pub examples : List Line
 examples =
     -- 8, before 10
@@ -73,7 +78,8 @@ examples =
     ∷ gives (step 0 (scalars 0 0) (bench 0 2 2 2 (2 ^ 64 - 1) 1 1)) 8
     ∷ gives (step 0 (scalars 0 0) (bench 0 2 2 2 0 0 2)) 8
     ∷ gives (step 0 (scalars 0 0) (marking (replicate 255 0) good)) 8
-    ∷ gives (step 0 (scalars 0 0) (with (record { rlen = 128; mlen = 128; mtype = 0; «tile_m» = 0; «tile_k» = 0; «tile_n» = 0; «seal_start» = 0; «seal_length» = 0 }) good)) 8
+    ∷ gives (step 0 (scalars 0 0) (with (record { rlen = 128; mlen = 128; mtype = 0; «tile_m» = 0; «tile_k» = 0; «tile_n» = 0; «seal_start» = 0; «seal_length» = 0; rule = 0 }) good)) 8
+    ∷ gives (step 0 (scalars 0 0) (ruled 2 good)) 8
     -- none of these is a fault: a seal that ends at 2^64 - 1, mtype 2^63 and 8, sizes above the maximum at the present SEW
     ∷ gives (step (word 0 0 0 7 0) (scalars 0 0) (bench 0 2 2 8 (2 ^ 64 - 1) 0 1)) 0
     ∷ gives (step (word 0 0 0 7 0) (scalars 0 0) (bench (2 ^ 63) 2 2 8 0 0 1)) 0
@@ -179,7 +185,7 @@ examples =
     ∷ []
 
 pub refusals : map (λ l. l .got) examples ≡ map (λ l. l .want) examples
-unfolding examples word bench scalars shown gives unwritten good marking with permitted sew newType legalType widthOk widthOf inside misses rowsMiss distinct marked listing others decode sound stepBy outcome
+unfolding examples word bench scalars shown gives unwritten good marking with ruled permitted sew newType legalType widthOk widthOf inside misses rowsMiss distinct marked listing others decode sound stepBy outcome
 refusals = refl
 
 -- 02, Seven: "Refuse a store .. in which a byte belongs to two rows". A of two rows of two bytes
@@ -237,8 +243,35 @@ settings =
     ∷ []
 
 pub settings-right : map (λ l. l .got) settings ≡ map (λ l. l .want) settings
-unfolding settings word bench scalars good permitted sew newType legalType listing others decode sound stepBy outcome
+unfolding settings word bench scalars good chosen permitted sew newType legalType listing others decode sound stepBy outcome
 settings-right = refl
+
+-- 02, Eight: sizes 3 to 9 asked at a maximum of 4, by either rule
+pub sizes : map (chosen 0 4) (3 ∷ 4 ∷ 5 ∷ 6 ∷ 7 ∷ 8 ∷ 9 ∷ []) ++ map (chosen 1 4) (3 ∷ 4 ∷ 5 ∷ 6 ∷ 7 ∷ 8 ∷ 9 ∷ [])
+    ≡ 3 ∷ 4 ∷ 4 ∷ 4 ∷ 4 ∷ 4 ∷ 4 ∷ 3 ∷ 4 ∷ 3 ∷ 3 ∷ 4 ∷ 4 ∷ 4 ∷ []
+unfolding chosen halving
+sizes = refl
+
+-- words at SEW 16, where at most 4 columns fit, on a halving machine: 7, 6 and 5 are asked, then by a scalar; the maximum; and with both x0 a
+-- size of 6 becomes the smaller of the two
+pub halved : ℕ → ℕ → List ℕ → Line
+halved w x want =
+    let o = step w (scalars x 0) (ruled 1 (bench 1 2 2 6 0 0 1)) in
+    record { got = o .answer .number ∷ o .bench .machine .«tile_n» ∷ getD (o .scalars) 3 9 ∷ []; want = 0 ∷ want }
+
+pub halvings : List Line
+halvings =
+    halved (word 0b0110000 0 7 7 3) 0 (4 ∷ 4 ∷ [])
+    ∷ halved (word 0b0110000 0 6 7 3) 0 (3 ∷ 3 ∷ [])
+    ∷ halved (word 0b0110000 0 5 7 3) 0 (3 ∷ 3 ∷ [])
+    ∷ halved (word 0b0111000 0 10 7 3) 5 (3 ∷ 3 ∷ [])
+    ∷ halved (word 0b0111000 0 0 7 3) 0 (4 ∷ 4 ∷ [])
+    ∷ halved (word 0b0111000 0 0 7 0) 0 (4 ∷ 0 ∷ [])
+    ∷ []
+
+pub halvings-right : map (λ l. l .got) halvings ≡ map (λ l. l .want) halvings
+unfolding halvings halved word bench scalars with ruled chosen halving permitted sew newType legalType listing others decode sound stepBy outcome
+halvings-right = refl
 
 -- 02, Three: "A technician changed from 8 to 16 bits, renewed his sizes in this way and was refused with 4." Words one after another,
 -- with a memory row of 8 bytes at 0 and at 8

@@ -7,11 +7,11 @@ use lib.Dec.{leb, ltb, eqb}
 use Rattle.machine.specs.declared.Machine.{Machine}
 use Rattle.machine.specs.Tests.{allOf, every}
 use Rattle.machine.specs.Geometry.{elen, permitted, registerBytes, Bench}
-use Rattle.machine.specs.Starting.{sealEnds}
+use Rattle.machine.specs.Starting.{isRule, sealEnds}
 use Rattle.machine.specs.Setting.{newType}
 
 -- "RLEN or MLEN not permitted, a buffer not of the size they demand, .. an mtype that can't arise, a tile size above its maximum
--- at SEW 8, a seal whose end exceeds 2^64 - 1, or a mark that is neither value": none of these
+-- at SEW 8, a seal whose end exceeds 2^64 - 1, or a mark that is neither value", or, 02, Eight, "an unknown rule": none of these
 unfoldable pub sound : Machine → List ℕ → List ℕ → Bool
 sound m registers marks = every (
     permitted (m .rlen) (m .mlen)
@@ -21,6 +21,7 @@ sound m registers marks = every (
     ∷ leb (m .«tile_m») (m .mlen / m .rlen)
     ∷ leb (m .«tile_k») (min (m .mlen / m .rlen) (m .rlen / 8))
     ∷ leb (m .«tile_n») (m .rlen / 8)
+    ∷ isRule (m .rule)
     ∷ sealEnds (m .«seal_start») (m .«seal_length»)
     ∷ allOf (λ mark. ltb mark 2) marks ∷ [])
 

@@ -26,7 +26,7 @@ mlens = 128 ∷ 256 ∷ 512 ∷ 1024 ∷ 2048 ∷ 4096 ∷ []
 unfoldable pub permitted : ℕ → ℕ → Bool
 permitted rlen mlen = every (isIn rlen rlens ∷ isIn mlen mlens ∷ ltb rlen mlen ∷ [])
 
--- what a machine keeps from its start on: the rows of its registers, the bytes of a tile register's row, ELEN, the choice of
+-- what a machine keeps from its start on: the rows of its registers, the bytes of a tile register's row, ELEN, its choice of
 -- sizes (from the maximum and what is asked), and the sealed range
 pub record Parameters : Type 0 where
   pub rows : ℕ
@@ -47,8 +47,9 @@ parametersOf grant rlen mlen sealStart sealLength = record {
   sealLen = sealLength;
 }
 
-abbrev pub parameters : (ℕ → ℕ → ℕ) → Machine → Parameters
-parameters grant m = parametersOf grant (m .rlen) (m .mlen) (m .«seal_start») (m .«seal_length»)
+-- under a choice of sizes for each rule, of which the machine goes by its own: 02, Eight: "the size choice speaks of the rule"
+abbrev pub parameters : (ℕ → ℕ → ℕ → ℕ) → Machine → Parameters
+parameters grant m = parametersOf (grant (m .rule)) (m .rlen) (m .mlen) (m .«seal_start») (m .«seal_length»)
 
 -- ---- state
 
@@ -74,6 +75,7 @@ machineAfter m st = record {
   «tile_n» = st .tileN;
   «seal_start» = m .«seal_start»;
   «seal_length» = m .«seal_length»;
+  rule = m .rule;
 }
 
 -- a machine with what it is lent: the register bytes, their marks, and memory, "address 0 its first byte"

@@ -168,9 +168,10 @@ abbrev pub stateAfter : Parameters → Operation → State → List ℕ → Stat
 stateAfter M (illegal wrong) st mem = st
 -- "Tile sizes stay."
 stateAfter M (setType v) st mem = sized st (newType (M .elen) v) (st .tileM) (st .tileK) (st .tileN)
--- "The new tile size is the smaller of the asked size and the maximum", or as the machine grants it
+-- "The new tile size is the smaller of the asked size and the maximum", or, 02, Eight, as the machine's rule grants it
 stateAfter M (setSize d a) st mem = resized d (M .grant (maximum M (st .mtype) d) a) st
--- 02, Three: "the size is kept if less than the maximum. From now on it becomes the smaller of the two."
+-- 02, Three: "the size is kept if less than the maximum. From now on it becomes the smaller of the two." Eight: it "stays the smaller of the
+-- two under either rule"
 stateAfter M (cutSize d) st mem = resized d (smaller (maximum M (st .mtype) d) (sizeIn d st)) st
 stateAfter M (load f k r w base stride) st mem =
     written st (registerAt M k r) (tileRows st k) (tileCols st k) w (placed f (element mem (rowAt base stride) w))

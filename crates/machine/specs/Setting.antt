@@ -1,7 +1,7 @@
 -- 01, "Setting mtype and tile sizes".
-use mathlib.Core.Bool.{Bool, cond, not, _||_}
+use mathlib.Core.Bool.{Bool, cond, not, _&&_, _||_}
 use mathlib.Core.List.{[], _∷_}
-use Prim.Native.Nat.{ℕ, _*_, _/_, _%_, _^_, min}
+use Prim.Native.Nat.{ℕ, _+_, _*_, _/_, _%_, _^_, min}
 use lib.Dec.{leb, ltb, eqb}
 use Rattle.machine.specs.declared.Dimension.{Dimension}
 use Rattle.machine.specs.declared.Dimension.the-variants.{DimensionM, DimensionK, DimensionN}
@@ -56,6 +56,14 @@ sizeIn DimensionM st = st .tileM
 sizeIn DimensionK st = st .tileK
 sizeIn DimensionN st = st .tileN
 
--- "The new tile size is the smaller of the asked size and the maximum": our choice of sizes
+-- "The new tile size is the smaller of the asked size and the maximum"
 abbrev pub smaller : ℕ → ℕ → ℕ
 smaller max asked = min asked max
+
+-- 02, Eight: "when the asked size lies strictly between the maximum and twice it. Our second chip takes half the asked size, rounded up."
+unfoldable pub halving : ℕ → ℕ → ℕ
+halving max asked = cond (ltb max asked && ltb asked (2 * max)) ((asked + 1) / 2) (smaller max asked)
+
+-- "one of two rules, 0 as before or 1 halving": our choice of sizes
+unfoldable pub chosen : (rule : ℕ) → ℕ → ℕ → ℕ
+chosen rule = cond (eqb rule 1) halving smaller

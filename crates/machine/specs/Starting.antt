@@ -12,25 +12,31 @@ use Rattle.machine.specs.declared.Reply.{Reply}
 use Rattle.machine.specs.Answers.{reply}
 use Rattle.machine.specs.Geometry.{permitted, registerBytes}
 
+-- 02, Eight: "one of two rules, 0 as before or 1 halving"
+abbrev pub isRule : ℕ → Bool
+isRule rule = leb rule 1
+
 -- "a seal whose end exceeds 2^64 - 1": this one doesn't
 abbrev pub sealEnds : (start size : ℕ) → Bool
 sealEnds start size = leb (start + size) (2 ^ 64 - 1)
 
--- "Starting a machine gives 8 for the same RLEN, MLEN and buffer faults, and for a seal whose end exceeds 2^64 - 1": none of these
-unfoldable pub startable : (rlen mlen sealStart sealLength : ℕ) → (registers marks : List ℕ) → Bool
-startable rlen mlen sealStart sealLength registers marks = every (
+-- "Starting a machine gives 8 for the same RLEN, MLEN and buffer faults, and for a seal whose end exceeds 2^64 - 1", and, 02, Eight,
+-- for "an unknown rule": none of these
+unfoldable pub startable : (rlen mlen rule sealStart sealLength : ℕ) → (registers marks : List ℕ) → Bool
+startable rlen mlen rule sealStart sealLength registers marks = every (
     permitted rlen mlen
     ∷ eqb (length registers) (registerBytes mlen)
     ∷ eqb (length marks) (registerBytes mlen)
+    ∷ isRule rule
     ∷ sealEnds sealStart sealLength ∷ [])
 
 -- the numbers of no machine: what a refused start returns
 abbrev pub noMachine : Machine
-noMachine = record { rlen = 0; mlen = 0; mtype = 0; «tile_m» = 0; «tile_k» = 0; «tile_n» = 0; «seal_start» = 0; «seal_length» = 0 }
+noMachine = record { rlen = 0; mlen = 0; mtype = 0; «tile_m» = 0; «tile_k» = 0; «tile_n» = 0; «seal_start» = 0; «seal_length» = 0; rule = 0 }
 
 -- "Starting sets .. all tile sizes and mtype to 0"
-abbrev pub freshMachine : (rlen mlen sealStart sealLength : ℕ) → Machine
-freshMachine rlen mlen sealStart sealLength = record {
+abbrev pub freshMachine : (rlen mlen rule sealStart sealLength : ℕ) → Machine
+freshMachine rlen mlen rule sealStart sealLength = record {
   rlen = rlen;
   mlen = mlen;
   mtype = 0;
@@ -39,6 +45,7 @@ freshMachine rlen mlen sealStart sealLength = record {
   «tile_n» = 0;
   «seal_start» = sealStart;
   «seal_length» = sealLength;
+  rule = rule;
 }
 
 -- what a start answers and leaves
@@ -49,10 +56,10 @@ pub record StartOutcome : Type 0 where
   pub marks : List ℕ
 
 -- "Starting sets every mark to 0 .. and leaves the register bytes as they were lent."
-unfoldable pub startMachine : (rlen mlen sealStart sealLength : ℕ) → (registers marks : List ℕ) → StartOutcome
-startMachine rlen mlen sealStart sealLength registers marks =
-    cond (startable rlen mlen sealStart sealLength registers marks)
-    (record { answer = reply Done; machine = freshMachine rlen mlen sealStart sealLength; registers = registers; marks = replicate (length marks) 0 })
+unfoldable pub startMachine : (rlen mlen rule sealStart sealLength : ℕ) → (registers marks : List ℕ) → StartOutcome
+startMachine rlen mlen rule sealStart sealLength registers marks =
+    cond (startable rlen mlen rule sealStart sealLength registers marks)
+    (record { answer = reply Done; machine = freshMachine rlen mlen rule sealStart sealLength; registers = registers; marks = replicate (length marks) 0 })
     (record { answer = reply BadArguments; machine = noMachine; registers = registers; marks = marks })
 
 -- what the function `start` returned and left

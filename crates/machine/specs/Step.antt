@@ -11,7 +11,7 @@ use Rattle.machine.specs.declared.Instruction.the-variants.{Illegal, Set
 use Rattle.machine.specs.declared.Reply.{Reply}
 use Rattle.machine.specs.Answers.{reply, Check, _otherwise_, verdict, isDone}
 use Rattle.machine.specs.Geometry.{Parameters, parameters, State, stateOf, machineAfter, Bench, benchOf, withScalar}
-use Rattle.machine.specs.Setting.{smaller}
+use Rattle.machine.specs.Setting.{chosen}
 use Rattle.machine.specs.Listing.{decode}
 use Rattle.machine.specs.Operation.{Operation, operation, stateAfter, memoryAfter, resultOf}
 use Rattle.machine.specs.Refusals.{checks}
@@ -71,13 +71,13 @@ module _ (M : Parameters) (i : Instruction) (xs : List ℕ) (B : Bench) where
   unfoldable pub outcome : Outcome
   outcome = cond (isDone (verdict stepChecks)) carriedOut (refused (verdict stepChecks))
 
--- a step under a choice of sizes
-unfoldable pub stepBy : (ℕ → ℕ → ℕ) → ℕ → List ℕ → Bench → Outcome
+-- a step under a choice of sizes for each rule
+unfoldable pub stepBy : (ℕ → ℕ → ℕ → ℕ) → ℕ → List ℕ → Bench → Outcome
 stepBy grant word xs B = outcome (parameters grant (B .machine)) (decode word) xs B
 
 -- and under ours
 abbrev pub step : ℕ → List ℕ → Bench → Outcome
-step = stepBy smaller
+step = stepBy chosen
 
 -- what the function `step` returned and left
 abbrev pub steppedAs : Stepped → (registers marks scalars memory : List ℕ) → Outcome

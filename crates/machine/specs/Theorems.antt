@@ -1,4 +1,4 @@
--- What is proved of these definitions, for every choice of sizes, state and word. The proofs stand in proofs/.
+-- What is proved of these definitions, for every choice of sizes (one for each rule), state and word. The proofs stand in proofs/.
 use mathlib.Core.Path.{_≡_}
 use mathlib.Core.Bool.{true}
 use mathlib.Core.List.{List, [], _∷_}
@@ -6,12 +6,12 @@ use Prim.Native.Nat.{ℕ, _+_, _*_, _≤_, _<_}
 use lib.ListN.{length, getD}
 use lib.IntN.{pos}
 use Rattle.width.specs.Tile.{byteOf, In}
-use Rattle.width.specs.Blocks.{Grants}
+use Rattle.width.specs.Blocks.{EachGrants}
 use Rattle.machine.specs.declared.Form.{Form}
 use Rattle.machine.specs.declared.Matrix.{Matrix}
 use Rattle.machine.specs.declared.Instruction.the-variants.{Store}
 use Rattle.machine.specs.Geometry.{parameters, State, stateOf, registerAt, scalar, Bench, benchOf, sealed}
-use Rattle.machine.specs.Setting.{smaller}
+use Rattle.machine.specs.Setting.{chosen}
 use Rattle.machine.specs.Starting.{startMachine}
 use Rattle.machine.specs.Faults.{soundBench}
 use Rattle.machine.specs.Listing.{decode}
@@ -20,42 +20,48 @@ use Rattle.machine.specs.Operation.{element, placed, tileRows, tileCols,
 use Rattle.machine.specs.Step.{stepBy}
 
 -- a bench as a start leaves it, with a memory
-abbrev pub startedBench : (rlen mlen sealStart sealLength : ℕ) (registers marks memory : List ℕ) → Bench
-startedBench rlen mlen sealStart sealLength registers marks memory =
-    let s = startMachine rlen mlen sealStart sealLength registers marks in benchOf (s .machine) (s .registers) (s .marks) memory
+abbrev pub startedBench : (rlen mlen rule sealStart sealLength : ℕ) (registers marks memory : List ℕ) → Bench
+startedBench rlen mlen rule sealStart sealLength registers marks memory =
+    let s = startMachine rlen mlen rule sealStart sealLength registers marks in benchOf (s .machine) (s .registers) (s .marks) memory
+
+-- ---- the choice of sizes
+
+-- 02, Eight: "every choice that keeps the three constraints of source document 001, then name our two": both keep them
+abbrev pub RulesKeepConstraints : Type 0
+RulesKeepConstraints = EachGrants chosen
 
 -- ---- refusals
 
 -- Demand 1: "A refusal changes nothing lent or held."
 abbrev pub RefusalChangesNothing : Type 0
-RefusalChangesNothing = (grant : ℕ → ℕ → ℕ) (word : ℕ) (xs : List ℕ) (B : Bench) → ¬ (stepBy grant word xs B .answer .number ≡ 0)
+RefusalChangesNothing = (grant : ℕ → ℕ → ℕ → ℕ) (word : ℕ) (xs : List ℕ) (B : Bench) → ¬ (stepBy grant word xs B .answer .number ≡ 0)
     → (stepBy grant word xs B .bench ≡ B) × (stepBy grant word xs B .scalars ≡ xs)
 
 -- and so of a start
 abbrev pub StartRefusalChangesNothing : Type 0
-StartRefusalChangesNothing = (rlen mlen sealStart sealLength : ℕ) (registers marks : List ℕ)
-    → ¬ (startMachine rlen mlen sealStart sealLength registers marks .answer .number ≡ 0)
-    → (startMachine rlen mlen sealStart sealLength registers marks .registers ≡ registers)
-    × (startMachine rlen mlen sealStart sealLength registers marks .marks ≡ marks)
+StartRefusalChangesNothing = (rlen mlen rule sealStart sealLength : ℕ) (registers marks : List ℕ)
+    → ¬ (startMachine rlen mlen rule sealStart sealLength registers marks .answer .number ≡ 0)
+    → (startMachine rlen mlen rule sealStart sealLength registers marks .registers ≡ registers)
+    × (startMachine rlen mlen rule sealStart sealLength registers marks .marks ≡ marks)
 
 -- ---- states that are not at fault
 
 -- a step of a state that is not at fault leaves one that is not at fault
 abbrev pub StepKeepsSound : Type 0
-StepKeepsSound = (grant : ℕ → ℕ → ℕ) → Grants grant → (word : ℕ) (xs : List ℕ) (B : Bench) → soundBench B ≡ true
+StepKeepsSound = (grant : ℕ → ℕ → ℕ → ℕ) → EachGrants grant → (word : ℕ) (xs : List ℕ) (B : Bench) → soundBench B ≡ true
     → soundBench (stepBy grant word xs B .bench) ≡ true
 
 -- and so does a start, whatever memory is lent
 abbrev pub StartIsSound : Type 0
-StartIsSound = (rlen mlen sealStart sealLength : ℕ) (registers marks memory : List ℕ)
-    → startMachine rlen mlen sealStart sealLength registers marks .answer .number ≡ 0
-    → soundBench (startedBench rlen mlen sealStart sealLength registers marks memory) ≡ true
+StartIsSound = (rlen mlen rule sealStart sealLength : ℕ) (registers marks memory : List ℕ)
+    → startMachine rlen mlen rule sealStart sealLength registers marks .answer .number ≡ 0
+    → soundBench (startedBench rlen mlen rule sealStart sealLength registers marks memory) ≡ true
 
 -- ---- stores
 
 -- what a store of a tile, plain or transposed, leaves in memory, over the rows and columns that it has there: its rows lie in memory, no
 -- byte is in two of them, each byte of element (i, j) is that of the register's element, every other byte is as before, and so is the length
-module _ (grant : ℕ → ℕ → ℕ) (xs : List ℕ) (B : Bench) (f : Form) (k : Matrix) (w r rs1 rs2 : ℕ) where
+module _ (grant : ℕ → ℕ → ℕ → ℕ) (xs : List ℕ) (B : Bench) (f : Form) (k : Matrix) (w r rs1 rs2 : ℕ) where
   abbrev tile : State
   tile = stateOf (B .machine) (B .registers) (B .marks)
 
@@ -81,7 +87,7 @@ module _ (grant : ℕ → ℕ → ℕ) (xs : List ℕ) (B : Bench) (f : Form) (k
 
 -- 02, Seven: each element where it belongs, with no order of rows
 abbrev pub StoresAreExact : Type 0
-StoresAreExact = (grant : ℕ → ℕ → ℕ) (word : ℕ) (xs : List ℕ) (B : Bench) (f : Form) (k : Matrix) (w r rs1 rs2 : ℕ)
+StoresAreExact = (grant : ℕ → ℕ → ℕ → ℕ) (word : ℕ) (xs : List ℕ) (B : Bench) (f : Form) (k : Matrix) (w r rs1 rs2 : ℕ)
     → decode word ≡ Store f k w r rs1 rs2 → stepBy grant word xs B .answer .number ≡ 0
     → Stores grant xs B f k w r rs1 rs2 (stepBy grant word xs B .bench .memory)
 
@@ -93,23 +99,23 @@ pub record Given : Type 0 where
   pub scalars : List ℕ
 
 -- the bench after a list of words, refusals included
-abbrev pub afterAll : (ℕ → ℕ → ℕ) → List Given → Bench → Bench
+abbrev pub afterAll : (ℕ → ℕ → ℕ → ℕ) → List Given → Bench → Bench
 afterAll grant [] B = B
 afterAll grant (w ∷ ws) B = afterAll grant ws (stepBy grant (w .word) (w .scalars) B .bench)
 
 -- the seal stays, the memory keeps its length, and no sealed byte changes
-pub record Unharmed (grant : ℕ → ℕ → ℕ) (B B′ : Bench) : Type 0 where
+pub record Unharmed (grant : ℕ → ℕ → ℕ → ℕ) (B B′ : Bench) : Type 0 where
   pub same-parameters : parameters grant (B′ .machine) ≡ parameters grant (B .machine)
   pub same-length : length (B′ .memory) ≡ length (B .memory)
   pub same-bytes : (q : ℕ) → sealed (parameters grant (B .machine)) q ≡ true → getD (B′ .memory) q 0 ≡ getD (B .memory) q 0
 
 -- Demand 2: no byte of the seal changes, whatever words are stepped
 abbrev pub SealHolds : Type 0
-SealHolds = (grant : ℕ → ℕ → ℕ) (ws : List Given) (B : Bench) → Unharmed grant B (afterAll grant ws B)
+SealHolds = (grant : ℕ → ℕ → ℕ → ℕ) (ws : List Given) (B : Bench) → Unharmed grant B (afterAll grant ws B)
 
 -- and from a started machine: each byte of the range that it was started with
 abbrev pub SealHoldsFromStart : Type 0
-SealHoldsFromStart = (rlen mlen sealStart sealLength : ℕ) (registers marks memory : List ℕ)
-    → startMachine rlen mlen sealStart sealLength registers marks .answer .number ≡ 0
+SealHoldsFromStart = (rlen mlen rule sealStart sealLength : ℕ) (registers marks memory : List ℕ)
+    → startMachine rlen mlen rule sealStart sealLength registers marks .answer .number ≡ 0
     → (ws : List Given) (q : ℕ) → In sealStart sealLength q
-    → getD (afterAll smaller ws (startedBench rlen mlen sealStart sealLength registers marks memory) .memory) q 0 ≡ getD memory q 0
+    → getD (afterAll chosen ws (startedBench rlen mlen rule sealStart sealLength registers marks memory) .memory) q 0 ≡ getD memory q 0

@@ -47,7 +47,7 @@ pub record RefusedAs (n word : ℕ) (xs : List ℕ) (B : Bench) : Type 0 where
   pub twelve : (n ≡ 12) ↔ Faultless xs B × RightOpcode word × OutOfRange word
 
 abbrev pub WordRefusals : Type 0
-WordRefusals = (grant : ℕ → ℕ → ℕ) (word : ℕ) (xs : List ℕ) (B : Bench) → RefusedAs (stepBy grant word xs B .answer .number) word xs B
+WordRefusals = (grant : ℕ → ℕ → ℕ → ℕ) (word : ℕ) (xs : List ℕ) (B : Bench) → RefusedAs (stepBy grant word xs B .answer .number) word xs B
 
 -- ---- nothing else moved
 
@@ -67,7 +67,7 @@ decodeBefore word =
     let i : Instruction = lookUp word (Illegal Unlisted) (listingBefore listing) in
     cond (eqb (bits 6 0 word) 0b1110111) (cond (inRange i) i (Illegal Unlisted)) (Illegal Unlisted)
 
-abbrev pub stepBefore : (ℕ → ℕ → ℕ) → ℕ → List ℕ → Bench → Outcome
+abbrev pub stepBefore : (ℕ → ℕ → ℕ → ℕ) → ℕ → List ℕ → Bench → Outcome
 stepBefore grant word xs B = outcome (parameters grant (B .machine)) (decodeBefore word) xs B
 
 -- 10, 11 and 12 stand where 1 stood
@@ -87,10 +87,10 @@ IsAdded word = RightOpcode word × ((r : Row) × List·Memᴰ r listing × Every
 
 -- of every word but these
 abbrev pub NothingElseMoved : Type 0
-NothingElseMoved = (grant : ℕ → ℕ → ℕ) (word : ℕ) (xs : List ℕ) (B : Bench) → ¬ IsAdded word
+NothingElseMoved = (grant : ℕ → ℕ → ℕ → ℕ) (word : ℕ) (xs : List ℕ) (B : Bench) → ¬ IsAdded word
     → OnlyNumberMoved (stepBy grant word xs B) (stepBefore grant word xs B)
 
 -- and these got 1
 abbrev pub AddedGotOne : Type 0
-AddedGotOne = (grant : ℕ → ℕ → ℕ) (word : ℕ) (xs : List ℕ) (B : Bench) → Faultless xs B → IsAdded word
+AddedGotOne = (grant : ℕ → ℕ → ℕ → ℕ) (word : ℕ) (xs : List ℕ) (B : Bench) → Faultless xs B → IsAdded word
     → stepBefore grant word xs B .answer .number ≡ 1

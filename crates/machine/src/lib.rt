@@ -1,12 +1,16 @@
 // The machine's numbers, its answers and its instructions, and starting a machine. What they mean is defined in specs/.
 ghost use mathlib.Core.Path.{_≡_};
+ghost use mathlib.Core.Bool.{_&&_};
+ghost use Prim.Native.Nat.{_*_, min};
+ghost use lib.Dec.{eqb, ltb};
 ghost use lib.ListN.{length, replicate};
 ghost use Rattle.machine.specs.Tests.{isIn};
 ghost use Rattle.machine.specs.Answers.{bare, reply, isDone};
 ghost use Rattle.machine.specs.Geometry.{permitted, rlens, mlens};
+ghost use Rattle.machine.specs.Setting.{chosen};
 ghost use Rattle.machine.specs.Starting.{startable, startMachine, startedAs, noMachine, freshMachine};
 
-// The machine's numbers: its lengths in bits, mtype, the tile sizes, and the sealed range of memory.
+// The machine's numbers: its lengths in bits, mtype, the tile sizes, the sealed range of memory, and the rule by which it chooses sizes.
 pub struct Machine {
     pub rlen: u64,
     pub mlen: u64,
@@ -16,6 +20,7 @@ pub struct Machine {
     pub tile_n: u64,
     pub seal_start: u64,
     pub seal_length: u64,
+    pub rule: u64,
 }
 
 // What a start, a step or a run answers. specs/Answers.antt gives the number, row and column of each case.
@@ -241,6 +246,36 @@ pub fn permitted_lengths(rlen: u64, mlen: u64) -> bool
     rlen < mlen
 }
 
+// The smaller of two numbers.
+pub fn smaller(a: u64, b: u64) -> u64
+    ensures { λ r. ⌜ r ≡ min a b ⌝ }
+{
+    if a < b { a } else { b }
+}
+
+// Whether a machine of this rule halves what is asked: it lies strictly between the maximum and twice it.
+fn is_halved(rule: u64, most: u64, asked: u64) -> bool
+    ensures { λ r. ⌜ r ≡ eqb rule 1 && (ltb most asked && ltb asked (2 * most)) ⌝ }
+{
+    if rule != 1 {
+        return false;
+    }
+    if asked <= most {
+        return false;
+    }
+    asked - most < most
+}
+
+// The size that a machine of this rule gives, of its maximum and what is asked.
+pub fn chosen(rule: u64, most: u64, asked: u64) -> u64
+    ensures { λ r. ⌜ r ≡ chosen rule most asked ⌝ }
+{
+    if is_halved(rule, most, asked) {
+        return asked - asked / 2;
+    }
+    smaller(asked, most)
+}
+
 // Sets every mark to 0.
 fn clear(marks: &mut [u8])
     ensures { λ _. ⌜ now (marks .exit) ≡ replicate (length (now (marks .entry))) 0 ⌝ }
@@ -264,11 +299,12 @@ fn no_machine() -> Machine
         tile_n: 0,
         seal_start: 0,
         seal_length: 0,
+        rule: 0,
     }
 }
 
-fn fresh_machine(rlen: u64, mlen: u64, seal_start: u64, seal_length: u64) -> Machine
-    ensures { λ r. ⌜ r ≡ freshMachine rlen mlen «seal_start» «seal_length» ⌝ }
+fn fresh_machine(rlen: u64, mlen: u64, rule: u64, seal_start: u64, seal_length: u64) -> Machine
+    ensures { λ r. ⌜ r ≡ freshMachine rlen mlen rule «seal_start» «seal_length» ⌝ }
 {
     Machine {
         rlen: rlen,
@@ -279,19 +315,21 @@ fn fresh_machine(rlen: u64, mlen: u64, seal_start: u64, seal_length: u64) -> Mac
         tile_n: 0,
         seal_start: seal_start,
         seal_length: seal_length,
+        rule: rule,
     }
 }
 
-// Whether a machine of these lengths can be started on so many register bytes and marks, with this seal.
+// Whether a machine of these lengths can be started on so many register bytes and marks, with this rule and this seal.
 fn is_startable(
     rlen: u64,
     mlen: u64,
+    rule: u64,
     seal_start: u64,
     seal_length: u64,
     registers: &[u8],
     marks: &[u8],
 ) -> bool
-    ensures { λ r. ⌜ r ≡ startable rlen mlen «seal_start» «seal_length» (now (registers .entry)) (now (marks .entry)) ⌝ }
+    ensures { λ r. ⌜ r ≡ startable rlen mlen rule «seal_start» «seal_length» (now (registers .entry)) (now (marks .entry)) ⌝ }
 {
     if !permitted_lengths(rlen, mlen) {
         return false;
@@ -302,22 +340,26 @@ fn is_startable(
     if marks.len() as u64 != 2 * mlen {
         return false;
     }
+    if rule > 1 {
+        return false;
+    }
     seal_length <= 18446744073709551615 - seal_start
 }
 
-// Starts a machine on the lent register bytes and marks, with a sealed range of memory. Refused, it changes nothing.
+// Starts a machine on the lent register bytes and marks, with a rule and a sealed range of memory. Refused, it changes nothing.
 pub fn start(
     rlen: u64,
     mlen: u64,
+    rule: u64,
     seal_start: u64,
     seal_length: u64,
     registers: &[u8],
     marks: &mut [u8],
 ) -> Started
     ensures { λ r. ⌜ startedAs r (now (registers .entry)) (now (marks .exit))
-        ≡ startMachine rlen mlen «seal_start» «seal_length» (now (registers .entry)) (now (marks .entry)) ⌝ }
+        ≡ startMachine rlen mlen rule «seal_start» «seal_length» (now (registers .entry)) (now (marks .entry)) ⌝ }
 {
-    if !is_startable(rlen, mlen, seal_start, seal_length, registers, marks) {
+    if !is_startable(rlen, mlen, rule, seal_start, seal_length, registers, marks) {
         return Started {
             answer: Answer::BadArguments,
             machine: no_machine(),
@@ -326,6 +368,6 @@ pub fn start(
     clear(marks);
     Started {
         answer: Answer::Done,
-        machine: fresh_machine(rlen, mlen, seal_start, seal_length),
+        machine: fresh_machine(rlen, mlen, rule, seal_start, seal_length),
     }
 }

@@ -22,7 +22,7 @@ use Rattle.machine.specs.declared.Answer.{Answer}
 use Rattle.machine.specs.declared.Answer.the-variants.{Done}
 use Rattle.machine.specs.Answers.{verdict, isDone}
 use Rattle.machine.specs.Geometry.{State, stateOf, accAt}
-use Rattle.machine.specs.Setting.{sew, smaller}
+use Rattle.machine.specs.Setting.{sew, chosen}
 use Rattle.machine.specs.Operation.{Operation, floatProductAt, stateAfter}
 use Rattle.machine.specs.Refusals.{checks, isZero}
 use Rattle.machine.specs.Faults.{sound}
@@ -87,7 +87,7 @@ module _ (m : Machine) (regs marks : List ℕ) (h : sound m regs marks ≡ true)
         × (((m .«tile_m» ≤ R) × ((m .«tile_k» ≤ R) × (m .«tile_k» ≤ mostTerms))) × ((m .«tile_n» * 4 ≤ P) × (m .«tile_k» * 4 ≤ P))))
     unfolding widthOk
     float-asks l =
-        let q = multiply-ready smaller m regs marks [] h 1 d a b l (passes .0, (rw (le-leb (1 * (8 * sew (m .mtype))) 32 (omega (arith, four))), passes .1 .1)) in
+        let q = multiply-ready chosen m regs marks [] h 1 d a b l (passes .0, (rw (le-leb (1 * (8 * sew (m .mtype))) 32 (omega (arith, four))), passes .1 .1)) in
         let t = q .1 .1 .1 .1 .1 in
         (q .0, (q .1 .0, (t .0, subst (λ (w : ℕ). (m .«tile_n» * w ≤ P) × (m .«tile_k» * w ≤ P)) four (t .1 .1))))
 
@@ -122,7 +122,7 @@ module _ (m : Machine) (regs marks : List ℕ) (h : sound m regs marks ≡ true)
       pub product-asks : (d < 2) × ((a < 8) × (b < 8)) → Asked f′ w
       product-asks l =
           subst (λ (x : ℕ). Asked x w) (sym ef) (subst (λ (y : ℕ). Asked f y) (sym ew)
-          (multiply-ready smaller m regs marks [] h f d a b l (passed (checks (ours m) (Operation.multiply f d a b) st []) refl p)))
+          (multiply-ready chosen m regs marks [] h f d a b l (passed (checks (ours m) (Operation.multiply f d a b) st []) refl p)))
 
       -- a multiply reads each byte that it writes, so the marks stay
       pub product-loads : (regs′ : List ℕ) → regs′ ≡ productTile (shape R P) (f′ * w) w d a b tm tk tn regs
@@ -143,7 +143,7 @@ module _ (m : Machine) (regs marks : List ℕ) (h : sound m regs marks ≡ true)
 
     module _ (o : Sum) (d a : ℕ) (p : isDone (verdict (combineChecks m marks f d a)) ≡ true) where
       pub combine-asks : (d < 2) × (a < 2) → Elementwise d a f′ w
-      combine-asks l = elementwise-asks d a (combine-ready smaller m regs marks [] h o f d a l (passed (checks (ours m) (Operation.combine o f d a) st []) refl p))
+      combine-asks l = elementwise-asks d a (combine-ready chosen m regs marks [] h o f d a l (passed (checks (ours m) (Operation.combine o f d a) st []) refl p))
 
       -- and so does an add or a subtract
       pub combine-loads : (regs′ : List ℕ) → regs′ ≡ combineTile (shape R P) o (f′ * w) w d a (m .«tile_m») (m .«tile_n») regs
@@ -162,7 +162,7 @@ module _ (m : Machine) (regs marks : List ℕ) (h : sound m regs marks ≡ true)
       scale-asks l = elementwise-asks d a (go (eqb x 0) refl)
         where
           by : (z : ℤ) → isZero z ≡ eqb x 0 → Elementwise d a f (sew (m .mtype))
-          by z e = scale-ready smaller m regs marks [] h f d a z l (passed (checks (ours m) (Operation.scale f d a z) st []) refl (checks-are z e))
+          by z e = scale-ready chosen m regs marks [] h f d a z l (passed (checks (ours m) (Operation.scale f d a z) st []) refl (checks-are z e))
 
           go : (t : Bool) → eqb x 0 ≡ t → Elementwise d a f (sew (m .mtype))
           go true e = by (pos 0) (sym e)

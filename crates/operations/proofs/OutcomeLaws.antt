@@ -18,7 +18,7 @@ use Rattle.machine.proofs.StepLaws.{step-refused}
 use Rattle.machine.specs.Listing.{decode}
 use Rattle.machine.specs.Answers.{reply, verdict, isDone}
 use Rattle.machine.specs.Geometry.{elen, State, stateOf, machineAfter, Bench, benchOf, scalar, withScalar}
-use Rattle.machine.specs.Setting.{mill, newType, maximum, smaller, sizeIn}
+use Rattle.machine.specs.Setting.{mill, newType, maximum, smaller, chosen, sizeIn}
 use Rattle.machine.specs.Operation.{Operation, askedSize, stateAfter, memoryAfter, resultOf}
 use Rattle.machine.specs.Refusals.{wordAnswer, checks}
 use Rattle.machine.specs.Faults.{sound, soundBench, thirtyTwo}
@@ -169,10 +169,10 @@ module _ (m : Machine) (i : Instruction) (xs regs marks mem : List ℕ) (s : sou
 -- ---- answer 8 of a step, and its word
 
 pub step-fault : (word : ℕ) (xs : List ℕ) (B : Bench) → soundBench B ≡ false → step word xs B ≡ record { answer = reply BadArguments; bench = B; scalars = xs }
-step-fault word xs B h = step-refused smaller word xs B BadArguments refl (rw h)
+step-fault word xs B h = step-refused chosen word xs B BadArguments refl (rw h)
 
 pub step-scalars : (word : ℕ) (xs : List ℕ) (B : Bench) → soundBench B ≡ true → thirtyTwo xs ≡ false → step word xs B ≡ record { answer = reply BadArguments; bench = B; scalars = xs }
-step-scalars word xs B h t = step-refused smaller word xs B BadArguments refl (rw (h, t))
+step-scalars word xs B h t = step-refused chosen word xs B BadArguments refl (rw (h, t))
 
 pub step-decoded : (word : ℕ) (xs : List ℕ) (B : Bench) (i : Instruction) → i ≡ decode word → outcome (ours (B .machine)) i xs B ≡ step word xs B
 unfolding stepBy

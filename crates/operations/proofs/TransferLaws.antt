@@ -13,7 +13,7 @@ use Rattle.machine.specs.declared.Answer.the-variants.{BadWidth, OutsideMemory,
 use Rattle.machine.specs.declared.Matrix.the-variants.{MatrixA, MatrixB, MatrixC}
 use Rattle.machine.specs.Answers.{Check, _otherwise_, verdict, isDone}
 use Rattle.machine.specs.Geometry.{elen, State, stateOf, registerCount, registerAt, startOf, pitchOf}
-use Rattle.machine.specs.Setting.{smaller}
+use Rattle.machine.specs.Setting.{chosen}
 use Rattle.machine.specs.Memory.{rowAt, inside, distinct, unsealed}
 use Rattle.machine.specs.Operation.{Operation, memoryAfter, element, placed, rowsOf, columnsOf, tileRows, tileCols, memoryRows, memoryCols}
 use Rattle.machine.specs.Refusals.{needs, typed, widthOf, fitting}
@@ -63,7 +63,7 @@ module _ (m : Machine) (regs marks mem : List ℕ) (f : Form) (k : Matrix) (r w 
       let d : isDone (verdict first) ≡ true = subst (λ (cs : List Check). isDone (verdict cs) ≡ true) first-is d′ in
       let e : p ≡ here = e′ ∙ here-is in
       subst (λ (p : Placed). (p .start + p .rows * p .pitch ≤ length regs) × ((length marks ≡ length regs) × ((p .columns * w ≤ p .pitch) × (Width w × (w ≤ p .pitch))))) (sym e)
-      (transfer-requires smaller m regs marks h k r w l (passed first refl d))
+      (transfer-requires chosen m regs marks h k r w l (passed first refl d))
 
   pub load-refused : (a : Answer) → a ≡ verdict (transferChecks m k w) → isDone a ≡ false → WritesRegisters m (Operation.load f k r w base stride) regs marks mem a regs marks
   load-refused a e′ d = let e : a ≡ verdict first = e′ ∙ ap verdict first-is in record {

@@ -30,27 +30,27 @@ EachSame (o ∷ os) (o′ ∷ os′) = SameOutcome o o′ × EachSame os os′
 
 -- one word
 abbrev pub StepIgnoresUnmarked : Type 0
-StepIgnoresUnmarked = (grant : ℕ → ℕ → ℕ) (word : ℕ) (xs : List ℕ) (B B′ : Bench) → AlikeBenches B B′
+StepIgnoresUnmarked = (grant : ℕ → ℕ → ℕ → ℕ) (word : ℕ) (xs : List ℕ) (B B′ : Bench) → AlikeBenches B B′
     → SameOutcome (stepBy grant word xs B) (stepBy grant word xs B′)
 
 -- ---- one word after another, refusals included
 
 -- the outcome of each word, with the scalars as the word before left them
-abbrev pub outcomes : (ℕ → ℕ → ℕ) → List ℕ → List ℕ → Bench → List Outcome
+abbrev pub outcomes : (ℕ → ℕ → ℕ → ℕ) → List ℕ → List ℕ → Bench → List Outcome
 outcomes grant [] xs B = []
 outcomes grant (w ∷ ws) xs B = let o : Outcome = stepBy grant w xs B in o ∷ outcomes grant ws (o .scalars) (o .bench)
 
 -- "given the same words one after another .. after each", the scalars lent once
 abbrev pub WordsIgnoreUnmarked : Type 0
-WordsIgnoreUnmarked = (grant : ℕ → ℕ → ℕ) (ws xs : List ℕ) (B B′ : Bench) → AlikeBenches B B′
+WordsIgnoreUnmarked = (grant : ℕ → ℕ → ℕ → ℕ) (ws xs : List ℕ) (B B′ : Bench) → AlikeBenches B B′
     → EachSame (outcomes grant ws xs B) (outcomes grant ws xs B′)
 
 -- the outcome of each word, with the scalars that it is given
-abbrev pub outcomesGiven : (ℕ → ℕ → ℕ) → List Given → Bench → List Outcome
+abbrev pub outcomesGiven : (ℕ → ℕ → ℕ → ℕ) → List Given → Bench → List Outcome
 outcomesGiven grant [] B = []
 outcomesGiven grant (w ∷ ws) B = let o : Outcome = stepBy grant (w .word) (w .scalars) B in o ∷ outcomesGiven grant ws (o .bench)
 
 -- the same, the scalars given with each word
 abbrev pub GivenWordsIgnoreUnmarked : Type 0
-GivenWordsIgnoreUnmarked = (grant : ℕ → ℕ → ℕ) (ws : List Given) (B B′ : Bench) → AlikeBenches B B′
+GivenWordsIgnoreUnmarked = (grant : ℕ → ℕ → ℕ → ℕ) (ws : List Given) (B B′ : Bench) → AlikeBenches B B′
     → EachSame (outcomesGiven grant ws B) (outcomesGiven grant ws B′)

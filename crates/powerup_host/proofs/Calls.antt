@@ -13,7 +13,7 @@ use Rattle.machine.specs.Tests.{every}
 use Rattle.machine.specs.declared.Reply.{Reply}
 use Rattle.machine.specs.Answers.{reply, done}
 use Rattle.machine.specs.Geometry.{Bench, benchOf}
-use Rattle.machine.specs.Setting.{smaller}
+use Rattle.machine.specs.Setting.{chosen}
 use Rattle.machine.specs.Starting.{startable, startMachine, freshMachine, noMachine}
 use Rattle.machine.specs.Alike.{Agree}
 use Rattle.run.specs.declared.Plan.{Plan}
@@ -21,8 +21,8 @@ use Rattle.run.specs.declared.Run.{Run}
 use Rattle.run.specs.Start.{startRun}
 use Rattle.run.specs.Turn.{Running, turnOutcome, turns}
 use Rattle.run.specs.Whole.{whole}
-use Rattle.blocks.specs.Blocks.{machineOf, putMachine, valuesOf, putValues, putNumbers, packed}
-use Rattle.run_blocks.specs.RunBlocks.{putRun}
+use Rattle.blocks.specs.Blocks.{machineBytes, machineOf, putMachine, valuesOf, putValues, putNumbers, packed}
+use Rattle.run_blocks.specs.RunBlocks.{runBytes, putRun}
 use Rattle.scalar_block.specs.ScalarBlock.{stepBlock}
 use Rattle.bodlarina.specs.Host.{startedOut, shownStart, hostStart, steppedOut, shownStep, hostStep, runStartedOut, shownRunStart, hostRunStart, turnedOut, shownRunning, heldRunning, turnBlocks, shownTurn, hostTurn, shownTurns, hostTurns, ranOut, shownRun, hostRun}
 use Rattle.powerup.specs.Steps.{AlikeBenches}
@@ -54,11 +54,11 @@ agreeing machine marks scalars memory run step steps xs ys a = record {
 }
 
 -- what a start leaves, by its tests on the machine's block and on the rest
-abbrev startOn : (rlen mlen sealStart sealLength : ℕ) → Buffers → Bool → Bool → Called
-startOn rlen mlen sealStart sealLength b t u =
+abbrev startOn : (rlen mlen rule sealStart sealLength : ℕ) → Buffers → Bool → Bool → Called
+startOn rlen mlen rule sealStart sealLength b t u =
     afterStart b (cond t
     (shownStart (b .machine) (cond u
-    (record { answer = reply Done; machine = freshMachine rlen mlen sealStart sealLength; registers = b .registers; marks = replicate (length (b .marks)) 0 })
+    (record { answer = reply Done; machine = freshMachine rlen mlen rule sealStart sealLength; registers = b .registers; marks = replicate (length (b .marks)) 0 })
     (record { answer = reply BadArguments; machine = noMachine; registers = b .registers; marks = b .marks })))
     (startedOut (packed (reply BadArguments)) (b .machine) (b .registers) (b .marks)))
 
@@ -73,21 +73,21 @@ module _ (b : Buffers) (ys : List ℕ) (a : Agree (b .marks) (b .registers) ys) 
   benches : AlikeBenches (bench (b .registers)) (bench ys)
   benches = record { alike = record { same-machine = refl; same-marks = refl; agree = a }; same-memory = refl }
 
-  start-same : (rlen mlen sealStart sealLength : ℕ) → SameCalled (called (Call.start rlen mlen sealStart sealLength) b) (called (Call.start rlen mlen sealStart sealLength) (with b ys))
+  start-same : (rlen mlen rule sealStart sealLength : ℕ) → SameCalled (called (Call.start rlen mlen rule sealStart sealLength) b) (called (Call.start rlen mlen rule sealStart sealLength) (with b ys))
   unfolding hostStart startMachine
-  start-same rlen mlen sealStart sealLength =
-      subst (λ (u : Bool). SameCalled (called (Call.start rlen mlen sealStart sealLength) b) (startOn rlen mlen sealStart sealLength (with b ys) (eqb (length (b .machine)) 64) u))
-      (startable-same rlen mlen sealStart sealLength (b .registers) ys (b .marks) (b .marks) (a .same-length) refl)
-      (go (eqb (length (b .machine)) 64) (startable rlen mlen sealStart sealLength (b .registers) (b .marks)))
+  start-same rlen mlen rule sealStart sealLength =
+      subst (λ (u : Bool). SameCalled (called (Call.start rlen mlen rule sealStart sealLength) b) (startOn rlen mlen rule sealStart sealLength (with b ys) (eqb (length (b .machine)) machineBytes) u))
+      (startable-same rlen mlen rule sealStart sealLength (b .registers) ys (b .marks) (b .marks) (a .same-length) refl)
+      (go (eqb (length (b .machine)) machineBytes) (startable rlen mlen rule sealStart sealLength (b .registers) (b .marks)))
     where
-      go : (t u : Bool) → SameCalled (startOn rlen mlen sealStart sealLength b t u) (startOn rlen mlen sealStart sealLength (with b ys) t u)
+      go : (t u : Bool) → SameCalled (startOn rlen mlen rule sealStart sealLength b t u) (startOn rlen mlen rule sealStart sealLength (with b ys) t u)
       go true true = record { same-result = refl; alike-after = agreeing _ _ _ _ _ _ _ _ _ (unmarked-agree (length (b .marks)) (b .registers) ys (a .same-length)) }
       go true false = record { same-result = refl; alike-after = kept }
       go false u = record { same-result = refl; alike-after = kept }
 
   step-same : (word : ℕ) → SameCalled (called (Call.step word) b) (called (Call.step word) (with b ys))
   unfolding hostStep
-  step-same word = go (every (eqb (length (b .machine)) 64 ∷ eqb (length (b .scalars)) 256 ∷ []))
+  step-same word = go (every (eqb (length (b .machine)) machineBytes ∷ eqb (length (b .scalars)) 256 ∷ []))
     where
       out : Bool → List ℕ → Called
       out t xs =
@@ -95,7 +95,7 @@ module _ (b : Buffers) (ys : List ℕ) (a : Agree (b .marks) (b .registers) ys) 
 
       go : (t : Bool) → SameCalled (out t (b .registers)) (out t ys)
       go true =
-          let k = step-ignores-unmarked smaller word (valuesOf (b .scalars)) (bench (b .registers)) (bench ys) benches in
+          let k = step-ignores-unmarked chosen word (valuesOf (b .scalars)) (bench (b .registers)) (bench ys) benches in
           record {
             same-result = ap packed (k .same-answer);
             alike-after = record {
@@ -113,15 +113,15 @@ module _ (b : Buffers) (ys : List ℕ) (a : Agree (b .marks) (b .registers) ys) 
 
   run-start-same : (P : Plan) → SameCalled (called (Call.runStart P) b) (called (Call.runStart P) (with b ys))
   unfolding hostRunStart
-  run-start-same P = go (every (eqb (length (b .machine)) 64 ∷ eqb (length (b .run)) 144 ∷ []))
+  run-start-same P = go (every (eqb (length (b .machine)) machineBytes ∷ eqb (length (b .run)) runBytes ∷ []))
     where
       out : Bool → List ℕ → Called
       out t xs =
-          afterRunStart b (cond t (shownRunStart (b .machine) (b .run) (startRun smaller P (bench xs))) (runStartedOut (packed (reply BadArguments)) (b .machine) xs (b .marks) (b .memory) (b .run)))
+          afterRunStart b (cond t (shownRunStart (b .machine) (b .run) (startRun chosen P (bench xs))) (runStartedOut (packed (reply BadArguments)) (b .machine) xs (b .marks) (b .memory) (b .run)))
 
       go : (t : Bool) → SameCalled (out t (b .registers)) (out t ys)
       go true =
-          let k = run-start-ignores-unmarked smaller P (bench (b .registers)) (bench ys) benches in
+          let k = run-start-ignores-unmarked chosen P (bench (b .registers)) (bench ys) benches in
           record {
             same-result = ap packed (k .same-answer);
             alike-after = record {
@@ -164,11 +164,11 @@ module _ (b : Buffers) (ys : List ℕ) (a : Agree (b .marks) (b .registers) ys) 
     where
       out : Bool → List ℕ → Called
       out t xs =
-          afterTurn b (cond t (shownTurn (b .run) (b .machine) (turnOutcome smaller (heldRunning (b .run) (b .machine) xs (b .marks) (b .memory)))) (turnedOut (packed (reply BadArguments)) (b .run) (b .machine) xs (b .marks) (b .memory)))
+          afterTurn b (cond t (shownTurn (b .run) (b .machine) (turnOutcome chosen (heldRunning (b .run) (b .machine) xs (b .marks) (b .memory)))) (turnedOut (packed (reply BadArguments)) (b .run) (b .machine) xs (b .marks) (b .memory)))
 
       go : (t : Bool) → SameCalled (out t (b .registers)) (out t ys)
       go true =
-          let k = turns-ignore-unmarked smaller (heldRunning (b .run) (b .machine) (b .registers) (b .marks) (b .memory)) (heldRunning (b .run) (b .machine) ys (b .marks) (b .memory)) held zero .1 in
+          let k = turns-ignore-unmarked chosen (heldRunning (b .run) (b .machine) (b .registers) (b .marks) (b .memory)) (heldRunning (b .run) (b .machine) ys (b .marks) (b .memory)) held zero .1 in
           running-same _ _ _ _ (ap packed (k .same-answer)) (k .same-after)
       go false = record { same-result = refl; alike-after = kept }
 
@@ -178,25 +178,25 @@ module _ (b : Buffers) (ys : List ℕ) (a : Agree (b .marks) (b .registers) ys) 
     where
       out : Bool → List ℕ → Called
       out t xs =
-          afterTurn b (cond t (shownTurns (b .run) (b .machine) (turns smaller (heldRunning (b .run) (b .machine) xs (b .marks) (b .memory)) limit)) (turnedOut 0 (b .run) (b .machine) xs (b .marks) (b .memory)))
+          afterTurn b (cond t (shownTurns (b .run) (b .machine) (turns chosen (heldRunning (b .run) (b .machine) xs (b .marks) (b .memory)) limit)) (turnedOut 0 (b .run) (b .machine) xs (b .marks) (b .memory)))
 
       go : (t : Bool) → SameCalled (out t (b .registers)) (out t ys)
       go true =
-          let k = turns-ignore-unmarked smaller (heldRunning (b .run) (b .machine) (b .registers) (b .marks) (b .memory)) (heldRunning (b .run) (b .machine) ys (b .marks) (b .memory)) held limit .0 in
+          let k = turns-ignore-unmarked chosen (heldRunning (b .run) (b .machine) (b .registers) (b .marks) (b .memory)) (heldRunning (b .run) (b .machine) ys (b .marks) (b .memory)) held limit .0 in
           running-same _ _ _ _ (k .same-count) (k .same-after)
       go false = record { same-result = refl; alike-after = kept }
 
   run-same : (P : Plan) → SameCalled (called (Call.run P) b) (called (Call.run P) (with b ys))
   unfolding hostRun
-  run-same P = go (every (eqb (length (b .machine)) 64 ∷ eqb (length (b .steps)) 8 ∷ []))
+  run-same P = go (every (eqb (length (b .machine)) machineBytes ∷ eqb (length (b .steps)) 8 ∷ []))
     where
       out : Bool → List ℕ → Called
       out t xs =
-          afterRun b (cond t (shownRun (b .machine) (b .steps) (whole smaller P (bench xs))) (ranOut (packed (reply BadArguments)) (b .machine) xs (b .marks) (b .memory) (b .steps)))
+          afterRun b (cond t (shownRun (b .machine) (b .steps) (whole chosen P (bench xs))) (ranOut (packed (reply BadArguments)) (b .machine) xs (b .marks) (b .memory) (b .steps)))
 
       go : (t : Bool) → SameCalled (out t (b .registers)) (out t ys)
       go true =
-          let k = whole-ignores-unmarked smaller P (bench (b .registers)) (bench ys) benches in
+          let k = whole-ignores-unmarked chosen P (bench (b .registers)) (bench ys) benches in
           record {
             same-result = ap packed (k .same-answer);
             alike-after = record {
@@ -213,7 +213,7 @@ module _ (b : Buffers) (ys : List ℕ) (a : Agree (b .marks) (b .registers) ys) 
       go false = record { same-result = refl; alike-after = kept }
 
   each-same : (c : Call) → SameCalled (called c b) (called c (with b ys))
-  each-same (Call.start rlen mlen sealStart sealLength) = start-same rlen mlen sealStart sealLength
+  each-same (Call.start rlen mlen rule sealStart sealLength) = start-same rlen mlen rule sealStart sealLength
   each-same (Call.step word) = step-same word
   each-same (Call.runStart P) = run-start-same P
   each-same Call.runNext = record { same-result = refl; alike-after = agreeing _ _ _ _ _ _ _ _ _ a }
@@ -239,13 +239,13 @@ calls-ignore-unmarked (c ∷ cs) b b′ t =
 abbrev Starts : Called → Called → Type 0
 Starts o o′ = (o .result ≡ o′ .result) × (o .result ≡ 0 → AlikeBuffers (o .after) (o′ .after))
 
-module _ (rlen mlen sealStart sealLength : ℕ) (b b′ : Buffers) (p : AtPowerUp b b′) where
-  starts : (t u : Bool) → eqb (length (b .machine)) 64 ≡ t → Starts (startOn rlen mlen sealStart sealLength b t u) (startOn rlen mlen sealStart sealLength b′ t u)
+module _ (rlen mlen rule sealStart sealLength : ℕ) (b b′ : Buffers) (p : AtPowerUp b b′) where
+  starts : (t u : Bool) → eqb (length (b .machine)) machineBytes ≡ t → Starts (startOn rlen mlen rule sealStart sealLength b t u) (startOn rlen mlen rule sealStart sealLength b′ t u)
   starts true true e =
-      let n : length (b .machine) ≡ 64 = eqb-true (length (b .machine)) 64 e in (
+      let n : length (b .machine) ≡ machineBytes = eqb-true (length (b .machine)) machineBytes e in (
         refl,
         λ d. record {
-          same-machine = putMachine-fills (freshMachine rlen mlen sealStart sealLength) (b .machine) (b′ .machine) n (sym (p .machine-length) ∙ n);
+          same-machine = putMachine-fills (freshMachine rlen mlen rule sealStart sealLength) (b .machine) (b′ .machine) n (sym (p .machine-length) ∙ n);
           same-marks = ap (λ (k : ℕ). replicate k 0) (p .marks-length);
           agree = unmarked-agree (length (b .marks)) (b .registers) (b′ .registers) (p .registers-length);
           same-scalars = p .same-scalars;
@@ -258,21 +258,21 @@ module _ (rlen mlen sealStart sealLength : ℕ) (b b′ : Buffers) (p : AtPowerU
   starts true false e = (refl, λ d. let z : _≡_ {A = ℕ} 8 0 = d in absurd (omega arith))
   starts false u e = (refl, λ d. let z : _≡_ {A = ℕ} 8 0 = d in absurd (omega arith))
 
-  both : Starts (called (Call.start rlen mlen sealStart sealLength) b) (called (Call.start rlen mlen sealStart sealLength) b′)
+  both : Starts (called (Call.start rlen mlen rule sealStart sealLength) b) (called (Call.start rlen mlen rule sealStart sealLength) b′)
   unfolding hostStart startMachine
   both =
-      subst (λ (t : Bool). Starts (called (Call.start rlen mlen sealStart sealLength) b) (startOn rlen mlen sealStart sealLength b′ t (startable rlen mlen sealStart sealLength (b′ .registers) (b′ .marks))))
-      (ap (λ (n : ℕ). eqb n 64) (p .machine-length))
-      (subst (λ (u : Bool). Starts (called (Call.start rlen mlen sealStart sealLength) b) (startOn rlen mlen sealStart sealLength b′ (eqb (length (b .machine)) 64) u))
-      (startable-same rlen mlen sealStart sealLength (b .registers) (b′ .registers) (b .marks) (b′ .marks) (p .registers-length) (p .marks-length))
-      (starts (eqb (length (b .machine)) 64) (startable rlen mlen sealStart sealLength (b .registers) (b .marks)) refl))
+      subst (λ (t : Bool). Starts (called (Call.start rlen mlen rule sealStart sealLength) b) (startOn rlen mlen rule sealStart sealLength b′ t (startable rlen mlen rule sealStart sealLength (b′ .registers) (b′ .marks))))
+      (ap (λ (n : ℕ). eqb n machineBytes) (p .machine-length))
+      (subst (λ (u : Bool). Starts (called (Call.start rlen mlen rule sealStart sealLength) b) (startOn rlen mlen rule sealStart sealLength b′ (eqb (length (b .machine)) machineBytes) u))
+      (startable-same rlen mlen rule sealStart sealLength (b .registers) (b′ .registers) (b .marks) (b′ .marks) (p .registers-length) (p .marks-length))
+      (starts (eqb (length (b .machine)) machineBytes) (startable rlen mlen rule sealStart sealLength (b .registers) (b .marks)) refl))
 
 pub power-up-never-matters-to-hosts : PowerUpNeverMattersToHosts
-power-up-never-matters-to-hosts rlen mlen sealStart sealLength b b′ p =
-    let s = both rlen mlen sealStart sealLength b b′ p in
+power-up-never-matters-to-hosts rlen mlen rule sealStart sealLength b b′ p =
+    let s = both rlen mlen rule sealStart sealLength b b′ p in
     record {
       same-result = s .0;
       alike-after = s .1;
       same-calls = λ d cs.
-          calls-ignore-unmarked cs (called (Call.start rlen mlen sealStart sealLength) b .after) (called (Call.start rlen mlen sealStart sealLength) b′ .after) (s .1 d);
+          calls-ignore-unmarked cs (called (Call.start rlen mlen rule sealStart sealLength) b .after) (called (Call.start rlen mlen rule sealStart sealLength) b′ .after) (s .1 d);
     }

@@ -60,5 +60,5 @@ pub record SameFromStart (o o′ : Called) : Type 0 where
   pub same-calls : o .result ≡ 0 → (cs : List Call) → EachSameCalled (calls cs (o .after)) (calls cs (o′ .after))
 
 abbrev pub PowerUpNeverMattersToHosts : Type 0
-PowerUpNeverMattersToHosts = (rlen mlen sealStart sealLength : ℕ) (b b′ : Buffers) → AtPowerUp b b′
-    → SameFromStart (called (Call.start rlen mlen sealStart sealLength) b) (called (Call.start rlen mlen sealStart sealLength) b′)
+PowerUpNeverMattersToHosts = (rlen mlen rule sealStart sealLength : ℕ) (b b′ : Buffers) → AtPowerUp b b′
+    → SameFromStart (called (Call.start rlen mlen rule sealStart sealLength) b) (called (Call.start rlen mlen rule sealStart sealLength) b′)

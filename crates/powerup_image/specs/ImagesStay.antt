@@ -16,10 +16,10 @@ imagesAfter os = map (λ (o : Outcome). imageIn (o .bench)) os
 
 -- the scalars lent once
 abbrev pub ImagesStayEqual : Type 0
-ImagesStayEqual = (grant : ℕ → ℕ → ℕ) (ws xs : List ℕ) (B B′ : Bench) → AlikeBenches B B′
+ImagesStayEqual = (grant : ℕ → ℕ → ℕ → ℕ) (ws xs : List ℕ) (B B′ : Bench) → AlikeBenches B B′
     → (imageIn B ≡ imageIn B′) × (imagesAfter (outcomes grant ws xs B) ≡ imagesAfter (outcomes grant ws xs B′))
 
 -- the scalars given with each word
 abbrev pub ImagesStayEqualGiven : Type 0
-ImagesStayEqualGiven = (grant : ℕ → ℕ → ℕ) (ws : List Given) (B B′ : Bench) → AlikeBenches B B′
+ImagesStayEqualGiven = (grant : ℕ → ℕ → ℕ → ℕ) (ws : List Given) (B B′ : Bench) → AlikeBenches B B′
     → (imageIn B ≡ imageIn B′) × (imagesAfter (outcomesGiven grant ws B) ≡ imagesAfter (outcomesGiven grant ws B′))

@@ -1,19 +1,17 @@
--- The starts of blocks: a run comes to no other place, and by the smaller size they are the multiples of the most.
+-- The starts of blocks: a run comes to no other place; and how code tells them.
 use mathlib.Core.Path.{_≡_, refl, sym, ap, _∙_, subst}
 use mathlib.Core.Logic.{_⊎_, inl, inr}
 use mathlib.Core.Bool.{Bool, true, false, cond}
 use mathlib.Core.List.{[], _∷_}
-use Prim.Native.Nat.{ℕ, zero, suc, _+_, _-_, _%_, _≤_, _<_, min}
-use native.Mathlib.Nat.{zero-mod, mod-eq-of-lt, mod-eq-sub-mod}
+use Prim.Native.Nat.{ℕ, zero, suc, _+_, _*_, _-_, _/_, _≤_, _<_}
+use native.Mathlib.Nat.{div-eq-of-lt, add-div-right}
 use native.Mathlib.Omega.{arith}
 use lib.Dec.{ltb, eqb}
 use borrow.Author.Tests.{ltb-true, lt-ltb, eqb-true, eq-eqb, ne-eqb}
 use Rattle.width.specs.Blocks.{Grants, count, starts, chunks}
 use Rattle.width.proofs.BlockLaws.{le-or-lt, granted, chunks-end, chunks-next}
 use Rattle.machine.specs.Tests.{isIn}
-use Rattle.machine.specs.Setting.{smaller}
 use Rattle.machine.proofs.TestLaws.{or-right, or-not, false-true, every-each, each-every, each, each-in}
-use Rattle.machine.proofs.StepLaws.{smaller-grants}
 use Rattle.run.specs.declared.Place.{Place}
 use Rattle.run.specs.declared.Place.the-variants.{AtType, AtM, AtN, AtClear, AtK, AtA, AtB, AtMultiply, AtStore, AtEnd}
 use Rattle.run.specs.Words.{Shape, sizeM, sizeN, sizeK}
@@ -111,40 +109,83 @@ module _ (S : Shape) (G : Sound S) where
       head-n i (j + sizeN S j) (t .0) (next-start (S .grant) (G .rule) (S .tn) (G .0<tn) (S .n) j (t .1 .0))
   begins-next AtEnd h = refl
 
--- ---- for code: by the smaller size
+-- ---- for code: where a block starts
 
-module _ (max total : ℕ) (0<max : zero < max) where
+module _ (grant : ℕ → ℕ → ℕ) (G : Grants grant) (max : ℕ) (0<max : zero < max) (total : ℕ) where
+  -- what is granted from s on
+  abbrev size : ℕ → ℕ
+  size s = grant max (total - s)
+
   -- no block starts before the first
-  below : (c s i : ℕ) → i < s → isIn i (starts smaller max total c s) ≡ false
+  below : (c s i : ℕ) → i < s → isIn i (starts grant max total c s) ≡ false
   below zero s i l = refl
-  below (suc c) s i l = rw (ne-eqb i s (λ e. omega arith)) (below c (s + smaller max (total - s)) i (omega arith))
+  below (suc c) s i l = rw (ne-eqb i s (λ e. omega arith)) (below c (s + size s) i (omega arith))
 
-  before : (s i : ℕ) → i < s → isIn i (chunks smaller max total s) ≡ false
+  before : (s i : ℕ) → i < s → isIn i (chunks grant max total s) ≡ false
   unfolding chunks
   before s i l = below (count max (total - s)) s i l
 
-  -- d past the first start, in its block
-  in-first : (s d i : ℕ) → d < max → i ≡ s + d → i < total → isIn i (chunks smaller max total s) ≡ eqb (d % max) 0
-  in-first s zero i g e l =
-      let q : i ≡ s = omega arith in
-      subst (λ (x : ℕ). isIn i (chunks smaller max total x) ≡ eqb (0 % max) 0) q (begin smaller smaller-grants max 0<max total i l ∙ sym (eq-eqb (0 % max) 0 (zero-mod max)))
-  in-first s (suc d) i g e l =
-      rw (chunks-next smaller smaller-grants max 0<max total s (omega arith), ne-eqb i s (λ q. omega arith), mod-eq-of-lt g, ne-eqb (suc d) 0 (λ q. omega arith))
-      (before (s + smaller max (total - s)) i (omega arith))
+  -- what is left after s is at most what is granted next, so that only one more block starts
+  last : (s i : ℕ) → s < i → i < total → total - s ≤ max → isIn i (chunks grant max total s) ≡ false
+  last s i l h few =
+      rw (chunks-next grant G max 0<max total s (omega arith), ne-eqb i s (λ e. omega arith))
+      (before (s + size s) i (omega (arith, G .small max (total - s) few)))
 
-  -- and in any, with d at most c
-  multiples : (c s d i : ℕ) → d ≤ c → i ≡ s + d → i < total → isIn i (chunks smaller max total s) ≡ eqb (d % max) 0
-  multiples zero s d i f e l = in-first s d i (omega arith) e l
-  multiples (suc c) s d i f e l = go (le-or-lt max d) (multiples c (s + max) (d - max) i)
+  -- at most the maximum past a start s, a block starts just where that of s ends
+  in-first : (s i : ℕ) → s < i → i < total → i ≤ s + max → isIn i (chunks grant max total s) ≡ eqb (s + size s) i
+  in-first s i l h m = rw (chunks-next grant G max 0<max total s (omega arith), ne-eqb i s (λ e. omega arith)) (go (le-or-lt (s + size s) i) (le-or-lt i (s + size s)))
     where
-      go : (max ≤ d) ⊎ (d < max)
-          → (d - max ≤ c → i ≡ s + max + (d - max) → i < total → isIn i (chunks smaller max total (s + max)) ≡ eqb ((d - max) % max) 0)
-          → isIn i (chunks smaller max total s) ≡ eqb (d % max) 0
-      go (inl g) ih =
-          let m : min (total - s) max ≡ max = omega arith in
-          rw (chunks-next smaller smaller-grants max 0<max total s (omega arith), ne-eqb i s (λ q. omega arith), m, mod-eq-sub-mod g)
-          (ih (omega arith) (omega arith) l)
-      go (inr g) ih = in-first s d i g e l
+      go : (s + size s ≤ i) ⊎ (i < s + size s) → (i ≤ s + size s) ⊎ (s + size s < i) → isIn i (chunks grant max total (s + size s)) ≡ eqb (s + size s) i
+      go (inl a) (inl b) =
+          let e : s + size s ≡ i = omega arith in
+          subst (λ (x : ℕ). isIn i (chunks grant max total x) ≡ eqb x i) (sym e) (begin grant G max 0<max total i h ∙ sym (eq-eqb i i refl))
+      go (inl a) (inr b) = rw (ne-eqb (s + size s) i (λ e. omega arith)) (last (s + size s) i b h (few (le-or-lt (2 * max) (total - s)) b))
+        where
+          few : (2 * max ≤ total - s) ⊎ (total - s < 2 * max) → s + size s < i → total - (s + size s) ≤ max
+          few (inl k) b = absurd (omega (arith, G .large max (total - s) k))
+          few (inr k) b = omega (arith, G .middle max (total - s) k)
+      go (inr a) _ = rw (ne-eqb (s + size s) i (λ e. omega arith)) (before (s + size s) i a)
 
-  pub starts-by : (i : ℕ) → i < total → (r : ℕ) → r ≡ max → eqb (i % r) 0 ≡ isIn i (chunks smaller max total 0)
-  starts-by i l r e = ap (λ (x : ℕ). eqb (i % x) 0) e ∙ sym (multiples i 0 i i (omega arith) (omega arith) l)
+  -- the last multiple of the maximum, from s on, that lies before i
+  abbrev base : (s i : ℕ) → ℕ
+  base s i = s + (i - 1 - s) / max * max
+
+  base-first : (s i : ℕ) → s < i → i ≤ s + max → base s i ≡ s
+  base-first s i l m = let q : (i - 1 - s) / max ≡ 0 = div-eq-of-lt (omega arith) in rw q (omega arith)
+
+  base-next : (s i : ℕ) → s + max < i → base s i ≡ base (s + max) i
+  base-next s i l =
+      let e : i - 1 - s ≡ (i - 1 - (s + max)) + max = omega arith in
+      rw (e, add-div-right (i - 1 - (s + max)) 0<max) (omega arith)
+
+  -- a block starts just where that of this multiple ends, with i - s at most c
+  starts-at : (c s i : ℕ) → i - s ≤ c → s < i → i < total → isIn i (chunks grant max total s) ≡ eqb (base s i + size (base s i)) i
+  starts-at zero s i f l h = absurd (omega arith)
+  starts-at (suc c) s i f l h = go (le-or-lt i (s + max)) (le-or-lt (2 * max) (total - s)) (starts-at c (s + max) i)
+    where
+      by : ℕ → Bool
+      by b = eqb (b + size b) i
+
+      go : (i ≤ s + max) ⊎ (s + max < i) → (2 * max ≤ total - s) ⊎ (total - s < 2 * max)
+          → (i - (s + max) ≤ c → s + max < i → i < total → isIn i (chunks grant max total (s + max)) ≡ by (base (s + max) i))
+          → isIn i (chunks grant max total s) ≡ by (base s i)
+      go (inl m) _ ih = in-first s i l h m ∙ ap by (sym (base-first s i l m))
+      go (inr m) (inl k) ih =
+          rw (chunks-next grant G max 0<max total s (omega arith), ne-eqb i s (λ e. omega arith), G .large max (total - s) k)
+          (ih (omega arith) m h ∙ ap by (sym (base-next s i m)))
+      go (inr m) (inr k) ih =
+          let e : base s i ≡ s + max = base-next s i m ∙ base-first (s + max) i m (omega arith) in
+          let g : size (s + max) ≡ total - (s + max) = G .small max (total - (s + max)) (omega arith) in
+          rw (chunks-next grant G max 0<max total s (omega arith), ne-eqb i s (λ e. omega arith))
+          (last (s + size s) i (omega (arith, G .middle max (total - s) k)) h (omega (arith, G .middle max (total - s) k))
+          ∙ sym (ne-eqb (s + max + size (s + max)) i (λ q. omega (arith, g, q))) ∙ ap by (sym e))
+
+  -- from the start of all on
+  pub starts-first : zero < total → isIn 0 (chunks grant max total 0) ≡ true
+  starts-first = begin grant G max 0<max total 0
+
+  pub starts-by : (i : ℕ) → zero < i → i < total
+      → let b : ℕ = (i - 1) / max * max in eqb (b + size b) i ≡ isIn i (chunks grant max total 0)
+  starts-by i l h =
+      let e : (i - 1) / max * max ≡ base 0 i = ap (λ (x : ℕ). x / max * max) {x = i - 1} {y = i - 1 - 0} (omega arith) ∙ omega arith in
+      ap (λ (b : ℕ). eqb (b + size b) i) e ∙ sym (starts-at i 0 i (omega arith) l h)

@@ -26,10 +26,10 @@ use Rattle.run.proofs.HandedLaws.{turnWith}
 
 -- ---- one after another
 
-harmless : (grant : ℕ → ℕ → ℕ) (B : Bench) → Unharmed grant B B
+harmless : (grant : ℕ → ℕ → ℕ → ℕ) (B : Bench) → Unharmed grant B B
 harmless grant B = record { same-parameters = refl; same-length = refl; same-bytes = λ q h. refl }
 
-then : (grant : ℕ → ℕ → ℕ) (B C D : Bench) → Unharmed grant B C → Unharmed grant C D → Unharmed grant B D
+then : (grant : ℕ → ℕ → ℕ → ℕ) (B C D : Bench) → Unharmed grant B C → Unharmed grant C D → Unharmed grant B D
 then grant B C D u v = record {
   same-parameters = v .same-parameters ∙ u .same-parameters;
   same-length = v .same-length ∙ u .same-length;
@@ -38,14 +38,14 @@ then grant B C D u v = record {
 
 -- ---- turns
 
-turn-unharmed : (grant : ℕ → ℕ → ℕ) (r : Running) → Unharmed grant (r .bench) (turn grant r .after .bench)
+turn-unharmed : (grant : ℕ → ℕ → ℕ → ℕ) (r : Running) → Unharmed grant (r .bench) (turn grant r .after .bench)
 turn-unharmed grant r = go (handsOut grant (r .run))
   where
     go : (o : Option Op) → Unharmed grant (r .bench) (turnWith grant r o .after .bench)
     go none = harmless grant (r .bench)
     go (some o) = let h : Handed = handedFor (r .run .plan) o in step-unharmed grant (h .word) (own h) (r .bench)
 
-turns-unharmed : (grant : ℕ → ℕ → ℕ) (r : Running) (t : ℕ) → Unharmed grant (r .bench) (afterTurns grant r t .bench)
+turns-unharmed : (grant : ℕ → ℕ → ℕ → ℕ) (r : Running) (t : ℕ) → Unharmed grant (r .bench) (afterTurns grant r t .bench)
 turns-unharmed grant r zero = harmless grant (r .bench)
 turns-unharmed grant r (suc t) =
     then grant (r .bench) (afterTurns grant r t .bench) (afterTurns grant r (suc t) .bench) (turns-unharmed grant r t) (turn-unharmed grant (afterTurns grant r t))
@@ -56,7 +56,7 @@ turns-unharmed grant r (suc t) =
 abbrev lent : Bench → List ℕ → Bench
 lent B memory = benchOf (B .machine) (B .registers) (B .marks) memory
 
-act-unharmed : (grant : ℕ → ℕ → ℕ) (a : Act) (S : Session) → Unharmed grant (lent (S .bench) (lentBy a (S .bench .memory))) (act grant a S .after .bench)
+act-unharmed : (grant : ℕ → ℕ → ℕ → ℕ) (a : Act) (S : Session) → Unharmed grant (lent (S .bench) (lentBy a (S .bench .memory))) (act grant a S .after .bench)
 unfolding startRun
 act-unharmed grant (Act.lend xs memory) S = harmless grant (lent (S .bench) memory)
 act-unharmed grant (Act.step word) S = step-unharmed grant word (S .scalars) (S .bench)
@@ -77,7 +77,7 @@ lent-same Q r (Act.runTurn ∷ acts) m m′ h = lent-same Q r acts m m′ h
 lent-same Q r (Act.runTurns n ∷ acts) m m′ h = lent-same Q r acts m m′ h
 lent-same Q r (Act.run P ∷ acts) m m′ h = lent-same Q r acts m m′ h
 
-lent-unharmed : (grant : ℕ → ℕ → ℕ) (acts : List Act) (B C : Bench) → Unharmed grant B C
+lent-unharmed : (grant : ℕ → ℕ → ℕ → ℕ) (acts : List Act) (B C : Bench) → Unharmed grant B C
     → Unharmed grant (lent B (lentLast acts (B .memory))) (lent C (lentLast acts (C .memory)))
 lent-unharmed grant acts B C u = record {
   same-parameters = u .same-parameters;
@@ -95,26 +95,26 @@ seal-holds-over-acts grant (a ∷ acts) S =
 
 -- ---- from a start
 
-module _ (grant : ℕ → ℕ → ℕ) (rlen mlen sealStart sealLength : ℕ) (registers marks memory : List ℕ) where
+module _ (grant : ℕ → ℕ → ℕ → ℕ) (rlen mlen rule sealStart sealLength : ℕ) (registers marks memory : List ℕ) where
   abbrev B₀ : Bench
-  B₀ = startedBench rlen mlen sealStart sealLength registers marks memory
+  B₀ = startedBench rlen mlen rule sealStart sealLength registers marks memory
 
-  fresh : startMachine rlen mlen sealStart sealLength registers marks .answer .number ≡ 0
-      → startMachine rlen mlen sealStart sealLength registers marks .machine ≡ freshMachine rlen mlen sealStart sealLength
+  fresh : startMachine rlen mlen rule sealStart sealLength registers marks .answer .number ≡ 0
+      → startMachine rlen mlen rule sealStart sealLength registers marks .machine ≡ freshMachine rlen mlen rule sealStart sealLength
   unfolding startMachine
-  fresh = go (startable rlen mlen sealStart sealLength registers marks)
+  fresh = go (startable rlen mlen rule sealStart sealLength registers marks)
     where
       out : Bool → StartOutcome
-      out t = cond t (record { answer = reply Done; machine = freshMachine rlen mlen sealStart sealLength; registers = registers; marks = replicate (length marks) 0 })
+      out t = cond t (record { answer = reply Done; machine = freshMachine rlen mlen rule sealStart sealLength; registers = registers; marks = replicate (length marks) 0 })
           (record { answer = reply BadArguments; machine = noMachine; registers = registers; marks = marks })
 
-      go : (t : Bool) → out t .answer .number ≡ 0 → out t .machine ≡ freshMachine rlen mlen sealStart sealLength
+      go : (t : Bool) → out t .answer .number ≡ 0 → out t .machine ≡ freshMachine rlen mlen rule sealStart sealLength
       go true e = refl
       go false e = absurd (omega arith)
 
-  pub kept-from : (B : Bench) (mem : List ℕ) → startMachine rlen mlen sealStart sealLength registers marks .answer .number ≡ 0 → Unharmed grant (lent B₀ mem) B → SealKept sealStart sealLength mem B
+  pub kept-from : (B : Bench) (mem : List ℕ) → startMachine rlen mlen rule sealStart sealLength registers marks .answer .number ≡ 0 → Unharmed grant (lent B₀ mem) B → SealKept sealStart sealLength mem B
   kept-from B mem e u =
-      let p : parameters grant (B .machine) ≡ parameters grant (freshMachine rlen mlen sealStart sealLength) = u .same-parameters ∙ ap (parameters grant) (fresh e) in
+      let p : parameters grant (B .machine) ≡ parameters grant (freshMachine rlen mlen rule sealStart sealLength) = u .same-parameters ∙ ap (parameters grant) (fresh e) in
       record {
         same-start = ap (λ (M : Parameters). M .sealAt) p;
         same-length = ap (λ (M : Parameters). M .sealLen) p;
@@ -122,6 +122,6 @@ module _ (grant : ℕ → ℕ → ℕ) (rlen mlen sealStart sealLength : ℕ) (r
       }
 
 pub seal-holds-over-acts-from-start : SealHoldsOverActsFromStart
-seal-holds-over-acts-from-start grant rlen mlen sealStart sealLength registers marks memory scalars R e acts =
-    let S : Session = session (startedBench rlen mlen sealStart sealLength registers marks memory) scalars R in
-    kept-from grant rlen mlen sealStart sealLength registers marks memory (afterActs grant acts S .bench) (lentLast acts memory) e (seal-holds-over-acts grant acts S)
+seal-holds-over-acts-from-start grant rlen mlen rule sealStart sealLength registers marks memory scalars R e acts =
+    let S : Session = session (startedBench rlen mlen rule sealStart sealLength registers marks memory) scalars R in
+    kept-from grant rlen mlen rule sealStart sealLength registers marks memory (afterActs grant acts S .bench) (lentLast acts memory) e (seal-holds-over-acts grant acts S)

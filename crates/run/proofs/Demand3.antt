@@ -12,7 +12,7 @@ use lib.Seq.{drop-cons}
 use lib.Dec.{leb}
 use lib.IntN.{pos}
 use borrow.Author.Tests.{leb-true}
-use Rattle.width.specs.Blocks.{Grants}
+use Rattle.width.specs.Blocks.{EachGrants}
 use Rattle.width.proofs.BlockLaws.{le-or-lt}
 use Rattle.machine.specs.declared.Answer.the-variants.{Done, BadArguments, OutsideMemory, Overlap}
 use Rattle.machine.proofs.TestLaws.{every-each}
@@ -20,7 +20,8 @@ use Rattle.machine.specs.declared.Reply.{Reply}
 use Rattle.machine.specs.Answers.{reply, number, done, verdict, _otherwise_}
 use Rattle.machine.proofs.CheckLaws.{Passed, passed, no-refusal}
 use Rattle.machine.specs.Geometry.{Parameters, parameters, permitted, State, stateOf}
-use Rattle.machine.specs.Setting.{smaller}
+use Rattle.machine.specs.Setting.{chosen}
+use Rattle.machine.specs.Starting.{isRule}
 use Rattle.machine.specs.Memory.{inside, rowZ, rowAt}
 use Rattle.machine.proofs.MemoryLaws.{inside-at}
 use Rattle.machine.specs.Operation.{Operation, stateAfter, memoryAfter}
@@ -31,7 +32,8 @@ use Rattle.machine.specs.Step.{Outcome, stepBy}
 use Rattle.machine.proofs.NoFault.{sound-is, step-sound}
 use Rattle.machine.specs.Faults.{soundBench}
 use Rattle.machine.proofs.Sealing.{step-unharmed}
-use Rattle.machine.proofs.StepLaws.{step-done, benchAfter, permitted-lengths, smaller-grants}
+use Rattle.machine.proofs.StepLaws.{step-done, benchAfter, permitted-lengths}
+use Rattle.machine.proofs.SizeLaws.{chosen-grants}
 use Rattle.run.specs.declared.Plan.{Plan}
 use Rattle.run.specs.declared.Handed.{Handed}
 use Rattle.run.specs.declared.Run.{Run}
@@ -55,7 +57,7 @@ use Rattle.run.proofs.WordLaws.{Reads}
 use Rattle.run.proofs.FormLaws.{element-in}
 use Rattle.run.proofs.Invariant.{operationOf, Accepted, At}
 use Rattle.run.proofs.Turns
-use Rattle.run.specs.Statement.{Numbers, Inside, Separate, Answered, Asks, jobOf, Right, Bytes, RunsAreRight, OurRunsAreRight}
+use Rattle.run.specs.Statement.{Numbers, Inside, Separate, Answered, Asks, jobOf, Right, Bytes, RunsAreRight, OurRunsAreRight, SmallerRunsAreRight, HalvingRunsAreRight}
 use Rattle.run.proofs.StartLaws.{numbers-are, numbers-planned, inside-is, is-inside, separate-is, is-separate, accepted}
 
 -- ---- lists
@@ -105,10 +107,11 @@ abbrev held : Bench → State
 held B = stateOf (B .machine) (B .registers) (B .marks)
 
 -- what an accepted start says
-record Ready (grant : ℕ → ℕ → ℕ) (P : Plan) (B : Bench) : Type 0 where
-  rule : Grants grant
+record Ready (grant : ℕ → ℕ → ℕ → ℕ) (P : Plan) (B : Bench) : Type 0 where
+  rule : EachGrants grant
   sane : soundBench B ≡ true
   lengths : permitted (B .machine .rlen) (B .machine .mlen) ≡ true
+  ruled : isRule (B .machine .rule) ≡ true
   plan : planned P ≡ true
   accepts : Accepted (jobOf grant P B)
   formatted : format (P .sew) (P .factor) ≡ true
@@ -117,7 +120,7 @@ record Ready (grant : ℕ → ℕ → ℕ) (P : Plan) (B : Bench) : Type 0 where
   n≤ : P .n ≤ 1024
   addressed : length (B .memory) ≤ 18446744073709551616
 
-module _ (grant : ℕ → ℕ → ℕ) (P : Plan) (B₀ : Bench) where
+module _ (grant : ℕ → ℕ → ℕ → ℕ) (P : Plan) (B₀ : Bench) where
   abbrev J : Job
   J = jobOf grant P B₀
 
@@ -126,7 +129,7 @@ module _ (grant : ℕ → ℕ → ℕ) (P : Plan) (B₀ : Bench) where
 
   -- the run at a place
   abbrev at : Place → Bench → Running
-  at p B = record { run = record { plan = P; rlen = B₀ .machine .rlen; mlen = B₀ .machine .mlen; place = p }; bench = B }
+  at p B = record { run = record { plan = P; rlen = B₀ .machine .rlen; mlen = B₀ .machine .mlen; rule = B₀ .machine .rule; place = p }; bench = B }
 
   -- the invariant
   record Holds (p : Place) (B : Bench) : Type 0 where
@@ -143,7 +146,7 @@ module _ (grant : ℕ → ℕ → ℕ) (P : Plan) (B₀ : Bench) where
     answers : stepped o B .answer ≡ reply Done
     holds : Holds (next S p) (stepped o B .bench)
 
-module _ (grant : ℕ → ℕ → ℕ) (P : Plan) (B₀ : Bench) (R : Ready grant P B₀) where
+module _ (grant : ℕ → ℕ → ℕ → ℕ) (P : Plan) (B₀ : Bench) (R : Ready grant P B₀) where
   abbrev A : Accepted (J grant P B₀)
   A = R .accepts
 
@@ -184,7 +187,7 @@ module _ (grant : ℕ → ℕ → ℕ) (P : Plan) (B₀ : Bench) (R : Ready gran
   -- a run in the invariant hands out its place's word
   hands : (p : Place) (B : Bench) → Holds grant P B₀ p B → handsOut grant (at grant P B₀ p B .run) ≡ wordAt (S grant P B₀) p
   unfolding soundRun
-  hands p B h = rw (R .lengths, R .plan, h .begun)
+  hands p B h = rw (R .lengths, R .ruled, R .plan, h .begun)
 
   -- every place but the end hands out a word that is done, and the invariant goes on
   abbrev Advanced : Place → Bench → Type 0
@@ -392,7 +395,7 @@ module _ (grant : ℕ → ℕ → ℕ) (P : Plan) (B₀ : Bench) (R : Ready gran
           let e : answeredDone grant (at grant P B₀ AtType B₀) (suc t) ≡ answeredDone grant (at grant P B₀ AtType B₀) t + 1 = ap more (is-done t l) in
           omega (arith, e, ih)
 
-  right : (t : ℕ) → Right (J grant P B₀) (at grant P B₀ AtType B₀) t
+  right : (t : ℕ) → Right grant (J grant P B₀) (at grant P B₀ AtType B₀) t
   right t = record {
     next-done = λ l. record { answers = ap (λ (a : Reply). a .number) (is-done t l); hands-out = hands-out t l; leaves = refl };
     past-end = λ l. record {
@@ -409,7 +412,7 @@ module _ (grant : ℕ → ℕ → ℕ) (P : Plan) (B₀ : Bench) (R : Ready gran
 
 -- ---- the start
 
-module _ (grant : ℕ → ℕ → ℕ) (G : Grants grant) (P : Plan) (B : Bench) (bytes : Bytes (B .memory)) where
+module _ (grant : ℕ → ℕ → ℕ → ℕ) (G : EachGrants grant) (P : Plan) (B : Bench) (bytes : Bytes (B .memory)) where
   ready : Passed (startChecks grant P B) → Ready grant P B
   unfolding planned
   ready c =
@@ -418,6 +421,7 @@ module _ (grant : ℕ → ℕ → ℕ) (G : Grants grant) (P : Plan) (B : Bench)
         rule = G;
         sane = c .0;
         lengths = sound-is (B .machine) (B .registers) (B .marks) (c .0) .lengths;
+        ruled = sound-is (B .machine) (B .registers) (B .marks) (c .0) .rule-is;
         plan = c .1 .0;
         accepts = accepted grant G P B bytes (sound-is (B .machine) (B .registers) (B .marks) (c .0) .lengths) (t .0) (t .1 .1 .1 .1 .0) (c .1 .1 .0) (c .1 .1 .1 .0);
         formatted = t .0;
@@ -473,10 +477,19 @@ demand-3 grant G P B bytes = record {
   answered = answers grant G P B bytes;
   unchanged = refl;
   as-many = length-map (handedFor P) (words (shape (jobOf grant P B))) ∙ length-words (shape (jobOf grant P B));
-  turns = λ e t. subst (λ (r : Run). Right (jobOf grant P B) (record { run = r; bench = B }) t) (sym (runs-fresh grant G P B bytes e)) (right grant P B (ready grant G P B bytes (is-passed grant G P B bytes e)) t);
+  turns = λ e t. subst (λ (r : Run). Right grant (jobOf grant P B) (record { run = r; bench = B }) t) (sym (runs-fresh grant G P B bytes e)) (right grant P B (ready grant G P B bytes (is-passed grant G P B bytes e)) t);
   idle = started-idle grant P B;
 }
 
 -- for our choice of sizes
 pub demand-3-ours : OurRunsAreRight
-demand-3-ours = demand-3 smaller smaller-grants
+demand-3-ours = demand-3 chosen chosen-grants
+
+-- and for each of our rules
+pub demand-3-smaller : SmallerRunsAreRight
+unfolding chosen
+demand-3-smaller P B e bytes = (ap chosen e, demand-3-ours P B bytes)
+
+pub demand-3-halving : HalvingRunsAreRight
+unfolding chosen
+demand-3-halving P B e bytes = (ap chosen e, demand-3-ours P B bytes)

@@ -10,7 +10,7 @@ use Rattle.run.specs.Words.{Op}
 use Rattle.run.specs.Encoding.{own, handedFor}
 use Rattle.run.specs.Turn.{moved, Ask, Running, running, Turn}
 
-module _ (grant : ℕ → ℕ → ℕ) where
+module _ (grant : ℕ → ℕ → ℕ → ℕ) where
   abbrev pub askWith : Run → Option Op → Ask
   askWith R o = elim o [
     | none ↦ record { answer = reply BadArguments; handed = none; run = R }

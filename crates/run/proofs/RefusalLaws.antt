@@ -33,7 +33,7 @@ number-refused a d = ne-eqb (a .number) 0 d
 
 -- ---- a refused turn
 
-pub turn-refused : (grant : ℕ → ℕ → ℕ) (r : Running) → done (turn grant r .answer) ≡ false → turn grant r .after ≡ r
+pub turn-refused : (grant : ℕ → ℕ → ℕ → ℕ) (r : Running) → done (turn grant r .answer) ≡ false → turn grant r .after ≡ r
 turn-refused grant r = go (handsOut grant (r .run))
   where
     stays : (h : Handed) (R : Run) → let out : Outcome = stepBy grant (h .word) (own h) (r .bench) in
@@ -48,7 +48,7 @@ turn-refused grant r = go (handsOut grant (r .run))
 
 -- ---- a refused start
 
-module _ (grant : ℕ → ℕ → ℕ) (P : Plan) (B : Bench) where
+module _ (grant : ℕ → ℕ → ℕ → ℕ) (P : Plan) (B : Bench) where
   -- a run that hands out nothing
   abbrev nothing : Running
   nothing = running (noRun P) B

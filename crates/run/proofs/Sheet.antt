@@ -4,7 +4,7 @@ use Rattle.width.specs.Reduce.{reduce}
 use Rattle.width.specs.Tile.{putTile, putRow, putLe, markTile, markRow}
 use Rattle.width.specs.Blocks.{chunks}
 use Rattle.machine.specs.Geometry.{permitted}
-use Rattle.machine.specs.Setting.{sew, newType, legalType}
+use Rattle.machine.specs.Setting.{sew, newType, legalType, chosen}
 use Rattle.machine.specs.Refusals.{widthOk, widthOf}
 use Rattle.machine.specs.Memory.{inside, misses, rowsMiss, distinct, stored}
 use Rattle.machine.specs.Refusals.{marked}
@@ -18,9 +18,9 @@ use Rattle.run.specs.Turn.{soundRun}
 use Rattle.run.specs.Sheet.{sheet, bench, M, scalars, plan, started, c, counts, BenchSheet, ProductExample}
 
 pub bench-sheet : BenchSheet
-unfolding sheet bench M scalars plan started c counts permitted sew newType legalType widthOk widthOf inside misses rowsMiss distinct stored marked listing decode sound startMachine startable stepBy outcome narrow msew typeOf startRun soundRun format kinded planned lying apart separate chunks putTile putRow putLe markTile markRow reduce
+unfolding sheet bench M scalars plan started c counts chosen permitted sew newType legalType widthOk widthOf inside misses rowsMiss distinct stored marked listing decode sound startMachine startable stepBy outcome narrow msew typeOf startRun soundRun format kinded planned lying apart separate chunks putTile putRow putLe markTile markRow reduce
 bench-sheet = refl
 
 pub product-example : ProductExample
-unfolding bench plan started c permitted sew newType legalType widthOk widthOf inside misses rowsMiss distinct stored marked listing decode sound startMachine startable stepBy outcome narrow msew typeOf startRun soundRun format kinded planned lying apart separate chunks putTile putRow putLe markTile markRow reduce
+unfolding bench plan started c chosen permitted sew newType legalType widthOk widthOf inside misses rowsMiss distinct stored marked listing decode sound startMachine startable stepBy outcome narrow msew typeOf startRun soundRun format kinded planned lying apart separate chunks putTile putRow putLe markTile markRow reduce
 product-example = refl

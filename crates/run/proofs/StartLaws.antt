@@ -10,7 +10,7 @@ use lib.IntN.{ℤ, pos, negsuc, _+ℤ_}
 use lib.Dec.{leb, eqb}
 use borrow.Author.Tests.{leb-true, le-leb, ltb-true, eqb-true, eqb-false, eq-eqb, lt-ltb, not-true}
 use Rattle.width.specs.Tile.{In}
-use Rattle.width.specs.Blocks.{Grants}
+use Rattle.width.specs.Blocks.{EachGrants}
 use Rattle.width.proofs.BlockLaws.{le-or-lt}
 use Rattle.machine.specs.Tests.{all, every, within, isIn}
 use Rattle.machine.proofs.TestLaws.{all-true, all-at, every-each, each-every, within-not, not-within, or-right, false-true}
@@ -96,7 +96,7 @@ module _ (at : ℕ → ℕ) (rows n : ℕ) (at′ : ℕ → ℕ) (rows′ o : �
       all-true n (λ b. all rows′ (λ k. not (within (at′ k) o (at i + b)))) (λ b l′.
       all-true rows′ (λ k. not (within (at′ k) o (at i + b))) (λ k l″. not-within (at′ k) o (at i + b) (h i k (at i + b) l l″ (omega arith)))))
 
-module _ (grant : ℕ → ℕ → ℕ) (m : Machine) (P : Plan) where
+module _ (grant : ℕ → ℕ → ℕ → ℕ) (m : Machine) (P : Plan) where
   abbrev M : Parameters
   M = parameters grant m
 
@@ -216,7 +216,7 @@ module _ (P : Plan) where
 
 -- ---- what the turns need
 
-pub accepted : (grant : ℕ → ℕ → ℕ) → Grants grant → (P : Plan) (B : Bench) → Bytes (B .memory) → permitted (B .machine .rlen) (B .machine .mlen) ≡ true
+pub accepted : (grant : ℕ → ℕ → ℕ → ℕ) → EachGrants grant → (P : Plan) (B : Bench) → Bytes (B .memory) → permitted (B .machine .rlen) (B .machine .mlen) ≡ true
     → format (P .sew) (P .factor) ≡ true → kinded P ≡ true → lying P (B .memory) ≡ true → separate (parameters grant (B .machine)) P ≡ true → Accepted (jobOf grant P B)
 unfolding narrow msew typeOf lying separate
 accepted grant G P B bytes lengths formatted kind l d =
@@ -225,7 +225,7 @@ accepted grant G P B bytes lengths formatted kind l d =
     let t = every-each (insides P (B .memory)) l in
     let s = separate-is grant (B .machine) P d in
     record {
-      rule = G;
+      rule = G (B .machine .rule);
       0<narrow = ltb-true 0 (P .sew / 8) (f .1 .1 .1 .1 .1 .1 .1 .1 .0);
       0<rows = n .0;
       row-holds = omega (arith, leb-true (P .sew / 8) 8 (f .1 .1 .1 .1 .1 .1 .0), n .1);

@@ -6,7 +6,7 @@ use native.Mathlib.Omega.{arith}
 use lib.Dec.{eqb}
 use borrow.Author.Tests.{eqb-true, eqb-false}
 use Rattle.machine.specs.Geometry.{Bench}
-use Rattle.machine.specs.Setting.{smaller}
+use Rattle.machine.specs.Setting.{chosen}
 use Rattle.run.specs.declared.Plan.{Plan}
 use Rattle.run.specs.Words.{steps}
 use Rattle.run.specs.Plan.{Kept, shape}
@@ -20,22 +20,22 @@ min-self : (n : ℕ) → min n n ≡ n
 min-self n = omega arith
 
 -- memory outside C is kept, whether the start is accepted or not
-kept : (P : Plan) (B : Bench) → Demand3 smaller P B → Kept (jobOf smaller P B) (whole smaller P B .bench .memory)
-kept P B D = go (eqb (startRun smaller P B .answer .number) 0) refl
+kept : (P : Plan) (B : Bench) → Demand3 chosen P B → Kept (jobOf chosen P B) (whole chosen P B .bench .memory)
+kept P B D = go (eqb (startRun chosen P B .answer .number) 0) refl
   where
-    go : (t : Bool) → eqb (startRun smaller P B .answer .number) 0 ≡ t → Kept (jobOf smaller P B) (whole smaller P B .bench .memory)
-    go true h = D .turns (eqb-true (startRun smaller P B .answer .number) 0 h) (steps (shape (jobOf smaller P B))) .kept
+    go : (t : Bool) → eqb (startRun chosen P B .answer .number) 0 ≡ t → Kept (jobOf chosen P B) (whole chosen P B .bench .memory)
+    go true h = D .turns (eqb-true (startRun chosen P B .answer .number) 0 h) (steps (shape (jobOf chosen P B))) .kept
     go false h =
-        subst (λ (C : Bench). Kept (jobOf smaller P B) (C .memory)) (sym (whole-refusal-changes-nothing smaller P B (eqb-false (startRun smaller P B .answer .number) 0 h) .1))
+        subst (λ (C : Bench). Kept (jobOf chosen P B) (C .memory)) (sym (whole-refusal-changes-nothing chosen P B (eqb-false (startRun chosen P B .answer .number) 0 h) .1))
         (record { same-length = refl; outside = λ q d. refl })
 
 pub whole-delivers : WholeDelivers
 whole-delivers P B bytes =
-    let all : ℕ = steps (shape (jobOf smaller P B)) in
-    let D : Demand3 smaller P B = demand-3-ours P B bytes in
+    let all : ℕ = steps (shape (jobOf chosen P B)) in
+    let D : Demand3 chosen P B = demand-3-ours P B bytes in
     record {
       answered = D .answered;
-      refused = whole-refusal-changes-nothing smaller P B;
+      refused = whole-refusal-changes-nothing chosen P B;
       counted = λ e. D .turns e all .count ∙ min-self all;
       product = λ e. D .turns e all .product (omega arith);
       kept = kept P B D;

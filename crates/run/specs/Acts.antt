@@ -44,7 +44,7 @@ pub record Acted : Type 0 where
 abbrev pub acted : Reply → Option Handed → ℕ → Session → Acted
 acted answer handed count after = record { answer = answer; handed = handed; count = count; after = after }
 
-module _ (grant : ℕ → ℕ → ℕ) where
+module _ (grant : ℕ → ℕ → ℕ → ℕ) where
   -- turns in number are counted, not answered
   abbrev pub act : Act → Session → Acted
   act (Act.lend xs memory) S = acted (reply Done) none 0 (session (benchOf (S .bench .machine) (S .bench .registers) (S .bench .marks) memory) xs (S .run))
@@ -62,7 +62,7 @@ module _ (grant : ℕ → ℕ → ℕ) where
       let o : WholeOutcome = whole grant P (S .bench) in acted (o .answer) none (o .count) (session (o .bench) (S .scalars) (S .run))
 
 -- after a list of acts, refused ones included
-abbrev pub afterActs : (ℕ → ℕ → ℕ) → List Act → Session → Session
+abbrev pub afterActs : (ℕ → ℕ → ℕ → ℕ) → List Act → Session → Session
 afterActs grant [] S = S
 afterActs grant (a ∷ acts) S = afterActs grant acts (act grant a S .after)
 

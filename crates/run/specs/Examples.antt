@@ -3,7 +3,7 @@
 use mathlib.Core.Path.{_≡_, refl}
 use mathlib.Core.List.{List, [], _∷_, _++_, map}
 use Prim.Native.Nat.{ℕ, _-_, _^_}
-use lib.ListN.{replicate}
+use lib.ListN.{length, drop, replicate}
 use lib.Ieee as Ieee
 use lib.IntN.{pos, negsuc}
 use Rattle.width.specs.Reduce.{reduce}
@@ -11,7 +11,7 @@ use Rattle.width.specs.Tile.{putTile, putRow, putLe, markTile, markRow}
 use Rattle.width.specs.Blocks.{chunks}
 use Rattle.width.specs.Binary32.{valueOf, settled, multiplyAdd, floatSum, floatProduct}
 use Rattle.machine.specs.Geometry.{permitted}
-use Rattle.machine.specs.Setting.{smaller, newType, legalType, sew}
+use Rattle.machine.specs.Setting.{halving, chosen, newType, legalType, sew}
 use Rattle.machine.specs.Memory.{inside, misses, rowsMiss, distinct, stored}
 use Rattle.machine.specs.Operation.{element}
 use Rattle.machine.specs.Refusals.{widthOk, widthOf, marked}
@@ -24,20 +24,23 @@ use Rattle.run.specs.declared.Plan.{Plan}
 use Rattle.run.specs.declared.Place.{Place}
 use Rattle.run.specs.declared.Place.the-variants.{AtType, AtM, AtN, AtMultiply, AtStore, AtEnd}
 use Rattle.run.specs.declared.Handed.{Handed}
-use Rattle.run.specs.Words.{loadA, multiply}
+use Rattle.run.specs.Words.{loadA, multiply, Shape, words, steps}
 use Rattle.run.specs.Plan.{narrow, msew, typeOf, cAt}
 use Rattle.run.specs.Encoding.{handedFor}
 use Rattle.run.specs.Start.{startRun, format, kinded, planned, lying, apart, separate}
 use Rattle.run.specs.Turn.{soundRun, ask, Running, afterTurns, answeredDone}
 
--- a sound machine with a seal, or one at fault for its mtype
-pub bench : (mtype sealStart sealLength : ℕ) → Bench
-bench t s l = record {
-  machine = record { rlen = 64; mlen = 128; mtype = t; «tile_m» = 0; «tile_k» = 0; «tile_n» = 0; «seal_start» = s; «seal_length» = l };
+-- a sound machine with a seal, or one at fault for its mtype or its rule
+pub ruled : (rule mtype sealStart sealLength : ℕ) → Bench
+ruled r t s l = record {
+  machine = record { rlen = 64; mlen = 128; mtype = t; «tile_m» = 0; «tile_k» = 0; «tile_n» = 0; «seal_start» = s; «seal_length» = l; rule = r };
   registers = replicate 256 0;
   marks = replicate 256 0;
   memory = replicate 64 1;
 }
+
+pub bench : (mtype sealStart sealLength : ℕ) → Bench
+bench = ruled 0
 
 pub layout : ℕ → ℕ → Layout
 layout address stride = record { address = address; stride = stride }
@@ -53,7 +56,7 @@ pub record Line : Type 0 where
   pub want : ℕ
 
 pub gives : Bench → Plan → ℕ → Line
-gives B P want = record { got = startRun smaller P B .answer .number; want = want }
+gives B P want = record { got = startRun chosen P B .answer .number; want = want }
 
 pub free : Bench
 free = bench 0 0 0
@@ -71,6 +74,8 @@ examples =
     gives free (small (layout 0 2) (layout 8 2) (layout 16 2)) 0
     -- 8: the state, SEW, f, f x SEW, a size, even beside a size 0
     ∷ gives (bench 3 0 0) (small (layout 0 2) (layout 8 2) (layout 16 2)) 8
+    ∷ gives (ruled 1 0 0 0) (small (layout 0 2) (layout 8 2) (layout 16 2)) 0
+    ∷ gives (ruled 2 0 0 0) (small (layout 0 2) (layout 8 2) (layout 16 2)) 8
     ∷ gives free (plan 64 1 2 2 2 (layout 0 2) (layout 8 2) (layout 16 2)) 8
     ∷ gives free (plan 0 1 2 2 2 (layout 0 2) (layout 8 2) (layout 16 2)) 8
     ∷ gives free (plan 8 3 2 2 2 (layout 0 2) (layout 8 2) (layout 16 2)) 8
@@ -112,38 +117,80 @@ examples =
     ∷ []
 
 pub starts : map (λ l. l .got) examples ≡ map (λ l. l .want) examples
-unfolding examples bench layout plan ofKind dot gives free small permitted newType legalType sew inside misses rowsMiss distinct sound narrow msew typeOf startRun format kinded planned lying apart separate
+unfolding examples bench ruled layout plan ofKind dot gives free small permitted newType legalType sew inside misses rowsMiss distinct sound narrow msew typeOf startRun format kinded planned lying apart separate
 starts = refl
 
 -- ---- asking
 
--- 4 x 4 x 16 at SEW 8, in blocks of 2 rows, 2 terms and 8 columns
-pub asks : Place → ℕ → Line
-asks p want = record {
-  got = ask smaller (record { plan = plan 8 1 4 4 16 (layout 0 4) (layout 0 16) (layout 0 16); rlen = 64; mlen = 128; place = p }) .answer .number;
+-- 4 x 4 x 12 at SEW 8, in blocks of 2 rows and 2 terms, and of 8 and 4 columns, or by halving of 6 and 6
+pub asks : (rule : ℕ) → Place → ℕ → Line
+asks r p want = record {
+  got = ask chosen (record { plan = plan 8 1 4 4 12 (layout 0 4) (layout 0 12) (layout 0 12); rlen = 64; mlen = 128; rule = r; place = p }) .answer .number;
   want = want;
 }
 
 pub places : List Line
 places =
     -- 8: between the starts of blocks, outside the matrices, past the last step
-    asks AtType 0
-    ∷ asks (AtM 2) 0
-    ∷ asks (AtM 1) 8
-    ∷ asks (AtM 4) 8
-    ∷ asks (AtN 2 8) 0
-    ∷ asks (AtN 2 4) 8
-    ∷ asks (AtStore 0 8) 0
-    ∷ asks (AtStore 3 8) 8
-    ∷ asks (AtMultiply 2 8 2) 0
-    ∷ asks (AtMultiply 2 8 3) 8
-    ∷ asks (AtMultiply 2 8 4) 8
-    ∷ asks AtEnd 8
+    asks 0 AtType 0
+    ∷ asks 0 (AtM 2) 0
+    ∷ asks 0 (AtM 1) 8
+    ∷ asks 0 (AtM 4) 8
+    ∷ asks 0 (AtN 2 8) 0
+    ∷ asks 0 (AtN 2 4) 8
+    ∷ asks 0 (AtStore 0 8) 0
+    ∷ asks 0 (AtStore 3 8) 8
+    ∷ asks 0 (AtMultiply 2 8 2) 0
+    ∷ asks 0 (AtMultiply 2 8 3) 8
+    ∷ asks 0 (AtMultiply 2 8 4) 8
+    ∷ asks 0 AtEnd 8
+    -- 02, Eight: blocks start elsewhere by the other rule, and there is no third
+    ∷ asks 0 (AtN 2 6) 8
+    ∷ asks 1 (AtN 2 6) 0
+    ∷ asks 1 (AtN 2 8) 8
+    ∷ asks 2 AtType 8
     ∷ []
 
 pub asked-at : map (λ l. l .got) places ≡ map (λ l. l .want) places
-unfolding places asks layout plan permitted sew msew typeOf format kinded planned soundRun chunks
+unfolding places asks layout plan chosen halving permitted sew msew typeOf format kinded planned soundRun chunks
 asked-at = refl
+
+-- ---- both rules
+
+-- 7 by 8 by 14 at SEW 16 on a machine of MLEN 256 and RLEN 64: where blocks of 7 rows and of 14 columns start, and the number of steps, by the
+-- formula and by the list of words
+pub blocks : (rule : ℕ) → List ℕ
+blocks r =
+    let S : Shape = record { grant = chosen r; tm = 4; tk = 4; tn = 4; m = 7; k = 8; n = 14 } in
+    chunks (S .grant) (S .tm) (S .m) 0 ++ chunks (S .grant) (S .tn) (S .n) 0 ++ steps S ∷ length (words S) ∷ []
+
+pub same-count : blocks 0 ++ blocks 1 ≡ 0 ∷ 4 ∷ 0 ∷ 4 ∷ 8 ∷ 12 ∷ 91 ∷ 91 ∷ 0 ∷ 4 ∷ 0 ∷ 4 ∷ 8 ∷ 11 ∷ 91 ∷ 91 ∷ []
+unfolding blocks chosen halving chunks
+same-count = refl
+
+-- 1 by 1 by 10 at SEW 8, where at most 8 columns fit: blocks of 8 and 2, or by halving of 5 and 5
+pub row : Plan
+row = plan 8 1 1 1 10 (layout 0 1) (layout 1 10) (layout 11 10)
+
+pub rowOn : (rule : ℕ) → Running
+rowOn r =
+    let B : Bench = record {
+      machine = ruled r 0 0 0 .machine;
+      registers = free .registers;
+      marks = free .marks;
+      memory = 2 ∷ replicate 10 7 ++ replicate 10 99;
+    } in
+    record { run = startRun chosen row B .run; bench = B }
+
+-- C after t turns
+pub rowAfter : (rule t : ℕ) → List ℕ
+rowAfter r t = drop 11 (afterTurns chosen (rowOn r) t .bench .memory)
+
+-- after the first store, and by halving after the last
+pub row-is : rowAfter 0 9 ++ rowAfter 1 9 ++ rowAfter 1 16
+    ≡ replicate 8 14 ++ replicate 2 99 ++ replicate 5 14 ++ replicate 5 99 ++ replicate 10 14
+unfolding row rowOn rowAfter ruled plan layout free bench chosen halving permitted sew newType legalType widthOk widthOf inside misses rowsMiss stored marked listing decode sound stepBy outcome narrow msew typeOf startRun soundRun format kinded planned lying distinct apart separate chunks putTile putRow putLe markTile markRow reduce
+row-is = refl
 
 -- ---- A kept transposed
 
@@ -168,14 +215,14 @@ counted =
       marks = free .marks;
       memory = 1 ∷ 252 ∷ 2 ∷ 5 ∷ 3 ∷ 250 ∷ 7 ∷ 8 ∷ 9 ∷ 10 ∷ 11 ∷ 12 ∷ replicate 16 99;
     } in
-    record { run = startRun smaller columns B .run; bench = B }
+    record { run = startRun chosen columns B .run; bench = B }
 
 pub after : ℕ → ℕ → ℕ → ℕ
-after t i j = element (afterTurns smaller counted t .bench .memory) (cAt columns) 4 i j
+after t i j = element (afterTurns chosen counted t .bench .memory) (cAt columns) 4 i j
 
-pub product-is : answeredDone smaller counted 15 ∷ after 13 0 0 ∷ after 13 0 1 ∷ after 13 1 0 ∷ after 13 1 1 ∷ []
+pub product-is : answeredDone chosen counted 15 ∷ after 13 0 0 ∷ after 13 0 1 ∷ after 13 1 0 ∷ after 13 1 1 ∷ []
     ≡ 13 ∷ reduce (256 ^ 4) (pos 58) ∷ reduce (256 ^ 4) (pos 64) ∷ reduce (256 ^ 4) (negsuc 48) ∷ reduce (256 ^ 4) (negsuc 53) ∷ []
-unfolding columns counted after ofKind plan layout free bench permitted sew newType legalType widthOk widthOf inside misses rowsMiss distinct stored marked listing decode sound stepBy outcome narrow msew typeOf startRun soundRun format kinded planned lying apart separate chunks putTile putRow putLe markTile markRow reduce
+unfolding columns counted after ofKind plan layout free bench ruled chosen permitted sew newType legalType widthOk widthOf inside misses rowsMiss distinct stored marked listing decode sound stepBy outcome narrow msew typeOf startRun soundRun format kinded planned lying apart separate chunks putTile putRow putLe markTile markRow reduce
 product-is = refl
 
 -- ---- a float run
@@ -202,12 +249,12 @@ entered =
       memory = 0 ∷ 0 ∷ 192 ∷ 63 ∷ 0 ∷ 0 ∷ 0 ∷ 64 ∷ 0 ∷ 0 ∷ 64 ∷ 192 ∷ 205 ∷ 204 ∷ 204 ∷ 61 ∷ 0 ∷ 0 ∷ 128 ∷ 75 ∷ 0 ∷ 0 ∷ 128 ∷ 63
           ∷ 0 ∷ 0 ∷ 0 ∷ 64 ∷ 0 ∷ 0 ∷ 0 ∷ 128 ∷ 0 ∷ 0 ∷ 128 ∷ 64 ∷ 0 ∷ 0 ∷ 128 ∷ 63 ∷ 0 ∷ 0 ∷ 0 ∷ 63 ∷ 52 ∷ 18 ∷ 192 ∷ 255 ∷ replicate 16 99;
     } in
-    record { run = startRun smaller numbers B .run; bench = B }
+    record { run = startRun chosen numbers B .run; bench = B }
 
 pub float-after : ℕ → ℕ → ℕ → ℕ
-float-after t i j = element (afterTurns smaller entered t .bench .memory) (cAt numbers) 4 i j
+float-after t i j = element (afterTurns chosen entered t .bench .memory) (cAt numbers) 4 i j
 
-pub floats-are : answeredDone smaller entered 15 ∷ float-after 13 0 0 ∷ float-after 13 0 1 ∷ float-after 13 1 0 ∷ float-after 13 1 1 ∷ []
+pub floats-are : answeredDone chosen entered 15 ∷ float-after 13 0 0 ∷ float-after 13 0 1 ∷ float-after 13 1 0 ∷ float-after 13 1 1 ∷ []
     ≡ 13 ∷ 0x41180000 ∷ 0x7FC00000 ∷ 0x4C800000 ∷ 0x7FC00000 ∷ []
-unfolding numbers entered float-after ofKind plan layout free bench permitted sew newType legalType widthOk widthOf inside misses rowsMiss marked listing decode sound stepBy outcome narrow msew typeOf startRun soundRun format kinded planned lying distinct stored apart separate chunks putTile putRow putLe markTile markRow reduce valueOf settled multiplyAdd floatSum floatProduct Ieee.add Ieee.mul Ieee.ofBits Ieee.toBits
+unfolding numbers entered float-after ofKind plan layout free bench ruled permitted sew newType legalType chosen widthOk widthOf inside misses rowsMiss marked listing decode sound stepBy outcome narrow msew typeOf startRun soundRun format kinded planned lying distinct stored apart separate chunks putTile putRow putLe markTile markRow reduce valueOf settled multiplyAdd floatSum floatProduct Ieee.add Ieee.mul Ieee.ofBits Ieee.toBits
 floats-are = refl

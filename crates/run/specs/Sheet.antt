@@ -6,7 +6,7 @@ use lib.ListN.{length, getD, replicate}
 use lib.IntN.{pos, negsuc}
 use Rattle.width.specs.Reduce.{reduce}
 use Rattle.machine.specs.Geometry.{Parameters, parameters}
-use Rattle.machine.specs.Setting.{smaller, maxM, maxK, maxN}
+use Rattle.machine.specs.Setting.{smaller, chosen, maxM, maxK, maxN}
 use Rattle.machine.specs.Operation.{element}
 use Rattle.machine.specs.Geometry.{Bench}
 use Rattle.machine.specs.Starting.{startMachine}
@@ -25,11 +25,11 @@ pub record Line : Type 0 where
 -- "MLEN 256, RLEN 64 unless said": started, with register bytes of 7 and nothing sealed
 unfoldable pub bench : List ℕ → Bench
 bench memory =
-    let s = startMachine 64 256 0 0 (replicate 512 7) (replicate 512 1) in
+    let s = startMachine 64 256 0 0 0 (replicate 512 7) (replicate 512 1) in
     record { machine = s .machine; registers = s .registers; marks = s .marks; memory = memory }
 
 unfoldable pub M : Parameters
-M = parameters smaller (bench [] .machine)
+M = parameters chosen (bench [] .machine)
 
 -- scalars whose slot 0 holds 77 and whose slot 10 holds v
 unfoldable pub scalars : ℕ → List ℕ
@@ -53,11 +53,11 @@ plan f m k n = record {
 unfoldable pub started : (f m k n : ℕ) → List ℕ → Running
 started f m k n entries =
     let B = bench (entries ++ replicate (m * n * f) 99) in
-    record { run = startRun smaller (plan f m k n) B .run; bench = B }
+    record { run = startRun chosen (plan f m k n) B .run; bench = B }
 
 -- element (i, j) of C after t turns, f bytes wide
 unfoldable pub c : (f m k n : ℕ) → List ℕ → ℕ → ℕ → ℕ → ℕ
-c f m k n entries t i j = element (afterTurns smaller (started f m k n entries) t .bench .memory) (cAt (plan f m k n)) f i j
+c f m k n entries t i j = element (afterTurns chosen (started f m k n entries) t .bench .memory) (cAt (plan f m k n)) f i j
 
 -- the number of steps at this mtype, by the formula and by the list of words
 unfoldable pub counts : (mtype m k n : ℕ) → List ℕ
@@ -108,5 +108,5 @@ entries = 1 ∷ 2 ∷ 3 ∷ 252 ∷ 5 ∷ 250 ∷ 7 ∷ 8 ∷ 9 ∷ 10 ∷ 11 �
 
 abbrev pub ProductExample : Type 0
 ProductExample =
-    (answeredDone smaller (started 4 2 3 2 entries) 12 ∷ c 4 2 3 2 entries 12 0 0 ∷ c 4 2 3 2 entries 12 0 1 ∷ c 4 2 3 2 entries 12 1 0 ∷ c 4 2 3 2 entries 12 1 1 ∷ [])
+    (answeredDone chosen (started 4 2 3 2 entries) 12 ∷ c 4 2 3 2 entries 12 0 0 ∷ c 4 2 3 2 entries 12 0 1 ∷ c 4 2 3 2 entries 12 1 0 ∷ c 4 2 3 2 entries 12 1 1 ∷ [])
     ≡ (9 ∷ reduce (256 ^ 4) (pos 58) ∷ reduce (256 ^ 4) (pos 64) ∷ reduce (256 ^ 4) (negsuc 48) ∷ reduce (256 ^ 4) (negsuc 53) ∷ [])

@@ -49,7 +49,7 @@ separate M P = every (
     ∷ apart (bAt P) (P .k) (P .n * narrow P) (cAt P) (P .m) (P .n * wide P)
     ∷ unsealed M (P .c .address) (P .c .stride) (P .m) (P .n * wide P) ∷ [])
 
-abbrev pub startChecks : (ℕ → ℕ → ℕ) → Plan → Bench → List Check
+abbrev pub startChecks : (ℕ → ℕ → ℕ → ℕ) → Plan → Bench → List Check
 startChecks grant P B =
     (sound (B .machine) (B .registers) (B .marks) otherwise BadArguments)
     ∷ (planned P otherwise BadArguments)
@@ -58,11 +58,11 @@ startChecks grant P B =
 
 -- a run at its first word
 abbrev pub freshRun : Machine → Plan → Run
-freshRun m P = record { plan = P; rlen = m .rlen; mlen = m .mlen; place = AtType }
+freshRun m P = record { plan = P; rlen = m .rlen; mlen = m .mlen; rule = m .rule; place = AtType }
 
 -- a run that hands out nothing: what a refused start returns
 abbrev pub noRun : Plan → Run
-noRun P = record { plan = P; rlen = 0; mlen = 0; place = AtEnd }
+noRun P = record { plan = P; rlen = 0; mlen = 0; rule = 0; place = AtEnd }
 
 pub record RunStart : Type 0 where
   pub answer : Reply
@@ -70,7 +70,7 @@ pub record RunStart : Type 0 where
   pub bench : Bench
 
 -- "The start itself, accepted or refused, changes neither machine nor memory."
-unfoldable pub startRun : (ℕ → ℕ → ℕ) → Plan → Bench → RunStart
+unfoldable pub startRun : (ℕ → ℕ → ℕ → ℕ) → Plan → Bench → RunStart
 startRun grant P B = record {
   answer = reply (verdict (startChecks grant P B));
   run = cond (isDone (verdict (startChecks grant P B))) (freshRun (B .machine) P) (noRun P);

@@ -8,11 +8,11 @@ use Prim.Native.Nat.{ℕ, suc, _*_, _^_, _≤_, _<_, min}
 use lib.ListN.{length, getD}
 use lib.IntN.{ℤ, pos, _+ℤ_}
 use Rattle.width.specs.Tile.{In}
-use Rattle.width.specs.Blocks.{Grants}
+use Rattle.width.specs.Blocks.{EachGrants}
 use Rattle.machine.specs.declared.Machine.{Machine}
 use Rattle.machine.specs.declared.Reply.{Reply}
 use Rattle.machine.specs.Geometry.{elen, parameters, Bench}
-use Rattle.machine.specs.Setting.{smaller}
+use Rattle.machine.specs.Setting.{smaller, halving, chosen}
 use Rattle.machine.specs.Memory.{rowZ}
 use Rattle.machine.specs.Operation.{element}
 use Rattle.machine.specs.Faults.{soundBench}
@@ -79,36 +79,32 @@ pub record Turns (u : Turn) (n : ℕ) (handed : Option Handed) (after : Running)
 
 -- ---- after t turns
 
-abbrev pub jobOf : (ℕ → ℕ → ℕ) → Plan → Bench → Job
+abbrev pub jobOf : (ℕ → ℕ → ℕ → ℕ) → Plan → Bench → Job
 jobOf grant P B = record { machine = parameters grant (B .machine); plan = P; memory = B .memory }
 
 -- the run as it was started
-abbrev pub startedRun : (ℕ → ℕ → ℕ) → Plan → Bench → Running
+abbrev pub startedRun : (ℕ → ℕ → ℕ → ℕ) → Plan → Bench → Running
 startedRun grant P B = record { run = startRun grant P B .run; bench = startRun grant P B .bench }
 
--- the job's run after t turns
-abbrev pub after : Job → Running → ℕ → Running
-after J r t = afterTurns (J .machine .grant) r t
-
-pub record Right (J : Job) (r : Running) (t : ℕ) : Type 0 where
+pub record Right (grant : ℕ → ℕ → ℕ → ℕ) (J : Job) (r : Running) (t : ℕ) : Type 0 where
   -- "Turns 1 to s each hand out one step, the next of the words above in their order, and it is answered 0."
-  pub next-done : t < steps (shape J) → Turns (turn (J .machine .grant) (after J r t)) 0 (some (wordOf J t)) (after J r (suc t))
+  pub next-done : t < steps (shape J) → Turns (turn grant (afterTurns grant r t)) 0 (some (wordOf J t)) (afterTurns grant r (suc t))
   -- "Every later turn gives 8 and changes nothing."
-  pub past-end : steps (shape J) ≤ t → Turns (turn (J .machine .grant) (after J r t)) 8 none (after J r t)
+  pub past-end : steps (shape J) ≤ t → Turns (turn grant (afterTurns grant r t)) 8 none (afterTurns grant r t)
   -- "Steps are handed out one at a time": asking hands out the step that the turn would, and moves the run as the turn would
-  pub asks : t < steps (shape J) → Asks (ask (J .machine .grant) (after J r t .run)) 0 (some (wordOf J t)) (after J r (suc t) .run)
+  pub asks : t < steps (shape J) → Asks (ask grant (afterTurns grant r t .run)) 0 (some (wordOf J t)) (afterTurns grant r (suc t) .run)
   -- "asking past the last gives 8"
-  pub asks-past-end : steps (shape J) ≤ t → Asks (ask (J .machine .grant) (after J r t .run)) 8 none (after J r t .run)
+  pub asks-past-end : steps (shape J) ≤ t → Asks (ask grant (afterTurns grant r t .run)) 8 none (afterTurns grant r t .run)
   -- "After each turn the memory outside C's elements is as at the start."
-  pub kept : Kept J (after J r t .bench .memory)
+  pub kept : Kept J (afterTurns grant r t .bench .memory)
   -- "After turn s and each later one, C(i, j) is the sum .."
   pub product : steps (shape J) ≤ t → (i j : ℕ) → i < J .plan .m → j < J .plan .n
-      → element (after J r t .bench .memory) (cAt (J .plan)) (wide (J .plan)) i j ≡ productOf J i j
+      → element (afterTurns grant r t .bench .memory) (cAt (J .plan)) (wide (J .plan)) i j ≡ productOf J i j
   -- the number of turns answered 0
-  pub count : answeredDone (J .machine .grant) r t ≡ min t (steps (shape J))
+  pub count : answeredDone grant r t ≡ min t (steps (shape J))
 
 -- after a refused start: the turns have changed nothing, the next gives 8, hands out nothing and changes nothing, and so does asking
-pub record Idle (grant : ℕ → ℕ → ℕ) (r : Running) (t : ℕ) : Type 0 where
+pub record Idle (grant : ℕ → ℕ → ℕ → ℕ) (r : Running) (t : ℕ) : Type 0 where
   pub unchanged : afterTurns grant r t ≡ r
   pub no-turn : Turns (turn grant (afterTurns grant r t)) 8 none r
   pub no-step : Asks (ask grant (afterTurns grant r t .run)) 8 none (r .run)
@@ -116,7 +112,7 @@ pub record Idle (grant : ℕ → ℕ → ℕ) (r : Running) (t : ℕ) : Type 0 w
 
 -- ---- demand 3, of a plan and a bench
 
-pub record Demand3 (grant : ℕ → ℕ → ℕ) (P : Plan) (B : Bench) : Type 0 where
+pub record Demand3 (grant : ℕ → ℕ → ℕ → ℕ) (P : Plan) (B : Bench) : Type 0 where
   -- when the start gives 0, 8, 6 and 9
   pub answered : Answered P B (startRun grant P B .answer)
   -- "The start itself, accepted or refused, changes neither machine nor memory."
@@ -124,7 +120,7 @@ pub record Demand3 (grant : ℕ → ℕ → ℕ) (P : Plan) (B : Bench) : Type 0
   -- "there are 1 + M(1 + N(3 + 4K)) steps"
   pub as-many : length (wordList (jobOf grant P B)) ≡ steps (shape (jobOf grant P B))
   -- from an accepted start on, after any number of turns
-  pub turns : startRun grant P B .answer .number ≡ 0 → (t : ℕ) → Right (jobOf grant P B) (startedRun grant P B) t
+  pub turns : startRun grant P B .answer .number ≡ 0 → (t : ℕ) → Right grant (jobOf grant P B) (startedRun grant P B) t
   -- and from a refused one on
   pub idle : ¬ (startRun grant P B .answer .number ≡ 0) → (t : ℕ) → Idle grant (startedRun grant P B) t
 
@@ -135,10 +131,19 @@ pub record Bytes (mem : List ℕ) : Type 0 where
   pub below : (q : ℕ) → getD mem q 0 < 256
   pub addressed : length mem ≤ 2 ^ 64
 
--- for every choice of sizes under the three constraints, every plan, machine and state, and every memory that is a slice of bytes
+-- 02, Eight: "once over every choice that keeps the three constraints of source document 001": for every choice of sizes under them, one for
+-- each rule, every plan, machine and state, and every memory that is a slice of bytes
 abbrev pub RunsAreRight : Type 0
-RunsAreRight = (grant : ℕ → ℕ → ℕ) → Grants grant → (P : Plan) (B : Bench) → Bytes (B .memory) → Demand3 grant P B
+RunsAreRight = (grant : ℕ → ℕ → ℕ → ℕ) → EachGrants grant → (P : Plan) (B : Bench) → Bytes (B .memory) → Demand3 grant P B
 
--- and for our choice of sizes
+-- "then name our two": for our choice of sizes; a machine of rule 0 goes by the smaller size, one of rule 1 by halving
 abbrev pub OurRunsAreRight : Type 0
-OurRunsAreRight = (P : Plan) (B : Bench) → Bytes (B .memory) → Demand3 smaller P B
+OurRunsAreRight = (P : Plan) (B : Bench) → Bytes (B .memory) → Demand3 chosen P B
+
+abbrev pub SmallerRunsAreRight : Type 0
+SmallerRunsAreRight = (P : Plan) (B : Bench) → B .machine .rule ≡ 0 → Bytes (B .memory)
+    → (shape (jobOf chosen P B) .grant ≡ smaller) × Demand3 chosen P B
+
+abbrev pub HalvingRunsAreRight : Type 0
+HalvingRunsAreRight = (P : Plan) (B : Bench) → B .machine .rule ≡ 1 → Bytes (B .memory)
+    → (shape (jobOf chosen P B) .grant ≡ halving) × Demand3 chosen P B

@@ -20,31 +20,31 @@ use Rattle.run.specs.Acts.{Act, Session, session, afterActs, lentLast}
 
 -- a start changes neither machine nor memory, accepted or refused
 abbrev pub RunStartChangesNothing : Type 0
-RunStartChangesNothing = (grant : ℕ → ℕ → ℕ) (P : Plan) (B : Bench) → startRun grant P B .bench ≡ B
+RunStartChangesNothing = (grant : ℕ → ℕ → ℕ → ℕ) (P : Plan) (B : Bench) → startRun grant P B .bench ≡ B
 
 -- asking that is not answered 0 hands out nothing and leaves the run
 abbrev pub AskRefusalChangesNothing : Type 0
-AskRefusalChangesNothing = (grant : ℕ → ℕ → ℕ) (R : Run) → ¬ (ask grant R .answer .number ≡ 0)
+AskRefusalChangesNothing = (grant : ℕ → ℕ → ℕ → ℕ) (R : Run) → ¬ (ask grant R .answer .number ≡ 0)
     → (ask grant R .handed ≡ none) × (ask grant R .run ≡ R)
 
 -- a turn that is not answered 0 leaves the run, the machine, its registers and marks, and the memory
 abbrev pub TurnRefusalChangesNothing : Type 0
-TurnRefusalChangesNothing = (grant : ℕ → ℕ → ℕ) (r : Running) → ¬ (turn grant r .answer .number ≡ 0) → turn grant r .after ≡ r
+TurnRefusalChangesNothing = (grant : ℕ → ℕ → ℕ → ℕ) (r : Running) → ¬ (turn grant r .answer .number ≡ 0) → turn grant r .after ≡ r
 
 -- and so do n turns of which none is answered 0
 abbrev pub NoTurnChangesNothing : Type 0
-NoTurnChangesNothing = (grant : ℕ → ℕ → ℕ) (r : Running) (n : ℕ) → turns grant r n .count ≡ 0 → turns grant r n .after ≡ r
+NoTurnChangesNothing = (grant : ℕ → ℕ → ℕ → ℕ) (r : Running) (n : ℕ) → turns grant r n .count ≡ 0 → turns grant r n .after ≡ r
 
 -- a whole run that is not answered 0 takes no turn that is done, and changes nothing
 abbrev pub WholeRefusalChangesNothing : Type 0
-WholeRefusalChangesNothing = (grant : ℕ → ℕ → ℕ) (P : Plan) (B : Bench) → ¬ (whole grant P B .answer .number ≡ 0)
+WholeRefusalChangesNothing = (grant : ℕ → ℕ → ℕ → ℕ) (P : Plan) (B : Bench) → ¬ (whole grant P B .answer .number ≡ 0)
     → (whole grant P B .count ≡ 0) × (whole grant P B .bench ≡ B)
 
 -- ---- demand 2: no sealed byte changes, over any list of words, run starts, asking, turns and whole runs
 
 -- on any machine: the seal stays, and the sealed bytes are those of the memory that was lent last
 abbrev pub SealHoldsOverActs : Type 0
-SealHoldsOverActs = (grant : ℕ → ℕ → ℕ) (acts : List Act) (S : Session)
+SealHoldsOverActs = (grant : ℕ → ℕ → ℕ → ℕ) (acts : List Act) (S : Session)
     → Unharmed grant (benchOf (S .bench .machine) (S .bench .registers) (S .bench .marks) (lentLast acts (S .bench .memory))) (afterActs grant acts S .bench)
 
 -- a bench with this seal, whose sealed bytes are those of this memory
@@ -55,7 +55,7 @@ pub record SealKept (sealStart sealLength : ℕ) (memory : List ℕ) (B : Bench)
 
 -- and from a started machine, with any scalars and whatever run was there before: the range that it was started with
 abbrev pub SealHoldsOverActsFromStart : Type 0
-SealHoldsOverActsFromStart = (grant : ℕ → ℕ → ℕ) (rlen mlen sealStart sealLength : ℕ) (registers marks memory scalars : List ℕ) (R : Run)
-    → startMachine rlen mlen sealStart sealLength registers marks .answer .number ≡ 0 → (acts : List Act)
+SealHoldsOverActsFromStart = (grant : ℕ → ℕ → ℕ → ℕ) (rlen mlen rule sealStart sealLength : ℕ) (registers marks memory scalars : List ℕ) (R : Run)
+    → startMachine rlen mlen rule sealStart sealLength registers marks .answer .number ≡ 0 → (acts : List Act)
     → SealKept sealStart sealLength (lentLast acts memory)
-    (afterActs grant acts (session (startedBench rlen mlen sealStart sealLength registers marks memory) scalars R) .bench)
+    (afterActs grant acts (session (startedBench rlen mlen rule sealStart sealLength registers marks memory) scalars R) .bench)

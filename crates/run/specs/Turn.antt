@@ -9,6 +9,7 @@ use Rattle.machine.specs.Answers.{reply, done}
 use Rattle.width.specs.Blocks.{chunks}
 use Rattle.machine.specs.Tests.{every, isIn}
 use Rattle.machine.specs.Geometry.{Parameters, parametersOf, permitted}
+use Rattle.machine.specs.Starting.{isRule}
 use Rattle.machine.specs.Setting.{maxM, maxK, maxN}
 use Rattle.machine.specs.Geometry.{Bench, benchOf}
 use Rattle.machine.specs.Step.{Outcome, stepBy}
@@ -27,13 +28,13 @@ use Rattle.run.specs.Start.{planned}
 
 -- ---- asking for a step
 
--- the blocks that a run goes by
-abbrev pub runParameters : (ℕ → ℕ → ℕ) → Run → Parameters
-runParameters grant R = parametersOf grant (R .rlen) (R .mlen) 0 0
+-- the blocks that a run goes by: those of the machine that it was started on, by its rule
+abbrev pub runParameters : (ℕ → ℕ → ℕ → ℕ) → Run → Parameters
+runParameters grant R = parametersOf (grant (R .rule)) (R .rlen) (R .mlen) 0 0
 
-abbrev pub runShape : (ℕ → ℕ → ℕ) → Run → Shape
+abbrev pub runShape : (ℕ → ℕ → ℕ → ℕ) → Run → Shape
 runShape grant R = record {
-  grant = grant;
+  grant = grant (R .rule);
   tm = maxM (runParameters grant R) (typeOf (R .plan));
   tk = maxK (runParameters grant R) (typeOf (R .plan));
   tn = maxN (runParameters grant R) (typeOf (R .plan));
@@ -67,19 +68,20 @@ begins S (AtStore i j) = every (startsM S i ∷ startsN S j ∷ [])
 begins S AtEnd = true
 
 -- numbers that a run can hold, at a place that a start and its turns can have made; one that holds others hands out nothing
-unfoldable pub soundRun : (ℕ → ℕ → ℕ) → Run → Bool
+unfoldable pub soundRun : (ℕ → ℕ → ℕ → ℕ) → Run → Bool
 soundRun grant R = every (
     permitted (R .rlen) (R .mlen)
+    ∷ isRule (R .rule)
     ∷ planned (R .plan)
     ∷ begins (runShape grant R) (R .place) ∷ [])
 
 -- the next word: none past the last, and none of a run that no start and turns can have made
-abbrev pub handsOut : (ℕ → ℕ → ℕ) → Run → Option Op
+abbrev pub handsOut : (ℕ → ℕ → ℕ → ℕ) → Run → Option Op
 handsOut grant R = cond (soundRun grant R) (wordAt (runShape grant R) (R .place)) none
 
 -- the run once a step is handed out
-abbrev pub moved : (ℕ → ℕ → ℕ) → Run → Run
-moved grant R = record { plan = R .plan; rlen = R .rlen; mlen = R .mlen; place = next (runShape grant R) (R .place) }
+abbrev pub moved : (ℕ → ℕ → ℕ → ℕ) → Run → Run
+moved grant R = record { plan = R .plan; rlen = R .rlen; mlen = R .mlen; rule = R .rule; place = next (runShape grant R) (R .place) }
 
 -- what asking gives: 0, a step and the run at the next place; or, past the last, 8 and the run as it was
 pub record Ask : Type 0 where
@@ -88,7 +90,7 @@ pub record Ask : Type 0 where
   pub run : Run
 
 -- "Steps are handed out one at a time .. asking past the last gives 8."
-abbrev pub ask : (ℕ → ℕ → ℕ) → Run → Ask
+abbrev pub ask : (ℕ → ℕ → ℕ → ℕ) → Run → Ask
 ask grant R = elim (handsOut grant R) [
   | none ↦ record { answer = reply BadArguments; handed = none; run = R }
   | some o ↦ record { answer = reply Done; handed = some (handedFor (R .plan) o); run = moved grant R }
@@ -123,7 +125,7 @@ pub record Turn : Type 0 where
 
 -- "In a turn a step is asked for and, if one is handed out, carried out with the run's own scalars." A step that is refused leaves
 -- the place where it was too: "A refusal changes nothing lent or held."
-abbrev pub turn : (ℕ → ℕ → ℕ) → Running → Turn
+abbrev pub turn : (ℕ → ℕ → ℕ → ℕ) → Running → Turn
 turn grant r =
     let a : Ask = ask grant (r .run) in
     elim (a .handed) [
@@ -133,12 +135,12 @@ turn grant r =
     ]
 
 -- after t turns
-abbrev pub afterTurns : (ℕ → ℕ → ℕ) → Running → ℕ → Running
+abbrev pub afterTurns : (ℕ → ℕ → ℕ → ℕ) → Running → ℕ → Running
 afterTurns grant r zero = r
 afterTurns grant r (suc t) = turn grant (afterTurns grant r t) .after
 
 -- "The count .. is the number of turns answered 0."
-abbrev pub answeredDone : (ℕ → ℕ → ℕ) → Running → ℕ → ℕ
+abbrev pub answeredDone : (ℕ → ℕ → ℕ → ℕ) → Running → ℕ → ℕ
 answeredDone grant r zero = 0
 answeredDone grant r (suc t) = answeredDone grant r t + cond (done (turn grant (afterTurns grant r t) .answer)) 1 0
 
@@ -148,7 +150,7 @@ pub record TurnOutcome : Type 0 where
   pub answer : Reply
   pub after : Running
 
-abbrev pub turnOutcome : (ℕ → ℕ → ℕ) → Running → TurnOutcome
+abbrev pub turnOutcome : (ℕ → ℕ → ℕ → ℕ) → Running → TurnOutcome
 turnOutcome grant r = record { answer = turn grant r .answer; after = turn grant r .after }
 
 abbrev pub turnedAs : Turned → (registers marks memory : List ℕ) → TurnOutcome
@@ -159,7 +161,7 @@ pub record TurnsOutcome : Type 0 where
   pub after : Running
 
 -- n times a turn: how many of them were answered 0, and what the last one left
-abbrev pub turns : (ℕ → ℕ → ℕ) → Running → ℕ → TurnsOutcome
+abbrev pub turns : (ℕ → ℕ → ℕ → ℕ) → Running → ℕ → TurnsOutcome
 turns grant r n = record { count = answeredDone grant r n; after = afterTurns grant r n }
 
 abbrev pub takenAs : Taken → (registers marks memory : List ℕ) → TurnsOutcome

@@ -5,7 +5,7 @@ use Prim.Native.Nat.{ℕ, _<_}
 use Rattle.machine.specs.declared.Reply.{Reply}
 use Rattle.machine.specs.Answers.{reply}
 use Rattle.machine.specs.Geometry.{Bench, benchOf}
-use Rattle.machine.specs.Setting.{smaller}
+use Rattle.machine.specs.Setting.{chosen}
 use Rattle.machine.specs.Operation.{element}
 use Rattle.run.specs.declared.Plan.{Plan}
 use Rattle.run.specs.declared.Finished.{Finished}
@@ -21,7 +21,7 @@ pub record WholeOutcome : Type 0 where
   pub bench : Bench
 
 -- a start, then as many turns as there are steps; the run of a refused start hands out nothing
-abbrev pub whole : (ℕ → ℕ → ℕ) → Plan → Bench → WholeOutcome
+abbrev pub whole : (ℕ → ℕ → ℕ → ℕ) → Plan → Bench → WholeOutcome
 whole grant P B = record {
   answer = startRun grant P B .answer;
   count = turns grant (startedRun grant P B) (steps (shape (jobOf grant P B))) .count;
@@ -39,13 +39,13 @@ pub record Delivers (P : Plan) (B : Bench) (o : WholeOutcome) : Type 0 where
   -- "A refusal changes nothing lent or held."
   pub refused : ¬ (o .answer .number ≡ 0) → (o .count ≡ 0) × (o .bench ≡ B)
   -- "there are 1 + M(1 + N(3 + 4K)) steps"
-  pub counted : o .answer .number ≡ 0 → o .count ≡ steps (shape (jobOf smaller P B))
+  pub counted : o .answer .number ≡ 0 → o .count ≡ steps (shape (jobOf chosen P B))
   -- "C(i, j) is the sum, for l from 0 to k - 1, of A(i, l) x B(l, j), reduced to f x SEW bits in two's complement", of the memory at entry
   pub product : o .answer .number ≡ 0 → (i j : ℕ) → i < P .m → j < P .n
-      → element (o .bench .memory) (cAt P) (wide P) i j ≡ productOf (jobOf smaller P B) i j
+      → element (o .bench .memory) (cAt P) (wide P) i j ≡ productOf (jobOf chosen P B) i j
   -- "the memory outside C's elements is as at the start"
-  pub kept : Kept (jobOf smaller P B) (o .bench .memory)
+  pub kept : Kept (jobOf chosen P B) (o .bench .memory)
 
 -- for every plan, machine and state, and every memory that is a slice of bytes
 abbrev pub WholeDelivers : Type 0
-WholeDelivers = (P : Plan) (B : Bench) → Bytes (B .memory) → Delivers P B (whole smaller P B)
+WholeDelivers = (P : Plan) (B : Bench) → Bytes (B .memory) → Delivers P B (whole chosen P B)

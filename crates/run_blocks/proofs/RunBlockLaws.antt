@@ -19,7 +19,7 @@ use Rattle.run.specs.declared.Run.{Run}
 use Rattle.blocks.specs.Blocks.{firstValues, putNumbers}
 use Rattle.blocks.proofs.BlockLaws.{put-same}
 use Rattle.run_blocks.specs.declared.Spot.{Spot}
-use Rattle.run_blocks.specs.RunBlocks.{spot, spotOf, spotIn, placeOf, planOf, runOf, runNumbers, putRun, sameSpot, runFit}
+use Rattle.run_blocks.specs.RunBlocks.{runBytes, spot, spotOf, spotIn, placeOf, planOf, runOf, runNumbers, putRun, sameSpot, runFit}
 
 same-spots : (s t : Spot) → every (sameSpot s t) ≡ true → s ≡ t
 same-spots s t h =
@@ -32,9 +32,9 @@ itself s = (eq-eqb (s .kind) (s .kind) refl, (eq-eqb (s .row) (s .row) refl, (eq
 
 pub length-putRun : (R : Run) (b : List ℕ) → length (putRun R b) ≡ length b
 unfolding putRun putNumbers
-length-putRun R b = length-putRow 0 18 8 _ b
+length-putRun R b = length-putRow 0 19 8 _ b
 
-numbers-of-run : (b : List ℕ) → runNumbers (planOf b) (le b 88 8) (le b 96 8) (spotIn b) ≡ firstValues 18 b
+numbers-of-run : (b : List ℕ) → runNumbers (planOf b) (le b 88 8) (le b 96 8) (le b 144 8) (spotIn b) ≡ firstValues 19 b
 unfolding planOf
 numbers-of-run b = refl
 
@@ -43,9 +43,9 @@ pub putRun-same : (b : List ℕ) → ((q : ℕ) → getD b q 0 < 256) → runFit
 unfolding putRun putNumbers runOf runFit
 putRun-same b small h =
     let e : spotOf (placeOf (spotIn b)) ≡ spotIn b =
-    sym (same-spots (spotIn b) (spotOf (placeOf (spotIn b))) (and-right (eqb (length b) 144) (every (sameSpot (spotIn b) (spotOf (placeOf (spotIn b))))) h)) in
-    ap (λ (s : Spot). putRow 0 18 8 (λ j. getD (runNumbers (planOf b) (le b 88 8) (le b 96 8) s) j 0) b) e
-    ∙ ap (λ (vs : List ℕ). putRow 0 18 8 (λ j. getD vs j 0) b) (numbers-of-run b) ∙ put-same 18 b small
+    sym (same-spots (spotIn b) (spotOf (placeOf (spotIn b))) (and-right (eqb (length b) runBytes) (every (sameSpot (spotIn b) (spotOf (placeOf (spotIn b))))) h)) in
+    ap (λ (s : Spot). putRow 0 19 8 (λ j. getD (runNumbers (planOf b) (le b 88 8) (le b 96 8) (le b 144 8) s) j 0) b) e
+    ∙ ap (λ (vs : List ℕ). putRow 0 19 8 (λ j. getD vs j 0) b) (numbers-of-run b) ∙ put-same 19 b small
 
 place-back : (p : Place) → placeOf (spotOf p) ≡ p
 unfolding placeOf
@@ -61,16 +61,16 @@ place-back (AtStore i j) = refl
 place-back AtEnd = refl
 
 abbrev pub numbersOfRun : Run → List ℕ
-numbersOfRun R = runNumbers (R .plan) (R .rlen) (R .mlen) (spotOf (R .place))
+numbersOfRun R = runNumbers (R .plan) (R .rlen) (R .mlen) (R .rule) (spotOf (R .place))
 
 -- numbers of 64 bits
 abbrev pub RunWords : Run → Type 0
 RunWords R = (j : ℕ) → getD (numbersOfRun R) j 0 < 2 ^ 64
 
-module _ (R : Run) (b : List ℕ) (w : RunWords R) (h : length b ≡ 144) where
-  number-at : (j : ℕ) → j < 18 → le (putRun R b) (0 + j * 8) 8 ≡ getD (numbersOfRun R) j 0
+module _ (R : Run) (b : List ℕ) (w : RunWords R) (h : length b ≡ runBytes) where
+  number-at : (j : ℕ) → j < 19 → le (putRun R b) (0 + j * 8) 8 ≡ getD (numbersOfRun R) j 0
   unfolding putRun putNumbers
-  number-at j l = le-putRow 0 18 8 (λ j. getD (numbersOfRun R) j 0) b (omega arith) j l ∙ mod-eq-of-lt (w j)
+  number-at j l = le-putRow 0 19 8 (λ j. getD (numbersOfRun R) j 0) b (omega arith) j l ∙ mod-eq-of-lt (w j)
 
   spot-back : spotIn (putRun R b) ≡ spotOf (R .place)
   spot-back = rw (number-at 13 (omega arith), number-at 14 (omega arith), number-at 15 (omega arith), number-at 16 (omega arith))
@@ -96,14 +96,15 @@ module _ (R : Run) (b : List ℕ) (w : RunWords R) (h : length b ≡ 144) where
         number-at 11 (omega arith),
         number-at 12 (omega arith),
         number-at 17 (omega arith),
+        number-at 18 (omega arith),
       )
 
   -- and its block is one that a run can lie in
   pub runFit-putRun : runFit (putRun R b) ≡ true
   unfolding runFit
   runFit-putRun =
-      each-every (eqb (length (putRun R b)) 144 ∷ sameSpot (spotIn (putRun R b)) (spotOf (placeOf (spotIn (putRun R b))))) (
-        eq-eqb (length (putRun R b)) 144 (length-putRun R b ∙ h),
+      each-every (eqb (length (putRun R b)) runBytes ∷ sameSpot (spotIn (putRun R b)) (spotOf (placeOf (spotIn (putRun R b))))) (
+        eq-eqb (length (putRun R b)) runBytes (length-putRun R b ∙ h),
         subst (λ (s : Spot). Each (sameSpot s (spotOf (placeOf s)))) (sym spot-back)
             (subst (λ (p : Place). Each (sameSpot (spotOf (R .place)) (spotOf p))) (sym (place-back (R .place))) (itself (spotOf (R .place)))),
       )

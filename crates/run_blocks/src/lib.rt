@@ -15,6 +15,9 @@ ghost use Rattle.machine.specs.Tests.{every};
 ghost use Rattle.blocks.specs.Blocks.{putNumbers};
 ghost use Rattle.run_blocks.specs.RunBlocks.{spot, spotOf, placeOf, layoutOf, planOf, runBytes, spotIn, runOf, sameSpot, runFit, planNumbers, putRun, stepBytes, putHanded};
 
+// The bytes of a run's block.
+pub const RUN_BYTES: usize = 152;
+
 // ---- a run out of its block
 
 // The four numbers of a place.
@@ -157,6 +160,7 @@ pub fn run_of(block: &[u8]) -> Run
         plan: plan,
         rlen: read8(block, 88),
         mlen: read8(block, 96),
+        rule: read8(block, 144),
         place: place,
     }
 }
@@ -180,7 +184,7 @@ fn same_spot(s: Spot, t: Spot) -> bool
 pub fn is_fit(block: &[u8]) -> bool
     ensures { λ r. ⌜ r ≡ runFit (now (block .entry)) ⌝ }
 {
-    if block.len() != 144 {
+    if block.len() != RUN_BYTES {
         return false;
     }
     let held = spot_in(block);
@@ -248,6 +252,7 @@ pub fn put_run(block: &mut [u8], run: Run)
     let spot = spot_of(place);
     put_spot(block, spot);
     write8(block, 136, plan.kind);
+    write8(block, 144, run.rule);
 }
 
 // A step into its block.

@@ -25,7 +25,7 @@ use Rattle.machine.specs.Tests.{every}
 use Rattle.machine.specs.declared.Reply.{Reply}
 use Rattle.machine.specs.Answers.{reply, _otherwise_, verdict, isDone}
 use Rattle.machine.specs.Geometry.{Parameters, parameters, State, stateOf, machineAfter, Bench, benchOf, scalar, withScalar}
-use Rattle.machine.specs.Setting.{smaller}
+use Rattle.machine.specs.Setting.{chosen}
 use Rattle.machine.specs.Listing
 use Rattle.machine.specs.Listing.{field7, field15, field20, lookUp, notOurs, listing, ranged, inRange, decode}
 use Rattle.machine.specs.Operation.{Operation, operation, stateAfter, memoryAfter, resultOf}
@@ -163,7 +163,7 @@ record Agree (f : ℕ) (ys : List ℕ) (o p : Outcome) : Type 0 where
 module _ (word : ℕ) (xs ys : List ℕ) (B : Bench) (tx : length xs ≡ 32) (ty : length ys ≡ 32)
     (ed : At xs ys (field7 word)) (ea : At xs ys (field15 word)) (eb : At xs ys (field20 word)) where
   abbrev M : Parameters
-  M = parameters smaller (B .machine)
+  M = parameters chosen (B .machine)
 
   abbrev st : State
   st = stateOf (B .machine) (B .registers) (B .marks)

@@ -7,7 +7,7 @@ use lib.Dec.{leb, eqb}
 use Rattle.machine.specs.declared.Machine.{Machine}
 use Rattle.machine.specs.Tests.{every}
 use Rattle.machine.specs.Geometry.{elen, permitted}
-use Rattle.machine.specs.Starting.{sealEnds}
+use Rattle.machine.specs.Starting.{isRule, sealEnds}
 use Rattle.machine.specs.Setting.{newType}
 use Rattle.settings.specs.Parts.{numbersSound, Ready}
 use lib.Dec.{ltb}
@@ -17,12 +17,12 @@ use Rattle.machine.specs.Faults.{sound}
 use Rattle.machine.proofs.TestLaws.{every-each, each-every, same-test}
 use Rattle.machine.proofs.NoFault.{sound-is}
 
-pub numbers-by : (m : Machine) (a b c d e f : Bool)
+pub numbers-by : (m : Machine) (a b c d e f g : Bool)
     → permitted (m .rlen) (m .mlen) ≡ a → eqb (newType elen (m .mtype)) (m .mtype) ≡ b
     → leb (m .«tile_m») (m .mlen / m .rlen) ≡ c → leb (m .«tile_k») (min (m .mlen / m .rlen) (m .rlen / 8)) ≡ d
-    → leb (m .«tile_n») (m .rlen / 8) ≡ e → sealEnds (m .«seal_start») (m .«seal_length») ≡ f
-    → every (a ∷ b ∷ c ∷ d ∷ e ∷ f ∷ []) ≡ numbersSound m
-numbers-by m a b c d e f ha hb hc hd he hf = rw (ha, hb, hc, hd, he, hf)
+    → leb (m .«tile_n») (m .rlen / 8) ≡ e → isRule (m .rule) ≡ f → sealEnds (m .«seal_start») (m .«seal_length») ≡ g
+    → every (a ∷ b ∷ c ∷ d ∷ e ∷ f ∷ g ∷ []) ≡ numbersSound m
+numbers-by m a b c d e f g ha hb hc hd he hf hg = rw (ha, hb, hc, hd, he, hf, hg)
 
 pub sound-by : (m : Machine) (regs marks : List ℕ) (a b c d : Bool) → numbersSound m ≡ a → eqb (length regs) (2 * m .mlen) ≡ b → eqb (length marks) (2 * m .mlen) ≡ c
     → allOf (λ mark. ltb mark 2) marks ≡ d → every (a ∷ b ∷ c ∷ d ∷ []) ≡ sound m regs marks
@@ -31,12 +31,12 @@ sound-by m regs marks a b c d ha hb hc hd = same-test (every (a ∷ b ∷ c ∷ 
     (λ h.
     let t = every-each (a ∷ b ∷ c ∷ d ∷ []) h in
     let n = every-each (tests m) (ha ∙ t .0) in
-    each-every (all m) (n .0, (hb ∙ t .1 .0, (hc ∙ t .1 .1 .0, (n .1 .0, (n .1 .1 .0, (n .1 .1 .1 .0, (n .1 .1 .1 .1 .0, (n .1 .1 .1 .1 .1 .0, (hd ∙ t .1 .1 .1 .0, tt))))))))))
+    each-every (all m) (n .0, (hb ∙ t .1 .0, (hc ∙ t .1 .1 .0, (n .1 .0, (n .1 .1 .0, (n .1 .1 .1 .0, (n .1 .1 .1 .1 .0, (n .1 .1 .1 .1 .1 .0, (n .1 .1 .1 .1 .1 .1 .0, (hd ∙ t .1 .1 .1 .0, tt)))))))))))
     (λ h.
     let t = every-each (all m) h in
     each-every (a ∷ b ∷ c ∷ d ∷ []) (
-      sym ha ∙ each-every (tests m) (t .0, (t .1 .1 .1 .0, (t .1 .1 .1 .1 .0, (t .1 .1 .1 .1 .1 .0, (t .1 .1 .1 .1 .1 .1 .0, (t .1 .1 .1 .1 .1 .1 .1 .0, tt)))))),
-      (sym hb ∙ t .1 .0, (sym hc ∙ t .1 .1 .0, (sym hd ∙ t .1 .1 .1 .1 .1 .1 .1 .1 .0, tt))),
+      sym ha ∙ each-every (tests m) (t .0, (t .1 .1 .1 .0, (t .1 .1 .1 .1 .0, (t .1 .1 .1 .1 .1 .0, (t .1 .1 .1 .1 .1 .1 .0, (t .1 .1 .1 .1 .1 .1 .1 .0, (t .1 .1 .1 .1 .1 .1 .1 .1 .0, tt))))))),
+      (sym hb ∙ t .1 .0, (sym hc ∙ t .1 .1 .0, (sym hd ∙ t .1 .1 .1 .1 .1 .1 .1 .1 .1 .0, tt))),
     ))
   where
     tests : Machine → List Bool
@@ -46,6 +46,7 @@ sound-by m regs marks a b c d ha hb hc hd = same-test (every (a ∷ b ∷ c ∷ 
         ∷ leb (m .«tile_m») (m .mlen / m .rlen)
         ∷ leb (m .«tile_k») (min (m .mlen / m .rlen) (m .rlen / 8))
         ∷ leb (m .«tile_n») (m .rlen / 8)
+        ∷ isRule (m .rule)
         ∷ sealEnds (m .«seal_start») (m .«seal_length») ∷ []
 
     all : Machine → List Bool
@@ -57,12 +58,13 @@ sound-by m regs marks a b c d ha hb hc hd = same-test (every (a ∷ b ∷ c ∷ 
         ∷ leb (m .«tile_m») (m .mlen / m .rlen)
         ∷ leb (m .«tile_k») (min (m .mlen / m .rlen) (m .rlen / 8))
         ∷ leb (m .«tile_n») (m .rlen / 8)
+        ∷ isRule (m .rule)
         ∷ sealEnds (m .«seal_start») (m .«seal_length»)
         ∷ allOf (λ mark. ltb mark 2) marks ∷ []
 
 pub numbers-permitted : (m : Machine) → numbersSound m ≡ true → permitted (m .rlen) (m .mlen) ≡ true
 numbers-permitted m h = every-each (permitted (m .rlen) (m .mlen) ∷ eqb (newType elen (m .mtype)) (m .mtype) ∷ leb (m .«tile_m») (m .mlen / m .rlen)
-    ∷ leb (m .«tile_k») (min (m .mlen / m .rlen) (m .rlen / 8)) ∷ leb (m .«tile_n») (m .rlen / 8) ∷ sealEnds (m .«seal_start») (m .«seal_length») ∷ []) h .0
+    ∷ leb (m .«tile_k») (min (m .mlen / m .rlen) (m .rlen / 8)) ∷ leb (m .«tile_n») (m .rlen / 8) ∷ isRule (m .rule) ∷ sealEnds (m .«seal_start») (m .«seal_length») ∷ []) h .0
 
 pub ready : (m : Machine) (regs marks : List ℕ) → sound m regs marks ≡ true → Ready m
 ready m regs marks h = let s = sound-is m regs marks h in record { lengths = s .lengths; type-arises = s .state .type-arises }

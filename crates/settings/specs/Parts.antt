@@ -12,13 +12,13 @@ use Rattle.machine.specs.declared.Answer.the-variants.{Done, IllegalType}
 use Rattle.machine.specs.declared.Stepped.{Stepped}
 use Rattle.machine.specs.Tests.{every}
 use Rattle.machine.specs.Geometry.{elen, permitted, parameters, Parameters, stateOf, machineAfter, scalar, withScalar}
-use Rattle.machine.specs.Starting.{sealEnds}
-use Rattle.machine.specs.Setting.{newType, mill, maximum, smaller, sizeIn}
+use Rattle.machine.specs.Starting.{isRule, sealEnds}
+use Rattle.machine.specs.Setting.{newType, mill, maximum, smaller, chosen, sizeIn}
 use Rattle.machine.specs.Operation.{sized}
 
 -- the machine's own parameters, under our choice of sizes
 abbrev pub ours : Machine → Parameters
-ours m = parameters smaller m
+ours m = parameters chosen m
 
 -- the tests of answer 8 that look at the machine's numbers alone
 abbrev pub numbersSound : Machine → Bool
@@ -28,6 +28,7 @@ numbersSound m = every (
     ∷ leb (m .«tile_m») (m .mlen / m .rlen)
     ∷ leb (m .«tile_k») (min (m .mlen / m .rlen) (m .rlen / 8))
     ∷ leb (m .«tile_n») (m .rlen / 8)
+    ∷ isRule (m .rule)
     ∷ sealEnds (m .«seal_start») (m .«seal_length») ∷ [])
 
 -- the machine's numbers with another mtype, and with another size
@@ -41,7 +42,7 @@ withSize m DimensionN a = machineAfter m (sized (stateOf m [] []) (m .mtype) (m 
 
 -- what a tile setting that asks for a size returns, and what it leaves in the scalars
 abbrev pub granted : Machine → Dimension → ℕ → ℕ
-granted m d a = smaller (maximum (ours m) (m .mtype) d) a
+granted m d a = chosen (m .rule) (maximum (ours m) (m .mtype) d) a
 
 abbrev pub sizeStepped : Machine → Dimension → ℕ → Stepped
 sizeStepped m d a = cond (mill (m .mtype)) (record { answer = IllegalType; machine = m }) (record { answer = Done; machine = withSize m d (granted m d a) })

@@ -1,7 +1,7 @@
 // Answer 8: whether a state is at fault.
 use super::kept_type;
-use super::smaller;
 use machine::Machine;
+use machine::smaller;
 ghost use mathlib.Core.Path.{_≡_};
 ghost use lib.Dec.{eqb};
 ghost use Rattle.machine.specs.Geometry.{elen};
@@ -30,6 +30,9 @@ fn numbers_sound(m: Machine) -> bool
         return false;
     }
     if m.tile_n > pitch {
+        return false;
+    }
+    if m.rule > 1 {
         return false;
     }
     m.seal_length <= 18446744073709551615 - m.seal_start

@@ -3,12 +3,14 @@ use machine::Answer;
 use machine::Dimension;
 use machine::Machine;
 use machine::Stepped;
+use machine::chosen;
+use machine::smaller;
 use scalars::read_scalar;
 use scalars::write_scalar;
 ghost use mathlib.Core.Path.{_≡_};
 ghost use mathlib.Core.Bool.{true, false};
 ghost use mathlib.Core.List.{[]};
-ghost use Prim.Native.Nat.{_<_, _≤_, min};
+ghost use Prim.Native.Nat.{_<_, _≤_};
 ghost use lib.ListN.{length};
 ghost use Rattle.machine.specs.Geometry.{elen, withScalar, stateOf};
 ghost use Rattle.machine.specs.Setting.{newType, mill, maximum, sew, sizeIn};
@@ -52,12 +54,6 @@ pub fn sew_bytes(mtype: u64) -> usize
         return 4;
     }
     1
-}
-
-pub fn smaller(a: u64, b: u64) -> u64
-    ensures { λ r. ⌜ r ≡ min a b ⌝ }
-{
-    if a < b { a } else { b }
 }
 
 // The largest size of a dimension under mtype.
@@ -132,7 +128,7 @@ pub fn set_type(m: Machine, scalars: &mut [u64], rd: usize, value: u64) -> Machi
     with_type(m, kept)
 }
 
-// The machine's numbers after a size was asked for, which is cut to the largest; under mill they stay.
+// The machine's numbers after a size was asked for, of which it gets what its rule gives; under mill they stay.
 pub fn sized(m: Machine, dimension: Dimension, asked: u64) -> Machine
     requires { ⌜ Ready m ⌝ }
     ensures { λ r. ⌜ r ≡ sizeStepped m dimension asked .machine ⌝ }
@@ -140,11 +136,11 @@ pub fn sized(m: Machine, dimension: Dimension, asked: u64) -> Machine
     if is_mill(m.mtype) {
         return m;
     }
-    let size = smaller(asked, largest(m, dimension));
+    let size = chosen(m.rule, largest(m, dimension), asked);
     with_size(m, dimension, size)
 }
 
-// A size that is asked, cut to the largest, which rd receives too.
+// A size that is asked, of which the machine gets what its rule gives; rd receives that too.
 pub fn set_size(
     m: Machine,
     scalars: &mut [u64],
@@ -163,7 +159,7 @@ pub fn set_size(
             machine: m,
         };
     }
-    let size = smaller(asked, largest(m, dimension));
+    let size = chosen(m.rule, largest(m, dimension), asked);
     write_scalar(scalars, rd, size);
     Stepped {
         answer: Answer::Done,

@@ -30,7 +30,7 @@ fn answer(a: Answer) {
     }
 }
 
-// Starts a machine on 512 register bytes and marks.
+// Starts a machine of rule 0 on 512 register bytes and marks.
 fn start(
     rlen: u64,
     mlen: u64,
@@ -47,7 +47,7 @@ fn start(
     number(seal_start);
     say(b" ");
     number(seal_length);
-    let made = machine::start(rlen, mlen, seal_start, seal_length, registers, marks);
+    let made = machine::start(rlen, mlen, 0, seal_start, seal_length, registers, marks);
     let given = made.answer;
     answer(given);
     say(b"\n");

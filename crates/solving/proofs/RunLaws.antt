@@ -48,13 +48,13 @@ zeros = replicate 512 0
 
 -- and the bench, with a memory
 abbrev fresh : List ℕ → Bench
-fresh memory = benchOf (freshMachine 64 256 0 0) zeros zeros memory
+fresh memory = benchOf (freshMachine 64 256 0 0 0) zeros zeros memory
 
 fresh-sound : (memory : List ℕ) → soundBench (fresh memory) ≡ true
 unfolding startMachine startable permitted
-fresh-sound memory = start-sound 64 256 0 0 zeros zeros memory refl
+fresh-sound memory = start-sound 64 256 0 0 0 zeros zeros memory refl
 
-started-fresh : (s : Started) (marks memory : List ℕ) → startedAs s zeros marks ≡ startMachine 64 256 0 0 zeros zeros
+started-fresh : (s : Started) (marks memory : List ℕ) → startedAs s zeros marks ≡ startMachine 64 256 0 0 0 zeros zeros
     → benchOf (s .machine) zeros marks memory ≡ fresh memory
 unfolding startMachine startable permitted
 started-fresh s marks memory e = ap (λ (o : StartOutcome). benchOf (o .machine) (o .registers) (o .marks) memory) e
@@ -65,7 +65,7 @@ c-fits sew f formatted = matrix-small 16 16 (f * (sew / 8)) (omega arith) (omega
 
 module _ (sew f m k n : ℕ) (formatted : format sew f ≡ true) (m≤ : m ≤ 16) (k≤ : k ≤ 16) (n≤ : n ≤ 16) where
   -- from what the calls of `multiply` return and leave: the run's count, and the elements of C that were read
-  pub multiplied : (s : Started) (marks memory : List ℕ) → startedAs s zeros marks ≡ startMachine 64 256 0 0 zeros zeros → length memory ≡ 3072
+  pub multiplied : (s : Started) (marks memory : List ℕ) → startedAs s zeros marks ≡ startMachine 64 256 0 0 0 zeros zeros → length memory ≡ 3072
       → (P : Plan) → P ≡ planFor sew f m k n → (o : WholeOutcome) → Delivers P (benchOf (s .machine) zeros marks memory) o
       → (c : List ℕ) → ((j : ℕ) → j < 256 → getD c j 0 ≡ le (o .bench .memory) (2048 + j * (f * (sew / 8))) (f * (sew / 8)))
       → (o .count ≡ steps (shape (jobFor sew f m k n memory)))

@@ -14,7 +14,7 @@ use Rattle.machine.specs.Answers.{reply, Check, _otherwise_, verdict, isDone}
 use Rattle.machine.specs.Geometry.{elen, Parameters, Bench, parameters}
 use Rattle.machine.specs.Memory.{inside, distinct, unsealed}
 use Rattle.machine.specs.Faults.{sound}
-use Rattle.machine.specs.Setting.{smaller}
+use Rattle.machine.specs.Setting.{chosen}
 use Rattle.machine.proofs.TestLaws.{Each, every-each, fails, last}
 use Rattle.run.specs.declared.Plan.{Plan}
 use Rattle.run.specs.Plan.{narrow, wide, aAt, bAt, cAt, formOf, aRows, aColumns}
@@ -160,6 +160,6 @@ module _ (P : Plan) (B : Bench) where
   }
 
   pub started-by : {s p l d : Bool} → sound (B .machine) (B .registers) (B .marks) ≡ s → planned P ≡ p → lying P (B .memory) ≡ l
-      → separate (parameters smaller (B .machine)) P ≡ d → out s p l d ≡ startRun smaller P B
+      → separate (parameters chosen (B .machine)) P ≡ d → out s p l d ≡ startRun chosen P B
   unfolding startRun
   started-by hs hp hl hd = rw (hs, hp, hl, hd)

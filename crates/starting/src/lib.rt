@@ -7,7 +7,7 @@ use run::Run;
 use run::RunStarted;
 ghost use mathlib.Core.Path.{_≡_};
 ghost use Rattle.machine.specs.Geometry.{benchOf};
-ghost use Rattle.machine.specs.Setting.{smaller};
+ghost use Rattle.machine.specs.Setting.{chosen};
 ghost use Rattle.run.specs.Start.{startRun, startedAs, noRun};
 
 mod tests; // the tests of a start on memory
@@ -22,6 +22,7 @@ fn refused(plan: Plan, answer: Answer) -> RunStarted
             plan: plan,
             rlen: 0,
             mlen: 0,
+            rule: 0,
             place: Place::AtEnd,
         },
     }
@@ -30,7 +31,7 @@ fn refused(plan: Plan, answer: Answer) -> RunStarted
 // Starts a run on a machine: 8, then 6, then 9.
 pub fn start(plan: Plan, m: Machine, registers: &[u8], marks: &[u8], memory: &[u8]) -> RunStarted
     ensures { λ r. ⌜ startedAs r (benchOf m (now (registers .entry)) (now (marks .entry)) (now (memory .entry)))
-        ≡ startRun smaller plan (benchOf m (now (registers .entry)) (now (marks .entry)) (now (memory .entry))) ⌝ }
+        ≡ startRun chosen plan (benchOf m (now (registers .entry)) (now (marks .entry)) (now (memory .entry))) ⌝ }
 {
     if !settings::faults::is_sound(m, registers, marks) {
         return refused(plan, Answer::BadArguments);
@@ -50,6 +51,7 @@ pub fn start(plan: Plan, m: Machine, registers: &[u8], marks: &[u8], memory: &[u
             plan: plan,
             rlen: m.rlen,
             mlen: m.mlen,
+            rule: m.rule,
             place: Place::AtType,
         },
     }

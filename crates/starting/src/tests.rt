@@ -11,7 +11,7 @@ ghost use mathlib.Core.Path.{_≡_};
 ghost use mathlib.Core.Bool.{true};
 ghost use Prim.Native.Nat.{_*_, _≤_};
 ghost use Rattle.machine.specs.Geometry.{parameters};
-ghost use Rattle.machine.specs.Setting.{smaller};
+ghost use Rattle.machine.specs.Setting.{chosen};
 ghost use Rattle.run.specs.Plan.{narrow, wide};
 ghost use Rattle.run.specs.Start.{planned, lying, separate};
 
@@ -75,7 +75,7 @@ pub fn is_lying(plan: Plan, memory: &[u8]) -> bool
 pub fn is_separate(plan: Plan, m: Machine, memory: &[u8]) -> bool
     requires { ⌜ planned plan ≡ true ⌝ }
     requires { ⌜ lying plan (now memory) ≡ true ⌝ }
-    ensures { λ r. ⌜ r ≡ separate (parameters smaller m) plan ⌝ }
+    ensures { λ r. ⌜ r ≡ separate (parameters chosen m) plan ⌝ }
 {
     let len = memory.len();
     let c = plan.c;

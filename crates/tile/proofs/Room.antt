@@ -62,7 +62,7 @@ sizes M st k w = typed st ∷ (widthOf (M .elen) (st .mtype) k w otherwise BadWi
 
 -- ---- a sound machine
 
-module _ (grant : ℕ → ℕ → ℕ) (m : Machine) (regs marks : List ℕ) where
+module _ (grant : ℕ → ℕ → ℕ → ℕ) (m : Machine) (regs marks : List ℕ) where
   abbrev M : Parameters
   M = parameters grant m
 

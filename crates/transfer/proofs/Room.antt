@@ -71,7 +71,7 @@ width-is t MatrixC w s h = go (eqb w (sew t)) refl (eqb w (2 * sew t)) refl (and
     go false e true f g = two-width w (sew t) s few (eqb-true w (2 * sew t) f)
     go false e false f g = four-width w (sew t) s few (eqb-true w (4 * sew t) (and-right (maccq t) (eqb w (4 * sew t)) g))
 
-module _ (grant : ℕ → ℕ → ℕ) (m : Machine) (regs marks : List ℕ) where
+module _ (grant : ℕ → ℕ → ℕ → ℕ) (m : Machine) (regs marks : List ℕ) where
   abbrev M : Parameters
   M = parameters grant m
 

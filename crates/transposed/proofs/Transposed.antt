@@ -55,7 +55,7 @@ rows-same st at n m w v MatrixA = (refl, refl)
 rows-same st at n m w v MatrixB = (refl, refl)
 rows-same st at n m w v MatrixC = (refl, refl)
 
-module _ (grant : ℕ → ℕ → ℕ) (k : Matrix) (w r a b c d : ℕ) (xs ys : List ℕ) (B : Bench) where
+module _ (grant : ℕ → ℕ → ℕ → ℕ) (k : Matrix) (w r a b c d : ℕ) (xs ys : List ℕ) (B : Bench) where
   abbrev M : Parameters
   M = parameters grant (B .machine)
 
@@ -130,7 +130,7 @@ module _ (grant : ℕ → ℕ → ℕ) (k : Matrix) (w r a b c d : ℕ) (xs ys :
 
 -- ---- the theorem
 
-module _ (grant : ℕ → ℕ → ℕ) (P : Pair) (first second : Given) (B : Bench) (h : LoadThenStore grant P first second B) where
+module _ (grant : ℕ → ℕ → ℕ → ℕ) (P : Pair) (first second : Given) (B : Bench) (h : LoadThenStore grant P first second B) where
   abbrev xs : List ℕ
   xs = first .scalars
 

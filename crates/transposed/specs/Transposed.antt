@@ -25,7 +25,7 @@ pub record Pair : Type 0 where
   pub store-base : ℕ
   pub store-stride : ℕ
 
-module _ (grant : ℕ → ℕ → ℕ) (P : Pair) (first second : Given) (B : Bench) where
+module _ (grant : ℕ → ℕ → ℕ → ℕ) (P : Pair) (first second : Given) (B : Bench) where
   -- "nothing comes between"
   abbrev pub afterLoad : Outcome
   afterLoad = stepBy grant (first .word) (first .scalars) B
@@ -73,4 +73,4 @@ module _ (grant : ℕ → ℕ → ℕ) (P : Pair) (first second : Given) (B : Be
     pub same-scalars : (afterLoad .scalars ≡ first .scalars) × (afterStore .scalars ≡ second .scalars)
 
 abbrev pub LoadThenStoreTransposes : Type 0
-LoadThenStoreTransposes = (grant : ℕ → ℕ → ℕ) (P : Pair) (first second : Given) (B : Bench) → LoadThenStore grant P first second B → Transposes grant P first second B
+LoadThenStoreTransposes = (grant : ℕ → ℕ → ℕ → ℕ) (P : Pair) (first second : Given) (B : Bench) → LoadThenStore grant P first second B → Transposes grant P first second B

@@ -23,7 +23,7 @@ use Rattle.machine.specs.declared.Instruction.the-variants.{SetTypeImmediate, S
 use Rattle.machine.specs.declared.Reply.{Reply}
 use Rattle.machine.specs.Answers.{reply, done, verdict, isDone, _otherwise_}
 use Rattle.machine.specs.Geometry.{elen, Bench, benchOf, stateOf}
-use Rattle.machine.specs.Setting.{smaller, newType, mill}
+use Rattle.machine.specs.Setting.{chosen, newType, mill}
 use Rattle.machine.specs.Refusals.{typed, checks}
 use Rattle.machine.specs.Faults.{sound}
 use Rattle.machine.specs.Listing.{decode}
@@ -56,7 +56,7 @@ pub plan-type : (P : Plan) → planned P ≡ true → typeOf P < 8192
 plan-type P h = type-small (ours nothing) P (plan-format P h) (stateOf nothing [] [])
   where
     nothing : Machine
-    nothing = record { rlen = 0; mlen = 0; mtype = 0; «tile_m» = 0; «tile_k» = 0; «tile_n» = 0; «seal_start» = 0; «seal_length» = 0 }
+    nothing = record { rlen = 0; mlen = 0; mtype = 0; «tile_m» = 0; «tile_k» = 0; «tile_n» = 0; «seal_start» = 0; «seal_length» = 0; rule = 0 }
 
 pub factor-one : (P : Plan) → planned P ≡ true → ¬ (P .factor ≡ 4) → ¬ (P .factor ≡ 2) → 1 ≡ P .factor
 factor-one P h p q = let F = formats (P .sew) (P .factor) (plan-format P h) .1 in go (F .factor) (F .is)
@@ -79,8 +79,8 @@ pub numbers-joined : (a : Reply) (m : Machine) (regs marks mem : List ℕ) (k : 
 numbers-joined a m regs marks mem k e h = ap (λ (m : Machine). carried a m regs marks mem) e ∙ h
 
 -- the word at a place of the run
-pub at-place : (R : Run) (B : Bench) (q : Place) → R .place ≡ q → carriedBy (R .plan) (wordAt (runShape smaller R) q) B ≡ carriedAt R B
-at-place R B q e = ap (λ (q : Place). carriedBy (R .plan) (wordAt (runShape smaller R) q) B) (sym e)
+pub at-place : (R : Run) (B : Bench) (q : Place) → R .place ≡ q → carriedBy (R .plan) (wordAt (runShape chosen R) q) B ≡ carriedAt R B
+at-place R B q e = ap (λ (q : Place). carriedBy (R .plan) (wordAt (runShape chosen R) q) B) (sym e)
 
 module _ (P : Plan) (o : Op) (m : Machine) (regs marks mem : List ℕ) (s : sound m regs marks ≡ true) where
   abbrev B : Bench
@@ -207,39 +207,39 @@ module _ (P : Plan) (ok : planned P ≡ true) (m : Machine) (regs marks mem : Li
 -- ---- a turn
 
 -- the turn of a sound run, from what carrying out its word answers and leaves
-pub turn-carried : (R : Run) (B : Bench) → soundRun smaller R ≡ true → (k : Carried) → k ≡ carriedAt R B → (t : Bool) → done (k .answer) ≡ t
-    → leaving (k .answer) (running (cond t (moved smaller R) R) (k .bench)) ≡ turnOutcome smaller (running R B)
+pub turn-carried : (R : Run) (B : Bench) → soundRun chosen R ≡ true → (k : Carried) → k ≡ carriedAt R B → (t : Bool) → done (k .answer) ≡ t
+    → leaving (k .answer) (running (cond t (moved chosen R) R) (k .bench)) ≡ turnOutcome chosen (running R B)
 turn-carried R B ok k e t d =
-    ap (λ (t : Bool). leaving (k .answer) (running (cond t (moved smaller R) R) (k .bench))) (sym d)
-    ∙ ap (λ (k : Carried). leaving (k .answer) (running (cond (done (k .answer)) (moved smaller R) R) (k .bench))) e
-    ∙ go (wordAt (runShape smaller R) (R .place))
-    ∙ ap (λ (o : Option Op). leaving (turnWith smaller (running R B) o .answer) (turnWith smaller (running R B) o .after))
-    (ap (λ (t : Bool). cond t (wordAt (runShape smaller R) (R .place)) none) (sym ok))
+    ap (λ (t : Bool). leaving (k .answer) (running (cond t (moved chosen R) R) (k .bench))) (sym d)
+    ∙ ap (λ (k : Carried). leaving (k .answer) (running (cond (done (k .answer)) (moved chosen R) R) (k .bench))) e
+    ∙ go (wordAt (runShape chosen R) (R .place))
+    ∙ ap (λ (o : Option Op). leaving (turnWith chosen (running R B) o .answer) (turnWith chosen (running R B) o .after))
+    (ap (λ (t : Bool). cond t (wordAt (runShape chosen R) (R .place)) none) (sym ok))
   where
     go : (o : Option Op)
-        → leaving (carriedBy (R .plan) o B .answer) (running (cond (done (carriedBy (R .plan) o B .answer)) (moved smaller R) R) (carriedBy (R .plan) o B .bench))
-        ≡ leaving (turnWith smaller (running R B) o .answer) (turnWith smaller (running R B) o .after)
+        → leaving (carriedBy (R .plan) o B .answer) (running (cond (done (carriedBy (R .plan) o B .answer)) (moved chosen R) R) (carriedBy (R .plan) o B .bench))
+        ≡ leaving (turnWith chosen (running R B) o .answer) (turnWith chosen (running R B) o .after)
     go none = refl
     go (some o) = refl
 
 -- one more, after n that were answered 0
-pub turns-carried : (r : Running) (R : Run) (B : Bench) (n : ℕ) → taking n (running R B) ≡ turns smaller r n → soundRun smaller R ≡ true → (k : Carried) → k ≡ carriedAt R B
-    → done (k .answer) ≡ true → (R′ : Run) → R′ ≡ moved smaller R → taking (n + 1) (running R′ (k .bench)) ≡ turns smaller r (n + 1)
+pub turns-carried : (r : Running) (R : Run) (B : Bench) (n : ℕ) → taking n (running R B) ≡ turns chosen r n → soundRun chosen R ≡ true → (k : Carried) → k ≡ carriedAt R B
+    → done (k .answer) ≡ true → (R′ : Run) → R′ ≡ moved chosen R → taking (n + 1) (running R′ (k .bench)) ≡ turns chosen r (n + 1)
 turns-carried r R B n e ok k ek d R′ eR =
     ap (λ (R : Run). taking (n + 1) (running R (k .bench))) eR
-    ∙ turns-more r (running R B) n e (leaving (k .answer) (running (moved smaller R) (k .bench))) (turn-carried R B ok k ek true d) d
+    ∙ turns-more r (running R B) n e (leaving (k .answer) (running (moved chosen R) (k .bench))) (turn-carried R B ok k ek true d) d
 
 -- the place after a turn
-pub moved-place : (R U A : Run) (q : Place) → U ≡ atPlace R q → A ≡ moved smaller U → atPlace R (A .place) ≡ moved smaller U
+pub moved-place : (R U A : Run) (q : Place) → U ≡ atPlace R q → A ≡ moved chosen U → atPlace R (A .place) ≡ moved chosen U
 moved-place R U A q e k =
-    ap (λ (A : Run). atPlace R (A .place)) k ∙ ap (λ (U : Run). atPlace R (moved smaller U .place)) e ∙ ap (moved smaller) (sym e)
+    ap (λ (A : Run). atPlace R (A .place)) k ∙ ap (λ (U : Run). atPlace R (moved chosen U .place)) e ∙ ap (moved chosen) (sym e)
 
 -- a run that no start can have made: every turn is refused
-pub turn-unsound : (R : Run) (B : Bench) → soundRun smaller R ≡ false → leaving (reply BadArguments) (running R B) ≡ turnOutcome smaller (running R B)
+pub turn-unsound : (R : Run) (B : Bench) → soundRun chosen R ≡ false → leaving (reply BadArguments) (running R B) ≡ turnOutcome chosen (running R B)
 turn-unsound R B h =
-    ap (λ (t : Bool). let o : Option Op = cond t (wordAt (runShape smaller R) (R .place)) none in leaving (turnWith smaller (running R B) o .answer) (turnWith smaller (running R B) o .after)) (sym h)
+    ap (λ (t : Bool). let o : Option Op = cond t (wordAt (runShape chosen R) (R .place)) none in leaving (turnWith chosen (running R B) o .answer) (turnWith chosen (running R B) o .after)) (sym h)
 
-pub turns-unsound : (R : Run) (B : Bench) (n : ℕ) → soundRun smaller R ≡ false → taking 0 (running R B) ≡ turns smaller (running R B) n
+pub turns-unsound : (R : Run) (B : Bench) (n : ℕ) → soundRun chosen R ≡ false → taking 0 (running R B) ≡ turns chosen (running R B) n
 turns-unsound R B n h = turns-stop (running R B) 0 n (omega arith) (ap (λ (o : TurnOutcome). done (o .answer)) (sym (turn-unsound R B h)))
 
 -- ---- the answer that turns end with
@@ -247,7 +247,7 @@ turns-unsound R B n h = turns-stop (running R B) 0 n (omega arith) (ap (λ (o : 
 pub ends-done : (limit count : ℕ) (t : TurnsOutcome) → eqb count limit ≡ true → reply Done ≡ endingAt limit count t
 ends-done limit count t e = sym (rw e)
 
-pub ends-refused : (limit count : ℕ) (t : TurnsOutcome) (a : Reply) → eqb count limit ≡ false → a ≡ turn smaller (t .after) .answer → a ≡ endingAt limit count t
+pub ends-refused : (limit count : ℕ) (t : TurnsOutcome) (a : Reply) → eqb count limit ≡ false → a ≡ turn chosen (t .after) .answer → a ≡ endingAt limit count t
 ends-refused limit count t a e h = h ∙ sym (rw e)
 
 -- the run at the place where the turns end
@@ -255,13 +255,13 @@ pub at-end : (n : ℕ) (U U′ : Run) (B : Bench) (t : TurnsOutcome) → U ≡ U
 at-end n U U′ B t e h = ap (λ (U : Run). taking n (running U B)) e ∙ h
 
 -- one turn, from what turns of at most one come to
-pub one-turn : (r : Running) (n : ℕ) (a : Reply) (after : Running) → taking n after ≡ turns smaller r 1 → a ≡ endingAt 1 n (turns smaller r n) → leaving a after ≡ turnOutcome smaller r
+pub one-turn : (r : Running) (n : ℕ) (a : Reply) (after : Running) → taking n after ≡ turns chosen r 1 → a ≡ endingAt 1 n (turns chosen r n) → leaving a after ≡ turnOutcome chosen r
 one-turn r n a after e h =
-    ap₂ leaving (go (done (turn smaller r .answer)) refl) (ap (λ (o : TurnsOutcome). o .after) e)
+    ap₂ leaving (go (done (turn chosen r .answer)) refl) (ap (λ (o : TurnsOutcome). o .after) e)
   where
-    count-is : (t : Bool) → done (turn smaller r .answer) ≡ t → n ≡ cond t 1 0
+    count-is : (t : Bool) → done (turn chosen r .answer) ≡ t → n ≡ cond t 1 0
     count-is t d = ap (λ (o : TurnsOutcome). o .count) e ∙ ap (λ (t : Bool). 0 + cond t 1 0) d ∙ zero-add (cond t 1 0)
 
-    go : (t : Bool) → done (turn smaller r .answer) ≡ t → a ≡ turn smaller r .answer
-    go true d = h ∙ ap (λ (n : ℕ). endingAt 1 n (turns smaller r n)) (count-is true d) ∙ sym (turn-zero r d)
-    go false d = h ∙ ap (λ (n : ℕ). endingAt 1 n (turns smaller r n)) (count-is false d)
+    go : (t : Bool) → done (turn chosen r .answer) ≡ t → a ≡ turn chosen r .answer
+    go true d = h ∙ ap (λ (n : ℕ). endingAt 1 n (turns chosen r n)) (count-is true d) ∙ sym (turn-zero r d)
+    go false d = h ∙ ap (λ (n : ℕ). endingAt 1 n (turns chosen r n)) (count-is false d)

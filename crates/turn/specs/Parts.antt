@@ -8,7 +8,7 @@ use Rattle.machine.specs.declared.Machine.{Machine}
 use Rattle.machine.specs.declared.Reply.{Reply}
 use Rattle.machine.specs.Answers.{reply}
 use Rattle.machine.specs.Geometry.{Bench, benchOf}
-use Rattle.machine.specs.Setting.{smaller}
+use Rattle.machine.specs.Setting.{chosen}
 use Rattle.machine.specs.Step.{Outcome, step}
 use Rattle.run.specs.declared.Plan.{Plan}
 use Rattle.run.specs.declared.Place.{Place}
@@ -38,12 +38,12 @@ carriedBy P (some o) B = carriedFor P o B
 
 -- the word at the place of a run
 abbrev pub carriedAt : Run → Bench → Carried
-carriedAt R B = carriedBy (R .plan) (wordAt (runShape smaller R) (R .place)) B
+carriedAt R B = carriedBy (R .plan) (wordAt (runShape chosen R) (R .place)) B
 
 -- the run at another place
 abbrev pub atPlace : Run → Place → Run
-atPlace R q = record { plan = R .plan; rlen = R .rlen; mlen = R .mlen; place = q }
+atPlace R q = record { plan = R .plan; rlen = R .rlen; mlen = R .mlen; rule = R .rule; place = q }
 
 -- the answer of the turn after these, or 0 where there is none to take
 abbrev pub endingAt : (limit count : ℕ) → TurnsOutcome → Reply
-endingAt limit count t = cond (eqb count limit) (reply Done) (turn smaller (t .after) .answer)
+endingAt limit count t = cond (eqb count limit) (reply Done) (turn chosen (t .after) .answer)

@@ -19,7 +19,7 @@ ghost use Rattle.machine.specs.Answers.{reply, verdict};
 ghost use Rattle.machine.specs.Geometry.{Bench, benchOf, stateOf, registerCount};
 ghost use Rattle.machine.specs.Faults.{sound};
 ghost use Rattle.machine.specs.Refusals.{typed};
-ghost use Rattle.machine.specs.Setting.{smaller};
+ghost use Rattle.machine.specs.Setting.{chosen};
 ghost use Rattle.machine.specs.Operation.{Operation, times};
 ghost use Rattle.operations.specs.Parts.{WritesRegisters};
 ghost use Rattle.settings.specs.Parts.{Ready};
@@ -195,7 +195,7 @@ fn carry_out(
     memory: &mut [u8],
 ) -> Answer
     requires { ⌜ sound m (now registers) (now marks) ≡ true ⌝ }
-    requires { ⌜ soundRun smaller run ≡ true ⌝ }
+    requires { ⌜ soundRun chosen run ≡ true ⌝ }
     ensures { λ r. ⌜ (let B : Bench = benchOf m (now (registers .entry)) (now (marks .entry)) (now (memory .entry)) in
         carried (reply r) (carriedAt run B .bench .machine) (now (registers .exit)) (now (marks .exit)) (now (memory .exit)) ≡ carriedAt run B) ⌝ }
 {
@@ -231,7 +231,7 @@ fn carry_out(
 // The machine's numbers after the word at the place of a run: only a setting changes them.
 fn machine_after(run: Run, m: Machine) -> Machine
     requires { ⌜ Ready m ⌝ }
-    requires { ⌜ soundRun smaller run ≡ true ⌝ }
+    requires { ⌜ soundRun chosen run ≡ true ⌝ }
     ensures { λ r. ⌜ ((registers marks memory : List ℕ) → sound m registers marks ≡ true → r ≡ carriedAt run (benchOf m registers marks memory) .bench .machine) ⌝ }
 {
     let plan = run.plan;
@@ -267,6 +267,7 @@ fn at_place(run: Run, place: Place) -> Run
         plan: plan,
         rlen: run.rlen,
         mlen: run.mlen,
+        rule: run.rule,
         place: place,
     }
 }
@@ -282,9 +283,9 @@ fn take_turns(
 ) -> Progress
     requires { ⌜ sound m (now registers) (now marks) ≡ true ⌝ }
     ensures { λ r. ⌜ takenAs (record { count = r .count; run = atPlace run (r .place); machine = r .machine }) (now (registers .exit)) (now (marks .exit)) (now (memory .exit))
-        ≡ turns smaller (running run (benchOf m (now (registers .entry)) (now (marks .entry)) (now (memory .entry)))) limit ⌝ }
+        ≡ turns chosen (running run (benchOf m (now (registers .entry)) (now (marks .entry)) (now (memory .entry)))) limit ⌝ }
     ensures { λ r. ⌜ (0 < limit → reply (r .answer) ≡ endingAt limit (r .count)
-        (turns smaller (running run (benchOf m (now (registers .entry)) (now (marks .entry)) (now (memory .entry)))) (r .count))) ⌝ }
+        (turns chosen (running run (benchOf m (now (registers .entry)) (now (marks .entry)) (now (memory .entry)))) (r .count))) ⌝ }
 {
     let mut place = run.place;
     if !asking::is_sound_run(run) {
@@ -333,7 +334,7 @@ pub fn turn(
     memory: &mut [u8],
 ) -> Turned
     ensures { λ r. ⌜ turnedAs r (now (registers .exit)) (now (marks .exit)) (now (memory .exit))
-        ≡ turnOutcome smaller (running run (benchOf m (now (registers .entry)) (now (marks .entry)) (now (memory .entry)))) ⌝ }
+        ≡ turnOutcome chosen (running run (benchOf m (now (registers .entry)) (now (marks .entry)) (now (memory .entry)))) ⌝ }
 {
     if !settings::faults::is_sound(m, registers, marks) {
         return Turned {
@@ -364,7 +365,7 @@ pub fn turns(
     memory: &mut [u8],
 ) -> Taken
     ensures { λ r. ⌜ takenAs r (now (registers .exit)) (now (marks .exit)) (now (memory .exit))
-        ≡ turns smaller (running run (benchOf m (now (registers .entry)) (now (marks .entry)) (now (memory .entry)))) limit ⌝ }
+        ≡ turns chosen (running run (benchOf m (now (registers .entry)) (now (marks .entry)) (now (memory .entry)))) limit ⌝ }
 {
     if !settings::faults::is_sound(m, registers, marks) {
         return Taken {

@@ -8,7 +8,7 @@ use Rattle.width.specs.Blocks.{count}
 use Rattle.machine.specs.declared.Reply.{Reply}
 use Rattle.machine.specs.Answers.{reply, number, done, isDone}
 use Rattle.machine.specs.Geometry.{Bench}
-use Rattle.machine.specs.Setting.{smaller}
+use Rattle.machine.specs.Setting.{chosen}
 use Rattle.machine.proofs.TestLaws.{false-true}
 use Rattle.run.specs.declared.Plan.{Plan}
 use Rattle.run.specs.declared.RunStarted.{RunStarted}
@@ -39,50 +39,50 @@ few-steps S hm hk hn =
 
 module _ (P : Plan) (B : Bench) where
   abbrev all : ℕ
-  all = steps (shape (jobOf smaller P B))
+  all = steps (shape (jobOf chosen P B))
 
-  pub whole-refused : done (startRun smaller P B .answer) ≡ false → whole smaller P B ≡ record { answer = startRun smaller P B .answer; count = 0; bench = B }
+  pub whole-refused : done (startRun chosen P B .answer) ≡ false → whole chosen P B ≡ record { answer = startRun chosen P B .answer; count = 0; bench = B }
   whole-refused h =
-      let r = whole-refusal-changes-nothing smaller P B (λ z. false-true (sym h ∙ number-done (startRun smaller P B .answer) z)) in
-      ap₂ (λ (n : ℕ) (C : Bench). record { answer = startRun smaller P B .answer; count = n; bench = C }) (r .0) (r .1)
+      let r = whole-refusal-changes-nothing chosen P B (λ z. false-true (sym h ∙ number-done (startRun chosen P B .answer) z)) in
+      ap₂ (λ (n : ℕ) (C : Bench). record { answer = startRun chosen P B .answer; count = n; bench = C }) (r .0) (r .1)
 
   -- ---- an accepted one
 
   module _ (bytes : Bytes (B .memory)) where
-    the-demand : Demand3 smaller P B
+    the-demand : Demand3 chosen P B
     the-demand = demand-3-ours P B bytes
 
     -- no more turns are answered 0 than there are steps, however many are taken
-    whole-done : startRun smaller P B .answer .number ≡ 0 → (n : ℕ) → all ≤ n → turns smaller (startedRun smaller P B) n ≡ turns smaller (startedRun smaller P B) all
+    whole-done : startRun chosen P B .answer .number ≡ 0 → (n : ℕ) → all ≤ n → turns chosen (startedRun chosen P B) n ≡ turns chosen (startedRun chosen P B) all
     whole-done e n l =
         let p = the-demand .turns e all .past-end (omega arith) .answers in
-        sym (turns-stop (startedRun smaller P B) all n l (number-refused (turn smaller (afterTurns smaller (startedRun smaller P B) all) .answer) (λ z. let f : 8 ≡ 0 = sym p ∙ z in omega arith)))
+        sym (turns-stop (startedRun chosen P B) all n l (number-refused (turn chosen (afterTurns chosen (startedRun chosen P B) all) .answer) (λ z. let f : 8 ≡ 0 = sym p ∙ z in omega arith)))
 
     -- ---- from what the calls return
 
     abbrev Finishes : WholeOutcome → Type 0
-    Finishes o = (o ≡ whole smaller P B) × Delivers P B o
+    Finishes o = (o ≡ whole chosen P B) × Delivers P B o
 
-    finishes : (o : WholeOutcome) → o ≡ whole smaller P B → Finishes o
+    finishes : (o : WholeOutcome) → o ≡ whole chosen P B → Finishes o
     finishes o e = (e, subst (Delivers P B) (sym e) (whole-delivers P B bytes))
 
-    answer-is : (s : RunStarted) → startedAs s B ≡ startRun smaller P B → reply (s .answer) ≡ startRun smaller P B .answer
+    answer-is : (s : RunStarted) → startedAs s B ≡ startRun chosen P B → reply (s .answer) ≡ startRun chosen P B .answer
     answer-is s e = ap (λ (r : RunStart). r .answer) e
 
-    pub finishes-refused : (s : RunStarted) → startedAs s B ≡ startRun smaller P B → isDone (s .answer) ≡ false
+    pub finishes-refused : (s : RunStarted) → startedAs s B ≡ startRun chosen P B → isDone (s .answer) ≡ false
         → Finishes (record { answer = reply (s .answer); count = 0; bench = B })
     finishes-refused s e d =
         let a = answer-is s e in
         finishes _ (ap (λ (a : Reply). record { answer = a; count = 0; bench = B }) a ∙ sym (whole-refused (sym (ap done a) ∙ d)))
 
-    pub finishes-done : (s : RunStarted) → startedAs s B ≡ startRun smaller P B → isDone (s .answer) ≡ true
-        → (t : TurnsOutcome) → t ≡ turns smaller (running (s .run) B) 18446744073709551615
+    pub finishes-done : (s : RunStarted) → startedAs s B ≡ startRun chosen P B → isDone (s .answer) ≡ true
+        → (t : TurnsOutcome) → t ≡ turns chosen (running (s .run) B) 18446744073709551615
         → Finishes (record { answer = reply (s .answer); count = t .count; bench = t .after .bench })
     finishes-done s e d t h =
         let a = answer-is s e in
-        let ok : startRun smaller P B .answer .number ≡ 0 = ap (λ (a : Reply). a .number) (sym a) ∙ eqb-true (number (s .answer)) 0 d in
+        let ok : startRun chosen P B .answer .number ≡ 0 = ap (λ (a : Reply). a .number) (sym a) ∙ eqb-true (number (s .answer)) 0 d in
         let n = the-demand .answered .only-then ok .0 in
-        let few = few-steps (shape (jobOf smaller P B)) (n .m-fits) (n .k-fits) (n .n-fits) in
+        let few = few-steps (shape (jobOf chosen P B)) (n .m-fits) (n .k-fits) (n .n-fits) in
         finishes _
         (ap₂ (λ (a : Reply) (t : TurnsOutcome). record { answer = a; count = t .count; bench = t .after .bench }) a
-        (h ∙ ap (λ (r : RunStart). turns smaller (running (r .run) (r .bench)) 18446744073709551615) e ∙ whole-done ok 18446744073709551615 (omega arith)))
+        (h ∙ ap (λ (r : RunStart). turns chosen (running (r .run) (r .bench)) 18446744073709551615) e ∙ whole-done ok 18446744073709551615 (omega arith)))

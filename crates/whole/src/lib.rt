@@ -4,7 +4,7 @@ use run::Finished;
 use run::Plan;
 ghost use mathlib.Core.Path.{_≡_};
 ghost use Rattle.machine.specs.Geometry.{benchOf};
-ghost use Rattle.machine.specs.Setting.{smaller};
+ghost use Rattle.machine.specs.Setting.{chosen};
 ghost use Rattle.run.specs.Whole.{whole, finishedAs, Delivers};
 
 // Starts a run and takes turns until one is refused: C becomes the product, and no other byte of memory changes.
@@ -16,7 +16,7 @@ pub fn whole(
     memory: &mut [u8],
 ) -> Finished
     ensures { λ r. ⌜ finishedAs r (now (registers .exit)) (now (marks .exit)) (now (memory .exit))
-        ≡ whole smaller plan (benchOf m (now (registers .entry)) (now (marks .entry)) (now (memory .entry))) ⌝ }
+        ≡ whole chosen plan (benchOf m (now (registers .entry)) (now (marks .entry)) (now (memory .entry))) ⌝ }
     ensures { λ r. ⌜ Delivers plan (benchOf m (now (registers .entry)) (now (marks .entry)) (now (memory .entry)))
         (finishedAs r (now (registers .exit)) (now (marks .exit)) (now (memory .exit))) ⌝ }
 {

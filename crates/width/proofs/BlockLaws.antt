@@ -18,6 +18,15 @@ count-zero max h = div-eq-of-lt (omega arith)
 pub count-one : (max r : ℕ) → zero < r → r ≤ max → count max r ≡ 1
 count-one max r h l = div-eq-of-lt-le max (omega arith) (omega arith)
 
+-- what is granted is at most the maximum and what is asked
+pub at-most : (grant : ℕ → ℕ → ℕ) → Grants grant → (max asked : ℕ) → (grant max asked ≤ max) × (grant max asked ≤ asked)
+at-most grant G max asked = go (le-or-lt asked max) (le-or-lt (2 * max) asked)
+  where
+    go : (asked ≤ max) ⊎ (max < asked) → (2 * max ≤ asked) ⊎ (asked < 2 * max) → (grant max asked ≤ max) × (grant max asked ≤ asked)
+    go (inl l) _ = omega (arith, G .small max asked l)
+    go (inr l) (inl k) = omega (arith, G .large max asked k)
+    go (inr l) (inr k) = omega (arith, G .middle max asked k)
+
 module _ (grant : ℕ → ℕ → ℕ) (G : Grants grant) (max : ℕ) (0<max : zero < max) where
   -- what is granted of r is at least 1, and at most r and the maximum
   pub granted : (r : ℕ) → zero < r → (zero < grant max r) × (grant max r ≤ r) × (grant max r ≤ max)

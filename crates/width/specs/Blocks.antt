@@ -3,11 +3,16 @@ use mathlib.Core.Path.{_≡_}
 use mathlib.Core.List.{List, [], _∷_}
 use Prim.Native.Nat.{ℕ, zero, suc, _+_, _*_, _-_, _/_, _≤_, _<_}
 
--- a rule that grants a size out of the maximum and what is asked: the three constraints of the draft
+-- a choice of sizes, out of the maximum and what is asked, that keeps the three constraints of source document 001: "mtilem = ATM if
+-- ATM <= TMMAX"; "ceil(ATM / 2) <= mtilem <= TMMAX if ATM < (2 * TMMAX)"; "mtilem = TMMAX if ATM >= (2 * TMMAX)"
 pub record Grants (grant : ℕ → ℕ → ℕ) : Type 0 where
   pub small : (max asked : ℕ) → asked ≤ max → grant max asked ≡ asked
   pub middle : (max asked : ℕ) → asked < 2 * max → (asked ≤ 2 * grant max asked) × (grant max asked ≤ max)
   pub large : (max asked : ℕ) → 2 * max ≤ asked → grant max asked ≡ max
+
+-- a choice for each rule that a machine may have
+abbrev pub EachGrants : (ℕ → ℕ → ℕ → ℕ) → Type 0
+EachGrants grant = (rule : ℕ) → Grants (grant rule)
 
 -- the number of blocks, rounded up
 abbrev pub count : ℕ → ℕ → ℕ

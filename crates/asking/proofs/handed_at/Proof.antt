@@ -1,7 +1,7 @@
 use mathlib.Core.Path.{_≡_, sym, ap, _∙_, subst}
 use mathlib.Core.Bool.{true}
 use native.Mathlib.Omega.{arith}
-use Rattle.machine.specs.Setting.{smaller}
+use Rattle.machine.specs.Setting.{chosen}
 use Rattle.run.specs.declared.Place.{Place}
 use Rattle.run.specs.Places.{wordAt}
 use Rattle.run.specs.Turn.{runShape}
@@ -150,61 +150,61 @@ returns : tie.Need-returns
 returns c =
     let p = c .before in
     let R = p .before .before .before .args .run in
-    c .hand-type .ensures ∙ ap (λ (q : Place). handedOf (R .plan) (wordAt (runShape smaller R) q)) (sym (p .enum-told .given .1))
+    c .hand-type .ensures ∙ ap (λ (q : Place). handedOf (R .plan) (wordAt (runShape chosen R) q)) (sym (p .enum-told .given .1))
 
 returns-2 : tie.Need-returns-2
 returns-2 c =
     let p = c .before .before .before in
     let R = p .before .before .before .args .run in
-    c .hand-setting .ensures ∙ ap (λ (q : Place). handedOf (R .plan) (wordAt (runShape smaller R) q)) (sym (p .place .given .1))
+    c .hand-setting .ensures ∙ ap (λ (q : Place). handedOf (R .plan) (wordAt (runShape chosen R) q)) (sym (p .place .given .1))
 
 returns-3 : tie.Need-returns-3
 returns-3 c =
     let p = c .before .before .before in
     let R = p .before .before .before .args .run in
-    c .hand-setting2 .ensures ∙ ap (λ (q : Place). handedOf (R .plan) (wordAt (runShape smaller R) q)) (sym (p .place2 .given .1))
+    c .hand-setting2 .ensures ∙ ap (λ (q : Place). handedOf (R .plan) (wordAt (runShape chosen R) q)) (sym (p .place2 .given .1))
 
 returns-4 : tie.Need-returns-4
 returns-4 c =
     let p = c .before in
     let R = p .before .before .before .args .run in
-    c .hand-clear .ensures ∙ ap (λ (q : Place). handedOf (R .plan) (wordAt (runShape smaller R) q)) (sym (p .enum-told2 .given .1))
+    c .hand-clear .ensures ∙ ap (λ (q : Place). handedOf (R .plan) (wordAt (runShape chosen R) q)) (sym (p .enum-told2 .given .1))
 
 returns-5 : tie.Need-returns-5
 returns-5 c =
     let p = c .before .before .before in
     let R = p .before .before .before .args .run in
-    c .hand-setting3 .ensures ∙ ap (λ (q : Place). handedOf (R .plan) (wordAt (runShape smaller R) q)) (sym (p .place3 .given .1))
+    c .hand-setting3 .ensures ∙ ap (λ (q : Place). handedOf (R .plan) (wordAt (runShape chosen R) q)) (sym (p .place3 .given .1))
 
 returns-6 : tie.Need-returns-6
 returns-6 c =
     let p = c .before .before in
     let R = p .before .before .before .args .run in
-    c .hand-load-a .ensures ∙ ap (λ (q : Place). handedOf (R .plan) (wordAt (runShape smaller R) q)) (sym (p .place4 .given .1))
+    c .hand-load-a .ensures ∙ ap (λ (q : Place). handedOf (R .plan) (wordAt (runShape chosen R) q)) (sym (p .place4 .given .1))
 
 returns-7 : tie.Need-returns-7
 returns-7 c =
     let p = c .before .before in
     let R = p .before .before .before .args .run in
-    c .hand-load-b .ensures ∙ ap (λ (q : Place). handedOf (R .plan) (wordAt (runShape smaller R) q)) (sym (p .place5 .given .1))
+    c .hand-load-b .ensures ∙ ap (λ (q : Place). handedOf (R .plan) (wordAt (runShape chosen R) q)) (sym (p .place5 .given .1))
 
 returns-8 : tie.Need-returns-8
 returns-8 c =
     let p = c .before in
     let R = p .before .before .before .args .run in
-    c .hand-multiply .ensures ∙ ap (λ (q : Place). handedOf (R .plan) (wordAt (runShape smaller R) q)) (sym (p .enum-told3 .given .1))
+    c .hand-multiply .ensures ∙ ap (λ (q : Place). handedOf (R .plan) (wordAt (runShape chosen R) q)) (sym (p .enum-told3 .given .1))
 
 returns-9 : tie.Need-returns-9
 returns-9 c =
     let p = c .before .before in
     let R = p .before .before .before .args .run in
-    c .hand-store .ensures ∙ ap (λ (q : Place). handedOf (R .plan) (wordAt (runShape smaller R) q)) (sym (p .place6 .given .1))
+    c .hand-store .ensures ∙ ap (λ (q : Place). handedOf (R .plan) (wordAt (runShape chosen R) q)) (sym (p .place6 .given .1))
 
 returns-10 : tie.Need-returns-10
 returns-10 c =
     let p = c .before in
     let R = p .before .before .before .args .run in
-    c .plain-step .ensures ∙ ap (λ (q : Place). handedOf (R .plan) (wordAt (runShape smaller R) q)) (sym (p .enum-told4 .given .1))
+    c .plain-step .ensures ∙ ap (λ (q : Place). handedOf (R .plan) (wordAt (runShape chosen R) q)) (sym (p .enum-told4 .given .1))
 
 pub handed-at-spec : {M : Type 1} → statement M
 handed-at-spec =

@@ -19,7 +19,7 @@ returns-2 : tie.Need-returns-2
 returns-2 c =
     let e = c .before .before in
     let a = e .before .args in
-    c .head-rows .ensures ∙ ap (headM (shapeBy (a .m) (a .k) (a .n) (a .rows) (a .columns) (a .terms))) (c .before .block-end .ensures) ∙ rw (le-ltb (a .column) (a .n) (e .if1 .left))
+    c .head-rows .ensures ∙ ap (headM (shapeBy (a .rule) (a .m) (a .k) (a .n) (a .rows) (a .columns) (a .terms))) (c .before .block-end .ensures) ∙ rw (le-ltb (a .column) (a .n) (e .if1 .left))
 
 pub head-columns-spec : {M : Type 1} → statement M
 head-columns-spec = tie.close (tie.spec returns block-end-requires head-rows-requires returns-2)

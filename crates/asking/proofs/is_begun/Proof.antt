@@ -1,7 +1,7 @@
 use mathlib.Core.Path.{_≡_, refl, sym, ap, _∙_, subst}
 use mathlib.Core.Bool.{Bool, true}
 use borrow.Author.Tests.{ltb-true}
-use Rattle.machine.specs.Setting.{smaller}
+use Rattle.machine.specs.Setting.{chosen}
 use Rattle.run.specs.declared.Run.{Run}
 use Rattle.run.specs.declared.Place.{Place}
 use Rattle.run.specs.Turn.{begins, runShape}
@@ -11,8 +11,8 @@ use Rattle.asking.proofs.is_begun.Statement.{statement}
 use Rattle.asking.proofs.is_begun.Tie as tie
 
 -- what is tested at the place that the match found
-at-place : (R : Run) {p : Place} {r : Bool} → R .place ≡ p → r ≡ begins (runShape smaller R) p → r ≡ begins (runShape smaller R) (R .place)
-at-place R e h = h ∙ ap (begins (runShape smaller R)) (sym e)
+at-place : (R : Run) {p : Place} {r : Bool} → R .place ≡ p → r ≡ begins (runShape chosen R) p → r ≡ begins (runShape chosen R) (R .place)
+at-place R e h = h ∙ ap (begins (runShape chosen R)) (sym e)
 
 enum-told : tie.Need-enum-told
 enum-told c = search needs

@@ -2,7 +2,7 @@ use mathlib.Core.Path.{_≡_, sym, ap₂, _∙_}
 use mathlib.Core.Bool.{true}
 use borrow.Author.Tests.{not-true, not-false}
 use Rattle.machine.specs.declared.Answer.the-variants.{Done}
-use Rattle.machine.specs.Setting.{smaller}
+use Rattle.machine.specs.Setting.{chosen}
 use Rattle.run.specs.Turn.{soundRun}
 use Rattle.asking.proofs.AskingLaws.{run-numbered, giving, ask-unsound, ask-end, ask-done}
 use borrow.Author.Needs.{needs}
@@ -10,7 +10,7 @@ use Rattle.asking.proofs.next.Statement.{statement}
 use Rattle.asking.proofs.next.Tie as tie
 
 -- the run is sound
-ok-1 : (c : tie.Else1) → soundRun smaller (c .before .before .args .run) ≡ true
+ok-1 : (c : tie.Else1) → soundRun chosen (c .before .before .args .run) ≡ true
 ok-1 c = sym (c .before .is-sound-run .ensures) ∙ not-false (c .before .is-sound-run .result) (c .if1 .left)
 
 is-sound-run-requires : tie.Need-is-sound-run-requires

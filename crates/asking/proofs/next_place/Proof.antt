@@ -59,62 +59,62 @@ enum-told-2 c = search needs
 returns : tie.Need-returns
 returns c =
     let s = c .before .before .before in
-    c .head-rows .ensures ∙ ap (next (shapeBy (s .args .m) (s .args .k) (s .args .n) (s .args .rows) (s .args .columns) (s .args .terms))) (sym (c .before .enum-told .given .1))
+    c .head-rows .ensures ∙ ap (next (shapeBy (s .args .rule) (s .args .m) (s .args .k) (s .args .n) (s .args .rows) (s .args .columns) (s .args .terms))) (sym (c .before .enum-told .given .1))
 
 returns-2 : tie.Need-returns-2
 returns-2 c =
     let p = c .before .before in
     let s = p .before .before in
-    c .head-columns .ensures ∙ ap (next (shapeBy (s .args .m) (s .args .k) (s .args .n) (s .args .rows) (s .args .columns) (s .args .terms))) (sym (p .place .given .1))
+    c .head-columns .ensures ∙ ap (next (shapeBy (s .args .rule) (s .args .m) (s .args .k) (s .args .n) (s .args .rows) (s .args .columns) (s .args .terms))) (sym (p .place .given .1))
 
 returns-3 : tie.Need-returns-3
 returns-3 c =
     let p = c .before in
     let s = p .before .before in
-    ap (next (shapeBy (s .args .m) (s .args .k) (s .args .n) (s .args .rows) (s .args .columns) (s .args .terms))) (sym (p .place2 .given .1))
+    ap (next (shapeBy (s .args .rule) (s .args .m) (s .args .k) (s .args .n) (s .args .rows) (s .args .columns) (s .args .terms))) (sym (p .place2 .given .1))
 
 returns-4 : tie.Need-returns-4
 returns-4 c =
     let p = c .before .before in
     let s = p .before .before in
-    c .head-terms .ensures ∙ ap (next (shapeBy (s .args .m) (s .args .k) (s .args .n) (s .args .rows) (s .args .columns) (s .args .terms))) (sym (p .place3 .given .1))
+    c .head-terms .ensures ∙ ap (next (shapeBy (s .args .rule) (s .args .m) (s .args .k) (s .args .n) (s .args .rows) (s .args .columns) (s .args .terms))) (sym (p .place3 .given .1))
 
 returns-5 : tie.Need-returns-5
 returns-5 c =
     let p = c .before in
     let s = p .before .before in
-    ap (next (shapeBy (s .args .m) (s .args .k) (s .args .n) (s .args .rows) (s .args .columns) (s .args .terms))) (sym (p .place4 .given .1))
+    ap (next (shapeBy (s .args .rule) (s .args .m) (s .args .k) (s .args .n) (s .args .rows) (s .args .columns) (s .args .terms))) (sym (p .place4 .given .1))
 
 returns-6 : tie.Need-returns-6
 returns-6 c =
     let p = c .before in
     let s = p .before .before in
-    ap (next (shapeBy (s .args .m) (s .args .k) (s .args .n) (s .args .rows) (s .args .columns) (s .args .terms))) (sym (p .place5 .given .1))
+    ap (next (shapeBy (s .args .rule) (s .args .m) (s .args .k) (s .args .n) (s .args .rows) (s .args .columns) (s .args .terms))) (sym (p .place5 .given .1))
 
 returns-7 : tie.Need-returns-7
 returns-7 c =
     let p = c .before in
     let s = p .before .before in
-    ap (next (shapeBy (s .args .m) (s .args .k) (s .args .n) (s .args .rows) (s .args .columns) (s .args .terms))) (sym (p .place6 .given .1))
+    ap (next (shapeBy (s .args .rule) (s .args .m) (s .args .k) (s .args .n) (s .args .rows) (s .args .columns) (s .args .terms))) (sym (p .place6 .given .1))
 
 returns-8 : tie.Need-returns-8
 returns-8 c =
     let p = c .before .before .before in
     let s = p .before .before in
-    c .head-terms2 .ensures ∙ ap (headK (shapeBy (s .args .m) (s .args .k) (s .args .n) (s .args .rows) (s .args .columns) (s .args .terms)) (p .place7 .given .0 .0) (p .place7 .given .0 .1 .0)) (c .before .block-end .ensures)
-    ∙ ap (next (shapeBy (s .args .m) (s .args .k) (s .args .n) (s .args .rows) (s .args .columns) (s .args .terms))) (sym (p .place7 .given .1))
+    c .head-terms2 .ensures ∙ ap (headK (shapeBy (s .args .rule) (s .args .m) (s .args .k) (s .args .n) (s .args .rows) (s .args .columns) (s .args .terms)) (p .place7 .given .0 .0) (p .place7 .given .0 .1 .0)) (c .before .block-end .ensures)
+    ∙ ap (next (shapeBy (s .args .rule) (s .args .m) (s .args .k) (s .args .n) (s .args .rows) (s .args .columns) (s .args .terms))) (sym (p .place7 .given .1))
 
 returns-9 : tie.Need-returns-9
 returns-9 c =
     let p = c .before .before .before in
     let s = p .before .before in
-    c .head-columns2 .ensures ∙ ap (headN (shapeBy (s .args .m) (s .args .k) (s .args .n) (s .args .rows) (s .args .columns) (s .args .terms)) (p .place8 .given .0 .0)) (c .before .block-end2 .ensures)
-    ∙ ap (next (shapeBy (s .args .m) (s .args .k) (s .args .n) (s .args .rows) (s .args .columns) (s .args .terms))) (sym (p .place8 .given .1))
+    c .head-columns2 .ensures ∙ ap (headN (shapeBy (s .args .rule) (s .args .m) (s .args .k) (s .args .n) (s .args .rows) (s .args .columns) (s .args .terms)) (p .place8 .given .0 .0)) (c .before .block-end2 .ensures)
+    ∙ ap (next (shapeBy (s .args .rule) (s .args .m) (s .args .k) (s .args .n) (s .args .rows) (s .args .columns) (s .args .terms))) (sym (p .place8 .given .1))
 
 returns-10 : tie.Need-returns-10
 returns-10 c =
     let s = c .before .before in
-    ap (next (shapeBy (s .args .m) (s .args .k) (s .args .n) (s .args .rows) (s .args .columns) (s .args .terms))) (sym (c .enum-told2 .given .1))
+    ap (next (shapeBy (s .args .rule) (s .args .m) (s .args .k) (s .args .n) (s .args .rows) (s .args .columns) (s .args .terms))) (sym (c .enum-told2 .given .1))
 
 pub next-place-spec : {M : Type 1} → statement M
 next-place-spec =

@@ -2,7 +2,7 @@ use mathlib.Core.Path.{sym, _∙_}
 use mathlib.Core.List.{[], _∷_}
 use lib.Dec.{ltb}
 use borrow.Author.Tests.{ltb-true, not-true, not-false}
-use Rattle.machine.specs.Setting.{smaller}
+use Rattle.machine.specs.Setting.{chosen}
 use Rattle.machine.proofs.TestLaws.{every-each, fails, last}
 use Rattle.run.specs.Turn.{startsM, startsN, runShape}
 use Rattle.asking.proofs.starts_product.Statement.{statement}
@@ -18,7 +18,7 @@ returns : tie.Need-returns
 returns c =
     let t = c .before in
     let a = t .before .args in
-    let S = runShape smaller (a .run) in
+    let S = runShape chosen (a .run) in
     fails [] tt (startsM S (a .row)) (sym (t .starts-rows .ensures) ∙ not-true (t .starts-rows .result) (c .if1 .taken)) (startsN S (a .column) ∷ [])
 
 starts-columns-requires : tie.Need-starts-columns-requires
@@ -33,7 +33,7 @@ returns-2 c =
     let e = c .before in
     let t = e .before in
     let a = t .before .args in
-    let S = runShape smaller (a .run) in
+    let S = runShape chosen (a .run) in
     c .starts-columns .ensures
     ∙ last (startsM S (a .row) ∷ []) (sym (t .starts-rows .ensures) ∙ not-false (t .starts-rows .result) (e .if1 .left), tt) (startsN S (a .column))
 

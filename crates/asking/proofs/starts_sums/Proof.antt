@@ -3,14 +3,14 @@ use mathlib.Core.Bool.{true}
 use mathlib.Core.List.{[], _∷_}
 use lib.Dec.{ltb}
 use borrow.Author.Tests.{ltb-true, not-true, not-false}
-use Rattle.machine.specs.Setting.{smaller}
+use Rattle.machine.specs.Setting.{chosen}
 use Rattle.machine.proofs.TestLaws.{every-each, fails, last}
 use Rattle.run.specs.Turn.{startsM, startsN, startsK, runShape}
 use Rattle.asking.proofs.starts_sums.Statement.{statement}
 use Rattle.asking.proofs.starts_sums.Tie as tie
 
 -- a block of rows starts at the row
-ok-1 : (c : tie.Else1) → startsM (runShape smaller (c .before .before .args .run)) (c .before .before .args .row) ≡ true
+ok-1 : (c : tie.Else1) → startsM (runShape chosen (c .before .before .args .run)) (c .before .before .args .row) ≡ true
 ok-1 c = sym (c .before .starts-rows .ensures) ∙ not-false (c .before .starts-rows .result) (c .if1 .left)
 
 starts-rows-requires : tie.Need-starts-rows-requires
@@ -23,7 +23,7 @@ returns : tie.Need-returns
 returns c =
     let t = c .before in
     let a = t .before .args in
-    let S = runShape smaller (a .run) in
+    let S = runShape chosen (a .run) in
     fails [] tt (startsM S (a .row)) (sym (t .starts-rows .ensures) ∙ not-true (t .starts-rows .result) (c .if1 .taken)) (startsN S (a .column) ∷ startsK S (a .term) ∷ [])
 
 starts-columns-requires : tie.Need-starts-columns-requires
@@ -38,7 +38,7 @@ returns-2 c =
     let t = c .before in
     let o = t .before in
     let a = o .before .before .args in
-    let S = runShape smaller (a .run) in
+    let S = runShape chosen (a .run) in
     fails (startsM S (a .row) ∷ []) (ok-1 o, tt) (startsN S (a .column))
     (sym (t .starts-columns .ensures) ∙ not-true (t .starts-columns .result) (c .if2 .taken)) (startsK S (a .term) ∷ [])
 
@@ -55,7 +55,7 @@ returns-3 c =
     let t = e .before in
     let o = t .before in
     let a = o .before .before .args in
-    let S = runShape smaller (a .run) in
+    let S = runShape chosen (a .run) in
     c .starts-terms .ensures
     ∙ last (startsM S (a .row) ∷ startsN S (a .column) ∷ [])
     (ok-1 o, (sym (t .starts-columns .ensures) ∙ not-false (t .starts-columns .result) (e .if2 .left), tt)) (startsK S (a .term))

@@ -5,7 +5,7 @@ use native.Mathlib.Omega.{arith}
 use borrow.Author.Tests.{not-true, not-false}
 use borrow.Author.Needs.{needs}
 use Rattle.width.specs.Blocks.{count}
-use Rattle.machine.specs.Setting.{smaller}
+use Rattle.machine.specs.Setting.{chosen}
 use Rattle.run.specs.Turn.{soundRun}
 use Rattle.asking.proofs.AskingLaws.{run-numbered, run-most, run-sizes, run-blocks, no-steps, steps-counted}
 use Rattle.asking.proofs.CountLaws.{count-least}
@@ -13,7 +13,7 @@ use Rattle.asking.proofs.steps.Statement.{statement}
 use Rattle.asking.proofs.steps.Tie as tie
 
 -- the run is sound
-ok-1 : (c : tie.Else1) → soundRun smaller (c .before .before .args .run) ≡ true
+ok-1 : (c : tie.Else1) → soundRun chosen (c .before .before .args .run) ≡ true
 ok-1 c = sym (c .before .is-sound-run .ensures) ∙ not-false (c .before .is-sound-run .result) (c .if1 .left)
 
 is-sound-run-requires : tie.Need-is-sound-run-requires

@@ -1,5 +1,8 @@
+use Prim.Native.Nat.{_≤_}
+use native.Mathlib.Omega.{arith}
+use lib.ListN.{length}
 use borrow.Author.Needs.{needs}
-use Rattle.blocks.specs.Blocks.{machineOf}
+use Rattle.blocks.specs.Blocks.{machineBytes, machineOf}
 use Rattle.blocks.proofs.machine_of.Statement.{statement}
 use Rattle.blocks.proofs.machine_of.Tie as tie
 
@@ -27,6 +30,13 @@ read8-requires-7 c κs = search needs
 read8-requires-8 : tie.Need-read8-requires-8
 read8-requires-8 c κs = search needs
 
+-- the last number ends with the block
+ends : (s : tie.Start) → machineBytes ≤ length (s .args .block .now)
+ends s = omega arith
+
+read8-requires-9 : tie.Need-read8-requires-9
+read8-requires-9 c κs = ends (c .before .before .before .before .before .before .before .before .before)
+
 returns : tie.Need-returns
 unfolding machineOf
 returns c = cc
@@ -43,4 +53,5 @@ machine-of-spec =
     read8-requires-6
     read8-requires-7
     read8-requires-8
+    read8-requires-9
     returns)

@@ -27,6 +27,9 @@ write8-requires-7 c κs = search needs
 write8-requires-8 : tie.Need-write8-requires-8
 write8-requires-8 c κs = search needs
 
+write8-requires-9 : tie.Need-write8-requires-9
+write8-requires-9 c κs = search needs
+
 same-length : tie.Need-same-length
 same-length c = search needs
 
@@ -46,5 +49,6 @@ put-machine-spec =
     write8-requires-6
     write8-requires-7
     write8-requires-8
+    write8-requires-9
     same-length
     returns)

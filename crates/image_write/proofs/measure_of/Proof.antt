@@ -1,4 +1,5 @@
 -- `image_write::measure_of` meets its contract.
+use Prim.Native.Nat.{_+_, _≤_}
 use native.Mathlib.Omega.{arith}
 use borrow.Author.Needs.{needs}
 use Rattle.image_write.proofs.WriteLaws.{two-valued, few-marks, count-is, image-size-is}
@@ -14,28 +15,37 @@ tally-of-requires c κs =
     let M = a .marks .now in
     (omega (arith, few-marks (a .m) R M s), two-valued (a .m) R M s)
 
+version-size-requires : tie.Need-version-size-requires
+version-size-requires c κs = search needs
+
 header-size-requires : tie.Need-header-size-requires
 header-size-requires c κs = search needs
 
-add-t8 : tie.Need-add-t8
-add-t8 c =
-    let st = c .before .before .before .before in
+-- the numbers and the runs are few
+few : (c : tie.After-header-size) → c .before .version-size .result + c .header-size .result + c .before .before .tally-of .result .bytes ≤ 200000
+few c =
+    let st = c .before .before .before .before .before in
     let a = st .args in
-    let s = st .pre in
-    let R = a .registers .now in
-    let M = a .marks .now in
-    let t = c .before .tally-of in
-    omega (arith, few-marks (a .m) R M s, t .ensures .few, c .header-size .ensures .1)
+    omega (arith, few-marks (a .m) (a .registers .now) (a .marks .now) (st .pre), c .before .before .tally-of .ensures .few, c .before .version-size .ensures .1, c .header-size .ensures .1)
+
+add-t9 : tie.Need-add-t9
+add-t9 c = omega (arith, few c)
+
+add-t10 : tie.Need-add-t10
+add-t10 c = omega (arith, few c)
 
 returns : tie.Need-returns
 returns c =
-    let st = c .before .before .before .before in
+    let v = c .before in
+    let t = v .before .tally-of in
+    let st = v .before .before .before .before in
     let a = st .args in
     let s = st .pre in
     let R = a .registers .now in
-    let M = a .marks .now in
-    let t = c .before .tally-of in
-    (count-is (a .m) R M s (t .result .runs) (t .result .bytes) (t .ensures), image-size-is (a .m) R M s (t .result .runs) (t .result .bytes) (t .ensures) (c .header-size .result) (c .header-size .ensures .0))
+    let M = a .marks .now in (
+      count-is (a .m) R M s (t .result .runs) (t .result .bytes) (t .ensures),
+      image-size-is (a .m) R M s (t .result .runs) (t .result .bytes) (t .ensures) (v .version-size .result) (c .header-size .result) (v .version-size .ensures .0) (c .header-size .ensures .0),
+    )
 
 pub measure-of-spec : {M : Type 1} → statement M
-measure-of-spec = tie.close (tie.spec tally-of-requires header-size-requires add-t8 returns)
+measure-of-spec = tie.close (tie.spec tally-of-requires version-size-requires header-size-requires add-t9 add-t10 returns)

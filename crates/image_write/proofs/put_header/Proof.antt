@@ -24,7 +24,7 @@ put-numbers-requires : tie.Need-put-numbers-requires
 put-numbers-requires c κs =
     let a = c .before .before .before .before .before .args in
     let h = header-is (a .m) (a .count) (c .before .before .before .exponent .result) (c .before .before .exponent2 .result) (c .before .before .before .exponent .ensures .0) (c .before .before .exponent2 .ensures .0) in
-    (omega arith, subst (λ (ns : List ℕ). 0 + length (encodeAll ns []) ≤ length (a .room .now)) (sym h) (omega (arith, c .before .before .before .before .before .pre)))
+    (omega arith, subst (λ (ns : List ℕ). a .start + length (encodeAll ns []) ≤ length (a .room .now)) (sym h) (omega (arith, c .before .before .before .before .before .pre)))
 
 same-length : tie.Need-same-length
 same-length c = search needs
@@ -35,7 +35,7 @@ returns c =
     let h = header-is (a .m) (a .count) (c .before .before .before .before .before .before .exponent .result) (c .before .before .before .before .before .exponent2 .result) (c .before .before .before .before .before .before .exponent .ensures .0) (c .before .before .before .before .before .exponent2 .ensures .0) in
     let p = c .before .before .put-numbers in
     let e = ap (λ (ns : List ℕ). length (encodeAll ns [])) h in
-    (omega (arith, p .ensures .0, e), p .ensures .1 ∙ ap (λ (ns : List ℕ). sets (a .room .now) 0 (encodeAll ns [])) h)
+    (omega (arith, p .ensures .0, e), p .ensures .1 ∙ ap (λ (ns : List ℕ). sets (a .room .now) (a .start) (encodeAll ns [])) h)
 
 pub put-header-spec : {M : Type 1} → statement M
 put-header-spec =

@@ -1,47 +1,58 @@
 -- `image_write::put_image` meets its contract.
 use mathlib.Core.Path.{_≡_}
+use mathlib.Core.List.{[], _∷_, _++_}
+use Prim.Native.Nat.{_+_, _≤_}
 use native.Mathlib.Omega.{arith}
 use borrow.Author.Needs.{needs}
 use lib.ListN.{length}
+use Rattle.format.specs.Numbers.{encodeAll}
+use Rattle.image.specs.Cells.{cellsOf, runs}
+use Rattle.image.specs.Images.{version, fields, headerOf, runsBytes}
 use Rattle.image_write.proofs.WriteLaws.{two-valued, same-size, size-is, image-put}
 use Rattle.image_write.proofs.put_image.Statement.{statement}
 use Rattle.image_write.proofs.put_image.Tie as tie
 
+-- the image fits the room, by its parts
+fits : (st : tie.Start) → let a = st .args in
+    length (encodeAll (version (a .m .rule)) []) + (length (encodeAll (fields (headerOf (a .m)) ++ (a .count ∷ [])) []) + length (runsBytes (runs (cellsOf (a .registers .now) (a .marks .now))))) ≤ length (a .room .now)
+fits st =
+    let a = st .args in
+    omega (arith, st .pre .1 .1, size-is (a .m) (a .registers .now) (a .marks .now) (st .pre .0) (a .count) (st .pre .1 .0))
+
+put-version-requires : tie.Need-put-version-requires
+put-version-requires c κs = omega (arith, fits (c .before .before .before .before))
+
 put-header-requires : tie.Need-put-header-requires
 put-header-requires c κs =
-    let st = c .before .before .before .before in
-    let a = st .args in
-    let s = st .pre .0 in
-    let is = st .pre .1 .0 in
-    let R = a .registers .now in
-    let M = a .marks .now in
-    omega (arith, st .pre .1 .1, size-is (a .m) R M s (a .count) is)
+    let v = c .before .before .before in
+    omega (arith, fits (v .before .before .before .before .before), v .put-version .ensures .0, v .put-version .kept .0)
 
 put-runs-requires : tie.Need-put-runs-requires
 put-runs-requires c κs =
-    let st = c .before .before .before .before .before .before .before .before in
+    let h = c .before .before .before in
+    let v = h .before .before .before .before in
+    let st = v .before .before .before .before .before in
     let a = st .args in
-    let s = st .pre .0 in
-    let is = st .pre .1 .0 in
     let R = a .registers .now in
     let M = a .marks .now in
-    let p = c .before .before .before .put-header in
-    (omega (arith, st .pre .1 .1, size-is (a .m) R M s (a .count) is, p .ensures .0, p .kept .0), (same-size (a .m) R M s, two-valued (a .m) R M s))
+    let s = st .pre .0 in (
+      omega (arith, fits st, v .put-version .ensures .0, v .put-version .kept .0, h .put-header .ensures .0, h .put-header .kept .0),
+      (same-size (a .m) R M s, two-valued (a .m) R M s),
+    )
 
 same-length : tie.Need-same-length
 same-length c = search needs
 
 returns : tie.Need-returns
 returns c =
-    let st = c .before .before .before .before .before .before .before .before .before .before .before in
+    let q = c .before .before in
+    let h = q .before .before .before .before in
+    let v = h .before .before .before .before in
+    let st = v .before .before .before .before .before in
     let a = st .args in
-    let s = st .pre .0 in
-    let is = st .pre .1 .0 in
-    let R = a .registers .now in
-    let M = a .marks .now in
-    let p = c .before .before .before .before .before .before .put-header in
-    let q = c .before .before .put-runs in
-    image-put (a .m) R M s (a .count) is (a .room .now) (p .last .0) (q .last .0) (p .result) (p .ensures .1) (p .ensures .0) (q .ensures)
+    image-put (a .m) (a .registers .now) (a .marks .now) (st .pre .0) (a .count) (st .pre .1 .0) (a .room .now)
+    (v .put-version .last .0) (h .put-header .last .0) (q .put-runs .last .0) (v .put-version .result) (h .put-header .result)
+    (v .put-version .ensures .1) (v .put-version .ensures .0) (h .put-header .ensures .1) (h .put-header .ensures .0) (q .put-runs .ensures)
 
 pub put-image-spec : {M : Type 1} → statement M
-put-image-spec = tie.close (tie.spec put-header-requires put-runs-requires same-length returns)
+put-image-spec = tie.close (tie.spec put-version-requires put-header-requires put-runs-requires same-length returns)

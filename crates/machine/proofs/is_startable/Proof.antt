@@ -4,7 +4,7 @@ use Prim.Native.Nat.{_*_}
 use native.Mathlib.Omega.{arith}
 use lib.ListN.{length}
 use borrow.Author.Needs.{needs}
-use borrow.Author.Tests.{not-true, not-false, eq-eqb, ne-eqb}
+use borrow.Author.Tests.{not-true, not-false, eq-eqb, ne-eqb, le-leb, lt-leb}
 use Rattle.machine.specs.Geometry.{permitted}
 use Rattle.machine.specs.Starting.{sealEnds}
 use Rattle.machine.proofs.StartLaws.{startable-by, seal-fits}
@@ -18,8 +18,8 @@ permitted-lengths-requires c κs = search needs
 returns : tie.Need-returns
 returns c =
     let a = c .before .before .before .before .args in
-    startable-by (a .rlen) (a .mlen) (a .seal-start) (a .seal-length) (a .registers .now) (a .marks .now) false _ _ _
-    (sym (c .before .permitted-lengths .ensures) ∙ not-true (c .before .permitted-lengths .result) (c .if1 .taken)) refl refl refl
+    startable-by (a .rlen) (a .mlen) (a .rule) (a .seal-start) (a .seal-length) (a .registers .now) (a .marks .now) false _ _ _ _
+    (sym (c .before .permitted-lengths .ensures) ∙ not-true (c .before .permitted-lengths .result) (c .if1 .taken)) refl refl refl refl
 
 -- the lengths are permitted
 lengths-ok : (c : tie.Else1) → permitted (c .before .before .before .before .args .rlen) (c .before .before .before .before .args .mlen) ≡ true
@@ -31,8 +31,8 @@ mul-if2 c = let a = c .before .before .before .before .args in let b = permitted
 returns-2 : tie.Need-returns-2
 returns-2 c =
     let a = c .before .before .before .before .before .args in
-    startable-by (a .rlen) (a .mlen) (a .seal-start) (a .seal-length) (a .registers .now) (a .marks .now) true false _ _
-    (lengths-ok (c .before)) (ne-eqb (length (a .registers .now)) (2 * a .mlen) (c .if2 .taken)) refl refl
+    startable-by (a .rlen) (a .mlen) (a .rule) (a .seal-start) (a .seal-length) (a .registers .now) (a .marks .now) true false _ _ _
+    (lengths-ok (c .before)) (ne-eqb (length (a .registers .now)) (2 * a .mlen) (c .if2 .taken)) refl refl refl
 
 mul-if3 : tie.Need-mul-if3
 mul-if3 c = search needs
@@ -40,20 +40,27 @@ mul-if3 c = search needs
 returns-3 : tie.Need-returns-3
 returns-3 c =
     let a = c .before .before .before .before .before .before .args in
-    startable-by (a .rlen) (a .mlen) (a .seal-start) (a .seal-length) (a .registers .now) (a .marks .now) true true false _
+    startable-by (a .rlen) (a .mlen) (a .rule) (a .seal-start) (a .seal-length) (a .registers .now) (a .marks .now) true true false _ _
     (lengths-ok (c .before .before)) (eq-eqb (length (a .registers .now)) (2 * a .mlen) (c .before .if2 .left))
-    (ne-eqb (length (a .marks .now)) (2 * a .mlen) (c .if3 .taken)) refl
+    (ne-eqb (length (a .marks .now)) (2 * a .mlen) (c .if3 .taken)) refl refl
+
+returns-4 : tie.Need-returns-4
+returns-4 c =
+    let a = c .before .before .before .before .before .before .before .args in
+    startable-by (a .rlen) (a .mlen) (a .rule) (a .seal-start) (a .seal-length) (a .registers .now) (a .marks .now) true true true false _
+    (lengths-ok (c .before .before .before)) (eq-eqb (length (a .registers .now)) (2 * a .mlen) (c .before .before .if2 .left))
+    (eq-eqb (length (a .marks .now)) (2 * a .mlen) (c .before .if3 .left)) (lt-leb (a .rule) 1 (c .if4 .taken)) refl
 
 sub-result : tie.Need-sub-result
 sub-result c = search needs
 
-returns-4 : tie.Need-returns-4
-returns-4 c =
-    let a = c .before .before .before .before .before .before .args in
+returns-5 : tie.Need-returns-5
+returns-5 c =
+    let a = c .before .before .before .before .before .before .before .args in
     seal-fits (a .seal-start) (a .seal-length) (search needs)
-    ∙ startable-by (a .rlen) (a .mlen) (a .seal-start) (a .seal-length) (a .registers .now) (a .marks .now) true true true (sealEnds (a .seal-start) (a .seal-length))
-    (lengths-ok (c .before .before)) (eq-eqb (length (a .registers .now)) (2 * a .mlen) (c .before .if2 .left))
-    (eq-eqb (length (a .marks .now)) (2 * a .mlen) (c .if3 .left)) refl
+    ∙ startable-by (a .rlen) (a .mlen) (a .rule) (a .seal-start) (a .seal-length) (a .registers .now) (a .marks .now) true true true true (sealEnds (a .seal-start) (a .seal-length))
+    (lengths-ok (c .before .before .before)) (eq-eqb (length (a .registers .now)) (2 * a .mlen) (c .before .before .if2 .left))
+    (eq-eqb (length (a .marks .now)) (2 * a .mlen) (c .before .if3 .left)) (le-leb (a .rule) 1 (c .if4 .left)) refl
 
 pub is-startable-spec : {M : Type 1} → statement M
-is-startable-spec = tie.close (tie.spec permitted-lengths-requires returns mul-if2 returns-2 mul-if3 returns-3 sub-result returns-4)
+is-startable-spec = tie.close (tie.spec permitted-lengths-requires returns mul-if2 returns-2 mul-if3 returns-3 returns-4 sub-result returns-5)

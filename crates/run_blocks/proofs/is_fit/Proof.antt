@@ -3,14 +3,14 @@ use lib.ListN.{length}
 use borrow.Author.Tests.{eq-eqb, ne-eqb}
 use Rattle.machine.specs.Tests.{every}
 use Rattle.run_blocks.specs.declared.Spot.{Spot}
-use Rattle.run_blocks.specs.RunBlocks.{spotOf, placeOf, sameSpot, runFit}
+use Rattle.run_blocks.specs.RunBlocks.{runBytes, spotOf, placeOf, sameSpot, runFit}
 use borrow.Author.Needs.{needs}
 use Rattle.run_blocks.proofs.is_fit.Statement.{statement}
 use Rattle.run_blocks.proofs.is_fit.Tie as tie
 
 returns : tie.Need-returns
 unfolding runFit
-returns c = rw (ne-eqb (length (c .before .before .args .block .now)) 144 (c .if1 .taken))
+returns c = rw (ne-eqb (length (c .before .before .args .block .now)) runBytes (c .if1 .taken))
 
 spot-in-requires : tie.Need-spot-in-requires
 spot-in-requires c κs = search needs
@@ -32,7 +32,7 @@ returns-2 c =
     let s = p .before in
     let e = s .before in
     let b = e .before .before .args .block .now in
-    rw (eq-eqb (length b) 144 (e .if1 .left))
+    rw (eq-eqb (length b) runBytes (e .if1 .left))
     (c .same-spot .ensures
     ∙ ap₂ (λ (s t : Spot). every (sameSpot s t)) (s .spot-in .ensures)
     (o .spot-of .ensures ∙ ap spotOf (p .place-of .ensures ∙ ap placeOf (s .spot-in .ensures))))

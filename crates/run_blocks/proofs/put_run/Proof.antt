@@ -23,6 +23,9 @@ put-spot-requires c κs = search needs
 write8-requires-3 : tie.Need-write8-requires-3
 write8-requires-3 c κs = search needs
 
+write8-requires-4 : tie.Need-write8-requires-4
+write8-requires-4 c κs = search needs
+
 same-length : tie.Need-same-length
 same-length c = search needs
 
@@ -40,5 +43,6 @@ put-run-spec =
     spot-of-requires
     put-spot-requires
     write8-requires-3
+    write8-requires-4
     same-length
     returns)

@@ -18,6 +18,9 @@ read8-requires c κs = search needs
 read8-requires-2 : tie.Need-read8-requires-2
 read8-requires-2 c κs = search needs
 
+read8-requires-3 : tie.Need-read8-requires-3
+read8-requires-3 c κs = search needs
+
 returns : tie.Need-returns
 unfolding runOf
 returns c = cc
@@ -31,4 +34,5 @@ run-of-spec =
     place-of-requires
     read8-requires
     read8-requires-2
+    read8-requires-3
     returns)

@@ -63,7 +63,9 @@ array-read-put-scalar : tie.Need-array-read-put-scalar
 array-read-put-scalar c = search needs
 
 put-scalar-requires : tie.Need-put-scalar-requires
-put-scalar-requires c κs = search needs
+put-scalar-requires c κs =
+    let d = c .before .before .before .before .before .before .before .before .before .before .before .before .before .before .before .before .before .before .before .before .before in
+    (d .before .before .before .before .before .pre, omega (arith, d .low-field .ensures))
 
 same-length : tie.Need-same-length
 same-length c = search needs

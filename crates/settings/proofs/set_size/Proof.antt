@@ -1,9 +1,9 @@
 use mathlib.Core.Path.{_≡_, sym, ap, _∙_}
 use mathlib.Core.Bool.{true, false}
-use Prim.Native.Nat.{_-_, min}
+use Prim.Native.Nat.{ℕ, _-_}
 use Rattle.machine.specs.declared.Machine.{Machine}
 use Rattle.machine.specs.declared.Answer.the-variants.{Done}
-use Rattle.machine.specs.Setting.{mill, smaller}
+use Rattle.machine.specs.Setting.{mill, chosen}
 use Rattle.settings.specs.Parts.{withSize, granted}
 use Rattle.machine.specs.Geometry.{withScalar}
 use borrow.Author.Needs.{needs}
@@ -25,8 +25,8 @@ no-mill c = sym (c .before .is-mill .ensures) ∙ c .if1 .left
 largest-requires : tie.Need-largest-requires
 largest-requires c κs = (c .before .before .before .pre .0, no-mill c)
 
-smaller-requires : tie.Need-smaller-requires
-smaller-requires c κs = search needs
+chosen-requires : tie.Need-chosen-requires
+chosen-requires c κs = search needs
 
 write-scalar-requires : tie.Need-write-scalar-requires
 write-scalar-requires c κs = search needs
@@ -44,11 +44,11 @@ returns-2 c =
     let l = s .before in
     let a = l .before .before .before .before .args in
     let e : mill (a .m .mtype) ≡ false = no-mill (l .before) in
-    let size : s .smaller .result ≡ granted (a .m) (a .dimension) (a .asked) = s .smaller .ensures ∙ ap (min (a .asked)) (l .largest .ensures) in (
+    let size : s .chosen .result ≡ granted (a .m) (a .dimension) (a .asked) = s .chosen .ensures ∙ ap (λ (x : ℕ). chosen (a .m .rule) x (a .asked)) (l .largest .ensures) in (
       ap (λ (m : Machine). record { answer = Done; machine = m }) (c .with-size .ensures ∙ ap (withSize (a .m) (a .dimension)) size)
           ∙ sym (rw e),
       w .write-scalar .ensures ∙ ap (withScalar (a .scalars .now) (a .rd)) size ∙ sym (rw e),
     )
 
 pub set-size-spec : {M : Type 1} → statement M
-set-size-spec = tie.close (tie.spec is-mill-requires returns largest-requires smaller-requires write-scalar-requires with-size-requires same-length returns-2)
+set-size-spec = tie.close (tie.spec is-mill-requires returns largest-requires chosen-requires write-scalar-requires with-size-requires same-length returns-2)

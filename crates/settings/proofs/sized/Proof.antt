@@ -1,7 +1,7 @@
 use mathlib.Core.Path.{_≡_, sym, ap, _∙_}
 use mathlib.Core.Bool.{true, false}
-use Prim.Native.Nat.{min}
-use Rattle.machine.specs.Setting.{mill}
+use Prim.Native.Nat.{ℕ}
+use Rattle.machine.specs.Setting.{mill, chosen}
 use Rattle.settings.specs.Parts.{withSize, granted}
 use borrow.Author.Needs.{needs}
 use Rattle.settings.proofs.sized.Statement.{statement}
@@ -22,8 +22,8 @@ no-mill c = sym (c .before .is-mill .ensures) ∙ c .if1 .left
 largest-requires : tie.Need-largest-requires
 largest-requires c κs = (c .before .before .pre, no-mill c)
 
-smaller-requires : tie.Need-smaller-requires
-smaller-requires c κs = search needs
+chosen-requires : tie.Need-chosen-requires
+chosen-requires c κs = search needs
 
 with-size-requires : tie.Need-with-size-requires
 with-size-requires c κs = search needs
@@ -34,8 +34,8 @@ returns-2 c =
     let l = s .before in
     let a = l .before .before .before .args in
     let e : mill (a .m .mtype) ≡ false = no-mill (l .before) in
-    let size : s .smaller .result ≡ granted (a .m) (a .dimension) (a .asked) = s .smaller .ensures ∙ ap (min (a .asked)) (l .largest .ensures) in
+    let size : s .chosen .result ≡ granted (a .m) (a .dimension) (a .asked) = s .chosen .ensures ∙ ap (λ (x : ℕ). chosen (a .m .rule) x (a .asked)) (l .largest .ensures) in
     c .with-size .ensures ∙ ap (withSize (a .m) (a .dimension)) size ∙ sym (rw e)
 
 pub sized-spec : {M : Type 1} → statement M
-sized-spec = tie.close (tie.spec is-mill-requires returns largest-requires smaller-requires with-size-requires returns-2)
+sized-spec = tie.close (tie.spec is-mill-requires returns largest-requires chosen-requires with-size-requires returns-2)

@@ -3,7 +3,7 @@ use mathlib.Core.Bool.{true}
 use borrow.Author.Needs.{needs}
 use Rattle.machine.specs.Geometry.{Bench, benchOf, parameters}
 use Rattle.machine.specs.Faults.{sound}
-use Rattle.machine.specs.Setting.{smaller}
+use Rattle.machine.specs.Setting.{chosen}
 use Rattle.run.specs.declared.RunStarted.{RunStarted}
 use Rattle.run.specs.Start.{planned, lying, separate, startedAs}
 use Rattle.address.proofs.TestLaws.{test-failed, test-passed}
@@ -91,7 +91,7 @@ returns-4 c =
     let s = e .before .before .before .before .before in
     ap (λ (r : RunStarted). startedAs r (bench s)) (c .refused4 .ensures)
     ∙ started-by (s .args .plan) (bench s) (fine e) (plan-ok f) (lies g)
-    (test-failed (d .is-separate .result) (separate (parameters smaller (s .args .m)) (s .args .plan)) (d .is-separate .ensures) (c .before .if4 .taken))
+    (test-failed (d .is-separate .result) (separate (parameters chosen (s .args .m)) (s .args .plan)) (d .is-separate .ensures) (c .before .if4 .taken))
 
 returns-5 : tie.Need-returns-5
 returns-5 c =
@@ -101,7 +101,7 @@ returns-5 c =
     let e = f .before .before in
     let s = e .before .before .before .before .before in
     started-by (s .args .plan) (bench s) (fine e) (plan-ok f) (lies g)
-    (test-passed (d .is-separate .result) (separate (parameters smaller (s .args .m)) (s .args .plan)) (d .is-separate .ensures) (c .if4 .left))
+    (test-passed (d .is-separate .result) (separate (parameters chosen (s .args .m)) (s .args .plan)) (d .is-separate .ensures) (c .if4 .left))
 
 pub start-spec : {M : Type 1} → statement M
 start-spec =

@@ -7,7 +7,7 @@ use borrow.Author.Needs.{needs}
 use lib.ListN.{length}
 use Rattle.machine.specs.Answers.{isDone}
 use Rattle.machine.specs.Geometry.{benchOf}
-use Rattle.machine.specs.Setting.{smaller}
+use Rattle.machine.specs.Setting.{chosen}
 use Rattle.machine.specs.Faults.{sound, soundBench}
 use Rattle.run.specs.declared.Run.{Run}
 use Rattle.asking.specs.Parts.{Most}
@@ -23,8 +23,8 @@ use Rattle.turn.proofs.take_turns.Tie as tie
 -- every turn so far was answered 0, and neither the state nor the run is at fault
 abbrev Inv-loop : tie.InvT-loop
 Inv-loop limit run registers₀ marks₀ memory₀ place₀ rows columns terms count₀ machine₀ registers marks memory place count machine =
-    (count ≤ limit) × (sound machine registers marks ≡ true) × (soundRun smaller (atPlace run place) ≡ true) × (Most run rows columns terms)
-    × (taking count (running (atPlace run place) (benchOf machine registers marks memory)) ≡ turns smaller (running (atPlace run place₀) (benchOf machine₀ registers₀ marks₀ memory₀)) count)
+    (count ≤ limit) × (sound machine registers marks ≡ true) × (soundRun chosen (atPlace run place) ≡ true) × (Most run rows columns terms)
+    × (taking count (running (atPlace run place) (benchOf machine registers marks memory)) ≡ turns chosen (running (atPlace run place₀) (benchOf machine₀ registers₀ marks₀ memory₀)) count)
     × (length registers ≡ length registers₀) × (length marks ≡ length marks₀) × (length memory ≡ length memory₀)
 
 abbrev μ-loop : tie.MeasureT-loop
@@ -38,9 +38,9 @@ returns c =
     let d = c .before in
     let a = c .before .before .before .before .before .args in
     let B = benchOf (a .m) (a .registers .now) (a .marks .now) (a .memory .now) in
-    let f : soundRun smaller (a .run) ≡ false = sym (d .is-sound-run .ensures) ∙ not-true (d .is-sound-run .result) (c .if1 .taken) in (
+    let f : soundRun chosen (a .run) ≡ false = sym (d .is-sound-run .ensures) ∙ not-true (d .is-sound-run .result) (c .if1 .taken) in (
       turns-unsound (a .run) B (a .limit) f,
-      λ p. ends-refused (a .limit) 0 (turns smaller (running (a .run) B) 0) _ (ne-eqb 0 (a .limit) (λ e. omega (arith, p))) (ap (λ (o : TurnOutcome). o .answer) (turn-unsound (a .run) B f)),
+      λ p. ends-refused (a .limit) 0 (turns chosen (running (a .run) B) 0) _ (ne-eqb 0 (a .limit) (λ e. omega (arith, p))) (ap (λ (o : TurnOutcome). o .answer) (turn-unsound (a .run) B f)),
     )
 
 most-rows-requires : tie.Need-most-rows-requires Inv-loop μ-loop
@@ -78,7 +78,7 @@ carry-out-requires : tie.Need-carry-out-requires Inv-loop μ-loop
 carry-out-requires c κs =
     let u = c .before .before .before .at-place in
     let l = c .before .before .before .before .before .loop in
-    (l .inv .1, ap (soundRun smaller) (u .ensures) ∙ l .inv .2)
+    (l .inv .1, ap (soundRun chosen) (u .ensures) ∙ l .inv .2)
 
 is-done-requires : tie.Need-is-done-requires Inv-loop μ-loop
 is-done-requires c κs = search needs
@@ -102,29 +102,29 @@ returns-2 c =
     let r = (running (a .run) (benchOf (a .m) (a .registers .now) (a .marks .now) (a .memory .now))) in
     let B = benchOf (l .machine) (l .registers) (l .marks) (l .memory) in
     let no : isDone (w .result) ≡ false = sym (d .is-done .ensures) ∙ not-true (d .is-done .result) (c .if2 .taken) in
-    let q = at-end (l .count) (u .result) (atPlace (a .run) (l .place)) B (turns smaller r (l .count)) (u .ensures) (l .inv .4) in
-    let h = turn-carried (u .result) B (ap (soundRun smaller) (u .ensures) ∙ l .inv .2) _ (w .ensures) false no in (
-      at-end (l .count) _ _ _ (turns smaller r (a .limit)) (sym (u .ensures)) (turns-refused r (running (u .result) B) (l .count) (a .limit) (l .inv .0) q _ h no),
-      λ p. ends-refused (a .limit) (l .count) (turns smaller r (l .count)) _ (ne-eqb (l .count) (a .limit) (λ e. omega (arith, c .before .before .before .before .before .before .before .before .before .before .before .before .before .loop-test .taken)))
-          (ap (λ (o : TurnOutcome). o .answer) h ∙ ap (λ (o : TurnsOutcome). turn smaller (o .after) .answer) q),
+    let q = at-end (l .count) (u .result) (atPlace (a .run) (l .place)) B (turns chosen r (l .count)) (u .ensures) (l .inv .4) in
+    let h = turn-carried (u .result) B (ap (soundRun chosen) (u .ensures) ∙ l .inv .2) _ (w .ensures) false no in (
+      at-end (l .count) _ _ _ (turns chosen r (a .limit)) (sym (u .ensures)) (turns-refused r (running (u .result) B) (l .count) (a .limit) (l .inv .0) q _ h no),
+      λ p. ends-refused (a .limit) (l .count) (turns chosen r (l .count)) _ (ne-eqb (l .count) (a .limit) (λ e. omega (arith, c .before .before .before .before .before .before .before .before .before .before .before .before .before .loop-test .taken)))
+          (ap (λ (o : TurnOutcome). o .answer) h ∙ ap (λ (o : TurnsOutcome). turn chosen (o .after) .answer) q),
     )
 
 machine-after-requires : tie.Need-machine-after-requires Inv-loop μ-loop
 machine-after-requires c κs =
     let u = c .before .before .before .before .before .before .before .before .before .before .before .before .at-place in
     let l = c .before .before .before .before .before .before .before .before .before .before .before .before .before .before .loop in
-    (ready (l .machine) (l .registers) (l .marks) (l .inv .1), ap (soundRun smaller) (u .ensures) ∙ l .inv .2)
+    (ready (l .machine) (l .registers) (l .marks) (l .inv .1), ap (soundRun chosen) (u .ensures) ∙ l .inv .2)
 
 moved-run-requires : tie.Need-moved-run-requires Inv-loop μ-loop
 moved-run-requires c κs =
     let u = c .before .before .before .before .before .before .before .before .before .before .before .before .before .at-place in
     let l = c .before .before .before .before .before .before .before .before .before .before .before .before .before .before .before .loop in
     let e = sym (u .ensures) in (
-      ap (soundRun smaller) (u .ensures) ∙ l .inv .2,
+      ap (soundRun chosen) (u .ensures) ∙ l .inv .2,
       record {
-        rows-are = l .inv .3 .rows-are ∙ ap (λ (R : Run). runShape smaller R .tm) e;
-        columns-are = l .inv .3 .columns-are ∙ ap (λ (R : Run). runShape smaller R .tn) e;
-        terms-are = l .inv .3 .terms-are ∙ ap (λ (R : Run). runShape smaller R .tk) e;
+        rows-are = l .inv .3 .rows-are ∙ ap (λ (R : Run). runShape chosen R .tm) e;
+        columns-are = l .inv .3 .columns-are ∙ ap (λ (R : Run). runShape chosen R .tn) e;
+        terms-are = l .inv .3 .terms-are ∙ ap (λ (R : Run). runShape chosen R .tk) e;
       },
     )
 
@@ -146,14 +146,14 @@ loop-again c =
     let B = benchOf (l .machine) (l .registers) (l .marks) (l .memory) in
     let r = (running (a .run) (benchOf (a .m) (a .registers .now) (a .marks .now) (a .memory .now))) in
     let yes : isDone (w .result) ≡ true = sym (d .is-done .ensures) ∙ not-false (d .is-done .result) (e .if2 .left) in
-    let so : soundRun smaller (u .result) ≡ true = ap (soundRun smaller) (u .ensures) ∙ l .inv .2 in
+    let so : soundRun chosen (u .result) ≡ true = ap (soundRun chosen) (u .ensures) ∙ l .inv .2 in
     let k = moved-place (a .run) (u .result) (c .moved-run .result) (l .place) (u .ensures) (c .moved-run .ensures) in
     let j = numbers-joined _ _ _ _ _ _ (n (l .registers) (l .marks) (l .memory) (l .inv .1)) (w .ensures) in
-    let q = at-end (l .count) (u .result) (atPlace (a .run) (l .place)) B (turns smaller r (l .count)) (u .ensures) (l .inv .4) in
+    let q = at-end (l .count) (u .result) (atPlace (a .run) (l .place)) B (turns chosen r (l .count)) (u .ensures) (l .inv .4) in
     let h = turn-carried (u .result) B so _ j true yes in (
       omega (arith, c .before .before .before .before .before .before .before .before .before .before .before .before .before .before .before .loop-test .taken),
       ap (λ (o : TurnOutcome). soundBench (o .after .bench)) h ∙ turn-sound (running (u .result) B) (l .inv .1),
-      ap (soundRun smaller) k ∙ moved-sound (u .result) so,
+      ap (soundRun chosen) k ∙ moved-sound (u .result) so,
       l .inv .3,
       turns-carried r (u .result) B (l .count) q so _ j yes _ k,
       search needs,
@@ -176,8 +176,8 @@ returns-3 c =
     let a = c .before .before .before .before .before .before .before .before .before .before .args in
     let r = (running (a .run) (benchOf (a .m) (a .registers .now) (a .marks .now) (a .memory .now))) in
     let n : l .count ≡ a .limit = omega arith in (
-      l .inv .4 ∙ ap (turns smaller r) n,
-      λ p. ends-done (a .limit) (l .count) (turns smaller r (l .count)) (eq-eqb (l .count) (a .limit) n),
+      l .inv .4 ∙ ap (turns chosen r) n,
+      λ p. ends-done (a .limit) (l .count) (turns chosen r (l .count)) (eq-eqb (l .count) (a .limit) n),
     )
 
 pub take-turns-spec : {M : Type 1} → statement M

@@ -3,7 +3,7 @@ use borrow.Author.Tests.{not-true, not-false}
 use Rattle.machine.specs.Geometry.{benchOf}
 use native.Mathlib.Omega.{arith}
 use Rattle.machine.specs.Answers.{reply}
-use Rattle.machine.specs.Setting.{smaller}
+use Rattle.machine.specs.Setting.{chosen}
 use Rattle.run.specs.Turn.{running, turns}
 use Rattle.turn.proofs.TurnLaws.{turn-fault}
 use Rattle.turn.proofs.CarriedLaws.{at-end, one-turn}
@@ -50,7 +50,7 @@ returns-2 c =
     let w = c .before .before .before .before .before .before .before .before .take-turns in
     let a = c .before .before .before .before .before .before .before .before .before .before .before .before .before .before .before .before .before .before .before .args in
     let r = running (a .run) (benchOf (a .m) (a .registers .now) (a .marks .now) (a .memory .now)) in
-    one-turn r (w .result .count) (reply (w .result .answer)) _ (at-end (w .result .count) _ _ _ (turns smaller r 1) (u .ensures) (w .ensures .0)) (w .ensures .1 (omega arith))
+    one-turn r (w .result .count) (reply (w .result .answer)) _ (at-end (w .result .count) _ _ _ (turns chosen r 1) (u .ensures) (w .ensures .0)) (w .ensures .1 (omega arith))
 
 pub turn-spec : {M : Type 1} → statement M
 turn-spec =

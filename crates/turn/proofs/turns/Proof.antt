@@ -1,7 +1,7 @@
 use mathlib.Core.Path.{sym, _∙_}
 use borrow.Author.Tests.{not-true, not-false}
 use Rattle.machine.specs.Geometry.{benchOf}
-use Rattle.machine.specs.Setting.{smaller}
+use Rattle.machine.specs.Setting.{chosen}
 use Rattle.run.specs.Turn.{running, turns}
 use Rattle.turn.proofs.TurnLaws.{turns-fault}
 use Rattle.turn.proofs.CarriedLaws.{at-end}
@@ -48,7 +48,7 @@ returns-2 c =
     let w = c .before .before .before .before .before .before .before .before .take-turns in
     let a = c .before .before .before .before .before .before .before .before .before .before .before .before .before .before .before .before .before .before .before .args in
     let r = running (a .run) (benchOf (a .m) (a .registers .now) (a .marks .now) (a .memory .now)) in
-    at-end (w .result .count) _ _ _ (turns smaller r (a .limit)) (u .ensures) (w .ensures .0)
+    at-end (w .result .count) _ _ _ (turns chosen r (a .limit)) (u .ensures) (w .ensures .0)
 
 pub turns-spec : {M : Type 1} → statement M
 turns-spec =

@@ -25,8 +25,9 @@ sub-power c =
     let s = c .before .before .before .before .before .args .s .now in
     let r = c .before .r .given .0 .0 in
     let m = c .before .r .given .0 .1 .0 in
-    let a = c .before .r .given .0 .1 .1 .0 in
-    let sh : ShapedOk s r m a = subst (ShapeOk s) (c .before .r .given .1) (c .before .before .before .shape-of .ensures) in
+    let u = c .before .r .given .0 .1 .1 .0 in
+    let a = c .before .r .given .0 .1 .1 .1 .0 in
+    let sh : ShapedOk s r m u a = subst (ShapeOk s) (c .before .r .given .1) (c .before .before .before .shape-of .ensures) in
     omega (arith, sh .rlen-ok, sh .mlen-ok)
 
 power-requires : tie.Need-power-requires
@@ -34,8 +35,9 @@ power-requires c κs =
     let s = c .before .before .before .before .before .args .s .now in
     let r = c .before .r .given .0 .0 in
     let m = c .before .r .given .0 .1 .0 in
-    let a = c .before .r .given .0 .1 .1 .0 in
-    let sh : ShapedOk s r m a = subst (ShapeOk s) (c .before .r .given .1) (c .before .before .before .shape-of .ensures) in
+    let u = c .before .r .given .0 .1 .1 .0 in
+    let a = c .before .r .given .0 .1 .1 .1 .0 in
+    let sh : ShapedOk s r m u a = subst (ShapeOk s) (c .before .r .given .1) (c .before .before .before .shape-of .ensures) in
     omega (arith, sh .rlen-ok, sh .mlen-ok)
 
 sub-power-2 : tie.Need-sub-power-2
@@ -43,8 +45,9 @@ sub-power-2 c =
     let s = c .before .before .before .before .before .before .args .s .now in
     let r = c .before .before .r .given .0 .0 in
     let m = c .before .before .r .given .0 .1 .0 in
-    let a = c .before .before .r .given .0 .1 .1 .0 in
-    let sh : ShapedOk s r m a = subst (ShapeOk s) (c .before .before .r .given .1) (c .before .before .before .before .shape-of .ensures) in
+    let u = c .before .before .r .given .0 .1 .1 .0 in
+    let a = c .before .before .r .given .0 .1 .1 .1 .0 in
+    let sh : ShapedOk s r m u a = subst (ShapeOk s) (c .before .before .r .given .1) (c .before .before .before .before .shape-of .ensures) in
     omega (arith, sh .rlen-ok, sh .mlen-ok)
 
 power-requires-2 : tie.Need-power-requires-2
@@ -52,8 +55,9 @@ power-requires-2 c κs =
     let s = c .before .before .before .before .before .before .args .s .now in
     let r = c .before .before .r .given .0 .0 in
     let m = c .before .before .r .given .0 .1 .0 in
-    let a = c .before .before .r .given .0 .1 .1 .0 in
-    let sh : ShapedOk s r m a = subst (ShapeOk s) (c .before .before .r .given .1) (c .before .before .before .before .shape-of .ensures) in
+    let u = c .before .before .r .given .0 .1 .1 .0 in
+    let a = c .before .before .r .given .0 .1 .1 .1 .0 in
+    let sh : ShapedOk s r m u a = subst (ShapeOk s) (c .before .before .r .given .1) (c .before .before .before .before .shape-of .ensures) in
     omega (arith, sh .rlen-ok, sh .mlen-ok)
 
 power-requires-3 : tie.Need-power-requires-3
@@ -61,8 +65,9 @@ power-requires-3 c κs =
     let s = c .before .before .before .before .before .before .before .args .s .now in
     let r = c .before .before .before .r .given .0 .0 in
     let m = c .before .before .before .r .given .0 .1 .0 in
-    let a = c .before .before .before .r .given .0 .1 .1 .0 in
-    let sh : ShapedOk s r m a = subst (ShapeOk s) (c .before .before .before .r .given .1) (c .before .before .before .before .before .shape-of .ensures) in
+    let u = c .before .before .before .r .given .0 .1 .1 .0 in
+    let a = c .before .before .before .r .given .0 .1 .1 .1 .0 in
+    let sh : ShapedOk s r m u a = subst (ShapeOk s) (c .before .before .before .r .given .1) (c .before .before .before .before .before .shape-of .ensures) in
     omega (arith, sh .rlen-ok, sh .mlen-ok)
 
 tiles-at-requires : tie.Need-tiles-at-requires
@@ -76,12 +81,13 @@ returns-2 c =
     let s = c .before .before .before .before .before .before .before .before .before .before .before .before .args .s .now in
     let r = c .before .before .before .before .before .before .before .before .r .given .0 .0 in
     let m = c .before .before .before .before .before .before .before .before .r .given .0 .1 .0 in
-    let a = c .before .before .before .before .before .before .before .before .r .given .0 .1 .1 .0 in
-    let sh : ShapedOk s r m a = subst (ShapeOk s) (c .before .before .before .before .before .before .before .before .r .given .1) (c .before .before .before .before .before .before .before .before .before .before .shape-of .ensures) in
+    let u = c .before .before .before .before .before .before .before .before .r .given .0 .1 .1 .0 in
+    let a = c .before .before .before .before .before .before .before .before .r .given .0 .1 .1 .1 .0 in
+    let sh : ShapedOk s r m u a = subst (ShapeOk s) (c .before .before .before .before .before .before .before .before .r .given .1) (c .before .before .before .before .before .before .before .before .before .before .shape-of .ensures) in
     let rows = c .before .before .before .before .before .before .power .result in
     let columns = c .before .before .before .before .before .power2 .result in
     let half = c .before .before .before .before .power3 .result in
-    tiles-wrong s r m a sh rows columns (c .before .before .before .before .before .before .power .ensures) (c .before .before .before .before .before .power2 .ensures) (c .before .p2 .given .0 .0) (subst (TilesOk s a rows columns) (c .before .p2 .given .1) (c .before .before .before .tiles-at .ensures))
+    tiles-wrong s r m u a sh rows columns (c .before .before .before .before .before .before .power .ensures) (c .before .before .before .before .before .power2 .ensures) (c .before .p2 .given .0 .0) (subst (TilesOk s a rows columns) (c .before .p2 .given .1) (c .before .before .before .tiles-at .ensures))
 
 enum-known-mtype : tie.Need-enum-known-mtype
 enum-known-mtype c = search needs
@@ -97,8 +103,9 @@ returns-3 c =
     let s = c .before .before .before .before .before .before .before .before .before .before .before .before .before .before .before .before .args .s .now in
     let r = c .before .before .before .before .before .before .before .before .before .before .before .before .r .given .0 .0 in
     let m = c .before .before .before .before .before .before .before .before .before .before .before .before .r .given .0 .1 .0 in
-    let a = c .before .before .before .before .before .before .before .before .before .before .before .before .r .given .0 .1 .1 .0 in
-    let sh : ShapedOk s r m a = subst (ShapeOk s) (c .before .before .before .before .before .before .before .before .before .before .before .before .r .given .1) (c .before .before .before .before .before .before .before .before .before .before .before .before .before .before .shape-of .ensures) in
+    let u = c .before .before .before .before .before .before .before .before .before .before .before .before .r .given .0 .1 .1 .0 in
+    let a = c .before .before .before .before .before .before .before .before .before .before .before .before .r .given .0 .1 .1 .1 .0 in
+    let sh : ShapedOk s r m u a = subst (ShapeOk s) (c .before .before .before .before .before .before .before .before .before .before .before .before .r .given .1) (c .before .before .before .before .before .before .before .before .before .before .before .before .before .before .shape-of .ensures) in
     let rows = c .before .before .before .before .before .before .before .before .before .before .power .result in
     let columns = c .before .before .before .before .before .before .before .before .before .power2 .result in
     let half = c .before .before .before .before .before .before .before .before .power3 .result in
@@ -108,7 +115,7 @@ returns-3 c =
     let tn = c .before .before .before .before .before .mtype .given .0 .1 .1 .1 .0 in
     let b = c .before .before .before .before .before .mtype .given .0 .1 .1 .1 .1 .0 in
     let ti : TiledOk s a rows columns t tm tk tn b = subst (TilesOk s a rows columns) (c .before .before .before .before .before .mtype .given .1) (c .before .before .before .before .before .before .before .tiles-at .ensures) in
-    tail-wrong s r m a sh rows columns (c .before .before .before .before .before .before .before .before .before .before .power .ensures) (c .before .before .before .before .before .before .before .before .before .power2 .ensures) t tm tk tn b ti half (c .before .before .before .before .before .before .before .before .power3 .ensures) (c .before .p3 .given .0 .0) (subst (TailOk s b half) (c .before .p3 .given .1) (c .before .before .before .tail-at .ensures))
+    tail-wrong s r m u a sh rows columns (c .before .before .before .before .before .before .before .before .before .before .power .ensures) (c .before .before .before .before .before .before .before .before .before .power2 .ensures) t tm tk tn b ti half (c .before .before .before .before .before .before .before .before .power3 .ensures) (c .before .p3 .given .0 .0) (subst (TailOk s b half) (c .before .p3 .given .1) (c .before .before .before .tail-at .ensures))
 
 enum-known-seal-start : tie.Need-enum-known-seal-start
 enum-known-seal-start c = search needs
@@ -118,8 +125,9 @@ power-requires-4 c κs =
     let s = c .before .before .before .before .before .before .before .before .before .before .before .before .before .before .before .before .args .s .now in
     let r = c .before .before .before .before .before .before .before .before .before .before .before .before .r .given .0 .0 in
     let m = c .before .before .before .before .before .before .before .before .before .before .before .before .r .given .0 .1 .0 in
-    let a = c .before .before .before .before .before .before .before .before .before .before .before .before .r .given .0 .1 .1 .0 in
-    let sh : ShapedOk s r m a = subst (ShapeOk s) (c .before .before .before .before .before .before .before .before .before .before .before .before .r .given .1) (c .before .before .before .before .before .before .before .before .before .before .before .before .before .before .shape-of .ensures) in
+    let u = c .before .before .before .before .before .before .before .before .before .before .before .before .r .given .0 .1 .1 .0 in
+    let a = c .before .before .before .before .before .before .before .before .before .before .before .before .r .given .0 .1 .1 .1 .0 in
+    let sh : ShapedOk s r m u a = subst (ShapeOk s) (c .before .before .before .before .before .before .before .before .before .before .before .before .r .given .1) (c .before .before .before .before .before .before .before .before .before .before .before .before .before .before .shape-of .ensures) in
     let rows = c .before .before .before .before .before .before .before .before .before .before .power .result in
     let columns = c .before .before .before .before .before .before .before .before .before .power2 .result in
     let half = c .before .before .before .before .before .before .before .before .power3 .result in
@@ -141,8 +149,9 @@ returns-4 c =
     let s = c .before .before .before .before .before .before .before .before .before .before .before .before .before .before .before .before .before .args .s .now in
     let r = c .before .before .before .before .before .before .before .before .before .before .before .before .before .r .given .0 .0 in
     let m = c .before .before .before .before .before .before .before .before .before .before .before .before .before .r .given .0 .1 .0 in
-    let a = c .before .before .before .before .before .before .before .before .before .before .before .before .before .r .given .0 .1 .1 .0 in
-    let sh : ShapedOk s r m a = subst (ShapeOk s) (c .before .before .before .before .before .before .before .before .before .before .before .before .before .r .given .1) (c .before .before .before .before .before .before .before .before .before .before .before .before .before .before .before .shape-of .ensures) in
+    let u = c .before .before .before .before .before .before .before .before .before .before .before .before .before .r .given .0 .1 .1 .0 in
+    let a = c .before .before .before .before .before .before .before .before .before .before .before .before .before .r .given .0 .1 .1 .1 .0 in
+    let sh : ShapedOk s r m u a = subst (ShapeOk s) (c .before .before .before .before .before .before .before .before .before .before .before .before .before .r .given .1) (c .before .before .before .before .before .before .before .before .before .before .before .before .before .before .before .shape-of .ensures) in
     let rows = c .before .before .before .before .before .before .before .before .before .before .before .power .result in
     let columns = c .before .before .before .before .before .before .before .before .before .before .power2 .result in
     let half = c .before .before .before .before .before .before .before .before .before .power3 .result in
@@ -157,7 +166,7 @@ returns-4 c =
     let c′ = c .before .before .seal-start .given .0 .1 .1 .0 in
     let d = c .before .before .seal-start .given .0 .1 .1 .1 .0 in
     let ta : TailedOk s b half st ln c′ d = subst (TailOk s b half) (c .before .before .seal-start .given .1) (c .before .before .before .before .tail-at .ensures) in
-    headed s r m a sh rows columns (c .before .before .before .before .before .before .before .before .before .before .before .power .ensures) (c .before .before .before .before .before .before .before .before .before .before .power2 .ensures) t tm tk tn b ti half (c .before .before .before .before .before .before .before .before .before .power3 .ensures) (c .power4 .result) (c .power4 .ensures) st ln c′ d ta
+    headed s r m u a sh rows columns (c .before .before .before .before .before .before .before .before .before .before .before .power .ensures) (c .before .before .before .before .before .before .before .before .before .before .power2 .ensures) t tm tk tn b ti half (c .before .before .before .before .before .before .before .before .before .power3 .ensures) (c .power4 .result) (c .power4 .ensures) st ln c′ d ta
 
 pub head-of-spec : {M : Type 1} → statement M
 head-of-spec =

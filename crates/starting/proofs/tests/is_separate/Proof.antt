@@ -6,7 +6,7 @@ use native.Mathlib.Omega.{arith}
 use lib.ListN.{length}
 use borrow.Author.Needs.{needs}
 use Rattle.machine.specs.Geometry.{Parameters, parameters}
-use Rattle.machine.specs.Setting.{smaller}
+use Rattle.machine.specs.Setting.{chosen}
 use Rattle.address.proofs.TestLaws.{test-failed, test-passed}
 use Rattle.run.specs.Plan.{narrow, aColumns}
 use Rattle.starting.proofs.StartLaws.{plan-sizes, a-sizes, counted, counted-both, counted-all, aInside, bInside, cInside, all-inside, cDistinct, aApart, bApart, cUnsealed, rowsDiffer, fromA, fromB, rows-meet, meets-a, meets-b, seal-decides}
@@ -14,7 +14,7 @@ use Rattle.starting.proofs.tests.is_separate.Statement.{statement}
 use Rattle.starting.proofs.tests.is_separate.Tie as tie
 
 abbrev machine : tie.Start → Parameters
-machine s = parameters smaller (s .args .m)
+machine s = parameters chosen (s .args .m)
 
 -- the slice is short enough
 short : (s : tie.Start) → length (s .args .memory .now) < 2 ^ 63

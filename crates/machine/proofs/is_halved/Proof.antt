@@ -1,0 +1,25 @@
+use Prim.Native.Nat.{_<_}
+use native.Mathlib.Omega.{arith}
+use borrow.Author.Needs.{needs}
+use borrow.Author.Tests.{eq-eqb, ne-eqb, le-ltb, lt-ltb}
+use Rattle.machine.proofs.SizeLaws.{below-twice}
+use Rattle.machine.proofs.is_halved.Statement.{statement}
+use Rattle.machine.proofs.is_halved.Tie as tie
+
+returns : tie.Need-returns
+returns c = let a = c .before .args in rw (ne-eqb (a .rule) 1 (c .if1 .taken))
+
+returns-2 : tie.Need-returns-2
+returns-2 c = let a = c .before .before .args in rw (eq-eqb (a .rule) 1 (c .before .if1 .left), le-ltb (a .most) (a .asked) (omega (arith, c .if2 .taken)))
+
+sub-result : tie.Need-sub-result
+sub-result c = search needs
+
+returns-3 : tie.Need-returns-3
+returns-3 c =
+    let a = c .before .before .args in
+    let above : a .most < a .asked = omega (arith, c .if2 .left) in
+    rw (eq-eqb (a .rule) 1 (c .before .if1 .left), lt-ltb (a .most) (a .asked) above) (below-twice (a .most) (a .asked) above)
+
+pub is-halved-spec : {M : Type 1} → statement M
+is-halved-spec = tie.close (tie.spec returns returns-2 sub-result returns-3)
