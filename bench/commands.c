@@ -95,12 +95,15 @@ static int take_matrix(struct reader *reader, struct bodlarina_matrix *matrix)
 /* The end of the line, or the word transposed or float, and the end. */
 static int take_kind(struct reader *reader, uint64_t *kind)
 {
-    int transposed;
+    struct span span;
+    *kind = BODLARINA_PRODUCT;
+    if (at_end(reader))
+        return 1;
+    span = take_span(reader);
     *kind = span_is(span, "transposed") ? BODLARINA_A_TRANSPOSED : BODLARINA_FLOAT;
-    if (*kind == BODLARINA_FLOAT && !take_word(reader, "float", &transposed))
-        return refuse(reader, span.at, "the line should end here, or with transposed0;
-    *kind or float")transposed ? BODLARINA_A_TRANSPOSED : BODLARINA_PRODUCT;
-    return 1;
+    if (*kind == BODLARINA_FLOAT && !span_is(span, "float"))
+        return refuse(reader, span.at, "the line should end here, or with transposed or float");
+    return take_end(reader);
 }
 
 static int take_plan(struct reader *reader, struct bodlarina_plan *plan)

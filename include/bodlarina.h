@@ -179,9 +179,9 @@ uint64_t bodlarina_start(uint64_t rlen, uint64_t mlen, uint64_t rule, uint64_t s
 /* Carries out one instruction word. rs1 and rs2 are read from scalars, rd is written there.
  * Answers: 0, or the first that applies in the order 8, then 10, 11, 1, 12 (the word itself), then 2 to 6, 13, 7.
  * 8 means that the state is at fault: lengths that are not permitted, a buffer of the wrong size, an mtype that cannot
- * arise, a tile size above its maximum at 8 bits, another rule than 0 and 1, a seal whose end is above 2^64 - 1, or a mark other
- * than 0 and 1. With
- * buffers buffers of the right size, a started machine that nothing but these functions has written never gets 8. */
+ * arise, a tile size above its maximum at 8 bits, another rule than 0 and 1, a seal whose end is above 2^64 - 1, or a
+ * mark other than 0 and 1. With buffers of the right size, a started machine that nothing but these functions has
+ * written never gets 8. */
 uint64_t bodlarina_step(uint32_t word,
                         uint8_t *machine, size_t machine_len,
                         uint8_t *registers, size_t registers_len,

@@ -6,7 +6,7 @@ use crate::lent::{library_step, started, Lent};
 use crate::random::Random;
 use crate::states::{set_size, SIZES, WIDTHS};
 use crate::tally::{families, family_name};
-use model::{assemble, maximum, sew, Kind, LISTING};
+use model::{assemble, maximum, sew, Kind, LISTING, SMALLER};
 use std::hint::black_box;
 use std::time::Instant;
 
@@ -72,7 +72,7 @@ pub fn machine_name((rlen, mlen): (u64, u64)) -> String {
 pub fn full_bench((rlen, mlen): (u64, u64), mtype: u64, memory: usize) -> Lent {
     let mut random = Random::for_case(1, "bench", 0);
     let registers = random.bytes(model::register_bytes(mlen));
-    let mut lent = started((rlen, mlen), registers, random.bytes(memory));
+    let mut lent = started((rlen, mlen), SMALLER, registers, random.bytes(memory));
     lent.marks.fill(1);
     let mut machine = lent.machine();
     machine.mtype = mtype;

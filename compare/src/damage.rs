@@ -1,6 +1,7 @@
 //! Damaged input to a start and a step: wrong block lengths, random bytes and
 //! empty slices.
 
+use crate::lent::Lent;
 use crate::library;
 use crate::states::{any_row, good_case, wrong_length};
 use crate::suite::{check_step, each_case, Context, Outcome};
@@ -45,8 +46,8 @@ pub fn empty_slices(context: &mut Context) -> Outcome {
         }
         check_step(random.next() as u32, &lent, tally)?;
         let before = lent.clone();
-        let given =
-            library::start(64, 128, 0, 0, &mut lent.machine, &mut lent.registers, &mut lent.marks);
+        let Lent { machine, registers, marks, .. } = &mut lent;
+        let given = library::start(64, 128, case / 6 % 2, 0, 0, machine, registers, marks);
         if given != 8 || lent != before {
             return Err(format!("a start gives {given}, or bytes change"));
         }

@@ -12,7 +12,7 @@
 #[allow(dead_code)] // steps alone are made here
 mod library;
 
-use model::{Bench, Machine, LISTING};
+use model::{Bench, Machine, LISTING, RULES};
 use std::collections::BTreeSet;
 use std::io::BufRead;
 
@@ -63,13 +63,13 @@ fn bytes(numbers: &[u64]) -> Vec<u8> {
     numbers.iter().flat_map(|number| number.to_le_bytes()).collect()
 }
 
-fn numbers(m: &Machine) -> [u64; 8] {
-    [m.rlen, m.mlen, m.mtype, m.tile_m, m.tile_k, m.tile_n, m.seal_start, m.seal_length]
+fn numbers(m: &Machine) -> [u64; 9] {
+    [m.rlen, m.mlen, m.mtype, m.tile_m, m.tile_k, m.tile_n, m.seal_start, m.seal_length, m.rule]
 }
 
 /// A machine on which most words are done, all different bytes, and scalars that
 /// are addresses in memory.
-fn bench(mtype: u64) -> (Bench, Vec<u64>) {
+fn bench(mtype: u64, rule: u64) -> (Bench, Vec<u64>) {
     let machine = Machine {
         rlen: 64,
         mlen: 128,
@@ -77,6 +77,7 @@ fn bench(mtype: u64) -> (Bench, Vec<u64>) {
         tile_m: 2,
         tile_k: 2,
         tile_n: 2,
+        rule,
         ..Machine::default()
     };
     let size = model::register_bytes(machine.mlen);
@@ -89,9 +90,9 @@ fn bench(mtype: u64) -> (Bench, Vec<u64>) {
     )
 }
 
-/// One step on both programs, on this mtype.
-fn stepped_alike(word: u32, mtype: u64) -> bool {
-    let (mut second, mut values) = bench(mtype);
+/// One step on both programs, on this mtype and rule.
+fn stepped_alike(word: u32, mtype: u64, rule: u64) -> bool {
+    let (mut second, mut values) = bench(mtype, rule);
     let mut block = bytes(&numbers(&second.machine));
     let (mut registers, mut marks) = (second.registers.clone(), second.marks.clone());
     let (mut scalars, mut memory) = (bytes(&values), second.memory.clone());
@@ -112,8 +113,9 @@ fn main() {
         let line = read(&text).expect("mnemonic, operands, word and answer");
         let mut right = encoded(&line) && answered(&line);
         if right && at_bounds(&line) {
-            right = [0, 1, 2, 8].iter().all(|&mtype| stepped_alike(line.word, mtype));
-            steps += 4;
+            let states = [0, 1, 2, 8].into_iter().flat_map(|mtype| RULES.map(|rule| (mtype, rule)));
+            right = states.clone().all(|(mtype, rule)| stepped_alike(line.word, mtype, rule));
+            steps += states.count() as u64;
         }
         lines += 1;
         if !right {

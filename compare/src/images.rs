@@ -1,4 +1,5 @@
-//! Machine images (request Six): written, read back, and read where they are damaged.
+//! Machine images (request Six): written, read back, and read where they are damaged;
+//! those of halving machines have version 2 (request Eight).
 
 use crate::lent::{
     differences, hex, library_image_read, library_image_size, library_image_write, second_image,
@@ -10,6 +11,7 @@ use crate::states::{any_machine, any_scalar, bench_of, lengths, put_bench_fault,
 use crate::suite::{each_case, Context, Outcome};
 use crate::tally::{Call, Tally};
 use model::images::{completed, parts, Parts};
+use model::{HALVING, RULES};
 
 // ---------------------------------------------------------------------------
 // One call on both programs
@@ -256,6 +258,53 @@ fn check_alike(
     Ok(())
 }
 
+/// The image of a machine by each rule: the halving one has 2 and 1 where the other has
+/// 1, and the machines made of them have their rules. Then every value of the version
+/// and of the rule, with the place that the paper gives.
+pub fn image_versions(context: &mut Context) -> Outcome {
+    let pairs = model::permitted_lengths();
+    let count = 4 * pairs.len() as u64;
+    each_case(context, "image versions", count, |case, random, tally| {
+        let lengths = pairs[case as usize % pairs.len()];
+        let pattern = random.below(PATTERNS);
+        let lent = sound_bench(random, lengths, pattern);
+        let [plain, halving] = RULES.map(|rule| {
+            let mut machine = lent.machine();
+            machine.rule = rule;
+            let mut lent = lent.clone();
+            lent.set_machine(&machine);
+            lent
+        });
+        let [one, two] = [&plain, &halving].map(|lent| written(lent, random, tally));
+        let (one, two) = (one?, two?);
+        if one[0] != 1 || two[..2] != [2, 1] || one[1..] != two[2..] {
+            return Err(format!("{} and {}", hex(&one), hex(&two)));
+        }
+        check_handed_over(&plain, &one, random, tally)?;
+        check_handed_over(&halving, &two, random, tally)?;
+        let before = other_buffers(random, lengths.1);
+        for (image, at) in [(&one, 0), (&two, 0), (&two, 1)] {
+            for value in (0..=255).filter(|&value| value != image[at]) {
+                let mut changed = image.clone();
+                changed[at] = value;
+                let (given, _) = check_read(&changed, &before, tally)?;
+                let place = if at == 0 && [1, 2].contains(&value) { 1 } else { at };
+                if given != 15 | (place as u64) << 16 {
+                    return Err(format!("{}: {}", hex(&changed), result_text(given)));
+                }
+            }
+        }
+        Ok(())
+    })
+}
+
+/// The image of a machine, in a room of its size.
+fn written(lent: &Lent, random: &mut Random, tally: &mut Tally) -> Result<Vec<u8>, String> {
+    check_size(lent, tally)?;
+    let length = second_image(lent).ok_or("the machine is at fault")?.len();
+    check_write(lent, length, random, tally).map(|(_, image)| image)
+}
+
 /// States at fault: 8, in whatever room.
 pub fn faulty_images(context: &mut Context) -> Outcome {
     each_case(context, "faulty images", 4000, |_, random, tally| {
@@ -384,8 +433,11 @@ fn numbers(Parts { machine, runs }: &Parts) -> Vec<(u64, u64, Vec<u8>)> {
     let total = model::register_bytes(machine.mlen) as u64;
     let plain = |number: u64, most: u64| (number, most, vec![]);
     let rows = machine.mlen / machine.rlen;
-    let mut numbers = vec![
-        plain(1, 1),
+    let mut numbers = match machine.rule {
+        HALVING => vec![plain(2, 2), plain(HALVING, 1)],
+        _ => vec![plain(1, 2)],
+    };
+    numbers.extend([
         plain(machine.rlen.trailing_zeros() as u64, 9),
         plain(machine.mlen.trailing_zeros() as u64, 12),
         plain(machine.mtype, 1 << 63),
@@ -395,7 +447,7 @@ fn numbers(Parts { machine, runs }: &Parts) -> Vec<(u64, u64, Vec<u8>)> {
         plain(machine.seal_start, u64::MAX),
         plain(machine.seal_length, u64::MAX - machine.seal_start),
         plain(runs.len() as u64, total / 2),
-    ];
+    ]);
     let mut end = 0;
     for (index, (start, bytes)) in runs.iter().enumerate() {
         let room = total - end - 2 * (runs.len() - 1 - index) as u64;

@@ -43,6 +43,7 @@ pub fn machine_block(machine: &Machine) -> Vec<u8> {
         machine.tile_n,
         machine.seal_start,
         machine.seal_length,
+        machine.rule,
     ])
 }
 
@@ -51,9 +52,9 @@ pub fn machine_of(block: &[u8]) -> Option<Machine> {
     if block.len() != library::MACHINE_BYTES {
         return None;
     }
-    let [rlen, mlen, mtype, tile_m, tile_k, tile_n, seal_start, seal_length] =
+    let [rlen, mlen, mtype, tile_m, tile_k, tile_n, seal_start, seal_length, rule] =
         bytes_to_words(block).try_into().unwrap();
-    Some(Machine { rlen, mlen, mtype, tile_m, tile_k, tile_n, seal_start, seal_length })
+    Some(Machine { rlen, mlen, mtype, tile_m, tile_k, tile_n, seal_start, seal_length, rule })
 }
 
 pub fn handed_block(handed: &Handed) -> Vec<u8> {
@@ -67,7 +68,7 @@ pub fn handed_of(block: &[u8]) -> Handed {
 
 /// A machine that the library started on register bytes and memory, all marks 1
 /// before and all scalars 0.
-pub fn started((rlen, mlen): (u64, u64), registers: Vec<u8>, memory: Vec<u8>) -> Lent {
+pub fn started((rlen, mlen): (u64, u64), rule: u64, registers: Vec<u8>, memory: Vec<u8>) -> Lent {
     let mut lent = Lent {
         machine: vec![0; library::MACHINE_BYTES],
         marks: vec![1; registers.len()],
@@ -75,7 +76,8 @@ pub fn started((rlen, mlen): (u64, u64), registers: Vec<u8>, memory: Vec<u8>) ->
         scalars: vec![0; library::SCALARS_BYTES],
         memory,
     };
-    library::start(rlen, mlen, 0, 0, &mut lent.machine, &mut lent.registers, &mut lent.marks);
+    let Lent { machine, registers, marks, .. } = &mut lent;
+    library::start(rlen, mlen, rule, 0, 0, machine, registers, marks);
     lent
 }
 

@@ -3,11 +3,11 @@
 
 use model::Plan;
 
-// The block lengths of the library's header. A run block is opaque, but made of
-// numbers of 8 bytes.
-pub const MACHINE_BYTES: usize = 64;
+// The block lengths of the library's header. Machine and run blocks are made of numbers
+// of 8 bytes (src/lent.rs and src/runs/damage.rs have their order).
+pub const MACHINE_BYTES: usize = 72;
 pub const SCALARS_BYTES: usize = 256;
-pub const RUN_BYTES: usize = 144;
+pub const RUN_BYTES: usize = 152;
 pub const STEP_BYTES: usize = 24;
 pub const STEPS_BYTES: usize = 8;
 
@@ -45,10 +45,12 @@ macro_rules! plan_calls {
 
 calls! {
     start = bodlarina_start(
-        rlen: u64, mlen: u64, seal_start: u64, seal_length: u64; machine, registers, marks
+        rlen: u64, mlen: u64, rule: u64, seal_start: u64, seal_length: u64;
+        machine, registers, marks
     );
     step = bodlarina_step(word: u32; machine, registers, marks, scalars, memory);
     run_next = bodlarina_run_next(; run, step);
+    run_steps = bodlarina_run_steps(; run);
     run_turn = bodlarina_run_turn(; run, machine, registers, marks, memory);
     run_turns = bodlarina_run_turns(turns: u64; run, machine, registers, marks, memory);
     image_size = bodlarina_image_size(; machine, registers, marks);

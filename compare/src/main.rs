@@ -19,6 +19,7 @@ mod overlapping;
 mod powerup;
 mod random;
 mod renewed;
+mod rules;
 mod runs;
 mod sheet;
 mod starts;
@@ -32,7 +33,7 @@ mod words;
 use std::time::Instant;
 use suite::{Context, Outcome, Suite};
 
-const SUITES: [Suite; 40] = [
+const SUITES: [Suite; 45] = [
     ("bench sheet", sheet::bench_sheet),
     ("machine starts", starts::machine_starts),
     ("codes", steps::codes),
@@ -42,6 +43,8 @@ const SUITES: [Suite; 40] = [
     ("random steps", steps::random_steps),
     ("several faults", steps::several_faults),
     ("renewed sizes", renewed::renewed_sizes),
+    ("asked sizes", rules::asked_sizes),
+    ("unknown rules", rules::unknown_rules),
     ("transposed tiles", transposed::transposed_tiles),
     ("overlapping rows", overlapping::overlapping_rows),
     ("overlapping stores", overlapping::overlapping_stores),
@@ -59,6 +62,8 @@ const SUITES: [Suite; 40] = [
     ("disturbed turns", runs::suites::disturbed_turns),
     ("overlapping turns", runs::suites::overlapping_turns),
     ("whole runs", runs::suites::whole_runs),
+    ("both rules", runs::rules::both_rules),
+    ("unknown run rules", runs::rules::unknown_run_rules),
     ("float runs", runs::floats::float_runs),
     ("whole float runs", runs::floats::whole_float_runs),
     ("power-up runs", runs::powerup::power_up_runs),
@@ -68,6 +73,7 @@ const SUITES: [Suite; 40] = [
     ("forged runs", runs::damage::forged_runs),
     ("empty run slices", runs::damage::empty_run_slices),
     ("images", images::images),
+    ("image versions", images::image_versions),
     ("faulty images", images::faulty_images),
     ("image buffers", images::image_buffers),
     ("damaged images", images::damaged_images),

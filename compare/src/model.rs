@@ -1,6 +1,6 @@
 //! The second program: the rules of the scope paper and of the change requests
-//! that have landed (One, Two, Three, Four, Six, Seven; Nine asks for nothing new), each
-//! as one plain function.
+//! that have landed (One, Two, Three, Four, Six, Seven, Eight; Nine asks for nothing
+//! new), each as one plain function.
 //!
 //! It is written to be read beside the paper, not to be fast. Sizes and
 //! addresses are whole numbers (`i128`), bytes are looked at one by one, and a
@@ -29,7 +29,14 @@ pub struct Machine {
     pub tile_n: u64,
     pub seal_start: u64,
     pub seal_length: u64,
+    pub rule: u64,
 }
+
+/// The rules by which a machine chooses its tile sizes (request Eight): the smaller of
+/// the asked size and the maximum, or halving.
+pub const SMALLER: u64 = 0;
+pub const HALVING: u64 = 1;
+pub const RULES: [u64; 2] = [SMALLER, HALVING];
 
 /// A machine with what it is lent, but for the scalars.
 #[derive(Clone, Debug, PartialEq, Eq)]
@@ -92,12 +99,14 @@ fn seal_permitted(start: u64, length: u64) -> bool {
 pub fn start(
     rlen: u64,
     mlen: u64,
+    rule: u64,
     seal_start: u64,
     seal_length: u64,
     registers: &[u8],
     marks: &mut [u8],
 ) -> Option<Machine> {
     if !lengths_permitted(rlen, mlen)
+        || !RULES.contains(&rule)
         || !buffers_fit(mlen, registers, marks)
         || !seal_permitted(seal_start, seal_length)
     {
@@ -106,7 +115,7 @@ pub fn start(
     for mark in marks.iter_mut() {
         *mark = 0;
     }
-    Some(Machine { rlen, mlen, seal_start, seal_length, ..Machine::default() })
+    Some(Machine { rlen, mlen, seal_start, seal_length, rule, ..Machine::default() })
 }
 
 /// The values of mtype that can arise.
@@ -127,6 +136,7 @@ pub fn state_at_fault(bench: &Bench) -> bool {
         || !mtype_can_arise(machine.mtype)
         || above_maximum
         || !seal_permitted(machine.seal_start, machine.seal_length)
+        || !RULES.contains(&machine.rule)
         || bench.marks.iter().any(|&mark| mark != 0 && mark != 1)
 }
 
@@ -618,7 +628,7 @@ fn set_tile_size(machine: &mut Machine, size: Size, value: u64) {
 }
 
 /// The size a setting word asks for. With both rs1 and rd x0 nothing is asked: the
-/// size as it stands is cut to the maximum (request Three).
+/// size as it stands is cut to the maximum (request Three), whatever the rule.
 fn asked_size(instruction: &Instruction, scalars: &[u64], maximum: i128) -> Option<i128> {
     if let Some(immediate) = instruction.operand("mleni") {
         return Some(immediate as i128);
@@ -630,6 +640,16 @@ fn asked_size(instruction: &Instruction, scalars: &[u64], maximum: i128) -> Opti
         Some(maximum)
     } else {
         None
+    }
+}
+
+/// The size that a machine gives of an asked size. Halving, it takes half the asked size,
+/// rounded up, where that lies strictly between the maximum and twice it.
+pub fn granted(rule: u64, asked: i128, maximum: i128) -> i128 {
+    if rule == HALVING && maximum < asked && asked < 2 * maximum {
+        (asked + 1) / 2
+    } else {
+        asked.min(maximum)
     }
 }
 
@@ -878,7 +898,7 @@ fn set_type(instruction: &Instruction, machine: &mut Machine, scalars: &mut [u64
 fn set_size(instruction: &Instruction, size: Size, machine: &mut Machine, scalars: &mut [u64]) {
     let maximum = maximum(machine, size, sew(machine.mtype));
     let new_size = match asked_size(instruction, scalars, maximum) {
-        Some(asked) => asked.min(maximum),
+        Some(asked) => granted(machine.rule, asked, maximum),
         None => tile_size(machine, size).min(maximum),
     };
     set_tile_size(machine, size, new_size as u64);
@@ -1144,12 +1164,24 @@ pub fn run_start(plan: &Plan, bench: &Bench) -> Result<Run, u64> {
     Ok(Run { steps: steps_of(plan, &bench.machine), place: 0 })
 }
 
+/// Where the blocks of a size start: each takes what a machine gives of the rest.
+pub fn block_starts(total: i128, maximum: i128, rule: u64) -> Vec<i128> {
+    let mut starts = Vec::new();
+    let mut at = 0;
+    while at < total {
+        starts.push(at);
+        at += granted(rule, total - at, maximum);
+    }
+    starts
+}
+
 /// The steps of a run, as the paper's nested loops.
 fn steps_of(plan: &Plan, machine: &Machine) -> Vec<Handed> {
     let sew = plan.sew as i128;
     let wide = (plan.factor * plan.sew) as i128;
     let (m, k, n) = (plan.m as i128, plan.k as i128, plan.n as i128);
-    let block = |size| maximum(machine, size, sew) as usize;
+    let blocks =
+        |total, size| block_starts(total, maximum(machine, size, sew), machine.rule).into_iter();
 
     let set = |name: &str, value: i128| Handed {
         word: assemble(name, &[("mtypei", value as u32), ("mleni", value as u32)]),
@@ -1179,12 +1211,12 @@ fn steps_of(plan: &Plan, machine: &Machine) -> Vec<Handed> {
     };
 
     let mut steps = vec![set("msettypei", maccq + msew)];
-    for i in (0..m).step_by(block(Size::M)) {
+    for i in blocks(m, Size::M) {
         steps.push(set("msettilemi", m - i));
-        for j in (0..n).step_by(block(Size::N)) {
+        for j in blocks(n, Size::N) {
             steps.push(set("msettileni", n - j));
             steps.push(reckon(clear, 0));
-            for l in (0..k).step_by(block(Size::K)) {
+            for l in blocks(k, Size::K) {
                 steps.push(set("msettileki", k - l));
                 steps.push(match plan.kind {
                     A_TRANSPOSED => move_tile(format!("mlate{sew}.m"), 0, plan.placed(A), l, i),

@@ -1,4 +1,4 @@
-//! Machine images (request Six).
+//! Machine images (request Six), and those of halving machines (request Eight).
 //!
 //! The reader is the rules turned round: of each number it knows which ones some
 //! accepted image has there, after all that stands before. A byte is at fault as
@@ -38,8 +38,12 @@ pub fn image(bench: &Bench) -> Option<Vec<u8>> {
     }
     let machine = &bench.machine;
     let runs = runs(&bench.marks);
-    let header = [
-        1,
+    // A halving machine has version 2, with its rule after it.
+    let version = match machine.rule {
+        HALVING => vec![2, HALVING],
+        _ => vec![1],
+    };
+    let numbers = [
         machine.rlen.ilog2() as u64,
         machine.mlen.ilog2() as u64,
         machine.mtype,
@@ -50,7 +54,7 @@ pub fn image(bench: &Bench) -> Option<Vec<u8>> {
         machine.seal_length,
         runs.len() as u64,
     ];
-    let mut image: Vec<u8> = header.into_iter().flat_map(groups).collect();
+    let mut image: Vec<u8> = version.into_iter().chain(numbers).flat_map(groups).collect();
     let mut end = 0;
     for run in runs {
         image.extend(groups((run.start - end) as u64));
@@ -146,14 +150,17 @@ impl Reader {
         let exponents = |lengths: Vec<u64>| {
             Permitted::OneOf(lengths.iter().map(|length| length.ilog2() as u64).collect())
         };
-        self.number(Permitted::OneOf(vec![1]))?;
+        let rule = match self.number(Permitted::OneOf(vec![1, 2]))? {
+            2 => self.number(Permitted::OneOf(vec![HALVING]))?,
+            _ => SMALLER,
+        };
         let pairs = permitted_lengths();
         let rlen = 1 << self.number(exponents(pairs.iter().map(|pair| pair.0).collect()))?;
         let with_rlen = pairs.iter().filter(|pair| pair.0 == rlen);
         let mlen = 1 << self.number(exponents(with_rlen.map(|pair| pair.1).collect()))?;
         let mtypes = (0..16).chain([MILL]).filter(|&mtype| mtype_can_arise(mtype));
         let mtype = self.number(Permitted::OneOf(mtypes.collect()))?;
-        let mut machine = Machine { rlen, mlen, mtype, ..Machine::default() };
+        let mut machine = Machine { rlen, mlen, mtype, rule, ..Machine::default() };
         for size in [Size::M, Size::K, Size::N] {
             let widest = maximum(&machine, size, 8) as u64;
             let asked = self.number(Permitted::Range(0, widest))?;

@@ -9,7 +9,7 @@ use std::collections::HashSet;
 fn marked(places: impl IntoIterator<Item = usize>) -> Bench {
     let registers: Vec<u8> = (0..=255).collect();
     let mut marks = vec![1; 256];
-    let machine = start(64, 128, 0, 0, &registers, &mut marks).expect("a good machine");
+    let machine = start(64, 128, SMALLER, 0, 0, &registers, &mut marks).expect("a good machine");
     for at in places {
         marks[at] = 1;
     }
@@ -57,7 +57,8 @@ fn numbers_of_the_machine() {
     let registers = vec![7; register_bytes(4096)];
     let mut marks = vec![0; register_bytes(4096)];
     let seal = (300, u64::MAX - 300);
-    let mut machine = start(512, 4096, seal.0, seal.1, &registers, &mut marks).expect("good");
+    let mut machine =
+        start(512, 4096, SMALLER, seal.0, seal.1, &registers, &mut marks).expect("good");
     machine.mtype = MILL;
     (machine.tile_m, machine.tile_k, machine.tile_n) = (8, 7, 64);
     let bench = Bench { machine, registers, marks, memory: vec![] };
@@ -102,7 +103,7 @@ fn numbers_that_no_machine_holds() {
     let place = |bytes: &[u8]| parts(bytes).expect_err("a damaged image");
     assert_eq!(place(&[]), 0);
     assert_eq!(place(&[0]), 0);
-    assert_eq!(place(&[2]), 0);
+    assert_eq!(place(&[3]), 0);
     assert_eq!(place(&[0x81]), 0);
     assert_eq!(place(&[1, 5]), 1);
     assert_eq!(place(&[1, 10]), 1);
@@ -236,4 +237,76 @@ fn reading_leaves_unmarked_bytes() {
     assert_eq!(read(&image, &mut registers[1..], &mut marks), Err((8, 0)));
     assert_eq!(read(&image, &mut registers, &mut marks[1..]), Err((8, 0)));
     assert_eq!(read(&image[..5], &mut registers[1..], &mut marks), Err((15, 5)));
+}
+
+/// The machine of `marked` with the halving rule.
+fn halving(places: impl IntoIterator<Item = usize>) -> Bench {
+    let mut bench = marked(places);
+    bench.machine.rule = HALVING;
+    bench
+}
+
+#[test]
+fn images_of_halving_machines() {
+    let plain = image(&marked([3, 4, 9])).unwrap();
+    let halved = image(&halving([3, 4, 9])).unwrap();
+    assert_eq!(plain[..2], [1, 6]);
+    assert_eq!(halved, [&[2, 1], &plain[1..]].concat());
+    assert_eq!(image(&halving([])).unwrap(), [2, 1, 6, 7, 0, 0, 0, 0, 0, 0, 0]);
+    // Read back: the rule is the image's.
+    for (image, rule) in [(plain, SMALLER), (halved, HALVING)] {
+        let (mut registers, mut marks) = (vec![0; 256], vec![7; 256]);
+        let machine = read(&image, &mut registers, &mut marks).expect("buffers that fit");
+        assert_eq!(machine, Machine { rlen: 64, mlen: 128, rule, ..Machine::default() });
+        assert_eq!(registers[3..5], [3, 4]);
+    }
+    let mut unknown = halving([3]);
+    for rule in [2, 3, 1 << 32, u64::MAX] {
+        unknown.machine.rule = rule;
+        assert_eq!(image(&unknown), None);
+        assert_eq!(write(&unknown, &mut []), Err(8));
+    }
+}
+
+#[test]
+fn versions_and_rules_that_no_image_has() {
+    let place = |bytes: &[u8]| parts(bytes).expect_err("a damaged image");
+    for version in (3..=255).chain([0]) {
+        assert_eq!(place(&[version, 1, 6, 7, 0, 0, 0, 0, 0, 0, 0]), 0, "{version}");
+    }
+    for rule in (2..=255).chain([0]) {
+        assert_eq!(place(&[2, rule, 6, 7, 0, 0, 0, 0, 0, 0, 0]), 1, "{rule}");
+    }
+    // Cut short, or with a number that the other version has there.
+    assert_eq!(place(&[2]), 1);
+    assert_eq!(place(&[2, 1]), 2);
+    assert_eq!(place(&[2, 6, 7, 0, 0, 0, 0, 0, 0, 0]), 1);
+    assert_eq!(place(&[1, 1, 6, 7, 0, 0, 0, 0, 0, 0, 0]), 1);
+    // More groups than the shortest form has.
+    assert_eq!(place(&[0x82, 0, 1, 6]), 0);
+    assert_eq!(place(&[2, 0x81, 0, 6]), 1);
+    // The rest one byte later.
+    assert_eq!(place(&[2, 1, 5]), 2);
+    assert_eq!(place(&[2, 1, 9, 9]), 3);
+    assert_eq!(place(&[2, 1, 6, 7, 0, 3]), 5);
+    assert_eq!(place(&[2, 1, 6, 7, 0, 0, 0, 0, 0, 0, 0, 0]), 11);
+}
+
+/// As for version 1: whatever is sound can be gone on with.
+#[test]
+fn sound_beginnings_of_version_2() {
+    let whole = image(&halving([0, 9, 15, 16, 255])).unwrap();
+    for at in 0..whole.len() {
+        for byte in 0..=255 {
+            let mut changed = whole.clone();
+            changed[at] = byte;
+            let sound = parts(&changed).err().unwrap_or(changed.len());
+            let image = completed(&changed[..sound]).expect("an accepted image");
+            let machine = parts(&image).expect("accepted").machine;
+            assert_eq!(machine.rule == HALVING, image[0] == 2);
+            if sound < changed.len() {
+                assert_eq!(completed(&changed[..=sound]), None);
+            }
+        }
+    }
 }

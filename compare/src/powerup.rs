@@ -10,7 +10,7 @@ use crate::states::{bad_word, bench_of, good_machine, MTYPES};
 use crate::steps::following_word;
 use crate::suite::{each_case, Context, Outcome};
 use crate::tally::ANSWERS;
-use model::{decode, sew, Kind};
+use model::{decode, sew, Kind, Machine};
 
 /// A bench, and the block of a run where there is one.
 #[derive(Clone)]
@@ -162,7 +162,8 @@ fn any_pair(random: &mut Random) -> Result<Pair, String> {
     let (seal_start, seal_length) = (random.below(1500), random.below(20));
     pair.call("start of a machine", |side| {
         let Lent { machine: block, registers, marks, .. } = &mut side.lent;
-        library::start(machine.rlen, machine.mlen, seal_start, seal_length, block, registers, marks)
+        let Machine { rlen, mlen, rule, .. } = machine;
+        library::start(rlen, mlen, rule, seal_start, seal_length, block, registers, marks)
     })?;
     Ok(pair)
 }
@@ -195,7 +196,7 @@ fn word_list(
     [met, met_by_floats]: &mut [Met; 2],
 ) -> Result<(), String> {
     let set_scalars = random.chance(50);
-    for _ in 0..60 {
+    for _ in 0..75 {
         let mut lent = pair.0[0].lent.clone();
         let word = any_word(random, &mut lent);
         if set_scalars {

@@ -6,32 +6,34 @@ use crate::random::Random;
 use crate::states::{bench_of, set_size, MTYPES, SIZES};
 use crate::suite::{check_step, each_case, Context, Outcome};
 use crate::tally::Tally;
-use model::{maximum, sew, tile_size, Machine, Size};
+use model::{maximum, sew, tile_size, Machine, Size, RULES};
 
 /// The settings by a scalar, and the sizes they set.
-const SETTINGS: [(&str, Size); 3] =
+pub const SETTINGS: [(&str, Size); 3] =
     [("msettilem", Size::M), ("msettilek", Size::K), ("msettilen", Size::N)];
 
-/// Every machine, and every change from one legal mtype to another.
+/// Every machine of either rule, and every change from one legal mtype to another.
 pub fn renewed_sizes(context: &mut Context) -> Outcome {
     let lengths = model::permitted_lengths();
     let changes = MTYPES.len() * MTYPES.len();
-    let count = (lengths.len() * changes) as u64;
+    let machines = lengths.len() * changes;
+    let count = (RULES.len() * machines) as u64;
     each_case(context, "renewed sizes", count, |case, random, tally| {
         let change = case as usize % changes;
         let (from, to) = (MTYPES[change / MTYPES.len()], MTYPES[change % MTYPES.len()]);
-        let mut lent = sized_bench(random, lengths[case as usize / changes], from);
+        let rule = RULES[case as usize / machines];
+        let mut lent = sized_bench(random, lengths[case as usize % machines / changes], rule, from);
         renew(&mut lent, to, tally)?;
         move_tiles(&mut lent, to, tally)
     })
 }
 
 /// A bench with sizes at or below their maxima under mtype.
-fn sized_bench(random: &mut Random, (rlen, mlen): (u64, u64), mtype: u64) -> Lent {
-    let mut machine = Machine { rlen, mlen, mtype, ..Machine::default() };
+fn sized_bench(random: &mut Random, (rlen, mlen): (u64, u64), rule: u64, mtype: u64) -> Lent {
+    let mut machine = Machine { rlen, mlen, mtype, rule, ..Machine::default() };
     for size in SIZES {
         let limit = maximum(&machine, size, sew(mtype));
-        let value = random.pick(&[limit, limit, limit, limit - 1, 1, 0]);
+        let value = random.pick(&[limit, limit, limit, limit - 1, limit / 2 + 1, 1, 0]);
         set_size(&mut machine, size, value);
     }
     let mut lent = bench_of(random, &machine);
@@ -54,8 +56,8 @@ fn done(
     }
 }
 
-/// mtype, then the three sizes: each becomes the smaller of itself and its
-/// maximum, and no scalar changes.
+/// mtype, then the three sizes: each becomes the smaller of itself and its maximum,
+/// whatever the rule, and no scalar changes.
 fn renew(lent: &mut Lent, mtype: u64, tally: &mut Tally) -> Result<(), String> {
     let before = lent.machine();
     done("msettypei", &[("mtypei", mtype as u32)], lent, tally)?;

@@ -4,19 +4,31 @@ use crate::lent::{library_run_start, library_run_turns, library_step, words_to_b
 use crate::library;
 use crate::runs::plans::packed_plan;
 use crate::suite::{Context, Outcome};
-use model::{assemble, Matrix, Plan, MILL};
+use model::{assemble, Matrix, Plan, MILL, RULES};
 
 /// A started machine of MLEN 256 and RLEN 64.
-fn started(memory: usize) -> Lent {
-    crate::lent::started((64, 256), vec![0; model::register_bytes(256)], vec![0; memory])
+fn started_by(rule: u64, memory: usize) -> Lent {
+    crate::lent::started((64, 256), rule, vec![0; model::register_bytes(256)], vec![0; memory])
 }
 
 fn answer(word: u32, lent: &mut Lent) -> u64 {
     library_step(word, lent) & 0xFFFF
 }
 
+/// On a machine of either rule.
 pub fn bench_sheet(_: &mut Context) -> Outcome {
-    let mut lines: Vec<(&str, bool)> = Vec::new();
+    let lines: Vec<(&str, bool)> = RULES.into_iter().flat_map(sheet_lines).collect();
+    let wrong: Vec<&str> = lines.iter().filter(|line| !line.1).map(|line| line.0).collect();
+    if wrong.is_empty() {
+        Ok(format!("{} lines", lines.len()))
+    } else {
+        Err(format!("not as printed: {}", wrong.join(", ")))
+    }
+}
+
+fn sheet_lines(rule: u64) -> Vec<(&'static str, bool)> {
+    let mut lines = Vec::new();
+    let started = |memory| started_by(rule, memory);
 
     for (mtype, maxima) in [(0, [4, 4, 8]), (1, [4, 4, 4]), (2, [4, 2, 2])] {
         let mut lent = started(0);
@@ -65,19 +77,13 @@ pub fn bench_sheet(_: &mut Context) -> Outcome {
     lines.push(("the end of memory", at(0, 8) == 0 && at(1, 8) == 6));
     lines.push(("stride -8", at(24, -8) == 0 && at(23, -8) == 6));
 
-    lines.extend(run_lines());
-
-    let wrong: Vec<&str> = lines.iter().filter(|line| !line.1).map(|line| line.0).collect();
-    if wrong.is_empty() {
-        Ok(format!("{} lines", lines.len()))
-    } else {
-        Err(format!("not as printed: {}", wrong.join(", ")))
-    }
+    lines.extend(run_lines(rule));
+    lines
 }
 
 /// Steps done, and C, for A and B at SEW 8.
-fn product(plan: &Plan, a: &[i8], b: &[i8]) -> (u64, Vec<i128>) {
-    let mut lent = started(4096);
+fn product(rule: u64, plan: &Plan, a: &[i8], b: &[i8]) -> (u64, Vec<i128>) {
+    let mut lent = started_by(rule, 4096);
     for (address, values) in [(plan.a, a), (plan.b, b)] {
         for (at, &value) in (address as usize..).zip(values) {
             lent.memory[at] = value as u8;
@@ -92,8 +98,9 @@ fn product(plan: &Plan, a: &[i8], b: &[i8]) -> (u64, Vec<i128>) {
 }
 
 /// The lines that need a run.
-fn run_lines() -> Vec<(&'static str, bool)> {
+fn run_lines(rule: u64) -> Vec<(&'static str, bool)> {
     let mut lines = Vec::new();
+    let product = |plan: &Plan, a: &[i8], b: &[i8]| product(rule, plan, a, b);
     let plan = |sew, factor, sizes| packed_plan((sew, factor), sizes).0;
 
     let once = |factor| product(&plan(8, factor, [1, 1, 1]), &[100], &[100]).1;
@@ -106,7 +113,7 @@ fn run_lines() -> Vec<(&'static str, bool)> {
     lines.push(("m = 0", steps(8, [0, 8, 14]) == 1));
     lines.push(("k = 0", product(&plan(8, 1, [1, 0, 1]), &[], &[]) == (5, vec![0])));
 
-    let mut lent = started(16384);
+    let mut lent = started_by(rule, 16384);
     let mut run = vec![0; library::RUN_BYTES];
     let mut start = |m| library_run_start(&plan(8, 1, [m, 1, 1]), &mut lent, &mut run);
     lines.push(("size 1,024", start(1024) == 0 && start(1025) == 8));

@@ -3,8 +3,10 @@
 use crate::lent::{differences, machine_block};
 use crate::library;
 use crate::random::Random;
+use crate::states::UNKNOWN_RULES;
 use crate::suite::{each_case, Context, Outcome};
 use crate::tally::{Call, Tally};
+use model::RULES;
 
 const RLENS: [u64; 14] = [0, 1, 8, 32, 63, 64, 65, 96, 128, 256, 512, 1024, 1 << 32, u64::MAX];
 const MLENS: [u64; 16] =
@@ -53,6 +55,10 @@ fn check_start(rlen: u64, mlen: u64, random: &mut Random, tally: &mut Tally) -> 
         0 => random.pick(&SEALS),
         _ => (random.below(1000), random.below(1000)),
     };
+    let rule = match random.below(8) {
+        0 => random.pick(&UNKNOWN_RULES),
+        _ => random.pick(&RULES),
+    };
     let right = model::register_bytes(mlen.clamp(64, 8192));
     let [machine_length, registers_length, marks_length] =
         [library::MACHINE_BYTES, right, right].map(|right| length(random, right));
@@ -61,13 +67,14 @@ fn check_start(rlen: u64, mlen: u64, random: &mut Random, tally: &mut Tally) -> 
     let marks = random.bytes(marks_length);
 
     let mut ours = (machine.clone(), registers.clone(), marks.clone());
-    let given =
-        library::start(rlen, mlen, seal_start, seal_length, &mut ours.0, &mut ours.1, &mut ours.2);
+    let (block, register_bytes, mark_bytes) = (&mut ours.0, &mut ours.1, &mut ours.2);
+    let seal = (seal_start, seal_length);
+    let given = library::start(rlen, mlen, rule, seal.0, seal.1, block, register_bytes, mark_bytes);
 
     let mut expected = (8, machine.clone(), registers.clone(), marks.clone());
     if machine_length == library::MACHINE_BYTES {
         let started =
-            model::start(rlen, mlen, seal_start, seal_length, &registers, &mut expected.3);
+            model::start(rlen, mlen, rule, seal_start, seal_length, &registers, &mut expected.3);
         if let Some(started) = started {
             expected.0 = 0;
             expected.1 = machine_block(&started);
@@ -75,8 +82,8 @@ fn check_start(rlen: u64, mlen: u64, random: &mut Random, tally: &mut Tally) -> 
     }
     if (given, &ours.0, &ours.1, &ours.2) != (expected.0, &expected.1, &expected.2, &expected.3) {
         return Err(format!(
-            "start rlen {rlen} mlen {mlen} seal {seal_start}+{seal_length}, {} bytes of machine, \
-             {} of registers, {} of marks\nlibrary: {given}, second program: {}\n{}{}{}",
+            "start rlen {rlen} mlen {mlen} rule {rule} seal {seal_start}+{seal_length}, {} bytes of \
+             machine, {} of registers, {} of marks\nlibrary: {given}, second program: {}\n{}{}{}",
             machine.len(),
             registers.len(),
             marks.len(),

@@ -4,7 +4,7 @@
 use crate::float_numbers;
 use crate::lent::{machine_block, words_to_bytes, Lent};
 use crate::random::Random;
-use model::{maximum, sew, Kind, Machine, Matrix, Row, Size, LEFT_OUT, LISTING, MILL};
+use model::{maximum, sew, Kind, Machine, Matrix, Row, Size, LEFT_OUT, LISTING, MILL, RULES};
 
 pub struct Case {
     pub word: u32,
@@ -15,6 +15,10 @@ pub const SIZES: [Size; 3] = [Size::M, Size::K, Size::N];
 pub const MTYPES: [u64; 4] = [0, 1, 2, 8];
 /// SEW and factor of the outputs that are permitted.
 pub const WIDTHS: [(u64, u64); 6] = [(8, 1), (8, 2), (8, 4), (16, 1), (16, 2), (32, 1)];
+
+/// Numbers that are no rule of a machine.
+pub const UNKNOWN_RULES: [u64; 8] =
+    [2, 3, 256, 257, 1 << 32, (1 << 32) + 1, (1 << 63) + 1, u64::MAX];
 
 /// A permitted pair (RLEN, MLEN), small machines more often.
 pub fn lengths(random: &mut Random) -> (u64, u64) {
@@ -45,7 +49,7 @@ pub fn size_up_to(random: &mut Random, limit: i128) -> i128 {
     }
 }
 
-/// A machine with a legal mtype and sizes within the maxima.
+/// A machine with a legal mtype and sizes within the maxima, of either rule.
 pub fn good_machine(random: &mut Random, mtype: u64) -> Machine {
     let lengths = lengths(random);
     machine_within(random, lengths, mtype, sew(mtype))
@@ -59,7 +63,8 @@ pub fn any_machine(random: &mut Random, lengths: (u64, u64)) -> Machine {
 
 /// A machine whose sizes are within their maxima at a SEW.
 fn machine_within(random: &mut Random, (rlen, mlen): (u64, u64), mtype: u64, sew: i128) -> Machine {
-    let mut machine = Machine { rlen, mlen, mtype, ..Machine::default() };
+    let rule = random.pick(&RULES);
+    let mut machine = Machine { rlen, mlen, mtype, rule, ..Machine::default() };
     for size in SIZES {
         let limit = maximum(&machine, size, sew);
         set_size(&mut machine, size, size_up_to(random, limit));
@@ -284,7 +289,7 @@ fn asked_value(random: &mut Random, kind: Kind, machine: &Machine) -> u64 {
             _ => any_scalar(random),
         },
         Kind::SetSize(size) if random.chance(60) => {
-            random.below(maximum(machine, size, sew(machine.mtype)) as u64 + 3)
+            random.below(2 * maximum(machine, size, sew(machine.mtype)) as u64 + 3)
         }
         _ => any_scalar(random),
     }
@@ -444,13 +449,13 @@ fn move_end_of_memory(random: &mut Random, lent: &mut Lent) {
 
 /// Puts in a fault of the state (answer 8) of any kind.
 pub fn put_state_fault(random: &mut Random, lent: &mut Lent) {
-    let kind = random.below(10);
+    let kind = random.below(11);
     state_fault(random, lent, kind);
 }
 
 /// The same but for the scalars, of which a run is lent none.
 pub fn put_bench_fault(random: &mut Random, lent: &mut Lent) {
-    let kind = random.below(9);
+    let kind = random.below(10);
     state_fault(random, lent, kind);
 }
 
@@ -495,7 +500,8 @@ fn state_fault(random: &mut Random, lent: &mut Lent, kind: u64) {
                 *byte = mark;
             }
         }
-        8 => {
+        8 => machine.rule = random.pick(&UNKNOWN_RULES),
+        9 => {
             lent.set_machine(&machine);
             wrong_length(random, &mut lent.machine);
             return;

@@ -108,6 +108,7 @@ fn started(random: &mut Random, tally: &mut Tally) -> Result<Lent, String> {
     let started = library::start(
         machine.rlen,
         machine.mlen,
+        machine.rule,
         seal_start,
         seal_length,
         &mut lent.machine,
@@ -117,6 +118,7 @@ fn started(random: &mut Random, tally: &mut Tally) -> Result<Lent, String> {
     bench.machine = model::start(
         machine.rlen,
         machine.mlen,
+        machine.rule,
         seal_start,
         seal_length,
         &bench.registers,

@@ -32,7 +32,7 @@
 //!
 //! The size of an image gives 0 or 8, writing one 14 too, reading one 0, 8 or 15.
 
-use model::{Kind, KINDS, LEFT_OUT, LISTING};
+use model::{Kind, KINDS, LEFT_OUT, LISTING, RULES};
 use std::collections::BTreeMap;
 
 #[derive(Clone, Copy, Debug, PartialEq, Eq, PartialOrd, Ord)]
@@ -55,15 +55,17 @@ pub enum Call {
 pub struct Tally {
     counts: BTreeMap<(Call, u64), u64>,
     pub steps: u64,
-    /// Runs compared after each turn, by kind.
-    pub runs: [u64; KINDS.len()],
+    /// Runs compared after each turn, by kind and by the machine's rule.
+    pub runs: [[u64; RULES.len()]; KINDS.len()],
     /// How often each reason of answer 9 was met alone, by kind.
     pub overlaps: [[u64; 4]; KINDS.len()],
 }
 
-// What is compared at the least, without `long`; runs of each kind.
+// What is compared at the least, without `long`; runs of each kind, and of each kind
+// by each rule.
 const LEAST_STEPS: u64 = 200_000;
 const LEAST_RUNS: u64 = 1_500;
+const LEAST_RUNS_BY_RULE: u64 = 700;
 
 /// What every number counts as that is no kind.
 const UNKNOWN: u64 = KINDS.len() as u64;
@@ -233,13 +235,21 @@ impl Tally {
     pub fn amount(&self) -> Result<String, String> {
         let whole: Vec<u64> = KINDS.map(|kind| self.get(Call::WholeRun(kind), 0)).to_vec();
         let text = format!(
-            "{} steps; by kind {:?} runs turn by turn, {whole:?} whole runs in one call",
+            "{} steps; by kind and rule {:?} runs turn by turn, by kind {whole:?} whole runs in \
+             one call",
             self.steps, self.runs
         );
-        if self.steps >= LEAST_STEPS && self.runs.iter().all(|&runs| runs >= LEAST_RUNS) {
+        let enough = self.runs.iter().all(|by_rule| {
+            by_rule.iter().sum::<u64>() >= LEAST_RUNS
+                && by_rule.iter().all(|&runs| runs >= LEAST_RUNS_BY_RULE)
+        });
+        if self.steps >= LEAST_STEPS && enough {
             Ok(text)
         } else {
-            Err(format!("{text}; asked for: {LEAST_STEPS} steps, {LEAST_RUNS} runs of each kind"))
+            Err(format!(
+                "{text}; asked for: {LEAST_STEPS} steps, {LEAST_RUNS} runs of each kind, \
+                 {LEAST_RUNS_BY_RULE} of them by each rule"
+            ))
         }
     }
 }

@@ -6,12 +6,13 @@ use crate::random::Random;
 use crate::states::{any_operands, bench_of, put_state_fault, set_size, MTYPES, SIZES};
 use crate::suite::{check_step, each_case, Context, Outcome};
 use crate::tally::Tally;
-use model::{maximum, sew, Machine, LEFT_OUT, LISTING};
+use model::{maximum, sew, Machine, LEFT_OUT, LISTING, RULES};
 
 /// A bench of the smallest machine on which most good words are done.
 fn small_bench(random: &mut Random) -> Lent {
     let mtype = random.pick(&MTYPES);
-    let mut machine = Machine { rlen: 64, mlen: 128, mtype, ..Machine::default() };
+    let rule = random.pick(&RULES);
+    let mut machine = Machine { rlen: 64, mlen: 128, mtype, rule, ..Machine::default() };
     for size in SIZES {
         let limit = maximum(&machine, size, sew(mtype));
         set_size(&mut machine, size, random.range(0, limit as u64) as i128);

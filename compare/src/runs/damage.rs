@@ -8,10 +8,10 @@ use crate::lent::{
 };
 use crate::library;
 use crate::random::Random;
-use crate::states::{any_machine, bench_of, lengths, wrong_length};
+use crate::states::{any_machine, bench_of, lengths, wrong_length, UNKNOWN_RULES};
 use crate::suite::{each_case, Context, Outcome};
 use crate::tally::{Call, Tally};
-use model::{maximum, Machine, Plan, Size, KINDS};
+use model::{block_starts, maximum, Machine, Plan, Size, KINDS, RULES};
 
 const GUARD: usize = 32;
 
@@ -149,6 +149,10 @@ pub fn wrong_run_lengths(context: &mut Context) -> Outcome {
         if given != 8 || !run_desk.holds(&bad_run) || !step_desk.holds(&step) {
             return Err(format!("RunNext on blocks of {lengths:?} bytes gives {given}"));
         }
+        let steps = library::run_steps(run_desk.bytes());
+        if (steps == 0) != (bad_run.len() != library::RUN_BYTES) || !run_desk.holds(&bad_run) {
+            return Err(format!("run_steps on {} bytes gives {steps}", bad_run.len()));
+        }
         let kind = bytes_to_words(&run)[KIND];
         tally.run(Call::RunNext, kind, 8);
 
@@ -199,43 +203,56 @@ pub fn empty_run_slices(context: &mut Context) -> Outcome {
 
 // The numbers of a run block, by their places in it: those of the plan but for
 // its kind, the machine's lengths, the place in the run (a word, then row, column
-// and term), and the kind.
+// and term), the kind, and the machine's rule.
 const FIELDS: usize = library::RUN_BYTES / 8;
 const C_STRIDE: usize = 10;
 const LENGTHS: usize = 11;
 const WORD: usize = 13;
 const PLACE: usize = 14;
 const KIND: usize = 17;
+pub const RULE: usize = 18;
 
 /// How many numbers each word's place has, of row, column and term.
 const PLACE_NUMBERS: [usize; 10] = [0, 1, 2, 2, 3, 3, 3, 3, 2, 0];
 const AT_END: u64 = 9;
 
-/// Whether asking a block for a step is answered 0: not at a place that no turn
-/// reaches, outside the matrices or where no block of them starts.
-fn hands_out(fields: &[u64]) -> bool {
+/// The plan and the machine of a block.
+fn plan_of(fields: &[u64]) -> (Plan, Machine) {
     let [sew, factor, m, k, n, a, a_stride, b, b_stride, c, c_stride] =
         fields[..LENGTHS].try_into().expect("the numbers of a plan");
     let [a_stride, b_stride, c_stride] = [a_stride, b_stride, c_stride].map(|stride| stride as i64);
     let kind = fields[KIND];
     let plan = Plan { kind, sew, factor, m, k, n, a, a_stride, b, b_stride, c, c_stride };
-    let (rlen, mlen) = (fields[LENGTHS], fields[LENGTHS + 1]);
-    let word = fields[WORD];
-    if model::plan_numbers_bad(&plan) || !model::lengths_permitted(rlen, mlen) || word >= AT_END {
+    let (rlen, mlen, rule) = (fields[LENGTHS], fields[LENGTHS + 1], fields[RULE]);
+    (plan, Machine { rlen, mlen, rule, ..Machine::default() })
+}
+
+/// Whether a run can have these numbers: not a place that no turn reaches, outside the
+/// matrices or where no block of them starts.
+fn sound(fields: &[u64]) -> bool {
+    let (plan, machine) = plan_of(fields);
+    if model::plan_numbers_bad(&plan)
+        || !model::lengths_permitted(machine.rlen, machine.mlen)
+        || !RULES.contains(&machine.rule)
+        || fields[WORD] > AT_END
+    {
         return false;
     }
-    let machine = Machine { rlen, mlen, ..Machine::default() };
-    for (at, (size, total)) in [(Size::M, m), (Size::N, n), (Size::K, k)].into_iter().enumerate() {
+    let sizes = [(Size::M, plan.m), (Size::N, plan.n), (Size::K, plan.k)];
+    (0..3).zip(sizes).all(|(at, (size, total))| {
         let number = fields[PLACE + at];
-        let has_it = at < PLACE_NUMBERS[word as usize];
-        if has_it && number >= total || !has_it && number != 0 {
-            return false;
+        let most = maximum(&machine, size, plan.sew as i128);
+        if at < PLACE_NUMBERS[fields[WORD] as usize] {
+            block_starts(total as i128, most, machine.rule).contains(&(number as i128))
+        } else {
+            number == 0
         }
-        if number as i128 % maximum(&machine, size, sew as i128) != 0 {
-            return false;
-        }
-    }
-    true
+    })
+}
+
+/// Whether asking a block for a step is answered 0.
+fn hands_out(fields: &[u64]) -> bool {
+    sound(fields) && fields[WORD] != AT_END
 }
 
 /// Run blocks that no start made. A refusal changes nothing, a turn does what
@@ -257,7 +274,7 @@ pub fn forged_runs(context: &mut Context) -> Outcome {
 /// or another place.
 fn forge(random: &mut Random, good: &[u8]) -> Vec<u8> {
     let mut fields = bytes_to_words(good);
-    match random.below(15) {
+    match random.below(17) {
         0 => return random.bytes(good.len()),
         1 => return vec![random.pick(&[0, 1, 0xFF]); good.len()],
         2 => fields = (0..FIELDS).map(|_| random.below(1200)).collect(),
@@ -284,6 +301,9 @@ fn forge(random: &mut Random, good: &[u8]) -> Vec<u8> {
         9 => fields[KIND] = random.pick(&KINDS),
         // C's rows over each other.
         10 => fields[C_STRIDE] = random.pick(&[0, 1, u64::MAX]),
+        11 => fields[RULE] = random.pick(&UNKNOWN_RULES),
+        // The other rule, whose blocks start elsewhere.
+        12 => fields[RULE] ^= 1,
         _ => {
             for _ in 0..random.pick(&[1, 1, 1, 2]) {
                 let field = &mut fields[random.below(FIELDS as u64) as usize];
@@ -326,6 +346,13 @@ fn check_forged(
         return complain(&format!("run_next gives {next}"));
     }
     tally.run(Call::RunNext, fields[KIND], next);
+    let (plan, machine) = plan_of(&fields);
+    let count = if sound(&fields) { model::step_count(&plan, &machine) } else { 0 };
+    let mut counted = Guarded::new(run);
+    let steps = library::run_steps(counted.bytes());
+    if steps != count || !counted.holds(run) {
+        return complain(&format!("run_steps gives {steps}, not {count}, or changes bytes"));
+    }
 
     // A turn: as the word handed out, or 8.
     let mut desk = Desk::new(run, lent);

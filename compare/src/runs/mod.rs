@@ -5,4 +5,5 @@ pub mod damage;
 pub mod floats;
 pub mod plans;
 pub mod powerup;
+pub mod rules;
 pub mod suites;

@@ -1,11 +1,12 @@
 //! Product runs: starts, every turn, the words alone, many turns at once, whole
 //! runs in one call.
 
+use super::damage::RULE;
 use super::plans::{any_numbers, good_lengths, good_plan, plan_around, spoil};
 use crate::lent::{
-    differences, handed_block, handed_of, library_run, library_run_start, library_run_turn,
-    library_run_turns, library_step, packed, report, second_run_start, second_run_turn,
-    second_run_turns, state_text, words_to_bytes, Lent,
+    bytes_to_words, differences, handed_block, handed_of, library_run, library_run_start,
+    library_run_turn, library_run_turns, library_step, packed, report, second_run_start,
+    second_run_turn, second_run_turns, state_text, words_to_bytes, Lent,
 };
 use crate::library;
 use crate::random::Random;
@@ -17,9 +18,9 @@ use crate::tally::{Call, Tally};
 use model::{maximum, Handed, Kind, Matrix, Plan, Run, Size, A_TRANSPOSED, FLOAT, MILL, PRODUCT};
 
 /// A run that both programs started.
-struct Started {
-    plan: Plan,
-    lent: Lent,
+pub struct Started {
+    pub plan: Plan,
+    pub lent: Lent,
     block: Vec<u8>,
     run: Run,
 }
@@ -53,11 +54,14 @@ fn start_both(
             tally.overlaps[plan.kind as usize][at] += 1;
         }
     }
+    if given == 0 && bytes_to_words(&block)[RULE] != lent.machine().rule {
+        return Err(format!("{plan:?}: the block has another rule than {:?}", lent.machine()));
+    }
     Ok(second.ok().map(|run| Started { plan, lent, block, run }))
 }
 
 /// Starts a plan that was made to be accepted.
-fn start_good(
+pub fn start_good(
     random: &mut Random,
     (plan, lent): (Plan, Lent),
     tally: &mut Tally,
@@ -83,7 +87,7 @@ pub fn turns(context: &mut Context) -> Outcome {
 }
 
 /// A run in every way that it can be carried out.
-fn check_run(random: &mut Random, started: Started, tally: &mut Tally) -> Result<(), String> {
+pub fn check_run(random: &mut Random, started: Started, tally: &mut Tally) -> Result<(), String> {
     let Started { plan, lent, block, run } = started;
     let count = model::step_count(&plan, &lent.machine());
     if run.steps.len() as u64 != count {
@@ -97,7 +101,13 @@ fn check_run(random: &mut Random, started: Started, tally: &mut Tally) -> Result
     }
     whole_run(random, &plan, &lent, 0, &after, count, tally)?;
     check_product(&plan, &lent.memory, &after.memory)?;
-    tally.runs[plan.kind as usize] += 1;
+    for (mut block, place) in [(block, "before the first"), (block_after, "after the last")] {
+        let steps = library::run_steps(&mut block);
+        if steps != count {
+            return Err(format!("{plan:?}: run_steps gives {steps} {place} turn, not {count}"));
+        }
+    }
+    tally.runs[plan.kind as usize][lent.machine().rule as usize] += 1;
     Ok(())
 }
 
@@ -500,7 +510,7 @@ fn disturb(random: &mut Random, lent: &mut Lent) {
     let Some(mut machine) = good_lengths(lent) else {
         return;
     };
-    match random.below(8) {
+    match random.below(9) {
         0 => machine.mtype = MILL,
         1 => machine.mtype = random.pick(&MTYPES),
         2 | 3 => raise_sizes(random, &mut machine),
@@ -514,6 +524,8 @@ fn disturb(random: &mut Random, lent: &mut Lent) {
         }
         5 => lent.memory.truncate(random.below(lent.memory.len() as u64 + 1) as usize),
         6 => put_seal(random, &mut machine, lent),
+        // The run keeps the rule it was started with.
+        7 => machine.rule ^= 1,
         _ => return put_bench_fault(random, lent),
     }
     lent.set_machine(&machine);

@@ -271,7 +271,7 @@ pub fn chosen(rule: u64, most: u64, asked: u64) -> u64
     ensures { λ r. ⌜ r ≡ chosen rule most asked ⌝ }
 {
     if is_halved(rule, most, asked) {
-        return asked - asked / 2;
+        return asked / 2 + asked % 2;
     }
     smaller(asked, most)
 }

@@ -9,8 +9,8 @@ use Rattle.machine.proofs.chosen.Tie as tie
 is-halved-requires : tie.Need-is-halved-requires
 is-halved-requires c κs = search needs
 
-sub-result : tie.Need-sub-result
-sub-result c = search needs
+add-result : tie.Need-add-result
+add-result c = search needs
 
 returns : tie.Need-returns
 returns c =
@@ -28,4 +28,4 @@ returns-2 c =
     c .smaller .ensures ∙ chosen-by (a .rule) (a .most) (a .asked) false (sym (c .before .if1 .left) ∙ t .is-halved .ensures)
 
 pub chosen-spec : {M : Type 1} → statement M
-chosen-spec = tie.close (tie.spec is-halved-requires sub-result returns smaller-requires returns-2)
+chosen-spec = tie.close (tie.spec is-halved-requires add-result returns smaller-requires returns-2)
