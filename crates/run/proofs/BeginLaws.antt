@@ -119,11 +119,15 @@ module _ (grant : ℕ → ℕ → ℕ) (G : Grants grant) (max : ℕ) (0<max : z
   -- no block starts before the first
   below : (c s i : ℕ) → i < s → isIn i (starts grant max total c s) ≡ false
   below zero s i l = refl
-  below (suc c) s i l = rw (ne-eqb i s (λ e. omega arith)) (below c (s + size s) i (omega arith))
+  below (suc c) s i l = go (ltb s total) (below c (s + size s) i (omega arith))
+    where
+      go : (t : Bool) → isIn i (starts grant max total c (s + size s)) ≡ false → isIn i (cond t (s ∷ starts grant max total c (s + size s)) []) ≡ false
+      go true ih = rw (ne-eqb i s (λ e. omega arith)) ih
+      go false ih = refl
 
   before : (s i : ℕ) → i < s → isIn i (chunks grant max total s) ≡ false
   unfolding chunks
-  before s i l = below (count max (total - s)) s i l
+  before s i l = below (total - s) s i l
 
   -- what is left after s is at most what is granted next, so that only one more block starts
   last : (s i : ℕ) → s < i → i < total → total - s ≤ max → isIn i (chunks grant max total s) ≡ false

@@ -300,7 +300,7 @@ module _ (grant : ℕ → ℕ → ℕ → ℕ) (P : Plan) (B₀ : Bench) (R : Re
   at-end t l = go (one-word (S grant P B₀) (placeAfter (S grant P B₀) t))
     where
       none : rest (S grant P B₀) (placeAfter (S grant P B₀) t) ≡ []
-      none = to-come t ∙ drop-of-length-le (words (S grant P B₀)) {i = t} (omega (arith, length-words (S grant P B₀)))
+      none = to-come t ∙ drop-of-length-le (words (S grant P B₀)) {i = t} (omega (arith, length-words (S grant P B₀) (Turns.sound (J grant P B₀) A)))
 
       go : (placeAfter (S grant P B₀) t ≡ AtEnd) ⊎ ((o : Op) × (wordAt (S grant P B₀) (placeAfter (S grant P B₀) t) ≡ some o)) → placeAfter (S grant P B₀) t ≡ AtEnd
       go (inl e) = e
@@ -312,7 +312,7 @@ module _ (grant : ℕ → ℕ → ℕ → ℕ) (P : Plan) (B₀ : Bench) (R : Re
   not-end : (t : ℕ) → t < steps (S grant P B₀) → placeAfter (S grant P B₀) t ≡ AtEnd → ⊥
   not-end t l e =
       let z : 0 ≡ suc (length (drop (suc t) (words (S grant P B₀)))) =
-      ap length (ap (rest (S grant P B₀)) (sym e) ∙ to-come t ∙ drop-cons (words (S grant P B₀)) t Op.setType (omega (arith, length-words (S grant P B₀)))) in
+      ap length (ap (rest (S grant P B₀)) (sym e) ∙ to-come t ∙ drop-cons (words (S grant P B₀)) t Op.setType (omega (arith, length-words (S grant P B₀) (Turns.sound (J grant P B₀) A)))) in
       omega arith
 
   -- the word at the place after t turns is word t of the list
@@ -330,8 +330,8 @@ module _ (grant : ℕ → ℕ → ℕ → ℕ) (P : Plan) (B₀ : Bench) (R : Re
           e,
           ap (λ (w : List Op). handedFor P (getD w 0 Op.setType)) (
               ap (λ (w : Option Op). before w (rest (S grant P B₀) (next (S grant P B₀) p))) (sym e)
-              ∙ sym (rest-next (S grant P B₀) (Turns.sound (J grant P B₀) A) p) ∙ to-come t ∙ drop-cons (words (S grant P B₀)) t Op.setType (omega (arith, length-words (S grant P B₀))))
-              ∙ sym (getD-map (handedFor P) (words (S grant P B₀)) t Op.setType (plain 0) (omega (arith, length-words (S grant P B₀)))),
+              ∙ sym (rest-next (S grant P B₀) (Turns.sound (J grant P B₀) A) p) ∙ to-come t ∙ drop-cons (words (S grant P B₀)) t Op.setType (omega (arith, length-words (S grant P B₀) (Turns.sound (J grant P B₀) A))))
+              ∙ sym (getD-map (handedFor P) (words (S grant P B₀)) t Op.setType (plain 0) (omega (arith, length-words (S grant P B₀) (Turns.sound (J grant P B₀) A)))),
         ),
       )
 
@@ -476,7 +476,7 @@ unfolding startRun
 demand-3 grant G P B bytes = record {
   answered = answers grant G P B bytes;
   unchanged = refl;
-  as-many = length-map (handedFor P) (words (shape (jobOf grant P B))) ∙ length-words (shape (jobOf grant P B));
+  as-many = λ e. length-map (handedFor P) (words (shape (jobOf grant P B))) ∙ length-words (shape (jobOf grant P B)) (Turns.sound (jobOf grant P B) (ready grant G P B bytes (is-passed grant G P B bytes e) .accepts));
   turns = λ e t. subst (λ (r : Run). Right grant (jobOf grant P B) (record { run = r; bench = B }) t) (sym (runs-fresh grant G P B bytes e)) (right grant P B (ready grant G P B bytes (is-passed grant G P B bytes e)) t);
   idle = started-idle grant P B;
 }

@@ -120,8 +120,8 @@ pub length-flat : (f : ℕ → List Op) (c : ℕ) (ss : List ℕ) → ((s : ℕ)
 length-flat f c [] h = sym (zero-mul c)
 length-flat f c (s ∷ ss) h = length-append (f s) (flat f ss) ∙ omega (arith, h s, length-flat f c ss h)
 
-pub length-words : (S : Shape) → length (words S) ≡ steps S
-length-words S = omega (arith, length-flat (blockM S) (1 + N * (3 + 4 * K)) (chunks (S .grant) (S .tm) (S .m) 0) per-m, ap (λ (c : ℕ). c * (1 + N * (3 + 4 * K))) (length-chunks (S .grant) (S .tm) (S .m)))
+pub length-words : (S : Shape) → Sound S → length (words S) ≡ steps S
+length-words S G = omega (arith, length-flat (blockM S) (1 + N * (3 + 4 * K)) (chunks (S .grant) (S .tm) (S .m) 0) per-m, ap (λ (c : ℕ). c * (1 + N * (3 + 4 * K))) (length-chunks (S .grant) (G .rule) (S .tm) (G .0<tm) (S .m)))
   where
     K : ℕ
     K = count (S .tk) (S .k)
@@ -130,10 +130,10 @@ length-words S = omega (arith, length-flat (blockM S) (1 + N * (3 + 4 * K)) (chu
     N = count (S .tn) (S .n)
 
     per-k : (i j : ℕ) → length (fromK S i j 0) ≡ K * 4
-    per-k i j = length-flat (blockK S i j) 4 (chunks (S .grant) (S .tk) (S .k) 0) (λ s. refl) ∙ ap (λ (c : ℕ). c * 4) (length-chunks (S .grant) (S .tk) (S .k))
+    per-k i j = length-flat (blockK S i j) 4 (chunks (S .grant) (S .tk) (S .k) 0) (λ s. refl) ∙ ap (λ (c : ℕ). c * 4) (length-chunks (S .grant) (G .rule) (S .tk) (G .0<tk) (S .k))
 
     per-n : (i j : ℕ) → length (blockN S i j) ≡ 3 + 4 * K
     per-n i j = omega (arith, length-append (fromK S i j 0) (store i j ∷ []), per-k i j)
 
     per-m : (i : ℕ) → length (blockM S i) ≡ 1 + N * (3 + 4 * K)
-    per-m i = omega (arith, length-flat (blockN S i) (3 + 4 * K) (chunks (S .grant) (S .tn) (S .n) 0) (per-n i), ap (λ (c : ℕ). c * (3 + 4 * K)) (length-chunks (S .grant) (S .tn) (S .n)))
+    per-m i = omega (arith, length-flat (blockN S i) (3 + 4 * K) (chunks (S .grant) (S .tn) (S .n) 0) (per-n i), ap (λ (c : ℕ). c * (3 + 4 * K)) (length-chunks (S .grant) (G .rule) (S .tn) (G .0<tn) (S .n)))

@@ -118,7 +118,7 @@ pub record Demand3 (grant : ℕ → ℕ → ℕ → ℕ) (P : Plan) (B : Bench) 
   -- "The start itself, accepted or refused, changes neither machine nor memory."
   pub unchanged : startRun grant P B .bench ≡ B
   -- "there are 1 + M(1 + N(3 + 4K)) steps"
-  pub as-many : length (wordList (jobOf grant P B)) ≡ steps (shape (jobOf grant P B))
+  pub as-many : startRun grant P B .answer .number ≡ 0 → length (wordList (jobOf grant P B)) ≡ steps (shape (jobOf grant P B))
   -- from an accepted start on, after any number of turns
   pub turns : startRun grant P B .answer .number ≡ 0 → (t : ℕ) → Right grant (jobOf grant P B) (startedRun grant P B) t
   -- and from a refused one on

@@ -1,12 +1,13 @@
 -- Laws of blocks: their number, their sizes, their starts.
 use mathlib.Core.Path.{_≡_, refl, sym, ap, _∙_}
 use mathlib.Core.Logic.{_⊎_, inl, inr}
-use mathlib.Core.List.{[], _∷_}
+use mathlib.Core.List.{List, [], _∷_}
 use Prim.Native.Nat.{ℕ, zero, suc, _+_, _*_, _-_, _≤_, _<_}
 use native.Mathlib.Nat.{div-eq-of-lt-le, add-div-right, div-eq-of-lt, sub-self, sub-zero, sub-eq-zero-of-le, sub-add-eq, lt-of-not-le}
 use native.Mathlib.Decide.{decLe}
 use native.Mathlib.Omega.{arith}
 use lib.ListN.{length}
+use borrow.Author.Tests.{lt-ltb, le-ltb}
 use Rattle.width.specs.Blocks.{Grants, count, starts, chunks}
 
 pub le-or-lt : (a b : ℕ) → (a ≤ b) ⊎ (b < a)
@@ -51,19 +52,48 @@ module _ (grant : ℕ → ℕ → ℕ) (G : Grants grant) (max : ℕ) (0<max : z
 
   -- the blocks from s on: none at the end, else s and those after its block
   module _ (total : ℕ) where
+    past : (c s : ℕ) → total ≤ s → starts grant max total c s ≡ []
+    past zero s h = refl
+    past (suc c) s h = rw (le-ltb s total h)
+
+    -- more than what is left makes no difference
+    enough : (c d s : ℕ) → total - s ≤ c → total - s ≤ d → starts grant max total c s ≡ starts grant max total d s
+    enough zero d s h k = sym (past d s (omega arith))
+    enough (suc c) zero s h k = past (suc c) s (omega arith)
+    enough (suc c) (suc d) s h k = go (le-or-lt total s) (enough c d (s + grant max (total - s)))
+      where
+        go : (total ≤ s) ⊎ (s < total)
+            → (total - (s + grant max (total - s)) ≤ c → total - (s + grant max (total - s)) ≤ d
+            → starts grant max total c (s + grant max (total - s)) ≡ starts grant max total d (s + grant max (total - s)))
+            → starts grant max total (suc c) s ≡ starts grant max total (suc d) s
+        go (inl e) ih = past (suc c) s e ∙ sym (past (suc d) s e)
+        go (inr l) ih =
+            let g = granted (total - s) (omega arith) in
+            rw (lt-ltb s total l) (ap (λ (ss : List ℕ). s ∷ ss) (ih (omega arith) (omega arith)))
+
     pub chunks-end : (s : ℕ) → total ≤ s → chunks grant max total s ≡ []
     unfolding chunks
-    chunks-end s h = rw (sub-eq-zero-of-le h, count-zero max 0<max)
+    chunks-end s h = past (total - s) s h
 
     pub chunks-next : (s : ℕ) → s < total → chunks grant max total s ≡ s ∷ chunks grant max total (s + grant max (total - s))
     unfolding chunks
-    chunks-next s h = rw (count-suc (total - s) (omega arith), sub-add-eq total s (grant max (total - s)))
+    chunks-next s h =
+        enough (total - s) (suc (total - s)) s (omega arith) (omega arith)
+        ∙ rw (lt-ltb s total h) (ap (λ (ss : List ℕ). s ∷ ss) (enough (total - s) (total - (s + grant max (total - s))) (s + grant max (total - s)) (omega arith) (omega arith)))
 
--- as many as the size over the maximum, rounded up
-pub length-starts : (grant : ℕ → ℕ → ℕ) (max total c s : ℕ) → length (starts grant max total c s) ≡ c
-length-starts grant max total zero s = refl
-length-starts grant max total (suc c) s = ap suc (length-starts grant max total c (s + grant max (total - s)))
+    -- as many as what is left over the maximum, rounded up
+    length-from : (c s : ℕ) → total - s ≤ c → length (chunks grant max total s) ≡ count max (total - s)
+    length-from zero s h = let e : total ≤ s = omega arith in rw (chunks-end s e, sub-eq-zero-of-le e) (sym (count-zero max 0<max))
+    length-from (suc c) s h = go (le-or-lt total s) (length-from c (s + grant max (total - s)))
+      where
+        go : (total ≤ s) ⊎ (s < total)
+            → (total - (s + grant max (total - s)) ≤ c → length (chunks grant max total (s + grant max (total - s))) ≡ count max (total - (s + grant max (total - s))))
+            → length (chunks grant max total s) ≡ count max (total - s)
+        go (inl e) ih = rw (chunks-end s e, sub-eq-zero-of-le e) (sym (count-zero max 0<max))
+        go (inr l) ih =
+            let g = granted (total - s) (omega arith) in
+            ap length (chunks-next s l) ∙ ap suc (ih (omega arith) ∙ ap (count max) (sub-add-eq total s (grant max (total - s))))
+            ∙ sym (count-suc (total - s) (omega arith))
 
-pub length-chunks : (grant : ℕ → ℕ → ℕ) (max total : ℕ) → length (chunks grant max total zero) ≡ count max total
-unfolding chunks
-length-chunks grant max total = rw sub-zero (length-starts grant max total (count max total) zero)
+    pub length-chunks : length (chunks grant max total zero) ≡ count max total
+    length-chunks = length-from total zero (omega arith) ∙ ap (count max) (sub-zero total)

@@ -1,7 +1,9 @@
 -- How a size is cut into blocks: each block takes what the machine grants of the rest.
 use mathlib.Core.Path.{_≡_}
+use mathlib.Core.Bool.{cond}
 use mathlib.Core.List.{List, [], _∷_}
 use Prim.Native.Nat.{ℕ, zero, suc, _+_, _*_, _-_, _/_, _≤_, _<_}
+use lib.Dec.{ltb}
 
 -- a choice of sizes, out of the maximum and what is asked, that keeps the three constraints of source document 001: "mtilem = ATM if
 -- ATM <= TMMAX"; "ceil(ATM / 2) <= mtilem <= TMMAX if ATM < (2 * TMMAX)"; "mtilem = TMMAX if ATM >= (2 * TMMAX)"
@@ -18,11 +20,11 @@ EachGrants grant = (rule : ℕ) → Grants (grant rule)
 abbrev pub count : ℕ → ℕ → ℕ
 count max rest = (rest + (max - 1)) / max
 
--- c block starts from s on
+-- the starts of blocks from s on, for as long as something is left, but no more than c of them
 abbrev pub starts : (ℕ → ℕ → ℕ) → ℕ → ℕ → ℕ → ℕ → List ℕ
 starts grant max total zero s = []
-starts grant max total (suc c) s = s ∷ starts grant max total c (s + grant max (total - s))
+starts grant max total (suc c) s = cond (ltb s total) (s ∷ starts grant max total c (s + grant max (total - s))) []
 
--- the starts of all blocks from s on
+-- of all blocks from s on: where each takes at least 1, there are no more than what is left
 unfoldable pub chunks : (ℕ → ℕ → ℕ) → ℕ → ℕ → ℕ → List ℕ
-chunks grant max total s = starts grant max total (count max (total - s)) s
+chunks grant max total s = starts grant max total (total - s) s
