@@ -16,7 +16,7 @@
  *   - while mfma.mm or a float run is carried out, the processor works with floats as C starts it: it rounds to the nearest, ties to
  *     even, and flushes no subnormal number to zero (no fesetround, no -ffast-math at the link, DAZ and FTZ off in MXCSR).
  * No alignment is asked. Calls on different buffers may run at once, in any number of threads; calls that share a buffer, in turn.
- * The deepest call, bodlarina_run, was measured to use 4,168 bytes of stack (x86-64, the largest machine); tests/library.c measures
+ * The deepest call, bodlarina_run, was measured to use 4,504 bytes of stack (x86-64, the largest machine); tests/library.c measures
  * it again and fails above 8 KiB.
  *
  * Every function but bodlarina_run_turns, bodlarina_run_steps and bodlarina_version, which return a number, returns a result: the
@@ -159,8 +159,9 @@ BODLARINA_INLINE void bodlarina_put64(uint8_t *bytes, uint64_t value)
 
 /* ---- A machine -------------------------------------------------------------------------------------------- */
 
-/* rule: the size that a tile setting gives. With rs1 and rd both x0 nothing is asked, and the size becomes the smaller of the two by either
- * rule. A product run goes by the rule of the machine that it is started on; it has as many steps by either. */
+/* rule: the size that a tile setting gives. With rs1 and rd both x0 nothing is asked, and the size becomes the smaller of
+ * itself and the maximum by either rule. A product run goes by the rule of the machine that it is started on; it has as
+ * many steps by either. */
 #define BODLARINA_SMALLER 0u /* the smaller of the asked size and the maximum */
 #define BODLARINA_HALVING 1u /* the same, but of a size strictly between the maximum and twice it half, rounded up */
 
@@ -169,7 +170,7 @@ BODLARINA_INLINE void bodlarina_put64(uint8_t *bytes, uint64_t value)
  * seals nothing, and it may reach past the end of memory. What marks and machine held before does not matter.
  *   rlen   64, 128, 256 or 512
  *   mlen   128, 256, 512, 1024, 2048 or 4096, above rlen
- *   rule   what a tile setting gives of the size that it asks for, below
+ *   rule   what a tile setting gives of the size that it asks for: BODLARINA_SMALLER or BODLARINA_HALVING
  * Answers: 0; 8 for other lengths, another rule, a buffer of the wrong size, or seal_start + seal_length above 2^64 - 1. */
 uint64_t bodlarina_start(uint64_t rlen, uint64_t mlen, uint64_t rule, uint64_t seal_start, uint64_t seal_length,
                          uint8_t *machine, size_t machine_len,
@@ -262,7 +263,8 @@ BODLARINA_INLINE int bodlarina_run_is_over(const uint8_t *run, size_t run_len)
 
 /* One turn: hands out the next step and carries it out with scalars of the run's own.
  * Answers: 0; 8 as bodlarina_run_next and bodlarina_step; and those of the word. A run that was started here, on
- * buffers that nothing else has written since, gets 0 for each of its steps and 8 after the last. */
+ * buffers that nothing else has written since, gets 0 for each of its steps and 8 after the last. On another machine
+ * than that of its start, of another rule for instance, each word is carried out, but C need not be the product. */
 uint64_t bodlarina_run_turn(uint8_t *run, size_t run_len,
                             uint8_t *machine, size_t machine_len,
                             uint8_t *registers, size_t registers_len,
@@ -295,10 +297,10 @@ uint64_t bodlarina_run(uint64_t kind, uint64_t sew, uint64_t factor, uint64_t m,
 
 /* The image of a machine: its numbers and its marked register bytes, to hand it over. Two machines have the same image
  * exactly if they differ at most in unmarked register bytes. It is made of numbers in groups of seven bits, low group
- * first, the top bit set on all but the last group, in the shortest form: version 1, or of a halving machine version 2 and
- * the rule, 1; the exponents of RLEN and MLEN, mtype, tile_m, tile_k, tile_n, the seal's start and length, the number of runs; then for each maximal run of marked
- * bytes, in the order of the registers, its gap from the end of the run before it (or from the start), its length, and
- * its bytes as they are. */
+ * first, the top bit set on all but the last group, in the shortest form: version 1, or of a halving machine version 2
+ * and the rule, 1; the exponents of RLEN and MLEN, mtype, tile_m, tile_k, tile_n, the seal's start and length, the
+ * number of runs; then for each maximal run of marked bytes, in the order of the registers, its gap from the end of the
+ * run before it (or from the start), its length, and its bytes as they are. */
 
 /* The length of a machine's image, in bits 63..16.
  * Answers: 0; 8 for a state at fault as in bodlarina_step. */
@@ -327,15 +329,17 @@ uint64_t bodlarina_image_read(const uint8_t *image, size_t image_len,
 BODLARINA_INLINE uint64_t bodlarina_image_mlen(const uint8_t *image, size_t image_len)
 {
     size_t at = image_len > 1 && image[0] == 2 && image[1] == 1 ? 2 : 1; /* where the exponent of RLEN stands */
-    if (image_len < at + 2 || image[at - 1] != 1 || image[at] < 6 || image[at] > 9 || image[at + 1] <= image[at] || image[at + 1] > 12)
+    if (image_len < at + 2 || image[at - 1] != 1 || image[at] < 6 || image[at] > 9)
+        return 0;
+    if (image[at + 1] <= image[at] || image[at + 1] > 12)
         return 0;
     return (uint64_t)1 << image[at + 1];
 }
 
 /* ---- The same in short ------------------------------------------------------------------------------------ */
 
-/* The buffers of a machine and the rule to start it with, set once. Lengths are in bytes. run is for one product run at a time; a host without
- * runs leaves it out.
+/* The buffers of a machine and the rule to start it with, set once. Lengths are in bytes. run is for one product run at a
+ * time; a host without runs leaves it out.
  *
  *     static uint8_t machine[BODLARINA_MACHINE_BYTES], registers[BODLARINA_REGISTER_BYTES(4096)], ..;
  *     struct bodlarina_bench bench = {machine, sizeof machine, registers, sizeof registers, ..};

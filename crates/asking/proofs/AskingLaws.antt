@@ -28,7 +28,7 @@ use Rattle.run.specs.Words.{Op, Shape, steps}
 use Rattle.run.specs.Places.{next, wordAt}
 use Rattle.run.specs.Plan.{msew, typeOf}
 use Rattle.run.specs.Encoding.{startOf}
-use Rattle.run.specs.Start.{format, kinded, planned}
+use Rattle.run.specs.Start.{format, kindFits, planned}
 use Rattle.run.specs.Turn.{startsM, startsN, startsK, begins, soundRun, runShape, handsOut, moved, ask, AskOutcome, asked}
 use Rattle.width.specs.Blocks.{count}
 use Rattle.asking.specs.Steps.{stepsIn}
@@ -71,9 +71,9 @@ module _ (R : Run) (ok : numbered R ≡ true) where
   pub run-rlen : 0 < R .rlen
   run-rlen = let b = permitted-bounds (R .rlen) (R .mlen) run-lengths in omega arith
 
-  numbers : Each (format (R .plan .sew) (R .plan .factor) ∷ leb (R .plan .m) 1024 ∷ leb (R .plan .k) 1024 ∷ leb (R .plan .n) 1024 ∷ kinded (R .plan) ∷ [])
+  numbers : Each (format (R .plan .sew) (R .plan .factor) ∷ leb (R .plan .m) 1024 ∷ leb (R .plan .k) 1024 ∷ leb (R .plan .n) 1024 ∷ kindFits (R .plan) ∷ [])
   unfolding planned
-  numbers = every-each (format (R .plan .sew) (R .plan .factor) ∷ leb (R .plan .m) 1024 ∷ leb (R .plan .k) 1024 ∷ leb (R .plan .n) 1024 ∷ kinded (R .plan) ∷ []) run-planned
+  numbers = every-each (format (R .plan .sew) (R .plan .factor) ∷ leb (R .plan .m) 1024 ∷ leb (R .plan .k) 1024 ∷ leb (R .plan .n) 1024 ∷ kindFits (R .plan) ∷ []) run-planned
 
   pub run-format : format (R .plan .sew) (R .plan .factor) ≡ true
   run-format = numbers .0
@@ -95,7 +95,7 @@ module _ (R : Run) (ok : numbered R ≡ true) where
       let b : R .plan .sew / 8 ≤ 8 = leb-true (R .plan .sew / 8) 8 (formats (R .plan .sew) (R .plan .factor) run-format .0 .1 .1 .1 .1 .1 .1 .0) in
       let columns : 0 < runShape chosen R .tn =
       le-div-iff-mul-le {k = sew (typeOf (R .plan))} {x = 1} {y = R .rlen / 8} (omega (arith, run-sew, run-bytes)) .1 (omega (arith, run-sew, n .1)) in
-      record { rule = chosen-grants (R .rule); 0<tm = n .0; 0<tk = omega (arith, n .0, columns); 0<tn = columns }
+      record { grants = chosen-grants (R .rule); 0<tm = n .0; 0<tk = omega (arith, n .0, columns); 0<tn = columns }
 
 -- a place at which blocks start lies in the matrices
 module _ (R : Run) (ok : numbered R ≡ true) where
@@ -148,7 +148,7 @@ module _ (R : Run) (ok : soundRun chosen R ≡ true) where
 pub plan-small : (P : Plan) → planned P ≡ true → (P .sew ≤ 32) × (P .factor ≤ 4)
 unfolding planned format
 plan-small P h =
-    let t = every-each (format (P .sew) (P .factor) ∷ leb (P .m) 1024 ∷ leb (P .k) 1024 ∷ leb (P .n) 1024 ∷ kinded P ∷ []) h in
+    let t = every-each (format (P .sew) (P .factor) ∷ leb (P .m) 1024 ∷ leb (P .k) 1024 ∷ leb (P .n) 1024 ∷ kindFits P ∷ []) h in
     let u = every-each (isIn (P .sew) sews ∷ isIn (P .factor) factors ∷ leb (P .factor * P .sew) elen ∷ []) (t .0) in
     (leb-true (P .sew) 32 (each-in (P .sew) sews (λ y. leb y 32) refl (u .0)), leb-true (P .factor) 4 (each-in (P .factor) factors (λ y. leb y 4) refl (u .1 .0)))
 

@@ -18,7 +18,7 @@ ghost use Rattle.machine.specs.Answers.{reply};
 ghost use Rattle.machine.specs.Setting.{chosen, maxM, maxN, maxK};
 ghost use Rattle.run.specs.Words.{setType, clear, multiply, loadA, loadB, store};
 ghost use Rattle.run.specs.Plan.{narrow, wide, msew, typeOf, formOf, aRow, aColumn};
-ghost use Rattle.run.specs.Start.{format, kinded, planned};
+ghost use Rattle.run.specs.Start.{format, kindFits, planned};
 ghost use Rattle.run.specs.Places.{headM, headN, headK, next, wordAt};
 ghost use Rattle.run.specs.Turn.{startsM, startsN, startsK, begins, soundRun, runParameters, runShape, moved, ask, asked, askedAs};
 ghost use Rattle.width.specs.Blocks.{count, chunks};
@@ -63,9 +63,9 @@ pub fn is_format(sew: u64, factor: u64) -> bool
     factor * sew <= 32
 }
 
-// Whether there is such a kind, with these elements.
-fn is_kinded(plan: Plan) -> bool
-    ensures { λ r. ⌜ r ≡ kinded plan ⌝ }
+// Whether the kind is 0 or 1, or 2 with SEW 32 and factor 1.
+fn is_kind_fit(plan: Plan) -> bool
+    ensures { λ r. ⌜ r ≡ kindFits plan ⌝ }
 {
     if plan.kind != 2 {
         return plan.kind <= 1;
@@ -94,7 +94,7 @@ pub fn is_planned(plan: Plan) -> bool
     if plan.n > 1024 {
         return false;
     }
-    is_kinded(plan)
+    is_kind_fit(plan)
 }
 
 fn in_product(plan: Plan, row: u64, column: u64) -> bool
@@ -163,7 +163,7 @@ pub fn most_terms(run: Run) -> u64
     machine::smaller(rows, columns)
 }
 
-// Where the block of a rule ends that starts here: the maximum, and what of the total is left to ask for.
+// Where the block that starts here ends: it takes what the rule gives of the rest.
 fn block_end(rule: u64, total: u64, at: u64, most: u64) -> u64
     requires { ⌜ at ≤ total ⌝ }
     ensures { λ r. ⌜ r ≡ at + chosen rule most (total - at) ⌝ }
@@ -592,7 +592,7 @@ fn hand_multiply(plan: Plan) -> Handed
 {
     if plan.kind == 2 {
         // mfma.mm: mma.mm with bit 25 set.
-        return plain_step(34627703);
+        return plain_step(0x0210_6077);
     }
     let code = factor_code(plan.factor);
     let word = arithmetic_word(code, 1);

@@ -1,5 +1,5 @@
 // Binary32 numbers and the bits that registers and memory hold of them; one multiply and add.
-// The bits of a NaN that the machine leaves count for nothing: every NaN is read as one value, and stored as 0x7FC00000.
+// The bits of a NaN that the host's processor makes count for nothing: every NaN is read as one value, and stored as 0x7FC00000.
 ghost use mathlib.Core.Path.{_≡_};
 ghost use lib.Ieee.{binary32, nanBits};
 ghost use Rattle.width.specs.Binary32.{valueOf, settled, multiplyAdd};

@@ -1,15 +1,12 @@
 -- Numbers as the host passes them: the machine's numbers and the scalars in blocks of bytes, an answer in one number.
 -- 01, "What a machine is": "The bench host is written in C and passes numbers and byte buffers, so stepping is offered to it in that
 -- form too". The layout of the blocks is that of include/bodlarina.h (docs/DECISIONS.md).
-use mathlib.Core.Bool.{Bool}
 use mathlib.Core.List.{List, [], _∷_, _++_}
 use Prim.Native.Nat.{ℕ, _+_, _*_, _%_, _^_}
 use lib.ListN.{length, getD}
-use lib.Dec.{eqb}
 use Rattle.width.specs.Upto.{upto}
 use Rattle.width.specs.Tile.{le, putLe, putRow}
 use Rattle.machine.specs.declared.Machine.{Machine}
-use Rattle.machine.specs.Tests.{every}
 use Rattle.machine.specs.declared.Reply.{Reply}
 
 -- ---- the machine's block

@@ -7,7 +7,7 @@ use lib.Dec.{eqb}
 use Rattle.machine.specs.declared.Answer.the-variants.{BadArguments}
 use Rattle.machine.specs.Tests.{every}
 use Rattle.machine.specs.Answers.{reply, done}
-use Rattle.machine.specs.Geometry.{Bench, benchOf}
+use Rattle.machine.specs.Geometry.{benchOf}
 use Rattle.machine.specs.Setting.{chosen}
 use Rattle.machine.specs.Starting.{StartOutcome, startMachine}
 use Rattle.machine.specs.Step.{Outcome}

@@ -16,9 +16,9 @@ mostPitch = mostRlen / 8
 abbrev pub mostColumns : ℕ
 mostColumns = mostPitch
 
--- of elements of four bytes
-abbrev pub mostWords : ℕ
-mostWords = mostPitch / 4
+-- the columns of a tile of elements of four bytes
+abbrev pub mostFloats : ℕ
+mostFloats = mostPitch / 4
 
 -- the bytes of a tile register: MLEN / 8
 abbrev pub mostSize : ℕ

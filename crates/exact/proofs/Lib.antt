@@ -1,3 +1,3 @@
--- Whole numbers as binary32, and the theorem.
+-- WholeNumbers numbers as binary32, and the theorem.
 pub mod WholeLaws
 pub mod Exact

@@ -16,7 +16,7 @@ use borrow.Author.Tests.{ltb-true, ltb-false, lt-ltb, le-ltb}
 use Rattle.width.specs.Reduce.{sumℤ}
 use Rattle.width.specs.Binary32.{valueOf, settled, multiplyAdd, floatSum, plusZero}
 use Rattle.width.proofs.Binary32Laws.{value-stored}
-use Rattle.exact.specs.Exact.{signedBy, Is, Whole, Exactly}
+use Rattle.exact.specs.Exact.{signedBy, Is, WholeNumbers, Exactly}
 
 -- ---- signs and magnitudes
 
@@ -212,7 +212,7 @@ module _ (f : Format) where
 
 -- ---- the sum of products from +0
 
-module _ (k : ℕ) (a b : ℕ → ℕ) (x y : ℕ → ℤ) (w : Whole k a b x y) where
+module _ (k : ℕ) (a b : ℕ → ℕ) (x y : ℕ → ℤ) (w : WholeNumbers k a b x y) where
   abbrev sumTo : ℕ → ℤ
   sumTo s = sumℤ s (λ l. x l *ℤ y l)
 

@@ -14,7 +14,8 @@ use Rattle.run.specs.declared.Plan.{Plan}
 use Rattle.run.specs.Words.{steps}
 use Rattle.run.specs.Plan.{shape, wide, cAt, aOf, bOf}
 use Rattle.run.specs.Start.{startRun}
-use Rattle.run.specs.Statement.{Bytes, jobOf, startedRun, after}
+use Rattle.run.specs.Turn.{afterTurns}
+use Rattle.run.specs.Statement.{Bytes, jobOf, startedRun}
 
 -- ---- whole numbers
 
@@ -29,16 +30,16 @@ Is (inf s) z = ⊥
 Is (fin s m e) z = signedBy s (m * up e) ≡ z *ℤ pos (down e)
 
 -- "between -2^24 and 2^24"
-abbrev pub Counted : ℤ → Type 0
-Counted z = natAbs z ≤ 2 ^ 24
+abbrev pub Within24 : ℤ → Type 0
+Within24 z = natAbs z ≤ 2 ^ 24
 
 -- the bits a(l) and b(l), for l below k, stand for the whole numbers x(l) and y(l), and the products and the partial sums are within the
 -- bounds
-pub record Whole (k : ℕ) (a b : ℕ → ℕ) (x y : ℕ → ℤ) : Type 0 where
+pub record WholeNumbers (k : ℕ) (a b : ℕ → ℕ) (x y : ℕ → ℤ) : Type 0 where
   pub a-whole : (l : ℕ) → l < k → Is (valueOf (a l)) (x l)
   pub b-whole : (l : ℕ) → l < k → Is (valueOf (b l)) (y l)
-  pub products : (l : ℕ) → l < k → Counted (x l *ℤ y l)
-  pub sums : (s : ℕ) → s ≤ k → Counted (sumℤ s (λ l. x l *ℤ y l))
+  pub products : (l : ℕ) → l < k → Within24 (x l *ℤ y l)
+  pub sums : (s : ℕ) → s ≤ k → Within24 (sumℤ s (λ l. x l *ℤ y l))
 
 -- the bits stand for z, and they are those that binary32 has for it; of 0 those of +0
 pub record Exactly (bits : ℕ) (z : ℤ) : Type 0 where
@@ -53,5 +54,5 @@ pub record Exactly (bits : ℕ) (z : ℤ) : Type 0 where
 abbrev pub FloatRunsAreExact : Type 0
 FloatRunsAreExact = (grant : ℕ → ℕ → ℕ → ℕ) → EachGrants grant → (P : Plan) (B : Bench) → Bytes (B .memory) → P .kind ≡ 2 → startRun grant P B .answer .number ≡ 0
     → (t i j : ℕ) → steps (shape (jobOf grant P B)) ≤ t → i < P .m → j < P .n
-    → (x y : ℕ → ℤ) → Whole (P .k) (λ l. aOf (jobOf grant P B) i l) (λ l. bOf (jobOf grant P B) l j) x y
-    → Exactly (element (after (jobOf grant P B) (startedRun grant P B) t .bench .memory) (cAt P) (wide P) i j) (sumℤ (P .k) (λ l. x l *ℤ y l))
+    → (x y : ℕ → ℤ) → WholeNumbers (P .k) (λ l. aOf (jobOf grant P B) i l) (λ l. bOf (jobOf grant P B) l j) x y
+    → Exactly (element (afterTurns grant (startedRun grant P B) t .bench .memory) (cAt P) (wide P) i j) (sumℤ (P .k) (λ l. x l *ℤ y l))

@@ -7,15 +7,15 @@ ghost use lib.ListN.{length, getD};
 ghost use lib.Ieee.{nan};
 ghost use Rattle.width.specs.Tile.{putRow, putTile};
 ghost use Rattle.width.specs.Binary32.{settled, multiplyAdd, floatSum};
-ghost use Rattle.element.specs.Bounds.{mostPitch, mostWords, mostSize, mostTerms};
+ghost use Rattle.element.specs.Bounds.{mostPitch, mostFloats, mostSize, mostTerms};
 ghost use Rattle.arithmetic.specs.Effect.{shape};
 ghost use Rattle.floats.specs.Rows.{floatAt, floatRow, floatTile};
 
-// The columns of the largest tile (element/specs/Bounds.antt: mostWords).
-const WORDS: usize = element::COLUMNS / 4;
+// The columns of the largest tile (element/specs/Bounds.antt: mostFloats).
+const FLOATS: usize = element::COLUMNS / 4;
 
 // The values of the largest tile of B.
-const VALUES: usize = element::TERMS * WORDS;
+const VALUES: usize = element::TERMS * FLOATS;
 
 // The values of the row of n elements at `at`, from `to` on.
 fn fetch_row(d: &mut [f32], to: usize, s: &[u8], at: usize, n: usize)
@@ -35,9 +35,9 @@ fn fetch_row(d: &mut [f32], to: usize, s: &[u8], at: usize, n: usize)
 
 // The values of B's tile, each row from its own place on.
 fn fetch_tile(d: &mut [f32], s: &[u8], b: usize, pitch: usize, k: usize, n: usize)
-    requires { ⌜ (n ≤ mostWords) × (k * mostWords ≤ length (now d)) ⌝ }
+    requires { ⌜ (n ≤ mostFloats) × (k * mostFloats ≤ length (now d)) ⌝ }
     requires { ⌜ (n * 4 ≤ pitch) × (b + k * pitch ≤ length (now s)) ⌝ }
-    ensures { λ _. ⌜ ((l j : ℕ) → l < k → j < n → getD (now (d .exit)) (l * mostWords + j) nan ≡ floatAt (now (s .entry)) (b + l * pitch + j * 4)) ⌝ }
+    ensures { λ _. ⌜ ((l j : ℕ) → l < k → j < n → getD (now (d .exit)) (l * mostFloats + j) nan ≡ floatAt (now (s .entry)) (b + l * pitch + j * 4)) ⌝ }
 {
     let mut l = 0;
     let mut row = b;
@@ -45,19 +45,19 @@ fn fetch_tile(d: &mut [f32], s: &[u8], b: usize, pitch: usize, k: usize, n: usiz
     while l < k {
         fetch_row(d, to, s, row, n);
         row += pitch;
-        to += WORDS;
+        to += FLOATS;
         l += 1;
     }
 }
 
 // Each sum plus x times its value of the row at `at`.
 fn mac_row(sums: &mut [f32], d: &[f32], at: usize, x: f32)
-    requires { ⌜ mostWords ≤ length (now sums) ⌝ }
-    requires { ⌜ at + mostWords ≤ length (now d) ⌝ }
-    ensures { λ _. ⌜ ((j : ℕ) → j < mostWords → getD (now (sums .exit)) j nan ≡ multiplyAdd (getD (now (sums .entry)) j nan) x (getD (now (d .entry)) (at + j) nan)) ⌝ }
+    requires { ⌜ mostFloats ≤ length (now sums) ⌝ }
+    requires { ⌜ at + mostFloats ≤ length (now d) ⌝ }
+    ensures { λ _. ⌜ ((j : ℕ) → j < mostFloats → getD (now (sums .exit)) j nan ≡ multiplyAdd (getD (now (sums .entry)) j nan) x (getD (now (d .entry)) (at + j) nan)) ⌝ }
 {
     let mut j = 0;
-    while j < WORDS {
+    while j < FLOATS {
         sums[j] = binary32::multiply_add(sums[j], x, d[at + j]);
         j += 1;
     }
@@ -65,10 +65,10 @@ fn mac_row(sums: &mut [f32], d: &[f32], at: usize, x: f32)
 
 // Each sum, and on from it the products of A(l) and its column's values, for l rising.
 fn add_products(sums: &mut [f32], d: &[f32], s: &[u8], a: usize, k: usize)
-    requires { ⌜ mostWords ≤ length (now sums) ⌝ }
-    requires { ⌜ k * mostWords ≤ length (now d) ⌝ }
+    requires { ⌜ mostFloats ≤ length (now sums) ⌝ }
+    requires { ⌜ k * mostFloats ≤ length (now d) ⌝ }
     requires { ⌜ a + k * 4 ≤ length (now s) ⌝ }
-    ensures { λ _. ⌜ ((j : ℕ) → j < mostWords → getD (now (sums .exit)) j nan ≡ floatSum (getD (now (sums .entry)) j nan) k (λ l. floatAt (now (s .entry)) (a + l * 4)) (λ l. getD (now (d .entry)) (l * mostWords + j) nan)) ⌝ }
+    ensures { λ _. ⌜ ((j : ℕ) → j < mostFloats → getD (now (sums .exit)) j nan ≡ floatSum (getD (now (sums .entry)) j nan) k (λ l. floatAt (now (s .entry)) (a + l * 4)) (λ l. getD (now (d .entry)) (l * mostFloats + j) nan)) ⌝ }
 {
     let mut l = 0;
     let mut from = a;
@@ -77,7 +77,7 @@ fn add_products(sums: &mut [f32], d: &[f32], s: &[u8], a: usize, k: usize)
         let x = binary32::value_of(element::read4(s, from));
         mac_row(sums, d, row, x);
         from += 4;
-        row += WORDS;
+        row += FLOATS;
         l += 1;
     }
 }
@@ -108,12 +108,12 @@ fn multiply_row(
     k: usize,
     n: usize,
 )
-    requires { ⌜ (n ≤ mostWords) × (k * mostWords ≤ length (now d)) ⌝ }
+    requires { ⌜ (n ≤ mostFloats) × (k * mostFloats ≤ length (now d)) ⌝ }
     requires { ⌜ (a + k * 4 ≤ length (now s)) × (c + n * 4 ≤ length (now s)) ⌝ }
-    requires { ⌜ ((l j : ℕ) → l < k → j < n → getD (now d) (l * mostWords + j) nan ≡ floatAt (now s) (b + l * pitch + j * 4)) ⌝ }
+    requires { ⌜ ((l j : ℕ) → l < k → j < n → getD (now d) (l * mostFloats + j) nan ≡ floatAt (now s) (b + l * pitch + j * 4)) ⌝ }
     ensures { λ _. ⌜ now (s .exit) ≡ putRow c n 4 (floatRow (now (s .entry)) pitch k a b c) (now (s .entry)) ⌝ }
 {
-    let mut sums = [0.0f32; WORDS];
+    let mut sums = [0.0f32; FLOATS];
     fetch_row(&mut sums, 0, s, c, n);
     add_products(&mut sums, d, s, a, k);
     store_row(s, &sums, c, n);
@@ -130,7 +130,7 @@ fn multiply_rows(
     k: usize,
     n: usize,
 )
-    requires { ⌜ (n ≤ mostWords) × ((k ≤ mostTerms) × (pitch ≤ mostPitch)) ⌝ }
+    requires { ⌜ (n ≤ mostFloats) × ((k ≤ mostTerms) × (pitch ≤ mostPitch)) ⌝ }
     requires { ⌜ (n * 4 ≤ pitch) × (k * 4 ≤ pitch) ⌝ }
     requires { ⌜ (a + m * pitch ≤ c) × ((b + k * pitch ≤ c) × (c + m * (4 * pitch) ≤ length (now s))) ⌝ }
     ensures { λ _. ⌜ now (s .exit) ≡ putTile (λ i. c + i * (4 * pitch)) m n 4 (λ i. floatRow (now (s .entry)) pitch k (a + i * pitch) b (c + i * (4 * pitch))) (now (s .entry)) ⌝ }

@@ -9,7 +9,7 @@ use native.Mathlib.Omega.{arith}
 use lib.Dec.{ltb, leb}
 use lib.Seq.{drop-append-seam}
 use lib.ListN.{length, take, drop, getD}
-use borrow.Author.Tests.{ltb-true, ltb-false, leb-true, leb-false, lt-ltb, le-ltb, le-leb, lt-leb}
+use borrow.Author.Tests.{ltb-true, ltb-false, leb-true, lt-ltb, le-ltb, le-leb, lt-leb}
 use Rattle.format.specs.Numbers.{groups, encode, Range, Among, Bytes}
 use Rattle.format.specs.Parser.{holds, isAmong, nonempty, after, afters, Got, grow, readNumber}
 use Rattle.format.specs.Parser.Got.{value, fault}

@@ -1,7 +1,7 @@
 -- Computed examples of numbers in groups of seven bits.
 use mathlib.Core.Path.{_≡_, refl}
 use mathlib.Core.List.{List, [], _∷_}
-use Prim.Native.Nat.{ℕ, _^_, _-_}
+use Prim.Native.Nat.{ℕ}
 use Rattle.format.specs.Numbers.{groups, encode, span}
 use Rattle.format.specs.Parser.{Got, readNumber, isAmong, nonempty}
 use Rattle.format.specs.Parser.Got.{value, fault}

@@ -2,8 +2,8 @@
 use mathlib.Core.Path.{_≡_, refl, sym, ap, ap₂, _∙_, subst}
 use mathlib.Core.Bool.{Bool, true, false, cond, not, _&&_, _||_}
 use mathlib.Core.List.{List, [], _∷_}
-use mathlib.Core.Logic.{_⊎_, inl, inr}
-use Prim.Native.Nat.{ℕ, zero, suc, _+_, _-_, _*_, _/_, _%_, _^_, _≤_, _<_, min}
+use mathlib.Core.Logic.{inl, inr}
+use Prim.Native.Nat.{ℕ, _-_, _*_, _/_, _%_, _^_, _≤_, _<_, min}
 use native.Mathlib.Omega.{arith}
 use lib.ListN.{length, getD}
 use lib.Dec.{leb, ltb, eqb}
@@ -16,7 +16,7 @@ use Rattle.machine.specs.Tests.{all, every, isIn}
 use Rattle.machine.specs.Geometry.{elen, rlens, mlens, permitted, registerBytes}
 use Rattle.machine.specs.Setting.{sew, maccq, legalType, newType}
 use Rattle.machine.specs.Faults.{sound}
-use Rattle.machine.proofs.TestLaws.{and-true, every-each, each, each-in, or-not, all-at}
+use Rattle.machine.proofs.TestLaws.{every-each, each, each-in, or-not, all-at}
 use Rattle.machine.proofs.NoFault.{Sound, sound-is, sound-true}
 use Rattle.image.specs.Images.{halvings, exponent, Header, headerOf, machineFrom}
 use Rattle.image.specs.ImageFormat.{mtypes, total}

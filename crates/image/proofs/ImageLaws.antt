@@ -3,15 +3,15 @@ use mathlib.Core.Path.{_≡_, refl, sym, ap, ap₂, _∙_, subst}
 use mathlib.Core.Bool.{Bool, true, false, cond}
 use mathlib.Core.List.{List, [], _∷_, _++_, map}
 use mathlib.Core.Option.{none, some}
-use mathlib.Core.Logic.{_⊎_, inl, inr}
+use mathlib.Core.Logic.{inl, inr}
 use Prim.Native.Nat.{ℕ, zero, suc, _+_, _-_, _*_, _^_, _≤_, _<_, max, min}
 use native.Mathlib.Omega.{arith}
 use lib.ListN.{length, replicate}
 use lib.Dec.{eqb}
 use borrow.Author.Tests.{eqb-true, eqb-false}
-use Rattle.format.specs.Numbers.{Range, span, Among, encode, encodeAll, Bytes}
+use Rattle.format.specs.Numbers.{span, Among, encode, encodeAll, Bytes}
 use Rattle.format.specs.Formats.{Format, Accepts}
-use Rattle.format.specs.Formats.Format.{done, number, bytes}
+use Rattle.format.specs.Formats.Format.{number}
 use Rattle.format.specs.Parser.{Live}
 use Rattle.format.proofs.NumberLaws.{among-nonempty}
 use Rattle.image.specs.Cells.{Cell, widen, join, Run, runs, spread, Fit}

@@ -2,14 +2,13 @@
 use mathlib.Core.Path.{_≡_, refl, sym, ap, ap₂, _∙_, subst}
 use mathlib.Core.Bool.{Bool, true, false, cond}
 use mathlib.Core.List.{List, [], _∷_, _++_}
-use mathlib.Core.Logic.{_⊎_, inl, inr}
-use Prim.Native.Nat.{ℕ, zero, suc, _≤_, _<_}
+use mathlib.Core.Logic.{inl, inr}
+use Prim.Native.Nat.{ℕ, _≤_}
 use native.Mathlib.Omega.{arith}
-use lib.ListN.{length, take, drop, getD, replicate, length-replicate}
+use lib.ListN.{length, take, drop, replicate, length-replicate}
 use lib.Seq.{take-append-seam}
 use lib.Dec.{leb, eqb}
 use borrow.Author.Tests.{eqb-true, eq-eqb, le-leb}
-use Rattle.width.specs.Tile.{In}
 use Rattle.format.specs.Numbers.{Bytes}
 use Rattle.format.specs.Formats.{Ends, Accepts, Accepted}
 use Rattle.format.specs.Parser.{Parsed, parse}
@@ -17,17 +16,15 @@ use Rattle.format.specs.Parser.Parsed.{whole, stopped}
 use Rattle.format.specs.Theorems.{Right}
 use Rattle.format.proofs.FormatLaws.{accepts-parse, parser-right, accepts-one, bytes-zeros}
 use Rattle.machine.specs.declared.Machine.{Machine}
-use Rattle.machine.specs.Tests.{every}
-use Rattle.machine.specs.Geometry.{registerBytes, Bench, benchOf, sealed, parameters}
+use Rattle.machine.specs.Geometry.{registerBytes, Bench, benchOf}
 use Rattle.machine.specs.Setting.{chosen}
 use Rattle.machine.specs.Starting.{noMachine}
 use Rattle.machine.specs.Faults.{sound, soundBench}
-use Rattle.machine.specs.Alike.{Agree, Alike}
-use Rattle.machine.specs.Theorems.{Given, afterAll}
-use Rattle.machine.proofs.TestLaws.{every-each, each-every, in-within, false-true}
+use Rattle.machine.specs.Alike.{Alike}
+use Rattle.machine.proofs.TestLaws.{every-each, each-every, in-within}
 use Rattle.machine.proofs.Sealing.{seal-holds}
 use Rattle.image.specs.declared.Imaged.{Imaged}
-use Rattle.image.specs.declared.Imaged.the-variants.{Done, BadArguments, NoRoom, Damaged}
+use Rattle.image.specs.declared.Imaged.the-variants.{Done, BadArguments, NoRoom}
 use Rattle.image.specs.Answers.{ImageReply, imageReply}
 use Rattle.image.specs.Cells.{Cell, Run, cellsOf, runs, spread, Fit, over, marksOf}
 use Rattle.image.specs.Images.{Header, exponent, headerOf, machineFrom, spelled, imageOf, IsImage}
@@ -35,8 +32,8 @@ use Rattle.image.specs.ImageFormat.{Described, total, imageFormat}
 use Rattle.image.specs.Writing.{WriteOutcome, written, writeImage}
 use Rattle.image.specs.Reading.{ReadOutcome, restored, cellsIn, fitted, readAs, readImage}
 use Rattle.image.specs.Theorems.{imageIn, AlikeHaveOneImage, OthersNever, FormatIsImages, Fits, ReadAnswers, ReadIsExact, ReadRefusalChangesNothing, WriteRefusalChangesNothing, MakesItsMachine, ReadMakesItsMachine, SealHoldsFromRead, WrittenIsReadBack, ReadIsWrittenBack}
-use Rattle.image.proofs.RunLaws.{spread-runs, fit-runs, runs-spread, length-spread, runs-one}
-use Rattle.image.proofs.ImageLaws.{Held, AllBytes, CellsOk, Spelling, image-live, image-out, image-in, all-runs, ok-spread}
+use Rattle.image.proofs.RunLaws.{spread-runs, fit-runs, runs-spread, length-spread}
+use Rattle.image.proofs.ImageLaws.{Spelling, image-live, image-out, image-in, all-runs, ok-spread}
 use Rattle.image.proofs.HeaderLaws.{held, machine-back, registers-sized, marks-sized, marks-two, header-back, sound-from}
 use Rattle.image.proofs.CellLaws.{length-cells, cells-ok, alike-cells, cells-alike, marks-cells, length-over, length-marks, marks-of-two, cells-over, over-lent, over-bytes}
 

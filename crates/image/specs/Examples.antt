@@ -1,16 +1,15 @@
 -- Computed examples of images.
 use mathlib.Core.Path.{_≡_, refl}
-use mathlib.Core.List.{List, [], _∷_, _++_}
+use mathlib.Core.List.{List, [], _∷_}
 use Prim.Native.Nat.{ℕ, _-_}
-use lib.ListN.{length, take}
+use lib.ListN.{take}
 use Rattle.format.specs.Numbers.{groups, encode}
 use Rattle.format.specs.Parser.{isAmong, nonempty, readNumber, parse}
 use Rattle.image.specs.Cells.{cellsOf, Run, runs}
 use Rattle.image.specs.Cells.Run.{run}
-use Rattle.image.specs.Images.{halvings, exponent, headerOf, spelled, imageOf}
+use Rattle.image.specs.Images.{halvings, headerOf, spelled}
 use Rattle.image.specs.declared.Imaged.{Imaged}
 use Rattle.image.specs.declared.Imaged.the-variants.{Done, Damaged}
-use Rattle.image.specs.Answers.{imageReply}
 use Rattle.image.specs.ImageFormat.{runsFormat, imageFormat}
 use Rattle.image.specs.Reading.{checkImage, readImage}
 use Rattle.machine.specs.Starting.{freshMachine}

@@ -1,8 +1,8 @@
 -- The numbers of an image, part by part: from what was read at each place to what the parser finds from there on.
 use mathlib.Core.Path.{_≡_, refl, sym, ap, _∙_, subst}
 use mathlib.Core.Bool.{Bool, true, false, cond}
-use mathlib.Core.List.{List, [], _∷_}
-use mathlib.Core.Logic.{_⊎_, inl, inr}
+use mathlib.Core.List.{List, _∷_}
+use mathlib.Core.Logic.{inl, inr}
 use Prim.Native.Nat.{ℕ, suc, _+_, _-_, _*_, _/_, _^_, _≤_, _<_, max, min}
 use native.Mathlib.Omega.{arith}
 use lib.ListN.{length, drop, getD, drop-of-length-le}
@@ -14,20 +14,19 @@ use Rattle.format.specs.Numbers.{span, Among}
 use Rattle.format.specs.Formats.{Format}
 use Rattle.format.specs.Formats.Format.{number}
 use Rattle.format.specs.Parser.{isAmong, nonempty, grow, readNumber, parse, from}
-use Rattle.format.specs.Parser.Parsed.{whole, stopped}
 use Rattle.format.proofs.NumberLaws.{reads-last, reads-more, read-empty}
 use Rattle.machine.specs.declared.Machine.{Machine}
 use Rattle.reader.specs.declared.Number.{Number}
 use Rattle.reader.specs.declared.Number.the-variants.{Value, Fault}
 use Rattle.reader.specs.At.{found, numberAt}
 use Rattle.reader.proofs.FromLaws.{from-number, from-fault, from-value, from-stuck, from-start, took, took-in}
-use Rattle.image.specs.Images.{Header, machineFrom}
+use Rattle.image.specs.Images.{Header}
 use Rattle.image.specs.ImageFormat.{Described, mtypes, ruleFormat, shapeFormat, tilesFormat, runsFormat, total, imageFormat}
 use Rattle.image_read.specs.declared.head.Shape.the-variants.{ShapeBad}
 use Rattle.image_read.specs.declared.head.Tiles.the-variants.{TilesBad}
 use Rattle.image_read.specs.declared.head.Tail.the-variants.{TailBad}
 use Rattle.image_read.specs.declared.head.Head.the-variants.{HeadBad}
-use Rattle.image_read.specs.Parts.{RuledOk, RuleOk, ShapedOk, ShapeOk, mtypeAt, TiledOk, TilesOk, tailFormat, TailedOk, TailOk, describe, runsFrom, HeadedOk, HeadOk}
+use Rattle.image_read.specs.Parts.{RuleOk, ShapedOk, ShapeOk, mtypeAt, TiledOk, TilesOk, tailFormat, TailedOk, TailOk, describe, runsFrom, HeadedOk, HeadOk}
 use Rattle.image_read.proofs.RunsLaws.{mapped, runs-with}
 
 -- ---- the version, the rule and the exponents

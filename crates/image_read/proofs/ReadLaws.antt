@@ -1,13 +1,12 @@
 -- What a return of the entry points has to show.
 use mathlib.Core.Path.{_≡_, refl, sym, ap, ap₂, _∙_, subst}
-use mathlib.Core.Bool.{Bool, true, false, true≢false}
+use mathlib.Core.Bool.{true, false, true≢false}
 use mathlib.Core.List.{List, [], _∷_, _++_, append-nil}
-use Prim.Native.Nat.{ℕ, zero, suc, _+_, _*_, _≤_, _<_}
+use Prim.Native.Nat.{ℕ, suc, _+_, _*_, _<_}
 use native.Mathlib.Omega.{arith}
-use lib.ListN.{length, drop, getD, replicate, length-replicate, drop-of-length-le}
+use lib.ListN.{length, getD, replicate, length-replicate, drop-of-length-le}
 use lib.Seq.{sets, sets-eq}
 use lib.Dec.{eqb}
-use borrow.Author.Tests.{eqb-true}
 use Rattle.format.specs.Numbers.{Bytes}
 use Rattle.format.specs.Formats.{Accepts}
 use Rattle.format.specs.Parser.{Parsed, parse}
@@ -19,15 +18,13 @@ use Rattle.image.specs.declared.Imaged.{Imaged}
 use Rattle.image.specs.declared.Imaged.the-variants.{Done, BadArguments, NoRoom, Damaged}
 use Rattle.image.specs.Answers.{imageReply}
 use Rattle.image.specs.Cells.{Run, spread, Fit, over, marksOf}
-use Rattle.image.specs.Images.{machineFrom}
 use Rattle.image.specs.ImageFormat.{Described, total, imageFormat}
-use Rattle.image.specs.Reading.{verdictOf, checkImage, ReadOutcome, restored, readAs, readImage}
-use Rattle.image.specs.Theorems.{Fits}
+use Rattle.image.specs.Reading.{verdictOf, checkImage, restored, readAs, readImage}
 use Rattle.image.proofs.ImageLaws.{image-live, image-out}
 use Rattle.image.proofs.Images.{fits-true, read-done, read-unfit}
 use Rattle.image_read.specs.declared.head.Head.the-variants.{HeadBad}
 use Rattle.image_read.specs.Parts.{describe, runsFrom, runsVerdict, isSound, bodyOf, bodyAt, ones, HeadedOk, HeadOk}
-use Rattle.image_read.proofs.RunsLaws.{mapped, damaged-done}
+use Rattle.image_read.proofs.RunsLaws.{mapped}
 use Rattle.image_read.proofs.HeadLaws.{head-parse}
 use Rattle.image_read.proofs.FillLaws.{marks-ones}
 

@@ -3,18 +3,17 @@ use mathlib.Core.Path.{_≡_, refl, sym, ap, ap₂, _∙_, subst}
 use mathlib.Core.List.{List, [], _∷_, _++_, map, append-nil}
 use mathlib.Core.Option.{none, some}
 use mathlib.Core.Logic.{_⊎_, inl, inr}
-use Prim.Native.Nat.{ℕ, zero, suc, _+_, _-_, _*_, _^_, _≤_, _<_}
+use Prim.Native.Nat.{ℕ, zero, suc, _+_, _-_, _≤_, _<_}
 use native.Mathlib.Omega.{arith}
 use Rattle.width.proofs.BlockLaws.{le-or-lt}
 use lib.ListN.{length, take, drop, getD, replicate, length-drop, drop-of-length-le, length-append}
 use lib.Seq.{getD-drop, drop-drop, length-take-le}
 use Rattle.format.specs.Numbers.{encode}
-use Rattle.reader.proofs.SizeLaws.{size-bound}
 use Rattle.image.specs.Cells.{Cell, cell, cellsOf, Run, widen, runs, Fit}
 use Rattle.image.specs.Cells.Run.{run}
 use Rattle.image.specs.Images.{runsBytes}
 use Rattle.image.proofs.RunLaws.{runs-gap, runs-body, runs-none, fit-runs}
-use Rattle.image_write.specs.Parts.{Stretch, StretchTo, TallyOk}
+use Rattle.image_write.specs.Parts.{Stretch}
 
 -- ---- finding the runs: g bytes without a mark, then some with one, then the end or one without
 

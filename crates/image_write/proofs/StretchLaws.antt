@@ -1,18 +1,17 @@
 -- Stretches of marks that all have one value.
-use mathlib.Core.Path.{_≡_, refl, sym, ap, _∙_, subst}
+use mathlib.Core.Path.{_≡_, _∙_, subst}
 use mathlib.Core.Bool.{Bool, true, false}
 use mathlib.Core.List.{List}
 use mathlib.Core.Logic.{_⊎_, inl, inr}
 use Prim.Native.Nat.{ℕ, _+_, _-_, _≤_, _<_}
 use native.Mathlib.Omega.{arith}
 use lib.Dec.{eqb}
-use lib.ListN.{length, getD}
+use lib.ListN.{getD}
 use borrow.Author.Tests.{eqb-true, eq-eqb, ne-eqb}
 use Rattle.width.proofs.BlockLaws.{le-or-lt}
 use Rattle.machine.specs.Tests.{all}
 use Rattle.machine.proofs.TestLaws.{all-at}
 use Rattle.address.proofs.TestLaws.{all-same, all-not}
-use Rattle.image_write.specs.Parts.{Stretch, StretchTo}
 
 module _ (ms : List ℕ) (p i value : ℕ) where
   pub block-bad : ¬ (getD ms (p + i) 0 ≡ value) → false ≡ all (i + 1) (λ b. eqb (getD ms (p + b) 0) value)

@@ -22,11 +22,10 @@ use Rattle.machine.proofs.CheckLaws.{passed}
 use Rattle.machine.proofs.MemoryLaws.{inside-at}
 use Rattle.machine.proofs.StoreLaws.{stored-puts}
 use Rattle.machine.proofs.CodeLaws.{verdict-append}
-use Rattle.machine.proofs.NoFault.{sound-is}
 use Rattle.element.specs.Element.{Width}
 use Rattle.transfer.proofs.Room.{transfer-requires}
 use Rattle.operations.specs.declared.Placed.{Placed}
-use Rattle.settings.specs.Parts.{ours, Ready}
+use Rattle.settings.specs.Parts.{ours}
 use Rattle.operations.specs.Parts.{transferChecks, placedAs, WritesRegisters, WritesMemory}
 
 module _ (m : Machine) (regs marks mem : List ℕ) (f : Form) (k : Matrix) (r w base stride : ℕ) where

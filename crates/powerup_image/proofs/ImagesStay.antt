@@ -3,7 +3,6 @@ use mathlib.Core.Path.{_≡_, refl, ap₂}
 use mathlib.Core.List.{List, [], _∷_}
 use Prim.Native.Nat.{ℕ}
 use Rattle.machine.specs.Step.{Outcome}
-use Rattle.image.specs.Theorems.{imageIn}
 use Rattle.image.proofs.Images.{alike-one-image}
 use Rattle.powerup.specs.Steps.{EachSame, outcomes, outcomesGiven}
 use Rattle.powerup.proofs.Steps.{words-ignore-unmarked, given-words-ignore-unmarked}

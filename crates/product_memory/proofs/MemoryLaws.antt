@@ -27,7 +27,7 @@ use Rattle.machine.proofs.MemoryLaws.{rowZ-up}
 use Rattle.element.specs.Element.{Width}
 use Rattle.element.proofs.Laws.{width-small}
 use Rattle.run.specs.Plan.{narrow, wide, aAt, bAt, cAt, total, productOf}
-use Rattle.run.specs.Start.{format, kinded, planned}
+use Rattle.run.specs.Start.{format, kindFits, planned}
 use Rattle.run.specs.Statement.{Lies, Inside, Separate, Answered}
 use Rattle.run.proofs.StartLaws.{one-of, numbers-are}
 use Rattle.product_memory.specs.Memory.{planFor, filled}
@@ -116,7 +116,7 @@ module _ (sew f m k n : ℕ) (formatted : format sew f ≡ true) (m≤ : m ≤ 1
   c-row = row-small n (f * (sew / 8)) n≤ (widths sew f formatted .1)
 
   numbers : planned (planFor sew f m k n) ≡ true
-  unfolding kinded planned
+  unfolding kindFits planned
   numbers = each-every (format sew f ∷ leb m 1024 ∷ leb k 1024 ∷ leb n 1024 ∷ leb 0 1 ∷ [])
       (formatted, (le-leb m 1024 (omega arith), (le-leb k 1024 (omega arith), (le-leb n 1024 (omega arith), (refl, tt)))))
 

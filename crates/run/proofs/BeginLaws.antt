@@ -8,7 +8,7 @@ use native.Mathlib.Nat.{div-eq-of-lt, add-div-right}
 use native.Mathlib.Omega.{arith}
 use lib.Dec.{ltb, eqb}
 use borrow.Author.Tests.{ltb-true, lt-ltb, eqb-true, eq-eqb, ne-eqb}
-use Rattle.width.specs.Blocks.{Grants, count, starts, chunks}
+use Rattle.width.specs.Blocks.{Grants, starts, chunks}
 use Rattle.width.proofs.BlockLaws.{le-or-lt, granted, chunks-end, chunks-next}
 use Rattle.machine.specs.Tests.{isIn}
 use Rattle.machine.proofs.TestLaws.{or-right, or-not, false-true, every-each, each-every, each, each-in}
@@ -82,7 +82,7 @@ module _ (S : Shape) (G : Sound S) where
     where
       go : (t : Bool) → ltb j (S .n) ≡ t → begins S (cond t (AtN i j) (headM S (i + sizeM S i))) ≡ true
       go true e = each-every (startsM S i ∷ startsN S j ∷ []) (m, (h (ltb-true j (S .n) e), tt))
-      go false e = head-m (i + sizeM S i) (next-start (S .grant) (G .rule) (S .tm) (G .0<tm) (S .m) i m)
+      go false e = head-m (i + sizeM S i) (next-start (S .grant) (G .grants) (S .tm) (G .0<tm) (S .m) i m)
 
   head-k : (i j s : ℕ) → startsM S i ≡ true → startsN S j ≡ true → (s < S .k → startsK S s ≡ true) → begins S (headK S i j s) ≡ true
   head-k i j s m n h = go (ltb s (S .k)) refl
@@ -92,21 +92,21 @@ module _ (S : Shape) (G : Sound S) where
       go false e = each-every (startsM S i ∷ startsN S j ∷ []) (m, (n, tt))
 
   pub begins-next : (p : Place) → begins S p ≡ true → begins S (next S p) ≡ true
-  begins-next AtType h = head-m 0 (begin (S .grant) (G .rule) (S .tm) (G .0<tm) (S .m) 0)
-  begins-next (AtM i) h = head-n i 0 h (begin (S .grant) (G .rule) (S .tn) (G .0<tn) (S .n) 0)
+  begins-next AtType h = head-m 0 (begin (S .grant) (G .grants) (S .tm) (G .0<tm) (S .m) 0)
+  begins-next (AtM i) h = head-n i 0 h (begin (S .grant) (G .grants) (S .tn) (G .0<tn) (S .n) 0)
   begins-next (AtN i j) h = h
   begins-next (AtClear i j) h =
       let t = every-each (startsM S i ∷ startsN S j ∷ []) h in
-      head-k i j 0 (t .0) (t .1 .0) (begin (S .grant) (G .rule) (S .tk) (G .0<tk) (S .k) 0)
+      head-k i j 0 (t .0) (t .1 .0) (begin (S .grant) (G .grants) (S .tk) (G .0<tk) (S .k) 0)
   begins-next (AtK i j s) h = h
   begins-next (AtA i j s) h = h
   begins-next (AtB i j s) h = h
   begins-next (AtMultiply i j s) h =
       let t = every-each (startsM S i ∷ startsN S j ∷ startsK S s ∷ []) h in
-      head-k i j (s + sizeK S s) (t .0) (t .1 .0) (next-start (S .grant) (G .rule) (S .tk) (G .0<tk) (S .k) s (t .1 .1 .0))
+      head-k i j (s + sizeK S s) (t .0) (t .1 .0) (next-start (S .grant) (G .grants) (S .tk) (G .0<tk) (S .k) s (t .1 .1 .0))
   begins-next (AtStore i j) h =
       let t = every-each (startsM S i ∷ startsN S j ∷ []) h in
-      head-n i (j + sizeN S j) (t .0) (next-start (S .grant) (G .rule) (S .tn) (G .0<tn) (S .n) j (t .1 .0))
+      head-n i (j + sizeN S j) (t .0) (next-start (S .grant) (G .grants) (S .tn) (G .0<tn) (S .n) j (t .1 .0))
   begins-next AtEnd h = refl
 
 -- ---- for code: where a block starts

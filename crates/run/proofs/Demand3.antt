@@ -47,7 +47,7 @@ use Rattle.run.specs.Places.{next, wordAt}
 use Rattle.run.proofs.PlaceLaws.{rest, before, rest-next, rest-after, placeAfter, length-words}
 use Rattle.run.proofs.BeginLaws.{begins-next}
 use Rattle.run.specs.Plan.{Job, Kept, shape, narrow, wide, formOf, aRow, aColumn, aRows, aColumns}
-use Rattle.run.specs.Start.{format, kinded, planned, lying, separate, startChecks, freshRun, noRun, startRun}
+use Rattle.run.specs.Start.{format, kindFits, planned, lying, separate, startChecks, freshRun, noRun, startRun}
 use Rattle.run.specs.Turn.{begins, soundRun, handsOut, Ask, ask, Running, Turn, turn, afterTurns, answeredDone}
 use Rattle.run.proofs.HandedLaws.{askWith, turnWith}
 use Rattle.run.proofs.RefusalLaws.{number-done, started-idle}
@@ -108,10 +108,10 @@ held B = stateOf (B .machine) (B .registers) (B .marks)
 
 -- what an accepted start says
 record Ready (grant : ℕ → ℕ → ℕ → ℕ) (P : Plan) (B : Bench) : Type 0 where
-  rule : EachGrants grant
+  grants : EachGrants grant
   sane : soundBench B ≡ true
   lengths : permitted (B .machine .rlen) (B .machine .mlen) ≡ true
-  ruled : isRule (B .machine .rule) ≡ true
+  rule-is : isRule (B .machine .rule) ≡ true
   plan : planned P ≡ true
   accepts : Accepted (jobOf grant P B)
   formatted : format (P .sew) (P .factor) ≡ true
@@ -168,7 +168,7 @@ module _ (grant : ℕ → ℕ → ℕ → ℕ) (P : Plan) (B₀ : Bench) (R : Re
         holds = record {
           here = subst (λ (C : Bench). At (J grant P B₀) (next (S grant P B₀) p) (held C) (C .memory)) (sym (d .1)) a;
           begun = begins-next (S grant P B₀) (Turns.sound (J grant P B₀) A) p (h .begun);
-          sane = step-sound grant (R .rule) w xs B (h .sane);
+          sane = step-sound grant (R .grants) w xs B (h .sane);
           same = step-unharmed grant w xs B .same-parameters ∙ h .same;
         };
       }
@@ -187,7 +187,7 @@ module _ (grant : ℕ → ℕ → ℕ → ℕ) (P : Plan) (B₀ : Bench) (R : Re
   -- a run in the invariant hands out its place's word
   hands : (p : Place) (B : Bench) → Holds grant P B₀ p B → handsOut grant (at grant P B₀ p B .run) ≡ wordAt (S grant P B₀) p
   unfolding soundRun
-  hands p B h = rw (R .lengths, R .ruled, R .plan, h .begun)
+  hands p B h = rw (R .lengths, R .rule-is, R .plan, h .begun)
 
   -- every place but the end hands out a word that is done, and the invariant goes on
   abbrev Advanced : Place → Bench → Type 0
@@ -416,12 +416,12 @@ module _ (grant : ℕ → ℕ → ℕ → ℕ) (G : EachGrants grant) (P : Plan)
   ready : Passed (startChecks grant P B) → Ready grant P B
   unfolding planned
   ready c =
-      let t = every-each (format (P .sew) (P .factor) ∷ leb (P .m) 1024 ∷ leb (P .k) 1024 ∷ leb (P .n) 1024 ∷ kinded P ∷ []) (c .1 .0) in
+      let t = every-each (format (P .sew) (P .factor) ∷ leb (P .m) 1024 ∷ leb (P .k) 1024 ∷ leb (P .n) 1024 ∷ kindFits P ∷ []) (c .1 .0) in
       record {
-        rule = G;
+        grants = G;
         sane = c .0;
         lengths = sound-is (B .machine) (B .registers) (B .marks) (c .0) .lengths;
-        ruled = sound-is (B .machine) (B .registers) (B .marks) (c .0) .rule-is;
+        rule-is = sound-is (B .machine) (B .registers) (B .marks) (c .0) .rule-is;
         plan = c .1 .0;
         accepts = accepted grant G P B bytes (sound-is (B .machine) (B .registers) (B .marks) (c .0) .lengths) (t .0) (t .1 .1 .1 .1 .0) (c .1 .1 .0) (c .1 .1 .1 .0);
         formatted = t .0;

@@ -36,7 +36,7 @@ operationOf P (Op.store i j) = Operation.store Plain MatrixC 0 (wide P) (cAt P i
 
 -- what an accepted start says
 pub record Accepted (J : Job) : Type 0 where
-  pub rule : Grants (J .machine .grant)
+  pub grants : Grants (J .machine .grant)
   pub 0<narrow : zero < narrow (J .plan)
   pub 0<rows : zero < J .machine .rows
   pub row-holds : narrow (J .plan) ≤ J .machine .pitch

@@ -48,7 +48,7 @@ before (some o) os = o ∷ os
 
 -- the maxima are at least 1, and the rule keeps the draft's constraints
 pub record Sound (S : Shape) : Type 0 where
-  pub rule : Grants (S .grant)
+  pub grants : Grants (S .grant)
   pub 0<tm : zero < S .tm
   pub 0<tk : zero < S .tk
   pub 0<tn : zero < S .tn
@@ -58,22 +58,22 @@ module _ (S : Shape) (G : Sound S) where
   rest-headM i = go (ltb i (S .m)) refl
     where
       go : (t : Bool) → ltb i (S .m) ≡ t → rest S (cond t (AtM i) AtEnd) ≡ fromM S i
-      go true e = rw (chunks-next (S .grant) (G .rule) (S .tm) (G .0<tm) (S .m) i (ltb-true i (S .m) e))
-      go false e = rw (chunks-end (S .grant) (G .rule) (S .tm) (G .0<tm) (S .m) i (ltb-false i (S .m) e))
+      go true e = rw (chunks-next (S .grant) (G .grants) (S .tm) (G .0<tm) (S .m) i (ltb-true i (S .m) e))
+      go false e = rw (chunks-end (S .grant) (G .grants) (S .tm) (G .0<tm) (S .m) i (ltb-false i (S .m) e))
 
   rest-headN : (i j : ℕ) → rest S (headN S i j) ≡ fromN S i j ++ afterM S i
   rest-headN i j = go (ltb j (S .n)) refl
     where
       go : (t : Bool) → ltb j (S .n) ≡ t → rest S (cond t (AtN i j) (headM S (i + sizeM S i))) ≡ fromN S i j ++ afterM S i
-      go true e = rw (chunks-next (S .grant) (G .rule) (S .tn) (G .0<tn) (S .n) j (ltb-true j (S .n) e)) (simp append-assoc)
-      go false e = rw (chunks-end (S .grant) (G .rule) (S .tn) (G .0<tn) (S .n) j (ltb-false j (S .n) e)) (rest-headM (i + sizeM S i))
+      go true e = rw (chunks-next (S .grant) (G .grants) (S .tn) (G .0<tn) (S .n) j (ltb-true j (S .n) e)) (simp append-assoc)
+      go false e = rw (chunks-end (S .grant) (G .grants) (S .tn) (G .0<tn) (S .n) j (ltb-false j (S .n) e)) (rest-headM (i + sizeM S i))
 
   rest-headK : (i j s : ℕ) → rest S (headK S i j s) ≡ fromK S i j s ++ store i j ∷ afterN S i j
   rest-headK i j s = go (ltb s (S .k)) refl
     where
       go : (t : Bool) → ltb s (S .k) ≡ t → rest S (cond t (AtK i j s) (AtStore i j)) ≡ fromK S i j s ++ store i j ∷ afterN S i j
-      go true e = rw (chunks-next (S .grant) (G .rule) (S .tk) (G .0<tk) (S .k) s (ltb-true s (S .k) e))
-      go false e = rw (chunks-end (S .grant) (G .rule) (S .tk) (G .0<tk) (S .k) s (ltb-false s (S .k) e))
+      go true e = rw (chunks-next (S .grant) (G .grants) (S .tk) (G .0<tk) (S .k) s (ltb-true s (S .k) e))
+      go false e = rw (chunks-end (S .grant) (G .grants) (S .tk) (G .0<tk) (S .k) s (ltb-false s (S .k) e))
 
   -- a turn hands out the first of the words still to come
   pub rest-next : (p : Place) → rest S p ≡ before (wordAt S p) (rest S (next S p))
@@ -121,7 +121,7 @@ length-flat f c [] h = sym (zero-mul c)
 length-flat f c (s ∷ ss) h = length-append (f s) (flat f ss) ∙ omega (arith, h s, length-flat f c ss h)
 
 pub length-words : (S : Shape) → Sound S → length (words S) ≡ steps S
-length-words S G = omega (arith, length-flat (blockM S) (1 + N * (3 + 4 * K)) (chunks (S .grant) (S .tm) (S .m) 0) per-m, ap (λ (c : ℕ). c * (1 + N * (3 + 4 * K))) (length-chunks (S .grant) (G .rule) (S .tm) (G .0<tm) (S .m)))
+length-words S G = omega (arith, length-flat (blockM S) (1 + N * (3 + 4 * K)) (chunks (S .grant) (S .tm) (S .m) 0) per-m, ap (λ (c : ℕ). c * (1 + N * (3 + 4 * K))) (length-chunks (S .grant) (G .grants) (S .tm) (G .0<tm) (S .m)))
   where
     K : ℕ
     K = count (S .tk) (S .k)
@@ -130,10 +130,10 @@ length-words S G = omega (arith, length-flat (blockM S) (1 + N * (3 + 4 * K)) (c
     N = count (S .tn) (S .n)
 
     per-k : (i j : ℕ) → length (fromK S i j 0) ≡ K * 4
-    per-k i j = length-flat (blockK S i j) 4 (chunks (S .grant) (S .tk) (S .k) 0) (λ s. refl) ∙ ap (λ (c : ℕ). c * 4) (length-chunks (S .grant) (G .rule) (S .tk) (G .0<tk) (S .k))
+    per-k i j = length-flat (blockK S i j) 4 (chunks (S .grant) (S .tk) (S .k) 0) (λ s. refl) ∙ ap (λ (c : ℕ). c * 4) (length-chunks (S .grant) (G .grants) (S .tk) (G .0<tk) (S .k))
 
     per-n : (i j : ℕ) → length (blockN S i j) ≡ 3 + 4 * K
     per-n i j = omega (arith, length-append (fromK S i j 0) (store i j ∷ []), per-k i j)
 
     per-m : (i : ℕ) → length (blockM S i) ≡ 1 + N * (3 + 4 * K)
-    per-m i = omega (arith, length-flat (blockN S i) (3 + 4 * K) (chunks (S .grant) (S .tn) (S .n) 0) (per-n i), ap (λ (c : ℕ). c * (3 + 4 * K)) (length-chunks (S .grant) (G .rule) (S .tn) (G .0<tn) (S .n)))
+    per-m i = omega (arith, length-flat (blockN S i) (3 + 4 * K) (chunks (S .grant) (S .tn) (S .n) 0) (per-n i), ap (λ (c : ℕ). c * (3 + 4 * K)) (length-chunks (S .grant) (G .grants) (S .tn) (G .0<tn) (S .n)))

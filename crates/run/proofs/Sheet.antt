@@ -13,14 +13,14 @@ use Rattle.machine.specs.Faults.{sound}
 use Rattle.machine.specs.Starting.{startMachine, startable}
 use Rattle.machine.specs.Step.{stepBy, outcome}
 use Rattle.run.specs.Plan.{narrow, msew, typeOf}
-use Rattle.run.specs.Start.{startRun, format, kinded, planned, lying, apart, separate}
+use Rattle.run.specs.Start.{startRun, format, kindFits, planned, lying, apart, separate}
 use Rattle.run.specs.Turn.{soundRun}
 use Rattle.run.specs.Sheet.{sheet, bench, M, scalars, plan, started, c, counts, BenchSheet, ProductExample}
 
 pub bench-sheet : BenchSheet
-unfolding sheet bench M scalars plan started c counts chosen permitted sew newType legalType widthOk widthOf inside misses rowsMiss distinct stored marked listing decode sound startMachine startable stepBy outcome narrow msew typeOf startRun soundRun format kinded planned lying apart separate chunks putTile putRow putLe markTile markRow reduce
+unfolding sheet bench M scalars plan started c counts chosen permitted sew newType legalType widthOk widthOf inside misses rowsMiss distinct stored marked listing decode sound startMachine startable stepBy outcome narrow msew typeOf startRun soundRun format kindFits planned lying apart separate chunks putTile putRow putLe markTile markRow reduce
 bench-sheet = refl
 
 pub product-example : ProductExample
-unfolding bench plan started c chosen permitted sew newType legalType widthOk widthOf inside misses rowsMiss distinct stored marked listing decode sound startMachine startable stepBy outcome narrow msew typeOf startRun soundRun format kinded planned lying apart separate chunks putTile putRow putLe markTile markRow reduce
+unfolding bench plan started c chosen permitted sew newType legalType widthOk widthOf inside misses rowsMiss distinct stored marked listing decode sound startMachine startable stepBy outcome narrow msew typeOf startRun soundRun format kindFits planned lying apart separate chunks putTile putRow putLe markTile markRow reduce
 product-example = refl

@@ -25,7 +25,7 @@ use Rattle.machine.specs.Faults.{soundBench}
 use Rattle.machine.proofs.StepLaws.{permitted-lengths}
 use Rattle.run.specs.declared.Plan.{Plan}
 use Rattle.run.specs.Plan.{integers, floats, elementsOf, narrow, wide, msew, typeOf, aAt, bAt, cAt, aRows, aColumns}
-use Rattle.run.specs.Start.{format, kinded, planned, lying, apart, separate}
+use Rattle.run.specs.Start.{format, kindFits, planned, lying, apart, separate}
 use Rattle.run.proofs.NumberLaws.{Suits}
 use Rattle.run.proofs.WordLaws.{formats}
 use Rattle.run.proofs.Invariant.{Accepted}
@@ -157,11 +157,11 @@ module _ (P : Plan) where
   formats-of = isIn (P .sew) (8 ∷ 16 ∷ 32 ∷ []) ∷ isIn (P .factor) (1 ∷ 2 ∷ 4 ∷ []) ∷ leb (P .factor * P .sew) elen ∷ []
 
   abbrev sizes-of : List Bool
-  sizes-of = format (P .sew) (P .factor) ∷ leb (P .m) 1024 ∷ leb (P .k) 1024 ∷ leb (P .n) 1024 ∷ kinded P ∷ []
+  sizes-of = format (P .sew) (P .factor) ∷ leb (P .m) 1024 ∷ leb (P .k) 1024 ∷ leb (P .n) 1024 ∷ kindFits P ∷ []
 
   -- the kind, by the two ways that its test goes
-  kind-is : kinded P ≡ true → (P .kind ≤ 2) × (P .kind ≡ 2 → (P .sew ≡ 32) × (P .factor ≡ 1))
-  unfolding kinded
+  kind-is : kindFits P ≡ true → (P .kind ≤ 2) × (P .kind ≡ 2 → (P .sew ≡ 32) × (P .factor ≡ 1))
+  unfolding kindFits
   kind-is = go (eqb (P .kind) 2) refl
     where
       go : (t : Bool) → eqb (P .kind) 2 ≡ t → cond t (every (eqb (P .sew) 32 ∷ eqb (P .factor) 1 ∷ [])) (leb (P .kind) 1) ≡ true
@@ -171,8 +171,8 @@ module _ (P : Plan) where
           (omega (arith, eqb-true (P .kind) 2 e), λ k. (eqb-true (P .sew) 32 (c .0), eqb-true (P .factor) 1 (c .1 .0)))
       go false e h = (omega (arith, leb-true (P .kind) 1 h), λ k. absurd (eqb-false (P .kind) 2 e k))
 
-  is-kind : P .kind ≤ 2 → (P .kind ≡ 2 → (P .sew ≡ 32) × (P .factor ≡ 1)) → kinded P ≡ true
-  unfolding kinded
+  is-kind : P .kind ≤ 2 → (P .kind ≡ 2 → (P .sew ≡ 32) × (P .factor ≡ 1)) → kindFits P ≡ true
+  unfolding kindFits
   is-kind l f = go (eqb (P .kind) 2) refl
     where
       go : (t : Bool) → eqb (P .kind) 2 ≡ t → cond t (every (eqb (P .sew) 32 ∷ eqb (P .factor) 1 ∷ [])) (leb (P .kind) 1) ≡ true
@@ -182,7 +182,7 @@ module _ (P : Plan) where
           below : ¬ (P .kind ≡ 2) → P .kind ≤ 1
           below d = elim (le-or-lt 2 (P .kind)) [ inl g ↦ absurd (d (omega arith)) | inr g ↦ omega arith ]
 
-  suits-of : kinded P ≡ true → Suits (elementsOf P) (P .factor) (narrow P)
+  suits-of : kindFits P ≡ true → Suits (elementsOf P) (P .factor) (narrow P)
   unfolding narrow
   suits-of h = go (eqb (P .kind) 2) refl
     where
@@ -217,7 +217,7 @@ module _ (P : Plan) where
 -- ---- what the turns need
 
 pub accepted : (grant : ℕ → ℕ → ℕ → ℕ) → EachGrants grant → (P : Plan) (B : Bench) → Bytes (B .memory) → permitted (B .machine .rlen) (B .machine .mlen) ≡ true
-    → format (P .sew) (P .factor) ≡ true → kinded P ≡ true → lying P (B .memory) ≡ true → separate (parameters grant (B .machine)) P ≡ true → Accepted (jobOf grant P B)
+    → format (P .sew) (P .factor) ≡ true → kindFits P ≡ true → lying P (B .memory) ≡ true → separate (parameters grant (B .machine)) P ≡ true → Accepted (jobOf grant P B)
 unfolding narrow msew typeOf lying separate
 accepted grant G P B bytes lengths formatted kind l d =
     let n = permitted-lengths (B .machine .rlen) (B .machine .mlen) lengths in
@@ -225,7 +225,7 @@ accepted grant G P B bytes lengths formatted kind l d =
     let t = every-each (insides P (B .memory)) l in
     let s = separate-is grant (B .machine) P d in
     record {
-      rule = G (B .machine .rule);
+      grants = G (B .machine .rule);
       0<narrow = ltb-true 0 (P .sew / 8) (f .1 .1 .1 .1 .1 .1 .1 .1 .0);
       0<rows = n .0;
       row-holds = omega (arith, leb-true (P .sew / 8) 8 (f .1 .1 .1 .1 .1 .1 .0), n .1);

@@ -102,16 +102,16 @@ module _ (J : Job) (A : Accepted J) where
   0<tn = le-div-iff-mul-le {k = sew (typeOf P)} {x = 1} {y = L} (rw (A .sew-is) 0<e) .1 (rw (A .sew-is) (omega (arith, A .row-holds)))
 
   pub sound : Sound S
-  sound = record { rule = A .rule; 0<tm = A .0<rows; 0<tk = omega (arith, A .0<rows, 0<tn); 0<tn = 0<tn }
+  sound = record { grants = A .grants; 0<tm = A .0<rows; 0<tk = omega (arith, A .0<rows, 0<tn); 0<tn = 0<tn }
 
   size-m : (i : ℕ) → i < P .m → (zero < sizeM S i) × (sizeM S i ≤ P .m - i) × (sizeM S i ≤ R)
-  size-m i l = granted (M .grant) (A .rule) (S .tm) (A .0<rows) (P .m - i) (omega arith)
+  size-m i l = granted (M .grant) (A .grants) (S .tm) (A .0<rows) (P .m - i) (omega arith)
 
   size-n : (j : ℕ) → j < P .n → (zero < sizeN S j) × (sizeN S j ≤ P .n - j) × (sizeN S j ≤ S .tn)
-  size-n j l = granted (M .grant) (A .rule) (S .tn) 0<tn (P .n - j) (omega arith)
+  size-n j l = granted (M .grant) (A .grants) (S .tn) 0<tn (P .n - j) (omega arith)
 
   size-k : (s : ℕ) → s < P .k → (zero < sizeK S s) × (sizeK S s ≤ P .k - s) × (sizeK S s ≤ S .tk)
-  size-k s l = granted (M .grant) (A .rule) (S .tk) (sound .0<tk) (P .k - s) (omega arith)
+  size-k s l = granted (M .grant) (A .grants) (S .tk) (sound .0<tk) (P .k - s) (omega arith)
 
   n-narrow : (j : ℕ) → j < P .n → sizeN S j * e ≤ L
   n-narrow j l = omega (arith, mul-le-mul-right e (size-n j l .2), tn-fits)

@@ -27,7 +27,7 @@ use Rattle.run.specs.declared.Handed.{Handed}
 use Rattle.run.specs.Words.{loadA, multiply, Shape, words, steps}
 use Rattle.run.specs.Plan.{narrow, msew, typeOf, cAt}
 use Rattle.run.specs.Encoding.{handedFor}
-use Rattle.run.specs.Start.{startRun, format, kinded, planned, lying, apart, separate}
+use Rattle.run.specs.Start.{startRun, format, kindFits, planned, lying, apart, separate}
 use Rattle.run.specs.Turn.{soundRun, ask, Running, afterTurns, answeredDone}
 
 -- a sound machine with a seal, or one at fault for its mtype or its rule
@@ -117,7 +117,7 @@ examples =
     ∷ []
 
 pub starts : map (λ l. l .got) examples ≡ map (λ l. l .want) examples
-unfolding examples bench ruled layout plan ofKind dot gives free small permitted newType legalType sew inside misses rowsMiss distinct sound narrow msew typeOf startRun format kinded planned lying apart separate
+unfolding examples bench ruled layout plan ofKind dot gives free small permitted newType legalType sew inside misses rowsMiss distinct sound narrow msew typeOf startRun format kindFits planned lying apart separate
 starts = refl
 
 -- ---- asking
@@ -152,7 +152,7 @@ places =
     ∷ []
 
 pub asked-at : map (λ l. l .got) places ≡ map (λ l. l .want) places
-unfolding places asks layout plan chosen halving permitted sew msew typeOf format kinded planned soundRun chunks
+unfolding places asks layout plan chosen halving permitted sew msew typeOf format kindFits planned soundRun chunks
 asked-at = refl
 
 -- ---- both rules
@@ -189,7 +189,7 @@ rowAfter r t = drop 11 (afterTurns chosen (rowOn r) t .bench .memory)
 -- after the first store, and by halving after the last
 pub row-is : rowAfter 0 9 ++ rowAfter 1 9 ++ rowAfter 1 16
     ≡ replicate 8 14 ++ replicate 2 99 ++ replicate 5 14 ++ replicate 5 99 ++ replicate 10 14
-unfolding row rowOn rowAfter ruled plan layout free bench chosen halving permitted sew newType legalType widthOk widthOf inside misses rowsMiss stored marked listing decode sound stepBy outcome narrow msew typeOf startRun soundRun format kinded planned lying distinct apart separate chunks putTile putRow putLe markTile markRow reduce
+unfolding row rowOn rowAfter ruled plan layout free bench chosen halving permitted sew newType legalType widthOk widthOf inside misses rowsMiss stored marked listing decode sound stepBy outcome narrow msew typeOf startRun soundRun format kindFits planned lying distinct apart separate chunks putTile putRow putLe markTile markRow reduce
 row-is = refl
 
 -- ---- A kept transposed
@@ -222,7 +222,7 @@ after t i j = element (afterTurns chosen counted t .bench .memory) (cAt columns)
 
 pub product-is : answeredDone chosen counted 15 ∷ after 13 0 0 ∷ after 13 0 1 ∷ after 13 1 0 ∷ after 13 1 1 ∷ []
     ≡ 13 ∷ reduce (256 ^ 4) (pos 58) ∷ reduce (256 ^ 4) (pos 64) ∷ reduce (256 ^ 4) (negsuc 48) ∷ reduce (256 ^ 4) (negsuc 53) ∷ []
-unfolding columns counted after ofKind plan layout free bench ruled chosen permitted sew newType legalType widthOk widthOf inside misses rowsMiss distinct stored marked listing decode sound stepBy outcome narrow msew typeOf startRun soundRun format kinded planned lying apart separate chunks putTile putRow putLe markTile markRow reduce
+unfolding columns counted after ofKind plan layout free bench ruled chosen permitted sew newType legalType widthOk widthOf inside misses rowsMiss distinct stored marked listing decode sound stepBy outcome narrow msew typeOf startRun soundRun format kindFits planned lying apart separate chunks putTile putRow putLe markTile markRow reduce
 product-is = refl
 
 -- ---- a float run
@@ -256,5 +256,5 @@ float-after t i j = element (afterTurns chosen entered t .bench .memory) (cAt nu
 
 pub floats-are : answeredDone chosen entered 15 ∷ float-after 13 0 0 ∷ float-after 13 0 1 ∷ float-after 13 1 0 ∷ float-after 13 1 1 ∷ []
     ≡ 13 ∷ 0x41180000 ∷ 0x7FC00000 ∷ 0x4C800000 ∷ 0x7FC00000 ∷ []
-unfolding numbers entered float-after ofKind plan layout free bench ruled permitted sew newType legalType chosen widthOk widthOf inside misses rowsMiss marked listing decode sound stepBy outcome narrow msew typeOf startRun soundRun format kinded planned lying distinct stored apart separate chunks putTile putRow putLe markTile markRow reduce valueOf settled multiplyAdd floatSum floatProduct Ieee.add Ieee.mul Ieee.ofBits Ieee.toBits
+unfolding numbers entered float-after ofKind plan layout free bench ruled permitted sew newType legalType chosen widthOk widthOf inside misses rowsMiss marked listing decode sound stepBy outcome narrow msew typeOf startRun soundRun format kindFits planned lying distinct stored apart separate chunks putTile putRow putLe markTile markRow reduce valueOf settled multiplyAdd floatSum floatProduct Ieee.add Ieee.mul Ieee.ofBits Ieee.toBits
 floats-are = refl

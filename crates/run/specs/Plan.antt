@@ -92,7 +92,7 @@ unfoldable pub total : Elements → (wide narrow : ℕ) → (a b : ℕ → ℕ) 
 total integers wide narrow a b s = reduce (256 ^ wide) (sumℤ s (λ l. signed (256 ^ narrow) (a l) *ℤ signed (256 ^ narrow) (b l)))
 total floats wide narrow a b s = settled (floatSum plusZero s (λ l. valueOf (a l)) (λ l. valueOf (b l)))
 
--- A(i, l) and B(l, j) "are the elements of SEW bits, signed, that memory held at the start"; and of a run that keeps A transposed,
+-- A(i, l) and B(l, j) "are the elements of SEW bits .. that memory held at the start", as bits, which `total` reads; and of a run that keeps A transposed,
 -- "A(i, l) is element i of row l in memory"
 abbrev pub aOf : Job → ℕ → ℕ → ℕ
 aOf J = placed (formOf (J .plan)) (element (J .memory) (aAt (J .plan)) (narrow (J .plan)))

@@ -24,11 +24,11 @@ unfoldable pub format : ℕ → ℕ → Bool
 format sew f = every (isIn sew (8 ∷ 16 ∷ 32 ∷ []) ∷ isIn f (1 ∷ 2 ∷ 4 ∷ []) ∷ leb (f * sew) elen ∷ [])
 
 -- and for a kind that is not 0, 1 or 2; of kind 2, 02, Four: "a SEW other than 32 gets 3; in the run it, or another f, gets 8"
-unfoldable pub kinded : Plan → Bool
-kinded P = cond (eqb (P .kind) 2) (every (eqb (P .sew) 32 ∷ eqb (P .factor) 1 ∷ [])) (leb (P .kind) 1)
+unfoldable pub kindFits : Plan → Bool
+kindFits P = cond (eqb (P .kind) 2) (every (eqb (P .sew) 32 ∷ eqb (P .factor) 1 ∷ [])) (leb (P .kind) 1)
 
 unfoldable pub planned : Plan → Bool
-planned P = every (format (P .sew) (P .factor) ∷ leb (P .m) 1024 ∷ leb (P .k) 1024 ∷ leb (P .n) 1024 ∷ kinded P ∷ [])
+planned P = every (format (P .sew) (P .factor) ∷ leb (P .m) 1024 ∷ leb (P .k) 1024 ∷ leb (P .n) 1024 ∷ kindFits P ∷ [])
 
 -- "then 6 for an element outside memory": every byte of every row of A, B and C lies in memory
 unfoldable pub lying : Plan → List ℕ → Bool

@@ -40,7 +40,8 @@ pub record Delivers (P : Plan) (B : Bench) (o : WholeOutcome) : Type 0 where
   pub refused : ¬ (o .answer .number ≡ 0) → (o .count ≡ 0) × (o .bench ≡ B)
   -- "there are 1 + M(1 + N(3 + 4K)) steps"
   pub counted : o .answer .number ≡ 0 → o .count ≡ steps (shape (jobOf chosen P B))
-  -- "C(i, j) is the sum, for l from 0 to k - 1, of A(i, l) x B(l, j), reduced to f x SEW bits in two's complement", of the memory at entry
+  -- "C(i, j) is the sum, for l from 0 to k - 1, of A(i, l) x B(l, j), reduced to f x SEW bits in two's complement", or of a float run "bit for bit,
+  -- the plain sum from +0 in rising k", of the memory at entry
   pub product : o .answer .number ≡ 0 → (i j : ℕ) → i < P .m → j < P .n
       → element (o .bench .memory) (cAt P) (wide P) i j ≡ productOf (jobOf chosen P B) i j
   -- "the memory outside C's elements is as at the start"

@@ -11,9 +11,9 @@ use lib.ListN.{length, take, drop, getD, length-append, length-take, List·getD-
 use lib.Seq.{getD-take, getD-drop, getD-append-add}
 use borrow.Author.Tests.{ltb-true}
 use Rattle.width.specs.Reduce.{signed, reduce}
+use Rattle.machine.specs.Setting.{smaller}
 use Rattle.machine.specs.Tests.{every}
 use Rattle.machine.specs.Geometry.{parametersOf}
-use Rattle.machine.specs.Setting.{chosen}
 use Rattle.machine.proofs.TestLaws.{and-left, and-right}
 use Rattle.run.specs.Words.{steps}
 use Rattle.run.specs.Plan.{shape, productOf}

@@ -19,15 +19,15 @@ use Rattle.machine.proofs.TestLaws.{Each, every-each, fails, last}
 use Rattle.run.specs.declared.Plan.{Plan}
 use Rattle.run.specs.Plan.{narrow, wide, aAt, bAt, cAt, formOf, aRows, aColumns}
 use Rattle.run.proofs.FormLaws.{most-in}
-use Rattle.run.specs.Start.{format, kinded, planned, lying, apart, separate, RunStart, startRun, freshRun, noRun}
+use Rattle.run.specs.Start.{format, kindFits, planned, lying, apart, separate, RunStart, startRun, freshRun, noRun}
 use Rattle.asking.proofs.AskingLaws.{sews, factors, plan-small}
 
 -- ---- the numbers of a plan
 
 module _ (P : Plan) (ok : planned P ≡ true) where
-  numbers : Each (format (P .sew) (P .factor) ∷ leb (P .m) 1024 ∷ leb (P .k) 1024 ∷ leb (P .n) 1024 ∷ kinded P ∷ [])
+  numbers : Each (format (P .sew) (P .factor) ∷ leb (P .m) 1024 ∷ leb (P .k) 1024 ∷ leb (P .n) 1024 ∷ kindFits P ∷ [])
   unfolding planned
-  numbers = every-each (format (P .sew) (P .factor) ∷ leb (P .m) 1024 ∷ leb (P .k) 1024 ∷ leb (P .n) 1024 ∷ kinded P ∷ []) ok
+  numbers = every-each (format (P .sew) (P .factor) ∷ leb (P .m) 1024 ∷ leb (P .k) 1024 ∷ leb (P .n) 1024 ∷ kindFits P ∷ []) ok
 
   pub plan-sizes : (P .m ≤ 1024) × (P .k ≤ 1024) × (P .n ≤ 1024)
   plan-sizes = (leb-true (P .m) 1024 (numbers .1 .0), leb-true (P .k) 1024 (numbers .1 .1 .0), leb-true (P .n) 1024 (numbers .1 .1 .1 .0))

@@ -1,6 +1,6 @@
 -- Elements one stride apart: the address of the next by a wrapping add, and the columns of a tile as such elements.
-use mathlib.Core.Path.{_≡_, refl, sym, ap, _∙_}
-use mathlib.Core.Bool.{Bool, true, false}
+use mathlib.Core.Path.{_≡_, sym, ap, _∙_}
+use mathlib.Core.Bool.{true}
 use mathlib.Core.Logic.{_⊎_, inl, inr}
 use Prim.Native.Nat.{ℕ, zero, suc, _+_, _*_, _-_, _%_, _^_, _≤_, _<_}
 use native.Mathlib.Nat.{zero-mul, add-zero, mod-eq-of-lt, mul-le-mul-right}
@@ -10,7 +10,7 @@ use Rattle.width.proofs.BlockLaws.{le-or-lt}
 use Rattle.width.proofs.ReduceLaws.{shift}
 use Rattle.machine.specs.Memory.{rowZ, rowAt, address, inside}
 use Rattle.machine.proofs.TestLaws.{false-true}
-use Rattle.machine.proofs.MemoryLaws.{fits, fits-true, inside-true, inside-at, block-row, block-rowAt, block-inside, rowZ-up, rowZ-down, rowZ-below}
+use Rattle.machine.proofs.MemoryLaws.{fits-true, inside-true, inside-at, block-row, block-rowAt, block-inside, rowZ-up, rowZ-down, rowZ-below}
 use Rattle.element.specs.Element.{Width}
 
 pub width-some : (w : ℕ) → Width w → zero < w

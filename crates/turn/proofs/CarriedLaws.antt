@@ -40,7 +40,7 @@ use Rattle.run.specs.Words.{Op}
 use Rattle.run.specs.Plan.{Elements, integers, floats, elementsOf, narrow, wide, msew, typeOf, formOf, aRow, aColumn}
 use Rattle.run.specs.Places.{wordAt}
 use Rattle.run.specs.Encoding.{own, multiplyWord, handedFor, startOf, log}
-use Rattle.run.specs.Start.{format, kinded, planned}
+use Rattle.run.specs.Start.{format, kindFits, planned}
 use Rattle.run.specs.Turn.{soundRun, runShape, moved, Running, running, turn, TurnOutcome, turnOutcome, turns, TurnsOutcome}
 use Rattle.run.proofs.HandedLaws.{turnWith}
 use Rattle.run.proofs.NumberLaws.{multiplyOf}
@@ -50,7 +50,7 @@ use Rattle.turn.proofs.TurnLaws.{leaving, turn-zero, taking, turns-stop
 
 pub plan-format : (P : Plan) → planned P ≡ true → format (P .sew) (P .factor) ≡ true
 unfolding planned
-plan-format P h = every-each (format (P .sew) (P .factor) ∷ leb (P .m) 1024 ∷ leb (P .k) 1024 ∷ leb (P .n) 1024 ∷ kinded P ∷ []) h .0
+plan-format P h = every-each (format (P .sew) (P .factor) ∷ leb (P .m) 1024 ∷ leb (P .k) 1024 ∷ leb (P .n) 1024 ∷ kindFits P ∷ []) h .0
 
 pub plan-type : (P : Plan) → planned P ≡ true → typeOf P < 8192
 plan-type P h = type-small (ours nothing) P (plan-format P h) (stateOf nothing [] [])

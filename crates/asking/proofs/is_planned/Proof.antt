@@ -3,7 +3,7 @@ use mathlib.Core.Bool.{true}
 use mathlib.Core.List.{[], _∷_}
 use lib.Dec.{leb}
 use borrow.Author.Tests.{le-leb, lt-leb, not-true, not-false}
-use Rattle.run.specs.Start.{format, kinded, planned}
+use Rattle.run.specs.Start.{format, kindFits, planned}
 use Rattle.machine.proofs.TestLaws.{fails, last}
 use borrow.Author.Needs.{needs}
 use Rattle.asking.proofs.is_planned.Statement.{statement}
@@ -21,14 +21,14 @@ unfolding planned
 returns c =
     let P = c .before .before .args .plan in
     fails [] tt (format (P .sew) (P .factor)) (sym (c .before .is-format .ensures) ∙ not-true (c .before .is-format .result) (c .if1 .taken))
-    (leb (P .m) 1024 ∷ leb (P .k) 1024 ∷ leb (P .n) 1024 ∷ kinded P ∷ [])
+    (leb (P .m) 1024 ∷ leb (P .k) 1024 ∷ leb (P .n) 1024 ∷ kindFits P ∷ [])
 
 returns-2 : tie.Need-returns-2
 unfolding planned
 returns-2 c =
     let o = c .before .before in
     let P = o .before .before .args .plan in
-    fails (format (P .sew) (P .factor) ∷ []) (ok-1 o, tt) (leb (P .m) 1024) (lt-leb (P .m) 1024 (c .if2 .taken)) (leb (P .k) 1024 ∷ leb (P .n) 1024 ∷ kinded P ∷ [])
+    fails (format (P .sew) (P .factor) ∷ []) (ok-1 o, tt) (leb (P .m) 1024) (lt-leb (P .m) 1024 (c .if2 .taken)) (leb (P .k) 1024 ∷ leb (P .n) 1024 ∷ kindFits P ∷ [])
 
 returns-3 : tie.Need-returns-3
 unfolding planned
@@ -36,7 +36,7 @@ returns-3 c =
     let d = c .before .before in
     let o = d .before .before in
     let P = o .before .before .args .plan in
-    fails (format (P .sew) (P .factor) ∷ leb (P .m) 1024 ∷ []) (ok-1 o, (le-leb (P .m) 1024 (d .if2 .left), tt)) (leb (P .k) 1024) (lt-leb (P .k) 1024 (c .if3 .taken)) (leb (P .n) 1024 ∷ kinded P ∷ [])
+    fails (format (P .sew) (P .factor) ∷ leb (P .m) 1024 ∷ []) (ok-1 o, (le-leb (P .m) 1024 (d .if2 .left), tt)) (leb (P .k) 1024) (lt-leb (P .k) 1024 (c .if3 .taken)) (leb (P .n) 1024 ∷ kindFits P ∷ [])
 
 returns-4 : tie.Need-returns-4
 unfolding planned
@@ -46,10 +46,10 @@ returns-4 c =
     let o = d .before .before in
     let P = o .before .before .args .plan in
     fails (format (P .sew) (P .factor) ∷ leb (P .m) 1024 ∷ leb (P .k) 1024 ∷ []) (ok-1 o, (le-leb (P .m) 1024 (d .if2 .left), (le-leb (P .k) 1024 (e .if3 .left), tt)))
-    (leb (P .n) 1024) (lt-leb (P .n) 1024 (c .if4 .taken)) (kinded P ∷ [])
+    (leb (P .n) 1024) (lt-leb (P .n) 1024 (c .if4 .taken)) (kindFits P ∷ [])
 
-is-kinded-requires : tie.Need-is-kinded-requires
-is-kinded-requires c κs = search needs
+is-kind-fit-requires : tie.Need-is-kind-fit-requires
+is-kind-fit-requires c κs = search needs
 
 returns-5 : tie.Need-returns-5
 unfolding planned
@@ -59,8 +59,8 @@ returns-5 c =
     let d = e .before .before in
     let o = d .before .before in
     let P = o .before .before .args .plan in
-    c .is-kinded .ensures ∙ last (format (P .sew) (P .factor) ∷ leb (P .m) 1024 ∷ leb (P .k) 1024 ∷ leb (P .n) 1024 ∷ [])
-    (ok-1 o, (le-leb (P .m) 1024 (d .if2 .left), (le-leb (P .k) 1024 (e .if3 .left), (le-leb (P .n) 1024 (f .if4 .left), tt)))) (kinded P)
+    c .is-kind-fit .ensures ∙ last (format (P .sew) (P .factor) ∷ leb (P .m) 1024 ∷ leb (P .k) 1024 ∷ leb (P .n) 1024 ∷ [])
+    (ok-1 o, (le-leb (P .m) 1024 (d .if2 .left), (le-leb (P .k) 1024 (e .if3 .left), (le-leb (P .n) 1024 (f .if4 .left), tt)))) (kindFits P)
 
 pub is-planned-spec : {M : Type 1} → statement M
-is-planned-spec = tie.close (tie.spec is-format-requires returns returns-2 returns-3 returns-4 is-kinded-requires returns-5)
+is-planned-spec = tie.close (tie.spec is-format-requires returns returns-2 returns-3 returns-4 is-kind-fit-requires returns-5)

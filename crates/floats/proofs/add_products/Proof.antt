@@ -3,7 +3,7 @@ use mathlib.Core.Path.{ap, _∙_}
 use Prim.Native.Nat.{_+_, _-_, _≤_}
 use lib.ListN.{length}
 use Rattle.width.specs.Binary32.{valueOf}
-use Rattle.element.specs.Bounds.{mostWords}
+use Rattle.element.specs.Bounds.{mostFloats}
 use Rattle.floats.proofs.RowLaws.{Summed, sum-none, sum-next, sum-all}
 use borrow.Author.Needs.{needs}
 use Rattle.floats.proofs.add_products.Statement.{statement}
@@ -19,7 +19,7 @@ abbrev μ-loop : tie.MeasureT-loop
 fits : (c : tie.In-loop Inv-loop μ-loop) →
     let a = c .before .before .before .before .before .args in
     let l = c .before .loop in
-    (l .from + 4 ≤ length (a .s .now)) × (l .row + mostWords ≤ length (a .d .now))
+    (l .from + 4 ≤ length (a .s .now)) × (l .row + mostFloats ≤ length (a .d .now))
 fits c =
     let k = c .before .before .before .before .before in
     let l = c .before .loop in

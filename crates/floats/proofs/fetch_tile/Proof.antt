@@ -1,7 +1,7 @@
 use native.Mathlib.Omega.{arith}
 use Prim.Native.Nat.{_+_, _-_, _≤_}
 use lib.ListN.{length}
-use Rattle.element.specs.Bounds.{mostWords}
+use Rattle.element.specs.Bounds.{mostFloats}
 use Rattle.sums.proofs.LoopLaws.{row-fits}
 use Rattle.floats.proofs.RowLaws.{TileFetched, tile-none, tile-next}
 use borrow.Author.Needs.{needs}
@@ -18,7 +18,7 @@ abbrev μ-loop : tie.MeasureT-loop
 fits : (c : tie.In-loop Inv-loop μ-loop) →
     let a = c .before .before .before .before .args in
     let l = c .before .loop in
-    (l .row + a .pitch ≤ length (a .s .now)) × (l .to + mostWords ≤ length (a .d .now))
+    (l .row + a .pitch ≤ length (a .s .now)) × (l .to + mostFloats ≤ length (a .d .now))
 fits c =
     let k = c .before .before .before .before in
     let l = c .before .loop in

@@ -1,6 +1,6 @@
 use native.Mathlib.Omega.{arith}
 use Prim.Native.Nat.{_-_}
-use Rattle.element.specs.Bounds.{mostWords}
+use Rattle.element.specs.Bounds.{mostFloats}
 use Rattle.floats.proofs.RowLaws.{Added, add-none, add-next}
 use borrow.Author.Needs.{needs}
 use Rattle.floats.proofs.mac_row.Statement.{statement}
@@ -10,7 +10,7 @@ abbrev Inv-loop : tie.InvT-loop
 Inv-loop sums₀ d at x j₀ sums j = Added sums₀ d at x sums j
 
 abbrev μ-loop : tie.MeasureT-loop
-μ-loop sums₀ d at x j₀ sums j = mostWords - j
+μ-loop sums₀ d at x j₀ sums j = mostFloats - j
 
 loop-again : tie.Need-loop-again Inv-loop μ-loop
 loop-again c =

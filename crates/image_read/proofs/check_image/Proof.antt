@@ -1,5 +1,5 @@
 -- `image_read::check_image` meets its contract.
-use mathlib.Core.Path.{_≡_, subst}
+use mathlib.Core.Path.{subst}
 use native.Mathlib.Omega.{arith}
 use borrow.Author.Needs.{needs}
 use Rattle.image_read.specs.Parts.{HeadedOk, HeadOk}

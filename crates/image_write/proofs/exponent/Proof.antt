@@ -1,6 +1,6 @@
 -- `image_write::exponent` meets its contract. The invariant: the halvings done and those left are all.
-use mathlib.Core.Path.{_≡_, refl, sym, _∙_}
-use Prim.Native.Nat.{ℕ, _+_, _-_, _^_, _≤_, _<_}
+use mathlib.Core.Path.{_≡_, _∙_}
+use Prim.Native.Nat.{_+_, _-_, _^_, _≤_, _<_}
 use native.Mathlib.Omega.{arith}
 use Rattle.image.specs.Images.{halvings}
 use Rattle.image_write.proofs.ExponentLaws.{halved-none, more-left, halved-small, halved-more}

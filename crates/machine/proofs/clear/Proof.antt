@@ -9,8 +9,6 @@ use lib.Seq.{getD-set-same, getD-set-other}
 use borrow.Author.Needs.{needs}
 use Rattle.machine.proofs.clear.Statement.{statement}
 use Rattle.machine.proofs.clear.Tie as tie
-use Rattle.machine.proofs.clear.Reads as reads
-use Rattle.machine.proofs.clear.Lts as lts
 
 abbrev Inv-loop : tie.InvT-loop
 Inv-loop marks₀ i₀ marks i = (length marks ≡ length marks₀) × (i ≤ length marks₀) × ((q : ℕ) → q < i → getD marks q 0 ≡ 0)

@@ -7,10 +7,6 @@ use Rattle.machine.specs.Geometry.{rlens, mlens}
 use Rattle.machine.specs.Tests.{isIn}
 use Rattle.machine.proofs.permitted_lengths.Statement.{statement}
 use Rattle.machine.proofs.permitted_lengths.Tie as tie
-use Rattle.machine.proofs.permitted_lengths.Reads as reads
-use Rattle.machine.proofs.permitted_lengths.Lts as lts
-use Rattle.machine.proofs.is_mlen.Reads as is-mlen-reads
-use Rattle.machine.proofs.is_rlen.Reads as is-rlen-reads
 
 is-rlen-requires : tie.Need-is-rlen-requires
 is-rlen-requires c κs = search needs

@@ -1,19 +1,14 @@
 -- `reader::number_at` meets its contract. The invariant: what the rest of the read finds behind the groups passed is what the whole finds.
-use mathlib.Core.Path.{_≡_, refl, sym, ap, _∙_, subst}
-use Prim.Native.Nat.{ℕ, _+_, _-_, _*_, _/_, _≤_, _<_, max}
+use mathlib.Core.Path.{_≡_, sym, _∙_}
+use Prim.Native.Nat.{_+_, _-_, _*_, _≤_, _<_}
 use native.Mathlib.Nat.{mul-le-mul-left}
 use native.Mathlib.Omega.{arith}
 use borrow.Author.Needs.{needs}
-use lib.ListN.{length, getD}
+use lib.ListN.{length}
 use Rattle.reader.specs.At.{numberAt}
 use Rattle.reader.proofs.AtLaws.{rest, rest-first, rest-end, turn-low, turn-high, turn-last, turn-none, turn-more, bound-more}
 use Rattle.reader.proofs.number_at.Statement.{statement}
 use Rattle.reader.proofs.number_at.Tie as tie
-use Rattle.reader.proofs.number_at.Reads as reads
-use Rattle.reader.proofs.number_at.Lts as lts
-use Rattle.reader.proofs.least_after.Reads as least-after-reads
-use Rattle.reader.proofs.most_after.Reads as most-after-reads
-use Rattle.reader.proofs.wide.Reads as wide-reads
 
 abbrev Inv-loop : tie.InvT-loop
 Inv-loop s at low high i₀ lo₀ hi₀ value₀ unit₀ i lo hi value unit =

@@ -1,16 +1,13 @@
 -- `reader::put_number` meets its contract. The invariant: what is still to be put makes of the room what the whole makes.
-use mathlib.Core.Path.{_≡_, refl, sym, ap, _∙_}
-use Prim.Native.Nat.{ℕ, _+_, _%_, _≤_}
+use mathlib.Core.Path.{_≡_, refl, sym, _∙_}
+use Prim.Native.Nat.{_+_, _%_}
 use native.Mathlib.Omega.{arith}
-use borrow.Author.Needs.{needs}
 use lib.ListN.{length, length-set}
 use lib.Seq.{sets}
 use Rattle.format.specs.Numbers.{encode}
 use Rattle.reader.proofs.PutLaws.{put-last, put-more, length-last, length-more}
 use Rattle.reader.proofs.put_number.Statement.{statement}
 use Rattle.reader.proofs.put_number.Tie as tie
-use Rattle.reader.proofs.put_number.Reads as reads
-use Rattle.reader.proofs.put_number.Lts as lts
 
 abbrev Inv-loop : tie.InvT-loop
 Inv-loop room₀ at n x₀ i₀ room x i =

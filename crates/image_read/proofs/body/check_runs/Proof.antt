@@ -1,11 +1,11 @@
 -- `image_read::body::check_runs` meets its contract. The invariant: the verdict on what is left is the verdict on the whole.
-use mathlib.Core.Path.{_≡_, refl, sym, ap, _∙_, subst}
-use Prim.Native.Nat.{ℕ, suc, _+_, _-_, _*_, _^_, _≤_, _<_}
+use mathlib.Core.Path.{_≡_, refl, sym, _∙_}
+use Prim.Native.Nat.{ℕ, _+_, _-_, _*_, _^_, _≤_, _<_}
 use native.Mathlib.Omega.{arith}
 use borrow.Author.Needs.{needs}
 use lib.ListN.{length}
 use Rattle.reader.specs.At.{numberAt}
-use Rattle.reader.proofs.FromLaws.{took, Took}
+use Rattle.reader.proofs.FromLaws.{took}
 use Rattle.reader.specs.declared.Number.the-variants.{Value}
 use Rattle.image_read.specs.Parts.{runsVerdict}
 use Rattle.image_read.proofs.RunsLaws.{runs-end, runs-trail, gap-wrong, length-wrong, bytes-short, run-next}

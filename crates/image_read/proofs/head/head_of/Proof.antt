@@ -1,6 +1,5 @@
 -- `image_read::head::head_of` meets its contract: the parts put together.
-use mathlib.Core.Path.{_≡_, subst}
-use Prim.Native.Nat.{ℕ}
+use mathlib.Core.Path.{subst}
 use native.Mathlib.Omega.{arith}
 use borrow.Author.Needs.{needs}
 use Rattle.image_read.specs.Parts.{ShapedOk, ShapeOk, TiledOk, TilesOk, TailedOk, TailOk}

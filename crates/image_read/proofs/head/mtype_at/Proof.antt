@@ -1,5 +1,5 @@
 -- `image_read::head::mtype_at` meets its contract.
-use mathlib.Core.Path.{sym, _∙_}
+use mathlib.Core.Path.{_∙_}
 use mathlib.Core.Logic.{inl, inr}
 use native.Mathlib.Omega.{arith}
 use Rattle.image_read.proofs.HeadLaws.{mtype-value, mtype-none, mtype-wide, mtype-odd, mtype-end}

@@ -1,6 +1,5 @@
 -- `image_read::head::tail_at` meets its contract.
 use mathlib.Core.Path.{sym, _∙_}
-use native.Mathlib.Omega.{arith}
 use Rattle.image_read.proofs.HeadLaws.{start-bad, long-bad, count-bad, tailed}
 use borrow.Author.Needs.{needs}
 use Rattle.image_read.proofs.head.tail_at.Statement.{statement}

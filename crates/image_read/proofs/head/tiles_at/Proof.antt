@@ -1,6 +1,5 @@
 -- `image_read::head::tiles_at` meets its contract.
 use mathlib.Core.Path.{sym, _∙_}
-use native.Mathlib.Omega.{arith}
 use Rattle.image_read.proofs.HeadLaws.{mtype-bad, m-bad, k-bad, n-bad, tiled}
 use borrow.Author.Needs.{needs}
 use Rattle.image_read.proofs.head.tiles_at.Statement.{statement}

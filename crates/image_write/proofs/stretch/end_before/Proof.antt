@@ -1,6 +1,5 @@
 -- `image_write::stretch::end_before` meets its contract.
-use mathlib.Core.Path.{_≡_}
-use Prim.Native.Nat.{ℕ, _-_, _≤_}
+use Prim.Native.Nat.{_-_, _≤_}
 use native.Mathlib.Omega.{arith}
 use Rattle.image_write.proofs.StretchLaws.{AllSame, one-more}
 use Rattle.image_write.proofs.stretch.end_before.Statement.{statement}

@@ -8,12 +8,12 @@ use mathlib.Core.List.{[], _∷_}
 use Rattle.machine.specs.Answers.{Check, verdict, isDone}
 use Rattle.machine.specs.Operation.{times}
 use Rattle.machine.specs.Setting.{sew}
-use Rattle.machine.specs.Refusals.{needs as marked-check}
 use Rattle.machine.specs.Geometry.{accAt}
 use Rattle.operations.specs.Parts.{elementwiseChecks, accumulatorCheck}
 use Rattle.operations.proofs.ArithmeticLaws.{source-fits}
 use Rattle.operations.proofs.CheckLaws.{type-legal-elementwise, part-refused, part-passed}
 use borrow.Author.Needs.{needs}
+use Rattle.machine.specs.Refusals.{needs as marked-check}
 use Rattle.operations.proofs.reckoning.check_scale.Statement.{statement}
 use Rattle.operations.proofs.reckoning.check_scale.Tie as tie
 

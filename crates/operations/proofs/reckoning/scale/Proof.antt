@@ -13,13 +13,13 @@ use Rattle.machine.specs.Setting.{sew}
 use Rattle.machine.proofs.NoFault.{sound-is}
 use Rattle.machine.proofs.StepLaws.{permitted-bounds}
 use Rattle.operations.specs.Parts.{elementwiseChecks, scaleChecks}
-use Rattle.machine.specs.Refusals.{needs as marked-check}
 use Rattle.machine.specs.Geometry.{accAt}
 use Rattle.operations.proofs.ArithmeticLaws.{elementwise-fits}
 use Rattle.operations.proofs.CheckLaws.{type-legal-elementwise, part-done}
 use Rattle.operations.proofs.EffectLaws.{marks-ready, scale-refused, scale-asks, scale-loads}
 use Rattle.settings.proofs.FaultLaws.{ready}
 use borrow.Author.Needs.{needs}
+use Rattle.machine.specs.Refusals.{needs as marked-check}
 use Rattle.operations.proofs.reckoning.scale.Statement.{statement}
 use Rattle.operations.proofs.reckoning.scale.Tie as tie
 

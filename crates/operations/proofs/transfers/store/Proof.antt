@@ -1,8 +1,7 @@
-use mathlib.Core.Path.{_≡_, refl, sym, ap, _∙_}
+use mathlib.Core.Path.{_≡_, sym, ap, _∙_}
 use mathlib.Core.Bool.{true}
 use Prim.Native.Nat.{_-_}
 use borrow.Author.Tests.{not-true, not-false}
-use Rattle.settings.specs.Parts.{ours}
 use Rattle.machine.specs.Answers.{verdict, isDone}
 use Rattle.operations.specs.Parts.{transferChecks}
 use Rattle.settings.proofs.FaultLaws.{ready}
