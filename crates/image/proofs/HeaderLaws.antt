@@ -18,7 +18,7 @@ use Rattle.machine.specs.Setting.{sew, maccq, legalType, newType}
 use Rattle.machine.specs.Faults.{sound}
 use Rattle.machine.proofs.TestLaws.{every-each, each, each-in, or-not, all-at}
 use Rattle.machine.proofs.NoFault.{Sound, sound-is, sound-true}
-use Rattle.image.specs.Images.{halvings, exponent, Header, headerOf, machineFrom}
+use Rattle.image.specs.Images.{log2, exponent, Header, headerOf, machineFrom}
 use Rattle.image.specs.ImageFormat.{mtypes, total}
 use Rattle.image.proofs.ImageLaws.{Held}
 
@@ -52,7 +52,7 @@ powers-by rlen mlen r m h =
 
 -- permitted lengths have exponents
 pub permitted-powers : (rlen mlen : ℕ) → permitted rlen mlen ≡ true → Powers rlen mlen (exponent rlen) (exponent mlen)
-unfolding permitted halvings
+unfolding permitted log2
 permitted-powers rlen mlen h =
     let t = every-each (isIn rlen rlens ∷ isIn mlen mlens ∷ ltb rlen mlen ∷ []) h in
     let good : ℕ → ℕ → Bool = λ r m. not (ltb r m) || every (tests r m (exponent r) (exponent m)) in
@@ -71,7 +71,7 @@ pub record Lengths (r m : ℕ) : Type 0 where
   pub columns-are : 2 ^ (r - 3) ≡ 2 ^ r / 8
 
 pub powers-permitted : (r m : ℕ) → 6 ≤ r → r ≤ 9 → m ≤ 12 → r < m → Lengths r m
-unfolding permitted halvings
+unfolding permitted log2
 powers-permitted r m low high most apart =
     let good : ℕ → ℕ → Bool = λ r m. not (leb 6 r && ltb r m) || every (lengths r m) in
     let p : good r m ≡ true = all-at 13 (good r) (all-at 10 (λ r. all 13 (good r)) refl r (omega arith)) m (omega arith) in

@@ -87,10 +87,6 @@ length-spread least n (run g b ∷ rs) h =
     ∙ ap₂ _+_ (length-replicate g none) (length-append (map some b) (spread m rs) ∙ ap₂ _+_ (length-map b some) (length-spread 1 m rs (h .1)))
     ∙ omega (arith, h .0)
 
--- cells of one number with the same runs are the same
-pub runs-one : (cs ds : List Cell) → length cs ≡ length ds → runs cs ≡ runs ds → cs ≡ ds
-runs-one cs ds n e = sym (spread-runs cs) ∙ ap₂ spread n e ∙ spread-runs ds
-
 -- k runs with a gap of one each take two cells each
 pub fit-many : (n : ℕ) (rs : List Run) → Fit 1 n rs → 2 * length rs ≤ n
 fit-many n [] h = omega arith

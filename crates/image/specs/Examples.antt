@@ -7,7 +7,7 @@ use Rattle.format.specs.Numbers.{groups, encode}
 use Rattle.format.specs.Parser.{isAmong, nonempty, readNumber, parse}
 use Rattle.image.specs.Cells.{cellsOf, Run, runs}
 use Rattle.image.specs.Cells.Run.{run}
-use Rattle.image.specs.Images.{halvings, headerOf, spelled}
+use Rattle.image.specs.Images.{log2, headerOf, spelled}
 use Rattle.image.specs.declared.Imaged.{Imaged}
 use Rattle.image.specs.declared.Imaged.the-variants.{Done, Damaged}
 use Rattle.image.specs.ImageFormat.{runsFormat, imageFormat}
@@ -24,12 +24,12 @@ sevenRuns = refl
 -- seal, number of runs, and the runs
 image : spelled (headerOf (freshMachine 64 256 0 5 300)) (run 1 (11 ∷ 12 ∷ []) ∷ run 2 (15 ∷ []) ∷ [])
     ≡ 1 ∷ 6 ∷ 8 ∷ 0 ∷ 0 ∷ 0 ∷ 0 ∷ 5 ∷ 172 ∷ 2 ∷ 2 ∷ 1 ∷ 2 ∷ 11 ∷ 12 ∷ 2 ∷ 1 ∷ 15 ∷ []
-unfolding groups encode halvings
+unfolding groups encode log2
 image = refl
 
 -- of a halving machine: version 2 and the rule, then the same
 halvingImage : spelled (headerOf (freshMachine 64 256 1 5 300)) [] ≡ 2 ∷ 1 ∷ 6 ∷ 8 ∷ 0 ∷ 0 ∷ 0 ∷ 0 ∷ 5 ∷ 172 ∷ 2 ∷ 0 ∷ []
-unfolding groups encode halvings
+unfolding groups encode log2
 halvingImage = refl
 
 -- the numbers of a fresh machine of RLEN 64 and MLEN 128, 256 register bytes, before what follows

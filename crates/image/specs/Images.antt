@@ -14,12 +14,12 @@ use Rattle.image.specs.Cells.Run.{run}
 -- ---- the numbers
 
 -- how often n can be halved before it is 1: the exponent of a power of two
-unfoldable pub halvings : (most n : ℕ) → ℕ
-halvings zero n = 0
-halvings (suc f) n = cond (ltb n 2) 0 (suc (halvings f (n / 2)))
+unfoldable pub log2 : (most n : ℕ) → ℕ
+log2 zero n = 0
+log2 (suc f) n = cond (ltb n 2) 0 (suc (log2 f (n / 2)))
 
 abbrev pub exponent : ℕ → ℕ
-exponent n = halvings 64 n
+exponent n = log2 64 n
 
 -- a machine's numbers as an image has them: "the exponents of RLEN and MLEN, mtype, tile_m, tile_k, tile_n, seal start and length", and, 02,
 -- Eight, the rule

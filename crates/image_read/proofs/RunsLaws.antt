@@ -88,10 +88,6 @@ pub runs-with : (h : Header) (l least room : ℕ) (s : List ℕ) (at : ℕ)
 unfolding runsFrom
 runs-with h l least room s at = from-maps (λ d. describe h (d .body)) (describe noHeader) l least room s at
 
-pub verdict-with : (h : Header) (l least room : ℕ) (s : List ℕ) (at : ℕ) → verdictOf (from (runsFormat (describe h) l least room) s at) ≡ runsVerdict s at l least room
-unfolding runsVerdict
-verdict-with h l least room s at = ap verdictOf (runs-with h l least room s at) ∙ verdict-mapped (λ d. describe h (d .body)) (runsFrom s at l least room)
-
 pub damaged-done : (p : ℕ) → Damaged p ≡ Done → ⊥
 damaged-done p e = let z : _≡_ {A = ℕ} 0 1 = cc in absurd (omega arith)
 

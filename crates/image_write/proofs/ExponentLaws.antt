@@ -4,10 +4,10 @@ use Prim.Native.Nat.{ℕ, zero, suc, _+_, _-_, _*_, _/_, _^_, _≤_, _<_}
 use native.Mathlib.Nat.{pow-suc}
 use native.Mathlib.Omega.{arith}
 use borrow.Author.Tests.{lt-ltb, le-ltb}
-use Rattle.image.specs.Images.{halvings}
+use Rattle.image.specs.Images.{log2}
 
-pub halved-none : (f x : ℕ) → x < 2 → halvings f x ≡ 0
-unfolding halvings
+pub halved-none : (f x : ℕ) → x < 2 → log2 f x ≡ 0
+unfolding log2
 halved-none zero x h = refl
 halved-none (suc f) x h = rw (lt-ltb x 2 h)
 
@@ -31,8 +31,8 @@ module _ (e x : ℕ) (least : e ≤ 64) (small : x < 2 ^ (64 - e)) (two : 2 ≤ 
       let w : x < 2 ^ (64 - (e + 1)) * 2 = subst (λ (y : ℕ). x < y) (ap (λ (y : ℕ). 2 ^ y) fuel ∙ pow-suc 2 (64 - (e + 1))) small in
       omega arith
 
-  pub halved-more : (e + 1) + halvings (64 - (e + 1)) (x / 2) ≡ e + halvings (64 - e) x
-  unfolding halvings
+  pub halved-more : (e + 1) + log2 (64 - (e + 1)) (x / 2) ≡ e + log2 (64 - e) x
+  unfolding log2
   halved-more =
-      let s : halvings (64 - e) x ≡ suc (halvings (64 - (e + 1)) (x / 2)) = ap (λ (y : ℕ). halvings y x) fuel ∙ rw (le-ltb x 2 two, halvings) in
+      let s : log2 (64 - e) x ≡ suc (log2 (64 - (e + 1)) (x / 2)) = ap (λ (y : ℕ). log2 y x) fuel ∙ rw (le-ltb x 2 two, log2) in
       omega (arith, s)

@@ -2,13 +2,13 @@
 use mathlib.Core.Path.{_≡_, _∙_}
 use Prim.Native.Nat.{_+_, _-_, _^_, _≤_, _<_}
 use native.Mathlib.Omega.{arith}
-use Rattle.image.specs.Images.{halvings}
+use Rattle.image.specs.Images.{log2}
 use Rattle.image_write.proofs.ExponentLaws.{halved-none, more-left, halved-small, halved-more}
 use Rattle.image_write.proofs.exponent.Statement.{statement}
 use Rattle.image_write.proofs.exponent.Tie as tie
 
 abbrev Inv-loop : tie.InvT-loop
-Inv-loop n x₀ e₀ x e = (e ≤ 64) × (x < 2 ^ (64 - e)) × (e + halvings (64 - e) x ≡ halvings 64 n)
+Inv-loop n x₀ e₀ x e = (e ≤ 64) × (x < 2 ^ (64 - e)) × (e + log2 (64 - e) x ≡ log2 64 n)
 
 abbrev μ-loop : tie.MeasureT-loop
 μ-loop n x₀ e₀ x e = x
