@@ -83,7 +83,7 @@ fn sheet_lines(rule: u64) -> Vec<(&'static str, bool)> {
 
 /// Steps done, and C, for A and B at SEW 8.
 fn product(rule: u64, plan: &Plan, a: &[i8], b: &[i8]) -> (u64, Vec<i128>) {
-    let mut lent = started_by(rule, 4096);
+    let mut lent = started_by(rule, 8192);
     for (address, values) in [(plan.a, a), (plan.b, b)] {
         for (at, &value) in (address as usize..).zip(values) {
             lent.memory[at] = value as u8;
@@ -113,10 +113,16 @@ fn run_lines(rule: u64) -> Vec<(&'static str, bool)> {
     lines.push(("m = 0", steps(8, [0, 8, 14]) == 1));
     lines.push(("k = 0", product(&plan(8, 1, [1, 0, 1]), &[], &[]) == (5, vec![0])));
 
-    let mut lent = started_by(rule, 16384);
-    let mut run = vec![0; library::RUN_BYTES];
-    let mut start = |m| library_run_start(&plan(8, 1, [m, 1, 1]), &mut lent, &mut run);
-    lines.push(("size 1,024", start(1024) == 0 && start(1025) == 8));
+    // each of m, k and n, the other two 1; A and B of ones
+    for (at, count) in [2049, 1029, 898].into_iter().enumerate() {
+        let sized = |size| std::array::from_fn(|size_at| if size_at == at { size } else { 1 });
+        let [m, k, n] = sized(1024);
+        let ran = product(&plan(8, 4, [m, k, n]), &vec![1; (m * k) as usize], &vec![1; (k * n) as usize]);
+        lines.push(("size 1,024", ran == (count, vec![i128::from(k); (m * n) as usize])));
+        let mut run = vec![0; library::RUN_BYTES];
+        let start = library_run_start(&plan(8, 4, sized(1025)), &mut started_by(rule, 8192), &mut run);
+        lines.push(("size 1,025", start == 8));
+    }
 
     let (done, c) = product(&plan(8, 4, [2, 3, 2]), &[1, 2, 3, -4, 5, -6], &[7, 8, 9, 10, 11, 12]);
     lines.push(("the product example", done == 9 && c == [58, 64, -49, -54]));

@@ -10,7 +10,7 @@ use lib.Dec.{leb, ltb, eqb}
 use lib.ListN.{length}
 use lib.IntN.{ℤ}
 use borrow.Author.Tests.{leb-true, eqb-true}
-use Rattle.element.specs.Bounds.{mostPitch, mostColumns, mostSize, mostTerms}
+use Rattle.width.specs.Bounds.{mostPitch, mostColumns, mostSize, mostTerms}
 use Rattle.element.specs.Element.{Width}
 use Rattle.machine.specs.declared.Machine.{Machine}
 use Rattle.machine.specs.declared.Sum.{Sum}

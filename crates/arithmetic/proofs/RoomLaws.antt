@@ -5,7 +5,7 @@ use mathlib.Core.Logic.{inl, inr}
 use native.Mathlib.Nat.{mul-le-mul-right}
 use native.Mathlib.Omega.{arith}
 use Rattle.machine.specs.Geometry.{accAt}
-use Rattle.element.specs.Bounds.{mostPitch, mostColumns, mostSize, mostTerms}
+use Rattle.width.specs.Bounds.{mostPitch, mostColumns, mostSize, mostTerms}
 use Rattle.element.specs.Element.{Width}
 use Rattle.element.proofs.Laws.{width-small}
 use Rattle.arithmetic.specs.Effect.{shape}

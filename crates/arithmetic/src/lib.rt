@@ -11,7 +11,7 @@ ghost use lib.IntN.{ℤ};
 ghost use lib.ListN.{length};
 ghost use Rattle.width.specs.Reduce.{reduce};
 ghost use Rattle.width.specs.Tile.{putTile};
-ghost use Rattle.element.specs.Bounds.{mostPitch, mostColumns, mostSize, mostTerms};
+ghost use Rattle.width.specs.Bounds.{mostPitch, mostColumns, mostSize, mostTerms};
 ghost use Rattle.element.specs.Element.{Width};
 ghost use Rattle.arithmetic.specs.Effect.{shape, productTile, combineTile, scaleTile};
 ghost use Rattle.sums.specs.Rows.{productRow};

@@ -1,2 +1,1 @@
 pub mod Element
-pub mod Bounds

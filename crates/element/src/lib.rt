@@ -7,7 +7,7 @@ ghost use Rattle.width.specs.Tile.{le, putLe};
 ghost use Rattle.width.specs.Reduce.{reduce, signed};
 ghost use Rattle.element.specs.Element.{Width, Narrow};
 
-// The columns of the largest tile (specs/Bounds.antt: mostColumns).
+// The columns of the largest tile (width/specs/Bounds.antt: mostColumns).
 pub const COLUMNS: usize = 64;
 
 // The terms of the longest product (mostTerms).

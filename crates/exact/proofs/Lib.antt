@@ -1,3 +1,3 @@
--- WholeNumbers numbers as binary32, and the theorem.
+-- Whole numbers as binary32, and the theorems.
 pub mod WholeLaws
 pub mod Exact

@@ -1,5 +1,5 @@
 -- 02, Four: "where all elements are whole numbers and all products and partial sums lie between -2^24 and 2^24, each entry is exactly the
--- whole-number sum". The proof stands in proofs/.
+-- whole-number sum". The proofs stand in proofs/.
 use mathlib.Core.Path.{_≡_}
 use mathlib.Core.Bool.{Bool, cond}
 use Prim.Native.Nat.{ℕ, _*_, _^_, _≤_, _<_}
@@ -9,6 +9,7 @@ use Rattle.width.specs.Reduce.{sumℤ}
 use Rattle.width.specs.Binary32.{valueOf, settled}
 use Rattle.width.specs.Blocks.{EachGrants}
 use Rattle.machine.specs.Geometry.{Bench}
+use Rattle.machine.specs.Setting.{chosen}
 use Rattle.machine.specs.Operation.{element}
 use Rattle.run.specs.declared.Plan.{Plan}
 use Rattle.run.specs.Words.{steps}
@@ -16,6 +17,7 @@ use Rattle.run.specs.Plan.{shape, wide, cAt, aOf, bOf}
 use Rattle.run.specs.Start.{startRun}
 use Rattle.run.specs.Turn.{afterTurns}
 use Rattle.run.specs.Statement.{Bytes, jobOf, startedRun}
+use Rattle.run.specs.Whole.{WholeOutcome, Delivers}
 
 -- ---- whole numbers
 
@@ -46,7 +48,7 @@ pub record Exactly (bits : ℕ) (z : ℤ) : Type 0 where
   pub value-is : Is (valueOf bits) z
   pub bits-are : bits ≡ settled (ofInt binary32 z)
 
--- ---- the theorem
+-- ---- the theorems
 
 -- of every choice of sizes under the three constraints, every plan of kind 2 and every bench on which its start is accepted: after all
 -- turns and each later one, the entry C(i, j) is exactly the sum of the products of A's row i and B's column j, where these are whole
@@ -56,3 +58,10 @@ FloatRunsAreExact = (grant : ℕ → ℕ → ℕ → ℕ) → EachGrants grant �
     → (t i j : ℕ) → steps (shape (jobOf grant P B)) ≤ t → i < P .m → j < P .n
     → (x y : ℕ → ℤ) → WholeNumbers (P .k) (λ l. aOf (jobOf grant P B) i l) (λ l. bOf (jobOf grant P B) l j) x y
     → Exactly (element (afterTurns grant (startedRun grant P B) t .bench .memory) (cAt P) (wide P) i j) (sumℤ (P .k) (λ l. x l *ℤ y l))
+
+-- and so of what a whole float run delivers to a customer: the contract of `whole::whole` is this `Delivers`, for every plan and bench
+abbrev pub WholeRunsAreExact : Type 0
+WholeRunsAreExact = (P : Plan) (B : Bench) (o : WholeOutcome) → Delivers P B o → P .kind ≡ 2 → o .answer .number ≡ 0
+    → (i j : ℕ) → i < P .m → j < P .n
+    → (x y : ℕ → ℤ) → WholeNumbers (P .k) (λ l. aOf (jobOf chosen P B) i l) (λ l. bOf (jobOf chosen P B) l j) x y
+    → Exactly (element (o .bench .memory) (cAt P) (wide P) i j) (sumℤ (P .k) (λ l. x l *ℤ y l))

@@ -13,7 +13,7 @@ use Rattle.width.specs.Tile.{putRow}
 use Rattle.width.specs.Binary32.{settled, multiplyAdd, floatSum, floatProduct}
 use Rattle.width.proofs.ElementLaws.{putRow-cong}
 use Rattle.width.proofs.Binary32Laws.{sum-cong}
-use Rattle.element.specs.Bounds.{mostFloats}
+use Rattle.width.specs.Bounds.{mostFloats}
 use Rattle.sums.proofs.LoopLaws.{next-row, set-below, set-above}
 use Rattle.floats.specs.Rows.{floatAt, floatRow}
 

@@ -7,11 +7,11 @@ ghost use lib.ListN.{length, getD};
 ghost use lib.Ieee.{nan};
 ghost use Rattle.width.specs.Tile.{putRow, putTile};
 ghost use Rattle.width.specs.Binary32.{settled, multiplyAdd, floatSum};
-ghost use Rattle.element.specs.Bounds.{mostPitch, mostFloats, mostSize, mostTerms};
+ghost use Rattle.width.specs.Bounds.{mostPitch, mostFloats, mostSize, mostTerms};
 ghost use Rattle.arithmetic.specs.Effect.{shape};
 ghost use Rattle.floats.specs.Rows.{floatAt, floatRow, floatTile};
 
-// The columns of the largest tile (element/specs/Bounds.antt: mostFloats).
+// The columns of the largest tile (width/specs/Bounds.antt: mostFloats).
 const FLOATS: usize = element::COLUMNS / 4;
 
 // The values of the largest tile of B.

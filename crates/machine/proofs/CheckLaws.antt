@@ -8,11 +8,11 @@ use native.Mathlib.Omega.{arith}
 use lib.ListN.{getD}
 use lib.Dec.{eqb}
 use borrow.Author.Tests.{eq-eqb, ne-eqb}
-use Rattle.machine.specs.declared.Answer.the-variants.{Done, Unwritten}
+use Rattle.machine.specs.declared.Answer.the-variants.{Done}
 use Rattle.machine.specs.Tests.{all}
 use Rattle.machine.proofs.TestLaws.{and-left, and-right, all-true, all-false, first-is, false-true}
 use Rattle.machine.specs.Answers.{Check, verdict, isDone}
-use Rattle.machine.specs.Refusals.{marked, needs, firstRow, firstColumn}
+use Rattle.machine.specs.Refusals.{marked, firstRow, firstColumn}
 
 -- each check passed
 abbrev pub Passed : List Check → Type 0
@@ -70,11 +70,3 @@ module _ (ms : List ℕ) (at : ℕ → ℕ) (rows cols w i j b : ℕ) (i<rows : 
       first-is cols (λ k. not (all w (λ c. eqb (getD ms (at i + k * w + c) 0) 1))) j j<cols
       (rw (all-false w (λ c. eqb (getD ms (at i + j * w + c) 0) 1) b b<w (ne-eqb (getD ms (at i + j * w + b) 0) 1 here)))
       (λ k l. rw (all-true w (λ c. eqb (getD ms (at i + k * w + c) 0) 1) (λ c l′. eq-eqb (getD ms (at i + k * w + c) 0) 1 (columns-before k c l l′))))
-
-  -- the check fails, and its answer names the element
-  pub needs-fails : needs false ms at rows cols w .holds ≡ false
-  unfolding marked
-  needs-fails = all-false rows (λ k. all (cols * w) (mark k)) i i<rows row-fails
-
-  pub needs-answers : needs false ms at rows cols w .answer ≡ Unwritten i j
-  needs-answers = rw (first-row-is, first-column-is)

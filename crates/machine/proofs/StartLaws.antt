@@ -6,7 +6,7 @@ use Prim.Native.Nat.{ℕ, _+_, _*_, _-_, _^_, _≤_}
 use lib.ListN.{length, replicate}
 use native.Mathlib.Omega.{arith}
 use borrow.Author.Tests.{le-leb, leb-true}
-use Rattle.machine.proofs.TestLaws.{same-test, and-true, and-left}
+use Rattle.machine.proofs.TestLaws.{same-test}
 use Rattle.machine.specs.declared.Answer.the-variants.{Done, BadArguments}
 use lib.Dec.{leb, ltb, eqb}
 use Rattle.machine.specs.Answers.{reply}
@@ -14,21 +14,21 @@ use Rattle.machine.specs.Tests.{isIn, every}
 use Rattle.machine.specs.Geometry.{permitted, rlens, mlens}
 use Rattle.machine.specs.Starting.{isRule, sealEnds, startable, startMachine, StartOutcome, freshMachine, noMachine}
 
+pub and-truth : (t : Bool) → t ≡ t && true
+and-truth true = refl
+and-truth false = refl
+
 pub permitted-by : (r m : ℕ) (a b : Bool) → isIn r rlens ≡ a → isIn m mlens ≡ b → a && (b && ltb r m) ≡ permitted r m
 unfolding permitted
 permitted-by r m true true p q = rw (p, q) (and-truth (ltb r m))
-  where
-    and-truth : (t : Bool) → t ≡ t && true
-    and-truth true = refl
-    and-truth false = refl
 permitted-by r m true false p q = rw (p, q)
 permitted-by r m false b p q = rw p
 
 -- the seal's end, without a sum that could wrap
-pub seal-fits : (start size : ℕ) → start ≤ 2 ^ 64 - 1 → leb size (2 ^ 64 - 1 - start) ≡ sealEnds start size && true
-seal-fits start size h = same-test (leb size (2 ^ 64 - 1 - start)) (sealEnds start size && true)
-    (λ t. and-true (sealEnds start size) true (le-leb (start + size) (2 ^ 64 - 1) (omega (arith, leb-true size (2 ^ 64 - 1 - start) t))) refl)
-    (λ t. le-leb size (2 ^ 64 - 1 - start) (omega (arith, leb-true (start + size) (2 ^ 64 - 1) (and-left (sealEnds start size) true t))))
+pub seal-fits : (start size : ℕ) → start ≤ 2 ^ 64 - 1 → leb size (2 ^ 64 - 1 - start) ≡ sealEnds start size
+seal-fits start size h = same-test (leb size (2 ^ 64 - 1 - start)) (sealEnds start size)
+    (λ t. le-leb (start + size) (2 ^ 64 - 1) (omega (arith, leb-true size (2 ^ 64 - 1 - start) t)))
+    (λ t. le-leb size (2 ^ 64 - 1 - start) (omega (arith, leb-true (start + size) (2 ^ 64 - 1) t)))
 
 -- by its tests
 pub startable-by : (rlen mlen rule sealStart sealLength : ℕ) (registers marks : List ℕ) (p q r s t : Bool)

@@ -5,6 +5,7 @@ use mathlib.Core.List.{List, [], _∷_}
 use Prim.Native.Nat.{ℕ, zero, _*_, _/_, _≤_, _<_}
 use lib.Dec.{leb, ltb, eqb}
 use borrow.Author.Tests.{leb-true, ltb-true, eqb-true}
+use Rattle.width.specs.Bounds.{mostRlen, mostMlen}
 use Rattle.machine.specs.declared.Answer.{Answer}
 use Rattle.machine.specs.declared.Answer.the-variants.{Done}
 use Rattle.machine.specs.declared.Instruction.{Instruction}
@@ -91,9 +92,9 @@ permitted-lengths r m h =
 
 -- for code: bounds
 abbrev bounds : ℕ → ℕ → List Bool
-bounds r m = leb 64 r ∷ leb r 512 ∷ leb m 4096 ∷ eqb (m / r * r) m ∷ eqb (r / 8 * 8) r ∷ []
+bounds r m = leb 64 r ∷ leb r mostRlen ∷ leb m mostMlen ∷ eqb (m / r * r) m ∷ eqb (r / 8 * 8) r ∷ []
 
-pub permitted-bounds : (rlen mlen : ℕ) → permitted rlen mlen ≡ true → (64 ≤ rlen) × (rlen ≤ 512) × (mlen ≤ 4096) × (rlen < mlen) × (mlen / rlen * rlen ≡ mlen) × (rlen / 8 * 8 ≡ rlen)
+pub permitted-bounds : (rlen mlen : ℕ) → permitted rlen mlen ≡ true → (64 ≤ rlen) × (rlen ≤ mostRlen) × (mlen ≤ mostMlen) × (rlen < mlen) × (mlen / rlen * rlen ≡ mlen) × (rlen / 8 * 8 ≡ rlen)
 unfolding permitted
 permitted-bounds r m h =
     let t = every-each (isIn r rlens ∷ isIn m mlens ∷ ltb r m ∷ []) h in
@@ -101,8 +102,8 @@ permitted-bounds r m h =
     each-in m mlens (λ m. not (ltb r m) || every (bounds r m)) (each-in r rlens (λ r. each mlens (λ m. not (ltb r m) || every (bounds r m))) refl (t .0)) (t .1 .0) in
     let q = every-each (bounds r m) (or-not (not (ltb r m)) (every (bounds r m)) p (rw (t .1 .1 .0))) in (
       leb-true 64 r (q .0),
-      leb-true r 512 (q .1 .0),
-      leb-true m 4096 (q .1 .1 .0),
+      leb-true r mostRlen (q .1 .0),
+      leb-true m mostMlen (q .1 .1 .0),
       ltb-true r m (t .1 .1 .0),
       eqb-true (m / r * r) m (q .1 .1 .1 .0),
       eqb-true (r / 8 * 8) r (q .1 .1 .1 .1 .0),

@@ -259,8 +259,8 @@ halved w x want =
     let o = step w (scalars x 0) (ruled 1 (bench 1 2 2 6 0 0 1)) in
     record { got = o .answer .number ∷ o .bench .machine .«tile_n» ∷ getD (o .scalars) 3 9 ∷ []; want = 0 ∷ want }
 
-pub halvings : List Line
-halvings =
+pub halvedSizes : List Line
+halvedSizes =
     halved (word 0b0110000 0 7 7 3) 0 (4 ∷ 4 ∷ [])
     ∷ halved (word 0b0110000 0 6 7 3) 0 (3 ∷ 3 ∷ [])
     ∷ halved (word 0b0110000 0 5 7 3) 0 (3 ∷ 3 ∷ [])
@@ -269,9 +269,9 @@ halvings =
     ∷ halved (word 0b0111000 0 0 7 0) 0 (4 ∷ 0 ∷ [])
     ∷ []
 
-pub halvings-right : map (λ l. l .got) halvings ≡ map (λ l. l .want) halvings
-unfolding halvings halved word bench scalars with ruled chosen halving permitted sew newType legalType listing others decode sound stepBy outcome
-halvings-right = refl
+pub halved-right : map (λ l. l .got) halvedSizes ≡ map (λ l. l .want) halvedSizes
+unfolding halvedSizes halved word bench scalars with ruled chosen halving permitted sew newType legalType listing others decode sound stepBy outcome
+halved-right = refl
 
 -- 02, Three: "A technician changed from 8 to 16 bits, renewed his sizes in this way and was refused with 4." Words one after another,
 -- with a memory row of 8 bytes at 0 and at 8

@@ -8,7 +8,7 @@ ghost use Rattle.machine.specs.Tests.{isIn};
 ghost use Rattle.machine.specs.Answers.{bare, reply, isDone};
 ghost use Rattle.machine.specs.Geometry.{permitted, rlens, mlens};
 ghost use Rattle.machine.specs.Setting.{chosen};
-ghost use Rattle.machine.specs.Starting.{startable, startMachine, startedAs, noMachine, freshMachine};
+ghost use Rattle.machine.specs.Starting.{isRule, sealEnds, startable, startMachine, startedAs, noMachine, freshMachine};
 
 // The machine's numbers: its lengths in bits, mtype, the tile sizes, the sealed range of memory, and the rule by which it chooses sizes.
 pub struct Machine {
@@ -246,6 +246,20 @@ pub fn permitted_lengths(rlen: u64, mlen: u64) -> bool
     rlen < mlen
 }
 
+// Whether there is such a rule.
+pub fn is_rule(rule: u64) -> bool
+    ensures { λ r. ⌜ r ≡ isRule rule ⌝ }
+{
+    rule <= 1
+}
+
+// Whether a seal's end does not exceed 2^64 - 1.
+pub fn seal_ends(start: u64, length: u64) -> bool
+    ensures { λ r. ⌜ r ≡ sealEnds start length ⌝ }
+{
+    length <= 18446744073709551615 - start
+}
+
 // The smaller of two numbers.
 pub fn smaller(a: u64, b: u64) -> u64
     ensures { λ r. ⌜ r ≡ min a b ⌝ }
@@ -340,10 +354,10 @@ fn is_startable(
     if marks.len() as u64 != 2 * mlen {
         return false;
     }
-    if rule > 1 {
+    if !is_rule(rule) {
         return false;
     }
-    seal_length <= 18446744073709551615 - seal_start
+    seal_ends(seal_start, seal_length)
 }
 
 // Starts a machine on the lent register bytes and marks, with a rule and a sealed range of memory. Refused, it changes nothing.

@@ -30,13 +30,14 @@ use Rattle.machine.proofs.CheckLaws.{Passed, passed}
 use Rattle.machine.proofs.CodeLaws.{only-done}
 use Rattle.machine.proofs.NoFault.{Sound, sound-is}
 use Rattle.machine.proofs.StepLaws.{permitted-lengths}
-use Rattle.element.specs.Bounds.{mostPitch, mostSize, mostTerms}
+use Rattle.width.specs.Bounds.{mostPitch, mostColumns, mostSize, mostTerms}
 use Rattle.element.specs.Element.{Width}
 use Rattle.arithmetic.specs.Effect.{shape, productTile, combineTile, scaleTile}
 use Rattle.floats.specs.Rows.{floatTile}
 use Rattle.arithmetic.proofs.Arms.{multiply-ready, combine-ready, scale-ready}
 use Rattle.settings.specs.Parts.{ours}
-use Rattle.operations.specs.Parts.{MarksReady, WritesRegisters, productChecks, floatChecks, combineChecks, scaleChecks}
+use Rattle.checking.specs.Parts.{MarksReady, productChecks, floatChecks, combineChecks, scaleChecks}
+use Rattle.operations.specs.Parts.{WritesRegisters}
 use Rattle.settings.proofs.FaultLaws.{ready}
 
 -- marking what is marked changes nothing
@@ -116,8 +117,8 @@ module _ (m : Machine) (regs marks : List ℕ) (h : sound m regs marks ≡ true)
       tn = m .«tile_n»
 
       abbrev Asked : ℕ → ℕ → Type 0
-      Asked f w = ((d < 2) × ((a < 8) × (b < 8))) × (((R * P ≤ 512) × ((P ≤ 64) × (length regs ≡ 16 * (R * P)))) × (Width w × (Width (f * w) × ((f ≤ 4)
-          × (((tm ≤ R) × ((tk ≤ R) × (tk ≤ 16))) × ((tn ≤ 64) × ((tn * w ≤ P) × (tk * w ≤ P))))))))
+      Asked f w = ((d < 2) × ((a < 8) × (b < 8))) × (((R * P ≤ mostSize) × ((P ≤ mostPitch) × (length regs ≡ 16 * (R * P)))) × (Width w × (Width (f * w) × ((f ≤ 4)
+          × (((tm ≤ R) × ((tk ≤ R) × (tk ≤ mostTerms))) × ((tn ≤ mostColumns) × ((tn * w ≤ P) × (tk * w ≤ P))))))))
 
       pub product-asks : (d < 2) × ((a < 8) × (b < 8)) → Asked f′ w
       product-asks l =
@@ -135,8 +136,8 @@ module _ (m : Machine) (regs marks : List ℕ) (h : sound m regs marks ≡ true)
 
     -- the element-wise instructions ask the same of md and ms1
     abbrev Elementwise : ℕ → ℕ → ℕ → ℕ → Type 0
-    Elementwise d a f w = ((d < 2) × (a < 2)) × (((R * P ≤ 512) × ((P ≤ 64) × (length regs ≡ 16 * (R * P)))) × (Width w × (Width (f * w) × ((f ≤ 4)
-        × ((m .«tile_m» ≤ R) × ((m .«tile_n» ≤ 64) × (m .«tile_n» * w ≤ P)))))))
+    Elementwise d a f w = ((d < 2) × (a < 2)) × (((R * P ≤ mostSize) × ((P ≤ mostPitch) × (length regs ≡ 16 * (R * P)))) × (Width w × (Width (f * w) × ((f ≤ 4)
+        × ((m .«tile_m» ≤ R) × ((m .«tile_n» ≤ mostColumns) × (m .«tile_n» * w ≤ P)))))))
 
     elementwise-asks : (d a : ℕ) → Elementwise d a f (sew (m .mtype)) → Elementwise d a f′ w
     elementwise-asks d a q = subst (λ (x : ℕ). Elementwise d a x w) (sym ef) (subst (λ (y : ℕ). Elementwise d a f y) (sym ew) q)

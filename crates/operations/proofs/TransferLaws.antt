@@ -24,9 +24,10 @@ use Rattle.machine.proofs.StoreLaws.{stored-puts}
 use Rattle.machine.proofs.CodeLaws.{verdict-append}
 use Rattle.element.specs.Element.{Width}
 use Rattle.transfer.proofs.Room.{transfer-requires}
-use Rattle.operations.specs.declared.Placed.{Placed}
+use Rattle.checking.specs.declared.Placed.{Placed}
 use Rattle.settings.specs.Parts.{ours}
-use Rattle.operations.specs.Parts.{transferChecks, placedAs, WritesRegisters, WritesMemory}
+use Rattle.checking.specs.Parts.{transferChecks, placedAs}
+use Rattle.operations.specs.Parts.{WritesRegisters, WritesMemory}
 
 module _ (m : Machine) (regs marks mem : List ℕ) (f : Form) (k : Matrix) (r w base stride : ℕ) where
   abbrev st : State

@@ -1,6 +1,6 @@
 // Loads and stores.
-use super::checks::check_transfer;
-use super::tile_of;
+use checking::sizes::check_transfer;
+use checking::tile_of;
 use machine::Answer;
 use machine::Form;
 use machine::Machine;

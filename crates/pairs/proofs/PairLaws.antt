@@ -22,7 +22,7 @@ use Rattle.width.proofs.ReduceLaws.{reduce-lt, sumℤ-cong}
 use Rattle.width.proofs.ElementLaws.{pow-256, signed-widened}
 use Rattle.width.proofs.SumLaws.{wrapping-add, sum-none, sum-more, sum-in-pairs}
 use Rattle.machine.specs.Operation.{product}
-use Rattle.element.specs.Bounds.{mostColumns}
+use Rattle.width.specs.Bounds.{mostColumns}
 use Rattle.element.specs.Element.{Narrow}
 use Rattle.sums.specs.Rows.{signedLe}
 use Rattle.pairs.specs.Pairs.{half, padded, pairPlaces, placeOf, pair, plusPairs, pairsRow}

@@ -7,7 +7,7 @@ use lib.IntN.{ℤ, _+ℤ_, _*ℤ_}
 use lib.ListN.{getD}
 use Rattle.width.specs.Reduce.{signed, reduce, sumℤ}
 use Rattle.width.specs.Tile.{le}
-use Rattle.element.specs.Bounds.{mostColumns, mostTerms}
+use Rattle.width.specs.Bounds.{mostColumns, mostTerms}
 use Rattle.pairs.specs.declared.Block.{Block}
 use Rattle.sums.specs.Rows.{signedLe}
 

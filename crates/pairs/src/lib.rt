@@ -7,7 +7,7 @@ ghost use lib.IntN.{_+ℤ_, _*ℤ_};
 ghost use lib.ListN.{length, getD};
 ghost use Rattle.width.specs.Reduce.{reduce, signed};
 ghost use Rattle.width.specs.Tile.{le, putLe, putRow, putTile};
-ghost use Rattle.element.specs.Bounds.{mostPitch, mostColumns, mostTerms};
+ghost use Rattle.width.specs.Bounds.{mostPitch, mostColumns, mostTerms};
 ghost use Rattle.element.specs.Element.{Narrow};
 ghost use Rattle.sums.specs.Rows.{productRow};
 ghost use Rattle.pairs.specs.Pairs.{half, padded, pairPlaces, factorPlaces, placeOf, pair, plusPairs, lane, pairsRow};

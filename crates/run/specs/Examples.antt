@@ -81,8 +81,8 @@ examples =
     ∷ gives free (plan 8 3 2 2 2 (layout 0 2) (layout 8 2) (layout 16 2)) 8
     ∷ gives free (plan 16 4 2 2 2 (layout 0 4) (layout 8 4) (layout 16 16)) 8
     ∷ gives free (plan 32 2 1 1 1 (layout 0 4) (layout 8 4) (layout 16 16)) 8
-    ∷ gives free (plan 8 1 1025 0 0 (layout 0 2) (layout 8 2) (layout 16 2)) 8
-    ∷ gives free (plan 8 1 1024 0 0 (layout 0 2) (layout 8 2) (layout 16 2)) 0
+    ∷ gives free (plan 8 1 0 0 1025 (layout 0 2) (layout 8 2) (layout 16 2)) 8
+    ∷ gives free (plan 8 1 0 0 1024 (layout 0 2) (layout 8 2) (layout 16 2)) 0
     -- 6: the last byte of memory, one further, a row below 0; a matrix with no element has nothing to test
     ∷ gives free (small (layout 0 2) (layout 8 2) (layout 60 2)) 0
     ∷ gives free (small (layout 0 2) (layout 8 2) (layout 61 2)) 6

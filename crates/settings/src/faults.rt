@@ -32,10 +32,10 @@ fn numbers_sound(m: Machine) -> bool
     if m.tile_n > pitch {
         return false;
     }
-    if m.rule > 1 {
+    if !machine::is_rule(m.rule) {
         return false;
     }
-    m.seal_length <= 18446744073709551615 - m.seal_start
+    machine::seal_ends(m.seal_start, m.seal_length)
 }
 
 fn type_arises(mtype: u64) -> bool

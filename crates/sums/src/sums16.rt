@@ -5,7 +5,7 @@ ghost use Prim.Native.Nat.{ℕ, _+_, _*_, _≤_, _<_};
 ghost use lib.ListN.{length, getD};
 ghost use Rattle.width.specs.Tile.{le, putRow};
 ghost use Rattle.machine.specs.Operation.{product};
-ghost use Rattle.element.specs.Bounds.{mostColumns};
+ghost use Rattle.width.specs.Bounds.{mostColumns};
 ghost use Rattle.element.specs.Element.{Narrow};
 ghost use Rattle.sums.specs.Rows.{plusProduct, productRow, weightedRow};
 

@@ -4,5 +4,6 @@ pub mod Tile
 pub mod Reduce
 pub mod Binary32
 pub mod Blocks
+pub mod Bounds
 -- Computed examples.
 pub mod Examples

@@ -3,7 +3,7 @@ use mathlib.Core.Path.{ap, _∙_}
 use Prim.Native.Nat.{_+_, _-_, _≤_}
 use lib.ListN.{length}
 use Rattle.width.specs.Binary32.{valueOf}
-use Rattle.element.specs.Bounds.{mostFloats}
+use Rattle.width.specs.Bounds.{mostFloats}
 use Rattle.floats.proofs.RowLaws.{Summed, sum-none, sum-next, sum-all}
 use borrow.Author.Needs.{needs}
 use Rattle.floats.proofs.add_products.Statement.{statement}

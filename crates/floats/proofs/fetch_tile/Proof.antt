@@ -1,7 +1,7 @@
 use native.Mathlib.Omega.{arith}
 use Prim.Native.Nat.{_+_, _-_, _≤_}
 use lib.ListN.{length}
-use Rattle.element.specs.Bounds.{mostFloats}
+use Rattle.width.specs.Bounds.{mostFloats}
 use Rattle.sums.proofs.LoopLaws.{row-fits}
 use Rattle.floats.proofs.RowLaws.{TileFetched, tile-none, tile-next}
 use borrow.Author.Needs.{needs}

@@ -1,6 +1,6 @@
 use native.Mathlib.Omega.{arith}
 use Prim.Native.Nat.{_-_}
-use Rattle.element.specs.Bounds.{mostFloats}
+use Rattle.width.specs.Bounds.{mostFloats}
 use Rattle.floats.proofs.RowLaws.{Added, add-none, add-next}
 use borrow.Author.Needs.{needs}
 use Rattle.floats.proofs.mac_row.Statement.{statement}

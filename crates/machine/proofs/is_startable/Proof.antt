@@ -4,10 +4,10 @@ use Prim.Native.Nat.{_*_}
 use native.Mathlib.Omega.{arith}
 use lib.ListN.{length}
 use borrow.Author.Needs.{needs}
-use borrow.Author.Tests.{not-true, not-false, eq-eqb, ne-eqb, le-leb, lt-leb}
+use borrow.Author.Tests.{not-true, not-false, eq-eqb, ne-eqb}
 use Rattle.machine.specs.Geometry.{permitted}
 use Rattle.machine.specs.Starting.{sealEnds}
-use Rattle.machine.proofs.StartLaws.{startable-by, seal-fits}
+use Rattle.machine.proofs.StartLaws.{startable-by, and-truth}
 use Rattle.machine.proofs.StepLaws.{permitted-bounds}
 use Rattle.machine.proofs.is_startable.Statement.{statement}
 use Rattle.machine.proofs.is_startable.Tie as tie
@@ -44,23 +44,30 @@ returns-3 c =
     (lengths-ok (c .before .before)) (eq-eqb (length (a .registers .now)) (2 * a .mlen) (c .before .if2 .left))
     (ne-eqb (length (a .marks .now)) (2 * a .mlen) (c .if3 .taken)) refl refl
 
+is-rule-requires : tie.Need-is-rule-requires
+is-rule-requires c κs = search needs
+
 returns-4 : tie.Need-returns-4
 returns-4 c =
-    let a = c .before .before .before .before .before .before .before .args in
+    let e = c .before .before in
+    let a = e .before .before .before .before .before .before .args in
     startable-by (a .rlen) (a .mlen) (a .rule) (a .seal-start) (a .seal-length) (a .registers .now) (a .marks .now) true true true false _
-    (lengths-ok (c .before .before .before)) (eq-eqb (length (a .registers .now)) (2 * a .mlen) (c .before .before .if2 .left))
-    (eq-eqb (length (a .marks .now)) (2 * a .mlen) (c .before .if3 .left)) (lt-leb (a .rule) 1 (c .if4 .taken)) refl
+    (lengths-ok (e .before .before)) (eq-eqb (length (a .registers .now)) (2 * a .mlen) (e .before .if2 .left))
+    (eq-eqb (length (a .marks .now)) (2 * a .mlen) (e .if3 .left)) (sym (c .before .is-rule .ensures) ∙ not-true (c .before .is-rule .result) (c .if4 .taken)) refl
 
-sub-result : tie.Need-sub-result
-sub-result c = search needs
+seal-ends-requires : tie.Need-seal-ends-requires
+seal-ends-requires c κs = search needs
 
 returns-5 : tie.Need-returns-5
 returns-5 c =
-    let a = c .before .before .before .before .before .before .before .args in
-    seal-fits (a .seal-start) (a .seal-length) (search needs)
+    let d = c .before in
+    let e = d .before .before in
+    let a = e .before .before .before .before .before .before .args in
+    c .seal-ends .ensures ∙ and-truth (sealEnds (a .seal-start) (a .seal-length))
     ∙ startable-by (a .rlen) (a .mlen) (a .rule) (a .seal-start) (a .seal-length) (a .registers .now) (a .marks .now) true true true true (sealEnds (a .seal-start) (a .seal-length))
-    (lengths-ok (c .before .before .before)) (eq-eqb (length (a .registers .now)) (2 * a .mlen) (c .before .before .if2 .left))
-    (eq-eqb (length (a .marks .now)) (2 * a .mlen) (c .before .if3 .left)) (le-leb (a .rule) 1 (c .if4 .left)) refl
+    (lengths-ok (e .before .before)) (eq-eqb (length (a .registers .now)) (2 * a .mlen) (e .before .if2 .left))
+    (eq-eqb (length (a .marks .now)) (2 * a .mlen) (e .if3 .left)) (sym (d .before .is-rule .ensures) ∙ not-false (d .before .is-rule .result) (d .if4 .left)) refl
 
 pub is-startable-spec : {M : Type 1} → statement M
-is-startable-spec = tie.close (tie.spec permitted-lengths-requires returns mul-if2 returns-2 mul-if3 returns-3 returns-4 sub-result returns-5)
+is-startable-spec =
+    tie.close (tie.spec permitted-lengths-requires returns mul-if2 returns-2 mul-if3 returns-3 is-rule-requires returns-4 seal-ends-requires returns-5)

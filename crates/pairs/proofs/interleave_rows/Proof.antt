@@ -4,7 +4,7 @@ use mathlib.Core.Path.{_≡_, refl, ap, _∙_}
 use Prim.Native.Nat.{ℕ, _+_, _-_, _*_, _%_, _≤_, _<_}
 use native.Mathlib.Nat.{zero-mul}
 use lib.ListN.{length, getD}
-use Rattle.element.specs.Bounds.{mostColumns}
+use Rattle.width.specs.Bounds.{mostColumns}
 use Rattle.pairs.specs.Pairs.{half, placeOf}
 use Rattle.sums.proofs.LoopLaws.{row-fits}
 use Rattle.pairs.proofs.PairLaws.{row-more, rows-more}

@@ -2,6 +2,7 @@ use mathlib.Core.Path.{_≡_, refl, sym, ap, ap₂, _∙_, subst}
 use mathlib.Core.List.{List}
 use Prim.Native.Nat.{ℕ, _-_, _%_, _^_}
 use native.Mathlib.Omega.{arith}
+use Rattle.machine.specs.declared.Instruction.{Instruction}
 use Rattle.machine.specs.declared.Machine.{Machine}
 use Rattle.machine.specs.declared.Stepped.{Stepped}
 use Rattle.machine.specs.declared.Answer.{Answer}
@@ -24,6 +25,21 @@ use borrow.Author.Needs.{needs}
 use Rattle.step.proofs.perform.Statement.{statement}
 use Rattle.step.proofs.perform.Tie as tie
 
+abbrev operationOf : tie.Start → Instruction → Operation
+operationOf s = let a = s .args in operation (ours (a .m)) (stateOf (a .m) (a .registers .now) (a .marks .now)) (a .scalars .now)
+
+-- what the caller has shown of the scalars and of the instruction, and what the instruction means
+module _ (s : tie.Start) where
+  slots : length (s .args .scalars .now) ≡ 32
+  slots = eqb-true (length (s .args .scalars .now)) 32 (s .pre .1 .0)
+
+  fields : (i : Instruction) → s .args .instruction ≡ i → Decoded i
+  fields i e = subst Decoded e (s .pre .1 .1)
+
+  meant : (i : Instruction) → s .args .instruction ≡ i
+      → operationOf s (s .args .instruction) ≡ operationOf s i
+  meant i e = ap (operationOf s) e
+
 enum-known-instruction : tie.Need-enum-known-instruction
 enum-known-instruction c = search needs
 
@@ -37,9 +53,7 @@ set-type-requires : tie.Need-set-type-requires
 set-type-requires c κs =
     let g = c .before .before .instruction2 .given in
     let s = c .before .before .before .before .before .before .before .before in
-    let d = subst Decoded (g .1) (s .pre .1 .1) in
-    let n : length (s .args .scalars .now) ≡ 32 = eqb-true (length (s .args .scalars .now)) 32 (s .pre .1 .0) in
-    omega (arith, d, n)
+    omega (arith, fields s _ (g .1), slots s)
 
 enum-known-instruction-3 : tie.Need-enum-known-instruction-3
 enum-known-instruction-3 c = search needs
@@ -48,17 +62,13 @@ read-scalar-requires : tie.Need-read-scalar-requires
 read-scalar-requires c κs =
     let g = c .before .before .instruction3 .given in
     let s = c .before .before .before .before .before .before .before .before in
-    let d = subst Decoded (g .1) (s .pre .1 .1) in
-    let n : length (s .args .scalars .now) ≡ 32 = eqb-true (length (s .args .scalars .now)) 32 (s .pre .1 .0) in
-    omega (arith, d .1, n)
+    omega (arith, fields s _ (g .1) .1, slots s)
 
 set-type-requires-2 : tie.Need-set-type-requires-2
 set-type-requires-2 c κs =
     let g = c .before .before .before .before .instruction3 .given in
     let s = c .before .before .before .before .before .before .before .before .before .before in
-    let d = subst Decoded (g .1) (s .pre .1 .1) in
-    let n : length (s .args .scalars .now) ≡ 32 = eqb-true (length (s .args .scalars .now)) 32 (s .pre .1 .0) in
-    omega (arith, d .0, n)
+    omega (arith, fields s _ (g .1) .0, slots s)
 
 enum-known-instruction-4 : tie.Need-enum-known-instruction-4
 enum-known-instruction-4 c = search needs
@@ -67,9 +77,7 @@ set-size-requires : tie.Need-set-size-requires
 set-size-requires c κs =
     let g = c .before .before .instruction4 .given in
     let s = c .before .before .before .before .before .before .before .before in
-    let d = subst Decoded (g .1) (s .pre .1 .1) in
-    let n : length (s .args .scalars .now) ≡ 32 = eqb-true (length (s .args .scalars .now)) 32 (s .pre .1 .0) in
-    (ready (s .args .m) (s .args .registers .now) (s .args .marks .now) (s .pre .0), omega (arith, d, n))
+    (ready (s .args .m) (s .args .registers .now) (s .args .marks .now) (s .pre .0), omega (arith, fields s _ (g .1), slots s))
 
 enum-known-instruction-5 : tie.Need-enum-known-instruction-5
 enum-known-instruction-5 c = search needs
@@ -78,9 +86,7 @@ set-tile-requires : tie.Need-set-tile-requires
 set-tile-requires c κs =
     let g = c .before .before .instruction5 .given in
     let s = c .before .before .before .before .before .before .before .before in
-    let d = subst Decoded (g .1) (s .pre .1 .1) in
-    let n : length (s .args .scalars .now) ≡ 32 = eqb-true (length (s .args .scalars .now)) 32 (s .pre .1 .0) in
-    (ready (s .args .m) (s .args .registers .now) (s .args .marks .now) (s .pre .0), (omega (arith, d .0, n), omega (arith, d .1, n)))
+    (ready (s .args .m) (s .args .registers .now) (s .args .marks .now) (s .pre .0), (omega (arith, fields s _ (g .1) .0, slots s), omega (arith, fields s _ (g .1) .1, slots s)))
 
 enum-known-instruction-6 : tie.Need-enum-known-instruction-6
 enum-known-instruction-6 c = search needs
@@ -89,25 +95,19 @@ read-scalar-requires-2 : tie.Need-read-scalar-requires-2
 read-scalar-requires-2 c κs =
     let g = c .before .before .instruction6 .given in
     let s = c .before .before .before .before .before .before .before .before in
-    let d = subst Decoded (g .1) (s .pre .1 .1) in
-    let n : length (s .args .scalars .now) ≡ 32 = eqb-true (length (s .args .scalars .now)) 32 (s .pre .1 .0) in
-    omega (arith, d .1 .0, n)
+    omega (arith, fields s _ (g .1) .1 .0, slots s)
 
 read-scalar-requires-3 : tie.Need-read-scalar-requires-3
 read-scalar-requires-3 c κs =
     let g = c .before .before .before .before .instruction6 .given in
     let s = c .before .before .before .before .before .before .before .before .before .before in
-    let d = subst Decoded (g .1) (s .pre .1 .1) in
-    let n : length (s .args .scalars .now) ≡ 32 = eqb-true (length (s .args .scalars .now)) 32 (s .pre .1 .0) in
-    omega (arith, d .1 .1, n)
+    omega (arith, fields s _ (g .1) .1 .1, slots s)
 
 load-requires : tie.Need-load-requires
 load-requires c κs =
     let g = c .before .before .before .before .before .before .before .before .instruction6 .given in
     let s = c .before .before .before .before .before .before .before .before .before .before .before .before .before .before in
-    let d = subst Decoded (g .1) (s .pre .1 .1) in
-    let n : length (s .args .scalars .now) ≡ 32 = eqb-true (length (s .args .scalars .now)) 32 (s .pre .1 .0) in
-    (s .pre .0, d .0)
+    (s .pre .0, fields s _ (g .1) .0)
 
 enum-known-instruction-7 : tie.Need-enum-known-instruction-7
 enum-known-instruction-7 c = search needs
@@ -116,25 +116,19 @@ read-scalar-requires-4 : tie.Need-read-scalar-requires-4
 read-scalar-requires-4 c κs =
     let g = c .before .before .instruction7 .given in
     let s = c .before .before .before .before .before .before .before .before in
-    let d = subst Decoded (g .1) (s .pre .1 .1) in
-    let n : length (s .args .scalars .now) ≡ 32 = eqb-true (length (s .args .scalars .now)) 32 (s .pre .1 .0) in
-    omega (arith, d .1 .0, n)
+    omega (arith, fields s _ (g .1) .1 .0, slots s)
 
 read-scalar-requires-5 : tie.Need-read-scalar-requires-5
 read-scalar-requires-5 c κs =
     let g = c .before .before .before .before .instruction7 .given in
     let s = c .before .before .before .before .before .before .before .before .before .before in
-    let d = subst Decoded (g .1) (s .pre .1 .1) in
-    let n : length (s .args .scalars .now) ≡ 32 = eqb-true (length (s .args .scalars .now)) 32 (s .pre .1 .0) in
-    omega (arith, d .1 .1, n)
+    omega (arith, fields s _ (g .1) .1 .1, slots s)
 
 store-requires : tie.Need-store-requires
 store-requires c κs =
     let g = c .before .before .before .before .before .before .before .before .instruction7 .given in
     let s = c .before .before .before .before .before .before .before .before .before .before .before .before .before .before in
-    let d = subst Decoded (g .1) (s .pre .1 .1) in
-    let n : length (s .args .scalars .now) ≡ 32 = eqb-true (length (s .args .scalars .now)) 32 (s .pre .1 .0) in
-    (s .pre .0, d .0)
+    (s .pre .0, fields s _ (g .1) .0)
 
 enum-known-instruction-8 : tie.Need-enum-known-instruction-8
 enum-known-instruction-8 c = search needs
@@ -143,9 +137,7 @@ multiply-requires : tie.Need-multiply-requires
 multiply-requires c κs =
     let g = c .before .before .before .instruction8 .given in
     let s = c .before .before .before .before .before .before .before .before .before in
-    let d = subst Decoded (g .1) (s .pre .1 .1) in
-    let n : length (s .args .scalars .now) ≡ 32 = eqb-true (length (s .args .scalars .now)) 32 (s .pre .1 .0) in
-    (s .pre .0, d)
+    (s .pre .0, fields s _ (g .1))
 
 enum-known-instruction-9 : tie.Need-enum-known-instruction-9
 enum-known-instruction-9 c = search needs
@@ -154,9 +146,7 @@ combine-requires : tie.Need-combine-requires
 combine-requires c κs =
     let g = c .before .before .before .instruction9 .given in
     let s = c .before .before .before .before .before .before .before .before .before in
-    let d = subst Decoded (g .1) (s .pre .1 .1) in
-    let n : length (s .args .scalars .now) ≡ 32 = eqb-true (length (s .args .scalars .now)) 32 (s .pre .1 .0) in
-    (s .pre .0, d)
+    (s .pre .0, fields s _ (g .1))
 
 enum-known-instruction-10 : tie.Need-enum-known-instruction-10
 enum-known-instruction-10 c = search needs
@@ -165,25 +155,18 @@ read-scalar-requires-6 : tie.Need-read-scalar-requires-6
 read-scalar-requires-6 c κs =
     let g = c .before .before .instruction10 .given in
     let s = c .before .before .before .before .before .before .before .before in
-    let d = subst Decoded (g .1) (s .pre .1 .1) in
-    let n : length (s .args .scalars .now) ≡ 32 = eqb-true (length (s .args .scalars .now)) 32 (s .pre .1 .0) in
-    omega (arith, d .1, n)
+    omega (arith, fields s _ (g .1) .1, slots s)
 
 multiplier-requires : tie.Need-multiplier-requires
 multiplier-requires c κs =
-    let g = c .before .before .before .instruction10 .given in
     let s = c .before .before .before .before .before .before .before .before .before in
-    let d = subst Decoded (g .1) (s .pre .1 .1) in
-    let n : length (s .args .scalars .now) ≡ 32 = eqb-true (length (s .args .scalars .now)) 32 (s .pre .1 .0) in
     type-small (s .args .m .mtype) (sound-is (s .args .m) (s .args .registers .now) (s .args .marks .now) (s .pre .0) .state .type-arises)
 
 scale-requires : tie.Need-scale-requires
 scale-requires c κs =
     let g = c .before .before .before .before .before .before .instruction10 .given in
     let s = c .before .before .before .before .before .before .before .before .before .before .before .before in
-    let d = subst Decoded (g .1) (s .pre .1 .1) in
-    let n : length (s .args .scalars .now) ≡ 32 = eqb-true (length (s .args .scalars .now)) 32 (s .pre .1 .0) in
-    (s .pre .0, d .0)
+    (s .pre .0, fields s _ (g .1) .0)
 
 enum-known-instruction-11 : tie.Need-enum-known-instruction-11
 enum-known-instruction-11 c = search needs
@@ -192,17 +175,13 @@ sign-extend-requires : tie.Need-sign-extend-requires
 sign-extend-requires c κs =
     let g = c .before .instruction11 .given in
     let s = c .before .before .before .before .before .before .before in
-    let d = subst Decoded (g .1) (s .pre .1 .1) in
-    let n : length (s .args .scalars .now) ≡ 32 = eqb-true (length (s .args .scalars .now)) 32 (s .pre .1 .0) in
-    (omega (arith, d .1), omega arith)
+    (omega (arith, fields s _ (g .1) .1), omega arith)
 
 scale-requires-2 : tie.Need-scale-requires-2
 scale-requires-2 c κs =
     let g = c .before .before .before .before .instruction11 .given in
     let s = c .before .before .before .before .before .before .before .before .before .before in
-    let d = subst Decoded (g .1) (s .pre .1 .1) in
-    let n : length (s .args .scalars .now) ≡ 32 = eqb-true (length (s .args .scalars .now)) 32 (s .pre .1 .0) in
-    (s .pre .0, d .0)
+    (s .pre .0, fields s _ (g .1) .0)
 
 enum-known-instruction-12 : tie.Need-enum-known-instruction-12
 enum-known-instruction-12 c = search needs
@@ -211,24 +190,16 @@ float-multiply-requires : tie.Need-float-multiply-requires
 float-multiply-requires c κs =
     let g = c .before .before .before .instruction12 .given in
     let s = c .before .before .before .before .before .before .before .before .before in
-    let d = subst Decoded (g .1) (s .pre .1 .1) in
-    let n : length (s .args .scalars .now) ≡ 32 = eqb-true (length (s .args .scalars .now)) 32 (s .pre .1 .0) in
-    (s .pre .0, d)
+    (s .pre .0, fields s _ (g .1))
 
 returns : tie.Need-returns
 returns c =
     let h = c .before .before in
     let s = h .before .before .before .before .before .before in
-    let e = h .instruction .given .1 in
+    let g = h .instruction .given in
     let a = s .args in
-    let xs = a .scalars .now in
-    let rs = a .registers .now in
-    let ms = a .marks .now in
-    let mem = a .memory .now in
-    let meant = ap (operation (ours (a .m)) (stateOf (a .m) rs ms) xs) e in
-    let rd = ap destination e in
-    ap (λ (x : Answer). steppedAs (record { answer = x; machine = a .m }) rs ms xs mem) (c .word-answer .ensures)
-    ∙ illegal-outcome (a .m) (a .instruction) xs rs ms mem (s .pre .0) (s .pre .1 .0) _ meant
+    ap (λ (x : Answer). steppedAs (record { answer = x; machine = a .m }) (a .registers .now) (a .marks .now) (a .scalars .now) (a .memory .now)) (c .word-answer .ensures)
+    ∙ illegal-outcome (a .m) (a .instruction) (a .scalars .now) (a .registers .now) (a .marks .now) (a .memory .now) (s .pre .0) (s .pre .1 .0) _ (meant s _ (g .1))
 
 same-length : tie.Need-same-length
 same-length c = search needs
@@ -237,17 +208,10 @@ returns-2 : tie.Need-returns-2
 returns-2 c =
     let g = c .before .before .before .before .before .instruction2 .given in
     let s = c .before .before .before .before .before .before .before .before .before .before .before in
-    let e = g .1 in
     let a = s .args in
-    let xs = a .scalars .now in
-    let rs = a .registers .now in
-    let ms = a .marks .now in
-    let mem = a .memory .now in
-    let meant = ap (operation (ours (a .m)) (stateOf (a .m) rs ms) xs) e in
-    let rd = ap destination e in
     let z = c .before .before in
-    ap₂ (λ (m : Machine) (x : List ℕ). record { answer = reply Done; bench = benchOf m rs ms mem; scalars = x }) (z .set-type .ensures .0) (z .set-type .ensures .1)
-    ∙ type-outcome (a .m) (a .instruction) xs rs ms mem (s .pre .0) (s .pre .1 .0) _ _ meant rd
+    ap₂ (λ (m : Machine) (x : List ℕ). record { answer = reply Done; bench = benchOf m (a .registers .now) (a .marks .now) (a .memory .now); scalars = x }) (z .set-type .ensures .0) (z .set-type .ensures .1)
+    ∙ type-outcome (a .m) (a .instruction) (a .scalars .now) (a .registers .now) (a .marks .now) (a .memory .now) (s .pre .0) (s .pre .1 .0) _ _ (meant s _ (g .1)) (ap destination (g .1))
 
 same-length-2 : tie.Need-same-length-2
 same-length-2 c = search needs
@@ -256,18 +220,11 @@ returns-3 : tie.Need-returns-3
 returns-3 c =
     let g = c .before .before .before .before .before .before .before .instruction3 .given in
     let s = c .before .before .before .before .before .before .before .before .before .before .before .before .before in
-    let e = g .1 in
     let a = s .args in
-    let xs = a .scalars .now in
-    let rs = a .registers .now in
-    let ms = a .marks .now in
-    let mem = a .memory .now in
-    let meant = ap (operation (ours (a .m)) (stateOf (a .m) rs ms) xs) e in
-    let rd = ap destination e in
     let z = c .before .before in
     let v = c .before .before .before .before .read-scalar .ensures in
-    ap₂ (λ (m : Machine) (x : List ℕ). record { answer = reply Done; bench = benchOf m rs ms mem; scalars = x }) (z .set-type2 .ensures .0 ∙ ap (λ (v : ℕ). withType (a .m) (newType elen v)) v) (z .set-type2 .ensures .1 ∙ ap (λ (v : ℕ). withScalar xs (g .0 .0) (newType elen v)) v)
-    ∙ type-outcome (a .m) (a .instruction) xs rs ms mem (s .pre .0) (s .pre .1 .0) _ _ meant rd
+    ap₂ (λ (m : Machine) (x : List ℕ). record { answer = reply Done; bench = benchOf m (a .registers .now) (a .marks .now) (a .memory .now); scalars = x }) (z .set-type2 .ensures .0 ∙ ap (λ (v : ℕ). withType (a .m) (newType elen v)) v) (z .set-type2 .ensures .1 ∙ ap (λ (v : ℕ). withScalar (a .scalars .now) (g .0 .0) (newType elen v)) v)
+    ∙ type-outcome (a .m) (a .instruction) (a .scalars .now) (a .registers .now) (a .marks .now) (a .memory .now) (s .pre .0) (s .pre .1 .0) _ _ (meant s _ (g .1)) (ap destination (g .1))
 
 same-length-3 : tie.Need-same-length-3
 same-length-3 c = search needs
@@ -276,17 +233,10 @@ returns-4 : tie.Need-returns-4
 returns-4 c =
     let g = c .before .before .before .before .before .instruction4 .given in
     let s = c .before .before .before .before .before .before .before .before .before .before .before in
-    let e = g .1 in
     let a = s .args in
-    let xs = a .scalars .now in
-    let rs = a .registers .now in
-    let ms = a .marks .now in
-    let mem = a .memory .now in
-    let meant = ap (operation (ours (a .m)) (stateOf (a .m) rs ms) xs) e in
-    let rd = ap destination e in
     let z = c .before .before in
-    ap₂ (λ (r : Stepped) (x : List ℕ). record { answer = reply (r .answer); bench = benchOf (r .machine) rs ms mem; scalars = x }) (z .set-size .ensures .0) (z .set-size .ensures .1)
-    ∙ size-outcome (a .m) (a .instruction) xs rs ms mem (s .pre .0) (s .pre .1 .0) _ _ _ meant rd
+    ap₂ (λ (r : Stepped) (x : List ℕ). record { answer = reply (r .answer); bench = benchOf (r .machine) (a .registers .now) (a .marks .now) (a .memory .now); scalars = x }) (z .set-size .ensures .0) (z .set-size .ensures .1)
+    ∙ size-outcome (a .m) (a .instruction) (a .scalars .now) (a .registers .now) (a .marks .now) (a .memory .now) (s .pre .0) (s .pre .1 .0) _ _ _ (meant s _ (g .1)) (ap destination (g .1))
 
 same-length-4 : tie.Need-same-length-4
 same-length-4 c = search needs
@@ -295,17 +245,10 @@ returns-5 : tie.Need-returns-5
 returns-5 c =
     let g = c .before .before .before .before .before .instruction5 .given in
     let s = c .before .before .before .before .before .before .before .before .before .before .before in
-    let e = g .1 in
     let a = s .args in
-    let xs = a .scalars .now in
-    let rs = a .registers .now in
-    let ms = a .marks .now in
-    let mem = a .memory .now in
-    let meant = ap (operation (ours (a .m)) (stateOf (a .m) rs ms) xs) e in
-    let rd = ap destination e in
     let z = c .before .before in
-    ap₂ (λ (r : Stepped) (x : List ℕ). record { answer = reply (r .answer); bench = benchOf (r .machine) rs ms mem; scalars = x }) (z .set-tile .ensures .0) (z .set-tile .ensures .1)
-    ∙ tile-outcome (a .m) (a .instruction) xs rs ms mem (s .pre .0) (s .pre .1 .0) (g .0 .0) (g .0 .1 .0) (g .0 .1 .1 .0) meant rd
+    ap₂ (λ (r : Stepped) (x : List ℕ). record { answer = reply (r .answer); bench = benchOf (r .machine) (a .registers .now) (a .marks .now) (a .memory .now); scalars = x }) (z .set-tile .ensures .0) (z .set-tile .ensures .1)
+    ∙ tile-outcome (a .m) (a .instruction) (a .scalars .now) (a .registers .now) (a .marks .now) (a .memory .now) (s .pre .0) (s .pre .1 .0) (g .0 .0) (g .0 .1 .0) (g .0 .1 .1 .0) (meant s _ (g .1)) (ap destination (g .1))
 
 same-length-5 : tie.Need-same-length-5
 same-length-5 c = search needs
@@ -323,18 +266,11 @@ returns-6 : tie.Need-returns-6
 returns-6 c =
     let g = c .before .before .before .before .before .before .before .before .before .before .before .before .before .instruction6 .given in
     let s = c .before .before .before .before .before .before .before .before .before .before .before .before .before .before .before .before .before .before .before in
-    let e = g .1 in
     let a = s .args in
-    let xs = a .scalars .now in
-    let rs = a .registers .now in
-    let ms = a .marks .now in
-    let mem = a .memory .now in
-    let meant = ap (operation (ours (a .m)) (stateOf (a .m) rs ms) xs) e in
-    let rd = ap destination e in
     let z = c .before .before .before .before in
     let base = c .before .before .before .before .before .before .before .before .before .before .read-scalar2 .ensures in
     let stride = c .before .before .before .before .before .before .before .before .read-scalar3 .ensures in
-    loads-outcome (a .m) (a .instruction) xs rs ms mem (s .pre .0) (s .pre .1 .0) _ (meant ∙ ap₂ (λ (x y : ℕ). Operation.load (g .0 .0) (g .0 .1 .0) (g .0 .1 .1 .1 .0) (g .0 .1 .1 .0) x y) (sym base) (sym stride)) rd _ _ _ (z .load .ensures) refl refl
+    loads-outcome (a .m) (a .instruction) (a .scalars .now) (a .registers .now) (a .marks .now) (a .memory .now) (s .pre .0) (s .pre .1 .0) _ (meant s _ (g .1) ∙ ap₂ (λ (x y : ℕ). Operation.load (g .0 .0) (g .0 .1 .0) (g .0 .1 .1 .1 .0) (g .0 .1 .1 .0) x y) (sym base) (sym stride)) (ap destination (g .1)) _ _ _ (z .load .ensures) refl refl
 
 same-length-9 : tie.Need-same-length-9
 same-length-9 c = search needs
@@ -352,18 +288,11 @@ returns-7 : tie.Need-returns-7
 returns-7 c =
     let g = c .before .before .before .before .before .before .before .before .before .before .before .instruction7 .given in
     let s = c .before .before .before .before .before .before .before .before .before .before .before .before .before .before .before .before .before in
-    let e = g .1 in
     let a = s .args in
-    let xs = a .scalars .now in
-    let rs = a .registers .now in
-    let ms = a .marks .now in
-    let mem = a .memory .now in
-    let meant = ap (operation (ours (a .m)) (stateOf (a .m) rs ms) xs) e in
-    let rd = ap destination e in
     let z = c .before .before in
     let base = c .before .before .before .before .before .before .before .before .read-scalar4 .ensures in
     let stride = c .before .before .before .before .before .before .read-scalar5 .ensures in
-    stores-outcome (a .m) (a .instruction) xs rs ms mem (s .pre .0) (s .pre .1 .0) _ (meant ∙ ap₂ (λ (x y : ℕ). Operation.store (g .0 .0) (g .0 .1 .0) (g .0 .1 .1 .1 .0) (g .0 .1 .1 .0) x y) (sym base) (sym stride)) rd _ _ (z .store .ensures) refl
+    stores-outcome (a .m) (a .instruction) (a .scalars .now) (a .registers .now) (a .marks .now) (a .memory .now) (s .pre .0) (s .pre .1 .0) _ (meant s _ (g .1) ∙ ap₂ (λ (x y : ℕ). Operation.store (g .0 .0) (g .0 .1 .0) (g .0 .1 .1 .1 .0) (g .0 .1 .1 .0) x y) (sym base) (sym stride)) (ap destination (g .1)) _ _ (z .store .ensures) refl
 
 same-length-13 : tie.Need-same-length-13
 same-length-13 c = search needs
@@ -375,16 +304,9 @@ returns-8 : tie.Need-returns-8
 returns-8 c =
     let g = c .before .before .before .before .before .before .instruction8 .given in
     let s = c .before .before .before .before .before .before .before .before .before .before .before .before in
-    let e = g .1 in
     let a = s .args in
-    let xs = a .scalars .now in
-    let rs = a .registers .now in
-    let ms = a .marks .now in
-    let mem = a .memory .now in
-    let meant = ap (operation (ours (a .m)) (stateOf (a .m) rs ms) xs) e in
-    let rd = ap destination e in
     let l = c .before .before .multiply .ensures in
-    loads-outcome (a .m) (a .instruction) xs rs ms mem (s .pre .0) (s .pre .1 .0) _ meant rd _ _ _ (record { answer-is = l .answer-is; registers-are = l .registers-are; marks-are = l .marks-are }) refl refl
+    loads-outcome (a .m) (a .instruction) (a .scalars .now) (a .registers .now) (a .marks .now) (a .memory .now) (s .pre .0) (s .pre .1 .0) _ (meant s _ (g .1)) (ap destination (g .1)) _ _ _ (record { answer-is = l .answer-is; registers-are = l .registers-are; marks-are = l .marks-are }) refl refl
 
 same-length-15 : tie.Need-same-length-15
 same-length-15 c = search needs
@@ -396,16 +318,9 @@ returns-9 : tie.Need-returns-9
 returns-9 c =
     let g = c .before .before .before .before .before .before .instruction9 .given in
     let s = c .before .before .before .before .before .before .before .before .before .before .before .before in
-    let e = g .1 in
     let a = s .args in
-    let xs = a .scalars .now in
-    let rs = a .registers .now in
-    let ms = a .marks .now in
-    let mem = a .memory .now in
-    let meant = ap (operation (ours (a .m)) (stateOf (a .m) rs ms) xs) e in
-    let rd = ap destination e in
     let l = c .before .before .combine .ensures in
-    loads-outcome (a .m) (a .instruction) xs rs ms mem (s .pre .0) (s .pre .1 .0) _ meant rd _ _ _ (record { answer-is = l .answer-is; registers-are = l .registers-are; marks-are = l .marks-are }) refl refl
+    loads-outcome (a .m) (a .instruction) (a .scalars .now) (a .registers .now) (a .marks .now) (a .memory .now) (s .pre .0) (s .pre .1 .0) _ (meant s _ (g .1)) (ap destination (g .1)) _ _ _ (record { answer-is = l .answer-is; registers-are = l .registers-are; marks-are = l .marks-are }) refl refl
 
 same-length-17 : tie.Need-same-length-17
 same-length-17 c = search needs
@@ -420,19 +335,12 @@ returns-10 : tie.Need-returns-10
 returns-10 c =
     let g = c .before .before .before .before .before .before .before .before .before .before .before .instruction10 .given in
     let s = c .before .before .before .before .before .before .before .before .before .before .before .before .before .before .before .before .before in
-    let e = g .1 in
     let a = s .args in
-    let xs = a .scalars .now in
-    let rs = a .registers .now in
-    let ms = a .marks .now in
-    let mem = a .memory .now in
-    let meant = ap (operation (ours (a .m)) (stateOf (a .m) rs ms) xs) e in
-    let rd = ap destination e in
     let k = c .before .before .before .before .before .before .before .multiplier .ensures in
     let v = c .before .before .before .before .before .before .before .before .read-scalar6 .ensures in
     let z = signed (256 ^ sew (a .m .mtype)) (c .before .before .before .before .before .before .before .before .read-scalar6 .result % 256 ^ sew (a .m .mtype)) in
     let l = c .before .before .before .before .scale .ensures z (k .residue) (k .zero-is) in
-    loads-outcome (a .m) (a .instruction) xs rs ms mem (s .pre .0) (s .pre .1 .0) _ (meant ∙ ap (λ (x : ℕ). Operation.scale (times (g .0 .0)) (g .0 .1 .0) (g .0 .1 .1 .0) (signed (256 ^ sew (a .m .mtype)) (x % 256 ^ sew (a .m .mtype)))) (sym v)) rd _ _ _ (record { answer-is = l .answer-is; registers-are = l .registers-are; marks-are = l .marks-are }) refl refl
+    loads-outcome (a .m) (a .instruction) (a .scalars .now) (a .registers .now) (a .marks .now) (a .memory .now) (s .pre .0) (s .pre .1 .0) _ (meant s _ (g .1) ∙ ap (λ (x : ℕ). Operation.scale (times (g .0 .0)) (g .0 .1 .0) (g .0 .1 .1 .0) (signed (256 ^ sew (a .m .mtype)) (x % 256 ^ sew (a .m .mtype)))) (sym v)) (ap destination (g .1)) _ _ _ (record { answer-is = l .answer-is; registers-are = l .registers-are; marks-are = l .marks-are }) refl refl
 
 same-length-20 : tie.Need-same-length-20
 same-length-20 c = search needs
@@ -444,17 +352,10 @@ returns-11 : tie.Need-returns-11
 returns-11 c =
     let g = c .before .before .before .before .before .before .before .before .before .instruction11 .given in
     let s = c .before .before .before .before .before .before .before .before .before .before .before .before .before .before .before in
-    let e = g .1 in
     let a = s .args in
-    let xs = a .scalars .now in
-    let rs = a .registers .now in
-    let ms = a .marks .now in
-    let mem = a .memory .now in
-    let meant = ap (operation (ours (a .m)) (stateOf (a .m) rs ms) xs) e in
-    let rd = ap destination e in
     let k = c .before .before .before .before .before .before .before .sign-extend .ensures in
     let l = c .before .before .before .before .scale2 .ensures (signed 32 (g .0 .1 .1 .1 .0)) (sym (k .0)) (k .1) in
-    loads-outcome (a .m) (a .instruction) xs rs ms mem (s .pre .0) (s .pre .1 .0) _ meant rd _ _ _ (record { answer-is = l .answer-is; registers-are = l .registers-are; marks-are = l .marks-are }) refl refl
+    loads-outcome (a .m) (a .instruction) (a .scalars .now) (a .registers .now) (a .marks .now) (a .memory .now) (s .pre .0) (s .pre .1 .0) _ (meant s _ (g .1)) (ap destination (g .1)) _ _ _ (record { answer-is = l .answer-is; registers-are = l .registers-are; marks-are = l .marks-are }) refl refl
 
 same-length-22 : tie.Need-same-length-22
 same-length-22 c = search needs
@@ -466,16 +367,9 @@ returns-12 : tie.Need-returns-12
 returns-12 c =
     let g = c .before .before .before .before .before .before .instruction12 .given in
     let s = c .before .before .before .before .before .before .before .before .before .before .before .before in
-    let e = g .1 in
     let a = s .args in
-    let xs = a .scalars .now in
-    let rs = a .registers .now in
-    let ms = a .marks .now in
-    let mem = a .memory .now in
-    let meant = ap (operation (ours (a .m)) (stateOf (a .m) rs ms) xs) e in
-    let rd = ap destination e in
     let l = c .before .before .float-multiply .ensures in
-    loads-outcome (a .m) (a .instruction) xs rs ms mem (s .pre .0) (s .pre .1 .0) _ meant rd _ _ _ (record { answer-is = l .answer-is; registers-are = l .registers-are; marks-are = l .marks-are }) refl refl
+    loads-outcome (a .m) (a .instruction) (a .scalars .now) (a .registers .now) (a .marks .now) (a .memory .now) (s .pre .0) (s .pre .1 .0) _ (meant s _ (g .1)) (ap destination (g .1)) _ _ _ (record { answer-is = l .answer-is; registers-are = l .registers-are; marks-are = l .marks-are }) refl refl
 
 pub perform-spec : {M : Type 1} → statement M
 perform-spec = tie.close (tie.spec enum-known-instruction word-answer-requires enum-known-instruction-2 set-type-requires enum-known-instruction-3 read-scalar-requires set-type-requires-2 enum-known-instruction-4 set-size-requires enum-known-instruction-5 set-tile-requires enum-known-instruction-6 read-scalar-requires-2 read-scalar-requires-3 load-requires enum-known-instruction-7 read-scalar-requires-4 read-scalar-requires-5 store-requires enum-known-instruction-8 multiply-requires enum-known-instruction-9 combine-requires enum-known-instruction-10 read-scalar-requires-6 multiplier-requires scale-requires enum-known-instruction-11 sign-extend-requires scale-requires-2 enum-known-instruction-12 float-multiply-requires returns same-length returns-2 same-length-2 returns-3 same-length-3 returns-4 same-length-4 returns-5 same-length-5 same-length-6 same-length-7 same-length-8 returns-6 same-length-9 same-length-10 same-length-11 same-length-12 returns-7 same-length-13 same-length-14 returns-8 same-length-15 same-length-16 returns-9 same-length-17 same-length-18 same-length-19 returns-10 same-length-20 same-length-21 returns-11 same-length-22 same-length-23 returns-12)

@@ -1,6 +1,6 @@
 use mathlib.Core.Path.{_≡_, refl, sym, ap, _∙_}
 use mathlib.Core.Bool.{true}
-use Prim.Native.Nat.{_*_, _-_}
+use Prim.Native.Nat.{_*_}
 use native.Mathlib.Omega.{arith}
 use borrow.Author.Tests.{not-true, not-false}
 use mathlib.Core.List.{[], _∷_}
@@ -9,8 +9,8 @@ use Rattle.machine.specs.Operation.{Operation, times}
 use Rattle.machine.specs.Setting.{sew}
 use Rattle.machine.proofs.NoFault.{sound-is}
 use Rattle.machine.proofs.StepLaws.{permitted-bounds}
-use Rattle.operations.specs.Parts.{elementwiseChecks, accumulatorCheck, combineChecks}
-use Rattle.operations.proofs.CheckLaws.{type-legal-elementwise, part-done}
+use Rattle.checking.specs.Parts.{elementwiseChecks, accumulatorCheck, combineChecks}
+use Rattle.checking.proofs.CheckLaws.{type-legal-elementwise, part-done}
 use Rattle.operations.proofs.EffectLaws.{marks-ready, arithmetic-refused, combine-asks, combine-loads}
 use Rattle.settings.proofs.FaultLaws.{ready}
 use borrow.Author.Needs.{needs}

@@ -6,7 +6,7 @@ use Rattle.machine.specs.Answers.{verdict, isDone}
 use Rattle.machine.specs.Operation.{Operation}
 use Rattle.machine.proofs.NoFault.{sound-is}
 use Rattle.machine.proofs.StepLaws.{permitted-bounds}
-use Rattle.operations.specs.Parts.{floatChecks}
+use Rattle.checking.specs.Parts.{floatChecks}
 use Rattle.operations.proofs.EffectLaws.{marks-ready, arithmetic-refused, float-asks, float-loads}
 use borrow.Author.Needs.{needs}
 use Rattle.operations.proofs.reckoning.float_multiply.Statement.{statement}

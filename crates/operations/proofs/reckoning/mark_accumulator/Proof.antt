@@ -1,9 +1,9 @@
 use mathlib.Core.Path.{ap, _∙_}
-use Prim.Native.Nat.{_+_, _*_, _-_, _≤_}
+use Prim.Native.Nat.{_+_, _*_, _≤_}
 use native.Mathlib.Omega.{arith}
 use lib.ListN.{length}
-use Rattle.operations.specs.declared.Placed.{Placed}
-use Rattle.operations.proofs.ArithmeticLaws.{accumulator-room}
+use Rattle.checking.specs.declared.Placed.{Placed}
+use Rattle.checking.proofs.ArithmeticLaws.{accumulator-room}
 use Rattle.width.specs.Tile.{markTile}
 use borrow.Author.Needs.{needs}
 use Rattle.operations.proofs.reckoning.mark_accumulator.Statement.{statement}

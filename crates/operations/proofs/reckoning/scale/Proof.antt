@@ -1,6 +1,5 @@
 use mathlib.Core.Path.{_≡_, refl, sym, ap, _∙_}
 use mathlib.Core.Bool.{true}
-use Prim.Native.Nat.{_-_}
 use native.Mathlib.Omega.{arith}
 use lib.Dec.{eqb}
 use borrow.Author.Tests.{not-true, not-false}
@@ -12,10 +11,10 @@ use Rattle.machine.specs.Operation.{times}
 use Rattle.machine.specs.Setting.{sew}
 use Rattle.machine.proofs.NoFault.{sound-is}
 use Rattle.machine.proofs.StepLaws.{permitted-bounds}
-use Rattle.operations.specs.Parts.{elementwiseChecks, scaleChecks}
+use Rattle.checking.specs.Parts.{elementwiseChecks, scaleChecks}
 use Rattle.machine.specs.Geometry.{accAt}
-use Rattle.operations.proofs.ArithmeticLaws.{elementwise-fits}
-use Rattle.operations.proofs.CheckLaws.{type-legal-elementwise, part-done}
+use Rattle.checking.proofs.ArithmeticLaws.{elementwise-fits}
+use Rattle.checking.proofs.CheckLaws.{type-legal-elementwise, part-done}
 use Rattle.operations.proofs.EffectLaws.{marks-ready, scale-refused, scale-asks, scale-loads}
 use Rattle.settings.proofs.FaultLaws.{ready}
 use borrow.Author.Needs.{needs}

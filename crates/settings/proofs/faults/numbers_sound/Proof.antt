@@ -8,7 +8,7 @@ use Rattle.machine.specs.Geometry.{elen, permitted}
 use Rattle.machine.specs.Setting.{newType}
 use Rattle.machine.specs.Starting.{sealEnds}
 use Rattle.machine.proofs.StepLaws.{permitted-bounds}
-use Rattle.machine.proofs.StartLaws.{seal-fits}
+use Rattle.machine.proofs.StartLaws.{and-truth}
 use Rattle.settings.proofs.FaultLaws.{numbers-by}
 use borrow.Author.Needs.{needs}
 use Rattle.settings.proofs.faults.numbers_sound.Statement.{statement}
@@ -72,6 +72,9 @@ returns-5 c =
     (le-leb (m .«tile_k») (min (m .mlen / m .rlen) (m .rlen / 8)) (omega (arith, s .smaller .ensures, g .if4 .left)))
     (lt-leb (m .«tile_n») (m .rlen / 8) (c .if5 .taken)) refl refl
 
+is-rule-requires : tie.Need-is-rule-requires
+is-rule-requires c κs = search needs
+
 returns-6 : tie.Need-returns-6
 returns-6 c =
     let i = c .before .before in
@@ -82,24 +85,24 @@ returns-6 c =
     let m = e .before .before .before .before .args .m in
     numbers-by m true true true true true false _ (ok-1 (e .before .before)) (ok-2 e) (le-leb (m .«tile_m») (m .mlen / m .rlen) (f .if3 .left))
     (le-leb (m .«tile_k») (min (m .mlen / m .rlen) (m .rlen / 8)) (omega (arith, s .smaller .ensures, g .if4 .left)))
-    (le-leb (m .«tile_n») (m .rlen / 8) (i .if5 .left)) (lt-leb (m .rule) 1 (c .if6 .taken)) refl
+    (le-leb (m .«tile_n») (m .rlen / 8) (i .if5 .left)) (sym (c .before .is-rule .ensures) ∙ not-true (c .before .is-rule .result) (c .if6 .taken)) refl
 
-sub-result : tie.Need-sub-result
-sub-result c = search needs
+seal-ends-requires : tie.Need-seal-ends-requires
+seal-ends-requires c κs = search needs
 
 returns-7 : tie.Need-returns-7
 returns-7 c =
-    let j = c .before .before in
+    let j = c .before in
     let i = j .before .before in
     let g = i .before .before in
     let s = g .before .before in
     let f = s .before in
     let e = f .before .before in
     let m = e .before .before .before .before .args .m in
-    seal-fits (m .«seal_start») (m .«seal_length») (omega (arith, c .struct-known6 .given))
+    c .seal-ends .ensures ∙ and-truth (sealEnds (m .«seal_start») (m .«seal_length»))
     ∙ numbers-by m true true true true true true (sealEnds (m .«seal_start») (m .«seal_length»)) (ok-1 (e .before .before)) (ok-2 e) (le-leb (m .«tile_m») (m .mlen / m .rlen) (f .if3 .left))
     (le-leb (m .«tile_k») (min (m .mlen / m .rlen) (m .rlen / 8)) (omega (arith, s .smaller .ensures, g .if4 .left)))
-    (le-leb (m .«tile_n») (m .rlen / 8) (i .if5 .left)) (le-leb (m .rule) 1 (j .if6 .left)) refl
+    (le-leb (m .«tile_n») (m .rlen / 8) (i .if5 .left)) (sym (j .before .is-rule .ensures) ∙ not-false (j .before .is-rule .result) (j .if6 .left)) refl
 
 pub numbers-sound-spec : {M : Type 1} → statement M
 numbers-sound-spec =
@@ -114,6 +117,7 @@ numbers-sound-spec =
     smaller-requires
     returns-4
     returns-5
+    is-rule-requires
     returns-6
-    sub-result
+    seal-ends-requires
     returns-7)

@@ -1,5 +1,5 @@
 use native.Mathlib.Omega.{arith}
-use Rattle.element.specs.Bounds.{mostColumns}
+use Rattle.width.specs.Bounds.{mostColumns}
 use Rattle.sums.proofs.RowLaws.{row-of-weights}
 use borrow.Author.Needs.{needs}
 use Rattle.sums.proofs.sums8.weigh_row.Statement.{statement}
