@@ -45,7 +45,8 @@ use Rattle.run.specs.Turn.{soundRun, runShape, moved, Running, running, turn, T
 use Rattle.run.proofs.HandedLaws.{turnWith}
 use Rattle.run.proofs.NumberLaws.{multiplyOf}
 use Rattle.run.proofs.WordLaws.{formats, decode-float, decode-a, decode-b, decode-c, msew<3, narrow-is, wide<3, wide-is, type-small}
-use Rattle.turn.specs.Parts.{Carried, carried, carriedFor, carriedBy, carriedAt, atPlace, endingAt}
+use Rattle.turn.specs.Parts.{Carried, carried, carriedFor, carriedBy, carriedAt, endingAt}
+use Rattle.run_places.specs.Parts.{atPlace}
 use Rattle.turn.proofs.TurnLaws.{leaving, turn-zero, taking, turns-stop, turns-more}
 
 pub plan-format : (P : Plan) → planned P ≡ true → format (P .sew) (P .factor) ≡ true

@@ -11,7 +11,6 @@ use Rattle.machine.specs.Geometry.{Bench, benchOf}
 use Rattle.machine.specs.Setting.{chosen}
 use Rattle.machine.specs.Step.{Outcome, step}
 use Rattle.run.specs.declared.Plan.{Plan}
-use Rattle.run.specs.declared.Place.{Place}
 use Rattle.run.specs.declared.Run.{Run}
 use Rattle.run.specs.Words.{Op}
 use Rattle.run.specs.Encoding.{own, handedFor}
@@ -39,10 +38,6 @@ carriedBy P (some o) B = carriedFor P o B
 -- the word at the place of a run
 abbrev pub carriedAt : Run → Bench → Carried
 carriedAt R B = carriedBy (R .plan) (wordAt (runShape chosen R) (R .place)) B
-
--- the run at another place
-abbrev pub atPlace : Run → Place → Run
-atPlace R q = record { plan = R .plan; rlen = R .rlen; mlen = R .mlen; rule = R .rule; place = q }
 
 -- the answer of the turn after these, or 0 where there is none to take
 abbrev pub endingAt : (limit count : ℕ) → TurnsOutcome → Reply

@@ -26,7 +26,8 @@ ghost use Rattle.settings.specs.Parts.{Ready};
 ghost use Rattle.run.specs.Plan.{narrow};
 ghost use Rattle.run.specs.Words.{clear, loadA, multiply, store};
 ghost use Rattle.run.specs.Encoding.{startOf};
-ghost use Rattle.turn.specs.Parts.{carried, carriedFor, carriedAt, atPlace, endingAt};
+ghost use Rattle.turn.specs.Parts.{carried, carriedFor, carriedAt, endingAt};
+ghost use Rattle.run_places.specs.Parts.{atPlace};
 ghost use Rattle.run.specs.Start.{planned};
 ghost use Rattle.run.specs.Turn.{running, turnOutcome, turnedAs, turns, takenAs, soundRun};
 
@@ -99,9 +100,9 @@ fn load(
     requires { ⌜ md < registerCount matrix ⌝ }
     ensures { λ r. ⌜ WritesRegisters m (Operation.load form matrix md (narrow plan) (startOf layout row (column * narrow plan)) (layout .stride)) (now (registers .entry)) (now (marks .entry)) (now (memory .entry)) r (now (registers .exit)) (now (marks .exit)) ⌝ }
 {
-    let bytes = asking::narrow_bytes(plan);
-    let offset = asking::small_times(column, bytes);
-    let start = asking::start_of(layout.address, layout.stride, row, offset);
+    let bytes = plan_numbers::narrow_bytes(plan);
+    let offset = plan_numbers::small_times(column, bytes);
+    let start = plan_numbers::start_of(layout.address, layout.stride, row, offset);
     operations::transfers::load(
         m,
         registers,
@@ -132,9 +133,9 @@ fn load_a(
     ensures { λ r. ⌜ carried (reply r) m (now (registers .exit)) (now (marks .exit)) (now (memory .entry))
         ≡ carriedFor plan (loadA row term) (benchOf m (now (registers .entry)) (now (marks .entry)) (now (memory .entry))) ⌝ }
 {
-    let form = asking::form_of(plan);
-    let line = asking::a_row(plan, row, term);
-    let column = asking::a_column(plan, row, term);
+    let form = plan_numbers::form_of(plan);
+    let line = plan_numbers::a_row(plan, row, term);
+    let column = plan_numbers::a_column(plan, row, term);
     let layout = plan.a;
     load(
         plan,
@@ -167,10 +168,10 @@ fn store(
     ensures { λ r. ⌜ carried (reply r) m (now (registers .entry)) (now (marks .entry)) (now (memory .exit))
         ≡ carriedFor plan (store row column) (benchOf m (now (registers .entry)) (now (marks .entry)) (now (memory .entry))) ⌝ }
 {
-    let bytes = asking::wide_bytes(plan);
-    let offset = asking::small_times(column, bytes);
+    let bytes = plan_numbers::wide_bytes(plan);
+    let offset = plan_numbers::small_times(column, bytes);
     let layout = plan.c;
-    let start = asking::start_of(layout.address, layout.stride, row, offset);
+    let start = plan_numbers::start_of(layout.address, layout.stride, row, offset);
     operations::transfers::store(
         m,
         registers,
@@ -237,7 +238,7 @@ fn machine_after(run: Run, m: Machine) -> Machine
     let plan = run.plan;
     let place = run.place;
     match place {
-        Place::AtType => settings::with_type(m, settings::kept_type(asking::type_of(plan))),
+        Place::AtType => settings::with_type(m, settings::kept_type(plan_numbers::type_of(plan))),
         Place::AtM { row } => settings::sized(m, Dimension::DimensionM, plan.m - row),
         Place::AtN { column, .. } => settings::sized(m, Dimension::DimensionN, plan.n - column),
         Place::AtClear { .. } => m,
@@ -288,7 +289,7 @@ fn take_turns(
         (turns chosen (running run (benchOf m (now (registers .entry)) (now (marks .entry)) (now (memory .entry)))) (r .count))) ⌝ }
 {
     let mut place = run.place;
-    if !asking::is_sound_run(run) {
+    if !run_places::is_sound_run(run) {
         return Progress {
             answer: Answer::BadArguments,
             count: 0,
@@ -296,9 +297,9 @@ fn take_turns(
             machine: m,
         };
     }
-    let rows = asking::most_rows(run);
-    let columns = asking::most_columns(run);
-    let terms = asking::most_terms(run);
+    let rows = run_places::most_rows(run);
+    let columns = run_places::most_columns(run);
+    let terms = run_places::most_terms(run);
     let mut count = 0;
     let mut machine = m;
     while count < limit {
@@ -313,7 +314,7 @@ fn take_turns(
             };
         }
         machine = machine_after(current, machine);
-        let after = asking::moved_run(current, rows, columns, terms);
+        let after = run_places::moved_run(current, rows, columns, terms);
         place = after.place;
         count += 1;
     }

@@ -8,8 +8,9 @@ use Rattle.machine.specs.Geometry.{benchOf}
 use Rattle.run.specs.declared.Place.{Place}
 use Rattle.run.specs.Words.{Op}
 use Rattle.run.specs.Plan.{typeOf}
-use Rattle.asking.specs.Parts.{placed}
-use Rattle.asking.proofs.AskingLaws.{run-numbered, run-placed, run-planned, run-sizes, at-store, at-multiply}
+use Rattle.plan_numbers.specs.Parts.{placed}
+use Rattle.plan_numbers.proofs.PlanLaws.{at-store, at-multiply}
+use Rattle.run_places.proofs.RunPlaceLaws.{run-numbered, run-placed, run-planned, run-sizes}
 use Rattle.run.proofs.WordLaws.{decode-type, decode-m, decode-n, decode-k}
 use Rattle.turn.proofs.CarriedLaws.{numbers-apart, at-place, type-carried, size-carried, size-answers, b-carried, plan-type}
 use borrow.Author.Needs.{needs}
