@@ -2,10 +2,10 @@ use mathlib.Core.Path.{_≡_}
 use borrow.Author.Tests.{eq-eqb, ne-eqb}
 use Rattle.run.specs.Plan.{integers, floats, elementsOf}
 use Rattle.run.proofs.WordLaws.{formats}
-use Rattle.turn.proofs.CarriedLaws.{plan-format, multiply-carried}
+use Rattle.carrying.proofs.CarriedLaws.{plan-format, multiply-carried}
 use borrow.Author.Needs.{needs}
-use Rattle.turn.proofs.multiply.Statement.{statement}
-use Rattle.turn.proofs.multiply.Tie as tie
+use Rattle.carrying.proofs.multiply.Statement.{statement}
+use Rattle.carrying.proofs.multiply.Tie as tie
 
 returns : tie.Need-returns
 returns c =

@@ -1,9 +1,9 @@
 use mathlib.Core.Path.{refl}
 use lib.IntN.{pos}
-use Rattle.turn.proofs.CarriedLaws.{zero-residue, clear-carried}
+use Rattle.carrying.proofs.CarriedLaws.{zero-residue, clear-carried}
 use borrow.Author.Needs.{needs}
-use Rattle.turn.proofs.clear.Statement.{statement}
-use Rattle.turn.proofs.clear.Tie as tie
+use Rattle.carrying.proofs.clear.Statement.{statement}
+use Rattle.carrying.proofs.clear.Tie as tie
 
 factor-of-requires : tie.Need-factor-of-requires
 factor-of-requires c κs = search needs

@@ -2,10 +2,10 @@ use mathlib.Core.Path.{ap, ap₂, _∙_}
 use Prim.Native.Nat.{ℕ, _*_}
 use Rattle.run.specs.Encoding.{startOf}
 use Rattle.machine.specs.Operation.{Operation}
-use Rattle.turn.proofs.CarriedLaws.{loads-for}
+use Rattle.carrying.proofs.CarriedLaws.{loads-for}
 use borrow.Author.Needs.{needs}
-use Rattle.turn.proofs.load.Statement.{statement}
-use Rattle.turn.proofs.load.Tie as tie
+use Rattle.carrying.proofs.load.Statement.{statement}
+use Rattle.carrying.proofs.load.Tie as tie
 
 narrow-bytes-requires : tie.Need-narrow-bytes-requires
 narrow-bytes-requires c κs = search needs

@@ -12,10 +12,10 @@ use Rattle.plan_numbers.specs.Parts.{placed}
 use Rattle.plan_numbers.proofs.PlanLaws.{at-store, at-multiply}
 use Rattle.run_places.proofs.RunPlaceLaws.{run-numbered, run-placed, run-planned, run-sizes}
 use Rattle.run.proofs.WordLaws.{decode-type, decode-m, decode-n, decode-k}
-use Rattle.turn.proofs.CarriedLaws.{numbers-apart, at-place, type-carried, size-carried, size-answers, b-carried, plan-type}
+use Rattle.carrying.proofs.CarriedLaws.{numbers-apart, at-place, type-carried, size-carried, size-answers, b-carried, plan-type}
 use borrow.Author.Needs.{needs}
-use Rattle.turn.proofs.carry_out.Statement.{statement}
-use Rattle.turn.proofs.carry_out.Tie as tie
+use Rattle.carrying.proofs.carry_out.Statement.{statement}
+use Rattle.carrying.proofs.carry_out.Tie as tie
 
 enum-told : tie.Need-enum-told
 enum-told c = search needs

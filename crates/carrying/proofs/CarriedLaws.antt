@@ -1,17 +1,14 @@
--- The word at each place is the instruction that code carries out there; what turns that are carried out so answer and leave.
+-- The word at each place is the instruction that code carries out there.
 use mathlib.Core.Path.{_≡_, refl, sym, ap, ap₂, _∙_, subst}
 use mathlib.Core.Bool.{Bool, true, false, cond, not}
 use mathlib.Core.List.{List, [], _∷_}
-use mathlib.Core.Option.{Option, none, some}
-use Prim.Native.Nat.{ℕ, _+_, _-_, _*_, _^_, _<_}
-use native.Mathlib.Nat.{zero-add}
-use native.Mathlib.Omega.{arith}
-use lib.Dec.{leb, eqb}
+use Prim.Native.Nat.{ℕ, _+_, _*_, _^_, _<_}
+use lib.Dec.{leb}
 use lib.IntN.{pos}
 use Rattle.width.specs.Reduce.{reduce}
 use Rattle.machine.specs.declared.Machine.{Machine}
 use Rattle.machine.specs.declared.Answer.{Answer}
-use Rattle.machine.specs.declared.Answer.the-variants.{Done, BadArguments, IllegalType}
+use Rattle.machine.specs.declared.Answer.the-variants.{Done, IllegalType}
 use Rattle.machine.specs.declared.Stepped.{Stepped}
 use Rattle.machine.specs.declared.Dimension.{Dimension}
 use Rattle.machine.specs.declared.Factor.{Factor}
@@ -21,7 +18,7 @@ use Rattle.machine.specs.declared.Matrix.the-variants.{MatrixA, MatrixB, Matrix
 use Rattle.machine.specs.declared.Instruction.{Instruction}
 use Rattle.machine.specs.declared.Instruction.the-variants.{SetTypeImmediate, SetTileImmediate, Load, Store, Multiply, ScaleImmediate, FloatMultiply}
 use Rattle.machine.specs.declared.Reply.{Reply}
-use Rattle.machine.specs.Answers.{reply, done, verdict, isDone, _otherwise_}
+use Rattle.machine.specs.Answers.{reply, verdict, isDone, _otherwise_}
 use Rattle.machine.specs.Geometry.{elen, Bench, benchOf, stateOf}
 use Rattle.machine.specs.Setting.{chosen, newType, mill}
 use Rattle.machine.specs.Refusals.{typed, checks}
@@ -41,13 +38,10 @@ use Rattle.run.specs.Plan.{Elements, integers, floats, elementsOf, narrow, wide
 use Rattle.run.specs.Places.{wordAt}
 use Rattle.run.specs.Encoding.{own, multiplyWord, handedFor, startOf, log}
 use Rattle.run.specs.Start.{format, kindFits, planned}
-use Rattle.run.specs.Turn.{soundRun, runShape, moved, Running, running, turn, TurnOutcome, turnOutcome, turns, TurnsOutcome}
-use Rattle.run.proofs.HandedLaws.{turnWith}
+use Rattle.run.specs.Turn.{runShape}
 use Rattle.run.proofs.NumberLaws.{multiplyOf}
 use Rattle.run.proofs.WordLaws.{formats, decode-float, decode-a, decode-b, decode-c, msew<3, narrow-is, wide<3, wide-is, type-small}
-use Rattle.turn.specs.Parts.{Carried, carried, carriedFor, carriedBy, carriedAt, endingAt}
-use Rattle.run_places.specs.Parts.{atPlace}
-use Rattle.turn.proofs.TurnLaws.{leaving, turn-zero, taking, turns-stop, turns-more}
+use Rattle.carrying.specs.Parts.{Carried, carried, carriedFor, carriedBy, carriedAt}
 
 pub plan-format : (P : Plan) → planned P ≡ true → format (P .sew) (P .factor) ≡ true
 unfolding planned
@@ -204,65 +198,3 @@ module _ (P : Plan) (ok : planned P ≡ true) (m : Machine) (regs marks mem : Li
 
   pub c-keeps : (i j : ℕ) → m ≡ numbers (carriedFor P (Op.store i j) (benchOf m regs marks mem))
   c-keeps i j = ap numbers (c-carried P ok m regs marks mem s _ i j _ (record { answer-is = refl; memory-is = refl }))
-
--- ---- a turn
-
--- the turn of a sound run, from what carrying out its word answers and leaves
-pub turn-carried : (R : Run) (B : Bench) → soundRun chosen R ≡ true → (k : Carried) → k ≡ carriedAt R B → (t : Bool) → done (k .answer) ≡ t
-    → leaving (k .answer) (running (cond t (moved chosen R) R) (k .bench)) ≡ turnOutcome chosen (running R B)
-turn-carried R B ok k e t d =
-    ap (λ (t : Bool). leaving (k .answer) (running (cond t (moved chosen R) R) (k .bench))) (sym d)
-    ∙ ap (λ (k : Carried). leaving (k .answer) (running (cond (done (k .answer)) (moved chosen R) R) (k .bench))) e
-    ∙ go (wordAt (runShape chosen R) (R .place))
-    ∙ ap (λ (o : Option Op). leaving (turnWith chosen (running R B) o .answer) (turnWith chosen (running R B) o .after))
-    (ap (λ (t : Bool). cond t (wordAt (runShape chosen R) (R .place)) none) (sym ok))
-  where
-    go : (o : Option Op)
-        → leaving (carriedBy (R .plan) o B .answer) (running (cond (done (carriedBy (R .plan) o B .answer)) (moved chosen R) R) (carriedBy (R .plan) o B .bench))
-        ≡ leaving (turnWith chosen (running R B) o .answer) (turnWith chosen (running R B) o .after)
-    go none = refl
-    go (some o) = refl
-
--- one more, after n that were answered 0
-pub turns-carried : (r : Running) (R : Run) (B : Bench) (n : ℕ) → taking n (running R B) ≡ turns chosen r n → soundRun chosen R ≡ true → (k : Carried) → k ≡ carriedAt R B
-    → done (k .answer) ≡ true → (R′ : Run) → R′ ≡ moved chosen R → taking (n + 1) (running R′ (k .bench)) ≡ turns chosen r (n + 1)
-turns-carried r R B n e ok k ek d R′ eR =
-    ap (λ (R : Run). taking (n + 1) (running R (k .bench))) eR
-    ∙ turns-more r (running R B) n e (leaving (k .answer) (running (moved chosen R) (k .bench))) (turn-carried R B ok k ek true d) d
-
--- the place after a turn
-pub moved-place : (R U A : Run) (q : Place) → U ≡ atPlace R q → A ≡ moved chosen U → atPlace R (A .place) ≡ moved chosen U
-moved-place R U A q e k =
-    ap (λ (A : Run). atPlace R (A .place)) k ∙ ap (λ (U : Run). atPlace R (moved chosen U .place)) e ∙ ap (moved chosen) (sym e)
-
--- a run that no start can have made: every turn is refused
-pub turn-unsound : (R : Run) (B : Bench) → soundRun chosen R ≡ false → leaving (reply BadArguments) (running R B) ≡ turnOutcome chosen (running R B)
-turn-unsound R B h =
-    ap (λ (t : Bool). let o : Option Op = cond t (wordAt (runShape chosen R) (R .place)) none in leaving (turnWith chosen (running R B) o .answer) (turnWith chosen (running R B) o .after)) (sym h)
-
-pub turns-unsound : (R : Run) (B : Bench) (n : ℕ) → soundRun chosen R ≡ false → taking 0 (running R B) ≡ turns chosen (running R B) n
-turns-unsound R B n h = turns-stop (running R B) 0 n (omega arith) (ap (λ (o : TurnOutcome). done (o .answer)) (sym (turn-unsound R B h)))
-
--- ---- the answer that turns end with
-
-pub ends-done : (limit count : ℕ) (t : TurnsOutcome) → eqb count limit ≡ true → reply Done ≡ endingAt limit count t
-ends-done limit count t e = sym (rw e)
-
-pub ends-refused : (limit count : ℕ) (t : TurnsOutcome) (a : Reply) → eqb count limit ≡ false → a ≡ turn chosen (t .after) .answer → a ≡ endingAt limit count t
-ends-refused limit count t a e h = h ∙ sym (rw e)
-
--- the run at the place where the turns end
-pub at-end : (n : ℕ) (U U′ : Run) (B : Bench) (t : TurnsOutcome) → U ≡ U′ → taking n (running U′ B) ≡ t → taking n (running U B) ≡ t
-at-end n U U′ B t e h = ap (λ (U : Run). taking n (running U B)) e ∙ h
-
--- one turn, from what turns of at most one come to
-pub one-turn : (r : Running) (n : ℕ) (a : Reply) (after : Running) → taking n after ≡ turns chosen r 1 → a ≡ endingAt 1 n (turns chosen r n) → leaving a after ≡ turnOutcome chosen r
-one-turn r n a after e h =
-    ap₂ leaving (go (done (turn chosen r .answer)) refl) (ap (λ (o : TurnsOutcome). o .after) e)
-  where
-    count-is : (t : Bool) → done (turn chosen r .answer) ≡ t → n ≡ cond t 1 0
-    count-is t d = ap (λ (o : TurnsOutcome). o .count) e ∙ ap (λ (t : Bool). 0 + cond t 1 0) d ∙ zero-add (cond t 1 0)
-
-    go : (t : Bool) → done (turn chosen r .answer) ≡ t → a ≡ turn chosen r .answer
-    go true d = h ∙ ap (λ (n : ℕ). endingAt 1 n (turns chosen r n)) (count-is true d) ∙ sym (turn-zero r d)
-    go false d = h ∙ ap (λ (n : ℕ). endingAt 1 n (turns chosen r n)) (count-is false d)

@@ -4,8 +4,8 @@ use mathlib.Core.List.{[], _∷_}
 use Rattle.machine.specs.declared.Answer.the-variants.{IllegalType}
 use Rattle.machine.specs.Answers.{verdict, _otherwise_}
 use borrow.Author.Needs.{needs}
-use Rattle.turn.proofs.size_answer.Statement.{statement}
-use Rattle.turn.proofs.size_answer.Tie as tie
+use Rattle.carrying.proofs.size_answer.Statement.{statement}
+use Rattle.carrying.proofs.size_answer.Tie as tie
 
 is-mill-requires : tie.Need-is-mill-requires
 is-mill-requires c κs = search needs

@@ -1,7 +1,7 @@
-use Rattle.turn.proofs.CarriedLaws.{factor-one}
+use Rattle.carrying.proofs.CarriedLaws.{factor-one}
 use borrow.Author.Needs.{needs}
-use Rattle.turn.proofs.factor_of.Statement.{statement}
-use Rattle.turn.proofs.factor_of.Tie as tie
+use Rattle.carrying.proofs.factor_of.Statement.{statement}
+use Rattle.carrying.proofs.factor_of.Tie as tie
 
 returns : tie.Need-returns
 returns c = search needs

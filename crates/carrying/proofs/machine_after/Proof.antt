@@ -14,11 +14,11 @@ use Rattle.plan_numbers.specs.Parts.{placed}
 use Rattle.plan_numbers.proofs.PlanLaws.{at-m, at-store, at-multiply}
 use Rattle.run_places.proofs.RunPlaceLaws.{run-numbered, run-placed, run-planned, run-sizes}
 use Rattle.run.proofs.WordLaws.{decode-type, decode-m, decode-n, decode-k}
-use Rattle.turn.specs.Parts.{Carried}
-use Rattle.turn.proofs.CarriedLaws.{at-place, type-carried, size-carried, clear-keeps, multiply-keeps, a-keeps, b-keeps, c-keeps, plan-type}
+use Rattle.carrying.specs.Parts.{Carried}
+use Rattle.carrying.proofs.CarriedLaws.{at-place, type-carried, size-carried, clear-keeps, multiply-keeps, a-keeps, b-keeps, c-keeps, plan-type}
 use borrow.Author.Needs.{needs}
-use Rattle.turn.proofs.machine_after.Statement.{statement}
-use Rattle.turn.proofs.machine_after.Tie as tie
+use Rattle.carrying.proofs.machine_after.Statement.{statement}
+use Rattle.carrying.proofs.machine_after.Tie as tie
 
 abbrev numbers : Carried → Machine
 numbers k = k .bench .machine

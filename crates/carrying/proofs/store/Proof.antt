@@ -4,10 +4,10 @@ use Rattle.machine.specs.declared.Form.the-variants.{Plain}
 use Rattle.machine.specs.declared.Matrix.the-variants.{MatrixC}
 use Rattle.machine.specs.Operation.{Operation}
 use Rattle.run.specs.Encoding.{startOf}
-use Rattle.turn.proofs.CarriedLaws.{stores-for, c-carried}
+use Rattle.carrying.proofs.CarriedLaws.{stores-for, c-carried}
 use borrow.Author.Needs.{needs}
-use Rattle.turn.proofs.store.Statement.{statement}
-use Rattle.turn.proofs.store.Tie as tie
+use Rattle.carrying.proofs.store.Statement.{statement}
+use Rattle.carrying.proofs.store.Tie as tie
 
 wide-bytes-requires : tie.Need-wide-bytes-requires
 wide-bytes-requires c κs = search needs

@@ -7,10 +7,10 @@ use Rattle.machine.specs.Operation.{Operation}
 use Rattle.run.specs.Plan.{narrow, formOf}
 use Rattle.run.specs.Encoding.{startOf}
 use Rattle.run.proofs.FormLaws.{most-in}
-use Rattle.turn.proofs.CarriedLaws.{loads-for, a-carried}
+use Rattle.carrying.proofs.CarriedLaws.{loads-for, a-carried}
 use borrow.Author.Needs.{needs}
-use Rattle.turn.proofs.load_a.Statement.{statement}
-use Rattle.turn.proofs.load_a.Tie as tie
+use Rattle.carrying.proofs.load_a.Statement.{statement}
+use Rattle.carrying.proofs.load_a.Tie as tie
 
 form-of-requires : tie.Need-form-of-requires
 form-of-requires c κs = search needs
