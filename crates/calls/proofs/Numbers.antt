@@ -36,8 +36,9 @@ use Rattle.run.specs.Encoding.{own, handedFor}
 use Rattle.run.specs.Start.{freshRun}
 use Rattle.run.specs.Turn.{runShape, soundRun, handsOut, moved, Running, turn, afterTurns}
 use Rattle.run.proofs.HandedLaws.{turnWith}
-use Rattle.asking.specs.Parts.{placed}
-use Rattle.asking.proofs.AskingLaws.{run-numbered, run-placed, run-sizes, at-m, at-store, at-multiply, moved-sound}
+use Rattle.plan_numbers.specs.Parts.{placed}
+use Rattle.plan_numbers.proofs.PlanLaws.{at-m, at-store, at-multiply}
+use Rattle.run_places.proofs.RunPlaceLaws.{run-numbered, run-placed, run-sizes, moved-sound}
 use Rattle.run_blocks.specs.declared.Spot.{Spot}
 use Rattle.blocks.specs.Blocks.{machineOf}
 use Rattle.run_blocks.specs.RunBlocks.{runBytes, planOf, planNumbers, spotOf, spotIn, spotNumbers, placeOf, sameSpot, runOf, runFit}

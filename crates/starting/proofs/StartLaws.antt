@@ -20,7 +20,7 @@ use Rattle.run.specs.declared.Plan.{Plan}
 use Rattle.run.specs.Plan.{narrow, wide, aAt, bAt, cAt, formOf, aRows, aColumns}
 use Rattle.run.proofs.FormLaws.{most-in}
 use Rattle.run.specs.Start.{format, kindFits, planned, lying, apart, separate, RunStart, startRun, freshRun, noRun}
-use Rattle.asking.proofs.AskingLaws.{sews, factors, plan-small}
+use Rattle.plan_numbers.proofs.PlanLaws.{sews, factors, plan-small}
 
 -- ---- the numbers of a plan
 

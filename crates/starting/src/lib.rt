@@ -36,7 +36,7 @@ pub fn start(plan: Plan, m: Machine, registers: &[u8], marks: &[u8], memory: &[u
     if !settings::faults::is_sound(m, registers, marks) {
         return refused(plan, Answer::BadArguments);
     }
-    if !asking::is_planned(plan) {
+    if !plan_numbers::is_planned(plan) {
         return refused(plan, Answer::BadArguments);
     }
     if !tests::is_lying(plan, memory) {

@@ -2,10 +2,10 @@
 use address::rows_distinct;
 use address::rows_inside;
 use address::rows_unsealed;
-use asking::a_column;
-use asking::a_row;
 use machine::Machine;
 use overlap::rows_apart;
+use plan_numbers::a_column;
+use plan_numbers::a_row;
 use run::Plan;
 ghost use mathlib.Core.Path.{_≡_};
 ghost use mathlib.Core.Bool.{true};

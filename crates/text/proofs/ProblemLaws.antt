@@ -18,7 +18,7 @@ use Rattle.machine.specs.Tests.{all, every, allOf, isIn}
 use Rattle.machine.specs.Geometry.{elen}
 use Rattle.machine.proofs.TestLaws.{Each, every-each, each-every, each-in, all-at, false-true}
 use Rattle.run.specs.Start.{format}
-use Rattle.asking.proofs.AskingLaws.{sews, factors}
+use Rattle.plan_numbers.proofs.PlanLaws.{sews, factors}
 use Rattle.text.specs.declared.Parsed.{Parsed}
 use Rattle.text.specs.declared.Parsed.the-variants.{Posed, Refused}
 use Rattle.text.specs.Text.{numbers}

@@ -1,3 +1,3 @@
 -- Laws for the proofs of the functions.
 pub mod TurnLaws
-pub mod CarriedLaws
+pub mod ProgressLaws

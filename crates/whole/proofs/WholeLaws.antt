@@ -22,7 +22,7 @@ use Rattle.run.proofs.RefusalLaws.{number-done, number-refused}
 use Rattle.run.proofs.Demand1.{whole-refusal-changes-nothing}
 use Rattle.run.proofs.Demand3.{demand-3-ours}
 use Rattle.run.proofs.Whole.{whole-delivers}
-use Rattle.asking.proofs.CountLaws.{count-least, few-outer}
+use Rattle.run_places.proofs.CountLaws.{count-least, few-outer}
 use Rattle.turn.proofs.TurnLaws.{turns-stop}
 
 -- ---- how many steps there are

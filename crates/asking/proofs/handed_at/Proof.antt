@@ -5,8 +5,10 @@ use Rattle.machine.specs.Setting.{chosen}
 use Rattle.run.specs.declared.Place.{Place}
 use Rattle.run.specs.Places.{wordAt}
 use Rattle.run.specs.Turn.{runShape}
-use Rattle.asking.specs.Parts.{placed, handedOf}
-use Rattle.asking.proofs.AskingLaws.{run-numbered, run-placed, run-planned, run-sizes, at-m, at-store, at-multiply}
+use Rattle.plan_numbers.specs.Parts.{placed}
+use Rattle.asking.specs.Parts.{handedOf}
+use Rattle.plan_numbers.proofs.PlanLaws.{at-m, at-store, at-multiply}
+use Rattle.run_places.proofs.RunPlaceLaws.{run-numbered, run-placed, run-planned, run-sizes}
 use borrow.Author.Needs.{needs}
 use Rattle.asking.proofs.handed_at.Statement.{statement}
 use Rattle.asking.proofs.handed_at.Tie as tie

@@ -4,7 +4,8 @@ use borrow.Author.Tests.{not-true, not-false}
 use Rattle.machine.specs.declared.Answer.the-variants.{Done}
 use Rattle.machine.specs.Setting.{chosen}
 use Rattle.run.specs.Turn.{soundRun}
-use Rattle.asking.proofs.AskingLaws.{run-numbered, giving, ask-unsound, ask-end, ask-done}
+use Rattle.run_places.proofs.RunPlaceLaws.{run-numbered}
+use Rattle.asking.proofs.AskingLaws.{giving, ask-unsound, ask-end, ask-done}
 use borrow.Author.Needs.{needs}
 use Rattle.asking.proofs.next.Statement.{statement}
 use Rattle.asking.proofs.next.Tie as tie

@@ -7,8 +7,9 @@ use borrow.Author.Needs.{needs}
 use Rattle.width.specs.Blocks.{count}
 use Rattle.machine.specs.Setting.{chosen}
 use Rattle.run.specs.Turn.{soundRun}
-use Rattle.asking.proofs.AskingLaws.{run-numbered, run-most, run-sizes, run-blocks, no-steps, steps-counted}
-use Rattle.asking.proofs.CountLaws.{count-least}
+use Rattle.run_places.proofs.RunPlaceLaws.{run-numbered, run-most, run-sizes, run-blocks}
+use Rattle.asking.proofs.AskingLaws.{no-steps, steps-counted}
+use Rattle.run_places.proofs.CountLaws.{count-least}
 use Rattle.asking.proofs.steps.Statement.{statement}
 use Rattle.asking.proofs.steps.Tie as tie
 

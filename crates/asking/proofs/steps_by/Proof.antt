@@ -1,6 +1,6 @@
 use native.Mathlib.Omega.{arith}
 use borrow.Author.Needs.{needs}
-use Rattle.asking.proofs.CountLaws.{few-inner, few-outer}
+use Rattle.run_places.proofs.CountLaws.{few-inner, few-outer}
 use Rattle.asking.proofs.steps_by.Statement.{statement}
 use Rattle.asking.proofs.steps_by.Tie as tie
 

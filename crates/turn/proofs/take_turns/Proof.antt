@@ -10,12 +10,12 @@ use Rattle.machine.specs.Geometry.{benchOf}
 use Rattle.machine.specs.Setting.{chosen}
 use Rattle.machine.specs.Faults.{sound, soundBench}
 use Rattle.run.specs.declared.Run.{Run}
-use Rattle.asking.specs.Parts.{Most}
+use Rattle.run_places.specs.Parts.{Most, atPlace}
 use Rattle.run.specs.Turn.{TurnOutcome, TurnsOutcome, running, turn, turns, soundRun, runShape}
-use Rattle.asking.proofs.AskingLaws.{run-numbered, moved-sound}
+use Rattle.run_places.proofs.RunPlaceLaws.{run-numbered, moved-sound}
+use Rattle.carrying.proofs.CarriedLaws.{numbers-joined}
 use Rattle.turn.proofs.TurnLaws.{taking, turns-refused, turn-sound}
-use Rattle.turn.proofs.CarriedLaws.{numbers-joined, moved-place, at-end, turn-carried, turns-carried, turn-unsound, turns-unsound, ends-done, ends-refused}
-use Rattle.turn.specs.Parts.{atPlace}
+use Rattle.turn.proofs.ProgressLaws.{moved-place, at-end, turn-carried, turns-carried, turn-unsound, turns-unsound, ends-done, ends-refused}
 use Rattle.settings.proofs.FaultLaws.{ready}
 use Rattle.turn.proofs.take_turns.Statement.{statement}
 use Rattle.turn.proofs.take_turns.Tie as tie

@@ -6,7 +6,7 @@ use Rattle.machine.specs.Answers.{reply}
 use Rattle.machine.specs.Setting.{chosen}
 use Rattle.run.specs.Turn.{running, turns}
 use Rattle.turn.proofs.TurnLaws.{turn-fault}
-use Rattle.turn.proofs.CarriedLaws.{at-end, one-turn}
+use Rattle.turn.proofs.ProgressLaws.{at-end, one-turn}
 use borrow.Author.Needs.{needs}
 use Rattle.turn.proofs.turn.Statement.{statement}
 use Rattle.turn.proofs.turn.Tie as tie

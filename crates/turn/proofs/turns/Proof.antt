@@ -4,7 +4,7 @@ use Rattle.machine.specs.Geometry.{benchOf}
 use Rattle.machine.specs.Setting.{chosen}
 use Rattle.run.specs.Turn.{running, turns}
 use Rattle.turn.proofs.TurnLaws.{turns-fault}
-use Rattle.turn.proofs.CarriedLaws.{at-end}
+use Rattle.turn.proofs.ProgressLaws.{at-end}
 use borrow.Author.Needs.{needs}
 use Rattle.turn.proofs.turns.Statement.{statement}
 use Rattle.turn.proofs.turns.Tie as tie

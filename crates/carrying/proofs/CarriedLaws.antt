@@ -1,0 +1,200 @@
+-- The word at each place is the instruction that code carries out there.
+use mathlib.Core.Path.{_≡_, refl, sym, ap, ap₂, _∙_, subst}
+use mathlib.Core.Bool.{Bool, true, false, cond, not}
+use mathlib.Core.List.{List, [], _∷_}
+use Prim.Native.Nat.{ℕ, _+_, _*_, _^_, _<_}
+use lib.Dec.{leb}
+use lib.IntN.{pos}
+use Rattle.width.specs.Reduce.{reduce}
+use Rattle.machine.specs.declared.Machine.{Machine}
+use Rattle.machine.specs.declared.Answer.{Answer}
+use Rattle.machine.specs.declared.Answer.the-variants.{Done, IllegalType}
+use Rattle.machine.specs.declared.Stepped.{Stepped}
+use Rattle.machine.specs.declared.Dimension.{Dimension}
+use Rattle.machine.specs.declared.Factor.{Factor}
+use Rattle.machine.specs.declared.Factor.the-variants.{Single, Double, Quadruple}
+use Rattle.machine.specs.declared.Form.the-variants.{Plain}
+use Rattle.machine.specs.declared.Matrix.the-variants.{MatrixA, MatrixB, MatrixC}
+use Rattle.machine.specs.declared.Instruction.{Instruction}
+use Rattle.machine.specs.declared.Instruction.the-variants.{SetTypeImmediate, SetTileImmediate, Load, Store, Multiply, ScaleImmediate, FloatMultiply}
+use Rattle.machine.specs.declared.Reply.{Reply}
+use Rattle.machine.specs.Answers.{reply, verdict, isDone, _otherwise_}
+use Rattle.machine.specs.Geometry.{elen, Bench, benchOf, stateOf}
+use Rattle.machine.specs.Setting.{chosen, newType, mill}
+use Rattle.machine.specs.Refusals.{typed, checks}
+use Rattle.machine.specs.Faults.{sound}
+use Rattle.machine.specs.Listing.{decode}
+use Rattle.machine.specs.Operation.{Operation, times, stateAfter}
+use Rattle.machine.specs.Step.{Outcome, outcome}
+use Rattle.machine.proofs.TestLaws.{every-each}
+use Rattle.settings.specs.Parts.{ours, withType, withSize, granted, sizeStepped}
+use Rattle.operations.specs.Parts.{WritesRegisters, WritesMemory}
+use Rattle.operations.proofs.OutcomeLaws.{step-decoded, type-outcome, size-outcome, loads-outcome, stores-outcome}
+use Rattle.run.specs.declared.Plan.{Plan}
+use Rattle.run.specs.declared.Run.{Run}
+use Rattle.run.specs.declared.Place.{Place}
+use Rattle.run.specs.Words.{Op}
+use Rattle.run.specs.Plan.{Elements, integers, floats, elementsOf, narrow, wide, msew, typeOf, formOf, aRow, aColumn}
+use Rattle.run.specs.Places.{wordAt}
+use Rattle.run.specs.Encoding.{own, multiplyWord, handedFor, startOf, log}
+use Rattle.run.specs.Start.{format, kindFits, planned}
+use Rattle.run.specs.Turn.{runShape}
+use Rattle.run.proofs.NumberLaws.{multiplyOf}
+use Rattle.run.proofs.WordLaws.{formats, decode-float, decode-a, decode-b, decode-c, msew<3, narrow-is, wide<3, wide-is, type-small}
+use Rattle.carrying.specs.Parts.{Carried, carried, carriedFor, carriedBy, carriedAt}
+
+pub plan-format : (P : Plan) → planned P ≡ true → format (P .sew) (P .factor) ≡ true
+unfolding planned
+plan-format P h = every-each (format (P .sew) (P .factor) ∷ leb (P .m) 1024 ∷ leb (P .k) 1024 ∷ leb (P .n) 1024 ∷ kindFits P ∷ []) h .0
+
+pub plan-type : (P : Plan) → planned P ≡ true → typeOf P < 8192
+plan-type P h = type-small (ours nothing) P (plan-format P h) (stateOf nothing [] [])
+  where
+    nothing : Machine
+    nothing = record { rlen = 0; mlen = 0; mtype = 0; «tile_m» = 0; «tile_k» = 0; «tile_n» = 0; «seal_start» = 0; «seal_length» = 0; rule = 0 }
+
+pub factor-one : (P : Plan) → planned P ≡ true → ¬ (P .factor ≡ 4) → ¬ (P .factor ≡ 2) → 1 ≡ P .factor
+factor-one P h p q = let F = formats (P .sew) (P .factor) (plan-format P h) .1 in go (F .factor) (F .is)
+  where
+    go : (x : Factor) → times x ≡ P .factor → 1 ≡ P .factor
+    go Single e = e
+    go Double e = absurd (q (sym e))
+    go Quadruple e = absurd (p (sym e))
+
+-- ---- a word, from the instruction that it decodes to
+
+-- but for the machine's numbers, which are those of the word
+pub numbers-apart : (a a′ : Reply) (m : Machine) (regs marks mem : List ℕ) (k : Carried) → a′ ≡ a → carried a m regs marks mem ≡ k
+    → carried a′ (k .bench .machine) regs marks mem ≡ k
+numbers-apart a a′ m regs marks mem k e h =
+    ap₂ (λ (a : Reply) (m : Machine). carried a m regs marks mem) e (sym (ap (λ (k : Carried). k .bench .machine) h)) ∙ h
+
+pub numbers-joined : (a : Reply) (m : Machine) (regs marks mem : List ℕ) (k : Carried) → m ≡ k .bench .machine → carried a (k .bench .machine) regs marks mem ≡ k
+    → carried a m regs marks mem ≡ k
+numbers-joined a m regs marks mem k e h = ap (λ (m : Machine). carried a m regs marks mem) e ∙ h
+
+-- the word at a place of the run
+pub at-place : (R : Run) (B : Bench) (q : Place) → R .place ≡ q → carriedBy (R .plan) (wordAt (runShape chosen R) q) B ≡ carriedAt R B
+at-place R B q e = ap (λ (q : Place). carriedBy (R .plan) (wordAt (runShape chosen R) q) B) (sym e)
+
+module _ (P : Plan) (o : Op) (m : Machine) (regs marks mem : List ℕ) (s : sound m regs marks ≡ true) where
+  abbrev B : Bench
+  B = benchOf m regs marks mem
+
+  abbrev xs : List ℕ
+  xs = own (handedFor P o)
+
+  by-decoding : (i : Instruction) → decode (handedFor P o .word) ≡ i → (out : Outcome) → out ≡ outcome (ours m) i xs B
+      → record { answer = out .answer; bench = out .bench } ≡ carriedFor P o B
+  by-decoding i d out e = ap (λ (out : Outcome). record { answer = out .answer; bench = out .bench }) (e ∙ step-decoded (handedFor P o .word) xs B i (sym d))
+
+  pub type-carried : (v : ℕ) → decode (handedFor P o .word) ≡ SetTypeImmediate 0 v → carried (reply Done) (withType m (newType elen v)) regs marks mem ≡ carriedFor P o B
+  type-carried v d = by-decoding (SetTypeImmediate 0 v) d _ (type-outcome m (SetTypeImmediate 0 v) xs regs marks mem s refl v 0 refl refl)
+
+  pub size-carried : (d : Dimension) (a : ℕ) → decode (handedFor P o .word) ≡ SetTileImmediate d 0 a
+      → carried (reply (sizeStepped m d a .answer)) (sizeStepped m d a .machine) regs marks mem ≡ carriedFor P o B
+  size-carried d a c = by-decoding (SetTileImmediate d 0 a) c _ (size-outcome m (SetTileImmediate d 0 a) xs regs marks mem s refl d a 0 refl refl)
+
+-- answer 2 of a tile setting
+pub size-answers : (m : Machine) (d : Dimension) (a : ℕ) → verdict (typed (stateOf m [] []) ∷ []) ≡ sizeStepped m d a .answer
+size-answers m d a = go (mill (m .mtype)) (granted m d a)
+  where
+    go : (t : Bool) (g : ℕ) → verdict ((not t otherwise IllegalType) ∷ [])
+        ≡ cond {A = Stepped} t (record { answer = IllegalType; machine = m }) (record { answer = Done; machine = withSize m d g }) .answer
+    go true g = refl
+    go false g = refl
+
+-- ---- the clear and the multiply
+
+pub zero-residue : reduce (2 ^ 32) (pos 0) ≡ 0
+unfolding reduce
+zero-residue = refl
+
+module _ (P : Plan) (ok : planned P ≡ true) (m : Machine) (regs marks mem : List ℕ) (s : sound m regs marks ≡ true) (f : Factor) (e : times f ≡ P .factor) (a : Answer) (regs′ marks′ : List ℕ) where
+  pub clear-carried : WritesRegisters m (Operation.scale (times f) 0 0 (pos 0)) regs marks mem a regs′ marks′
+      → carried (reply a) m regs′ marks′ mem ≡ carriedFor P Op.clear (benchOf m regs marks mem)
+  clear-carried l =
+      let F = formats (P .sew) (P .factor) (plan-format P ok) .1 in
+      by-decoding P Op.clear m regs marks mem s (ScaleImmediate (F .factor) 0 0 0) (F .clears) _
+      (loads-outcome m (ScaleImmediate (F .factor) 0 0 0) (own (handedFor P Op.clear)) regs marks mem s refl (Operation.scale (times f) 0 0 (pos 0))
+      (ap (λ (g : ℕ). Operation.scale g 0 0 (pos 0)) (F .is ∙ sym e)) refl a regs′ marks′ l refl refl)
+
+  -- by the elements of the run
+  pub multiply-carried : (q : Elements) → elementsOf P ≡ q → WritesRegisters m (multiplyOf q (times f)) regs marks mem a regs′ marks′
+      → carried (reply a) m regs′ marks′ mem ≡ carriedFor P Op.multiply (benchOf m regs marks mem)
+  multiply-carried integers k l =
+      let F = formats (P .sew) (P .factor) (plan-format P ok) .1 in
+      by-decoding P Op.multiply m regs marks mem s (Multiply (F .factor) 0 0 1) (ap (λ (q : Elements). decode (multiplyWord q (P .factor))) k ∙ F .multiplies) _
+      (loads-outcome m (Multiply (F .factor) 0 0 1) (own (handedFor P Op.multiply)) regs marks mem s refl (Operation.multiply (times f) 0 0 1)
+      (ap (λ (g : ℕ). Operation.multiply g 0 0 1) (F .is ∙ sym e)) refl a regs′ marks′ l refl refl)
+  multiply-carried floats k l =
+      by-decoding P Op.multiply m regs marks mem s (FloatMultiply 0 0 1) (ap (λ (q : Elements). decode (multiplyWord q (P .factor))) k ∙ decode-float) _
+      (loads-outcome m (FloatMultiply 0 0 1) (own (handedFor P Op.multiply)) regs marks mem s refl (Operation.floatMultiply 0 0 1) refl refl a regs′ marks′ l refl refl)
+
+-- ---- loads and the store
+
+-- an operation whose numbers the code has found
+pub loads-for : {m : Machine} {o o′ : Operation} {regs marks mem : List ℕ} {a : Answer} {regs′ marks′ : List ℕ} → o ≡ o′ → WritesRegisters m o regs marks mem a regs′ marks′
+    → WritesRegisters m o′ regs marks mem a regs′ marks′
+loads-for {m} {o} {o′} {regs} {marks} {mem} {a} {regs′} {marks′} e l = subst (λ (o : Operation). WritesRegisters m o regs marks mem a regs′ marks′) e l
+
+pub stores-for : {m : Machine} {o o′ : Operation} {regs marks mem : List ℕ} {a : Answer} {mem′ : List ℕ} → o ≡ o′ → WritesMemory m o regs marks mem a mem′ → WritesMemory m o′ regs marks mem a mem′
+stores-for {m} {o} {o′} {regs} {marks} {mem} {a} {mem′} e l = subst (λ (o : Operation). WritesMemory m o regs marks mem a mem′) e l
+
+module _ (P : Plan) (ok : planned P ≡ true) (m : Machine) (regs marks mem : List ℕ) (s : sound m regs marks ≡ true) (a : Answer) where
+  pub a-carried : (i t : ℕ) (regs′ marks′ : List ℕ)
+      → WritesRegisters m (Operation.load (formOf P) MatrixA 0 (narrow P) (startOf (P .a) (aRow P i t) (aColumn P i t * narrow P)) (P .a .stride)) regs marks mem a regs′ marks′
+      → carried (reply a) m regs′ marks′ mem ≡ carriedFor P (Op.loadA i t) (benchOf m regs marks mem)
+  a-carried i t regs′ marks′ l =
+      let g = plan-format P ok in
+      let k : Instruction = Load (formOf P) MatrixA (2 ^ msew P) 0 10 11 in
+      let p = startOf (P .a) (aRow P i t) (aColumn P i t * narrow P) in
+      by-decoding P (Op.loadA i t) m regs marks mem s k (decode-a (formOf P) (msew P) (msew<3 (ours m) P g (stateOf m regs marks))) _
+      (loads-outcome m k (own (handedFor P (Op.loadA i t))) regs marks mem s refl (Operation.load (formOf P) MatrixA 0 (narrow P) p (P .a .stride))
+      (ap (λ (w : ℕ). Operation.load (formOf P) MatrixA 0 w p (P .a .stride)) (narrow-is (ours m) P g (stateOf m regs marks))) refl a regs′ marks′ l refl refl)
+
+  pub b-carried : (t j : ℕ) (regs′ marks′ : List ℕ) → WritesRegisters m (Operation.load Plain MatrixB 1 (narrow P) (startOf (P .b) t (j * narrow P)) (P .b .stride)) regs marks mem a regs′ marks′
+      → carried (reply a) m regs′ marks′ mem ≡ carriedFor P (Op.loadB t j) (benchOf m regs marks mem)
+  b-carried t j regs′ marks′ l =
+      let g = plan-format P ok in
+      let k : Instruction = Load Plain MatrixB (2 ^ msew P) 1 10 11 in
+      let p = startOf (P .b) t (j * narrow P) in
+      by-decoding P (Op.loadB t j) m regs marks mem s k (decode-b (msew P) (msew<3 (ours m) P g (stateOf m regs marks))) _
+      (loads-outcome m k (own (handedFor P (Op.loadB t j))) regs marks mem s refl (Operation.load Plain MatrixB 1 (narrow P) p (P .b .stride))
+      (ap (λ (w : ℕ). Operation.load Plain MatrixB 1 w p (P .b .stride)) (narrow-is (ours m) P g (stateOf m regs marks))) refl a regs′ marks′ l refl refl)
+
+  pub c-carried : (i j : ℕ) (mem′ : List ℕ) → WritesMemory m (Operation.store Plain MatrixC 0 (wide P) (startOf (P .c) i (j * wide P)) (P .c .stride)) regs marks mem a mem′
+      → carried (reply a) m regs marks mem′ ≡ carriedFor P (Op.store i j) (benchOf m regs marks mem)
+  c-carried i j mem′ l =
+      let g = plan-format P ok in
+      let k : Instruction = Store Plain MatrixC (2 ^ (msew P + log (P .factor))) 0 10 11 in
+      let p = startOf (P .c) i (j * wide P) in
+      by-decoding P (Op.store i j) m regs marks mem s k (decode-c (msew P + log (P .factor)) (wide<3 (ours m) P g (stateOf m regs marks))) _
+      (stores-outcome m k (own (handedFor P (Op.store i j))) regs marks mem s refl (Operation.store Plain MatrixC 0 (wide P) p (P .c .stride))
+      (ap (λ (w : ℕ). Operation.store Plain MatrixC 0 w p (P .c .stride)) (wide-is (ours m) P g (stateOf m regs marks))) refl a mem′ l refl)
+
+-- ---- only a setting changes the machine's numbers
+
+module _ (P : Plan) (ok : planned P ≡ true) (m : Machine) (regs marks mem : List ℕ) (s : sound m regs marks ≡ true) where
+  -- what an operation that writes registers leaves
+  loaded : (o : Operation) → let r : Answer = verdict (checks (ours m) o (stateOf m regs marks) mem) in
+      WritesRegisters m o regs marks mem r (cond (isDone r) (stateAfter (ours m) o (stateOf m regs marks) mem .regs) regs) (cond (isDone r) (stateAfter (ours m) o (stateOf m regs marks) mem .marks) marks)
+  loaded o = record { answer-is = refl; registers-are = refl; marks-are = refl }
+
+  abbrev numbers : Carried → Machine
+  numbers k = k .bench .machine
+
+  pub clear-keeps : m ≡ numbers (carriedFor P Op.clear (benchOf m regs marks mem))
+  clear-keeps = let F = formats (P .sew) (P .factor) (plan-format P ok) .1 in ap numbers (clear-carried P ok m regs marks mem s (F .factor) (F .is) _ _ _ (loaded _))
+
+  pub multiply-keeps : m ≡ numbers (carriedFor P Op.multiply (benchOf m regs marks mem))
+  multiply-keeps = let F = formats (P .sew) (P .factor) (plan-format P ok) .1 in ap numbers (multiply-carried P ok m regs marks mem s (F .factor) (F .is) _ _ _ (elementsOf P) refl (loaded _))
+
+  pub a-keeps : (i t : ℕ) → m ≡ numbers (carriedFor P (Op.loadA i t) (benchOf m regs marks mem))
+  a-keeps i t = ap numbers (a-carried P ok m regs marks mem s _ i t _ _ (loaded _))
+
+  pub b-keeps : (t j : ℕ) → m ≡ numbers (carriedFor P (Op.loadB t j) (benchOf m regs marks mem))
+  b-keeps t j = ap numbers (b-carried P ok m regs marks mem s _ t j _ _ (loaded _))
+
+  pub c-keeps : (i j : ℕ) → m ≡ numbers (carriedFor P (Op.store i j) (benchOf m regs marks mem))
+  c-keeps i j = ap numbers (c-carried P ok m regs marks mem s _ i j _ (record { answer-is = refl; memory-is = refl }))

@@ -1,0 +1,32 @@
+use mathlib.Core.Path.{refl}
+use lib.IntN.{pos}
+use Rattle.carrying.proofs.CarriedLaws.{zero-residue, clear-carried}
+use borrow.Author.Needs.{needs}
+use Rattle.carrying.proofs.clear.Statement.{statement}
+use Rattle.carrying.proofs.clear.Tie as tie
+
+factor-of-requires : tie.Need-factor-of-requires
+factor-of-requires c κs = search needs
+
+scale-requires : tie.Need-scale-requires
+scale-requires c κs = search needs
+
+same-length : tie.Need-same-length
+same-length c = search needs
+
+same-length-2 : tie.Need-same-length-2
+same-length-2 c = search needs
+
+returns : tie.Need-returns
+returns c =
+    let l = c .before .before .before .before in
+    let f = l .before .before .before in
+    let s = f .before .before .before in
+    let a = s .args in
+    let k = l .scale .ensures (pos 0) zero-residue refl in
+    λ mem. clear-carried (a .plan) (s .pre .1) (a .m) (a .registers .now) (a .marks .now) mem (s .pre .0) (f .factor-of .result) (f .factor-of .ensures) (l .scale .result) _ _
+    (record { answer-is = k .answer-is; registers-are = k .registers-are; marks-are = k .marks-are })
+
+pub clear-spec : {M : Type 1} → statement M
+clear-spec =
+    tie.close (tie.spec factor-of-requires scale-requires same-length same-length-2 returns)

@@ -1,0 +1,51 @@
+use mathlib.Core.Path.{ap, ap₂, _∙_}
+use Prim.Native.Nat.{ℕ, _*_}
+use Rattle.run.specs.Encoding.{startOf}
+use Rattle.machine.specs.Operation.{Operation}
+use Rattle.carrying.proofs.CarriedLaws.{loads-for}
+use borrow.Author.Needs.{needs}
+use Rattle.carrying.proofs.load.Statement.{statement}
+use Rattle.carrying.proofs.load.Tie as tie
+
+narrow-bytes-requires : tie.Need-narrow-bytes-requires
+narrow-bytes-requires c κs = search needs
+
+small-times-requires : tie.Need-small-times-requires
+small-times-requires c κs = search needs
+
+start-of-requires : tie.Need-start-of-requires
+start-of-requires c κs = search needs
+
+load-requires : tie.Need-load-requires
+load-requires c κs = search needs
+
+same-length : tie.Need-same-length
+same-length c = search needs
+
+same-length-2 : tie.Need-same-length-2
+same-length-2 c = search needs
+
+returns : tie.Need-returns
+returns c =
+    let l = c .before .before .before .before in
+    let p = l .before .before .before in
+    let t = p .before in
+    let n = t .before in
+    let s = n .before .before .before .before in
+    let a = s .args in
+    let w = n .narrow-bytes .ensures .0 in
+    let e = p .start-of .ensures ∙ ap (startOf (a .layout) (a .row)) (t .small-times .ensures ∙ ap (λ (b : ℕ). a .column * b) w) in
+    let o = ap₂ (λ (w p : ℕ). Operation.load (a .form) (a .matrix) (a .md) w p (a .layout .stride)) w e in
+    loads-for o (l .load .ensures)
+
+pub load-spec : {M : Type 1} → statement M
+load-spec =
+    tie.close
+    (tie.spec
+    narrow-bytes-requires
+    small-times-requires
+    start-of-requires
+    load-requires
+    same-length
+    same-length-2
+    returns)

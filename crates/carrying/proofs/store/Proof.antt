@@ -1,0 +1,50 @@
+use mathlib.Core.Path.{ap, ap₂, _∙_}
+use Prim.Native.Nat.{ℕ, _*_}
+use Rattle.machine.specs.declared.Form.the-variants.{Plain}
+use Rattle.machine.specs.declared.Matrix.the-variants.{MatrixC}
+use Rattle.machine.specs.Operation.{Operation}
+use Rattle.run.specs.Encoding.{startOf}
+use Rattle.carrying.proofs.CarriedLaws.{stores-for, c-carried}
+use borrow.Author.Needs.{needs}
+use Rattle.carrying.proofs.store.Statement.{statement}
+use Rattle.carrying.proofs.store.Tie as tie
+
+wide-bytes-requires : tie.Need-wide-bytes-requires
+wide-bytes-requires c κs = search needs
+
+small-times-requires : tie.Need-small-times-requires
+small-times-requires c κs = search needs
+
+start-of-requires : tie.Need-start-of-requires
+start-of-requires c κs = search needs
+
+store-requires : tie.Need-store-requires
+store-requires c κs = search needs
+
+same-length : tie.Need-same-length
+same-length c = search needs
+
+returns : tie.Need-returns
+returns c =
+    let l = c .before .before in
+    let p = l .before .before in
+    let t = p .before .before in
+    let n = t .before in
+    let s = n .before .before .before .before in
+    let a = s .args in
+    let w = n .wide-bytes .ensures .0 in
+    let e = p .start-of .ensures ∙ ap (startOf (a .plan .c) (a .row)) (t .small-times .ensures ∙ ap (λ (b : ℕ). a .column * b) w) in
+    let o = ap₂ (λ (w p : ℕ). Operation.store Plain MatrixC 0 w p (a .plan .c .stride)) w e in
+    c-carried (a .plan) (s .pre .1 .0) (a .m) (a .registers .now) (a .marks .now) (a .memory .now) (s .pre .0) (l .store .result) (a .row) (a .column) _
+    (stores-for o (l .store .ensures))
+
+pub store-spec : {M : Type 1} → statement M
+store-spec =
+    tie.close
+    (tie.spec
+    wide-bytes-requires
+    small-times-requires
+    start-of-requires
+    store-requires
+    same-length
+    returns)

@@ -1,0 +1,38 @@
+-- What the contracts of inner functions name; a reader of the demand need not read it.
+use mathlib.Core.List.{List}
+use mathlib.Core.Option.{Option, none, some}
+use Prim.Native.Nat.{ℕ}
+use Rattle.machine.specs.declared.Answer.the-variants.{BadArguments}
+use Rattle.machine.specs.declared.Machine.{Machine}
+use Rattle.machine.specs.declared.Reply.{Reply}
+use Rattle.machine.specs.Answers.{reply}
+use Rattle.machine.specs.Geometry.{Bench, benchOf}
+use Rattle.machine.specs.Setting.{chosen}
+use Rattle.machine.specs.Step.{Outcome, step}
+use Rattle.run.specs.declared.Plan.{Plan}
+use Rattle.run.specs.declared.Run.{Run}
+use Rattle.run.specs.Words.{Op}
+use Rattle.run.specs.Encoding.{own, handedFor}
+use Rattle.run.specs.Places.{wordAt}
+use Rattle.run.specs.Turn.{runShape}
+
+-- what carrying out a word answers and leaves, but for the run's own scalars
+pub record Carried : Type 0 where
+  pub answer : Reply
+  pub bench : Bench
+
+abbrev pub carried : Reply → Machine → (registers marks memory : List ℕ) → Carried
+carried a m registers marks memory = record { answer = a; bench = benchOf m registers marks memory }
+
+-- the word of an operation of a run
+abbrev pub carriedFor : Plan → Op → Bench → Carried
+carriedFor P o B = let out : Outcome = step (handedFor P o .word) (own (handedFor P o)) B in record { answer = out .answer; bench = out .bench }
+
+-- a word, if there is one; past the last, 8
+abbrev pub carriedBy : Plan → Option Op → Bench → Carried
+carriedBy P none B = record { answer = reply BadArguments; bench = B }
+carriedBy P (some o) B = carriedFor P o B
+
+-- the word at the place of a run
+abbrev pub carriedAt : Run → Bench → Carried
+carriedAt R B = carriedBy (R .plan) (wordAt (runShape chosen R) (R .place)) B

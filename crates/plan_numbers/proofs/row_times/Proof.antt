@@ -1,0 +1,27 @@
+use mathlib.Core.Path.{_∙_}
+use Prim.Native.Nat.{_/_, _%_, _≤_}
+use native.Mathlib.Nat.{mul-le-mul}
+use native.Mathlib.Omega.{arith}
+use Rattle.plan_numbers.proofs.PlanLaws.{row-halves}
+use borrow.Author.Needs.{needs}
+use Rattle.plan_numbers.proofs.row_times.Statement.{statement}
+use Rattle.plan_numbers.proofs.row_times.Tie as tie
+
+mul-high : tie.Need-mul-high
+mul-high c = let h : c .args .stride / 4294967296 ≤ 4294967295 = omega arith in omega (arith, mul-le-mul (c .pre) h)
+
+mul-low : tie.Need-mul-low
+mul-low c = let h : c .args .stride % 4294967296 ≤ 4294967295 = omega arith in omega (arith, mul-le-mul (c .pre) h)
+
+mul-wrapping-add-u64 : tie.Need-mul-wrapping-add-u64
+mul-wrapping-add-u64 c = search needs
+
+wrapping-add-u64-requires : tie.Need-wrapping-add-u64-requires
+wrapping-add-u64-requires c κs = search needs
+
+returns : tie.Need-returns
+returns c = c .wrapping-add-u64 .ensures ∙ row-halves (c .before .args .row) (c .before .args .stride)
+
+pub row-times-spec : {M : Type 1} → statement M
+row-times-spec =
+    tie.close (tie.spec mul-high mul-low mul-wrapping-add-u64 wrapping-add-u64-requires returns)

@@ -1,0 +1,30 @@
+use mathlib.Core.Path.{ap, _∙_}
+use Prim.Native.Nat.{ℕ, _+_, _%_, _^_}
+use native.Mathlib.Omega.{arith}
+use Rattle.plan_numbers.proofs.PlanLaws.{start-by}
+use borrow.Author.Needs.{needs}
+use Rattle.plan_numbers.proofs.start_of.Statement.{statement}
+use Rattle.plan_numbers.proofs.start_of.Tie as tie
+
+row-times-requires : tie.Need-row-times-requires
+row-times-requires c κs = search needs
+
+wrapping-add-u64-requires : tie.Need-wrapping-add-u64-requires
+wrapping-add-u64-requires c κs = search needs
+
+wrapping-add-u64-requires-2 : tie.Need-wrapping-add-u64-requires-2
+wrapping-add-u64-requires-2 c κs = search needs
+
+returns : tie.Need-returns
+returns c =
+    let f = c .before in
+    let t = f .before in
+    let s = t .before in
+    c .wrapping-add-u642 .ensures
+    ∙ ap (λ (x : ℕ). (x + s .args .bytes) % 2 ^ 64) (f .wrapping-add-u64 .ensures ∙ ap (λ (x : ℕ). (s .args .address + x) % 2 ^ 64) (t .row-times .ensures))
+    ∙ start-by (record { address = s .args .address; stride = s .args .stride }) (s .args .row) (s .args .bytes) (s .pre) (omega arith) (omega arith) (omega arith)
+
+pub start-of-spec : {M : Type 1} → statement M
+start-of-spec =
+    tie.close
+    (tie.spec row-times-requires wrapping-add-u64-requires wrapping-add-u64-requires-2 returns)

@@ -1,0 +1,27 @@
+use Rattle.plan_numbers.proofs.PlanLaws.{type-eight, type-plain}
+use native.Mathlib.Omega.{arith}
+use borrow.Author.Needs.{needs}
+use Rattle.plan_numbers.proofs.type_of.Statement.{statement}
+use Rattle.plan_numbers.proofs.type_of.Tie as tie
+
+width-code-requires : tie.Need-width-code-requires
+width-code-requires c κs = search needs
+
+cast-code : tie.Need-cast-code
+cast-code c = search needs
+
+add-result : tie.Need-add-result
+add-result c = search needs
+
+returns : tie.Need-returns
+returns c =
+    let w = c .before .before in
+    (type-eight (w .before .args .plan) (w .width-code .result) (w .width-code .ensures .0) (c .if1 .taken), omega (arith, w .width-code .ensures .1))
+
+returns-2 : tie.Need-returns-2
+returns-2 c =
+    let w = c .before .before in
+    (type-plain (w .before .args .plan) (w .width-code .result) (w .width-code .ensures .0) (c .if1 .left), omega (arith, w .width-code .ensures .1))
+
+pub type-of-spec : {M : Type 1} → statement M
+type-of-spec = tie.close (tie.spec width-code-requires cast-code add-result returns returns-2)

@@ -1,0 +1,312 @@
+// The places of a run: whether it is at one that a start and turns come to, and the next.
+use run::Place;
+use run::Run;
+ghost use mathlib.Core.Path.{_≡_};
+ghost use mathlib.Core.Bool.{true};
+ghost use mathlib.Core.List.{[], _∷_};
+ghost use Prim.Native.Nat.{_+_, _-_, _≤_, _<_};
+ghost use lib.Dec.{ltb};
+ghost use Rattle.machine.specs.Tests.{every, isIn};
+ghost use Rattle.machine.specs.Setting.{chosen, maxM, maxN, maxK};
+ghost use Rattle.run.specs.Plan.{typeOf};
+ghost use Rattle.run.specs.Places.{headM, headN, headK, next};
+ghost use Rattle.run.specs.Turn.{startsM, startsN, startsK, begins, soundRun, runParameters, runShape, moved};
+ghost use Rattle.width.specs.Blocks.{chunks};
+ghost use Rattle.run_places.specs.Parts.{numbered, shapeBy, Within, Most};
+ghost use Rattle.plan_numbers.specs.Parts.{placed};
+
+// ---- blocks, and runs that a start can have made
+
+// The most rows of a block.
+pub fn most_rows(run: Run) -> u64
+    requires { ⌜ numbered run ≡ true ⌝ }
+    ensures { λ r. ⌜ r ≡ maxM (runParameters chosen run) (typeOf (run .plan)) ⌝ }
+{
+    run.mlen / run.rlen
+}
+
+// The most columns.
+pub fn most_columns(run: Run) -> u64
+    requires { ⌜ numbered run ≡ true ⌝ }
+    ensures { λ r. ⌜ r ≡ maxN (runParameters chosen run) (typeOf (run .plan)) ⌝ }
+{
+    let bytes = run.plan.sew / 8;
+    run.rlen / 8 / bytes
+}
+
+// The most terms.
+pub fn most_terms(run: Run) -> u64
+    requires { ⌜ numbered run ≡ true ⌝ }
+    ensures { λ r. ⌜ r ≡ maxK (runParameters chosen run) (typeOf (run .plan)) ⌝ }
+{
+    let rows = most_rows(run);
+    let columns = most_columns(run);
+    machine::smaller(rows, columns)
+}
+
+// Where the block that starts here ends: it takes what the rule gives of the rest.
+fn block_end(rule: u64, total: u64, at: u64, most: u64) -> u64
+    requires { ⌜ at ≤ total ⌝ }
+    ensures { λ r. ⌜ r ≡ at + chosen rule most (total - at) ⌝ }
+{
+    at + machine::chosen(rule, most, total - at)
+}
+
+// Whether a block starts here: at 0, or where the block of the last multiple of the most before it ends.
+fn starts_block(rule: u64, total: u64, at: u64, most: u64) -> bool
+    requires { ⌜ (0 < most) × (at < total) ⌝ }
+    ensures { λ r. ⌜ r ≡ isIn at (chunks (chosen rule) most total 0) ⌝ }
+{
+    if at == 0 {
+        return true;
+    }
+    let base = (at - 1) / most * most;
+    block_end(rule, total, base, most) == at
+}
+
+// Whether a block of rows starts at this row.
+fn starts_rows(run: Run, row: u64) -> bool
+    requires { ⌜ numbered run ≡ true ⌝ }
+    requires { ⌜ row < run .plan .m ⌝ }
+    ensures { λ r. ⌜ r ≡ startsM (runShape chosen run) row ⌝ }
+{
+    let most = most_rows(run);
+    starts_block(run.rule, run.plan.m, row, most)
+}
+
+fn starts_columns(run: Run, column: u64) -> bool
+    requires { ⌜ numbered run ≡ true ⌝ }
+    requires { ⌜ column < run .plan .n ⌝ }
+    ensures { λ r. ⌜ r ≡ startsN (runShape chosen run) column ⌝ }
+{
+    let most = most_columns(run);
+    starts_block(run.rule, run.plan.n, column, most)
+}
+
+fn starts_terms(run: Run, term: u64) -> bool
+    requires { ⌜ numbered run ≡ true ⌝ }
+    requires { ⌜ term < run .plan .k ⌝ }
+    ensures { λ r. ⌜ r ≡ startsK (runShape chosen run) term ⌝ }
+{
+    let most = most_terms(run);
+    starts_block(run.rule, run.plan.k, term, most)
+}
+
+fn starts_product(run: Run, row: u64, column: u64) -> bool
+    requires { ⌜ numbered run ≡ true ⌝ }
+    requires { ⌜ every (ltb row (run .plan .m) ∷ ltb column (run .plan .n) ∷ []) ≡ true ⌝ }
+    ensures { λ r. ⌜ r ≡ every (startsM (runShape chosen run) row ∷ startsN (runShape chosen run) column ∷ []) ⌝ }
+{
+    if !starts_rows(run, row) {
+        return false;
+    }
+    starts_columns(run, column)
+}
+
+fn starts_sums(run: Run, row: u64, column: u64, term: u64) -> bool
+    requires { ⌜ numbered run ≡ true ⌝ }
+    requires { ⌜ every (ltb row (run .plan .m) ∷ ltb column (run .plan .n) ∷ ltb term (run .plan .k) ∷ []) ≡ true ⌝ }
+    ensures { λ r. ⌜ r ≡ every (startsM (runShape chosen run) row ∷ startsN (runShape chosen run) column ∷ startsK (runShape chosen run) term ∷ []) ⌝ }
+{
+    if !starts_rows(run, row) {
+        return false;
+    }
+    if !starts_columns(run, column) {
+        return false;
+    }
+    starts_terms(run, term)
+}
+
+// Whether blocks start at the place of a run.
+fn is_begun(run: Run) -> bool
+    requires { ⌜ numbered run ≡ true ⌝ }
+    requires { ⌜ placed (run .plan) (run .place) ≡ true ⌝ }
+    ensures { λ r. ⌜ r ≡ begins (runShape chosen run) (run .place) ⌝ }
+{
+    let place = run.place;
+    match place {
+        Place::AtType => true,
+        Place::AtM { row } => starts_rows(run, row),
+        Place::AtN { row, column } => starts_product(run, row, column),
+        Place::AtClear { row, column } => starts_product(run, row, column),
+        Place::AtK { row, column, term } => starts_sums(run, row, column, term),
+        Place::AtA { row, column, term } => starts_sums(run, row, column, term),
+        Place::AtB { row, column, term } => starts_sums(run, row, column, term),
+        Place::AtMultiply { row, column, term } => starts_sums(run, row, column, term),
+        Place::AtStore { row, column } => starts_product(run, row, column),
+        Place::AtEnd => true,
+    }
+}
+
+// Whether the numbers of a run are ones that a run can hold, and its place one that a run comes to.
+pub fn is_sound_run(run: Run) -> bool
+    ensures { λ r. ⌜ r ≡ soundRun chosen run ⌝ }
+{
+    let rlen = run.rlen;
+    let mlen = run.mlen;
+    if !machine::permitted_lengths(rlen, mlen) {
+        return false;
+    }
+    if run.rule > 1 {
+        return false;
+    }
+    let plan = run.plan;
+    if !plan_numbers::is_planned(plan) {
+        return false;
+    }
+    let place = run.place;
+    if !plan_numbers::is_placed(plan, place) {
+        return false;
+    }
+    is_begun(run)
+}
+
+// ---- the next place
+
+// Where a loop goes on: at its next block, or past it.
+fn head_rows(
+    rule: u64,
+    m: u64,
+    k: u64,
+    n: u64,
+    rows: u64,
+    columns: u64,
+    terms: u64,
+    row: u64,
+) -> Place
+    ensures { λ r. ⌜ r ≡ headM (shapeBy rule m k n rows columns terms) row ⌝ }
+{
+    if row < m {
+        return Place::AtM { row: row };
+    }
+    Place::AtEnd
+}
+
+fn head_columns(
+    rule: u64,
+    m: u64,
+    k: u64,
+    n: u64,
+    rows: u64,
+    columns: u64,
+    terms: u64,
+    row: u64,
+    column: u64,
+) -> Place
+    requires { ⌜ row ≤ m ⌝ }
+    ensures { λ r. ⌜ r ≡ headN (shapeBy rule m k n rows columns terms) row column ⌝ }
+{
+    if column < n {
+        return Place::AtN {
+            row: row,
+            column: column,
+        };
+    }
+    let end = block_end(rule, m, row, rows);
+    head_rows(rule, m, k, n, rows, columns, terms, end)
+}
+
+fn head_terms(
+    rule: u64,
+    m: u64,
+    k: u64,
+    n: u64,
+    rows: u64,
+    columns: u64,
+    terms: u64,
+    row: u64,
+    column: u64,
+    term: u64,
+) -> Place
+    ensures { λ r. ⌜ r ≡ headK (shapeBy rule m k n rows columns terms) row column term ⌝ }
+{
+    if term < k {
+        return Place::AtK {
+            row: row,
+            column: column,
+            term: term,
+        };
+    }
+    Place::AtStore {
+        row: row,
+        column: column,
+    }
+}
+
+// The place after this one, in a product of these sizes by blocks of a rule and of at most so many rows, columns and terms.
+fn next_place(
+    rule: u64,
+    m: u64,
+    k: u64,
+    n: u64,
+    rows: u64,
+    columns: u64,
+    terms: u64,
+    place: Place,
+) -> Place
+    requires { ⌜ Within m k n place ⌝ }
+    ensures { λ r. ⌜ r ≡ next (shapeBy rule m k n rows columns terms) place ⌝ }
+{
+    match place {
+        Place::AtType => head_rows(rule, m, k, n, rows, columns, terms, 0),
+        Place::AtM { row } => head_columns(rule, m, k, n, rows, columns, terms, row, 0),
+        Place::AtN { row, column } => Place::AtClear {
+            row: row,
+            column: column,
+        },
+        Place::AtClear { row, column } => {
+            head_terms(rule, m, k, n, rows, columns, terms, row, column, 0)
+        }
+        Place::AtK { row, column, term } => Place::AtA {
+            row: row,
+            column: column,
+            term: term,
+        },
+        Place::AtA { row, column, term } => Place::AtB {
+            row: row,
+            column: column,
+            term: term,
+        },
+        Place::AtB { row, column, term } => Place::AtMultiply {
+            row: row,
+            column: column,
+            term: term,
+        },
+        Place::AtMultiply { row, column, term } => {
+            let end = block_end(rule, k, term, terms);
+            head_terms(rule, m, k, n, rows, columns, terms, row, column, end)
+        }
+        Place::AtStore { row, column } => {
+            let end = block_end(rule, n, column, columns);
+            head_columns(rule, m, k, n, rows, columns, terms, row, end)
+        }
+        Place::AtEnd => Place::AtEnd,
+    }
+}
+
+// The run at its next place, by the most rows, columns and terms of its blocks.
+pub fn moved_run(run: Run, rows: u64, columns: u64, terms: u64) -> Run
+    requires { ⌜ soundRun chosen run ≡ true ⌝ }
+    requires { ⌜ Most run rows columns terms ⌝ }
+    ensures { λ r. ⌜ r ≡ moved chosen run ⌝ }
+{
+    let plan = run.plan;
+    let place = run.place;
+    let after = next_place(
+        run.rule,
+        plan.m,
+        plan.k,
+        plan.n,
+        rows,
+        columns,
+        terms,
+        place,
+    );
+    Run {
+        plan: plan,
+        rlen: run.rlen,
+        mlen: run.mlen,
+        rule: run.rule,
+        place: after,
+    }
+}
