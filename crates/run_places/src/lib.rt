@@ -147,7 +147,7 @@ pub fn is_sound_run(run: Run) -> bool
     if !machine::permitted_lengths(rlen, mlen) {
         return false;
     }
-    if run.rule > 1 {
+    if !machine::is_rule(run.rule) {
         return false;
     }
     let plan = run.plan;

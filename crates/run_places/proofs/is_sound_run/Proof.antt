@@ -1,7 +1,7 @@
 use mathlib.Core.Path.{_≡_, refl, sym, _∙_}
 use mathlib.Core.Bool.{Bool, true, false}
 use mathlib.Core.List.{[], _∷_}
-use borrow.Author.Tests.{not-true, not-false, le-leb, lt-leb}
+use borrow.Author.Tests.{not-true, not-false}
 use Rattle.machine.specs.Geometry.{permitted}
 use Rattle.machine.specs.Starting.{isRule}
 use Rattle.machine.specs.Setting.{chosen}
@@ -37,7 +37,7 @@ ok-1 : (c : tie.Else1) → lengths (c .before .before .args .run) ≡ true
 ok-1 c = sym (c .before .permitted-lengths .ensures) ∙ not-false (c .before .permitted-lengths .result) (c .if1 .left)
 
 ok-2 : (c : tie.Else2) → rules (c .before .before .before .before .args .run) ≡ true
-ok-2 c = le-leb (c .before .before .before .before .args .run .rule) 1 (c .if2 .left)
+ok-2 c = sym (c .before .is-rule .ensures) ∙ not-false (c .before .is-rule .result) (c .if2 .left)
 
 ok-3 : (c : tie.Else3) → plans (c .before .before .before .before .before .before .before .args .run) ≡ true
 ok-3 c = sym (c .before .is-planned .ensures) ∙ not-false (c .before .is-planned .result) (c .if3 .left)
@@ -55,12 +55,16 @@ returns c =
     fails [] tt (lengths R) (sym (c .before .permitted-lengths .ensures) ∙ not-true (c .before .permitted-lengths .result) (c .if1 .taken))
     (rules R ∷ plans R ∷ blocks R ∷ [])
 
+is-rule-requires : tie.Need-is-rule-requires
+is-rule-requires c κs = search needs
+
 returns-2 : tie.Need-returns-2
 unfolding soundRun
 returns-2 c =
     let o = c .before .before in
     let R = o .before .before .args .run in
-    fails (lengths R ∷ []) (ok-1 o, tt) (rules R) (lt-leb (R .rule) 1 (c .if2 .taken)) (plans R ∷ blocks R ∷ [])
+    fails (lengths R ∷ []) (ok-1 o, tt) (rules R) (sym (c .before .is-rule .ensures) ∙ not-true (c .before .is-rule .result) (c .if2 .taken))
+    (plans R ∷ blocks R ∷ [])
 
 is-planned-requires : tie.Need-is-planned-requires
 is-planned-requires c κs = search needs
@@ -120,6 +124,7 @@ is-sound-run-spec =
     (tie.spec
     permitted-lengths-requires
     returns
+    is-rule-requires
     returns-2
     is-planned-requires
     returns-3
