@@ -1,6 +1,7 @@
 -- Laws of the blocks: what is read back of what was written, and that a block written over with its own numbers stays.
 use mathlib.Core.Path.{_≡_, refl, sym, ap, _∙_}
 use mathlib.Core.Logic.{inl, inr}
+use mathlib.Core.Bool.{Bool, true, false}
 use mathlib.Core.List.{List, [], _∷_}
 use Prim.Native.Nat.{ℕ, zero, suc, _+_, _*_, _%_, _^_, _<_}
 use native.Mathlib.Nat.{zero-add, mod-eq-of-lt, eq-or-lt-of-le, le-of-suc-le-suc}
@@ -10,7 +11,10 @@ use lib.Seq.{getD-at}
 use Rattle.width.specs.Tile.{le, putRow}
 use Rattle.width.proofs.WordLaws.{le-putRow, putRow-same}
 use Rattle.machine.specs.declared.Machine.{Machine}
-use Rattle.blocks.specs.Blocks.{machineBytes, machineOf, putMachine, firstValues, valuesOf, putValues}
+use Rattle.machine.specs.declared.Reply.{Reply}
+use Rattle.machine.specs.declared.Answer.the-variants.{Done}
+use Rattle.machine.specs.Answers.{reply, done}
+use Rattle.blocks.specs.Blocks.{Bytes, machineBytes, machineOf, putMachine, firstValues, valuesOf, putValues, packed}
 
 -- ---- values of eight bytes, one after another
 
@@ -28,7 +32,7 @@ value-at (suc n) b s l = elim (eq-or-lt-of-le (le-of-suc-le-suc l)) [
 ]
 
 -- written over the bytes they were read of
-pub put-same : (n : ℕ) (b : List ℕ) → ((q : ℕ) → getD b q 0 < 256) → putRow 0 n 8 (λ s. getD (firstValues n b) s 0) b ≡ b
+pub put-same : (n : ℕ) (b : List ℕ) → Bytes b → putRow 0 n 8 (λ s. getD (firstValues n b) s 0) b ≡ b
 put-same n b small =
     putRow-same b small 0 n 8 (λ s. getD (firstValues n b) s 0) (λ s l. value-at n b s l ∙ ap (λ (p : ℕ). le b p 8) (sym (zero-add (s * 8))))
 
@@ -81,7 +85,7 @@ machineOf-putMachine m b w h =
         ∙ ap (λ (x : ℕ). x % 256 ^ 8) e ∙ mod-eq-of-lt f
 
 -- a block written over with its own numbers stays
-pub putMachine-same : (b : List ℕ) → ((q : ℕ) → getD b q 0 < 256) → putMachine (machineOf b) b ≡ b
+pub putMachine-same : (b : List ℕ) → Bytes b → putMachine (machineOf b) b ≡ b
 putMachine-same b small =
     putMachine-row (machineOf b) b ∙ ap (λ (vs : List ℕ). putRow 0 9 8 (λ j. getD vs j 0) b) (numbersOf-machineOf b) ∙ put-same 9 b small
 
@@ -96,6 +100,16 @@ unfolding valuesOf
 values-at b s l = value-at 32 b s l
 
 -- a block written over with its own values stays
-pub putValues-same : (b : List ℕ) → ((q : ℕ) → getD b q 0 < 256) → putValues (valuesOf b) b ≡ b
+pub putValues-same : (b : List ℕ) → Bytes b → putValues (valuesOf b) b ≡ b
 unfolding putValues valuesOf
 putValues-same b small = put-same 32 b small
+
+-- ---- an answer as one number
+
+-- an answer that is as `Done`'s where its number is 0, and whose result is not 0
+pub packed-refused : (a : Reply) → (done a ≡ true → a ≡ reply Done) → ¬ (packed a ≡ 0) → done a ≡ false
+packed-refused a zero-is d = go (done a) refl
+  where
+    go : (t : Bool) → done a ≡ t → t ≡ false
+    go true e = absurd (d (ap packed (zero-is e)))
+    go false e = refl

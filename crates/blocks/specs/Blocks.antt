@@ -2,12 +2,16 @@
 -- 01, "What a machine is": "The bench host is written in C and passes numbers and byte buffers, so stepping is offered to it in that
 -- form too". The layout of the blocks is that of include/bodlarina.h (docs/DECISIONS.md).
 use mathlib.Core.List.{List, [], _∷_, _++_}
-use Prim.Native.Nat.{ℕ, _+_, _*_, _%_, _^_}
+use Prim.Native.Nat.{ℕ, _+_, _*_, _%_, _^_, _<_}
 use lib.ListN.{length, getD}
 use Rattle.width.specs.Upto.{upto}
 use Rattle.width.specs.Tile.{le, putLe, putRow}
 use Rattle.machine.specs.declared.Machine.{Machine}
 use Rattle.machine.specs.declared.Reply.{Reply}
+
+-- a buffer of bytes
+abbrev pub Bytes : List ℕ → Type 0
+Bytes xs = (q : ℕ) → getD xs q 0 < 256
 
 -- ---- the machine's block
 

@@ -1,5 +1,2 @@
--- What a reader must believe, after blocks/specs/: what each call answers and leaves.
+-- What a reader must believe, after the specs/ of bench_calls, run_calls, turn_calls and image_calls.
 pub mod Host
-pub mod Images
--- Statements of theorems about these definitions.
-pub mod Theorems

@@ -1,15 +1,11 @@
-// The C interface: numbers and lent byte buffers in, one number out. What each call answers and leaves is defined in specs/.
-use blocks::MACHINE_BYTES;
-use blocks::machine_of;
-use blocks::packed;
-use blocks::put_machine;
-use machine::Answer;
-
+// The C interface: numbers and lent byte buffers in, one number out. Each function here is one call of the function below it. What each
+// answers and leaves is defined in specs/ here and of the crates called.
 mod images; // images of machines
 mod runs; // the product run
 
 ghost use mathlib.Core.Path.{_≡_};
-ghost use Rattle.bodlarina.specs.Host.{hostVersion, startedOut, hostStart, steppedOut, hostStep};
+ghost use Rattle.bench_calls.specs.BenchCalls.{startedOut, hostStart, steppedOut, hostStep};
+ghost use Rattle.bodlarina.specs.Host.{hostVersion};
 
 // The version of this interface.
 #[no_mangle]
@@ -34,17 +30,16 @@ pub extern "C" fn bodlarina_start(
     ensures { λ r. ⌜ startedOut r (now (machine .exit)) (now (registers .entry)) (now (marks .exit))
         ≡ hostStart rlen mlen rule «seal_start» «seal_length» (now (machine .entry)) (now (registers .entry)) (now (marks .entry)) ⌝ }
 {
-    if machine.len() != MACHINE_BYTES {
-        return packed(Answer::BadArguments);
-    }
-    let started = machine::start(rlen, mlen, rule, seal_start, seal_length, registers, marks);
-    let answer = started.answer;
-    if !machine::is_done(answer) {
-        return packed(answer);
-    }
-    let numbers = started.machine;
-    put_machine(machine, numbers);
-    packed(answer)
+    bench_calls::start(
+        rlen,
+        mlen,
+        rule,
+        seal_start,
+        seal_length,
+        machine,
+        registers,
+        marks,
+    )
 }
 
 // Steps one instruction word.
@@ -60,16 +55,5 @@ pub extern "C" fn bodlarina_step(
     ensures { λ r. ⌜ steppedOut r (now (machine .exit)) (now (registers .exit)) (now (marks .exit)) (now (scalars .exit)) (now (memory .exit))
         ≡ hostStep word (now (machine .entry)) (now (registers .entry)) (now (marks .entry)) (now (scalars .entry)) (now (memory .entry)) ⌝ }
 {
-    if machine.len() != MACHINE_BYTES {
-        return packed(Answer::BadArguments);
-    }
-    if scalars.len() != 256 {
-        return packed(Answer::BadArguments);
-    }
-    let m = machine_of(machine);
-    let stepped = scalar_block::step_block(m, registers, marks, scalars, memory, word);
-    let next = stepped.machine;
-    put_machine(machine, next);
-    let answer = stepped.answer;
-    packed(answer)
+    bench_calls::step(word, machine, registers, marks, scalars, memory)
 }

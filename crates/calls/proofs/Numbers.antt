@@ -40,11 +40,10 @@ use Rattle.plan_numbers.specs.Parts.{placed}
 use Rattle.plan_numbers.proofs.PlanLaws.{at-m, at-store, at-multiply}
 use Rattle.run_places.proofs.RunPlaceLaws.{run-numbered, run-placed, run-sizes, moved-sound}
 use Rattle.run_blocks.specs.declared.Spot.{Spot}
-use Rattle.blocks.specs.Blocks.{machineOf}
+use Rattle.blocks.specs.Blocks.{Bytes, machineOf}
 use Rattle.run_blocks.specs.RunBlocks.{runBytes, planOf, planNumbers, spotOf, spotIn, spotNumbers, placeOf, sameSpot, runOf, runFit}
 use Rattle.blocks.proofs.BlockLaws.{Words}
 use Rattle.run_blocks.proofs.RunBlockLaws.{RunWords}
-use Rattle.bodlarina.specs.Theorems.{Bytes}
 use Rattle.calls.specs.Composed.{PlanWords}
 
 -- ---- a machine

@@ -35,13 +35,13 @@ use Rattle.run.proofs.Demand1.{run-start-changes-nothing}
 use Rattle.run.proofs.Demand3.{demand-3-ours}
 use Rattle.run.proofs.Whole.{whole-delivers}
 use Rattle.turn.proofs.TurnLaws.{turn-zero}
-use Rattle.blocks.specs.Blocks.{machineBytes, putMachine, putNumbers, packed}
+use Rattle.blocks.specs.Blocks.{Bytes, machineBytes, putMachine, putNumbers, packed}
 use Rattle.run_blocks.specs.RunBlocks.{runBytes, runFit, runOf, putRun}
 use Rattle.blocks.proofs.BlockLaws.{putMachine-same}
 use Rattle.run_blocks.proofs.RunBlockLaws.{RunWords, runOf-putRun, runFit-putRun}
-use Rattle.bodlarina.specs.Host.{runStartedOut, shownRunStart, hostRunStart, nextOut, shownNext, hostNext, turnBlocks, ranOut, shownRun, hostRun}
-use Rattle.bodlarina.specs.Theorems.{Bytes}
-use Rattle.bodlarina.proofs.RunLaws.{blocks-fit}
+use Rattle.run_calls.specs.RunCalls.{runStartedOut, shownRunStart, hostRunStart, nextOut, shownNext, hostNext}
+use Rattle.turn_calls.specs.TurnCalls.{turnBlocks, ranOut, shownRun, hostRun}
+use Rattle.turn_calls.proofs.TurnLaws.{blocks-fit}
 use Rattle.calls.specs.Calls.{Buffers, buffers, Call, Called, afterRunStart, afterNext, afterRun, called}
 use Rattle.calls.specs.Composed.{afterCalls, turnCalls, benchIn, PlanWords, StartCallsAreRight, with, jobIn, afterTurnCalls, handing, TurnCalls, TurnCallsAreRight, counting, RunIsTurnCalls}
 use Rattle.calls.proofs.Written.{putRun-over}

@@ -35,7 +35,9 @@ use Rattle.blocks.specs.Blocks.{machineBytes, machineOf, putMachine, valuesOf, 
 use Rattle.run_blocks.specs.RunBlocks.{runBytes, runFit, runOf}
 use Rattle.blocks.proofs.BlockLaws.{Words, machineOf-putMachine}
 use Rattle.scalar_block.specs.ScalarBlock.{stepBlock}
-use Rattle.bodlarina.specs.Host.{startedOut, shownStart, hostStart, steppedOut, shownStep, hostStep, runStartedOut, shownRunStart, hostRunStart, turnBlocks, heldRunning, turnedOut, shownTurn, hostTurn, shownTurns, hostTurns, ranOut, shownRun, hostRun}
+use Rattle.bench_calls.specs.BenchCalls.{startedOut, shownStart, hostStart, steppedOut, shownStep, hostStep}
+use Rattle.run_calls.specs.RunCalls.{runStartedOut, shownRunStart, hostRunStart}
+use Rattle.turn_calls.specs.TurnCalls.{turnBlocks, heldRunning, turnedOut, shownTurn, hostTurn, shownTurns, hostTurns, ranOut, shownRun, hostRun}
 use Rattle.calls.specs.Calls.{Buffers, Call, Called, afterStart, afterStep, afterRunStart, afterTurn, afterRun, called}
 use Rattle.calls.specs.Composed.{afterCalls, benchIn, SealedIn, SparesSeal, EachSparesSeal, SealHoldsOverCalls, SealHoldsFromStartCall}
 use Rattle.calls.proofs.Numbers.{machine-words, step-words, turn-machine, turns-machine}

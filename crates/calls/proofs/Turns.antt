@@ -21,9 +21,9 @@ use Rattle.turn.proofs.TurnLaws.{turn-zero}
 use Rattle.blocks.specs.Blocks.{machineBytes, packed}
 use Rattle.run_blocks.specs.RunBlocks.{runBytes, runFit}
 use Rattle.blocks.proofs.BlockLaws.{machineOf-putMachine, putMachine-same}
-use Rattle.run_blocks.proofs.RunBlockLaws.{runOf-putRun, runFit-putRun, putRun-same}
-use Rattle.bodlarina.specs.Host.{turnBlocks, heldRunning, turnedOut, shownTurn, hostTurn, shownTurns, hostTurns}
-use Rattle.bodlarina.proofs.RunLaws.{fit-length, blocks-fit}
+use Rattle.run_blocks.proofs.RunBlockLaws.{fit-length, runOf-putRun, runFit-putRun, putRun-same}
+use Rattle.turn_calls.specs.TurnCalls.{turnBlocks, heldRunning, turnedOut, shownTurn, hostTurn, shownTurns, hostTurns}
+use Rattle.turn_calls.proofs.TurnLaws.{blocks-fit}
 use Rattle.calls.specs.Calls.{Buffers, buffers, Call, Called, afterTurn, called, calls}
 use Rattle.calls.specs.Composed.{afterCalls, turnCalls, zeros, with, TurnsAreTurnCalls}
 use Rattle.calls.proofs.Written.{length-putMachine, putMachine-over, putRun-over}

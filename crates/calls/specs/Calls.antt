@@ -3,7 +3,9 @@
 use mathlib.Core.List.{List, [], _∷_}
 use Prim.Native.Nat.{ℕ}
 use Rattle.run.specs.declared.Plan.{Plan}
-use Rattle.bodlarina.specs.Host.{HostStarted, hostStart, HostStepped, hostStep, HostRunStarted, hostRunStart, HostNext, hostNext, HostTurned, hostTurn, hostTurns, HostRan, hostRun}
+use Rattle.bench_calls.specs.BenchCalls.{HostStarted, hostStart, HostStepped, hostStep}
+use Rattle.run_calls.specs.RunCalls.{HostRunStarted, hostRunStart, HostNext, hostNext}
+use Rattle.turn_calls.specs.TurnCalls.{HostTurned, hostTurn, hostTurns, HostRan, hostRun}
 
 -- ---- buffers
 

@@ -20,10 +20,9 @@ use Rattle.run.specs.Turn.{Running, afterTurns}
 use Rattle.run.specs.Statement as Demand
 use Rattle.run.specs.Statement.{Answered, jobOf, startedRun}
 use Rattle.run.specs.Theorems.{SealKept}
-use Rattle.blocks.specs.Blocks.{machineBytes, machineOf, putMachine, putNumbers}
+use Rattle.blocks.specs.Blocks.{Bytes, machineBytes, machineOf, putMachine, putNumbers}
 use Rattle.run_blocks.specs.RunBlocks.{runBytes, putRun, planNumbers, stepBytes, putHanded}
-use Rattle.bodlarina.specs.Host.{countBytes}
-use Rattle.bodlarina.specs.Theorems.{Bytes}
+use Rattle.turn_calls.specs.TurnCalls.{countBytes}
 use Rattle.calls.specs.Calls.{Buffers, buffers, Call, Called, called, calls}
 
 -- ---- one call after another
@@ -58,7 +57,7 @@ pub record StartCall (P : Plan) (b : Buffers) (o : Called) : Type 0 where
   pub answered : (a : Reply) × (o .result ≡ a .number) × Answered P (benchIn b) a
   pub unchanged : o .after ≡ buffers (b .machine) (b .registers) (b .marks) (b .scalars) (b .memory) (o .after .run) (b .step) (b .steps)
 
--- for every plan, on blocks of the right lengths (others get 8: bodlarina/specs/Host.antt) and a memory that is a slice of bytes
+-- for every plan, on blocks of the right lengths (others get 8: run_calls/specs/RunCalls.antt) and a memory that is a slice of bytes
 abbrev pub StartCallsAreRight : Type 0
 StartCallsAreRight = (P : Plan) (b : Buffers) → length (b .machine) ≡ machineBytes → length (b .run) ≡ runBytes → Demand.Bytes (b .memory)
     → StartCall P b (called (Call.runStart P) b)

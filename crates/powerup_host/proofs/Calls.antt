@@ -24,7 +24,9 @@ use Rattle.run.specs.Whole.{whole}
 use Rattle.blocks.specs.Blocks.{machineBytes, machineOf, putMachine, valuesOf, putValues, putNumbers, packed}
 use Rattle.run_blocks.specs.RunBlocks.{runBytes, putRun}
 use Rattle.scalar_block.specs.ScalarBlock.{stepBlock}
-use Rattle.bodlarina.specs.Host.{startedOut, shownStart, hostStart, steppedOut, shownStep, hostStep, runStartedOut, shownRunStart, hostRunStart, turnedOut, shownRunning, heldRunning, turnBlocks, shownTurn, hostTurn, shownTurns, hostTurns, ranOut, shownRun, hostRun}
+use Rattle.bench_calls.specs.BenchCalls.{startedOut, shownStart, hostStart, steppedOut, shownStep, hostStep}
+use Rattle.run_calls.specs.RunCalls.{runStartedOut, shownRunStart, hostRunStart}
+use Rattle.turn_calls.specs.TurnCalls.{turnedOut, shownRunning, heldRunning, turnBlocks, shownTurn, hostTurn, shownTurns, hostTurns, ranOut, shownRun, hostRun}
 use Rattle.powerup.specs.Steps.{AlikeBenches}
 use Rattle.powerup.specs.Runs.{SameRunning}
 use Rattle.powerup.proofs.Steps.{step-ignores-unmarked}

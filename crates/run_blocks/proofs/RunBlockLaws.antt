@@ -12,11 +12,11 @@ use Rattle.width.specs.Tile.{le, putRow}
 use Rattle.width.proofs.TileLaws.{length-putRow}
 use Rattle.width.proofs.WordLaws.{le-putRow}
 use Rattle.machine.specs.Tests.{every}
-use Rattle.machine.proofs.TestLaws.{and-right, Each, every-each, each-every}
+use Rattle.machine.proofs.TestLaws.{and-left, and-right, Each, every-each, each-every}
 use Rattle.run.specs.declared.Place.{Place}
 use Rattle.run.specs.declared.Place.the-variants.{AtType, AtM, AtN, AtClear, AtK, AtA, AtB, AtMultiply, AtStore, AtEnd}
 use Rattle.run.specs.declared.Run.{Run}
-use Rattle.blocks.specs.Blocks.{firstValues, putNumbers}
+use Rattle.blocks.specs.Blocks.{Bytes, firstValues, putNumbers}
 use Rattle.blocks.proofs.BlockLaws.{put-same}
 use Rattle.run_blocks.specs.declared.Spot.{Spot}
 use Rattle.run_blocks.specs.RunBlocks.{runBytes, spot, spotOf, spotIn, placeOf, planOf, runOf, runNumbers, putRun, sameSpot, runFit}
@@ -30,6 +30,11 @@ same-spots s t h =
 itself : (s : Spot) → Each (sameSpot s s)
 itself s = (eq-eqb (s .kind) (s .kind) refl, (eq-eqb (s .row) (s .row) refl, (eq-eqb (s .column) (s .column) refl, (eq-eqb (s .term) (s .term) refl, tt))))
 
+pub fit-length : (block : List ℕ) → runFit block ≡ true → length block ≡ runBytes
+unfolding runFit
+fit-length block h =
+    eqb-true (length block) runBytes (and-left (eqb (length block) runBytes) (every (sameSpot (spotIn block) (spotOf (placeOf (spotIn block))))) h)
+
 pub length-putRun : (R : Run) (b : List ℕ) → length (putRun R b) ≡ length b
 unfolding putRun putNumbers
 length-putRun R b = length-putRow 0 19 8 _ b
@@ -39,7 +44,7 @@ unfolding planOf
 numbers-of-run b = refl
 
 -- a block written over with its own run stays
-pub putRun-same : (b : List ℕ) → ((q : ℕ) → getD b q 0 < 256) → runFit b ≡ true → putRun (runOf b) b ≡ b
+pub putRun-same : (b : List ℕ) → Bytes b → runFit b ≡ true → putRun (runOf b) b ≡ b
 unfolding putRun putNumbers runOf runFit
 putRun-same b small h =
     let e : spotOf (placeOf (spotIn b)) ≡ spotIn b =

@@ -1,0 +1,78 @@
+use mathlib.Core.Path.{refl, sym, _∙_}
+use mathlib.Core.Bool.{true, false}
+use borrow.Author.Tests.{not-true, not-false}
+use borrow.Author.Needs.{needs}
+use Rattle.bench_calls.proofs.BenchLaws.{start-short, start-shown}
+use Rattle.bench_calls.proofs.start.Statement.{statement}
+use Rattle.bench_calls.proofs.start.Tie as tie
+
+packed-requires : tie.Need-packed-requires
+packed-requires c κs = search needs
+
+returns : tie.Need-returns
+returns c =
+    let a = c .before .before .before .before .before .args in
+    start-short (a .rlen) (a .mlen) (a .rule) (a .seal-start) (a .seal-length) (a .machine .now) (a .registers .now) (a .marks .now) (c .packed .result)
+    (c .before .if1 .taken) (c .packed .ensures)
+
+start-requires : tie.Need-start-requires
+start-requires c κs = search needs
+
+is-done-requires : tie.Need-is-done-requires
+is-done-requires c κs = search needs
+
+packed-requires-2 : tie.Need-packed-requires-2
+packed-requires-2 c κs = search needs
+
+same-length : tie.Need-same-length
+same-length c = search needs
+
+returns-2 : tie.Need-returns-2
+returns-2 c =
+    let d = c .before .before in
+    let s = d .before .before .before in
+    let a = s .before .before .before .before .before .before .args in
+    start-shown (a .rlen) (a .mlen) (a .rule) (a .seal-start) (a .seal-length) (a .machine .now) (a .registers .now) (a .marks .now)
+    false (s .start .result) (a .machine .now) (s .start .last .1 .1 .1 .1 .1 .1 .0) (c .packed2 .result)
+    (s .before .before .if1 .left) (s .start .ensures)
+    (sym (d .is-done .ensures) ∙ not-true (d .is-done .result) (c .before .if2 .taken)) refl (c .packed2 .ensures)
+
+put-machine-requires : tie.Need-put-machine-requires
+put-machine-requires c κs = search needs
+
+packed-requires-3 : tie.Need-packed-requires-3
+packed-requires-3 c κs = search needs
+
+same-length-2 : tie.Need-same-length-2
+same-length-2 c = search needs
+
+same-length-3 : tie.Need-same-length-3
+same-length-3 c = search needs
+
+returns-3 : tie.Need-returns-3
+returns-3 c =
+    let p = c .before .before .before in
+    let d = p .before .before .before .before in
+    let s = d .before .before .before in
+    let a = s .before .before .before .before .before .before .args in
+    start-shown (a .rlen) (a .mlen) (a .rule) (a .seal-start) (a .seal-length) (a .machine .now) (a .registers .now) (a .marks .now)
+    true (s .start .result) (p .put-machine .last .0) (s .start .last .1 .1 .1 .1 .1 .1 .0) (c .packed3 .result)
+    (s .before .before .if1 .left) (s .start .ensures)
+    (sym (d .is-done .ensures) ∙ not-false (d .is-done .result) (p .before .before .before .if2 .left)) (p .put-machine .ensures) (c .packed3 .ensures)
+
+pub start-spec : {M : Type 1} → statement M
+start-spec =
+    tie.close
+    (tie.spec
+    packed-requires
+    returns
+    start-requires
+    is-done-requires
+    packed-requires-2
+    same-length
+    returns-2
+    put-machine-requires
+    packed-requires-3
+    same-length-2
+    same-length-3
+    returns-3)

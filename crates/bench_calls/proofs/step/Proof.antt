@@ -1,0 +1,76 @@
+use Rattle.bench_calls.proofs.BenchLaws.{step-short, step-short-scalars, step-shown}
+use borrow.Author.Needs.{needs}
+use Rattle.bench_calls.proofs.step.Statement.{statement}
+use Rattle.bench_calls.proofs.step.Tie as tie
+
+packed-requires : tie.Need-packed-requires
+packed-requires c κs = search needs
+
+returns : tie.Need-returns
+returns c =
+    let a = c .before .before .before .before .before .before .before .args in
+    step-short (a .word) (a .machine .now) (a .registers .now) (a .marks .now) (a .scalars .now) (a .memory .now) (c .packed .result) (c .before .if1 .taken) (c .packed .ensures)
+
+packed-requires-2 : tie.Need-packed-requires-2
+packed-requires-2 c κs = search needs
+
+returns-2 : tie.Need-returns-2
+returns-2 c =
+    let a = c .before .before .before .before .before .before .before .before .args in
+    step-short-scalars (a .word) (a .machine .now) (a .registers .now) (a .marks .now) (a .scalars .now) (a .memory .now) (c .packed2 .result) (c .before .before .if1 .left) (c .before .if2 .taken) (c .packed2 .ensures)
+
+machine-of-requires : tie.Need-machine-of-requires
+machine-of-requires c κs = search needs
+
+step-block-requires : tie.Need-step-block-requires
+step-block-requires c κs = search needs
+
+put-machine-requires : tie.Need-put-machine-requires
+put-machine-requires c κs = search needs
+
+packed-requires-3 : tie.Need-packed-requires-3
+packed-requires-3 c κs = search needs
+
+same-length : tie.Need-same-length
+same-length c = search needs
+
+same-length-2 : tie.Need-same-length-2
+same-length-2 c = search needs
+
+same-length-3 : tie.Need-same-length-3
+same-length-3 c = search needs
+
+same-length-4 : tie.Need-same-length-4
+same-length-4 c = search needs
+
+same-length-5 : tie.Need-same-length-5
+same-length-5 c = search needs
+
+returns-3 : tie.Need-returns-3
+returns-3 c =
+    let k = c .before .before .before in
+    let z = c .before .before .before .before .before .before .before .before .before .before .before .before .before .before in
+    let f = z .before .before .before .before .before in
+    let e = f .before .before in
+    let a = c .before .before .before .before .before .before .before .before .before .before .before .before .before .before .before .before .before .before .before .before .before .before .before .before .before .before .before .before .args in
+    step-shown (a .word) (a .machine .now) (a .registers .now) (a .marks .now) (a .scalars .now) (a .memory .now) (f .machine-of .result) (z .step-block .result) _ _ _ _ _ (c .packed3 .result) (e .before .if1 .left) (e .if2 .left)
+    (f .machine-of .ensures) (z .step-block .ensures) (k .put-machine .ensures) (c .packed3 .ensures)
+
+pub step-spec : {M : Type 1} → statement M
+step-spec =
+    tie.close
+    (tie.spec
+    packed-requires
+    returns
+    packed-requires-2
+    returns-2
+    machine-of-requires
+    step-block-requires
+    put-machine-requires
+    packed-requires-3
+    same-length
+    same-length-2
+    same-length-3
+    same-length-4
+    same-length-5
+    returns-3)

@@ -1,0 +1,71 @@
+-- What a start and a step of a machine by C answer and leave (include/bodlarina.h).
+use mathlib.Core.Bool.{cond}
+use mathlib.Core.List.{List, [], _∷_}
+use Prim.Native.Nat.{ℕ}
+use lib.ListN.{length}
+use lib.Dec.{eqb}
+use Rattle.machine.specs.declared.Answer.the-variants.{BadArguments}
+use Rattle.machine.specs.Tests.{every}
+use Rattle.machine.specs.Answers.{reply, done}
+use Rattle.machine.specs.Geometry.{benchOf}
+use Rattle.machine.specs.Starting.{StartOutcome, startMachine}
+use Rattle.machine.specs.Step.{Outcome}
+use Rattle.blocks.specs.Blocks.{machineBytes, machineOf, putMachine, scalarBytes, packed}
+use Rattle.scalar_block.specs.ScalarBlock.{stepBlock}
+
+-- ---- starting
+
+-- what a call of bodlarina_start returns and leaves
+pub record HostStarted : Type 0 where
+  pub result : ℕ
+  pub machine : List ℕ
+  pub registers : List ℕ
+  pub marks : List ℕ
+
+abbrev pub startedOut : ℕ → (machine registers marks : List ℕ) → HostStarted
+startedOut result machine registers marks = record { result = result; machine = machine; registers = registers; marks = marks }
+
+-- a start as the host sees it; a refused one leaves the machine's block
+abbrev pub shownStart : List ℕ → StartOutcome → HostStarted
+shownStart machine o =
+    startedOut (packed (o .answer)) (cond (done (o .answer)) (putMachine (o .machine) machine) machine) (o .registers) (o .marks)
+
+-- a block of the wrong length is refused with 8
+unfoldable pub hostStart : (rlen mlen rule sealStart sealLength : ℕ) → (machine registers marks : List ℕ) → HostStarted
+hostStart rlen mlen rule sealStart sealLength machine registers marks =
+    cond (eqb (length machine) machineBytes)
+    (shownStart machine (startMachine rlen mlen rule sealStart sealLength registers marks))
+    (startedOut (packed (reply BadArguments)) machine registers marks)
+
+-- ---- a step
+
+-- what a call of bodlarina_step returns and leaves
+pub record HostStepped : Type 0 where
+  pub result : ℕ
+  pub machine : List ℕ
+  pub registers : List ℕ
+  pub marks : List ℕ
+  pub scalars : List ℕ
+  pub memory : List ℕ
+
+abbrev pub steppedOut : ℕ → (machine registers marks scalars memory : List ℕ) → HostStepped
+steppedOut result machine registers marks scalars memory = record {
+  result = result;
+  machine = machine;
+  registers = registers;
+  marks = marks;
+  scalars = scalars;
+  memory = memory;
+}
+
+-- a step as the host sees it: what it leaves of the machine's numbers is written over the block
+abbrev pub shownStep : List ℕ → Outcome → HostStepped
+shownStep machine o =
+    steppedOut (packed (o .answer)) (putMachine (o .bench .machine) machine) (o .bench .registers) (o .bench .marks) (o .scalars) (o .bench .memory)
+
+-- 01, "Where each form goes": "An exported C function on numbers and byte slices for the bench host, over the same proved step."
+unfoldable pub hostStep : ℕ → (machine registers marks scalars memory : List ℕ) → HostStepped
+hostStep word machine registers marks scalars memory =
+    cond (every (eqb (length machine) machineBytes ∷ eqb (length scalars) scalarBytes ∷ []))
+    (shownStep machine (stepBlock word scalars (benchOf (machineOf machine) registers marks memory)))
+    (steppedOut (packed (reply BadArguments)) machine registers marks scalars memory)

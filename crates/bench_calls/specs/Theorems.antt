@@ -1,0 +1,26 @@
+-- What is proved of these definitions. The proofs stand in proofs/.
+use mathlib.Core.Path.{_≡_}
+use mathlib.Core.List.{List}
+use Prim.Native.Nat.{ℕ, _/_, _%_, _^_}
+use Rattle.machine.specs.Geometry.{Bench}
+use Rattle.machine.specs.Step.{step}
+use Rattle.blocks.specs.Blocks.{Bytes, packed}
+use Rattle.bench_calls.specs.BenchCalls.{startedOut, hostStart, steppedOut, hostStep}
+
+-- "A refusal changes no byte of any buffer."
+abbrev pub StartRefusalChangesNoByte : Type 0
+StartRefusalChangesNoByte = (rlen mlen rule sealStart sealLength : ℕ) (machine registers marks : List ℕ)
+    → let o = hostStart rlen mlen rule sealStart sealLength machine registers marks in
+    ¬ (o .result ≡ 0) → o ≡ startedOut (o .result) machine registers marks
+
+abbrev pub StepRefusalChangesNoByte : Type 0
+StepRefusalChangesNoByte = (word : ℕ) (machine registers marks scalars memory : List ℕ) → Bytes machine → Bytes scalars
+    → let o = hostStep word machine registers marks scalars memory in
+    ¬ (o .result ≡ 0) → o ≡ steppedOut (o .result) machine registers marks scalars memory
+
+-- What the host takes out of a result: bits 15..0 are the number, bits 31..16 the row and bits 47..32 the column of the step's answer,
+-- none of them cut.
+abbrev pub StepPacksWhole : Type 0
+StepPacksWhole = (word : ℕ) (xs : List ℕ) (B : Bench)
+    → let a = step word xs B .answer in
+    (packed a % 2 ^ 16 ≡ a .number) × (packed a / 2 ^ 16 % 2 ^ 16 ≡ a .row) × (packed a / 2 ^ 32 ≡ a .column)

@@ -1,0 +1,61 @@
+// A start and a step of a machine as C calls them, on blocks of bytes. What each answers and leaves is defined in specs/.
+use blocks::MACHINE_BYTES;
+use blocks::machine_of;
+use blocks::packed;
+use blocks::put_machine;
+use machine::Answer;
+ghost use mathlib.Core.Path.{_≡_};
+ghost use Rattle.bench_calls.specs.BenchCalls.{startedOut, hostStart, steppedOut, hostStep};
+
+// Starts a machine of this rule on the lent register bytes and marks, and writes its numbers into the machine block.
+pub fn start(
+    rlen: u64,
+    mlen: u64,
+    rule: u64,
+    seal_start: u64,
+    seal_length: u64,
+    machine: &mut [u8],
+    registers: &[u8],
+    marks: &mut [u8],
+) -> u64
+    ensures { λ r. ⌜ startedOut r (now (machine .exit)) (now (registers .entry)) (now (marks .exit))
+        ≡ hostStart rlen mlen rule «seal_start» «seal_length» (now (machine .entry)) (now (registers .entry)) (now (marks .entry)) ⌝ }
+{
+    if machine.len() != MACHINE_BYTES {
+        return packed(Answer::BadArguments);
+    }
+    let started = machine::start(rlen, mlen, rule, seal_start, seal_length, registers, marks);
+    let answer = started.answer;
+    if !machine::is_done(answer) {
+        return packed(answer);
+    }
+    let numbers = started.machine;
+    put_machine(machine, numbers);
+    packed(answer)
+}
+
+// Steps one instruction word.
+pub fn step(
+    word: u32,
+    machine: &mut [u8],
+    registers: &mut [u8],
+    marks: &mut [u8],
+    scalars: &mut [u8],
+    memory: &mut [u8],
+) -> u64
+    ensures { λ r. ⌜ steppedOut r (now (machine .exit)) (now (registers .exit)) (now (marks .exit)) (now (scalars .exit)) (now (memory .exit))
+        ≡ hostStep word (now (machine .entry)) (now (registers .entry)) (now (marks .entry)) (now (scalars .entry)) (now (memory .entry)) ⌝ }
+{
+    if machine.len() != MACHINE_BYTES {
+        return packed(Answer::BadArguments);
+    }
+    if scalars.len() != 256 {
+        return packed(Answer::BadArguments);
+    }
+    let m = machine_of(machine);
+    let stepped = scalar_block::step_block(m, registers, marks, scalars, memory, word);
+    let next = stepped.machine;
+    put_machine(machine, next);
+    let answer = stepped.answer;
+    packed(answer)
+}

@@ -1,0 +1,53 @@
+use borrow.Author.Needs.{needs}
+use Rattle.image_calls.proofs.ImageLaws.{packs-done, packs-arguments, packs-room, packs-place}
+use Rattle.image_calls.proofs.packed_reply.Statement.{statement}
+use Rattle.image_calls.proofs.packed_reply.Tie as tie
+
+enum-told : tie.Need-enum-told
+enum-told c = search needs
+
+mul-result : tie.Need-mul-result
+mul-result c = search needs
+
+enum-told-2 : tie.Need-enum-told-2
+enum-told-2 c = search needs
+
+enum-told-3 : tie.Need-enum-told-3
+enum-told-3 c = search needs
+
+enum-known-answer : tie.Need-enum-known-answer
+enum-known-answer c = search needs
+
+mul-result-2 : tie.Need-mul-result-2
+mul-result-2 c = search needs
+
+add-result : tie.Need-add-result
+add-result c = search needs
+
+returns : tie.Need-returns
+returns c = let a = c .before .before .args in packs-done (a .answer) (a .size) (c .enum-told .given .1)
+
+returns-2 : tie.Need-returns-2
+returns-2 c = let a = c .before .before .args in packs-arguments (a .answer) (a .size) (c .enum-told2 .given .1)
+
+returns-3 : tie.Need-returns-3
+returns-3 c = let a = c .before .before .args in packs-room (a .answer) (a .size) (c .enum-told3 .given .1)
+
+returns-4 : tie.Need-returns-4
+returns-4 c = let a = c .before .before .before .args in packs-place (a .answer) (a .size) (c .before .answer .given .0 .0) (c .before .answer .given .1)
+
+pub packed-reply-spec : {M : Type 1} → statement M
+packed-reply-spec =
+    tie.close
+    (tie.spec
+    enum-told
+    mul-result
+    enum-told-2
+    enum-told-3
+    enum-known-answer
+    mul-result-2
+    add-result
+    returns
+    returns-2
+    returns-3
+    returns-4)

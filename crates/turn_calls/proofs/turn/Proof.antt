@@ -1,0 +1,113 @@
+use mathlib.Core.Path.{_≡_, sym, _∙_}
+use mathlib.Core.Bool.{true}
+use borrow.Author.Tests.{not-true, not-false}
+use Rattle.run_blocks.specs.RunBlocks.{runFit}
+use Rattle.run_blocks.proofs.RunBlockLaws.{fit-length}
+use Rattle.turn_calls.proofs.TurnLaws.{blocks-unfit, blocks-short, blocks-fit, turn-refused, turn-shown}
+use borrow.Author.Needs.{needs}
+use Rattle.turn_calls.proofs.turn.Statement.{statement}
+use Rattle.turn_calls.proofs.turn.Tie as tie
+
+-- the run's block is one that a run can lie in
+fit : (c : tie.Else1) → runFit (c .before .before .before .before .before .before .before .before .args .run .now) ≡ true
+fit c = sym (c .before .is-fit .ensures) ∙ not-false (c .before .is-fit .result) (c .if1 .left)
+
+is-fit-requires : tie.Need-is-fit-requires
+is-fit-requires c κs = search needs
+
+packed-requires : tie.Need-packed-requires
+packed-requires c κs = search needs
+
+same-length : tie.Need-same-length
+same-length c = search needs
+
+returns : tie.Need-returns
+returns c =
+    let f = c .before .before in
+    let a = f .before .before .before .before .before .before .before .args in
+    turn-refused (a .run .now) (a .machine .now) (a .registers .now) (a .marks .now) (a .memory .now) (c .packed .result)
+    (blocks-unfit (a .run .now) (a .machine .now) (sym (f .is-fit .ensures) ∙ not-true (f .is-fit .result) (c .before .if1 .taken))) (c .packed .ensures)
+
+packed-requires-2 : tie.Need-packed-requires-2
+packed-requires-2 c κs = search needs
+
+same-length-2 : tie.Need-same-length-2
+same-length-2 c = search needs
+
+returns-2 : tie.Need-returns-2
+returns-2 c =
+    let e = c .before .before in
+    let a = e .before .before .before .before .before .before .before .before .args in
+    turn-refused (a .run .now) (a .machine .now) (a .registers .now) (a .marks .now) (a .memory .now) (c .packed2 .result)
+    (blocks-short (a .run .now) (a .machine .now) (fit e) (c .before .if2 .taken)) (c .packed2 .ensures)
+
+run-of-requires : tie.Need-run-of-requires
+run-of-requires c κs = fit-length (c .before .before .before .before .before .before .before .before .before .before .args .run .now) (fit (c .before .before))
+
+machine-of-requires : tie.Need-machine-of-requires
+machine-of-requires c κs = search needs
+
+turn-requires : tie.Need-turn-requires
+turn-requires c κs = search needs
+
+put-run-requires : tie.Need-put-run-requires
+put-run-requires c κs = fit-length (c .before .before .before .before .before .before .before .before .before .before .before .before .before .before .before .before .before .before .before .before .before .before .before .before .before .args .run .now) (fit (c .before .before .before .before .before .before .before .before .before .before .before .before .before .before .before .before .before))
+
+put-machine-requires : tie.Need-put-machine-requires
+put-machine-requires c κs = search needs
+
+packed-requires-3 : tie.Need-packed-requires-3
+packed-requires-3 c κs = search needs
+
+same-length-3 : tie.Need-same-length-3
+same-length-3 c = search needs
+
+same-length-4 : tie.Need-same-length-4
+same-length-4 c = search needs
+
+same-length-5 : tie.Need-same-length-5
+same-length-5 c = search needs
+
+same-length-6 : tie.Need-same-length-6
+same-length-6 c = search needs
+
+same-length-7 : tie.Need-same-length-7
+same-length-7 c = search needs
+
+returns-3 : tie.Need-returns-3
+returns-3 c =
+    let x = c .before .before .before in
+    let p = x .before .before .before .before .before in
+    let t = p .before .before .before .before .before .before .before .before .before in
+    let m = t .before .before .before .before in
+    let h = m .before .before in
+    let l = h .before .before in
+    let e = l .before in
+    let a = e .before .before .before .before .before .before .before .before .args in
+    turn-shown (a .run .now) (a .machine .now) (a .registers .now) (a .marks .now) (a .memory .now)
+    (h .run-of .result) (m .machine-of .result) (t .turn .result) _ _ _ _ _ (c .packed3 .result) (blocks-fit (a .run .now) (a .machine .now) (fit e) (l .if2 .left))
+    (h .run-of .ensures) (m .machine-of .ensures) (t .turn .ensures) (p .put-run .ensures) (x .put-machine .ensures) (c .packed3 .ensures)
+
+pub turn-spec : {M : Type 1} → statement M
+turn-spec =
+    tie.close
+    (tie.spec
+    is-fit-requires
+    packed-requires
+    same-length
+    returns
+    packed-requires-2
+    same-length-2
+    returns-2
+    run-of-requires
+    machine-of-requires
+    turn-requires
+    put-run-requires
+    put-machine-requires
+    packed-requires-3
+    same-length-3
+    same-length-4
+    same-length-5
+    same-length-6
+    same-length-7
+    returns-3)
