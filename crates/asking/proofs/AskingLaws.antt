@@ -14,9 +14,8 @@ use Rattle.machine.specs.declared.Answer.the-variants.{Done}
 use Rattle.run.specs.declared.Place.the-variants.{AtType, AtM, AtN, AtClear, AtK, AtA, AtB, AtMultiply, AtStore, AtEnd}
 use Rattle.run.specs.Words.{Op, Shape, steps}
 use Rattle.run.specs.Places.{wordAt}
-use Rattle.run.specs.Turn.{soundRun, runShape, handsOut, moved, ask, AskOutcome, asked}
+use Rattle.run.specs.Turn.{soundRun, runShape, handsOut, stepsIn, moved, ask, AskOutcome, asked}
 use Rattle.width.specs.Blocks.{count}
-use Rattle.asking.specs.Steps.{stepsIn}
 use Rattle.asking.specs.Parts.{isEnd, handedOf}
 use Rattle.run.proofs.HandedLaws.{askWith}
 
@@ -74,11 +73,11 @@ module _ (R : Run) where
 -- ---- the number of steps
 
 -- a run that no start can have made has none
-pub no-steps : (R : Run) → soundRun chosen R ≡ false → 0 ≡ stepsIn R
+pub no-steps : (R : Run) → soundRun chosen R ≡ false → 0 ≡ stepsIn chosen R
 no-steps R h = ap (λ (t : Bool). cond t (steps (runShape chosen R)) 0) (sym h)
 
 -- by the numbers of blocks as code holds them
 pub steps-counted : (R : Run) (r c t : ℕ) → soundRun chosen R ≡ true
     → r ≡ count (runShape chosen R .tm) (R .plan .m) → c ≡ count (runShape chosen R .tn) (R .plan .n) → t ≡ count (runShape chosen R .tk) (R .plan .k)
-    → 1 + r * (1 + c * (3 + 4 * t)) ≡ stepsIn R
+    → 1 + r * (1 + c * (3 + 4 * t)) ≡ stepsIn chosen R
 steps-counted R r c t h er ec et = rw (er, ec, et) (ap (λ (t : Bool). cond t (steps (runShape chosen R)) 0) (sym h))

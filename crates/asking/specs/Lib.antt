@@ -1,4 +1,2 @@
 -- For the contracts of inner functions; what asking means is defined in run/specs/.
 pub mod Parts
--- How many steps a run has.
-pub mod Steps

@@ -16,9 +16,8 @@ ghost use Rattle.run.specs.Words.{setType, clear, multiply, loadA, loadB, store
 ghost use Rattle.run.specs.Plan.{narrow, msew};
 ghost use Rattle.run.specs.Start.{planned};
 ghost use Rattle.run.specs.Places.{wordAt};
-ghost use Rattle.run.specs.Turn.{soundRun, runShape, ask, asked, askedAs};
+ghost use Rattle.run.specs.Turn.{soundRun, runShape, stepsIn, ask, asked, askedAs};
 ghost use Rattle.width.specs.Blocks.{count};
-ghost use Rattle.asking.specs.Steps.{stepsIn};
 ghost use Rattle.asking.specs.Parts.{isEnd, handedOf};
 ghost use Rattle.machine.specs.declared.Answer.the-variants.{BadArguments};
 ghost use Rattle.run.specs.Encoding.{settingWord, memoryWord, arithmeticWord, plain, startOf, handedFor};
@@ -246,7 +245,7 @@ fn steps_by(rows: u64, columns: u64, terms: u64) -> u64
 
 // How many steps a run has in all; 0 of a run that no start can have made.
 pub fn steps(run: Run) -> u64
-    ensures { λ r. ⌜ r ≡ stepsIn run ⌝ }
+    ensures { λ r. ⌜ r ≡ stepsIn chosen run ⌝ }
 {
     if !run_places::is_sound_run(run) {
         return 0;

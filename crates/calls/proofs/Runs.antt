@@ -18,19 +18,18 @@ use Rattle.machine.specs.Setting.{chosen}
 use Rattle.machine.specs.Faults.{sound}
 use Rattle.machine.specs.Operation.{element}
 use Rattle.machine.proofs.TestLaws.{false-true, every-each, each-every}
-use Rattle.machine.proofs.CodeLaws.{only-done}
 use Rattle.run.specs.declared.Plan.{Plan}
 use Rattle.run.specs.declared.Run.{Run}
 use Rattle.run.specs.declared.Handed.{Handed}
 use Rattle.run.specs.Words.{Op, steps}
 use Rattle.run.specs.Plan.{Kept, shape, wide, cAt}
-use Rattle.run.specs.Start.{planned, lying, separate, startChecks, freshRun, noRun, RunStart, startRun}
+use Rattle.run.specs.Start.{planned, lying, separate, freshRun, noRun, RunStart, startRun}
 use Rattle.run.specs.Encoding.{handedFor, wordOf}
-use Rattle.run.specs.Turn.{handsOut, Ask, ask, asked, Running, running, turn, afterTurns}
+use Rattle.run.specs.Turn.{handsOut, stepsIn, Ask, ask, asked, Running, running, turn, afterTurns}
 use Rattle.run.specs.Statement.{Asks, Right, startedRun}
 use Rattle.run.specs.Whole.{WholeOutcome, whole}
 use Rattle.run.proofs.HandedLaws.{askWith, turnWith}
-use Rattle.run.proofs.RefusalLaws.{number-done}
+use Rattle.run.proofs.RefusalLaws.{number-done, start-zero}
 use Rattle.run.proofs.Demand1.{run-start-changes-nothing}
 use Rattle.run.proofs.Demand3.{demand-3-ours}
 use Rattle.run.proofs.Whole.{whole-delivers}
@@ -39,7 +38,7 @@ use Rattle.blocks.specs.Blocks.{Bytes, machineBytes, putMachine, putNumbers, pa
 use Rattle.run_blocks.specs.RunBlocks.{runBytes, runFit, runOf, putRun}
 use Rattle.blocks.proofs.BlockLaws.{putMachine-same}
 use Rattle.run_blocks.proofs.RunBlockLaws.{RunWords, runOf-putRun, runFit-putRun}
-use Rattle.run_calls.specs.RunCalls.{runStartedOut, shownRunStart, hostRunStart, nextOut, shownNext, hostNext}
+use Rattle.run_calls.specs.RunCalls.{runStartedOut, shownRunStart, hostRunStart, nextOut, shownNext, hostNext, hostRunSteps}
 use Rattle.turn_calls.specs.TurnCalls.{turnBlocks, ranOut, shownRun, hostRun}
 use Rattle.turn_calls.proofs.TurnLaws.{blocks-fit}
 use Rattle.calls.specs.Calls.{Buffers, buffers, Call, Called, afterRunStart, afterNext, afterRun, called}
@@ -94,11 +93,6 @@ module _ (P : Plan) (b : Buffers) where
       go true true false w = refl
       go true false v w = refl
       go false u v w = refl
-
-  -- and are as `Done`'s where their number is 0
-  start-zero : done (s .answer) ≡ true → s .answer ≡ reply Done
-  unfolding startRun
-  start-zero e = ap reply (only-done (verdict (startChecks chosen P B)) e)
 
 pub start-calls-are-right : StartCallsAreRight
 start-calls-are-right P b lm lr bytes =
@@ -170,7 +164,7 @@ accepted P b e = go (every (tests P b)) refl
         let l = every-each (tests P b) h in
         let call : called (Call.runStart P) b ≡ startOn P b true = start-call P b true h in
         let d : done (s P b .answer) ≡ true =
-        sym (zero-is-done (s P b .answer) (start-zero P b)) ∙ eq-eqb (packed (s P b .answer)) 0 (sym (ap (λ (o : Called). o .result) call) ∙ e) in
+        sym (zero-is-done (s P b .answer) (start-zero chosen P (benchIn b))) ∙ eq-eqb (packed (s P b .answer)) 0 (sym (ap (λ (o : Called). o .result) call) ∙ e) in
         record {
           machine-long = eqb-true (length (b .machine)) machineBytes (l .0);
           run-long = eqb-true (length (b .run)) runBytes (l .1 .0);
@@ -257,6 +251,12 @@ module _ (P : Plan) (b : Buffers) (p : PlanWords P) (small : Bytes (b .machine))
       asking t l ∙ shown-done (with (r t) b) (ask chosen (r t .run)) h (r (suc t) .run) (ask-zero (r t .run) (number-done (ask chosen (r t .run) .answer) (k .answers))) k
       ∙ ap (λ (R : List ℕ). left 0 (handing h R (with (r t) b))) (putRun-over (r (suc t) .run) (r t .run) (b .run) (A .run-long))
 
+  telling : (t : ℕ) → hostRunSteps (putRun (r t .run) (b .run)) ≡ stepsIn chosen (r t .run)
+  unfolding hostRunSteps
+  telling t =
+      ap₂ (λ (t : Bool) (S : Run). cond t (stepsIn chosen S) 0) (runFit-putRun (r t .run) (b .run) (wordy t .run) (A .run-long))
+      (runOf-putRun (r t .run) (b .run) (wordy t .run) (A .run-long))
+
   right : (t : ℕ) → Right chosen (jobIn P b) r₀ t → TurnCalls P b t
   right t T = record {
     holds = holding t;
@@ -274,6 +274,7 @@ module _ (P : Plan) (b : Buffers) (p : PlanWords P) (small : Bytes (b .machine))
     asks-past-end = λ e l.
         subst (λ (c : Buffers). (called Call.runNext c .result ≡ 8) × (called Call.runNext c .after ≡ c)) (sym (holding t))
         (let k = asking t e ∙ shown-refused (with (r t) b) (ask chosen (r t .run)) (ask-none (r t .run) (T .asks-past-end l .hands-out)) in (ap (λ (o : Called). o .result) k, ap (λ (o : Called). o .after) k));
+    tells = ap (λ (c : Buffers). hostRunSteps (c .run)) (holding t) ∙ telling t ∙ T .tells;
     kept = subst (λ (c : Buffers). Kept (jobIn P b) (c .memory)) (sym (holding t)) (T .kept);
     product = λ l i j g h. ap (λ (c : Buffers). element (c .memory) (cAt P) (wide P) i j) (holding t) ∙ T .product l i j g h;
   }
@@ -281,7 +282,7 @@ module _ (P : Plan) (b : Buffers) (p : PlanWords P) (small : Bytes (b .machine))
 pub turn-calls-are-right : TurnCallsAreRight
 turn-calls-are-right P b p small bytes e t =
     let A : Accepted P b = accepted P b e in
-    right P b p small A t (demand-3-ours P (benchIn b) bytes .turns (ap (λ (v : Reply). v .number) (start-zero P b (A .done))) t)
+    right P b p small A t (demand-3-ours P (benchIn b) bytes .turns (ap (λ (v : Reply). v .number) (start-zero chosen P (benchIn b) (A .done))) t)
 
 -- ---- bodlarina_run
 
@@ -318,7 +319,7 @@ run-is-turn-calls P b p small bytes lr ls = (
   λ e.
       let A : Accepted P b = accepted P b (sym (same-result P b lr ls) ∙ e) in
       let n : ℕ = steps (shape (jobIn P b)) in
-      let counted : w P b .count ≡ n = whole-delivers P (benchIn b) bytes .counted (ap (λ (v : Reply). v .number) (start-zero P b (A .done))) in
+      let counted : w P b .count ≡ n = whole-delivers P (benchIn b) bytes .counted (ap (λ (v : Reply). v .number) (start-zero chosen P (benchIn b) (A .done))) in
       ap (λ (o : Called). o .after) (run-fits P b ls (eq-eqb (length (b .machine)) machineBytes (A .machine-long)))
       ∙ ap₂ (λ (t : Bool) (k : ℕ). afterRun b (ranOut 0 (cond t (putMachine (w P b .bench .machine) (b .machine)) (b .machine))
       (w P b .bench .registers) (w P b .bench .marks) (w P b .bench .memory) (cond t (putNumbers (k ∷ []) (b .steps)) (b .steps))) .after) (A .done) counted

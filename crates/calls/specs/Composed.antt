@@ -22,6 +22,7 @@ use Rattle.run.specs.Statement.{Answered, jobOf, startedRun}
 use Rattle.run.specs.Theorems.{SealKept}
 use Rattle.blocks.specs.Blocks.{Bytes, machineBytes, machineOf, putMachine, putNumbers}
 use Rattle.run_blocks.specs.RunBlocks.{runBytes, putRun, planNumbers, stepBytes, putHanded}
+use Rattle.run_calls.specs.RunCalls.{hostRunSteps}
 use Rattle.turn_calls.specs.TurnCalls.{countBytes}
 use Rattle.calls.specs.Calls.{Buffers, buffers, Call, Called, called, calls}
 
@@ -99,6 +100,8 @@ pub record TurnCalls (P : Plan) (b : Buffers) (t : ℕ) : Type 0 where
   -- "asking past the last gives 8": and changes no byte
   pub asks-past-end : length (b .step) ≡ stepBytes → steps (shape (jobIn P b)) ≤ t
       → (called Call.runNext (afterTurnCalls P b t) .result ≡ 8) × (called Call.runNext (afterTurnCalls P b t) .after ≡ afterTurnCalls P b t)
+  -- "there are 1 + M(1 + N(3 + 4K)) steps": what bodlarina_run_steps returns, wherever the run has come to
+  pub tells : hostRunSteps (afterTurnCalls P b t .run) ≡ steps (shape (jobIn P b))
   -- "After each turn the memory outside C's elements is as at the start."
   pub kept : Kept (jobIn P b) (afterTurnCalls P b t .memory)
   -- "After turn s and each later one, C(i, j) is the sum ..", over the memory at the start

@@ -48,7 +48,7 @@ use Rattle.run.proofs.PlaceLaws.{rest, before, rest-next, rest-after, p
 use Rattle.run.proofs.BeginLaws.{begins-next}
 use Rattle.run.specs.Plan.{Job, Kept, shape, narrow, wide, formOf, aRow, aColumn, aRows, aColumns}
 use Rattle.run.specs.Start.{format, kindFits, planned, lying, separate, startChecks, freshRun, noRun, startRun}
-use Rattle.run.specs.Turn.{begins, soundRun, handsOut, Ask, ask, Running, Turn, turn, afterTurns, answeredDone}
+use Rattle.run.specs.Turn.{begins, soundRun, handsOut, stepsIn, Ask, ask, Running, Turn, turn, afterTurns, answeredDone}
 use Rattle.run.proofs.HandedLaws.{askWith, turnWith}
 use Rattle.run.proofs.RefusalLaws.{number-done, started-idle}
 use Rattle.run.specs.Encoding.{own, handedFor}
@@ -188,6 +188,11 @@ module _ (grant : ℕ → ℕ → ℕ → ℕ) (P : Plan) (B₀ : Bench) (R : Re
   hands : (p : Place) (B : Bench) → Holds grant P B₀ p B → handsOut grant (at grant P B₀ p B .run) ≡ wordAt (S grant P B₀) p
   unfolding soundRun
   hands p B h = rw (R .lengths, R .rule-is, R .plan, h .begun)
+
+  -- and tells its number of steps
+  tells : (p : Place) (B : Bench) → Holds grant P B₀ p B → stepsIn grant (at grant P B₀ p B .run) ≡ steps (S grant P B₀)
+  unfolding soundRun
+  tells p B h = rw (R .lengths, R .rule-is, R .plan, h .begun)
 
   -- every place but the end hands out a word that is done, and the invariant goes on
   abbrev Advanced : Place → Bench → Type 0
@@ -408,6 +413,7 @@ module _ (grant : ℕ → ℕ → ℕ → ℕ) (P : Plan) (B₀ : Bench) (R : Re
     kept = kept-at (J grant P B₀) (placeAfter (S grant P B₀) t) (held (after t .bench)) (after t .bench .memory) (holding t .here);
     product = λ l i j li lj. subst (λ (p : Place). At (J grant P B₀) p (held (after t .bench)) (after t .bench .memory)) (at-end t l) (holding t .here) .1 i j li li lj;
     count = counted t;
+    tells = ap (λ (r : Running). stepsIn grant (r .run)) (stays t) ∙ tells (placeAfter (S grant P B₀) t) (after t .bench) (holding t);
   }
 
 -- ---- the start

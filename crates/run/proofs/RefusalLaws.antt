@@ -6,20 +6,21 @@ use Prim.Native.Nat.{ℕ, zero, suc, _+_}
 use native.Mathlib.Nat.{add-zero}
 use lib.Dec.{eqb}
 use borrow.Author.Tests.{eq-eqb, ne-eqb}
-use Rattle.machine.specs.declared.Answer.the-variants.{BadArguments}
+use Rattle.machine.specs.declared.Answer.the-variants.{Done, BadArguments}
 use Rattle.machine.specs.declared.Reply.{Reply}
-use Rattle.machine.specs.Answers.{reply, done}
+use Rattle.machine.specs.Answers.{reply, verdict, done}
 use Rattle.machine.specs.Geometry.{Bench, permitted}
 use Rattle.machine.specs.Step.{Outcome, stepBy}
 use Rattle.machine.proofs.TestLaws.{false-true}
+use Rattle.machine.proofs.CodeLaws.{only-done}
 use Rattle.machine.proofs.Refusal.{refusal-changes-nothing}
 use Rattle.run.specs.declared.Plan.{Plan}
 use Rattle.run.specs.declared.Run.{Run}
 use Rattle.run.specs.declared.Handed.{Handed}
 use Rattle.run.specs.Words.{Op}
 use Rattle.run.specs.Encoding.{own, handedFor}
-use Rattle.run.specs.Start.{startRun, freshRun, noRun}
-use Rattle.run.specs.Turn.{soundRun, handsOut, moved, Ask, ask, Running, running, Turn, turn, afterTurns, answeredDone}
+use Rattle.run.specs.Start.{startChecks, startRun, freshRun, noRun}
+use Rattle.run.specs.Turn.{soundRun, handsOut, stepsIn, moved, Ask, ask, Running, running, Turn, turn, afterTurns, answeredDone}
 use Rattle.run.specs.Statement.{Idle, startedRun}
 use Rattle.run.proofs.HandedLaws.{askWith, turnWith}
 
@@ -30,6 +31,11 @@ number-done a e = eq-eqb (a .number) 0 e
 
 pub number-refused : (a : Reply) → ¬ (a .number ≡ 0) → done a ≡ false
 number-refused a d = ne-eqb (a .number) 0 d
+
+-- a start whose number is 0 answers `Done`
+pub start-zero : (grant : ℕ → ℕ → ℕ → ℕ) (P : Plan) (B : Bench) → done (startRun grant P B .answer) ≡ true → startRun grant P B .answer ≡ reply Done
+unfolding startRun
+start-zero grant P B e = ap reply (only-done (verdict (startChecks grant P B)) e)
 
 -- ---- a refused turn
 
@@ -57,6 +63,10 @@ module _ (grant : ℕ → ℕ → ℕ → ℕ) (P : Plan) (B : Bench) where
   unfolding soundRun permitted
   hands-none = refl
 
+  tells-none : stepsIn grant (noRun P) ≡ 0
+  unfolding soundRun permitted
+  tells-none = refl
+
   abbrev refused : Running → Turn
   refused r = record { answer = reply BadArguments; handed = none; after = r }
 
@@ -82,6 +92,7 @@ module _ (grant : ℕ → ℕ → ℕ → ℕ) (P : Plan) (B : Bench) where
         no-turn = record { answers = ap (λ (u : Turn). u .answer .number) u; hands-out = ap (λ (u : Turn). u .handed) u; leaves = ap (λ (u : Turn). u .after) u };
         no-step = record { answers = ap (λ (a : Ask). a .answer .number) a; hands-out = ap (λ (a : Ask). a .handed) a; leaves = ap (λ (a : Ask). a .run) a };
         no-count = no-count t;
+        tells-none = ap (λ (r : Running). stepsIn grant (r .run)) (stands t) ∙ tells-none;
       }
 
   pub run-refused : done (startRun grant P B .answer) ≡ false → startedRun grant P B ≡ nothing

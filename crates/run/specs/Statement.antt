@@ -23,7 +23,7 @@ use Rattle.run.specs.Words.{steps}
 use Rattle.run.specs.Plan.{Job, Kept, shape, narrow, wide, aAt, bAt, cAt, aRows, aColumns, productOf}
 use Rattle.run.specs.Start.{startRun}
 use Rattle.run.specs.Encoding.{wordList, wordOf}
-use Rattle.run.specs.Turn.{Ask, ask, Running, Turn, turn, afterTurns, answeredDone}
+use Rattle.run.specs.Turn.{stepsIn, Ask, ask, Running, Turn, turn, afterTurns, answeredDone}
 
 -- ---- when a start is accepted
 
@@ -102,6 +102,8 @@ pub record Right (grant : ℕ → ℕ → ℕ → ℕ) (J : Job) (r : Running) (
       → element (afterTurns grant r t .bench .memory) (cAt (J .plan)) (wide (J .plan)) i j ≡ productOf J i j
   -- the number of turns answered 0
   pub count : answeredDone grant r t ≡ min t (steps (shape J))
+  -- the number of steps that the run tells of itself
+  pub tells : stepsIn grant (afterTurns grant r t .run) ≡ steps (shape J)
 
 -- after a refused start: the turns have changed nothing, the next gives 8, hands out nothing and changes nothing, and so does asking
 pub record Idle (grant : ℕ → ℕ → ℕ → ℕ) (r : Running) (t : ℕ) : Type 0 where
@@ -109,6 +111,7 @@ pub record Idle (grant : ℕ → ℕ → ℕ → ℕ) (r : Running) (t : ℕ) : 
   pub no-turn : Turns (turn grant (afterTurns grant r t)) 8 none r
   pub no-step : Asks (ask grant (afterTurns grant r t .run)) 8 none (r .run)
   pub no-count : answeredDone grant r t ≡ 0
+  pub tells-none : stepsIn grant (afterTurns grant r t .run) ≡ 0
 
 -- ---- demand 3, of a plan and a bench
 

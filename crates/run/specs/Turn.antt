@@ -20,7 +20,7 @@ use Rattle.run.specs.declared.Handed.{Handed}
 use Rattle.run.specs.declared.Asked.{Asked}
 use Rattle.run.specs.declared.Turned.{Turned}
 use Rattle.run.specs.declared.Taken.{Taken}
-use Rattle.run.specs.Words.{Op, Shape}
+use Rattle.run.specs.Words.{Op, Shape, steps}
 use Rattle.run.specs.Places.{next, wordAt}
 use Rattle.run.specs.Encoding.{own, plain, handedFor}
 use Rattle.run.specs.Plan.{typeOf}
@@ -78,6 +78,10 @@ soundRun grant R = every (
 -- the next word: none past the last, and none of a run that no start and turns can have made
 abbrev pub handsOut : (ℕ → ℕ → ℕ → ℕ) → Run → Option Op
 handsOut grant R = cond (soundRun grant R) (wordAt (runShape grant R) (R .place)) none
+
+-- "there are 1 + M(1 + N(3 + 4K)) steps", wherever the run has come to; none of a run that no start and turns can have made
+abbrev pub stepsIn : (ℕ → ℕ → ℕ → ℕ) → Run → ℕ
+stepsIn grant R = cond (soundRun grant R) (steps (runShape grant R)) 0
 
 -- the run once a step is handed out
 abbrev pub moved : (ℕ → ℕ → ℕ → ℕ) → Run → Run

@@ -22,7 +22,7 @@ use Rattle.run_blocks.specs.RunBlocks.{runBytes, runOf, putRun, runFit, putHand
 use Rattle.run_calls.specs.RunCalls.{HostRunStarted, runStartedOut, shownRunStart, hostRunStart, HostNext, nextOut, shownNext, hostNext}
 use Rattle.run_calls.specs.Theorems.{RunStartRefusalChangesNoByte, NextRefusalChangesNoByte}
 use Rattle.blocks.proofs.BlockLaws.{packed-refused}
-use Rattle.starting.proofs.StartLaws.{start-zero}
+use Rattle.run.proofs.RefusalLaws.{start-zero}
 
 ask-zero : (R : Run) → done (ask chosen R .answer) ≡ true → ask chosen R .answer ≡ reply Done
 ask-zero R = go (handsOut chosen R)
@@ -42,7 +42,7 @@ run-start-refusal P machine registers marks memory run = go (every (eqb (length 
     out t = cond t (shownRunStart machine run s) (runStartedOut (packed (reply BadArguments)) machine registers marks memory run)
 
     go : (t : Bool) → ¬ (out t .result ≡ 0) → out t ≡ runStartedOut (out t .result) machine registers marks memory run
-    go true d = ap (λ (t : Bool). runStartedOut (packed (s .answer)) machine registers marks memory (cond t (putRun (s .run) run) run)) (packed-refused (s .answer) (start-zero P (benchOf (machineOf machine) registers marks memory)) d)
+    go true d = ap (λ (t : Bool). runStartedOut (packed (s .answer)) machine registers marks memory (cond t (putRun (s .run) run) run)) (packed-refused (s .answer) (start-zero chosen P (benchOf (machineOf machine) registers marks memory)) d)
     go false d = refl
 
 pub next-refusal : NextRefusalChangesNoByte

@@ -15,8 +15,7 @@ use Rattle.run.specs.declared.Run.{Run}
 use Rattle.run.specs.declared.RunStarted.{RunStarted}
 use Rattle.run.specs.declared.Asked.{Asked}
 use Rattle.run.specs.Start.{startRun, startedAs}
-use Rattle.run.specs.Turn.{ask, asked, askedAs}
-use Rattle.asking.specs.Steps.{stepsIn}
+use Rattle.run.specs.Turn.{stepsIn, ask, asked, askedAs}
 use Rattle.blocks.specs.Blocks.{machineBytes, machineOf, packed}
 use Rattle.run_blocks.specs.RunBlocks.{runBytes, runFit, runOf, putRun, putHanded}
 use Rattle.run_calls.specs.RunCalls.{runStartedOut, shownRunStart, hostRunStart, nextOut, shownNext, hostNext, hostRunSteps}
@@ -81,6 +80,6 @@ module _ (run : List ℕ) where
   unfolding hostRunSteps
   steps-unfit h = rw h
 
-  pub steps-fit : (R : Run) (r : ℕ) → runFit run ≡ true → R ≡ runOf run → r ≡ stepsIn R → r ≡ hostRunSteps run
+  pub steps-fit : (R : Run) (r : ℕ) → runFit run ≡ true → R ≡ runOf run → r ≡ stepsIn chosen R → r ≡ hostRunSteps run
   unfolding hostRunSteps
-  steps-fit R r h eR er = rw h (er ∙ ap stepsIn eR)
+  steps-fit R r h eR er = rw h (er ∙ ap (stepsIn chosen) eR)

@@ -11,8 +11,7 @@ use Rattle.machine.specs.Geometry.{benchOf}
 use Rattle.machine.specs.Setting.{chosen}
 use Rattle.run.specs.declared.Plan.{Plan}
 use Rattle.run.specs.Start.{RunStart, startRun}
-use Rattle.run.specs.Turn.{ask, AskOutcome, asked}
-use Rattle.asking.specs.Steps.{stepsIn}
+use Rattle.run.specs.Turn.{stepsIn, ask, AskOutcome, asked}
 use Rattle.blocks.specs.Blocks.{machineBytes, machineOf, packed}
 use Rattle.run_blocks.specs.RunBlocks.{runBytes, runOf, putRun, runFit, stepBytes, putHanded}
 
@@ -75,4 +74,4 @@ hostNext run step =
 
 -- what a call of bodlarina_run_steps returns: the steps of the run in this block, wherever it has come to; 0 for a block that is refused
 unfoldable pub hostRunSteps : (run : List ℕ) → ℕ
-hostRunSteps run = cond (runFit run) (stepsIn (runOf run)) 0
+hostRunSteps run = cond (runFit run) (stepsIn chosen (runOf run)) 0

@@ -8,19 +8,18 @@ use native.Mathlib.Omega.{arith}
 use lib.ListN.{length}
 use lib.Dec.{leb}
 use borrow.Author.Tests.{leb-true}
-use Rattle.machine.specs.declared.Answer.the-variants.{Done, BadArguments, OutsideMemory, Overlap}
+use Rattle.machine.specs.declared.Answer.the-variants.{BadArguments, OutsideMemory, Overlap}
 use Rattle.machine.specs.Tests.{isIn}
-use Rattle.machine.specs.Answers.{reply, Check, _otherwise_, verdict, done, isDone}
+use Rattle.machine.specs.Answers.{reply, Check, _otherwise_, verdict, isDone}
 use Rattle.machine.specs.Geometry.{elen, Parameters, Bench, parameters}
 use Rattle.machine.specs.Memory.{inside, distinct, unsealed}
 use Rattle.machine.specs.Faults.{sound}
 use Rattle.machine.specs.Setting.{chosen}
 use Rattle.machine.proofs.TestLaws.{Each, every-each, fails, last}
-use Rattle.machine.proofs.CodeLaws.{only-done}
 use Rattle.run.specs.declared.Plan.{Plan}
 use Rattle.run.specs.Plan.{narrow, wide, aAt, bAt, cAt, formOf, aRows, aColumns}
 use Rattle.run.proofs.FormLaws.{most-in}
-use Rattle.run.specs.Start.{format, kindFits, planned, lying, apart, separate, RunStart, startRun, startChecks, freshRun, noRun}
+use Rattle.run.specs.Start.{format, kindFits, planned, lying, apart, separate, RunStart, startRun, freshRun, noRun}
 use Rattle.plan_numbers.proofs.PlanLaws.{sews, factors, plan-small}
 
 -- ---- the numbers of a plan
@@ -164,10 +163,3 @@ module _ (P : Plan) (B : Bench) where
       → separate (parameters chosen (B .machine)) P ≡ d → out s p l d ≡ startRun chosen P B
   unfolding startRun
   started-by hs hp hl hd = rw (hs, hp, hl, hd)
-
--- ---- the answer
-
--- an answer whose number is 0 is `Done`'s
-pub start-zero : (P : Plan) (B : Bench) → done (startRun chosen P B .answer) ≡ true → startRun chosen P B .answer ≡ reply Done
-unfolding startRun
-start-zero P B e = ap reply (only-done (verdict (startChecks chosen P B)) e)

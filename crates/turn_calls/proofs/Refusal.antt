@@ -27,7 +27,7 @@ use Rattle.blocks.proofs.BlockLaws.{putMachine-same}
 use Rattle.run_blocks.proofs.RunBlockLaws.{putRun-same}
 use Rattle.blocks.specs.Blocks.{Bytes}
 use Rattle.blocks.proofs.BlockLaws.{packed-refused}
-use Rattle.starting.proofs.StartLaws.{start-zero}
+use Rattle.run.proofs.RefusalLaws.{start-zero}
 
 -- a run and a machine that stay are written over the bytes they were read of
 module _ (run machine registers marks memory : List ℕ) (small : Bytes run) (small′ : Bytes machine) where
@@ -94,7 +94,7 @@ run-refusal P machine registers marks memory steps = go (every (eqb (length mach
 
     go : (t : Bool) → ¬ (out t .result ≡ 0) → out t ≡ ranOut (out t .result) machine registers marks memory steps
     go true d =
-        let h = packed-refused (startRun chosen P B .answer) (start-zero P B) d in
+        let h = packed-refused (startRun chosen P B .answer) (start-zero chosen P B) d in
         ap (shownRun machine steps) (whole-refused P B h)
         ∙ ap (λ (t : Bool). ranOut (packed (startRun chosen P B .answer)) (cond t (putMachine (machineOf machine) machine) machine) registers marks memory
         (cond t (putNumbers (0 ∷ []) steps) steps)) h
