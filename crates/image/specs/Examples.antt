@@ -53,6 +53,14 @@ versions : checkImage (2 ∷ 1 ∷ 6 ∷ 7 ∷ 0 ∷ 0 ∷ 0 ∷ 0 ∷ 0 ∷ 0 �
 unfolding checkImage parse readNumber isAmong nonempty imageFormat runsFormat
 versions = refl
 
+-- the shortest inputs that are refused. Only cut short, the place is the length (02, Six): nothing; version 1 alone. The version 0, where images
+-- have 1 (Six) or 2 (Eight). A first group of 1, or of 2, behind which another has to follow: in the shortest form (Six) 1 and 2 have no second
+-- group, and a larger number is no version, so that no image goes on at the first byte
+shortest : checkImage [] ∷ checkImage (1 ∷ []) ∷ checkImage (0 ∷ []) ∷ checkImage (129 ∷ 0 ∷ []) ∷ checkImage (130 ∷ 0 ∷ []) ∷ []
+    ≡ Damaged 0 ∷ Damaged 1 ∷ Damaged 0 ∷ Damaged 0 ∷ Damaged 0 ∷ []
+unfolding checkImage parse readNumber isAmong nonempty imageFormat runsFormat
+shortest = refl
+
 -- another version; MLEN not above RLEN; an mtype that cannot arise; a tile size above its maximum; a run that touches the one before it; a run
 -- without a byte; a gap that ends past the registers, seen in its second byte; one that leaves no room for the second run, seen in its first
 damaged : checkImage (3 ∷ []) ∷ checkImage (1 ∷ 7 ∷ 7 ∷ []) ∷ checkImage (1 ∷ 6 ∷ 7 ∷ 3 ∷ []) ∷ checkImage (1 ∷ 6 ∷ 7 ∷ 0 ∷ 3 ∷ [])

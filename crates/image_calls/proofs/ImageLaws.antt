@@ -15,8 +15,8 @@ use Rattle.image.specs.declared.Restored.{Restored}
 use Rattle.image.specs.Answers.{imageReply}
 use Rattle.image.specs.Writing.{SizeOutcome, sizeImage, sizedAs, WriteOutcome, writeImage, writtenAs}
 use Rattle.image.specs.Reading.{checkImage, readImage, restoredAs}
-use Rattle.image_read.specs.Parts.{isSound}
-use Rattle.image_read.proofs.ReadLaws.{sound-number}
+use Rattle.image_check.specs.Parts.{isSound}
+use Rattle.image_check.proofs.CheckLaws.{sound-number}
 use Rattle.blocks.specs.Blocks.{machineBytes, machineOf, putMachine}
 use Rattle.image_calls.specs.ImageCalls.{packedReply, hostImageSize, writtenOut, hostImageWrite, blockRefused, readOut, shownRead, hostImageRead}
 

@@ -64,12 +64,12 @@ pub fn read(image: &[u8], machine: &mut [u8], registers: &mut [u8], marks: &mut 
         ≡ hostImageRead (now (image .entry)) (now (machine .entry)) (now (registers .entry)) (now (marks .entry)) ⌝ }
 {
     if machine.len() != MACHINE_BYTES {
-        let verdict = image_read::check_image(image);
+        let verdict = image_check::check_image(image);
         return packed_reply(block_refused(verdict), 0);
     }
     let read = image_read::read_image(image, registers, marks);
     let answer = read.answer;
-    if !image_read::is_done(answer) {
+    if !image_check::is_done(answer) {
         return packed_reply(answer, 0);
     }
     let numbers = read.machine;

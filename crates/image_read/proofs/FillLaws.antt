@@ -1,15 +1,26 @@
 -- Filling runs into lent registers and marks, run by run.
 use mathlib.Core.Path.{_≡_, refl, sym, ap, ap₂, _∙_, subst}
+use mathlib.Core.Bool.{Bool, true, false}
 use mathlib.Core.List.{List, [], _∷_, _++_, map, append-assoc}
 use mathlib.Core.Option.{none, some}
 use Prim.Native.Nat.{ℕ, zero, suc, _+_, _-_, _≤_}
 use native.Mathlib.Omega.{arith}
+use lib.Dec.{ltb}
+use borrow.Author.Tests.{ltb-true, ltb-false}
 use lib.ListN.{length, take, drop, replicate, length-append, length-drop, length-replicate, take-append-drop}
 use lib.Seq.{sets, sets-eq, length-sets, drop-drop, take-add, take-at, drop-at, length-take-le}
+use Rattle.format.specs.Formats.Format.{done}
+use Rattle.format.specs.Parser.{Parsed, from}
+use Rattle.format.specs.Parser.Parsed.{whole, stopped}
+use Rattle.reader.proofs.FromLaws.{from-end, from-more}
 use Rattle.image.specs.Cells.{Cell, Run, spread, Fit, over, marksOf}
 use Rattle.image.specs.Cells.Run.{run}
-use Rattle.image.specs.declared.Imaged.the-variants.{Done}
-use Rattle.image_read.specs.Parts.{runsVerdict, bodyAt, ones, NextOk}
+use Rattle.image.specs.declared.Imaged.the-variants.{Done, Damaged}
+use Rattle.image.specs.ImageFormat.{Described, runsFormat}
+use Rattle.image.specs.Reading.{verdictOf}
+use Rattle.image_check.specs.Parts.{runsFrom, runsVerdict}
+use Rattle.image_check.proofs.RunsLaws.{mapped, plain, cons, RunOk, run-next}
+use Rattle.image_read.specs.Parts.{bodyOf, bodyAt, ones}
 
 -- ---- over, part by part
 
@@ -113,13 +124,41 @@ marks-ones least n (run g b ∷ rs) h =
     (over-some one (spread (n - (g + length one)) (ones rs)) (drop g z) (omega (arith, h .0))
     ∙ ap₂ (λ (x : ℕ) (y : List ℕ). one ++ over (spread (n - (g + x)) (ones rs)) y) long rest))
 
+-- ---- the runs that are left, where all are there
+
+pub damaged-done : (p : ℕ) → Damaged p ≡ Done → ⊥
+damaged-done p e = let z : _≡_ {A = ℕ} 0 1 = cc in absurd (omega arith)
+
+-- none
+pub body-end : (s : List ℕ) (at least room l : ℕ) → l ≡ 0 → bodyAt s at l least room ≡ []
+unfolding bodyAt runsFrom runsFormat
+body-end s at least room l e = rw (e, runsFormat) (go (ltb at (length s)) refl)
+  where
+    go : (t : Bool) → ltb at (length s) ≡ t → bodyOf (from (done (plain [])) s at) ≡ []
+    go true h = ap bodyOf (from-more s at (plain []) (ltb-true at (length s) h))
+    go false h = ap bodyOf (from-end s at (plain []) (ltb-false at (length s) h))
+
+-- the next run, and the others
+body-next : (s : List ℕ) (at left least room gap size a : ℕ) → RunOk s at left least room gap size a → runsVerdict s at left least room ≡ Done
+    → bodyAt s at left least room ≡ run gap (take size (drop a s)) ∷ bodyAt s (a + size) (left - 1) 1 (room - (gap + size))
+unfolding bodyAt runsVerdict
+body-next s at left least room gap size a r k = ap bodyOf (r .step) ∙ go (runsFrom s (a + size) (left - 1) 1 (room - (gap + size))) refl
+  where
+    go : (q : Parsed Described) → runsFrom s (a + size) (left - 1) 1 (room - (gap + size)) ≡ q → bodyOf (mapped (cons gap (take size (drop a s))) q) ≡ run gap (take size (drop a s)) ∷ bodyOf q
+    go (whole d) e = refl
+    go (stopped p) e = absurd (damaged-done p (sym (ap verdictOf e) ∙ sym (run-next s at left least room gap size a r) ∙ k))
+
 -- ---- one turn of the code's loop: the next run is filled in, and the others are left
-module _ (s regs marks : List ℕ) (at left least to gap size a : ℕ) (fits : to ≤ length regs) (same : length marks ≡ length regs) (next : NextOk s at left least (length regs - to) gap size a) where
+module _ (s regs marks : List ℕ) (at left least to gap size a : ℕ) (fits : to ≤ length regs) (same : length marks ≡ length regs) (next : RunOk s at left least (length regs - to) gap size a)
+    (sound : runsVerdict s at left least (length regs - to) ≡ Done) where
   abbrev bytesOf : List ℕ
   bytesOf = take size (drop a s)
 
   abbrev restOf : List Run
   restOf = bodyAt s (a + size) (left - 1) 1 (length regs - to - (gap + size))
+
+  body-is : bodyAt s at left least (length regs - to) ≡ run gap bytesOf ∷ restOf
+  body-is = body-next s at left least (length regs - to) gap size a next sound
 
   many : length bytesOf ≡ size
   many = length-take-le size (drop a s) (omega (arith, length-drop a s, next .in-image))
@@ -138,12 +177,12 @@ module _ (s regs marks : List ℕ) (at left least to gap size a : ℕ) (fits : t
     left-is = room-is ∙ ap (λ (x : ℕ). x - (to + gap + size)) (sym length-regs)
 
     pub still-done : runsVerdict s (a + size) (left - 1) 1 (length regs′ - (to + gap + size)) ≡ Done
-    still-done = subst (λ (x : ℕ). runsVerdict s (a + size) (left - 1) 1 x ≡ Done) left-is (next .still)
+    still-done = subst (λ (x : ℕ). runsVerdict s (a + size) (left - 1) 1 x ≡ Done) left-is (sym (run-next s at left least (length regs - to) gap size a next) ∙ sound)
 
     pub regs-filled : filled to (bodyAt s at left least (length regs - to)) regs ≡ filled (to + gap + size) (bodyAt s (a + size) (left - 1) 1 (length regs′ - (to + gap + size))) regs′
     regs-filled =
         let e : to + (gap + length bytesOf) ≡ to + gap + size = omega (arith, many) in
-        ap (λ (rs : List Run). filled to rs regs) (next .body-is)
+        ap (λ (rs : List Run). filled to rs regs) body-is
         ∙ filled-run to gap bytesOf restOf regs (omega (arith, many, next .in-room))
         ∙ ap₂ (λ (x : ℕ) (ys : List ℕ). filled x restOf ys) e (sym er)
         ∙ ap (λ (x : ℕ). filled (to + gap + size) (bodyAt s (a + size) (left - 1) 1 x) regs′) left-is
@@ -154,7 +193,7 @@ module _ (s regs marks : List ℕ) (at left least to gap size a : ℕ) (fits : t
         let long : length one ≡ length bytesOf = length-replicate (length bytesOf) 1 in
         let e : to + (gap + length one) ≡ to + gap + size = omega (arith, many, long) in
         let is : sets marks (to + gap) one ≡ marks′ = ap (λ (x : ℕ). sets marks (to + gap) (replicate x 1)) many ∙ sym em in
-        ap (λ (rs : List Run). filled to (ones rs) marks) (next .body-is)
+        ap (λ (rs : List Run). filled to (ones rs) marks) body-is
         ∙ filled-run to gap one (ones restOf) marks (omega (arith, many, long, same, next .in-room))
         ∙ ap₂ (λ (x : ℕ) (ys : List ℕ). filled x (ones restOf) ys) e is
         ∙ ap (λ (x : ℕ). filled (to + gap + size) (ones (bodyAt s (a + size) (left - 1) 1 x)) marks′) left-is

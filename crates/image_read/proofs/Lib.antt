@@ -1,6 +1,4 @@
--- Laws for the code: the runs of an image, its numbers, filling the runs in, and the entry points.
-pub mod RunsLaws
-pub mod HeadLaws
+-- Laws for the code: setting marks, filling the runs in, and the entry point.
 pub mod MarkLaws
 pub mod FillLaws
 pub mod ReadLaws

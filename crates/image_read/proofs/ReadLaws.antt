@@ -6,7 +6,6 @@ use Prim.Native.Nat.{ℕ, suc, _+_, _*_, _<_}
 use native.Mathlib.Omega.{arith}
 use lib.ListN.{length, getD, replicate, length-replicate, drop-of-length-le}
 use lib.Seq.{sets, sets-eq}
-use lib.Dec.{eqb}
 use Rattle.format.specs.Numbers.{Bytes}
 use Rattle.format.specs.Formats.{Accepts}
 use Rattle.format.specs.Parser.{Parsed, parse}
@@ -15,17 +14,17 @@ use Rattle.format.proofs.FormatLaws.{ParseRight, parse-right}
 use Rattle.machine.specs.declared.Machine.{Machine}
 use Rattle.machine.specs.Starting.{noMachine}
 use Rattle.image.specs.declared.Imaged.{Imaged}
-use Rattle.image.specs.declared.Imaged.the-variants.{Done, BadArguments, NoRoom, Damaged}
-use Rattle.image.specs.Answers.{imageReply}
+use Rattle.image.specs.declared.Imaged.the-variants.{Done, BadArguments, Damaged}
 use Rattle.image.specs.Cells.{Run, spread, Fit, over, marksOf}
 use Rattle.image.specs.ImageFormat.{Described, total, imageFormat}
-use Rattle.image.specs.Reading.{verdictOf, checkImage, restored, readAs, readImage}
+use Rattle.image.specs.Reading.{verdictOf, restored, readAs, readImage}
 use Rattle.image.proofs.ImageLaws.{image-live, image-out}
 use Rattle.image.proofs.Images.{fits-true, read-done, read-unfit}
-use Rattle.image_read.specs.declared.head.Head.the-variants.{HeadBad}
-use Rattle.image_read.specs.Parts.{describe, runsFrom, runsVerdict, isSound, bodyOf, bodyAt, ones, HeadedOk, HeadOk}
-use Rattle.image_read.proofs.RunsLaws.{mapped}
-use Rattle.image_read.proofs.HeadLaws.{head-parse}
+use Rattle.image_check.specs.declared.head.Head.the-variants.{HeadBad}
+use Rattle.image_check.specs.Parts.{headIn, describe, runsFrom, runsVerdict, isSound}
+use Rattle.image_check.proofs.RunsLaws.{mapped}
+use Rattle.image_check.proofs.HeadLaws.{HeadedOk, head-bad, head-parse}
+use Rattle.image_read.specs.Parts.{bodyOf, bodyAt, ones}
 use Rattle.image_read.proofs.FillLaws.{marks-ones}
 
 pub bytes-all : (s : List ℕ) → ((q : ℕ) → getD s q 0 < 256) → Bytes s
@@ -41,14 +40,9 @@ sets-all xs n v e =
     ∙ append-nil (replicate n v)
 
 -- numbers at fault
-module _ (s registers marks : List ℕ) (p : ℕ) (h : HeadOk s (HeadBad p)) where
-  pub check-bad : Damaged p ≡ checkImage s
-  unfolding checkImage
-  check-bad = ap verdictOf (sym h)
-
-  pub read-bad : restored (Damaged p) noMachine registers marks ≡ readImage s registers marks
-  unfolding readImage
-  read-bad = ap (λ (q : Parsed Described). readAs q registers marks) (sym h)
+pub read-bad : (s registers marks : List ℕ) (p : ℕ) → headIn s ≡ HeadBad p → restored (Damaged p) noMachine registers marks ≡ readImage s registers marks
+unfolding readImage
+read-bad s registers marks p e = ap (λ (q : Parsed Described). readAs q registers marks) (sym (head-bad s p e))
 
 module _ (s : List ℕ) (m : Machine) (c a : ℕ) (h : HeadedOk s m c a) (v : Imaged) (is : v ≡ runsVerdict s a c 0 (2 * m .mlen)) where
   abbrev runsLeft : Parsed Described
@@ -56,14 +50,6 @@ module _ (s : List ℕ) (m : Machine) (c a : ℕ) (h : HeadedOk s m c a) (v : Im
 
   abbrev built : Parsed Described → Parsed Described
   built = mapped (λ d. describe (h .header) (d .body))
-
-  pub check-runs-is : v ≡ checkImage s
-  unfolding checkImage runsVerdict
-  check-runs-is = is ∙ go runsLeft ∙ ap verdictOf (sym (head-parse s m c a h))
-    where
-      go : (q : Parsed Described) → verdictOf q ≡ verdictOf (built q)
-      go (whole d) = refl
-      go (stopped p) = refl
 
   -- runs at fault
   pub read-wrong : (registers marks : List ℕ) → isSound v ≡ false → restored v noMachine registers marks ≡ readImage s registers marks
@@ -128,10 +114,3 @@ module _ (s : List ℕ) (m : Machine) (c a : ℕ) (h : HeadedOk s m c a) (v : Im
         ap₂ (λ (x y : List ℕ). restored Done m x y) r k
         ∙ ap (λ (x : Machine). restored Done x (over (spread N body) registers) (marksOf (spread N body))) (h .machine-is)
         ∙ sym (ap (λ (q : Parsed Described). readAs q registers marks) parsed ∙ read-done d registers marks (fits-true d registers marks (ln, lm ∙ size-is)))
-
--- done by the number
-pub sound-number : (v : Imaged) → isSound v ≡ eqb (imageReply v .number) 0
-sound-number Done = refl
-sound-number BadArguments = refl
-sound-number NoRoom = refl
-sound-number (Damaged p) = refl

@@ -1,2 +1,2 @@
--- What the private functions of this crate find. No contract of an entry point names it.
+-- What the private functions of this crate leave. No contract of an entry point names it.
 pub mod Parts

@@ -1,46 +1,19 @@
-// Reading an image: its check, and the machine that it makes of the lent buffers. What an image is, and what reading leaves, is defined in
-// image/specs/. The first pass finds the place of a fault; only the second writes, so that a refusal changes nothing.
-use body::check_runs;
-use body::fill_runs;
-use body::put_marks;
-use head::Head;
-use head::head_of;
+// Reading an image: the machine that it makes of the lent buffers. What an image is, and what reading leaves, is defined in image/specs/. The
+// check finds the place of a fault; only then the buffers are filled, so that a refusal changes nothing.
+use fill::fill_runs;
+use fill::put_marks;
 use image::Imaged;
 use image::Restored;
+use image_check::head::Head;
+use image_check::head::head_of;
+use image_check::is_done;
+use image_check::runs::check_runs;
 use machine::Machine;
 ghost use mathlib.Core.Path.{_≡_};
-ghost use Rattle.image.specs.Reading.{checkImage, restoredAs, readImage};
+ghost use Rattle.image.specs.Reading.{restoredAs, readImage};
 ghost use Rattle.machine.specs.Starting.{noMachine};
-ghost use Rattle.image_read.specs.Parts.{isSound};
 
-mod body; // the runs of an image
-mod head; // its numbers
-
-// Whether s is an image, or else the place of the first byte at which no image can go on.
-pub fn check_image(s: &[u8]) -> Imaged
-    ensures { λ r. ⌜ r ≡ checkImage (now (s .entry)) ⌝ }
-{
-    match head_of(s) {
-        Head::HeadBad(p) => {
-            return Imaged::Damaged { place: p as u64 };
-        }
-        Head::Headed(m, count, at) => {
-            return check_runs(s, at, count, 2 * m.mlen);
-        }
-    }
-}
-
-// Whether nothing was refused.
-pub fn is_done(answer: Imaged) -> bool
-    ensures { λ r. ⌜ r ≡ isSound answer ⌝ }
-{
-    match answer {
-        Imaged::Done => true,
-        Imaged::BadArguments => false,
-        Imaged::NoRoom => false,
-        Imaged::Damaged { place: _ } => false,
-    }
-}
+mod fill; // runs into registers and marks
 
 // What a refused read returns.
 fn refused(answer: Imaged) -> Restored

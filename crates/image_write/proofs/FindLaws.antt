@@ -3,7 +3,7 @@ use mathlib.Core.Path.{_≡_, refl, sym, ap, ap₂, _∙_, subst}
 use mathlib.Core.List.{List, [], _∷_, _++_, map, append-nil}
 use mathlib.Core.Option.{none, some}
 use mathlib.Core.Logic.{_⊎_, inl, inr}
-use Prim.Native.Nat.{ℕ, zero, suc, _+_, _-_, _≤_, _<_}
+use Prim.Native.Nat.{ℕ, zero, suc, _+_, _-_, _^_, _≤_, _<_}
 use native.Mathlib.Omega.{arith}
 use Rattle.width.proofs.BlockLaws.{le-or-lt}
 use lib.ListN.{length, take, drop, getD, replicate, length-drop, drop-of-length-le, length-append}
@@ -13,7 +13,9 @@ use Rattle.image.specs.Cells.{Cell, cell, cellsOf, Run, widen, runs, Fit}
 use Rattle.image.specs.Cells.Run.{run}
 use Rattle.image.specs.Images.{runsBytes}
 use Rattle.image.proofs.RunLaws.{runs-gap, runs-body, runs-none, fit-runs}
+use Rattle.reader.proofs.SizeLaws.{size-bound}
 use Rattle.image_write.specs.Parts.{Stretch}
+use Rattle.image_write.proofs.StretchLaws.{below}
 
 -- ---- finding the runs: g bytes without a mark, then some with one, then the end or one without
 
@@ -157,6 +159,33 @@ module _ (bs ms : List ℕ) (n : length bs ≡ length ms) (two : (q : ℕ) → g
         let t : List ℕ = take (end - first) (drop first bs) in
         let r : List ℕ = runsBytes (runsAt bs ms end) in
         ap length run-bytes ∙ omega (arith, length-append a (b ++ (t ++ r)), length-append b (t ++ r), length-append t r, run-size)
+
+-- the run behind a place, whatever the registers hold: its gap and its length take at most ten bytes each
+pub record Found (ms : List ℕ) (at first end : ℕ) : Type 0 where
+  pub behind-gap : at ≤ first
+  pub some-marks : first < end
+  pub in-marks : end ≤ length ms
+  pub few-marks : length ms < 2 ^ 32
+  pub gap-bytes : length (encode (first - at)) ≤ 10
+  pub size-bytes : length (encode (end - first)) ≤ 10
+  pub first-run : (bs : List ℕ) → length bs ≡ length ms → runsAt bs ms at ≡ run (first - at) (take (end - first) (drop first bs)) ∷ runsAt bs ms end
+  pub first-bytes : (bs : List ℕ) → length bs ≡ length ms
+      → length (runsBytes (runsAt bs ms at)) ≡ length (encode (first - at)) + length (encode (end - first)) + (end - first) + length (runsBytes (runsAt bs ms end))
+
+pub found-run : (ms : List ℕ) → length ms < 2 ^ 32 → ((q : ℕ) → getD ms q 0 < 2) → (at first : ℕ) → Stretch ms at (length ms) 0 first → (end : ℕ) → Stretch ms first (length ms) 1 end → ¬ (first ≡ length ms)
+    → Found ms at first end
+found-run ms few two at first gap end marked apart =
+    let more = below first (length ms) (gap .to .in-marks) apart in
+    record {
+      behind-gap = gap .to .from-there;
+      some-marks = some-there ms ms refl two at first gap end marked more;
+      in-marks = marked .to .in-marks;
+      few-marks = few;
+      gap-bytes = size-bound (first - at) (omega (arith, gap .to .in-marks));
+      size-bytes = size-bound (end - first) (omega (arith, marked .to .in-marks));
+      first-run = λ bs n. one-run bs ms n two at first gap end marked more;
+      first-bytes = λ bs n. run-length bs ms n two at first gap end marked more;
+    }
 
 -- past the last mark
 pub runs-past : (bs ms : List ℕ) → length bs ≡ length ms → (at : ℕ) → length ms ≤ at → runsAt bs ms at ≡ []

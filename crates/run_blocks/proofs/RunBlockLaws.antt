@@ -8,18 +8,59 @@ use native.Mathlib.Omega.{arith}
 use lib.ListN.{length, getD}
 use lib.Dec.{eqb}
 use borrow.Author.Tests.{eqb-true, eq-eqb}
-use Rattle.width.specs.Tile.{le, putRow}
+use Rattle.width.specs.Tile.{le, putLe, putRow}
 use Rattle.width.proofs.TileLaws.{length-putRow}
 use Rattle.width.proofs.WordLaws.{le-putRow}
 use Rattle.machine.specs.Tests.{every}
 use Rattle.machine.proofs.TestLaws.{and-left, and-right, Each, every-each, each-every}
 use Rattle.run.specs.declared.Place.{Place}
 use Rattle.run.specs.declared.Place.the-variants.{AtType, AtM, AtN, AtClear, AtK, AtA, AtB, AtMultiply, AtStore, AtEnd}
+use Rattle.run.specs.declared.Layout.{Layout}
+use Rattle.run.specs.declared.Plan.{Plan}
 use Rattle.run.specs.declared.Run.{Run}
 use Rattle.blocks.specs.Blocks.{Bytes, firstValues, putNumbers}
 use Rattle.blocks.proofs.BlockLaws.{put-same}
 use Rattle.run_blocks.specs.declared.Spot.{Spot}
-use Rattle.run_blocks.specs.RunBlocks.{runBytes, spot, spotOf, spotIn, placeOf, planOf, runOf, runNumbers, putRun, sameSpot, runFit}
+use Rattle.run_blocks.specs.RunBlocks.{runBytes, spot, spotOf, spotIn, placeOf, layoutOf, planOf, runOf, planNumbers, runNumbers, putRun, sameSpot, runFit}
+
+-- ---- what a return has to show, from what was read or written at each place
+
+-- a number written over a block that is known
+pub write-next : (p v : ℕ) {b₁ b₂ b : List ℕ} → b₂ ≡ putLe p 8 v b₁ → b₁ ≡ b → b₂ ≡ putLe p 8 v b
+write-next p v e f = e ∙ ap (putLe p 8 v) f
+
+-- where a matrix lies, written over a block
+abbrev pub layoutPut : ℕ → Layout → List ℕ → List ℕ
+layoutPut at l b = putLe (at + 8) 8 (l .stride) (putLe at 8 (l .address) b)
+
+module _ (b : List ℕ) where
+  pub layout-is : (at : ℕ) {x y : ℕ} → x ≡ le b at 8 → y ≡ le b (at + 8) 8 → record { address = x; stride = y } ≡ layoutOf b at
+  layout-is at e f = ap₂ (λ (x y : ℕ). record { address = x; stride = y }) e f
+
+  pub spot-is : {k r c t : ℕ} → k ≡ le b 104 8 → r ≡ le b 112 8 → c ≡ le b 120 8 → t ≡ le b 128 8 → spot k r c t ≡ spotIn b
+  spot-is e f g h = cc
+
+  pub plan-is : {x y z : Layout} {kind sew factor m k n : ℕ} → x ≡ layoutOf b 40 → y ≡ layoutOf b 56 → z ≡ layoutOf b 72
+      → kind ≡ le b 136 8 → sew ≡ le b 0 8 → factor ≡ le b 8 8 → m ≡ le b 16 8 → k ≡ le b 24 8 → n ≡ le b 32 8
+      → record { kind = kind; sew = sew; factor = factor; m = m; k = k; n = n; a = x; b = y; c = z } ≡ planOf b
+  unfolding planOf
+  plan-is ex ey ez e₀ e₁ e₂ e₃ e₄ e₅ = cc
+
+  pub run-is : {P : Plan} {s : Spot} {p : Place} {rlen mlen rule : ℕ} → P ≡ planOf b → s ≡ spotIn b → p ≡ placeOf s → rlen ≡ le b 88 8 → mlen ≡ le b 96 8 → rule ≡ le b 144 8
+      → record { plan = P; rlen = rlen; mlen = mlen; rule = rule; place = p } ≡ runOf b
+  unfolding runOf
+  run-is eP es ep e₀ e₁ e₂ = cc
+
+  -- the parts of a run, written one after the other
+  pub put-run-is : (R : Run) (s : Spot) {b₁ b₂ b₃ b₄ b₅ b₆ : List ℕ} → s ≡ spotOf (R .place) → b₁ ≡ putNumbers (planNumbers (R .plan)) b
+      → b₂ ≡ putLe 88 8 (R .rlen) b₁ → b₃ ≡ putLe 96 8 (R .mlen) b₂ → b₄ ≡ putLe 128 8 (s .term) (putLe 120 8 (s .column) (putLe 112 8 (s .row) (putLe 104 8 (s .kind) b₃)))
+      → b₅ ≡ putLe 136 8 (R .plan .kind) b₄ → b₆ ≡ putLe 144 8 (R .rule) b₅ → b₆ ≡ putRun R b
+  unfolding putRun putNumbers putRow
+  put-run-is R s es e₁ e₂ e₃ e₄ e₅ e₆ =
+      let spotted : List ℕ → Spot → List ℕ = λ z t. putLe 128 8 (t .term) (putLe 120 8 (t .column) (putLe 112 8 (t .row) (putLe 104 8 (t .kind) z))) in
+      write-next 144 (R .rule) e₆ (write-next 136 (R .plan .kind) e₅ (e₄ ∙ ap₂ spotted (write-next 96 (R .mlen) e₃ (write-next 88 (R .rlen) e₂ e₁)) es))
+
+-- ---- a run's block
 
 same-spots : (s t : Spot) → every (sameSpot s t) ≡ true → s ≡ t
 same-spots s t h =

@@ -9,8 +9,8 @@ use lib.ListN.{length, getD}
 use Rattle.image.specs.declared.Imaged.the-variants.{Done}
 use Rattle.image.specs.declared.Restored.{Restored}
 use Rattle.image.specs.Reading.{restoredAs}
-use Rattle.image_read.specs.Parts.{runsVerdict, isSound, HeadedOk, HeadOk}
-use Rattle.image_read.proofs.HeadLaws.{head-sizes}
+use Rattle.image_check.specs.Parts.{runsVerdict, isSound}
+use Rattle.image_check.proofs.HeadLaws.{HeadedOk, head-known, head-sizes}
 use Rattle.image_read.proofs.ReadLaws.{bytes-all, read-bad, read-wrong, runs-done, read-unfit-is, read-done-is}
 use Rattle.image_read.proofs.read_image.Statement.{statement}
 use Rattle.image_read.proofs.read_image.Tie as tie
@@ -30,7 +30,7 @@ returns c =
     let s = a .image .now in
     let p = c .before .before .p .given .0 .0 in
     ap (λ (r : Restored). restoredAs r (a .registers .now) (a .marks .now)) (c .refused .ensures)
-    ∙ read-bad s (a .registers .now) (a .marks .now) p (subst (HeadOk s) (c .before .before .p .given .1) (c .before .before .before .before .head-of .ensures))
+    ∙ read-bad s (a .registers .now) (a .marks .now) p (sym (c .before .before .before .before .head-of .ensures) ∙ c .before .before .p .given .1)
 
 enum-known-m : tie.Need-enum-known-m
 enum-known-m c = search needs
@@ -42,7 +42,7 @@ mul-total c =
     let m = c .before .before .m .given .0 .0 in
     let count = c .before .before .m .given .0 .1 .0 in
     let at = c .before .before .m .given .0 .1 .1 .0 in
-    let h : HeadedOk s m count at = subst (HeadOk s) (c .before .before .m .given .1) (c .before .before .before .before .head-of .ensures) in
+    let h : HeadedOk s m count at = head-known s m count at (sym (c .before .before .before .before .head-of .ensures) ∙ c .before .before .m .given .1) in
     let z = head-sizes s m count at h in
     omega arith
 
@@ -53,7 +53,7 @@ check-runs-requires c κs =
     let m = c .before .before .m .given .0 .0 in
     let count = c .before .before .m .given .0 .1 .0 in
     let at = c .before .before .m .given .0 .1 .1 .0 in
-    let h : HeadedOk s m count at = subst (HeadOk s) (c .before .before .m .given .1) (c .before .before .before .before .head-of .ensures) in
+    let h : HeadedOk s m count at = head-known s m count at (sym (c .before .before .before .before .head-of .ensures) ∙ c .before .before .m .given .1) in
     let z = head-sizes s m count at h in
     (z .2, (omega arith, omega arith))
 
@@ -70,7 +70,7 @@ returns-2 c =
     let m = c .before .before .before .before .before .before .m .given .0 .0 in
     let count = c .before .before .before .before .before .before .m .given .0 .1 .0 in
     let at = c .before .before .before .before .before .before .m .given .0 .1 .1 .0 in
-    let h : HeadedOk s m count at = subst (HeadOk s) (c .before .before .before .before .before .before .m .given .1) (c .before .before .before .before .before .before .before .before .head-of .ensures) in
+    let h : HeadedOk s m count at = head-known s m count at (sym (c .before .before .before .before .before .before .before .before .head-of .ensures) ∙ c .before .before .before .before .before .before .m .given .1) in
     let v = c .before .before .before .check-runs .result in
     let is = c .before .before .before .check-runs .ensures in
     let f : isSound v ≡ false = sym (c .before .before .is-done .ensures) ∙ not-true (c .before .before .is-done .result) (c .before .if1 .taken) in
@@ -87,7 +87,7 @@ returns-3 c =
     let m = c .before .before .before .before .before .before .before .m .given .0 .0 in
     let count = c .before .before .before .before .before .before .before .m .given .0 .1 .0 in
     let at = c .before .before .before .before .before .before .before .m .given .0 .1 .1 .0 in
-    let h : HeadedOk s m count at = subst (HeadOk s) (c .before .before .before .before .before .before .before .m .given .1) (c .before .before .before .before .before .before .before .before .before .head-of .ensures) in
+    let h : HeadedOk s m count at = head-known s m count at (sym (c .before .before .before .before .before .before .before .before .before .head-of .ensures) ∙ c .before .before .before .before .before .before .before .m .given .1) in
     let v = c .before .before .before .before .check-runs .result in
     let is = c .before .before .before .before .check-runs .ensures in
     let f : isSound v ≡ true = sym (c .before .before .before .is-done .ensures) ∙ not-false (c .before .before .before .is-done .result) (c .before .before .if1 .left) in
@@ -104,7 +104,7 @@ returns-4 c =
     let m = c .before .before .before .before .before .before .before .before .m .given .0 .0 in
     let count = c .before .before .before .before .before .before .before .before .m .given .0 .1 .0 in
     let at = c .before .before .before .before .before .before .before .before .m .given .0 .1 .1 .0 in
-    let h : HeadedOk s m count at = subst (HeadOk s) (c .before .before .before .before .before .before .before .before .m .given .1) (c .before .before .before .before .before .before .before .before .before .before .head-of .ensures) in
+    let h : HeadedOk s m count at = head-known s m count at (sym (c .before .before .before .before .before .before .before .before .before .before .head-of .ensures) ∙ c .before .before .before .before .before .before .before .before .m .given .1) in
     let v = c .before .before .before .before .before .check-runs .result in
     let is = c .before .before .before .before .before .check-runs .ensures in
     let f : isSound v ≡ true = sym (c .before .before .before .before .is-done .ensures) ∙ not-false (c .before .before .before .before .is-done .result) (c .before .before .before .if1 .left) in
@@ -121,7 +121,7 @@ fill-runs-requires c κs =
     let m = c .before .before .before .before .before .before .before .before .before .before .before .before .before .m .given .0 .0 in
     let count = c .before .before .before .before .before .before .before .before .before .before .before .before .before .m .given .0 .1 .0 in
     let at = c .before .before .before .before .before .before .before .before .before .before .before .before .before .m .given .0 .1 .1 .0 in
-    let h : HeadedOk s m count at = subst (HeadOk s) (c .before .before .before .before .before .before .before .before .before .before .before .before .before .m .given .1) (c .before .before .before .before .before .before .before .before .before .before .before .before .before .before .before .head-of .ensures) in
+    let h : HeadedOk s m count at = head-known s m count at (sym (c .before .before .before .before .before .before .before .before .before .before .before .before .before .before .before .head-of .ensures) ∙ c .before .before .before .before .before .before .before .before .before .before .before .before .before .m .given .1) in
     let z = head-sizes s m count at h in
     let v = c .before .before .before .before .before .before .before .before .before .before .check-runs .result in
     let is = c .before .before .before .before .before .before .before .before .before .before .check-runs .ensures in
@@ -144,7 +144,7 @@ returns-5 c =
     let m = c .before .before .before .before .before .before .before .before .before .before .before .before .before .before .before .before .before .before .m .given .0 .0 in
     let count = c .before .before .before .before .before .before .before .before .before .before .before .before .before .before .before .before .before .before .m .given .0 .1 .0 in
     let at = c .before .before .before .before .before .before .before .before .before .before .before .before .before .before .before .before .before .before .m .given .0 .1 .1 .0 in
-    let h : HeadedOk s m count at = subst (HeadOk s) (c .before .before .before .before .before .before .before .before .before .before .before .before .before .before .before .before .before .before .m .given .1) (c .before .before .before .before .before .before .before .before .before .before .before .before .before .before .before .before .before .before .before .before .head-of .ensures) in
+    let h : HeadedOk s m count at = head-known s m count at (sym (c .before .before .before .before .before .before .before .before .before .before .before .before .before .before .before .before .before .before .before .before .head-of .ensures) ∙ c .before .before .before .before .before .before .before .before .before .before .before .before .before .before .before .before .before .before .m .given .1) in
     let v = c .before .before .before .before .before .before .before .before .before .before .before .before .before .before .before .check-runs .result in
     let is = c .before .before .before .before .before .before .before .before .before .before .before .before .before .before .before .check-runs .ensures in
     let f : isSound v ≡ true = sym (c .before .before .before .before .before .before .before .before .before .before .before .before .before .before .is-done .ensures) ∙ not-false (c .before .before .before .before .before .before .before .before .before .before .before .before .before .before .is-done .result) (c .before .before .before .before .before .before .before .before .before .before .before .before .before .if1 .left) in

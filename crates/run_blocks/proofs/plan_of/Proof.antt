@@ -1,5 +1,5 @@
-use Rattle.run_blocks.specs.RunBlocks.{planOf}
 use borrow.Author.Needs.{needs}
+use Rattle.run_blocks.proofs.RunBlockLaws.{plan-is}
 use Rattle.run_blocks.proofs.plan_of.Statement.{statement}
 use Rattle.run_blocks.proofs.plan_of.Tie as tie
 
@@ -31,8 +31,9 @@ read8-requires-6 : tie.Need-read8-requires-6
 read8-requires-6 c κs = search needs
 
 returns : tie.Need-returns
-unfolding planOf
-returns c = cc
+returns c =
+    plan-is (c .before .before .before .before .before .before .before .before .before .before .args .block .now) (c .before .before .before .before .before .before .before .before .layout-of .ensures) (c .before .before .before .before .before .before .before .layout-of2 .ensures) (c .before .before .before .before .before .before .layout-of3 .ensures)
+    (c .before .before .before .before .before .read8 .ensures) (c .before .before .before .before .read82 .ensures) (c .before .before .before .read83 .ensures) (c .before .before .read84 .ensures) (c .before .read85 .ensures) (c .read86 .ensures)
 
 pub plan-of-spec : {M : Type 1} → statement M
 plan-of-spec =

@@ -2,6 +2,7 @@ use Rattle.width.specs.Tile.{putRow}
 use Rattle.blocks.specs.Blocks.{putNumbers}
 use Rattle.run_blocks.specs.RunBlocks.{putHanded}
 use borrow.Author.Needs.{needs}
+use Rattle.run_blocks.proofs.RunBlockLaws.{write-next}
 use Rattle.run_blocks.proofs.put_handed.Statement.{statement}
 use Rattle.run_blocks.proofs.put_handed.Tie as tie
 
@@ -22,7 +23,7 @@ same-length c = search needs
 
 returns : tie.Need-returns
 unfolding putHanded putNumbers putRow
-returns c = cc
+returns c = write-next _ _ (c .before .before .write83 .ensures) (write-next _ _ (c .before .before .before .before .before .before .write82 .ensures) (c .before .before .before .before .before .before .before .before .before .before .write8 .ensures))
 
 pub put-handed-spec : {M : Type 1} → statement M
 put-handed-spec =

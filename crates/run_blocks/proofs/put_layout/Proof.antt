@@ -1,4 +1,5 @@
 use borrow.Author.Needs.{needs}
+use Rattle.run_blocks.proofs.RunBlockLaws.{write-next}
 use Rattle.run_blocks.proofs.put_layout.Statement.{statement}
 use Rattle.run_blocks.proofs.put_layout.Tie as tie
 
@@ -15,7 +16,7 @@ same-length : tie.Need-same-length
 same-length c = search needs
 
 returns : tie.Need-returns
-returns c = cc
+returns c = write-next _ _ (c .before .before .write82 .ensures) (c .before .before .before .before .before .before .write8 .ensures)
 
 pub put-layout-spec : {M : Type 1} → statement M
 put-layout-spec =

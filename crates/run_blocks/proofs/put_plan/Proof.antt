@@ -1,6 +1,8 @@
+use mathlib.Core.Path.{ap, _∙_}
 use Rattle.width.specs.Tile.{putRow}
 use Rattle.blocks.specs.Blocks.{putNumbers}
 use borrow.Author.Needs.{needs}
+use Rattle.run_blocks.proofs.RunBlockLaws.{layoutPut}
 use Rattle.run_blocks.proofs.put_plan.Statement.{statement}
 use Rattle.run_blocks.proofs.put_plan.Tie as tie
 
@@ -21,7 +23,9 @@ same-length c = search needs
 
 returns : tie.Need-returns
 unfolding putNumbers putRow
-returns c = cc
+returns c =
+    c .before .before .put-layout3 .ensures
+    ∙ ap (layoutPut 72 (c .before .before .before .before .before .before .before .before .before .before .before .before .before .before .before .before .before .before .before .before .args .plan .c)) (c .before .before .before .before .before .before .before .put-layout2 .ensures ∙ ap (layoutPut 56 (c .before .before .before .before .before .before .before .before .before .before .before .before .before .before .before .before .before .before .before .before .args .plan .b)) (c .before .before .before .before .before .before .before .before .before .before .before .before .put-layout .ensures ∙ ap (layoutPut 40 (c .before .before .before .before .before .before .before .before .before .before .before .before .before .before .before .before .before .before .before .before .args .plan .a)) (c .before .before .before .before .before .before .before .before .before .before .before .before .before .before .before .before .before .put-sizes .ensures)))
 
 pub put-plan-spec : {M : Type 1} → statement M
 put-plan-spec =

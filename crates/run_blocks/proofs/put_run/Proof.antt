@@ -1,7 +1,5 @@
-use Rattle.width.specs.Tile.{putRow}
-use Rattle.blocks.specs.Blocks.{putNumbers}
-use Rattle.run_blocks.specs.RunBlocks.{putRun}
 use borrow.Author.Needs.{needs}
+use Rattle.run_blocks.proofs.RunBlockLaws.{put-run-is}
 use Rattle.run_blocks.proofs.put_run.Statement.{statement}
 use Rattle.run_blocks.proofs.put_run.Tie as tie
 
@@ -30,8 +28,9 @@ same-length : tie.Need-same-length
 same-length c = search needs
 
 returns : tie.Need-returns
-unfolding putRun putNumbers putRow
-returns c = cc
+returns c =
+    put-run-is (c .before .before .before .before .before .before .before .before .before .before .before .before .before .before .before .before .before .before .before .before .before .before .before .before .before .before .before .args .block .now) (c .before .before .before .before .before .before .before .before .before .before .before .before .before .before .before .before .before .before .before .before .before .before .before .before .before .before .before .args .run) (c .before .before .before .before .before .before .before .before .before .before .before .before .spot-of .result) (c .before .before .before .before .before .before .before .before .before .before .before .before .spot-of .ensures) (c .before .before .before .before .before .before .before .before .before .before .before .before .before .before .before .before .before .before .before .before .before .before .before .put-plan .ensures)
+    (c .before .before .before .before .before .before .before .before .before .before .before .before .before .before .before .before .before .before .before .write8 .ensures) (c .before .before .before .before .before .before .before .before .before .before .before .before .before .before .before .write82 .ensures) (c .before .before .before .before .before .before .before .before .before .before .put-spot .ensures) (c .before .before .before .before .before .before .write83 .ensures) (c .before .before .write84 .ensures)
 
 pub put-run-spec : {M : Type 1} → statement M
 put-run-spec =

@@ -1,6 +1,7 @@
 use Rattle.width.specs.Tile.{putRow}
 use Rattle.blocks.specs.Blocks.{putNumbers}
 use borrow.Author.Needs.{needs}
+use Rattle.run_blocks.proofs.RunBlockLaws.{write-next}
 use Rattle.run_blocks.proofs.put_sizes.Statement.{statement}
 use Rattle.run_blocks.proofs.put_sizes.Tie as tie
 
@@ -24,7 +25,9 @@ same-length c = search needs
 
 returns : tie.Need-returns
 unfolding putNumbers putRow
-returns c = cc
+returns c =
+    write-next _ _ (c .before .before .write85 .ensures)
+    (write-next _ _ (c .before .before .before .before .before .before .write84 .ensures) (write-next _ _ (c .before .before .before .before .before .before .before .before .before .before .write83 .ensures) (write-next _ _ (c .before .before .before .before .before .before .before .before .before .before .before .before .before .before .write82 .ensures) (c .before .before .before .before .before .before .before .before .before .before .before .before .before .before .before .before .before .before .write8 .ensures))))
 
 pub put-sizes-spec : {M : Type 1} → statement M
 put-sizes-spec =

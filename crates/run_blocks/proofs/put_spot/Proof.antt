@@ -1,4 +1,5 @@
 use borrow.Author.Needs.{needs}
+use Rattle.run_blocks.proofs.RunBlockLaws.{write-next}
 use Rattle.run_blocks.proofs.put_spot.Statement.{statement}
 use Rattle.run_blocks.proofs.put_spot.Tie as tie
 
@@ -18,7 +19,7 @@ same-length : tie.Need-same-length
 same-length c = search needs
 
 returns : tie.Need-returns
-returns c = cc
+returns c = write-next _ _ (c .before .before .write84 .ensures) (write-next _ _ (c .before .before .before .before .before .before .write83 .ensures) (write-next _ _ (c .before .before .before .before .before .before .before .before .before .before .write82 .ensures) (c .before .before .before .before .before .before .before .before .before .before .before .before .before .before .write8 .ensures)))
 
 pub put-spot-spec : {M : Type 1} → statement M
 put-spot-spec =

@@ -1,5 +1,5 @@
-use Rattle.run_blocks.specs.RunBlocks.{runOf}
 use borrow.Author.Needs.{needs}
+use Rattle.run_blocks.proofs.RunBlockLaws.{run-is}
 use Rattle.run_blocks.proofs.run_of.Statement.{statement}
 use Rattle.run_blocks.proofs.run_of.Tie as tie
 
@@ -22,8 +22,9 @@ read8-requires-3 : tie.Need-read8-requires-3
 read8-requires-3 c κs = search needs
 
 returns : tie.Need-returns
-unfolding runOf
-returns c = cc
+returns c =
+    run-is (c .before .before .before .before .before .before .before .args .block .now) (c .before .before .before .before .before .plan-of .ensures) (c .before .before .before .before .spot-in .ensures) (c .before .before .before .place-of .ensures)
+    (c .before .before .read8 .ensures) (c .before .read82 .ensures) (c .read83 .ensures)
 
 pub run-of-spec : {M : Type 1} → statement M
 run-of-spec =

@@ -1,4 +1,5 @@
 use borrow.Author.Needs.{needs}
+use Rattle.run_blocks.proofs.RunBlockLaws.{spot-is}
 use Rattle.run_blocks.proofs.spot_in.Statement.{statement}
 use Rattle.run_blocks.proofs.spot_in.Tie as tie
 
@@ -15,7 +16,7 @@ read8-requires-4 : tie.Need-read8-requires-4
 read8-requires-4 c κs = search needs
 
 returns : tie.Need-returns
-returns c = cc
+returns c = spot-is (c .before .before .before .before .before .args .block .now) (c .before .before .before .read8 .ensures) (c .before .before .read82 .ensures) (c .before .read83 .ensures) (c .read84 .ensures)
 
 pub spot-in-spec : {M : Type 1} → statement M
 spot-in-spec =

@@ -1,15 +1,13 @@
 -- `image_write::runs::tally_of` meets its contract. The invariant: the runs counted and those left are all, whatever the registers hold.
-use mathlib.Core.Path.{_≡_, refl, ap}
+use mathlib.Core.Path.{_≡_, ap}
 use mathlib.Core.List.{List}
 use Prim.Native.Nat.{ℕ, _+_, _-_, _*_, _≤_}
 use native.Mathlib.Omega.{arith}
 use borrow.Author.Needs.{needs}
 use lib.ListN.{length}
-use Rattle.reader.proofs.SizeLaws.{size-bound}
 use Rattle.image.specs.Cells.{Run, cellsOf, runs}
 use Rattle.image.specs.Images.{runsBytes}
-use Rattle.image_write.proofs.StretchLaws.{below}
-use Rattle.image_write.proofs.FindLaws.{runsAt, no-run, some-there, one-run, run-length, runs-past}
+use Rattle.image_write.proofs.FindLaws.{runsAt, no-run, Found, found-run, runs-past}
 use Rattle.image_write.proofs.runs.tally_of.Statement.{statement}
 use Rattle.image_write.proofs.runs.tally_of.Tie as tie
 
@@ -58,106 +56,42 @@ number-size-requires c κs = search needs
 number-size-requires-2 : tie.Need-number-size-requires-2 Inv-loop μ-loop
 number-size-requires-2 c κs = search needs
 
+-- the run that was found, before the place of the next turn
+found : (c : tie.After-number-size2 Inv-loop μ-loop) → let l = c .before .before .before .before .before .before .loop in
+    Found (c .before .before .before .before .before .before .before .before .args .marks .now) (l .at) (c .before .before .before .before .stretch-end .result) (c .before .before .stretch-end2 .result)
+found c =
+    let o = c .before .before in
+    let i = o .before in
+    let f = i .before in
+    let l = f .before .before .loop in
+    let st = f .before .before .before .before in
+    found-run (st .args .marks .now) (st .pre .0) (st .pre .1) (l .at) (f .stretch-end .result) (f .stretch-end .ensures) (o .stretch-end2 .result) (o .stretch-end2 .ensures) (i .if1 .left)
+
 add-bytes : tie.Need-add-bytes Inv-loop μ-loop
-add-bytes c =
-    let st = c .before .before .before .before .before .before .before .before in
-    let ms = st .args .marks .now in
-    let two = st .pre .1 in
-    let l = c .before .before .before .before .before .before .loop in
-    let first = c .before .before .before .before .stretch-end .result in
-    let gap = c .before .before .before .before .stretch-end .ensures in
-    let end = c .before .before .stretch-end2 .result in
-    let marked = c .before .before .stretch-end2 .ensures in
-    let more = below first (length ms) (gap .to .in-marks) (c .before .before .before .if1 .left) in
-    let some = some-there ms ms refl two (l .at) first gap end marked more in
-    let g = size-bound (first - l .at) (omega (arith, st .pre .0, gap .to .in-marks)) in
-    let k = size-bound (end - first) (omega (arith, st .pre .0, marked .to .in-marks)) in
-    omega (arith, gap .to .from-there, gap .to .in-marks, marked .to .in-marks, marked .to .from-there, l .inv .0, l .inv .1, l .inv .2, some, st .pre .0, c .before .number-size .ensures, c .number-size2 .ensures, g, k)
+add-bytes c = let f = found c in omega arith
 
 add-bytes-2 : tie.Need-add-bytes-2 Inv-loop μ-loop
-add-bytes-2 c =
-    let st = c .before .before .before .before .before .before .before .before in
-    let ms = st .args .marks .now in
-    let two = st .pre .1 in
-    let l = c .before .before .before .before .before .before .loop in
-    let first = c .before .before .before .before .stretch-end .result in
-    let gap = c .before .before .before .before .stretch-end .ensures in
-    let end = c .before .before .stretch-end2 .result in
-    let marked = c .before .before .stretch-end2 .ensures in
-    let more = below first (length ms) (gap .to .in-marks) (c .before .before .before .if1 .left) in
-    let some = some-there ms ms refl two (l .at) first gap end marked more in
-    let g = size-bound (first - l .at) (omega (arith, st .pre .0, gap .to .in-marks)) in
-    let k = size-bound (end - first) (omega (arith, st .pre .0, marked .to .in-marks)) in
-    omega (arith, gap .to .from-there, gap .to .in-marks, marked .to .in-marks, marked .to .from-there, l .inv .0, l .inv .1, l .inv .2, some, st .pre .0, c .before .number-size .ensures, c .number-size2 .ensures, g, k)
+add-bytes-2 c = let f = found c in omega arith
 
 add-bytes-3 : tie.Need-add-bytes-3 Inv-loop μ-loop
-add-bytes-3 c =
-    let st = c .before .before .before .before .before .before .before .before in
-    let ms = st .args .marks .now in
-    let two = st .pre .1 in
-    let l = c .before .before .before .before .before .before .loop in
-    let first = c .before .before .before .before .stretch-end .result in
-    let gap = c .before .before .before .before .stretch-end .ensures in
-    let end = c .before .before .stretch-end2 .result in
-    let marked = c .before .before .stretch-end2 .ensures in
-    let more = below first (length ms) (gap .to .in-marks) (c .before .before .before .if1 .left) in
-    let some = some-there ms ms refl two (l .at) first gap end marked more in
-    let g = size-bound (first - l .at) (omega (arith, st .pre .0, gap .to .in-marks)) in
-    let k = size-bound (end - first) (omega (arith, st .pre .0, marked .to .in-marks)) in
-    omega (arith, gap .to .from-there, gap .to .in-marks, marked .to .in-marks, marked .to .from-there, l .inv .0, l .inv .1, l .inv .2, some, st .pre .0, c .before .number-size .ensures, c .number-size2 .ensures, g, k)
+add-bytes-3 c = let f = found c in omega arith
 
 add-runs : tie.Need-add-runs Inv-loop μ-loop
-add-runs c =
-    let st = c .before .before .before .before .before .before .before .before in
-    let ms = st .args .marks .now in
-    let two = st .pre .1 in
-    let l = c .before .before .before .before .before .before .loop in
-    let first = c .before .before .before .before .stretch-end .result in
-    let gap = c .before .before .before .before .stretch-end .ensures in
-    let end = c .before .before .stretch-end2 .result in
-    let marked = c .before .before .stretch-end2 .ensures in
-    let more = below first (length ms) (gap .to .in-marks) (c .before .before .before .if1 .left) in
-    let some = some-there ms ms refl two (l .at) first gap end marked more in
-    let g = size-bound (first - l .at) (omega (arith, st .pre .0, gap .to .in-marks)) in
-    let k = size-bound (end - first) (omega (arith, st .pre .0, marked .to .in-marks)) in
-    omega (arith, gap .to .from-there, gap .to .in-marks, marked .to .in-marks, marked .to .from-there, l .inv .0, l .inv .1, l .inv .2, some, st .pre .0, c .before .number-size .ensures, c .number-size2 .ensures, g, k)
+add-runs c = let f = found c in omega arith
 
 loop-less : tie.Need-loop-less Inv-loop μ-loop
-loop-less c =
-    let st = c .before .before .before .before .before .before .before .before in
-    let ms = st .args .marks .now in
-    let two = st .pre .1 in
-    let l = c .before .before .before .before .before .before .loop in
-    let first = c .before .before .before .before .stretch-end .result in
-    let gap = c .before .before .before .before .stretch-end .ensures in
-    let end = c .before .before .stretch-end2 .result in
-    let marked = c .before .before .stretch-end2 .ensures in
-    let more = below first (length ms) (gap .to .in-marks) (c .before .before .before .if1 .left) in
-    let some = some-there ms ms refl two (l .at) first gap end marked more in
-    let g = size-bound (first - l .at) (omega (arith, st .pre .0, gap .to .in-marks)) in
-    let k = size-bound (end - first) (omega (arith, st .pre .0, marked .to .in-marks)) in
-    omega (arith, gap .to .from-there, gap .to .in-marks, marked .to .in-marks, marked .to .from-there, l .inv .0, l .inv .1, l .inv .2, some, st .pre .0, c .before .number-size .ensures, c .number-size2 .ensures, g, k)
+loop-less c = let f = found c in omega arith
 
 loop-again : tie.Need-loop-again Inv-loop μ-loop
 loop-again c =
-    let st = c .before .before .before .before .before .before .before .before in
-    let ms = st .args .marks .now in
-    let two = st .pre .1 in
-    let l = c .before .before .before .before .before .before .loop in
-    let first = c .before .before .before .before .stretch-end .result in
-    let gap = c .before .before .before .before .stretch-end .ensures in
-    let end = c .before .before .stretch-end2 .result in
-    let marked = c .before .before .stretch-end2 .ensures in
-    let more = below first (length ms) (gap .to .in-marks) (c .before .before .before .if1 .left) in
-    let some = some-there ms ms refl two (l .at) first gap end marked more in
-    let g = size-bound (first - l .at) (omega (arith, st .pre .0, gap .to .in-marks)) in
-    let k = size-bound (end - first) (omega (arith, st .pre .0, marked .to .in-marks)) in (
-      marked .to .in-marks,
-      omega (arith, gap .to .from-there, gap .to .in-marks, marked .to .in-marks, marked .to .from-there, l .inv .0, l .inv .1, l .inv .2, some, st .pre .0, c .before .number-size .ensures, c .number-size2 .ensures, g, k),
-      omega (arith, gap .to .from-there, gap .to .in-marks, marked .to .in-marks, marked .to .from-there, l .inv .0, l .inv .1, l .inv .2, some, st .pre .0, c .before .number-size .ensures, c .number-size2 .ensures, g, k),
+    let f = found c in
+    let l = c .before .before .before .before .before .before .loop in (
+      f .in-marks,
+      omega arith,
+      omega arith,
       λ registers n. (
-        omega (arith, l .inv .3 registers n .0, ap length (one-run registers ms n two (l .at) first gap end marked more)),
-        omega (arith, l .inv .3 registers n .1, run-length registers ms n two (l .at) first gap end marked more, c .before .number-size .ensures, c .number-size2 .ensures),
+        omega (arith, l .inv .3 registers n .0, ap length (f .first-run registers n)),
+        omega (arith, l .inv .3 registers n .1, f .first-bytes registers n, c .before .number-size .ensures, c .number-size2 .ensures),
       ),
     )
 

@@ -1,0 +1,207 @@
+-- The runs of an image from a place on, one run at a time.
+use mathlib.Core.Path.{_≡_, refl, ap, _∙_, subst}
+use mathlib.Core.Bool.{Bool, true, false, cond}
+use mathlib.Core.List.{List, [], _∷_}
+use Prim.Native.Nat.{ℕ, zero, suc, _+_, _-_, _*_, _≤_, _<_}
+use native.Mathlib.Omega.{arith}
+use lib.Dec.{leb}
+use lib.ListN.{length, take, drop}
+use borrow.Author.Tests.{leb-true, leb-false}
+use Rattle.format.specs.Numbers.{Range, span}
+use Rattle.format.specs.Formats.{Format}
+use Rattle.format.specs.Formats.Format.{number, bytes}
+use Rattle.format.specs.Parser.{Got, readNumber, Parsed, later, parse, from}
+use Rattle.format.specs.Parser.Got.{value, fault}
+use Rattle.format.specs.Parser.Parsed.{whole, stopped}
+use Rattle.reader.specs.declared.Number.{Number}
+use Rattle.reader.specs.declared.Number.the-variants.{Value, Fault}
+use Rattle.reader.specs.At.{numberAt}
+use Rattle.reader.proofs.FromLaws.{from-number, from-fault, from-bytes, from-short, from-end, from-more, took}
+use Rattle.image.specs.declared.Imaged.the-variants.{Done, Damaged}
+use Rattle.image.specs.Cells.{Run}
+use Rattle.image.specs.Cells.Run.{run}
+use Rattle.image.specs.Images.{Header}
+use Rattle.image.specs.ImageFormat.{Described, runsFormat}
+use Rattle.image.specs.Reading.{verdictOf}
+use Rattle.image_check.specs.declared.runs.Next.{Next}
+use Rattle.image_check.specs.declared.runs.Next.the-variants.{NextRun, NextBad}
+use Rattle.image_check.specs.Parts.{onward, nextAt, describe, noHeader, runsFrom, runsVerdict}
+
+-- ---- what is built of the runs does not matter to reading them
+
+abbrev pub mapped : (Described → Described) → Parsed Described → Parsed Described
+mapped h (whole x) = whole (h x)
+mapped h (stopped p) = stopped p
+
+mapped-later : (h : Described → Described) (k : ℕ) (q : Parsed Described) → later k (mapped h q) ≡ mapped h (later k q)
+mapped-later h k (whole x) = refl
+mapped-later h k (stopped p) = refl
+
+abbrev Maps : (Described → Described) → Format Described → Format Described → Type 0
+Maps h f g = (s : List ℕ) → parse g s ≡ mapped h (parse f s)
+
+number-maps : (h : Described → Described) (rs : List Range) (k j : ℕ → Format Described) → ((n : ℕ) → Maps h (k n) (j n)) → Maps h (number rs k) (number rs j)
+unfolding parse
+number-maps h rs k j e s = go (readNumber rs s)
+  where
+    go : (g : Got) → _≡_ {A = Parsed Described} (elim g [ value n l ↦ later l (parse (j n) (drop l s)) | fault p ↦ stopped p ]) (mapped h (elim g [ value n l ↦ later l (parse (k n) (drop l s)) | fault p ↦ stopped p ]))
+    go (value n l) = ap (later l) (e n (drop l s)) ∙ mapped-later h l (parse (k n) (drop l s))
+    go (fault p) = refl
+
+bytes-maps : (h : Described → Described) (m : ℕ) (k j : List ℕ → Format Described) → ((b : List ℕ) → Maps h (k b) (j b)) → Maps h (bytes m k) (bytes m j)
+unfolding parse
+bytes-maps h m k j e s = go (leb m (length s))
+  where
+    go : (t : Bool) → _≡_ {A = Parsed Described} (elim t [ true ↦ later m (parse (j (take m s)) (drop m s)) | false ↦ stopped (length s) ]) (mapped h (elim t [ true ↦ later m (parse (k (take m s)) (drop m s)) | false ↦ stopped (length s) ]))
+    go true = ap (later m) (e (take m s) (drop m s)) ∙ mapped-later h m (parse (k (take m s)) (drop m s))
+    go false = refl
+
+abbrev then₂ : (List Run → Described) → ℕ → ℕ → ℕ → ℕ → List ℕ → Format Described
+then₂ f l room a n b = runsFormat (λ rs. f (run a b ∷ rs)) l 1 (room - (a + n))
+
+abbrev then₁ : (List Run → Described) → ℕ → ℕ → ℕ → ℕ → Format Described
+then₁ f l room a n = bytes n (then₂ f l room a n)
+
+abbrev then₀ : (List Run → Described) → ℕ → ℕ → ℕ → Format Described
+then₀ f l room a = number (span 1 (room - (a + 2 * l))) (then₁ f l room a)
+
+runs-maps : (h : Described → Described) (f : List Run → Described) (l least room : ℕ) → Maps h (runsFormat f l least room) (runsFormat (λ rs. h (f rs)) l least room)
+unfolding runsFormat parse
+runs-maps h f zero least room [] = refl
+runs-maps h f zero least room (b ∷ s) = refl
+runs-maps h f (suc l) least room s =
+    number-maps h (span least (room - (1 + 2 * l))) (then₀ f l room) (then₀ (λ rs. h (f rs)) l room) (λ a.
+    number-maps h (span 1 (room - (a + 2 * l))) (then₁ f l room a) (then₁ (λ rs. h (f rs)) l room a) (λ n.
+    bytes-maps h n (then₂ f l room a n) (then₂ (λ rs. h (f rs)) l room a n) (λ b. runs-maps h (λ rs. f (run a b ∷ rs)) l 1 (room - (a + n))))) s
+
+verdict-mapped : (h : Described → Described) (q : Parsed Described) → verdictOf (mapped h q) ≡ verdictOf q
+verdict-mapped h (whole d) = refl
+verdict-mapped h (stopped p) = refl
+
+from-maps : (h : Described → Described) (f : List Run → Described) (l least room : ℕ) (s : List ℕ) (at : ℕ)
+    → from (runsFormat (λ rs. h (f rs)) l least room) s at ≡ mapped h (from (runsFormat f l least room) s at)
+unfolding from
+from-maps h f l least room s at =
+    ap (later at) (runs-maps h f l least room (drop at s)) ∙ mapped-later h at (parse (runsFormat f l least room) (drop at s))
+
+-- runs behind a machine's numbers
+pub runs-with : (h : Header) (l least room : ℕ) (s : List ℕ) (at : ℕ)
+    → from (runsFormat (describe h) l least room) s at ≡ mapped (λ d. describe h (d .body)) (runsFrom s at l least room)
+unfolding runsFrom
+runs-with h l least room s at = from-maps (λ d. describe h (d .body)) (describe noHeader) l least room s at
+
+-- ---- one run
+
+abbrev pub cons : ℕ → List ℕ → Described → Described
+cons g b d = describe (d .header) (run g b ∷ d .body)
+
+abbrev pub plain : List Run → Described
+plain = describe noHeader
+
+-- what follows a gap, and a length
+abbrev sizeThen : ℕ → ℕ → ℕ → ℕ → Format Described
+sizeThen l room g n = bytes n (λ b. runsFormat (λ rs. plain (run g b ∷ rs)) l 1 (room - (g + n)))
+
+abbrev gapThen : ℕ → ℕ → ℕ → Format Described
+gapThen l room g = number (span 1 (room - (g + 2 * l))) (sizeThen l room g)
+
+module _ (s : List ℕ) (at least room : ℕ) where
+  pub runs-end : (l : ℕ) → l ≡ 0 → length s ≤ at → runsVerdict s at l least room ≡ Done
+  unfolding runsVerdict runsFrom runsFormat
+  runs-end l e h = rw (e, runsFormat) (ap verdictOf (from-end s at (plain []) h))
+
+  pub runs-trail : (l : ℕ) → l ≡ 0 → at < length s → runsVerdict s at l least room ≡ Damaged at
+  unfolding runsVerdict runsFrom runsFormat
+  runs-trail l e h = rw (e, runsFormat) (ap verdictOf (from-more s at (plain []) h))
+
+  module _ (left l : ℕ) (el : left ≡ suc l) where
+    first : runsFrom s at left least room ≡ from (number (span least (room - (1 + 2 * l))) (gapThen l room)) s at
+    unfolding runsFrom runsFormat
+    first = rw (el, runsFormat)
+
+    gap-wrong : (p : ℕ) → numberAt s at least (room - (1 + 2 * l)) ≡ Fault p → runsVerdict s at left least room ≡ Damaged p
+    unfolding runsVerdict
+    gap-wrong p e = ap verdictOf (first ∙ from-fault s at least (room - (1 + 2 * l)) p (gapThen l room) e)
+
+    module _ (g a : ℕ) (e : numberAt s at least (room - (1 + 2 * l)) ≡ Value g a) where
+      second : runsFrom s at left least room ≡ from (gapThen l room g) s a
+      second = first ∙ from-number s at least (room - (1 + 2 * l)) g a (gapThen l room) e
+
+      length-wrong : (p : ℕ) → numberAt s a 1 (room - (g + 2 * l)) ≡ Fault p → runsVerdict s at left least room ≡ Damaged p
+      unfolding runsVerdict
+      length-wrong p e2 = ap verdictOf (second ∙ from-fault s a 1 (room - (g + 2 * l)) p (sizeThen l room g) e2)
+
+      module _ (n b : ℕ) (e2 : numberAt s a 1 (room - (g + 2 * l)) ≡ Value n b) where
+        third : runsFrom s at left least room ≡ from (sizeThen l room g n) s b
+        third = second ∙ from-number s a 1 (room - (g + 2 * l)) n b (sizeThen l room g) e2
+
+        bytes-short : b ≤ length s → length s < b + n → runsVerdict s at left least room ≡ Damaged (length s)
+        unfolding runsVerdict
+        bytes-short h k = ap verdictOf (third ∙ from-short s b n (λ z. runsFormat (λ rs. plain (run g z ∷ rs)) l 1 (room - (g + n))) h k)
+
+        -- one run, then the others
+        runs-step : b + n ≤ length s → runsFrom s at left least room ≡ mapped (cons g (take n (drop b s))) (runsFrom s (b + n) l 1 (room - (g + n)))
+        unfolding runsFrom
+        runs-step h =
+            third ∙ from-bytes s b n (λ z. runsFormat (λ rs. plain (run g z ∷ rs)) l 1 (room - (g + n))) h
+            ∙ from-maps (cons g (take n (drop b s))) plain l 1 (room - (g + n)) s (b + n)
+
+-- ---- the next run: what its numbers are known to be, and that the others follow
+
+pub record RunOk (s : List ℕ) (at left least room gap size a : ℕ) : Type 0 where
+  pub in-room : gap + size + 2 * (left - 1) ≤ room
+  pub some : 1 ≤ size
+  pub in-image : a + size ≤ length s
+  pub step : runsFrom s at left least room ≡ mapped (cons gap (take size (drop a s))) (runsFrom s (a + size) (left - 1) 1 (room - (gap + size)))
+
+abbrev NextOk : List ℕ → (at left least room : ℕ) → Next → Type 0
+NextOk s at left least room (NextRun gap size a) = RunOk s at left least room gap size a
+NextOk s at left least room (NextBad p) = runsVerdict s at left least room ≡ Damaged p
+
+module _ (s : List ℕ) (at left least room : ℕ) (there : at ≤ length s) (more : 0 < left) (small : least ≤ 1) (room-ok : least + 2 * left ≤ room + 1) where
+  abbrev others : ℕ
+  others = left - 1
+
+  is-left : left ≡ suc others
+  is-left = omega arith
+
+  next-right : NextOk s at left least room (nextAt s at left least room)
+  unfolding nextAt
+  next-right = go (numberAt s at least (room - (1 + 2 * others))) refl
+    where
+      at-end : (g a : ℕ) (e : numberAt s at least (room - (1 + 2 * others)) ≡ Value g a) (n b : ℕ) (e2 : numberAt s a 1 (room - (g + 2 * others)) ≡ Value n b) (t : Bool) → leb (b + n) (length s) ≡ t
+          → NextOk s at left least room (cond t (NextRun g n b) (NextBad (length s)))
+      at-end g a e n b e2 true h =
+          let tg = took s at least (room - (1 + 2 * others)) g a e in
+          let tn = took s a 1 (room - (g + 2 * others)) n b e2 in
+          let k : b + n ≤ length s = leb-true (b + n) (length s) h in
+          record {
+            in-room = omega (arith, tg .least, tg .most, tn .least, tn .most);
+            some = tn .least;
+            in-image = k;
+            step = runs-step s at least room left others is-left g a e n b e2 k;
+          }
+      at-end g a e n b e2 false h =
+          let tg = took s at least (room - (1 + 2 * others)) g a e in
+          let tn = took s a 1 (room - (g + 2 * others)) n b e2 in
+          bytes-short s at least room left others is-left g a e n b e2 (tn .behind (tg .behind there)) (leb-false (b + n) (length s) h)
+
+      at-size : (g a : ℕ) (e : numberAt s at least (room - (1 + 2 * others)) ≡ Value g a) (q : Number) → numberAt s a 1 (room - (g + 2 * others)) ≡ q
+          → NextOk s at left least room (onward q NextBad λ n b. cond (leb (b + n) (length s)) (NextRun g n b) (NextBad (length s)))
+      at-size g a e (Value n b) e2 = at-end g a e n b e2 (leb (b + n) (length s)) refl
+      at-size g a e (Fault p) e2 = length-wrong s at least room left others is-left g a e p e2
+
+      go : (q : Number) → numberAt s at least (room - (1 + 2 * others)) ≡ q
+          → NextOk s at left least room (onward q NextBad λ g a. onward (numberAt s a 1 (room - (g + 2 * others))) NextBad λ n b. cond (leb (b + n) (length s)) (NextRun g n b) (NextBad (length s)))
+      go (Value g a) e = at-size g a e (numberAt s a 1 (room - (g + 2 * others))) refl
+      go (Fault p) e = gap-wrong s at least room left others is-left p e
+
+  pub next-bad : (p : ℕ) → nextAt s at left least room ≡ NextBad p → runsVerdict s at left least room ≡ Damaged p
+  next-bad p e = subst (NextOk s at left least room) e next-right
+
+  pub next-known : (gap size a : ℕ) → nextAt s at left least room ≡ NextRun gap size a → RunOk s at left least room gap size a
+  next-known gap size a e = subst (NextOk s at left least room) e next-right
+
+pub run-next : (s : List ℕ) (at left least room gap size a : ℕ) → RunOk s at left least room gap size a → runsVerdict s at left least room ≡ runsVerdict s (a + size) (left - 1) 1 (room - (gap + size))
+unfolding runsVerdict
+run-next s at left least room gap size a r = ap verdictOf (r .step) ∙ verdict-mapped (cons gap (take size (drop a s))) (runsFrom s (a + size) (left - 1) 1 (room - (gap + size)))

@@ -1,0 +1,93 @@
+-- `image_check::head::tail_at` meets its contract.
+use mathlib.Core.Path.{sym, _∙_}
+use Rattle.image_check.specs.Parts.{tailAt}
+use borrow.Author.Needs.{needs}
+use Rattle.image_check.proofs.head.tail_at.Statement.{statement}
+use Rattle.image_check.proofs.head.tail_at.Tie as tie
+
+number-from-requires : tie.Need-number-from-requires
+number-from-requires c κs = search needs
+
+enum-known-p : tie.Need-enum-known-p
+enum-known-p c = search needs
+
+returns : tie.Need-returns
+unfolding tailAt
+returns c =
+    let k = c .before in
+    let n = k .before .before in
+    rw (sym (n .number-from .ensures) ∙ k .p .given .1)
+
+enum-known-start : tie.Need-enum-known-start
+enum-known-start c = search needs
+
+sub-number-from : tie.Need-sub-number-from
+sub-number-from c = search needs
+
+number-from-requires-2 : tie.Need-number-from-requires-2
+number-from-requires-2 c κs = search needs
+
+enum-known-p-2 : tie.Need-enum-known-p-2
+enum-known-p-2 c = search needs
+
+returns-2 : tie.Need-returns-2
+unfolding tailAt
+returns-2 c =
+    let k = c .before in
+    let o = k .before .before in
+    let g = o .before .before in
+    let n = g .before .before in
+    rw (sym (n .number-from .ensures) ∙ g .start .given .1, sym (o .number-from2 .ensures) ∙ k .p2 .given .1)
+
+enum-known-long : tie.Need-enum-known-long
+enum-known-long c = search needs
+
+number-from-requires-3 : tie.Need-number-from-requires-3
+number-from-requires-3 c κs = search needs
+
+enum-known-p-3 : tie.Need-enum-known-p-3
+enum-known-p-3 c = search needs
+
+returns-3 : tie.Need-returns-3
+unfolding tailAt
+returns-3 c =
+    let k = c .before in
+    let q = k .before .before in
+    let h = q .before .before in
+    let o = h .before .before in
+    let g = o .before .before in
+    let n = g .before .before in
+    rw (sym (n .number-from .ensures) ∙ g .start .given .1, sym (o .number-from2 .ensures) ∙ h .long .given .1, sym (q .number-from3 .ensures) ∙ k .p3 .given .1)
+
+enum-known-count : tie.Need-enum-known-count
+enum-known-count c = search needs
+
+returns-4 : tie.Need-returns-4
+unfolding tailAt
+returns-4 c =
+    let k = c .before in
+    let q = k .before .before in
+    let h = q .before .before in
+    let o = h .before .before in
+    let g = o .before .before in
+    let n = g .before .before in
+    rw (sym (n .number-from .ensures) ∙ g .start .given .1, sym (o .number-from2 .ensures) ∙ h .long .given .1, sym (q .number-from3 .ensures) ∙ k .count .given .1)
+
+pub tail-at-spec : {M : Type 1} → statement M
+tail-at-spec =
+    tie.close
+    (tie.spec
+    number-from-requires
+    enum-known-p
+    returns
+    enum-known-start
+    sub-number-from
+    number-from-requires-2
+    enum-known-p-2
+    returns-2
+    enum-known-long
+    number-from-requires-3
+    enum-known-p-3
+    returns-3
+    enum-known-count
+    returns-4)
