@@ -57,5 +57,5 @@ pub fn is_sound(m: Machine, registers: &[u8], marks: &[u8]) -> bool
     if marks.len() as u64 != 2 * m.mlen {
         return false;
     }
-    tile::marks_sound(marks)
+    row::marks_sound(marks)
 }

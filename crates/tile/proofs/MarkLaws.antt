@@ -1,48 +1,17 @@
--- Marks: of a row, of all bytes, and of a tile by rows and elements.
-use mathlib.Core.Path.{_≡_, refl, sym, ap, ap₂, _∙_, subst}
-use mathlib.Core.Bool.{Bool, true, false, _&&_}
+-- The marks of a tile by rows and elements.
+use mathlib.Core.Path.{_≡_, sym, _∙_, subst}
+use mathlib.Core.Bool.{Bool, true, false}
 use mathlib.Core.List.{List, [], _∷_}
-use Prim.Native.Nat.{ℕ, _+_, _*_, _-_, _≤_, _<_}
-use native.Mathlib.Numerals.{add-one}
+use Prim.Native.Nat.{ℕ, _+_, _*_, _-_, _<_}
 use native.Mathlib.Omega.{arith}
 use lib.ListN.{getD}
-use lib.Dec.{eqb, ltb}
-use borrow.Author.Tests.{ne-eqb, eq-eqb, lt-ltb, le-ltb, ltb-true, ltb-false}
+use lib.Dec.{eqb}
 use Rattle.machine.specs.declared.Answer.the-variants.{Done, Unwritten}
-use Rattle.machine.specs.Tests.{all, every}
+use Rattle.machine.specs.Tests.{all}
 use Rattle.machine.specs.Answers.{verdict}
 use Rattle.machine.specs.Refusals.{marked, needs}
-use Rattle.machine.proofs.TestLaws.{all-at, all-false, all-true, all-elements, same-test, Each, every-each, each-every}
-use Rattle.address.proofs.TestLaws.{all-next, all-same, all-not, first-here}
-
--- ---- the marks of a row
-
-pub row-bad : (ms : List ℕ) (p i : ℕ) → ¬ (getD ms (p + i) 0 ≡ 1) → false ≡ all (i + 1) (λ b. eqb (getD ms (p + b) 0) 1)
-row-bad ms p i h = all-not i (λ b. eqb (getD ms (p + b) 0) 1) (ne-eqb (getD ms (p + i) 0) 1 h)
-
-pub row-good : (ms : List ℕ) (p i : ℕ) (g : Bool) → getD ms (p + i) 0 ≡ 1 → g ≡ all i (λ b. eqb (getD ms (p + b) 0) 1) → g ≡ all (i + 1) (λ b. eqb (getD ms (p + b) 0) 1)
-row-good ms p i g h e = e ∙ all-same i (λ b. eqb (getD ms (p + b) 0) 1) (eq-eqb (getD ms (p + i) 0) 1 h)
-
--- ---- the largest mark
-
--- a larger one decides, and one that is not larger changes nothing
-pub most-more : (ms : List ℕ) (i most : ℕ) → most < getD ms i 0 → ltb most 2 ≡ all i (λ k. ltb (getD ms k 0) 2)
-    → ltb (getD ms i 0) 2 ≡ all (i + 1) (λ k. ltb (getD ms k 0) 2)
-most-more ms i most h e = go (ltb (getD ms i 0) 2) refl
-  where
-    go : (t : Bool) → ltb (getD ms i 0) 2 ≡ t → t ≡ all (i + 1) (λ k. ltb (getD ms k 0) 2)
-    go true q = sym (all-next i (λ k. ltb (getD ms k 0) 2) (sym e ∙ lt-ltb most 2 (omega (arith, ltb-true (getD ms i 0) 2 q))) q)
-    go false q = all-not i (λ k. ltb (getD ms k 0) 2) q
-
-pub most-same : (ms : List ℕ) (i most : ℕ) → getD ms i 0 ≤ most → ltb most 2 ≡ all i (λ k. ltb (getD ms k 0) 2)
-    → ltb most 2 ≡ all (i + 1) (λ k. ltb (getD ms k 0) 2)
-most-same ms i most h e = go (ltb (getD ms i 0) 2) refl
-  where
-    go : (t : Bool) → ltb (getD ms i 0) 2 ≡ t → ltb most 2 ≡ all (i + 1) (λ k. ltb (getD ms k 0) 2)
-    go true q = e ∙ all-same i (λ k. ltb (getD ms k 0) 2) q
-    go false q = le-ltb most 2 (omega (arith, ltb-false (getD ms i 0) 2 q)) ∙ all-not i (λ k. ltb (getD ms k 0) 2) q
-
--- ---- the marks of a tile
+use Rattle.machine.proofs.TestLaws.{all-at, all-false, all-true, all-elements, same-test}
+use Rattle.address.proofs.TestLaws.{first-here}
 
 -- the bytes of row i, and of its element j, have their marks
 abbrev pub rowMarked : List ℕ → (ℕ → ℕ) → ℕ → ℕ → Bool
@@ -99,72 +68,3 @@ module _ (ms : List ℕ) (at : ℕ → ℕ) (rows n : ℕ) where
   pub rows-unmarked : (i : ℕ) → i < rows → rowMarked ms at n i ≡ false → false ≡ marked ms at rows n
   unfolding marked
   rows-unmarked i l g = sym (all-false rows (rowMarked ms at n) i l g)
-
--- ---- by quarters
-
-abbrev pub fourth : (ℕ → Bool) → ℕ → ℕ → Bool
-fourth p q k = every (p k ∷ p (q + k) ∷ p (q + q + k) ∷ p (q + q + q + k) ∷ [])
-
--- one turn more
-pub fourth-more : (p : ℕ → Bool) (q i : ℕ) (M L H X N : Bool) → M ≡ all i (fourth p q)
-    → L ≡ every (p i ∷ p (q + i) ∷ []) → H ≡ every (p (q + q + i) ∷ p (q + q + q + i) ∷ []) → X ≡ every (L ∷ H ∷ []) → N ≡ every (M ∷ X ∷ [])
-    → N ≡ all (i + 1) (fourth p q)
-fourth-more p q i M L H X N eM eL eH eX eN =
-    eN
-    ∙ ap (λ (x : Bool). every (M ∷ x ∷ [])) (eX ∙ ap₂ (λ (l h : Bool). every (l ∷ h ∷ [])) eL eH)
-    ∙ ap (λ (x : Bool). every (x ∷ every (every (p i ∷ p (q + i) ∷ []) ∷ every (p (q + q + i) ∷ p (q + q + q + i) ∷ []) ∷ []) ∷ [])) eM
-    ∙ joined (all i (fourth p q)) (p i) (p (q + i)) (p (q + q + i)) (p (q + q + q + i))
-    ∙ ap (λ (n : ℕ). all n (fourth p q)) (sym (add-one i))
-  where
-    joined : (m a b c d : Bool) → every (m ∷ every (every (a ∷ b ∷ []) ∷ every (c ∷ d ∷ []) ∷ []) ∷ []) ≡ m && every (a ∷ b ∷ c ∷ d ∷ [])
-    joined false a b c d = refl
-    joined true false b c d = refl
-    joined true true false c d = refl
-    joined true true true false d = refl
-    joined true true true true false = refl
-    joined true true true true true = refl
-
--- all of them
-pub fourths : (p : ℕ → Bool) (q : ℕ) → all q (fourth p q) ≡ all (4 * q) p
-fourths p q = same-test (all q (fourth p q)) (all (4 * q) p)
-    (λ h. all-true (4 * q) p (λ n l. place h n l (ltb n q) refl (ltb n (q + q)) refl (ltb n (q + q + q)) refl))
-    (λ h. all-true q (fourth p q) (λ k l. each-every (p k ∷ p (q + k) ∷ p (q + q + k) ∷ p (q + q + q + k) ∷ [])
-    (all-at (4 * q) p h k (omega arith), (all-at (4 * q) p h (q + k) (omega arith), (all-at (4 * q) p h (q + q + k) (omega arith), (all-at (4 * q) p h (q + q + q + k) (omega arith), tt))))))
-  where
-    tests : all q (fourth p q) ≡ true → (k : ℕ) → k < q → Each (p k ∷ p (q + k) ∷ p (q + q + k) ∷ p (q + q + q + k) ∷ [])
-    tests h k l = every-each (p k ∷ p (q + k) ∷ p (q + q + k) ∷ p (q + q + q + k) ∷ []) (all-at q (fourth p q) h k l)
-
-    place : all q (fourth p q) ≡ true → (n : ℕ) → n < 4 * q → (a : Bool) → ltb n q ≡ a → (b : Bool) → ltb n (q + q) ≡ b → (c : Bool) → ltb n (q + q + q) ≡ c → p n ≡ true
-    place h n l true ea b eb c ec = tests h n (ltb-true n q ea) .0
-    place h n l false ea true eb c ec =
-        let f = ltb-false n q ea in
-        let g = ltb-true n (q + q) eb in
-        let e : q + (n - q) ≡ n = omega arith in
-        subst (λ (x : ℕ). p x ≡ true) e (tests h (n - q) (omega arith) .1 .0)
-    place h n l false ea false eb true ec =
-        let f = ltb-false n (q + q) eb in
-        let g = ltb-true n (q + q + q) ec in
-        let e : q + q + (n - (q + q)) ≡ n = omega arith in
-        subst (λ (x : ℕ). p x ≡ true) e (tests h (n - (q + q)) (omega arith) .1 .1 .0)
-    place h n l false ea false eb false ec =
-        let f = ltb-false n (q + q + q) ec in
-        let e : q + q + q + (n - (q + q + q)) ≡ n = omega arith in
-        subst (λ (x : ℕ). p x ≡ true) e (tests h (n - (q + q + q)) (omega arith) .1 .1 .1 .0)
-
--- the larger of two
-pub larger-b : (a b : ℕ) → a ≤ b → ltb b 2 ≡ every (ltb a 2 ∷ ltb b 2 ∷ [])
-larger-b a b h = go (ltb b 2) refl (ltb a 2) refl
-  where
-    go : (t : Bool) → ltb b 2 ≡ t → (s : Bool) → ltb a 2 ≡ s → t ≡ every (s ∷ t ∷ [])
-    go true e true f = refl
-    go true e false f = absurd (omega (arith, ltb-true b 2 e, ltb-false a 2 f))
-    go false e true f = refl
-    go false e false f = refl
-
-pub larger-a : (a b : ℕ) → b ≤ a → ltb a 2 ≡ every (ltb a 2 ∷ ltb b 2 ∷ [])
-larger-a a b h = go (ltb a 2) refl (ltb b 2) refl
-  where
-    go : (t : Bool) → ltb a 2 ≡ t → (s : Bool) → ltb b 2 ≡ s → t ≡ every (t ∷ s ∷ [])
-    go true e true f = refl
-    go true e false f = absurd (omega (arith, ltb-true a 2 e, ltb-false b 2 f))
-    go false e s f = refl

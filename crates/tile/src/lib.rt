@@ -14,63 +14,14 @@ ghost use mathlib.Core.Path.{_≡_};
 ghost use mathlib.Core.Bool.{true, false, cond};
 ghost use mathlib.Core.List.{[], _∷_};
 ghost use Prim.Native.Nat.{_+_, _*_, _^_, _≤_, _<_};
-ghost use lib.Dec.{ltb};
-ghost use lib.ListN.{length, getD};
+ghost use lib.ListN.{length};
 ghost use Rattle.width.specs.Tile.{putTile, markTile};
-ghost use Rattle.machine.specs.Tests.{all, allOf, every};
 ghost use Rattle.machine.specs.Memory.{rowAt, inside};
 ghost use Rattle.machine.specs.Operation.{element};
 ghost use Rattle.machine.specs.Refusals.{marked, needs};
 ghost use Rattle.machine.specs.declared.Answer.the-variants.{OutsideMemory};
 ghost use Rattle.machine.specs.Answers.{verdict, isDone, _otherwise_};
 ghost use Rattle.tile.specs.Checks.{storeChecks};
-
-mod row; // one row: its bytes and its marks
-
-fn larger(a: u8, b: u8) -> u8
-    ensures { λ r. ⌜ ltb r 2 ≡ every (ltb a 2 ∷ ltb b 2 ∷ []) ⌝ }
-{
-    if a < b {
-        return b;
-    }
-    a
-}
-
-// The largest of four times quarter marks: one of each quarter a turn, without a way out of the loop.
-fn most_of(marks: &[u8], quarter: usize) -> u8
-    requires { ⌜ 4 * quarter ≤ length (now marks) ⌝ }
-    ensures { λ r. ⌜ ltb r 2 ≡ all (4 * quarter) (λ k. ltb (getD (now (marks .entry)) k 0) 2) ⌝ }
-{
-    let second = quarter + quarter;
-    let third = second + quarter;
-    let mut most = 0;
-    let mut i = 0;
-    while i < quarter {
-        let low = larger(marks[i], marks[quarter + i]);
-        let high = larger(marks[second + i], marks[third + i]);
-        let both = larger(low, high);
-        most = larger(most, both);
-        i += 1;
-    }
-    most
-}
-
-// Whether every mark is 0 or 1: the largest is kept and tested at the end.
-pub fn marks_sound(marks: &[u8]) -> bool
-    ensures { λ r. ⌜ r ≡ allOf (λ mark. ltb mark 2) (now (marks .entry)) ⌝ }
-{
-    let quarter = marks.len() / 4;
-    let mut most = most_of(marks, quarter);
-    let mut i = 4 * quarter;
-    while i < marks.len() {
-        let mark = marks[i];
-        if mark > most {
-            most = mark;
-        }
-        i += 1;
-    }
-    most < 2
-}
 
 // Whether each byte of the rows, of n bytes each, has its mark.
 fn tile_marked(marks: &[u8], start: usize, pitch: usize, rows: usize, n: usize) -> bool

@@ -2,8 +2,8 @@ use Prim.Native.Nat.{_-_}
 use lib.ListN.{length, getD, set}
 use Rattle.width.proofs.PutLaws.{upto-rest}
 use borrow.Author.Needs.{needs}
-use Rattle.tile.proofs.row.write_row.Statement.{statement}
-use Rattle.tile.proofs.row.write_row.Tie as tie
+use Rattle.row.proofs.write_row.Statement.{statement}
+use Rattle.row.proofs.write_row.Tie as tie
 
 copy-eights-requires : tie.Need-copy-eights-requires
 copy-eights-requires c κs = search needs

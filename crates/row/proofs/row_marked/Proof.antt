@@ -6,9 +6,9 @@ use borrow.Author.Needs.{needs}
 use lib.ListN.{getD}
 use lib.Dec.{eqb}
 use Rattle.machine.specs.Tests.{all}
-use Rattle.tile.proofs.MarkLaws.{row-bad, row-good}
-use Rattle.tile.proofs.row.row_marked.Statement.{statement}
-use Rattle.tile.proofs.row.row_marked.Tie as tie
+use Rattle.row.proofs.MarkLaws.{row-bad, row-good}
+use Rattle.row.proofs.row_marked.Statement.{statement}
+use Rattle.row.proofs.row_marked.Tie as tie
 
 abbrev Inv-loop : tie.InvT-loop
 Inv-loop marks p n good₀ i₀ good i = (i ≤ n) × (good ≡ all i (λ b. eqb (getD marks (p + b) 0) 1))

@@ -6,8 +6,8 @@ use native.Mathlib.Nat.{sub-self}
 use borrow.Author.Needs.{needs}
 use lib.ListN.{length, getD, set, length-set}
 use Rattle.width.specs.Upto.{upto}
-use Rattle.tile.proofs.row.copy_rest.Statement.{statement}
-use Rattle.tile.proofs.row.copy_rest.Tie as tie
+use Rattle.row.proofs.copy_rest.Statement.{statement}
+use Rattle.row.proofs.copy_rest.Tie as tie
 
 abbrev Inv-loop : tie.InvT-loop
 Inv-loop dst₀ src done i₀ dst i =

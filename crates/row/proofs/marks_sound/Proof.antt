@@ -6,9 +6,9 @@ use lib.Dec.{ltb}
 use lib.ListN.{length, getD}
 use Rattle.machine.specs.Tests.{all}
 use Rattle.machine.proofs.TestLaws.{allOf-all}
-use Rattle.tile.proofs.MarkLaws.{most-more, most-same}
-use Rattle.tile.proofs.marks_sound.Statement.{statement}
-use Rattle.tile.proofs.marks_sound.Tie as tie
+use Rattle.row.proofs.MarkLaws.{most-more, most-same}
+use Rattle.row.proofs.marks_sound.Statement.{statement}
+use Rattle.row.proofs.marks_sound.Tie as tie
 
 abbrev Inv-loop : tie.InvT-loop
 Inv-loop marks quarter most₀ i₀ most i = (i ≤ length marks) × (ltb most 2 ≡ all i (λ k. ltb (getD marks k 0) 2))

@@ -6,10 +6,10 @@ use native.Mathlib.Omega.{arith}
 use lib.Dec.{ltb}
 use lib.ListN.{getD}
 use Rattle.machine.specs.Tests.{all}
-use Rattle.tile.proofs.MarkLaws.{fourth, fourth-more, fourths}
+use Rattle.row.proofs.MarkLaws.{fourth, fourth-more, fourths}
 use borrow.Author.Needs.{needs}
-use Rattle.tile.proofs.most_of.Statement.{statement}
-use Rattle.tile.proofs.most_of.Tie as tie
+use Rattle.row.proofs.most_of.Statement.{statement}
+use Rattle.row.proofs.most_of.Tie as tie
 
 abbrev Inv-loop : tie.InvT-loop
 Inv-loop marks quarter second third most₀ i₀ most i = (i ≤ quarter) × (ltb most 2 ≡ all i (fourth (λ k. ltb (getD marks k 0) 2) quarter))

@@ -5,8 +5,8 @@ use borrow.Author.Needs.{needs}
 use lib.ListN.{length, getD, set}
 use Rattle.width.specs.Upto.{upto}
 use Rattle.width.proofs.PutLaws.{upto-add}
-use Rattle.tile.proofs.row.copy_eights.Statement.{statement}
-use Rattle.tile.proofs.row.copy_eights.Tie as tie
+use Rattle.row.proofs.copy_eights.Statement.{statement}
+use Rattle.row.proofs.copy_eights.Tie as tie
 
 abbrev Inv-loop : tie.InvT-loop
 Inv-loop dst₀ src i₀ dst i = (i ≤ length src) × (length dst ≡ length dst₀) × (dst ≡ upto i (λ b ys. set ys b (getD src b 0)) dst₀)

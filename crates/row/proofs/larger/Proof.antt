@@ -1,7 +1,7 @@
 use native.Mathlib.Omega.{arith}
-use Rattle.tile.proofs.MarkLaws.{larger-a, larger-b}
-use Rattle.tile.proofs.larger.Statement.{statement}
-use Rattle.tile.proofs.larger.Tie as tie
+use Rattle.row.proofs.MarkLaws.{larger-a, larger-b}
+use Rattle.row.proofs.larger.Statement.{statement}
+use Rattle.row.proofs.larger.Tie as tie
 
 returns : tie.Need-returns
 returns c = let a = c .before .args in larger-b (a .a) (a .b) (omega (arith, c .if1 .taken))

@@ -5,8 +5,8 @@ use borrow.Author.Needs.{needs}
 use lib.ListN.{length, length-set}
 use Rattle.width.specs.Tile.{markRow}
 use Rattle.width.proofs.PutLaws.{markRow-next}
-use Rattle.tile.proofs.row.mark_row.Statement.{statement}
-use Rattle.tile.proofs.row.mark_row.Tie as tie
+use Rattle.row.proofs.mark_row.Statement.{statement}
+use Rattle.row.proofs.mark_row.Tie as tie
 
 abbrev Inv-loop : tie.InvT-loop
 Inv-loop dst₀ n i₀ dst i = (i ≤ n) × (length dst ≡ length dst₀) × (dst ≡ markRow 0 i dst₀)

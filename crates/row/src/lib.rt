@@ -1,11 +1,12 @@
-// One row: its bytes are written, and its marks are set and tested.
+// One row: its bytes are written, and its marks are set and tested. And whether every mark of a machine is 0 or 1.
 ghost use mathlib.Core.Path.{_≡_};
-ghost use Prim.Native.Nat.{_+_, _-_, _≤_};
-ghost use lib.Dec.{eqb};
+ghost use mathlib.Core.List.{[], _∷_};
+ghost use Prim.Native.Nat.{_+_, _*_, _-_, _≤_};
+ghost use lib.Dec.{eqb, ltb};
 ghost use lib.ListN.{length, getD, set};
 ghost use Rattle.width.specs.Upto.{upto};
 ghost use Rattle.width.specs.Tile.{markRow};
-ghost use Rattle.machine.specs.Tests.{all};
+ghost use Rattle.machine.specs.Tests.{all, allOf, every};
 
 // Copies the eight bytes from i on, all read before any is written: one move of eight bytes, with no test for overlap.
 fn copy_eight(dst: &mut [u8], src: &[u8], i: usize)
@@ -93,4 +94,49 @@ pub fn row_marked(marks: &[u8], p: usize, n: usize) -> bool
         i += 1;
     }
     good
+}
+
+fn larger(a: u8, b: u8) -> u8
+    ensures { λ r. ⌜ ltb r 2 ≡ every (ltb a 2 ∷ ltb b 2 ∷ []) ⌝ }
+{
+    if a < b {
+        return b;
+    }
+    a
+}
+
+// The largest of four times quarter marks: one of each quarter a turn, without a way out of the loop.
+fn most_of(marks: &[u8], quarter: usize) -> u8
+    requires { ⌜ 4 * quarter ≤ length (now marks) ⌝ }
+    ensures { λ r. ⌜ ltb r 2 ≡ all (4 * quarter) (λ k. ltb (getD (now (marks .entry)) k 0) 2) ⌝ }
+{
+    let second = quarter + quarter;
+    let third = second + quarter;
+    let mut most = 0;
+    let mut i = 0;
+    while i < quarter {
+        let low = larger(marks[i], marks[quarter + i]);
+        let high = larger(marks[second + i], marks[third + i]);
+        let both = larger(low, high);
+        most = larger(most, both);
+        i += 1;
+    }
+    most
+}
+
+// Whether every mark is 0 or 1: the largest is kept and tested at the end.
+pub fn marks_sound(marks: &[u8]) -> bool
+    ensures { λ r. ⌜ r ≡ allOf (λ mark. ltb mark 2) (now (marks .entry)) ⌝ }
+{
+    let quarter = marks.len() / 4;
+    let mut most = most_of(marks, quarter);
+    let mut i = 4 * quarter;
+    while i < marks.len() {
+        let mark = marks[i];
+        if mark > most {
+            most = mark;
+        }
+        i += 1;
+    }
+    most < 2
 }
