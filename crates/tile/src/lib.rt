@@ -11,7 +11,7 @@ use row::mark_row;
 use row::row_marked;
 use row::write_row;
 ghost use mathlib.Core.Path.{_≡_};
-ghost use mathlib.Core.Bool.{true, false, cond};
+ghost use mathlib.Core.Bool.{true, false};
 ghost use mathlib.Core.List.{[], _∷_};
 ghost use Prim.Native.Nat.{_+_, _*_, _^_, _≤_, _<_};
 ghost use lib.ListN.{length};
@@ -20,7 +20,7 @@ ghost use Rattle.machine.specs.Memory.{rowAt, inside};
 ghost use Rattle.machine.specs.Operation.{element};
 ghost use Rattle.machine.specs.Refusals.{marked, needs};
 ghost use Rattle.machine.specs.declared.Answer.the-variants.{OutsideMemory};
-ghost use Rattle.machine.specs.Answers.{verdict, isDone, _otherwise_};
+ghost use Rattle.machine.specs.Answers.{verdict};
 ghost use Rattle.tile.specs.Checks.{storeChecks};
 
 // Whether each byte of the rows, of n bytes each, has its mark.
@@ -96,7 +96,7 @@ pub fn mark_tile(marks: &mut [u8], start: usize, pitch: usize, rows: usize, n: u
 }
 
 // Copies the rows of a tile that lie in memory to the registers.
-fn load_tile(
+pub fn load_tile(
     registers: &mut [u8],
     memory: &[u8],
     start: usize,
@@ -128,7 +128,7 @@ fn load_tile(
 }
 
 // Copies the rows of a tile from the registers to where they lie in memory, upward.
-fn store_tile(
+pub fn store_tile(
     memory: &mut [u8],
     registers: &[u8],
     start: usize,
@@ -157,35 +157,6 @@ fn store_tile(
         from += pitch;
         i += 1;
     }
-}
-
-// Loads a tile and marks it, or answers 6.
-pub fn load(
-    registers: &mut [u8],
-    marks: &mut [u8],
-    memory: &[u8],
-    start: usize,
-    pitch: usize,
-    base: u64,
-    stride: u64,
-    rows: usize,
-    cols: usize,
-    w: usize,
-) -> Answer
-    requires { ⌜ start + rows * pitch ≤ length (now registers) ⌝ }
-    requires { ⌜ length (now marks) ≡ length (now registers) ⌝ }
-    requires { ⌜ cols * w ≤ pitch ⌝ }
-    ensures { λ r. ⌜ r ≡ verdict ((inside (length (now (memory .entry))) base stride rows (cols * w) otherwise OutsideMemory) ∷ []) ⌝ }
-    ensures { λ r. ⌜ now (registers .exit) ≡ cond (isDone r) (putTile (λ i. start + i * pitch) rows cols w (element (now (memory .entry)) (rowAt base stride) w) (now (registers .entry))) (now (registers .entry)) ⌝ }
-    ensures { λ r. ⌜ now (marks .exit) ≡ cond (isDone r) (markTile (λ i. start + i * pitch) rows (cols * w) (now (marks .entry))) (now (marks .entry)) ⌝ }
-{
-    let len = memory.len();
-    if !rows_inside(len, base as usize, stride, rows, cols * w) {
-        return Answer::OutsideMemory;
-    }
-    load_tile(registers, memory, start, pitch, base, stride, rows, cols, w);
-    mark_tile(marks, start, pitch, rows, cols * w);
-    Answer::Done
 }
 
 // The checks of a store to a memory of len bytes, in lines of so many bytes each: answer 5, 6, 13, 7 or Done.
@@ -224,48 +195,5 @@ pub fn store_checked(
     if !rows_unsealed(len, seal, size, at, stride, lines, bytes) {
         return Answer::SealedByte;
     }
-    Answer::Done
-}
-
-// Stores a tile, or answers 5, 6, 13 or 7.
-pub fn store(
-    registers: &[u8],
-    marks: &[u8],
-    memory: &mut [u8],
-    seal: u64,
-    size: u64,
-    start: usize,
-    pitch: usize,
-    base: u64,
-    stride: u64,
-    rows: usize,
-    cols: usize,
-    w: usize,
-) -> Answer
-    requires { ⌜ start + rows * pitch ≤ length (now registers) ⌝ }
-    requires { ⌜ length (now marks) ≡ length (now registers) ⌝ }
-    requires { ⌜ cols * w ≤ pitch ⌝ }
-    ensures { λ r. ⌜ r ≡ verdict (storeChecks seal size (now (marks .entry)) start pitch (length (now (memory .entry))) base stride rows cols w rows (cols * w)) ⌝ }
-    ensures { λ r. ⌜ now (memory .exit) ≡ cond (isDone r) (putTile (rowAt base stride) rows cols w (element (now (registers .entry)) (λ i. start + i * pitch) w) (now (memory .entry))) (now (memory .entry)) ⌝ }
-{
-    let answer = store_checked(
-        marks,
-        memory.len(),
-        seal,
-        size,
-        start,
-        pitch,
-        base,
-        stride,
-        rows,
-        cols,
-        w,
-        rows,
-        cols * w,
-    );
-    if !is_done(answer) {
-        return answer;
-    }
-    store_tile(memory, registers, start, pitch, base, stride, rows, cols, w);
     Answer::Done
 }

@@ -12,8 +12,10 @@ use element::write4;
 use machine::Answer;
 use machine::Form;
 use machine::is_done;
+use tile::load_tile;
 use tile::mark_tile;
 use tile::store_checked;
+use tile::store_tile;
 ghost use mathlib.Core.Path.{_≡_};
 ghost use mathlib.Core.Bool.{true, cond};
 ghost use mathlib.Core.List.{[], _∷_};
@@ -134,10 +136,30 @@ fn scatter_tile(
     }
 }
 
-// Loads a transposed tile and marks it, or answers 6.
-fn load_transposed(
+// How many rows of memory a tile takes.
+fn memory_rows(form: Form, rows: usize, cols: usize) -> usize
+    ensures { λ r. ⌜ r ≡ memoryRows form rows cols ⌝ }
+{
+    match form {
+        Form::Plain => rows,
+        Form::Transposed => cols,
+    }
+}
+
+// How many elements each of them has.
+fn memory_columns(form: Form, rows: usize, cols: usize) -> usize
+    ensures { λ r. ⌜ r ≡ memoryCols form rows cols ⌝ }
+{
+    match form {
+        Form::Plain => cols,
+        Form::Transposed => rows,
+    }
+}
+
+// Copies a tile in memory to the registers.
+fn copy_in(
+    form: Form,
     registers: &mut [u8],
-    marks: &mut [u8],
     memory: &[u8],
     start: usize,
     pitch: usize,
@@ -146,32 +168,28 @@ fn load_transposed(
     rows: usize,
     cols: usize,
     w: usize,
-) -> Answer
+)
     requires { ⌜ start + rows * pitch ≤ length (now registers) ⌝ }
-    requires { ⌜ length (now marks) ≡ length (now registers) ⌝ }
     requires { ⌜ cols * w ≤ pitch ⌝ }
     requires { ⌜ Width w ⌝ }
-    requires { ⌜ w ≤ pitch ⌝ }
-    ensures { λ r. ⌜ r ≡ verdict ((inside (length (now (memory .entry))) base stride cols (rows * w) otherwise OutsideMemory) ∷ []) ⌝ }
-    ensures { λ r. ⌜ now (registers .exit) ≡ cond (isDone r) (putTile (λ i. start + i * pitch) rows cols w (placed Transposed (element (now (memory .entry)) (rowAt base stride) w)) (now (registers .entry))) (now (registers .entry)) ⌝ }
-    ensures { λ r. ⌜ now (marks .exit) ≡ cond (isDone r) (markTile (λ i. start + i * pitch) rows (cols * w) (now (marks .entry))) (now (marks .entry)) ⌝ }
+    requires { ⌜ inside (length (now memory)) base stride (memoryRows form rows cols) (memoryCols form rows cols * w) ≡ true ⌝ }
+    ensures { λ _. ⌜ now (registers .exit) ≡ putTile (λ i. start + i * pitch) rows cols w (placed form (element (now (memory .entry)) (rowAt base stride) w)) (now (registers .entry)) ⌝ }
 {
-    let len = memory.len();
-    if !rows_inside(len, base as usize, stride, cols, rows * w) {
-        return Answer::OutsideMemory;
+    match form {
+        Form::Plain => {
+            load_tile(registers, memory, start, pitch, base, stride, rows, cols, w);
+        }
+        Form::Transposed => {
+            gather_tile(registers, memory, start, pitch, base, stride, rows, cols, w);
+        }
     }
-    gather_tile(registers, memory, start, pitch, base, stride, rows, cols, w);
-    mark_tile(marks, start, pitch, rows, cols * w);
-    Answer::Done
 }
 
-// Stores a tile transposed, or answers 5, 6, 13 or 7.
-fn store_transposed(
-    registers: &[u8],
-    marks: &[u8],
+// Copies a tile in the registers to memory.
+fn copy_out(
+    form: Form,
     memory: &mut [u8],
-    seal: u64,
-    size: u64,
+    registers: &[u8],
     start: usize,
     pitch: usize,
     base: u64,
@@ -179,35 +197,21 @@ fn store_transposed(
     rows: usize,
     cols: usize,
     w: usize,
-) -> Answer
+)
     requires { ⌜ start + rows * pitch ≤ length (now registers) ⌝ }
-    requires { ⌜ length (now marks) ≡ length (now registers) ⌝ }
     requires { ⌜ cols * w ≤ pitch ⌝ }
     requires { ⌜ Width w ⌝ }
-    requires { ⌜ w ≤ pitch ⌝ }
-    ensures { λ r. ⌜ r ≡ verdict (storeChecks seal size (now (marks .entry)) start pitch (length (now (memory .entry))) base stride rows cols w cols (rows * w)) ⌝ }
-    ensures { λ r. ⌜ now (memory .exit) ≡ cond (isDone r) (putTile (rowAt base stride) cols rows w (placed Transposed (element (now (registers .entry)) (λ i. start + i * pitch) w)) (now (memory .entry))) (now (memory .entry)) ⌝ }
+    requires { ⌜ inside (length (now memory)) base stride (memoryRows form rows cols) (memoryCols form rows cols * w) ≡ true ⌝ }
+    ensures { λ _. ⌜ now (memory .exit) ≡ putTile (rowAt base stride) (memoryRows form rows cols) (memoryCols form rows cols) w (placed form (element (now (registers .entry)) (λ i. start + i * pitch) w)) (now (memory .entry)) ⌝ }
 {
-    let answer = store_checked(
-        marks,
-        memory.len(),
-        seal,
-        size,
-        start,
-        pitch,
-        base,
-        stride,
-        rows,
-        cols,
-        w,
-        cols,
-        rows * w,
-    );
-    if !is_done(answer) {
-        return answer;
+    match form {
+        Form::Plain => {
+            store_tile(memory, registers, start, pitch, base, stride, rows, cols, w);
+        }
+        Form::Transposed => {
+            scatter_tile(memory, registers, start, pitch, base, stride, rows, cols, w);
+        }
     }
-    scatter_tile(memory, registers, start, pitch, base, stride, rows, cols, w);
-    Answer::Done
 }
 
 // Loads a tile and marks it, or answers 6.
@@ -233,32 +237,26 @@ pub fn load(
     ensures { λ r. ⌜ now (registers .exit) ≡ cond (isDone r) (putTile (λ i. start + i * pitch) rows cols w (placed form (element (now (memory .entry)) (rowAt base stride) w)) (now (registers .entry))) (now (registers .entry)) ⌝ }
     ensures { λ r. ⌜ now (marks .exit) ≡ cond (isDone r) (markTile (λ i. start + i * pitch) rows (cols * w) (now (marks .entry))) (now (marks .entry)) ⌝ }
 {
-    match form {
-        Form::Plain => tile::load(
-            registers,
-            marks,
-            memory,
-            start,
-            pitch,
-            base,
-            stride,
-            rows,
-            cols,
-            w,
-        ),
-        Form::Transposed => load_transposed(
-            registers,
-            marks,
-            memory,
-            start,
-            pitch,
-            base,
-            stride,
-            rows,
-            cols,
-            w,
-        ),
+    let lines = memory_rows(form, rows, cols);
+    let bytes = memory_columns(form, rows, cols) * w;
+    let len = memory.len();
+    if !rows_inside(len, base as usize, stride, lines, bytes) {
+        return Answer::OutsideMemory;
     }
+    copy_in(
+        form,
+        registers,
+        memory,
+        start,
+        pitch,
+        base,
+        stride,
+        rows,
+        cols,
+        w,
+    );
+    mark_tile(marks, start, pitch, rows, cols * w);
+    Answer::Done
 }
 
 // Stores a tile, or answers 5, 6, 13 or 7.
@@ -285,34 +283,37 @@ pub fn store(
     ensures { λ r. ⌜ r ≡ verdict (storeChecks seal size (now (marks .entry)) start pitch (length (now (memory .entry))) base stride rows cols w (memoryRows form rows cols) (memoryCols form rows cols * w)) ⌝ }
     ensures { λ r. ⌜ now (memory .exit) ≡ cond (isDone r) (putTile (rowAt base stride) (memoryRows form rows cols) (memoryCols form rows cols) w (placed form (element (now (registers .entry)) (λ i. start + i * pitch) w)) (now (memory .entry))) (now (memory .entry)) ⌝ }
 {
-    match form {
-        Form::Plain => tile::store(
-            registers,
-            marks,
-            memory,
-            seal,
-            size,
-            start,
-            pitch,
-            base,
-            stride,
-            rows,
-            cols,
-            w,
-        ),
-        Form::Transposed => store_transposed(
-            registers,
-            marks,
-            memory,
-            seal,
-            size,
-            start,
-            pitch,
-            base,
-            stride,
-            rows,
-            cols,
-            w,
-        ),
+    let lines = memory_rows(form, rows, cols);
+    let bytes = memory_columns(form, rows, cols) * w;
+    let answer = store_checked(
+        marks,
+        memory.len(),
+        seal,
+        size,
+        start,
+        pitch,
+        base,
+        stride,
+        rows,
+        cols,
+        w,
+        lines,
+        bytes,
+    );
+    if !is_done(answer) {
+        return answer;
     }
+    copy_out(
+        form,
+        memory,
+        registers,
+        start,
+        pitch,
+        base,
+        stride,
+        rows,
+        cols,
+        w,
+    );
+    Answer::Done
 }

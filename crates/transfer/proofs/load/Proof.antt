@@ -1,18 +1,66 @@
+use mathlib.Core.Path.{_≡_, refl, sym, ap₂, _∙_, subst}
+use mathlib.Core.Bool.{Bool, true}
+use Prim.Native.Nat.{ℕ, _*_, _^_, _<_}
+use native.Mathlib.Omega.{arith}
+use lib.ListN.{length}
 use borrow.Author.Needs.{needs}
+use Rattle.machine.specs.Memory.{inside}
+use Rattle.machine.specs.Operation.{memoryRows, memoryCols}
+use Rattle.address.proofs.TestLaws.{test-failed, test-passed}
+use Rattle.transfer.proofs.FormLaws.{line-small}
 use Rattle.transfer.proofs.load.Statement.{statement}
 use Rattle.transfer.proofs.load.Tie as tie
 
-enum-told : tie.Need-enum-told
-enum-told c = search needs
+memory-rows-requires : tie.Need-memory-rows-requires
+memory-rows-requires c κs = search needs
 
-load-requires : tie.Need-load-requires
-load-requires c κs = search needs
+memory-columns-requires : tie.Need-memory-columns-requires
+memory-columns-requires c κs = search needs
 
-enum-told-2 : tie.Need-enum-told-2
-enum-told-2 c = search needs
+mul-bytes : tie.Need-mul-bytes
+mul-bytes c =
+    let s = c .before .before .before .before .before in
+    let a = s .args in
+    record {
+      fits = subst (λ (n : ℕ). n * a .w < 2 ^ 64) (sym (c .memory-columns .ensures))
+          (line-small (a .form) (a .rows) (a .cols) (a .w) (a .pitch) (2 ^ 64) (s .pre .1 .1 .0) (s .pre .1 .1 .1 .1) (omega arith) (omega (arith, s .pre .0)));
+    }
 
-load-transposed-requires : tie.Need-load-transposed-requires
-load-transposed-requires c κs = search needs
+rows-inside-requires : tie.Need-rows-inside-requires
+rows-inside-requires c κs = search needs
+
+-- whether the rows lie in memory, of so many rows of so many elements
+abbrev lie : tie.Start → ℕ → ℕ → Bool
+lie s lines columns = let a = s .args in inside (length (a .memory .now)) (a .base) (a .stride) lines (columns * a .w)
+
+abbrev lies : tie.Start → Bool
+lies s = let a = s .args in lie s (memoryRows (a .form) (a .rows) (a .cols)) (memoryCols (a .form) (a .rows) (a .cols))
+
+returns : tie.Need-returns
+returns c =
+    let k = c .before .before in
+    let s = k .before .before .before .before .before in
+    let r = c .before .rows-inside in
+    let e = sym (ap₂ (lie s) (k .before .memory-rows .ensures) (k .memory-columns .ensures)) ∙ test-failed (r .result) (lie s (k .before .memory-rows .result) (k .memory-columns .result)) (r .ensures) (c .if1 .taken) in
+    (rw e, (refl, refl))
+
+rows-in : (c : tie.Else1) → lies (c .before .before .before .before .before .before .before) ≡ true
+rows-in c =
+    let k = c .before .before in
+    let s = k .before .before .before .before .before in
+    let r = c .before .rows-inside in
+    sym (ap₂ (lie s) (k .before .memory-rows .ensures) (k .memory-columns .ensures)) ∙ test-passed (r .result) (lie s (k .before .memory-rows .result) (k .memory-columns .result)) (r .ensures) (c .if1 .left)
+
+copy-in-requires : tie.Need-copy-in-requires
+copy-in-requires c κs =
+    let s = c .before .before .before .before .before .before .before .before in
+    (s .pre .0, (s .pre .1 .1 .0, (s .pre .1 .1 .1 .0, rows-in (c .before))))
+
+mul-mark-tile : tie.Need-mul-mark-tile
+mul-mark-tile c = search needs
+
+mark-tile-requires : tie.Need-mark-tile-requires
+mark-tile-requires c κs = search needs
 
 same-length : tie.Need-same-length
 same-length c = search needs
@@ -20,29 +68,23 @@ same-length c = search needs
 same-length-2 : tie.Need-same-length-2
 same-length-2 c = search needs
 
-returns : tie.Need-returns
-returns c = rw (c .before .before .before .before .before .before .before .enum-told .given .1) (c .before .before .before .before .load .ensures)
-
-same-length-3 : tie.Need-same-length-3
-same-length-3 c = search needs
-
-same-length-4 : tie.Need-same-length-4
-same-length-4 c = search needs
-
 returns-2 : tie.Need-returns-2
-returns-2 c = rw (c .before .before .before .before .before .before .before .enum-told2 .given .1) (c .before .before .before .before .load-transposed .ensures)
+returns-2 c =
+    let i = c .before .before .before .before .before .before in
+    (rw (rows-in (i .before .before)), (i .copy-in .ensures, c .before .before .mark-tile .ensures))
 
 pub load-spec : {M : Type 1} → statement M
 load-spec =
     tie.close
     (tie.spec
-    enum-told
-    load-requires
-    enum-told-2
-    load-transposed-requires
+    memory-rows-requires
+    memory-columns-requires
+    mul-bytes
+    rows-inside-requires
+    returns
+    copy-in-requires
+    mul-mark-tile
+    mark-tile-requires
     same-length
     same-length-2
-    returns
-    same-length-3
-    same-length-4
     returns-2)

@@ -1,40 +1,97 @@
+use mathlib.Core.Path.{_≡_, refl, sym, ap, ap₂, _∙_, subst}
+use mathlib.Core.List.{List}
+use Prim.Native.Nat.{ℕ, _*_, _^_, _<_}
+use native.Mathlib.Nat.{mul-le-mul-left}
+use native.Mathlib.Omega.{arith}
+use lib.ListN.{length}
 use borrow.Author.Needs.{needs}
+use Rattle.machine.specs.Answers.{Check, verdict, isDone}
+use Rattle.machine.specs.Operation.{memoryRows, memoryCols}
+use Rattle.machine.proofs.CheckLaws.{Passed, passed, no-refusal}
+use Rattle.address.proofs.TestLaws.{test-failed, test-passed}
+use Rattle.tile.specs.Checks.{storeChecks}
+use Rattle.transfer.proofs.FormLaws.{line-small, all-bytes}
 use Rattle.transfer.proofs.store.Statement.{statement}
 use Rattle.transfer.proofs.store.Tie as tie
 
-enum-told : tie.Need-enum-told
-enum-told c = search needs
+memory-rows-requires : tie.Need-memory-rows-requires
+memory-rows-requires c κs = search needs
 
-store-requires : tie.Need-store-requires
-store-requires c κs = search needs
+memory-columns-requires : tie.Need-memory-columns-requires
+memory-columns-requires c κs = search needs
 
-enum-told-2 : tie.Need-enum-told-2
-enum-told-2 c = search needs
+mul-bytes : tie.Need-mul-bytes
+mul-bytes c =
+    let s = c .before .before .before .before .before in
+    let a = s .args in
+    record {
+      fits = subst (λ (n : ℕ). n * a .w < 2 ^ 64) (sym (c .memory-columns .ensures))
+          (line-small (a .form) (a .rows) (a .cols) (a .w) (a .pitch) (2 ^ 64) (s .pre .1 .1 .0) (s .pre .1 .1 .1 .1) (omega arith) (omega (arith, s .pre .0)));
+    }
 
-store-transposed-requires : tie.Need-store-transposed-requires
-store-transposed-requires c κs = search needs
+store-checked-requires : tie.Need-store-checked-requires
+store-checked-requires c κs =
+    let s = c .before .before .before .before .before in
+    let a = s .args in
+    let e : c .before .memory-rows .result * (c .memory-columns .result * a .w) ≡ a .rows * (a .cols * a .w) =
+    ap₂ (λ (l n : ℕ). l * (n * a .w)) (c .before .memory-rows .ensures) (c .memory-columns .ensures) ∙ all-bytes (a .form) (a .rows) (a .cols) (a .w) in
+    (omega (arith, s .pre .0, s .pre .1 .0), (s .pre .1 .1 .0, (omega arith, omega (arith, e, s .pre .0, mul-le-mul-left (a .rows) (s .pre .1 .1 .0)))))
+
+is-done-requires : tie.Need-is-done-requires
+is-done-requires c κs = search needs
+
+-- the checks, of so many rows of so many elements in memory
+abbrev checks : tie.Start → ℕ → ℕ → List Check
+checks s lines columns =
+    let a = s .args in
+    storeChecks (a .seal) (a .size) (a .marks .now) (a .start) (a .pitch) (length (a .memory .now)) (a .base) (a .stride) (a .rows) (a .cols) (a .w) lines (columns * a .w)
+
+abbrev checksOf : tie.Start → List Check
+checksOf s = let a = s .args in checks s (memoryRows (a .form) (a .rows) (a .cols)) (memoryCols (a .form) (a .rows) (a .cols))
+
+answered : (c : tie.After-store-checked) → let s = c .before .before .before .before .before .before in c .store-checked .result ≡ verdict (checksOf s)
+answered c =
+    let s = c .before .before .before .before .before .before in
+    c .store-checked .ensures ∙ ap₂ (λ (l n : ℕ). verdict (checks s l n)) (c .before .before .memory-rows .ensures) (c .before .memory-columns .ensures)
+
+returns : tie.Need-returns
+returns c =
+    let r = c .before .before .store-checked in
+    let d = c .before .is-done in
+    (answered (c .before .before), rw (test-failed (d .result) (isDone (r .result)) (d .ensures) (c .if1 .taken)))
+
+all-passed : (c : tie.Else1) → Passed (checksOf (c .before .before .before .before .before .before .before .before))
+all-passed c =
+    let s = c .before .before .before .before .before .before .before .before in
+    let r = c .before .before .store-checked in
+    let d = c .before .is-done in
+    passed (checksOf s) refl (sym (ap isDone (answered (c .before .before))) ∙ test-passed (d .result) (isDone (r .result)) (d .ensures) (c .if1 .left))
+
+copy-out-requires : tie.Need-copy-out-requires
+copy-out-requires c κs =
+    let d = c .before in
+    let s = d .before .before .before .before .before .before .before .before in
+    (s .pre .0, (s .pre .1 .1 .0, (s .pre .1 .1 .1 .0, all-passed d .1 .0)))
 
 same-length : tie.Need-same-length
 same-length c = search needs
 
-returns : tie.Need-returns
-returns c = rw (c .before .before .before .before .enum-told .given .1) (c .before .before .store .ensures)
-
-same-length-2 : tie.Need-same-length-2
-same-length-2 c = search needs
-
 returns-2 : tie.Need-returns-2
-returns-2 c = rw (c .before .before .before .before .enum-told2 .given .1) (c .before .before .store-transposed .ensures)
+returns-2 c =
+    let d = c .before .before .before .before in
+    let s = d .before .before .before .before .before .before .before .before in
+    (sym (no-refusal (checksOf s) (all-passed d)), c .before .before .copy-out .ensures)
 
 pub store-spec : {M : Type 1} → statement M
 store-spec =
     tie.close
     (tie.spec
-    enum-told
-    store-requires
-    enum-told-2
-    store-transposed-requires
-    same-length
+    memory-rows-requires
+    memory-columns-requires
+    mul-bytes
+    store-checked-requires
+    is-done-requires
     returns
-    same-length-2
+    copy-out-requires
+    same-length
     returns-2)
