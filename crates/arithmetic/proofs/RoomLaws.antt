@@ -35,7 +35,6 @@ in-eight r e z h l = omega (arith, mul-le-mul-right z h)
 pub record Room (rows pitch f w d a b m k n len : ℕ) : Type 0 where
   pub a-ends : a * (rows * pitch) + m * pitch ≤ 8 * (rows * pitch)
   pub b-ends : b * (rows * pitch) + k * pitch ≤ 8 * (rows * pitch)
-  pub c-starts : 8 * (rows * pitch) ≤ (8 + 4 * d) * (rows * pitch)
   pub c-ends : (8 + 4 * d) * (rows * pitch) + m * (4 * pitch) ≤ len
   pub c-row : n * (f * w) ≤ 4 * pitch
   pub narrow : f * w ≤ 4
@@ -47,7 +46,6 @@ pub room : (rows pitch f w d a b m k n len : ℕ) → (d < 2) × ((a < 8) × (b 
 room rows pitch f w d a b m k n len regs bytes wide lf sizes cols = record {
   a-ends = in-eight a (m * pitch) (rows * pitch) (regs .1 .0) (mul-le-mul-right pitch (sizes .0));
   b-ends = in-eight b (k * pitch) (rows * pitch) (regs .1 .1) (mul-le-mul-right pitch (sizes .1 .0));
-  c-starts = omega arith;
   c-ends = omega (arith, mul-le-mul-right (rows * pitch) (regs .0), mul-le-mul-right pitch (sizes .0), bytes);
   c-row = omega (arith, mul-le-mul-right (n * w) lf, cols);
   narrow = width-small (f * w) wide;

@@ -23,9 +23,10 @@ use Rattle.product_memory.proofs.MemoryLaws.{level-signed, sum-here}
 use Rattle.text.specs.declared.Parsed.{Parsed}
 use Rattle.text.specs.declared.Parsed.the-variants.{Posed, Refused}
 use Rattle.text.specs.Problem.{Problem, problem, nth, holds}
-use Rattle.text.specs.Lines.{accepted, refused}
+use Rattle.lines.specs.Lines.{accepted, refused}
 use Rattle.text.specs.Output.{stepsOf, modulus, sumAt, productRows, answerText, outputFor}
-use Rattle.text.specs.Parts.{held, parsedAs, elementsIn, Wrote, signedAll, rowsOf}
+use Rattle.lines.specs.Parts.{Wrote, signedAll, rowsOf}
+use Rattle.text.specs.Parts.{held, parsedAs, elementsIn}
 use Rattle.text.proofs.ProblemLaws.{Known, problem-known, held-at, format-sew, format-half}
 use Rattle.text.proofs.OutputLaws.{rows-are}
 

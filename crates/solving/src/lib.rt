@@ -14,7 +14,8 @@ ghost use Rattle.product_memory.specs.Memory.{jobFor};
 ghost use Rattle.text.specs.declared.Parsed.the-variants.{Posed};
 ghost use Rattle.text.specs.Problem.{problem};
 ghost use Rattle.text.specs.Output.{answerText};
-ghost use Rattle.text.specs.Parts.{parsedAs, elementsIn, Wrote};
+ghost use Rattle.lines.specs.Parts.{Wrote};
+ghost use Rattle.text.specs.Parts.{parsedAs, elementsIn};
 
 // Lays the a numbers from 5 on at A's place, and the b after them at B's.
 fn fill(memory: &mut [u8], numbers: &[u64], width: usize, a: usize, b: usize)
@@ -81,7 +82,7 @@ fn solve(out: &mut [u8], numbers: &[u64], sew: u64, factor: u64, m: u64, k: u64,
     fill(&mut memory, numbers, width as usize, a, b);
     let count = multiply(&mut c, &mut memory, sew, factor, m, k, n);
     let q = modulus(factor * width);
-    text::put_accepted(out, count, q, &c, m as usize, n as usize)
+    lines::put_accepted(out, count, q, &c, m as usize, n as usize)
 }
 
 // Writes the answer to a text, and returns its length.
@@ -99,6 +100,6 @@ pub fn answer(text: &[u8], out: &mut [u8; 8192]) -> usize
             k,
             n,
         } => solve(out, &numbers, sew, factor, m, k, n),
-        Parsed::Refused => text::put_refused(out),
+        Parsed::Refused => lines::put_refused(out),
     }
 }

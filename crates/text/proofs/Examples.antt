@@ -11,7 +11,7 @@ use Rattle.run.specs.Plan.{msew, typeOf}
 use Rattle.run.specs.Start.{format}
 use Rattle.text.specs.Text.{numbers}
 use Rattle.text.specs.Problem.{problem}
-use Rattle.text.specs.Lines.{decimal, refused}
+use Rattle.lines.specs.Lines.{decimal, refused}
 use Rattle.text.specs.Output.{stepsOf, productRows, answerText}
 
 -- ---- numbers

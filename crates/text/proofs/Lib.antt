@@ -2,7 +2,6 @@
 pub mod ListLaws
 pub mod ReadLaws
 pub mod ProblemLaws
-pub mod WriteLaws
 -- What is written is what Output.antt says; computed examples.
 pub mod OutputLaws
 pub mod Examples

@@ -9,8 +9,8 @@ use lib.Seq.{getD-drop}
 use Rattle.width.specs.Reduce.{signed, reduce}
 use Rattle.text.specs.Problem.{Problem, nth}
 use Rattle.text.specs.Output.{sumAt, modulus, listOf, productAt, productRows}
-use Rattle.text.specs.Parts.{signedAll, rowsOf}
-use Rattle.text.proofs.WriteLaws.{row-fits}
+use Rattle.lines.specs.Parts.{signedAll, rowsOf}
+use Rattle.lines.proofs.WriteLaws.{row-fits}
 
 row-listed : (n : ℕ) (f : ℕ → ℤ) (zs : List ℤ) → n ≤ length zs → ((j : ℕ) → j < n → nth zs j ≡ f j) → take n zs ≡ listOf n f
 row-listed zero f zs l h = refl

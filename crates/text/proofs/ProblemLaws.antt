@@ -24,7 +24,8 @@ use Rattle.text.specs.declared.Parsed.the-variants.{Posed, Refused}
 use Rattle.text.specs.Text.{numbers}
 use Rattle.text.specs.Problem.{Problem, problem, nth, tests, posed, posedBy, fromZero, holds}
 use Rattle.text.specs.Parts.{held, heldIn, front, putFront, sizeHeld, inside, parsedAs, readInto, elementsIn}
-use Rattle.text.proofs.ListLaws.{drop-map, drop-take}
+use Rattle.lines.proofs.ListLaws.{drop-map}
+use Rattle.text.proofs.ListLaws.{drop-take}
 
 never : {A : Type 0} → _≡_ {A = ℕ} 0 1 → A
 never e = absurd (omega arith)

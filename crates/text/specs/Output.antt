@@ -8,7 +8,7 @@ use Rattle.run.specs.Words.{steps}
 use Rattle.run.specs.Plan.{shape}
 use Rattle.product_memory.specs.Memory.{jobFor}
 use Rattle.text.specs.Problem.{Problem, nth, problem}
-use Rattle.text.specs.Lines.{accepted, refused}
+use Rattle.lines.specs.Lines.{accepted, refused}
 
 -- "The count that `product` writes is the number of turns answered 0": the steps of its run, 1 + M(1 + N(3 + 4K)), whatever the memory
 unfoldable pub stepsOf : Problem → ℕ

@@ -1,5 +1,5 @@
 -- What the contracts of inner functions name; a reader of Output.antt need not read it.
-use Prim.Native.Nat.{ℕ, zero, suc, _+_, _*_, _-_, _≤_, _<_, min}
+use Prim.Native.Nat.{ℕ, suc, _+_, _*_, _-_, _≤_, _<_, min}
 use mathlib.Core.Path.{_≡_}
 use mathlib.Core.Bool.{Bool, cond, _&&_}
 use mathlib.Core.List.{List, [], _∷_, _++_, map}
@@ -7,7 +7,6 @@ use mathlib.Core.Option.{Option, none, some, Option·map}
 use lib.Dec.{leb, ltb}
 use lib.IntN.{ℤ, pos, negsuc}
 use lib.ListN.{length, take, drop}
-use Rattle.width.specs.Reduce.{signed}
 use Rattle.text.specs.declared.Count.{Count}
 use Rattle.text.specs.declared.Count.the-variants.{All, Many}
 use Rattle.text.specs.declared.Parsed.{Parsed}
@@ -106,21 +105,3 @@ readInto t out = cond (leb (length t) 8192) (putFront (front t) out) out
 abbrev pub elementsIn : Option Problem → List ℕ → Type 0
 elementsIn none out = Unit
 elementsIn (some p) out = map held (p .a ++ p .b) ≡ take (p .m * p .k + p .k * p .n) (drop 5 out)
-
--- ---- writing
-
--- a writer went from at to next: what stood before at stands, t follows it, and what stands after t is as it was
-pub record Wrote (entry : List ℕ) (at : ℕ) (exit : List ℕ) (next : ℕ) (t : List ℕ) : Type 0 where
-  pub to : next ≡ at + length t
-  pub same : length exit ≡ length entry
-  pub text : take next exit ≡ take at entry ++ t
-  pub rest : drop next exit ≡ drop next entry
-
--- the signed numbers that the residues xs stand for, at the modulus q
-abbrev pub signedAll : ℕ → List ℕ → List ℤ
-signedAll q xs = map (signed q) xs
-
--- the rows of a matrix that stands row by row
-abbrev pub rowsOf : ℕ → ℕ → List ℤ → List (List ℤ)
-rowsOf zero cols zs = []
-rowsOf (suc rows) cols zs = take cols zs ∷ rowsOf rows cols (drop cols zs)

@@ -7,7 +7,7 @@ use Rattle.element.specs.Element.{Width}
 use Rattle.element.proofs.Laws.{width-small}
 use Rattle.product_memory.proofs.MemoryLaws.{widths, matrix-small}
 use Rattle.text.specs.Output.{answerText}
-use Rattle.text.specs.Parts.{Wrote}
+use Rattle.lines.specs.Parts.{Wrote}
 use Rattle.solving.proofs.SolveLaws.{Solved, solved}
 use borrow.Author.Needs.{needs}
 use Rattle.solving.proofs.solve.Statement.{statement}

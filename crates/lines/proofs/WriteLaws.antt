@@ -13,9 +13,9 @@ use lib.Dec.{leb}
 use borrow.Author.Tests.{leb-true, leb-false, lt-ltb, le-ltb, le-leb, lt-leb}
 use Rattle.width.specs.Reduce.{signed}
 use Rattle.width.proofs.BlockLaws.{le-or-lt}
-use Rattle.text.specs.Lines.{digitsOf, decimal, written, others, spaced, lines, firstLine, stepsWord}
-use Rattle.text.specs.Parts.{Wrote, signedAll, rowsOf}
-use Rattle.text.proofs.ListLaws.{take-map, drop-map}
+use Rattle.lines.specs.Lines.{digitsOf, decimal, written, others, spaced, lines, firstLine, stepsWord}
+use Rattle.lines.specs.Parts.{Wrote, signedAll, rowsOf}
+use Rattle.lines.proofs.ListLaws.{take-map, drop-map}
 
 -- ---- decimal text
 

@@ -3,10 +3,10 @@ use mathlib.Core.List.{List, [], _∷_, _++_}
 use native.Mathlib.Nat.{zero-add}
 use native.Mathlib.Omega.{arith}
 use borrow.Author.Needs.{needs}
-use Rattle.text.specs.Lines.{decimal, stepsWord, firstLine}
-use Rattle.text.proofs.WriteLaws.{Ahead, ahead-start, ahead-step, ahead-end, ahead-room}
-use Rattle.text.proofs.put_first.Statement.{statement}
-use Rattle.text.proofs.put_first.Tie as tie
+use Rattle.lines.specs.Lines.{decimal, stepsWord, firstLine}
+use Rattle.lines.proofs.WriteLaws.{Ahead, ahead-start, ahead-step, ahead-end, ahead-room}
+use Rattle.lines.proofs.put_first.Statement.{statement}
+use Rattle.lines.proofs.put_first.Tie as tie
 
 -- what is left to write after each call
 abbrev rest3 : tie.Start → List ℕ

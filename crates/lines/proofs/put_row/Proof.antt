@@ -5,11 +5,11 @@ use native.Mathlib.Omega.{arith}
 use lib.ListN.{length, getD, length-append}
 use borrow.Author.Needs.{needs}
 use Rattle.width.specs.Reduce.{signed}
-use Rattle.text.specs.Lines.{written, spaced}
-use Rattle.text.specs.Parts.{signedAll}
-use Rattle.text.proofs.WriteLaws.{wrote-more, wrote-none, Ahead, ahead-start, ahead-step, ahead-as, ahead-end, ahead-room, tailText, tail-more, tail-end, row-first, row-none}
-use Rattle.text.proofs.put_row.Statement.{statement}
-use Rattle.text.proofs.put_row.Tie as tie
+use Rattle.lines.specs.Lines.{written, spaced}
+use Rattle.lines.specs.Parts.{signedAll}
+use Rattle.lines.proofs.WriteLaws.{wrote-more, wrote-none, Ahead, ahead-start, ahead-step, ahead-as, ahead-end, ahead-room, tailText, tail-more, tail-end, row-first, row-none}
+use Rattle.lines.proofs.put_row.Statement.{statement}
+use Rattle.lines.proofs.put_row.Tie as tie
 
 abbrev Inv-loop : tie.InvT-loop
 Inv-loop out₀ at q row next₀ j₀ out next j = (j ≤ length row) × (next₀ + length (tailText q row 1) ≤ length out₀) × Ahead out₀ next₀ out next (tailText q row j) (tailText q row 1)

@@ -4,11 +4,11 @@ use mathlib.Core.List.{List, [], _∷_, _++_}
 use native.Mathlib.Omega.{arith}
 use native.Mathlib.Nat.{sub-zero}
 use lib.ListN.{length, take, drop}
-use Rattle.text.specs.Lines.{spaced, lines}
-use Rattle.text.specs.Parts.{signedAll, rowsOf}
-use Rattle.text.proofs.WriteLaws.{Ahead, ahead-start, ahead-step, ahead-as, ahead-end, ahead-room, restLines, lines-more, lines-end, row-fits}
-use Rattle.text.proofs.put_lines.Statement.{statement}
-use Rattle.text.proofs.put_lines.Tie as tie
+use Rattle.lines.specs.Lines.{spaced, lines}
+use Rattle.lines.specs.Parts.{signedAll, rowsOf}
+use Rattle.lines.proofs.WriteLaws.{Ahead, ahead-start, ahead-step, ahead-as, ahead-end, ahead-room, restLines, lines-more, lines-end, row-fits}
+use Rattle.lines.proofs.put_lines.Statement.{statement}
+use Rattle.lines.proofs.put_lines.Tie as tie
 
 abbrev Inv-loop : tie.InvT-loop
 Inv-loop out₀ at q c rows cols next₀ from₀ i₀ out next from i = (i ≤ rows) × (from ≡ i * cols) × Ahead out₀ next₀ out next (restLines q c rows cols i from) (lines (rowsOf rows cols (signedAll q c)))

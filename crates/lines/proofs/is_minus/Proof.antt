@@ -3,9 +3,9 @@ use mathlib.Core.Path.{sym}
 use native.Mathlib.Omega.{arith}
 use borrow.Author.Tests.{le-leb}
 use borrow.Author.Needs.{needs}
-use Rattle.text.proofs.WriteLaws.{minus-test}
-use Rattle.text.proofs.is_minus.Statement.{statement}
-use Rattle.text.proofs.is_minus.Tie as tie
+use Rattle.lines.proofs.WriteLaws.{minus-test}
+use Rattle.lines.proofs.is_minus.Statement.{statement}
+use Rattle.lines.proofs.is_minus.Tie as tie
 
 sub-result : tie.Need-sub-result
 sub-result c = search needs

@@ -5,10 +5,10 @@ use native.Mathlib.Omega.{arith}
 use lib.ListN.{length}
 use borrow.Author.Needs.{needs}
 use Rattle.width.specs.Reduce.{signed}
-use Rattle.text.specs.Lines.{decimal, written}
-use Rattle.text.proofs.WriteLaws.{wrote-more, wrote-as, minus-text, plus-text}
-use Rattle.text.proofs.put_signed.Statement.{statement}
-use Rattle.text.proofs.put_signed.Tie as tie
+use Rattle.lines.specs.Lines.{decimal, written}
+use Rattle.lines.proofs.WriteLaws.{wrote-more, wrote-as, minus-text, plus-text}
+use Rattle.lines.proofs.put_signed.Statement.{statement}
+use Rattle.lines.proofs.put_signed.Tie as tie
 
 -- the text of the number, with a minus and without
 below : (c : tie.Then1) → written (signed (c .before .before .before .args .q) (c .before .before .before .args .x)) ≡ 45 ∷ decimal (suc (c .before .before .before .args .q - suc (c .before .before .before .args .x)))

@@ -1,9 +1,9 @@
 use mathlib.Core.Path.{refl}
 use native.Mathlib.Omega.{arith}
 use borrow.Author.Needs.{needs}
-use Rattle.text.proofs.WriteLaws.{wrote-more, Small, lines-room, first-room, page-room}
-use Rattle.text.proofs.put_accepted.Statement.{statement}
-use Rattle.text.proofs.put_accepted.Tie as tie
+use Rattle.lines.proofs.WriteLaws.{wrote-more, Small, lines-room, first-room, page-room}
+use Rattle.lines.proofs.put_accepted.Statement.{statement}
+use Rattle.lines.proofs.put_accepted.Tie as tie
 
 put-first-requires : tie.Need-put-first-requires
 put-first-requires c κs =

@@ -1,8 +1,8 @@
 use native.Mathlib.Omega.{arith}
 use borrow.Author.Needs.{needs}
-use Rattle.text.proofs.WriteLaws.{first-room}
-use Rattle.text.proofs.put_refused.Statement.{statement}
-use Rattle.text.proofs.put_refused.Tie as tie
+use Rattle.lines.proofs.WriteLaws.{first-room}
+use Rattle.lines.proofs.put_refused.Statement.{statement}
+use Rattle.lines.proofs.put_refused.Tie as tie
 
 put-first-requires : tie.Need-put-first-requires
 put-first-requires c κs = omega (arith, first-room 8 0 (omega arith) (omega arith))

@@ -4,9 +4,9 @@ use native.Mathlib.Omega.{arith}
 use native.Mathlib.Numerals.{add-one}
 use lib.ListN.{length, drop, getD, drop-of-length-le}
 use lib.Seq.{drop-cons}
-use Rattle.text.proofs.WriteLaws.{Ahead, ahead-start, ahead-step, ahead-as, ahead-end, ahead-room}
-use Rattle.text.proofs.put_text.Statement.{statement}
-use Rattle.text.proofs.put_text.Tie as tie
+use Rattle.lines.proofs.WriteLaws.{Ahead, ahead-start, ahead-step, ahead-as, ahead-end, ahead-room}
+use Rattle.lines.proofs.put_text.Statement.{statement}
+use Rattle.lines.proofs.put_text.Tie as tie
 
 abbrev Inv-loop : tie.InvT-loop
 Inv-loop out₀ at text next₀ j₀ out next j = (j ≤ length text) × Ahead out₀ next₀ out next (drop j text) text

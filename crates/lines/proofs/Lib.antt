@@ -1,0 +1,3 @@
+-- For code.
+pub mod ListLaws
+pub mod WriteLaws
