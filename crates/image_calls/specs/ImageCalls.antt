@@ -11,8 +11,9 @@ use Rattle.image.specs.Writing.{SizeOutcome, sizeImage, WriteOutcome, writeImag
 use Rattle.image.specs.Reading.{checkImage, ReadOutcome, readImage}
 use Rattle.blocks.specs.Blocks.{machineBytes, machineOf, putMachine}
 
--- A result packs answer | value << 16: the value is a length where the call is done, and else the place that the answer names. Both are cut to
--- their 48 bits, which no image that a machine can hold in memory exceeds.
+-- A result packs answer | value << 16: the value is a length where the call is done, and else the place that the answer names. The function
+-- takes any u64, so the value is cut to its 48 bits. No call loses by it (Theorems.antt: ImageSizePacksWhole, ImageWritePacksWhole,
+-- ImageReadPacksWhole).
 unfoldable pub packedReply : ImageReply → ℕ → ℕ
 packedReply a size = a .number + cond (eqb (a .number) 0) size (a .place) % 2 ^ 48 * 2 ^ 16
 

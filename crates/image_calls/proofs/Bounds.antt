@@ -1,0 +1,297 @@
+-- How long an image can be, and how far into an input the parser of images can get: both far below 2^48, for any lists.
+use mathlib.Core.Path.{_≡_, refl, sym, _∙_, subst}
+use mathlib.Core.Bool.{Bool, true, false, cond, false≢true}
+use mathlib.Core.List.{List, [], _∷_, _++_}
+use mathlib.Core.Logic.{inl, inr}
+use Prim.Native.Nat.{ℕ, zero, suc, _+_, _-_, _*_, _/_, _^_, _≤_, _<_, max}
+use native.Mathlib.Nat.{pow-suc, div-le-self}
+use native.Mathlib.Omega.{arith}
+use lib.Dec.{ltb, leb, eqb}
+use lib.ListN.{length, take, drop, length-append}
+use lib.Pow.{pow-mono}
+use borrow.Author.Tests.{leb-false, lt-leb}
+use Rattle.format.specs.Numbers.{Range, span, Among, encode, encodeAll}
+use Rattle.format.specs.Formats.{Format}
+use Rattle.format.specs.Formats.Format.{done, number, bytes}
+use Rattle.format.specs.Parser.{isAmong, nonempty, afters, Got, grow, readNumber, Parsed, later, parse}
+use Rattle.format.specs.Parser.Got.{value, fault}
+use Rattle.format.specs.Parser.Parsed.{whole, stopped}
+use Rattle.format.proofs.NumberLaws.{isAmong-among}
+use Rattle.reader.proofs.SizeLaws.{size-bound}
+use Rattle.machine.specs.declared.Machine.{Machine}
+use Rattle.machine.specs.Faults.{sound}
+use Rattle.machine.proofs.NoFault.{sound-is}
+use Rattle.machine.proofs.StepLaws.{permitted-bounds}
+use Rattle.image.specs.Cells.{Cell, Run, runs, cellsOf, Fit}
+use Rattle.image.specs.Cells.Run.{run}
+use Rattle.image.specs.Images.{headerOf, version, fields, runsBytes, imageOf}
+use Rattle.image.specs.ImageFormat.{Described, mtypes, tilesFormat, sealFormat, total, runsFormat, imageFormat}
+use Rattle.image.proofs.RunLaws.{fit-runs, fit-many}
+use Rattle.image.proofs.CellLaws.{length-cells}
+use Rattle.image.proofs.ImageLaws.{Room}
+use Rattle.image.proofs.HeaderLaws.{held}
+
+-- more bytes than any image has
+abbrev pub most : ℕ
+most = 2 ^ 18
+
+-- ---- the length of an image
+
+number-short : (n : ℕ) (t : List ℕ) → n < 2 ^ 64 → length (encode n ++ t) ≤ 10 + length t
+number-short n t h = omega (arith, length-append (encode n) t, size-bound n h)
+
+abbrev Small : List ℕ → Type 0
+Small [] = Unit {0}
+Small (n ∷ ns) = (n < 2 ^ 64) × Small ns
+
+numbers-short : (ns t : List ℕ) → Small ns → length (encodeAll ns t) ≤ 10 * length ns + length t
+numbers-short [] t h = omega arith
+numbers-short (n ∷ ns) t h = omega (arith, number-short n (encodeAll ns t) (h .0), numbers-short ns t (h .1))
+
+-- a run takes at most twenty bytes beside its own, of which it has one
+runs-short : (least n : ℕ) (rs : List Run) → n < 2 ^ 64 → Fit least n rs → length (runsBytes rs) ≤ 21 * n
+runs-short least n [] h f = omega arith
+runs-short least n (run g b ∷ rs) h f =
+    let rest = runs-short 1 (n - (g + length b)) rs (omega arith) (f .1) in
+    let first = f .0 in
+    omega (
+      arith,
+      number-short g (encode (length b) ++ (b ++ runsBytes rs)) (omega arith),
+      number-short (length b) (b ++ runsBytes rs) (omega arith),
+      length-append b (runsBytes rs),
+      rest,
+    )
+
+-- each run but the first takes a cell of gap and one of its own
+fit-first : (n : ℕ) (rs : List Run) → Fit 0 n rs → length rs ≤ n
+fit-first n [] h = omega arith
+fit-first n (run g b ∷ rs) h = omega (arith, h .0, fit-many (n - (g + length b)) rs (h .1))
+
+mtype-small : (t : ℕ) → Among t mtypes → t < 2 ^ 64
+mtype-small t (inl h) = omega arith
+mtype-small t (inr (inl h)) = omega arith
+mtype-small t (inr (inr (inl h))) = omega arith
+mtype-small t (inr (inr (inr h))) = absurd h
+
+version-short : (rule : ℕ) (t : List ℕ) → length (encodeAll (version rule) t) ≤ 20 + length t
+version-short rule t = go (eqb rule 1)
+  where
+    go : (c : Bool) → length (encodeAll (cond c (2 ∷ 1 ∷ []) (1 ∷ [])) t) ≤ 20 + length t
+    go true = numbers-short (2 ∷ 1 ∷ []) t (omega arith, (omega arith, tt))
+    go false = omega (arith, numbers-short (1 ∷ []) t (omega arith, tt))
+
+pub image-short : (m : Machine) (registers marks : List ℕ) → sound m registers marks ≡ true → length (imageOf m registers marks) ≤ most
+unfolding imageOf
+image-short m registers marks s =
+    let f = sound-is m registers marks s in
+    let b = permitted-bounds (m .rlen) (m .mlen) (f .lengths) in
+    let h = held m registers marks s in
+    let k = f .state in
+    let rows : m .mlen / m .rlen ≤ m .mlen = div-le-self (m .mlen) (m .rlen) in
+    let cells : List Cell = cellsOf registers marks in
+    let n : length cells ≡ length registers = length-cells registers marks (k .regs-length ∙ sym (k .marks-length)) in
+    let size : length cells ≤ 8192 = omega (arith, n, k .regs-length) in
+    let fit = fit-runs cells in
+    let count = fit-first (length cells) (runs cells) fit in
+    let body : List ℕ = encode (length (runs cells)) ++ runsBytes (runs cells) in
+    omega (
+      arith,
+      version-short (m .rule) (encodeAll (fields (headerOf m)) body),
+      numbers-short (fields (headerOf m)) body (
+        omega (arith, h .rlen-ok),
+        (
+          omega (arith, h .mlen-ok),
+          (
+            mtype-small (m .mtype) (h .mtype-ok),
+            (omega (arith, k .m-fits), (omega (arith, k .k-fits), (omega (arith, k .n-fits), (omega (arith, h .seal-ok), (omega (arith, h .seal-ok), tt))))),
+          ),
+        ),
+      ),
+      number-short (length (runs cells)) (runsBytes (runs cells)) (omega arith),
+      runs-short 0 (length cells) (runs cells) (omega arith) fit,
+    )
+
+-- ---- the place of a fault
+
+abbrev Below : ℕ → List Range → Type 0
+Below k [] = Unit {0}
+Below k (r ∷ rs) = (r .high < k) × Below k rs
+
+below-afters : (g k : ℕ) (rs : List Range) → Below (k * 128) rs → Below k (afters g rs)
+below-afters g k [] h = tt
+below-afters g k (r ∷ rs) h = let high = h .0 in (omega arith, below-afters g k rs (h .1))
+
+none-after : (g : ℕ) (rs : List Range) → Below 128 rs → nonempty (afters g rs) ≡ false
+unfolding nonempty
+none-after g [] h = refl
+none-after g (r ∷ rs) h =
+    let high = h .0 in
+    rw (lt-leb (max 1 ((r .low + 127 - g) / 128)) ((r .high - g) / 128) (omega arith), none-after g rs (h .1))
+
+among-grown : (g n : ℕ) (rs : List Range) → Among n (afters g rs) → Among (g + 128 * n) rs
+among-grown g n [] h = absurd h
+among-grown g n (r ∷ rs) (inl h) = inl (omega arith)
+among-grown g n (r ∷ rs) (inr h) = inr (among-grown g n rs h)
+
+-- at most k bytes are read
+abbrev Reach : List Range → ℕ → Got → Type 0
+Reach rs k (value n l) = Among n rs × (l ≤ k)
+Reach rs k (fault p) = p ≤ k
+
+grown : (g k : ℕ) (rs : List Range) (r : Got) → Reach (afters g rs) k r → Reach rs (suc k) (grow g r)
+grown g k rs (value n l) h = (among-grown g n rs (h .0), omega (arith, h .1))
+grown g k rs (fault p) h = omega (arith, h)
+
+first-group : (k b : ℕ) (rs : List Range) (rest : Got) → (nonempty (afters (b - 128) rs) ≡ true → Reach (afters (b - 128) rs) k rest)
+    → Reach rs (suc k) (cond (ltb b 128) (cond (isAmong b rs) (value b 1) (fault 0)) (cond (nonempty (afters (b - 128) rs)) (grow (b - 128) rest) (fault 0)))
+first-group k b rs rest next = go (ltb b 128) (isAmong b rs) refl (nonempty (afters (b - 128) rs)) refl
+  where
+    go : (t u : Bool) → isAmong b rs ≡ u → (v : Bool) → nonempty (afters (b - 128) rs) ≡ v
+        → Reach rs (suc k) (cond t (cond u (value b 1) (fault 0)) (cond v (grow (b - 128) rest) (fault 0)))
+    go true true e v w = (isAmong-among b rs e, omega arith)
+    go true false e v w = omega arith
+    go false u e true w = grown (b - 128) k rs rest (next w)
+    go false u e false w = omega arith
+
+reads-short : (k : ℕ) (rs : List Range) (s : List ℕ) → Below (128 ^ suc k) rs → Reach rs (suc k) (readNumber rs s)
+unfolding readNumber
+reads-short k rs [] h = omega arith
+reads-short zero rs (b ∷ s) h = first-group 0 b rs (readNumber (afters (b - 128) rs) s) (λ e. absurd (false≢true (sym (none-after (b - 128) rs h) ∙ e)))
+reads-short (suc k) rs (b ∷ s) h =
+    first-group (suc k) b rs (readNumber (afters (b - 128) rs) s)
+    (λ e. reads-short k (afters (b - 128) rs) s (below-afters (b - 128) (128 ^ suc k) rs (subst (λ (x : ℕ). Below x rs) (pow-suc 128 (suc k)) h)))
+
+module _ {X : Type 0} where
+  -- a format whose numbers take at most ten bytes each, and whose fields take at most k in all
+  abbrev Short : ℕ → Format X → Type 0
+  Short k (done x) = Unit {0}
+  Short k (number rs f) = (10 ≤ k) × Below (128 ^ 10) rs × ((n : ℕ) → Among n rs → Short (k - 10) (f n))
+  Short k (bytes m f) = (m ≤ k) × ((b : List ℕ) → Short (k - m) (f b))
+
+  short-more : (f : Format X) (j k : ℕ) → j ≤ k → Short j f → Short k f
+  short-more (done x) j k l h = tt
+  short-more (number rs f) j k l h = (omega (arith, h .0), h .1, λ n i. short-more (f n) (j - 10) (k - 10) (omega arith) (h .2 n i))
+  short-more (bytes m f) j k l h = (omega (arith, h .0), λ b. short-more (f b) (j - m) (k - m) (omega arith) (h .1 b))
+
+  -- at a place from 0 to k, if at all
+  abbrev pub Stops : ℕ → Parsed X → Type 0
+  Stops k (whole x) = Unit {0}
+  Stops k (stopped p) = p ≤ k
+
+  stops-later : (k l m : ℕ) (q : Parsed X) → l + m ≤ k → Stops m q → Stops k (later l q)
+  stops-later k l m (whole x) h w = tt
+  stops-later k l m (stopped p) h w = omega (arith, w)
+
+  parse-short : (f : Format X) (k : ℕ) → Short k f → (s : List ℕ) → Stops k (parse f s)
+  unfolding parse
+  parse-short (done x) k h [] = tt
+  parse-short (done x) k h (b ∷ s) = omega arith
+  parse-short (number rs f) k h s = go (readNumber rs s) (reads-short 9 rs s (h .1)) (λ n l i. parse-short (f n) (k - 10) (h .2 n i) (drop l s))
+    where
+      go : (r : Got) → Reach rs 10 r → ((n l : ℕ) → Among n rs → Stops (k - 10) (parse (f n) (drop l s)))
+          → Stops k (elim r [ value n l ↦ later l (parse (f n) (drop l s)) | fault p ↦ stopped p ])
+      go (value n l) w ih = stops-later k l (k - 10) (parse (f n) (drop l s)) (omega (arith, w .1, h .0)) (ih n l (w .0))
+      go (fault p) w ih = omega (arith, w, h .0)
+  parse-short (bytes m f) k h s = go (leb m (length s)) refl (parse-short (f (take m s)) (k - m) (h .1 (take m s)) (drop m s))
+    where
+      go : (t : Bool) → leb m (length s) ≡ t → Stops (k - m) (parse (f (take m s)) (drop m s))
+          → Stops k (elim t [ true ↦ later m (parse (f (take m s)) (drop m s)) | false ↦ stopped (length s) ])
+      go true e ih = stops-later k m (k - m) (parse (f (take m s)) (drop m s)) (omega (arith, h .0)) ih
+      go false e ih = omega (arith, h .0, leb-false m (length s) e)
+
+-- ---- the format of images
+
+among-span : {n a b : ℕ} → Among n (span a b) → (a ≤ n) × (n ≤ b)
+among-span (inl h) = h
+among-span (inr h) = absurd h
+
+power-small : (x : ℕ) → x ≤ 12 → 2 ^ x ≤ 4096
+power-small x h = pow-mono h
+
+room-next : (l room : ℕ) → 2 * l ≤ room → Room l 1 room
+room-next zero room h = tt
+room-next (suc l) room h = omega arith
+
+room-first : (c half : ℕ) → c ≤ half → Room c 0 (2 * half)
+room-first zero half h = tt
+room-first (suc c) half h = omega arith
+
+runs-fit : (f : List Run → Described) (l least room k : ℕ) → room ≤ 8192 → 21 * room ≤ k → Room l least room → Short k (runsFormat f l least room)
+unfolding runsFormat
+runs-fit f zero least room k small h w = tt
+runs-fit f (suc l) least room k small h w = (
+  omega arith,
+  (omega arith, tt),
+  λ g hg. let kg = among-span hg in (
+    omega arith,
+    (omega arith, tt),
+    λ n hn. let kn = among-span hn in (
+      omega arith,
+      λ b. runs-fit (λ rs. f (run g b ∷ rs)) l 1 (room - (g + n)) (k - 10 - 10 - n) (omega arith) (omega arith) (room-next l (room - (g + n)) (omega arith)),
+    ),
+  ),
+)
+
+-- what follows the version and the rule
+abbrev afterRule : (rule : ℕ) → Format Described
+afterRule rule =
+    number (span 6 9) λ r.
+    number (span (max 7 (suc r)) 12) λ m.
+    tilesFormat (2 ^ (m - r)) (2 ^ (r - 3)) λ t tm tk tn.
+    sealFormat λ st ln.
+    number (span 0 (2 ^ m)) λ c.
+    runsFormat (λ rs. record { header = record { rlen = r; mlen = m; mtype = t; tileM = tm; tileK = tk; tileN = tn; sealStart = st; sealLength = ln; rule = rule }; body = rs }) c 0 (total m)
+
+after-fits : (rule : ℕ) → Short (most - 20) (afterRule rule)
+after-fits rule = (
+  omega arith,
+  (omega arith, tt),
+  λ r hr. let kr = among-span hr in (
+    omega arith,
+    (omega arith, tt),
+    λ m hm.
+        let km = among-span hm in
+        let rows = power-small (m - r) (omega arith) in
+        let columns = power-small (r - 3) (omega arith) in
+        let size = power-small m (omega arith) in (
+          omega arith,
+          (omega arith, (omega arith, (omega arith, tt))),
+          λ t ht. (
+            omega arith,
+            (omega arith, tt),
+            λ tm htm. (
+              omega arith,
+              (omega arith, tt),
+              λ tk htk. (
+                omega arith,
+                (omega arith, tt),
+                λ tn htn. (
+                  omega arith,
+                  (omega arith, tt),
+                  λ st hst. (
+                    omega arith,
+                    (omega arith, tt),
+                    λ ln hln. (
+                      omega arith,
+                      (omega arith, tt),
+                      λ c hc. let kc = among-span hc in runs-fit _ c 0 (total m) (most - 110) (omega arith) (omega arith) (room-first c (2 ^ m) (kc .1)),
+                    ),
+                  ),
+                ),
+              ),
+            ),
+          ),
+        ),
+  ),
+)
+
+image-fits : Short most imageFormat
+unfolding imageFormat
+image-fits = (omega arith, (omega arith, tt), λ v hv. by (eqb v 2))
+  where
+    by : (t : Bool) → Short (most - 10) (cond t (number (span 1 1) afterRule) (afterRule 0))
+    by true = (omega arith, (omega arith, tt), λ r hr. after-fits r)
+    by false = short-more (afterRule 0) (most - 20) (most - 10) (omega arith) (after-fits 0)
+
+pub place-short : (s : List ℕ) → Stops most (parse imageFormat s)
+place-short = parse-short imageFormat most image-fits
