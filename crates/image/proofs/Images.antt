@@ -23,7 +23,6 @@ use Rattle.machine.specs.Faults.{sound, soundBench}
 use Rattle.machine.specs.Alike.{Alike}
 use Rattle.machine.proofs.TestLaws.{every-each, each-every, in-within}
 use Rattle.machine.proofs.Sealing.{seal-holds}
-use Rattle.image.specs.declared.Imaged.{Imaged}
 use Rattle.image.specs.declared.Imaged.the-variants.{Done, BadArguments, NoRoom}
 use Rattle.image.specs.Answers.{ImageReply, imageReply}
 use Rattle.image.specs.Cells.{Cell, Run, cellsOf, runs, spread, Fit, over, marksOf}

@@ -1,14 +1,13 @@
 -- Computed examples of images.
 use mathlib.Core.Path.{_≡_, refl}
 use mathlib.Core.List.{List, [], _∷_}
-use Prim.Native.Nat.{ℕ, _-_}
+use Prim.Native.Nat.{ℕ}
 use lib.ListN.{take}
 use Rattle.format.specs.Numbers.{groups, encode}
 use Rattle.format.specs.Parser.{isAmong, nonempty, readNumber, parse}
-use Rattle.image.specs.Cells.{cellsOf, Run, runs}
+use Rattle.image.specs.Cells.{cellsOf, runs}
 use Rattle.image.specs.Cells.Run.{run}
 use Rattle.image.specs.Images.{log2, headerOf, spelled}
-use Rattle.image.specs.declared.Imaged.{Imaged}
 use Rattle.image.specs.declared.Imaged.the-variants.{Done, Damaged}
 use Rattle.image.specs.ImageFormat.{runsFormat, imageFormat}
 use Rattle.image.specs.Reading.{checkImage, readImage}

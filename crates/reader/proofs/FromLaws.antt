@@ -17,7 +17,6 @@ use Rattle.format.specs.Parser.Got.{value, fault}
 use Rattle.format.specs.Parser.Parsed.{whole, stopped}
 use Rattle.format.proofs.NumberLaws.{isAmong-among}
 use Rattle.reader.specs.At.{found, numberAt}
-use Rattle.reader.specs.declared.Number.{Number}
 use Rattle.reader.specs.declared.Number.the-variants.{Value, Fault}
 
 -- ---- what a number that was read is known to be

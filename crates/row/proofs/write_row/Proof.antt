@@ -1,4 +1,3 @@
-use Prim.Native.Nat.{_-_}
 use lib.ListN.{length, getD, set}
 use Rattle.width.proofs.PutLaws.{upto-rest}
 use borrow.Author.Needs.{needs}

@@ -1,6 +1,6 @@
 use mathlib.Core.Path.{_≡_, sym, ap, ap₂, _∙_}
 use mathlib.Core.Bool.{false}
-use Prim.Native.Nat.{_-_, min}
+use Prim.Native.Nat.{min}
 use mathlib.Core.List.{[]}
 use Rattle.machine.specs.declared.Machine.{Machine}
 use Rattle.machine.specs.declared.Answer.the-variants.{Done}

@@ -1,5 +1,4 @@
 use mathlib.Core.Path.{ap₂}
-use Prim.Native.Nat.{_-_}
 use lib.Dec.{leb}
 use borrow.Author.Needs.{needs}
 use Rattle.settings.proofs.fits.Statement.{statement}

@@ -1,4 +1,3 @@
-use Prim.Native.Nat.{_-_}
 use native.Mathlib.Omega.{arith}
 use Rattle.settings.proofs.TypeLaws.{small-type, eight-type, other-type}
 use Rattle.settings.proofs.kept_type.Statement.{statement}

@@ -1,6 +1,6 @@
 use mathlib.Core.Path.{_≡_, sym, ap, _∙_}
 use mathlib.Core.Bool.{true}
-use Prim.Native.Nat.{ℕ, _-_}
+use Prim.Native.Nat.{ℕ}
 use Rattle.machine.specs.Setting.{mill}
 use Rattle.settings.specs.Parts.{sizeStepped, sizeScalars}
 use borrow.Author.Needs.{needs}

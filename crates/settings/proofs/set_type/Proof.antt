@@ -1,5 +1,4 @@
 use mathlib.Core.Path.{ap, _∙_}
-use Prim.Native.Nat.{_-_}
 use Rattle.settings.specs.Parts.{withType}
 use Rattle.machine.specs.Geometry.{withScalar}
 use borrow.Author.Needs.{needs}

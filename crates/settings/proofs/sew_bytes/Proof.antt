@@ -1,4 +1,3 @@
-use Prim.Native.Nat.{_-_}
 use native.Mathlib.Omega.{arith}
 use Rattle.settings.proofs.TypeLaws.{sew-one, sew-two, sew-four}
 use Rattle.settings.proofs.sew_bytes.Statement.{statement}

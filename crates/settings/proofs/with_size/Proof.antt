@@ -1,5 +1,4 @@
 use mathlib.Core.Path.{sym, ap}
-use Prim.Native.Nat.{_-_}
 use Rattle.machine.specs.declared.Dimension.{Dimension}
 use Rattle.settings.specs.Parts.{withSize}
 use borrow.Author.Needs.{needs}

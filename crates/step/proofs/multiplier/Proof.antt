@@ -1,4 +1,3 @@
-use Prim.Native.Nat.{_-_}
 use native.Mathlib.Omega.{arith}
 use Rattle.step.proofs.WordLaws.{multiplier-is}
 use Rattle.step.proofs.multiplier.Statement.{statement}

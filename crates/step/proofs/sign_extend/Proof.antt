@@ -1,5 +1,4 @@
 use mathlib.Core.Path.{refl}
-use Prim.Native.Nat.{_-_}
 use Rattle.step.proofs.WordLaws.{extend-low, extend-high}
 use borrow.Author.Needs.{needs}
 use Rattle.step.proofs.sign_extend.Statement.{statement}
