@@ -38,8 +38,12 @@ use Rattle.scalar_block.specs.ScalarBlock.{stepBlock}
 use Rattle.bench_calls.specs.BenchCalls.{startedOut, shownStart, hostStart, steppedOut, shownStep, hostStep}
 use Rattle.run_calls.specs.RunCalls.{runStartedOut, shownRunStart, hostRunStart}
 use Rattle.turn_calls.specs.TurnCalls.{turnBlocks, heldRunning, turnedOut, shownTurn, hostTurn, shownTurns, hostTurns, ranOut, shownRun, hostRun}
-use Rattle.calls.specs.Calls.{Buffers, Call, Called, afterStart, afterStep, afterRunStart, afterTurn, afterRun, called}
+use Rattle.image.specs.Answers.{imageReply}
+use Rattle.image.specs.Reading.{checkImage, ReadOutcome, readImage}
+use Rattle.image_calls.specs.ImageCalls.{packedReply, blockRefused, readOut, shownRead, hostImageRead}
+use Rattle.calls.specs.Calls.{Buffers, Call, Called, afterStart, afterStep, afterRunStart, afterTurn, afterRun, afterRead, called}
 use Rattle.calls.specs.Composed.{afterCalls, benchIn, SealedIn, SparesSeal, EachSparesSeal, SealHoldsOverCalls, SealHoldsFromStartCall}
+use Rattle.calls.proofs.Written.{putMachine-words}
 use Rattle.calls.proofs.Numbers.{machine-words, step-words, turn-machine, turns-machine}
 
 -- ---- what a call has to show
@@ -177,6 +181,27 @@ module _ (b : Buffers) (w : Words (machineOf (b .machine))) where
       go true h = shown (done (whole chosen P (benchIn b) .answer)) (first-length (eqb (length (b .steps)) 8 ∷ []) h)
       go false h = unchanged
 
+  -- the machine that an image has, and else the one that was
+  read-words : (image : List ℕ) → Words (machineOf (called (Call.imageRead image) b .after .machine))
+  unfolding hostImageRead
+  read-words image = go (eqb (length (b .machine)) machineBytes) refl
+    where
+      o : ReadOutcome
+      o = readImage image (b .registers) (b .marks)
+
+      out : Bool → Called
+      out t =
+          afterRead b (cond t (shownRead (b .machine) o)
+          (readOut (packedReply (imageReply (blockRefused (checkImage image))) 0) (b .machine) (b .registers) (b .marks)))
+
+      shown : (t : Bool) → length (b .machine) ≡ machineBytes → Words (machineOf (cond t (putMachine (o .machine) (b .machine)) (b .machine)))
+      shown true l = putMachine-words (o .machine) (b .machine) l
+      shown false l = w
+
+      go : (t : Bool) → eqb (length (b .machine)) machineBytes ≡ t → Words (machineOf (out t .after .machine))
+      go true e = shown (eqb (o .answer .number) 0) (eqb-true (length (b .machine)) machineBytes e)
+      go false e = w
+
   call-safe : (c : Call) → SparesSeal c b → SafeAfter (called c b)
   call-safe (Call.start rlen mlen rule sealStart sealLength) h = absurd h
   call-safe (Call.step word) h = step-safe word
@@ -185,6 +210,9 @@ module _ (b : Buffers) (w : Words (machineOf (b .machine))) where
   call-safe Call.runTurn h = turn-safe
   call-safe (Call.runTurns limit) h = turns-safe limit
   call-safe (Call.run P) h = run-safe P
+  call-safe Call.imageSize h = unchanged
+  call-safe (Call.imageWrite image) h = unchanged
+  call-safe (Call.imageRead image) h = record { words = read-words image; same-start = h .0; same-length = h .1; same-bytes = λ q x. refl }
   call-safe (Call.write v) h = subst (λ (machine : List ℕ). Safe b machine (v .memory)) (sym (h .0)) (stays (v .memory) (h .1))
 
 -- ---- one call after another

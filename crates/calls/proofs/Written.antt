@@ -1,15 +1,17 @@
 -- Blocks that are written over again: the numbers of a machine or a run fill their block, so what it held before is gone.
 use mathlib.Core.Path.{_≡_, refl, sym, ap, _∙_}
 use mathlib.Core.List.{List, [], _∷_}
-use Prim.Native.Nat.{ℕ, _+_, _*_, _/_, _%_, _<_}
+use Prim.Native.Nat.{ℕ, _+_, _*_, _/_, _%_, _^_, _<_}
 use native.Mathlib.Omega.{arith}
 use lib.ListN.{length, getD}
 use lib.Seq.{ext-getD}
-use Rattle.width.specs.Tile.{byteOf, putRow}
+use Rattle.width.specs.Tile.{le, byteOf, putRow}
 use Rattle.width.proofs.TileLaws.{length-putRow, putRow-at}
+use Rattle.width.proofs.WordLaws.{le-putRow}
 use Rattle.machine.specs.declared.Machine.{Machine}
 use Rattle.run.specs.declared.Run.{Run}
-use Rattle.blocks.specs.Blocks.{machineBytes, putMachine, putNumbers}
+use Rattle.blocks.specs.Blocks.{machineBytes, machineOf, putMachine, putNumbers}
+use Rattle.blocks.proofs.BlockLaws.{Words}
 use Rattle.run_blocks.specs.RunBlocks.{runBytes, putRun}
 use Rattle.run_blocks.proofs.RunBlockLaws.{length-putRun, numbersOfRun}
 
@@ -46,6 +48,26 @@ putMachine-fills m xs ys ex ey = putMachine-row m xs ∙ fills 9 (numbersOf m) x
 
 pub putMachine-over : (m m′ : Machine) (xs : List ℕ) → length xs ≡ machineBytes → putMachine m (putMachine m′ xs) ≡ putMachine m xs
 putMachine-over m m′ xs e = putMachine-fills m (putMachine m′ xs) xs (length-putMachine m′ xs ∙ e) e
+
+-- whatever is written, numbers of 64 bits are read back
+pub putMachine-words : (m : Machine) (xs : List ℕ) → length xs ≡ machineBytes → Words (machineOf (putMachine m xs))
+unfolding machineOf
+putMachine-words m xs e = record {
+  rlen = at 0 (omega arith);
+  mlen = at 1 (omega arith);
+  mtype = at 2 (omega arith);
+  tile-m = at 3 (omega arith);
+  tile-k = at 4 (omega arith);
+  tile-n = at 5 (omega arith);
+  seal-start = at 6 (omega arith);
+  seal-length = at 7 (omega arith);
+  rule = at 8 (omega arith);
+}
+  where
+    at : (j : ℕ) → j < 9 → le (putMachine m xs) (0 + j * 8) 8 < 2 ^ 64
+    at j l =
+        let v : le (putMachine m xs) (0 + j * 8) 8 ≡ numbersOf m j % 256 ^ 8 = ap (λ (ys : List ℕ). le ys (0 + j * 8) 8) (putMachine-row m xs) ∙ le-putRow 0 9 8 (numbersOf m) xs (omega arith) j l in
+        omega (arith, v)
 
 -- ---- a run's block
 

@@ -1,11 +1,12 @@
--- A host's buffers, the calls that it makes of the C functions on machines and runs (include/bodlarina.h; those on images are not among
--- them), what it does between them, and what each leaves.
+-- A host's buffers, the calls that it makes of the C functions on machines, runs and images (include/bodlarina.h), what it does between
+-- them, and what each leaves.
 use mathlib.Core.List.{List, [], _∷_}
 use Prim.Native.Nat.{ℕ}
 use Rattle.run.specs.declared.Plan.{Plan}
 use Rattle.bench_calls.specs.BenchCalls.{HostStarted, hostStart, HostStepped, hostStep}
 use Rattle.run_calls.specs.RunCalls.{HostRunStarted, hostRunStart, HostNext, hostNext}
 use Rattle.turn_calls.specs.TurnCalls.{HostTurned, hostTurn, hostTurns, HostRan, hostRun}
+use Rattle.image_calls.specs.ImageCalls.{hostImageSize, hostImageWrite, HostRead, hostImageRead}
 
 -- ---- buffers
 
@@ -34,6 +35,8 @@ buffers machine registers marks scalars memory run step steps = record {
 -- ---- calls
 
 -- bodlarina_start, bodlarina_step, bodlarina_run_start, bodlarina_run_next, bodlarina_run_turn, bodlarina_run_turns and bodlarina_run;
+-- bodlarina_image_size, bodlarina_image_write and bodlarina_image_read, where the lent image is an argument of the call: it is none of the
+-- buffers above, and of what bodlarina_image_write leaves in it a list of calls keeps nothing (image_calls/specs/ImageCalls.antt has it);
 -- and between them the host writes its buffers, all but registers and marks, as it likes
 pub data Call : Type 0 where
   start : (rlen mlen rule sealStart sealLength : ℕ) → Call
@@ -43,6 +46,9 @@ pub data Call : Type 0 where
   runTurn : Call
   runTurns : (limit : ℕ) → Call
   run : Plan → Call
+  imageSize : Call
+  imageWrite : (image : List ℕ) → Call
+  imageRead : (image : List ℕ) → Call
   write : Buffers → Call
 
 -- what a call returns, and the buffers after it
@@ -87,6 +93,12 @@ afterRun b o = record {
   after = buffers (o .machine) (o .registers) (o .marks) (b .scalars) (o .memory) (b .run) (b .step) (o .steps);
 }
 
+abbrev pub afterRead : Buffers → HostRead → Called
+afterRead b o = record {
+  result = o .result;
+  after = buffers (o .machine) (o .registers) (o .marks) (b .scalars) (b .memory) (b .run) (b .step) (b .steps);
+}
+
 abbrev pub called : Call → Buffers → Called
 called (Call.start rlen mlen rule sealStart sealLength) b =
     afterStart b (hostStart rlen mlen rule sealStart sealLength (b .machine) (b .registers) (b .marks))
@@ -96,6 +108,9 @@ called Call.runNext b = afterNext b (hostNext (b .run) (b .step))
 called Call.runTurn b = afterTurn b (hostTurn (b .run) (b .machine) (b .registers) (b .marks) (b .memory))
 called (Call.runTurns limit) b = afterTurn b (hostTurns limit (b .run) (b .machine) (b .registers) (b .marks) (b .memory))
 called (Call.run P) b = afterRun b (hostRun P (b .machine) (b .registers) (b .marks) (b .memory) (b .steps))
+called Call.imageSize b = record { result = hostImageSize (b .machine) (b .registers) (b .marks); after = b }
+called (Call.imageWrite image) b = record { result = hostImageWrite (b .machine) (b .registers) (b .marks) image .result; after = b }
+called (Call.imageRead image) b = afterRead b (hostImageRead image (b .machine) (b .registers) (b .marks))
 called (Call.write w) b = record {
   result = 0;
   after = buffers (w .machine) (b .registers) (b .marks) (w .scalars) (w .memory) (w .run) (w .step) (w .steps);

@@ -7,6 +7,7 @@ use Prim.Native.Nat.{ℕ, suc, _+_, _^_, _≤_, _<_}
 use lib.ListN.{length, getD, replicate}
 use lib.Dec.{eqb}
 use Rattle.width.specs.Tile.{In}
+use Rattle.machine.specs.declared.Machine.{Machine}
 use Rattle.machine.specs.declared.Reply.{Reply}
 use Rattle.machine.specs.Geometry.{Bench, benchOf}
 use Rattle.machine.specs.Setting.{chosen}
@@ -144,8 +145,9 @@ RunIsTurnCalls = (P : Plan) (b : Buffers) → PlanWords P → Bytes (b .machine)
 abbrev pub SealedIn : Buffers → ℕ → Type 0
 SealedIn b q = In (machineOf (b .machine) .«seal_start») (machineOf (b .machine) .«seal_length») q
 
--- A call that is not bodlarina_start. Of what the host writes between calls, which is never registers or marks (Calls.antt): the machine's
--- block and the sealed bytes of memory stay, the rest may change.
+-- A call that is not bodlarina_start. bodlarina_image_read replaces the machine: where it is done the image has the same seal, and a refused
+-- one leaves the machine's block. Of what the host writes between calls, which is never registers or marks (Calls.antt): the machine's block
+-- and the sealed bytes of memory stay, the rest may change.
 abbrev pub SparesSeal : Call → Buffers → Type 0
 SparesSeal (Call.start rlen mlen rule sealStart sealLength) b = ⊥
 SparesSeal (Call.step word) b = Unit {0}
@@ -154,6 +156,11 @@ SparesSeal Call.runNext b = Unit {0}
 SparesSeal Call.runTurn b = Unit {0}
 SparesSeal (Call.runTurns limit) b = Unit {0}
 SparesSeal (Call.run P) b = Unit {0}
+SparesSeal Call.imageSize b = Unit {0}
+SparesSeal (Call.imageWrite image) b = Unit {0}
+SparesSeal (Call.imageRead image) b =
+    let m : Machine = machineOf (called (Call.imageRead image) b .after .machine) in
+    (m .«seal_start» ≡ machineOf (b .machine) .«seal_start») × (m .«seal_length» ≡ machineOf (b .machine) .«seal_length»)
 SparesSeal (Call.write w) b = (w .machine ≡ b .machine) × ((q : ℕ) → SealedIn b q → getD (w .memory) q 0 ≡ getD (b .memory) q 0)
 
 -- so of each call of a list, on the buffers that it gets

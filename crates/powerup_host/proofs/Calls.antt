@@ -1,40 +1,81 @@
 -- Request Nine, of the C functions: each call is a function of its blocks and of what a step, a run's start, its turns or a whole run gives.
 use mathlib.Core.Path.{_≡_, refl, sym, ap, ap₂, _∙_, subst}
 use mathlib.Core.Bool.{Bool, true, false, cond}
-use mathlib.Core.List.{List, [], _∷_}
-use Prim.Native.Nat.{ℕ, zero}
+use mathlib.Core.List.{List, [], _∷_, _++_}
+use mathlib.Core.Option.{none, some}
+use Prim.Native.Nat.{ℕ, zero, suc}
 use native.Mathlib.Omega.{arith}
-use lib.ListN.{length, replicate}
-use lib.Dec.{eqb}
+use lib.ListN.{length, drop, getD, replicate}
+use lib.Dec.{leb, eqb}
 use borrow.Author.Tests.{eqb-true}
 use Rattle.machine.specs.declared.Machine.{Machine}
 use Rattle.machine.specs.declared.Answer.the-variants.{Done, BadArguments}
 use Rattle.machine.specs.Tests.{every}
 use Rattle.machine.specs.declared.Reply.{Reply}
 use Rattle.machine.specs.Answers.{reply, done}
-use Rattle.machine.specs.Geometry.{Bench, benchOf}
+use Rattle.machine.specs.Geometry.{registerBytes, Bench, benchOf}
 use Rattle.machine.specs.Setting.{chosen}
 use Rattle.machine.specs.Starting.{startable, startMachine, freshMachine, noMachine}
+use Rattle.machine.specs.Faults.{sound}
 use Rattle.machine.specs.Alike.{Agree}
 use Rattle.run.specs.declared.Plan.{Plan}
 use Rattle.run.specs.declared.Run.{Run}
 use Rattle.run.specs.Start.{startRun}
 use Rattle.run.specs.Turn.{Running, turnOutcome, turns}
-use Rattle.run.specs.Whole.{whole}
+use Rattle.run.specs.Whole as Whole
 use Rattle.blocks.specs.Blocks.{machineBytes, machineOf, putMachine, valuesOf, putValues, putNumbers, packed}
 use Rattle.run_blocks.specs.RunBlocks.{runBytes, putRun}
 use Rattle.scalar_block.specs.ScalarBlock.{stepBlock}
 use Rattle.bench_calls.specs.BenchCalls.{startedOut, shownStart, hostStart, steppedOut, shownStep, hostStep}
 use Rattle.run_calls.specs.RunCalls.{runStartedOut, shownRunStart, hostRunStart}
 use Rattle.turn_calls.specs.TurnCalls.{turnedOut, shownRunning, heldRunning, turnBlocks, shownTurn, hostTurn, shownTurns, hostTurns, ranOut, shownRun, hostRun}
+use Rattle.format.specs.Parser.{Parsed, parse}
+use Rattle.format.specs.Parser.Parsed.{whole, stopped}
+use Rattle.image.specs.declared.Imaged.the-variants as Image
+use Rattle.image.specs.Answers.{imageReply}
+use Rattle.image.specs.Cells.{Cell, over, marksOf}
+use Rattle.image.specs.Images.{machineFrom, imageOf}
+use Rattle.image.specs.ImageFormat.{Described, imageFormat}
+use Rattle.image.specs.Writing.{SizeOutcome, sized, sizeImage, WriteOutcome, written, writeImage}
+use Rattle.image.specs.Reading.{verdictOf, checkImage, restored, cellsIn, fitted, readAs, readImage}
+use Rattle.image.proofs.Images.{alike-one-image}
+use Rattle.image_calls.specs.ImageCalls.{packedReply, hostImageSize, HostWritten, writtenOut, hostImageWrite, blockRefused, readOut, shownRead, hostImageRead}
 use Rattle.powerup.specs.Steps.{AlikeBenches}
 use Rattle.powerup.specs.Runs.{SameRunning}
-use Rattle.powerup.proofs.Steps.{step-ignores-unmarked}
+use Rattle.powerup.proofs.Steps.{sound-same, step-ignores-unmarked}
 use Rattle.powerup.proofs.Runs.{run-start-ignores-unmarked, turns-ignore-unmarked, whole-ignores-unmarked}
 use Rattle.powerup.proofs.PowerUp.{unmarked-agree, startable-same}
 use Rattle.calls.proofs.Written.{putMachine-fills}
-use Rattle.calls.specs.Calls.{Buffers, buffers, Call, Called, afterStart, afterStep, afterRunStart, afterTurn, afterRun, called}
-use Rattle.powerup_host.specs.Calls.{AlikeBuffers, SameCalled, CallIgnoresUnmarked, CallsIgnoreUnmarked, AtPowerUp, PowerUpNeverMattersToHosts}
+use Rattle.calls.specs.Calls.{Buffers, buffers, Call, Called, afterStart, afterStep, afterRunStart, afterTurn, afterRun, afterRead, called}
+use Rattle.powerup_host.specs.Calls.{AlikeBuffers, SameCalled, CallIgnoresUnmarked, CallsIgnoreUnmarked, ImageWriteIgnoresUnmarked, AtPowerUp, PowerUpNeverMattersToHosts, PowerUpNeverMattersToReaders}
+
+-- ---- cells in lent registers
+
+length-over-same : (cs : List Cell) (xs ys : List ℕ) → length xs ≡ length ys → length (over cs xs) ≡ length (over cs ys)
+length-over-same [] xs ys n = refl
+length-over-same (c ∷ cs) [] [] n = refl
+length-over-same (c ∷ cs) [] (y ∷ ys) n = absurd (omega (arith, n))
+length-over-same (c ∷ cs) (x ∷ xs) [] n = absurd (omega (arith, n))
+length-over-same (none ∷ cs) (x ∷ xs) (y ∷ ys) n = ap suc (length-over-same cs xs ys (omega (arith, n)))
+length-over-same (some v ∷ cs) (x ∷ xs) (y ∷ ys) n = ap suc (length-over-same cs xs ys (omega (arith, n)))
+
+marked-over-same : (cs : List Cell) (xs ys : List ℕ) → length xs ≡ length ys → (q : ℕ) → getD (marksOf cs) q 0 ≡ 1 → getD (over cs xs) q 0 ≡ getD (over cs ys) q 0
+marked-over-same [] xs ys n q h = refl
+marked-over-same (c ∷ cs) [] [] n q h = refl
+marked-over-same (c ∷ cs) [] (y ∷ ys) n q h = absurd (omega (arith, n))
+marked-over-same (c ∷ cs) (x ∷ xs) [] n q h = absurd (omega (arith, n))
+marked-over-same (none ∷ cs) (x ∷ xs) (y ∷ ys) n zero h = absurd (omega (arith, h))
+marked-over-same (some v ∷ cs) (x ∷ xs) (y ∷ ys) n zero h = refl
+marked-over-same (none ∷ cs) (x ∷ xs) (y ∷ ys) n (suc q) h = marked-over-same cs xs ys (omega (arith, n)) q h
+marked-over-same (some v ∷ cs) (x ∷ xs) (y ∷ ys) n (suc q) h = marked-over-same cs xs ys (omega (arith, n)) q h
+
+over-agree : (cs : List Cell) (xs ys : List ℕ) → length xs ≡ length ys → Agree (marksOf cs) (over cs xs) (over cs ys)
+over-agree cs xs ys n = record { same-length = length-over-same cs xs ys n; same-bytes = marked-over-same cs xs ys n }
+
+fitted-same : (d : Described) (xs ys ms ns : List ℕ) → length xs ≡ length ys → length ms ≡ length ns → fitted d xs ms ≡ fitted d ys ns
+fitted-same d xs ys ms ns e f =
+    let size : ℕ = registerBytes (machineFrom (d .header) .mlen) in
+    ap₂ (λ (x m : ℕ). every (eqb x size ∷ eqb m size ∷ [])) e f
 
 -- ---- one call, on buffers that differ in their registers only
 
@@ -194,7 +235,7 @@ module _ (b : Buffers) (ys : List ℕ) (a : Agree (b .marks) (b .registers) ys) 
     where
       out : Bool → List ℕ → Called
       out t xs =
-          afterRun b (cond t (shownRun (b .machine) (b .steps) (whole chosen P (bench xs))) (ranOut (packed (reply BadArguments)) (b .machine) xs (b .marks) (b .memory) (b .steps)))
+          afterRun b (cond t (shownRun (b .machine) (b .steps) (Whole.whole chosen P (bench xs))) (ranOut (packed (reply BadArguments)) (b .machine) xs (b .marks) (b .memory) (b .steps)))
 
       go : (t : Bool) → SameCalled (out t (b .registers)) (out t ys)
       go true =
@@ -214,6 +255,54 @@ module _ (b : Buffers) (ys : List ℕ) (a : Agree (b .marks) (b .registers) ys) 
           }
       go false = record { same-result = refl; alike-after = kept }
 
+  -- ---- images
+
+  one-image : imageOf (machineOf (b .machine)) (b .registers) (b .marks) ≡ imageOf (machineOf (b .machine)) ys (b .marks)
+  one-image = alike-one-image (bench (b .registers)) (bench ys) (benches .alike)
+
+  sound-alike : sound (machineOf (b .machine)) (b .registers) (b .marks) ≡ sound (machineOf (b .machine)) ys (b .marks)
+  sound-alike = sound-same (machineOf (b .machine)) (b .registers) ys (b .marks) (a .same-length)
+
+  image-size-same : hostImageSize (b .machine) (b .registers) (b .marks) ≡ hostImageSize (b .machine) ys (b .marks)
+  unfolding hostImageSize sizeImage
+  image-size-same =
+      ap₂ (λ (t : Bool) (s : List ℕ).
+      let o : SizeOutcome = cond t (sized Image.Done (length s)) (sized Image.BadArguments 0) in
+      cond (eqb (length (b .machine)) machineBytes) (packedReply (o .answer) (o .size)) (packedReply (imageReply Image.BadArguments) 0))
+      sound-alike one-image
+
+  image-write-same : (image : List ℕ) → hostImageWrite (b .machine) (b .registers) (b .marks) image ≡ hostImageWrite (b .machine) ys (b .marks) image
+  unfolding hostImageWrite writeImage
+  image-write-same image =
+      ap₂ (λ (t : Bool) (s : List ℕ).
+      let o : WriteOutcome = cond t (cond (leb (length s) (length image)) (written Image.Done (length s) (s ++ drop (length s) image)) (written Image.NoRoom 0 image)) (written Image.BadArguments 0 image) in
+      cond (eqb (length (b .machine)) machineBytes) (writtenOut (packedReply (o .answer) (o .size)) (o .room)) (writtenOut (packedReply (imageReply Image.BadArguments) 0) image))
+      sound-alike one-image
+
+  image-read-same : (image : List ℕ) → SameCalled (called (Call.imageRead image) b) (called (Call.imageRead image) (with b ys))
+  unfolding hostImageRead readImage checkImage
+  image-read-same image = go (eqb (length (b .machine)) machineBytes) (parse imageFormat image)
+    where
+      out : Bool → Parsed Described → List ℕ → Called
+      out t q xs =
+          afterRead b (cond t (shownRead (b .machine) (readAs q xs (b .marks))) (readOut (packedReply (imageReply (blockRefused (verdictOf q))) 0) (b .machine) xs (b .marks)))
+
+      -- an image of which the buffers are of the machine's size, or not
+      fits : Described → Bool → List ℕ → Called
+      fits d u xs =
+          afterRead b (shownRead (b .machine) (cond u (restored Image.Done (machineFrom (d .header)) (over (cellsIn d) xs) (marksOf (cellsIn d))) (restored Image.BadArguments noMachine xs (b .marks))))
+
+      fit : (d : Described) (u : Bool) → SameCalled (fits d u (b .registers)) (fits d u ys)
+      fit d true = record { same-result = refl; alike-after = agreeing _ _ _ _ _ _ _ _ _ (over-agree (cellsIn d) (b .registers) ys (a .same-length)) }
+      fit d false = record { same-result = refl; alike-after = kept }
+
+      go : (t : Bool) (q : Parsed Described) → SameCalled (out t q (b .registers)) (out t q ys)
+      go true (stopped p) = record { same-result = refl; alike-after = kept }
+      go true (whole d) =
+          subst (λ (u : Bool). SameCalled (out true (whole d) (b .registers)) (fits d u ys)) (fitted-same d (b .registers) ys (b .marks) (b .marks) (a .same-length) refl)
+          (fit d (fitted d (b .registers) (b .marks)))
+      go false q = record { same-result = refl; alike-after = kept }
+
   each-same : (c : Call) → SameCalled (called c b) (called c (with b ys))
   each-same (Call.start rlen mlen rule sealStart sealLength) = start-same rlen mlen rule sealStart sealLength
   each-same (Call.step word) = step-same word
@@ -222,6 +311,9 @@ module _ (b : Buffers) (ys : List ℕ) (a : Agree (b .marks) (b .registers) ys) 
   each-same Call.runTurn = turn-same
   each-same (Call.runTurns limit) = turns-same limit
   each-same (Call.run P) = run-same P
+  each-same Call.imageSize = record { same-result = image-size-same; alike-after = kept }
+  each-same (Call.imageWrite image) = record { same-result = ap (λ (o : HostWritten). o .result) (image-write-same image); alike-after = kept }
+  each-same (Call.imageRead image) = image-read-same image
   each-same (Call.write w) = record { same-result = refl; alike-after = agreeing _ _ _ _ _ _ _ _ _ a }
 
 pub call-ignores-unmarked : CallIgnoresUnmarked
@@ -234,6 +326,11 @@ pub calls-ignore-unmarked : CallsIgnoreUnmarked
 calls-ignore-unmarked [] b b′ t = tt
 calls-ignore-unmarked (c ∷ cs) b b′ t =
     let s = call-ignores-unmarked c b b′ t in (s, calls-ignore-unmarked cs (called c b .after) (called c b′ .after) (s .alike-after))
+
+pub image-write-ignores-unmarked : ImageWriteIgnoresUnmarked
+image-write-ignores-unmarked image b b′ t =
+    image-write-same b (b′ .registers) (t .agree) image
+    ∙ ap₂ (λ (machine marks : List ℕ). hostImageWrite machine (b′ .registers) marks image) (t .same-machine) (t .same-marks)
 
 -- ---- from a start on
 
@@ -277,4 +374,68 @@ power-up-never-matters-to-hosts rlen mlen rule sealStart sealLength b b′ p =
       alike-after = s .1;
       same-calls = λ d cs.
           calls-ignore-unmarked cs (called (Call.start rlen mlen rule sealStart sealLength) b .after) (called (Call.start rlen mlen rule sealStart sealLength) b′ .after) (s .1 d);
+    }
+
+-- ---- from the reading of an image on
+
+arguments-refuse : ¬ (packedReply (imageReply Image.BadArguments) 0 ≡ 0)
+unfolding packedReply
+arguments-refuse e = let z : _≡_ {A = ℕ} 8 0 = e in absurd (omega arith)
+
+damage-refuses : (p : ℕ) → ¬ (packedReply (imageReply (Image.Damaged p)) 0 ≡ 0)
+unfolding packedReply
+damage-refuses p e = omega (arith, e)
+
+module _ (image : List ℕ) (b b′ : Buffers) (p : AtPowerUp b b′) where
+  -- what a read leaves, by its test on the machine's block
+  abbrev readOn : Buffers → Bool → Parsed Described → Called
+  readOn c t q =
+      afterRead c (cond t (shownRead (c .machine) (readAs q (c .registers) (c .marks)))
+      (readOut (packedReply (imageReply (blockRefused (verdictOf q))) 0) (c .machine) (c .registers) (c .marks)))
+
+  -- and of an image, by that on the other buffers
+  abbrev fitsOn : Buffers → Described → Bool → Called
+  fitsOn c d u =
+      afterRead c (shownRead (c .machine) (cond u
+      (restored Image.Done (machineFrom (d .header)) (over (cellsIn d) (c .registers)) (marksOf (cellsIn d)))
+      (restored Image.BadArguments noMachine (c .registers) (c .marks))))
+
+  fits-both : (d : Described) (u : Bool) → length (b .machine) ≡ machineBytes → Starts (fitsOn b d u) (fitsOn b′ d u)
+  fits-both d true n = (
+    refl,
+    λ z. record {
+      same-machine = putMachine-fills (machineFrom (d .header)) (b .machine) (b′ .machine) n (sym (p .machine-length) ∙ n);
+      same-marks = refl;
+      agree = over-agree (cellsIn d) (b .registers) (b′ .registers) (p .registers-length);
+      same-scalars = p .same-scalars;
+      same-memory = p .same-memory;
+      same-run = p .same-run;
+      same-step = p .same-step;
+      same-steps = p .same-steps;
+    },
+  )
+  fits-both d false n = (refl, λ z. absurd (arguments-refuse z))
+
+  reads : (t : Bool) → eqb (length (b .machine)) machineBytes ≡ t → (q : Parsed Described) → Starts (readOn b t q) (readOn b′ t q)
+  reads true e (whole d) =
+      subst (λ (u : Bool). Starts (readOn b true (whole d)) (fitsOn b′ d u)) (fitted-same d (b .registers) (b′ .registers) (b .marks) (b′ .marks) (p .registers-length) (p .marks-length))
+      (fits-both d (fitted d (b .registers) (b .marks)) (eqb-true (length (b .machine)) machineBytes e))
+  reads true e (stopped k) = (refl, λ z. absurd (damage-refuses k z))
+  reads false e (whole d) = (refl, λ z. absurd (arguments-refuse z))
+  reads false e (stopped k) = (refl, λ z. absurd (damage-refuses k z))
+
+  both-read : Starts (called (Call.imageRead image) b) (called (Call.imageRead image) b′)
+  unfolding hostImageRead readImage checkImage
+  both-read =
+      subst (λ (t : Bool). Starts (called (Call.imageRead image) b) (readOn b′ t (parse imageFormat image)))
+      (ap (λ (n : ℕ). eqb n machineBytes) (p .machine-length))
+      (reads (eqb (length (b .machine)) machineBytes) refl (parse imageFormat image))
+
+pub power-up-never-matters-to-readers : PowerUpNeverMattersToReaders
+power-up-never-matters-to-readers image b b′ p =
+    let s = both-read image b b′ p in
+    record {
+      same-result = s .0;
+      alike-after = s .1;
+      same-calls = λ d cs. calls-ignore-unmarked cs (called (Call.imageRead image) b .after) (called (Call.imageRead image) b′ .after) (s .1 d);
     }

@@ -5,6 +5,7 @@ use mathlib.Core.List.{List, [], _∷_}
 use Prim.Native.Nat.{ℕ}
 use lib.ListN.{length}
 use Rattle.machine.specs.Alike.{Agree}
+use Rattle.image_calls.specs.ImageCalls.{hostImageWrite}
 use Rattle.calls.specs.Calls.{Buffers, Call, Called, called, calls}
 
 -- ---- the statements
@@ -39,7 +40,12 @@ EachSameCalled (o ∷ os) (o′ ∷ os′) = SameCalled o o′ × EachSameCalled
 abbrev pub CallsIgnoreUnmarked : Type 0
 CallsIgnoreUnmarked = (cs : List Call) (b b′ : Buffers) → AlikeBuffers b b′ → EachSameCalled (calls cs b) (calls cs b′)
 
--- ---- from a start on
+-- what bodlarina_image_write returns and leaves in the lent image, of which a list of calls keeps the result only
+abbrev pub ImageWriteIgnoresUnmarked : Type 0
+ImageWriteIgnoresUnmarked = (image : List ℕ) (b b′ : Buffers) → AlikeBuffers b b′
+    → hostImageWrite (b .machine) (b .registers) (b .marks) image ≡ hostImageWrite (b′ .machine) (b′ .registers) (b′ .marks) image
+
+-- ---- from a start or from the reading of an image on
 
 -- at power-up: registers, marks and the machine's block of the same lengths, whatever they hold; the other buffers are equal
 pub record AtPowerUp (b b′ : Buffers) : Type 0 where
@@ -52,7 +58,7 @@ pub record AtPowerUp (b b′ : Buffers) : Type 0 where
   pub same-step : b .step ≡ b′ .step
   pub same-steps : b .steps ≡ b′ .steps
 
--- both starts give the same result; where they are accepted, the buffers after them differ at most in unmarked register bytes, and the
+-- both calls give the same result; where they are accepted, the buffers after them differ at most in unmarked register bytes, and the
 -- same calls after them give the same
 pub record SameFromStart (o o′ : Called) : Type 0 where
   pub same-result : o .result ≡ o′ .result
@@ -62,3 +68,7 @@ pub record SameFromStart (o o′ : Called) : Type 0 where
 abbrev pub PowerUpNeverMattersToHosts : Type 0
 PowerUpNeverMattersToHosts = (rlen mlen rule sealStart sealLength : ℕ) (b b′ : Buffers) → AtPowerUp b b′
     → SameFromStart (called (Call.start rlen mlen rule sealStart sealLength) b) (called (Call.start rlen mlen rule sealStart sealLength) b′)
+
+abbrev pub PowerUpNeverMattersToReaders : Type 0
+PowerUpNeverMattersToReaders = (image : List ℕ) (b b′ : Buffers) → AtPowerUp b b′
+    → SameFromStart (called (Call.imageRead image) b) (called (Call.imageRead image) b′)
