@@ -36,7 +36,7 @@ abbrev pub Room : ℕ → ℕ → ℕ → Type 0
 Room zero least room = Unit {0}
 Room (suc l) least room = least + (1 + 2 * l) ≤ room
 
-room-next : (l room : ℕ) → 2 * l ≤ room → Room l 1 room
+pub room-next : (l room : ℕ) → 2 * l ≤ room → Room l 1 room
 room-next zero room h = tt
 room-next (suc l) room h = omega arith
 
@@ -44,7 +44,7 @@ abbrev pub AllBytes : List Run → Type 0
 AllBytes [] = Unit {0}
 AllBytes (run g b ∷ rs) = Bytes b × AllBytes rs
 
-among-span : {n a b : ℕ} → Among n (span a b) → (a ≤ n) × (n ≤ b)
+pub among-span : {n a b : ℕ} → Among n (span a b) → (a ≤ n) × (n ≤ b)
 among-span (inl h) = h
 among-span (inr h) = absurd h
 
@@ -114,16 +114,16 @@ runs-in f least room (run g b ∷ rs) h k =
       ),
     )
 
-room-first : (c half : ℕ) → c ≤ half → Room c 0 (2 * half)
+pub room-first : (c half : ℕ) → c ≤ half → Room c 0 (2 * half)
 room-first zero half h = tt
 room-first (suc c) half h = omega arith
 
-fit-first : (n : ℕ) (rs : List Run) → Fit 0 n rs → 2 * length rs ≤ n + 1
+pub fit-first : (n : ℕ) (rs : List Run) → Fit 0 n rs → 2 * length rs ≤ n + 1
 fit-first n [] h = omega arith
 fit-first n (run g b ∷ rs) h = omega (arith, h .0, fit-many (n - (g + length b)) rs (h .1))
 
 -- what follows the version and the rule
-abbrev afterRule : (rule : ℕ) → Format Described
+abbrev pub afterRule : (rule : ℕ) → Format Described
 afterRule rule =
     number (span 6 9) λ r.
     number (span (max 7 (suc r)) 12) λ m.

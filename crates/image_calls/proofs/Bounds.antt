@@ -25,10 +25,10 @@ use Rattle.machine.proofs.StepLaws.{permitted-bounds}
 use Rattle.image.specs.Cells.{Cell, Run, runs, cellsOf, Fit}
 use Rattle.image.specs.Cells.Run.{run}
 use Rattle.image.specs.Images.{headerOf, version, fields, runsBytes, imageOf}
-use Rattle.image.specs.ImageFormat.{Described, mtypes, tilesFormat, sealFormat, total, runsFormat, imageFormat}
-use Rattle.image.proofs.RunLaws.{fit-runs, fit-many}
+use Rattle.image.specs.ImageFormat.{Described, mtypes, total, runsFormat, imageFormat}
+use Rattle.image.proofs.RunLaws.{fit-runs}
 use Rattle.image.proofs.CellLaws.{length-cells}
-use Rattle.image.proofs.ImageLaws.{Room}
+use Rattle.image.proofs.ImageLaws.{Room, room-next, room-first, among-span, fit-first, afterRule}
 use Rattle.image.proofs.HeaderLaws.{held}
 
 -- more bytes than any image has
@@ -61,11 +61,6 @@ runs-short least n (run g b ∷ rs) h f =
       length-append b (runsBytes rs),
       rest,
     )
-
--- each run but the first takes a cell of gap and one of its own
-fit-first : (n : ℕ) (rs : List Run) → Fit 0 n rs → length rs ≤ n
-fit-first n [] h = omega arith
-fit-first n (run g b ∷ rs) h = omega (arith, h .0, fit-many (n - (g + length b)) rs (h .1))
 
 mtype-small : (t : ℕ) → Among t mtypes → t < 2 ^ 64
 mtype-small t (inl h) = omega arith
@@ -201,20 +196,8 @@ module _ {X : Type 0} where
 
 -- ---- the format of images
 
-among-span : {n a b : ℕ} → Among n (span a b) → (a ≤ n) × (n ≤ b)
-among-span (inl h) = h
-among-span (inr h) = absurd h
-
 power-small : (x : ℕ) → x ≤ 12 → 2 ^ x ≤ 4096
 power-small x h = pow-mono h
-
-room-next : (l room : ℕ) → 2 * l ≤ room → Room l 1 room
-room-next zero room h = tt
-room-next (suc l) room h = omega arith
-
-room-first : (c half : ℕ) → c ≤ half → Room c 0 (2 * half)
-room-first zero half h = tt
-room-first (suc c) half h = omega arith
 
 runs-fit : (f : List Run → Described) (l least room k : ℕ) → room ≤ 8192 → 21 * room ≤ k → Room l least room → Short k (runsFormat f l least room)
 unfolding runsFormat
@@ -231,16 +214,6 @@ runs-fit f (suc l) least room k small h w = (
     ),
   ),
 )
-
--- what follows the version and the rule
-abbrev afterRule : (rule : ℕ) → Format Described
-afterRule rule =
-    number (span 6 9) λ r.
-    number (span (max 7 (suc r)) 12) λ m.
-    tilesFormat (2 ^ (m - r)) (2 ^ (r - 3)) λ t tm tk tn.
-    sealFormat λ st ln.
-    number (span 0 (2 ^ m)) λ c.
-    runsFormat (λ rs. record { header = record { rlen = r; mlen = m; mtype = t; tileM = tm; tileK = tk; tileN = tn; sealStart = st; sealLength = ln; rule = rule }; body = rs }) c 0 (total m)
 
 after-fits : (rule : ℕ) → Short (most - 20) (afterRule rule)
 after-fits rule = (
