@@ -6,7 +6,6 @@ use Prim.Native.Nat.{ℕ, zero, suc, _/_, _%_, _^_, _≤_, _<_}
 use native.Mathlib.Nat.{mul-le-mul-left}
 use native.Mathlib.Omega.{arith}
 use lib.Dec.{ltb}
-use Rattle.machine.specs.declared.Answer.{Answer}
 use Rattle.machine.specs.declared.Wrong.the-variants.{Opcode, LeftOut, Unlisted, Register}
 use Rattle.machine.specs.declared.Matrix.{Matrix}
 use Rattle.machine.specs.declared.Matrix.the-variants.{MatrixA, MatrixB, MatrixC}
