@@ -1,5 +1,5 @@
--- What a call of the C interface answers of itself, and how a plan lies in its numbers (include/bodlarina.h). What the other calls answer and
--- leave is defined in bench_calls, run_calls, turn_calls and image_calls.
+-- The version that bodlarina_version returns, and the plan in a call's numbers (include/bodlarina.h). What the other C functions answer and leave
+-- is defined in bench_calls, run_calls, turn_calls and image_calls.
 use Prim.Native.Nat.{ℕ}
 use Rattle.run.specs.declared.Plan.{Plan}
 

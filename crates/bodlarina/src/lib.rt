@@ -1,5 +1,5 @@
 // The C interface: numbers and lent byte buffers in, one number out. Each function here is one call of the function below it. What each
-// answers and leaves is defined in specs/ here and of the crates called.
+// answers and leaves is defined in specs/, here and in the crates that it calls.
 mod images; // images of machines
 mod runs; // the product run
 

@@ -53,7 +53,8 @@ returns-3 c =
     let f = z .before .before .before .before .before in
     let e = f .before .before in
     let a = c .before .before .before .before .before .before .before .before .before .before .before .before .before .before .before .before .before .before .before .before .before .before .before .before .before .before .before .before .args in
-    step-shown (a .word) (a .machine .now) (a .registers .now) (a .marks .now) (a .scalars .now) (a .memory .now) (f .machine-of .result) (z .step-block .result) _ _ _ _ _ (c .packed3 .result) (e .before .if1 .left) (e .if2 .left)
+    step-shown (a .word) (a .machine .now) (a .registers .now) (a .marks .now) (a .scalars .now) (a .memory .now) (f .machine-of .result) (z .step-block .result)
+    (k .put-machine .last .0) (z .step-block .last .1 .0) (z .step-block .last .1 .1 .0) (z .step-block .last .1 .1 .1 .0) (z .step-block .last .1 .1 .1 .1 .0) (c .packed3 .result) (e .before .if1 .left) (e .if2 .left)
     (f .machine-of .ensures) (z .step-block .ensures) (k .put-machine .ensures) (c .packed3 .ensures)
 
 pub step-spec : {M : Type 1} → statement M

@@ -85,7 +85,9 @@ returns-3 c =
     let e = l .before in
     let a = e .before .before .before .before .before .before .before .before .args in
     turn-shown (a .run .now) (a .machine .now) (a .registers .now) (a .marks .now) (a .memory .now)
-    (h .run-of .result) (m .machine-of .result) (t .turn .result) _ _ _ _ _ (c .packed3 .result) (blocks-fit (a .run .now) (a .machine .now) (fit e) (l .if2 .left))
+    (h .run-of .result) (m .machine-of .result) (t .turn .result)
+    (p .put-run .last .0) (x .put-machine .last .0) (t .turn .last .1 .1 .0) (t .turn .last .1 .1 .1 .0) (t .turn .last .1 .1 .1 .1 .0) (c .packed3 .result)
+    (blocks-fit (a .run .now) (a .machine .now) (fit e) (l .if2 .left))
     (h .run-of .ensures) (m .machine-of .ensures) (t .turn .ensures) (p .put-run .ensures) (x .put-machine .ensures) (c .packed3 .ensures)
 
 pub turn-spec : {M : Type 1} → statement M

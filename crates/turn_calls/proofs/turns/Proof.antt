@@ -76,7 +76,9 @@ returns-3 c =
     let e = l .before in
     let a = e .before .before .before .before .before .before .before .before .args in
     turns-shown (a .run .now) (a .machine .now) (a .registers .now) (a .marks .now) (a .memory .now) (a .turns)
-    (h .run-of .result) (m .machine-of .result) (t .turns .result) _ _ _ _ _ (blocks-fit (a .run .now) (a .machine .now) (fit e) (l .if2 .left))
+    (h .run-of .result) (m .machine-of .result) (t .turns .result)
+    (p .put-run .last .0) (x .put-machine .last .0) (t .turns .last .1 .1 .1 .0) (t .turns .last .1 .1 .1 .1 .0) (t .turns .last .1 .1 .1 .1 .1 .0)
+    (blocks-fit (a .run .now) (a .machine .now) (fit e) (l .if2 .left))
     (h .run-of .ensures) (m .machine-of .ensures) (t .turns .ensures) (p .put-run .ensures) (x .put-machine .ensures)
 
 pub turns-spec : {M : Type 1} → statement M

@@ -56,7 +56,8 @@ returns-3 c =
     let l = m .before .before in
     let a = l .before .before .before .before .before .before .before .args in
     run-shown (a .plan) (a .machine .now) (a .registers .now) (a .marks .now) (a .memory .now) (a .steps .now)
-    false (m .machine-of .result) (s .whole .result) _ _ _ _ _ (c .packed3 .result)
+    false (m .machine-of .result) (s .whole .result)
+    (a .machine .now) (s .whole .last .1 .1 .0) (s .whole .last .1 .1 .1 .0) (s .whole .last .1 .1 .1 .1 .0) (a .steps .now) (c .packed3 .result)
     (l .before .if1 .left) (l .if2 .left) (m .machine-of .ensures) (s .whole .ensures .0)
     (sym (d .is-done .ensures) ∙ not-true (d .is-done .result) (c .before .if3 .taken)) refl refl (c .packed3 .ensures)
 
@@ -96,7 +97,8 @@ returns-4 c =
     let l = m .before .before in
     let a = l .before .before .before .before .before .before .before .args in
     run-shown (a .plan) (a .machine .now) (a .registers .now) (a .marks .now) (a .memory .now) (a .steps .now)
-    true (m .machine-of .result) (s .whole .result) _ _ _ _ _ (c .packed4 .result)
+    true (m .machine-of .result) (s .whole .result)
+    (x .put-machine .last .0) (s .whole .last .1 .1 .0) (s .whole .last .1 .1 .1 .0) (s .whole .last .1 .1 .1 .1 .0) (w .write8 .last .0) (c .packed4 .result)
     (l .before .if1 .left) (l .if2 .left) (m .machine-of .ensures) (s .whole .ensures .0)
     (sym (d .is-done .ensures) ∙ not-false (d .is-done .result) (i .if3 .left)) (x .put-machine .ensures) (w .write8 .ensures) (c .packed4 .ensures)
 
