@@ -46,6 +46,7 @@ shapeIn s =
     onward (numberAt s b (rlen + 1) 12) ShapeBad λ mlen e.
     Shaped rlen mlen rule e
 
+-- the mtype at a place
 unfoldable pub mtypeAt : List ℕ → ℕ → Number
 mtypeAt s at = found at (readNumber mtypes (drop at s))
 
@@ -66,6 +67,7 @@ tailAt s at most =
     onward (numberAt s b 0 most) TailBad λ count e.
     Tailed start size count e
 
+-- the parts put together: a machine's numbers, and the number of runs with the place behind it
 abbrev pub numbersOf : (rule rlen mlen mtype tileM tileK tileN start size : ℕ) → Header
 numbersOf rule rlen mlen mtype tileM tileK tileN start size =
     record { rlen = rlen; mlen = mlen; mtype = mtype; tileM = tileM; tileK = tileK; tileN = tileN; sealStart = start; sealLength = size; rule = rule }
