@@ -236,7 +236,7 @@ uint64_t bodlarina_step(uint32_t word,
 #define BODLARINA_HANDED_ADDRESS_AT 8
 #define BODLARINA_HANDED_STRIDE_AT 16
 
-/* Starts a run: on 0 the run block is written. */
+/* Starts a run: on 0 the run block is written; refused, it stays as it was, with whatever run it held. */
 uint64_t bodlarina_run_start(uint64_t kind, uint64_t sew, uint64_t factor, uint64_t m, uint64_t k, uint64_t n,
                              uint64_t a, int64_t a_stride, uint64_t b, int64_t b_stride, uint64_t c, int64_t c_stride,
                              const uint8_t *machine, size_t machine_len,

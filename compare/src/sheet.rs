@@ -84,6 +84,7 @@ fn sheet_lines(rule: u64) -> Vec<(&'static str, bool)> {
 /// Steps done, and C, for A and B at SEW 8.
 fn product(rule: u64, plan: &Plan, a: &[i8], b: &[i8]) -> (u64, Vec<i128>) {
     let mut lent = started_by(rule, 8192);
+    lent.memory.fill(99);
     for (address, values) in [(plan.a, a), (plan.b, b)] {
         for (at, &value) in (address as usize..).zip(values) {
             lent.memory[at] = value as u8;

@@ -5,14 +5,16 @@ use mathlib.Core.List.{List, [], _∷_}
 use Prim.Native.Nat.{ℕ, zero, suc, _/_, _%_, _^_, _≤_, _<_}
 use native.Mathlib.Nat.{mul-le-mul-left}
 use native.Mathlib.Omega.{arith}
+use lib.ListN.{length}
 use lib.Dec.{ltb}
+use borrow.Author.Tests.{eq-eqb}
 use Rattle.machine.specs.declared.Wrong.the-variants.{Opcode, LeftOut, Unlisted, Register}
 use Rattle.machine.specs.declared.Matrix.{Matrix}
 use Rattle.machine.specs.declared.Matrix.the-variants.{MatrixA, MatrixB, MatrixC}
 use Rattle.machine.specs.Tests.{first}
 use Rattle.machine.specs.declared.Reply.{Reply}
 use Rattle.machine.specs.Answers.{reply, number, isDone, Check, verdict}
-use Rattle.machine.specs.Geometry.{Parameters, parameters, State, Bench}
+use Rattle.machine.specs.Geometry.{Parameters, parameters, State, Bench, benchOf}
 use Rattle.machine.specs.Setting.{chosen}
 use Rattle.machine.specs.Listing.{decode}
 use Rattle.machine.specs.Operation.{Operation, illegal, setType, setSize, cutSize, load, store, multiply, combine, scale, floatMultiply, tileRows, tileCols}
@@ -23,7 +25,8 @@ use Rattle.machine.specs.Step.{outcome, stepBy, step, stepChecks, given, meant}
 use Rattle.machine.proofs.AnswerLaws.{number-small}
 use Rattle.machine.proofs.StepLaws.{permitted-bounds}
 use Rattle.machine.proofs.NoFault.{sound-is}
-use Rattle.blocks.specs.Blocks.{packed}
+use Rattle.blocks.specs.Blocks.{machineBytes, machineOf, scalarBytes, valuesOf, packed}
+use Rattle.bench_calls.specs.BenchCalls.{hostStep}
 use Rattle.bench_calls.specs.Theorems.{StepPacksWhole}
 
 first-le : (n : ℕ) (p : ℕ → Bool) → first n p ≤ n
@@ -124,6 +127,14 @@ answer-small M word xs B = last (isDone (verdict cs)) (go (soundBench B) refl)
     last true h = (omega arith, zeros)
     last false h = (number-small (verdict cs), h)
 
-pub packs-whole : StepPacksWhole
+step-packs : (word : ℕ) (xs : List ℕ) (B : Bench)
+    → let a = step word xs B .answer in
+    (packed a % 2 ^ 16 ≡ a .number) × (packed a / 2 ^ 16 % 2 ^ 16 ≡ a .row) × (packed a / 2 ^ 32 ≡ a .column)
 unfolding stepBy
-packs-whole word xs B = let s = answer-small (parameters chosen (B .machine)) word xs B in whole (step word xs B .answer) (s .0) (s .1)
+step-packs word xs B = let s = answer-small (parameters chosen (B .machine)) word xs B in whole (step word xs B .answer) (s .0) (s .1)
+
+pub packs-whole : StepPacksWhole
+unfolding hostStep
+packs-whole word machine registers marks scalars memory lm ls =
+    rw (eq-eqb (length machine) machineBytes lm, eq-eqb (length scalars) scalarBytes ls)
+    (step-packs word (valuesOf scalars) (benchOf (machineOf machine) registers marks memory))

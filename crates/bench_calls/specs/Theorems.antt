@@ -2,9 +2,10 @@
 use mathlib.Core.Path.{_≡_}
 use mathlib.Core.List.{List}
 use Prim.Native.Nat.{ℕ, _/_, _%_, _^_}
-use Rattle.machine.specs.Geometry.{Bench}
+use lib.ListN.{length}
+use Rattle.machine.specs.Geometry.{benchOf}
 use Rattle.machine.specs.Step.{step}
-use Rattle.blocks.specs.Blocks.{Bytes, packed}
+use Rattle.blocks.specs.Blocks.{Bytes, machineBytes, machineOf, scalarBytes, valuesOf}
 use Rattle.bench_calls.specs.BenchCalls.{startedOut, hostStart, steppedOut, hostStep}
 
 -- "A refusal changes no byte of any buffer."
@@ -19,8 +20,9 @@ StepRefusalChangesNoByte = (word : ℕ) (machine registers marks scalars memory 
     ¬ (o .result ≡ 0) → o ≡ steppedOut (o .result) machine registers marks scalars memory
 
 -- What the host takes out of a result: bits 15..0 are the number, bits 31..16 the row and bits 47..32 the column of the step's answer,
--- none of them cut.
+-- none of them cut. On blocks of other lengths the result is 8.
 abbrev pub StepPacksWhole : Type 0
-StepPacksWhole = (word : ℕ) (xs : List ℕ) (B : Bench)
-    → let a = step word xs B .answer in
-    (packed a % 2 ^ 16 ≡ a .number) × (packed a / 2 ^ 16 % 2 ^ 16 ≡ a .row) × (packed a / 2 ^ 32 ≡ a .column)
+StepPacksWhole = (word : ℕ) (machine registers marks scalars memory : List ℕ) → length machine ≡ machineBytes → length scalars ≡ scalarBytes
+    → let a = step word (valuesOf scalars) (benchOf (machineOf machine) registers marks memory) .answer in
+    let r = hostStep word machine registers marks scalars memory .result in
+    (r % 2 ^ 16 ≡ a .number) × (r / 2 ^ 16 % 2 ^ 16 ≡ a .row) × (r / 2 ^ 32 ≡ a .column)

@@ -45,7 +45,7 @@ fn plan_in(
     }
 }
 
-// Starts a run of C = A B on a machine, of kind 1 with A kept transposed, and writes it into the run's block.
+// Starts a run of C = A B on a machine, of kind 1 with A kept transposed, of kind 2 of floats, and writes it into the run's block.
 #[no_mangle]
 pub extern "C" fn bodlarina_run_start(
     kind: u64,
@@ -134,7 +134,7 @@ pub extern "C" fn bodlarina_run_turns(
     turn_calls::turns(turns, run, machine, registers, marks, memory)
 }
 
-// Runs C = A B on a machine, of kind 1 with A kept transposed, from its start to its last step.
+// Runs C = A B on a machine, of kind 1 with A kept transposed, of kind 2 of floats, from its start to its last step.
 #[no_mangle]
 pub extern "C" fn bodlarina_run(
     kind: u64,

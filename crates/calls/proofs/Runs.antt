@@ -7,7 +7,7 @@ use Prim.Native.Nat.{ℕ, suc}
 use native.Mathlib.Omega.{arith}
 use lib.ListN.{length}
 use lib.Dec.{eqb}
-use borrow.Author.Tests.{eqb-true, eq-eqb}
+use borrow.Author.Tests.{eqb-true, eq-eqb, ne-eqb}
 use Rattle.machine.specs.declared.Answer.{Answer}
 use Rattle.machine.specs.declared.Answer.the-variants.{Done, OutsideMemory, BadArguments, Overlap}
 use Rattle.machine.specs.Tests.{every}
@@ -17,7 +17,7 @@ use Rattle.machine.specs.Geometry.{Bench, parameters}
 use Rattle.machine.specs.Setting.{chosen}
 use Rattle.machine.specs.Faults.{sound}
 use Rattle.machine.specs.Operation.{element}
-use Rattle.machine.proofs.TestLaws.{false-true, every-each, each-every}
+use Rattle.machine.proofs.TestLaws.{every-each, each-every}
 use Rattle.run.specs.declared.Plan.{Plan}
 use Rattle.run.specs.declared.Run.{Run}
 use Rattle.run.specs.declared.Handed.{Handed}
@@ -29,7 +29,7 @@ use Rattle.run.specs.Turn.{handsOut, stepsIn, Ask, ask, asked, Running, running
 use Rattle.run.specs.Statement.{Asks, Right, startedRun}
 use Rattle.run.specs.Whole.{WholeOutcome, whole}
 use Rattle.run.proofs.HandedLaws.{askWith, turnWith}
-use Rattle.run.proofs.RefusalLaws.{number-done, start-zero}
+use Rattle.run.proofs.RefusalLaws.{number-done, start-zero, ask-zero}
 use Rattle.run.proofs.Demand1.{run-start-changes-nothing}
 use Rattle.run.proofs.Demand3.{demand-3-ours}
 use Rattle.run.proofs.Whole.{whole-delivers}
@@ -101,6 +101,10 @@ start-calls-are-right P b lm lr bytes =
     record {
       answered = (s P b .answer, ap (λ (o : Called). o .result) call ∙ start-plain P b, demand-3-ours P (benchIn b) bytes .answered);
       unchanged = subst (λ (o : Called). o .after ≡ having P b (o .after .run)) (sym call) (lent-same P b);
+      refused = λ n.
+          let d : done (s P b .answer) ≡ false =
+          sym (zero-is-done (s P b .answer) (start-zero chosen P (benchIn b))) ∙ ne-eqb (packed (s P b .answer)) 0 (λ e. n (ap (λ (o : Called). o .result) call ∙ e)) in
+          ap (λ (o : Called). o .after) call ∙ lent-same P b ∙ ap (λ (t : Bool). having P b (cond t (putRun (s P b .run) (b .run)) (b .run))) d;
     }
 
 -- ---- bodlarina_run_next
@@ -125,13 +129,6 @@ shown-refused b a e = ap (λ (v : Reply). nextOn b (record { answer = v; handed 
 
 some-none : (h : Handed) → some h ≡ none → ⊥
 some-none h e = let z : _≡_ {A = ℕ} 0 1 = cc in omega arith
-
-ask-zero : (R : Run) → done (ask chosen R .answer) ≡ true → ask chosen R .answer ≡ reply Done
-ask-zero R = go (handsOut chosen R)
-  where
-    go : (o : Option Op) → done (askWith chosen R o .answer) ≡ true → askWith chosen R o .answer ≡ reply Done
-    go none e = absurd (false-true e)
-    go (some o) e = refl
 
 -- nothing is handed out
 ask-none : (R : Run) → ask chosen R .handed ≡ none → ask chosen R .answer ≡ reply BadArguments
@@ -248,7 +245,7 @@ module _ (P : Plan) (b : Buffers) (p : PlanWords P) (small : Bytes (b .machine))
   asked-done : (t : ℕ) (h : Handed) → length (b .step) ≡ 24 → Asks (ask chosen (r t .run)) 0 (some h) (r (suc t) .run)
       → called Call.runNext (with (r t) b) ≡ left 0 (handing h (with (r (suc t)) b .run) (with (r t) b))
   asked-done t h l k =
-      asking t l ∙ shown-done (with (r t) b) (ask chosen (r t .run)) h (r (suc t) .run) (ask-zero (r t .run) (number-done (ask chosen (r t .run) .answer) (k .answers))) k
+      asking t l ∙ shown-done (with (r t) b) (ask chosen (r t .run)) h (r (suc t) .run) (ask-zero chosen (r t .run) (number-done (ask chosen (r t .run) .answer) (k .answers))) k
       ∙ ap (λ (R : List ℕ). left 0 (handing h R (with (r t) b))) (putRun-over (r (suc t) .run) (r t .run) (b .run) (A .run-long))
 
   telling : (t : ℕ) → hostRunSteps (putRun (r t .run) (b .run)) ≡ stepsIn chosen (r t .run)

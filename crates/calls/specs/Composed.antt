@@ -58,6 +58,8 @@ PlanWords P = (j : ℕ) → getD (planNumbers P ++ (P .kind ∷ [])) j 0 < 2 ^ 6
 pub record StartCall (P : Plan) (b : Buffers) (o : Called) : Type 0 where
   pub answered : (a : Reply) × (o .result ≡ a .number) × Answered P (benchIn b) a
   pub unchanged : o .after ≡ buffers (b .machine) (b .registers) (b .marks) (b .scalars) (b .memory) (o .after .run) (b .step) (b .steps)
+  -- "A refusal changes nothing lent or held.": the run's block too keeps what it held
+  pub refused : ¬ (o .result ≡ 0) → o .after ≡ b
 
 -- for every plan, on blocks of the right lengths (others get 8: run_calls/specs/RunCalls.antt) and a memory that is a slice of bytes
 abbrev pub StartCallsAreRight : Type 0

@@ -1,2 +1,2 @@
-// No code: exactness of float product runs on whole numbers, a theorem about the definitions of `run`. The statement stands in
-// specs/, the proof in proofs/.
+// No code: exactness of float product runs on whole numbers, theorems about the definitions of `run`. The statements stand in
+// specs/, the proofs in proofs/.

@@ -1,2 +1,2 @@
--- What the private functions of this crate find. No contract of an entry point names it.
+-- What the functions of this crate find, for its own contracts and those of functions that other crates call; no contract of an entry point names it.
 pub mod Parts

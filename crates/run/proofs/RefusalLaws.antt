@@ -37,6 +37,14 @@ pub start-zero : (grant : ℕ → ℕ → ℕ → ℕ) (P : Plan) (B : Bench) �
 unfolding startRun
 start-zero grant P B e = ap reply (only-done (verdict (startChecks grant P B)) e)
 
+-- and so does asking
+pub ask-zero : (grant : ℕ → ℕ → ℕ → ℕ) (R : Run) → done (ask grant R .answer) ≡ true → ask grant R .answer ≡ reply Done
+ask-zero grant R = go (handsOut grant R)
+  where
+    go : (o : Option Op) → done (askWith grant R o .answer) ≡ true → askWith grant R o .answer ≡ reply Done
+    go none e = absurd (false-true e)
+    go (some o) e = refl
+
 -- ---- a refused turn
 
 pub turn-refused : (grant : ℕ → ℕ → ℕ → ℕ) (r : Running) → done (turn grant r .answer) ≡ false → turn grant r .after ≡ r

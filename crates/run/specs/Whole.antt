@@ -28,7 +28,7 @@ whole grant P B = record {
   bench = turns grant (startedRun grant P B) (steps (shape (jobOf grant P B))) .after .bench;
 }
 
--- what the function `product` returned and left
+-- what the function `whole` returned and left
 abbrev pub finishedAs : Finished → (registers marks memory : List ℕ) → WholeOutcome
 finishedAs r registers marks memory = record { answer = reply (r .answer); count = r .count; bench = benchOf (r .machine) registers marks memory }
 

@@ -2,34 +2,22 @@
 use mathlib.Core.Path.{_≡_, refl, ap}
 use mathlib.Core.Bool.{Bool, true, false, cond}
 use mathlib.Core.List.{[], _∷_}
-use mathlib.Core.Option.{Option, none, some}
 use lib.ListN.{length}
 use lib.Dec.{eqb}
-use Rattle.machine.specs.declared.Answer.the-variants.{Done, BadArguments}
+use Rattle.machine.specs.declared.Answer.the-variants.{BadArguments}
 use Rattle.machine.specs.Tests.{every}
-use Rattle.machine.specs.Answers.{reply, done}
+use Rattle.machine.specs.Answers.{reply}
 use Rattle.machine.specs.Geometry.{benchOf}
 use Rattle.machine.specs.Setting.{chosen}
 use Rattle.machine.specs.Step.{step}
-use Rattle.machine.proofs.TestLaws.{false-true}
-use Rattle.run.specs.declared.Run.{Run}
 use Rattle.run.specs.Start.{RunStart, startRun}
-use Rattle.run.specs.Turn.{handsOut, ask, AskOutcome, asked}
-use Rattle.run.specs.Words.{Op}
-use Rattle.run.proofs.HandedLaws.{askWith}
+use Rattle.run.specs.Turn.{ask, AskOutcome, asked}
 use Rattle.blocks.specs.Blocks.{machineBytes, machineOf, packed}
 use Rattle.run_blocks.specs.RunBlocks.{runBytes, runOf, putRun, runFit, putHanded}
 use Rattle.run_calls.specs.RunCalls.{HostRunStarted, runStartedOut, shownRunStart, hostRunStart, HostNext, nextOut, shownNext, hostNext}
 use Rattle.run_calls.specs.Theorems.{RunStartRefusalChangesNoByte, NextRefusalChangesNoByte}
 use Rattle.blocks.proofs.BlockLaws.{packed-refused}
-use Rattle.run.proofs.RefusalLaws.{start-zero}
-
-ask-zero : (R : Run) → done (ask chosen R .answer) ≡ true → ask chosen R .answer ≡ reply Done
-ask-zero R = go (handsOut chosen R)
-  where
-    go : (o : Option Op) → done (askWith chosen R o .answer) ≡ true → askWith chosen R o .answer ≡ reply Done
-    go none e = absurd (false-true e)
-    go (some o) e = refl
+use Rattle.run.proofs.RefusalLaws.{start-zero, ask-zero}
 
 pub run-start-refusal : RunStartRefusalChangesNoByte
 unfolding hostRunStart startRun
@@ -57,5 +45,5 @@ next-refusal run step = go (every (runFit run ∷ eqb (length step) 24 ∷ []))
 
     go : (t : Bool) → ¬ (out t .result ≡ 0) → out t ≡ nextOut (out t .result) run step
     go true d =
-        ap (λ (t : Bool). nextOut (packed (a .answer)) (cond t (putRun (a .run) run) run) (cond t (putHanded (a .handed) step) step)) (packed-refused (a .answer) (ask-zero (runOf run)) d)
+        ap (λ (t : Bool). nextOut (packed (a .answer)) (cond t (putRun (a .run) run) run) (cond t (putHanded (a .handed) step) step)) (packed-refused (a .answer) (ask-zero chosen (runOf run)) d)
     go false d = refl

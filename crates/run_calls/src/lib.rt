@@ -13,7 +13,7 @@ use run_blocks::run_of;
 ghost use mathlib.Core.Path.{_≡_};
 ghost use Rattle.run_calls.specs.RunCalls.{runStartedOut, hostRunStart, nextOut, hostNext, hostRunSteps};
 
-// Starts a run of C = A B on a machine, of kind 1 with A kept transposed, and writes it into the run's block.
+// Starts a run of C = A B on a machine, of kind 1 with A kept transposed, of kind 2 of floats, and writes it into the run's block.
 pub fn start(
     plan: Plan,
     machine: &[u8],

@@ -68,7 +68,7 @@ pub fn turns(
     taken.count
 }
 
-// Runs C = A B on a machine, of kind 1 with A kept transposed, from its start to its last step.
+// Runs C = A B on a machine, of kind 1 with A kept transposed, of kind 2 of floats, from its start to its last step.
 pub fn whole(
     plan: Plan,
     machine: &mut [u8],

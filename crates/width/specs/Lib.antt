@@ -4,6 +4,7 @@ pub mod Tile
 pub mod Reduce
 pub mod Binary32
 pub mod Blocks
-pub mod Bounds
 -- Computed examples.
 pub mod Examples
+-- For contracts of inner functions: the bounds of the largest machine.
+pub mod Bounds
