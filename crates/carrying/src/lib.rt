@@ -29,7 +29,7 @@ ghost use Rattle.run.specs.Start.{planned};
 ghost use Rattle.run.specs.Turn.{soundRun};
 
 // The output's width, as a plan has it.
-fn factor_of(plan: Plan) -> Factor
+fn plan_factor(plan: Plan) -> Factor
     requires { ⌜ planned plan ≡ true ⌝ }
     ensures { λ r. ⌜ times r ≡ plan .factor ⌝ }
 {
@@ -59,7 +59,7 @@ fn clear(plan: Plan, m: Machine, registers: &mut [u8], marks: &mut [u8]) -> Answ
     ensures { λ r. ⌜ ((memory : List ℕ) → carried (reply r) m (now (registers .exit)) (now (marks .exit)) memory
         ≡ carriedFor plan clear (benchOf m (now (registers .entry)) (now (marks .entry)) memory)) ⌝ }
 {
-    let factor = factor_of(plan);
+    let factor = plan_factor(plan);
     operations::reckoning::scale(m, registers, marks, factor, 0, 0, 0)
 }
 
@@ -73,7 +73,7 @@ fn multiply(plan: Plan, m: Machine, registers: &mut [u8], marks: &[u8]) -> Answe
     if plan.kind == 2 {
         return operations::reckoning::float_multiply(m, registers, marks, 0, 0, 1);
     }
-    let factor = factor_of(plan);
+    let factor = plan_factor(plan);
     operations::reckoning::multiply(m, registers, marks, factor, 0, 0, 1)
 }
 

@@ -15,7 +15,7 @@ use Rattle.image.specs.declared.Restored.{Restored}
 use Rattle.image.specs.Answers.{imageReply}
 use Rattle.image.specs.Writing.{SizeOutcome, sizeImage, sizedAs, WriteOutcome, writeImage, writtenAs}
 use Rattle.image.specs.Reading.{checkImage, readImage, restoredAs}
-use Rattle.image_check.specs.Parts.{isSound}
+use Rattle.image_check.specs.Parts.{imageDone}
 use Rattle.image_check.proofs.CheckLaws.{sound-number}
 use Rattle.blocks.specs.Blocks.{machineBytes, machineOf, putMachine}
 use Rattle.image_calls.specs.ImageCalls.{packedReply, hostImageSize, writtenOut, hostImageWrite, blockRefused, readOut, shownRead, hostImageRead}
@@ -82,7 +82,7 @@ module _ (image machine registers marks : List ℕ) where
   -- what the read has answered and left, and the block written exactly where it is done
   pub read-shown : (t : Bool) (s : Restored) (M R K : List ℕ) (r : ℕ) → length machine ≡ machineBytes
       → restoredAs s R K ≡ readImage image registers marks
-      → isSound (s .answer) ≡ t → M ≡ cond t (putMachine (s .machine) machine) machine → r ≡ packedReply (imageReply (s .answer)) 0
+      → imageDone (s .answer) ≡ t → M ≡ cond t (putMachine (s .machine) machine) machine → r ≡ packedReply (imageReply (s .answer)) 0
       → readOut r M R K ≡ hostImageRead image machine registers marks
   unfolding hostImageRead
   read-shown t s M R K r h e et em er =

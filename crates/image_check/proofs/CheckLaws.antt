@@ -12,7 +12,7 @@ use Rattle.image.specs.Answers.{imageReply}
 use Rattle.image.specs.ImageFormat.{Described}
 use Rattle.image.specs.Reading.{verdictOf, checkImage}
 use Rattle.image_check.specs.declared.head.Head.the-variants.{HeadBad}
-use Rattle.image_check.specs.Parts.{headIn, describe, runsFrom, runsVerdict, isSound}
+use Rattle.image_check.specs.Parts.{headIn, describe, runsFrom, runsVerdict, imageDone}
 use Rattle.image_check.proofs.RunsLaws.{mapped}
 use Rattle.image_check.proofs.HeadLaws.{HeadedOk, head-bad, head-parse}
 
@@ -31,7 +31,7 @@ check-runs-is s m c a h v is = is ∙ go (runsFrom s a c 0 (2 * m .mlen)) ∙ ap
     go (stopped p) = refl
 
 -- done by the number
-pub sound-number : (v : Imaged) → isSound v ≡ eqb (imageReply v .number) 0
+pub sound-number : (v : Imaged) → imageDone v ≡ eqb (imageReply v .number) 0
 sound-number Done = refl
 sound-number BadArguments = refl
 sound-number NoRoom = refl

@@ -113,8 +113,8 @@ unfoldable pub runsVerdict : (s : List ℕ) (at count least room : ℕ) → Imag
 runsVerdict s at count least room = verdictOf (runsFrom s at count least room)
 
 -- nothing is refused: the number is 0
-abbrev pub isSound : Imaged → Bool
-isSound Done = true
-isSound BadArguments = false
-isSound NoRoom = false
-isSound (Damaged place) = false
+abbrev pub imageDone : Imaged → Bool
+imageDone Done = true
+imageDone BadArguments = false
+imageDone NoRoom = false
+imageDone (Damaged place) = false

@@ -1,9 +1,11 @@
 // The numbers of an image, up to and with the number of runs.
 use machine::Machine;
+use machine::smaller;
 use reader::Number;
 use reader::number_from;
+use reader::wide;
 ghost use mathlib.Core.Path.{_≡_};
-ghost use Prim.Native.Nat.{_^_, _≤_, min};
+ghost use Prim.Native.Nat.{_^_, _≤_};
 ghost use Rattle.image_check.specs.Parts.{ruleIn, shapeIn, mtypeAt, tilesAt, tailAt, headIn};
 
 // The exponents of RLEN and MLEN, the rule and the place behind them, or the place of a fault.
@@ -28,12 +30,6 @@ pub enum Tail {
 pub enum Head {
     Headed(Machine, u64, usize),
     HeadBad(usize),
-}
-
-fn wide(b: u8) -> u64
-    ensures { λ r. ⌜ r ≡ b ⌝ }
-{
-    b as u64
 }
 
 // The rule at the start of an image: behind version 2; of version 1 it is 0.
@@ -100,15 +96,6 @@ fn mtype_at(s: &[u8], at: usize) -> Number
     Number::Fault(at)
 }
 
-fn lesser(x: u64, y: u64) -> u64
-    ensures { λ r. ⌜ r ≡ min x y ⌝ }
-{
-    if x < y {
-        return x;
-    }
-    y
-}
-
 // mtype and the tile sizes of a machine with so many rows and columns.
 fn tiles_at(s: &[u8], at: usize, rows: u64, columns: u64) -> Tiles
     ensures { λ r. ⌜ r ≡ tilesAt (now (s .entry)) at rows columns ⌝ }
@@ -122,7 +109,7 @@ fn tiles_at(s: &[u8], at: usize, rows: u64, columns: u64) -> Tiles
                 return Tiles::TilesBad(p);
             }
             Number::Value(m, b) => {
-                let both = lesser(rows, columns);
+                let both = smaller(rows, columns);
                 match number_from(s, b, 0, both) {
                     Number::Fault(p) => {
                         return Tiles::TilesBad(p);

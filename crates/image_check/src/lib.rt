@@ -5,7 +5,7 @@ use image::Imaged;
 use runs::check_runs;
 ghost use mathlib.Core.Path.{_≡_};
 ghost use Rattle.image.specs.Reading.{checkImage};
-ghost use Rattle.image_check.specs.Parts.{isSound};
+ghost use Rattle.image_check.specs.Parts.{imageDone};
 
 pub mod head; // the numbers of an image
 pub mod runs; // its runs
@@ -26,7 +26,7 @@ pub fn check_image(s: &[u8]) -> Imaged
 
 // Whether nothing was refused.
 pub fn is_done(answer: Imaged) -> bool
-    ensures { λ r. ⌜ r ≡ isSound answer ⌝ }
+    ensures { λ r. ⌜ r ≡ imageDone answer ⌝ }
 {
     match answer {
         Imaged::Done => true,

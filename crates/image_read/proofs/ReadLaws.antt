@@ -21,7 +21,7 @@ use Rattle.image.specs.Reading.{verdictOf, restored, readAs, readImage}
 use Rattle.image.proofs.ImageLaws.{image-live, image-out}
 use Rattle.image.proofs.Images.{fits-true, read-done, read-unfit}
 use Rattle.image_check.specs.declared.head.Head.the-variants.{HeadBad}
-use Rattle.image_check.specs.Parts.{headIn, describe, runsFrom, runsVerdict, isSound}
+use Rattle.image_check.specs.Parts.{headIn, describe, runsFrom, runsVerdict, imageDone}
 use Rattle.image_check.proofs.RunsLaws.{mapped}
 use Rattle.image_check.proofs.HeadLaws.{HeadedOk, head-bad, head-parse}
 use Rattle.image_read.specs.Parts.{bodyOf, bodyAt, ones}
@@ -52,24 +52,24 @@ module _ (s : List ℕ) (m : Machine) (c a : ℕ) (h : HeadedOk s m c a) (v : Im
   built = mapped (λ d. describe (h .header) (d .body))
 
   -- runs at fault
-  pub read-wrong : (registers marks : List ℕ) → isSound v ≡ false → restored v noMachine registers marks ≡ readImage s registers marks
+  pub read-wrong : (registers marks : List ℕ) → imageDone v ≡ false → restored v noMachine registers marks ≡ readImage s registers marks
   unfolding readImage runsVerdict
   read-wrong registers marks f = go runsLeft refl
     where
       go : (q : Parsed Described) → runsLeft ≡ q → restored v noMachine registers marks ≡ readAs (parse imageFormat s) registers marks
-      go (whole d) e = absurd (true≢false (sym (ap isSound (is ∙ ap verdictOf e)) ∙ f))
+      go (whole d) e = absurd (true≢false (sym (ap imageDone (is ∙ ap verdictOf e)) ∙ f))
       go (stopped p) e =
           ap (λ (x : Imaged). restored x noMachine registers marks) (is ∙ ap verdictOf e)
           ∙ ap (λ (q : Parsed Described). readAs q registers marks) (sym (head-parse s m c a h ∙ ap built e))
 
-  module _ (f : isSound v ≡ true) where
+  module _ (f : imageDone v ≡ true) where
     pub runs-done : runsVerdict s a c 0 (2 * m .mlen) ≡ Done
     unfolding runsVerdict
     runs-done = go runsLeft refl
       where
         go : (q : Parsed Described) → runsLeft ≡ q → verdictOf runsLeft ≡ Done
         go (whole d) e = ap verdictOf e
-        go (stopped p) e = absurd (true≢false (sym f ∙ ap isSound (is ∙ ap verdictOf e)))
+        go (stopped p) e = absurd (true≢false (sym f ∙ ap imageDone (is ∙ ap verdictOf e)))
 
     abbrev body : List Run
     body = bodyAt s a c 0 (2 * m .mlen)
@@ -80,7 +80,7 @@ module _ (s : List ℕ) (m : Machine) (c a : ℕ) (h : HeadedOk s m c a) (v : Im
       where
         go : (q : Parsed Described) → runsLeft ≡ q → built runsLeft ≡ whole (describe (h .header) (bodyOf runsLeft))
         go (whole d) e = rw e
-        go (stopped p) e = absurd (true≢false (sym f ∙ ap isSound (is ∙ ap verdictOf e)))
+        go (stopped p) e = absurd (true≢false (sym f ∙ ap imageDone (is ∙ ap verdictOf e)))
 
     size-is : 2 * m .mlen ≡ total (h .header .mlen)
     size-is = ap (λ (x : Machine). 2 * x .mlen) (h .machine-is)

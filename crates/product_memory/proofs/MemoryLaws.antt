@@ -13,8 +13,9 @@ use borrow.Author.Tests.{le-leb, le-ltb, lt-ltb}
 use Rattle.width.specs.Reduce.{signed, reduce, sumℤ}
 use Rattle.width.specs.Tile.{le, putLe, putRow, In}
 use Rattle.width.proofs.ReduceLaws.{sumℤ-cong}
-use Rattle.width.proofs.TileLaws.{le-cong, le-bytes, length-putRow, putRow-out, putRow-at, pitched}
+use Rattle.width.proofs.TileLaws.{le-cong, length-putRow, putRow-out, pitched}
 use Rattle.width.proofs.PutLaws.{putLe-low}
+use Rattle.width.proofs.WordLaws.{le-putRow}
 use Rattle.machine.specs.declared.Machine.{Machine}
 use Rattle.machine.specs.declared.Reply.{Reply}
 use Rattle.machine.specs.Tests.{isIn, every}
@@ -95,11 +96,7 @@ place mem base cols w i j small =
 pub element-in : (rows cols i j : ℕ) → i < rows → j < cols → i * cols + j < rows * cols
 element-in rows cols i j l g = omega (arith, mul-le-mul-right cols l)
 
--- a number that was written with others is the value, cut to w bytes
-row-le : (p cols w : ℕ) (value : ℕ → ℕ) (xs : List ℕ) → p + cols * w ≤ length xs → (j : ℕ) → j < cols → le (putRow p cols w value xs) (p + j * w) w ≡ value j % 256 ^ w
-row-le p cols w value xs h j l = le-bytes (putRow p cols w value xs) (p + j * w) w (value j) (putRow-at p cols w value xs h j l)
-
--- a number that ends before them stays
+-- a number that ends before a row that is written stays
 row-keeps : (p cols w : ℕ) (value : ℕ → ℕ) (xs : List ℕ) (q v : ℕ) → q + v ≤ p → le (putRow p cols w value xs) q v ≡ le xs q v
 row-keeps p cols w value xs q v h = le-cong (putRow p cols w value xs) xs q q v (λ b l. putRow-out p cols w value xs (q + b) (λ x. omega arith))
 
@@ -158,14 +155,14 @@ module _ (sew f m k n : ℕ) (formatted : format sew f ≡ true) (m≤ : m ≤ 1
         let ends = matrix-small m k w m≤ k≤ (widths sew f formatted .0) in
         place (filled w m k n va vb mem) 0 k w i l a-row
         ∙ row-keeps 1024 (k * n) w vb (putRow 0 (m * k) w va mem) (0 + (i * k + l) * w) w (omega (arith, mul-le-mul-right w q))
-        ∙ row-le 0 (m * k) w va mem (omega arith) (i * k + l) q
+        ∙ le-putRow 0 (m * k) w va mem (omega arith) (i * k + l) q
 
     b-element : (l j : ℕ) → l < k → j < n → element (filled (sew / 8) m k n va vb mem) (bAt (planFor sew f m k n)) (sew / 8) l j ≡ vb (l * n + j) % 256 ^ (sew / 8)
     b-element l j l< j< =
         let w : ℕ = sew / 8 in
         let ends = matrix-small k n w k≤ n≤ (widths sew f formatted .0) in
         place (filled w m k n va vb mem) 1024 n w l j b-row
-        ∙ row-le 1024 (k * n) w vb (putRow 0 (m * k) w va mem) (omega (arith, length-putRow 0 (m * k) w va mem)) (l * n + j) (element-in k n l j l< j<)
+        ∙ le-putRow 1024 (k * n) w vb (putRow 0 (m * k) w va mem) (omega (arith, length-putRow 0 (m * k) w va mem)) (l * n + j) (element-in k n l j l< j<)
 
     -- the element (i, j) that C shall have; za and zb are the signed numbers that the values stand for
     pub sum-here : (M : Parameters) (za zb : ℕ → ℤ)

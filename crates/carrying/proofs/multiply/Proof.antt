@@ -26,7 +26,7 @@ returns-2 c =
     let a = s .args in
     let k = l .multiply .ensures in
     let q : elementsOf (a .plan) ≡ integers = rw (ne-eqb (a .plan .kind) 2 (c .before .before .before .before .before .if1 .left)) in
-    λ mem. multiply-carried (a .plan) (s .pre .1) (a .m) (a .registers .now) (a .marks .now) mem (s .pre .0) (f .factor-of .result) (f .factor-of .ensures) (l .multiply .result) _ _ integers q
+    λ mem. multiply-carried (a .plan) (s .pre .1) (a .m) (a .registers .now) (a .marks .now) mem (s .pre .0) (f .plan-factor .result) (f .plan-factor .ensures) (l .multiply .result) _ _ integers q
     (record { answer-is = k .answer-is; registers-are = k .registers-are; marks-are = k .marks-are })
 
 pub multiply-spec : {M : Type 1} → statement M

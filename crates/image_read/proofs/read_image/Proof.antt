@@ -9,7 +9,7 @@ use lib.ListN.{length, getD}
 use Rattle.image.specs.declared.Imaged.the-variants.{Done}
 use Rattle.image.specs.declared.Restored.{Restored}
 use Rattle.image.specs.Reading.{restoredAs}
-use Rattle.image_check.specs.Parts.{runsVerdict, isSound}
+use Rattle.image_check.specs.Parts.{runsVerdict, imageDone}
 use Rattle.image_check.proofs.HeadLaws.{HeadedOk, head-known, head-sizes}
 use Rattle.image_read.proofs.ReadLaws.{bytes-all, read-bad, read-wrong, runs-done, read-unfit-is, read-done-is}
 use Rattle.image_read.proofs.read_image.Statement.{statement}
@@ -73,7 +73,7 @@ returns-2 c =
     let h : HeadedOk s m count at = head-known s m count at (sym (c .before .before .before .before .before .before .before .before .head-of .ensures) ∙ c .before .before .before .before .before .before .m .given .1) in
     let v = c .before .before .before .check-runs .result in
     let is = c .before .before .before .check-runs .ensures in
-    let f : isSound v ≡ false = sym (c .before .before .is-done .ensures) ∙ not-true (c .before .before .is-done .result) (c .before .if1 .taken) in
+    let f : imageDone v ≡ false = sym (c .before .before .is-done .ensures) ∙ not-true (c .before .before .is-done .result) (c .before .if1 .taken) in
     ap (λ (r : Restored). restoredAs r (a .registers .now) (a .marks .now)) (c .refused2 .ensures)
     ∙ read-wrong s m count at h v is (a .registers .now) (a .marks .now) f
 
@@ -90,7 +90,7 @@ returns-3 c =
     let h : HeadedOk s m count at = head-known s m count at (sym (c .before .before .before .before .before .before .before .before .before .head-of .ensures) ∙ c .before .before .before .before .before .before .before .m .given .1) in
     let v = c .before .before .before .before .check-runs .result in
     let is = c .before .before .before .before .check-runs .ensures in
-    let f : isSound v ≡ true = sym (c .before .before .before .is-done .ensures) ∙ not-false (c .before .before .before .is-done .result) (c .before .before .if1 .left) in
+    let f : imageDone v ≡ true = sym (c .before .before .before .is-done .ensures) ∙ not-false (c .before .before .before .is-done .result) (c .before .before .if1 .left) in
     ap (λ (r : Restored). restoredAs r (a .registers .now) (a .marks .now)) (c .refused3 .ensures)
     ∙ read-unfit-is s m count at h v is f (a .registers .now) (a .marks .now) (λ w. c .before .if2 .taken (w .0))
 
@@ -107,7 +107,7 @@ returns-4 c =
     let h : HeadedOk s m count at = head-known s m count at (sym (c .before .before .before .before .before .before .before .before .before .before .head-of .ensures) ∙ c .before .before .before .before .before .before .before .before .m .given .1) in
     let v = c .before .before .before .before .before .check-runs .result in
     let is = c .before .before .before .before .before .check-runs .ensures in
-    let f : isSound v ≡ true = sym (c .before .before .before .before .is-done .ensures) ∙ not-false (c .before .before .before .before .is-done .result) (c .before .before .before .if1 .left) in
+    let f : imageDone v ≡ true = sym (c .before .before .before .before .is-done .ensures) ∙ not-false (c .before .before .before .before .is-done .result) (c .before .before .before .if1 .left) in
     ap (λ (r : Restored). restoredAs r (a .registers .now) (a .marks .now)) (c .refused4 .ensures)
     ∙ read-unfit-is s m count at h v is f (a .registers .now) (a .marks .now) (λ w. c .before .if3 .taken (w .1))
 
@@ -125,7 +125,7 @@ fill-runs-requires c κs =
     let z = head-sizes s m count at h in
     let v = c .before .before .before .before .before .before .before .before .before .before .check-runs .result in
     let is = c .before .before .before .before .before .before .before .before .before .before .check-runs .ensures in
-    let f : isSound v ≡ true = sym (c .before .before .before .before .before .before .before .before .before .is-done .ensures) ∙ not-false (c .before .before .before .before .before .before .before .before .before .is-done .result) (c .before .before .before .before .before .before .before .before .if1 .left) in
+    let f : imageDone v ≡ true = sym (c .before .before .before .before .before .before .before .before .before .is-done .ensures) ∙ not-false (c .before .before .before .before .before .before .before .before .before .is-done .result) (c .before .before .before .before .before .before .before .before .if1 .left) in
     let lr : length (a .registers .now) ≡ 2 * m .mlen = c .before .before .before .before .before .before .before .if2 .left in
     let lm : length (a .marks .now) ≡ 2 * m .mlen = c .before .before .before .before .before .before .if3 .left in
     let pm = c .before .before .before .before .put-marks in
@@ -147,7 +147,7 @@ returns-5 c =
     let h : HeadedOk s m count at = head-known s m count at (sym (c .before .before .before .before .before .before .before .before .before .before .before .before .before .before .before .before .before .before .before .before .head-of .ensures) ∙ c .before .before .before .before .before .before .before .before .before .before .before .before .before .before .before .before .before .before .m .given .1) in
     let v = c .before .before .before .before .before .before .before .before .before .before .before .before .before .before .before .check-runs .result in
     let is = c .before .before .before .before .before .before .before .before .before .before .before .before .before .before .before .check-runs .ensures in
-    let f : isSound v ≡ true = sym (c .before .before .before .before .before .before .before .before .before .before .before .before .before .before .is-done .ensures) ∙ not-false (c .before .before .before .before .before .before .before .before .before .before .before .before .before .before .is-done .result) (c .before .before .before .before .before .before .before .before .before .before .before .before .before .if1 .left) in
+    let f : imageDone v ≡ true = sym (c .before .before .before .before .before .before .before .before .before .before .before .before .before .before .is-done .ensures) ∙ not-false (c .before .before .before .before .before .before .before .before .before .before .before .before .before .before .is-done .result) (c .before .before .before .before .before .before .before .before .before .before .before .before .before .if1 .left) in
     let lr : length (a .registers .now) ≡ 2 * m .mlen = c .before .before .before .before .before .before .before .before .before .before .before .before .if2 .left in
     let lm : length (a .marks .now) ≡ 2 * m .mlen = c .before .before .before .before .before .before .before .before .before .before .before .if3 .left in
     let pm = c .before .before .before .before .before .before .before .before .before .put-marks in

@@ -39,8 +39,8 @@ returns-2 c =
 enum-known-m : tie.Need-enum-known-m
 enum-known-m c = search needs
 
-lesser-requires : tie.Need-lesser-requires
-lesser-requires c κs = search needs
+smaller-requires : tie.Need-smaller-requires
+smaller-requires c κs = search needs
 
 number-from-requires-2 : tie.Need-number-from-requires-2
 number-from-requires-2 c κs = search needs
@@ -58,7 +58,7 @@ returns-3 c =
     let n = h .before .before in
     let g = n .before .before in
     let f = g .before .before in
-    rw (sym (f .mtype-at .ensures) ∙ g .t .given .1, sym (n .number-from .ensures) ∙ h .m .given .1, ← b .lesser .ensures, sym (o .number-from2 .ensures) ∙ k .p3 .given .1)
+    rw (sym (f .mtype-at .ensures) ∙ g .t .given .1, sym (n .number-from .ensures) ∙ h .m .given .1, ← b .smaller .ensures, sym (o .number-from2 .ensures) ∙ k .p3 .given .1)
 
 enum-known-k : tie.Need-enum-known-k
 enum-known-k c = search needs
@@ -81,7 +81,7 @@ returns-4 c =
     let n = h .before .before in
     let g = n .before .before in
     let f = g .before .before in
-    rw (sym (f .mtype-at .ensures) ∙ g .t .given .1, sym (n .number-from .ensures) ∙ h .m .given .1, ← b .lesser .ensures, sym (o .number-from2 .ensures) ∙ i .k .given .1, sym (q .number-from3 .ensures) ∙ k .p4 .given .1)
+    rw (sym (f .mtype-at .ensures) ∙ g .t .given .1, sym (n .number-from .ensures) ∙ h .m .given .1, ← b .smaller .ensures, sym (o .number-from2 .ensures) ∙ i .k .given .1, sym (q .number-from3 .ensures) ∙ k .p4 .given .1)
 
 enum-known-n : tie.Need-enum-known-n
 enum-known-n c = search needs
@@ -98,7 +98,7 @@ returns-5 c =
     let n = h .before .before in
     let g = n .before .before in
     let f = g .before .before in
-    rw (sym (f .mtype-at .ensures) ∙ g .t .given .1, sym (n .number-from .ensures) ∙ h .m .given .1, ← b .lesser .ensures, sym (o .number-from2 .ensures) ∙ i .k .given .1, sym (q .number-from3 .ensures) ∙ k .n .given .1)
+    rw (sym (f .mtype-at .ensures) ∙ g .t .given .1, sym (n .number-from .ensures) ∙ h .m .given .1, ← b .smaller .ensures, sym (o .number-from2 .ensures) ∙ i .k .given .1, sym (q .number-from3 .ensures) ∙ k .n .given .1)
 
 pub tiles-at-spec : {M : Type 1} → statement M
 tiles-at-spec =
@@ -112,7 +112,7 @@ tiles-at-spec =
     enum-known-p-2
     returns-2
     enum-known-m
-    lesser-requires
+    smaller-requires
     number-from-requires-2
     enum-known-p-3
     returns-3

@@ -1,7 +1,7 @@
 use Rattle.carrying.proofs.CarriedLaws.{factor-one}
 use borrow.Author.Needs.{needs}
-use Rattle.carrying.proofs.factor_of.Statement.{statement}
-use Rattle.carrying.proofs.factor_of.Tie as tie
+use Rattle.carrying.proofs.plan_factor.Statement.{statement}
+use Rattle.carrying.proofs.plan_factor.Tie as tie
 
 returns : tie.Need-returns
 returns c = search needs
@@ -12,5 +12,5 @@ returns-2 c = search needs
 returns-3 : tie.Need-returns-3
 returns-3 c = let s = c .before .before .before .before in factor-one (s .args .plan) (s .pre) (c .before .before .if1 .left) (c .if2 .left)
 
-pub factor-of-spec : {M : Type 1} → statement M
-factor-of-spec = tie.close (tie.spec returns returns-2 returns-3)
+pub plan-factor-spec : {M : Type 1} → statement M
+plan-factor-spec = tie.close (tie.spec returns returns-2 returns-3)
