@@ -20,7 +20,7 @@ ghost use Rattle.machine.specs.Refusals.{typed};
 ghost use Rattle.machine.specs.Setting.{chosen};
 ghost use Rattle.machine.specs.Operation.{Operation, times};
 ghost use Rattle.operations.specs.Parts.{WritesRegisters};
-ghost use Rattle.settings.specs.Parts.{Ready};
+ghost use Rattle.settings.specs.Parts.{numbersSound};
 ghost use Rattle.run.specs.Plan.{narrow};
 ghost use Rattle.run.specs.Words.{clear, loadA, multiply, store};
 ghost use Rattle.run.specs.Encoding.{startOf};
@@ -228,7 +228,7 @@ pub fn carry_out(
 
 // The machine's numbers after the word at the place of a run: only a setting changes them.
 pub fn machine_after(run: Run, m: Machine) -> Machine
-    requires { ⌜ Ready m ⌝ }
+    requires { ⌜ numbersSound m ≡ true ⌝ }
     requires { ⌜ soundRun chosen run ≡ true ⌝ }
     ensures { λ r. ⌜ ((registers marks memory : List ℕ) → sound m registers marks ≡ true → r ≡ carriedAt run (benchOf m registers marks memory) .bench .machine) ⌝ }
 {

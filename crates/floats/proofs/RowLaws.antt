@@ -14,7 +14,8 @@ use Rattle.width.specs.Binary32.{settled, multiplyAdd, floatSum, floatProduct}
 use Rattle.width.proofs.ElementLaws.{putRow-cong}
 use Rattle.width.proofs.Binary32Laws.{sum-cong}
 use Rattle.width.specs.Bounds.{mostFloats}
-use Rattle.sums.proofs.LoopLaws.{next-row, set-below, set-above}
+use Rattle.width.proofs.PutLaws.{next-row}
+use Rattle.sums.proofs.LoopLaws.{set-below, set-above}
 use Rattle.floats.specs.Rows.{floatAt, floatRow}
 
 -- ---- fetch_row: the first j values stand from `to` on, and those before it are as at entry

@@ -18,6 +18,7 @@ use Rattle.format.specs.Parser.Got.{value, fault}
 use Rattle.format.specs.Parser.Parsed.{whole, stopped}
 use Rattle.format.proofs.NumberLaws.{isAmong-among}
 use Rattle.reader.proofs.SizeLaws.{size-bound}
+use Rattle.reader.proofs.FromLaws.{grow-in}
 use Rattle.machine.specs.declared.Machine.{Machine}
 use Rattle.machine.specs.Faults.{sound}
 use Rattle.machine.proofs.NoFault.{sound-is}
@@ -123,18 +124,13 @@ none-after g (r ∷ rs) h =
     let high = h .0 in
     rw (lt-leb (max 1 ((r .low + 127 - g) / 128)) ((r .high - g) / 128) (omega arith), none-after g rs (h .1))
 
-among-grown : (g n : ℕ) (rs : List Range) → Among n (afters g rs) → Among (g + 128 * n) rs
-among-grown g n [] h = absurd h
-among-grown g n (r ∷ rs) (inl h) = inl (omega arith)
-among-grown g n (r ∷ rs) (inr h) = inr (among-grown g n rs h)
-
 -- at most k bytes are read
 abbrev Reach : List Range → ℕ → Got → Type 0
 Reach rs k (value n l) = Among n rs × (l ≤ k)
 Reach rs k (fault p) = p ≤ k
 
 grown : (g k : ℕ) (rs : List Range) (r : Got) → Reach (afters g rs) k r → Reach rs (suc k) (grow g r)
-grown g k rs (value n l) h = (among-grown g n rs (h .0), omega (arith, h .1))
+grown g k rs (value n l) h = (grow-in g n rs (h .0), omega (arith, h .1))
 grown g k rs (fault p) h = omega (arith, h)
 
 first-group : (k b : ℕ) (rs : List Range) (rest : Got) → (nonempty (afters (b - 128) rs) ≡ true → Reach (afters (b - 128) rs) k rest)

@@ -16,7 +16,7 @@ use Rattle.image.specs.Answers.{imageReply}
 use Rattle.image.specs.Writing.{SizeOutcome, sizeImage, sizedAs, WriteOutcome, writeImage, writtenAs}
 use Rattle.image.specs.Reading.{checkImage, readImage, restoredAs}
 use Rattle.image_check.specs.Parts.{imageDone}
-use Rattle.image_check.proofs.CheckLaws.{sound-number}
+use Rattle.image_check.proofs.CheckLaws.{done-number}
 use Rattle.blocks.specs.Blocks.{machineBytes, machineOf, putMachine}
 use Rattle.image_calls.specs.ImageCalls.{packedReply, hostImageSize, writtenOut, hostImageWrite, blockRefused, readOut, shownRead, hostImageRead}
 
@@ -86,7 +86,7 @@ module _ (image machine registers marks : List ℕ) where
       → readOut r M R K ≡ hostImageRead image machine registers marks
   unfolding hostImageRead
   read-shown t s M R K r h e et em er =
-      ap₂ (λ (x : ℕ) (y : List ℕ). readOut x y R K) er (em ∙ ap (λ (t : Bool). cond t (putMachine (s .machine) machine) machine) (sym et ∙ sound-number (s .answer)))
+      ap₂ (λ (x : ℕ) (y : List ℕ). readOut x y R K) er (em ∙ ap (λ (t : Bool). cond t (putMachine (s .machine) machine) machine) (sym et ∙ done-number (s .answer)))
       ∙ ap (shownRead machine) e
       ∙ ap (λ (t : Bool). cond t (shownRead machine (readImage image registers marks)) (readOut (packedReply (imageReply (blockRefused (checkImage image))) 0) machine registers marks))
       (sym (eq-eqb (length machine) machineBytes h))

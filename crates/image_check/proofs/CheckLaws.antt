@@ -31,8 +31,8 @@ check-runs-is s m c a h v is = is ∙ go (runsFrom s a c 0 (2 * m .mlen)) ∙ ap
     go (stopped p) = refl
 
 -- done by the number
-pub sound-number : (v : Imaged) → imageDone v ≡ eqb (imageReply v .number) 0
-sound-number Done = refl
-sound-number BadArguments = refl
-sound-number NoRoom = refl
-sound-number (Damaged p) = refl
+pub done-number : (v : Imaged) → imageDone v ≡ eqb (imageReply v .number) 0
+done-number Done = refl
+done-number BadArguments = refl
+done-number NoRoom = refl
+done-number (Damaged p) = refl

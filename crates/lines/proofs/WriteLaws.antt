@@ -155,9 +155,6 @@ lines-more q c rows cols i from h =
 pub lines-end : (q : ℕ) (c : List ℕ) (rows cols i from : ℕ) → rows ≤ i → restLines q c rows cols i from ≡ []
 lines-end q c rows cols i from h = let e : rows - i ≡ zero = omega arith in rw e
 
-pub row-fits : (i rows cols : ℕ) → i < rows → i * cols + cols ≤ rows * cols
-row-fits i rows cols h = omega (arith, mul-le-mul-right cols h)
-
 -- ---- room
 
 pub decimal-room : (k n : ℕ) → n < 10 ^ suc k → length (decimal n) ≤ suc k

@@ -25,7 +25,7 @@ abbrev Fine : List Range → List ℕ → Got → Type 0
 Fine rs s (value n k) = Among n rs × (k ≤ length s)
 Fine rs s (fault p) = p ≤ length s
 
-grow-in : (g n : ℕ) (rs : List Range) → Among n (afters g rs) → Among (g + 128 * n) rs
+pub grow-in : (g n : ℕ) (rs : List Range) → Among n (afters g rs) → Among (g + 128 * n) rs
 grow-in g n [] h = absurd h
 grow-in g n (r ∷ rs) (inl h) = inl (omega arith)
 grow-in g n (r ∷ rs) (inr h) = inr (grow-in g n rs h)

@@ -1,9 +1,10 @@
 -- Answer 8: a machine's numbers test by test, then the whole state.
-use mathlib.Core.Path.{_≡_, sym, _∙_}
+use mathlib.Core.Path.{_≡_, refl, sym, _∙_}
 use mathlib.Core.Bool.{Bool, true}
 use mathlib.Core.List.{List, [], _∷_}
 use Prim.Native.Nat.{ℕ, _*_, _/_, min}
 use lib.Dec.{leb, eqb}
+use borrow.Author.Tests.{eqb-true}
 use Rattle.machine.specs.declared.Machine.{Machine}
 use Rattle.machine.specs.Tests.{every}
 use Rattle.machine.specs.Geometry.{elen, permitted}
@@ -16,6 +17,17 @@ use Rattle.machine.specs.Tests.{allOf}
 use Rattle.machine.specs.Faults.{sound}
 use Rattle.machine.proofs.TestLaws.{every-each, each-every, same-test}
 use Rattle.machine.proofs.NoFault.{sound-is}
+
+-- the tests of the numbers alone
+abbrev tests : Machine → List Bool
+tests m =
+    permitted (m .rlen) (m .mlen)
+    ∷ eqb (newType elen (m .mtype)) (m .mtype)
+    ∷ leb (m .«tile_m») (m .mlen / m .rlen)
+    ∷ leb (m .«tile_k») (min (m .mlen / m .rlen) (m .rlen / 8))
+    ∷ leb (m .«tile_n») (m .rlen / 8)
+    ∷ isRule (m .rule)
+    ∷ sealEnds (m .«seal_start») (m .«seal_length») ∷ []
 
 pub numbers-by : (m : Machine) (a b c d e f g : Bool)
     → permitted (m .rlen) (m .mlen) ≡ a → eqb (newType elen (m .mtype)) (m .mtype) ≡ b
@@ -39,16 +51,6 @@ sound-by m regs marks a b c d ha hb hc hd = same-test (every (a ∷ b ∷ c ∷ 
       (sym hb ∙ t .1 .0, (sym hc ∙ t .1 .1 .0, (sym hd ∙ t .1 .1 .1 .1 .1 .1 .1 .1 .1 .0, tt))),
     ))
   where
-    tests : Machine → List Bool
-    tests m =
-        permitted (m .rlen) (m .mlen)
-        ∷ eqb (newType elen (m .mtype)) (m .mtype)
-        ∷ leb (m .«tile_m») (m .mlen / m .rlen)
-        ∷ leb (m .«tile_k») (min (m .mlen / m .rlen) (m .rlen / 8))
-        ∷ leb (m .«tile_n») (m .rlen / 8)
-        ∷ isRule (m .rule)
-        ∷ sealEnds (m .«seal_start») (m .«seal_length») ∷ []
-
     all : Machine → List Bool
     all m =
         permitted (m .rlen) (m .mlen)
@@ -63,8 +65,16 @@ sound-by m regs marks a b c d ha hb hc hd = same-test (every (a ∷ b ∷ c ∷ 
         ∷ allOf (λ mark. ltb mark 2) marks ∷ []
 
 pub numbers-permitted : (m : Machine) → numbersSound m ≡ true → permitted (m .rlen) (m .mlen) ≡ true
-numbers-permitted m h = every-each (permitted (m .rlen) (m .mlen) ∷ eqb (newType elen (m .mtype)) (m .mtype) ∷ leb (m .«tile_m») (m .mlen / m .rlen)
-    ∷ leb (m .«tile_k») (min (m .mlen / m .rlen) (m .rlen / 8)) ∷ leb (m .«tile_n») (m .rlen / 8) ∷ isRule (m .rule) ∷ sealEnds (m .«seal_start») (m .«seal_length») ∷ []) h .0
+numbers-permitted m h = every-each (tests m) h .0
+
+pub numbers-ready : (m : Machine) → numbersSound m ≡ true → Ready m
+numbers-ready m h = record { lengths = numbers-permitted m h; type-arises = eqb-true (newType elen (m .mtype)) (m .mtype) (every-each (tests m) h .1 .0) }
+
+-- the numbers of a machine that is not at fault
+pub sound-numbers : (m : Machine) (regs marks : List ℕ) → sound m regs marks ≡ true → numbersSound m ≡ true
+sound-numbers m regs marks h =
+    let e = sound-by m regs marks (numbersSound m) (eqb (length regs) (2 * m .mlen)) (eqb (length marks) (2 * m .mlen)) (allOf (λ mark. ltb mark 2) marks) refl refl refl refl in
+    every-each (numbersSound m ∷ eqb (length regs) (2 * m .mlen) ∷ eqb (length marks) (2 * m .mlen) ∷ allOf (λ mark. ltb mark 2) marks ∷ []) (e ∙ h) .0
 
 pub ready : (m : Machine) (regs marks : List ℕ) → sound m regs marks ≡ true → Ready m
 ready m regs marks h = let s = sound-is m regs marks h in record { lengths = s .lengths; type-arises = s .state .type-arises }

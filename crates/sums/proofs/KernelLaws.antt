@@ -10,9 +10,10 @@ use Rattle.width.specs.Reduce.{signed, reduce}
 use Rattle.width.specs.Tile.{le, putLe, putRow}
 use Rattle.width.proofs.ElementLaws.{pow-256, putRow-next}
 use Rattle.width.proofs.SumLaws.{sum-none}
+use Rattle.width.proofs.PutLaws.{row-fits, next-row}
 use Rattle.machine.specs.Operation.{product}
 use Rattle.sums.specs.Rows.{signedLe, plusProduct}
-use Rattle.sums.proofs.LoopLaws.{row-fits, next-row, set-below, set-above}
+use Rattle.sums.proofs.LoopLaws.{set-below, set-above}
 use Rattle.sums.proofs.RowLaws.{mac-turn, product-added}
 
 -- element or row j of n, at `from`, ends by the end

@@ -1,20 +1,11 @@
--- Loops over rows and accumulators.
+-- Loops over accumulators.
 use mathlib.Core.Path.{_≡_, _∙_}
 use mathlib.Core.List.{List}
-use Prim.Native.Nat.{ℕ, _+_, _*_, _≤_, _<_}
-use native.Mathlib.Nat.{mul-le-mul-right, suc-mul}
-use native.Mathlib.Numerals.{add-one}
+use Prim.Native.Nat.{ℕ, _+_, _≤_, _<_}
 use native.Mathlib.Omega.{arith}
 use borrow.Author.Count.{below-more}
 use lib.ListN.{length, set, getD}
 use lib.Seq.{getD-set-same, getD-set-other}
-
--- row i of n rows of p ends by the rows' end
-pub row-fits : (i n p : ℕ) → i < n → i * p + p ≤ n * p
-row-fits i n p h = omega (arith, mul-le-mul-right p h, suc-mul i p)
-
-pub next-row : (i p : ℕ) → (i + 1) * p ≡ i * p + p
-next-row i p = rw add-one (suc-mul i p)
 
 -- accumulators of any type; past the last there is x
 module _ {A : Type 0} (x : A) where

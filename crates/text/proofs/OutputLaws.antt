@@ -7,10 +7,10 @@ use lib.IntN.{ℤ, pos}
 use lib.ListN.{length, take, drop, getD, length-drop, length-map}
 use lib.Seq.{getD-drop}
 use Rattle.width.specs.Reduce.{signed, reduce}
+use Rattle.width.proofs.PutLaws.{row-fits}
 use Rattle.text.specs.Problem.{Problem, nth}
 use Rattle.text.specs.Output.{sumAt, modulus, listOf, productAt, productRows}
 use Rattle.lines.specs.Parts.{signedAll, rowsOf}
-use Rattle.lines.proofs.WriteLaws.{row-fits}
 
 row-listed : (n : ℕ) (f : ℕ → ℤ) (zs : List ℤ) → n ≤ length zs → ((j : ℕ) → j < n → nth zs j ≡ f j) → take n zs ≡ listOf n f
 row-listed zero f zs l h = refl

@@ -7,6 +7,7 @@ use Rattle.machine.specs.declared.Dimension.the-variants.{DimensionM, Dimension
 use Rattle.machine.specs.Geometry.{elen, benchOf}
 use Rattle.machine.specs.Setting.{newType}
 use Rattle.settings.specs.Parts.{withType}
+use Rattle.settings.proofs.FaultLaws.{numbers-ready}
 use Rattle.run.specs.declared.Place.{Place}
 use Rattle.run.specs.Words.{Op}
 use Rattle.run.specs.Plan.{typeOf}
@@ -48,7 +49,7 @@ sub-sized c =
     at-m (R .plan) (g .0 .0) h
 
 sized-requires : tie.Need-sized-requires
-sized-requires c κs = search needs
+sized-requires c κs = let s = c .before .before .before .before .before in numbers-ready (s .args .m) (s .pre .0)
 
 enum-known-place-2 : tie.Need-enum-known-place-2
 enum-known-place-2 c = search needs
@@ -63,7 +64,7 @@ sub-sized-2 c =
     at-store (R .plan) (g .0 .0) (g .0 .1 .0) h .1
 
 sized-requires-2 : tie.Need-sized-requires-2
-sized-requires-2 c κs = search needs
+sized-requires-2 c κs = let s = c .before .before .before .before .before in numbers-ready (s .args .m) (s .pre .0)
 
 enum-told-2 : tie.Need-enum-told-2
 enum-told-2 c = search needs
@@ -81,7 +82,7 @@ sub-sized-3 c =
     at-multiply (R .plan) (g .0 .0) (g .0 .1 .0) (g .0 .1 .1 .0) h .1 .1
 
 sized-requires-3 : tie.Need-sized-requires-3
-sized-requires-3 c κs = search needs
+sized-requires-3 c κs = let s = c .before .before .before .before .before in numbers-ready (s .args .m) (s .pre .0)
 
 enum-told-3 : tie.Need-enum-told-3
 enum-told-3 c = search needs

@@ -2,7 +2,7 @@ use native.Mathlib.Omega.{arith}
 use Prim.Native.Nat.{_+_, _-_, _≤_}
 use lib.ListN.{length}
 use Rattle.width.specs.Bounds.{mostFloats}
-use Rattle.sums.proofs.LoopLaws.{row-fits}
+use Rattle.width.proofs.PutLaws.{row-fits}
 use Rattle.floats.proofs.RowLaws.{TileFetched, tile-none, tile-next}
 use borrow.Author.Needs.{needs}
 use Rattle.floats.proofs.fetch_tile.Statement.{statement}

@@ -7,7 +7,7 @@ use lib.ListN.{length}
 use Rattle.width.specs.Tile.{putTile}
 use Rattle.width.specs.Binary32.{valueOf, floatProduct}
 use Rattle.width.proofs.Binary32Laws.{product-cong}
-use Rattle.sums.proofs.LoopLaws.{row-fits, next-row}
+use Rattle.width.proofs.PutLaws.{row-fits, next-row}
 use Rattle.sums.proofs.TurnLaws.{same-b, rule-turn}
 use Rattle.floats.specs.Rows.{floatRow}
 use borrow.Author.Needs.{needs}

@@ -4,9 +4,10 @@ use mathlib.Core.List.{List, [], _∷_, _++_}
 use native.Mathlib.Omega.{arith}
 use native.Mathlib.Nat.{sub-zero}
 use lib.ListN.{length, take, drop}
+use Rattle.width.proofs.PutLaws.{row-fits}
 use Rattle.lines.specs.Lines.{spaced, lines}
 use Rattle.lines.specs.Parts.{signedAll, rowsOf}
-use Rattle.lines.proofs.WriteLaws.{Ahead, ahead-start, ahead-step, ahead-as, ahead-end, ahead-room, restLines, lines-more, lines-end, row-fits}
+use Rattle.lines.proofs.WriteLaws.{Ahead, ahead-start, ahead-step, ahead-as, ahead-end, ahead-room, restLines, lines-more, lines-end}
 use Rattle.lines.proofs.put_lines.Statement.{statement}
 use Rattle.lines.proofs.put_lines.Tie as tie
 

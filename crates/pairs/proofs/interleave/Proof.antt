@@ -4,8 +4,8 @@ use mathlib.Core.Path.{_≡_, refl, ap, _∙_}
 use Prim.Native.Nat.{ℕ, _+_, _-_, _*_, _≤_, _<_}
 use native.Mathlib.Nat.{zero-mul}
 use lib.ListN.{length, getD, length-set}
+use Rattle.width.proofs.PutLaws.{row-fits, next-row}
 use Rattle.pairs.specs.Pairs.{half}
-use Rattle.sums.proofs.LoopLaws.{row-fits, next-row}
 use Rattle.pairs.proofs.PairLaws.{pair-more, pair-keep}
 use borrow.Author.Needs.{needs}
 use Rattle.pairs.proofs.interleave.Statement.{statement}

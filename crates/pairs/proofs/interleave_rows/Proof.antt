@@ -5,8 +5,8 @@ use Prim.Native.Nat.{ℕ, _+_, _-_, _*_, _%_, _≤_, _<_}
 use native.Mathlib.Nat.{zero-mul}
 use lib.ListN.{length, getD}
 use Rattle.width.specs.Bounds.{mostColumns}
+use Rattle.width.proofs.PutLaws.{row-fits}
 use Rattle.pairs.specs.Pairs.{half, placeOf}
-use Rattle.sums.proofs.LoopLaws.{row-fits}
 use Rattle.pairs.proofs.PairLaws.{row-more, rows-more}
 use borrow.Author.Needs.{needs}
 use Rattle.pairs.proofs.interleave_rows.Statement.{statement}

@@ -6,8 +6,8 @@ use native.Mathlib.Nat.{zero-mul}
 use lib.ListN.{length}
 use Rattle.width.specs.Tile.{putTile}
 use Rattle.width.specs.Reduce.{signed, reduce}
+use Rattle.width.proofs.PutLaws.{row-fits, next-row}
 use Rattle.sums.specs.Rows.{productRow}
-use Rattle.sums.proofs.LoopLaws.{row-fits, next-row}
 use Rattle.sums.proofs.TurnLaws.{same-b, product-turn}
 use borrow.Author.Needs.{needs}
 use Rattle.pairs.proofs.multiply_with.Statement.{statement}

@@ -6,8 +6,8 @@ use Prim.Native.Nat.{ℕ, _+_, _-_, _*_, _%_, _≤_, _<_}
 use native.Mathlib.Nat.{zero-mul}
 use lib.ListN.{length, getD}
 use borrow.Author.Tests.{lt-ltb, le-ltb}
+use Rattle.width.proofs.PutLaws.{row-fits, next-row}
 use Rattle.pairs.specs.Pairs.{half, padded}
-use Rattle.sums.proofs.LoopLaws.{row-fits, next-row}
 use Rattle.pairs.proofs.PairLaws.{repeat-more, repeat-all}
 use borrow.Author.Needs.{needs}
 use Rattle.pairs.proofs.repeat_row.Statement.{statement}

@@ -16,7 +16,7 @@ use Rattle.run_places.proofs.RunPlaceLaws.{run-numbered, moved-sound}
 use Rattle.carrying.proofs.CarriedLaws.{numbers-joined}
 use Rattle.turn.proofs.TurnLaws.{taking, turns-refused, turn-sound}
 use Rattle.turn.proofs.ProgressLaws.{moved-place, at-end, turn-carried, turns-carried, turn-unsound, turns-unsound, ends-done, ends-refused}
-use Rattle.settings.proofs.FaultLaws.{ready}
+use Rattle.settings.proofs.FaultLaws.{sound-numbers}
 use Rattle.turn.proofs.take_turns.Statement.{statement}
 use Rattle.turn.proofs.take_turns.Tie as tie
 
@@ -113,7 +113,7 @@ machine-after-requires : tie.Need-machine-after-requires Inv-loop μ-loop
 machine-after-requires c κs =
     let u = c .before .before .before .before .before .before .before .before .before .before .before .before .at-place in
     let l = c .before .before .before .before .before .before .before .before .before .before .before .before .before .before .loop in
-    (ready (l .machine) (l .registers) (l .marks) (l .inv .1), ap (soundRun chosen) (u .ensures) ∙ l .inv .2)
+    (sound-numbers (l .machine) (l .registers) (l .marks) (l .inv .1), ap (soundRun chosen) (u .ensures) ∙ l .inv .2)
 
 moved-run-requires : tie.Need-moved-run-requires Inv-loop μ-loop
 moved-run-requires c κs =

@@ -5,8 +5,8 @@ use Prim.Native.Nat.{ℕ, _+_, _-_, _*_, _≤_}
 use native.Mathlib.Nat.{zero-mul}
 use lib.ListN.{length}
 use Rattle.width.specs.Tile.{putTile}
+use Rattle.width.proofs.PutLaws.{row-fits, next-row}
 use Rattle.sums.specs.Rows.{productRow}
-use Rattle.sums.proofs.LoopLaws.{row-fits, next-row}
 use Rattle.sums.proofs.TurnLaws.{product-turn}
 use borrow.Author.Needs.{needs}
 use Rattle.arithmetic.proofs.rows.multiply_rows.Statement.{statement}

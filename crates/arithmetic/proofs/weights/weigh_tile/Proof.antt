@@ -5,10 +5,10 @@ use Prim.Native.Nat.{ℕ, _+_, _-_, _*_, _%_, _^_, _≤_, _<_}
 use native.Mathlib.Nat.{zero-mul, mul-le-mul-right}
 use lib.ListN.{length}
 use Rattle.width.specs.Tile.{putTile}
+use Rattle.width.proofs.PutLaws.{next-row}
 use Rattle.machine.specs.Geometry.{accAt}
 use Rattle.arithmetic.specs.Effect.{shape}
 use Rattle.arithmetic.specs.Weights.{weightedTile}
-use Rattle.sums.proofs.LoopLaws.{next-row}
 use Rattle.arithmetic.proofs.WeightLaws.{weighted-turn}
 use Rattle.arithmetic.proofs.RoomLaws.{acc-row}
 use borrow.Author.Needs.{needs}
