@@ -1,0 +1,30 @@
+-- The example of specs/Examples.antt.
+use mathlib.Core.Path.{refl}
+use Prim.Native.Nat.{ℕ, zero, suc, _≤_, _<_}
+use native.Mathlib.Omega.{arith}
+use lib.IntN.{_*ℤ_}
+use lib.Ieee.{ofBits}
+use Rattle.width.specs.Reduce.{sumℤ}
+use Rattle.width.specs.Binary32.{valueOf}
+use Rattle.exact.specs.Exact.{Is, Within24}
+use Rattle.exact.specs.Examples.{rowBits, rowNumbers, TwoTerms}
+
+whole : (l : ℕ) → l < 2 → Is (valueOf (rowBits l)) (rowNumbers l)
+unfolding valueOf ofBits rowBits rowNumbers
+whole zero h = refl
+whole (suc l) h = refl
+
+product : (l : ℕ) → Within24 (rowNumbers l *ℤ rowNumbers l)
+unfolding rowNumbers
+product zero = omega arith
+product (suc l) = omega arith
+
+sum : (s : ℕ) → s ≤ 2 → Within24 (sumℤ s (λ l. rowNumbers l *ℤ rowNumbers l))
+unfolding rowNumbers
+sum zero h = omega arith
+sum (suc zero) h = omega arith
+sum (suc (suc zero)) h = omega arith
+sum (suc (suc (suc s))) h = absurd (omega arith)
+
+pub two-terms : TwoTerms
+two-terms = record { a-whole = whole; b-whole = whole; products = λ l h. product l; sums = sum }
