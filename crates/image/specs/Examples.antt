@@ -8,10 +8,12 @@ use Rattle.format.specs.Parser.{isAmong, nonempty, readNumber, parse}
 use Rattle.image.specs.Cells.{cellsOf, runs}
 use Rattle.image.specs.Cells.Run.{run}
 use Rattle.image.specs.Images.{log2, headerOf, spelled}
+use Rattle.image.specs.Answers.{imageReply}
 use Rattle.image.specs.declared.Imaged.the-variants.{Done, Damaged}
 use Rattle.image.specs.ImageFormat.{runsFormat, imageFormat}
 use Rattle.image.specs.Reading.{checkImage, readImage}
 use Rattle.machine.specs.Starting.{freshMachine}
+use Rattle.machine.specs.declared.Machine.{Machine}
 
 -- runs of seven bytes: the second starts behind a gap of two
 sevenRuns : runs (cellsOf (10 ∷ 11 ∷ 12 ∷ 13 ∷ 14 ∷ 15 ∷ 16 ∷ []) (0 ∷ 1 ∷ 1 ∷ 0 ∷ 0 ∷ 1 ∷ 0 ∷ []))
@@ -30,6 +32,24 @@ image = refl
 halvingImage : spelled (headerOf (freshMachine 64 256 1 5 300)) [] ≡ 2 ∷ 1 ∷ 6 ∷ 8 ∷ 0 ∷ 0 ∷ 0 ∷ 0 ∷ 5 ∷ 172 ∷ 2 ∷ 0 ∷ []
 unfolding groups encode log2
 halvingImage = refl
+
+-- of a machine with three different tile sizes and maxima that differ (tile_m and tile_k up to 4, tile_n up to 8): m, k, n in this order
+abbrev sized : Machine
+sized = record {
+  rlen = 64;
+  mlen = 256;
+  mtype = 1;
+  «tile_m» = 3;
+  «tile_k» = 2;
+  «tile_n» = 7;
+  «seal_start» = 0;
+  «seal_length» = 0;
+  rule = 0;
+}
+
+sizedImage : spelled (headerOf sized) [] ≡ 1 ∷ 6 ∷ 8 ∷ 1 ∷ 3 ∷ 2 ∷ 7 ∷ 0 ∷ 0 ∷ 0 ∷ []
+unfolding groups encode log2
+sizedImage = refl
 
 -- the numbers of a fresh machine of RLEN 64 and MLEN 128, 256 register bytes, before what follows
 abbrev smallest : List ℕ → List ℕ
@@ -68,6 +88,16 @@ damaged : checkImage (3 ∷ []) ∷ checkImage (1 ∷ 7 ∷ 7 ∷ []) ∷ checkI
     ≡ Damaged 0 ∷ Damaged 2 ∷ Damaged 3 ∷ Damaged 4 ∷ Damaged 13 ∷ Damaged 11 ∷ Damaged 11 ∷ Damaged 10 ∷ []
 unfolding checkImage parse readNumber isAmong nonempty imageFormat runsFormat
 damaged = refl
+
+-- three tile sizes; a tile_k of 7, which only tile_n can be
+sizesChecked : checkImage (1 ∷ 6 ∷ 8 ∷ 1 ∷ 3 ∷ 2 ∷ 7 ∷ 0 ∷ 0 ∷ 0 ∷ []) ∷ checkImage (1 ∷ 6 ∷ 8 ∷ 1 ∷ 3 ∷ 7 ∷ 2 ∷ 0 ∷ 0 ∷ 0 ∷ []) ∷ []
+    ≡ Done ∷ Damaged 5 ∷ []
+unfolding checkImage parse readNumber isAmong nonempty imageFormat runsFormat
+sizesChecked = refl
+
+-- 15 names its place
+place : imageReply (Damaged 7) ≡ record { number = 15; place = 7 }
+place = refl
 
 -- buffers that aren't of the machine's size stay as they are
 unfit : readImage twoRuns (5 ∷ []) (1 ∷ 0 ∷ []) .marks ≡ 1 ∷ 0 ∷ []

@@ -1,0 +1,126 @@
+-- The promise is kept.
+use Rattle.machine.proofs.Refusal.{refusal-changes-nothing, start-refusal-changes-nothing}
+use Rattle.machine.proofs.NoFault.{step-sound, start-sound}
+use Rattle.machine.proofs.Stores.{stores-are-exact}
+use Rattle.machine.proofs.SizeLaws.{chosen-grants}
+use Rattle.machine.proofs.Sealing.{seal-holds, seal-holds-from-start}
+use Rattle.machine.proofs.WordRefusals.{word-refusals, nothing-else-moved, added-got-one}
+use Rattle.run.proofs.Demand1.{run-start-changes-nothing, ask-refusal-changes-nothing, turn-refusal-changes-nothing, no-turn-changes-nothing, whole-refusal-changes-nothing}
+use Rattle.run.proofs.Demand2.{seal-holds-over-acts, seal-holds-over-acts-from-start}
+use Rattle.run.proofs.Demand3.{demand-3, demand-3-ours, demand-3-smaller, demand-3-halving}
+use Rattle.run.proofs.Whole.{whole-delivers}
+use Rattle.run.proofs.Sheet.{bench-sheet, product-example}
+use Rattle.bench_calls.proofs.Refusal as bench
+use Rattle.bench_calls.proofs.Packing.{packs-whole}
+use Rattle.run_calls.proofs.Refusal as run
+use Rattle.turn_calls.proofs.Refusal as turn
+use Rattle.image_calls.proofs.Refusal as image
+use Rattle.image_calls.proofs.Packing.{image-size-packs-whole, image-write-packs-whole, image-read-packs-whole}
+use Rattle.calls.proofs.Seal.{seal-holds-over-calls, seal-holds-from-start-call}
+use Rattle.calls.proofs.Runs.{start-calls-are-right, turn-calls-are-right, run-is-turn-calls}
+use Rattle.calls.proofs.Turns.{turns-are-turn-calls}
+use Rattle.transposed.proofs.Transposed.{load-then-store-transposes}
+use Rattle.exact.proofs.Exact.{float-runs-are-exact, whole-runs-are-exact}
+use Rattle.exact.proofs.Examples.{two-terms}
+use Rattle.decode_table.proofs.TableLaws.{table-agrees, table-decodes}
+use Rattle.format.proofs.NumberLaws.{encode-apart}
+use Rattle.format.proofs.FormatLaws.{ends-one, parser-is-right}
+use Rattle.image.proofs.RunLaws.{runs-are-maximal}
+use Rattle.image.proofs.Images.{alike-one-image, others-never, format-is-images, read-is-exact, read-refusal, write-refusal, read-makes, seal-holds-from-read, written-is-read-back, read-is-written-back}
+use Rattle.powerup.proofs.Steps.{step-ignores-unmarked, words-ignore-unmarked, given-words-ignore-unmarked}
+use Rattle.powerup.proofs.Runs.{run-start-ignores-unmarked, turns-ignore-unmarked, whole-ignores-unmarked}
+use Rattle.powerup.proofs.PowerUp.{starts-alike, power-up-never-matters}
+use Rattle.powerup_image.proofs.ImagesStay.{images-stay-equal, images-stay-equal-given}
+use Rattle.powerup_host.proofs.Calls.{call-ignores-unmarked, calls-ignore-unmarked, image-write-ignores-unmarked, power-up-never-matters-to-hosts, power-up-never-matters-to-readers}
+use Rattle.demands.specs.Promise.{Promise}
+
+pub promise : Promise
+promise = record {
+  demand-1 = record {
+    start = start-refusal-changes-nothing;
+    word = refusal-changes-nothing;
+    run-start = run-start-changes-nothing;
+    asking = ask-refusal-changes-nothing;
+    turn = turn-refusal-changes-nothing;
+    turns = no-turn-changes-nothing;
+    whole-run = whole-refusal-changes-nothing;
+    image-write = write-refusal;
+    image-read = read-refusal;
+    c-start = bench.start-refusal;
+    c-step = bench.step-refusal;
+    c-run-start = run.run-start-refusal;
+    c-next = run.next-refusal;
+    c-turn = turn.turn-refusal;
+    c-turns = turn.no-turn;
+    c-run = turn.run-refusal;
+    c-image-write = image.image-write-refusal;
+    c-image-read = image.image-read-refusal;
+    c-step-whole = packs-whole;
+    c-image-size-whole = image-size-packs-whole;
+    c-image-write-whole = image-write-packs-whole;
+    c-image-read-whole = image-read-packs-whole;
+  };
+  demand-2 = record {
+    words = word-refusals;
+    stores = stores-are-exact;
+    keeps-sound = step-sound;
+    start-sound = start-sound;
+    seal-words = seal-holds;
+    seal-words-from-start = seal-holds-from-start;
+    seal = seal-holds-over-acts;
+    seal-from-start = seal-holds-over-acts-from-start;
+    seal-from-read = seal-holds-from-read;
+    c-seal = seal-holds-over-calls;
+    c-seal-from-start = seal-holds-from-start-call;
+  };
+  demand-3 = record {
+    every-choice = demand-3;
+    ours = demand-3-ours;
+    smaller = demand-3-smaller;
+    halving = demand-3-halving;
+    rules = chosen-grants;
+    whole-run = whole-delivers;
+    sheet = bench-sheet;
+    example = product-example;
+    c-start = start-calls-are-right;
+    c-turns = turn-calls-are-right;
+    c-many = turns-are-turn-calls;
+    c-run = run-is-turn-calls;
+  };
+  requests = record {
+    one-nothing-else = nothing-else-moved;
+    one-added = added-got-one;
+    two = load-then-store-transposes;
+    four = float-runs-are-exact;
+    four-whole-run = whole-runs-are-exact;
+    four-example = two-terms;
+    five = table-agrees;
+    five-decodes = table-decodes;
+    six-numbers = encode-apart;
+    six-one-place = ends-one;
+    six-parser = parser-is-right;
+    six-runs = runs-are-maximal;
+    six-format = format-is-images;
+    six-same = alike-one-image;
+    six-others = others-never;
+    six-read = read-is-exact;
+    six-made = read-makes;
+    six-back = written-is-read-back;
+    six-again = read-is-written-back;
+    nine = power-up-never-matters;
+    nine-starts = starts-alike;
+    nine-step = step-ignores-unmarked;
+    nine-words = words-ignore-unmarked;
+    nine-given = given-words-ignore-unmarked;
+    nine-run-start = run-start-ignores-unmarked;
+    nine-turns = turns-ignore-unmarked;
+    nine-whole-run = whole-ignores-unmarked;
+    nine-images = images-stay-equal;
+    nine-images-given = images-stay-equal-given;
+    nine-c = power-up-never-matters-to-hosts;
+    nine-c-readers = power-up-never-matters-to-readers;
+    nine-c-call = call-ignores-unmarked;
+    nine-c-calls = calls-ignore-unmarked;
+    nine-c-image-write = image-write-ignores-unmarked;
+  };
+}

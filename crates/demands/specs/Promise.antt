@@ -1,0 +1,128 @@
+-- All that is promised of the definitions and of the C functions, in one record: a part for each demand of document 01, and one for the
+-- statements that a request of document 02 asks for. Each line names a statement, which stands in the file that is named at the top.
+-- proofs/Promise.antt has one term of this type. That the code is its definitions is not said here, but by the contracts in src/.
+use Rattle.machine.specs.Theorems.{RefusalChangesNothing, StartRefusalChangesNothing, StepKeepsSound, StartIsSound, StoresAreExact, RulesKeepConstraints, SealHolds, SealHoldsFromStart}
+use Rattle.machine.specs.WordTheorems.{WordRefusals, NothingElseMoved, AddedGotOne}
+use Rattle.run.specs.Theorems.{RunStartChangesNothing, AskRefusalChangesNothing, TurnRefusalChangesNothing, NoTurnChangesNothing, WholeRefusalChangesNothing, SealHoldsOverActs, SealHoldsOverActsFromStart}
+use Rattle.run.specs.Statement.{RunsAreRight, OurRunsAreRight, SmallerRunsAreRight, HalvingRunsAreRight}
+use Rattle.run.specs.Whole.{WholeDelivers}
+use Rattle.run.specs.Sheet.{BenchSheet, ProductExample}
+use Rattle.bench_calls.specs.Theorems.{StartRefusalChangesNoByte, StepRefusalChangesNoByte, StepPacksWhole}
+use Rattle.run_calls.specs.Theorems.{RunStartRefusalChangesNoByte, NextRefusalChangesNoByte}
+use Rattle.turn_calls.specs.Theorems.{TurnRefusalChangesNoByte, NoTurnChangesNoByte, RunRefusalChangesNoByte}
+use Rattle.image_calls.specs.Theorems.{ImageWriteRefusalChangesNoByte, ImageReadRefusalChangesNoByte, ImageSizePacksWhole, ImageWritePacksWhole, ImageReadPacksWhole}
+use Rattle.calls.specs.Composed.{StartCallsAreRight, TurnCallsAreRight, TurnsAreTurnCalls, RunIsTurnCalls, SealHoldsOverCalls, SealHoldsFromStartCall}
+use Rattle.transposed.specs.Transposed.{LoadThenStoreTransposes}
+use Rattle.exact.specs.Exact.{FloatRunsAreExact, WholeRunsAreExact}
+use Rattle.exact.specs.Examples.{TwoTerms}
+use Rattle.decode_table.specs.Table.{TableAgrees, TableDecodes}
+use Rattle.format.specs.Theorems.{NumbersApart, OnePlace, ParserIsRight}
+use Rattle.image.specs.Theorems.{AlikeHaveOneImage, OthersNever, RunsAreMaximal, FormatIsImages, ReadIsExact, ReadRefusalChangesNothing, WriteRefusalChangesNothing, ReadMakesItsMachine, SealHoldsFromRead, WrittenIsReadBack, ReadIsWrittenBack}
+use Rattle.powerup.specs.Steps.{StepIgnoresUnmarked, WordsIgnoreUnmarked, GivenWordsIgnoreUnmarked}
+use Rattle.powerup.specs.Runs.{RunStartIgnoresUnmarked, TurnsIgnoreUnmarked, WholeIgnoresUnmarked}
+use Rattle.powerup.specs.PowerUp.{StartsAlike, PowerUpNeverMatters}
+use Rattle.powerup_image.specs.ImagesStay.{ImagesStayEqual, ImagesStayEqualGiven}
+use Rattle.powerup_host.specs.Calls.{CallIgnoresUnmarked, CallsIgnoreUnmarked, ImageWriteIgnoresUnmarked, PowerUpNeverMattersToHosts, PowerUpNeverMattersToReaders}
+
+-- 1: every input has an answer (the definitions are total), and a refusal changes nothing
+pub record Demand1 : Type 0 where
+  pub start : StartRefusalChangesNothing
+  pub word : RefusalChangesNothing
+  pub run-start : RunStartChangesNothing
+  pub asking : AskRefusalChangesNothing
+  pub turn : TurnRefusalChangesNothing
+  pub turns : NoTurnChangesNothing
+  pub whole-run : WholeRefusalChangesNothing
+  pub image-write : WriteRefusalChangesNothing
+  pub image-read : ReadRefusalChangesNothing
+  -- of the C functions
+  pub c-start : StartRefusalChangesNoByte
+  pub c-step : StepRefusalChangesNoByte
+  pub c-run-start : RunStartRefusalChangesNoByte
+  pub c-next : NextRefusalChangesNoByte
+  pub c-turn : TurnRefusalChangesNoByte
+  pub c-turns : NoTurnChangesNoByte
+  pub c-run : RunRefusalChangesNoByte
+  pub c-image-write : ImageWriteRefusalChangesNoByte
+  pub c-image-read : ImageReadRefusalChangesNoByte
+  -- and nothing of an answer is cut in what they return
+  pub c-step-whole : StepPacksWhole
+  pub c-image-size-whole : ImageSizePacksWhole
+  pub c-image-write-whole : ImageWritePacksWhole
+  pub c-image-read-whole : ImageReadPacksWhole
+
+-- 2: a step is its definition (the contract of `step::step`); refusals of a word are exact, and no sealed byte changes
+pub record Demand2 : Type 0 where
+  pub words : WordRefusals
+  pub stores : StoresAreExact
+  pub keeps-sound : StepKeepsSound
+  pub start-sound : StartIsSound
+  pub seal-words : SealHolds
+  pub seal-words-from-start : SealHoldsFromStart
+  pub seal : SealHoldsOverActs
+  pub seal-from-start : SealHoldsOverActsFromStart
+  pub seal-from-read : SealHoldsFromRead
+  -- over lists of C calls
+  pub c-seal : SealHoldsOverCalls
+  pub c-seal-from-start : SealHoldsFromStartCall
+
+-- 3: a product run, from its start on
+pub record Demand3 : Type 0 where
+  pub every-choice : RunsAreRight
+  pub ours : OurRunsAreRight
+  pub smaller : SmallerRunsAreRight
+  pub halving : HalvingRunsAreRight
+  pub rules : RulesKeepConstraints
+  pub whole-run : WholeDelivers
+  pub sheet : BenchSheet
+  pub example : ProductExample
+  -- over the C functions
+  pub c-start : StartCallsAreRight
+  pub c-turns : TurnCallsAreRight
+  pub c-many : TurnsAreTurnCalls
+  pub c-run : RunIsTurnCalls
+
+-- 02, where a request asks for a statement of its own: One, Two, Four, Five, Six and Nine. Of Three, Seven and Eight the statements above speak
+pub record Requests : Type 1 where
+  pub one-nothing-else : NothingElseMoved
+  pub one-added : AddedGotOne
+  pub two : LoadThenStoreTransposes
+  pub four : FloatRunsAreExact
+  pub four-whole-run : WholeRunsAreExact
+  pub four-example : TwoTerms
+  pub five : TableAgrees
+  pub five-decodes : TableDecodes
+  -- Six: images; first of numbers in groups of seven bits and of byte strings under any format
+  pub six-numbers : NumbersApart
+  pub six-one-place : OnePlace
+  pub six-parser : ParserIsRight
+  pub six-runs : RunsAreMaximal
+  pub six-format : FormatIsImages
+  pub six-same : AlikeHaveOneImage
+  pub six-others : OthersNever
+  pub six-read : ReadIsExact
+  pub six-made : ReadMakesItsMachine
+  pub six-back : WrittenIsReadBack
+  pub six-again : ReadIsWrittenBack
+  -- Nine: of words, of runs, of images, and of a host's calls
+  pub nine : PowerUpNeverMatters
+  pub nine-starts : StartsAlike
+  pub nine-step : StepIgnoresUnmarked
+  pub nine-words : WordsIgnoreUnmarked
+  pub nine-given : GivenWordsIgnoreUnmarked
+  pub nine-run-start : RunStartIgnoresUnmarked
+  pub nine-turns : TurnsIgnoreUnmarked
+  pub nine-whole-run : WholeIgnoresUnmarked
+  pub nine-images : ImagesStayEqual
+  pub nine-images-given : ImagesStayEqualGiven
+  pub nine-c : PowerUpNeverMattersToHosts
+  pub nine-c-readers : PowerUpNeverMattersToReaders
+  pub nine-c-call : CallIgnoresUnmarked
+  pub nine-c-calls : CallsIgnoreUnmarked
+  pub nine-c-image-write : ImageWriteIgnoresUnmarked
+
+pub record Promise : Type 1 where
+  pub demand-1 : Demand1
+  pub demand-2 : Demand2
+  pub demand-3 : Demand3
+  pub requests : Requests
