@@ -2,6 +2,7 @@
 
 #include "commands.h"
 
+#include <ctype.h>
 #include <inttypes.h>
 #include <stdio.h>
 #include <string.h>
@@ -27,13 +28,17 @@ static int take_word(struct reader *reader, const char *word, int *stands)
 static int run_machine(struct session *session)
 {
     struct reader *reader = &session->reader;
-    uint64_t rlen, mlen;
+    uint64_t rlen, mlen, elen = 32;
     int halving;
-    if (!take_any(reader, "RLEN", &rlen) || !take_any(reader, "MLEN", &mlen) || !take_word(reader, "halving", &halving))
+    if (!take_any(reader, "RLEN", &rlen) || !take_any(reader, "MLEN", &mlen))
+        return 0;
+    if (!at_end(reader) && isdigit((unsigned char)reader->text[reader->at]) && !take_any(reader, "ELEN", &elen))
+        return 0;
+    if (!take_word(reader, "halving", &halving))
         return 0;
     if (session->device.started)
         return not_now(session, "the machine is started already");
-    device_start(&session->device, rlen, mlen, halving ? BODLARINA_HALVING : BODLARINA_SMALLER);
+    device_start(&session->device, rlen, mlen, elen, halving ? BODLARINA_HALVING : BODLARINA_SMALLER);
     report(session, "machine");
     return 1;
 }
@@ -173,7 +178,7 @@ static const struct {
     int (*run)(struct session *session);
 } commands[] = {
     {"machine", run_machine}, {"memory", run_memory}, {"seal", run_seal},       {"bytes", run_bytes},     {"int8", run_int8},
-    {"int16", run_int16},     {"int32", run_int32},   {"float32", run_float32}, {"load", run_load},       {"x", run_scalar},
+    {"int16", run_int16},     {"int32", run_int32},   {"int64", run_int64}, {"float32", run_float32}, {"load", run_load},       {"x", run_scalar},
     {"word", run_word},       {"product", run_product}, {"save", run_save},     {"restore", run_restore}, {"expect", run_expect},
     {"show", run_show},
 };

@@ -11,6 +11,7 @@ int run_bytes(struct session *session);
 int run_int8(struct session *session);
 int run_int16(struct session *session);
 int run_int32(struct session *session);
+int run_int64(struct session *session);
 int run_float32(struct session *session);
 int run_load(struct session *session);
 

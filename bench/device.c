@@ -27,6 +27,7 @@ static struct bodlarina_bench lent(struct device *device)
     bench.run = device->run;
     bench.run_len = sizeof device->run;
     bench.rule = device->rule;
+    bench.elen = device->elen;
     return bench;
 }
 
@@ -37,14 +38,17 @@ static uint64_t answer(struct device *device, uint64_t result)
     return result;
 }
 
-uint64_t device_start(struct device *device, uint64_t rlen, uint64_t mlen, uint64_t rule)
+uint64_t device_start(struct device *device, uint64_t rlen, uint64_t mlen, uint64_t elen, uint64_t rule)
 {
     struct bodlarina_bench bench;
     device->rlen = rlen;
     device->mlen = mlen;
+    device->elen = elen;
     device->rule = rule;
     bench = lent(device);
-    answer(device, bodlarina_bench_start(&bench, rlen, mlen, device->seal_start, device->seal_length));
+    /* not by bodlarina_bench_start, which takes an ELEN of 0 for 32 */
+    answer(device, bodlarina_start(rlen, mlen, elen, rule, device->seal_start, device->seal_length, bench.machine, bench.machine_len,
+                                   bench.registers, bench.registers_len, bench.marks, bench.marks_len));
     device->started = device->result == 0;
     return device->result;
 }
@@ -117,6 +121,7 @@ static void take_numbers(struct device *device)
     device->rlen = bodlarina_get64(device->machine + BODLARINA_MACHINE_RLEN_AT);
     device->mlen = bodlarina_get64(device->machine + BODLARINA_MACHINE_MLEN_AT);
     device->rule = bodlarina_get64(device->machine + BODLARINA_MACHINE_RULE_AT);
+    device->elen = bodlarina_get64(device->machine + BODLARINA_MACHINE_ELEN_AT);
     device->seal_start = bodlarina_get64(device->machine + BODLARINA_MACHINE_SEAL_START_AT);
     device->seal_length = bodlarina_get64(device->machine + BODLARINA_MACHINE_SEAL_LENGTH_AT);
     device->named.known = 0;

@@ -6,7 +6,7 @@
 #include "instructions.h"
 
 /* The largest machine, and the most bytes of memory that a script may ask for. */
-#define MLEN_MOST 4096
+#define MLEN_MOST 65536
 #define MEMORY_BYTES_MOST 268435456
 
 /* Registers by number: tr0 to tr7 are 0 to 7, acc0 and acc1 are 8 and 9. */
@@ -38,7 +38,7 @@ struct device {
     uint8_t run[BODLARINA_RUN_BYTES];
     uint8_t *memory; /* NULL until the script gives its size */
     size_t memory_bytes;
-    uint64_t rlen, mlen, rule;
+    uint64_t rlen, mlen, elen, rule;
     uint64_t seal_start, seal_length;
     int sealed, started;
     int answered;         /* whether there was a start, a step, a run or an image */
@@ -61,7 +61,7 @@ int device_memory(struct device *device, size_t bytes);
 void device_free(struct device *device);
 
 /* Each call leaves its result in the device and returns it. */
-uint64_t device_start(struct device *device, uint64_t rlen, uint64_t mlen, uint64_t rule);
+uint64_t device_start(struct device *device, uint64_t rlen, uint64_t mlen, uint64_t elen, uint64_t rule);
 uint64_t device_step(struct device *device, uint32_t word);
 uint64_t device_run_start(struct device *device, const struct bodlarina_plan *plan);
 

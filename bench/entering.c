@@ -74,6 +74,7 @@ static int run_numbers(struct session *session, enum form form)
 int run_int8(struct session *session) { return run_numbers(session, INT8); }
 int run_int16(struct session *session) { return run_numbers(session, INT16); }
 int run_int32(struct session *session) { return run_numbers(session, INT32); }
+int run_int64(struct session *session) { return run_numbers(session, INT64); }
 int run_float32(struct session *session) { return run_numbers(session, FLOAT32); }
 
 /* Reads a file into memory from an address on. */

@@ -51,8 +51,8 @@ static int restore_file(struct session *session, size_t at, const char *path)
     if (image == NULL)
         return refuse(&session->reader, at, "this file %s", fault);
     if (device_restore(device, (const uint8_t *)image, length) == 0)
-        printf("%s:%lu: restore: RLEN %" PRIu64 ", MLEN %" PRIu64 "%s\n", session->reader.path, session->reader.line, device->rlen,
-               device->mlen, device->rule == BODLARINA_HALVING ? ", halving" : "");
+        printf("%s:%lu: restore: RLEN %" PRIu64 ", MLEN %" PRIu64 "%s%s\n", session->reader.path, session->reader.line, device->rlen,
+               device->mlen, device->elen == 64 ? ", ELEN 64" : "", device->rule == BODLARINA_HALVING ? ", halving" : "");
     report(session, "restore");
     free(image);
     return 1;

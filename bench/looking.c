@@ -81,14 +81,14 @@ static void other_number(struct session *session, uint64_t address, enum form fo
     printf("memory at %" PRIu64 " is %s, not %s\n", address, holds, expected);
 }
 
-/* expect memory [int8|int16|int32|float32] ADDRESS numbers..; without a form, bytes of 0 to 255. */
+/* expect memory [int8|int16|int32|int64|float32] ADDRESS numbers..; without a form, bytes of 0 to 255. */
 static int expect_memory(struct session *session)
 {
     struct reader *reader = &session->reader;
     enum form form = take_form(reader);
     uint64_t address;
     int64_t value, found;
-    if (!needs_memory(session) || !take_any(reader, "int8, int16, int32, float32 or an address", &address))
+    if (!needs_memory(session) || !take_any(reader, "int8, int16, int32, int64, float32 or an address", &address))
         return 0;
     do {
         size_t at = next_at(reader);
@@ -120,7 +120,7 @@ static int show_range(struct session *session)
     enum form form = take_form(reader);
     uint64_t address, count;
     size_t at = next_at(reader);
-    if (!needs_memory(session) || !take_any(reader, "int8, int16, int32, float32 or an address", &address)
+    if (!needs_memory(session) || !take_any(reader, "int8, int16, int32, int64, float32 or an address", &address)
         || !take_unsigned(reader, "how many", SHOWN_MOST, &count) || !take_end(reader)
         || !in_memory(session, at, address, count, form_bytes(form)))
         return 0;
@@ -145,24 +145,24 @@ static unsigned register_called(struct span span)
 static enum form form_of_sew(const struct device *device)
 {
     unsigned sew = device_sew(device);
-    return sew == 0 ? BYTE : sew == 1 ? INT8 : sew == 2 ? INT16 : INT32;
+    return sew == 0 ? BYTE : sew == 1 ? INT8 : sew == 2 ? INT16 : sew == 4 ? INT32 : INT64;
 }
 
-/* show tr0 [8|16|32|float32]; without one of them, signed numbers of SEW bits. */
+/* show tr0 [8|16|32|64|float32]; without one of them, signed numbers of SEW bits. */
 static int show_one_register(struct session *session, unsigned reg)
 {
     struct reader *reader = &session->reader;
     enum form form = form_of_sew(&session->device);
     if (!at_end(reader)) {
         struct span span = take_span(reader);
-        form = span_is(span, "8") ? INT8 : span_is(span, "16") ? INT16 : span_is(span, "32") ? INT32 : FLOAT32;
+        form = span_is(span, "8") ? INT8 : span_is(span, "16") ? INT16 : span_is(span, "32") ? INT32 : span_is(span, "64") ? INT64 : FLOAT32;
         if (form == FLOAT32 && !span_is(span, "float32"))
-            return refuse(reader, span.at, "expected the width of an element, 8, 16 or 32, or float32");
+            return refuse(reader, span.at, "expected the width of an element, 8, 16, 32 or 64, or float32");
     }
     if (!take_end(reader))
         return 0;
     if (form == BYTE)
-        return not_now(session, "mtype is illegal, so elements have no width: give 8, 16, 32 or float32");
+        return not_now(session, "mtype is illegal, so elements have no width: give 8, 16, 32, 64 or float32");
     show_register(&session->device, reg, form);
     return 1;
 }

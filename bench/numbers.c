@@ -13,7 +13,7 @@ static const struct {
     const char *name;
     unsigned bytes;
     int room;
-} forms[] = {{"", 1, 3}, {"int8", 1, 4}, {"int16", 2, 6}, {"int32", 4, 11}, {"float32", 4, 15}};
+} forms[] = {{"", 1, 3}, {"int8", 1, 4}, {"int16", 2, 6}, {"int32", 4, 11}, {"int64", 8, 20}, {"float32", 4, 15}};
 
 enum form take_form(struct reader *reader)
 {

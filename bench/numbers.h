@@ -5,9 +5,9 @@
 #include "reader.h"
 
 /* A byte of 0 to 255; signed numbers; a binary32 number, whose value is its bits here. */
-enum form { BYTE, INT8, INT16, INT32, FLOAT32 };
+enum form { BYTE, INT8, INT16, INT32, INT64, FLOAT32 };
 
-/* int8, int16, int32 or float32; else BYTE, and nothing is taken. */
+/* int8, int16, int32, int64 or float32; else BYTE, and nothing is taken. */
 enum form take_form(struct reader *reader);
 
 /* The bytes of a number, and the characters that it takes at most. */

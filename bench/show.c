@@ -89,7 +89,7 @@ static void show_number(const struct device *device, size_t address, enum form f
 
 void show_memory(const struct device *device, size_t address, size_t count, enum form form)
 {
-    size_t i, bytes = form_bytes(form), a_line = form == BYTE ? 16 : bytes == 4 ? 4 : 8;
+    size_t i, bytes = form_bytes(form), a_line = form == BYTE ? 16 : bytes >= 4 ? 4 : 8;
     for (i = 0; i < count; i++) {
         int last = i % a_line == a_line - 1 || i == count - 1;
         if (i % a_line == 0)

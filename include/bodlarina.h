@@ -48,8 +48,8 @@ extern "C" {
 
 /* The number is 10,000 times the major number, 100 times the minor one, and the patch number. While the major number is 0, the minor
  * one goes up when a block or a signature changes: then compile the host again. */
-#define BODLARINA_VERSION "0.3.0"
-#define BODLARINA_VERSION_NUMBER 300
+#define BODLARINA_VERSION "0.4.0"
+#define BODLARINA_VERSION_NUMBER 400
 
 /* The number of the library that is linked. It is BODLARINA_VERSION_NUMBER, or header and library do not belong together. */
 uint64_t bodlarina_version(void);
@@ -131,9 +131,9 @@ BODLARINA_INLINE void bodlarina_put64(uint8_t *bytes, uint64_t value)
         bytes[i] = (uint8_t)(value >> (8 * i) & 0xffu);
 }
 
-/* machine: nine numbers of 64 bits, each low byte first, at the bytes below. bodlarina_start writes them; the host may read, keep and
+/* machine: ten numbers of 64 bits, each low byte first, at the bytes below. bodlarina_start writes them; the host may read, keep and
  * copy the block: bodlarina_get64(machine + BODLARINA_MACHINE_MTYPE_AT). */
-#define BODLARINA_MACHINE_BYTES 72
+#define BODLARINA_MACHINE_BYTES 80
 #define BODLARINA_MACHINE_RLEN_AT 0 /* RLEN and MLEN in bits */
 #define BODLARINA_MACHINE_MLEN_AT 8
 #define BODLARINA_MACHINE_MTYPE_AT 16
@@ -143,6 +143,7 @@ BODLARINA_INLINE void bodlarina_put64(uint8_t *bytes, uint64_t value)
 #define BODLARINA_MACHINE_SEAL_START_AT 48
 #define BODLARINA_MACHINE_SEAL_LENGTH_AT 56
 #define BODLARINA_MACHINE_RULE_AT 64
+#define BODLARINA_MACHINE_ELEN_AT 72 /* in bits */
 
 /* registers and marks: BODLARINA_REGISTER_BYTES(MLEN) bytes each. The registers lie one after another,
  * row by row: tr0 .. tr7 of MLEN/8 bytes in rows of RLEN/8, then acc0 and acc1 of MLEN/2 bytes in rows of RLEN/2.
@@ -168,11 +169,12 @@ BODLARINA_INLINE void bodlarina_put64(uint8_t *bytes, uint64_t value)
 /* Starts a machine: every mark becomes 0, mtype and the tile sizes become 0, the register bytes stay, and the
  * machine block is written. The seal is the range of memory that no store of this machine may change; length 0
  * seals nothing, and it may reach past the end of memory. What marks and machine held before does not matter.
- *   rlen   64, 128, 256 or 512
- *   mlen   128, 256, 512, 1024, 2048 or 4096, above rlen
+ *   rlen   a power of two from 64 to 4096
+ *   mlen   a power of two from 128 to 65536, above rlen
+ *   elen   the widest element: 32 or 64, below rlen
  *   rule   what a tile setting gives of the size that it asks for: BODLARINA_SMALLER or BODLARINA_HALVING
  * Answers: 0; 8 for other lengths, another rule, a buffer of the wrong size, or seal_start + seal_length above 2^64 - 1. */
-uint64_t bodlarina_start(uint64_t rlen, uint64_t mlen, uint64_t rule, uint64_t seal_start, uint64_t seal_length,
+uint64_t bodlarina_start(uint64_t rlen, uint64_t mlen, uint64_t elen, uint64_t rule, uint64_t seal_start, uint64_t seal_length,
                          uint8_t *machine, size_t machine_len,
                          const uint8_t *registers, size_t registers_len,
                          uint8_t *marks, size_t marks_len);
@@ -196,8 +198,8 @@ uint64_t bodlarina_step(uint32_t word,
  * m by n of factor * sew bits. C(i, j) becomes the sum of A(i, l) x B(l, j) over l, reduced to its width in two's
  * complement; with k = 0 it is 0. No byte of memory outside C's elements changes. Row i of a matrix lies at
  * its address + i * its stride (a signed number), element j of w bits at byte j * w/8 of its row, low byte first.
- *   sew      8, 16 or 32
- *   factor   1, 2 or 4, with factor * sew at most 32
+ *   sew      8, 16, 32 or 64
+ *   factor   1, 2 or 4, with factor * sew at most the machine's ELEN
  *
  * In a float run (BODLARINA_FLOAT) the elements of A, B and C are binary32 numbers; sew is 32 and factor 1. C(i, j) is, bit for bit, the
  * plain sum from +0 in the order of l = 0, 1, ..: each product is rounded, then each sum, to the nearest, ties to even. A result that is
@@ -219,14 +221,14 @@ uint64_t bodlarina_step(uint32_t word,
 #define BODLARINA_A_TRANSPOSED 1u /* the same with A kept transposed: k rows of m elements, A(i, l) is element i of row l */
 #define BODLARINA_FLOAT 2u        /* A, m by k, times B, k by n, of binary32 numbers */
 
-/* run: nineteen numbers of 64 bits, each low byte first, at bytes 0, 8, .., 144:
+/* run: twenty numbers of 64 bits, each low byte first, at bytes 0, 8, .., 152:
  *   sew, factor, m, k, n, then address and stride of A, of B and of C, RLEN, MLEN,
  *   the place: which word comes next (0 to 8 in the order of a run, 9 none), and the row and column of C and
- *   the term of the sums at which its block starts; the kind; and the rule.
+ *   the term of the sums at which its block starts; the kind; the rule; and ELEN.
  * bodlarina_run_start writes them; the host may read, keep and copy the block. Numbers that no run can have are
  * answered with 8: lengths, a rule or a plan that a start answers with 8, or a place that no run comes to. Where the matrices
  * lie is judged by the start only; of a block that the host made itself each word is checked as it is carried out. */
-#define BODLARINA_RUN_BYTES 152
+#define BODLARINA_RUN_BYTES 160
 #define BODLARINA_RUN_NEXT_AT 104 /* the byte at which the number of the next word stands */
 #define BODLARINA_RUN_OVER 9      /* there is none: every step is done */
 
@@ -298,7 +300,8 @@ uint64_t bodlarina_run(uint64_t kind, uint64_t sew, uint64_t factor, uint64_t m,
 /* The image of a machine: its numbers and its marked register bytes, to hand it over. Two machines have the same image
  * exactly if they differ at most in unmarked register bytes. It is made of numbers in groups of seven bits, low group
  * first, the top bit set on all but the last group, in the shortest form: version 1, or of a halving machine version 2
- * and the rule, 1; the exponents of RLEN and MLEN, mtype, tile_m, tile_k, tile_n, the seal's start and length, the
+ * and the rule, 1; of a machine with RLEN above 512, MLEN above 4,096 or ELEN 64, of either rule, version 3, the rule and the
+ * exponent of ELEN; the exponents of RLEN and MLEN, mtype, tile_m, tile_k, tile_n, the seal's start and length, the
  * number of runs; then for each maximal run of marked bytes, in the order of the registers, its gap from the end of the
  * run before it (or from the start), its length, and its bytes as they are. */
 
@@ -325,20 +328,31 @@ uint64_t bodlarina_image_read(const uint8_t *image, size_t image_len,
                               uint8_t *marks, size_t marks_len);
 
 /* MLEN of the machine whose image starts like this, which gives the lengths of registers and marks; 0 if no image does: it starts
- * with the version, 1, or 2 and the rule, 1, and the exponents of RLEN and MLEN. */
+ * with the version, 1, or 2 and the rule, 1, or 3, the rule and the exponent of ELEN, and then the exponents of RLEN and MLEN. */
 BODLARINA_INLINE uint64_t bodlarina_image_mlen(const uint8_t *image, size_t image_len)
 {
-    size_t at = image_len > 1 && image[0] == 2 && image[1] == 1 ? 2 : 1; /* where the exponent of RLEN stands */
-    if (image_len < at + 2 || image[at - 1] != 1 || image[at] < 6 || image[at] > 9)
+    size_t at = 1;                    /* where the exponent of RLEN stands */
+    unsigned elen = 5, least, large = 0; /* the exponent of ELEN, and the least one of MLEN */
+    if (image_len > 2 && image[0] == 3 && image[1] <= 1 && (image[2] == 5 || image[2] == 6)) {
+        at = 3;
+        elen = image[2];
+        large = 1;
+    } else if (image_len > 1 && image[0] == 2 && image[1] == 1) {
+        at = 2;
+    } else if (image_len == 0 || image[0] != 1) {
         return 0;
-    if (image[at + 1] <= image[at] || image[at + 1] > 12)
+    }
+    if (image_len < at + 2 || image[at] <= elen || image[at] > (large ? 12 : 9))
+        return 0;
+    least = large && elen == 5 && image[at] < 10 ? 13 : image[at] + 1u;
+    if (image[at + 1] < least || image[at + 1] > (large ? 16 : 12))
         return 0;
     return (uint64_t)1 << image[at + 1];
 }
 
 /* ---- The same in short ------------------------------------------------------------------------------------ */
 
-/* The buffers of a machine and the rule to start it with, set once. Lengths are in bytes. run is for one product run at a
+/* The buffers of a machine, and the rule and ELEN to start it with, set once. Lengths are in bytes. run is for one product run at a
  * time; a host without runs leaves it out.
  *
  *     static uint8_t machine[BODLARINA_MACHINE_BYTES], registers[BODLARINA_REGISTER_BYTES(4096)], ..;
@@ -360,6 +374,7 @@ struct bodlarina_bench {
     uint8_t *run;
     size_t run_len;
     uint64_t rule; /* BODLARINA_SMALLER, 0, unless it is set */
+    uint64_t elen; /* 32 or 64; left at 0, 32 */
 };
 
 /* Where a matrix lies, and what is to be multiplied: the numbers of bodlarina_run_start. */
@@ -378,7 +393,7 @@ struct bodlarina_plan {
 BODLARINA_INLINE uint64_t bodlarina_bench_start(const struct bodlarina_bench *bench, uint64_t rlen, uint64_t mlen,
                                                 uint64_t seal_start, uint64_t seal_length)
 {
-    return bodlarina_start(rlen, mlen, bench->rule, seal_start, seal_length, bench->machine, bench->machine_len, bench->registers,
+    return bodlarina_start(rlen, mlen, bench->elen == 0 ? 32 : bench->elen, bench->rule, seal_start, seal_length, bench->machine, bench->machine_len, bench->registers,
                            bench->registers_len, bench->marks, bench->marks_len);
 }
 

@@ -22,11 +22,13 @@
 /* ---- mtype ------------------------------------------------------------------------------------------------ */
 
 /* The element width SEW in bits 2..0 of mtype, and maccq in bit 3: set for the instructions mq.., whose output is four
- * times as wide. Legal are E8, E16, E32 and E8 | MACCQ: no element is wider than 32 bits.
+ * times as wide. Legal are E8, E16, E32 and E8 | MACCQ, and where ELEN is 64 also E64 and E16 | MACCQ: no element is wider than
+ * ELEN.
  *     bodlarina_msettypei(0, BODLARINA_E8 | BODLARINA_MACCQ) */
 #define BODLARINA_E8 0u
 #define BODLARINA_E16 1u
 #define BODLARINA_E32 2u
+#define BODLARINA_E64 3u
 #define BODLARINA_MACCQ 8u
 
 /* What mtype holds, and rd receives, after a value that is illegal: bit 63 (mill). Words other than msettype and msettypei then

@@ -5,7 +5,7 @@ use mathlib.Core.Logic.{inl, inr}
 use native.Mathlib.Nat.{mul-le-mul-right}
 use native.Mathlib.Omega.{arith}
 use Rattle.machine.specs.Geometry.{accAt}
-use Rattle.width.specs.Bounds.{mostPitch, mostColumns, mostSize, mostTerms}
+use Rattle.width.specs.Bounds.{mostPitch, mostSize}
 use Rattle.element.specs.Element.{Width}
 use Rattle.element.proofs.Laws.{width-small}
 use Rattle.arithmetic.specs.Effect.{shape}
@@ -25,7 +25,8 @@ wider zero w h = absurd (omega (arith, width-some (zero * w) h))
     width-some : (v : ℕ) → Width v → zero < v
     width-some v (inl e) = omega arith
     width-some v (inr (inl e)) = omega arith
-    width-some v (inr (inr e)) = omega arith
+    width-some v (inr (inr (inl e))) = omega arith
+    width-some v (inr (inr (inr e))) = omega arith
 wider (suc f) w h = omega arith
 
 in-eight : (r e z : ℕ) → r < 8 → e ≤ z → r * z + e ≤ 8 * z
@@ -37,11 +38,11 @@ pub record Room (rows pitch f w d a b m k n len : ℕ) : Type 0 where
   pub b-ends : b * (rows * pitch) + k * pitch ≤ 8 * (rows * pitch)
   pub c-ends : (8 + 4 * d) * (rows * pitch) + m * (4 * pitch) ≤ len
   pub c-row : n * (f * w) ≤ 4 * pitch
-  pub narrow : f * w ≤ 4
+  pub narrow : f * w ≤ 8
   pub size : len ≤ 16 * mostSize
 
 pub room : (rows pitch f w d a b m k n len : ℕ) → (d < 2) × ((a < 8) × (b < 8)) → (rows * pitch ≤ mostSize) × ((pitch ≤ mostPitch) × (len ≡ 16 * (rows * pitch)))
-    → Width (f * w) → f ≤ 4 → (m ≤ rows) × ((k ≤ rows) × (k ≤ mostTerms)) → (n ≤ mostColumns) × ((n * w ≤ pitch) × (k * w ≤ pitch))
+    → Width (f * w) → f ≤ 4 → (m ≤ rows) × ((k ≤ rows) × (k ≤ mostPitch)) → (n ≤ mostPitch) × ((n * w ≤ pitch) × (k * w ≤ pitch))
     → Room rows pitch f w d a b m k n len
 room rows pitch f w d a b m k n len regs bytes wide lf sizes cols = record {
   a-ends = in-eight a (m * pitch) (rows * pitch) (regs .1 .0) (mul-le-mul-right pitch (sizes .0));

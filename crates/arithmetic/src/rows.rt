@@ -33,7 +33,11 @@ fn multiply_row(
         sums::sums16::multiply_row(s, a, b, c, pitch, width, k, n);
         return;
     }
-    sums::sums32::multiply_row(s, a, b, c, pitch, width, k, n);
+    if wide == 4 {
+        sums::sums32::multiply_row(s, a, b, c, pitch, width, k, n);
+        return;
+    }
+    sums::sums64::multiply_row(s, a, b, c, pitch, width, k, n);
 }
 
 // All rows of C, one after another.
@@ -52,7 +56,7 @@ pub fn multiply_rows(
     requires { ⌜ (n ≤ mostColumns) × (pitch ≤ mostPitch) ⌝ }
     requires { ⌜ (Width width) × ((Width wide) × (width ≤ wide)) ⌝ }
     requires { ⌜ (n * width ≤ pitch) × ((k * width ≤ pitch) × (n * wide ≤ 4 * pitch)) ⌝ }
-    requires { ⌜ (a + m * pitch ≤ c) × ((b + k * pitch ≤ c) × (c + m * (4 * pitch) ≤ length (now s))) ⌝ }
+    requires { ⌜ (a + m * pitch + k * width ≤ c + pitch) × ((b + k * pitch ≤ c) × ((c ≤ length (now s)) × (c + m * (4 * pitch) + n * wide ≤ length (now s) + 4 * pitch))) ⌝ }
     ensures { λ _. ⌜ now (s .exit) ≡ putTile (λ i. c + i * (4 * pitch)) m n wide (λ i. productRow (now (s .entry)) wide width pitch k (a + i * pitch) b (c + i * (4 * pitch))) (now (s .entry)) ⌝ }
 {
     let step = 4 * pitch;

@@ -18,6 +18,7 @@ ghost use Rattle.run.specs.Start.{planned};
 ghost use Rattle.run.specs.Places.{wordAt};
 ghost use Rattle.run.specs.Turn.{soundRun, runShape, stepsIn, ask, asked, askedAs};
 ghost use Rattle.width.specs.Blocks.{count};
+ghost use Rattle.width.specs.Bounds.{mostElen, mostMlen};
 ghost use Rattle.asking.specs.Parts.{isEnd, handedOf};
 ghost use Rattle.machine.specs.declared.Answer.the-variants.{BadArguments};
 ghost use Rattle.run.specs.Encoding.{settingWord, memoryWord, arithmeticWord, plain, startOf, handedFor};
@@ -32,7 +33,7 @@ fn setting_word(code: u32, immediate: u64) -> u32
 }
 
 fn memory_word(code: u32, width: u32, register: u32) -> u32
-    requires { ⌜ (code ≤ 10) × ((width ≤ 4) × (register ≤ 1)) ⌝ }
+    requires { ⌜ (code ≤ 10) × ((width ≤ 5) × (register ≤ 1)) ⌝ }
     ensures { λ r. ⌜ r ≡ memoryWord code width register ⌝ }
 {
     code * 33554432 + width * 4096 + register * 128 + 11862135
@@ -95,7 +96,7 @@ fn hand_multiply(plan: Plan) -> Handed
 
 // A load of a register from so many elements into a row of A or B.
 fn hand_load(plan: Plan, code: u32, register: u32, layout: Layout, row: u64, column: u64) -> Handed
-    requires { ⌜ planned plan ≡ true ⌝ }
+    requires { ⌜ planned mostElen plan ≡ true ⌝ }
     requires { ⌜ (code ≤ 10) × (register ≤ 1) ⌝ }
     requires { ⌜ (row ≤ 1024) × (column ≤ 1024) ⌝ }
     ensures { λ r. ⌜ r ≡ record { word = memoryWord code (msew plan) register; address = startOf layout row (column * narrow plan); stride = layout .stride } ⌝ }
@@ -113,7 +114,7 @@ fn hand_load(plan: Plan, code: u32, register: u32, layout: Layout, row: u64, col
 }
 
 fn hand_load_a(plan: Plan, row: u64, term: u64) -> Handed
-    requires { ⌜ planned plan ≡ true ⌝ }
+    requires { ⌜ planned mostElen plan ≡ true ⌝ }
     requires { ⌜ (row ≤ 1024) × (term ≤ 1024) ⌝ }
     ensures { λ r. ⌜ r ≡ handedFor plan (loadA row term) ⌝ }
 {
@@ -125,7 +126,7 @@ fn hand_load_a(plan: Plan, row: u64, term: u64) -> Handed
 }
 
 fn hand_load_b(plan: Plan, term: u64, column: u64) -> Handed
-    requires { ⌜ planned plan ≡ true ⌝ }
+    requires { ⌜ planned mostElen plan ≡ true ⌝ }
     requires { ⌜ (term ≤ 1024) × (column ≤ 1024) ⌝ }
     ensures { λ r. ⌜ r ≡ handedFor plan (loadB term column) ⌝ }
 {
@@ -134,7 +135,7 @@ fn hand_load_b(plan: Plan, term: u64, column: u64) -> Handed
 }
 
 fn hand_store(plan: Plan, row: u64, column: u64) -> Handed
-    requires { ⌜ planned plan ≡ true ⌝ }
+    requires { ⌜ planned mostElen plan ≡ true ⌝ }
     requires { ⌜ (row ≤ 1024) × (column ≤ 1024) ⌝ }
     ensures { λ r. ⌜ r ≡ handedFor plan (store row column) ⌝ }
 {
@@ -229,7 +230,7 @@ pub fn next(run: Run) -> Asked
 
 // How many blocks of at most so many a size is cut into.
 fn blocks(total: u64, most: u64) -> u64
-    requires { ⌜ (total ≤ 1024) × ((0 < most) × (most ≤ 4096)) ⌝ }
+    requires { ⌜ (total ≤ 1024) × ((0 < most) × (most ≤ mostMlen)) ⌝ }
     ensures { λ r. ⌜ r ≡ count most total ⌝ }
 {
     (total + (most - 1)) / most

@@ -19,23 +19,23 @@ use Rattle.bench_calls.specs.BenchCalls.{startedOut, shownStart, hostSta
 
 -- ---- starting
 
-module _ (rlen mlen rule sealStart sealLength : ℕ) (machine registers marks : List ℕ) where
+module _ (rlen mlen elen rule sealStart sealLength : ℕ) (machine registers marks : List ℕ) where
   -- a block of another length
   pub start-short : (r : ℕ) → ¬ (length machine ≡ machineBytes) → r ≡ packed (reply BadArguments)
-      → startedOut r machine registers marks ≡ hostStart rlen mlen rule sealStart sealLength machine registers marks
+      → startedOut r machine registers marks ≡ hostStart rlen mlen elen rule sealStart sealLength machine registers marks
   unfolding hostStart
   start-short r h er = rw (er, ne-eqb (length machine) machineBytes h)
 
   -- what the start has answered and left, and the block written exactly where it is done
   pub start-shown : (t : Bool) (s : Started) (M K : List ℕ) (r : ℕ) → length machine ≡ machineBytes
-      → startedAs s registers K ≡ startMachine rlen mlen rule sealStart sealLength registers marks
+      → startedAs s registers K ≡ startMachine rlen mlen elen rule sealStart sealLength registers marks
       → isDone (s .answer) ≡ t → M ≡ cond t (putMachine (s .machine) machine) machine → r ≡ packed (reply (s .answer))
-      → startedOut r M registers K ≡ hostStart rlen mlen rule sealStart sealLength machine registers marks
+      → startedOut r M registers K ≡ hostStart rlen mlen elen rule sealStart sealLength machine registers marks
   unfolding hostStart
   start-shown t s M K r h e et em er =
       ap₂ (λ (r : ℕ) (M : List ℕ). startedOut r M registers K) er (em ∙ ap (λ (t : Bool). cond t (putMachine (s .machine) machine) machine) (sym et))
       ∙ ap (shownStart machine) e
-      ∙ ap (λ (t : Bool). cond t (shownStart machine (startMachine rlen mlen rule sealStart sealLength registers marks)) (startedOut (packed (reply BadArguments)) machine registers marks))
+      ∙ ap (λ (t : Bool). cond t (shownStart machine (startMachine rlen mlen elen rule sealStart sealLength registers marks)) (startedOut (packed (reply BadArguments)) machine registers marks))
       (sym (eq-eqb (length machine) machineBytes h))
 
 -- ---- a step of the host

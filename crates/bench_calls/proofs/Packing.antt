@@ -41,7 +41,7 @@ first-le (suc n) p = go (ltb (first n p) n) (p n) (first-le n p)
 -- ---- answers with small rows and columns
 
 abbrev Small : Reply → Type 0
-Small a = (a .row ≤ 64) × (a .column ≤ 64)
+Small a = (a .row ≤ 1024) × (a .column ≤ 1024)
 
 whole : (a : Reply) → a .number < 2 ^ 16 → Small a → (packed a % 2 ^ 16 ≡ a .number) × (packed a / 2 ^ 16 % 2 ^ 16 ≡ a .row) × (packed a / 2 ^ 32 ≡ a .column)
 whole a n s = (omega arith, omega arith, omega arith)
@@ -52,7 +52,7 @@ abbrev EachSmall : List Check → Type 0
 EachSmall [] = Unit
 EachSmall (c ∷ cs) = Small (reply (c .answer)) × EachSmall cs
 
-zeros : (_≤_ 0 64) × (_≤_ 0 64)
+zeros : (_≤_ 0 1024) × (_≤_ 0 1024)
 zeros = (omega arith, omega arith)
 
 verdict-small : (cs : List Check) → EachSmall cs → Small (reply (verdict cs))
@@ -63,19 +63,19 @@ verdict-small (c ∷ cs) s = go (c .holds) (verdict-small cs (s .1))
     go true h = h
     go false h = s .0
 
-module _ (M : Parameters) (st : State) (mem : List ℕ) (hm : st .tileM ≤ 64) (hk : st .tileK ≤ 64) (hn : st .tileN ≤ 64) where
-  rows-small : (k : Matrix) → tileRows st k ≤ 64
+module _ (M : Parameters) (st : State) (mem : List ℕ) (hm : st .tileM ≤ 1024) (hk : st .tileK ≤ 1024) (hn : st .tileN ≤ 1024) where
+  rows-small : (k : Matrix) → tileRows st k ≤ 1024
   rows-small MatrixA = hm
   rows-small MatrixB = hk
   rows-small MatrixC = hm
 
-  cols-small : (k : Matrix) → tileCols st k ≤ 64
+  cols-small : (k : Matrix) → tileCols st k ≤ 1024
   cols-small MatrixA = hk
   cols-small MatrixB = hn
   cols-small MatrixC = hn
 
   -- of a tile of so many rows and columns
-  within : (rows cols : ℕ) (p q : ℕ → Bool) → rows ≤ 64 → cols ≤ 64 → (first rows p ≤ 64) × (first cols q ≤ 64)
+  within : (rows cols : ℕ) (p q : ℕ → Bool) → rows ≤ 1024 → cols ≤ 1024 → (first rows p ≤ 1024) × (first cols q ≤ 1024)
   within rows cols p q hr hc = (omega (arith, first-le rows p), omega (arith, first-le cols q))
 
   checks-small : (o : Operation) → EachSmall (checks M o st mem)
@@ -97,13 +97,13 @@ module _ (M : Parameters) (st : State) (mem : List ℕ) (hm : st .tileM ≤ 64) 
 
 -- ---- a step
 
--- a state that is not at fault has at most 64 rows and columns in its tiles
-sizes-small : (B : Bench) → soundBench B ≡ true → (B .machine .«tile_m» ≤ 64) × (B .machine .«tile_k» ≤ 64) × (B .machine .«tile_n» ≤ 64)
+-- a state that is not at fault has at most 1,024 rows and columns in its tiles
+sizes-small : (B : Bench) → soundBench B ≡ true → (B .machine .«tile_m» ≤ 1024) × (B .machine .«tile_k» ≤ 1024) × (B .machine .«tile_n» ≤ 1024)
 sizes-small B h =
     let m = B .machine in
     let s = sound-is m (B .registers) (B .marks) h in
-    let b = permitted-bounds (m .rlen) (m .mlen) (s .lengths) in
-    let r : m .mlen / m .rlen ≤ 64 = omega (arith, mul-le-mul-left (m .mlen / m .rlen) (b .0)) in
+    let b = permitted-bounds (m .rlen) (m .mlen) (m .elen) (s .lengths) in
+    let r : m .mlen / m .rlen ≤ 1024 = omega (arith, mul-le-mul-left (m .mlen / m .rlen) (b .0)) in
     (omega (arith, s .state .m-fits), omega (arith, s .state .k-fits), omega (arith, s .state .n-fits))
 
 answer-small : (M : Parameters) (word : ℕ) (xs : List ℕ) (B : Bench) → let a = outcome M (decode word) xs B .answer in (a .number < 2 ^ 16) × Small a

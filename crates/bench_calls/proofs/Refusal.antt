@@ -23,13 +23,13 @@ use Rattle.blocks.proofs.BlockLaws.{putMachine-same, putValues-same}
 
 pub start-refusal : StartRefusalChangesNoByte
 unfolding hostStart startMachine
-start-refusal rlen mlen rule sealStart sealLength machine registers marks =
-    go (eqb (length machine) machineBytes) (startable rlen mlen rule sealStart sealLength registers marks)
+start-refusal rlen mlen elen rule sealStart sealLength machine registers marks =
+    go (eqb (length machine) machineBytes) (startable rlen mlen elen rule sealStart sealLength registers marks)
   where
     out : Bool → Bool → HostStarted
     out t u = cond t
         (shownStart machine (cond u
-        (record { answer = reply Done; machine = freshMachine rlen mlen rule sealStart sealLength; registers = registers; marks = replicate (length marks) 0 })
+        (record { answer = reply Done; machine = freshMachine rlen mlen elen rule sealStart sealLength; registers = registers; marks = replicate (length marks) 0 })
         (record { answer = reply BadArguments; machine = noMachine; registers = registers; marks = marks })))
         (startedOut (packed (reply BadArguments)) machine registers marks)
 

@@ -31,10 +31,10 @@ shownStart machine o =
     startedOut (packed (o .answer)) (cond (done (o .answer)) (putMachine (o .machine) machine) machine) (o .registers) (o .marks)
 
 -- a block of the wrong length is refused with 8
-unfoldable pub hostStart : (rlen mlen rule sealStart sealLength : ℕ) → (machine registers marks : List ℕ) → HostStarted
-hostStart rlen mlen rule sealStart sealLength machine registers marks =
+unfoldable pub hostStart : (rlen mlen elen rule sealStart sealLength : ℕ) → (machine registers marks : List ℕ) → HostStarted
+hostStart rlen mlen elen rule sealStart sealLength machine registers marks =
     cond (eqb (length machine) machineBytes)
-    (shownStart machine (startMachine rlen mlen rule sealStart sealLength registers marks))
+    (shownStart machine (startMachine rlen mlen elen rule sealStart sealLength registers marks))
     (startedOut (packed (reply BadArguments)) machine registers marks)
 
 -- ---- a step

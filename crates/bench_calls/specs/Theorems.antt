@@ -10,8 +10,8 @@ use Rattle.bench_calls.specs.BenchCalls.{startedOut, hostStart, steppedO
 
 -- "A refusal changes no byte of any buffer."
 abbrev pub StartRefusalChangesNoByte : Type 0
-StartRefusalChangesNoByte = (rlen mlen rule sealStart sealLength : ℕ) (machine registers marks : List ℕ)
-    → let o = hostStart rlen mlen rule sealStart sealLength machine registers marks in
+StartRefusalChangesNoByte = (rlen mlen elen rule sealStart sealLength : ℕ) (machine registers marks : List ℕ)
+    → let o = hostStart rlen mlen elen rule sealStart sealLength machine registers marks in
     ¬ (o .result ≡ 0) → o ≡ startedOut (o .result) machine registers marks
 
 abbrev pub StepRefusalChangesNoByte : Type 0

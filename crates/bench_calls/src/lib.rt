@@ -7,10 +7,11 @@ use machine::Answer;
 ghost use mathlib.Core.Path.{_≡_};
 ghost use Rattle.bench_calls.specs.BenchCalls.{startedOut, hostStart, steppedOut, hostStep};
 
-// Starts a machine of this rule on the lent register bytes and marks, and writes its numbers into the machine block.
+// Starts a machine of this ELEN and rule on the lent register bytes and marks, and writes its numbers into the machine block.
 pub fn start(
     rlen: u64,
     mlen: u64,
+    elen: u64,
     rule: u64,
     seal_start: u64,
     seal_length: u64,
@@ -19,12 +20,21 @@ pub fn start(
     marks: &mut [u8],
 ) -> u64
     ensures { λ r. ⌜ startedOut r (now (machine .exit)) (now (registers .entry)) (now (marks .exit))
-        ≡ hostStart rlen mlen rule «seal_start» «seal_length» (now (machine .entry)) (now (registers .entry)) (now (marks .entry)) ⌝ }
+        ≡ hostStart rlen mlen elen rule «seal_start» «seal_length» (now (machine .entry)) (now (registers .entry)) (now (marks .entry)) ⌝ }
 {
     if machine.len() != MACHINE_BYTES {
         return packed(Answer::BadArguments);
     }
-    let started = machine::start(rlen, mlen, rule, seal_start, seal_length, registers, marks);
+    let started = machine::start(
+        rlen,
+        mlen,
+        elen,
+        rule,
+        seal_start,
+        seal_length,
+        registers,
+        marks,
+    );
     let answer = started.answer;
     if !machine::is_done(answer) {
         return packed(answer);

@@ -40,13 +40,13 @@ put-same n b small =
 
 -- the numbers in their order
 abbrev numbersOf : Machine → List ℕ
-numbersOf m = m .rlen ∷ m .mlen ∷ m .mtype ∷ m .«tile_m» ∷ m .«tile_k» ∷ m .«tile_n» ∷ m .«seal_start» ∷ m .«seal_length» ∷ m .rule ∷ []
+numbersOf m = m .rlen ∷ m .mlen ∷ m .mtype ∷ m .«tile_m» ∷ m .«tile_k» ∷ m .«tile_n» ∷ m .«seal_start» ∷ m .«seal_length» ∷ m .rule ∷ m .elen ∷ []
 
-putMachine-row : (m : Machine) (b : List ℕ) → putMachine m b ≡ putRow 0 9 8 (λ j. getD (numbersOf m) j 0) b
+putMachine-row : (m : Machine) (b : List ℕ) → putMachine m b ≡ putRow 0 10 8 (λ j. getD (numbersOf m) j 0) b
 unfolding putMachine putRow
 putMachine-row m b = refl
 
-numbersOf-machineOf : (b : List ℕ) → numbersOf (machineOf b) ≡ firstValues 9 b
+numbersOf-machineOf : (b : List ℕ) → numbersOf (machineOf b) ≡ firstValues 10 b
 unfolding machineOf
 numbersOf-machineOf b = refl
 
@@ -61,6 +61,7 @@ pub record Words (m : Machine) : Type 0 where
   pub seal-start : m .«seal_start» < 2 ^ 64
   pub seal-length : m .«seal_length» < 2 ^ 64
   pub rule : m .rule < 2 ^ 64
+  pub elen : m .elen < 2 ^ 64
 
 -- the machine that was written is read back
 pub machineOf-putMachine : (m : Machine) (b : List ℕ) → Words m → length b ≡ machineBytes → machineOf (putMachine m b) ≡ m
@@ -76,18 +77,19 @@ machineOf-putMachine m b w h =
       at 6 (m .«seal_start») (omega arith) refl (w .seal-start),
       at 7 (m .«seal_length») (omega arith) refl (w .seal-length),
       at 8 (m .rule) (omega arith) refl (w .rule),
+      at 9 (m .elen) (omega arith) refl (w .elen),
     )
   where
-    at : (j v : ℕ) → j < 9 → getD (numbersOf m) j 0 ≡ v → v < 2 ^ 64 → le (putMachine m b) (0 + j * 8) 8 ≡ v
+    at : (j v : ℕ) → j < 10 → getD (numbersOf m) j 0 ≡ v → v < 2 ^ 64 → le (putMachine m b) (0 + j * 8) 8 ≡ v
     at j v l e f =
         ap (λ (x : List ℕ). le x (0 + j * 8) 8) (putMachine-row m b)
-        ∙ le-putRow 0 9 8 (λ j. getD (numbersOf m) j 0) b (omega arith) j l
+        ∙ le-putRow 0 10 8 (λ j. getD (numbersOf m) j 0) b (omega arith) j l
         ∙ ap (λ (x : ℕ). x % 256 ^ 8) e ∙ mod-eq-of-lt f
 
 -- a block written over with its own numbers stays
 pub putMachine-same : (b : List ℕ) → Bytes b → putMachine (machineOf b) b ≡ b
 putMachine-same b small =
-    putMachine-row (machineOf b) b ∙ ap (λ (vs : List ℕ). putRow 0 9 8 (λ j. getD vs j 0) b) (numbersOf-machineOf b) ∙ put-same 9 b small
+    putMachine-row (machineOf b) b ∙ ap (λ (vs : List ℕ). putRow 0 10 8 (λ j. getD vs j 0) b) (numbersOf-machineOf b) ∙ put-same 10 b small
 
 -- ---- the scalars' block
 

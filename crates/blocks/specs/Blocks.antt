@@ -15,9 +15,9 @@ Bytes xs = (q : ℕ) → getD xs q 0 < 256
 
 -- ---- the machine's block
 
--- nine numbers of 64 bits, low byte first, in the order of the struct Machine
+-- ten numbers of 64 bits, low byte first, in the order of the struct Machine
 abbrev pub machineBytes : ℕ
-machineBytes = 72
+machineBytes = 80
 
 unfoldable pub machineOf : List ℕ → Machine
 machineOf block = record {
@@ -30,12 +30,14 @@ machineOf block = record {
   «seal_start» = le block 48 8;
   «seal_length» = le block 56 8;
   rule = le block 64 8;
+  elen = le block 72 8;
 }
 
 -- the numbers of a machine written over a block, each where machineOf reads it
 unfoldable pub putMachine : Machine → List ℕ → List ℕ
 putMachine m block =
-    putLe 64 8 (m .rule)
+    putLe 72 8 (m .elen)
+    (putLe 64 8 (m .rule)
     (putLe 56 8 (m .«seal_length»)
     (putLe 48 8 (m .«seal_start»)
     (putLe 40 8 (m .«tile_n»)
@@ -43,7 +45,7 @@ putMachine m block =
     (putLe 24 8 (m .«tile_m»)
     (putLe 16 8 (m .mtype)
     (putLe 8 8 (m .mlen)
-    (putLe 0 8 (m .rlen) block))))))))
+    (putLe 0 8 (m .rlen) block)))))))))
 
 -- ---- the scalars' block
 
@@ -72,6 +74,6 @@ putNumbers numbers block = putRow 0 (length numbers) 8 (λ j. getD numbers j 0) 
 
 -- a result packs answer | row << 16 | column << 32 (row and column 0 unless the answer is 5)
 -- The function takes every answer, whose row and column are any u64, so each is cut to its 16 bits. No real answer loses by it: a tile
--- has at most 64 rows and 64 columns.
+-- has at most 1,024 rows and 512 columns.
 abbrev pub packed : Reply → ℕ
 packed a = a .number + a .row % 2 ^ 16 * 2 ^ 16 + a .column % 2 ^ 16 * 2 ^ 32

@@ -9,7 +9,7 @@ ghost use Rattle.machine.specs.Answers.{reply};
 ghost use Rattle.blocks.specs.Blocks.{machineBytes, machineOf, putMachine, packed};
 
 // The bytes of the machine's block.
-pub const MACHINE_BYTES: usize = 72;
+pub const MACHINE_BYTES: usize = 80;
 
 fn wide(x: u8) -> u64
     ensures { λ r. ⌜ (r ≡ x) × (r < 256) ⌝ }
@@ -62,7 +62,18 @@ pub fn machine_of(block: &[u8]) -> Machine
         seal_start: read8(block, 48),
         seal_length: read8(block, 56),
         rule: read8(block, 64),
+        elen: read8(block, 72),
     }
+}
+
+// The lengths and mtype.
+fn put_lengths(block: &mut [u8], m: Machine)
+    requires { ⌜ length (now block) ≡ machineBytes ⌝ }
+    ensures { λ _. ⌜ now (block .exit) ≡ putLe 16 8 (m .mtype) (putLe 8 8 (m .mlen) (putLe 0 8 (m .rlen) (now (block .entry)))) ⌝ }
+{
+    write8(block, 0, m.rlen);
+    write8(block, 8, m.mlen);
+    write8(block, 16, m.mtype);
 }
 
 // The machine's numbers into their block.
@@ -70,15 +81,14 @@ pub fn put_machine(block: &mut [u8], m: Machine)
     requires { ⌜ length (now block) ≡ machineBytes ⌝ }
     ensures { λ _. ⌜ now (block .exit) ≡ putMachine m (now (block .entry)) ⌝ }
 {
-    write8(block, 0, m.rlen);
-    write8(block, 8, m.mlen);
-    write8(block, 16, m.mtype);
+    put_lengths(block, m);
     write8(block, 24, m.tile_m);
     write8(block, 32, m.tile_k);
     write8(block, 40, m.tile_n);
     write8(block, 48, m.seal_start);
     write8(block, 56, m.seal_length);
     write8(block, 64, m.rule);
+    write8(block, 72, m.elen);
 }
 
 // An answer's number, with row and column in the bits above it.

@@ -13,14 +13,15 @@ ghost use Rattle.bodlarina.specs.Host.{hostVersion};
 pub extern "C" fn bodlarina_version() -> u64
     ensures { λ r. ⌜ r ≡ hostVersion ⌝ }
 {
-    300
+    400
 }
 
-// Starts a machine of this rule on the lent register bytes and marks, and writes its numbers into the machine block.
+// Starts a machine of this ELEN and rule on the lent register bytes and marks, and writes its numbers into the machine block.
 #[no_mangle]
 pub extern "C" fn bodlarina_start(
     rlen: u64,
     mlen: u64,
+    elen: u64,
     rule: u64,
     seal_start: u64,
     seal_length: u64,
@@ -29,11 +30,12 @@ pub extern "C" fn bodlarina_start(
     marks: &mut [u8],
 ) -> u64
     ensures { λ r. ⌜ startedOut r (now (machine .exit)) (now (registers .entry)) (now (marks .exit))
-        ≡ hostStart rlen mlen rule «seal_start» «seal_length» (now (machine .entry)) (now (registers .entry)) (now (marks .entry)) ⌝ }
+        ≡ hostStart rlen mlen elen rule «seal_start» «seal_length» (now (machine .entry)) (now (registers .entry)) (now (marks .entry)) ⌝ }
 {
     bench_calls::start(
         rlen,
         mlen,
+        elen,
         rule,
         seal_start,
         seal_length,

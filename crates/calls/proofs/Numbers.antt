@@ -15,13 +15,13 @@ use Rattle.machine.specs.declared.Machine.{Machine}
 use Rattle.machine.specs.declared.Answer.the-variants.{BadArguments}
 use Rattle.machine.specs.Tests.{every, isIn}
 use Rattle.machine.specs.Answers.{done, verdict}
-use Rattle.machine.specs.Geometry.{elen, Bench, parameters}
+use Rattle.machine.specs.Geometry.{elens, Bench, parameters}
 use Rattle.machine.specs.Setting.{chosen, newType}
 use Rattle.machine.specs.Faults.{soundBench}
 use Rattle.machine.specs.Listing.{decode}
 use Rattle.machine.specs.Step.{Outcome, stepBy, stepChecks}
-use Rattle.machine.proofs.TestLaws.{and-right, every-each, each-in}
-use Rattle.machine.proofs.StepLaws.{step-refused, permitted-bounds}
+use Rattle.machine.proofs.TestLaws.{and-right, every-each, each, each-in}
+use Rattle.machine.proofs.StepLaws.{step-refused, permitted-bounds, permitted-elen}
 use Rattle.machine.proofs.SizeLaws.{chosen-grants}
 use Rattle.machine.proofs.CodeLaws.{legalTypes, types-are}
 use Rattle.machine.proofs.NoFault.{Sound, sound-is, step-sound}
@@ -61,30 +61,36 @@ machine-words b small = record {
   seal-start = le-lt b small 48 8;
   seal-length = le-lt b small 56 8;
   rule = le-lt b small 64 8;
+  elen = le-lt b small 72 8;
 }
 
-type-small : (v : ℕ) → newType elen v ≡ v → v < 2 ^ 64
-type-small v e = go (isIn v legalTypes) refl
+type-small : (elen v : ℕ) → isIn elen elens ≡ true → newType elen v ≡ v → v < 2 ^ 64
+type-small elen v known e = go (isIn v (legalTypes elen)) refl
   where
-    go : (t : Bool) → isIn v legalTypes ≡ t → v < 2 ^ 64
-    go true d = let l : v < 9 = ltb-true v 9 (each-in v legalTypes (λ v. ltb v 9) refl d) in omega arith
-    go false d = let z : v ≡ 2 ^ 63 = sym e ∙ types-are v ∙ rw d in omega (arith, z)
+    low : each (legalTypes elen) (λ v. ltb v 10) ≡ true
+    low = each-in elen elens (λ e. each (legalTypes e) (λ v. ltb v 10)) refl known
+
+    go : (t : Bool) → isIn v (legalTypes elen) ≡ t → v < 2 ^ 64
+    go true d = let l : v < 10 = ltb-true v 10 (each-in v (legalTypes elen) (λ v. ltb v 10) low d) in omega arith
+    go false d = let z : v ≡ 2 ^ 63 = sym e ∙ types-are elen known v ∙ rw d in omega (arith, z)
 
 -- of a state that is not at fault
 sound-words : (m : Machine) (registers marks : List ℕ) → Sound m registers marks → Words m
 sound-words m registers marks s =
-    let l = permitted-bounds (m .rlen) (m .mlen) (s .lengths) in
+    let l = permitted-bounds (m .rlen) (m .mlen) (m .elen) (s .lengths) in
+    let p = permitted-elen (m .rlen) (m .mlen) (m .elen) (s .lengths) in
     let rows : m .mlen / m .rlen ≤ m .mlen = div-le-self (m .mlen) (m .rlen) in
     record {
       rlen = omega arith;
       mlen = omega arith;
-      mtype = type-small (m .mtype) (s .state .type-arises);
+      mtype = type-small (m .elen) (m .mtype) (p .0) (s .state .type-arises);
       tile-m = omega (arith, s .state .m-fits);
       tile-k = omega (arith, s .state .k-fits);
       tile-n = omega (arith, s .state .n-fits);
       seal-start = omega (arith, s .seal-ends);
       seal-length = omega (arith, s .seal-ends);
       rule = omega (arith, leb-true (m .rule) 1 (s .rule-is));
+      elen = omega (arith, p .1);
     }
 
 -- after a step: of a state at fault nothing changes
@@ -114,23 +120,24 @@ four s k r c t (suc (suc zero)) = c
 four s k r c t (suc (suc (suc zero))) = t
 four s k r c t (suc (suc (suc (suc j)))) = omega arith
 
--- a place's numbers, and the plan's kind and the rule after them
-with-kind : (s : Spot) (k r : ℕ) → ((j : ℕ) → getD (spotNumbers s) j 0 < 2 ^ 64) → k < 2 ^ 64 → r < 2 ^ 64 → (j : ℕ) → getD (spotNumbers s ++ (k ∷ r ∷ [])) j 0 < 2 ^ 64
-with-kind s k r h lk lr = begin-alike (2 ^ 64) (spotNumbers s) [] (k ∷ r ∷ []) h last
+-- a place's numbers, and the plan's kind, the rule and ELEN after them
+with-kind : (s : Spot) (k r e : ℕ) → ((j : ℕ) → getD (spotNumbers s) j 0 < 2 ^ 64) → k < 2 ^ 64 → r < 2 ^ 64 → e < 2 ^ 64 → (j : ℕ) → getD (spotNumbers s ++ (k ∷ r ∷ e ∷ [])) j 0 < 2 ^ 64
+with-kind s k r e h lk lr le = begin-alike (2 ^ 64) (spotNumbers s) [] (k ∷ r ∷ e ∷ []) h last
   where
-    last : (j : ℕ) → getD (k ∷ r ∷ []) j 0 < 2 ^ 64
+    last : (j : ℕ) → getD (k ∷ r ∷ e ∷ []) j 0 < 2 ^ 64
     last zero = lk
     last (suc zero) = lr
-    last (suc (suc j)) = omega arith
+    last (suc (suc zero)) = le
+    last (suc (suc (suc j))) = omega arith
 
--- the plan's numbers, the lengths, the rule and the place
-parts : (R : Run) → PlanWords (R .plan) → R .rlen < 2 ^ 64 → R .mlen < 2 ^ 64 → R .rule < 2 ^ 64 → ((j : ℕ) → getD (spotNumbers (spotOf (R .place))) j 0 < 2 ^ 64) → RunWords R
-parts R p r m u s = begin-alike (2 ^ 64) (planNumbers (R .plan)) (R .plan .kind ∷ []) (R .rlen ∷ R .mlen ∷ (spotNumbers (spotOf (R .place)) ++ (R .plan .kind ∷ R .rule ∷ []))) p tail
+-- the plan's numbers, the lengths, ELEN, the rule and the place
+parts : (R : Run) → PlanWords (R .plan) → R .rlen < 2 ^ 64 → R .mlen < 2 ^ 64 → R .elen < 2 ^ 64 → R .rule < 2 ^ 64 → ((j : ℕ) → getD (spotNumbers (spotOf (R .place))) j 0 < 2 ^ 64) → RunWords R
+parts R p r m e u s = begin-alike (2 ^ 64) (planNumbers (R .plan)) (R .plan .kind ∷ []) (R .rlen ∷ R .mlen ∷ (spotNumbers (spotOf (R .place)) ++ (R .plan .kind ∷ R .rule ∷ R .elen ∷ []))) p tail
   where
-    tail : (j : ℕ) → getD (R .rlen ∷ R .mlen ∷ (spotNumbers (spotOf (R .place)) ++ (R .plan .kind ∷ R .rule ∷ []))) j 0 < 2 ^ 64
+    tail : (j : ℕ) → getD (R .rlen ∷ R .mlen ∷ (spotNumbers (spotOf (R .place)) ++ (R .plan .kind ∷ R .rule ∷ R .elen ∷ []))) j 0 < 2 ^ 64
     tail zero = r
     tail (suc zero) = m
-    tail (suc (suc j)) = with-kind (spotOf (R .place)) (R .plan .kind) (R .rule) s (p 11) u j
+    tail (suc (suc j)) = with-kind (spotOf (R .place)) (R .plan .kind) (R .rule) (R .elen) s (p 11) u e j
 
 -- eight bytes each of a block of bytes
 values-small : (b : List ℕ) → Bytes b → (ps : List ℕ) (j : ℕ) → getD (map (λ p. le b p 8) ps) j 0 < 2 ^ 64
@@ -151,7 +158,7 @@ unfolding runOf runFit
 run-words b small h =
     let s : Spot = spotOf (placeOf (spotIn b)) in
     let e = every-each (sameSpot (spotIn b) s) (and-right (eqb (length b) runBytes) (every (sameSpot (spotIn b) s)) h) in
-    parts (runOf b) (plan-words b small) (le-lt b small 88 8) (le-lt b small 96 8) (le-lt b small 144 8)
+    parts (runOf b) (plan-words b small) (le-lt b small 88 8) (le-lt b small 96 8) (le-lt b small 152 8) (le-lt b small 144 8)
     (four s (same-small (spotIn b .kind) (s .kind) (e .0) (le-lt b small 104 8)) (same-small (spotIn b .row) (s .row) (e .1 .0) (le-lt b small 112 8))
     (same-small (spotIn b .column) (s .column) (e .1 .1 .0) (le-lt b small 120 8)) (same-small (spotIn b .term) (s .term) (e .1 .1 .1 .0) (le-lt b small 128 8)))
 
@@ -171,15 +178,15 @@ place-words P AtEnd l h = four (spotOf AtEnd) (omega arith) (omega arith) (omega
 
 -- as a start makes it
 pub fresh-words : (m : Machine) (P : Plan) → Words m → PlanWords P → RunWords (freshRun m P)
-fresh-words m P w p = parts (freshRun m P) p (w .rlen) (w .mlen) (w .rule) (four (spotOf AtType) (omega arith) (omega arith) (omega arith) (omega arith))
+fresh-words m P w p = parts (freshRun m P) p (w .rlen) (w .mlen) (w .elen) (w .rule) (four (spotOf AtType) (omega arith) (omega arith) (omega arith) (omega arith))
 
 -- once a step is handed out: the plan, the lengths and the rule stay, and the next place lies in the matrices
 moved-words : (R : Run) → RunWords R → soundRun chosen R ≡ true → RunWords (moved chosen R)
 moved-words R w ok =
-    begin-alike (2 ^ 64) (planNumbers (R .plan) ++ (R .rlen ∷ R .mlen ∷ [])) (spotNumbers (spotOf (R .place)) ++ (R .plan .kind ∷ R .rule ∷ []))
-    (spotNumbers (spotOf (moved chosen R .place)) ++ (R .plan .kind ∷ R .rule ∷ []))
-    w (with-kind (spotOf (moved chosen R .place)) (R .plan .kind) (R .rule)
-    (place-words (R .plan) (moved chosen R .place) (run-sizes R (run-numbered R ok)) (run-placed (moved chosen R) (moved-sound R ok))) (w 17) (w 18))
+    begin-alike (2 ^ 64) (planNumbers (R .plan) ++ (R .rlen ∷ R .mlen ∷ [])) (spotNumbers (spotOf (R .place)) ++ (R .plan .kind ∷ R .rule ∷ R .elen ∷ []))
+    (spotNumbers (spotOf (moved chosen R .place)) ++ (R .plan .kind ∷ R .rule ∷ R .elen ∷ []))
+    w (with-kind (spotOf (moved chosen R .place)) (R .plan .kind) (R .rule) (R .elen)
+    (place-words (R .plan) (moved chosen R .place) (run-sizes R (run-numbered R ok)) (run-placed (moved chosen R) (moved-sound R ok))) (w 17) (w 18) (w 19))
 
 -- ---- turns
 

@@ -82,7 +82,7 @@ module _ (P : Plan) (b : Buffers) where
   start-plain : packed (s .answer) ≡ s .answer .number
   unfolding startRun
   start-plain =
-      go (sound (B .machine) (B .registers) (B .marks)) (planned P) (lying P (B .memory)) (separate (parameters chosen (B .machine)) P)
+      go (sound (B .machine) (B .registers) (B .marks)) (planned (B .machine .elen) P) (lying P (B .memory)) (separate (parameters chosen (B .machine)) P)
     where
       out : (t u v w : Bool) → Answer
       out t u v w = verdict ((t otherwise BadArguments) ∷ (u otherwise BadArguments) ∷ (v otherwise OutsideMemory) ∷ (w otherwise Overlap) ∷ [])

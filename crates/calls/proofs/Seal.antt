@@ -18,7 +18,7 @@ use Rattle.machine.specs.Starting.{isRule, sealEnds, startable, startMachine, f
 use Rattle.machine.specs.Step.{step}
 use Rattle.machine.specs.Theorems.{Unharmed}
 use Rattle.machine.proofs.TestLaws.{in-within, every-each}
-use Rattle.machine.proofs.StepLaws.{permitted-bounds}
+use Rattle.machine.proofs.StepLaws.{permitted-bounds, permitted-elen}
 use Rattle.machine.proofs.Sealing.{step-unharmed}
 use Rattle.run.specs.declared.Plan.{Plan}
 use Rattle.run.specs.Words.{steps}
@@ -203,7 +203,7 @@ module _ (b : Buffers) (w : Words (machineOf (b .machine))) where
       go false e = w
 
   call-safe : (c : Call) → SparesSeal c b → SafeAfter (called c b)
-  call-safe (Call.start rlen mlen rule sealStart sealLength) h = absurd h
+  call-safe (Call.start rlen mlen elen rule sealStart sealLength) h = absurd h
   call-safe (Call.step word) h = step-safe word
   call-safe (Call.runStart P) h = run-start-safe P
   call-safe Call.runNext h = unchanged
@@ -242,15 +242,15 @@ seal-holds-over-calls cs b small = calls-keep cs b (machine-words (b .machine) s
 
 -- ---- from a start on
 
-module _ (rlen mlen rule sealStart sealLength : ℕ) where
+module _ (rlen mlen elen rule sealStart sealLength : ℕ) where
   abbrev fresh : Machine
-  fresh = freshMachine rlen mlen rule sealStart sealLength
+  fresh = freshMachine rlen mlen elen rule sealStart sealLength
 
-  fresh-words : (registers marks : List ℕ) → startable rlen mlen rule sealStart sealLength registers marks ≡ true → Words fresh
+  fresh-words : (registers marks : List ℕ) → startable rlen mlen elen rule sealStart sealLength registers marks ≡ true → Words fresh
   unfolding startable
   fresh-words registers marks h =
-      let t = every-each (permitted rlen mlen ∷ eqb (length registers) (registerBytes mlen) ∷ eqb (length marks) (registerBytes mlen) ∷ isRule rule ∷ sealEnds sealStart sealLength ∷ []) h in
-      let l = permitted-bounds rlen mlen (t .0) in
+      let t = every-each (permitted rlen mlen elen ∷ eqb (length registers) (registerBytes mlen) ∷ eqb (length marks) (registerBytes mlen) ∷ isRule rule ∷ sealEnds sealStart sealLength ∷ []) h in
+      let l = permitted-bounds rlen mlen elen (t .0) in
       let e : sealStart + sealLength ≤ 2 ^ 64 - 1 = leb-true (sealStart + sealLength) (2 ^ 64 - 1) (t .1 .1 .1 .1 .0) in
       record {
         rlen = omega arith;
@@ -262,28 +262,29 @@ module _ (rlen mlen rule sealStart sealLength : ℕ) where
         seal-start = omega arith;
         seal-length = omega arith;
         rule = omega (arith, leb-true rule 1 (t .1 .1 .1 .0));
+        elen = omega (arith, permitted-elen rlen mlen elen (t .0) .1);
       }
 
 pub seal-holds-from-start-call : SealHoldsFromStartCall
 unfolding hostStart startMachine
-seal-holds-from-start-call rlen mlen rule sealStart sealLength b =
-    go (eqb (length (b .machine)) machineBytes) (startable rlen mlen rule sealStart sealLength (b .registers) (b .marks)) refl refl
+seal-holds-from-start-call rlen mlen elen rule sealStart sealLength b =
+    go (eqb (length (b .machine)) machineBytes) (startable rlen mlen elen rule sealStart sealLength (b .registers) (b .marks)) refl refl
   where
     out : Bool → Bool → Called
     out t u =
         afterStart b (cond t
         (shownStart (b .machine) (cond u
-        (record { answer = reply Done; machine = freshMachine rlen mlen rule sealStart sealLength; registers = b .registers; marks = replicate (length (b .marks)) 0 })
+        (record { answer = reply Done; machine = freshMachine rlen mlen elen rule sealStart sealLength; registers = b .registers; marks = replicate (length (b .marks)) 0 })
         (record { answer = reply BadArguments; machine = noMachine; registers = b .registers; marks = b .marks })))
         (startedOut (packed (reply BadArguments)) (b .machine) (b .registers) (b .marks)))
 
-    go : (t u : Bool) → eqb (length (b .machine)) machineBytes ≡ t → startable rlen mlen rule sealStart sealLength (b .registers) (b .marks) ≡ u
+    go : (t u : Bool) → eqb (length (b .machine)) machineBytes ≡ t → startable rlen mlen elen rule sealStart sealLength (b .registers) (b .marks) ≡ u
         → out t u .result ≡ 0 → (cs : List Call) → EachSparesSeal cs (out t u .after)
         → SealKept sealStart sealLength (b .memory) (benchIn (afterCalls cs (out t u .after)))
     go true true e f z cs h =
-        let w : Words (freshMachine rlen mlen rule sealStart sealLength) = fresh-words rlen mlen rule sealStart sealLength (b .registers) (b .marks) f in
-        let m : machineOf (out true true .after .machine) ≡ freshMachine rlen mlen rule sealStart sealLength =
-        machineOf-putMachine (freshMachine rlen mlen rule sealStart sealLength) (b .machine) w (eqb-true (length (b .machine)) machineBytes e) in
+        let w : Words (freshMachine rlen mlen elen rule sealStart sealLength) = fresh-words rlen mlen elen rule sealStart sealLength (b .registers) (b .marks) f in
+        let m : machineOf (out true true .after .machine) ≡ freshMachine rlen mlen elen rule sealStart sealLength =
+        machineOf-putMachine (freshMachine rlen mlen elen rule sealStart sealLength) (b .machine) w (eqb-true (length (b .machine)) machineBytes e) in
         subst (λ (m : Machine). SealKept (m .«seal_start») (m .«seal_length») (b .memory) (benchIn (afterCalls cs (out true true .after)))) m
         (calls-keep cs (out true true .after) (subst Words (sym m) w) h)
     go true false e f z cs h = let y : _≡_ {A = ℕ} 8 0 = z in absurd (omega arith)

@@ -34,17 +34,17 @@ fills n f xs ys ex ey =
 -- ---- the machine's block
 
 numbersOf : Machine → ℕ → ℕ
-numbersOf m j = getD (m .rlen ∷ m .mlen ∷ m .mtype ∷ m .«tile_m» ∷ m .«tile_k» ∷ m .«tile_n» ∷ m .«seal_start» ∷ m .«seal_length» ∷ m .rule ∷ []) j 0
+numbersOf m j = getD (m .rlen ∷ m .mlen ∷ m .mtype ∷ m .«tile_m» ∷ m .«tile_k» ∷ m .«tile_n» ∷ m .«seal_start» ∷ m .«seal_length» ∷ m .rule ∷ m .elen ∷ []) j 0
 
-putMachine-row : (m : Machine) (xs : List ℕ) → putMachine m xs ≡ putRow 0 9 8 (numbersOf m) xs
+putMachine-row : (m : Machine) (xs : List ℕ) → putMachine m xs ≡ putRow 0 10 8 (numbersOf m) xs
 unfolding putMachine putRow numbersOf
 putMachine-row m xs = refl
 
 pub length-putMachine : (m : Machine) (xs : List ℕ) → length (putMachine m xs) ≡ length xs
-length-putMachine m xs = ap length (putMachine-row m xs) ∙ length-putRow 0 9 8 (numbersOf m) xs
+length-putMachine m xs = ap length (putMachine-row m xs) ∙ length-putRow 0 10 8 (numbersOf m) xs
 
 pub putMachine-fills : (m : Machine) (xs ys : List ℕ) → length xs ≡ machineBytes → length ys ≡ machineBytes → putMachine m xs ≡ putMachine m ys
-putMachine-fills m xs ys ex ey = putMachine-row m xs ∙ fills 9 (numbersOf m) xs ys ex ey ∙ sym (putMachine-row m ys)
+putMachine-fills m xs ys ex ey = putMachine-row m xs ∙ fills 10 (numbersOf m) xs ys ex ey ∙ sym (putMachine-row m ys)
 
 pub putMachine-over : (m m′ : Machine) (xs : List ℕ) → length xs ≡ machineBytes → putMachine m (putMachine m′ xs) ≡ putMachine m xs
 putMachine-over m m′ xs e = putMachine-fills m (putMachine m′ xs) xs (length-putMachine m′ xs ∙ e) e
@@ -62,15 +62,16 @@ putMachine-words m xs e = record {
   seal-start = at 6 (omega arith);
   seal-length = at 7 (omega arith);
   rule = at 8 (omega arith);
+  elen = at 9 (omega arith);
 }
   where
-    at : (j : ℕ) → j < 9 → le (putMachine m xs) (0 + j * 8) 8 < 2 ^ 64
+    at : (j : ℕ) → j < 10 → le (putMachine m xs) (0 + j * 8) 8 < 2 ^ 64
     at j l =
-        let v : le (putMachine m xs) (0 + j * 8) 8 ≡ numbersOf m j % 256 ^ 8 = ap (λ (ys : List ℕ). le ys (0 + j * 8) 8) (putMachine-row m xs) ∙ le-putRow 0 9 8 (numbersOf m) xs (omega arith) j l in
+        let v : le (putMachine m xs) (0 + j * 8) 8 ≡ numbersOf m j % 256 ^ 8 = ap (λ (ys : List ℕ). le ys (0 + j * 8) 8) (putMachine-row m xs) ∙ le-putRow 0 10 8 (numbersOf m) xs (omega arith) j l in
         omega (arith, v)
 
 -- ---- a run's block
 
 pub putRun-over : (R R′ : Run) (xs : List ℕ) → length xs ≡ runBytes → putRun R (putRun R′ xs) ≡ putRun R xs
 unfolding putRun putNumbers
-putRun-over R R′ xs e = fills 19 (λ j. getD (numbersOfRun R) j 0) (putRun R′ xs) xs (length-putRun R′ xs ∙ e) e
+putRun-over R R′ xs e = fills 20 (λ j. getD (numbersOfRun R) j 0) (putRun R′ xs) xs (length-putRun R′ xs ∙ e) e

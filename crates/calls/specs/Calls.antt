@@ -39,7 +39,7 @@ buffers machine registers marks scalars memory run step steps = record {
 -- buffers above, and of what bodlarina_image_write leaves in it a list of calls keeps nothing (image_calls/specs/ImageCalls.antt has it);
 -- and between them the host writes its buffers, all but registers and marks, as it likes
 pub data Call : Type 0 where
-  start : (rlen mlen rule sealStart sealLength : ℕ) → Call
+  start : (rlen mlen elen rule sealStart sealLength : ℕ) → Call
   step : (word : ℕ) → Call
   runStart : Plan → Call
   runNext : Call
@@ -100,8 +100,8 @@ afterRead b o = record {
 }
 
 abbrev pub called : Call → Buffers → Called
-called (Call.start rlen mlen rule sealStart sealLength) b =
-    afterStart b (hostStart rlen mlen rule sealStart sealLength (b .machine) (b .registers) (b .marks))
+called (Call.start rlen mlen elen rule sealStart sealLength) b =
+    afterStart b (hostStart rlen mlen elen rule sealStart sealLength (b .machine) (b .registers) (b .marks))
 called (Call.step word) b = afterStep b (hostStep word (b .machine) (b .registers) (b .marks) (b .scalars) (b .memory))
 called (Call.runStart P) b = afterRunStart b (hostRunStart P (b .machine) (b .registers) (b .marks) (b .memory) (b .run))
 called Call.runNext b = afterNext b (hostNext (b .run) (b .step))

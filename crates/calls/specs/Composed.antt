@@ -151,7 +151,7 @@ SealedIn b q = In (machineOf (b .machine) .«seal_start») (machineOf (b .machin
 -- one leaves the machine's block. Of what the host writes between calls, which is never registers or marks (Calls.antt): the machine's block
 -- and the sealed bytes of memory stay, the rest may change.
 abbrev pub SparesSeal : Call → Buffers → Type 0
-SparesSeal (Call.start rlen mlen rule sealStart sealLength) b = ⊥
+SparesSeal (Call.start rlen mlen elen rule sealStart sealLength) b = ⊥
 SparesSeal (Call.step word) b = Unit {0}
 SparesSeal (Call.runStart P) b = Unit {0}
 SparesSeal Call.runNext b = Unit {0}
@@ -177,7 +177,7 @@ SealHoldsOverCalls = (cs : List Call) (b : Buffers) → Bytes (b .machine) → E
 
 -- and from an accepted bodlarina_start on: the range that it was given
 abbrev pub SealHoldsFromStartCall : Type 0
-SealHoldsFromStartCall = (rlen mlen rule sealStart sealLength : ℕ) (b : Buffers)
-    → let o : Called = called (Call.start rlen mlen rule sealStart sealLength) b in
+SealHoldsFromStartCall = (rlen mlen elen rule sealStart sealLength : ℕ) (b : Buffers)
+    → let o : Called = called (Call.start rlen mlen elen rule sealStart sealLength) b in
     o .result ≡ 0 → (cs : List Call) → EachSparesSeal cs (o .after)
     → SealKept sealStart sealLength (b .memory) (benchIn (afterCalls cs (o .after)))

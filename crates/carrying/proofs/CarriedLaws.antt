@@ -19,7 +19,8 @@ use Rattle.machine.specs.declared.Instruction.{Instruction}
 use Rattle.machine.specs.declared.Instruction.the-variants.{SetTypeImmediate, SetTileImmediate, Load, Store, Multiply, ScaleImmediate, FloatMultiply}
 use Rattle.machine.specs.declared.Reply.{Reply}
 use Rattle.machine.specs.Answers.{reply, verdict, isDone, _otherwise_}
-use Rattle.machine.specs.Geometry.{elen, Bench, benchOf, stateOf}
+use Rattle.width.specs.Bounds.{mostElen}
+use Rattle.machine.specs.Geometry.{Bench, benchOf, stateOf}
 use Rattle.machine.specs.Setting.{chosen, newType, mill}
 use Rattle.machine.specs.Refusals.{typed, checks}
 use Rattle.machine.specs.Faults.{sound}
@@ -40,21 +41,21 @@ use Rattle.run.specs.Encoding.{own, multiplyWord, handedFor, startOf, log}
 use Rattle.run.specs.Start.{format, kindFits, planned}
 use Rattle.run.specs.Turn.{runShape}
 use Rattle.run.proofs.NumberLaws.{multiplyOf}
-use Rattle.run.proofs.WordLaws.{formats, decode-float, decode-a, decode-b, decode-c, msew<3, narrow-is, wide<3, wide-is, type-small}
+use Rattle.run.proofs.WordLaws.{formats, decode-float, decode-a, decode-b, decode-c, msew<4, narrow-is, wide<4, wide-is, type-small}
 use Rattle.carrying.specs.Parts.{Carried, carried, carriedFor, carriedBy, carriedAt}
 
-pub plan-format : (P : Plan) → planned P ≡ true → format (P .sew) (P .factor) ≡ true
+pub plan-format : (P : Plan) → planned mostElen P ≡ true → format mostElen (P .sew) (P .factor) ≡ true
 unfolding planned
-plan-format P h = every-each (format (P .sew) (P .factor) ∷ leb (P .m) 1024 ∷ leb (P .k) 1024 ∷ leb (P .n) 1024 ∷ kindFits P ∷ []) h .0
+plan-format P h = every-each (format mostElen (P .sew) (P .factor) ∷ leb (P .m) 1024 ∷ leb (P .k) 1024 ∷ leb (P .n) 1024 ∷ kindFits P ∷ []) h .0
 
-pub plan-type : (P : Plan) → planned P ≡ true → typeOf P < 8192
+pub plan-type : (P : Plan) → planned mostElen P ≡ true → typeOf P < 8192
 plan-type P h = type-small (ours nothing) P (plan-format P h) (stateOf nothing [] [])
   where
     nothing : Machine
-    nothing = record { rlen = 0; mlen = 0; mtype = 0; «tile_m» = 0; «tile_k» = 0; «tile_n» = 0; «seal_start» = 0; «seal_length» = 0; rule = 0 }
+    nothing = record { rlen = 0; mlen = 0; mtype = 0; «tile_m» = 0; «tile_k» = 0; «tile_n» = 0; «seal_start» = 0; «seal_length» = 0; rule = 0; elen = 0 }
 
-pub factor-one : (P : Plan) → planned P ≡ true → ¬ (P .factor ≡ 4) → ¬ (P .factor ≡ 2) → 1 ≡ P .factor
-factor-one P h p q = let F = formats (P .sew) (P .factor) (plan-format P h) .1 in go (F .factor) (F .is)
+pub factor-one : (P : Plan) → planned mostElen P ≡ true → ¬ (P .factor ≡ 4) → ¬ (P .factor ≡ 2) → 1 ≡ P .factor
+factor-one P h p q = let F = formats mostElen (P .sew) (P .factor) refl (plan-format P h) .1 in go (F .factor) (F .is)
   where
     go : (x : Factor) → times x ≡ P .factor → 1 ≡ P .factor
     go Single e = e
@@ -88,7 +89,7 @@ module _ (P : Plan) (o : Op) (m : Machine) (regs marks mem : List ℕ) (s : soun
       → record { answer = out .answer; bench = out .bench } ≡ carriedFor P o B
   by-decoding i d out e = ap (λ (out : Outcome). record { answer = out .answer; bench = out .bench }) (e ∙ step-decoded (handedFor P o .word) xs B i (sym d))
 
-  pub type-carried : (v : ℕ) → decode (handedFor P o .word) ≡ SetTypeImmediate 0 v → carried (reply Done) (withType m (newType elen v)) regs marks mem ≡ carriedFor P o B
+  pub type-carried : (v : ℕ) → decode (handedFor P o .word) ≡ SetTypeImmediate 0 v → carried (reply Done) (withType m (newType (m .elen) v)) regs marks mem ≡ carriedFor P o B
   type-carried v d = by-decoding (SetTypeImmediate 0 v) d _ (type-outcome m (SetTypeImmediate 0 v) xs regs marks mem s refl v 0 refl refl)
 
   pub size-carried : (d : Dimension) (a : ℕ) → decode (handedFor P o .word) ≡ SetTileImmediate d 0 a
@@ -106,15 +107,15 @@ size-answers m d a = go (mill (m .mtype)) (granted m d a)
 
 -- ---- the clear and the multiply
 
-pub zero-residue : reduce (2 ^ 32) (pos 0) ≡ 0
+pub zero-residue : reduce (2 ^ 64) (pos 0) ≡ 0
 unfolding reduce
 zero-residue = refl
 
-module _ (P : Plan) (ok : planned P ≡ true) (m : Machine) (regs marks mem : List ℕ) (s : sound m regs marks ≡ true) (f : Factor) (e : times f ≡ P .factor) (a : Answer) (regs′ marks′ : List ℕ) where
+module _ (P : Plan) (ok : planned mostElen P ≡ true) (m : Machine) (regs marks mem : List ℕ) (s : sound m regs marks ≡ true) (f : Factor) (e : times f ≡ P .factor) (a : Answer) (regs′ marks′ : List ℕ) where
   pub clear-carried : WritesRegisters m (Operation.scale (times f) 0 0 (pos 0)) regs marks mem a regs′ marks′
       → carried (reply a) m regs′ marks′ mem ≡ carriedFor P Op.clear (benchOf m regs marks mem)
   clear-carried l =
-      let F = formats (P .sew) (P .factor) (plan-format P ok) .1 in
+      let F = formats mostElen (P .sew) (P .factor) refl (plan-format P ok) .1 in
       by-decoding P Op.clear m regs marks mem s (ScaleImmediate (F .factor) 0 0 0) (F .clears) _
       (loads-outcome m (ScaleImmediate (F .factor) 0 0 0) (own (handedFor P Op.clear)) regs marks mem s refl (Operation.scale (times f) 0 0 (pos 0))
       (ap (λ (g : ℕ). Operation.scale g 0 0 (pos 0)) (F .is ∙ sym e)) refl a regs′ marks′ l refl refl)
@@ -123,7 +124,7 @@ module _ (P : Plan) (ok : planned P ≡ true) (m : Machine) (regs marks mem : Li
   pub multiply-carried : (q : Elements) → elementsOf P ≡ q → WritesRegisters m (multiplyOf q (times f)) regs marks mem a regs′ marks′
       → carried (reply a) m regs′ marks′ mem ≡ carriedFor P Op.multiply (benchOf m regs marks mem)
   multiply-carried integers k l =
-      let F = formats (P .sew) (P .factor) (plan-format P ok) .1 in
+      let F = formats mostElen (P .sew) (P .factor) refl (plan-format P ok) .1 in
       by-decoding P Op.multiply m regs marks mem s (Multiply (F .factor) 0 0 1) (ap (λ (q : Elements). decode (multiplyWord q (P .factor))) k ∙ F .multiplies) _
       (loads-outcome m (Multiply (F .factor) 0 0 1) (own (handedFor P Op.multiply)) regs marks mem s refl (Operation.multiply (times f) 0 0 1)
       (ap (λ (g : ℕ). Operation.multiply g 0 0 1) (F .is ∙ sym e)) refl a regs′ marks′ l refl refl)
@@ -141,7 +142,7 @@ loads-for {m} {o} {o′} {regs} {marks} {mem} {a} {regs′} {marks′} e l = sub
 pub stores-for : {m : Machine} {o o′ : Operation} {regs marks mem : List ℕ} {a : Answer} {mem′ : List ℕ} → o ≡ o′ → WritesMemory m o regs marks mem a mem′ → WritesMemory m o′ regs marks mem a mem′
 stores-for {m} {o} {o′} {regs} {marks} {mem} {a} {mem′} e l = subst (λ (o : Operation). WritesMemory m o regs marks mem a mem′) e l
 
-module _ (P : Plan) (ok : planned P ≡ true) (m : Machine) (regs marks mem : List ℕ) (s : sound m regs marks ≡ true) (a : Answer) where
+module _ (P : Plan) (ok : planned mostElen P ≡ true) (m : Machine) (regs marks mem : List ℕ) (s : sound m regs marks ≡ true) (a : Answer) where
   pub a-carried : (i t : ℕ) (regs′ marks′ : List ℕ)
       → WritesRegisters m (Operation.load (formOf P) MatrixA 0 (narrow P) (startOf (P .a) (aRow P i t) (aColumn P i t * narrow P)) (P .a .stride)) regs marks mem a regs′ marks′
       → carried (reply a) m regs′ marks′ mem ≡ carriedFor P (Op.loadA i t) (benchOf m regs marks mem)
@@ -149,7 +150,7 @@ module _ (P : Plan) (ok : planned P ≡ true) (m : Machine) (regs marks mem : Li
       let g = plan-format P ok in
       let k : Instruction = Load (formOf P) MatrixA (2 ^ msew P) 0 10 11 in
       let p = startOf (P .a) (aRow P i t) (aColumn P i t * narrow P) in
-      by-decoding P (Op.loadA i t) m regs marks mem s k (decode-a (formOf P) (msew P) (msew<3 (ours m) P g (stateOf m regs marks))) _
+      by-decoding P (Op.loadA i t) m regs marks mem s k (decode-a (formOf P) (msew P) (msew<4 (ours m) P g (stateOf m regs marks))) _
       (loads-outcome m k (own (handedFor P (Op.loadA i t))) regs marks mem s refl (Operation.load (formOf P) MatrixA 0 (narrow P) p (P .a .stride))
       (ap (λ (w : ℕ). Operation.load (formOf P) MatrixA 0 w p (P .a .stride)) (narrow-is (ours m) P g (stateOf m regs marks))) refl a regs′ marks′ l refl refl)
 
@@ -159,7 +160,7 @@ module _ (P : Plan) (ok : planned P ≡ true) (m : Machine) (regs marks mem : Li
       let g = plan-format P ok in
       let k : Instruction = Load Plain MatrixB (2 ^ msew P) 1 10 11 in
       let p = startOf (P .b) t (j * narrow P) in
-      by-decoding P (Op.loadB t j) m regs marks mem s k (decode-b (msew P) (msew<3 (ours m) P g (stateOf m regs marks))) _
+      by-decoding P (Op.loadB t j) m regs marks mem s k (decode-b (msew P) (msew<4 (ours m) P g (stateOf m regs marks))) _
       (loads-outcome m k (own (handedFor P (Op.loadB t j))) regs marks mem s refl (Operation.load Plain MatrixB 1 (narrow P) p (P .b .stride))
       (ap (λ (w : ℕ). Operation.load Plain MatrixB 1 w p (P .b .stride)) (narrow-is (ours m) P g (stateOf m regs marks))) refl a regs′ marks′ l refl refl)
 
@@ -169,13 +170,13 @@ module _ (P : Plan) (ok : planned P ≡ true) (m : Machine) (regs marks mem : Li
       let g = plan-format P ok in
       let k : Instruction = Store Plain MatrixC (2 ^ (msew P + log (P .factor))) 0 10 11 in
       let p = startOf (P .c) i (j * wide P) in
-      by-decoding P (Op.store i j) m regs marks mem s k (decode-c (msew P + log (P .factor)) (wide<3 (ours m) P g (stateOf m regs marks))) _
+      by-decoding P (Op.store i j) m regs marks mem s k (decode-c (msew P + log (P .factor)) (wide<4 (ours m) P g (stateOf m regs marks))) _
       (stores-outcome m k (own (handedFor P (Op.store i j))) regs marks mem s refl (Operation.store Plain MatrixC 0 (wide P) p (P .c .stride))
       (ap (λ (w : ℕ). Operation.store Plain MatrixC 0 w p (P .c .stride)) (wide-is (ours m) P g (stateOf m regs marks))) refl a mem′ l refl)
 
 -- ---- only a setting changes the machine's numbers
 
-module _ (P : Plan) (ok : planned P ≡ true) (m : Machine) (regs marks mem : List ℕ) (s : sound m regs marks ≡ true) where
+module _ (P : Plan) (ok : planned mostElen P ≡ true) (m : Machine) (regs marks mem : List ℕ) (s : sound m regs marks ≡ true) where
   -- what an operation that writes registers leaves
   loaded : (o : Operation) → let r : Answer = verdict (checks (ours m) o (stateOf m regs marks) mem) in
       WritesRegisters m o regs marks mem r (cond (isDone r) (stateAfter (ours m) o (stateOf m regs marks) mem .regs) regs) (cond (isDone r) (stateAfter (ours m) o (stateOf m regs marks) mem .marks) marks)
@@ -185,10 +186,10 @@ module _ (P : Plan) (ok : planned P ≡ true) (m : Machine) (regs marks mem : Li
   numbers k = k .bench .machine
 
   pub clear-keeps : m ≡ numbers (carriedFor P Op.clear (benchOf m regs marks mem))
-  clear-keeps = let F = formats (P .sew) (P .factor) (plan-format P ok) .1 in ap numbers (clear-carried P ok m regs marks mem s (F .factor) (F .is) _ _ _ (loaded _))
+  clear-keeps = let F = formats mostElen (P .sew) (P .factor) refl (plan-format P ok) .1 in ap numbers (clear-carried P ok m regs marks mem s (F .factor) (F .is) _ _ _ (loaded _))
 
   pub multiply-keeps : m ≡ numbers (carriedFor P Op.multiply (benchOf m regs marks mem))
-  multiply-keeps = let F = formats (P .sew) (P .factor) (plan-format P ok) .1 in ap numbers (multiply-carried P ok m regs marks mem s (F .factor) (F .is) _ _ _ (elementsOf P) refl (loaded _))
+  multiply-keeps = let F = formats mostElen (P .sew) (P .factor) refl (plan-format P ok) .1 in ap numbers (multiply-carried P ok m regs marks mem s (F .factor) (F .is) _ _ _ (elementsOf P) refl (loaded _))
 
   pub a-keeps : (i t : ℕ) → m ≡ numbers (carriedFor P (Op.loadA i t) (benchOf m regs marks mem))
   a-keeps i t = ap numbers (a-carried P ok m regs marks mem s _ i t _ _ (loaded _))

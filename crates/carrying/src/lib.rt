@@ -13,6 +13,7 @@ ghost use mathlib.Core.Path.{_≡_};
 ghost use mathlib.Core.Bool.{true};
 ghost use mathlib.Core.List.{List, [], _∷_};
 ghost use Prim.Native.Nat.{ℕ, _*_, _≤_, _<_};
+ghost use Rattle.width.specs.Bounds.{mostElen};
 ghost use Rattle.machine.specs.Answers.{reply, verdict};
 ghost use Rattle.machine.specs.Geometry.{Bench, benchOf, stateOf, registerCount};
 ghost use Rattle.machine.specs.Faults.{sound};
@@ -30,7 +31,7 @@ ghost use Rattle.run.specs.Turn.{soundRun};
 
 // The output's width, as a plan has it.
 fn plan_factor(plan: Plan) -> Factor
-    requires { ⌜ planned plan ≡ true ⌝ }
+    requires { ⌜ planned mostElen plan ≡ true ⌝ }
     ensures { λ r. ⌜ times r ≡ plan .factor ⌝ }
 {
     if plan.factor == 4 {
@@ -55,7 +56,7 @@ fn size_answer(m: Machine) -> Answer
 // Clears acc0.
 fn clear(plan: Plan, m: Machine, registers: &mut [u8], marks: &mut [u8]) -> Answer
     requires { ⌜ sound m (now registers) (now marks) ≡ true ⌝ }
-    requires { ⌜ planned plan ≡ true ⌝ }
+    requires { ⌜ planned mostElen plan ≡ true ⌝ }
     ensures { λ r. ⌜ ((memory : List ℕ) → carried (reply r) m (now (registers .exit)) (now (marks .exit)) memory
         ≡ carriedFor plan clear (benchOf m (now (registers .entry)) (now (marks .entry)) memory)) ⌝ }
 {
@@ -66,7 +67,7 @@ fn clear(plan: Plan, m: Machine, registers: &mut [u8], marks: &mut [u8]) -> Answ
 // Multiplies tr0 and tr1 to acc0.
 fn multiply(plan: Plan, m: Machine, registers: &mut [u8], marks: &[u8]) -> Answer
     requires { ⌜ sound m (now registers) (now marks) ≡ true ⌝ }
-    requires { ⌜ planned plan ≡ true ⌝ }
+    requires { ⌜ planned mostElen plan ≡ true ⌝ }
     ensures { λ r. ⌜ ((memory : List ℕ) → carried (reply r) m (now (registers .exit)) (now (marks .entry)) memory
         ≡ carriedFor plan multiply (benchOf m (now (registers .entry)) (now (marks .entry)) memory)) ⌝ }
 {
@@ -92,7 +93,7 @@ fn load(
     column: u64,
 ) -> Answer
     requires { ⌜ sound m (now registers) (now marks) ≡ true ⌝ }
-    requires { ⌜ planned plan ≡ true ⌝ }
+    requires { ⌜ planned mostElen plan ≡ true ⌝ }
     requires { ⌜ (row ≤ 1024) × (column ≤ 1024) ⌝ }
     requires { ⌜ md < registerCount matrix ⌝ }
     ensures { λ r. ⌜ WritesRegisters m (Operation.load form matrix md (narrow plan) (startOf layout row (column * narrow plan)) (layout .stride)) (now (registers .entry)) (now (marks .entry)) (now (memory .entry)) r (now (registers .exit)) (now (marks .exit)) ⌝ }
@@ -125,7 +126,7 @@ fn load_a(
     term: u64,
 ) -> Answer
     requires { ⌜ sound m (now registers) (now marks) ≡ true ⌝ }
-    requires { ⌜ planned plan ≡ true ⌝ }
+    requires { ⌜ planned mostElen plan ≡ true ⌝ }
     requires { ⌜ (row ≤ 1024) × (term ≤ 1024) ⌝ }
     ensures { λ r. ⌜ carried (reply r) m (now (registers .exit)) (now (marks .exit)) (now (memory .entry))
         ≡ carriedFor plan (loadA row term) (benchOf m (now (registers .entry)) (now (marks .entry)) (now (memory .entry))) ⌝ }
@@ -160,7 +161,7 @@ fn store(
     column: u64,
 ) -> Answer
     requires { ⌜ sound m (now registers) (now marks) ≡ true ⌝ }
-    requires { ⌜ planned plan ≡ true ⌝ }
+    requires { ⌜ planned mostElen plan ≡ true ⌝ }
     requires { ⌜ (row ≤ 1024) × (column ≤ 1024) ⌝ }
     ensures { λ r. ⌜ carried (reply r) m (now (registers .entry)) (now (marks .entry)) (now (memory .exit))
         ≡ carriedFor plan (store row column) (benchOf m (now (registers .entry)) (now (marks .entry)) (now (memory .entry))) ⌝ }
@@ -235,7 +236,10 @@ pub fn machine_after(run: Run, m: Machine) -> Machine
     let plan = run.plan;
     let place = run.place;
     match place {
-        Place::AtType => settings::with_type(m, settings::kept_type(plan_numbers::type_of(plan))),
+        Place::AtType => settings::with_type(
+            m,
+            settings::kept_type(m.elen, plan_numbers::type_of(plan)),
+        ),
         Place::AtM { row } => settings::sized(m, Dimension::DimensionM, plan.m - row),
         Place::AtN { column, .. } => settings::sized(m, Dimension::DimensionN, plan.n - column),
         Place::AtClear { .. } => m,

@@ -4,22 +4,22 @@ use mathlib.Core.Bool.{Bool, true, false, cond, not}
 use mathlib.Core.List.{List, _++_}
 use Prim.Native.Nat.{ℕ, _+_, _*_, _/_, _^_, _≤_, _<_}
 use native.Mathlib.Omega.{arith}
-use lib.Dec.{eqb}
-use borrow.Author.Tests.{not-true, eq-eqb, ne-eqb, le-leb}
+use lib.Dec.{leb}
+use borrow.Author.Tests.{not-true, eq-eqb, ne-eqb, le-leb, lt-leb, leb-true}
 use Rattle.width.specs.Bounds.{mostPitch, mostSize}
 use Rattle.machine.specs.declared.Machine.{Machine}
-use mathlib.Core.Logic.{inl, inr}
-use types.Run.{OneOf}
 use Rattle.machine.specs.Tests.{isIn}
-use Rattle.machine.proofs.MatchLaws.{found}
+use Rattle.machine.proofs.TestLaws.{each-in}
+use Rattle.machine.proofs.StartLaws.{and-truth}
 use native.Mathlib.Nat.{mul-le-mul}
 use Rattle.machine.specs.declared.Matrix.{Matrix}
 use Rattle.machine.specs.declared.Matrix.the-variants.{MatrixA, MatrixB, MatrixC}
 use Rattle.machine.proofs.StepLaws.{permitted-bounds, permitted-lengths}
-use Rattle.machine.specs.Geometry.{elen, permitted, registerCount}
+use Rattle.machine.specs.Geometry.{elens, permitted, registerCount}
 use Rattle.machine.specs.Setting.{sew, mill, maccq}
 use Rattle.machine.specs.Refusals.{widthOk}
-use Rattle.machine.proofs.CodeLaws.{arises, verdict-append}
+use Rattle.machine.proofs.CodeLaws.{verdict-append}
+use Rattle.settings.proofs.TypeLaws.{ready-elen, ready-legal}
 use Rattle.machine.specs.declared.Answer.{Answer}
 use Rattle.machine.specs.declared.Answer.the-variants.{IllegalType, BadWidth}
 use Rattle.machine.proofs.CheckLaws.{passed, refusals}
@@ -29,27 +29,26 @@ use Rattle.checking.specs.Parts.{multiplyChecks, elementwiseChecks, prod
 
 -- ---- the width rule of arithmetic
 
-module _ (t : ℕ) (legal : isIn t legalTypes ≡ true) where
-  by-type : (P : ℕ → Type 0) → P 0 → P 1 → P 2 → P 8 → P t
-  by-type P a b c d = go (found legalTypes t legal)
-    where
-      go : OneOf legalTypes t → P t
-      go (inl z) = subst P (sym z) a
-      go (inr (inl z)) = subst P (sym z) b
-      go (inr (inr (inl z))) = subst P (sym z) c
-      go (inr (inr (inr z))) = subst P (sym z) d
+-- by SEW in bytes as code holds it
+module _ (elen t s : ℕ) (e : s ≡ sew t) where
+  same : (f n : ℕ) → n ≡ f * (8 * sew t) → leb n elen ≡ leb (f * (8 * sew t)) elen
+  same f n h = ap (λ (x : ℕ). leb x elen) h
 
-  pub single-ok : true ≡ widthOk elen t 1
-  unfolding widthOk sew
-  single-ok = by-type (λ t. true ≡ widthOk elen t 1) refl refl refl refl
+  pub single-ok : leb (8 * s) elen ≡ widthOk elen t 1
+  unfolding widthOk
+  single-ok = same 1 (8 * s) (omega (arith, e)) ∙ and-truth (leb (1 * (8 * sew t)) elen)
 
-  pub double-ok : not (eqb t 2) ≡ widthOk elen t 2
-  unfolding widthOk sew
-  double-ok = by-type (λ t. not (eqb t 2) ≡ widthOk elen t 2) refl refl refl refl
+  pub double-ok : leb (16 * s) elen ≡ widthOk elen t 2
+  unfolding widthOk
+  double-ok = same 2 (16 * s) (omega (arith, e)) ∙ and-truth (leb (2 * (8 * sew t)) elen)
 
-  pub quadruple-ok : maccq t ≡ widthOk elen t 4
-  unfolding widthOk sew
-  quadruple-ok = by-type (λ t. maccq t ≡ widthOk elen t 4) refl refl refl refl
+  pub quadruple-none : elen < 32 * s → false ≡ widthOk elen t 4
+  unfolding widthOk
+  quadruple-none h = rw (lt-leb (4 * (8 * sew t)) elen (omega (arith, e)))
+
+  pub quadruple-ok : 32 * s ≤ elen → maccq t ≡ widthOk elen t 4
+  unfolding widthOk
+  quadruple-ok h = rw (le-leb (4 * (8 * sew t)) elen (omega (arith, e)))
 
 -- ---- a float multiply
 
@@ -61,9 +60,11 @@ module _ (m : Machine) (marks : List ℕ) (d a b : ℕ) where
   float-width h w = rw (h, ne-eqb (8 * sew (m .mtype)) 32 (λ e. w (omega arith)))
 
   -- at SEW 32 it is refused exactly as a multiply of single width is
-  pub float-rest : mill (m .mtype) ≡ false → sew (m .mtype) ≡ 4 → verdict (productChecks m marks 1 d a b) ≡ verdict (floatChecks m marks d a b)
+  pub float-rest : Ready m → mill (m .mtype) ≡ false → sew (m .mtype) ≡ 4 → verdict (productChecks m marks 1 d a b) ≡ verdict (floatChecks m marks d a b)
   unfolding widthOk
-  float-rest h w = rw (h, eq-eqb (8 * sew (m .mtype)) 32 (ap (λ (x : ℕ). 8 * x) w), le-leb (1 * (8 * sew (m .mtype))) 32 (omega arith))
+  float-rest r h w =
+      let most = leb-true 32 (m .elen) (each-in (m .elen) elens (leb 32) refl (ready-elen m r)) in
+      rw (h, eq-eqb (8 * sew (m .mtype)) 32 (ap (λ (x : ℕ). 8 * x) w), le-leb (1 * (8 * sew (m .mtype))) (m .elen) (omega arith))
 
 -- ---- register geometry
 
@@ -75,10 +76,10 @@ bound r size l h =
     let b : (8 + 4 * r) * size ≤ 40 * mostSize = mul-le-mul s≤ h in
     omega arith
 
-pub sizes-bounded : (rlen mlen : ℕ) → permitted rlen mlen ≡ true → (0 < rlen) × (rlen / 8 ≤ mostPitch) × (mlen / rlen * (rlen / 8) ≤ mostSize)
-sizes-bounded rlen mlen h =
-    let b = permitted-bounds rlen mlen h in
-    let l = permitted-lengths rlen mlen h in
+pub sizes-bounded : (rlen mlen elen : ℕ) → permitted rlen mlen elen ≡ true → (0 < rlen) × (rlen / 8 ≤ mostPitch) × (mlen / rlen * (rlen / 8) ≤ mostSize)
+sizes-bounded rlen mlen elen h =
+    let b = permitted-bounds rlen mlen elen h in
+    let l = permitted-lengths rlen mlen elen h in
     omega arith
 
 -- a register of the file: nothing overflows
@@ -90,10 +91,10 @@ in-file MatrixC r size l h = bound r size (omega arith) h
 -- ---- mtype once answer 2 has passed
 
 pub type-legal : (m : Machine) (f : ℕ) → Ready m → isDone (verdict (multiplyChecks m f)) ≡ true → isIn (m .mtype) legalTypes ≡ true
-type-legal m f h d = arises (m .mtype) (h .type-arises) (not-true (mill (m .mtype)) (passed (multiplyChecks m f) refl d .0))
+type-legal m f h d = ready-legal m h (not-true (mill (m .mtype)) (passed (multiplyChecks m f) refl d .0))
 
 pub type-legal-elementwise : (m : Machine) (f : ℕ) → Ready m → isDone (verdict (elementwiseChecks m f)) ≡ true → isIn (m .mtype) legalTypes ≡ true
-type-legal-elementwise m f h d = arises (m .mtype) (h .type-arises) (not-true (mill (m .mtype)) (passed (elementwiseChecks m f) refl d .0))
+type-legal-elementwise m f h d = ready-legal m h (not-true (mill (m .mtype)) (passed (elementwiseChecks m f) refl d .0))
 
 -- ---- checks made in parts
 

@@ -8,7 +8,7 @@ use lib.Dec.{eqb}
 use Rattle.machine.specs.declared.Machine.{Machine}
 use Rattle.machine.specs.declared.Dimension.the-variants.{DimensionM, DimensionK, DimensionN}
 use Rattle.machine.specs.declared.Answer.the-variants.{BadWidth}
-use Rattle.machine.specs.Geometry.{elen, stateOf, startOf, pitchOf, tileAt, accAt}
+use Rattle.machine.specs.Geometry.{stateOf, startOf, pitchOf, tileAt, accAt}
 use Rattle.machine.specs.Setting.{sew}
 use Rattle.machine.specs.Operation.{Operation, rowsOf, columnsOf, tileRows, tileCols}
 use Rattle.checking.specs.declared.Placed.{Placed}
@@ -22,21 +22,21 @@ use Rattle.settings.specs.Parts.{ours, Ready}
 abbrev pub transferChecks : Machine → Matrix → ℕ → List Check
 transferChecks m k w =
     typed (stateOf m [] [])
-    ∷ (widthOf elen (m .mtype) k w otherwise BadWidth)
+    ∷ (widthOf (m .elen) (m .mtype) k w otherwise BadWidth)
     ∷ fitting (ours m) (stateOf m [] []) (rowsOf k)
     ∷ fitting (ours m) (stateOf m [] []) (columnsOf k) ∷ []
 
 abbrev pub elementwiseChecks : Machine → ℕ → List Check
 elementwiseChecks m f =
     typed (stateOf m [] [])
-    ∷ (widthOk elen (m .mtype) f otherwise BadWidth)
+    ∷ (widthOk (m .elen) (m .mtype) f otherwise BadWidth)
     ∷ fitting (ours m) (stateOf m [] []) DimensionM
     ∷ fitting (ours m) (stateOf m [] []) DimensionN ∷ []
 
 abbrev pub multiplyChecks : Machine → ℕ → List Check
 multiplyChecks m f =
     typed (stateOf m [] [])
-    ∷ (widthOk elen (m .mtype) f otherwise BadWidth)
+    ∷ (widthOk (m .elen) (m .mtype) f otherwise BadWidth)
     ∷ fitting (ours m) (stateOf m [] []) DimensionM
     ∷ fitting (ours m) (stateOf m [] []) DimensionK
     ∷ fitting (ours m) (stateOf m [] []) DimensionN ∷ []

@@ -10,7 +10,6 @@ use settings::sew_bytes;
 ghost use mathlib.Core.Path.{_≡_};
 ghost use mathlib.Core.Bool.{true};
 ghost use Rattle.machine.specs.Answers.{verdict};
-ghost use Rattle.machine.specs.Geometry.{elen};
 ghost use Rattle.machine.specs.Setting.{maccq};
 ghost use Rattle.machine.specs.Refusals.{widthOf, widthOk};
 ghost use Rattle.machine.specs.Operation.{times, rowsOf, columnsOf};
@@ -26,12 +25,12 @@ fn is_maccq(mtype: u64) -> bool
 }
 
 // The width rule of loads and stores of C.
-fn accumulator_width(mtype: u64, width: usize) -> bool
+fn accumulator_width(elen: u64, mtype: u64, width: usize) -> bool
     requires { ⌜ isIn mtype legalTypes ≡ true ⌝ }
     ensures { λ r. ⌜ r ≡ widthOf elen mtype MatrixC width ⌝ }
 {
     let sew = sew_bytes(mtype);
-    if width > 4 {
+    if width as u64 > elen / 8 {
         return false;
     }
     if width == sew {
@@ -47,26 +46,32 @@ fn accumulator_width(mtype: u64, width: usize) -> bool
 }
 
 // The width rule of loads and stores.
-fn transfer_width(mtype: u64, matrix: Matrix, width: usize) -> bool
+fn transfer_width(elen: u64, mtype: u64, matrix: Matrix, width: usize) -> bool
     requires { ⌜ isIn mtype legalTypes ≡ true ⌝ }
     ensures { λ r. ⌜ r ≡ widthOf elen mtype matrix width ⌝ }
 {
     match matrix {
         Matrix::MatrixA => width == sew_bytes(mtype),
         Matrix::MatrixB => width == sew_bytes(mtype),
-        Matrix::MatrixC => accumulator_width(mtype, width),
+        Matrix::MatrixC => accumulator_width(elen, mtype, width),
     }
 }
 
 // The width rule of arithmetic.
-fn factor_width(mtype: u64, factor: Factor) -> bool
+fn factor_width(elen: u64, mtype: u64, factor: Factor) -> bool
     requires { ⌜ isIn mtype legalTypes ≡ true ⌝ }
     ensures { λ r. ⌜ r ≡ widthOk elen mtype (times factor) ⌝ }
 {
+    let sew = sew_bytes(mtype) as u64;
     match factor {
-        Factor::Single => true,
-        Factor::Double => mtype != 2,
-        Factor::Quadruple => is_maccq(mtype),
+        Factor::Single => 8 * sew <= elen,
+        Factor::Double => 16 * sew <= elen,
+        Factor::Quadruple => {
+            if 32 * sew > elen {
+                return false;
+            }
+            is_maccq(mtype)
+        }
     }
 }
 
@@ -98,7 +103,7 @@ pub fn check_transfer(m: Machine, matrix: Matrix, width: usize) -> Answer
     if is_mill(m.mtype) {
         return Answer::IllegalType;
     }
-    if !transfer_width(m.mtype, matrix, width) {
+    if !transfer_width(m.elen, m.mtype, matrix, width) {
         return Answer::BadWidth;
     }
     if !fits(m, rows_of(matrix)) {
@@ -118,7 +123,7 @@ pub fn check_elementwise(m: Machine, factor: Factor) -> Answer
     if is_mill(m.mtype) {
         return Answer::IllegalType;
     }
-    if !factor_width(m.mtype, factor) {
+    if !factor_width(m.elen, m.mtype, factor) {
         return Answer::BadWidth;
     }
     if !fits(m, Dimension::DimensionM) {
@@ -138,7 +143,7 @@ pub fn check_multiply(m: Machine, factor: Factor) -> Answer
     if is_mill(m.mtype) {
         return Answer::IllegalType;
     }
-    if !factor_width(m.mtype, factor) {
+    if !factor_width(m.elen, m.mtype, factor) {
         return Answer::BadWidth;
     }
     if !fits(m, Dimension::DimensionM) {

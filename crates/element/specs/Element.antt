@@ -4,7 +4,11 @@ use mathlib.Core.Logic.{_⊎_}
 use Prim.Native.Nat.{ℕ}
 
 abbrev pub Width : ℕ → Type 0
-Width w = (w ≡ 1) ⊎ ((w ≡ 2) ⊎ (w ≡ 4))
+Width w = (w ≡ 1) ⊎ ((w ≡ 2) ⊎ ((w ≡ 4) ⊎ (w ≡ 8)))
+
+-- those that 32 bits hold
+abbrev pub Short : ℕ → Type 0
+Short w = (w ≡ 1) ⊎ ((w ≡ 2) ⊎ (w ≡ 4))
 
 -- those that 16 bits hold
 abbrev pub Narrow : ℕ → Type 0

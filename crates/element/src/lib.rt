@@ -1,16 +1,16 @@
-// Elements of 1, 2 and 4 bytes in a byte slice, low byte first; their sign extension; and products that wrap.
+// Elements of 1, 2, 4 and 8 bytes in a byte slice, low byte first; their sign extension; and products that wrap.
 ghost use mathlib.Core.Path.{_≡_};
 ghost use Prim.Native.Nat.{_+_, _^_, _≤_, _<_, _%_};
 ghost use lib.IntN.{_*ℤ_};
 ghost use lib.ListN.{length};
 ghost use Rattle.width.specs.Tile.{le, putLe};
 ghost use Rattle.width.specs.Reduce.{reduce, signed};
-ghost use Rattle.element.specs.Element.{Width, Narrow};
+ghost use Rattle.element.specs.Element.{Width, Short, Narrow};
 
-// The columns of the largest tile (width/specs/Bounds.antt: mostColumns).
+// The columns of the block of a product that is taken at once (width/specs/Bounds.antt: mostColumns).
 pub const COLUMNS: usize = 64;
 
-// The terms of the longest product (mostTerms).
+// Its terms (mostTerms).
 pub const TERMS: usize = 16;
 
 // The element of one byte that starts at `at`.
@@ -52,6 +52,27 @@ pub fn read4(s: &[u8], at: usize) -> u32
         + 16777216 * wide32(s[at + 3])
 }
 
+fn wide64(x: u8) -> u64
+    ensures { λ r. ⌜ (r ≡ x) × (r < 256) ⌝ }
+{
+    x as u64
+}
+
+// The element of eight bytes that starts at `at`.
+pub fn read8(s: &[u8], at: usize) -> u64
+    requires { ⌜ at + 8 ≤ length (now s) ⌝ }
+    ensures { λ r. ⌜ r ≡ le (now (s .entry)) at 8 ⌝ }
+{
+    wide64(s[at])
+        + 256 * wide64(s[at + 1])
+        + 65536 * wide64(s[at + 2])
+        + 16777216 * wide64(s[at + 3])
+        + 4294967296 * wide64(s[at + 4])
+        + 1099511627776 * wide64(s[at + 5])
+        + 281474976710656 * wide64(s[at + 6])
+        + 72057594037927936 * wide64(s[at + 7])
+}
+
 // Stores v in the byte at `at`.
 pub fn write1(s: &mut [u8], at: usize, v: u8)
     requires { ⌜ at + 1 ≤ length (now s) ⌝ }
@@ -80,18 +101,40 @@ pub fn write4(s: &mut [u8], at: usize, v: u32)
     s[at + 3] = (v / 16777216) as u8;
 }
 
+// Stores v in eight bytes from `at` on.
+pub fn write8(s: &mut [u8], at: usize, v: u64)
+    requires { ⌜ at + 8 ≤ length (now s) ⌝ }
+    ensures { λ _. ⌜ now (s .exit) ≡ putLe at 8 v (now (s .entry)) ⌝ }
+{
+    s[at] = (v % 256) as u8;
+    s[at + 1] = (v / 256 % 256) as u8;
+    s[at + 2] = (v / 65536 % 256) as u8;
+    s[at + 3] = (v / 16777216 % 256) as u8;
+    s[at + 4] = (v / 4294967296 % 256) as u8;
+    s[at + 5] = (v / 1099511627776 % 256) as u8;
+    s[at + 6] = (v / 281474976710656 % 256) as u8;
+    s[at + 7] = (v / 72057594037927936 % 256) as u8;
+}
+
 // The low byte of a number.
-pub fn low8(v: u32) -> u8
+pub fn low8(v: u64) -> u8
     ensures { λ r. ⌜ r ≡ v % 256 ^ 1 ⌝ }
 {
     (v % 256) as u8
 }
 
 // The low two bytes of a number.
-pub fn low16(v: u32) -> u16
+pub fn low16(v: u64) -> u16
     ensures { λ r. ⌜ r ≡ v % 256 ^ 2 ⌝ }
 {
     (v % 65536) as u16
+}
+
+// The low four bytes of a number.
+pub fn low32(v: u64) -> u32
+    ensures { λ r. ⌜ r ≡ v % 256 ^ 4 ⌝ }
+{
+    (v % 4294967296) as u32
 }
 
 // Sign extension as a wrapping add: the residue of the signed number x at a wider width, from 8 bits to 16.
@@ -113,6 +156,27 @@ pub fn extend2to4(x: u16) -> u32
     ensures { λ r. ⌜ r ≡ reduce (256 ^ 4) (signed (256 ^ 2) x) ⌝ }
 {
     std::num::wrapping_add_u32((x as u32 + 32768) % 65536, 4294934528)
+}
+
+// From 8 bits to 64.
+fn extend1to8(x: u8) -> u64
+    ensures { λ r. ⌜ r ≡ reduce (256 ^ 8) (signed (256 ^ 1) x) ⌝ }
+{
+    std::num::wrapping_add_u64((x as u64 + 128) % 256, 18446744073709551488)
+}
+
+// From 16 bits to 64.
+fn extend2to8(x: u16) -> u64
+    ensures { λ r. ⌜ r ≡ reduce (256 ^ 8) (signed (256 ^ 2) x) ⌝ }
+{
+    std::num::wrapping_add_u64((x as u64 + 32768) % 65536, 18446744073709518848)
+}
+
+// From 32 bits to 64.
+fn extend4to8(x: u32) -> u64
+    ensures { λ r. ⌜ r ≡ reduce (256 ^ 8) (signed (256 ^ 4) x) ⌝ }
+{
+    std::num::wrapping_add_u64((x as u64 + 2147483648) % 4294967296, 18446744071562067968)
 }
 
 // The signed element of one byte at `at`, as a residue at 8 bits: the byte itself.
@@ -137,7 +201,7 @@ pub fn read_signed16(s: &[u8], at: usize, width: usize) -> u16
 
 // The signed element of width bytes at `at`, as a residue at 32 bits.
 pub fn read_signed(s: &[u8], at: usize, width: usize) -> u32
-    requires { ⌜ Width width ⌝ }
+    requires { ⌜ Short width ⌝ }
     requires { ⌜ at + width ≤ length (now s) ⌝ }
     ensures { λ r. ⌜ r ≡ reduce (256 ^ 4) (signed (256 ^ width) (le (now (s .entry)) at width)) ⌝ }
 {
@@ -148,6 +212,24 @@ pub fn read_signed(s: &[u8], at: usize, width: usize) -> u32
         return extend2to4(read2(s, at));
     }
     read4(s, at)
+}
+
+// The signed element of width bytes at `at`, as a residue at 64 bits.
+pub fn read_signed64(s: &[u8], at: usize, width: usize) -> u64
+    requires { ⌜ Width width ⌝ }
+    requires { ⌜ at + width ≤ length (now s) ⌝ }
+    ensures { λ r. ⌜ r ≡ reduce (256 ^ 8) (signed (256 ^ width) (le (now (s .entry)) at width)) ⌝ }
+{
+    if width == 1 {
+        return extend1to8(read1(s, at));
+    }
+    if width == 2 {
+        return extend2to8(read2(s, at));
+    }
+    if width == 4 {
+        return extend4to8(read4(s, at));
+    }
+    read8(s, at)
 }
 
 // The wrapping product is the residue of the signed product: at 8 bits.
@@ -169,4 +251,14 @@ pub fn wrapping_mul32(x: u32, y: u32) -> u32
     ensures { λ r. ⌜ r ≡ reduce (256 ^ 4) (signed (256 ^ 4) x *ℤ signed (256 ^ 4) y) ⌝ }
 {
     ((x as u64) * (y as u64) % 4294967296) as u32
+}
+
+// The same at 64 bits, by halves: the product of the high halves falls away.
+pub fn wrapping_mul64(x: u64, y: u64) -> u64
+    ensures { λ r. ⌜ r ≡ reduce (256 ^ 8) (signed (256 ^ 8) x *ℤ signed (256 ^ 8) y) ⌝ }
+{
+    let x_low = x % 4294967296;
+    let y_low = y % 4294967296;
+    let across = x / 4294967296 * y_low % 4294967296 + x_low * (y / 4294967296) % 4294967296;
+    std::num::wrapping_add_u64(x_low * y_low, across % 4294967296 * 4294967296)
 }

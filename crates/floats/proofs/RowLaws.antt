@@ -14,6 +14,8 @@ use Rattle.width.specs.Binary32.{settled, multiplyAdd, floatSum, floatProduct}
 use Rattle.width.proofs.ElementLaws.{putRow-cong}
 use Rattle.width.proofs.Binary32Laws.{sum-cong}
 use Rattle.width.specs.Bounds.{mostFloats}
+use Rattle.width.proofs.Binary32Laws.{product-cong, product-small, product-more}
+use Rattle.arithmetic.proofs.BlockLaws.{Joins}
 use Rattle.width.proofs.PutLaws.{next-row}
 use Rattle.sums.proofs.LoopLaws.{set-below, set-above}
 use Rattle.floats.specs.Rows.{floatAt, floatRow}
@@ -136,3 +138,12 @@ row-of-floats s pitch k a b c n old sums d out narrow eo ed es e =
     ∙ ap (λ (x : Float). floatSum x k (λ l. floatAt s (a + l * 4)) (λ l. getD d (l * mostFloats + j) nan)) (ap (λ (p : ℕ). getD old p nan) (sym (zero-add j)) ∙ eo j h)
     ∙ sum-cong (floatAt s (c + j * 4)) k (λ l. floatAt s (a + l * 4)) (λ l. getD d (l * mostFloats + j) nan) (λ l. floatAt s (a + l * 4)) (λ l. floatAt s (b + l * pitch + j * 4))
     (λ l g. refl) (λ l g. ed l j g h)))
+
+-- ---- products of binary32 elements, block after block
+
+pub float-joins : Joins 4 floatProduct
+float-joins = record {
+  reads = λ k old x y u v. product-cong old k x y u v;
+  small = λ k old x y. product-small k old x y;
+  more = λ k o old x y. product-more old k o x y;
+}

@@ -1,6 +1,6 @@
 // Products of binary32 elements. s is the register bytes. A row of C is kept as values while its products are added, for k rising,
-// in all columns that the largest machine has: LLVM then keeps the sums in vector registers. What is past the tile's columns counts
-// for nothing. The values of B are fetched once for all rows.
+// in all columns of a block: LLVM then keeps the sums in vector registers. What is past the tile's columns counts for nothing. The values
+// of B are fetched once for all rows. A larger tile is multiplied a block after another.
 ghost use mathlib.Core.Path.{_≡_};
 ghost use Prim.Native.Nat.{ℕ, _+_, _*_, _≤_, _<_};
 ghost use lib.ListN.{length, getD};
@@ -11,10 +11,10 @@ ghost use Rattle.width.specs.Bounds.{mostPitch, mostFloats, mostSize, mostTerms
 ghost use Rattle.arithmetic.specs.Effect.{shape};
 ghost use Rattle.floats.specs.Rows.{floatAt, floatRow, floatTile};
 
-// The columns of the largest tile (width/specs/Bounds.antt: mostFloats).
+// The columns of a block (width/specs/Bounds.antt: mostFloats).
 const FLOATS: usize = element::COLUMNS / 4;
 
-// The values of the largest tile of B.
+// The values of B in a block.
 const VALUES: usize = element::TERMS * FLOATS;
 
 // The values of the row of n elements at `at`, from `to` on.
@@ -119,7 +119,7 @@ fn multiply_row(
     store_row(s, &sums, c, n);
 }
 
-// All rows of C, one after another.
+// A block, in all rows of C, one after another.
 fn multiply_rows(
     s: &mut [u8],
     a: usize,
@@ -132,7 +132,7 @@ fn multiply_rows(
 )
     requires { ⌜ (n ≤ mostFloats) × ((k ≤ mostTerms) × (pitch ≤ mostPitch)) ⌝ }
     requires { ⌜ (n * 4 ≤ pitch) × (k * 4 ≤ pitch) ⌝ }
-    requires { ⌜ (a + m * pitch ≤ c) × ((b + k * pitch ≤ c) × (c + m * (4 * pitch) ≤ length (now s))) ⌝ }
+    requires { ⌜ (a + m * pitch + k * 4 ≤ c + pitch) × ((b + k * pitch ≤ c) × ((c ≤ length (now s)) × (c + m * (4 * pitch) + n * 4 ≤ length (now s) + 4 * pitch))) ⌝ }
     ensures { λ _. ⌜ now (s .exit) ≡ putTile (λ i. c + i * (4 * pitch)) m n 4 (λ i. floatRow (now (s .entry)) pitch k (a + i * pitch) b (c + i * (4 * pitch))) (now (s .entry)) ⌝ }
 {
     let mut d = [0.0f32; VALUES];
@@ -146,6 +146,68 @@ fn multiply_rows(
         from += pitch;
         to += step;
         i += 1;
+    }
+}
+
+// All terms of at most FLOATS columns, a block after another.
+fn multiply_terms(
+    s: &mut [u8],
+    a: usize,
+    b: usize,
+    c: usize,
+    pitch: usize,
+    m: usize,
+    k: usize,
+    n: usize,
+)
+    requires { ⌜ (n ≤ mostFloats) × ((k ≤ mostPitch) × (pitch ≤ mostPitch)) ⌝ }
+    requires { ⌜ (n * 4 ≤ pitch) × (k * 4 ≤ pitch) ⌝ }
+    requires { ⌜ (a + m * pitch + k * 4 ≤ c + pitch) × ((b + k * pitch ≤ c) × ((c ≤ length (now s)) × (c + m * (4 * pitch) + n * 4 ≤ length (now s) + 4 * pitch))) ⌝ }
+    ensures { λ _. ⌜ now (s .exit) ≡ putTile (λ i. c + i * (4 * pitch)) m n 4 (λ i. floatRow (now (s .entry)) pitch k (a + i * pitch) b (c + i * (4 * pitch))) (now (s .entry)) ⌝ }
+{
+    let mut l = 0;
+    let mut from = a;
+    let mut row = b;
+    loop {
+        let terms = arithmetic::least(k - l, element::TERMS);
+        multiply_rows(s, from, row, c, pitch, m, terms, n);
+        l += terms;
+        if l >= k {
+            return;
+        }
+        from += terms * 4;
+        row += terms * pitch;
+    }
+}
+
+// All columns and terms.
+fn multiply_blocks(
+    s: &mut [u8],
+    a: usize,
+    b: usize,
+    c: usize,
+    pitch: usize,
+    m: usize,
+    k: usize,
+    n: usize,
+)
+    requires { ⌜ (n ≤ mostPitch) × ((k ≤ mostPitch) × (pitch ≤ mostPitch)) ⌝ }
+    requires { ⌜ (n * 4 ≤ pitch) × (k * 4 ≤ pitch) ⌝ }
+    requires { ⌜ (a + m * pitch ≤ c) × ((b + k * pitch ≤ c) × (c + m * (4 * pitch) ≤ length (now s))) ⌝ }
+    ensures { λ _. ⌜ now (s .exit) ≡ putTile (λ i. c + i * (4 * pitch)) m n 4 (λ i. floatRow (now (s .entry)) pitch k (a + i * pitch) b (c + i * (4 * pitch))) (now (s .entry)) ⌝ }
+{
+    if m == 0 {
+        return;
+    }
+    let mut j = 0;
+    let mut from = b;
+    let mut to = c;
+    while j < n {
+        let columns = arithmetic::least(n - j, FLOATS);
+        multiply_terms(s, a, from, to, pitch, m, k, columns);
+        from += columns * 4;
+        to += columns * 4;
+        j += columns;
     }
 }
 
@@ -163,7 +225,7 @@ pub fn multiply_tile(
 )
     requires { ⌜ (d < 2) × ((a < 8) × (b < 8)) ⌝ }
     requires { ⌜ (rows * pitch ≤ mostSize) × ((pitch ≤ mostPitch) × (length (now registers) ≡ 16 * (rows * pitch))) ⌝ }
-    requires { ⌜ (m ≤ rows) × ((k ≤ rows) × (k ≤ mostTerms)) ⌝ }
+    requires { ⌜ (m ≤ rows) × ((k ≤ rows) × (k ≤ mostPitch)) ⌝ }
     requires { ⌜ (n * 4 ≤ pitch) × (k * 4 ≤ pitch) ⌝ }
     ensures { λ _. ⌜ now (registers .exit) ≡ floatTile (shape rows pitch) d a b m k n (now (registers .entry)) ⌝ }
 {
@@ -171,5 +233,5 @@ pub fn multiply_tile(
     let at_a = a * size;
     let at_b = b * size;
     let at_c = (8 + 4 * d) * size;
-    multiply_rows(registers, at_a, at_b, at_c, pitch, m, k, n);
+    multiply_blocks(registers, at_a, at_b, at_c, pitch, m, k, n);
 }

@@ -10,11 +10,11 @@ use lib.Dec.{leb, ltb, eqb}
 use borrow.Author.Tests.{leb-true, ltb-true, eqb-true, le-leb, lt-ltb}
 use Rattle.format.specs.Numbers.{Among}
 use Rattle.format.specs.Parser.{isAmong}
-use Rattle.format.proofs.NumberLaws.{isAmong-among}
+use Rattle.format.proofs.NumberLaws.{isAmong-among, among-isAmong}
 use Rattle.machine.specs.declared.Machine.{Machine}
 use Rattle.machine.specs.Tests.{all, every, isIn}
-use Rattle.machine.specs.Geometry.{elen, rlens, mlens, permitted, registerBytes}
-use Rattle.machine.specs.Setting.{sew, maccq, legalType, newType}
+use Rattle.machine.specs.Geometry.{rlens, mlens, elens, permitted, registerBytes}
+use Rattle.machine.specs.Setting.{sew, legalType, newType}
 use Rattle.machine.specs.Faults.{sound}
 use Rattle.machine.proofs.TestLaws.{every-each, each, each-in, or-not, all-at}
 use Rattle.machine.proofs.NoFault.{Sound, sound-is, sound-true}
@@ -24,89 +24,117 @@ use Rattle.image.proofs.ImageLaws.{Held}
 
 -- ---- permitted lengths and their exponents, computed
 
--- r and m are the exponents of these lengths
-pub record Powers (rlen mlen r m : ℕ) : Type 0 where
+-- r, m and e are the exponents of these lengths and of ELEN
+pub record Powers (rlen mlen elen r m e : ℕ) : Type 0 where
   pub rlen-is : 2 ^ r ≡ rlen
   pub mlen-is : 2 ^ m ≡ mlen
+  pub elen-is : 2 ^ e ≡ elen
   pub rows-are : 2 ^ (m - r) ≡ mlen / rlen
   pub columns-are : 2 ^ (r - 3) ≡ rlen / 8
-  pub rlen-ok : (6 ≤ r) × (r ≤ 9)
-  pub mlen-ok : (7 ≤ m) × (m ≤ 12) × (r < m)
+  pub elen-ok : (5 ≤ e) × (e ≤ 6)
+  pub rlen-ok : (e < r) × (r ≤ 12)
+  pub mlen-ok : (r < m) × (m ≤ 16)
 
-abbrev tests : (rlen mlen r m : ℕ) → List Bool
-tests rlen mlen r m =
-    eqb (2 ^ r) rlen ∷ eqb (2 ^ m) mlen ∷ eqb (2 ^ (m - r)) (mlen / rlen) ∷ eqb (2 ^ (r - 3)) (rlen / 8)
-    ∷ leb 6 r ∷ leb r 9 ∷ leb 7 m ∷ leb m 12 ∷ ltb r m ∷ []
+abbrev tests : (rlen mlen elen r m e : ℕ) → List Bool
+tests rlen mlen elen r m e =
+    eqb (2 ^ r) rlen ∷ eqb (2 ^ m) mlen ∷ eqb (2 ^ e) elen ∷ eqb (2 ^ (m - r)) (mlen / rlen) ∷ eqb (2 ^ (r - 3)) (rlen / 8)
+    ∷ leb 5 e ∷ leb e 6 ∷ ltb e r ∷ leb r 12 ∷ ltb r m ∷ leb m 16 ∷ []
 
-powers-by : (rlen mlen r m : ℕ) → every (tests rlen mlen r m) ≡ true → Powers rlen mlen r m
-powers-by rlen mlen r m h =
-    let q = every-each (tests rlen mlen r m) h in
+powers-by : (rlen mlen elen r m e : ℕ) → every (tests rlen mlen elen r m e) ≡ true → Powers rlen mlen elen r m e
+powers-by rlen mlen elen r m e h =
+    let q = every-each (tests rlen mlen elen r m e) h in
+    let p = q .1 .1 .1 .1 .1 in
     record {
       rlen-is = eqb-true (2 ^ r) rlen (q .0);
       mlen-is = eqb-true (2 ^ m) mlen (q .1 .0);
-      rows-are = eqb-true (2 ^ (m - r)) (mlen / rlen) (q .1 .1 .0);
-      columns-are = eqb-true (2 ^ (r - 3)) (rlen / 8) (q .1 .1 .1 .0);
-      rlen-ok = (leb-true 6 r (q .1 .1 .1 .1 .0), leb-true r 9 (q .1 .1 .1 .1 .1 .0));
-      mlen-ok = (leb-true 7 m (q .1 .1 .1 .1 .1 .1 .0), leb-true m 12 (q .1 .1 .1 .1 .1 .1 .1 .0), ltb-true r m (q .1 .1 .1 .1 .1 .1 .1 .1 .0));
+      elen-is = eqb-true (2 ^ e) elen (q .1 .1 .0);
+      rows-are = eqb-true (2 ^ (m - r)) (mlen / rlen) (q .1 .1 .1 .0);
+      columns-are = eqb-true (2 ^ (r - 3)) (rlen / 8) (q .1 .1 .1 .1 .0);
+      elen-ok = (leb-true 5 e (p .0), leb-true e 6 (p .1 .0));
+      rlen-ok = (ltb-true e r (p .1 .1 .0), leb-true r 12 (p .1 .1 .1 .0));
+      mlen-ok = (ltb-true r m (p .1 .1 .1 .1 .0), leb-true m 16 (p .1 .1 .1 .1 .1 .0));
     }
 
 -- permitted lengths have exponents
-pub permitted-powers : (rlen mlen : ℕ) → permitted rlen mlen ≡ true → Powers rlen mlen (exponent rlen) (exponent mlen)
+pub permitted-powers : (rlen mlen elen : ℕ) → permitted rlen mlen elen ≡ true → Powers rlen mlen elen (exponent rlen) (exponent mlen) (exponent elen)
 unfolding permitted log2
-permitted-powers rlen mlen h =
-    let t = every-each (isIn rlen rlens ∷ isIn mlen mlens ∷ ltb rlen mlen ∷ []) h in
-    let good : ℕ → ℕ → Bool = λ r m. not (ltb r m) || every (tests r m (exponent r) (exponent m)) in
-    let p : good rlen mlen ≡ true = each-in mlen mlens (good rlen) (each-in rlen rlens (λ r. each mlens (good r)) refl (t .0)) (t .1 .0) in
-    powers-by rlen mlen (exponent rlen) (exponent mlen) (or-not (not (ltb rlen mlen)) (every (tests rlen mlen (exponent rlen) (exponent mlen))) p (rw (t .1 .1 .0)))
+permitted-powers rlen mlen elen h =
+    let t = every-each (isIn rlen rlens ∷ isIn mlen mlens ∷ ltb rlen mlen ∷ isIn elen elens ∷ ltb elen rlen ∷ []) h in
+    let good : ℕ → ℕ → ℕ → Bool = λ e r m. not (ltb e r && ltb r m) || every (tests r m e (exponent r) (exponent m) (exponent e)) in
+    let p : good elen rlen mlen ≡ true =
+    each-in mlen mlens (good elen rlen)
+    (each-in rlen rlens (λ r. each mlens (good elen r)) (each-in elen elens (λ e. each rlens (λ r. each mlens (good e r))) refl (t .1 .1 .1 .0)) (t .0)) (t .1 .0) in
+    powers-by rlen mlen elen (exponent rlen) (exponent mlen) (exponent elen)
+    (or-not (not (ltb elen rlen && ltb rlen mlen)) (every (tests rlen mlen elen (exponent rlen) (exponent mlen) (exponent elen))) p (rw (t .1 .1 .0, t .1 .1 .1 .1 .0)))
 
 -- exponents in their ranges are those of permitted lengths
-abbrev lengths : ℕ → ℕ → List Bool
-lengths r m = permitted (2 ^ r) (2 ^ m) ∷ eqb (exponent (2 ^ r)) r ∷ eqb (exponent (2 ^ m)) m ∷ eqb (2 ^ (m - r)) (2 ^ m / 2 ^ r) ∷ eqb (2 ^ (r - 3)) (2 ^ r / 8) ∷ []
+abbrev lengths : ℕ → ℕ → ℕ → List Bool
+lengths r m e =
+    permitted (2 ^ r) (2 ^ m) (2 ^ e) ∷ eqb (exponent (2 ^ r)) r ∷ eqb (exponent (2 ^ m)) m ∷ eqb (exponent (2 ^ e)) e
+    ∷ eqb (2 ^ (m - r)) (2 ^ m / 2 ^ r) ∷ eqb (2 ^ (r - 3)) (2 ^ r / 8) ∷ []
 
-pub record Lengths (r m : ℕ) : Type 0 where
-  pub allowed : permitted (2 ^ r) (2 ^ m) ≡ true
+pub record Lengths (r m e : ℕ) : Type 0 where
+  pub allowed : permitted (2 ^ r) (2 ^ m) (2 ^ e) ≡ true
   pub rlen-back : exponent (2 ^ r) ≡ r
   pub mlen-back : exponent (2 ^ m) ≡ m
+  pub elen-back : exponent (2 ^ e) ≡ e
   pub rows-are : 2 ^ (m - r) ≡ 2 ^ m / 2 ^ r
   pub columns-are : 2 ^ (r - 3) ≡ 2 ^ r / 8
 
-pub powers-permitted : (r m : ℕ) → 6 ≤ r → r ≤ 9 → m ≤ 12 → r < m → Lengths r m
+pub powers-permitted : (r m e : ℕ) → (5 ≤ e) × (e ≤ 6) → (e < r) × (r ≤ 12) → (r < m) × (m ≤ 16) → Lengths r m e
 unfolding permitted log2
-powers-permitted r m low high most apart =
-    let good : ℕ → ℕ → Bool = λ r m. not (leb 6 r && ltb r m) || every (lengths r m) in
-    let p : good r m ≡ true = all-at 13 (good r) (all-at 10 (λ r. all 13 (good r)) refl r (omega arith)) m (omega arith) in
-    let q = every-each (lengths r m) (or-not (not (leb 6 r && ltb r m)) (every (lengths r m)) p (rw (le-leb 6 r low, lt-ltb r m apart))) in
+powers-permitted r m e he hr hm =
+    let good : ℕ → ℕ → ℕ → Bool = λ e r m. not (leb 5 e && (ltb e r && ltb r m)) || every (lengths r m e) in
+    let p : good e r m ≡ true = all-at 17 (good e r) (all-at 13 (λ r. all 17 (good e r)) (all-at 7 (λ e. all 13 (λ r. all 17 (good e r))) refl e (omega arith)) r (omega arith)) m (omega arith) in
+    let q = every-each (lengths r m e) (or-not (not (leb 5 e && (ltb e r && ltb r m))) (every (lengths r m e)) p (rw (le-leb 5 e (he .0), lt-ltb e r (hr .0), lt-ltb r m (hm .0)))) in
     record {
       allowed = q .0;
       rlen-back = eqb-true (exponent (2 ^ r)) r (q .1 .0);
       mlen-back = eqb-true (exponent (2 ^ m)) m (q .1 .1 .0);
-      rows-are = eqb-true (2 ^ (m - r)) (2 ^ m / 2 ^ r) (q .1 .1 .1 .0);
-      columns-are = eqb-true (2 ^ (r - 3)) (2 ^ r / 8) (q .1 .1 .1 .1 .0);
+      elen-back = eqb-true (exponent (2 ^ e)) e (q .1 .1 .1 .0);
+      rows-are = eqb-true (2 ^ (m - r)) (2 ^ m / 2 ^ r) (q .1 .1 .1 .1 .0);
+      columns-are = eqb-true (2 ^ (r - 3)) (2 ^ r / 8) (q .1 .1 .1 .1 .1 .0);
     }
 
 -- ---- the mtypes that can arise
 
-type-among : (t : ℕ) → newType elen t ≡ t → Among t mtypes
-unfolding newType legalType sew isAmong
-type-among t h = go (legalType elen t) refl
+-- below 16, computed
+abbrev same : ℕ → ℕ → Bool
+same e v = eqb (newType (2 ^ e) v) (cond (isAmong v (mtypes e)) v (2 ^ 63))
+
+types-same : (e : ℕ) → (5 ≤ e) × (e ≤ 6) → (v : ℕ) → v < 16 → newType (2 ^ e) v ≡ cond (isAmong v (mtypes e)) v (2 ^ 63)
+unfolding newType legalType sew isAmong mtypes
+types-same e h v l =
+    let p : not (leb 5 e) || all 16 (same e) ≡ true = all-at 7 (λ e. not (leb 5 e) || all 16 (same e)) refl e (omega arith) in
+    eqb-true (newType (2 ^ e) v) (cond (isAmong v (mtypes e)) v (2 ^ 63)) (all-at 16 (same e) (or-not (not (leb 5 e)) (all 16 (same e)) p (rw (le-leb 5 e (h .0)))) v l)
+
+type-among : (e : ℕ) → (5 ≤ e) × (e ≤ 6) → (t : ℕ) → newType (2 ^ e) t ≡ t → Among t (mtypes e)
+unfolding newType legalType mtypes
+type-among e k t h = go (ltb t 16) refl
   where
-    good : ℕ → Bool
-    good v = not (legalType elen v) || isAmong v mtypes
+    large : t ≡ 2 ^ 63 → Among t (mtypes e)
+    large is = inr (inr (inl (omega arith, omega arith)))
 
-    go : (b : Bool) → legalType elen t ≡ b → Among t mtypes
-    go true e =
-        let small : t < 16 = ltb-true t 16 (every-each (ltb t 16 ∷ ltb (t % 8) 4 ∷ leb (8 * sew t) elen ∷ (not (maccq t) || leb (4 * (8 * sew t)) elen) ∷ []) e .0) in
-        isAmong-among t mtypes (or-not (not (legalType elen t)) (isAmong t mtypes) (all-at 16 good refl t small) (rw e))
-    go false e =
-        let is : 2 ^ 63 ≡ t = ap (λ (b : Bool). cond b t (2 ^ 63)) (sym e) ∙ h in
-        inr (inr (inl (omega arith)))
+    small : t < 16 → (b : Bool) → isAmong t (mtypes e) ≡ b → Among t (mtypes e)
+    small l true d = isAmong-among t (mtypes e) d
+    small l false d = large (sym h ∙ types-same e k t l ∙ ap (λ (b : Bool). cond b t (2 ^ 63)) d)
 
-among-type : (t : ℕ) → Among t mtypes → newType elen t ≡ t
-unfolding newType legalType sew
-among-type t (inl h) = eqb-true (newType elen t) t (all-at 3 (λ v. eqb (newType elen v) v) refl t (omega arith))
-among-type t (inr (inl h)) = subst (λ (v : ℕ). newType elen v ≡ v) {x = 8} (omega arith) refl
-among-type t (inr (inr (inl h))) = subst (λ (v : ℕ). newType elen v ≡ v) {x = 2 ^ 63} (omega arith) refl
-among-type t (inr (inr (inr h))) = absurd h
+    go : (b : Bool) → ltb t 16 ≡ b → Among t (mtypes e)
+    go true q = small (ltb-true t 16 q) (isAmong t (mtypes e)) refl
+    go false q = large (sym h ∙ rw q)
+
+among-type : (e : ℕ) → (5 ≤ e) × (e ≤ 6) → (t : ℕ) → Among t (mtypes e) → newType (2 ^ e) t ≡ t
+unfolding newType legalType mtypes
+among-type e k t a = go a
+  where
+    small : t < 16 → newType (2 ^ e) t ≡ t
+    small l = types-same e k t l ∙ ap (λ (b : Bool). cond b t (2 ^ 63)) (among-isAmong t (mtypes e) a)
+
+    go : Among t (mtypes e) → newType (2 ^ e) t ≡ t
+    go (inl h) = small (omega (arith, h, k))
+    go (inr (inl h)) = small (omega (arith, h, k))
+    go (inr (inr (inl h))) = subst (λ (v : ℕ). newType (2 ^ e) v ≡ v) {x = 2 ^ 63} (omega arith) refl
+    go (inr (inr (inr h))) = absurd h
 
 -- ---- machines
 
@@ -114,8 +142,8 @@ module _ (m : Machine) (registers marks : List ℕ) (s : sound m registers marks
   facts : Sound m registers marks
   facts = sound-is m registers marks s
 
-  powers : Powers (m .rlen) (m .mlen) (exponent (m .rlen)) (exponent (m .mlen))
-  powers = permitted-powers (m .rlen) (m .mlen) (facts .lengths)
+  powers : Powers (m .rlen) (m .mlen) (m .elen) (exponent (m .rlen)) (exponent (m .mlen)) (exponent (m .elen))
+  powers = permitted-powers (m .rlen) (m .mlen) (m .elen) (facts .lengths)
 
   pub held : Held (headerOf m)
   held =
@@ -123,9 +151,10 @@ module _ (m : Machine) (registers marks : List ℕ) (s : sound m registers marks
       let p = powers in
       let least : min (m .mlen / m .rlen) (m .rlen / 8) ≡ min (2 ^ (exponent (m .mlen) - exponent (m .rlen))) (2 ^ (exponent (m .rlen) - 3)) = ap₂ min (sym (p .rows-are)) (sym (p .columns-are)) in
       record {
+        elen-ok = p .elen-ok;
         rlen-ok = p .rlen-ok;
         mlen-ok = p .mlen-ok;
-        mtype-ok = type-among (m .mtype) (st .type-arises);
+        mtype-ok = type-among (exponent (m .elen)) (p .elen-ok) (m .mtype) (subst (λ (e : ℕ). newType e (m .mtype) ≡ m .mtype) (sym (p .elen-is)) (st .type-arises));
         tile-m-ok = subst (λ (x : ℕ). m .«tile_m» ≤ x) (sym (p .rows-are)) (st .m-fits);
         tile-k-ok = subst (λ (x : ℕ). m .«tile_k» ≤ x) least (st .k-fits);
         tile-n-ok = subst (λ (x : ℕ). m .«tile_n» ≤ x) (sym (p .columns-are)) (st .n-fits);
@@ -134,8 +163,11 @@ module _ (m : Machine) (registers marks : List ℕ) (s : sound m registers marks
       }
 
   pub machine-back : machineFrom (headerOf m) ≡ m
-  machine-back = ap₂ (λ (r l : ℕ). record { rlen = r; mlen = l; mtype = m .mtype; «tile_m» = m .«tile_m»; «tile_k» = m .«tile_k»; «tile_n» = m .«tile_n»; «seal_start» = m .«seal_start»; «seal_length» = m .«seal_length»; rule = m .rule })
+  machine-back =
+      ap₂ (λ (r l : ℕ). record { rlen = r; mlen = l; mtype = m .mtype; «tile_m» = m .«tile_m»; «tile_k» = m .«tile_k»; «tile_n» = m .«tile_n»; «seal_start» = m .«seal_start»; «seal_length» = m .«seal_length»; rule = m .rule; elen = 2 ^ exponent (m .elen) })
       (powers .rlen-is) (powers .mlen-is)
+      ∙ ap (λ (e : ℕ). record { rlen = m .rlen; mlen = m .mlen; mtype = m .mtype; «tile_m» = m .«tile_m»; «tile_k» = m .«tile_k»; «tile_n» = m .«tile_n»; «seal_start» = m .«seal_start»; «seal_length» = m .«seal_length»; rule = m .rule; elen = e })
+      (powers .elen-is)
 
   pub registers-sized : length registers ≡ total (exponent (m .mlen))
   registers-sized = facts .state .regs-length ∙ ap registerBytes (sym (powers .mlen-is))
@@ -147,12 +179,15 @@ module _ (m : Machine) (registers marks : List ℕ) (s : sound m registers marks
   marks-two = facts .state .marks-two
 
 module _ (h : Header) (k : Held h) where
-  lengths-of : Lengths (h .rlen) (h .mlen)
-  lengths-of = powers-permitted (h .rlen) (h .mlen) (k .rlen-ok .0) (k .rlen-ok .1) (k .mlen-ok .1) (k .mlen-ok .2)
+  lengths-of : Lengths (h .rlen) (h .mlen) (h .elen)
+  lengths-of = powers-permitted (h .rlen) (h .mlen) (h .elen) (k .elen-ok) (k .rlen-ok) (k .mlen-ok)
 
   pub header-back : headerOf (machineFrom h) ≡ h
-  header-back = ap₂ (λ (r l : ℕ). record { rlen = r; mlen = l; mtype = h .mtype; tileM = h .tileM; tileK = h .tileK; tileN = h .tileN; sealStart = h .sealStart; sealLength = h .sealLength; rule = h .rule })
+  header-back =
+      ap₂ (λ (r l : ℕ). record { rlen = r; mlen = l; mtype = h .mtype; tileM = h .tileM; tileK = h .tileK; tileN = h .tileN; sealStart = h .sealStart; sealLength = h .sealLength; rule = h .rule; elen = exponent (2 ^ h .elen) })
       (lengths-of .rlen-back) (lengths-of .mlen-back)
+      ∙ ap (λ (e : ℕ). record { rlen = h .rlen; mlen = h .mlen; mtype = h .mtype; tileM = h .tileM; tileK = h .tileK; tileN = h .tileN; sealStart = h .sealStart; sealLength = h .sealLength; rule = h .rule; elen = e })
+      (lengths-of .elen-back)
 
   pub sound-from : (registers marks : List ℕ) → length registers ≡ total (h .mlen) → length marks ≡ total (h .mlen) → ((q : ℕ) → getD marks q 0 < 2)
       → sound (machineFrom h) registers marks ≡ true
@@ -166,7 +201,7 @@ module _ (h : Header) (k : Held h) where
           regs-length = nr;
           marks-length = nm;
           marks-two = two;
-          type-arises = among-type (h .mtype) (k .mtype-ok);
+          type-arises = among-type (h .elen) (k .elen-ok) (h .mtype) (k .mtype-ok);
           m-fits = subst (λ (x : ℕ). h .tileM ≤ x) (l .rows-are) (k .tile-m-ok);
           k-fits = subst (λ (x : ℕ). h .tileK ≤ x) (ap₂ min (l .rows-are) (l .columns-are)) (k .tile-k-ok);
           n-fits = subst (λ (x : ℕ). h .tileN ≤ x) (l .columns-are) (k .tile-n-ok);

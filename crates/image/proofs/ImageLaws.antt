@@ -1,14 +1,16 @@
 -- The format accepts the bytes of a header that a machine can hold and of runs that fit, and nothing else.
 use mathlib.Core.Path.{_≡_, refl, sym, ap, ap₂, _∙_, subst}
-use mathlib.Core.Bool.{Bool, true, false, cond}
+use mathlib.Core.Bool.{Bool, true, false, cond, _&&_, _||_}
 use mathlib.Core.List.{List, [], _∷_, _++_, map}
 use mathlib.Core.Option.{none, some}
 use mathlib.Core.Logic.{inl, inr}
-use Prim.Native.Nat.{ℕ, zero, suc, _+_, _-_, _*_, _^_, _≤_, _<_, max, min}
+use Prim.Native.Nat.{ℕ, zero, suc, _+_, _-_, _*_, _^_, _≤_, _<_, min}
 use native.Mathlib.Omega.{arith}
 use lib.ListN.{length, replicate}
-use lib.Dec.{eqb}
-use borrow.Author.Tests.{eqb-true, eqb-false}
+use lib.Dec.{eqb, ltb}
+use borrow.Author.Tests.{eqb-true, eqb-false, eq-eqb, ne-eqb, ltb-true, ltb-false, lt-ltb, le-ltb}
+use Rattle.width.proofs.BlockLaws.{le-or-lt}
+use Rattle.machine.proofs.TestLaws.{false-true}
 use Rattle.format.specs.Numbers.{span, Among, encode, encodeAll, Bytes}
 use Rattle.format.specs.Formats.{Format, Accepts}
 use Rattle.format.specs.Formats.Format.{number}
@@ -16,15 +18,16 @@ use Rattle.format.specs.Parser.{Live}
 use Rattle.format.proofs.NumberLaws.{among-nonempty}
 use Rattle.image.specs.Cells.{Cell, widen, join, Run, runs, spread, Fit}
 use Rattle.image.specs.Cells.Run.{run}
-use Rattle.image.specs.Images.{Header, version, fields, runsBytes, spelled}
-use Rattle.image.specs.ImageFormat.{Described, mtypes, tilesFormat, sealFormat, total, runsFormat, imageFormat}
+use Rattle.image.specs.Images.{Header, beyond, version, fields, runsBytes, spelled}
+use Rattle.image.specs.ImageFormat.{Described, mostRlen, leastMlen, mostMlen, mtypes, tilesFormat, sealFormat, total, runsFormat, imageFormat}
 use Rattle.image.proofs.RunLaws.{fit-many}
 
 -- numbers that a machine can hold
 pub record Held (h : Header) : Type 0 where
-  pub rlen-ok : (6 ≤ h .rlen) × (h .rlen ≤ 9)
-  pub mlen-ok : (7 ≤ h .mlen) × (h .mlen ≤ 12) × (h .rlen < h .mlen)
-  pub mtype-ok : Among (h .mtype) mtypes
+  pub elen-ok : (5 ≤ h .elen) × (h .elen ≤ 6)
+  pub rlen-ok : (h .elen < h .rlen) × (h .rlen ≤ 12)
+  pub mlen-ok : (h .rlen < h .mlen) × (h .mlen ≤ 16)
+  pub mtype-ok : Among (h .mtype) (mtypes (h .elen))
   pub tile-m-ok : h .tileM ≤ 2 ^ (h .mlen - h .rlen)
   pub tile-k-ok : h .tileK ≤ min (2 ^ (h .mlen - h .rlen)) (2 ^ (h .rlen - 3))
   pub tile-n-ok : h .tileN ≤ 2 ^ (h .rlen - 3)
@@ -122,23 +125,85 @@ pub fit-first : (n : ℕ) (rs : List Run) → Fit 0 n rs → 2 * length rs ≤ n
 fit-first n [] h = omega arith
 fit-first n (run g b ∷ rs) h = omega (arith, h .0, fit-many (n - (g + length b)) rs (h .1))
 
--- what follows the version and the rule
-abbrev pub afterRule : (rule : ℕ) → Format Described
-afterRule rule =
-    number (span 6 9) λ r.
-    number (span (max 7 (suc r)) 12) λ m.
-    tilesFormat (2 ^ (m - r)) (2 ^ (r - 3)) λ t tm tk tn.
+-- ---- the bounds by the version
+
+-- an image of version 3 has a machine beyond the old bounds, and the others none
+bounds-are : (large : Bool) (e r m : ℕ) → 5 ≤ e → e ≤ 6 → (large ≡ false → e ≡ 5) → e < r → r ≤ mostRlen large → leastMlen large e r ≤ m → m ≤ mostMlen large
+    → (r ≤ 12) × (r < m) × (m ≤ 16) × (beyond e r m ≡ large)
+unfolding mostRlen leastMlen mostMlen beyond
+bounds-are false e r m le me five lr mr lm mm =
+    let f = five refl in
+    (omega arith, omega arith, omega arith, rw (ne-eqb e 6 (omega arith), le-ltb 9 r (omega arith), le-ltb 12 m (omega arith)))
+bounds-are true e r m le me five lr mr lm mm = go (eqb e 5) refl (ltb r 10) refl lm
+  where
+    go : (t : Bool) → eqb e 5 ≡ t → (u : Bool) → ltb r 10 ≡ u → cond (t && u) 13 (suc r) ≤ m → (r ≤ 12) × (r < m) × (m ≤ 16) × (beyond e r m ≡ true)
+    go true et true eu l =
+        let a = eqb-true e 5 et in
+        let b = ltb-true r 10 eu in
+        (omega arith, omega arith, omega arith, rw (ne-eqb e 6 (omega arith), le-ltb 9 r (omega arith), lt-ltb 12 m (omega arith)))
+    go true et false eu l =
+        let a = eqb-true e 5 et in
+        let b = ltb-false r 10 eu in
+        (omega arith, omega arith, omega arith, rw (ne-eqb e 6 (omega arith), lt-ltb 9 r (omega arith)))
+    go false et u eu l =
+        let a = eqb-false e 5 et in
+        (omega arith, omega arith, omega arith, rw (eq-eqb e 6 (six a)))
+      where
+        six : ¬ (e ≡ 5) → e ≡ 6
+        six d = elim (le-or-lt 6 e) [ inl l ↦ omega arith | inr l ↦ absurd (d (omega arith)) ]
+
+-- and each of them fits its version
+are-bounds : (large : Bool) (e r m : ℕ) → 5 ≤ e → e ≤ 6 → e < r → r ≤ 12 → r < m → m ≤ 16 → beyond e r m ≡ large
+    → (r ≤ mostRlen large) × (leastMlen large e r ≤ m) × (m ≤ mostMlen large) × (large ≡ false → e ≡ 5)
+unfolding mostRlen leastMlen mostMlen beyond
+are-bounds large e r m le me lr mr lm mm = go (eqb e 6) refl (ltb 9 r) refl (ltb 12 m) refl
+  where
+    five : eqb e 6 ≡ false → e ≡ 5
+    five t = elim (le-or-lt 6 e) [ inl l ↦ absurd (eqb-false e 6 t (omega arith)) | inr l ↦ omega arith ]
+
+    go : (t : Bool) → eqb e 6 ≡ t → (u : Bool) → ltb 9 r ≡ u → (v : Bool) → ltb 12 m ≡ v → t || (u || v) ≡ large
+        → (r ≤ mostRlen large) × (leastMlen large e r ≤ m) × (m ≤ mostMlen large) × (large ≡ false → e ≡ 5)
+    go true et u eu v ev h = subst (λ (x : Bool). (r ≤ mostRlen x) × (leastMlen x e r ≤ m) × (m ≤ mostMlen x) × (x ≡ false → e ≡ 5)) h
+        (mr, rw (ne-eqb e 5 (omega (arith, eqb-true e 6 et))) lm, mm, λ z. absurd (false-true (sym z)))
+    go false et true eu v ev h = subst (λ (x : Bool). (r ≤ mostRlen x) × (leastMlen x e r ≤ m) × (m ≤ mostMlen x) × (x ≡ false → e ≡ 5)) h
+        (mr, rw (eq-eqb e 5 (five et), le-ltb r 10 (omega (arith, ltb-true 9 r eu))) lm, mm, λ z. absurd (false-true (sym z)))
+    go false et false eu true ev h = subst (λ (x : Bool). (r ≤ mostRlen x) × (leastMlen x e r ≤ m) × (m ≤ mostMlen x) × (x ≡ false → e ≡ 5)) h
+        (mr, rw (eq-eqb e 5 (five et), lt-ltb r 10 (omega (arith, ltb-false 9 r eu))) (omega (arith, ltb-true 12 m ev)), mm, λ z. absurd (false-true (sym z)))
+    go false et false eu false ev h = subst (λ (x : Bool). (r ≤ mostRlen x) × (leastMlen x e r ≤ m) × (m ≤ mostMlen x) × (x ≡ false → e ≡ 5)) h
+        (omega (arith, ltb-false 9 r eu), lm, omega (arith, ltb-false 12 m ev), λ z. five et)
+
+-- what follows the version, the rule and the exponent of ELEN
+abbrev pub afterRule : (large : Bool) (rule elen : ℕ) → Format Described
+afterRule large rule elen =
+    number (span (suc elen) (mostRlen large)) λ r.
+    number (span (leastMlen large elen r) (mostMlen large)) λ m.
+    tilesFormat elen (2 ^ (m - r)) (2 ^ (r - 3)) λ t tm tk tn.
     sealFormat λ st ln.
     number (span 0 (2 ^ m)) λ c.
-    runsFormat (λ rs. record { header = record { rlen = r; mlen = m; mtype = t; tileM = tm; tileK = tk; tileN = tn; sealStart = st; sealLength = ln; rule = rule }; body = rs }) c 0 (total m)
+    runsFormat (λ rs. record { header = record { rlen = r; mlen = m; mtype = t; tileM = tm; tileK = tk; tileN = tn; sealStart = st; sealLength = ln; rule = rule; elen = elen }; body = rs }) c 0 (total m)
 
-after-live : (rule : ℕ) → Live (afterRule rule)
-after-live rule = (
-  among-nonempty 6 (span 6 9) (inl (omega arith)),
+some-rlen : (large : Bool) (e : ℕ) → e ≤ 6 → suc e ≤ mostRlen large
+unfolding mostRlen
+some-rlen true e h = omega arith
+some-rlen false e h = omega arith
+
+some-mlen : (large : Bool) (e r : ℕ) → r ≤ mostRlen large → leastMlen large e r ≤ mostMlen large
+unfolding mostRlen leastMlen mostMlen
+some-mlen false e r h = omega arith
+some-mlen true e r h = go (eqb e 5 && ltb r 10)
+  where
+    go : (t : Bool) → cond t 13 (suc r) ≤ 16
+    go true = omega arith
+    go false = omega arith
+
+after-live : (large : Bool) (rule elen : ℕ) → elen ≤ 6 → Live (afterRule large rule elen)
+unfolding mtypes
+after-live large rule elen few = (
+  among-nonempty (suc elen) (span (suc elen) (mostRlen large)) (inl (omega arith, some-rlen large elen few)),
   λ r hr. let kr = among-span hr in (
-    among-nonempty 12 (span (max 7 (suc r)) 12) (inl (omega arith)),
+    among-nonempty (mostMlen large) (span (leastMlen large elen r) (mostMlen large)) (inl (some-mlen large elen r (kr .1), omega arith)),
     λ m hm. (
-      among-nonempty 0 mtypes (inl (omega arith)),
+      among-nonempty 0 (mtypes elen) (inl (omega arith)),
       λ t ht. (
         among-nonempty 0 (span 0 (2 ^ (m - r))) (inl (omega arith)),
         λ tm htm. (
@@ -165,11 +230,12 @@ after-live rule = (
 
 pub image-live : Live imageFormat
 unfolding imageFormat
-image-live = (among-nonempty 1 (span 1 2) (inl (omega arith)), λ v hv. by (eqb v 2))
+image-live = (among-nonempty 1 (span 1 3) (inl (omega arith)), λ v hv. by (eqb v 3) (eqb v 2))
   where
-    by : (t : Bool) → Live (cond t (number (span 1 1) afterRule) (afterRule 0))
-    by true = (among-nonempty 1 (span 1 1) (inl (omega arith)), λ r hr. after-live r)
-    by false = after-live 0
+    by : (t u : Bool) → Live (cond t (number (span 0 1) λ rule. number (span 5 6) λ elen. afterRule true rule elen) (cond u (number (span 1 1) λ rule. afterRule false rule 5) (afterRule false 0 5)))
+    by true u = (among-nonempty 0 (span 0 1) (inl (omega arith)), λ r hr. (among-nonempty 5 (span 5 6) (inl (omega arith)), λ e he. after-live true r e (among-span he .1)))
+    by false true = (among-nonempty 1 (span 1 1) (inl (omega arith)), λ r hr. after-live false r 5 (omega arith))
+    by false false = after-live false 0 5 (omega arith)
 
 -- s is the spelled form of d, a machine's numbers and runs
 pub record Spelling (s : List ℕ) (d : Described) : Type 0 where
@@ -183,16 +249,19 @@ abbrev bytesAfter : Header → List Run → List ℕ
 bytesAfter h rs = encodeAll (fields h) (encode (length rs) ++ runsBytes rs)
 
 -- s is what follows the rule in the spelled form of d
-record SpellingAfter (rule : ℕ) (s : List ℕ) (d : Described) : Type 0 where
+record SpellingAfter (large : Bool) (rule elen : ℕ) (s : List ℕ) (d : Described) : Type 0 where
   sound : Held (d .header)
+  large-is : beyond (d .header .elen) (d .header .rlen) (d .header .mlen) ≡ large
+  elen-is : d .header .elen ≡ elen
   fits : Fit 0 (total (d .header .mlen)) (d .body)
   all-bytes : AllBytes (d .body)
   rule-is : d .header .rule ≡ rule
   are : s ≡ bytesAfter (d .header) (d .body)
 
-after-out : (rule : ℕ) → rule ≤ 1 → (s : List ℕ) (d : Described) → Accepts (afterRule rule) s d → SpellingAfter rule s d
-after-out rule u s d (r, t1, hr, e1, (m, t2, hm, e2, (ty, t3, hty, e3, (tm, t4, htm, e4, (tk, t5, htk, e5, (tn, t6, htn, e6, (st, t7, hst, e7, (ln, t8, hln, e8, (c, t9, hc, e9, a))))))))) =
-    let h : Header = record { rlen = r; mlen = m; mtype = ty; tileM = tm; tileK = tk; tileN = tn; sealStart = st; sealLength = ln; rule = rule } in
+after-out : (large : Bool) (rule elen : ℕ) → rule ≤ 1 → (5 ≤ elen) × (elen ≤ 6) → (large ≡ false → elen ≡ 5) → (s : List ℕ) (d : Described)
+    → Accepts (afterRule large rule elen) s d → SpellingAfter large rule elen s d
+after-out large rule elen u few five s d (r, t1, hr, e1, (m, t2, hm, e2, (ty, t3, hty, e3, (tm, t4, htm, e4, (tk, t5, htk, e5, (tn, t6, htn, e6, (st, t7, hst, e7, (ln, t8, hln, e8, (c, t9, hc, e9, a))))))))) =
+    let h : Header = record { rlen = r; mlen = m; mtype = ty; tileM = tm; tileK = tk; tileN = tn; sealStart = st; sealLength = ln; rule = rule; elen = elen } in
     let kr = among-span hr in
     let km = among-span hm in
     let ktm = among-span htm in
@@ -201,12 +270,14 @@ after-out rule u s d (r, t1, hr, e1, (m, t2, hm, e2, (ty, t3, hty, e3, (tm, t4, 
     let kst = among-span hst in
     let kln = among-span hln in
     let kc = among-span hc in
+    let n = bounds-are large elen r m (few .0) (few .1) five (kr .0) (kr .1) (km .0) (km .1) in
     let w = runs-out (λ rs. record { header = h; body = rs }) c 0 (total m) (room-first c (2 ^ m) (kc .1)) t9 d a in
-    subst (SpellingAfter rule s) (w .is)
+    subst (SpellingAfter large rule elen s) (w .is)
     (record {
       sound = record {
-        rlen-ok = kr;
-        mlen-ok = omega arith;
+        elen-ok = few;
+        rlen-ok = (kr .0, n .0);
+        mlen-ok = (n .1, n .2);
         mtype-ok = hty;
         tile-m-ok = ktm .1;
         tile-k-ok = ktk .1;
@@ -216,6 +287,8 @@ after-out rule u s d (r, t1, hr, e1, (m, t2, hm, e2, (ty, t3, hty, e3, (tm, t4, 
       };
       fits = w .fits;
       all-bytes = w .all-bytes;
+      large-is = n .3;
+      elen-is = refl;
       rule-is = refl;
       are =
           e1 ∙ ap (λ (z : List ℕ). encode r ++ z)
@@ -229,43 +302,65 @@ after-out rule u s d (r, t1, hr, e1, (m, t2, hm, e2, (ty, t3, hty, e3, (tm, t4, 
           (e9 ∙ ap₂ (λ (x : ℕ) (z : List ℕ). encode x ++ z) (sym (w .many)) (w .bytes-are)))))))));
     })
 
-spelling-behind : (rule : ℕ) (s t : List ℕ) (d : Described) → s ≡ encodeAll (version rule) t → SpellingAfter rule t d → Spelling s d
-spelling-behind rule s t d e k = record {
+-- the version that a machine has, by its numbers
+spelledVersion : (large : Bool) (rule elen : ℕ) → List ℕ
+spelledVersion large rule elen = cond large (3 ∷ rule ∷ elen ∷ []) (cond (eqb rule 1) (2 ∷ 1 ∷ []) (1 ∷ []))
+
+spelling-behind : (large : Bool) (rule elen : ℕ) (s t : List ℕ) (d : Described) → s ≡ encodeAll (spelledVersion large rule elen) t → SpellingAfter large rule elen t d → Spelling s d
+unfolding spelledVersion
+spelling-behind large rule elen s t d e k = record {
   sound = k .sound;
   fits = k .fits;
   all-bytes = k .all-bytes;
-  are = e ∙ ap₂ (λ (x : ℕ) (z : List ℕ). encodeAll (version x) z) (sym (k .rule-is)) (k .are);
+  are = e ∙ ap (λ (b : Bool). encodeAll (spelledVersion b rule elen) t) (sym (k .large-is))
+      ∙ ap₂ (λ (x y : ℕ). encodeAll (spelledVersion (beyond (d .header .elen) (d .header .rlen) (d .header .mlen)) x y) t) (sym (k .rule-is)) (sym (k .elen-is))
+      ∙ ap (encodeAll (version (d .header))) (k .are);
 }
 
 pub image-out : (s : List ℕ) (d : Described) → Accepts imageFormat s d → Spelling s d
-unfolding imageFormat
-image-out s d (v, t, hv, e, a) = by (eqb v 2) refl a
+unfolding imageFormat spelledVersion
+image-out s d (v, t, hv, e, a) = by (eqb v 3) refl (eqb v 2) refl a
   where
     start : (x : ℕ) → v ≡ x → s ≡ encode x ++ t
     start x q = e ∙ ap (λ (y : ℕ). encode y ++ t) q
 
-    by : (b : Bool) → eqb v 2 ≡ b → Accepts (cond b (number (span 1 1) afterRule) (afterRule 0)) t d → Spelling s d
-    by true q (r, t′, hr, e′, a) =
+    by : (b : Bool) → eqb v 3 ≡ b → (c : Bool) → eqb v 2 ≡ c
+        → Accepts (cond b (number (span 0 1) λ rule. number (span 5 6) λ elen. afterRule true rule elen) (cond c (number (span 1 1) λ rule. afterRule false rule 5) (afterRule false 0 5))) t d → Spelling s d
+    by true q c z (r, t′, hr, e′, (el, t″, he, e″, a)) =
+        let kr = among-span hr in
+        let ke = among-span he in
+        spelling-behind true r el s t″ d (start 3 (eqb-true v 3 q) ∙ ap (λ (z : List ℕ). encode 3 ++ z) (e′ ∙ ap (λ (z : List ℕ). encode r ++ z) e″))
+        (after-out true r el (kr .1) ke (λ z. absurd (false-true (sym z))) t″ d a)
+    by false q true z (r, t′, hr, e′, a) =
         let kr = among-span hr in
         let one : r ≡ 1 = omega arith in
-        spelling-behind 1 s t′ d (start 2 (eqb-true v 2 q) ∙ ap (λ (z : List ℕ). encode 2 ++ z) (e′ ∙ ap (λ (x : ℕ). encode x ++ t′) one))
-        (subst (λ (x : ℕ). SpellingAfter x t′ d) one (after-out r (omega arith) t′ d a))
-    by false q a =
+        spelling-behind false 1 5 s t′ d (start 2 (eqb-true v 2 z) ∙ ap (λ (z : List ℕ). encode 2 ++ z) (e′ ∙ ap (λ (x : ℕ). encode x ++ t′) one))
+        (subst (λ (x : ℕ). SpellingAfter false x 5 t′ d) one (after-out false r 5 (omega arith) (omega arith, omega arith) (λ z. refl) t′ d a))
+    by false q false z a =
         let kv = among-span hv in
-        spelling-behind 0 s t d (start 1 (omega (arith, eqb-false v 2 q))) (after-out 0 (omega arith) t d a)
+        let three = eqb-false v 3 q in
+        let two = eqb-false v 2 z in
+        spelling-behind false 0 5 s t d (start 1 (one kv three two)) (after-out false 0 5 (omega arith) (omega arith, omega arith) (λ z. refl) t d a)
+      where
+        one : (1 ≤ v) × (v ≤ 3) → ¬ (v ≡ 3) → ¬ (v ≡ 2) → v ≡ 1
+        one k three two = elim (le-or-lt 2 v) [
+          | inl l ↦ elim (le-or-lt 3 v) [ inl g ↦ absurd (three (omega (arith, k))) | inr g ↦ absurd (two (omega (arith, k))) ]
+          | inr l ↦ omega (arith, k)
+        ]
 
-after-in : (h : Header) (rs : List Run) → Held h → Fit 0 (total (h .mlen)) rs → AllBytes rs
-    → Accepts (afterRule (h .rule)) (bytesAfter h rs) (record { header = h; body = rs })
-after-in h rs k f b =
+after-in : (large : Bool) (h : Header) (rs : List Run) → beyond (h .elen) (h .rlen) (h .mlen) ≡ large → Held h → Fit 0 (total (h .mlen)) rs → AllBytes rs
+    → Accepts (afterRule large (h .rule) (h .elen)) (bytesAfter h rs) (record { header = h; body = rs })
+after-in large h rs u k f b =
+    let n = are-bounds large (h .elen) (h .rlen) (h .mlen) (k .elen-ok .0) (k .elen-ok .1) (k .rlen-ok .0) (k .rlen-ok .1) (k .mlen-ok .0) (k .mlen-ok .1) u in
     let many = fit-first (total (h .mlen)) rs f in (
       h .rlen,
       _,
-      inl (k .rlen-ok),
+      inl (k .rlen-ok .0, n .0),
       refl,
       (
         h .mlen,
         _,
-        inl (omega (arith, k .mlen-ok, k .rlen-ok)),
+        inl (n .1, n .2),
         refl,
         (
           h .mtype,
@@ -316,17 +411,23 @@ after-in h rs k f b =
 pub image-in : (h : Header) (rs : List Run) → Held h → Fit 0 (total (h .mlen)) rs → AllBytes rs
     → Accepts imageFormat (spelled h rs) (record { header = h; body = rs })
 unfolding imageFormat
-image-in h rs k f b = by (eqb (h .rule) 1) refl
+image-in h rs k f b = by (beyond (h .elen) (h .rlen) (h .mlen)) refl (eqb (h .rule) 1) refl
   where
     d : Described
     d = record { header = h; body = rs }
 
-    rest : (x : ℕ) → h .rule ≡ x → Accepts (afterRule x) (bytesAfter h rs) d
-    rest x q = subst (λ (x : ℕ). Accepts (afterRule x) (bytesAfter h rs) d) q (after-in h rs k f b)
+    -- with the old bounds ELEN is 32
+    five : beyond (h .elen) (h .rlen) (h .mlen) ≡ false → h .elen ≡ 5
+    five u = are-bounds false (h .elen) (h .rlen) (h .mlen) (k .elen-ok .0) (k .elen-ok .1) (k .rlen-ok .0) (k .rlen-ok .1) (k .mlen-ok .0) (k .mlen-ok .1) u .3 refl
 
-    by : (t : Bool) → eqb (h .rule) 1 ≡ t → Accepts imageFormat (encodeAll (cond t (2 ∷ 1 ∷ []) (1 ∷ [])) (bytesAfter h rs)) d
-    by true q = (2, _, inl (omega arith), refl, (1, _, inl (omega arith), refl, rest 1 (eqb-true (h .rule) 1 q)))
-    by false q = (1, _, inl (omega arith), refl, rest 0 (omega (arith, k .rule-ok, eqb-false (h .rule) 1 q)))
+    rest : (x : ℕ) → beyond (h .elen) (h .rlen) (h .mlen) ≡ false → h .rule ≡ x → Accepts (afterRule false x 5) (bytesAfter h rs) d
+    rest x u q = subst (λ (e : ℕ). Accepts (afterRule false x e) (bytesAfter h rs) d) (five u) (subst (λ (x : ℕ). Accepts (afterRule false x (h .elen)) (bytesAfter h rs) d) q (after-in false h rs u k f b))
+
+    by : (u : Bool) → beyond (h .elen) (h .rlen) (h .mlen) ≡ u → (t : Bool) → eqb (h .rule) 1 ≡ t
+        → Accepts imageFormat (encodeAll (cond u (3 ∷ h .rule ∷ h .elen ∷ []) (cond t (2 ∷ 1 ∷ []) (1 ∷ []))) (bytesAfter h rs)) d
+    by true p t q = (3, _, inl (omega arith), refl, (h .rule, _, inl (omega (arith, k .rule-ok)), refl, (h .elen, _, inl (k .elen-ok), refl, after-in true h rs p k f b)))
+    by false p true q = (2, _, inl (omega arith), refl, (1, _, inl (omega arith), refl, rest 1 p (eqb-true (h .rule) 1 q)))
+    by false p false q = (1, _, inl (omega arith), refl, rest 0 p (omega (arith, k .rule-ok, eqb-false (h .rule) 1 q)))
 
 -- ---- the bytes of runs and of cells
 

@@ -7,10 +7,10 @@ use Rattle.format.specs.Numbers.{groups, encode}
 use Rattle.format.specs.Parser.{isAmong, nonempty, readNumber, parse}
 use Rattle.image.specs.Cells.{cellsOf, runs}
 use Rattle.image.specs.Cells.Run.{run}
-use Rattle.image.specs.Images.{log2, headerOf, spelled}
+use Rattle.image.specs.Images.{beyond, log2, headerOf, spelled}
 use Rattle.image.specs.Answers.{imageReply}
 use Rattle.image.specs.declared.Imaged.the-variants.{Done, Damaged}
-use Rattle.image.specs.ImageFormat.{runsFormat, imageFormat}
+use Rattle.image.specs.ImageFormat.{mostRlen, leastMlen, mostMlen, mtypes, runsFormat, imageFormat}
 use Rattle.image.specs.Reading.{checkImage, readImage}
 use Rattle.machine.specs.Starting.{freshMachine}
 use Rattle.machine.specs.declared.Machine.{Machine}
@@ -23,21 +23,28 @@ sevenRuns = refl
 
 -- a fresh machine of RLEN 64 and MLEN 256 with 300 bytes sealed from address 5 on, and two runs: version, exponents, mtype, three tile sizes,
 -- seal, number of runs, and the runs
-image : spelled (headerOf (freshMachine 64 256 0 5 300)) (run 1 (11 ∷ 12 ∷ []) ∷ run 2 (15 ∷ []) ∷ [])
+image : spelled (headerOf (freshMachine 64 256 32 0 5 300)) (run 1 (11 ∷ 12 ∷ []) ∷ run 2 (15 ∷ []) ∷ [])
     ≡ 1 ∷ 6 ∷ 8 ∷ 0 ∷ 0 ∷ 0 ∷ 0 ∷ 5 ∷ 172 ∷ 2 ∷ 2 ∷ 1 ∷ 2 ∷ 11 ∷ 12 ∷ 2 ∷ 1 ∷ 15 ∷ []
-unfolding groups encode log2
+unfolding groups encode log2 beyond
 image = refl
 
 -- of a halving machine: version 2 and the rule, then the same
-halvingImage : spelled (headerOf (freshMachine 64 256 1 5 300)) [] ≡ 2 ∷ 1 ∷ 6 ∷ 8 ∷ 0 ∷ 0 ∷ 0 ∷ 0 ∷ 5 ∷ 172 ∷ 2 ∷ 0 ∷ []
-unfolding groups encode log2
+halvingImage : spelled (headerOf (freshMachine 64 256 32 1 5 300)) [] ≡ 2 ∷ 1 ∷ 6 ∷ 8 ∷ 0 ∷ 0 ∷ 0 ∷ 0 ∷ 5 ∷ 172 ∷ 2 ∷ 0 ∷ []
+unfolding groups encode log2 beyond
 halvingImage = refl
 
--- of a machine with three different tile sizes and maxima that differ (tile_m and tile_k up to 4, tile_n up to 8): m, k, n in this order
-abbrev sized : Machine
-sized = record {
-  rlen = 64;
-  mlen = 256;
+-- with ELEN 64, or beyond the old bounds: version 3, the rule and the exponent of ELEN, then the same
+largeImages : spelled (headerOf (freshMachine 128 256 64 0 0 0)) [] ∷ spelled (headerOf (freshMachine 4096 65536 32 1 0 0)) [] ∷ []
+    ≡ (3 ∷ 0 ∷ 6 ∷ 7 ∷ 8 ∷ 0 ∷ 0 ∷ 0 ∷ 0 ∷ 0 ∷ 0 ∷ 0 ∷ []) ∷ (3 ∷ 1 ∷ 5 ∷ 12 ∷ 16 ∷ 0 ∷ 0 ∷ 0 ∷ 0 ∷ 0 ∷ 0 ∷ 0 ∷ []) ∷ []
+unfolding groups encode log2 beyond
+largeImages = refl
+
+-- of a machine with three different tile sizes and maxima that differ (of the first tile_m and tile_k up to 4, tile_n up to 8): m, k, n in this
+-- order, in version 1 and in version 3
+abbrev sized : (rlen mlen elen : ℕ) → Machine
+sized rlen mlen elen = record {
+  rlen = rlen;
+  mlen = mlen;
   mtype = 1;
   «tile_m» = 3;
   «tile_k» = 2;
@@ -45,11 +52,13 @@ sized = record {
   «seal_start» = 0;
   «seal_length» = 0;
   rule = 0;
+  elen = elen;
 }
 
-sizedImage : spelled (headerOf sized) [] ≡ 1 ∷ 6 ∷ 8 ∷ 1 ∷ 3 ∷ 2 ∷ 7 ∷ 0 ∷ 0 ∷ 0 ∷ []
-unfolding groups encode log2
-sizedImage = refl
+sizedImages : spelled (headerOf (sized 64 256 32)) [] ∷ spelled (headerOf (sized 128 512 64)) [] ∷ []
+    ≡ (1 ∷ 6 ∷ 8 ∷ 1 ∷ 3 ∷ 2 ∷ 7 ∷ 0 ∷ 0 ∷ 0 ∷ []) ∷ (3 ∷ 0 ∷ 6 ∷ 7 ∷ 9 ∷ 1 ∷ 3 ∷ 2 ∷ 7 ∷ 0 ∷ 0 ∷ 0 ∷ []) ∷ []
+unfolding groups encode log2 beyond
+sizedImages = refl
 
 -- the numbers of a fresh machine of RLEN 64 and MLEN 128, 256 register bytes, before what follows
 abbrev smallest : List ℕ → List ℕ
@@ -63,36 +72,45 @@ checked : checkImage (smallest (0 ∷ [])) ∷ checkImage (smallest (1 ∷ 0 ∷
     ∷ checkImage twoRuns ∷ checkImage (take 9 twoRuns) ∷ checkImage (take 10 twoRuns) ∷ checkImage (take 11 twoRuns) ∷ checkImage (take 15 twoRuns)
     ∷ checkImage (smallest (2 ∷ 0 ∷ 1 ∷ 9 ∷ 1 ∷ 1 ∷ 9 ∷ 0 ∷ [])) ∷ []
     ≡ Done ∷ Done ∷ Done ∷ Done ∷ Damaged 9 ∷ Damaged 10 ∷ Damaged 11 ∷ Damaged 15 ∷ Damaged 16 ∷ []
-unfolding checkImage parse readNumber isAmong nonempty imageFormat runsFormat
+unfolding checkImage parse readNumber isAmong nonempty imageFormat mostRlen leastMlen mostMlen mtypes runsFormat
 checked = refl
 
 -- of version 2, a rule that is 1; one that is not, seen at once; no rule
 versions : checkImage (2 ∷ 1 ∷ 6 ∷ 7 ∷ 0 ∷ 0 ∷ 0 ∷ 0 ∷ 0 ∷ 0 ∷ 0 ∷ []) ∷ checkImage (2 ∷ 0 ∷ []) ∷ checkImage (2 ∷ 2 ∷ []) ∷ checkImage (2 ∷ 129 ∷ []) ∷ checkImage (2 ∷ []) ∷ []
     ≡ Done ∷ Damaged 1 ∷ Damaged 1 ∷ Damaged 1 ∷ Damaged 1 ∷ []
-unfolding checkImage parse readNumber isAmong nonempty imageFormat runsFormat
+unfolding checkImage parse readNumber isAmong nonempty imageFormat mostRlen leastMlen mostMlen mtypes runsFormat
 versions = refl
 
+-- of version 3: with ELEN 32, an MLEN above 4,096, and one that version 1 can hold, seen at the exponent of MLEN; with ELEN 64 mtype 3 and 9, but
+-- not 10; an RLEN that is not above ELEN; an ELEN of 128; a rule of 2; and an RLEN above 512 in version 1
+large : checkImage (3 ∷ 0 ∷ 5 ∷ 6 ∷ 13 ∷ 0 ∷ 0 ∷ 0 ∷ 0 ∷ 0 ∷ 0 ∷ 0 ∷ []) ∷ checkImage (3 ∷ 0 ∷ 5 ∷ 6 ∷ 12 ∷ []) ∷ checkImage (3 ∷ 0 ∷ 5 ∷ 10 ∷ 11 ∷ 0 ∷ 0 ∷ 0 ∷ 0 ∷ 0 ∷ 0 ∷ 0 ∷ [])
+    ∷ checkImage (3 ∷ 1 ∷ 6 ∷ 7 ∷ 8 ∷ 3 ∷ 0 ∷ 0 ∷ 0 ∷ 0 ∷ 0 ∷ 0 ∷ []) ∷ checkImage (3 ∷ 1 ∷ 6 ∷ 7 ∷ 8 ∷ 9 ∷ 0 ∷ 0 ∷ 0 ∷ 0 ∷ 0 ∷ 0 ∷ []) ∷ checkImage (3 ∷ 1 ∷ 6 ∷ 7 ∷ 8 ∷ 10 ∷ [])
+    ∷ checkImage (3 ∷ 0 ∷ 6 ∷ 6 ∷ []) ∷ checkImage (3 ∷ 0 ∷ 7 ∷ []) ∷ checkImage (3 ∷ 2 ∷ []) ∷ checkImage (1 ∷ 10 ∷ []) ∷ []
+    ≡ Done ∷ Damaged 4 ∷ Done ∷ Done ∷ Done ∷ Damaged 5 ∷ Damaged 3 ∷ Damaged 2 ∷ Damaged 1 ∷ Damaged 1 ∷ []
+unfolding checkImage parse readNumber isAmong nonempty imageFormat mostRlen leastMlen mostMlen mtypes runsFormat
+large = refl
+
 -- the shortest inputs that are refused. Only cut short, the place is the length (02, Six): nothing; version 1 alone. The version 0, where images
--- have 1 (Six) or 2 (Eight). A first group of 1, or of 2, behind which another has to follow: in the shortest form (Six) 1 and 2 have no second
+-- have 1 (Six), 2 (Eight) or 3 (Ten). A first group of 1, or of 2, behind which another has to follow: in the shortest form (Six) 1 and 2 have no second
 -- group, and a larger number is no version, so that no image goes on at the first byte
 shortest : checkImage [] ∷ checkImage (1 ∷ []) ∷ checkImage (0 ∷ []) ∷ checkImage (129 ∷ 0 ∷ []) ∷ checkImage (130 ∷ 0 ∷ []) ∷ []
     ≡ Damaged 0 ∷ Damaged 1 ∷ Damaged 0 ∷ Damaged 0 ∷ Damaged 0 ∷ []
-unfolding checkImage parse readNumber isAmong nonempty imageFormat runsFormat
+unfolding checkImage parse readNumber isAmong nonempty imageFormat mostRlen leastMlen mostMlen mtypes runsFormat
 shortest = refl
 
 -- another version; MLEN not above RLEN; an mtype that cannot arise; a tile size above its maximum; a run that touches the one before it; a run
 -- without a byte; a gap that ends past the registers, seen in its second byte; one that leaves no room for the second run, seen in its first
-damaged : checkImage (3 ∷ []) ∷ checkImage (1 ∷ 7 ∷ 7 ∷ []) ∷ checkImage (1 ∷ 6 ∷ 7 ∷ 3 ∷ []) ∷ checkImage (1 ∷ 6 ∷ 7 ∷ 0 ∷ 3 ∷ [])
+damaged : checkImage (4 ∷ []) ∷ checkImage (1 ∷ 7 ∷ 7 ∷ []) ∷ checkImage (1 ∷ 6 ∷ 7 ∷ 3 ∷ []) ∷ checkImage (1 ∷ 6 ∷ 7 ∷ 0 ∷ 3 ∷ [])
     ∷ checkImage (smallest (2 ∷ 0 ∷ 1 ∷ 9 ∷ 0 ∷ 1 ∷ 9 ∷ [])) ∷ checkImage (smallest (1 ∷ 0 ∷ 0 ∷ []))
     ∷ checkImage (smallest (1 ∷ 128 ∷ 2 ∷ 1 ∷ 9 ∷ [])) ∷ checkImage (smallest (2 ∷ 254 ∷ 1 ∷ 1 ∷ 9 ∷ [])) ∷ []
     ≡ Damaged 0 ∷ Damaged 2 ∷ Damaged 3 ∷ Damaged 4 ∷ Damaged 13 ∷ Damaged 11 ∷ Damaged 11 ∷ Damaged 10 ∷ []
-unfolding checkImage parse readNumber isAmong nonempty imageFormat runsFormat
+unfolding checkImage parse readNumber isAmong nonempty imageFormat mostRlen leastMlen mostMlen mtypes runsFormat
 damaged = refl
 
 -- three tile sizes; a tile_k of 7, which only tile_n can be
 sizesChecked : checkImage (1 ∷ 6 ∷ 8 ∷ 1 ∷ 3 ∷ 2 ∷ 7 ∷ 0 ∷ 0 ∷ 0 ∷ []) ∷ checkImage (1 ∷ 6 ∷ 8 ∷ 1 ∷ 3 ∷ 7 ∷ 2 ∷ 0 ∷ 0 ∷ 0 ∷ []) ∷ []
     ≡ Done ∷ Damaged 5 ∷ []
-unfolding checkImage parse readNumber isAmong nonempty imageFormat runsFormat
+unfolding checkImage parse readNumber isAmong nonempty imageFormat mostRlen leastMlen mostMlen mtypes runsFormat
 sizesChecked = refl
 
 -- 15 names its place
@@ -101,5 +119,5 @@ place = refl
 
 -- buffers that aren't of the machine's size stay as they are
 unfit : readImage twoRuns (5 ∷ []) (1 ∷ 0 ∷ []) .marks ≡ 1 ∷ 0 ∷ []
-unfolding readImage parse readNumber isAmong nonempty imageFormat runsFormat
+unfolding readImage parse readNumber isAmong nonempty imageFormat mostRlen leastMlen mostMlen mtypes runsFormat
 unfit = refl

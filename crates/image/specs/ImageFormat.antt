@@ -1,9 +1,9 @@
 -- The format of all images: each number has the range that the numbers before it leave. specs/Theorems.antt says that it accepts exactly
 -- the images of machines that are not at fault.
-use mathlib.Core.Bool.{cond}
+use mathlib.Core.Bool.{Bool, true, false, cond, _&&_}
 use mathlib.Core.List.{List, [], _∷_}
-use Prim.Native.Nat.{ℕ, zero, suc, _+_, _-_, _*_, _^_, max, min}
-use lib.Dec.{eqb}
+use Prim.Native.Nat.{ℕ, zero, suc, _+_, _-_, _*_, _^_, min}
+use lib.Dec.{eqb, ltb}
 use Rattle.format.specs.Numbers.{Range, span}
 use Rattle.format.specs.Formats.{Format}
 use Rattle.format.specs.Formats.Format.{done, number, bytes}
@@ -16,26 +16,42 @@ pub record Described : Type 0 where
   pub header : Header
   pub body : List Run
 
--- the version, and the rule: of version 2 it follows and is 1, of version 1 it is 0
-abbrev pub ruleFormat : (ℕ → Format Described) → Format Described
-ruleFormat K = number (span 1 2) λ version. cond (eqb version 2) (number (span 1 1) K) (K 0)
+-- the version, and what it says of the machine: whether it is beyond the old bounds, its rule, and the exponent of ELEN. Of version 3 rule
+-- and exponent follow; of version 2 the rule follows and is 1, of version 1 it is 0, and ELEN is 32
+abbrev pub versionFormat : (Bool → ℕ → ℕ → Format Described) → Format Described
+versionFormat K =
+    number (span 1 3) λ version.
+    cond (eqb version 3)
+    (number (span 0 1) λ rule. number (span 5 6) λ elen. K true rule elen)
+    (cond (eqb version 2) (number (span 1 1) λ rule. K false rule 5) (K false 0 5))
 
--- and the exponents of RLEN (64 to 512) and MLEN (128 to 4,096, above RLEN)
-abbrev pub shapeFormat : (ℕ → ℕ → ℕ → Format Described) → Format Described
+-- the exponents of RLEN and MLEN: RLEN above ELEN, from 64 on and up to 512 or 4,096, and MLEN above RLEN, up to 4,096 or 65,536; "readers
+-- accept no other": with ELEN 32 and an RLEN of the old bounds, only an MLEN above 4,096 is beyond them
+unfoldable pub mostRlen : Bool → ℕ
+mostRlen large = cond large 12 9
+
+unfoldable pub leastMlen : Bool → (elen rlen : ℕ) → ℕ
+leastMlen large elen rlen = cond (large && (eqb elen 5 && ltb rlen 10)) 13 (suc rlen)
+
+unfoldable pub mostMlen : Bool → ℕ
+mostMlen large = cond large 16 12
+
+abbrev pub shapeFormat : (ℕ → ℕ → ℕ → ℕ → Format Described) → Format Described
 shapeFormat K =
-    ruleFormat λ rule.
-    number (span 6 9) λ rlen.
-    number (span (max 7 (suc rlen)) 12) λ mlen.
-    K rule rlen mlen
+    versionFormat λ large rule elen.
+    number (span (suc elen) (mostRlen large)) λ rlen.
+    number (span (leastMlen large elen rlen) (mostMlen large)) λ mlen.
+    K rule elen rlen mlen
 
--- the mtypes that can arise
-abbrev pub mtypes : List Range
-mtypes = record { low = 0; high = 2 } ∷ record { low = 8; high = 8 } ∷ record { low = 2 ^ 63; high = 2 ^ 63 } ∷ []
+-- the mtypes that can arise, by the exponent of ELEN: msew up to 2 or 3, and with maccq 0, or 0 and 1
+unfoldable pub mtypes : (elen : ℕ) → List Range
+mtypes elen =
+    record { low = 0; high = elen - 3 } ∷ record { low = 8; high = elen + 3 } ∷ record { low = 2 ^ 63; high = 2 ^ 63 } ∷ []
 
 -- mtype, and tile sizes up to their maxima at SEW 8, of a machine with registers of so many rows, each of so many bytes
-abbrev pub tilesFormat : (rows columns : ℕ) → (ℕ → ℕ → ℕ → ℕ → Format Described) → Format Described
-tilesFormat rows columns K =
-    number mtypes λ mtype.
+abbrev pub tilesFormat : (elen rows columns : ℕ) → (ℕ → ℕ → ℕ → ℕ → Format Described) → Format Described
+tilesFormat elen rows columns K =
+    number (mtypes elen) λ mtype.
     number (span 0 rows) λ tileM.
     number (span 0 (min rows columns)) λ tileK.
     number (span 0 columns) λ tileN.
@@ -65,8 +81,8 @@ total mlen = 2 * 2 ^ mlen
 unfoldable pub imageFormat : Format Described
 unfolding runsFormat
 imageFormat =
-    shapeFormat λ rule rlen mlen.
-    tilesFormat (2 ^ (mlen - rlen)) (2 ^ (rlen - 3)) λ mtype tileM tileK tileN.
+    shapeFormat λ rule elen rlen mlen.
+    tilesFormat elen (2 ^ (mlen - rlen)) (2 ^ (rlen - 3)) λ mtype tileM tileK tileN.
     sealFormat λ start size.
     number (span 0 (2 ^ mlen)) λ count.
     runsFormat (λ rs. record {
@@ -80,6 +96,7 @@ imageFormat =
         sealStart = start;
         sealLength = size;
         rule = rule;
+        elen = elen;
       };
       body = rs;
     })

@@ -1,6 +1,6 @@
 -- 02, Six: the image of a machine.
 use mathlib.Core.Path.{_≡_}
-use mathlib.Core.Bool.{true, cond}
+use mathlib.Core.Bool.{Bool, true, cond, _||_}
 use mathlib.Core.List.{List, [], _∷_, _++_}
 use Prim.Native.Nat.{ℕ, zero, suc, _/_, _^_}
 use lib.ListN.{length}
@@ -22,7 +22,7 @@ abbrev pub exponent : ℕ → ℕ
 exponent n = log2 64 n
 
 -- a machine's numbers as an image has them: "the exponents of RLEN and MLEN, mtype, tile_m, tile_k, tile_n, seal start and length", and, 02,
--- Eight, the rule
+-- Eight, the rule, and, 02, Ten, "the exponent of ELEN"
 pub record Header : Type 0 where
   pub rlen : ℕ
   pub mlen : ℕ
@@ -33,6 +33,7 @@ pub record Header : Type 0 where
   pub sealStart : ℕ
   pub sealLength : ℕ
   pub rule : ℕ
+  pub elen : ℕ
 
 abbrev pub headerOf : Machine → Header
 headerOf m = record {
@@ -45,6 +46,7 @@ headerOf m = record {
   sealStart = m .«seal_start»;
   sealLength = m .«seal_length»;
   rule = m .rule;
+  elen = exponent (m .elen);
 }
 
 -- the machine with these numbers
@@ -59,13 +61,20 @@ machineFrom h = record {
   «seal_start» = h .sealStart;
   «seal_length» = h .sealLength;
   rule = h .rule;
+  elen = 2 ^ h .elen;
 }
 
 -- ---- the bytes
 
+-- 02, Ten: "a machine beyond the old bounds, or with ELEN 64": RLEN above 512 or MLEN above 4,096, by their exponents
+unfoldable pub beyond : (elen rlen mlen : ℕ) → Bool
+beyond elen rlen mlen = eqb elen 6 || (ltb 9 rlen || ltb 12 mlen)
+
 -- 02, Eight: "An image of a halving machine has version 2, with the rule (1) after the version; version 1 stays the form of the others."
-abbrev pub version : (rule : ℕ) → List ℕ
-version rule = cond (eqb rule 1) (2 ∷ 1 ∷ []) (1 ∷ [])
+-- 02, Ten: "An image of a machine beyond the old bounds, or with ELEN 64, has version 3: the version, the rule (0 or 1), the exponent of
+-- ELEN, then the rest. Writers use the lowest version that can hold the machine"
+abbrev pub version : Header → List ℕ
+version h = cond (beyond (h .elen) (h .rlen) (h .mlen)) (3 ∷ h .rule ∷ h .elen ∷ []) (cond (eqb (h .rule) 1) (2 ∷ 1 ∷ []) (1 ∷ []))
 
 -- "The fields are version 1, the exponents of RLEN and MLEN, mtype, tile_m, tile_k, tile_n, seal start and length": those behind the version
 abbrev pub fields : Header → List ℕ
@@ -78,7 +87,7 @@ runsBytes (run g b ∷ rs) = encode g ++ (encode (length b) ++ (b ++ runsBytes r
 
 -- the version, the fields, "then the number of runs", then the runs
 abbrev pub spelled : Header → List Run → List ℕ
-spelled h rs = encodeAll (version (h .rule)) (encodeAll (fields h) (encode (length rs) ++ runsBytes rs))
+spelled h rs = encodeAll (version h) (encodeAll (fields h) (encode (length rs) ++ runsBytes rs))
 
 -- the image of a machine
 unfoldable pub imageOf : Machine → (registers marks : List ℕ) → List ℕ

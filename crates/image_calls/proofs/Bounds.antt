@@ -25,8 +25,8 @@ use Rattle.machine.proofs.NoFault.{sound-is}
 use Rattle.machine.proofs.StepLaws.{permitted-bounds}
 use Rattle.image.specs.Cells.{Cell, Run, runs, cellsOf, Fit}
 use Rattle.image.specs.Cells.Run.{run}
-use Rattle.image.specs.Images.{headerOf, version, fields, runsBytes, imageOf}
-use Rattle.image.specs.ImageFormat.{Described, mtypes, total, runsFormat, imageFormat}
+use Rattle.image.specs.Images.{Header, headerOf, beyond, version, fields, runsBytes, imageOf}
+use Rattle.image.specs.ImageFormat.{Described, mostRlen, mostMlen, mtypes, total, runsFormat, imageFormat}
 use Rattle.image.proofs.RunLaws.{fit-runs}
 use Rattle.image.proofs.CellLaws.{length-cells}
 use Rattle.image.proofs.ImageLaws.{Room, room-next, room-first, among-span, fit-first, afterRule}
@@ -34,7 +34,7 @@ use Rattle.image.proofs.HeaderLaws.{held}
 
 -- more bytes than any image has
 abbrev pub most : ℕ
-most = 2 ^ 18
+most = 2 ^ 22
 
 -- ---- the length of an image
 
@@ -63,42 +63,44 @@ runs-short least n (run g b ∷ rs) h f =
       rest,
     )
 
-mtype-small : (t : ℕ) → Among t mtypes → t < 2 ^ 64
-mtype-small t (inl h) = omega arith
-mtype-small t (inr (inl h)) = omega arith
-mtype-small t (inr (inr (inl h))) = omega arith
-mtype-small t (inr (inr (inr h))) = absurd h
+mtype-small : (e t : ℕ) → e ≤ 6 → Among t (mtypes e) → t < 2 ^ 64
+unfolding mtypes
+mtype-small e t few (inl h) = omega arith
+mtype-small e t few (inr (inl h)) = omega arith
+mtype-small e t few (inr (inr (inl h))) = omega arith
+mtype-small e t few (inr (inr (inr h))) = absurd h
 
-version-short : (rule : ℕ) (t : List ℕ) → length (encodeAll (version rule) t) ≤ 20 + length t
-version-short rule t = go (eqb rule 1)
+version-short : (h : Header) (t : List ℕ) → h .rule ≤ 1 → h .elen ≤ 6 → length (encodeAll (version h) t) ≤ 30 + length t
+version-short h t hr he = go (beyond (h .elen) (h .rlen) (h .mlen)) (eqb (h .rule) 1)
   where
-    go : (c : Bool) → length (encodeAll (cond c (2 ∷ 1 ∷ []) (1 ∷ [])) t) ≤ 20 + length t
-    go true = numbers-short (2 ∷ 1 ∷ []) t (omega arith, (omega arith, tt))
-    go false = omega (arith, numbers-short (1 ∷ []) t (omega arith, tt))
+    go : (b c : Bool) → length (encodeAll (cond b (3 ∷ h .rule ∷ h .elen ∷ []) (cond c (2 ∷ 1 ∷ []) (1 ∷ []))) t) ≤ 30 + length t
+    go true c = numbers-short (3 ∷ h .rule ∷ h .elen ∷ []) t (omega arith, (omega arith, (omega arith, tt)))
+    go false true = omega (arith, numbers-short (2 ∷ 1 ∷ []) t (omega arith, (omega arith, tt)))
+    go false false = omega (arith, numbers-short (1 ∷ []) t (omega arith, tt))
 
 pub image-short : (m : Machine) (registers marks : List ℕ) → sound m registers marks ≡ true → length (imageOf m registers marks) ≤ most
 unfolding imageOf
 image-short m registers marks s =
     let f = sound-is m registers marks s in
-    let b = permitted-bounds (m .rlen) (m .mlen) (f .lengths) in
+    let b = permitted-bounds (m .rlen) (m .mlen) (m .elen) (f .lengths) in
     let h = held m registers marks s in
     let k = f .state in
     let rows : m .mlen / m .rlen ≤ m .mlen = div-le-self (m .mlen) (m .rlen) in
     let cells : List Cell = cellsOf registers marks in
     let n : length cells ≡ length registers = length-cells registers marks (k .regs-length ∙ sym (k .marks-length)) in
-    let size : length cells ≤ 8192 = omega (arith, n, k .regs-length) in
+    let size : length cells ≤ 131072 = omega (arith, n, k .regs-length) in
     let fit = fit-runs cells in
     let count = fit-first (length cells) (runs cells) fit in
     let body : List ℕ = encode (length (runs cells)) ++ runsBytes (runs cells) in
     omega (
       arith,
-      version-short (m .rule) (encodeAll (fields (headerOf m)) body),
+      version-short (headerOf m) (encodeAll (fields (headerOf m)) body) (h .rule-ok) (h .elen-ok .1),
       numbers-short (fields (headerOf m)) body (
         omega (arith, h .rlen-ok),
         (
           omega (arith, h .mlen-ok),
           (
-            mtype-small (m .mtype) (h .mtype-ok),
+            mtype-small (headerOf m .elen) (m .mtype) (h .elen-ok .1) (h .mtype-ok),
             (omega (arith, k .m-fits), (omega (arith, k .k-fits), (omega (arith, k .n-fits), (omega (arith, h .seal-ok), (omega (arith, h .seal-ok), tt))))),
           ),
         ),
@@ -192,10 +194,10 @@ module _ {X : Type 0} where
 
 -- ---- the format of images
 
-power-small : (x : ℕ) → x ≤ 12 → 2 ^ x ≤ 4096
+power-small : (x : ℕ) → x ≤ 16 → 2 ^ x ≤ 65536
 power-small x h = pow-mono h
 
-runs-fit : (f : List Run → Described) (l least room k : ℕ) → room ≤ 8192 → 21 * room ≤ k → Room l least room → Short k (runsFormat f l least room)
+runs-fit : (f : List Run → Described) (l least room k : ℕ) → room ≤ 131072 → 21 * room ≤ k → Room l least room → Short k (runsFormat f l least room)
 unfolding runsFormat
 runs-fit f zero least room k small h w = tt
 runs-fit f (suc l) least room k small h w = (
@@ -211,15 +213,28 @@ runs-fit f (suc l) least room k small h w = (
   ),
 )
 
-after-fits : (rule : ℕ) → Short (most - 20) (afterRule rule)
-after-fits rule = (
+few-rlen : (large : Bool) → mostRlen large ≤ 12
+unfolding mostRlen
+few-rlen true = omega arith
+few-rlen false = omega arith
+
+few-mlen : (large : Bool) → mostMlen large ≤ 16
+unfolding mostMlen
+few-mlen true = omega arith
+few-mlen false = omega arith
+
+after-fits : (large : Bool) (rule elen : ℕ) → elen ≤ 6 → Short (most - 30) (afterRule large rule elen)
+unfolding mtypes
+after-fits large rule elen few = (
   omega arith,
-  (omega arith, tt),
+  (omega (arith, few-rlen large), tt),
   λ r hr. let kr = among-span hr in (
     omega arith,
-    (omega arith, tt),
+    (omega (arith, few-mlen large), tt),
     λ m hm.
         let km = among-span hm in
+        let fr = few-rlen large in
+        let fm = few-mlen large in
         let rows = power-small (m - r) (omega arith) in
         let columns = power-small (r - 3) (omega arith) in
         let size = power-small m (omega arith) in (
@@ -243,7 +258,7 @@ after-fits rule = (
                     λ ln hln. (
                       omega arith,
                       (omega arith, tt),
-                      λ c hc. let kc = among-span hc in runs-fit _ c 0 (total m) (most - 110) (omega arith) (omega arith) (room-first c (2 ^ m) (kc .1)),
+                      λ c hc. let kc = among-span hc in runs-fit _ c 0 (total m) (most - 120) (omega arith) (omega arith) (room-first c (2 ^ m) (kc .1)),
                     ),
                   ),
                 ),
@@ -256,11 +271,12 @@ after-fits rule = (
 
 image-fits : Short most imageFormat
 unfolding imageFormat
-image-fits = (omega arith, (omega arith, tt), λ v hv. by (eqb v 2))
+image-fits = (omega arith, (omega arith, tt), λ v hv. by (eqb v 3) (eqb v 2))
   where
-    by : (t : Bool) → Short (most - 10) (cond t (number (span 1 1) afterRule) (afterRule 0))
-    by true = (omega arith, (omega arith, tt), λ r hr. after-fits r)
-    by false = short-more (afterRule 0) (most - 20) (most - 10) (omega arith) (after-fits 0)
+    by : (t u : Bool) → Short (most - 10) (cond t (number (span 0 1) λ rule. number (span 5 6) λ elen. afterRule true rule elen) (cond u (number (span 1 1) λ rule. afterRule false rule 5) (afterRule false 0 5)))
+    by true u = (omega arith, (omega arith, tt), λ r hr. (omega arith, (omega arith, tt), λ e he. after-fits true r e (among-span he .1)))
+    by false true = (omega arith, (omega arith, tt), λ r hr. short-more (afterRule false r 5) (most - 30) (most - 20) (omega arith) (after-fits false r 5 (omega arith)))
+    by false false = short-more (afterRule false 0 5) (most - 30) (most - 10) (omega arith) (after-fits false 0 5 (omega arith))
 
 pub place-short : (s : List ℕ) → Stops most (parse imageFormat s)
 place-short = parse-short imageFormat most image-fits

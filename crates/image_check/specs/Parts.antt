@@ -12,8 +12,10 @@ use Rattle.image.specs.declared.Imaged.{Imaged}
 use Rattle.image.specs.declared.Imaged.the-variants.{Done, BadArguments, NoRoom, Damaged}
 use Rattle.image.specs.Cells.{Run}
 use Rattle.image.specs.Images.{Header, machineFrom}
-use Rattle.image.specs.ImageFormat.{Described, mtypes, runsFormat}
+use Rattle.image.specs.ImageFormat.{Described, mostRlen, leastMlen, mostMlen, mtypes, runsFormat}
 use Rattle.image.specs.Reading.{verdictOf}
+use Rattle.image_check.specs.declared.head.Version.{Version}
+use Rattle.image_check.specs.declared.head.Version.the-variants.{Versioned, VersionBad}
 use Rattle.image_check.specs.declared.head.Shape.{Shape}
 use Rattle.image_check.specs.declared.head.Shape.the-variants.{Shaped, ShapeBad}
 use Rattle.image_check.specs.declared.head.Tiles.{Tiles}
@@ -32,28 +34,45 @@ abbrev pub onward : {R : Type 0} → Number → (bad : ℕ → R) → (good : �
 onward (Value n at) bad good = good n at
 onward (Fault p) bad good = bad p
 
--- the rule behind the version: of version 1 it is 0
-unfoldable pub ruleIn : List ℕ → Number
-ruleIn s =
-    onward (numberAt s 0 1 2) Fault λ version at.
-    cond (eqb version 2) (numberAt s at 1 1) (Value 0 at)
+-- of version 3 the rule and the exponent of ELEN
+unfoldable pub largeAt : List ℕ → ℕ → Version
+largeAt s at =
+    onward (numberAt s at 0 1) VersionBad λ rule a.
+    onward (numberAt s a 5 6) VersionBad λ elen b.
+    Versioned true rule elen b
 
--- and the exponents
+-- of version 2 the rule
+unfoldable pub halvingAt : List ℕ → ℕ → Version
+halvingAt s at = onward (numberAt s at 1 1) VersionBad λ rule a. Versioned false rule 5 a
+
+-- the version, and what it says of the machine
+unfoldable pub versionIn : List ℕ → Version
+versionIn s =
+    onward (numberAt s 0 1 3) VersionBad λ version at.
+    cond (eqb version 3) (largeAt s at) (cond (eqb version 2) (halvingAt s at) (Versioned false 0 5 at))
+
+-- the exponents of RLEN and MLEN
+unfoldable pub exponentsAt : List ℕ → (large : Bool) (rule elen at : ℕ) → Shape
+exponentsAt s large rule elen a =
+    onward (numberAt s a (elen + 1) (mostRlen large)) ShapeBad λ rlen b.
+    onward (numberAt s b (leastMlen large elen rlen) (mostMlen large)) ShapeBad λ mlen e.
+    Shaped rlen mlen rule elen e
+
+abbrev pub withVersion : List ℕ → Version → Shape
+withVersion s (Versioned large rule elen at) = exponentsAt s large rule elen at
+withVersion s (VersionBad p) = ShapeBad p
+
 unfoldable pub shapeIn : List ℕ → Shape
-shapeIn s =
-    onward (ruleIn s) ShapeBad λ rule a.
-    onward (numberAt s a 6 9) ShapeBad λ rlen b.
-    onward (numberAt s b (rlen + 1) 12) ShapeBad λ mlen e.
-    Shaped rlen mlen rule e
+shapeIn s = withVersion s (versionIn s)
 
--- the mtype at a place
-unfoldable pub mtypeAt : List ℕ → ℕ → Number
-mtypeAt s at = found at (readNumber mtypes (drop at s))
+-- the mtype at a place, by the exponent of ELEN
+unfoldable pub mtypeAt : List ℕ → (elen at : ℕ) → Number
+mtypeAt s elen at = found at (readNumber (mtypes elen) (drop at s))
 
 -- mtype and the tile sizes of a machine with so many rows and columns
-unfoldable pub tilesAt : List ℕ → (at rows columns : ℕ) → Tiles
-tilesAt s at rows columns =
-    onward (mtypeAt s at) TilesBad λ mtype a.
+unfoldable pub tilesAt : List ℕ → (elen at rows columns : ℕ) → Tiles
+tilesAt s elen at rows columns =
+    onward (mtypeAt s elen at) TilesBad λ mtype a.
     onward (numberAt s a 0 rows) TilesBad λ tileM b.
     onward (numberAt s b 0 (min rows columns)) TilesBad λ tileK d.
     onward (numberAt s d 0 columns) TilesBad λ tileN e.
@@ -68,20 +87,20 @@ tailAt s at most =
     Tailed start size count e
 
 -- the parts put together: a machine's numbers, and the number of runs with the place behind it
-abbrev pub numbersOf : (rule rlen mlen mtype tileM tileK tileN start size : ℕ) → Header
-numbersOf rule rlen mlen mtype tileM tileK tileN start size =
-    record { rlen = rlen; mlen = mlen; mtype = mtype; tileM = tileM; tileK = tileK; tileN = tileN; sealStart = start; sealLength = size; rule = rule }
+abbrev pub numbersOf : (rule elen rlen mlen mtype tileM tileK tileN start size : ℕ) → Header
+numbersOf rule elen rlen mlen mtype tileM tileK tileN start size =
+    record { rlen = rlen; mlen = mlen; mtype = mtype; tileM = tileM; tileK = tileK; tileN = tileN; sealStart = start; sealLength = size; rule = rule; elen = elen }
 
-abbrev pub withTail : (rule rlen mlen mtype tileM tileK tileN : ℕ) → Tail → Head
-withTail rule rlen mlen mtype tileM tileK tileN (Tailed start size count at) = Headed (machineFrom (numbersOf rule rlen mlen mtype tileM tileK tileN start size)) count at
-withTail rule rlen mlen mtype tileM tileK tileN (TailBad p) = HeadBad p
+abbrev pub withTail : (rule elen rlen mlen mtype tileM tileK tileN : ℕ) → Tail → Head
+withTail rule elen rlen mlen mtype tileM tileK tileN (Tailed start size count at) = Headed (machineFrom (numbersOf rule elen rlen mlen mtype tileM tileK tileN start size)) count at
+withTail rule elen rlen mlen mtype tileM tileK tileN (TailBad p) = HeadBad p
 
-abbrev pub withTiles : List ℕ → (rule rlen mlen : ℕ) → Tiles → Head
-withTiles s rule rlen mlen (Tiled mtype tileM tileK tileN at) = withTail rule rlen mlen mtype tileM tileK tileN (tailAt s at (2 ^ mlen))
-withTiles s rule rlen mlen (TilesBad p) = HeadBad p
+abbrev pub withTiles : List ℕ → (rule elen rlen mlen : ℕ) → Tiles → Head
+withTiles s rule elen rlen mlen (Tiled mtype tileM tileK tileN at) = withTail rule elen rlen mlen mtype tileM tileK tileN (tailAt s at (2 ^ mlen))
+withTiles s rule elen rlen mlen (TilesBad p) = HeadBad p
 
 abbrev pub withShape : List ℕ → Shape → Head
-withShape s (Shaped rlen mlen rule at) = withTiles s rule rlen mlen (tilesAt s at (2 ^ (mlen - rlen)) (2 ^ (rlen - 3)))
+withShape s (Shaped rlen mlen rule elen at) = withTiles s rule elen rlen mlen (tilesAt s elen at (2 ^ (mlen - rlen)) (2 ^ (rlen - 3)))
 withShape s (ShapeBad p) = HeadBad p
 
 -- all numbers of an image
@@ -102,7 +121,7 @@ describe h rs = record { header = h; body = rs }
 
 -- a machine's numbers don't matter to its runs
 abbrev pub noHeader : Header
-noHeader = record { rlen = 0; mlen = 0; mtype = 0; tileM = 0; tileK = 0; tileN = 0; sealStart = 0; sealLength = 0; rule = 0 }
+noHeader = record { rlen = 0; mlen = 0; mtype = 0; tileM = 0; tileK = 0; tileN = 0; sealStart = 0; sealLength = 0; rule = 0; elen = 0 }
 
 -- so many runs in room bytes, from a place of the input on
 unfoldable pub runsFrom : (s : List ℕ) (at count least room : ℕ) → Parsed Described

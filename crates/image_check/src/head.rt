@@ -6,11 +6,18 @@ use reader::number_from;
 use reader::wide;
 ghost use mathlib.Core.Path.{_≡_};
 ghost use Prim.Native.Nat.{_^_, _≤_};
-ghost use Rattle.image_check.specs.Parts.{ruleIn, shapeIn, mtypeAt, tilesAt, tailAt, headIn};
+ghost use Rattle.image.specs.ImageFormat.{mostRlen, leastMlen, mostMlen};
+ghost use Rattle.image_check.specs.Parts.{largeAt, halvingAt, versionIn, exponentsAt, shapeIn, mtypeAt, tilesAt, tailAt, headIn};
 
-// The exponents of RLEN and MLEN, the rule and the place behind them, or the place of a fault.
+// Whether the version is 3, the rule, the exponent of ELEN and the place behind them, or the place of a fault.
+pub enum Version {
+    Versioned(bool, u64, u64, usize),
+    VersionBad(usize),
+}
+
+// The exponents of RLEN and MLEN, the rule, the exponent of ELEN and the place behind them, or the place of a fault.
 pub enum Shape {
-    Shaped(u64, u64, u64, usize),
+    Shaped(u64, u64, u64, u64, usize),
     ShapeBad(usize),
 }
 
@@ -32,58 +39,144 @@ pub enum Head {
     HeadBad(usize),
 }
 
-// The rule at the start of an image: behind version 2; of version 1 it is 0.
-fn rule_of(s: &[u8]) -> Number
-    ensures { λ r. ⌜ r ≡ ruleIn (now (s .entry)) ⌝ }
+// The rule and the exponent of ELEN behind version 3.
+fn large_at(s: &[u8], at: usize) -> Version
+    ensures { λ r. ⌜ r ≡ largeAt (now (s .entry)) at ⌝ }
 {
-    match number_from(s, 0, 1, 2) {
+    match number_from(s, at, 0, 1) {
         Number::Fault(p) => {
-            return Number::Fault(p);
+            return Version::VersionBad(p);
         }
-        Number::Value(version, a) => {
-            if version == 2 {
-                return number_from(s, a, 1, 1);
-            }
-            return Number::Value(0, a);
-        }
-    }
-}
-
-// The rule and the two exponents at the start of an image.
-fn shape_of(s: &[u8]) -> Shape
-    ensures { λ r. ⌜ r ≡ shapeIn (now (s .entry)) ⌝ }
-{
-    match rule_of(s) {
-        Number::Fault(p) => {
-            return Shape::ShapeBad(p);
-        }
-        Number::Value(rule, a) => match number_from(s, a, 6, 9) {
+        Number::Value(rule, a) => match number_from(s, a, 5, 6) {
             Number::Fault(p) => {
-                return Shape::ShapeBad(p);
+                return Version::VersionBad(p);
             }
-            Number::Value(r, b) => match number_from(s, b, r + 1, 12) {
-                Number::Fault(p) => {
-                    return Shape::ShapeBad(p);
-                }
-                Number::Value(m, e) => {
-                    return Shape::Shaped(r, m, rule, e);
-                }
-            },
+            Number::Value(elen, b) => {
+                return Version::Versioned(true, rule, elen, b);
+            }
         },
     }
 }
 
-// The mtype at a place of s.
-fn mtype_at(s: &[u8], at: usize) -> Number
-    ensures { λ r. ⌜ r ≡ mtypeAt (now (s .entry)) at ⌝ }
+// The rule behind version 2.
+fn halving_at(s: &[u8], at: usize) -> Version
+    ensures { λ r. ⌜ r ≡ halvingAt (now (s .entry)) at ⌝ }
+{
+    match number_from(s, at, 1, 1) {
+        Number::Fault(p) => {
+            return Version::VersionBad(p);
+        }
+        Number::Value(rule, a) => {
+            return Version::Versioned(false, rule, 5, a);
+        }
+    }
+}
+
+// The version at the start of an image, and what it says of the machine.
+fn version_of(s: &[u8]) -> Version
+    ensures { λ r. ⌜ r ≡ versionIn (now (s .entry)) ⌝ }
+{
+    match number_from(s, 0, 1, 3) {
+        Number::Fault(p) => {
+            return Version::VersionBad(p);
+        }
+        Number::Value(version, a) => {
+            if version == 3 {
+                return large_at(s, a);
+            }
+            if version == 2 {
+                return halving_at(s, a);
+            }
+            return Version::Versioned(false, 0, 5, a);
+        }
+    }
+}
+
+// The largest exponent of RLEN, by the version.
+fn most_rlen(large: bool) -> u64
+    ensures { λ r. ⌜ r ≡ mostRlen large ⌝ }
+{
+    if large { 12 } else { 9 }
+}
+
+// The largest exponent of MLEN.
+fn most_mlen(large: bool) -> u64
+    ensures { λ r. ⌜ r ≡ mostMlen large ⌝ }
+{
+    if large { 16 } else { 12 }
+}
+
+// The least exponent of MLEN: of version 3 with ELEN 32 and an RLEN of the old bounds, one beyond them.
+fn least_mlen(large: bool, elen: u64, rlen: u64) -> u64
+    requires { ⌜ rlen ≤ 12 ⌝ }
+    ensures { λ r. ⌜ r ≡ leastMlen large elen rlen ⌝ }
+{
+    if !large {
+        return rlen + 1;
+    }
+    if elen != 5 {
+        return rlen + 1;
+    }
+    if rlen >= 10 {
+        return rlen + 1;
+    }
+    13
+}
+
+// The exponents of RLEN and MLEN at a place of s.
+fn exponents_at(s: &[u8], large: bool, rule: u64, elen: u64, at: usize) -> Shape
+    requires { ⌜ elen ≤ 6 ⌝ }
+    ensures { λ r. ⌜ r ≡ exponentsAt (now (s .entry)) large rule elen at ⌝ }
+{
+    match number_from(s, at, elen + 1, most_rlen(large)) {
+        Number::Fault(p) => {
+            return Shape::ShapeBad(p);
+        }
+        Number::Value(r, b) => match number_from(
+            s,
+            b,
+            least_mlen(large, elen, r),
+            most_mlen(large),
+        ) {
+            Number::Fault(p) => {
+                return Shape::ShapeBad(p);
+            }
+            Number::Value(m, e) => {
+                return Shape::Shaped(r, m, rule, elen, e);
+            }
+        },
+    }
+}
+
+// The version and the exponents at the start of an image.
+fn shape_of(s: &[u8]) -> Shape
+    ensures { λ r. ⌜ r ≡ shapeIn (now (s .entry)) ⌝ }
+{
+    match version_of(s) {
+        Version::VersionBad(p) => {
+            return Shape::ShapeBad(p);
+        }
+        Version::Versioned(large, rule, elen, a) => {
+            return exponents_at(s, large, rule, elen, a);
+        }
+    }
+}
+
+// The mtype at a place of s, by the exponent of ELEN.
+fn mtype_at(s: &[u8], elen: u64, at: usize) -> Number
+    requires { ⌜ (5 ≤ elen) × (elen ≤ 6) ⌝ }
+    ensures { λ r. ⌜ r ≡ mtypeAt (now (s .entry)) elen at ⌝ }
 {
     if at < s.len() {
         let b = wide(s[at]);
         if b < 128 {
-            if b <= 2 {
+            if b <= elen - 3 {
                 return Number::Value(b, at + 1);
             }
-            if b == 8 {
+            if b < 8 {
+                return Number::Fault(at);
+            }
+            if b <= elen + 3 {
                 return Number::Value(b, at + 1);
             }
             return Number::Fault(at);
@@ -97,10 +190,11 @@ fn mtype_at(s: &[u8], at: usize) -> Number
 }
 
 // mtype and the tile sizes of a machine with so many rows and columns.
-fn tiles_at(s: &[u8], at: usize, rows: u64, columns: u64) -> Tiles
-    ensures { λ r. ⌜ r ≡ tilesAt (now (s .entry)) at rows columns ⌝ }
+fn tiles_at(s: &[u8], elen: u64, at: usize, rows: u64, columns: u64) -> Tiles
+    requires { ⌜ (5 ≤ elen) × (elen ≤ 6) ⌝ }
+    ensures { λ r. ⌜ r ≡ tilesAt (now (s .entry)) elen at rows columns ⌝ }
 {
-    match mtype_at(s, at) {
+    match mtype_at(s, elen, at) {
         Number::Fault(p) => {
             return Tiles::TilesBad(p);
         }
@@ -174,11 +268,11 @@ pub fn head_of(s: &[u8]) -> Head
         Shape::ShapeBad(p) => {
             return Head::HeadBad(p);
         }
-        Shape::Shaped(r, m, rule, a) => {
+        Shape::Shaped(r, m, rule, elen, a) => {
             let rows = power(m - r);
             let columns = power(r - 3);
             let mlen = power(m);
-            match tiles_at(s, a, rows, columns) {
+            match tiles_at(s, elen, a, rows, columns) {
                 Tiles::TilesBad(p) => {
                     return Head::HeadBad(p);
                 }
@@ -197,6 +291,7 @@ pub fn head_of(s: &[u8]) -> Head
                             seal_start: seal_start,
                             seal_length: seal_length,
                             rule: rule,
+                            elen: power(elen),
                         };
                         return Head::Headed(machine, count, e);
                     }

@@ -31,6 +31,7 @@ fn refused(answer: Imaged) -> Restored
             seal_start: 0,
             seal_length: 0,
             rule: 0,
+            elen: 0,
         },
     }
 }

@@ -1,5 +1,7 @@
 -- Numbers and bytes put into room one after the other.
 use mathlib.Core.Path.{_≡_, refl, sym, ap, ap₂, _∙_}
+use mathlib.Core.Bool.{Bool, true, false, _||_}
+use lib.Dec.{eqb, ltb}
 use mathlib.Core.List.{List, [], _∷_, _++_, append-assoc, append-nil}
 use Prim.Native.Nat.{ℕ, suc, _+_, _≤_, _<_}
 use native.Mathlib.Omega.{arith}
@@ -9,7 +11,7 @@ use lib.Seq.{sets, sets-eq, drop-cons}
 use borrow.Author.Tests.{eq-eqb, ne-eqb}
 use Rattle.format.specs.Numbers.{groups, encode, encodeAll}
 use Rattle.machine.specs.declared.Machine.{Machine}
-use Rattle.image.specs.Images.{exponent, version, fields, headerOf}
+use Rattle.image.specs.Images.{exponent, Header, beyond, version, fields, headerOf}
 
 -- bytes, then more behind them
 pub sets-append : (a t room : List ℕ) (at : ℕ) → sets room at (a ++ t) ≡ sets (sets room at a) (at + length a) t
@@ -59,11 +61,19 @@ put-three room a b d t room₁ room₂ room₃ at at₁ at₂ at₃ r₁ e₁ r�
 
 -- ---- the version of an image, with the rule of a halving machine
 
-pub version-two : (rule : ℕ) → rule ≡ 1 → 2 ∷ 1 ∷ [] ≡ version rule
-version-two rule e = rw (eq-eqb rule 1 e)
+pub version-three : (h : Header) (e : ℕ) → e ≡ h .elen → beyond (h .elen) (h .rlen) (h .mlen) ≡ true → 3 ∷ h .rule ∷ e ∷ [] ≡ version h
+version-three h e q b = rw b (ap (λ (x : ℕ). 3 ∷ h .rule ∷ x ∷ []) q)
 
-pub version-one : (rule : ℕ) → ¬ (rule ≡ 1) → 1 ∷ [] ≡ version rule
-version-one rule d = rw (ne-eqb rule 1 d)
+pub version-two : (h : Header) → beyond (h .elen) (h .rlen) (h .mlen) ≡ false → h .rule ≡ 1 → 2 ∷ 1 ∷ [] ≡ version h
+version-two h b e = rw (b, eq-eqb (h .rule) 1 e)
+
+pub version-one : (h : Header) → beyond (h .elen) (h .rlen) (h .mlen) ≡ false → ¬ (h .rule ≡ 1) → 1 ∷ [] ≡ version h
+version-one h b d = rw (b, ne-eqb (h .rule) 1 d)
+
+-- whether a machine is beyond the old bounds, test by test
+pub beyond-by : (e r m : ℕ) (a b : Bool) → eqb e 6 ≡ a → ltb 9 r ≡ b → a || (b || ltb 12 m) ≡ beyond e r m
+unfolding beyond
+beyond-by e r m a b p q = rw (p, q)
 
 pub size-two : 2 ≡ length (encodeAll (2 ∷ 1 ∷ []) [])
 unfolding encode groups

@@ -27,14 +27,14 @@ module _ (m : Machine) (registers marks : List ℕ) where
     pub same-size : length registers ≡ length marks
     same-size = let st = sound-is m registers marks s .state in st .regs-length ∙ sym (st .marks-length)
 
-    pub few-marks : length marks ≤ 8192
+    pub few-marks : length marks ≤ 131072
     few-marks =
         let k = sound-is m registers marks s in
-        omega (arith, k .state .marks-length, permitted-bounds (m .rlen) (m .mlen) (k .lengths))
+        omega (arith, k .state .marks-length, permitted-bounds (m .rlen) (m .mlen) (m .elen) (k .lengths))
 
     module _ (count : ℕ) (is : count ≡ length (runs (cellsOf registers marks))) where
       abbrev versionOf : List ℕ
-      versionOf = encodeAll (version (m .rule)) []
+      versionOf = encodeAll (version (headerOf m)) []
 
       abbrev numbersOf : List ℕ
       numbersOf = encodeAll (fields (headerOf m) ++ (count ∷ [])) []
@@ -45,7 +45,7 @@ module _ (m : Machine) (registers marks : List ℕ) where
       image-parts : imageOf m registers marks ≡ versionOf ++ (numbersOf ++ runsOf)
       unfolding imageOf
       image-parts =
-          all-append (version (m .rule)) _
+          all-append (version (headerOf m)) _
           ∙ ap (λ (z : List ℕ). versionOf ++ z) (ap (λ (x : ℕ). encodeAll (fields (headerOf m)) (encode x ++ runsOf)) (sym is) ∙ sym (all-last (fields (headerOf m)) count runsOf))
 
       pub size-is : length (imageOf m registers marks) ≡ length versionOf + (length numbersOf + length runsOf)
@@ -66,7 +66,7 @@ module _ (m : Machine) (registers marks : List ℕ) where
       pub count-is : count ≡ length (runs (cellsOf registers marks))
       count-is = t .counted registers same-size
 
-      pub image-size-is : (v n : ℕ) → v ≡ length (encodeAll (version (m .rule)) []) → n ≡ length (encodeAll (fields (headerOf m) ++ (count ∷ [])) [])
+      pub image-size-is : (v n : ℕ) → v ≡ length (encodeAll (version (headerOf m)) []) → n ≡ length (encodeAll (fields (headerOf m) ++ (count ∷ [])) [])
           → v + n + size ≡ length (imageOf m registers marks)
       image-size-is v n d e = omega (arith, d, e, t .sized registers same-size, size-is count count-is)
 

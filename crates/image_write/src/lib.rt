@@ -17,7 +17,7 @@ ghost use lib.Seq.{sets};
 ghost use Rattle.format.specs.Numbers.{encodeAll};
 ghost use Rattle.machine.specs.Faults.{sound};
 ghost use Rattle.image.specs.Cells.{cellsOf, runs};
-ghost use Rattle.image.specs.Images.{exponent, version, fields, headerOf, imageOf};
+ghost use Rattle.image.specs.Images.{exponent, beyond, version, fields, headerOf, imageOf};
 ghost use Rattle.image.specs.Writing.{sizeImage, sizedAs, writeImage, writtenAs};
 
 mod numbers; // several numbers
@@ -37,23 +37,44 @@ fn exponent(n: u64) -> u64
     e
 }
 
-// How many bytes the version of an image and its rule take.
-fn version_size(rule: u64) -> usize
-    ensures { λ r. ⌜ (r ≡ length (encodeAll (version rule) [])) × (r ≤ 2) ⌝ }
+// Whether a machine is beyond the old bounds, or has ELEN 64.
+fn is_beyond(m: Machine) -> bool
+    ensures { λ r. ⌜ r ≡ beyond (headerOf m .elen) (headerOf m .rlen) (headerOf m .mlen) ⌝ }
 {
-    if rule == 1 {
+    if exponent(m.elen) == 6 {
+        return true;
+    }
+    if exponent(m.rlen) > 9 {
+        return true;
+    }
+    exponent(m.mlen) > 12
+}
+
+// How many bytes the version of an image takes, with what follows it.
+fn version_size(m: Machine) -> usize
+    ensures { λ r. ⌜ (r ≡ length (encodeAll (version (headerOf m)) [])) × (r ≤ 30) ⌝ }
+{
+    if is_beyond(m) {
+        let numbers = [3, m.rule, exponent(m.elen)];
+        return numbers_size(&numbers);
+    }
+    if m.rule == 1 {
         return 2;
     }
     1
 }
 
-// Puts the version of an image into the room, with the rule of a halving machine, and gives the place behind them.
-fn put_version(room: &mut [u8], rule: u64) -> usize
-    requires { ⌜ length (encodeAll (version rule) []) ≤ length (now room) ⌝ }
-    ensures { λ r. ⌜ r ≡ length (encodeAll (version rule) []) ⌝ }
-    ensures { λ _. ⌜ now (room .exit) ≡ sets (now (room .entry)) 0 (encodeAll (version rule) []) ⌝ }
+// Puts the version of an image into the room, with what follows it, and gives the place behind them.
+fn put_version(room: &mut [u8], m: Machine) -> usize
+    requires { ⌜ length (encodeAll (version (headerOf m)) []) ≤ length (now room) ⌝ }
+    ensures { λ r. ⌜ r ≡ length (encodeAll (version (headerOf m)) []) ⌝ }
+    ensures { λ _. ⌜ now (room .exit) ≡ sets (now (room .entry)) 0 (encodeAll (version (headerOf m)) []) ⌝ }
 {
-    if rule == 1 {
+    if is_beyond(m) {
+        let numbers = [3, m.rule, exponent(m.elen)];
+        return put_numbers(room, 0, &numbers);
+    }
+    if m.rule == 1 {
         let numbers = [2, 1];
         return put_numbers(room, 0, &numbers);
     }
@@ -116,7 +137,7 @@ fn measure_of(m: Machine, registers: &[u8], marks: &[u8]) -> Measure
     let bytes = tally.bytes;
     Measure {
         count: count,
-        size: version_size(m.rule) + header_size(m, count) + bytes,
+        size: version_size(m) + header_size(m, count) + bytes,
     }
 }
 
@@ -127,7 +148,7 @@ fn put_image(m: Machine, count: u64, registers: &[u8], marks: &[u8], room: &mut 
     requires { ⌜ length (imageOf m (now registers) (now marks)) ≤ length (now room) ⌝ }
     ensures { λ _. ⌜ now (room .exit) ≡ sets (now (room .entry)) 0 (imageOf m (now (registers .entry)) (now (marks .entry))) ⌝ }
 {
-    let start = put_version(room, m.rule);
+    let start = put_version(room, m);
     let at = put_header(room, start, m, count);
     put_runs(room, at, registers, marks);
 }

@@ -6,6 +6,7 @@ use Prim.Native.Nat.{ℕ, _^_, _≤_}
 use native.Mathlib.Omega.{arith}
 use lib.Dec.{ltb, eqb}
 use borrow.Author.Tests.{eqb-true, ltb-true, ltb-false, lt-ltb, ne-eqb}
+use Rattle.width.specs.Bounds.{mostElen}
 use Rattle.machine.specs.declared.Machine.{Machine}
 use Rattle.machine.specs.declared.Answer.{Answer}
 use Rattle.machine.specs.declared.Answer.the-variants.{Done, IllegalWord, IllegalType, BadWidth, TileTooLarge, Unwritten, OutsideMemory, SealedByte, BadArguments, Overlap, WrongOpcode, LeftOutWord, WrongRegister, RowsOverlap}
@@ -13,9 +14,9 @@ use Rattle.machine.specs.declared.Wrong.the-variants.{Opcode, Register}
 use Rattle.machine.specs.declared.Instruction.{Instruction}
 use Rattle.machine.specs.declared.Instruction.the-variants.{Illegal, SetTypeImmediate, SetType, SetTileImmediate, SetTile, Load, Store, Multiply, Combine, Scale, ScaleImmediate, FloatMultiply}
 use Rattle.machine.specs.Tests.{all, every, isIn}
-use Rattle.machine.proofs.TestLaws.{all-at, and-left, and-right, false-true}
+use Rattle.machine.proofs.TestLaws.{all-at, each, each-in, and-left, and-right, false-true}
 use Rattle.machine.specs.Answers.{reply, done, Check, verdict, isDone}
-use Rattle.machine.specs.Geometry.{elen, Parameters, parameters, machineAfter, Bench, benchOf, withScalar}
+use Rattle.machine.specs.Geometry.{elens, Parameters, parameters, machineAfter, Bench, benchOf, withScalar}
 use Rattle.machine.specs.Setting.{sew, mill, legalType, newType}
 use Rattle.machine.specs.Listing.{field7, field15, field20, immediate13, Row, lookUp, notOurs, listing, ranged, inRange, decode}
 use Rattle.machine.specs.Operation.{memoryAfter, resultOf}
@@ -106,32 +107,45 @@ module _ (M : Parameters) (i : Instruction) (xs : List ℕ) (B : Bench) (s : sou
 
 -- ---- mtype
 
-abbrev pub legalTypes : List ℕ
-legalTypes = 0 ∷ 1 ∷ 2 ∷ 8 ∷ []
+-- those that fit ELEN 32, and those that fit ELEN 64 alone
+abbrev pub legalTypes : (elen : ℕ) → List ℕ
+legalTypes elen = 0 ∷ 1 ∷ 2 ∷ 8 ∷ cond (eqb elen 64) (3 ∷ 9 ∷ []) []
 
 -- the legal values
-pub types-are : (v : ℕ) → newType elen v ≡ cond (isIn v legalTypes) v (2 ^ 63)
+pub types-are : (elen : ℕ) → isIn elen elens ≡ true → (v : ℕ) → newType elen v ≡ cond (isIn v (legalTypes elen)) v (2 ^ 63)
 unfolding newType legalType sew
-types-are v = go (ltb v 16) refl
+types-are elen known v = go (ltb v 16) refl
   where
-    table : all 16 (λ v. eqb (newType elen v) (cond (isIn v legalTypes) v (2 ^ 63))) ≡ true
-    table = refl
+    same : ℕ → ℕ → Bool
+    same e v = eqb (newType e v) (cond (isIn v (legalTypes e)) v (2 ^ 63))
 
-    go : (t : Bool) → ltb v 16 ≡ t → newType elen v ≡ cond (isIn v legalTypes) v (2 ^ 63)
-    go true e = eqb-true (newType elen v) (cond (isIn v legalTypes) v (2 ^ 63)) (all-at 16 (λ v. eqb (newType elen v) (cond (isIn v legalTypes) v (2 ^ 63))) table v (ltb-true v 16 e))
-    go false e =
-        let l : 16 ≤ v = ltb-false v 16 e in
-        rw (e, ne-eqb v 0 (omega arith), ne-eqb v 1 (omega arith), ne-eqb v 2 (omega arith), ne-eqb v 8 (omega arith))
+    table : all 16 (same elen) ≡ true
+    table = each-in elen elens (λ e. all 16 (same e)) refl known
+
+    more : (t : Bool) → 16 ≤ v → isIn v (0 ∷ 1 ∷ 2 ∷ 8 ∷ cond t (3 ∷ 9 ∷ []) []) ≡ false
+    more true l = rw (ne-eqb v 0 (omega arith), ne-eqb v 1 (omega arith), ne-eqb v 2 (omega arith), ne-eqb v 8 (omega arith), ne-eqb v 3 (omega arith), ne-eqb v 9 (omega arith))
+    more false l = rw (ne-eqb v 0 (omega arith), ne-eqb v 1 (omega arith), ne-eqb v 2 (omega arith), ne-eqb v 8 (omega arith))
+
+    go : (t : Bool) → ltb v 16 ≡ t → newType elen v ≡ cond (isIn v (legalTypes elen)) v (2 ^ 63)
+    go true e = eqb-true (newType elen v) (cond (isIn v (legalTypes elen)) v (2 ^ 63)) (all-at 16 (same elen) table v (ltb-true v 16 e))
+    go false e = rw (e, more (eqb elen 64) (ltb-false v 16 e))
 
 -- a value that can arise is one of them, or 2^63
-pub arises : (v : ℕ) → newType elen v ≡ v → mill v ≡ false → isIn v legalTypes ≡ true
-arises v e m = go (isIn v legalTypes) refl
+pub arises : (elen : ℕ) → isIn elen elens ≡ true → (v : ℕ) → newType elen v ≡ v → mill v ≡ false → isIn v (legalTypes elen) ≡ true
+arises elen known v e m = go (isIn v (legalTypes elen)) refl
   where
-    go : (t : Bool) → isIn v legalTypes ≡ t → t ≡ true
+    go : (t : Bool) → isIn v (legalTypes elen) ≡ t → t ≡ true
     go true d = refl
     go false d =
-        let z : v ≡ 2 ^ 63 = sym e ∙ types-are v ∙ rw d in
+        let z : v ≡ 2 ^ 63 = sym e ∙ types-are elen known v ∙ rw d in
         absurd (false-true (sym m ∙ ap mill z))
+
+-- and one that is legal where ELEN is 64
+pub arises-any : (elen : ℕ) → isIn elen elens ≡ true → (v : ℕ) → newType elen v ≡ v → mill v ≡ false → isIn v (legalTypes mostElen) ≡ true
+arises-any elen known v e m = go (legalTypes elen) (each-in elen elens (λ e. each (legalTypes e) (λ v. isIn v (legalTypes mostElen))) refl known) (arises elen known v e m)
+  where
+    go : (vs : List ℕ) → each vs (λ v. isIn v (legalTypes mostElen)) ≡ true → isIn v vs ≡ true → isIn v (legalTypes mostElen) ≡ true
+    go vs h i = each-in v vs (λ v. isIn v (legalTypes mostElen)) h i
 
 -- ---- the fields of a decoded word
 

@@ -19,12 +19,12 @@ use Rattle.width.proofs.BlockLaws.{le-or-lt, at-most}
 use Rattle.machine.specs.declared.Machine.{Machine}
 use Rattle.machine.specs.declared.Dimension.the-variants.{DimensionM, DimensionK, DimensionN}
 use Rattle.machine.specs.declared.Instruction.{Instruction}
-use Rattle.machine.specs.Tests.{allOf}
-use Rattle.machine.proofs.TestLaws.{false-true, allOf-true, allOf-at, every-each, each-every}
+use Rattle.machine.specs.Tests.{allOf, isIn}
+use Rattle.machine.proofs.TestLaws.{each-in, false-true, allOf-true, allOf-at, every-each, each-every}
 use Rattle.machine.specs.Answers.{reply, isDone, verdict}
-use Rattle.machine.specs.Geometry.{elen}
 use Rattle.machine.specs.Faults.{soundBench}
-use Rattle.machine.specs.Geometry.{Parameters, parameters, State, stateOf, machineAfter, permitted, registerBytes}
+use Rattle.machine.specs.Geometry.{Parameters, parameters, State, stateOf, machineAfter, elens, permitted, registerBytes}
+use Rattle.machine.proofs.StepLaws.{permitted-elen}
 use Rattle.machine.specs.Setting.{legalType, newType, maxK, maxN, sew}
 use Rattle.machine.specs.Operation
 use Rattle.machine.specs.Operation.{Operation, stateAfter, written}
@@ -36,8 +36,8 @@ use Rattle.machine.specs.Listing
 use Rattle.machine.specs.Step
 use Rattle.machine.specs.Step.{outcome, stepBy, stepChecks, meant, given, left}
 
--- what is right with the state of a machine of so many rows, bytes of a row, and bytes of all registers
-pub record Sane (rows pitch total : ℕ) (st : State) : Type 0 where
+-- what is right with the state of a machine of so many rows and bytes of a row, this ELEN, and so many bytes of all registers
+pub record Sane (rows pitch elen total : ℕ) (st : State) : Type 0 where
   pub regs-length : length (st .regs) ≡ total
   pub marks-length : length (st .marks) ≡ total
   pub marks-two : (q : ℕ) → getD (st .marks) q 0 < 2
@@ -47,18 +47,18 @@ pub record Sane (rows pitch total : ℕ) (st : State) : Type 0 where
   pub n-fits : st .tileN ≤ pitch
 
 pub record Sound (m : Machine) (registers marks : List ℕ) : Type 0 where
-  pub lengths : permitted (m .rlen) (m .mlen) ≡ true
+  pub lengths : permitted (m .rlen) (m .mlen) (m .elen) ≡ true
   pub rule-is : isRule (m .rule) ≡ true
   pub seal-ends : m .«seal_start» + m .«seal_length» ≤ 2 ^ 64 - 1
-  pub state : Sane (m .mlen / m .rlen) (m .rlen / 8) (registerBytes (m .mlen)) (stateOf m registers marks)
+  pub state : Sane (m .mlen / m .rlen) (m .rlen / 8) (m .elen) (registerBytes (m .mlen)) (stateOf m registers marks)
 
 module _ (m : Machine) (registers marks : List ℕ) where
   abbrev tests : List Bool
   tests =
-      permitted (m .rlen) (m .mlen)
+      permitted (m .rlen) (m .mlen) (m .elen)
       ∷ eqb (length registers) (registerBytes (m .mlen))
       ∷ eqb (length marks) (registerBytes (m .mlen))
-      ∷ eqb (newType elen (m .mtype)) (m .mtype)
+      ∷ eqb (newType (m .elen) (m .mtype)) (m .mtype)
       ∷ leb (m .«tile_m») (m .mlen / m .rlen)
       ∷ leb (m .«tile_k») (min (m .mlen / m .rlen) (m .rlen / 8))
       ∷ leb (m .«tile_n») (m .rlen / 8)
@@ -81,7 +81,7 @@ module _ (m : Machine) (registers marks : List ℕ) where
             | inl l ↦ rw (List·getD-eq-default marks 0 {n = q} l) (omega arith)
             | inr l ↦ ltb-true (getD marks q 0) 2 (allOf-at (λ mark. ltb mark 2) marks (t .1 .1 .1 .1 .1 .1 .1 .1 .1 .0) q l)
           ];
-          type-arises = eqb-true (newType elen (m .mtype)) (m .mtype) (t .1 .1 .1 .0);
+          type-arises = eqb-true (newType (m .elen) (m .mtype)) (m .mtype) (t .1 .1 .1 .0);
           m-fits = leb-true (m .«tile_m») (m .mlen / m .rlen) (t .1 .1 .1 .1 .0);
           k-fits = leb-true (m .«tile_k») (min (m .mlen / m .rlen) (m .rlen / 8)) (t .1 .1 .1 .1 .1 .0);
           n-fits = leb-true (m .«tile_n») (m .rlen / 8) (t .1 .1 .1 .1 .1 .1 .0);
@@ -99,7 +99,7 @@ module _ (m : Machine) (registers marks : List ℕ) where
           (
             eq-eqb (length marks) (registerBytes (m .mlen)) (s .marks-length),
             (
-              eq-eqb (newType elen (m .mtype)) (m .mtype) (s .type-arises),
+              eq-eqb (newType (m .elen) (m .mtype)) (m .mtype) (s .type-arises),
               (
                 le-leb (m .«tile_m») (m .mlen / m .rlen) (s .m-fits),
                 (
@@ -139,17 +139,17 @@ marks-still at rows n ms h q =
     upto-keeps (λ ys. getD ys q 0 < 2) rows (λ i ys. markRow (at i) n ys) ms
     (λ i l ys g. upto-keeps (λ zs. getD zs q 0 < 2) n (λ b zs. set zs (at i + b) 1) ys (λ b l′ zs g′. set-two zs (at i + b) q g′) g) (h q)
 
-new-arises : (v : ℕ) → newType elen (newType elen v) ≡ newType elen v
+new-arises : (elen v : ℕ) → newType elen (newType elen v) ≡ newType elen v
 unfolding newType legalType
-new-arises v = go (legalType elen v) refl
+new-arises elen v = go (legalType elen v) refl
   where
     go : (t : Bool) → legalType elen v ≡ t → newType elen (cond t v (2 ^ 63)) ≡ cond t v (2 ^ 63)
     go true e = rw e
     go false e = refl
 
-module _ (M : Parameters) (G : Grants (M .grant)) (of-elen : M .elen ≡ elen) (total : ℕ) where
+module _ (M : Parameters) (G : Grants (M .grant)) (total : ℕ) where
   abbrev Right : State → Type 0
-  Right st = Sane (M .rows) (M .pitch) total st
+  Right st = Sane (M .rows) (M .pitch) (M .elen) total st
 
   wrote : (st : State) (at : ℕ → ℕ) (rows cols w : ℕ) (value : ℕ → ℕ → ℕ) → Right st → Right (written st at rows cols w value)
   wrote st at rows cols w value h = record {
@@ -168,7 +168,7 @@ module _ (M : Parameters) (G : Grants (M .grant)) (of-elen : M .elen ≡ elen) (
     regs-length = h .regs-length;
     marks-length = h .marks-length;
     marks-two = h .marks-two;
-    type-arises = subst (λ (e : ℕ). newType elen (newType e v) ≡ newType e v) (sym of-elen) (new-arises v);
+    type-arises = new-arises (M .elen) v;
     m-fits = h .m-fits;
     k-fits = h .k-fits;
     n-fits = h .n-fits;
@@ -249,14 +249,18 @@ step-sound grant G word xs B h = go (isDone (verdict (stepChecks M i xs B)))
     s : Sound (B .machine) (B .registers) (B .marks)
     s = sound-is (B .machine) (B .registers) (B .marks) h
 
-    after : Sane (M .rows) (M .pitch) (registerBytes (B .machine .mlen)) (left M i xs B)
-    after = sane-after M (G (B .machine .rule)) refl (registerBytes (B .machine .mlen)) (meant M i xs B) (given M i xs B) (B .memory) (s .state)
+    after : Sane (M .rows) (M .pitch) (M .elen) (registerBytes (B .machine .mlen)) (left M i xs B)
+    after = sane-after M (G (B .machine .rule)) (registerBytes (B .machine .mlen)) (meant M i xs B) (given M i xs B) (B .memory) (s .state)
 
     go : (t : Bool) → soundBench (cond t (Step.carriedOut M i xs B) (Step.refused M i xs B (verdict (stepChecks M i xs B))) .bench) ≡ true
     go true = sound-true (machineAfter (B .machine) (left M i xs B)) (left M i xs B .regs) (left M i xs B .marks) (record { lengths = s .lengths; rule-is = s .rule-is; seal-ends = s .seal-ends; state = after })
     go false = h
 
 -- ---- and no start either
+
+type-zero : (elen : ℕ) → isIn elen elens ≡ true → newType elen 0 ≡ 0
+unfolding newType legalType sew
+type-zero elen h = eqb-true (newType elen 0) 0 (each-in elen elens (λ e. eqb (newType e 0) 0) refl h)
 
 zeros : (n q : ℕ) → getD {A = ℕ} (replicate n 0) q 0 ≡ 0
 zeros zero q = refl
@@ -265,17 +269,17 @@ zeros (suc n) (suc q) = zeros n q
 
 pub start-sound : StartIsSound
 unfolding startMachine startable newType legalType sew
-start-sound rlen mlen rule sealStart sealLength registers marks memory = go (startable rlen mlen rule sealStart sealLength registers marks) refl
+start-sound rlen mlen elen rule sealStart sealLength registers marks memory = go (startable rlen mlen elen rule sealStart sealLength registers marks) refl
   where
     out : Bool → StartOutcome
-    out t = cond t (record { answer = reply Done; machine = freshMachine rlen mlen rule sealStart sealLength; registers = registers; marks = replicate (length marks) 0 })
+    out t = cond t (record { answer = reply Done; machine = freshMachine rlen mlen elen rule sealStart sealLength; registers = registers; marks = replicate (length marks) 0 })
         (record { answer = reply BadArguments; machine = noMachine; registers = registers; marks = marks })
 
-    go : (t : Bool) → startable rlen mlen rule sealStart sealLength registers marks ≡ t → out t .answer .number ≡ 0 → sound (out t .machine) (out t .registers) (out t .marks) ≡ true
+    go : (t : Bool) → startable rlen mlen elen rule sealStart sealLength registers marks ≡ t → out t .answer .number ≡ 0 → sound (out t .machine) (out t .registers) (out t .marks) ≡ true
     go false e d = absurd (false-true (ap (λ (n : ℕ). eqb n 0) d))
     go true e d =
-        let c = every-each (permitted rlen mlen ∷ eqb (length registers) (registerBytes mlen) ∷ eqb (length marks) (registerBytes mlen) ∷ isRule rule ∷ sealEnds sealStart sealLength ∷ []) e in
-        sound-true (freshMachine rlen mlen rule sealStart sealLength) registers (replicate (length marks) 0) (record {
+        let c = every-each (permitted rlen mlen elen ∷ eqb (length registers) (registerBytes mlen) ∷ eqb (length marks) (registerBytes mlen) ∷ isRule rule ∷ sealEnds sealStart sealLength ∷ []) e in
+        sound-true (freshMachine rlen mlen elen rule sealStart sealLength) registers (replicate (length marks) 0) (record {
           lengths = c .0;
           rule-is = c .1 .1 .1 .0;
           seal-ends = leb-true (sealStart + sealLength) (2 ^ 64 - 1) (c .1 .1 .1 .1 .0);
@@ -283,7 +287,7 @@ start-sound rlen mlen rule sealStart sealLength registers marks memory = go (sta
             regs-length = eqb-true (length registers) (registerBytes mlen) (c .1 .0);
             marks-length = length-replicate (length marks) 0 ∙ eqb-true (length marks) (registerBytes mlen) (c .1 .1 .0);
             marks-two = λ q. rw (zeros (length marks) q) (omega arith);
-            type-arises = refl;
+            type-arises = type-zero elen (permitted-elen rlen mlen elen (c .0) .0);
             m-fits = omega arith;
             k-fits = omega arith;
             n-fits = omega arith;

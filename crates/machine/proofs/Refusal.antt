@@ -25,10 +25,10 @@ refusal-changes-nothing grant word xs B h = go (isDone (verdict (stepChecks (par
 
 pub start-refusal-changes-nothing : StartRefusalChangesNothing
 unfolding startMachine
-start-refusal-changes-nothing rlen mlen rule sealStart sealLength registers marks = go (startable rlen mlen rule sealStart sealLength registers marks)
+start-refusal-changes-nothing rlen mlen elen rule sealStart sealLength registers marks = go (startable rlen mlen elen rule sealStart sealLength registers marks)
   where
     out : Bool → StartOutcome
-    out t = cond t (record { answer = reply Done; machine = freshMachine rlen mlen rule sealStart sealLength; registers = registers; marks = replicate (length marks) 0 })
+    out t = cond t (record { answer = reply Done; machine = freshMachine rlen mlen elen rule sealStart sealLength; registers = registers; marks = replicate (length marks) 0 })
         (record { answer = reply BadArguments; machine = noMachine; registers = registers; marks = marks })
 
     go : (t : Bool) → ¬ (out t .answer .number ≡ 0) → (out t .registers ≡ registers) × (out t .marks ≡ marks)

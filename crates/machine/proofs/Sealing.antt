@@ -113,12 +113,12 @@ seal-holds grant (w ∷ ws) B =
 
 pub seal-holds-from-start : SealHoldsFromStart
 unfolding startMachine
-seal-holds-from-start rlen mlen rule sealStart sealLength registers marks memory d ws q x =
-    seal-holds chosen ws (startedBench rlen mlen rule sealStart sealLength registers marks memory) .same-bytes q
-    (go (startable rlen mlen rule sealStart sealLength registers marks) d)
+seal-holds-from-start rlen mlen elen rule sealStart sealLength registers marks memory d ws q x =
+    seal-holds chosen ws (startedBench rlen mlen elen rule sealStart sealLength registers marks memory) .same-bytes q
+    (go (startable rlen mlen elen rule sealStart sealLength registers marks) d)
   where
     out : Bool → StartOutcome
-    out t = cond t (record { answer = reply Done; machine = freshMachine rlen mlen rule sealStart sealLength; registers = registers; marks = replicate (length marks) 0 })
+    out t = cond t (record { answer = reply Done; machine = freshMachine rlen mlen elen rule sealStart sealLength; registers = registers; marks = replicate (length marks) 0 })
         (record { answer = reply BadArguments; machine = noMachine; registers = registers; marks = marks })
 
     go : (t : Bool) → out t .answer .number ≡ 0 → within (out t .machine .«seal_start») (out t .machine .«seal_length») q ≡ true

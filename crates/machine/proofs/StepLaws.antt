@@ -13,7 +13,7 @@ use Rattle.machine.specs.Tests.{every, isIn}
 use Rattle.machine.proofs.TestLaws.{every-each, each, each-in, or-not}
 use Rattle.machine.specs.Answers.{reply, isDone, verdict}
 use Rattle.machine.proofs.CheckLaws.{Passed, no-refusal}
-use Rattle.machine.specs.Geometry.{Parameters, parameters, State, machineAfter, permitted, rlens, mlens}
+use Rattle.machine.specs.Geometry.{Parameters, parameters, State, machineAfter, permitted, rlens, mlens, elens}
 use Rattle.machine.specs.Listing.{decode}
 use Rattle.machine.specs.Operation.{Operation, stateAfter, memoryAfter, resultOf}
 use Rattle.machine.specs.Refusals.{checks}
@@ -81,23 +81,30 @@ step-refused grant word xs B a d e =
 abbrev pair : ℕ → ℕ → List Bool
 pair r m = ltb 0 (m / r) ∷ leb 8 (r / 8) ∷ eqb (16 * (m / r * (r / 8))) (2 * m) ∷ []
 
-pub permitted-lengths : (rlen mlen : ℕ) → permitted rlen mlen ≡ true → (zero < mlen / rlen) × (8 ≤ rlen / 8) × (16 * (mlen / rlen * (rlen / 8)) ≡ 2 * mlen)
+pub permitted-lengths : (rlen mlen elen : ℕ) → permitted rlen mlen elen ≡ true → (zero < mlen / rlen) × (8 ≤ rlen / 8) × (16 * (mlen / rlen * (rlen / 8)) ≡ 2 * mlen)
 unfolding permitted
-permitted-lengths r m h =
-    let t = every-each (isIn r rlens ∷ isIn m mlens ∷ ltb r m ∷ []) h in
+permitted-lengths r m e h =
+    let t = every-each (isIn r rlens ∷ isIn m mlens ∷ ltb r m ∷ isIn e elens ∷ ltb e r ∷ []) h in
     let p : not (ltb r m) || every (pair r m) ≡ true =
     each-in m mlens (λ m. not (ltb r m) || every (pair r m)) (each-in r rlens (λ r. each mlens (λ m. not (ltb r m) || every (pair r m))) refl (t .0)) (t .1 .0) in
     let q = every-each (pair r m) (or-not (not (ltb r m)) (every (pair r m)) p (rw (t .1 .1 .0))) in
     (ltb-true 0 (m / r) (q .0), leb-true 8 (r / 8) (q .1 .0), eqb-true (16 * (m / r * (r / 8))) (2 * m) (q .1 .1 .0))
 
+-- ELEN is one of the two, and below RLEN
+pub permitted-elen : (rlen mlen elen : ℕ) → permitted rlen mlen elen ≡ true → (isIn elen elens ≡ true) × (elen < rlen)
+unfolding permitted
+permitted-elen r m e h =
+    let t = every-each (isIn r rlens ∷ isIn m mlens ∷ ltb r m ∷ isIn e elens ∷ ltb e r ∷ []) h in
+    (t .1 .1 .1 .0, ltb-true e r (t .1 .1 .1 .1 .0))
+
 -- for code: bounds
 abbrev bounds : ℕ → ℕ → List Bool
 bounds r m = leb 64 r ∷ leb r mostRlen ∷ leb m mostMlen ∷ eqb (m / r * r) m ∷ eqb (r / 8 * 8) r ∷ []
 
-pub permitted-bounds : (rlen mlen : ℕ) → permitted rlen mlen ≡ true → (64 ≤ rlen) × (rlen ≤ mostRlen) × (mlen ≤ mostMlen) × (rlen < mlen) × (mlen / rlen * rlen ≡ mlen) × (rlen / 8 * 8 ≡ rlen)
+pub permitted-bounds : (rlen mlen elen : ℕ) → permitted rlen mlen elen ≡ true → (64 ≤ rlen) × (rlen ≤ mostRlen) × (mlen ≤ mostMlen) × (rlen < mlen) × (mlen / rlen * rlen ≡ mlen) × (rlen / 8 * 8 ≡ rlen)
 unfolding permitted
-permitted-bounds r m h =
-    let t = every-each (isIn r rlens ∷ isIn m mlens ∷ ltb r m ∷ []) h in
+permitted-bounds r m e h =
+    let t = every-each (isIn r rlens ∷ isIn m mlens ∷ ltb r m ∷ isIn e elens ∷ ltb e r ∷ []) h in
     let p : not (ltb r m) || every (bounds r m) ≡ true =
     each-in m mlens (λ m. not (ltb r m) || every (bounds r m)) (each-in r rlens (λ r. each mlens (λ m. not (ltb r m) || every (bounds r m))) refl (t .0)) (t .1 .0) in
     let q = every-each (bounds r m) (or-not (not (ltb r m)) (every (bounds r m)) p (rw (t .1 .1 .0))) in (

@@ -30,7 +30,7 @@ word f e d c b = f * 2 ^ 25 + e * 2 ^ 20 + d * 2 ^ 15 + c * 2 ^ 12 + b * 2 ^ 7 +
 -- mtype, the tile sizes, a seal, and a mark for every byte; a memory of 32 bytes
 pub bench : (t m k n sealStart sealLength mark : ℕ) → Bench
 bench t m k n s l mark = record {
-  machine = record { rlen = 64; mlen = 128; mtype = t; «tile_m» = m; «tile_k» = k; «tile_n» = n; «seal_start» = s; «seal_length» = l; rule = 0 };
+  machine = record { rlen = 64; mlen = 128; mtype = t; «tile_m» = m; «tile_k» = k; «tile_n» = n; «seal_start» = s; «seal_length» = l; rule = 0; elen = 32 };
   registers = replicate 256 5;
   marks = replicate 256 mark;
   memory = replicate 32 9;
@@ -63,7 +63,7 @@ with m B = record { machine = m; registers = B .registers; marks = B .marks; mem
 -- with another rule
 pub ruled : ℕ → Bench → Bench
 ruled r B = let m = B .machine in
-    with (record { rlen = m .rlen; mlen = m .mlen; mtype = m .mtype; «tile_m» = m .«tile_m»; «tile_k» = m .«tile_k»; «tile_n» = m .«tile_n»; «seal_start» = m .«seal_start»; «seal_length» = m .«seal_length»; rule = r }) B
+    with (record { rlen = m .rlen; mlen = m .mlen; mtype = m .mtype; «tile_m» = m .«tile_m»; «tile_k» = m .«tile_k»; «tile_n» = m .«tile_n»; «seal_start» = m .«seal_start»; «seal_length» = m .«seal_length»; rule = r; elen = m .elen }) B
 
 pub examples : List Line
 examples =
@@ -78,7 +78,7 @@ examples =
     ∷ gives (step 0 (scalars 0 0) (bench 0 2 2 2 (2 ^ 64 - 1) 1 1)) 8
     ∷ gives (step 0 (scalars 0 0) (bench 0 2 2 2 0 0 2)) 8
     ∷ gives (step 0 (scalars 0 0) (marking (replicate 255 0) good)) 8
-    ∷ gives (step 0 (scalars 0 0) (with (record { rlen = 128; mlen = 128; mtype = 0; «tile_m» = 0; «tile_k» = 0; «tile_n» = 0; «seal_start» = 0; «seal_length» = 0; rule = 0 }) good)) 8
+    ∷ gives (step 0 (scalars 0 0) (with (record { rlen = 128; mlen = 128; mtype = 0; «tile_m» = 0; «tile_k» = 0; «tile_n» = 0; «seal_start» = 0; «seal_length» = 0; rule = 0; elen = 32 }) good)) 8
     ∷ gives (step 0 (scalars 0 0) (ruled 2 good)) 8
     -- none of these is a fault: a seal that ends at 2^64 - 1, mtype 2^63 and 8, sizes above the maximum at the present SEW
     ∷ gives (step (word 0 0 0 7 0) (scalars 0 0) (bench 0 2 2 8 (2 ^ 64 - 1) 0 1)) 0

@@ -6,18 +6,19 @@ use lib.ListN.{length}
 use lib.Dec.{leb, ltb, eqb}
 use Rattle.machine.specs.declared.Machine.{Machine}
 use Rattle.machine.specs.Tests.{allOf, every}
-use Rattle.machine.specs.Geometry.{elen, permitted, registerBytes, Bench}
+use Rattle.machine.specs.Geometry.{permitted, registerBytes, Bench}
 use Rattle.machine.specs.Starting.{isRule, sealEnds}
 use Rattle.machine.specs.Setting.{newType}
 
 -- "RLEN or MLEN not permitted, a buffer not of the size they demand, .. an mtype that can't arise, a tile size above its maximum
--- at SEW 8, a seal whose end exceeds 2^64 - 1, or a mark that is neither value", or, 02, Eight, "an unknown rule": none of these
+-- at SEW 8, a seal whose end exceeds 2^64 - 1, or a mark that is neither value", or, 02, Eight, "an unknown rule", or, 02, Ten, "an ELEN other than
+-- 32 or 64, or not below RLEN": none of these
 unfoldable pub sound : Machine → List ℕ → List ℕ → Bool
 sound m registers marks = every (
-    permitted (m .rlen) (m .mlen)
+    permitted (m .rlen) (m .mlen) (m .elen)
     ∷ eqb (length registers) (registerBytes (m .mlen))
     ∷ eqb (length marks) (registerBytes (m .mlen))
-    ∷ eqb (newType elen (m .mtype)) (m .mtype)
+    ∷ eqb (newType (m .elen) (m .mtype)) (m .mtype)
     ∷ leb (m .«tile_m») (m .mlen / m .rlen)
     ∷ leb (m .«tile_k») (min (m .mlen / m .rlen) (m .rlen / 8))
     ∷ leb (m .«tile_n») (m .rlen / 8)

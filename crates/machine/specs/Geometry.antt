@@ -12,19 +12,19 @@ use Rattle.machine.specs.Tests.{isIn, every, within}
 
 -- ---- lengths
 
--- "ELEN is 32"
-abbrev pub elen : ℕ
-elen = 32
-
--- "RLEN is a power of two from 64 to 512, MLEN a power of two from 128 to 4,096, RLEN below MLEN."
+-- "RLEN is a power of two from 64 to 512, MLEN a power of two from 128 to 4,096, RLEN below MLEN." 02, Ten: "MLEN up to 65,536, RLEN up
+-- to 4,096 and ELEN 64 as a choice beside 32; ELEN must be below RLEN."
 abbrev pub rlens : List ℕ
-rlens = 64 ∷ 128 ∷ 256 ∷ 512 ∷ []
+rlens = 64 ∷ 128 ∷ 256 ∷ 512 ∷ 1024 ∷ 2048 ∷ 4096 ∷ []
 
 abbrev pub mlens : List ℕ
-mlens = 128 ∷ 256 ∷ 512 ∷ 1024 ∷ 2048 ∷ 4096 ∷ []
+mlens = 128 ∷ 256 ∷ 512 ∷ 1024 ∷ 2048 ∷ 4096 ∷ 8192 ∷ 16384 ∷ 32768 ∷ 65536 ∷ []
 
-unfoldable pub permitted : ℕ → ℕ → Bool
-permitted rlen mlen = every (isIn rlen rlens ∷ isIn mlen mlens ∷ ltb rlen mlen ∷ [])
+abbrev pub elens : List ℕ
+elens = 32 ∷ 64 ∷ []
+
+unfoldable pub permitted : (rlen mlen elen : ℕ) → Bool
+permitted rlen mlen elen = every (isIn rlen rlens ∷ isIn mlen mlens ∷ ltb rlen mlen ∷ isIn elen elens ∷ ltb elen rlen ∷ [])
 
 -- what a machine keeps from its start on: the rows of its registers, the bytes of a tile register's row, ELEN, its choice of
 -- sizes (from the maximum and what is asked), and the sealed range
@@ -37,8 +37,8 @@ pub record Parameters : Type 0 where
   pub sealLen : ℕ
 
 -- "Eight tile registers of MLEN bits have MLEN/RLEN rows of RLEN/8 bytes."
-abbrev pub parametersOf : (ℕ → ℕ → ℕ) → (rlen mlen sealStart sealLength : ℕ) → Parameters
-parametersOf grant rlen mlen sealStart sealLength = record {
+abbrev pub parametersOf : (ℕ → ℕ → ℕ) → (rlen mlen elen sealStart sealLength : ℕ) → Parameters
+parametersOf grant rlen mlen elen sealStart sealLength = record {
   rows = mlen / rlen;
   pitch = rlen / 8;
   elen = elen;
@@ -49,7 +49,7 @@ parametersOf grant rlen mlen sealStart sealLength = record {
 
 -- under a choice of sizes for each rule, of which the machine goes by its own: 02, Eight: "the size choice speaks of the rule"
 abbrev pub parameters : (ℕ → ℕ → ℕ → ℕ) → Machine → Parameters
-parameters grant m = parametersOf (grant (m .rule)) (m .rlen) (m .mlen) (m .«seal_start») (m .«seal_length»)
+parameters grant m = parametersOf (grant (m .rule)) (m .rlen) (m .mlen) (m .elen) (m .«seal_start») (m .«seal_length»)
 
 -- ---- state
 
@@ -76,6 +76,7 @@ machineAfter m st = record {
   «seal_start» = m .«seal_start»;
   «seal_length» = m .«seal_length»;
   rule = m .rule;
+  elen = m .elen;
 }
 
 -- a machine with what it is lent: the register bytes, their marks, and memory, "address 0 its first byte"

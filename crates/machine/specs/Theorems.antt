@@ -20,9 +20,9 @@ use Rattle.machine.specs.Operation.{element, placed, tileRows, tileCols,
 use Rattle.machine.specs.Step.{stepBy}
 
 -- a bench as a start leaves it, with a memory
-abbrev pub startedBench : (rlen mlen rule sealStart sealLength : ℕ) (registers marks memory : List ℕ) → Bench
-startedBench rlen mlen rule sealStart sealLength registers marks memory =
-    let s = startMachine rlen mlen rule sealStart sealLength registers marks in benchOf (s .machine) (s .registers) (s .marks) memory
+abbrev pub startedBench : (rlen mlen elen rule sealStart sealLength : ℕ) (registers marks memory : List ℕ) → Bench
+startedBench rlen mlen elen rule sealStart sealLength registers marks memory =
+    let s = startMachine rlen mlen elen rule sealStart sealLength registers marks in benchOf (s .machine) (s .registers) (s .marks) memory
 
 -- ---- the choice of sizes
 
@@ -39,10 +39,10 @@ RefusalChangesNothing = (grant : ℕ → ℕ → ℕ → ℕ) (word : ℕ) (xs :
 
 -- and so of a start
 abbrev pub StartRefusalChangesNothing : Type 0
-StartRefusalChangesNothing = (rlen mlen rule sealStart sealLength : ℕ) (registers marks : List ℕ)
-    → ¬ (startMachine rlen mlen rule sealStart sealLength registers marks .answer .number ≡ 0)
-    → (startMachine rlen mlen rule sealStart sealLength registers marks .registers ≡ registers)
-    × (startMachine rlen mlen rule sealStart sealLength registers marks .marks ≡ marks)
+StartRefusalChangesNothing = (rlen mlen elen rule sealStart sealLength : ℕ) (registers marks : List ℕ)
+    → ¬ (startMachine rlen mlen elen rule sealStart sealLength registers marks .answer .number ≡ 0)
+    → (startMachine rlen mlen elen rule sealStart sealLength registers marks .registers ≡ registers)
+    × (startMachine rlen mlen elen rule sealStart sealLength registers marks .marks ≡ marks)
 
 -- ---- states that are not at fault
 
@@ -53,9 +53,9 @@ StepKeepsSound = (grant : ℕ → ℕ → ℕ → ℕ) → EachGrants grant → 
 
 -- and so does a start, whatever memory is lent
 abbrev pub StartIsSound : Type 0
-StartIsSound = (rlen mlen rule sealStart sealLength : ℕ) (registers marks memory : List ℕ)
-    → startMachine rlen mlen rule sealStart sealLength registers marks .answer .number ≡ 0
-    → soundBench (startedBench rlen mlen rule sealStart sealLength registers marks memory) ≡ true
+StartIsSound = (rlen mlen elen rule sealStart sealLength : ℕ) (registers marks memory : List ℕ)
+    → startMachine rlen mlen elen rule sealStart sealLength registers marks .answer .number ≡ 0
+    → soundBench (startedBench rlen mlen elen rule sealStart sealLength registers marks memory) ≡ true
 
 -- ---- stores
 
@@ -115,7 +115,7 @@ SealHolds = (grant : ℕ → ℕ → ℕ → ℕ) (ws : List Given) (B : Bench) 
 
 -- and from a started machine: each byte of the range that it was started with
 abbrev pub SealHoldsFromStart : Type 0
-SealHoldsFromStart = (rlen mlen rule sealStart sealLength : ℕ) (registers marks memory : List ℕ)
-    → startMachine rlen mlen rule sealStart sealLength registers marks .answer .number ≡ 0
+SealHoldsFromStart = (rlen mlen elen rule sealStart sealLength : ℕ) (registers marks memory : List ℕ)
+    → startMachine rlen mlen elen rule sealStart sealLength registers marks .answer .number ≡ 0
     → (ws : List Given) (q : ℕ) → In sealStart sealLength q
-    → getD (afterAll chosen ws (startedBench rlen mlen rule sealStart sealLength registers marks memory) .memory) q 0 ≡ getD memory q 0
+    → getD (afterAll chosen ws (startedBench rlen mlen elen rule sealStart sealLength registers marks memory) .memory) q 0 ≡ getD memory q 0

@@ -6,11 +6,12 @@ ghost use lib.Dec.{eqb, ltb};
 ghost use lib.ListN.{length, replicate};
 ghost use Rattle.machine.specs.Tests.{isIn};
 ghost use Rattle.machine.specs.Answers.{bare, reply, isDone};
-ghost use Rattle.machine.specs.Geometry.{permitted, rlens, mlens};
+ghost use Rattle.machine.specs.Geometry.{permitted, rlens, mlens, elens};
 ghost use Rattle.machine.specs.Setting.{chosen};
 ghost use Rattle.machine.specs.Starting.{isRule, sealEnds, startable, startMachine, startedAs, noMachine, freshMachine};
 
-// The machine's numbers: its lengths in bits, mtype, the tile sizes, the sealed range of memory, and the rule by which it chooses sizes.
+// The machine's numbers: its lengths in bits, mtype, the tile sizes, the sealed range of memory, the rule by which it chooses sizes, and
+// ELEN, the widest element in bits.
 pub struct Machine {
     pub rlen: u64,
     pub mlen: u64,
@@ -21,6 +22,7 @@ pub struct Machine {
     pub seal_start: u64,
     pub seal_length: u64,
     pub rule: u64,
+    pub elen: u64,
 }
 
 // What a start, a step or a run answers. specs/Answers.antt gives the number, row and column of each case.
@@ -219,7 +221,7 @@ fn is_rlen(x: u64) -> bool
     ensures { λ r. ⌜ r ≡ isIn x rlens ⌝ }
 {
     match x {
-        64 | 128 | 256 | 512 => true,
+        64 | 128 | 256 | 512 | 1024 | 2048 | 4096 => true,
         _ => false,
     }
 }
@@ -228,14 +230,23 @@ fn is_mlen(x: u64) -> bool
     ensures { λ r. ⌜ r ≡ isIn x mlens ⌝ }
 {
     match x {
-        128 | 256 | 512 | 1024 | 2048 | 4096 => true,
+        128 | 256 | 512 | 1024 | 2048 | 4096 | 8192 | 16384 | 32768 | 65536 => true,
+        _ => false,
+    }
+}
+
+fn is_elen(x: u64) -> bool
+    ensures { λ r. ⌜ r ≡ isIn x elens ⌝ }
+{
+    match x {
+        32 | 64 => true,
         _ => false,
     }
 }
 
 // Whether a machine may have these lengths.
-pub fn permitted_lengths(rlen: u64, mlen: u64) -> bool
-    ensures { λ r. ⌜ r ≡ permitted rlen mlen ⌝ }
+pub fn permitted_lengths(rlen: u64, mlen: u64, elen: u64) -> bool
+    ensures { λ r. ⌜ r ≡ permitted rlen mlen elen ⌝ }
 {
     if !is_rlen(rlen) {
         return false;
@@ -243,7 +254,13 @@ pub fn permitted_lengths(rlen: u64, mlen: u64) -> bool
     if !is_mlen(mlen) {
         return false;
     }
-    rlen < mlen
+    if rlen >= mlen {
+        return false;
+    }
+    if !is_elen(elen) {
+        return false;
+    }
+    elen < rlen
 }
 
 // Whether there is such a rule.
@@ -314,11 +331,19 @@ fn no_machine() -> Machine
         seal_start: 0,
         seal_length: 0,
         rule: 0,
+        elen: 0,
     }
 }
 
-fn fresh_machine(rlen: u64, mlen: u64, rule: u64, seal_start: u64, seal_length: u64) -> Machine
-    ensures { λ r. ⌜ r ≡ freshMachine rlen mlen rule «seal_start» «seal_length» ⌝ }
+fn fresh_machine(
+    rlen: u64,
+    mlen: u64,
+    elen: u64,
+    rule: u64,
+    seal_start: u64,
+    seal_length: u64,
+) -> Machine
+    ensures { λ r. ⌜ r ≡ freshMachine rlen mlen elen rule «seal_start» «seal_length» ⌝ }
 {
     Machine {
         rlen: rlen,
@@ -330,6 +355,7 @@ fn fresh_machine(rlen: u64, mlen: u64, rule: u64, seal_start: u64, seal_length: 
         seal_start: seal_start,
         seal_length: seal_length,
         rule: rule,
+        elen: elen,
     }
 }
 
@@ -337,15 +363,16 @@ fn fresh_machine(rlen: u64, mlen: u64, rule: u64, seal_start: u64, seal_length: 
 fn is_startable(
     rlen: u64,
     mlen: u64,
+    elen: u64,
     rule: u64,
     seal_start: u64,
     seal_length: u64,
     registers: &[u8],
     marks: &[u8],
 ) -> bool
-    ensures { λ r. ⌜ r ≡ startable rlen mlen rule «seal_start» «seal_length» (now (registers .entry)) (now (marks .entry)) ⌝ }
+    ensures { λ r. ⌜ r ≡ startable rlen mlen elen rule «seal_start» «seal_length» (now (registers .entry)) (now (marks .entry)) ⌝ }
 {
-    if !permitted_lengths(rlen, mlen) {
+    if !permitted_lengths(rlen, mlen, elen) {
         return false;
     }
     if registers.len() as u64 != 2 * mlen {
@@ -364,6 +391,7 @@ fn is_startable(
 pub fn start(
     rlen: u64,
     mlen: u64,
+    elen: u64,
     rule: u64,
     seal_start: u64,
     seal_length: u64,
@@ -371,9 +399,18 @@ pub fn start(
     marks: &mut [u8],
 ) -> Started
     ensures { λ r. ⌜ startedAs r (now (registers .entry)) (now (marks .exit))
-        ≡ startMachine rlen mlen rule «seal_start» «seal_length» (now (registers .entry)) (now (marks .entry)) ⌝ }
+        ≡ startMachine rlen mlen elen rule «seal_start» «seal_length» (now (registers .entry)) (now (marks .entry)) ⌝ }
 {
-    if !is_startable(rlen, mlen, rule, seal_start, seal_length, registers, marks) {
+    if !is_startable(
+        rlen,
+        mlen,
+        elen,
+        rule,
+        seal_start,
+        seal_length,
+        registers,
+        marks,
+    ) {
         return Started {
             answer: Answer::BadArguments,
             machine: no_machine(),
@@ -382,6 +419,6 @@ pub fn start(
     clear(marks);
     Started {
         answer: Answer::Done,
-        machine: fresh_machine(rlen, mlen, rule, seal_start, seal_length),
+        machine: fresh_machine(rlen, mlen, elen, rule, seal_start, seal_length),
     }
 }

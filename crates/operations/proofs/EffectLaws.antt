@@ -5,23 +5,23 @@ use mathlib.Core.List.{List, []}
 use Prim.Native.Nat.{ℕ, _+_, _*_, _/_, _≤_, _<_}
 use native.Mathlib.Nat.{one-mul}
 use native.Mathlib.Omega.{arith}
-use lib.Dec.{eqb}
+use lib.Dec.{eqb, leb}
 use lib.IntN.{ℤ, pos}
 use lib.ListN.{length, getD, set}
 use lib.Seq.{set-getD}
-use borrow.Author.Tests.{eqb-true, le-leb}
+use borrow.Author.Tests.{eqb-true, le-leb, leb-true}
 use Rattle.width.specs.Upto.{upto}
 use Rattle.width.specs.Tile.{putTile, markRow, markTile}
 use Rattle.width.proofs.UptoLaws.{upto-keeps}
 use Rattle.machine.specs.Tests.{all}
 use Rattle.machine.specs.Refusals.{marked, widthOk}
-use Rattle.machine.proofs.TestLaws.{all-at}
+use Rattle.machine.proofs.TestLaws.{all-at, each-in}
 use Rattle.machine.specs.declared.Machine.{Machine}
 use Rattle.machine.specs.declared.Sum.{Sum}
 use Rattle.machine.specs.declared.Answer.{Answer}
 use Rattle.machine.specs.declared.Answer.the-variants.{Done}
 use Rattle.machine.specs.Answers.{verdict, isDone}
-use Rattle.machine.specs.Geometry.{State, stateOf, accAt}
+use Rattle.machine.specs.Geometry.{elens, State, stateOf, accAt}
 use Rattle.machine.specs.Setting.{sew, chosen}
 use Rattle.machine.specs.Operation.{Operation, floatProductAt, stateAfter}
 use Rattle.machine.specs.Refusals.{checks, isZero}
@@ -30,7 +30,7 @@ use Rattle.machine.proofs.CheckLaws.{Passed, passed}
 use Rattle.machine.proofs.CodeLaws.{only-done}
 use Rattle.machine.proofs.NoFault.{Sound, sound-is}
 use Rattle.machine.proofs.StepLaws.{permitted-lengths}
-use Rattle.width.specs.Bounds.{mostPitch, mostColumns, mostSize, mostTerms}
+use Rattle.width.specs.Bounds.{mostPitch, mostSize}
 use Rattle.element.specs.Element.{Width}
 use Rattle.arithmetic.specs.Effect.{shape, productTile, combineTile, scaleTile}
 use Rattle.floats.specs.Rows.{floatTile}
@@ -39,6 +39,7 @@ use Rattle.settings.specs.Parts.{ours}
 use Rattle.checking.specs.Parts.{MarksReady, productChecks, floatChecks, combineChecks, scaleChecks}
 use Rattle.operations.specs.Parts.{WritesRegisters}
 use Rattle.settings.proofs.FaultLaws.{ready}
+use Rattle.settings.proofs.TypeLaws.{ready-elen}
 
 -- marking what is marked changes nothing
 mark-again : (ms : List ℕ) (at : ℕ → ℕ) (rows n : ℕ) → marked ms at rows n ≡ true → ms ≡ markTile at rows n ms
@@ -66,7 +67,7 @@ module _ (m : Machine) (regs marks : List ℕ) (h : sound m regs marks ≡ true)
   s = sound-is m regs marks h
 
   pub marks-ready : MarksReady m marks
-  marks-ready = record { of-machine = ready m regs marks h; of-length = s .state .marks-length ∙ sym (permitted-lengths (m .rlen) (m .mlen) (s .lengths) .2) }
+  marks-ready = record { of-machine = ready m regs marks h; of-length = s .state .marks-length ∙ sym (permitted-lengths (m .rlen) (m .mlen) (m .elen) (s .lengths) .2) }
 
   -- refused
   pub arithmetic-refused : (o : Operation) (a : Answer) → a ≡ verdict (checks (ours m) o st []) → isDone a ≡ false → WritesRegisters m o regs marks [] a regs marks
@@ -85,10 +86,11 @@ module _ (m : Machine) (regs marks : List ℕ) (h : sound m regs marks ≡ true)
     four = let e = eqb-true (8 * sew (m .mtype)) 32 (passes .1 .0) in omega arith
 
     pub float-asks : (d < 2) × ((a < 8) × (b < 8)) → ((d < 2) × ((a < 8) × (b < 8))) × (((R * P ≤ mostSize) × ((P ≤ mostPitch) × (length regs ≡ 16 * (R * P))))
-        × (((m .«tile_m» ≤ R) × ((m .«tile_k» ≤ R) × (m .«tile_k» ≤ mostTerms))) × ((m .«tile_n» * 4 ≤ P) × (m .«tile_k» * 4 ≤ P))))
+        × (((m .«tile_m» ≤ R) × ((m .«tile_k» ≤ R) × (m .«tile_k» ≤ mostPitch))) × ((m .«tile_n» * 4 ≤ P) × (m .«tile_k» * 4 ≤ P))))
     unfolding widthOk
     float-asks l =
-        let q = multiply-ready chosen m regs marks [] h 1 d a b l (passes .0, (rw (le-leb (1 * (8 * sew (m .mtype))) 32 (omega (arith, four))), passes .1 .1)) in
+        let most = leb-true 32 (m .elen) (each-in (m .elen) elens (leb 32) refl (ready-elen m (ready m regs marks h))) in
+        let q = multiply-ready chosen m regs marks [] h 1 d a b l (passes .0, (rw (le-leb (1 * (8 * sew (m .mtype))) (m .elen) (omega (arith, four))), passes .1 .1)) in
         let t = q .1 .1 .1 .1 .1 in
         (q .0, (q .1 .0, (t .0, subst (λ (w : ℕ). (m .«tile_n» * w ≤ P) × (m .«tile_k» * w ≤ P)) four (t .1 .1))))
 
@@ -118,7 +120,7 @@ module _ (m : Machine) (regs marks : List ℕ) (h : sound m regs marks ≡ true)
 
       abbrev Asked : ℕ → ℕ → Type 0
       Asked f w = ((d < 2) × ((a < 8) × (b < 8))) × (((R * P ≤ mostSize) × ((P ≤ mostPitch) × (length regs ≡ 16 * (R * P)))) × (Width w × (Width (f * w) × ((f ≤ 4)
-          × (((tm ≤ R) × ((tk ≤ R) × (tk ≤ mostTerms))) × ((tn ≤ mostColumns) × ((tn * w ≤ P) × (tk * w ≤ P))))))))
+          × (((tm ≤ R) × ((tk ≤ R) × (tk ≤ mostPitch))) × ((tn ≤ mostPitch) × ((tn * w ≤ P) × (tk * w ≤ P))))))))
 
       pub product-asks : (d < 2) × ((a < 8) × (b < 8)) → Asked f′ w
       product-asks l =
@@ -137,7 +139,7 @@ module _ (m : Machine) (regs marks : List ℕ) (h : sound m regs marks ≡ true)
     -- the element-wise instructions ask the same of md and ms1
     abbrev Elementwise : ℕ → ℕ → ℕ → ℕ → Type 0
     Elementwise d a f w = ((d < 2) × (a < 2)) × (((R * P ≤ mostSize) × ((P ≤ mostPitch) × (length regs ≡ 16 * (R * P)))) × (Width w × (Width (f * w) × ((f ≤ 4)
-        × ((m .«tile_m» ≤ R) × ((m .«tile_n» ≤ mostColumns) × (m .«tile_n» * w ≤ P)))))))
+        × ((m .«tile_m» ≤ R) × ((m .«tile_n» ≤ mostPitch) × (m .«tile_n» * w ≤ P)))))))
 
     elementwise-asks : (d a : ℕ) → Elementwise d a f (sew (m .mtype)) → Elementwise d a f′ w
     elementwise-asks d a q = subst (λ (x : ℕ). Elementwise d a x w) (sym ef) (subst (λ (y : ℕ). Elementwise d a f y) (sym ew) q)

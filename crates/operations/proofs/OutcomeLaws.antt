@@ -17,7 +17,7 @@ use Rattle.machine.specs.declared.Instruction.{Instruction}
 use Rattle.machine.proofs.StepLaws.{step-refused}
 use Rattle.machine.specs.Listing.{decode}
 use Rattle.machine.specs.Answers.{reply, verdict, isDone}
-use Rattle.machine.specs.Geometry.{elen, State, stateOf, machineAfter, Bench, benchOf, scalar, withScalar}
+use Rattle.machine.specs.Geometry.{State, stateOf, machineAfter, Bench, benchOf, scalar, withScalar}
 use Rattle.machine.specs.Setting.{mill, newType, maximum, smaller, chosen, sizeIn}
 use Rattle.machine.specs.Operation.{Operation, askedSize, stateAfter, memoryAfter, resultOf}
 use Rattle.machine.specs.Refusals.{wordAnswer, checks}
@@ -50,7 +50,7 @@ module _ (m : Machine) (i : Instruction) (xs regs marks mem : List ℕ) (s : sou
   illegal-outcome Register e = outcome-by (ours m) i xs B s t WrongRegister (ap (λ (o : Operation). verdict (checks (ours m) o (given (ours m) i xs B) mem)) e)
 
   pub type-outcome : (v rd : ℕ) → meant (ours m) i xs B ≡ Operation.setType v → destination i ≡ rd
-      → leaves Done (withType m (newType elen v)) (withScalar xs rd (newType elen v)) regs marks mem ≡ here
+      → leaves Done (withType m (newType (m .elen) v)) (withScalar xs rd (newType (m .elen) v)) regs marks mem ≡ here
   type-outcome v rd e er =
       ap₂ (λ (o : Operation) (rd : ℕ). record {
         answer = reply Done;

@@ -12,7 +12,7 @@ use Rattle.machine.specs.declared.Answer.{Answer}
 use Rattle.machine.specs.declared.Answer.the-variants.{BadWidth, OutsideMemory, SealedByte, RowsOverlap}
 use Rattle.machine.specs.declared.Matrix.the-variants.{MatrixA, MatrixB, MatrixC}
 use Rattle.machine.specs.Answers.{Check, _otherwise_, verdict, isDone}
-use Rattle.machine.specs.Geometry.{elen, State, stateOf, registerCount, registerAt, startOf, pitchOf}
+use Rattle.machine.specs.Geometry.{State, stateOf, registerCount, registerAt, startOf, pitchOf}
 use Rattle.machine.specs.Setting.{chosen}
 use Rattle.machine.specs.Memory.{rowAt, inside, distinct, unsealed}
 use Rattle.machine.specs.Operation.{Operation, memoryAfter, element, placed, rowsOf, columnsOf, tileRows, tileCols, memoryRows, memoryCols}
@@ -35,7 +35,7 @@ module _ (m : Machine) (regs marks mem : List ℕ) (f : Form) (k : Matrix) (r w 
 
   -- the checks and the tile as the definitions of a step have them, with the lent bytes in the state
   abbrev first : List Check
-  first = typed st ∷ (widthOf elen (m .mtype) k w otherwise BadWidth) ∷ fitting (ours m) st (rowsOf k) ∷ fitting (ours m) st (columnsOf k) ∷ []
+  first = typed st ∷ (widthOf (m .elen) (m .mtype) k w otherwise BadWidth) ∷ fitting (ours m) st (rowsOf k) ∷ fitting (ours m) st (columnsOf k) ∷ []
 
   abbrev here : Placed
   here = record { start = startOf (ours m) k r; pitch = pitchOf (ours m) k; rows = tileRows st k; columns = tileCols st k }
@@ -43,7 +43,7 @@ module _ (m : Machine) (regs marks mem : List ℕ) (f : Form) (k : Matrix) (r w 
   first-is : transferChecks m k w ≡ first
   first-is = by k
     where
-      by : (k : Matrix) → transferChecks m k w ≡ (typed st ∷ (widthOf elen (m .mtype) k w otherwise BadWidth) ∷ fitting (ours m) st (rowsOf k) ∷ fitting (ours m) st (columnsOf k) ∷ [])
+      by : (k : Matrix) → transferChecks m k w ≡ (typed st ∷ (widthOf (m .elen) (m .mtype) k w otherwise BadWidth) ∷ fitting (ours m) st (rowsOf k) ∷ fitting (ours m) st (columnsOf k) ∷ [])
       by MatrixA = refl
       by MatrixB = refl
       by MatrixC = refl

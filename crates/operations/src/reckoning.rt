@@ -112,7 +112,7 @@ pub fn combine(
     Answer::Done
 }
 
-// Answers 2 to 5, and md = ms1 times a number of which multiplier is the residue at 32 bits.
+// Answers 2 to 5, and md = ms1 times a number of which multiplier is the residue at 64 bits.
 pub fn scale(
     m: Machine,
     registers: &mut [u8],
@@ -120,11 +120,11 @@ pub fn scale(
     factor: Factor,
     md: usize,
     ms1: usize,
-    multiplier: u32,
+    multiplier: u64,
 ) -> Answer
     requires { ⌜ sound m (now registers) (now marks) ≡ true ⌝ }
     requires { ⌜ (md < 2) × (ms1 < 2) ⌝ }
-    ensures { λ r. ⌜ ((z : ℤ) → reduce (2 ^ 32) z ≡ multiplier → isZero z ≡ eqb multiplier 0
+    ensures { λ r. ⌜ ((z : ℤ) → reduce (2 ^ 64) z ≡ multiplier → isZero z ≡ eqb multiplier 0
         → WritesRegisters m (Operation.scale (times factor) md ms1 z) (now (registers .entry)) (now (marks .entry)) [] r (now (registers .exit)) (now (marks .exit))) ⌝ }
 {
     let answer = check_scale(m, marks, factor, ms1, multiplier == 0);

@@ -352,7 +352,7 @@ fn multiply_with(
     requires { ⌜ (n ≤ mostColumns) × ((k ≤ mostTerms) × (pitch ≤ mostPitch)) ⌝ }
     requires { ⌜ Narrow width ⌝ }
     requires { ⌜ (n * width ≤ pitch) × ((k * width ≤ pitch) × (n * 4 ≤ 4 * pitch)) ⌝ }
-    requires { ⌜ (a + m * pitch ≤ c) × ((b + k * pitch ≤ c) × (c + m * (4 * pitch) ≤ length (now s))) ⌝ }
+    requires { ⌜ (a + m * pitch + k * width ≤ c + pitch) × ((b + k * pitch ≤ c) × ((c ≤ length (now s)) × (c + m * (4 * pitch) + n * 4 ≤ length (now s) + 4 * pitch))) ⌝ }
     requires { ⌜ (k + 3) / 4 * (2 * pairPlaces) ≤ length (now bs) ⌝ }
     ensures { λ _. ⌜ now (s .exit) ≡ putTile (λ i. c + i * (4 * pitch)) m n 4 (λ i. productRow (now (s .entry)) 4 width pitch k (a + i * pitch) b (c + i * (4 * pitch))) (now (s .entry)) ⌝ }
 {
@@ -384,7 +384,7 @@ pub fn multiply_rows(
     requires { ⌜ (n ≤ mostColumns) × ((k ≤ mostTerms) × (pitch ≤ mostPitch)) ⌝ }
     requires { ⌜ Narrow width ⌝ }
     requires { ⌜ (n * width ≤ pitch) × ((k * width ≤ pitch) × (n * 4 ≤ 4 * pitch)) ⌝ }
-    requires { ⌜ (a + m * pitch ≤ c) × ((b + k * pitch ≤ c) × (c + m * (4 * pitch) ≤ length (now s))) ⌝ }
+    requires { ⌜ (a + m * pitch + k * width ≤ c + pitch) × ((b + k * pitch ≤ c) × ((c ≤ length (now s)) × (c + m * (4 * pitch) + n * 4 ≤ length (now s) + 4 * pitch))) ⌝ }
     ensures { λ _. ⌜ now (s .exit) ≡ putTile (λ i. c + i * (4 * pitch)) m n 4 (λ i. productRow (now (s .entry)) 4 width pitch k (a + i * pitch) b (c + i * (4 * pitch))) (now (s .entry)) ⌝ }
 {
     if k <= 4 {

@@ -3,26 +3,27 @@ use mathlib.Core.Path.{_≡_, refl, sym, ap, _∙_}
 use mathlib.Core.Bool.{Bool, true, false, _||_}
 use mathlib.Core.List.{List, [], _∷_}
 use Prim.Native.Nat.{ℕ, _+_, _*_, _/_, _%_, _^_, _≤_, _<_}
-use native.Mathlib.Nat.{mul-le-mul, mod-eq-of-lt, div-add-mod'}
+use native.Mathlib.Nat.{mul-le-mul, mul-le-mul-left, div-mul-le-self, mod-eq-of-lt, div-add-mod'}
 use native.Mathlib.Omega.{arith}
 use lib.Dec.{leb, ltb, eqb}
 use borrow.Author.Tests.{leb-true, ltb-true, eq-eqb, ne-eqb}
 use Rattle.machine.specs.Tests.{isIn}
-use Rattle.machine.proofs.TestLaws.{every-each, each-in}
-use Rattle.machine.specs.Geometry.{elen}
+use Rattle.machine.proofs.TestLaws.{every-each, each-every, each-in}
+use Rattle.width.specs.Bounds.{mostElen}
+use Rattle.machine.specs.Geometry.{elens}
 use Rattle.run.specs.declared.Layout.{Layout}
 use Rattle.run.specs.declared.Plan.{Plan}
 use Rattle.run.specs.declared.Place.the-variants.{AtM, AtMultiply, AtStore}
 use Rattle.run.specs.Plan.{msew, typeOf}
 use Rattle.run.specs.Encoding.{startOf}
 use Rattle.run.specs.Start.{format, kindFits, planned}
-use Rattle.run.proofs.WordLaws.{start-wraps}
+use Rattle.run.proofs.WordLaws.{start-wraps, widest-format}
 use Rattle.plan_numbers.specs.Parts.{placed}
 
 -- ---- formats
 
 abbrev pub sews : List ℕ
-sews = 8 ∷ 16 ∷ 32 ∷ []
+sews = 8 ∷ 16 ∷ 32 ∷ 64 ∷ []
 
 abbrev pub factors : List ℕ
 factors = 1 ∷ 2 ∷ 4 ∷ []
@@ -34,16 +35,31 @@ last-factor x p q = rw (p, q) (or-false (eqb x 4))
     or-false true = refl
     or-false false = refl
 
-pub small-product : (s f : ℕ) → isIn s sews ≡ true → isIn f factors ≡ true → f * s ≤ 128
+pub small-product : (s f : ℕ) → isIn s sews ≡ true → isIn f factors ≡ true → f * s ≤ 256
 small-product s f hs hf =
-    mul-le-mul (leb-true f 4 (each-in f factors (λ y. leb y 4) refl hf)) (leb-true s 32 (each-in s sews (λ y. leb y 32) refl hs))
+    mul-le-mul (leb-true f 4 (each-in f factors (λ y. leb y 4) refl hf)) (leb-true s 64 (each-in s sews (λ y. leb y 64) refl hs))
 
-pub plan-small : (P : Plan) → planned P ≡ true → (P .sew ≤ 32) × (P .factor ≤ 4)
+pub plan-small : (P : Plan) → planned mostElen P ≡ true → (P .sew ≤ 64) × (P .factor ≤ 4) × (P .factor * P .sew ≤ 64)
 unfolding planned format
 plan-small P h =
-    let t = every-each (format (P .sew) (P .factor) ∷ leb (P .m) 1024 ∷ leb (P .k) 1024 ∷ leb (P .n) 1024 ∷ kindFits P ∷ []) h in
-    let u = every-each (isIn (P .sew) sews ∷ isIn (P .factor) factors ∷ leb (P .factor * P .sew) elen ∷ []) (t .0) in
-    (leb-true (P .sew) 32 (each-in (P .sew) sews (λ y. leb y 32) refl (u .0)), leb-true (P .factor) 4 (each-in (P .factor) factors (λ y. leb y 4) refl (u .1 .0)))
+    let t = every-each (format mostElen (P .sew) (P .factor) ∷ leb (P .m) 1024 ∷ leb (P .k) 1024 ∷ leb (P .n) 1024 ∷ kindFits P ∷ []) h in
+    let u = every-each (isIn (P .sew) sews ∷ isIn (P .factor) factors ∷ leb (P .factor * P .sew) mostElen ∷ []) (t .0) in (
+      leb-true (P .sew) 64 (each-in (P .sew) sews (λ y. leb y 64) refl (u .0)),
+      leb-true (P .factor) 4 (each-in (P .factor) factors (λ y. leb y 4) refl (u .1 .0)),
+      leb-true (P .factor * P .sew) mostElen (u .1 .1 .0),
+    )
+
+-- the bytes of an element of C
+pub wide-small : (P : Plan) → planned mostElen P ≡ true → P .factor * (P .sew / 8) ≤ 8
+wide-small P h = omega (arith, plan-small P h .2, mul-le-mul-left (P .factor) (div-mul-le-self (P .sew) 8))
+
+-- what is planned on a machine is planned on those of the largest ELEN
+pub widest-plan : (elen : ℕ) (P : Plan) → isIn elen elens ≡ true → planned elen P ≡ true → planned mostElen P ≡ true
+unfolding planned
+widest-plan elen P known h =
+    let t = every-each (format elen (P .sew) (P .factor) ∷ leb (P .m) 1024 ∷ leb (P .k) 1024 ∷ leb (P .n) 1024 ∷ kindFits P ∷ []) h in
+    each-every (format mostElen (P .sew) (P .factor) ∷ leb (P .m) 1024 ∷ leb (P .k) 1024 ∷ leb (P .n) 1024 ∷ kindFits P ∷ [])
+    (widest-format elen (P .sew) (P .factor) known (t .0), t .1)
 
 -- ---- mtype
 

@@ -7,6 +7,7 @@ ghost use mathlib.Core.Bool.{true};
 ghost use mathlib.Core.List.{[], _∷_};
 ghost use Prim.Native.Nat.{_*_, _%_, _^_, _≤_};
 ghost use lib.Dec.{ltb};
+ghost use Rattle.width.specs.Bounds.{mostElen};
 ghost use Rattle.machine.specs.Tests.{every, isIn};
 ghost use Rattle.run.specs.Plan.{narrow, wide, msew, typeOf, formOf, aRow, aColumn};
 ghost use Rattle.run.specs.Start.{format, kindFits, planned};
@@ -16,10 +17,10 @@ ghost use Rattle.plan_numbers.specs.Parts.{placed};
 // ---- numbers that are permitted
 
 fn is_sew(x: u64) -> bool
-    ensures { λ r. ⌜ r ≡ isIn x (8 ∷ 16 ∷ 32 ∷ []) ⌝ }
+    ensures { λ r. ⌜ r ≡ isIn x (8 ∷ 16 ∷ 32 ∷ 64 ∷ []) ⌝ }
 {
     match x {
-        8 | 16 | 32 => true,
+        8 | 16 | 32 | 64 => true,
         _ => false,
     }
 }
@@ -36,9 +37,9 @@ fn is_factor(x: u64) -> bool
     x == 4
 }
 
-// Whether a plan may have elements of sew bits, and of factor times as many in C.
-pub fn is_format(sew: u64, factor: u64) -> bool
-    ensures { λ r. ⌜ r ≡ format sew factor ⌝ }
+// Whether a plan may have elements of sew bits, and of factor times as many in C, on a machine of this ELEN.
+pub fn is_format(elen: u64, sew: u64, factor: u64) -> bool
+    ensures { λ r. ⌜ r ≡ format elen sew factor ⌝ }
 {
     if !is_sew(sew) {
         return false;
@@ -46,7 +47,7 @@ pub fn is_format(sew: u64, factor: u64) -> bool
     if !is_factor(factor) {
         return false;
     }
-    factor * sew <= 32
+    factor * sew <= elen
 }
 
 // Whether the kind is 0 or 1, or 2 with SEW 32 and factor 1.
@@ -62,13 +63,13 @@ fn is_kind_fit(plan: Plan) -> bool
     plan.factor == 1
 }
 
-// Whether the numbers of a plan are permitted.
-pub fn is_planned(plan: Plan) -> bool
-    ensures { λ r. ⌜ r ≡ planned plan ⌝ }
+// Whether the numbers of a plan are permitted on a machine of this ELEN.
+pub fn is_planned(elen: u64, plan: Plan) -> bool
+    ensures { λ r. ⌜ r ≡ planned elen plan ⌝ }
 {
     let sew = plan.sew;
     let factor = plan.factor;
-    if !is_format(sew, factor) {
+    if !is_format(elen, sew, factor) {
         return false;
     }
     if plan.m > 1024 {
@@ -102,8 +103,11 @@ pub fn factor_code(factor: u64) -> u32
 // The plan's msew.
 pub fn width_code(plan: Plan) -> u32
     ensures { λ r. ⌜ r ≡ msew plan ⌝ }
-    ensures { λ r. ⌜ r ≤ 2 ⌝ }
+    ensures { λ r. ⌜ r ≤ 3 ⌝ }
 {
+    if plan.sew == 64 {
+        return 3;
+    }
     if plan.sew == 32 {
         return 2;
     }
@@ -116,7 +120,7 @@ pub fn width_code(plan: Plan) -> u32
 // The mtype of the run.
 pub fn type_of(plan: Plan) -> u64
     ensures { λ r. ⌜ r ≡ typeOf plan ⌝ }
-    ensures { λ r. ⌜ r ≤ 10 ⌝ }
+    ensures { λ r. ⌜ r ≤ 11 ⌝ }
 {
     let code = width_code(plan) as u64;
     if plan.factor == 4 {
@@ -127,9 +131,9 @@ pub fn type_of(plan: Plan) -> u64
 
 // The bytes of an element of A and B.
 pub fn narrow_bytes(plan: Plan) -> u64
-    requires { ⌜ planned plan ≡ true ⌝ }
+    requires { ⌜ planned mostElen plan ≡ true ⌝ }
     ensures { λ r. ⌜ r ≡ narrow plan ⌝ }
-    ensures { λ r. ⌜ r ≤ 4 ⌝ }
+    ensures { λ r. ⌜ r ≤ 8 ⌝ }
 {
     plan.sew / 8
 }
@@ -144,9 +148,9 @@ pub fn small_times(a: u64, b: u64) -> u64
 
 // The bytes of an element of C.
 pub fn wide_bytes(plan: Plan) -> u64
-    requires { ⌜ planned plan ≡ true ⌝ }
+    requires { ⌜ planned mostElen plan ≡ true ⌝ }
     ensures { λ r. ⌜ r ≡ wide plan ⌝ }
-    ensures { λ r. ⌜ r ≤ 16 ⌝ }
+    ensures { λ r. ⌜ r ≤ 8 ⌝ }
 {
     let bytes = narrow_bytes(plan);
     small_times(plan.factor, bytes)

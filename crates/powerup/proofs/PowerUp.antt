@@ -34,54 +34,54 @@ zeros (suc n) (suc q) = zeros n q
 pub unmarked-agree : (n : ℕ) (xs ys : List ℕ) → length xs ≡ length ys → Agree (replicate n 0) xs ys
 unmarked-agree n xs ys e = record { same-length = e; same-bytes = λ q h. let z : _≡_ {A = ℕ} 0 1 = sym (zeros n q) ∙ h in absurd (omega arith) }
 
-module _ (rlen mlen rule sealStart sealLength : ℕ) where
+module _ (rlen mlen elen rule sealStart sealLength : ℕ) where
   -- what a start leaves, by its test
   abbrev startOn : (registers marks : List ℕ) → Bool → StartOutcome
   startOn registers marks t = cond t
-      (record { answer = reply Done; machine = freshMachine rlen mlen rule sealStart sealLength; registers = registers; marks = replicate (length marks) 0 })
+      (record { answer = reply Done; machine = freshMachine rlen mlen elen rule sealStart sealLength; registers = registers; marks = replicate (length marks) 0 })
       (record { answer = reply BadArguments; machine = noMachine; registers = registers; marks = marks })
 
   -- an accepted one
   abbrev fresh : List ℕ → StartOutcome
-  fresh registers = record { answer = reply Done; machine = freshMachine rlen mlen rule sealStart sealLength; registers = registers; marks = replicate (registerBytes mlen) 0 }
+  fresh registers = record { answer = reply Done; machine = freshMachine rlen mlen elen rule sealStart sealLength; registers = registers; marks = replicate (registerBytes mlen) 0 }
 
-  accepted : (registers marks : List ℕ) → startMachine rlen mlen rule sealStart sealLength registers marks .answer .number ≡ 0
-      → (startMachine rlen mlen rule sealStart sealLength registers marks ≡ fresh registers) × (length registers ≡ registerBytes mlen)
+  accepted : (registers marks : List ℕ) → startMachine rlen mlen elen rule sealStart sealLength registers marks .answer .number ≡ 0
+      → (startMachine rlen mlen elen rule sealStart sealLength registers marks ≡ fresh registers) × (length registers ≡ registerBytes mlen)
   unfolding startMachine startable
-  accepted registers marks = go (startable rlen mlen rule sealStart sealLength registers marks) refl
+  accepted registers marks = go (startable rlen mlen elen rule sealStart sealLength registers marks) refl
     where
-      go : (t : Bool) → startable rlen mlen rule sealStart sealLength registers marks ≡ t → startOn registers marks t .answer .number ≡ 0
+      go : (t : Bool) → startable rlen mlen elen rule sealStart sealLength registers marks ≡ t → startOn registers marks t .answer .number ≡ 0
           → (startOn registers marks t ≡ fresh registers) × (length registers ≡ registerBytes mlen)
       go false e d = absurd (false-true (ap (λ (n : ℕ). eqb n 0) d))
       go true e d =
-          let c = every-each (permitted rlen mlen ∷ eqb (length registers) (registerBytes mlen) ∷ eqb (length marks) (registerBytes mlen) ∷ isRule rule ∷ sealEnds sealStart sealLength ∷ []) e in
+          let c = every-each (permitted rlen mlen elen ∷ eqb (length registers) (registerBytes mlen) ∷ eqb (length marks) (registerBytes mlen) ∷ isRule rule ∷ sealEnds sealStart sealLength ∷ []) e in
           let n : length marks ≡ registerBytes mlen = eqb-true (length marks) (registerBytes mlen) (c .1 .1 .0) in
           (rw n, eqb-true (length registers) (registerBytes mlen) (c .1 .0))
 
   -- the answer goes by the lengths of the registers and marks
   start-answer : (registers marks : List ℕ)
-      → startMachine rlen mlen rule sealStart sealLength registers marks .answer ≡ cond (startable rlen mlen rule sealStart sealLength registers marks) (reply Done) (reply BadArguments)
+      → startMachine rlen mlen elen rule sealStart sealLength registers marks .answer ≡ cond (startable rlen mlen elen rule sealStart sealLength registers marks) (reply Done) (reply BadArguments)
   unfolding startMachine
-  start-answer registers marks = go (startable rlen mlen rule sealStart sealLength registers marks)
+  start-answer registers marks = go (startable rlen mlen elen rule sealStart sealLength registers marks)
     where
       go : (t : Bool) → startOn registers marks t .answer ≡ cond t (reply Done) (reply BadArguments)
       go true = refl
       go false = refl
 
   pub startable-same : (registers registers′ marks marks′ : List ℕ) → length registers ≡ length registers′ → length marks ≡ length marks′
-      → startable rlen mlen rule sealStart sealLength registers marks ≡ startable rlen mlen rule sealStart sealLength registers′ marks′
+      → startable rlen mlen elen rule sealStart sealLength registers marks ≡ startable rlen mlen elen rule sealStart sealLength registers′ marks′
   unfolding startable
   startable-same registers registers′ marks marks′ er em = rw (er, em)
 
   start-same : (registers registers′ marks marks′ : List ℕ) → length registers ≡ length registers′ → length marks ≡ length marks′
-      → startMachine rlen mlen rule sealStart sealLength registers marks .answer ≡ startMachine rlen mlen rule sealStart sealLength registers′ marks′ .answer
+      → startMachine rlen mlen elen rule sealStart sealLength registers marks .answer ≡ startMachine rlen mlen elen rule sealStart sealLength registers′ marks′ .answer
   start-same registers registers′ marks marks′ er em =
       rw (start-answer registers marks, start-answer registers′ marks′, startable-same registers registers′ marks marks′ er em)
 
 pub starts-alike : StartsAlike
-starts-alike rlen mlen rule sealStart sealLength registers registers′ marks marks′ memory d d′ =
-    let h = accepted rlen mlen rule sealStart sealLength registers marks d in
-    let h′ = accepted rlen mlen rule sealStart sealLength registers′ marks′ d′ in
+starts-alike rlen mlen elen rule sealStart sealLength registers registers′ marks marks′ memory d d′ =
+    let h = accepted rlen mlen elen rule sealStart sealLength registers marks d in
+    let h′ = accepted rlen mlen elen rule sealStart sealLength registers′ marks′ d′ in
     rw (h .0, h′ .0) (record {
       alike = record {
         same-machine = refl;
@@ -183,10 +183,10 @@ readings-same grant (a ∷ acts) S S′ s =
     ap₂ (λ (r : Reading) (rs : List Reading). r ∷ rs) (reading-same (act grant a S) (act grant a S′) k) (readings-same grant acts (act grant a S .after) (act grant a S′ .after) (k .same-after))
 
 pub power-up-never-matters : PowerUpNeverMatters
-power-up-never-matters grant rlen mlen rule sealStart sealLength registers registers′ marks marks′ er em =
-    let e = start-same rlen mlen rule sealStart sealLength registers registers′ marks marks′ er em in (
+power-up-never-matters grant rlen mlen elen rule sealStart sealLength registers registers′ marks marks′ er em =
+    let e = start-same rlen mlen elen rule sealStart sealLength registers registers′ marks marks′ er em in (
       e,
       λ d acts memory scalars R.
-          readings-same grant acts (session (startedBench rlen mlen rule sealStart sealLength registers marks memory) scalars R) (session (startedBench rlen mlen rule sealStart sealLength registers′ marks′ memory) scalars R)
-          (record { same-scalars = refl; same-run = refl; alike-benches = starts-alike rlen mlen rule sealStart sealLength registers registers′ marks marks′ memory d (ap (λ (a : Reply). a .number) (sym e) ∙ d) }),
+          readings-same grant acts (session (startedBench rlen mlen elen rule sealStart sealLength registers marks memory) scalars R) (session (startedBench rlen mlen elen rule sealStart sealLength registers′ marks′ memory) scalars R)
+          (record { same-scalars = refl; same-run = refl; alike-benches = starts-alike rlen mlen elen rule sealStart sealLength registers registers′ marks marks′ memory d (ap (λ (a : Reply). a .number) (sym e) ∙ d) }),
     )

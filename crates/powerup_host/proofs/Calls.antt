@@ -97,11 +97,11 @@ agreeing machine marks scalars memory run step steps xs ys a = record {
 }
 
 -- what a start leaves, by its tests on the machine's block and on the rest
-abbrev startOn : (rlen mlen rule sealStart sealLength : ℕ) → Buffers → Bool → Bool → Called
-startOn rlen mlen rule sealStart sealLength b t u =
+abbrev startOn : (rlen mlen elen rule sealStart sealLength : ℕ) → Buffers → Bool → Bool → Called
+startOn rlen mlen elen rule sealStart sealLength b t u =
     afterStart b (cond t
     (shownStart (b .machine) (cond u
-    (record { answer = reply Done; machine = freshMachine rlen mlen rule sealStart sealLength; registers = b .registers; marks = replicate (length (b .marks)) 0 })
+    (record { answer = reply Done; machine = freshMachine rlen mlen elen rule sealStart sealLength; registers = b .registers; marks = replicate (length (b .marks)) 0 })
     (record { answer = reply BadArguments; machine = noMachine; registers = b .registers; marks = b .marks })))
     (startedOut (packed (reply BadArguments)) (b .machine) (b .registers) (b .marks)))
 
@@ -116,14 +116,14 @@ module _ (b : Buffers) (ys : List ℕ) (a : Agree (b .marks) (b .registers) ys) 
   benches : AlikeBenches (bench (b .registers)) (bench ys)
   benches = record { alike = record { same-machine = refl; same-marks = refl; agree = a }; same-memory = refl }
 
-  start-same : (rlen mlen rule sealStart sealLength : ℕ) → SameCalled (called (Call.start rlen mlen rule sealStart sealLength) b) (called (Call.start rlen mlen rule sealStart sealLength) (with b ys))
+  start-same : (rlen mlen elen rule sealStart sealLength : ℕ) → SameCalled (called (Call.start rlen mlen elen rule sealStart sealLength) b) (called (Call.start rlen mlen elen rule sealStart sealLength) (with b ys))
   unfolding hostStart startMachine
-  start-same rlen mlen rule sealStart sealLength =
-      subst (λ (u : Bool). SameCalled (called (Call.start rlen mlen rule sealStart sealLength) b) (startOn rlen mlen rule sealStart sealLength (with b ys) (eqb (length (b .machine)) machineBytes) u))
-      (startable-same rlen mlen rule sealStart sealLength (b .registers) ys (b .marks) (b .marks) (a .same-length) refl)
-      (go (eqb (length (b .machine)) machineBytes) (startable rlen mlen rule sealStart sealLength (b .registers) (b .marks)))
+  start-same rlen mlen elen rule sealStart sealLength =
+      subst (λ (u : Bool). SameCalled (called (Call.start rlen mlen elen rule sealStart sealLength) b) (startOn rlen mlen elen rule sealStart sealLength (with b ys) (eqb (length (b .machine)) machineBytes) u))
+      (startable-same rlen mlen elen rule sealStart sealLength (b .registers) ys (b .marks) (b .marks) (a .same-length) refl)
+      (go (eqb (length (b .machine)) machineBytes) (startable rlen mlen elen rule sealStart sealLength (b .registers) (b .marks)))
     where
-      go : (t u : Bool) → SameCalled (startOn rlen mlen rule sealStart sealLength b t u) (startOn rlen mlen rule sealStart sealLength (with b ys) t u)
+      go : (t u : Bool) → SameCalled (startOn rlen mlen elen rule sealStart sealLength b t u) (startOn rlen mlen elen rule sealStart sealLength (with b ys) t u)
       go true true = record { same-result = refl; alike-after = agreeing _ _ _ _ _ _ _ _ _ (unmarked-agree (length (b .marks)) (b .registers) ys (a .same-length)) }
       go true false = record { same-result = refl; alike-after = kept }
       go false u = record { same-result = refl; alike-after = kept }
@@ -304,7 +304,7 @@ module _ (b : Buffers) (ys : List ℕ) (a : Agree (b .marks) (b .registers) ys) 
       go false q = record { same-result = refl; alike-after = kept }
 
   each-same : (c : Call) → SameCalled (called c b) (called c (with b ys))
-  each-same (Call.start rlen mlen rule sealStart sealLength) = start-same rlen mlen rule sealStart sealLength
+  each-same (Call.start rlen mlen elen rule sealStart sealLength) = start-same rlen mlen elen rule sealStart sealLength
   each-same (Call.step word) = step-same word
   each-same (Call.runStart P) = run-start-same P
   each-same Call.runNext = record { same-result = refl; alike-after = agreeing _ _ _ _ _ _ _ _ _ a }
@@ -338,13 +338,13 @@ image-write-ignores-unmarked image b b′ t =
 abbrev Starts : Called → Called → Type 0
 Starts o o′ = (o .result ≡ o′ .result) × (o .result ≡ 0 → AlikeBuffers (o .after) (o′ .after))
 
-module _ (rlen mlen rule sealStart sealLength : ℕ) (b b′ : Buffers) (p : AtPowerUp b b′) where
-  starts : (t u : Bool) → eqb (length (b .machine)) machineBytes ≡ t → Starts (startOn rlen mlen rule sealStart sealLength b t u) (startOn rlen mlen rule sealStart sealLength b′ t u)
+module _ (rlen mlen elen rule sealStart sealLength : ℕ) (b b′ : Buffers) (p : AtPowerUp b b′) where
+  starts : (t u : Bool) → eqb (length (b .machine)) machineBytes ≡ t → Starts (startOn rlen mlen elen rule sealStart sealLength b t u) (startOn rlen mlen elen rule sealStart sealLength b′ t u)
   starts true true e =
       let n : length (b .machine) ≡ machineBytes = eqb-true (length (b .machine)) machineBytes e in (
         refl,
         λ d. record {
-          same-machine = putMachine-fills (freshMachine rlen mlen rule sealStart sealLength) (b .machine) (b′ .machine) n (sym (p .machine-length) ∙ n);
+          same-machine = putMachine-fills (freshMachine rlen mlen elen rule sealStart sealLength) (b .machine) (b′ .machine) n (sym (p .machine-length) ∙ n);
           same-marks = ap (λ (k : ℕ). replicate k 0) (p .marks-length);
           agree = unmarked-agree (length (b .marks)) (b .registers) (b′ .registers) (p .registers-length);
           same-scalars = p .same-scalars;
@@ -357,23 +357,23 @@ module _ (rlen mlen rule sealStart sealLength : ℕ) (b b′ : Buffers) (p : AtP
   starts true false e = (refl, λ d. let z : _≡_ {A = ℕ} 8 0 = d in absurd (omega arith))
   starts false u e = (refl, λ d. let z : _≡_ {A = ℕ} 8 0 = d in absurd (omega arith))
 
-  both : Starts (called (Call.start rlen mlen rule sealStart sealLength) b) (called (Call.start rlen mlen rule sealStart sealLength) b′)
+  both : Starts (called (Call.start rlen mlen elen rule sealStart sealLength) b) (called (Call.start rlen mlen elen rule sealStart sealLength) b′)
   unfolding hostStart startMachine
   both =
-      subst (λ (t : Bool). Starts (called (Call.start rlen mlen rule sealStart sealLength) b) (startOn rlen mlen rule sealStart sealLength b′ t (startable rlen mlen rule sealStart sealLength (b′ .registers) (b′ .marks))))
+      subst (λ (t : Bool). Starts (called (Call.start rlen mlen elen rule sealStart sealLength) b) (startOn rlen mlen elen rule sealStart sealLength b′ t (startable rlen mlen elen rule sealStart sealLength (b′ .registers) (b′ .marks))))
       (ap (λ (n : ℕ). eqb n machineBytes) (p .machine-length))
-      (subst (λ (u : Bool). Starts (called (Call.start rlen mlen rule sealStart sealLength) b) (startOn rlen mlen rule sealStart sealLength b′ (eqb (length (b .machine)) machineBytes) u))
-      (startable-same rlen mlen rule sealStart sealLength (b .registers) (b′ .registers) (b .marks) (b′ .marks) (p .registers-length) (p .marks-length))
-      (starts (eqb (length (b .machine)) machineBytes) (startable rlen mlen rule sealStart sealLength (b .registers) (b .marks)) refl))
+      (subst (λ (u : Bool). Starts (called (Call.start rlen mlen elen rule sealStart sealLength) b) (startOn rlen mlen elen rule sealStart sealLength b′ (eqb (length (b .machine)) machineBytes) u))
+      (startable-same rlen mlen elen rule sealStart sealLength (b .registers) (b′ .registers) (b .marks) (b′ .marks) (p .registers-length) (p .marks-length))
+      (starts (eqb (length (b .machine)) machineBytes) (startable rlen mlen elen rule sealStart sealLength (b .registers) (b .marks)) refl))
 
 pub power-up-never-matters-to-hosts : PowerUpNeverMattersToHosts
-power-up-never-matters-to-hosts rlen mlen rule sealStart sealLength b b′ p =
-    let s = both rlen mlen rule sealStart sealLength b b′ p in
+power-up-never-matters-to-hosts rlen mlen elen rule sealStart sealLength b b′ p =
+    let s = both rlen mlen elen rule sealStart sealLength b b′ p in
     record {
       same-result = s .0;
       alike-after = s .1;
       same-calls = λ d cs.
-          calls-ignore-unmarked cs (called (Call.start rlen mlen rule sealStart sealLength) b .after) (called (Call.start rlen mlen rule sealStart sealLength) b′ .after) (s .1 d);
+          calls-ignore-unmarked cs (called (Call.start rlen mlen elen rule sealStart sealLength) b .after) (called (Call.start rlen mlen elen rule sealStart sealLength) b′ .after) (s .1 d);
     }
 
 -- ---- from the reading of an image on

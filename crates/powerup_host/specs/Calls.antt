@@ -66,8 +66,8 @@ pub record SameFromStart (o o′ : Called) : Type 0 where
   pub same-calls : o .result ≡ 0 → (cs : List Call) → EachSameCalled (calls cs (o .after)) (calls cs (o′ .after))
 
 abbrev pub PowerUpNeverMattersToHosts : Type 0
-PowerUpNeverMattersToHosts = (rlen mlen rule sealStart sealLength : ℕ) (b b′ : Buffers) → AtPowerUp b b′
-    → SameFromStart (called (Call.start rlen mlen rule sealStart sealLength) b) (called (Call.start rlen mlen rule sealStart sealLength) b′)
+PowerUpNeverMattersToHosts = (rlen mlen elen rule sealStart sealLength : ℕ) (b b′ : Buffers) → AtPowerUp b b′
+    → SameFromStart (called (Call.start rlen mlen elen rule sealStart sealLength) b) (called (Call.start rlen mlen elen rule sealStart sealLength) b′)
 
 abbrev pub PowerUpNeverMattersToReaders : Type 0
 PowerUpNeverMattersToReaders = (image : List ℕ) (b b′ : Buffers) → AtPowerUp b b′

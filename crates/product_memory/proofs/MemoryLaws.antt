@@ -19,14 +19,14 @@ use Rattle.width.proofs.WordLaws.{le-putRow}
 use Rattle.machine.specs.declared.Machine.{Machine}
 use Rattle.machine.specs.declared.Reply.{Reply}
 use Rattle.machine.specs.Tests.{isIn, every}
-use Rattle.machine.specs.Geometry.{Parameters, Bench, elen}
+use Rattle.machine.specs.Geometry.{Parameters, Bench}
 use Rattle.machine.specs.Memory.{rowZ, rowAt, address}
 use Rattle.machine.specs.Faults.{soundBench}
 use Rattle.machine.specs.Operation.{element}
 use Rattle.machine.proofs.TestLaws.{every-each, each-every, each, each-in, or-not}
 use Rattle.machine.proofs.MemoryLaws.{rowZ-up}
-use Rattle.element.specs.Element.{Width}
-use Rattle.element.proofs.Laws.{width-small}
+use Rattle.element.specs.Element.{Short}
+use Rattle.element.proofs.Laws.{short-small}
 use Rattle.run.specs.Plan.{narrow, wide, aAt, bAt, cAt, total, productOf}
 use Rattle.run.specs.Start.{format, kindFits, planned}
 use Rattle.run.specs.Statement.{Lies, Inside, Separate, Answered}
@@ -38,26 +38,26 @@ use Rattle.product_memory.specs.Memory.{planFor, filled}
 abbrev right : ℕ → ℕ → List Bool
 right s f = isIn (s / 8) (1 ∷ 2 ∷ 4 ∷ []) ∷ isIn (f * (s / 8)) (1 ∷ 2 ∷ 4 ∷ []) ∷ []
 
-rights : each (8 ∷ 16 ∷ 32 ∷ []) (λ s. each (1 ∷ 2 ∷ 4 ∷ []) (λ f. not (leb (f * s) elen) || every (right s f))) ≡ true
+rights : each (8 ∷ 16 ∷ 32 ∷ 64 ∷ []) (λ s. each (1 ∷ 2 ∷ 4 ∷ []) (λ f. not (leb (f * s) 32) || every (right s f))) ≡ true
 rights = refl
 
 -- elements of A and B, and of C, have 1, 2 or 4 bytes
-pub widths : (sew f : ℕ) → format sew f ≡ true → Width (sew / 8) × Width (f * (sew / 8))
+pub widths : (sew f : ℕ) → format 32 sew f ≡ true → Short (sew / 8) × Short (f * (sew / 8))
 unfolding format
 widths s f h =
-    let t = every-each (isIn s (8 ∷ 16 ∷ 32 ∷ []) ∷ isIn f (1 ∷ 2 ∷ 4 ∷ []) ∷ leb (f * s) elen ∷ []) h in
-    let r = every-each (right s f) (or-not (not (leb (f * s) elen)) (every (right s f))
-    (each-in f (1 ∷ 2 ∷ 4 ∷ []) (λ f. not (leb (f * s) elen) || every (right s f))
-    (each-in s (8 ∷ 16 ∷ 32 ∷ []) (λ s. each (1 ∷ 2 ∷ 4 ∷ []) (λ f. not (leb (f * s) elen) || every (right s f))) rights (t .0)) (t .1 .0))
+    let t = every-each (isIn s (8 ∷ 16 ∷ 32 ∷ 64 ∷ []) ∷ isIn f (1 ∷ 2 ∷ 4 ∷ []) ∷ leb (f * s) 32 ∷ []) h in
+    let r = every-each (right s f) (or-not (not (leb (f * s) 32)) (every (right s f))
+    (each-in f (1 ∷ 2 ∷ 4 ∷ []) (λ f. not (leb (f * s) 32) || every (right s f))
+    (each-in s (8 ∷ 16 ∷ 32 ∷ 64 ∷ []) (λ s. each (1 ∷ 2 ∷ 4 ∷ []) (λ f. not (leb (f * s) 32) || every (right s f))) rights (t .0)) (t .1 .0))
     (ap not (t .1 .1 .0))) in
     (one-of (s / 8) 1 2 4 (r .0), one-of (f * (s / 8)) 1 2 4 (r .1 .0))
 
 -- a row of at most 16 elements has at most 64 bytes
-pub row-small : (n w : ℕ) → n ≤ 16 → Width w → n * w ≤ 64
-row-small n w h g = let l : w ≤ 4 = width-small w g in omega (arith, mul-le-mul-left n l)
+pub row-small : (n w : ℕ) → n ≤ 16 → Short w → n * w ≤ 64
+row-small n w h g = let l : w ≤ 4 = short-small w g in omega (arith, mul-le-mul-left n l)
 
 -- and a matrix of at most 16 such rows at most 1024
-pub matrix-small : (rows cols w : ℕ) → rows ≤ 16 → cols ≤ 16 → Width w → rows * cols * w ≤ 1024
+pub matrix-small : (rows cols w : ℕ) → rows ≤ 16 → cols ≤ 16 → Short w → rows * cols * w ≤ 1024
 matrix-small rows cols w h g x = let l = row-small cols w g x in omega (arith, mul-le-mul-left rows l)
 
 -- ---- rows one after another, each of s bytes
@@ -102,7 +102,7 @@ row-keeps p cols w value xs q v h = le-cong (putRow p cols w value xs) xs q q v 
 
 -- ---- the plan of a format and sizes up to 16
 
-module _ (sew f m k n : ℕ) (formatted : format sew f ≡ true) (m≤ : m ≤ 16) (k≤ : k ≤ 16) (n≤ : n ≤ 16) where
+module _ (sew f m k n : ℕ) (formatted : format 32 sew f ≡ true) (m≤ : m ≤ 16) (k≤ : k ≤ 16) (n≤ : n ≤ 16) where
   a-row : k * (sew / 8) ≤ 64
   a-row = row-small k (sew / 8) k≤ (widths sew f formatted .0)
 
@@ -112,9 +112,9 @@ module _ (sew f m k n : ℕ) (formatted : format sew f ≡ true) (m≤ : m ≤ 1
   c-row : n * (f * (sew / 8)) ≤ 64
   c-row = row-small n (f * (sew / 8)) n≤ (widths sew f formatted .1)
 
-  numbers : planned (planFor sew f m k n) ≡ true
+  numbers : planned 32 (planFor sew f m k n) ≡ true
   unfolding kindFits planned
-  numbers = each-every (format sew f ∷ leb m 1024 ∷ leb k 1024 ∷ leb n 1024 ∷ leb 0 1 ∷ [])
+  numbers = each-every (format 32 sew f ∷ leb m 1024 ∷ leb k 1024 ∷ leb n 1024 ∷ leb 0 1 ∷ [])
       (formatted, (le-leb m 1024 (omega arith), (le-leb k 1024 (omega arith), (le-leb n 1024 (omega arith), (refl, tt)))))
 
   insides : (mem : List ℕ) → length mem ≡ 3072 → Inside (planFor sew f m k n) mem
@@ -135,10 +135,10 @@ module _ (sew f m k n : ℕ) (formatted : format sew f ≡ true) (m≤ : m ≤ 1
   }
 
   -- a start is accepted
-  pub accepted-here : (B : Bench) → soundBench B ≡ true → B .machine .«seal_length» ≡ 0 → length (B .memory) ≡ 3072
+  pub accepted-here : (B : Bench) → soundBench B ≡ true → B .machine .elen ≡ 32 → B .machine .«seal_length» ≡ 0 → length (B .memory) ≡ 3072
       → (a : Reply) → Answered (planFor sew f m k n) B a → a .number ≡ 0
-  accepted-here B s none len a h =
-      h .gives-0 (numbers-are (planFor sew f m k n) B s numbers) (insides (B .memory) len) (separates (B .machine) none)
+  accepted-here B s known none len a h =
+      h .gives-0 (numbers-are (planFor sew f m k n) B s (ap (λ (e : ℕ). planned e (planFor sew f m k n)) known ∙ numbers)) (insides (B .memory) len) (separates (B .machine) none)
 
   -- the elements of C lie row after row
   pub c-place : (mem : List ℕ) (i j : ℕ)

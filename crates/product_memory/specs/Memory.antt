@@ -23,7 +23,7 @@ planFor sew f m k n = record {
 
 -- its run on a memory; "The machine is MLEN 256, RLEN 64.", with no seal
 abbrev pub jobFor : (sew f m k n : ℕ) → List ℕ → Job
-jobFor sew f m k n mem = record { machine = parametersOf smaller 64 256 0 0; plan = planFor sew f m k n; memory = mem }
+jobFor sew f m k n mem = record { machine = parametersOf smaller 64 256 32 0 0; plan = planFor sew f m k n; memory = mem }
 
 -- A, m by k, and then B, k by n, written to their places by rows, in elements of w bytes
 abbrev pub filled : (w m k n : ℕ) → (a b : ℕ → ℕ) → List ℕ → List ℕ

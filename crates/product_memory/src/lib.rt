@@ -6,14 +6,14 @@ ghost use mathlib.Core.Bool.{true};
 ghost use Prim.Native.Nat.{ℕ, _+_, _*_, _≤_, _<_};
 ghost use lib.ListN.{length, getD};
 ghost use Rattle.width.specs.Tile.{le, putLe, putRow};
-ghost use Rattle.element.specs.Element.{Width};
+ghost use Rattle.element.specs.Element.{Short};
 ghost use Rattle.run.specs.Start.{format};
 ghost use Rattle.product_memory.specs.Memory.{planFor};
 
 // The plan for the numbers that were read.
 pub fn plan_for(sew: u64, factor: u64, m: u64, k: u64, n: u64) -> Plan
     requires { ⌜ (m ≤ 16) × ((k ≤ 16) × (n ≤ 16)) ⌝ }
-    requires { ⌜ format sew factor ≡ true ⌝ }
+    requires { ⌜ format 32 sew factor ≡ true ⌝ }
     ensures { λ r. ⌜ r ≡ planFor sew factor m k n ⌝ }
 {
     let width = sew / 8;
@@ -42,7 +42,7 @@ pub fn plan_for(sew: u64, factor: u64, m: u64, k: u64, n: u64) -> Plan
 
 // Stores the low bytes of a value at `at`.
 fn put_element(memory: &mut [u8], at: usize, width: usize, value: u64)
-    requires { ⌜ Width width ⌝ }
+    requires { ⌜ Short width ⌝ }
     requires { ⌜ at + width ≤ length (now memory) ⌝ }
     ensures { λ _. ⌜ now (memory .exit) ≡ putLe at width value (now (memory .entry)) ⌝ }
 {
@@ -59,7 +59,7 @@ fn put_element(memory: &mut [u8], at: usize, width: usize, value: u64)
 
 // Stores the low bytes of each value, one after another from `at` on.
 pub fn put_elements(memory: &mut [u8], at: usize, width: usize, values: &[u64])
-    requires { ⌜ Width width ⌝ }
+    requires { ⌜ Short width ⌝ }
     requires { ⌜ at + length (now values) * width ≤ length (now memory) ⌝ }
     ensures { λ _. ⌜ now (memory .exit) ≡ putRow at (length (now (values .entry))) width (λ i. getD (now (values .entry)) i 0) (now (memory .entry)) ⌝ }
 {
@@ -74,7 +74,7 @@ pub fn put_elements(memory: &mut [u8], at: usize, width: usize, values: &[u64])
 
 // The element at `at`.
 fn read_element(memory: &[u8], at: usize, width: usize) -> u64
-    requires { ⌜ Width width ⌝ }
+    requires { ⌜ Short width ⌝ }
     requires { ⌜ at + width ≤ length (now memory) ⌝ }
     ensures { λ r. ⌜ r ≡ le (now (memory .entry)) at width ⌝ }
 {
@@ -89,7 +89,7 @@ fn read_element(memory: &[u8], at: usize, width: usize) -> u64
 
 // Fills the values with the elements one after another from `at` on.
 pub fn read_elements(values: &mut [u64], memory: &[u8], at: usize, width: usize)
-    requires { ⌜ Width width ⌝ }
+    requires { ⌜ Short width ⌝ }
     requires { ⌜ at + length (now values) * width ≤ length (now memory) ⌝ }
     ensures { λ _. ⌜ length (now (values .exit)) ≡ length (now (values .entry)) ⌝ }
     ensures { λ _. ⌜ ((j : ℕ) → j < length (now (values .entry)) → getD (now (values .exit)) j 0 ≡ le (now (memory .entry)) (at + j * width) width) ⌝ }

@@ -95,26 +95,26 @@ seal-holds-over-acts grant (a ∷ acts) S =
 
 -- ---- from a start
 
-module _ (grant : ℕ → ℕ → ℕ → ℕ) (rlen mlen rule sealStart sealLength : ℕ) (registers marks memory : List ℕ) where
+module _ (grant : ℕ → ℕ → ℕ → ℕ) (rlen mlen elen rule sealStart sealLength : ℕ) (registers marks memory : List ℕ) where
   abbrev B₀ : Bench
-  B₀ = startedBench rlen mlen rule sealStart sealLength registers marks memory
+  B₀ = startedBench rlen mlen elen rule sealStart sealLength registers marks memory
 
-  fresh : startMachine rlen mlen rule sealStart sealLength registers marks .answer .number ≡ 0
-      → startMachine rlen mlen rule sealStart sealLength registers marks .machine ≡ freshMachine rlen mlen rule sealStart sealLength
+  fresh : startMachine rlen mlen elen rule sealStart sealLength registers marks .answer .number ≡ 0
+      → startMachine rlen mlen elen rule sealStart sealLength registers marks .machine ≡ freshMachine rlen mlen elen rule sealStart sealLength
   unfolding startMachine
-  fresh = go (startable rlen mlen rule sealStart sealLength registers marks)
+  fresh = go (startable rlen mlen elen rule sealStart sealLength registers marks)
     where
       out : Bool → StartOutcome
-      out t = cond t (record { answer = reply Done; machine = freshMachine rlen mlen rule sealStart sealLength; registers = registers; marks = replicate (length marks) 0 })
+      out t = cond t (record { answer = reply Done; machine = freshMachine rlen mlen elen rule sealStart sealLength; registers = registers; marks = replicate (length marks) 0 })
           (record { answer = reply BadArguments; machine = noMachine; registers = registers; marks = marks })
 
-      go : (t : Bool) → out t .answer .number ≡ 0 → out t .machine ≡ freshMachine rlen mlen rule sealStart sealLength
+      go : (t : Bool) → out t .answer .number ≡ 0 → out t .machine ≡ freshMachine rlen mlen elen rule sealStart sealLength
       go true e = refl
       go false e = absurd (omega arith)
 
-  pub kept-from : (B : Bench) (mem : List ℕ) → startMachine rlen mlen rule sealStart sealLength registers marks .answer .number ≡ 0 → Unharmed grant (lent B₀ mem) B → SealKept sealStart sealLength mem B
+  pub kept-from : (B : Bench) (mem : List ℕ) → startMachine rlen mlen elen rule sealStart sealLength registers marks .answer .number ≡ 0 → Unharmed grant (lent B₀ mem) B → SealKept sealStart sealLength mem B
   kept-from B mem e u =
-      let p : parameters grant (B .machine) ≡ parameters grant (freshMachine rlen mlen rule sealStart sealLength) = u .same-parameters ∙ ap (parameters grant) (fresh e) in
+      let p : parameters grant (B .machine) ≡ parameters grant (freshMachine rlen mlen elen rule sealStart sealLength) = u .same-parameters ∙ ap (parameters grant) (fresh e) in
       record {
         same-start = ap (λ (M : Parameters). M .sealAt) p;
         same-length = ap (λ (M : Parameters). M .sealLen) p;
@@ -122,6 +122,6 @@ module _ (grant : ℕ → ℕ → ℕ → ℕ) (rlen mlen rule sealStart sealLen
       }
 
 pub seal-holds-over-acts-from-start : SealHoldsOverActsFromStart
-seal-holds-over-acts-from-start grant rlen mlen rule sealStart sealLength registers marks memory scalars R e acts =
-    let S : Session = session (startedBench rlen mlen rule sealStart sealLength registers marks memory) scalars R in
-    kept-from grant rlen mlen rule sealStart sealLength registers marks memory (afterActs grant acts S .bench) (lentLast acts memory) e (seal-holds-over-acts grant acts S)
+seal-holds-over-acts-from-start grant rlen mlen elen rule sealStart sealLength registers marks memory scalars R e acts =
+    let S : Session = session (startedBench rlen mlen elen rule sealStart sealLength registers marks memory) scalars R in
+    kept-from grant rlen mlen elen rule sealStart sealLength registers marks memory (afterActs grant acts S .bench) (lentLast acts memory) e (seal-holds-over-acts grant acts S)

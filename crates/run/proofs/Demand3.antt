@@ -53,7 +53,9 @@ use Rattle.run.proofs.HandedLaws.{askWith, turnWith}
 use Rattle.run.proofs.RefusalLaws.{number-done, started-idle}
 use Rattle.run.specs.Encoding.{own, handedFor}
 use Rattle.run.proofs.WordLaws as WordLaws
-use Rattle.run.proofs.WordLaws.{Reads}
+use Rattle.run.proofs.WordLaws.{Reads, widest-format}
+use Rattle.machine.proofs.StepLaws.{permitted-elen}
+use Rattle.width.specs.Bounds.{mostElen}
 use Rattle.run.proofs.FormLaws.{element-in}
 use Rattle.run.proofs.Invariant.{operationOf, Accepted, At}
 use Rattle.run.proofs.Turns
@@ -110,11 +112,11 @@ held B = stateOf (B .machine) (B .registers) (B .marks)
 record Ready (grant : ℕ → ℕ → ℕ → ℕ) (P : Plan) (B : Bench) : Type 0 where
   grants : EachGrants grant
   sane : soundBench B ≡ true
-  lengths : permitted (B .machine .rlen) (B .machine .mlen) ≡ true
+  lengths : permitted (B .machine .rlen) (B .machine .mlen) (B .machine .elen) ≡ true
   rule-is : isRule (B .machine .rule) ≡ true
-  plan : planned P ≡ true
+  plan : planned (B .machine .elen) P ≡ true
   accepts : Accepted (jobOf grant P B)
-  formatted : format (P .sew) (P .factor) ≡ true
+  formatted : format mostElen (P .sew) (P .factor) ≡ true
   m≤ : P .m ≤ 1024
   k≤ : P .k ≤ 1024
   n≤ : P .n ≤ 1024
@@ -129,7 +131,7 @@ module _ (grant : ℕ → ℕ → ℕ → ℕ) (P : Plan) (B₀ : Bench) where
 
   -- the run at a place
   abbrev at : Place → Bench → Running
-  at p B = record { run = record { plan = P; rlen = B₀ .machine .rlen; mlen = B₀ .machine .mlen; rule = B₀ .machine .rule; place = p }; bench = B }
+  at p B = record { run = record { plan = P; rlen = B₀ .machine .rlen; mlen = B₀ .machine .mlen; rule = B₀ .machine .rule; elen = B₀ .machine .elen; place = p }; bench = B }
 
   -- the invariant
   record Holds (p : Place) (B : Bench) : Type 0 where
@@ -275,7 +277,7 @@ module _ (grant : ℕ → ℕ → ℕ → ℕ) (P : Plan) (B₀ : Bench) (R : Re
   both : (t : ℕ) → (after t ≡ at grant P B₀ (placeAfter (S grant P B₀) t) (after t .bench)) × Holds grant P B₀ (placeAfter (S grant P B₀) t) (after t .bench)
   both zero =
       let s = sound-is (B₀ .machine) (B₀ .registers) (B₀ .marks) (R .sane) in
-      let n = permitted-lengths (B₀ .machine .rlen) (B₀ .machine .mlen) (s .lengths) in (
+      let n = permitted-lengths (B₀ .machine .rlen) (B₀ .machine .mlen) (B₀ .machine .elen) (s .lengths) in (
         refl,
         record {
           here = (record { regs-length = s .state .regs-length ∙ sym (n .2); marks-length = s .state .marks-length ∙ sym (n .2) }, record { same-length = refl; outside = λ q o. refl });
@@ -422,7 +424,7 @@ module _ (grant : ℕ → ℕ → ℕ → ℕ) (G : EachGrants grant) (P : Plan)
   ready : Passed (startChecks grant P B) → Ready grant P B
   unfolding planned
   ready c =
-      let t = every-each (format (P .sew) (P .factor) ∷ leb (P .m) 1024 ∷ leb (P .k) 1024 ∷ leb (P .n) 1024 ∷ kindFits P ∷ []) (c .1 .0) in
+      let t = every-each (format (B .machine .elen) (P .sew) (P .factor) ∷ leb (P .m) 1024 ∷ leb (P .k) 1024 ∷ leb (P .n) 1024 ∷ kindFits P ∷ []) (c .1 .0) in
       record {
         grants = G;
         sane = c .0;
@@ -430,7 +432,7 @@ module _ (grant : ℕ → ℕ → ℕ → ℕ) (G : EachGrants grant) (P : Plan)
         rule-is = sound-is (B .machine) (B .registers) (B .marks) (c .0) .rule-is;
         plan = c .1 .0;
         accepts = accepted grant G P B bytes (sound-is (B .machine) (B .registers) (B .marks) (c .0) .lengths) (t .0) (t .1 .1 .1 .1 .0) (c .1 .1 .0) (c .1 .1 .1 .0);
-        formatted = t .0;
+        formatted = widest-format (B .machine .elen) (P .sew) (P .factor) (permitted-elen (B .machine .rlen) (B .machine .mlen) (B .machine .elen) (sound-is (B .machine) (B .registers) (B .marks) (c .0) .lengths) .0) (t .0);
         m≤ = leb-true (P .m) 1024 (t .1 .0);
         k≤ = leb-true (P .k) 1024 (t .1 .1 .0);
         n≤ = leb-true (P .n) 1024 (t .1 .1 .1 .0);
@@ -451,7 +453,7 @@ module _ (grant : ℕ → ℕ → ℕ → ℕ) (G : EachGrants grant) (P : Plan)
     gives-0 = λ n i s. ap number (no-refusal (startChecks grant P B) (n .no-fault, (numbers-planned P B n, (is-inside P (B .memory) i, (is-separate grant (B .machine) P s, tt)))));
     only-then = λ e. let c = is-passed e in
         (numbers-are P B (c .0) (c .1 .0), inside-is P (B .memory) (c .1 .1 .0), separate-is grant (B .machine) P (c .1 .1 .1 .0));
-    gives-8 = λ d. eight d (soundBench B) refl (planned P) refl;
+    gives-8 = λ d. eight d (soundBench B) refl (planned (B .machine .elen) P) refl;
     gives-6 = λ n d. six n d (lying P (B .memory)) refl;
     gives-9 = λ n i d. nine n i d (separate (parameters grant (B .machine)) P) refl;
   }
@@ -459,19 +461,19 @@ module _ (grant : ℕ → ℕ → ℕ → ℕ) (G : EachGrants grant) (P : Plan)
       rest-of : Bool → Bool → Bool → Bool → ℕ
       rest-of s p l d = number (verdict ((s otherwise BadArguments) ∷ (p otherwise BadArguments) ∷ (l otherwise OutsideMemory) ∷ (d otherwise Overlap) ∷ []))
 
-      eight : ¬ Numbers P B → (s : Bool) → soundBench B ≡ s → (p : Bool) → planned P ≡ p
+      eight : ¬ Numbers P B → (s : Bool) → soundBench B ≡ s → (p : Bool) → planned (B .machine .elen) P ≡ p
           → rest-of s p (lying P (B .memory)) (separate (parameters grant (B .machine)) P) ≡ 8
       eight d true es true ep = absurd (d (numbers-are P B es ep))
       eight d true es false ep = refl
       eight d false es p ep = refl
 
       six : Numbers P B → ¬ Inside P (B .memory) → (l : Bool) → lying P (B .memory) ≡ l
-          → rest-of (soundBench B) (planned P) l (separate (parameters grant (B .machine)) P) ≡ 6
+          → rest-of (soundBench B) (planned (B .machine .elen) P) l (separate (parameters grant (B .machine)) P) ≡ 6
       six n d true e = absurd (d (inside-is P (B .memory) e))
       six n d false e = rw (n .no-fault, numbers-planned P B n)
 
       nine : Numbers P B → Inside P (B .memory) → ¬ Separate (B .machine) P → (d : Bool) → separate (parameters grant (B .machine)) P ≡ d
-          → rest-of (soundBench B) (planned P) (lying P (B .memory)) d ≡ 9
+          → rest-of (soundBench B) (planned (B .machine .elen) P) (lying P (B .memory)) d ≡ 9
       nine n i d true e = absurd (d (separate-is grant (B .machine) P e))
       nine n i d false e = rw (n .no-fault, numbers-planned P B n, is-inside P (B .memory) i)
 

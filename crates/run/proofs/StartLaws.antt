@@ -14,7 +14,7 @@ use Rattle.width.specs.Blocks.{EachGrants}
 use Rattle.width.proofs.BlockLaws.{le-or-lt}
 use Rattle.machine.specs.Tests.{all, every, within, isIn}
 use Rattle.machine.proofs.TestLaws.{all-true, all-at, every-each, each-every, within-not, not-within, or-right, false-true}
-use Rattle.machine.specs.Geometry.{elen, Parameters, parameters, permitted}
+use Rattle.machine.specs.Geometry.{Parameters, parameters, permitted}
 use Rattle.machine.specs.Setting.{sew, mill, newType}
 use Rattle.machine.specs.Memory.{inMemory, rowZ, inside, distinct, unsealed}
 use Rattle.machine.proofs.StoreLaws.{distinct-at, at-distinct}
@@ -28,6 +28,7 @@ use Rattle.run.specs.Plan.{integers, floats, elementsOf, narrow, wide, m
 use Rattle.run.specs.Start.{format, kindFits, planned, lying, apart, separate}
 use Rattle.run.proofs.NumberLaws.{Suits}
 use Rattle.run.proofs.WordLaws.{formats}
+use Rattle.machine.proofs.StepLaws.{permitted-elen}
 use Rattle.run.proofs.Invariant.{Accepted}
 use Rattle.run.specs.Statement.{Numbers, Lies, Inside, Separate, jobOf, Bytes}
 
@@ -152,12 +153,23 @@ of-one x a b c (inl e) = rw (eq-eqb x a e)
 of-one x a b c (inr (inl e)) = or-right (eqb x a) (eqb x b || (eqb x c || false)) (rw (eq-eqb x b e))
 of-one x a b c (inr (inr e)) = or-right (eqb x a) (eqb x b || (eqb x c || false)) (or-right (eqb x b) (eqb x c || false) (rw (eq-eqb x c e)))
 
-module _ (P : Plan) where
-  abbrev formats-of : List Bool
-  formats-of = isIn (P .sew) (8 ∷ 16 ∷ 32 ∷ []) ∷ isIn (P .factor) (1 ∷ 2 ∷ 4 ∷ []) ∷ leb (P .factor * P .sew) elen ∷ []
+one-of-four : (x a b c d : ℕ) → isIn x (a ∷ b ∷ c ∷ d ∷ []) ≡ true → (x ≡ a) ⊎ ((x ≡ b) ⊎ ((x ≡ c) ⊎ (x ≡ d)))
+one-of-four x a b c d h = go (eqb x a) refl h
+  where
+    go : (t : Bool) → eqb x a ≡ t → t || isIn x (b ∷ c ∷ d ∷ []) ≡ true → (x ≡ a) ⊎ ((x ≡ b) ⊎ ((x ≡ c) ⊎ (x ≡ d)))
+    go true e h = inl (eqb-true x a e)
+    go false e h = inr (one-of x b c d h)
 
-  abbrev sizes-of : List Bool
-  sizes-of = format (P .sew) (P .factor) ∷ leb (P .m) 1024 ∷ leb (P .k) 1024 ∷ leb (P .n) 1024 ∷ kindFits P ∷ []
+of-four : (x a b c d : ℕ) → (x ≡ a) ⊎ ((x ≡ b) ⊎ ((x ≡ c) ⊎ (x ≡ d))) → isIn x (a ∷ b ∷ c ∷ d ∷ []) ≡ true
+of-four x a b c d (inl e) = rw (eq-eqb x a e)
+of-four x a b c d (inr h) = or-right (eqb x a) (isIn x (b ∷ c ∷ d ∷ [])) (of-one x b c d h)
+
+module _ (P : Plan) where
+  abbrev formats-of : (elen : ℕ) → List Bool
+  formats-of elen = isIn (P .sew) (8 ∷ 16 ∷ 32 ∷ 64 ∷ []) ∷ isIn (P .factor) (1 ∷ 2 ∷ 4 ∷ []) ∷ leb (P .factor * P .sew) elen ∷ []
+
+  abbrev sizes-of : (elen : ℕ) → List Bool
+  sizes-of elen = format elen (P .sew) (P .factor) ∷ leb (P .m) 1024 ∷ leb (P .k) 1024 ∷ leb (P .n) 1024 ∷ kindFits P ∷ []
 
   -- the kind, by the two ways that its test goes
   kind-is : kindFits P ≡ true → (P .kind ≤ 2) × (P .kind ≡ 2 → (P .sew ≡ 32) × (P .factor ≡ 1))
@@ -190,16 +202,16 @@ module _ (P : Plan) where
       go true e = let c = kind-is h .1 (eqb-true (P .kind) 2 e) in (c .1, ap (λ (s : ℕ). s / 8) (c .0))
       go false e = tt
 
-  pub numbers-are : (B : Bench) → soundBench B ≡ true → planned P ≡ true → Numbers P B
+  pub numbers-are : (B : Bench) → soundBench B ≡ true → planned (B .machine .elen) P ≡ true → Numbers P B
   unfolding planned format
   numbers-are B s h =
-      let t = every-each sizes-of h in
-      let f = every-each formats-of (t .0) in
+      let t = every-each (sizes-of (B .machine .elen)) h in
+      let f = every-each (formats-of (B .machine .elen)) (t .0) in
       record {
         no-fault = s;
-        sew-is = one-of (P .sew) 8 16 32 (f .0);
+        sew-is = one-of-four (P .sew) 8 16 32 64 (f .0);
         factor-is = one-of (P .factor) 1 2 4 (f .1 .0);
-        width-fits = leb-true (P .factor * P .sew) elen (f .1 .1 .0);
+        width-fits = leb-true (P .factor * P .sew) (B .machine .elen) (f .1 .1 .0);
         m-fits = leb-true (P .m) 1024 (t .1 .0);
         k-fits = leb-true (P .k) 1024 (t .1 .1 .0);
         n-fits = leb-true (P .n) 1024 (t .1 .1 .1 .0);
@@ -207,21 +219,21 @@ module _ (P : Plan) where
         float-fits = kind-is (t .1 .1 .1 .1 .0) .1;
       }
 
-  pub numbers-planned : (B : Bench) → Numbers P B → planned P ≡ true
+  pub numbers-planned : (B : Bench) → Numbers P B → planned (B .machine .elen) P ≡ true
   unfolding planned format
-  numbers-planned B n = each-every sizes-of (
-    each-every formats-of (of-one (P .sew) 8 16 32 (n .sew-is), (of-one (P .factor) 1 2 4 (n .factor-is), (le-leb (P .factor * P .sew) elen (n .width-fits), tt))),
+  numbers-planned B n = each-every (sizes-of (B .machine .elen)) (
+    each-every (formats-of (B .machine .elen)) (of-four (P .sew) 8 16 32 64 (n .sew-is), (of-one (P .factor) 1 2 4 (n .factor-is), (le-leb (P .factor * P .sew) (B .machine .elen) (n .width-fits), tt))),
     (le-leb (P .m) 1024 (n .m-fits), (le-leb (P .k) 1024 (n .k-fits), (le-leb (P .n) 1024 (n .n-fits), (is-kind (n .kind-fits) (n .float-fits), tt)))),
   )
 
 -- ---- what the turns need
 
-pub accepted : (grant : ℕ → ℕ → ℕ → ℕ) → EachGrants grant → (P : Plan) (B : Bench) → Bytes (B .memory) → permitted (B .machine .rlen) (B .machine .mlen) ≡ true
-    → format (P .sew) (P .factor) ≡ true → kindFits P ≡ true → lying P (B .memory) ≡ true → separate (parameters grant (B .machine)) P ≡ true → Accepted (jobOf grant P B)
+pub accepted : (grant : ℕ → ℕ → ℕ → ℕ) → EachGrants grant → (P : Plan) (B : Bench) → Bytes (B .memory) → permitted (B .machine .rlen) (B .machine .mlen) (B .machine .elen) ≡ true
+    → format (B .machine .elen) (P .sew) (P .factor) ≡ true → kindFits P ≡ true → lying P (B .memory) ≡ true → separate (parameters grant (B .machine)) P ≡ true → Accepted (jobOf grant P B)
 unfolding narrow msew typeOf lying separate
 accepted grant G P B bytes lengths formatted kind l d =
-    let n = permitted-lengths (B .machine .rlen) (B .machine .mlen) lengths in
-    let f = formats (P .sew) (P .factor) formatted .0 in
+    let n = permitted-lengths (B .machine .rlen) (B .machine .mlen) (B .machine .elen) lengths in
+    let f = formats (B .machine .elen) (P .sew) (P .factor) (permitted-elen (B .machine .rlen) (B .machine .mlen) (B .machine .elen) lengths .0) formatted .0 in
     let t = every-each (insides P (B .memory)) l in
     let s = separate-is grant (B .machine) P d in
     record {
@@ -230,7 +242,7 @@ accepted grant G P B bytes lengths formatted kind l d =
       0<rows = n .0;
       row-holds = omega (arith, leb-true (P .sew / 8) 8 (f .1 .1 .1 .1 .1 .1 .0), n .1);
       factor≤4 = leb-true (P .factor) 4 (f .1 .1 .1 .1 .1 .0);
-      legal = eqb-true (newType elen (typeOf P)) (typeOf P) (f .0);
+      legal = eqb-true (newType (B .machine .elen) (typeOf P)) (typeOf P) (f .0);
       no-mill = not-true (mill (typeOf P)) (f .1 .0);
       sew-is = eqb-true (sew (typeOf P)) (narrow P) (f .1 .1 .0);
       width = f .1 .1 .1 .0;

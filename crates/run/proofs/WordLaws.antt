@@ -9,7 +9,7 @@ use lib.Dec.{T, leb, ltb, eqb}
 use lib.IntN.{ℤ, pos, _+ℤ_, _*ℤ_}
 use Rattle.width.specs.Reduce.{signed, reduce}
 use Rattle.width.proofs.ReduceLaws.{reduce-add, reduce-mul, reduce-signed}
-use borrow.Author.Tests.{eqb-true, ltb-true}
+use borrow.Author.Tests.{eqb-true, ltb-true, leb-true, le-leb}
 use Rattle.machine.specs.declared.Form.{Form}
 use Rattle.machine.specs.declared.Form.the-variants.{Plain, Transposed}
 use Rattle.machine.specs.declared.Matrix.the-variants.{MatrixA, MatrixB, MatrixC}
@@ -19,8 +19,9 @@ use Rattle.machine.specs.declared.Factor.the-variants.{Single, Double, Quadrupl
 use Rattle.machine.specs.declared.Instruction.{Instruction}
 use Rattle.machine.specs.declared.Instruction.the-variants.{SetTypeImmediate, SetTileImmediate, Load, Store, Multiply, ScaleImmediate, FloatMultiply}
 use Rattle.machine.specs.Tests.{every, isIn}
-use Rattle.machine.proofs.TestLaws.{Each, every-each, each, each-in, or-not}
-use Rattle.machine.specs.Geometry.{Parameters, State, elen}
+use Rattle.machine.proofs.TestLaws.{Each, every-each, each-every, each, each-in, or-not}
+use Rattle.machine.specs.Geometry.{Parameters, State, elens}
+use Rattle.width.specs.Bounds.{mostElen}
 use Rattle.machine.specs.Operation.{times}
 use Rattle.machine.specs.Setting.{sew, mill, newType, legalType}
 use Rattle.machine.specs.Refusals.{widthOk, widthOf}
@@ -63,30 +64,34 @@ decode-n imm h = let t = setting-fields 6 imm (omega arith) h in rw (t .0, t .1,
 
 -- ---- loads and stores
 
-pub decode-a : (f : Form) (e : ℕ) → e < 3 → decode (memoryWord (loadCode f) e 0) ≡ Load f MatrixA (2 ^ e) 0 10 11
+pub decode-a : (f : Form) (e : ℕ) → e < 4 → decode (memoryWord (loadCode f) e 0) ≡ Load f MatrixA (2 ^ e) 0 10 11
 unfolding decode listing
 decode-a Plain zero h = refl
 decode-a Plain (suc zero) h = refl
 decode-a Plain (suc (suc zero)) h = refl
-decode-a Plain (suc (suc (suc e))) h = absurd (omega arith)
+decode-a Plain (suc (suc (suc zero))) h = refl
+decode-a Plain (suc (suc (suc (suc e)))) h = absurd (omega arith)
 decode-a Transposed zero h = refl
 decode-a Transposed (suc zero) h = refl
 decode-a Transposed (suc (suc zero)) h = refl
-decode-a Transposed (suc (suc (suc e))) h = absurd (omega arith)
+decode-a Transposed (suc (suc (suc zero))) h = refl
+decode-a Transposed (suc (suc (suc (suc e)))) h = absurd (omega arith)
 
-pub decode-b : (e : ℕ) → e < 3 → decode (memoryWord 4 e 1) ≡ Load Plain MatrixB (2 ^ e) 1 10 11
+pub decode-b : (e : ℕ) → e < 4 → decode (memoryWord 4 e 1) ≡ Load Plain MatrixB (2 ^ e) 1 10 11
 unfolding decode listing
 decode-b zero h = refl
 decode-b (suc zero) h = refl
 decode-b (suc (suc zero)) h = refl
-decode-b (suc (suc (suc e))) h = absurd (omega arith)
+decode-b (suc (suc (suc zero))) h = refl
+decode-b (suc (suc (suc (suc e)))) h = absurd (omega arith)
 
-pub decode-c : (e : ℕ) → e < 3 → decode (memoryWord 1 e 0) ≡ Store Plain MatrixC (2 ^ e) 0 10 11
+pub decode-c : (e : ℕ) → e < 4 → decode (memoryWord 1 e 0) ≡ Store Plain MatrixC (2 ^ e) 0 10 11
 unfolding decode listing
 decode-c zero h = refl
 decode-c (suc zero) h = refl
 decode-c (suc (suc zero)) h = refl
-decode-c (suc (suc (suc e))) h = absurd (omega arith)
+decode-c (suc (suc (suc zero))) h = refl
+decode-c (suc (suc (suc (suc e)))) h = absurd (omega arith)
 
 -- ---- multiply and clear
 
@@ -126,13 +131,13 @@ factored f = each-of f factors Factored (
 -- ---- what holds of each format, computed
 
 abbrev msewFor : ℕ → ℕ
-msewFor s = cond (eqb s 32) 2 (cond (eqb s 16) 1 0)
+msewFor s = cond (eqb s 64) 3 (cond (eqb s 32) 2 (cond (eqb s 16) 1 0))
 
 abbrev typeFor : ℕ → ℕ → ℕ
 typeFor s f = msewFor s + cond (eqb f 4) 8 0
 
-abbrev right : ℕ → ℕ → List Bool
-right s f =
+abbrev right : (elen s f : ℕ) → List Bool
+right elen s f =
     eqb (newType elen (typeFor s f)) (typeFor s f)
     ∷ not (mill (typeFor s f))
     ∷ eqb (sew (typeFor s f)) (s / 8)
@@ -142,26 +147,40 @@ right s f =
     ∷ leb (s / 8) 8
     ∷ widthOf elen (typeFor s f) MatrixC (f * (s / 8))
     ∷ ltb 0 (s / 8)
-    ∷ ltb (msewFor s) 3
+    ∷ ltb (msewFor s) 4
     ∷ eqb (2 ^ msewFor s) (s / 8)
-    ∷ ltb (msewFor s + log f) 3
+    ∷ ltb (msewFor s + log f) 4
     ∷ eqb (2 ^ (msewFor s + log f)) (f * (s / 8))
     ∷ ltb (typeFor s f) 8192 ∷ []
 
-rights : each (8 ∷ 16 ∷ 32 ∷ []) (λ s. each factors (λ f. not (leb (f * s) elen) || every (right s f))) ≡ true
+abbrev sews : List ℕ
+sews = 8 ∷ 16 ∷ 32 ∷ 64 ∷ []
+
+abbrev good : (elen s f : ℕ) → Bool
+good elen s f = not (leb (f * s) elen) || every (right elen s f)
+
+rights : each elens (λ e. each sews (λ s. each factors (good e s))) ≡ true
 unfolding newType legalType sew widthOk widthOf
 rights = refl
 
-pub formats : (s f : ℕ) → format s f ≡ true → Each (right s f) × Factored f
+pub formats : (elen s f : ℕ) → isIn elen elens ≡ true → format elen s f ≡ true → Each (right elen s f) × Factored f
 unfolding format
-formats s f h =
-    let t = every-each (isIn s (8 ∷ 16 ∷ 32 ∷ []) ∷ isIn f factors ∷ leb (f * s) elen ∷ []) h in (
-      every-each (right s f) (or-not (not (leb (f * s) elen)) (every (right s f))
-          (each-in f factors (λ f. not (leb (f * s) elen) || every (right s f))
-          (each-in s (8 ∷ 16 ∷ 32 ∷ []) (λ s. each factors (λ f. not (leb (f * s) elen) || every (right s f))) rights (t .0)) (t .1 .0))
+formats elen s f known h =
+    let t = every-each (isIn s sews ∷ isIn f factors ∷ leb (f * s) elen ∷ []) h in (
+      every-each (right elen s f) (or-not (not (leb (f * s) elen)) (every (right elen s f))
+          (each-in f factors (good elen s)
+          (each-in s sews (λ s. each factors (good elen s)) (each-in elen elens (λ e. each sews (λ s. each factors (good e s))) rights known) (t .0)) (t .1 .0))
           (rw (t .1 .1 .0))),
       factored f (t .1 .0),
     )
+
+-- what is planned on a machine is planned on those of the largest ELEN
+pub widest-format : (elen s f : ℕ) → isIn elen elens ≡ true → format elen s f ≡ true → format mostElen s f ≡ true
+unfolding format
+widest-format elen s f known h =
+    let t = every-each (isIn s sews ∷ isIn f factors ∷ leb (f * s) elen ∷ []) h in
+    let most = leb-true elen mostElen (each-in elen elens (λ e. leb e mostElen) refl known) in
+    each-every (isIn s sews ∷ isIn f factors ∷ leb (f * s) mostElen ∷ []) (t .0, (t .1 .0, (le-leb (f * s) mostElen (omega (arith, leb-true (f * s) elen (t .1 .1 .0))), tt)))
 
 -- ---- addresses
 
@@ -188,24 +207,24 @@ pub record Reads (M : Parameters) (st : State) (h : Handed) (o : Operation) : Ty
   pub decodes : decode (h .word) ≡ instruction
   pub means : operation M st (own h) instruction ≡ o
 
-module _ (M : Parameters) (P : Plan) (ok : format (P .sew) (P .factor) ≡ true) (st : State) where
-  facts : Each (right (P .sew) (P .factor))
-  facts = formats (P .sew) (P .factor) ok .0
+module _ (M : Parameters) (P : Plan) (ok : format mostElen (P .sew) (P .factor) ≡ true) (st : State) where
+  facts : Each (right mostElen (P .sew) (P .factor))
+  facts = formats mostElen (P .sew) (P .factor) refl ok .0
 
   of-factor : Factored (P .factor)
-  of-factor = formats (P .sew) (P .factor) ok .1
+  of-factor = formats mostElen (P .sew) (P .factor) refl ok .1
 
-  pub msew<3 : msew P < 3
+  pub msew<4 : msew P < 4
   unfolding msew
-  msew<3 = ltb-true (msewFor (P .sew)) 3 (facts .1 .1 .1 .1 .1 .1 .1 .1 .1 .0)
+  msew<4 = ltb-true (msewFor (P .sew)) 4 (facts .1 .1 .1 .1 .1 .1 .1 .1 .1 .0)
 
   pub narrow-is : 2 ^ msew P ≡ narrow P
   unfolding msew narrow
   narrow-is = eqb-true (2 ^ msewFor (P .sew)) (P .sew / 8) (facts .1 .1 .1 .1 .1 .1 .1 .1 .1 .1 .0)
 
-  pub wide<3 : msew P + log (P .factor) < 3
+  pub wide<4 : msew P + log (P .factor) < 4
   unfolding msew
-  wide<3 = ltb-true (msewFor (P .sew) + log (P .factor)) 3 (facts .1 .1 .1 .1 .1 .1 .1 .1 .1 .1 .1 .0)
+  wide<4 = ltb-true (msewFor (P .sew) + log (P .factor)) 4 (facts .1 .1 .1 .1 .1 .1 .1 .1 .1 .1 .1 .0)
 
   pub wide-is : 2 ^ (msew P + log (P .factor)) ≡ wide P
   unfolding msew narrow
@@ -249,20 +268,20 @@ module _ (M : Parameters) (P : Plan) (ok : format (P .sew) (P .factor) ≡ true)
       → Reads M st (handedFor P (Op.loadA i s)) (operationOf P (Op.loadA i s))
   reads-a i s e small = record {
     instruction = Load (formOf P) MatrixA (2 ^ msew P) 0 10 11;
-    decodes = decode-a (formOf P) (msew P) msew<3;
+    decodes = decode-a (formOf P) (msew P) msew<4;
     means = ap₂ (λ (w p : ℕ). Operation.load (formOf P) MatrixA 0 w p (P .a .stride)) narrow-is (start-is (P .a) (aRow P i s) (aColumn P i s * narrow P) (aAt P (aRow P i s)) e small);
   }
 
   pub reads-b : (s j : ℕ) → rowZ (P .b .address) (P .b .stride) s ≡ pos (bAt P s) → bAt P s + j * narrow P < 2 ^ 64 → Reads M st (handedFor P (Op.loadB s j)) (operationOf P (Op.loadB s j))
   reads-b s j e small = record {
     instruction = Load Plain MatrixB (2 ^ msew P) 1 10 11;
-    decodes = decode-b (msew P) msew<3;
+    decodes = decode-b (msew P) msew<4;
     means = ap₂ (λ (w p : ℕ). Operation.load Plain MatrixB 1 w p (P .b .stride)) narrow-is (start-is (P .b) s (j * narrow P) (bAt P s) e small);
   }
 
   pub reads-store : (i j : ℕ) → rowZ (P .c .address) (P .c .stride) i ≡ pos (cAt P i) → cAt P i + j * wide P < 2 ^ 64 → Reads M st (handedFor P (Op.store i j)) (operationOf P (Op.store i j))
   reads-store i j e small = record {
     instruction = Store Plain MatrixC (2 ^ (msew P + log (P .factor))) 0 10 11;
-    decodes = decode-c (msew P + log (P .factor)) wide<3;
+    decodes = decode-c (msew P + log (P .factor)) wide<4;
     means = ap₂ (λ (w p : ℕ). Operation.store Plain MatrixC 0 w p (P .c .stride)) wide-is (start-is (P .c) i (j * wide P) (cAt P i) e small);
   }

@@ -33,7 +33,7 @@ use Rattle.run.specs.Turn.{soundRun, ask, Running, afterTurns, answeredD
 -- a sound machine with a seal, or one at fault for its mtype or its rule
 pub ruled : (rule mtype sealStart sealLength : ℕ) → Bench
 ruled r t s l = record {
-  machine = record { rlen = 64; mlen = 128; mtype = t; «tile_m» = 0; «tile_k» = 0; «tile_n» = 0; «seal_start» = s; «seal_length» = l; rule = r };
+  machine = record { rlen = 64; mlen = 128; mtype = t; «tile_m» = 0; «tile_k» = 0; «tile_n» = 0; «seal_start» = s; «seal_length» = l; rule = r; elen = 32 };
   registers = replicate 256 0;
   marks = replicate 256 0;
   memory = replicate 64 1;
@@ -125,7 +125,7 @@ starts = refl
 -- 4 x 4 x 12 at SEW 8, in blocks of 2 rows and 2 terms, and of 8 and 4 columns, or by halving of 6 and 6
 pub asks : (rule : ℕ) → Place → ℕ → Line
 asks r p want = record {
-  got = ask chosen (record { plan = plan 8 1 4 4 12 (layout 0 4) (layout 0 12) (layout 0 12); rlen = 64; mlen = 128; rule = r; place = p }) .answer .number;
+  got = ask chosen (record { plan = plan 8 1 4 4 12 (layout 0 4) (layout 0 12) (layout 0 12); rlen = 64; mlen = 128; rule = r; elen = 32; place = p }) .answer .number;
   want = want;
 }
 

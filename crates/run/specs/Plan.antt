@@ -27,7 +27,7 @@ wide P = P .factor * narrow P
 
 -- msew, and the run's mtype: "maccq is set only for f = 4"
 unfoldable pub msew : Plan → ℕ
-msew P = cond (eqb (P .sew) 32) 2 (cond (eqb (P .sew) 16) 1 0)
+msew P = cond (eqb (P .sew) 64) 3 (cond (eqb (P .sew) 32) 2 (cond (eqb (P .sew) 16) 1 0))
 
 unfoldable pub typeOf : Plan → ℕ
 typeOf P = msew P + cond (eqb (P .factor) 4) 8 0

@@ -9,7 +9,7 @@ use Rattle.machine.specs.declared.Answer.the-variants.{BadArguments, OutsideMem
 use Rattle.machine.specs.Tests.{all, every, isIn, within}
 use Rattle.machine.specs.declared.Reply.{Reply}
 use Rattle.machine.specs.Answers.{reply, Check, _otherwise_, verdict, isDone}
-use Rattle.machine.specs.Geometry.{Parameters, parameters, elen}
+use Rattle.machine.specs.Geometry.{Parameters, parameters}
 use Rattle.machine.specs.Memory.{inside, distinct, unsealed}
 use Rattle.machine.specs.Geometry.{Bench}
 use Rattle.machine.specs.Faults.{sound}
@@ -19,16 +19,17 @@ use Rattle.run.specs.declared.RunStarted.{RunStarted}
 use Rattle.run.specs.declared.Place.the-variants.{AtType, AtEnd}
 use Rattle.run.specs.Plan.{narrow, wide, aAt, bAt, cAt, aRows, aColumns}
 
--- "Answer 8 for .. SEW not 8, 16 or 32, f not 1, 2 or 4, f x SEW above ELEN, or a size above 1,024"
-unfoldable pub format : ℕ → ℕ → Bool
-format sew f = every (isIn sew (8 ∷ 16 ∷ 32 ∷ []) ∷ isIn f (1 ∷ 2 ∷ 4 ∷ []) ∷ leb (f * sew) elen ∷ [])
+-- "Answer 8 for .. SEW not 8, 16 or 32, f not 1, 2 or 4, f x SEW above ELEN, or a size above 1,024"; 02, Ten: "The product run takes
+-- SEW 64 there", where ELEN is 64
+unfoldable pub format : (elen sew f : ℕ) → Bool
+format elen sew f = every (isIn sew (8 ∷ 16 ∷ 32 ∷ 64 ∷ []) ∷ isIn f (1 ∷ 2 ∷ 4 ∷ []) ∷ leb (f * sew) elen ∷ [])
 
 -- and for a kind that is not 0, 1 or 2; of kind 2, 02, Four: "a SEW other than 32 gets 3; in the run it, or another f, gets 8"
 unfoldable pub kindFits : Plan → Bool
 kindFits P = cond (eqb (P .kind) 2) (every (eqb (P .sew) 32 ∷ eqb (P .factor) 1 ∷ [])) (leb (P .kind) 1)
 
-unfoldable pub planned : Plan → Bool
-planned P = every (format (P .sew) (P .factor) ∷ leb (P .m) 1024 ∷ leb (P .k) 1024 ∷ leb (P .n) 1024 ∷ kindFits P ∷ [])
+unfoldable pub planned : (elen : ℕ) → Plan → Bool
+planned elen P = every (format elen (P .sew) (P .factor) ∷ leb (P .m) 1024 ∷ leb (P .k) 1024 ∷ leb (P .n) 1024 ∷ kindFits P ∷ [])
 
 -- "then 6 for an element outside memory": every byte of every row of A, B and C lies in memory
 unfoldable pub lying : Plan → List ℕ → Bool
@@ -52,17 +53,17 @@ separate M P = every (
 abbrev pub startChecks : (ℕ → ℕ → ℕ → ℕ) → Plan → Bench → List Check
 startChecks grant P B =
     (sound (B .machine) (B .registers) (B .marks) otherwise BadArguments)
-    ∷ (planned P otherwise BadArguments)
+    ∷ (planned (B .machine .elen) P otherwise BadArguments)
     ∷ (lying P (B .memory) otherwise OutsideMemory)
     ∷ (separate (parameters grant (B .machine)) P otherwise Overlap) ∷ []
 
 -- a run at its first word
 abbrev pub freshRun : Machine → Plan → Run
-freshRun m P = record { plan = P; rlen = m .rlen; mlen = m .mlen; rule = m .rule; place = AtType }
+freshRun m P = record { plan = P; rlen = m .rlen; mlen = m .mlen; rule = m .rule; elen = m .elen; place = AtType }
 
 -- a run that hands out nothing: what a refused start returns
 abbrev pub noRun : Plan → Run
-noRun P = record { plan = P; rlen = 0; mlen = 0; rule = 0; place = AtEnd }
+noRun P = record { plan = P; rlen = 0; mlen = 0; rule = 0; elen = 0; place = AtEnd }
 
 pub record RunStart : Type 0 where
   pub answer : Reply

@@ -11,7 +11,7 @@ use Rattle.width.specs.Tile.{In}
 use Rattle.width.specs.Blocks.{EachGrants}
 use Rattle.machine.specs.declared.Machine.{Machine}
 use Rattle.machine.specs.declared.Reply.{Reply}
-use Rattle.machine.specs.Geometry.{elen, parameters, Bench}
+use Rattle.machine.specs.Geometry.{parameters, Bench}
 use Rattle.machine.specs.Setting.{smaller, halving, chosen}
 use Rattle.machine.specs.Memory.{rowZ}
 use Rattle.machine.specs.Operation.{element}
@@ -27,13 +27,13 @@ use Rattle.run.specs.Turn.{stepsIn, Ask, ask, Running, Turn, turn, after
 
 -- ---- when a start is accepted
 
--- 8: the state is not at fault (machine/specs/Faults.antt), SEW is 8, 16 or 32, f is 1, 2 or 4, f x SEW is at most ELEN, no size is
+-- 8: the state is not at fault (machine/specs/Faults.antt), SEW is 8, 16, 32 or 64, f is 1, 2 or 4, f x SEW is at most ELEN, no size is
 -- above 1,024, and the kind is 0, 1 or 2, with SEW 32 and f = 1 where it is 2
 pub record Numbers (P : Plan) (B : Bench) : Type 0 where
   pub no-fault : soundBench B ≡ true
-  pub sew-is : (P .sew ≡ 8) ⊎ ((P .sew ≡ 16) ⊎ (P .sew ≡ 32))
+  pub sew-is : (P .sew ≡ 8) ⊎ ((P .sew ≡ 16) ⊎ ((P .sew ≡ 32) ⊎ (P .sew ≡ 64)))
   pub factor-is : (P .factor ≡ 1) ⊎ ((P .factor ≡ 2) ⊎ (P .factor ≡ 4))
-  pub width-fits : P .factor * P .sew ≤ elen
+  pub width-fits : P .factor * P .sew ≤ B .machine .elen
   pub m-fits : P .m ≤ 1024
   pub k-fits : P .k ≤ 1024
   pub n-fits : P .n ≤ 1024

@@ -55,7 +55,7 @@ pub record SealKept (sealStart sealLength : ℕ) (memory : List ℕ) (B : Bench)
 
 -- and from a started machine, with any scalars and whatever run was there before: the range that it was started with
 abbrev pub SealHoldsOverActsFromStart : Type 0
-SealHoldsOverActsFromStart = (grant : ℕ → ℕ → ℕ → ℕ) (rlen mlen rule sealStart sealLength : ℕ) (registers marks memory scalars : List ℕ) (R : Run)
-    → startMachine rlen mlen rule sealStart sealLength registers marks .answer .number ≡ 0 → (acts : List Act)
+SealHoldsOverActsFromStart = (grant : ℕ → ℕ → ℕ → ℕ) (rlen mlen elen rule sealStart sealLength : ℕ) (registers marks memory scalars : List ℕ) (R : Run)
+    → startMachine rlen mlen elen rule sealStart sealLength registers marks .answer .number ≡ 0 → (acts : List Act)
     → SealKept sealStart sealLength (lentLast acts memory)
-    (afterActs grant acts (session (startedBench rlen mlen rule sealStart sealLength registers marks memory) scalars R) .bench)
+    (afterActs grant acts (session (startedBench rlen mlen elen rule sealStart sealLength registers marks memory) scalars R) .bench)

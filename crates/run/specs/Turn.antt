@@ -30,7 +30,7 @@ use Rattle.run.specs.Start.{planned}
 
 -- the blocks that a run goes by: those of the machine that it was started on, by its rule
 abbrev pub runParameters : (ℕ → ℕ → ℕ → ℕ) → Run → Parameters
-runParameters grant R = parametersOf (grant (R .rule)) (R .rlen) (R .mlen) 0 0
+runParameters grant R = parametersOf (grant (R .rule)) (R .rlen) (R .mlen) (R .elen) 0 0
 
 abbrev pub runShape : (ℕ → ℕ → ℕ → ℕ) → Run → Shape
 runShape grant R = record {
@@ -70,9 +70,9 @@ begins S AtEnd = true
 -- numbers that a run can hold, at a place that a start and its turns can have made; one that holds others hands out nothing
 unfoldable pub soundRun : (ℕ → ℕ → ℕ → ℕ) → Run → Bool
 soundRun grant R = every (
-    permitted (R .rlen) (R .mlen)
+    permitted (R .rlen) (R .mlen) (R .elen)
     ∷ isRule (R .rule)
-    ∷ planned (R .plan)
+    ∷ planned (R .elen) (R .plan)
     ∷ begins (runShape grant R) (R .place) ∷ [])
 
 -- the next word: none past the last, and none of a run that no start and turns can have made
@@ -85,7 +85,7 @@ stepsIn grant R = cond (soundRun grant R) (steps (runShape grant R)) 0
 
 -- the run once a step is handed out
 abbrev pub moved : (ℕ → ℕ → ℕ → ℕ) → Run → Run
-moved grant R = record { plan = R .plan; rlen = R .rlen; mlen = R .mlen; rule = R .rule; place = next (runShape grant R) (R .place) }
+moved grant R = record { plan = R .plan; rlen = R .rlen; mlen = R .mlen; rule = R .rule; elen = R .elen; place = next (runShape grant R) (R .place) }
 
 -- what asking gives: 0, a step and the run at the next place; or, past the last, 8 and the run as it was
 pub record Ask : Type 0 where

@@ -46,19 +46,19 @@ module _ (b : List ℕ) where
   unfolding planOf
   plan-is ex ey ez e₀ e₁ e₂ e₃ e₄ e₅ = cc
 
-  pub run-is : {P : Plan} {s : Spot} {p : Place} {rlen mlen rule : ℕ} → P ≡ planOf b → s ≡ spotIn b → p ≡ placeOf s → rlen ≡ le b 88 8 → mlen ≡ le b 96 8 → rule ≡ le b 144 8
-      → record { plan = P; rlen = rlen; mlen = mlen; rule = rule; place = p } ≡ runOf b
+  pub run-is : {P : Plan} {s : Spot} {p : Place} {rlen mlen rule elen : ℕ} → P ≡ planOf b → s ≡ spotIn b → p ≡ placeOf s → rlen ≡ le b 88 8 → mlen ≡ le b 96 8 → rule ≡ le b 144 8 → elen ≡ le b 152 8
+      → record { plan = P; rlen = rlen; mlen = mlen; rule = rule; elen = elen; place = p } ≡ runOf b
   unfolding runOf
-  run-is eP es ep e₀ e₁ e₂ = cc
+  run-is eP es ep e₀ e₁ e₂ e₃ = cc
 
   -- the parts of a run, written one after the other
-  pub put-run-is : (R : Run) (s : Spot) {b₁ b₂ b₃ b₄ b₅ b₆ : List ℕ} → s ≡ spotOf (R .place) → b₁ ≡ putNumbers (planNumbers (R .plan)) b
+  pub put-run-is : (R : Run) (s : Spot) {b₁ b₂ b₃ b₄ b₅ b₆ b₇ : List ℕ} → s ≡ spotOf (R .place) → b₁ ≡ putNumbers (planNumbers (R .plan)) b
       → b₂ ≡ putLe 88 8 (R .rlen) b₁ → b₃ ≡ putLe 96 8 (R .mlen) b₂ → b₄ ≡ putLe 128 8 (s .term) (putLe 120 8 (s .column) (putLe 112 8 (s .row) (putLe 104 8 (s .kind) b₃)))
-      → b₅ ≡ putLe 136 8 (R .plan .kind) b₄ → b₆ ≡ putLe 144 8 (R .rule) b₅ → b₆ ≡ putRun R b
+      → b₅ ≡ putLe 136 8 (R .plan .kind) b₄ → b₆ ≡ putLe 144 8 (R .rule) b₅ → b₇ ≡ putLe 152 8 (R .elen) b₆ → b₇ ≡ putRun R b
   unfolding putRun putNumbers putRow
-  put-run-is R s es e₁ e₂ e₃ e₄ e₅ e₆ =
+  put-run-is R s es e₁ e₂ e₃ e₄ e₅ e₆ e₇ =
       let spotted : List ℕ → Spot → List ℕ = λ z t. putLe 128 8 (t .term) (putLe 120 8 (t .column) (putLe 112 8 (t .row) (putLe 104 8 (t .kind) z))) in
-      write-next 144 (R .rule) e₆ (write-next 136 (R .plan .kind) e₅ (e₄ ∙ ap₂ spotted (write-next 96 (R .mlen) e₃ (write-next 88 (R .rlen) e₂ e₁)) es))
+      write-next 152 (R .elen) e₇ (write-next 144 (R .rule) e₆ (write-next 136 (R .plan .kind) e₅ (e₄ ∙ ap₂ spotted (write-next 96 (R .mlen) e₃ (write-next 88 (R .rlen) e₂ e₁)) es)))
 
 -- ---- a run's block
 
@@ -78,9 +78,9 @@ fit-length block h =
 
 pub length-putRun : (R : Run) (b : List ℕ) → length (putRun R b) ≡ length b
 unfolding putRun putNumbers
-length-putRun R b = length-putRow 0 19 8 _ b
+length-putRun R b = length-putRow 0 20 8 _ b
 
-numbers-of-run : (b : List ℕ) → runNumbers (planOf b) (le b 88 8) (le b 96 8) (le b 144 8) (spotIn b) ≡ firstValues 19 b
+numbers-of-run : (b : List ℕ) → runNumbers (planOf b) (le b 88 8) (le b 96 8) (le b 152 8) (le b 144 8) (spotIn b) ≡ firstValues 20 b
 unfolding planOf
 numbers-of-run b = refl
 
@@ -90,8 +90,8 @@ unfolding putRun putNumbers runOf runFit
 putRun-same b small h =
     let e : spotOf (placeOf (spotIn b)) ≡ spotIn b =
     sym (same-spots (spotIn b) (spotOf (placeOf (spotIn b))) (and-right (eqb (length b) runBytes) (every (sameSpot (spotIn b) (spotOf (placeOf (spotIn b))))) h)) in
-    ap (λ (s : Spot). putRow 0 19 8 (λ j. getD (runNumbers (planOf b) (le b 88 8) (le b 96 8) (le b 144 8) s) j 0) b) e
-    ∙ ap (λ (vs : List ℕ). putRow 0 19 8 (λ j. getD vs j 0) b) (numbers-of-run b) ∙ put-same 19 b small
+    ap (λ (s : Spot). putRow 0 20 8 (λ j. getD (runNumbers (planOf b) (le b 88 8) (le b 96 8) (le b 152 8) (le b 144 8) s) j 0) b) e
+    ∙ ap (λ (vs : List ℕ). putRow 0 20 8 (λ j. getD vs j 0) b) (numbers-of-run b) ∙ put-same 20 b small
 
 place-back : (p : Place) → placeOf (spotOf p) ≡ p
 unfolding placeOf
@@ -107,16 +107,16 @@ place-back (AtStore i j) = refl
 place-back AtEnd = refl
 
 abbrev pub numbersOfRun : Run → List ℕ
-numbersOfRun R = runNumbers (R .plan) (R .rlen) (R .mlen) (R .rule) (spotOf (R .place))
+numbersOfRun R = runNumbers (R .plan) (R .rlen) (R .mlen) (R .elen) (R .rule) (spotOf (R .place))
 
 -- numbers of 64 bits
 abbrev pub RunWords : Run → Type 0
 RunWords R = (j : ℕ) → getD (numbersOfRun R) j 0 < 2 ^ 64
 
 module _ (R : Run) (b : List ℕ) (w : RunWords R) (h : length b ≡ runBytes) where
-  number-at : (j : ℕ) → j < 19 → le (putRun R b) (0 + j * 8) 8 ≡ getD (numbersOfRun R) j 0
+  number-at : (j : ℕ) → j < 20 → le (putRun R b) (0 + j * 8) 8 ≡ getD (numbersOfRun R) j 0
   unfolding putRun putNumbers
-  number-at j l = le-putRow 0 19 8 (λ j. getD (numbersOfRun R) j 0) b (omega arith) j l ∙ mod-eq-of-lt (w j)
+  number-at j l = le-putRow 0 20 8 (λ j. getD (numbersOfRun R) j 0) b (omega arith) j l ∙ mod-eq-of-lt (w j)
 
   spot-back : spotIn (putRun R b) ≡ spotOf (R .place)
   spot-back = rw (number-at 13 (omega arith), number-at 14 (omega arith), number-at 15 (omega arith), number-at 16 (omega arith))
@@ -143,6 +143,7 @@ module _ (R : Run) (b : List ℕ) (w : RunWords R) (h : length b ≡ runBytes) w
         number-at 12 (omega arith),
         number-at 17 (omega arith),
         number-at 18 (omega arith),
+        number-at 19 (omega arith),
       )
 
   -- and its block is one that a run can lie in

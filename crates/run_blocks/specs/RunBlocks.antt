@@ -17,10 +17,10 @@ use Rattle.run_blocks.specs.declared.Spot.{Spot}
 
 -- ---- a run's block
 
--- nineteen numbers of 64 bits, low byte first: the plan's eleven without its kind, the machine's lengths, the place's kind, row, column
--- and term, the plan's kind, and the rule
+-- twenty numbers of 64 bits, low byte first: the plan's eleven without its kind, the machine's lengths, the place's kind, row, column
+-- and term, the plan's kind, the rule, and ELEN
 abbrev pub runBytes : ℕ
-runBytes = 152
+runBytes = 160
 
 -- a place's kind, and its row, column and term, 0 where it has none
 abbrev pub spot : (kind row column term : ℕ) → Spot
@@ -72,6 +72,7 @@ runOf block = record {
   rlen = le block 88 8;
   mlen = le block 96 8;
   rule = le block 144 8;
+  elen = le block 152 8;
   place = placeOf (spotIn block);
 }
 
@@ -85,12 +86,12 @@ abbrev pub spotNumbers : Spot → List ℕ
 spotNumbers s = s .kind ∷ s .row ∷ s .column ∷ s .term ∷ []
 
 -- the numbers of a run in their order
-abbrev pub runNumbers : Plan → (rlen mlen rule : ℕ) → Spot → List ℕ
-runNumbers P rlen mlen rule s = planNumbers P ++ (rlen ∷ mlen ∷ (spotNumbers s ++ (P .kind ∷ rule ∷ [])))
+abbrev pub runNumbers : Plan → (rlen mlen elen rule : ℕ) → Spot → List ℕ
+runNumbers P rlen mlen elen rule s = planNumbers P ++ (rlen ∷ mlen ∷ (spotNumbers s ++ (P .kind ∷ rule ∷ elen ∷ [])))
 
 -- the numbers of a run written over a block, each where runOf reads it
 unfoldable pub putRun : Run → List ℕ → List ℕ
-putRun R block = putNumbers (runNumbers (R .plan) (R .rlen) (R .mlen) (R .rule) (spotOf (R .place))) block
+putRun R block = putNumbers (runNumbers (R .plan) (R .rlen) (R .mlen) (R .elen) (R .rule) (spotOf (R .place))) block
 
 -- the four numbers are the same
 abbrev pub sameSpot : Spot → Spot → List Bool

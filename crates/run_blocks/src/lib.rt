@@ -16,7 +16,7 @@ ghost use Rattle.blocks.specs.Blocks.{putNumbers};
 ghost use Rattle.run_blocks.specs.RunBlocks.{spot, spotOf, placeOf, layoutOf, planOf, runBytes, spotIn, runOf, sameSpot, runFit, planNumbers, putRun, stepBytes, putHanded};
 
 // The bytes of a run's block.
-pub const RUN_BYTES: usize = 152;
+pub const RUN_BYTES: usize = 160;
 
 // ---- a run out of its block
 
@@ -161,6 +161,7 @@ pub fn run_of(block: &[u8]) -> Run
         rlen: read8(block, 88),
         mlen: read8(block, 96),
         rule: read8(block, 144),
+        elen: read8(block, 152),
         place: place,
     }
 }
@@ -253,6 +254,7 @@ pub fn put_run(block: &mut [u8], run: Run)
     put_spot(block, spot);
     write8(block, 136, plan.kind);
     write8(block, 144, run.rule);
+    write8(block, 152, run.elen);
 }
 
 // A step into its block.

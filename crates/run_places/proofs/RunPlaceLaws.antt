@@ -7,10 +7,11 @@ use native.Mathlib.Nat.{le-div-iff-mul-le, div-le-self}
 use native.Mathlib.Omega.{arith}
 use lib.Dec.{leb, ltb}
 use borrow.Author.Tests.{eqb-true, ltb-true, leb-true}
+use Rattle.width.specs.Bounds.{mostElen, mostMlen}
 use Rattle.machine.specs.Tests.{every}
 use Rattle.machine.proofs.TestLaws.{Each, every-each, each-every}
 use Rattle.machine.specs.Geometry.{permitted}
-use Rattle.machine.proofs.StepLaws.{permitted-lengths, permitted-bounds}
+use Rattle.machine.proofs.StepLaws.{permitted-lengths, permitted-bounds, permitted-elen}
 use Rattle.machine.proofs.SizeLaws.{chosen-grants}
 use Rattle.machine.specs.Starting.{isRule}
 use Rattle.machine.specs.Setting.{sew, chosen}
@@ -24,7 +25,7 @@ use Rattle.run.specs.Plan.{msew, typeOf}
 use Rattle.run.specs.Start.{format, kindFits, planned}
 use Rattle.run.specs.Turn.{startsM, startsN, startsK, begins, soundRun, runShape, moved}
 use Rattle.plan_numbers.specs.Parts.{placed}
-use Rattle.plan_numbers.proofs.PlanLaws.{at-m, at-store, at-multiply}
+use Rattle.plan_numbers.proofs.PlanLaws.{widest-plan, at-m, at-store, at-multiply}
 use Rattle.run_places.specs.Parts.{numbered, shapeBy, Within, Most}
 use Rattle.run.proofs.PlaceLaws.{Sound}
 use Rattle.run.proofs.BeginLaws.{start-below, begins-next}
@@ -33,22 +34,26 @@ use Rattle.run.proofs.WordLaws.{formats}
 -- ---- a sound run
 
 module _ (R : Run) (ok : numbered R ≡ true) where
-  pub run-lengths : permitted (R .rlen) (R .mlen) ≡ true
+  pub run-lengths : permitted (R .rlen) (R .mlen) (R .elen) ≡ true
   unfolding numbered
-  run-lengths = every-each (permitted (R .rlen) (R .mlen) ∷ isRule (R .rule) ∷ planned (R .plan) ∷ []) ok .0
+  run-lengths = every-each (permitted (R .rlen) (R .mlen) (R .elen) ∷ isRule (R .rule) ∷ planned (R .elen) (R .plan) ∷ []) ok .0
 
-  pub run-planned : planned (R .plan) ≡ true
+  -- on the machine that it was started on, and so on those of the largest ELEN
+  planned-there : planned (R .elen) (R .plan) ≡ true
   unfolding numbered
-  run-planned = every-each (permitted (R .rlen) (R .mlen) ∷ isRule (R .rule) ∷ planned (R .plan) ∷ []) ok .1 .1 .0
+  planned-there = every-each (permitted (R .rlen) (R .mlen) (R .elen) ∷ isRule (R .rule) ∷ planned (R .elen) (R .plan) ∷ []) ok .1 .1 .0
+
+  pub run-planned : planned mostElen (R .plan) ≡ true
+  run-planned = widest-plan (R .elen) (R .plan) (permitted-elen (R .rlen) (R .mlen) (R .elen) run-lengths .0) planned-there
 
   pub run-rlen : 0 < R .rlen
-  run-rlen = let b = permitted-bounds (R .rlen) (R .mlen) run-lengths in omega arith
+  run-rlen = let b = permitted-bounds (R .rlen) (R .mlen) (R .elen) run-lengths in omega arith
 
-  numbers : Each (format (R .plan .sew) (R .plan .factor) ∷ leb (R .plan .m) 1024 ∷ leb (R .plan .k) 1024 ∷ leb (R .plan .n) 1024 ∷ kindFits (R .plan) ∷ [])
+  numbers : Each (format mostElen (R .plan .sew) (R .plan .factor) ∷ leb (R .plan .m) 1024 ∷ leb (R .plan .k) 1024 ∷ leb (R .plan .n) 1024 ∷ kindFits (R .plan) ∷ [])
   unfolding planned
-  numbers = every-each (format (R .plan .sew) (R .plan .factor) ∷ leb (R .plan .m) 1024 ∷ leb (R .plan .k) 1024 ∷ leb (R .plan .n) 1024 ∷ kindFits (R .plan) ∷ []) run-planned
+  numbers = every-each (format mostElen (R .plan .sew) (R .plan .factor) ∷ leb (R .plan .m) 1024 ∷ leb (R .plan .k) 1024 ∷ leb (R .plan .n) 1024 ∷ kindFits (R .plan) ∷ []) run-planned
 
-  pub run-format : format (R .plan .sew) (R .plan .factor) ≡ true
+  pub run-format : format mostElen (R .plan .sew) (R .plan .factor) ≡ true
   run-format = numbers .0
 
   pub run-sizes : (R .plan .m ≤ 1024) × (R .plan .k ≤ 1024) × (R .plan .n ≤ 1024)
@@ -56,24 +61,24 @@ module _ (R : Run) (ok : numbered R ≡ true) where
 
   pub run-sew : R .plan .sew / 8 ≡ sew (typeOf (R .plan))
   unfolding typeOf msew
-  run-sew = sym (eqb-true (sew (typeOf (R .plan))) (R .plan .sew / 8) (formats (R .plan .sew) (R .plan .factor) run-format .0 .1 .1 .0))
+  run-sew = sym (eqb-true (sew (typeOf (R .plan))) (R .plan .sew / 8) (formats mostElen (R .plan .sew) (R .plan .factor) refl run-format .0 .1 .1 .0))
 
   pub run-bytes : 0 < R .plan .sew / 8
-  run-bytes = ltb-true 0 (R .plan .sew / 8) (formats (R .plan .sew) (R .plan .factor) run-format .0 .1 .1 .1 .1 .1 .1 .1 .1 .0)
+  run-bytes = ltb-true 0 (R .plan .sew / 8) (formats mostElen (R .plan .sew) (R .plan .factor) refl run-format .0 .1 .1 .1 .1 .1 .1 .1 .1 .0)
 
   -- the most rows, columns and terms of a block are at least 1
   pub run-most : Sound (runShape chosen R)
   run-most =
-      let n = permitted-lengths (R .rlen) (R .mlen) run-lengths in
-      let b : R .plan .sew / 8 ≤ 8 = leb-true (R .plan .sew / 8) 8 (formats (R .plan .sew) (R .plan .factor) run-format .0 .1 .1 .1 .1 .1 .1 .0) in
+      let n = permitted-lengths (R .rlen) (R .mlen) (R .elen) run-lengths in
+      let b : R .plan .sew / 8 ≤ 8 = leb-true (R .plan .sew / 8) 8 (formats mostElen (R .plan .sew) (R .plan .factor) refl run-format .0 .1 .1 .1 .1 .1 .1 .0) in
       let columns : 0 < runShape chosen R .tn =
       le-div-iff-mul-le {k = sew (typeOf (R .plan))} {x = 1} {y = R .rlen / 8} (omega (arith, run-sew, run-bytes)) .1 (omega (arith, run-sew, n .1)) in
       record { grants = chosen-grants (R .rule); 0<tm = n .0; 0<tk = omega (arith, n .0, columns); 0<tn = columns }
 
 -- the most rows, columns and terms of a block are few
-pub run-blocks : (R : Run) → numbered R ≡ true → (runShape chosen R .tm ≤ 4096) × ((runShape chosen R .tn ≤ 4096) × (runShape chosen R .tk ≤ 4096))
+pub run-blocks : (R : Run) → numbered R ≡ true → (runShape chosen R .tm ≤ mostMlen) × ((runShape chosen R .tn ≤ mostMlen) × (runShape chosen R .tk ≤ mostMlen))
 run-blocks R ok =
-    let b = permitted-bounds (R .rlen) (R .mlen) (run-lengths R ok) in
+    let b = permitted-bounds (R .rlen) (R .mlen) (R .elen) (run-lengths R ok) in
     let rows : R .mlen / R .rlen ≤ R .mlen = div-le-self (R .mlen) (R .rlen) in
     let columns : R .rlen / 8 / sew (typeOf (R .plan)) ≤ R .rlen / 8 = div-le-self (R .rlen / 8) (sew (typeOf (R .plan))) in
     omega arith
@@ -115,13 +120,13 @@ module _ (R : Run) (ok : numbered R ≡ true) where
   place-in AtEnd h = refl
 
 module _ (R : Run) (ok : soundRun chosen R ≡ true) where
-  tests : Each (permitted (R .rlen) (R .mlen) ∷ isRule (R .rule) ∷ planned (R .plan) ∷ begins (runShape chosen R) (R .place) ∷ [])
+  tests : Each (permitted (R .rlen) (R .mlen) (R .elen) ∷ isRule (R .rule) ∷ planned (R .elen) (R .plan) ∷ begins (runShape chosen R) (R .place) ∷ [])
   unfolding soundRun
-  tests = every-each (permitted (R .rlen) (R .mlen) ∷ isRule (R .rule) ∷ planned (R .plan) ∷ begins (runShape chosen R) (R .place) ∷ []) ok
+  tests = every-each (permitted (R .rlen) (R .mlen) (R .elen) ∷ isRule (R .rule) ∷ planned (R .elen) (R .plan) ∷ begins (runShape chosen R) (R .place) ∷ []) ok
 
   pub run-numbered : numbered R ≡ true
   unfolding numbered
-  run-numbered = each-every (permitted (R .rlen) (R .mlen) ∷ isRule (R .rule) ∷ planned (R .plan) ∷ []) (tests .0, (tests .1 .0, (tests .1 .1 .0, tt)))
+  run-numbered = each-every (permitted (R .rlen) (R .mlen) (R .elen) ∷ isRule (R .rule) ∷ planned (R .elen) (R .plan) ∷ []) (tests .0, (tests .1 .0, (tests .1 .1 .0, tt)))
 
   pub run-placed : placed (R .plan) (R .place) ≡ true
   run-placed = place-in R run-numbered (R .place) (tests .1 .1 .1 .0)
@@ -153,6 +158,6 @@ next-by R rows columns terms h p =
 pub moved-sound : (R : Run) → soundRun chosen R ≡ true → soundRun chosen (moved chosen R) ≡ true
 unfolding soundRun
 moved-sound R ok =
-    let t = every-each (permitted (R .rlen) (R .mlen) ∷ isRule (R .rule) ∷ planned (R .plan) ∷ begins (runShape chosen R) (R .place) ∷ []) ok in
-    each-every (permitted (R .rlen) (R .mlen) ∷ isRule (R .rule) ∷ planned (R .plan) ∷ begins (runShape chosen R) (next (runShape chosen R) (R .place)) ∷ [])
+    let t = every-each (permitted (R .rlen) (R .mlen) (R .elen) ∷ isRule (R .rule) ∷ planned (R .elen) (R .plan) ∷ begins (runShape chosen R) (R .place) ∷ []) ok in
+    each-every (permitted (R .rlen) (R .mlen) (R .elen) ∷ isRule (R .rule) ∷ planned (R .elen) (R .plan) ∷ begins (runShape chosen R) (next (runShape chosen R) (R .place)) ∷ [])
     (t .0, (t .1 .0, (t .1 .1 .0, (begins-next (runShape chosen R) (run-most R (run-numbered R ok)) (R .place) (t .1 .1 .1 .0), tt))))

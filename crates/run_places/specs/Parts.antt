@@ -14,9 +14,9 @@ use Prim.Native.Nat.{ℕ, _≤_}
 use mathlib.Core.Path.{_≡_}
 use Rattle.run.specs.Start.{planned}
 
--- the lengths, the rule and the plan of a run are ones that it can hold
+-- the lengths, ELEN, the rule and the plan of a run are ones that it can hold
 unfoldable pub numbered : Run → Bool
-numbered R = every (permitted (R .rlen) (R .mlen) ∷ isRule (R .rule) ∷ planned (R .plan) ∷ [])
+numbered R = every (permitted (R .rlen) (R .mlen) (R .elen) ∷ isRule (R .rule) ∷ planned (R .elen) (R .plan) ∷ [])
 
 -- the rule, the sizes of a product, and the most rows, columns and terms of a block
 abbrev pub shapeBy : (rule m k n rows columns terms : ℕ) → Shape
@@ -43,4 +43,4 @@ pub record Most (R : Run) (rows columns terms : ℕ) : Type 0 where
 
 -- the run at another place
 abbrev pub atPlace : Run → Place → Run
-atPlace R q = record { plan = R .plan; rlen = R .rlen; mlen = R .mlen; rule = R .rule; place = q }
+atPlace R q = record { plan = R .plan; rlen = R .rlen; mlen = R .mlen; rule = R .rule; elen = R .elen; place = q }

@@ -144,14 +144,15 @@ pub fn is_sound_run(run: Run) -> bool
 {
     let rlen = run.rlen;
     let mlen = run.mlen;
-    if !machine::permitted_lengths(rlen, mlen) {
+    let elen = run.elen;
+    if !machine::permitted_lengths(rlen, mlen, elen) {
         return false;
     }
     if !machine::is_rule(run.rule) {
         return false;
     }
     let plan = run.plan;
-    if !plan_numbers::is_planned(plan) {
+    if !plan_numbers::is_planned(elen, plan) {
         return false;
     }
     let place = run.place;
@@ -307,6 +308,7 @@ pub fn moved_run(run: Run, rows: u64, columns: u64, terms: u64) -> Run
         rlen: run.rlen,
         mlen: run.mlen,
         rule: run.rule,
+        elen: run.elen,
         place: after,
     }
 }

@@ -7,7 +7,7 @@ use lib.Dec.{leb, eqb}
 use borrow.Author.Tests.{eqb-true}
 use Rattle.machine.specs.declared.Machine.{Machine}
 use Rattle.machine.specs.Tests.{every}
-use Rattle.machine.specs.Geometry.{elen, permitted}
+use Rattle.machine.specs.Geometry.{permitted}
 use Rattle.machine.specs.Starting.{isRule, sealEnds}
 use Rattle.machine.specs.Setting.{newType}
 use Rattle.settings.specs.Parts.{numbersSound, Ready}
@@ -21,8 +21,8 @@ use Rattle.machine.proofs.NoFault.{sound-is}
 -- the tests of the numbers alone
 abbrev tests : Machine → List Bool
 tests m =
-    permitted (m .rlen) (m .mlen)
-    ∷ eqb (newType elen (m .mtype)) (m .mtype)
+    permitted (m .rlen) (m .mlen) (m .elen)
+    ∷ eqb (newType (m .elen) (m .mtype)) (m .mtype)
     ∷ leb (m .«tile_m») (m .mlen / m .rlen)
     ∷ leb (m .«tile_k») (min (m .mlen / m .rlen) (m .rlen / 8))
     ∷ leb (m .«tile_n») (m .rlen / 8)
@@ -30,7 +30,7 @@ tests m =
     ∷ sealEnds (m .«seal_start») (m .«seal_length») ∷ []
 
 pub numbers-by : (m : Machine) (a b c d e f g : Bool)
-    → permitted (m .rlen) (m .mlen) ≡ a → eqb (newType elen (m .mtype)) (m .mtype) ≡ b
+    → permitted (m .rlen) (m .mlen) (m .elen) ≡ a → eqb (newType (m .elen) (m .mtype)) (m .mtype) ≡ b
     → leb (m .«tile_m») (m .mlen / m .rlen) ≡ c → leb (m .«tile_k») (min (m .mlen / m .rlen) (m .rlen / 8)) ≡ d
     → leb (m .«tile_n») (m .rlen / 8) ≡ e → isRule (m .rule) ≡ f → sealEnds (m .«seal_start») (m .«seal_length») ≡ g
     → every (a ∷ b ∷ c ∷ d ∷ e ∷ f ∷ g ∷ []) ≡ numbersSound m
@@ -53,10 +53,10 @@ sound-by m regs marks a b c d ha hb hc hd = same-test (every (a ∷ b ∷ c ∷ 
   where
     all : Machine → List Bool
     all m =
-        permitted (m .rlen) (m .mlen)
+        permitted (m .rlen) (m .mlen) (m .elen)
         ∷ eqb (length regs) (2 * m .mlen)
         ∷ eqb (length marks) (2 * m .mlen)
-        ∷ eqb (newType elen (m .mtype)) (m .mtype)
+        ∷ eqb (newType (m .elen) (m .mtype)) (m .mtype)
         ∷ leb (m .«tile_m») (m .mlen / m .rlen)
         ∷ leb (m .«tile_k») (min (m .mlen / m .rlen) (m .rlen / 8))
         ∷ leb (m .«tile_n») (m .rlen / 8)
@@ -64,11 +64,11 @@ sound-by m regs marks a b c d ha hb hc hd = same-test (every (a ∷ b ∷ c ∷ 
         ∷ sealEnds (m .«seal_start») (m .«seal_length»)
         ∷ allOf (λ mark. ltb mark 2) marks ∷ []
 
-pub numbers-permitted : (m : Machine) → numbersSound m ≡ true → permitted (m .rlen) (m .mlen) ≡ true
+pub numbers-permitted : (m : Machine) → numbersSound m ≡ true → permitted (m .rlen) (m .mlen) (m .elen) ≡ true
 numbers-permitted m h = every-each (tests m) h .0
 
 pub numbers-ready : (m : Machine) → numbersSound m ≡ true → Ready m
-numbers-ready m h = record { lengths = numbers-permitted m h; type-arises = eqb-true (newType elen (m .mtype)) (m .mtype) (every-each (tests m) h .1 .0) }
+numbers-ready m h = record { lengths = numbers-permitted m h; type-arises = eqb-true (newType (m .elen) (m .mtype)) (m .mtype) (every-each (tests m) h .1 .0) }
 
 -- the numbers of a machine that is not at fault
 pub sound-numbers : (m : Machine) (regs marks : List ℕ) → sound m regs marks ≡ true → numbersSound m ≡ true

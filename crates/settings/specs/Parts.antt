@@ -10,7 +10,7 @@ use Rattle.machine.specs.declared.Dimension.the-variants.{DimensionM, Dimension
 use Rattle.machine.specs.declared.Answer.the-variants.{Done, IllegalType}
 use Rattle.machine.specs.declared.Stepped.{Stepped}
 use Rattle.machine.specs.Tests.{every}
-use Rattle.machine.specs.Geometry.{elen, permitted, parameters, Parameters, stateOf, machineAfter, scalar, withScalar}
+use Rattle.machine.specs.Geometry.{permitted, parameters, Parameters, stateOf, machineAfter, scalar, withScalar}
 use Rattle.machine.specs.Starting.{isRule, sealEnds}
 use Rattle.machine.specs.Setting.{newType, mill, maximum, smaller, chosen, sizeIn}
 use Rattle.machine.specs.Operation.{sized}
@@ -22,8 +22,8 @@ ours m = parameters chosen m
 -- the tests of answer 8 that look at the machine's numbers alone
 abbrev pub numbersSound : Machine → Bool
 numbersSound m = every (
-    permitted (m .rlen) (m .mlen)
-    ∷ eqb (newType elen (m .mtype)) (m .mtype)
+    permitted (m .rlen) (m .mlen) (m .elen)
+    ∷ eqb (newType (m .elen) (m .mtype)) (m .mtype)
     ∷ leb (m .«tile_m») (m .mlen / m .rlen)
     ∷ leb (m .«tile_k») (min (m .mlen / m .rlen) (m .rlen / 8))
     ∷ leb (m .«tile_n») (m .rlen / 8)
@@ -66,11 +66,11 @@ abbrev pub tileScalars : Machine → Dimension → ℕ → ℕ → List ℕ → 
 tileScalars m d rd rs1 xs =
     cond (eqb rs1 0) (cond (eqb rd 0) xs (sizeScalars m d (maximum (ours m) (m .mtype) d) rd xs)) (sizeScalars m d (scalar xs rs1) rd xs)
 
--- the values of mtype that are legal
+-- the values of mtype that are legal where ELEN is 64, those that are where it is 32 among them
 abbrev pub legalTypes : List ℕ
-legalTypes = 0 ∷ 1 ∷ 2 ∷ 8 ∷ []
+legalTypes = 0 ∷ 1 ∷ 2 ∷ 8 ∷ 3 ∷ 9 ∷ []
 
 -- what holds of a machine that is not at fault
 pub record Ready (m : Machine) : Type 0 where
-  pub lengths : permitted (m .rlen) (m .mlen) ≡ true
-  pub type-arises : newType elen (m .mtype) ≡ m .mtype
+  pub lengths : permitted (m .rlen) (m .mlen) (m .elen) ≡ true
+  pub type-arises : newType (m .elen) (m .mtype) ≡ m .mtype

@@ -3,8 +3,10 @@ use super::kept_type;
 use machine::Machine;
 use machine::smaller;
 ghost use mathlib.Core.Path.{_≡_};
+ghost use mathlib.Core.Bool.{true};
+ghost use Rattle.machine.specs.Tests.{isIn};
 ghost use lib.Dec.{eqb};
-ghost use Rattle.machine.specs.Geometry.{elen};
+ghost use Rattle.machine.specs.Geometry.{elens};
 ghost use Rattle.machine.specs.Setting.{newType};
 ghost use Rattle.machine.specs.Faults.{sound};
 ghost use Rattle.settings.specs.Parts.{numbersSound};
@@ -15,10 +17,11 @@ fn numbers_sound(m: Machine) -> bool
 {
     let rlen = m.rlen;
     let mlen = m.mlen;
-    if !machine::permitted_lengths(rlen, mlen) {
+    let elen = m.elen;
+    if !machine::permitted_lengths(rlen, mlen, elen) {
         return false;
     }
-    if !type_arises(m.mtype) {
+    if !type_arises(elen, m.mtype) {
         return false;
     }
     let rows = mlen / rlen;
@@ -38,10 +41,11 @@ fn numbers_sound(m: Machine) -> bool
     machine::seal_ends(m.seal_start, m.seal_length)
 }
 
-fn type_arises(mtype: u64) -> bool
+fn type_arises(elen: u64, mtype: u64) -> bool
+    requires { ⌜ isIn elen elens ≡ true ⌝ }
     ensures { λ r. ⌜ r ≡ eqb (newType elen mtype) mtype ⌝ }
 {
-    kept_type(mtype) == mtype
+    kept_type(elen, mtype) == mtype
 }
 
 // Whether the state is not at fault.

@@ -12,7 +12,7 @@ ghost use mathlib.Core.Bool.{true, false};
 ghost use mathlib.Core.List.{[]};
 ghost use Prim.Native.Nat.{_<_, _≤_};
 ghost use lib.ListN.{length};
-ghost use Rattle.machine.specs.Geometry.{elen, withScalar, stateOf};
+ghost use Rattle.machine.specs.Geometry.{elens, withScalar, stateOf};
 ghost use Rattle.machine.specs.Setting.{newType, mill, maximum, sew, sizeIn};
 ghost use Rattle.machine.specs.Refusals.{fitting};
 ghost use Rattle.settings.specs.Parts.{ours, withType, withSize, sizeStepped, sizeScalars, cutStepped, tileStepped, tileScalars, Ready, legalTypes};
@@ -21,14 +21,24 @@ ghost use Rattle.machine.specs.Tests.{isIn};
 pub mod faults; // answer 8
 pub mod scalars; // the scalars
 
-// The new mtype: an illegal value becomes 2^63.
-pub fn kept_type(value: u64) -> u64
+// The new mtype of a machine of this ELEN: an illegal value becomes 2^63.
+pub fn kept_type(elen: u64, value: u64) -> u64
+    requires { ⌜ isIn elen elens ≡ true ⌝ }
     ensures { λ r. ⌜ r ≡ newType elen value ⌝ }
 {
     if value <= 2 {
         return value;
     }
     if value == 8 {
+        return value;
+    }
+    if elen == 32 {
+        return 9223372036854775808;
+    }
+    if value == 3 {
+        return value;
+    }
+    if value == 9 {
         return value;
     }
     9223372036854775808
@@ -45,13 +55,17 @@ pub fn is_mill(mtype: u64) -> bool
 pub fn sew_bytes(mtype: u64) -> usize
     requires { ⌜ isIn mtype legalTypes ≡ true ⌝ }
     ensures { λ r. ⌜ r ≡ sew mtype ⌝ }
-    ensures { λ r. ⌜ (0 < r) × (r ≤ 4) ⌝ }
+    ensures { λ r. ⌜ (0 < r) × (r ≤ 8) ⌝ }
 {
-    if mtype == 1 {
+    let msew = mtype % 8;
+    if msew == 1 {
         return 2;
     }
-    if mtype == 2 {
+    if msew == 2 {
         return 4;
+    }
+    if msew == 3 {
+        return 8;
     }
     1
 }
@@ -119,11 +133,12 @@ fn with_size(m: Machine, dimension: Dimension, size: u64) -> Machine
 
 // A new mtype, which rd receives too.
 pub fn set_type(m: Machine, scalars: &mut [u64], rd: usize, value: u64) -> Machine
+    requires { ⌜ isIn (m .elen) elens ≡ true ⌝ }
     requires { ⌜ rd < length (now scalars) ⌝ }
-    ensures { λ r. ⌜ r ≡ withType m (newType elen value) ⌝ }
-    ensures { λ _. ⌜ now (scalars .exit) ≡ withScalar (now (scalars .entry)) rd (newType elen value) ⌝ }
+    ensures { λ r. ⌜ r ≡ withType m (newType (m .elen) value) ⌝ }
+    ensures { λ _. ⌜ now (scalars .exit) ≡ withScalar (now (scalars .entry)) rd (newType (m .elen) value) ⌝ }
 {
-    let kept = kept_type(value);
+    let kept = kept_type(m.elen, value);
     write_scalar(scalars, rd, kept);
     with_type(m, kept)
 }

@@ -48,24 +48,24 @@ zeros = replicate 512 0
 
 -- and the bench, with a memory
 abbrev fresh : List ℕ → Bench
-fresh memory = benchOf (freshMachine 64 256 0 0 0) zeros zeros memory
+fresh memory = benchOf (freshMachine 64 256 32 0 0 0) zeros zeros memory
 
 fresh-sound : (memory : List ℕ) → soundBench (fresh memory) ≡ true
 unfolding startMachine startable permitted
-fresh-sound memory = start-sound 64 256 0 0 0 zeros zeros memory refl
+fresh-sound memory = start-sound 64 256 32 0 0 0 zeros zeros memory refl
 
-started-fresh : (s : Started) (marks memory : List ℕ) → startedAs s zeros marks ≡ startMachine 64 256 0 0 0 zeros zeros
+started-fresh : (s : Started) (marks memory : List ℕ) → startedAs s zeros marks ≡ startMachine 64 256 32 0 0 0 zeros zeros
     → benchOf (s .machine) zeros marks memory ≡ fresh memory
 unfolding startMachine startable permitted
 started-fresh s marks memory e = ap (λ (o : StartOutcome). benchOf (o .machine) (o .registers) (o .marks) memory) e
 
 -- the 256 numbers that are read lie in C's place
-pub c-fits : (sew f : ℕ) → format sew f ≡ true → 256 * (f * (sew / 8)) ≤ 1024
+pub c-fits : (sew f : ℕ) → format 32 sew f ≡ true → 256 * (f * (sew / 8)) ≤ 1024
 c-fits sew f formatted = matrix-small 16 16 (f * (sew / 8)) (omega arith) (omega arith) (widths sew f formatted .1)
 
-module _ (sew f m k n : ℕ) (formatted : format sew f ≡ true) (m≤ : m ≤ 16) (k≤ : k ≤ 16) (n≤ : n ≤ 16) where
+module _ (sew f m k n : ℕ) (formatted : format 32 sew f ≡ true) (m≤ : m ≤ 16) (k≤ : k ≤ 16) (n≤ : n ≤ 16) where
   -- from what the calls of `multiply` return and leave: the run's count, and the elements of C that were read
-  pub multiplied : (s : Started) (marks memory : List ℕ) → startedAs s zeros marks ≡ startMachine 64 256 0 0 0 zeros zeros → length memory ≡ 3072
+  pub multiplied : (s : Started) (marks memory : List ℕ) → startedAs s zeros marks ≡ startMachine 64 256 32 0 0 0 zeros zeros → length memory ≡ 3072
       → (P : Plan) → P ≡ planFor sew f m k n → (o : WholeOutcome) → Delivers P (benchOf (s .machine) zeros marks memory) o
       → (c : List ℕ) → ((j : ℕ) → j < 256 → getD c j 0 ≡ le (o .bench .memory) (2048 + j * (f * (sew / 8))) (f * (sew / 8)))
       → (o .count ≡ steps (shape (jobFor sew f m k n memory)))
@@ -73,7 +73,7 @@ module _ (sew f m k n : ℕ) (formatted : format sew f ≡ true) (m≤ : m ≤ 1
   multiplied s marks memory e len P p o d c read =
       let D : Delivers (planFor sew f m k n) (fresh memory) o =
       subst (λ (P : Plan). Delivers P (fresh memory) o) p (subst (λ (B : Bench). Delivers P B o) (started-fresh s marks memory e) d) in
-      let done : o .answer .number ≡ 0 = accepted-here sew f m k n formatted m≤ k≤ n≤ (fresh memory) (fresh-sound memory) refl len (o .answer) (D .answered) in (
+      let done : o .answer .number ≡ 0 = accepted-here sew f m k n formatted m≤ k≤ n≤ (fresh memory) (fresh-sound memory) refl refl len (o .answer) (D .answered) in (
         D .counted done,
         λ i j hi hj.
             read (i * n + j) (omega (arith, element-in m n i j hi hj, mul-le-mul m≤ n≤))

@@ -33,7 +33,7 @@ use Rattle.text.proofs.OutputLaws.{rows-are}
 -- ---- a number as it is held
 
 -- a number that SEW holds, cut to SEW bits, stands for itself
-module _ (sew f : ℕ) (formatted : format sew f ≡ true) where
+module _ (sew f : ℕ) (formatted : format 32 sew f ≡ true) where
   held-signed : (z : ℤ) → holds (2 ^ (sew - 1)) z ≡ true → signed (256 ^ (sew / 8)) (held z % 256 ^ (sew / 8)) ≡ z
   held-signed (pos v) h =
       let l = ltb-true v (2 ^ (sew - 1)) h in
@@ -92,7 +92,7 @@ module _ (p : Problem) (K : Known p) (numbers : List ℕ) (held-in : elementsIn 
       let sums : (i j : ℕ) → i < p .m → j < p .n → getD c (i * p .n + j) 0 ≡ reduce (modulus p) (sumAt p i j) = λ i j hi hj.
       product i j hi hj ∙ ap (λ (l : List ℕ). productOf (jobFor (p .sew) (p .factor) (p .m) (p .k) (p .n) l) i j) is-laid
       ∙ sum-here (p .sew) (p .factor) (p .m) (p .k) (p .n) (K .formatted) (K .small-m) (K .small-k) (K .small-n) (λ q. getD numbers (5 + q) 0)
-      (λ q. getD numbers (5 + p .m * p .k + q) 0) mem len (parametersOf smaller 64 256 0 0) (nth (p .a)) (nth (p .b)) a-is b-is i j hi hj in
+      (λ q. getD numbers (5 + p .m * p .k + q) 0) mem len (parametersOf smaller 64 256 32 0 0) (nth (p .a)) (nth (p .b)) a-is b-is i j hi hj in
       ap₂ accepted counted
       (ap (λ (q : ℕ). rowsOf (p .m) (p .n) (signedAll q c)) is-q ∙ rows-are p c (omega (arith, mul-le-mul (K .small-m) (K .small-n))) sums)
 
@@ -109,7 +109,7 @@ solved t numbers h = go (problem t) refl h
 -- what `solve` requires
 abbrev pub Fit : Parsed → Type 0
 Fit Refused = Unit
-Fit (Posed sew f m k n) = ((m ≤ 16) × ((k ≤ 16) × (n ≤ 16))) × (format sew f ≡ true)
+Fit (Posed sew f m k n) = ((m ≤ 16) × ((k ≤ 16) × (n ≤ 16))) × (format 32 sew f ≡ true)
 
 pub posed-fits : (t : List ℕ) → Fit (parsedAs (problem t))
 posed-fits t = go (problem t) refl

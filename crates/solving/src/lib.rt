@@ -6,7 +6,7 @@ ghost use mathlib.Core.List.{List};
 ghost use Prim.Native.Nat.{ℕ, _+_, _*_, _^_, _≤_, _<_};
 ghost use lib.ListN.{length, take, drop, getD};
 ghost use Rattle.width.specs.Tile.{putRow};
-ghost use Rattle.element.specs.Element.{Width};
+ghost use Rattle.element.specs.Element.{Short};
 ghost use Rattle.run.specs.Words.{steps};
 ghost use Rattle.run.specs.Plan.{shape, productOf};
 ghost use Rattle.run.specs.Start.{format};
@@ -19,7 +19,7 @@ ghost use Rattle.text.specs.Parts.{parsedAs, elementsIn};
 
 // Lays the a numbers from 5 on at A's place, and the b after them at B's.
 fn fill(memory: &mut [u8], numbers: &[u64], width: usize, a: usize, b: usize)
-    requires { ⌜ Width width ⌝ }
+    requires { ⌜ Short width ⌝ }
     requires { ⌜ (a * width ≤ 1024) × (b * width ≤ 1024) ⌝ }
     requires { ⌜ (length (now memory) ≡ 3072) × (5 + a + b ≤ length (now numbers)) ⌝ }
     ensures { λ _. ⌜ now (memory .exit)
@@ -35,7 +35,7 @@ fn fill(memory: &mut [u8], numbers: &[u64], width: usize, a: usize, b: usize)
 // Runs the product of the matrices that lie in memory, and reads the elements of C's place. Returns the count of steps.
 fn multiply(c: &mut [u64], memory: &mut [u8], sew: u64, factor: u64, m: u64, k: u64, n: u64) -> u64
     requires { ⌜ (m ≤ 16) × ((k ≤ 16) × (n ≤ 16)) ⌝ }
-    requires { ⌜ format sew factor ≡ true ⌝ }
+    requires { ⌜ format 32 sew factor ≡ true ⌝ }
     requires { ⌜ (length (now memory) ≡ 3072) × (length (now c) ≡ 256) ⌝ }
     ensures { λ r. ⌜ r ≡ steps (shape (jobFor sew factor m k n (now (memory .entry)))) ⌝ }
     ensures { λ r. ⌜ ((i j : ℕ) → i < m → j < n
@@ -43,7 +43,7 @@ fn multiply(c: &mut [u64], memory: &mut [u8], sew: u64, factor: u64, m: u64, k: 
 {
     let mut registers = [0u8; 512];
     let mut marks = [0u8; 512];
-    let started = machine::start(64, 256, 0, 0, 0, &registers, &mut marks);
+    let started = machine::start(64, 256, 32, 0, 0, 0, &registers, &mut marks);
     let machine = started.machine;
     let plan = product_memory::plan_for(sew, factor, m, k, n);
     let finished = whole::whole(plan, machine, &mut registers, &mut marks, memory);
@@ -54,7 +54,7 @@ fn multiply(c: &mut [u64], memory: &mut [u8], sew: u64, factor: u64, m: u64, k: 
 
 // The modulus of w bytes.
 fn modulus(w: u64) -> u64
-    requires { ⌜ Width w ⌝ }
+    requires { ⌜ Short w ⌝ }
     ensures { λ r. ⌜ r ≡ 256 ^ w ⌝ }
 {
     if w == 1 {
@@ -69,7 +69,7 @@ fn modulus(w: u64) -> u64
 // Solves the problem of these numbers, whose elements stand in `numbers`, and writes the answer. Returns where that ends.
 fn solve(out: &mut [u8], numbers: &[u64], sew: u64, factor: u64, m: u64, k: u64, n: u64) -> usize
     requires { ⌜ (m ≤ 16) × ((k ≤ 16) × (n ≤ 16)) ⌝ }
-    requires { ⌜ format sew factor ≡ true ⌝ }
+    requires { ⌜ format 32 sew factor ≡ true ⌝ }
     requires { ⌜ (length (now numbers) ≡ 517) × (8192 ≤ length (now out)) ⌝ }
     ensures { λ r. ⌜ ((t : List ℕ) → Posed sew factor m k n ≡ parsedAs (problem t) → elementsIn (problem t) (now (numbers .entry))
         → Wrote (now (out .entry)) 0 (now (out .exit)) r (answerText t)) ⌝ }

@@ -3,15 +3,14 @@ use mathlib.Core.Path.{_≡_, ap, ap₂, _∙_}
 use mathlib.Core.Bool.{Bool, true, false, cond}
 use mathlib.Core.List.{List, [], _∷_}
 use Prim.Native.Nat.{ℕ, _*_, _/_, _≤_}
-use native.Mathlib.Nat.{mul-le-mul, mul-le-mul-left, div-mul-le-self}
+use native.Mathlib.Nat.{mul-le-mul}
 use native.Mathlib.Omega.{arith}
 use lib.ListN.{length}
 use lib.Dec.{leb}
 use borrow.Author.Tests.{leb-true}
 use Rattle.machine.specs.declared.Answer.the-variants.{BadArguments, OutsideMemory, Overlap}
-use Rattle.machine.specs.Tests.{isIn}
 use Rattle.machine.specs.Answers.{reply, Check, _otherwise_, verdict, isDone}
-use Rattle.machine.specs.Geometry.{elen, Parameters, Bench, parameters}
+use Rattle.machine.specs.Geometry.{Parameters, Bench, parameters}
 use Rattle.machine.specs.Memory.{inside, distinct, unsealed}
 use Rattle.machine.specs.Faults.{sound}
 use Rattle.machine.specs.Setting.{chosen}
@@ -20,14 +19,15 @@ use Rattle.run.specs.declared.Plan.{Plan}
 use Rattle.run.specs.Plan.{narrow, wide, aAt, bAt, cAt, formOf, aRows, aColumns}
 use Rattle.run.proofs.FormLaws.{most-in}
 use Rattle.run.specs.Start.{format, kindFits, planned, lying, apart, separate, RunStart, startRun, freshRun, noRun}
-use Rattle.plan_numbers.proofs.PlanLaws.{sews, factors, plan-small}
+use Rattle.plan_numbers.proofs.PlanLaws.{plan-small, wide-small}
+use Rattle.width.specs.Bounds.{mostElen}
 
 -- ---- the numbers of a plan
 
-module _ (P : Plan) (ok : planned P ≡ true) where
-  numbers : Each (format (P .sew) (P .factor) ∷ leb (P .m) 1024 ∷ leb (P .k) 1024 ∷ leb (P .n) 1024 ∷ kindFits P ∷ [])
+module _ (P : Plan) (ok : planned mostElen P ≡ true) where
+  numbers : Each (format mostElen (P .sew) (P .factor) ∷ leb (P .m) 1024 ∷ leb (P .k) 1024 ∷ leb (P .n) 1024 ∷ kindFits P ∷ [])
   unfolding planned
-  numbers = every-each (format (P .sew) (P .factor) ∷ leb (P .m) 1024 ∷ leb (P .k) 1024 ∷ leb (P .n) 1024 ∷ kindFits P ∷ []) ok
+  numbers = every-each (format mostElen (P .sew) (P .factor) ∷ leb (P .m) 1024 ∷ leb (P .k) 1024 ∷ leb (P .n) 1024 ∷ kindFits P ∷ []) ok
 
   pub plan-sizes : (P .m ≤ 1024) × (P .k ≤ 1024) × (P .n ≤ 1024)
   plan-sizes = (leb-true (P .m) 1024 (numbers .1 .0), leb-true (P .k) 1024 (numbers .1 .1 .0), leb-true (P .n) 1024 (numbers .1 .1 .1 .0))
@@ -36,18 +36,15 @@ module _ (P : Plan) (ok : planned P ≡ true) where
   pub a-sizes : (aRows P ≤ 1024) × (aColumns P ≤ 1024)
   a-sizes = most-in (formOf P) (P .m) (P .k) 1024 (plan-sizes .0) (plan-sizes .1)
 
-  -- an element has at most 4 bytes
-  pub wide-most : P .factor * (P .sew / 8) ≤ 4
-  unfolding format
-  wide-most =
-      let t = every-each (isIn (P .sew) sews ∷ isIn (P .factor) factors ∷ leb (P .factor * P .sew) elen ∷ []) (numbers .0) in
-      omega (arith, leb-true (P .factor * P .sew) elen (t .1 .1 .0), mul-le-mul-left (P .factor) (div-mul-le-self (P .sew) 8))
+  -- an element has at most 8 bytes
+  pub wide-most : P .factor * (P .sew / 8) ≤ 8
+  wide-most = wide-small P ok
 
-  -- so a row has at most 4,096
-  pub narrow-row : (elements : ℕ) → elements ≤ 1024 → elements * (P .sew / 8) ≤ 4096
-  narrow-row elements h = let n : P .sew / 8 ≤ 4 = omega (arith, plan-small P ok .0) in mul-le-mul h n
+  -- so a row has at most 8,192
+  pub narrow-row : (elements : ℕ) → elements ≤ 1024 → elements * (P .sew / 8) ≤ 8192
+  narrow-row elements h = let n : P .sew / 8 ≤ 8 = omega (arith, plan-small P ok .0) in mul-le-mul h n
 
-  pub wide-row : P .n * (P .factor * (P .sew / 8)) ≤ 4096
+  pub wide-row : P .n * (P .factor * (P .sew / 8)) ≤ 8192
   wide-row = mul-le-mul (plan-sizes .2) wide-most
 
 -- ---- a test by the bytes of rows, of which a call counted as many as the plan gives
@@ -159,7 +156,7 @@ module _ (P : Plan) (B : Bench) where
     bench = B;
   }
 
-  pub started-by : {s p l d : Bool} → sound (B .machine) (B .registers) (B .marks) ≡ s → planned P ≡ p → lying P (B .memory) ≡ l
+  pub started-by : {s p l d : Bool} → sound (B .machine) (B .registers) (B .marks) ≡ s → planned (B .machine .elen) P ≡ p → lying P (B .memory) ≡ l
       → separate (parameters chosen (B .machine)) P ≡ d → out s p l d ≡ startRun chosen P B
   unfolding startRun
   started-by hs hp hl hd = rw (hs, hp, hl, hd)

@@ -23,6 +23,7 @@ fn refused(plan: Plan, answer: Answer) -> RunStarted
             rlen: 0,
             mlen: 0,
             rule: 0,
+            elen: 0,
             place: Place::AtEnd,
         },
     }
@@ -36,7 +37,7 @@ pub fn start(plan: Plan, m: Machine, registers: &[u8], marks: &[u8], memory: &[u
     if !settings::faults::is_sound(m, registers, marks) {
         return refused(plan, Answer::BadArguments);
     }
-    if !plan_numbers::is_planned(plan) {
+    if !plan_numbers::is_planned(m.elen, plan) {
         return refused(plan, Answer::BadArguments);
     }
     if !tests::is_lying(plan, memory) {
@@ -52,6 +53,7 @@ pub fn start(plan: Plan, m: Machine, registers: &[u8], marks: &[u8], memory: &[u
             rlen: m.rlen,
             mlen: m.mlen,
             rule: m.rule,
+            elen: m.elen,
             place: Place::AtType,
         },
     }

@@ -10,6 +10,7 @@ use run::Plan;
 ghost use mathlib.Core.Path.{_≡_};
 ghost use mathlib.Core.Bool.{true};
 ghost use Prim.Native.Nat.{_*_, _≤_};
+ghost use Rattle.width.specs.Bounds.{mostElen};
 ghost use Rattle.machine.specs.Geometry.{parameters};
 ghost use Rattle.machine.specs.Setting.{chosen};
 ghost use Rattle.run.specs.Plan.{narrow, wide};
@@ -17,24 +18,24 @@ ghost use Rattle.run.specs.Start.{planned, lying, separate};
 
 // The bytes of a row of so many elements of A or B.
 fn narrow_row(plan: Plan, elements: u64) -> usize
-    requires { ⌜ planned plan ≡ true ⌝ }
+    requires { ⌜ planned mostElen plan ≡ true ⌝ }
     requires { ⌜ elements ≤ 1024 ⌝ }
-    ensures { λ r. ⌜ (r ≡ elements * narrow plan) × (r ≤ 4096) ⌝ }
+    ensures { λ r. ⌜ (r ≡ elements * narrow plan) × (r ≤ 8192) ⌝ }
 {
     elements as usize * (plan.sew / 8) as usize
 }
 
 // The bytes of a row of C.
 fn wide_row(plan: Plan) -> usize
-    requires { ⌜ planned plan ≡ true ⌝ }
-    ensures { λ r. ⌜ (r ≡ plan .n * wide plan) × (r ≤ 4096) ⌝ }
+    requires { ⌜ planned mostElen plan ≡ true ⌝ }
+    ensures { λ r. ⌜ (r ≡ plan .n * wide plan) × (r ≤ 8192) ⌝ }
 {
     plan.n as usize * (plan.factor * (plan.sew / 8)) as usize
 }
 
 // Whether every element of the three matrices lies in memory.
 pub fn is_lying(plan: Plan, memory: &[u8]) -> bool
-    requires { ⌜ planned plan ≡ true ⌝ }
+    requires { ⌜ planned mostElen plan ≡ true ⌝ }
     ensures { λ r. ⌜ r ≡ lying plan (now (memory .entry)) ⌝ }
 {
     let len = memory.len();
@@ -73,7 +74,7 @@ pub fn is_lying(plan: Plan, memory: &[u8]) -> bool
 
 // Whether no byte of C lies in two of its rows, in a row of A or B, or in the seal.
 pub fn is_separate(plan: Plan, m: Machine, memory: &[u8]) -> bool
-    requires { ⌜ planned plan ≡ true ⌝ }
+    requires { ⌜ planned mostElen plan ≡ true ⌝ }
     requires { ⌜ lying plan (now memory) ≡ true ⌝ }
     ensures { λ r. ⌜ r ≡ separate (parameters chosen m) plan ⌝ }
 {

@@ -3,25 +3,22 @@ use mathlib.Core.Path.{_≡_, refl, sym, ap, _∙_, subst}
 use mathlib.Core.Bool.{Bool, true, false, cond}
 use mathlib.Core.List.{[], _∷_}
 use Prim.Native.Nat.{ℕ, zero, suc, _+_, _-_, _%_, _^_, _≤_, _<_}
+use native.Mathlib.Nat.{mod-eq-of-lt}
 use native.Mathlib.Omega.{arith}
 use lib.Dec.{ltb, eqb}
-use lib.IntN.{pos}
-use borrow.Author.Tests.{lt-ltb, le-ltb, ltb-true, ne-eqb}
+use lib.IntN.{pos, negsuc}
+use borrow.Author.Tests.{lt-ltb, le-ltb, ltb-true, ltb-false, ne-eqb}
 use Rattle.width.specs.Reduce.{reduce, signed}
-use Rattle.width.proofs.ReduceLaws.{widened}
+use Rattle.width.proofs.ReduceLaws.{widened, reduce-signed}
 use Rattle.machine.specs.declared.Instruction.{Instruction}
 use Rattle.machine.specs.declared.Instruction.the-variants.{Illegal, SetTypeImmediate, SetType, SetTileImmediate, SetTile, Load, Store, Multiply, Combine, Scale, ScaleImmediate, FloatMultiply}
-use mathlib.Core.Logic.{inl, inr}
-use types.Run.{OneOf}
-use Rattle.machine.proofs.MatchLaws.{found}
 use Rattle.machine.specs.Listing.{decode, inRange}
 use Rattle.machine.specs.Tests.{isIn}
-use Rattle.machine.specs.Geometry.{elen, registerCount}
+use Rattle.machine.specs.Geometry.{elens, registerCount}
 use Rattle.machine.specs.Setting.{sew, newType}
 use Rattle.machine.specs.Refusals.{isZero}
-use Rattle.machine.proofs.TestLaws.{every-each}
-use Rattle.machine.proofs.CodeLaws.{bounded, decode-bounded, types-are}
-use Rattle.settings.specs.Parts.{legalTypes}
+use Rattle.machine.proofs.TestLaws.{every-each, each, each-in}
+use Rattle.machine.proofs.CodeLaws.{bounded, decode-bounded, legalTypes, types-are}
 use Rattle.step.specs.Parts.{Multiplier, Decoded}
 
 -- ---- multipliers
@@ -30,18 +27,29 @@ zero-pos : (x : ℕ) → isZero (pos x) ≡ eqb x 0
 zero-pos zero = refl
 zero-pos (suc x) = sym (ne-eqb (suc x) 0 (λ e. absurd (omega arith)))
 
-pub extend-low : (x half : ℕ) → x < half → half ≤ 2147483648 → (x ≡ reduce (2 ^ 32) (signed (half + half) x)) × (isZero (signed (half + half) x) ≡ eqb x 0)
+pub extend-low : (x half : ℕ) → x < half → half ≤ 2147483648 → (x ≡ reduce (2 ^ 64) (signed (half + half) x)) × (isZero (signed (half + half) x) ≡ eqb x 0)
 extend-low x half l h =
     let t : ltb (x + x) (half + half) ≡ true = lt-ltb (x + x) (half + half) (omega arith) in
-    (sym (widened (half + half) (2 ^ 32) x (omega arith) (omega arith) ∙ rw t), rw t (zero-pos x))
+    (sym (widened (half + half) (2 ^ 64) x (omega arith) (omega arith) ∙ rw t), rw t (zero-pos x))
 
-pub extend-high : (x half r : ℕ) → half ≤ x → x < half + half → half ≤ 2147483648 → r ≡ x + (4294967296 - half - half)
-    → (r ≡ reduce (2 ^ 32) (signed (half + half) x)) × (isZero (signed (half + half) x) ≡ eqb r 0)
+pub extend-high : (x half r : ℕ) → half ≤ x → x < half + half → half ≤ 2147483648 → r ≡ x + (18446744073709551615 - (half + half - 1))
+    → (r ≡ reduce (2 ^ 64) (signed (half + half) x)) × (isZero (signed (half + half) x) ≡ eqb r 0)
 extend-high x half r g l h e =
     let t : ltb (x + x) (half + half) ≡ false = le-ltb (x + x) (half + half) (omega arith) in
-    (e ∙ sym (widened (half + half) (2 ^ 32) x l (omega arith) ∙ rw t (omega arith)), rw t (sym (ne-eqb r 0 (λ z. absurd (omega arith)))))
+    (e ∙ sym (widened (half + half) (2 ^ 64) x l (omega arith) ∙ rw t (omega arith)), rw t (sym (ne-eqb r 0 (λ z. absurd (omega arith)))))
 
-pub multiplier-is : (t k v r : ℕ) → t % 8 ≡ k → (r ≡ reduce (2 ^ 32) (signed (256 ^ (2 ^ k)) (v % 256 ^ (2 ^ k)))) × (isZero (signed (256 ^ (2 ^ k)) (v % 256 ^ (2 ^ k))) ≡ eqb r 0)
+-- at SEW 64 the scalar itself
+pub whole-word : (v : ℕ) → v < 2 ^ 64 → (v ≡ reduce (2 ^ 64) (signed (2 ^ 64) (v % 2 ^ 64))) × (isZero (signed (2 ^ 64) (v % 2 ^ 64)) ≡ eqb v 0)
+whole-word v h =
+    let e : v % 18446744073709551616 ≡ v = mod-eq-of-lt h in
+    subst (λ (x : ℕ). (v ≡ reduce (2 ^ 64) (signed (2 ^ 64) x)) × (isZero (signed (2 ^ 64) x) ≡ eqb v 0)) (sym e)
+    (sym (reduce-signed 18446744073709551616 (omega arith) v h), by (ltb (v + v) 18446744073709551616) refl)
+  where
+    by : (t : Bool) → ltb (v + v) 18446744073709551616 ≡ t → isZero (cond t (pos v) (negsuc (18446744073709551616 - suc v))) ≡ eqb v 0
+    by true e = zero-pos v
+    by false e = let l = ltb-false (v + v) 18446744073709551616 e in sym (ne-eqb v 0 (λ z. absurd (omega arith)))
+
+pub multiplier-is : (t k v r : ℕ) → t % 8 ≡ k → (r ≡ reduce (2 ^ 64) (signed (256 ^ (2 ^ k)) (v % 256 ^ (2 ^ k)))) × (isZero (signed (256 ^ (2 ^ k)) (v % 256 ^ (2 ^ k))) ≡ eqb r 0)
     → Multiplier (signed (256 ^ sew t) (v % 256 ^ sew t)) r
 unfolding sew
 multiplier-is t k v r e h =
@@ -71,16 +79,13 @@ in-range (FloatMultiply md ms1 ms2) b r =
 pub decoded : (word : ℕ) (i : Instruction) → i ≡ decode word → Decoded i
 decoded word i e = subst Decoded (sym e) (let h = decode-bounded word in in-range (decode word) (h .0) (h .1))
 
--- an mtype that can arise has msew 0, 1 or 2
-pub type-small : (t : ℕ) → newType elen t ≡ t → t % 8 < 3
-type-small t e = go (isIn t legalTypes) refl
+-- an mtype that can arise has msew 0, 1, 2 or 3
+pub type-small : (elen t : ℕ) → isIn elen elens ≡ true → newType elen t ≡ t → t % 8 < 4
+type-small elen t known e = go (isIn t (legalTypes elen)) refl
   where
-    low : OneOf legalTypes t → t % 8 < 3
-    low (inl z) = subst (λ (t : ℕ). t % 8 < 3) (sym z) (omega arith)
-    low (inr (inl z)) = subst (λ (t : ℕ). t % 8 < 3) (sym z) (omega arith)
-    low (inr (inr (inl z))) = subst (λ (t : ℕ). t % 8 < 3) (sym z) (omega arith)
-    low (inr (inr (inr z))) = subst (λ (t : ℕ). t % 8 < 3) (sym z) (omega arith)
+    low : each (legalTypes elen) (λ v. ltb (v % 8) 4) ≡ true
+    low = each-in elen elens (λ e. each (legalTypes e) (λ v. ltb (v % 8) 4)) refl known
 
-    go : (b : Bool) → isIn t legalTypes ≡ b → t % 8 < 3
-    go true d = low (found legalTypes t d)
-    go false d = let z : t ≡ 2 ^ 63 = sym e ∙ types-are t ∙ ap (λ (b : Bool). cond b t (2 ^ 63)) d in subst (λ (t : ℕ). t % 8 < 3) (sym z) (omega arith)
+    go : (b : Bool) → isIn t (legalTypes elen) ≡ b → t % 8 < 4
+    go true d = ltb-true (t % 8) 4 (each-in t (legalTypes elen) (λ v. ltb (v % 8) 4) low d)
+    go false d = let z : t ≡ 2 ^ 63 = sym e ∙ types-are elen known t ∙ ap (λ (b : Bool). cond b t (2 ^ 63)) d in subst (λ (t : ℕ). t % 8 < 4) (sym z) (omega arith)

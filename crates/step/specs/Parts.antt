@@ -9,9 +9,9 @@ use Rattle.machine.specs.declared.Instruction.the-variants.{Illegal, SetTypeImm
 use Rattle.machine.specs.Refusals.{isZero}
 use Rattle.width.specs.Reduce.{reduce}
 
--- a multiplier, by its residue at 32 bits
+-- a multiplier, by its residue at 64 bits
 pub record Multiplier (z : ℤ) (r : ℕ) : Type 0 where
-  pub residue : reduce (2 ^ 32) z ≡ r
+  pub residue : reduce (2 ^ 64) z ≡ r
   pub zero-is : isZero z ≡ eqb r 0
 
 -- what holds of a decoded word: its slots are of the thirty-two, its registers exist, its immediate has five bits

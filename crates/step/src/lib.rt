@@ -40,20 +40,20 @@ fn word_answer(wrong: Wrong) -> Answer
     }
 }
 
-// The residue at 32 bits of the signed number that x stands for at the modulus half + half.
-fn sign_extend(x: u64, half: u64) -> u32
+// The residue at 64 bits of the signed number that x stands for at the modulus half + half.
+fn sign_extend(x: u64, half: u64) -> u64
     requires { ⌜ (x < half + half) × (half ≤ 2147483648) ⌝ }
-    ensures { λ r. ⌜ (r ≡ reduce (2 ^ 32) (signed (half + half) x)) × (isZero (signed (half + half) x) ≡ eqb r 0) ⌝ }
+    ensures { λ r. ⌜ (r ≡ reduce (2 ^ 64) (signed (half + half) x)) × (isZero (signed (half + half) x) ≡ eqb r 0) ⌝ }
 {
     if x < half {
-        return x as u32;
+        return x;
     }
-    (x + (4294967296 - half - half)) as u32
+    x + (18446744073709551615 - (half + half - 1))
 }
 
 // The low SEW bits of a scalar as a multiplier.
-fn multiplier(mtype: u64, value: u64) -> u32
-    requires { ⌜ mtype % 8 < 3 ⌝ }
+fn multiplier(mtype: u64, value: u64) -> u64
+    requires { ⌜ mtype % 8 < 4 ⌝ }
     ensures { λ r. ⌜ Multiplier (signed (256 ^ sew mtype) (value % 256 ^ sew mtype)) r ⌝ }
 {
     let msew = mtype % 8;
@@ -63,7 +63,10 @@ fn multiplier(mtype: u64, value: u64) -> u32
     if msew == 1 {
         return sign_extend(value % 65536, 32768);
     }
-    sign_extend(value % 4294967296, 2147483648)
+    if msew == 2 {
+        return sign_extend(value % 4294967296, 2147483648);
+    }
+    value
 }
 
 // Carries out an instruction in a state that is not at fault.

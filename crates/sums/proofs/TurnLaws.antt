@@ -26,9 +26,9 @@ Reads k rule = (old : ℕ) (x y u v : ℕ → ℕ) → ((l : ℕ) → l < k → 
 abbrev ruleRow : Rule → List ℕ → (cw w pitch a b c j : ℕ) → ℕ
 ruleRow rule s cw w pitch a b c j = rule (le s (c + j * cw) cw) (λ l. le s (a + l * w) w) (λ l. le s (b + l * pitch + j * w) w)
 
--- tiles A and B lie before C
-module _ (cw w pitch cpitch k n a b c m : ℕ) (s : List ℕ) (narrow : n * w ≤ pitch) (row : k * w ≤ pitch) (wide : n * cw ≤ cpitch)
-    (apart-a : a + m * pitch ≤ c) (apart-b : b + k * pitch ≤ c) where
+-- the elements of A and B lie before those of C: A's last row ends before it
+module _ (cw w pitch cpitch k n a b c m : ℕ) (s : List ℕ) (narrow : n * w ≤ pitch) (wide : n * cw ≤ cpitch)
+    (apart-a : a + m * pitch + k * w ≤ c + pitch) (apart-b : b + k * pitch ≤ c) where
   abbrev at : ℕ → ℕ
   at i = c + i * cpitch
 

@@ -6,13 +6,13 @@ ghost use lib.ListN.{length, getD};
 ghost use Rattle.width.specs.Tile.{le, putRow};
 ghost use Rattle.machine.specs.Operation.{product};
 ghost use Rattle.width.specs.Bounds.{mostColumns};
-ghost use Rattle.element.specs.Element.{Width};
+ghost use Rattle.element.specs.Element.{Short};
 ghost use Rattle.sums.specs.Rows.{plusProduct, productRow, weightedRow};
 
 // acc[j] plus x times the signed element j of the row at `at`.
 fn mac_row(acc: &mut [u32], s: &[u8], at: usize, width: usize, n: usize, x: u32)
     requires { ⌜ n ≤ length (now acc) ⌝ }
-    requires { ⌜ Width width ⌝ }
+    requires { ⌜ Short width ⌝ }
     requires { ⌜ at + n * width ≤ length (now s) ⌝ }
     ensures { λ _. ⌜ ((j : ℕ) → j < n → getD (now (acc .exit)) j 0 ≡ plusProduct 4 (getD (now (acc .entry)) j 0) x (now (s .entry)) (at + j * width) width) ⌝ }
 {
@@ -29,7 +29,7 @@ fn mac_row(acc: &mut [u32], s: &[u8], at: usize, width: usize, n: usize, x: u32)
 // The same; the width is a literal in each call, so that the compiler knows the loop's step.
 fn mac(acc: &mut [u32], s: &[u8], at: usize, width: usize, n: usize, x: u32)
     requires { ⌜ n ≤ length (now acc) ⌝ }
-    requires { ⌜ Width width ⌝ }
+    requires { ⌜ Short width ⌝ }
     requires { ⌜ at + n * width ≤ length (now s) ⌝ }
     ensures { λ _. ⌜ ((j : ℕ) → j < n → getD (now (acc .exit)) j 0 ≡ plusProduct 4 (getD (now (acc .entry)) j 0) x (now (s .entry)) (at + j * width) width) ⌝ }
 {
@@ -56,7 +56,7 @@ fn add_products(
     n: usize,
 )
     requires { ⌜ n ≤ length (now acc) ⌝ }
-    requires { ⌜ Width width ⌝ }
+    requires { ⌜ Short width ⌝ }
     requires { ⌜ n * width ≤ pitch ⌝ }
     requires { ⌜ a + k * width ≤ length (now s) ⌝ }
     requires { ⌜ b + k * pitch ≤ length (now s) ⌝ }
@@ -101,7 +101,7 @@ pub fn multiply_row(
     n: usize,
 )
     requires { ⌜ n ≤ mostColumns ⌝ }
-    requires { ⌜ Width width ⌝ }
+    requires { ⌜ Short width ⌝ }
     requires { ⌜ n * width ≤ pitch ⌝ }
     requires { ⌜ (a + k * width ≤ length (now s)) × ((b + k * pitch ≤ length (now s)) × (c + n * 4 ≤ length (now s))) ⌝ }
     ensures { λ _. ⌜ now (s .exit) ≡ putRow c n 4 (productRow (now (s .entry)) 4 width pitch k a b c) (now (s .entry)) ⌝ }
@@ -115,7 +115,7 @@ pub fn multiply_row(
 // The row at `to` becomes x times itself plus y times the row at `from`.
 pub fn weigh_row(s: &mut [u8], from: usize, to: usize, width: usize, n: usize, x: u32, y: u32)
     requires { ⌜ n ≤ mostColumns ⌝ }
-    requires { ⌜ Width width ⌝ }
+    requires { ⌜ Short width ⌝ }
     requires { ⌜ (from + n * width ≤ length (now s)) × (to + n * 4 ≤ length (now s)) ⌝ }
     ensures { λ _. ⌜ now (s .exit) ≡ putRow to n 4 (weightedRow (now (s .entry)) from to width 4 x y) (now (s .entry)) ⌝ }
 {

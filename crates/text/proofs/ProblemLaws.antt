@@ -1,7 +1,7 @@
 -- Laws of the problem that numbers pose: its tests, of the numbers as the code holds them.
 use Prim.Native.Nat.{ℕ, zero, suc, _+_, _*_, _-_, _^_, _≤_, _<_, min}
 use mathlib.Core.Path.{_≡_, refl, sym, ap, ap₂, _∙_, subst}
-use mathlib.Core.Bool.{Bool, true, false, cond}
+use mathlib.Core.Bool.{Bool, true, false, not, _||_, cond}
 use mathlib.Core.List.{List, [], _∷_, _++_, map}
 use mathlib.Core.Option.{Option, none, some, Option·map}
 use mathlib.Core.Logic.{_⊎_, inl, inr}
@@ -15,8 +15,7 @@ use lib.Seq.{drop-cons, length-take-le}
 use borrow.Author.Tests.{leb-true, eqb-true, ne-eqb, le-leb, lt-leb, lt-ltb, le-ltb}
 use Rattle.width.proofs.BlockLaws.{le-or-lt}
 use Rattle.machine.specs.Tests.{all, every, allOf, isIn}
-use Rattle.machine.specs.Geometry.{elen}
-use Rattle.machine.proofs.TestLaws.{Each, every-each, each-every, each-in, all-at, false-true}
+use Rattle.machine.proofs.TestLaws.{Each, every-each, each-every, each, each-in, or-not, all-at, false-true}
 use Rattle.run.specs.Start.{format}
 use Rattle.plan_numbers.proofs.PlanLaws.{sews, factors}
 use Rattle.text.specs.declared.Parsed.{Parsed}
@@ -80,19 +79,29 @@ each-end h xs i l = rw (drop-of-length-le xs l)
 
 -- ---- formats
 
-module _ (s f : ℕ) (ok : format s f ≡ true) where
-  parts : Each (isIn s sews ∷ isIn f factors ∷ leb (f * s) elen ∷ [])
-  unfolding format
-  parts = every-each (isIn s sews ∷ isIn f factors ∷ leb (f * s) elen ∷ []) ok
+-- the SEW of `product`, whose machine has ELEN 32
+abbrev shorts : List ℕ
+shorts = 8 ∷ 16 ∷ 32 ∷ []
 
-  pub format-sew : isIn s sews ≡ true
-  format-sew = parts .0
+shortly : each sews (λ s. each factors (λ f. not (leb (f * s) 32) || isIn s shorts)) ≡ true
+shortly = refl
+
+module _ (s f : ℕ) (ok : format 32 s f ≡ true) where
+  parts : Each (isIn s sews ∷ isIn f factors ∷ leb (f * s) 32 ∷ [])
+  unfolding format
+  parts = every-each (isIn s sews ∷ isIn f factors ∷ leb (f * s) 32 ∷ []) ok
+
+  pub format-sew : isIn s (8 ∷ 16 ∷ 32 ∷ []) ≡ true
+  format-sew =
+      or-not (not (leb (f * s) 32)) (isIn s shorts)
+      (each-in f factors (λ f. not (leb (f * s) 32) || isIn s shorts) (each-in s sews (λ s. each factors (λ f. not (leb (f * s) 32) || isIn s shorts)) shortly (parts .0)) (parts .1 .0))
+      (ap not (parts .1 .1 .0))
 
   pub format-bounds : (s ≤ 32) × (f ≤ 4)
-  format-bounds = (leb-true s 32 (each-in s sews (λ y. leb y 32) refl (parts .0)), leb-true f 4 (each-in f factors (λ y. leb y 4) refl (parts .1 .0)))
+  format-bounds = (leb-true s 32 (each-in s shorts (λ y. leb y 32) refl format-sew), leb-true f 4 (each-in f factors (λ y. leb y 4) refl (parts .1 .0)))
 
   pub format-half : 2 ^ (s - 1) ≤ 2147483648
-  format-half = leb-true (2 ^ (s - 1)) 2147483648 (each-in s sews (λ y. leb (2 ^ (y - 1)) 2147483648) refl (parts .0))
+  format-half = leb-true (2 ^ (s - 1)) 2147483648 (each-in s shorts (λ y. leb (2 ^ (y - 1)) 2147483648) refl format-sew)
 
 -- ---- the tests, of the numbers as the code holds them
 
@@ -107,7 +116,7 @@ pub record Five (xs : List ℕ) (s f m k n : ℕ) : Type 0 where
 
 abbrev pub heldTests : List ℕ → (s f m k n : ℕ) → List Bool
 heldTests xs s f m k n =
-    format s f
+    format 32 s f
     ∷ leb m 16
     ∷ leb k 16
     ∷ leb n 16
@@ -140,13 +149,13 @@ module _ (zs : List ℤ) (xs : List ℕ) (e : map held zs ≡ xs) where
 
     -- both lists of tests, where the numbers are the same
     module _ (q : Same zs s f m k n) where
-      formats : format (posedBy zs .sew) (posedBy zs .factor) ≡ format s f
-      formats = ap₂ format (q .0) (q .1)
+      formats : format 32 (posedBy zs .sew) (posedBy zs .factor) ≡ format 32 s f
+      formats = ap₂ (format 32) (q .0) (q .1)
 
       counts : eqb (length zs) (5 + posedBy zs .m * posedBy zs .k + posedBy zs .k * posedBy zs .n) ≡ eqb (length xs) (5 + m * k + k * n)
       counts = rw (q .2, q .3, q .4, same-length)
 
-      elements : format s f ≡ true → every (map (holds (2 ^ (posedBy zs .sew - 1))) (drop 5 zs)) ≡ allOf (inside (2 ^ (s - 1))) (drop 5 xs)
+      elements : format 32 s f ≡ true → every (map (holds (2 ^ (posedBy zs .sew - 1))) (drop 5 zs)) ≡ allOf (inside (2 ^ (s - 1))) (drop 5 xs)
       elements ok =
           ap (λ (y : ℕ). every (map (holds (2 ^ (y - 1))) (drop 5 zs))) (q .0)
           ∙ sym (each-held (2 ^ (s - 1)) (drop 5 zs) (format-half s f ok)) ∙ ap (allOf (inside (2 ^ (s - 1)))) (sym (drop-map held 5 zs) ∙ ap (drop 5) e)
@@ -272,7 +281,7 @@ parse-all t out n r h k e f = go (numbers t) refl e
 -- ---- what is known of a problem that a text poses
 
 pub record Known (p : Problem) : Type 0 where
-  pub formatted : format (p .sew) (p .factor) ≡ true
+  pub formatted : format 32 (p .sew) (p .factor) ≡ true
   pub small-m : p .m ≤ 16
   pub small-k : p .k ≤ 16
   pub small-n : p .n ≤ 16

@@ -56,7 +56,7 @@ tests zs p =
     -- the five are not below 0
     ∷ all 5 (λ i. fromZero (nth zs i))
     -- "numbers the run refuses with 8": "SEW not 8, 16 or 32, f not 1, 2 or 4, f x SEW above ELEN" (no size up to 16 is above 1,024)
-    ∷ format (p .sew) (p .factor)
+    ∷ format 32 (p .sew) (p .factor)
     -- "a size not from 0 to 16"
     ∷ leb (p .m) 16
     ∷ leb (p .k) 16

@@ -244,7 +244,7 @@ fn check(xs: &[u64]) -> Parsed
     let m = size(xs[2]);
     let k = size(xs[3]);
     let n = size(xs[4]);
-    if !plan_numbers::is_format(sew, factor) {
+    if !plan_numbers::is_format(32, sew, factor) {
         return Parsed::Refused;
     }
     if 16 < m {

@@ -71,7 +71,7 @@ module _ (grant : ℕ → ℕ → ℕ → ℕ) (m : Machine) (regs marks : List 
 
   module _ (h : sound m regs marks ≡ true) where
     room : 16 * (M .rows * M .pitch) ≡ length regs
-    room = let s = sound-is m regs marks h in permitted-lengths (m .rlen) (m .mlen) (s .lengths) .2 ∙ sym (s .state .regs-length)
+    room = let s = sound-is m regs marks h in permitted-lengths (m .rlen) (m .mlen) (m .elen) (s .lengths) .2 ∙ sym (s .state .regs-length)
 
     -- the marks are as many as the register bytes
     pub same-length : length marks ≡ length regs

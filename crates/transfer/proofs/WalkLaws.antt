@@ -16,7 +16,8 @@ use Rattle.element.specs.Element.{Width}
 pub width-some : (w : ℕ) → Width w → zero < w
 width-some w (inl e) = omega arith
 width-some w (inr (inl e)) = omega arith
-width-some w (inr (inr e)) = omega arith
+width-some w (inr (inr (inl e))) = omega arith
+width-some w (inr (inr (inr e))) = omega arith
 
 -- the first one lies at the base
 pub first-at : (base stride : ℕ) → rowAt base stride 0 ≡ base

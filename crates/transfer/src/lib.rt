@@ -6,9 +6,11 @@ use address::rows_inside;
 use element::read1;
 use element::read2;
 use element::read4;
+use element::read8;
 use element::write1;
 use element::write2;
 use element::write4;
+use element::write8;
 use machine::Answer;
 use machine::Form;
 use machine::is_done;
@@ -45,7 +47,11 @@ fn copy_element(dst: &mut [u8], src: &[u8], to: usize, from: usize, w: usize)
         write2(dst, to, read2(src, from));
         return;
     }
-    write4(dst, to, read4(src, from));
+    if w == 4 {
+        write4(dst, to, read4(src, from));
+        return;
+    }
+    write8(dst, to, read8(src, from));
 }
 
 // Copies n elements that lie one stride apart in src to the front of dst, one after another.

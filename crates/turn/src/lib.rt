@@ -34,6 +34,7 @@ fn at_place(run: Run, place: Place) -> Run
         rlen: run.rlen,
         mlen: run.mlen,
         rule: run.rule,
+        elen: run.elen,
         place: place,
     }
 }

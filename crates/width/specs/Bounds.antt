@@ -1,29 +1,34 @@
--- The largest machine: every bound that the tile functions ask for follows from the largest RLEN and MLEN.
+-- The largest machine: every bound that the tile functions ask for follows from the largest RLEN, MLEN and ELEN. And the block of a product
+-- that the kernels take at once: a larger tile is multiplied in blocks.
 use Prim.Native.Nat.{ℕ, _/_}
 
 -- RLEN and MLEN, in bits
 abbrev pub mostRlen : ℕ
-mostRlen = 512
+mostRlen = 4096
 
 abbrev pub mostMlen : ℕ
-mostMlen = 4096
+mostMlen = 65536
+
+-- ELEN, in bits
+abbrev pub mostElen : ℕ
+mostElen = 64
 
 -- the bytes of a row of a tile register: RLEN / 8
 abbrev pub mostPitch : ℕ
 mostPitch = mostRlen / 8
 
--- the columns of a tile: as many as a row has bytes, of elements of one byte
-abbrev pub mostColumns : ℕ
-mostColumns = mostPitch
-
--- the columns of a tile of elements of four bytes
-abbrev pub mostFloats : ℕ
-mostFloats = mostPitch / 4
-
 -- the bytes of a tile register: MLEN / 8
 abbrev pub mostSize : ℕ
 mostSize = mostMlen / 8
 
--- the terms of a product: the largest min (MLEN / RLEN) (RLEN / 8) of all permitted lengths, as at RLEN 256 and MLEN 4096
+-- the columns of a block
+abbrev pub mostColumns : ℕ
+mostColumns = 64
+
+-- the columns of a block of elements of four bytes
+abbrev pub mostFloats : ℕ
+mostFloats = mostColumns / 4
+
+-- the terms of a block
 abbrev pub mostTerms : ℕ
 mostTerms = 16

@@ -3,7 +3,7 @@ use native.Mathlib.Omega.{arith}
 use mathlib.Core.Path.{sym, ap, _∙_}
 use Prim.Native.Nat.{ℕ, _+_, _*_}
 use Rattle.width.specs.Tile.{putTile}
-use Rattle.element.proofs.Laws.{not-4}
+use Rattle.element.proofs.Laws.{not-4, short}
 use Rattle.sums.specs.Rows.{productRow}
 use borrow.Author.Needs.{needs}
 use Rattle.arithmetic.proofs.multiply_rows.Statement.{statement}
@@ -33,7 +33,7 @@ multiply-rows-requires-3 c κs =
     let a = k .args in
     let p = k .pre in
     let e = ap (λ (w : ℕ). a .n * w) (c .before .before .if1 .left) in
-    (p .0, (not-4 (a .width) (p .1 .0 .0) (c .before .if2 .left), ((p .1 .1 .0 .0, (p .1 .1 .0 .1 .0, omega (arith, p, e))), p .1 .1 .1)))
+    (p .0, (not-4 (a .width) (short (a .width) (p .1 .0 .0) (omega (arith, p, c .before .before .if1 .left))) (c .before .if2 .left), ((p .1 .1 .0 .0, (p .1 .1 .0 .1 .0, omega (arith, p, e))), (p .1 .1 .1 .0, (p .1 .1 .1 .1 .0, (p .1 .1 .1 .1 .1 .0, omega (arith, p, e)))))))
 
 same-length-3 : tie.Need-same-length-3
 same-length-3 c = search needs

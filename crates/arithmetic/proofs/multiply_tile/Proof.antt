@@ -36,8 +36,8 @@ mul-at-c-2 c = let f = bounds c in omega arith
 mul-wide : tie.Need-mul-wide
 mul-wide c = let f = bounds c in omega arith
 
-multiply-rows-requires : tie.Need-multiply-rows-requires
-multiply-rows-requires c κs =
+multiply-blocks-requires : tie.Need-multiply-blocks-requires
+multiply-blocks-requires c κs =
     let k = c .before in
     let p = k .before .pre in
     let a = k .before .args in
@@ -50,7 +50,7 @@ same-length c = search needs
 
 returns : tie.Need-returns
 unfolding productTile
-returns c = c .before .before .multiply-rows .ensures
+returns c = c .before .before .multiply-blocks .ensures
 
 pub multiply-tile-spec : {M : Type 1} → statement M
 multiply-tile-spec =
@@ -63,6 +63,6 @@ multiply-tile-spec =
     add-at-c
     mul-at-c-2
     mul-wide
-    multiply-rows-requires
+    multiply-blocks-requires
     same-length
     returns)

@@ -12,7 +12,7 @@ packed-requires c κs = search needs
 returns : tie.Need-returns
 returns c =
     let a = c .before .before .before .before .before .args in
-    start-short (a .rlen) (a .mlen) (a .rule) (a .seal-start) (a .seal-length) (a .machine .now) (a .registers .now) (a .marks .now) (c .packed .result)
+    start-short (a .rlen) (a .mlen) (a .elen) (a .rule) (a .seal-start) (a .seal-length) (a .machine .now) (a .registers .now) (a .marks .now) (c .packed .result)
     (c .before .if1 .taken) (c .packed .ensures)
 
 start-requires : tie.Need-start-requires
@@ -32,8 +32,8 @@ returns-2 c =
     let d = c .before .before in
     let s = d .before .before .before in
     let a = s .before .before .before .before .before .before .args in
-    start-shown (a .rlen) (a .mlen) (a .rule) (a .seal-start) (a .seal-length) (a .machine .now) (a .registers .now) (a .marks .now)
-    false (s .start .result) (a .machine .now) (s .start .last .1 .1 .1 .1 .1 .1 .0) (c .packed2 .result)
+    start-shown (a .rlen) (a .mlen) (a .elen) (a .rule) (a .seal-start) (a .seal-length) (a .machine .now) (a .registers .now) (a .marks .now)
+    false (s .start .result) (a .machine .now) (s .start .last .1 .1 .1 .1 .1 .1 .1 .0) (c .packed2 .result)
     (s .before .before .if1 .left) (s .start .ensures)
     (sym (d .is-done .ensures) ∙ not-true (d .is-done .result) (c .before .if2 .taken)) refl (c .packed2 .ensures)
 
@@ -55,8 +55,8 @@ returns-3 c =
     let d = p .before .before .before .before in
     let s = d .before .before .before in
     let a = s .before .before .before .before .before .before .args in
-    start-shown (a .rlen) (a .mlen) (a .rule) (a .seal-start) (a .seal-length) (a .machine .now) (a .registers .now) (a .marks .now)
-    true (s .start .result) (p .put-machine .last .0) (s .start .last .1 .1 .1 .1 .1 .1 .0) (c .packed3 .result)
+    start-shown (a .rlen) (a .mlen) (a .elen) (a .rule) (a .seal-start) (a .seal-length) (a .machine .now) (a .registers .now) (a .marks .now)
+    true (s .start .result) (p .put-machine .last .0) (s .start .last .1 .1 .1 .1 .1 .1 .1 .0) (c .packed3 .result)
     (s .before .before .if1 .left) (s .start .ensures)
     (sym (d .is-done .ensures) ∙ not-false (d .is-done .result) (p .before .before .before .if2 .left)) (p .put-machine .ensures) (c .packed3 .ensures)
 

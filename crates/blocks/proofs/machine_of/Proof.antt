@@ -35,7 +35,10 @@ ends : (s : tie.Start) → machineBytes ≤ length (s .args .block .now)
 ends s = omega arith
 
 read8-requires-9 : tie.Need-read8-requires-9
-read8-requires-9 c κs = ends (c .before .before .before .before .before .before .before .before .before)
+read8-requires-9 c κs = let e = ends (c .before .before .before .before .before .before .before .before .before) in omega arith
+
+read8-requires-10 : tie.Need-read8-requires-10
+read8-requires-10 c κs = ends (c .before .before .before .before .before .before .before .before .before .before)
 
 returns : tie.Need-returns
 unfolding machineOf
@@ -54,4 +57,5 @@ machine-of-spec =
     read8-requires-7
     read8-requires-8
     read8-requires-9
+    read8-requires-10
     returns)

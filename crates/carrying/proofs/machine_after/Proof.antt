@@ -4,10 +4,11 @@ use Prim.Native.Nat.{_-_}
 use native.Mathlib.Omega.{arith}
 use Rattle.machine.specs.declared.Machine.{Machine}
 use Rattle.machine.specs.declared.Dimension.the-variants.{DimensionM, DimensionK, DimensionN}
-use Rattle.machine.specs.Geometry.{elen, benchOf}
+use Rattle.machine.specs.Geometry.{benchOf}
 use Rattle.machine.specs.Setting.{newType}
 use Rattle.settings.specs.Parts.{withType}
 use Rattle.settings.proofs.FaultLaws.{numbers-ready}
+use Rattle.settings.proofs.TypeLaws.{ready-elen}
 use Rattle.run.specs.declared.Place.{Place}
 use Rattle.run.specs.Words.{Op}
 use Rattle.run.specs.Plan.{typeOf}
@@ -31,7 +32,7 @@ type-of-requires : tie.Need-type-of-requires
 type-of-requires c κs = search needs
 
 kept-type-requires : tie.Need-kept-type-requires
-kept-type-requires c κs = search needs
+kept-type-requires c κs = let s = c .before .before .before .before in ready-elen (s .args .m) (numbers-ready (s .args .m) (s .pre .0))
 
 with-type-requires : tie.Need-with-type-requires
 with-type-requires c κs = search needs
@@ -106,7 +107,7 @@ returns c =
     let s = t .before .before .before in
     let R = s .args .run in
     let N = run-numbered R (s .pre .1) in
-    let v = w .with-type .ensures ∙ ap (withType (s .args .m)) (c .before .kept-type .ensures ∙ ap (newType elen) (c .before .before .type-of .ensures .0)) in
+    let v = w .with-type .ensures ∙ ap (withType (s .args .m)) (c .before .kept-type .ensures ∙ ap (newType (s .args .m .elen)) (c .before .before .type-of .ensures .0)) in
     λ regs marks mem so. v ∙ ap numbers (type-carried (R .plan) Op.setType (s .args .m) regs marks mem so (typeOf (R .plan)) (decode-type (typeOf (R .plan)) (plan-type (R .plan) (run-planned R N)))
     ∙ at-place R (benchOf (s .args .m) regs marks mem) _ (t .enum-told .given .1))
 

@@ -1,6 +1,7 @@
-use mathlib.Core.Path.{_≡_}
+use mathlib.Core.Path.{_≡_, refl}
 use borrow.Author.Tests.{eq-eqb, ne-eqb}
 use Rattle.run.specs.Plan.{integers, floats, elementsOf}
+use Rattle.width.specs.Bounds.{mostElen}
 use Rattle.run.proofs.WordLaws.{formats}
 use Rattle.carrying.proofs.CarriedLaws.{plan-format, multiply-carried}
 use borrow.Author.Needs.{needs}
@@ -14,7 +15,7 @@ returns c =
     let a = s .args in
     let k = l .float-multiply .ensures in
     let q : elementsOf (a .plan) ≡ floats = rw (eq-eqb (a .plan .kind) 2 (c .before .before .before .before .if1 .taken)) in
-    let F = formats (a .plan .sew) (a .plan .factor) (plan-format (a .plan) (s .pre .1)) .1 in
+    let F = formats mostElen (a .plan .sew) (a .plan .factor) refl (plan-format (a .plan) (s .pre .1)) .1 in
     λ mem. multiply-carried (a .plan) (s .pre .1) (a .m) (a .registers .now) (a .marks .now) mem (s .pre .0) (F .factor) (F .is) (l .float-multiply .result) _ _ floats q
     (record { answer-is = k .answer-is; registers-are = k .registers-are; marks-are = k .marks-are })
 

@@ -11,7 +11,7 @@ use Rattle.checking.proofs.tile_of.Tie as tie
 
 -- the sizes of a register are small
 small : (c : tie.After-struct-known2) → let m = c .before .before .args .m in (0 < m .rlen) × (m .rlen / 8 ≤ mostPitch) × (m .mlen / m .rlen * (m .rlen / 8) ≤ mostSize)
-small c = let s = c .before .before in sizes-bounded (s .args .m .rlen) (s .args .m .mlen) (s .pre .0 .lengths)
+small c = let s = c .before .before in sizes-bounded (s .args .m .rlen) (s .args .m .mlen) (s .args .m .elen) (s .pre .0 .lengths)
 
 div-size : tie.Need-div-size
 div-size c = let b = small c in omega arith

@@ -30,7 +30,7 @@ loop-holds c = let a = c .before .before .before .before .before .args in (omega
 fits : (c : tie.In-loop Inv-loop μ-loop) →
     let a = c .before .before .before .before .before .before .before .args in
     let l = c .before .loop in
-    (l .from + a .pitch ≤ length (a .s .now)) × (l .to + 4 * a .pitch ≤ length (a .s .now))
+    (l .from + a .k * 4 ≤ length (a .s .now)) × (l .to + a .n * 4 ≤ length (a .s .now))
 fits c =
     let k = c .before .before .before .before .before .before .before in
     let l = c .before .loop in
@@ -52,7 +52,7 @@ multiply-row-requires c κs =
         (omega (arith, p), omega (arith, p)),
         λ r j lr lj. t .ensures r j lr lj
             ∙ ap valueOf (sym (same-b 4 4 (a .pitch) (4 * a .pitch) (a .k) (a .n) (a .a) (a .b) (a .c) (a .m) (a .s .now)
-            (p .1 .0 .0) (p .1 .0 .1) (omega (arith, p)) (p .1 .1 .0) (p .1 .1 .1 .0)
+            (p .1 .0 .0) (omega (arith, p)) (p .1 .1 .0) (p .1 .1 .1 .0)
             (λ i. floatRow (a .s .now) (a .pitch) (a .k) (a .a + i * a .pitch) (a .b) (a .c + i * (4 * a .pitch)))
             (l .i) (l .s) (e .loop-test .taken) (l .inv .5) r j lr lj)),
       ),
@@ -71,7 +71,7 @@ loop-again c =
       l .inv .3,
       w .kept .0 ∙ l .inv .4,
       rule-turn 4 4 (a .pitch) (4 * a .pitch) (a .k) (a .n) (a .a) (a .b) (a .c) (a .m) (a .s .now)
-          (p .1 .0 .0) (p .1 .0 .1) (omega (arith, p)) (p .1 .1 .0) (p .1 .1 .1 .0)
+          (p .1 .0 .0) (omega (arith, p)) (p .1 .1 .0) (p .1 .1 .1 .0)
           (floatProduct (a .k)) (λ old x y u v. product-cong old (a .k) x y u v)
           (l .i) (l .s) (e .loop-test .taken) (l .inv .5) (l .from) (l .to) (w .last .0) (l .inv .1) (l .inv .2) (w .ensures),
     )

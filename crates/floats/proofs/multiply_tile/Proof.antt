@@ -1,7 +1,7 @@
 -- The three tiles lie one after another in the registers.
 use native.Mathlib.Omega.{arith}
 use mathlib.Core.Path.{refl}
-use mathlib.Core.Logic.{inr}
+use mathlib.Core.Logic.{inl, inr}
 use lib.ListN.{length}
 use Rattle.arithmetic.proofs.RoomLaws.{Room, room}
 use Rattle.floats.specs.Rows.{floatTile}
@@ -15,21 +15,21 @@ bounds c =
     let a = c .before .args in
     let p = c .before .pre in
     room (a .rows) (a .pitch) 1 4 (a .d) (a .a) (a .b) (a .m) (a .k) (a .n) (length (a .registers .now))
-    (p .0) (p .1 .0) (inr (inr refl)) (omega arith) (p .1 .1 .0) (omega (arith, p), p .1 .1 .1)
+    (p .0) (p .1 .0) (inr (inr (inl refl))) (omega arith) (p .1 .1 .0) (omega (arith, p), p .1 .1 .1)
 
-multiply-rows-requires : tie.Need-multiply-rows-requires
-multiply-rows-requires c κs =
+multiply-blocks-requires : tie.Need-multiply-blocks-requires
+multiply-blocks-requires c κs =
     let p = c .before .before .pre in
     let f = bounds (c .before) in
     ((omega (arith, p), (p .1 .1 .0 .1 .1, p .1 .0 .1 .0)), (p .1 .1 .1, (omega arith, (omega arith, f .c-ends))))
 
 returns : tie.Need-returns
 unfolding floatTile
-returns c = c .before .before .multiply-rows .ensures
+returns c = c .before .before .multiply-blocks .ensures
 
 pub multiply-tile-spec : {M : Type 1} → statement M
 multiply-tile-spec =
     tie.close
     (tie.spec
     (λ c. search needs) (λ c. let f = bounds c in omega arith) (λ c. let f = bounds c in omega arith) (λ c. search needs) (λ c. search needs) (λ c. let f = bounds c in omega arith)
-    multiply-rows-requires (λ c. search needs) returns)
+    multiply-blocks-requires (λ c. search needs) returns)

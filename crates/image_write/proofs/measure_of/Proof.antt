@@ -22,7 +22,7 @@ header-size-requires : tie.Need-header-size-requires
 header-size-requires c κs = search needs
 
 -- the numbers and the runs are few
-few : (c : tie.After-header-size) → c .before .version-size .result + c .header-size .result + c .before .before .tally-of .result .bytes ≤ 200000
+few : (c : tie.After-header-size) → c .before .version-size .result + c .header-size .result + c .before .before .tally-of .result .bytes ≤ 4000000
 few c =
     let st = c .before .before .before .before .before in
     let a = st .args in

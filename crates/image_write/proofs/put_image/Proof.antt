@@ -13,7 +13,7 @@ use Rattle.image_write.proofs.put_image.Tie as tie
 
 -- the image fits the room, by its parts
 fits : (st : tie.Start) → let a = st .args in
-    length (encodeAll (version (a .m .rule)) []) + (length (encodeAll (fields (headerOf (a .m)) ++ (a .count ∷ [])) []) + length (runsBytes (runs (cellsOf (a .registers .now) (a .marks .now))))) ≤ length (a .room .now)
+    length (encodeAll (version (headerOf (a .m))) []) + (length (encodeAll (fields (headerOf (a .m)) ++ (a .count ∷ [])) []) + length (runsBytes (runs (cellsOf (a .registers .now) (a .marks .now))))) ≤ length (a .room .now)
 fits st =
     let a = st .args in
     omega (arith, st .pre .1 .1, size-is (a .m) (a .registers .now) (a .marks .now) (st .pre .0) (a .count) (st .pre .1 .0))

@@ -18,20 +18,20 @@ permitted-lengths-requires c κs = search needs
 returns : tie.Need-returns
 returns c =
     let a = c .before .before .before .before .args in
-    startable-by (a .rlen) (a .mlen) (a .rule) (a .seal-start) (a .seal-length) (a .registers .now) (a .marks .now) false _ _ _ _
+    startable-by (a .rlen) (a .mlen) (a .elen) (a .rule) (a .seal-start) (a .seal-length) (a .registers .now) (a .marks .now) false _ _ _ _
     (sym (c .before .permitted-lengths .ensures) ∙ not-true (c .before .permitted-lengths .result) (c .if1 .taken)) refl refl refl refl
 
 -- the lengths are permitted
-lengths-ok : (c : tie.Else1) → permitted (c .before .before .before .before .args .rlen) (c .before .before .before .before .args .mlen) ≡ true
+lengths-ok : (c : tie.Else1) → let a = c .before .before .before .before .args in permitted (a .rlen) (a .mlen) (a .elen) ≡ true
 lengths-ok c = sym (c .before .permitted-lengths .ensures) ∙ not-false (c .before .permitted-lengths .result) (c .if1 .left)
 
 mul-if2 : tie.Need-mul-if2
-mul-if2 c = let a = c .before .before .before .before .args in let b = permitted-bounds (a .rlen) (a .mlen) (lengths-ok c) in omega arith
+mul-if2 c = let a = c .before .before .before .before .args in let b = permitted-bounds (a .rlen) (a .mlen) (a .elen) (lengths-ok c) in omega arith
 
 returns-2 : tie.Need-returns-2
 returns-2 c =
     let a = c .before .before .before .before .before .args in
-    startable-by (a .rlen) (a .mlen) (a .rule) (a .seal-start) (a .seal-length) (a .registers .now) (a .marks .now) true false _ _ _
+    startable-by (a .rlen) (a .mlen) (a .elen) (a .rule) (a .seal-start) (a .seal-length) (a .registers .now) (a .marks .now) true false _ _ _
     (lengths-ok (c .before)) (ne-eqb (length (a .registers .now)) (2 * a .mlen) (c .if2 .taken)) refl refl refl
 
 mul-if3 : tie.Need-mul-if3
@@ -40,7 +40,7 @@ mul-if3 c = search needs
 returns-3 : tie.Need-returns-3
 returns-3 c =
     let a = c .before .before .before .before .before .before .args in
-    startable-by (a .rlen) (a .mlen) (a .rule) (a .seal-start) (a .seal-length) (a .registers .now) (a .marks .now) true true false _ _
+    startable-by (a .rlen) (a .mlen) (a .elen) (a .rule) (a .seal-start) (a .seal-length) (a .registers .now) (a .marks .now) true true false _ _
     (lengths-ok (c .before .before)) (eq-eqb (length (a .registers .now)) (2 * a .mlen) (c .before .if2 .left))
     (ne-eqb (length (a .marks .now)) (2 * a .mlen) (c .if3 .taken)) refl refl
 
@@ -51,7 +51,7 @@ returns-4 : tie.Need-returns-4
 returns-4 c =
     let e = c .before .before in
     let a = e .before .before .before .before .before .before .args in
-    startable-by (a .rlen) (a .mlen) (a .rule) (a .seal-start) (a .seal-length) (a .registers .now) (a .marks .now) true true true false _
+    startable-by (a .rlen) (a .mlen) (a .elen) (a .rule) (a .seal-start) (a .seal-length) (a .registers .now) (a .marks .now) true true true false _
     (lengths-ok (e .before .before)) (eq-eqb (length (a .registers .now)) (2 * a .mlen) (e .before .if2 .left))
     (eq-eqb (length (a .marks .now)) (2 * a .mlen) (e .if3 .left)) (sym (c .before .is-rule .ensures) ∙ not-true (c .before .is-rule .result) (c .if4 .taken)) refl
 
@@ -64,7 +64,7 @@ returns-5 c =
     let e = d .before .before in
     let a = e .before .before .before .before .before .before .args in
     c .seal-ends .ensures ∙ and-truth (sealEnds (a .seal-start) (a .seal-length))
-    ∙ startable-by (a .rlen) (a .mlen) (a .rule) (a .seal-start) (a .seal-length) (a .registers .now) (a .marks .now) true true true true (sealEnds (a .seal-start) (a .seal-length))
+    ∙ startable-by (a .rlen) (a .mlen) (a .elen) (a .rule) (a .seal-start) (a .seal-length) (a .registers .now) (a .marks .now) true true true true (sealEnds (a .seal-start) (a .seal-length))
     (lengths-ok (e .before .before)) (eq-eqb (length (a .registers .now)) (2 * a .mlen) (e .before .if2 .left))
     (eq-eqb (length (a .marks .now)) (2 * a .mlen) (e .if3 .left)) (sym (d .before .is-rule .ensures) ∙ not-false (d .before .is-rule .result) (d .if4 .left)) refl
 

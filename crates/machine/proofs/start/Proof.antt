@@ -25,7 +25,7 @@ returns c =
     let s = c .before .before in
     let a = s .before .before .before .before .args in
     ap (λ (m : Machine). record { answer = reply BadArguments; machine = m; registers = a .registers .now; marks = a .marks .now }) (c .no-machine .ensures)
-    ∙ started-as (a .rlen) (a .mlen) (a .rule) (a .seal-start) (a .seal-length) (a .registers .now) (a .marks .now) false
+    ∙ started-as (a .rlen) (a .mlen) (a .elen) (a .rule) (a .seal-start) (a .seal-length) (a .registers .now) (a .marks .now) false
     (sym (s .is-startable .ensures) ∙ not-true (s .is-startable .result) (c .before .if1 .taken))
 
 clear-requires : tie.Need-clear-requires
@@ -43,7 +43,7 @@ returns-2 c =
     let s = l .before .before .before in
     let a = s .before .before .before .before .args in
     ap₂ (λ (m : Machine) (z : List ℕ). record { answer = reply Done; machine = m; registers = a .registers .now; marks = z }) (c .fresh-machine .ensures) (l .clear .ensures)
-    ∙ started-as (a .rlen) (a .mlen) (a .rule) (a .seal-start) (a .seal-length) (a .registers .now) (a .marks .now) true
+    ∙ started-as (a .rlen) (a .mlen) (a .elen) (a .rule) (a .seal-start) (a .seal-length) (a .registers .now) (a .marks .now) true
     (sym (s .is-startable .ensures) ∙ not-false (s .is-startable .result) (l .before .before .if1 .left))
 
 pub start-spec : {M : Type 1} → statement M

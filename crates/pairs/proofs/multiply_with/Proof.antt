@@ -36,7 +36,7 @@ loop-holds c =
 fits : (c : tie.In-loop Inv-loop μ-loop) →
     let a = c .before .before .before .before .before .before .before .before .before .args in
     let l = c .before .loop in
-    (l .from + a .pitch ≤ length (a .s .now)) × (l .to + 4 * a .pitch ≤ length (a .s .now))
+    (l .from + a .k * a .width ≤ length (a .s .now)) × (l .to + a .n * 4 ≤ length (a .s .now))
 fits c =
     let k = c .before .before .before .before .before .before .before .before .before in
     let l = c .before .loop in
@@ -62,7 +62,7 @@ multiply-row-requires c κs =
             (omega (arith, p), omega (arith, p)),
             λ r j lr lj. c .before .before .before .before .before .before .interleave-tile .ensures r j lr lj
                 ∙ ap (λ (x : ℕ). reduce 65536 (signed (256 ^ a .width) x)) (sym (same-b 4 (a .width) (a .pitch) (4 * a .pitch) (a .k) (a .n) (a .a) (a .b) (a .c) (a .m) (a .s .now)
-                (q .0 .0) (q .0 .1 .0) (q .0 .1 .1) (q .1 .0 .0) (q .1 .0 .1 .0)
+                (q .0 .0) (q .0 .1 .1) (q .1 .0 .0) (q .1 .0 .1 .0)
                 (λ i. productRow (a .s .now) 4 (a .width) (a .pitch) (a .k) (a .a + i * a .pitch) (a .b) (a .c + i * (4 * a .pitch)))
                 (l .i) (l .s) (d .loop-test .taken) (l .inv .5) r j lr lj)),
           ),
@@ -95,7 +95,7 @@ loop-again c =
       l .inv .3,
       w .kept .0 ∙ l .inv .4,
       product-turn 4 (a .width) (a .pitch) (4 * a .pitch) (a .k) (a .n) (a .a) (a .b) (a .c) (a .m) (a .s .now)
-          (q .0 .0) (q .0 .1 .0) (q .0 .1 .1) (q .1 .0 .0) (q .1 .0 .1 .0)
+          (q .0 .0) (q .0 .1 .1) (q .1 .0 .0) (q .1 .0 .1 .0)
           (l .i) (l .s) (d .loop-test .taken) (l .inv .5) (l .from) (l .to) (w .last .0) (l .inv .1) (l .inv .2) (w .ensures),
     )
 

@@ -6,7 +6,6 @@ use native.Mathlib.Omega.{arith}
 use lib.Dec.{leb}
 use borrow.Author.Tests.{not-true, not-false}
 use Rattle.machine.specs.Tests.{isIn}
-use Rattle.machine.specs.Geometry.{elen}
 use Rattle.run.specs.Start.{format}
 use Rattle.plan_numbers.proofs.PlanLaws.{sews, factors, small-product}
 use Rattle.machine.proofs.TestLaws.{fails, last}
@@ -28,7 +27,7 @@ returns : tie.Need-returns
 unfolding format
 returns c =
     let a = c .before .before .args in
-    fails [] tt (isIn (a .sew) sews) (sym (c .before .is-sew .ensures) ∙ not-true (c .before .is-sew .result) (c .if1 .taken)) (isIn (a .factor) factors ∷ leb (a .factor * a .sew) elen ∷ [])
+    fails [] tt (isIn (a .sew) sews) (sym (c .before .is-sew .ensures) ∙ not-true (c .before .is-sew .result) (c .if1 .taken)) (isIn (a .factor) factors ∷ leb (a .factor * a .sew) (a .elen) ∷ [])
 
 is-factor-requires : tie.Need-is-factor-requires
 is-factor-requires c κs = search needs
@@ -38,7 +37,7 @@ unfolding format
 returns-2 c =
     let a = c .before .before .before .before .args in
     fails (isIn (a .sew) sews ∷ []) (ok-1 (c .before .before), tt) (isIn (a .factor) factors)
-    (sym (c .before .is-factor .ensures) ∙ not-true (c .before .is-factor .result) (c .if2 .taken)) (leb (a .factor * a .sew) elen ∷ [])
+    (sym (c .before .is-factor .ensures) ∙ not-true (c .before .is-factor .result) (c .if2 .taken)) (leb (a .factor * a .sew) (a .elen) ∷ [])
 
 mul-result : tie.Need-mul-result
 mul-result c =
@@ -49,7 +48,7 @@ returns-3 : tie.Need-returns-3
 unfolding format
 returns-3 c =
     let a = c .before .before .before .before .args in
-    last (isIn (a .sew) sews ∷ isIn (a .factor) factors ∷ []) (ok-1 (c .before .before), (ok-2 c, tt)) (leb (a .factor * a .sew) elen)
+    last (isIn (a .sew) sews ∷ isIn (a .factor) factors ∷ []) (ok-1 (c .before .before), (ok-2 c, tt)) (leb (a .factor * a .sew) (a .elen))
 
 pub is-format-spec : {M : Type 1} → statement M
 is-format-spec =

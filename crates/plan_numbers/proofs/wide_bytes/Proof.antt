@@ -1,8 +1,8 @@
-use mathlib.Core.Path.{ap, _∙_}
-use Prim.Native.Nat.{ℕ, _*_}
-use native.Mathlib.Nat.{mul-le-mul}
+use mathlib.Core.Path.{sym, ap, _∙_, subst}
+use Prim.Native.Nat.{ℕ, _*_, _≤_}
 use native.Mathlib.Omega.{arith}
-use Rattle.plan_numbers.proofs.PlanLaws.{plan-small}
+use Rattle.plan_numbers.proofs.PlanLaws.{plan-small, wide-small}
+use Rattle.run.specs.Plan.{narrow}
 use borrow.Author.Needs.{needs}
 use Rattle.plan_numbers.proofs.wide_bytes.Statement.{statement}
 use Rattle.plan_numbers.proofs.wide_bytes.Tie as tie
@@ -14,12 +14,13 @@ small-times-requires : tie.Need-small-times-requires
 small-times-requires c κs = let s = c .before in (omega (arith, plan-small (s .args .plan) (s .pre) .1), omega (arith, c .narrow-bytes .ensures .1))
 
 returns : tie.Need-returns
+unfolding narrow
 returns c =
     let n = c .before in
     let s = n .before in
     let P = s .args .plan in (
       c .small-times .ensures ∙ ap (λ (x : ℕ). P .factor * x) (n .narrow-bytes .ensures .0),
-      omega (arith, c .small-times .ensures, mul-le-mul (plan-small P (s .pre) .1) (n .narrow-bytes .ensures .1)),
+      subst (λ (x : ℕ). x ≤ 8) (sym (c .small-times .ensures ∙ ap (λ (x : ℕ). P .factor * x) (n .narrow-bytes .ensures .0))) (wide-small P (s .pre)),
     )
 
 pub wide-bytes-spec : {M : Type 1} → statement M

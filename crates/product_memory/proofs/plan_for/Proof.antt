@@ -2,13 +2,13 @@
 use native.Mathlib.Omega.{arith}
 use Prim.Native.Nat.{_*_, _/_}
 use borrow.Author.Needs.{needs}
-use Rattle.element.proofs.Laws.{width-small}
+use Rattle.element.proofs.Laws.{short-small}
 use Rattle.product_memory.proofs.MemoryLaws.{widths, row-small}
 use Rattle.product_memory.proofs.plan_for.Statement.{statement}
 use Rattle.product_memory.proofs.plan_for.Tie as tie
 
 mul-wide : tie.Need-mul-wide
-mul-wide c = let a = c .args in omega (arith, width-small (a .factor * (a .sew / 8)) (widths (a .sew) (a .factor) (c .pre .1) .1))
+mul-wide c = let a = c .args in omega (arith, short-small (a .factor * (a .sew / 8)) (widths (a .sew) (a .factor) (c .pre .1) .1))
 
 mul-t8 : tie.Need-mul-t8
 mul-t8 c = let a = c .args in omega (arith, row-small (a .k) (a .sew / 8) (c .pre .0 .1 .0) (widths (a .sew) (a .factor) (c .pre .1) .0))

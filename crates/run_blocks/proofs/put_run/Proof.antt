@@ -24,13 +24,16 @@ write8-requires-3 c κs = search needs
 write8-requires-4 : tie.Need-write8-requires-4
 write8-requires-4 c κs = search needs
 
+write8-requires-5 : tie.Need-write8-requires-5
+write8-requires-5 c κs = search needs
+
 same-length : tie.Need-same-length
 same-length c = search needs
 
 returns : tie.Need-returns
 returns c =
-    put-run-is (c .before .before .before .before .before .before .before .before .before .before .before .before .before .before .before .before .before .before .before .before .before .before .before .before .before .before .before .args .block .now) (c .before .before .before .before .before .before .before .before .before .before .before .before .before .before .before .before .before .before .before .before .before .before .before .before .before .before .before .args .run) (c .before .before .before .before .before .before .before .before .before .before .before .before .spot-of .result) (c .before .before .before .before .before .before .before .before .before .before .before .before .spot-of .ensures) (c .before .before .before .before .before .before .before .before .before .before .before .before .before .before .before .before .before .before .before .before .before .before .before .put-plan .ensures)
-    (c .before .before .before .before .before .before .before .before .before .before .before .before .before .before .before .before .before .before .before .write8 .ensures) (c .before .before .before .before .before .before .before .before .before .before .before .before .before .before .before .write82 .ensures) (c .before .before .before .before .before .before .before .before .before .before .put-spot .ensures) (c .before .before .before .before .before .before .write83 .ensures) (c .before .before .write84 .ensures)
+    put-run-is (c .before .before .before .before .before .before .before .before .before .before .before .before .before .before .before .before .before .before .before .before .before .before .before .before .before .before .before .before .before .before .before .args .block .now) (c .before .before .before .before .before .before .before .before .before .before .before .before .before .before .before .before .before .before .before .before .before .before .before .before .before .before .before .before .before .before .before .args .run) (c .before .before .before .before .before .before .before .before .before .before .before .before .before .before .before .before .spot-of .result) (c .before .before .before .before .before .before .before .before .before .before .before .before .before .before .before .before .spot-of .ensures) (c .before .before .before .before .before .before .before .before .before .before .before .before .before .before .before .before .before .before .before .before .before .before .before .before .before .before .before .put-plan .ensures)
+    (c .before .before .before .before .before .before .before .before .before .before .before .before .before .before .before .before .before .before .before .before .before .before .before .write8 .ensures) (c .before .before .before .before .before .before .before .before .before .before .before .before .before .before .before .before .before .before .before .write82 .ensures) (c .before .before .before .before .before .before .before .before .before .before .before .before .before .before .put-spot .ensures) (c .before .before .before .before .before .before .before .before .before .before .write83 .ensures) (c .before .before .before .before .before .before .write84 .ensures) (c .before .before .write85 .ensures)
 
 pub put-run-spec : {M : Type 1} → statement M
 put-run-spec =
@@ -43,5 +46,6 @@ put-run-spec =
     put-spot-requires
     write8-requires-3
     write8-requires-4
+    write8-requires-5
     same-length
     returns)

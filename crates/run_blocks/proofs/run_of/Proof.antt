@@ -21,10 +21,13 @@ read8-requires-2 c κs = search needs
 read8-requires-3 : tie.Need-read8-requires-3
 read8-requires-3 c κs = search needs
 
+read8-requires-4 : tie.Need-read8-requires-4
+read8-requires-4 c κs = search needs
+
 returns : tie.Need-returns
 returns c =
-    run-is (c .before .before .before .before .before .before .before .args .block .now) (c .before .before .before .before .before .plan-of .ensures) (c .before .before .before .before .spot-in .ensures) (c .before .before .before .place-of .ensures)
-    (c .before .before .read8 .ensures) (c .before .read82 .ensures) (c .read83 .ensures)
+    run-is (c .before .before .before .before .before .before .before .before .args .block .now) (c .before .before .before .before .before .before .plan-of .ensures) (c .before .before .before .before .before .spot-in .ensures) (c .before .before .before .before .place-of .ensures)
+    (c .before .before .before .read8 .ensures) (c .before .before .read82 .ensures) (c .before .read83 .ensures) (c .read84 .ensures)
 
 pub run-of-spec : {M : Type 1} → statement M
 run-of-spec =
@@ -36,4 +39,5 @@ run-of-spec =
     read8-requires
     read8-requires-2
     read8-requires-3
+    read8-requires-4
     returns)

@@ -18,13 +18,13 @@ use Rattle.run_places.proofs.is_sound_run.Tie as tie
 
 -- the tests in their order
 abbrev lengths : Run → Bool
-lengths R = permitted (R .rlen) (R .mlen)
+lengths R = permitted (R .rlen) (R .mlen) (R .elen)
 
 abbrev rules : Run → Bool
 rules R = isRule (R .rule)
 
 abbrev plans : Run → Bool
-plans R = planned (R .plan)
+plans R = planned (R .elen) (R .plan)
 
 abbrev places : Run → Bool
 places R = placed (R .plan) (R .place)

@@ -3,7 +3,7 @@ use Prim.Native.Nat.{ℕ, _/_, min}
 use native.Mathlib.Omega.{arith}
 use Rattle.machine.specs.Setting.{maximum, smaller}
 use Rattle.settings.specs.Parts.{ours}
-use Rattle.machine.proofs.CodeLaws.{arises}
+use Rattle.settings.proofs.TypeLaws.{ready-legal}
 use Rattle.machine.proofs.StepLaws.{permitted-bounds}
 use borrow.Author.Needs.{needs}
 use Rattle.settings.proofs.largest.Statement.{statement}
@@ -12,13 +12,13 @@ use Rattle.settings.proofs.largest.Tie as tie
 div-rows : tie.Need-div-rows
 div-rows c =
     let s = c .before in
-    let b = permitted-bounds (s .args .m .rlen) (s .args .m .mlen) (s .pre .0 .lengths) in
+    let b = permitted-bounds (s .args .m .rlen) (s .args .m .mlen) (s .args .m .elen) (s .pre .0 .lengths) in
     omega arith
 
 sew-bytes-requires : tie.Need-sew-bytes-requires
 sew-bytes-requires c κs =
     let s = c .before .before in
-    arises (s .args .m .mtype) (s .pre .0 .type-arises) (s .pre .1)
+    ready-legal (s .args .m) (s .pre .0) (s .pre .1)
 
 div-columns : tie.Need-div-columns
 div-columns c = search needs

@@ -60,7 +60,7 @@ returns c =
     let s = t .before .before .before .before .before in
     let a = s .args in
     multiplied (a .sew) (a .factor) (a .m) (a .k) (a .n) (s .pre .1 .0) (s .pre .0 .0) (s .pre .0 .1 .0) (s .pre .0 .1 .1)
-    (t .start .result) (t .start .last .1 .1 .1 .1 .1 .1 .0) (a .memory .now) (t .start .ensures) (s .pre .1 .1 .0)
+    (t .start .result) (t .start .last .1 .1 .1 .1 .1 .1 .1 .0) (a .memory .now) (t .start .ensures) (s .pre .1 .1 .0)
     (q .plan-for .result) (q .plan-for .ensures)
     (finishedAs (p .whole .result) (p .whole .last .1 .1 .0) (p .whole .last .1 .1 .1 .0) (p .whole .last .1 .1 .1 .1 .0)) (p .whole .ensures .1)
     (r .read-elements .last .0) (λ j l. r .read-elements .ensures .1 j (omega arith))

@@ -3,8 +3,8 @@ use Prim.Native.Nat.{_*_, _/_, _≤_}
 use native.Mathlib.Nat.{mul-le-mul}
 use native.Mathlib.Omega.{arith}
 use lib.ListN.{replicate}
-use Rattle.element.specs.Element.{Width}
-use Rattle.element.proofs.Laws.{width-small}
+use Rattle.element.specs.Element.{Short}
+use Rattle.element.proofs.Laws.{short-small}
 use Rattle.product_memory.proofs.MemoryLaws.{widths, matrix-small}
 use Rattle.text.specs.Output.{answerText}
 use Rattle.lines.specs.Parts.{Wrote}
@@ -18,7 +18,7 @@ areas : (s : tie.Start) → (s .args .m * s .args .k ≤ 256) × (s .args .k * s
 areas s = let p = s .pre .0 in (mul-le-mul (p .0) (p .1 .0), mul-le-mul (p .1 .0) (p .1 .1))
 
 -- C's elements have 1, 2 or 4 bytes
-wide : (s : tie.Start) → Width (s .args .factor * (s .args .sew / 8))
+wide : (s : tie.Start) → Short (s .args .factor * (s .args .sew / 8))
 wide s = widths (s .args .sew) (s .args .factor) (s .pre .1 .0) .1
 
 mul-a : tie.Need-mul-a
@@ -51,7 +51,7 @@ multiply-requires c κs = search needs
 mul-modulus : tie.Need-mul-modulus
 mul-modulus c =
     let s = c .before .before .before .before .before .before .before .before .before .before in
-    omega (arith, width-small (s .args .factor * (s .args .sew / 8)) (wide s))
+    omega (arith, short-small (s .args .factor * (s .args .sew / 8)) (wide s))
 
 modulus-requires : tie.Need-modulus-requires
 modulus-requires c κs = wide (c .before .before .before .before .before .before .before .before .before .before)

@@ -6,6 +6,10 @@ use Rattle.machine.specs.Faults.{sound}
 use Rattle.machine.specs.Setting.{chosen}
 use Rattle.run.specs.declared.RunStarted.{RunStarted}
 use Rattle.run.specs.Start.{planned, lying, separate, startedAs}
+use Rattle.width.specs.Bounds.{mostElen}
+use Rattle.settings.proofs.FaultLaws.{ready}
+use Rattle.settings.proofs.TypeLaws.{ready-elen}
+use Rattle.plan_numbers.proofs.PlanLaws.{widest-plan}
 use Rattle.address.proofs.TestLaws.{test-failed, test-passed}
 use Rattle.starting.proofs.StartLaws.{started-by}
 use Rattle.starting.proofs.start.Statement.{statement}
@@ -48,14 +52,22 @@ returns-2 c =
     let e = d .before in
     let s = e .before .before .before .before .before in
     ap (λ (r : RunStarted). startedAs r (bench s)) (c .refused2 .ensures)
-    ∙ started-by (s .args .plan) (bench s) (fine e) (test-failed (d .is-planned .result) (planned (s .args .plan)) (d .is-planned .ensures) (c .before .if2 .taken)) refl refl
+    ∙ started-by (s .args .plan) (bench s) (fine e) (test-failed (d .is-planned .result) (planned (s .args .m .elen) (s .args .plan)) (d .is-planned .ensures) (c .before .if2 .taken)) refl refl
 
 -- the plan's numbers are permitted
-plan-ok : (c : tie.Else2) → planned (c .before .before .before .before .before .before .before .args .plan) ≡ true
-plan-ok c = test-passed (c .before .is-planned .result) (planned (c .before .before .before .before .before .before .before .args .plan)) (c .before .is-planned .ensures) (c .if2 .left)
+plan-ok : (c : tie.Else2) → let a = c .before .before .before .before .before .before .before .args in planned (a .m .elen) (a .plan) ≡ true
+plan-ok c =
+    let a = c .before .before .before .before .before .before .before .args in
+    test-passed (c .before .is-planned .result) (planned (a .m .elen) (a .plan)) (c .before .is-planned .ensures) (c .if2 .left)
+
+-- on every machine of the largest ELEN too
+plan-widest : (c : tie.Else2) → let a = c .before .before .before .before .before .before .before .args in planned mostElen (a .plan) ≡ true
+plan-widest c =
+    let a = c .before .before .before .before .before .before .before .args in
+    widest-plan (a .m .elen) (a .plan) (ready-elen (a .m) (ready (a .m) (a .registers .now) (a .marks .now) (fine (c .before .before)))) (plan-ok c)
 
 is-lying-requires : tie.Need-is-lying-requires
-is-lying-requires c κs = plan-ok c
+is-lying-requires c κs = plan-widest c
 
 refused-requires-3 : tie.Need-refused-requires-3
 refused-requires-3 c κs = search needs
@@ -77,7 +89,7 @@ lies c =
     test-passed (c .before .is-lying .result) (lying (a .plan) (a .memory .now)) (c .before .is-lying .ensures) (c .if3 .left)
 
 is-separate-requires : tie.Need-is-separate-requires
-is-separate-requires c κs = (plan-ok (c .before .before), lies c)
+is-separate-requires c κs = (plan-widest (c .before .before), lies c)
 
 refused-requires-4 : tie.Need-refused-requires-4
 refused-requires-4 c κs = search needs

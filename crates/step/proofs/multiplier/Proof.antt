@@ -1,5 +1,6 @@
 use native.Mathlib.Omega.{arith}
-use Rattle.step.proofs.WordLaws.{multiplier-is}
+use Rattle.step.proofs.WordLaws.{multiplier-is, whole-word}
+use borrow.Author.Needs.{needs}
 use Rattle.step.proofs.multiplier.Statement.{statement}
 use Rattle.step.proofs.multiplier.Tie as tie
 
@@ -19,9 +20,12 @@ sign-extend-requires-3 : tie.Need-sign-extend-requires-3
 sign-extend-requires-3 c κs = omega arith
 
 returns-3 : tie.Need-returns-3
-returns-3 c =
+returns-3 c = let a = c .before .before .before .before .args in multiplier-is (a .mtype) 2 (a .value) (c .sign-extend3 .result) (c .before .if3 .taken) (c .sign-extend3 .ensures)
+
+returns-4 : tie.Need-returns-4
+returns-4 c =
     let s = c .before .before .before in
-    multiplier-is (s .args .mtype) 2 (s .args .value) (c .sign-extend3 .result) (omega (arith, s .pre, c .before .if2 .left, c .before .before .if1 .left)) (c .sign-extend3 .ensures)
+    multiplier-is (s .args .mtype) 3 (s .args .value) (s .args .value) (omega (arith, s .pre, c .if3 .left, c .before .if2 .left, c .before .before .if1 .left)) (whole-word (s .args .value) (search needs))
 
 pub multiplier-spec : {M : Type 1} → statement M
-multiplier-spec = tie.close (tie.spec sign-extend-requires returns sign-extend-requires-2 returns-2 sign-extend-requires-3 returns-3)
+multiplier-spec = tie.close (tie.spec sign-extend-requires returns sign-extend-requires-2 returns-2 sign-extend-requires-3 returns-3 returns-4)

@@ -12,13 +12,13 @@ use lib.ListN.{length}
 use borrow.Author.Tests.{eqb-true}
 use Rattle.width.specs.Reduce.{signed}
 use Rattle.machine.specs.Answers.{reply}
-use Rattle.machine.specs.Geometry.{elen, stateOf, withScalar, benchOf}
+use Rattle.machine.specs.Geometry.{stateOf, withScalar, benchOf}
 use Rattle.machine.specs.Setting.{sew, newType}
 use Rattle.machine.specs.Operation.{Operation, operation, times}
 use Rattle.machine.specs.Step.{destination, steppedAs}
-use Rattle.machine.proofs.NoFault.{sound-is}
 use Rattle.step.specs.Parts.{Decoded}
 use Rattle.settings.proofs.FaultLaws.{ready}
+use Rattle.settings.proofs.TypeLaws.{ready-elen}
 use Rattle.operations.proofs.OutcomeLaws.{illegal-outcome, type-outcome, size-outcome, tile-outcome, loads-outcome, stores-outcome}
 use Rattle.step.proofs.WordLaws.{type-small}
 use borrow.Author.Needs.{needs}
@@ -53,7 +53,7 @@ set-type-requires : tie.Need-set-type-requires
 set-type-requires c κs =
     let g = c .before .before .instruction2 .given in
     let s = c .before .before .before .before .before .before .before .before in
-    omega (arith, fields s _ (g .1), slots s)
+    (ready-elen (s .args .m) (ready (s .args .m) (s .args .registers .now) (s .args .marks .now) (s .pre .0)), omega (arith, fields s _ (g .1), slots s))
 
 enum-known-instruction-3 : tie.Need-enum-known-instruction-3
 enum-known-instruction-3 c = search needs
@@ -68,7 +68,7 @@ set-type-requires-2 : tie.Need-set-type-requires-2
 set-type-requires-2 c κs =
     let g = c .before .before .before .before .instruction3 .given in
     let s = c .before .before .before .before .before .before .before .before .before .before in
-    omega (arith, fields s _ (g .1) .0, slots s)
+    (ready-elen (s .args .m) (ready (s .args .m) (s .args .registers .now) (s .args .marks .now) (s .pre .0)), omega (arith, fields s _ (g .1) .0, slots s))
 
 enum-known-instruction-4 : tie.Need-enum-known-instruction-4
 enum-known-instruction-4 c = search needs
@@ -160,7 +160,8 @@ read-scalar-requires-6 c κs =
 multiplier-requires : tie.Need-multiplier-requires
 multiplier-requires c κs =
     let s = c .before .before .before .before .before .before .before .before .before in
-    type-small (s .args .m .mtype) (sound-is (s .args .m) (s .args .registers .now) (s .args .marks .now) (s .pre .0) .state .type-arises)
+    let r = ready (s .args .m) (s .args .registers .now) (s .args .marks .now) (s .pre .0) in
+    type-small (s .args .m .elen) (s .args .m .mtype) (ready-elen (s .args .m) r) (r .type-arises)
 
 scale-requires : tie.Need-scale-requires
 scale-requires c κs =
@@ -223,7 +224,7 @@ returns-3 c =
     let a = s .args in
     let z = c .before .before in
     let v = c .before .before .before .before .read-scalar .ensures in
-    ap₂ (λ (m : Machine) (x : List ℕ). record { answer = reply Done; bench = benchOf m (a .registers .now) (a .marks .now) (a .memory .now); scalars = x }) (z .set-type2 .ensures .0 ∙ ap (λ (v : ℕ). withType (a .m) (newType elen v)) v) (z .set-type2 .ensures .1 ∙ ap (λ (v : ℕ). withScalar (a .scalars .now) (g .0 .0) (newType elen v)) v)
+    ap₂ (λ (m : Machine) (x : List ℕ). record { answer = reply Done; bench = benchOf m (a .registers .now) (a .marks .now) (a .memory .now); scalars = x }) (z .set-type2 .ensures .0 ∙ ap (λ (v : ℕ). withType (a .m) (newType (a .m .elen) v)) v) (z .set-type2 .ensures .1 ∙ ap (λ (v : ℕ). withScalar (a .scalars .now) (g .0 .0) (newType (a .m .elen) v)) v)
     ∙ type-outcome (a .m) (a .instruction) (a .scalars .now) (a .registers .now) (a .marks .now) (a .memory .now) (s .pre .0) (s .pre .1 .0) _ _ (meant s _ (g .1)) (ap destination (g .1))
 
 same-length-3 : tie.Need-same-length-3

@@ -4,11 +4,11 @@ use borrow.Author.Needs.{needs}
 use Rattle.step.proofs.sign_extend.Statement.{statement}
 use Rattle.step.proofs.sign_extend.Tie as tie
 
-cast-result : tie.Need-cast-result
-cast-result c = search needs
-
 returns : tie.Need-returns
 returns c = let s = c .before in extend-low (s .args .x) (s .args .half) (c .if1 .taken) (s .pre .1)
+
+add-result : tie.Need-add-result
+add-result c = search needs
 
 sub-result : tie.Need-sub-result
 sub-result c = search needs
@@ -16,14 +16,12 @@ sub-result c = search needs
 sub-result-2 : tie.Need-sub-result-2
 sub-result-2 c = search needs
 
-add-result : tie.Need-add-result
-add-result c = search needs
-
-cast-result-2 : tie.Need-cast-result-2
-cast-result-2 c = search needs
+add-result-2 : tie.Need-add-result-2
+add-result-2 c = search needs
 
 returns-2 : tie.Need-returns-2
 returns-2 c = let s = c .before in extend-high (s .args .x) (s .args .half) _ (c .if1 .left) (s .pre .0) (s .pre .1) refl
 
 pub sign-extend-spec : {M : Type 1} → statement M
-sign-extend-spec = tie.close (tie.spec cast-result returns sub-result sub-result-2 add-result cast-result-2 returns-2)
+sign-extend-spec =
+    tie.close (tie.spec returns add-result sub-result sub-result-2 add-result-2 returns-2)

@@ -57,7 +57,7 @@ fails : (c : tie.After-size5) (i : ℕ) → getD (theTests c) i true ≡ false �
 fails c i t zs e = refuses zs (xs c) e (sew c) (factor c) (m c) (k c) (n c) (five c) i t
 
 -- what the tests that have passed say
-formatted : (c : tie.Else2) → format (sew (c .before .before)) (factor (c .before .before)) ≡ true
+formatted : (c : tie.Else2) → format 32 (sew (c .before .before)) (factor (c .before .before)) ≡ true
 formatted c = sym (c .before .is-format .ensures) ∙ not-false (c .before .is-format .result) (c .if2 .left)
 
 products : (c : tie.Else5) → (m (c .before .before .before .before .before) * k (c .before .before .before .before .before) ≤ 256) × (k (c .before .before .before .before .before) * n (c .before .before .before .before .before) ≤ 256)

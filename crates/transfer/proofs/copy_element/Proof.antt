@@ -1,10 +1,10 @@
 -- By cases of the width.
-use mathlib.Core.Path.{sym, ap, _∙_}
+use mathlib.Core.Path.{_≡_, sym, ap, _∙_}
 use Prim.Native.Nat.{ℕ}
 use native.Mathlib.Omega.{arith}
 use borrow.Author.Needs.{needs}
 use Rattle.width.specs.Tile.{le, putLe}
-use Rattle.element.proofs.Laws.{is4}
+use Rattle.element.proofs.Laws.{is8}
 use Rattle.transfer.proofs.copy_element.Statement.{statement}
 use Rattle.transfer.proofs.copy_element.Tie as tie
 
@@ -41,16 +41,10 @@ returns-2 c =
     ∙ ap (λ (w : ℕ). putLe (a .to) w (le (a .src .now) (a .from) w) (a .dst .now)) (sym (f .if2 .taken))
 
 read4-requires : tie.Need-read4-requires
-read4-requires c κs =
-    let s = c .before .before .before .before .before in
-    let e = is4 (s .args .w) (s .pre .0) (c .before .before .if1 .left) (c .before .if2 .left) in
-    omega (arith, s .pre .1 .1)
+read4-requires c κs = search needs
 
 write4-requires : tie.Need-write4-requires
-write4-requires c κs =
-    let s = c .before .before .before .before .before .before in
-    let e = is4 (s .args .w) (s .pre .0) (c .before .before .before .if1 .left) (c .before .before .if2 .left) in
-    omega (arith, s .pre .1 .0)
+write4-requires c κs = search needs
 
 same-length-3 : tie.Need-same-length-3
 same-length-3 c = search needs
@@ -58,10 +52,29 @@ same-length-3 c = search needs
 returns-3 : tie.Need-returns-3
 returns-3 c =
     let f = c .before .before .before .before .before in
-    let s = f .before .before .before .before in
-    let a = s .args in
+    let a = f .before .before .before .before .before .args in
     c .before .before .write4 .ensures ∙ ap (λ (v : ℕ). putLe (a .to) 4 v (a .dst .now)) (c .before .before .before .read4 .ensures .0)
-    ∙ ap (λ (w : ℕ). putLe (a .to) w (le (a .src .now) (a .from) w) (a .dst .now)) (sym (is4 (a .w) (s .pre .0) (f .before .if1 .left) (f .if2 .left)))
+    ∙ ap (λ (w : ℕ). putLe (a .to) w (le (a .src .now) (a .from) w) (a .dst .now)) (sym (f .if3 .taken))
+
+-- the width that is left
+eight : (c : tie.Else3) → c .before .before .before .before .before .args .w ≡ 8
+eight c = let s = c .before .before .before .before .before in is8 (s .args .w) (s .pre .0) (c .before .before .if1 .left) (c .before .if2 .left) (c .if3 .left)
+
+read8-requires : tie.Need-read8-requires
+read8-requires c κs = let e = eight (c .before) in omega (arith, c .before .before .before .before .before .before .pre .1 .1)
+
+write8-requires : tie.Need-write8-requires
+write8-requires c κs = let e = eight (c .before .before) in omega (arith, c .before .before .before .before .before .before .before .pre .1 .0)
+
+same-length-4 : tie.Need-same-length-4
+same-length-4 c = search needs
+
+returns-4 : tie.Need-returns-4
+returns-4 c =
+    let f = c .before .before .before .before .before in
+    let a = f .before .before .before .before .before .args in
+    c .before .before .write8 .ensures ∙ ap (λ (v : ℕ). putLe (a .to) 8 v (a .dst .now)) (c .before .before .before .read8 .ensures)
+    ∙ ap (λ (w : ℕ). putLe (a .to) w (le (a .src .now) (a .from) w) (a .dst .now)) (sym (eight f))
 
 pub copy-element-spec : {M : Type 1} → statement M
 copy-element-spec =
@@ -78,4 +91,8 @@ copy-element-spec =
     read4-requires
     write4-requires
     same-length-3
-    returns-3)
+    returns-3
+    read8-requires
+    write8-requires
+    same-length-4
+    returns-4)

@@ -1,9 +1,9 @@
 -- By cases of the output width.
 use native.Mathlib.Omega.{arith}
-use mathlib.Core.Path.{sym, ap, ap₂, _∙_}
+use mathlib.Core.Path.{_≡_, sym, ap, ap₂, _∙_}
 use Prim.Native.Nat.{ℕ, _*_}
 use Rattle.width.specs.Tile.{putRow}
-use Rattle.element.proofs.Laws.{is1, is4, narrow}
+use Rattle.element.proofs.Laws.{is1, is8, short, narrow}
 use Rattle.sums.specs.Rows.{productRow}
 use borrow.Author.Needs.{needs}
 use Rattle.arithmetic.proofs.rows.multiply_row.Statement.{statement}
@@ -15,7 +15,7 @@ multiply-row-requires c κs =
     let a = k .args in
     let p = k .pre in
     let e = c .before .if1 .taken in
-    let f = is1 (a .width) (p .1 .0 .0) (omega (arith, p)) in
+    let f = is1 (a .width) (short (a .width) (p .1 .0 .0) (omega (arith, p))) (omega (arith, p)) in
     let g = ap (λ (w : ℕ). a .n * w) f in
     let h = ap (λ (w : ℕ). a .k * w) f in
     let i = ap (λ (w : ℕ). a .n * w) e in
@@ -29,7 +29,7 @@ returns c =
     let k = c .before .before .before .before .before .before in
     let a = k .args in
     let e = c .before .before .before .before .if1 .taken in
-    let f = is1 (a .width) (k .pre .1 .0 .0) (omega (arith, k .pre)) in
+    let f = is1 (a .width) (short (a .width) (k .pre .1 .0 .0) (omega (arith, k .pre))) (omega (arith, k .pre)) in
     c .before .before .multiply-row .ensures
     ∙ ap₂ (λ (v w : ℕ). putRow (a .c) (a .n) w (productRow (a .s .now) w v (a .pitch) (a .k) (a .a) (a .b) (a .c)) (a .s .now)) (sym f) (sym e)
 
@@ -39,7 +39,7 @@ multiply-row-requires-2 c κs =
     let a = k .args in
     let p = k .pre in
     let e = ap (λ (w : ℕ). a .n * w) (c .before .if2 .taken) in
-    (p .0, (narrow (a .width) (p .1 .0 .0) (omega (arith, p)), (p .1 .1 .0, (p .1 .1 .1 .0, (p .1 .1 .1 .1 .0, omega (arith, p))))))
+    (p .0, (narrow (a .width) (short (a .width) (p .1 .0 .0) (omega (arith, p))) (omega (arith, p)), (p .1 .1 .0, (p .1 .1 .1 .0, (p .1 .1 .1 .1 .0, omega (arith, p))))))
 
 same-length-2 : tie.Need-same-length-2
 same-length-2 c = search needs
@@ -54,22 +54,43 @@ returns-2 c =
 
 multiply-row-requires-3 : tie.Need-multiply-row-requires-3
 multiply-row-requires-3 c κs =
-    let k = c .before .before .before .before in
+    let k = c .before .before .before .before .before in
     let a = k .args in
     let p = k .pre in
-    let e = ap (λ (w : ℕ). a .n * w) (is4 (a .wide) (p .1 .0 .1 .0) (c .before .before .if1 .left) (c .before .if2 .left)) in
-    (p .0, (p .1 .0 .0, (p .1 .1 .0, (p .1 .1 .1 .0, (p .1 .1 .1 .1 .0, omega (arith, p))))))
+    let e = ap (λ (w : ℕ). a .n * w) (c .before .if3 .taken) in
+    (p .0, (short (a .width) (p .1 .0 .0) (omega (arith, p)), (p .1 .1 .0, (p .1 .1 .1 .0, (p .1 .1 .1 .1 .0, omega (arith, p))))))
 
 same-length-3 : tie.Need-same-length-3
 same-length-3 c = search needs
 
 returns-3 : tie.Need-returns-3
 returns-3 c =
-    let k = c .before .before .before .before .before .before .before in
+    let k = c .before .before .before .before .before .before .before .before in
     let a = k .args in
-    let e = is4 (a .wide) (k .pre .1 .0 .1 .0) (c .before .before .before .before .before .if1 .left) (c .before .before .before .before .if2 .left) in
     c .before .before .multiply-row3 .ensures
-    ∙ ap (λ (w : ℕ). putRow (a .c) (a .n) w (productRow (a .s .now) w (a .width) (a .pitch) (a .k) (a .a) (a .b) (a .c)) (a .s .now)) (sym e)
+    ∙ ap (λ (w : ℕ). putRow (a .c) (a .n) w (productRow (a .s .now) w (a .width) (a .pitch) (a .k) (a .a) (a .b) (a .c)) (a .s .now)) (sym (c .before .before .before .before .if3 .taken))
+
+-- the width that is left
+eight : (c : tie.Else3) → c .before .before .before .before .args .wide ≡ 8
+eight c = let k = c .before .before .before .before in is8 (k .args .wide) (k .pre .1 .0 .1 .0) (c .before .before .if1 .left) (c .before .if2 .left) (c .if3 .left)
+
+multiply-row-requires-4 : tie.Need-multiply-row-requires-4
+multiply-row-requires-4 c κs =
+    let k = c .before .before .before .before .before in
+    let a = k .args in
+    let p = k .pre in
+    let e = ap (λ (w : ℕ). a .n * w) (eight (c .before)) in
+    (p .0, (p .1 .0 .0, (p .1 .1 .0, (p .1 .1 .1 .0, (p .1 .1 .1 .1 .0, omega (arith, p))))))
+
+same-length-4 : tie.Need-same-length-4
+same-length-4 c = search needs
+
+returns-4 : tie.Need-returns-4
+returns-4 c =
+    let k = c .before .before .before .before .before .before .before .before in
+    let a = k .args in
+    c .before .before .multiply-row4 .ensures
+    ∙ ap (λ (w : ℕ). putRow (a .c) (a .n) w (productRow (a .s .now) w (a .width) (a .pitch) (a .k) (a .a) (a .b) (a .c)) (a .s .now)) (sym (eight (c .before .before .before .before)))
 
 pub multiply-row-spec : {M : Type 1} → statement M
 multiply-row-spec =
@@ -83,4 +104,7 @@ multiply-row-spec =
     returns-2
     multiply-row-requires-3
     same-length-3
-    returns-3)
+    returns-3
+    multiply-row-requires-4
+    same-length-4
+    returns-4)

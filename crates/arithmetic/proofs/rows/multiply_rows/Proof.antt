@@ -31,7 +31,7 @@ loop-holds c = let a = c .before .args in (omega arith, omega (arith, zero-mul (
 fits : (c : tie.In-loop Inv-loop μ-loop) →
     let a = c .before .before .before .args in
     let l = c .before .loop in
-    (l .from + a .pitch ≤ length (a .s .now)) × (l .to + 4 * a .pitch ≤ length (a .s .now))
+    (l .from + a .k * a .width ≤ length (a .s .now)) × (l .to + a .n * a .wide ≤ length (a .s .now))
 fits c =
     let k = c .before .before .before in
     let l = c .before .loop in
@@ -70,7 +70,7 @@ loop-again c =
       l .inv .3,
       w .kept .0 ∙ l .inv .4,
       product-turn (a .wide) (a .width) (a .pitch) (4 * a .pitch) (a .k) (a .n) (a .a) (a .b) (a .c) (a .m) (a .s .now)
-          (p .1 .1 .0 .0) (p .1 .1 .0 .1 .0) (p .1 .1 .0 .1 .1) (p .1 .1 .1 .0) (p .1 .1 .1 .1 .0)
+          (p .1 .1 .0 .0) (p .1 .1 .0 .1 .1) (p .1 .1 .1 .0) (p .1 .1 .1 .1 .0)
           (l .i) (l .s) (d .loop-test .taken) (l .inv .5) (l .from) (l .to) (w .last .0) (l .inv .1) (l .inv .2) (w .ensures),
     )
 

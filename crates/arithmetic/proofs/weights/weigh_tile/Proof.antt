@@ -1,6 +1,6 @@
 -- The loop: the first `i` rows are weighted sums, and every element is read as at entry.
 use native.Mathlib.Omega.{arith}
-use mathlib.Core.Path.{_≡_, refl, ap, _∙_}
+use mathlib.Core.Path.{_≡_, refl, sym, ap, _∙_, subst}
 use Prim.Native.Nat.{ℕ, _+_, _-_, _*_, _%_, _^_, _≤_, _<_}
 use native.Mathlib.Nat.{zero-mul, mul-le-mul-right}
 use lib.ListN.{length}
@@ -8,8 +8,8 @@ use Rattle.width.specs.Tile.{putTile}
 use Rattle.width.proofs.PutLaws.{next-row}
 use Rattle.machine.specs.Geometry.{accAt}
 use Rattle.arithmetic.specs.Effect.{shape}
-use Rattle.arithmetic.specs.Weights.{weightedTile}
-use Rattle.arithmetic.proofs.WeightLaws.{weighted-turn}
+use Rattle.arithmetic.specs.Weights.{weightedTile, Aligned}
+use Rattle.arithmetic.proofs.WeightLaws.{weighted-turn, acc-aligned}
 use Rattle.arithmetic.proofs.RoomLaws.{acc-row}
 use borrow.Author.Needs.{needs}
 use Rattle.arithmetic.proofs.weights.weigh_tile.Statement.{statement}
@@ -67,9 +67,21 @@ fits c =
 
 weigh-row-requires : tie.Need-weigh-row-requires Inv-loop μ-loop
 weigh-row-requires c κs =
-    let p = c .before .before .before .before .pre in
+    let k = c .before .before .before .before in
+    let a = k .args in
+    let p = k .pre in
+    let l = c .before .before .loop in
     let f = fits (c .before) in
-    (p .1 .1 .1 .1 .0, (p .1 .1 .0, (omega (arith, p, f), omega (arith, p, f))))
+    let q = p .1 .1 .1 in
+    let li : l .i < a .rows = omega (arith, c .before .loop-test .taken, p) in
+    let s = acc-aligned (a .rows) (a .pitch) (a .d) (a .a) (l .i) (a .n * a .width) (a .n * a .wide) (p .0 .0) (p .0 .1) li (q .1 .1 .0) (q .1 .1 .1) in (
+      p .1 .1 .0,
+      (
+        (omega (arith, p, f), omega (arith, p, f)),
+        subst (λ (x : ℕ). Aligned x (l .to) (a .n * a .width) (a .n * a .wide)) (sym (l .inv .1))
+            (subst (λ (y : ℕ). Aligned (accAt (shape (a .rows) (a .pitch)) (a .a) (l .i)) y (a .n * a .width) (a .n * a .wide)) (sym (l .inv .2)) s),
+      ),
+    )
 
 add-from-2 : tie.Need-add-from-2 Inv-loop μ-loop
 add-from-2 c = let f = fits (c .before .before .before .before) in omega arith

@@ -14,14 +14,14 @@ sew-bytes-requires c κs = search needs
 
 returns : tie.Need-returns
 unfolding widthOf
-returns c = rw (lt-leb (8 * c .before .before .args .width) 32 (omega arith))
+returns c = let a = c .before .before .args in rw (lt-leb (8 * a .width) (a .elen) (omega (arith, c .if1 .taken)))
 
 returns-2 : tie.Need-returns-2
 unfolding widthOf
 returns-2 c =
     let w = c .before .before in
     let a = w .before .args in
-    rw (le-leb (8 * a .width) 32 (omega arith), eq-eqb (a .width) (sew (a .mtype)) (c .if2 .taken ∙ w .sew-bytes .ensures .0))
+    rw (le-leb (8 * a .width) (a .elen) (omega arith), eq-eqb (a .width) (sew (a .mtype)) (c .if2 .taken ∙ w .sew-bytes .ensures .0))
 
 mul-if3 : tie.Need-mul-if3
 mul-if3 c = search needs
@@ -36,7 +36,7 @@ returns-3 c =
     let e = c .before in
     let w = e .before .before in
     let a = w .before .args in
-    rw (le-leb (8 * a .width) 32 (omega arith), ne-eqb (a .width) (sew (a .mtype)) (not-one e), eq-eqb (a .width) (2 * sew (a .mtype)) (omega (arith, c .if3 .taken, w .sew-bytes .ensures .0)))
+    rw (le-leb (8 * a .width) (a .elen) (omega arith), ne-eqb (a .width) (sew (a .mtype)) (not-one e), eq-eqb (a .width) (2 * sew (a .mtype)) (omega (arith, c .if3 .taken, w .sew-bytes .ensures .0)))
 
 is-maccq-requires : tie.Need-is-maccq-requires
 is-maccq-requires c κs = search needs
@@ -49,7 +49,7 @@ returns-4 c =
     let w = e .before .before in
     let a = w .before .args in
     rw (
-      le-leb (8 * a .width) 32 (omega arith),
+      le-leb (8 * a .width) (a .elen) (omega arith),
       ne-eqb (a .width) (sew (a .mtype)) (not-one e),
       ne-eqb (a .width) (2 * sew (a .mtype)) (λ z. f .if3 .left (z ∙ ap (λ (x : ℕ). 2 * x) (sym (w .sew-bytes .ensures .0)))),
       sym (c .before .is-maccq .ensures) ∙ not-true (c .before .is-maccq .result) (c .if4 .taken),
@@ -66,7 +66,7 @@ returns-5 c =
     let w = e .before .before in
     let a = w .before .args in
     rw (
-      le-leb (8 * a .width) 32 (omega arith),
+      le-leb (8 * a .width) (a .elen) (omega arith),
       ne-eqb (a .width) (sew (a .mtype)) (not-one e),
       ne-eqb (a .width) (2 * sew (a .mtype)) (λ z. f .if3 .left (z ∙ ap (λ (x : ℕ). 2 * x) (sym (w .sew-bytes .ensures .0)))),
       sym (c .before .is-maccq .ensures) ∙ not-false (c .before .is-maccq .result) (c .if4 .left),

@@ -3,12 +3,12 @@ use mathlib.Core.Bool.{true, false}
 use borrow.Author.Tests.{not-true, not-false}
 use Rattle.machine.specs.Setting.{mill}
 use Rattle.settings.specs.Parts.{ours}
-use Rattle.machine.specs.Geometry.{elen, stateOf}
+use Rattle.machine.specs.Geometry.{stateOf}
 use Rattle.machine.specs.Operation.{times}
 use Rattle.machine.specs.Refusals.{widthOk, fitting}
 use Rattle.machine.specs.declared.Dimension.the-variants.{DimensionM, DimensionK, DimensionN}
 use mathlib.Core.List.{[]}
-use Rattle.machine.proofs.CodeLaws.{arises}
+use Rattle.settings.proofs.TypeLaws.{ready-legal}
 use borrow.Author.Needs.{needs}
 use Rattle.checking.proofs.sizes.check_multiply.Statement.{statement}
 use Rattle.checking.proofs.sizes.check_multiply.Tie as tie
@@ -20,7 +20,7 @@ is-mill-requires c κs = search needs
 typed-1 : (c : tie.Else1) → mill (c .before .before .args .m .mtype) ≡ false
 typed-1 c = sym (c .before .is-mill .ensures) ∙ c .if1 .left
 
-ok-2 : (c : tie.Else2) → let a = c .before .before .before .before .args in widthOk elen (a .m .mtype) (times (a .factor)) ≡ true
+ok-2 : (c : tie.Else2) → let a = c .before .before .before .before .args in widthOk (a .m .elen) (a .m .mtype) (times (a .factor)) ≡ true
 ok-2 c = sym (c .before .factor-width .ensures) ∙ not-false (c .before .factor-width .result) (c .if2 .left)
 
 returns : tie.Need-returns
@@ -29,7 +29,7 @@ returns c = rw (sym (c .before .is-mill .ensures) ∙ c .if1 .taken)
 factor-width-requires : tie.Need-factor-width-requires
 factor-width-requires c κs =
     let s = c .before .before in
-    arises (s .args .m .mtype) (s .pre .type-arises) (typed-1 c)
+    ready-legal (s .args .m) (s .pre) (typed-1 c)
 
 returns-2 : tie.Need-returns-2
 returns-2 c = rw (typed-1 (c .before .before), sym (c .before .factor-width .ensures) ∙ not-true (c .before .factor-width .result) (c .if2 .taken))

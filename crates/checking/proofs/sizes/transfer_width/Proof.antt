@@ -1,6 +1,5 @@
 use mathlib.Core.Path.{sym, ap, _∙_}
 use lib.Dec.{eqb}
-use Rattle.machine.specs.Geometry.{elen}
 use Rattle.machine.specs.Refusals.{widthOf}
 use Rattle.machine.specs.declared.Matrix.{Matrix}
 use borrow.Author.Needs.{needs}
@@ -29,18 +28,18 @@ returns : tie.Need-returns
 unfolding widthOf
 returns c =
     let a = c .before .before .before .args in
-    ap (eqb (a .width)) (c .sew-bytes .ensures .0) ∙ ap (λ (k : Matrix). widthOf elen (a .mtype) k (a .width)) (sym (c .before .enum-told .given .1))
+    ap (eqb (a .width)) (c .sew-bytes .ensures .0) ∙ ap (λ (k : Matrix). widthOf (a .elen) (a .mtype) k (a .width)) (sym (c .before .enum-told .given .1))
 
 returns-2 : tie.Need-returns-2
 unfolding widthOf
 returns-2 c =
     let a = c .before .before .before .args in
-    ap (eqb (a .width)) (c .sew-bytes2 .ensures .0) ∙ ap (λ (k : Matrix). widthOf elen (a .mtype) k (a .width)) (sym (c .before .enum-told2 .given .1))
+    ap (eqb (a .width)) (c .sew-bytes2 .ensures .0) ∙ ap (λ (k : Matrix). widthOf (a .elen) (a .mtype) k (a .width)) (sym (c .before .enum-told2 .given .1))
 
 returns-3 : tie.Need-returns-3
 returns-3 c =
     let a = c .before .before .before .args in
-    c .accumulator-width .ensures ∙ ap (λ (k : Matrix). widthOf elen (a .mtype) k (a .width)) (sym (c .before .enum-told3 .given .1))
+    c .accumulator-width .ensures ∙ ap (λ (k : Matrix). widthOf (a .elen) (a .mtype) k (a .width)) (sym (c .before .enum-told3 .given .1))
 
 pub transfer-width-spec : {M : Type 1} → statement M
 transfer-width-spec = tie.close (tie.spec enum-told sew-bytes-requires enum-told-2 sew-bytes-requires-2 enum-told-3 accumulator-width-requires returns returns-2 returns-3)

@@ -1,7 +1,7 @@
 use mathlib.Core.Path.{_≡_, sym, _∙_}
 use mathlib.Core.Bool.{false}
 use Rattle.machine.specs.Setting.{mill}
-use Rattle.machine.proofs.CodeLaws.{arises}
+use Rattle.settings.proofs.TypeLaws.{ready-legal}
 use Rattle.checking.proofs.CheckLaws.{float-type, float-width, float-rest}
 use borrow.Author.Needs.{needs}
 use Rattle.checking.proofs.written.check_float.Statement.{statement}
@@ -15,15 +15,16 @@ returns : tie.Need-returns
 returns c = let a = c .before .before .before .args in float-type (a .m) (a .marks .now) (a .md) (a .ms1) (a .ms2) (sym (c .before .is-mill .ensures) ∙ c .if1 .taken)
 
 sew-bytes-requires : tie.Need-sew-bytes-requires
-sew-bytes-requires c κs = let s = c .before .before .before in arises (s .args .m .mtype) (s .pre .0 .of-machine .type-arises) (legal c)
+sew-bytes-requires c κs = let s = c .before .before .before in ready-legal (s .args .m) (s .pre .0 .of-machine) (legal c)
 
 returns-2 : tie.Need-returns-2
 returns-2 c = let a = c .before .before .before .before .before .args in float-width (a .m) (a .marks .now) (a .md) (a .ms1) (a .ms2) (legal (c .before .before)) (λ e. c .if2 .taken (c .before .sew-bytes .ensures .0 ∙ e))
 
 returns-3 : tie.Need-returns-3
 returns-3 c =
-    let a = c .before .before .before .before .before .before .args in
-    c .check-product .ensures ∙ float-rest (a .m) (a .marks .now) (a .md) (a .ms1) (a .ms2) (legal (c .before .before .before)) (sym (c .before .before .sew-bytes .ensures .0) ∙ c .before .if2 .left)
+    let s = c .before .before .before .before .before .before in
+    let a = s .args in
+    c .check-product .ensures ∙ float-rest (a .m) (a .marks .now) (a .md) (a .ms1) (a .ms2) (s .pre .0 .of-machine) (legal (c .before .before .before)) (sym (c .before .before .sew-bytes .ensures .0) ∙ c .before .if2 .left)
 
 pub check-float-spec : {M : Type 1} → statement M
 check-float-spec = tie.close (tie.spec (λ c κs. search needs) returns sew-bytes-requires returns-2 (λ c κs. search needs) returns-3)

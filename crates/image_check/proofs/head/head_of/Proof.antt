@@ -8,8 +8,10 @@ use Rattle.image_check.proofs.head.head_of.Statement.{statement}
 use Rattle.image_check.proofs.head.head_of.Tie as tie
 
 -- the exponents that were read
-shape : (c : tie.After-r) → ShapedOk (c .before .before .before .before .args .s .now) (c .r .given .0 .0) (c .r .given .0 .1 .0) (c .r .given .0 .1 .1 .0) (c .r .given .0 .1 .1 .1 .0)
-shape c = shape-known (c .before .before .before .before .args .s .now) (c .r .given .0 .0) (c .r .given .0 .1 .0) (c .r .given .0 .1 .1 .0) (c .r .given .0 .1 .1 .1 .0) (sym (c .before .before .shape-of .ensures) ∙ c .r .given .1)
+shape : (c : tie.After-r) → let g = c .r .given .0 in ShapedOk (c .before .before .before .before .args .s .now) (g .0) (g .1 .0) (g .1 .1 .0) (g .1 .1 .1 .0) (g .1 .1 .1 .1 .0)
+shape c =
+    let g = c .r .given .0 in
+    shape-known (c .before .before .before .before .args .s .now) (g .0) (g .1 .0) (g .1 .1 .0) (g .1 .1 .1 .0) (g .1 .1 .1 .1 .0) (sym (c .before .before .shape-of .ensures) ∙ c .r .given .1)
 
 shape-of-requires : tie.Need-shape-of-requires
 shape-of-requires c κs = search needs
@@ -43,7 +45,7 @@ power-requires-3 : tie.Need-power-requires-3
 power-requires-3 c κs = let sh = shape (c .before .before .before) in omega (arith, sh .mlen-ok)
 
 tiles-at-requires : tie.Need-tiles-at-requires
-tiles-at-requires c κs = search needs
+tiles-at-requires c κs = shape (c .before .before .before .before) .elen-ok
 
 enum-known-p-2 : tie.Need-enum-known-p-2
 enum-known-p-2 c = search needs
@@ -89,10 +91,14 @@ enum-known-seal-start c = search needs
 power-requires-4 : tie.Need-power-requires-4
 power-requires-4 c κs = let sh = shape (c .before .before .before .before .before .before .before .before .before .before .before .before) in omega (arith, sh .rlen-ok)
 
+power-requires-5 : tie.Need-power-requires-5
+power-requires-5 c κs = let sh = shape (c .before .before .before .before .before .before .before .before .before .before .before .before .before) in omega (arith, sh .elen-ok)
+
 returns-4 : tie.Need-returns-4
 unfolding headIn
 returns-4 c =
-    let k = c .before .before in
+    let p = c .before in
+    let k = p .before .before in
     let l = k .before .before in
     let u = l .before .before in
     let t = u .before .before in
@@ -101,7 +107,7 @@ returns-4 c =
     let w = o .before in
     let g = w .before .before in
     let f = g .before .before in
-    rw (sym (f .shape-of .ensures) ∙ g .r .given .1, ← w .power .ensures, ← o .power2 .ensures, sym (t .tiles-at .ensures) ∙ u .mtype .given .1, ← h .power3 .ensures, sym (l .tail-at .ensures) ∙ k .seal-start .given .1, ← h .power3 .ensures, ← c .power4 .ensures)
+    rw (sym (f .shape-of .ensures) ∙ g .r .given .1, ← w .power .ensures, ← o .power2 .ensures, sym (t .tiles-at .ensures) ∙ u .mtype .given .1, ← h .power3 .ensures, sym (l .tail-at .ensures) ∙ k .seal-start .given .1, ← h .power3 .ensures, ← p .power4 .ensures, ← c .power5 .ensures)
 
 pub head-of-spec : {M : Type 1} → statement M
 head-of-spec =
@@ -125,4 +131,5 @@ head-of-spec =
     returns-3
     enum-known-seal-start
     power-requires-4
+    power-requires-5
     returns-4)

@@ -60,7 +60,7 @@ sew-bytes-requires c κs =
 div-rows : tie.Need-div-rows
 div-rows c =
     let s = c .before .before .before .before .before .before .before .before .before in
-    let b = permitted-bounds (s .args .m .rlen) (s .args .m .mlen) (sound-is (s .args .m) (s .args .registers .now) (s .args .marks .now) (s .pre .0) .lengths) in
+    let b = permitted-bounds (s .args .m .rlen) (s .args .m .mlen) (s .args .m .elen) (sound-is (s .args .m) (s .args .registers .now) (s .args .marks .now) (s .pre .0) .lengths) in
     omega arith
 
 scale-tile-requires : tie.Need-scale-tile-requires

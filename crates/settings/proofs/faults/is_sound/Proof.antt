@@ -26,7 +26,7 @@ numbers c = sym (c .before .numbers-sound .ensures) ∙ not-false (c .before .nu
 mul-if2 : tie.Need-mul-if2
 mul-if2 c =
     let m = c .before .before .before .before .before .args .m in
-    let b = permitted-bounds (m .rlen) (m .mlen) (numbers-permitted m (numbers (c .before))) in
+    let b = permitted-bounds (m .rlen) (m .mlen) (m .elen) (numbers-permitted m (numbers (c .before))) in
     omega arith
 
 returns-2 : tie.Need-returns-2
@@ -39,7 +39,7 @@ mul-if3 : tie.Need-mul-if3
 mul-if3 c =
     let e = c .before .before .before in
     let m = e .before .before .before .before .args .m in
-    let b = permitted-bounds (m .rlen) (m .mlen) (numbers-permitted m (numbers e)) in
+    let b = permitted-bounds (m .rlen) (m .mlen) (m .elen) (numbers-permitted m (numbers e)) in
     omega arith
 
 returns-3 : tie.Need-returns-3

@@ -4,10 +4,10 @@ use Prim.Native.Nat.{_/_, min}
 use native.Mathlib.Omega.{arith}
 use lib.Dec.{eqb}
 use borrow.Author.Tests.{le-leb, lt-leb, not-true, not-false}
-use Rattle.machine.specs.Geometry.{elen, permitted}
+use Rattle.machine.specs.Geometry.{permitted}
 use Rattle.machine.specs.Setting.{newType}
 use Rattle.machine.specs.Starting.{sealEnds}
-use Rattle.machine.proofs.StepLaws.{permitted-bounds}
+use Rattle.machine.proofs.StepLaws.{permitted-bounds, permitted-elen}
 use Rattle.machine.proofs.StartLaws.{and-truth}
 use Rattle.settings.proofs.FaultLaws.{numbers-by}
 use borrow.Author.Needs.{needs}
@@ -18,10 +18,10 @@ permitted-lengths-requires : tie.Need-permitted-lengths-requires
 permitted-lengths-requires c κs = search needs
 
 -- the tests that have passed
-ok-1 : (c : tie.Else1) → permitted (c .before .before .args .m .rlen) (c .before .before .args .m .mlen) ≡ true
+ok-1 : (c : tie.Else1) → permitted (c .before .before .args .m .rlen) (c .before .before .args .m .mlen) (c .before .before .args .m .elen) ≡ true
 ok-1 c = sym (c .before .permitted-lengths .ensures) ∙ not-false (c .before .permitted-lengths .result) (c .if1 .left)
 
-ok-2 : (c : tie.Else2) → let m = c .before .before .before .before .args .m in eqb (newType elen (m .mtype)) (m .mtype) ≡ true
+ok-2 : (c : tie.Else2) → let m = c .before .before .before .before .args .m in eqb (newType (m .elen) (m .mtype)) (m .mtype) ≡ true
 ok-2 c = sym (c .before .type-arises .ensures) ∙ not-false (c .before .type-arises .result) (c .if2 .left)
 
 returns : tie.Need-returns
@@ -30,7 +30,7 @@ returns c =
     numbers-by m false _ _ _ _ _ _ (sym (c .before .permitted-lengths .ensures) ∙ not-true (c .before .permitted-lengths .result) (c .if1 .taken)) refl refl refl refl refl refl
 
 type-arises-requires : tie.Need-type-arises-requires
-type-arises-requires c κs = search needs
+type-arises-requires c κs = let m = c .before .before .args .m in permitted-elen (m .rlen) (m .mlen) (m .elen) (ok-1 c) .0
 
 returns-2 : tie.Need-returns-2
 returns-2 c =
@@ -40,7 +40,7 @@ returns-2 c =
 div-rows : tie.Need-div-rows
 div-rows c =
     let m = c .before .before .before .before .args .m in
-    let b = permitted-bounds (m .rlen) (m .mlen) (ok-1 (c .before .before)) in
+    let b = permitted-bounds (m .rlen) (m .mlen) (m .elen) (ok-1 (c .before .before)) in
     omega arith
 
 returns-3 : tie.Need-returns-3

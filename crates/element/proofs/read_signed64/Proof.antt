@@ -1,0 +1,77 @@
+-- By cases of the width.
+use mathlib.Core.Path.{_≡_, sym, ap, _∙_}
+use Prim.Native.Nat.{ℕ, _^_}
+use native.Mathlib.Omega.{arith}
+use borrow.Author.Needs.{needs}
+use Rattle.width.specs.Tile.{le}
+use Rattle.width.specs.Reduce.{signed, reduce}
+use Rattle.width.proofs.ReduceLaws.{reduce-signed}
+use Rattle.element.proofs.Laws.{is8}
+use Rattle.element.proofs.read_signed64.Statement.{statement}
+use Rattle.element.proofs.read_signed64.Tie as tie
+
+read1-requires : tie.Need-read1-requires
+read1-requires c κs = search needs
+
+extend1to8-requires : tie.Need-extend1to8-requires
+extend1to8-requires c κs = search needs
+
+returns : tie.Need-returns
+returns c =
+    let a = c .before .before .before .before .args in
+    c .extend1to8 .ensures ∙ ap (λ (x : ℕ). reduce 18446744073709551616 (signed 256 x)) (c .before .read1 .ensures .0)
+    ∙ ap (λ (w : ℕ). reduce 18446744073709551616 (signed (256 ^ w) (le (a .s .now) (a .at) w))) (sym (c .before .before .if1 .taken))
+
+read2-requires : tie.Need-read2-requires
+read2-requires c κs = search needs
+
+extend2to8-requires : tie.Need-extend2to8-requires
+extend2to8-requires c κs = search needs
+
+returns-2 : tie.Need-returns-2
+returns-2 c =
+    let a = c .before .before .before .before .before .args in
+    c .extend2to8 .ensures ∙ ap (λ (x : ℕ). reduce 18446744073709551616 (signed 65536 x)) (c .before .read2 .ensures .0)
+    ∙ ap (λ (w : ℕ). reduce 18446744073709551616 (signed (256 ^ w) (le (a .s .now) (a .at) w))) (sym (c .before .before .if2 .taken))
+
+read4-requires : tie.Need-read4-requires
+read4-requires c κs = search needs
+
+extend4to8-requires : tie.Need-extend4to8-requires
+extend4to8-requires c κs = search needs
+
+returns-3 : tie.Need-returns-3
+returns-3 c =
+    let a = c .before .before .before .before .before .before .args in
+    c .extend4to8 .ensures ∙ ap (λ (x : ℕ). reduce 18446744073709551616 (signed 4294967296 x)) (c .before .read4 .ensures .0)
+    ∙ ap (λ (w : ℕ). reduce 18446744073709551616 (signed (256 ^ w) (le (a .s .now) (a .at) w))) (sym (c .before .before .if3 .taken))
+
+-- none of the others
+eight : (c : tie.Else3) → c .before .before .before .before .args .width ≡ 8
+eight c = let s = c .before .before .before .before in is8 (s .args .width) (s .pre .0) (c .before .before .if1 .left) (c .before .if2 .left) (c .if3 .left)
+
+read8-requires : tie.Need-read8-requires
+read8-requires c κs = let e = eight c in omega arith
+
+returns-4 : tie.Need-returns-4
+returns-4 c =
+    let a = c .before .before .before .before .before .args in
+    let r = c .read8 in
+    sym (reduce-signed 18446744073709551616 (omega arith) (r .result) (search needs)) ∙ ap (λ (x : ℕ). reduce 18446744073709551616 (signed 18446744073709551616 x)) (r .ensures)
+    ∙ ap (λ (w : ℕ). reduce 18446744073709551616 (signed (256 ^ w) (le (a .s .now) (a .at) w))) (sym (eight (c .before)))
+
+pub read-signed64-spec : {M : Type 1} → statement M
+read-signed64-spec =
+    tie.close
+    (tie.spec
+    read1-requires
+    extend1to8-requires
+    returns
+    read2-requires
+    extend2to8-requires
+    returns-2
+    read4-requires
+    extend4to8-requires
+    returns-3
+    read8-requires
+    returns-4)

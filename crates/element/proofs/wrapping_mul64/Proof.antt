@@ -1,0 +1,48 @@
+-- The wrapping product at 64 bits, by halves.
+use mathlib.Core.Path.{_≡_, _∙_}
+use Prim.Native.Nat.{ℕ, _/_, _<_}
+use native.Mathlib.Omega.{arith}
+use borrow.Author.Needs.{needs}
+use Rattle.width.proofs.ReduceLaws.{wrapping-mul}
+use Rattle.width.proofs.ElementLaws.{mul-below}
+use Rattle.element.proofs.Laws.{by-halves}
+use Rattle.element.proofs.wrapping_mul64.Statement.{statement}
+use Rattle.element.proofs.wrapping_mul64.Tie as tie
+
+high : (x : ℕ) → x < 18446744073709551616 → x / 4294967296 < 4294967296
+high x h = omega arith
+
+mul-across : tie.Need-mul-across
+mul-across c = record { fits = mul-below 32 (high (c .args .x) (search needs)) (omega arith) }
+
+mul-across-2 : tie.Need-mul-across-2
+mul-across-2 c = record { fits = mul-below 32 (omega arith) (high (c .args .y) (search needs)) }
+
+add-across : tie.Need-add-across
+add-across c = search needs
+
+mul-wrapping-add-u64 : tie.Need-mul-wrapping-add-u64
+mul-wrapping-add-u64 c = record { fits = mul-below 32 (omega arith) (omega arith) }
+
+mul-wrapping-add-u64-2 : tie.Need-mul-wrapping-add-u64-2
+mul-wrapping-add-u64-2 c = search needs
+
+wrapping-add-u64-requires : tie.Need-wrapping-add-u64-requires
+wrapping-add-u64-requires c κs = search needs
+
+returns : tie.Need-returns
+returns c =
+    let a = c .before .args in
+    c .wrapping-add-u64 .ensures ∙ by-halves (a .x) (a .y) ∙ wrapping-mul 18446744073709551616 (omega arith) (a .x) (a .y) (search needs) (search needs)
+
+pub wrapping-mul64-spec : {M : Type 1} → statement M
+wrapping-mul64-spec =
+    tie.close
+    (tie.spec
+    mul-across
+    mul-across-2
+    add-across
+    mul-wrapping-add-u64
+    mul-wrapping-add-u64-2
+    wrapping-add-u64-requires
+    returns)

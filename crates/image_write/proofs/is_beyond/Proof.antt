@@ -1,0 +1,57 @@
+use mathlib.Core.Path.{refl, sym, ap, _∙_}
+use mathlib.Core.Bool.{true, false}
+use Prim.Native.Nat.{ℕ}
+use native.Mathlib.Omega.{arith}
+use lib.Dec.{ltb}
+use borrow.Author.Tests.{eq-eqb, ne-eqb, lt-ltb, le-ltb}
+use Rattle.image.specs.Images.{exponent}
+use Rattle.image_write.proofs.PutLaws.{beyond-by}
+use borrow.Author.Needs.{needs}
+use Rattle.image_write.proofs.is_beyond.Statement.{statement}
+use Rattle.image_write.proofs.is_beyond.Tie as tie
+
+exponent-requires : tie.Need-exponent-requires
+exponent-requires c κs = search needs
+
+returns : tie.Need-returns
+returns c =
+    let e = c .before .exponent .ensures .0 in
+    let m = c .before .before .args .m in
+    beyond-by (exponent (m .elen)) (exponent (m .rlen)) (exponent (m .mlen)) true _ (eq-eqb (exponent (m .elen)) 6 (sym e ∙ c .if1 .taken)) refl
+
+exponent-requires-2 : tie.Need-exponent-requires-2
+exponent-requires-2 c κs = search needs
+
+returns-2 : tie.Need-returns-2
+returns-2 c =
+    let i = c .before .before in
+    let e = i .before .exponent .ensures .0 in
+    let r = c .before .exponent2 .ensures .0 in
+    let m = i .before .before .args .m in
+    beyond-by (exponent (m .elen)) (exponent (m .rlen)) (exponent (m .mlen)) false true (ne-eqb (exponent (m .elen)) 6 (λ z. i .if1 .left (e ∙ z)))
+    (lt-ltb 9 (exponent (m .rlen)) (omega (arith, r, c .if2 .taken)))
+
+exponent-requires-3 : tie.Need-exponent-requires-3
+exponent-requires-3 c κs = search needs
+
+returns-3 : tie.Need-returns-3
+returns-3 c =
+    let j = c .before in
+    let i = j .before .before in
+    let e = i .before .exponent .ensures .0 in
+    let r = j .before .exponent2 .ensures .0 in
+    let m = i .before .before .args .m in
+    ap (ltb 12) (c .exponent3 .ensures .0)
+    ∙ beyond-by (exponent (m .elen)) (exponent (m .rlen)) (exponent (m .mlen)) false false (ne-eqb (exponent (m .elen)) 6 (λ z. i .if1 .left (e ∙ z)))
+    (le-ltb 9 (exponent (m .rlen)) (omega (arith, r, j .if2 .left)))
+
+pub is-beyond-spec : {M : Type 1} → statement M
+is-beyond-spec =
+    tie.close
+    (tie.spec
+    exponent-requires
+    returns
+    exponent-requires-2
+    returns-2
+    exponent-requires-3
+    returns-3)

@@ -1,0 +1,45 @@
+use native.Mathlib.Omega.{arith}
+use Prim.Native.Nat.{_+_, _-_, _≤_}
+use lib.ListN.{length, getD}
+use mathlib.Core.Path.{refl}
+use Rattle.sums.proofs.KernelLaws.{inside, Stored, store-none, store-next, store-all}
+use borrow.Author.Needs.{needs}
+use Rattle.sums.proofs.sums64.store_row.Statement.{statement}
+use Rattle.sums.proofs.sums64.store_row.Tie as tie
+
+abbrev Inv-loop : tie.InvT-loop
+Inv-loop s₀ acc to n j₀ at₀ s j at = Stored 8 s₀ (λ q. getD acc q 0) to n s j at
+
+abbrev μ-loop : tie.MeasureT-loop
+μ-loop s₀ acc to n j₀ at₀ s j at = n - j
+
+-- the element lies in the slice
+fits : (c : tie.In-loop Inv-loop μ-loop) →
+    let a = c .before .before .before .before .args in c .before .loop .at + 8 ≤ length (a .s .now)
+fits c =
+    let k = c .before .before .before .before in
+    let l = c .before .loop in
+    inside (k .args .to) 8 (k .args .n) (l .j) (l .at) (length (k .args .s .now)) (l .inv .1) (c .loop-test .taken) (k .pre .1)
+
+loop-again : tie.Need-loop-again Inv-loop μ-loop
+loop-again c =
+    let d = c .before .before .before .before .before in
+    let l = d .before .loop in
+    let a = d .before .before .before .before .args in
+    let w = c .before .before .write8 in
+    store-next 8 (a .s .now) (λ q. getD (a .acc .now) q 0) (a .to) (a .n) (l .s) (w .last .0) (l .j) (l .at) (getD (a .acc .now) (l .j) 0) (l .inv) (d .loop-test .taken) (w .kept .0) refl (w .ensures)
+
+returns : tie.Need-returns Inv-loop μ-loop
+returns c =
+    let l = c .before .loop in
+    let a = c .before .before .before .before .args in
+    store-all 8 (a .s .now) (λ q. getD (a .acc .now) q 0) (a .to) (a .n) (l .s) (l .j) (l .at) (l .inv) (omega arith)
+
+pub store-row-spec : {M : Type 1} → statement M
+store-row-spec =
+    tie.close
+    (tie.spec Inv-loop μ-loop
+    (λ c. let a = c .before .before .args in store-none 8 (a .s .now) (λ q. getD (a .acc .now) q 0) (a .to) (a .n))
+    (λ c. search needs) (λ c. search needs) (λ c κs. let f = fits (c .before .before) in omega arith)
+    (λ c. let f = fits (c .before .before .before .before .before) in omega arith)
+    (λ c. search needs) (λ c. search needs) loop-again (λ c. search needs) returns)
