@@ -1,3 +1,3 @@
--- The effect of the instructions; and what the weighted sums leave.
+-- The effect of the instructions; what the weighted sums leave, and how their two rows may lie.
 pub mod Effect
 pub mod Weights

@@ -1,4 +1,4 @@
--- What the weighted sums leave.
+-- What the weighted sums leave, and how their two rows may lie.
 use mathlib.Core.Path.{_≡_}
 use mathlib.Core.Logic.{_⊎_}
 use mathlib.Core.List.{List}

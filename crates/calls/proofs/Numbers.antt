@@ -180,7 +180,7 @@ place-words P AtEnd l h = four (spotOf AtEnd) (omega arith) (omega arith) (omega
 pub fresh-words : (m : Machine) (P : Plan) → Words m → PlanWords P → RunWords (freshRun m P)
 fresh-words m P w p = parts (freshRun m P) p (w .rlen) (w .mlen) (w .elen) (w .rule) (four (spotOf AtType) (omega arith) (omega arith) (omega arith) (omega arith))
 
--- once a step is handed out: the plan, the lengths and the rule stay, and the next place lies in the matrices
+-- once a step is handed out: the plan, the lengths, ELEN and the rule stay, and the next place lies in the matrices
 moved-words : (R : Run) → RunWords R → soundRun chosen R ≡ true → RunWords (moved chosen R)
 moved-words R w ok =
     begin-alike (2 ^ 64) (planNumbers (R .plan) ++ (R .rlen ∷ R .mlen ∷ [])) (spotNumbers (spotOf (R .place)) ++ (R .plan .kind ∷ R .rule ∷ R .elen ∷ []))

@@ -244,11 +244,11 @@ pub record Spelling (s : List ℕ) (d : Described) : Type 0 where
   pub all-bytes : AllBytes (d .body)
   pub are : s ≡ spelled (d .header) (d .body)
 
--- the bytes behind the version and the rule
+-- the bytes behind the version, the rule and the exponent of ELEN
 abbrev bytesAfter : Header → List Run → List ℕ
 bytesAfter h rs = encodeAll (fields h) (encode (length rs) ++ runsBytes rs)
 
--- s is what follows the rule in the spelled form of d
+-- s is what follows them in the spelled form of d
 record SpellingAfter (large : Bool) (rule elen : ℕ) (s : List ℕ) (d : Described) : Type 0 where
   sound : Held (d .header)
   large-is : beyond (d .header .elen) (d .header .rlen) (d .header .mlen) ≡ large

@@ -1,5 +1,6 @@
 -- Computed examples of images.
 use mathlib.Core.Path.{_≡_, refl}
+use mathlib.Core.Bool.{true, false}
 use mathlib.Core.List.{List, [], _∷_}
 use Prim.Native.Nat.{ℕ}
 use lib.ListN.{take}
@@ -13,7 +14,6 @@ use Rattle.image.specs.declared.Imaged.the-variants.{Done, Damaged}
 use Rattle.image.specs.ImageFormat.{mostRlen, leastMlen, mostMlen, mtypes, runsFormat, imageFormat}
 use Rattle.image.specs.Reading.{checkImage, readImage}
 use Rattle.machine.specs.Starting.{freshMachine}
-use Rattle.machine.specs.declared.Machine.{Machine}
 
 -- runs of seven bytes: the second starts behind a gap of two
 sevenRuns : runs (cellsOf (10 ∷ 11 ∷ 12 ∷ 13 ∷ 14 ∷ 15 ∷ 16 ∷ []) (0 ∷ 1 ∷ 1 ∷ 0 ∷ 0 ∷ 1 ∷ 0 ∷ []))
@@ -39,26 +39,12 @@ largeImages : spelled (headerOf (freshMachine 128 256 64 0 0 0)) [] ∷ spelled 
 unfolding groups encode log2 beyond
 largeImages = refl
 
--- of a machine with three different tile sizes and maxima that differ (of the first tile_m and tile_k up to 4, tile_n up to 8): m, k, n in this
--- order, in version 1 and in version 3
-abbrev sized : (rlen mlen elen : ℕ) → Machine
-sized rlen mlen elen = record {
-  rlen = rlen;
-  mlen = mlen;
-  mtype = 1;
-  «tile_m» = 3;
-  «tile_k» = 2;
-  «tile_n» = 7;
-  «seal_start» = 0;
-  «seal_length» = 0;
-  rule = 0;
-  elen = elen;
-}
-
-sizedImages : spelled (headerOf (sized 64 256 32)) [] ∷ spelled (headerOf (sized 128 512 64)) [] ∷ []
-    ≡ (1 ∷ 6 ∷ 8 ∷ 1 ∷ 3 ∷ 2 ∷ 7 ∷ 0 ∷ 0 ∷ 0 ∷ []) ∷ (3 ∷ 0 ∷ 6 ∷ 7 ∷ 9 ∷ 1 ∷ 3 ∷ 2 ∷ 7 ∷ 0 ∷ 0 ∷ 0 ∷ []) ∷ []
+-- of a machine with three different tile sizes and maxima that differ (tile_m and tile_k up to 4, tile_n up to 8): m, k, n in this order
+smallSized : spelled
+    (headerOf (record { rlen = 64; mlen = 256; mtype = 1; «tile_m» = 3; «tile_k» = 2; «tile_n» = 7; «seal_start» = 0; «seal_length» = 0; rule = 0; elen = 32 }))
+    [] ≡ 1 ∷ 6 ∷ 8 ∷ 1 ∷ 3 ∷ 2 ∷ 7 ∷ 0 ∷ 0 ∷ 0 ∷ []
 unfolding groups encode log2 beyond
-sizedImages = refl
+smallSized = refl
 
 -- the numbers of a fresh machine of RLEN 64 and MLEN 128, 256 register bytes, before what follows
 abbrev smallest : List ℕ → List ℕ
@@ -81,8 +67,8 @@ versions : checkImage (2 ∷ 1 ∷ 6 ∷ 7 ∷ 0 ∷ 0 ∷ 0 ∷ 0 ∷ 0 ∷ 0 �
 unfolding checkImage parse readNumber isAmong nonempty imageFormat mostRlen leastMlen mostMlen mtypes runsFormat
 versions = refl
 
--- of version 3: with ELEN 32, an MLEN above 4,096, and one that version 1 can hold, seen at the exponent of MLEN; with ELEN 64 mtype 3 and 9, but
--- not 10; an RLEN that is not above ELEN; an ELEN of 128; a rule of 2; and an RLEN above 512 in version 1
+-- of version 3: with ELEN 32, an MLEN above 4,096; one that version 1 can hold, seen at the exponent of MLEN; an RLEN above 512; with ELEN 64
+-- mtype 3 and 9, but not 10; an RLEN that is not above ELEN; an ELEN of 128; a rule of 2; and an RLEN above 512 in version 1
 large : checkImage (3 ∷ 0 ∷ 5 ∷ 6 ∷ 13 ∷ 0 ∷ 0 ∷ 0 ∷ 0 ∷ 0 ∷ 0 ∷ 0 ∷ []) ∷ checkImage (3 ∷ 0 ∷ 5 ∷ 6 ∷ 12 ∷ []) ∷ checkImage (3 ∷ 0 ∷ 5 ∷ 10 ∷ 11 ∷ 0 ∷ 0 ∷ 0 ∷ 0 ∷ 0 ∷ 0 ∷ 0 ∷ [])
     ∷ checkImage (3 ∷ 1 ∷ 6 ∷ 7 ∷ 8 ∷ 3 ∷ 0 ∷ 0 ∷ 0 ∷ 0 ∷ 0 ∷ 0 ∷ []) ∷ checkImage (3 ∷ 1 ∷ 6 ∷ 7 ∷ 8 ∷ 9 ∷ 0 ∷ 0 ∷ 0 ∷ 0 ∷ 0 ∷ 0 ∷ []) ∷ checkImage (3 ∷ 1 ∷ 6 ∷ 7 ∷ 8 ∷ 10 ∷ [])
     ∷ checkImage (3 ∷ 0 ∷ 6 ∷ 6 ∷ []) ∷ checkImage (3 ∷ 0 ∷ 7 ∷ []) ∷ checkImage (3 ∷ 2 ∷ []) ∷ checkImage (1 ∷ 10 ∷ []) ∷ []
@@ -91,10 +77,10 @@ unfolding checkImage parse readNumber isAmong nonempty imageFormat mostRlen leas
 large = refl
 
 -- the shortest inputs that are refused. Only cut short, the place is the length (02, Six): nothing; version 1 alone. The version 0, where images
--- have 1 (Six), 2 (Eight) or 3 (Ten). A first group of 1, or of 2, behind which another has to follow: in the shortest form (Six) 1 and 2 have no second
+-- have 1 (Six), 2 (Eight) or 3 (Ten). A first group of 1, 2 or 3, behind which another has to follow: in the shortest form (Six) they have no second
 -- group, and a larger number is no version, so that no image goes on at the first byte
-shortest : checkImage [] ∷ checkImage (1 ∷ []) ∷ checkImage (0 ∷ []) ∷ checkImage (129 ∷ 0 ∷ []) ∷ checkImage (130 ∷ 0 ∷ []) ∷ []
-    ≡ Damaged 0 ∷ Damaged 1 ∷ Damaged 0 ∷ Damaged 0 ∷ Damaged 0 ∷ []
+shortest : checkImage [] ∷ checkImage (1 ∷ []) ∷ checkImage (0 ∷ []) ∷ checkImage (129 ∷ 0 ∷ []) ∷ checkImage (130 ∷ 0 ∷ []) ∷ checkImage (131 ∷ 0 ∷ []) ∷ []
+    ≡ Damaged 0 ∷ Damaged 1 ∷ Damaged 0 ∷ Damaged 0 ∷ Damaged 0 ∷ Damaged 0 ∷ []
 unfolding checkImage parse readNumber isAmong nonempty imageFormat mostRlen leastMlen mostMlen mtypes runsFormat
 shortest = refl
 
@@ -108,10 +94,10 @@ unfolding checkImage parse readNumber isAmong nonempty imageFormat mostRlen leas
 damaged = refl
 
 -- three tile sizes; a tile_k of 7, which only tile_n can be
-sizesChecked : checkImage (1 ∷ 6 ∷ 8 ∷ 1 ∷ 3 ∷ 2 ∷ 7 ∷ 0 ∷ 0 ∷ 0 ∷ []) ∷ checkImage (1 ∷ 6 ∷ 8 ∷ 1 ∷ 3 ∷ 7 ∷ 2 ∷ 0 ∷ 0 ∷ 0 ∷ []) ∷ []
+smallSizedRead : checkImage (1 ∷ 6 ∷ 8 ∷ 1 ∷ 3 ∷ 2 ∷ 7 ∷ 0 ∷ 0 ∷ 0 ∷ []) ∷ checkImage (1 ∷ 6 ∷ 8 ∷ 1 ∷ 3 ∷ 7 ∷ 2 ∷ 0 ∷ 0 ∷ 0 ∷ []) ∷ []
     ≡ Done ∷ Damaged 5 ∷ []
 unfolding checkImage parse readNumber isAmong nonempty imageFormat mostRlen leastMlen mostMlen mtypes runsFormat
-sizesChecked = refl
+smallSizedRead = refl
 
 -- 15 names its place
 place : imageReply (Damaged 7) ≡ record { number = 15; place = 7 }
@@ -121,3 +107,35 @@ place = refl
 unfit : readImage twoRuns (5 ∷ []) (1 ∷ 0 ∷ []) .marks ≡ 1 ∷ 0 ∷ []
 unfolding readImage parse readNumber isAmong nonempty imageFormat mostRlen leastMlen mostMlen mtypes runsFormat
 unfit = refl
+
+-- a halving machine of RLEN 256, MLEN 1,024 and ELEN 64 (four rows of 32 bytes) with mtype 9 and three different sizes, and two runs
+sizedImage : spelled
+    (headerOf (record { rlen = 256; mlen = 1024; mtype = 9; «tile_m» = 3; «tile_k» = 2; «tile_n» = 20; «seal_start» = 5; «seal_length» = 300; rule = 1; elen = 64 }))
+    (run 1 (11 ∷ 12 ∷ []) ∷ run 130 (15 ∷ []) ∷ [])
+    ≡ 3 ∷ 1 ∷ 6 ∷ 8 ∷ 10 ∷ 9 ∷ 3 ∷ 2 ∷ 20 ∷ 5 ∷ 172 ∷ 2 ∷ 2 ∷ 1 ∷ 2 ∷ 11 ∷ 12 ∷ 130 ∷ 1 ∷ 1 ∷ 15 ∷ []
+unfolding groups encode log2 beyond
+sizedImage = refl
+
+-- it is read; so are the largest sizes; one more of each, seen at its place
+sizedRead : checkImage (3 ∷ 1 ∷ 6 ∷ 8 ∷ 10 ∷ 9 ∷ 3 ∷ 2 ∷ 20 ∷ 5 ∷ 172 ∷ 2 ∷ 2 ∷ 1 ∷ 2 ∷ 11 ∷ 12 ∷ 130 ∷ 1 ∷ 1 ∷ 15 ∷ [])
+    ∷ checkImage (3 ∷ 1 ∷ 6 ∷ 8 ∷ 10 ∷ 9 ∷ 4 ∷ 4 ∷ 32 ∷ 0 ∷ 0 ∷ 0 ∷ []) ∷ checkImage (3 ∷ 1 ∷ 6 ∷ 8 ∷ 10 ∷ 9 ∷ 5 ∷ [])
+    ∷ checkImage (3 ∷ 1 ∷ 6 ∷ 8 ∷ 10 ∷ 9 ∷ 4 ∷ 5 ∷ []) ∷ checkImage (3 ∷ 1 ∷ 6 ∷ 8 ∷ 10 ∷ 9 ∷ 4 ∷ 4 ∷ 33 ∷ []) ∷ []
+    ≡ Done ∷ Done ∷ Damaged 6 ∷ Damaged 7 ∷ Damaged 8 ∷ []
+unfolding checkImage parse readNumber isAmong nonempty imageFormat mostRlen leastMlen mostMlen mtypes runsFormat
+sizedRead = refl
+
+-- bounds, one after the other: a machine is beyond by its ELEN, by RLEN 1,024, by MLEN 8,192, and by none of these
+bounds : beyond 6 7 8 ∷ beyond 5 10 11 ∷ beyond 5 6 13 ∷ beyond 5 9 12 ∷ [] ≡ true ∷ true ∷ true ∷ false ∷ []
+unfolding beyond
+bounds = refl
+
+-- what no version holds: MLEN 8,192 in version 1 and 2; in version 3 an exponent of ELEN below 5, of RLEN above 12, of MLEN above 16 or not above
+-- RLEN's, mtype 3 and 9 where ELEN is 32, 4 and 11 where it is 64; and cut short
+none : checkImage (1 ∷ 6 ∷ 13 ∷ []) ∷ checkImage (2 ∷ 1 ∷ 9 ∷ 13 ∷ []) ∷ checkImage (3 ∷ 0 ∷ 4 ∷ []) ∷ checkImage (3 ∷ 0 ∷ 6 ∷ 13 ∷ [])
+    ∷ checkImage (3 ∷ 0 ∷ 5 ∷ 6 ∷ 17 ∷ []) ∷ checkImage (3 ∷ 0 ∷ 5 ∷ 10 ∷ 10 ∷ []) ∷ checkImage (3 ∷ 0 ∷ 6 ∷ 12 ∷ 12 ∷ [])
+    ∷ checkImage (3 ∷ 0 ∷ 5 ∷ 6 ∷ 13 ∷ 3 ∷ []) ∷ checkImage (3 ∷ 0 ∷ 5 ∷ 6 ∷ 13 ∷ 9 ∷ []) ∷ checkImage (3 ∷ 0 ∷ 6 ∷ 7 ∷ 8 ∷ 4 ∷ []) ∷ checkImage (3 ∷ 0 ∷ 6 ∷ 7 ∷ 8 ∷ 11 ∷ [])
+    ∷ checkImage (3 ∷ []) ∷ checkImage (3 ∷ 0 ∷ []) ∷ checkImage (3 ∷ 0 ∷ 5 ∷ []) ∷ checkImage (3 ∷ 0 ∷ 5 ∷ 9 ∷ []) ∷ []
+    ≡ Damaged 2 ∷ Damaged 3 ∷ Damaged 2 ∷ Damaged 3 ∷ Damaged 4 ∷ Damaged 4 ∷ Damaged 4 ∷ Damaged 5 ∷ Damaged 5 ∷ Damaged 5 ∷ Damaged 5
+    ∷ Damaged 1 ∷ Damaged 2 ∷ Damaged 3 ∷ Damaged 4 ∷ []
+unfolding checkImage parse readNumber isAmong nonempty imageFormat mostRlen leastMlen mostMlen mtypes runsFormat
+none = refl

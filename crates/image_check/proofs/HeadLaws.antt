@@ -95,7 +95,7 @@ abbrev HeadOk : List ℕ → Head → Type 0
 HeadOk s (Headed m count at) = HeadedOk s m count at
 HeadOk s (HeadBad p) = parse imageFormat s ≡ stopped p
 
--- ---- the version, the rule and the exponents
+-- ---- the version, the rule, and the exponents of ELEN, RLEN and MLEN
 
 module _ (s : List ℕ) where
   abbrev ofLarge : (Bool → ℕ → ℕ → Format Described) → Format Described

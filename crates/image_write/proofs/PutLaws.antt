@@ -59,7 +59,7 @@ put-three room a b d t room₁ room₂ room₃ at at₁ at₂ at₃ r₁ e₁ r�
     ∙ sets-append b (d ++ t) room₁ at₁ ∙ ap₂ (λ (x : List ℕ) (y : ℕ). sets x y (d ++ t)) (sym r₂) (sym e₂)
     ∙ sets-append d t room₂ at₂ ∙ ap₂ (λ (x : List ℕ) (y : ℕ). sets x y t) (sym r₃) (sym e₃)
 
--- ---- the version of an image, with the rule of a halving machine
+-- ---- the version of an image, with what follows it
 
 pub version-three : (h : Header) (e : ℕ) → e ≡ h .elen → beyond (h .elen) (h .rlen) (h .mlen) ≡ true → 3 ∷ h .rule ∷ e ∷ [] ≡ version h
 version-three h e q b = rw b (ap (λ (x : ℕ). 3 ∷ h .rule ∷ x ∷ []) q)

@@ -1,5 +1,7 @@
--- Refusals of each number and their neighbours, computed: a machine of RLEN 64 and MLEN 128 (two rows of eight bytes).
+-- Refusals of each number and their neighbours, computed: a machine of RLEN 64 and MLEN 128 (two rows of eight bytes) and
+-- ELEN 32; at the end one of RLEN 128 and MLEN 256, with ELEN 64.
 use mathlib.Core.Path.{_≡_, refl}
+use mathlib.Core.Bool.{true, false}
 use mathlib.Core.List.{List, [], _∷_, _++_, map}
 use Prim.Native.Nat.{ℕ, zero, suc, _+_, _*_, _-_, _^_}
 use lib.ListN.{getD, replicate, set, take, drop}
@@ -377,3 +379,132 @@ transposed =
 pub transposed-right : map (λ l. l .got) transposed ≡ map (λ l. l .want) transposed
 unfolding transposed counting counted word bench scalars permitted sew newType legalType widthOf inside misses rowsMiss distinct stored marked listing others decode sound stepBy outcome putTile putRow putLe markTile markRow
 transposed-right = refl
+
+-- ---- 02, Ten
+
+-- RLEN, MLEN and ELEN: the least and the largest; ELEN not below RLEN, and others; lengths past the bounds, or not above one another
+pub lengths : permitted 64 128 32 ∷ permitted 64 65536 32 ∷ permitted 4096 8192 32 ∷ permitted 128 256 64 ∷ permitted 4096 65536 64
+    ∷ permitted 64 128 64 ∷ permitted 128 256 16 ∷ permitted 128 256 48 ∷ permitted 256 512 128
+    ∷ permitted 32 128 32 ∷ permitted 8192 65536 64 ∷ permitted 4096 131072 64 ∷ permitted 4096 4096 64 ∷ permitted 192 256 64 ∷ []
+    ≡ true ∷ true ∷ true ∷ true ∷ true ∷ false ∷ false ∷ false ∷ false ∷ false ∷ false ∷ false ∷ false ∷ false ∷ []
+unfolding permitted
+lengths = refl
+
+-- "msew 3 means 64 bits where ELEN is 64, and 4 x 16 bits is then allowed for C": mtype 2, 3, 4, 8 to 11 and 16 set by either ELEN
+pub types : map (newType 32) (2 ∷ 3 ∷ 4 ∷ 8 ∷ 9 ∷ 10 ∷ 11 ∷ 16 ∷ []) ++ map (newType 64) (2 ∷ 3 ∷ 4 ∷ 8 ∷ 9 ∷ 10 ∷ 11 ∷ 16 ∷ [])
+    ≡ 2 ∷ 2 ^ 63 ∷ 2 ^ 63 ∷ 8 ∷ 2 ^ 63 ∷ 2 ^ 63 ∷ 2 ^ 63 ∷ 2 ^ 63 ∷ 2 ∷ 3 ∷ 2 ^ 63 ∷ 8 ∷ 9 ∷ 2 ^ 63 ∷ 2 ^ 63 ∷ 2 ^ 63 ∷ []
+unfolding newType legalType sew
+types = refl
+
+-- RLEN 128 and MLEN 256, with this ELEN and mtype: two rows of sixteen bytes; tr1 from byte 32 on, acc0 from 256 and acc1 from 384 on, in rows
+-- of 64
+pub larger : (elen t m k n : ℕ) → Bench
+larger e t m k n = record {
+  machine = record { rlen = 128; mlen = 256; mtype = t; «tile_m» = m; «tile_k» = k; «tile_n» = n; «seal_start» = 0; «seal_length» = 0; rule = 0; elen = e };
+  registers = replicate 512 5;
+  marks = replicate 512 1;
+  memory = replicate 32 9;
+}
+
+pub elen64 : List Line
+elen64 =
+    -- 8, before 10: an ELEN of 16 or 48, or of RLEN; an mtype that cannot arise by this ELEN
+    gives (step 0 (scalars 0 0) (larger 16 0 2 2 2)) 8
+    ∷ gives (step 0 (scalars 0 0) (larger 48 0 2 2 2)) 8
+    ∷ gives (step 0 (scalars 0 0) (larger 128 0 2 2 2)) 8
+    ∷ gives (step 0 (scalars 0 0) (with (record { rlen = 64; mlen = 128; mtype = 0; «tile_m» = 0; «tile_k» = 0; «tile_n» = 0; «seal_start» = 0; «seal_length» = 0; rule = 0; elen = 64 }) good)) 8
+    ∷ gives (step 0 (scalars 0 0) (larger 32 3 2 2 2)) 8
+    ∷ gives (step 0 (scalars 0 0) (larger 32 9 2 2 2)) 8
+    ∷ gives (step 0 (scalars 0 0) (larger 64 10 2 2 2)) 8
+    ∷ gives (step 0 (scalars 0 0) (larger 64 3 2 2 2)) 10
+    ∷ gives (step 0 (scalars 0 0) (larger 64 9 2 2 2)) 10
+    -- 3: mlae64.m at SEW 64, at SEW 32, and where ELEN is 32
+    ∷ gives (step (word 0b0000010 11 10 3 0) (scalars 0 16) (larger 64 3 2 2 2)) 0
+    ∷ gives (step (word 0b0000010 11 10 3 0) (scalars 0 16) (larger 64 2 2 2 2)) 3
+    ∷ gives (step (word 0b0000010 11 10 3 0) (scalars 0 16) (larger 32 2 2 2 2)) 3
+    -- 64 bits of C: at SEW 64; at SEW 32, by either ELEN; at SEW 16, with maccq and without
+    ∷ gives (step (word 0b0000000 11 10 3 0) (scalars 0 16) (larger 64 3 2 2 2)) 0
+    ∷ gives (step (word 0b0000000 11 10 3 0) (scalars 0 16) (larger 64 2 2 2 2)) 0
+    ∷ gives (step (word 0b0000000 11 10 3 0) (scalars 0 16) (larger 32 2 2 2 2)) 3
+    ∷ gives (step (word 0b0000000 11 10 3 0) (scalars 0 16) (larger 64 9 2 2 2)) 0
+    ∷ gives (step (word 0b0000000 11 10 3 0) (scalars 0 16) (larger 64 1 2 2 2)) 3
+    -- mwma.mm at SEW 32, by either ELEN, and at SEW 64; mqma.mm at SEW 16, with maccq and without; mfma.mm at SEW 32 and 64
+    ∷ gives (step (word 0b0000010 1 0 6 0) (scalars 0 0) (larger 64 2 2 2 2)) 0
+    ∷ gives (step (word 0b0000010 1 0 6 0) (scalars 0 0) (larger 32 2 2 2 2)) 3
+    ∷ gives (step (word 0b0000010 1 0 6 0) (scalars 0 0) (larger 64 3 2 2 2)) 3
+    ∷ gives (step (word 0b0000100 1 0 6 0) (scalars 0 0) (larger 64 9 2 2 2)) 0
+    ∷ gives (step (word 0b0000100 1 0 6 0) (scalars 0 0) (larger 64 1 2 2 2)) 3
+    ∷ gives (step (word 0b0000001 1 0 6 0) (scalars 0 0) (larger 64 2 2 2 2)) 0
+    ∷ gives (step (word 0b0000001 1 0 6 0) (scalars 0 0) (larger 64 3 2 2 2)) 3
+    -- 4: two columns fit at SEW 64, four at SEW 32
+    ∷ gives (step (word 0b0000100 11 10 3 0) (scalars 0 0) (larger 64 3 2 2 3)) 4
+    ∷ gives (step (word 0b0000100 11 10 2 0) (scalars 0 0) (larger 64 2 2 2 3)) 0
+    -- 5: the last byte of element (1, 1) of C, and of one of 4 x 16 bits
+    ∷ unwritten (step (word 0b0000000 1 0 6 0) (scalars 0 0) (marking (set (replicate 512 1) 335 0) (larger 64 3 2 2 2))) 1 1
+    ∷ unwritten (step (word 0b0000100 1 0 6 0) (scalars 0 0) (marking (set (replicate 512 1) 335 0) (larger 64 9 2 2 2))) 1 1
+    ∷ []
+
+pub elen64-right : map (λ l. l .got) elen64 ≡ map (λ l. l .want) elen64
+unfolding elen64 larger word bench scalars shown gives unwritten good marking with permitted sew newType legalType widthOk widthOf inside misses rowsMiss distinct marked listing others decode sound stepBy outcome
+elen64-right = refl
+
+-- row 0 of tr0, of tr1, row 1 of tr1 and row 0 of acc0, each from its first byte on, among bytes of 9
+pub wideRows : (a b b′ c : List ℕ) → List ℕ
+wideRows a b b′ c = take 32 (a ++ replicate 32 9) ++ take 16 (b ++ replicate 16 9) ++ take 208 (b′ ++ replicate 208 9) ++ take 256 (c ++ replicate 256 9)
+
+-- acc0 of one row after a word, at this mtype, of k terms and n columns: its first 17 bytes
+pub accumulated : (t k n w : ℕ) → (registers : List ℕ) → List ℕ
+accumulated t k n w registers =
+    take 17 (drop 256 (step w (scalars (2 ^ 64 - 3) 0) (record { machine = larger 64 t 1 k n .machine; registers = registers; marks = replicate 512 1; memory = [] }) .bench .registers))
+
+pub sums64 : List Line
+sums64 =
+    -- mma.mm at SEW 64: A is -2^63 and 2^32 + 1, B is 3, -1 and 2^32 - 1, -2, C is 5, -1: 2^63 + 4 and 2^63 - 2^33 - 3
+    record {
+      got = accumulated 3 2 2 (word 0b0000000 1 0 6 0)
+          (wideRows (replicate 7 0 ++ 0x80 ∷ 1 ∷ 0 ∷ 0 ∷ 0 ∷ 1 ∷ 0 ∷ 0 ∷ 0 ∷ []) (3 ∷ replicate 7 0 ++ replicate 8 0xFF) (replicate 4 0xFF ++ replicate 4 0 ++ 0xFE ∷ replicate 7 0xFF) (5 ∷ replicate 7 0 ++ replicate 8 0xFF));
+      want = 4 ∷ replicate 6 0 ++ 0x80 ∷ 0xFD ∷ 0xFF ∷ 0xFF ∷ 0xFF ∷ 0xFD ∷ 0xFF ∷ 0xFF ∷ 0x7F ∷ 9 ∷ [];
+    }
+    -- mwma.mm at SEW 32: twice -2^31 x -2^31, on -1, is 2^63 - 1
+    ∷ record {
+      got = accumulated 2 2 1 (word 0b0000010 1 0 6 0)
+          (wideRows (0 ∷ 0 ∷ 0 ∷ 0x80 ∷ 0 ∷ 0 ∷ 0 ∷ 0x80 ∷ []) (0 ∷ 0 ∷ 0 ∷ 0x80 ∷ []) (0 ∷ 0 ∷ 0 ∷ 0x80 ∷ []) (replicate 8 0xFF));
+      want = replicate 7 0xFF ++ 0x7F ∷ replicate 9 9;
+    }
+    -- mqma.mm at SEW 16, 4 x 16 bits: twice -2^15 x -2^15, on 2^63 - 1, is 2^63 + 2^31 - 1, which is -2^63 + 2^31 - 1
+    ∷ record {
+      got = accumulated 9 2 1 (word 0b0000100 1 0 6 0)
+          (wideRows (0 ∷ 0x80 ∷ 0 ∷ 0x80 ∷ []) (0 ∷ 0x80 ∷ []) (0 ∷ 0x80 ∷ []) (replicate 7 0xFF ++ 0x7F ∷ []));
+      want = 0xFF ∷ 0xFF ∷ 0xFF ∷ 0x7F ∷ 0 ∷ 0 ∷ 0 ∷ 0x80 ∷ replicate 9 9;
+    }
+    -- memulc.mx at SEW 64 by the whole scalar, -3: acc0 holds 2^32 + 5
+    ∷ record {
+      got = accumulated 3 0 1 (word 0b0011010 10 0 6 0) (wideRows [] [] [] (5 ∷ 0 ∷ 0 ∷ 0 ∷ 1 ∷ 0 ∷ 0 ∷ 0 ∷ []));
+      want = 0xF1 ∷ 0xFF ∷ 0xFF ∷ 0xFF ∷ 0xFC ∷ 0xFF ∷ 0xFF ∷ 0xFF ∷ replicate 9 9;
+    }
+    -- mqemulc.mi at SEW 16 by -16, into its own source: 4 x 16 bits
+    ∷ record {
+      got = accumulated 9 0 2 (word 0b0100100 16 0 6 0) (wideRows [] [] [] (5 ∷ 0 ∷ 0xFF ∷ 0xFF ∷ []));
+      want = 0xB0 ∷ replicate 7 0xFF ++ 16 ∷ replicate 7 0 ++ 9 ∷ [];
+    }
+    ∷ []
+
+pub sums64-right : map (λ l. l .got) sums64 ≡ map (λ l. l .want) sums64
+unfolding sums64 accumulated wideRows larger word scalars permitted sew newType legalType widthOk marked listing others decode sound stepBy outcome putTile putRow putLe markTile markRow reduce
+sums64-right = refl
+
+-- mlce64.m and msce64.m of two rows and one column: eight bytes of each row of memory, and of acc0
+pub moved64 : List Line
+moved64 =
+    (let o = step (word 0b0000000 11 10 3 0) (scalars 1 16) (record { machine = larger 64 3 2 2 1 .machine; registers = replicate 512 5; marks = replicate 512 0; memory = counting 32 0 }) in
+    record {
+      got = take 9 (drop 256 (o .bench .registers)) ++ take 9 (drop 320 (o .bench .registers)) ++ take 9 (drop 320 (o .bench .marks));
+      want = 1 ∷ 2 ∷ 3 ∷ 4 ∷ 5 ∷ 6 ∷ 7 ∷ 8 ∷ 5 ∷ 17 ∷ 18 ∷ 19 ∷ 20 ∷ 21 ∷ 22 ∷ 23 ∷ 24 ∷ 5 ∷ replicate 8 1 ++ 0 ∷ [];
+    })
+    ∷ (let o = step (word 0b0000001 11 10 3 0) (scalars 1 9) (record { machine = larger 64 3 2 2 1 .machine; registers = replicate 256 0 ++ counting 256 0; marks = replicate 512 1; memory = replicate 20 99 }) in
+    record { got = o .bench .memory; want = 99 ∷ 0 ∷ 1 ∷ 2 ∷ 3 ∷ 4 ∷ 5 ∷ 6 ∷ 7 ∷ 99 ∷ 64 ∷ 65 ∷ 66 ∷ 67 ∷ 68 ∷ 69 ∷ 70 ∷ 71 ∷ 99 ∷ 99 ∷ [] })
+    ∷ []
+
+pub moved64-right : map (λ l. l .got) moved64 ≡ map (λ l. l .want) moved64
+unfolding moved64 larger counting word scalars permitted sew newType legalType widthOf inside misses rowsMiss distinct stored marked listing others decode sound stepBy outcome putTile putRow putLe markTile markRow
+moved64-right = refl

@@ -22,7 +22,7 @@ abbrev pub mill : ℕ → Bool
 mill t = eqb (t / 2 ^ 63 % 2) 1
 
 -- ".. and 4 to 7 are illegal. A new value is also illegal if any of bits 63..4 is set, if SEW exceeds ELEN, or if maccq is set and
--- 4 x SEW exceeds ELEN."
+-- 4 x SEW exceeds ELEN." 02, Ten: "msew 3 means 64 bits where ELEN is 64, and 4 x 16 bits is then allowed for C."
 unfoldable pub legalType : ℕ → ℕ → Bool
 legalType elen v = every (
     ltb v 16

@@ -244,7 +244,7 @@ fn is_elen(x: u64) -> bool
     }
 }
 
-// Whether a machine may have these lengths.
+// Whether a machine may have these lengths and this ELEN.
 pub fn permitted_lengths(rlen: u64, mlen: u64, elen: u64) -> bool
     ensures { λ r. ⌜ r ≡ permitted rlen mlen elen ⌝ }
 {
@@ -359,7 +359,7 @@ fn fresh_machine(
     }
 }
 
-// Whether a machine of these lengths can be started on so many register bytes and marks, with this rule and this seal.
+// Whether a machine of these lengths and this ELEN can be started on so many register bytes and marks, with this rule and this seal.
 fn is_startable(
     rlen: u64,
     mlen: u64,
@@ -387,7 +387,7 @@ fn is_startable(
     seal_ends(seal_start, seal_length)
 }
 
-// Starts a machine on the lent register bytes and marks, with a rule and a sealed range of memory. Refused, it changes nothing.
+// Starts a machine on the lent register bytes and marks, with an ELEN, a rule and a sealed range of memory. Refused, it changes nothing.
 pub fn start(
     rlen: u64,
     mlen: u64,

@@ -2,7 +2,7 @@
 use mathlib.Core.List.{List}
 use Prim.Native.Nat.{ℕ, _*_, _/_}
 use Rattle.width.specs.Tile.{putRow}
-use Rattle.machine.specs.Geometry.{parametersOf}
+use Rattle.machine.specs.Geometry.{Parameters, parametersOf}
 use Rattle.machine.specs.Setting.{smaller}
 use Rattle.run.specs.declared.Plan.{Plan}
 use Rattle.run.specs.Plan.{Job}
@@ -21,9 +21,13 @@ planFor sew f m k n = record {
   c = record { address = 2048; stride = n * (f * (sew / 8)) };
 }
 
--- its run on a memory; "The machine is MLEN 256, RLEN 64.", with no seal
+-- "The machine is MLEN 256, RLEN 64.", with ELEN 32, as every machine had it before 02, Ten, and no seal
+abbrev pub productMachine : Parameters
+productMachine = parametersOf smaller 64 256 32 0 0
+
+-- its run on a memory
 abbrev pub jobFor : (sew f m k n : ℕ) → List ℕ → Job
-jobFor sew f m k n mem = record { machine = parametersOf smaller 64 256 32 0 0; plan = planFor sew f m k n; memory = mem }
+jobFor sew f m k n mem = record { machine = productMachine; plan = planFor sew f m k n; memory = mem }
 
 -- A, m by k, and then B, k by n, written to their places by rows, in elements of w bytes
 abbrev pub filled : (w m k n : ℕ) → (a b : ℕ → ℕ) → List ℕ → List ℕ

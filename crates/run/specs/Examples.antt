@@ -1,8 +1,8 @@
 -- Starts that are refused and places that hand out nothing, with their neighbours, a run that keeps A transposed and a float run,
--- computed: MLEN 128, RLEN 64, a memory of 64 bytes.
+-- computed: MLEN 128, RLEN 64, ELEN 32, a memory of 64 bytes; at the end MLEN 256, RLEN 128, ELEN 64.
 use mathlib.Core.Path.{_≡_, refl}
 use mathlib.Core.List.{List, [], _∷_, _++_, map}
-use Prim.Native.Nat.{ℕ, _-_, _^_}
+use Prim.Native.Nat.{ℕ, _-_, _*_, _^_}
 use lib.ListN.{length, drop, replicate}
 use lib.Ieee as Ieee
 use lib.IntN.{pos, negsuc}
@@ -24,7 +24,7 @@ use Rattle.run.specs.declared.Plan.{Plan}
 use Rattle.run.specs.declared.Place.{Place}
 use Rattle.run.specs.declared.Place.the-variants.{AtType, AtM, AtN, AtMultiply, AtStore, AtEnd}
 use Rattle.run.specs.declared.Handed.{Handed}
-use Rattle.run.specs.Words.{loadA, multiply, Shape, words, steps}
+use Rattle.run.specs.Words.{setType, loadA, loadB, multiply, store, Shape, words, steps}
 use Rattle.run.specs.Plan.{narrow, msew, typeOf, cAt}
 use Rattle.run.specs.Encoding.{handedFor}
 use Rattle.run.specs.Start.{startRun, format, kindFits, planned, lying, apart, separate}
@@ -258,3 +258,74 @@ pub floats-are : answeredDone chosen entered 15 ∷ float-after 13 0 0 ∷ float
     ≡ 13 ∷ 0x41180000 ∷ 0x7FC00000 ∷ 0x4C800000 ∷ 0x7FC00000 ∷ []
 unfolding numbers entered float-after ofKind plan layout free bench ruled permitted sew newType legalType chosen widthOk widthOf inside misses rowsMiss marked listing decode sound stepBy outcome narrow msew typeOf startRun soundRun format kindFits planned lying distinct stored apart separate chunks putTile putRow putLe markTile markRow reduce valueOf settled multiplyAdd floatSum floatProduct Ieee.add Ieee.mul Ieee.ofBits Ieee.toBits
 floats-are = refl
+
+-- ---- 02, Ten
+
+-- RLEN 128 and MLEN 256, with this ELEN and a memory: blocks of at most 2 rows and 2 terms
+pub larger : (elen : ℕ) → List ℕ → Bench
+larger e memory = record {
+  machine = record { rlen = 128; mlen = 256; mtype = 0; «tile_m» = 0; «tile_k» = 0; «tile_n» = 0; «seal_start» = 0; «seal_length» = 0; rule = 0; elen = e };
+  registers = replicate 512 0;
+  marks = replicate 512 0;
+  memory = memory;
+}
+
+pub shaped : (elen s f : ℕ) → ℕ → Line
+shaped e s f want = gives (larger e (replicate 64 1)) (plan s f 1 1 1 (layout 0 8) (layout 8 8) (layout 16 8)) want
+
+-- "The product run takes SEW 64 there": SEW and f by either ELEN, f x SEW at most ELEN
+pub widths : List Line
+widths =
+    shaped 32 64 1 8
+    ∷ shaped 32 32 2 8
+    ∷ shaped 32 16 4 8
+    ∷ shaped 64 64 1 0
+    ∷ shaped 64 32 2 0
+    ∷ shaped 64 16 4 0
+    ∷ shaped 64 64 2 8
+    ∷ shaped 64 32 4 8
+    ∷ shaped 64 128 1 8
+    -- a state at fault for its ELEN
+    ∷ shaped 48 8 1 8
+    -- of kind 2, SEW is 32 where ELEN is 64 too; the last byte of an element of 64 bits
+    ∷ gives (larger 64 (replicate 64 1)) (ofKind 2 (plan 64 1 1 1 1 (layout 0 8) (layout 8 8) (layout 16 8))) 8
+    ∷ gives (larger 64 (replicate 64 1)) (plan 64 1 1 1 1 (layout 0 8) (layout 8 8) (layout 56 8)) 0
+    ∷ gives (larger 64 (replicate 64 1)) (plan 64 1 1 1 1 (layout 0 8) (layout 8 8) (layout 57 8)) 6
+    ∷ []
+
+pub widths-right : map (λ l. l .got) widths ≡ map (λ l. l .want) widths
+unfolding widths shaped larger layout plan ofKind gives permitted newType legalType sew inside misses rowsMiss distinct sound narrow msew typeOf startRun format kindFits planned lying apart separate
+widths-right = refl
+
+-- msettypei and the loads of A and B at SEW 64, and the store of C at 4 x 16 bits: mtype 3 and 9, mlae64, mlbe64 and msce64
+pub wideWords : handedFor (plan 64 1 1 3 1 (layout 0 24) (layout 24 8) (layout 48 8)) setType .word
+    ∷ handedFor (plan 64 1 1 3 1 (layout 0 24) (layout 24 8) (layout 48 8)) (loadA 0 2) .word
+    ∷ handedFor (plan 64 1 1 3 1 (layout 0 24) (layout 24 8) (layout 48 8)) (loadA 0 2) .address
+    ∷ handedFor (plan 64 1 1 3 1 (layout 0 24) (layout 24 8) (layout 48 8)) (loadB 2 0) .word
+    ∷ handedFor (plan 16 4 1 3 1 (layout 0 6) (layout 6 2) (layout 12 8)) setType .word
+    ∷ handedFor (plan 16 4 1 3 1 (layout 0 6) (layout 6 2) (layout 12 8)) (store 0 0) .word ∷ []
+    ≡ 0x0001F077 ∷ 0x04B53077 ∷ 16 ∷ 0x08B530F7 ∷ 0x0004F077 ∷ 0x02B53077 ∷ []
+unfolding plan layout narrow msew typeOf reduce
+wideWords = refl
+
+-- 1 by 3 by 1, its terms in two blocks, and what 15 turns leave of it: how many were done, and C
+pub ranTo : Plan → List ℕ → List ℕ
+ranTo P memory =
+    let B : Bench = larger 64 memory in
+    let r : Running = record { run = startRun chosen P B .run; bench = B } in
+    answeredDone chosen r 15 ∷ element (afterTurns chosen r 15 .bench .memory) (cAt P) 8 0 0 ∷ []
+
+-- at SEW 64, -2^63, 2^32 + 1 and 3 by 3, 2^32 - 1 and -1: 2^63 - 4 modulo 2^64
+pub wide-product-is : ranTo (plan 64 1 1 3 1 (layout 0 24) (layout 24 8) (layout 48 8))
+    (replicate 7 0 ++ 0x80 ∷ 1 ∷ 0 ∷ 0 ∷ 0 ∷ 1 ∷ 0 ∷ 0 ∷ 0 ∷ 3 ∷ replicate 7 0
+    ++ 3 ∷ replicate 7 0 ++ replicate 4 0xFF ++ replicate 4 0 ++ replicate 8 0xFF ++ replicate 8 99)
+    ≡ 13 ∷ reduce (256 ^ 8) (pos (2 ^ 63 - 4)) ∷ []
+unfolding ranTo larger plan layout chosen permitted sew newType legalType widthOk widthOf inside misses rowsMiss distinct stored marked listing decode sound stepBy outcome narrow msew typeOf startRun soundRun format kindFits planned lying apart separate chunks putTile putRow putLe markTile markRow reduce
+wide-product-is = refl
+
+-- at SEW 16 and f = 4, three products of -2^15 and -2^15: 3 x 2^30, more than 32 bits hold, signed
+pub quadruple-is : ranTo (plan 16 4 1 3 1 (layout 0 6) (layout 6 2) (layout 12 8))
+    (0 ∷ 0x80 ∷ 0 ∷ 0x80 ∷ 0 ∷ 0x80 ∷ 0 ∷ 0x80 ∷ 0 ∷ 0x80 ∷ 0 ∷ 0x80 ∷ replicate 8 99)
+    ≡ 13 ∷ reduce (256 ^ 8) (pos (3 * 2 ^ 30)) ∷ []
+unfolding ranTo larger plan layout chosen permitted sew newType legalType widthOk widthOf inside misses rowsMiss distinct stored marked listing decode sound stepBy outcome narrow msew typeOf startRun soundRun format kindFits planned lying apart separate chunks putTile putRow putLe markTile markRow reduce
+quadruple-is = refl

@@ -22,7 +22,7 @@ pub record Line : Type 0 where
   pub got : List ℕ
   pub want : List ℕ
 
--- "MLEN 256, RLEN 64 unless said": started, with register bytes of 7 and nothing sealed
+-- "MLEN 256, RLEN 64 unless said", and ELEN 32: started, with register bytes of 7 and nothing sealed
 unfoldable pub bench : List ℕ → Bench
 bench memory =
     let s = startMachine 64 256 32 0 0 0 (replicate 512 7) (replicate 512 1) in

@@ -11,14 +11,12 @@ use lib.ListN.{length, take, drop, getD, length-append, length-take, List·getD-
 use lib.Seq.{getD-take, getD-drop, getD-append-add}
 use borrow.Author.Tests.{ltb-true}
 use Rattle.width.specs.Reduce.{signed, reduce}
-use Rattle.machine.specs.Setting.{smaller}
 use Rattle.machine.specs.Tests.{every}
-use Rattle.machine.specs.Geometry.{parametersOf}
 use Rattle.machine.proofs.TestLaws.{and-left, and-right}
 use Rattle.run.specs.Words.{steps}
 use Rattle.run.specs.Plan.{shape, productOf}
 use Rattle.run.specs.Start.{format}
-use Rattle.product_memory.specs.Memory.{jobFor, filled}
+use Rattle.product_memory.specs.Memory.{productMachine, jobFor, filled}
 use Rattle.product_memory.proofs.MemoryLaws.{level-signed, sum-here}
 use Rattle.text.specs.declared.Parsed.{Parsed}
 use Rattle.text.specs.declared.Parsed.the-variants.{Posed, Refused}
@@ -92,7 +90,7 @@ module _ (p : Problem) (K : Known p) (numbers : List ℕ) (held-in : elementsIn 
       let sums : (i j : ℕ) → i < p .m → j < p .n → getD c (i * p .n + j) 0 ≡ reduce (modulus p) (sumAt p i j) = λ i j hi hj.
       product i j hi hj ∙ ap (λ (l : List ℕ). productOf (jobFor (p .sew) (p .factor) (p .m) (p .k) (p .n) l) i j) is-laid
       ∙ sum-here (p .sew) (p .factor) (p .m) (p .k) (p .n) (K .formatted) (K .small-m) (K .small-k) (K .small-n) (λ q. getD numbers (5 + q) 0)
-      (λ q. getD numbers (5 + p .m * p .k + q) 0) mem len (parametersOf smaller 64 256 32 0 0) (nth (p .a)) (nth (p .b)) a-is b-is i j hi hj in
+      (λ q. getD numbers (5 + p .m * p .k + q) 0) mem len productMachine (nth (p .a)) (nth (p .b)) a-is b-is i j hi hj in
       ap₂ accepted counted
       (ap (λ (q : ℕ). rowsOf (p .m) (p .n) (signedAll q c)) is-q ∙ rows-are p c (omega (arith, mul-le-mul (K .small-m) (K .small-n))) sums)
 

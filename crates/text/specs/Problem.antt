@@ -8,6 +8,7 @@ use lib.IntN.{ℤ, pos, negsuc, natAbs}
 use lib.ListN.{length, take, drop, getD}
 use Rattle.machine.specs.Tests.{all, every}
 use Rattle.run.specs.Start.{format}
+use Rattle.product_memory.specs.Memory.{productMachine}
 use Rattle.text.specs.Text.{numbers}
 
 -- "SEW, f, m, k, n (sizes at most 16), A by rows, B by rows"
@@ -56,7 +57,7 @@ tests zs p =
     -- the five are not below 0
     ∷ all 5 (λ i. fromZero (nth zs i))
     -- "numbers the run refuses with 8": "SEW not 8, 16 or 32, f not 1, 2 or 4, f x SEW above ELEN" (no size up to 16 is above 1,024)
-    ∷ format 32 (p .sew) (p .factor)
+    ∷ format (productMachine .elen) (p .sew) (p .factor)
     -- "a size not from 0 to 16"
     ∷ leb (p .m) 16
     ∷ leb (p .k) 16

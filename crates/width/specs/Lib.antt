@@ -6,5 +6,5 @@ pub mod Binary32
 pub mod Blocks
 -- Computed examples.
 pub mod Examples
--- For contracts of inner functions: the bounds of the largest machine.
+-- For contracts of inner functions: the bounds of the largest machine, and the block of the kernels.
 pub mod Bounds
