@@ -17,15 +17,15 @@
 #include "bodlarina_words.h"
 
 /* No image is as long as ROOM. */
-enum { MLEN_MOST = 4096, ROOM = 16384, READINGS = 24, READINGS_STRIDE = 8, MEMORY_BYTES = 48 };
+enum { ROOM = BODLARINA_IMAGE_BYTES_MOST(BODLARINA_MLEN_MOST) + 1, READINGS = 24, READINGS_STRIDE = 8, MEMORY_BYTES = 48 };
 
 /* Room for the registers of any machine; the image says how much of it is lent. */
-static uint8_t machine[BODLARINA_MACHINE_BYTES], registers[BODLARINA_REGISTER_BYTES(MLEN_MOST)], marks[sizeof registers];
+static uint8_t machine[BODLARINA_MACHINE_BYTES], registers[BODLARINA_REGISTER_BYTES(BODLARINA_MLEN_MOST)], marks[sizeof registers];
 static uint8_t scalars[BODLARINA_SCALAR_BYTES], memory[MEMORY_BYTES], image[ROOM], again[ROOM];
 
 static struct bodlarina_bench bench = {
     machine, sizeof machine, registers, 0, marks, 0, scalars, sizeof scalars, memory, sizeof memory, NULL, 0, /* no product run */
-    BODLARINA_SMALLER,
+    BODLARINA_SMALLER, 32, /* the image gives the rule and ELEN */
 };
 
 /* The whole file; its length, or 0 if it can't be read. */

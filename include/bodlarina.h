@@ -70,7 +70,7 @@ uint64_t bodlarina_version(void);
 #define BODLARINA_DONE 0u            /* done */
 #define BODLARINA_ILLEGAL_WORD 1u    /* no row of the draft's listing (section 4.5) has all its fixed bits in the word */
 #define BODLARINA_ILLEGAL_TYPE 2u    /* mtype is illegal (bit 63, mill), and the word isn't msettype or msettypei */
-#define BODLARINA_BAD_WIDTH 3u       /* an element width that mtype does not allow here */
+#define BODLARINA_BAD_WIDTH 3u       /* an element width that mtype does not allow here, or one above ELEN */
 #define BODLARINA_TILE_TOO_LARGE 4u  /* a tile size that the instruction uses is above its maximum under mtype */
 #define BODLARINA_UNWRITTEN 5u       /* a register element to be read has a byte that was never written;
                                         row and column name the first one, sources in the order ms1, ms2, md */
@@ -145,6 +145,12 @@ BODLARINA_INLINE void bodlarina_put64(uint8_t *bytes, uint64_t value)
 #define BODLARINA_MACHINE_RULE_AT 64
 #define BODLARINA_MACHINE_ELEN_AT 72 /* in bits */
 
+/* The largest RLEN, MLEN and ELEN in bits. BODLARINA_REGISTER_BYTES(BODLARINA_MLEN_MOST) bytes hold the registers of any machine, and as many
+ * its marks. */
+#define BODLARINA_RLEN_MOST 4096
+#define BODLARINA_MLEN_MOST 65536
+#define BODLARINA_ELEN_MOST 64
+
 /* registers and marks: BODLARINA_REGISTER_BYTES(MLEN) bytes each. The registers lie one after another,
  * row by row: tr0 .. tr7 of MLEN/8 bytes in rows of RLEN/8, then acc0 and acc1 of MLEN/2 bytes in rows of RLEN/2.
  * Element (i, j) of w bits starts at byte j * w/8 of row i, low byte first. The mark of a register byte stands at
@@ -171,9 +177,10 @@ BODLARINA_INLINE void bodlarina_put64(uint8_t *bytes, uint64_t value)
  * seals nothing, and it may reach past the end of memory. What marks and machine held before does not matter.
  *   rlen   a power of two from 64 to 4096
  *   mlen   a power of two from 128 to 65536, above rlen
- *   elen   the widest element: 32 or 64, below rlen
+ *   elen   the bits of the widest element: 32 or 64, below rlen. With 64, elements of 64 bits are legal in mtype, and maccq with
+ *          those of 16 bits
  *   rule   what a tile setting gives of the size that it asks for: BODLARINA_SMALLER or BODLARINA_HALVING
- * Answers: 0; 8 for other lengths, another rule, a buffer of the wrong size, or seal_start + seal_length above 2^64 - 1. */
+ * Answers: 0; 8 for other lengths, another ELEN or rule, a buffer of the wrong size, or seal_start + seal_length above 2^64 - 1. */
 uint64_t bodlarina_start(uint64_t rlen, uint64_t mlen, uint64_t elen, uint64_t rule, uint64_t seal_start, uint64_t seal_length,
                          uint8_t *machine, size_t machine_len,
                          const uint8_t *registers, size_t registers_len,
@@ -181,10 +188,10 @@ uint64_t bodlarina_start(uint64_t rlen, uint64_t mlen, uint64_t elen, uint64_t r
 
 /* Carries out one instruction word. rs1 and rs2 are read from scalars, rd is written there.
  * Answers: 0, or the first that applies in the order 8, then 10, 11, 1, 12 (the word itself), then 2 to 6, 13, 7.
- * 8 means that the state is at fault: lengths that are not permitted, a buffer of the wrong size, an mtype that cannot
- * arise, a tile size above its maximum at 8 bits, another rule than 0 and 1, a seal whose end is above 2^64 - 1, or a
- * mark other than 0 and 1. With buffers of the right size, a started machine that nothing but these functions has
- * written never gets 8. */
+ * 8 means that the state is at fault: lengths or an ELEN that are not permitted, a buffer of the wrong size, an mtype that
+ * cannot arise with that ELEN, a tile size above its maximum at 8 bits, another rule than 0 and 1, a seal whose end is above
+ * 2^64 - 1, or a mark other than 0 and 1. With buffers of the right size, a started machine that nothing but these functions
+ * has written never gets 8. */
 uint64_t bodlarina_step(uint32_t word,
                         uint8_t *machine, size_t machine_len,
                         uint8_t *registers, size_t registers_len,
@@ -198,8 +205,8 @@ uint64_t bodlarina_step(uint32_t word,
  * m by n of factor * sew bits. C(i, j) becomes the sum of A(i, l) x B(l, j) over l, reduced to its width in two's
  * complement; with k = 0 it is 0. No byte of memory outside C's elements changes. Row i of a matrix lies at
  * its address + i * its stride (a signed number), element j of w bits at byte j * w/8 of its row, low byte first.
- *   sew      8, 16, 32 or 64
- *   factor   1, 2 or 4, with factor * sew at most the machine's ELEN
+ *   sew      8, 16 or 32, and 64 where the machine's ELEN is 64
+ *   factor   1, 2 or 4, with factor * sew at most ELEN
  *
  * In a float run (BODLARINA_FLOAT) the elements of A, B and C are binary32 numbers; sew is 32 and factor 1. C(i, j) is, bit for bit, the
  * plain sum from +0 in the order of l = 0, 1, ..: each product is rounded, then each sum, to the nearest, ties to even. A result that is
@@ -226,7 +233,7 @@ uint64_t bodlarina_step(uint32_t word,
  *   the place: which word comes next (0 to 8 in the order of a run, 9 none), and the row and column of C and
  *   the term of the sums at which its block starts; the kind; the rule; and ELEN.
  * bodlarina_run_start writes them; the host may read, keep and copy the block. Numbers that no run can have are
- * answered with 8: lengths, a rule or a plan that a start answers with 8, or a place that no run comes to. Where the matrices
+ * answered with 8: lengths, an ELEN, a rule or a plan that a start answers with 8, or a place that no run comes to. Where the matrices
  * lie is judged by the start only; of a block that the host made itself each word is checked as it is carried out. */
 #define BODLARINA_RUN_BYTES 160
 #define BODLARINA_RUN_NEXT_AT 104 /* the byte at which the number of the next word stands */
@@ -266,7 +273,8 @@ BODLARINA_INLINE int bodlarina_run_is_over(const uint8_t *run, size_t run_len)
 /* One turn: hands out the next step and carries it out with scalars of the run's own.
  * Answers: 0; 8 as bodlarina_run_next and bodlarina_step; and those of the word. A run that was started here, on
  * buffers that nothing else has written since, gets 0 for each of its steps and 8 after the last. On another machine
- * than that of its start, of another rule for instance, each word is carried out, but C need not be the product. */
+ * than that of its start, of another rule or ELEN for instance, each word is answered as by bodlarina_step, and C need not be
+ * the product. */
 uint64_t bodlarina_run_turn(uint8_t *run, size_t run_len,
                             uint8_t *machine, size_t machine_len,
                             uint8_t *registers, size_t registers_len,
@@ -299,11 +307,16 @@ uint64_t bodlarina_run(uint64_t kind, uint64_t sew, uint64_t factor, uint64_t m,
 
 /* The image of a machine: its numbers and its marked register bytes, to hand it over. Two machines have the same image
  * exactly if they differ at most in unmarked register bytes. It is made of numbers in groups of seven bits, low group
- * first, the top bit set on all but the last group, in the shortest form: version 1, or of a halving machine version 2
- * and the rule, 1; of a machine with RLEN above 512, MLEN above 4,096 or ELEN 64, of either rule, version 3, the rule and the
- * exponent of ELEN; the exponents of RLEN and MLEN, mtype, tile_m, tile_k, tile_n, the seal's start and length, the
- * number of runs; then for each maximal run of marked bytes, in the order of the registers, its gap from the end of the
- * run before it (or from the start), its length, and its bytes as they are. */
+ * first, the top bit set on all but the last group, in the shortest form: the version and what belongs to it, the exponents
+ * of RLEN and MLEN, mtype, tile_m, tile_k, tile_n, the seal's start and length, the number of runs; then for each maximal run
+ * of marked bytes, in the order of the registers, its gap from the end of the run before it (or from the start), its length,
+ * and its bytes as they are. The version is the lowest that can hold the machine, and another one is refused:
+ *   1                              RLEN up to 512, MLEN up to 4,096, ELEN 32 and rule 0
+ *   2, the rule                    the same with rule 1
+ *   3, the rule, ELEN's exponent   RLEN above 512, MLEN above 4,096 or ELEN 64, with either rule */
+
+/* No image of a machine of this MLEN is longer. */
+#define BODLARINA_IMAGE_BYTES_MOST(mlen) (3 * (size_t)(mlen) + 64)
 
 /* The length of a machine's image, in bits 63..16.
  * Answers: 0; 8 for a state at fault as in bodlarina_step. */
@@ -327,33 +340,35 @@ uint64_t bodlarina_image_read(const uint8_t *image, size_t image_len,
                               uint8_t *registers, size_t registers_len,
                               uint8_t *marks, size_t marks_len);
 
-/* MLEN of the machine whose image starts like this, which gives the lengths of registers and marks; 0 if no image does: it starts
- * with the version, 1, or 2 and the rule, 1, or 3, the rule and the exponent of ELEN, and then the exponents of RLEN and MLEN. */
+/* MLEN of the machine whose image starts like this, which gives the lengths of registers and marks; 0 if no image does, or too few bytes
+ * are there to tell. It may be as large as BODLARINA_MLEN_MOST: a host whose buffers are shorter than that compares it with what they
+ * hold before it lends them. */
 BODLARINA_INLINE uint64_t bodlarina_image_mlen(const uint8_t *image, size_t image_len)
 {
-    size_t at = 1;                    /* where the exponent of RLEN stands */
-    unsigned elen = 5, least, large = 0; /* the exponent of ELEN, and the least one of MLEN */
-    if (image_len > 2 && image[0] == 3 && image[1] <= 1 && (image[2] == 5 || image[2] == 6)) {
-        at = 3;
+    unsigned version = image_len == 0 ? 0u : image[0], elen = 5, rlen, mlen; /* elen, rlen, mlen: exponents */
+    if (version < 1 || version > 3 || image_len < version + 2u) /* RLEN and MLEN stand behind what belongs to the version */
+        return 0;
+    if (version == 2 && image[1] != BODLARINA_HALVING)
+        return 0;
+    if (version == 3) {
         elen = image[2];
-        large = 1;
-    } else if (image_len > 1 && image[0] == 2 && image[1] == 1) {
-        at = 2;
-    } else if (image_len == 0 || image[0] != 1) {
-        return 0;
+        if (image[1] > BODLARINA_HALVING || elen < 5 || elen > 6)
+            return 0;
     }
-    if (image_len < at + 2 || image[at] <= elen || image[at] > (large ? 12 : 9))
+    rlen = image[version];
+    mlen = image[version + 1];
+    if (rlen <= elen || mlen <= rlen || rlen > (version == 3 ? 12u : 9u) || mlen > (version == 3 ? 16u : 12u))
         return 0;
-    least = large && elen == 5 && image[at] < 10 ? 13 : image[at] + 1u;
-    if (image[at + 1] < least || image[at + 1] > (large ? 16 : 12))
+    if (version == 3 && elen == 5 && rlen <= 9 && mlen <= 12) /* a machine that a lower version holds */
         return 0;
-    return (uint64_t)1 << image[at + 1];
+    return (uint64_t)1 << mlen;
 }
 
 /* ---- The same in short ------------------------------------------------------------------------------------ */
 
-/* The buffers of a machine, and the rule and ELEN to start it with, set once. Lengths are in bytes. run is for one product run at a
- * time; a host without runs leaves it out.
+/* The buffers of a machine, and the rule and the ELEN to start it with, set once. Lengths are in bytes. run is for one product run
+ * at a time; a host without runs leaves it out. An elen of 0 counts as 32, so that a host which names none has a machine of 32
+ * bits; bodlarina_start itself answers 0 with 8.
  *
  *     static uint8_t machine[BODLARINA_MACHINE_BYTES], registers[BODLARINA_REGISTER_BYTES(4096)], ..;
  *     struct bodlarina_bench bench = {machine, sizeof machine, registers, sizeof registers, ..};
@@ -374,7 +389,7 @@ struct bodlarina_bench {
     uint8_t *run;
     size_t run_len;
     uint64_t rule; /* BODLARINA_SMALLER, 0, unless it is set */
-    uint64_t elen; /* 32 or 64; left at 0, 32 */
+    uint64_t elen; /* 32, unless it is set: 0 counts as 32 */
 };
 
 /* Where a matrix lies, and what is to be multiplied: the numbers of bodlarina_run_start. */
@@ -393,8 +408,8 @@ struct bodlarina_plan {
 BODLARINA_INLINE uint64_t bodlarina_bench_start(const struct bodlarina_bench *bench, uint64_t rlen, uint64_t mlen,
                                                 uint64_t seal_start, uint64_t seal_length)
 {
-    return bodlarina_start(rlen, mlen, bench->elen == 0 ? 32 : bench->elen, bench->rule, seal_start, seal_length, bench->machine, bench->machine_len, bench->registers,
-                           bench->registers_len, bench->marks, bench->marks_len);
+    return bodlarina_start(rlen, mlen, bench->elen == 0 ? 32 : bench->elen, bench->rule, seal_start, seal_length, bench->machine,
+                           bench->machine_len, bench->registers, bench->registers_len, bench->marks, bench->marks_len);
 }
 
 BODLARINA_INLINE uint64_t bodlarina_bench_step(const struct bodlarina_bench *bench, uint32_t word)

@@ -22,8 +22,7 @@
 /* ---- mtype ------------------------------------------------------------------------------------------------ */
 
 /* The element width SEW in bits 2..0 of mtype, and maccq in bit 3: set for the instructions mq.., whose output is four
- * times as wide. Legal are E8, E16, E32 and E8 | MACCQ, and where ELEN is 64 also E64 and E16 | MACCQ: no element is wider than
- * ELEN.
+ * times as wide. Legal are E8, E16, E32 and E8 | MACCQ, and where ELEN is 64 also E64 and E16 | MACCQ: no element is wider than ELEN.
  *     bodlarina_msettypei(0, BODLARINA_E8 | BODLARINA_MACCQ) */
 #define BODLARINA_E8 0u
 #define BODLARINA_E16 1u
@@ -74,8 +73,8 @@ BODLARINA_INLINE uint32_t bodlarina_msettilen(uint32_t rd, uint32_t rs1) { retur
 /* ---- loads and stores ------------------------------------------------------------------------------------- */
 
 /* Row i of the tile lies in memory at the address in rs1 + i times the stride in rs2, a signed number. The number in a name is
- * the width of an element in bits. It must be SEW for A and B; for C it may also be 2 SEW or, with maccq, 4 SEW. The 64-bit forms
- * are known and get answer 3, since no element is wider than 32 bits. */
+ * the width of an element in bits. It must be SEW for A and B; for C it may also be 2 SEW or, with maccq, 4 SEW, up to ELEN. Any other
+ * width gets answer 3: no 64-bit form is carried out where ELEN is 32. */
 
 /* Load an A tile (m by k) into the tile register md. */
 BODLARINA_INLINE uint32_t bodlarina_mlae8_m(uint32_t md, uint32_t rs1, uint32_t rs2) { return BODLARINA_TRANSFER_(1, 0, 0, md, rs1, rs2); }
@@ -155,7 +154,7 @@ BODLARINA_INLINE uint32_t bodlarina_mscte64_m(uint32_t ms3, uint32_t rs1, uint32
 /* ---- arithmetic ------------------------------------------------------------------------------------------- */
 
 /* Sources other than md have elements of SEW bits; those of md have SEW bits, in the forms mw.. 2 SEW and in the forms mq.., which
- * need maccq, 4 SEW. All is signed, and reduced to the element's width of md in two's complement. */
+ * need maccq, 4 SEW; more than ELEN gets answer 3. All is signed, and reduced to the element's width of md in two's complement. */
 
 /* C += A x B: accumulator md, tile registers ms1 (m by k) and ms2 (k by n). md is read too, so it must be written: loaded, or cleared by
  * the element-wise multiply by 0 of the same form, bodlarina_mqemulc_mi(md, md, 0) before bodlarina_mqma_mm. */
