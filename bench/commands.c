@@ -2,7 +2,6 @@
 
 #include "commands.h"
 
-#include <ctype.h>
 #include <inttypes.h>
 #include <stdio.h>
 #include <string.h>
@@ -12,33 +11,36 @@
 
 /* ---- the machine and its scalars ---- */
 
-/* The end of the line, or this word and the end; whether the word stands there. */
-static int take_word(struct reader *reader, const char *word, int *stands)
+/* ELEN, if a number stands here, else 32. */
+static int take_elen(struct reader *reader, uint64_t *elen)
+{
+    char next = at_end(reader) ? '\0' : reader->text[reader->at];
+    *elen = 32;
+    return !(next == '-' || (next >= '0' && next <= '9')) || take_any(reader, "ELEN", elen);
+}
+
+/* The end of the line, or the word halving and the end. */
+static int take_rule(struct reader *reader, uint64_t *rule)
 {
     struct span span;
-    *stands = !at_end(reader);
-    if (!*stands)
+    *rule = at_end(reader) ? BODLARINA_SMALLER : BODLARINA_HALVING;
+    if (*rule == BODLARINA_SMALLER)
         return 1;
     span = take_span(reader);
-    if (!span_is(span, word))
-        return refuse(reader, span.at, "the line should end here, or with %s", word);
+    if (!span_is(span, "halving"))
+        return refuse(reader, span.at, "the line should end here, or with halving; ELEN is a number before it");
     return take_end(reader);
 }
 
 static int run_machine(struct session *session)
 {
     struct reader *reader = &session->reader;
-    uint64_t rlen, mlen, elen = 32;
-    int halving;
-    if (!take_any(reader, "RLEN", &rlen) || !take_any(reader, "MLEN", &mlen))
-        return 0;
-    if (!at_end(reader) && isdigit((unsigned char)reader->text[reader->at]) && !take_any(reader, "ELEN", &elen))
-        return 0;
-    if (!take_word(reader, "halving", &halving))
+    uint64_t rlen, mlen, elen, rule;
+    if (!take_any(reader, "RLEN", &rlen) || !take_any(reader, "MLEN", &mlen) || !take_elen(reader, &elen) || !take_rule(reader, &rule))
         return 0;
     if (session->device.started)
         return not_now(session, "the machine is started already");
-    device_start(&session->device, rlen, mlen, elen, halving ? BODLARINA_HALVING : BODLARINA_SMALLER);
+    device_start(&session->device, rlen, mlen, elen, rule);
     report(session, "machine");
     return 1;
 }
@@ -178,9 +180,9 @@ static const struct {
     int (*run)(struct session *session);
 } commands[] = {
     {"machine", run_machine}, {"memory", run_memory}, {"seal", run_seal},       {"bytes", run_bytes},     {"int8", run_int8},
-    {"int16", run_int16},     {"int32", run_int32},   {"int64", run_int64}, {"float32", run_float32}, {"load", run_load},       {"x", run_scalar},
-    {"word", run_word},       {"product", run_product}, {"save", run_save},     {"restore", run_restore}, {"expect", run_expect},
-    {"show", run_show},
+    {"int16", run_int16},     {"int32", run_int32},   {"int64", run_int64},     {"float32", run_float32}, {"load", run_load},
+    {"x", run_scalar},        {"word", run_word},     {"product", run_product}, {"save", run_save},       {"restore", run_restore},
+    {"expect", run_expect},   {"show", run_show},
 };
 
 int run_line(struct session *session)

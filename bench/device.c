@@ -13,7 +13,7 @@ static struct bodlarina_bench lent(struct device *device)
 {
     static uint8_t no_memory;
     struct bodlarina_bench bench;
-    size_t bytes = device->mlen <= MLEN_MOST ? BODLARINA_REGISTER_BYTES(device->mlen) : sizeof device->registers;
+    size_t bytes = device->mlen <= BODLARINA_MLEN_MOST ? BODLARINA_REGISTER_BYTES(device->mlen) : sizeof device->registers;
     memset(&bench, 0, sizeof bench);
     bench.machine = device->machine;
     bench.machine_len = sizeof device->machine;

@@ -5,8 +5,7 @@
 #include "bodlarina.h"
 #include "instructions.h"
 
-/* The largest machine, and the most bytes of memory that a script may ask for. */
-#define MLEN_MOST 65536
+/* The most bytes of memory that a script may ask for. */
 #define MEMORY_BYTES_MOST 268435456
 
 /* Registers by number: tr0 to tr7 are 0 to 7, acc0 and acc1 are 8 and 9. */
@@ -32,8 +31,8 @@ struct settings {
 
 struct device {
     uint8_t machine[BODLARINA_MACHINE_BYTES];
-    uint8_t registers[BODLARINA_REGISTER_BYTES(MLEN_MOST)];
-    uint8_t marks[BODLARINA_REGISTER_BYTES(MLEN_MOST)];
+    uint8_t registers[BODLARINA_REGISTER_BYTES(BODLARINA_MLEN_MOST)];
+    uint8_t marks[BODLARINA_REGISTER_BYTES(BODLARINA_MLEN_MOST)];
     uint8_t scalars[BODLARINA_SCALAR_BYTES];
     uint8_t run[BODLARINA_RUN_BYTES];
     uint8_t *memory; /* NULL until the script gives its size */

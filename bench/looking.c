@@ -148,6 +148,16 @@ static enum form form_of_sew(const struct device *device)
     return sew == 0 ? BYTE : sew == 1 ? INT8 : sew == 2 ? INT16 : sew == 4 ? INT32 : INT64;
 }
 
+/* The form that this width, or float32, stands for; BYTE if it is neither. */
+static enum form form_called(struct span span)
+{
+    static const char *const names[] = {"", "8", "16", "32", "64", "float32"};
+    enum form form = FLOAT32;
+    while (form > BYTE && !span_is(span, names[form]))
+        form--;
+    return form;
+}
+
 /* show tr0 [8|16|32|64|float32]; without one of them, signed numbers of SEW bits. */
 static int show_one_register(struct session *session, unsigned reg)
 {
@@ -155,8 +165,8 @@ static int show_one_register(struct session *session, unsigned reg)
     enum form form = form_of_sew(&session->device);
     if (!at_end(reader)) {
         struct span span = take_span(reader);
-        form = span_is(span, "8") ? INT8 : span_is(span, "16") ? INT16 : span_is(span, "32") ? INT32 : span_is(span, "64") ? INT64 : FLOAT32;
-        if (form == FLOAT32 && !span_is(span, "float32"))
+        form = form_called(span);
+        if (form == BYTE)
             return refuse(reader, span.at, "expected the width of an element, 8, 16, 32 or 64, or float32");
     }
     if (!take_end(reader))

@@ -4,7 +4,31 @@
 #include <stdio.h>
 
 /* Lengths of the drawing. A cell is a byte; a register has room for its name, the numbers of its columns and those of its rows. */
-enum { CELL = 14, LEFT = 26, HEAD = 34, GAP = 20, MARGIN = 16, LEGEND = 76, LINE_REGISTERS = 4, WIDTH_LEAST = 640 };
+enum { CELL = 14, CROSS = 8, LEFT = 26, HEAD = 34, GAP = 20, MARGIN = 16, LEGEND = 76, LINE_REGISTERS = 4, WIDTH_LEAST = 640 };
+
+/* A tile register with more bytes in a row, or more rows, has cells that are less wide, or less high, down to CELL_LEAST. Where MLEN is above
+ * GRID_MLEN_MOST, neighbours of one kind are not drawn one by one but as one area. */
+enum { CELLS_MOST = 64, CELL_LEAST = 2, GRID_MLEN_MOST = 4096 };
+
+struct scale {
+    unsigned width, height; /* of a cell */
+    int areas;
+};
+
+static unsigned cell_length(unsigned cells)
+{
+    unsigned length = cells <= CELLS_MOST ? CELL : CELL * CELLS_MOST / cells;
+    return length < CELL_LEAST ? CELL_LEAST : length;
+}
+
+static struct scale scale_of(const struct device *device)
+{
+    struct scale scale;
+    scale.width = cell_length(register_row_bytes(device, 0));
+    scale.height = cell_length(register_rows(device));
+    scale.areas = device->mlen > GRID_MLEN_MOST;
+    return scale;
+}
 
 /* A cell is drawn as one of these. */
 enum kind { UNWRITTEN, WRITTEN, NAMED, KINDS };
@@ -18,25 +42,51 @@ static enum kind kind_of(const struct device *device, unsigned reg, unsigned row
     return device->marks[register_at(device, reg, row, byte)] != 0 ? WRITTEN : UNWRITTEN;
 }
 
-/* The part of a path that draws one cell, and for a named one a cross in it. */
-static void draw_cell(FILE *file, unsigned x, unsigned y, int cross)
+/* The part of a path that draws one cell or area, and for a named one a cross over its middle. */
+static void draw_cell(FILE *file, unsigned x, unsigned y, unsigned width, unsigned height, int cross)
 {
-    fprintf(file, "M%u %uh%dv%dh-%dz", x, y, CELL, CELL, CELL);
+    unsigned left = x + width / 2 - CROSS / 2, top = y + height / 2 - CROSS / 2;
+    fprintf(file, "M%u %uh%uv%uh-%uz", x, y, width, height, width);
     if (cross)
-        fprintf(file, "M%u %ul%d %dM%u %ul-%d %d", x + 3, y + 3, CELL - 6, CELL - 6, x + CELL - 3, y + 3, CELL - 6, CELL - 6);
+        fprintf(file, "M%u %ul%d %dM%u %ul-%d %d", left, top, CROSS, CROSS, left + CROSS, top, CROSS, CROSS);
 }
 
-/* All cells of one kind as one path. */
+/* The first row after this one that is not like it, and the first byte in a row after this one that is not of its kind. */
+static unsigned next_row(const struct device *device, unsigned reg, unsigned row)
+{
+    unsigned next, byte;
+    for (next = row + 1; next < register_rows(device); next++)
+        for (byte = 0; byte < register_row_bytes(device, reg); byte++)
+            if (kind_of(device, reg, next, byte) != kind_of(device, reg, row, byte))
+                return next;
+    return next;
+}
+
+static unsigned next_byte(const struct device *device, unsigned reg, unsigned row, unsigned byte)
+{
+    unsigned next = byte + 1;
+    while (next < register_row_bytes(device, reg) && kind_of(device, reg, row, next) == kind_of(device, reg, row, byte))
+        next++;
+    return next;
+}
+
+/* All cells or areas of one kind as one path. */
 static void draw_kind(FILE *file, const struct device *device, unsigned reg, unsigned x, unsigned y, enum kind kind)
 {
-    unsigned row, byte, drawn = 0;
-    for (row = 0; row < register_rows(device); row++)
-        for (byte = 0; byte < register_row_bytes(device, reg); byte++)
-            if (kind_of(device, reg, row, byte) == kind) {
-                if (drawn++ == 0)
-                    fprintf(file, "<path fill=\"%s\" stroke=\"%s\" d=\"", fills[kind], kind == NAMED ? "#000000" : "#999999");
-                draw_cell(file, x + byte * CELL, y + row * CELL, kind == NAMED);
-            }
+    struct scale scale = scale_of(device);
+    unsigned row, byte, row_after, byte_after, drawn = 0;
+    for (row = 0; row < register_rows(device); row = row_after) {
+        row_after = scale.areas ? next_row(device, reg, row) : row + 1;
+        for (byte = 0; byte < register_row_bytes(device, reg); byte = byte_after) {
+            byte_after = scale.areas ? next_byte(device, reg, row, byte) : byte + 1;
+            if (kind_of(device, reg, row, byte) != kind)
+                continue;
+            if (drawn++ == 0)
+                fprintf(file, "<path fill=\"%s\" stroke=\"%s\" d=\"", fills[kind], kind == NAMED ? "#000000" : "#999999");
+            draw_cell(file, x + byte * scale.width, y + row * scale.height, (byte_after - byte) * scale.width,
+                      (row_after - row) * scale.height, kind == NAMED);
+        }
+    }
     if (drawn != 0)
         fprintf(file, "\"/>\n");
 }
@@ -46,18 +96,28 @@ static void draw_text(FILE *file, unsigned x, unsigned y, const char *anchor, un
     fprintf(file, "<text x=\"%u\" y=\"%u\" text-anchor=\"%s\">%u</text>\n", x, y, anchor, number);
 }
 
+/* `every` or twice it, and so on: the first at which numbers beside cells of this length are so far apart. */
+static unsigned numbered(unsigned every, unsigned length, unsigned apart)
+{
+    while (every * length < apart)
+        every *= 2;
+    return every;
+}
+
 /* A register with its name and the numbers of rows and of bytes in a row, its first cell at (x, y). */
 static void draw_register(FILE *file, const struct device *device, unsigned reg, unsigned x, unsigned y)
 {
-    unsigned i, bytes = register_row_bytes(device, reg), every = bytes <= 16 ? 1 : 4;
+    struct scale scale = scale_of(device);
+    unsigned i, bytes = register_row_bytes(device, reg), every = bytes <= 16 ? 1 : numbered(4, scale.width, 2 * CELL);
     char name[8];
     enum kind kind;
     register_name(reg, name);
     fprintf(file, "<text x=\"%u\" y=\"%u\" font-weight=\"bold\" font-size=\"13\">%s</text>\n", x, y - 19, name);
     for (i = 0; i < bytes; i += every)
-        draw_text(file, x + i * CELL + CELL / 2, y - 4, "middle", i);
-    for (i = 0; i < register_rows(device); i++)
-        draw_text(file, x - 4, y + i * CELL + CELL - 3, "end", i);
+        draw_text(file, x + i * scale.width + scale.width / 2, y - 4, "middle", i);
+    every = numbered(1, scale.height, CELL);
+    for (i = 0; i < register_rows(device); i += every)
+        draw_text(file, x - 4, y + i * scale.height + scale.height / 2 + 4, "end", i);
     for (kind = UNWRITTEN; kind < KINDS; kind++)
         draw_kind(file, device, reg, x, y, kind);
 }
@@ -68,11 +128,11 @@ static void draw_legend(FILE *file, const struct device *device)
     const struct element *named = &device->named;
     unsigned kind, x = MARGIN;
     char name[8];
-    fprintf(file, "<text x=\"%d\" y=\"%d\" font-size=\"13\">Marks, a cell a byte: RLEN %" PRIu64 ", MLEN %" PRIu64 "</text>\n",
-            MARGIN, MARGIN + 10, device->rlen, device->mlen);
+    fprintf(file, "<text x=\"%d\" y=\"%d\" font-size=\"13\">Marks, %s: RLEN %" PRIu64 ", MLEN %" PRIu64 "%s</text>\n", MARGIN, MARGIN + 10,
+            scale_of(device).areas ? "areas of bytes" : "a cell a byte", device->rlen, device->mlen, device->elen == 64 ? ", ELEN 64" : "");
     for (kind = 0; kind < KINDS; kind++, x += 120) {
         fprintf(file, "<path fill=\"%s\" stroke=\"%s\" d=\"", fills[kind], kind == NAMED ? "#000000" : "#999999");
-        draw_cell(file, x, MARGIN + 20, kind == NAMED);
+        draw_cell(file, x, MARGIN + 20, CELL, CELL, kind == NAMED);
         fprintf(file, "\"/>\n<text x=\"%u\" y=\"%d\">%s</text>\n", x + CELL + 5, MARGIN + 31, texts[kind]);
     }
     if (!named_stands(device))
@@ -82,22 +142,24 @@ static void draw_legend(FILE *file, const struct device *device)
             named->row, named->column, name, 8 * named->width);
 }
 
+/* A tile register with the room around it. */
+static unsigned box_width(const struct device *device) { return LEFT + register_row_bytes(device, 0) * scale_of(device).width + GAP; }
+static unsigned box_height(const struct device *device) { return HEAD + register_rows(device) * scale_of(device).height + GAP; }
+
 /* Tile registers four a line, then each accumulator on a line of its own, which is as wide as four. */
 static void draw_registers(FILE *file, const struct device *device)
 {
     unsigned reg, line, place;
-    unsigned box_width = LEFT + register_row_bytes(device, 0) * CELL + GAP, box_height = HEAD + register_rows(device) * CELL + GAP;
     for (reg = 0; reg < REGISTERS; reg++) {
         line = reg < ACCUMULATOR_0 ? reg / LINE_REGISTERS : ACCUMULATOR_0 / LINE_REGISTERS + reg - ACCUMULATOR_0;
         place = reg < ACCUMULATOR_0 ? reg % LINE_REGISTERS : 0;
-        draw_register(file, device, reg, MARGIN + place * box_width + LEFT, LEGEND + line * box_height + HEAD);
+        draw_register(file, device, reg, MARGIN + place * box_width(device) + LEFT, LEGEND + line * box_height(device) + HEAD);
     }
 }
 
 static void draw(FILE *file, const struct device *device)
 {
-    unsigned width = 2 * MARGIN + LINE_REGISTERS * (LEFT + register_row_bytes(device, 0) * CELL + GAP);
-    unsigned height = LEGEND + 4 * (HEAD + register_rows(device) * CELL + GAP);
+    unsigned width = 2 * MARGIN + LINE_REGISTERS * box_width(device), height = LEGEND + 4 * box_height(device);
     if (width < WIDTH_LEAST)
         width = WIDTH_LEAST;
     fprintf(file, "<svg xmlns=\"http://www.w3.org/2000/svg\" width=\"%u\" height=\"%u\" viewBox=\"0 0 %u %u\" "

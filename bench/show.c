@@ -129,7 +129,7 @@ static void show_mark_row(const struct device *device, unsigned reg, unsigned ro
     printf("\n");
 }
 
-static int number_length(unsigned number) { return number < 10 ? 1 : number < 100 ? 2 : 3; }
+static int number_length(unsigned number) { return number < 10 ? 1 : number < 100 ? 2 : number < 1000 ? 3 : 4; }
 
 static void show_register_marks(const struct device *device, unsigned reg)
 {
