@@ -16,8 +16,8 @@
  *   - while mfma.mm or a float run is carried out, the processor works with floats as C starts it: it rounds to the nearest, ties to
  *     even, and flushes no subnormal number to zero (no fesetround, no -ffast-math at the link, DAZ and FTZ off in MXCSR).
  * No alignment is asked. Calls on different buffers may run at once, in any number of threads; calls that share a buffer, in turn.
- * The deepest call, bodlarina_run, was measured to use 4,504 bytes of stack (x86-64, the largest machine); tests/library.c measures
- * it again and fails above 8 KiB.
+ * The deepest call, bodlarina_run, was measured to use less than 5,000 bytes of stack (x86-64, the largest machines); tests/library.c
+ * measures it again and fails above 8 KiB.
  *
  * Every function but bodlarina_run_turns, bodlarina_run_steps and bodlarina_version, which return a number, returns a result: the
  * answer, with row and column or with a length or place, in one number (below). A REFUSAL, a result whose answer is not 0, CHANGES

@@ -1,5 +1,6 @@
 /* What the headers say beside the words: the version, the texts, the number of a run's steps, that slot 0 of the scalars is not
- * written, float runs, images, and how much stack a call uses. Writes a line for each, and ends with 'N passed, M failed'. */
+ * written, float runs, images, larger machines, and how much stack a call uses. Writes a line for each, and ends with
+ * 'N passed, M failed'. */
 #define _GNU_SOURCE
 #include <inttypes.h>
 #include <pthread.h>
@@ -10,13 +11,13 @@
 
 #include "bodlarina_words.h"
 
-enum { RLEN = 512, MLEN = 4096, MEMORY_BYTES = 1 << 19, STACK_BYTES = 1 << 20, MOST_STACK = 8192 };
+enum { RLEN = 512, MLEN = 4096, MEMORY_BYTES = 1 << 20, STACK_BYTES = 1 << 20, MOST_STACK = 8192 };
 
 static uint8_t machine[BODLARINA_MACHINE_BYTES], registers[BODLARINA_REGISTER_BYTES(MLEN)], marks[sizeof registers];
 static uint8_t scalars[BODLARINA_SCALAR_BYTES], memory[MEMORY_BYTES], run[BODLARINA_RUN_BYTES];
 static struct bodlarina_bench bench = {
     machine, sizeof machine, registers, sizeof registers, marks, sizeof marks,
-    scalars, sizeof scalars, memory, sizeof memory, run, sizeof run, BODLARINA_SMALLER,
+    scalars, sizeof scalars, memory, sizeof memory, run, sizeof run, BODLARINA_SMALLER, 32,
 };
 static int passed, failed;
 
@@ -167,7 +168,7 @@ static uint32_t plain_sum(size_t i, size_t j)
 
 /* Elements of any bits with exponents in a range of `range` from `least` on: narrow ones that round at each step, small ones whose
  * products are subnormal, or all, with infinities and what is not a number. */
-static int floats_right(uint32_t least, uint32_t range)
+static int floats_right(const struct bodlarina_bench *on, uint32_t least, uint32_t range)
 {
     uint64_t state = 0x9e3779b97f4a7c15u, steps;
     uint32_t bits;
@@ -177,7 +178,7 @@ static int floats_right(uint32_t least, uint32_t range)
         bits |= (least + (uint32_t)(state >> 8 & 0xffff) % range) << 23;
         memcpy(memory + at, &bits, sizeof bits);
     }
-    int right = bodlarina_bench_start(&bench, RLEN, MLEN, 0, 0) == 0 && bodlarina_bench_run(&bench, &float_plan, &steps) == 0;
+    int right = bodlarina_bench_run(on, &float_plan, &steps) == 0;
     for (size_t i = 0; i < FLOATS_M; i++)
         for (size_t j = 0; j < FLOATS_N; j++) {
             memcpy(&bits, memory + FLOATS_C + 4 * (i * FLOATS_N + j), sizeof bits);
@@ -197,7 +198,8 @@ static int float_start(uint64_t kind, uint64_t sew, uint64_t factor)
 
 static void floats(void)
 {
-    check(floats_right(125, 4) && floats_right(56, 10) && floats_right(0, 256), "a float run is the plain sum, bit for bit");
+    int right = bodlarina_bench_start(&bench, RLEN, MLEN, 0, 0) == 0 && floats_right(&bench, 125, 4);
+    check(right && floats_right(&bench, 56, 10) && floats_right(&bench, 0, 256), "a float run is the plain sum, bit for bit");
     check(float_start(BODLARINA_FLOAT, 16, 1) && float_start(BODLARINA_FLOAT, 16, 2) && float_start(BODLARINA_FLOAT, 8, 4)
           && float_start(3, 32, 1) && !float_start(BODLARINA_FLOAT, 32, 1), "a float run has SEW 32 and factor 1; there is no kind 3");
 }
@@ -212,7 +214,7 @@ static const uint8_t image[] = {1, 6, 7, 1, 2, 2, 3, 5, 172, 2, 2, 1, 2, 11, 0, 
 static uint8_t small_machine[BODLARINA_MACHINE_BYTES], small_registers[SMALL_BYTES], small_marks[SMALL_BYTES];
 static struct bodlarina_bench small = {
     small_machine, sizeof small_machine, small_registers, SMALL_BYTES, small_marks, SMALL_BYTES,
-    scalars, sizeof scalars, memory, sizeof memory, run, sizeof run, BODLARINA_SMALLER,
+    scalars, sizeof scalars, memory, sizeof memory, run, sizeof run, BODLARINA_SMALLER, 32,
 };
 
 /* Everything that a read may write, filled with 7. */
@@ -237,10 +239,10 @@ static int untouched(void)
 
 static void image_read(void)
 {
-    static const uint64_t numbers[] = {64, 128, 1, 2, 2, 3, 5, 300, 0};
+    static const uint64_t numbers[] = {64, 128, 1, 2, 2, 3, 5, 300, 0, 32};
     fill();
     int right = bodlarina_image_mlen(image, sizeof image) == SMALL && bodlarina_bench_image_read(&small, image, sizeof image) == 0;
-    for (size_t i = 0; i < 9; i++)
+    for (size_t i = 0; i < 10; i++)
         right = right && bodlarina_get64(small_machine + 8 * i) == numbers[i];
     check(right, "an image is read: the machine's numbers");
     right = small_registers[1] == 11 && small_registers[2] == 0 && small_registers[255] == 255;
@@ -266,7 +268,8 @@ static void image_damaged(void)
     for (size_t length = 0; length < whole; length++)
         right = right && damaged(length, 0, 1, length);
     check(right, "an image that is cut short: 15 and its length");
-    right = damaged(whole, 0, 3, 0) && damaged(whole, 0, 2, 1);                             /* version, no rule after version 2 */
+    right = damaged(whole, 0, 0, 0) && damaged(whole, 0, 4, 0) && damaged(whole, 0, 129, 0); /* version */
+    right = right && damaged(whole, 0, 2, 1) && damaged(whole, 0, 3, 1);                    /* no rule after version 2 or 3 */
     right = right && damaged(whole, 1, 5, 1) && damaged(whole, 1, 10, 1);                   /* RLEN */
     right = right && damaged(whole, 2, 6, 2) && damaged(whole, 2, 13, 2);                   /* MLEN */
     right = right && damaged(whole, 3, 3, 3) && damaged(whole, 4, 3, 4);                    /* mtype, tile_m */
@@ -332,26 +335,497 @@ static void images(void)
     image_halving();
 }
 
+/* ---- larger machines ---- */
+
+/* Room for a machine of twice the largest MLEN, so that the start of one is refused for its length alone. */
+static uint8_t large_machine[BODLARINA_MACHINE_BYTES], large_registers[BODLARINA_REGISTER_BYTES(2 * BODLARINA_MLEN_MOST)];
+static uint8_t large_marks[sizeof large_registers];
+static struct bodlarina_bench large = {
+    large_machine, sizeof large_machine, large_registers, 0, large_marks, 0,
+    scalars, sizeof scalars, memory, sizeof memory, run, sizeof run, BODLARINA_SMALLER, 64,
+};
+
+/* The result of a start on buffers of the size that MLEN demands. */
+static uint64_t large_start(uint64_t rlen, uint64_t mlen, uint64_t elen)
+{
+    large.registers_len = large.marks_len = BODLARINA_REGISTER_BYTES(mlen);
+    return bodlarina_start(rlen, mlen, elen, large.rule, 0, 0, large_machine, sizeof large_machine, large_registers, large.registers_len,
+                           large_marks, large.marks_len);
+}
+
+static int refused_start(uint64_t rlen, uint64_t mlen, uint64_t elen)
+{
+    memset(large_machine, 7, sizeof large_machine);
+    memset(large_marks, 7, BODLARINA_REGISTER_BYTES(mlen));
+    return large_start(rlen, mlen, elen) == BODLARINA_BAD_ARGUMENTS && all(large_machine, 0, sizeof large_machine, 7)
+           && all(large_marks, 0, large.marks_len, 7);
+}
+
+static int accepted_start(uint64_t rlen, uint64_t mlen, uint64_t elen)
+{
+    return large_start(rlen, mlen, elen) == 0 && all(large_marks, 0, large.marks_len, 0)
+           && bodlarina_get64(large_machine + BODLARINA_MACHINE_RLEN_AT) == rlen
+           && bodlarina_get64(large_machine + BODLARINA_MACHINE_MLEN_AT) == mlen
+           && bodlarina_get64(large_machine + BODLARINA_MACHINE_ELEN_AT) == elen;
+}
+
+/* In the struct an ELEN of 0 is 32; another one is as it stands. */
+static int struct_elen(uint64_t elen, uint64_t result, uint64_t started)
+{
+    large.elen = elen;
+    int right = bodlarina_bench_start(&large, 128, 256, 0, 0) == result;
+    large.elen = 64;
+    return right && bodlarina_get64(large_machine + BODLARINA_MACHINE_ELEN_AT) == started;
+}
+
+static void starts(void)
+{
+    static const uint64_t elens[] = {0, 8, 16, 31, 32, 33, 48, 63, 64, 65, 128, UINT64_MAX};
+    int right = BODLARINA_RLEN_MOST == 4096 && BODLARINA_MLEN_MOST == 65536 && BODLARINA_ELEN_MOST == 64;
+    for (uint64_t rlen = 32; rlen <= 8192; rlen *= 2)
+        for (uint64_t mlen = 64; mlen <= 131072; mlen *= 2)
+            for (size_t i = 0; i < sizeof elens / sizeof elens[0]; i++) {
+                int lengths = rlen >= 64 && rlen <= 4096 && mlen >= 128 && mlen <= 65536 && rlen < mlen;
+                int permitted = lengths && (elens[i] == 32 || elens[i] == 64) && elens[i] < rlen;
+                right = right && (permitted ? accepted_start : refused_start)(rlen, mlen, elens[i]);
+            }
+    check(right && refused_start(96, 256, 32) && refused_start(128, 384, 32), "the lengths and the ELEN that a start takes");
+    check(refused_start(64, 128, 64) && accepted_start(128, 256, 64), "ELEN 64 is refused at RLEN 64, and taken at 128");
+    check(struct_elen(0, 0, 32) && struct_elen(64, 0, 64) && struct_elen(48, BODLARINA_BAD_ARGUMENTS, 64) && struct_elen(32, 0, 32),
+          "in the struct an ELEN of 0 is 32");
+}
+
+static int does(uint32_t word) { return bodlarina_bench_step(&large, word) == 0; }
+static int gets(uint32_t word, uint64_t answer) { return bodlarina_bench_step(&large, word) == answer; }
+
+static int are_numbers(const uint8_t *block, const uint64_t *numbers, size_t count)
+{
+    int right = 1;
+    for (size_t i = 0; i < count; i++)
+        right = right && bodlarina_get64(block + 8 * i) == numbers[i];
+    return right;
+}
+
+/* Each number of the blocks at its byte; ELEN is the last. */
+static void block_numbers(void)
+{
+    static const uint64_t of_machine[] = {128, 256, 9, 2, 1, 2, 1000, 24, BODLARINA_HALVING, 64};
+    static const uint64_t of_run[] = {
+        16, 4, 3, 5, 7, 8, 10, 200, 14, 400, 56, 128, 256, 0, 0, 0, 0, BODLARINA_A_TRANSPOSED, BODLARINA_HALVING, 64,
+    };
+    static const struct bodlarina_plan plan = {16, 4, 3, 5, 7, {8, 10}, {200, 14}, {400, 56}, BODLARINA_A_TRANSPOSED};
+    large.rule = BODLARINA_HALVING;
+    int right = bodlarina_bench_start(&large, 128, 256, 1000, 24) == 0 && does(bodlarina_msettypei(0, BODLARINA_E16 | BODLARINA_MACCQ));
+    large.rule = BODLARINA_SMALLER;
+    right = right && does(bodlarina_msettilemi(0, 2)) && does(bodlarina_msettileki(0, 1)) && does(bodlarina_msettileni(0, 2));
+    right = right && BODLARINA_MACHINE_BYTES == 80 && BODLARINA_MACHINE_ELEN_AT == 72 && are_numbers(large_machine, of_machine, 10);
+    check(right, "the ten numbers of a machine's block");
+    right = BODLARINA_RUN_BYTES == 160 && bodlarina_bench_run_start(&large, &plan) == 0 && are_numbers(run, of_run, 20);
+    check(right, "the twenty numbers of a run's block");
+}
+
+/* An ELEN that the other numbers of a block, or no numbers, go with. */
+static void block_faults(void)
+{
+    int right = 1;
+    for (uint64_t elen = 0; elen <= 128; elen += 16) {
+        bodlarina_put64(run + BODLARINA_RUN_BYTES - 8, elen); /* four times 16 bits need 64 */
+        right = right && (bodlarina_bench_run_steps(&large) != 0) == (elen == 64);
+        right = right && (elen == 64 || bodlarina_bench_run_turn(&large) == BODLARINA_BAD_ARGUMENTS);
+        bodlarina_put64(large_machine + BODLARINA_MACHINE_ELEN_AT, elen); /* mtype 9 arises with 64 alone */
+        right = right && (bodlarina_bench_image_size(&large) == BODLARINA_BAD_ARGUMENTS) == (elen != 64);
+        right = right && (elen == 64 || gets(bodlarina_msettypei(0, BODLARINA_E8), BODLARINA_BAD_ARGUMENTS));
+    }
+    check(right, "a block with another ELEN: 8");
+}
+
+/* A run that was started with ELEN 64, on a machine with 32: mtype becomes illegal, and the next word gets 2. */
+static void other_elen(void)
+{
+    static const struct bodlarina_plan plan = {64, 1, 2, 2, 2, {0, 16}, {32, 16}, {64, 16}, BODLARINA_PRODUCT};
+    int right = large_start(128, 256, 64) == 0 && bodlarina_bench_run_start(&large, &plan) == 0 && large_start(128, 256, 32) == 0;
+    right = right && bodlarina_bench_run_turn(&large) == 0 && bodlarina_bench_run_turn(&large) == BODLARINA_ILLEGAL_TYPE;
+    right = right && large_start(128, 256, 32) == 0 && bodlarina_bench_run_start(&large, &plan) == BODLARINA_BAD_ARGUMENTS;
+    check(right, "a run with SEW 64 on a machine with ELEN 32");
+}
+
+/* ---- words on elements of 64 bits, on the smallest machine that has them: two rows of 128 bits ---- */
+
+enum { WIDE_A = 0, WIDE_B = 64, WIDE_C = 128 };
+
+/* mtype, all sizes 2, and in x10 to x13 the addresses of A, B and C and a stride. */
+static int wide_start(uint64_t elen, uint32_t mtype, uint64_t stride)
+{
+    static const uint64_t addresses[] = {WIDE_A, WIDE_B, WIDE_C};
+    for (unsigned i = 0; i < 3; i++)
+        bodlarina_bench_set_scalar(&large, 10 + i, addresses[i]);
+    bodlarina_bench_set_scalar(&large, 13, stride);
+    return large_start(128, 256, elen) == 0 && does(bodlarina_msettypei(5, mtype)) && does(bodlarina_msettilemi(0, 2))
+           && does(bodlarina_msettileki(0, 2)) && does(bodlarina_msettileni(0, 2));
+}
+
+/* Four numbers of `bytes` bytes in memory, low byte first. */
+static void put_four(size_t address, size_t bytes, const int64_t numbers[4])
+{
+    for (size_t i = 0; i < 4 * bytes; i++)
+        memory[address + i] = (uint8_t)((uint64_t)numbers[i / bytes] >> (8 * (i % bytes)) & 0xff);
+}
+
+/* The four numbers of 64 bits at C, times `factor`, modulo 2^64. */
+static int is_c(uint64_t factor, int64_t first, int64_t second, int64_t third, int64_t fourth)
+{
+    const uint64_t numbers[] = {factor * (uint64_t)first, factor * (uint64_t)second, factor * (uint64_t)third, factor * (uint64_t)fourth};
+    return are_numbers(memory + WIDE_C, numbers, 4);
+}
+
+/* (2^63 - 1) * 2 + 3 * 1 is 2^64 + 1; -(2^63 - 1) + 3 * 4 * 10^9; -5 * 2 + 1000000007; 5 + 1000000007 * 4 * 10^9. */
+#define WIDE_SUMS 1, -9223372024854775807, 999999997, 4000000028000000005
+#define WIDE_SUMS_TRANSPOSED 1, 999999997, -9223372024854775807, 4000000028000000005
+
+static void wide_words(void)
+{
+    static const int64_t a[] = {INT64_MAX, 3, -5, 1000000007}, b[] = {2, -1, 1, 4000000000};
+    put_four(WIDE_A, 8, a);
+    put_four(WIDE_B, 8, b);
+    int right = wide_start(64, BODLARINA_E64, 16) && bodlarina_bench_scalar(&large, 5) == BODLARINA_E64;
+    right = right && does(bodlarina_mlae64_m(0, 10, 13)) && does(bodlarina_mlbe64_m(1, 11, 13)) && does(bodlarina_memulc_mi(0, 0, 0));
+    right = right && does(bodlarina_mma_mm(0, 0, 1)) && does(bodlarina_msce64_m(0, 12, 13)) && is_c(1, WIDE_SUMS);
+    check(right, "a product step on elements of 64 bits");
+    right = does(bodlarina_mscte64_m(0, 12, 13)) && is_c(1, WIDE_SUMS_TRANSPOSED);
+    right = right && does(bodlarina_mlcte64_m(1, 12, 13)) && does(bodlarina_msce64_m(1, 12, 13)) && is_c(1, WIDE_SUMS);
+    check(right, "elements of 64 bits transposed");
+    bodlarina_bench_set_scalar(&large, 14, (uint64_t)-3);
+    right = does(bodlarina_memulc_mx(1, 0, 14)) && does(bodlarina_msce64_m(1, 12, 13)) && is_c((uint64_t)-3, WIDE_SUMS);
+    right = right && does(bodlarina_maddc_mm(1, 0)) && does(bodlarina_msce64_m(1, 12, 13)) && is_c((uint64_t)-2, WIDE_SUMS);
+    right = right && does(bodlarina_msubc_mm(1, 0)) && does(bodlarina_msubc_mm(1, 0)) && does(bodlarina_mrsubc_mm(1, 0));
+    right = right && does(bodlarina_msce64_m(1, 12, 13)) && is_c(5, WIDE_SUMS);
+    check(right, "element-wise words on elements of 64 bits");
+}
+
+/* 32 x 32 bits: 2^62 + 2^62 is 2^63, one more than 64 bits hold; 4 x 16 bits: 2^30 + 2^30 does not fit 32 bits. */
+static void wider_sums(void)
+{
+    static const int64_t a32[] = {INT32_MIN, INT32_MIN, 7, -8}, b32[] = {INT32_MIN, 5, INT32_MIN, 6};
+    static const int64_t a16[] = {INT16_MIN, INT16_MIN, 7, -8}, b16[] = {INT16_MIN, 5, INT16_MIN, 6};
+    put_four(WIDE_A, 4, a32);
+    put_four(WIDE_B, 4, b32);
+    int right = wide_start(64, BODLARINA_E32, 8) && does(bodlarina_mlae32_m(0, 10, 13)) && does(bodlarina_mlbe32_m(1, 11, 13));
+    bodlarina_bench_set_scalar(&large, 13, 16);
+    right = right && does(bodlarina_mwemulc_mi(0, 0, 0)) && does(bodlarina_mwma_mm(0, 0, 1)) && does(bodlarina_msce64_m(0, 12, 13));
+    check(right && is_c(1, INT64_MIN, -23622320128, 2147483648, -13), "64-bit sums of products of 32 bits");
+    put_four(WIDE_A, 2, a16);
+    put_four(WIDE_B, 2, b16);
+    right = wide_start(64, BODLARINA_E16 | BODLARINA_MACCQ, 4) && does(bodlarina_mlae16_m(0, 10, 13));
+    right = right && does(bodlarina_mlbe16_m(1, 11, 13));
+    bodlarina_bench_set_scalar(&large, 13, 16);
+    right = right && does(bodlarina_mqemulc_mi(0, 0, 0)) && does(bodlarina_mqma_mm(0, 0, 1)) && does(bodlarina_msce64_m(0, 12, 13));
+    check(right && is_c(1, 2147483648, -360448, 32768, -13), "64-bit sums of products of 16 bits");
+}
+
+/* Whether mtype becomes the value, or illegal, with this ELEN. */
+static int type_right(uint64_t elen, uint32_t mtype, int legal)
+{
+    int right = large_start(128, 256, elen) == 0 && does(bodlarina_msettypei(5, mtype));
+    return right && bodlarina_bench_scalar(&large, 5) == (legal ? mtype : BODLARINA_MILL);
+}
+
+static void wide_refusals(void)
+{
+    int right = 1;
+    for (uint32_t mtype = 0; mtype < 32; mtype++) {
+        int old = mtype <= BODLARINA_E32 || mtype == (BODLARINA_E8 | BODLARINA_MACCQ);
+        right = right && type_right(32, mtype, old);
+        right = right && type_right(64, mtype, old || mtype == BODLARINA_E64 || mtype == (BODLARINA_E16 | BODLARINA_MACCQ));
+    }
+    check(right, "the types that are legal with ELEN 32 and with 64");
+    right = wide_start(32, BODLARINA_E32, 16) && gets(bodlarina_mlae64_m(0, 10, 13), BODLARINA_BAD_WIDTH);
+    right = right && gets(bodlarina_mlce64_m(0, 12, 13), BODLARINA_BAD_WIDTH) && gets(bodlarina_mwma_mm(0, 0, 1), BODLARINA_BAD_WIDTH);
+    right = right && gets(bodlarina_mwemulc_mi(0, 0, 0), BODLARINA_BAD_WIDTH);
+    right = right && wide_start(64, BODLARINA_E32, 16) && does(bodlarina_mlce64_m(0, 12, 13)) && does(bodlarina_mwemulc_mi(0, 0, 0));
+    right = right && gets(bodlarina_mlae64_m(0, 10, 13), BODLARINA_BAD_WIDTH) && gets(bodlarina_mqma_mm(0, 0, 1), BODLARINA_BAD_WIDTH);
+    right = right && wide_start(64, BODLARINA_E64, 16) && does(bodlarina_mlce64_m(0, 12, 13));
+    right = right && gets(bodlarina_mfma_mm(0, 0, 1), BODLARINA_BAD_WIDTH) && gets(bodlarina_mwma_mm(0, 0, 1), BODLARINA_BAD_WIDTH);
+    right = right && gets(bodlarina_mlce32_m(0, 12, 13), BODLARINA_BAD_WIDTH);
+    check(right, "widths that ELEN or mtype does not allow: 3");
+}
+
+/* ---- product runs on larger machines ---- */
+
+enum { RUN_M = 37, RUN_K = 150, RUN_N = 70, RUN_STRIDE = 1208, RUN_A = 0, RUN_B = 200000, RUN_C = 400000 };
+
+/* The signed number of some bytes of memory, as a number modulo 2^64. */
+static uint64_t element(size_t row_at, size_t column, size_t bytes)
+{
+    const uint8_t *at = memory + row_at + column * bytes;
+    uint64_t value = at[bytes - 1] >= 0x80 ? UINT64_MAX : 0;
+    for (size_t i = bytes; i > 0; i--)
+        value = value << 8 | at[i - 1];
+    return value;
+}
+
+/* Whether C is the product of A and B, reduced to its width: they agree in the low bits. */
+static int product_right(uint64_t kind, size_t bytes, size_t c_bytes)
+{
+    int right = 1;
+    for (size_t i = 0; i < RUN_M; i++)
+        for (size_t j = 0; j < RUN_N; j++) {
+            uint64_t sum = 0;
+            for (size_t l = 0; l < RUN_K; l++) {
+                size_t row = kind == BODLARINA_A_TRANSPOSED ? l : i, column = kind == BODLARINA_A_TRANSPOSED ? i : l;
+                sum += element(RUN_A + row * RUN_STRIDE, column, bytes) * element(RUN_B + l * RUN_STRIDE, j, bytes);
+            }
+            right = right && (sum - element(RUN_C + i * RUN_STRIDE, j, c_bytes)) << (64 - 8 * c_bytes) == 0;
+        }
+    return right;
+}
+
+static int run_right(uint64_t kind, uint64_t sew, uint64_t factor)
+{
+    const struct bodlarina_plan plan = {
+        sew, factor, RUN_M, RUN_K, RUN_N, {RUN_A, RUN_STRIDE}, {RUN_B, RUN_STRIDE}, {RUN_C, RUN_STRIDE}, kind,
+    };
+    uint64_t rows = large.registers_len / 2 / bodlarina_get64(large_machine), columns = bodlarina_get64(large_machine) / sew, steps = 0;
+    uint64_t all_steps = 1 + blocks(RUN_M, rows) * (1 + blocks(RUN_N, columns) * (3 + 4 * blocks(RUN_K, rows < columns ? rows : columns)));
+    int right = bodlarina_bench_run(&large, &plan, &steps) == 0 && steps == all_steps;
+    return right && product_right(kind, (size_t)sew / 8, (size_t)(sew * factor) / 8);
+}
+
+/* Integer runs of each SEW and factor, with A as it is and transposed. */
+static int runs_right(uint64_t rlen, uint64_t mlen, uint64_t elen)
+{
+    uint64_t state = rlen + mlen + elen;
+    int right = large_start(rlen, mlen, elen) == 0;
+    for (size_t at = 0; at < RUN_C; at++) {
+        state = state * 6364136223846793005u + 1442695040888963407u;
+        memory[at] = (uint8_t)(state >> 56);
+    }
+    for (uint64_t sew = 8; sew <= elen; sew *= 2)
+        for (uint64_t factor = 1; factor <= 4 && factor * sew <= elen; factor *= 2)
+            right = right && run_right(BODLARINA_PRODUCT, sew, factor) && run_right(BODLARINA_A_TRANSPOSED, sew, factor);
+    return right;
+}
+
+static void large_runs(void)
+{
+    static const uint64_t lengths[][3] = {
+        {128, 256, 64}, {1024, 2048, 32}, {64, 65536, 32}, {512, 65536, 64}, {1024, 65536, 64}, {4096, 65536, 64},
+    };
+    int right = 1, floats = 1;
+    for (size_t i = 0; i < sizeof lengths / sizeof lengths[0]; i++) {
+        large.rule = i % 2;
+        right = right && runs_right(lengths[i][0], lengths[i][1], lengths[i][2]);
+        floats = floats && large_start(lengths[i][0], lengths[i][1], lengths[i][2]) == 0;
+        floats = floats && floats_right(&large, 125, 4) && floats_right(&large, 0, 256);
+    }
+    large.rule = BODLARINA_SMALLER;
+    check(right, "product runs on larger machines");
+    check(floats, "float runs on larger machines");
+}
+
+/* ---- images of version 3 ---- */
+
+/* RLEN 128 and MLEN 256 with ELEN 64: mtype e64, sizes 2; the seal of the image above; tr0 has two bytes from 1 on, acc1 its last
+ * byte, 255, behind a gap of 508 (124 + 128, then 3). */
+static const uint8_t image_3[] = {3, 0, 6, 7, 8, 3, 2, 2, 2, 5, 172, 2, 2, 1, 2, 11, 0, 252, 3, 1, 255};
+
+static uint64_t large_read(const uint8_t *bytes, size_t length)
+{
+    large.registers_len = large.marks_len = BODLARINA_REGISTER_BYTES(256);
+    memset(large_machine, 7, sizeof large_machine);
+    memset(large_registers, 7, large.registers_len);
+    memset(large_marks, 7, large.marks_len);
+    return bodlarina_bench_image_read(&large, bytes, length);
+}
+
+static int large_untouched(void)
+{
+    return all(large_machine, 0, sizeof large_machine, 7) && all(large_registers, 0, large.registers_len, 7)
+           && all(large_marks, 0, large.marks_len, 7);
+}
+
+/* Read, and written as it was; of either rule. */
+static void image_3_round(void)
+{
+    static const uint64_t numbers[] = {128, 256, 3, 2, 2, 2, 5, 300, 0, 64};
+    uint8_t bytes[sizeof image_3], room[sizeof image_3];
+    memcpy(bytes, image_3, sizeof bytes);
+    int right = large_read(bytes, sizeof bytes) == 0 && are_numbers(large_machine, numbers, 10) && large_registers[1] == 11
+                && large_registers[2] == 0 && large_registers[511] == 255 && large_registers[0] == 7 && all(large_registers, 3, 511, 7)
+                && large_marks[0] == 0 && all(large_marks, 1, 3, 1) && all(large_marks, 3, 511, 0) && large_marks[511] == 1;
+    check(right, "an image of version 3 is read");
+    for (bytes[1] = 0; bytes[1] <= 1; bytes[1]++) {
+        right = right && large_read(bytes, sizeof bytes) == 0 && bodlarina_get64(large_machine + BODLARINA_MACHINE_RULE_AT) == bytes[1];
+        right = right && bodlarina_bench_image_size(&large) == (uint64_t)sizeof room << 16;
+        right = right && bodlarina_bench_image_write(&large, room, sizeof room - 1) == BODLARINA_NO_ROOM;
+        right = right && bodlarina_bench_image_write(&large, room, sizeof room) == (uint64_t)sizeof room << 16;
+        right = right && memcmp(room, bytes, sizeof room) == 0;
+    }
+    check(right, "an image of version 3 is written as it was read, of either rule");
+}
+
+/* A byte of the image of version 3 changed, or its end cut off: refused with 15 and this place. */
+static int damaged_3(size_t length, size_t at, uint8_t value, uint64_t place)
+{
+    uint8_t bytes[sizeof image_3];
+    memcpy(bytes, image_3, sizeof image_3);
+    bytes[at] = value;
+    return large_read(bytes, length) == (place << 16 | BODLARINA_DAMAGED) && large_untouched();
+}
+
+static void image_3_damaged(void)
+{
+    size_t whole = sizeof image_3;
+    int right = 1;
+    for (size_t length = 0; length < whole; length++)
+        right = right && damaged_3(length, 0, 3, length);
+    check(right, "an image of version 3 that is cut short: 15 and its length");
+    right = damaged_3(whole, 1, 2, 1) && damaged_3(whole, 1, 128, 1);                                 /* the rule */
+    right = right && damaged_3(whole, 2, 4, 2) && damaged_3(whole, 2, 7, 2);                          /* ELEN */
+    right = right && damaged_3(whole, 3, 6, 3) && damaged_3(whole, 3, 13, 3);                         /* RLEN */
+    right = right && damaged_3(whole, 4, 7, 4) && damaged_3(whole, 4, 17, 4);                         /* MLEN */
+    right = right && damaged_3(whole, 5, 4, 5) && damaged_3(whole, 5, 10, 5) && damaged_3(whole, 5, 11, 5); /* mtype */
+    right = right && damaged_3(whole, 17, 253, 18) && damaged_3(whole, 18, 4, 18);                    /* a gap past the registers */
+    check(right, "a damaged image of version 3: 15 and the place, and nothing changes");
+}
+
+/* The place of the fault in the first bytes of an image; their length, if an image can go on. */
+static uint64_t place_of(const uint8_t *bytes, size_t length)
+{
+    uint64_t result = large_read(bytes, length);
+    return BODLARINA_ANSWER(result) == BODLARINA_DAMAGED ? BODLARINA_PLACE(result) : UINT64_MAX;
+}
+
+/* Images of each machine have the lowest version; a higher one, or a lower, is refused where it is known. */
+static void image_versions(void)
+{
+    static const struct {
+        uint8_t bytes[5];
+        size_t length;
+        uint64_t place;
+    } starts[] = {
+        /* old machines in version 3, larger ones in version 1 and 2 */
+        {{3, 0, 5, 6, 7}, 5, 4}, {{3, 1, 5, 6, 12}, 5, 4}, {{3, 0, 5, 9, 12}, 5, 4}, {{3, 0, 5, 7, 8}, 5, 4},
+        {{1, 10, 11}, 3, 1}, {{1, 9, 13}, 3, 2}, {{2, 1, 10, 11}, 4, 2}, {{2, 1, 6, 13}, 4, 3},
+        /* each in its own */
+        {{3, 0, 5, 6, 13}, 5, 5}, {{3, 1, 5, 9, 16}, 5, 5}, {{3, 0, 5, 10, 11}, 5, 5}, {{3, 0, 6, 7, 8}, 5, 5}, {{3, 0, 6, 12, 13}, 5, 5},
+        {{1, 9, 12}, 3, 3}, {{2, 1, 9, 12}, 4, 4},
+    };
+    int right = 1;
+    for (size_t i = 0; i < sizeof starts / sizeof starts[0]; i++) {
+        uint64_t mlen = bodlarina_image_mlen(starts[i].bytes, starts[i].length);
+        right = right && place_of(starts[i].bytes, starts[i].length) == starts[i].place;
+        right = right && mlen == (starts[i].place < starts[i].length ? 0 : (uint64_t)1 << starts[i].bytes[starts[i].length - 1]);
+    }
+    check(right, "each machine in its lowest version, any other is refused with its place");
+}
+
+/* bodlarina_image_mlen is 0 exactly where the library sees a fault, or RLEN and MLEN are not there yet. The bytes end where a page ends. */
+static int mlen_right(uint8_t *end, const uint8_t *bytes)
+{
+    int right = 1;
+    for (size_t length = 0; length <= 6; length++) {
+        uint8_t *image_start = end - length;
+        memcpy(image_start, bytes, length);
+        uint64_t mlen = bodlarina_image_mlen(image_start, length);
+        int whole = length > 0 && length >= (size_t)bytes[0] + 2, header = whole && place_of(bytes, (size_t)bytes[0] + 2) == bytes[0] + 2u;
+        right = right && mlen == (header ? (uint64_t)1 << bytes[bytes[0] + 1] : 0);
+    }
+    return right;
+}
+
+static void image_mlens(void)
+{
+    static const uint8_t values[] = {0, 1, 2, 4, 5, 6, 7, 9, 10, 12, 13, 16, 17, 133, 255};
+    size_t page = (size_t)sysconf(_SC_PAGESIZE), count = sizeof values;
+    uint8_t *pages = mmap(NULL, 2 * page, PROT_READ | PROT_WRITE, MAP_PRIVATE | MAP_ANONYMOUS, -1, 0);
+    int right = mprotect(pages + page, page, PROT_NONE) == 0;
+    for (unsigned version = 0; version < 6; version++)
+        for (size_t i = 0; i < count * count * count * count; i++) {
+            const uint8_t bytes[6] = {
+                version < 5 ? (uint8_t)version : 255, values[i % count], values[i / count % count], values[i / count / count % count],
+                values[i / count / count / count], 0,
+            };
+            right = right && mlen_right(pages + page, bytes);
+        }
+    munmap(pages, 2 * page);
+    check(right, "bodlarina_image_mlen on every start of an image, cut anywhere");
+    right = bodlarina_image_mlen(image, sizeof image) == 128 && bodlarina_image_mlen(image_3, sizeof image_3) == 256;
+    check(right, "bodlarina_image_mlen of an image of version 1 and of version 3");
+}
+
+static uint8_t long_image[BODLARINA_IMAGE_BYTES_MOST(BODLARINA_MLEN_MOST)], long_again[sizeof long_image];
+
+/* The longest image: every second byte is marked, and the first two. Five bytes of version and lengths, ten of an illegal mtype, four of
+ * the sizes 1024, 8 and 8, nineteen of the seal, three of the number of runs; then a run of four bytes and 65,535 runs of three. */
+static void image_longest(void)
+{
+    uint64_t length = (uint64_t)(5 + 10 + 4 + 19 + 3 + 4 + 3 * 65535);
+    large.registers_len = large.marks_len = BODLARINA_REGISTER_BYTES(65536);
+    large.rule = BODLARINA_HALVING;
+    large.elen = 32;
+    int right = bodlarina_bench_start(&large, 64, 65536, (uint64_t)1 << 63, INT64_MAX) == 0;
+    large.rule = BODLARINA_SMALLER;
+    large.elen = 64;
+    right = right && does(bodlarina_msettilem(1, 0)) && does(bodlarina_msettilek(1, 0)) && does(bodlarina_msettilen(1, 0));
+    right = right && does(bodlarina_msettypei(0, 8191));
+    for (size_t i = 0; i < large.marks_len; i++) {
+        large_registers[i] = (uint8_t)(i * 7);
+        large_marks[i] = i == 0 || i % 2 == 1;
+    }
+    right = right && bodlarina_bench_image_write(&large, long_image, sizeof long_image) == length << 16 && length <= sizeof long_image;
+    right = right && bodlarina_image_mlen(long_image, (size_t)length) == 65536;
+    memset(large_machine, 0, sizeof large_machine);
+    memset(large_registers, 0, sizeof large_registers);
+    memset(large_marks, 0, sizeof large_marks);
+    right = right && bodlarina_bench_image_read(&large, long_image, (size_t)length) == 0;
+    right = right && bodlarina_bench_image_write(&large, long_again, sizeof long_again) == length << 16;
+    check(right && memcmp(long_image, long_again, (size_t)length) == 0, "the longest image is read and written");
+}
+
+static void larger(void)
+{
+    starts();
+    block_numbers();
+    block_faults();
+    other_elen();
+    wide_words();
+    wider_sums();
+    wide_refusals();
+    large_runs();
+    image_3_round();
+    image_3_damaged();
+    image_versions();
+    image_mlens();
+    image_longest();
+}
+
 /* ---- stack: a call in a thread whose stack was painted ---- */
 
-static struct bodlarina_plan stack_plan = {8, 4, 70, 70, 70, {0, 400}, {150000, 400}, {300000, 400}, BODLARINA_PRODUCT};
-static uint64_t count;
+enum { STACK_STRIDE = 1208 };
+
+static struct bodlarina_plan stack_plan = {
+    8, 4, 150, 150, 150, {0, STACK_STRIDE}, {200000, STACK_STRIDE}, {400000, STACK_STRIDE}, BODLARINA_PRODUCT,
+};
+static uint64_t count, stack_result;
 static uint32_t stack_word;
+static size_t stack_most; /* of the deepest call so far */
 
 static void no_call(void) {}
-static void whole_run(void) { bodlarina_bench_run(&bench, &stack_plan, &count); }
-static void all_turns(void) { bodlarina_bench_run_turns(&bench, UINT64_MAX); }
-static void one_step(void) { bodlarina_bench_step(&bench, stack_word); }
-
-static uint8_t stack_image[4 * sizeof registers];
+static void whole_run(void) { stack_result = bodlarina_bench_run(&large, &stack_plan, &count); }
+static void run_start(void) { stack_result = bodlarina_bench_run_start(&large, &stack_plan); }
+static void all_turns(void) { stack_result = bodlarina_bench_run_turns(&large, UINT64_MAX) == 0; }
+static void one_step(void) { stack_result = bodlarina_bench_step(&large, stack_word); }
+static void image_size(void) { stack_result = BODLARINA_ANSWER(bodlarina_bench_image_size(&large)); }
 static size_t stack_image_length;
 
 static void write_image(void)
 {
-    stack_image_length = (size_t)BODLARINA_LENGTH(bodlarina_bench_image_write(&bench, stack_image, sizeof stack_image));
+    uint64_t result = bodlarina_bench_image_write(&large, long_image, sizeof long_image);
+    stack_image_length = (size_t)BODLARINA_LENGTH(result);
+    stack_result = BODLARINA_ANSWER(result);
 }
 
-static void read_image(void) { bodlarina_bench_image_read(&bench, stack_image, stack_image_length); }
+static void read_image(void) { stack_result = bodlarina_bench_image_read(&large, long_image, stack_image_length); }
 
 static void *call(void *function)
 {
@@ -376,36 +850,115 @@ static size_t stack_of(void (*function)(void))
     return STACK_BYTES - clean;
 }
 
-/* The stack of the calls on a plan of this kind, and of a multiply under its mtype. */
-static size_t stack_of_plan(uint64_t kind, uint64_t sew, uint64_t factor)
+/* Measures a call, which has to be done. */
+static int measure(void (*function)(void))
 {
-    void (*const calls[])(void) = {whole_run, all_turns, one_step, write_image, read_image};
-    size_t used, most = 0;
+    size_t used = stack_of(function);
+    stack_most = used > stack_most ? used : stack_most;
+    return stack_result == 0;
+}
+
+static int measure_word(uint32_t word)
+{
+    stack_word = word;
+    return measure(one_step);
+}
+
+/* The calls on a plan of this kind. */
+static int measure_plan(uint64_t kind, uint64_t sew, uint64_t factor)
+{
     stack_plan.kind = kind;
     stack_plan.sew = sew;
     stack_plan.factor = factor;
-    stack_word = kind == BODLARINA_FLOAT ? bodlarina_mfma_mm(0, 0, 1) : bodlarina_mma_mm(0, 0, 1);
-    for (unsigned i = 0; i < sizeof calls / sizeof calls[0]; i++) {
-        bodlarina_bench_run_start(&bench, &stack_plan);
-        used = stack_of(calls[i]);
-        most = used > most ? used : most;
+    return measure(whole_run) && measure(run_start) && measure(all_turns);
+}
+
+/* Loads and stores of A, B and C at SEW; those of C at the output's width too. The stride is in x11: as long as a row of an accumulator, or
+ * as a column of elements of 64 bits. */
+static int measure_transfers(unsigned width, unsigned c_width)
+{
+    static uint32_t (*const of_ab[][4])(uint32_t, uint32_t, uint32_t) = {
+        {bodlarina_mlae8_m, bodlarina_mlae16_m, bodlarina_mlae32_m, bodlarina_mlae64_m},
+        {bodlarina_mlbe8_m, bodlarina_mlbe16_m, bodlarina_mlbe32_m, bodlarina_mlbe64_m},
+        {bodlarina_msae8_m, bodlarina_msae16_m, bodlarina_msae32_m, bodlarina_msae64_m},
+        {bodlarina_msbe8_m, bodlarina_msbe16_m, bodlarina_msbe32_m, bodlarina_msbe64_m},
+        {bodlarina_mlate8_m, bodlarina_mlate16_m, bodlarina_mlate32_m, bodlarina_mlate64_m},
+        {bodlarina_mlbte8_m, bodlarina_mlbte16_m, bodlarina_mlbte32_m, bodlarina_mlbte64_m},
+        {bodlarina_msate8_m, bodlarina_msate16_m, bodlarina_msate32_m, bodlarina_msate64_m},
+        {bodlarina_msbte8_m, bodlarina_msbte16_m, bodlarina_msbte32_m, bodlarina_msbte64_m},
+    };
+    static uint32_t (*const of_c[][4])(uint32_t, uint32_t, uint32_t) = {
+        {bodlarina_mlce8_m, bodlarina_mlce16_m, bodlarina_mlce32_m, bodlarina_mlce64_m},
+        {bodlarina_msce8_m, bodlarina_msce16_m, bodlarina_msce32_m, bodlarina_msce64_m},
+        {bodlarina_mlcte8_m, bodlarina_mlcte16_m, bodlarina_mlcte32_m, bodlarina_mlcte64_m},
+        {bodlarina_mscte8_m, bodlarina_mscte16_m, bodlarina_mscte32_m, bodlarina_mscte64_m},
+    };
+    uint64_t rlen = bodlarina_get64(large_machine + BODLARINA_MACHINE_RLEN_AT), plain = rlen / 2, transposed = 4 * large.marks_len / rlen;
+    int right = 1;
+    for (unsigned i = 0; i < 8; i++) {
+        bodlarina_bench_set_scalar(&large, 11, i < 4 ? plain : transposed);
+        right = right && measure_word(of_ab[i][width](0, 0, 11));
     }
-    return most;
+    for (unsigned i = 0; i < 4; i++) {
+        bodlarina_bench_set_scalar(&large, 11, i < 2 ? plain : transposed);
+        right = right && measure_word(of_c[i][width](0, 0, 11)) && measure_word(of_c[i][c_width](1, 0, 11));
+    }
+    return right;
+}
+
+/* Multiply and the element-wise words of the output's width: 1, 2 or 4 times SEW at 0, 1 or 2. */
+static int measure_arithmetic(unsigned times)
+{
+    static uint32_t (*const with_two[][3])(uint32_t, uint32_t) = {
+        {bodlarina_maddc_mm, bodlarina_mwaddc_mm, bodlarina_mqaddc_mm},
+        {bodlarina_msubc_mm, bodlarina_mwsubc_mm, bodlarina_mqsubc_mm},
+        {bodlarina_mrsubc_mm, bodlarina_mwrsubc_mm, bodlarina_mqrsubc_mm},
+    };
+    static uint32_t (*const with_three[][3])(uint32_t, uint32_t, uint32_t) = {
+        {bodlarina_mma_mm, bodlarina_mwma_mm, bodlarina_mqma_mm},
+        {bodlarina_memulc_mx, bodlarina_mwemulc_mx, bodlarina_mqemulc_mx},
+    };
+    static uint32_t (*const with_immediate[3])(uint32_t, uint32_t, int32_t) = {
+        bodlarina_memulc_mi, bodlarina_mwemulc_mi, bodlarina_mqemulc_mi,
+    };
+    int right = measure_word(with_immediate[times](0, 0, 0)) && measure_word(with_immediate[times](1, 1, -7));
+    for (unsigned i = 0; i < 2; i++)
+        right = right && measure_word(with_three[i][times](0, 1, 1));
+    for (unsigned i = 0; i < 3; i++)
+        right = right && measure_word(with_two[i][times](0, 1)) && measure_word(with_two[i][times](1, 1));
+    return right;
+}
+
+/* Every family under one mtype with the largest tiles, all registers written. */
+static int measure_type(unsigned width, unsigned times)
+{
+    uint32_t mtype = width | (times == 2 ? BODLARINA_MACCQ : 0);
+    memset(large_marks, 1, large.marks_len);
+    int right = measure_word(bodlarina_msettypei(0, mtype)) && measure_word(bodlarina_msettilem(1, 0));
+    right = right && measure_word(bodlarina_msettilek(1, 0)) && measure_word(bodlarina_msettilen(1, 0));
+    right = right && measure_transfers(width, width + times) && measure_arithmetic(times);
+    right = right && (mtype != BODLARINA_E32 || measure_word(bodlarina_mfma_mm(0, 0, 1)));
+    right = right && measure(image_size) && measure(write_image) && measure(read_image);
+    return right && measure_plan(BODLARINA_PRODUCT, (uint64_t)8 << width, (uint64_t)1 << times)
+           && measure_plan(BODLARINA_A_TRANSPOSED, (uint64_t)8 << width, (uint64_t)1 << times);
+}
+
+static int measure_machine(uint64_t rlen, uint64_t mlen, uint64_t elen)
+{
+    int right = large_start(rlen, mlen, elen) == 0;
+    for (unsigned width = 0; width < 4; width++)
+        for (unsigned times = 0; times < 3; times++)
+            right = right && ((uint64_t)8 << (width + times) > elen || measure_type(width, times));
+    return right && measure_plan(BODLARINA_FLOAT, 32, 1);
 }
 
 static void stack(void)
 {
-    size_t none = stack_of(no_call), most = 0, used;
-    bodlarina_bench_start(&bench, RLEN, MLEN, 0, 0);
-    for (uint64_t sew = 8; sew <= 32; sew *= 2)
-        for (uint64_t factor = 1; factor * sew <= 32; factor *= 2) {
-            used = stack_of_plan(BODLARINA_PRODUCT, sew, factor);
-            most = used > most ? used : most;
-        }
-    used = stack_of_plan(BODLARINA_FLOAT, 32, 1);
-    most = (used > most ? used : most) - none;
-    printf("stack: %zu bytes\n", most);
-    check(most > 0 && most <= MOST_STACK, "the stack of the deepest call");
+    size_t none = stack_of(no_call);
+    int right = measure_machine(512, 4096, 32) && measure_machine(4096, 65536, 64) && measure_machine(512, 65536, 64);
+    check(right && measure_machine(64, 65536, 32), "calls of every family on the largest machines are done");
+    printf("stack: %zu bytes\n", stack_most - none);
+    check(stack_most > none && stack_most - none <= MOST_STACK, "the stack of the deepest call");
 }
 
 int main(void)
@@ -417,6 +970,7 @@ int main(void)
     slot0();
     floats();
     images();
+    larger();
     stack();
     printf("%d passed, %d failed\n", passed, failed);
     return failed != 0;
