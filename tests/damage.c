@@ -74,6 +74,8 @@ static const char *const odd[] = {
     "mqma.mm acc0, tr0, tr1", "msettypei x5, 8191", "msettilen x0, x0", "load 0 .", "load 0 out", "save out", "restore out", "save s.img", "restore s.img", "restore damaged.img", "\n", "\r", "\t", "",
     "product 8 4 2 3 2 0 3 6 2 16 8", "product 32 1 2 2 2 0 8 16 8 32 8 float", "float", "float32", "float32 0 1e39", "nan", "-1e-45", "1.5.",
     "show acc1 float32", "show memory float32 0 4", "mfma.mm acc0, tr0, tr1", "msce32.m acc1, (x1), x2", "x 11 -8", "bytes 0 00", "machine 512 4096",
+    "machine 4096 65536 64", "machine 64 65536", "int64", "int64 0 -9223372036854775808", "show acc1 64", "show memory int64 0 4", "halving",
+    "restore today.img", "msce64.m acc1, (x1), x2", "mwma.mm acc0, tr0, tr1", "product 64 1 2 2 2 0 16 32 16 64 16", "msettypei x5, e64",
 };
 
 /* Any text in the place of the bytes from `from` to `to`. */
