@@ -6,8 +6,8 @@
 /* Lengths of the drawing. A cell is a byte; a register has room for its name, the numbers of its columns and those of its rows. */
 enum { CELL = 14, CROSS = 8, LEFT = 26, HEAD = 34, GAP = 20, MARGIN = 16, LEGEND = 76, LINE_REGISTERS = 4, WIDTH_LEAST = 640 };
 
-/* A tile register with more bytes in a row, or more rows, has cells that are less wide, or less high, down to CELL_LEAST. Where MLEN is above
- * GRID_MLEN_MOST, neighbours of one kind are not drawn one by one but as one area. */
+/* With more than CELLS_MOST bytes in a row of a tile register cells are less wide, with more rows less high, down to CELL_LEAST. Where MLEN is
+ * above GRID_MLEN_MOST, neighbours of one kind are not drawn one by one but as one area. */
 enum { CELLS_MOST = 64, CELL_LEAST = 2, GRID_MLEN_MOST = 4096 };
 
 struct scale {
