@@ -1,51 +1,16 @@
 // Numbers as a host in C passes them, in blocks of bytes. The layout is that of include/bodlarina.h; what lies where is defined in specs/.
+use element::read8;
+use element::write8;
 use machine::Answer;
 use machine::Machine;
 ghost use mathlib.Core.Path.{_≡_};
-ghost use Prim.Native.Nat.{_+_, _≤_, _<_};
 ghost use lib.ListN.{length};
-ghost use Rattle.width.specs.Tile.{le, putLe};
+ghost use Rattle.width.specs.Tile.{putLe};
 ghost use Rattle.machine.specs.Answers.{reply};
 ghost use Rattle.blocks.specs.Blocks.{machineBytes, machineOf, putMachine, packed};
 
 // The bytes of the machine's block.
 pub const MACHINE_BYTES: usize = 80;
-
-fn wide(x: u8) -> u64
-    ensures { λ r. ⌜ (r ≡ x) × (r < 256) ⌝ }
-{
-    x as u64
-}
-
-// The number in the eight bytes from `at` on, low byte first.
-pub fn read8(block: &[u8], at: usize) -> u64
-    requires { ⌜ at + 8 ≤ length (now block) ⌝ }
-    ensures { λ r. ⌜ r ≡ le (now (block .entry)) at 8 ⌝ }
-{
-    wide(block[at])
-        + 256 * wide(block[at + 1])
-        + 65536 * wide(block[at + 2])
-        + 16777216 * wide(block[at + 3])
-        + 4294967296 * wide(block[at + 4])
-        + 1099511627776 * wide(block[at + 5])
-        + 281474976710656 * wide(block[at + 6])
-        + 72057594037927936 * wide(block[at + 7])
-}
-
-// Stores a number in the eight bytes from `at` on, low byte first.
-pub fn write8(block: &mut [u8], at: usize, value: u64)
-    requires { ⌜ at + 8 ≤ length (now block) ⌝ }
-    ensures { λ _. ⌜ now (block .exit) ≡ putLe at 8 value (now (block .entry)) ⌝ }
-{
-    block[at] = (value % 256) as u8;
-    block[at + 1] = (value / 256 % 256) as u8;
-    block[at + 2] = (value / 65536 % 256) as u8;
-    block[at + 3] = (value / 16777216 % 256) as u8;
-    block[at + 4] = (value / 4294967296 % 256) as u8;
-    block[at + 5] = (value / 1099511627776 % 256) as u8;
-    block[at + 6] = (value / 281474976710656 % 256) as u8;
-    block[at + 7] = (value / 72057594037927936 % 256) as u8;
-}
 
 // The machine's numbers out of their block.
 pub fn machine_of(block: &[u8]) -> Machine

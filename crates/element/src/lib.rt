@@ -200,7 +200,7 @@ pub fn read_signed16(s: &[u8], at: usize, width: usize) -> u16
 }
 
 // The signed element of width bytes at `at`, as a residue at 32 bits.
-pub fn read_signed(s: &[u8], at: usize, width: usize) -> u32
+pub fn read_signed32(s: &[u8], at: usize, width: usize) -> u32
     requires { ⌜ Short width ⌝ }
     requires { ⌜ at + width ≤ length (now s) ⌝ }
     ensures { λ r. ⌜ r ≡ reduce (256 ^ 4) (signed (256 ^ width) (le (now (s .entry)) at width)) ⌝ }

@@ -1,6 +1,6 @@
 // A run and a step as a host in C passes them, in blocks of bytes. What lies where is defined in specs/.
-use blocks::read8;
-use blocks::write8;
+use element::read8;
+use element::write8;
 use run::Handed;
 use run::Layout;
 use run::Place;

@@ -1,6 +1,6 @@
 // A step with the scalars in a block of bytes.
-use blocks::read8;
-use blocks::write8;
+use element::read8;
+use element::write8;
 use machine::Machine;
 use machine::Stepped;
 ghost use mathlib.Core.Path.{_≡_};

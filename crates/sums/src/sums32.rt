@@ -19,7 +19,7 @@ fn mac_row(acc: &mut [u32], s: &[u8], at: usize, width: usize, n: usize, x: u32)
     let mut j = 0;
     let mut from = at;
     while j < n {
-        let p = element::wrapping_mul32(x, element::read_signed(s, from, width));
+        let p = element::wrapping_mul32(x, element::read_signed32(s, from, width));
         acc[j] = std::num::wrapping_add_u32(acc[j], p);
         from += width;
         j += 1;
@@ -66,7 +66,7 @@ fn add_products(
     let mut from = a;
     let mut row = b;
     while l < k {
-        let x = element::read_signed(s, from, width);
+        let x = element::read_signed32(s, from, width);
         mac(acc, s, row, width, n, x);
         from += width;
         row += pitch;

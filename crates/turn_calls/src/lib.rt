@@ -3,7 +3,7 @@ use blocks::MACHINE_BYTES;
 use blocks::machine_of;
 use blocks::packed;
 use blocks::put_machine;
-use blocks::write8;
+use element::write8;
 use machine::Answer;
 use run::Plan;
 use run_blocks::is_fit;

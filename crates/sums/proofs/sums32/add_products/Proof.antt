@@ -32,7 +32,7 @@ loop-again c =
     let l = d .before .loop in
     let a = d .before .before .before .before .args in
     let m = c .before .before .mac in
-    let x = c .before .before .before .before .read-signed in
+    let x = c .before .before .before .before .read-signed32 in
     sum-next 4 (a .acc .now) (a .s .now) (a .a) (a .b) (a .pitch) (a .width) (a .k) (a .n)
     (l .acc) (m .last .0) (l .l) (l .from) (l .row) (x .result) (l .inv) (d .loop-test .taken) (m .kept .0) (x .ensures) (m .ensures)
 

@@ -26,7 +26,7 @@ loop-again c =
     let k = c .before .before .before .before .before .before .before .before in
     let a = k .args in
     let z = c .before .before .wrapping-mul32 in
-    let y = c .before .before .before .read-signed in
+    let y = c .before .before .before .read-signed32 in
     add-next 4 (a .acc .now) (a .s .now) (a .at) (a .width) (a .n) (a .x) (l .acc) (l .j) (l .from) (c .wrapping-add-u32 .result) (z .result) (y .result)
     (l .inv) (c .before .before .before .before .loop-test .taken) (k .pre .0) (omega (arith, c .before .before .before .before .before .before .before .slice-known .given (l .j)))
     (c .wrapping-add-u32 .ensures) (z .ensures) (y .ensures)

@@ -7,8 +7,8 @@ use Rattle.width.specs.Tile.{le}
 use Rattle.width.specs.Reduce.{signed, reduce}
 use Rattle.width.proofs.ReduceLaws.{reduce-signed}
 use Rattle.element.proofs.Laws.{is4}
-use Rattle.element.proofs.read_signed.Statement.{statement}
-use Rattle.element.proofs.read_signed.Tie as tie
+use Rattle.element.proofs.read_signed32.Statement.{statement}
+use Rattle.element.proofs.read_signed32.Tie as tie
 
 read1-requires : tie.Need-read1-requires
 read1-requires c κs = search needs
@@ -49,8 +49,8 @@ returns-3 c =
     sym (reduce-signed 4294967296 (omega arith) (r .result) (r .ensures .1)) ∙ ap (λ (x : ℕ). reduce 4294967296 (signed 4294967296 x)) (r .ensures .0)
     ∙ ap (λ (w : ℕ). reduce 4294967296 (signed (256 ^ w) (le (a .s .now) (a .at) w))) (sym e)
 
-pub read-signed-spec : {M : Type 1} → statement M
-read-signed-spec =
+pub read-signed32-spec : {M : Type 1} → statement M
+read-signed32-spec =
     tie.close
     (tie.spec
     read1-requires
