@@ -6,12 +6,12 @@ use crate::lent::{library_step, started, Lent};
 use crate::random::Random;
 use crate::states::{set_size, SIZES, WIDTHS};
 use crate::tally::{families, family_name};
-use model::{assemble, maximum, sew, Kind, LISTING, SMALLER};
+use model::{assemble, maximum, sew, Kind, Lengths, LISTING, SMALLER};
 use std::hint::black_box;
 use std::time::Instant;
 
-pub const SMALL: (u64, u64) = (64, 128);
-pub const LARGE: (u64, u64) = (512, 4096);
+pub const SMALL: Lengths = (64, 128, 32);
+pub const LARGE: Lengths = (512, 4096, 32);
 
 pub fn bench() {
     println!("All times are of this one run, through the C interface, on one core, warm caches.");
@@ -64,15 +64,18 @@ pub fn nanoseconds(mut call: impl FnMut()) -> f64 {
     best / repeats as f64
 }
 
-pub fn machine_name((rlen, mlen): (u64, u64)) -> String {
-    format!("MLEN {mlen} RLEN {rlen}")
+pub fn machine_name((rlen, mlen, elen): Lengths) -> String {
+    match elen {
+        64 => format!("MLEN {mlen} RLEN {rlen} ELEN 64"),
+        _ => format!("MLEN {mlen} RLEN {rlen}"),
+    }
 }
 
 /// A machine with everything marked and every size at its maximum.
-pub fn full_bench((rlen, mlen): (u64, u64), mtype: u64, memory: usize) -> Lent {
+pub fn full_bench(lengths: Lengths, mtype: u64, memory: usize) -> Lent {
     let mut random = Random::for_case(1, "bench", 0);
-    let registers = random.bytes(model::register_bytes(mlen));
-    let mut lent = started((rlen, mlen), SMALLER, registers, random.bytes(memory));
+    let registers = random.bytes(model::register_bytes(lengths.1));
+    let mut lent = started(lengths, SMALLER, registers, random.bytes(memory));
     lent.marks.fill(1);
     let mut machine = lent.machine();
     machine.mtype = mtype;
@@ -85,7 +88,7 @@ pub fn full_bench((rlen, mlen): (u64, u64), mtype: u64, memory: usize) -> Lent {
 }
 
 /// Nanoseconds of a step, and the answer it gives.
-fn step_time(machine: (u64, u64), mtype: u64, word: u32) -> (f64, u64) {
+fn step_time(machine: Lengths, mtype: u64, word: u32) -> (f64, u64) {
     let mut lent = full_bench(machine, mtype, 32768);
     // x1 is an address, a size and an mtype, x2 a stride and a multiplier
     // (whose low 8 bits are not 0).

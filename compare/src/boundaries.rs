@@ -4,12 +4,12 @@
 use crate::lent::Lent;
 use crate::random::Random;
 use crate::states::{
-    any_operands, any_row, any_scalar, bench_of, good_case, good_machine, left_out_word,
-    moved_rows, put_state_fault, raise_sizes, register_fields, set_size, unmark_source,
-    wrapping_stride, Case, MTYPES, SIZES, WILD_STRIDES,
+    any_operands, any_row, any_scalar, bench_of, good_case, good_machine, left_out_word, lengths,
+    lengths_at_64, machine_fitting_on, moved_rows, mtypes, put_state_fault, raise_sizes,
+    register_fields, set_size, unmark_source, wrapping_stride, Case, SIZES, WILD_STRIDES,
 };
 use crate::suite::{check_step, each_case, Context, Outcome};
-use model::{maximum, sew, Kind, Machine, Matrix, Row, Size, LEFT_OUT, LISTING, MILL};
+use model::{maximum, sew, Kind, Lengths, Machine, Matrix, Row, Size, LEFT_OUT, LISTING, MILL};
 
 /// A case and the answer it must get.
 pub type Made = (Case, u64);
@@ -43,7 +43,7 @@ const BOUNDARIES: [Boundary; 38] = [
     ("x0 asked as a maximum", asked_maximum),
     ("mtype after each value", new_mtype),
     ("a word while mill is set", mill_set),
-    ("64-bit loads and stores", too_wide),
+    ("64-bit loads and stores", of_64_bits),
     ("float products at another SEW", float_at_another_sew),
     ("state faults", faulty_state),
     ("another opcode", wrong_opcode),
@@ -88,11 +88,11 @@ pub fn row_where(random: &mut Random, wanted: impl Fn(&Row) -> bool) -> &'static
 }
 
 pub fn is_store(row: &Row) -> bool {
-    matches!(row.kind, Kind::Store(..)) && !row.name.contains("64")
+    matches!(row.kind, Kind::Store(..))
 }
 
 pub fn is_load(row: &Row) -> bool {
-    matches!(row.kind, Kind::Load(..)) && !row.name.contains("64")
+    matches!(row.kind, Kind::Load(..))
 }
 
 fn is_scale(row: &Row) -> bool {
@@ -113,10 +113,23 @@ fn is_multiply(row: &Row) -> bool {
     matches!(row.kind, Kind::Multiply(_) | Kind::FloatMultiply)
 }
 
+/// Lengths of an ELEN at which a row can be done.
+pub fn lengths_fitting(random: &mut Random, row: &Row) -> Lengths {
+    if row.name.contains("64") {
+        random.pick(&lengths_at_64())
+    } else {
+        lengths(random)
+    }
+}
+
 /// A machine for a row, with no tile size of 0.
 pub fn machine_for(random: &mut Random, row: &Row) -> Machine {
-    let mtype = crate::states::fitting_mtype(random, row.kind);
-    let mut machine = good_machine(random, mtype);
+    let lengths = lengths_fitting(random, row);
+    machine_for_on(random, row, lengths)
+}
+
+pub fn machine_for_on(random: &mut Random, row: &Row, lengths: Lengths) -> Machine {
+    let mut machine = machine_fitting_on(random, lengths, row.kind);
     for size in SIZES {
         let value = model::tile_size(&machine, size).max(1);
         set_size(&mut machine, size, value);
@@ -330,8 +343,7 @@ fn too_large(random: &mut Random, used: bool) -> (&'static Row, Machine) {
         let size = random.pick(&[Size::K, Size::N]);
         let limit = maximum(&machine, size, sew(machine.mtype));
         let widest = maximum(&machine, size, 8);
-        let fits = !model::width_rule_broken(row.kind, machine.mtype);
-        if fits && limit < widest && sizes_used(row.kind).contains(&size) == used {
+        if limit < widest && sizes_used(row.kind).contains(&size) == used {
             let value = random.range(limit as u64 + 1, widest as u64) as i128;
             set_size(&mut machine, size, value);
             return (row, machine);
@@ -344,9 +356,11 @@ fn case_on(random: &mut Random, row: &'static Row, machine: &Machine) -> Case {
     let operands = [("rs1", 1), ("rs2", 2), ("imm", 1)];
     let mut case = Case { word: model::assemble(row.name, &operands), lent };
     case.lent.set_scalar(1, 0);
-    // A stride longer than any row, and a multiplier whose low 8 bits are not 0.
-    case.lent.set_scalar(2, 257);
-    case.lent.memory = random.bytes(64 * 257);
+    // A stride longer than a row, and a multiplier whose low 8 bits are not 0.
+    let (rows, row_bytes) = moved_rows(row.kind, machine).unwrap_or((0, 0));
+    let stride = 257.max(row_bytes + 1);
+    case.lent.set_scalar(2, stride as u64);
+    case.lent.memory = random.bytes((rows * stride) as usize);
     case
 }
 
@@ -366,7 +380,7 @@ fn unused_size_too_large(random: &mut Random) -> Made {
 
 /// No mark anywhere and wild addresses, but no element either.
 fn no_element(random: &mut Random) -> Made {
-    let row = row_where(random, |row| !sizes_used(row.kind).is_empty() && !row.name.contains("64"));
+    let row = row_where(random, |row| !sizes_used(row.kind).is_empty());
     let mut machine = machine_for(random, row);
     let size = match row.kind {
         _ if is_multiply(row) => random.pick(&[Size::M, Size::N]),
@@ -448,7 +462,8 @@ fn multiplier_0(random: &mut Random) -> Made {
     case.word = model::assemble(row.name, &operands);
     case.lent.set_scalar(0, random.next());
     // The low SEW bits are 0, whatever stands above them.
-    case.lent.set_scalar(2, random.next() << sew(machine.mtype));
+    let above = random.next().checked_shl(sew(machine.mtype) as u32);
+    case.lent.set_scalar(2, above.unwrap_or(0));
     case.lent.marks.fill(0);
     (case, 0)
 }
@@ -503,10 +518,9 @@ fn two_unmarked_elements(random: &mut Random) -> Made {
 /// Every size below, at and above its maximum, as far as it can be.
 fn both_x0(random: &mut Random) -> Made {
     let name = random.pick(&["msettilem", "msettilek", "msettilen"]);
-    let mtype = random.pick(&MTYPES);
-    let mut machine = good_machine(random, mtype);
+    let mut machine = good_machine(random);
     for size in SIZES {
-        let limit = maximum(&machine, size, sew(mtype));
+        let limit = maximum(&machine, size, sew(machine.mtype));
         let widest = maximum(&machine, size, 8);
         let any = random.range(0, widest as u64) as i128;
         let value = random.pick(&[0, limit - 1, limit, (limit + 1).min(widest), widest, any]);
@@ -526,8 +540,7 @@ fn both_x0_and_mill(random: &mut Random) -> Made {
 
 fn asked_maximum(random: &mut Random) -> Made {
     let name = random.pick(&["msettilem", "msettilek", "msettilen", "msettype"]);
-    let mtype = random.pick(&MTYPES);
-    let machine = good_machine(random, mtype);
+    let machine = good_machine(random);
     let lent = bench_of(random, &machine);
     let word = model::assemble(name, &[("rd", random.range(1, 31) as u32)]);
     (Case { word, lent }, 0)
@@ -535,9 +548,10 @@ fn asked_maximum(random: &mut Random) -> Made {
 
 fn new_mtype(random: &mut Random) -> Made {
     let row = row_where(random, |row| row.kind == Kind::SetType);
-    let mtype = random.pick(&[0, 1, 2, 8, MILL]);
-    let mut machine = good_machine(random, 0);
-    machine.mtype = mtype;
+    let mut machine = good_machine(random);
+    if random.chance(20) {
+        machine.mtype = MILL;
+    }
     let mut lent = bench_of(random, &machine);
     let value = match random.below(3) {
         0 => random.below(16),
@@ -558,17 +572,23 @@ fn mill_set(random: &mut Random) -> Made {
     (case, if row.kind == Kind::SetType { 0 } else { 2 })
 }
 
-fn too_wide(random: &mut Random) -> Made {
+/// 3 at ELEN 32, whatever mtype is; done at ELEN 64, where mtype permits it.
+fn of_64_bits(random: &mut Random) -> Made {
     let row = row_where(random, |row| row.name.contains("64"));
-    let machine = machine_for(random, row);
-    (case_on(random, row, &machine), 3)
+    let mut lengths = lengths(random);
+    if random.chance(50) {
+        lengths = random.pick(&lengths_at_64());
+    }
+    let machine = machine_for_on(random, row, lengths);
+    (case_on(random, row, &machine), if lengths.2 == 64 { 0 } else { 3 })
 }
 
 /// 3, also where a size is above its maximum or an element is not marked.
 fn float_at_another_sew(random: &mut Random) -> Made {
     let row = row_where(random, |row| row.kind == Kind::FloatMultiply);
     let mut machine = machine_for(random, row);
-    machine.mtype = random.pick(&[0, 1, 8]);
+    let others: &[u64] = if machine.elen == 64 { &[0, 1, 3, 8, 9] } else { &[0, 1, 8] };
+    machine.mtype = random.pick(others);
     if random.chance(50) {
         raise_sizes(random, &mut machine);
     }
@@ -682,8 +702,8 @@ fn no_row(random: &mut Random) -> Made {
 
 /// A word of a row with the given registers, its other operands as in `case_on`.
 fn with_registers(random: &mut Random, row: &'static Row, registers: &[(&str, u32)]) -> Case {
-    let mtype = crate::states::fitting_mtype(random, row.kind);
-    let machine = good_machine(random, mtype);
+    let lengths = lengths_fitting(random, row);
+    let machine = machine_fitting_on(random, lengths, row.kind);
     let mut case = case_on(random, row, &machine);
     let operands = [registers, &[("rs1", 1), ("rs2", 2), ("imm", 1)]].concat();
     case.word = model::assemble(row.name, &operands);
@@ -707,7 +727,8 @@ fn bad_register(random: &mut Random) -> Made {
 fn bad_register_and_more(random: &mut Random) -> Made {
     let (mut case, number) = bad_register(random);
     let mut machine = case.lent.machine();
-    machine.mtype = random.pick(&[0, 1, 2, 8, MILL]);
+    let legal = random.pick(mtypes(machine.elen));
+    machine.mtype = random.pick(&[legal, legal, MILL]);
     case.lent.set_machine(&machine);
     case.lent.marks.fill(0);
     case.lent.memory.clear();
@@ -722,6 +743,5 @@ fn bad_register_and_more(random: &mut Random) -> Made {
 fn last_registers(random: &mut Random) -> Made {
     let row = row_where(random, has_registers);
     let last = register_fields(row.kind).into_iter().map(|(field, count)| (field, count - 1));
-    let case = with_registers(random, row, &last.collect::<Vec<_>>());
-    (case, if row.name.contains("64") { 3 } else { 0 })
+    (with_registers(random, row, &last.collect::<Vec<_>>()), 0)
 }

@@ -47,7 +47,7 @@ pub fn empty_slices(context: &mut Context) -> Outcome {
         check_step(random.next() as u32, &lent, tally)?;
         let before = lent.clone();
         let Lent { machine, registers, marks, .. } = &mut lent;
-        let given = library::start(64, 128, case / 6 % 2, 0, 0, machine, registers, marks);
+        let given = library::start(64, 128, 32, case / 6 % 2, 0, 0, machine, registers, marks);
         if given != 8 || lent != before {
             return Err(format!("a start gives {given}, or bytes change"));
         }

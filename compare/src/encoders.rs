@@ -12,7 +12,7 @@
 #[allow(dead_code)] // steps alone are made here
 mod library;
 
-use model::{Bench, Machine, LISTING, RULES};
+use model::{Bench, Lengths, Machine, LISTING, RULES};
 use std::collections::BTreeSet;
 use std::io::BufRead;
 
@@ -63,23 +63,20 @@ fn bytes(numbers: &[u64]) -> Vec<u8> {
     numbers.iter().flat_map(|number| number.to_le_bytes()).collect()
 }
 
-fn numbers(m: &Machine) -> [u64; 9] {
-    [m.rlen, m.mlen, m.mtype, m.tile_m, m.tile_k, m.tile_n, m.seal_start, m.seal_length, m.rule]
+fn numbers(m: &Machine) -> [u64; 10] {
+    let (tile_m, tile_k, tile_n) = (m.tile_m, m.tile_k, m.tile_n);
+    let (seal_start, seal_length) = (m.seal_start, m.seal_length);
+    [m.rlen, m.mlen, m.mtype, tile_m, tile_k, tile_n, seal_start, seal_length, m.rule, m.elen]
 }
+
+/// A small machine of either ELEN with each legal mtype.
+const MACHINES: [(Lengths, &[u64]); 2] =
+    [((64, 128, 32), &[0, 1, 2, 8]), ((128, 256, 64), &[0, 1, 2, 3, 8, 9])];
 
 /// A machine on which most words are done, all different bytes, and scalars that
 /// are addresses in memory.
-fn bench(mtype: u64, rule: u64) -> (Bench, Vec<u64>) {
-    let machine = Machine {
-        rlen: 64,
-        mlen: 128,
-        mtype,
-        tile_m: 2,
-        tile_k: 2,
-        tile_n: 2,
-        rule,
-        ..Machine::default()
-    };
+fn bench(lengths: Lengths, mtype: u64, rule: u64) -> (Bench, Vec<u64>) {
+    let machine = Machine { mtype, tile_m: 2, tile_k: 2, tile_n: 2, ..Machine::of(lengths, rule) };
     let size = model::register_bytes(machine.mlen);
     let made = |at: usize, by: usize| (at * by + at / 7) as u8;
     let registers = (0..size).map(|at| made(at, 37)).collect();
@@ -90,9 +87,9 @@ fn bench(mtype: u64, rule: u64) -> (Bench, Vec<u64>) {
     )
 }
 
-/// One step on both programs, on this mtype and rule.
-fn stepped_alike(word: u32, mtype: u64, rule: u64) -> bool {
-    let (mut second, mut values) = bench(mtype, rule);
+/// One step on both programs, on a machine of these lengths, this mtype and rule.
+fn stepped_alike(word: u32, (lengths, mtype, rule): (Lengths, u64, u64)) -> bool {
+    let (mut second, mut values) = bench(lengths, mtype, rule);
     let mut block = bytes(&numbers(&second.machine));
     let (mut registers, mut marks) = (second.registers.clone(), second.marks.clone());
     let (mut scalars, mut memory) = (bytes(&values), second.memory.clone());
@@ -108,14 +105,19 @@ fn stepped_alike(word: u32, mtype: u64, rule: u64) -> bool {
 fn main() {
     let (mut lines, mut steps, mut wrong) = (0u64, 0u64, 0u64);
     let mut names = BTreeSet::new();
+    let mut states = Vec::new();
+    for (lengths, mtypes) in MACHINES {
+        for &mtype in mtypes {
+            states.extend(RULES.map(|rule| (lengths, mtype, rule)));
+        }
+    }
     for text in std::io::stdin().lock().lines() {
         let text = text.expect("a line");
         let line = read(&text).expect("mnemonic, operands, word and answer");
         let mut right = encoded(&line) && answered(&line);
         if right && at_bounds(&line) {
-            let states = [0, 1, 2, 8].into_iter().flat_map(|mtype| RULES.map(|rule| (mtype, rule)));
-            right = states.clone().all(|(mtype, rule)| stepped_alike(line.word, mtype, rule));
-            steps += states.count() as u64;
+            right = states.iter().all(|&state| stepped_alike(line.word, state));
+            steps += states.len() as u64;
         }
         lines += 1;
         if !right {

@@ -5,10 +5,10 @@ use crate::float_examples::{EXAMPLES, NANS};
 use crate::float_numbers::{self, any_style, number, whole, SIGN, SPECIAL};
 use crate::lent::Lent;
 use crate::random::Random;
-use crate::states::{bench_of, good_case, set_size, SIZES};
+use crate::states::{bench_of, good_case, set_size, usual_lengths, SIZES};
 use crate::suite::{check_step, each_case, Context, Outcome};
 use crate::tally::Tally;
-use model::{maximum, register_element, Kind, Machine, Register, Row, LISTING};
+use model::{maximum, register_element, Kind, Lengths, Machine, Register, Row, LISTING, SMALLER};
 
 const INFINITY: u32 = 0x7F80_0000;
 const NAN: u32 = 0x7FC0_0000;
@@ -84,8 +84,8 @@ impl Desk {
     }
 }
 
-fn machine_at_32((rlen, mlen): (u64, u64)) -> Machine {
-    Machine { rlen, mlen, mtype: E32, ..Machine::default() }
+fn machine_at_32(lengths: Lengths) -> Machine {
+    Machine { mtype: E32, ..Machine::of(lengths, SMALLER) }
 }
 
 /// The maxima of m, k and n at SEW 32.
@@ -123,7 +123,7 @@ fn examples() -> Vec<Example> {
 /// Every example on every machine, at any place of a tile, its terms by words of one, of
 /// some and of as many as the tile holds.
 pub fn float_examples(context: &mut Context) -> Outcome {
-    let lengths = model::permitted_lengths();
+    let lengths = usual_lengths();
     let examples = examples();
     let count = (examples.len() * lengths.len()) as u64;
     each_case(context, "float examples", count, |case, random, tally| {
@@ -179,7 +179,7 @@ pub fn float_specials(context: &mut Context) -> Outcome {
     let mut numbers: Vec<u32> = SPECIAL.iter().flat_map(|&bits| [bits, bits | SIGN]).collect();
     numbers.extend([0x7F80_0001, 0xFFBF_FFFF]);
     let count = numbers.len() as u64;
-    let machine = machine_at_32((512, 4096));
+    let machine = machine_at_32((512, 4096, 32));
     let [m, _, n] = maxima(&machine);
     let blocks = [count.div_ceil(m), count.div_ceil(n)];
     let cases = blocks[0] * blocks[1] * count;
@@ -270,7 +270,7 @@ pub fn within(random: &mut Random, most: u64) -> i64 {
 /// Tiles of whole numbers of which no product and no partial sum is beyond 2^24: C is
 /// exactly the whole-number sum.
 pub fn whole_floats(context: &mut Context) -> Outcome {
-    let lengths = model::permitted_lengths();
+    let lengths = usual_lengths();
     each_case(context, "whole floats", 60 * lengths.len() as u64, |case, random, tally| {
         let machine = machine_at_32(lengths[case as usize % lengths.len()]);
         let sizes = maxima(&machine).map(|most| random.range(1, most));

@@ -1,5 +1,6 @@
 //! Machine images (request Six): written, read back, and read where they are damaged;
-//! those of halving machines have version 2 (request Eight).
+//! those of halving machines have version 2 (request Eight), those of larger machines
+//! version 3 (request Ten).
 
 use crate::lent::{
     differences, hex, library_image_read, library_image_size, library_image_write, second_image,
@@ -7,11 +8,14 @@ use crate::lent::{
 };
 use crate::library;
 use crate::random::Random;
-use crate::states::{any_machine, any_scalar, bench_of, lengths, put_bench_fault, wrong_length};
+use crate::states::{
+    any_machine, any_scalar, bench_of, larger_lengths, lengths, old_lengths, put_bench_fault,
+    usual_lengths, wrong_length,
+};
 use crate::suite::{each_case, Context, Outcome};
 use crate::tally::{Call, Tally};
 use model::images::{completed, parts, Parts};
-use model::{HALVING, RULES};
+use model::{Lengths, RULES};
 
 // ---------------------------------------------------------------------------
 // One call on both programs
@@ -62,6 +66,9 @@ fn check_write(
         ));
     }
     tally.count(Call::ImageWrite, given & 0xFFFF);
+    if given & 0xFFFF == 0 {
+        tally.image(0, library_room[0]);
+    }
     Ok((given, library_room))
 }
 
@@ -90,6 +97,9 @@ fn check_read(image: &[u8], before: &Lent, tally: &mut Tally) -> Result<(u64, Le
         ));
     }
     tally.count(Call::ImageRead, given & 0xFFFF);
+    if given == 0 {
+        tally.image(1, image[0]);
+    }
     Ok((given, second))
 }
 
@@ -144,7 +154,7 @@ fn any_seal(random: &mut Random) -> (u64, u64) {
 }
 
 /// A machine that is not at fault, with a pattern of marks.
-fn sound_bench(random: &mut Random, lengths: (u64, u64), pattern: u64) -> Lent {
+fn sound_bench(random: &mut Random, lengths: Lengths, pattern: u64) -> Lent {
     let mut machine = any_machine(random, lengths);
     (machine.seal_start, machine.seal_length) = any_seal(random);
     let mut lent = bench_of(random, &machine);
@@ -166,8 +176,16 @@ fn other_buffers(random: &mut Random, mlen: u64) -> Lent {
 
 /// The image of a machine of small lengths, with few runs.
 fn small_image(random: &mut Random) -> Vec<u8> {
-    // The last has more rows than bytes in a row.
-    let lengths = random.pick(&[(64, 128), (64, 128), (128, 256), (512, 1024), (64, 1024)]);
+    // The fifth has more rows than bytes in a row.
+    let old = [(64, 128), (64, 128), (128, 256), (512, 1024), (64, 1024)];
+    let lengths = match random.below(100) {
+        0..=1 => random.pick(&larger_lengths()),
+        2..=32 => random.pick(&[(128, 256, 64), (128, 512, 64), (256, 512, 64), (512, 1024, 64)]),
+        _ => {
+            let (rlen, mlen) = random.pick(&old);
+            (rlen, mlen, 32)
+        }
+    };
     let pattern = random.pick(&[0, 2, 3, 4, 4, 9, 11, 12]);
     let mut lent = sound_bench(random, lengths, pattern);
     if pattern > 10 {
@@ -184,13 +202,20 @@ fn small_image(random: &mut Random) -> Vec<u8> {
 // Whole images
 
 /// Images of every permitted machine: their size, the room they fit, and the machine
-/// that is made of them.
+/// that is made of them. Of machines beyond the bounds of document 01 fewer.
 pub fn images(context: &mut Context) -> Outcome {
-    let pairs = model::permitted_lengths();
-    let count = pairs.len() as u64 * PATTERNS * 6;
+    let usual: Vec<(Lengths, u64)> = usual_lengths()
+        .into_iter()
+        .flat_map(|lengths| (0..6 * PATTERNS).map(move |at| (lengths, at % PATTERNS)))
+        .collect();
+    let larger = larger_lengths();
+    let count = (usual.len() + 4 * larger.len()) as u64;
     each_case(context, "images", count, |case, random, tally| {
-        let lengths = pairs[case as usize % pairs.len()];
-        let lent = sound_bench(random, lengths, case / pairs.len() as u64 % PATTERNS);
+        let (lengths, pattern) = match usual.get(case as usize) {
+            Some(&case) => case,
+            None => (larger[(case as usize - usual.len()) / 4], random.below(PATTERNS)),
+        };
+        let lent = sound_bench(random, lengths, pattern);
         check_size(&lent, tally)?;
         let image = second_image(&lent).ok_or("the machine is at fault")?;
         let more = image.len() + random.below(300) as usize;
@@ -258,15 +283,53 @@ fn check_alike(
     Ok(())
 }
 
-/// The image of a machine by each rule: the halving one has 2 and 1 where the other has
-/// 1, and the machines made of them have their rules. Then every value of the version
-/// and of the rule, with the place that the paper gives.
+// ---------------------------------------------------------------------------
+// Versions
+
+/// The bytes of an image before mtype, each a number of one group.
+fn head((rlen, mlen, elen): Lengths, rule: u64) -> Vec<u8> {
+    let [r, m, e] = [rlen, mlen, elen].map(|length| length.trailing_zeros() as u8);
+    if rlen > 512 || mlen > 4096 || elen == 64 {
+        vec![3, rule as u8, e, r, m]
+    } else if rule == 1 {
+        vec![2, 1, r, m]
+    } else {
+        vec![1, r, m]
+    }
+}
+
+/// Where the head of an image is at fault, by the numbers that each version has there.
+fn fault_in_head(image: &[u8]) -> Option<usize> {
+    let check = |at: usize, from: u8, to: u8| match image.get(at) {
+        Some(byte) if (from..=to).contains(byte) => None,
+        _ => Some(at),
+    };
+    let at = |at: usize| image.get(at).copied().unwrap_or(0);
+    let version = check(0, 1, 3);
+    version.or_else(|| match image[0] {
+        1 => check(1, 6, 9).or_else(|| check(2, at(1) + 1, 12)),
+        2 => check(1, 1, 1).or_else(|| check(2, 6, 9)).or_else(|| check(3, at(2) + 1, 12)),
+        _ => check(1, 0, 1).or_else(|| check(2, 5, 6)).or_else(|| check(3, at(2) + 1, 12)).or_else(
+            || {
+                // With ELEN 32 and RLEN up to 512, MLEN is the one beyond the old bounds.
+                let old = at(2) == 5 && at(3) <= 9;
+                check(4, if old { 13 } else { at(3) + 1 }, 16)
+            },
+        ),
+    })
+}
+
+/// The image of each machine by each rule: its version, and the machine made of it. Then
+/// each byte of its head with every other value, and the head in every other version.
 pub fn image_versions(context: &mut Context) -> Outcome {
-    let pairs = model::permitted_lengths();
-    let count = 4 * pairs.len() as u64;
+    let machines = model::permitted_lengths();
+    let old = old_lengths().len() as u64;
+    let count = machines.len() as u64 + 3 * old;
     each_case(context, "image versions", count, |case, random, tally| {
-        let lengths = pairs[case as usize % pairs.len()];
-        let pattern = random.below(PATTERNS);
+        // The old machines come first, and come again.
+        let at = case.checked_sub(machines.len() as u64).map_or(case, |more| more % old);
+        let lengths = machines[at as usize];
+        let pattern = if case < old { 0 } else { random.pick(&[0, 2, 3, 4, 9]) };
         let lent = sound_bench(random, lengths, pattern);
         let [plain, halving] = RULES.map(|rule| {
             let mut machine = lent.machine();
@@ -277,25 +340,155 @@ pub fn image_versions(context: &mut Context) -> Outcome {
         });
         let [one, two] = [&plain, &halving].map(|lent| written(lent, random, tally));
         let (one, two) = (one?, two?);
-        if one[0] != 1 || two[..2] != [2, 1] || one[1..] != two[2..] {
-            return Err(format!("{} and {}", hex(&one), hex(&two)));
+        let heads = RULES.map(|rule| head(lengths, rule));
+        let [rest, other_rest] = [(&one, &heads[0]), (&two, &heads[1])]
+            .map(|(image, head)| image.strip_prefix(&head[..]));
+        if rest.is_none() || rest != other_rest {
+            return Err(format!("{lengths:?}: {} and {}", hex(&one), hex(&two)));
         }
         check_handed_over(&plain, &one, random, tally)?;
         check_handed_over(&halving, &two, random, tally)?;
-        let before = other_buffers(random, lengths.1);
-        for (image, at) in [(&one, 0), (&two, 0), (&two, 1)] {
-            for value in (0..=255).filter(|&value| value != image[at]) {
-                let mut changed = image.clone();
-                changed[at] = value;
-                let (given, _) = check_read(&changed, &before, tally)?;
-                let place = if at == 0 && [1, 2].contains(&value) { 1 } else { at };
-                if given != 15 | (place as u64) << 16 {
-                    return Err(format!("{}: {}", hex(&changed), result_text(given)));
+        for image in [&one, &two] {
+            changed_head(image, tally)?;
+        }
+        in_every_version(lengths, rest.unwrap_or(&[]), tally)
+    })
+}
+
+/// No buffers: an image that is accepted gets 8.
+fn no_buffers() -> Lent {
+    Lent { machine: vec![], registers: vec![], marks: vec![], scalars: vec![], memory: vec![] }
+}
+
+/// An image, held to the place of a fault in its head.
+fn check_head(image: &[u8], tally: &mut Tally) -> Result<u64, String> {
+    let (given, _) = check_read(image, &no_buffers(), tally)?;
+    let at_fault = fault_in_head(image).map(|place| 15 | (place as u64) << 16);
+    // Without a fault in the head, what follows decides.
+    let right = match at_fault {
+        Some(expected) => given == expected,
+        None => given == 8 || given & 0xFFFF == 15 && given >> 16 > 2,
+    };
+    match right {
+        true => Ok(given),
+        false => Err(format!("{}: {}", hex(image), result_text(given))),
+    }
+}
+
+/// Each byte of the head with every other value.
+fn changed_head(image: &[u8], tally: &mut Tally) -> Result<(), String> {
+    for at in 0..[3, 4, 5][image[0] as usize - 1] {
+        for value in (0..=255).filter(|&value| value != image[at]) {
+            let mut changed = image.to_vec();
+            changed[at] = value;
+            check_head(&changed, tally)?;
+        }
+    }
+    Ok(())
+}
+
+/// A machine's lengths in each version and with each rule: but for those that it has by
+/// either rule they are refused, or are those of a machine of the other ELEN.
+fn in_every_version(
+    (rlen, mlen, elen): Lengths,
+    rest: &[u8],
+    tally: &mut Tally,
+) -> Result<(), String> {
+    let [r, m, e] = [rlen, mlen, elen].map(|length| length.trailing_zeros() as u8);
+    let heads: [&[u8]; 9] = [
+        &[1, r, m],
+        &[2, 0, r, m],
+        &[2, 1, r, m],
+        &[3, 0, 5, r, m],
+        &[3, 1, 5, r, m],
+        &[3, 0, 6, r, m],
+        &[3, 1, 6, r, m],
+        &[3, 2, e, r, m],
+        &[3, r, m],
+    ];
+    for in_version in heads {
+        let image = [in_version, rest].concat();
+        let given = check_head(&image, tally)?;
+        let own = RULES.iter().any(|&rule| head((rlen, mlen, elen), rule) == in_version);
+        if own != (given == 8) && elen == 32 && in_version.get(2) != Some(&6) {
+            return Err(format!("{}: {}", hex(&image), result_text(given)));
+        }
+    }
+    Ok(())
+}
+
+/// Heads of all versions around their bounds, each with nothing but zeros after it, cut
+/// short at each byte, and with each mtype.
+pub fn image_heads(context: &mut Context) -> Outcome {
+    let exponents: Vec<(u8, u8)> = (4..=14).flat_map(|r| (5..=18).map(move |m| (r, m))).collect();
+    let mut fronts: Vec<Vec<u8>> = vec![vec![0], vec![1], vec![4], vec![5]];
+    fronts.extend((0..4).map(|rule| vec![2, rule]));
+    fronts.extend((0..4).flat_map(|rule| (3..9).map(move |elen| vec![3, rule, elen])));
+    let count = fronts.len() as u64;
+    let mut accepted = 0;
+    let cases = each_case(context, "image heads", count, |case, random, tally| {
+        for &(r, m) in &exponents {
+            let head = [&fronts[case as usize][..], &[r, m]].concat();
+            let image = [&head[..], &[0; 7]].concat();
+            let given = check_head(&image, tally)?;
+            if (given == 8) != fault_in_head(&image).is_none() {
+                return Err(format!("{}: {}", hex(&image), result_text(given)));
+            }
+            if given != 8 {
+                continue;
+            }
+            accepted += 1;
+            let made = other_buffers(random, 1 << m);
+            let (given, made) = check_read(&image, &made, tally)?;
+            let machine = made.machine();
+            let elen = if image[0] == 3 { 1 << image[2] } else { 32 };
+            if given != 0 || machine.lengths() != (1 << r, 1 << m, elen) {
+                return Err(format!("{}: {machine:?}", hex(&image)));
+            }
+            for cut in 0..image.len() {
+                let (given, _) = check_read(&image[..cut], &no_buffers(), tally)?;
+                if given != 15 | (cut as u64) << 16 {
+                    return Err(format!("{}: {}", hex(&image[..cut]), result_text(given)));
                 }
             }
+            types_and_sizes(&head, elen, tally)?;
         }
         Ok(())
-    })
+    })?;
+    let text = format!("{cases}, {accepted} heads accepted");
+    // 18 machines of either rule in versions 1 and 2, 70 in version 3.
+    if context.only_case.is_none() && accepted != 2 * (18 + 70) {
+        return Err(text);
+    }
+    Ok(text)
+}
+
+/// Every mtype up to 16, and every tile size at its maximum and one above.
+fn types_and_sizes(head: &[u8], elen: u64, tally: &mut Tally) -> Result<(), String> {
+    let legal: &[u8] = if elen == 64 { &[0, 1, 2, 3, 8, 9] } else { &[0, 1, 2, 8] };
+    for mtype in 0..=16 {
+        let image = [head, &[mtype], &[0; 6]].concat();
+        let (given, _) = check_read(&image, &no_buffers(), tally)?;
+        let at_fault = 15 | (head.len() as u64) << 16;
+        if given != if legal.contains(&mtype) { 8 } else { at_fault } {
+            return Err(format!("{}: {}", hex(&image), result_text(given)));
+        }
+    }
+    let [r, m] = [head[head.len() - 2], head[head.len() - 1]];
+    let (rows, columns) = (1u64 << (m - r), 1u64 << (r - 3));
+    for (at, most) in [rows, rows.min(columns), columns].into_iter().enumerate() {
+        for (size, fits) in [(most, true), (most + 1, false), (2 * most, false)] {
+            let mut image = [head, &[0]].concat();
+            for other in 0..6 {
+                image.extend(long_groups(if other == at { size as u128 } else { 0 }, 0));
+            }
+            let (given, _) = check_read(&image, &no_buffers(), tally)?;
+            if fits != (given == 8) {
+                return Err(format!("{}: {}", hex(&image), result_text(given)));
+            }
+        }
+    }
+    Ok(())
 }
 
 /// The image of a machine, in a room of its size.
@@ -433,13 +626,12 @@ fn numbers(Parts { machine, runs }: &Parts) -> Vec<(u64, u64, Vec<u8>)> {
     let total = model::register_bytes(machine.mlen) as u64;
     let plain = |number: u64, most: u64| (number, most, vec![]);
     let rows = machine.mlen / machine.rlen;
-    let mut numbers = match machine.rule {
-        HALVING => vec![plain(2, 2), plain(HALVING, 1)],
-        _ => vec![plain(1, 2)],
-    };
+    let mut numbers: Vec<_> = head(machine.lengths(), machine.rule)
+        .into_iter()
+        .zip([3, 1, 6, 12, 16])
+        .map(|(number, most)| plain(number as u64, most))
+        .collect();
     numbers.extend([
-        plain(machine.rlen.trailing_zeros() as u64, 9),
-        plain(machine.mlen.trailing_zeros() as u64, 12),
         plain(machine.mtype, 1 << 63),
         plain(machine.tile_m, rows),
         plain(machine.tile_k, rows.min(machine.rlen / 8)),

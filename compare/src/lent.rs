@@ -1,7 +1,7 @@
 //! What a host lends, as byte blocks, and both programs over it.
 
 use crate::library;
-use model::{Answer, Bench, Handed, Machine, Plan, Run};
+use model::{Answer, Bench, Handed, Lengths, Machine, Plan, Run};
 use std::fmt::Write;
 
 #[derive(Clone, Debug, PartialEq, Eq)]
@@ -44,6 +44,7 @@ pub fn machine_block(machine: &Machine) -> Vec<u8> {
         machine.seal_start,
         machine.seal_length,
         machine.rule,
+        machine.elen,
     ])
 }
 
@@ -52,9 +53,10 @@ pub fn machine_of(block: &[u8]) -> Option<Machine> {
     if block.len() != library::MACHINE_BYTES {
         return None;
     }
-    let [rlen, mlen, mtype, tile_m, tile_k, tile_n, seal_start, seal_length, rule] =
+    let [rlen, mlen, mtype, tile_m, tile_k, tile_n, seal_start, seal_length, rule, elen] =
         bytes_to_words(block).try_into().unwrap();
-    Some(Machine { rlen, mlen, mtype, tile_m, tile_k, tile_n, seal_start, seal_length, rule })
+    let machine = Machine { rlen, mlen, mtype, rule, elen, ..Machine::default() };
+    Some(Machine { tile_m, tile_k, tile_n, seal_start, seal_length, ..machine })
 }
 
 pub fn handed_block(handed: &Handed) -> Vec<u8> {
@@ -68,7 +70,7 @@ pub fn handed_of(block: &[u8]) -> Handed {
 
 /// A machine that the library started on register bytes and memory, all marks 1
 /// before and all scalars 0.
-pub fn started((rlen, mlen): (u64, u64), rule: u64, registers: Vec<u8>, memory: Vec<u8>) -> Lent {
+pub fn started(lengths: Lengths, rule: u64, registers: Vec<u8>, memory: Vec<u8>) -> Lent {
     let mut lent = Lent {
         machine: vec![0; library::MACHINE_BYTES],
         marks: vec![1; registers.len()],
@@ -77,7 +79,8 @@ pub fn started((rlen, mlen): (u64, u64), rule: u64, registers: Vec<u8>, memory: 
         memory,
     };
     let Lent { machine, registers, marks, .. } = &mut lent;
-    library::start(rlen, mlen, rule, 0, 0, machine, registers, marks);
+    let (rlen, mlen, elen) = lengths;
+    library::start(rlen, mlen, elen, rule, 0, 0, machine, registers, marks);
     lent
 }
 

@@ -5,9 +5,9 @@ use model::Plan;
 
 // The block lengths of the library's header. Machine and run blocks are made of numbers
 // of 8 bytes (src/lent.rs and src/runs/damage.rs have their order).
-pub const MACHINE_BYTES: usize = 72;
+pub const MACHINE_BYTES: usize = 80;
 pub const SCALARS_BYTES: usize = 256;
-pub const RUN_BYTES: usize = 152;
+pub const RUN_BYTES: usize = 160;
 pub const STEP_BYTES: usize = 24;
 pub const STEPS_BYTES: usize = 8;
 
@@ -45,7 +45,7 @@ macro_rules! plan_calls {
 
 calls! {
     start = bodlarina_start(
-        rlen: u64, mlen: u64, rule: u64, seal_start: u64, seal_length: u64;
+        rlen: u64, mlen: u64, elen: u64, rule: u64, seal_start: u64, seal_length: u64;
         machine, registers, marks
     );
     step = bodlarina_step(word: u32; machine, registers, marks, scalars, memory);

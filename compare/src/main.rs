@@ -33,7 +33,7 @@ mod words;
 use std::time::Instant;
 use suite::{Context, Outcome, Suite};
 
-const SUITES: [Suite; 45] = [
+const SUITES: [Suite; 46] = [
     ("bench sheet", sheet::bench_sheet),
     ("machine starts", starts::machine_starts),
     ("codes", steps::codes),
@@ -74,6 +74,7 @@ const SUITES: [Suite; 45] = [
     ("empty run slices", runs::damage::empty_run_slices),
     ("images", images::images),
     ("image versions", images::image_versions),
+    ("image heads", images::image_heads),
     ("faulty images", images::faulty_images),
     ("image buffers", images::image_buffers),
     ("damaged images", images::damaged_images),

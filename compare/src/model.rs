@@ -1,6 +1,6 @@
 //! The second program: the rules of the scope paper and of the change requests
-//! that have landed (One, Two, Three, Four, Six, Seven, Eight; Nine asks for nothing
-//! new), each as one plain function.
+//! that have landed (One, Two, Three, Four, Six, Seven, Eight, Ten; Nine asks for
+//! nothing new), each as one plain function.
 //!
 //! It is written to be read beside the paper, not to be fast. Sizes and
 //! addresses are whole numbers (`i128`), bytes are looked at one by one, and a
@@ -12,9 +12,6 @@ use std::collections::HashMap;
 pub mod floats;
 #[path = "model_images.rs"]
 pub mod images;
-
-/// Widest element in bits.
-pub const ELEN: i128 = 32;
 
 /// mtype's bit 63: the last new value was illegal.
 pub const MILL: u64 = 1 << 63;
@@ -30,6 +27,8 @@ pub struct Machine {
     pub seal_start: u64,
     pub seal_length: u64,
     pub rule: u64,
+    /// The widest element in bits (request Ten).
+    pub elen: u64,
 }
 
 /// The rules by which a machine chooses its tile sizes (request Eight): the smaller of
@@ -61,24 +60,45 @@ fn answer(number: u64) -> Answer {
 // ---------------------------------------------------------------------------
 // What a machine is
 
-const RLENS: [u64; 4] = [64, 128, 256, 512];
-const MLENS: [u64; 6] = [128, 256, 512, 1024, 2048, 4096];
+const RLENS: [u64; 7] = [64, 128, 256, 512, 1024, 2048, 4096];
+const MLENS: [u64; 10] = [128, 256, 512, 1024, 2048, 4096, 8192, 16384, 32768, 65536];
+pub const ELENS: [u64; 2] = [32, 64];
 
-pub fn lengths_permitted(rlen: u64, mlen: u64) -> bool {
-    RLENS.contains(&rlen) && MLENS.contains(&mlen) && rlen < mlen
+/// RLEN, MLEN and ELEN.
+pub type Lengths = (u64, u64, u64);
+
+pub fn lengths_permitted((rlen, mlen, elen): Lengths) -> bool {
+    RLENS.contains(&rlen)
+        && MLENS.contains(&mlen)
+        && ELENS.contains(&elen)
+        && elen < rlen
+        && rlen < mlen
 }
 
-/// Every permitted pair (RLEN, MLEN), small machines first.
-pub fn permitted_lengths() -> Vec<(u64, u64)> {
-    let mut pairs = Vec::new();
-    for mlen in MLENS {
-        for rlen in RLENS {
-            if lengths_permitted(rlen, mlen) {
-                pairs.push((rlen, mlen));
+/// All permitted lengths: ELEN 32 before 64, small machines first.
+pub fn permitted_lengths() -> Vec<Lengths> {
+    let mut permitted = Vec::new();
+    for elen in ELENS {
+        for mlen in MLENS {
+            for rlen in RLENS {
+                if lengths_permitted((rlen, mlen, elen)) {
+                    permitted.push((rlen, mlen, elen));
+                }
             }
         }
     }
-    pairs
+    permitted
+}
+
+impl Machine {
+    pub fn lengths(&self) -> Lengths {
+        (self.rlen, self.mlen, self.elen)
+    }
+
+    /// A machine of some lengths and a rule, its other numbers 0.
+    pub fn of((rlen, mlen, elen): Lengths, rule: u64) -> Machine {
+        Machine { rlen, mlen, elen, rule, ..Machine::default() }
+    }
 }
 
 /// Eight tile registers of MLEN bits and two accumulators of 4 x MLEN bits.
@@ -97,17 +117,16 @@ fn seal_permitted(start: u64, length: u64) -> bool {
 
 /// Starts a machine; `None` is answer 8.
 pub fn start(
-    rlen: u64,
-    mlen: u64,
+    lengths: Lengths,
     rule: u64,
     seal_start: u64,
     seal_length: u64,
     registers: &[u8],
     marks: &mut [u8],
 ) -> Option<Machine> {
-    if !lengths_permitted(rlen, mlen)
+    if !lengths_permitted(lengths)
         || !RULES.contains(&rule)
-        || !buffers_fit(mlen, registers, marks)
+        || !buffers_fit(lengths.1, registers, marks)
         || !seal_permitted(seal_start, seal_length)
     {
         return None;
@@ -115,25 +134,25 @@ pub fn start(
     for mark in marks.iter_mut() {
         *mark = 0;
     }
-    Some(Machine { rlen, mlen, seal_start, seal_length, rule, ..Machine::default() })
+    Some(Machine { seal_start, seal_length, ..Machine::of(lengths, rule) })
 }
 
 /// The values of mtype that can arise.
-fn mtype_can_arise(mtype: u64) -> bool {
-    mtype == MILL || new_mtype(mtype) == mtype
+fn mtype_can_arise(mtype: u64, elen: u64) -> bool {
+    mtype == MILL || new_mtype(mtype, elen) == mtype
 }
 
 /// Answer 8 of a step and of a run's start, but for the scalars.
 pub fn state_at_fault(bench: &Bench) -> bool {
     let machine = &bench.machine;
-    if !lengths_permitted(machine.rlen, machine.mlen) {
+    if !lengths_permitted(machine.lengths()) {
         return true;
     }
     let above_maximum = [Size::M, Size::K, Size::N]
         .iter()
         .any(|&size| tile_size(machine, size) > maximum(machine, size, 8));
     !buffers_fit(machine.mlen, &bench.registers, &bench.marks)
-        || !mtype_can_arise(machine.mtype)
+        || !mtype_can_arise(machine.mtype, machine.elen)
         || above_maximum
         || !seal_permitted(machine.seal_start, machine.seal_length)
         || !RULES.contains(&machine.rule)
@@ -588,11 +607,12 @@ fn maccq(mtype: u64) -> bool {
 }
 
 /// What mtype becomes when `value` is asked for.
-fn new_mtype(value: u64) -> u64 {
+pub fn new_mtype(value: u64, elen: u64) -> u64 {
+    let elen = elen as i128;
     let illegal = value & 7 >= 4
         || value >> 4 != 0
-        || sew(value) > ELEN
-        || (maccq(value) && 4 * sew(value) > ELEN);
+        || sew(value) > elen
+        || (maccq(value) && 4 * sew(value) > elen);
     if illegal {
         MILL
     } else {
@@ -768,7 +788,8 @@ pub fn sealed(machine: &Machine, address: i128) -> bool {
 // The answers of a step
 
 /// Answer 3.
-pub fn width_rule_broken(kind: Kind, mtype: u64) -> bool {
+pub fn width_rule_broken(kind: Kind, mtype: u64, elen: u64) -> bool {
+    let elen = elen as i128;
     let sew = sew(mtype);
     let maccq = maccq(mtype);
     match kind {
@@ -776,11 +797,11 @@ pub fn width_rule_broken(kind: Kind, mtype: u64) -> bool {
         Load(A | B, eew, _) | Store(A | B, eew, _) => eew != sew,
         Load(C, eew, _) | Store(C, eew, _) => {
             let fits = eew == sew || eew == 2 * sew || (maccq && eew == 4 * sew);
-            !fits || eew > ELEN
+            !fits || eew > elen
         }
         Multiply(f) | Add(f) | Subtract(f) | ReverseSubtract(f) | Scale(f) => match f {
             1 => false,
-            2 => 2 * sew > ELEN,
+            2 => 2 * sew > elen,
             _ => !maccq,
         },
         FloatMultiply => sew != 32,
@@ -846,7 +867,7 @@ pub fn step(word: u32, bench: &mut Bench, scalars: &mut [u64]) -> Answer {
     if bench.machine.mtype & MILL != 0 && instruction.row.kind != SetType {
         return answer(2);
     }
-    if width_rule_broken(instruction.row.kind, bench.machine.mtype) {
+    if width_rule_broken(instruction.row.kind, bench.machine.mtype, bench.machine.elen) {
         return answer(3);
     }
     if size_too_large(&instruction, &bench.machine) {
@@ -891,7 +912,7 @@ fn set_type(instruction: &Instruction, machine: &mut Machine, scalars: &mut [u64
         Some(immediate) => immediate as u64,
         None => scalar(scalars, instruction.get("rs1")),
     };
-    machine.mtype = new_mtype(asked);
+    machine.mtype = new_mtype(asked, machine.elen);
     set_scalar(scalars, instruction.get("rd"), machine.mtype);
 }
 
@@ -963,6 +984,8 @@ fn write_tile(bench: &mut Bench, tile: Tile, values: &[Vec<i128>]) {
     }
 }
 
+/// Sums of 64-bit products can exceed an `i128`: they are kept modulo 2^128, of which
+/// every width takes the low bits.
 fn multiply(instruction: &Instruction, bench: &mut Bench) {
     let machine = bench.machine;
     let sew = sew(machine.mtype);
@@ -973,7 +996,7 @@ fn multiply(instruction: &Instruction, bench: &mut Bench) {
     for i in 0..machine.tile_m as usize {
         for j in 0..machine.tile_n as usize {
             for l in 0..machine.tile_k as usize {
-                c[i][j] += a[i][l] * b[l][j];
+                c[i][j] = c[i][j].wrapping_add(a[i][l] * b[l][j]);
             }
         }
     }
@@ -1125,11 +1148,11 @@ pub struct Run {
     pub place: usize,
 }
 
-pub fn plan_numbers_bad(plan: &Plan) -> bool {
+pub fn plan_numbers_bad(plan: &Plan, elen: u64) -> bool {
     !KINDS.contains(&plan.kind)
-        || ![8, 16, 32].contains(&plan.sew)
+        || ![8, 16, 32, 64].contains(&plan.sew)
         || ![1, 2, 4].contains(&plan.factor)
-        || plan.factor as i128 * plan.sew as i128 > ELEN
+        || plan.factor as i128 * plan.sew as i128 > elen as i128
         || plan.kind == FLOAT && (plan.sew, plan.factor) != (32, 1)
         || [plan.m, plan.k, plan.n].iter().any(|&size| size > 1024)
 }
@@ -1152,7 +1175,7 @@ pub fn overlaps(plan: &Plan, machine: &Machine) -> [bool; 4] {
 
 /// Starts a run; an error is the answer's number.
 pub fn run_start(plan: &Plan, bench: &Bench) -> Result<Run, u64> {
-    if state_at_fault(bench) || plan_numbers_bad(plan) {
+    if state_at_fault(bench) || plan_numbers_bad(plan, bench.machine.elen) {
         return Err(8);
     }
     if plan_outside_memory(plan, &bench.memory) {
@@ -1207,7 +1230,8 @@ fn steps_of(plan: &Plan, machine: &Machine) -> Vec<Handed> {
     let msew = match plan.sew {
         8 => 0,
         16 => 1,
-        _ => 2,
+        32 => 2,
+        _ => 3,
     };
 
     let mut steps = vec![set("msettypei", maccq + msew)];
@@ -1300,11 +1324,11 @@ pub fn product(plan: &Plan, memory: &[u8]) -> Vec<Vec<i128>> {
         if plan.kind == FLOAT {
             floats::accumulated(0, terms.map(|(a, b)| (a as u32, b as u32))) as i128
         } else {
-            terms.map(|(a, b)| a * b).sum()
+            terms.map(|(a, b)| a * b).fold(0, i128::wrapping_add)
         }
     };
     let reduced = |value: i128| {
-        let mut bytes = [0; 4];
+        let mut bytes = [0; 8];
         let bytes = &mut bytes[..(plan.factor * plan.sew / 8) as usize];
         put(value, bytes);
         signed(bytes)

@@ -1,10 +1,12 @@
-//! Machine images (request Six), and those of halving machines (request Eight).
+//! Machine images (request Six), those of halving machines (request Eight) and those of
+//! larger machines (request Ten).
 //!
 //! The reader is the rules turned round: of each number it knows which ones some
 //! accepted image has there, after all that stands before. A byte is at fault as
 //! soon as none of them begins with the groups read so far.
 
 use super::*;
+use std::sync::OnceLock;
 
 /// A number in groups of seven bits, low group first, the top bit set on all but
 /// the last, in the shortest form.
@@ -31,6 +33,34 @@ pub fn runs(marks: &[u8]) -> Vec<std::ops::Range<usize>> {
     runs
 }
 
+/// Whether a machine is within the bounds of 01, which knows no other ELEN than 32.
+fn within_old_bounds(machine: &Machine) -> bool {
+    machine.rlen <= 512 && machine.mlen <= 4096 && machine.elen == 32
+}
+
+/// The numbers of an image up to the exponent of MLEN: the lowest version that can hold
+/// the machine, what that version has of rule and ELEN, and the exponents.
+fn head(machine: &Machine) -> Vec<u64> {
+    let exponent = |length: u64| length.ilog2() as u64;
+    let mut head = match machine.rule {
+        rule if !within_old_bounds(machine) => vec![3, rule, exponent(machine.elen)],
+        HALVING => vec![2, HALVING],
+        _ => vec![1],
+    };
+    head.extend([exponent(machine.rlen), exponent(machine.mlen)]);
+    head
+}
+
+/// The heads of all images, each with its machine's lengths and rule.
+fn heads() -> &'static [(Vec<u64>, Machine)] {
+    static HEADS: OnceLock<Vec<(Vec<u64>, Machine)>> = OnceLock::new();
+    HEADS.get_or_init(|| {
+        let lengths = permitted_lengths().into_iter();
+        let machines = lengths.flat_map(|lengths| RULES.map(|rule| Machine::of(lengths, rule)));
+        machines.map(|machine| (head(&machine), machine)).collect()
+    })
+}
+
 /// The image of a machine; `None` is answer 8.
 pub fn image(bench: &Bench) -> Option<Vec<u8>> {
     if state_at_fault(bench) {
@@ -38,14 +68,7 @@ pub fn image(bench: &Bench) -> Option<Vec<u8>> {
     }
     let machine = &bench.machine;
     let runs = runs(&bench.marks);
-    // A halving machine has version 2, with its rule after it.
-    let version = match machine.rule {
-        HALVING => vec![2, HALVING],
-        _ => vec![1],
-    };
     let numbers = [
-        machine.rlen.ilog2() as u64,
-        machine.mlen.ilog2() as u64,
         machine.mtype,
         machine.tile_m,
         machine.tile_k,
@@ -54,7 +77,7 @@ pub fn image(bench: &Bench) -> Option<Vec<u8>> {
         machine.seal_length,
         runs.len() as u64,
     ];
-    let mut image: Vec<u8> = version.into_iter().chain(numbers).flat_map(groups).collect();
+    let mut image: Vec<u8> = head(machine).into_iter().chain(numbers).flat_map(groups).collect();
     let mut end = 0;
     for run in runs {
         image.extend(groups((run.start - end) as u64));
@@ -146,21 +169,26 @@ impl Reader {
         (0..count).map(|_| self.byte(first, |_| true)).collect()
     }
 
+    /// Number by number, each one that some head has after those read so far.
+    fn head(&mut self) -> Result<Machine, usize> {
+        let mut left: Vec<_> = heads().iter().collect();
+        let mut read = 0;
+        while read < left[0].0.len() {
+            let mut next: Vec<u64> = left.iter().map(|(head, _)| head[read]).collect();
+            next.sort();
+            next.dedup();
+            let number = self.number(Permitted::OneOf(next))?;
+            left.retain(|(head, _)| head[read] == number);
+            read += 1;
+        }
+        Ok(left[0].1)
+    }
+
     fn machine(&mut self) -> Result<Machine, usize> {
-        let exponents = |lengths: Vec<u64>| {
-            Permitted::OneOf(lengths.iter().map(|length| length.ilog2() as u64).collect())
-        };
-        let rule = match self.number(Permitted::OneOf(vec![1, 2]))? {
-            2 => self.number(Permitted::OneOf(vec![HALVING]))?,
-            _ => SMALLER,
-        };
-        let pairs = permitted_lengths();
-        let rlen = 1 << self.number(exponents(pairs.iter().map(|pair| pair.0).collect()))?;
-        let with_rlen = pairs.iter().filter(|pair| pair.0 == rlen);
-        let mlen = 1 << self.number(exponents(with_rlen.map(|pair| pair.1).collect()))?;
-        let mtypes = (0..16).chain([MILL]).filter(|&mtype| mtype_can_arise(mtype));
-        let mtype = self.number(Permitted::OneOf(mtypes.collect()))?;
-        let mut machine = Machine { rlen, mlen, mtype, rule, ..Machine::default() };
+        let mut machine = self.head()?;
+        let arising = |mtype: &u64| mtype_can_arise(*mtype, machine.elen);
+        let mtypes = (0..16).chain([MILL]).filter(arising).collect();
+        machine.mtype = self.number(Permitted::OneOf(mtypes))?;
         for size in [Size::M, Size::K, Size::N] {
             let widest = maximum(&machine, size, 8) as u64;
             let asked = self.number(Permitted::Range(0, widest))?;

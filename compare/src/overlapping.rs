@@ -8,9 +8,13 @@ use crate::boundaries::{
 };
 use crate::lent::state_text;
 use crate::random::Random;
-use crate::states::{put_state_fault, set_size, unmark_source, Case, MTYPES, SIZES};
+use crate::states::{
+    fitting_mtypes, mtypes, put_state_fault, set_size, unmark_source, usual_lengths, Case, SIZES,
+};
 use crate::suite::{check_step, each_case, Context, Outcome};
-use model::{maximum, memory_shape, sew, Kind, Machine, Row, Size, LISTING, MILL};
+use model::{
+    maximum, memory_shape, sew, Kind, Lengths, Machine, Row, Size, LISTING, MILL, SMALLER,
+};
 
 // ---------------------------------------------------------------------------
 // Every machine, load, store and mtype
@@ -18,13 +22,9 @@ use model::{maximum, memory_shape, sew, Kind, Machine, Row, Size, LISTING, MILL}
 /// Every load and store of every machine under every mtype that permits it, with
 /// strides around its rows.
 pub fn overlapping_rows(context: &mut Context) -> Outcome {
-    let lengths = model::permitted_lengths();
-    let moves = moves();
-    let count = (lengths.len() * moves.len()) as u64;
-    each_case(context, "overlapping rows", count, |case, random, tally| {
-        let (row, mtype) = moves[case as usize % moves.len()];
-        let (rlen, mlen) = lengths[case as usize / moves.len()];
-        let machine = Machine { rlen, mlen, mtype, ..Machine::default() };
+    let moves: Vec<_> = usual_lengths().into_iter().flat_map(moves).collect();
+    each_case(context, "overlapping rows", moves.len() as u64, |case, random, tally| {
+        let (machine, row) = moves[case as usize];
         for machine in shapes(random, row, machine) {
             let row_bytes = moving_on(random, row, &machine).row_bytes as i64;
             for stride in strides(row_bytes) {
@@ -46,11 +46,15 @@ pub fn overlapping_rows(context: &mut Context) -> Outcome {
     })
 }
 
-fn moves() -> Vec<(&'static Row, u64)> {
+/// A machine with each row and mtype that fits it.
+fn moves(lengths: Lengths) -> Vec<(Machine, &'static Row)> {
+    let machine = |mtype| Machine { mtype, ..Machine::of(lengths, SMALLER) };
     let rows = LISTING.iter().filter(|row| is_load(row) || is_store(row));
-    rows.flat_map(|row| MTYPES.map(|mtype| (row, mtype)))
-        .filter(|(row, mtype)| !model::width_rule_broken(row.kind, *mtype))
-        .collect()
+    rows.flat_map(|row| {
+        let mtypes = fitting_mtypes(row.kind, lengths.2).into_iter();
+        mtypes.map(move |mtype| (machine(mtype), row))
+    })
+    .collect()
 }
 
 /// Rows and columns in memory of the tile that a load or store moves.
@@ -246,8 +250,9 @@ fn and_before(random: &mut Random) -> Made {
     let mut case = laid_over_itself(random, is_store);
     let mut machine = case.lent.machine();
     let kind = model::decode(case.word).expect("a store").row.kind;
-    let broken: Vec<u64> =
-        MTYPES.into_iter().filter(|&mtype| model::width_rule_broken(kind, mtype)).collect();
+    let fitting = fitting_mtypes(kind, machine.elen);
+    let legal = mtypes(machine.elen).iter().copied();
+    let broken: Vec<u64> = legal.filter(|mtype| !fitting.contains(mtype)).collect();
     let too_large = SIZES.into_iter().find(|&size| {
         let Kind::Store(matrix, ..) = kind else { return false };
         let (rows, columns) = model::shape(matrix);

@@ -6,7 +6,7 @@
 use crate::lent::{library_step, state_text, Lent};
 use crate::library;
 use crate::random::Random;
-use crate::states::{bad_word, bench_of, good_machine, MTYPES};
+use crate::states::{bad_word, bench_of, good_machine, mtypes};
 use crate::steps::following_word;
 use crate::suite::{each_case, Context, Outcome};
 use crate::tally::ANSWERS;
@@ -140,14 +140,13 @@ fn mark_partly(random: &mut Random, lent: &mut Lent) {
 
 /// A pair that is partly marked, or was just started.
 fn any_pair(random: &mut Random) -> Result<Pair, String> {
-    let mtype = random.pick(&MTYPES);
-    let machine = good_machine(random, mtype);
+    let machine = good_machine(random);
     let mut lent = bench_of(random, &machine);
     lent.memory = random.bytes(1500);
     for slot in 1..32 {
         // Addresses, then strides; an mtype is taken from x6.
         let value = match slot {
-            6 => random.pick(&MTYPES),
+            6 => random.pick(mtypes(machine.elen)),
             1..=15 => random.below(700),
             _ => random.below(100).wrapping_sub(15),
         };
@@ -162,8 +161,8 @@ fn any_pair(random: &mut Random) -> Result<Pair, String> {
     let (seal_start, seal_length) = (random.below(1500), random.below(20));
     pair.call("start of a machine", |side| {
         let Lent { machine: block, registers, marks, .. } = &mut side.lent;
-        let Machine { rlen, mlen, rule, .. } = machine;
-        library::start(rlen, mlen, rule, seal_start, seal_length, block, registers, marks)
+        let Machine { rlen, mlen, elen, rule, .. } = machine;
+        library::start(rlen, mlen, elen, rule, seal_start, seal_length, block, registers, marks)
     })?;
     Ok(pair)
 }

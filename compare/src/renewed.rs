@@ -3,10 +3,10 @@
 
 use crate::lent::Lent;
 use crate::random::Random;
-use crate::states::{bench_of, set_size, MTYPES, SIZES};
+use crate::states::{bench_of, mtypes, set_size, usual_lengths, SIZES};
 use crate::suite::{check_step, each_case, Context, Outcome};
 use crate::tally::Tally;
-use model::{maximum, sew, tile_size, Machine, Size, RULES};
+use model::{maximum, sew, tile_size, Lengths, Machine, Size, RULES};
 
 /// The settings by a scalar, and the sizes they set.
 pub const SETTINGS: [(&str, Size); 3] =
@@ -14,23 +14,30 @@ pub const SETTINGS: [(&str, Size); 3] =
 
 /// Every machine of either rule, and every change from one legal mtype to another.
 pub fn renewed_sizes(context: &mut Context) -> Outcome {
-    let lengths = model::permitted_lengths();
-    let changes = MTYPES.len() * MTYPES.len();
-    let machines = lengths.len() * changes;
-    let count = (RULES.len() * machines) as u64;
+    let changes = changes(&usual_lengths());
+    let count = (RULES.len() * changes.len()) as u64;
     each_case(context, "renewed sizes", count, |case, random, tally| {
-        let change = case as usize % changes;
-        let (from, to) = (MTYPES[change / MTYPES.len()], MTYPES[change % MTYPES.len()]);
-        let rule = RULES[case as usize / machines];
-        let mut lent = sized_bench(random, lengths[case as usize % machines / changes], rule, from);
+        let (lengths, from, to) = changes[case as usize / 2];
+        let mut lent = sized_bench(random, lengths, RULES[case as usize % 2], from);
         renew(&mut lent, to, tally)?;
         move_tiles(&mut lent, to, tally)
     })
 }
 
+/// Every change between legal mtypes of some machines.
+fn changes(lengths: &[Lengths]) -> Vec<(Lengths, u64, u64)> {
+    let mut changes = Vec::new();
+    for &lengths in lengths {
+        for &from in mtypes(lengths.2) {
+            changes.extend(mtypes(lengths.2).iter().map(|&to| (lengths, from, to)));
+        }
+    }
+    changes
+}
+
 /// A bench with sizes at or below their maxima under mtype.
-fn sized_bench(random: &mut Random, (rlen, mlen): (u64, u64), rule: u64, mtype: u64) -> Lent {
-    let mut machine = Machine { rlen, mlen, mtype, rule, ..Machine::default() };
+fn sized_bench(random: &mut Random, lengths: Lengths, rule: u64, mtype: u64) -> Lent {
+    let mut machine = Machine { mtype, ..Machine::of(lengths, rule) };
     for size in SIZES {
         let limit = maximum(&machine, size, sew(mtype));
         let value = random.pick(&[limit, limit, limit, limit - 1, limit / 2 + 1, 1, 0]);

@@ -7,11 +7,12 @@ use crate::library;
 use crate::random::Random;
 use crate::renewed::SETTINGS;
 use crate::states::{
-    any_machine, any_row, bench_of, good_case, lengths, set_size, MTYPES, UNKNOWN_RULES,
+    any_machine, any_row, bench_of, good_case, lengths, mtypes, set_size, usual_lengths,
+    UNKNOWN_RULES,
 };
 use crate::suite::{check_step, each_case, Context, Outcome};
 use crate::tally::{Call, Tally};
-use model::{maximum, sew, tile_size, Machine, Size, HALVING, RULES};
+use model::{maximum, sew, tile_size, Lengths, Machine, Size, HALVING, RULES};
 
 // ---------------------------------------------------------------------------
 // Asked sizes
@@ -19,17 +20,15 @@ use model::{maximum, sew, tile_size, Machine, Size, HALVING, RULES};
 /// Every machine, mtype, size and rule: all asked sizes up to beyond twice the maximum,
 /// and large ones, by each form of the setting.
 pub fn asked_sizes(context: &mut Context) -> Outcome {
-    let lengths = model::permitted_lengths();
-    let each = MTYPES.len() * SETTINGS.len() * RULES.len();
-    let count = (lengths.len() * each) as u64;
+    let machines = machines_of(&usual_lengths());
+    let each = SETTINGS.len() * RULES.len();
+    let count = (machines.len() * each) as u64;
     let (mut asked, mut halved) = (0, 0);
     let cases = each_case(context, "asked sizes", count, |case, random, tally| {
-        let (rlen, mlen) = lengths[case as usize / each];
-        let case = case as usize % each;
-        let rule = RULES[case % 2];
-        let mtype = MTYPES[case / 2 % MTYPES.len()];
-        let (name, size) = SETTINGS[case / 2 / MTYPES.len()];
-        let machine = Machine { rlen, mlen, mtype, rule, ..Machine::default() };
+        let (lengths, mtype) = machines[case as usize / each];
+        let rule = RULES[case as usize % 2];
+        let (name, size) = SETTINGS[case as usize / 2 % SETTINGS.len()];
+        let machine = Machine { mtype, ..Machine::of(lengths, rule) };
         let mut lent = bench_of(random, &machine);
         let most = maximum(&machine, size, sew(mtype)) as u64;
         for number in numbers(random, most) {
@@ -45,6 +44,12 @@ pub fn asked_sizes(context: &mut Context) -> Outcome {
         return Err(text);
     }
     Ok(text)
+}
+
+/// Lengths with each legal mtype.
+pub fn machines_of(lengths: &[Lengths]) -> Vec<(Lengths, u64)> {
+    let with_mtypes = |&lengths: &Lengths| mtypes(lengths.2).iter().map(move |&to| (lengths, to));
+    lengths.iter().flat_map(with_mtypes).collect()
 }
 
 /// All up to beyond twice the maximum, then large ones.
@@ -148,7 +153,7 @@ pub fn unknown_rules(context: &mut Context) -> Outcome {
         let row = any_row(random);
         let good = good_case(random, row);
         refused(rule, good.lent, |lent| library_step(good.word, lent))?;
-        tally.step(good.word, 8);
+        tally.step(good.word, 8, None);
 
         let lengths = lengths(random);
         let machine = any_machine(random, lengths);
@@ -163,10 +168,10 @@ pub fn unknown_rules(context: &mut Context) -> Outcome {
         }
         tally.count(Call::ImageWrite, 8);
 
-        let (rlen, mlen) = lengths;
+        let (rlen, mlen, elen) = lengths;
         refused(rule, lent, |lent| {
             let Lent { machine, registers, marks, .. } = lent;
-            library::start(rlen, mlen, rule, 0, 0, machine, registers, marks)
+            library::start(rlen, mlen, elen, rule, 0, 0, machine, registers, marks)
         })?;
         tally.count(Call::MachineStart, 8);
         Ok(())

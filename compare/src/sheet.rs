@@ -8,7 +8,7 @@ use model::{assemble, Matrix, Plan, MILL, RULES};
 
 /// A started machine of MLEN 256 and RLEN 64.
 fn started_by(rule: u64, memory: usize) -> Lent {
-    crate::lent::started((64, 256), rule, vec![0; model::register_bytes(256)], vec![0; memory])
+    crate::lent::started((64, 256, 32), rule, vec![0; model::register_bytes(256)], vec![0; memory])
 }
 
 fn answer(word: u32, lent: &mut Lent) -> u64 {
@@ -118,10 +118,12 @@ fn run_lines(rule: u64) -> Vec<(&'static str, bool)> {
     for (at, count) in [2049, 1029, 898].into_iter().enumerate() {
         let sized = |size| std::array::from_fn(|size_at| if size_at == at { size } else { 1 });
         let [m, k, n] = sized(1024);
-        let ran = product(&plan(8, 4, [m, k, n]), &vec![1; (m * k) as usize], &vec![1; (k * n) as usize]);
+        let ran =
+            product(&plan(8, 4, [m, k, n]), &vec![1; (m * k) as usize], &vec![1; (k * n) as usize]);
         lines.push(("size 1,024", ran == (count, vec![i128::from(k); (m * n) as usize])));
         let mut run = vec![0; library::RUN_BYTES];
-        let start = library_run_start(&plan(8, 4, sized(1025)), &mut started_by(rule, 8192), &mut run);
+        let start =
+            library_run_start(&plan(8, 4, sized(1025)), &mut started_by(rule, 8192), &mut run);
         lines.push(("size 1,025", start == 8));
     }
 

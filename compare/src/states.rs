@@ -4,7 +4,9 @@
 use crate::float_numbers;
 use crate::lent::{machine_block, words_to_bytes, Lent};
 use crate::random::Random;
-use model::{maximum, sew, Kind, Machine, Matrix, Row, Size, LEFT_OUT, LISTING, MILL, RULES};
+use model::{
+    maximum, sew, Kind, Lengths, Machine, Matrix, Row, Size, LEFT_OUT, LISTING, MILL, RULES,
+};
 
 pub struct Case {
     pub word: u32,
@@ -12,23 +14,84 @@ pub struct Case {
 }
 
 pub const SIZES: [Size; 3] = [Size::M, Size::K, Size::N];
-pub const MTYPES: [u64; 4] = [0, 1, 2, 8];
+
+/// The legal values of mtype: 64 bits, and 4 x 16 bits, at ELEN 64 alone.
+pub fn mtypes(elen: u64) -> &'static [u64] {
+    match elen {
+        64 => &[0, 1, 2, 3, 8, 9],
+        _ => &[0, 1, 2, 8],
+    }
+}
+
 /// SEW and factor of the outputs that are permitted.
 pub const WIDTHS: [(u64, u64); 6] = [(8, 1), (8, 2), (8, 4), (16, 1), (16, 2), (32, 1)];
+/// Those that are permitted at ELEN 64 alone.
+pub const WIDTHS_TO_64: [(u64, u64); 3] = [(64, 1), (32, 2), (16, 4)];
+
+/// One that an ELEN permits.
+pub fn any_widths(random: &mut Random, elen: u64) -> (u64, u64) {
+    if elen == 64 && random.chance(40) {
+        random.pick(&WIDTHS_TO_64)
+    } else {
+        random.pick(&WIDTHS)
+    }
+}
 
 /// Numbers that are no rule of a machine.
 pub const UNKNOWN_RULES: [u64; 8] =
     [2, 3, 256, 257, 1 << 32, (1 << 32) + 1, (1 << 63) + 1, u64::MAX];
 
-/// A permitted pair (RLEN, MLEN), small machines more often.
-pub fn lengths(random: &mut Random) -> (u64, u64) {
-    let pairs = model::permitted_lengths();
+/// Numbers that are no ELEN.
+pub const UNKNOWN_ELENS: [u64; 14] =
+    [0, 1, 5, 6, 8, 16, 31, 33, 63, 65, 128, 1 << 32, (1 << 32) + 32, u64::MAX];
+
+/// Whether RLEN or MLEN is beyond the bounds of document 01 (request Ten).
+pub fn is_larger((rlen, mlen, _): Lengths) -> bool {
+    rlen > 512 || mlen > 4096
+}
+
+/// The permitted lengths of document 01, small machines first.
+pub fn old_lengths() -> Vec<Lengths> {
+    usual_lengths().into_iter().filter(|lengths| lengths.2 == 32).collect()
+}
+
+/// The same and those of ELEN 64 within the same bounds.
+pub fn usual_lengths() -> Vec<Lengths> {
+    model::permitted_lengths().into_iter().filter(|&lengths| !is_larger(lengths)).collect()
+}
+
+/// The permitted lengths beyond these bounds.
+pub fn larger_lengths() -> Vec<Lengths> {
+    model::permitted_lengths().into_iter().filter(|&lengths| is_larger(lengths)).collect()
+}
+
+/// Permitted lengths, small machines more often, those of request Ten seldom.
+pub fn lengths(random: &mut Random) -> Lengths {
+    let lengths = match random.below(100) {
+        0 => larger_lengths(),
+        1..=29 => lengths_at_64(),
+        _ => old_lengths(),
+    };
     let among = match random.below(10) {
         0..=5 => 3,
         6..=8 => 9,
-        _ => pairs.len(),
+        _ => lengths.len(),
     };
-    random.pick(&pairs[..among])
+    random.pick(&lengths[..among])
+}
+
+/// Lengths of ELEN 64 within the bounds of document 01.
+pub fn lengths_at_64() -> Vec<Lengths> {
+    usual_lengths().into_iter().filter(|lengths| lengths.2 == 64).collect()
+}
+
+/// Lengths of an ELEN at which an instruction keeps the width rules, mostly.
+pub fn lengths_for(random: &mut Random, kind: Kind) -> Lengths {
+    let lengths = lengths(random);
+    if fitting_mtypes(kind, lengths.2).is_empty() && random.chance(80) {
+        return random.pick(&lengths_at_64());
+    }
+    lengths
 }
 
 pub fn set_size(machine: &mut Machine, size: Size, value: i128) {
@@ -50,26 +113,54 @@ pub fn size_up_to(random: &mut Random, limit: i128) -> i128 {
 }
 
 /// A machine with a legal mtype and sizes within the maxima, of either rule.
-pub fn good_machine(random: &mut Random, mtype: u64) -> Machine {
+pub fn good_machine(random: &mut Random) -> Machine {
     let lengths = lengths(random);
+    let mtype = random.pick(mtypes(lengths.2));
+    machine_within(random, lengths, mtype, sew(mtype))
+}
+
+/// The same with an mtype under which an instruction keeps the width rules, mostly.
+pub fn machine_fitting(random: &mut Random, kind: Kind) -> Machine {
+    let lengths = lengths_for(random, kind);
+    machine_fitting_on(random, lengths, kind)
+}
+
+pub fn machine_fitting_on(random: &mut Random, lengths: Lengths, kind: Kind) -> Machine {
+    let mtype = fitting_mtype(random, kind, lengths.2);
     machine_within(random, lengths, mtype, sew(mtype))
 }
 
 /// A machine that is not at fault, of any mtype that can arise.
-pub fn any_machine(random: &mut Random, lengths: (u64, u64)) -> Machine {
-    let mtype = if random.chance(20) { MILL } else { random.pick(&MTYPES) };
+pub fn any_machine(random: &mut Random, lengths: Lengths) -> Machine {
+    let mtype = if random.chance(20) { MILL } else { random.pick(mtypes(lengths.2)) };
     machine_within(random, lengths, mtype, 8)
 }
 
 /// A machine whose sizes are within their maxima at a SEW.
-fn machine_within(random: &mut Random, (rlen, mlen): (u64, u64), mtype: u64, sew: i128) -> Machine {
+fn machine_within(random: &mut Random, lengths: Lengths, mtype: u64, sew: i128) -> Machine {
     let rule = random.pick(&RULES);
-    let mut machine = Machine { rlen, mlen, mtype, rule, ..Machine::default() };
-    for size in SIZES {
-        let limit = maximum(&machine, size, sew);
+    let mut machine = Machine { mtype, ..Machine::of(lengths, rule) };
+    let limits = limits(random, &machine, sew);
+    for (size, limit) in SIZES.into_iter().zip(limits) {
         set_size(&mut machine, size, size_up_to(random, limit));
     }
     machine
+}
+
+/// The maxima at a SEW; of a larger machine mostly all small, or all but one, since the
+/// second program takes its time for a whole tile.
+pub fn limits(random: &mut Random, machine: &Machine, sew: i128) -> [i128; 3] {
+    let mut limits = SIZES.map(|size| maximum(machine, size, sew));
+    if is_larger(machine.lengths()) && !random.chance(4) {
+        let long = random.below(4) as usize;
+        let most = if long < 3 { 5 } else { 24 };
+        for (at, limit) in limits.iter_mut().enumerate() {
+            if at != long {
+                *limit = most.min(*limit);
+            }
+        }
+    }
+    limits
 }
 
 /// Register bytes: any, or those at the ends of the number range.
@@ -147,7 +238,7 @@ pub fn place_rows(random: &mut Random, rows: i128, row_bytes: i128) -> (u64, i64
     };
     let spread = (rows - 1).max(0) * stride as i128;
     let extent = spread.abs() + row_bytes;
-    if rows == 0 || row_bytes == 0 || extent > 20_000 {
+    if rows == 0 || row_bytes == 0 || extent > 20_000.max(2 * rows * row_bytes) {
         // No element, or no memory that could hold it.
         return (any_scalar(random), stride, random.below(64) as usize);
     }
@@ -214,14 +305,9 @@ fn operand(operands: &[(&str, u32)], name: &str) -> u32 {
     operands.iter().find(|(other, _)| *other == name).expect("a known operand").1
 }
 
-/// A row of the listing; 64-bit loads and stores seldom.
+/// A row of the listing.
 pub fn any_row(random: &mut Random) -> &'static Row {
-    loop {
-        let row = &LISTING[random.below(LISTING.len() as u64) as usize];
-        if !row.name.contains("64") || random.chance(10) {
-            return row;
-        }
-    }
+    &LISTING[random.below(LISTING.len() as u64) as usize]
 }
 
 /// The register fields of a row, and how many registers each can name.
@@ -269,12 +355,17 @@ pub fn bad_word(random: &mut Random, word: u32) -> u32 {
     }
 }
 
-/// An mtype under which an instruction keeps the width rules, if there is one.
-pub fn fitting_mtype(random: &mut Random, kind: Kind) -> u64 {
-    let fitting: Vec<u64> =
-        MTYPES.into_iter().filter(|&mtype| !model::width_rule_broken(kind, mtype)).collect();
+/// The values of mtype under which an instruction keeps the width rules.
+pub fn fitting_mtypes(kind: Kind, elen: u64) -> Vec<u64> {
+    let fits = |mtype: &u64| !model::width_rule_broken(kind, *mtype, elen);
+    mtypes(elen).iter().copied().filter(fits).collect()
+}
+
+/// One of them, if there is one.
+pub fn fitting_mtype(random: &mut Random, kind: Kind, elen: u64) -> u64 {
+    let fitting = fitting_mtypes(kind, elen);
     if fitting.is_empty() {
-        random.pick(&MTYPES)
+        random.pick(mtypes(elen))
     } else {
         random.pick(&fitting)
     }
@@ -296,23 +387,28 @@ fn asked_value(random: &mut Random, kind: Kind, machine: &Machine) -> u64 {
 }
 
 /// A multiplier: with low bits of 0, at an end, or any.
-fn multiplier(random: &mut Random) -> u64 {
+pub fn multiplier(random: &mut Random) -> u64 {
+    let ends = [0x80, 0x7F, 0x8000, 0x7FFF, 0x8000_0000, 0x7FFF_FFFF, 1 << 63, (1 << 63) - 1];
     match random.below(4) {
-        0 => random.next() << random.pick(&[8, 16, 32]),
-        1 => random.pick(&[0, 1, u64::MAX, 0x80, 0x7F, 0x8000, 0x7FFF, 0x8000_0000, 0x7FFF_FFFF]),
+        0 => random.next() << random.pick(&[8, 16, 32, 63]),
+        1 if random.chance(30) => random.pick(&[0, 1, u64::MAX]),
+        1 => random.pick(&ends),
         _ => any_scalar(random),
     }
 }
 
 /// A case that is done, or nearly so (x0 as an address may lie outside).
 pub fn good_case(random: &mut Random, row: &'static Row) -> Case {
-    let kind = row.kind;
-    let mtype = fitting_mtype(random, kind);
-    let machine = good_machine(random, mtype);
-    let mut lent = bench_of(random, &machine);
-    let operands = good_operands(random, kind);
+    let machine = machine_fitting(random, row.kind);
+    case_of(random, row, &machine)
+}
+
+/// The same on a machine.
+pub fn case_of(random: &mut Random, row: &'static Row, machine: &Machine) -> Case {
+    let mut lent = bench_of(random, machine);
+    let operands = good_operands(random, row.kind);
     let word = model::assemble(row.name, &operands);
-    aim(random, kind, &operands, &mut lent);
+    aim(random, row.kind, &operands, &mut lent);
     Case { word, lent }
 }
 
@@ -345,7 +441,11 @@ pub fn put_faults(random: &mut Random, case: &mut Case, percent: u64) {
         machine.mtype = MILL;
     }
     if random.chance(percent) {
-        machine.mtype = random.pick(&MTYPES);
+        machine.mtype = random.pick(mtypes(machine.elen));
+    }
+    if random.chance(percent / 2) {
+        // The other ELEN, at which mtype can't arise or less is permitted.
+        machine.elen = 96 - machine.elen;
     }
     if random.chance(percent) {
         raise_sizes(random, &mut machine);
@@ -449,13 +549,13 @@ fn move_end_of_memory(random: &mut Random, lent: &mut Lent) {
 
 /// Puts in a fault of the state (answer 8) of any kind.
 pub fn put_state_fault(random: &mut Random, lent: &mut Lent) {
-    let kind = random.below(11);
+    let kind = random.below(12);
     state_fault(random, lent, kind);
 }
 
 /// The same but for the scalars, of which a run is lent none.
 pub fn put_bench_fault(random: &mut Random, lent: &mut Lent) {
-    let kind = random.below(10);
+    let kind = random.below(11);
     state_fault(random, lent, kind);
 }
 
@@ -463,14 +563,15 @@ fn state_fault(random: &mut Random, lent: &mut Lent, kind: u64) {
     let mut machine = lent.machine();
     match kind {
         0 => {
-            let bad = [0, 1, 32, 63, 65, 96, 192, 1024, 8192, machine.mlen, 1 << 32, u64::MAX];
+            let (elen, mlen) = (machine.elen, machine.mlen);
+            let bad = [0, 1, 32, 63, 65, 96, 192, 4095, 8192, elen, mlen, 1 << 32, u64::MAX];
             machine.rlen = random.pick(&bad);
             if random.chance(50) {
                 no_other_fault(lent, &mut machine);
             }
         }
         1 => {
-            let bad = [0, 1, 64, 127, 129, 384, 8192, machine.rlen, 1 << 32, 1 << 63, u64::MAX];
+            let bad = [0, 1, 64, 127, 129, 384, 1 << 17, machine.rlen, 1 << 32, 1 << 63, u64::MAX];
             machine.mlen = random.pick(&bad);
             if random.chance(50) {
                 no_other_fault(lent, &mut machine);
@@ -479,8 +580,9 @@ fn state_fault(random: &mut Random, lent: &mut Lent, kind: u64) {
         2 => wrong_length(random, &mut lent.registers),
         3 => wrong_length(random, &mut lent.marks),
         4 => {
-            let bad = [3, 4, 7, 9, 10, 11, 12, 16, 24, MILL | 1, MILL | 8, 1 << 62, u64::MAX];
-            machine.mtype = random.pick(&bad);
+            let bad = [4, 7, 10, 11, 12, 16, 24, MILL | 1, MILL | 3, MILL | 8, 1 << 62, u64::MAX];
+            let bad = if machine.elen == 64 { &bad[..] } else { &[&bad[..], &[3, 9]].concat() };
+            machine.mtype = random.pick(bad);
         }
         5 => {
             let size = random.pick(&SIZES);
@@ -502,6 +604,11 @@ fn state_fault(random: &mut Random, lent: &mut Lent, kind: u64) {
         }
         8 => machine.rule = random.pick(&UNKNOWN_RULES),
         9 => {
+            // None, or one that is not below RLEN.
+            let none = random.pick(&UNKNOWN_ELENS);
+            machine.elen = random.pick(&[none, none, machine.rlen]);
+        }
+        10 => {
             lent.set_machine(&machine);
             wrong_length(random, &mut lent.machine);
             return;
@@ -515,7 +622,7 @@ fn state_fault(random: &mut Random, lent: &mut Lent, kind: u64) {
 /// is at fault.
 fn no_other_fault(lent: &mut Lent, machine: &mut Machine) {
     (machine.tile_m, machine.tile_k, machine.tile_n) = (0, 0, 0);
-    if machine.mlen <= 8192 {
+    if machine.mlen <= 1 << 17 {
         let length = model::register_bytes(machine.mlen);
         lent.registers.resize(length, 0);
         lent.marks.resize(length, 1);

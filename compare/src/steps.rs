@@ -4,8 +4,8 @@ use crate::lent::{words_to_bytes, Lent};
 use crate::library;
 use crate::random::Random;
 use crate::states::{
-    any_row, any_scalar, bad_word, bench_of, good_case, good_machine, moved_rows, put_faults,
-    MTYPES, WILD_STRIDES,
+    any_row, any_scalar, bad_word, bench_of, good_case, good_machine, moved_rows, mtypes,
+    put_faults, WILD_STRIDES,
 };
 use crate::suite::{check_step, each_case, Context, Outcome};
 use crate::tally::{Call, Tally};
@@ -66,10 +66,9 @@ fn small_operands(random: &mut Random) -> u32 {
 
 /// A small machine with all bytes marked and addresses that lie in memory.
 fn roomy_bench(random: &mut Random) -> Lent {
-    let mtype = random.pick(&MTYPES);
-    let mut machine = good_machine(random, mtype);
+    let mut machine = good_machine(random);
     while machine.mlen > 256 {
-        machine = good_machine(random, mtype);
+        machine = good_machine(random);
     }
     let mut lent = bench_of(random, &machine);
     lent.memory = random.bytes(4096);
@@ -97,7 +96,7 @@ pub fn sequences(context: &mut Context) -> Outcome {
 
 /// A machine started by the library, with some memory.
 fn started(random: &mut Random, tally: &mut Tally) -> Result<Lent, String> {
-    let machine = good_machine(random, 0);
+    let machine = good_machine(random);
     let mut lent = bench_of(random, &machine);
     lent.memory = random.bytes(2000);
     let (seal_start, seal_length) = match random.below(3) {
@@ -108,6 +107,7 @@ fn started(random: &mut Random, tally: &mut Tally) -> Result<Lent, String> {
     let started = library::start(
         machine.rlen,
         machine.mlen,
+        machine.elen,
         machine.rule,
         seal_start,
         seal_length,
@@ -116,8 +116,7 @@ fn started(random: &mut Random, tally: &mut Tally) -> Result<Lent, String> {
         &mut lent.marks,
     );
     bench.machine = model::start(
-        machine.rlen,
-        machine.mlen,
+        machine.lengths(),
         machine.rule,
         seal_start,
         seal_length,
@@ -137,13 +136,14 @@ pub fn following_word(random: &mut Random, lent: &mut Lent) -> u32 {
     let machine = lent.machine();
     let row = loop {
         let row = likely_row(random);
-        if !model::width_rule_broken(row.kind, machine.mtype) || random.chance(3) {
+        if !model::width_rule_broken(row.kind, machine.mtype, machine.elen) || random.chance(3) {
             break row;
         }
     };
     if let Kind::SetType = row.kind {
         // Seldom an illegal value, and back soon.
-        let mtype = if random.chance(95) { random.pick(&MTYPES) } else { random.below(32) };
+        let legal = random.pick(mtypes(machine.elen));
+        let mtype = if random.chance(95) { legal } else { random.below(32) };
         lent.set_scalar(6, mtype);
         return model::assemble(row.name, &[("mtypei", mtype as u32), ("rs1", 6), ("rd", 7)]);
     }

@@ -1,6 +1,6 @@
 //! What every suite shares: the seed, the tally, and cases run one by one.
 
-use crate::lent::{library_step, packed, report, second_step, Lent};
+use crate::lent::{library_step, machine_of, packed, report, second_step, Lent};
 use crate::random::Random;
 use crate::tally::Tally;
 
@@ -51,6 +51,6 @@ pub fn check_step(word: u32, before: &Lent, tally: &mut Tally) -> Result<(u64, L
             report(before, given, &library, packed(answer), &second)
         ));
     }
-    tally.step(word, answer.number);
+    tally.step(word, answer.number, machine_of(&before.machine).map(|machine| machine.elen));
     Ok((answer.number, second))
 }

@@ -146,9 +146,8 @@ fn reads_writes(row: &Row) -> (String, String) {
     }
 }
 
-/// The answers beside 8 and 10, which every word can get. An element wider than
-/// any is always refused with 3, if not before; one of 8 bits needs SEW 8, where
-/// a size above its maximum is answer 8.
+/// The answers beside 8 and 10, which every word can get. An element of 8 bits needs
+/// SEW 8, where a size above its maximum is answer 8.
 fn answers(row: &Row) -> String {
     let family = tally::family_of(model::assemble(row.name, &[]));
     let width = match row.kind {
@@ -157,8 +156,7 @@ fn answers(row: &Row) -> String {
     };
     let given = (0..tally::ANSWERS).filter(|&number| match number {
         8 | 10 => false,
-        0 | 5 | 6 | 7 | 13 if width > model::ELEN => false,
-        4 if width == 8 || width > model::ELEN => false,
+        4 if width == 8 => false,
         _ => tally::reachable(family, number),
     });
     given.map(|number| number.to_string()).collect::<Vec<_>>().join(" ")

@@ -12,10 +12,10 @@
 //! - 2: every family but msettype and msettypei.
 //! - 3: loads and stores, the double and quadruple forms, and the float product. Of
 //!   the other words at the output width SEW no width rule can be broken.
-//! - 4: loads, stores, multiplies and element-wise words, but not their
-//!   quadruple forms: those need maccq, so SEW is 8, where a size above its
-//!   maximum is answer 8. (tile_m's maximum is the same at every SEW, so
-//!   loads and stores of A get 4 by tile_k, those of C by tile_n.)
+//! - 4: loads, stores, multiplies and element-wise words; their quadruple forms at
+//!   ELEN 64 alone: they need maccq, so at ELEN 32 SEW is 8, where a size above its
+//!   maximum is answer 8. (tile_m's maximum is the same at every SEW, so loads and
+//!   stores of A get 4 by tile_k, those of C by tile_n.)
 //! - 5: what reads registers: stores, multiplies and element-wise words.
 //! - 6: loads and stores. 7 and 13: stores.
 //! - 8: every word, since the state is tested before the word.
@@ -31,8 +31,10 @@
 //! block that no start made.
 //!
 //! The size of an image gives 0 or 8, writing one 14 too, reading one 0, 8 or 15.
+//!
+//! Words are also counted by ELEN (request Ten): each cell has to be met at both.
 
-use model::{Kind, KINDS, LEFT_OUT, LISTING, RULES};
+use model::{Kind, ELENS, KINDS, LEFT_OUT, LISTING, RULES};
 use std::collections::BTreeMap;
 
 #[derive(Clone, Copy, Debug, PartialEq, Eq, PartialOrd, Ord)]
@@ -54,18 +56,27 @@ pub enum Call {
 #[derive(Default)]
 pub struct Tally {
     counts: BTreeMap<(Call, u64), u64>,
+    /// The same of words, by ELEN.
+    by_elen: [BTreeMap<(Call, u64), u64>; ELENS.len()],
     pub steps: u64,
-    /// Runs compared after each turn, by kind and by the machine's rule.
-    pub runs: [[u64; RULES.len()]; KINDS.len()],
+    /// Runs compared after each turn, by kind, by the machine's rule and by ELEN.
+    pub runs: [[[u64; ELENS.len()]; RULES.len()]; KINDS.len()],
+    /// Images written and read that were accepted, by version.
+    pub images: [[u64; VERSIONS]; 2],
     /// How often each reason of answer 9 was met alone, by kind.
     pub overlaps: [[u64; 4]; KINDS.len()],
 }
 
-// What is compared at the least, without `long`; runs of each kind, and of each kind
-// by each rule.
+/// The versions of an image are 1 to 3.
+const VERSIONS: usize = 3;
+
+// What is compared at the least, without `long`; runs of each kind, of each kind by each
+// rule, and of these at each ELEN; images of each version.
 const LEAST_STEPS: u64 = 200_000;
 const LEAST_RUNS: u64 = 1_500;
 const LEAST_RUNS_BY_RULE: u64 = 700;
+const LEAST_RUNS_BY_ELEN: u64 = 300;
+const LEAST_IMAGES: u64 = 500;
 
 /// What every number counts as that is no kind.
 const UNKNOWN: u64 = KINDS.len() as u64;
@@ -139,13 +150,24 @@ pub fn reachable(call: Call, number: u64) -> bool {
         1 => zeros,
         2 => row.kind != Kind::SetType,
         3 => load || store || factor > 1 || row.kind == Kind::FloatMultiply,
-        4 => !setting && factor != 4,
+        4 => !setting,
         5 => !setting && !load,
         6 => load || store,
         7 | 13 => store,
         12 => !setting,
         _ => false,
     }
+}
+
+/// The same of a word at an ELEN.
+fn reachable_at(elen: u64, call: Call, number: u64) -> bool {
+    let quadruple = |row: &&model::Row| {
+        let factors = [Kind::Multiply(4), Kind::Add(4), Kind::Subtract(4)];
+        let others = [Kind::ReverseSubtract(4), Kind::Scale(4)];
+        Call::Family(row.name) == call && [&factors[..], &others].concat().contains(&row.kind)
+    };
+    let never = elen == 32 && number == 4 && LISTING.iter().any(|row| quadruple(&row));
+    reachable(call, number) && !never
 }
 
 impl Tally {
@@ -158,9 +180,24 @@ impl Tally {
         self.count(call(kind.min(UNKNOWN)), number);
     }
 
-    pub fn step(&mut self, word: u32, number: u64) {
+    /// A word, with the machine's ELEN if it has one.
+    pub fn step(&mut self, word: u32, number: u64, elen: Option<u64>) {
         self.steps += 1;
-        self.count(family_of(word), number);
+        let family = family_of(word);
+        self.count(family, number);
+        if let Some(at) = ELENS.iter().position(|&known| Some(known) == elen) {
+            *self.by_elen[at].entry((family, number)).or_insert(0) += 1;
+        }
+    }
+
+    /// A run of a kind that was compared after each turn.
+    pub fn ran(&mut self, kind: u64, rule: u64, elen: u64) {
+        self.runs[kind as usize][rule as usize][usize::from(elen == 64)] += 1;
+    }
+
+    /// An image that was written (0) or read (1).
+    pub fn image(&mut self, read: usize, version: u8) {
+        self.images[read][version as usize - 1] += 1;
     }
 
     fn get(&self, call: Call, number: u64) -> u64 {
@@ -219,13 +256,23 @@ impl Tally {
                     (false, 1..) => faults.push(format!("{name} gave {number}")),
                     _ => {}
                 }
+                if !matches!(call, Call::Family(_) | Call::OtherWord) {
+                    continue;
+                }
+                for (elen, counts) in ELENS.into_iter().zip(&self.by_elen) {
+                    let met = counts.contains_key(&(call, number));
+                    if met != reachable_at(elen, call, number) {
+                        let gave = if met { "gave" } else { "never gave" };
+                        faults.push(format!("{name} {gave} {number} at ELEN {elen}"));
+                    }
+                }
             }
         }
         if self.overlaps.as_flattened().contains(&0) {
             faults.push(format!("a reason of 9 was not met alone: {:?}", self.overlaps));
         }
         if faults.is_empty() {
-            Ok("every cell that can be met was met".to_string())
+            Ok("every cell that can be met was met, those of words at either ELEN".to_string())
         } else {
             Err(faults.join("\n"))
         }
@@ -235,20 +282,24 @@ impl Tally {
     pub fn amount(&self) -> Result<String, String> {
         let whole: Vec<u64> = KINDS.map(|kind| self.get(Call::WholeRun(kind), 0)).to_vec();
         let text = format!(
-            "{} steps; by kind and rule {:?} runs turn by turn, by kind {whole:?} whole runs in \
-             one call",
-            self.steps, self.runs
+            "{} steps; by kind, rule and ELEN {:?} runs turn by turn, by kind {whole:?} whole runs \
+             in one call; by version {:?} images written, {:?} read",
+            self.steps, self.runs, self.images[0], self.images[1]
         );
         let enough = self.runs.iter().all(|by_rule| {
-            by_rule.iter().sum::<u64>() >= LEAST_RUNS
-                && by_rule.iter().all(|&runs| runs >= LEAST_RUNS_BY_RULE)
+            let of_rules = by_rule.map(|by_elen| by_elen.iter().sum::<u64>());
+            of_rules.iter().sum::<u64>() >= LEAST_RUNS
+                && of_rules.iter().all(|&runs| runs >= LEAST_RUNS_BY_RULE)
+                && by_rule.as_flattened().iter().all(|&runs| runs >= LEAST_RUNS_BY_ELEN)
         });
-        if self.steps >= LEAST_STEPS && enough {
+        let images = self.images.as_flattened().iter().all(|&images| images >= LEAST_IMAGES);
+        if self.steps >= LEAST_STEPS && enough && images {
             Ok(text)
         } else {
             Err(format!(
                 "{text}; asked for: {LEAST_STEPS} steps, {LEAST_RUNS} runs of each kind, \
-                 {LEAST_RUNS_BY_RULE} of them by each rule"
+                 {LEAST_RUNS_BY_RULE} of them by each rule, {LEAST_RUNS_BY_ELEN} of these at each \
+                 ELEN, {LEAST_IMAGES} images of each version"
             ))
         }
     }

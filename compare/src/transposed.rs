@@ -3,19 +3,21 @@
 //! program.
 
 use crate::random::Random;
-use crate::states::{bench_of, fitting_mtype, moved_rows, set_size, SIZES};
+use crate::states::{bench_of, fitting_mtype, fitting_mtypes, limits, moved_rows, set_size, SIZES};
 use crate::suite::{check_step, each_case, Context, Outcome};
-use model::{maximum, sew, tile_size, Form, Kind, Machine, Row, Size, LISTING};
+use model::{sew, tile_size, Form, Kind, Lengths, Machine, Row, Size, LISTING, SMALLER};
 
 /// Every machine, with loads and stores of the same matrix and width in every
 /// pair of forms: the same form copies the tile, the other one transposes it.
 pub fn transposed_tiles(context: &mut Context) -> Outcome {
-    let lengths = model::permitted_lengths();
-    let pairs = pairs_of_rows();
-    let count = 2 * (lengths.len() * pairs.len()) as u64;
+    let cases: Vec<(Lengths, (&Row, &Row))> = model::permitted_lengths()
+        .into_iter()
+        .flat_map(|lengths| pairs_of_rows().into_iter().map(move |pair| (lengths, pair)))
+        .filter(|(lengths, (load, _))| !fitting_mtypes(load.kind, lengths.2).is_empty())
+        .collect();
+    let count = 2 * cases.len() as u64;
     each_case(context, "transposed tiles", count, |case, random, tally| {
-        let (load, store) = pairs[case as usize % pairs.len()];
-        let lengths = lengths[case as usize / pairs.len() % lengths.len()];
+        let (lengths, (load, store)) = cases[case as usize % cases.len()];
         let machine = machine_for(random, lengths, load.kind);
         let [from, to] = [load, store].map(|row| Laid::new(random, row.kind, &machine));
         let mut lent = bench_of(random, &machine);
@@ -44,7 +46,6 @@ fn pairs_of_rows() -> Vec<(&'static Row, &'static Row)> {
     for load in &LISTING {
         for store in &LISTING {
             match (load.kind, store.kind) {
-                (Kind::Load(_, 64, _), _) => {}
                 (Kind::Load(matrix, width, _), Kind::Store(other, same, _))
                     if (matrix, width) == (other, same) =>
                 {
@@ -58,11 +59,12 @@ fn pairs_of_rows() -> Vec<(&'static Row, &'static Row)> {
 }
 
 /// A machine on which a load is done, with no size of 0.
-fn machine_for(random: &mut Random, (rlen, mlen): (u64, u64), kind: Kind) -> Machine {
-    let mtype = fitting_mtype(random, kind);
-    let mut machine = Machine { rlen, mlen, mtype, ..Machine::default() };
-    for size in SIZES {
-        let limit = maximum(&machine, size, sew(mtype)) as u64;
+fn machine_for(random: &mut Random, lengths: Lengths, kind: Kind) -> Machine {
+    let mtype = fitting_mtype(random, kind, lengths.2);
+    let mut machine = Machine { mtype, ..Machine::of(lengths, SMALLER) };
+    let limits = limits(random, &machine, sew(mtype));
+    for (size, limit) in SIZES.into_iter().zip(limits) {
+        let limit = limit as u64;
         let value = if random.chance(50) { limit } else { random.range(1, limit) };
         set_size(&mut machine, size, value as i128);
     }

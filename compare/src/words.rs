@@ -3,22 +3,23 @@
 
 use crate::lent::{words_to_bytes, Lent};
 use crate::random::Random;
-use crate::states::{any_operands, bench_of, put_state_fault, set_size, MTYPES, SIZES};
+use crate::states::{any_operands, bench_of, mtypes, put_state_fault, set_size, SIZES};
 use crate::suite::{check_step, each_case, Context, Outcome};
 use crate::tally::Tally;
 use model::{maximum, sew, Machine, LEFT_OUT, LISTING, RULES};
 
-/// A bench of the smallest machine on which most good words are done.
+/// A bench of the smallest machine of either ELEN on which most good words are done.
 fn small_bench(random: &mut Random) -> Lent {
-    let mtype = random.pick(&MTYPES);
+    let lengths = random.pick(&[(64, 128, 32), (64, 128, 32), (128, 256, 64)]);
+    let mtype = random.pick(mtypes(lengths.2));
     let rule = random.pick(&RULES);
-    let mut machine = Machine { rlen: 64, mlen: 128, mtype, rule, ..Machine::default() };
+    let mut machine = Machine { mtype, ..Machine::of(lengths, rule) };
     for size in SIZES {
         let limit = maximum(&machine, size, sew(mtype));
         set_size(&mut machine, size, random.range(0, limit as u64) as i128);
     }
     let mut lent = bench_of(random, &machine);
-    lent.memory = random.bytes(160);
+    lent.memory = random.bytes(200);
     let scalars: Vec<u64> = (0..32).map(|_| random.below(70)).collect();
     lent.scalars = words_to_bytes(&scalars);
     lent

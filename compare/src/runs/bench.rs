@@ -5,7 +5,7 @@ use crate::bench::{full_bench, machine_name, nanoseconds, near_one, LARGE, SMALL
 use crate::lent::{library_run_start, library_run_turn, library_run_turns, second_run_start, Lent};
 use crate::library;
 use crate::states::WIDTHS;
-use model::{Matrix, Plan, A_TRANSPOSED, FLOAT, PRODUCT};
+use model::{Lengths, Matrix, Plan, A_TRANSPOSED, FLOAT, PRODUCT};
 use std::hint::black_box;
 use std::time::Instant;
 
@@ -135,7 +135,7 @@ fn width_name((sew, factor): (u64, u64)) -> String {
 }
 
 /// A bench for a plan: A and B filled, C cleared.
-fn plan_bench(machine: (u64, u64), plan: &Plan, memory: usize) -> Lent {
+fn plan_bench(machine: Lengths, plan: &Plan, memory: usize) -> Lent {
     let mut lent = full_bench(machine, 0, memory);
     if plan.kind == FLOAT {
         lent.memory = near_one(memory);
@@ -169,7 +169,7 @@ fn best<T: ?Sized>(state: &mut T, prepare: impl Fn(&mut T), call: impl Fn(&mut T
 }
 
 /// Nanoseconds of all turns of a plan, and what they leave.
-fn library_product(machine: (u64, u64), plan: &Plan, memory: usize) -> (f64, Lent) {
+fn library_product(machine: Lengths, plan: &Plan, memory: usize) -> (f64, Lent) {
     let mut lent = plan_bench(machine, plan, memory);
     let started = started_run(plan, &mut lent);
     let mut state = (lent, started.clone());
@@ -217,12 +217,12 @@ fn call_plain(product: PlainProduct, plan: &Plan, memory: &mut [u8]) {
 }
 
 /// Nanoseconds a multiply-accumulate of the second program, start left out.
-fn second_rate(machine: (u64, u64), widths: (u64, u64)) -> f64 {
+fn second_rate(machine: Lengths, widths: (u64, u64)) -> f64 {
     second_rate_of(machine, PRODUCT, widths)
 }
 
 /// The same of a kind of run.
-fn second_rate_of(machine: (u64, u64), kind: u64, widths: (u64, u64)) -> f64 {
+fn second_rate_of(machine: Lengths, kind: u64, widths: (u64, u64)) -> f64 {
     let (plan, memory) = packed_plan_of(kind, widths, [SECOND_SIZE; 3]);
     let lent = plan_bench(machine, &plan, memory);
     let run = second_run_start(&plan, &lent).expect("a packed plan is accepted");
@@ -250,7 +250,7 @@ fn product_heading(what: &str) {
 /// One line: a product, its growth since a smaller one, and what it is held to.
 fn product_line(
     name: &str,
-    machine: (u64, u64),
+    machine: Lengths,
     widths: (u64, u64),
     size: u64,
     before: Option<f64>,
@@ -273,7 +273,7 @@ fn product_line(
     time
 }
 
-fn products(machine: (u64, u64), sizes: [u64; 4]) {
+fn products(machine: Lengths, sizes: [u64; 4]) {
     let widths = (8, 4);
     let second = second_rate(machine, widths);
     let name = machine_name(machine);

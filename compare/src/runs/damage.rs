@@ -8,7 +8,7 @@ use crate::lent::{
 };
 use crate::library;
 use crate::random::Random;
-use crate::states::{any_machine, bench_of, lengths, wrong_length, UNKNOWN_RULES};
+use crate::states::{any_machine, bench_of, lengths, wrong_length, UNKNOWN_ELENS, UNKNOWN_RULES};
 use crate::suite::{each_case, Context, Outcome};
 use crate::tally::{Call, Tally};
 use model::{block_starts, maximum, Machine, Plan, Size, KINDS, RULES};
@@ -203,7 +203,7 @@ pub fn empty_run_slices(context: &mut Context) -> Outcome {
 
 // The numbers of a run block, by their places in it: those of the plan but for
 // its kind, the machine's lengths, the place in the run (a word, then row, column
-// and term), the kind, and the machine's rule.
+// and term), the kind, and the machine's rule and ELEN.
 const FIELDS: usize = library::RUN_BYTES / 8;
 const C_STRIDE: usize = 10;
 const LENGTHS: usize = 11;
@@ -211,6 +211,7 @@ const WORD: usize = 13;
 const PLACE: usize = 14;
 const KIND: usize = 17;
 pub const RULE: usize = 18;
+pub const ELEN: usize = 19;
 
 /// How many numbers each word's place has, of row, column and term.
 const PLACE_NUMBERS: [usize; 10] = [0, 1, 2, 2, 3, 3, 3, 3, 2, 0];
@@ -223,16 +224,16 @@ fn plan_of(fields: &[u64]) -> (Plan, Machine) {
     let [a_stride, b_stride, c_stride] = [a_stride, b_stride, c_stride].map(|stride| stride as i64);
     let kind = fields[KIND];
     let plan = Plan { kind, sew, factor, m, k, n, a, a_stride, b, b_stride, c, c_stride };
-    let (rlen, mlen, rule) = (fields[LENGTHS], fields[LENGTHS + 1], fields[RULE]);
-    (plan, Machine { rlen, mlen, rule, ..Machine::default() })
+    let lengths = (fields[LENGTHS], fields[LENGTHS + 1], fields[ELEN]);
+    (plan, Machine::of(lengths, fields[RULE]))
 }
 
 /// Whether a run can have these numbers: not a place that no turn reaches, outside the
 /// matrices or where no block of them starts.
 fn sound(fields: &[u64]) -> bool {
     let (plan, machine) = plan_of(fields);
-    if model::plan_numbers_bad(&plan)
-        || !model::lengths_permitted(machine.rlen, machine.mlen)
+    if model::plan_numbers_bad(&plan, machine.elen)
+        || !model::lengths_permitted(machine.lengths())
         || !RULES.contains(&machine.rule)
         || fields[WORD] > AT_END
     {
@@ -274,7 +275,7 @@ pub fn forged_runs(context: &mut Context) -> Outcome {
 /// or another place.
 fn forge(random: &mut Random, good: &[u8]) -> Vec<u8> {
     let mut fields = bytes_to_words(good);
-    match random.below(17) {
+    match random.below(20) {
         0 => return random.bytes(good.len()),
         1 => return vec![random.pick(&[0, 1, 0xFF]); good.len()],
         2 => fields = (0..FIELDS).map(|_| random.below(1200)).collect(),
@@ -304,6 +305,14 @@ fn forge(random: &mut Random, good: &[u8]) -> Vec<u8> {
         11 => fields[RULE] = random.pick(&UNKNOWN_RULES),
         // The other rule, whose blocks start elsewhere.
         12 => fields[RULE] ^= 1,
+        13 => fields[ELEN] = random.pick(&UNKNOWN_ELENS),
+        // The other ELEN, at which C's width may not be permitted.
+        14 => fields[ELEN] ^= 96,
+        15 => {
+            let rlens = [64, 512, 1024, 4096, 8192];
+            let mlens = [128, 4096, 8192, 65536, 131072];
+            (fields[LENGTHS], fields[LENGTHS + 1]) = (random.pick(&rlens), random.pick(&mlens));
+        }
         _ => {
             for _ in 0..random.pick(&[1, 1, 1, 2]) {
                 let field = &mut fields[random.below(FIELDS as u64) as usize];
@@ -314,7 +323,7 @@ fn forge(random: &mut Random, good: &[u8]) -> Vec<u8> {
                     3 => u64::MAX,
                     4 => 1 << random.below(64),
                     5 => random.below(2000),
-                    6 => random.pick(&[8, 16, 32, 64, 128, 512, 1024, 1025, 4096]),
+                    6 => random.pick(&[8, 16, 32, 64, 128, 512, 1024, 1025, 4096, 65536]),
                     _ => random.next(),
                 };
             }

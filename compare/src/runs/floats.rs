@@ -8,7 +8,7 @@ use crate::lent::{
     library_run, library_run_start, library_run_turns, second_run_start, second_run_turns, Lent,
 };
 use crate::library;
-use crate::states::{any_machine, bench_of, SIZES};
+use crate::states::{any_machine, bench_of, usual_lengths, SIZES};
 use crate::suite::{each_case, Context, Outcome};
 use crate::tally::{Call, Tally};
 use model::{Matrix, Plan, FLOAT};
@@ -23,7 +23,7 @@ pub fn float_runs(context: &mut Context) -> Outcome {
         let mut sizes = SIZES.map(|_| random.range(1, 20));
         sizes[1] = random.range(0, 70);
         let (plan, lent) = good_plan(random, &machine, FLOATS, sizes);
-        for lengths in model::permitted_lengths() {
+        for lengths in usual_lengths() {
             let machine = any_machine(random, lengths);
             let mut other = bench_of(random, &machine);
             other.memory = lent.memory.clone();
@@ -60,7 +60,7 @@ fn run_on(plan: &Plan, before: &Lent, tally: &mut Tally) -> Result<Lent, String>
 /// Whole numbers whose products and partial sums lie within 2^24: C is exactly their
 /// sum, with the bits of a whole number (0 is +0).
 pub fn whole_float_runs(context: &mut Context) -> Outcome {
-    let count = 10 * model::permitted_lengths().len() as u64 * context.scale;
+    let count = 10 * usual_lengths().len() as u64 * context.scale;
     each_case(context, "whole float runs", count, |case, random, tally| {
         let machine = any_machine(random, machine_of_case(case));
         let sizes = SIZES.map(|_| random.range(1, 40));

@@ -4,10 +4,10 @@ use crate::float_numbers::{any_style, number};
 use crate::lent::{machine_of, Lent};
 use crate::random::Random;
 use crate::states::{
-    any_machine, any_scalar, bench_of, lengths, put_bench_fault, put_seal, wrapping_stride, SIZES,
-    WIDTHS, WILD_STRIDES,
+    any_machine, any_scalar, any_widths, bench_of, is_larger, lengths, put_bench_fault, put_seal,
+    wrapping_stride, SIZES, WIDTHS, WIDTHS_TO_64, WILD_STRIDES,
 };
-use model::{maximum, Machine, Matrix, Plan, Size, FLOAT, KINDS, PRODUCT};
+use model::{maximum, Lengths, Machine, Matrix, Plan, Size, FLOAT, KINDS, PRODUCT};
 
 pub const UNKNOWN_KINDS: [u64; 6] = [3, 4, 258, 1 << 32, (1 << 63) + 2, u64::MAX];
 
@@ -64,10 +64,10 @@ impl Rows {
 pub type Numbers = (u64, (u64, u64));
 
 /// Any kind, with widths that it permits.
-pub fn any_numbers(random: &mut Random) -> Numbers {
+pub fn any_numbers(random: &mut Random, elen: u64) -> Numbers {
     match random.pick(&KINDS) {
         FLOAT => (FLOAT, (32, 1)),
-        kind => (kind, random.pick(&WIDTHS)),
+        kind => (kind, any_widths(random, elen)),
     }
 }
 
@@ -156,11 +156,18 @@ fn unplaced(kind: u64, (sew, factor): (u64, u64), [m, k, n]: [u64; 3]) -> Plan {
     Plan { kind, sew, factor, m, k, n, a, a_stride, b, b_stride, c, c_stride }
 }
 
-/// A plan on a machine, with sizes around its block sizes.
-pub fn plan_around(random: &mut Random, lengths: (u64, u64)) -> (Plan, Lent) {
+/// A plan on a machine, with sizes around its block sizes; on a larger machine all but
+/// one of them small.
+pub fn plan_around(random: &mut Random, lengths: Lengths) -> (Plan, Lent) {
     let machine = any_machine(random, lengths);
-    let (kind, widths) = any_numbers(random);
-    let sizes = SIZES.map(|size| size_around(random, &machine, size, widths.0));
+    let (kind, widths) = any_numbers(random, lengths.2);
+    let mut sizes = SIZES.map(|size| size_around(random, &machine, size, widths.0));
+    if is_larger(lengths) {
+        let long = random.below(4) as usize;
+        for (at, size) in sizes.iter_mut().enumerate() {
+            *size = if at == long { 1024.min(*size) } else { (*size).min(random.range(1, 9)) };
+        }
+    }
     let (plan, mut lent) = good_plan(random, &machine, (kind, widths), sizes);
     if random.chance(40) {
         harmless_seal(random, &plan, &mut lent);
@@ -172,7 +179,7 @@ pub fn plan_around(random: &mut Random, lengths: (u64, u64)) -> (Plan, Lent) {
 pub fn small_plan(random: &mut Random) -> (Plan, Lent) {
     let lengths = lengths(random);
     let machine = any_machine(random, lengths);
-    let numbers = any_numbers(random);
+    let numbers = any_numbers(random, machine.elen);
     let sizes = SIZES.map(|_| random.range(0, 9));
     good_plan(random, &machine, numbers, sizes)
 }
@@ -231,7 +238,7 @@ pub fn spoil(random: &mut Random, plan: &mut Plan, lent: &mut Lent) {
 }
 
 fn spoil_once(random: &mut Random, plan: &mut Plan, lent: &mut Lent) {
-    let row_bytes = (plan.n % 2048 * (plan.factor % 8) * (plan.sew % 64) / 8) as i64;
+    let row_bytes = (plan.n % 2048 * (plan.factor % 8) * (plan.sew % 128) / 8) as i64;
     let shift = |random: &mut Random| {
         let by = random.pick(&[1, 2, 7, 64, 1 << 20, 1 << 63]);
         if random.chance(50) {
@@ -244,7 +251,9 @@ fn spoil_once(random: &mut Random, plan: &mut Plan, lent: &mut Lent) {
         0 => plan.sew = random.pick(&[0, 1, 4, 7, 9, 24, 64, 128, 1 << 32, 1 << 61, u64::MAX]),
         1 => plan.factor = random.pick(&[0, 3, 5, 8, 1 << 32, 1 << 61, u64::MAX]),
         2 => {
-            (plan.sew, plan.factor) = random.pick(&[(16, 4), (32, 2), (32, 4), (64, 1), (4, 4)]);
+            // Some of them are permitted at ELEN 64.
+            let wide = [(32, 4), (64, 2), (64, 4), (128, 1), (4, 4)];
+            (plan.sew, plan.factor) = random.pick(&[&WIDTHS_TO_64[..], &wide].concat());
         }
         3 => plan.m = random.pick(&[1025, 1026, 1 << 32, 1 << 63, u64::MAX]),
         4 => plan.k = random.pick(&[1025, 1026, 1 << 32, 1 << 63, u64::MAX]),
@@ -280,7 +289,7 @@ fn spoil_once(random: &mut Random, plan: &mut Plan, lent: &mut Lent) {
 
 /// The machine of a bench, if its lengths are permitted.
 pub fn good_lengths(lent: &Lent) -> Option<Machine> {
-    machine_of(&lent.machine).filter(|machine| model::lengths_permitted(machine.rlen, machine.mlen))
+    machine_of(&lent.machine).filter(|machine| model::lengths_permitted(machine.lengths()))
 }
 
 fn wild_stride(random: &mut Random, rows: u64) -> i64 {

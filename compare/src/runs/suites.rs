@@ -1,7 +1,7 @@
 //! Product runs: starts, every turn, the words alone, many turns at once, whole
 //! runs in one call.
 
-use super::damage::RULE;
+use super::damage::{ELEN, RULE};
 use super::plans::{any_numbers, good_lengths, good_plan, plan_around, spoil};
 use crate::lent::{
     bytes_to_words, differences, handed_block, handed_of, library_run, library_run_start,
@@ -11,11 +11,15 @@ use crate::lent::{
 use crate::library;
 use crate::random::Random;
 use crate::states::{
-    any_machine, lengths, put_bench_fault, put_seal, raise_sizes, MTYPES, SIZES, WIDTHS,
+    any_machine, lengths, mtypes, put_bench_fault, put_seal, raise_sizes, usual_lengths, SIZES,
+    WIDTHS, WIDTHS_TO_64,
 };
 use crate::suite::{each_case, Context, Outcome};
 use crate::tally::{Call, Tally};
-use model::{maximum, Handed, Kind, Matrix, Plan, Run, Size, A_TRANSPOSED, FLOAT, MILL, PRODUCT};
+use model::{
+    maximum, Handed, Kind, Lengths, Machine, Matrix, Plan, Run, Size, A_TRANSPOSED, FLOAT, MILL,
+    PRODUCT,
+};
 
 /// A run that both programs started.
 pub struct Started {
@@ -54,8 +58,11 @@ fn start_both(
             tally.overlaps[plan.kind as usize][at] += 1;
         }
     }
-    if given == 0 && bytes_to_words(&block)[RULE] != lent.machine().rule {
-        return Err(format!("{plan:?}: the block has another rule than {:?}", lent.machine()));
+    if given == 0 {
+        let (numbers, Machine { rule, elen, .. }) = (bytes_to_words(&block), lent.machine());
+        if (numbers[RULE], numbers[ELEN]) != (rule, elen) {
+            return Err(format!("{plan:?}: the block has another rule or ELEN than the machine"));
+        }
     }
     Ok(second.ok().map(|run| Started { plan, lent, block, run }))
 }
@@ -70,15 +77,15 @@ pub fn start_good(
         .ok_or_else(|| format!("a plan meant to be good was refused by both: {plan:?}"))
 }
 
-/// Every permitted machine in turn.
-pub fn machine_of_case(case: u64) -> (u64, u64) {
-    let pairs = model::permitted_lengths();
-    pairs[case as usize % pairs.len()]
+/// Every machine within the bounds of document 01 in turn, of either ELEN.
+pub fn machine_of_case(case: u64) -> Lengths {
+    let lengths = usual_lengths();
+    lengths[case as usize % lengths.len()]
 }
 
 /// Accepted plans, each turn compared with everything lent.
 pub fn turns(context: &mut Context) -> Outcome {
-    let count = 6000 * context.scale;
+    let count = 8000 * context.scale;
     each_case(context, "turns", count, |case, random, tally| {
         let good = plan_around(random, machine_of_case(case));
         let started = start_good(random, good, tally)?;
@@ -107,7 +114,8 @@ pub fn check_run(random: &mut Random, started: Started, tally: &mut Tally) -> Re
             return Err(format!("{plan:?}: run_steps gives {steps} {place} turn, not {count}"));
         }
     }
-    tally.runs[plan.kind as usize][lent.machine().rule as usize] += 1;
+    let Machine { rule, elen, .. } = lent.machine();
+    tally.ran(plan.kind, rule, elen);
     Ok(())
 }
 
@@ -335,10 +343,10 @@ fn whole_run(
 
 /// The largest sizes, and one above.
 pub fn largest_sizes(context: &mut Context) -> Outcome {
-    let pairs = model::permitted_lengths().len() as u64;
+    let pairs = usual_lengths().len() as u64;
     each_case(context, "largest sizes", 4 * pairs, |case, random, tally| {
         let machine = any_machine(random, machine_of_case(case));
-        let numbers = any_numbers(random);
+        let numbers = any_numbers(random, machine.elen);
         let large = random.pick(&[1023, 1024]);
         let mut sizes = SIZES.map(|_| random.range(1, 24));
         sizes[case as usize / pairs as usize % 3] = large;
@@ -382,13 +390,14 @@ fn compare_at_end(random: &mut Random, started: Started, tally: &mut Tally) -> R
 
 /// Larger plans, compared at the end only.
 pub fn larger_products(context: &mut Context) -> Outcome {
-    each_case(context, "larger products", 90, |case, random, tally| {
+    each_case(context, "larger products", 120, |case, random, tally| {
         let machine = any_machine(random, machine_of_case(case));
         let kind = random.pick(&[PRODUCT, A_TRANSPOSED]);
-        let numbers = match case {
-            0..72 => (kind, WIDTHS[case as usize % WIDTHS.len()]),
-            _ => (FLOAT, (32, 1)),
+        let widths = match machine.elen {
+            64 => WIDTHS_TO_64[case as usize % WIDTHS_TO_64.len()],
+            _ => WIDTHS[case as usize % WIDTHS.len()],
         };
+        let numbers = if case < 100 { (kind, widths) } else { (FLOAT, (32, 1)) };
         let largest = if numbers.0 == FLOAT { 100 } else { 160 };
         let sizes = SIZES.map(|_| random.range(20, largest));
         let good = good_plan(random, &machine, numbers, sizes);
@@ -426,10 +435,10 @@ pub fn disturbed_turns(context: &mut Context) -> Outcome {
 /// Seven): the turn gets 13 if its rows then meet, and the run goes on to its end
 /// once the tile is as it was.
 pub fn overlapping_turns(context: &mut Context) -> Outcome {
-    let count = 40 * model::permitted_lengths().len() as u64;
+    let count = 40 * usual_lengths().len() as u64;
     each_case(context, "overlapping turns", count, |case, random, tally| {
         let machine = any_machine(random, machine_of_case(case));
-        let (kind, widths) = any_numbers(random);
+        let (kind, widths) = any_numbers(random, machine.elen);
         let [rows, widest] =
             [Size::M, Size::N].map(|size| maximum(&machine, size, widths.0 as i128) as u64);
         let sizes = [random.range(2, 2 * rows), random.range(0, 3), random.range(1, widest - 1)];
@@ -466,7 +475,7 @@ fn widened(lent: &Lent, columns: u64) -> Lent {
     machine.tile_n = columns;
     wide.set_machine(&machine);
     wide.marks.fill(1);
-    wide.memory.resize(lent.memory.len() + 256, 0);
+    wide.memory.resize(lent.memory.len() + 512, 0);
     wide
 }
 
@@ -510,9 +519,9 @@ fn disturb(random: &mut Random, lent: &mut Lent) {
     let Some(mut machine) = good_lengths(lent) else {
         return;
     };
-    match random.below(9) {
+    match random.below(10) {
         0 => machine.mtype = MILL,
-        1 => machine.mtype = random.pick(&MTYPES),
+        1 => machine.mtype = random.pick(mtypes(machine.elen)),
         2 | 3 => raise_sizes(random, &mut machine),
         4 => {
             for _ in 0..random.range(1, 40) {
@@ -526,6 +535,8 @@ fn disturb(random: &mut Random, lent: &mut Lent) {
         6 => put_seal(random, &mut machine, lent),
         // The run keeps the rule it was started with.
         7 => machine.rule ^= 1,
+        // And the ELEN; with the other one mtype may be none that can arise.
+        8 => machine.elen = 96 - machine.elen,
         _ => return put_bench_fault(random, lent),
     }
     lent.set_machine(&machine);
