@@ -12,6 +12,8 @@ use std::time::Instant;
 
 pub const SMALL: Lengths = (64, 128, 32);
 pub const LARGE: Lengths = (512, 4096, 32);
+/// The largest MLEN, with many rows and with wide ones (request Ten).
+pub const LARGER: [Lengths; 2] = [(512, 65_536, 64), (4096, 65_536, 64)];
 
 pub fn bench() {
     println!("All times are of this one run, through the C interface, on one core, warm caches.");

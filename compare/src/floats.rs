@@ -171,6 +171,53 @@ fn check_example(
     Ok(())
 }
 
+/// The examples on tiles of more than 16 columns and with more than 16 terms, those of an
+/// example anywhere among them: the others are -0 times 1, which leaves every sum as it is.
+pub fn wide_floats(context: &mut Context) -> Outcome {
+    let machines = [(512, 16_384, 32), (1024, 32_768, 64), (2048, 65_536, 32), (4096, 65_536, 64)];
+    let examples = examples();
+    let count = 6 * examples.len() as u64 * context.scale;
+    each_case(context, "wide floats", count, |case, random, tally| {
+        let machine = machine_at_32(random.pick(&machines));
+        let (name, old, terms, expected) = &examples[case as usize % examples.len()];
+        let [_, most_k, most_n] = maxima(&machine);
+        let m = random.range(1, 3);
+        let k = match random.pick(&[most_k, 15, 16, 17, 31, 33]) {
+            some if some <= most_k => some.max(terms.len() as u64),
+            _ => most_k,
+        };
+        let n = random.pick(&[most_n, most_n - 1, 16, 17, 31, 33, 65]).min(most_n);
+        // No term: only the old value stands.
+        let k = if terms.is_empty() { 0 } else { k };
+        let ends = [0, n - 1, n.min(16) - 1, 16.min(n - 1), random.below(n)];
+        let (i, j) = (random.below(m), random.pick(&ends));
+        let mut desk = Desk::new(random, &machine);
+        desk.set_sizes([m, k, n]);
+        desk.put(2, i, j, *old);
+        for l in 0..k {
+            desk.put(0, i, l, SIGN);
+            desk.put(1, l, j, ONE);
+        }
+        // In rising order, each at any place that leaves room for the rest.
+        let mut from = 0;
+        for (at, &(a, b)) in terms.iter().enumerate() {
+            let l = random.range(from, k - (terms.len() - at) as u64);
+            desk.put(0, i, l, a);
+            desk.put(1, l, j, b);
+            from = l + 1;
+        }
+        desk.multiply(tally)?;
+        let found = desk.get(2, i, j);
+        if found != *expected {
+            return Err(format!(
+                "{name}: {old:#010x} with {terms:#010x?} among {k} terms, column {j} of {n}\nboth \
+                 programs store {found:#010x}, the paper {expected:#010x}"
+            ));
+        }
+        Ok(())
+    })
+}
+
 // ---------------------------------------------------------------------------
 // Special and random numbers
 

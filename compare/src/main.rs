@@ -13,6 +13,7 @@ mod float_examples;
 mod float_numbers;
 mod floats;
 mod images;
+mod larger;
 mod lent;
 mod library;
 mod overlapping;
@@ -33,7 +34,7 @@ mod words;
 use std::time::Instant;
 use suite::{Context, Outcome, Suite};
 
-const SUITES: [Suite; 46] = [
+const SUITES: [Suite; 60] = [
     ("bench sheet", sheet::bench_sheet),
     ("machine starts", starts::machine_starts),
     ("codes", steps::codes),
@@ -50,9 +51,19 @@ const SUITES: [Suite; 46] = [
     ("overlapping stores", overlapping::overlapping_stores),
     ("float examples", floats::float_examples),
     ("float specials", floats::float_specials),
+    ("wide floats", floats::wide_floats),
     ("random floats", floats::random_floats),
     ("whole floats", floats::whole_floats),
     ("host floats", floats::host_floats),
+    ("permitted lengths", larger::permitted_machines),
+    ("mtypes", larger::mtypes_by_elen),
+    ("widths", larger::widths_by_elen),
+    ("64-bit products", larger::products_to_64),
+    ("64-bit elements", larger::element_wise_at_64),
+    ("wide tiles", larger::wide_tiles),
+    ("far elements", larger::far_elements),
+    ("larger steps", larger::larger_steps),
+    ("larger sizes", larger::larger_sizes),
     ("sequences", steps::sequences),
     ("power-up words", powerup::power_up_words),
     ("damaged steps", damage::damaged_steps),
@@ -69,6 +80,10 @@ const SUITES: [Suite; 46] = [
     ("power-up runs", runs::powerup::power_up_runs),
     ("largest sizes", runs::suites::largest_sizes),
     ("larger products", runs::suites::larger_products),
+    ("larger runs", runs::larger::larger_runs),
+    ("64-bit runs", runs::larger::runs_to_64),
+    ("wide runs", runs::larger::wide_runs),
+    ("other ELENs", runs::larger::other_elens),
     ("wrong run lengths", runs::damage::wrong_run_lengths),
     ("forged runs", runs::damage::forged_runs),
     ("empty run slices", runs::damage::empty_run_slices),

@@ -46,13 +46,17 @@ pub fn overlapping_rows(context: &mut Context) -> Outcome {
     })
 }
 
-/// A machine with each row and mtype that fits it.
+/// A machine with each row and mtype that fits it; of ELEN 64 with those that are new
+/// there.
 fn moves(lengths: Lengths) -> Vec<(Machine, &'static Row)> {
     let machine = |mtype| Machine { mtype, ..Machine::of(lengths, SMALLER) };
     let rows = LISTING.iter().filter(|row| is_load(row) || is_store(row));
     rows.flat_map(|row| {
         let mtypes = fitting_mtypes(row.kind, lengths.2).into_iter();
-        mtypes.map(move |mtype| (machine(mtype), row))
+        let is_new = |mtype: &u64| row.name.contains("64") || [3, 9].contains(mtype);
+        mtypes
+            .filter(move |mtype| lengths.2 == 32 || is_new(mtype))
+            .map(move |mtype| (machine(mtype), row))
     })
     .collect()
 }

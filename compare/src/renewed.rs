@@ -17,11 +17,20 @@ pub fn renewed_sizes(context: &mut Context) -> Outcome {
     let changes = changes(&usual_lengths());
     let count = (RULES.len() * changes.len()) as u64;
     each_case(context, "renewed sizes", count, |case, random, tally| {
-        let (lengths, from, to) = changes[case as usize / 2];
-        let mut lent = sized_bench(random, lengths, RULES[case as usize % 2], from);
-        renew(&mut lent, to, tally)?;
-        move_tiles(&mut lent, to, tally)
+        check_change(random, changes[case as usize / 2], RULES[case as usize % 2], tally)
     })
+}
+
+/// A change of mtype, the sizes renewed, and tiles of these sizes moved.
+pub fn check_change(
+    random: &mut Random,
+    (lengths, from, to): (Lengths, u64, u64),
+    rule: u64,
+    tally: &mut Tally,
+) -> Result<(), String> {
+    let mut lent = sized_bench(random, lengths, rule, from);
+    renew(&mut lent, to, tally)?;
+    move_tiles(&mut lent, to, tally)
 }
 
 /// Every change between legal mtypes of some machines.
@@ -44,8 +53,14 @@ fn sized_bench(random: &mut Random, lengths: Lengths, rule: u64, mtype: u64) -> 
         set_size(&mut machine, size, value);
     }
     let mut lent = bench_of(random, &machine);
-    lent.memory = random.bytes(16384);
+    let rows = lengths.1 / lengths.0;
+    lent.memory = random.bytes((rows * stride(lengths)) as usize);
     lent
+}
+
+/// At least as long as a row of elements of SEW bits.
+fn stride((rlen, ..): Lengths) -> u64 {
+    256.max(rlen / 8)
 }
 
 /// A step that has to be done.
@@ -83,7 +98,7 @@ fn renew(lent: &mut Lent, mtype: u64, tally: &mut Tally) -> Result<(), String> {
 /// Loads and stores of the three matrices, none of which gets 4 any more.
 fn move_tiles(lent: &mut Lent, mtype: u64, tally: &mut Tally) -> Result<(), String> {
     lent.set_scalar(1, 0);
-    lent.set_scalar(2, 256);
+    lent.set_scalar(2, stride(lent.machine().lengths()));
     for matrix in ["la", "sa", "lb", "sb", "lc", "sc"] {
         let name = format!("m{matrix}e{}.m", sew(mtype));
         done(&name, &[("rs1", 1), ("rs2", 2)], lent, tally)?;

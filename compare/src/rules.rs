@@ -37,7 +37,9 @@ pub fn asked_sizes(context: &mut Context) -> Outcome {
             halved += u64::from(given != number.min(most));
             ask(random, &mut lent, (name, size), number, given, tally)?;
         }
-        nothing_asked(random, &mut lent, (name, size), most, tally)
+        let widest = maximum(&machine, size, 8) as u64;
+        let held: Vec<u64> = (0..=widest).collect();
+        sized_by_x0(random, &mut lent, (name, size), most, &held, tally)
     })?;
     let text = format!("{cases}, {asked} sizes asked for, {halved} of them halved");
     if context.only_case.is_none() && halved == 0 {
@@ -62,7 +64,7 @@ fn numbers(random: &mut Random, most: u64) -> Vec<u64> {
 }
 
 /// The size that a rule gives, which keeps the three constraints.
-fn size_given(rule: u64, asked: u64, most: u64) -> Result<u64, String> {
+pub fn size_given(rule: u64, asked: u64, most: u64) -> Result<u64, String> {
     let between = most < asked && asked < 2 * most;
     let given = match rule {
         HALVING if between => asked.div_ceil(2),
@@ -80,7 +82,7 @@ fn size_given(rule: u64, asked: u64, most: u64) -> Result<u64, String> {
 
 /// A size asked for by a scalar and, where it fits, by an immediate: it becomes the size
 /// and goes to rd.
-fn ask(
+pub fn ask(
     random: &mut Random,
     lent: &mut Lent,
     (name, size): (&str, Size),
@@ -114,15 +116,15 @@ fn ask(
 
 /// With rs1 x0 the maximum, whatever the rule; with both x0 the smaller of the size and
 /// the maximum.
-fn nothing_asked(
+pub fn sized_by_x0(
     random: &mut Random,
     lent: &mut Lent,
     (name, size): (&str, Size),
     most: u64,
+    held: &[u64],
     tally: &mut Tally,
 ) -> Result<(), String> {
-    let widest = maximum(&lent.machine(), size, 8) as u64;
-    for before in 0..=widest {
+    for &before in held {
         for (rd, given) in [(random.range(1, 31) as u32, most), (0, before.min(most))] {
             let mut machine = lent.machine();
             set_size(&mut machine, size, before as i128);

@@ -1,7 +1,7 @@
 //! Times of product runs.
 
 use super::plans::{packed_plan, packed_plan_of};
-use crate::bench::{full_bench, machine_name, nanoseconds, near_one, LARGE, SMALL};
+use crate::bench::{full_bench, machine_name, nanoseconds, near_one, LARGE, LARGER, SMALL};
 use crate::lent::{library_run_start, library_run_turn, library_run_turns, second_run_start, Lent};
 use crate::library;
 use crate::states::WIDTHS;
@@ -63,9 +63,13 @@ pub fn bench() {
     println!("machine, and its ratio is that of nanoseconds a multiply-accumulate (MAC).");
     start_checks();
     turns_on_the_smallest_machine();
-    products(LARGE, [128, 256, 512, 1024]);
-    products(SMALL, [32, 64, 128, 256]);
+    products(LARGE, (8, 4), [128, 256, 512, 1024]);
+    products(SMALL, (8, 4), [32, 64, 128, 256]);
     widths();
+    for machine in LARGER {
+        products(machine, (8, 4), [128, 256, 512, 1024]);
+        products(machine, (64, 1), [128, 256, 512, 1024]);
+    }
     transposed_runs();
     float_runs();
 }
@@ -273,11 +277,10 @@ fn product_line(
     time
 }
 
-fn products(machine: Lengths, sizes: [u64; 4]) {
-    let widths = (8, 4);
+fn products(machine: Lengths, widths: (u64, u64), sizes: [u64; 4]) {
     let second = second_rate(machine, widths);
-    let name = machine_name(machine);
-    product_heading(&format!("on {name}, 8 to 32 bits, one size for m, k, n"));
+    let (name, bits) = (machine_name(machine), width_name(widths));
+    product_heading(&format!("on {name}, {bits} bits, one size for m, k, n"));
     let mut before = None;
     for size in sizes {
         if before.is_some_and(|time| 8.0 * time > LONGEST) {

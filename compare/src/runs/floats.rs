@@ -8,14 +8,17 @@ use crate::lent::{
     library_run, library_run_start, library_run_turns, second_run_start, second_run_turns, Lent,
 };
 use crate::library;
-use crate::states::{any_machine, bench_of, usual_lengths, SIZES};
+use crate::states::{
+    any_machine, bench_of, larger_lengths, lengths_at_64, old_lengths, usual_lengths, SIZES,
+};
 use crate::suite::{each_case, Context, Outcome};
 use crate::tally::{Call, Tally};
 use model::{Matrix, Plan, FLOAT};
 
 const FLOATS: (u64, (u64, u64)) = (FLOAT, (32, 1));
 
-/// A plan, and its memory on every machine: C is the plain sum, whatever the blocks.
+/// A plan, and its memory on every machine of document 01, on one of ELEN 64 and on a
+/// larger one: C is the plain sum, whatever the blocks.
 pub fn float_runs(context: &mut Context) -> Outcome {
     let count = 40 * context.scale;
     each_case(context, "float runs", count, |case, random, tally| {
@@ -23,7 +26,8 @@ pub fn float_runs(context: &mut Context) -> Outcome {
         let mut sizes = SIZES.map(|_| random.range(1, 20));
         sizes[1] = random.range(0, 70);
         let (plan, lent) = good_plan(random, &machine, FLOATS, sizes);
-        for lengths in usual_lengths() {
+        let more = [random.pick(&lengths_at_64()), random.pick(&larger_lengths())];
+        for lengths in old_lengths().into_iter().chain(more) {
             let machine = any_machine(random, lengths);
             let mut other = bench_of(random, &machine);
             other.memory = lent.memory.clone();
@@ -60,7 +64,7 @@ fn run_on(plan: &Plan, before: &Lent, tally: &mut Tally) -> Result<Lent, String>
 /// Whole numbers whose products and partial sums lie within 2^24: C is exactly their
 /// sum, with the bits of a whole number (0 is +0).
 pub fn whole_float_runs(context: &mut Context) -> Outcome {
-    let count = 10 * usual_lengths().len() as u64 * context.scale;
+    let count = 8 * usual_lengths().len() as u64 * context.scale;
     each_case(context, "whole float runs", count, |case, random, tally| {
         let machine = any_machine(random, machine_of_case(case));
         let sizes = SIZES.map(|_| random.range(1, 40));

@@ -3,6 +3,7 @@
 pub mod bench;
 pub mod damage;
 pub mod floats;
+pub mod larger;
 pub mod plans;
 pub mod powerup;
 pub mod rules;

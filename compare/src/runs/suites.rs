@@ -366,7 +366,11 @@ pub fn largest_sizes(context: &mut Context) -> Outcome {
 
 /// All turns at once, compared at the end only: C with a plain triple loop,
 /// everything lent with the second program.
-fn compare_at_end(random: &mut Random, started: Started, tally: &mut Tally) -> Result<(), String> {
+pub fn compare_at_end(
+    random: &mut Random,
+    started: Started,
+    tally: &mut Tally,
+) -> Result<(), String> {
     let Started { plan, mut lent, mut block, mut run } = started;
     let before = lent.clone();
     let count = model::step_count(&plan, &lent.machine());
@@ -398,7 +402,12 @@ pub fn larger_products(context: &mut Context) -> Outcome {
             _ => WIDTHS[case as usize % WIDTHS.len()],
         };
         let numbers = if case < 100 { (kind, widths) } else { (FLOAT, (32, 1)) };
-        let largest = if numbers.0 == FLOAT { 100 } else { 160 };
+        // Blocks of 64-bit elements are small, so there are many of them.
+        let largest = match numbers {
+            (FLOAT, _) => 100,
+            (_, (64, _)) => 60,
+            _ => 160,
+        };
         let sizes = SIZES.map(|_| random.range(20, largest));
         let good = good_plan(random, &machine, numbers, sizes);
         let started = start_good(random, good, tally)?;
