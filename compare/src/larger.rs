@@ -1,6 +1,6 @@
 //! Larger machines (request Ten): lengths around their bounds, what each ELEN permits,
-//! elements of 64 bits, and tiles of many rows and columns. What is expected is reckoned
-//! here from the paper's sentences, apart from the second program.
+//! elements of 64 bits, and tiles of many rows and columns. What has to come out beside
+//! what the second program says is reckoned here from the paper's sentences.
 
 use crate::float_numbers;
 use crate::lent::{
