@@ -103,18 +103,20 @@ const LONG_SCALE: u64 = 28;
 struct Arguments {
     long: bool,
     bench: bool,
+    speed: bool,
     seed: u64,
     suite: Option<String>,
     case: Option<u64>,
 }
 
 fn arguments() -> Option<Arguments> {
-    let mut found = Arguments { long: false, bench: false, seed: 1, suite: None, case: None };
+    let mut found = Arguments { long: false, bench: false, speed: false, seed: 1, suite: None, case: None };
     let mut words = std::env::args().skip(1);
     while let Some(word) = words.next() {
         match word.as_str() {
             "long" => found.long = true,
             "bench" => found.bench = true,
+            "speed" => found.speed = true,
             "--seed" => found.seed = words.next()?.parse().ok()?,
             "--suite" => found.suite = Some(words.next()?),
             "--case" => found.case = Some(words.next()?.parse().ok()?),
@@ -126,12 +128,15 @@ fn arguments() -> Option<Arguments> {
 
 fn main() {
     let Some(arguments) = arguments() else {
-        eprintln!("usage: compare [long|bench] [--seed N] [--suite NAME [--case N]]");
+        eprintln!("usage: compare [long|bench|speed] [--seed N] [--suite NAME [--case N]]");
         std::process::exit(2);
     };
     if arguments.bench {
         bench::bench();
         return;
+    }
+    if arguments.speed {
+        std::process::exit(i32::from(!runs::bench::fast_enough()));
     }
     if let Some(only) = &arguments.suite {
         if !SUITES.iter().any(|(name, _)| name == only) {

@@ -53,14 +53,14 @@ const SECOND_SIZE: u64 = 64;
 
 pub fn bench() {
     println!();
-    println!("Products: the best of as many as take a second, of 3 at the least; C is cleared to");
-    println!("0 before each, outside the timed part; A and B are filled once; the start is timed");
-    println!("on its own. Growth is the time divided by that of the line above. Two products in");
-    println!("plain C (gcc -O3) are timed on the same matrices: the anchor, as a careful");
-    println!("programmer writes it (k in the middle loop, along rows of B and C), and the slow");
-    println!("loops, in the order i, j, k. The ratio that counts is the one to the anchor. The");
-    println!("second program is slow: it is timed on a product of {SECOND_SIZE} in each size on the same");
-    println!("machine, and its ratio is that of nanoseconds a multiply-accumulate (MAC).");
+    println!("Products: the best of as many as take a quarter of a second, of 3 at the least; C");
+    println!("is cleared to 0 before each, outside the timed part; A and B are filled once; the");
+    println!("start is timed on its own. Growth is the time divided by that of the line above.");
+    println!("Two products in plain C (gcc -O3) are timed on the same matrices: the anchor, as a");
+    println!("careful programmer writes it (k in the middle loop, along rows of B and C), and the");
+    println!("slow loops, in the order i, j, k. The ratio that counts is the one to the anchor.");
+    println!("The second program is slow: it is timed on a product of {SECOND_SIZE} in each size on the");
+    println!("same machine, and its ratio is that of nanoseconds a multiply-accumulate (MAC).");
     start_checks();
     turns_on_the_smallest_machine();
     products(LARGE, (8, 4), [128, 256, 512, 1024]);
@@ -72,6 +72,31 @@ pub fn bench() {
     }
     transposed_runs();
     float_runs();
+}
+
+/// What a gross loss of speed is: a product by run_turns takes more than this many times the anchor's time, twice of what
+/// docs/PERFORMANCE.md has.
+const GROSS: [(&str, Lengths, u64, f64); 2] = [
+    ("turns on the smallest machine", SMALL, 64, 42.0),
+    ("a product on the largest machine of document 01", LARGE, 256, 2.7),
+];
+
+/// Whether there is no gross loss; each ratio is the least of up to five.
+pub fn fast_enough() -> bool {
+    GROSS.iter().all(|&(name, machine, size, most)| {
+        let (plan, memory) = packed_plan((8, 4), [size; 3]);
+        let bench = plan_bench(machine, &plan, memory);
+        let mut least = f64::INFINITY;
+        for _ in 0..5 {
+            let (anchor, _) = plain_product(anchor_product, &plan, &bench);
+            least = least.min(library_product(machine, &plan, memory).0 / anchor);
+            if least <= most {
+                break;
+            }
+        }
+        println!("{name}, 8 to 32 bits: {least:.2} times the anchor's time, at most {most}");
+        least <= most
+    })
 }
 
 fn start_checks() {
@@ -155,12 +180,12 @@ fn started_run(plan: &Plan, lent: &mut Lent) -> Vec<u8> {
     run
 }
 
-/// Nanoseconds of a call: the best of as many as take a second, of 3 at the least.
+/// Nanoseconds of a call: the best of as many as take a quarter of a second, of 3 at the least.
 /// What `prepare` does is not timed.
 fn best<T: ?Sized>(state: &mut T, prepare: impl Fn(&mut T), call: impl Fn(&mut T)) -> f64 {
     let mut best = f64::INFINITY;
     let (mut count, mut spent) = (0, 0.0);
-    while count < 3 || spent < 1e9 {
+    while count < 3 || spent < 0.25e9 {
         prepare(state);
         let started = Instant::now();
         call(state);
