@@ -110,7 +110,8 @@ struct Arguments {
 }
 
 fn arguments() -> Option<Arguments> {
-    let mut found = Arguments { long: false, bench: false, speed: false, seed: 1, suite: None, case: None };
+    let mut found =
+        Arguments { long: false, bench: false, speed: false, seed: 1, suite: None, case: None };
     let mut words = std::env::args().skip(1);
     while let Some(word) = words.next() {
         match word.as_str() {

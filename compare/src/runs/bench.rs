@@ -59,16 +59,18 @@ pub fn bench() {
     println!("Two products in plain C (gcc -O3) are timed on the same matrices: the anchor, as a");
     println!("careful programmer writes it (k in the middle loop, along rows of B and C), and the");
     println!("slow loops, in the order i, j, k. The ratio that counts is the one to the anchor.");
-    println!("The second program is slow: it is timed on a product of {SECOND_SIZE} in each size on the");
-    println!("same machine, and its ratio is that of nanoseconds a multiply-accumulate (MAC).");
+    println!(
+        "The second program is slow: it is timed on a product of {SECOND_SIZE} in each size on"
+    );
+    println!("the same machine, and its ratio is that of nanoseconds a multiply-accumulate (MAC).");
     start_checks();
     turns_on_the_smallest_machine();
-    products(LARGE, (8, 4), [128, 256, 512, 1024]);
-    products(SMALL, (8, 4), [32, 64, 128, 256]);
+    products(LARGE, (8, 4), &[128, 256, 512, 1024]);
+    products(SMALL, (8, 4), &[32, 64, 128, 256]);
     widths();
     for machine in LARGER {
-        products(machine, (8, 4), [128, 256, 512, 1024]);
-        products(machine, (64, 1), [128, 256, 512, 1024]);
+        products(machine, (8, 4), &[128, 256, 512]);
+        products(machine, (64, 1), &[128, 256, 512]);
     }
     transposed_runs();
     float_runs();
@@ -302,12 +304,12 @@ fn product_line(
     time
 }
 
-fn products(machine: Lengths, widths: (u64, u64), sizes: [u64; 4]) {
+fn products(machine: Lengths, widths: (u64, u64), sizes: &[u64]) {
     let second = second_rate(machine, widths);
     let (name, bits) = (machine_name(machine), width_name(widths));
     product_heading(&format!("on {name}, {bits} bits, one size for m, k, n"));
     let mut before = None;
-    for size in sizes {
+    for &size in sizes {
         if before.is_some_and(|time| 8.0 * time > LONGEST) {
             println!("{size:<14}left out: foreseen to take over {:.0} s", LONGEST / 1e9);
             return;
