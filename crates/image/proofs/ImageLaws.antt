@@ -19,7 +19,7 @@ use Rattle.format.proofs.NumberLaws.{among-nonempty}
 use Rattle.image.specs.Cells.{Cell, widen, join, Run, runs, spread, Fit}
 use Rattle.image.specs.Cells.Run.{run}
 use Rattle.image.specs.Images.{Header, beyond, version, fields, runsBytes, spelled}
-use Rattle.image.specs.ImageFormat.{Described, mostRlen, leastMlen, mostMlen, mtypes, tilesFormat, sealFormat, total, runsFormat, imageFormat}
+use Rattle.image.specs.ImageFormat.{Described, topRlen, topMlen, leastMlen, mtypes, tilesFormat, sealFormat, total, runsFormat, imageFormat}
 use Rattle.image.proofs.RunLaws.{fit-many}
 
 -- numbers that a machine can hold
@@ -127,81 +127,131 @@ fit-first n (run g b ∷ rs) h = omega (arith, h .0, fit-many (n - (g + length b
 
 -- ---- the bounds by the version
 
--- an image of version 3 has a machine beyond the old bounds, and the others none
-bounds-are : (large : Bool) (e r m : ℕ) → 5 ≤ e → e ≤ 6 → (large ≡ false → e ≡ 5) → e < r → r ≤ mostRlen large → leastMlen large e r ≤ m → m ≤ mostMlen large
-    → (r ≤ 12) × (r < m) × (m ≤ 16) × (beyond e r m ≡ large)
-unfolding mostRlen leastMlen mostMlen beyond
-bounds-are false e r m le me five lr mr lm mm =
-    let f = five refl in
-    (omega arith, omega arith, omega arith, rw (ne-eqb e 6 (omega arith), le-ltb 9 r (omega arith), le-ltb 12 m (omega arith)))
-bounds-are true e r m le me five lr mr lm mm = go (eqb e 5) refl (ltb r 10) refl lm
+pub top-rlen : (v : ℕ) → topRlen v ≤ 12
+unfolding topRlen
+top-rlen v = go (ltb v 3)
   where
-    go : (t : Bool) → eqb e 5 ≡ t → (u : Bool) → ltb r 10 ≡ u → cond (t && u) 13 (suc r) ≤ m → (r ≤ 12) × (r < m) × (m ≤ 16) × (beyond e r m ≡ true)
-    go true et true eu l =
-        let a = eqb-true e 5 et in
-        let b = ltb-true r 10 eu in
-        (omega arith, omega arith, omega arith, rw (ne-eqb e 6 (omega arith), le-ltb 9 r (omega arith), lt-ltb 12 m (omega arith)))
-    go true et false eu l =
-        let a = eqb-true e 5 et in
-        let b = ltb-false r 10 eu in
-        (omega arith, omega arith, omega arith, rw (ne-eqb e 6 (omega arith), lt-ltb 9 r (omega arith)))
-    go false et u eu l =
-        let a = eqb-false e 5 et in
-        (omega arith, omega arith, omega arith, rw (eq-eqb e 6 (six a)))
-      where
-        six : ¬ (e ≡ 5) → e ≡ 6
-        six d = elim (le-or-lt 6 e) [ inl l ↦ omega arith | inr l ↦ absurd (d (omega arith)) ]
+    go : (t : Bool) → cond t 9 12 ≤ 12
+    go true = omega arith
+    go false = omega arith
 
--- and each of them fits its version
-are-bounds : (large : Bool) (e r m : ℕ) → 5 ≤ e → e ≤ 6 → e < r → r ≤ 12 → r < m → m ≤ 16 → beyond e r m ≡ large
-    → (r ≤ mostRlen large) × (leastMlen large e r ≤ m) × (m ≤ mostMlen large) × (large ≡ false → e ≡ 5)
-unfolding mostRlen leastMlen mostMlen beyond
-are-bounds large e r m le me lr mr lm mm = go (eqb e 6) refl (ltb 9 r) refl (ltb 12 m) refl
+pub top-mlen : (v : ℕ) → topMlen v ≤ 16
+unfolding topMlen
+top-mlen v = go (ltb v 3)
+  where
+    go : (t : Bool) → cond t 12 16 ≤ 16
+    go true = omega arith
+    go false = omega arith
+
+pub least-above : (v e r : ℕ) → r ≤ 12 → r < leastMlen v e r
+unfolding leastMlen
+least-above v e r h = go (eqb v 3 && (eqb e 5 && ltb r 10))
+  where
+    go : (t : Bool) → r < cond t 13 (suc r)
+    go true = omega arith
+    go false = omega arith
+
+-- a machine of the old bounds has ELEN 32
+within-old : (e r m : ℕ) → (5 ≤ e) × (e ≤ 6) → beyond e r m ≡ false → (e ≡ 5) × (r ≤ 9) × (m ≤ 12)
+unfolding beyond
+within-old e r m few = go (eqb e 6) refl (ltb 9 r) refl (ltb 12 m) refl
   where
     five : eqb e 6 ≡ false → e ≡ 5
-    five t = elim (le-or-lt 6 e) [ inl l ↦ absurd (eqb-false e 6 t (omega arith)) | inr l ↦ omega arith ]
+    five t = elim (le-or-lt 6 e) [ inl l ↦ absurd (eqb-false e 6 t (omega (arith, few))) | inr l ↦ omega (arith, few) ]
 
-    go : (t : Bool) → eqb e 6 ≡ t → (u : Bool) → ltb 9 r ≡ u → (v : Bool) → ltb 12 m ≡ v → t || (u || v) ≡ large
-        → (r ≤ mostRlen large) × (leastMlen large e r ≤ m) × (m ≤ mostMlen large) × (large ≡ false → e ≡ 5)
-    go true et u eu v ev h = subst (λ (x : Bool). (r ≤ mostRlen x) × (leastMlen x e r ≤ m) × (m ≤ mostMlen x) × (x ≡ false → e ≡ 5)) h
-        (mr, rw (ne-eqb e 5 (omega (arith, eqb-true e 6 et))) lm, mm, λ z. absurd (false-true (sym z)))
-    go false et true eu v ev h = subst (λ (x : Bool). (r ≤ mostRlen x) × (leastMlen x e r ≤ m) × (m ≤ mostMlen x) × (x ≡ false → e ≡ 5)) h
-        (mr, rw (eq-eqb e 5 (five et), le-ltb r 10 (omega (arith, ltb-true 9 r eu))) lm, mm, λ z. absurd (false-true (sym z)))
-    go false et false eu true ev h = subst (λ (x : Bool). (r ≤ mostRlen x) × (leastMlen x e r ≤ m) × (m ≤ mostMlen x) × (x ≡ false → e ≡ 5)) h
-        (mr, rw (eq-eqb e 5 (five et), lt-ltb r 10 (omega (arith, ltb-false 9 r eu))) (omega (arith, ltb-true 12 m ev)), mm, λ z. absurd (false-true (sym z)))
-    go false et false eu false ev h = subst (λ (x : Bool). (r ≤ mostRlen x) × (leastMlen x e r ≤ m) × (m ≤ mostMlen x) × (x ≡ false → e ≡ 5)) h
-        (omega (arith, ltb-false 9 r eu), lm, omega (arith, ltb-false 12 m ev), λ z. five et)
+    go : (t : Bool) → eqb e 6 ≡ t → (u : Bool) → ltb 9 r ≡ u → (v : Bool) → ltb 12 m ≡ v → t || (u || v) ≡ false → (e ≡ 5) × (r ≤ 9) × (m ≤ 12)
+    go true et u eu v ev h = absurd (false-true (sym h))
+    go false et true eu v ev h = absurd (false-true (sym h))
+    go false et false eu true ev h = absurd (false-true (sym h))
+    go false et false eu false ev h = (five et, ltb-false 9 r eu, ltb-false 12 m ev)
+
+old-within : (e r m : ℕ) → e ≡ 5 → r ≤ 9 → m ≤ 12 → beyond e r m ≡ false
+unfolding beyond
+old-within e r m he hr hm = rw (ne-eqb e 6 (omega arith), le-ltb 9 r hr, le-ltb 12 m hm)
+
+-- one beyond them has an MLEN above 4,096, if not by its ELEN or RLEN
+beyond-old : (e r m : ℕ) → e ≡ 5 → r < 10 → beyond e r m ≡ true → 13 ≤ m
+unfolding beyond
+beyond-old e r m he hr h = ltb-true 12 m (rw (ne-eqb e 6 (omega arith), le-ltb 9 r (omega arith)) at h)
+
+old-beyond : (e r m : ℕ) → (5 ≤ e) × (e ≤ 6) → leastMlen 3 e r ≤ m → beyond e r m ≡ true
+unfolding leastMlen beyond
+old-beyond e r m few = go (eqb e 5) refl (ltb r 10) refl
+  where
+    six : ¬ (e ≡ 5) → e ≡ 6
+    six d = elim (le-or-lt 6 e) [ inl l ↦ omega (arith, few) | inr l ↦ absurd (d (omega (arith, few))) ]
+
+    go : (t : Bool) → eqb e 5 ≡ t → (u : Bool) → ltb r 10 ≡ u → cond (t && u) 13 (suc r) ≤ m → beyond e r m ≡ true
+    go true et true eu l = rw (ne-eqb e 6 (omega (arith, eqb-true e 5 et)), le-ltb 9 r (omega (arith, ltb-true r 10 eu)), lt-ltb 12 m (omega arith))
+    go true et false eu l = rw (ne-eqb e 6 (omega (arith, eqb-true e 5 et)), lt-ltb 9 r (omega (arith, ltb-false r 10 eu)))
+    go false et u eu l = rw (eq-eqb e 6 (six (eqb-false e 5 et)))
+
+-- a machine is beyond the old bounds where an image of version 3 has it, and not where one of a lower version has
+record ByVersion (v e r m : ℕ) : Type 0 where
+  old : v < 3 → beyond e r m ≡ false
+  large : v ≡ 3 → beyond e r m ≡ true
+
+bounds-are : (v e r m : ℕ) → (5 ≤ e) × (e ≤ 6) → (v < 3 → e ≡ 5) → r ≤ topRlen v → leastMlen v e r ≤ m → m ≤ topMlen v → ByVersion v e r m
+unfolding topRlen topMlen
+bounds-are v e r m few five mr lm mm = record {
+  old = λ k. old-within e r m (five k) (rw (lt-ltb v 3 k) at mr) (rw (lt-ltb v 3 k) at mm);
+  large = λ k. old-beyond e r m few (subst (λ (x : ℕ). leastMlen x e r ≤ m) k lm);
+}
+
+-- and each of them fits its version
+are-bounds : (v e r m : ℕ) → (5 ≤ e) × (e ≤ 6) → r ≤ 12 → (r < m) × (m ≤ 16) → ByVersion v e r m → (r ≤ topRlen v) × (leastMlen v e r ≤ m) × (m ≤ topMlen v)
+unfolding topRlen leastMlen topMlen
+are-bounds v e r m few mr hm b = (rlen (ltb v 3) refl, least (eqb v 3) refl (eqb e 5) refl (ltb r 10) refl, mlen (ltb v 3) refl)
+  where
+    rlen : (t : Bool) → ltb v 3 ≡ t → r ≤ cond t 9 12
+    rlen true q = within-old e r m few (b .old (ltb-true v 3 q)) .1
+    rlen false q = mr
+
+    mlen : (t : Bool) → ltb v 3 ≡ t → m ≤ cond t 12 16
+    mlen true q = within-old e r m few (b .old (ltb-true v 3 q)) .2
+    mlen false q = hm .1
+
+    least : (t : Bool) → eqb v 3 ≡ t → (u : Bool) → eqb e 5 ≡ u → (w : Bool) → ltb r 10 ≡ w → cond (t && (u && w)) 13 (suc r) ≤ m
+    least true q true p true z = beyond-old e r m (eqb-true e 5 p) (ltb-true r 10 z) (b .large (eqb-true v 3 q))
+    least true q true p false z = hm .0
+    least true q false p w z = hm .0
+    least false q u p w z = hm .0
 
 -- what follows the version, the rule and the exponent of ELEN
-abbrev pub afterRule : (large : Bool) (rule elen : ℕ) → Format Described
-afterRule large rule elen =
-    number (span (suc elen) (mostRlen large)) λ r.
-    number (span (leastMlen large elen r) (mostMlen large)) λ m.
+abbrev pub afterRule : (version rule elen : ℕ) → Format Described
+afterRule version rule elen =
+    number (span (suc elen) (topRlen version)) λ r.
+    number (span (leastMlen version elen r) (topMlen version)) λ m.
     tilesFormat elen (2 ^ (m - r)) (2 ^ (r - 3)) λ t tm tk tn.
     sealFormat λ st ln.
     number (span 0 (2 ^ m)) λ c.
     runsFormat (λ rs. record { header = record { rlen = r; mlen = m; mtype = t; tileM = tm; tileK = tk; tileN = tn; sealStart = st; sealLength = ln; rule = rule; elen = elen }; body = rs }) c 0 (total m)
 
-some-rlen : (large : Bool) (e : ℕ) → e ≤ 6 → suc e ≤ mostRlen large
-unfolding mostRlen
-some-rlen true e h = omega arith
-some-rlen false e h = omega arith
-
-some-mlen : (large : Bool) (e r : ℕ) → r ≤ mostRlen large → leastMlen large e r ≤ mostMlen large
-unfolding mostRlen leastMlen mostMlen
-some-mlen false e r h = omega arith
-some-mlen true e r h = go (eqb e 5 && ltb r 10)
+some-rlen : (v e : ℕ) → e ≤ 6 → suc e ≤ topRlen v
+unfolding topRlen
+some-rlen v e h = go (ltb v 3)
   where
-    go : (t : Bool) → cond t 13 (suc r) ≤ 16
+    go : (t : Bool) → suc e ≤ cond t 9 12
     go true = omega arith
     go false = omega arith
 
-after-live : (large : Bool) (rule elen : ℕ) → elen ≤ 6 → Live (afterRule large rule elen)
+some-mlen : (v e r : ℕ) → r ≤ topRlen v → leastMlen v e r ≤ topMlen v
+unfolding topRlen leastMlen topMlen
+some-mlen v e r = go (ltb v 3) refl (eqb v 3) refl (eqb e 5 && ltb r 10)
+  where
+    go : (t : Bool) → ltb v 3 ≡ t → (u : Bool) → eqb v 3 ≡ u → (w : Bool) → r ≤ cond t 9 12 → cond (u && w) 13 (suc r) ≤ cond t 12 16
+    go true q true p w h = absurd (omega (arith, ltb-true v 3 q, eqb-true v 3 p))
+    go true q false p w h = omega arith
+    go false q true p true h = omega arith
+    go false q true p false h = omega arith
+    go false q false p w h = omega arith
+
+after-live : (v rule elen : ℕ) → elen ≤ 6 → Live (afterRule v rule elen)
 unfolding mtypes
-after-live large rule elen few = (
-  among-nonempty (suc elen) (span (suc elen) (mostRlen large)) (inl (omega arith, some-rlen large elen few)),
+after-live v rule elen few = (
+  among-nonempty (suc elen) (span (suc elen) (topRlen v)) (inl (omega arith, some-rlen v elen few)),
   λ r hr. let kr = among-span hr in (
-    among-nonempty (mostMlen large) (span (leastMlen large elen r) (mostMlen large)) (inl (some-mlen large elen r (kr .1), omega arith)),
+    among-nonempty (topMlen v) (span (leastMlen v elen r) (topMlen v)) (inl (some-mlen v elen r (kr .1), omega arith)),
     λ m hm. (
       among-nonempty 0 (mtypes elen) (inl (omega arith)),
       λ t ht. (
@@ -230,12 +280,12 @@ after-live large rule elen few = (
 
 pub image-live : Live imageFormat
 unfolding imageFormat
-image-live = (among-nonempty 1 (span 1 3) (inl (omega arith)), λ v hv. by (eqb v 3) (eqb v 2))
+image-live = (among-nonempty 1 (span 1 3) (inl (omega arith)), λ v hv. by v (eqb v 1) (eqb v 2))
   where
-    by : (t u : Bool) → Live (cond t (number (span 0 1) λ rule. number (span 5 6) λ elen. afterRule true rule elen) (cond u (number (span 1 1) λ rule. afterRule false rule 5) (afterRule false 0 5)))
-    by true u = (among-nonempty 0 (span 0 1) (inl (omega arith)), λ r hr. (among-nonempty 5 (span 5 6) (inl (omega arith)), λ e he. after-live true r e (among-span he .1)))
-    by false true = (among-nonempty 1 (span 1 1) (inl (omega arith)), λ r hr. after-live false r 5 (omega arith))
-    by false false = after-live false 0 5 (omega arith)
+    by : (v : ℕ) (t u : Bool) → Live (cond t (afterRule v 0 5) (cond u (number (span 1 1) λ rule. afterRule v rule 5) (number (span 0 1) λ rule. number (span 5 6) λ elen. afterRule v rule elen)))
+    by v true u = after-live v 0 5 (omega arith)
+    by v false true = (among-nonempty 1 (span 1 1) (inl (omega arith)), λ r hr. after-live v r 5 (omega arith))
+    by v false false = (among-nonempty 0 (span 0 1) (inl (omega arith)), λ r hr. (among-nonempty 5 (span 5 6) (inl (omega arith)), λ e he. after-live v r e (among-span he .1)))
 
 -- s is the spelled form of d, a machine's numbers and runs
 pub record Spelling (s : List ℕ) (d : Described) : Type 0 where
@@ -249,18 +299,18 @@ abbrev bytesAfter : Header → List Run → List ℕ
 bytesAfter h rs = encodeAll (fields h) (encode (length rs) ++ runsBytes rs)
 
 -- s is what follows them in the spelled form of d
-record SpellingAfter (large : Bool) (rule elen : ℕ) (s : List ℕ) (d : Described) : Type 0 where
+record SpellingAfter (version rule elen : ℕ) (s : List ℕ) (d : Described) : Type 0 where
   sound : Held (d .header)
-  large-is : beyond (d .header .elen) (d .header .rlen) (d .header .mlen) ≡ large
+  by-version : ByVersion version (d .header .elen) (d .header .rlen) (d .header .mlen)
   elen-is : d .header .elen ≡ elen
   fits : Fit 0 (total (d .header .mlen)) (d .body)
   all-bytes : AllBytes (d .body)
   rule-is : d .header .rule ≡ rule
   are : s ≡ bytesAfter (d .header) (d .body)
 
-after-out : (large : Bool) (rule elen : ℕ) → rule ≤ 1 → (5 ≤ elen) × (elen ≤ 6) → (large ≡ false → elen ≡ 5) → (s : List ℕ) (d : Described)
-    → Accepts (afterRule large rule elen) s d → SpellingAfter large rule elen s d
-after-out large rule elen u few five s d (r, t1, hr, e1, (m, t2, hm, e2, (ty, t3, hty, e3, (tm, t4, htm, e4, (tk, t5, htk, e5, (tn, t6, htn, e6, (st, t7, hst, e7, (ln, t8, hln, e8, (c, t9, hc, e9, a))))))))) =
+after-out : (v rule elen : ℕ) → rule ≤ 1 → (5 ≤ elen) × (elen ≤ 6) → (v < 3 → elen ≡ 5) → (s : List ℕ) (d : Described)
+    → Accepts (afterRule v rule elen) s d → SpellingAfter v rule elen s d
+after-out v rule elen u few five s d (r, t1, hr, e1, (m, t2, hm, e2, (ty, t3, hty, e3, (tm, t4, htm, e4, (tk, t5, htk, e5, (tn, t6, htn, e6, (st, t7, hst, e7, (ln, t8, hln, e8, (c, t9, hc, e9, a))))))))) =
     let h : Header = record { rlen = r; mlen = m; mtype = ty; tileM = tm; tileK = tk; tileN = tn; sealStart = st; sealLength = ln; rule = rule; elen = elen } in
     let kr = among-span hr in
     let km = among-span hm in
@@ -270,14 +320,14 @@ after-out large rule elen u few five s d (r, t1, hr, e1, (m, t2, hm, e2, (ty, t3
     let kst = among-span hst in
     let kln = among-span hln in
     let kc = among-span hc in
-    let n = bounds-are large elen r m (few .0) (few .1) five (kr .0) (kr .1) (km .0) (km .1) in
+    let low : r ≤ 12 = omega (arith, top-rlen v) in
     let w = runs-out (λ rs. record { header = h; body = rs }) c 0 (total m) (room-first c (2 ^ m) (kc .1)) t9 d a in
-    subst (SpellingAfter large rule elen s) (w .is)
+    subst (SpellingAfter v rule elen s) (w .is)
     (record {
       sound = record {
         elen-ok = few;
-        rlen-ok = (kr .0, n .0);
-        mlen-ok = (n .1, n .2);
+        rlen-ok = (kr .0, low);
+        mlen-ok = (omega (arith, least-above v elen r low), omega (arith, top-mlen v));
         mtype-ok = hty;
         tile-m-ok = ktm .1;
         tile-k-ok = ktk .1;
@@ -287,7 +337,7 @@ after-out large rule elen u few five s d (r, t1, hr, e1, (m, t2, hm, e2, (ty, t3
       };
       fits = w .fits;
       all-bytes = w .all-bytes;
-      large-is = n .3;
+      by-version = bounds-are v elen r m few five (kr .1) (km .0) (km .1);
       elen-is = refl;
       rule-is = refl;
       are =
@@ -306,52 +356,53 @@ after-out large rule elen u few five s d (r, t1, hr, e1, (m, t2, hm, e2, (ty, t3
 spelledVersion : (large : Bool) (rule elen : ℕ) → List ℕ
 spelledVersion large rule elen = cond large (3 ∷ rule ∷ elen ∷ []) (cond (eqb rule 1) (2 ∷ 1 ∷ []) (1 ∷ []))
 
-spelling-behind : (large : Bool) (rule elen : ℕ) (s t : List ℕ) (d : Described) → s ≡ encodeAll (spelledVersion large rule elen) t → SpellingAfter large rule elen t d → Spelling s d
+spelling-behind : (large : Bool) (v rule elen : ℕ) (s t : List ℕ) (d : Described) → s ≡ encodeAll (spelledVersion large rule elen) t
+    → SpellingAfter v rule elen t d → beyond (d .header .elen) (d .header .rlen) (d .header .mlen) ≡ large → Spelling s d
 unfolding spelledVersion
-spelling-behind large rule elen s t d e k = record {
+spelling-behind large v rule elen s t d e k b = record {
   sound = k .sound;
   fits = k .fits;
   all-bytes = k .all-bytes;
-  are = e ∙ ap (λ (b : Bool). encodeAll (spelledVersion b rule elen) t) (sym (k .large-is))
+  are = e ∙ ap (λ (b : Bool). encodeAll (spelledVersion b rule elen) t) (sym b)
       ∙ ap₂ (λ (x y : ℕ). encodeAll (spelledVersion (beyond (d .header .elen) (d .header .rlen) (d .header .mlen)) x y) t) (sym (k .rule-is)) (sym (k .elen-is))
       ∙ ap (encodeAll (version (d .header))) (k .are);
 }
 
 pub image-out : (s : List ℕ) (d : Described) → Accepts imageFormat s d → Spelling s d
 unfolding imageFormat spelledVersion
-image-out s d (v, t, hv, e, a) = by (eqb v 3) refl (eqb v 2) refl a
+image-out s d (v, t, hv, e, a) = by (eqb v 1) refl (eqb v 2) refl a
   where
     start : (x : ℕ) → v ≡ x → s ≡ encode x ++ t
     start x q = e ∙ ap (λ (y : ℕ). encode y ++ t) q
 
-    by : (b : Bool) → eqb v 3 ≡ b → (c : Bool) → eqb v 2 ≡ c
-        → Accepts (cond b (number (span 0 1) λ rule. number (span 5 6) λ elen. afterRule true rule elen) (cond c (number (span 1 1) λ rule. afterRule false rule 5) (afterRule false 0 5))) t d → Spelling s d
-    by true q c z (r, t′, hr, e′, (el, t″, he, e″, a)) =
-        let kr = among-span hr in
-        let ke = among-span he in
-        spelling-behind true r el s t″ d (start 3 (eqb-true v 3 q) ∙ ap (λ (z : List ℕ). encode 3 ++ z) (e′ ∙ ap (λ (z : List ℕ). encode r ++ z) e″))
-        (after-out true r el (kr .1) ke (λ z. absurd (false-true (sym z))) t″ d a)
+    three : (1 ≤ v) × (v ≤ 3) → ¬ (v ≡ 1) → ¬ (v ≡ 2) → v ≡ 3
+    three k one two = elim (le-or-lt 2 v) [
+      | inl l ↦ elim (le-or-lt 3 v) [ inl g ↦ omega (arith, k) | inr g ↦ absurd (two (omega (arith, k))) ]
+      | inr l ↦ absurd (one (omega (arith, k)))
+    ]
+
+    by : (b : Bool) → eqb v 1 ≡ b → (c : Bool) → eqb v 2 ≡ c
+        → Accepts (cond b (afterRule v 0 5) (cond c (number (span 1 1) λ rule. afterRule v rule 5) (number (span 0 1) λ rule. number (span 5 6) λ elen. afterRule v rule elen))) t d → Spelling s d
+    by true q c z a =
+        let is = eqb-true v 1 q in
+        let k = after-out v 0 5 (omega arith) (omega arith, omega arith) (λ l. refl) t d a in
+        spelling-behind false v 0 5 s t d (start 1 is) k (k .by-version .old (omega arith))
     by false q true z (r, t′, hr, e′, a) =
         let kr = among-span hr in
         let one : r ≡ 1 = omega arith in
-        spelling-behind false 1 5 s t′ d (start 2 (eqb-true v 2 z) ∙ ap (λ (z : List ℕ). encode 2 ++ z) (e′ ∙ ap (λ (x : ℕ). encode x ++ t′) one))
-        (subst (λ (x : ℕ). SpellingAfter false x 5 t′ d) one (after-out false r 5 (omega arith) (omega arith, omega arith) (λ z. refl) t′ d a))
-    by false q false z a =
-        let kv = among-span hv in
-        let three = eqb-false v 3 q in
-        let two = eqb-false v 2 z in
-        spelling-behind false 0 5 s t d (start 1 (one kv three two)) (after-out false 0 5 (omega arith) (omega arith, omega arith) (λ z. refl) t d a)
-      where
-        one : (1 ≤ v) × (v ≤ 3) → ¬ (v ≡ 3) → ¬ (v ≡ 2) → v ≡ 1
-        one k three two = elim (le-or-lt 2 v) [
-          | inl l ↦ elim (le-or-lt 3 v) [ inl g ↦ absurd (three (omega (arith, k))) | inr g ↦ absurd (two (omega (arith, k))) ]
-          | inr l ↦ omega (arith, k)
-        ]
+        let is = eqb-true v 2 z in
+        let k = subst (λ (x : ℕ). SpellingAfter v x 5 t′ d) one (after-out v r 5 (omega arith) (omega arith, omega arith) (λ l. refl) t′ d a) in
+        spelling-behind false v 1 5 s t′ d (start 2 is ∙ ap (λ (z : List ℕ). encode 2 ++ z) (e′ ∙ ap (λ (x : ℕ). encode x ++ t′) one)) k (k .by-version .old (omega arith))
+    by false q false z (r, t′, hr, e′, (el, t″, he, e″, a)) =
+        let kr = among-span hr in
+        let is = three (among-span hv) (eqb-false v 1 q) (eqb-false v 2 z) in
+        let k = after-out v r el (kr .1) (among-span he) (λ l. absurd (omega arith)) t″ d a in
+        spelling-behind true v r el s t″ d (start 3 is ∙ ap (λ (z : List ℕ). encode 3 ++ z) (e′ ∙ ap (λ (z : List ℕ). encode r ++ z) e″)) k (k .by-version .large is)
 
-after-in : (large : Bool) (h : Header) (rs : List Run) → beyond (h .elen) (h .rlen) (h .mlen) ≡ large → Held h → Fit 0 (total (h .mlen)) rs → AllBytes rs
-    → Accepts (afterRule large (h .rule) (h .elen)) (bytesAfter h rs) (record { header = h; body = rs })
-after-in large h rs u k f b =
-    let n = are-bounds large (h .elen) (h .rlen) (h .mlen) (k .elen-ok .0) (k .elen-ok .1) (k .rlen-ok .0) (k .rlen-ok .1) (k .mlen-ok .0) (k .mlen-ok .1) u in
+after-in : (v : ℕ) (h : Header) (rs : List Run) → ByVersion v (h .elen) (h .rlen) (h .mlen) → Held h → Fit 0 (total (h .mlen)) rs → AllBytes rs
+    → Accepts (afterRule v (h .rule) (h .elen)) (bytesAfter h rs) (record { header = h; body = rs })
+after-in v h rs u k f b =
+    let n = are-bounds v (h .elen) (h .rlen) (h .mlen) (k .elen-ok) (k .rlen-ok .1) (k .mlen-ok) u in
     let many = fit-first (total (h .mlen)) rs f in (
       h .rlen,
       _,
@@ -416,18 +467,17 @@ image-in h rs k f b = by (beyond (h .elen) (h .rlen) (h .mlen)) refl (eqb (h .ru
     d : Described
     d = record { header = h; body = rs }
 
-    -- with the old bounds ELEN is 32
-    five : beyond (h .elen) (h .rlen) (h .mlen) ≡ false → h .elen ≡ 5
-    five u = are-bounds false (h .elen) (h .rlen) (h .mlen) (k .elen-ok .0) (k .elen-ok .1) (k .rlen-ok .0) (k .rlen-ok .1) (k .mlen-ok .0) (k .mlen-ok .1) u .3 refl
-
-    rest : (x : ℕ) → beyond (h .elen) (h .rlen) (h .mlen) ≡ false → h .rule ≡ x → Accepts (afterRule false x 5) (bytesAfter h rs) d
-    rest x u q = subst (λ (e : ℕ). Accepts (afterRule false x e) (bytesAfter h rs) d) (five u) (subst (λ (x : ℕ). Accepts (afterRule false x (h .elen)) (bytesAfter h rs) d) q (after-in false h rs u k f b))
+    rest : (v x : ℕ) → v < 3 → beyond (h .elen) (h .rlen) (h .mlen) ≡ false → h .rule ≡ x → Accepts (afterRule v x 5) (bytesAfter h rs) d
+    rest v x l u q =
+        let five = within-old (h .elen) (h .rlen) (h .mlen) (k .elen-ok) u .0 in
+        let is = after-in v h rs (record { old = λ z. u; large = λ z. absurd (omega arith) }) k f b in
+        subst (λ (e : ℕ). Accepts (afterRule v x e) (bytesAfter h rs) d) five (subst (λ (x : ℕ). Accepts (afterRule v x (h .elen)) (bytesAfter h rs) d) q is)
 
     by : (u : Bool) → beyond (h .elen) (h .rlen) (h .mlen) ≡ u → (t : Bool) → eqb (h .rule) 1 ≡ t
         → Accepts imageFormat (encodeAll (cond u (3 ∷ h .rule ∷ h .elen ∷ []) (cond t (2 ∷ 1 ∷ []) (1 ∷ []))) (bytesAfter h rs)) d
-    by true p t q = (3, _, inl (omega arith), refl, (h .rule, _, inl (omega (arith, k .rule-ok)), refl, (h .elen, _, inl (k .elen-ok), refl, after-in true h rs p k f b)))
-    by false p true q = (2, _, inl (omega arith), refl, (1, _, inl (omega arith), refl, rest 1 p (eqb-true (h .rule) 1 q)))
-    by false p false q = (1, _, inl (omega arith), refl, rest 0 p (omega (arith, k .rule-ok, eqb-false (h .rule) 1 q)))
+    by true p t q = (3, _, inl (omega arith), refl, (h .rule, _, inl (omega (arith, k .rule-ok)), refl, (h .elen, _, inl (k .elen-ok), refl, after-in 3 h rs (record { old = λ z. absurd (omega arith); large = λ z. p }) k f b)))
+    by false p true q = (2, _, inl (omega arith), refl, (1, _, inl (omega arith), refl, rest 2 1 (omega arith) p (eqb-true (h .rule) 1 q)))
+    by false p false q = (1, _, inl (omega arith), refl, rest 1 0 (omega arith) p (omega (arith, k .rule-ok, eqb-false (h .rule) 1 q)))
 
 -- ---- the bytes of runs and of cells
 

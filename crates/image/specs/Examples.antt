@@ -11,7 +11,7 @@ use Rattle.image.specs.Cells.Run.{run}
 use Rattle.image.specs.Images.{beyond, log2, headerOf, spelled}
 use Rattle.image.specs.Answers.{imageReply}
 use Rattle.image.specs.declared.Imaged.the-variants.{Done, Damaged}
-use Rattle.image.specs.ImageFormat.{mostRlen, leastMlen, mostMlen, mtypes, runsFormat, imageFormat}
+use Rattle.image.specs.ImageFormat.{topRlen, topMlen, leastMlen, mtypes, runsFormat, imageFormat}
 use Rattle.image.specs.Reading.{checkImage, readImage}
 use Rattle.machine.specs.Starting.{freshMachine}
 
@@ -58,13 +58,13 @@ checked : checkImage (smallest (0 ∷ [])) ∷ checkImage (smallest (1 ∷ 0 ∷
     ∷ checkImage twoRuns ∷ checkImage (take 9 twoRuns) ∷ checkImage (take 10 twoRuns) ∷ checkImage (take 11 twoRuns) ∷ checkImage (take 15 twoRuns)
     ∷ checkImage (smallest (2 ∷ 0 ∷ 1 ∷ 9 ∷ 1 ∷ 1 ∷ 9 ∷ 0 ∷ [])) ∷ []
     ≡ Done ∷ Done ∷ Done ∷ Done ∷ Damaged 9 ∷ Damaged 10 ∷ Damaged 11 ∷ Damaged 15 ∷ Damaged 16 ∷ []
-unfolding checkImage parse readNumber isAmong nonempty imageFormat mostRlen leastMlen mostMlen mtypes runsFormat
+unfolding checkImage parse readNumber isAmong nonempty imageFormat topRlen topMlen leastMlen mtypes runsFormat
 checked = refl
 
 -- of version 2, a rule that is 1; one that is not, seen at once; no rule
 versions : checkImage (2 ∷ 1 ∷ 6 ∷ 7 ∷ 0 ∷ 0 ∷ 0 ∷ 0 ∷ 0 ∷ 0 ∷ 0 ∷ []) ∷ checkImage (2 ∷ 0 ∷ []) ∷ checkImage (2 ∷ 2 ∷ []) ∷ checkImage (2 ∷ 129 ∷ []) ∷ checkImage (2 ∷ []) ∷ []
     ≡ Done ∷ Damaged 1 ∷ Damaged 1 ∷ Damaged 1 ∷ Damaged 1 ∷ []
-unfolding checkImage parse readNumber isAmong nonempty imageFormat mostRlen leastMlen mostMlen mtypes runsFormat
+unfolding checkImage parse readNumber isAmong nonempty imageFormat topRlen topMlen leastMlen mtypes runsFormat
 versions = refl
 
 -- of version 3: with ELEN 32, an MLEN above 4,096; one that version 1 can hold, seen at the exponent of MLEN; an RLEN above 512; with ELEN 64
@@ -73,7 +73,7 @@ large : checkImage (3 ∷ 0 ∷ 5 ∷ 6 ∷ 13 ∷ 0 ∷ 0 ∷ 0 ∷ 0 ∷ 0 ∷
     ∷ checkImage (3 ∷ 1 ∷ 6 ∷ 7 ∷ 8 ∷ 3 ∷ 0 ∷ 0 ∷ 0 ∷ 0 ∷ 0 ∷ 0 ∷ []) ∷ checkImage (3 ∷ 1 ∷ 6 ∷ 7 ∷ 8 ∷ 9 ∷ 0 ∷ 0 ∷ 0 ∷ 0 ∷ 0 ∷ 0 ∷ []) ∷ checkImage (3 ∷ 1 ∷ 6 ∷ 7 ∷ 8 ∷ 10 ∷ [])
     ∷ checkImage (3 ∷ 0 ∷ 6 ∷ 6 ∷ []) ∷ checkImage (3 ∷ 0 ∷ 7 ∷ []) ∷ checkImage (3 ∷ 2 ∷ []) ∷ checkImage (1 ∷ 10 ∷ []) ∷ []
     ≡ Done ∷ Damaged 4 ∷ Done ∷ Done ∷ Done ∷ Damaged 5 ∷ Damaged 3 ∷ Damaged 2 ∷ Damaged 1 ∷ Damaged 1 ∷ []
-unfolding checkImage parse readNumber isAmong nonempty imageFormat mostRlen leastMlen mostMlen mtypes runsFormat
+unfolding checkImage parse readNumber isAmong nonempty imageFormat topRlen topMlen leastMlen mtypes runsFormat
 large = refl
 
 -- the shortest inputs that are refused. Only cut short, the place is the length (02, Six): nothing; version 1 alone. The version 0, where images
@@ -81,7 +81,7 @@ large = refl
 -- group, and a larger number is no version, so that no image goes on at the first byte
 shortest : checkImage [] ∷ checkImage (1 ∷ []) ∷ checkImage (0 ∷ []) ∷ checkImage (129 ∷ 0 ∷ []) ∷ checkImage (130 ∷ 0 ∷ []) ∷ checkImage (131 ∷ 0 ∷ []) ∷ []
     ≡ Damaged 0 ∷ Damaged 1 ∷ Damaged 0 ∷ Damaged 0 ∷ Damaged 0 ∷ Damaged 0 ∷ []
-unfolding checkImage parse readNumber isAmong nonempty imageFormat mostRlen leastMlen mostMlen mtypes runsFormat
+unfolding checkImage parse readNumber isAmong nonempty imageFormat topRlen topMlen leastMlen mtypes runsFormat
 shortest = refl
 
 -- another version; MLEN not above RLEN; an mtype that cannot arise; a tile size above its maximum; a run that touches the one before it; a run
@@ -90,13 +90,13 @@ damaged : checkImage (4 ∷ []) ∷ checkImage (1 ∷ 7 ∷ 7 ∷ []) ∷ checkI
     ∷ checkImage (smallest (2 ∷ 0 ∷ 1 ∷ 9 ∷ 0 ∷ 1 ∷ 9 ∷ [])) ∷ checkImage (smallest (1 ∷ 0 ∷ 0 ∷ []))
     ∷ checkImage (smallest (1 ∷ 128 ∷ 2 ∷ 1 ∷ 9 ∷ [])) ∷ checkImage (smallest (2 ∷ 254 ∷ 1 ∷ 1 ∷ 9 ∷ [])) ∷ []
     ≡ Damaged 0 ∷ Damaged 2 ∷ Damaged 3 ∷ Damaged 4 ∷ Damaged 13 ∷ Damaged 11 ∷ Damaged 11 ∷ Damaged 10 ∷ []
-unfolding checkImage parse readNumber isAmong nonempty imageFormat mostRlen leastMlen mostMlen mtypes runsFormat
+unfolding checkImage parse readNumber isAmong nonempty imageFormat topRlen topMlen leastMlen mtypes runsFormat
 damaged = refl
 
 -- three tile sizes; a tile_k of 7, which only tile_n can be
 smallSizedRead : checkImage (1 ∷ 6 ∷ 8 ∷ 1 ∷ 3 ∷ 2 ∷ 7 ∷ 0 ∷ 0 ∷ 0 ∷ []) ∷ checkImage (1 ∷ 6 ∷ 8 ∷ 1 ∷ 3 ∷ 7 ∷ 2 ∷ 0 ∷ 0 ∷ 0 ∷ []) ∷ []
     ≡ Done ∷ Damaged 5 ∷ []
-unfolding checkImage parse readNumber isAmong nonempty imageFormat mostRlen leastMlen mostMlen mtypes runsFormat
+unfolding checkImage parse readNumber isAmong nonempty imageFormat topRlen topMlen leastMlen mtypes runsFormat
 smallSizedRead = refl
 
 -- 15 names its place
@@ -105,7 +105,7 @@ place = refl
 
 -- buffers that aren't of the machine's size stay as they are
 unfit : readImage twoRuns (5 ∷ []) (1 ∷ 0 ∷ []) .marks ≡ 1 ∷ 0 ∷ []
-unfolding readImage parse readNumber isAmong nonempty imageFormat mostRlen leastMlen mostMlen mtypes runsFormat
+unfolding readImage parse readNumber isAmong nonempty imageFormat topRlen topMlen leastMlen mtypes runsFormat
 unfit = refl
 
 -- a halving machine of RLEN 256, MLEN 1,024 and ELEN 64 (four rows of 32 bytes) with mtype 9 and three different sizes, and two runs
@@ -121,7 +121,7 @@ sizedRead : checkImage (3 ∷ 1 ∷ 6 ∷ 8 ∷ 10 ∷ 9 ∷ 3 ∷ 2 ∷ 20 ∷ 
     ∷ checkImage (3 ∷ 1 ∷ 6 ∷ 8 ∷ 10 ∷ 9 ∷ 4 ∷ 4 ∷ 32 ∷ 0 ∷ 0 ∷ 0 ∷ []) ∷ checkImage (3 ∷ 1 ∷ 6 ∷ 8 ∷ 10 ∷ 9 ∷ 5 ∷ [])
     ∷ checkImage (3 ∷ 1 ∷ 6 ∷ 8 ∷ 10 ∷ 9 ∷ 4 ∷ 5 ∷ []) ∷ checkImage (3 ∷ 1 ∷ 6 ∷ 8 ∷ 10 ∷ 9 ∷ 4 ∷ 4 ∷ 33 ∷ []) ∷ []
     ≡ Done ∷ Done ∷ Damaged 6 ∷ Damaged 7 ∷ Damaged 8 ∷ []
-unfolding checkImage parse readNumber isAmong nonempty imageFormat mostRlen leastMlen mostMlen mtypes runsFormat
+unfolding checkImage parse readNumber isAmong nonempty imageFormat topRlen topMlen leastMlen mtypes runsFormat
 sizedRead = refl
 
 -- bounds, one after the other: a machine is beyond by its ELEN, by RLEN 1,024, by MLEN 8,192, and by none of these
@@ -137,5 +137,5 @@ none : checkImage (1 ∷ 6 ∷ 13 ∷ []) ∷ checkImage (2 ∷ 1 ∷ 9 ∷ 13 �
     ∷ checkImage (3 ∷ []) ∷ checkImage (3 ∷ 0 ∷ []) ∷ checkImage (3 ∷ 0 ∷ 5 ∷ []) ∷ checkImage (3 ∷ 0 ∷ 5 ∷ 9 ∷ []) ∷ []
     ≡ Damaged 2 ∷ Damaged 3 ∷ Damaged 2 ∷ Damaged 3 ∷ Damaged 4 ∷ Damaged 4 ∷ Damaged 4 ∷ Damaged 5 ∷ Damaged 5 ∷ Damaged 5 ∷ Damaged 5
     ∷ Damaged 1 ∷ Damaged 2 ∷ Damaged 3 ∷ Damaged 4 ∷ []
-unfolding checkImage parse readNumber isAmong nonempty imageFormat mostRlen leastMlen mostMlen mtypes runsFormat
+unfolding checkImage parse readNumber isAmong nonempty imageFormat topRlen topMlen leastMlen mtypes runsFormat
 none = refl

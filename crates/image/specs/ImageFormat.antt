@@ -1,6 +1,6 @@
 -- The format of all images: each number has the range that the numbers before it leave. specs/Theorems.antt says that it accepts exactly
 -- the images of machines that are not at fault.
-use mathlib.Core.Bool.{Bool, true, false, cond, _&&_}
+use mathlib.Core.Bool.{cond, _&&_}
 use mathlib.Core.List.{List, [], _∷_}
 use Prim.Native.Nat.{ℕ, zero, suc, _+_, _-_, _*_, _^_, min}
 use lib.Dec.{eqb, ltb}
@@ -16,37 +16,40 @@ pub record Described : Type 0 where
   pub header : Header
   pub body : List Run
 
--- the version, and what it says of the machine: whether it is beyond the old bounds, its rule, and the exponent of ELEN. Of version 3 rule
--- and exponent follow; of version 2 the rule follows and is 1, of version 1 it is 0, and ELEN is 32
-abbrev pub versionFormat : (Bool → ℕ → ℕ → Format Described) → Format Described
+-- the version, and what it says of the machine: its rule, and the exponent of ELEN. Of version 1 the rule is 0 and ELEN is 32; of version 2 the
+-- rule follows and is 1, and ELEN is 32; of version 3 both follow
+abbrev pub versionFormat : ((version rule elen : ℕ) → Format Described) → Format Described
 versionFormat K =
     number (span 1 3) λ version.
-    cond (eqb version 3)
-    (number (span 0 1) λ rule. number (span 5 6) λ elen. K true rule elen)
-    (cond (eqb version 2) (number (span 1 1) λ rule. K false rule 5) (K false 0 5))
+    cond (eqb version 1)
+    (K version 0 5)
+    (cond (eqb version 2) (number (span 1 1) λ rule. K version rule 5) (number (span 0 1) λ rule. number (span 5 6) λ elen. K version rule elen))
 
--- the exponents of RLEN and MLEN: RLEN above ELEN, from 64 on and up to 512 or 4,096, and MLEN above RLEN, up to 4,096 or 65,536; "readers
--- accept no other": with ELEN 32 and an RLEN of the old bounds, only an MLEN above 4,096 is beyond them
-unfoldable pub mostRlen : Bool → ℕ
-mostRlen large = cond large 12 9
+-- the exponents of RLEN and MLEN: RLEN above ELEN and up to 512, from version 3 on up to 4,096; MLEN above RLEN and up to 4,096, from version 3
+-- on up to 65,536
+unfoldable pub topRlen : (version : ℕ) → ℕ
+topRlen version = cond (ltb version 3) 9 12
 
-unfoldable pub leastMlen : Bool → (elen rlen : ℕ) → ℕ
-leastMlen large elen rlen = cond (large && (eqb elen 5 && ltb rlen 10)) 13 (suc rlen)
+unfoldable pub topMlen : (version : ℕ) → ℕ
+topMlen version = cond (ltb version 3) 12 16
 
-unfoldable pub mostMlen : Bool → ℕ
-mostMlen large = cond large 16 12
+-- "Writers use the lowest version that can hold the machine, and readers accept no other": of version 3, with ELEN 32 and an RLEN of the old
+-- bounds, only an MLEN above 4,096 is beyond them
+unfoldable pub leastMlen : (version elen rlen : ℕ) → ℕ
+leastMlen version elen rlen = cond (eqb version 3 && (eqb elen 5 && ltb rlen 10)) 13 (suc rlen)
 
-abbrev pub shapeFormat : (ℕ → ℕ → ℕ → ℕ → Format Described) → Format Described
+abbrev pub shapeFormat : ((rule elen rlen mlen : ℕ) → Format Described) → Format Described
 shapeFormat K =
-    versionFormat λ large rule elen.
-    number (span (suc elen) (mostRlen large)) λ rlen.
-    number (span (leastMlen large elen rlen) (mostMlen large)) λ mlen.
+    versionFormat λ version rule elen.
+    number (span (suc elen) (topRlen version)) λ rlen.
+    number (span (leastMlen version elen rlen) (topMlen version)) λ mlen.
     K rule elen rlen mlen
 
--- the mtypes that can arise, by the exponent of ELEN: msew up to 2 or 3, and with maccq 0, or 0 and 1
+-- the mtypes that can arise, by the exponent of ELEN: msew, the exponent of SEW less 3, alone, while SEW is at most ELEN; with maccq (8), while
+-- 4 x SEW is at most ELEN; and 2^63
 unfoldable pub mtypes : (elen : ℕ) → List Range
 mtypes elen =
-    record { low = 0; high = elen - 3 } ∷ record { low = 8; high = elen + 3 } ∷ record { low = 2 ^ 63; high = 2 ^ 63 } ∷ []
+    record { low = 0; high = elen - 3 } ∷ record { low = 8; high = 8 + (elen - 5) } ∷ record { low = 2 ^ 63; high = 2 ^ 63 } ∷ []
 
 -- mtype, and tile sizes up to their maxima at SEW 8, of a machine with registers of so many rows, each of so many bytes
 abbrev pub tilesFormat : (elen rows columns : ℕ) → (ℕ → ℕ → ℕ → ℕ → Format Described) → Format Described

@@ -26,10 +26,10 @@ use Rattle.machine.proofs.StepLaws.{permitted-bounds}
 use Rattle.image.specs.Cells.{Cell, Run, runs, cellsOf, Fit}
 use Rattle.image.specs.Cells.Run.{run}
 use Rattle.image.specs.Images.{Header, headerOf, beyond, version, fields, runsBytes, imageOf}
-use Rattle.image.specs.ImageFormat.{Described, mostRlen, mostMlen, mtypes, total, runsFormat, imageFormat}
+use Rattle.image.specs.ImageFormat.{Described, mtypes, total, runsFormat, imageFormat}
 use Rattle.image.proofs.RunLaws.{fit-runs}
 use Rattle.image.proofs.CellLaws.{length-cells}
-use Rattle.image.proofs.ImageLaws.{Room, room-next, room-first, among-span, fit-first, afterRule}
+use Rattle.image.proofs.ImageLaws.{Room, room-next, room-first, among-span, fit-first, top-rlen, top-mlen, afterRule}
 use Rattle.image.proofs.HeaderLaws.{held}
 
 -- more bytes than any image has
@@ -213,28 +213,18 @@ runs-fit f (suc l) least room k small h w = (
   ),
 )
 
-few-rlen : (large : Bool) → mostRlen large ≤ 12
-unfolding mostRlen
-few-rlen true = omega arith
-few-rlen false = omega arith
-
-few-mlen : (large : Bool) → mostMlen large ≤ 16
-unfolding mostMlen
-few-mlen true = omega arith
-few-mlen false = omega arith
-
-after-fits : (large : Bool) (rule elen : ℕ) → elen ≤ 6 → Short (most - 30) (afterRule large rule elen)
+after-fits : (v rule elen : ℕ) → elen ≤ 6 → Short (most - 30) (afterRule v rule elen)
 unfolding mtypes
-after-fits large rule elen few = (
+after-fits v rule elen few = (
   omega arith,
-  (omega (arith, few-rlen large), tt),
+  (omega (arith, top-rlen v), tt),
   λ r hr. let kr = among-span hr in (
     omega arith,
-    (omega (arith, few-mlen large), tt),
+    (omega (arith, top-mlen v), tt),
     λ m hm.
         let km = among-span hm in
-        let fr = few-rlen large in
-        let fm = few-mlen large in
+        let fr = top-rlen v in
+        let fm = top-mlen v in
         let rows = power-small (m - r) (omega arith) in
         let columns = power-small (r - 3) (omega arith) in
         let size = power-small m (omega arith) in (
@@ -271,12 +261,12 @@ after-fits large rule elen few = (
 
 image-fits : Short most imageFormat
 unfolding imageFormat
-image-fits = (omega arith, (omega arith, tt), λ v hv. by (eqb v 3) (eqb v 2))
+image-fits = (omega arith, (omega arith, tt), λ v hv. by v (eqb v 1) (eqb v 2))
   where
-    by : (t u : Bool) → Short (most - 10) (cond t (number (span 0 1) λ rule. number (span 5 6) λ elen. afterRule true rule elen) (cond u (number (span 1 1) λ rule. afterRule false rule 5) (afterRule false 0 5)))
-    by true u = (omega arith, (omega arith, tt), λ r hr. (omega arith, (omega arith, tt), λ e he. after-fits true r e (among-span he .1)))
-    by false true = (omega arith, (omega arith, tt), λ r hr. short-more (afterRule false r 5) (most - 30) (most - 20) (omega arith) (after-fits false r 5 (omega arith)))
-    by false false = short-more (afterRule false 0 5) (most - 30) (most - 10) (omega arith) (after-fits false 0 5 (omega arith))
+    by : (v : ℕ) (t u : Bool) → Short (most - 10) (cond t (afterRule v 0 5) (cond u (number (span 1 1) λ rule. afterRule v rule 5) (number (span 0 1) λ rule. number (span 5 6) λ elen. afterRule v rule elen)))
+    by v true u = short-more (afterRule v 0 5) (most - 30) (most - 10) (omega arith) (after-fits v 0 5 (omega arith))
+    by v false true = (omega arith, (omega arith, tt), λ r hr. short-more (afterRule v r 5) (most - 30) (most - 20) (omega arith) (after-fits v r 5 (omega arith)))
+    by v false false = (omega arith, (omega arith, tt), λ r hr. (omega arith, (omega arith, tt), λ e he. after-fits v r e (among-span he .1)))
 
 pub place-short : (s : List ℕ) → Stops most (parse imageFormat s)
 place-short = parse-short imageFormat most image-fits

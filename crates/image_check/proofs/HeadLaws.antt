@@ -9,7 +9,7 @@ use lib.ListN.{length, drop, getD, drop-of-length-le}
 use lib.Seq.{drop-cons}
 use lib.Dec.{leb, ltb, eqb}
 use lib.Pow.{pow-mono}
-use borrow.Author.Tests.{lt-ltb, le-ltb, le-leb, lt-leb, eq-eqb, ne-eqb}
+use borrow.Author.Tests.{lt-ltb, le-ltb, le-leb, lt-leb, eq-eqb, ne-eqb, eqb-true}
 use Rattle.format.specs.Numbers.{span, Among}
 use Rattle.format.specs.Formats.{Format}
 use Rattle.format.specs.Formats.Format.{number}
@@ -22,7 +22,8 @@ use Rattle.reader.specs.declared.Number.the-variants.{Value, Fault}
 use Rattle.reader.specs.At.{found, numberAt}
 use Rattle.reader.proofs.FromLaws.{from-number, from-fault, from-value, from-stuck, from-start, took, took-in}
 use Rattle.image.specs.Images.{Header, machineFrom}
-use Rattle.image.specs.ImageFormat.{Described, mostRlen, leastMlen, mostMlen, mtypes, versionFormat, shapeFormat, tilesFormat, sealFormat, runsFormat, total, imageFormat}
+use Rattle.image.specs.ImageFormat.{Described, topRlen, topMlen, leastMlen, mtypes, versionFormat, shapeFormat, tilesFormat, sealFormat, runsFormat, total, imageFormat}
+use Rattle.image.proofs.ImageLaws.{top-rlen, top-mlen, least-above}
 use Rattle.image_check.specs.declared.head.Version.{Version}
 use Rattle.image_check.specs.declared.head.Version.the-variants.{Versioned, VersionBad}
 use Rattle.image_check.specs.declared.head.Shape.{Shape}
@@ -39,14 +40,14 @@ use Rattle.image_check.proofs.RunsLaws.{mapped, runs-with}
 -- ---- what a part that was read is known to be: whatever format follows it goes on from the place behind it
 
 -- the version, the rule and the exponent of ELEN
-pub record VersionedOk (s : List ℕ) (large : Bool) (rule elen at : ℕ) : Type 0 where
-  pub goes-on : (K : Bool → ℕ → ℕ → Format Described) → from (versionFormat K) s 0 ≡ from (K large rule elen) s at
+pub record VersionedOk (s : List ℕ) (version rule elen at : ℕ) : Type 0 where
+  pub goes-on : (K : ℕ → ℕ → ℕ → Format Described) → from (versionFormat K) s 0 ≡ from (K version rule elen) s at
   pub elen-ok : (5 ≤ elen) × (elen ≤ 6)
   pub there : at ≤ length s
 
 abbrev VersionOk : List ℕ → Version → Type 0
-VersionOk s (Versioned large rule elen at) = VersionedOk s large rule elen at
-VersionOk s (VersionBad p) = (K : Bool → ℕ → ℕ → Format Described) → from (versionFormat K) s 0 ≡ stopped p
+VersionOk s (Versioned version rule elen at) = VersionedOk s version rule elen at
+VersionOk s (VersionBad p) = (K : ℕ → ℕ → ℕ → Format Described) → from (versionFormat K) s 0 ≡ stopped p
 
 -- and the exponents
 pub record ShapedOk (s : List ℕ) (r m rule elen at : ℕ) : Type 0 where
@@ -98,149 +99,123 @@ HeadOk s (HeadBad p) = parse imageFormat s ≡ stopped p
 -- ---- the version, the rule, and the exponents of ELEN, RLEN and MLEN
 
 module _ (s : List ℕ) where
-  abbrev ofLarge : (Bool → ℕ → ℕ → Format Described) → Format Described
-  ofLarge K = number (span 0 1) λ rule. number (span 5 6) λ elen. K true rule elen
+  -- version 1
+  one-right : (a : ℕ) → numberAt s 0 1 3 ≡ Value 1 a → VersionOk s (Versioned 1 0 5 a)
+  one-right a e = record { goes-on = λ K. from-number s 0 1 3 1 a _ e; elen-ok = (omega arith, omega arith); there = took s 0 1 3 1 a e .behind (omega arith) }
 
-  abbrev ofHalving : (Bool → ℕ → ℕ → Format Described) → Format Described
-  ofHalving K = number (span 1 1) λ rule. K false rule 5
+  -- version 2
+  halving-right : (a : ℕ) → numberAt s 0 1 3 ≡ Value 2 a → (n : Number) → numberAt s a 1 1 ≡ n → VersionOk s (onward n VersionBad λ rule b. Versioned 2 rule 5 b)
+  halving-right a e (Value r b) e₁ = record {
+    goes-on = λ K. from-number s 0 1 3 2 a _ e ∙ from-number s a 1 1 r b (λ rule. K 2 rule 5) e₁;
+    elen-ok = (omega arith, omega arith);
+    there = took s a 1 1 r b e₁ .behind (took s 0 1 3 2 a e .behind (omega arith));
+  }
+  halving-right a e (Fault p) e₁ = λ K. from-number s 0 1 3 2 a _ e ∙ from-fault s a 1 1 p (λ rule. K 2 rule 5) e₁
 
-  abbrev behind : (Bool → ℕ → ℕ → Format Described) → (t u : Bool) → Format Described
-  behind K t u = cond t (ofLarge K) (cond u (ofHalving K) (K false 0 5))
+  -- a version from 3 on
+  module _ (v a : ℕ) (e : numberAt s 0 1 3 ≡ Value v a) (one : eqb v 1 ≡ false) (two : eqb v 2 ≡ false) where
+    abbrev elenThen : (ℕ → ℕ → ℕ → Format Described) → ℕ → Format Described
+    elenThen K rule = number (span 5 6) (K v rule)
 
-  module _ (v a : ℕ) (e : numberAt s 0 1 3 ≡ Value v a) where
-    past-version : (t : Bool) → eqb v 3 ≡ t → (u : Bool) → eqb v 2 ≡ u → (K : Bool → ℕ → ℕ → Format Described) → from (versionFormat K) s 0 ≡ from (behind K t u) s a
-    past-version t q u w K = from-number s 0 1 3 v a _ e ∙ ap (λ (t : Bool). from (behind K t (eqb v 2)) s a) q ∙ ap (λ (u : Bool). from (behind K t u) s a) w
+    past-version : (K : ℕ → ℕ → ℕ → Format Described) → from (versionFormat K) s 0 ≡ from (number (span 0 1) (elenThen K)) s a
+    past-version K = from-number s 0 1 3 v a _ e ∙ rw (one, two)
 
-    version-there : a ≤ length s
-    version-there = took s 0 1 3 v a e .behind (omega arith)
-
-    -- version 3
-    large-rest : (w : Bool) → eqb v 2 ≡ w → eqb v 3 ≡ true → (r b : ℕ) → numberAt s a 0 1 ≡ Value r b → (n : Number) → numberAt s b 5 6 ≡ n → VersionOk s (onward n VersionBad λ elen d. Versioned true r elen d)
-    large-rest w z q r b e₁ (Value el d) e₂ = record {
-      goes-on = λ K. past-version true q w z K ∙ from-number s a 0 1 r b (λ rule. number (span 5 6) λ elen. K true rule elen) e₁ ∙ from-number s b 5 6 el d (K true r) e₂;
+    large-rest : (r b : ℕ) → numberAt s a 0 1 ≡ Value r b → (n : Number) → numberAt s b 5 6 ≡ n → VersionOk s (onward n VersionBad λ elen d. Versioned v r elen d)
+    large-rest r b e₁ (Value el d) e₂ = record {
+      goes-on = λ K. past-version K ∙ from-number s a 0 1 r b (elenThen K) e₁ ∙ from-number s b 5 6 el d (K v r) e₂;
       elen-ok = let t = took s b 5 6 el d e₂ in (t .least, t .most);
-      there = took s b 5 6 el d e₂ .behind (took s a 0 1 r b e₁ .behind version-there);
+      there = took s b 5 6 el d e₂ .behind (took s a 0 1 r b e₁ .behind (took s 0 1 3 v a e .behind (omega arith)));
     }
-    large-rest w z q r b e₁ (Fault p) e₂ = λ K. past-version true q w z K ∙ from-number s a 0 1 r b (λ rule. number (span 5 6) λ elen. K true rule elen) e₁ ∙ from-fault s b 5 6 p (K true r) e₂
+    large-rest r b e₁ (Fault p) e₂ = λ K. past-version K ∙ from-number s a 0 1 r b (elenThen K) e₁ ∙ from-fault s b 5 6 p (K v r) e₂
 
-    large-right : (w : Bool) → eqb v 2 ≡ w → eqb v 3 ≡ true → (n : Number) → numberAt s a 0 1 ≡ n
-        → VersionOk s (onward n VersionBad λ rule b. onward (numberAt s b 5 6) VersionBad λ elen d. Versioned true rule elen d)
-    large-right w z q (Value r b) e₁ = large-rest w z q r b e₁ (numberAt s b 5 6) refl
-    large-right w z q (Fault p) e₁ = λ K. past-version true q w z K ∙ from-fault s a 0 1 p (λ rule. number (span 5 6) λ elen. K true rule elen) e₁
-
-    -- version 2
-    halving-right : eqb v 3 ≡ false → eqb v 2 ≡ true → (n : Number) → numberAt s a 1 1 ≡ n → VersionOk s (onward n VersionBad λ rule b. Versioned false rule 5 b)
-    halving-right q z (Value r b) e₁ = record {
-      goes-on = λ K. past-version false q true z K ∙ from-number s a 1 1 r b (λ rule. K false rule 5) e₁;
-      elen-ok = (omega arith, omega arith);
-      there = took s a 1 1 r b e₁ .behind version-there;
-    }
-    halving-right q z (Fault p) e₁ = λ K. past-version false q true z K ∙ from-fault s a 1 1 p (λ rule. K false rule 5) e₁
+    large-right : (n : Number) → numberAt s a 0 1 ≡ n → VersionOk s (onward n VersionBad λ rule b. onward (numberAt s b 5 6) VersionBad λ elen d. Versioned v rule elen d)
+    large-right (Value r b) e₁ = large-rest r b e₁ (numberAt s b 5 6) refl
+    large-right (Fault p) e₁ = λ K. past-version K ∙ from-fault s a 0 1 p (elenThen K) e₁
 
   version-right : VersionOk s (versionIn s)
   unfolding versionIn largeAt halvingAt
   version-right = go (numberAt s 0 1 3) refl
     where
-      by : (v a : ℕ) → numberAt s 0 1 3 ≡ Value v a → (t : Bool) → eqb v 3 ≡ t → (u : Bool) → eqb v 2 ≡ u
-          → VersionOk s (cond t (largeAt s a) (cond u (halvingAt s a) (Versioned false 0 5 a)))
-      by v a e true q u w = large-right v a e u w q (numberAt s a 0 1) refl
-      by v a e false q true w = halving-right v a e q w (numberAt s a 1 1) refl
-      by v a e false q false w = record { goes-on = past-version v a e false q false w; elen-ok = (omega arith, omega arith); there = version-there v a e }
+      by : (v a : ℕ) → numberAt s 0 1 3 ≡ Value v a → (t : Bool) → eqb v 1 ≡ t → (u : Bool) → eqb v 2 ≡ u
+          → VersionOk s (cond t (Versioned 1 0 5 a) (cond u (halvingAt s a) (largeAt s v a)))
+      by v a e true q u w = one-right a (e ∙ ap (λ (x : ℕ). Value x a) (eqb-true v 1 q))
+      by v a e false q true w = halving-right a (e ∙ ap (λ (x : ℕ). Value x a) (eqb-true v 2 w)) (numberAt s a 1 1) refl
+      by v a e false q false w = large-right v a e q w (numberAt s a 0 1) refl
 
-      go : (n : Number) → numberAt s 0 1 3 ≡ n → VersionOk s (onward n VersionBad λ v a. cond (eqb v 3) (largeAt s a) (cond (eqb v 2) (halvingAt s a) (Versioned false 0 5 a)))
-      go (Value v a) e = by v a e (eqb v 3) refl (eqb v 2) refl
+      go : (n : Number) → numberAt s 0 1 3 ≡ n → VersionOk s (onward n VersionBad λ v a. cond (eqb v 1) (Versioned 1 0 5 a) (cond (eqb v 2) (halvingAt s a) (largeAt s v a)))
+      go (Value v a) e = by v a e (eqb v 1) refl (eqb v 2) refl
       go (Fault p) e = λ K. from-fault s 0 1 3 p _ e
 
-abbrev mlenThen : (ℕ → ℕ → Format Described) → (large : Bool) (elen r : ℕ) → Format Described
-mlenThen K large elen r = number (span (leastMlen large elen r) (mostMlen large)) (K r)
+abbrev mlenThen : (ℕ → ℕ → Format Described) → (version elen r : ℕ) → Format Described
+mlenThen K version elen r = number (span (leastMlen version elen r) (topMlen version)) (K r)
 
-abbrev rlenThen : (ℕ → ℕ → ℕ → ℕ → Format Described) → (large : Bool) (rule elen : ℕ) → Format Described
-rlenThen K large rule elen = number (span (suc elen) (mostRlen large)) (mlenThen (K rule elen) large elen)
-
-pub most-rlen : (large : Bool) → mostRlen large ≤ 12
-unfolding mostRlen
-most-rlen true = omega arith
-most-rlen false = omega arith
-
-most-mlen : (large : Bool) → mostMlen large ≤ 16
-unfolding mostMlen
-most-mlen true = omega arith
-most-mlen false = omega arith
-
-least-mlen : (large : Bool) (e r : ℕ) → r ≤ 12 → r < leastMlen large e r
-unfolding leastMlen
-least-mlen false e r h = omega arith
-least-mlen true e r h = go (eqb e 5) (ltb r 10)
-  where
-    go : (t u : Bool) → r < cond (t && u) 13 (suc r)
-    go true true = omega arith
-    go true false = omega arith
-    go false u = omega arith
+abbrev rlenThen : (ℕ → ℕ → ℕ → ℕ → Format Described) → (version rule elen : ℕ) → Format Described
+rlenThen K version rule elen = number (span (suc elen) (topRlen version)) (mlenThen (K rule elen) version elen)
 
 -- by the tests of the code
-pub least-old : (large : Bool) (e r : ℕ) → large ≡ false → r + 1 ≡ leastMlen large e r
+pub least-other : (v e r : ℕ) → ¬ (v ≡ 3) → r + 1 ≡ leastMlen v e r
 unfolding leastMlen
-least-old large e r h = rw h (omega arith)
+least-other v e r d = rw (ne-eqb v 3 d) (omega arith)
 
-pub least-wide : (large : Bool) (e r : ℕ) → large ≡ true → ¬ (e ≡ 5) → r + 1 ≡ leastMlen large e r
+pub least-wide : (v e r : ℕ) → v ≡ 3 → ¬ (e ≡ 5) → r + 1 ≡ leastMlen v e r
 unfolding leastMlen
-least-wide large e r h d = rw (h, ne-eqb e 5 d) (omega arith)
+least-wide v e r h d = rw (eq-eqb v 3 h, ne-eqb e 5 d) (omega arith)
 
-pub least-far : (large : Bool) (e r : ℕ) → large ≡ true → 10 ≤ r → r + 1 ≡ leastMlen large e r
+pub least-far : (v e r : ℕ) → v ≡ 3 → 10 ≤ r → r + 1 ≡ leastMlen v e r
 unfolding leastMlen
-least-far large e r h l = rw (h, le-ltb r 10 l) (go (eqb e 5))
+least-far v e r h l = rw (eq-eqb v 3 h, le-ltb r 10 l) (go (eqb e 5))
   where
     go : (t : Bool) → r + 1 ≡ cond (t && false) 13 (suc r)
     go true = omega arith
     go false = omega arith
 
-pub least-near : (large : Bool) (e r : ℕ) → large ≡ true → e ≡ 5 → r < 10 → 13 ≡ leastMlen large e r
+pub least-near : (v e r : ℕ) → v ≡ 3 → e ≡ 5 → r < 10 → 13 ≡ leastMlen v e r
 unfolding leastMlen
-least-near large e r h f l = rw (h, eq-eqb e 5 f, lt-ltb r 10 l)
+least-near v e r h f l = rw (eq-eqb v 3 h, eq-eqb e 5 f, lt-ltb r 10 l)
 
 module _ (s : List ℕ) where
-  module _ (large : Bool) (rule elen a : ℕ) (h : VersionedOk s large rule elen a) where
+  module _ (version rule elen a : ℕ) (h : VersionedOk s version rule elen a) where
     shift : suc elen ≡ elen + 1
     shift = omega arith
 
-    rlen-bad : (p : ℕ) → numberAt s a (elen + 1) (mostRlen large) ≡ Fault p → ShapeOk s (ShapeBad p)
-    rlen-bad p e₁ K = h .goes-on (rlenThen K) ∙ from-fault s a (suc elen) (mostRlen large) p (mlenThen (K rule elen) large elen) (subst (λ (x : ℕ). numberAt s a x (mostRlen large) ≡ Fault p) (sym shift) e₁)
+    rlen-bad : (p : ℕ) → numberAt s a (elen + 1) (topRlen version) ≡ Fault p → ShapeOk s (ShapeBad p)
+    rlen-bad p e₁ K = h .goes-on (rlenThen K) ∙ from-fault s a (suc elen) (topRlen version) p (mlenThen (K rule elen) version elen) (subst (λ (x : ℕ). numberAt s a x (topRlen version) ≡ Fault p) (sym shift) e₁)
 
-    module _ (r b : ℕ) (e₁ : numberAt s a (elen + 1) (mostRlen large) ≡ Value r b) where
-      e₀ : numberAt s a (suc elen) (mostRlen large) ≡ Value r b
-      e₀ = subst (λ (x : ℕ). numberAt s a x (mostRlen large) ≡ Value r b) (sym shift) e₁
+    module _ (r b : ℕ) (e₁ : numberAt s a (elen + 1) (topRlen version) ≡ Value r b) where
+      e₀ : numberAt s a (suc elen) (topRlen version) ≡ Value r b
+      e₀ = subst (λ (x : ℕ). numberAt s a x (topRlen version) ≡ Value r b) (sym shift) e₁
 
-      mlen-bad : (p : ℕ) → numberAt s b (leastMlen large elen r) (mostMlen large) ≡ Fault p → ShapeOk s (ShapeBad p)
+      mlen-bad : (p : ℕ) → numberAt s b (leastMlen version elen r) (topMlen version) ≡ Fault p → ShapeOk s (ShapeBad p)
       mlen-bad p e₂ K =
-          h .goes-on (rlenThen K) ∙ from-number s a (suc elen) (mostRlen large) r b (mlenThen (K rule elen) large elen) e₀
-          ∙ from-fault s b (leastMlen large elen r) (mostMlen large) p (K rule elen r) e₂
+          h .goes-on (rlenThen K) ∙ from-number s a (suc elen) (topRlen version) r b (mlenThen (K rule elen) version elen) e₀
+          ∙ from-fault s b (leastMlen version elen r) (topMlen version) p (K rule elen r) e₂
 
-      shaped : (m d : ℕ) → numberAt s b (leastMlen large elen r) (mostMlen large) ≡ Value m d → ShapedOk s r m rule elen d
+      shaped : (m d : ℕ) → numberAt s b (leastMlen version elen r) (topMlen version) ≡ Value m d → ShapedOk s r m rule elen d
       shaped m d e₂ =
-          let t₁ = took s a (elen + 1) (mostRlen large) r b e₁ in
-          let t₂ = took s b (leastMlen large elen r) (mostMlen large) m d e₂ in
-          let few : r ≤ 12 = omega (arith, t₁ .most, most-rlen large) in
+          let t₁ = took s a (elen + 1) (topRlen version) r b e₁ in
+          let t₂ = took s b (leastMlen version elen r) (topMlen version) m d e₂ in
+          let few : r ≤ 12 = omega (arith, t₁ .most, top-rlen version) in
           record {
-            goes-on = λ K. h .goes-on (rlenThen K) ∙ from-number s a (suc elen) (mostRlen large) r b (mlenThen (K rule elen) large elen) e₀
-                ∙ from-number s b (leastMlen large elen r) (mostMlen large) m d (K rule elen r) e₂;
+            goes-on = λ K. h .goes-on (rlenThen K) ∙ from-number s a (suc elen) (topRlen version) r b (mlenThen (K rule elen) version elen) e₀
+                ∙ from-number s b (leastMlen version elen r) (topMlen version) m d (K rule elen r) e₂;
             elen-ok = h .elen-ok;
             rlen-ok = (omega (arith, t₁ .least, h .elen-ok), few);
-            mlen-ok = (omega (arith, t₂ .least, least-mlen large elen r few), omega (arith, t₂ .most, most-mlen large));
+            mlen-ok = (omega (arith, t₂ .least, least-above version elen r few), omega (arith, t₂ .most, top-mlen version));
             there = t₂ .behind (t₁ .behind (h .there));
           }
 
-    exponents-right : ShapeOk s (exponentsAt s large rule elen a)
+    exponents-right : ShapeOk s (exponentsAt s version rule elen a)
     unfolding exponentsAt
-    exponents-right = next (numberAt s a (elen + 1) (mostRlen large)) refl
+    exponents-right = next (numberAt s a (elen + 1) (topRlen version)) refl
       where
-        last : (r b : ℕ) (e₁ : numberAt s a (elen + 1) (mostRlen large) ≡ Value r b) (n : Number) → numberAt s b (leastMlen large elen r) (mostMlen large) ≡ n
+        last : (r b : ℕ) (e₁ : numberAt s a (elen + 1) (topRlen version) ≡ Value r b) (n : Number) → numberAt s b (leastMlen version elen r) (topMlen version) ≡ n
             → ShapeOk s (onward n ShapeBad λ m d. Shaped r m rule elen d)
         last r b e₁ (Value m d) e = shaped r b e₁ m d e
         last r b e₁ (Fault p) e = mlen-bad r b e₁ p e
 
-        next : (n : Number) → numberAt s a (elen + 1) (mostRlen large) ≡ n
-            → ShapeOk s (onward n ShapeBad λ r b. onward (numberAt s b (leastMlen large elen r) (mostMlen large)) ShapeBad λ m d. Shaped r m rule elen d)
-        next (Value r b) e = last r b e (numberAt s b (leastMlen large elen r) (mostMlen large)) refl
+        next : (n : Number) → numberAt s a (elen + 1) (topRlen version) ≡ n
+            → ShapeOk s (onward n ShapeBad λ r b. onward (numberAt s b (leastMlen version elen r) (topMlen version)) ShapeBad λ m d. Shaped r m rule elen d)
+        next (Value r b) e = last r b e (numberAt s b (leastMlen version elen r) (topMlen version)) refl
         next (Fault p) e = rlen-bad p e
 
   shape-right : ShapeOk s (shapeIn s)
@@ -248,11 +223,11 @@ module _ (s : List ℕ) where
   shape-right = go (versionIn s) (version-right s)
     where
       go : (x : Version) → VersionOk s x → ShapeOk s (withVersion s x)
-      go (Versioned large rule elen a) h = exponents-right large rule elen a h
+      go (Versioned version rule elen a) h = exponents-right version rule elen a h
       go (VersionBad p) h = λ K. h (rlenThen K)
 
-  pub version-known : (large : Bool) (rule elen a : ℕ) → versionIn s ≡ Versioned large rule elen a → VersionedOk s large rule elen a
-  version-known large rule elen a e = subst (VersionOk s) e (version-right s)
+  pub version-known : (version rule elen a : ℕ) → versionIn s ≡ Versioned version rule elen a → VersionedOk s version rule elen a
+  version-known version rule elen a e = subst (VersionOk s) e (version-right s)
 
   pub shape-known : (r m rule elen a : ℕ) → shapeIn s ≡ Shaped r m rule elen a → ShapedOk s r m rule elen a
   shape-known r m rule elen a e = subst (ShapeOk s) e shape-right
@@ -284,23 +259,23 @@ module _ (s : List ℕ) (elen at : ℕ) (few : (5 ≤ elen) × (elen ≤ 6)) whe
     unfolding mtypes
     mtype-small h = mtype-value (omega (arith, few)) (inl (omega arith, h))
 
-    pub mtype-eight : 8 ≤ b → b ≤ elen + 3 → Value b (at + 1) ≡ mtypeAt s elen at
+    pub mtype-eight : 8 ≤ b → b ≤ 8 + (elen - 5) → Value b (at + 1) ≡ mtypeAt s elen at
     unfolding mtypes
     mtype-eight l h = mtype-value (omega (arith, few)) (inr (inl (l, h)))
 
-    pub mtype-none : b < 128 → elen - 3 < b → (b < 8) ⊎ (elen + 3 < b) → Fault at ≡ mtypeAt s elen at
+    pub mtype-none : b < 128 → elen - 3 < b → (b < 8) ⊎ (8 + (elen - 5) < b) → Fault at ≡ mtypeAt s elen at
     unfolding mtypeAt readNumber isAmong mtypes
     mtype-none k a o = rw (start, lt-ltb b 128 k, le-leb 0 b (omega arith), lt-leb b (elen - 3) a, apart o, lt-leb (2 ^ 63) b (omega arith)) (ap Fault (omega arith))
       where
-        apart : (b < 8) ⊎ (elen + 3 < b) → cond (leb 8 b) (leb b (elen + 3)) false ≡ false
+        apart : (b < 8) ⊎ (8 + (elen - 5) < b) → cond (leb 8 b) (leb b (8 + (elen - 5))) false ≡ false
         apart (inl l) = rw (lt-leb 8 b l)
-        apart (inr l) = rw (le-leb 8 b (omega (arith, few)), lt-leb b (elen + 3) l)
+        apart (inr l) = rw (le-leb 8 b (omega (arith, few)), lt-leb b (8 + (elen - 5)) l)
 
     pub mtype-odd : 128 < b → b < 256 → Fault at ≡ mtypeAt s elen at
     unfolding mtypeAt readNumber nonempty mtypes
     mtype-odd k l =
         let none-left : (low high : ℕ) → (high - (b - 128)) / 128 < max 1 ((low + 127 - (b - 128)) / 128) → leb (max 1 ((low + 127 - (b - 128)) / 128)) ((high - (b - 128)) / 128) ≡ false = λ low high q. lt-leb _ _ q in
-        rw (start, le-ltb b 128 (omega arith), none-left 0 (elen - 3) (omega (arith, few)), none-left 8 (elen + 3) (omega (arith, few)), none-left (2 ^ 63) (2 ^ 63) (omega arith)) (ap Fault (omega arith))
+        rw (start, le-ltb b 128 (omega arith), none-left 0 (elen - 3) (omega (arith, few)), none-left 8 (8 + (elen - 5)) (omega (arith, few)), none-left (2 ^ 63) (2 ^ 63) (omega arith)) (ap Fault (omega arith))
 
     pub mtype-wide : b ≡ 128 → numberAt s at (2 ^ 63) (2 ^ 63) ≡ mtypeAt s elen at
     unfolding mtypeAt numberAt

@@ -12,7 +12,7 @@ use Rattle.image.specs.declared.Imaged.{Imaged}
 use Rattle.image.specs.declared.Imaged.the-variants.{Done, BadArguments, NoRoom, Damaged}
 use Rattle.image.specs.Cells.{Run}
 use Rattle.image.specs.Images.{Header, machineFrom}
-use Rattle.image.specs.ImageFormat.{Described, mostRlen, leastMlen, mostMlen, mtypes, runsFormat}
+use Rattle.image.specs.ImageFormat.{Described, topRlen, topMlen, leastMlen, mtypes, runsFormat}
 use Rattle.image.specs.Reading.{verdictOf}
 use Rattle.image_check.specs.declared.head.Version.{Version}
 use Rattle.image_check.specs.declared.head.Version.the-variants.{Versioned, VersionBad}
@@ -34,32 +34,32 @@ abbrev pub onward : {R : Type 0} → Number → (bad : ℕ → R) → (good : �
 onward (Value n at) bad good = good n at
 onward (Fault p) bad good = bad p
 
--- of version 3 the rule and the exponent of ELEN
-unfoldable pub largeAt : List ℕ → ℕ → Version
-largeAt s at =
+-- of a version from 3 on the rule and the exponent of ELEN
+unfoldable pub largeAt : List ℕ → (version at : ℕ) → Version
+largeAt s version at =
     onward (numberAt s at 0 1) VersionBad λ rule a.
     onward (numberAt s a 5 6) VersionBad λ elen b.
-    Versioned true rule elen b
+    Versioned version rule elen b
 
 -- of version 2 the rule
 unfoldable pub halvingAt : List ℕ → ℕ → Version
-halvingAt s at = onward (numberAt s at 1 1) VersionBad λ rule a. Versioned false rule 5 a
+halvingAt s at = onward (numberAt s at 1 1) VersionBad λ rule a. Versioned 2 rule 5 a
 
 -- the version, and what it says of the machine
 unfoldable pub versionIn : List ℕ → Version
 versionIn s =
     onward (numberAt s 0 1 3) VersionBad λ version at.
-    cond (eqb version 3) (largeAt s at) (cond (eqb version 2) (halvingAt s at) (Versioned false 0 5 at))
+    cond (eqb version 1) (Versioned 1 0 5 at) (cond (eqb version 2) (halvingAt s at) (largeAt s version at))
 
 -- the exponents of RLEN and MLEN
-unfoldable pub exponentsAt : List ℕ → (large : Bool) (rule elen at : ℕ) → Shape
-exponentsAt s large rule elen a =
-    onward (numberAt s a (elen + 1) (mostRlen large)) ShapeBad λ rlen b.
-    onward (numberAt s b (leastMlen large elen rlen) (mostMlen large)) ShapeBad λ mlen e.
+unfoldable pub exponentsAt : List ℕ → (version rule elen at : ℕ) → Shape
+exponentsAt s version rule elen a =
+    onward (numberAt s a (elen + 1) (topRlen version)) ShapeBad λ rlen b.
+    onward (numberAt s b (leastMlen version elen rlen) (topMlen version)) ShapeBad λ mlen e.
     Shaped rlen mlen rule elen e
 
 abbrev pub withVersion : List ℕ → Version → Shape
-withVersion s (Versioned large rule elen at) = exponentsAt s large rule elen at
+withVersion s (Versioned version rule elen at) = exponentsAt s version rule elen at
 withVersion s (VersionBad p) = ShapeBad p
 
 unfoldable pub shapeIn : List ℕ → Shape

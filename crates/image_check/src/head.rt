@@ -6,12 +6,12 @@ use reader::number_from;
 use reader::wide;
 ghost use mathlib.Core.Path.{_≡_};
 ghost use Prim.Native.Nat.{_^_, _≤_};
-ghost use Rattle.image.specs.ImageFormat.{mostRlen, leastMlen, mostMlen};
+ghost use Rattle.image.specs.ImageFormat.{topRlen, topMlen, leastMlen};
 ghost use Rattle.image_check.specs.Parts.{largeAt, halvingAt, versionIn, exponentsAt, shapeIn, mtypeAt, tilesAt, tailAt, headIn};
 
-// Whether the version is 3, the rule, the exponent of ELEN and the place behind them, or the place of a fault.
+// The version, the rule, the exponent of ELEN and the place behind them, or the place of a fault.
 pub enum Version {
-    Versioned(bool, u64, u64, usize),
+    Versioned(u64, u64, u64, usize),
     VersionBad(usize),
 }
 
@@ -39,9 +39,9 @@ pub enum Head {
     HeadBad(usize),
 }
 
-// The rule and the exponent of ELEN behind version 3.
-fn large_at(s: &[u8], at: usize) -> Version
-    ensures { λ r. ⌜ r ≡ largeAt (now (s .entry)) at ⌝ }
+// The rule and the exponent of ELEN behind a version from 3 on.
+fn large_at(s: &[u8], version: u64, at: usize) -> Version
+    ensures { λ r. ⌜ r ≡ largeAt (now (s .entry)) version at ⌝ }
 {
     match number_from(s, at, 0, 1) {
         Number::Fault(p) => {
@@ -52,7 +52,7 @@ fn large_at(s: &[u8], at: usize) -> Version
                 return Version::VersionBad(p);
             }
             Number::Value(elen, b) => {
-                return Version::Versioned(true, rule, elen, b);
+                return Version::Versioned(version, rule, elen, b);
             }
         },
     }
@@ -67,7 +67,7 @@ fn halving_at(s: &[u8], at: usize) -> Version
             return Version::VersionBad(p);
         }
         Number::Value(rule, a) => {
-            return Version::Versioned(false, rule, 5, a);
+            return Version::Versioned(2, rule, 5, a);
         }
     }
 }
@@ -81,37 +81,37 @@ fn version_of(s: &[u8]) -> Version
             return Version::VersionBad(p);
         }
         Number::Value(version, a) => {
-            if version == 3 {
-                return large_at(s, a);
+            if version == 1 {
+                return Version::Versioned(1, 0, 5, a);
             }
             if version == 2 {
                 return halving_at(s, a);
             }
-            return Version::Versioned(false, 0, 5, a);
+            return large_at(s, version, a);
         }
     }
 }
 
 // The largest exponent of RLEN, by the version.
-fn most_rlen(large: bool) -> u64
-    ensures { λ r. ⌜ r ≡ mostRlen large ⌝ }
+fn top_rlen(version: u64) -> u64
+    ensures { λ r. ⌜ r ≡ topRlen version ⌝ }
 {
-    if large { 12 } else { 9 }
+    if version < 3 { 9 } else { 12 }
 }
 
 // The largest exponent of MLEN.
-fn most_mlen(large: bool) -> u64
-    ensures { λ r. ⌜ r ≡ mostMlen large ⌝ }
+fn top_mlen(version: u64) -> u64
+    ensures { λ r. ⌜ r ≡ topMlen version ⌝ }
 {
-    if large { 16 } else { 12 }
+    if version < 3 { 12 } else { 16 }
 }
 
 // The least exponent of MLEN: of version 3 with ELEN 32 and an RLEN of the old bounds, one beyond them.
-fn least_mlen(large: bool, elen: u64, rlen: u64) -> u64
+fn least_mlen(version: u64, elen: u64, rlen: u64) -> u64
     requires { ⌜ rlen ≤ 12 ⌝ }
-    ensures { λ r. ⌜ r ≡ leastMlen large elen rlen ⌝ }
+    ensures { λ r. ⌜ r ≡ leastMlen version elen rlen ⌝ }
 {
-    if !large {
+    if version != 3 {
         return rlen + 1;
     }
     if elen != 5 {
@@ -124,19 +124,19 @@ fn least_mlen(large: bool, elen: u64, rlen: u64) -> u64
 }
 
 // The exponents of RLEN and MLEN at a place of s.
-fn exponents_at(s: &[u8], large: bool, rule: u64, elen: u64, at: usize) -> Shape
+fn exponents_at(s: &[u8], version: u64, rule: u64, elen: u64, at: usize) -> Shape
     requires { ⌜ elen ≤ 6 ⌝ }
-    ensures { λ r. ⌜ r ≡ exponentsAt (now (s .entry)) large rule elen at ⌝ }
+    ensures { λ r. ⌜ r ≡ exponentsAt (now (s .entry)) version rule elen at ⌝ }
 {
-    match number_from(s, at, elen + 1, most_rlen(large)) {
+    match number_from(s, at, elen + 1, top_rlen(version)) {
         Number::Fault(p) => {
             return Shape::ShapeBad(p);
         }
         Number::Value(r, b) => match number_from(
             s,
             b,
-            least_mlen(large, elen, r),
-            most_mlen(large),
+            least_mlen(version, elen, r),
+            top_mlen(version),
         ) {
             Number::Fault(p) => {
                 return Shape::ShapeBad(p);
@@ -156,8 +156,8 @@ fn shape_of(s: &[u8]) -> Shape
         Version::VersionBad(p) => {
             return Shape::ShapeBad(p);
         }
-        Version::Versioned(large, rule, elen, a) => {
-            return exponents_at(s, large, rule, elen, a);
+        Version::Versioned(version, rule, elen, a) => {
+            return exponents_at(s, version, rule, elen, a);
         }
     }
 }
@@ -176,7 +176,7 @@ fn mtype_at(s: &[u8], elen: u64, at: usize) -> Number
             if b < 8 {
                 return Number::Fault(at);
             }
-            if b <= elen + 3 {
+            if b <= 8 + (elen - 5) {
                 return Number::Value(b, at + 1);
             }
             return Number::Fault(at);

@@ -1,5 +1,4 @@
-use Rattle.image_check.proofs.HeadLaws.{least-old, least-wide, least-far, least-near}
-use borrow.Author.Tests.{not-true, not-false}
+use Rattle.image_check.proofs.HeadLaws.{least-other, least-wide, least-far, least-near}
 use native.Mathlib.Omega.{arith}
 use borrow.Author.Needs.{needs}
 use Rattle.image_check.proofs.head.least_mlen.Statement.{statement}
@@ -9,22 +8,22 @@ add-result : tie.Need-add-result
 add-result c = search needs
 
 returns : tie.Need-returns
-returns c = let a = c .before .args in least-old (a .large) (a .elen) (a .rlen) (not-true (a .large) (c .if1 .taken))
+returns c = let a = c .before .args in least-other (a .version) (a .elen) (a .rlen) (c .if1 .taken)
 
 add-result-2 : tie.Need-add-result-2
 add-result-2 c = search needs
 
 returns-2 : tie.Need-returns-2
-returns-2 c = let a = c .before .before .args in least-wide (a .large) (a .elen) (a .rlen) (not-false (a .large) (c .before .if1 .left)) (c .if2 .taken)
+returns-2 c = let a = c .before .before .args in least-wide (a .version) (a .elen) (a .rlen) ((c .before .if1 .left)) (c .if2 .taken)
 
 add-result-3 : tie.Need-add-result-3
 add-result-3 c = search needs
 
 returns-3 : tie.Need-returns-3
-returns-3 c = let a = c .before .before .before .args in least-far (a .large) (a .elen) (a .rlen) (not-false (a .large) (c .before .before .if1 .left)) (c .if3 .taken)
+returns-3 c = let a = c .before .before .before .args in least-far (a .version) (a .elen) (a .rlen) ((c .before .before .if1 .left)) (c .if3 .taken)
 
 returns-4 : tie.Need-returns-4
-returns-4 c = let a = c .before .before .before .args in least-near (a .large) (a .elen) (a .rlen) (not-false (a .large) (c .before .before .if1 .left)) (c .before .if2 .left) (omega (arith, c .if3 .left))
+returns-4 c = let a = c .before .before .before .args in least-near (a .version) (a .elen) (a .rlen) ((c .before .before .if1 .left)) (c .before .if2 .left) (omega (arith, c .if3 .left))
 
 pub least-mlen-spec : {M : Type 1} → statement M
 least-mlen-spec =

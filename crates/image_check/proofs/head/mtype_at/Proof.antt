@@ -22,6 +22,9 @@ returns-2 c =
     let w = c .before .before .before .wide in
     mtype-none (s .args .s .now) (s .args .elen) (s .args .at) (s .pre) (w .result) (c .before .before .before .before .before .if1 .taken) (w .ensures) (c .before .before .if2 .taken) (omega (arith, c .before .if3 .left)) (inl (c .if4 .taken))
 
+sub-if5 : tie.Need-sub-if5
+sub-if5 c = let s = c .before .before .before .before .before .before .before in omega (arith, s .pre)
+
 returns-3 : tie.Need-returns-3
 returns-3 c =
     let s = c .before .before .before .before .before .before .before .before in
@@ -59,6 +62,7 @@ mtype-at-spec =
     (λ c. search needs)
     returns
     returns-2
+    sub-if5
     (λ c. search needs)
     (λ c. search needs)
     returns-3

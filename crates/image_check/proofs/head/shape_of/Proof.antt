@@ -15,22 +15,22 @@ returns : tie.Need-returns
 unfolding shapeIn
 returns c = let k = c .before in let n = k .before .before in rw (sym (n .version-of .ensures) ∙ k .p .given .1)
 
-enum-known-large : tie.Need-enum-known-large
-enum-known-large c = search needs
+enum-known-version : tie.Need-enum-known-version
+enum-known-version c = search needs
 
 exponents-at-requires : tie.Need-exponents-at-requires
 exponents-at-requires c κs =
     let k = c .before in
     let n = k .before .before in
-    let g = k .large .given .0 in
-    version-known (n .before .before .args .s .now) (g .0) (g .1 .0) (g .1 .1 .0) (g .1 .1 .1 .0) (sym (n .version-of .ensures) ∙ k .large .given .1) .elen-ok .1
+    let g = k .version .given .0 in
+    version-known (n .before .before .args .s .now) (g .0) (g .1 .0) (g .1 .1 .0) (g .1 .1 .1 .0) (sym (n .version-of .ensures) ∙ k .version .given .1) .elen-ok .1
 
 returns-2 : tie.Need-returns-2
 unfolding shapeIn
 returns-2 c =
     let k = c .before .before in
     let n = k .before .before in
-    rw (sym (n .version-of .ensures) ∙ k .large .given .1) (c .exponents-at .ensures)
+    rw (sym (n .version-of .ensures) ∙ k .version .given .1) (c .exponents-at .ensures)
 
 pub shape-of-spec : {M : Type 1} → statement M
 shape-of-spec =
@@ -39,6 +39,6 @@ shape-of-spec =
     version-of-requires
     enum-known-p
     returns
-    enum-known-large
+    enum-known-version
     exponents-at-requires
     returns-2)

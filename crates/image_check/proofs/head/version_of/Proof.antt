@@ -18,16 +18,12 @@ returns c = let k = c .before in let n = k .before .before in rw (sym (n .number
 enum-known-version : tie.Need-enum-known-version
 enum-known-version c = search needs
 
-large-at-requires : tie.Need-large-at-requires
-large-at-requires c κs = search needs
-
 returns-2 : tie.Need-returns-2
 unfolding versionIn
 returns-2 c =
-    let i = c .before in
-    let k = i .before .before in
+    let k = c .before .before in
     let n = k .before .before in
-    rw (sym (n .number-from .ensures) ∙ k .version .given .1, eq-eqb (k .version .given .0 .0) 3 (i .if1 .taken)) (c .large-at .ensures)
+    rw (sym (n .number-from .ensures) ∙ k .version .given .1, eq-eqb (k .version .given .0 .0) 1 (c .if1 .taken))
 
 halving-at-requires : tie.Need-halving-at-requires
 halving-at-requires c κs = search needs
@@ -39,15 +35,19 @@ returns-3 c =
     let i = j .before in
     let k = i .before .before in
     let n = k .before .before in
-    rw (sym (n .number-from .ensures) ∙ k .version .given .1, ne-eqb (k .version .given .0 .0) 3 (i .if1 .left), eq-eqb (k .version .given .0 .0) 2 (j .if2 .taken)) (c .halving-at .ensures)
+    rw (sym (n .number-from .ensures) ∙ k .version .given .1, ne-eqb (k .version .given .0 .0) 1 (i .if1 .left), eq-eqb (k .version .given .0 .0) 2 (j .if2 .taken)) (c .halving-at .ensures)
+
+large-at-requires : tie.Need-large-at-requires
+large-at-requires c κs = search needs
 
 returns-4 : tie.Need-returns-4
 unfolding versionIn
 returns-4 c =
-    let i = c .before in
+    let j = c .before in
+    let i = j .before in
     let k = i .before .before in
     let n = k .before .before in
-    rw (sym (n .number-from .ensures) ∙ k .version .given .1, ne-eqb (k .version .given .0 .0) 3 (i .if1 .left), ne-eqb (k .version .given .0 .0) 2 (c .if2 .left))
+    rw (sym (n .number-from .ensures) ∙ k .version .given .1, ne-eqb (k .version .given .0 .0) 1 (i .if1 .left), ne-eqb (k .version .given .0 .0) 2 (j .if2 .left)) (c .large-at .ensures)
 
 pub version-of-spec : {M : Type 1} → statement M
 version-of-spec =
@@ -57,8 +57,8 @@ version-of-spec =
     enum-known-p
     returns
     enum-known-version
-    large-at-requires
     returns-2
     halving-at-requires
     returns-3
+    large-at-requires
     returns-4)
