@@ -11,15 +11,16 @@ use Rattle.image.specs.declared.Imaged.the-variants.{Done, BadArguments, NoRoom
 use Rattle.image.specs.Answers.{imageReply}
 use Rattle.image.specs.ImageFormat.{Described}
 use Rattle.image.specs.Reading.{verdictOf, checkImage}
-use Rattle.image_check.specs.declared.head.Head.the-variants.{HeadBad}
+use Rattle.reader.specs.declared.Number.the-variants.{Fault}
+use Rattle.image_check.specs.declared.head.Head.{Head}
 use Rattle.image_check.specs.Parts.{headIn, describe, runsFrom, runsVerdict, imageDone}
 use Rattle.image_check.proofs.RunsLaws.{mapped}
 use Rattle.image_check.proofs.HeadLaws.{HeadedOk, head-bad, head-parse}
 
 -- numbers at fault
-pub check-bad : (s : List ℕ) (p : ℕ) → headIn s ≡ HeadBad p → Damaged p ≡ checkImage s
+pub check-bad : (s : List ℕ) (h : Head) → h ≡ headIn s → (p : ℕ) → h .count ≡ Fault p → Damaged p ≡ checkImage s
 unfolding checkImage
-check-bad s p e = ap verdictOf (sym (head-bad s p e))
+check-bad s h is p e = ap verdictOf (sym (head-bad s h is p e))
 
 -- the verdict on the runs is that on the image
 pub check-runs-is : (s : List ℕ) (m : Machine) (c a : ℕ) (h : HeadedOk s m c a) (v : Imaged) → v ≡ runsVerdict s a c 0 (2 * m .mlen) → v ≡ checkImage s

@@ -30,11 +30,10 @@ use Rattle.image_check.specs.declared.head.Shape.{Shape}
 use Rattle.image_check.specs.declared.head.Shape.the-variants.{Shaped, ShapeBad}
 use Rattle.image_check.specs.declared.head.Tiles.{Tiles}
 use Rattle.image_check.specs.declared.head.Tiles.the-variants.{Tiled, TilesBad}
-use Rattle.image_check.specs.declared.head.Tail.{Tail}
-use Rattle.image_check.specs.declared.head.Tail.the-variants.{Tailed, TailBad}
+use Rattle.image_check.specs.declared.head.Pair.{Pair}
+use Rattle.image_check.specs.declared.head.Pair.the-variants.{Both, PairBad}
 use Rattle.image_check.specs.declared.head.Head.{Head}
-use Rattle.image_check.specs.declared.head.Head.the-variants.{Headed, HeadBad}
-use Rattle.image_check.specs.Parts.{onward, largeAt, halvingAt, versionIn, exponentsAt, withVersion, shapeIn, mtypeAt, tilesAt, tailAt, numbersOf, withTail, withTiles, withShape, headIn, describe, runsFrom}
+use Rattle.image_check.specs.Parts.{onward, largeAt, halvingAt, versionIn, exponentsAt, withVersion, shapeIn, mtypeAt, pairAt, sizesAt, withSizes, tilesAt, sealAt, numbersOf, withSeal, withTiles, headAt, withShape, headIn, describe, runsFrom}
 use Rattle.image_check.proofs.RunsLaws.{mapped, runs-with}
 
 -- ---- what a part that was read is known to be: whatever format follows it goes on from the place behind it
@@ -61,6 +60,18 @@ abbrev ShapeOk : List ℕ → Shape → Type 0
 ShapeOk s (Shaped r m rule elen at) = ShapedOk s r m rule elen at
 ShapeOk s (ShapeBad p) = (K : ℕ → ℕ → ℕ → ℕ → Format Described) → from (shapeFormat K) s 0 ≡ stopped p
 
+-- two numbers, the second up to what the first says
+abbrev pairFormat : (most : ℕ) (mostOf : ℕ → ℕ) → (ℕ → ℕ → Format Described) → Format Described
+pairFormat most mostOf K = number (span 0 most) λ x. number (span 0 (mostOf x)) λ y. K x y
+
+record BothOk (s : List ℕ) (at most : ℕ) (mostOf : ℕ → ℕ) (x y a : ℕ) : Type 0 where
+  goes-on : (K : ℕ → ℕ → Format Described) → from (pairFormat most mostOf K) s at ≡ from (K x y) s a
+  there : at ≤ length s → a ≤ length s
+
+abbrev PairOk : List ℕ → (at most : ℕ) (mostOf : ℕ → ℕ) → Pair → Type 0
+PairOk s at most mostOf (Both x y a) = BothOk s at most mostOf x y a
+PairOk s at most mostOf (PairBad p) = (K : ℕ → ℕ → Format Described) → from (pairFormat most mostOf K) s at ≡ stopped p
+
 -- mtype and the tile sizes
 record TiledOk (s : List ℕ) (elen at rows columns t tm tk tn a : ℕ) : Type 0 where
   goes-on : (K : ℕ → ℕ → ℕ → ℕ → Format Described) → from (tilesFormat elen rows columns K) s at ≡ from (K t tm tk tn) s a
@@ -69,19 +80,6 @@ record TiledOk (s : List ℕ) (elen at rows columns t tm tk tn a : ℕ) : Type 0
 abbrev TilesOk : List ℕ → ℕ → ℕ → ℕ → ℕ → Tiles → Type 0
 TilesOk s elen at rows columns (Tiled t tm tk tn a) = TiledOk s elen at rows columns t tm tk tn a
 TilesOk s elen at rows columns (TilesBad p) = (K : ℕ → ℕ → ℕ → ℕ → Format Described) → from (tilesFormat elen rows columns K) s at ≡ stopped p
-
--- the seal and the number of runs
-abbrev tailFormat : ℕ → (ℕ → ℕ → ℕ → Format Described) → Format Described
-tailFormat most K = sealFormat λ start size. number (span 0 most) λ count. K start size count
-
-record TailedOk (s : List ℕ) (at most st ln c a : ℕ) : Type 0 where
-  goes-on : (K : ℕ → ℕ → ℕ → Format Described) → from (tailFormat most K) s at ≡ from (K st ln c) s a
-  count-ok : c ≤ most
-  there : at ≤ length s → a ≤ length s
-
-abbrev TailOk : List ℕ → ℕ → ℕ → Tail → Type 0
-TailOk s at most (Tailed st ln c a) = TailedOk s at most st ln c a
-TailOk s at most (TailBad p) = (K : ℕ → ℕ → ℕ → Format Described) → from (tailFormat most K) s at ≡ stopped p
 
 -- all numbers: the runs are read from a place on
 pub record HeadedOk (s : List ℕ) (m : Machine) (count at : ℕ) : Type 0 where
@@ -92,9 +90,12 @@ pub record HeadedOk (s : List ℕ) (m : Machine) (count at : ℕ) : Type 0 where
   pub count-ok : count ≤ 2 ^ header .mlen
   pub there : at ≤ length s
 
+abbrev CountOk : List ℕ → Machine → Number → Type 0
+CountOk s m (Value count at) = HeadedOk s m count at
+CountOk s m (Fault p) = parse imageFormat s ≡ stopped p
+
 abbrev HeadOk : List ℕ → Head → Type 0
-HeadOk s (Headed m count at) = HeadedOk s m count at
-HeadOk s (HeadBad p) = parse imageFormat s ≡ stopped p
+HeadOk s h = CountOk s (h .machine) (h .count)
 
 -- ---- the version, the rule, and the exponents of ELEN, RLEN and MLEN
 
@@ -283,12 +284,28 @@ module _ (s : List ℕ) (elen at : ℕ) (few : (5 ≤ elen) × (elen ≤ 6)) whe
         let st : drop at s ≡ 128 ∷ drop (suc at) s = start ∙ ap (λ (x : ℕ). x ∷ drop (suc at) s) e in
         ap (λ (l : List ℕ). found at (readNumber (span (2 ^ 63) (2 ^ 63)) l)) st ∙ ap (found at) (sym (wide-same elen (few .1) (drop (suc at) s))) ∙ ap (λ (l : List ℕ). found at (readNumber (mtypes elen) l)) (sym st)
 
--- ---- mtype and tile sizes; the seal and the number of runs
+-- ---- two numbers
+
+module _ (s : List ℕ) (at most : ℕ) (mostOf : ℕ → ℕ) where
+  pair-rest : (x a : ℕ) → numberAt s at 0 most ≡ Value x a → (n : Number) → numberAt s a 0 (mostOf x) ≡ n → PairOk s at most mostOf (onward n PairBad λ y b. Both x y b)
+  pair-rest x a e (Value y b) e₁ = record {
+    goes-on = λ K. from-number s at 0 most x a _ e ∙ from-number s a 0 (mostOf x) y b _ e₁;
+    there = λ h. took s a 0 (mostOf x) y b e₁ .behind (took s at 0 most x a e .behind h);
+  }
+  pair-rest x a e (Fault p) e₁ = λ K. from-number s at 0 most x a _ e ∙ from-fault s a 0 (mostOf x) p _ e₁
+
+  pair-right : PairOk s at most mostOf (pairAt s at most mostOf)
+  pair-right = go (numberAt s at 0 most) refl
+    where
+      go : (n : Number) → numberAt s at 0 most ≡ n → PairOk s at most mostOf (onward n PairBad λ x a. onward (numberAt s a 0 (mostOf x)) PairBad λ y b. Both x y b)
+      go (Value x a) e = pair-rest x a e (numberAt s a 0 (mostOf x)) refl
+      go (Fault p) e = λ K. from-fault s at 0 most p _ e
+
+-- ---- mtype and tile sizes
 
 module _ (s : List ℕ) (elen at rows columns : ℕ) where
-  mtype-bad : (p : ℕ) → mtypeAt s elen at ≡ Fault p → TilesOk s elen at rows columns (TilesBad p)
-  unfolding mtypeAt
-  mtype-bad p e K = from-stuck (mtypes elen) s at p _ e
+  abbrev sizesThen : (ℕ → ℕ → ℕ → ℕ → Format Described) → (t tm : ℕ) → Format Described
+  sizesThen K t tm = pairFormat (min rows columns) (λ tk. columns) (K t tm)
 
   module _ (t a : ℕ) (e : mtypeAt s elen at ≡ Value t a) where
     past-mtype : (k : ℕ → Format Described) → from (number (mtypes elen) k) s at ≡ from (k t) s a
@@ -299,138 +316,98 @@ module _ (s : List ℕ) (elen at rows columns : ℕ) where
     unfolding mtypeAt
     mtype-there = took-in (mtypes elen) s at t a e .1
 
-    m-bad : (p : ℕ) → numberAt s a 0 rows ≡ Fault p → TilesOk s elen at rows columns (TilesBad p)
-    m-bad p e₁ K = past-mtype _ ∙ from-fault s a 0 rows p _ e₁
-
     module _ (tm b : ℕ) (e₁ : numberAt s a 0 rows ≡ Value tm b) where
-      k-bad : (p : ℕ) → numberAt s b 0 (min rows columns) ≡ Fault p → TilesOk s elen at rows columns (TilesBad p)
-      k-bad p e₂ K = past-mtype _ ∙ from-number s a 0 rows tm b _ e₁ ∙ from-fault s b 0 (min rows columns) p _ e₂
+      sizes-tiles : (x : Pair) → PairOk s b (min rows columns) (λ tk. columns) x → TilesOk s elen at rows columns (withSizes t tm x)
+      sizes-tiles (Both tk tn d) h = record {
+        goes-on = λ K. past-mtype _ ∙ from-number s a 0 rows tm b (sizesThen K t) e₁ ∙ h .goes-on (K t tm);
+        there = λ l. h .there (took s a 0 rows tm b e₁ .behind (mtype-there l));
+      }
+      sizes-tiles (PairBad p) h = λ K. past-mtype _ ∙ from-number s a 0 rows tm b (sizesThen K t) e₁ ∙ h (K t tm)
 
-      module _ (tk d : ℕ) (e₂ : numberAt s b 0 (min rows columns) ≡ Value tk d) where
-        n-bad : (p : ℕ) → numberAt s d 0 columns ≡ Fault p → TilesOk s elen at rows columns (TilesBad p)
-        n-bad p e₃ K = past-mtype _ ∙ from-number s a 0 rows tm b _ e₁ ∙ from-number s b 0 (min rows columns) tk d _ e₂ ∙ from-fault s d 0 columns p _ e₃
-
-        tiled : (tn f : ℕ) → numberAt s d 0 columns ≡ Value tn f → TiledOk s elen at rows columns t tm tk tn f
-        tiled tn f e₃ =
-            record {
-              goes-on = λ K. past-mtype _ ∙ from-number s a 0 rows tm b _ e₁ ∙ from-number s b 0 (min rows columns) tk d _ e₂ ∙ from-number s d 0 columns tn f _ e₃;
-              there = λ h. took s d 0 columns tn f e₃ .behind (took s b 0 (min rows columns) tk d e₂ .behind (took s a 0 rows tm b e₁ .behind (mtype-there h)));
-            }
+    m-tiles : (n : Number) → numberAt s a 0 rows ≡ n → TilesOk s elen at rows columns (onward n TilesBad λ tm b. withSizes t tm (sizesAt s b rows columns))
+    unfolding sizesAt
+    m-tiles (Value tm b) e₁ = sizes-tiles tm b e₁ (sizesAt s b rows columns) (pair-right s b (min rows columns) (λ tk. columns))
+    m-tiles (Fault p) e₁ = λ K. past-mtype _ ∙ from-fault s a 0 rows p (sizesThen K t) e₁
 
   tiles-right : TilesOk s elen at rows columns (tilesAt s elen at rows columns)
-  unfolding tilesAt
+  unfolding tilesAt mtypeAt
   tiles-right = go (mtypeAt s elen at) refl
     where
-      at-n : (t a : ℕ) (e : mtypeAt s elen at ≡ Value t a) (tm b : ℕ) (e₁ : numberAt s a 0 rows ≡ Value tm b) (tk d : ℕ) (e₂ : numberAt s b 0 (min rows columns) ≡ Value tk d) (n : Number) → numberAt s d 0 columns ≡ n
-          → TilesOk s elen at rows columns (onward n TilesBad λ tn f. Tiled t tm tk tn f)
-      at-n t a e tm b e₁ tk d e₂ (Value tn f) e₃ = tiled t a e tm b e₁ tk d e₂ tn f e₃
-      at-n t a e tm b e₁ tk d e₂ (Fault p) e₃ = n-bad t a e tm b e₁ tk d e₂ p e₃
-
-      at-k : (t a : ℕ) (e : mtypeAt s elen at ≡ Value t a) (tm b : ℕ) (e₁ : numberAt s a 0 rows ≡ Value tm b) (n : Number) → numberAt s b 0 (min rows columns) ≡ n
-          → TilesOk s elen at rows columns (onward n TilesBad λ tk d. onward (numberAt s d 0 columns) TilesBad λ tn f. Tiled t tm tk tn f)
-      at-k t a e tm b e₁ (Value tk d) e₂ = at-n t a e tm b e₁ tk d e₂ (numberAt s d 0 columns) refl
-      at-k t a e tm b e₁ (Fault p) e₂ = k-bad t a e tm b e₁ p e₂
-
-      at-m : (t a : ℕ) (e : mtypeAt s elen at ≡ Value t a) (n : Number) → numberAt s a 0 rows ≡ n
-          → TilesOk s elen at rows columns (onward n TilesBad λ tm b. onward (numberAt s b 0 (min rows columns)) TilesBad λ tk d. onward (numberAt s d 0 columns) TilesBad λ tn f. Tiled t tm tk tn f)
-      at-m t a e (Value tm b) e₁ = at-k t a e tm b e₁ (numberAt s b 0 (min rows columns)) refl
-      at-m t a e (Fault p) e₁ = m-bad t a e p e₁
-
       go : (n : Number) → mtypeAt s elen at ≡ n
-          → TilesOk s elen at rows columns (onward n TilesBad λ t a. onward (numberAt s a 0 rows) TilesBad λ tm b. onward (numberAt s b 0 (min rows columns)) TilesBad λ tk d. onward (numberAt s d 0 columns) TilesBad λ tn f. Tiled t tm tk tn f)
-      go (Value t a) e = at-m t a e (numberAt s a 0 rows) refl
-      go (Fault p) e = mtype-bad p e
-
-module _ (s : List ℕ) (at most : ℕ) where
-  start-bad : (p : ℕ) → numberAt s at 0 (2 ^ 64 - 1) ≡ Fault p → TailOk s at most (TailBad p)
-  start-bad p e K = from-fault s at 0 (2 ^ 64 - 1) p _ e
-
-  module _ (st a : ℕ) (e : numberAt s at 0 (2 ^ 64 - 1) ≡ Value st a) where
-    long-bad : (p : ℕ) → numberAt s a 0 (2 ^ 64 - 1 - st) ≡ Fault p → TailOk s at most (TailBad p)
-    long-bad p e₁ K = from-number s at 0 (2 ^ 64 - 1) st a _ e ∙ from-fault s a 0 (2 ^ 64 - 1 - st) p _ e₁
-
-    module _ (ln b : ℕ) (e₁ : numberAt s a 0 (2 ^ 64 - 1 - st) ≡ Value ln b) where
-      count-bad : (p : ℕ) → numberAt s b 0 most ≡ Fault p → TailOk s at most (TailBad p)
-      count-bad p e₂ K = from-number s at 0 (2 ^ 64 - 1) st a _ e ∙ from-number s a 0 (2 ^ 64 - 1 - st) ln b _ e₁ ∙ from-fault s b 0 most p _ e₂
-
-      tailed : (c d : ℕ) → numberAt s b 0 most ≡ Value c d → TailedOk s at most st ln c d
-      tailed c d e₂ =
-          record {
-            goes-on = λ K. from-number s at 0 (2 ^ 64 - 1) st a _ e ∙ from-number s a 0 (2 ^ 64 - 1 - st) ln b _ e₁ ∙ from-number s b 0 most c d _ e₂;
-            count-ok = took s b 0 most c d e₂ .most;
-            there = λ h. took s b 0 most c d e₂ .behind (took s a 0 (2 ^ 64 - 1 - st) ln b e₁ .behind (took s at 0 (2 ^ 64 - 1) st a e .behind h));
-          }
-
-  tail-right : TailOk s at most (tailAt s at most)
-  unfolding tailAt
-  tail-right = go (numberAt s at 0 (2 ^ 64 - 1)) refl
-    where
-      at-count : (st a : ℕ) (e : numberAt s at 0 (2 ^ 64 - 1) ≡ Value st a) (ln b : ℕ) (e₁ : numberAt s a 0 (2 ^ 64 - 1 - st) ≡ Value ln b) (n : Number) → numberAt s b 0 most ≡ n
-          → TailOk s at most (onward n TailBad λ c d. Tailed st ln c d)
-      at-count st a e ln b e₁ (Value c d) e₂ = tailed st a e ln b e₁ c d e₂
-      at-count st a e ln b e₁ (Fault p) e₂ = count-bad st a e ln b e₁ p e₂
-
-      at-size : (st a : ℕ) (e : numberAt s at 0 (2 ^ 64 - 1) ≡ Value st a) (n : Number) → numberAt s a 0 (2 ^ 64 - 1 - st) ≡ n
-          → TailOk s at most (onward n TailBad λ ln b. onward (numberAt s b 0 most) TailBad λ c d. Tailed st ln c d)
-      at-size st a e (Value ln b) e₁ = at-count st a e ln b e₁ (numberAt s b 0 most) refl
-      at-size st a e (Fault p) e₁ = long-bad st a e p e₁
-
-      go : (n : Number) → numberAt s at 0 (2 ^ 64 - 1) ≡ n
-          → TailOk s at most (onward n TailBad λ st a. onward (numberAt s a 0 (2 ^ 64 - 1 - st)) TailBad λ ln b. onward (numberAt s b 0 most) TailBad λ c d. Tailed st ln c d)
-      go (Value st a) e = at-size st a e (numberAt s a 0 (2 ^ 64 - 1 - st)) refl
-      go (Fault p) e = start-bad p e
+          → TilesOk s elen at rows columns (onward n TilesBad λ t a. onward (numberAt s a 0 rows) TilesBad λ tm b. withSizes t tm (sizesAt s b rows columns))
+      go (Value t a) e = m-tiles t a e (numberAt s a 0 rows) refl
+      go (Fault p) e = λ K. from-stuck (mtypes elen) s at p _ e
 
 -- ---- all of them
 
 module _ (s : List ℕ) where
-  abbrev lastPart : (rule elen r m t tm tk tn : ℕ) → Format Described
-  lastPart rule elen r m t tm tk tn = tailFormat (2 ^ m) λ st ln c. runsFormat (describe (numbersOf rule elen r m t tm tk tn st ln)) c 0 (total m)
+  abbrev runsPart : (rule elen r m t tm tk tn st ln c : ℕ) → Format Described
+  runsPart rule elen r m t tm tk tn st ln c = runsFormat (describe (numbersOf rule elen r m t tm tk tn st ln)) c 0 (total m)
 
-  abbrev middlePart : (rule elen r m : ℕ) → Format Described
-  middlePart rule elen r m = tilesFormat elen (2 ^ (m - r)) (2 ^ (r - 3)) (lastPart rule elen r m)
+  abbrev countPart : (rule elen r m t tm tk tn st ln : ℕ) → Format Described
+  countPart rule elen r m t tm tk tn st ln = number (span 0 (2 ^ m)) (runsPart rule elen r m t tm tk tn st ln)
 
-  parts : parse imageFormat s ≡ from (shapeFormat middlePart) s 0
+  abbrev sealPart : (rule elen r m t tm tk tn : ℕ) → Format Described
+  sealPart rule elen r m t tm tk tn = sealFormat (countPart rule elen r m t tm tk tn)
+
+  abbrev tilesPart : (rule elen r m : ℕ) → Format Described
+  tilesPart rule elen r m = tilesFormat elen (2 ^ (m - r)) (2 ^ (r - 3)) (sealPart rule elen r m)
+
+  parts : parse imageFormat s ≡ from (shapeFormat tilesPart) s 0
   unfolding imageFormat
   parts = sym (from-start s imageFormat)
 
   module _ (r m rule elen a : ℕ) (sh : ShapedOk s r m rule elen a) where
-    middle : parse imageFormat s ≡ from (middlePart rule elen r m) s a
-    middle = parts ∙ sh .goes-on middlePart
+    at-tiles : parse imageFormat s ≡ from (tilesPart rule elen r m) s a
+    at-tiles = parts ∙ sh .goes-on tilesPart
 
     module _ (t tm tk tn b : ℕ) (ti : TiledOk s elen a (2 ^ (m - r)) (2 ^ (r - 3)) t tm tk tn b) where
-      late : parse imageFormat s ≡ from (lastPart rule elen r m t tm tk tn) s b
-      late = middle ∙ ti .goes-on (lastPart rule elen r m)
+      at-seal : parse imageFormat s ≡ from (sealPart rule elen r m t tm tk tn) s b
+      at-seal = at-tiles ∙ ti .goes-on (sealPart rule elen r m)
 
-      tail-head : (x : Tail) → TailOk s b (2 ^ m) x → HeadOk s (withTail rule elen r m t tm tk tn x)
-      tail-head (Tailed st ln c d) ta =
-          record {
-            header = numbersOf rule elen r m t tm tk tn st ln;
-            machine-is = refl;
-            goes-on = late ∙ ta .goes-on (λ st ln c. runsFormat (describe (numbersOf rule elen r m t tm tk tn st ln)) c 0 (total m));
-            mlen-ok = sh .mlen-ok .1;
-            count-ok = ta .count-ok;
-            there = ta .there (ti .there (sh .there));
-          }
-      tail-head (TailBad p) h = late ∙ h (λ st ln c. runsFormat (describe (numbersOf rule elen r m t tm tk tn st ln)) c 0 (total m))
+      module _ (st ln d : ℕ) (se : BothOk s b (2 ^ 64 - 1) (λ x. 2 ^ 64 - 1 - x) st ln d) where
+        at-count : parse imageFormat s ≡ from (countPart rule elen r m t tm tk tn st ln) s d
+        at-count = at-seal ∙ se .goes-on (countPart rule elen r m t tm tk tn)
+
+        count-head : (n : Number) → numberAt s d 0 (2 ^ m) ≡ n → CountOk s (machineFrom (numbersOf rule elen r m t tm tk tn st ln)) n
+        count-head (Value c f) e = record {
+          header = numbersOf rule elen r m t tm tk tn st ln;
+          machine-is = refl;
+          goes-on = at-count ∙ from-number s d 0 (2 ^ m) c f (runsPart rule elen r m t tm tk tn st ln) e;
+          mlen-ok = sh .mlen-ok .1;
+          count-ok = took s d 0 (2 ^ m) c f e .most;
+          there = took s d 0 (2 ^ m) c f e .behind (se .there (ti .there (sh .there)));
+        }
+        count-head (Fault p) e = at-count ∙ from-fault s d 0 (2 ^ m) p (runsPart rule elen r m t tm tk tn st ln) e
+
+      seal-head : (x : Pair) → PairOk s b (2 ^ 64 - 1) (λ x. 2 ^ 64 - 1 - x) x → HeadOk s (withSeal s rule elen r m t tm tk tn x)
+      seal-head (Both st ln d) se = count-head st ln d se (numberAt s d 0 (2 ^ m)) refl
+      seal-head (PairBad p) h = at-seal ∙ h (countPart rule elen r m t tm tk tn)
 
     tiles-head : (x : Tiles) → TilesOk s elen a (2 ^ (m - r)) (2 ^ (r - 3)) x → HeadOk s (withTiles s rule elen r m x)
-    tiles-head (Tiled t tm tk tn b) ti = tail-head t tm tk tn b ti (tailAt s b (2 ^ m)) (tail-right s b (2 ^ m))
-    tiles-head (TilesBad p) h = middle ∙ h (lastPart rule elen r m)
+    unfolding sealAt
+    tiles-head (Tiled t tm tk tn b) ti = seal-head t tm tk tn b ti (sealAt s b) (pair-right s b (2 ^ 64 - 1) (λ x. 2 ^ 64 - 1 - x))
+    tiles-head (TilesBad p) h = at-tiles ∙ h (sealPart rule elen r m)
 
   shape-head : (x : Shape) → ShapeOk s x → HeadOk s (withShape s x)
+  unfolding headAt
   shape-head (Shaped r m rule elen a) sh = tiles-head r m rule elen a sh (tilesAt s elen a (2 ^ (m - r)) (2 ^ (r - 3))) (tiles-right s elen a (2 ^ (m - r)) (2 ^ (r - 3)))
-  shape-head (ShapeBad p) h = parts ∙ h middlePart
+  shape-head (ShapeBad p) h = parts ∙ h tilesPart
 
   -- what is found is what the format has
   head-right : HeadOk s (headIn s)
   unfolding headIn
   head-right = shape-head (shapeIn s) (shape-right s)
 
-  pub head-bad : (p : ℕ) → headIn s ≡ HeadBad p → parse imageFormat s ≡ stopped p
-  head-bad p e = subst (HeadOk s) e head-right
+  module _ (h : Head) (is : h ≡ headIn s) where
+    head-is : HeadOk s h
+    head-is = subst (HeadOk s) (sym is) head-right
 
-  pub head-known : (m : Machine) (count at : ℕ) → headIn s ≡ Headed m count at → HeadedOk s m count at
-  head-known m count at e = subst (HeadOk s) e head-right
+    pub head-bad : (p : ℕ) → h .count ≡ Fault p → parse imageFormat s ≡ stopped p
+    head-bad p e = subst (CountOk s (h .machine)) e head-is
+
+    pub head-known : (count at : ℕ) → h .count ≡ Value count at → HeadedOk s (h .machine) count at
+    head-known count at e = subst (CountOk s (h .machine)) e head-is
 
 -- ---- what the code uses of them
 

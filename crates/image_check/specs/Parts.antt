@@ -8,6 +8,7 @@ use Rattle.format.specs.Parser.{readNumber, Parsed, from}
 use Rattle.reader.specs.declared.Number.{Number}
 use Rattle.reader.specs.declared.Number.the-variants.{Value, Fault}
 use Rattle.reader.specs.At.{found, numberAt}
+use Rattle.machine.specs.Starting.{noMachine}
 use Rattle.image.specs.declared.Imaged.{Imaged}
 use Rattle.image.specs.declared.Imaged.the-variants.{Done, BadArguments, NoRoom, Damaged}
 use Rattle.image.specs.Cells.{Run}
@@ -20,10 +21,9 @@ use Rattle.image_check.specs.declared.head.Shape.{Shape}
 use Rattle.image_check.specs.declared.head.Shape.the-variants.{Shaped, ShapeBad}
 use Rattle.image_check.specs.declared.head.Tiles.{Tiles}
 use Rattle.image_check.specs.declared.head.Tiles.the-variants.{Tiled, TilesBad}
-use Rattle.image_check.specs.declared.head.Tail.{Tail}
-use Rattle.image_check.specs.declared.head.Tail.the-variants.{Tailed, TailBad}
+use Rattle.image_check.specs.declared.head.Pair.{Pair}
+use Rattle.image_check.specs.declared.head.Pair.the-variants.{Both, PairBad}
 use Rattle.image_check.specs.declared.head.Head.{Head}
-use Rattle.image_check.specs.declared.head.Head.the-variants.{Headed, HeadBad}
 use Rattle.image_check.specs.declared.runs.Next.{Next}
 use Rattle.image_check.specs.declared.runs.Next.the-variants.{NextRun, NextBad}
 
@@ -69,39 +69,55 @@ shapeIn s = withVersion s (versionIn s)
 unfoldable pub mtypeAt : List ℕ → (elen at : ℕ) → Number
 mtypeAt s elen at = found at (readNumber (mtypes elen) (drop at s))
 
--- mtype and the tile sizes of a machine with so many rows and columns
+-- two numbers, each up to its most; that of the second by the first
+abbrev pub pairAt : List ℕ → (at most : ℕ) (mostOf : ℕ → ℕ) → Pair
+pairAt s at most mostOf =
+    onward (numberAt s at 0 most) PairBad λ x a.
+    onward (numberAt s a 0 (mostOf x)) PairBad λ y b.
+    Both x y b
+
+-- tile_k and tile_n of a machine with so many rows and columns
+unfoldable pub sizesAt : List ℕ → (at rows columns : ℕ) → Pair
+sizesAt s at rows columns = pairAt s at (min rows columns) (λ tileK. columns)
+
+abbrev pub withSizes : (mtype tileM : ℕ) → Pair → Tiles
+withSizes mtype tileM (Both tileK tileN at) = Tiled mtype tileM tileK tileN at
+withSizes mtype tileM (PairBad p) = TilesBad p
+
+-- mtype and the tile sizes
 unfoldable pub tilesAt : List ℕ → (elen at rows columns : ℕ) → Tiles
 tilesAt s elen at rows columns =
     onward (mtypeAt s elen at) TilesBad λ mtype a.
     onward (numberAt s a 0 rows) TilesBad λ tileM b.
-    onward (numberAt s b 0 (min rows columns)) TilesBad λ tileK d.
-    onward (numberAt s d 0 columns) TilesBad λ tileN e.
-    Tiled mtype tileM tileK tileN e
+    withSizes mtype tileM (sizesAt s b rows columns)
 
--- the seal and the number of runs, of which there are at most so many
-unfoldable pub tailAt : List ℕ → (at most : ℕ) → Tail
-tailAt s at most =
-    onward (numberAt s at 0 (2 ^ 64 - 1)) TailBad λ start a.
-    onward (numberAt s a 0 (2 ^ 64 - 1 - start)) TailBad λ size b.
-    onward (numberAt s b 0 most) TailBad λ count e.
-    Tailed start size count e
+-- the seal's start and length
+unfoldable pub sealAt : List ℕ → ℕ → Pair
+sealAt s at = pairAt s at (2 ^ 64 - 1) (λ start. 2 ^ 64 - 1 - start)
 
--- the parts put together: a machine's numbers, and the number of runs with the place behind it
+-- the parts put together: a machine, and the number of runs with the place behind it
 abbrev pub numbersOf : (rule elen rlen mlen mtype tileM tileK tileN start size : ℕ) → Header
 numbersOf rule elen rlen mlen mtype tileM tileK tileN start size =
     record { rlen = rlen; mlen = mlen; mtype = mtype; tileM = tileM; tileK = tileK; tileN = tileN; sealStart = start; sealLength = size; rule = rule; elen = elen }
 
-abbrev pub withTail : (rule elen rlen mlen mtype tileM tileK tileN : ℕ) → Tail → Head
-withTail rule elen rlen mlen mtype tileM tileK tileN (Tailed start size count at) = Headed (machineFrom (numbersOf rule elen rlen mlen mtype tileM tileK tileN start size)) count at
-withTail rule elen rlen mlen mtype tileM tileK tileN (TailBad p) = HeadBad p
+abbrev pub badHead : ℕ → Head
+badHead p = record { machine = noMachine; count = Fault p }
+
+abbrev pub withSeal : List ℕ → (rule elen rlen mlen mtype tileM tileK tileN : ℕ) → Pair → Head
+withSeal s rule elen rlen mlen mtype tileM tileK tileN (Both start size at) =
+    record { machine = machineFrom (numbersOf rule elen rlen mlen mtype tileM tileK tileN start size); count = numberAt s at 0 (2 ^ mlen) }
+withSeal s rule elen rlen mlen mtype tileM tileK tileN (PairBad p) = badHead p
 
 abbrev pub withTiles : List ℕ → (rule elen rlen mlen : ℕ) → Tiles → Head
-withTiles s rule elen rlen mlen (Tiled mtype tileM tileK tileN at) = withTail rule elen rlen mlen mtype tileM tileK tileN (tailAt s at (2 ^ mlen))
-withTiles s rule elen rlen mlen (TilesBad p) = HeadBad p
+withTiles s rule elen rlen mlen (Tiled mtype tileM tileK tileN at) = withSeal s rule elen rlen mlen mtype tileM tileK tileN (sealAt s at)
+withTiles s rule elen rlen mlen (TilesBad p) = badHead p
+
+unfoldable pub headAt : List ℕ → (rule elen rlen mlen at : ℕ) → Head
+headAt s rule elen rlen mlen at = withTiles s rule elen rlen mlen (tilesAt s elen at (2 ^ (mlen - rlen)) (2 ^ (rlen - 3)))
 
 abbrev pub withShape : List ℕ → Shape → Head
-withShape s (Shaped rlen mlen rule elen at) = withTiles s rule elen rlen mlen (tilesAt s elen at (2 ^ (mlen - rlen)) (2 ^ (rlen - 3)))
-withShape s (ShapeBad p) = HeadBad p
+withShape s (Shaped rlen mlen rule elen at) = headAt s rule elen rlen mlen at
+withShape s (ShapeBad p) = badHead p
 
 -- all numbers of an image
 unfoldable pub headIn : List ℕ → Head

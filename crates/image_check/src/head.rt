@@ -5,9 +5,10 @@ use reader::Number;
 use reader::number_from;
 use reader::wide;
 ghost use mathlib.Core.Path.{_≡_};
-ghost use Prim.Native.Nat.{_^_, _≤_};
+ghost use Prim.Native.Nat.{_^_, _≤_, _<_};
 ghost use Rattle.image.specs.ImageFormat.{topRlen, topMlen, leastMlen};
-ghost use Rattle.image_check.specs.Parts.{largeAt, halvingAt, versionIn, exponentsAt, shapeIn, mtypeAt, tilesAt, tailAt, headIn};
+ghost use Rattle.machine.specs.Starting.{noMachine};
+ghost use Rattle.image_check.specs.Parts.{largeAt, halvingAt, versionIn, exponentsAt, shapeIn, mtypeAt, sizesAt, tilesAt, sealAt, badHead, headAt, headIn};
 
 // The version, the rule, the exponent of ELEN and the place behind them, or the place of a fault.
 pub enum Version {
@@ -21,22 +22,22 @@ pub enum Shape {
     ShapeBad(usize),
 }
 
+// Two numbers and the place behind them, or the place of a fault.
+pub enum Pair {
+    Both(u64, u64, usize),
+    PairBad(usize),
+}
+
 // mtype, tile_m, tile_k, tile_n and the place behind them, or the place of a fault.
 pub enum Tiles {
     Tiled(u64, u64, u64, u64, usize),
     TilesBad(usize),
 }
 
-// The seal's start and length, the number of runs and the place behind them, or the place of a fault.
-pub enum Tail {
-    Tailed(u64, u64, u64, usize),
-    TailBad(usize),
-}
-
-// The machine's numbers, the number of runs and the place behind them, or the place of a fault.
-pub enum Head {
-    Headed(Machine, u64, usize),
-    HeadBad(usize),
+// A machine, and the number of runs with the place behind it; or the place of a fault, and then the machine says nothing.
+pub struct Head {
+    pub machine: Machine,
+    pub count: Number,
 }
 
 // The rule and the exponent of ELEN behind a version from 3 on.
@@ -189,7 +190,26 @@ fn mtype_at(s: &[u8], elen: u64, at: usize) -> Number
     Number::Fault(at)
 }
 
-// mtype and the tile sizes of a machine with so many rows and columns.
+// tile_k and tile_n of a machine with so many rows and columns.
+fn sizes_at(s: &[u8], at: usize, rows: u64, columns: u64) -> Pair
+    ensures { λ r. ⌜ r ≡ sizesAt (now (s .entry)) at rows columns ⌝ }
+{
+    match number_from(s, at, 0, smaller(rows, columns)) {
+        Number::Fault(p) => {
+            return Pair::PairBad(p);
+        }
+        Number::Value(k, a) => match number_from(s, a, 0, columns) {
+            Number::Fault(p) => {
+                return Pair::PairBad(p);
+            }
+            Number::Value(n, b) => {
+                return Pair::Both(k, n, b);
+            }
+        },
+    }
+}
+
+// mtype and the tile sizes.
 fn tiles_at(s: &[u8], elen: u64, at: usize, rows: u64, columns: u64) -> Tiles
     requires { ⌜ (5 ≤ elen) × (elen ≤ 6) ⌝ }
     ensures { λ r. ⌜ r ≡ tilesAt (now (s .entry)) elen at rows columns ⌝ }
@@ -202,46 +222,33 @@ fn tiles_at(s: &[u8], elen: u64, at: usize, rows: u64, columns: u64) -> Tiles
             Number::Fault(p) => {
                 return Tiles::TilesBad(p);
             }
-            Number::Value(m, b) => {
-                let both = smaller(rows, columns);
-                match number_from(s, b, 0, both) {
-                    Number::Fault(p) => {
-                        return Tiles::TilesBad(p);
-                    }
-                    Number::Value(k, d) => match number_from(s, d, 0, columns) {
-                        Number::Fault(p) => {
-                            return Tiles::TilesBad(p);
-                        }
-                        Number::Value(n, e) => {
-                            return Tiles::Tiled(t, m, k, n, e);
-                        }
-                    },
+            Number::Value(m, b) => match sizes_at(s, b, rows, columns) {
+                Pair::PairBad(p) => {
+                    return Tiles::TilesBad(p);
                 }
-            }
+                Pair::Both(k, n, e) => {
+                    return Tiles::Tiled(t, m, k, n, e);
+                }
+            },
         },
     }
 }
 
-// The seal and the number of runs, of which there are at most so many.
-fn tail_at(s: &[u8], at: usize, most: u64) -> Tail
-    ensures { λ r. ⌜ r ≡ tailAt (now (s .entry)) at most ⌝ }
+// The seal's start and length.
+fn seal_at(s: &[u8], at: usize) -> Pair
+    ensures { λ r. ⌜ r ≡ sealAt (now (s .entry)) at ⌝ }
 {
     match number_from(s, at, 0, 18446744073709551615) {
         Number::Fault(p) => {
-            return Tail::TailBad(p);
+            return Pair::PairBad(p);
         }
         Number::Value(start, a) => match number_from(s, a, 0, 18446744073709551615 - start) {
             Number::Fault(p) => {
-                return Tail::TailBad(p);
+                return Pair::PairBad(p);
             }
-            Number::Value(long, b) => match number_from(s, b, 0, most) {
-                Number::Fault(p) => {
-                    return Tail::TailBad(p);
-                }
-                Number::Value(count, d) => {
-                    return Tail::Tailed(start, long, count, d);
-                }
-            },
+            Number::Value(size, b) => {
+                return Pair::Both(start, size, b);
+            }
         },
     }
 }
@@ -260,43 +267,83 @@ fn power(k: u64) -> u64
     x
 }
 
+// No machine: zeros.
+pub fn no_machine() -> Machine
+    ensures { λ r. ⌜ r ≡ noMachine ⌝ }
+{
+    Machine {
+        rlen: 0,
+        mlen: 0,
+        mtype: 0,
+        tile_m: 0,
+        tile_k: 0,
+        tile_n: 0,
+        seal_start: 0,
+        seal_length: 0,
+        rule: 0,
+        elen: 0,
+    }
+}
+
+// A fault at a place.
+fn bad_head(p: usize) -> Head
+    ensures { λ r. ⌜ r ≡ badHead p ⌝ }
+{
+    let count = Number::Fault(p);
+    Head {
+        machine: no_machine(),
+        count: count,
+    }
+}
+
+// The numbers behind the exponents.
+fn head_at(s: &[u8], rule: u64, elen: u64, rlen: u64, mlen: u64, at: usize) -> Head
+    requires { ⌜ (5 ≤ elen) × (elen ≤ 6) ⌝ }
+    requires { ⌜ (6 ≤ rlen) × (rlen ≤ 12) ⌝ }
+    requires { ⌜ (rlen < mlen) × (mlen ≤ 16) ⌝ }
+    ensures { λ r. ⌜ r ≡ headAt (now (s .entry)) rule elen rlen mlen at ⌝ }
+{
+    match tiles_at(s, elen, at, power(mlen - rlen), power(rlen - 3)) {
+        Tiles::TilesBad(p) => {
+            return bad_head(p);
+        }
+        Tiles::Tiled(mtype, tile_m, tile_k, tile_n, a) => match seal_at(s, a) {
+            Pair::PairBad(p) => {
+                return bad_head(p);
+            }
+            Pair::Both(seal_start, seal_length, b) => {
+                let count = number_from(s, b, 0, power(mlen));
+                let machine = Machine {
+                    rlen: power(rlen),
+                    mlen: power(mlen),
+                    mtype: mtype,
+                    tile_m: tile_m,
+                    tile_k: tile_k,
+                    tile_n: tile_n,
+                    seal_start: seal_start,
+                    seal_length: seal_length,
+                    rule: rule,
+                    elen: power(elen),
+                };
+                return Head {
+                    machine: machine,
+                    count: count,
+                };
+            }
+        },
+    }
+}
+
 // The numbers of an image.
 pub fn head_of(s: &[u8]) -> Head
     ensures { λ r. ⌜ r ≡ headIn (now (s .entry)) ⌝ }
 {
     match shape_of(s) {
         Shape::ShapeBad(p) => {
-            return Head::HeadBad(p);
+            return bad_head(p);
         }
-        Shape::Shaped(r, m, rule, elen, a) => {
-            let rows = power(m - r);
-            let columns = power(r - 3);
-            let mlen = power(m);
-            match tiles_at(s, elen, a, rows, columns) {
-                Tiles::TilesBad(p) => {
-                    return Head::HeadBad(p);
-                }
-                Tiles::Tiled(mtype, tile_m, tile_k, tile_n, b) => match tail_at(s, b, mlen) {
-                    Tail::TailBad(p) => {
-                        return Head::HeadBad(p);
-                    }
-                    Tail::Tailed(seal_start, seal_length, count, e) => {
-                        let machine = Machine {
-                            rlen: power(r),
-                            mlen: mlen,
-                            mtype: mtype,
-                            tile_m: tile_m,
-                            tile_k: tile_k,
-                            tile_n: tile_n,
-                            seal_start: seal_start,
-                            seal_length: seal_length,
-                            rule: rule,
-                            elen: power(elen),
-                        };
-                        return Head::Headed(machine, count, e);
-                    }
-                },
-            }
+        Shape::Shaped(rlen, mlen, rule, elen, a) => {
+            return head_at(s, rule, elen, rlen, mlen, a);
         }
     }
 }

@@ -1,7 +1,7 @@
 // The check of an image: its numbers and its runs, up to the place of the first fault. What an image is, is defined in image/specs/.
-use head::Head;
 use head::head_of;
 use image::Imaged;
+use reader::Number;
 use runs::check_runs;
 ghost use mathlib.Core.Path.{_≡_};
 ghost use Rattle.image.specs.Reading.{checkImage};
@@ -14,12 +14,15 @@ pub mod runs; // its runs
 pub fn check_image(s: &[u8]) -> Imaged
     ensures { λ r. ⌜ r ≡ checkImage (now (s .entry)) ⌝ }
 {
-    match head_of(s) {
-        Head::HeadBad(p) => {
+    let head = head_of(s);
+    let machine = head.machine;
+    let numbers = head.count;
+    match numbers {
+        Number::Fault(p) => {
             return Imaged::Damaged { place: p as u64 };
         }
-        Head::Headed(m, count, at) => {
-            return check_runs(s, at, count, 2 * m.mlen);
+        Number::Value(count, at) => {
+            return check_runs(s, at, count, 2 * machine.mlen);
         }
     }
 }

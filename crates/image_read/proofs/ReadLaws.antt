@@ -20,7 +20,8 @@ use Rattle.image.specs.ImageFormat.{Described, total, imageFormat}
 use Rattle.image.specs.Reading.{verdictOf, restored, readAs, readImage}
 use Rattle.image.proofs.ImageLaws.{image-live, image-out}
 use Rattle.image.proofs.Images.{fits-true, read-done, read-unfit}
-use Rattle.image_check.specs.declared.head.Head.the-variants.{HeadBad}
+use Rattle.reader.specs.declared.Number.the-variants.{Fault}
+use Rattle.image_check.specs.declared.head.Head.{Head}
 use Rattle.image_check.specs.Parts.{headIn, describe, runsFrom, runsVerdict, imageDone}
 use Rattle.image_check.proofs.RunsLaws.{mapped}
 use Rattle.image_check.proofs.HeadLaws.{HeadedOk, head-bad, head-parse}
@@ -40,9 +41,9 @@ sets-all xs n v e =
     ∙ append-nil (replicate n v)
 
 -- numbers at fault
-pub read-bad : (s registers marks : List ℕ) (p : ℕ) → headIn s ≡ HeadBad p → restored (Damaged p) noMachine registers marks ≡ readImage s registers marks
+pub read-bad : (s registers marks : List ℕ) (h : Head) → h ≡ headIn s → (p : ℕ) → h .count ≡ Fault p → restored (Damaged p) noMachine registers marks ≡ readImage s registers marks
 unfolding readImage
-read-bad s registers marks p e = ap (λ (q : Parsed Described). readAs q registers marks) (sym (head-bad s p e))
+read-bad s registers marks h is p e = ap (λ (q : Parsed Described). readAs q registers marks) (sym (head-bad s h is p e))
 
 module _ (s : List ℕ) (m : Machine) (c a : ℕ) (h : HeadedOk s m c a) (v : Imaged) (is : v ≡ runsVerdict s a c 0 (2 * m .mlen)) where
   abbrev runsLeft : Parsed Described

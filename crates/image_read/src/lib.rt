@@ -4,11 +4,11 @@ use fill::fill_runs;
 use fill::put_marks;
 use image::Imaged;
 use image::Restored;
-use image_check::head::Head;
 use image_check::head::head_of;
+use image_check::head::no_machine;
 use image_check::is_done;
 use image_check::runs::check_runs;
-use machine::Machine;
+use reader::Number;
 ghost use mathlib.Core.Path.{_≡_};
 ghost use Rattle.image.specs.Reading.{restoredAs, readImage};
 ghost use Rattle.machine.specs.Starting.{noMachine};
@@ -21,18 +21,7 @@ fn refused(answer: Imaged) -> Restored
 {
     Restored {
         answer: answer,
-        machine: Machine {
-            rlen: 0,
-            mlen: 0,
-            mtype: 0,
-            tile_m: 0,
-            tile_k: 0,
-            tile_n: 0,
-            seal_start: 0,
-            seal_length: 0,
-            rule: 0,
-            elen: 0,
-        },
+        machine: no_machine(),
     }
 }
 
@@ -41,12 +30,15 @@ pub fn read_image(image: &[u8], registers: &mut [u8], marks: &mut [u8]) -> Resto
     ensures { λ r. ⌜ restoredAs r (now (registers .exit)) (now (marks .exit))
         ≡ readImage (now (image .entry)) (now (registers .entry)) (now (marks .entry)) ⌝ }
 {
-    match head_of(image) {
-        Head::HeadBad(p) => {
+    let head = head_of(image);
+    let machine = head.machine;
+    let numbers = head.count;
+    match numbers {
+        Number::Fault(p) => {
             return refused(Imaged::Damaged { place: p as u64 });
         }
-        Head::Headed(m, count, at) => {
-            let total = 2 * m.mlen;
+        Number::Value(count, at) => {
+            let total = 2 * machine.mlen;
             let verdict = check_runs(image, at, count, total);
             if !is_done(verdict) {
                 return refused(verdict);
@@ -62,7 +54,7 @@ pub fn read_image(image: &[u8], registers: &mut [u8], marks: &mut [u8]) -> Resto
             fill_runs(image, at, count, registers, marks);
             return Restored {
                 answer: Imaged::Done,
-                machine: m,
+                machine: machine,
             };
         }
     }

@@ -1,5 +1,4 @@
 -- `image_check::check_image` meets its contract.
-use mathlib.Core.Path.{sym, _∙_}
 use native.Mathlib.Omega.{arith}
 use borrow.Author.Needs.{needs}
 use Rattle.image_check.proofs.HeadLaws.{HeadedOk, head-known, head-sizes}
@@ -8,20 +7,26 @@ use Rattle.image_check.proofs.check_image.Statement.{statement}
 use Rattle.image_check.proofs.check_image.Tie as tie
 
 -- the numbers that were read
-head : (c : tie.After-m) → HeadedOk (c .before .before .before .before .args .s .now) (c .m .given .0 .0) (c .m .given .0 .1 .0) (c .m .given .0 .1 .1 .0)
-head c = head-known (c .before .before .before .before .args .s .now) (c .m .given .0 .0) (c .m .given .0 .1 .0) (c .m .given .0 .1 .1 .0) (sym (c .before .before .head-of .ensures) ∙ c .m .given .1)
+head : (c : tie.After-numbers2) → let h = c .before .before .before .head-of in
+    HeadedOk (c .before .before .before .before .before .args .s .now) (h .result .machine) (c .numbers2 .given .0 .0) (c .numbers2 .given .0 .1 .0)
+head c =
+    let h = c .before .before .before .head-of in
+    head-known (c .before .before .before .before .before .args .s .now) (h .result) (h .ensures) (c .numbers2 .given .0 .0) (c .numbers2 .given .0 .1 .0) (c .numbers2 .given .1)
 
 head-of-requires : tie.Need-head-of-requires
 head-of-requires c κs = search needs
 
-enum-known-p : tie.Need-enum-known-p
-enum-known-p c = search needs
+enum-known-numbers : tie.Need-enum-known-numbers
+enum-known-numbers c = search needs
 
 returns : tie.Need-returns
-returns c = check-bad (c .before .before .before .before .before .args .s .now) (c .before .p .given .0 .0) (sym (c .before .before .before .head-of .ensures) ∙ c .before .p .given .1)
+returns c =
+    let k = c .before in
+    let h = k .before .before .before .head-of in
+    check-bad (c .before .before .before .before .before .before .args .s .now) (h .result) (h .ensures) (k .numbers .given .0 .0) (k .numbers .given .1)
 
-enum-known-m : tie.Need-enum-known-m
-enum-known-m c = search needs
+enum-known-numbers-2 : tie.Need-enum-known-numbers-2
+enum-known-numbers-2 c = search needs
 
 mul-check-runs : tie.Need-mul-check-runs
 mul-check-runs c = let z = head-sizes _ _ _ _ (head (c .before .before)) in omega arith
@@ -37,9 +42,9 @@ check-image-spec =
     tie.close
     (tie.spec
     head-of-requires
-    enum-known-p
+    enum-known-numbers
     returns
-    enum-known-m
+    enum-known-numbers-2
     mul-check-runs
     check-runs-requires
     returns-2)

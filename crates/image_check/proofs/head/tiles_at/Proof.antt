@@ -1,4 +1,3 @@
--- `image_check::head::tiles_at` meets its contract.
 use mathlib.Core.Path.{sym, _∙_}
 use Rattle.image_check.specs.Parts.{tilesAt}
 use borrow.Author.Needs.{needs}
@@ -39,11 +38,8 @@ returns-2 c =
 enum-known-m : tie.Need-enum-known-m
 enum-known-m c = search needs
 
-smaller-requires : tie.Need-smaller-requires
-smaller-requires c κs = search needs
-
-number-from-requires-2 : tie.Need-number-from-requires-2
-number-from-requires-2 c κs = search needs
+sizes-at-requires : tie.Need-sizes-at-requires
+sizes-at-requires c κs = search needs
 
 enum-known-p-3 : tie.Need-enum-known-p-3
 enum-known-p-3 c = search needs
@@ -52,53 +48,26 @@ returns-3 : tie.Need-returns-3
 unfolding tilesAt
 returns-3 c =
     let k = c .before in
-    let o = k .before .before in
-    let b = o .before in
-    let h = b .before .before in
+    let z = k .before .before in
+    let h = z .before .before in
     let n = h .before .before in
     let g = n .before .before in
     let f = g .before .before in
-    rw (sym (f .mtype-at .ensures) ∙ g .t .given .1, sym (n .number-from .ensures) ∙ h .m .given .1, ← b .smaller .ensures, sym (o .number-from2 .ensures) ∙ k .p3 .given .1)
+    rw (sym (f .mtype-at .ensures) ∙ g .t .given .1, sym (n .number-from .ensures) ∙ h .m .given .1, sym (z .sizes-at .ensures) ∙ k .p3 .given .1)
 
 enum-known-k : tie.Need-enum-known-k
 enum-known-k c = search needs
-
-number-from-requires-3 : tie.Need-number-from-requires-3
-number-from-requires-3 c κs = search needs
-
-enum-known-p-4 : tie.Need-enum-known-p-4
-enum-known-p-4 c = search needs
 
 returns-4 : tie.Need-returns-4
 unfolding tilesAt
 returns-4 c =
     let k = c .before in
-    let q = k .before .before in
-    let i = q .before .before in
-    let o = i .before .before in
-    let b = o .before in
-    let h = b .before .before in
+    let z = k .before .before in
+    let h = z .before .before in
     let n = h .before .before in
     let g = n .before .before in
     let f = g .before .before in
-    rw (sym (f .mtype-at .ensures) ∙ g .t .given .1, sym (n .number-from .ensures) ∙ h .m .given .1, ← b .smaller .ensures, sym (o .number-from2 .ensures) ∙ i .k .given .1, sym (q .number-from3 .ensures) ∙ k .p4 .given .1)
-
-enum-known-n : tie.Need-enum-known-n
-enum-known-n c = search needs
-
-returns-5 : tie.Need-returns-5
-unfolding tilesAt
-returns-5 c =
-    let k = c .before in
-    let q = k .before .before in
-    let i = q .before .before in
-    let o = i .before .before in
-    let b = o .before in
-    let h = b .before .before in
-    let n = h .before .before in
-    let g = n .before .before in
-    let f = g .before .before in
-    rw (sym (f .mtype-at .ensures) ∙ g .t .given .1, sym (n .number-from .ensures) ∙ h .m .given .1, ← b .smaller .ensures, sym (o .number-from2 .ensures) ∙ i .k .given .1, sym (q .number-from3 .ensures) ∙ k .n .given .1)
+    rw (sym (f .mtype-at .ensures) ∙ g .t .given .1, sym (n .number-from .ensures) ∙ h .m .given .1, sym (z .sizes-at .ensures) ∙ k .k .given .1)
 
 pub tiles-at-spec : {M : Type 1} → statement M
 tiles-at-spec =
@@ -112,13 +81,8 @@ tiles-at-spec =
     enum-known-p-2
     returns-2
     enum-known-m
-    smaller-requires
-    number-from-requires-2
+    sizes-at-requires
     enum-known-p-3
     returns-3
     enum-known-k
-    number-from-requires-3
-    enum-known-p-4
-    returns-4
-    enum-known-n
-    returns-5)
+    returns-4)
