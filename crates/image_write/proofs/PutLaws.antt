@@ -9,7 +9,7 @@ use native.Mathlib.Numerals.{add-one}
 use lib.ListN.{length, drop, getD, set, length-append, drop-of-length-le}
 use lib.Seq.{sets, sets-eq, drop-cons}
 use borrow.Author.Tests.{eq-eqb, ne-eqb}
-use Rattle.format.specs.Numbers.{groups, encode, encodeAll}
+use Rattle.format.specs.Numbers.{encode, encodeAll}
 use Rattle.machine.specs.declared.Machine.{Machine}
 use Rattle.image.specs.Images.{exponent, Header, beyond, version, fields, headerOf}
 
@@ -74,14 +74,6 @@ version-one h b d = rw (b, ne-eqb (h .rule) 1 d)
 pub beyond-by : (e r m : ℕ) (a b : Bool) → eqb e 6 ≡ a → ltb 9 r ≡ b → a || (b || ltb 12 m) ≡ beyond e r m
 unfolding beyond
 beyond-by e r m a b p q = rw (p, q)
-
-pub size-two : 2 ≡ length (encodeAll (2 ∷ 1 ∷ []) [])
-unfolding encode groups
-size-two = refl
-
-pub size-one : 1 ≡ length (encodeAll (1 ∷ []) [])
-unfolding encode groups
-size-one = refl
 
 -- ---- the other numbers
 

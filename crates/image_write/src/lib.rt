@@ -12,7 +12,7 @@ ghost use mathlib.Core.Path.{_≡_};
 ghost use mathlib.Core.Bool.{true};
 ghost use mathlib.Core.List.{[], _∷_, _++_};
 ghost use Prim.Native.Nat.{_+_, _≤_, _<_};
-ghost use lib.ListN.{length};
+ghost use lib.ListN.{length, take};
 ghost use lib.Seq.{sets};
 ghost use Rattle.format.specs.Numbers.{encodeAll};
 ghost use Rattle.machine.specs.Faults.{sound};
@@ -50,18 +50,45 @@ fn is_beyond(m: Machine) -> bool
     exponent(m.mlen) > 12
 }
 
+// The version of an image and what follows it: the first of these numbers, so many.
+pub struct Version {
+    pub numbers: [u64; 3],
+    pub count: usize,
+}
+
+// The lowest version that can hold a machine.
+fn version_of(m: Machine) -> Version
+    ensures { λ r. ⌜ (r .count ≤ 3) × (take (r .count) (r .numbers) ≡ version (headerOf m)) ⌝ }
+{
+    if is_beyond(m) {
+        let numbers = [3, m.rule, exponent(m.elen)];
+        return Version {
+            numbers: numbers,
+            count: 3,
+        };
+    }
+    if m.rule == 1 {
+        let numbers = [2, 1, 0];
+        return Version {
+            numbers: numbers,
+            count: 2,
+        };
+    }
+    let numbers = [1, 0, 0];
+    Version {
+        numbers: numbers,
+        count: 1,
+    }
+}
+
 // How many bytes the version of an image takes, with what follows it.
 fn version_size(m: Machine) -> usize
     ensures { λ r. ⌜ (r ≡ length (encodeAll (version (headerOf m)) [])) × (r ≤ 30) ⌝ }
 {
-    if is_beyond(m) {
-        let numbers = [3, m.rule, exponent(m.elen)];
-        return numbers_size(&numbers);
-    }
-    if m.rule == 1 {
-        return 2;
-    }
-    1
+    let version = version_of(m);
+    let numbers = version.numbers;
+    let count = version.count;
+    numbers_size(&numbers[..count])
 }
 
 // Puts the version of an image into the room, with what follows it, and gives the place behind them.
@@ -70,16 +97,10 @@ fn put_version(room: &mut [u8], m: Machine) -> usize
     ensures { λ r. ⌜ r ≡ length (encodeAll (version (headerOf m)) []) ⌝ }
     ensures { λ _. ⌜ now (room .exit) ≡ sets (now (room .entry)) 0 (encodeAll (version (headerOf m)) []) ⌝ }
 {
-    if is_beyond(m) {
-        let numbers = [3, m.rule, exponent(m.elen)];
-        return put_numbers(room, 0, &numbers);
-    }
-    if m.rule == 1 {
-        let numbers = [2, 1];
-        return put_numbers(room, 0, &numbers);
-    }
-    let numbers = [1];
-    put_numbers(room, 0, &numbers)
+    let version = version_of(m);
+    let numbers = version.numbers;
+    let count = version.count;
+    put_numbers(room, 0, &numbers[..count])
 }
 
 // How many bytes the other numbers of an image take.

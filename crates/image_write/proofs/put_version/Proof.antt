@@ -1,115 +1,55 @@
-use mathlib.Core.Path.{sym, ap, _∙_, subst}
+use mathlib.Core.Path.{_≡_, sym, ap, _∙_}
 use mathlib.Core.List.{List, []}
-use Prim.Native.Nat.{ℕ, _+_, _≤_}
+use Prim.Native.Nat.{ℕ}
 use native.Mathlib.Omega.{arith}
-use lib.ListN.{length}
+use lib.ListN.{length, take, length-take}
 use lib.Seq.{sets}
 use Rattle.format.specs.Numbers.{encodeAll}
-use Rattle.image.specs.Images.{headerOf}
-use Rattle.image_write.proofs.PutLaws.{version-three, version-two, version-one}
 use borrow.Author.Needs.{needs}
 use Rattle.image_write.proofs.put_version.Statement.{statement}
 use Rattle.image_write.proofs.put_version.Tie as tie
 
-is-beyond-requires : tie.Need-is-beyond-requires
-is-beyond-requires c κs = search needs
+-- three numbers, of which some are taken
+long : (c : tie.After-put-numbers-arg) → length (c .before .before .version-of .result .numbers) ≡ 3
+long c = search needs
 
-exponent-requires : tie.Need-exponent-requires
-exponent-requires c κs = search needs
+version-of-requires : tie.Need-version-of-requires
+version-of-requires c κs = search needs
+
+array-share-prefix-numbers : tie.Need-array-share-prefix-numbers
+array-share-prefix-numbers c = omega (arith, long c, c .before .before .version-of .ensures .0)
+
+taken : (c : tie.After-put-numbers-arg) → let v = c .before .before .version-of .result in length (take (v .count) (v .numbers)) ≡ v .count
+taken c = let v = c .before .before .version-of in omega (arith, length-take (v .result .count) (v .result .numbers), long c, v .ensures .0)
 
 slice-aggregate-put-numbers : tie.Need-slice-aggregate-put-numbers
-slice-aggregate-put-numbers c = search needs
+slice-aggregate-put-numbers c = sym (taken (c .before))
 
 put-numbers-requires : tie.Need-put-numbers-requires
 put-numbers-requires c κs =
-    let x = c .before .before in
-    let i = x .before in
-    let s = i .before .before .before in
-    let e = version-three (headerOf (s .args .m)) (x .exponent .result) (x .exponent .ensures .0) (sym (i .before .is-beyond .ensures) ∙ i .if1 .taken) in
-    (omega arith, subst (λ (ns : List ℕ). 0 + length (encodeAll ns []) ≤ length (s .args .room .now)) (sym e) (omega (arith, s .pre)))
+    let v = c .before .before .before .version-of in
+    let same = ap (λ (ns : List ℕ). length (encodeAll ns [])) (v .ensures .1) in
+    (omega (arith, taken (c .before), v .ensures .0), omega (arith, same, c .before .before .before .before .before .pre))
 
 same-length : tie.Need-same-length
 same-length c = search needs
 
 returns : tie.Need-returns
 returns c =
-    let p = c .before .before in
-    let x = p .before .before .before in
-    let i = x .before in
-    let s = i .before .before .before in
-    let a = s .args in
-    let e = version-three (headerOf (s .args .m)) (x .exponent .result) (x .exponent .ensures .0) (sym (i .before .is-beyond .ensures) ∙ i .if1 .taken) in (
-      omega (arith, p .put-numbers .ensures .0, ap (λ (ns : List ℕ). length (encodeAll ns [])) e),
-      p .put-numbers .ensures .1 ∙ ap (λ (ns : List ℕ). sets (a .room .now) 0 (encodeAll ns [])) e,
-    )
-
-slice-aggregate-put-numbers-2 : tie.Need-slice-aggregate-put-numbers-2
-slice-aggregate-put-numbers-2 c = search needs
-
-put-numbers-requires-2 : tie.Need-put-numbers-requires-2
-put-numbers-requires-2 c κs =
-    let j = c .before .before in
-    let i = j .before .before in
-    let s = i .before .before .before in
-    let e = version-two (headerOf (s .args .m)) (sym (i .before .is-beyond .ensures) ∙ i .if1 .left) (j .if2 .taken) in
-    (omega arith, subst (λ (ns : List ℕ). 0 + length (encodeAll ns []) ≤ length (s .args .room .now)) (sym e) (omega (arith, s .pre)))
-
-same-length-2 : tie.Need-same-length-2
-same-length-2 c = search needs
-
-returns-2 : tie.Need-returns-2
-returns-2 c =
-    let p = c .before .before in
-    let j = p .before .before .before in
-    let i = j .before .before in
-    let s = i .before .before .before in
-    let a = s .args in
-    let e = version-two (headerOf (s .args .m)) (sym (i .before .is-beyond .ensures) ∙ i .if1 .left) (j .if2 .taken) in (
-      omega (arith, p .put-numbers2 .ensures .0, ap (λ (ns : List ℕ). length (encodeAll ns [])) e),
-      p .put-numbers2 .ensures .1 ∙ ap (λ (ns : List ℕ). sets (a .room .now) 0 (encodeAll ns [])) e,
-    )
-
-slice-aggregate-put-numbers-3 : tie.Need-slice-aggregate-put-numbers-3
-slice-aggregate-put-numbers-3 c = search needs
-
-put-numbers-requires-3 : tie.Need-put-numbers-requires-3
-put-numbers-requires-3 c κs =
-    let j = c .before .before in
-    let i = j .before .before in
-    let s = i .before .before .before in
-    let e = version-one (headerOf (s .args .m)) (sym (i .before .is-beyond .ensures) ∙ i .if1 .left) (j .if2 .left) in
-    (omega arith, subst (λ (ns : List ℕ). 0 + length (encodeAll ns []) ≤ length (s .args .room .now)) (sym e) (omega (arith, s .pre)))
-
-same-length-3 : tie.Need-same-length-3
-same-length-3 c = search needs
-
-returns-3 : tie.Need-returns-3
-returns-3 c =
-    let p = c .before .before in
-    let j = p .before .before .before in
-    let i = j .before .before in
-    let s = i .before .before .before in
-    let a = s .args in
-    let e = version-one (headerOf (s .args .m)) (sym (i .before .is-beyond .ensures) ∙ i .if1 .left) (j .if2 .left) in (
-      omega (arith, p .put-numbers3 .ensures .0, ap (λ (ns : List ℕ). length (encodeAll ns [])) e),
-      p .put-numbers3 .ensures .1 ∙ ap (λ (ns : List ℕ). sets (a .room .now) 0 (encodeAll ns [])) e,
+    let p = c .before .before .put-numbers in
+    let v = c .before .before .before .before .before .before .version-of in
+    let a = c .before .before .before .before .before .before .before .before .args in (
+      omega (arith, p .ensures .0, ap (λ (ns : List ℕ). length (encodeAll ns [])) (v .ensures .1)),
+      p .ensures .1 ∙ ap (λ (ns : List ℕ). sets (a .room .now) 0 (encodeAll ns [])) (v .ensures .1),
     )
 
 pub put-version-spec : {M : Type 1} → statement M
 put-version-spec =
     tie.close
     (tie.spec
-    is-beyond-requires
-    exponent-requires
+    version-of-requires
+    array-share-prefix-numbers
     slice-aggregate-put-numbers
     put-numbers-requires
     same-length
-    returns
-    slice-aggregate-put-numbers-2
-    put-numbers-requires-2
-    same-length-2
-    returns-2
-    slice-aggregate-put-numbers-3
-    put-numbers-requires-3
-    same-length-3
-    returns-3)
+    returns)

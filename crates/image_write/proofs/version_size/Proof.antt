@@ -1,55 +1,45 @@
-use mathlib.Core.Path.{sym, ap, _∙_}
+use mathlib.Core.Path.{_≡_, sym, ap, _∙_}
 use mathlib.Core.List.{List, []}
 use Prim.Native.Nat.{ℕ}
 use native.Mathlib.Omega.{arith}
-use lib.ListN.{length}
+use lib.ListN.{length, take, length-take}
 use Rattle.format.specs.Numbers.{encodeAll}
-use Rattle.image.specs.Images.{headerOf}
-use Rattle.image_write.proofs.PutLaws.{version-three, version-two, version-one, size-two, size-one}
 use borrow.Author.Needs.{needs}
 use Rattle.image_write.proofs.version_size.Statement.{statement}
 use Rattle.image_write.proofs.version_size.Tie as tie
 
-is-beyond-requires : tie.Need-is-beyond-requires
-is-beyond-requires c κs = search needs
+-- three numbers, of which some are taken
+long : (c : tie.After-numbers) → length (c .before .version-of .result .numbers) ≡ 3
+long c = search needs
 
-exponent-requires : tie.Need-exponent-requires
-exponent-requires c κs = search needs
+version-of-requires : tie.Need-version-of-requires
+version-of-requires c κs = search needs
+
+array-share-prefix-numbers : tie.Need-array-share-prefix-numbers
+array-share-prefix-numbers c = omega (arith, long c, c .before .version-of .ensures .0)
+
+taken : (c : tie.After-numbers) → let v = c .before .version-of .result in length (take (v .count) (v .numbers)) ≡ v .count
+taken c = let v = c .before .version-of in omega (arith, length-take (v .result .count) (v .result .numbers), long c, v .ensures .0)
 
 slice-aggregate-numbers-size : tie.Need-slice-aggregate-numbers-size
-slice-aggregate-numbers-size c = search needs
+slice-aggregate-numbers-size c = sym (taken (c .before))
 
 numbers-size-requires : tie.Need-numbers-size-requires
-numbers-size-requires c κs = search needs
+numbers-size-requires c κs = omega (arith, taken (c .before), c .before .before .version-of .ensures .0)
 
 returns : tie.Need-returns
 returns c =
-    let x = c .before .before in
-    let i = x .before in
-    let m = i .before .before .args .m in
-    let v = version-three (headerOf m) (x .exponent .result) (x .exponent .ensures .0) (sym (i .before .is-beyond .ensures) ∙ i .if1 .taken) in
-    (c .numbers-size .ensures .0 ∙ ap (λ (ns : List ℕ). length (encodeAll ns [])) v, c .numbers-size .ensures .1)
-
-returns-2 : tie.Need-returns-2
-returns-2 c =
-    let i = c .before .before in
-    let m = i .before .before .args .m in
-    (size-two ∙ ap (λ (ns : List ℕ). length (encodeAll ns [])) (version-two (headerOf m) (sym (i .before .is-beyond .ensures) ∙ i .if1 .left) (c .if2 .taken)), omega arith)
-
-returns-3 : tie.Need-returns-3
-returns-3 c =
-    let i = c .before .before in
-    let m = i .before .before .args .m in
-    (size-one ∙ ap (λ (ns : List ℕ). length (encodeAll ns [])) (version-one (headerOf m) (sym (i .before .is-beyond .ensures) ∙ i .if1 .left) (c .if2 .left)), omega arith)
+    let v = c .before .before .before .version-of in (
+      c .numbers-size .ensures .0 ∙ ap (λ (ns : List ℕ). length (encodeAll ns [])) (v .ensures .1),
+      omega (arith, c .numbers-size .ensures .1, taken (c .before .before), v .ensures .0),
+    )
 
 pub version-size-spec : {M : Type 1} → statement M
 version-size-spec =
     tie.close
     (tie.spec
-    is-beyond-requires
-    exponent-requires
+    version-of-requires
+    array-share-prefix-numbers
     slice-aggregate-numbers-size
     numbers-size-requires
-    returns
-    returns-2
-    returns-3)
+    returns)
