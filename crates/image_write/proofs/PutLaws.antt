@@ -10,8 +10,7 @@ use lib.ListN.{length, drop, getD, set, length-append, drop-of-length-le}
 use lib.Seq.{sets, sets-eq, drop-cons}
 use borrow.Author.Tests.{eq-eqb, ne-eqb}
 use Rattle.format.specs.Numbers.{encode, encodeAll}
-use Rattle.machine.specs.declared.Machine.{Machine}
-use Rattle.image.specs.Images.{exponent, Header, beyond, version, fields, headerOf}
+use Rattle.image.specs.Images.{Header, beyond, version}
 
 -- bytes, then more behind them
 pub sets-append : (a t room : List ℕ) (at : ℕ) → sets room at (a ++ t) ≡ sets (sets room at a) (at + length a) t
@@ -74,10 +73,3 @@ version-one h b d = rw (b, ne-eqb (h .rule) 1 d)
 pub beyond-by : (e r m : ℕ) (a b : Bool) → eqb e 6 ≡ a → ltb 9 r ≡ b → a || (b || ltb 12 m) ≡ beyond e r m
 unfolding beyond
 beyond-by e r m a b p q = rw (p, q)
-
--- ---- the other numbers
-
-pub header-is : (m : Machine) (count r l : ℕ) → r ≡ exponent (m .rlen) → l ≡ exponent (m .mlen)
-    → r ∷ l ∷ m .mtype ∷ m .«tile_m» ∷ m .«tile_k» ∷ m .«tile_n» ∷ m .«seal_start» ∷ m .«seal_length» ∷ count ∷ [] ≡ fields (headerOf m) ++ (count ∷ [])
-header-is m count r l er el =
-    ap₂ (λ (x y : ℕ). x ∷ y ∷ m .mtype ∷ m .«tile_m» ∷ m .«tile_k» ∷ m .«tile_n» ∷ m .«seal_start» ∷ m .«seal_length» ∷ count ∷ []) er el

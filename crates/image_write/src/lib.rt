@@ -50,7 +50,7 @@ fn is_beyond(m: Machine) -> bool
     exponent(m.mlen) > 12
 }
 
-// The version of an image and what follows it: the first of these numbers, so many.
+// The version of an image and what follows it: the first `count` of these numbers.
 pub struct Version {
     pub numbers: [u64; 3],
     pub count: usize,
@@ -103,11 +103,11 @@ fn put_version(room: &mut [u8], m: Machine) -> usize
     put_numbers(room, 0, &numbers[..count])
 }
 
-// How many bytes the other numbers of an image take.
-fn header_size(m: Machine, count: u64) -> usize
-    ensures { λ r. ⌜ (r ≡ length (encodeAll (fields (headerOf m) ++ (count ∷ [])) [])) × (r ≤ 90) ⌝ }
+// The other numbers of an image: its fields, then the number of runs.
+fn fields_of(m: Machine, count: u64) -> [u64; 9]
+    ensures { λ r. ⌜ r ≡ fields (headerOf m) ++ (count ∷ []) ⌝ }
 {
-    let numbers = [
+    [
         exponent(m.rlen),
         exponent(m.mlen),
         m.mtype,
@@ -117,27 +117,24 @@ fn header_size(m: Machine, count: u64) -> usize
         m.seal_start,
         m.seal_length,
         count,
-    ];
+    ]
+}
+
+// How many bytes these numbers take.
+fn header_size(m: Machine, count: u64) -> usize
+    ensures { λ r. ⌜ (r ≡ length (encodeAll (fields (headerOf m) ++ (count ∷ [])) [])) × (r ≤ 90) ⌝ }
+{
+    let numbers = fields_of(m, count);
     numbers_size(&numbers)
 }
 
-// Puts the other numbers of an image into the room, from a place on, and gives the place behind them.
+// Puts these numbers into the room, from a place on, and gives the place behind them.
 fn put_header(room: &mut [u8], start: usize, m: Machine, count: u64) -> usize
     requires { ⌜ start + length (encodeAll (fields (headerOf m) ++ (count ∷ [])) []) ≤ length (now room) ⌝ }
     ensures { λ r. ⌜ r ≡ start + length (encodeAll (fields (headerOf m) ++ (count ∷ [])) []) ⌝ }
     ensures { λ _. ⌜ now (room .exit) ≡ sets (now (room .entry)) start (encodeAll (fields (headerOf m) ++ (count ∷ [])) []) ⌝ }
 {
-    let numbers = [
-        exponent(m.rlen),
-        exponent(m.mlen),
-        m.mtype,
-        m.tile_m,
-        m.tile_k,
-        m.tile_n,
-        m.seal_start,
-        m.seal_length,
-        count,
-    ];
+    let numbers = fields_of(m, count);
     put_numbers(room, start, &numbers)
 }
 
