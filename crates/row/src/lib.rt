@@ -68,11 +68,35 @@ pub fn write_row(dst: &mut [u8], src: &[u8])
     copy_rest(dst, src, done);
 }
 
-// Sets the first n marks.
+// Sets the eight marks from i on.
+fn mark_eight(dst: &mut [u8], i: usize)
+    requires { ⌜ i + 8 ≤ length (now dst) ⌝ }
+    ensures { λ _. ⌜ now (dst .exit) ≡ markRow i 8 (now (dst .entry)) ⌝ }
+{
+    dst[i] = 1;
+    dst[i + 1] = 1;
+    dst[i + 2] = 1;
+    dst[i + 3] = 1;
+    dst[i + 4] = 1;
+    dst[i + 5] = 1;
+    dst[i + 6] = 1;
+    dst[i + 7] = 1;
+}
+
+// Sets the first n marks: 8 and 16, the most common, without a loop.
 pub fn mark_row(dst: &mut [u8], n: usize)
     requires { ⌜ n ≤ length (now dst) ⌝ }
     ensures { λ _. ⌜ now (dst .exit) ≡ markRow 0 n (now (dst .entry)) ⌝ }
 {
+    if n == 8 {
+        mark_eight(dst, 0);
+        return;
+    }
+    if n == 16 {
+        mark_eight(dst, 0);
+        mark_eight(dst, 8);
+        return;
+    }
     let mut i = 0;
     while i < n {
         dst[i] = 1;

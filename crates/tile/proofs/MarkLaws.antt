@@ -1,11 +1,13 @@
 -- The marks of a tile by rows and elements.
-use mathlib.Core.Path.{_≡_, sym, _∙_, subst}
+use mathlib.Core.Path.{_≡_, sym, ap, _∙_, subst}
 use mathlib.Core.Bool.{Bool, true, false}
 use mathlib.Core.List.{List, [], _∷_}
 use Prim.Native.Nat.{ℕ, _+_, _*_, _<_}
 use native.Mathlib.Omega.{arith}
-use lib.ListN.{getD}
+use lib.ListN.{getD, set}
 use lib.Dec.{eqb}
+use Rattle.width.specs.Tile.{markRow, markTile}
+use Rattle.width.proofs.PutLaws.{upto-elements}
 use Rattle.machine.specs.declared.Answer.the-variants.{Done, Unwritten}
 use Rattle.machine.specs.Tests.{all}
 use Rattle.machine.specs.Answers.{verdict}
@@ -68,3 +70,9 @@ module _ (ms : List ℕ) (at : ℕ → ℕ) (rows n : ℕ) where
   pub rows-unmarked : (i : ℕ) → i < rows → rowMarked ms at n i ≡ false → false ≡ marked ms at rows n
   unfolding marked
   rows-unmarked i l g = sym (all-false rows (rowMarked ms at n) i l g)
+
+-- rows that lie one after another are marked as one
+pub rows-together : (start rows n : ℕ) (ms : List ℕ) → markRow start (rows * n) ms ≡ markTile (λ i. start + i * n) rows n ms
+unfolding markRow markTile
+rows-together start rows n ms =
+    upto-elements rows n (λ b ys. set ys (start + b) 1) (λ i b ys. set ys (start + i * n + b) 1) ms (λ i b l k ys. ap (λ (p : ℕ). set ys p 1) (omega arith))

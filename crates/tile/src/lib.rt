@@ -80,12 +80,16 @@ pub fn first_unmarked(
     found
 }
 
-// Marks the rows of n bytes.
+// Marks the rows of n bytes: as one row where each starts at the end of the one before.
 pub fn mark_tile(marks: &mut [u8], start: usize, pitch: usize, rows: usize, n: usize)
     requires { ⌜ start + rows * pitch ≤ length (now marks) ⌝ }
     requires { ⌜ n ≤ pitch ⌝ }
     ensures { λ _. ⌜ now (marks .exit) ≡ markTile (λ i. start + i * pitch) rows n (now (marks .entry)) ⌝ }
 {
+    if n == pitch {
+        mark_row(&mut marks[start..], rows * n);
+        return;
+    }
     let mut to = start;
     let mut i = 0;
     while i < rows {

@@ -1,4 +1,5 @@
-use mathlib.Core.Path.{_≡_, refl, ap, _∙_}
+use mathlib.Core.Path.{_≡_, refl, sym, ap, _∙_}
+use mathlib.Core.List.{List}
 use Prim.Native.Nat.{ℕ, _-_, _≤_}
 use native.Mathlib.Omega.{arith}
 use borrow.Author.Needs.{needs}
@@ -13,6 +14,38 @@ Inv-loop dst₀ n i₀ dst i = (i ≤ n) × (length dst ≡ length dst₀) × (d
 
 abbrev μ-loop : tie.MeasureT-loop
 μ-loop dst₀ n i₀ dst i = n - i
+
+mark-eight-requires : tie.Need-mark-eight-requires Inv-loop μ-loop
+mark-eight-requires c κs = omega arith
+
+same-length : tie.Need-same-length Inv-loop μ-loop
+same-length c = search needs
+
+returns : tie.Need-returns Inv-loop μ-loop
+returns c =
+    let d = c .before .before in
+    d .mark-eight .ensures ∙ ap (λ (n : ℕ). markRow 0 n (d .before .before .before .before .args .dst .now)) (sym (d .before .before .if1 .taken))
+
+mark-eight-requires-2 : tie.Need-mark-eight-requires-2 Inv-loop μ-loop
+mark-eight-requires-2 c κs = omega arith
+
+mark-eight-requires-3 : tie.Need-mark-eight-requires-3 Inv-loop μ-loop
+mark-eight-requires-3 c κs = omega arith
+
+same-length-2 : tie.Need-same-length-2 Inv-loop μ-loop
+same-length-2 c = search needs
+
+-- eight marks and eight more
+sixteen : (xs : List ℕ) → markRow 8 8 (markRow 0 8 xs) ≡ markRow 0 16 xs
+unfolding markRow
+sixteen xs = refl
+
+returns-2 : tie.Need-returns-2 Inv-loop μ-loop
+returns-2 c =
+    let d = c .before .before in
+    let e = d .before .before .before .before in
+    let xs = e .before .before .before .before .before .args .dst .now in
+    d .mark-eight3 .ensures ∙ ap (markRow 8 8) (e .mark-eight2 .ensures) ∙ sixteen xs ∙ ap (λ (n : ℕ). markRow 0 n xs) (sym (e .before .before .if2 .taken))
 
 loop-holds : tie.Need-loop-holds Inv-loop μ-loop
 unfolding markRow
@@ -30,16 +63,16 @@ loop-less c = search needs
 loop-again : tie.Need-loop-again Inv-loop μ-loop
 loop-again c =
     let l = c .before .loop in
-    let a = c .before .before .args in
+    let a = c .before .before .before .before .before .args in
     (search needs, simp length-set (search needs), markRow-next (l .i) (a .dst .now) (l .dst) (l .inv .2))
 
-same-length : tie.Need-same-length Inv-loop μ-loop
-same-length c = search needs
+same-length-3 : tie.Need-same-length-3 Inv-loop μ-loop
+same-length-3 c = search needs
 
-returns : tie.Need-returns Inv-loop μ-loop
-returns c =
+returns-3 : tie.Need-returns-3 Inv-loop μ-loop
+returns-3 c =
     let l = c .before .loop in
-    let a = c .before .before .args in
+    let a = c .before .before .before .before .before .args in
     l .inv .2 ∙ ap (λ (n : ℕ). markRow 0 n (a .dst .now)) (omega arith)
 
 pub mark-row-spec : {M : Type 1} → statement M
@@ -48,10 +81,17 @@ mark-row-spec =
     (tie.spec
     Inv-loop
     μ-loop
+    mark-eight-requires
+    same-length
+    returns
+    mark-eight-requires-2
+    mark-eight-requires-3
+    same-length-2
+    returns-2
     loop-holds
     slice-write-dst
     add-i
     loop-less
     loop-again
-    same-length
-    returns)
+    same-length-3
+    returns-3)

@@ -1,4 +1,4 @@
-use mathlib.Core.Path.{_≡_, refl, ap, _∙_}
+use mathlib.Core.Path.{_≡_, refl, sym, ap, _∙_}
 use Prim.Native.Nat.{ℕ, _+_, _*_, _-_, _≤_}
 use native.Mathlib.Omega.{arith}
 use borrow.Author.Needs.{needs}
@@ -6,6 +6,7 @@ use native.Mathlib.Nat.{zero-mul}
 use lib.ListN.{length, length-append, length-take, length-drop}
 use Rattle.width.specs.Tile.{markTile}
 use Rattle.width.proofs.PutLaws.{row-fits, next-row, mark-back, markTile-next}
+use Rattle.tile.proofs.MarkLaws.{rows-together}
 use Rattle.tile.proofs.mark_tile.Statement.{statement}
 use Rattle.tile.proofs.mark_tile.Tie as tie
 
@@ -15,26 +16,60 @@ Inv-loop marks₀ start pitch rows n to₀ i₀ marks to i = (i ≤ rows) × (to
 abbrev μ-loop : tie.MeasureT-loop
 μ-loop marks₀ start pitch rows n to₀ i₀ marks to i = rows - i
 
-loop-holds : tie.Need-loop-holds Inv-loop μ-loop
-unfolding markTile
-loop-holds c = (search needs, omega (arith, zero-mul (c .before .args .pitch)), refl, refl)
-
-bounds : (c : tie.In-loop Inv-loop μ-loop) → let a = c .before .before .before .args in c .before .loop .to + a .pitch ≤ length (a .marks .now)
-bounds c =
-    let a = c .before .before .before .args in
-    omega (arith, row-fits (c .before .loop .i) (a .rows) (a .pitch) (c .loop-test .taken))
+-- rows that lie one after another
+whole : (c : tie.Then1 Inv-loop μ-loop) → let a = c .before .before .args in a .start + a .rows * a .n ≤ length (a .marks .now)
+whole c = let a = c .before .before .args in omega (arith, ap (λ (p : ℕ). a .rows * p) (c .if1 .taken))
 
 sub-mark-row : tie.Need-sub-mark-row Inv-loop μ-loop
-sub-mark-row c = let b = bounds c in omega arith
+sub-mark-row c = let b = whole c in omega arith
 
 part-mark-row-start : tie.Need-part-mark-row-start Inv-loop μ-loop
-part-mark-row-start c = let b = bounds c in search needs
+part-mark-row-start c = let b = whole c in search needs
 
 part-mark-row-end : tie.Need-part-mark-row-end Inv-loop μ-loop
-part-mark-row-end c = let b = bounds c in search needs
+part-mark-row-end c = let b = whole c in search needs
+
+mul-mark-row : tie.Need-mul-mark-row Inv-loop μ-loop
+mul-mark-row c = let b = whole (c .before) in omega arith
 
 mark-row-requires : tie.Need-mark-row-requires Inv-loop μ-loop
-mark-row-requires c κs = let b = bounds (c .before) in simp (length-take, length-drop) (omega arith)
+mark-row-requires c κs = let b = whole (c .before) in simp (length-take, length-drop) (omega arith)
+
+same-length : tie.Need-same-length Inv-loop μ-loop
+same-length c =
+    let b = whole (c .before .before .before .before) in
+    simp (length-append, length-take, length-drop, c .before .before .mark-row .kept .0) (omega arith)
+
+returns : tie.Need-returns Inv-loop μ-loop
+returns c =
+    let d = c .before .before .before .before in
+    let a = d .before .before .args in
+    let b = whole d in
+    let r = c .before .before .mark-row in
+    mark-back (a .marks .now) (r .last .0) (a .start) (length (a .marks .now) - a .start) (a .rows * a .n) (omega arith) refl (r .ensures)
+    ∙ rows-together (a .start) (a .rows) (a .n) (a .marks .now)
+    ∙ ap (λ (p : ℕ). markTile (λ i. a .start + i * p) (a .rows) (a .n) (a .marks .now)) (d .if1 .taken)
+
+loop-holds : tie.Need-loop-holds Inv-loop μ-loop
+unfolding markTile
+loop-holds c = (search needs, omega (arith, zero-mul (c .before .before .args .pitch)), refl, refl)
+
+bounds : (c : tie.In-loop Inv-loop μ-loop) → let a = c .before .before .before .before .args in c .before .loop .to + a .pitch ≤ length (a .marks .now)
+bounds c =
+    let a = c .before .before .before .before .args in
+    omega (arith, row-fits (c .before .loop .i) (a .rows) (a .pitch) (c .loop-test .taken))
+
+sub-mark-row-2 : tie.Need-sub-mark-row-2 Inv-loop μ-loop
+sub-mark-row-2 c = let b = bounds c in omega arith
+
+part-mark-row-start-2 : tie.Need-part-mark-row-start-2 Inv-loop μ-loop
+part-mark-row-start-2 c = let b = bounds c in search needs
+
+part-mark-row-end-2 : tie.Need-part-mark-row-end-2 Inv-loop μ-loop
+part-mark-row-end-2 c = let b = bounds c in search needs
+
+mark-row-requires-2 : tie.Need-mark-row-requires-2 Inv-loop μ-loop
+mark-row-requires-2 c κs = let b = bounds (c .before) in simp (length-take, length-drop) (omega arith)
 
 add-to : tie.Need-add-to Inv-loop μ-loop
 add-to c = let b = bounds (c .before .before .before .before) in omega arith
@@ -49,9 +84,9 @@ loop-again : tie.Need-loop-again Inv-loop μ-loop
 loop-again c =
     let d = c .before .before .before .before in
     let l = d .before .loop in
-    let a = d .before .before .before .args in
+    let a = d .before .before .before .before .args in
     let b = bounds d in
-    let r = c .before .before .mark-row in (
+    let r = c .before .before .mark-row2 in (
       omega arith,
       omega (arith, next-row (l .i) (a .pitch)),
       simp (length-append, length-take, length-drop, r .kept .0) (omega arith),
@@ -59,13 +94,13 @@ loop-again c =
           ∙ markTile-next (λ i. a .start + i * a .pitch) (l .i) (a .n) (a .marks .now) (l .marks) (l .to) (l .inv .3) (l .inv .1),
     )
 
-same-length : tie.Need-same-length Inv-loop μ-loop
-same-length c = search needs
+same-length-2 : tie.Need-same-length-2 Inv-loop μ-loop
+same-length-2 c = search needs
 
-returns : tie.Need-returns Inv-loop μ-loop
-returns c =
+returns-2 : tie.Need-returns-2 Inv-loop μ-loop
+returns-2 c =
     let l = c .before .loop in
-    let a = c .before .before .before .args in
+    let a = c .before .before .before .before .args in
     let e : l .i ≡ a .rows = omega arith in
     l .inv .3 ∙ ap (λ (n : ℕ). markTile (λ i. a .start + i * a .pitch) n (a .n) (a .marks .now)) e
 
@@ -75,14 +110,21 @@ mark-tile-spec =
     (tie.spec
     Inv-loop
     μ-loop
-    loop-holds
     sub-mark-row
     part-mark-row-start
     part-mark-row-end
+    mul-mark-row
     mark-row-requires
+    same-length
+    returns
+    loop-holds
+    sub-mark-row-2
+    part-mark-row-start-2
+    part-mark-row-end-2
+    mark-row-requires-2
     add-to
     add-i
     loop-less
     loop-again
-    same-length
-    returns)
+    same-length-2
+    returns-2)
