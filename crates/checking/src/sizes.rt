@@ -50,9 +50,10 @@ fn transfer_width(elen: u64, mtype: u64, matrix: Matrix, width: usize) -> bool
     requires { ⌜ isIn mtype legalTypes ≡ true ⌝ }
     ensures { λ r. ⌜ r ≡ widthOf elen mtype matrix width ⌝ }
 {
+    let plain = width == sew_bytes(mtype);
     match matrix {
-        Matrix::MatrixA => width == sew_bytes(mtype),
-        Matrix::MatrixB => width == sew_bytes(mtype),
+        Matrix::MatrixA => plain,
+        Matrix::MatrixB => plain,
         Matrix::MatrixC => accumulator_width(elen, mtype, width),
     }
 }

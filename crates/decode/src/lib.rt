@@ -9,12 +9,14 @@ use machine::Matrix;
 use machine::Sum;
 use machine::Wrong;
 ghost use mathlib.Core.Path.{_≡_};
+ghost use mathlib.Core.Bool.{cond};
 ghost use mathlib.Core.List.{[], _∷_};
-ghost use Prim.Native.Nat.{_<_, _≤_};
+ghost use Prim.Native.Nat.{_-_, _<_, _≤_};
 ghost use lib.Dec.{ltb};
 ghost use Rattle.machine.specs.Tests.{every};
 ghost use Rattle.machine.specs.Listing.{field7, field15, field20, immediate13, listing, decode, ranged};
 ghost use Rattle.machine.specs.Geometry.{registerCount};
+ghost use Rattle.machine.specs.declared.Form.the-variants.{Plain, Transposed};
 ghost use Rattle.machine.specs.declared.Instruction.the-variants.{SetTypeImmediate, SetType, SetTileImmediate, SetTile, Load, Store, Multiply, Combine, Scale, ScaleImmediate, FloatMultiply};
 ghost use Rattle.decode_table.specs.Table.{entryOf, restRight, meant, numbered, fixesZero};
 
@@ -355,6 +357,26 @@ fn arithmetic(word: u32, number: u8) -> Instruction
     }
 }
 
+// Numbers above 108 are those of transposed loads and stores, with 100 added.
+fn form_of(number: u8) -> Form
+    ensures { λ r. ⌜ r ≡ cond (ltb 108 number) Transposed Plain ⌝ }
+{
+    if number > 108 {
+        return Form::Transposed;
+    }
+    Form::Plain
+}
+
+// A number as it is printed.
+fn printed(number: u8) -> u8
+    ensures { λ r. ⌜ r ≡ cond (ltb 108 number) (number - 100) number ⌝ }
+{
+    if number > 108 {
+        return number - 100;
+    }
+    number
+}
+
 // The instruction of the entry with this number.
 fn meant(word: u32, number: u8) -> Instruction
     ensures { λ r. ⌜ r ≡ ranged (meant number word listing) ⌝ }
@@ -367,20 +389,16 @@ fn meant(word: u32, number: u8) -> Instruction
     if number <= 8 {
         return setting(word, number);
     }
-    if number <= 20 {
-        return loading(word, Form::Plain, number);
+    let form = form_of(number);
+    let plain = printed(number);
+    if plain <= 20 {
+        return loading(word, form, plain);
     }
-    if number <= 32 {
-        return storing(word, Form::Plain, number);
+    if plain <= 32 {
+        return storing(word, form, plain);
     }
     if number <= 108 {
         return arithmetic(word, number);
-    }
-    if number <= 120 {
-        return loading(word, Form::Transposed, number - 100);
-    }
-    if number <= 132 {
-        return storing(word, Form::Transposed, number - 100);
     }
     Instruction::Illegal {
         wrong: Wrong::LeftOut,

@@ -120,6 +120,17 @@ pub fn row_marked(marks: &[u8], p: usize, n: usize) -> bool
     good
 }
 
+// The same. Eight marks, a row of a tile of the smallest machine, are compared as one number.
+pub fn line_marked(marks: &[u8], p: usize, n: usize) -> bool
+    requires { ⌜ p + n ≤ length (now marks) ⌝ }
+    ensures { λ r. ⌜ r ≡ all n (λ b. eqb (getD (now (marks .entry)) (p + b) 0) 1) ⌝ }
+{
+    if n == 8 {
+        return element::read8(marks, p) == 72340172838076673;
+    }
+    row_marked(marks, p, n)
+}
+
 fn larger(a: u8, b: u8) -> u8
     ensures { λ r. ⌜ ltb r 2 ≡ every (ltb a 2 ∷ ltb b 2 ∷ []) ⌝ }
 {

@@ -7,6 +7,7 @@ use address::rows_inside;
 use address::rows_unsealed;
 use machine::Answer;
 use machine::is_done;
+use row::line_marked;
 use row::mark_row;
 use row::row_marked;
 use row::write_row;
@@ -32,7 +33,7 @@ fn tile_marked(marks: &[u8], start: usize, pitch: usize, rows: usize, n: usize) 
     let mut first = start;
     let mut i = 0;
     while i < rows {
-        if !row_marked(marks, first, n) {
+        if !line_marked(marks, first, n) {
             return false;
         }
         first += pitch;

@@ -30,15 +30,15 @@ row-in c =
     omega (arith, s .pre)
 
 -- what the test found of row i
-row-found : (c : tie.After-row-marked Inv-loop μ-loop) →
+row-found : (c : tie.After-line-marked Inv-loop μ-loop) →
     let a = c .before .before .before .before .args in
-    c .row-marked .result ≡ rowMarked (a .marks .now) (λ i. a .start + i * a .pitch) (a .n) (c .before .before .loop .i)
+    c .line-marked .result ≡ rowMarked (a .marks .now) (λ i. a .start + i * a .pitch) (a .n) (c .before .before .loop .i)
 row-found c =
     let a = c .before .before .before .before .args in
-    c .row-marked .ensures ∙ ap (λ (q : ℕ). all (a .n) (λ b. eqb (getD (a .marks .now) (q + b) 0) 1)) (c .before .before .loop .inv .1)
+    c .line-marked .ensures ∙ ap (λ (q : ℕ). all (a .n) (λ b. eqb (getD (a .marks .now) (q + b) 0) 1)) (c .before .before .loop .inv .1)
 
-row-marked-requires : tie.Need-row-marked-requires Inv-loop μ-loop
-row-marked-requires c κs = let p = row-in c in let s = c .before .before .before in omega (arith, s .pre)
+line-marked-requires : tie.Need-line-marked-requires Inv-loop μ-loop
+line-marked-requires c κs = let p = row-in c in let s = c .before .before .before in omega (arith, s .pre)
 
 returns : tie.Need-returns Inv-loop μ-loop
 returns c =
@@ -47,7 +47,7 @@ returns c =
     let a = d .before .before .before .before .args in
     let at : ℕ → ℕ = λ i. a .start + i * a .pitch in
     rows-unmarked (a .marks .now) at (a .rows) (a .n) (l .i) (d .before .loop-test .taken)
-    (test-failed (d .row-marked .result) (rowMarked (a .marks .now) at (a .n) (l .i)) (row-found d) (c .if1 .taken))
+    (test-failed (d .line-marked .result) (rowMarked (a .marks .now) at (a .n) (l .i)) (row-found d) (c .if1 .taken))
 
 add-first : tie.Need-add-first Inv-loop μ-loop
 add-first c = let p = row-in (c .before .before) in omega arith
@@ -66,7 +66,7 @@ loop-again c =
     let row = rowMarked (a .marks .now) (λ i. a .start + i * a .pitch) (a .n) in (
       omega arith,
       omega (arith, next-row (l .i) (a .pitch)),
-      all-next (l .i) row (l .inv .2) (test-passed (d .row-marked .result) (row (l .i)) (row-found d) (c .if1 .left)),
+      all-next (l .i) row (l .inv .2) (test-passed (d .line-marked .result) (row (l .i)) (row-found d) (c .if1 .left)),
     )
 
 returns-2 : tie.Need-returns-2 Inv-loop μ-loop
@@ -79,4 +79,4 @@ returns-2 c =
 
 pub tile-marked-spec : {M : Type 1} → statement M
 tile-marked-spec =
-    tie.close (tie.spec Inv-loop μ-loop loop-holds row-marked-requires returns add-first add-i loop-less loop-again returns-2)
+    tie.close (tie.spec Inv-loop μ-loop loop-holds line-marked-requires returns add-first add-i loop-less loop-again returns-2)

@@ -6,17 +6,14 @@ use borrow.Author.Needs.{needs}
 use Rattle.checking.proofs.sizes.transfer_width.Statement.{statement}
 use Rattle.checking.proofs.sizes.transfer_width.Tie as tie
 
-enum-told : tie.Need-enum-told
-enum-told c = search needs
-
 sew-bytes-requires : tie.Need-sew-bytes-requires
 sew-bytes-requires c κs = search needs
 
+enum-told : tie.Need-enum-told
+enum-told c = search needs
+
 enum-told-2 : tie.Need-enum-told-2
 enum-told-2 c = search needs
-
-sew-bytes-requires-2 : tie.Need-sew-bytes-requires-2
-sew-bytes-requires-2 c κs = search needs
 
 enum-told-3 : tie.Need-enum-told-3
 enum-told-3 c = search needs
@@ -27,19 +24,21 @@ accumulator-width-requires c κs = search needs
 returns : tie.Need-returns
 unfolding widthOf
 returns c =
-    let a = c .before .before .before .args in
-    ap (eqb (a .width)) (c .sew-bytes .ensures .0) ∙ ap (λ (k : Matrix). widthOf (a .elen) (a .mtype) k (a .width)) (sym (c .before .enum-told .given .1))
+    let s = c .before .before in
+    let a = s .before .args in
+    ap (eqb (a .width)) (s .sew-bytes .ensures .0) ∙ ap (λ (k : Matrix). widthOf (a .elen) (a .mtype) k (a .width)) (sym (c .enum-told .given .1))
 
 returns-2 : tie.Need-returns-2
 unfolding widthOf
 returns-2 c =
-    let a = c .before .before .before .args in
-    ap (eqb (a .width)) (c .sew-bytes2 .ensures .0) ∙ ap (λ (k : Matrix). widthOf (a .elen) (a .mtype) k (a .width)) (sym (c .before .enum-told2 .given .1))
+    let s = c .before .before in
+    let a = s .before .args in
+    ap (eqb (a .width)) (s .sew-bytes .ensures .0) ∙ ap (λ (k : Matrix). widthOf (a .elen) (a .mtype) k (a .width)) (sym (c .enum-told2 .given .1))
 
 returns-3 : tie.Need-returns-3
 returns-3 c =
-    let a = c .before .before .before .args in
+    let a = c .before .before .before .before .args in
     c .accumulator-width .ensures ∙ ap (λ (k : Matrix). widthOf (a .elen) (a .mtype) k (a .width)) (sym (c .before .enum-told3 .given .1))
 
 pub transfer-width-spec : {M : Type 1} → statement M
-transfer-width-spec = tie.close (tie.spec enum-told sew-bytes-requires enum-told-2 sew-bytes-requires-2 enum-told-3 accumulator-width-requires returns returns-2 returns-3)
+transfer-width-spec = tie.close (tie.spec sew-bytes-requires enum-told enum-told-2 enum-told-3 accumulator-width-requires returns returns-2 returns-3)
