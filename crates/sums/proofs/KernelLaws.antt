@@ -1,5 +1,5 @@
 -- The loops of the kernels, once over the width: what holds in each turn, at its start, after one turn more, and at its end.
-use mathlib.Core.Path.{_≡_, refl, sym, ap, _∙_}
+use mathlib.Core.Path.{_≡_, refl, sym, ap, ap₂, _∙_}
 use mathlib.Core.List.{List}
 use Prim.Native.Nat.{ℕ, _+_, _*_, _%_, _^_, _≤_, _<_}
 use native.Mathlib.Nat.{zero-mul}
@@ -8,6 +8,7 @@ use lib.IntN.{_*ℤ_}
 use lib.ListN.{length, set, getD, length-set}
 use Rattle.width.specs.Reduce.{signed, reduce}
 use Rattle.width.specs.Tile.{le, putLe, putRow}
+use Rattle.width.proofs.TileLaws.{le-cong, putRow-out}
 use Rattle.width.proofs.ElementLaws.{pow-256, putRow-next}
 use Rattle.width.proofs.SumLaws.{sum-none}
 use Rattle.width.proofs.PutLaws.{row-fits, next-row}
@@ -88,7 +89,7 @@ module _ (W : ℕ) (acc₀ s : List ℕ) (a b pitch w k n : ℕ) where
       let e : l ≡ k = omega (arith, inv .0) in
       inv .4 q i ∙ ap (λ (m : ℕ). product W w m (getD acc₀ q 0) (λ t. le s (a + t * w) w) (λ t. le s (b + t * pitch + q * w) w)) e
 
--- ---- store_row: the first j numbers are stored
+-- ---- finish_row: the first j numbers are stored
 
 abbrev pub Stored : ℕ → (s₀ : List ℕ) (value : ℕ → ℕ) (to n : ℕ) (s : List ℕ) (j at : ℕ) → Type 0
 Stored W s₀ value to n s j at = (j ≤ n) × (at ≡ to + j * W) × (length s ≡ length s₀) × (s ≡ putRow to j W value s₀)
@@ -111,3 +112,22 @@ module _ (W : ℕ) (s₀ : List ℕ) (value : ℕ → ℕ) (to n : ℕ) where
   store-all s j at inv h =
       let e : j ≡ n = omega (arith, inv .0) in
       inv .3 ∙ ap (λ (m : ℕ). putRow to m W value s₀) e
+
+-- the element that is written next is still that of the entry
+pub yet-unwritten : (W : ℕ) (s₀ s : List ℕ) (value : ℕ → ℕ) (to j at : ℕ) → at ≡ to + j * W → s ≡ putRow to j W value s₀ → le s at W ≡ le s₀ (to + j * W) W
+yet-unwritten W s₀ s value to j at ea es =
+    ap₂ (λ (x : List ℕ) (p : ℕ). le x p W) es ea
+    ∙ le-cong (putRow to j W value s₀) s₀ (to + j * W) (to + j * W) W (λ b l. putRow-out to j W value s₀ (to + j * W + b) (λ i. omega (arith, i .1)))
+
+-- an element becomes x times itself plus its accumulator
+module _ (W : ℕ) (s₀ acc : List ℕ) (to n x : ℕ) where
+  abbrev pub finished : ℕ → ℕ
+  finished q = plusProduct W (getD acc q 0) x s₀ (to + q * W) W
+
+  pub finish-next : (s out : List ℕ) (j at r z y : ℕ) → Stored W s₀ finished to n s j at → j < n → length out ≡ length s → getD acc j 0 < 256 ^ W
+      → r ≡ (getD acc j 0 + z) % 256 ^ W → z ≡ reduce (256 ^ W) (signed (256 ^ W) x *ℤ signed (256 ^ W) y) → y ≡ reduce (256 ^ W) (signedLe s at W)
+      → out ≡ putLe at W r s → Stored W s₀ finished to n out (j + 1) (at + W)
+  finish-next s out j at r z y inv h el small er ez ey eo =
+      store-next W s₀ finished to n s out j at r inv h el
+      (mac-turn W s₀ W (to + j * W) (to + j * W) r (getD acc j 0) (getD acc j 0) z x y er ez
+      (ey ∙ ap (λ (v : ℕ). reduce (256 ^ W) (signed (256 ^ W) v)) (yet-unwritten W s₀ s finished to j at (inv .1) (inv .3))) refl refl small) eo

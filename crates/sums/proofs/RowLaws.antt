@@ -1,16 +1,31 @@
 -- Sums of products kept at a width, once over the width: one product more, and the rows that are stored.
-use mathlib.Core.Path.{_≡_, refl, ap, _∙_}
+use mathlib.Core.Path.{_≡_, refl, sym, ap, ap₂, _∙_}
 use mathlib.Core.List.{List}
 use Prim.Native.Nat.{ℕ, _+_, _*_, _%_, _^_, _<_}
-use lib.IntN.{ℤ, _*ℤ_}
+use native.Mathlib.Nat.{add-comm, one-mul, mod-eq-of-lt}
+use lib.IntN.{ℤ, _+ℤ_, _*ℤ_}
 use lib.ListN.{getD, replicate, getD-replicate}
-use Rattle.width.specs.Reduce.{signed, reduce}
+use Rattle.width.specs.Reduce.{signed, reduce, sumℤ}
 use Rattle.width.specs.Tile.{le, putRow}
 use Rattle.width.proofs.TileLaws.{le-lt}
 use Rattle.width.proofs.ElementLaws.{pow-256, putRow-cong}
-use Rattle.width.proofs.SumLaws.{mac-is, product-more, one-times, two-products}
+use Rattle.width.proofs.ReduceLaws.{reduce-add, reduce-mul, reduce-signed}
+use Rattle.width.proofs.SumLaws.{mac-is, product-more, same-sum, two-products}
 use Rattle.machine.specs.Operation.{product}
 use Rattle.sums.specs.Rows.{signedLe, plusProduct, productRow, weightedRow}
+
+-- sums that started at 0, and then the old value once, or another product
+module _ (m : ℕ) (0<m : 0 < m) where
+  turned : (x y : ℤ) → reduce m (x +ℤ y) ≡ reduce m (y +ℤ x)
+  turned x y = reduce-add m 0<m x y ∙ ap (λ (n : ℕ). n % m) (add-comm (reduce m x) (reduce m y)) ∙ sym (reduce-add m 0<m y x)
+
+  once-last : 1 < m → (z : ℤ) (v : ℕ) → v < m → reduce m (signed m (reduce m (signed m 0 +ℤ z)) +ℤ signed m 1 *ℤ signed m v) ≡ reduce m (signed m v +ℤ z)
+  once-last 1<m z v h =
+      two-products m 0<m z (signed m 1 *ℤ signed m v)
+      ∙ same-sum m 0<m z z (signed m 1 *ℤ signed m v) (signed m v) refl
+      (reduce-mul m 0<m (signed m 1) (signed m v) ∙ ap₂ (λ (a b : ℕ). (a * b) % m) (reduce-signed m 0<m 1 1<m) (reduce-signed m 0<m v h)
+      ∙ ap (λ (a : ℕ). a % m) (one-mul v) ∙ mod-eq-of-lt h ∙ sym (reduce-signed m 0<m v h))
+      ∙ turned z (signed m v)
 
 module _ (W : ℕ) (s : List ℕ) where
   -- a wrapping product z of x and the element y at p, added by a wrapping add
@@ -34,24 +49,23 @@ module _ (W : ℕ) (s : List ℕ) where
       B : ℕ → ℤ
       B t = signedLe s (b + t * pitch + j * w) w
 
-  -- accumulators that start at 0: the old elements and all products, stored
-  pub row-of-products : (w pitch k a b c n size : ℕ) (old sums out : List ℕ) → 1 < 256 ^ W → ((q : ℕ) → getD s q 0 < 256) → ((j : ℕ) → j < n → j < size)
-      → ((j : ℕ) → j < n → getD old j 0 ≡ plusProduct W (getD (replicate size 0) j 0) 1 s (c + j * W) W)
-      → ((j : ℕ) → j < n → getD sums j 0 ≡ product W w k (getD old j 0) (λ l. le s (a + l * w) w) (λ l. le s (b + l * pitch + j * w) w))
-      → out ≡ putRow c n W (λ j. getD sums j 0) s → out ≡ putRow c n W (productRow s W w pitch k a b c) s
-  row-of-products w pitch k a b c n size old sums out big bytes room eo es e =
-      e ∙ putRow-cong W c n (λ j. getD sums j 0) (productRow s W w pitch k a b c) s
-      (λ j h. es j h ∙ ap (λ (o : ℕ). product W w k o (λ l. le s (a + l * w) w) (λ l. le s (b + l * pitch + j * w) w))
-      (eo j h ∙ ap (λ (v : ℕ). plusProduct W v 1 s (c + j * W) W) (getD-replicate size j 0 0 (room j h))
-      ∙ one-times (256 ^ W) (pow-256 W) big (le s (c + j * W) W) (le-lt s bytes (c + j * W) W)))
+  -- accumulators that start at 0: all products, and the old elements once, stored
+  pub row-of-products : (w pitch k a b c n size : ℕ) (sums out : List ℕ) → 1 < 256 ^ W → ((q : ℕ) → getD s q 0 < 256) → ((j : ℕ) → j < n → j < size)
+      → ((j : ℕ) → j < n → getD sums j 0 ≡ product W w k (getD (replicate size 0) j 0) (λ l. le s (a + l * w) w) (λ l. le s (b + l * pitch + j * w) w))
+      → out ≡ putRow c n W (λ j. plusProduct W (getD sums j 0) 1 s (c + j * W) W) s → out ≡ putRow c n W (productRow s W w pitch k a b c) s
+  row-of-products w pitch k a b c n size sums out big bytes room es e =
+      e ∙ putRow-cong W c n (λ j. plusProduct W (getD sums j 0) 1 s (c + j * W) W) (productRow s W w pitch k a b c) s
+      (λ j h. ap (λ (v : ℕ). plusProduct W v 1 s (c + j * W) W)
+      (es j h ∙ ap (λ (o : ℕ). product W w k o (λ l. le s (a + l * w) w) (λ l. le s (b + l * pitch + j * w) w)) (getD-replicate size j 0 0 (room j h)))
+      ∙ once-last (256 ^ W) (pow-256 W) big (sumℤ k (λ l. signedLe s (a + l * w) w *ℤ signedLe s (b + l * pitch + j * w) w)) (le s (c + j * W) W) (le-lt s bytes (c + j * W) W))
 
   -- and two products, stored
-  pub row-of-weights : (w from to n size x y : ℕ) (one two out : List ℕ) → ((j : ℕ) → j < n → j < size)
-      → ((j : ℕ) → j < n → getD one j 0 ≡ plusProduct W (getD (replicate size 0) j 0) x s (to + j * W) W)
-      → ((j : ℕ) → j < n → getD two j 0 ≡ plusProduct W (getD one j 0) y s (from + j * w) w)
-      → out ≡ putRow to n W (λ j. getD two j 0) s → out ≡ putRow to n W (weightedRow s from to w W x y) s
-  row-of-weights w from to n size x y one two out room e1 e2 e =
-      e ∙ putRow-cong W to n (λ j. getD two j 0) (weightedRow s from to w W x y) s
-      (λ j h. e2 j h ∙ ap (λ (v : ℕ). plusProduct W v y s (from + j * w) w)
-      (e1 j h ∙ ap (λ (v : ℕ). plusProduct W v x s (to + j * W) W) (getD-replicate size j 0 0 (room j h)))
-      ∙ two-products (256 ^ W) (pow-256 W) (signed (256 ^ W) x *ℤ signedLe s (to + j * W) W) (signed (256 ^ W) y *ℤ signedLe s (from + j * w) w))
+  pub row-of-weights : (w from to n size x y : ℕ) (one out : List ℕ) → ((j : ℕ) → j < n → j < size)
+      → ((j : ℕ) → j < n → getD one j 0 ≡ plusProduct W (getD (replicate size 0) j 0) y s (from + j * w) w)
+      → out ≡ putRow to n W (λ j. plusProduct W (getD one j 0) x s (to + j * W) W) s → out ≡ putRow to n W (weightedRow s from to w W x y) s
+  row-of-weights w from to n size x y one out room e1 e =
+      e ∙ putRow-cong W to n (λ j. plusProduct W (getD one j 0) x s (to + j * W) W) (weightedRow s from to w W x y) s
+      (λ j h. ap (λ (v : ℕ). plusProduct W v x s (to + j * W) W)
+      (e1 j h ∙ ap (λ (v : ℕ). plusProduct W v y s (from + j * w) w) (getD-replicate size j 0 0 (room j h)))
+      ∙ two-products (256 ^ W) (pow-256 W) (signed (256 ^ W) y *ℤ signedLe s (from + j * w) w) (signed (256 ^ W) x *ℤ signedLe s (to + j * W) W)
+      ∙ turned (256 ^ W) (pow-256 W) (signed (256 ^ W) y *ℤ signedLe s (from + j * w) w) (signed (256 ^ W) x *ℤ signedLe s (to + j * W) W))

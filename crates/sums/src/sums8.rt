@@ -44,22 +44,23 @@ fn add_products(acc: &mut [u8], s: &[u8], a: usize, b: usize, pitch: usize, k: u
     }
 }
 
-// Stores the first n accumulators from `to` on.
-fn store_row(s: &mut [u8], acc: &[u8], to: usize, n: usize)
+// The row at `to` becomes x times itself plus the accumulators, each element read just before it is written.
+fn finish_row(s: &mut [u8], acc: &[u8], to: usize, n: usize, x: u8)
     requires { ⌜ n ≤ length (now acc) ⌝ }
     requires { ⌜ to + n ≤ length (now s) ⌝ }
-    ensures { λ _. ⌜ now (s .exit) ≡ putRow to n 1 (λ j. getD (now (acc .entry)) j 0) (now (s .entry)) ⌝ }
+    ensures { λ _. ⌜ now (s .exit) ≡ putRow to n 1 (λ j. plusProduct 1 (getD (now (acc .entry)) j 0) x (now (s .entry)) (to + j * 1) 1) (now (s .entry)) ⌝ }
 {
     let mut j = 0;
     let mut at = to;
     while j < n {
-        element::write1(s, at, acc[j]);
+        let p = element::wrapping_mul8(x, element::read_signed8(s, at));
+        element::write1(s, at, std::num::wrapping_add_u8(acc[j], p));
         at += 1;
         j += 1;
     }
 }
 
-// One row of C: its old elements enter the sums as one more product, with the factor 1.
+// One row of C: its old elements enter the sums last, with the factor 1.
 pub fn multiply_row(s: &mut [u8], a: usize, b: usize, c: usize, pitch: usize, k: usize, n: usize)
     requires { ⌜ n ≤ mostColumns ⌝ }
     requires { ⌜ n ≤ pitch ⌝ }
@@ -67,9 +68,8 @@ pub fn multiply_row(s: &mut [u8], a: usize, b: usize, c: usize, pitch: usize, k:
     ensures { λ _. ⌜ now (s .exit) ≡ putRow c n 1 (productRow (now (s .entry)) 1 1 pitch k a b c) (now (s .entry)) ⌝ }
 {
     let mut acc = [0u8; element::COLUMNS];
-    mac_row(&mut acc, s, c, n, 1);
     add_products(&mut acc, s, a, b, pitch, k, n);
-    store_row(s, &acc, c, n);
+    finish_row(s, &acc, c, n, 1);
 }
 
 // The row at `to` becomes x times itself plus y times the row at `from`.
@@ -79,7 +79,6 @@ pub fn weigh_row(s: &mut [u8], from: usize, to: usize, n: usize, x: u8, y: u8)
     ensures { λ _. ⌜ now (s .exit) ≡ putRow to n 1 (weightedRow (now (s .entry)) from to 1 1 x y) (now (s .entry)) ⌝ }
 {
     let mut acc = [0u8; element::COLUMNS];
-    mac_row(&mut acc, s, to, n, x);
     mac_row(&mut acc, s, from, n, y);
-    store_row(s, &acc, to, n);
+    finish_row(s, &acc, to, n, x);
 }

@@ -1,32 +1,23 @@
 use native.Mathlib.Omega.{arith}
-use mathlib.Core.Path.{refl}
-use mathlib.Core.Logic.{inr}
 use Rattle.width.specs.Bounds.{mostColumns}
 use Rattle.sums.proofs.RowLaws.{row-of-products}
 use borrow.Author.Needs.{needs}
 use Rattle.sums.proofs.sums16.multiply_row.Statement.{statement}
 use Rattle.sums.proofs.sums16.multiply_row.Tie as tie
 
-add-products-requires : tie.Need-add-products-requires
-add-products-requires c κs =
-    let k = c .before .before .before .before .before .before .before in
-    let f = c .before .before .before .mac-row in
-    (omega (arith, k .pre .0, f .kept .0), (k .pre .1 .0, (k .pre .1 .1 .0, (k .pre .1 .1 .1 .0, k .pre .1 .1 .1 .1 .0))))
-
 returns : tie.Need-returns
 returns c =
-    let k = c .before .before .before .before .before .before .before .before .before .before .before .before .before .before in
+    let k = c .before .before .before .before .before .before .before .before .before .before in
     let a = k .args in
-    let f = c .before .before .before .before .before .before .before .before .before .before .mac-row in
     let g = c .before .before .before .before .before .before .add-products in
-    row-of-products 2 (a .s .now) (a .width) (a .pitch) (a .k) (a .a) (a .b) (a .c) (a .n) mostColumns (f .last .0) (g .last .0) (c .before .before .store-row .last .0) (omega arith)
-    (λ q. omega (arith, c .before .before .before .before .before .before .before .before .before .before .before .before .before .slice-known .given q)) (λ j h. omega (arith, k .pre .0)) (f .ensures) (g .ensures) (c .before .before .store-row .ensures)
+    let w = c .before .before .finish-row in
+    row-of-products 2 (a .s .now) (a .width) (a .pitch) (a .k) (a .a) (a .b) (a .c) (a .n) mostColumns (g .last .0) (w .last .0) (omega arith)
+    (λ q. omega (arith, c .before .before .before .before .before .before .before .before .before .slice-known .given q)) (λ j h. omega (arith, k .pre .0)) (g .ensures) (w .ensures)
 
 pub multiply-row-spec : {M : Type 1} → statement M
 multiply-row-spec =
     tie.close
     (tie.spec
-    (λ c. search needs) (λ c κs. let k = c .before .before .before in (k .pre .0, (inr refl, k .pre .1 .1 .1 .1 .1)))
-    (λ c. search needs) add-products-requires
+    (λ c. search needs) (λ c κs. let k = c .before .before .before in (k .pre .0, (k .pre .1 .0, (k .pre .1 .1 .0, (k .pre .1 .1 .1 .0, k .pre .1 .1 .1 .1 .0)))))
     (λ c. search needs) (λ c κs. search needs)
     (λ c. search needs) returns)
