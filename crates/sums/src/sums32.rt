@@ -83,7 +83,7 @@ fn finish_row(s: &mut [u8], acc: &[u32], to: usize, n: usize, x: u32)
     let mut j = 0;
     let mut at = to;
     while j < n {
-        let p = element::wrapping_mul32(x, element::read_signed(s, at, 4));
+        let p = element::wrapping_mul32(x, element::read_signed32(s, at, 4));
         element::write4(s, at, std::num::wrapping_add_u32(acc[j], p));
         at += 4;
         j += 1;

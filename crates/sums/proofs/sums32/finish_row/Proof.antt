@@ -31,7 +31,7 @@ loop-again c =
     let w = c .before .before .write4 in
     let r = c .before .before .before .wrapping-add-u32 in
     let z = c .before .before .before .before .before .before .wrapping-mul32 in
-    let y = c .before .before .before .before .before .before .before .read-signed in
+    let y = c .before .before .before .before .before .before .before .read-signed32 in
     finish-next 4 (a .s .now) (a .acc .now) (a .to) (a .n) (a .x) (l .s) (w .last .0) (l .j) (l .at) (r .result) (z .result) (y .result) (l .inv)
     (d .loop-test .taken) (w .kept .0) (omega (arith, d .before .before .shared-slice-known .given (l .j))) (r .ensures) (z .ensures) (y .ensures) (w .ensures)
 
