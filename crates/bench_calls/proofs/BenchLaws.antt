@@ -1,5 +1,5 @@
 -- What each return of a start and of a step has to show.
-use mathlib.Core.Path.{_≡_, sym, ap, ap₂, _∙_}
+use mathlib.Core.Path.{_≡_, sym, ap, ap₂, _∙_, subst}
 use mathlib.Core.Bool.{Bool, cond}
 use mathlib.Core.List.{List}
 use Prim.Native.Nat.{ℕ}
@@ -12,8 +12,10 @@ use Rattle.machine.specs.declared.Stepped.{Stepped}
 use Rattle.machine.specs.Answers.{reply, isDone}
 use Rattle.machine.specs.Geometry.{Bench, benchOf}
 use Rattle.machine.specs.Starting.{startMachine, startedAs}
-use Rattle.machine.specs.Step.{steppedAs}
-use Rattle.blocks.specs.Blocks.{machineBytes, machineOf, putMachine, packed}
+use Rattle.machine.specs.Setting.{chosen}
+use Rattle.machine.specs.Step.{Outcome, steppedAs}
+use Rattle.blocks.specs.Blocks.{machineBytes, machineOf, putMachine, Kept, valuesOf, packed}
+use Rattle.blocks.proofs.BlockLaws.{step-kept}
 use Rattle.scalar_block.specs.ScalarBlock.{stepBlock}
 use Rattle.bench_calls.specs.BenchCalls.{startedOut, shownStart, hostStart, steppedOut, shownStep, hostStep}
 
@@ -68,3 +70,11 @@ module _ (word : ℕ) (machine registers marks scalars memory : List ℕ) where
       ap₂ (λ (r : ℕ) (M : List ℕ). steppedOut r M R K S Q) er em
       ∙ ap (shownStep machine) (e ∙ ap (λ (m : Machine). stepBlock word scalars (benchOf m registers marks memory)) en)
       ∙ both h k
+
+  -- and but for mtype and the sizes they are those of the block
+  pub step-keeps : (m : Machine) (s : Stepped) (R K S Q : List ℕ) → m ≡ machineOf machine
+      → steppedAs s R K S Q ≡ stepBlock word scalars (benchOf m registers marks memory) → Kept (s .machine) (machineOf machine)
+  step-keeps m s R K S Q en e =
+      let B : Bench = benchOf m registers marks memory in
+      subst (λ (x : Machine). Kept x (machineOf machine)) (sym (ap (λ (o : Outcome). o .bench .machine) e))
+      (subst (λ (x : Machine). Kept (stepBlock word scalars B .bench .machine) x) en (step-kept chosen word (valuesOf scalars) B))

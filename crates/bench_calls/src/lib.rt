@@ -3,6 +3,7 @@ use blocks::MACHINE_BYTES;
 use blocks::machine_of;
 use blocks::packed;
 use blocks::put_machine;
+use blocks::put_state;
 use machine::Answer;
 ghost use mathlib.Core.Path.{_≡_};
 ghost use Rattle.bench_calls.specs.BenchCalls.{startedOut, hostStart, steppedOut, hostStep};
@@ -65,7 +66,7 @@ pub fn step(
     let m = machine_of(machine);
     let stepped = scalar_block::step_block(m, registers, marks, scalars, memory, word);
     let next = stepped.machine;
-    put_machine(machine, next);
+    put_state(machine, next);
     let answer = stepped.answer;
     packed(answer)
 }

@@ -1,20 +1,27 @@
 -- Laws of the blocks: what is read back of what was written, and that a block written over with its own numbers stays.
 use mathlib.Core.Path.{_≡_, refl, sym, ap, _∙_}
 use mathlib.Core.Logic.{inl, inr}
-use mathlib.Core.Bool.{Bool, true, false}
+use mathlib.Core.Bool.{Bool, true, false, cond}
 use mathlib.Core.List.{List, [], _∷_}
 use Prim.Native.Nat.{ℕ, zero, suc, _+_, _*_, _%_, _^_, _<_}
 use native.Mathlib.Nat.{zero-add, mod-eq-of-lt, eq-or-lt-of-le, le-of-suc-le-suc}
 use native.Mathlib.Omega.{arith}
 use lib.ListN.{length, getD, length-append, List·getD-append}
 use lib.Seq.{getD-at}
-use Rattle.width.specs.Tile.{le, putRow}
+use Rattle.width.specs.Upto.{upto}
+use Rattle.width.specs.Tile.{le, putLe, putRow}
+use Rattle.width.proofs.UptoLaws.{upto-cong}
+use Rattle.width.proofs.PutLaws.{upto-add}
+use Rattle.width.proofs.TileLaws.{le-cong, putRow-out}
 use Rattle.width.proofs.WordLaws.{le-putRow, putRow-same}
 use Rattle.machine.specs.declared.Machine.{Machine}
 use Rattle.machine.specs.declared.Reply.{Reply}
 use Rattle.machine.specs.declared.Answer.the-variants.{Done}
-use Rattle.machine.specs.Answers.{reply, done}
-use Rattle.blocks.specs.Blocks.{Bytes, machineBytes, machineOf, putMachine, firstValues, valuesOf, putValues, packed}
+use Rattle.machine.specs.Answers.{reply, done, verdict, isDone}
+use Rattle.machine.specs.Geometry.{Parameters, parameters, Bench}
+use Rattle.machine.specs.Listing.{decode}
+use Rattle.machine.specs.Step.{stepChecks, carriedOut, refused, outcome, stepBy}
+use Rattle.blocks.specs.Blocks.{Bytes, machineBytes, machineOf, putMachine, Kept, firstValues, valuesOf, putValues, packed}
 
 -- ---- values of eight bytes, one after another
 
@@ -22,7 +29,7 @@ length-firstValues : (n : ℕ) (b : List ℕ) → length (firstValues n b) ≡ n
 length-firstValues zero b = refl
 length-firstValues (suc n) b = length-append (firstValues n b) (le b (n * 8) 8 ∷ []) ∙ omega (arith, length-firstValues n b)
 
-value-at : (n : ℕ) (b : List ℕ) (s : ℕ) → s < n → getD (firstValues n b) s 0 ≡ le b (s * 8) 8
+pub value-at : (n : ℕ) (b : List ℕ) (s : ℕ) → s < n → getD (firstValues n b) s 0 ≡ le b (s * 8) 8
 value-at zero b s l = absurd (omega arith)
 value-at (suc n) b s l = elim (eq-or-lt-of-le (le-of-suc-le-suc l)) [
   | inl e ↦
@@ -35,6 +42,36 @@ value-at (suc n) b s l = elim (eq-or-lt-of-le (le-of-suc-le-suc l)) [
 pub put-same : (n : ℕ) (b : List ℕ) → Bytes b → putRow 0 n 8 (λ s. getD (firstValues n b) s 0) b ≡ b
 put-same n b small =
     putRow-same b small 0 n 8 (λ s. getD (firstValues n b) s 0) (λ s l. value-at n b s l ∙ ap (λ (p : ℕ). le b p 8) (sym (zero-add (s * 8))))
+
+-- ---- values in the middle of others
+
+module _ (f : ℕ → ℕ) (xs : List ℕ) where
+  first-then : (a b : ℕ) → putRow 0 (a + b) 8 f xs ≡ putRow (a * 8) b 8 (λ j. f (a + j)) (putRow 0 a 8 f xs)
+  unfolding putRow
+  first-then a b =
+      upto-add a b (λ j ys. putLe (0 + j * 8) 8 (f j) ys) xs
+      ∙ upto-cong b (λ j ys. putLe (0 + (a + j) * 8) 8 (f (a + j)) ys) (λ j ys. putLe (a * 8 + j * 8) 8 (f (a + j)) ys) (putRow 0 a 8 f xs)
+      (λ j l ys. ap (λ (p : ℕ). putLe p 8 (f (a + j)) ys) (omega arith))
+
+  -- a values before them and c behind them stand in the block already
+  pub put-middle : (ys : List ℕ) (a b c : ℕ) → Bytes xs → Bytes ys → ys ≡ putRow (a * 8) b 8 (λ j. f (a + j)) xs
+      → ((j : ℕ) → j < a → f j ≡ le xs (j * 8) 8) → ((j : ℕ) → j < c → f (a + b + j) ≡ le xs ((a + b + j) * 8) 8) → ys ≡ putRow 0 (a + b + c) 8 f xs
+  put-middle ys a b c small small′ e before behind =
+      sym (first-then (a + b) c
+      ∙ ap (putRow ((a + b) * 8) c 8 (λ j. f (a + b + j))) first
+      ∙ putRow-same ys small′ ((a + b) * 8) c 8 (λ j. f (a + b + j)) (λ j l. behind j l ∙ sym (kept j)))
+    where
+      first : putRow 0 (a + b) 8 f xs ≡ ys
+      first =
+          first-then a b
+          ∙ ap (putRow (a * 8) b 8 (λ j. f (a + j))) (putRow-same xs small 0 a 8 f (λ j l. before j l ∙ ap (λ (p : ℕ). le xs p 8) (sym (zero-add (j * 8)))))
+          ∙ sym e
+
+      kept : (j : ℕ) → le ys ((a + b) * 8 + j * 8) 8 ≡ le xs ((a + b + j) * 8) 8
+      kept j =
+          ap (λ (l : List ℕ). le l ((a + b) * 8 + j * 8) 8) e
+          ∙ le-cong (putRow (a * 8) b 8 (λ j. f (a + j)) xs) xs ((a + b) * 8 + j * 8) ((a + b + j) * 8) 8
+          (λ i l. putRow-out (a * 8) b 8 (λ j. f (a + j)) xs ((a + b) * 8 + j * 8 + i) (λ h. omega (arith, h .1)) ∙ ap (λ (p : ℕ). getD xs p 0) (omega arith))
 
 -- ---- the machine's block
 
@@ -90,6 +127,36 @@ machineOf-putMachine m b w h =
 pub putMachine-same : (b : List ℕ) → Bytes b → putMachine (machineOf b) b ≡ b
 putMachine-same b small =
     putMachine-row (machineOf b) b ∙ ap (λ (vs : List ℕ). putRow 0 10 8 (λ j. getD vs j 0) b) (numbersOf-machineOf b) ∙ put-same 10 b small
+
+-- a machine that keeps what no step changes: its other numbers are enough
+pub put-state-is : (m : Machine) (xs ys : List ℕ) → Bytes xs → Bytes ys → Kept m (machineOf xs)
+    → ys ≡ putLe 40 8 (m .«tile_n») (putLe 32 8 (m .«tile_k») (putLe 24 8 (m .«tile_m») (putLe 16 8 (m .mtype) xs))) → ys ≡ putMachine m xs
+unfolding machineOf putRow
+put-state-is m xs ys small small′ k e = put-middle (λ j. getD (numbersOf m) j 0) xs ys 2 4 4 small small′ e before behind ∙ sym (putMachine-row m xs)
+  where
+    before : (j : ℕ) → j < 2 → getD (numbersOf m) j 0 ≡ le xs (j * 8) 8
+    before zero l = k .rlen
+    before (suc zero) l = k .mlen
+    before (suc (suc j)) l = absurd (omega arith)
+
+    behind : (j : ℕ) → j < 4 → getD (numbersOf m) (6 + j) 0 ≡ le xs ((6 + j) * 8) 8
+    behind zero l = k .seal-start
+    behind (suc zero) l = k .seal-length
+    behind (suc (suc zero)) l = k .rule
+    behind (suc (suc (suc zero))) l = k .elen
+    behind (suc (suc (suc (suc j)))) l = absurd (omega arith)
+
+-- a step keeps them
+pub step-kept : (grant : ℕ → ℕ → ℕ → ℕ) (word : ℕ) (xs : List ℕ) (B : Bench) → Kept (stepBy grant word xs B .bench .machine) (B .machine)
+unfolding stepBy outcome
+step-kept grant word xs B = go (isDone (verdict (stepChecks (parameters grant (B .machine)) (decode word) xs B)))
+  where
+    M : Parameters
+    M = parameters grant (B .machine)
+
+    go : (t : Bool) → Kept ((cond t (carriedOut M (decode word) xs B) (refused M (decode word) xs B (verdict (stepChecks M (decode word) xs B)))) .bench .machine) (B .machine)
+    go true = record { rlen = refl; mlen = refl; seal-start = refl; seal-length = refl; rule = refl; elen = refl }
+    go false = record { rlen = refl; mlen = refl; seal-start = refl; seal-length = refl; rule = refl; elen = refl }
 
 -- ---- the scalars' block
 

@@ -1,6 +1,7 @@
 -- Numbers as the host passes them: the machine's numbers and the scalars in blocks of bytes, an answer in one number.
 -- 01, "What a machine is": "The bench host is written in C and passes numbers and byte buffers, so stepping is offered to it in that
 -- form too". The layout of the blocks is that of include/bodlarina.h (docs/DECISIONS.md).
+use mathlib.Core.Path.{_≡_}
 use mathlib.Core.List.{List, [], _∷_, _++_}
 use Prim.Native.Nat.{ℕ, _+_, _*_, _%_, _^_, _<_}
 use lib.ListN.{length, getD}
@@ -46,6 +47,15 @@ putMachine m block =
     (putLe 16 8 (m .mtype)
     (putLe 8 8 (m .mlen)
     (putLe 0 8 (m .rlen) block)))))))))
+
+-- a machine that has another's numbers but for those that steps change: its lengths, its seal, its rule and ELEN
+pub record Kept (m other : Machine) : Type 0 where
+  pub rlen : m .rlen ≡ other .rlen
+  pub mlen : m .mlen ≡ other .mlen
+  pub seal-start : m .«seal_start» ≡ other .«seal_start»
+  pub seal-length : m .«seal_length» ≡ other .«seal_length»
+  pub rule : m .rule ≡ other .rule
+  pub elen : m .elen ≡ other .elen
 
 -- ---- the scalars' block
 

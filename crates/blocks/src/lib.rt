@@ -7,7 +7,7 @@ ghost use mathlib.Core.Path.{_≡_};
 ghost use lib.ListN.{length};
 ghost use Rattle.width.specs.Tile.{putLe};
 ghost use Rattle.machine.specs.Answers.{reply};
-ghost use Rattle.blocks.specs.Blocks.{machineBytes, machineOf, putMachine, packed};
+ghost use Rattle.blocks.specs.Blocks.{machineBytes, machineOf, putMachine, Kept, packed};
 
 // The bytes of the machine's block.
 pub const MACHINE_BYTES: usize = 80;
@@ -54,6 +54,18 @@ pub fn put_machine(block: &mut [u8], m: Machine)
     write8(block, 56, m.seal_length);
     write8(block, 64, m.rule);
     write8(block, 72, m.elen);
+}
+
+// The numbers of a machine that steps change, into its block, which has the others already.
+pub fn put_state(block: &mut [u8], m: Machine)
+    requires { ⌜ length (now block) ≡ machineBytes ⌝ }
+    requires { ⌜ Kept m (machineOf (now block)) ⌝ }
+    ensures { λ _. ⌜ now (block .exit) ≡ putMachine m (now (block .entry)) ⌝ }
+{
+    write8(block, 16, m.mtype);
+    write8(block, 24, m.tile_m);
+    write8(block, 32, m.tile_k);
+    write8(block, 40, m.tile_n);
 }
 
 // An answer's number, with row and column in the bits above it.

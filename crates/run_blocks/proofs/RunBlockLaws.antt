@@ -6,6 +6,7 @@ use Prim.Native.Nat.{ℕ, _+_, _*_, _^_, _<_}
 use native.Mathlib.Nat.{mod-eq-of-lt}
 use native.Mathlib.Omega.{arith}
 use lib.ListN.{length, getD}
+use lib.Seq.{getD-take, getD-drop}
 use lib.Dec.{eqb}
 use borrow.Author.Tests.{eqb-true, eq-eqb}
 use Rattle.width.specs.Tile.{le, putLe, putRow}
@@ -19,9 +20,9 @@ use Rattle.run.specs.declared.Layout.{Layout}
 use Rattle.run.specs.declared.Plan.{Plan}
 use Rattle.run.specs.declared.Run.{Run}
 use Rattle.blocks.specs.Blocks.{Bytes, firstValues, putNumbers}
-use Rattle.blocks.proofs.BlockLaws.{put-same}
+use Rattle.blocks.proofs.BlockLaws.{value-at, put-same, put-middle}
 use Rattle.run_blocks.specs.declared.Spot.{Spot}
-use Rattle.run_blocks.specs.RunBlocks.{runBytes, spot, spotOf, spotIn, placeOf, layoutOf, planOf, runOf, planNumbers, runNumbers, putRun, sameSpot, runFit}
+use Rattle.run_blocks.specs.RunBlocks.{runBytes, spot, spotOf, spotIn, placeOf, layoutOf, planOf, runOf, planNumbers, runNumbers, putRun, RunKept, sameSpot, runFit}
 
 -- ---- what a return has to show, from what was read or written at each place
 
@@ -92,6 +93,26 @@ putRun-same b small h =
     sym (same-spots (spotIn b) (spotOf (placeOf (spotIn b))) (and-right (eqb (length b) runBytes) (every (sameSpot (spotIn b) (spotOf (placeOf (spotIn b))))) h)) in
     ap (λ (s : Spot). putRow 0 20 8 (λ j. getD (runNumbers (planOf b) (le b 88 8) (le b 96 8) (le b 152 8) (le b 144 8) s) j 0) b) e
     ∙ ap (λ (vs : List ℕ). putRow 0 20 8 (λ j. getD vs j 0) b) (numbers-of-run b) ∙ put-same 20 b small
+
+-- a run that keeps all but its place: the place is enough
+pub put-place-is : (R : Run) (s : Spot) (xs ys : List ℕ) → Bytes xs → Bytes ys → RunKept R (runOf xs) → s ≡ spotOf (R .place)
+    → ys ≡ putLe 128 8 (s .term) (putLe 120 8 (s .column) (putLe 112 8 (s .row) (putLe 104 8 (s .kind) xs))) → ys ≡ putRun R xs
+unfolding putRun putNumbers putRow runOf planOf
+put-place-is R s xs ys small small′ k es e =
+    put-middle (λ j. getD vs j 0) xs ys 13 4 3 small small′ e before behind
+    ∙ ap (λ (vs : List ℕ). putRow 0 20 8 (λ j. getD vs j 0) xs) (sym numbers)
+  where
+    vs : List ℕ
+    vs = runNumbers (planOf xs) (le xs 88 8) (le xs 96 8) (le xs 152 8) (le xs 144 8) s
+
+    numbers : runNumbers (R .plan) (R .rlen) (R .mlen) (R .elen) (R .rule) (spotOf (R .place)) ≡ vs
+    numbers = rw (k .plan, k .rlen, k .mlen, k .rule, k .elen, sym es)
+
+    before : (j : ℕ) → j < 13 → getD vs j 0 ≡ le xs (j * 8) 8
+    before j l = sym (getD-take 13 vs j 0 l) ∙ getD-take 13 (firstValues 20 xs) j 0 l ∙ value-at 20 xs j (omega arith)
+
+    behind : (j : ℕ) → j < 3 → getD vs (17 + j) 0 ≡ le xs ((17 + j) * 8) 8
+    behind j l = sym (getD-drop 17 vs j 0) ∙ getD-drop 17 (firstValues 20 xs) j 0 ∙ value-at 20 xs (17 + j) (omega arith)
 
 place-back : (p : Place) → placeOf (spotOf p) ≡ p
 unfolding placeOf

@@ -1,4 +1,5 @@
 -- A run and a step as the host passes them, in blocks of bytes. The layout is that of include/bodlarina.h (docs/DECISIONS.md).
+use mathlib.Core.Path.{_≡_}
 use mathlib.Core.Bool.{Bool}
 use mathlib.Core.List.{List, [], _∷_, _++_}
 use Prim.Native.Nat.{ℕ, _+_}
@@ -92,6 +93,14 @@ runNumbers P rlen mlen elen rule s = planNumbers P ++ (rlen ∷ mlen ∷ (spotNu
 -- the numbers of a run written over a block, each where runOf reads it
 unfoldable pub putRun : Run → List ℕ → List ℕ
 putRun R block = putNumbers (runNumbers (R .plan) (R .rlen) (R .mlen) (R .elen) (R .rule) (spotOf (R .place))) block
+
+-- a run that has another's numbers but for its place
+pub record RunKept (R other : Run) : Type 0 where
+  pub plan : R .plan ≡ other .plan
+  pub rlen : R .rlen ≡ other .rlen
+  pub mlen : R .mlen ≡ other .mlen
+  pub rule : R .rule ≡ other .rule
+  pub elen : R .elen ≡ other .elen
 
 -- the four numbers are the same
 abbrev pub sameSpot : Spot → Spot → List Bool

@@ -13,7 +13,7 @@ ghost use lib.ListN.{length};
 ghost use Rattle.width.specs.Tile.{putLe};
 ghost use Rattle.machine.specs.Tests.{every};
 ghost use Rattle.blocks.specs.Blocks.{putNumbers};
-ghost use Rattle.run_blocks.specs.RunBlocks.{spot, spotOf, placeOf, layoutOf, planOf, runBytes, spotIn, runOf, sameSpot, runFit, planNumbers, putRun, stepBytes, putHanded};
+ghost use Rattle.run_blocks.specs.RunBlocks.{spot, spotOf, placeOf, layoutOf, planOf, runBytes, spotIn, runOf, sameSpot, runFit, planNumbers, putRun, RunKept, stepBytes, putHanded};
 
 // The bytes of a run's block.
 pub const RUN_BYTES: usize = 160;
@@ -255,6 +255,17 @@ pub fn put_run(block: &mut [u8], run: Run)
     write8(block, 136, plan.kind);
     write8(block, 144, run.rule);
     write8(block, 152, run.elen);
+}
+
+// The place of a run into its block, which has the run's other numbers already.
+pub fn put_place(block: &mut [u8], run: Run)
+    requires { ⌜ length (now block) ≡ runBytes ⌝ }
+    requires { ⌜ RunKept run (runOf (now block)) ⌝ }
+    ensures { λ _. ⌜ now (block .exit) ≡ putRun run (now (block .entry)) ⌝ }
+{
+    let place = run.place;
+    let spot = spot_of(place);
+    put_spot(block, spot);
 }
 
 // A step into its block.

@@ -1,24 +1,31 @@
 -- What each return of these functions has to show.
-use mathlib.Core.Path.{_≡_, sym, ap, ap₂, _∙_}
+use mathlib.Core.Path.{_≡_, refl, sym, ap, ap₂, _∙_, subst}
 use mathlib.Core.Bool.{Bool, true, false, cond}
 use mathlib.Core.List.{List, [], _∷_}
+use mathlib.Core.Option.{Option, none, some}
 use Prim.Native.Nat.{ℕ}
 use lib.ListN.{length}
 use borrow.Author.Tests.{eq-eqb, ne-eqb}
 use Rattle.machine.specs.declared.Machine.{Machine}
 use Rattle.machine.specs.declared.Answer.the-variants.{BadArguments}
-use Rattle.machine.specs.Answers.{reply, isDone}
+use Rattle.machine.specs.Answers.{reply, done, isDone}
 use Rattle.machine.specs.Geometry.{benchOf}
 use Rattle.machine.specs.Setting.{chosen}
+use Rattle.machine.specs.Step.{stepBy}
 use Rattle.run.specs.declared.Plan.{Plan}
 use Rattle.run.specs.declared.Run.{Run}
+use Rattle.run.specs.declared.Handed.{Handed}
 use Rattle.run.specs.declared.Turned.{Turned}
 use Rattle.run.specs.declared.Taken.{Taken}
 use Rattle.run.specs.declared.Finished.{Finished}
-use Rattle.run.specs.Turn.{Running, running, turnOutcome, turnedAs, turns, takenAs}
+use Rattle.run.specs.Words.{Op}
+use Rattle.run.specs.Encoding.{own, handedFor}
+use Rattle.run.specs.Turn.{handsOut, moved, Running, running, turn, TurnOutcome, turnOutcome, turnedAs, turns, takenAs}
+use Rattle.run.proofs.HandedLaws.{turnWith}
 use Rattle.run.specs.Whole.{whole, finishedAs}
-use Rattle.blocks.specs.Blocks.{machineBytes, machineOf, putMachine, putNumbers, packed}
-use Rattle.run_blocks.specs.RunBlocks.{runFit, runOf, putRun}
+use Rattle.blocks.specs.Blocks.{machineBytes, machineOf, putMachine, Kept, putNumbers, packed}
+use Rattle.blocks.proofs.BlockLaws.{step-kept}
+use Rattle.run_blocks.specs.RunBlocks.{runFit, runOf, putRun, RunKept}
 use Rattle.turn_calls.specs.TurnCalls.{turnBlocks, heldRunning, turnedOut, shownTurn, hostTurn, shownTurns, hostTurns, ranOut, shownRun, hostRun}
 
 -- ---- turns
@@ -33,6 +40,23 @@ module _ (run machine : List ℕ) where
 
   pub blocks-fit : runFit run ≡ true → length machine ≡ machineBytes → turnBlocks run machine ≡ true
   blocks-fit h k = rw (h, eq-eqb (length machine) machineBytes k)
+
+-- a turn keeps all of a run but its place, and of the machine all that no step changes
+turn-kept : (r : Running) → Kept (turn chosen r .after .bench .machine) (r .bench .machine) × RunKept (turn chosen r .after .run) (r .run)
+turn-kept r = go (handsOut chosen (r .run))
+  where
+    stays : (R : Run) → RunKept R R
+    stays R = record { plan = refl; rlen = refl; mlen = refl; rule = refl; elen = refl }
+
+    goes : (t : Bool) → RunKept (cond t (moved chosen (r .run)) (r .run)) (r .run)
+    goes true = record { plan = refl; rlen = refl; mlen = refl; rule = refl; elen = refl }
+    goes false = stays (r .run)
+
+    go : (o : Option Op) → Kept (turnWith chosen r o .after .bench .machine) (r .bench .machine) × RunKept (turnWith chosen r o .after .run) (r .run)
+    go none = (record { rlen = refl; mlen = refl; seal-start = refl; seal-length = refl; rule = refl; elen = refl }, stays (r .run))
+    go (some o) =
+        let h : Handed = handedFor (r .run .plan) o in
+        (step-kept chosen (h .word) (own h) (r .bench), goes (done (stepBy chosen (h .word) (own h) (r .bench) .answer)))
 
 module _ (run machine registers marks memory : List ℕ) where
   -- the run and the machine that were read of the blocks
@@ -57,6 +81,13 @@ module _ (run machine registers marks memory : List ℕ) where
       → turnedOut r N M G K Q ≡ hostTurn run machine registers marks memory
   turn-shown R m s N M G K Q r h eR em e en ex er =
       rw (er, en, ex) (ap (shownTurn run machine) (e ∙ ap (turnOutcome chosen) (held R m eR em)) ∙ turn-is h)
+
+  -- and but for the place, mtype and the sizes they are those of the blocks
+  pub turn-keeps : (R : Run) (m : Machine) (s : Turned) (G K Q : List ℕ) → R ≡ runOf run → m ≡ machineOf machine
+      → turnedAs s G K Q ≡ turnOutcome chosen (running R (benchOf m registers marks memory)) → Kept (s .machine) (machineOf machine) × RunKept (s .run) (runOf run)
+  turn-keeps R m s G K Q eR em e =
+      subst (λ (r : Running). Kept (r .bench .machine) (machineOf machine) × RunKept (r .run) (runOf run)) (sym (ap (λ (o : TurnOutcome). o .after) (e ∙ ap (turnOutcome chosen) (held R m eR em))))
+      (turn-kept (heldRunning run machine registers marks memory))
 
   module _ (limit : ℕ) where
     pub turns-refused : turnBlocks run machine ≡ false

@@ -3,10 +3,12 @@ use blocks::MACHINE_BYTES;
 use blocks::machine_of;
 use blocks::packed;
 use blocks::put_machine;
+use blocks::put_state;
 use element::write8;
 use machine::Answer;
 use run::Plan;
 use run_blocks::is_fit;
+use run_blocks::put_place;
 use run_blocks::put_run;
 use run_blocks::run_of;
 ghost use mathlib.Core.Path.{_≡_};
@@ -33,9 +35,9 @@ pub fn turn(
     let m = machine_of(machine);
     let turned = turn::turn(held, m, registers, marks, memory);
     let after = turned.run;
-    put_run(run, after);
+    put_place(run, after);
     let next = turned.machine;
-    put_machine(machine, next);
+    put_state(machine, next);
     let answer = turned.answer;
     packed(answer)
 }

@@ -1,4 +1,4 @@
-use Rattle.bench_calls.proofs.BenchLaws.{step-short, step-short-scalars, step-shown}
+use Rattle.bench_calls.proofs.BenchLaws.{step-short, step-short-scalars, step-shown, step-keeps}
 use borrow.Author.Needs.{needs}
 use Rattle.bench_calls.proofs.step.Statement.{statement}
 use Rattle.bench_calls.proofs.step.Tie as tie
@@ -25,8 +25,15 @@ machine-of-requires c κs = search needs
 step-block-requires : tie.Need-step-block-requires
 step-block-requires c κs = search needs
 
-put-machine-requires : tie.Need-put-machine-requires
-put-machine-requires c κs = search needs
+put-state-requires : tie.Need-put-state-requires
+put-state-requires c κs =
+    let z = c .before .before .before .before .before .before .before .before .before .before in
+    let f = z .before .before .before .before .before in
+    let a = z .before .before .before .before .before .before .before .before .before .before .before .before .before .before .args in (
+      search needs,
+      step-keeps (a .word) (a .machine .now) (a .registers .now) (a .marks .now) (a .scalars .now) (a .memory .now) (f .machine-of .result) (z .step-block .result)
+          (z .step-block .last .1 .0) (z .step-block .last .1 .1 .0) (z .step-block .last .1 .1 .1 .0) (z .step-block .last .1 .1 .1 .1 .0) (f .machine-of .ensures) (z .step-block .ensures),
+    )
 
 packed-requires-3 : tie.Need-packed-requires-3
 packed-requires-3 c κs = search needs
@@ -54,8 +61,8 @@ returns-3 c =
     let e = f .before .before in
     let a = c .before .before .before .before .before .before .before .before .before .before .before .before .before .before .before .before .before .before .before .before .before .before .before .before .before .before .before .before .args in
     step-shown (a .word) (a .machine .now) (a .registers .now) (a .marks .now) (a .scalars .now) (a .memory .now) (f .machine-of .result) (z .step-block .result)
-    (k .put-machine .last .0) (z .step-block .last .1 .0) (z .step-block .last .1 .1 .0) (z .step-block .last .1 .1 .1 .0) (z .step-block .last .1 .1 .1 .1 .0) (c .packed3 .result) (e .before .if1 .left) (e .if2 .left)
-    (f .machine-of .ensures) (z .step-block .ensures) (k .put-machine .ensures) (c .packed3 .ensures)
+    (k .put-state .last .0) (z .step-block .last .1 .0) (z .step-block .last .1 .1 .0) (z .step-block .last .1 .1 .1 .0) (z .step-block .last .1 .1 .1 .1 .0) (c .packed3 .result) (e .before .if1 .left) (e .if2 .left)
+    (f .machine-of .ensures) (z .step-block .ensures) (k .put-state .ensures) (c .packed3 .ensures)
 
 pub step-spec : {M : Type 1} → statement M
 step-spec =
@@ -67,7 +74,7 @@ step-spec =
     returns-2
     machine-of-requires
     step-block-requires
-    put-machine-requires
+    put-state-requires
     packed-requires-3
     same-length
     same-length-2

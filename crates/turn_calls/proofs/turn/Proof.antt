@@ -1,9 +1,10 @@
 use mathlib.Core.Path.{_≡_, sym, _∙_}
 use mathlib.Core.Bool.{true}
 use borrow.Author.Tests.{not-true, not-false}
-use Rattle.run_blocks.specs.RunBlocks.{runFit}
+use Rattle.blocks.specs.Blocks.{machineOf, Kept}
+use Rattle.run_blocks.specs.RunBlocks.{runOf, runFit, RunKept}
 use Rattle.run_blocks.proofs.RunBlockLaws.{fit-length}
-use Rattle.turn_calls.proofs.TurnLaws.{blocks-unfit, blocks-short, blocks-fit, turn-refused, turn-shown}
+use Rattle.turn_calls.proofs.TurnLaws.{blocks-unfit, blocks-short, blocks-fit, turn-refused, turn-shown, turn-keeps}
 use borrow.Author.Needs.{needs}
 use Rattle.turn_calls.proofs.turn.Statement.{statement}
 use Rattle.turn_calls.proofs.turn.Tie as tie
@@ -50,11 +51,24 @@ machine-of-requires c κs = search needs
 turn-requires : tie.Need-turn-requires
 turn-requires c κs = search needs
 
-put-run-requires : tie.Need-put-run-requires
-put-run-requires c κs = fit-length (c .before .before .before .before .before .before .before .before .before .before .before .before .before .before .before .before .before .before .before .before .before .before .before .before .before .args .run .now) (fit (c .before .before .before .before .before .before .before .before .before .before .before .before .before .before .before .before .before))
+-- what the turn has left has the blocks' other numbers
+keeps : (t : tie.After-turn) →
+    let a = t .before .before .before .before .before .before .before .before .before .before .before .before .before .before .before .before .before .args in
+    Kept (t .turn .result .machine) (machineOf (a .machine .now)) × RunKept (t .turn .result .run) (runOf (a .run .now))
+keeps t =
+    let m = t .before .before .before .before in
+    let h = m .before .before in
+    let a = h .before .before .before .before .before .before .before .before .before .before .before .args in
+    turn-keeps (a .run .now) (a .machine .now) (a .registers .now) (a .marks .now) (a .memory .now) (h .run-of .result) (m .machine-of .result) (t .turn .result)
+    (t .turn .last .1 .1 .0) (t .turn .last .1 .1 .1 .0) (t .turn .last .1 .1 .1 .1 .0) (h .run-of .ensures) (m .machine-of .ensures) (t .turn .ensures)
 
-put-machine-requires : tie.Need-put-machine-requires
-put-machine-requires c κs = search needs
+put-place-requires : tie.Need-put-place-requires
+put-place-requires c κs =
+    let t = c .before .before .before .before .before .before .before .before in
+    (fit-length (t .before .before .before .before .before .before .before .before .before .before .before .before .before .before .before .before .before .args .run .now) (fit (t .before .before .before .before .before .before .before .before .before)), keeps t .1)
+
+put-state-requires : tie.Need-put-state-requires
+put-state-requires c κs = (search needs, keeps (c .before .before .before .before .before .before .before .before .before .before .before .before .before) .0)
 
 packed-requires-3 : tie.Need-packed-requires-3
 packed-requires-3 c κs = search needs
@@ -86,9 +100,9 @@ returns-3 c =
     let a = e .before .before .before .before .before .before .before .before .args in
     turn-shown (a .run .now) (a .machine .now) (a .registers .now) (a .marks .now) (a .memory .now)
     (h .run-of .result) (m .machine-of .result) (t .turn .result)
-    (p .put-run .last .0) (x .put-machine .last .0) (t .turn .last .1 .1 .0) (t .turn .last .1 .1 .1 .0) (t .turn .last .1 .1 .1 .1 .0) (c .packed3 .result)
+    (p .put-place .last .0) (x .put-state .last .0) (t .turn .last .1 .1 .0) (t .turn .last .1 .1 .1 .0) (t .turn .last .1 .1 .1 .1 .0) (c .packed3 .result)
     (blocks-fit (a .run .now) (a .machine .now) (fit e) (l .if2 .left))
-    (h .run-of .ensures) (m .machine-of .ensures) (t .turn .ensures) (p .put-run .ensures) (x .put-machine .ensures) (c .packed3 .ensures)
+    (h .run-of .ensures) (m .machine-of .ensures) (t .turn .ensures) (p .put-place .ensures) (x .put-state .ensures) (c .packed3 .ensures)
 
 pub turn-spec : {M : Type 1} → statement M
 turn-spec =
@@ -104,8 +118,8 @@ turn-spec =
     run-of-requires
     machine-of-requires
     turn-requires
-    put-run-requires
-    put-machine-requires
+    put-place-requires
+    put-state-requires
     packed-requires-3
     same-length-3
     same-length-4
