@@ -12,7 +12,7 @@ ghost use Rattle.run.specs.Plan.{typeOf};
 ghost use Rattle.run.specs.Places.{headM, headN, headK, next};
 ghost use Rattle.run.specs.Turn.{startsM, startsN, startsK, begins, soundRun, runParameters, runShape, moved};
 ghost use Rattle.width.specs.Blocks.{chunks};
-ghost use Rattle.run_places.specs.Parts.{numbered, shapeBy, Within, Most};
+ghost use Rattle.run_places.specs.Parts.{numbered, shapeBy, Within, Most, atPlace};
 ghost use Rattle.plan_numbers.specs.Parts.{placed};
 
 // ---- blocks, and runs that a start can have made
@@ -285,15 +285,14 @@ fn next_place(
     }
 }
 
-// The run at its next place, by the most rows, columns and terms of its blocks.
-pub fn moved_run(run: Run, rows: u64, columns: u64, terms: u64) -> Run
-    requires { ⌜ soundRun chosen run ≡ true ⌝ }
+// The place after this one in a run, by the most rows, columns and terms of its blocks.
+pub fn place_after(run: Run, rows: u64, columns: u64, terms: u64, place: Place) -> Place
+    requires { ⌜ soundRun chosen (atPlace run place) ≡ true ⌝ }
     requires { ⌜ Most run rows columns terms ⌝ }
-    ensures { λ r. ⌜ r ≡ moved chosen run ⌝ }
+    ensures { λ r. ⌜ r ≡ next (runShape chosen run) place ⌝ }
 {
     let plan = run.plan;
-    let place = run.place;
-    let after = next_place(
+    next_place(
         run.rule,
         plan.m,
         plan.k,
@@ -302,7 +301,18 @@ pub fn moved_run(run: Run, rows: u64, columns: u64, terms: u64) -> Run
         columns,
         terms,
         place,
-    );
+    )
+}
+
+// The run at its next place.
+pub fn moved_run(run: Run, rows: u64, columns: u64, terms: u64) -> Run
+    requires { ⌜ soundRun chosen run ≡ true ⌝ }
+    requires { ⌜ Most run rows columns terms ⌝ }
+    ensures { λ r. ⌜ r ≡ moved chosen run ⌝ }
+{
+    let plan = run.plan;
+    let place = run.place;
+    let after = place_after(run, rows, columns, terms, place);
     Run {
         plan: plan,
         rlen: run.rlen,

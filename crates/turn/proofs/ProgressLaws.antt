@@ -14,7 +14,7 @@ use Rattle.machine.specs.Setting.{chosen}
 use Rattle.run.specs.declared.Run.{Run}
 use Rattle.run.specs.declared.Place.{Place}
 use Rattle.run.specs.Words.{Op}
-use Rattle.run.specs.Places.{wordAt}
+use Rattle.run.specs.Places.{next, wordAt}
 use Rattle.run.specs.Turn.{soundRun, runShape, moved, Running, running, turn, TurnOutcome, turnOutcome, turns, TurnsOutcome}
 use Rattle.run.proofs.HandedLaws.{turnWith}
 use Rattle.carrying.specs.Parts.{Carried, carriedBy, carriedAt}
@@ -48,9 +48,8 @@ turns-carried r R B n e ok k ek d R′ eR =
     ∙ turns-more r (running R B) n e (leaving (k .answer) (running (moved chosen R) (k .bench))) (turn-carried R B ok k ek true d) d
 
 -- the place after a turn
-pub moved-place : (R U A : Run) (q : Place) → U ≡ atPlace R q → A ≡ moved chosen U → atPlace R (A .place) ≡ moved chosen U
-moved-place R U A q e k =
-    ap (λ (A : Run). atPlace R (A .place)) k ∙ ap (λ (U : Run). atPlace R (moved chosen U .place)) e ∙ ap (moved chosen) (sym e)
+pub moved-place : (R U : Run) (q p : Place) → U ≡ atPlace R q → p ≡ next (runShape chosen R) q → atPlace R p ≡ moved chosen U
+moved-place R U q p e k = ap (atPlace R) k ∙ ap (moved chosen) (sym e)
 
 -- a run that no start can have made: every turn is refused
 pub turn-unsound : (R : Run) (B : Bench) → soundRun chosen R ≡ false → leaving (reply BadArguments) (running R B) ≡ turnOutcome chosen (running R B)

@@ -80,8 +80,7 @@ fn take_turns(
             };
         }
         machine = carrying::machine_after(current, machine);
-        let after = run_places::moved_run(current, rows, columns, terms);
-        place = after.place;
+        place = run_places::place_after(run, rows, columns, terms, place);
         count += 1;
     }
     Progress {

@@ -9,9 +9,8 @@ use Rattle.machine.specs.Answers.{isDone}
 use Rattle.machine.specs.Geometry.{benchOf}
 use Rattle.machine.specs.Setting.{chosen}
 use Rattle.machine.specs.Faults.{sound, soundBench}
-use Rattle.run.specs.declared.Run.{Run}
 use Rattle.run_places.specs.Parts.{Most, atPlace}
-use Rattle.run.specs.Turn.{TurnOutcome, TurnsOutcome, running, turn, turns, soundRun, runShape}
+use Rattle.run.specs.Turn.{TurnOutcome, TurnsOutcome, running, turn, turns, soundRun}
 use Rattle.run_places.proofs.RunPlaceLaws.{run-numbered, moved-sound}
 use Rattle.carrying.proofs.CarriedLaws.{numbers-joined}
 use Rattle.turn.proofs.TurnLaws.{taking, turns-refused, turn-sound}
@@ -115,18 +114,10 @@ machine-after-requires c κs =
     let l = c .before .before .before .before .before .before .before .before .before .before .before .before .before .before .loop in
     (sound-numbers (l .machine) (l .registers) (l .marks) (l .inv .1), ap (soundRun chosen) (u .ensures) ∙ l .inv .2)
 
-moved-run-requires : tie.Need-moved-run-requires Inv-loop μ-loop
-moved-run-requires c κs =
-    let u = c .before .before .before .before .before .before .before .before .before .before .before .before .before .at-place in
+place-after-requires : tie.Need-place-after-requires Inv-loop μ-loop
+place-after-requires c κs =
     let l = c .before .before .before .before .before .before .before .before .before .before .before .before .before .before .before .loop in
-    let e = sym (u .ensures) in (
-      ap (soundRun chosen) (u .ensures) ∙ l .inv .2,
-      record {
-        rows-are = l .inv .3 .rows-are ∙ ap (λ (R : Run). runShape chosen R .tm) e;
-        columns-are = l .inv .3 .columns-are ∙ ap (λ (R : Run). runShape chosen R .tn) e;
-        terms-are = l .inv .3 .terms-are ∙ ap (λ (R : Run). runShape chosen R .tk) e;
-      },
-    )
+    (l .inv .2, l .inv .3)
 
 add-count : tie.Need-add-count Inv-loop μ-loop
 add-count c = omega (arith, c .before .before .before .before .before .before .before .before .before .before .before .before .before .before .before .loop-test .taken, c .before .before .before .before .before .before .before .before .before .before .before .before .before .before .before .before .before .before .before .before .before .before .before .before .before .fits .limit)
@@ -147,7 +138,7 @@ loop-again c =
     let r = (running (a .run) (benchOf (a .m) (a .registers .now) (a .marks .now) (a .memory .now))) in
     let yes : isDone (w .result) ≡ true = sym (d .is-done .ensures) ∙ not-false (d .is-done .result) (e .if2 .left) in
     let so : soundRun chosen (u .result) ≡ true = ap (soundRun chosen) (u .ensures) ∙ l .inv .2 in
-    let k = moved-place (a .run) (u .result) (c .moved-run .result) (l .place) (u .ensures) (c .moved-run .ensures) in
+    let k = moved-place (a .run) (u .result) (l .place) (c .place-after .result) (u .ensures) (c .place-after .ensures) in
     let j = numbers-joined _ _ _ _ _ _ (n (l .registers) (l .marks) (l .memory) (l .inv .1)) (w .ensures) in
     let q = at-end (l .count) (u .result) (atPlace (a .run) (l .place)) B (turns chosen r (l .count)) (u .ensures) (l .inv .4) in
     let h = turn-carried (u .result) B so _ j true yes in (
@@ -200,7 +191,7 @@ take-turns-spec =
     same-length-3
     returns-2
     machine-after-requires
-    moved-run-requires
+    place-after-requires
     add-count
     loop-less
     loop-again
