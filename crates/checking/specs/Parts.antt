@@ -65,6 +65,10 @@ accumulatorCheck m marks r w = needs false marks (accAt (ours m) r) (m .«tile_m
 abbrev pub productChecks : Machine → List ℕ → (f d a b : ℕ) → List Check
 productChecks m marks f d a b = multiplyChecks m f ++ (sourceChecks m marks a b ++ (accumulatorCheck m marks d (f * sew (m .mtype)) ∷ []))
 
+-- those of a multiply, but for its sources
+abbrev pub targetChecks : Machine → List ℕ → (f d : ℕ) → List Check
+targetChecks m marks f d = multiplyChecks m f ++ (accumulatorCheck m marks d (f * sew (m .mtype)) ∷ [])
+
 abbrev pub floatChecks : Machine → List ℕ → (d a b : ℕ) → List Check
 floatChecks m marks d a b = checks (ours m) (Operation.floatMultiply d a b) (stateOf m [] marks) []
 

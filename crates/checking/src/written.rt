@@ -15,7 +15,7 @@ ghost use mathlib.Core.List.{[], _∷_};
 ghost use Prim.Native.Nat.{_<_};
 ghost use Rattle.machine.specs.Answers.{verdict, isDone};
 ghost use Rattle.machine.specs.Operation.{times};
-ghost use Rattle.checking.specs.Parts.{multiplyChecks, MarksReady, AccumulatorFits, sourceChecks, accumulatorCheck, productChecks, floatChecks, combineChecks, scaleChecks};
+ghost use Rattle.checking.specs.Parts.{multiplyChecks, MarksReady, AccumulatorFits, sourceChecks, accumulatorCheck, productChecks, targetChecks, floatChecks, combineChecks, scaleChecks};
 
 // Answer 5 of a multiply's sources: nothing is read where C has no element.
 fn source_marks(m: Machine, marks: &[u8], factor: Factor, ms1: usize, ms2: usize) -> Answer
@@ -70,6 +70,20 @@ pub fn check_product(
     let sources = source_marks(m, marks, factor, ms1, ms2);
     if !machine::is_done(sources) {
         return sources;
+    }
+    let wide = factor_of(factor) * sew_bytes(m.mtype);
+    accumulator_marks(m, marks, md, wide)
+}
+
+// Answers 2 to 5 of a multiply, but for its sources.
+pub fn check_target(m: Machine, marks: &[u8], factor: Factor, md: usize) -> Answer
+    requires { ⌜ MarksReady m (now marks) ⌝ }
+    requires { ⌜ md < 2 ⌝ }
+    ensures { λ r. ⌜ r ≡ verdict (targetChecks m (now (marks .entry)) (times factor) md) ⌝ }
+{
+    let fitting = check_multiply(m, factor);
+    if !machine::is_done(fitting) {
+        return fitting;
     }
     let wide = factor_of(factor) * sew_bytes(m.mtype);
     accumulator_marks(m, marks, md, wide)

@@ -37,21 +37,24 @@ use Rattle.floats.specs.Rows.{floatTile}
 use Rattle.arithmetic.proofs.Arms.{multiply-ready, combine-ready, scale-ready}
 use Rattle.settings.specs.Parts.{ours}
 use Rattle.checking.specs.Parts.{MarksReady, productChecks, floatChecks, combineChecks, scaleChecks}
-use Rattle.operations.specs.Parts.{WritesRegisters}
+use Rattle.operations.specs.Parts.{WritesRegisters, registersAfter}
 use Rattle.settings.proofs.FaultLaws.{ready}
 use Rattle.settings.proofs.TypeLaws.{ready-elen}
 
+pub marked-at : (ms : List ℕ) (at : ℕ → ℕ) (rows n : ℕ) → marked ms at rows n ≡ true → (i b : ℕ) → i < rows → b < n → getD ms (at i + b) 0 ≡ 1
+unfolding marked
+marked-at ms at rows n h i b l l′ =
+    eqb-true (getD ms (at i + b) 0) 1 (all-at n (λ b. eqb (getD ms (at i + b) 0) 1) (all-at rows (λ i. all n (λ b. eqb (getD ms (at i + b) 0) 1)) h i l) b l′)
+
 -- marking what is marked changes nothing
 mark-again : (ms : List ℕ) (at : ℕ → ℕ) (rows n : ℕ) → marked ms at rows n ≡ true → ms ≡ markTile at rows n ms
-unfolding marked markTile markRow
+unfolding markTile markRow
 mark-again ms at rows n h =
     upto-keeps (λ ys. ms ≡ ys) rows (λ i ys. upto n (λ b zs. set zs (at i + b) 1) ys) ms
     (λ i l ys e. upto-keeps (λ zs. ms ≡ zs) n (λ b zs. set zs (at i + b) 1) ys (λ b l′ zs e′. again i l b l′ ∙ ap (λ (zs : List ℕ). set zs (at i + b) 1) e′) e) refl
   where
     again : (i : ℕ) → i < rows → (b : ℕ) → b < n → ms ≡ set ms (at i + b) 1
-    again i l b l′ =
-        sym (set-getD ms (at i + b) 0)
-        ∙ ap (set ms (at i + b)) (eqb-true (getD ms (at i + b) 0) 1 (all-at n (λ b. eqb (getD ms (at i + b) 0) 1) (all-at rows (λ i. all n (λ b. eqb (getD ms (at i + b) 0) 1)) h i l) b l′))
+    again i l b l′ = sym (set-getD ms (at i + b) 0) ∙ ap (set ms (at i + b)) (marked-at ms at rows n h i b l l′)
 
 module _ (m : Machine) (regs marks : List ℕ) (h : sound m regs marks ≡ true) where
   abbrev R : ℕ
@@ -94,14 +97,23 @@ module _ (m : Machine) (regs marks : List ℕ) (h : sound m regs marks ≡ true)
         let t = q .1 .1 .1 .1 .1 in
         (q .0, (q .1 .0, (t .0, subst (λ (w : ℕ). (m .«tile_n» * w ≤ P) × (m .«tile_k» * w ≤ P)) four (t .1 .1))))
 
-    pub float-loads : (regs′ : List ℕ) → regs′ ≡ floatTile (shape R P) d a b (m .«tile_m») (m .«tile_k») (m .«tile_n») regs
-        → WritesRegisters m (Operation.floatMultiply d a b) regs marks [] Done regs′ marks
+    pub float-registers : (regs′ : List ℕ) → regs′ ≡ floatTile (shape R P) d a b (m .«tile_m») (m .«tile_k») (m .«tile_n») regs → regs′ ≡ registersAfter m (Operation.floatMultiply d a b) regs
     unfolding floatTile
+    float-registers regs′ er =
+        er ∙ ap (λ (w : ℕ). putTile (accAt (shape R P) d) (m .«tile_m») (m .«tile_n») w (floatProductAt (shape R P) regs w d a b (m .«tile_k»)) regs) (sym four)
+
+    pub float-loads : (regs′ : List ℕ) → regs′ ≡ registersAfter m (Operation.floatMultiply d a b) regs → WritesRegisters m (Operation.floatMultiply d a b) regs marks [] Done regs′ marks
     float-loads regs′ er =
-        done (Operation.floatMultiply d a b) p regs′ marks
-        (er ∙ ap (λ (w : ℕ). putTile (accAt (shape R P) d) (m .«tile_m») (m .«tile_n») w (floatProductAt (shape R P) regs w d a b (m .«tile_k»)) regs) (sym four))
+        done (Operation.floatMultiply d a b) p regs′ marks er
         (subst (λ (w : ℕ). marks ≡ markTile (accAt (ours m) d) (m .«tile_m») (m .«tile_n» * w) marks) (one-mul (sew (m .mtype)))
         (mark-again marks (accAt (ours m) d) (m .«tile_m») (m .«tile_n» * (1 * sew (m .mtype))) (passes .1 .1 .1 .1 .1 .1 .1 .0)))
+
+  -- a multiply reads each byte that it writes, so the marks stay
+  pub product-loads : (f d a b : ℕ) → isDone (verdict (productChecks m marks f d a b)) ≡ true → (regs′ : List ℕ) → regs′ ≡ registersAfter m (Operation.multiply f d a b) regs
+      → WritesRegisters m (Operation.multiply f d a b) regs marks [] Done regs′ marks
+  product-loads f d a b p regs′ er =
+      done (Operation.multiply f d a b) p regs′ marks er
+      (mark-again marks (accAt (ours m) d) (m .«tile_m») (m .«tile_n» * (f * sew (m .mtype))) (passed (checks (ours m) (Operation.multiply f d a b) st []) refl p .1 .1 .1 .1 .1 .1 .1 .0))
 
   -- a width and a factor as the code has them
   module _ (f w f′ : ℕ) (ef : f′ ≡ f) (ew : w ≡ sew (m .mtype)) where
@@ -127,14 +139,9 @@ module _ (m : Machine) (regs marks : List ℕ) (h : sound m regs marks ≡ true)
           subst (λ (x : ℕ). Asked x w) (sym ef) (subst (λ (y : ℕ). Asked f y) (sym ew)
           (multiply-ready chosen m regs marks [] h f d a b l (passed (checks (ours m) (Operation.multiply f d a b) st []) refl p)))
 
-      -- a multiply reads each byte that it writes, so the marks stay
-      pub product-loads : (regs′ : List ℕ) → regs′ ≡ productTile (shape R P) (f′ * w) w d a b tm tk tn regs
-          → WritesRegisters m (Operation.multiply f d a b) regs marks [] Done regs′ marks
+      pub product-registers : (regs′ : List ℕ) → regs′ ≡ productTile (shape R P) (f′ * w) w d a b tm tk tn regs → regs′ ≡ registersAfter m (Operation.multiply f d a b) regs
       unfolding productTile
-      product-loads regs′ er =
-          done (Operation.multiply f d a b) p regs′ marks
-          (er ∙ ap₂ (λ (x y : ℕ). productTile (shape R P) x y d a b tm tk tn regs) wide-is ew)
-          (mark-again marks (accAt (ours m) d) tm (tn * (f * sew (m .mtype))) (passed (checks (ours m) (Operation.multiply f d a b) st []) refl p .1 .1 .1 .1 .1 .1 .1 .0))
+      product-registers regs′ er = er ∙ ap₂ (λ (x y : ℕ). productTile (shape R P) x y d a b tm tk tn regs) wide-is ew
 
     -- the element-wise instructions ask the same of md and ms1
     abbrev Elementwise : ℕ → ℕ → ℕ → ℕ → Type 0

@@ -2,3 +2,4 @@
 pub mod TransferLaws
 pub mod EffectLaws
 pub mod OutcomeLaws
+pub mod SumLaws

@@ -1,13 +1,14 @@
 -- What the functions of a family answer and leave, in the words of the definitions.
 use mathlib.Core.Path.{_≡_}
-use mathlib.Core.Bool.{cond}
-use mathlib.Core.List.{List}
+use mathlib.Core.Bool.{true, cond}
+use mathlib.Core.List.{List, []}
 use Prim.Native.Nat.{ℕ}
 use Rattle.machine.specs.declared.Machine.{Machine}
 use Rattle.machine.specs.declared.Answer.{Answer}
 use Rattle.machine.specs.Answers.{verdict, isDone}
 use Rattle.machine.specs.Geometry.{State, stateOf}
 use Rattle.machine.specs.Operation.{Operation, stateAfter, memoryAfter}
+use Rattle.machine.specs.Faults.{sound}
 use Rattle.machine.specs.Refusals.{checks}
 use Rattle.settings.specs.Parts.{ours}
 
@@ -25,3 +26,13 @@ module _ (m : Machine) (o : Operation) (regs marks mem : List ℕ) where
   pub record WritesMemory (r : Answer) (mem′ : List ℕ) : Type 0 where
     pub answer-is : r ≡ verdict (checks (ours m) o before mem)
     pub memory-is : mem′ ≡ cond (isDone r) (memoryAfter (ours m) o before mem) mem
+
+-- an operation that takes nothing from memory is not refused, in a state that is not at fault, with some marks of these registers
+pub record Permitted (m : Machine) (o : Operation) (regs : List ℕ) : Type 0 where
+  pub marks : List ℕ
+  pub is-sound : sound m regs marks ≡ true
+  pub is-done : isDone (verdict (checks (ours m) o (stateOf m regs marks) [])) ≡ true
+
+-- the registers that it leaves, which no mark decides
+abbrev pub registersAfter : Machine → Operation → List ℕ → List ℕ
+registersAfter m o regs = stateAfter (ours m) o (stateOf m regs []) [] .regs

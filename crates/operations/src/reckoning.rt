@@ -25,7 +25,7 @@ ghost use Rattle.machine.specs.Refusals.{isZero};
 ghost use Rattle.machine.specs.Operation.{Operation, times};
 ghost use Rattle.settings.specs.Parts.{ours};
 ghost use Rattle.checking.specs.Parts.{MarksReady, AccumulatorFits};
-ghost use Rattle.operations.specs.Parts.{WritesRegisters};
+ghost use Rattle.operations.specs.Parts.{WritesRegisters, Permitted, registersAfter};
 
 // Marks the C tile of accumulator r.
 fn mark_accumulator(m: Machine, marks: &mut [u8], r: usize, width: usize)
@@ -35,6 +35,38 @@ fn mark_accumulator(m: Machine, marks: &mut [u8], r: usize, width: usize)
 {
     let c = tile_of(m, Matrix::MatrixC, r);
     tile::mark_tile(marks, c.start, c.pitch, c.rows, c.columns * width);
+}
+
+// md += ms1 x ms2, where answers 2 to 5 are Done.
+pub fn multiply_tiles(
+    m: Machine,
+    registers: &mut [u8],
+    factor: Factor,
+    md: usize,
+    ms1: usize,
+    ms2: usize,
+)
+    requires { ⌜ Permitted m (Operation.multiply (times factor) md ms1 ms2) (now registers) ⌝ }
+    requires { ⌜ (md < 2) × ((ms1 < 8) × (ms2 < 8)) ⌝ }
+    ensures { λ _. ⌜ now (registers .exit) ≡ registersAfter m (Operation.multiply (times factor) md ms1 ms2) (now (registers .entry)) ⌝ }
+{
+    let f = factor_of(factor);
+    let w = sew_bytes(m.mtype);
+    let rows = (m.mlen / m.rlen) as usize;
+    let pitch = (m.rlen / 8) as usize;
+    arithmetic::multiply_tile(
+        registers,
+        rows,
+        pitch,
+        f,
+        w,
+        md,
+        ms1,
+        ms2,
+        m.tile_m as usize,
+        m.tile_k as usize,
+        m.tile_n as usize,
+    );
 }
 
 // Answers 2 to 5, and md += ms1 x ms2. Every byte written was read, so it has its mark already.
@@ -55,23 +87,7 @@ pub fn multiply(
     if !machine::is_done(answer) {
         return answer;
     }
-    let f = factor_of(factor);
-    let w = sew_bytes(m.mtype);
-    let rows = (m.mlen / m.rlen) as usize;
-    let pitch = (m.rlen / 8) as usize;
-    arithmetic::multiply_tile(
-        registers,
-        rows,
-        pitch,
-        f,
-        w,
-        md,
-        ms1,
-        ms2,
-        m.tile_m as usize,
-        m.tile_k as usize,
-        m.tile_n as usize,
-    );
+    multiply_tiles(m, registers, factor, md, ms1, ms2);
     Answer::Done
 }
 
@@ -151,6 +167,27 @@ pub fn scale(
     Answer::Done
 }
 
+// md += ms1 x ms2 of binary32 elements, where answers 2 to 5 are Done.
+pub fn multiply_floats(m: Machine, registers: &mut [u8], md: usize, ms1: usize, ms2: usize)
+    requires { ⌜ Permitted m (Operation.floatMultiply md ms1 ms2) (now registers) ⌝ }
+    requires { ⌜ (md < 2) × ((ms1 < 8) × (ms2 < 8)) ⌝ }
+    ensures { λ _. ⌜ now (registers .exit) ≡ registersAfter m (Operation.floatMultiply md ms1 ms2) (now (registers .entry)) ⌝ }
+{
+    let rows = (m.mlen / m.rlen) as usize;
+    let pitch = (m.rlen / 8) as usize;
+    floats::multiply_tile(
+        registers,
+        rows,
+        pitch,
+        md,
+        ms1,
+        ms2,
+        m.tile_m as usize,
+        m.tile_k as usize,
+        m.tile_n as usize,
+    );
+}
+
 // Answers 2 to 5, and md += ms1 x ms2 of binary32 elements. Every byte written was read, so it has its mark already.
 pub fn float_multiply(
     m: Machine,
@@ -168,18 +205,6 @@ pub fn float_multiply(
     if !machine::is_done(answer) {
         return answer;
     }
-    let rows = (m.mlen / m.rlen) as usize;
-    let pitch = (m.rlen / 8) as usize;
-    floats::multiply_tile(
-        registers,
-        rows,
-        pitch,
-        md,
-        ms1,
-        ms2,
-        m.tile_m as usize,
-        m.tile_k as usize,
-        m.tile_n as usize,
-    );
+    multiply_floats(m, registers, md, ms1, ms2);
     Answer::Done
 }

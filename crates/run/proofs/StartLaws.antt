@@ -194,7 +194,7 @@ module _ (P : Plan) where
           below : ¬ (P .kind ≡ 2) → P .kind ≤ 1
           below d = elim (le-or-lt 2 (P .kind)) [ inl g ↦ absurd (d (omega arith)) | inr g ↦ omega arith ]
 
-  suits-of : kindFits P ≡ true → Suits (elementsOf P) (P .factor) (narrow P)
+  pub suits-of : kindFits P ≡ true → Suits (elementsOf P) (P .factor) (narrow P)
   unfolding narrow
   suits-of h = go (eqb (P .kind) 2) refl
     where

@@ -1,13 +1,10 @@
 use mathlib.Core.Path.{_≡_, sym, ap, _∙_}
 use mathlib.Core.Bool.{true}
-use native.Mathlib.Omega.{arith}
 use borrow.Author.Tests.{not-true, not-false}
 use Rattle.machine.specs.Answers.{verdict, isDone}
 use Rattle.machine.specs.Operation.{Operation}
-use Rattle.machine.proofs.NoFault.{sound-is}
-use Rattle.machine.proofs.StepLaws.{permitted-bounds}
 use Rattle.checking.specs.Parts.{floatChecks}
-use Rattle.operations.proofs.EffectLaws.{marks-ready, arithmetic-refused, float-asks, float-loads}
+use Rattle.operations.proofs.EffectLaws.{marks-ready, arithmetic-refused, float-loads}
 use borrow.Author.Needs.{needs}
 use Rattle.operations.proofs.reckoning.float_multiply.Statement.{statement}
 use Rattle.operations.proofs.reckoning.float_multiply.Tie as tie
@@ -21,6 +18,9 @@ check-float-requires c κs =
     let s = c .before .before in
     (marks-ready (s .args .m) (s .args .registers .now) (s .args .marks .now) (s .pre .0), s .pre .1)
 
+is-done-requires : tie.Need-is-done-requires
+is-done-requires c κs = search needs
+
 returns : tie.Need-returns
 returns c =
     let s = c .before .before .before .before .before in
@@ -28,23 +28,22 @@ returns c =
     arithmetic-refused (a .m) (a .registers .now) (a .marks .now) (s .pre .0) (Operation.floatMultiply (a .md) (a .ms1) (a .ms2)) (c .before .before .check-float .result) (c .before .before .check-float .ensures)
     (sym (c .before .is-done .ensures) ∙ not-true (c .before .is-done .result) (c .if1 .taken))
 
-div-rows : tie.Need-div-rows
-div-rows c =
-    let s = c .before .before .before .before .before .before in
-    let b = permitted-bounds (s .args .m .rlen) (s .args .m .mlen) (s .args .m .elen) (sound-is (s .args .m) (s .args .registers .now) (s .args .marks .now) (s .pre .0) .lengths) in
-    omega arith
+multiply-floats-requires : tie.Need-multiply-floats-requires
+multiply-floats-requires c κs =
+    let e = c .before in
+    let s = e .before .before .before .before .before in
+    (record { marks = s .args .marks .now; is-sound = s .pre .0; is-done = checked e }, s .pre .1)
 
-multiply-tile-requires : tie.Need-multiply-tile-requires
-multiply-tile-requires c κs =
-    let s = c .before .before .before .before .before .before .before .before in
-    let a = s .args in
-    float-asks (a .m) (a .registers .now) (a .marks .now) (s .pre .0) (a .md) (a .ms1) (a .ms2) (checked (c .before .before .before)) (s .pre .1)
+same-length : tie.Need-same-length
+same-length c = search needs
 
 returns-2 : tie.Need-returns-2
 returns-2 c =
-    let s = c .before .before .before .before .before .before .before .before .before .before .before in
+    let t = c .before .before in
+    let e = t .before .before in
+    let s = e .before .before .before .before .before in
     let a = s .args in
-    float-loads (a .m) (a .registers .now) (a .marks .now) (s .pre .0) (a .md) (a .ms1) (a .ms2) (checked (c .before .before .before .before .before .before)) _ (c .before .before .multiply-tile .ensures)
+    float-loads (a .m) (a .registers .now) (a .marks .now) (s .pre .0) (a .md) (a .ms1) (a .ms2) (checked e) _ (t .multiply-floats .ensures)
 
 pub float-multiply-spec : {M : Type 1} → statement M
-float-multiply-spec = tie.close (tie.spec check-float-requires (λ c κs. search needs) returns div-rows multiply-tile-requires (λ c. search needs) returns-2)
+float-multiply-spec = tie.close (tie.spec check-float-requires is-done-requires returns multiply-floats-requires same-length returns-2)

@@ -1,18 +1,10 @@
-use mathlib.Core.Path.{_≡_, refl, sym, ap, _∙_}
+use mathlib.Core.Path.{_≡_, sym, ap, _∙_}
 use mathlib.Core.Bool.{true}
-use Prim.Native.Nat.{_+_, _*_}
-use native.Mathlib.Omega.{arith}
 use borrow.Author.Tests.{not-true, not-false}
-use mathlib.Core.List.{[], _∷_, _++_}
 use Rattle.machine.specs.Answers.{verdict, isDone}
 use Rattle.machine.specs.Operation.{Operation, times}
-use Rattle.machine.specs.Setting.{sew}
-use Rattle.machine.proofs.NoFault.{sound-is}
-use Rattle.machine.proofs.StepLaws.{permitted-bounds}
-use Rattle.checking.specs.Parts.{multiplyChecks, sourceChecks, accumulatorCheck, productChecks}
-use Rattle.checking.proofs.CheckLaws.{type-legal, part-done}
-use Rattle.operations.proofs.EffectLaws.{marks-ready, arithmetic-refused, product-asks, product-loads}
-use Rattle.settings.proofs.FaultLaws.{ready}
+use Rattle.checking.specs.Parts.{productChecks}
+use Rattle.operations.proofs.EffectLaws.{marks-ready, arithmetic-refused, product-loads}
 use borrow.Author.Needs.{needs}
 use Rattle.operations.proofs.reckoning.multiply.Statement.{statement}
 use Rattle.operations.proofs.reckoning.multiply.Tie as tie
@@ -20,10 +12,6 @@ use Rattle.operations.proofs.reckoning.multiply.Tie as tie
 -- the checks have passed
 checked : (c : tie.Else1) → let a = c .before .before .before .before .before .args in isDone (verdict (productChecks (a .m) (a .marks .now) (times (a .factor)) (a .md) (a .ms1) (a .ms2))) ≡ true
 checked c = sym (ap isDone (c .before .before .check-product .ensures)) ∙ sym (c .before .is-done .ensures) ∙ not-false (c .before .is-done .result) (c .if1 .left)
-
--- and so have answers 2 to 4
-fits : (c : tie.Else1) → let a = c .before .before .before .before .before .args in isDone (verdict (multiplyChecks (a .m) (times (a .factor)))) ≡ true
-fits c = let a = c .before .before .before .before .before .args in part-done (multiplyChecks (a .m) (times (a .factor))) (sourceChecks (a .m) (a .marks .now) (a .ms1) (a .ms2) ++ (accumulatorCheck (a .m) (a .marks .now) (a .md) (times (a .factor) * sew (a .m .mtype)) ∷ [])) refl (checked c)
 
 check-product-requires : tie.Need-check-product-requires
 check-product-requires c κs =
@@ -40,29 +28,11 @@ returns c =
     arithmetic-refused (a .m) (a .registers .now) (a .marks .now) (s .pre .0) (Operation.multiply (times (a .factor)) (a .md) (a .ms1) (a .ms2)) (c .before .before .check-product .result) (c .before .before .check-product .ensures)
     (sym (c .before .is-done .ensures) ∙ not-true (c .before .is-done .result) (c .if1 .taken))
 
-factor-of-requires : tie.Need-factor-of-requires
-factor-of-requires c κs = search needs
-
-sew-bytes-requires : tie.Need-sew-bytes-requires
-sew-bytes-requires c κs =
+multiply-tiles-requires : tie.Need-multiply-tiles-requires
+multiply-tiles-requires c κs =
     let e = c .before in
     let s = e .before .before .before .before .before in
-    type-legal (s .args .m) (times (s .args .factor)) (ready (s .args .m) (s .args .registers .now) (s .args .marks .now) (s .pre .0)) (fits e)
-
-div-rows : tie.Need-div-rows
-div-rows c =
-    let s = c .before .before .before .before .before .before .before .before in
-    let b = permitted-bounds (s .args .m .rlen) (s .args .m .mlen) (s .args .m .elen) (sound-is (s .args .m) (s .args .registers .now) (s .args .marks .now) (s .pre .0) .lengths) in
-    omega arith
-
-multiply-tile-requires : tie.Need-multiply-tile-requires
-multiply-tile-requires c κs =
-    let w = c .before .before .before in
-    let f = w .before in
-    let e = f .before in
-    let s = e .before .before .before .before .before in
-    let a = s .args in
-    product-asks (a .m) (a .registers .now) (a .marks .now) (s .pre .0) (times (a .factor)) (w .sew-bytes .result) (f .factor-of .result) (f .factor-of .ensures .0) (w .sew-bytes .ensures .0) (a .md) (a .ms1) (a .ms2) (checked e) (s .pre .1)
+    (record { marks = s .args .marks .now; is-sound = s .pre .0; is-done = checked e }, s .pre .1)
 
 same-length : tie.Need-same-length
 same-length c = search needs
@@ -70,13 +40,10 @@ same-length c = search needs
 returns-2 : tie.Need-returns-2
 returns-2 c =
     let t = c .before .before in
-    let w = t .before .before .before .before in
-    let f = w .before in
-    let e = f .before in
+    let e = t .before .before in
     let s = e .before .before .before .before .before in
     let a = s .args in
-    product-loads (a .m) (a .registers .now) (a .marks .now) (s .pre .0) (times (a .factor)) (w .sew-bytes .result) (f .factor-of .result) (f .factor-of .ensures .0) (w .sew-bytes .ensures .0) (a .md) (a .ms1) (a .ms2) (checked e) _
-    (t .multiply-tile .ensures)
+    product-loads (a .m) (a .registers .now) (a .marks .now) (s .pre .0) (times (a .factor)) (a .md) (a .ms1) (a .ms2) (checked e) _ (t .multiply-tiles .ensures)
 
 pub multiply-spec : {M : Type 1} → statement M
-multiply-spec = tie.close (tie.spec check-product-requires is-done-requires returns factor-of-requires sew-bytes-requires div-rows multiply-tile-requires same-length returns-2)
+multiply-spec = tie.close (tie.spec check-product-requires is-done-requires returns multiply-tiles-requires same-length returns-2)
