@@ -14,18 +14,20 @@ ghost use mathlib.Core.Bool.{true};
 ghost use mathlib.Core.List.{List, [], _∷_};
 ghost use Prim.Native.Nat.{ℕ, _*_, _≤_, _<_};
 ghost use Rattle.width.specs.Bounds.{mostElen};
-ghost use Rattle.machine.specs.Answers.{reply, verdict};
+ghost use Rattle.machine.specs.declared.Answer.the-variants.{Done};
+ghost use Rattle.machine.specs.Answers.{reply, done, isDone, verdict};
 ghost use Rattle.machine.specs.Geometry.{Bench, benchOf, stateOf, registerCount};
 ghost use Rattle.machine.specs.Faults.{sound};
 ghost use Rattle.machine.specs.Refusals.{typed};
 ghost use Rattle.machine.specs.Setting.{chosen};
 ghost use Rattle.machine.specs.Operation.{Operation, times};
+ghost use Rattle.checking.specs.Parts.{MarksReady, targetChecks};
 ghost use Rattle.operations.specs.Parts.{WritesRegisters};
 ghost use Rattle.settings.specs.Parts.{numbersSound};
 ghost use Rattle.run.specs.Plan.{narrow};
-ghost use Rattle.run.specs.Words.{clear, loadA, multiply, store};
+ghost use Rattle.run.specs.Words.{clear, loadA, loadB, multiply, store};
 ghost use Rattle.run.specs.Encoding.{startOf};
-ghost use Rattle.carrying.specs.Parts.{carried, carriedFor, carriedAt};
+ghost use Rattle.carrying.specs.Parts.{carried, carriedFor, carriedAt, Multiplies};
 ghost use Rattle.run.specs.Start.{planned};
 ghost use Rattle.run.specs.Turn.{soundRun};
 
@@ -62,6 +64,33 @@ fn clear(plan: Plan, m: Machine, registers: &mut [u8], marks: &mut [u8]) -> Answ
 {
     let factor = plan_factor(plan);
     operations::reckoning::scale(m, registers, marks, factor, 0, 0, 0)
+}
+
+// Whether answers 2 to 4 of the run's multiply, and answer 5 of acc0, are Done.
+pub fn is_ready(plan: Plan, m: Machine, marks: &[u8]) -> bool
+    requires { ⌜ MarksReady m (now marks) ⌝ }
+    requires { ⌜ planned mostElen plan ≡ true ⌝ }
+    ensures { λ r. ⌜ r ≡ isDone (verdict (targetChecks m (now (marks .entry)) (plan .factor) 0)) ⌝ }
+{
+    let factor = plan_factor(plan);
+    let answer = checking::written::check_target(m, marks, factor, 0);
+    machine::is_done(answer)
+}
+
+// Multiplies tr0 and tr1 to acc0, where that is not refused.
+pub fn multiply_written(plan: Plan, m: Machine, registers: &mut [u8])
+    requires { ⌜ planned mostElen plan ≡ true ⌝ }
+    requires { ⌜ Multiplies plan m (now registers) ⌝ }
+    ensures { λ _. ⌜ ((marks memory : List ℕ) → sound m (now (registers .entry)) marks ≡ true
+        → done (carriedFor plan multiply (benchOf m (now (registers .entry)) marks memory) .answer) ≡ true
+        → carried (reply Done) m (now (registers .exit)) marks memory ≡ carriedFor plan multiply (benchOf m (now (registers .entry)) marks memory)) ⌝ }
+{
+    if plan.kind == 2 {
+        operations::reckoning::multiply_floats(m, registers, 0, 0, 1);
+        return;
+    }
+    let factor = plan_factor(plan);
+    operations::reckoning::multiply_tiles(m, registers, factor, 0, 0, 1);
 }
 
 // Multiplies tr0 and tr1 to acc0.
@@ -116,7 +145,7 @@ fn load(
 }
 
 // Loads tr0 from the block of A that starts at this row and term.
-fn load_a(
+pub fn load_a(
     plan: Plan,
     m: Machine,
     registers: &mut [u8],
@@ -146,6 +175,38 @@ fn load_a(
         0,
         layout,
         line,
+        column,
+    )
+}
+
+// Loads tr1 from the block of B that starts at this term and column.
+pub fn load_b(
+    plan: Plan,
+    m: Machine,
+    registers: &mut [u8],
+    marks: &mut [u8],
+    memory: &[u8],
+    term: u64,
+    column: u64,
+) -> Answer
+    requires { ⌜ sound m (now registers) (now marks) ≡ true ⌝ }
+    requires { ⌜ planned mostElen plan ≡ true ⌝ }
+    requires { ⌜ (term ≤ 1024) × (column ≤ 1024) ⌝ }
+    ensures { λ r. ⌜ carried (reply r) m (now (registers .exit)) (now (marks .exit)) (now (memory .entry))
+        ≡ carriedFor plan (loadB term column) (benchOf m (now (registers .entry)) (now (marks .entry)) (now (memory .entry))) ⌝ }
+{
+    let layout = plan.b;
+    load(
+        plan,
+        m,
+        registers,
+        marks,
+        memory,
+        Form::Plain,
+        Matrix::MatrixB,
+        1,
+        layout,
+        term,
         column,
     )
 }
@@ -200,7 +261,6 @@ pub fn carry_out(
 {
     let plan = run.plan;
     let place = run.place;
-    let b = plan.b;
     match place {
         Place::AtType => Answer::Done,
         Place::AtM { .. } => size_answer(m),
@@ -208,19 +268,7 @@ pub fn carry_out(
         Place::AtClear { .. } => clear(plan, m, registers, marks),
         Place::AtK { .. } => size_answer(m),
         Place::AtA { row, term, .. } => load_a(plan, m, registers, marks, memory, row, term),
-        Place::AtB { column, term, .. } => load(
-            plan,
-            m,
-            registers,
-            marks,
-            memory,
-            Form::Plain,
-            Matrix::MatrixB,
-            1,
-            b,
-            term,
-            column,
-        ),
+        Place::AtB { column, term, .. } => load_b(plan, m, registers, marks, memory, term, column),
         Place::AtMultiply { .. } => multiply(plan, m, registers, marks),
         Place::AtStore { row, column } => store(plan, m, registers, marks, memory, row, column),
         Place::AtEnd => Answer::BadArguments,

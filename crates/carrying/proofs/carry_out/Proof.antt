@@ -12,7 +12,7 @@ use Rattle.plan_numbers.specs.Parts.{placed}
 use Rattle.plan_numbers.proofs.PlanLaws.{at-store, at-multiply}
 use Rattle.run_places.proofs.RunPlaceLaws.{run-numbered, run-placed, run-planned, run-sizes}
 use Rattle.run.proofs.WordLaws.{decode-type, decode-m, decode-n, decode-k}
-use Rattle.carrying.proofs.CarriedLaws.{numbers-apart, at-place, type-carried, size-carried, size-answers, b-carried, plan-type}
+use Rattle.carrying.proofs.CarriedLaws.{numbers-apart, at-place, type-carried, size-carried, size-answers, plan-type}
 use borrow.Author.Needs.{needs}
 use Rattle.carrying.proofs.carry_out.Statement.{statement}
 use Rattle.carrying.proofs.carry_out.Tie as tie
@@ -37,7 +37,7 @@ enum-told-4 c = search needs
 
 clear-requires : tie.Need-clear-requires
 clear-requires c κs =
-    let s = c .before .before .before .before .before .before .before .before .before in
+    let s = c .before .before .before .before .before .before .before .before in
     (s .pre .0, run-planned (s .args .run) (run-numbered (s .args .run) (s .pre .1)))
 
 enum-told-5 : tie.Need-enum-told-5
@@ -52,7 +52,7 @@ enum-known-place c = search needs
 load-a-requires : tie.Need-load-a-requires
 load-a-requires c κs =
     let p = c .before .before .before .before in
-    let s = p .before .before .before .before .before .before .before in
+    let s = p .before .before .before .before .before .before in
     let R = s .args .run in
     let g = p .place .given in
     let N = run-numbered R (s .pre .1) in
@@ -64,24 +64,24 @@ load-a-requires c κs =
 enum-known-place-2 : tie.Need-enum-known-place-2
 enum-known-place-2 c = search needs
 
-load-requires : tie.Need-load-requires
-load-requires c κs =
+load-b-requires : tie.Need-load-b-requires
+load-b-requires c κs =
     let p = c .before .before .before .before in
-    let s = p .before .before .before .before .before .before .before in
+    let s = p .before .before .before .before .before .before in
     let R = s .args .run in
     let g = p .place2 .given in
     let N = run-numbered R (s .pre .1) in
     let h = subst (λ (q : Place). placed (R .plan) q ≡ true) (g .1) (run-placed R (s .pre .1)) in
     let z = run-sizes R N in
     let b = at-multiply (R .plan) (g .0 .0) (g .0 .1 .0) (g .0 .1 .1 .0) h in
-    (s .pre .0, (run-planned R N, ((omega (arith, b .1 .1, z .1), omega (arith, b .1 .0, z .2)), omega arith)))
+    (s .pre .0, (run-planned R N, (omega (arith, b .1 .1, z .1), omega (arith, b .1 .0, z .2))))
 
 enum-told-6 : tie.Need-enum-told-6
 enum-told-6 c = search needs
 
 multiply-requires : tie.Need-multiply-requires
 multiply-requires c κs =
-    let s = c .before .before .before .before .before .before .before .before .before in
+    let s = c .before .before .before .before .before .before .before .before in
     (s .pre .0, run-planned (s .args .run) (run-numbered (s .args .run) (s .pre .1)))
 
 enum-known-place-3 : tie.Need-enum-known-place-3
@@ -90,7 +90,7 @@ enum-known-place-3 c = search needs
 store-requires : tie.Need-store-requires
 store-requires c κs =
     let p = c .before .before .before .before in
-    let s = p .before .before .before .before .before .before .before in
+    let s = p .before .before .before .before .before .before in
     let R = s .args .run in
     let g = p .place3 .given in
     let N = run-numbered R (s .pre .1) in
@@ -104,7 +104,7 @@ enum-told-7 c = search needs
 
 returns : tie.Need-returns
 returns c =
-    let s = c .before .before .before .before .before .before .before in
+    let s = c .before .before .before .before .before .before in
     let R = s .args .run in
     let N = run-numbered R (s .pre .1) in
     numbers-apart _ _ _ _ _ _ _ refl
@@ -114,7 +114,7 @@ returns c =
 returns-2 : tie.Need-returns-2
 returns-2 c =
     let t = c .before in
-    let s = t .before .before .before .before .before .before .before in
+    let s = t .before .before .before .before .before .before in
     let R = s .args .run in
     let z = run-sizes R (run-numbered R (s .pre .1)) in
     let b = z .0 in
@@ -126,7 +126,7 @@ returns-2 c =
 returns-3 : tie.Need-returns-3
 returns-3 c =
     let t = c .before in
-    let s = t .before .before .before .before .before .before .before in
+    let s = t .before .before .before .before .before .before in
     let R = s .args .run in
     let z = run-sizes R (run-numbered R (s .pre .1)) in
     let b = z .2 in
@@ -144,13 +144,13 @@ same-length-2 c = search needs
 returns-4 : tie.Need-returns-4
 returns-4 c =
     let t = c .before .before .before .before .before .before .before in
-    let s = t .before .before .before .before .before .before .before in
+    let s = t .before .before .before .before .before .before in
     numbers-apart _ _ _ _ _ _ _ refl ((c .before .before .before .before .clear .ensures) (s .args .memory .now) ∙ at-place (s .args .run) (benchOf (s .args .m) (s .args .registers .now) (s .args .marks .now) (s .args .memory .now)) _ (t .enum-told4 .given .1))
 
 returns-5 : tie.Need-returns-5
 returns-5 c =
     let t = c .before in
-    let s = t .before .before .before .before .before .before .before in
+    let s = t .before .before .before .before .before .before in
     let R = s .args .run in
     let z = run-sizes R (run-numbered R (s .pre .1)) in
     let b = z .1 in
@@ -171,7 +171,7 @@ same-length-5 c = search needs
 returns-6 : tie.Need-returns-6
 returns-6 c =
     let p = c .before .before .before .before .before .before .before .before .before in
-    let s = p .before .before .before .before .before .before .before in
+    let s = p .before .before .before .before .before .before in
     let R = s .args .run in
     let g = p .place .given in
     numbers-apart _ _ _ _ _ _ _ refl
@@ -190,12 +190,10 @@ same-length-8 c = search needs
 returns-7 : tie.Need-returns-7
 returns-7 c =
     let p = c .before .before .before .before .before .before .before .before .before in
-    let s = p .before .before .before .before .before .before .before in
-    let R = s .args .run in
-    let g = p .place2 .given in
+    let s = p .before .before .before .before .before .before in
     numbers-apart _ _ _ _ _ _ _ refl
-    (b-carried (R .plan) (run-planned R (run-numbered R (s .pre .1))) (s .args .m) (s .args .registers .now) (s .args .marks .now) (s .args .memory .now) (s .pre .0) _ (g .0 .1 .1 .0) (g .0 .1 .0) _ _ (c .before .before .before .before .load .ensures)
-    ∙ at-place R (benchOf (s .args .m) (s .args .registers .now) (s .args .marks .now) (s .args .memory .now)) _ (g .1))
+    (c .before .before .before .before .load-b .ensures
+    ∙ at-place (s .args .run) (benchOf (s .args .m) (s .args .registers .now) (s .args .marks .now) (s .args .memory .now)) _ (p .place2 .given .1))
 
 same-length-9 : tie.Need-same-length-9
 same-length-9 c = search needs
@@ -206,7 +204,7 @@ same-length-10 c = search needs
 returns-8 : tie.Need-returns-8
 returns-8 c =
     let t = c .before .before .before .before .before in
-    let s = t .before .before .before .before .before .before .before in
+    let s = t .before .before .before .before .before .before in
     numbers-apart _ _ _ _ _ _ _ refl ((c .before .before .multiply .ensures) (s .args .memory .now) ∙ at-place (s .args .run) (benchOf (s .args .m) (s .args .registers .now) (s .args .marks .now) (s .args .memory .now)) _ (t .enum-told6 .given .1))
 
 same-length-11 : tie.Need-same-length-11
@@ -221,12 +219,12 @@ same-length-13 c = search needs
 returns-9 : tie.Need-returns-9
 returns-9 c =
     let p = c .before .before .before .before .before .before .before in
-    let s = p .before .before .before .before .before .before .before in
+    let s = p .before .before .before .before .before .before in
     numbers-apart _ _ _ _ _ _ _ refl (c .before .before .store .ensures ∙ at-place (s .args .run) (benchOf (s .args .m) (s .args .registers .now) (s .args .marks .now) (s .args .memory .now)) _ (p .place3 .given .1))
 
 returns-10 : tie.Need-returns-10
 returns-10 c =
-    let s = c .before .before .before .before .before .before .before in
+    let s = c .before .before .before .before .before .before in
     numbers-apart _ _ _ _ _ _ _ refl (at-place (s .args .run) (benchOf (s .args .m) (s .args .registers .now) (s .args .marks .now) (s .args .memory .now)) _ (c .enum-told7 .given .1))
 
 pub carry-out-spec : {M : Type 1} → statement M
@@ -245,7 +243,7 @@ carry-out-spec =
     enum-known-place
     load-a-requires
     enum-known-place-2
-    load-requires
+    load-b-requires
     enum-told-6
     multiply-requires
     enum-known-place-3

@@ -1,0 +1,24 @@
+use native.Mathlib.Omega.{arith}
+use Rattle.carrying.proofs.CarriedLaws.{b-carried}
+use borrow.Author.Needs.{needs}
+use Rattle.carrying.proofs.load_b.Statement.{statement}
+use Rattle.carrying.proofs.load_b.Tie as tie
+
+load-requires : tie.Need-load-requires
+load-requires c κs = let s = c .before .before .before .before .before .before in (s .pre .0, (s .pre .1 .0, (s .pre .1 .1, omega arith)))
+
+same-length : tie.Need-same-length
+same-length c = search needs
+
+same-length-2 : tie.Need-same-length-2
+same-length-2 c = search needs
+
+returns : tie.Need-returns
+returns c =
+    let l = c .before .before .before .before in
+    let s = l .before .before .before .before .before .before .before in
+    let a = s .args in
+    b-carried (a .plan) (s .pre .1 .0) (a .m) (a .registers .now) (a .marks .now) (a .memory .now) (s .pre .0) (l .load .result) (a .term) (a .column) _ _ (l .load .ensures)
+
+pub load-b-spec : {M : Type 1} → statement M
+load-b-spec = tie.close (tie.spec load-requires same-length same-length-2 returns)
