@@ -215,10 +215,7 @@ pub fn next(run: Run) -> Asked
         return refused(run);
     }
     let handed = handed_at(run);
-    let rows = run_places::most_rows(run);
-    let columns = run_places::most_columns(run);
-    let terms = run_places::most_terms(run);
-    let after = run_places::moved_run(run, rows, columns, terms);
+    let after = run_places::moved_run(run);
     Asked {
         answer: Answer::Done,
         handed: handed,

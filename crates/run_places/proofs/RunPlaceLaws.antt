@@ -26,7 +26,7 @@ use Rattle.run.specs.Start.{format, kindFits, planned}
 use Rattle.run.specs.Turn.{startsM, startsN, startsK, begins, soundRun, runShape, moved}
 use Rattle.plan_numbers.specs.Parts.{placed}
 use Rattle.plan_numbers.proofs.PlanLaws.{widest-plan, at-m, at-store, at-multiply}
-use Rattle.run_places.specs.Parts.{numbered, shapeBy, Within, Most}
+use Rattle.run_places.specs.Parts.{numbered}
 use Rattle.run.proofs.PlaceLaws.{Sound}
 use Rattle.run.proofs.BeginLaws.{start-below, begins-next}
 use Rattle.run.proofs.WordLaws.{formats}
@@ -132,27 +132,6 @@ module _ (R : Run) (ok : soundRun chosen R ≡ true) where
   run-placed = place-in R run-numbered (R .place) (tests .1 .1 .1 .0)
 
 -- ---- the next place
-
-pub within : (P : Plan) (p : Place) → placed P p ≡ true → Within (P .m) (P .k) (P .n) p
-within P AtType h = tt
-within P (AtM i) h = at-m P i h
-within P (AtN i j) h = tt
-within P (AtClear i j) h = tt
-within P (AtK i j s) h = tt
-within P (AtA i j s) h = tt
-within P (AtB i j s) h = tt
-within P (AtMultiply i j s) h = at-multiply P i j s h .1 .1
-within P (AtStore i j) h = at-store P i j h
-within P AtEnd h = tt
-
--- by the most rows, columns and terms as code holds them
-pub next-by : (R : Run) (rows columns terms : ℕ) → Most R rows columns terms → (p : Place)
-    → next (shapeBy (R .rule) (R .plan .m) (R .plan .k) (R .plan .n) rows columns terms) p ≡ next (runShape chosen R) p
-next-by R rows columns terms h p =
-    let P : Plan = R .plan in
-    ap (λ (x : ℕ). next (shapeBy (R .rule) (P .m) (P .k) (P .n) x columns terms) p) (h .rows-are)
-    ∙ ap (λ (x : ℕ). next (shapeBy (R .rule) (P .m) (P .k) (P .n) (runShape chosen R .tm) x terms) p) (h .columns-are)
-    ∙ ap (λ (x : ℕ). next (shapeBy (R .rule) (P .m) (P .k) (P .n) (runShape chosen R .tm) (runShape chosen R .tn) x) p) (h .terms-are)
 
 -- a run that a start can have made stays one
 pub moved-sound : (R : Run) → soundRun chosen R ≡ true → soundRun chosen (moved chosen R) ≡ true

@@ -12,7 +12,7 @@ ghost use Rattle.run.specs.Plan.{typeOf};
 ghost use Rattle.run.specs.Places.{headM, headN, headK, next};
 ghost use Rattle.run.specs.Turn.{startsM, startsN, startsK, begins, soundRun, runParameters, runShape, moved};
 ghost use Rattle.width.specs.Blocks.{chunks};
-ghost use Rattle.run_places.specs.Parts.{numbered, shapeBy, Within, Most, atPlace};
+ghost use Rattle.run_places.specs.Parts.{numbered};
 ghost use Rattle.plan_numbers.specs.Parts.{placed};
 
 // ---- blocks, and runs that a start can have made
@@ -45,7 +45,7 @@ pub fn most_terms(run: Run) -> u64
 }
 
 // Where the block that starts here ends: it takes what the rule gives of the rest.
-fn block_end(rule: u64, total: u64, at: u64, most: u64) -> u64
+pub fn block_end(rule: u64, total: u64, at: u64, most: u64) -> u64
     requires { ⌜ at ≤ total ⌝ }
     ensures { λ r. ⌜ r ≡ at + chosen rule most (total - at) ⌝ }
 {
@@ -164,64 +164,36 @@ pub fn is_sound_run(run: Run) -> bool
 
 // ---- the next place
 
-// Where a loop goes on: at its next block, or past it.
-fn head_rows(
-    rule: u64,
-    m: u64,
-    k: u64,
-    n: u64,
-    rows: u64,
-    columns: u64,
-    terms: u64,
-    row: u64,
-) -> Place
-    ensures { λ r. ⌜ r ≡ headM (shapeBy rule m k n rows columns terms) row ⌝ }
+// Where a loop of a run goes on: at its next block, or past it.
+fn head_rows(run: Run, row: u64) -> Place
+    ensures { λ r. ⌜ r ≡ headM (runShape chosen run) row ⌝ }
 {
-    if row < m {
+    if row < run.plan.m {
         return Place::AtM { row: row };
     }
     Place::AtEnd
 }
 
-fn head_columns(
-    rule: u64,
-    m: u64,
-    k: u64,
-    n: u64,
-    rows: u64,
-    columns: u64,
-    terms: u64,
-    row: u64,
-    column: u64,
-) -> Place
-    requires { ⌜ row ≤ m ⌝ }
-    ensures { λ r. ⌜ r ≡ headN (shapeBy rule m k n rows columns terms) row column ⌝ }
+fn head_columns(run: Run, row: u64, column: u64) -> Place
+    requires { ⌜ numbered run ≡ true ⌝ }
+    requires { ⌜ row ≤ run .plan .m ⌝ }
+    ensures { λ r. ⌜ r ≡ headN (runShape chosen run) row column ⌝ }
 {
-    if column < n {
+    if column < run.plan.n {
         return Place::AtN {
             row: row,
             column: column,
         };
     }
-    let end = block_end(rule, m, row, rows);
-    head_rows(rule, m, k, n, rows, columns, terms, end)
+    let most = most_rows(run);
+    let end = block_end(run.rule, run.plan.m, row, most);
+    head_rows(run, end)
 }
 
-fn head_terms(
-    rule: u64,
-    m: u64,
-    k: u64,
-    n: u64,
-    rows: u64,
-    columns: u64,
-    terms: u64,
-    row: u64,
-    column: u64,
-    term: u64,
-) -> Place
-    ensures { λ r. ⌜ r ≡ headK (shapeBy rule m k n rows columns terms) row column term ⌝ }
+fn head_terms(run: Run, row: u64, column: u64, term: u64) -> Place
+    ensures { λ r. ⌜ r ≡ headK (runShape chosen run) row column term ⌝ }
 {
-    if term < k {
+    if term < run.plan.k {
         return Place::AtK {
             row: row,
             column: column,
@@ -234,30 +206,20 @@ fn head_terms(
     }
 }
 
-// The place after this one, in a product of these sizes by blocks of a rule and of at most so many rows, columns and terms.
-fn next_place(
-    rule: u64,
-    m: u64,
-    k: u64,
-    n: u64,
-    rows: u64,
-    columns: u64,
-    terms: u64,
-    place: Place,
-) -> Place
-    requires { ⌜ Within m k n place ⌝ }
-    ensures { λ r. ⌜ r ≡ next (shapeBy rule m k n rows columns terms) place ⌝ }
+// The place after that of a run.
+pub fn next_place(run: Run) -> Place
+    requires { ⌜ soundRun chosen run ≡ true ⌝ }
+    ensures { λ r. ⌜ r ≡ next (runShape chosen run) (run .place) ⌝ }
 {
+    let place = run.place;
     match place {
-        Place::AtType => head_rows(rule, m, k, n, rows, columns, terms, 0),
-        Place::AtM { row } => head_columns(rule, m, k, n, rows, columns, terms, row, 0),
+        Place::AtType => head_rows(run, 0),
+        Place::AtM { row } => head_columns(run, row, 0),
         Place::AtN { row, column } => Place::AtClear {
             row: row,
             column: column,
         },
-        Place::AtClear { row, column } => {
-            head_terms(rule, m, k, n, rows, columns, terms, row, column, 0)
-        }
+        Place::AtClear { row, column } => head_terms(run, row, column, 0),
         Place::AtK { row, column, term } => Place::AtA {
             row: row,
             column: column,
@@ -274,51 +236,32 @@ fn next_place(
             term: term,
         },
         Place::AtMultiply { row, column, term } => {
-            let end = block_end(rule, k, term, terms);
-            head_terms(rule, m, k, n, rows, columns, terms, row, column, end)
+            let most = most_terms(run);
+            let end = block_end(run.rule, run.plan.k, term, most);
+            head_terms(run, row, column, end)
         }
         Place::AtStore { row, column } => {
-            let end = block_end(rule, n, column, columns);
-            head_columns(rule, m, k, n, rows, columns, terms, row, end)
+            let most = most_columns(run);
+            let end = block_end(run.rule, run.plan.n, column, most);
+            head_columns(run, row, end)
         }
         Place::AtEnd => Place::AtEnd,
     }
 }
 
-// The place after this one in a run, by the most rows, columns and terms of its blocks.
-pub fn place_after(run: Run, rows: u64, columns: u64, terms: u64, place: Place) -> Place
-    requires { ⌜ soundRun chosen (atPlace run place) ≡ true ⌝ }
-    requires { ⌜ Most run rows columns terms ⌝ }
-    ensures { λ r. ⌜ r ≡ next (runShape chosen run) place ⌝ }
-{
-    let plan = run.plan;
-    next_place(
-        run.rule,
-        plan.m,
-        plan.k,
-        plan.n,
-        rows,
-        columns,
-        terms,
-        place,
-    )
-}
-
 // The run at its next place.
-pub fn moved_run(run: Run, rows: u64, columns: u64, terms: u64) -> Run
+pub fn moved_run(run: Run) -> Run
     requires { ⌜ soundRun chosen run ≡ true ⌝ }
-    requires { ⌜ Most run rows columns terms ⌝ }
     ensures { λ r. ⌜ r ≡ moved chosen run ⌝ }
 {
     let plan = run.plan;
-    let place = run.place;
-    let after = place_after(run, rows, columns, terms, place);
+    let place = next_place(run);
     Run {
         plan: plan,
         rlen: run.rlen,
         mlen: run.mlen,
         rule: run.rule,
         elen: run.elen,
-        place: after,
+        place: place,
     }
 }

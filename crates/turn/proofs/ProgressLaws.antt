@@ -1,26 +1,25 @@
 -- What turns answer and leave, from what carrying out their words does.
-use mathlib.Core.Path.{_≡_, refl, sym, ap, ap₂, _∙_}
+use mathlib.Core.Path.{_≡_, refl, sym, ap, _∙_, subst}
 use mathlib.Core.Bool.{Bool, true, false, cond}
+use mathlib.Core.List.{List}
 use mathlib.Core.Option.{Option, none, some}
 use Prim.Native.Nat.{ℕ, _+_}
-use native.Mathlib.Nat.{zero-add}
 use native.Mathlib.Omega.{arith}
-use lib.Dec.{eqb}
-use Rattle.machine.specs.declared.Answer.the-variants.{Done, BadArguments}
+use Rattle.machine.specs.declared.Answer.the-variants.{BadArguments}
 use Rattle.machine.specs.declared.Reply.{Reply}
 use Rattle.machine.specs.Answers.{reply, done}
 use Rattle.machine.specs.Geometry.{Bench}
 use Rattle.machine.specs.Setting.{chosen}
+use Rattle.machine.specs.Faults.{soundBench}
 use Rattle.run.specs.declared.Run.{Run}
-use Rattle.run.specs.declared.Place.{Place}
 use Rattle.run.specs.Words.{Op}
-use Rattle.run.specs.Places.{next, wordAt}
-use Rattle.run.specs.Turn.{soundRun, runShape, moved, Running, running, turn, TurnOutcome, turnOutcome, turns, TurnsOutcome}
+use Rattle.run.specs.Places.{wordAt}
+use Rattle.run.specs.Turn.{soundRun, runShape, moved, Running, running, turn, TurnOutcome, turnOutcome, TurnsOutcome, turns}
 use Rattle.run.proofs.HandedLaws.{turnWith}
+use Rattle.run.proofs.RefusalLaws.{turn-refused}
 use Rattle.carrying.specs.Parts.{Carried, carriedBy, carriedAt}
-use Rattle.turn.specs.Parts.{endingAt}
-use Rattle.run_places.specs.Parts.{atPlace}
-use Rattle.turn.proofs.TurnLaws.{leaving, turn-zero, taking, turns-stop, turns-more}
+use Rattle.turn.specs.Parts.{Taking}
+use Rattle.turn.proofs.TurnLaws.{leaving, turn-sound, turn-run, taking, joined, turns-join, turns-stop, turns-more}
 
 -- ---- a turn
 
@@ -40,16 +39,16 @@ turn-carried R B ok k e t d =
     go none = refl
     go (some o) = refl
 
--- one more, after n that were answered 0
-pub turns-carried : (r : Running) (R : Run) (B : Bench) (n : ℕ) → taking n (running R B) ≡ turns chosen r n → soundRun chosen R ≡ true → (k : Carried) → k ≡ carriedAt R B
-    → done (k .answer) ≡ true → (R′ : Run) → R′ ≡ moved chosen R → taking (n + 1) (running R′ (k .bench)) ≡ turns chosen r (n + 1)
-turns-carried r R B n e ok k ek d R′ eR =
-    ap (λ (R : Run). taking (n + 1) (running R (k .bench))) eR
-    ∙ turns-more r (running R B) n e (leaving (k .answer) (running (moved chosen R) (k .bench))) (turn-carried R B ok k ek true d) d
+pub turn-moved : (R : Run) (B : Bench) → soundRun chosen R ≡ true → (k : Carried) → k ≡ carriedAt R B → done (k .answer) ≡ true → (R′ : Run) → R′ ≡ moved chosen R
+    → leaving (k .answer) (running R′ (k .bench)) ≡ turnOutcome chosen (running R B)
+turn-moved R B ok k e d R′ eR = ap (λ (R : Run). leaving (k .answer) (running R (k .bench))) eR ∙ turn-carried R B ok k e true d
 
--- the place after a turn
-pub moved-place : (R U : Run) (q p : Place) → U ≡ atPlace R q → p ≡ next (runShape chosen R) q → atPlace R p ≡ moved chosen U
-moved-place R U q p e k = ap (atPlace R) k ∙ ap (moved chosen) (sym e)
+-- a word that is refused changes nothing
+pub word-kept : (R : Run) (B : Bench) → soundRun chosen R ≡ true → (k : Carried) → k ≡ carriedAt R B → done (k .answer) ≡ false → B ≡ k .bench
+word-kept R B ok k e d =
+    let h = turn-carried R B ok k e false d in
+    let f : done (turn chosen (running R B) .answer) ≡ false = sym (ap (λ (o : TurnOutcome). done (o .answer)) h) ∙ d in
+    sym (ap (λ (r : Running). r .bench) (turn-refused chosen (running R B) f)) ∙ ap (λ (o : TurnOutcome). o .after .bench) (sym h)
 
 -- a run that no start can have made: every turn is refused
 pub turn-unsound : (R : Run) (B : Bench) → soundRun chosen R ≡ false → leaving (reply BadArguments) (running R B) ≡ turnOutcome chosen (running R B)
@@ -59,26 +58,43 @@ turn-unsound R B h =
 pub turns-unsound : (R : Run) (B : Bench) (n : ℕ) → soundRun chosen R ≡ false → taking 0 (running R B) ≡ turns chosen (running R B) n
 turns-unsound R B n h = turns-stop (running R B) 0 n (omega arith) (ap (λ (o : TurnOutcome). done (o .answer)) (sym (turn-unsound R B h)))
 
--- ---- the answer that turns end with
+-- ---- turns that were answered 0
 
-pub ends-done : (limit count : ℕ) (t : TurnsOutcome) → eqb count limit ≡ true → reply Done ≡ endingAt limit count t
-ends-done limit count t e = sym (rw e)
+pub none-taken : (R : Run) (B : Bench) → soundRun chosen R ≡ true → soundBench B ≡ true → Taking (running R B) 0 R B
+none-taken R B ok s = record { taken = refl; run-sound = ok; bench-sound = s }
 
-pub ends-refused : (limit count : ℕ) (t : TurnsOutcome) (a : Reply) → eqb count limit ≡ false → a ≡ turn chosen (t .after) .answer → a ≡ endingAt limit count t
-ends-refused limit count t a e h = h ∙ sym (rw e)
+module _ {r : Running} {n : ℕ} {R : Run} {B : Bench} (t : Taking r n R B) where
+  -- one more, from what it answers and leaves
+  pub turn-taken : (a : Reply) (R′ : Run) (B′ : Bench) → leaving a (running R′ B′) ≡ turnOutcome chosen (running R B) → done a ≡ true → Taking r (n + 1) R′ B′
+  turn-taken a R′ B′ h d = record {
+    taken = turns-more r (running R B) n (t .taken) (leaving a (running R′ B′)) h d;
+    run-sound = ap (λ (o : TurnOutcome). soundRun chosen (o .after .run)) h ∙ turn-run (running R B) (t .run-sound);
+    bench-sound = ap (λ (o : TurnOutcome). soundBench (o .after .bench)) h ∙ turn-sound (running R B) (t .bench-sound);
+  }
 
--- the run at the place where the turns end
+  -- or from what carrying out its word does
+  pub word-taken : (k : Carried) → k ≡ carriedAt R B → done (k .answer) ≡ true → (R′ : Run) → R′ ≡ moved chosen R → Taking r (n + 1) R′ (k .bench)
+  word-taken k e d R′ eR = turn-taken (k .answer) R′ (k .bench) (turn-moved R B (t .run-sound) k e d R′ eR) d
+
+  -- or several
+  pub more-taken : {c : ℕ} {R′ : Run} {B′ : Bench} → Taking (running R B) c R′ B′ → Taking r (n + c) R′ B′
+  more-taken {c} u = record {
+    taken = ap (λ (o : TurnsOutcome). taking (n + o .count) (o .after)) (u .taken) ∙ ap (λ (o : TurnsOutcome). joined o c) (t .taken) ∙ sym (turns-join r n c);
+    run-sound = u .run-sound;
+    bench-sound = u .bench-sound;
+  }
+
+pub taken-from : {r r′ : Running} {n : ℕ} {R : Run} {B : Bench} → r ≡ r′ → Taking r n R B → Taking r′ n R B
+taken-from {r} {r′} {n} {R} {B} e t = subst (λ (r : Running). Taking r n R B) e t
+
+-- the same count, run and state by other names
+pub taken-as : {r : Running} {n n′ : ℕ} {R R′ : Run} {B B′ : Bench} → n ≡ n′ → R ≡ R′ → B ≡ B′ → Taking r n R B → Taking r n′ R′ B′
+taken-as {r} {n} {n′} {R} {R′} {B} {B′} en eR eB t =
+    subst (λ (n : ℕ). Taking r n R′ B′) en (subst (λ (R : Run). Taking r n R B′) eR (subst (λ (B : Bench). Taking r n R B) eB t))
+
+-- the run at the place where a turn, or turns, end
+pub turn-at : (a : Reply) (U U′ : Run) (B : Bench) (t : TurnOutcome) → U ≡ U′ → leaving a (running U′ B) ≡ t → leaving a (running U B) ≡ t
+turn-at a U U′ B t e h = ap (λ (U : Run). leaving a (running U B)) e ∙ h
+
 pub at-end : (n : ℕ) (U U′ : Run) (B : Bench) (t : TurnsOutcome) → U ≡ U′ → taking n (running U′ B) ≡ t → taking n (running U B) ≡ t
 at-end n U U′ B t e h = ap (λ (U : Run). taking n (running U B)) e ∙ h
-
--- one turn, from what turns of at most one come to
-pub one-turn : (r : Running) (n : ℕ) (a : Reply) (after : Running) → taking n after ≡ turns chosen r 1 → a ≡ endingAt 1 n (turns chosen r n) → leaving a after ≡ turnOutcome chosen r
-one-turn r n a after e h =
-    ap₂ leaving (go (done (turn chosen r .answer)) refl) (ap (λ (o : TurnsOutcome). o .after) e)
-  where
-    count-is : (t : Bool) → done (turn chosen r .answer) ≡ t → n ≡ cond t 1 0
-    count-is t d = ap (λ (o : TurnsOutcome). o .count) e ∙ ap (λ (t : Bool). 0 + cond t 1 0) d ∙ zero-add (cond t 1 0)
-
-    go : (t : Bool) → done (turn chosen r .answer) ≡ t → a ≡ turn chosen r .answer
-    go true d = h ∙ ap (λ (n : ℕ). endingAt 1 n (turns chosen r n)) (count-is true d) ∙ sym (turn-zero r d)
-    go false d = h ∙ ap (λ (n : ℕ). endingAt 1 n (turns chosen r n)) (count-is false d)

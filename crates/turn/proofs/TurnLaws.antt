@@ -3,7 +3,7 @@ use mathlib.Core.Path.{_≡_, refl, sym, ap, ap₂, _∙_}
 use mathlib.Core.Bool.{Bool, true, false, cond}
 use mathlib.Core.Option.{Option, none, some}
 use Prim.Native.Nat.{ℕ, zero, suc, _+_, _-_, _≤_}
-use native.Mathlib.Nat.{add-zero}
+use native.Mathlib.Nat.{add-zero, add-assoc}
 use native.Mathlib.Numerals.{add-one}
 use native.Mathlib.Omega.{arith}
 use Rattle.machine.specs.declared.Answer.the-variants.{Done, BadArguments}
@@ -22,9 +22,10 @@ use Rattle.run.specs.declared.Run.{Run}
 use Rattle.run.specs.declared.Handed.{Handed}
 use Rattle.run.specs.Words.{Op}
 use Rattle.run.specs.Encoding.{own, handedFor}
-use Rattle.run.specs.Turn.{handsOut, moved, Running, running, turn, TurnOutcome, turnOutcome, TurnsOutcome, turns, afterTurns}
+use Rattle.run.specs.Turn.{soundRun, handsOut, moved, Running, running, turn, TurnOutcome, turnOutcome, TurnsOutcome, turns, afterTurns}
 use Rattle.run.proofs.HandedLaws.{turnWith}
 use Rattle.run.proofs.RefusalLaws.{turn-refused}
+use Rattle.run_places.proofs.RunPlaceLaws.{moved-sound}
 
 -- ---- one turn
 
@@ -39,6 +40,26 @@ turn-sound r s = go (handsOut chosen (r .run))
     go : (o : Option Op) → soundBench (turnWith chosen r o .after .bench) ≡ true
     go none = s
     go (some o) = let h : Handed = handedFor (r .run .plan) o in step-sound chosen chosen-grants (h .word) (own h) (r .bench) s
+
+-- and so does a run that a start can have made
+pub turn-run : (r : Running) → soundRun chosen (r .run) ≡ true → soundRun chosen (turn chosen r .after .run) ≡ true
+turn-run r ok = go (handsOut chosen (r .run))
+  where
+    either : (t : Bool) → soundRun chosen (cond t (moved chosen (r .run)) (r .run)) ≡ true
+    either true = moved-sound (r .run) ok
+    either false = ok
+
+    go : (o : Option Op) → soundRun chosen (turnWith chosen r o .after .run) ≡ true
+    go none = ok
+    go (some o) = let h : Handed = handedFor (r .run .plan) o in either (done (step (h .word) (own h) (r .bench) .answer))
+
+-- a turn that is refused, whose slices the code keeps beside the run and the machine as they were
+pub turn-kept : (r : Running) (t : TurnOutcome) → t ≡ turnOutcome chosen r → done (t .answer) ≡ false
+    → leaving (t .answer) (running (r .run) (benchOf (r .bench .machine) (t .after .bench .registers) (t .after .bench .marks) (t .after .bench .memory))) ≡ turnOutcome chosen r
+turn-kept r t h d =
+    let k : t .after ≡ r = ap (λ (o : TurnOutcome). o .after) h ∙ turn-refused chosen r (sym (ap (λ (o : TurnOutcome). done (o .answer)) h) ∙ d) in
+    ap (λ (x : Running). leaving (t .answer) (running (r .run) (benchOf (r .bench .machine) (x .bench .registers) (x .bench .marks) (x .bench .memory)))) k
+    ∙ ap (leaving (t .answer)) (sym k) ∙ h
 
 -- in a state at fault every turn is refused, whether or not a step is handed out
 pub turn-fault : (R : Run) (B : Bench) → soundBench B ≡ false → leaving (reply BadArguments) (running R B) ≡ turnOutcome chosen (running R B)
@@ -89,6 +110,19 @@ pub turns-more : (r s : Running) (n : ℕ) → taking n s ≡ turns chosen r n �
 turns-more r s n e t h d =
     ap₂ taking (ap (λ (b : Bool). n + cond b 1 0) (sym d ∙ ap (λ (o : TurnOutcome). done (o .answer)) h)) (ap (λ (o : TurnOutcome). o .after) h)
     ∙ ap further e ∙ ap (turns chosen r) (sym (add-one n))
+
+-- turns, and then more of them
+abbrev pub joined : TurnsOutcome → ℕ → TurnsOutcome
+joined t c = taking (t .count + turns chosen (t .after) c .count) (turns chosen (t .after) c .after)
+
+pub turns-join : (r : Running) (n c : ℕ) → turns chosen r (n + c) ≡ joined (turns chosen r n) c
+turns-join r n zero = ap (turns chosen r) (add-zero n) ∙ ap (λ (x : ℕ). taking x (turns chosen r n .after)) (sym (add-zero (turns chosen r n .count)))
+turns-join r n (suc c) =
+    let z : n + suc c ≡ suc (n + c) = omega arith in
+    let s = turns chosen r n in
+    let u = turns chosen (s .after) c in
+    ap (turns chosen r) z ∙ ap further (turns-join r n c)
+    ∙ ap (λ (x : ℕ). taking x (turn chosen (u .after) .after)) (add-assoc (s .count) (u .count) (cond (done (turn chosen (u .after) .answer)) 1 0))
 
 -- and one that is refused, whose slices the code keeps beside the run and the machine as they were
 pub turns-refused : (r s : Running) (n limit : ℕ) → n ≤ limit → taking n s ≡ turns chosen r n → (t : TurnOutcome) → t ≡ turnOutcome chosen s → done (t .answer) ≡ false

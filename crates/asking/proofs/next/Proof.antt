@@ -4,7 +4,6 @@ use borrow.Author.Tests.{not-true, not-false}
 use Rattle.machine.specs.declared.Answer.the-variants.{Done}
 use Rattle.machine.specs.Setting.{chosen}
 use Rattle.run.specs.Turn.{soundRun}
-use Rattle.run_places.proofs.RunPlaceLaws.{run-numbered}
 use Rattle.asking.proofs.AskingLaws.{giving, ask-unsound, ask-end, ask-done}
 use borrow.Author.Needs.{needs}
 use Rattle.asking.proofs.next.Statement.{statement}
@@ -40,24 +39,12 @@ returns-2 c =
 handed-at-requires : tie.Need-handed-at-requires
 handed-at-requires c κs = ok-1 (c .before .before)
 
-most-rows-requires : tie.Need-most-rows-requires
-most-rows-requires c κs = let o = c .before .before .before in run-numbered (o .before .before .args .run) (ok-1 o)
-
-most-columns-requires : tie.Need-most-columns-requires
-most-columns-requires c κs = let o = c .before .before .before .before in run-numbered (o .before .before .args .run) (ok-1 o)
-
-most-terms-requires : tie.Need-most-terms-requires
-most-terms-requires c κs = let o = c .before .before .before .before .before in run-numbered (o .before .before .args .run) (ok-1 o)
-
 moved-run-requires : tie.Need-moved-run-requires
-moved-run-requires c κs = (
-  ok-1 (c .before .before .before .before .before .before),
-  record { rows-are = c .before .before .most-rows .ensures; columns-are = c .before .most-columns .ensures; terms-are = c .most-terms .ensures },
-)
+moved-run-requires c κs = ok-1 (c .before .before .before)
 
 returns-3 : tie.Need-returns-3
 returns-3 c =
-    let h = c .before .before .before .before in
+    let h = c .before in
     let f = h .before in
     let e = f .before in
     let o = e .before in
@@ -75,8 +62,5 @@ next-spec =
     refused-requires-2
     returns-2
     handed-at-requires
-    most-rows-requires
-    most-columns-requires
-    most-terms-requires
     moved-run-requires
     returns-3)

@@ -1,13 +1,18 @@
 use mathlib.Core.Path.{ap, _∙_}
+use Prim.Native.Nat.{ℕ, _+_, _-_}
 use borrow.Author.Tests.{lt-ltb, le-ltb}
+use Rattle.machine.specs.Setting.{chosen}
 use Rattle.run.specs.Places.{headM}
-use Rattle.run_places.specs.Parts.{shapeBy}
+use Rattle.run.specs.Turn.{runShape}
 use borrow.Author.Needs.{needs}
 use Rattle.run_places.proofs.head_columns.Statement.{statement}
 use Rattle.run_places.proofs.head_columns.Tie as tie
 
 returns : tie.Need-returns
-returns c = let a = c .before .args in rw (lt-ltb (a .column) (a .n) (c .if1 .taken))
+returns c = let a = c .before .before .args in rw (lt-ltb (a .column) (a .run .plan .n) (c .if1 .taken))
+
+most-rows-requires : tie.Need-most-rows-requires
+most-rows-requires c κs = search needs
 
 block-end-requires : tie.Need-block-end-requires
 block-end-requires c κs = search needs
@@ -17,9 +22,13 @@ head-rows-requires c κs = search needs
 
 returns-2 : tie.Need-returns-2
 returns-2 c =
-    let e = c .before .before in
-    let a = e .before .args in
-    c .head-rows .ensures ∙ ap (headM (shapeBy (a .rule) (a .m) (a .k) (a .n) (a .rows) (a .columns) (a .terms))) (c .before .block-end .ensures) ∙ rw (le-ltb (a .column) (a .n) (e .if1 .left))
+    let b = c .before in
+    let r = b .before in
+    let a = r .before .before .before .args in
+    let R = a .run in
+    c .head-rows .ensures
+    ∙ ap (headM (runShape chosen R)) (b .block-end .ensures ∙ ap (λ (most : ℕ). a .row + chosen (R .rule) most (R .plan .m - a .row)) (r .most-rows .ensures))
+    ∙ rw (le-ltb (a .column) (R .plan .n) (r .before .if1 .left))
 
 pub head-columns-spec : {M : Type 1} → statement M
-head-columns-spec = tie.close (tie.spec returns block-end-requires head-rows-requires returns-2)
+head-columns-spec = tie.close (tie.spec returns most-rows-requires block-end-requires head-rows-requires returns-2)

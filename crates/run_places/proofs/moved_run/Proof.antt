@@ -3,11 +3,11 @@ use Rattle.run_places.specs.Parts.{atPlace}
 use Rattle.run_places.proofs.moved_run.Statement.{statement}
 use Rattle.run_places.proofs.moved_run.Tie as tie
 
-place-after-requires : tie.Need-place-after-requires
-place-after-requires c κs = c .before .pre
+next-place-requires : tie.Need-next-place-requires
+next-place-requires c κs = c .before .pre
 
 returns : tie.Need-returns
-returns c = ap (atPlace (c .before .before .args .run)) (c .place-after .ensures)
+returns c = ap (atPlace (c .before .before .args .run)) (c .next-place .ensures)
 
 pub moved-run-spec : {M : Type 1} → statement M
-moved-run-spec = tie.close (tie.spec place-after-requires returns)
+moved-run-spec = tie.close (tie.spec next-place-requires returns)

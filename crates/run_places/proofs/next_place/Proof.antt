@@ -1,9 +1,24 @@
-use mathlib.Core.Path.{sym, ap, _∙_, subst}
+use mathlib.Core.Path.{_≡_, sym, ap, _∙_, subst}
+use mathlib.Core.Bool.{true}
+use Prim.Native.Nat.{ℕ, _+_, _-_}
+use Rattle.machine.specs.Setting.{chosen}
+use Rattle.run.specs.declared.Place.{Place}
 use Rattle.run.specs.Places.{headN, headK, next}
-use Rattle.run_places.specs.Parts.{shapeBy, Within}
+use Rattle.run.specs.Turn.{runShape}
+use Rattle.plan_numbers.specs.Parts.{placed}
+use Rattle.plan_numbers.proofs.PlanLaws.{at-m, at-store, at-multiply}
+use Rattle.run_places.proofs.RunPlaceLaws.{run-numbered, run-placed}
 use borrow.Author.Needs.{needs}
 use Rattle.run_places.proofs.next_place.Statement.{statement}
 use Rattle.run_places.proofs.next_place.Tie as tie
+
+-- the place that the match has found lies in the matrices
+lies : (s : tie.Start) {q : Place} → s .args .run .place ≡ q → placed (s .args .run .plan) q ≡ true
+lies s e = subst (λ (q : Place). placed (s .args .run .plan) q ≡ true) e (run-placed (s .args .run) (s .pre))
+
+-- and what follows it follows the run's
+after : (s : tie.Start) {q : Place} → s .args .run .place ≡ q → next (runShape chosen (s .args .run)) q ≡ next (runShape chosen (s .args .run)) (s .args .run .place)
+after s e = ap (next (runShape chosen (s .args .run))) (sym e)
 
 enum-told : tie.Need-enum-told
 enum-told c = search needs
@@ -15,7 +30,8 @@ enum-known-place : tie.Need-enum-known-place
 enum-known-place c = search needs
 
 head-columns-requires : tie.Need-head-columns-requires
-head-columns-requires c κs = let s = c .before .before .before in subst (Within (s .args .m) (s .args .k) (s .args .n)) (c .before .place .given .1) (s .pre)
+head-columns-requires c κs = let s = c .before .before .before in
+    (run-numbered (s .args .run) (s .pre), at-m (s .args .run .plan) _ (lies s (c .before .place .given .1)))
 
 enum-known-place-2 : tie.Need-enum-known-place-2
 enum-known-place-2 c = search needs
@@ -38,8 +54,11 @@ enum-known-place-6 c = search needs
 enum-known-place-7 : tie.Need-enum-known-place-7
 enum-known-place-7 c = search needs
 
+most-terms-requires : tie.Need-most-terms-requires
+most-terms-requires c κs = let s = c .before .before .before in run-numbered (s .args .run) (s .pre)
+
 block-end-requires : tie.Need-block-end-requires
-block-end-requires c κs = let s = c .before .before .before in subst (Within (s .args .m) (s .args .k) (s .args .n)) (c .before .place7 .given .1) (s .pre)
+block-end-requires c κs = let s = c .before .before .before .before in at-multiply (s .args .run .plan) _ _ _ (lies s (c .before .before .place7 .given .1)) .1 .1
 
 head-terms-requires-2 : tie.Need-head-terms-requires-2
 head-terms-requires-2 c κs = search needs
@@ -47,74 +66,65 @@ head-terms-requires-2 c κs = search needs
 enum-known-place-8 : tie.Need-enum-known-place-8
 enum-known-place-8 c = search needs
 
+most-columns-requires : tie.Need-most-columns-requires
+most-columns-requires c κs = let s = c .before .before .before in run-numbered (s .args .run) (s .pre)
+
 block-end-requires-2 : tie.Need-block-end-requires-2
-block-end-requires-2 c κs = let s = c .before .before .before in subst (Within (s .args .m) (s .args .k) (s .args .n)) (c .before .place8 .given .1) (s .pre) .1
+block-end-requires-2 c κs = let s = c .before .before .before .before in at-store (s .args .run .plan) _ _ (lies s (c .before .before .place8 .given .1)) .1
 
 head-columns-requires-2 : tie.Need-head-columns-requires-2
-head-columns-requires-2 c κs = let s = c .before .before .before .before in subst (Within (s .args .m) (s .args .k) (s .args .n)) (c .before .before .place8 .given .1) (s .pre) .0
+head-columns-requires-2 c κs =
+    let s = c .before .before .before .before .before in
+    (run-numbered (s .args .run) (s .pre), at-store (s .args .run .plan) _ _ (lies s (c .before .before .before .place8 .given .1)) .0)
 
 enum-told-2 : tie.Need-enum-told-2
 enum-told-2 c = search needs
 
 returns : tie.Need-returns
-returns c =
-    let s = c .before .before .before in
-    c .head-rows .ensures ∙ ap (next (shapeBy (s .args .rule) (s .args .m) (s .args .k) (s .args .n) (s .args .rows) (s .args .columns) (s .args .terms))) (sym (c .before .enum-told .given .1))
+returns c = c .head-rows .ensures ∙ after (c .before .before .before) (c .before .enum-told .given .1)
 
 returns-2 : tie.Need-returns-2
-returns-2 c =
-    let p = c .before .before in
-    let s = p .before .before in
-    c .head-columns .ensures ∙ ap (next (shapeBy (s .args .rule) (s .args .m) (s .args .k) (s .args .n) (s .args .rows) (s .args .columns) (s .args .terms))) (sym (p .place .given .1))
+returns-2 c = c .head-columns .ensures ∙ after (c .before .before .before .before) (c .before .before .place .given .1)
 
 returns-3 : tie.Need-returns-3
-returns-3 c =
-    let p = c .before in
-    let s = p .before .before in
-    ap (next (shapeBy (s .args .rule) (s .args .m) (s .args .k) (s .args .n) (s .args .rows) (s .args .columns) (s .args .terms))) (sym (p .place2 .given .1))
+returns-3 c = after (c .before .before .before) (c .before .place2 .given .1)
 
 returns-4 : tie.Need-returns-4
-returns-4 c =
-    let p = c .before .before in
-    let s = p .before .before in
-    c .head-terms .ensures ∙ ap (next (shapeBy (s .args .rule) (s .args .m) (s .args .k) (s .args .n) (s .args .rows) (s .args .columns) (s .args .terms))) (sym (p .place3 .given .1))
+returns-4 c = c .head-terms .ensures ∙ after (c .before .before .before .before) (c .before .before .place3 .given .1)
 
 returns-5 : tie.Need-returns-5
-returns-5 c =
-    let p = c .before in
-    let s = p .before .before in
-    ap (next (shapeBy (s .args .rule) (s .args .m) (s .args .k) (s .args .n) (s .args .rows) (s .args .columns) (s .args .terms))) (sym (p .place4 .given .1))
+returns-5 c = after (c .before .before .before) (c .before .place4 .given .1)
 
 returns-6 : tie.Need-returns-6
-returns-6 c =
-    let p = c .before in
-    let s = p .before .before in
-    ap (next (shapeBy (s .args .rule) (s .args .m) (s .args .k) (s .args .n) (s .args .rows) (s .args .columns) (s .args .terms))) (sym (p .place5 .given .1))
+returns-6 c = after (c .before .before .before) (c .before .place5 .given .1)
 
 returns-7 : tie.Need-returns-7
-returns-7 c =
-    let p = c .before in
-    let s = p .before .before in
-    ap (next (shapeBy (s .args .rule) (s .args .m) (s .args .k) (s .args .n) (s .args .rows) (s .args .columns) (s .args .terms))) (sym (p .place6 .given .1))
+returns-7 c = after (c .before .before .before) (c .before .place6 .given .1)
 
 returns-8 : tie.Need-returns-8
 returns-8 c =
-    let p = c .before .before .before in
+    let t = c .before .before in
+    let p = t .before .before in
     let s = p .before .before in
-    c .head-terms2 .ensures ∙ ap (headK (shapeBy (s .args .rule) (s .args .m) (s .args .k) (s .args .n) (s .args .rows) (s .args .columns) (s .args .terms)) (p .place7 .given .0 .0) (p .place7 .given .0 .1 .0)) (c .before .block-end .ensures)
-    ∙ ap (next (shapeBy (s .args .rule) (s .args .m) (s .args .k) (s .args .n) (s .args .rows) (s .args .columns) (s .args .terms))) (sym (p .place7 .given .1))
+    let R = s .args .run in
+    let g = p .place7 .given in
+    c .head-terms2 .ensures
+    ∙ ap (headK (runShape chosen R) (g .0 .0) (g .0 .1 .0)) (c .before .block-end .ensures ∙ ap (λ (most : ℕ). g .0 .1 .1 .0 + chosen (R .rule) most (R .plan .k - g .0 .1 .1 .0)) (t .most-terms .ensures))
+    ∙ after s (g .1)
 
 returns-9 : tie.Need-returns-9
 returns-9 c =
-    let p = c .before .before .before in
+    let t = c .before .before in
+    let p = t .before .before in
     let s = p .before .before in
-    c .head-columns2 .ensures ∙ ap (headN (shapeBy (s .args .rule) (s .args .m) (s .args .k) (s .args .n) (s .args .rows) (s .args .columns) (s .args .terms)) (p .place8 .given .0 .0)) (c .before .block-end2 .ensures)
-    ∙ ap (next (shapeBy (s .args .rule) (s .args .m) (s .args .k) (s .args .n) (s .args .rows) (s .args .columns) (s .args .terms))) (sym (p .place8 .given .1))
+    let R = s .args .run in
+    let g = p .place8 .given in
+    c .head-columns2 .ensures
+    ∙ ap (headN (runShape chosen R) (g .0 .0)) (c .before .block-end2 .ensures ∙ ap (λ (most : ℕ). g .0 .1 .0 + chosen (R .rule) most (R .plan .n - g .0 .1 .0)) (t .most-columns .ensures))
+    ∙ after s (g .1)
 
 returns-10 : tie.Need-returns-10
-returns-10 c =
-    let s = c .before .before in
-    ap (next (shapeBy (s .args .rule) (s .args .m) (s .args .k) (s .args .n) (s .args .rows) (s .args .columns) (s .args .terms))) (sym (c .enum-told2 .given .1))
+returns-10 c = after (c .before .before) (c .enum-told2 .given .1)
 
 pub next-place-spec : {M : Type 1} → statement M
 next-place-spec =
@@ -131,9 +141,11 @@ next-place-spec =
     enum-known-place-5
     enum-known-place-6
     enum-known-place-7
+    most-terms-requires
     block-end-requires
     head-terms-requires-2
     enum-known-place-8
+    most-columns-requires
     block-end-requires-2
     head-columns-requires-2
     enum-told-2

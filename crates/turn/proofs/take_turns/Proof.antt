@@ -1,83 +1,39 @@
 use mathlib.Core.Path.{_≡_, refl, sym, ap, _∙_}
 use mathlib.Core.Bool.{true, false}
-use Prim.Native.Nat.{_-_, _≤_}
+use Prim.Native.Nat.{_+_, _-_, _≤_}
 use native.Mathlib.Omega.{arith}
-use borrow.Author.Tests.{not-true, not-false, eq-eqb, ne-eqb}
-use borrow.Author.Needs.{needs}
+use borrow.Author.Tests.{not-true, not-false}
 use lib.ListN.{length}
 use Rattle.machine.specs.Answers.{isDone}
 use Rattle.machine.specs.Geometry.{benchOf}
 use Rattle.machine.specs.Setting.{chosen}
-use Rattle.machine.specs.Faults.{sound, soundBench}
-use Rattle.run_places.specs.Parts.{Most, atPlace}
-use Rattle.run.specs.Turn.{TurnOutcome, TurnsOutcome, running, turn, turns, soundRun}
-use Rattle.run_places.proofs.RunPlaceLaws.{run-numbered, moved-sound}
-use Rattle.carrying.proofs.CarriedLaws.{numbers-joined}
-use Rattle.turn.proofs.TurnLaws.{taking, turns-refused, turn-sound}
-use Rattle.turn.proofs.ProgressLaws.{moved-place, at-end, turn-carried, turns-carried, turn-unsound, turns-unsound, ends-done, ends-refused}
-use Rattle.settings.proofs.FaultLaws.{sound-numbers}
+use Rattle.run.specs.declared.Run.{Run}
+use Rattle.run.specs.Turn.{soundRun, running, turns}
+use Rattle.run_places.specs.Parts.{atPlace}
+use Rattle.turn.specs.Parts.{Taking}
+use Rattle.turn.proofs.TurnLaws.{turns-refused}
+use Rattle.turn.proofs.ProgressLaws.{none-taken, turn-taken, more-taken, taken-as, at-end}
+use borrow.Author.Needs.{needs}
 use Rattle.turn.proofs.take_turns.Statement.{statement}
 use Rattle.turn.proofs.take_turns.Tie as tie
 
 -- every turn so far was answered 0, and neither the state nor the run is at fault
 abbrev Inv-loop : tie.InvT-loop
-Inv-loop limit run registers₀ marks₀ memory₀ place₀ rows columns terms count₀ machine₀ registers marks memory place count machine =
-    (count ≤ limit) × (sound machine registers marks ≡ true) × (soundRun chosen (atPlace run place) ≡ true) × (Most run rows columns terms)
-    × (taking count (running (atPlace run place) (benchOf machine registers marks memory)) ≡ turns chosen (running (atPlace run place₀) (benchOf machine₀ registers₀ marks₀ memory₀)) count)
+Inv-loop limit run registers₀ marks₀ memory₀ place₀ machine₀ count₀ registers marks memory place machine count =
+    (count ≤ limit) × (Taking (running (atPlace run place₀) (benchOf machine₀ registers₀ marks₀ memory₀)) count (atPlace run place) (benchOf machine registers marks memory))
     × (length registers ≡ length registers₀) × (length marks ≡ length marks₀) × (length memory ≡ length memory₀)
 
 abbrev μ-loop : tie.MeasureT-loop
-μ-loop limit run registers₀ marks₀ memory₀ place₀ rows columns terms count₀ machine₀ registers marks memory place count machine = limit - count
-
-is-sound-run-requires : tie.Need-is-sound-run-requires Inv-loop μ-loop
-is-sound-run-requires c κs = search needs
-
-returns : tie.Need-returns Inv-loop μ-loop
-returns c =
-    let d = c .before in
-    let a = c .before .before .before .before .before .args in
-    let B = benchOf (a .m) (a .registers .now) (a .marks .now) (a .memory .now) in
-    let f : soundRun chosen (a .run) ≡ false = sym (d .is-sound-run .ensures) ∙ not-true (d .is-sound-run .result) (c .if1 .taken) in (
-      turns-unsound (a .run) B (a .limit) f,
-      λ p. ends-refused (a .limit) 0 (turns chosen (running (a .run) B) 0) _ (ne-eqb 0 (a .limit) (λ e. omega (arith, p))) (ap (λ (o : TurnOutcome). o .answer) (turn-unsound (a .run) B f)),
-    )
-
-most-rows-requires : tie.Need-most-rows-requires Inv-loop μ-loop
-most-rows-requires c κs =
-    let f = c in
-    run-numbered (c .before .before .before .before .before .args .run) (sym (f .before .is-sound-run .ensures) ∙ not-false (f .before .is-sound-run .result) (f .if1 .left))
-
-most-columns-requires : tie.Need-most-columns-requires Inv-loop μ-loop
-most-columns-requires c κs =
-    let f = c .before in
-    run-numbered (c .before .before .before .before .before .before .args .run) (sym (f .before .is-sound-run .ensures) ∙ not-false (f .before .is-sound-run .result) (f .if1 .left))
-
-most-terms-requires : tie.Need-most-terms-requires Inv-loop μ-loop
-most-terms-requires c κs =
-    let f = c .before .before in
-    run-numbered (c .before .before .before .before .before .before .before .args .run) (sym (f .before .is-sound-run .ensures) ∙ not-false (f .before .is-sound-run .result) (f .if1 .left))
+μ-loop limit run registers₀ marks₀ memory₀ place₀ machine₀ count₀ registers marks memory place machine count = limit - count
 
 loop-holds : tie.Need-loop-holds Inv-loop μ-loop
-loop-holds c =
-    let f = c .before .before .before in (
-      omega arith,
-      c .before .before .before .before .before .before .before .before .pre,
-      sym (f .before .is-sound-run .ensures) ∙ not-false (f .before .is-sound-run .result) (f .if1 .left),
-      record { rows-are = c .before .before .most-rows .ensures; columns-are = c .before .most-columns .ensures; terms-are = c .most-terms .ensures },
-      refl,
-      refl,
-      refl,
-      refl,
-    )
+loop-holds c = let s = c .before .before .before in (omega arith, none-taken _ _ (s .pre .1) (s .pre .0), refl, refl, refl)
 
 at-place-requires : tie.Need-at-place-requires Inv-loop μ-loop
 at-place-requires c κs = search needs
 
-carry-out-requires : tie.Need-carry-out-requires Inv-loop μ-loop
-carry-out-requires c κs =
-    let u = c .before .before .before .at-place in
-    let l = c .before .before .before .before .before .loop in
-    (l .inv .1, ap (soundRun chosen) (u .ensures) ∙ l .inv .2)
+take-turn-requires : tie.Need-take-turn-requires Inv-loop μ-loop
+take-turn-requires c κs = let l = c .before .before .before .before .before .loop in (l .inv .1 .bench-sound, ap (soundRun chosen) (c .before .before .before .at-place .ensures) ∙ l .inv .1 .run-sound)
 
 is-done-requires : tie.Need-is-done-requires Inv-loop μ-loop
 is-done-requires c κs = search needs
@@ -91,85 +47,68 @@ same-length-2 c = search needs
 same-length-3 : tie.Need-same-length-3 Inv-loop μ-loop
 same-length-3 c = search needs
 
-returns-2 : tie.Need-returns-2 Inv-loop μ-loop
-returns-2 c =
-    let d = c .before in
-    let w = c .before .before .before .before .before .before .before .before .carry-out in
+returns : tie.Need-returns Inv-loop μ-loop
+returns c =
+    let w = c .before .before .before .before .before .before .before .before .take-turn in
     let u = c .before .before .before .before .before .before .before .before .before .before .before .before .at-place in
     let l = c .before .before .before .before .before .before .before .before .before .before .before .before .before .before .loop in
-    let a = c .before .before .before .before .before .before .before .before .before .before .before .before .before .before .before .before .before .before .before .before .before .before .before .args in
-    let r = (running (a .run) (benchOf (a .m) (a .registers .now) (a .marks .now) (a .memory .now))) in
+    let a = c .before .before .before .before .before .before .before .before .before .before .before .before .before .before .before .before .before .before .args in
+    let r = running (a .run) (benchOf (a .m) (a .registers .now) (a .marks .now) (a .memory .now)) in
     let B = benchOf (l .machine) (l .registers) (l .marks) (l .memory) in
-    let no : isDone (w .result) ≡ false = sym (d .is-done .ensures) ∙ not-true (d .is-done .result) (c .if2 .taken) in
-    let q = at-end (l .count) (u .result) (atPlace (a .run) (l .place)) B (turns chosen r (l .count)) (u .ensures) (l .inv .4) in
-    let h = turn-carried (u .result) B (ap (soundRun chosen) (u .ensures) ∙ l .inv .2) _ (w .ensures) false no in (
-      at-end (l .count) _ _ _ (turns chosen r (a .limit)) (sym (u .ensures)) (turns-refused r (running (u .result) B) (l .count) (a .limit) (l .inv .0) q _ h no),
-      λ p. ends-refused (a .limit) (l .count) (turns chosen r (l .count)) _ (ne-eqb (l .count) (a .limit) (λ e. omega (arith, c .before .before .before .before .before .before .before .before .before .before .before .before .before .loop-test .taken)))
-          (ap (λ (o : TurnOutcome). o .answer) h ∙ ap (λ (o : TurnsOutcome). turn chosen (o .after) .answer) q),
-    )
+    let no : isDone (w .result .answer) ≡ false = sym (c .before .is-done .ensures) ∙ not-true (c .before .is-done .result) (c .if1 .taken) in
+    let q = at-end (l .count) (u .result) (atPlace (a .run) (l .place)) B (turns chosen r (l .count)) (u .ensures) (l .inv .1 .taken) in
+    at-end (l .count) _ _ _ (turns chosen r (a .limit)) (sym (u .ensures)) (turns-refused r (running (u .result) B) (l .count) (a .limit) (l .inv .0) q _ (w .ensures) no)
 
-machine-after-requires : tie.Need-machine-after-requires Inv-loop μ-loop
-machine-after-requires c κs =
+-- a turn more was answered 0
+taken : (c : tie.Else1 Inv-loop μ-loop) → let w = c .before .before .before .before .before .before .before .before .take-turn in let l = c .before .before .before .before .before .before .before .before .before .before .before .before .before .before .loop in let a = c .before .before .before .before .before .before .before .before .before .before .before .before .before .before .before .before .before .before .args in
+    Taking (running (a .run) (benchOf (a .m) (a .registers .now) (a .marks .now) (a .memory .now))) (l .count + 1)
+    (atPlace (a .run) (w .result .place)) (benchOf (w .result .machine) (w .last .1 .1 .0) (w .last .1 .1 .1 .0) (w .last .1 .1 .1 .1 .0))
+taken c =
+    let w = c .before .before .before .before .before .before .before .before .take-turn in
     let u = c .before .before .before .before .before .before .before .before .before .before .before .before .at-place in
     let l = c .before .before .before .before .before .before .before .before .before .before .before .before .before .before .loop in
-    (sound-numbers (l .machine) (l .registers) (l .marks) (l .inv .1), ap (soundRun chosen) (u .ensures) ∙ l .inv .2)
-
-place-after-requires : tie.Need-place-after-requires Inv-loop μ-loop
-place-after-requires c κs =
-    let l = c .before .before .before .before .before .before .before .before .before .before .before .before .before .before .before .loop in
-    (l .inv .2, l .inv .3)
+    let yes : isDone (w .result .answer) ≡ true = sym (c .before .is-done .ensures) ∙ not-false (c .before .is-done .result) (c .if1 .left) in
+    taken-as refl (ap (λ (U : Run). atPlace U (w .result .place)) (u .ensures)) refl (turn-taken (taken-as refl (sym (u .ensures)) refl (l .inv .1)) _ _ _ (w .ensures) yes)
 
 add-count : tie.Need-add-count Inv-loop μ-loop
-add-count c = omega (arith, c .before .before .before .before .before .before .before .before .before .before .before .before .before .before .before .loop-test .taken, c .before .before .before .before .before .before .before .before .before .before .before .before .before .before .before .before .before .before .before .before .before .before .before .before .before .fits .limit)
+add-count c = omega (arith, c .before .before .before .before .before .before .before .before .before .before .before .before .before .loop-test .taken, c .before .before .before .before .before .before .before .before .before .before .before .before .before .before .before .before .before .before .fits .limit)
+
+sub-sums-from : tie.Need-sub-sums-from Inv-loop μ-loop
+sub-sums-from c = omega (arith, c .before .before .before .before .before .before .before .before .before .before .before .before .before .before .loop-test .taken)
+
+sums-from-requires : tie.Need-sums-from-requires Inv-loop μ-loop
+sums-from-requires c κs = let t = taken (c .before .before .before .before) in (t .bench-sound, t .run-sound)
+
+add-count-2 : tie.Need-add-count-2 Inv-loop μ-loop
+add-count-2 c = omega (arith, c .before .before .before .before .before .before .before .before .before .before .before .before .before .before .before .before .before .before .before .before .before .before .before .before .loop-test .taken, c .before .before .before .before .before .before .sums-from .ensures .1, c .before .before .before .before .before .before .before .before .before .before .before .before .before .before .before .before .before .before .before .before .before .before .before .before .before .before .before .before .before .fits .limit)
 
 loop-less : tie.Need-loop-less Inv-loop μ-loop
-loop-less c = omega (arith, c .before .before .before .before .before .before .before .before .before .before .before .before .before .before .before .loop-test .taken)
+loop-less c = omega (arith, c .before .before .before .before .before .before .before .before .before .before .before .before .before .before .before .before .before .before .before .before .before .before .before .before .loop-test .taken, c .before .before .before .before .before .before .sums-from .ensures .1)
 
 loop-again : tie.Need-loop-again Inv-loop μ-loop
-loop-again c =
-    let n = c .before .machine-after .ensures in
-    let e = c .before .before in
-    let d = e .before in
-    let w = c .before .before .before .before .before .before .before .before .before .before .carry-out in
-    let u = c .before .before .before .before .before .before .before .before .before .before .before .before .before .before .at-place in
-    let l = c .before .before .before .before .before .before .before .before .before .before .before .before .before .before .before .before .loop in
-    let a = c .before .before .before .before .before .before .before .before .before .before .before .before .before .before .before .before .before .before .before .before .before .before .before .before .before .args in
-    let B = benchOf (l .machine) (l .registers) (l .marks) (l .memory) in
-    let r = (running (a .run) (benchOf (a .m) (a .registers .now) (a .marks .now) (a .memory .now))) in
-    let yes : isDone (w .result) ≡ true = sym (d .is-done .ensures) ∙ not-false (d .is-done .result) (e .if2 .left) in
-    let so : soundRun chosen (u .result) ≡ true = ap (soundRun chosen) (u .ensures) ∙ l .inv .2 in
-    let k = moved-place (a .run) (u .result) (l .place) (c .place-after .result) (u .ensures) (c .place-after .ensures) in
-    let j = numbers-joined _ _ _ _ _ _ (n (l .registers) (l .marks) (l .memory) (l .inv .1)) (w .ensures) in
-    let q = at-end (l .count) (u .result) (atPlace (a .run) (l .place)) B (turns chosen r (l .count)) (u .ensures) (l .inv .4) in
-    let h = turn-carried (u .result) B so _ j true yes in (
-      omega (arith, c .before .before .before .before .before .before .before .before .before .before .before .before .before .before .before .loop-test .taken),
-      ap (λ (o : TurnOutcome). soundBench (o .after .bench)) h ∙ turn-sound (running (u .result) B) (l .inv .1),
-      ap (soundRun chosen) k ∙ moved-sound (u .result) so,
-      l .inv .3,
-      turns-carried r (u .result) B (l .count) q so _ j yes _ k,
-      search needs,
-      search needs,
-      search needs,
-    )
+loop-again c = (
+  omega (arith, c .before .before .before .before .before .before .before .before .before .before .before .before .before .before .before .before .before .before .before .before .before .before .before .before .loop-test .taken, c .before .before .before .before .before .before .sums-from .ensures .1),
+  more-taken (taken (c .before .before .before .before .before .before .before .before .before .before .before)) (c .before .before .before .before .before .before .sums-from .ensures .0),
+  c .before .before .before .before .before .registers2 .given ∙ c .before .before .before .before .before .before .before .before .before .before .before .before .before .before .before .before .before .before .registers .given ∙ c .before .before .before .before .before .before .before .before .before .before .before .before .before .before .before .before .before .before .before .before .before .before .before .before .before .loop .inv .2,
+  c .before .before .before .marks2 .given ∙ c .before .before .before .before .before .before .before .before .before .before .before .before .before .before .before .before .marks .given ∙ c .before .before .before .before .before .before .before .before .before .before .before .before .before .before .before .before .before .before .before .before .before .before .before .before .before .loop .inv .3,
+  c .before .before .before .before .before .before .before .before .before .before .before .before .before .before .memory .given ∙ c .before .before .before .before .before .before .before .before .before .before .before .before .before .before .before .before .before .before .before .before .before .before .before .before .before .loop .inv .4,
+)
 
 same-length-4 : tie.Need-same-length-4 Inv-loop μ-loop
-same-length-4 c = c .before .loop .inv .5
+same-length-4 c = c .before .loop .inv .2
 
 same-length-5 : tie.Need-same-length-5 Inv-loop μ-loop
-same-length-5 c = c .before .loop .inv .6
+same-length-5 c = c .before .loop .inv .3
 
 same-length-6 : tie.Need-same-length-6 Inv-loop μ-loop
-same-length-6 c = c .before .loop .inv .7
+same-length-6 c = c .before .loop .inv .4
 
-returns-3 : tie.Need-returns-3 Inv-loop μ-loop
-returns-3 c =
+returns-2 : tie.Need-returns-2 Inv-loop μ-loop
+returns-2 c =
     let l = c .before .loop in
-    let a = c .before .before .before .before .before .before .before .before .before .before .args in
-    let r = (running (a .run) (benchOf (a .m) (a .registers .now) (a .marks .now) (a .memory .now))) in
-    let n : l .count ≡ a .limit = omega arith in (
-      l .inv .4 ∙ ap (turns chosen r) n,
-      λ p. ends-done (a .limit) (l .count) (turns chosen r (l .count)) (eq-eqb (l .count) (a .limit) n),
-    )
+    let a = c .before .before .before .before .before .args in
+    let n : l .count ≡ a .limit = omega (arith, l .inv .0, c .loop-test .left) in
+    l .inv .1 .taken ∙ ap (turns chosen (running (a .run) (benchOf (a .m) (a .registers .now) (a .marks .now) (a .memory .now)))) n
 
 pub take-turns-spec : {M : Type 1} → statement M
 take-turns-spec =
@@ -177,25 +116,21 @@ take-turns-spec =
     (tie.spec
     Inv-loop
     μ-loop
-    is-sound-run-requires
-    returns
-    most-rows-requires
-    most-columns-requires
-    most-terms-requires
     loop-holds
     at-place-requires
-    carry-out-requires
+    take-turn-requires
     is-done-requires
     same-length
     same-length-2
     same-length-3
-    returns-2
-    machine-after-requires
-    place-after-requires
+    returns
     add-count
+    sub-sums-from
+    sums-from-requires
+    add-count-2
     loop-less
     loop-again
     same-length-4
     same-length-5
     same-length-6
-    returns-3)
+    returns-2)

@@ -1,12 +1,8 @@
 use mathlib.Core.Path.{sym, _∙_}
 use borrow.Author.Tests.{not-true, not-false}
 use Rattle.machine.specs.Geometry.{benchOf}
-use native.Mathlib.Omega.{arith}
-use Rattle.machine.specs.Answers.{reply}
-use Rattle.machine.specs.Setting.{chosen}
-use Rattle.run.specs.Turn.{running, turns}
 use Rattle.turn.proofs.TurnLaws.{turn-fault}
-use Rattle.turn.proofs.ProgressLaws.{at-end, one-turn}
+use Rattle.turn.proofs.ProgressLaws.{turn-unsound, turn-at}
 use borrow.Author.Needs.{needs}
 use Rattle.turn.proofs.turn.Statement.{statement}
 use Rattle.turn.proofs.turn.Tie as tie
@@ -23,17 +19,11 @@ same-length-2 c = search needs
 returns : tie.Need-returns
 returns c =
     let d = c .before in
-    let a = d .before .before .before .before .before .before .args in
-    turn-fault (a .run) (benchOf (a .m) (a .registers .now) (a .marks .now) (a .memory .now))
-    (sym (d .is-sound .ensures) ∙ not-true (d .is-sound .result) (c .if1 .taken))
+    let a = c .before .before .before .before .before .before .before .args in
+    turn-fault (a .run) (benchOf (a .m) (a .registers .now) (a .marks .now) (a .memory .now)) (sym (d .is-sound .ensures) ∙ not-true (d .is-sound .result) (c .if1 .taken))
 
-take-turns-requires : tie.Need-take-turns-requires
-take-turns-requires c κs =
-    let e = c .before .before .before in
-    sym (e .before .is-sound .ensures) ∙ not-false (e .before .is-sound .result) (e .if1 .left)
-
-at-place-requires : tie.Need-at-place-requires
-at-place-requires c κs = search needs
+is-sound-run-requires : tie.Need-is-sound-run-requires
+is-sound-run-requires c κs = search needs
 
 same-length-3 : tie.Need-same-length-3
 same-length-3 c = search needs
@@ -41,16 +31,32 @@ same-length-3 c = search needs
 same-length-4 : tie.Need-same-length-4
 same-length-4 c = search needs
 
+returns-2 : tie.Need-returns-2
+returns-2 c =
+    let d = c .before in
+    let a = c .before .before .before .before .before .before .before .before .before .args in
+    turn-unsound (a .run) (benchOf (a .m) (a .registers .now) (a .marks .now) (a .memory .now)) (sym (d .is-sound-run .ensures) ∙ not-true (d .is-sound-run .result) (c .if2 .taken))
+
+take-turn-requires : tie.Need-take-turn-requires
+take-turn-requires c κs =
+    let f = c .before .before .before in
+    let e = f .before .before in
+    (sym (e .before .is-sound .ensures) ∙ not-false (e .before .is-sound .result) (e .if1 .left), sym (f .before .is-sound-run .ensures) ∙ not-false (f .before .is-sound-run .result) (f .if2 .left))
+
+at-place-requires : tie.Need-at-place-requires
+at-place-requires c κs = search needs
+
 same-length-5 : tie.Need-same-length-5
 same-length-5 c = search needs
 
-returns-2 : tie.Need-returns-2
-returns-2 c =
-    let u = c .before .at-place in
-    let w = c .before .before .before .before .before .before .before .before .take-turns in
-    let a = c .before .before .before .before .before .before .before .before .before .before .before .before .before .before .before .before .before .before .before .args in
-    let r = running (a .run) (benchOf (a .m) (a .registers .now) (a .marks .now) (a .memory .now)) in
-    one-turn r (w .result .count) (reply (w .result .answer)) _ (at-end (w .result .count) _ _ _ (turns chosen r 1) (u .ensures) (w .ensures .0)) (w .ensures .1 (omega arith))
+same-length-6 : tie.Need-same-length-6
+same-length-6 c = search needs
+
+same-length-7 : tie.Need-same-length-7
+same-length-7 c = search needs
+
+returns-3 : tie.Need-returns-3
+returns-3 c = turn-at _ _ _ _ _ (c .before .at-place .ensures) (c .before .before .before .before .before .before .before .before .take-turn .ensures)
 
 pub turn-spec : {M : Type 1} → statement M
 turn-spec =
@@ -60,9 +66,13 @@ turn-spec =
     same-length
     same-length-2
     returns
-    take-turns-requires
-    at-place-requires
+    is-sound-run-requires
     same-length-3
     same-length-4
+    returns-2
+    take-turn-requires
+    at-place-requires
     same-length-5
-    returns-2)
+    same-length-6
+    same-length-7
+    returns-3)

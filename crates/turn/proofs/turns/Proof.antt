@@ -1,10 +1,8 @@
 use mathlib.Core.Path.{sym, _∙_}
 use borrow.Author.Tests.{not-true, not-false}
 use Rattle.machine.specs.Geometry.{benchOf}
-use Rattle.machine.specs.Setting.{chosen}
-use Rattle.run.specs.Turn.{running, turns}
 use Rattle.turn.proofs.TurnLaws.{turns-fault}
-use Rattle.turn.proofs.ProgressLaws.{at-end}
+use Rattle.turn.proofs.ProgressLaws.{turns-unsound, at-end}
 use borrow.Author.Needs.{needs}
 use Rattle.turn.proofs.turns.Statement.{statement}
 use Rattle.turn.proofs.turns.Tie as tie
@@ -21,17 +19,11 @@ same-length-2 c = search needs
 returns : tie.Need-returns
 returns c =
     let d = c .before in
-    let a = d .before .before .before .before .before .before .args in
-    turns-fault (a .run) (benchOf (a .m) (a .registers .now) (a .marks .now) (a .memory .now)) (a .limit)
-    (sym (d .is-sound .ensures) ∙ not-true (d .is-sound .result) (c .if1 .taken))
+    let a = c .before .before .before .before .before .before .before .args in
+    turns-fault (a .run) (benchOf (a .m) (a .registers .now) (a .marks .now) (a .memory .now)) (a .limit) (sym (d .is-sound .ensures) ∙ not-true (d .is-sound .result) (c .if1 .taken))
 
-take-turns-requires : tie.Need-take-turns-requires
-take-turns-requires c κs =
-    let e = c .before .before .before in
-    sym (e .before .is-sound .ensures) ∙ not-false (e .before .is-sound .result) (e .if1 .left)
-
-at-place-requires : tie.Need-at-place-requires
-at-place-requires c κs = search needs
+is-sound-run-requires : tie.Need-is-sound-run-requires
+is-sound-run-requires c κs = search needs
 
 same-length-3 : tie.Need-same-length-3
 same-length-3 c = search needs
@@ -39,16 +31,32 @@ same-length-3 c = search needs
 same-length-4 : tie.Need-same-length-4
 same-length-4 c = search needs
 
+returns-2 : tie.Need-returns-2
+returns-2 c =
+    let d = c .before in
+    let a = c .before .before .before .before .before .before .before .before .before .args in
+    turns-unsound (a .run) (benchOf (a .m) (a .registers .now) (a .marks .now) (a .memory .now)) (a .limit) (sym (d .is-sound-run .ensures) ∙ not-true (d .is-sound-run .result) (c .if2 .taken))
+
+take-turns-requires : tie.Need-take-turns-requires
+take-turns-requires c κs =
+    let f = c .before .before .before in
+    let e = f .before .before in
+    (sym (e .before .is-sound .ensures) ∙ not-false (e .before .is-sound .result) (e .if1 .left), sym (f .before .is-sound-run .ensures) ∙ not-false (f .before .is-sound-run .result) (f .if2 .left))
+
+at-place-requires : tie.Need-at-place-requires
+at-place-requires c κs = search needs
+
 same-length-5 : tie.Need-same-length-5
 same-length-5 c = search needs
 
-returns-2 : tie.Need-returns-2
-returns-2 c =
-    let u = c .before .at-place in
-    let w = c .before .before .before .before .before .before .before .before .take-turns in
-    let a = c .before .before .before .before .before .before .before .before .before .before .before .before .before .before .before .before .before .before .before .args in
-    let r = running (a .run) (benchOf (a .m) (a .registers .now) (a .marks .now) (a .memory .now)) in
-    at-end (w .result .count) _ _ _ (turns chosen r (a .limit)) (u .ensures) (w .ensures .0)
+same-length-6 : tie.Need-same-length-6
+same-length-6 c = search needs
+
+same-length-7 : tie.Need-same-length-7
+same-length-7 c = search needs
+
+returns-3 : tie.Need-returns-3
+returns-3 c = at-end _ _ _ _ _ (c .before .at-place .ensures) (c .before .before .before .before .before .before .before .before .take-turns .ensures)
 
 pub turns-spec : {M : Type 1} → statement M
 turns-spec =
@@ -58,9 +66,13 @@ turns-spec =
     same-length
     same-length-2
     returns
-    take-turns-requires
-    at-place-requires
+    is-sound-run-requires
     same-length-3
     same-length-4
+    returns-2
+    take-turns-requires
+    at-place-requires
     same-length-5
-    returns-2)
+    same-length-6
+    same-length-7
+    returns-3)

@@ -1,0 +1,150 @@
+use mathlib.Core.Path.{_≡_, refl, sym, _∙_}
+use mathlib.Core.Bool.{true, false}
+use Prim.Native.Nat.{_-_}
+use native.Mathlib.Omega.{arith}
+use borrow.Author.Tests.{not-true, not-false}
+use Rattle.machine.specs.Answers.{isDone}
+use Rattle.machine.specs.Geometry.{benchOf}
+use Rattle.settings.proofs.FaultLaws.{ready}
+use Rattle.run.specs.declared.Place.the-variants.{AtK, AtA, AtB}
+use Rattle.run.specs.Turn.{Running, running}
+use Rattle.run_places.specs.Parts.{atPlace}
+use Rattle.carrying.proofs.SumsLaws.{steady-sized, still-steady, sums-answered, sums-multiply}
+use Rattle.turn.specs.Parts.{Taking}
+use Rattle.turn.proofs.ProgressLaws.{word-kept, word-taken, taken-as}
+use Rattle.turn.proofs.StepLaws.{here-planned, here-placed, here-small, set-taken}
+use borrow.Author.Needs.{needs}
+use Rattle.turn.proofs.take_loads.Statement.{statement}
+use Rattle.turn.proofs.take_loads.Tie as tie
+
+abbrev from : tie.Start → Running
+from s = let a = s .args in running (atPlace (a .run) (AtK (a .row) (a .column) (a .term))) (benchOf (a .m) (a .registers .now) (a .marks .now) (a .memory .now))
+
+-- k is set
+set : (c : tie.After-sized) → let s = c .before .before .before .before .before .before in let a = s .args in
+    Taking (from s) 1 (atPlace (a .run) (AtA (a .row) (a .column) (a .term))) (benchOf (c .sized .result) (a .registers .now) (a .marks .now) (a .memory .now))
+set c =
+    let s = c .before .before .before .before .before .before in
+    let a = s .args in
+    set-taken (a .run) (a .row) (a .column) (a .term) (s .pre .1 .0) (a .m) (c .sized .result) (a .registers .now) (a .marks .now) (a .memory .now) (s .pre .0) (s .pre .1 .1 .typed) (c .sized .ensures)
+
+-- A is loaded
+yes-a : (c : tie.Else1) → isDone (c .before .before .before .before .before .before .load-a .result) ≡ true
+yes-a c = sym (c .before .is-done .ensures) ∙ not-false (c .before .is-done .result) (c .if1 .left)
+
+loaded : (c : tie.Else1) → let w = c .before .before .before .before .before .before .load-a in let s = c .before .before .before .before .before .before .before .before .before .before .before .before .before .before .before in let a = s .args in
+    Taking (from s) 2 (atPlace (a .run) (AtB (a .row) (a .column) (a .term))) (benchOf (c .before .before .before .before .before .before .before .before .before .sized .result) (w .last .1 .1 .0) (w .last .1 .1 .1 .0) (a .memory .now))
+loaded c = let w = c .before .before .before .before .before .before .load-a in word-taken (set (c .before .before .before .before .before .before .before .before .before)) _ (w .ensures) (yes-a c) _ refl
+
+sub-sized : tie.Need-sub-sized
+sub-sized c =
+    let s = c .before .before .before .before .before in
+    let a = s .args in
+    omega (arith, here-placed (a .run) (a .row) (a .column) (a .term) (s .pre .1 .0) .2)
+
+sized-requires : tie.Need-sized-requires
+sized-requires c κs =
+    let s = c .before .before .before .before .before in
+    ready (s .args .m) (s .args .registers .now) (s .args .marks .now) (s .pre .0)
+
+load-a-requires : tie.Need-load-a-requires
+load-a-requires c κs =
+    let s = c .before .before .before .before .before .before .before .before in
+    let a = s .args in
+    let b = here-placed (a .run) (a .row) (a .column) (a .term) (s .pre .1 .0) in
+    (set (c .before .before) .bench-sound, (here-planned (a .run) (a .row) (a .column) (a .term) (s .pre .1 .0), (b .0, omega (arith, b .2, here-small (a .run) (a .row) (a .column) (a .term) (s .pre .1 .0)))))
+
+is-done-requires : tie.Need-is-done-requires
+is-done-requires c κs = search needs
+
+same-length : tie.Need-same-length
+same-length c = search needs
+
+same-length-2 : tie.Need-same-length-2
+same-length-2 c = search needs
+
+returns : tie.Need-returns
+returns c =
+    let w = c .before .before .before .before .before .before .load-a in
+    let z = c .before .before .before .before .before .before .before .before .before in
+    let no : isDone (w .result) ≡ false = sym (c .before .is-done .ensures) ∙ not-true (c .before .is-done .result) (c .if1 .taken) in
+    (taken-as refl refl (word-kept _ _ (set z .run-sound) _ (w .ensures) no) (set z), (omega arith, λ h. absurd (omega (arith, h))))
+
+load-b-requires : tie.Need-load-b-requires
+load-b-requires c κs =
+    let e = c .before .before in
+    let s = c .before .before .before .before .before .before .before .before .before .before .before .before .before .before .before .before .before in
+    let a = s .args in
+    let b = here-placed (a .run) (a .row) (a .column) (a .term) (s .pre .1 .0) in
+    (loaded e .bench-sound, (here-planned (a .run) (a .row) (a .column) (a .term) (s .pre .1 .0), (omega (arith, b .2, here-small (a .run) (a .row) (a .column) (a .term) (s .pre .1 .0)), b .1)))
+
+is-done-requires-2 : tie.Need-is-done-requires-2
+is-done-requires-2 c κs = search needs
+
+same-length-3 : tie.Need-same-length-3
+same-length-3 c = search needs
+
+same-length-4 : tie.Need-same-length-4
+same-length-4 c = search needs
+
+returns-2 : tie.Need-returns-2
+returns-2 c =
+    let w = c .before .before .before .before .before .before .load-b in
+    let e = c .before .before .before .before .before .before .before .before .before in
+    let no : isDone (w .result) ≡ false = sym (c .before .is-done2 .ensures) ∙ not-true (c .before .is-done2 .result) (c .if2 .taken) in
+    (taken-as refl refl (word-kept _ _ (loaded e .run-sound) _ (w .ensures) no) (loaded e), (omega arith, λ h. absurd (omega (arith, h))))
+
+same-length-5 : tie.Need-same-length-5
+same-length-5 c = search needs
+
+same-length-6 : tie.Need-same-length-6
+same-length-6 c = search needs
+
+returns-3 : tie.Need-returns-3
+returns-3 c =
+    let w = c .before .before .before .before .before .before .load-b in
+    let e = c .before .before .before .before .before .before .before .before .before in
+    let v = c .before .before .before .before .before .before .before .before .before .before .before .before .before .before .before .load-a in
+    let z = c .before .before .before .before .before .before .before .before .before .before .before .before .before .before .before .before .before .before in
+    let s = c .before .before .before .before .before .before .before .before .before .before .before .before .before .before .before .before .before .before .before .before .before .before .before .before in
+    let a = s .args in
+    let P = a .run .plan in
+    let m = z .sized .result in
+    let ok = here-planned (a .run) (a .row) (a .column) (a .term) (s .pre .1 .0) in
+    let yes : isDone (w .result) ≡ true = sym (c .before .is-done2 .ensures) ∙ not-false (c .before .is-done2 .result) (c .if2 .left) in
+    let t = word-taken (loaded e) _ (w .ensures) yes _ refl in
+    let h = steady-sized (a .m) (a .marks .now) (P .k - a .term) m (z .sized .ensures) P (s .pre .1 .1) in (
+      t,
+      (
+        omega arith,
+        λ _. record {
+          place-is = refl;
+          steady = still-steady P ok m (a .registers .now) (a .marks .now) (a .memory .now) (set z .bench-sound) h (a .row) (a .column) (a .term)
+              (v .result) _ _ (v .ensures) (yes-a e) (loaded e .bench-sound) (w .result) _ _ (w .ensures) yes (t .bench-sound);
+          multiplies = sums-multiply P ok m (a .registers .now) (a .marks .now) (a .memory .now) (set z .bench-sound) h (a .row) (a .column) (a .term)
+              (v .result) _ _ (v .ensures) (yes-a e) (loaded e .bench-sound) (w .result) _ _ (w .ensures) yes (t .bench-sound);
+          answered = sums-answered P ok m (a .registers .now) (a .marks .now) (a .memory .now) (set z .bench-sound) h (a .row) (a .column) (a .term)
+              (v .result) _ _ (v .ensures) (yes-a e) (loaded e .bench-sound) (w .result) _ _ (w .ensures) yes (t .bench-sound) (a .memory .now);
+        },
+      ),
+    )
+
+pub take-loads-spec : {M : Type 1} → statement M
+take-loads-spec =
+    tie.close
+    (tie.spec
+    sub-sized
+    sized-requires
+    load-a-requires
+    is-done-requires
+    same-length
+    same-length-2
+    returns
+    load-b-requires
+    is-done-requires-2
+    same-length-3
+    same-length-4
+    returns-2
+    same-length-5
+    same-length-6
+    returns-3)

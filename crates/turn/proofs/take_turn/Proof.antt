@@ -1,0 +1,85 @@
+use mathlib.Core.Path.{_≡_, sym, ap, _∙_}
+use mathlib.Core.Bool.{true, false}
+use borrow.Author.Tests.{not-true, not-false}
+use Rattle.machine.specs.Answers.{isDone}
+use Rattle.machine.specs.Geometry.{benchOf}
+use Rattle.settings.proofs.FaultLaws.{sound-numbers}
+use Rattle.run.specs.Turn.{running}
+use Rattle.run_places.specs.Parts.{atPlace}
+use Rattle.carrying.proofs.CarriedLaws.{numbers-joined}
+use Rattle.turn.proofs.TurnLaws.{turn-kept}
+use Rattle.turn.proofs.ProgressLaws.{turn-carried, turn-moved}
+use borrow.Author.Needs.{needs}
+use Rattle.turn.proofs.take_turn.Statement.{statement}
+use Rattle.turn.proofs.take_turn.Tie as tie
+
+carry-out-requires : tie.Need-carry-out-requires
+carry-out-requires c κs = search needs
+
+is-done-requires : tie.Need-is-done-requires
+is-done-requires c κs = search needs
+
+same-length : tie.Need-same-length
+same-length c = search needs
+
+same-length-2 : tie.Need-same-length-2
+same-length-2 c = search needs
+
+same-length-3 : tie.Need-same-length-3
+same-length-3 c = search needs
+
+returns : tie.Need-returns
+returns c =
+    let w = c .before .before .before .before .before .before .before .before .carry-out in
+    let s = c .before .before .before .before .before .before .before .before .before .before .before .before .before .before .before in
+    let a = s .args in
+    let R = a .run in
+    let B = benchOf (a .m) (a .registers .now) (a .marks .now) (a .memory .now) in
+    let no : isDone (w .result) ≡ false = sym (c .before .is-done .ensures) ∙ not-true (c .before .is-done .result) (c .if1 .taken) in
+    turn-kept (running R B) _ (turn-carried R B (s .pre .1) _ (w .ensures) false no) no
+
+next-place-requires : tie.Need-next-place-requires
+next-place-requires c κs = search needs
+
+machine-after-requires : tie.Need-machine-after-requires
+machine-after-requires c κs =
+    let s = c .before .before .before .before .before .before .before .before .before .before .before .before .before .before .before .before in
+    (sound-numbers (s .args .m) (s .args .registers .now) (s .args .marks .now) (s .pre .0), s .pre .1)
+
+same-length-4 : tie.Need-same-length-4
+same-length-4 c = search needs
+
+same-length-5 : tie.Need-same-length-5
+same-length-5 c = search needs
+
+same-length-6 : tie.Need-same-length-6
+same-length-6 c = search needs
+
+returns-2 : tie.Need-returns-2
+returns-2 c =
+    let e = c .before .before in
+    let w = c .before .before .before .before .before .before .before .before .before .before .carry-out in
+    let s = c .before .before .before .before .before .before .before .before .before .before .before .before .before .before .before .before .before in
+    let a = s .args in
+    let R = a .run in
+    let B = benchOf (a .m) (a .registers .now) (a .marks .now) (a .memory .now) in
+    let yes : isDone (w .result) ≡ true = sym (e .before .is-done .ensures) ∙ not-false (e .before .is-done .result) (e .if1 .left) in
+    let j = numbers-joined _ _ _ _ _ _ (c .machine-after .ensures (a .registers .now) (a .marks .now) (a .memory .now) (s .pre .0)) (w .ensures) in
+    turn-moved R B (s .pre .1) _ j yes _ (ap (atPlace R) (c .before .next-place .ensures))
+
+pub take-turn-spec : {M : Type 1} → statement M
+take-turn-spec =
+    tie.close
+    (tie.spec
+    carry-out-requires
+    is-done-requires
+    same-length
+    same-length-2
+    same-length-3
+    returns
+    next-place-requires
+    machine-after-requires
+    same-length-4
+    same-length-5
+    same-length-6
+    returns-2)
