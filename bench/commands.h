@@ -13,6 +13,8 @@ int run_int16(struct session *session);
 int run_int32(struct session *session);
 int run_int64(struct session *session);
 int run_float32(struct session *session);
+int run_group(struct session *session);
+int run_vector(struct session *session);
 int run_load(struct session *session);
 
 /* images.c */

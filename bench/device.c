@@ -28,6 +28,9 @@ static struct bodlarina_bench lent(struct device *device)
     bench.run_len = sizeof device->run;
     bench.rule = device->rule;
     bench.elen = device->elen;
+    bench.vectors = device->vectors;
+    bench.vectors_len = sizeof device->vectors;
+    bench.group = device->group;
     return bench;
 }
 
@@ -137,6 +140,8 @@ uint64_t device_restore(struct device *device, const uint8_t *image, size_t leng
     return device->result;
 }
 
+unsigned device_group(const struct device *device) { return device->group == 0 ? 1 : (unsigned)device->group; }
+
 uint64_t device_scalar(const struct device *device, unsigned slot)
 {
     return slot % 32 == 0 ? 0 : bodlarina_get64(device->scalars + BODLARINA_SCALAR_AT(slot % 32));
@@ -243,6 +248,7 @@ static struct tile make_tile(const struct device *device, unsigned reg, enum sha
     tile.rows = (unsigned)(shape == B ? size.k : size.m);
     tile.columns = (unsigned)(shape == A ? size.k : size.n);
     tile.width = width;
+    tile.row = tile.column = 0;
     return tile;
 }
 
@@ -260,6 +266,20 @@ struct tile word_tile(const struct device *device, const struct instruction *ins
     return make_tile(device, register_in(word, instruction->operands[0]), instruction->shape, width);
 }
 
+struct tile word_slice(const struct device *device, const struct instruction *instruction, uint32_t word, uint64_t first)
+{
+    enum operand accumulator = instruction->action == MOVES_OUT ? ACC_1 : ACC_D;
+    struct tile tile = make_tile(device, register_in(word, accumulator), C, device_sew(device));
+    if (instruction->shape == ROWS) {
+        tile.row = (unsigned)first;
+        tile.rows = device_group(device);
+    } else {
+        tile.column = (unsigned)first;
+        tile.columns = device_group(device);
+    }
+    return tile;
+}
+
 /* The tiles that a word reads, in the order ms1, ms2, md; how many. */
 static unsigned word_sources(const struct device *device, const struct instruction *instruction, uint32_t word,
                              struct tile tiles[3])
@@ -267,7 +287,7 @@ static unsigned word_sources(const struct device *device, const struct instructi
     unsigned sew = device_sew(device);
     unsigned first = register_in(word, instruction->operands[1]), second = register_in(word, instruction->operands[2]);
     switch (instruction->action) {
-    case SETS: case LOADS: return 0;
+    case SETS: case LOADS: case MOVES_IN: return 0;
     case STORES: tiles[0] = word_tile(device, instruction, word); return 1;
     case MULTIPLIES:
         tiles[0] = make_tile(device, first, A, sew);
@@ -278,7 +298,7 @@ static unsigned word_sources(const struct device *device, const struct instructi
         tiles[0] = make_tile(device, first, C, sew);
         tiles[1] = word_tile(device, instruction, word);
         return 2;
-    case SCALES: tiles[0] = make_tile(device, first, C, sew); return 1;
+    case SCALES: case MOVES_OUT: tiles[0] = make_tile(device, first, C, sew); return 1;
     }
     return 0;
 }

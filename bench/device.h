@@ -12,10 +12,15 @@
 #define REGISTERS 10
 #define ACCUMULATOR_0 8
 
-/* The part of a register that a word reads or writes; width of an element in bytes. */
+/* Vector registers, and the bytes of one. */
+#define VECTORS 32
+#define VECTOR_BYTES 16
+
+/* The part of a register that a word reads or writes: so many rows and columns from these on; width of an element in bytes. */
 struct tile {
     unsigned reg;
     unsigned rows, columns, width;
+    unsigned row, column;
 };
 
 /* An element that a refusal named, if any. */
@@ -35,6 +40,8 @@ struct device {
     uint8_t marks[BODLARINA_REGISTER_BYTES(BODLARINA_MLEN_MOST)];
     uint8_t scalars[BODLARINA_SCALAR_BYTES];
     uint8_t run[BODLARINA_RUN_BYTES];
+    uint8_t vectors[BODLARINA_VECTOR_BYTES];
+    uint64_t group; /* of moves; 0 stands for 1 */
     uint8_t *memory; /* NULL until the script gives its size */
     size_t memory_bytes;
     uint64_t rlen, mlen, elen, rule;
@@ -46,7 +53,7 @@ struct device {
     struct element named; /* by the last refusal 5 */
 };
 
-/* A word, with the address and the stride that it has if it is a load or store. */
+/* A word, with the address and the stride that it has if it is a load or store; of a move the stride's scalar is its first row or column. */
 struct turn {
     uint32_t word;
     uint64_t address, stride;
@@ -77,6 +84,9 @@ uint8_t *device_image(struct device *device, size_t *length);
 /* The machine becomes the one whose image it is, whatever it was, and is then started. */
 uint64_t device_restore(struct device *device, const uint8_t *image, size_t length);
 
+/* How many vector registers a move takes. */
+unsigned device_group(const struct device *device);
+
 uint64_t device_scalar(const struct device *device, unsigned slot);
 void device_set_scalar(struct device *device, unsigned slot, uint64_t value);
 
@@ -103,6 +113,9 @@ int named_stands(const struct device *device);
 
 /* The tile that a word writes into a register or stores from one; rows and columns under the settings as they are. */
 struct tile word_tile(const struct device *device, const struct instruction *instruction, uint32_t word);
+
+/* The part of an accumulator that a move takes, from this row or column on. */
+struct tile word_slice(const struct device *device, const struct instruction *instruction, uint32_t word, uint64_t first);
 
 int in_seal(const struct device *device, uint64_t address);
 

@@ -1,4 +1,4 @@
-/* Commands that enter bytes into memory, and the seal. */
+/* Commands that enter bytes into memory and vector registers, the seal, and the group size of moves. */
 #include "commands.h"
 
 #include <stdlib.h>
@@ -76,6 +76,41 @@ int run_int16(struct session *session) { return run_numbers(session, INT16); }
 int run_int32(struct session *session) { return run_numbers(session, INT32); }
 int run_int64(struct session *session) { return run_numbers(session, INT64); }
 int run_float32(struct session *session) { return run_numbers(session, FLOAT32); }
+
+/* group N: how many vector registers a move takes. */
+int run_group(struct session *session)
+{
+    struct reader *reader = &session->reader;
+    size_t at = next_at(reader);
+    uint64_t group;
+    if (!take_any(reader, "a group size", &group) || !take_end(reader))
+        return 0;
+    if (group != 1 && group != 2 && group != 4 && group != 8)
+        return refuse(reader, at, "a group has 1, 2, 4 or 8 vector registers");
+    session->device.group = group;
+    return 1;
+}
+
+/* v N [int8|int16|int32|int64|float32] numbers..: from byte 0 of a vector register on; without a form, bytes of 0 to 255. */
+int run_vector(struct session *session)
+{
+    struct reader *reader = &session->reader;
+    enum form form;
+    uint64_t v;
+    size_t used = 0;
+    int64_t value;
+    if (!take_unsigned(reader, "the number of a vector register", 31, &v))
+        return 0;
+    form = take_form(reader);
+    do {
+        size_t at = next_at(reader);
+        if (!take_number_of(reader, form, &value) || !in_vector(session, at, used + form_bytes(form)))
+            return 0;
+        put_number(session->device.vectors + BODLARINA_VECTOR_AT(v) + used, form, value);
+        used += form_bytes(form);
+    } while (!at_end(reader));
+    return 1;
+}
 
 /* Reads a file into memory from an address on. */
 static int load_file(struct session *session, size_t at, const char *path, size_t address)

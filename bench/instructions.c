@@ -40,8 +40,8 @@ const struct instruction *instruction_called(struct span mnemonic)
 uint32_t field_of(uint32_t word, enum operand operand)
 {
     switch (operand) {
-    case RD: case TILE_D: case ACC_D: return word >> 7 & 31;
-    case RS1: case BASE: case TILE_1: case ACC_1: return word >> 15 & 31;
+    case RD: case TILE_D: case ACC_D: case VECTOR_D: return word >> 7 & 31;
+    case RS1: case BASE: case TILE_1: case ACC_1: case VECTOR_1: return word >> 15 & 31;
     case RS2: case TILE_2: case IMMEDIATE: return word >> 20 & 31;
     case TYPE: case SIZE: return word >> 15 & 0x1fff;
     case NO_OPERAND: break;
@@ -106,6 +106,12 @@ static int take_accumulator(struct reader *reader, uint32_t *value)
     return numbered(span, "acc", 2, value) || refuse(reader, span.at, "expected an accumulator, acc0 or acc1");
 }
 
+static int take_vector(struct reader *reader, uint32_t *value)
+{
+    struct span span = take_name(reader);
+    return numbered(span, "v", 32, value) || refuse(reader, span.at, "expected a vector register, v0 to v31");
+}
+
 static int take_base(struct reader *reader, uint32_t *value)
 {
     return take_mark(reader, '(', "a scalar in brackets, (x0) to (x31)") && take_scalar(reader, value)
@@ -158,6 +164,7 @@ static int take_operand(struct reader *reader, enum operand operand, uint32_t *v
     case BASE: return take_base(reader, value);
     case TILE_D: case TILE_1: case TILE_2: return take_tile(reader, value);
     case ACC_D: case ACC_1: return take_accumulator(reader, value);
+    case VECTOR_D: case VECTOR_1: return take_vector(reader, value);
     case TYPE: return take_type(reader, value);
     case SIZE: return take_number_up_to(reader, "a size", 8191, value);
     case IMMEDIATE: return take_immediate(reader, value);
@@ -198,6 +205,7 @@ static void write_operand(uint32_t word, enum operand operand, char *text, size_
     case BASE: snprintf(text, room, "(x%" PRIu32 ")", value); break;
     case TILE_D: case TILE_1: case TILE_2: snprintf(text, room, "tr%" PRIu32, value); break;
     case ACC_D: case ACC_1: snprintf(text, room, "acc%" PRIu32, value); break;
+    case VECTOR_D: case VECTOR_1: snprintf(text, room, "v%" PRIu32, value); break;
     case TYPE: write_type(value, text, room); break;
     case SIZE: snprintf(text, room, "%" PRIu32, value); break;
     case IMMEDIATE: snprintf(text, room, "%d", value < 16 ? (int)value : (int)value - 32); break;

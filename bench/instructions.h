@@ -5,12 +5,12 @@
 #include "reader.h"
 
 /* An operand: how it is written, and its field. _D stands in bits 11..7, _1 in 19..15, _2 in 24..20. */
-enum operand { NO_OPERAND, RD, RS1, RS2, BASE, TILE_D, TILE_1, TILE_2, ACC_D, ACC_1, TYPE, SIZE, IMMEDIATE };
+enum operand { NO_OPERAND, RD, RS1, RS2, BASE, TILE_D, TILE_1, TILE_2, ACC_D, ACC_1, VECTOR_D, VECTOR_1, TYPE, SIZE, IMMEDIATE };
 
-enum action { SETS, LOADS, STORES, MULTIPLIES, COMBINES, SCALES };
+enum action { SETS, LOADS, STORES, MULTIPLIES, COMBINES, SCALES, MOVES_OUT, MOVES_IN };
 
-/* Which tile an instruction writes or stores: A is m by k, B k by n, C m by n. */
-enum shape { NONE, A, B, C };
+/* Which tile an instruction writes, stores or moves: A is m by k, B k by n, C m by n; of C a move takes rows or columns. */
+enum shape { NONE, A, B, C, ROWS, COLUMNS };
 
 #define OPERANDS_MOST 3
 
@@ -19,7 +19,7 @@ struct instruction {
     enum operand operands[OPERANDS_MOST];
     enum action action;
     enum shape shape;
-    unsigned width; /* of a load or store in bits, of the output of arithmetic in SEW */
+    unsigned width; /* of a load or store in bits, else in SEW */
     uint32_t (*encode)(const uint32_t *operands);
 };
 

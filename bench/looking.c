@@ -29,7 +29,7 @@ struct expected {
 static int take_expected(struct reader *reader, struct expected *expected)
 {
     memset(expected, 0, sizeof *expected);
-    if (!take_unsigned(reader, "memory or the number of an answer", 0xffff, &expected->number))
+    if (!take_unsigned(reader, "memory, v or the number of an answer", 0xffff, &expected->number))
         return 0;
     expected->placed = !at_end(reader);
     if (!expected->placed)
@@ -71,14 +71,14 @@ static int expect_answer(struct session *session)
     return 1;
 }
 
-/* A number that memory holds, and the one that the script expects there. */
-static void other_number(struct session *session, uint64_t address, enum form form, int64_t found, int64_t value)
+/* A number that memory or a vector register holds at a byte, and the one that the script expects there. */
+static void other_number(struct session *session, const char *where, uint64_t byte, enum form form, int64_t found, int64_t value)
 {
     char holds[NUMBER_TEXT_BYTES], expected[NUMBER_TEXT_BYTES];
     write_number(form, found, holds);
     write_number(form, value, expected);
     failed(session);
-    printf("memory at %" PRIu64 " is %s, not %s\n", address, holds, expected);
+    printf("%s at %" PRIu64 " is %s, not %s\n", where, byte, holds, expected);
 }
 
 /* expect memory [int8|int16|int32|int64|float32] ADDRESS numbers..; without a form, bytes of 0 to 255. */
@@ -96,8 +96,33 @@ static int expect_memory(struct session *session)
             return 0;
         found = number_at(session->device.memory + address, form);
         if (found != value)
-            other_number(session, address, form, found, value);
+            other_number(session, "memory", address, form, found, value);
         address += form_bytes(form);
+    } while (!at_end(reader));
+    return 1;
+}
+
+/* expect v N [int8|int16|int32|int64|float32] numbers..; without a form, bytes of 0 to 255. */
+static int expect_vector(struct session *session)
+{
+    struct reader *reader = &session->reader;
+    enum form form;
+    uint64_t v;
+    size_t used = 0;
+    int64_t value, found;
+    char name[8];
+    if (!take_unsigned(reader, "the number of a vector register", 31, &v))
+        return 0;
+    snprintf(name, sizeof name, "v%u", (unsigned)v);
+    form = take_form(reader);
+    do {
+        size_t at = next_at(reader);
+        if (!take_number_of(reader, form, &value) || !in_vector(session, at, used + form_bytes(form)))
+            return 0;
+        found = number_at(session->device.vectors + BODLARINA_VECTOR_AT(v) + used, form);
+        if (found != value)
+            other_number(session, name, used, form, found, value);
+        used += form_bytes(form);
     } while (!at_end(reader));
     return 1;
 }
@@ -106,8 +131,11 @@ int run_expect(struct session *session)
 {
     struct reader *reader = &session->reader;
     size_t before = reader->at;
-    if (span_is(take_span(reader), "memory"))
+    struct span span = take_span(reader);
+    if (span_is(span, "memory"))
         return expect_memory(session);
+    if (span_is(span, "v"))
+        return expect_vector(session);
     reader->at = before;
     return expect_answer(session);
 }
@@ -141,6 +169,19 @@ static unsigned register_called(struct span span)
     return reg;
 }
 
+/* The vector register of this name, or VECTORS. */
+static unsigned vector_called(struct span span)
+{
+    unsigned v;
+    char name[8];
+    for (v = 0; v < VECTORS; v++) {
+        snprintf(name, sizeof name, "v%u", v);
+        if (span_is(span, name))
+            break;
+    }
+    return v;
+}
+
 /* The form of elements of SEW bits; BYTE if mtype is illegal. */
 static enum form form_of_sew(const struct device *device)
 {
@@ -158,23 +199,20 @@ static enum form form_called(struct span span)
     return form;
 }
 
-/* show tr0 [8|16|32|64|float32]; without one of them, signed numbers of SEW bits. */
-static int show_one_register(struct session *session, unsigned reg)
+/* The end of the line, or 8, 16, 32, 64 or float32 and the end; without one of them, signed numbers of SEW bits. */
+static int take_shown_form(struct session *session, enum form *form)
 {
     struct reader *reader = &session->reader;
-    enum form form = form_of_sew(&session->device);
+    *form = form_of_sew(&session->device);
     if (!at_end(reader)) {
         struct span span = take_span(reader);
-        form = form_called(span);
-        if (form == BYTE)
+        *form = form_called(span);
+        if (*form == BYTE)
             return refuse(reader, span.at, "expected the width of an element, 8, 16, 32 or 64, or float32");
     }
     if (!take_end(reader))
         return 0;
-    if (form == BYTE)
-        return not_now(session, "mtype is illegal, so elements have no width: give 8, 16, 32, 64 or float32");
-    show_register(&session->device, reg, form);
-    return 1;
+    return *form != BYTE || not_now(session, "mtype is illegal, so elements have no width: give 8, 16, 32, 64 or float32");
 }
 
 static const struct {
@@ -188,6 +226,8 @@ int run_show(struct session *session)
 {
     struct reader *reader = &session->reader;
     struct span span = take_span(reader);
+    enum form form;
+    unsigned reg, v;
     size_t i;
     if (span_is(span, "memory"))
         return show_range(session);
@@ -198,7 +238,15 @@ int run_show(struct session *session)
             shown[i].show(&session->device);
             return 1;
         }
-    if (register_called(span) == REGISTERS)
-        return refuse(reader, span.at, "expected x, mtype, sizes, marks, memory, tr0 to tr7, acc0 or acc1");
-    return needs_machine(session) && show_one_register(session, register_called(span));
+    reg = register_called(span);
+    v = vector_called(span);
+    if (reg == REGISTERS && v == VECTORS)
+        return refuse(reader, span.at, "expected x, mtype, sizes, marks, memory, tr0 to tr7, acc0, acc1 or v0 to v31");
+    if (!needs_machine(session) || !take_shown_form(session, &form))
+        return 0;
+    if (reg < REGISTERS)
+        show_register(&session->device, reg, form);
+    else
+        show_vector(&session->device, v, form);
+    return 1;
 }

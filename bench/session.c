@@ -31,6 +31,11 @@ int in_memory(const struct session *session, size_t at, uint64_t address, uint64
     return refuse(&session->reader, at, "this lies outside the %" PRIu64 " bytes of memory", bytes);
 }
 
+int in_vector(const struct session *session, size_t at, size_t end)
+{
+    return end <= VECTOR_BYTES || refuse(&session->reader, at, "a vector register has %d bytes", VECTOR_BYTES);
+}
+
 /* The path of a file that a script names: beside the script, unless it starts with a slash. */
 static int beside_script(const struct session *session, struct span name, char path[PATH_BYTES])
 {

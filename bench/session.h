@@ -29,6 +29,9 @@ int take_file(struct session *session, size_t *at, char path[PATH_BYTES]);
 /* Whether `count` numbers of `width` bytes at an address lie in memory; else the line is refused. */
 int in_memory(const struct session *session, size_t at, uint64_t address, uint64_t count, uint64_t width);
 
+/* Whether a number that ends at this byte of a vector register lies in it; else the line is refused. */
+int in_vector(const struct session *session, size_t at, size_t end);
+
 /* Prints the last answer if it is a refusal. */
 void report(const struct session *session, const char *what);
 

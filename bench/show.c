@@ -61,6 +61,18 @@ void show_register(const struct device *device, unsigned reg, enum form form)
         show_row(device, reg, row, form);
 }
 
+void show_vector(const struct device *device, unsigned v, enum form form)
+{
+    unsigned byte, width = form_bytes(form);
+    char text[NUMBER_TEXT_BYTES];
+    printf("v%u, elements of %u bits:", v, 8 * width);
+    for (byte = 0; byte < VECTOR_BYTES; byte += width) {
+        write_number(form, number_at(device->vectors + BODLARINA_VECTOR_AT(v) + byte, form), text);
+        printf(" %s", text);
+    }
+    printf("\n");
+}
+
 /* ---- memory ---- */
 
 /* Whether a byte of a number is sealed. */

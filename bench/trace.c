@@ -57,7 +57,19 @@ static void write_tile(struct tile tile)
     if (tile.rows == 0 || tile.columns == 0)
         printf("; %s, no element", name);
     else
-        printf("; %s rows 0 to %u, columns 0 to %u of %u bits", name, tile.rows - 1, tile.columns - 1, 8 * tile.width);
+        printf("; %s rows %u to %u, columns %u to %u of %u bits", name, tile.row, tile.row + tile.rows - 1, tile.column,
+               tile.column + tile.columns - 1, 8 * tile.width);
+}
+
+/* The slice of a move, and the vector registers that it goes to or comes from. */
+static void write_move(const struct device *device, const struct instruction *instruction, const struct turn *turn)
+{
+    int out = instruction->action == MOVES_OUT;
+    unsigned first = (unsigned)field_of(turn->word, out ? VECTOR_D : VECTOR_1);
+    write_tile(word_slice(device, instruction, turn->word, turn->stride));
+    printf(" %s v%u", out ? "to" : "from", first);
+    if (device_group(device) > 1)
+        printf(" .. v%u", first + device_group(device) - 1);
 }
 
 static void write_stride(uint64_t stride)
@@ -75,6 +87,10 @@ static void write_changes(const struct device *device, const struct turn *turn, 
         return;
     if (instruction->action == SETS) {
         write_settings(device, turn->word, before);
+        return;
+    }
+    if (instruction->action == MOVES_OUT || instruction->action == MOVES_IN) {
+        write_move(device, instruction, turn);
         return;
     }
     write_tile(word_tile(device, instruction, turn->word));

@@ -1,5 +1,5 @@
-/* Bodlarina: a simulator of the integer part of the RISC-V Matrix Specification 0.2, and of its float multiply mfma.mm on binary32,
- * for a host in C.
+/* Bodlarina: a simulator of the integer part of the RISC-V Matrix Specification 0.2, of its float multiply mfma.mm on binary32, and of
+ * its moves between accumulators and vector registers, for a host in C.
  *
  * A machine has eight tile registers tr0 to tr7 and two accumulators acc0 and acc1, a type (mtype) with the width of an element,
  * and tile sizes m, k and n. A WORD is one instruction of 32 bits (bodlarina_words.h encodes each). Each call gives an ANSWER: 0
@@ -48,8 +48,8 @@ extern "C" {
 
 /* The number is 10,000 times the major number, 100 times the minor one, and the patch number. While the major number is 0, the minor
  * one goes up when a block or a signature changes: then compile the host again. */
-#define BODLARINA_VERSION "0.5.0"
-#define BODLARINA_VERSION_NUMBER 500
+#define BODLARINA_VERSION "0.4.0"
+#define BODLARINA_VERSION_NUMBER 400
 
 /* The number of the library that is linked. It is BODLARINA_VERSION_NUMBER, or header and library do not belong together. */
 uint64_t bodlarina_version(void);
@@ -71,7 +71,8 @@ uint64_t bodlarina_version(void);
 #define BODLARINA_ILLEGAL_WORD 1u    /* no row of the draft's listing (section 4.5) has all its fixed bits in the word */
 #define BODLARINA_ILLEGAL_TYPE 2u    /* mtype is illegal (bit 63, mill), and the word isn't msettype or msettypei */
 #define BODLARINA_BAD_WIDTH 3u       /* an element width that mtype does not allow here, or one above ELEN */
-#define BODLARINA_TILE_TOO_LARGE 4u  /* a tile size that the instruction uses is above its maximum under mtype */
+#define BODLARINA_TILE_TOO_LARGE 4u  /* a tile size that the instruction uses is above its maximum under mtype; or the
+                                        slice of a move goes past the tile, or has rows or columns of more than 128 bits */
 #define BODLARINA_UNWRITTEN 5u       /* a register element to be read has a byte that was never written;
                                         row and column name the first one, sources in the order ms1, ms2, md */
 #define BODLARINA_OUTSIDE_MEMORY 6u  /* a byte of an element lies outside memory */
@@ -82,7 +83,8 @@ uint64_t bodlarina_version(void);
 #define BODLARINA_WRONG_OPCODE 10u   /* bits 6..0 of the word are not 1110111 */
 #define BODLARINA_LEFT_OUT_WORD 11u  /* an instruction of the draft that is not carried out here: a float word other
                                         than mfma.mm or a conversion */
-#define BODLARINA_WRONG_REGISTER 12u /* a register field out of range: a tile register is 0 to 7, an accumulator 0 or 1 */
+#define BODLARINA_WRONG_REGISTER 12u /* a register field out of range: a tile register is 0 to 7, an accumulator 0 or 1;
+                                        or a vector group that starts at no multiple of its size */
 #define BODLARINA_ROWS_OVERLAP 13u   /* a byte of a store lies in two of its rows in memory */
 #define BODLARINA_NO_ROOM 14u        /* an image does not fit the lent room */
 #define BODLARINA_DAMAGED 15u        /* not an image; the place is that of the first byte at which no image can go on,
@@ -96,7 +98,7 @@ BODLARINA_INLINE const char *bodlarina_answer_text(uint64_t result)
     case BODLARINA_ILLEGAL_WORD: return "no instruction of the draft has these bits";
     case BODLARINA_ILLEGAL_TYPE: return "mtype is illegal, set it first";
     case BODLARINA_BAD_WIDTH: return "mtype does not allow this element width here";
-    case BODLARINA_TILE_TOO_LARGE: return "a tile size is above its maximum under mtype";
+    case BODLARINA_TILE_TOO_LARGE: return "a tile size is above its maximum under mtype, or a slice exceeds its tile or a vector register";
     case BODLARINA_UNWRITTEN: return "a register element to be read was never written";
     case BODLARINA_OUTSIDE_MEMORY: return "an element lies outside memory";
     case BODLARINA_SEALED_BYTE: return "a store would write a sealed byte";
@@ -104,7 +106,7 @@ BODLARINA_INLINE const char *bodlarina_answer_text(uint64_t result)
     case BODLARINA_OVERLAP: return "C overlaps A, B, the seal or itself";
     case BODLARINA_WRONG_OPCODE: return "the opcode is not 1110111";
     case BODLARINA_LEFT_OUT_WORD: return "an instruction of the draft that is not carried out here";
-    case BODLARINA_WRONG_REGISTER: return "there is no such tile register or accumulator";
+    case BODLARINA_WRONG_REGISTER: return "there is no such register, or a vector group starts at no multiple of its size";
     case BODLARINA_ROWS_OVERLAP: return "a byte of a store lies in two of its rows";
     case BODLARINA_NO_ROOM: return "the image does not fit the room";
     case BODLARINA_DAMAGED: return "this is no image, or it is cut short";
@@ -164,10 +166,13 @@ BODLARINA_INLINE void bodlarina_put64(uint8_t *bytes, uint64_t value)
 
 /* memory: any number of bytes; address 0 is the first. */
 
-/* vectors: v0 .. v31 of 128 bits, register v at byte 16 * v, low byte first. They carry no marks. group is the number of registers, and
- * of rows or columns, that a move takes: 1, 2, 4 or 8. */
+/* vectors: v0 .. v31 of 128 bits, register v at byte 16 * v, low byte first. They carry no marks, and are no part of the machine or its
+ * image. group: how many of them, and how many rows or columns, a move takes, 1, 2, 4 or 8. */
 #define BODLARINA_VECTOR_BYTES 512
 #define BODLARINA_VECTOR_AT(v) (16 * (size_t)(v))
+
+/* Whether a word is a move: mmvcr or mmvcc, out or in. */
+#define BODLARINA_IS_MOVE(word) (((word) & 0xec00707fu) == 0x00005077u)
 
 /* ---- A machine -------------------------------------------------------------------------------------------- */
 
@@ -195,8 +200,8 @@ uint64_t bodlarina_start(uint64_t rlen, uint64_t mlen, uint64_t elen, uint64_t r
  * Answers: 0, or the first that applies in the order 8, then 10, 11, 1, 12 (the word itself), then 2 to 6, 13, 7.
  * 8 means that the state is at fault: lengths or an ELEN that are not permitted, a buffer of the wrong size, an mtype that
  * cannot arise with that ELEN, a tile size above its maximum at 8 bits, another rule than 0 and 1, a seal whose end is above
- * 2^64 - 1, a mark other than 0 and 1, or another group size than 1, 2, 4 and 8. With buffers of the right size and such a group
- * size, a started machine that nothing but these functions has written never gets 8. */
+ * 2^64 - 1, a mark other than 0 and 1, or another group size than 1, 2, 4 and 8. With buffers of the right size and such a
+ * group size, a started machine that nothing but these functions has written never gets 8. */
 uint64_t bodlarina_step(uint32_t word, uint64_t group,
                         uint8_t *machine, size_t machine_len,
                         uint8_t *registers, size_t registers_len,
@@ -372,9 +377,9 @@ BODLARINA_INLINE uint64_t bodlarina_image_mlen(const uint8_t *image, size_t imag
 
 /* ---- The same in short ------------------------------------------------------------------------------------ */
 
-/* The buffers of a machine, and the rule and the ELEN to start it with, set once. Lengths are in bytes. run is for one product run
- * at a time; a host without runs leaves it out. An elen of 0 counts as 32, so that a host which names none has a machine of 32
- * bits; bodlarina_start itself answers 0 with 8. A host without moves leaves out vectors, vectors_len and group.
+/* The buffers of a machine, the rule and the ELEN to start it with, and the group size of moves, set once. Lengths are in bytes. run is
+ * for one product run at a time; a host without runs leaves it out, and one without moves the vectors. An elen of 0 counts as 32 and a
+ * group of 0 as 1, so that a host which names none has a machine of 32 bits; bodlarina_start and bodlarina_step answer 0 with 8.
  *
  *     static uint8_t machine[BODLARINA_MACHINE_BYTES], registers[BODLARINA_REGISTER_BYTES(4096)], ..;
  *     struct bodlarina_bench bench = {machine, sizeof machine, registers, sizeof registers, ..};
@@ -396,9 +401,9 @@ struct bodlarina_bench {
     size_t run_len;
     uint64_t rule; /* BODLARINA_SMALLER, 0, unless it is set */
     uint64_t elen; /* 32, unless it is set: 0 counts as 32 */
-    uint8_t *vectors; /* NULL, unless it is set: then a step is lent a file of zeros, with a group of one */
+    uint8_t *vectors; /* NULL, unless they are set: then moves get 8, and every other word is carried out */
     size_t vectors_len;
-    uint64_t group;
+    uint64_t group; /* 1, unless it is set: 0 counts as 1 */
 };
 
 /* Where a matrix lies, and what is to be multiplied: the numbers of bodlarina_run_start. */
@@ -423,15 +428,16 @@ BODLARINA_INLINE uint64_t bodlarina_bench_start(const struct bodlarina_bench *be
 
 BODLARINA_INLINE uint64_t bodlarina_bench_step(const struct bodlarina_bench *bench, uint32_t word)
 {
-    uint8_t none[BODLARINA_VECTOR_BYTES];
-    int own = bench->vectors == NULL;
-    size_t i;
-    if (own && (word >> 12 & 7) == 5) /* no other word reads it */
-        for (i = 0; i < sizeof none; i++)
-            none[i] = 0;
-    return bodlarina_step(word, own ? 1 : bench->group, bench->machine, bench->machine_len, bench->registers, bench->registers_len,
-                          bench->marks, bench->marks_len, bench->scalars, bench->scalars_len, bench->memory, bench->memory_len,
-                          own ? none : bench->vectors, own ? sizeof none : bench->vectors_len);
+    uint8_t none[BODLARINA_VECTOR_BYTES]; /* lent to words that do not touch it, where the host has no vector registers */
+    uint64_t group = bench->group == 0 ? 1 : bench->group;
+    uint8_t *vectors = bench->vectors;
+    size_t vectors_len = bench->vectors_len;
+    if (vectors == NULL) {
+        vectors = none;
+        vectors_len = BODLARINA_IS_MOVE(word) ? 0 : sizeof none;
+    }
+    return bodlarina_step(word, group, bench->machine, bench->machine_len, bench->registers, bench->registers_len, bench->marks,
+                          bench->marks_len, bench->scalars, bench->scalars_len, bench->memory, bench->memory_len, vectors, vectors_len);
 }
 
 /* A scalar, x0 to x31, as a word reads it, and one set; x0 stays 0. The scalars' buffer has BODLARINA_SCALAR_BYTES. */
