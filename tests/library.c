@@ -1,5 +1,5 @@
 /* What the headers say beside the words: the version, the texts, the number of a run's steps, that slot 0 of the scalars is not
- * written, float runs, images, larger machines, and how much stack a call uses. Writes a line for each, and ends with
+ * written, float runs, images, larger machines, moves, and how much stack a call uses. Writes a line for each, and ends with
  * 'N passed, M failed'. */
 #define _GNU_SOURCE
 #include <inttypes.h>
@@ -799,6 +799,137 @@ static void larger(void)
     image_longest();
 }
 
+/* ---- moves ---- */
+
+enum { MOVED = 8, ACC_ROW = RLEN / 2, ACC_BYTES = MLEN / 2, ACC0_AT = MLEN };
+
+static uint8_t vectors[BODLARINA_VECTOR_BYTES], vectors_before[sizeof vectors], registers_before[sizeof registers], marks_before[sizeof marks];
+
+/* acc1 has 8 rows of 8 elements of 16 bits, as long as a vector register: element (i, j) is 256 i + j. Vector bytes are 0xa5. */
+static int moving_start(uint64_t group)
+{
+    for (unsigned i = 0; i < MOVED; i++)
+        for (unsigned j = 0; j < MOVED; j++) {
+            memory[16 * i + 2 * j] = (uint8_t)j;
+            memory[16 * i + 2 * j + 1] = (uint8_t)i;
+        }
+    memset(vectors, 0xa5, sizeof vectors);
+    bench.vectors = vectors;
+    bench.vectors_len = sizeof vectors;
+    bench.group = group;
+    int right = bodlarina_bench_start(&bench, RLEN, MLEN, 0, 0) == 0 && bodlarina_bench_step(&bench, bodlarina_msettypei(0, BODLARINA_E16)) == 0;
+    right = right && bodlarina_bench_step(&bench, bodlarina_msettilemi(0, MOVED)) == 0 && bodlarina_bench_step(&bench, bodlarina_msettileni(0, MOVED)) == 0;
+    bodlarina_bench_set_scalar(&bench, 10, 0);
+    bodlarina_bench_set_scalar(&bench, 11, 16);
+    return right && bodlarina_bench_step(&bench, bodlarina_mlce16_m(1, 10, 11)) == 0;
+}
+
+/* Vector registers from this one on hold rows, or columns, of acc1 from `first` on, and all other vector bytes are as they were. */
+static int moved_out(unsigned from, unsigned group, unsigned first, int columns)
+{
+    int right = 1;
+    for (unsigned v = 0; v < 32; v++)
+        for (unsigned j = 0; j < MOVED; j++) {
+            unsigned line = first + v - from, here = v >= from && v < from + group;
+            uint8_t low = here ? (uint8_t)(columns ? line : j) : 0xa5, high = here ? (uint8_t)(columns ? j : line) : 0xa5;
+            right = right && vectors[16 * v + 2 * j] == low && vectors[16 * v + 2 * j + 1] == high;
+        }
+    return right;
+}
+
+static void moves_out(void)
+{
+    int right = 1;
+    for (unsigned group = 1; group <= 8; group *= 2)
+        for (unsigned first = 0; first + group <= MOVED; first++)
+            for (int columns = 0; columns <= 1; columns++) {
+                unsigned vd = (first * group) % 32;
+                right = right && moving_start(group);
+                bodlarina_bench_set_scalar(&bench, 5, first);
+                right = right && bodlarina_bench_step(&bench, columns ? bodlarina_mmvcc_v_m(vd, 1, 5) : bodlarina_mmvcr_v_m(vd, 1, 5)) == 0;
+                right = right && moved_out(vd, group, first, columns);
+            }
+    check(right, "rows and columns move out to vector registers");
+}
+
+/* Columns 3 to 6 of acc0 become the vector registers 8 to 11 and are marked, and nothing else. */
+static void moves_in(void)
+{
+    int right = moving_start(4);
+    for (unsigned i = 0; i < sizeof vectors; i++)
+        vectors[i] = (uint8_t)(7 * i);
+    memcpy(vectors_before, vectors, sizeof vectors);
+    memcpy(registers_before, registers, sizeof registers);
+    bodlarina_bench_set_scalar(&bench, 5, 3);
+    right = right && bodlarina_bench_step(&bench, bodlarina_mmvcc_m_v(0, 8, 5)) == 0 && memcmp(vectors, vectors_before, sizeof vectors) == 0;
+    for (size_t at = 0; at < ACC_BYTES; at++) {
+        size_t row = at / ACC_ROW, byte = at % ACC_ROW, column = byte / 2, here = column >= 3 && column <= 6;
+        uint8_t value = here ? vectors[16 * (8 + column - 3) + 2 * row + byte % 2] : registers_before[ACC0_AT + at];
+        right = right && registers[ACC0_AT + at] == value && marks[ACC0_AT + at] == here;
+    }
+    check(right && memcmp(registers, registers_before, ACC0_AT) == 0, "columns move in and are marked");
+}
+
+/* A word that is refused with this result, and no byte changes. */
+static int move_refused(uint32_t word, uint64_t result)
+{
+    memcpy(vectors_before, vectors, sizeof vectors);
+    memcpy(registers_before, registers, sizeof registers);
+    memcpy(marks_before, marks, sizeof marks);
+    return bodlarina_bench_step(&bench, word) == result && memcmp(vectors, vectors_before, sizeof vectors) == 0
+           && memcmp(registers, registers_before, sizeof registers) == 0 && memcmp(marks, marks_before, sizeof marks) == 0;
+}
+
+static void moves_refused(void)
+{
+    static const uint64_t groups[] = {3, 5, 6, 7, 9, 16, UINT64_MAX};
+    uint32_t setting = bodlarina_msettypei(0, BODLARINA_E16);
+    int right = moving_start(4);
+    right = right && move_refused(bodlarina_mmvcr_v_m(6, 1, 0), BODLARINA_WRONG_REGISTER);
+    right = right && move_refused(bodlarina_mmvcc_m_v(2, 4, 0), BODLARINA_WRONG_REGISTER);
+    bodlarina_bench_set_scalar(&bench, 5, 5);
+    right = right && move_refused(bodlarina_mmvcr_v_m(4, 1, 5), BODLARINA_TILE_TOO_LARGE);
+    bodlarina_bench_set_scalar(&bench, 5, UINT64_MAX - 1);
+    right = right && move_refused(bodlarina_mmvcc_m_v(0, 4, 5), BODLARINA_TILE_TOO_LARGE);
+    right = right && move_refused(bodlarina_mmvcr_v_m(4, 0, 0), BODLARINA_UNWRITTEN);
+    right = right && bodlarina_bench_step(&bench, bodlarina_msettileni(0, MOVED + 1)) == 0;
+    right = right && move_refused(bodlarina_mmvcr_m_v(0, 4, 0), BODLARINA_TILE_TOO_LARGE); /* a row of 144 bits */
+    right = right && bodlarina_bench_step(&bench, bodlarina_mmvcc_m_v(0, 4, 0)) == 0;
+    check(right, "moves that are refused: 12, 4 and 5, and nothing changes");
+    right = moving_start(1);
+    for (size_t i = 0; i < sizeof groups / sizeof groups[0]; i++) {
+        bench.group = groups[i];
+        right = right && move_refused(setting, BODLARINA_BAD_ARGUMENTS) && move_refused(bodlarina_mmvcr_v_m(0, 1, 0), BODLARINA_BAD_ARGUMENTS);
+    }
+    bench.group = 1;
+    bench.vectors_len = sizeof vectors - 1;
+    right = right && move_refused(setting, BODLARINA_BAD_ARGUMENTS);
+    bench.vectors_len = 0;
+    right = right && move_refused(setting, BODLARINA_BAD_ARGUMENTS) && move_refused(bodlarina_mmvcr_v_m(0, 1, 0), BODLARINA_BAD_ARGUMENTS);
+    check(right, "another group size, or a vector file of another length: 8 for every word");
+}
+
+/* Left out, the vector file is missed by moves alone; a group of 0 counts as 1. */
+static void no_vectors(void)
+{
+    int right = moving_start(0) && bodlarina_bench_step(&bench, bodlarina_mmvcr_v_m(3, 1, 0)) == 0 && moved_out(3, 1, 0, 0);
+    bench.vectors = NULL;
+    bench.vectors_len = 0;
+    right = right && bodlarina_bench_step(&bench, bodlarina_msettilemi(0, 2)) == 0;
+    right = right && move_refused(bodlarina_mmvcr_v_m(3, 1, 0), BODLARINA_BAD_ARGUMENTS);
+    right = right && move_refused(bodlarina_mmvcc_m_v(1, 3, 0), BODLARINA_BAD_ARGUMENTS);
+    right = right && move_refused(1u << 27 | bodlarina_mmvcr_v_m(3, 1, 0), BODLARINA_ILLEGAL_WORD);
+    check(right, "a host without vector registers: moves get 8, other words go on");
+}
+
+static void moves(void)
+{
+    moves_out();
+    moves_in();
+    moves_refused();
+    no_vectors();
+}
+
 /* ---- stack: a call in a thread whose stack was painted ---- */
 
 enum { STACK_STRIDE = 1208 };
@@ -929,6 +1060,18 @@ static int measure_arithmetic(unsigned times)
     return right;
 }
 
+/* Moves of two rows and of two columns, each as long as a vector register where the machine has room for that. */
+static int measure_moves(unsigned width)
+{
+    large.vectors = vectors;
+    large.vectors_len = sizeof vectors;
+    large.group = 2;
+    int right = measure_word(bodlarina_msettilemi(0, 16u >> width)) && measure_word(bodlarina_msettileni(0, 16u >> width));
+    right = right && measure_word(bodlarina_mmvcr_v_m(0, 1, 0)) && measure_word(bodlarina_mmvcr_m_v(1, 8, 0));
+    right = right && measure_word(bodlarina_mmvcc_v_m(0, 1, 0)) && measure_word(bodlarina_mmvcc_m_v(1, 8, 0));
+    return right && measure_word(bodlarina_msettilem(1, 0)) && measure_word(bodlarina_msettilen(1, 0));
+}
+
 /* Every family under one mtype with the largest tiles, all registers written. */
 static int measure_type(unsigned width, unsigned times)
 {
@@ -936,7 +1079,7 @@ static int measure_type(unsigned width, unsigned times)
     memset(large_marks, 1, large.marks_len);
     int right = measure_word(bodlarina_msettypei(0, mtype)) && measure_word(bodlarina_msettilem(1, 0));
     right = right && measure_word(bodlarina_msettilek(1, 0)) && measure_word(bodlarina_msettilen(1, 0));
-    right = right && measure_transfers(width, width + times) && measure_arithmetic(times);
+    right = right && measure_transfers(width, width + times) && measure_arithmetic(times) && measure_moves(width);
     right = right && (mtype != BODLARINA_E32 || measure_word(bodlarina_mfma_mm(0, 0, 1)));
     right = right && measure(image_size) && measure(write_image) && measure(read_image);
     return right && measure_plan(BODLARINA_PRODUCT, (uint64_t)8 << width, (uint64_t)1 << times)
@@ -971,6 +1114,7 @@ int main(void)
     floats();
     images();
     larger();
+    moves();
     stack();
     printf("%d passed, %d failed\n", passed, failed);
     return failed != 0;
