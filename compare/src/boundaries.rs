@@ -5,7 +5,7 @@ use crate::lent::Lent;
 use crate::random::Random;
 use crate::states::{
     any_operands, any_row, any_scalar, bench_of, good_case, good_machine, left_out_word, lengths,
-    lengths_at_64, machine_fitting_on, moved_rows, mtypes, put_state_fault, raise_sizes,
+    lengths_at_64, lines_of, machine_fitting_on, moved_rows, mtypes, put_state_fault, raise_sizes,
     register_fields, set_size, unmark_source, wrapping_stride, Case, SIZES, WILD_STRIDES,
 };
 use crate::suite::{check_step, each_case, Context, Outcome};
@@ -82,10 +82,10 @@ pub fn check_boundaries(context: &mut Context, boundaries: &[Boundary]) -> Outco
     Ok(format!("{} boundaries, {cases} cases", boundaries.len()))
 }
 
-/// A row that is no move: those have more answers 4.
+/// A row that is no move: src/moves has their boundaries.
 pub fn row_where(random: &mut Random, wanted: impl Fn(&Row) -> bool) -> &'static Row {
-    let moves = |row: &Row| matches!(row.kind, Kind::MoveOut(_) | Kind::MoveIn(_));
-    let rows: Vec<&'static Row> = LISTING.iter().filter(|row| !moves(row) && wanted(row)).collect();
+    let among = |row: &&'static Row| lines_of(row.kind).is_none() && wanted(row);
+    let rows: Vec<&'static Row> = LISTING.iter().filter(among).collect();
     random.pick(&rows)
 }
 

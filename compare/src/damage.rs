@@ -12,7 +12,13 @@ pub fn damaged_steps(context: &mut Context) -> Outcome {
         let row = any_row(random);
         let case = good_case(random, row);
         let mut lent = case.lent;
-        for buffer in [&mut lent.machine, &mut lent.registers, &mut lent.marks, &mut lent.scalars] {
+        for buffer in [
+            &mut lent.machine,
+            &mut lent.registers,
+            &mut lent.marks,
+            &mut lent.scalars,
+            &mut lent.vectors,
+        ] {
             match random.below(5) {
                 0 => *buffer = random.bytes(buffer.len()),
                 1 => wrong_length(random, buffer),
@@ -20,22 +26,26 @@ pub fn damaged_steps(context: &mut Context) -> Outcome {
                 _ => {}
             }
         }
+        if random.chance(10) {
+            lent.group = random.next() >> random.below(64);
+        }
         check_step(case.word, &lent, tally).map(|_| ())
     })
 }
 
 /// Every slice empty, or all but one.
 pub fn empty_slices(context: &mut Context) -> Outcome {
-    each_case(context, "empty slices", 64, |case, random, tally| {
+    each_case(context, "empty slices", 70, |case, random, tally| {
         let row = any_row(random);
         let mut lent = good_case(random, row).lent;
-        let whole = case % 6;
+        let whole = case % 7;
         for (at, buffer) in [
             &mut lent.machine,
             &mut lent.registers,
             &mut lent.marks,
             &mut lent.scalars,
             &mut lent.memory,
+            &mut lent.vectors,
         ]
         .into_iter()
         .enumerate()
@@ -47,7 +57,7 @@ pub fn empty_slices(context: &mut Context) -> Outcome {
         check_step(random.next() as u32, &lent, tally)?;
         let before = lent.clone();
         let Lent { machine, registers, marks, .. } = &mut lent;
-        let given = library::start(64, 128, 32, case / 6 % 2, 0, 0, machine, registers, marks);
+        let given = library::start(64, 128, 32, case / 7 % 2, 0, 0, machine, registers, marks);
         if given != 8 || lent != before {
             return Err(format!("a start gives {given}, or bytes change"));
         }

@@ -3,16 +3,18 @@
 //!
 //! Reads lines `mnemonic operand=value .. word answer` (tests/words.c). Each word
 //! is the one that the listing has for this mnemonic and these operands, each cut
-//! to its field; the library's answer to it is 12 exactly where a register is out
-//! of range, and never 10, 11 or 1. With operands at their bounds the library
-//! does with the word what the second program does with the instruction: answer,
-//! machine, registers, marks, scalars and memory. There are lines for every row
-//! that we carry out and for no other.
+//! to its field; the library's answer to it, with a vector file in groups of one, is
+//! 12 exactly where a register is out of range, and never 10, 11 or 1. With operands
+//! at their bounds the library does with the word what the second program does with
+//! the instruction: answer, machine, registers, marks, scalars, memory and vector
+//! file, of a move by each group size. There are lines for every row that we carry
+//! out and for no other.
 
 #[allow(dead_code)] // steps alone are made here
 mod library;
 
-use model::{Bench, Lengths, Machine, LISTING, RULES};
+use model::moves::{Vectors, GROUPS, VECTOR_FILE_BYTES};
+use model::{Bench, Kind, Lengths, Machine, LISTING, RULES};
 use std::collections::BTreeSet;
 use std::io::BufRead;
 
@@ -47,13 +49,19 @@ fn encoded(line: &Line) -> bool {
         && model::assemble(&line.mnemonic, &operands) == line.word
 }
 
-/// The library takes the word for an instruction, or refuses its registers.
+/// The library takes the word for an instruction, or refuses its registers. Every tile is
+/// empty, so that a move names lines past it.
 fn answered(line: &Line) -> bool {
     match model::decode(line.word) {
-        Ok(_) if line.mnemonic.starts_with("mmv") => line.answer == 4,
+        Ok(_) if is_move(line.word) => line.answer == 4,
         Ok(_) => line.answer == 0 || line.answer == 3,
         Err(number) => number == 12 && line.answer == 12,
     }
+}
+
+fn is_move(word: u32) -> bool {
+    let moves = |kind| matches!(kind, Kind::MoveOut(_) | Kind::MoveIn(_));
+    model::decode(word).is_ok_and(|found| moves(found.row.kind))
 }
 
 fn at_bounds(line: &Line) -> bool {
@@ -75,7 +83,7 @@ const MACHINES: [(Lengths, &[u64]); 2] =
     [((64, 128, 32), &[0, 1, 2, 8]), ((128, 256, 64), &[0, 1, 2, 3, 8, 9])];
 
 /// A machine on which most words are done, all different bytes, and scalars that
-/// are addresses in memory.
+/// are addresses in memory; x31 is 1, a line of a tile.
 fn bench(lengths: Lengths, mtype: u64, rule: u64) -> (Bench, Vec<u64>) {
     let machine = Machine { mtype, tile_m: 2, tile_k: 2, tile_n: 2, ..Machine::of(lengths, rule) };
     let size = model::register_bytes(machine.mlen);
@@ -84,21 +92,23 @@ fn bench(lengths: Lengths, mtype: u64, rule: u64) -> (Bench, Vec<u64>) {
     let memory = (0..200).map(|at| made(at, 91)).collect();
     (
         Bench { machine, registers, marks: vec![1; size], memory },
-        (0..32).map(|slot| 2 * slot + 1).collect(),
+        (0..32).map(|slot| if slot == 31 { 1 } else { 2 * slot + 1 }).collect(),
     )
 }
 
-/// One step on both programs, on a machine of these lengths, this mtype and rule.
-fn stepped_alike(word: u32, (lengths, mtype, rule): (Lengths, u64, u64)) -> bool {
+/// One step on both programs, on a machine of these lengths, this mtype and rule, with
+/// groups of this size.
+fn stepped_alike(word: u32, (lengths, mtype, rule): (Lengths, u64, u64), group: u64) -> bool {
     let (mut second, mut values) = bench(lengths, mtype, rule);
     let mut block = bytes(&numbers(&second.machine));
     let (mut registers, mut marks) = (second.registers.clone(), second.marks.clone());
     let (mut scalars, mut memory) = (bytes(&values), second.memory.clone());
-    let mut vectors = model::Vectors { file: (0..512).map(|at| at as u8).collect(), group: 1 };
-    let mut file = vectors.file.clone();
+    let file: Vec<u8> = (0..VECTOR_FILE_BYTES).map(|at| (at * 53 + at / 5) as u8).collect();
+    let mut vectors = Vectors { file: file.clone(), group };
+    let mut file = file;
     let given = library::step(
         word,
-        vectors.group,
+        group,
         &mut block,
         &mut registers,
         &mut marks,
@@ -127,8 +137,11 @@ fn main() {
         let line = read(&text).expect("mnemonic, operands, word and answer");
         let mut right = encoded(&line) && answered(&line);
         if right && at_bounds(&line) {
-            right = states.iter().all(|&state| stepped_alike(line.word, state));
-            steps += states.len() as u64;
+            let groups = if is_move(line.word) { &GROUPS[..] } else { &GROUPS[..1] };
+            right = states
+                .iter()
+                .all(|&state| groups.iter().all(|&group| stepped_alike(line.word, state, group)));
+            steps += (states.len() * groups.len()) as u64;
         }
         lines += 1;
         if !right {

@@ -14,7 +14,7 @@ use crate::rules::{ask, size_given, sized_by_x0};
 use crate::runs::plans::packed_plan;
 use crate::starts::{MLENS, RLENS};
 use crate::states::{
-    any_row, bench_of, case_of, fitting_mtypes, larger_lengths, lengths_at_64, limits,
+    any_row, bench_of, case_of, fitting_mtypes, larger_lengths, lengths_at_64, limits, lines_of,
     machine_fitting_on, mtypes, multiplier, put_faults, set_size, Case, SIZES, UNKNOWN_ELENS,
 };
 use crate::suite::{check_step, each_case, Context, Outcome};
@@ -85,7 +85,7 @@ fn calls_on(
         registers,
         scalars: vec![0; library::SCALARS_BYTES],
         memory: random.bytes(memory),
-        vectors: random.bytes(model::VECTOR_FILE_BYTES),
+        vectors: random.bytes(library::VECTORS_BYTES),
         group: 1,
     };
     let before = lent.clone();
@@ -234,10 +234,9 @@ pub fn widths_by_elen(context: &mut Context) -> Outcome {
             lent.memory = random.bytes(48);
             lent.set_scalar(1, 0);
             lent.set_scalar(2, 16);
-            // A move takes the first row or column.
-            lent.group = 1;
-            let moving = matches!(row.kind, Kind::MoveOut(_) | Kind::MoveIn(_));
-            let rs2 = if moving { 0 } else { 2 };
+            // A move of both lines, from x0 on.
+            lent.group = 2;
+            let rs2 = if lines_of(row.kind).is_some() { 0 } else { 2 };
             let word = assemble(row.name, &[("rs1", 1), ("rs2", rs2), ("imm", 5)]);
             let (number, _) = check_step(word, &lent, tally)?;
             if number != if fits { 0 } else { 3 } {
@@ -582,9 +581,11 @@ pub fn far_elements(context: &mut Context) -> Outcome {
         (4096, 8192, 32),
         (4096, 16_384, 64),
     ];
-    let other = |kind| matches!(kind, Kind::SetType | Kind::SetSize(_) | Kind::Load(..));
-    let moves = |kind| matches!(kind, Kind::MoveOut(_) | Kind::MoveIn(_)); // of slices
-    let reads = |row: &&'static Row| !other(row.kind) && !moves(row.kind);
+    // Moves have short lines: `far lines` is theirs.
+    let reads = |row: &&'static Row| {
+        let setting = matches!(row.kind, Kind::SetType | Kind::SetSize(_));
+        !setting && !matches!(row.kind, Kind::Load(..)) && lines_of(row.kind).is_none()
+    };
     let rows: Vec<&'static Row> = LISTING.iter().filter(reads).collect();
     let mut farthest = (0, 0);
     let count = 4 * (lengths.len() * rows.len()) as u64 * context.scale;

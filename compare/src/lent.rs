@@ -1,7 +1,8 @@
 //! What a host lends, as byte blocks, and both programs over it.
 
 use crate::library;
-use model::{Answer, Bench, Handed, Lengths, Machine, Plan, Run, Vectors};
+use model::moves::Vectors;
+use model::{Answer, Bench, Handed, Lengths, Machine, Plan, Run};
 use std::fmt::Write;
 
 #[derive(Clone, Debug, PartialEq, Eq)]
@@ -71,7 +72,7 @@ pub fn handed_of(block: &[u8]) -> Handed {
 }
 
 /// A machine that the library started on register bytes and memory, all marks 1
-/// before and all scalars 0.
+/// before, all scalars 0 and the vector file too, in groups of one.
 pub fn started(lengths: Lengths, rule: u64, registers: Vec<u8>, memory: Vec<u8>) -> Lent {
     let mut lent = Lent {
         machine: vec![0; library::MACHINE_BYTES],
@@ -79,7 +80,7 @@ pub fn started(lengths: Lengths, rule: u64, registers: Vec<u8>, memory: Vec<u8>)
         registers,
         scalars: vec![0; library::SCALARS_BYTES],
         memory,
-        vectors: vec![0; model::VECTOR_FILE_BYTES],
+        vectors: vec![0; library::VECTORS_BYTES],
         group: 1,
     };
     let Lent { machine, registers, marks, .. } = &mut lent;
@@ -106,7 +107,7 @@ impl Lent {
         self.scalars[at..at + 8].copy_from_slice(&value.to_le_bytes());
     }
 
-    /// The bench without the scalars; `None` is answer 8.
+    /// The bench without the scalars and the vector file; `None` is answer 8.
     pub fn bench(&self) -> Option<Bench> {
         Some(Bench {
             machine: machine_of(&self.machine)?,
@@ -124,7 +125,7 @@ impl Lent {
             && self.memory == bench.memory
     }
 
-    /// Takes what a bench holds; the scalars stay.
+    /// Takes what a bench holds; the scalars and the vector file stay.
     pub fn take(&mut self, bench: Bench) {
         self.machine = machine_block(&bench.machine);
         self.registers = bench.registers;

@@ -7,6 +7,7 @@ use model::Plan;
 // of 8 bytes (src/lent.rs and src/runs/damage.rs have their order).
 pub const MACHINE_BYTES: usize = 80;
 pub const SCALARS_BYTES: usize = 256;
+pub const VECTORS_BYTES: usize = 512;
 pub const RUN_BYTES: usize = 160;
 pub const STEP_BYTES: usize = 24;
 pub const STEPS_BYTES: usize = 8;
@@ -48,7 +49,10 @@ calls! {
         rlen: u64, mlen: u64, elen: u64, rule: u64, seal_start: u64, seal_length: u64;
         machine, registers, marks
     );
-    step = bodlarina_step(word: u32, group: u64; machine, registers, marks, scalars, memory, vectors);
+    step = bodlarina_step(
+        word: u32, group: u64;
+        machine, registers, marks, scalars, memory, vectors
+    );
     run_next = bodlarina_run_next(; run, step);
     run_steps = bodlarina_run_steps(; run);
     run_turn = bodlarina_run_turn(; run, machine, registers, marks, memory);

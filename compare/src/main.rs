@@ -16,6 +16,7 @@ mod images;
 mod larger;
 mod lent;
 mod library;
+mod moves;
 mod overlapping;
 mod powerup;
 mod random;
@@ -34,7 +35,7 @@ mod words;
 use std::time::Instant;
 use suite::{Context, Outcome, Suite};
 
-const SUITES: [Suite; 60] = [
+const SUITES: [Suite; 66] = [
     ("bench sheet", sheet::bench_sheet),
     ("machine starts", starts::machine_starts),
     ("codes", steps::codes),
@@ -64,6 +65,12 @@ const SUITES: [Suite; 60] = [
     ("far elements", larger::far_elements),
     ("larger steps", larger::larger_steps),
     ("larger sizes", larger::larger_sizes),
+    ("move boundaries", moves::boundaries::move_boundaries),
+    ("moves", moves::suites::moves),
+    ("far lines", moves::suites::far_lines),
+    ("moved out and back", moves::suites::out_and_back),
+    ("move lists", moves::suites::move_lists),
+    ("section 6.1.7", moves::listing::listing_of_vectors),
     ("sequences", steps::sequences),
     ("power-up words", powerup::power_up_words),
     ("damaged steps", damage::damaged_steps),

@@ -1,6 +1,6 @@
 //! The second program: the rules of the scope paper and of the change requests
-//! that have landed (One, Two, Three, Four, Six, Seven, Eight, Ten; Nine asks for
-//! nothing new), each as one plain function.
+//! that have landed (One, Two, Three, Four, Six, Seven, Eight, Ten, Eleven; Nine asks
+//! for nothing new), each as one plain function.
 //!
 //! It is written to be read beside the paper, not to be fast. Sizes and
 //! addresses are whole numbers (`i128`), bytes are looked at one by one, and a
@@ -12,6 +12,10 @@ use std::collections::HashMap;
 pub mod floats;
 #[path = "model_images.rs"]
 pub mod images;
+#[path = "model_moves.rs"]
+pub mod moves;
+
+use moves::{Lines, Vectors};
 
 /// mtype's bit 63: the last new value was illegal.
 pub const MILL: u64 = 1 << 63;
@@ -37,7 +41,7 @@ pub const SMALLER: u64 = 0;
 pub const HALVING: u64 = 1;
 pub const RULES: [u64; 2] = [SMALLER, HALVING];
 
-/// A machine with what it is lent, but for the scalars.
+/// A machine with what it is lent, but for the scalars and the vector file.
 #[derive(Clone, Debug, PartialEq, Eq)]
 pub struct Bench {
     pub machine: Machine,
@@ -267,10 +271,9 @@ pub enum Kind {
     Subtract(i128),
     ReverseSubtract(i128),
     Scale(i128),
-    /// Rows (plain) or columns (transposed) of an accumulator to and from vector
-    /// registers (request Eleven).
-    MoveOut(Form),
-    MoveIn(Form),
+    /// To and from vector registers (request Eleven).
+    MoveOut(Lines),
+    MoveIn(Lines),
 }
 
 /// A row of the listing that we carry out. Its columns stand as printed, from
@@ -290,7 +293,7 @@ use Form::*;
 use Kind::*;
 use Matrix::*;
 
-/// The rows that we carry out, in the listing's order.
+/// The rows that we carry out, in the listing's order, then those of section 6.1.7.
 pub const LISTING: [Row; 79] = [
     row("msettypei", "0000 mtypei 111 rd 1110111", SetType),
     row("msettype", "0001 00000000 rs1 111 rd 1110111", SetType),
@@ -367,10 +370,10 @@ pub const LISTING: [Row; 79] = [
     row("memulc.mi", "010000 0 imm ms1 110 md 1110111", Scale(1)),
     row("mwemulc.mi", "010001 0 imm ms1 110 md 1110111", Scale(2)),
     row("mqemulc.mi", "010010 0 imm ms1 110 md 1110111", Scale(4)),
-    row("mmvcr.v.m", "000000 0 rs2 ms1 101 vd 1110111", MoveOut(Plain)),
-    row("mmvcr.m.v", "000000 1 rs2 vs1 101 md 1110111", MoveIn(Plain)),
-    row("mmvcc.v.m", "000100 0 rs2 ms1 101 vd 1110111", MoveOut(Transposed)),
-    row("mmvcc.m.v", "000100 1 rs2 vs1 101 md 1110111", MoveIn(Transposed)),
+    row("mmvcr.v.m", "000000 0 rs2 ms1 101 vd 1110111", MoveOut(Lines::Rows)),
+    row("mmvcr.m.v", "000000 1 rs2 vs1 101 md 1110111", MoveIn(Lines::Rows)),
+    row("mmvcc.v.m", "000100 0 rs2 ms1 101 vd 1110111", MoveOut(Lines::Columns)),
+    row("mmvcc.m.v", "000100 1 rs2 vs1 101 md 1110111", MoveIn(Lines::Columns)),
 ];
 
 /// The rows that we leave out, in the listing's order: name and columns.
@@ -556,17 +559,6 @@ impl Instruction {
     fn ms2(&self) -> Register {
         Register::Tile(self.get("ms2"))
     }
-
-    /// The accumulator of a move.
-    fn accumulator(&self) -> Register {
-        let number = self.operand("ms1").or(self.operand("md")).expect("an accumulator");
-        Register::Accumulator(number)
-    }
-
-    /// The vector register that a move's group starts at.
-    fn group_start(&self) -> Option<u32> {
-        self.operand("vd").or(self.operand("vs1"))
-    }
 }
 
 fn register_in_range(register: Register) -> bool {
@@ -586,7 +578,8 @@ fn registers_in_range(instruction: &Instruction) -> bool {
         Add(_) | Subtract(_) | ReverseSubtract(_) | Scale(_) => {
             register_in_range(instruction.ms1()) && register_in_range(instruction.md())
         }
-        MoveOut(_) | MoveIn(_) => register_in_range(instruction.accumulator()),
+        MoveOut(_) => register_in_range(instruction.ms1()),
+        MoveIn(_) => register_in_range(instruction.md()),
     }
 }
 
@@ -755,7 +748,8 @@ fn multiplier(instruction: &Instruction, machine: &Machine, scalars: &[u64]) -> 
     }
 }
 
-/// The tiles an instruction reads from registers, in the order ms1, ms2, md.
+/// The tiles an instruction reads from registers, in the order ms1, ms2, md; what a move
+/// reads is no tile.
 pub fn sources(instruction: &Instruction, machine: &Machine, scalars: &[u64]) -> Vec<Tile> {
     let sew = sew(machine.mtype);
     let width = output_width(instruction, machine);
@@ -877,77 +871,26 @@ fn writes_sealed_byte(instruction: &Instruction, machine: &Machine, addresses: &
     matches!(instruction.row.kind, Store(..)) && addresses.iter().any(|&a| sealed(machine, a))
 }
 
-/// The vector registers that a host lends, and how many of them a group has.
-#[derive(Clone, Debug, PartialEq, Eq)]
-pub struct Vectors {
-    pub file: Vec<u8>,
-    pub group: u64,
-}
-
-pub const VECTOR_BYTES: usize = 16;
-pub const VECTOR_FILE_BYTES: usize = 32 * VECTOR_BYTES;
-
-/// Zeros in groups of one.
-pub fn no_vectors() -> Vectors {
-    Vectors { file: vec![0; VECTOR_FILE_BYTES], group: 1 }
-}
-
-/// The elements that a move moves, register by register: row and column in the
-/// accumulator, and the first byte in the vector file. `None` is answer 4.
-fn slice(
-    instruction: &Instruction,
-    machine: &Machine,
-    scalars: &[u64],
-    vectors: &Vectors,
-) -> Option<Vec<(i128, i128, usize)>> {
-    let (MoveOut(form) | MoveIn(form)) = instruction.row.kind else {
-        return Some(vec![]);
-    };
-    let first = scalar(scalars, instruction.get("rs2")) as i128;
-    let (count, group) = (vectors.group as i128, instruction.group_start().expect("a group"));
-    let (lines, length) = match form {
-        Plain => (machine.tile_m as i128, machine.tile_n as i128),
-        Transposed => (machine.tile_n as i128, machine.tile_m as i128),
-    };
-    let bytes = sew(machine.mtype) / 8;
-    if first + count > lines || length * bytes > VECTOR_BYTES as i128 {
-        return None;
-    }
-    let mut elements = Vec::new();
-    for line in 0..count {
-        for at in 0..length {
-            let (i, j) = match form {
-                Plain => (first + line, at),
-                Transposed => (at, first + line),
-            };
-            let place = (group as i128 + line) * VECTOR_BYTES as i128 + at * bytes;
-            elements.push((i, j, place as usize));
-        }
-    }
-    Some(elements)
-}
-
-/// One instruction word of a host without vector registers.
+/// One instruction word that is no move: nothing is left in a vector file.
 pub fn step(word: u32, bench: &mut Bench, scalars: &mut [u64]) -> Answer {
-    vector_step(word, bench, scalars, &mut no_vectors())
+    vector_step(word, bench, scalars, &mut moves::unused())
 }
 
-/// One instruction word.
+/// One instruction word, with a vector file.
 pub fn vector_step(
     word: u32,
     bench: &mut Bench,
     scalars: &mut [u64],
     vectors: &mut Vectors,
 ) -> Answer {
-    let no_file = vectors.file.len() != VECTOR_FILE_BYTES || ![1, 2, 4, 8].contains(&vectors.group);
-    if state_at_fault(bench) || scalars.len() != 32 || no_file {
+    if state_at_fault(bench) || scalars.len() != 32 || moves::at_fault(vectors) {
         return answer(8);
     }
     let instruction = match decode(word) {
         Ok(instruction) => instruction,
         Err(number) => return answer(number),
     };
-    if instruction.group_start().is_some_and(|start| start as u64 % vectors.group != 0) {
+    if moves::misaligned(&instruction, vectors.group) {
         return answer(12);
     }
     if bench.machine.mtype & MILL != 0 && instruction.row.kind != SetType {
@@ -956,18 +899,16 @@ pub fn vector_step(
     if width_rule_broken(instruction.row.kind, bench.machine.mtype, bench.machine.elen) {
         return answer(3);
     }
-    if size_too_large(&instruction, &bench.machine) {
+    if size_too_large(&instruction, &bench.machine)
+        || moves::slice_too_large(&instruction, &bench.machine, scalars, vectors.group)
+    {
         return answer(4);
     }
-    let Some(elements) = slice(&instruction, &bench.machine, scalars, vectors) else {
-        return answer(4);
-    };
     let sources = sources(&instruction, &bench.machine, scalars);
-    if let Some((row, column)) = first_unwritten(bench, &sources) {
+    let unwritten = first_unwritten(bench, &sources)
+        .or_else(|| moves::first_unwritten(&instruction, bench, scalars, vectors.group));
+    if let Some((row, column)) = unwritten {
         return Answer { number: 5, row: row as u64, column: column as u64 };
-    }
-    if matches!(instruction.row.kind, MoveOut(_) | MoveIn(_)) {
-        return move_slice(&instruction, bench, vectors, &elements);
     }
     let addresses = addresses(&instruction, &bench.machine, scalars);
     if outside_memory(&addresses, &bench.memory) {
@@ -979,43 +920,19 @@ pub fn vector_step(
     if writes_sealed_byte(&instruction, &bench.machine, &addresses) {
         return answer(7);
     }
-    carry_out(&instruction, bench, scalars);
-    answer(0)
-}
-
-/// A move of these elements, all of them in the tile; out needs marks, in sets them.
-/// The element that answer 5 names is the first in rows of the accumulator.
-fn move_slice(
-    instruction: &Instruction,
-    bench: &mut Bench,
-    vectors: &mut Vectors,
-    elements: &[(i128, i128, usize)],
-) -> Answer {
-    let width = sew(bench.machine.mtype);
-    let bytes = (width / 8) as usize;
-    let places = |i, j| register_element(&bench.machine, instruction.accumulator(), i, j, width);
-    let placed: Vec<_> = elements.iter().map(|&(i, j, at)| (i, j, places(i, j), at)).collect();
-    if let MoveIn(_) = instruction.row.kind {
-        for (_, _, places, at) in placed {
-            bench.registers[places.clone()].copy_from_slice(&vectors.file[at..at + bytes]);
-            bench.marks[places].fill(1);
-        }
-        return answer(0);
-    }
-    let unwritten = placed.iter().filter(|place| bench.marks[place.2.clone()].contains(&0));
-    if let Some((row, column)) = unwritten.map(|&(i, j, _, _)| (i, j)).min() {
-        return Answer { number: 5, row: row as u64, column: column as u64 };
-    }
-    for (_, _, places, at) in placed {
-        vectors.file[at..at + bytes].copy_from_slice(&bench.registers[places]);
-    }
+    carry_out(&instruction, bench, scalars, vectors);
     answer(0)
 }
 
 // ---------------------------------------------------------------------------
 // The effects of a step
 
-fn carry_out(instruction: &Instruction, bench: &mut Bench, scalars: &mut [u64]) {
+fn carry_out(
+    instruction: &Instruction,
+    bench: &mut Bench,
+    scalars: &mut [u64],
+    vectors: &mut Vectors,
+) {
     match instruction.row.kind {
         SetType => set_type(instruction, &mut bench.machine, scalars),
         SetSize(size) => set_size(instruction, size, &mut bench.machine, scalars),
@@ -1025,7 +942,8 @@ fn carry_out(instruction: &Instruction, bench: &mut Bench, scalars: &mut [u64]) 
         FloatMultiply => float_multiply(instruction, bench),
         Add(_) | Subtract(_) | ReverseSubtract(_) => add_or_subtract(instruction, bench),
         Scale(_) => scale(instruction, bench, scalars),
-        MoveOut(_) | MoveIn(_) => unreachable!("carried out by move_slice"),
+        MoveOut(_) => moves::move_out(instruction, bench, scalars, vectors),
+        MoveIn(_) => moves::move_in(instruction, bench, scalars, vectors),
     }
 }
 

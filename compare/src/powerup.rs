@@ -1,13 +1,15 @@
 //! Power-up contents never matter (request Nine). Two benches that differ at
 //! most in unmarked register bytes are lent to the library for the same calls:
-//! it has to answer both alike, and to leave them so again after each. The
-//! second program has no part in this.
+//! it has to answer both alike, and to leave them so again after each. The vector
+//! file is input like memory (request Eleven): equal before, and after each call.
+//! The second program has no part in this.
 
 use crate::lent::{library_step, state_text, Lent};
 use crate::library;
+use crate::moves::reckoned::rows_of_moves;
 use crate::random::Random;
-use crate::states::{bad_word, bench_of, good_machine, mtypes};
-use crate::steps::following_word;
+use crate::states::{bad_word, bench_of, good_machine, lines_of, mtypes};
+use crate::steps::{following_word, word_of_row};
 use crate::suite::{each_case, Context, Outcome};
 use crate::tally::ANSWERS;
 use model::{decode, sew, Kind, Machine};
@@ -172,8 +174,12 @@ fn any_pair(random: &mut Random) -> Result<Pair, String> {
 /// How often each answer was given.
 pub type Met = [u64; ANSWERS as usize];
 
-/// A word that mostly suits the state; float products more often than others.
+/// A word that mostly suits the state; moves and float products more often than others.
 fn any_word(random: &mut Random, lent: &mut Lent) -> u32 {
+    if random.chance(15) {
+        let row = random.pick(&rows_of_moves());
+        return word_of_row(random, row, lent);
+    }
     let word = following_word(random, lent);
     if random.chance(5) {
         return bad_word(random, word);
@@ -189,12 +195,12 @@ fn any_word(random: &mut Random, lent: &mut Lent) -> u32 {
 /// Words one after the other on both sides, by a step that is to be tested.
 /// In some lists the scalars are set for each word, in others they are what the
 /// words before left. How often each answer was given to them, and to the float
-/// products among them.
+/// products, the moves out and the moves in among them.
 fn word_list(
     random: &mut Random,
     pair: &mut Pair,
     step: fn(u32, &mut Lent) -> u64,
-    [met, met_by_floats]: &mut [Met; 2],
+    [met, met_by_floats, met_by_moves_out, met_by_moves_in]: &mut [Met; 4],
 ) -> Result<(), String> {
     let set_scalars = random.chance(50);
     for _ in 0..75 {
@@ -203,12 +209,17 @@ fn word_list(
         if set_scalars {
             pair.change(|side| side.lent.scalars.clone_from(&lent.scalars));
         }
+        pair.change(|side| side.lent.group = lent.group);
         let name = format!("word {word:#010x}: {}", model::describe(word));
         let result = pair.call(&name, |side| step(word, &mut side.lent))?;
         let number = (result & 0xFFFF) as usize;
         met[number] += 1;
-        let by_float = decode(word).is_ok_and(|found| found.row.kind == Kind::FloatMultiply);
-        met_by_floats[number] += u64::from(by_float);
+        match decode(word).map(|found| found.row.kind) {
+            Ok(Kind::FloatMultiply) => met_by_floats[number] += 1,
+            Ok(Kind::MoveOut(_)) => met_by_moves_out[number] += 1,
+            Ok(Kind::MoveIn(_)) => met_by_moves_in[number] += 1,
+            _ => {}
+        }
     }
     Ok(())
 }
@@ -222,41 +233,61 @@ fn step_without_marks(word: u32, lent: &mut Lent) -> u64 {
     result
 }
 
+/// What a library would do that looks at no mark in a move.
+fn move_without_marks(word: u32, lent: &mut Lent) -> u64 {
+    match decode(word) {
+        Ok(found) if lines_of(found.row.kind).is_some() => step_without_marks(word, lent),
+        _ => library_step(word, lent),
+    }
+}
+
 /// Lists of words on pairs. In every tenth case a list is also given to a step
-/// that looks at no mark: that one has to be found out, in most lists.
+/// that looks at no mark, and one to a step that does so in moves alone: they have to be
+/// found out, in most lists and in some.
 pub fn power_up_words(context: &mut Context) -> Outcome {
     let count = 4_000 * context.scale;
-    let mut both = [Met::default(); 2];
-    let (mut lists, mut found_out) = (0, 0);
+    let mut all = [Met::default(); 4];
+    let (mut lists, mut found_out) = (0, [0; 2]);
     let cases = each_case(context, "power-up words", count, |case, random, _| {
         let mut pair = any_pair(random)?;
         pair.check_comparison(random)?;
-        word_list(random, &mut pair, library_step, &mut both)?;
+        word_list(random, &mut pair, library_step, &mut all)?;
         pair.check_comparison(random)?;
         if case % 10 == 0 {
-            let mut pair = any_pair(random)?;
-            let outcome = word_list(random, &mut pair, step_without_marks, &mut Default::default());
             lists += 1;
-            found_out += u64::from(outcome.is_err());
+            for (at, step) in [step_without_marks, move_without_marks].into_iter().enumerate() {
+                let mut pair = any_pair(random)?;
+                let outcome = word_list(random, &mut pair, step, &mut Default::default());
+                found_out[at] += u64::from(outcome.is_err());
+            }
         }
         Ok(())
     })?;
-    let [met, met_by_floats] = both;
+    let [met, met_by_floats, met_by_moves_out, met_by_moves_in] = all;
     // No state is at fault here, and 9, 14 and 15 are no answers of a step.
     let missing: Vec<usize> = (0..met.len())
         .filter(|&number| met[number] == 0 && ![8, 9, 14, 15].contains(&number))
         .collect();
     let text = format!(
-        "{cases}, {} words done, {} refused with 5, {} otherwise; of float products {} and {}; \
-         without marks {found_out} of {lists} lists found out",
+        "{cases}, {} words done, {} refused with 5, {} otherwise; of float products {} and {}, \
+         of moves out {} and {}, {} moves in done; without marks, and without them in moves, \
+         {found_out:?} of {lists} lists found out",
         met[0],
         met[5],
         met.iter().sum::<u64>() - met[0] - met[5],
         met_by_floats[0],
         met_by_floats[5],
+        met_by_moves_out[0],
+        met_by_moves_out[5],
+        met_by_moves_in[0],
     );
-    let floats_missing = met_by_floats[0] == 0 || met_by_floats[5] == 0;
-    let too_few = !missing.is_empty() || floats_missing || 2 * found_out < lists;
+    let done = [met_by_floats[0], met_by_moves_out[0], met_by_moves_in[0]];
+    let unwritten = [met_by_floats[5], met_by_moves_out[5]];
+    let too_few = !missing.is_empty()
+        || done.contains(&0)
+        || unwritten.contains(&0)
+        || 2 * found_out[0] < lists
+        || 20 * found_out[1] < lists;
     if context.only_case.is_none() && too_few {
         return Err(format!("{text}; answers not met: {missing:?}"));
     }

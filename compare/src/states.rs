@@ -3,7 +3,9 @@
 
 use crate::float_numbers;
 use crate::lent::{machine_block, words_to_bytes, Lent};
+use crate::library;
 use crate::random::Random;
+use model::moves::{Lines, GROUPS, VECTOR_BITS};
 use model::{
     maximum, sew, Kind, Lengths, Machine, Matrix, Row, Size, LEFT_OUT, LISTING, MILL, RULES,
 };
@@ -44,6 +46,26 @@ pub const UNKNOWN_RULES: [u64; 8] =
 /// Numbers that are no ELEN.
 pub const UNKNOWN_ELENS: [u64; 14] =
     [0, 1, 5, 6, 8, 16, 31, 33, 63, 65, 128, 1 << 32, (1 << 32) + 32, u64::MAX];
+
+/// Numbers that are no group size of moves.
+pub const UNKNOWN_GROUPS: [u64; 16] = [
+    0,
+    3,
+    5,
+    6,
+    7,
+    9,
+    10,
+    12,
+    16,
+    32,
+    256 + 1,
+    (1 << 16) + 2,
+    1 << 32,
+    (1 << 32) + 8,
+    1 << 63,
+    u64::MAX,
+];
 
 /// Whether RLEN or MLEN is beyond the bounds of document 01 (request Ten).
 pub fn is_larger((rlen, mlen, _): Lengths) -> bool {
@@ -198,8 +220,8 @@ pub fn bench_of(random: &mut Random, machine: &Machine) -> Lent {
         marks: vec![1; length],
         scalars: words_to_bytes(&scalars),
         memory: vec![],
-        vectors: random.bytes(model::VECTOR_FILE_BYTES),
-        group: random.pick(&[1, 2, 4, 8]),
+        vectors: random.bytes(library::VECTORS_BYTES),
+        group: random.pick(&GROUPS),
     }
 }
 
@@ -264,8 +286,29 @@ pub fn moved_rows(kind: Kind, machine: &Machine) -> Option<(i128, i128)> {
     Some((model::tile_size(machine, rows), row_bytes))
 }
 
+/// What a move takes of an accumulator; `None` for any other instruction.
+pub fn lines_of(kind: Kind) -> Option<Lines> {
+    match kind {
+        Kind::MoveOut(lines) | Kind::MoveIn(lines) => Some(lines),
+        _ => None,
+    }
+}
+
+/// The size that counts the lines of a tile, and the one that counts a line's elements.
+pub fn sizes_of_lines(lines: Lines) -> (Size, Size) {
+    match lines {
+        Lines::Rows => (Size::M, Size::N),
+        Lines::Columns => (Size::N, Size::M),
+    }
+}
+
+/// A vector register at which a group may start.
+pub fn group_start(random: &mut Random, group: u64) -> u32 {
+    (group * random.below(32 / group)) as u32
+}
+
 /// Operands in range, with slots for scalars that are seldom x0.
-fn good_operands(random: &mut Random, kind: Kind) -> Vec<(&'static str, u32)> {
+fn good_operands(random: &mut Random, kind: Kind, group: u64) -> Vec<(&'static str, u32)> {
     let mut slot = || {
         if random.chance(5) {
             0
@@ -283,7 +326,7 @@ fn good_operands(random: &mut Random, kind: Kind) -> Vec<(&'static str, u32)> {
         Kind::Multiply(_) | Kind::FloatMultiply => (accumulator[0], tile[1]),
         _ => (accumulator[0], accumulator[1]),
     };
-    let vector = 8 * random.below(4) as u32;
+    let vector = group_start(random, group);
     let imm = if random.chance(20) { 0 } else { random.below(32) as u32 };
     let immediate = match random.below(3) {
         0 => random.below(20) as u32,
@@ -413,26 +456,21 @@ pub fn good_case(random: &mut Random, row: &'static Row) -> Case {
 /// The same on a machine.
 pub fn case_of(random: &mut Random, row: &'static Row, machine: &Machine) -> Case {
     let mut lent = bench_of(random, machine);
-    let operands = good_operands(random, row.kind);
+    let operands = good_operands(random, row.kind, lent.group);
     let word = model::assemble(row.name, &operands);
     aim(random, row.kind, &operands, &mut lent);
     Case { word, lent }
 }
 
-/// Sets the scalars that a word reads, the memory that it moves, or the float numbers
-/// that it multiplies.
+/// Sets the scalars that a word reads, the memory or the lines that it moves, or the
+/// float numbers that it multiplies.
 fn aim(random: &mut Random, kind: Kind, operands: &[(&str, u32)], lent: &mut Lent) {
     let machine = lent.machine();
     let (rs1, rs2) = (operand(operands, "rs1"), operand(operands, "rs2"));
-    if let Kind::MoveOut(form) | Kind::MoveIn(form) = kind {
-        let lines = match form {
-            model::Form::Plain => machine.tile_m,
-            model::Form::Transposed => machine.tile_n,
-        };
-        lent.set_scalar(rs2, random.range(0, lines.saturating_sub(lent.group)));
-        return;
-    }
-    if let Some((rows, row_bytes)) = moved_rows(kind, &machine) {
+    if let Some(lines) = lines_of(kind) {
+        size_lines(random, lines, lent);
+        name_lines(random, lines, rs2, lent);
+    } else if let Some((rows, row_bytes)) = moved_rows(kind, &machine) {
         let (address, stride, length) = place_rows(random, rows, row_bytes);
         lent.memory = random.bytes(length);
         lent.set_scalar(rs2, stride as u64);
@@ -444,6 +482,31 @@ fn aim(random: &mut Random, kind: Kind, operands: &[(&str, u32)], lent: &mut Len
     } else {
         lent.set_scalar(rs1, asked_value(random, kind, &machine));
     }
+}
+
+/// Sizes at which a move is done: as many lines as the group at least, which is made
+/// smaller where the machine has no tile of so many, of up to 128 bits each.
+fn size_lines(random: &mut Random, lines: Lines, lent: &mut Lent) {
+    let mut machine = lent.machine();
+    let width = sew(machine.mtype);
+    let (count, elements) = sizes_of_lines(lines);
+    let most = maximum(&machine, count, width) as u64;
+    while lent.group > most {
+        lent.group /= 2;
+    }
+    let any = random.range(lent.group, most);
+    set_size(&mut machine, count, random.pick(&[any, any, most]) as i128);
+    let longest = maximum(&machine, elements, width).min(VECTOR_BITS / width);
+    set_size(&mut machine, elements, size_up_to(random, longest));
+    lent.set_machine(&machine);
+}
+
+/// A scalar from which on a tile has as many lines as the group, often the last.
+pub fn name_lines(random: &mut Random, lines: Lines, slot: u32, lent: &mut Lent) {
+    let count = model::tile_size(&lent.machine(), sizes_of_lines(lines).0) as u64;
+    let last = count.saturating_sub(lent.group);
+    let any = random.range(0, last);
+    lent.set_scalar(slot, random.pick(&[0, any, any, last]));
 }
 
 /// Puts faults into a case, each with the given chance.
@@ -469,6 +532,9 @@ pub fn put_faults(random: &mut Random, case: &mut Case, percent: u64) {
         put_seal(random, &mut machine, &case.lent);
     }
     case.lent.set_machine(&machine);
+    if random.chance(2 * percent) {
+        put_move_fault(random, case);
+    }
     if random.chance(percent) {
         unmark_some(random, case);
     }
@@ -495,6 +561,36 @@ pub fn raise_sizes(random: &mut Random, machine: &mut Machine) {
         random.range(0, widest as u64) as i128
     };
     set_size(machine, size, value);
+}
+
+/// Another group size, or a scalar or a line's length around their bounds; nothing where
+/// the word is no move.
+fn put_move_fault(random: &mut Random, case: &mut Case) {
+    let Ok(instruction) = model::decode(case.word) else {
+        return;
+    };
+    let Some(lines) = lines_of(instruction.row.kind) else {
+        return;
+    };
+    let mut machine = case.lent.machine();
+    let (count, elements) = sizes_of_lines(lines);
+    match random.below(4) {
+        0 => case.lent.group = random.pick(&GROUPS),
+        1 => {
+            let lines = model::tile_size(&machine, count) as u64;
+            let near = lines.wrapping_sub(case.lent.group).wrapping_add(random.below(3));
+            let top = u64::MAX - random.below(9);
+            let far = random.pick(&[1 << 63, near | 1 << 32, top]);
+            let slot = case.word >> 20 & 31;
+            case.lent.set_scalar(slot, random.pick(&[near, near, near, far]));
+        }
+        _ => {
+            let full = VECTOR_BITS / sew(machine.mtype);
+            let widest = maximum(&machine, elements, 8);
+            set_size(&mut machine, elements, (full + random.below(2) as i128).min(widest));
+            case.lent.set_machine(&machine);
+        }
+    }
 }
 
 /// A seal of one byte, of some, past the end of memory, or of everything.
@@ -535,7 +631,18 @@ pub fn unmark_source(random: &mut Random, case: &mut Case) {
     let Ok(instruction) = model::decode(case.word) else {
         return;
     };
-    let sources = model::sources(&instruction, &machine, &case.lent.scalar_values());
+    let scalars = case.lent.scalar_values();
+    if let Kind::MoveOut(_) = instruction.row.kind {
+        let read = model::moves::moved_bytes(&instruction, &machine, &scalars, case.lent.group);
+        if read.is_empty() {
+            return;
+        }
+        if let Some(mark) = case.lent.marks.get_mut(random.pick(&read).register) {
+            *mark = 0;
+        }
+        return;
+    }
+    let sources = model::sources(&instruction, &machine, &scalars);
     if sources.is_empty() {
         return;
     }
@@ -564,11 +671,11 @@ fn move_end_of_memory(random: &mut Random, lent: &mut Lent) {
 
 /// Puts in a fault of the state (answer 8) of any kind.
 pub fn put_state_fault(random: &mut Random, lent: &mut Lent) {
-    let kind = random.below(12);
+    let kind = random.below(14);
     state_fault(random, lent, kind);
 }
 
-/// The same but for the scalars, of which a run is lent none.
+/// The same but for the scalars and the vector file, of which a run is lent none.
 pub fn put_bench_fault(random: &mut Random, lent: &mut Lent) {
     let kind = random.below(11);
     state_fault(random, lent, kind);
@@ -628,7 +735,9 @@ fn state_fault(random: &mut Random, lent: &mut Lent, kind: u64) {
             wrong_length(random, &mut lent.machine);
             return;
         }
-        _ => wrong_length(random, &mut lent.scalars),
+        11 => wrong_length(random, &mut lent.scalars),
+        12 => wrong_length(random, &mut lent.vectors),
+        _ => lent.group = random.pick(&UNKNOWN_GROUPS),
     }
     lent.set_machine(&machine);
 }

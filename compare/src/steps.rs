@@ -4,12 +4,13 @@ use crate::lent::{words_to_bytes, Lent};
 use crate::library;
 use crate::random::Random;
 use crate::states::{
-    any_row, any_scalar, bad_word, bench_of, good_case, good_machine, moved_rows, mtypes,
-    put_faults, WILD_STRIDES,
+    any_row, any_scalar, bad_word, bench_of, good_case, good_machine, group_start, lines_of,
+    moved_rows, mtypes, name_lines, put_faults, sizes_of_lines, WILD_STRIDES,
 };
 use crate::suite::{check_step, each_case, Context, Outcome};
 use crate::tally::{Call, Tally};
-use model::{Kind, Row, LISTING};
+use model::moves::{Lines, GROUPS};
+use model::{tile_size, Kind, Row, LISTING};
 
 /// Random words on random states, most of them done.
 pub fn random_steps(context: &mut Context) -> Outcome {
@@ -131,15 +132,20 @@ fn started(random: &mut Random, tally: &mut Tally) -> Result<Lent, String> {
     Ok(lent)
 }
 
-/// A word that mostly suits the state, with its scalars set.
+/// A word that mostly suits the state, with its scalars and the group size set.
 pub fn following_word(random: &mut Random, lent: &mut Lent) -> u32 {
     let machine = lent.machine();
-    let row = loop {
+    loop {
         let row = likely_row(random);
         if !model::width_rule_broken(row.kind, machine.mtype, machine.elen) || random.chance(3) {
-            break row;
+            return word_of_row(random, row, lent);
         }
-    };
+    }
+}
+
+/// The same of a row.
+pub fn word_of_row(random: &mut Random, row: &Row, lent: &mut Lent) -> u32 {
+    let machine = lent.machine();
     if let Kind::SetType = row.kind {
         // Seldom an illegal value, and back soon.
         let legal = random.pick(mtypes(machine.elen));
@@ -148,7 +154,10 @@ pub fn following_word(random: &mut Random, lent: &mut Lent) -> u32 {
         return model::assemble(row.name, &[("mtypei", mtype as u32), ("rs1", 6), ("rd", 7)]);
     }
     let (rs1, rs2) = (random.range(1, 15) as u32, random.range(16, 31) as u32);
-    if let Some((rows, row_bytes)) = moved_rows(row.kind, &machine) {
+    if let Some(lines) = lines_of(row.kind) {
+        take_group(random, lines, lent);
+        name_lines(random, lines, rs2, lent);
+    } else if let Some((rows, row_bytes)) = moved_rows(row.kind, &machine) {
         let (address, stride) = place_within(random, rows, row_bytes, lent.memory.len());
         lent.set_scalar(rs1, address);
         lent.set_scalar(rs2, stride as u64);
@@ -158,6 +167,7 @@ pub fn following_word(random: &mut Random, lent: &mut Lent) -> u32 {
     }
     let tile = random.below(3) as u32;
     let accumulator = random.below(2) as u32;
+    let vector = group_start(random, lent.group);
     let (md, ms1) = match row.kind {
         Kind::Load(model::Matrix::C, ..) | Kind::Store(model::Matrix::C, ..) => (accumulator, 0),
         Kind::Load(..) | Kind::Store(..) => (tile, 0),
@@ -172,12 +182,20 @@ pub fn following_word(random: &mut Random, lent: &mut Lent) -> u32 {
         ("ms3", md),
         ("ms1", ms1),
         ("ms2", random.below(3) as u32),
-        ("vd", 4 * random.below(8) as u32),
-        ("vs1", 4 * random.below(8) as u32),
+        ("vd", vector),
+        ("vs1", vector),
         ("imm", random.below(32) as u32),
         ("mleni", random.below(70) as u32),
     ];
     model::assemble(row.name, &operands)
+}
+
+/// A group size, mostly one of which the tile has as many lines.
+fn take_group(random: &mut Random, lines: Lines, lent: &mut Lent) {
+    let count = tile_size(&lent.machine(), sizes_of_lines(lines).0) as u64;
+    let fitting = GROUPS.iter().filter(|&&group| group <= count).count();
+    let among = if random.chance(95) { fitting.max(1) } else { GROUPS.len() };
+    lent.group = random.pick(&GROUPS[..among]);
 }
 
 /// Loads more often than the rest.

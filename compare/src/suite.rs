@@ -3,6 +3,7 @@
 use crate::lent::{library_step, machine_of, packed, report, second_step, Lent};
 use crate::random::Random;
 use crate::tally::Tally;
+use model::Answer;
 
 pub struct Context {
     pub seed: u64,
@@ -40,6 +41,11 @@ pub fn each_case(
 
 /// One step on both programs; the answer's number and what it left.
 pub fn check_step(word: u32, before: &Lent, tally: &mut Tally) -> Result<(u64, Lent), String> {
+    check_answer(word, before, tally).map(|(answer, after)| (answer.number, after))
+}
+
+/// The same with the whole answer.
+pub fn check_answer(word: u32, before: &Lent, tally: &mut Tally) -> Result<(Answer, Lent), String> {
     let mut library = before.clone();
     let given = library_step(word, &mut library);
     let mut second = before.clone();
@@ -52,5 +58,5 @@ pub fn check_step(word: u32, before: &Lent, tally: &mut Tally) -> Result<(u64, L
         ));
     }
     tally.step(word, answer.number, machine_of(&before.machine).map(|machine| machine.elen));
-    Ok((answer.number, second))
+    Ok((answer, second))
 }

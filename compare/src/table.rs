@@ -15,18 +15,23 @@
 #[allow(dead_code)] // only which answers can be met is asked here
 mod tally;
 
+use model::moves::Lines;
 use model::{name_by_fixed_bits, Form, Kind, Matrix, Row, Size, LEFT_OUT, LISTING};
 
 const BLOCKS: usize = 16;
 const ROWS: usize = 8;
 const FORMS: usize = 8;
+/// The values of bits 14..12 that have entries: 100 has none.
+const PRINTED_FORMS: [usize; 7] = [0, 1, 2, 3, 5, 6, 7];
 
 /// The numbers that the listing prints, ours and then those left out, each in
-/// its order. The transposed loads and stores have 9 to 32 again; 100 is added.
+/// its order. The transposed loads and stores have 9 to 32 again; 100 is added. To the
+/// numbers of section 6.1.7 200 is added.
 fn numbers() -> impl Iterator<Item = u8> {
-    let moves = (9..=20).chain(109..=120).chain(21..=32).chain(121..=132);
+    let transfers = (9..=20).chain(109..=120).chain(21..=32).chain(121..=132);
     let arithmetic = [33, 34, 35, 37, 38, 40, 42, 43, 45, 47, 48, 50, 52, 53, 55, 57, 58, 59, 60];
-    let ours = (1..=8).chain(moves).chain(arithmetic);
+    let moves = [229, 230, 235, 236];
+    let ours = (1..=8).chain(transfers).chain(arithmetic).chain(moves);
     let left_out = [36, 39, 41, 44, 46, 49, 51, 54, 56].into_iter().chain(61..=74);
     ours.chain(left_out)
 }
@@ -69,11 +74,10 @@ fn cell(name: Option<&str>) -> String {
 
 fn print_block(block: usize) {
     println!("\nBits 31..28 = {block:04b}:\n");
-    println!("| 27..25 | 000 | 001 | 010 | 011 | 110 | 111 |");
-    println!("|---|---|---|---|---|---|---|");
+    println!("| 27..25 | {} |", PRINTED_FORMS.map(|form| format!("{form:03b}")).join(" | "));
+    println!("|---|{}", "---|".repeat(PRINTED_FORMS.len()));
     for row in 0..ROWS {
-        let cells: Vec<String> =
-            [0, 1, 2, 3, 6, 7].iter().map(|&form| cell(name_at(block, row, form))).collect();
+        let cells = PRINTED_FORMS.map(|form| cell(name_at(block, row, form)));
         println!("| {row:03b} | {} |", cells.join(" | "));
     }
 }
@@ -117,11 +121,11 @@ fn memory(matrix: Matrix, form: Form) -> &'static str {
     }
 }
 
-/// What a move moves.
-fn lines(form: Form) -> &'static str {
-    match form {
-        Form::Plain => "rows",
-        Form::Transposed => "columns",
+/// What a move takes of an accumulator.
+fn lines(lines: Lines, register: &str) -> String {
+    match lines {
+        Lines::Rows => format!("rows of acc[{register}]"),
+        Lines::Columns => format!("columns of acc[{register}]"),
     }
 }
 
@@ -150,8 +154,8 @@ fn reads_writes(row: &Row) -> (String, String) {
         }
         Kind::Scale(_) if has("rs2") => ("acc[ms1], m by n, rs2".into(), acc),
         Kind::Scale(_) => ("acc[ms1], m by n".into(), acc),
-        Kind::MoveOut(form) => (format!("rs2, {} of acc[ms1]", lines(form)), "group of vd".into()),
-        Kind::MoveIn(form) => ("rs2, group of vs1".into(), format!("{} of acc[md]", lines(form))),
+        Kind::MoveOut(taken) => (format!("rs2, {}", lines(taken, "ms1")), "group of v[vd]".into()),
+        Kind::MoveIn(taken) => ("rs2, group of v[vs1]".into(), lines(taken, "md")),
         _ => (format!("acc[ms1], m by n, {acc}"), acc),
     }
 }

@@ -12,13 +12,14 @@
 //! - 2: every family but msettype and msettypei.
 //! - 3: loads and stores, the double and quadruple forms, and the float product. Of
 //!   the other words at the output width SEW no width rule can be broken.
-//! - 4: loads, stores, multiplies and element-wise words; their quadruple forms at
+//! - 4: loads, stores, multiplies, element-wise words and moves; quadruple forms at
 //!   ELEN 64 alone: they need maccq, so at ELEN 32 SEW is 8, where a size above its
 //!   maximum is answer 8. (tile_m's maximum is the same at every SEW, so loads and
-//!   stores of A get 4 by tile_k, those of C by tile_n.)
-//! - 5: what reads registers: stores, multiplies and element-wise words.
+//!   stores of A get 4 by tile_k, those of C by tile_n; a move gets it at any SEW by
+//!   its slice.)
+//! - 5: what reads registers: stores, multiplies, element-wise words and moves out.
 //! - 6: loads and stores. 7 and 13: stores.
-//! - 8: every word, since the state is tested before the word.
+//! - 8: every word, since the state and the vector file are tested before the word.
 //! - 9: no word.
 //! - 10: every word, since the opcode is tested before the rest of it.
 //! - 11: every family that is left out.
