@@ -8,7 +8,7 @@
 static uint8_t machine[BODLARINA_MACHINE_BYTES], registers[131072], marks[131072], scalars[256], vectors[512], run[BODLARINA_RUN_BYTES], seals[16];
 static uint8_t *memory;
 static size_t memory_len, size;
-static uint64_t elen = 32;
+static uint64_t elen = 32, group = 1;
 
 static double now(void) {
     struct timespec t;
@@ -22,6 +22,8 @@ static unsigned long left(void) {
         h = h * 33 + memory[i];
     for (size_t i = 0; i < size; i++)
         h = h * 33 + (marks[i] ? registers[i] : 0);
+    for (size_t i = 0; i < sizeof vectors; i++)
+        h = h * 33 + vectors[i];
     return h;
 }
 
@@ -36,13 +38,17 @@ static int fresh(uint64_t rlen, uint64_t mlen, size_t bytes) {
         memory[i] = (uint8_t)((uint32_t)i * 2654435761u >> 13);
     for (size_t i = 0; i < size; i++)
         registers[i] = (uint8_t)((uint32_t)i * 40503u >> 5);
+    for (size_t i = 0; i < sizeof vectors; i++)
+        vectors[i] = (uint8_t)((uint32_t)i * 97u);
     memset(scalars, 0, sizeof scalars);
     return (START & 0xffff) == 0;
 }
 
-/* one word again and again, all registers written and all sizes at their maxima */
+/* one word again and again, all registers written and all sizes at their maxima, but for rows that no vector register holds */
 static void step(const char *title, uint64_t rlen, uint64_t mlen, uint64_t mtype, uint32_t word) {
     size_t width = (size_t)1 << mtype % 8, rows = mlen / rlen, columns = rlen / 8 / width;
+    if (group > 1 && columns > 16 / width)
+        columns = 16 / width;
     uint64_t numbers[4] = {mtype, rows, rows < columns ? rows : columns, columns}, x[2] = {8, rlen / 2 + 8};
     double best = 1e30;
     if (!fresh(rlen, mlen, 65536)) {
@@ -52,6 +58,10 @@ static void step(const char *title, uint64_t rlen, uint64_t mlen, uint64_t mtype
     memset(marks, 1, size);
     memcpy(machine + 16, numbers, sizeof numbers);
     memcpy(scalars + 8, x, sizeof x);
+    if ((STEP & 0xffff) != 0) {
+        printf("%s\t-1\t0\n", title);
+        return;
+    }
     for (int round = 0; round < 5; round++) {
         double t = now();
         for (int i = 0; i < 4000; i++)
@@ -88,6 +98,8 @@ static void product(const char *title, uint64_t rlen, uint64_t mlen, uint64_t ki
 
 #define MULTIPLY(code) ((uint32_t)(code) << 26 | 1u << 20 | 6u << 12 | 119)
 #define TRANSFER(code) ((uint32_t)(code) << 25 | 2u << 20 | 1u << 15 | 119)
+#define MOVE_OUT(code) ((uint32_t)(code) << 26 | 5u << 12 | 8u << 7 | 119)
+#define MOVE_IN(code) ((uint32_t)(code) << 26 | 1u << 25 | 8u << 15 | 5u << 12 | 119)
 
 int main(void) {
     static const struct {
@@ -118,6 +130,22 @@ int main(void) {
             snprintf(title, sizeof title, "%s, %s, ns", words[j].name, on[i].name);
             step(title, on[i].rlen, on[i].mlen, words[j].mtype, words[j].word);
         }
+    /* groups of eight lines, on the smallest machine that has so many rows and columns, and on a large one */
+    group = 8;
+    for (int i = 0; i < 2; i++) {
+        uint64_t rlen = i ? 512 : 64, mlen = i ? 4096 : 512;
+        const char *of = i ? "large" : "512/64";
+        char title[80];
+        snprintf(title, sizeof title, "8 rows out, %s, ns", of);
+        step(title, rlen, mlen, 0, MOVE_OUT(0));
+        snprintf(title, sizeof title, "8 rows in, %s, ns", of);
+        step(title, rlen, mlen, 0, MOVE_IN(0));
+        snprintf(title, sizeof title, "8 columns out, %s, ns", of);
+        step(title, rlen, mlen, 0, MOVE_OUT(4));
+        snprintf(title, sizeof title, "8 columns in, %s, ns", of);
+        step(title, rlen, mlen, 0, MOVE_IN(4));
+    }
+    group = 1;
     product("turns 8 to 32, 64 cubed, small, ns a MAC", 64, 128, 0, 8, 4, 64, 0);
     product("turns 16 to 16, 64 cubed, small, ns a MAC", 64, 128, 0, 16, 1, 64, 0);
     product("one turn a call, 32 cubed, small, ns a turn", 64, 128, 0, 8, 4, 32, 1);

@@ -3,6 +3,7 @@
 use crate::float_numbers::near;
 use crate::lent::{library_image_read, library_image_size, library_image_write};
 use crate::lent::{library_step, started, Lent};
+use crate::moves::reckoned::rows_of_moves;
 use crate::random::Random;
 use crate::states::{set_size, SIZES, WIDTHS};
 use crate::tally::{families, family_name};
@@ -12,6 +13,8 @@ use std::time::Instant;
 
 pub const SMALL: Lengths = (64, 128, 32);
 pub const LARGE: Lengths = (512, 4096, 32);
+/// The smallest machine with eight rows and eight columns, at SEW 8.
+const EIGHT_LINES: Lengths = (64, 512, 32);
 /// The largest MLEN, with many rows and with wide ones (request Ten).
 pub const LARGER: [Lengths; 2] = [(512, 65_536, 64), (4096, 65_536, 64)];
 
@@ -23,6 +26,7 @@ pub fn bench() {
     warm_up();
     steps_by_family();
     transposed_moves();
+    moves_of_groups();
     multiply_accumulates();
     against_the_second_program();
     images();
@@ -107,8 +111,10 @@ fn steps_by_family() {
     let [small, large] = [SMALL, LARGE].map(machine_name);
     println!("{:28}{small:>20}{large:>20}{:>10}{:>10}", "", "ratio", "answers");
     let operands = [("rs1", 1), ("rs2", 2), ("rd", 3), ("imm", 3), ("mleni", 8), ("mtypei", 8)];
+    let is_move = |name: &&str| rows_of_moves().iter().any(|row| row.name == *name);
     let mut words: Vec<(String, u32)> = families()
         .into_iter()
+        .filter(|name| !is_move(name))
         .map(|name| (family_name(name).to_string(), assemble(name, &operands)))
         .collect();
     words.push(("mlce32".to_string(), assemble("mlce32.m", &operands)));
@@ -151,6 +157,28 @@ fn transposed_moves() {
             }
             println!("{:>12}", answers.iter().map(u64::to_string).collect::<Vec<_>>().join(","));
         }
+    }
+}
+
+/// Eight lines to and from eight vector registers; a row has as many elements as one holds.
+fn moves_of_groups() {
+    println!();
+    println!("nanoseconds of a move of 8 rows or columns at SEW 8, of tiles 8 by 8 and 8 by 16");
+    let [small, large] = [EIGHT_LINES, LARGE].map(machine_name);
+    println!("{:28}{small:>20}{large:>20}{:>10}{:>10}", "", "ratio", "answers");
+    for row in rows_of_moves() {
+        let word = assemble(row.name, &[("vd", 8), ("vs1", 8)]);
+        let [(small, first), (large, second)] = [EIGHT_LINES, LARGE].map(|machine| {
+            let mut lent = full_bench(machine, 0, 0);
+            let machine = lent.machine();
+            lent.set_machine(&model::Machine { tile_n: machine.tile_n.min(16), ..machine });
+            lent.group = 8;
+            let mut given = 0;
+            let time = nanoseconds(|| given = black_box(library_step(black_box(word), &mut lent)));
+            (time, given & 0xFFFF)
+        });
+        let answers = format!("{first}, {second}");
+        println!("{:28}{small:>20.1}{large:>20.1}{:>10.2}{answers:>10}", row.name, large / small);
     }
 }
 
