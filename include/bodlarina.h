@@ -68,7 +68,7 @@ uint64_t bodlarina_version(void);
 #define BODLARINA_PLACE(result) ((result) >> 16)
 
 #define BODLARINA_DONE 0u            /* done */
-#define BODLARINA_ILLEGAL_WORD 1u    /* no row of the draft's listing (section 4.5) has all its fixed bits in the word */
+#define BODLARINA_ILLEGAL_WORD 1u    /* no row of the draft's listing (section 4.5, of moves 6.1.7) has all its fixed bits in the word */
 #define BODLARINA_ILLEGAL_TYPE 2u    /* mtype is illegal (bit 63, mill), and the word isn't msettype or msettypei */
 #define BODLARINA_BAD_WIDTH 3u       /* an element width that mtype does not allow here, or one above ELEN */
 #define BODLARINA_TILE_TOO_LARGE 4u  /* a tile size that the instruction uses is above its maximum under mtype; or the

@@ -27,7 +27,7 @@ static const struct encoder encoders[] = {
 #undef ENCODER
 };
 
-/* A machine as it is started: every tile is empty, so a word that is an instruction gets 0, 3 or 12. */
+/* A machine as it is started: every tile is empty, so a word that is an instruction gets 0, 3, 12 or, if it is a move, 4. */
 static uint32_t answer(uint32_t word)
 {
     static uint8_t machine[BODLARINA_MACHINE_BYTES], registers[BODLARINA_REGISTER_BYTES(128)], marks[sizeof registers];
