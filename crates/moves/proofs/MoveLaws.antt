@@ -4,7 +4,6 @@ use mathlib.Core.Bool.{Bool, true, false, cond}
 use mathlib.Core.List.{List, [], _∷_, _++_}
 use Prim.Native.Nat.{ℕ, _+_, _*_, _<_}
 use Rattle.width.specs.Tile.{putTile, markTile}
-use Rattle.width.proofs.TileLaws.{putTile-rows}
 use Rattle.machine.specs.declared.Machine.{Machine}
 use Rattle.machine.specs.declared.Form.{Form}
 use Rattle.machine.specs.declared.Form.the-variants.{Plain, Transposed}
@@ -15,16 +14,12 @@ use Rattle.machine.specs.Geometry.{Parameters, State, stateOf}
 use Rattle.machine.specs.Vectors.{Vectors, vectorAt, vectorBytes, aligned}
 use Rattle.machine.specs.declared.Wrong.the-variants.{Register}
 use Rattle.machine.specs.Setting.{sew}
-use Rattle.machine.specs.Memory.{rowAt}
 use Rattle.machine.specs.Operation.{Operation, vectorsAfter, stateAfter, placed, element, lineOf, sliceAt, sliceRows, sliceCols, memoryRows, memoryCols}
 use Rattle.machine.specs.Refusals.{checks, sliceFits, sliceNeeds}
-use Rattle.machine.specs.Faults.{sound}
 use Rattle.checking.specs.declared.Placed.{Placed}
 use Rattle.checking.proofs.CheckLaws.{part-refused, part-passed}
 use Rattle.settings.specs.Parts.{ours}
-use Rattle.slices.proofs.TileLaws.{putTile-values, placed-rows}
-use Rattle.moves.specs.Parts.{slicePlaced, movedOut, movedIn, WritesVectors, WritesSlice}
-use Rattle.moves.proofs.SliceLaws.{row-is}
+use Rattle.moves.specs.Parts.{slicePlaced, moved, MovesOut, MovesIn, Moves}
 
 module _ (m : Machine) (regs marks : List ℕ) (f : Form) (r v first count : ℕ) where
   abbrev M : Parameters
@@ -76,7 +71,7 @@ module _ (m : Machine) (regs marks : List ℕ) (f : Form) (r v first count : ℕ
   outward = Operation.moveOut f r v first count
 
   module _ (file : List ℕ) where
-    pub out-refused : (a : Answer) → a ≡ verdict fits → isDone a ≡ false → WritesVectors m outward regs marks file a file
+    pub out-refused : (a : Answer) → a ≡ verdict fits → isDone a ≡ false → MovesOut m outward regs marks file a file
     out-refused a e d = record {
       answer-is = part-refused (sliceFits M f first count st) rest refl a (e ∙ ap verdict fits-is) d;
       vectors-are = rw d;
@@ -90,19 +85,17 @@ module _ (m : Machine) (regs marks : List ℕ) (f : Form) (r v first count : ℕ
       told : (a : Answer) → a ≡ verdict (five p w) → a ≡ verdict (checks M outward st [])
       told a ea = part-passed (sliceFits M f first count st) rest refl (fits-done d) a (ea ∙ five-here)
 
-      pub out-unmarked : (a : Answer) → a ≡ verdict (five p w) → isDone a ≡ false → WritesVectors m outward regs marks file a file
+      pub out-unmarked : (a : Answer) → a ≡ verdict (five p w) → isDone a ≡ false → MovesOut m outward regs marks file a file
       out-unmarked a ea n = record { answer-is = told a ea; vectors-are = rw n }
 
-      pub out-done : sound m regs marks ≡ true → r < 2 → Done ≡ verdict (five p w) → (line : ℕ) → line ≡ lineOf f bare → (file′ : List ℕ)
-          → file′ ≡ putTile (λ i. v * vectorBytes + i * vectorBytes) count line w (placed f (element regs (rowAt (p .start) (p .pitch)) w)) file
-          → WritesVectors m outward regs marks file Done file′
-      out-done s l ea line el file′ ev = record {
+      pub out-done : Done ≡ verdict (five p w) → (line : ℕ) → line ≡ lineOf f bare → (file′ : List ℕ)
+          → file′ ≡ putTile (λ i. v * vectorBytes + i * vectorBytes) count line w (placed f (element regs (λ i. p .start + i * p .pitch) w)) file
+          → MovesOut m outward regs marks file Done file′
+      out-done ea line el file′ ev = record {
         answer-is = told Done ea;
         vectors-are =
             ev
-            ∙ ap₂ (λ (n : ℕ) (p : Placed). putTile (vectorAt v) count n w (placed f (element regs (rowAt (p .start) (p .pitch)) w)) file) (el ∙ line-is) e
-            ∙ putTile-values (vectorAt v) count (lineOf f st) w _ (placed f (element regs (sliceAt M f r first w) w)) file
-            (λ i j _ _. placed-rows f regs _ (sliceAt M f r first w) w (row-is m regs marks s f r first count l d w ew) i j)
+            ∙ ap₂ (λ (n : ℕ) (p : Placed). putTile (vectorAt v) count n w (placed f (element regs (λ i. p .start + i * p .pitch) w)) file) (el ∙ line-is) e
             ∙ ap (λ (w : ℕ). putTile (vectorAt v) count (lineOf f st) w (placed f (element regs (sliceAt M f r first w) w)) file) ew;
       }
 
@@ -112,22 +105,20 @@ module _ (m : Machine) (regs marks : List ℕ) (f : Form) (r v first count : ℕ
     abbrev inward : Operation
     inward = Operation.moveIn f r v first count file
 
-    pub in-refused : (a : Answer) → a ≡ verdict fits → isDone a ≡ false → WritesSlice m inward regs marks a regs marks
+    pub in-refused : (a : Answer) → a ≡ verdict fits → isDone a ≡ false → MovesIn m inward regs marks a regs marks
     in-refused a e d = record { answer-is = e ∙ ap verdict fits-is; registers-are = rw d; marks-are = rw d }
 
-    module _ (d : isDone (verdict fits) ≡ true) (w : ℕ) (ew : w ≡ sew (m .mtype)) (p : Placed) (e : p ≡ here w) where
-      pub in-done : sound m regs marks ≡ true → r < 2 → Done ≡ verdict fits → (line : ℕ) → line ≡ lineOf f bare → (regs′ marks′ : List ℕ)
-          → regs′ ≡ putTile (rowAt (p .start) (p .pitch)) (memoryRows f count line) (memoryCols f count line) w (placed f (element file (λ i. v * vectorBytes + i * vectorBytes) w)) regs
+    module _ (w : ℕ) (ew : w ≡ sew (m .mtype)) (p : Placed) (e : p ≡ here w) where
+      pub in-done : Done ≡ verdict fits → (regs′ marks′ : List ℕ)
+          → regs′ ≡ putTile (λ i. p .start + i * p .pitch) (p .rows) (p .columns) w (placed f (element file (λ i. v * vectorBytes + i * vectorBytes) w)) regs
           → marks′ ≡ markTile (λ i. p .start + i * p .pitch) (p .rows) (p .columns * w) marks
-          → WritesSlice m inward regs marks Done regs′ marks′
-      in-done s l ea line el regs′ marks′ er em = record {
+          → MovesIn m inward regs marks Done regs′ marks′
+      in-done ea regs′ marks′ er em = record {
         answer-is = ea ∙ ap verdict fits-is;
         registers-are =
             er
-            ∙ ap₂ (λ (n : ℕ) (p : Placed). putTile (rowAt (p .start) (p .pitch)) (memoryRows f count n) (memoryCols f count n) w (placed f (element file (vectorAt v) w)) regs) (el ∙ line-is) e
-            ∙ putTile-rows _ (sliceAt M f r first w) (sliceRows f st count) (sliceCols f st count) w (placed f (element file (vectorAt v) w)) regs
-            (λ i _. row-is m regs marks s f r first count l d w ew i)
-            ∙ ap (λ (w : ℕ). putTile (sliceAt M f r first w) (sliceRows f st count) (sliceCols f st count) w (placed f (element file (vectorAt v) w)) regs) ew;
+            ∙ ap (λ (p : Placed). putTile (λ i. p .start + i * p .pitch) (p .rows) (p .columns) w (placed f (element file (vectorAt v) w)) regs) e
+            ∙ ap₂ (λ (n w : ℕ). putTile (sliceAt M f r first w) (memoryRows f count n) (memoryCols f count n) w (placed f (element file (vectorAt v) w)) regs) line-is ew;
         marks-are =
             em
             ∙ ap (λ (p : Placed). markTile (λ i. p .start + i * p .pitch) (p .rows) (p .columns * w) marks) e
@@ -136,19 +127,28 @@ module _ (m : Machine) (regs marks : List ℕ) (f : Form) (r v first count : ℕ
 
 -- ---- with the group
 
-module _ (m : Machine) (regs marks : List ℕ) (f : Form) (r v first : ℕ) (W : Vectors) where
-  pub out-misaligned : aligned W v ≡ false → WritesVectors m (movedOut W f r v first) regs marks (W .file) WrongRegister (W .file)
-  out-misaligned a = record { answer-is = rw a; vectors-are = refl }
+module _ (m : Machine) (regs marks : List ℕ) (inward : Bool) (f : Form) (r v first : ℕ) (W : Vectors) where
+  -- a misaligned one
+  pub misaligned : aligned W v ≡ false → Moves m (moved inward W f r v first) regs marks (W .file) WrongRegister regs marks (W .file)
+  misaligned a = record {
+    inside = record { answer-is = rw a; registers-are = refl; marks-are = refl };
+    outside = record { answer-is = rw a; vectors-are = refl };
+  }
 
-  pub out-aligned : aligned W v ≡ true → (a : Answer) (file′ : List ℕ) → WritesVectors m (Operation.moveOut f r v first (W .group)) regs marks (W .file) a file′
-      → WritesVectors m (movedOut W f r v first) regs marks (W .file) a file′
-  out-aligned e a file′ l =
-      subst (λ (t : Bool). WritesVectors m (cond t (Operation.moveOut f r v first (W .group)) (Operation.illegal Register)) regs marks (W .file) a file′) (sym e) l
+  -- a move in leaves the vector file
+  pub moved-in : aligned W v ≡ true → inward ≡ true → (a : Answer) (regs′ marks′ : List ℕ)
+      → MovesIn m (Operation.moveIn f r v first (W .group) (W .file)) regs marks a regs′ marks′ → Moves m (moved inward W f r v first) regs marks (W .file) a regs′ marks′ (W .file)
+  moved-in e d a regs′ marks′ l = rw (e, d) (record { inside = l; outside = record { answer-is = l .answer-is; vectors-are = same (isDone a) } })
+    where
+      same : (t : Bool) → W .file ≡ cond t (W .file) (W .file)
+      same true = refl
+      same false = refl
 
-  pub in-misaligned : aligned W v ≡ false → WritesSlice m (movedIn W f r v first) regs marks WrongRegister regs marks
-  in-misaligned a = record { answer-is = rw a; registers-are = refl; marks-are = refl }
-
-  pub in-aligned : aligned W v ≡ true → (a : Answer) (regs′ marks′ : List ℕ) → WritesSlice m (Operation.moveIn f r v first (W .group) (W .file)) regs marks a regs′ marks′
-      → WritesSlice m (movedIn W f r v first) regs marks a regs′ marks′
-  in-aligned e a regs′ marks′ l =
-      subst (λ (t : Bool). WritesSlice m (cond t (Operation.moveIn f r v first (W .group) (W .file)) (Operation.illegal Register)) regs marks a regs′ marks′) (sym e) l
+  -- a move out leaves the registers and their marks
+  pub moved-out : aligned W v ≡ true → inward ≡ false → (a : Answer) (file′ : List ℕ) → MovesOut m (Operation.moveOut f r v first (W .group)) regs marks (W .file) a file′
+      → Moves m (moved inward W f r v first) regs marks (W .file) a regs marks file′
+  moved-out e d a file′ l = rw (e, d) (record { inside = record { answer-is = l .answer-is; registers-are = same regs (isDone a); marks-are = same marks (isDone a) }; outside = l })
+    where
+      same : (xs : List ℕ) (t : Bool) → xs ≡ cond t xs xs
+      same xs true = refl
+      same xs false = refl

@@ -1,4 +1,4 @@
--- A slice whose checks of answers 2 and 4 passed lies in its accumulator; what the copies leave is what the definitions say.
+-- A slice whose checks of answers 2 and 4 passed lies in its accumulator, and its group in the vector file; and what answer 5 names.
 use mathlib.Core.Path.{_≡_, refl, sym, ap, _∙_, subst}
 use mathlib.Core.Bool.{Bool, true, false, cond, not}
 use mathlib.Core.List.{List, [], _∷_, _++_}
@@ -18,22 +18,20 @@ use Rattle.machine.specs.declared.Answer.the-variants.{Done, Unwritten}
 use Rattle.machine.specs.Tests.{isIn, all, first}
 use Rattle.machine.specs.Answers.{Check, reply, verdict, isDone}
 use Rattle.machine.specs.Geometry.{Parameters, State, stateOf, startOf, pitchOf}
-use Rattle.machine.specs.Vectors.{vectorBytes}
+use Rattle.machine.specs.Vectors.{vectorBytes, fileBytes}
 use Rattle.machine.specs.Setting.{chosen, sew, mill, maximum}
-use Rattle.machine.specs.Memory.{rowZ, rowAt, address, inside}
-use Rattle.machine.specs.Operation.{linesOf, lineOf, cornerOf, sliceRows, sliceCols}
+use Rattle.machine.specs.Operation.{memoryRows, memoryCols, linesOf, lineOf, cornerOf, sliceRows, sliceCols}
 use Rattle.machine.specs.Refusals.{sliceFits, sliceNeeds, unwrittenIn, needs, marked, firstRow, firstColumn}
 use Rattle.machine.specs.Faults.{sound}
 use Rattle.machine.proofs.TestLaws.{false-true, first-le}
 use Rattle.machine.proofs.CheckLaws.{Passed, passed}
 use Rattle.machine.proofs.CodeLaws.{legalTypes, arises-any}
 use Rattle.machine.proofs.StepLaws.{permitted-bounds, permitted-lengths, permitted-elen}
-use Rattle.machine.proofs.MemoryLaws.{fits-true, inside-true, rowZ-up}
 use Rattle.machine.proofs.NoFault.{sound-is}
 use Rattle.element.specs.Element.{Width}
 use Rattle.element.proofs.Laws.{width-small}
 use Rattle.tile.specs.Checks.{RowsIn}
-use Rattle.tile.proofs.Room.{same-length, tile-fits}
+use Rattle.tile.proofs.Room.{rows-end, same-length, tile-fits}
 use Rattle.transfer.proofs.Room.{sew-width}
 use Rattle.settings.specs.Parts.{ours}
 
@@ -132,16 +130,15 @@ module _ (m : Machine) (regs marks : List ℕ) (h : sound m regs marks ≡ true)
       go Plain e = (omega (arith, few), omega (arith, few))
       go Transposed e = (omega (arith, few), omega (arith, few))
 
-  -- ---- the slice as rows of a memory
+  -- the group lies in the vector file
+  pub group-in : (v : ℕ) (file : List ℕ) → v + count ≤ 32 → length file ≡ fileBytes → RowsIn (v * vectorBytes) vectorBytes count (lineOf f st * w) (length file)
+  group-in v file g e = rows-end (v * vectorBytes) vectorBytes count (lineOf f st * w) (length file) (omega arith) line-in
 
-  pub row-is : (i : ℕ) → rowAt (cornerOf M f r first w) Q i ≡ cornerOf M f r first w + i * Q
-  row-is i = ap address (rowZ-up (cornerOf M f r first w) Q i (omega (arith, small)))
-
-  pub slice-inside : inside (length regs) (cornerOf M f r first w) Q (sliceRows f st count) (sliceCols f st count * w) ≡ true
-  slice-inside =
-      inside-true (length regs) (cornerOf M f r first w) Q (sliceRows f st count) (sliceCols f st count * w) (λ i g.
-      fits-true (length regs) (sliceCols f st count * w) (cornerOf M f r first w + i * Q) (rowZ (cornerOf M f r first w) Q i)
-      (rowZ-up (cornerOf M f r first w) Q i (omega (arith, small))) (rows-in .1 i g))
+-- the other way the group is what the slice was
+pub turned-in : (f : Form) (start pitch count line w len : ℕ) → RowsIn start pitch count (line * w) len
+    → RowsIn start pitch (memoryRows f (memoryRows f count line) (memoryCols f count line)) (memoryCols f (memoryRows f count line) (memoryCols f count line) * w) len
+turned-in Plain start pitch count line w len h = h
+turned-in Transposed start pitch count line w len h = h
 
 -- ---- answer 5
 

@@ -1,6 +1,6 @@
 -- What the functions of moves give, in the words of the definitions.
 use mathlib.Core.Path.{_≡_}
-use mathlib.Core.Bool.{cond}
+use mathlib.Core.Bool.{Bool, cond}
 use mathlib.Core.List.{List, []}
 use Prim.Native.Nat.{ℕ}
 use Rattle.machine.specs.declared.Machine.{Machine}
@@ -25,23 +25,27 @@ slicePlaced m f r first count w = record {
   columns = sliceCols f (stateOf m [] []) count;
 }
 
--- a move with its group: a misaligned one is refused as a register out of range is
-abbrev pub movedOut : Vectors → Form → (r v first : ℕ) → Operation
-movedOut W f r v first = cond (aligned W v) (Operation.moveOut f r v first (W .group)) (Operation.illegal Register)
+-- a move in or out with its group: a misaligned one is refused as a register out of range is
+abbrev pub moved : Bool → Vectors → Form → (r v first : ℕ) → Operation
+moved inward W f r v first =
+    cond (aligned W v)
+    (cond inward (Operation.moveIn f r v first (W .group) (W .file)) (Operation.moveOut f r v first (W .group)))
+    (Operation.illegal Register)
 
-abbrev pub movedIn : Vectors → Form → (r v first : ℕ) → Operation
-movedIn W f r v first = cond (aligned W v) (Operation.moveIn f r v first (W .group) (W .file)) (Operation.illegal Register)
-
--- what a move answers and leaves of the vector file, and of the registers and marks
+-- what a move answers and leaves: out, of the vector file; in, of the registers and marks; and of all three
 module _ (m : Machine) (o : Operation) (regs marks : List ℕ) where
   abbrev pub before : State
   before = stateOf m regs marks
 
-  pub record WritesVectors (file : List ℕ) (r : Answer) (file′ : List ℕ) : Type 0 where
+  pub record MovesOut (file : List ℕ) (r : Answer) (file′ : List ℕ) : Type 0 where
     pub answer-is : r ≡ verdict (checks (ours m) o before [])
     pub vectors-are : file′ ≡ cond (isDone r) (vectorsAfter (ours m) o before file) file
 
-  pub record WritesSlice (r : Answer) (regs′ marks′ : List ℕ) : Type 0 where
+  pub record MovesIn (r : Answer) (regs′ marks′ : List ℕ) : Type 0 where
     pub answer-is : r ≡ verdict (checks (ours m) o before [])
     pub registers-are : regs′ ≡ cond (isDone r) (stateAfter (ours m) o before [] .regs) regs
     pub marks-are : marks′ ≡ cond (isDone r) (stateAfter (ours m) o before [] .marks) marks
+
+  pub record Moves (file : List ℕ) (r : Answer) (regs′ marks′ file′ : List ℕ) : Type 0 where
+    pub inside : MovesIn r regs′ marks′
+    pub outside : MovesOut file r file′

@@ -1,6 +1,5 @@
 // Moves of slices between accumulators and vector registers, in a state that is not at fault: answers 2, 4 and 5, and the move.
-// Rows lie in the vector registers as they do in the accumulator (plain), columns as rows (transposed): to the copies of `transfer` the
-// vector file is the register, of rows 16 bytes apart, and the accumulator the memory, of rows one register row apart.
+// Rows lie in the vector registers as they do in the accumulator (plain), columns as rows (transposed).
 use checking::Placed;
 use checking::tile_of;
 use machine::Answer;
@@ -9,24 +8,29 @@ use machine::Form;
 use machine::Machine;
 use machine::Matrix;
 use machine::is_done;
+use row::write_row;
 use settings::fits;
 use settings::is_mill;
 use settings::sew_bytes;
+use transfer::copy_element;
 ghost use mathlib.Core.Path.{_≡_};
 ghost use mathlib.Core.Bool.{true};
 ghost use mathlib.Core.List.{[], _∷_};
 ghost use Prim.Native.Nat.{_+_, _*_, _^_, _≤_, _<_};
 ghost use lib.ListN.{length};
 ghost use lib.Dec.{leb};
+ghost use Rattle.width.specs.Tile.{le, putRow, putTile};
+ghost use Rattle.machine.specs.declared.Form.the-variants.{Transposed};
 ghost use Rattle.machine.specs.Answers.{verdict};
 ghost use Rattle.machine.specs.Geometry.{stateOf};
 ghost use Rattle.machine.specs.Vectors.{vectorsOf, vectorBytes, fileBytes, vectorsFit};
 ghost use Rattle.machine.specs.Faults.{sound};
-ghost use Rattle.machine.specs.Operation.{Operation, linesOf, lineOf, cornerOf};
+ghost use Rattle.machine.specs.Operation.{Operation, element, placed, memoryRows, memoryCols, linesOf, lineOf, cornerOf};
 ghost use Rattle.machine.specs.Refusals.{sliceFits, sliceNeeds, unwrittenIn};
 ghost use Rattle.settings.specs.Parts.{ours, Ready};
+ghost use Rattle.element.specs.Element.{Width};
 ghost use Rattle.tile.specs.Checks.{RowsIn};
-ghost use Rattle.moves.specs.Parts.{slicePlaced, movedOut, movedIn, WritesVectors, WritesSlice};
+ghost use Rattle.moves.specs.Parts.{slicePlaced, moved, MovesOut, MovesIn, Moves};
 
 // How many rows or columns the C tile has.
 fn lines_of(m: Machine, form: Form) -> u64
@@ -148,6 +152,104 @@ fn slice_marks(marks: &[u8], form: Form, first: u64, p: Placed, w: usize) -> Ans
     unwritten_in(form, first, named.row, named.column)
 }
 
+// Copies rows of cols elements of w bytes, from rows that lie apart bytes apart to rows that lie pitch bytes apart.
+fn copy_rows(
+    dst: &mut [u8],
+    src: &[u8],
+    to: usize,
+    pitch: usize,
+    from: usize,
+    apart: usize,
+    rows: usize,
+    cols: usize,
+    w: usize,
+)
+    requires { ⌜ RowsIn to pitch rows (cols * w) (length (now dst)) ⌝ }
+    requires { ⌜ RowsIn from apart rows (cols * w) (length (now src)) ⌝ }
+    requires { ⌜ cols * w ≤ pitch ⌝ }
+    ensures { λ _. ⌜ now (dst .exit) ≡ putTile (λ i. to + i * pitch) rows cols w (element (now (src .entry)) (λ i. from + i * apart) w) (now (dst .entry)) ⌝ }
+{
+    let bytes = cols * w;
+    let mut i = 0;
+    while i < rows {
+        let at = to + i * pitch;
+        let start = from + i * apart;
+        let end = start + bytes;
+        write_row(&mut dst[at..], &src[start..end]);
+        i += 1;
+    }
+}
+
+// Copies n elements that lie apart bytes apart to places one after another.
+fn copy_column(dst: &mut [u8], src: &[u8], to: usize, from: usize, apart: usize, n: usize, w: usize)
+    requires { ⌜ Width w ⌝ }
+    requires { ⌜ to + n * w ≤ length (now dst) ⌝ }
+    requires { ⌜ RowsIn from apart n w (length (now src)) ⌝ }
+    ensures { λ _. ⌜ now (dst .exit) ≡ putRow to n w (λ j. le (now (src .entry)) (from + j * apart) w) (now (dst .entry)) ⌝ }
+{
+    let mut j = 0;
+    while j < n {
+        copy_element(dst, src, to + j * w, from + j * apart, w);
+        j += 1;
+    }
+}
+
+// Copies columns of cols elements of w bytes, of rows that lie apart bytes apart, to rows that lie pitch bytes apart.
+fn copy_columns(
+    dst: &mut [u8],
+    src: &[u8],
+    to: usize,
+    pitch: usize,
+    from: usize,
+    apart: usize,
+    rows: usize,
+    cols: usize,
+    w: usize,
+)
+    requires { ⌜ RowsIn to pitch rows (cols * w) (length (now dst)) ⌝ }
+    requires { ⌜ RowsIn from apart cols (rows * w) (length (now src)) ⌝ }
+    requires { ⌜ Width w ⌝ }
+    ensures { λ _. ⌜ now (dst .exit) ≡ putTile (λ i. to + i * pitch) rows cols w (placed Transposed (element (now (src .entry)) (λ i. from + i * apart) w)) (now (dst .entry)) ⌝ }
+{
+    if cols == 0 {
+        return;
+    }
+    let mut i = 0;
+    while i < rows {
+        copy_column(dst, src, to + i * pitch, from + i * w, apart, cols, w);
+        i += 1;
+    }
+}
+
+// Copies a slice: element (i, j) of the rows in dst is element (i, j), or in the transposed form (j, i), of those in src.
+fn copy_slice(
+    form: Form,
+    dst: &mut [u8],
+    src: &[u8],
+    to: usize,
+    pitch: usize,
+    from: usize,
+    apart: usize,
+    rows: usize,
+    cols: usize,
+    w: usize,
+)
+    requires { ⌜ RowsIn to pitch rows (cols * w) (length (now dst)) ⌝ }
+    requires { ⌜ RowsIn from apart (memoryRows form rows cols) (memoryCols form rows cols * w) (length (now src)) ⌝ }
+    requires { ⌜ cols * w ≤ pitch ⌝ }
+    requires { ⌜ Width w ⌝ }
+    ensures { λ _. ⌜ now (dst .exit) ≡ putTile (λ i. to + i * pitch) rows cols w (placed form (element (now (src .entry)) (λ i. from + i * apart) w)) (now (dst .entry)) ⌝ }
+{
+    match form {
+        Form::Plain => {
+            copy_rows(dst, src, to, pitch, from, apart, rows, cols, w);
+        }
+        Form::Transposed => {
+            copy_columns(dst, src, to, pitch, from, apart, rows, cols, w);
+        }
+    }
+}
+
 // Answers 2, 4 and 5, and as many rows or columns of ms1, from the first on, to the registers from vd on.
 fn slice_out(
     m: Machine,
@@ -163,7 +265,7 @@ fn slice_out(
     requires { ⌜ sound m (now registers) (now marks) ≡ true ⌝ }
     requires { ⌜ length (now vectors) ≡ fileBytes ⌝ }
     requires { ⌜ (ms1 < 2) × ((vd + count ≤ 32) × (count ≤ 8)) ⌝ }
-    ensures { λ r. ⌜ WritesVectors m (Operation.moveOut form ms1 vd first count) (now (registers .entry)) (now (marks .entry)) (now (vectors .entry)) r (now (vectors .exit)) ⌝ }
+    ensures { λ r. ⌜ MovesOut m (Operation.moveOut form ms1 vd first count) (now (registers .entry)) (now (marks .entry)) (now (vectors .entry)) r (now (vectors .exit)) ⌝ }
 {
     let fitting = check_slice(m, form, first, count);
     if !is_done(fitting) {
@@ -176,14 +278,14 @@ fn slice_out(
         return written;
     }
     let line = line_of(m, form) as usize;
-    transfer::copy_in(
+    copy_slice(
         form,
         vectors,
         registers,
         vd * 16,
         16,
-        p.start as u64,
-        p.pitch as u64,
+        p.start,
+        p.pitch,
         count as usize,
         line,
         w,
@@ -206,7 +308,7 @@ fn slice_in(
     requires { ⌜ sound m (now registers) (now marks) ≡ true ⌝ }
     requires { ⌜ length (now vectors) ≡ fileBytes ⌝ }
     requires { ⌜ (md < 2) × ((vs1 + count ≤ 32) × (count ≤ 8)) ⌝ }
-    ensures { λ r. ⌜ WritesSlice m (Operation.moveIn form md vs1 first count (now (vectors .entry))) (now (registers .entry)) (now (marks .entry)) r (now (registers .exit)) (now (marks .exit)) ⌝ }
+    ensures { λ r. ⌜ MovesIn m (Operation.moveIn form md vs1 first count (now (vectors .entry))) (now (registers .entry)) (now (marks .entry)) r (now (registers .exit)) (now (marks .exit)) ⌝ }
 {
     let fitting = check_slice(m, form, first, count);
     if !is_done(fitting) {
@@ -214,65 +316,46 @@ fn slice_in(
     }
     let w = sew_bytes(m.mtype);
     let p = slice_of(m, form, md, first as usize, count as usize, w);
-    let line = line_of(m, form) as usize;
-    transfer::copy_out(
+    copy_slice(
         form,
         registers,
         vectors,
+        p.start,
+        p.pitch,
         vs1 * 16,
         16,
-        p.start as u64,
-        p.pitch as u64,
-        count as usize,
-        line,
+        p.rows,
+        p.columns,
         w,
     );
     tile::mark_tile(marks, p.start, p.pitch, p.rows, p.columns * w);
     Answer::Done
 }
 
-// Answers 12, 2, 4 and 5, and the rows or columns of ms1 to the group from vd on.
-pub fn move_out(
-    m: Machine,
-    registers: &[u8],
-    marks: &[u8],
-    vectors: &mut [u8],
-    group: u64,
-    form: Form,
-    vd: usize,
-    ms1: usize,
-    first: u64,
-) -> Answer
-    requires { ⌜ sound m (now registers) (now marks) ≡ true ⌝ }
-    requires { ⌜ vectorsFit (vectorsOf (now vectors) group) ≡ true ⌝ }
-    requires { ⌜ (ms1 < 2) × (vd < 32) ⌝ }
-    ensures { λ r. ⌜ WritesVectors m (movedOut (vectorsOf (now (vectors .entry)) group) form ms1 vd first) (now (registers .entry)) (now (marks .entry)) (now (vectors .entry)) r (now (vectors .exit)) ⌝ }
-{
-    if vd as u64 % group != 0 {
-        return Answer::WrongRegister;
-    }
-    slice_out(m, registers, marks, vectors, form, vd, ms1, first, group)
-}
-
-// Answers 12, 2 and 4, and the group from vs1 on to the rows or columns of md.
-pub fn move_in(
+// Answers 12, 2, 4 and 5, and a slice of accumulator r moved to the group from register v on, or in from there. With two callers, one for each
+// way, it stays a function of its own in the compiled step, and no other word is slower for it.
+pub fn move_slice(
     m: Machine,
     registers: &mut [u8],
     marks: &mut [u8],
-    vectors: &[u8],
+    vectors: &mut [u8],
     group: u64,
+    inward: bool,
     form: Form,
-    md: usize,
-    vs1: usize,
+    r: usize,
+    v: usize,
     first: u64,
 ) -> Answer
     requires { ⌜ sound m (now registers) (now marks) ≡ true ⌝ }
     requires { ⌜ vectorsFit (vectorsOf (now vectors) group) ≡ true ⌝ }
-    requires { ⌜ (md < 2) × (vs1 < 32) ⌝ }
-    ensures { λ r. ⌜ WritesSlice m (movedIn (vectorsOf (now (vectors .entry)) group) form md vs1 first) (now (registers .entry)) (now (marks .entry)) r (now (registers .exit)) (now (marks .exit)) ⌝ }
+    requires { ⌜ (r < 2) × (v < 32) ⌝ }
+    ensures { λ a. ⌜ Moves m (moved inward (vectorsOf (now (vectors .entry)) group) form r v first) (now (registers .entry)) (now (marks .entry)) (now (vectors .entry)) a (now (registers .exit)) (now (marks .exit)) (now (vectors .exit)) ⌝ }
 {
-    if vs1 as u64 % group != 0 {
+    if v as u64 % group != 0 {
         return Answer::WrongRegister;
     }
-    slice_in(m, registers, marks, vectors, form, md, vs1, first, group)
+    if inward {
+        return slice_in(m, registers, marks, vectors, form, r, v, first, group);
+    }
+    slice_out(m, registers, marks, vectors, form, v, r, first, group)
 }

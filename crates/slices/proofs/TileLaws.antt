@@ -6,13 +6,11 @@ use Prim.Native.Nat.{ℕ, zero, suc, _+_, _*_, _<_}
 use lib.ListN.{getD, set}
 use lib.Dec.{eqb}
 use borrow.Author.Tests.{eqb-true}
-use Rattle.width.specs.Tile.{le, byteOf, putLe, putRow, putTile, markRow, markTile}
+use Rattle.width.specs.Tile.{byteOf, putLe, putRow, putTile, markRow, markTile}
 use Rattle.width.proofs.UptoLaws.{upto-cong, upto-keeps}
 use Rattle.width.proofs.PutLaws.{le-byte}
-use Rattle.machine.specs.declared.Form.{Form}
-use Rattle.machine.specs.declared.Form.the-variants.{Plain, Transposed}
 use Rattle.machine.specs.Tests.{all}
-use Rattle.machine.specs.Operation.{placed, element}
+use Rattle.machine.specs.Operation.{element}
 use Rattle.machine.specs.Refusals.{marked}
 use Rattle.machine.proofs.TestLaws.{all-at}
 
@@ -25,11 +23,6 @@ putTile-values at rows cols w value value′ xs h =
     upto-cong rows (λ i ys. putRow (at i) cols w (value i) ys) (λ i ys. putRow (at i) cols w (value′ i) ys) xs (λ i l ys.
     upto-cong cols (λ j zs. putLe (at i + j * w) w (value i j) zs) (λ j zs. putLe (at i + j * w) w (value′ i j) zs) ys (λ j k zs.
     ap (λ (v : ℕ). putLe (at i + j * w) w v zs) (h i j l k)))
-
--- elements of rows that start in the same places
-pub placed-rows : (f : Form) (xs : List ℕ) (at at′ : ℕ → ℕ) (w : ℕ) → ((i : ℕ) → at i ≡ at′ i) → (i j : ℕ) → placed f (element xs at w) i j ≡ placed f (element xs at′ w) i j
-placed-rows Plain xs at at′ w h i j = ap (λ (q : ℕ). le xs (q + j * w) w) (h i)
-placed-rows Transposed xs at at′ w h i j = ap (λ (q : ℕ). le xs (q + i * w) w) (h j)
 
 -- ---- written over itself
 

@@ -22,7 +22,7 @@ use Rattle.machine.specs.Step.{Outcome, VectorOutcome, beside, outcome, outcome
 use Rattle.machine.proofs.TestLaws.{false-true}
 use Rattle.machine.proofs.CodeLaws.{only-done}
 use Rattle.settings.specs.Parts.{ours}
-use Rattle.moves.specs.Parts.{movedOut, movedIn, WritesVectors, WritesSlice}
+use Rattle.moves.specs.Parts.{moved, Moves}
 use Rattle.step.specs.Parts.{carriedBeside}
 
 -- ---- an instruction that is no move
@@ -150,67 +150,39 @@ module _ (m : Machine) (i : Instruction) (xs regs marks mem : List ℕ) (W : Vec
       go false d =
           rw d (ap (leaving a regs′ marks′) (ef ∙ rw d) ∙ ap₂ (λ (r k : List ℕ). leaving a r k (W .file)) (er ∙ rw d) (em ∙ rw d))
 
-  module _ (f : Form) (r v first : ℕ) where
-    -- by whether the group is aligned
-    abbrev outBy : Bool → Operation
-    outBy t = cond t (Operation.moveOut f r v first (W .group)) (Operation.illegal Register)
+  module _ (inward : Bool) (f : Form) (r v first : ℕ) where
+    -- by whether the group is aligned, and the way
+    abbrev by : Bool → Bool → Operation
+    by t u = cond t (cond u (Operation.moveIn f r v first (W .group) (W .file)) (Operation.moveOut f r v first (W .group))) (Operation.illegal Register)
 
-    abbrev inBy : Bool → Operation
-    inBy t = cond t (Operation.moveIn f r v first (W .group) (W .file)) (Operation.illegal Register)
+    -- it asks nothing of memory, and leaves that and the numbers
+    same-checks : (t u : Bool) → checks M (by t u) st [] ≡ checks M (by t u) st mem
+    same-checks true true = refl
+    same-checks true false = refl
+    same-checks false u = refl
 
-    out-checks : (t : Bool) → checks M (outBy t) st [] ≡ checks M (outBy t) st mem
-    out-checks true = refl
-    out-checks false = refl
+    same-state : (t u : Bool) → stateAfter M (by t u) st [] ≡ stateAfter M (by t u) st mem
+    same-state true true = refl
+    same-state true false = refl
+    same-state false u = refl
 
-    out-stays : (t : Bool) → stateAfter M (outBy t) st mem ≡ st
-    out-stays true = refl
-    out-stays false = refl
+    same-memory : (t u : Bool) → memoryAfter M (by t u) st mem ≡ mem
+    same-memory true true = refl
+    same-memory true false = refl
+    same-memory false u = refl
 
-    out-memory : (t : Bool) → memoryAfter M (outBy t) st mem ≡ mem
-    out-memory true = refl
-    out-memory false = refl
+    same-numbers : (t u : Bool) → machineAfter m (stateAfter M (by t u) st mem) ≡ m
+    same-numbers true true = refl
+    same-numbers true false = refl
+    same-numbers false u = refl
 
-    same : (d : Bool) (x : List ℕ) → x ≡ cond d x x
-    same true x = refl
-    same false x = refl
-
-    pub out-outcome : meantIn W M i xs B ≡ movedOut W f r v first → (a : Answer) (file′ : List ℕ) → WritesVectors m (movedOut W f r v first) regs marks (W .file) a file′
-        → leaving a regs marks file′ ≡ carriedBeside W M i xs B
-    out-outcome e a file′ l =
+    pub slice-outcome : meantIn W M i xs B ≡ moved inward W f r v first → (a : Answer) (regs′ marks′ file′ : List ℕ)
+        → Moves m (moved inward W f r v first) regs marks (W .file) a regs′ marks′ file′ → leaving a regs′ marks′ file′ ≡ carriedBeside W M i xs B
+    slice-outcome e a regs′ marks′ file′ l =
         let al : Bool = aligned W v in
-        let k : stateAfter M (outBy al) st mem ≡ st = out-stays al in
-        moved-outcome (outBy al) e (out-memory al) (ap (machineAfter m) k) a regs marks file′
-        (l .answer-is ∙ ap verdict (out-checks al))
-        (same (isDone a) regs ∙ ap (λ (z : State). cond (isDone a) (z .regs) regs) (sym k))
-        (same (isDone a) marks ∙ ap (λ (z : State). cond (isDone a) (z .marks) marks) (sym k))
-        (l .vectors-are)
-
-    in-checks : (t : Bool) → checks M (inBy t) st [] ≡ checks M (inBy t) st mem
-    in-checks true = refl
-    in-checks false = refl
-
-    in-memory : (t : Bool) → memoryAfter M (inBy t) st mem ≡ mem
-    in-memory true = refl
-    in-memory false = refl
-
-    in-state : (t : Bool) → stateAfter M (inBy t) st [] ≡ stateAfter M (inBy t) st mem
-    in-state true = refl
-    in-state false = refl
-
-    in-number : (t : Bool) → machineAfter m (stateAfter M (inBy t) st mem) ≡ m
-    in-number true = refl
-    in-number false = refl
-
-    in-file : (t : Bool) → vectorsAfter M (inBy t) st (W .file) ≡ W .file
-    in-file true = refl
-    in-file false = refl
-
-    pub in-outcome : meantIn W M i xs B ≡ movedIn W f r v first → (a : Answer) (regs′ marks′ : List ℕ) → WritesSlice m (movedIn W f r v first) regs marks a regs′ marks′
-        → leaving a regs′ marks′ (W .file) ≡ carriedBeside W M i xs B
-    in-outcome e a regs′ marks′ l =
-        let al : Bool = aligned W v in
-        moved-outcome (inBy al) e (in-memory al) (in-number al) a regs′ marks′ (W .file)
-        (l .answer-is ∙ ap verdict (in-checks al))
-        (l .registers-are ∙ ap (λ (z : State). cond (isDone a) (z .regs) regs) (in-state al))
-        (l .marks-are ∙ ap (λ (z : State). cond (isDone a) (z .marks) marks) (in-state al))
-        (same (isDone a) (W .file) ∙ ap (λ (x : List ℕ). cond (isDone a) x (W .file)) (sym (in-file al)))
+        let k = l .inside in
+        moved-outcome (by al inward) e (same-memory al inward) (same-numbers al inward) a regs′ marks′ file′
+        (k .answer-is ∙ ap verdict (same-checks al inward))
+        (k .registers-are ∙ ap (λ (z : State). cond (isDone a) (z .regs) regs) (same-state al inward))
+        (k .marks-are ∙ ap (λ (z : State). cond (isDone a) (z .marks) marks) (same-state al inward))
+        (l .outside .vectors-are)

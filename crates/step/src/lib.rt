@@ -4,8 +4,7 @@ use machine::Instruction;
 use machine::Machine;
 use machine::Stepped;
 use machine::Wrong;
-use moves::move_in;
-use moves::move_out;
+use moves::move_slice;
 use operations::reckoning::combine;
 use operations::reckoning::float_multiply;
 use operations::reckoning::multiply;
@@ -214,14 +213,36 @@ fn perform(
         Instruction::MoveOut { form, vd, ms1, rs2 } => {
             let first = read_scalar(scalars, rs2);
             Stepped {
-                answer: move_out(m, registers, marks, vectors, group, form, vd, ms1, first),
+                answer: move_slice(
+                    m,
+                    registers,
+                    marks,
+                    vectors,
+                    group,
+                    false,
+                    form,
+                    ms1,
+                    vd,
+                    first,
+                ),
                 machine: m,
             }
         }
         Instruction::MoveIn { form, md, vs1, rs2 } => {
             let first = read_scalar(scalars, rs2);
             Stepped {
-                answer: move_in(m, registers, marks, vectors, group, form, md, vs1, first),
+                answer: move_slice(
+                    m,
+                    registers,
+                    marks,
+                    vectors,
+                    group,
+                    true,
+                    form,
+                    md,
+                    vs1,
+                    first,
+                ),
                 machine: m,
             }
         }
@@ -255,18 +276,6 @@ pub fn step(
     ensures { λ r. ⌜ vectorSteppedAs r (now (registers .exit)) (now (marks .exit)) (now (scalars .exit)) (now (memory .exit)) (now (vectors .exit))
         ≡ vectorStep word (now (scalars .entry)) (vectorsOf (now (vectors .entry)) group) (benchOf m (now (registers .entry)) (now (marks .entry)) (now (memory .entry))) ⌝ }
 {
-    if !is_sound(m, registers, marks) {
-        return Stepped {
-            answer: Answer::BadArguments,
-            machine: m,
-        };
-    }
-    if scalars.len() != 32 {
-        return Stepped {
-            answer: Answer::BadArguments,
-            machine: m,
-        };
-    }
     if vectors.len() != 512 {
         return Stepped {
             answer: Answer::BadArguments,
@@ -274,6 +283,18 @@ pub fn step(
         };
     }
     if !is_group(group) {
+        return Stepped {
+            answer: Answer::BadArguments,
+            machine: m,
+        };
+    }
+    if !is_sound(m, registers, marks) {
+        return Stepped {
+            answer: Answer::BadArguments,
+            machine: m,
+        };
+    }
+    if scalars.len() != 32 {
         return Stepped {
             answer: Answer::BadArguments,
             machine: m,

@@ -2,7 +2,7 @@
 use mathlib.Core.Path.{_≡_, refl, sym, ap, _∙_}
 use mathlib.Core.Bool.{Bool, true, false, _&&_, _||_}
 use mathlib.Core.List.{List, [], _∷_}
-use Prim.Native.Nat.{ℕ, zero, suc, _+_, _*_, _/_, _≤_, _<_}
+use Prim.Native.Nat.{ℕ, zero, suc, _+_, _*_, _/_, _%_, _^_, _≤_, _<_}
 use native.Mathlib.Nat.{mul-le-mul-right, div-mul-le-self}
 use native.Mathlib.Omega.{arith}
 use lib.ListN.{length}
@@ -18,7 +18,7 @@ use Rattle.machine.specs.Setting.{sew, maccq, maximum}
 use Rattle.machine.specs.Operation.{tileRows, tileCols, rowsOf, columnsOf}
 use Rattle.machine.specs.Refusals.{typed, fitting, widthOf}
 use Rattle.machine.specs.Faults.{sound}
-use Rattle.width.proofs.PutLaws.{row-fits}
+use Rattle.width.proofs.PutLaws.{row-fits, next-row}
 use Rattle.machine.proofs.TestLaws.{and-right}
 use Rattle.machine.proofs.CheckLaws.{Passed}
 use Rattle.machine.proofs.StepLaws.{permitted-lengths}
@@ -61,7 +61,12 @@ in-row q P s c w h e =
 pub rows-end : (start pitch rows n len : ℕ) → start + rows * pitch ≤ len → n ≤ pitch → RowsIn start pitch rows n len
 rows-end start pitch rows n len h f = (omega arith, λ i l. omega (arith, row-fits i rows pitch l))
 
--- and so do rows that lie one after another, all as one
+-- the next of them starts at a number that does not wrap
+pub next-start : (start pitch rows n len i p q : ℕ) → RowsIn start pitch rows n len → len < 2 ^ 64 → p ≡ start + i * pitch → q ≡ (p + pitch) % 2 ^ 64 → i + 1 < rows
+    → q ≡ start + (i + 1) * pitch
+next-start start pitch rows n len i p q h b ep eq l = omega (arith, h .1 (i + 1) l, next-row i pitch, ep, eq)
+
+-- and rows that lie one after another end there as one
 pub together-end : (start pitch rows n len : ℕ) → RowsIn start pitch rows n len → n ≡ pitch → start + rows * n ≤ len
 together-end start pitch zero n len h e = omega (arith, h .0)
 together-end start pitch (suc k) n len h e = omega (arith, h .1 k (omega arith), ap (λ (p : ℕ). k * p) e)

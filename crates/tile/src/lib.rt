@@ -24,17 +24,18 @@ ghost use Rattle.machine.specs.declared.Answer.the-variants.{OutsideMemory};
 ghost use Rattle.machine.specs.Answers.{verdict};
 ghost use Rattle.tile.specs.Checks.{RowsIn, storeChecks};
 
-// Whether each byte of the rows, of n bytes each, has its mark.
+// Whether each byte of the rows, of n bytes each, has its mark. The sum after the last row may wrap; it is not used.
 fn tile_marked(marks: &[u8], start: usize, pitch: usize, rows: usize, n: usize) -> bool
     requires { ⌜ RowsIn start pitch rows n (length (now marks)) ⌝ }
     ensures { λ r. ⌜ r ≡ marked (now (marks .entry)) (λ i. start + i * pitch) rows n ⌝ }
 {
+    let mut first = start;
     let mut i = 0;
     while i < rows {
-        let first = start + i * pitch;
         if !line_marked(marks, first, n) {
             return false;
         }
+        first = std::num::wrapping_add_usize(first, pitch);
         i += 1;
     }
     true
@@ -57,9 +58,10 @@ pub fn first_unmarked(
         return Answer::Done;
     }
     let mut found = Answer::Done;
+    let mut first = start;
     let mut i = 0;
     'tile: while i < rows {
-        let mut at = start + i * pitch;
+        let mut at = first;
         let mut j = 0;
         while j < cols {
             if !row_marked(marks, at, w) {
@@ -72,6 +74,7 @@ pub fn first_unmarked(
             at += w;
             j += 1;
         }
+        first = std::num::wrapping_add_usize(first, pitch);
         i += 1;
     }
     found
@@ -86,10 +89,11 @@ pub fn mark_tile(marks: &mut [u8], start: usize, pitch: usize, rows: usize, n: u
         mark_row(&mut marks[start..], rows * n);
         return;
     }
+    let mut to = start;
     let mut i = 0;
     while i < rows {
-        let to = start + i * pitch;
         mark_row(&mut marks[to..], n);
+        to = std::num::wrapping_add_usize(to, pitch);
         i += 1;
     }
 }

@@ -33,7 +33,7 @@ ghost use Rattle.element.specs.Element.{Width};
 ghost use Rattle.tile.specs.Checks.{storeChecks};
 
 // Copies one element of w bytes.
-fn copy_element(dst: &mut [u8], src: &[u8], to: usize, from: usize, w: usize)
+pub fn copy_element(dst: &mut [u8], src: &[u8], to: usize, from: usize, w: usize)
     requires { ⌜ Width w ⌝ }
     requires { ⌜ to + w ≤ length (now dst) ⌝ }
     requires { ⌜ from + w ≤ length (now src) ⌝ }
@@ -163,7 +163,7 @@ fn memory_columns(form: Form, rows: usize, cols: usize) -> usize
 }
 
 // Copies a tile in memory to the registers.
-pub fn copy_in(
+fn copy_in(
     form: Form,
     registers: &mut [u8],
     memory: &[u8],
@@ -192,7 +192,7 @@ pub fn copy_in(
 }
 
 // Copies a tile in the registers to memory.
-pub fn copy_out(
+fn copy_out(
     form: Form,
     memory: &mut [u8],
     registers: &[u8],

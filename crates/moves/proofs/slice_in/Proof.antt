@@ -10,16 +10,14 @@ use Rattle.machine.specs.Answers.{verdict, isDone}
 use Rattle.machine.specs.Geometry.{stateOf}
 use Rattle.machine.specs.Vectors.{vectorBytes}
 use Rattle.machine.specs.Setting.{sew}
-use Rattle.machine.specs.Memory.{inside}
-use Rattle.machine.specs.Operation.{memoryRows, memoryCols}
+use Rattle.machine.specs.Operation.{lineOf, memoryRows, memoryCols}
 use Rattle.machine.specs.Refusals.{sliceFits}
 use Rattle.machine.proofs.CodeLaws.{only-done}
 use Rattle.tile.specs.Checks.{RowsIn}
 use Rattle.checking.specs.declared.Placed.{Placed}
 use Rattle.settings.specs.Parts.{ours}
 use Rattle.settings.proofs.FaultLaws.{ready}
-use Rattle.moves.specs.Parts.{slicePlaced}
-use Rattle.moves.proofs.SliceLaws.{legal, width, line-in, small, corner-in, marks-in, columns-in, slice-inside}
+use Rattle.moves.proofs.SliceLaws.{legal, width, small, corner-in, rows-in, marks-in, columns-in, group-in, turned-in}
 use Rattle.moves.proofs.MoveLaws.{in-refused, in-done}
 use Rattle.moves.proofs.slice_in.Statement.{statement}
 use Rattle.moves.proofs.slice_in.Tie as tie
@@ -59,40 +57,11 @@ slice-of-requires c κs =
     let b = small (a .m) (a .registers .now) (a .marks .now) (s .pre .0) (a .form) (a .md) (a .first) (a .count) (s .pre .1 .1 .0) (fits d) w ew in
     (ready (a .m) (a .registers .now) (a .marks .now) (s .pre .0), (s .pre .1 .1 .0, omega (arith, i, b)))
 
-line-of-requires : tie.Need-line-of-requires
-line-of-requires c κs = search needs
-
-mul-copy-out : tie.Need-mul-copy-out
-mul-copy-out c = search needs
-
-copy-out-requires : tie.Need-copy-out-requires
-copy-out-requires c κs =
-    let n = c .before in
-    let p = n .before in
-    let v = p .before in
-    let d = v .before in
-    let s = d .before .before .before .before .before .before in
-    let a = s .args in
-    let w = v .sew-bytes .result in
-    let ew = v .sew-bytes .ensures .0 in
-    let i = slice-inside (a .m) (a .registers .now) (a .marks .now) (s .pre .0) (a .form) (a .md) (a .first) (a .count) (s .pre .1 .1 .0) (fits d) w ew in
-    let l = line-in (a .m) (a .registers .now) (a .marks .now) (s .pre .0) (a .form) (a .md) (a .first) (a .count) (s .pre .1 .1 .0) (fits d) w ew in (
-      omega (arith, s .pre .1 .0, s .pre .1 .1 .1 .0),
-      (
-        subst (λ (x : ℕ). x * w ≤ vectorBytes) (sym (n .line-of .ensures)) l,
-        (
-          width (a .m) (a .registers .now) (a .marks .now) (s .pre .0) (a .form) (a .md) (a .first) (a .count) (s .pre .1 .1 .0) (fits d) w ew,
-          subst (λ (p : Placed). inside (length (a .registers .now)) (p .start) (p .pitch) (memoryRows (a .form) (a .count) (n .line-of .result)) (memoryCols (a .form) (a .count) (n .line-of .result) * w) ≡ true) (sym (p .slice-of .ensures))
-              (subst (λ (x : ℕ). inside (length (a .registers .now)) (slicePlaced (a .m) (a .form) (a .md) (a .first) (a .count) w .start) (slicePlaced (a .m) (a .form) (a .md) (a .first) (a .count) w .pitch)
-              (memoryRows (a .form) (a .count) x) (memoryCols (a .form) (a .count) x * w) ≡ true) (sym (n .line-of .ensures)) i),
-        ),
-      ),
-    )
-
--- the slice lies in the marks
+-- the slice lies in the registers and in the marks
 lies : (c : tie.After-slice-of) → let v = c .before in let a = v .before .before .before .before .before .before .before .args in
     let p = c .slice-of .result in
-    RowsIn (p .start) (p .pitch) (p .rows) (p .columns * v .sew-bytes .result) (length (a .marks .now)) × (p .columns * v .sew-bytes .result ≤ p .pitch) × (p .pitch < 2 ^ 32)
+    RowsIn (p .start) (p .pitch) (p .rows) (p .columns * v .sew-bytes .result) (length (a .registers .now))
+    × RowsIn (p .start) (p .pitch) (p .rows) (p .columns * v .sew-bytes .result) (length (a .marks .now)) × (p .columns * v .sew-bytes .result ≤ p .pitch) × (p .pitch < 2 ^ 32)
 lies c =
     let v = c .before in
     let d = v .before in
@@ -100,17 +69,42 @@ lies c =
     let a = s .args in
     let w = v .sew-bytes .result in
     let ew = v .sew-bytes .ensures .0 in
-    let r = marks-in (a .m) (a .registers .now) (a .marks .now) (s .pre .0) (a .form) (a .md) (a .first) (a .count) (s .pre .1 .1 .0) (fits d) w ew in
+    let r = rows-in (a .m) (a .registers .now) (a .marks .now) (s .pre .0) (a .form) (a .md) (a .first) (a .count) (s .pre .1 .1 .0) (fits d) w ew in
+    let k = marks-in (a .m) (a .registers .now) (a .marks .now) (s .pre .0) (a .form) (a .md) (a .first) (a .count) (s .pre .1 .1 .0) (fits d) w ew in
     let q = columns-in (a .m) (a .registers .now) (a .marks .now) (s .pre .0) (a .form) (a .md) (a .first) (a .count) (s .pre .1 .1 .0) (fits d) w ew in
     let b = small (a .m) (a .registers .now) (a .marks .now) (s .pre .0) (a .form) (a .md) (a .first) (a .count) (s .pre .1 .1 .0) (fits d) w ew in
-    subst (λ (p : Placed). RowsIn (p .start) (p .pitch) (p .rows) (p .columns * w) (length (a .marks .now)) × (p .columns * w ≤ p .pitch) × (p .pitch < 2 ^ 32)) (sym (c .slice-of .ensures))
-    (r, q, b .1)
+    subst (λ (p : Placed). RowsIn (p .start) (p .pitch) (p .rows) (p .columns * w) (length (a .registers .now))
+    × RowsIn (p .start) (p .pitch) (p .rows) (p .columns * w) (length (a .marks .now)) × (p .columns * w ≤ p .pitch) × (p .pitch < 2 ^ 32)) (sym (c .slice-of .ensures))
+    (r, k, q, b .1)
+
+mul-copy-slice : tie.Need-mul-copy-slice
+mul-copy-slice c = search needs
+
+copy-slice-requires : tie.Need-copy-slice-requires
+copy-slice-requires c κs =
+    let p = c .before in
+    let v = p .before in
+    let d = v .before in
+    let s = d .before .before .before .before .before .before in
+    let a = s .args in
+    let w = v .sew-bytes .result in
+    let ew = v .sew-bytes .ensures .0 in
+    let l = lies p in
+    let g = group-in (a .m) (a .registers .now) (a .marks .now) (s .pre .0) (a .form) (a .md) (a .first) (a .count) (s .pre .1 .1 .0) (fits d) w ew (a .vs1) (a .vectors .now) (s .pre .1 .1 .1 .0) (s .pre .1 .0) in
+    let y = width (a .m) (a .registers .now) (a .marks .now) (s .pre .0) (a .form) (a .md) (a .first) (a .count) (s .pre .1 .1 .0) (fits d) w ew in (
+      l .0,
+      (
+        subst (λ (p : Placed). RowsIn (a .vs1 * vectorBytes) vectorBytes (memoryRows (a .form) (p .rows) (p .columns)) (memoryCols (a .form) (p .rows) (p .columns) * w) (length (a .vectors .now))) (sym (p .slice-of .ensures))
+            (turned-in (a .form) (a .vs1 * vectorBytes) vectorBytes (a .count) (lineOf (a .form) (stateOf (a .m) [] [])) w (length (a .vectors .now)) g),
+        (l .2, y),
+      ),
+    )
 
 mul-mark-tile : tie.Need-mul-mark-tile
-mul-mark-tile c = let l = lies (c .before .before .before .before .before .before .before) in omega (arith, l .1, l .2)
+mul-mark-tile c = let l = lies (c .before .before .before .before .before .before) in omega (arith, l .2, l .3)
 
 mark-tile-requires : tie.Need-mark-tile-requires
-mark-tile-requires c κs = lies (c .before .before .before .before .before .before .before) .0
+mark-tile-requires c κs = lies (c .before .before .before .before .before .before) .1
 
 same-length : tie.Need-same-length
 same-length c = search needs
@@ -122,16 +116,14 @@ returns-2 : tie.Need-returns-2
 returns-2 c =
     let t = c .before .before in
     let y = t .before .before .before .before .before in
-    let n = y .before .before in
-    let p = n .before in
+    let p = y .before .before in
     let v = p .before in
     let d = v .before in
-    let s = d .before .before .before .before .before .before in
-    let a = s .args in
-    in-done (a .m) (a .registers .now) (a .marks .now) (a .form) (a .md) (a .vs1) (a .first) (a .count) (a .vectors .now) (fits d) (v .sew-bytes .result) (v .sew-bytes .ensures .0)
-    (p .slice-of .result) (p .slice-of .ensures) (s .pre .0) (s .pre .1 .1 .0)
+    let a = d .before .before .before .before .before .before .args in
+    in-done (a .m) (a .registers .now) (a .marks .now) (a .form) (a .md) (a .vs1) (a .first) (a .count) (a .vectors .now) (v .sew-bytes .result) (v .sew-bytes .ensures .0)
+    (p .slice-of .result) (p .slice-of .ensures)
     (sym (only-done (d .before .before .check-slice .result) (sym (d .before .is-done .ensures) ∙ not-false (d .before .is-done .result) (d .if1 .left))) ∙ d .before .before .check-slice .ensures)
-    (n .line-of .result) (n .line-of .ensures) _ _ (y .copy-out .ensures) (t .mark-tile .ensures)
+    _ _ (y .copy-slice .ensures) (t .mark-tile .ensures)
 
 pub slice-in-spec : {M : Type 1} → statement M
 slice-in-spec =
@@ -142,9 +134,8 @@ slice-in-spec =
     returns
     sew-bytes-requires
     slice-of-requires
-    line-of-requires
-    mul-copy-out
-    copy-out-requires
+    mul-copy-slice
+    copy-slice-requires
     mul-mark-tile
     mark-tile-requires
     same-length

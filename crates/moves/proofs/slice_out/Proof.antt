@@ -11,16 +11,15 @@ use Rattle.machine.specs.Answers.{verdict, isDone}
 use Rattle.machine.specs.Geometry.{stateOf}
 use Rattle.machine.specs.Vectors.{vectorBytes}
 use Rattle.machine.specs.Setting.{sew}
-use Rattle.machine.specs.Memory.{inside}
-use Rattle.machine.specs.Operation.{memoryRows, memoryCols}
+use Rattle.machine.specs.Operation.{lineOf, memoryRows, memoryCols}
 use Rattle.machine.specs.Refusals.{sliceFits}
 use Rattle.machine.proofs.CodeLaws.{only-done}
+use Rattle.element.specs.Element.{Width}
 use Rattle.tile.specs.Checks.{RowsIn}
 use Rattle.checking.specs.declared.Placed.{Placed}
 use Rattle.settings.specs.Parts.{ours}
 use Rattle.settings.proofs.FaultLaws.{ready}
-use Rattle.moves.specs.Parts.{slicePlaced}
-use Rattle.moves.proofs.SliceLaws.{legal, width, line-in, small, corner-in, marks-in, columns-in, shift-small, slice-inside}
+use Rattle.moves.proofs.SliceLaws.{legal, width, line-in, small, corner-in, rows-in, marks-in, columns-in, shift-small, group-in}
 use Rattle.moves.proofs.MoveLaws.{out-refused, out-unmarked, out-done}
 use Rattle.moves.proofs.slice_out.Statement.{statement}
 use Rattle.moves.proofs.slice_out.Tie as tie
@@ -92,11 +91,11 @@ returns-2 c =
 line-of-requires : tie.Need-line-of-requires
 line-of-requires c κs = search needs
 
-mul-copy-in : tie.Need-mul-copy-in
-mul-copy-in c = search needs
+mul-copy-slice : tie.Need-mul-copy-slice
+mul-copy-slice c = search needs
 
-copy-in-requires : tie.Need-copy-in-requires
-copy-in-requires c κs =
+copy-slice-requires : tie.Need-copy-slice-requires
+copy-slice-requires c κs =
     let n = c .before in
     let p = n .before .before .before .before in
     let v = p .before in
@@ -105,19 +104,15 @@ copy-in-requires c κs =
     let a = s .args in
     let w = v .sew-bytes .result in
     let ew = v .sew-bytes .ensures .0 in
-    let i = slice-inside (a .m) (a .registers .now) (a .marks .now) (s .pre .0) (a .form) (a .ms1) (a .first) (a .count) (s .pre .1 .1 .0) (fits d) w ew in
-    let l = line-in (a .m) (a .registers .now) (a .marks .now) (s .pre .0) (a .form) (a .ms1) (a .first) (a .count) (s .pre .1 .1 .0) (fits d) w ew in (
-      omega (arith, s .pre .1 .0, s .pre .1 .1 .1 .0),
-      (
-        subst (λ (x : ℕ). x * w ≤ vectorBytes) (sym (n .line-of .ensures)) l,
-        (
-          width (a .m) (a .registers .now) (a .marks .now) (s .pre .0) (a .form) (a .ms1) (a .first) (a .count) (s .pre .1 .1 .0) (fits d) w ew,
-          subst (λ (p : Placed). inside (length (a .registers .now)) (p .start) (p .pitch) (memoryRows (a .form) (a .count) (n .line-of .result)) (memoryCols (a .form) (a .count) (n .line-of .result) * w) ≡ true) (sym (p .slice-of .ensures))
-              (subst (λ (x : ℕ). inside (length (a .registers .now)) (slicePlaced (a .m) (a .form) (a .ms1) (a .first) (a .count) w .start) (slicePlaced (a .m) (a .form) (a .ms1) (a .first) (a .count) w .pitch)
-              (memoryRows (a .form) (a .count) x) (memoryCols (a .form) (a .count) x * w) ≡ true) (sym (n .line-of .ensures)) i),
-        ),
-      ),
-    )
+    let line : ℕ = lineOf (a .form) (stateOf (a .m) [] []) in
+    let g = group-in (a .m) (a .registers .now) (a .marks .now) (s .pre .0) (a .form) (a .ms1) (a .first) (a .count) (s .pre .1 .1 .0) (fits d) w ew (a .vd) (a .vectors .now) (s .pre .1 .1 .1 .0) (s .pre .1 .0) in
+    let r = rows-in (a .m) (a .registers .now) (a .marks .now) (s .pre .0) (a .form) (a .ms1) (a .first) (a .count) (s .pre .1 .1 .0) (fits d) w ew in
+    let l = line-in (a .m) (a .registers .now) (a .marks .now) (s .pre .0) (a .form) (a .ms1) (a .first) (a .count) (s .pre .1 .1 .0) (fits d) w ew in
+    let y = width (a .m) (a .registers .now) (a .marks .now) (s .pre .0) (a .form) (a .ms1) (a .first) (a .count) (s .pre .1 .1 .0) (fits d) w ew in
+    subst (λ (x : ℕ). RowsIn (a .vd * vectorBytes) vectorBytes (a .count) (x * w) (length (a .vectors .now))
+    × (RowsIn (p .slice-of .result .start) (p .slice-of .result .pitch) (memoryRows (a .form) (a .count) x) (memoryCols (a .form) (a .count) x * w) (length (a .registers .now))
+    × ((x * w ≤ vectorBytes) × Width w))) (sym (n .line-of .ensures))
+    (g, (subst (λ (p : Placed). RowsIn (p .start) (p .pitch) (memoryRows (a .form) (a .count) line) (memoryCols (a .form) (a .count) line * w) (length (a .registers .now))) (sym (p .slice-of .ensures)) r, (l, y)))
 
 same-length : tie.Need-same-length
 same-length c = search needs
@@ -131,12 +126,11 @@ returns-3 c =
     let p = k .before in
     let v = p .before in
     let d = v .before in
-    let s = d .before .before .before .before .before .before in
-    let a = s .args in
+    let a = d .before .before .before .before .before .before .args in
     out-done (a .m) (a .registers .now) (a .marks .now) (a .form) (a .ms1) (a .vd) (a .first) (a .count) (a .vectors .now) (fits d) (v .sew-bytes .result) (v .sew-bytes .ensures .0)
-    (p .slice-of .result) (p .slice-of .ensures) (s .pre .0) (s .pre .1 .1 .0)
+    (p .slice-of .result) (p .slice-of .ensures)
     (sym (only-done (k .slice-marks .result) (sym (e .before .is-done2 .ensures) ∙ not-false (e .before .is-done2 .result) (e .if2 .left))) ∙ k .slice-marks .ensures)
-    (n .line-of .result) (n .line-of .ensures) _ (y .copy-in .ensures)
+    (n .line-of .result) (n .line-of .ensures) _ (y .copy-slice .ensures)
 
 pub slice-out-spec : {M : Type 1} → statement M
 slice-out-spec =
@@ -151,7 +145,7 @@ slice-out-spec =
     is-done-requires-2
     returns-2
     line-of-requires
-    mul-copy-in
-    copy-in-requires
+    mul-copy-slice
+    copy-slice-requires
     same-length
     returns-3)

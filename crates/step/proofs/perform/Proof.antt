@@ -15,13 +15,13 @@ use Rattle.machine.specs.Answers.{reply}
 use Rattle.machine.specs.Geometry.{stateOf, withScalar, benchOf}
 use Rattle.machine.specs.Setting.{sew, newType}
 use Rattle.machine.specs.Operation.{Operation, operationIn, operation, times}
-use mathlib.Core.Bool.{false}
+use mathlib.Core.Bool.{true, false}
 use Rattle.machine.specs.Step.{Outcome, beside, outcome, destination, steppedAs}
 use Rattle.machine.specs.Vectors.{vectorsOf}
-use Rattle.moves.specs.Parts.{movedOut, movedIn}
+use Rattle.moves.specs.Parts.{moved}
 use Rattle.machine.proofs.NoFault.{sound-is}
 use Rattle.step.specs.Parts.{Decoded, carriedBeside}
-use Rattle.step.proofs.MoveOutcomes.{isMove, other-outcome, out-outcome, in-outcome}
+use Rattle.step.proofs.MoveOutcomes.{isMove, other-outcome, slice-outcome}
 use Rattle.settings.proofs.FaultLaws.{ready}
 use Rattle.settings.proofs.TypeLaws.{ready-elen}
 use Rattle.operations.proofs.OutcomeLaws.{illegal-outcome, type-outcome, size-outcome, tile-outcome, loads-outcome, stores-outcome}
@@ -408,8 +408,8 @@ read-scalar-requires-7 c κs =
     let s = c .before .before .before .before .before .before .before .before .before in
     omega (arith, fields s _ (g .1) .1, slots s)
 
-move-out-requires : tie.Need-move-out-requires
-move-out-requires c κs =
+move-slice-requires : tie.Need-move-slice-requires
+move-slice-requires c κs =
     let g = c .before .before .before .before .before .before .instruction13 .given in
     let s = c .before .before .before .before .before .before .before .before .before .before .before .before .before in
     (s .pre .0, (s .pre .1 .1 .0, fields s _ (g .1) .0))
@@ -423,8 +423,8 @@ read-scalar-requires-8 c κs =
     let s = c .before .before .before .before .before .before .before .before .before in
     omega (arith, fields s _ (g .1) .1, slots s)
 
-move-in-requires : tie.Need-move-in-requires
-move-in-requires c κs =
+move-slice-requires-2 : tie.Need-move-slice-requires-2
+move-slice-requires-2 c κs =
     let g = c .before .before .before .before .before .before .instruction14 .given in
     let s = c .before .before .before .before .before .before .before .before .before .before .before .before .before in
     (s .pre .0, (s .pre .1 .1 .0, fields s _ (g .1) .0))
@@ -442,22 +442,22 @@ same-length-27 : tie.Need-same-length-27
 same-length-27 c = search needs
 
 -- what a move means
-moved : (s : tie.Start) (i : Instruction) → s .args .instruction ≡ i → let a = s .args in
+meant-in : (s : tie.Start) (i : Instruction) → s .args .instruction ≡ i → let a = s .args in
     operationIn (vectorsOf (a .vectors .now) (a .group)) (ours (a .m)) (stateOf (a .m) (a .registers .now) (a .marks .now)) (a .scalars .now) (a .instruction)
     ≡ operationIn (vectorsOf (a .vectors .now) (a .group)) (ours (a .m)) (stateOf (a .m) (a .registers .now) (a .marks .now)) (a .scalars .now) i
-moved s i e = let a = s .args in ap (operationIn (vectorsOf (a .vectors .now) (a .group)) (ours (a .m)) (stateOf (a .m) (a .registers .now) (a .marks .now)) (a .scalars .now)) e
+meant-in s i e = let a = s .args in ap (operationIn (vectorsOf (a .vectors .now) (a .group)) (ours (a .m)) (stateOf (a .m) (a .registers .now) (a .marks .now)) (a .scalars .now)) e
 
 returns-13 : tie.Need-returns-13
 returns-13 c =
-    let k = c .before .before in
+    let k = c .before .before .before .before .before .before in
     let v = k .before .before .before .before in
     let i = v .before .before .before in
     let g = i .instruction13 .given in
     let s = i .before .before .before .before .before .before .before in
     let a = s .args in
     let W = vectorsOf (a .vectors .now) (a .group) in
-    out-outcome (a .m) (a .instruction) (a .scalars .now) (a .registers .now) (a .marks .now) (a .memory .now) W (s .pre .0) (s .pre .1 .0) (ap destination (g .1)) (g .0 .0) (g .0 .1 .1 .0) (g .0 .1 .0) (v .read-scalar7 .result)
-    (moved s _ (g .1) ∙ ap (λ (x : ℕ). movedOut W (g .0 .0) (g .0 .1 .1 .0) (g .0 .1 .0) x) (sym (v .read-scalar7 .ensures))) _ _ (k .move-out .ensures)
+    slice-outcome (a .m) (a .instruction) (a .scalars .now) (a .registers .now) (a .marks .now) (a .memory .now) W (s .pre .0) (s .pre .1 .0) (ap destination (g .1)) false (g .0 .0) (g .0 .1 .1 .0) (g .0 .1 .0) (v .read-scalar7 .result)
+    (meant-in s _ (g .1) ∙ ap (λ (x : ℕ). moved false W (g .0 .0) (g .0 .1 .1 .0) (g .0 .1 .0) x) (sym (v .read-scalar7 .ensures))) _ _ _ _ (k .move-slice .ensures)
 
 same-length-28 : tie.Need-same-length-28
 same-length-28 c = search needs
@@ -473,15 +473,15 @@ same-length-31 c = search needs
 
 returns-14 : tie.Need-returns-14
 returns-14 c =
-    let k = c .before .before .before .before in
+    let k = c .before .before .before .before .before .before in
     let v = k .before .before .before .before in
     let i = v .before .before .before in
     let g = i .instruction14 .given in
     let s = i .before .before .before .before .before .before .before in
     let a = s .args in
     let W = vectorsOf (a .vectors .now) (a .group) in
-    in-outcome (a .m) (a .instruction) (a .scalars .now) (a .registers .now) (a .marks .now) (a .memory .now) W (s .pre .0) (s .pre .1 .0) (ap destination (g .1)) (g .0 .0) (g .0 .1 .0) (g .0 .1 .1 .0) (v .read-scalar8 .result)
-    (moved s _ (g .1) ∙ ap (λ (x : ℕ). movedIn W (g .0 .0) (g .0 .1 .0) (g .0 .1 .1 .0) x) (sym (v .read-scalar8 .ensures))) _ _ _ (k .move-in .ensures)
+    slice-outcome (a .m) (a .instruction) (a .scalars .now) (a .registers .now) (a .marks .now) (a .memory .now) W (s .pre .0) (s .pre .1 .0) (ap destination (g .1)) true (g .0 .0) (g .0 .1 .0) (g .0 .1 .1 .0) (v .read-scalar8 .result)
+    (meant-in s _ (g .1) ∙ ap (λ (x : ℕ). moved true W (g .0 .0) (g .0 .1 .0) (g .0 .1 .1 .0) x) (sym (v .read-scalar8 .ensures))) _ _ _ _ (k .move-slice2 .ensures)
 
 pub perform-spec : {M : Type 1} → statement M
-perform-spec = tie.close (tie.spec enum-known-instruction word-answer-requires enum-known-instruction-2 set-type-requires enum-known-instruction-3 read-scalar-requires set-type-requires-2 enum-known-instruction-4 set-size-requires enum-known-instruction-5 set-tile-requires enum-known-instruction-6 read-scalar-requires-2 read-scalar-requires-3 load-requires enum-known-instruction-7 read-scalar-requires-4 read-scalar-requires-5 store-requires enum-known-instruction-8 multiply-requires enum-known-instruction-9 combine-requires enum-known-instruction-10 read-scalar-requires-6 multiplier-requires scale-requires enum-known-instruction-11 sign-extend-requires scale-requires-2 enum-known-instruction-12 float-multiply-requires enum-known-instruction-13 read-scalar-requires-7 move-out-requires enum-known-instruction-14 read-scalar-requires-8 move-in-requires returns same-length returns-2 same-length-2 returns-3 same-length-3 returns-4 same-length-4 returns-5 same-length-5 same-length-6 same-length-7 same-length-8 returns-6 same-length-9 same-length-10 same-length-11 same-length-12 returns-7 same-length-13 same-length-14 returns-8 same-length-15 same-length-16 returns-9 same-length-17 same-length-18 same-length-19 returns-10 same-length-20 same-length-21 returns-11 same-length-22 same-length-23 returns-12 same-length-24 same-length-25 same-length-26 same-length-27 returns-13 same-length-28 same-length-29 same-length-30 same-length-31 returns-14)
+perform-spec = tie.close (tie.spec enum-known-instruction word-answer-requires enum-known-instruction-2 set-type-requires enum-known-instruction-3 read-scalar-requires set-type-requires-2 enum-known-instruction-4 set-size-requires enum-known-instruction-5 set-tile-requires enum-known-instruction-6 read-scalar-requires-2 read-scalar-requires-3 load-requires enum-known-instruction-7 read-scalar-requires-4 read-scalar-requires-5 store-requires enum-known-instruction-8 multiply-requires enum-known-instruction-9 combine-requires enum-known-instruction-10 read-scalar-requires-6 multiplier-requires scale-requires enum-known-instruction-11 sign-extend-requires scale-requires-2 enum-known-instruction-12 float-multiply-requires enum-known-instruction-13 read-scalar-requires-7 move-slice-requires enum-known-instruction-14 read-scalar-requires-8 move-slice-requires-2 returns same-length returns-2 same-length-2 returns-3 same-length-3 returns-4 same-length-4 returns-5 same-length-5 same-length-6 same-length-7 same-length-8 returns-6 same-length-9 same-length-10 same-length-11 same-length-12 returns-7 same-length-13 same-length-14 returns-8 same-length-15 same-length-16 returns-9 same-length-17 same-length-18 same-length-19 returns-10 same-length-20 same-length-21 returns-11 same-length-22 same-length-23 returns-12 same-length-24 same-length-25 same-length-26 same-length-27 returns-13 same-length-28 same-length-29 same-length-30 same-length-31 returns-14)

@@ -17,15 +17,29 @@ bench s = let a = s .args in benchOf (a .m) (a .registers .now) (a .marks .now) 
 abbrev lent : tie.Start → Vectors
 lent s = vectorsOf (s .args .vectors .now) (s .args .group)
 
--- the state is not at fault
-fine : (c : tie.Else1) → let a = c .before .before .before .before .before .before .before .before .before .args in sound (a .m) (a .registers .now) (a .marks .now) ≡ true
-fine c = sym (c .before .is-sound .ensures) ∙ not-false (c .before .is-sound .result) (c .if1 .left)
-
 -- the vector file is not bad
-good : (c : tie.Else4) → vectorsFit (lent (c .before .before .before .before .before .before .before .before .before .before .before .before .before)) ≡ true
+good : (c : tie.Else2) → vectorsFit (lent (c .before .before .before .before .before .before .before .before)) ≡ true
 good c =
-    let a = c .before .before .before .before .before .before .before .before .before .before .before .before .before .args in
-    file-good (a .vectors .now) (a .group) (c .before .before .if3 .left) (sym (c .before .is-group .ensures) ∙ not-false (c .before .is-group .result) (c .if4 .left))
+    let a = c .before .before .before .before .before .before .before .before .args in
+    file-good (a .vectors .now) (a .group) (c .before .before .if1 .left) (sym (c .before .is-group .ensures) ∙ not-false (c .before .is-group .result) (c .if2 .left))
+
+-- the state is not at fault
+fine : (c : tie.Else3) → let a = c .before .before .before .before .before .before .before .before .before .before .before .before .args in sound (a .m) (a .registers .now) (a .marks .now) ≡ true
+fine c = sym (c .before .is-sound .ensures) ∙ not-false (c .before .is-sound .result) (c .if3 .left)
+
+returns : tie.Need-returns
+returns c =
+    let s = c .before .before .before .before .before .before in
+    step-vectors (s .args .word) (s .args .scalars .now) (lent s) (bench s) (file-bad (s .args .vectors .now) (s .args .group) (c .if1 .taken))
+
+is-group-requires : tie.Need-is-group-requires
+is-group-requires c κs = search needs
+
+returns-2 : tie.Need-returns-2
+returns-2 c =
+    let s = c .before .before .before .before .before .before .before .before in
+    step-vectors (s .args .word) (s .args .scalars .now) (lent s) (bench s)
+    (group-bad (s .args .vectors .now) (s .args .group) (c .before .before .if1 .left) (sym (c .before .is-group .ensures) ∙ not-true (c .before .is-group .result) (c .if2 .taken)))
 
 is-sound-requires : tie.Need-is-sound-requires
 is-sound-requires c κs = search needs
@@ -36,10 +50,10 @@ same-length c = search needs
 same-length-2 : tie.Need-same-length-2
 same-length-2 c = search needs
 
-returns : tie.Need-returns
-returns c =
-    let s = c .before .before .before .before .before .before .before .before .before in
-    step-fault (s .args .word) (s .args .scalars .now) (lent s) (bench s) (sym (c .before .is-sound .ensures) ∙ not-true (c .before .is-sound .result) (c .if1 .taken))
+returns-3 : tie.Need-returns-3
+returns-3 c =
+    let s = c .before .before .before .before .before .before .before .before .before .before .before .before in
+    step-fault (s .args .word) (s .args .scalars .now) (lent s) (bench s) (sym (c .before .is-sound .ensures) ∙ not-true (c .before .is-sound .result) (c .if3 .taken))
 
 same-length-3 : tie.Need-same-length-3
 same-length-3 c = search needs
@@ -47,10 +61,21 @@ same-length-3 c = search needs
 same-length-4 : tie.Need-same-length-4
 same-length-4 c = search needs
 
-returns-2 : tie.Need-returns-2
-returns-2 c =
-    let s = c .before .before .before .before .before .before .before .before .before .before in
-    step-scalars (s .args .word) (s .args .scalars .now) (lent s) (bench s) (fine (c .before)) (ne-eqb (length (s .args .scalars .now)) 32 (c .if2 .taken))
+returns-4 : tie.Need-returns-4
+returns-4 c =
+    let s = c .before .before .before .before .before .before .before .before .before .before .before .before .before in
+    step-scalars (s .args .word) (s .args .scalars .now) (lent s) (bench s) (fine (c .before)) (ne-eqb (length (s .args .scalars .now)) 32 (c .if4 .taken))
+
+decode-requires : tie.Need-decode-requires
+decode-requires c κs = search needs
+
+perform-requires : tie.Need-perform-requires
+perform-requires c κs =
+    let b = c .before .before .before .before .before .before in
+    let e = b .before in
+    let g = e .before .before .before .before in
+    let s = g .before .before .before .before .before .before .before .before in
+    (fine e, (eq-eqb (length (s .args .scalars .now)) 32 (b .if4 .left), (good g, decoded (s .args .word) (c .decode .result) (c .decode .ensures))))
 
 same-length-5 : tie.Need-same-length-5
 same-length-5 c = search needs
@@ -58,83 +83,42 @@ same-length-5 c = search needs
 same-length-6 : tie.Need-same-length-6
 same-length-6 c = search needs
 
-returns-3 : tie.Need-returns-3
-returns-3 c =
-    let s = c .before .before .before .before .before .before .before .before .before .before .before in
-    step-vectors (s .args .word) (s .args .scalars .now) (lent s) (bench s) (file-bad (s .args .vectors .now) (s .args .group) (c .if3 .taken))
-
-is-group-requires : tie.Need-is-group-requires
-is-group-requires c κs = search needs
-
 same-length-7 : tie.Need-same-length-7
 same-length-7 c = search needs
 
 same-length-8 : tie.Need-same-length-8
 same-length-8 c = search needs
 
-returns-4 : tie.Need-returns-4
-returns-4 c =
-    let s = c .before .before .before .before .before .before .before .before .before .before .before .before .before in
-    step-vectors (s .args .word) (s .args .scalars .now) (lent s) (bench s)
-    (group-bad (s .args .vectors .now) (s .args .group) (c .before .before .if3 .left) (sym (c .before .is-group .ensures) ∙ not-true (c .before .is-group .result) (c .if4 .taken)))
-
-decode-requires : tie.Need-decode-requires
-decode-requires c κs = search needs
-
-perform-requires : tie.Need-perform-requires
-perform-requires c κs =
-    let g = c .before .before .before .before .before .before in
-    let b = g .before .before .before in
-    let e = b .before in
-    let s = e .before .before .before .before .before .before .before .before .before in
-    (fine e, (eq-eqb (length (s .args .scalars .now)) 32 (b .if2 .left), (good g, decoded (s .args .word) (c .decode .result) (c .decode .ensures))))
-
 same-length-9 : tie.Need-same-length-9
 same-length-9 c = search needs
-
-same-length-10 : tie.Need-same-length-10
-same-length-10 c = search needs
-
-same-length-11 : tie.Need-same-length-11
-same-length-11 c = search needs
-
-same-length-12 : tie.Need-same-length-12
-same-length-12 c = search needs
-
-same-length-13 : tie.Need-same-length-13
-same-length-13 c = search needs
 
 returns-5 : tie.Need-returns-5
 returns-5 c =
     let p = c .before .before .before .before .before .before .before .before .before .before in
     let d = p .before in
-    let g = d .before .before .before .before .before .before in
-    let s = g .before .before .before .before .before .before .before .before .before .before .before .before .before in
+    let g = d .before .before .before .before .before .before .before .before .before .before .before in
+    let s = g .before .before .before .before .before .before .before .before in
     p .perform .ensures ∙ step-decoded (s .args .word) (s .args .scalars .now) (lent s) (bench s) (good g) (d .decode .result) (d .decode .ensures)
 
 pub step-spec : {M : Type 1} → statement M
 step-spec =
     tie.close
     (tie.spec
+    returns
+    is-group-requires
+    returns-2
     is-sound-requires
     same-length
     same-length-2
-    returns
+    returns-3
     same-length-3
     same-length-4
-    returns-2
-    same-length-5
-    same-length-6
-    returns-3
-    is-group-requires
-    same-length-7
-    same-length-8
     returns-4
     decode-requires
     perform-requires
+    same-length-5
+    same-length-6
+    same-length-7
+    same-length-8
     same-length-9
-    same-length-10
-    same-length-11
-    same-length-12
-    same-length-13
     returns-5)

@@ -1,0 +1,57 @@
+use mathlib.Core.Path.{_≡_, subst}
+use Prim.Native.Nat.{_*_}
+use lib.ListN.{length}
+use borrow.Author.Needs.{needs}
+use Rattle.machine.specs.declared.Form.{Form}
+use Rattle.machine.specs.Operation.{memoryRows, memoryCols}
+use Rattle.tile.specs.Checks.{RowsIn}
+use Rattle.moves.proofs.copy_slice.Statement.{statement}
+use Rattle.moves.proofs.copy_slice.Tie as tie
+
+-- the rows lie in src
+rows-in : (s : tie.Start) (f : Form) → s .args .form ≡ f
+    → let a = s .args in RowsIn (a .from) (a .apart) (memoryRows f (a .rows) (a .cols)) (memoryCols f (a .rows) (a .cols) * a .w) (length (a .src .now))
+rows-in s f e =
+    let a = s .args in
+    subst (λ (f : Form). RowsIn (a .from) (a .apart) (memoryRows f (a .rows) (a .cols)) (memoryCols f (a .rows) (a .cols) * a .w) (length (a .src .now))) e (s .pre .1 .0)
+
+enum-told : tie.Need-enum-told
+enum-told c = search needs
+
+copy-rows-requires : tie.Need-copy-rows-requires
+copy-rows-requires c κs =
+    let s = c .before .before .before .before .before in
+    (s .pre .0, (rows-in s _ (c .before .enum-told .given .1), s .pre .1 .1 .0))
+
+enum-told-2 : tie.Need-enum-told-2
+enum-told-2 c = search needs
+
+copy-columns-requires : tie.Need-copy-columns-requires
+copy-columns-requires c κs =
+    let s = c .before .before .before .before .before in
+    (s .pre .0, (rows-in s _ (c .before .enum-told2 .given .1), s .pre .1 .1 .1))
+
+same-length : tie.Need-same-length
+same-length c = search needs
+
+returns : tie.Need-returns
+returns c = rw (c .before .before .before .before .enum-told .given .1) (c .before .before .copy-rows .ensures)
+
+same-length-2 : tie.Need-same-length-2
+same-length-2 c = search needs
+
+returns-2 : tie.Need-returns-2
+returns-2 c = rw (c .before .before .before .before .enum-told2 .given .1) (c .before .before .copy-columns .ensures)
+
+pub copy-slice-spec : {M : Type 1} → statement M
+copy-slice-spec =
+    tie.close
+    (tie.spec
+    enum-told
+    copy-rows-requires
+    enum-told-2
+    copy-columns-requires
+    same-length
+    returns
+    same-length-2
+    returns-2)
