@@ -440,15 +440,17 @@ BODLARINA_INLINE uint64_t bodlarina_bench_step(const struct bodlarina_bench *ben
                           bench->marks_len, bench->scalars, bench->scalars_len, bench->memory, bench->memory_len, vectors, vectors_len);
 }
 
-/* A scalar, x0 to x31, as a word reads it, and one set; x0 stays 0. The scalars' buffer has BODLARINA_SCALAR_BYTES. */
+/* A scalar, x0 to x31, as a word reads it, and one set; x0 stays 0. Where scalars_len is not BODLARINA_SCALAR_BYTES each is 0, and none is set. */
 BODLARINA_INLINE uint64_t bodlarina_bench_scalar(const struct bodlarina_bench *bench, unsigned slot)
 {
-    return slot % 32 == 0 ? 0 : bodlarina_get64(bench->scalars + BODLARINA_SCALAR_AT(slot % 32));
+    if (slot % 32 == 0 || bench->scalars_len != BODLARINA_SCALAR_BYTES)
+        return 0;
+    return bodlarina_get64(bench->scalars + BODLARINA_SCALAR_AT(slot % 32));
 }
 
 BODLARINA_INLINE void bodlarina_bench_set_scalar(const struct bodlarina_bench *bench, unsigned slot, uint64_t value)
 {
-    if (slot % 32 != 0)
+    if (slot % 32 != 0 && bench->scalars_len == BODLARINA_SCALAR_BYTES)
         bodlarina_put64(bench->scalars + BODLARINA_SCALAR_AT(slot % 32), value);
 }
 

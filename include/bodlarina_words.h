@@ -59,7 +59,8 @@
 BODLARINA_INLINE uint32_t bodlarina_msettypei(uint32_t rd, uint32_t mtypei) { return BODLARINA_SETTING_(0, mtypei, rd); }
 BODLARINA_INLINE uint32_t bodlarina_msettype(uint32_t rd, uint32_t rs1) { return BODLARINA_SETTING_(1, rs1 & 31u, rd); }
 
-/* A tile size becomes the smaller of the asked number and its maximum under mtype, and rd receives it. With rs1 x0: if rd is not x0
+/* A tile size becomes what the machine's rule gives of the asked number, and rd receives it: the smaller of the number and its maximum under
+ * mtype, or on a halving machine half of the number, rounded up, where that lies strictly between the maximum and twice it. With rs1 x0: if rd is not x0
  * the maximum is taken; if both are x0 nothing is asked: the size becomes the smaller of itself and its maximum. The maxima are MLEN / RLEN
  * for the rows m, RLEN / SEW for the columns n, and the smaller of the two for the terms k. Set mtype first, then the sizes: a size
  * that is above its maximum under a wider SEW has loads, stores and arithmetic refused with 4. */

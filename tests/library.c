@@ -922,12 +922,26 @@ static void no_vectors(void)
     check(right, "a host without vector registers: moves get 8, other words go on");
 }
 
+/* Scalars of another length than theirs are neither read nor written. */
+static void short_scalars(void)
+{
+    uint8_t eight[8] = {7, 7, 7, 7, 7, 7, 7, 7};
+    struct bodlarina_bench other = bench;
+    other.scalars = eight;
+    other.scalars_len = sizeof eight;
+    bodlarina_bench_set_scalar(&other, 31, 5);
+    bodlarina_bench_set_scalar(&other, 0, 5);
+    check(bodlarina_bench_scalar(&other, 31) == 0 && bodlarina_bench_scalar(&other, 0) == 0 && all(eight, 0, sizeof eight, 7),
+          "scalars of another length are left alone");
+}
+
 static void moves(void)
 {
     moves_out();
     moves_in();
     moves_refused();
     no_vectors();
+    short_scalars();
 }
 
 /* ---- stack: a call in a thread whose stack was painted ---- */
