@@ -154,8 +154,8 @@ BODLARINA_INLINE uint32_t bodlarina_mscte64_m(uint32_t ms3, uint32_t rs1, uint32
 
 /* ---- moves ------------------------------------------------------------------------------------------------ */
 
-/* As many rows (mmvcr) or columns (mmvcc) of an accumulator as the group size, from the one that the scalar rs2 names on, each to or from
- * the next vector register from vd or vs1 on, its elements of SEW bits from byte 0 on. */
+/* As many rows (mmvcr) or columns (mmvcc) of an accumulator as the group size, from the one that the scalar rs2 names on, each to or
+ * from the next vector register from vd or vs1 on, its elements of SEW bits from byte 0 on. */
 #define BODLARINA_MOVE_(f, in, d, s, rs2) \
     ((uint32_t)(f) << 26 | (uint32_t)(in) << 25 | ((uint32_t)(rs2) & 31u) << 20 | ((uint32_t)(s) & 31u) << 15 | 5u << 12 | ((uint32_t)(d) & 31u) << 7 | 0x77u)
 BODLARINA_INLINE uint32_t bodlarina_mmvcr_v_m(uint32_t vd, uint32_t ms1, uint32_t rs2) { return BODLARINA_MOVE_(0, 0, vd, ms1, rs2); }

@@ -1,29 +1,30 @@
 -- No row and no column of a step's answer is too large for its bits in a result.
 use mathlib.Core.Path.{_≡_, refl}
-use mathlib.Core.Bool.{Bool, true, false, cond, not}
+use mathlib.Core.Bool.{Bool, true, false, cond}
 use mathlib.Core.List.{List, [], _∷_}
-use Prim.Native.Nat.{ℕ, zero, suc, _+_, _*_, _/_, _%_, _^_, _≤_, _<_}
+use Prim.Native.Nat.{ℕ, _+_, _/_, _%_, _^_, _≤_, _<_}
 use native.Mathlib.Nat.{mul-le-mul-left}
 use native.Mathlib.Omega.{arith}
-use lib.ListN.{length, getD}
-use lib.Dec.{ltb, eqb}
+use lib.ListN.{length}
+use lib.Dec.{leb}
 use borrow.Author.Tests.{eq-eqb, leb-true}
 use Rattle.machine.specs.declared.Wrong.the-variants.{Opcode, LeftOut, Unlisted, Register}
 use Rattle.machine.specs.declared.Matrix.{Matrix}
 use Rattle.machine.specs.declared.Matrix.the-variants.{MatrixA, MatrixB, MatrixC}
-use Rattle.machine.specs.Tests.{first, all}
+use Rattle.machine.specs.Tests.{first}
 use Rattle.machine.specs.declared.Reply.{Reply}
 use Rattle.machine.specs.Answers.{reply, number, isDone, Check, verdict}
 use Rattle.machine.specs.Geometry.{Parameters, parameters, State, Bench, benchOf}
-use Rattle.machine.specs.Setting.{chosen, sew}
+use Rattle.machine.specs.Setting.{chosen}
 use Rattle.machine.specs.Listing.{decode}
-use Rattle.machine.specs.Operation.{Operation, illegal, setType, setSize, cutSize, load, store, multiply, combine, scale, floatMultiply, moveOut, moveIn, tileRows, tileCols, sliceAt}
-use Rattle.machine.specs.Refusals.{checks, firstRow}
+use Rattle.machine.specs.Operation.{Operation, illegal, setType, setSize, cutSize, load, store, multiply, combine, scale, floatMultiply, moveOut, moveIn, tileRows, tileCols, linesOf, sliceRows, sliceCols}
+use Rattle.machine.specs.Refusals.{checks, unwrittenIn}
 use Rattle.machine.specs.Faults.{soundBench}
 use Rattle.machine.specs.Step
 use Rattle.machine.specs.Step.{beside, vectorsIn, steppedIn, stepWith, vectorStep, checksIn, givenIn, meantIn}
 use Rattle.machine.specs.Vectors.{Vectors, vectorsOf, vectorsFit}
 use Rattle.machine.specs.declared.Answer.the-variants.{BadArguments}
+use Rattle.machine.specs.declared.Form.{Form}
 use Rattle.machine.specs.declared.Form.the-variants.{Plain, Transposed}
 use Rattle.machine.proofs.TestLaws.{first-le}
 use Rattle.machine.proofs.AnswerLaws.{number-small}
@@ -73,6 +74,12 @@ module _ (M : Parameters) (st : State) (mem : List ℕ) (hm : st .tileM ≤ 1024
   within : (rows cols : ℕ) (p q : ℕ → Bool) → rows ≤ 1024 → cols ≤ 1024 → (first rows p ≤ 1024) × (first cols q ≤ 1024)
   within rows cols p q hr hc = (omega (arith, first-le rows p), omega (arith, first-le cols q))
 
+  -- what a slice names lies in its tile
+  slice-small : (f : Form) (start count : ℕ) (p q : ℕ → Bool) → leb (start + count) (linesOf f st) ≡ true
+      → Small (reply (unwrittenIn f start (first (sliceRows f st count) p) (first (sliceCols f st count) q)))
+  slice-small Plain start count p q h = (omega (arith, leb-true (start + count) (st .tileM) h, first-le count p), omega (arith, first-le (st .tileN) q))
+  slice-small Transposed start count p q h = (omega (arith, first-le (st .tileM) p), omega (arith, leb-true (start + count) (st .tileN) h, first-le count q))
+
   checks-small : (o : Operation) → EachSmall (checks M o st mem)
   checks-small (illegal Opcode) = (zeros, λ _. tt)
   checks-small (illegal LeftOut) = (zeros, λ _. tt)
@@ -87,50 +94,7 @@ module _ (M : Parameters) (st : State) (mem : List ℕ) (hm : st .tileM ≤ 1024
   checks-small (combine o f d a) = (zeros, λ _. (zeros, λ _. (zeros, λ _. (zeros, λ _. (within _ _ _ _ hm hn, λ _. (within _ _ _ _ hm hn, λ _. tt))))))
   checks-small (scale f d a x) = (zeros, λ _. (zeros, λ _. (zeros, λ _. (zeros, λ _. (within _ _ _ _ hm hn, λ _. tt)))))
   checks-small (floatMultiply d a b) = (zeros, λ _. (zeros, λ _. (zeros, λ _. (zeros, λ _. (zeros, λ _. (within _ _ _ _ hm hk, λ _. (within _ _ _ _ hk hn, λ _. (within _ _ _ _ hm hn, λ _. tt))))))))
-  checks-small (moveOut Plain a v start count) = (
-    zeros,
-    λ _. (
-      zeros,
-      λ _. (
-        zeros,
-        λ _. (
-          zeros,
-          λ h. (
-            zeros,
-            λ _. (
-              (
-                (omega (arith, leb-true (start + count) (st .tileM) h, first-le count (λ i. not (all (st .tileN * sew (st .mtype)) (λ b. eqb (getD (st .marks) (sliceAt M Plain a start (sew (st .mtype)) i + b) 0) 1))))),
-                omega (arith, first-le (st .tileN) (λ j. not (all (sew (st .mtype)) (λ b. eqb (getD (st .marks) (sliceAt M Plain a start (sew (st .mtype)) (firstRow (st .marks) (sliceAt M Plain a start (sew (st .mtype))) count (st .tileN * sew (st .mtype))) + j * sew (st .mtype) + b) 0) 1)))),
-              ),
-              λ _. tt,
-            ),
-          ),
-        ),
-      ),
-    ),
-  )
-  checks-small (moveOut Transposed a v start count) = (
-    zeros,
-    λ _. (
-      zeros,
-      λ _. (
-        zeros,
-        λ _. (
-          zeros,
-          λ h. (
-            zeros,
-            λ _. (
-              (
-                omega (arith, first-le (st .tileM) (λ i. not (all (count * sew (st .mtype)) (λ b. eqb (getD (st .marks) (sliceAt M Transposed a start (sew (st .mtype)) i + b) 0) 1)))),
-                omega (arith, leb-true (start + count) (st .tileN) h, first-le count (λ j. not (all (sew (st .mtype)) (λ b. eqb (getD (st .marks) (sliceAt M Transposed a start (sew (st .mtype)) (firstRow (st .marks) (sliceAt M Transposed a start (sew (st .mtype))) (st .tileM) (count * sew (st .mtype))) + j * sew (st .mtype) + b) 0) 1)))),
-              ),
-              λ _. tt,
-            ),
-          ),
-        ),
-      ),
-    ),
-  )
+  checks-small (moveOut f a v start count) = (zeros, λ _. (zeros, λ _. (zeros, λ _. (zeros, λ h. (zeros, λ _. (slice-small f start count _ _ h, λ _. tt))))))
   checks-small (moveIn f d v start count file) = (zeros, λ _. (zeros, λ _. (zeros, λ _. (zeros, λ _. (zeros, λ _. tt)))))
 
 -- ---- a step

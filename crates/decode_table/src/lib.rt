@@ -1,7 +1,7 @@
 // The decode table: 1,024 entries. A block for each value of bits 31..28 of a word, in it a row for each value of bits 27..25, and in
 // that an entry for each value of bits 14..12, from 000 to 111: the number of the entry of section 4.5 that has these bits (with 100
-// added for a transposed load or store, whose numbers are printed twice) or of a move of section 6.1.7 (with 200 added), or 0. A setting with an immediate has data in bits 27..25, so
-// it fills the last column of its block.
+// added for a transposed load or store, whose numbers are printed twice), or of a move of section 6.1.7 (with 200 added), or 0. A
+// setting with an immediate has data in bits 27..25, so it fills the last column of its block.
 ghost use mathlib.Core.Path.{_≡_};
 ghost use Prim.Native.Nat.{_<_};
 ghost use lib.ListN.{getD};

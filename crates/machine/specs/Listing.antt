@@ -1,6 +1,7 @@
 -- 01, "The unit and its papers": the listing of section 4.5 of source document 000, as data, and the decoding of a word by
--- look-up in it: `listing` has our instructions, with four of section 6.1.7 (02, Eleven), `others` the rest of section 4.5. Ten rows, all ours, are damaged in our copy and
--- read by symmetry: No. 1, 3, 5, 6, 7, 8, 15, 21, 22 and 31 (docs/DIFFERENCES.md, 1.2). No code is given twice.
+-- look-up in it: `listing` has our instructions, with the four of section 6.1.7 that 02, Eleven, adds, `others` the rest of section 4.5.
+-- Ten rows, all ours, are damaged in our copy and read by symmetry: No. 1, 3, 5, 6, 7, 8, 15, 21, 22 and 31 (docs/DIFFERENCES.md, 1.2).
+-- No code is given twice.
 use mathlib.Core.Bool.{Bool, true, false, cond, _&&_, _||_}
 use mathlib.Core.List.{List, [], _∷_}
 use Prim.Native.Nat.{ℕ, _+_, _-_, _/_, _%_, _^_}

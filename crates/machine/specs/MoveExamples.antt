@@ -10,7 +10,7 @@ use Rattle.machine.specs.Setting.{sew, newType, legalType}
 use Rattle.machine.specs.Refusals.{marked}
 use Rattle.machine.specs.Listing.{decode, listing, others}
 use Rattle.machine.specs.Faults.{sound}
-use Rattle.machine.specs.Vectors.{Vectors, vectorsOf, vectorsFit}
+use Rattle.machine.specs.Vectors.{vectorsOf, vectorsFit}
 use Rattle.machine.specs.Step.{VectorOutcome, vectorStep, stepWith}
 use Rattle.machine.specs.Examples.{Line, word, bench, scalars, shown, counting}
 
@@ -51,11 +51,12 @@ answers =
     -- 1: the other moves of section 6.1.7: mmvar.v.m, mwmvcr.v.m
     ∷ told (vectorStep (word 0b0000010 10 0 0b101 0) (scalars 0 0) (vectorsOf file 1) (lent 0 2 3 all)) 1 0 0
     ∷ told (vectorStep (word 0b0100000 10 0 0b101 0) (scalars 0 0) (vectorsOf file 1) (lent 0 2 3 all)) 1 0 0
-    -- 12, before 2: no accumulator; a group of two from v3 on; from v31 on a group of one
+    -- 12, before 2 and 4: no accumulator; a group of two from v3 on; from v31 on a group of one
     ∷ told (vectorStep (rowsOut 10 2 0) (scalars 0 0) (vectorsOf file 1) (lent (2 ^ 63) 2 3 all)) 12 0 0
     ∷ told (vectorStep (columnsIn 10 0 2) (scalars 0 0) (vectorsOf file 1) (lent (2 ^ 63) 2 3 all)) 12 0 0
     ∷ told (vectorStep (rowsOut 10 0 3) (scalars 0 0) (vectorsOf file 2) (lent (2 ^ 63) 2 3 all)) 12 0 0
     ∷ told (vectorStep (rowsIn 10 3 0) (scalars 0 0) (vectorsOf file 2) (lent 0 2 3 all)) 12 0 0
+    ∷ told (vectorStep (rowsOut 10 0 3) (scalars 1 0) (vectorsOf file 2) (lent 0 2 3 all)) 12 0 0
     ∷ told (vectorStep (rowsOut 10 0 2) (scalars 0 0) (vectorsOf file 2) (lent (2 ^ 63) 2 3 all)) 2 0 0
     ∷ told (vectorStep (rowsOut 10 0 31) (scalars 0 0) (vectorsOf file 1) (lent 0 2 3 all)) 0 0 0
     -- 4: a size above its maximum; a slice past the tile

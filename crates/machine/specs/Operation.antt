@@ -139,7 +139,7 @@ cornerOf M Transposed r first w = startOf M MatrixC r + first * w
 abbrev pub sliceAt : Parameters → Form → (r first w : ℕ) → ℕ → ℕ
 sliceAt M f r first w i = cornerOf M f r first w + i * pitchOf M MatrixC
 
--- its rows and columns there, and its elements: "each to or from the next register of the group, its elements of SEW bits from byte 0 on"
+-- how many rows and columns it has there: as many rows of a line's elements, or a line's rows of as many
 abbrev pub sliceRows : Form → State → ℕ → ℕ
 sliceRows f st count = memoryRows f count (lineOf f st)
 
@@ -222,7 +222,7 @@ stateAfter M (combine o f d a) st mem =
 stateAfter M (scale f d a x) st mem =
     written st (accAt M d) (st .tileM) (st .tileN) (f * sew (st .mtype)) (scaledAt M x (st .regs) (f * sew (st .mtype)) (sew (st .mtype)) a)
 stateAfter M (moveOut f a v first count) st mem = st
--- element (i, j) of the slice is element j of register i of the group, or of columns element i of register j
+-- of rows, element (i, j) of the slice is element j of register i of the group; of columns, element i of register j
 stateAfter M (moveIn f d v first count file) st mem =
     written st (sliceAt M f d first (sew (st .mtype))) (sliceRows f st count) (sliceCols f st count) (sew (st .mtype)) (placed f (element file (vectorAt v) (sew (st .mtype))))
 stateAfter M (floatMultiply d a b) st mem =

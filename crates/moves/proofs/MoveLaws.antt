@@ -1,8 +1,8 @@
 -- What each return of the two moves has to show.
-use mathlib.Core.Path.{_≡_, refl, sym, ap, ap₂, _∙_, subst}
+use mathlib.Core.Path.{_≡_, refl, ap, ap₂, _∙_, subst}
 use mathlib.Core.Bool.{Bool, true, false, cond}
-use mathlib.Core.List.{List, [], _∷_, _++_}
-use Prim.Native.Nat.{ℕ, _+_, _*_, _<_}
+use mathlib.Core.List.{List, [], _∷_}
+use Prim.Native.Nat.{ℕ, _+_, _*_}
 use Rattle.width.specs.Tile.{putTile, markTile}
 use Rattle.machine.specs.declared.Machine.{Machine}
 use Rattle.machine.specs.declared.Form.{Form}
@@ -12,9 +12,8 @@ use Rattle.machine.specs.declared.Answer.the-variants.{Done, WrongRegister}
 use Rattle.machine.specs.Answers.{Check, verdict, isDone}
 use Rattle.machine.specs.Geometry.{Parameters, State, stateOf}
 use Rattle.machine.specs.Vectors.{Vectors, vectorAt, vectorBytes, aligned}
-use Rattle.machine.specs.declared.Wrong.the-variants.{Register}
 use Rattle.machine.specs.Setting.{sew}
-use Rattle.machine.specs.Operation.{Operation, vectorsAfter, stateAfter, placed, element, lineOf, sliceAt, sliceRows, sliceCols, memoryRows, memoryCols}
+use Rattle.machine.specs.Operation.{Operation, placed, element, lineOf, sliceAt, sliceRows, sliceCols, memoryRows, memoryCols}
 use Rattle.machine.specs.Refusals.{checks, sliceFits, sliceNeeds}
 use Rattle.checking.specs.declared.Placed.{Placed}
 use Rattle.checking.proofs.CheckLaws.{part-refused, part-passed}

@@ -1,13 +1,13 @@
 -- A slice whose checks of answers 2 and 4 passed lies in its accumulator, and its group in the vector file; and what answer 5 names.
-use mathlib.Core.Path.{_≡_, refl, sym, ap, _∙_, subst}
+use mathlib.Core.Path.{_≡_, refl, sym, subst}
 use mathlib.Core.Bool.{Bool, true, false, cond, not}
-use mathlib.Core.List.{List, [], _∷_, _++_}
-use Prim.Native.Nat.{ℕ, zero, suc, _+_, _*_, _/_, _^_, _≤_, _<_}
+use mathlib.Core.List.{List, [], _∷_}
+use Prim.Native.Nat.{ℕ, suc, _+_, _*_, _/_, _^_, _≤_, _<_}
 use native.Mathlib.Nat.{mul-le-mul-right, div-le-self}
 use native.Mathlib.Omega.{arith}
 use lib.ListN.{length, getD}
-use lib.Dec.{leb, ltb, eqb}
-use borrow.Author.Tests.{leb-true, ltb-true, ltb-false, not-true}
+use lib.Dec.{eqb}
+use borrow.Author.Tests.{leb-true, not-true}
 use Rattle.width.specs.Bounds.{mostElen}
 use Rattle.machine.specs.declared.Machine.{Machine}
 use Rattle.machine.specs.declared.Form.{Form}
@@ -16,10 +16,10 @@ use Rattle.machine.specs.declared.Matrix.the-variants.{MatrixC}
 use Rattle.machine.specs.declared.Answer.{Answer}
 use Rattle.machine.specs.declared.Answer.the-variants.{Done, Unwritten}
 use Rattle.machine.specs.Tests.{isIn, all, first}
-use Rattle.machine.specs.Answers.{Check, reply, verdict, isDone}
+use Rattle.machine.specs.Answers.{reply, verdict, isDone}
 use Rattle.machine.specs.Geometry.{Parameters, State, stateOf, startOf, pitchOf}
 use Rattle.machine.specs.Vectors.{vectorBytes, fileBytes}
-use Rattle.machine.specs.Setting.{chosen, sew, mill, maximum}
+use Rattle.machine.specs.Setting.{chosen, sew, mill}
 use Rattle.machine.specs.Operation.{memoryRows, memoryCols, linesOf, lineOf, cornerOf, sliceRows, sliceCols}
 use Rattle.machine.specs.Refusals.{sliceFits, sliceNeeds, unwrittenIn, needs, marked, firstRow, firstColumn}
 use Rattle.machine.specs.Faults.{sound}
@@ -29,7 +29,6 @@ use Rattle.machine.proofs.CodeLaws.{legalTypes, arises-any}
 use Rattle.machine.proofs.StepLaws.{permitted-bounds, permitted-lengths, permitted-elen}
 use Rattle.machine.proofs.NoFault.{sound-is}
 use Rattle.element.specs.Element.{Width}
-use Rattle.element.proofs.Laws.{width-small}
 use Rattle.tile.specs.Checks.{RowsIn}
 use Rattle.tile.proofs.Room.{rows-end, same-length, tile-fits}
 use Rattle.transfer.proofs.Room.{sew-width}

@@ -332,8 +332,8 @@ fn slice_in(
     Answer::Done
 }
 
-// Answers 12, 2, 4 and 5, and a slice of accumulator r moved to the group from register v on, or in from there. With two callers, one for each
-// way, it stays a function of its own in the compiled step, and no other word is slower for it.
+// Answers 12, 2, 4 and 5, and a slice of accumulator r moved to the group from register v on, or in from there. With two callers, one
+// for each way, it stays a function of its own in the compiled step, and no other word is slower for it.
 pub fn move_slice(
     m: Machine,
     registers: &mut [u8],

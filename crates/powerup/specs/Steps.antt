@@ -1,8 +1,8 @@
 -- Request Nine, of words: "two machines, neither at fault, that differ at most in unmarked register bytes, with equal scalars and equal
 -- memory, given the same words one after another, give equal answers, scalars and memory and again differ at most in unmarked register
--- bytes after each, refusals included." 02, Eleven: "Vector bytes .. are input like memory in request Nine's statement." For every choice of
--- sizes, word, state, scalars, vector file and memory. Machines at fault need no exception:
--- both get 8 for every word. The proofs stand in proofs/.
+-- bytes after each, refusals included." 02, Eleven: "Vector bytes .. are input like memory in request Nine's statement." For every
+-- choice of sizes, word, state, scalars, vector file and memory. Machines at fault need no exception: both get 8 for every word. The
+-- proofs stand in proofs/.
 use mathlib.Core.Path.{_≡_}
 use mathlib.Core.List.{List, [], _∷_}
 use Prim.Native.Nat.{ℕ}

@@ -15,8 +15,8 @@ use Rattle.run.specs.Start.{RunStart, startRun}
 use Rattle.run.specs.Turn.{Ask, ask, Turn, turn, running, TurnsOutcome, turns}
 use Rattle.run.specs.Whole.{WholeOutcome, whole}
 
--- other scalars, another vector file and memory are lent; a word is stepped; a product run is started; its next step is asked for; it takes a turn, or n
--- turns; a whole product run is made
+-- other scalars, another vector file and memory are lent; a word is stepped; a product run is started; its next step is asked for; it
+-- takes a turn, or n turns; a whole product run is made
 pub data Act : Type 0 where
   lend : (scalars : List ℕ) → Vectors → (memory : List ℕ) → Act
   step : (word : ℕ) → Act

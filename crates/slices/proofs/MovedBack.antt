@@ -6,25 +6,24 @@ use Prim.Native.Nat.{ℕ, _+_, _*_, _%_, _^_, _≤_, _<_}
 use native.Mathlib.Nat.{mod-eq-of-lt, mul-le-mul-right}
 use native.Mathlib.Omega.{arith}
 use lib.ListN.{length, getD}
-use lib.Dec.{leb, ltb}
+use lib.Dec.{ltb}
 use borrow.Author.Tests.{leb-true, ltb-true}
-use Rattle.width.specs.Tile.{le, putTile, markTile, In}
+use Rattle.width.specs.Tile.{putTile}
 use Rattle.width.proofs.TileLaws.{putTile-le, pitched, le-lt}
 use Rattle.machine.specs.declared.Form.{Form}
 use Rattle.machine.specs.declared.Form.the-variants.{Plain, Transposed}
 use Rattle.machine.specs.declared.Wrong.the-variants.{Register}
 use Rattle.machine.specs.declared.Instruction.{Instruction}
 use Rattle.machine.specs.declared.Instruction.the-variants.{MoveOut, MoveIn}
-use Rattle.machine.specs.Tests.{every, isIn}
 use Rattle.machine.specs.Geometry.{Parameters, parameters, State, stateOf, Bench, benchOf, scalar, withScalar, machineAfter}
-use Rattle.machine.specs.Vectors.{Vectors, vectorsOf, vectorsFit, vectorAt, vectorBytes, fileBytes, groupSizes, aligned}
+use Rattle.machine.specs.Vectors.{Vectors, vectorsOf, vectorAt, vectorBytes, aligned}
 use Rattle.machine.specs.Setting.{sew}
-use Rattle.machine.specs.Operation.{Operation, stateAfter, memoryAfter, vectorsAfter, resultOf, placed, element, lineOf, linesOf, sliceAt, sliceRows, sliceCols, memoryRows, memoryCols}
+use Rattle.machine.specs.Operation.{Operation, stateAfter, memoryAfter, vectorsAfter, resultOf, placed, element, lineOf, sliceAt, sliceRows, sliceCols, memoryRows, memoryCols}
 use Rattle.machine.specs.Answers.{reply}
 use Rattle.machine.specs.declared.Answer.the-variants.{Done}
-use Rattle.machine.specs.Refusals.{checks, marked}
+use Rattle.machine.specs.Refusals.{checks}
 use Rattle.machine.specs.Step
-use Rattle.machine.specs.Step.{VectorOutcome, beside, stepWith, givenIn, meantIn, carriedIn}
+use Rattle.machine.specs.Step.{VectorOutcome, beside, stepWith}
 use Rattle.machine.specs.Theorems.{Given}
 use Rattle.machine.proofs.TestLaws.{false-true, every-each}
 use Rattle.machine.proofs.CheckLaws.{Passed}

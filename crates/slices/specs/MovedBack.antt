@@ -7,7 +7,7 @@ use lib.ListN.{getD}
 use Rattle.machine.specs.declared.Form.{Form}
 use Rattle.machine.specs.declared.Instruction.the-variants.{MoveOut, MoveIn}
 use Rattle.machine.specs.Geometry.{Bench, scalar}
-use Rattle.machine.specs.Vectors.{Vectors, vectorsOf}
+use Rattle.machine.specs.Vectors.{vectorsOf}
 use Rattle.machine.specs.Listing.{decode}
 use Rattle.machine.specs.Step.{VectorOutcome, stepWith}
 use Rattle.machine.specs.Theorems.{Given}

@@ -1,17 +1,16 @@
 -- Answer 8 of a step, and its word.
 use mathlib.Core.Path.{_≡_, refl, sym, ap, _∙_}
 use mathlib.Core.Bool.{Bool, true, false, cond}
-use mathlib.Core.List.{List, [], _∷_}
+use mathlib.Core.List.{List}
 use Prim.Native.Nat.{ℕ}
 use lib.ListN.{length}
-use lib.Dec.{eqb}
 use borrow.Author.Tests.{eq-eqb, ne-eqb}
 use Rattle.machine.specs.declared.Instruction.{Instruction}
 use Rattle.machine.specs.declared.Answer.the-variants.{BadArguments}
 use Rattle.machine.specs.Tests.{isIn}
 use Rattle.machine.specs.Answers.{reply}
 use Rattle.machine.specs.Geometry.{Bench}
-use Rattle.machine.specs.Vectors.{Vectors, vectorsOf, vectorsFit, fileBytes, groupSizes}
+use Rattle.machine.specs.Vectors.{Vectors, vectorsOf, vectorsFit, groupSizes}
 use Rattle.machine.specs.Listing.{decode}
 use Rattle.machine.specs.Faults.{soundBench, thirtyTwo}
 use Rattle.machine.specs.Step.{VectorOutcome, beside, stepWith, vectorStep}

@@ -1,7 +1,7 @@
 -- The outcome of a move from its parts, in a state that is not at fault; and of any other instruction beside a vector file.
 use mathlib.Core.Path.{_≡_, refl, sym, ap, ap₂, _∙_}
 use mathlib.Core.Bool.{Bool, true, false, cond}
-use mathlib.Core.List.{List, [], _∷_}
+use mathlib.Core.List.{List, []}
 use Prim.Native.Nat.{ℕ}
 use lib.Dec.{eqb}
 use Rattle.machine.specs.declared.Machine.{Machine}
@@ -18,7 +18,7 @@ use Rattle.machine.specs.Operation.{Operation, stateAfter, memoryAfter, vectors
 use Rattle.machine.specs.Refusals.{checks}
 use Rattle.machine.specs.Faults.{sound, thirtyTwo}
 use Rattle.machine.specs.Step
-use Rattle.machine.specs.Step.{Outcome, VectorOutcome, beside, outcome, outcomeIn, vectorsIn, checksIn, meantIn, givenIn, leftIn, destination}
+use Rattle.machine.specs.Step.{Outcome, VectorOutcome, beside, outcome, outcomeIn, vectorsIn, checksIn, meantIn, givenIn, destination}
 use Rattle.machine.proofs.TestLaws.{false-true}
 use Rattle.machine.proofs.CodeLaws.{only-done}
 use Rattle.settings.specs.Parts.{ours}

@@ -12,9 +12,6 @@ use Rattle.width.specs.Reduce.{reduce, signed}
 use Rattle.width.proofs.ReduceLaws.{widened, reduce-signed}
 use Rattle.machine.specs.declared.Instruction.{Instruction}
 use Rattle.machine.specs.declared.Instruction.the-variants.{Illegal, SetTypeImmediate, SetType, SetTileImmediate, SetTile, Load, Store, Multiply, Combine, Scale, ScaleImmediate, FloatMultiply, MoveOut, MoveIn}
-use mathlib.Core.Logic.{inl, inr}
-use types.Run.{OneOf}
-use Rattle.machine.proofs.MatchLaws.{found}
 use Rattle.machine.specs.Listing.{decode, inRange}
 use Rattle.machine.specs.Tests.{isIn}
 use Rattle.machine.specs.Geometry.{elens, registerCount}

@@ -19,7 +19,7 @@ use Rattle.machine.specs.declared.Instruction.{Instruction}
 use Rattle.machine.specs.declared.Instruction.the-variants.{Load, Store}
 use Rattle.machine.specs.Answers.{number}
 use Rattle.machine.specs.Geometry.{Parameters, parameters, State, stateOf, Bench, benchOf, registerAt, startOf, pitchOf, registerCount, scalar}
-use Rattle.machine.specs.Listing.{decode, inRange}
+use Rattle.machine.specs.Listing.{inRange}
 use Rattle.machine.specs.Memory.{rowAt}
 use Rattle.machine.specs.Operation.{memoryAfter, element, written, tileRows, tileCols}
 use Rattle.machine.specs.Refusals.{checks}

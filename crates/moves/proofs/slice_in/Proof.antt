@@ -1,7 +1,7 @@
 use mathlib.Core.Path.{_≡_, refl, sym, ap, _∙_, subst}
-use mathlib.Core.Bool.{Bool, true, false}
+use mathlib.Core.Bool.{true}
 use mathlib.Core.List.{[]}
-use Prim.Native.Nat.{ℕ, _+_, _*_, _^_, _≤_, _<_}
+use Prim.Native.Nat.{_*_, _^_, _≤_, _<_}
 use native.Mathlib.Omega.{arith}
 use lib.ListN.{length}
 use borrow.Author.Needs.{needs}
@@ -104,7 +104,7 @@ mul-mark-tile : tie.Need-mul-mark-tile
 mul-mark-tile c = let l = lies (c .before .before .before .before .before .before) in omega (arith, l .2, l .3)
 
 mark-tile-requires : tie.Need-mark-tile-requires
-mark-tile-requires c κs = lies (c .before .before .before .before .before .before) .1
+mark-tile-requires c κs = let l = lies (c .before .before .before .before .before .before) in (l .1 .0, λ i g. omega (arith, l .1 .1 i g))
 
 same-length : tie.Need-same-length
 same-length c = search needs

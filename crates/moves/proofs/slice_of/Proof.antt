@@ -1,6 +1,5 @@
 use mathlib.Core.Path.{_≡_, sym, ap, _∙_, subst}
-use mathlib.Core.List.{[]}
-use Prim.Native.Nat.{ℕ, _+_, _*_, _^_, _<_}
+use Prim.Native.Nat.{_+_, _*_, _^_, _<_}
 use native.Mathlib.Omega.{arith}
 use borrow.Author.Needs.{needs}
 use Rattle.machine.specs.declared.Form.{Form}
@@ -9,7 +8,6 @@ use Rattle.machine.specs.declared.Matrix.the-variants.{MatrixC}
 use Rattle.machine.specs.Geometry.{startOf, pitchOf}
 use Rattle.machine.specs.Operation.{cornerOf}
 use Rattle.checking.specs.declared.Placed.{Placed}
-use Rattle.checking.specs.Parts.{placedAs}
 use Rattle.settings.specs.Parts.{ours}
 use Rattle.moves.specs.Parts.{slicePlaced}
 use Rattle.moves.proofs.slice_of.Statement.{statement}

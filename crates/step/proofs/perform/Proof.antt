@@ -19,7 +19,6 @@ use mathlib.Core.Bool.{true, false}
 use Rattle.machine.specs.Step.{Outcome, beside, outcome, destination, steppedAs}
 use Rattle.machine.specs.Vectors.{vectorsOf}
 use Rattle.moves.specs.Parts.{moved}
-use Rattle.machine.proofs.NoFault.{sound-is}
 use Rattle.step.specs.Parts.{Decoded, carriedBeside}
 use Rattle.step.proofs.MoveOutcomes.{isMove, other-outcome, slice-outcome}
 use Rattle.settings.proofs.FaultLaws.{ready}
