@@ -72,11 +72,10 @@ module _ (word group : ℕ) (machine registers marks scalars memory file : List 
       ∙ ap (shownStep machine) (e ∙ ap (λ (m : Machine). stepBlock word scalars (vectorsOf file group) (benchOf m registers marks memory)) en)
       ∙ both h k
 
-  -- and but for mtype and the sizes they are those of the block
-  pub step-keeps : (m : Machine) (s : Stepped) (R K S Q F : List ℕ) → m ≡ machineOf machine
-      → vectorSteppedAs s R K S Q F ≡ stepBlock word scalars (vectorsOf file group) (benchOf m registers marks memory) → Kept (s .machine) (machineOf machine)
-  step-keeps m s R K S Q F en e =
-      let B : Bench = benchOf m registers marks memory in
-      let W : Vectors = vectorsOf file group in
-      subst (λ (x : Machine). Kept x (machineOf machine)) (sym (ap (λ (o : VectorOutcome). o .bench .machine) e))
-      (subst (λ (x : Machine). Kept (stepBlock word scalars W B .bench .machine) x) en (step-with-kept chosen word (valuesOf scalars) B W))
+-- and but for mtype and the sizes they are those of the block, whatever vector file is lent
+pub step-keeps : (word : ℕ) (machine registers marks scalars memory : List ℕ) (W : Vectors) (m : Machine) (s : Stepped) (R K S Q F : List ℕ) → m ≡ machineOf machine
+    → vectorSteppedAs s R K S Q F ≡ stepBlock word scalars W (benchOf m registers marks memory) → Kept (s .machine) (machineOf machine)
+step-keeps word machine registers marks scalars memory W m s R K S Q F en e =
+    let B : Bench = benchOf m registers marks memory in
+    subst (λ (x : Machine). Kept x (machineOf machine)) (sym (ap (λ (o : VectorOutcome). o .bench .machine) e))
+    (subst (λ (x : Machine). Kept (stepBlock word scalars W B .bench .machine) x) en (step-with-kept chosen word (valuesOf scalars) B W))

@@ -31,7 +31,7 @@ put-state-requires c κs =
     let f = z .before .before .before .before .before .before in
     let a = z .before .before .before .before .before .before .before .before .before .before .before .before .before .before .before .before .args in (
       search needs,
-      step-keeps (a .word) (a .group) (a .machine .now) (a .registers .now) (a .marks .now) (a .scalars .now) (a .memory .now) (a .vectors .now) (f .machine-of .result) (z .step-block .result)
+      step-keeps (a .word) (a .machine .now) (a .registers .now) (a .marks .now) (a .scalars .now) (a .memory .now) _ (f .machine-of .result) (z .step-block .result)
           (z .step-block .last .1 .0) (z .step-block .last .1 .1 .0) (z .step-block .last .1 .1 .1 .0) (z .step-block .last .1 .1 .1 .1 .0) (z .step-block .last .1 .1 .1 .1 .1 .0) (f .machine-of .ensures) (z .step-block .ensures),
     )
 
