@@ -17,14 +17,14 @@ use Rattle.machine.specs.declared.Matrix.the-variants.{MatrixA, MatrixB}
 use Rattle.machine.specs.Answers.{reply, verdict, done, isDone}
 use Rattle.machine.specs.Geometry.{State, benchOf, stateOf, registerAt, accAt}
 use Rattle.machine.specs.Setting.{mill, sew}
-use Rattle.machine.specs.Refusals.{marked, widthOk, checks}
+use Rattle.machine.specs.Refusals.{marked, checks}
 use Rattle.machine.specs.Faults.{sound}
 use Rattle.machine.specs.Operation.{Operation, times, stateAfter}
 use Rattle.machine.proofs.TestLaws.{every-each, false-true}
 use Rattle.machine.proofs.CheckLaws.{Passed, passed, no-refusal}
 use Rattle.settings.specs.Parts.{ours, withSize, granted, sizeStepped}
 use Rattle.checking.specs.Parts.{MarksReady, targetChecks}
-use Rattle.operations.specs.Parts.{WritesRegisters, registersAfter}
+use Rattle.operations.specs.Parts.{registersAfter}
 use Rattle.operations.proofs.EffectLaws.{marks-ready, product-loads, float-loads}
 use Rattle.operations.proofs.SumLaws.{both-keep, width-is, product-passes}
 use Rattle.run.specs.declared.Plan.{Plan}

@@ -1,5 +1,5 @@
 -- For code: what the numbers and the place of a sound run say, and the next place.
-use mathlib.Core.Path.{_≡_, refl, sym, ap, _∙_}
+use mathlib.Core.Path.{_≡_, refl, sym}
 use mathlib.Core.Bool.{true}
 use mathlib.Core.List.{[], _∷_}
 use Prim.Native.Nat.{ℕ, _/_, _≤_, _<_}
@@ -15,7 +15,6 @@ use Rattle.machine.proofs.StepLaws.{permitted-lengths, permitted-bounds, permit
 use Rattle.machine.proofs.SizeLaws.{chosen-grants}
 use Rattle.machine.specs.Starting.{isRule}
 use Rattle.machine.specs.Setting.{sew, chosen}
-use Rattle.run.specs.declared.Plan.{Plan}
 use Rattle.run.specs.declared.Run.{Run}
 use Rattle.run.specs.declared.Place.{Place}
 use Rattle.run.specs.declared.Place.the-variants.{AtType, AtM, AtN, AtClear, AtK, AtA, AtB, AtMultiply, AtStore, AtEnd}
@@ -25,7 +24,7 @@ use Rattle.run.specs.Plan.{msew, typeOf}
 use Rattle.run.specs.Start.{format, kindFits, planned}
 use Rattle.run.specs.Turn.{startsM, startsN, startsK, begins, soundRun, runShape, moved}
 use Rattle.plan_numbers.specs.Parts.{placed}
-use Rattle.plan_numbers.proofs.PlanLaws.{widest-plan, at-m, at-store, at-multiply}
+use Rattle.plan_numbers.proofs.PlanLaws.{widest-plan}
 use Rattle.run_places.specs.Parts.{numbered}
 use Rattle.run.proofs.PlaceLaws.{Sound}
 use Rattle.run.proofs.BeginLaws.{start-below, begins-next}
