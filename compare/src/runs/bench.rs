@@ -79,8 +79,8 @@ pub fn bench() {
 /// What a gross loss of speed is: a product by run_turns takes more than this many times the anchor's time, twice of what
 /// docs/PERFORMANCE.md has.
 const GROSS: [(&str, Lengths, u64, f64); 2] = [
-    ("turns on the smallest machine", SMALL, 64, 42.0),
-    ("a product on the largest machine of document 01", LARGE, 256, 2.7),
+    ("turns on the smallest machine", SMALL, 64, 40.0),
+    ("a product on the largest machine of document 01", LARGE, 256, 2.3),
 ];
 
 /// Whether there is no gross loss; each ratio is the least of up to five.
