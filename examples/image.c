@@ -26,6 +26,7 @@ static uint8_t scalars[BODLARINA_SCALAR_BYTES], memory[MEMORY_BYTES], image[ROOM
 static struct bodlarina_bench bench = {
     machine, sizeof machine, registers, 0, marks, 0, scalars, sizeof scalars, memory, sizeof memory, NULL, 0, /* no product run */
     BODLARINA_SMALLER, 32, /* the image gives the rule and ELEN */
+    NULL, 0, 0, /* no vector registers */
 };
 
 /* The whole file; its length, or 0 if it can't be read. */

@@ -32,6 +32,7 @@ static uint8_t run[BODLARINA_RUN_BYTES];
 static const struct bodlarina_bench bench = {
     machine, sizeof machine, registers, sizeof registers, marks, sizeof marks, NULL, 0, memory, sizeof memory, run, sizeof run,
     BODLARINA_SMALLER, 32, /* ELEN */
+    NULL, 0, 0, /* no vector registers */
 };
 
 /* The signed number of 8 or 32 bits that a byte or four bytes hold, low byte first. */

@@ -33,6 +33,7 @@ static const struct bodlarina_bench bench = {
     own.machine, sizeof own.machine, own.registers, sizeof own.registers, own.marks, sizeof own.marks,
     own.scalars, sizeof own.scalars, own.memory, sizeof own.memory, NULL, 0, /* no product run */
     BODLARINA_SMALLER, 32, /* ELEN */
+    NULL, 0, 0, /* no vector registers */
 };
 
 /* The address in x10 and the stride in x11, for the next load or store. */

@@ -48,8 +48,8 @@ extern "C" {
 
 /* The number is 10,000 times the major number, 100 times the minor one, and the patch number. While the major number is 0, the minor
  * one goes up when a block or a signature changes: then compile the host again. */
-#define BODLARINA_VERSION "0.4.0"
-#define BODLARINA_VERSION_NUMBER 400
+#define BODLARINA_VERSION "0.5.0"
+#define BODLARINA_VERSION_NUMBER 500
 
 /* The number of the library that is linked. It is BODLARINA_VERSION_NUMBER, or header and library do not belong together. */
 uint64_t bodlarina_version(void);
@@ -164,6 +164,11 @@ BODLARINA_INLINE void bodlarina_put64(uint8_t *bytes, uint64_t value)
 
 /* memory: any number of bytes; address 0 is the first. */
 
+/* vectors: v0 .. v31 of 128 bits, register v at byte 16 * v, low byte first. They carry no marks. group is the number of registers, and
+ * of rows or columns, that a move takes: 1, 2, 4 or 8. */
+#define BODLARINA_VECTOR_BYTES 512
+#define BODLARINA_VECTOR_AT(v) (16 * (size_t)(v))
+
 /* ---- A machine -------------------------------------------------------------------------------------------- */
 
 /* rule: the size that a tile setting gives. With rs1 and rd both x0 nothing is asked, and the size becomes the smaller of
@@ -186,18 +191,19 @@ uint64_t bodlarina_start(uint64_t rlen, uint64_t mlen, uint64_t elen, uint64_t r
                          const uint8_t *registers, size_t registers_len,
                          uint8_t *marks, size_t marks_len);
 
-/* Carries out one instruction word. rs1 and rs2 are read from scalars, rd is written there.
+/* Carries out one instruction word. rs1 and rs2 are read from scalars, rd is written there. Moves read and write the vector file.
  * Answers: 0, or the first that applies in the order 8, then 10, 11, 1, 12 (the word itself), then 2 to 6, 13, 7.
  * 8 means that the state is at fault: lengths or an ELEN that are not permitted, a buffer of the wrong size, an mtype that
  * cannot arise with that ELEN, a tile size above its maximum at 8 bits, another rule than 0 and 1, a seal whose end is above
- * 2^64 - 1, or a mark other than 0 and 1. With buffers of the right size, a started machine that nothing but these functions
- * has written never gets 8. */
-uint64_t bodlarina_step(uint32_t word,
+ * 2^64 - 1, a mark other than 0 and 1, or another group size than 1, 2, 4 and 8. With buffers of the right size and such a group
+ * size, a started machine that nothing but these functions has written never gets 8. */
+uint64_t bodlarina_step(uint32_t word, uint64_t group,
                         uint8_t *machine, size_t machine_len,
                         uint8_t *registers, size_t registers_len,
                         uint8_t *marks, size_t marks_len,
                         uint8_t *scalars, size_t scalars_len,
-                        uint8_t *memory, size_t memory_len);
+                        uint8_t *memory, size_t memory_len,
+                        uint8_t *vectors, size_t vectors_len);
 
 /* ---- A product run ---------------------------------------------------------------------------------------- */
 
@@ -368,7 +374,7 @@ BODLARINA_INLINE uint64_t bodlarina_image_mlen(const uint8_t *image, size_t imag
 
 /* The buffers of a machine, and the rule and the ELEN to start it with, set once. Lengths are in bytes. run is for one product run
  * at a time; a host without runs leaves it out. An elen of 0 counts as 32, so that a host which names none has a machine of 32
- * bits; bodlarina_start itself answers 0 with 8.
+ * bits; bodlarina_start itself answers 0 with 8. A host without moves leaves out vectors, vectors_len and group.
  *
  *     static uint8_t machine[BODLARINA_MACHINE_BYTES], registers[BODLARINA_REGISTER_BYTES(4096)], ..;
  *     struct bodlarina_bench bench = {machine, sizeof machine, registers, sizeof registers, ..};
@@ -390,6 +396,9 @@ struct bodlarina_bench {
     size_t run_len;
     uint64_t rule; /* BODLARINA_SMALLER, 0, unless it is set */
     uint64_t elen; /* 32, unless it is set: 0 counts as 32 */
+    uint8_t *vectors; /* NULL, unless it is set: then a step is lent a file of zeros, with a group of one */
+    size_t vectors_len;
+    uint64_t group;
 };
 
 /* Where a matrix lies, and what is to be multiplied: the numbers of bodlarina_run_start. */
@@ -414,8 +423,15 @@ BODLARINA_INLINE uint64_t bodlarina_bench_start(const struct bodlarina_bench *be
 
 BODLARINA_INLINE uint64_t bodlarina_bench_step(const struct bodlarina_bench *bench, uint32_t word)
 {
-    return bodlarina_step(word, bench->machine, bench->machine_len, bench->registers, bench->registers_len, bench->marks,
-                          bench->marks_len, bench->scalars, bench->scalars_len, bench->memory, bench->memory_len);
+    uint8_t none[BODLARINA_VECTOR_BYTES];
+    int own = bench->vectors == NULL;
+    size_t i;
+    if (own && (word >> 12 & 7) == 5) /* no other word reads it */
+        for (i = 0; i < sizeof none; i++)
+            none[i] = 0;
+    return bodlarina_step(word, own ? 1 : bench->group, bench->machine, bench->machine_len, bench->registers, bench->registers_len,
+                          bench->marks, bench->marks_len, bench->scalars, bench->scalars_len, bench->memory, bench->memory_len,
+                          own ? none : bench->vectors, own ? sizeof none : bench->vectors_len);
 }
 
 /* A scalar, x0 to x31, as a word reads it, and one set; x0 stays 0. The scalars' buffer has BODLARINA_SCALAR_BYTES. */

@@ -151,6 +151,17 @@ BODLARINA_INLINE uint32_t bodlarina_mscte16_m(uint32_t ms3, uint32_t rs1, uint32
 BODLARINA_INLINE uint32_t bodlarina_mscte32_m(uint32_t ms3, uint32_t rs1, uint32_t rs2) { return BODLARINA_TRANSFER_(4, 1, 2, ms3, rs1, rs2); }
 BODLARINA_INLINE uint32_t bodlarina_mscte64_m(uint32_t ms3, uint32_t rs1, uint32_t rs2) { return BODLARINA_TRANSFER_(4, 1, 3, ms3, rs1, rs2); }
 
+/* ---- moves ------------------------------------------------------------------------------------------------ */
+
+/* As many rows (mmvcr) or columns (mmvcc) of an accumulator as the group size, from the one that the scalar rs2 names on, each to or from
+ * the next vector register from vd or vs1 on, its elements of SEW bits from byte 0 on. */
+#define BODLARINA_MOVE_(f, in, d, s, rs2) \
+    ((uint32_t)(f) << 26 | (uint32_t)(in) << 25 | ((uint32_t)(rs2) & 31u) << 20 | ((uint32_t)(s) & 31u) << 15 | 5u << 12 | ((uint32_t)(d) & 31u) << 7 | 0x77u)
+BODLARINA_INLINE uint32_t bodlarina_mmvcr_v_m(uint32_t vd, uint32_t ms1, uint32_t rs2) { return BODLARINA_MOVE_(0, 0, vd, ms1, rs2); }
+BODLARINA_INLINE uint32_t bodlarina_mmvcr_m_v(uint32_t md, uint32_t vs1, uint32_t rs2) { return BODLARINA_MOVE_(0, 1, md, vs1, rs2); }
+BODLARINA_INLINE uint32_t bodlarina_mmvcc_v_m(uint32_t vd, uint32_t ms1, uint32_t rs2) { return BODLARINA_MOVE_(4, 0, vd, ms1, rs2); }
+BODLARINA_INLINE uint32_t bodlarina_mmvcc_m_v(uint32_t md, uint32_t vs1, uint32_t rs2) { return BODLARINA_MOVE_(4, 1, md, vs1, rs2); }
+
 /* ---- arithmetic ------------------------------------------------------------------------------------------- */
 
 /* Sources other than md have elements of SEW bits; those of md have SEW bits, in the forms mw.. 2 SEW and in the forms mq.., which

@@ -17,7 +17,7 @@ static uint8_t machine[BODLARINA_MACHINE_BYTES], registers[BODLARINA_REGISTER_BY
 static uint8_t scalars[BODLARINA_SCALAR_BYTES], memory[MEMORY_BYTES], run[BODLARINA_RUN_BYTES];
 static struct bodlarina_bench bench = {
     machine, sizeof machine, registers, sizeof registers, marks, sizeof marks,
-    scalars, sizeof scalars, memory, sizeof memory, run, sizeof run, BODLARINA_SMALLER, 32,
+    scalars, sizeof scalars, memory, sizeof memory, run, sizeof run, BODLARINA_SMALLER, 32, NULL, 0, 0,
 };
 static int passed, failed;
 
@@ -214,7 +214,7 @@ static const uint8_t image[] = {1, 6, 7, 1, 2, 2, 3, 5, 172, 2, 2, 1, 2, 11, 0, 
 static uint8_t small_machine[BODLARINA_MACHINE_BYTES], small_registers[SMALL_BYTES], small_marks[SMALL_BYTES];
 static struct bodlarina_bench small = {
     small_machine, sizeof small_machine, small_registers, SMALL_BYTES, small_marks, SMALL_BYTES,
-    scalars, sizeof scalars, memory, sizeof memory, run, sizeof run, BODLARINA_SMALLER, 32,
+    scalars, sizeof scalars, memory, sizeof memory, run, sizeof run, BODLARINA_SMALLER, 32, NULL, 0, 0,
 };
 
 /* Everything that a read may write, filled with 7. */
@@ -342,7 +342,7 @@ static uint8_t large_machine[BODLARINA_MACHINE_BYTES], large_registers[BODLARINA
 static uint8_t large_marks[sizeof large_registers];
 static struct bodlarina_bench large = {
     large_machine, sizeof large_machine, large_registers, 0, large_marks, 0,
-    scalars, sizeof scalars, memory, sizeof memory, run, sizeof run, BODLARINA_SMALLER, 64,
+    scalars, sizeof scalars, memory, sizeof memory, run, sizeof run, BODLARINA_SMALLER, 64, NULL, 0, 0,
 };
 
 /* The result of a start on buffers of the size that MLEN demands. */

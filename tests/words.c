@@ -33,7 +33,7 @@ static uint32_t answer(uint32_t word)
     static uint8_t machine[BODLARINA_MACHINE_BYTES], registers[BODLARINA_REGISTER_BYTES(128)], marks[sizeof registers];
     static uint8_t scalars[BODLARINA_SCALAR_BYTES], memory[1];
     const struct bodlarina_bench bench = {machine, sizeof machine, registers, sizeof registers, marks, sizeof marks,
-                                          scalars, sizeof scalars, memory, sizeof memory, NULL, 0, BODLARINA_SMALLER, 32};
+                                          scalars, sizeof scalars, memory, sizeof memory, NULL, 0, BODLARINA_SMALLER, 32, NULL, 0, 0};
     bodlarina_bench_start(&bench, 64, 128, 0, 0);
     return BODLARINA_ANSWER(bodlarina_bench_step(&bench, word));
 }

@@ -82,8 +82,10 @@ pub fn check_boundaries(context: &mut Context, boundaries: &[Boundary]) -> Outco
     Ok(format!("{} boundaries, {cases} cases", boundaries.len()))
 }
 
+/// A row that is no move: those have more answers 4.
 pub fn row_where(random: &mut Random, wanted: impl Fn(&Row) -> bool) -> &'static Row {
-    let rows: Vec<&'static Row> = LISTING.iter().filter(|row| wanted(row)).collect();
+    let moves = |row: &Row| matches!(row.kind, Kind::MoveOut(_) | Kind::MoveIn(_));
+    let rows: Vec<&'static Row> = LISTING.iter().filter(|row| !moves(row) && wanted(row)).collect();
     random.pick(&rows)
 }
 
@@ -666,9 +668,10 @@ fn ours_but_for_zeros(random: &mut Random) -> Made {
 fn no_row(random: &mut Random) -> Made {
     // Bits 14..12, the ends of a range of bits 31..26, and bit 25.
     let ranges = [
-        // Moves, and a format of no instruction.
-        (0b101, (0, 0b111111), 0),
-        (0b101, (0, 0b111111), 1),
+        // Moves but for rows 000000 and columns 000100, and a format of no instruction.
+        (0b101, (1, 0b000011), random.below(2)),
+        (0b101, (0b000101, 0b111111), 0),
+        (0b101, (0b000101, 0b111111), 1),
         (0b100, (0, 0b111111), 0),
         (0b100, (0, 0b111111), 1),
         // Settings.

@@ -50,6 +50,7 @@ fn encoded(line: &Line) -> bool {
 /// The library takes the word for an instruction, or refuses its registers.
 fn answered(line: &Line) -> bool {
     match model::decode(line.word) {
+        Ok(_) if line.mnemonic.starts_with("mmv") => line.answer == 4,
         Ok(_) => line.answer == 0 || line.answer == 3,
         Err(number) => number == 12 && line.answer == 12,
     }
@@ -93,13 +94,23 @@ fn stepped_alike(word: u32, (lengths, mtype, rule): (Lengths, u64, u64)) -> bool
     let mut block = bytes(&numbers(&second.machine));
     let (mut registers, mut marks) = (second.registers.clone(), second.marks.clone());
     let (mut scalars, mut memory) = (bytes(&values), second.memory.clone());
-    let given =
-        library::step(word, &mut block, &mut registers, &mut marks, &mut scalars, &mut memory);
-    let expected = model::step(word, &mut second, &mut values);
+    let mut vectors = model::Vectors { file: (0..512).map(|at| at as u8).collect(), group: 1 };
+    let mut file = vectors.file.clone();
+    let given = library::step(
+        word,
+        vectors.group,
+        &mut block,
+        &mut registers,
+        &mut marks,
+        &mut scalars,
+        &mut memory,
+        &mut file,
+    );
+    let expected = model::vector_step(word, &mut second, &mut values, &mut vectors);
     given == expected.number + (expected.row << 16) + (expected.column << 32)
         && block == bytes(&numbers(&second.machine))
         && (registers, marks, memory) == (second.registers, second.marks, second.memory)
-        && scalars == bytes(&values)
+        && (scalars, file) == (bytes(&values), vectors.file)
 }
 
 fn main() {

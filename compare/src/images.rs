@@ -171,6 +171,8 @@ fn other_buffers(random: &mut Random, mlen: u64) -> Lent {
         marks: random.bytes(length),
         scalars: vec![],
         memory: vec![],
+        vectors: vec![],
+        group: 0,
     }
 }
 
@@ -357,7 +359,15 @@ pub fn image_versions(context: &mut Context) -> Outcome {
 
 /// No buffers: an image that is accepted gets 8.
 fn no_buffers() -> Lent {
-    Lent { machine: vec![], registers: vec![], marks: vec![], scalars: vec![], memory: vec![] }
+    Lent {
+        machine: vec![],
+        registers: vec![],
+        marks: vec![],
+        scalars: vec![],
+        memory: vec![],
+        vectors: vec![],
+        group: 0,
+    }
 }
 
 /// An image, held to the place of a fault in its head.

@@ -85,6 +85,8 @@ fn calls_on(
         registers,
         scalars: vec![0; library::SCALARS_BYTES],
         memory: random.bytes(memory),
+        vectors: random.bytes(model::VECTOR_FILE_BYTES),
+        group: 1,
     };
     let before = lent.clone();
     let word = assemble("msettypei", &[("mtypei", 1)]);
@@ -224,6 +226,7 @@ pub fn widths_by_elen(context: &mut Context) -> Outcome {
                 Kind::FloatMultiply => sew == 32,
                 Kind::Multiply(f) | Kind::Add(f) | Kind::Subtract(f) => factors.contains(&f),
                 Kind::ReverseSubtract(f) | Kind::Scale(f) => factors.contains(&f),
+                Kind::MoveOut(_) | Kind::MoveIn(_) => true,
             };
             let mut machine = Machine { mtype, ..Machine::of(lengths, SMALLER) };
             SIZES.into_iter().for_each(|size| set_size(&mut machine, size, 2));
@@ -231,7 +234,11 @@ pub fn widths_by_elen(context: &mut Context) -> Outcome {
             lent.memory = random.bytes(48);
             lent.set_scalar(1, 0);
             lent.set_scalar(2, 16);
-            let word = assemble(row.name, &[("rs1", 1), ("rs2", 2), ("imm", 5)]);
+            // A move takes the first row or column.
+            lent.group = 1;
+            let moving = matches!(row.kind, Kind::MoveOut(_) | Kind::MoveIn(_));
+            let rs2 = if moving { 0 } else { 2 };
+            let word = assemble(row.name, &[("rs1", 1), ("rs2", rs2), ("imm", 5)]);
             let (number, _) = check_step(word, &lent, tally)?;
             if number != if fits { 0 } else { 3 } {
                 return Err(format!("{} gives {number} on {machine:?}", row.name));
@@ -575,8 +582,9 @@ pub fn far_elements(context: &mut Context) -> Outcome {
         (4096, 8192, 32),
         (4096, 16_384, 64),
     ];
-    let reads =
-        |row: &&'static Row| !matches!(row.kind, Kind::SetType | Kind::SetSize(_) | Kind::Load(..));
+    let other = |kind| matches!(kind, Kind::SetType | Kind::SetSize(_) | Kind::Load(..));
+    let moves = |kind| matches!(kind, Kind::MoveOut(_) | Kind::MoveIn(_)); // of slices
+    let reads = |row: &&'static Row| !other(row.kind) && !moves(row.kind);
     let rows: Vec<&'static Row> = LISTING.iter().filter(reads).collect();
     let mut farthest = (0, 0);
     let count = 4 * (lengths.len() * rows.len()) as u64 * context.scale;

@@ -1,7 +1,7 @@
 //! What a host lends, as byte blocks, and both programs over it.
 
 use crate::library;
-use model::{Answer, Bench, Handed, Lengths, Machine, Plan, Run};
+use model::{Answer, Bench, Handed, Lengths, Machine, Plan, Run, Vectors};
 use std::fmt::Write;
 
 #[derive(Clone, Debug, PartialEq, Eq)]
@@ -11,6 +11,8 @@ pub struct Lent {
     pub marks: Vec<u8>,
     pub scalars: Vec<u8>,
     pub memory: Vec<u8>,
+    pub vectors: Vec<u8>,
+    pub group: u64,
 }
 
 /// An answer as the C interface packs it.
@@ -77,6 +79,8 @@ pub fn started(lengths: Lengths, rule: u64, registers: Vec<u8>, memory: Vec<u8>)
         registers,
         scalars: vec![0; library::SCALARS_BYTES],
         memory,
+        vectors: vec![0; model::VECTOR_FILE_BYTES],
+        group: 1,
     };
     let Lent { machine, registers, marks, .. } = &mut lent;
     let (rlen, mlen, elen) = lengths;
@@ -133,8 +137,8 @@ impl Lent {
 // The library
 
 pub fn library_step(word: u32, lent: &mut Lent) -> u64 {
-    let Lent { machine, registers, marks, scalars, memory } = lent;
-    library::step(word, machine, registers, marks, scalars, memory)
+    let Lent { machine, registers, marks, scalars, memory, vectors, group } = lent;
+    library::step(word, *group, machine, registers, marks, scalars, memory, vectors)
 }
 
 pub fn library_run_start(plan: &Plan, lent: &mut Lent, run: &mut [u8]) -> u64 {
@@ -183,8 +187,10 @@ pub fn second_step(word: u32, lent: &mut Lent) -> Answer {
         return BAD_ARGUMENTS;
     }
     let mut scalars = lent.scalar_values();
-    let answer = model::step(word, &mut bench, &mut scalars);
+    let mut vectors = Vectors { file: lent.vectors.clone(), group: lent.group };
+    let answer = model::vector_step(word, &mut bench, &mut scalars, &mut vectors);
     lent.take(bench);
+    lent.vectors = vectors.file;
     lent.scalars = words_to_bytes(&scalars);
     answer
 }
@@ -258,6 +264,7 @@ pub fn report(before: &Lent, given: u64, library: &Lent, expected: u64, second: 
         ("marks", &before.marks, &library.marks, &second.marks),
         ("scalars", &before.scalars, &library.scalars, &second.scalars),
         ("memory", &before.memory, &library.memory, &second.memory),
+        ("vectors", &before.vectors, &library.vectors, &second.vectors),
     ] {
         text += &differences(name, before, library, second);
     }
@@ -312,6 +319,8 @@ pub fn state_text(lent: &Lent) -> String {
     text += &dump("registers", &lent.registers);
     text += &marks_text(&lent.marks);
     text += &dump("memory", &lent.memory);
+    text += &dump("vectors", &lent.vectors);
+    writeln!(text, "groups of {}", lent.group).unwrap();
     text
 }
 

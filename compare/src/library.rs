@@ -48,7 +48,7 @@ calls! {
         rlen: u64, mlen: u64, elen: u64, rule: u64, seal_start: u64, seal_length: u64;
         machine, registers, marks
     );
-    step = bodlarina_step(word: u32; machine, registers, marks, scalars, memory);
+    step = bodlarina_step(word: u32, group: u64; machine, registers, marks, scalars, memory, vectors);
     run_next = bodlarina_run_next(; run, step);
     run_steps = bodlarina_run_steps(; run);
     run_turn = bodlarina_run_turn(; run, machine, registers, marks, memory);

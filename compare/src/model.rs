@@ -267,6 +267,10 @@ pub enum Kind {
     Subtract(i128),
     ReverseSubtract(i128),
     Scale(i128),
+    /// Rows (plain) or columns (transposed) of an accumulator to and from vector
+    /// registers (request Eleven).
+    MoveOut(Form),
+    MoveIn(Form),
 }
 
 /// A row of the listing that we carry out. Its columns stand as printed, from
@@ -287,7 +291,7 @@ use Kind::*;
 use Matrix::*;
 
 /// The rows that we carry out, in the listing's order.
-pub const LISTING: [Row; 75] = [
+pub const LISTING: [Row; 79] = [
     row("msettypei", "0000 mtypei 111 rd 1110111", SetType),
     row("msettype", "0001 00000000 rs1 111 rd 1110111", SetType),
     row("msettilemi", "0010 mleni 111 rd 1110111", SetSize(Size::M)),
@@ -363,6 +367,10 @@ pub const LISTING: [Row; 75] = [
     row("memulc.mi", "010000 0 imm ms1 110 md 1110111", Scale(1)),
     row("mwemulc.mi", "010001 0 imm ms1 110 md 1110111", Scale(2)),
     row("mqemulc.mi", "010010 0 imm ms1 110 md 1110111", Scale(4)),
+    row("mmvcr.v.m", "000000 0 rs2 ms1 101 vd 1110111", MoveOut(Plain)),
+    row("mmvcr.m.v", "000000 1 rs2 vs1 101 md 1110111", MoveIn(Plain)),
+    row("mmvcc.v.m", "000100 0 rs2 ms1 101 vd 1110111", MoveOut(Transposed)),
+    row("mmvcc.m.v", "000100 1 rs2 vs1 101 md 1110111", MoveIn(Transposed)),
 ];
 
 /// The rows that we leave out, in the listing's order: name and columns.
@@ -433,7 +441,7 @@ fn columns_of(printed: &'static str) -> impl Iterator<Item = Column> {
     printed.split(' ').map(move |text| {
         let bits = match text {
             "mtypei" | "mleni" => 13,
-            "rd" | "rs1" | "rs2" | "md" | "ms1" | "ms2" | "ms3" | "imm" => 5,
+            "rd" | "rs1" | "rs2" | "md" | "ms1" | "ms2" | "ms3" | "vd" | "vs1" | "imm" => 5,
             digits => digits.len() as u32,
         };
         low -= bits;
@@ -548,6 +556,17 @@ impl Instruction {
     fn ms2(&self) -> Register {
         Register::Tile(self.get("ms2"))
     }
+
+    /// The accumulator of a move.
+    fn accumulator(&self) -> Register {
+        let number = self.operand("ms1").or(self.operand("md")).expect("an accumulator");
+        Register::Accumulator(number)
+    }
+
+    /// The vector register that a move's group starts at.
+    fn group_start(&self) -> Option<u32> {
+        self.operand("vd").or(self.operand("vs1"))
+    }
 }
 
 fn register_in_range(register: Register) -> bool {
@@ -567,6 +586,7 @@ fn registers_in_range(instruction: &Instruction) -> bool {
         Add(_) | Subtract(_) | ReverseSubtract(_) | Scale(_) => {
             register_in_range(instruction.ms1()) && register_in_range(instruction.md())
         }
+        MoveOut(_) | MoveIn(_) => register_in_range(instruction.accumulator()),
     }
 }
 
@@ -717,7 +737,7 @@ fn output_width(instruction: &Instruction, machine: &Machine) -> i128 {
         Multiply(f) | Add(f) | Subtract(f) | ReverseSubtract(f) | Scale(f) => {
             f * sew(machine.mtype)
         }
-        FloatMultiply => sew(machine.mtype),
+        FloatMultiply | MoveOut(_) | MoveIn(_) => sew(machine.mtype),
     }
 }
 
@@ -741,7 +761,7 @@ pub fn sources(instruction: &Instruction, machine: &Machine, scalars: &[u64]) ->
     let width = output_width(instruction, machine);
     let c_has_no_element = machine.tile_m == 0 || machine.tile_n == 0;
     match instruction.row.kind {
-        SetType | SetSize(_) | Load(..) => vec![],
+        SetType | SetSize(_) | Load(..) | MoveOut(_) | MoveIn(_) => vec![],
         Store(matrix, ..) => vec![tile(machine, matrix, instruction.md(), width)],
         Multiply(_) | FloatMultiply if c_has_no_element => vec![],
         Multiply(_) | FloatMultiply => vec![
@@ -805,6 +825,7 @@ pub fn width_rule_broken(kind: Kind, mtype: u64, elen: u64) -> bool {
             _ => !maccq,
         },
         FloatMultiply => sew != 32,
+        MoveOut(_) | MoveIn(_) => false,
     }
 }
 
@@ -817,6 +838,7 @@ fn size_too_large(instruction: &Instruction, machine: &Machine) -> bool {
         Load(C, ..) | Store(C, ..) => &[Size::M, Size::N],
         Multiply(_) | FloatMultiply => &[Size::M, Size::K, Size::N],
         Add(_) | Subtract(_) | ReverseSubtract(_) | Scale(_) => &[Size::M, Size::N],
+        MoveOut(_) | MoveIn(_) => &[Size::M, Size::N],
     };
     let sew = sew(machine.mtype);
     used.iter().any(|&size| tile_size(machine, size) > maximum(machine, size, sew))
@@ -855,15 +877,79 @@ fn writes_sealed_byte(instruction: &Instruction, machine: &Machine, addresses: &
     matches!(instruction.row.kind, Store(..)) && addresses.iter().any(|&a| sealed(machine, a))
 }
 
-/// One instruction word.
+/// The vector registers that a host lends, and how many of them a group has.
+#[derive(Clone, Debug, PartialEq, Eq)]
+pub struct Vectors {
+    pub file: Vec<u8>,
+    pub group: u64,
+}
+
+pub const VECTOR_BYTES: usize = 16;
+pub const VECTOR_FILE_BYTES: usize = 32 * VECTOR_BYTES;
+
+/// Zeros in groups of one.
+pub fn no_vectors() -> Vectors {
+    Vectors { file: vec![0; VECTOR_FILE_BYTES], group: 1 }
+}
+
+/// The elements that a move moves, register by register: row and column in the
+/// accumulator, and the first byte in the vector file. `None` is answer 4.
+fn slice(
+    instruction: &Instruction,
+    machine: &Machine,
+    scalars: &[u64],
+    vectors: &Vectors,
+) -> Option<Vec<(i128, i128, usize)>> {
+    let (MoveOut(form) | MoveIn(form)) = instruction.row.kind else {
+        return Some(vec![]);
+    };
+    let first = scalar(scalars, instruction.get("rs2")) as i128;
+    let (count, group) = (vectors.group as i128, instruction.group_start().expect("a group"));
+    let (lines, length) = match form {
+        Plain => (machine.tile_m as i128, machine.tile_n as i128),
+        Transposed => (machine.tile_n as i128, machine.tile_m as i128),
+    };
+    let bytes = sew(machine.mtype) / 8;
+    if first + count > lines || length * bytes > VECTOR_BYTES as i128 {
+        return None;
+    }
+    let mut elements = Vec::new();
+    for line in 0..count {
+        for at in 0..length {
+            let (i, j) = match form {
+                Plain => (first + line, at),
+                Transposed => (at, first + line),
+            };
+            let place = (group as i128 + line) * VECTOR_BYTES as i128 + at * bytes;
+            elements.push((i, j, place as usize));
+        }
+    }
+    Some(elements)
+}
+
+/// One instruction word of a host without vector registers.
 pub fn step(word: u32, bench: &mut Bench, scalars: &mut [u64]) -> Answer {
-    if state_at_fault(bench) || scalars.len() != 32 {
+    vector_step(word, bench, scalars, &mut no_vectors())
+}
+
+/// One instruction word.
+pub fn vector_step(
+    word: u32,
+    bench: &mut Bench,
+    scalars: &mut [u64],
+    vectors: &mut Vectors,
+) -> Answer {
+    let no_file = vectors.file.len() != VECTOR_FILE_BYTES || ![1, 2, 4, 8].contains(&vectors.group);
+    if state_at_fault(bench) || scalars.len() != 32 || no_file {
         return answer(8);
     }
     let instruction = match decode(word) {
         Ok(instruction) => instruction,
         Err(number) => return answer(number),
     };
+    if instruction.group_start().is_some_and(|start| start as u64 % vectors.group != 0) {
+        return answer(12);
+    }
     if bench.machine.mtype & MILL != 0 && instruction.row.kind != SetType {
         return answer(2);
     }
@@ -873,9 +959,15 @@ pub fn step(word: u32, bench: &mut Bench, scalars: &mut [u64]) -> Answer {
     if size_too_large(&instruction, &bench.machine) {
         return answer(4);
     }
+    let Some(elements) = slice(&instruction, &bench.machine, scalars, vectors) else {
+        return answer(4);
+    };
     let sources = sources(&instruction, &bench.machine, scalars);
     if let Some((row, column)) = first_unwritten(bench, &sources) {
         return Answer { number: 5, row: row as u64, column: column as u64 };
+    }
+    if matches!(instruction.row.kind, MoveOut(_) | MoveIn(_)) {
+        return move_slice(&instruction, bench, vectors, &elements);
     }
     let addresses = addresses(&instruction, &bench.machine, scalars);
     if outside_memory(&addresses, &bench.memory) {
@@ -888,6 +980,35 @@ pub fn step(word: u32, bench: &mut Bench, scalars: &mut [u64]) -> Answer {
         return answer(7);
     }
     carry_out(&instruction, bench, scalars);
+    answer(0)
+}
+
+/// A move of these elements, all of them in the tile; out needs marks, in sets them.
+/// The element that answer 5 names is the first in rows of the accumulator.
+fn move_slice(
+    instruction: &Instruction,
+    bench: &mut Bench,
+    vectors: &mut Vectors,
+    elements: &[(i128, i128, usize)],
+) -> Answer {
+    let width = sew(bench.machine.mtype);
+    let bytes = (width / 8) as usize;
+    let places = |i, j| register_element(&bench.machine, instruction.accumulator(), i, j, width);
+    let placed: Vec<_> = elements.iter().map(|&(i, j, at)| (i, j, places(i, j), at)).collect();
+    if let MoveIn(_) = instruction.row.kind {
+        for (_, _, places, at) in placed {
+            bench.registers[places.clone()].copy_from_slice(&vectors.file[at..at + bytes]);
+            bench.marks[places].fill(1);
+        }
+        return answer(0);
+    }
+    let unwritten = placed.iter().filter(|place| bench.marks[place.2.clone()].contains(&0));
+    if let Some((row, column)) = unwritten.map(|&(i, j, _, _)| (i, j)).min() {
+        return Answer { number: 5, row: row as u64, column: column as u64 };
+    }
+    for (_, _, places, at) in placed {
+        vectors.file[at..at + bytes].copy_from_slice(&bench.registers[places]);
+    }
     answer(0)
 }
 
@@ -904,6 +1025,7 @@ fn carry_out(instruction: &Instruction, bench: &mut Bench, scalars: &mut [u64]) 
         FloatMultiply => float_multiply(instruction, bench),
         Add(_) | Subtract(_) | ReverseSubtract(_) => add_or_subtract(instruction, bench),
         Scale(_) => scale(instruction, bench, scalars),
+        MoveOut(_) | MoveIn(_) => unreachable!("carried out by move_slice"),
     }
 }
 

@@ -893,7 +893,7 @@ fn bad_words() {
         // Codes of no row.
         (1, 0x800472F7, "setting code 1000, of chapter 6"),
         (1, 0x84000077, "mlae8.v, of chapter 6"),
-        (1, 0x00005077, "bits 14..12 are 101"),
+        (1, 0x04005077, "bits 14..12 are 101, 31..26 000001"),
         (1, 0x04004077, "bits 14..12 are 100"),
         (1, 0x14004077, "the same beside a transposed load's"),
         (1, 0x0C000077, "a load of 000011"),
@@ -995,10 +995,10 @@ fn count_words(middle: u32, low: u32) -> [u32; 5] {
 #[test]
 fn numbers_of_words() {
     // Ours, with bits 24..20 where they are free: four settings by immediate
-    // (with bits 27..25 too) and four by scalar, 48 loads and stores, 4
+    // (with bits 27..25 too) and four by scalar, 48 loads and stores, 4 moves, 4
     // multiplies (ms2 0 to 7), 9 adds and subtracts, 6 multiplies by a number.
     let settings = 4 * 256 + 4;
-    let moves = 48 * 32;
+    let moves = (48 + 4) * 32;
     let element_wise = 9 + 6 * 32;
     // Left out: 3 float words with bits 24..20 free, 6 float words and 14
     // conversions without.

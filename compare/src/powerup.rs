@@ -53,6 +53,7 @@ impl Pair {
             ("machine block", &one.machine, &other.machine),
             ("scalars", &one.scalars, &other.scalars),
             ("memory", &one.memory, &other.memory),
+            ("vectors", &one.vectors, &other.vectors),
             ("block of the run", block, other_block),
             ("registers", &one.registers, &other.registers),
         ];
@@ -95,16 +96,17 @@ impl Pair {
     /// That one more byte that differs is seen in each part, but not if it is an
     /// unmarked register byte.
     pub fn check_comparison(&self, random: &mut Random) -> Result<(), String> {
-        for part in 0..6 {
+        for part in 0..7 {
             let mut changed = self.clone();
             let Side { lent, block } = &mut changed.0[1];
-            let Lent { machine, registers, marks, scalars, memory } = lent;
+            let Lent { machine, registers, marks, scalars, memory, vectors, .. } = lent;
             let bytes = match part {
                 0 => registers,
                 1 => machine,
                 2 => marks,
                 3 => scalars,
                 4 => memory,
+                5 => vectors,
                 _ => block,
             };
             if bytes.is_empty() {

@@ -198,6 +198,8 @@ pub fn bench_of(random: &mut Random, machine: &Machine) -> Lent {
         marks: vec![1; length],
         scalars: words_to_bytes(&scalars),
         memory: vec![],
+        vectors: random.bytes(model::VECTOR_FILE_BYTES),
+        group: random.pick(&[1, 2, 4, 8]),
     }
 }
 
@@ -281,6 +283,7 @@ fn good_operands(random: &mut Random, kind: Kind) -> Vec<(&'static str, u32)> {
         Kind::Multiply(_) | Kind::FloatMultiply => (accumulator[0], tile[1]),
         _ => (accumulator[0], accumulator[1]),
     };
+    let vector = 8 * random.below(4) as u32;
     let imm = if random.chance(20) { 0 } else { random.below(32) as u32 };
     let immediate = match random.below(3) {
         0 => random.below(20) as u32,
@@ -295,6 +298,8 @@ fn good_operands(random: &mut Random, kind: Kind) -> Vec<(&'static str, u32)> {
         ("ms3", md),
         ("ms1", ms1),
         ("ms2", tile[2]),
+        ("vd", vector),
+        ("vs1", vector),
         ("imm", imm),
         ("mtypei", immediate),
         ("mleni", immediate),
@@ -319,6 +324,8 @@ pub fn register_fields(kind: Kind) -> Vec<(&'static str, u32)> {
         Kind::Store(Matrix::C, ..) => vec![("ms3", 2)],
         Kind::Store(..) => vec![("ms3", 8)],
         Kind::Multiply(_) | Kind::FloatMultiply => vec![("md", 2), ("ms1", 8), ("ms2", 8)],
+        Kind::MoveOut(_) => vec![("ms1", 2)],
+        Kind::MoveIn(_) => vec![("md", 2)],
         _ => vec![("md", 2), ("ms1", 2)],
     }
 }
@@ -417,6 +424,14 @@ pub fn case_of(random: &mut Random, row: &'static Row, machine: &Machine) -> Cas
 fn aim(random: &mut Random, kind: Kind, operands: &[(&str, u32)], lent: &mut Lent) {
     let machine = lent.machine();
     let (rs1, rs2) = (operand(operands, "rs1"), operand(operands, "rs2"));
+    if let Kind::MoveOut(form) | Kind::MoveIn(form) = kind {
+        let lines = match form {
+            model::Form::Plain => machine.tile_m,
+            model::Form::Transposed => machine.tile_n,
+        };
+        lent.set_scalar(rs2, random.range(0, lines.saturating_sub(lent.group)));
+        return;
+    }
     if let Some((rows, row_bytes)) = moved_rows(kind, &machine) {
         let (address, stride, length) = place_rows(random, rows, row_bytes);
         lent.memory = random.bytes(length);

@@ -172,6 +172,8 @@ pub fn following_word(random: &mut Random, lent: &mut Lent) -> u32 {
         ("ms3", md),
         ("ms1", ms1),
         ("ms2", random.below(3) as u32),
+        ("vd", 4 * random.below(8) as u32),
+        ("vs1", 4 * random.below(8) as u32),
         ("imm", random.below(32) as u32),
         ("mleni", random.below(70) as u32),
     ];

@@ -117,6 +117,14 @@ fn memory(matrix: Matrix, form: Form) -> &'static str {
     }
 }
 
+/// What a move moves.
+fn lines(form: Form) -> &'static str {
+    match form {
+        Form::Plain => "rows",
+        Form::Transposed => "columns",
+    }
+}
+
 /// What an instruction reads and what it writes.
 fn reads_writes(row: &Row) -> (String, String) {
     let has = |operand: &str| model::operands_of(row.name).iter().any(|o| o.0 == operand);
@@ -142,6 +150,8 @@ fn reads_writes(row: &Row) -> (String, String) {
         }
         Kind::Scale(_) if has("rs2") => ("acc[ms1], m by n, rs2".into(), acc),
         Kind::Scale(_) => ("acc[ms1], m by n".into(), acc),
+        Kind::MoveOut(form) => (format!("rs2, {} of acc[ms1]", lines(form)), "group of vd".into()),
+        Kind::MoveIn(form) => ("rs2, group of vs1".into(), format!("{} of acc[md]", lines(form))),
         _ => (format!("acc[ms1], m by n, {acc}"), acc),
     }
 }

@@ -151,7 +151,7 @@ pub fn reachable(call: Call, number: u64) -> bool {
         2 => row.kind != Kind::SetType,
         3 => load || store || factor > 1 || row.kind == Kind::FloatMultiply,
         4 => !setting,
-        5 => !setting && !load,
+        5 => !setting && !load && !matches!(row.kind, Kind::MoveIn(_)),
         6 => load || store,
         7 | 13 => store,
         12 => !setting,

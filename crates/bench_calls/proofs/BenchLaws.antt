@@ -13,9 +13,10 @@ use Rattle.machine.specs.Answers.{reply, isDone}
 use Rattle.machine.specs.Geometry.{Bench, benchOf}
 use Rattle.machine.specs.Starting.{startMachine, startedAs}
 use Rattle.machine.specs.Setting.{chosen}
-use Rattle.machine.specs.Step.{Outcome, steppedAs}
+use Rattle.machine.specs.Vectors.{Vectors, vectorsOf}
+use Rattle.machine.specs.Step.{VectorOutcome, vectorSteppedAs}
 use Rattle.blocks.specs.Blocks.{machineBytes, machineOf, putMachine, Kept, valuesOf, packed}
-use Rattle.blocks.proofs.BlockLaws.{step-kept}
+use Rattle.blocks.proofs.BlockLaws.{step-with-kept}
 use Rattle.scalar_block.specs.ScalarBlock.{stepBlock}
 use Rattle.bench_calls.specs.BenchCalls.{startedOut, shownStart, hostStart, steppedOut, shownStep, hostStep}
 
@@ -42,39 +43,40 @@ module _ (rlen mlen elen rule sealStart sealLength : ℕ) (machine registers mar
 
 -- ---- a step of the host
 
-module _ (word : ℕ) (machine registers marks scalars memory : List ℕ) where
+module _ (word group : ℕ) (machine registers marks scalars memory file : List ℕ) where
   abbrev bench : Bench
   bench = benchOf (machineOf machine) registers marks memory
 
   -- a block of another length
   pub step-short : (r : ℕ) → ¬ (length machine ≡ machineBytes) → r ≡ packed (reply BadArguments)
-      → steppedOut r machine registers marks scalars memory ≡ hostStep word machine registers marks scalars memory
+      → steppedOut r machine registers marks scalars memory file ≡ hostStep word group machine registers marks scalars memory file
   unfolding hostStep
   step-short r h er = rw (er, ne-eqb (length machine) machineBytes h)
 
   pub step-short-scalars : (r : ℕ) → length machine ≡ machineBytes → ¬ (length scalars ≡ 256) → r ≡ packed (reply BadArguments)
-      → steppedOut r machine registers marks scalars memory ≡ hostStep word machine registers marks scalars memory
+      → steppedOut r machine registers marks scalars memory file ≡ hostStep word group machine registers marks scalars memory file
   unfolding hostStep
   step-short-scalars r h k er = rw (er, eq-eqb (length machine) machineBytes h, ne-eqb (length scalars) 256 k)
 
   both : length machine ≡ machineBytes → length scalars ≡ 256
-      → shownStep machine (stepBlock word scalars bench) ≡ hostStep word machine registers marks scalars memory
+      → shownStep machine (stepBlock word scalars (vectorsOf file group) bench) ≡ hostStep word group machine registers marks scalars memory file
   unfolding hostStep
   both h k = rw (eq-eqb (length machine) machineBytes h, eq-eqb (length scalars) 256 k)
 
   -- done: the numbers that the step has left are written over the block
-  pub step-shown : (m : Machine) (s : Stepped) (M R K S Q : List ℕ) (r : ℕ) → length machine ≡ machineBytes → length scalars ≡ 256 → m ≡ machineOf machine
-      → steppedAs s R K S Q ≡ stepBlock word scalars (benchOf m registers marks memory) → M ≡ putMachine (s .machine) machine → r ≡ packed (reply (s .answer))
-      → steppedOut r M R K S Q ≡ hostStep word machine registers marks scalars memory
-  step-shown m s M R K S Q r h k en e em er =
-      ap₂ (λ (r : ℕ) (M : List ℕ). steppedOut r M R K S Q) er em
-      ∙ ap (shownStep machine) (e ∙ ap (λ (m : Machine). stepBlock word scalars (benchOf m registers marks memory)) en)
+  pub step-shown : (m : Machine) (s : Stepped) (M R K S Q F : List ℕ) (r : ℕ) → length machine ≡ machineBytes → length scalars ≡ 256 → m ≡ machineOf machine
+      → vectorSteppedAs s R K S Q F ≡ stepBlock word scalars (vectorsOf file group) (benchOf m registers marks memory) → M ≡ putMachine (s .machine) machine → r ≡ packed (reply (s .answer))
+      → steppedOut r M R K S Q F ≡ hostStep word group machine registers marks scalars memory file
+  step-shown m s M R K S Q F r h k en e em er =
+      ap₂ (λ (r : ℕ) (M : List ℕ). steppedOut r M R K S Q F) er em
+      ∙ ap (shownStep machine) (e ∙ ap (λ (m : Machine). stepBlock word scalars (vectorsOf file group) (benchOf m registers marks memory)) en)
       ∙ both h k
 
   -- and but for mtype and the sizes they are those of the block
-  pub step-keeps : (m : Machine) (s : Stepped) (R K S Q : List ℕ) → m ≡ machineOf machine
-      → steppedAs s R K S Q ≡ stepBlock word scalars (benchOf m registers marks memory) → Kept (s .machine) (machineOf machine)
-  step-keeps m s R K S Q en e =
+  pub step-keeps : (m : Machine) (s : Stepped) (R K S Q F : List ℕ) → m ≡ machineOf machine
+      → vectorSteppedAs s R K S Q F ≡ stepBlock word scalars (vectorsOf file group) (benchOf m registers marks memory) → Kept (s .machine) (machineOf machine)
+  step-keeps m s R K S Q F en e =
       let B : Bench = benchOf m registers marks memory in
-      subst (λ (x : Machine). Kept x (machineOf machine)) (sym (ap (λ (o : Outcome). o .bench .machine) e))
-      (subst (λ (x : Machine). Kept (stepBlock word scalars B .bench .machine) x) en (step-kept chosen word (valuesOf scalars) B))
+      let W : Vectors = vectorsOf file group in
+      subst (λ (x : Machine). Kept x (machineOf machine)) (sym (ap (λ (o : VectorOutcome). o .bench .machine) e))
+      (subst (λ (x : Machine). Kept (stepBlock word scalars W B .bench .machine) x) en (step-with-kept chosen word (valuesOf scalars) B W))

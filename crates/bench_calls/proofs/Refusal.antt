@@ -3,7 +3,6 @@ use mathlib.Core.Path.{_≡_, refl, ap}
 use mathlib.Core.Bool.{Bool, true, false, cond}
 use mathlib.Core.List.{List, [], _∷_}
 use Prim.Native.Nat.{ℕ}
-use borrow.Author.Tests.{eq-eqb}
 use lib.ListN.{length, replicate}
 use lib.Dec.{eqb}
 use Rattle.machine.specs.declared.Answer.the-variants.{Done, BadArguments}
@@ -12,9 +11,11 @@ use Rattle.machine.specs.Answers.{reply}
 use Rattle.machine.specs.Geometry.{Bench, benchOf}
 use Rattle.machine.specs.Setting.{chosen}
 use Rattle.machine.specs.Starting.{startable, startMachine, freshMachine, noMachine}
-use Rattle.machine.specs.Step.{Outcome, step}
-use Rattle.machine.proofs.CodeLaws.{step-zero}
-use Rattle.machine.proofs.Refusal.{refusal-changes-nothing}
+use Rattle.machine.specs.Listing.{decode}
+use Rattle.machine.specs.Vectors.{Vectors, vectorsOf}
+use Rattle.machine.specs.Step.{VectorOutcome, vectorStep}
+use Rattle.machine.proofs.Stores.{accepted-with}
+use Rattle.machine.proofs.Refusal.{step-refusal-changes-nothing}
 use Rattle.blocks.specs.Blocks.{machineBytes, machineOf, putMachine, valuesOf, putValues, packed}
 use Rattle.scalar_block.specs.ScalarBlock.{stepBlock}
 use Rattle.bench_calls.specs.BenchCalls.{HostStarted, startedOut, shownStart, hostStart, HostStepped, steppedOut, shownStep, hostStep}
@@ -40,25 +41,32 @@ start-refusal rlen mlen elen rule sealStart sealLength machine registers marks =
 
 pub step-refusal : StepRefusalChangesNoByte
 unfolding hostStep
-step-refusal word machine registers marks scalars memory small small′ = go (every (eqb (length machine) machineBytes ∷ eqb (length scalars) 256 ∷ []))
+step-refusal word group machine registers marks scalars memory file small small′ = go (every (eqb (length machine) machineBytes ∷ eqb (length scalars) 256 ∷ []))
   where
     B : Bench
     B = benchOf (machineOf machine) registers marks memory
 
-    o : Outcome
-    o = step word (valuesOf scalars) B
+    W : Vectors
+    W = vectorsOf file group
+
+    o : VectorOutcome
+    o = vectorStep word (valuesOf scalars) W B
 
     out : Bool → HostStepped
-    out t = cond t (shownStep machine (stepBlock word scalars B)) (steppedOut (packed (reply BadArguments)) machine registers marks scalars memory)
+    out t = cond t (shownStep machine (stepBlock word scalars W B)) (steppedOut (packed (reply BadArguments)) machine registers marks scalars memory file)
 
-    shown : (b : Bench) (xs : List ℕ) → b ≡ B → xs ≡ valuesOf scalars
-        → steppedOut (packed (o .answer)) (putMachine (b .machine) machine) (b .registers) (b .marks) (putValues xs scalars) (b .memory)
-        ≡ steppedOut (packed (o .answer)) machine registers marks scalars memory
-    shown b xs eb ex =
-        rw (eb, ex, putMachine-same machine small, putValues-same scalars small′)
+    shown : (b : Bench) (xs f : List ℕ) → b ≡ B → xs ≡ valuesOf scalars → f ≡ file
+        → steppedOut (packed (o .answer)) (putMachine (b .machine) machine) (b .registers) (b .marks) (putValues xs scalars) (b .memory) f
+        ≡ steppedOut (packed (o .answer)) machine registers marks scalars memory file
+    shown b xs f eb ex ef =
+        rw (eb, ex, ef, putMachine-same machine small, putValues-same scalars small′)
 
-    go : (t : Bool) → ¬ (out t .result ≡ 0) → out t ≡ steppedOut (out t .result) machine registers marks scalars memory
+    -- a step that is answered 0 is answered as `Done` is
+    zero : o .answer .number ≡ 0 → o .answer ≡ reply Done
+    zero e = ap (λ (o : VectorOutcome). o .answer) (accepted-with chosen word (decode word) (valuesOf scalars) W B refl e .leaves)
+
+    go : (t : Bool) → ¬ (out t .result ≡ 0) → out t ≡ steppedOut (out t .result) machine registers marks scalars memory file
     go true d =
-        let k = refusal-changes-nothing chosen word (valuesOf scalars) B (λ e. d (ap packed (step-zero chosen word (valuesOf scalars) B (eq-eqb (o .answer .number) 0 e)))) in
-        shown (o .bench) (o .scalars) (k .0) (k .1)
+        let k = step-refusal-changes-nothing chosen word (valuesOf scalars) W B (λ e. d (ap packed (zero e))) in
+        shown (o .bench) (o .scalars) (o .vectors) (k .0) (k .1) (k .2)
     go false d = refl

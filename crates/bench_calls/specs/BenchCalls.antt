@@ -9,7 +9,8 @@ use Rattle.machine.specs.Tests.{every}
 use Rattle.machine.specs.Answers.{reply, done}
 use Rattle.machine.specs.Geometry.{benchOf}
 use Rattle.machine.specs.Starting.{StartOutcome, startMachine}
-use Rattle.machine.specs.Step.{Outcome}
+use Rattle.machine.specs.Vectors.{vectorsOf}
+use Rattle.machine.specs.Step.{VectorOutcome}
 use Rattle.blocks.specs.Blocks.{machineBytes, machineOf, putMachine, scalarBytes, packed}
 use Rattle.scalar_block.specs.ScalarBlock.{stepBlock}
 
@@ -47,25 +48,27 @@ pub record HostStepped : Type 0 where
   pub marks : List ℕ
   pub scalars : List ℕ
   pub memory : List ℕ
+  pub file : List ℕ
 
-abbrev pub steppedOut : ℕ → (machine registers marks scalars memory : List ℕ) → HostStepped
-steppedOut result machine registers marks scalars memory = record {
+abbrev pub steppedOut : ℕ → (machine registers marks scalars memory file : List ℕ) → HostStepped
+steppedOut result machine registers marks scalars memory file = record {
   result = result;
   machine = machine;
   registers = registers;
   marks = marks;
   scalars = scalars;
   memory = memory;
+  file = file;
 }
 
 -- a step as the host sees it: what it leaves of the machine's numbers is written over the block
-abbrev pub shownStep : List ℕ → Outcome → HostStepped
+abbrev pub shownStep : List ℕ → VectorOutcome → HostStepped
 shownStep machine o =
-    steppedOut (packed (o .answer)) (putMachine (o .bench .machine) machine) (o .bench .registers) (o .bench .marks) (o .scalars) (o .bench .memory)
+    steppedOut (packed (o .answer)) (putMachine (o .bench .machine) machine) (o .bench .registers) (o .bench .marks) (o .scalars) (o .bench .memory) (o .vectors)
 
 -- 01, "Where each form goes": "An exported C function on numbers and byte slices for the bench host, over the same proved step."
-unfoldable pub hostStep : ℕ → (machine registers marks scalars memory : List ℕ) → HostStepped
-hostStep word machine registers marks scalars memory =
+unfoldable pub hostStep : (word group : ℕ) → (machine registers marks scalars memory file : List ℕ) → HostStepped
+hostStep word group machine registers marks scalars memory file =
     cond (every (eqb (length machine) machineBytes ∷ eqb (length scalars) scalarBytes ∷ []))
-    (shownStep machine (stepBlock word scalars (benchOf (machineOf machine) registers marks memory)))
-    (steppedOut (packed (reply BadArguments)) machine registers marks scalars memory)
+    (shownStep machine (stepBlock word scalars (vectorsOf file group) (benchOf (machineOf machine) registers marks memory)))
+    (steppedOut (packed (reply BadArguments)) machine registers marks scalars memory file)

@@ -4,7 +4,8 @@ use mathlib.Core.List.{List}
 use Prim.Native.Nat.{ℕ, _/_, _%_, _^_}
 use lib.ListN.{length}
 use Rattle.machine.specs.Geometry.{benchOf}
-use Rattle.machine.specs.Step.{step}
+use Rattle.machine.specs.Vectors.{vectorsOf}
+use Rattle.machine.specs.Step.{vectorStep}
 use Rattle.blocks.specs.Blocks.{Bytes, machineBytes, machineOf, scalarBytes, valuesOf}
 use Rattle.bench_calls.specs.BenchCalls.{startedOut, hostStart, steppedOut, hostStep}
 
@@ -15,14 +16,14 @@ StartRefusalChangesNoByte = (rlen mlen elen rule sealStart sealLength : ℕ) (ma
     ¬ (o .result ≡ 0) → o ≡ startedOut (o .result) machine registers marks
 
 abbrev pub StepRefusalChangesNoByte : Type 0
-StepRefusalChangesNoByte = (word : ℕ) (machine registers marks scalars memory : List ℕ) → Bytes machine → Bytes scalars
-    → let o = hostStep word machine registers marks scalars memory in
-    ¬ (o .result ≡ 0) → o ≡ steppedOut (o .result) machine registers marks scalars memory
+StepRefusalChangesNoByte = (word group : ℕ) (machine registers marks scalars memory file : List ℕ) → Bytes machine → Bytes scalars
+    → let o = hostStep word group machine registers marks scalars memory file in
+    ¬ (o .result ≡ 0) → o ≡ steppedOut (o .result) machine registers marks scalars memory file
 
 -- What the host takes out of a result: bits 15..0 are the number, bits 31..16 the row and bits 47..32 the column of the step's answer,
 -- none of them cut. On blocks of other lengths the result is 8.
 abbrev pub StepPacksWhole : Type 0
-StepPacksWhole = (word : ℕ) (machine registers marks scalars memory : List ℕ) → length machine ≡ machineBytes → length scalars ≡ scalarBytes
-    → let a = step word (valuesOf scalars) (benchOf (machineOf machine) registers marks memory) .answer in
-    let r = hostStep word machine registers marks scalars memory .result in
+StepPacksWhole = (word group : ℕ) (machine registers marks scalars memory file : List ℕ) → length machine ≡ machineBytes → length scalars ≡ scalarBytes
+    → let a = vectorStep word (valuesOf scalars) (vectorsOf file group) (benchOf (machineOf machine) registers marks memory) .answer in
+    let r = hostStep word group machine registers marks scalars memory file .result in
     (r % 2 ^ 16 ≡ a .number) × (r / 2 ^ 16 % 2 ^ 16 ≡ a .row) × (r / 2 ^ 32 ≡ a .column)

@@ -45,17 +45,19 @@ pub fn start(
     packed(answer)
 }
 
-// Steps one instruction word.
+// Steps one instruction word, beside a vector file with a group size.
 pub fn step(
     word: u32,
+    group: u64,
     machine: &mut [u8],
     registers: &mut [u8],
     marks: &mut [u8],
     scalars: &mut [u8],
     memory: &mut [u8],
+    vectors: &mut [u8],
 ) -> u64
-    ensures { λ r. ⌜ steppedOut r (now (machine .exit)) (now (registers .exit)) (now (marks .exit)) (now (scalars .exit)) (now (memory .exit))
-        ≡ hostStep word (now (machine .entry)) (now (registers .entry)) (now (marks .entry)) (now (scalars .entry)) (now (memory .entry)) ⌝ }
+    ensures { λ r. ⌜ steppedOut r (now (machine .exit)) (now (registers .exit)) (now (marks .exit)) (now (scalars .exit)) (now (memory .exit)) (now (vectors .exit))
+        ≡ hostStep word group (now (machine .entry)) (now (registers .entry)) (now (marks .entry)) (now (scalars .entry)) (now (memory .entry)) (now (vectors .entry)) ⌝ }
 {
     if machine.len() != MACHINE_BYTES {
         return packed(Answer::BadArguments);
@@ -64,7 +66,16 @@ pub fn step(
         return packed(Answer::BadArguments);
     }
     let m = machine_of(machine);
-    let stepped = scalar_block::step_block(m, registers, marks, scalars, memory, word);
+    let stepped = scalar_block::step_block(
+        m,
+        registers,
+        marks,
+        scalars,
+        memory,
+        vectors,
+        group,
+        word,
+    );
     let next = stepped.machine;
     put_state(machine, next);
     let answer = stepped.answer;

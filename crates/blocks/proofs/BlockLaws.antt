@@ -16,11 +16,12 @@ use Rattle.width.proofs.TileLaws.{le-cong, putRow-out}
 use Rattle.width.proofs.WordLaws.{le-putRow, putRow-same}
 use Rattle.machine.specs.declared.Machine.{Machine}
 use Rattle.machine.specs.declared.Reply.{Reply}
-use Rattle.machine.specs.declared.Answer.the-variants.{Done}
+use Rattle.machine.specs.declared.Answer.the-variants.{Done, BadArguments}
 use Rattle.machine.specs.Answers.{reply, done, verdict, isDone}
 use Rattle.machine.specs.Geometry.{Parameters, parameters, Bench}
 use Rattle.machine.specs.Listing.{decode}
-use Rattle.machine.specs.Step.{stepChecks, carriedOut, refused, outcome, stepBy}
+use Rattle.machine.specs.Vectors.{Vectors, vectorsFit, idle}
+use Rattle.machine.specs.Step.{checksIn, carriedIn, refusedIn, outcomeIn, vectorsIn, beside, stepWith, outcome, stepBy}
 use Rattle.blocks.specs.Blocks.{Bytes, machineBytes, machineOf, putMachine, Kept, firstValues, valuesOf, putValues, packed}
 
 -- ---- values of eight bytes, one after another
@@ -147,16 +148,28 @@ put-state-is m xs ys small small′ k e = put-middle (λ j. getD (numbersOf m) j
     behind (suc (suc (suc (suc j)))) l = absurd (omega arith)
 
 -- a step keeps them
-pub step-kept : (grant : ℕ → ℕ → ℕ → ℕ) (word : ℕ) (xs : List ℕ) (B : Bench) → Kept (stepBy grant word xs B .bench .machine) (B .machine)
-unfolding stepBy outcome
-step-kept grant word xs B = go (isDone (verdict (stepChecks (parameters grant (B .machine)) (decode word) xs B)))
-  where
-    M : Parameters
-    M = parameters grant (B .machine)
+module _ (grant : ℕ → ℕ → ℕ → ℕ) (word : ℕ) (xs : List ℕ) (B : Bench) where
+  abbrev M : Parameters
+  M = parameters grant (B .machine)
 
-    go : (t : Bool) → Kept ((cond t (carriedOut M (decode word) xs B) (refused M (decode word) xs B (verdict (stepChecks M (decode word) xs B)))) .bench .machine) (B .machine)
-    go true = record { rlen = refl; mlen = refl; seal-start = refl; seal-length = refl; rule = refl; elen = refl }
-    go false = record { rlen = refl; mlen = refl; seal-start = refl; seal-length = refl; rule = refl; elen = refl }
+  outcome-kept : (W : Vectors) → Kept (outcomeIn W M (decode word) xs B .bench .machine) (B .machine)
+  outcome-kept W = go (isDone (verdict (checksIn W M (decode word) xs B)))
+    where
+      go : (t : Bool) → Kept ((cond t (carriedIn W M (decode word) xs B) (refusedIn W M (decode word) xs B (verdict (checksIn W M (decode word) xs B)))) .bench .machine) (B .machine)
+      go true = record { rlen = refl; mlen = refl; seal-start = refl; seal-length = refl; rule = refl; elen = refl }
+      go false = record { rlen = refl; mlen = refl; seal-start = refl; seal-length = refl; rule = refl; elen = refl }
+
+  pub step-with-kept : (W : Vectors) → Kept (stepWith grant word xs W B .bench .machine) (B .machine)
+  unfolding stepWith
+  step-with-kept W = go (vectorsFit W)
+    where
+      go : (t : Bool) → Kept ((cond t (beside (vectorsIn W M (decode word) xs B) (outcomeIn W M (decode word) xs B)) (beside (W .file) (refusedIn W M (decode word) xs B BadArguments))) .bench .machine) (B .machine)
+      go true = outcome-kept W
+      go false = record { rlen = refl; mlen = refl; seal-start = refl; seal-length = refl; rule = refl; elen = refl }
+
+  pub step-kept : Kept (stepBy grant word xs B .bench .machine) (B .machine)
+  unfolding stepBy outcome
+  step-kept = outcome-kept idle
 
 -- ---- the scalars' block
 

@@ -13,7 +13,7 @@ ghost use Rattle.bodlarina.specs.Host.{hostVersion};
 pub extern "C" fn bodlarina_version() -> u64
     ensures { λ r. ⌜ r ≡ hostVersion ⌝ }
 {
-    400
+    500
 }
 
 // Starts a machine of this ELEN and rule on the lent register bytes and marks, and writes its numbers into the machine block.
@@ -45,18 +45,29 @@ pub extern "C" fn bodlarina_start(
     )
 }
 
-// Steps one instruction word.
+// Steps one instruction word, beside a vector file with a group size.
 #[no_mangle]
 pub extern "C" fn bodlarina_step(
     word: u32,
+    group: u64,
     machine: &mut [u8],
     registers: &mut [u8],
     marks: &mut [u8],
     scalars: &mut [u8],
     memory: &mut [u8],
+    vectors: &mut [u8],
 ) -> u64
-    ensures { λ r. ⌜ steppedOut r (now (machine .exit)) (now (registers .exit)) (now (marks .exit)) (now (scalars .exit)) (now (memory .exit))
-        ≡ hostStep word (now (machine .entry)) (now (registers .entry)) (now (marks .entry)) (now (scalars .entry)) (now (memory .entry)) ⌝ }
+    ensures { λ r. ⌜ steppedOut r (now (machine .exit)) (now (registers .exit)) (now (marks .exit)) (now (scalars .exit)) (now (memory .exit)) (now (vectors .exit))
+        ≡ hostStep word group (now (machine .entry)) (now (registers .entry)) (now (marks .entry)) (now (scalars .entry)) (now (memory .entry)) (now (vectors .entry)) ⌝ }
 {
-    bench_calls::step(word, machine, registers, marks, scalars, memory)
+    bench_calls::step(
+        word,
+        group,
+        machine,
+        registers,
+        marks,
+        scalars,
+        memory,
+        vectors,
+    )
 }

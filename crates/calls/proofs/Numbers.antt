@@ -14,17 +14,19 @@ use Rattle.width.proofs.TileLaws.{le-lt}
 use Rattle.machine.specs.declared.Machine.{Machine}
 use Rattle.machine.specs.declared.Answer.the-variants.{BadArguments}
 use Rattle.machine.specs.Tests.{every, isIn}
-use Rattle.machine.specs.Answers.{done, verdict}
-use Rattle.machine.specs.Geometry.{elens, Bench, parameters}
+use Rattle.machine.specs.Answers.{reply, done, verdict}
+use Rattle.machine.specs.Geometry.{elens, Bench, Parameters, parameters}
 use Rattle.machine.specs.Setting.{chosen, newType}
 use Rattle.machine.specs.Faults.{soundBench}
 use Rattle.machine.specs.Listing.{decode}
-use Rattle.machine.specs.Step.{Outcome, stepBy, stepChecks}
+use Rattle.machine.specs.Vectors.{Vectors, vectorsFit}
+use Rattle.machine.specs.Step
+use Rattle.machine.specs.Step.{Outcome, stepBy, stepChecks, beside, outcomeIn, vectorsIn, stepWith}
 use Rattle.machine.proofs.TestLaws.{and-right, every-each, each, each-in}
 use Rattle.machine.proofs.StepLaws.{step-refused, permitted-bounds, permitted-elen}
 use Rattle.machine.proofs.SizeLaws.{chosen-grants}
 use Rattle.machine.proofs.CodeLaws.{legalTypes, types-are}
-use Rattle.machine.proofs.NoFault.{Sound, sound-is, step-sound}
+use Rattle.machine.proofs.NoFault.{Sound, sound-is, step-sound, step-keeps-sound}
 use Rattle.run.specs.declared.Plan.{Plan}
 use Rattle.run.specs.declared.Place.{Place}
 use Rattle.run.specs.declared.Place.the-variants.{AtType, AtM, AtN, AtClear, AtK, AtA, AtB, AtMultiply, AtStore, AtEnd}
@@ -104,6 +106,26 @@ step-words word xs B w = go (soundBench B) refl
     go false e =
         let r : verdict (stepChecks (parameters chosen (B .machine)) (decode word) xs B) ≡ BadArguments = rw e in
         subst (λ (o : Outcome). Words (o .bench .machine)) (sym (step-refused chosen word xs B BadArguments refl r)) w
+
+pub step-with-words : (word : ℕ) (xs : List ℕ) (W : Vectors) (B : Bench) → Words (B .machine) → Words (stepWith chosen word xs W B .bench .machine)
+unfolding stepWith
+step-with-words word xs W B w = go (soundBench B) refl
+  where
+    M : Parameters
+    M = parameters chosen (B .machine)
+
+    C : Bench
+    C = stepWith chosen word xs W B .bench
+
+    stays : (t : Bool) → Words (cond t (beside (vectorsIn W M (decode word) xs B) (record { answer = reply BadArguments; bench = B; scalars = xs })) (beside (W .file) (Step.refusedIn W M (decode word) xs B BadArguments)) .bench .machine)
+    stays true = w
+    stays false = w
+
+    go : (t : Bool) → soundBench B ≡ t → Words (stepWith chosen word xs W B .bench .machine)
+    go true e = sound-words (C .machine) (C .registers) (C .marks) (sound-is (C .machine) (C .registers) (C .marks) (step-keeps-sound chosen chosen-grants word xs W B e))
+    go false e =
+        let r : outcomeIn W M (decode word) xs B ≡ record { answer = reply BadArguments; bench = B; scalars = xs } = rw e in
+        subst (λ (o : Outcome). Words (cond (vectorsFit W) (beside (vectorsIn W M (decode word) xs B) o) (beside (W .file) (Step.refusedIn W M (decode word) xs B BadArguments)) .bench .machine)) (sym r) (stays (vectorsFit W))
 
 -- ---- a run
 

@@ -70,12 +70,12 @@ module _ (P : Plan) (b : Buffers) where
 
   -- the buffers with another run's block
   abbrev having : List ℕ → Buffers
-  having R = buffers (b .machine) (b .registers) (b .marks) (b .scalars) (b .memory) R (b .step) (b .steps)
+  having R = buffers (b .machine) (b .registers) (b .marks) (b .scalars) (b .memory) R (b .step) (b .steps) (b .file)
 
   -- a start changes neither machine nor memory
   lent-same : startOn true .after ≡ having (startOn true .after .run)
   lent-same =
-      ap (λ (C : Bench). buffers (b .machine) (C .registers) (C .marks) (b .scalars) (C .memory) (startOn true .after .run) (b .step) (b .steps))
+      ap (λ (C : Bench). buffers (b .machine) (C .registers) (C .marks) (b .scalars) (C .memory) (startOn true .after .run) (b .step) (b .steps) (b .file))
       (run-start-changes-nothing chosen P B)
 
   -- its answers name no row and column
@@ -204,12 +204,12 @@ module _ (P : Plan) (b : Buffers) (p : PlanWords P) (small : Bytes (b .machine))
 
   same₀ : with (runningIn b₀) b₀ ≡ b₀
   same₀ =
-      ap₂ (λ (m R : List ℕ). buffers m (b .registers) (b .marks) (b .scalars) (b .memory) R (b .step) (b .steps))
+      ap₂ (λ (m R : List ℕ). buffers m (b .registers) (b .marks) (b .scalars) (b .memory) R (b .step) (b .steps) (b .file))
       (putMachine-same (b .machine) small) (ap (λ (R : Run). putRun R (b₀ .run)) read-back ∙ putRun-over R₀ R₀ (b .run) (A .run-long))
 
   over₀ : (r : Running) → with r b₀ ≡ with r b
   over₀ r =
-      ap (λ (R : List ℕ). buffers (putMachine (r .bench .machine) (b .machine)) (r .bench .registers) (r .bench .marks) (b .scalars) (r .bench .memory) R (b .step) (b .steps))
+      ap (λ (R : List ℕ). buffers (putMachine (r .bench .machine) (b .machine)) (r .bench .registers) (r .bench .marks) (b .scalars) (r .bench .memory) R (b .step) (b .steps) (b .file))
       (putRun-over (r .run) R₀ (b .run) (A .run-long))
 
   -- after t turns, and t calls

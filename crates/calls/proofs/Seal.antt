@@ -15,11 +15,12 @@ use Rattle.machine.specs.Answers.{reply, done}
 use Rattle.machine.specs.Geometry.{Parameters, Bench, permitted, registerBytes}
 use Rattle.machine.specs.Setting.{chosen}
 use Rattle.machine.specs.Starting.{isRule, sealEnds, startable, startMachine, freshMachine, noMachine}
-use Rattle.machine.specs.Step.{step}
+use Rattle.machine.specs.Vectors.{vectorsOf, idle}
+use Rattle.machine.specs.Step.{vectorStep}
 use Rattle.machine.specs.Theorems.{Unharmed}
 use Rattle.machine.proofs.TestLaws.{in-within, every-each}
 use Rattle.machine.proofs.StepLaws.{permitted-bounds, permitted-elen}
-use Rattle.machine.proofs.Sealing.{step-unharmed}
+use Rattle.machine.proofs.Sealing.{step-with-unharmed}
 use Rattle.run.specs.declared.Plan.{Plan}
 use Rattle.run.specs.Words.{steps}
 use Rattle.run.specs.Plan.{shape}
@@ -44,7 +45,7 @@ use Rattle.image_calls.specs.ImageCalls.{packedReply, blockRefused, readOut, sh
 use Rattle.calls.specs.Calls.{Buffers, Call, Called, afterStart, afterStep, afterRunStart, afterTurn, afterRun, afterRead, called}
 use Rattle.calls.specs.Composed.{afterCalls, benchIn, SealedIn, SparesSeal, EachSparesSeal, SealHoldsOverCalls, SealHoldsFromStartCall}
 use Rattle.calls.proofs.Written.{putMachine-words}
-use Rattle.calls.proofs.Numbers.{machine-words, step-words, turn-machine, turns-machine}
+use Rattle.calls.proofs.Numbers.{machine-words, step-with-words, turn-machine, turns-machine}
 
 -- ---- what a call has to show
 
@@ -87,19 +88,19 @@ module _ (b : Buffers) (w : Words (machineOf (b .machine))) where
   first-length : (ts : List Bool) → every (eqb (length (b .machine)) machineBytes ∷ ts) ≡ true → length (b .machine) ≡ machineBytes
   first-length ts h = eqb-true (length (b .machine)) machineBytes (every-each (eqb (length (b .machine)) machineBytes ∷ ts) h .0)
 
-  step-safe : (word : ℕ) → SafeAfter (called (Call.step word) b)
+  step-safe : (word group : ℕ) → SafeAfter (called (Call.step word group) b)
   unfolding hostStep
-  step-safe word = go (every (eqb (length (b .machine)) machineBytes ∷ eqb (length (b .scalars)) 256 ∷ [])) refl
+  step-safe word group = go (every (eqb (length (b .machine)) machineBytes ∷ eqb (length (b .scalars)) 256 ∷ [])) refl
     where
       out : Bool → Called
       out t =
-          afterStep b (cond t (shownStep (b .machine) (stepBlock word (b .scalars) (benchIn b)))
-          (steppedOut (packed (reply BadArguments)) (b .machine) (b .registers) (b .marks) (b .scalars) (b .memory)))
+          afterStep b (cond t (shownStep (b .machine) (stepBlock word (b .scalars) (vectorsOf (b .file) group) (benchIn b)))
+          (steppedOut (packed (reply BadArguments)) (b .machine) (b .registers) (b .marks) (b .scalars) (b .memory) (b .file)))
 
       go : (t : Bool) → every (eqb (length (b .machine)) machineBytes ∷ eqb (length (b .scalars)) 256 ∷ []) ≡ t → SafeAfter (out t)
       go true h =
-          written (step word (valuesOf (b .scalars)) (benchIn b) .bench) (first-length (eqb (length (b .scalars)) 256 ∷ []) h)
-          (step-words word (valuesOf (b .scalars)) (benchIn b) w) (step-unharmed chosen word (valuesOf (b .scalars)) (benchIn b))
+          written (vectorStep word (valuesOf (b .scalars)) (vectorsOf (b .file) group) (benchIn b) .bench) (first-length (eqb (length (b .scalars)) 256 ∷ []) h)
+          (step-with-words word (valuesOf (b .scalars)) (vectorsOf (b .file) group) (benchIn b) w) (step-with-unharmed chosen word (valuesOf (b .scalars)) (vectorsOf (b .file) group) (benchIn b))
       go false h = unchanged
 
   run-start-safe : (P : Plan) → SafeAfter (called (Call.runStart P) b)
@@ -134,7 +135,7 @@ module _ (b : Buffers) (w : Words (machineOf (b .machine))) where
       go : (t : Bool) → turnBlocks (b .run) (b .machine) ≡ t → SafeAfter (out t)
       go true h =
           written (turn chosen r .after .bench) (blocks-length h) (turn-machine r w)
-          (seal-holds-over-acts chosen (Act.runTurn ∷ []) (session (benchIn b) [] (runOf (b .run))))
+          (seal-holds-over-acts chosen (Act.runTurn ∷ []) (session (benchIn b) [] idle (runOf (b .run))))
       go false h = unchanged
 
   turns-safe : (limit : ℕ) → SafeAfter (called (Call.runTurns limit) b)
@@ -149,7 +150,7 @@ module _ (b : Buffers) (w : Words (machineOf (b .machine))) where
       go : (t : Bool) → turnBlocks (b .run) (b .machine) ≡ t → SafeAfter (out t)
       go true h =
           written (afterTurns chosen r limit .bench) (blocks-length h) (turns-machine r w limit)
-          (seal-holds-over-acts chosen (Act.runTurns limit ∷ []) (session (benchIn b) [] (runOf (b .run))))
+          (seal-holds-over-acts chosen (Act.runTurns limit ∷ []) (session (benchIn b) [] idle (runOf (b .run))))
       go false h = unchanged
 
   run-safe : (P : Plan) → SafeAfter (called (Call.run P) b)
@@ -160,7 +161,7 @@ module _ (b : Buffers) (w : Words (machineOf (b .machine))) where
       C = whole chosen P (benchIn b) .bench
 
       unharmed : Unharmed chosen (benchIn b) C
-      unharmed = seal-holds-over-acts chosen (Act.run P ∷ []) (session (benchIn b) [] (runOf (b .run)))
+      unharmed = seal-holds-over-acts chosen (Act.run P ∷ []) (session (benchIn b) [] idle (runOf (b .run)))
 
       words : Words (C .machine)
       words =
@@ -204,7 +205,7 @@ module _ (b : Buffers) (w : Words (machineOf (b .machine))) where
 
   call-safe : (c : Call) → SparesSeal c b → SafeAfter (called c b)
   call-safe (Call.start rlen mlen elen rule sealStart sealLength) h = absurd h
-  call-safe (Call.step word) h = step-safe word
+  call-safe (Call.step word group) h = step-safe word group
   call-safe (Call.runStart P) h = run-start-safe P
   call-safe Call.runNext h = unchanged
   call-safe Call.runTurn h = turn-safe

@@ -121,7 +121,7 @@ module _ (b : Buffers) (fit : turnBlocks (b .run) (b .machine) ≡ true) where
 
     over : (s : Running) → with s (with r b) ≡ with s b
     over s =
-        ap₂ (λ (m R : List ℕ). buffers m (s .bench .registers) (s .bench .marks) (b .scalars) (s .bench .memory) R (b .step) (b .steps))
+        ap₂ (λ (m R : List ℕ). buffers m (s .bench .registers) (s .bench .marks) (b .scalars) (s .bench .memory) R (b .step) (b .steps) (b .file))
         (putMachine-over (s .bench .machine) (r .bench .machine) (b .machine) machine-length) (putRun-over (s .run) (r .run) (b .run) run-length)
 
     pub on : called Call.runTurn (with r b) ≡ left (packed (turn chosen r .answer)) (with (turn chosen r .after) b)
@@ -165,7 +165,7 @@ turns-are-turn-calls limit b small small′ = go (turnBlocks (b .run) (b .machin
     go true fit =
         let w : Wordy (runningIn b) = record { run = run-words (b .run) small (run-fits b fit); machine = machine-words (b .machine) small′ } in
         let same : with (runningIn b) b ≡ b =
-        ap₂ (λ (m R : List ℕ). buffers m (b .registers) (b .marks) (b .scalars) (b .memory) R (b .step) (b .steps))
+        ap₂ (λ (m R : List ℕ). buffers m (b .registers) (b .marks) (b .scalars) (b .memory) R (b .step) (b .steps) (b .file))
         (putMachine-same (b .machine) small′) (putRun-same (b .run) small (run-fits b fit)) in
         (sym (holds b fit w same limit), sym (counts b fit w same limit))
     go false unfit = (sym (idle b unfit limit), sym (idle-count b unfit limit))

@@ -19,9 +19,10 @@ pub record Buffers : Type 0 where
   pub run : List ℕ
   pub step : List ℕ
   pub steps : List ℕ
+  pub file : List ℕ
 
-abbrev pub buffers : (machine registers marks scalars memory run step steps : List ℕ) → Buffers
-buffers machine registers marks scalars memory run step steps = record {
+abbrev pub buffers : (machine registers marks scalars memory run step steps file : List ℕ) → Buffers
+buffers machine registers marks scalars memory run step steps file = record {
   machine = machine;
   registers = registers;
   marks = marks;
@@ -30,6 +31,7 @@ buffers machine registers marks scalars memory run step steps = record {
   run = run;
   step = step;
   steps = steps;
+  file = file;
 }
 
 -- ---- calls
@@ -40,7 +42,7 @@ buffers machine registers marks scalars memory run step steps = record {
 -- and between them the host writes its buffers, all but registers and marks, as it likes
 pub data Call : Type 0 where
   start : (rlen mlen elen rule sealStart sealLength : ℕ) → Call
-  step : (word : ℕ) → Call
+  step : (word group : ℕ) → Call
   runStart : Plan → Call
   runNext : Call
   runTurn : Call
@@ -60,49 +62,49 @@ pub record Called : Type 0 where
 abbrev pub afterStart : Buffers → HostStarted → Called
 afterStart b o = record {
   result = o .result;
-  after = buffers (o .machine) (o .registers) (o .marks) (b .scalars) (b .memory) (b .run) (b .step) (b .steps);
+  after = buffers (o .machine) (o .registers) (o .marks) (b .scalars) (b .memory) (b .run) (b .step) (b .steps) (b .file);
 }
 
 abbrev pub afterStep : Buffers → HostStepped → Called
 afterStep b o = record {
   result = o .result;
-  after = buffers (o .machine) (o .registers) (o .marks) (o .scalars) (o .memory) (b .run) (b .step) (b .steps);
+  after = buffers (o .machine) (o .registers) (o .marks) (o .scalars) (o .memory) (b .run) (b .step) (b .steps) (o .file);
 }
 
 abbrev pub afterRunStart : Buffers → HostRunStarted → Called
 afterRunStart b o = record {
   result = o .result;
-  after = buffers (o .machine) (o .registers) (o .marks) (b .scalars) (o .memory) (o .run) (b .step) (b .steps);
+  after = buffers (o .machine) (o .registers) (o .marks) (b .scalars) (o .memory) (o .run) (b .step) (b .steps) (b .file);
 }
 
 abbrev pub afterNext : Buffers → HostNext → Called
 afterNext b o = record {
   result = o .result;
-  after = buffers (b .machine) (b .registers) (b .marks) (b .scalars) (b .memory) (o .run) (o .step) (b .steps);
+  after = buffers (b .machine) (b .registers) (b .marks) (b .scalars) (b .memory) (o .run) (o .step) (b .steps) (b .file);
 }
 
 abbrev pub afterTurn : Buffers → HostTurned → Called
 afterTurn b o = record {
   result = o .result;
-  after = buffers (o .machine) (o .registers) (o .marks) (b .scalars) (o .memory) (o .run) (b .step) (b .steps);
+  after = buffers (o .machine) (o .registers) (o .marks) (b .scalars) (o .memory) (o .run) (b .step) (b .steps) (b .file);
 }
 
 abbrev pub afterRun : Buffers → HostRan → Called
 afterRun b o = record {
   result = o .result;
-  after = buffers (o .machine) (o .registers) (o .marks) (b .scalars) (o .memory) (b .run) (b .step) (o .steps);
+  after = buffers (o .machine) (o .registers) (o .marks) (b .scalars) (o .memory) (b .run) (b .step) (o .steps) (b .file);
 }
 
 abbrev pub afterRead : Buffers → HostRead → Called
 afterRead b o = record {
   result = o .result;
-  after = buffers (o .machine) (o .registers) (o .marks) (b .scalars) (b .memory) (b .run) (b .step) (b .steps);
+  after = buffers (o .machine) (o .registers) (o .marks) (b .scalars) (b .memory) (b .run) (b .step) (b .steps) (b .file);
 }
 
 abbrev pub called : Call → Buffers → Called
 called (Call.start rlen mlen elen rule sealStart sealLength) b =
     afterStart b (hostStart rlen mlen elen rule sealStart sealLength (b .machine) (b .registers) (b .marks))
-called (Call.step word) b = afterStep b (hostStep word (b .machine) (b .registers) (b .marks) (b .scalars) (b .memory))
+called (Call.step word group) b = afterStep b (hostStep word group (b .machine) (b .registers) (b .marks) (b .scalars) (b .memory) (b .file))
 called (Call.runStart P) b = afterRunStart b (hostRunStart P (b .machine) (b .registers) (b .marks) (b .memory) (b .run))
 called Call.runNext b = afterNext b (hostNext (b .run) (b .step))
 called Call.runTurn b = afterTurn b (hostTurn (b .run) (b .machine) (b .registers) (b .marks) (b .memory))
@@ -113,7 +115,7 @@ called (Call.imageWrite image) b = record { result = hostImageWrite (b .machine)
 called (Call.imageRead image) b = afterRead b (hostImageRead image (b .machine) (b .registers) (b .marks))
 called (Call.write w) b = record {
   result = 0;
-  after = buffers (w .machine) (b .registers) (b .marks) (w .scalars) (w .memory) (w .run) (w .step) (w .steps);
+  after = buffers (w .machine) (b .registers) (b .marks) (w .scalars) (w .memory) (w .run) (w .step) (w .steps) (w .file);
 }
 
 -- one call after another

@@ -57,7 +57,7 @@ PlanWords P = (j : ℕ) → getD (planNumbers P ++ (P .kind ∷ [])) j 0 < 2 ^ 6
 -- no byte of any buffer but the run's block changes
 pub record StartCall (P : Plan) (b : Buffers) (o : Called) : Type 0 where
   pub answered : (a : Reply) × (o .result ≡ a .number) × Answered P (benchIn b) a
-  pub unchanged : o .after ≡ buffers (b .machine) (b .registers) (b .marks) (b .scalars) (b .memory) (o .after .run) (b .step) (b .steps)
+  pub unchanged : o .after ≡ buffers (b .machine) (b .registers) (b .marks) (b .scalars) (b .memory) (o .after .run) (b .step) (b .steps) (b .file)
   -- "A refusal changes nothing lent or held.": the run's block too keeps what it held
   pub refused : ¬ (o .result ≡ 0) → o .after ≡ b
 
@@ -72,7 +72,7 @@ StartCallsAreRight = (P : Plan) (b : Buffers) → length (b .machine) ≡ machin
 abbrev pub with : Running → Buffers → Buffers
 with r b =
     buffers (putMachine (r .bench .machine) (b .machine)) (r .bench .registers) (r .bench .marks) (b .scalars) (r .bench .memory)
-    (putRun (r .run) (b .run)) (b .step) (b .steps)
+    (putRun (r .run) (b .run)) (b .step) (b .steps) (b .file)
 
 -- the job of a plan on the buffers at the call of bodlarina_run_start
 abbrev pub jobIn : Plan → Buffers → Job
@@ -85,7 +85,7 @@ afterTurnCalls P b t = afterCalls (Call.runStart P ∷ turnCalls t) b
 -- the buffers with a step in the step's block, and these bytes in the run's block
 abbrev pub handing : Handed → List ℕ → Buffers → Buffers
 handing h run b =
-    buffers (b .machine) (b .registers) (b .marks) (b .scalars) (b .memory) run (putHanded h (b .step)) (b .steps)
+    buffers (b .machine) (b .registers) (b .marks) (b .scalars) (b .memory) run (putHanded h (b .step)) (b .steps) (b .file)
 
 pub record TurnCalls (P : Plan) (b : Buffers) (t : ℕ) : Type 0 where
   -- the buffers hold the run, the machine, the registers, the marks and the memory that t turns of demand 3 leave
@@ -130,7 +130,7 @@ TurnsAreTurnCalls = (limit : ℕ) (b : Buffers) → Bytes (b .run) → Bytes (b 
 -- the buffers of b with what bodlarina_run is lent of c, and a count in the count's block
 abbrev pub counting : ℕ → Buffers → Buffers → Buffers
 counting n c b =
-    buffers (c .machine) (c .registers) (c .marks) (b .scalars) (c .memory) (b .run) (b .step) (putNumbers (n ∷ []) (b .steps))
+    buffers (c .machine) (c .registers) (c .marks) (b .scalars) (c .memory) (b .run) (b .step) (putNumbers (n ∷ []) (b .steps)) (b .file)
 
 -- It returns what bodlarina_run_start returns. Where that is 0 it leaves the machine's block, registers, marks and memory as this and s
 -- calls of bodlarina_run_turn after it do, and s in its count's block, where s is the number of steps; the run's block isn't lent to it.
@@ -152,7 +152,7 @@ SealedIn b q = In (machineOf (b .machine) .«seal_start») (machineOf (b .machin
 -- and the sealed bytes of memory stay, the rest may change.
 abbrev pub SparesSeal : Call → Buffers → Type 0
 SparesSeal (Call.start rlen mlen elen rule sealStart sealLength) b = ⊥
-SparesSeal (Call.step word) b = Unit {0}
+SparesSeal (Call.step word group) b = Unit {0}
 SparesSeal (Call.runStart P) b = Unit {0}
 SparesSeal Call.runNext b = Unit {0}
 SparesSeal Call.runTurn b = Unit {0}

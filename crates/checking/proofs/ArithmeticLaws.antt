@@ -18,13 +18,17 @@ use Rattle.machine.specs.Setting.{sew}
 use Rattle.machine.specs.Refusals.{needs}
 use Rattle.machine.proofs.CheckLaws.{Passed, passed}
 use Rattle.machine.proofs.CodeLaws.{verdict-append}
-use Rattle.tile.proofs.Room.{in-register}
+use Rattle.tile.specs.Checks.{RowsIn}
+use Rattle.tile.proofs.Room.{in-register, rows-end}
 use Rattle.checking.specs.declared.Placed.{Placed}
 use Rattle.checking.specs.Parts.{multiplyChecks, elementwiseChecks, sourceChecks, placedAs, MarksReady, AccumulatorFits}
 
 -- a tile and a width for which the marks are searched
 abbrev pub Room : ℕ → Placed → ℕ → Type 0
 Room len p w = (p .start + p .rows * p .pitch ≤ len) × (p .columns * w ≤ p .pitch)
+
+pub rows-room : (len : ℕ) (p : Placed) (w : ℕ) → Room len p w → RowsIn (p .start) (p .pitch) (p .rows) (p .columns * w) len × (p .columns * w ≤ p .pitch)
+rows-room len p w r = (rows-end (p .start) (p .pitch) (p .rows) (p .columns * w) len (r .0) (r .1), r .1)
 
 abbrev pub searched : List ℕ → Placed → ℕ → List Check
 searched marks p w = needs false marks (λ i. p .start + i * p .pitch) (p .rows) (p .columns) w ∷ []

@@ -17,7 +17,7 @@ ghost use Rattle.machine.specs.Tests.{every};
 ghost use Rattle.machine.specs.Listing.{field7, field15, field20, immediate13, listing, decode, ranged};
 ghost use Rattle.machine.specs.Geometry.{registerCount};
 ghost use Rattle.machine.specs.declared.Form.the-variants.{Plain, Transposed};
-ghost use Rattle.machine.specs.declared.Instruction.the-variants.{SetTypeImmediate, SetType, SetTileImmediate, SetTile, Load, Store, Multiply, Combine, Scale, ScaleImmediate, FloatMultiply};
+ghost use Rattle.machine.specs.declared.Instruction.the-variants.{SetTypeImmediate, SetType, SetTileImmediate, SetTile, Load, Store, Multiply, Combine, Scale, ScaleImmediate, FloatMultiply, MoveOut, MoveIn};
 ghost use Rattle.decode_table.specs.Table.{entryOf, restRight, meant, numbered, fixesZero};
 
 // Bits 11..7: rd, md or ms3.
@@ -245,6 +245,42 @@ fn scale_immediate(word: u32, factor: Factor) -> Instruction
     }
 }
 
+// A move of rows (plain) or columns (transposed) to vector registers.
+fn move_out(word: u32, form: Form) -> Instruction
+    ensures { λ r. ⌜ r ≡ ranged (MoveOut form (field7 word) (field15 word) (field20 word)) ⌝ }
+{
+    let ms1 = middle_field(word);
+    if ms1 >= 2 {
+        return Instruction::Illegal {
+            wrong: Wrong::Register,
+        };
+    }
+    Instruction::MoveOut {
+        form: form,
+        vd: low_field(word),
+        ms1: ms1,
+        rs2: high_field(word),
+    }
+}
+
+// And from vector registers.
+fn move_in(word: u32, form: Form) -> Instruction
+    ensures { λ r. ⌜ r ≡ ranged (MoveIn form (field7 word) (field15 word) (field20 word)) ⌝ }
+{
+    let md = low_field(word);
+    if md >= 2 {
+        return Instruction::Illegal {
+            wrong: Wrong::Register,
+        };
+    }
+    Instruction::MoveIn {
+        form: form,
+        md: md,
+        vs1: middle_field(word),
+        rs2: high_field(word),
+    }
+}
+
 // The table's entry for a word.
 fn number_of(word: u32) -> u8
     ensures { λ r. ⌜ r ≡ entryOf word ⌝ }
@@ -357,7 +393,23 @@ fn arithmetic(word: u32, number: u8) -> Instruction
     }
 }
 
-// Numbers above 108 are those of transposed loads and stores, with 100 added.
+// Moves: the entries 229, 230, 235 and 236; the others above 132 are left out.
+fn moving(word: u32, number: u8) -> Instruction
+    requires { ⌜ 132 < number ⌝ }
+    ensures { λ r. ⌜ r ≡ ranged (meant number word listing) ⌝ }
+{
+    match number {
+        229 => move_out(word, Form::Plain),
+        230 => move_in(word, Form::Plain),
+        235 => move_out(word, Form::Transposed),
+        236 => move_in(word, Form::Transposed),
+        _ => Instruction::Illegal {
+            wrong: Wrong::LeftOut,
+        },
+    }
+}
+
+// Of loads and stores, numbers above 108 are those of transposed ones, with 100 added.
 fn form_of(number: u8) -> Form
     ensures { λ r. ⌜ r ≡ cond (ltb 108 number) Transposed Plain ⌝ }
 {
@@ -400,9 +452,7 @@ fn meant(word: u32, number: u8) -> Instruction
     if number <= 108 {
         return arithmetic(word, number);
     }
-    Instruction::Illegal {
-        wrong: Wrong::LeftOut,
-    }
+    moving(word, number)
 }
 
 // Bits 24..20 of a word are what the entry with this number fixes.

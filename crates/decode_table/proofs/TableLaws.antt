@@ -5,7 +5,7 @@ use mathlib.Core.List.{List, [], _∷_}
 use Prim.Native.Nat.{ℕ, zero, suc, _+_, _*_, _/_, _^_, _<_, _≤_}
 use native.Mathlib.Omega.{arith}
 use lib.Dec.{eqb, leb}
-use lib.ListN.{getD, drop}
+use lib.ListN.{getD, take, drop}
 use borrow.Author.Tests.{eqb-true, eq-eqb, ne-eqb, not-true, le-leb, leb-true}
 use types.Run.{OneOf}
 use Rattle.machine.proofs.TestLaws.{and-left, and-right, or-right, same-test}
@@ -342,18 +342,24 @@ past n word lo hi (suc k) (r ∷ rs) a b h =
         either (leb (r .code .number) lo) (leb (suc hi) (r .code .number)) (and-left (leb (r .code .number) lo || leb (suc hi) (r .code .number)) (apart lo hi k rs) h)
         (λ t. let g = leb-true (r .code .number) lo t in omega arith) (λ t. let g = leb-true (suc hi) (r .code .number) t in omega arith)
 
--- 32 plain loads, stores and settings and 24 transposed ones stand before the others
-pub left-out : (n word : ℕ) → (32 < n) × (n ≤ 108) → Missed n (Unit {0}) (drop 56 listing) → Illegal LeftOut ≡ ranged (meant n word listing)
+-- 32 plain loads, stores and settings, 24 transposed ones and four moves stand before the others
+pub left-out : (n word : ℕ) → (32 < n) × (n ≤ 108) → Missed n (Unit {0}) (drop 60 listing) → Illegal LeftOut ≡ ranged (meant n word listing)
 unfolding listing
 left-out n word l m =
     let z : ¬ (n ≡ 0) = λ e. omega (arith, l .0) in
-    ap ranged (sym (past n word 32 108 56 listing (l .0) (l .1) refl ∙ missed-left n word (Unit {0}) (drop 56 listing) z m .1))
+    ap ranged (sym (past n word 32 108 60 listing (l .0) (l .1) refl ∙ missed-left n word (Unit {0}) (drop 60 listing) z m .1))
 
-pub too-large : (n word : ℕ) → 132 < n → Illegal LeftOut ≡ ranged (meant n word listing)
+-- the four moves, which 56 others precede and 19 follow
+abbrev pub Unmoved : ℕ → Type 0
+Unmoved n = Missed n (Unit {0}) (take 4 (drop 56 listing))
+
+pub too-large : (n word : ℕ) → 132 < n → Unmoved n → Illegal LeftOut ≡ ranged (meant n word listing)
 unfolding listing
-too-large n word l =
+too-large n word l m =
     let z : ¬ (n ≡ 0) = λ e. omega arith in
-    ap ranged (sym (past n word 132 n 75 listing l (omega arith) refl ∙ ap (λ (t : Bool). Illegal (cond t Unlisted LeftOut)) (ne-eqb n 0 z)))
+    let four : meant n word (drop 56 listing) ≡ meant n word (drop 60 listing) = rw (ne-eqb n 229 (m .0 .0 .0 .1), ne-eqb n 230 (m .0 .0 .1), ne-eqb n 235 (m .0 .1), ne-eqb n 236 (m .1)) in
+    ap ranged (sym (past n word 132 n 56 listing l (omega arith) refl ∙ four ∙ past n word 132 n 19 (drop 60 listing) l (omega arith) refl
+    ∙ ap (λ (t : Bool). Illegal (cond t Unlisted LeftOut)) (ne-eqb n 0 z)))
 
 -- a load or store of either form
 pub numbered-at : (n k word : ℕ) (f : Form) (i : Form → Instruction) → n ≡ k → i Plain ≡ meant k word listing → i Transposed ≡ meant (100 + k) word listing

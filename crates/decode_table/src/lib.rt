@@ -1,6 +1,6 @@
 // The decode table: 1,024 entries. A block for each value of bits 31..28 of a word, in it a row for each value of bits 27..25, and in
 // that an entry for each value of bits 14..12, from 000 to 111: the number of the entry of section 4.5 that has these bits (with 100
-// added for a transposed load or store, whose numbers are printed twice), or 0. A setting with an immediate has data in bits 27..25, so
+// added for a transposed load or store, whose numbers are printed twice) or of a move of section 6.1.7 (with 200 added), or 0. A setting with an immediate has data in bits 27..25, so
 // it fills the last column of its block.
 ghost use mathlib.Core.Path.{_≡_};
 ghost use Prim.Native.Nat.{_<_};
@@ -10,8 +10,8 @@ ghost use Rattle.decode_table.specs.Table.{numbers};
 
 // 111: msettypei, with data in bits 27..25
 const CODES_0000: [[u8; 8]; 8] = [
-    [17, 18, 19, 20, 0, 0, 33, 1], // 000: mlce8.m to mlce64.m, mma.mm
-    [29, 30, 31, 32, 0, 0, 34, 1], // 001: msce8.m to msce64.m, mfma.mm
+    [17, 18, 19, 20, 0, 229, 33, 1], // 000: mlce8.m to mlce64.m, mmvcr.v.m, mma.mm
+    [29, 30, 31, 32, 0, 230, 34, 1], // 001: msce8.m to msce64.m, mmvcr.m.v, mfma.mm
     [9, 10, 11, 12, 0, 0, 35, 1], // 010: mlae8.m to mlae64.m, mwma.mm
     [21, 22, 23, 24, 0, 0, 36, 1], // 011: msae8.m to msae64.m, mfwma.mm
     [13, 14, 15, 16, 0, 0, 37, 1], // 100: mlbe8.m to mlbe64.m, mqma.mm
@@ -22,8 +22,8 @@ const CODES_0000: [[u8; 8]; 8] = [
 
 // 111: msettype
 const CODES_0001: [[u8; 8]; 8] = [
-    [117, 118, 119, 120, 0, 0, 38, 2], // 000: mlcte8.m to mlcte64.m, maddc.mm
-    [129, 130, 131, 132, 0, 0, 39, 0], // 001: mscte8.m to mscte64.m, mfaddc.mm
+    [117, 118, 119, 120, 0, 235, 38, 2], // 000: mlcte8.m to mlcte64.m, mmvcc.v.m, maddc.mm
+    [129, 130, 131, 132, 0, 236, 39, 0], // 001: mscte8.m to mscte64.m, mmvcc.m.v, mfaddc.mm
     [109, 110, 111, 112, 0, 0, 40, 0], // 010: mlate8.m to mlate64.m, mwaddc.mm
     [121, 122, 123, 124, 0, 0, 41, 0], // 011: msate8.m to msate64.m, mfwaddc.mm
     [113, 114, 115, 116, 0, 0, 42, 0], // 100: mlbte8.m to mlbte64.m, mqaddc.mm

@@ -1,6 +1,6 @@
 -- The promise is kept.
-use Rattle.machine.proofs.Refusal.{refusal-changes-nothing, start-refusal-changes-nothing}
-use Rattle.machine.proofs.NoFault.{step-sound, start-sound}
+use Rattle.machine.proofs.Refusal.{step-refusal-changes-nothing, start-refusal-changes-nothing}
+use Rattle.machine.proofs.NoFault.{step-keeps-sound, step-keeps-file, start-sound}
 use Rattle.machine.proofs.Stores.{stores-are-exact}
 use Rattle.machine.proofs.SizeLaws.{chosen-grants}
 use Rattle.machine.proofs.Sealing.{seal-holds, seal-holds-from-start}
@@ -20,6 +20,7 @@ use Rattle.calls.proofs.Seal.{seal-holds-over-calls, seal-holds-from-start-call
 use Rattle.calls.proofs.Runs.{start-calls-are-right, turn-calls-are-right, run-is-turn-calls}
 use Rattle.calls.proofs.Turns.{turns-are-turn-calls}
 use Rattle.transposed.proofs.Transposed.{load-then-store-transposes}
+use Rattle.slices.proofs.MovedBack.{out-and-back-restores}
 use Rattle.exact.proofs.Exact.{float-runs-are-exact, whole-runs-are-exact}
 use Rattle.exact.proofs.Examples.{two-terms}
 use Rattle.decode_table.proofs.TableLaws.{table-agrees, table-decodes}
@@ -38,7 +39,7 @@ pub promise : Promise
 promise = record {
   demand-1 = record {
     start = start-refusal-changes-nothing;
-    word = refusal-changes-nothing;
+    word = step-refusal-changes-nothing;
     run-start = run-start-changes-nothing;
     asking = ask-refusal-changes-nothing;
     turn = turn-refusal-changes-nothing;
@@ -63,7 +64,7 @@ promise = record {
   demand-2 = record {
     words = word-refusals;
     stores = stores-are-exact;
-    keeps-sound = step-sound;
+    keeps-sound = step-keeps-sound;
     start-sound = start-sound;
     seal-words = seal-holds;
     seal-words-from-start = seal-holds-from-start;
@@ -122,5 +123,7 @@ promise = record {
     nine-c-call = call-ignores-unmarked;
     nine-c-calls = calls-ignore-unmarked;
     nine-c-image-write = image-write-ignores-unmarked;
+    eleven = out-and-back-restores;
+    eleven-file = step-keeps-file;
   };
 }

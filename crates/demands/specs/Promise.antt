@@ -1,7 +1,7 @@
 -- All that is promised of the definitions and of the C functions, in one record: a part for each demand of document 01, and one for the
 -- statements that a request of document 02 asks for. Each line names a statement, which stands in the file that is named at the top.
 -- proofs/Promise.antt has one term of this type. That the code is its definitions is not said here, but by the contracts in src/.
-use Rattle.machine.specs.Theorems.{RefusalChangesNothing, StartRefusalChangesNothing, StepKeepsSound, StartIsSound, StoresAreExact, RulesKeepConstraints, SealHolds, SealHoldsFromStart}
+use Rattle.machine.specs.Theorems.{RefusalChangesNothing, StartRefusalChangesNothing, StepKeepsSound, StepKeepsFile, StartIsSound, StoresAreExact, RulesKeepConstraints, SealHolds, SealHoldsFromStart}
 use Rattle.machine.specs.WordTheorems.{WordRefusals, NothingElseMoved, AddedGotOne}
 use Rattle.run.specs.Theorems.{RunStartChangesNothing, AskRefusalChangesNothing, TurnRefusalChangesNothing, NoTurnChangesNothing, WholeRefusalChangesNothing, SealHoldsOverActs, SealHoldsOverActsFromStart}
 use Rattle.run.specs.Statement.{RunsAreRight, OurRunsAreRight, SmallerRunsAreRight, HalvingRunsAreRight}
@@ -13,6 +13,7 @@ use Rattle.turn_calls.specs.Theorems.{TurnRefusalChangesNoByte, NoTurnChangesNo
 use Rattle.image_calls.specs.Theorems.{ImageWriteRefusalChangesNoByte, ImageReadRefusalChangesNoByte, ImageSizePacksWhole, ImageWritePacksWhole, ImageReadPacksWhole}
 use Rattle.calls.specs.Composed.{StartCallsAreRight, TurnCallsAreRight, TurnsAreTurnCalls, RunIsTurnCalls, SealHoldsOverCalls, SealHoldsFromStartCall}
 use Rattle.transposed.specs.Transposed.{LoadThenStoreTransposes}
+use Rattle.slices.specs.MovedBack.{OutAndBackRestores}
 use Rattle.exact.specs.Exact.{FloatRunsAreExact, WholeRunsAreExact}
 use Rattle.exact.specs.Examples.{TwoTerms}
 use Rattle.decode_table.specs.Table.{TableAgrees, TableDecodes}
@@ -82,7 +83,8 @@ pub record Demand3 : Type 0 where
   pub c-many : TurnsAreTurnCalls
   pub c-run : RunIsTurnCalls
 
--- 02, where a request asks for a statement of its own: One, Two, Four, Five, Six and Nine. Of Three, Seven and Eight the statements above speak
+-- 02, where a request asks for a statement of its own: One, Two, Four, Five, Six, Nine and Eleven. Of Three, Seven and Eight the statements
+-- above speak
 pub record Requests : Type 1 where
   pub one-nothing-else : NothingElseMoved
   pub one-added : AddedGotOne
@@ -120,6 +122,9 @@ pub record Requests : Type 1 where
   pub nine-c-call : CallIgnoresUnmarked
   pub nine-c-calls : CallsIgnoreUnmarked
   pub nine-c-image-write : ImageWriteIgnoresUnmarked
+  -- Eleven: of a slice, and of the vector file
+  pub eleven : OutAndBackRestores
+  pub eleven-file : StepKeepsFile
 
 pub record Promise : Type 1 where
   pub demand-1 : Demand1

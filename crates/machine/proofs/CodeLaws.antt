@@ -12,7 +12,7 @@ use Rattle.machine.specs.declared.Answer.{Answer}
 use Rattle.machine.specs.declared.Answer.the-variants.{Done, IllegalWord, IllegalType, BadWidth, TileTooLarge, Unwritten, OutsideMemory, SealedByte, BadArguments, Overlap, WrongOpcode, LeftOutWord, WrongRegister, RowsOverlap}
 use Rattle.machine.specs.declared.Wrong.the-variants.{Opcode, Register}
 use Rattle.machine.specs.declared.Instruction.{Instruction}
-use Rattle.machine.specs.declared.Instruction.the-variants.{Illegal, SetTypeImmediate, SetType, SetTileImmediate, SetTile, Load, Store, Multiply, Combine, Scale, ScaleImmediate, FloatMultiply}
+use Rattle.machine.specs.declared.Instruction.the-variants.{Illegal, SetTypeImmediate, SetType, SetTileImmediate, SetTile, Load, Store, Multiply, Combine, Scale, ScaleImmediate, FloatMultiply, MoveOut, MoveIn}
 use Rattle.machine.specs.Tests.{all, every, isIn}
 use Rattle.machine.proofs.TestLaws.{all-at, each, each-in, and-left, and-right, false-true}
 use Rattle.machine.specs.Answers.{reply, done, Check, verdict, isDone}
@@ -162,6 +162,8 @@ bounded (Combine sum factor md ms1) = true
 bounded (Scale factor md ms1 rs2) = ltb rs2 32
 bounded (ScaleImmediate factor md ms1 immediate) = ltb immediate 32
 bounded (FloatMultiply md ms1 ms2) = true
+bounded (MoveOut form vd ms1 rs2) = every (ltb vd 32 ∷ ltb rs2 32 ∷ [])
+bounded (MoveIn form md vs1 rs2) = every (ltb vs1 32 ∷ ltb rs2 32 ∷ [])
 
 -- every row of the listing gives such an instruction
 abbrev pub allRows : (Instruction → Bool) → ℕ → List Row → Bool

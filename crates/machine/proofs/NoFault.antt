@@ -14,7 +14,7 @@ use borrow.Author.Tests.{le-leb, lt-ltb, eq-eqb, leb-true, ltb-true, eqb-true}
 use Rattle.width.proofs.UptoLaws.{upto-keeps}
 use Rattle.width.specs.Tile.{markTile, markRow}
 use Rattle.width.proofs.TileLaws.{length-putTile, length-markTile}
-use Rattle.width.specs.Blocks.{Grants}
+use Rattle.width.specs.Blocks.{Grants, EachGrants}
 use Rattle.width.proofs.BlockLaws.{le-or-lt, at-most}
 use Rattle.machine.specs.declared.Machine.{Machine}
 use Rattle.machine.specs.declared.Dimension.the-variants.{DimensionM, DimensionK, DimensionN}
@@ -27,14 +27,16 @@ use Rattle.machine.specs.Geometry.{Parameters, parameters, State, stateO
 use Rattle.machine.proofs.StepLaws.{permitted-elen}
 use Rattle.machine.specs.Setting.{legalType, newType, maxK, maxN, sew}
 use Rattle.machine.specs.Operation
-use Rattle.machine.specs.Operation.{Operation, stateAfter, written}
+use Rattle.machine.specs.Operation.{Operation, stateAfter, vectorsAfter, written}
+use Rattle.machine.specs.Vectors.{Vectors, vectorsFit, idle}
 use Rattle.machine.specs.Faults.{sound}
 use Rattle.machine.specs.Starting.{isRule, sealEnds, startable, startMachine, StartOutcome, freshMachine, noMachine}
-use Rattle.machine.specs.Theorems.{StepKeepsSound, StartIsSound}
+use Rattle.machine.specs.Theorems.{StepKeepsSound, StepKeepsFile, StartIsSound}
 use Rattle.machine.specs.declared.Answer.the-variants.{Done, BadArguments}
 use Rattle.machine.specs.Listing
 use Rattle.machine.specs.Step
-use Rattle.machine.specs.Step.{outcome, stepBy, stepChecks, meant, given, left}
+use Rattle.machine.specs.Step.{VectorOutcome, beside, outcome, outcomeIn, vectorsIn, stepBy, stepWith, checksIn, meantIn, givenIn, leftIn}
+use Rattle.machine.specs.Geometry.{Bench}
 
 -- what is right with the state of a machine of so many rows and bytes of a row, this ELEN, and so many bytes of all registers
 pub record Sane (rows pitch elen total : ℕ) (st : State) : Type 0 where
@@ -233,12 +235,51 @@ module _ (M : Parameters) (G : Grants (M .grant)) (total : ℕ) where
   sane-after (Operation.multiply f d a b) st mem h = wrote st _ _ _ _ _ h
   sane-after (Operation.scale f d a x) st mem h = wrote st _ _ _ _ _ h
   sane-after (Operation.floatMultiply d a b) st mem h = wrote st _ _ _ _ _ h
+  sane-after (Operation.moveOut f a v first count) st mem h = h
+  sane-after (Operation.moveIn f d v first count file) st mem h = wrote st _ _ _ _ _ h
 
 -- ---- no step leaves a machine at fault
 
-pub step-sound : StepKeepsSound
+outcome-sound : (grant : ℕ → ℕ → ℕ → ℕ) → EachGrants grant → (i : Instruction) (xs : List ℕ) (W : Vectors) (B : Bench) → soundBench B ≡ true
+    → soundBench (outcomeIn W (parameters grant (B .machine)) i xs B .bench) ≡ true
+outcome-sound grant G i xs W B h = go (isDone (verdict (checksIn W M i xs B)))
+  where
+    M : Parameters
+    M = parameters grant (B .machine)
+
+    s : Sound (B .machine) (B .registers) (B .marks)
+    s = sound-is (B .machine) (B .registers) (B .marks) h
+
+    l : State
+    l = leftIn W M i xs B
+
+    after : Sane (M .rows) (M .pitch) (M .elen) (registerBytes (B .machine .mlen)) l
+    after = sane-after M (G (B .machine .rule)) (registerBytes (B .machine .mlen)) (meantIn W M i xs B) (givenIn W M i xs B) (B .memory) (s .state)
+
+    go : (t : Bool) → soundBench (cond t (Step.carriedIn W M i xs B) (Step.refusedIn W M i xs B (verdict (checksIn W M i xs B))) .bench) ≡ true
+    go true = sound-true (machineAfter (B .machine) l) (l .regs) (l .marks) (record { lengths = s .lengths; rule-is = s .rule-is; seal-ends = s .seal-ends; state = after })
+    go false = h
+
+pub step-keeps-sound : StepKeepsSound
+unfolding stepWith
+step-keeps-sound grant G word xs W B h = go (vectorsFit W)
+  where
+    o : VectorOutcome
+    o = beside (vectorsIn W (parameters grant (B .machine)) (Listing.decode word) xs B) (outcomeIn W (parameters grant (B .machine)) (Listing.decode word) xs B)
+
+    go : (t : Bool) → soundBench (cond t o (beside (W .file) (Step.refusedIn W (parameters grant (B .machine)) (Listing.decode word) xs B BadArguments)) .bench) ≡ true
+    go true = outcome-sound grant G (Listing.decode word) xs W B h
+    go false = h
+
+pub step-sound : (grant : ℕ → ℕ → ℕ → ℕ) → EachGrants grant → (word : ℕ) (xs : List ℕ) (B : Bench) → soundBench B ≡ true → soundBench (stepBy grant word xs B .bench) ≡ true
 unfolding stepBy outcome
-step-sound grant G word xs B h = go (isDone (verdict (stepChecks M i xs B)))
+step-sound grant G word xs B h = outcome-sound grant G (Listing.decode word) xs idle B h
+
+-- ---- and none changes the length of the vector file
+
+pub step-keeps-file : StepKeepsFile
+unfolding stepWith
+step-keeps-file grant word xs W B = go (vectorsFit W) (isDone (verdict (checksIn W M i xs B)))
   where
     M : Parameters
     M = parameters grant (B .machine)
@@ -246,15 +287,26 @@ step-sound grant G word xs B h = go (isDone (verdict (stepChecks M i xs B)))
     i : Instruction
     i = Listing.decode word
 
-    s : Sound (B .machine) (B .registers) (B .marks)
-    s = sound-is (B .machine) (B .registers) (B .marks) h
+    after : (o : Operation) (st : State) → length (vectorsAfter M o st (W .file)) ≡ length (W .file)
+    after (Operation.illegal wrong) st = refl
+    after (Operation.setType v) st = refl
+    after (Operation.setSize d a) st = refl
+    after (Operation.cutSize d) st = refl
+    after (Operation.load f k r w b s) st = refl
+    after (Operation.store f k r w b s) st = refl
+    after (Operation.multiply f d a b) st = refl
+    after (Operation.combine o f d a) st = refl
+    after (Operation.scale f d a x) st = refl
+    after (Operation.floatMultiply d a b) st = refl
+    after (Operation.moveOut f a v first count) st = length-putTile _ _ _ _ _ (W .file)
+    after (Operation.moveIn f d v first count file) st = refl
 
-    after : Sane (M .rows) (M .pitch) (M .elen) (registerBytes (B .machine .mlen)) (left M i xs B)
-    after = sane-after M (G (B .machine .rule)) (registerBytes (B .machine .mlen)) (meant M i xs B) (given M i xs B) (B .memory) (s .state)
-
-    go : (t : Bool) → soundBench (cond t (Step.carriedOut M i xs B) (Step.refused M i xs B (verdict (stepChecks M i xs B))) .bench) ≡ true
-    go true = sound-true (machineAfter (B .machine) (left M i xs B)) (left M i xs B .regs) (left M i xs B .marks) (record { lengths = s .lengths; rule-is = s .rule-is; seal-ends = s .seal-ends; state = after })
-    go false = h
+    go : (t u : Bool)
+        → length (cond t (beside (cond u (vectorsAfter M (meantIn W M i xs B) (givenIn W M i xs B) (W .file)) (W .file)) (outcomeIn W M i xs B)) (beside (W .file) (Step.refusedIn W M i xs B BadArguments)) .vectors)
+        ≡ length (W .file)
+    go true true = after (meantIn W M i xs B) (givenIn W M i xs B)
+    go true false = refl
+    go false u = refl
 
 -- ---- and no start either
 

@@ -4,14 +4,38 @@ use mathlib.Core.Bool.{Bool, true, false, cond}
 use lib.ListN.{length, replicate}
 use Rattle.machine.specs.declared.Answer.the-variants.{Done, BadArguments}
 use Rattle.machine.specs.Answers.{reply, isDone, verdict}
-use Rattle.machine.specs.Geometry.{parameters}
+use Rattle.machine.specs.Geometry.{Parameters, parameters, Bench}
 use Rattle.machine.specs.Listing.{decode}
 use Rattle.machine.specs.Starting.{StartOutcome, startable, startMachine, freshMachine, noMachine}
 use Rattle.machine.specs.Step
-use Rattle.machine.specs.Step.{Outcome, outcome, stepBy, stepChecks}
+use Rattle.machine.specs.Step.{Outcome, VectorOutcome, beside, outcome, stepBy, stepWith, stepChecks, checksIn, meantIn, givenIn}
+use Rattle.machine.specs.Operation.{vectorsAfter}
+use Rattle.machine.specs.Vectors.{vectorsFit}
+use Prim.Native.Nat.{ℕ}
+use mathlib.Core.List.{List}
 use Rattle.machine.specs.Theorems.{RefusalChangesNothing, StartRefusalChangesNothing}
 
-pub refusal-changes-nothing : RefusalChangesNothing
+pub step-refusal-changes-nothing : RefusalChangesNothing
+unfolding stepWith
+step-refusal-changes-nothing grant word xs W B h = go (vectorsFit W) (isDone (verdict (checksIn W M (decode word) xs B))) h
+  where
+    M : Parameters
+    M = parameters grant (B .machine)
+
+    out : Bool → Bool → VectorOutcome
+    out t u = cond t
+        (beside (cond u (vectorsAfter M (meantIn W M (decode word) xs B) (givenIn W M (decode word) xs B) (W .file)) (W .file))
+        (cond u (Step.carriedIn W M (decode word) xs B) (Step.refusedIn W M (decode word) xs B (verdict (checksIn W M (decode word) xs B)))))
+        (beside (W .file) (Step.refusedIn W M (decode word) xs B BadArguments))
+
+    go : (t u : Bool) → ¬ (out t u .answer .number ≡ 0) → (out t u .bench ≡ B) × (out t u .scalars ≡ xs) × (out t u .vectors ≡ W .file)
+    go true true d = absurd (d refl)
+    go true false d = (refl, refl, refl)
+    go false u d = (refl, refl, refl)
+
+-- of a step that is lent no vector file
+pub refusal-changes-nothing : (grant : ℕ → ℕ → ℕ → ℕ) (word : ℕ) (xs : List ℕ) (B : Bench) → ¬ (stepBy grant word xs B .answer .number ≡ 0)
+    → (stepBy grant word xs B .bench ≡ B) × (stepBy grant word xs B .scalars ≡ xs)
 unfolding stepBy outcome
 refusal-changes-nothing grant word xs B h = go (isDone (verdict (stepChecks (parameters grant (B .machine)) (decode word) xs B))) h
   where

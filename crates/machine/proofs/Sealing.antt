@@ -26,7 +26,9 @@ use Rattle.machine.specs.Starting.{startable, startMachine, StartOutcome
 use Rattle.machine.specs.Theorems.{Unharmed, SealHolds, SealHoldsFromStart, startedBench}
 use lib.ListN.{replicate}
 use Rattle.machine.specs.Step
-use Rattle.machine.specs.Step.{outcome, stepBy, stepChecks, meant, given}
+use Rattle.machine.specs.Step.{VectorOutcome, beside, outcome, outcomeIn, vectorsIn, stepBy, stepWith, checksIn, meantIn, givenIn}
+use Rattle.machine.specs.Vectors.{Vectors, vectorsFit, idle}
+use Rattle.machine.specs.declared.Form.the-variants.{Plain, Transposed}
 
 -- ---- one operation
 
@@ -45,6 +47,9 @@ refusing M (Operation.multiply f d a b) st mem = refl
 refusing M (Operation.combine o f d a) st mem = refl
 refusing M (Operation.scale f d a x) st mem = refl
 refusing M (Operation.floatMultiply d a b) st mem = refl
+refusing M (Operation.moveOut Plain a v first count) st mem = refl
+refusing M (Operation.moveOut Transposed a v first count) st mem = refl
+refusing M (Operation.moveIn f d v first count file) st mem = refl
 
 module _ (M : Parameters) (st : State) (mem : List ℕ) where
   pub operation-length : (o : Operation) → length (memoryAfter M o st mem) ≡ length mem
@@ -58,6 +63,8 @@ module _ (M : Parameters) (st : State) (mem : List ℕ) where
   operation-length (Operation.combine o f d a) = refl
   operation-length (Operation.scale f d a x) = refl
   operation-length (Operation.floatMultiply d a b) = refl
+  operation-length (Operation.moveOut f a v first count) = refl
+  operation-length (Operation.moveIn f d v first count file) = refl
 
   operation-sealed : (o : Operation) → Passed (checks M o st mem) → (q : ℕ) → sealed M q ≡ true → getD (memoryAfter M o st mem) q 0 ≡ getD mem q 0
   operation-sealed (Operation.illegal wrong) p q h = refl
@@ -72,37 +79,51 @@ module _ (M : Parameters) (st : State) (mem : List ℕ) where
   operation-sealed (Operation.combine o f d a) p q h = refl
   operation-sealed (Operation.scale f d a x) p q h = refl
   operation-sealed (Operation.floatMultiply d a b) p q h = refl
+  operation-sealed (Operation.moveOut f a v first count) p q h = refl
+  operation-sealed (Operation.moveIn f d v first count file) p q h = refl
 
 -- ---- one step
 
-pub step-unharmed : (grant : ℕ → ℕ → ℕ → ℕ) (word : ℕ) (xs : List ℕ) (B : Bench) → Unharmed grant B (stepBy grant word xs B .bench)
-unfolding stepBy outcome
-step-unharmed grant word xs B = go (isDone (verdict (stepChecks M i xs B))) refl
+outcome-unharmed : (grant : ℕ → ℕ → ℕ → ℕ) (i : Instruction) (xs : List ℕ) (W : Vectors) (B : Bench)
+    → Unharmed grant B (outcomeIn W (parameters grant (B .machine)) i xs B .bench)
+outcome-unharmed grant i xs W B = go (isDone (verdict (checksIn W M i xs B))) refl
   where
     M : Parameters
     M = parameters grant (B .machine)
 
-    i : Instruction
-    i = decode word
-
-    go : (t : Bool) → isDone (verdict (stepChecks M i xs B)) ≡ t
-        → Unharmed grant B (cond t (Step.carriedOut M i xs B) (Step.refused M i xs B (verdict (stepChecks M i xs B))) .bench)
+    go : (t : Bool) → isDone (verdict (checksIn W M i xs B)) ≡ t
+        → Unharmed grant B (cond t (Step.carriedIn W M i xs B) (Step.refusedIn W M i xs B (verdict (checksIn W M i xs B))) .bench)
     go true e =
-        let p = passed (stepChecks M i xs B) (refusing M (meant M i xs B) (given M i xs B) (B .memory)) e in
+        let p = passed (checksIn W M i xs B) (refusing M (meantIn W M i xs B) (givenIn W M i xs B) (B .memory)) e in
         record {
           same-parameters = refl;
-          same-length = operation-length M (given M i xs B) (B .memory) (meant M i xs B);
-          same-bytes = operation-sealed M (given M i xs B) (B .memory) (meant M i xs B) (p .1 .1);
+          same-length = operation-length M (givenIn W M i xs B) (B .memory) (meantIn W M i xs B);
+          same-bytes = operation-sealed M (givenIn W M i xs B) (B .memory) (meantIn W M i xs B) (p .1 .1);
         }
     go false e = record { same-parameters = refl; same-length = refl; same-bytes = λ q h. refl }
+
+pub step-with-unharmed : (grant : ℕ → ℕ → ℕ → ℕ) (word : ℕ) (xs : List ℕ) (W : Vectors) (B : Bench) → Unharmed grant B (stepWith grant word xs W B .bench)
+unfolding stepWith
+step-with-unharmed grant word xs W B = go (vectorsFit W)
+  where
+    o : VectorOutcome
+    o = beside (vectorsIn W (parameters grant (B .machine)) (decode word) xs B) (outcomeIn W (parameters grant (B .machine)) (decode word) xs B)
+
+    go : (t : Bool) → Unharmed grant B (cond t o (beside (W .file) (Step.refusedIn W (parameters grant (B .machine)) (decode word) xs B BadArguments)) .bench)
+    go true = outcome-unharmed grant (decode word) xs W B
+    go false = record { same-parameters = refl; same-length = refl; same-bytes = λ q h. refl }
+
+pub step-unharmed : (grant : ℕ → ℕ → ℕ → ℕ) (word : ℕ) (xs : List ℕ) (B : Bench) → Unharmed grant B (stepBy grant word xs B .bench)
+unfolding stepBy outcome
+step-unharmed grant word xs B = outcome-unharmed grant (decode word) xs idle B
 
 -- ---- any number of steps
 
 pub seal-holds : SealHolds
 seal-holds grant [] B = record { same-parameters = refl; same-length = refl; same-bytes = λ q h. refl }
 seal-holds grant (w ∷ ws) B =
-    let u = step-unharmed grant (w .word) (w .scalars) B in
-    let v = seal-holds grant ws (stepBy grant (w .word) (w .scalars) B .bench) in
+    let u = step-with-unharmed grant (w .word) (w .scalars) (w .vectors) B in
+    let v = seal-holds grant ws (stepWith grant (w .word) (w .scalars) (w .vectors) B .bench) in
     record {
       same-parameters = v .same-parameters ∙ u .same-parameters;
       same-length = v .same-length ∙ u .same-length;

@@ -135,6 +135,15 @@ within-not p n q h x = false-true (rw (in-within p n q x) at h)
 
 -- ---- the first number below n that passes, and n if none does
 
+pub first-le : (n : ℕ) (p : ℕ → Bool) → first n p ≤ n
+first-le zero p = omega arith
+first-le (suc n) p = go (ltb (first n p) n) (p n) (first-le n p)
+  where
+    go : (s t : Bool) → first n p ≤ n → cond s (first n p) (cond t n (suc n)) ≤ suc n
+    go true t h = omega arith
+    go false true h = omega arith
+    go false false h = omega arith
+
 pub first-none : (n : ℕ) (p : ℕ → Bool) → ((i : ℕ) → i < n → p i ≡ false) → first n p ≡ n
 first-none zero p h = refl
 first-none (suc n) p h = rw (first-none n p (λ i l. h i (omega arith)), le-ltb n n (omega arith), h n (omega arith))

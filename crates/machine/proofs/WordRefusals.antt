@@ -12,18 +12,20 @@ use Rattle.machine.specs.declared.Answer.the-variants.{IllegalWord, BadA
 use Rattle.machine.specs.declared.Wrong.{Wrong}
 use Rattle.machine.specs.declared.Wrong.the-variants.{Opcode, LeftOut, Unlisted, Register}
 use Rattle.machine.specs.declared.Instruction.{Instruction}
-use Rattle.machine.specs.declared.Instruction.the-variants.{Illegal, SetTypeImmediate, SetType, SetTileImmediate, SetTile, Load, Store, Multiply, Combine, Scale, ScaleImmediate, FloatMultiply}
+use Rattle.machine.specs.declared.Instruction.the-variants.{Illegal, SetTypeImmediate, SetType, SetTileImmediate, SetTile, Load, Store, Multiply, Combine, Scale, ScaleImmediate, FloatMultiply, MoveOut, MoveIn}
 use Rattle.machine.specs.Tests.{isIn}
-use Rattle.machine.specs.Answers.{reply, Check, verdict, isDone, number}
+use Rattle.machine.specs.Answers.{reply, Check, _otherwise_, verdict, isDone, number}
 use Rattle.machine.specs.Geometry.{Parameters, parameters, State, Bench}
 use Rattle.machine.specs.Listing.{bits, Fixed, Code, Row, listing, others, has, listed, lookUp, notOurs, inRange, ranged, decode}
-use Rattle.machine.specs.Operation.{Operation, operation}
+use Rattle.machine.specs.Operation.{Operation, operationIn}
+use Rattle.machine.specs.Vectors.{Vectors, vectorsFit}
+use Rattle.machine.specs.declared.Form.the-variants.{Plain, Transposed}
 use Rattle.machine.specs.Refusals.{checks, wordAnswer}
 use Rattle.machine.specs.Faults.{soundBench, thirtyTwo}
 use Rattle.machine.specs.Step
-use Rattle.machine.specs.Step.{Outcome, outcome, stepBy, stepChecks}
-use Rattle.machine.specs.WordTheorems.{Faultless, RightOpcode, EveryBit, IsOther, IsOurs, OutOfRange, RefusedAs, WordRefusals, isAdded, listingBefore, decodeBefore, numberBefore, OnlyNumberMoved, IsAdded, NothingElseMoved, AddedGotOne}
-use Rattle.machine.proofs.TestLaws.{and-true, and-left, and-right, false-true}
+use Rattle.machine.specs.Step.{Outcome, VectorOutcome, beside, outcomeIn, vectorsIn, steppedIn, stepWith, checksIn}
+use Rattle.machine.specs.WordTheorems.{Faultless, RightOpcode, EveryBit, IsOther, IsOurs, groupFits, OutOfRange, RefusedAs, WordRefusals, isAdded, listingBefore, decodeBefore, numberBefore, OnlyNumberMoved, IsAdded, NothingElseMoved, AddedGotOne}
+use Rattle.machine.proofs.TestLaws.{and-true, and-left, and-right, or-not, false-true}
 use Rattle.machine.proofs.ListingLaws.{clash, clashAll, codes, pairwise, one-row-each, clash-apart}
 
 -- ---- the bits of an entry
@@ -226,8 +228,10 @@ isOurs (Combine sum factor md ms1) = true
 isOurs (Scale factor md ms1 rs2) = true
 isOurs (ScaleImmediate factor md ms1 immediate) = true
 isOurs (FloatMultiply md ms1 ms2) = true
+isOurs (MoveOut form vd ms1 rs2) = true
+isOurs (MoveIn form md vs1 rs2) = true
 
-module _ (M : Parameters) (st : State) (xs mem : List ℕ) where
+module _ (W : Vectors) (M : Parameters) (st : State) (xs mem : List ℕ) where
   abbrev Elsewhere : Operation → Type 0
   Elsewhere o = allElsewhere (checks M o st mem) ≡ true
 
@@ -235,29 +239,53 @@ module _ (M : Parameters) (st : State) (xs mem : List ℕ) where
   either-elsewhere true o p h g = h
   either-elsewhere false o p h g = g
 
-  checks-elsewhere : (i : Instruction) → isOurs i ≡ true → Elsewhere (operation M st xs i)
-  checks-elsewhere (Illegal wrong) h = absurd (false-true h)
-  checks-elsewhere (SetTypeImmediate rd immediate) h = refl
-  checks-elsewhere (SetType rd rs1) h = refl
-  checks-elsewhere (SetTileImmediate dimension rd immediate) h = refl
-  checks-elsewhere (SetTile dimension rd rs1) h = either-elsewhere (eqb rs1 0) _ _ (either-elsewhere (eqb rd 0) _ _ refl refl) refl
-  checks-elsewhere (Load form matrix width md rs1 rs2) h = refl
-  checks-elsewhere (Store form matrix width ms3 rs1 rs2) h = refl
-  checks-elsewhere (Multiply factor md ms1 ms2) h = refl
-  checks-elsewhere (Combine sum factor md ms1) h = refl
-  checks-elsewhere (Scale factor md ms1 rs2) h = refl
-  checks-elsewhere (ScaleImmediate factor md ms1 immediate) h = refl
-  checks-elsewhere (FloatMultiply md ms1 ms2) h = refl
+  checks-elsewhere : (i : Instruction) → isOurs i ≡ true → groupFits W i ≡ true → Elsewhere (operationIn W M st xs i)
+  checks-elsewhere (Illegal wrong) h g = absurd (false-true h)
+  checks-elsewhere (SetTypeImmediate rd immediate) h g = refl
+  checks-elsewhere (SetType rd rs1) h g = refl
+  checks-elsewhere (SetTileImmediate dimension rd immediate) h g = refl
+  checks-elsewhere (SetTile dimension rd rs1) h g = either-elsewhere (eqb rs1 0) _ _ (either-elsewhere (eqb rd 0) _ _ refl refl) refl
+  checks-elsewhere (Load form matrix width md rs1 rs2) h g = refl
+  checks-elsewhere (Store form matrix width ms3 rs1 rs2) h g = refl
+  checks-elsewhere (Multiply factor md ms1 ms2) h g = refl
+  checks-elsewhere (Combine sum factor md ms1) h g = refl
+  checks-elsewhere (Scale factor md ms1 rs2) h g = refl
+  checks-elsewhere (ScaleImmediate factor md ms1 immediate) h g = refl
+  checks-elsewhere (FloatMultiply md ms1 ms2) h g = refl
+  checks-elsewhere (MoveOut Plain vd ms1 rs2) h g = rw g
+  checks-elsewhere (MoveOut Transposed vd ms1 rs2) h g = rw g
+  checks-elsewhere (MoveIn form md vs1 rs2) h g = rw g
 
-module _ (M : Parameters) (xs : List ℕ) (B : Bench) where
-  ours-elsewhere : (i : Instruction) → isOurs i ≡ true → elsewhere (outcome M i xs B .answer .number) ≡ true
-  unfolding outcome
-  ours-elsewhere i h = go (isDone (verdict (stepChecks M i xs B))) (verdict-elsewhere (stepChecks M i xs B) (checks-elsewhere M (Step.given M i xs B) xs (B .memory) i h))
+  -- a misaligned group is a register out of range
+  misaligned : (i : Instruction) → groupFits W i ≡ false → operationIn W M st xs i ≡ Operation.illegal Register
+  misaligned (Illegal wrong) g = absurd (false-true (sym g))
+  misaligned (SetTypeImmediate rd immediate) g = absurd (false-true (sym g))
+  misaligned (SetType rd rs1) g = absurd (false-true (sym g))
+  misaligned (SetTileImmediate dimension rd immediate) g = absurd (false-true (sym g))
+  misaligned (SetTile dimension rd rs1) g = absurd (false-true (sym g))
+  misaligned (Load form matrix width md rs1 rs2) g = absurd (false-true (sym g))
+  misaligned (Store form matrix width ms3 rs1 rs2) g = absurd (false-true (sym g))
+  misaligned (Multiply factor md ms1 ms2) g = absurd (false-true (sym g))
+  misaligned (Combine sum factor md ms1) g = absurd (false-true (sym g))
+  misaligned (Scale factor md ms1 rs2) g = absurd (false-true (sym g))
+  misaligned (ScaleImmediate factor md ms1 immediate) g = absurd (false-true (sym g))
+  misaligned (FloatMultiply md ms1 ms2) g = absurd (false-true (sym g))
+  misaligned (MoveOut form vd ms1 rs2) g = rw g
+  misaligned (MoveIn form md vs1 rs2) g = rw g
+
+module _ (W : Vectors) (M : Parameters) (xs : List ℕ) (B : Bench) where
+  -- the number of an answer is that of the first check that fails
+  number-is : (i : Instruction) → outcomeIn W M i xs B .answer .number ≡ number (verdict (checksIn W M i xs B))
+  number-is i = go (isDone (verdict (checksIn W M i xs B))) refl
     where
-      go : (t : Bool) → elsewhere (number (verdict (stepChecks M i xs B))) ≡ true
-          → elsewhere (cond t (Step.carriedOut M i xs B) (Step.refused M i xs B (verdict (stepChecks M i xs B))) .answer .number) ≡ true
-      go true h = refl
-      go false h = h
+      go : (t : Bool) → isDone (verdict (checksIn W M i xs B)) ≡ t
+          → cond t (Step.carriedIn W M i xs B) (Step.refusedIn W M i xs B (verdict (checksIn W M i xs B))) .answer .number ≡ number (verdict (checksIn W M i xs B))
+      go true e = sym (eqb-true (number (verdict (checksIn W M i xs B))) 0 e)
+      go false e = refl
+
+  ours-elsewhere : (i : Instruction) → isOurs i ≡ true → groupFits W i ≡ true → elsewhere (outcomeIn W M i xs B .answer .number) ≡ true
+  ours-elsewhere i h g =
+      subst (λ (n : ℕ). elsewhere n ≡ true) (sym (number-is i)) (verdict-elsewhere (checksIn W M i xs B) (checks-elsewhere W M (Step.givenIn W M i xs B) xs (B .memory) i h g))
 
   -- ---- a word that is refused for what it is
 
@@ -267,17 +295,29 @@ module _ (M : Parameters) (xs : List ℕ) (B : Bench) where
   abbrev told : Bool → Bool → Wrong → Answer
   told s t w = cond s (cond t (wordAnswer w) BadArguments) BadArguments
 
-  illegal-told : (w : Wrong) → outcome M (Illegal w) xs B ≡ refusal (told (soundBench B) (thirtyTwo xs) w)
-  unfolding outcome
+  illegal-told : (w : Wrong) → outcomeIn W M (Illegal w) xs B ≡ refusal (told (soundBench B) (thirtyTwo xs) w)
   illegal-told w = go (soundBench B) (thirtyTwo xs) w
     where
-      go : (s t : Bool) (w : Wrong) → cond (isDone (told s t w)) (Step.carriedOut M (Illegal w) xs B) (refusal (told s t w)) ≡ refusal (told s t w)
+      go : (s t : Bool) (w : Wrong) → cond (isDone (told s t w)) (Step.carriedIn W M (Illegal w) xs B) (refusal (told s t w)) ≡ refusal (told s t w)
       go false t w = refl
       go true false w = refl
       go true true Opcode = refl
       go true true LeftOut = refl
       go true true Unlisted = refl
       go true true Register = refl
+
+  illegal-file : (w : Wrong) → vectorsIn W M (Illegal w) xs B ≡ W .file
+  illegal-file w = go (isDone (verdict (checksIn W M (Illegal w) xs B)))
+    where
+      go : (t : Bool) → cond t (W .file) (W .file) ≡ W .file
+      go true = refl
+      go false = refl
+
+  misaligned-told : (i : Instruction) → groupFits W i ≡ false → outcomeIn W M i xs B .answer .number ≡ number (told (soundBench B) (thirtyTwo xs) Register)
+  misaligned-told i g =
+      number-is i
+      ∙ ap (λ (o : Operation). number (verdict ((soundBench B otherwise BadArguments) ∷ (thirtyTwo xs otherwise BadArguments) ∷ checks M o (Step.givenIn W M i xs B) (B .memory))))
+      (misaligned W M (Step.givenIn W M i xs B) xs (B .memory) i g)
 
 -- our rows mean instructions of ours
 allOurs : ℕ → List Row → Bool
@@ -297,6 +337,24 @@ row-ours word (s ∷ rs) h r m =
       | inr n ↦ row-ours word rs (and-right (isOurs (s .means word)) (allOurs word rs) h) r n
     ]
 
+-- and but for the moves, which were added, they name no group
+allGrouped : Vectors → ℕ → List Row → Bool
+allGrouped W word [] = true
+allGrouped W word (r ∷ rs) = (isAdded r || groupFits W (r .means word)) && allGrouped W word rs
+
+listing-grouped : (W : Vectors) (word : ℕ) → allGrouped W word listing ≡ true
+unfolding allGrouped listing
+listing-grouped W word = refl
+
+row-grouped : (W : Vectors) (word : ℕ) (rs : List Row) → allGrouped W word rs ≡ true → (r : Row) → List·Memᴰ r rs → isAdded r ≡ false → groupFits W (r .means word) ≡ true
+unfolding allGrouped
+row-grouped W word [] h r m e = absurd (List·Memᴰ·not-nil m)
+row-grouped W word (s ∷ rs) h r m e =
+    elim (List·Memᴰ·cases-cons m) [
+      | inl x ↦ or-not (isAdded r) (groupFits W (r .means word)) (subst (λ (x : Row). isAdded x || groupFits W (x .means word) ≡ true) (sym x) (and-left (isAdded s || groupFits W (s .means word)) (allGrouped W word rs) h)) e
+      | inr n ↦ row-grouped W word rs (and-right (isAdded s || groupFits W (s .means word)) (allGrouped W word rs) h) r n e
+    ]
+
 -- ---- nothing else moved
 
 number-kept : (n : ℕ) → not (isIn n four) ≡ true → numberBefore n ≡ n
@@ -307,17 +365,34 @@ number-kept n h = go (eqb n 1) (isIn n (10 ∷ 11 ∷ 12 ∷ [])) h
     go false true h = absurd (false-true h)
     go false false h = refl
 
-module _ (M : Parameters) (xs : List ℕ) (B : Bench) where
+module _ (W : Vectors) (M : Parameters) (xs : List ℕ) (B : Bench) where
   abbrev Moved : Instruction → Instruction → Type 0
-  Moved i j = OnlyNumberMoved (outcome M i xs B) (outcome M j xs B)
+  Moved i j = OnlyNumberMoved (steppedIn W M i xs B) (steppedIn W M j xs B)
 
-  alike : (a b : Answer) → numberBefore (number a) ≡ number b → reply a .row ≡ reply b .row → reply a .column ≡ reply b .column → OnlyNumberMoved (refusal M xs B a) (refusal M xs B b)
-  alike a b n r c = record { same-number = n; same-row = r; same-column = c; same-bench = refl; same-scalars = refl }
+  alike : (a b : Answer) → numberBefore (number a) ≡ number b → reply a .row ≡ reply b .row → reply a .column ≡ reply b .column
+      → OnlyNumberMoved (beside (W .file) (refusal W M xs B a)) (beside (W .file) (refusal W M xs B b))
+  alike a b n r c = record { same-number = n; same-row = r; same-column = c; same-bench = refl; same-scalars = refl; same-vectors = refl }
+
+  -- where the vector file is bad, every word gets 8
+  lifted : (i j : Instruction) → OnlyNumberMoved (beside (vectorsIn W M i xs B) (outcomeIn W M i xs B)) (beside (vectorsIn W M j xs B) (outcomeIn W M j xs B)) → Moved i j
+  lifted i j h = go (vectorsFit W)
+    where
+      go : (t : Bool) → OnlyNumberMoved (cond t (beside (vectorsIn W M i xs B) (outcomeIn W M i xs B)) (beside (W .file) (refusal W M xs B BadArguments)))
+          (cond t (beside (vectorsIn W M j xs B) (outcomeIn W M j xs B)) (beside (W .file) (refusal W M xs B BadArguments)))
+      go true = h
+      go false = alike BadArguments BadArguments refl refl refl
+
+  illegal-is : (w : Wrong) → beside (vectorsIn W M (Illegal w) xs B) (outcomeIn W M (Illegal w) xs B) ≡ beside (W .file) (refusal W M xs B (told W M xs B (soundBench B) (thirtyTwo xs) w))
+  illegal-is w = ap₂ beside (illegal-file W M xs B w) (illegal-told W M xs B w)
 
   illegal-moved : (w : Wrong) → Moved (Illegal w) (Illegal Unlisted)
-  illegal-moved w = rw (illegal-told M xs B w, illegal-told M xs B Unlisted) (go (soundBench B) (thirtyTwo xs) w)
+  illegal-moved w =
+      lifted (Illegal w) (Illegal Unlisted)
+      (subst (λ (o : VectorOutcome). OnlyNumberMoved o (beside (vectorsIn W M (Illegal Unlisted) xs B) (outcomeIn W M (Illegal Unlisted) xs B))) (sym (illegal-is w))
+      (subst (λ (o : VectorOutcome). OnlyNumberMoved (beside (W .file) (refusal W M xs B (told W M xs B (soundBench B) (thirtyTwo xs) w))) o) (sym (illegal-is Unlisted))
+      (go (soundBench B) (thirtyTwo xs) w)))
     where
-      go : (s t : Bool) (w : Wrong) → OnlyNumberMoved (refusal M xs B (told M xs B s t w)) (refusal M xs B (told M xs B s t Unlisted))
+      go : (s t : Bool) (w : Wrong) → OnlyNumberMoved (beside (W .file) (refusal W M xs B (told W M xs B s t w))) (beside (W .file) (refusal W M xs B (told W M xs B s t Unlisted)))
       go false t w = alike BadArguments BadArguments refl refl refl
       go true false w = alike BadArguments BadArguments refl refl refl
       go true true Opcode = alike WrongOpcode IllegalWord refl refl refl
@@ -325,12 +400,13 @@ module _ (M : Parameters) (xs : List ℕ) (B : Bench) where
       go true true Unlisted = alike IllegalWord IllegalWord refl refl refl
       go true true Register = alike WrongRegister IllegalWord refl refl refl
 
-  ours-moved : (i : Instruction) → isOurs i ≡ true → Moved i i
-  ours-moved i h = record { same-number = number-kept (outcome M i xs B .answer .number) (ours-elsewhere M xs B i h); same-row = refl; same-column = refl; same-bench = refl; same-scalars = refl }
+  ours-moved : (i : Instruction) → isOurs i ≡ true → groupFits W i ≡ true → Moved i i
+  ours-moved i h g =
+      lifted i i (record { same-number = number-kept (outcomeIn W M i xs B .answer .number) (ours-elsewhere W M xs B i h g); same-row = refl; same-column = refl; same-bench = refl; same-scalars = refl; same-vectors = refl })
 
-  ranged-moved : (i : Instruction) (t : Bool) → isOurs i ≡ true → Moved (cond t i (Illegal Register)) (cond t i (Illegal Unlisted))
-  ranged-moved i true h = ours-moved i h
-  ranged-moved i false h = illegal-moved Register
+  ranged-moved : (i : Instruction) (t : Bool) → isOurs i ≡ true → groupFits W i ≡ true → Moved (cond t i (Illegal Register)) (cond t i (Illegal Unlisted))
+  ranged-moved i true h g = ours-moved i h g
+  ranged-moved i false h g = illegal-moved Register
 
   moved-by : (word : ℕ) (i j : Instruction) → decode word ≡ i → decodeBefore word ≡ j → Moved i j → Moved (decode word) (decodeBefore word)
   moved-by word i j d b m = subst (λ (x : Instruction). Moved x (decodeBefore word)) (sym d) (subst (λ (x : Instruction). Moved i x) (sym b) m)
@@ -341,18 +417,21 @@ module _ (M : Parameters) (xs : List ℕ) (B : Bench) where
   word-moved word a (unlisted o c n d b) = moved-by word (Illegal Unlisted) (Illegal Unlisted) d b (illegal-moved Unlisted)
   word-moved word a (ours o r m h d b) = go (isAdded r) refl
     where
-      same : Moved (ranged (r .means word)) (cond (inRange (r .means word)) (r .means word) (Illegal Unlisted))
-      same = ranged-moved (r .means word) (inRange (r .means word)) (row-ours word listing (listing-ours word) r m)
+      same : isAdded r ≡ false → Moved (ranged (r .means word)) (cond (inRange (r .means word)) (r .means word) (Illegal Unlisted))
+      same e = ranged-moved (r .means word) (inRange (r .means word)) (row-ours word listing (listing-ours word) r m) (row-grouped W word listing (listing-grouped W word) r m e)
 
       stays : isAdded r ≡ false → before r word ≡ cond (inRange (r .means word)) (r .means word) (Illegal Unlisted)
       stays e = ap (λ (t : Bool). let i : Instruction = cond t (Illegal Unlisted) (r .means word) in cond (inRange i) i (Illegal Unlisted)) e
 
       go : (t : Bool) → isAdded r ≡ t → Moved (decode word) (decodeBefore word)
       go true e = absurd (a (o, (r, m, h, e)))
-      go false e = moved-by word (ranged (r .means word)) (cond (inRange (r .means word)) (r .means word) (Illegal Unlisted)) d (b ∙ stays e) same
+      go false e = moved-by word (ranged (r .means word)) (cond (inRange (r .means word)) (r .means word) (Illegal Unlisted)) d (b ∙ stays e) (same e)
 
-  added-one : (word : ℕ) → Faultless xs B → Kind word → IsAdded word → outcome M (decodeBefore word) xs B .answer .number ≡ 1
-  added-one word f k a = ap (λ (i : Instruction). outcome M i xs B .answer .number) (unlisted-before k) ∙ ap (λ (o : Outcome). o .answer .number) (illegal-told M xs B Unlisted) ∙ rw (f .0, f .1)
+  added-one : (word : ℕ) → Faultless xs W B → Kind word → IsAdded word → steppedIn W M (decodeBefore word) xs B .answer .number ≡ 1
+  added-one word f k a =
+      ap (λ (i : Instruction). steppedIn W M i xs B .answer .number) (unlisted-before k)
+      ∙ ap (λ (t : Bool). cond t (beside (vectorsIn W M (Illegal Unlisted) xs B) (outcomeIn W M (Illegal Unlisted) xs B)) (beside (W .file) (refusal W M xs B BadArguments)) .answer .number) (f .2)
+      ∙ ap (λ (o : Outcome). o .answer .number) (illegal-told W M xs B Unlisted) ∙ rw (f .0, f .1)
     where
       unlisted-before : Kind word → decodeBefore word ≡ Illegal Unlisted
       unlisted-before (wrong-opcode o d b) = b
@@ -364,11 +443,11 @@ module _ (M : Parameters) (xs : List ℕ) (B : Bench) where
           (found ∙ ap (λ (t : Bool). cond t (Illegal Unlisted) (a .1 .0 .means word)) (a .1 .3))
 
 pub nothing-else-moved : NothingElseMoved
-unfolding stepBy
-nothing-else-moved grant word xs B a = word-moved (parameters grant (B .machine)) xs B word a (kind word)
+unfolding stepWith
+nothing-else-moved grant word xs W B a = word-moved W (parameters grant (B .machine)) xs B word a (kind word)
 
 pub added-got-one : AddedGotOne
-added-got-one grant word xs B f a = added-one (parameters grant (B .machine)) xs B word f (kind word) a
+added-got-one grant word xs W B f a = added-one W (parameters grant (B .machine)) xs B word f (kind word) a
 
 -- ---- which words get which number
 
@@ -381,11 +460,11 @@ fails f g = (λ x. absurd (f x), λ y. absurd (g y))
 not-four : (n k : ℕ) → not (isIn n four) ≡ true → isIn k four ≡ true → ¬ (n ≡ k)
 not-four n k h i e = false-true (sym (ap not (subst (λ (x : ℕ). isIn x four ≡ true) (sym e) i)) ∙ h)
 
-module _ (word : ℕ) (xs : List ℕ) (B : Bench) where
+module _ (word : ℕ) (xs : List ℕ) (W : Vectors) (B : Bench) where
   abbrev Refused : ℕ → Type 0
-  Refused n = RefusedAs n word xs B
+  Refused n = RefusedAs n word xs W B
 
-  at-fault : (n : ℕ) → not (isIn n four) ≡ true → ¬ Faultless xs B → Refused n
+  at-fault : (n : ℕ) → not (isIn n four) ≡ true → ¬ Faultless xs W B → Refused n
   at-fault n h f = record {
     ten = fails (not-four n 10 h refl) (λ y. f (y .0));
     eleven = fails (not-four n 11 h refl) (λ y. f (y .0));
@@ -393,7 +472,7 @@ module _ (word : ℕ) (xs : List ℕ) (B : Bench) where
     twelve = fails (not-four n 12 h refl) (λ y. f (y .0));
   }
 
-  in-range : (n : ℕ) → not (isIn n four) ≡ true → RightOpcode word → IsOurs word → ¬ OutOfRange word → Refused n
+  in-range : (n : ℕ) → not (isIn n four) ≡ true → RightOpcode word → IsOurs word → ¬ OutOfRange W word → Refused n
   in-range n h o r i = record {
     ten = fails (not-four n 10 h refl) (λ y. y .1 o);
     eleven = fails (not-four n 11 h refl) (λ y. y .3 r);
@@ -401,7 +480,7 @@ module _ (word : ℕ) (xs : List ℕ) (B : Bench) where
     twelve = fails (not-four n 12 h refl) (λ y. i (y .2));
   }
 
-  module _ (f : Faultless xs B) where
+  module _ (f : Faultless xs W B) where
     as-ten : ¬ RightOpcode word → Refused 10
     as-ten o = record { ten = holds refl (f, o); eleven = fails (λ e. omega arith) (λ y. o (y .1)); one = fails (λ e. omega arith) (λ y. o (y .1)); twelve = fails (λ e. omega arith) (λ y. o (y .1)) }
 
@@ -421,7 +500,7 @@ module _ (word : ℕ) (xs : List ℕ) (B : Bench) where
       twelve = fails (λ e. omega arith) (λ y. n (y .2 .0, y .2 .1, y .2 .2));
     }
 
-    as-twelve : RightOpcode word → IsOurs word → OutOfRange word → Refused 12
+    as-twelve : RightOpcode word → IsOurs word → OutOfRange W word → Refused 12
     as-twelve o r i = record {
       ten = fails (λ e. omega arith) (λ y. y .1 o);
       eleven = fails (λ e. omega arith) (λ y. y .3 r);
@@ -429,27 +508,36 @@ module _ (word : ℕ) (xs : List ℕ) (B : Bench) where
       twelve = holds refl (f, o, i);
     }
 
-  module _ (M : Parameters) where
+  module _ (M : Parameters) (fit : vectorsFit W ≡ true) where
     abbrev Answered : Instruction → Type 0
-    Answered i = Refused (outcome M i xs B .answer .number)
+    Answered i = Refused (outcomeIn W M i xs B .answer .number)
 
-    illegal-answered : (w : Wrong) → (Faultless xs B → Refused (number (wordAnswer w))) → Answered (Illegal w)
-    illegal-answered w k = subst (λ (o : Outcome). Refused (o .answer .number)) (sym (illegal-told M xs B w)) (go (soundBench B) refl (thirtyTwo xs) refl)
+    told-answered : (w : Wrong) → (Faultless xs W B → Refused (number (wordAnswer w))) → Refused (number (told W M xs B (soundBench B) (thirtyTwo xs) w))
+    told-answered w k = go (soundBench B) refl (thirtyTwo xs) refl
       where
-        go : (s : Bool) → soundBench B ≡ s → (t : Bool) → thirtyTwo xs ≡ t → Refused (number (told M xs B s t w))
+        go : (s : Bool) → soundBench B ≡ s → (t : Bool) → thirtyTwo xs ≡ t → Refused (number (told W M xs B s t w))
         go false s t e = at-fault 8 refl (λ f. false-true (sym s ∙ f .0))
         go true s false e = at-fault 8 refl (λ f. false-true (sym e ∙ f .1))
-        go true s true e = k (s, e)
+        go true s true e = k (s, e, fit)
+
+    illegal-answered : (w : Wrong) → (Faultless xs W B → Refused (number (wordAnswer w))) → Answered (Illegal w)
+    illegal-answered w k = subst (λ (o : Outcome). Refused (o .answer .number)) (sym (illegal-told W M xs B w)) (told-answered w k)
 
     found : (r : Row) → List·Memᴰ r listing → EveryBit word (r .code) → lookUp word (notOurs word) listing ≡ r .means word
     found r m h = look-up-one word (notOurs word) listing one-row-each r m (bits-has word (r .code .fixed) h)
 
     ours-answered : RightOpcode word → (r : Row) → List·Memᴰ r listing → EveryBit word (r .code) → (t : Bool) → inRange (r .means word) ≡ t
         → Answered (cond t (r .means word) (Illegal Register))
-    ours-answered o r m h false e = illegal-answered Register (λ f. as-twelve f o (r, m, h) (r, m, h, e))
-    ours-answered o r m h true e =
-        in-range (outcome M (r .means word) xs B .answer .number) (ours-elsewhere M xs B (r .means word) (row-ours word listing (listing-ours word) r m)) o (r, m, h)
-        (λ y. false-true (sym (y .3) ∙ ap inRange (sym (found (y .0) (y .1) (y .2)) ∙ found r m h) ∙ e))
+    ours-answered o r m h false e = illegal-answered Register (λ f. as-twelve f o (r, m, h) (r, m, h, ap (λ (t : Bool). t && groupFits W (r .means word)) e))
+    ours-answered o r m h true e = go (groupFits W (r .means word)) refl
+      where
+        go : (u : Bool) → groupFits W (r .means word) ≡ u → Answered (r .means word)
+        go false g =
+            subst Refused (sym (misaligned-told W M xs B (r .means word) g))
+            (told-answered Register (λ f. as-twelve f o (r, m, h) (r, m, h, ap₂ _&&_ e g)))
+        go true g =
+            in-range (outcomeIn W M (r .means word) xs B .answer .number) (ours-elsewhere W M xs B (r .means word) (row-ours word listing (listing-ours word) r m) g) o (r, m, h)
+            (λ y. false-true (sym (y .3) ∙ ap (λ (i : Instruction). inRange i && groupFits W i) (sym (found (y .0) (y .1) (y .2)) ∙ found r m h) ∙ ap₂ _&&_ e g))
 
     word-answered : Kind word → Answered (decode word)
     word-answered (wrong-opcode o d b) = subst Answered (sym d) (illegal-answered Opcode (λ f. as-ten f o))
@@ -458,5 +546,13 @@ module _ (word : ℕ) (xs : List ℕ) (B : Bench) where
     word-answered (ours o r m h d b) = subst Answered (sym d) (ours-answered o r m h (inRange (r .means word)) refl)
 
 pub word-refusals : WordRefusals
-unfolding stepBy
-word-refusals grant word xs B = word-answered word xs B (parameters grant (B .machine)) (kind word)
+unfolding stepWith
+word-refusals grant word xs W B = go (vectorsFit W) refl
+  where
+    M : Parameters
+    M = parameters grant (B .machine)
+
+    go : (t : Bool) → vectorsFit W ≡ t
+        → RefusedAs (cond t (beside (vectorsIn W M (decode word) xs B) (outcomeIn W M (decode word) xs B)) (beside (W .file) (Step.refusedIn W M (decode word) xs B BadArguments)) .answer .number) word xs W B
+    go true e = word-answered word xs W B M e (kind word)
+    go false e = at-fault word xs W B 8 refl (λ f. false-true (sym e ∙ f .2))

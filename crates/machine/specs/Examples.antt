@@ -26,11 +26,11 @@ pub record Line : Type 0 where
   pub want : List ℕ
 
 -- bits 31..25, 24..20, 19..15, 14..12 and 11..7
-pub word : ℕ → ℕ → ℕ → ℕ → ℕ → ℕ
+unfoldable pub word : ℕ → ℕ → ℕ → ℕ → ℕ → ℕ
 word f e d c b = f * 2 ^ 25 + e * 2 ^ 20 + d * 2 ^ 15 + c * 2 ^ 12 + b * 2 ^ 7 + 0b1110111
 
 -- mtype, the tile sizes, a seal, and a mark for every byte; a memory of 32 bytes
-pub bench : (t m k n sealStart sealLength mark : ℕ) → Bench
+unfoldable pub bench : (t m k n sealStart sealLength mark : ℕ) → Bench
 bench t m k n s l mark = record {
   machine = record { rlen = 64; mlen = 128; mtype = t; «tile_m» = m; «tile_k» = k; «tile_n» = n; «seal_start» = s; «seal_length» = l; rule = 0; elen = 32 };
   registers = replicate 256 5;
@@ -39,10 +39,10 @@ bench t m k n s l mark = record {
 }
 
 -- scalars 10 and 11
-pub scalars : ℕ → ℕ → List ℕ
+unfoldable pub scalars : ℕ → ℕ → List ℕ
 scalars a b = replicate 10 0 ++ a ∷ b ∷ replicate 20 0
 
-pub shown : Reply → List ℕ
+unfoldable pub shown : Reply → List ℕ
 shown a = a .number ∷ a .row ∷ a .column ∷ []
 
 -- a word is stepped, and the answer's number, row and column come out
@@ -350,7 +350,7 @@ unfolding halves word bench scalars permitted sew newType legalType marked listi
 halves-right = refl
 
 -- 02, Two: B of two rows and three columns, transposed. Memory, or tr0 on, counts its bytes from 0
-pub counting : ℕ → ℕ → List ℕ
+unfoldable pub counting : ℕ → ℕ → List ℕ
 counting zero x = []
 counting (suc n) x = x ∷ counting n (x + 1)
 

@@ -6,6 +6,7 @@ pub mod Starting
 pub mod Setting
 pub mod Listing
 pub mod Memory
+pub mod Vectors
 pub mod Operation
 pub mod Refusals
 pub mod Faults
@@ -16,3 +17,4 @@ pub mod Alike
 pub mod Theorems
 pub mod WordTheorems
 pub mod Examples
+pub mod MoveExamples

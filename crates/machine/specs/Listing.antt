@@ -1,5 +1,5 @@
 -- 01, "The unit and its papers": the listing of section 4.5 of source document 000, as data, and the decoding of a word by
--- look-up in it: `listing` has our instructions, `others` the rest of that section. Ten rows, all ours, are damaged in our copy and
+-- look-up in it: `listing` has our instructions, with four of section 6.1.7 (02, Eleven), `others` the rest of section 4.5. Ten rows, all ours, are damaged in our copy and
 -- read by symmetry: No. 1, 3, 5, 6, 7, 8, 15, 21, 22 and 31 (docs/DIFFERENCES.md, 1.2). No code is given twice.
 use mathlib.Core.Bool.{Bool, true, false, cond, _&&_, _||_}
 use mathlib.Core.List.{List, [], _∷_}
@@ -16,7 +16,7 @@ use Rattle.machine.specs.declared.Sum.{Sum}
 use Rattle.machine.specs.declared.Sum.the-variants.{Add, Subtract, ReverseSubtract}
 use Rattle.machine.specs.declared.Wrong.the-variants.{Opcode, LeftOut, Unlisted, Register}
 use Rattle.machine.specs.declared.Instruction.{Instruction}
-use Rattle.machine.specs.declared.Instruction.the-variants.{Illegal, SetTypeImmediate, SetType, SetTileImmediate, SetTile, Load, Store, Multiply, Combine, Scale, ScaleImmediate, FloatMultiply}
+use Rattle.machine.specs.declared.Instruction.the-variants.{Illegal, SetTypeImmediate, SetType, SetTileImmediate, SetTile, Load, Store, Multiply, Combine, Scale, ScaleImmediate, FloatMultiply, MoveOut, MoveIn}
 use Rattle.machine.specs.Tests.{every}
 use Rattle.machine.specs.Geometry.{registerCount}
 
@@ -47,8 +47,8 @@ pub record Fixed : Type 0 where
   pub low : ℕ
   pub value : ℕ
 
--- an entry: its number in the listing (that of a transposed load or store, which is printed twice, with 100 added), and the bits
--- it fixes beside the opcode
+-- an entry: its number in the listing (that of a transposed load or store, which is printed twice, with 100 added; that of section
+-- 6.1.7 with 200 added), and the bits it fixes beside the opcode
 pub record Code : Type 0 where
   pub number : ℕ
   pub fixed : List Fixed
@@ -96,6 +96,13 @@ arithmetic number funct6 means = meaning (coded number funct6 0 0b110) means
 -- adds and subtracts; "bits 24..20 of an add or subtract not what the listing fixes (zero where it fixes nothing)" are refused
 abbrev combining : (number funct6 : ℕ) → Sum → Factor → Row
 combining number funct6 sum factor = meaning (coded0 number funct6 0 0b110) (λ word. Combine sum factor (field7 word) (field15 word))
+
+-- moves between accumulators and vector registers, of rows (plain) and of columns (transposed): vd, ms1 and rs2; md, vs1 and rs2
+abbrev movingOut : (number funct6 : ℕ) → Form → Row
+movingOut number funct6 form = meaning (coded number funct6 0 0b101) (λ word. MoveOut form (field7 word) (field15 word) (field20 word))
+
+abbrev movingIn : (number funct6 : ℕ) → Form → Row
+movingIn number funct6 form = meaning (coded number funct6 1 0b101) (λ word. MoveIn form (field7 word) (field15 word) (field20 word))
 
 -- our entries
 unfoldable pub listing : List Row
@@ -161,6 +168,11 @@ listing =
     ∷ storing 130 0b000100 0b001 Transposed MatrixC 2  -- mscte16.m
     ∷ storing 131 0b000100 0b010 Transposed MatrixC 4  -- mscte32.m
     ∷ storing 132 0b000100 0b011 Transposed MatrixC 8  -- mscte64.m
+    -- 02, Eleven: "the plain moves mmvcr and mmvcc in both forms, .. (codes from its 6.1.7 ..)"
+    ∷ movingOut 229 0b000000 Plain  -- mmvcr.v.m
+    ∷ movingIn 230 0b000000 Plain  -- mmvcr.m.v
+    ∷ movingOut 235 0b000100 Transposed  -- mmvcc.v.m
+    ∷ movingIn 236 0b000100 Transposed  -- mmvcc.m.v
     -- arithmetic
     ∷ arithmetic 33 0b000000 (λ word. Multiply Single (field7 word) (field15 word) (field20 word))  -- mma.mm
     ∷ meaning (coded 34 0b000000 1 0b110) (λ word. FloatMultiply (field7 word) (field15 word) (field20 word))  -- mfma.mm: 02, Four
@@ -250,6 +262,8 @@ inRange (Combine sum factor md ms1) = every (ltb md 2 ∷ ltb ms1 2 ∷ [])
 inRange (Scale factor md ms1 rs2) = every (ltb md 2 ∷ ltb ms1 2 ∷ [])
 inRange (ScaleImmediate factor md ms1 immediate) = every (ltb md 2 ∷ ltb ms1 2 ∷ [])
 inRange (FloatMultiply md ms1 ms2) = every (ltb md 2 ∷ ltb ms1 8 ∷ ltb ms2 8 ∷ [])
+inRange (MoveOut form vd ms1 rs2) = ltb ms1 2
+inRange (MoveIn form md vs1 rs2) = ltb md 2
 
 -- 12: "A register field out of range"
 abbrev pub ranged : Instruction → Instruction

@@ -1,4 +1,4 @@
--- 01, "Loading, storing, reckoning", and 02, Two and Seven and Four: what each instruction does, once its scalars are read.
+-- 01, "Loading, storing, reckoning", and 02, Two, Four, Seven and Eleven: what each instruction does, once its scalars are read.
 use mathlib.Core.Bool.{cond}
 use mathlib.Core.List.{List}
 use Prim.Native.Nat.{ℕ, _+_, _*_, _%_, _^_}
@@ -18,16 +18,19 @@ use Rattle.machine.specs.declared.Factor.the-variants.{Single, Double, Q
 use Rattle.machine.specs.declared.Sum.{Sum}
 use Rattle.machine.specs.declared.Sum.the-variants.{Add, Subtract, ReverseSubtract}
 use Rattle.machine.specs.declared.Wrong.{Wrong}
+use Rattle.machine.specs.declared.Wrong.the-variants.{Register}
 use Rattle.machine.specs.declared.Instruction.{Instruction}
-use Rattle.machine.specs.declared.Instruction.the-variants.{Illegal, SetTypeImmediate, SetType, SetTileImmediate, SetTile, Load, Store, Multiply, Combine, Scale, ScaleImmediate, FloatMultiply}
-use Rattle.machine.specs.Geometry.{Parameters, State, registerAt, tileAt, accAt, scalar}
+use Rattle.machine.specs.declared.Instruction.the-variants.{Illegal, SetTypeImmediate, SetType, SetTileImmediate, SetTile, Load, Store, Multiply, Combine, Scale, ScaleImmediate, FloatMultiply, MoveOut, MoveIn}
+use Rattle.machine.specs.Geometry.{Parameters, State, startOf, pitchOf, registerAt, tileAt, accAt, scalar}
 use Rattle.machine.specs.Setting.{sew, newType, maximum, sizeIn, smaller}
 use Rattle.machine.specs.Memory.{rowAt, stored}
+use Rattle.machine.specs.Vectors.{Vectors, vectorAt, aligned, idle}
 
 -- ---- an instruction with the values of its scalars
 
 -- a new mtype; a size that is asked, or none, which cuts the size; plain or transposed, a matrix, a register, a width, an address and a stride; an output factor, md, ms1
--- and ms2; an output factor, md, ms1 and the multiplier; md, ms1 and ms2
+-- and ms2; an output factor, md, ms1 and the multiplier; md, ms1 and ms2; rows or columns, ms1, vd, the first of them and how many; rows
+-- or columns, md, vs1, the first, how many, and the vector file
 pub data Operation : Type 0 where
   illegal : Wrong → Operation
   setType : ℕ → Operation
@@ -39,6 +42,8 @@ pub data Operation : Type 0 where
   combine : Sum → (f d a : ℕ) → Operation
   scale : (f d a : ℕ) → ℤ → Operation
   floatMultiply : (d a b : ℕ) → Operation
+  moveOut : Form → (a v first count : ℕ) → Operation
+  moveIn : Form → (d v first count : ℕ) → List ℕ → Operation
 
 -- "The asked size is .. rs1 not x0, the scalar; rs1 x0 and rd not x0, the maximum. With both x0 nothing is asked"
 abbrev pub askedSize : Parameters → State → Dimension → ℕ → ℕ → List ℕ → Operation
@@ -55,20 +60,27 @@ times Quadruple = 4
 
 -- the instruction with its scalars read; the multiplier is "the low SEW bits of the scalar, signed, or the five-bit immediate,
 -- -16 to 15"
-abbrev pub operation : Parameters → State → List ℕ → Instruction → Operation
-operation M st xs (Illegal wrong) = illegal wrong
-operation M st xs (SetTypeImmediate rd immediate) = setType immediate
-operation M st xs (SetType rd rs1) = setType (scalar xs rs1)
-operation M st xs (SetTileImmediate dimension rd immediate) = setSize dimension immediate
-operation M st xs (SetTile dimension rd rs1) = askedSize M st dimension rd rs1 xs
-operation M st xs (Load form matrix width md rs1 rs2) = load form matrix md width (scalar xs rs1) (scalar xs rs2)
-operation M st xs (Store form matrix width ms3 rs1 rs2) = store form matrix ms3 width (scalar xs rs1) (scalar xs rs2)
-operation M st xs (Multiply factor md ms1 ms2) = multiply (times factor) md ms1 ms2
-operation M st xs (Combine sum factor md ms1) = combine sum (times factor) md ms1
-operation M st xs (Scale factor md ms1 rs2) =
+abbrev pub operationIn : Vectors → Parameters → State → List ℕ → Instruction → Operation
+operationIn W M st xs (Illegal wrong) = illegal wrong
+operationIn W M st xs (SetTypeImmediate rd immediate) = setType immediate
+operationIn W M st xs (SetType rd rs1) = setType (scalar xs rs1)
+operationIn W M st xs (SetTileImmediate dimension rd immediate) = setSize dimension immediate
+operationIn W M st xs (SetTile dimension rd rs1) = askedSize M st dimension rd rs1 xs
+operationIn W M st xs (Load form matrix width md rs1 rs2) = load form matrix md width (scalar xs rs1) (scalar xs rs2)
+operationIn W M st xs (Store form matrix width ms3 rs1 rs2) = store form matrix ms3 width (scalar xs rs1) (scalar xs rs2)
+operationIn W M st xs (Multiply factor md ms1 ms2) = multiply (times factor) md ms1 ms2
+operationIn W M st xs (Combine sum factor md ms1) = combine sum (times factor) md ms1
+operationIn W M st xs (Scale factor md ms1 rs2) =
     scale (times factor) md ms1 (signed (256 ^ sew (st .mtype)) (scalar xs rs2 % 256 ^ sew (st .mtype)))
-operation M st xs (ScaleImmediate factor md ms1 immediate) = scale (times factor) md ms1 (signed 32 immediate)
-operation M st xs (FloatMultiply md ms1 ms2) = floatMultiply md ms1 ms2
+operationIn W M st xs (ScaleImmediate factor md ms1 immediate) = scale (times factor) md ms1 (signed 32 immediate)
+operationIn W M st xs (FloatMultiply md ms1 ms2) = floatMultiply md ms1 ms2
+-- 02, Eleven: "The group size is the number of rows or columns moved, from the scalar onward"; "a misaligned group gets 12"
+operationIn W M st xs (MoveOut form vd ms1 rs2) = cond (aligned W vd) (moveOut form ms1 vd (scalar xs rs2) (W .group)) (illegal Register)
+operationIn W M st xs (MoveIn form md vs1 rs2) = cond (aligned W vs1) (moveIn form md vs1 (scalar xs rs2) (W .group) (W .file)) (illegal Register)
+
+-- of a step that is lent no vector file
+abbrev pub operation : Parameters → State → List ℕ → Instruction → Operation
+operation = operationIn idle
 
 -- ---- tiles
 
@@ -106,6 +118,33 @@ placed Transposed value = λ i j. value j i
 -- "Element (i, j) of w bits starts in row i at byte j x w/8, low byte first."
 abbrev pub element : List ℕ → (ℕ → ℕ) → ℕ → ℕ → ℕ → ℕ
 element xs at w i j = le xs (at i + j * w) w
+
+-- ---- slices of an accumulator (02, Eleven)
+
+-- how many rows or columns the C tile has, and the elements of one
+abbrev pub linesOf : Form → State → ℕ
+linesOf Plain st = st .tileM
+linesOf Transposed st = st .tileN
+
+abbrev pub lineOf : Form → State → ℕ
+lineOf Plain st = st .tileN
+lineOf Transposed st = st .tileM
+
+-- where the first element of a slice starts in accumulator r: element (first, 0) of rows, (0, first) of columns
+abbrev pub cornerOf : Parameters → Form → (r first w : ℕ) → ℕ
+cornerOf M Plain r first w = startOf M MatrixC r + first * pitchOf M MatrixC
+cornerOf M Transposed r first w = startOf M MatrixC r + first * w
+
+-- and where row i of it starts
+abbrev pub sliceAt : Parameters → Form → (r first w : ℕ) → ℕ → ℕ
+sliceAt M f r first w i = cornerOf M f r first w + i * pitchOf M MatrixC
+
+-- its rows and columns there, and its elements: "each to or from the next register of the group, its elements of SEW bits from byte 0 on"
+abbrev pub sliceRows : Form → State → ℕ → ℕ
+sliceRows f st count = memoryRows f count (lineOf f st)
+
+abbrev pub sliceCols : Form → State → ℕ → ℕ
+sliceCols f st count = memoryCols f count (lineOf f st)
 
 -- a tile of a register written: "each word marks every register byte that it writes"
 abbrev pub written : State → (ℕ → ℕ) → ℕ → ℕ → ℕ → (ℕ → ℕ → ℕ) → State
@@ -182,6 +221,10 @@ stateAfter M (combine o f d a) st mem =
     written st (accAt M d) (st .tileM) (st .tileN) (f * sew (st .mtype)) (sumAt M o (st .regs) (f * sew (st .mtype)) (sew (st .mtype)) d a)
 stateAfter M (scale f d a x) st mem =
     written st (accAt M d) (st .tileM) (st .tileN) (f * sew (st .mtype)) (scaledAt M x (st .regs) (f * sew (st .mtype)) (sew (st .mtype)) a)
+stateAfter M (moveOut f a v first count) st mem = st
+-- element (i, j) of the slice is element j of register i of the group, or of columns element i of register j
+stateAfter M (moveIn f d v first count file) st mem =
+    written st (sliceAt M f d first (sew (st .mtype))) (sliceRows f st count) (sliceCols f st count) (sew (st .mtype)) (placed f (element file (vectorAt v) (sew (st .mtype))))
 stateAfter M (floatMultiply d a b) st mem =
     written st (accAt M d) (st .tileM) (st .tileN) (sew (st .mtype)) (floatProductAt M (st .regs) (sew (st .mtype)) d a b (st .tileK))
 
@@ -199,6 +242,24 @@ memoryAfter M (multiply f d a b) st mem = mem
 memoryAfter M (combine o f d a) st mem = mem
 memoryAfter M (scale f d a x) st mem = mem
 memoryAfter M (floatMultiply d a b) st mem = mem
+memoryAfter M (moveOut f a v first count) st mem = mem
+memoryAfter M (moveIn f d v first count file) st mem = mem
+
+-- 02, Eleven: "each to or from the next register of the group, its elements of SEW bits from byte 0 on; other vector bytes stay"
+abbrev pub vectorsAfter : Parameters → Operation → State → List ℕ → List ℕ
+vectorsAfter M (illegal wrong) st file = file
+vectorsAfter M (setType v) st file = file
+vectorsAfter M (setSize d a) st file = file
+vectorsAfter M (cutSize d) st file = file
+vectorsAfter M (load f k r w base stride) st file = file
+vectorsAfter M (store f k r w base stride) st file = file
+vectorsAfter M (multiply f d a b) st file = file
+vectorsAfter M (combine o f d a) st file = file
+vectorsAfter M (scale f d a x) st file = file
+vectorsAfter M (floatMultiply d a b) st file = file
+vectorsAfter M (moveOut f a v first count) st file =
+    putTile (vectorAt v) count (lineOf f st) (sew (st .mtype)) (placed f (element (st .regs) (sliceAt M f a first (sew (st .mtype))) (sew (st .mtype)))) file
+vectorsAfter M (moveIn f d v first count source) st file = file
 
 -- what rd receives, of the state after: "rd receives the new mtype", "The new tile size .. goes to rd too"
 abbrev pub resultOf : Operation → State → ℕ
@@ -212,3 +273,5 @@ resultOf (multiply f d a b) st = 0
 resultOf (combine o f d a) st = 0
 resultOf (scale f d a x) st = 0
 resultOf (floatMultiply d a b) st = 0
+resultOf (moveOut f a v first count) st = 0
+resultOf (moveIn f d v first count file) st = 0

@@ -1,6 +1,6 @@
--- 01, "Numbers of the answers", and 02, One and Seven: the checks of an operation in their order: 10, 11, 1, 12, then 2 to 6, 13, 7.
+-- 01, "Numbers of the answers", and 02, One, Seven and Eleven: the checks of an operation in their order: 10, 11, 1, 12, then 2 to 6, 13, 7.
 use mathlib.Core.Bool.{Bool, true, false, not, _&&_, _||_}
-use mathlib.Core.List.{List, [], _∷_}
+use mathlib.Core.List.{List, [], _∷_, _++_}
 use Prim.Native.Nat.{ℕ, zero, suc, _+_, _*_}
 use lib.ListN.{length, getD}
 use lib.Dec.{leb, eqb}
@@ -10,6 +10,8 @@ use Rattle.machine.specs.declared.Answer.the-variants.{IllegalWord, Ille
 use Rattle.machine.specs.declared.Wrong.{Wrong}
 use Rattle.machine.specs.declared.Wrong.the-variants.{Opcode, LeftOut, Unlisted, Register}
 use Rattle.machine.specs.declared.Matrix.{Matrix}
+use Rattle.machine.specs.declared.Form.{Form}
+use Rattle.machine.specs.declared.Form.the-variants.{Plain, Transposed}
 use Rattle.machine.specs.declared.Matrix.the-variants.{MatrixA, MatrixB, MatrixC}
 use Rattle.machine.specs.declared.Dimension.{Dimension}
 use Rattle.machine.specs.declared.Dimension.the-variants.{DimensionM, DimensionK, DimensionN}
@@ -18,7 +20,8 @@ use Rattle.machine.specs.Answers.{Check, _otherwise_}
 use Rattle.machine.specs.Geometry.{Parameters, State, registerAt, tileAt, accAt}
 use Rattle.machine.specs.Setting.{sew, maccq, mill, maximum, sizeIn}
 use Rattle.machine.specs.Memory.{rowAt, inside, distinct, unsealed}
-use Rattle.machine.specs.Operation.{Operation, illegal, setType, setSize, cutSize, load, store, multiply, combine, scale, floatMultiply, rowsOf, columnsOf, tileRows, tileCols, memoryRows, memoryCols}
+use Rattle.machine.specs.Operation.{Operation, illegal, setType, setSize, cutSize, load, store, multiply, combine, scale, floatMultiply, moveOut, moveIn, rowsOf, columnsOf, tileRows, tileCols, memoryRows, memoryCols, linesOf, lineOf, sliceAt, sliceRows, sliceCols}
+use Rattle.machine.specs.Vectors.{vectorBytes}
 
 -- 10, 11, 1, 12: a word that is refused for what it is
 abbrev pub wordAnswer : Wrong → Answer
@@ -79,6 +82,25 @@ multiplyReads M f d a b st =
     ∷ needs (eqb (st .tileM * st .tileN) 0) (st .marks) (tileAt M b) (st .tileK) (st .tileN) (sew (st .mtype))
     ∷ needs false (st .marks) (accAt M d) (st .tileM) (st .tileN) (f * sew (st .mtype)) ∷ []
 
+-- 5 of a slice: "row and column" are those of the accumulator; the first element in the order of its rows
+abbrev pub unwrittenIn : Form → (first row column : ℕ) → Answer
+unwrittenIn Plain first row column = Unwritten (first + row) column
+unwrittenIn Transposed first row column = Unwritten row (first + column)
+
+abbrev pub sliceNeeds : Form → ℕ → List ℕ → (ℕ → ℕ) → (rows cols w : ℕ) → Check
+sliceNeeds f first ms at rows cols w =
+    marked ms at rows (cols * w) otherwise
+    unwrittenIn f first (firstRow ms at rows (cols * w)) (firstColumn ms (at (firstRow ms at rows (cols * w))) cols w)
+
+-- 2 and 4 of a move: "a slice past the tile, or one row or column that exceeds 128 bits, gets 4"
+abbrev pub sliceFits : Parameters → Form → (first count : ℕ) → State → List Check
+sliceFits M f first count st =
+    typed st
+    ∷ fitting M st DimensionM
+    ∷ fitting M st DimensionN
+    ∷ (leb (first + count) (linesOf f st) otherwise TileTooLarge)
+    ∷ (leb (lineOf f st * sew (st .mtype)) vectorBytes otherwise TileTooLarge) ∷ []
+
 -- 6: "an element's byte lies outside memory"; 7: "a store would write a sealed byte"; "sources go ms1, ms2, md". 02, Two: "State, marks
 -- and checks are as for the plain forms; answer 5 names row and column in the register". 02, Seven: "Refuse a store, transposed too, in
 -- which a byte belongs to two rows. .. 13, after 6 and before 7."
@@ -120,6 +142,11 @@ checks M (scale f d a x) st mem =
     ∷ fitting M st DimensionM
     ∷ fitting M st DimensionN
     ∷ needs (isZero x) (st .marks) (accAt M a) (st .tileM) (st .tileN) (sew (st .mtype)) ∷ []
+-- 02, Eleven: what is moved out was written; a move in writes
+checks M (moveOut f a v first count) st mem =
+    sliceFits M f first count st
+    ++ (sliceNeeds f first (st .marks) (sliceAt M f a first (sew (st .mtype))) (sliceRows f st count) (sliceCols f st count) (sew (st .mtype)) ∷ [])
+checks M (moveIn f d v first count file) st mem = sliceFits M f first count st
 -- 02, Four: "a SEW other than 32 gets 3"; all else as for mma.mm
 checks M (floatMultiply d a b) st mem =
     typed st

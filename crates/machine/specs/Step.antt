@@ -7,13 +7,14 @@ use Rattle.machine.specs.declared.Answer.{Answer}
 use Rattle.machine.specs.declared.Answer.the-variants.{Done, BadArguments}
 use Rattle.machine.specs.declared.Stepped.{Stepped}
 use Rattle.machine.specs.declared.Instruction.{Instruction}
-use Rattle.machine.specs.declared.Instruction.the-variants.{Illegal, SetTypeImmediate, SetType, SetTileImmediate, SetTile, Load, Store, Multiply, Combine, Scale, ScaleImmediate, FloatMultiply}
+use Rattle.machine.specs.declared.Instruction.the-variants.{Illegal, SetTypeImmediate, SetType, SetTileImmediate, SetTile, Load, Store, Multiply, Combine, Scale, ScaleImmediate, FloatMultiply, MoveOut, MoveIn}
 use Rattle.machine.specs.declared.Reply.{Reply}
 use Rattle.machine.specs.Answers.{reply, Check, _otherwise_, verdict, isDone}
 use Rattle.machine.specs.Geometry.{Parameters, parameters, State, stateOf, machineAfter, Bench, benchOf, withScalar}
 use Rattle.machine.specs.Setting.{chosen}
 use Rattle.machine.specs.Listing.{decode}
-use Rattle.machine.specs.Operation.{Operation, operation, stateAfter, memoryAfter, resultOf}
+use Rattle.machine.specs.Vectors.{Vectors, vectorsFit, idle}
+use Rattle.machine.specs.Operation.{Operation, operationIn, stateAfter, memoryAfter, vectorsAfter, resultOf}
 use Rattle.machine.specs.Refusals.{checks}
 use Rattle.machine.specs.Faults.{soundBench, thirtyTwo}
 
@@ -31,6 +32,8 @@ destination (Combine sum factor md ms1) = 0
 destination (Scale factor md ms1 rs2) = 0
 destination (ScaleImmediate factor md ms1 immediate) = 0
 destination (FloatMultiply md ms1 ms2) = 0
+destination (MoveOut form vd ms1 rs2) = 0
+destination (MoveIn form md vs1 rs2) = 0
 
 -- what a step answers and leaves
 pub record Outcome : Type 0 where
@@ -38,44 +41,91 @@ pub record Outcome : Type 0 where
   pub bench : Bench
   pub scalars : List ℕ
 
+-- and what it leaves of a vector file beside the bench
+pub record VectorOutcome : Type 0 where
+  pub answer : Reply
+  pub bench : Bench
+  pub scalars : List ℕ
+  pub vectors : List ℕ
+
+abbrev pub beside : List ℕ → Outcome → VectorOutcome
+beside file o = record { answer = o .answer; bench = o .bench; scalars = o .scalars; vectors = file }
+
 -- ---- carrying out an instruction
 
-module _ (M : Parameters) (i : Instruction) (xs : List ℕ) (B : Bench) where
-  abbrev pub given : State
-  given = stateOf (B .machine) (B .registers) (B .marks)
+module _ (W : Vectors) (M : Parameters) (i : Instruction) (xs : List ℕ) (B : Bench) where
+  abbrev pub givenIn : State
+  givenIn = stateOf (B .machine) (B .registers) (B .marks)
 
-  abbrev pub meant : Operation
-  meant = operation M given xs i
+  abbrev pub meantIn : Operation
+  meantIn = operationIn W M givenIn xs i
 
   -- "For a step the order is 8, then 1 to 7"; 02, One: 10, 11, 1, 12 "at the place where 1 stood"; 02, Seven: 13, "after 6 and before 7"
-  abbrev pub stepChecks : List Check
-  stepChecks =
+  abbrev pub checksIn : List Check
+  checksIn =
       (soundBench B otherwise BadArguments)
       ∷ (thirtyTwo xs otherwise BadArguments)
-      ∷ checks M meant given (B .memory)
+      ∷ checks M meantIn givenIn (B .memory)
 
-  abbrev pub left : State
-  left = stateAfter M meant given (B .memory)
+  abbrev pub leftIn : State
+  leftIn = stateAfter M meantIn givenIn (B .memory)
 
-  abbrev pub carriedOut : Outcome
-  carriedOut = record {
+  abbrev pub carriedIn : Outcome
+  carriedIn = record {
     answer = reply Done;
-    bench = benchOf (machineAfter (B .machine) left) (left .regs) (left .marks) (memoryAfter M meant given (B .memory));
-    scalars = withScalar xs (destination i) (resultOf meant left);
+    bench = benchOf (machineAfter (B .machine) leftIn) (leftIn .regs) (leftIn .marks) (memoryAfter M meantIn givenIn (B .memory));
+    scalars = withScalar xs (destination i) (resultOf meantIn leftIn);
   }
 
   -- "A refusal changes nothing lent or held."
-  abbrev pub refused : Answer → Outcome
-  refused a = record { answer = reply a; bench = B; scalars = xs }
+  abbrev pub refusedIn : Answer → Outcome
+  refusedIn a = record { answer = reply a; bench = B; scalars = xs }
 
-  unfoldable pub outcome : Outcome
-  outcome = cond (isDone (verdict stepChecks)) carriedOut (refused (verdict stepChecks))
+  abbrev pub outcomeIn : Outcome
+  outcomeIn = cond (isDone (verdict checksIn)) carriedIn (refusedIn (verdict checksIn))
+
+  abbrev pub vectorsIn : List ℕ
+  vectorsIn = cond (isDone (verdict checksIn)) (vectorsAfter M meantIn givenIn (W .file)) (W .file)
+
+  -- 02, Eleven: "a bad vector file or group size gets 8"
+  abbrev pub steppedIn : VectorOutcome
+  steppedIn = cond (vectorsFit W) (beside vectorsIn outcomeIn) (beside (W .file) (refusedIn BadArguments))
 
 -- a step under a choice of sizes for each rule
+unfoldable pub stepWith : (ℕ → ℕ → ℕ → ℕ) → ℕ → List ℕ → Vectors → Bench → VectorOutcome
+stepWith grant word xs W B = steppedIn W (parameters grant (B .machine)) (decode word) xs B
+
+-- and under ours
+abbrev pub vectorStep : ℕ → List ℕ → Vectors → Bench → VectorOutcome
+vectorStep = stepWith chosen
+
+-- ---- a step that is lent no vector file: those of a product run, none of whose words is a move
+
+module _ (M : Parameters) (i : Instruction) (xs : List ℕ) (B : Bench) where
+  abbrev pub given : State
+  given = givenIn idle M i xs B
+
+  abbrev pub meant : Operation
+  meant = meantIn idle M i xs B
+
+  abbrev pub stepChecks : List Check
+  stepChecks = checksIn idle M i xs B
+
+  abbrev pub left : State
+  left = leftIn idle M i xs B
+
+  abbrev pub carriedOut : Outcome
+  carriedOut = carriedIn idle M i xs B
+
+  abbrev pub refused : Answer → Outcome
+  refused = refusedIn idle M i xs B
+
+  unfoldable pub outcome : Outcome
+  outcome = outcomeIn idle M i xs B
+
 unfoldable pub stepBy : (ℕ → ℕ → ℕ → ℕ) → ℕ → List ℕ → Bench → Outcome
 stepBy grant word xs B = outcome (parameters grant (B .machine)) (decode word) xs B
 
--- and under ours
 abbrev pub step : ℕ → List ℕ → Bench → Outcome
 step = stepBy chosen
 
@@ -86,3 +136,6 @@ steppedAs r registers marks scalars memory = record {
   bench = benchOf (r .machine) registers marks memory;
   scalars = scalars;
 }
+
+abbrev pub vectorSteppedAs : Stepped → (registers marks scalars memory file : List ℕ) → VectorOutcome
+vectorSteppedAs r registers marks scalars memory file = beside file (steppedAs r registers marks scalars memory)

@@ -17,7 +17,8 @@ use Rattle.machine.specs.Faults.{soundBench}
 use Rattle.machine.specs.Listing.{decode}
 use Rattle.machine.specs.Memory.{rowZ, rowAt}
 use Rattle.machine.specs.Operation.{element, placed, tileRows, tileCols, memoryRows, memoryCols}
-use Rattle.machine.specs.Step.{stepBy}
+use Rattle.machine.specs.Vectors.{Vectors}
+use Rattle.machine.specs.Step.{stepWith}
 
 -- a bench as a start leaves it, with a memory
 abbrev pub startedBench : (rlen mlen elen rule sealStart sealLength : ℕ) (registers marks memory : List ℕ) → Bench
@@ -34,8 +35,8 @@ RulesKeepConstraints = EachGrants chosen
 
 -- Demand 1: "A refusal changes nothing lent or held."
 abbrev pub RefusalChangesNothing : Type 0
-RefusalChangesNothing = (grant : ℕ → ℕ → ℕ → ℕ) (word : ℕ) (xs : List ℕ) (B : Bench) → ¬ (stepBy grant word xs B .answer .number ≡ 0)
-    → (stepBy grant word xs B .bench ≡ B) × (stepBy grant word xs B .scalars ≡ xs)
+RefusalChangesNothing = (grant : ℕ → ℕ → ℕ → ℕ) (word : ℕ) (xs : List ℕ) (W : Vectors) (B : Bench) → ¬ (stepWith grant word xs W B .answer .number ≡ 0)
+    → (stepWith grant word xs W B .bench ≡ B) × (stepWith grant word xs W B .scalars ≡ xs) × (stepWith grant word xs W B .vectors ≡ W .file)
 
 -- and so of a start
 abbrev pub StartRefusalChangesNothing : Type 0
@@ -48,8 +49,12 @@ StartRefusalChangesNothing = (rlen mlen elen rule sealStart sealLength : ℕ) (r
 
 -- a step of a state that is not at fault leaves one that is not at fault
 abbrev pub StepKeepsSound : Type 0
-StepKeepsSound = (grant : ℕ → ℕ → ℕ → ℕ) → EachGrants grant → (word : ℕ) (xs : List ℕ) (B : Bench) → soundBench B ≡ true
-    → soundBench (stepBy grant word xs B .bench) ≡ true
+StepKeepsSound = (grant : ℕ → ℕ → ℕ → ℕ) → EachGrants grant → (word : ℕ) (xs : List ℕ) (W : Vectors) (B : Bench) → soundBench B ≡ true
+    → soundBench (stepWith grant word xs W B .bench) ≡ true
+
+-- and the vector file keeps its length
+abbrev pub StepKeepsFile : Type 0
+StepKeepsFile = (grant : ℕ → ℕ → ℕ → ℕ) (word : ℕ) (xs : List ℕ) (W : Vectors) (B : Bench) → length (stepWith grant word xs W B .vectors) ≡ length (W .file)
 
 -- and so does a start, whatever memory is lent
 abbrev pub StartIsSound : Type 0
@@ -87,21 +92,22 @@ module _ (grant : ℕ → ℕ → ℕ → ℕ) (xs : List ℕ) (B : Bench) (f : 
 
 -- 02, Seven: each element where it belongs, with no order of rows
 abbrev pub StoresAreExact : Type 0
-StoresAreExact = (grant : ℕ → ℕ → ℕ → ℕ) (word : ℕ) (xs : List ℕ) (B : Bench) (f : Form) (k : Matrix) (w r rs1 rs2 : ℕ)
-    → decode word ≡ Store f k w r rs1 rs2 → stepBy grant word xs B .answer .number ≡ 0
-    → Stores grant xs B f k w r rs1 rs2 (stepBy grant word xs B .bench .memory)
+StoresAreExact = (grant : ℕ → ℕ → ℕ → ℕ) (word : ℕ) (xs : List ℕ) (W : Vectors) (B : Bench) (f : Form) (k : Matrix) (w r rs1 rs2 : ℕ)
+    → decode word ≡ Store f k w r rs1 rs2 → stepWith grant word xs W B .answer .number ≡ 0
+    → Stores grant xs B f k w r rs1 rs2 (stepWith grant word xs W B .bench .memory)
 
 -- ---- the seal, over any number of steps
 
--- a word and the scalars it is given
+-- a word, and the scalars and the vector file it is given
 pub record Given : Type 0 where
   pub word : ℕ
   pub scalars : List ℕ
+  pub vectors : Vectors
 
 -- the bench after a list of words, refusals included
 abbrev pub afterAll : (ℕ → ℕ → ℕ → ℕ) → List Given → Bench → Bench
 afterAll grant [] B = B
-afterAll grant (w ∷ ws) B = afterAll grant ws (stepBy grant (w .word) (w .scalars) B .bench)
+afterAll grant (w ∷ ws) B = afterAll grant ws (stepWith grant (w .word) (w .scalars) (w .vectors) B .bench)
 
 -- the seal stays, the memory keeps its length, and no sealed byte changes
 pub record Unharmed (grant : ℕ → ℕ → ℕ → ℕ) (B B′ : Bench) : Type 0 where

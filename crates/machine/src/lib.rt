@@ -74,7 +74,7 @@ pub enum Dimension {
     DimensionN,
 }
 
-// Whether row and column change places between register and memory.
+// Whether row and column change places between register and memory; of a move, whether rows or columns lie in the vector registers.
 pub enum Form {
     Plain,
     Transposed,
@@ -102,7 +102,8 @@ pub enum Wrong {
     Register,
 }
 
-// A decoded word. rd, rs1 and rs2 are slots of the scalars; md, ms1, ms2 and ms3 are registers; a width is in bytes.
+// A decoded word. rd, rs1 and rs2 are slots of the scalars; md, ms1, ms2 and ms3 are registers; vd and vs1 are vector registers; a
+// width is in bytes.
 // Illegal is a word that is refused for what it is.
 pub enum Instruction {
     Illegal {
@@ -170,6 +171,18 @@ pub enum Instruction {
         md: usize,
         ms1: usize,
         ms2: usize,
+    },
+    MoveOut {
+        form: Form,
+        vd: usize,
+        ms1: usize,
+        rs2: usize,
+    },
+    MoveIn {
+        form: Form,
+        md: usize,
+        vs1: usize,
+        rs2: usize,
     },
 }
 

@@ -12,6 +12,7 @@ use Rattle.machine.specs.declared.Reply.{Reply}
 use Rattle.machine.specs.Answers.{reply}
 use Rattle.machine.specs.Geometry.{Bench, permitted, registerBytes}
 use Rattle.machine.specs.Alike.{Agree}
+use Rattle.machine.specs.Vectors.{Vectors, vectorsOf}
 use Rattle.machine.specs.Starting.{startable, startMachine, StartOutcome, freshMachine, noMachine, isRule, sealEnds}
 use Rattle.machine.specs.Theorems.{startedBench}
 use Rattle.machine.proofs.TestLaws.{false-true, every-each}
@@ -96,6 +97,7 @@ starts-alike rlen mlen elen rule sealStart sealLength registers registers′ mar
 -- equal scalars and runs, and machines that differ at most in unmarked register bytes, on equal memory
 pub record SameSession (S S′ : Session) : Type 0 where
   pub same-scalars : S .scalars ≡ S′ .scalars
+  pub same-lent : S .lent ≡ S′ .lent
   pub same-run : S .run ≡ S′ .run
   pub alike-benches : AlikeBenches (S .bench) (S′ .bench)
 
@@ -108,14 +110,15 @@ pub record SameActed (o o′ : Acted) : Type 0 where
 reading-same : (o o′ : Acted) → SameActed o o′ → reading o ≡ reading o′
 reading-same o o′ k = cc
 
-module _ (grant : ℕ → ℕ → ℕ → ℕ) (B B′ : Bench) (xs : List ℕ) (R : Run) (t : AlikeBenches B B′) where
-  each-same : (a : Act) → SameActed (act grant a (session B xs R)) (act grant a (session B′ xs R))
-  each-same (Act.lend ys memory) = record {
+module _ (grant : ℕ → ℕ → ℕ → ℕ) (B B′ : Bench) (xs : List ℕ) (W : Vectors) (R : Run) (t : AlikeBenches B B′) where
+  each-same : (a : Act) → SameActed (act grant a (session B xs W R)) (act grant a (session B′ xs W R))
+  each-same (Act.lend ys W′ memory) = record {
     same-answer = refl;
     same-handed = refl;
     same-count = refl;
     same-after = record {
       same-scalars = refl;
+      same-lent = refl;
       same-run = refl;
       alike-benches = record {
         alike = record { same-machine = t .alike .same-machine; same-marks = t .alike .same-marks; agree = t .alike .agree };
@@ -124,12 +127,12 @@ module _ (grant : ℕ → ℕ → ℕ → ℕ) (B B′ : Bench) (xs : List ℕ) 
     };
   }
   each-same (Act.step word) =
-      let k = step-ignores-unmarked grant word xs B B′ t in
+      let k = step-ignores-unmarked grant word xs W B B′ t in
       record {
         same-answer = k .same-answer;
         same-handed = refl;
         same-count = refl;
-        same-after = record { same-scalars = k .same-scalars; same-run = refl; alike-benches = k .alike-after };
+        same-after = record { same-scalars = k .same-scalars; same-lent = ap (λ (f : List ℕ). vectorsOf f (W .group)) (k .same-vectors); same-run = refl; alike-benches = k .alike-after };
       }
   each-same (Act.runStart P) =
       let k = run-start-ignores-unmarked grant P B B′ t in
@@ -137,13 +140,13 @@ module _ (grant : ℕ → ℕ → ℕ → ℕ) (B B′ : Bench) (xs : List ℕ) 
         same-answer = k .same-answer;
         same-handed = refl;
         same-count = refl;
-        same-after = record { same-scalars = refl; same-run = k .same-run; alike-benches = k .alike-after };
+        same-after = record { same-scalars = refl; same-lent = refl; same-run = k .same-run; alike-benches = k .alike-after };
       }
   each-same Act.runNext = record {
     same-answer = refl;
     same-handed = refl;
     same-count = refl;
-    same-after = record { same-scalars = refl; same-run = refl; alike-benches = t };
+    same-after = record { same-scalars = refl; same-lent = refl; same-run = refl; alike-benches = t };
   }
   each-same Act.runTurn =
       let k = turns-ignore-unmarked grant (running R B) (running R B′) (record { same-run = refl; alike-benches = t }) zero .1 in
@@ -151,7 +154,7 @@ module _ (grant : ℕ → ℕ → ℕ → ℕ) (B B′ : Bench) (xs : List ℕ) 
         same-answer = k .same-answer;
         same-handed = k .same-handed;
         same-count = refl;
-        same-after = record { same-scalars = refl; same-run = k .same-after .same-run; alike-benches = k .same-after .alike-benches };
+        same-after = record { same-scalars = refl; same-lent = refl; same-run = k .same-after .same-run; alike-benches = k .same-after .alike-benches };
       }
   each-same (Act.runTurns n) =
       let k = turns-ignore-unmarked grant (running R B) (running R B′) (record { same-run = refl; alike-benches = t }) n .0 in
@@ -159,7 +162,7 @@ module _ (grant : ℕ → ℕ → ℕ → ℕ) (B B′ : Bench) (xs : List ℕ) 
         same-answer = refl;
         same-handed = refl;
         same-count = k .same-count;
-        same-after = record { same-scalars = refl; same-run = k .same-after .same-run; alike-benches = k .same-after .alike-benches };
+        same-after = record { same-scalars = refl; same-lent = refl; same-run = k .same-after .same-run; alike-benches = k .same-after .alike-benches };
       }
   each-same (Act.run P) =
       let k = whole-ignores-unmarked grant P B B′ t in
@@ -167,14 +170,15 @@ module _ (grant : ℕ → ℕ → ℕ → ℕ) (B B′ : Bench) (xs : List ℕ) 
         same-answer = k .same-answer;
         same-handed = refl;
         same-count = k .same-count;
-        same-after = record { same-scalars = refl; same-run = refl; alike-benches = k .alike-after };
+        same-after = record { same-scalars = refl; same-lent = refl; same-run = refl; alike-benches = k .alike-after };
       }
 
 act-same : (grant : ℕ → ℕ → ℕ → ℕ) (a : Act) (S S′ : Session) → SameSession S S′ → SameActed (act grant a S) (act grant a S′)
 act-same grant a S S′ s =
-    subst (λ (xs : List ℕ). SameActed (act grant a S) (act grant a (session (S′ .bench) xs (S′ .run)))) (s .same-scalars)
-    (subst (λ (R : Run). SameActed (act grant a S) (act grant a (session (S′ .bench) (S .scalars) R))) (s .same-run)
-    (each-same grant (S .bench) (S′ .bench) (S .scalars) (S .run) (s .alike-benches) a))
+    subst (λ (xs : List ℕ). SameActed (act grant a S) (act grant a (session (S′ .bench) xs (S′ .lent) (S′ .run)))) (s .same-scalars)
+    (subst (λ (W : Vectors). SameActed (act grant a S) (act grant a (session (S′ .bench) (S .scalars) W (S′ .run)))) (s .same-lent)
+    (subst (λ (R : Run). SameActed (act grant a S) (act grant a (session (S′ .bench) (S .scalars) (S .lent) R))) (s .same-run)
+    (each-same grant (S .bench) (S′ .bench) (S .scalars) (S .lent) (S .run) (s .alike-benches) a)))
 
 readings-same : (grant : ℕ → ℕ → ℕ → ℕ) (acts : List Act) (S S′ : Session) → SameSession S S′ → readings grant acts S ≡ readings grant acts S′
 readings-same grant [] S S′ s = refl
@@ -186,7 +190,7 @@ pub power-up-never-matters : PowerUpNeverMatters
 power-up-never-matters grant rlen mlen elen rule sealStart sealLength registers registers′ marks marks′ er em =
     let e = start-same rlen mlen elen rule sealStart sealLength registers registers′ marks marks′ er em in (
       e,
-      λ d acts memory scalars R.
-          readings-same grant acts (session (startedBench rlen mlen elen rule sealStart sealLength registers marks memory) scalars R) (session (startedBench rlen mlen elen rule sealStart sealLength registers′ marks′ memory) scalars R)
-          (record { same-scalars = refl; same-run = refl; alike-benches = starts-alike rlen mlen elen rule sealStart sealLength registers registers′ marks marks′ memory d (ap (λ (a : Reply). a .number) (sym e) ∙ d) }),
+      λ d acts memory scalars W R.
+          readings-same grant acts (session (startedBench rlen mlen elen rule sealStart sealLength registers marks memory) scalars W R) (session (startedBench rlen mlen elen rule sealStart sealLength registers′ marks′ memory) scalars W R)
+          (record { same-scalars = refl; same-lent = refl; same-run = refl; alike-benches = starts-alike rlen mlen elen rule sealStart sealLength registers registers′ marks marks′ memory d (ap (λ (a : Reply). a .number) (sym e) ∙ d) }),
     )

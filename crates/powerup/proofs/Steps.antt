@@ -22,16 +22,18 @@ use Rattle.machine.specs.declared.Dimension.the-variants.{DimensionM, Dimension
 use Rattle.machine.specs.declared.Form.{Form}
 use Rattle.machine.specs.declared.Form.the-variants.{Plain, Transposed}
 use Rattle.machine.specs.declared.Instruction.{Instruction}
-use Rattle.machine.specs.declared.Instruction.the-variants.{Illegal, SetTypeImmediate, SetType, SetTileImmediate, SetTile, Load, Store, Multiply, Combine, Scale, ScaleImmediate, FloatMultiply}
+use Rattle.machine.specs.declared.Instruction.the-variants.{Illegal, SetTypeImmediate, SetType, SetTileImmediate, SetTile, Load, Store, Multiply, Combine, Scale, ScaleImmediate, FloatMultiply, MoveOut, MoveIn}
 use Rattle.machine.specs.Answers.{reply, Check, _otherwise_, verdict, isDone}
 use Rattle.machine.specs.Geometry.{Parameters, parameters, State, machineAfter, Bench, benchOf, registerAt, tileAt, accAt, withScalar}
 use Rattle.machine.specs.Setting.{sew, maximum, sizeIn, smaller}
 use Rattle.machine.specs.Listing.{decode}
 use Rattle.machine.specs.Memory.{rowAt}
-use Rattle.machine.specs.Operation.{Operation, operation, stateAfter, memoryAfter, resultOf, element, written, resized, productAt, floatProductAt, sumOf, rowsOf, columnsOf, tileRows, tileCols, memoryRows, memoryCols, placed}
+use Rattle.machine.specs.Operation.{Operation, operationIn, stateAfter, memoryAfter, vectorsAfter, resultOf, element, written, resized, productAt, floatProductAt, sumOf, rowsOf, columnsOf, tileRows, tileCols, memoryRows, memoryCols, placed, sliceAt}
 use Rattle.machine.specs.Refusals.{marked, needs, checks, isZero}
 use Rattle.machine.specs.Faults.{sound, soundBench, thirtyTwo}
-use Rattle.machine.specs.Step.{Outcome, outcome, stepBy, given, meant, destination}
+use Rattle.machine.specs.Vectors.{Vectors, vectorsOf, vectorsFit, vectorAt, idle}
+use Rattle.machine.specs.Step
+use Rattle.machine.specs.Step.{Outcome, outcome, stepBy, VectorOutcome, beside, outcomeIn, vectorsIn, stepWith, givenIn, meantIn, destination}
 use Rattle.machine.specs.Alike.{Agree}
 use Rattle.machine.proofs.TestLaws.{or-not}
 use Rattle.machine.proofs.StoreLaws.{stored-puts, store-ends}
@@ -60,6 +62,7 @@ pub record Unseen (M : Parameters) (st : State) (ys mem : List ℕ) (o : Operati
   pub same-result : resultOf o (stateAfter M o st mem) ≡ resultOf o (stateAfter M o (withRegs st ys) mem)
   pub same-memory : Passed (checks M o st mem) → memoryAfter M o st mem ≡ memoryAfter M o (withRegs st ys) mem
   pub alike-after : Passed (checks M o st mem) → AlikeStates (stateAfter M o st mem) (stateAfter M o (withRegs st ys) mem)
+  pub same-file : Passed (checks M o st mem) → (file : List ℕ) → vectorsAfter M o st file ≡ vectorsAfter M o (withRegs st ys) file
 
 -- values that are equal over the tile in the register are so over the tile in memory
 placed-cong : (f : Form) (rows cols : ℕ) (v u : ℕ → ℕ → ℕ) → ((i j : ℕ) → i < rows → j < cols → v i j ≡ u i j)
@@ -143,20 +146,22 @@ module _ (M : Parameters) (st : State) (ys mem : List ℕ) (a : Agree (st .marks
   kept = record { same-rest = refl; agree = a }
 
   pub unseen : (o : Operation) → Unseen M st ys mem o
-  unseen (Operation.illegal wrong) = record { same-checks = refl; same-result = refl; same-memory = λ p. refl; alike-after = λ p. kept }
-  unseen (Operation.setType v) = record { same-checks = refl; same-result = refl; same-memory = λ p. refl; alike-after = λ p. record { same-rest = refl; agree = a } }
-  unseen (Operation.setSize d n) = record { same-checks = refl; same-result = sized-result d (M .grant (maximum M (st .mtype) d) n); same-memory = λ p. refl; alike-after = λ p. sized-alike d (M .grant (maximum M (st .mtype) d) n) }
+  unseen (Operation.illegal wrong) = record { same-checks = refl; same-result = refl; same-memory = λ p. refl; alike-after = λ p. kept; same-file = λ p file. refl }
+  unseen (Operation.setType v) = record { same-checks = refl; same-result = refl; same-memory = λ p. refl; alike-after = λ p. record { same-rest = refl; agree = a }; same-file = λ p file. refl }
+  unseen (Operation.setSize d n) = record { same-checks = refl; same-result = sized-result d (M .grant (maximum M (st .mtype) d) n); same-memory = λ p. refl; alike-after = λ p. sized-alike d (M .grant (maximum M (st .mtype) d) n); same-file = λ p file. refl }
   unseen (Operation.cutSize d) = record {
     same-checks = refl;
     same-result = refl;
     same-memory = λ p. refl;
     alike-after = λ p. rw (size-same d) (sized-alike d (smaller (maximum M (st .mtype) d) (sizeIn d st)));
+    same-file = λ p file. refl;
   }
   unseen (Operation.load f k r w b s) = record {
     same-checks = rw (size-same (rowsOf k), size-same (columnsOf k));
     same-result = refl;
     same-memory = λ p. refl;
     alike-after = λ p. rw (size-same (rowsOf k), size-same (columnsOf k)) (wrote (registerAt M k r) _ _ w _ _ (λ i j l m. refl));
+    same-file = λ p file. refl;
   }
   unseen (Operation.store f k r w b s) = record {
     same-checks = rw (size-same (rowsOf k), size-same (columnsOf k));
@@ -170,6 +175,7 @@ module _ (M : Parameters) (st : State) (ys mem : List ℕ) (a : Agree (st .marks
         (read (registerAt M k r) (tileRows st k) (tileCols st k) w false (p .1 .1 .1 .1 .0) refl))
         ∙ sym (stored-puts (rowAt b s) _ _ w _ mem apart ends));
     alike-after = λ p. kept;
+    same-file = λ p file. refl;
   }
   unseen (Operation.multiply f d s t) = record {
     same-checks = refl;
@@ -180,6 +186,7 @@ module _ (M : Parameters) (st : State) (ys mem : List ℕ) (a : Agree (st .marks
         wrote (accAt M d) _ _ _ _ _ (λ i j l m.
         product-same M (st .regs) ys (f * sew (st .mtype)) (sew (st .mtype)) d s t (st .tileK) i j
         (operands-same (f * sew (st .mtype)) (sew (st .mtype)) d s t (q .0) (q .1 .0) (q .1 .1 .0) i j l m));
+    same-file = λ p file. refl;
   }
   unseen (Operation.combine o f d s) = record {
     same-checks = refl;
@@ -191,6 +198,7 @@ module _ (M : Parameters) (st : State) (ys mem : List ℕ) (a : Agree (st .marks
         ap₂ (λ (x y : ℕ). reduce (256 ^ (f * sew (st .mtype))) (sumOf o (signed (256 ^ (f * sew (st .mtype))) x) (signed (256 ^ sew (st .mtype)) y)))
         (read (accAt M d) (st .tileM) (st .tileN) (f * sew (st .mtype)) false (q .1 .0) refl i j l m)
         (read (accAt M s) (st .tileM) (st .tileN) (sew (st .mtype)) false (q .0) refl i j l m));
+    same-file = λ p file. refl;
   }
   unseen (Operation.scale f d s x) = record {
     same-checks = refl;
@@ -201,6 +209,7 @@ module _ (M : Parameters) (st : State) (ys mem : List ℕ) (a : Agree (st .marks
         wrote (accAt M d) _ _ _ _ _ (λ i j l m.
         ap (reduce (256 ^ (f * v))) (zero-or-same (256 ^ v) (element (st .regs) (accAt M s) v i j) (element ys (accAt M s) v i j) x
         (λ e. read (accAt M s) (st .tileM) (st .tileN) v (isZero x) (p .1 .1 .1 .1 .0) e i j l m)));
+    same-file = λ p file. refl;
   }
   unseen (Operation.floatMultiply d s t) = record {
     same-checks = refl;
@@ -211,22 +220,57 @@ module _ (M : Parameters) (st : State) (ys mem : List ℕ) (a : Agree (st .marks
         let v = sew (st .mtype) in
         let hd = subst (λ (w : ℕ). needs false (st .marks) (accAt M d) (st .tileM) (st .tileN) w .holds ≡ true) (one-mul v) (q .1 .1 .0) in
         wrote (accAt M d) _ _ _ _ _ (λ i j l m. float-same M (st .regs) ys v d s t (st .tileK) i j (operands-same v v d s t (q .0) (q .1 .0) hd i j l m));
+    same-file = λ p file. refl;
+  }
+  unseen (Operation.moveOut Plain s v start count) = record {
+    same-checks = refl;
+    same-result = refl;
+    same-memory = λ p. refl;
+    alike-after = λ p. kept;
+    same-file = λ p file.
+        putTile-cong (vectorAt v) count (st .tileN) (sew (st .mtype)) _ _ file (λ i j l m.
+        element-same (st .marks) (st .regs) ys a (sliceAt M Plain s start (sew (st .mtype))) count (st .tileN) (sew (st .mtype)) (p .1 .1 .1 .1 .1 .0) i j l m);
+  }
+  unseen (Operation.moveOut Transposed s v start count) = record {
+    same-checks = refl;
+    same-result = refl;
+    same-memory = λ p. refl;
+    alike-after = λ p. kept;
+    same-file = λ p file.
+        putTile-cong (vectorAt v) count (st .tileM) (sew (st .mtype)) _ _ file (λ i j l m.
+        element-same (st .marks) (st .regs) ys a (sliceAt M Transposed s start (sew (st .mtype))) (st .tileM) count (sew (st .mtype)) (p .1 .1 .1 .1 .1 .0) j i m l);
+  }
+  unseen (Operation.moveIn Plain d v start count source) = record {
+    same-checks = refl;
+    same-result = refl;
+    same-memory = λ p. refl;
+    alike-after = λ p. wrote (sliceAt M Plain d start (sew (st .mtype))) _ _ _ _ _ (λ i j l m. refl);
+    same-file = λ p file. refl;
+  }
+  unseen (Operation.moveIn Transposed d v start count source) = record {
+    same-checks = refl;
+    same-result = refl;
+    same-memory = λ p. refl;
+    alike-after = λ p. wrote (sliceAt M Transposed d start (sew (st .mtype))) _ _ _ _ _ (λ i j l m. refl);
+    same-file = λ p file. refl;
   }
 
 -- an instruction means the same operation
-meant-same : (M : Parameters) (st : State) (ys xs : List ℕ) (i : Instruction) → operation M st xs i ≡ operation M (withRegs st ys) xs i
-meant-same M st ys xs (Illegal wrong) = refl
-meant-same M st ys xs (SetTypeImmediate rd immediate) = refl
-meant-same M st ys xs (SetType rd rs1) = refl
-meant-same M st ys xs (SetTileImmediate dimension rd immediate) = refl
-meant-same M st ys xs (SetTile dimension rd rs1) = refl
-meant-same M st ys xs (Load form matrix width md rs1 rs2) = refl
-meant-same M st ys xs (Store form matrix width ms3 rs1 rs2) = refl
-meant-same M st ys xs (Multiply factor md ms1 ms2) = refl
-meant-same M st ys xs (Combine sum factor md ms1) = refl
-meant-same M st ys xs (Scale factor md ms1 rs2) = refl
-meant-same M st ys xs (ScaleImmediate factor md ms1 immediate) = refl
-meant-same M st ys xs (FloatMultiply md ms1 ms2) = refl
+meant-same : (W : Vectors) (M : Parameters) (st : State) (ys xs : List ℕ) (i : Instruction) → operationIn W M st xs i ≡ operationIn W M (withRegs st ys) xs i
+meant-same W M st ys xs (Illegal wrong) = refl
+meant-same W M st ys xs (SetTypeImmediate rd immediate) = refl
+meant-same W M st ys xs (SetType rd rs1) = refl
+meant-same W M st ys xs (SetTileImmediate dimension rd immediate) = refl
+meant-same W M st ys xs (SetTile dimension rd rs1) = refl
+meant-same W M st ys xs (Load form matrix width md rs1 rs2) = refl
+meant-same W M st ys xs (Store form matrix width ms3 rs1 rs2) = refl
+meant-same W M st ys xs (Multiply factor md ms1 ms2) = refl
+meant-same W M st ys xs (Combine sum factor md ms1) = refl
+meant-same W M st ys xs (Scale factor md ms1 rs2) = refl
+meant-same W M st ys xs (ScaleImmediate factor md ms1 immediate) = refl
+meant-same W M st ys xs (FloatMultiply md ms1 ms2) = refl
+meant-same W M st ys xs (MoveOut form vd ms1 rs2) = refl
+meant-same W M st ys xs (MoveIn form md vs1 rs2) = refl
 
 -- ---- one step
 
@@ -249,83 +293,121 @@ benches-of m m′ st st′ mem mem′ em a e = record {
   same-memory = cc;
 }
 
-module _ (M : Parameters) (i : Instruction) (xs : List ℕ) where
+module _ (W : Vectors) (M : Parameters) (i : Instruction) (xs : List ℕ) where
   -- the checks and the outcome of a step, by what the state's test says and what the word means
   abbrev checksAs : Bench → Bool → Operation → List Check
-  checksAs B s o = (s otherwise BadArguments) ∷ (thirtyTwo xs otherwise BadArguments) ∷ checks M o (given M i xs B) (B .memory)
+  checksAs B s o = (s otherwise BadArguments) ∷ (thirtyTwo xs otherwise BadArguments) ∷ checks M o (givenIn W M i xs B) (B .memory)
 
   abbrev after : Bench → Operation → State
-  after B o = stateAfter M o (given M i xs B) (B .memory)
+  after B o = stateAfter M o (givenIn W M i xs B) (B .memory)
 
-  abbrev outcomeAs : Bench → Operation → Answer → Outcome
+  abbrev outcomeAs : Bench → Operation → Answer → VectorOutcome
   outcomeAs B o a =
-      cond (isDone a)
+      beside (cond (isDone a) (vectorsAfter M o (givenIn W M i xs B) (W .file)) (W .file)) (cond (isDone a)
       (record {
         answer = reply Done;
-        bench = benchOf (machineAfter (B .machine) (after B o)) (after B o .regs) (after B o .marks) (memoryAfter M o (given M i xs B) (B .memory));
+        bench = benchOf (machineAfter (B .machine) (after B o)) (after B o .regs) (after B o .marks) (memoryAfter M o (givenIn W M i xs B) (B .memory));
         scalars = withScalar xs (destination i) (resultOf o (after B o));
       })
-      (record { answer = reply a; bench = B; scalars = xs })
+      (record { answer = reply a; bench = B; scalars = xs }))
 
-  outcome-same : (B : Bench) (ys : List ℕ) → Agree (B .marks) (B .registers) ys → SameOutcome (outcome M i xs B) (outcome M i xs (lent B ys))
-  unfolding outcome
+  abbrev here : Bench → VectorOutcome
+  here B = beside (vectorsIn W M i xs B) (outcomeIn W M i xs B)
+
+  outcome-same : (B : Bench) (ys : List ℕ) → Agree (B .marks) (B .registers) ys → SameOutcome (here B) (here (lent B ys))
   outcome-same B ys a =
-      subst (λ (q : Operation). SameOutcome (outcome M i xs B) (outcomeAs (lent B ys) q (verdict (checksAs (lent B ys) (soundBench (lent B ys)) q)))) (meant-same M (given M i xs B) ys xs i)
-      (subst (λ (b : Bool). SameOutcome (outcome M i xs B) (outcomeAs (lent B ys) o (verdict (checksAs (lent B ys) b o)))) (sound-same (B .machine) (B .registers) ys (B .marks) (a .same-length))
-      (subst (λ (cs : List Check). SameOutcome (outcome M i xs B) (outcomeAs (lent B ys) o (verdict ((soundBench B otherwise BadArguments) ∷ (thirtyTwo xs otherwise BadArguments) ∷ cs)))) (u .same-checks)
+      subst (λ (q : Operation). SameOutcome (here B) (outcomeAs (lent B ys) q (verdict (checksAs (lent B ys) (soundBench (lent B ys)) q)))) (meant-same W M (givenIn W M i xs B) ys xs i)
+      (subst (λ (b : Bool). SameOutcome (here B) (outcomeAs (lent B ys) o (verdict (checksAs (lent B ys) b o)))) (sound-same (B .machine) (B .registers) ys (B .marks) (a .same-length))
+      (subst (λ (cs : List Check). SameOutcome (here B) (outcomeAs (lent B ys) o (verdict ((soundBench B otherwise BadArguments) ∷ (thirtyTwo xs otherwise BadArguments) ∷ cs)))) (u .same-checks)
       (go (isDone (verdict (checksAs B (soundBench B) o))) refl)))
     where
       o : Operation
-      o = meant M i xs B
+      o = meantIn W M i xs B
 
-      u : Unseen M (given M i xs B) ys (B .memory) o
-      u = unseen M (given M i xs B) ys (B .memory) a o
+      u : Unseen M (givenIn W M i xs B) ys (B .memory) o
+      u = unseen M (givenIn W M i xs B) ys (B .memory) a o
 
       v : Answer
       v = verdict (checksAs B (soundBench B) o)
 
       go : (t : Bool) → isDone v ≡ t → SameOutcome (outcomeAs B o v) (outcomeAs (lent B ys) o v)
       go true e =
-          let p = passed (checksAs B (soundBench B) o) (refusing M o (given M i xs B) (B .memory)) e in
+          let p = passed (checksAs B (soundBench B) o) (refusing M o (givenIn W M i xs B) (B .memory)) e in
           rw e (record {
             same-answer = refl;
             same-scalars = ap (withScalar xs (destination i)) (u .same-result);
-            alike-after = benches-of (B .machine) (B .machine) (after B o) (after (lent B ys) o) (memoryAfter M o (given M i xs B) (B .memory)) (memoryAfter M o (given M i xs (lent B ys)) (B .memory)) refl (u .alike-after (p .1 .1)) (u .same-memory (p .1 .1));
+            same-vectors = u .same-file (p .1 .1) (W .file);
+            alike-after = benches-of (B .machine) (B .machine) (after B o) (after (lent B ys) o) (memoryAfter M o (givenIn W M i xs B) (B .memory)) (memoryAfter M o (givenIn W M i xs (lent B ys)) (B .memory)) refl (u .alike-after (p .1 .1)) (u .same-memory (p .1 .1));
           })
       go false e =
           rw e (record {
             same-answer = refl;
             same-scalars = refl;
+            same-vectors = refl;
             alike-after = record {
               alike = record { same-machine = refl; same-marks = refl; agree = a };
               same-memory = refl;
             };
           })
 
+lent-is : (B B′ : Bench) → AlikeBenches B B′ → lent B (B′ .registers) ≡ B′
+lent-is B B′ t =
+    ap₂ (λ (m : Machine) (ms : List ℕ). benchOf m (B′ .registers) ms (B .memory)) (t .alike .same-machine) (t .alike .same-marks)
+    ∙ ap (benchOf (B′ .machine) (B′ .registers) (B′ .marks)) (t .same-memory)
+
 pub step-ignores-unmarked : StepIgnoresUnmarked
-unfolding stepBy
-step-ignores-unmarked grant word xs B B′ t =
-    subst (λ (C : Bench). SameOutcome (stepBy grant word xs B) (stepBy grant word xs C)) same
-    (outcome-same (parameters grant (B .machine)) (decode word) xs B (B′ .registers) (t .alike .agree))
+unfolding stepWith
+step-ignores-unmarked grant word xs W B B′ t =
+    subst (λ (C : Bench). SameOutcome (stepWith grant word xs W B) (stepWith grant word xs W C)) (lent-is B B′ t) (go (vectorsFit W))
   where
-    same : lent B (B′ .registers) ≡ B′
-    same =
-        ap₂ (λ (m : Machine) (ms : List ℕ). benchOf m (B′ .registers) ms (B .memory)) (t .alike .same-machine) (t .alike .same-marks)
-        ∙ ap (benchOf (B′ .machine) (B′ .registers) (B′ .marks)) (t .same-memory)
+    M : Parameters
+    M = parameters grant (B .machine)
+
+    C : Bench
+    C = lent B (B′ .registers)
+
+    go : (f : Bool) → SameOutcome (cond f (here W M (decode word) xs B) (beside (W .file) (Step.refusedIn W M (decode word) xs B BadArguments)))
+        (cond f (here W M (decode word) xs C) (beside (W .file) (Step.refusedIn W M (decode word) xs C BadArguments)))
+    go true = outcome-same W M (decode word) xs B (B′ .registers) (t .alike .agree)
+    go false = record {
+      same-answer = refl;
+      same-scalars = refl;
+      same-vectors = refl;
+      alike-after = record {
+        alike = record { same-machine = refl; same-marks = refl; agree = t .alike .agree };
+        same-memory = refl;
+      };
+    }
+
+-- of a step that is lent no vector file
+pub record SameBy (o o′ : Outcome) : Type 0 where
+  pub same-answer : o .answer ≡ o′ .answer
+  pub same-scalars : o .scalars ≡ o′ .scalars
+  pub alike-after : AlikeBenches (o .bench) (o′ .bench)
+
+pub step-by-ignores-unmarked : (grant : ℕ → ℕ → ℕ → ℕ) (word : ℕ) (xs : List ℕ) (B B′ : Bench) → AlikeBenches B B′ → SameBy (stepBy grant word xs B) (stepBy grant word xs B′)
+unfolding stepBy outcome
+step-by-ignores-unmarked grant word xs B B′ t =
+    subst (λ (C : Bench). SameBy (stepBy grant word xs B) (stepBy grant word xs C)) (lent-is B B′ t)
+    (let s = outcome-same idle (parameters grant (B .machine)) (decode word) xs B (B′ .registers) (t .alike .agree) in
+    record { same-answer = s .same-answer; same-scalars = s .same-scalars; alike-after = s .alike-after })
 
 -- ---- any number of words
 
 pub words-ignore-unmarked : WordsIgnoreUnmarked
-words-ignore-unmarked grant [] xs B B′ t = tt
-words-ignore-unmarked grant (w ∷ ws) xs B B′ t =
-    let s = step-ignores-unmarked grant w xs B B′ t in (
+words-ignore-unmarked grant [] xs W B B′ t = tt
+words-ignore-unmarked grant (w ∷ ws) xs W B B′ t =
+    let s = step-ignores-unmarked grant w xs W B B′ t in
+    let o : VectorOutcome = stepWith grant w xs W B in
+    let o′ : VectorOutcome = stepWith grant w xs W B′ in (
       s,
-      subst (λ (ys : List ℕ). EachSame (outcomes grant ws (stepBy grant w xs B .scalars) (stepBy grant w xs B .bench)) (outcomes grant ws ys (stepBy grant w xs B′ .bench))) (s .same-scalars)
-          (words-ignore-unmarked grant ws (stepBy grant w xs B .scalars) (stepBy grant w xs B .bench) (stepBy grant w xs B′ .bench) (s .alike-after)),
+      subst (λ (ys : List ℕ). EachSame (outcomes grant ws (o .scalars) (vectorsOf (o .vectors) (W .group)) (o .bench)) (outcomes grant ws ys (vectorsOf (o′ .vectors) (W .group)) (o′ .bench))) (s .same-scalars)
+          (subst (λ (f : List ℕ). EachSame (outcomes grant ws (o .scalars) (vectorsOf (o .vectors) (W .group)) (o .bench)) (outcomes grant ws (o .scalars) (vectorsOf f (W .group)) (o′ .bench))) (s .same-vectors)
+          (words-ignore-unmarked grant ws (o .scalars) (vectorsOf (o .vectors) (W .group)) (o .bench) (o′ .bench) (s .alike-after))),
     )
 
 pub given-words-ignore-unmarked : GivenWordsIgnoreUnmarked
 given-words-ignore-unmarked grant [] B B′ t = tt
 given-words-ignore-unmarked grant (w ∷ ws) B B′ t =
-    let s = step-ignores-unmarked grant (w .word) (w .scalars) B B′ t in
-    (s, given-words-ignore-unmarked grant ws (stepBy grant (w .word) (w .scalars) B .bench) (stepBy grant (w .word) (w .scalars) B′ .bench) (s .alike-after))
+    let s = step-ignores-unmarked grant (w .word) (w .scalars) (w .vectors) B B′ t in
+    (s, given-words-ignore-unmarked grant ws (stepWith grant (w .word) (w .scalars) (w .vectors) B .bench) (stepWith grant (w .word) (w .scalars) (w .vectors) B′ .bench) (s .alike-after))

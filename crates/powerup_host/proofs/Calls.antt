@@ -16,6 +16,7 @@ use Rattle.machine.specs.Answers.{reply, done}
 use Rattle.machine.specs.Geometry.{registerBytes, Bench, benchOf}
 use Rattle.machine.specs.Setting.{chosen}
 use Rattle.machine.specs.Starting.{startable, startMachine, freshMachine, noMachine}
+use Rattle.machine.specs.Vectors.{vectorsOf}
 use Rattle.machine.specs.Faults.{sound}
 use Rattle.machine.specs.Alike.{Agree}
 use Rattle.run.specs.declared.Plan.{Plan}
@@ -81,11 +82,11 @@ fitted-same d xs ys ms ns e f =
 
 -- buffers with other register bytes
 abbrev with : Buffers → List ℕ → Buffers
-with b ys = buffers (b .machine) ys (b .marks) (b .scalars) (b .memory) (b .run) (b .step) (b .steps)
+with b ys = buffers (b .machine) ys (b .marks) (b .scalars) (b .memory) (b .run) (b .step) (b .steps) (b .file)
 
-agreeing : (machine marks scalars memory run step steps xs ys : List ℕ) → Agree marks xs ys
-    → AlikeBuffers (buffers machine xs marks scalars memory run step steps) (buffers machine ys marks scalars memory run step steps)
-agreeing machine marks scalars memory run step steps xs ys a = record {
+agreeing : (machine marks scalars memory run step steps file xs ys : List ℕ) → Agree marks xs ys
+    → AlikeBuffers (buffers machine xs marks scalars memory run step steps file) (buffers machine ys marks scalars memory run step steps file)
+agreeing machine marks scalars memory run step steps file xs ys a = record {
   same-machine = refl;
   same-marks = refl;
   agree = a;
@@ -94,6 +95,7 @@ agreeing machine marks scalars memory run step steps xs ys a = record {
   same-run = refl;
   same-step = refl;
   same-steps = refl;
+  same-file = refl;
 }
 
 -- what a start leaves, by its tests on the machine's block and on the rest
@@ -107,7 +109,7 @@ startOn rlen mlen elen rule sealStart sealLength b t u =
 
 module _ (b : Buffers) (ys : List ℕ) (a : Agree (b .marks) (b .registers) ys) where
   kept : AlikeBuffers b (with b ys)
-  kept = agreeing (b .machine) (b .marks) (b .scalars) (b .memory) (b .run) (b .step) (b .steps) (b .registers) ys a
+  kept = agreeing (b .machine) (b .marks) (b .scalars) (b .memory) (b .run) (b .step) (b .steps) (b .file) (b .registers) ys a
 
   -- the machine in the blocks
   abbrev bench : List ℕ → Bench
@@ -124,21 +126,21 @@ module _ (b : Buffers) (ys : List ℕ) (a : Agree (b .marks) (b .registers) ys) 
       (go (eqb (length (b .machine)) machineBytes) (startable rlen mlen elen rule sealStart sealLength (b .registers) (b .marks)))
     where
       go : (t u : Bool) → SameCalled (startOn rlen mlen elen rule sealStart sealLength b t u) (startOn rlen mlen elen rule sealStart sealLength (with b ys) t u)
-      go true true = record { same-result = refl; alike-after = agreeing _ _ _ _ _ _ _ _ _ (unmarked-agree (length (b .marks)) (b .registers) ys (a .same-length)) }
+      go true true = record { same-result = refl; alike-after = agreeing _ _ _ _ _ _ _ _ _ _ (unmarked-agree (length (b .marks)) (b .registers) ys (a .same-length)) }
       go true false = record { same-result = refl; alike-after = kept }
       go false u = record { same-result = refl; alike-after = kept }
 
-  step-same : (word : ℕ) → SameCalled (called (Call.step word) b) (called (Call.step word) (with b ys))
+  step-same : (word group : ℕ) → SameCalled (called (Call.step word group) b) (called (Call.step word group) (with b ys))
   unfolding hostStep
-  step-same word = go (every (eqb (length (b .machine)) machineBytes ∷ eqb (length (b .scalars)) 256 ∷ []))
+  step-same word group = go (every (eqb (length (b .machine)) machineBytes ∷ eqb (length (b .scalars)) 256 ∷ []))
     where
       out : Bool → List ℕ → Called
       out t xs =
-          afterStep b (cond t (shownStep (b .machine) (stepBlock word (b .scalars) (bench xs))) (steppedOut (packed (reply BadArguments)) (b .machine) xs (b .marks) (b .scalars) (b .memory)))
+          afterStep b (cond t (shownStep (b .machine) (stepBlock word (b .scalars) (vectorsOf (b .file) group) (bench xs))) (steppedOut (packed (reply BadArguments)) (b .machine) xs (b .marks) (b .scalars) (b .memory) (b .file)))
 
       go : (t : Bool) → SameCalled (out t (b .registers)) (out t ys)
       go true =
-          let k = step-ignores-unmarked chosen word (valuesOf (b .scalars)) (bench (b .registers)) (bench ys) benches in
+          let k = step-ignores-unmarked chosen word (valuesOf (b .scalars)) (vectorsOf (b .file) group) (bench (b .registers)) (bench ys) benches in
           record {
             same-result = ap packed (k .same-answer);
             alike-after = record {
@@ -150,6 +152,7 @@ module _ (b : Buffers) (ys : List ℕ) (a : Agree (b .marks) (b .registers) ys) 
               same-run = refl;
               same-step = refl;
               same-steps = refl;
+              same-file = k .same-vectors;
             };
           }
       go false = record { same-result = refl; alike-after = kept }
@@ -176,6 +179,7 @@ module _ (b : Buffers) (ys : List ℕ) (a : Agree (b .marks) (b .registers) ys) 
               same-run = ap₂ (λ (v : Reply) (R : Run). cond (done v) (putRun R (b .run)) (b .run)) (k .same-answer) (k .same-run);
               same-step = refl;
               same-steps = refl;
+              same-file = refl;
             };
           }
       go false = record { same-result = refl; alike-after = kept }
@@ -198,6 +202,7 @@ module _ (b : Buffers) (ys : List ℕ) (a : Agree (b .marks) (b .registers) ys) 
       same-run = ap (λ (R : Run). putRun R (b .run)) (k .same-run);
       same-step = refl;
       same-steps = refl;
+      same-file = refl;
     };
   }
 
@@ -251,6 +256,7 @@ module _ (b : Buffers) (ys : List ℕ) (a : Agree (b .marks) (b .registers) ys) 
               same-run = refl;
               same-step = refl;
               same-steps = ap₂ (λ (v : Reply) (n : ℕ). cond (done v) (putNumbers (n ∷ []) (b .steps)) (b .steps)) (k .same-answer) (k .same-count);
+              same-file = refl;
             };
           }
       go false = record { same-result = refl; alike-after = kept }
@@ -293,7 +299,7 @@ module _ (b : Buffers) (ys : List ℕ) (a : Agree (b .marks) (b .registers) ys) 
           afterRead b (shownRead (b .machine) (cond u (restored Image.Done (machineFrom (d .header)) (over (cellsIn d) xs) (marksOf (cellsIn d))) (restored Image.BadArguments noMachine xs (b .marks))))
 
       fit : (d : Described) (u : Bool) → SameCalled (fits d u (b .registers)) (fits d u ys)
-      fit d true = record { same-result = refl; alike-after = agreeing _ _ _ _ _ _ _ _ _ (over-agree (cellsIn d) (b .registers) ys (a .same-length)) }
+      fit d true = record { same-result = refl; alike-after = agreeing _ _ _ _ _ _ _ _ _ _ (over-agree (cellsIn d) (b .registers) ys (a .same-length)) }
       fit d false = record { same-result = refl; alike-after = kept }
 
       go : (t : Bool) (q : Parsed Described) → SameCalled (out t q (b .registers)) (out t q ys)
@@ -305,22 +311,22 @@ module _ (b : Buffers) (ys : List ℕ) (a : Agree (b .marks) (b .registers) ys) 
 
   each-same : (c : Call) → SameCalled (called c b) (called c (with b ys))
   each-same (Call.start rlen mlen elen rule sealStart sealLength) = start-same rlen mlen elen rule sealStart sealLength
-  each-same (Call.step word) = step-same word
+  each-same (Call.step word group) = step-same word group
   each-same (Call.runStart P) = run-start-same P
-  each-same Call.runNext = record { same-result = refl; alike-after = agreeing _ _ _ _ _ _ _ _ _ a }
+  each-same Call.runNext = record { same-result = refl; alike-after = agreeing _ _ _ _ _ _ _ _ _ _ a }
   each-same Call.runTurn = turn-same
   each-same (Call.runTurns limit) = turns-same limit
   each-same (Call.run P) = run-same P
   each-same Call.imageSize = record { same-result = image-size-same; alike-after = kept }
   each-same (Call.imageWrite image) = record { same-result = ap (λ (o : HostWritten). o .result) (image-write-same image); alike-after = kept }
   each-same (Call.imageRead image) = image-read-same image
-  each-same (Call.write w) = record { same-result = refl; alike-after = agreeing _ _ _ _ _ _ _ _ _ a }
+  each-same (Call.write w) = record { same-result = refl; alike-after = agreeing _ _ _ _ _ _ _ _ _ _ a }
 
 pub call-ignores-unmarked : CallIgnoresUnmarked
 call-ignores-unmarked c b b′ t = subst (λ (d : Buffers). SameCalled (called c b) (called c d)) same (each-same b (b′ .registers) (t .agree) c)
   where
     same : with b (b′ .registers) ≡ b′
-    same = rw (t .same-machine, t .same-marks, t .same-scalars, t .same-memory, t .same-run, t .same-step, t .same-steps)
+    same = rw (t .same-machine, t .same-marks, t .same-scalars, t .same-memory, t .same-run, t .same-step, t .same-steps, t .same-file)
 
 pub calls-ignore-unmarked : CallsIgnoreUnmarked
 calls-ignore-unmarked [] b b′ t = tt
@@ -352,6 +358,7 @@ module _ (rlen mlen elen rule sealStart sealLength : ℕ) (b b′ : Buffers) (p 
           same-run = p .same-run;
           same-step = p .same-step;
           same-steps = p .same-steps;
+          same-file = p .same-file;
         },
       )
   starts true false e = (refl, λ d. let z : _≡_ {A = ℕ} 8 0 = d in absurd (omega arith))
@@ -412,6 +419,7 @@ module _ (image : List ℕ) (b b′ : Buffers) (p : AtPowerUp b b′) where
       same-run = p .same-run;
       same-step = p .same-step;
       same-steps = p .same-steps;
+      same-file = p .same-file;
     },
   )
   fits-both d false n = (refl, λ z. absurd (arguments-refuse z))

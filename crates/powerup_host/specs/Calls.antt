@@ -20,6 +20,7 @@ pub record AlikeBuffers (b b′ : Buffers) : Type 0 where
   pub same-run : b .run ≡ b′ .run
   pub same-step : b .step ≡ b′ .step
   pub same-steps : b .steps ≡ b′ .steps
+  pub same-file : b .file ≡ b′ .file
 
 pub record SameCalled (o o′ : Called) : Type 0 where
   pub same-result : o .result ≡ o′ .result
@@ -57,6 +58,7 @@ pub record AtPowerUp (b b′ : Buffers) : Type 0 where
   pub same-run : b .run ≡ b′ .run
   pub same-step : b .step ≡ b′ .step
   pub same-steps : b .steps ≡ b′ .steps
+  pub same-file : b .file ≡ b′ .file
 
 -- both calls give the same result; where they are accepted, the buffers after them differ at most in unmarked register bytes, and the
 -- same calls after them give the same

@@ -12,7 +12,7 @@ use Rattle.machine.specs.Geometry.{Parameters, parameters, sealed, Bench, bench
 use Rattle.machine.specs.Starting.{startable, startMachine, StartOutcome, freshMachine, noMachine}
 use Rattle.machine.specs.Theorems.{Unharmed, startedBench}
 use Rattle.machine.proofs.TestLaws.{in-within}
-use Rattle.machine.proofs.Sealing.{step-unharmed}
+use Rattle.machine.proofs.Sealing.{step-unharmed, step-with-unharmed}
 use Rattle.run.specs.declared.Handed.{Handed}
 use Rattle.run.specs.Words.{Op, steps}
 use Rattle.run.specs.Plan.{shape}
@@ -58,8 +58,8 @@ lent B memory = benchOf (B .machine) (B .registers) (B .marks) memory
 
 act-unharmed : (grant : ℕ → ℕ → ℕ → ℕ) (a : Act) (S : Session) → Unharmed grant (lent (S .bench) (lentBy a (S .bench .memory))) (act grant a S .after .bench)
 unfolding startRun
-act-unharmed grant (Act.lend xs memory) S = harmless grant (lent (S .bench) memory)
-act-unharmed grant (Act.step word) S = step-unharmed grant word (S .scalars) (S .bench)
+act-unharmed grant (Act.lend xs W memory) S = harmless grant (lent (S .bench) memory)
+act-unharmed grant (Act.step word) S = step-with-unharmed grant word (S .scalars) (S .lent) (S .bench)
 act-unharmed grant (Act.runStart P) S = harmless grant (S .bench)
 act-unharmed grant Act.runNext S = harmless grant (S .bench)
 act-unharmed grant Act.runTurn S = turn-unharmed grant (running (S .run) (S .bench))
@@ -69,7 +69,7 @@ act-unharmed grant (Act.run P) S = turns-unharmed grant (startedRun grant P (S .
 -- what two memories have in common stays, once others are lent to both
 lent-same : (Q : List ℕ → List ℕ → Type 0) → ((m : List ℕ) → Q m m) → (acts : List Act) (m m′ : List ℕ) → Q m m′ → Q (lentLast acts m) (lentLast acts m′)
 lent-same Q r [] m m′ h = h
-lent-same Q r (Act.lend xs memory ∷ acts) m m′ h = r (lentLast acts memory)
+lent-same Q r (Act.lend xs W memory ∷ acts) m m′ h = r (lentLast acts memory)
 lent-same Q r (Act.step word ∷ acts) m m′ h = lent-same Q r acts m m′ h
 lent-same Q r (Act.runStart P ∷ acts) m m′ h = lent-same Q r acts m m′ h
 lent-same Q r (Act.runNext ∷ acts) m m′ h = lent-same Q r acts m m′ h
@@ -122,6 +122,6 @@ module _ (grant : ℕ → ℕ → ℕ → ℕ) (rlen mlen elen rule sealStart se
       }
 
 pub seal-holds-over-acts-from-start : SealHoldsOverActsFromStart
-seal-holds-over-acts-from-start grant rlen mlen elen rule sealStart sealLength registers marks memory scalars R e acts =
-    let S : Session = session (startedBench rlen mlen elen rule sealStart sealLength registers marks memory) scalars R in
+seal-holds-over-acts-from-start grant rlen mlen elen rule sealStart sealLength registers marks memory scalars W R e acts =
+    let S : Session = session (startedBench rlen mlen elen rule sealStart sealLength registers marks memory) scalars W R in
     kept-from grant rlen mlen elen rule sealStart sealLength registers marks memory (afterActs grant acts S .bench) (lentLast acts memory) e (seal-holds-over-acts grant acts S)

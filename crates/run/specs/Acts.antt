@@ -6,7 +6,8 @@ use Rattle.machine.specs.declared.Answer.the-variants.{Done}
 use Rattle.machine.specs.declared.Reply.{Reply}
 use Rattle.machine.specs.Answers.{reply}
 use Rattle.machine.specs.Geometry.{Bench, benchOf}
-use Rattle.machine.specs.Step.{Outcome, stepBy}
+use Rattle.machine.specs.Vectors.{Vectors, vectorsOf}
+use Rattle.machine.specs.Step.{VectorOutcome, stepWith}
 use Rattle.run.specs.declared.Plan.{Plan}
 use Rattle.run.specs.declared.Run.{Run}
 use Rattle.run.specs.declared.Handed.{Handed}
@@ -14,10 +15,10 @@ use Rattle.run.specs.Start.{RunStart, startRun}
 use Rattle.run.specs.Turn.{Ask, ask, Turn, turn, running, TurnsOutcome, turns}
 use Rattle.run.specs.Whole.{WholeOutcome, whole}
 
--- other scalars and memory are lent; a word is stepped; a product run is started; its next step is asked for; it takes a turn, or n
+-- other scalars, another vector file and memory are lent; a word is stepped; a product run is started; its next step is asked for; it takes a turn, or n
 -- turns; a whole product run is made
 pub data Act : Type 0 where
-  lend : (scalars memory : List ℕ) → Act
+  lend : (scalars : List ℕ) → Vectors → (memory : List ℕ) → Act
   step : (word : ℕ) → Act
   runStart : Plan → Act
   runNext : Act
@@ -25,14 +26,15 @@ pub data Act : Type 0 where
   runTurns : (n : ℕ) → Act
   run : Plan → Act
 
--- the machine with its memory, the scalars, and the run that was started last
+-- the machine with its memory, the scalars, the vector file, which no run uses, and the run that was started last
 pub record Session : Type 0 where
   pub bench : Bench
   pub scalars : List ℕ
+  pub lent : Vectors
   pub run : Run
 
-abbrev pub session : Bench → List ℕ → Run → Session
-session B xs R = record { bench = B; scalars = xs; run = R }
+abbrev pub session : Bench → List ℕ → Vectors → Run → Session
+session B xs W R = record { bench = B; scalars = xs; lent = W; run = R }
 
 -- what an act answers, the step it hands out and the turns it counts, and what it leaves
 pub record Acted : Type 0 where
@@ -47,19 +49,20 @@ acted answer handed count after = record { answer = answer; handed = handed; cou
 module _ (grant : ℕ → ℕ → ℕ → ℕ) where
   -- turns in number are counted, not answered
   abbrev pub act : Act → Session → Acted
-  act (Act.lend xs memory) S = acted (reply Done) none 0 (session (benchOf (S .bench .machine) (S .bench .registers) (S .bench .marks) memory) xs (S .run))
+  act (Act.lend xs W memory) S = acted (reply Done) none 0 (session (benchOf (S .bench .machine) (S .bench .registers) (S .bench .marks) memory) xs W (S .run))
   act (Act.step word) S =
-      let o : Outcome = stepBy grant word (S .scalars) (S .bench) in acted (o .answer) none 0 (session (o .bench) (o .scalars) (S .run))
+      let o : VectorOutcome = stepWith grant word (S .scalars) (S .lent) (S .bench) in
+      acted (o .answer) none 0 (session (o .bench) (o .scalars) (vectorsOf (o .vectors) (S .lent .group)) (S .run))
   act (Act.runStart P) S =
-      let o : RunStart = startRun grant P (S .bench) in acted (o .answer) none 0 (session (o .bench) (S .scalars) (o .run))
+      let o : RunStart = startRun grant P (S .bench) in acted (o .answer) none 0 (session (o .bench) (S .scalars) (S .lent) (o .run))
   act Act.runNext S =
-      let o : Ask = ask grant (S .run) in acted (o .answer) (o .handed) 0 (session (S .bench) (S .scalars) (o .run))
+      let o : Ask = ask grant (S .run) in acted (o .answer) (o .handed) 0 (session (S .bench) (S .scalars) (S .lent) (o .run))
   act Act.runTurn S =
-      let o : Turn = turn grant (running (S .run) (S .bench)) in acted (o .answer) (o .handed) 0 (session (o .after .bench) (S .scalars) (o .after .run))
+      let o : Turn = turn grant (running (S .run) (S .bench)) in acted (o .answer) (o .handed) 0 (session (o .after .bench) (S .scalars) (S .lent) (o .after .run))
   act (Act.runTurns n) S =
-      let o : TurnsOutcome = turns grant (running (S .run) (S .bench)) n in acted (reply Done) none (o .count) (session (o .after .bench) (S .scalars) (o .after .run))
+      let o : TurnsOutcome = turns grant (running (S .run) (S .bench)) n in acted (reply Done) none (o .count) (session (o .after .bench) (S .scalars) (S .lent) (o .after .run))
   act (Act.run P) S =
-      let o : WholeOutcome = whole grant P (S .bench) in acted (o .answer) none (o .count) (session (o .bench) (S .scalars) (S .run))
+      let o : WholeOutcome = whole grant P (S .bench) in acted (o .answer) none (o .count) (session (o .bench) (S .scalars) (S .lent) (S .run))
 
 -- after a list of acts, refused ones included
 abbrev pub afterActs : (ℕ → ℕ → ℕ → ℕ) → List Act → Session → Session
@@ -68,7 +71,7 @@ afterActs grant (a ∷ acts) S = afterActs grant acts (act grant a S .after)
 
 -- the memory that is lent after an act, and after a list of acts: the one that was lent last
 abbrev pub lentBy : Act → List ℕ → List ℕ
-lentBy (Act.lend scalars memory) lent = memory
+lentBy (Act.lend scalars W memory) lent = memory
 lentBy (Act.step word) lent = lent
 lentBy (Act.runStart P) lent = lent
 lentBy Act.runNext lent = lent

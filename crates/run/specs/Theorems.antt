@@ -7,6 +7,7 @@ use lib.ListN.{getD}
 use Rattle.width.specs.Tile.{In}
 use Rattle.machine.specs.Geometry.{Bench, benchOf}
 use Rattle.machine.specs.Starting.{startMachine}
+use Rattle.machine.specs.Vectors.{Vectors}
 use Rattle.machine.specs.Theorems.{startedBench, Unharmed}
 use Rattle.run.specs.declared.Plan.{Plan}
 use Rattle.run.specs.declared.Run.{Run}
@@ -53,9 +54,9 @@ pub record SealKept (sealStart sealLength : ℕ) (memory : List ℕ) (B : Bench)
   pub same-length : B .machine .«seal_length» ≡ sealLength
   pub same-bytes : (q : ℕ) → In sealStart sealLength q → getD (B .memory) q 0 ≡ getD memory q 0
 
--- and from a started machine, with any scalars and whatever run was there before: the range that it was started with
+-- and from a started machine, with any scalars and vector file and whatever run was there before: the range that it was started with
 abbrev pub SealHoldsOverActsFromStart : Type 0
-SealHoldsOverActsFromStart = (grant : ℕ → ℕ → ℕ → ℕ) (rlen mlen elen rule sealStart sealLength : ℕ) (registers marks memory scalars : List ℕ) (R : Run)
+SealHoldsOverActsFromStart = (grant : ℕ → ℕ → ℕ → ℕ) (rlen mlen elen rule sealStart sealLength : ℕ) (registers marks memory scalars : List ℕ) (W : Vectors) (R : Run)
     → startMachine rlen mlen elen rule sealStart sealLength registers marks .answer .number ≡ 0 → (acts : List Act)
     → SealKept sealStart sealLength (lentLast acts memory)
-    (afterActs grant acts (session (startedBench rlen mlen elen rule sealStart sealLength registers marks memory) scalars R) .bench)
+    (afterActs grant acts (session (startedBench rlen mlen elen rule sealStart sealLength registers marks memory) scalars W R) .bench)

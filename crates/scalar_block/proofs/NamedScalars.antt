@@ -20,7 +20,7 @@ use Rattle.machine.specs.declared.Answer.{Answer}
 use Rattle.machine.specs.declared.Answer.the-variants.{Done, BadArguments}
 use Rattle.machine.specs.declared.Wrong.the-variants.{Opcode, Register}
 use Rattle.machine.specs.declared.Instruction.{Instruction}
-use Rattle.machine.specs.declared.Instruction.the-variants.{Illegal, SetTypeImmediate, SetType, SetTileImmediate, SetTile, Load, Store, Multiply, Combine, Scale, ScaleImmediate, FloatMultiply}
+use Rattle.machine.specs.declared.Instruction.the-variants.{Illegal, SetTypeImmediate, SetType, SetTileImmediate, SetTile, Load, Store, Multiply, Combine, Scale, ScaleImmediate, FloatMultiply, MoveOut, MoveIn}
 use Rattle.machine.specs.Tests.{every}
 use Rattle.machine.specs.declared.Reply.{Reply}
 use Rattle.machine.specs.Answers.{reply, _otherwise_, verdict, isDone}
@@ -28,11 +28,12 @@ use Rattle.machine.specs.Geometry.{Parameters, parameters, State, stateOf, mach
 use Rattle.machine.specs.Setting.{chosen}
 use Rattle.machine.specs.Listing
 use Rattle.machine.specs.Listing.{field7, field15, field20, lookUp, notOurs, listing, ranged, inRange, decode}
-use Rattle.machine.specs.Operation.{Operation, operation, stateAfter, memoryAfter, resultOf}
+use Rattle.machine.specs.Vectors.{Vectors, vectorsFit}
+use Rattle.machine.specs.Operation.{Operation, operationIn, stateAfter, memoryAfter, vectorsAfter, resultOf}
 use Rattle.machine.specs.Refusals.{checks}
 use Rattle.machine.specs.Faults.{soundBench}
 use Rattle.machine.specs.declared.Stepped.{Stepped}
-use Rattle.machine.specs.Step.{Outcome, outcome, stepBy, step, steppedAs, destination}
+use Rattle.machine.specs.Step.{VectorOutcome, beside, stepWith, vectorStep, vectorSteppedAs, destination}
 use Rattle.machine.proofs.TestLaws.{every-each}
 use Rattle.machine.proofs.CodeLaws.{allRows, look-up-all}
 use Rattle.blocks.specs.Blocks.{valuesOf, putValues}
@@ -55,6 +56,8 @@ named word (Combine sum factor md ms1) = true
 named word (Scale factor md ms1 rs2) = eqb rs2 (field20 word)
 named word (ScaleImmediate factor md ms1 immediate) = true
 named word (FloatMultiply md ms1 ms2) = true
+named word (MoveOut form vd ms1 rs2) = eqb rs2 (field20 word)
+named word (MoveIn form md vs1 rs2) = eqb rs2 (field20 word)
 
 decode-named : (word : ℕ) → named word (decode word) ≡ true
 unfolding decode listing
@@ -72,9 +75,9 @@ decode-named word = opcode (eqb (Listing.bits 6 0 word) 119)
     opcode false = refl
 
 -- what it reads stands in the fields of bits 19..15 and 24..20
-same-operation : (M : Parameters) (st : State) (word : ℕ) (xs ys : List ℕ) → scalar xs (field15 word) ≡ scalar ys (field15 word)
-    → scalar xs (field20 word) ≡ scalar ys (field20 word) → (i : Instruction) → named word i ≡ true → operation M st xs i ≡ operation M st ys i
-same-operation M st word xs ys ea eb = go
+same-operation : (W : Vectors) (M : Parameters) (st : State) (word : ℕ) (xs ys : List ℕ) → scalar xs (field15 word) ≡ scalar ys (field15 word)
+    → scalar xs (field20 word) ≡ scalar ys (field20 word) → (i : Instruction) → named word i ≡ true → operationIn W M st xs i ≡ operationIn W M st ys i
+same-operation W M st word xs ys ea eb = go
   where
     at : (r f : ℕ) → eqb r f ≡ true → scalar xs f ≡ scalar ys f → scalar xs r ≡ scalar ys r
     at r f h e = subst (λ (r : ℕ). scalar xs r ≡ scalar ys r) (sym (eqb-true r f h)) e
@@ -88,7 +91,7 @@ same-operation M st word xs ys ea eb = go
     second : (rd rs1 : ℕ) → every (eqb rd (field7 word) ∷ eqb rs1 (field15 word) ∷ []) ≡ true → scalar xs rs1 ≡ scalar ys rs1
     second rd rs1 h = at rs1 (field15 word) (every-each (eqb rd (field7 word) ∷ eqb rs1 (field15 word) ∷ []) h .1 .0) ea
 
-    go : (i : Instruction) → named word i ≡ true → operation M st xs i ≡ operation M st ys i
+    go : (i : Instruction) → named word i ≡ true → operationIn W M st xs i ≡ operationIn W M st ys i
     go (Illegal wrong) h = refl
     go (SetTypeImmediate rd immediate) h = refl
     go (SetType rd rs1) h = rw (second rd rs1 h)
@@ -101,6 +104,8 @@ same-operation M st word xs ys ea eb = go
     go (Scale factor md ms1 rs2) h = rw (at rs2 (field20 word) h eb)
     go (ScaleImmediate factor md ms1 immediate) h = refl
     go (FloatMultiply md ms1 ms2) h = refl
+    go (MoveOut form vd ms1 rs2) h = rw (at rs2 (field20 word) h eb)
+    go (MoveIn form md vs1 rs2) h = rw (at rs2 (field20 word) h eb)
 
 -- what it writes stands in that of bits 11..7
 destination-named : (word : ℕ) (i : Instruction) → named word i ≡ true → (destination i ≡ 0) ⊎ (destination i ≡ field7 word)
@@ -116,6 +121,8 @@ destination-named word (Combine sum factor md ms1) h = inl refl
 destination-named word (Scale factor md ms1 rs2) h = inl refl
 destination-named word (ScaleImmediate factor md ms1 immediate) h = inl refl
 destination-named word (FloatMultiply md ms1 ms2) h = inl refl
+destination-named word (MoveOut form vd ms1 rs2) h = inl refl
+destination-named word (MoveIn form md vs1 rs2) h = inl refl
 
 -- ---- a write at 0 or at slot f
 
@@ -153,14 +160,15 @@ abbrev At : List ℕ → List ℕ → ℕ → Type 0
 At xs ys s = getD xs s 0 ≡ getD ys s 0
 
 -- what they leave agrees in all but the scalars, in these at slot f, and p leaves slot 0 and every slot of ys but f
-record Agree (f : ℕ) (ys : List ℕ) (o p : Outcome) : Type 0 where
+record Agree (f : ℕ) (ys : List ℕ) (o p : VectorOutcome) : Type 0 where
   pub answer : o .answer ≡ p .answer
   pub bench : o .bench ≡ p .bench
+  pub vectors : o .vectors ≡ p .vectors
   pub value : At (o .scalars) (p .scalars) f
   pub others : (s : ℕ) → ¬ (s ≡ f) → At (p .scalars) ys s
   pub zero : At (p .scalars) ys 0
 
-module _ (word : ℕ) (xs ys : List ℕ) (B : Bench) (tx : length xs ≡ 32) (ty : length ys ≡ 32)
+module _ (word : ℕ) (xs ys : List ℕ) (W : Vectors) (B : Bench) (tx : length xs ≡ 32) (ty : length ys ≡ 32)
     (ed : At xs ys (field7 word)) (ea : At xs ys (field15 word)) (eb : At xs ys (field20 word)) where
   abbrev M : Parameters
   M = parameters chosen (B .machine)
@@ -172,28 +180,32 @@ module _ (word : ℕ) (xs ys : List ℕ) (B : Bench) (tx : length xs ≡ 32) (ty
   abbrev answered : Bool → Operation → Answer
   answered t o = verdict ((soundBench B otherwise BadArguments) ∷ (t otherwise BadArguments) ∷ checks M o st (B .memory))
 
-  abbrev ended : Answer → Operation → List ℕ → Bool → Outcome
-  ended a o zs t = let left = stateAfter M o st (B .memory) in cond t
+  abbrev ended : Answer → Operation → List ℕ → Bool → VectorOutcome
+  ended a o zs t = let left = stateAfter M o st (B .memory) in beside (cond t (vectorsAfter M o st (W .file)) (W .file)) (cond t
       (record {
         answer = reply Done;
         bench = benchOf (machineAfter (B .machine) left) (left .regs) (left .marks) (memoryAfter M o st (B .memory));
         scalars = withScalar zs (destination (decode word)) (resultOf o left);
       })
-      (record { answer = reply a; bench = B; scalars = zs })
+      (record { answer = reply a; bench = B; scalars = zs }))
+
+  -- by whether the vector file is not bad
+  abbrev either : Bool → List ℕ → VectorOutcome → VectorOutcome
+  either fit zs o = cond fit o (beside (W .file) (record { answer = reply BadArguments; bench = B; scalars = zs }))
 
   abbrev meaning : List ℕ → Operation
-  meaning zs = operation M st zs (decode word)
+  meaning zs = operationIn W M st zs (decode word)
 
   step-by : (zs : List ℕ) (o : Operation) → length zs ≡ 32 → meaning zs ≡ o
-      → step word zs B ≡ ended (answered true o) o zs (isDone (answered true o))
-  unfolding stepBy outcome
+      → vectorStep word zs W B ≡ either (vectorsFit W) zs (ended (answered true o) o zs (isDone (answered true o)))
+  unfolding stepWith
   step-by zs o h e =
-      ap₂ (λ (t : Bool) (o : Operation). ended (answered t o) o zs (isDone (answered t o))) (eq-eqb (length zs) 32 h) e
+      ap₂ (λ (t : Bool) (o : Operation). either (vectorsFit W) zs (ended (answered t o) o zs (isDone (answered t o)))) (eq-eqb (length zs) 32 h) e
 
-  agree : Agree (field7 word) ys (step word xs B) (step word ys B)
+  agree : Agree (field7 word) ys (vectorStep word xs W B) (vectorStep word ys W B)
   agree =
-      subst (λ (o : Outcome). Agree (field7 word) ys o (step word ys B)) (sym (step-by xs op tx same))
-      (subst (λ (p : Outcome). Agree (field7 word) ys (ended a op xs (isDone a)) p) (sym (step-by ys op ty refl)) (go (isDone a)))
+      subst (λ (o : VectorOutcome). Agree (field7 word) ys o (vectorStep word ys W B)) (sym (step-by xs op tx same))
+      (subst (λ (p : VectorOutcome). Agree (field7 word) ys (either (vectorsFit W) xs (ended a op xs (isDone a))) p) (sym (step-by ys op ty refl)) (go (vectorsFit W) (isDone a)))
     where
       op : Operation
       op = meaning ys
@@ -211,17 +223,19 @@ module _ (word : ℕ) (xs ys : List ℕ) (B : Bench) (tx : length xs ≡ 32) (ty
       scalar-at s e = ap (cond (eqb s 0) 0) e
 
       same : meaning xs ≡ op
-      same = same-operation M st word xs ys (scalar-at (field15 word) ea) (scalar-at (field20 word) eb) (decode word) n
+      same = same-operation W M st word xs ys (scalar-at (field15 word) ea) (scalar-at (field20 word) eb) (decode word) n
 
-      go : (t : Bool) → Agree (field7 word) ys (ended a op xs t) (ended a op ys t)
-      go true = record {
+      go : (fit t : Bool) → Agree (field7 word) ys (either fit xs (ended a op xs t)) (either fit ys (ended a op ys t))
+      go true true = record {
         answer = refl;
         bench = refl;
+        vectors = refl;
         value = written-same xs ys (destination (decode word)) (field7 word) _ (omega arith) (tx ∙ sym ty) d ed;
         others = λ s m. written-other ys (destination (decode word)) (field7 word) _ s d m;
         zero = written-zero ys (destination (decode word)) _;
       }
-      go false = record { answer = refl; bench = refl; value = ed; others = λ s m. refl; zero = refl }
+      go true false = record { answer = refl; bench = refl; vectors = refl; value = ed; others = λ s m. refl; zero = refl }
+      go false t = record { answer = refl; bench = refl; vectors = refl; value = ed; others = λ s m. refl; zero = refl }
 
 -- ---- written back
 
@@ -275,22 +289,23 @@ still b xs s v r l e h = elim (ℕ-discrete r s) [
   | no z ↦ getD-set-other xs s r v 0 z ∙ h
 ]
 
-module _ (word : ℕ) (block : List ℕ) (B : Bench) (whole : length block ≡ 256) (small : (q : ℕ) → getD block q 0 < 256) where
+module _ (word : ℕ) (block : List ℕ) (W : Vectors) (B : Bench) (whole : length block ≡ 256) (small : (q : ℕ) → getD block q 0 < 256) where
   -- values of which those in the slots of the word's fields are right, and what the step has left in the slot of bits 11..7 written back
-  block-named : (s : Stepped) (R K X Q S xs : List ℕ) → length xs ≡ 32
+  block-named : (s : Stepped) (R K X Q F S xs : List ℕ) → length xs ≡ 32
       → Right block xs (field7 word) → Right block xs (field15 word) → Right block xs (field20 word)
-      → steppedAs s R K X Q ≡ step word xs B → S ≡ putSlot (field7 word) (getD X (field7 word) 0) block
-      → steppedAs s R K S Q ≡ stepBlock word block B
-  block-named s R K X Q S xs t hd ha hb e es =
-      ap₂ (λ (a : Reply) (b : Bench). record { answer = a; bench = b; scalars = S }) (ap (λ (o : Outcome). o .answer) e ∙ g .answer) (ap (λ (o : Outcome). o .bench) e ∙ g .bench)
-      ∙ ap (λ (S : List ℕ). record { answer = o .answer; bench = o .bench; scalars = S })
-      (es ∙ ap (λ (v : ℕ). putSlot (field7 word) v block) (ap (λ (o : Outcome). getD (o .scalars) (field7 word) 0) e ∙ g .value) ∙ written (eqb (field7 word) 0) refl)
+      → vectorSteppedAs s R K X Q F ≡ vectorStep word xs W B → S ≡ putSlot (field7 word) (getD X (field7 word) 0) block
+      → vectorSteppedAs s R K S Q F ≡ stepBlock word block W B
+  block-named s R K X Q F S xs t hd ha hb e es =
+      ap₂ (λ (a : Reply) (b : Bench). record { answer = a; bench = b; scalars = S; vectors = F }) (ap (λ (o : VectorOutcome). o .answer) e ∙ g .answer) (ap (λ (o : VectorOutcome). o .bench) e ∙ g .bench)
+      ∙ ap₂ (λ (S F : List ℕ). record { answer = o .answer; bench = o .bench; scalars = S; vectors = F })
+      (es ∙ ap (λ (v : ℕ). putSlot (field7 word) v block) (ap (λ (o : VectorOutcome). getD (o .scalars) (field7 word) 0) e ∙ g .value) ∙ written (eqb (field7 word) 0) refl)
+      (ap (λ (o : VectorOutcome). o .vectors) e ∙ g .vectors)
     where
-      o : Outcome
-      o = step word (valuesOf block) B
+      o : VectorOutcome
+      o = vectorStep word (valuesOf block) W B
 
-      g : Agree (field7 word) (valuesOf block) (step word xs B) o
-      g = agree word xs (valuesOf block) B t (length-values block)
+      g : Agree (field7 word) (valuesOf block) (vectorStep word xs W B) o
+      g = agree word xs (valuesOf block) W B t (length-values block)
           (hd ∙ sym (values-at block (field7 word) (omega arith))) (ha ∙ sym (values-at block (field15 word) (omega arith))) (hb ∙ sym (values-at block (field20 word) (omega arith)))
 
       -- every slot but that of bits 11..7 is as it was, and this one too where it is slot 0
@@ -307,11 +322,11 @@ module _ (word : ℕ) (block : List ℕ) (B : Bench) (whole : length block ≡ 2
           sym (putValues-one block (o .scalars) (field7 word) whole small (omega arith) (λ j n l. g .others j n ∙ values-at block j l))
 
   -- the code's values: zeros, and three slots filled
-  pub block-stepped : (s : Stepped) (R K X Q S : List ℕ) (d a b u v w : ℕ) → d ≡ field7 word → a ≡ field15 word → b ≡ field20 word
+  pub block-stepped : (s : Stepped) (R K X Q F S : List ℕ) (d a b u v w : ℕ) → d ≡ field7 word → a ≡ field15 word → b ≡ field20 word
       → u ≡ le block (d * 8) 8 → v ≡ le block (a * 8) 8 → w ≡ le block (b * 8) 8
-      → steppedAs s R K X Q ≡ step word (set (set (set (replicate 32 0) d u) a v) b w) B → S ≡ putSlot d (getD X d 0) block
-      → steppedAs s R K S Q ≡ stepBlock word block B
-  block-stepped s R K X Q S d a b u v w ed ea eb eu ev ew e es =
+      → vectorSteppedAs s R K X Q F ≡ vectorStep word (set (set (set (replicate 32 0) d u) a v) b w) W B → S ≡ putSlot d (getD X d 0) block
+      → vectorSteppedAs s R K S Q F ≡ stepBlock word block W B
+  block-stepped s R K X Q F S d a b u v w ed ea eb eu ev ew e es =
       let z : List ℕ = replicate 32 0 in
       let x : List ℕ = set z d u in
       let y : List ℕ = set x a v in
@@ -320,7 +335,7 @@ module _ (word : ℕ) (block : List ℕ) (B : Bench) (whole : length block ≡ 2
       let ld : d < length z = omega arith in
       let la : a < length x = omega arith in
       let lb : b < length y = omega arith in
-      block-named s R K X Q S (set y b w) (length-set y b w ∙ ty)
+      block-named s R K X Q F S (set y b w) (length-set y b w ∙ ty)
       (subst (Right block (set y b w)) ed (still block y b w d lb ew (still block x a v d la ev (filled block z d u ld eu))))
       (subst (Right block (set y b w)) ea (still block y b w a lb ew (filled block x a v la ev)))
       (subst (Right block (set y b w)) eb (filled block y b w lb ew))

@@ -2,10 +2,12 @@
 use mathlib.Core.List.{List}
 use Prim.Native.Nat.{ℕ}
 use Rattle.machine.specs.Geometry.{Bench}
-use Rattle.machine.specs.Step.{Outcome, step}
+use Rattle.machine.specs.Vectors.{Vectors}
+use Rattle.machine.specs.Step.{VectorOutcome, vectorStep}
 use Rattle.blocks.specs.Blocks.{valuesOf, putValues}
 
 -- a step on the scalars' block: what it leaves of the scalars is written over the block
-abbrev pub stepBlock : ℕ → List ℕ → Bench → Outcome
-stepBlock word scalars B =
-    let o = step word (valuesOf scalars) B in record { answer = o .answer; bench = o .bench; scalars = putValues (o .scalars) scalars }
+abbrev pub stepBlock : ℕ → List ℕ → Vectors → Bench → VectorOutcome
+stepBlock word scalars W B =
+    let o = vectorStep word (valuesOf scalars) W B in
+    record { answer = o .answer; bench = o .bench; scalars = putValues (o .scalars) scalars; vectors = o .vectors }

@@ -10,7 +10,8 @@ ghost use lib.ListN.{length};
 ghost use lib.Dec.{eqb};
 ghost use Rattle.width.specs.Tile.{putLe};
 ghost use Rattle.machine.specs.Geometry.{benchOf};
-ghost use Rattle.machine.specs.Step.{steppedAs};
+ghost use Rattle.machine.specs.Step.{vectorSteppedAs};
+ghost use Rattle.machine.specs.Vectors.{vectorsOf};
 ghost use Rattle.blocks.specs.Blocks.{scalarBytes};
 ghost use Rattle.scalar_block.specs.ScalarBlock.{stepBlock};
 
@@ -34,11 +35,13 @@ pub fn step_block(
     marks: &mut [u8],
     scalars: &mut [u8],
     memory: &mut [u8],
+    vectors: &mut [u8],
+    group: u64,
     word: u32,
 ) -> Stepped
     requires { ⌜ length (now scalars) ≡ scalarBytes ⌝ }
-    ensures { λ r. ⌜ steppedAs r (now (registers .exit)) (now (marks .exit)) (now (scalars .exit)) (now (memory .exit))
-        ≡ stepBlock word (now (scalars .entry)) (benchOf m (now (registers .entry)) (now (marks .entry)) (now (memory .entry))) ⌝ }
+    ensures { λ r. ⌜ vectorSteppedAs r (now (registers .exit)) (now (marks .exit)) (now (scalars .exit)) (now (memory .exit)) (now (vectors .exit))
+        ≡ stepBlock word (now (scalars .entry)) (vectorsOf (now (vectors .entry)) group) (benchOf m (now (registers .entry)) (now (marks .entry)) (now (memory .entry))) ⌝ }
 {
     let rd = decode::low_field(word);
     let rs1 = decode::middle_field(word);
@@ -47,7 +50,16 @@ pub fn step_block(
     values[rd] = read8(scalars, rd * 8);
     values[rs1] = read8(scalars, rs1 * 8);
     values[rs2] = read8(scalars, rs2 * 8);
-    let stepped = step::step(m, registers, marks, &mut values, memory, word);
+    let stepped = step::step(
+        m,
+        registers,
+        marks,
+        &mut values,
+        memory,
+        vectors,
+        group,
+        word,
+    );
     put_scalar(scalars, rd, values[rd]);
     stepped
 }

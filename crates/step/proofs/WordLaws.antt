@@ -11,7 +11,10 @@ use borrow.Author.Tests.{lt-ltb, le-ltb, ltb-true, ltb-false, ne-eqb}
 use Rattle.width.specs.Reduce.{reduce, signed}
 use Rattle.width.proofs.ReduceLaws.{widened, reduce-signed}
 use Rattle.machine.specs.declared.Instruction.{Instruction}
-use Rattle.machine.specs.declared.Instruction.the-variants.{Illegal, SetTypeImmediate, SetType, SetTileImmediate, SetTile, Load, Store, Multiply, Combine, Scale, ScaleImmediate, FloatMultiply}
+use Rattle.machine.specs.declared.Instruction.the-variants.{Illegal, SetTypeImmediate, SetType, SetTileImmediate, SetTile, Load, Store, Multiply, Combine, Scale, ScaleImmediate, FloatMultiply, MoveOut, MoveIn}
+use mathlib.Core.Logic.{inl, inr}
+use types.Run.{OneOf}
+use Rattle.machine.proofs.MatchLaws.{found}
 use Rattle.machine.specs.Listing.{decode, inRange}
 use Rattle.machine.specs.Tests.{isIn}
 use Rattle.machine.specs.Geometry.{elens, registerCount}
@@ -75,6 +78,10 @@ in-range (ScaleImmediate factor md ms1 immediate) b r =
     let t = every-each (ltb md 2 ∷ ltb ms1 2 ∷ []) r in ((ltb-true md 2 (t .0), ltb-true ms1 2 (t .1 .0)), ltb-true immediate 32 b)
 in-range (FloatMultiply md ms1 ms2) b r =
     let t = every-each (ltb md 2 ∷ ltb ms1 8 ∷ ltb ms2 8 ∷ []) r in (ltb-true md 2 (t .0), (ltb-true ms1 8 (t .1 .0), ltb-true ms2 8 (t .1 .1 .0)))
+in-range (MoveOut form vd ms1 rs2) b r =
+    let t = every-each (ltb vd 32 ∷ ltb rs2 32 ∷ []) b in ((ltb-true ms1 2 r, ltb-true vd 32 (t .0)), ltb-true rs2 32 (t .1 .0))
+in-range (MoveIn form md vs1 rs2) b r =
+    let t = every-each (ltb vs1 32 ∷ ltb rs2 32 ∷ []) b in ((ltb-true md 2 r, ltb-true vs1 32 (t .0)), ltb-true rs2 32 (t .1 .0))
 
 pub decoded : (word : ℕ) (i : Instruction) → i ≡ decode word → Decoded i
 decoded word i e = subst Decoded (sym e) (let h = decode-bounded word in in-range (decode word) (h .0) (h .1))

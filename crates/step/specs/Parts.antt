@@ -5,8 +5,12 @@ use Prim.Native.Nat.{ℕ, _^_, _<_}
 use lib.Dec.{eqb}
 use Rattle.machine.specs.Geometry.{registerCount}
 use Rattle.machine.specs.declared.Instruction.{Instruction}
-use Rattle.machine.specs.declared.Instruction.the-variants.{Illegal, SetTypeImmediate, SetType, SetTileImmediate, SetTile, Load, Store, Multiply, Combine, Scale, ScaleImmediate, FloatMultiply}
+use Rattle.machine.specs.declared.Instruction.the-variants.{Illegal, SetTypeImmediate, SetType, SetTileImmediate, SetTile, Load, Store, Multiply, Combine, Scale, ScaleImmediate, FloatMultiply, MoveOut, MoveIn}
 use Rattle.machine.specs.Refusals.{isZero}
+use mathlib.Core.List.{List}
+use Rattle.machine.specs.Geometry.{Parameters, Bench}
+use Rattle.machine.specs.Vectors.{Vectors}
+use Rattle.machine.specs.Step.{VectorOutcome, beside, outcomeIn, vectorsIn}
 use Rattle.width.specs.Reduce.{reduce}
 
 -- a multiplier, by its residue at 64 bits
@@ -28,3 +32,9 @@ Decoded (Combine sum factor md ms1) = (md < 2) × (ms1 < 2)
 Decoded (Scale factor md ms1 rs2) = ((md < 2) × (ms1 < 2)) × (rs2 < 32)
 Decoded (ScaleImmediate factor md ms1 immediate) = ((md < 2) × (ms1 < 2)) × (immediate < 32)
 Decoded (FloatMultiply md ms1 ms2) = (md < 2) × ((ms1 < 8) × (ms2 < 8))
+Decoded (MoveOut form vd ms1 rs2) = ((ms1 < 2) × (vd < 32)) × (rs2 < 32)
+Decoded (MoveIn form md vs1 rs2) = ((md < 2) × (vs1 < 32)) × (rs2 < 32)
+
+-- what an instruction leaves beside a vector file that is not bad
+abbrev pub carriedBeside : Vectors → Parameters → Instruction → List ℕ → Bench → VectorOutcome
+carriedBeside W M i xs B = beside (vectorsIn W M i xs B) (outcomeIn W M i xs B)

@@ -4,6 +4,8 @@ use machine::Instruction;
 use machine::Machine;
 use machine::Stepped;
 use machine::Wrong;
+use moves::move_in;
+use moves::move_out;
 use operations::reckoning::combine;
 use operations::reckoning::float_multiply;
 use operations::reckoning::multiply;
@@ -23,10 +25,12 @@ ghost use Rattle.width.specs.Reduce.{reduce, signed};
 ghost use Rattle.machine.specs.Setting.{sew};
 ghost use Rattle.machine.specs.Faults.{sound, thirtyTwo};
 ghost use Rattle.machine.specs.Geometry.{benchOf};
-ghost use Rattle.machine.specs.Step.{step, outcome, steppedAs};
+ghost use Rattle.machine.specs.Tests.{isIn};
+ghost use Rattle.machine.specs.Vectors.{vectorsOf, groupSizes, vectorsFit};
+ghost use Rattle.machine.specs.Step.{vectorStep, vectorSteppedAs};
 ghost use Rattle.machine.specs.Refusals.{wordAnswer, isZero};
 ghost use Rattle.settings.specs.Parts.{ours};
-ghost use Rattle.step.specs.Parts.{Multiplier, Decoded};
+ghost use Rattle.step.specs.Parts.{Multiplier, Decoded, carriedBeside};
 
 // The answer to a word that is refused for what it is.
 fn word_answer(wrong: Wrong) -> Answer
@@ -76,13 +80,16 @@ fn perform(
     marks: &mut [u8],
     scalars: &mut [u64],
     memory: &mut [u8],
+    vectors: &mut [u8],
+    group: u64,
     instruction: Instruction,
 ) -> Stepped
     requires { ⌜ sound m (now registers) (now marks) ≡ true ⌝ }
     requires { ⌜ thirtyTwo (now scalars) ≡ true ⌝ }
+    requires { ⌜ vectorsFit (vectorsOf (now vectors) group) ≡ true ⌝ }
     requires { ⌜ Decoded instruction ⌝ }
-    ensures { λ r. ⌜ steppedAs r (now (registers .exit)) (now (marks .exit)) (now (scalars .exit)) (now (memory .exit))
-        ≡ outcome (ours m) instruction (now (scalars .entry)) (benchOf m (now (registers .entry)) (now (marks .entry)) (now (memory .entry))) ⌝ }
+    ensures { λ r. ⌜ vectorSteppedAs r (now (registers .exit)) (now (marks .exit)) (now (scalars .exit)) (now (memory .exit)) (now (vectors .exit))
+        ≡ carriedBeside (vectorsOf (now (vectors .entry)) group) (ours m) instruction (now (scalars .entry)) (benchOf m (now (registers .entry)) (now (marks .entry)) (now (memory .entry))) ⌝ }
 {
     match instruction {
         Instruction::Illegal { wrong } => Stepped {
@@ -204,20 +211,49 @@ fn perform(
             answer: float_multiply(m, registers, marks, md, ms1, ms2),
             machine: m,
         },
+        Instruction::MoveOut { form, vd, ms1, rs2 } => {
+            let first = read_scalar(scalars, rs2);
+            Stepped {
+                answer: move_out(m, registers, marks, vectors, group, form, vd, ms1, first),
+                machine: m,
+            }
+        }
+        Instruction::MoveIn { form, md, vs1, rs2 } => {
+            let first = read_scalar(scalars, rs2);
+            Stepped {
+                answer: move_in(m, registers, marks, vectors, group, form, md, vs1, first),
+                machine: m,
+            }
+        }
     }
 }
 
-// Steps one instruction word.
+// Whether there is such a group size.
+fn is_group(group: u64) -> bool
+    ensures { λ r. ⌜ r ≡ isIn group groupSizes ⌝ }
+{
+    match group {
+        1 => true,
+        2 => true,
+        4 => true,
+        8 => true,
+        _ => false,
+    }
+}
+
+// Steps one instruction word, beside a vector file with a group size.
 pub fn step(
     m: Machine,
     registers: &mut [u8],
     marks: &mut [u8],
     scalars: &mut [u64],
     memory: &mut [u8],
+    vectors: &mut [u8],
+    group: u64,
     word: u32,
 ) -> Stepped
-    ensures { λ r. ⌜ steppedAs r (now (registers .exit)) (now (marks .exit)) (now (scalars .exit)) (now (memory .exit))
-        ≡ step word (now (scalars .entry)) (benchOf m (now (registers .entry)) (now (marks .entry)) (now (memory .entry))) ⌝ }
+    ensures { λ r. ⌜ vectorSteppedAs r (now (registers .exit)) (now (marks .exit)) (now (scalars .exit)) (now (memory .exit)) (now (vectors .exit))
+        ≡ vectorStep word (now (scalars .entry)) (vectorsOf (now (vectors .entry)) group) (benchOf m (now (registers .entry)) (now (marks .entry)) (now (memory .entry))) ⌝ }
 {
     if !is_sound(m, registers, marks) {
         return Stepped {
@@ -231,5 +267,26 @@ pub fn step(
             machine: m,
         };
     }
-    perform(m, registers, marks, scalars, memory, decode::decode(word))
+    if vectors.len() != 512 {
+        return Stepped {
+            answer: Answer::BadArguments,
+            machine: m,
+        };
+    }
+    if !is_group(group) {
+        return Stepped {
+            answer: Answer::BadArguments,
+            machine: m,
+        };
+    }
+    perform(
+        m,
+        registers,
+        marks,
+        scalars,
+        memory,
+        vectors,
+        group,
+        decode::decode(word),
+    )
 }

@@ -1,8 +1,8 @@
 -- What `load` and `store` require follows from a sound machine and the checks of answers 2 to 4.
-use mathlib.Core.Path.{_≡_, refl, sym, _∙_}
+use mathlib.Core.Path.{_≡_, refl, sym, ap, _∙_}
 use mathlib.Core.Bool.{Bool, true, false, _&&_, _||_}
 use mathlib.Core.List.{List, [], _∷_}
-use Prim.Native.Nat.{ℕ, _+_, _*_, _/_, _≤_, _<_}
+use Prim.Native.Nat.{ℕ, zero, suc, _+_, _*_, _/_, _≤_, _<_}
 use native.Mathlib.Nat.{mul-le-mul-right, div-mul-le-self}
 use native.Mathlib.Omega.{arith}
 use lib.ListN.{length}
@@ -18,10 +18,12 @@ use Rattle.machine.specs.Setting.{sew, maccq, maximum}
 use Rattle.machine.specs.Operation.{tileRows, tileCols, rowsOf, columnsOf}
 use Rattle.machine.specs.Refusals.{typed, fitting, widthOf}
 use Rattle.machine.specs.Faults.{sound}
+use Rattle.width.proofs.PutLaws.{row-fits}
 use Rattle.machine.proofs.TestLaws.{and-right}
 use Rattle.machine.proofs.CheckLaws.{Passed}
 use Rattle.machine.proofs.StepLaws.{permitted-lengths}
 use Rattle.machine.proofs.NoFault.{sound-is}
+use Rattle.tile.specs.Checks.{RowsIn}
 
 -- ---- widths and registers
 
@@ -54,6 +56,15 @@ in-row q P s c w h e =
     let b : c * s * q ≤ P / s * s * q = mul-le-mul-right q (mul-le-mul-right s h) in
     let d : P / s * s * q ≤ P * q = mul-le-mul-right q (div-mul-le-self P s) in
     omega arith
+
+-- rows that fit end where they should
+pub rows-end : (start pitch rows n len : ℕ) → start + rows * pitch ≤ len → n ≤ pitch → RowsIn start pitch rows n len
+rows-end start pitch rows n len h f = (omega arith, λ i l. omega (arith, row-fits i rows pitch l))
+
+-- and so do rows that lie one after another, all as one
+pub together-end : (start pitch rows n len : ℕ) → RowsIn start pitch rows n len → n ≡ pitch → start + rows * n ≤ len
+together-end start pitch zero n len h e = omega (arith, h .0)
+together-end start pitch (suc k) n len h e = omega (arith, h .1 k (omega arith), ap (λ (p : ℕ). k * p) e)
 
 -- ---- the checks of answers 2 to 4, with which those of a load and of a store begin
 

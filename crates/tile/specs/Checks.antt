@@ -2,11 +2,15 @@
 -- start + i * pitch; in memory it has so many lines of n bytes each.
 use mathlib.Core.Bool.{false}
 use mathlib.Core.List.{List, [], _∷_}
-use Prim.Native.Nat.{ℕ, _+_, _*_}
+use Prim.Native.Nat.{ℕ, _+_, _*_, _≤_, _<_}
 use Rattle.machine.specs.declared.Answer.the-variants.{OutsideMemory, SealedByte, RowsOverlap}
 use Rattle.machine.specs.Answers.{Check, _otherwise_}
 use Rattle.machine.specs.Memory.{rowAt, inside, distinct, rowsMiss}
 use Rattle.machine.specs.Refusals.{needs}
+
+-- rows of n bytes each start, and each of them ends, by the end of len bytes
+abbrev pub RowsIn : (start pitch rows n len : ℕ) → Type 0
+RowsIn start pitch rows n len = (start ≤ len) × ((i : ℕ) → i < rows → start + i * pitch + n ≤ len)
 
 abbrev pub marksCheck : List ℕ → (start pitch rows cols w : ℕ) → Check
 marksCheck marks start pitch rows cols w = needs false marks (λ i. start + i * pitch) rows cols w

@@ -22,21 +22,19 @@ ghost use Rattle.machine.specs.Operation.{element};
 ghost use Rattle.machine.specs.Refusals.{marked, needs};
 ghost use Rattle.machine.specs.declared.Answer.the-variants.{OutsideMemory};
 ghost use Rattle.machine.specs.Answers.{verdict};
-ghost use Rattle.tile.specs.Checks.{storeChecks};
+ghost use Rattle.tile.specs.Checks.{RowsIn, storeChecks};
 
 // Whether each byte of the rows, of n bytes each, has its mark.
 fn tile_marked(marks: &[u8], start: usize, pitch: usize, rows: usize, n: usize) -> bool
-    requires { ⌜ start + rows * pitch ≤ length (now marks) ⌝ }
-    requires { ⌜ n ≤ pitch ⌝ }
+    requires { ⌜ RowsIn start pitch rows n (length (now marks)) ⌝ }
     ensures { λ r. ⌜ r ≡ marked (now (marks .entry)) (λ i. start + i * pitch) rows n ⌝ }
 {
-    let mut first = start;
     let mut i = 0;
     while i < rows {
+        let first = start + i * pitch;
         if !line_marked(marks, first, n) {
             return false;
         }
-        first += pitch;
         i += 1;
     }
     true
@@ -51,7 +49,7 @@ pub fn first_unmarked(
     cols: usize,
     w: usize,
 ) -> Answer
-    requires { ⌜ start + rows * pitch ≤ length (now marks) ⌝ }
+    requires { ⌜ RowsIn start pitch rows (cols * w) (length (now marks)) ⌝ }
     requires { ⌜ cols * w ≤ pitch ⌝ }
     ensures { λ r. ⌜ r ≡ verdict (needs false (now (marks .entry)) (λ i. start + i * pitch) rows cols w ∷ []) ⌝ }
 {
@@ -59,10 +57,9 @@ pub fn first_unmarked(
         return Answer::Done;
     }
     let mut found = Answer::Done;
-    let mut first = start;
     let mut i = 0;
     'tile: while i < rows {
-        let mut at = first;
+        let mut at = start + i * pitch;
         let mut j = 0;
         while j < cols {
             if !row_marked(marks, at, w) {
@@ -75,7 +72,6 @@ pub fn first_unmarked(
             at += w;
             j += 1;
         }
-        first += pitch;
         i += 1;
     }
     found
@@ -83,19 +79,17 @@ pub fn first_unmarked(
 
 // Marks the rows of n bytes: as one row where each starts at the end of the one before.
 pub fn mark_tile(marks: &mut [u8], start: usize, pitch: usize, rows: usize, n: usize)
-    requires { ⌜ start + rows * pitch ≤ length (now marks) ⌝ }
-    requires { ⌜ n ≤ pitch ⌝ }
+    requires { ⌜ RowsIn start pitch rows n (length (now marks)) ⌝ }
     ensures { λ _. ⌜ now (marks .exit) ≡ markTile (λ i. start + i * pitch) rows n (now (marks .entry)) ⌝ }
 {
     if n == pitch {
         mark_row(&mut marks[start..], rows * n);
         return;
     }
-    let mut to = start;
     let mut i = 0;
     while i < rows {
+        let to = start + i * pitch;
         mark_row(&mut marks[to..], n);
-        to += pitch;
         i += 1;
     }
 }

@@ -35,7 +35,7 @@ power (suc (suc zero)) h = inr (inr (inl refl))
 power (suc (suc (suc zero))) h = inr (inr (inr refl))
 power (suc (suc (suc (suc e)))) h = absurd (omega arith)
 
-sew-width : (t : ℕ) → isIn t (legalTypes mostElen) ≡ true → Width (sew t)
+pub sew-width : (t : ℕ) → isIn t (legalTypes mostElen) ≡ true → Width (sew t)
 unfolding sew
 sew-width t h = power (t % 8) (ltb-true (t % 8) 4 (each-in t (legalTypes mostElen) (λ v. ltb (v % 8) 4) refl h))
 

@@ -163,7 +163,7 @@ fn memory_columns(form: Form, rows: usize, cols: usize) -> usize
 }
 
 // Copies a tile in memory to the registers.
-fn copy_in(
+pub fn copy_in(
     form: Form,
     registers: &mut [u8],
     memory: &[u8],
@@ -192,7 +192,7 @@ fn copy_in(
 }
 
 // Copies a tile in the registers to memory.
-fn copy_out(
+pub fn copy_out(
     form: Form,
     memory: &mut [u8],
     registers: &[u8],

@@ -25,12 +25,12 @@ use Rattle.machine.specs.Operation.{memoryAfter, element, written, tileRows, ti
 use Rattle.machine.specs.Refusals.{checks}
 use Rattle.machine.specs.Faults.{soundBench}
 use Rattle.machine.specs.Step
-use Rattle.machine.specs.Step.{Outcome, outcome, stepBy, given, meant}
+use Rattle.machine.specs.Step.{VectorOutcome, beside, stepWith, given, meant}
 use Rattle.machine.specs.Theorems.{Given}
 use Rattle.machine.proofs.CheckLaws.{Passed}
 use Rattle.machine.proofs.CodeLaws.{decode-bounded}
 use Rattle.machine.proofs.StoreLaws.{length-stored, stored-out, store-byte}
-use Rattle.machine.proofs.Stores.{accepted}
+use Rattle.machine.proofs.Stores.{Accepted, accepted-with}
 use Rattle.transfer.proofs.Room.{transfer-requires}
 use Rattle.transfer.proofs.WalkLaws.{width-some}
 use Rattle.transposed.specs.Transposed.{Pair, LoadThenStore, Transposes, LoadThenStoreTransposes}
@@ -149,31 +149,20 @@ module _ (grant : ℕ → ℕ → ℕ → ℕ) (P : Pair) (first second : Given)
   abbrev left : Bench
   left = B₁ grant (P .matrix) (P .w) (P .register) (P .load-base) (P .load-stride) (P .store-base) (P .store-stride) xs ys B
 
-  abbrev end : Outcome
-  end = Step.carriedOut N i₂ ys left
+  load-done : Accepted grant i₁ xs (first .vectors) B (stepWith grant (first .word) xs (first .vectors) B)
+  load-done = accepted-with grant (first .word) i₁ xs (first .vectors) B (h .plain-load) (h .load-accepted)
 
-  first-word : (i : Instruction) → decode (first .word) ≡ i → stepBy grant (first .word) xs B ≡ outcome N i xs B
-  unfolding stepBy
-  first-word i e = ap (λ (i : Instruction). outcome N i xs B) e
+  load-is : stepWith grant (first .word) xs (first .vectors) B ≡ beside (first .vectors .file) (Step.carriedOut N i₁ xs B)
+  load-is = load-done .leaves
 
-  second-word : (i : Instruction) → decode (second .word) ≡ i → stepBy grant (second .word) ys left ≡ outcome N i ys left
-  unfolding stepBy
-  second-word i e = ap (λ (i : Instruction). outcome N i ys left) e
+  second-starts : stepWith grant (second .word) ys (second .vectors) (stepWith grant (first .word) xs (first .vectors) B .bench) ≡ stepWith grant (second .word) ys (second .vectors) left
+  second-starts = ap (λ (o : VectorOutcome). stepWith grant (second .word) ys (second .vectors) (o .bench)) load-is
 
-  load-done : (soundBench B ≡ true) × Passed (checks N (meant N i₁ xs B) (given N i₁ xs B) (B .memory)) × (outcome N i₁ xs B ≡ Step.carriedOut N i₁ xs B)
-  load-done = accepted N i₁ xs B (ap (λ (o : Outcome). o .answer .number) (sym (first-word i₁ (h .plain-load))) ∙ h .load-accepted)
+  store-done : Accepted grant i₂ ys (second .vectors) left (stepWith grant (second .word) ys (second .vectors) left)
+  store-done = accepted-with grant (second .word) i₂ ys (second .vectors) left (h .transposed-store) (ap (λ (o : VectorOutcome). o .answer .number) (sym second-starts) ∙ h .store-accepted)
 
-  load-is : stepBy grant (first .word) xs B ≡ Step.carriedOut N i₁ xs B
-  load-is = first-word i₁ (h .plain-load) ∙ load-done .2
-
-  second-starts : stepBy grant (second .word) ys (stepBy grant (first .word) xs B .bench) ≡ outcome N i₂ ys left
-  second-starts = ap (λ (o : Outcome). stepBy grant (second .word) ys (o .bench)) load-is ∙ second-word i₂ (h .transposed-store)
-
-  store-done : (soundBench left ≡ true) × Passed (checks N (meant N i₂ ys left) (given N i₂ ys left) (left .memory)) × (outcome N i₂ ys left ≡ Step.carriedOut N i₂ ys left)
-  store-done = accepted N i₂ ys left (ap (λ (o : Outcome). o .answer .number) (sym second-starts) ∙ h .store-accepted)
-
-  store-is : stepBy grant (second .word) ys (stepBy grant (first .word) xs B .bench) ≡ end
-  store-is = second-starts ∙ store-done .2
+  store-is : stepWith grant (second .word) ys (second .vectors) (stepWith grant (first .word) xs (first .vectors) B .bench) ≡ beside (second .vectors .file) (Step.carriedOut N i₂ ys left)
+  store-is = second-starts ∙ store-done .leaves
 
   in-range : P .register < registerCount (P .matrix)
   in-range = ltb-true (P .register) (registerCount (P .matrix)) (subst (λ (i : Instruction). inRange i ≡ true) (h .plain-load) (decode-bounded (first .word) .1))
@@ -181,23 +170,23 @@ module _ (grant : ℕ → ℕ → ℕ → ℕ) (P : Pair) (first second : Given)
   result : Transposes grant P first second B
   result = record {
     transposed = λ i j l m.
-        ap (λ (o : Outcome). element (o .bench .memory) (rowAt (scalar ys (P .store-base)) (scalar ys (P .store-stride))) (P .w) j i) store-is
-        ∙ turned grant (P .matrix) (P .w) (P .register) (P .load-base) (P .load-stride) (P .store-base) (P .store-stride) xs ys B in-range (load-done .0) (load-done .1) (store-done .1)
+        ap (λ (o : VectorOutcome). element (o .bench .memory) (rowAt (scalar ys (P .store-base)) (scalar ys (P .store-stride))) (P .w) j i) store-is
+        ∙ turned grant (P .matrix) (P .w) (P .register) (P .load-base) (P .load-stride) (P .store-base) (P .store-stride) xs ys B in-range (load-done .sound) (load-done .passes) (store-done .passes)
         (h .bytes) i j l m;
-    same-length = ap (λ (o : Outcome). length (o .bench .memory)) store-is ∙ length-stored _ _ _ _ _ (B .memory);
+    same-length = ap (λ (o : VectorOutcome). length (o .bench .memory)) store-is ∙ length-stored _ _ _ _ _ (B .memory);
     same-memory = λ q f.
-        ap (λ (o : Outcome). getD (o .bench .memory) q 0) store-is
+        ap (λ (o : VectorOutcome). getD (o .bench .memory) q 0) store-is
         ∙ kept grant (P .matrix) (P .w) (P .register) (P .load-base) (P .load-stride) (P .store-base) (P .store-stride) xs ys B q f;
     as-loaded = (
-      ap (λ (o : Outcome). o .bench .registers) store-is ∙ sym (ap (λ (o : Outcome). o .bench .registers) load-is),
-      ap (λ (o : Outcome). o .bench .marks) store-is ∙ sym (ap (λ (o : Outcome). o .bench .marks) load-is),
+      ap (λ (o : VectorOutcome). o .bench .registers) store-is ∙ sym (ap (λ (o : VectorOutcome). o .bench .registers) load-is),
+      ap (λ (o : VectorOutcome). o .bench .marks) store-is ∙ sym (ap (λ (o : VectorOutcome). o .bench .marks) load-is),
     );
     same-registers = λ q f. (
-      ap (λ (o : Outcome). getD (o .bench .registers) q 0) store-is ∙ putTile-out _ _ _ (P .w) _ (B .registers) q f,
-      ap (λ (o : Outcome). getD (o .bench .marks) q 0) store-is ∙ markTile-out _ _ _ (B .marks) q f,
+      ap (λ (o : VectorOutcome). getD (o .bench .registers) q 0) store-is ∙ putTile-out _ _ _ (P .w) _ (B .registers) q f,
+      ap (λ (o : VectorOutcome). getD (o .bench .marks) q 0) store-is ∙ markTile-out _ _ _ (B .marks) q f,
     );
-    same-machine = ap (λ (o : Outcome). o .bench .machine) store-is;
-    same-scalars = (ap (λ (o : Outcome). o .scalars) load-is, ap (λ (o : Outcome). o .scalars) store-is);
+    same-machine = ap (λ (o : VectorOutcome). o .bench .machine) store-is;
+    same-scalars = (ap (λ (o : VectorOutcome). o .scalars) load-is, ap (λ (o : VectorOutcome). o .scalars) store-is);
   }
 
 pub load-then-store-transposes : LoadThenStoreTransposes

@@ -12,7 +12,7 @@ use Rattle.machine.specs.Geometry.{parameters, State, stateOf, Bench, registerA
 use Rattle.machine.specs.Listing.{decode}
 use Rattle.machine.specs.Memory.{rowAt}
 use Rattle.machine.specs.Operation.{element, tileRows, tileCols}
-use Rattle.machine.specs.Step.{Outcome, stepBy}
+use Rattle.machine.specs.Step.{VectorOutcome, stepWith}
 use Rattle.machine.specs.Theorems.{Given}
 
 -- one of A, B and C at a width of w bytes, a register, and the scalars that a load and a store name
@@ -27,11 +27,11 @@ pub record Pair : Type 0 where
 
 module _ (grant : ℕ → ℕ → ℕ → ℕ) (P : Pair) (first second : Given) (B : Bench) where
   -- "nothing comes between"
-  abbrev pub afterLoad : Outcome
-  afterLoad = stepBy grant (first .word) (first .scalars) B
+  abbrev pub afterLoad : VectorOutcome
+  afterLoad = stepWith grant (first .word) (first .scalars) (first .vectors) B
 
-  abbrev pub afterStore : Outcome
-  afterStore = stepBy grant (second .word) (second .scalars) (afterLoad .bench)
+  abbrev pub afterStore : VectorOutcome
+  afterStore = stepWith grant (second .word) (second .scalars) (second .vectors) (afterLoad .bench)
 
   -- the tile in the register, and its rows in memory, from which it is loaded and to which it is stored
   abbrev held : State

@@ -8,16 +8,16 @@ packed-requires c κs = search needs
 
 returns : tie.Need-returns
 returns c =
-    let a = c .before .before .before .before .before .before .before .args in
-    step-short (a .word) (a .machine .now) (a .registers .now) (a .marks .now) (a .scalars .now) (a .memory .now) (c .packed .result) (c .before .if1 .taken) (c .packed .ensures)
+    let a = c .before .before .before .before .before .before .before .before .args in
+    step-short (a .word) (a .group) (a .machine .now) (a .registers .now) (a .marks .now) (a .scalars .now) (a .memory .now) (a .vectors .now) (c .packed .result) (c .before .if1 .taken) (c .packed .ensures)
 
 packed-requires-2 : tie.Need-packed-requires-2
 packed-requires-2 c κs = search needs
 
 returns-2 : tie.Need-returns-2
 returns-2 c =
-    let a = c .before .before .before .before .before .before .before .before .args in
-    step-short-scalars (a .word) (a .machine .now) (a .registers .now) (a .marks .now) (a .scalars .now) (a .memory .now) (c .packed2 .result) (c .before .before .if1 .left) (c .before .if2 .taken) (c .packed2 .ensures)
+    let a = c .before .before .before .before .before .before .before .before .before .args in
+    step-short-scalars (a .word) (a .group) (a .machine .now) (a .registers .now) (a .marks .now) (a .scalars .now) (a .memory .now) (a .vectors .now) (c .packed2 .result) (c .before .before .if1 .left) (c .before .if2 .taken) (c .packed2 .ensures)
 
 machine-of-requires : tie.Need-machine-of-requires
 machine-of-requires c κs = search needs
@@ -27,12 +27,12 @@ step-block-requires c κs = search needs
 
 put-state-requires : tie.Need-put-state-requires
 put-state-requires c κs =
-    let z = c .before .before .before .before .before .before .before .before .before .before in
-    let f = z .before .before .before .before .before in
-    let a = z .before .before .before .before .before .before .before .before .before .before .before .before .before .before .args in (
+    let z = c .before .before .before .before .before .before .before .before .before .before .before .before in
+    let f = z .before .before .before .before .before .before in
+    let a = z .before .before .before .before .before .before .before .before .before .before .before .before .before .before .before .before .args in (
       search needs,
-      step-keeps (a .word) (a .machine .now) (a .registers .now) (a .marks .now) (a .scalars .now) (a .memory .now) (f .machine-of .result) (z .step-block .result)
-          (z .step-block .last .1 .0) (z .step-block .last .1 .1 .0) (z .step-block .last .1 .1 .1 .0) (z .step-block .last .1 .1 .1 .1 .0) (f .machine-of .ensures) (z .step-block .ensures),
+      step-keeps (a .word) (a .group) (a .machine .now) (a .registers .now) (a .marks .now) (a .scalars .now) (a .memory .now) (a .vectors .now) (f .machine-of .result) (z .step-block .result)
+          (z .step-block .last .1 .0) (z .step-block .last .1 .1 .0) (z .step-block .last .1 .1 .1 .0) (z .step-block .last .1 .1 .1 .1 .0) (z .step-block .last .1 .1 .1 .1 .1 .0) (f .machine-of .ensures) (z .step-block .ensures),
     )
 
 packed-requires-3 : tie.Need-packed-requires-3
@@ -53,15 +53,18 @@ same-length-4 c = search needs
 same-length-5 : tie.Need-same-length-5
 same-length-5 c = search needs
 
+same-length-6 : tie.Need-same-length-6
+same-length-6 c = search needs
+
 returns-3 : tie.Need-returns-3
 returns-3 c =
     let k = c .before .before .before in
-    let z = c .before .before .before .before .before .before .before .before .before .before .before .before .before .before in
-    let f = z .before .before .before .before .before in
+    let z = c .before .before .before .before .before .before .before .before .before .before .before .before .before .before .before .before in
+    let f = z .before .before .before .before .before .before in
     let e = f .before .before in
-    let a = c .before .before .before .before .before .before .before .before .before .before .before .before .before .before .before .before .before .before .before .before .before .before .before .before .before .before .before .before .args in
-    step-shown (a .word) (a .machine .now) (a .registers .now) (a .marks .now) (a .scalars .now) (a .memory .now) (f .machine-of .result) (z .step-block .result)
-    (k .put-state .last .0) (z .step-block .last .1 .0) (z .step-block .last .1 .1 .0) (z .step-block .last .1 .1 .1 .0) (z .step-block .last .1 .1 .1 .1 .0) (c .packed3 .result) (e .before .if1 .left) (e .if2 .left)
+    let a = c .before .before .before .before .before .before .before .before .before .before .before .before .before .before .before .before .before .before .before .before .before .before .before .before .before .before .before .before .before .before .before .before .args in
+    step-shown (a .word) (a .group) (a .machine .now) (a .registers .now) (a .marks .now) (a .scalars .now) (a .memory .now) (a .vectors .now) (f .machine-of .result) (z .step-block .result)
+    (k .put-state .last .0) (z .step-block .last .1 .0) (z .step-block .last .1 .1 .0) (z .step-block .last .1 .1 .1 .0) (z .step-block .last .1 .1 .1 .1 .0) (z .step-block .last .1 .1 .1 .1 .1 .0) (c .packed3 .result) (e .before .if1 .left) (e .if2 .left)
     (f .machine-of .ensures) (z .step-block .ensures) (k .put-state .ensures) (c .packed3 .ensures)
 
 pub step-spec : {M : Type 1} → statement M
@@ -81,4 +84,5 @@ step-spec =
     same-length-3
     same-length-4
     same-length-5
+    same-length-6
     returns-3)

@@ -4,7 +4,7 @@ use Prim.Native.Nat.{ℕ, _≤_, _<_}
 use native.Mathlib.Omega.{arith}
 use borrow.Author.Needs.{needs}
 use Rattle.decode_table.specs.Table.{numbered}
-use Rattle.decode_table.proofs.TableLaws.{no-number, meant-at, too-large}
+use Rattle.decode_table.proofs.TableLaws.{no-number, meant-at}
 use Rattle.decode.proofs.Laws.{numbered-back, printed-as}
 use Rattle.decode.proofs.meant.Statement.{statement}
 use Rattle.decode.proofs.meant.Tie as tie
@@ -42,12 +42,12 @@ arithmetic-requires c κs =
     ⊎-elim (λ h. (omega (arith, c .before .if4 .left), c .if5 .taken)) (λ h. (omega arith, c .if5 .taken))
     (printed-as n (d .printed .result) (d .before .form-of .result) (d .before .form-of .ensures) (d .printed .ensures))
 
-returns-6 : tie.Need-returns-6
-returns-6 c =
+moving-requires : tie.Need-moving-requires
+moving-requires c κs =
     let d = c .before .before .before in
-    let a = d .before .before .before .before .args in
-    too-large (a .number) (a .word) (⊎-elim (λ h. omega (arith, c .if5 .left)) (λ h. omega (arith, c .before .if4 .left))
-    (printed-as (a .number) (d .printed .result) (d .before .form-of .result) (d .before .form-of .ensures) (d .printed .ensures)))
+    let n = d .before .before .before .before .args .number in
+    ⊎-elim (λ h. omega (arith, c .if5 .left)) (λ h. omega (arith, c .before .if4 .left))
+    (printed-as n (d .printed .result) (d .before .form-of .result) (d .before .form-of .ensures) (d .printed .ensures))
 
 pub meant-spec : {M : Type 1} → statement M
 meant-spec =
@@ -59,4 +59,4 @@ meant-spec =
     loading-requires returns-3
     (λ c κs. search needs) returns-4
     arithmetic-requires (λ c. search needs)
-    returns-6)
+    moving-requires (λ c. c .moving .ensures))

@@ -1,18 +1,31 @@
 use mathlib.Core.Path.{_≡_, sym, _∙_}
 use mathlib.Core.Bool.{true}
+use borrow.Author.Needs.{needs}
 use borrow.Author.Tests.{eq-eqb, ne-eqb, not-true, not-false}
 use lib.ListN.{length}
-use Rattle.machine.specs.Geometry.{benchOf}
+use Rattle.machine.specs.Geometry.{Bench, benchOf}
+use Rattle.machine.specs.Vectors.{Vectors, vectorsOf, vectorsFit}
 use Rattle.machine.specs.Faults.{sound}
-use Rattle.operations.proofs.OutcomeLaws.{step-fault, step-scalars, step-decoded}
 use Rattle.step.proofs.WordLaws.{decoded}
-use borrow.Author.Needs.{needs}
+use Rattle.step.proofs.FaultLaws.{file-bad, group-bad, file-good, step-fault, step-scalars, step-vectors, step-decoded}
 use Rattle.step.proofs.step.Statement.{statement}
 use Rattle.step.proofs.step.Tie as tie
 
+abbrev bench : tie.Start → Bench
+bench s = let a = s .args in benchOf (a .m) (a .registers .now) (a .marks .now) (a .memory .now)
+
+abbrev lent : tie.Start → Vectors
+lent s = vectorsOf (s .args .vectors .now) (s .args .group)
+
 -- the state is not at fault
-fine : (c : tie.Else1) → let a = c .before .before .before .before .before .before .before .before .args in sound (a .m) (a .registers .now) (a .marks .now) ≡ true
+fine : (c : tie.Else1) → let a = c .before .before .before .before .before .before .before .before .before .args in sound (a .m) (a .registers .now) (a .marks .now) ≡ true
 fine c = sym (c .before .is-sound .ensures) ∙ not-false (c .before .is-sound .result) (c .if1 .left)
+
+-- the vector file is not bad
+good : (c : tie.Else4) → vectorsFit (lent (c .before .before .before .before .before .before .before .before .before .before .before .before .before)) ≡ true
+good c =
+    let a = c .before .before .before .before .before .before .before .before .before .before .before .before .before .args in
+    file-good (a .vectors .now) (a .group) (c .before .before .if3 .left) (sym (c .before .is-group .ensures) ∙ not-false (c .before .is-group .result) (c .if4 .left))
 
 is-sound-requires : tie.Need-is-sound-requires
 is-sound-requires c κs = search needs
@@ -25,9 +38,8 @@ same-length-2 c = search needs
 
 returns : tie.Need-returns
 returns c =
-    let a = c .before .before .before .before .before .before .before .before .args in
-    sym (step-fault (a .word) (a .scalars .now) (benchOf (a .m) (a .registers .now) (a .marks .now) (a .memory .now))
-    (sym (c .before .is-sound .ensures) ∙ not-true (c .before .is-sound .result) (c .if1 .taken)))
+    let s = c .before .before .before .before .before .before .before .before .before in
+    step-fault (s .args .word) (s .args .scalars .now) (lent s) (bench s) (sym (c .before .is-sound .ensures) ∙ not-true (c .before .is-sound .result) (c .if1 .taken))
 
 same-length-3 : tie.Need-same-length-3
 same-length-3 c = search needs
@@ -37,18 +49,8 @@ same-length-4 c = search needs
 
 returns-2 : tie.Need-returns-2
 returns-2 c =
-    let a = c .before .before .before .before .before .before .before .before .before .args in
-    sym (step-scalars (a .word) (a .scalars .now) (benchOf (a .m) (a .registers .now) (a .marks .now) (a .memory .now)) (fine (c .before))
-    (ne-eqb (length (a .scalars .now)) 32 (c .if2 .taken)))
-
-decode-requires : tie.Need-decode-requires
-decode-requires c κs = search needs
-
-perform-requires : tie.Need-perform-requires
-perform-requires c κs =
-    let e = c .before .before .before .before .before .before in
-    let a = c .before .before .before .before .before .before .before .before .before .before .before .before .before .before .args in
-    (fine e, (eq-eqb (length (a .scalars .now)) 32 (c .before .before .before .before .before .if2 .left), decoded (a .word) (c .decode .result) (c .decode .ensures)))
+    let s = c .before .before .before .before .before .before .before .before .before .before in
+    step-scalars (s .args .word) (s .args .scalars .now) (lent s) (bench s) (fine (c .before)) (ne-eqb (length (s .args .scalars .now)) 32 (c .if2 .taken))
 
 same-length-5 : tie.Need-same-length-5
 same-length-5 c = search needs
@@ -56,17 +58,83 @@ same-length-5 c = search needs
 same-length-6 : tie.Need-same-length-6
 same-length-6 c = search needs
 
+returns-3 : tie.Need-returns-3
+returns-3 c =
+    let s = c .before .before .before .before .before .before .before .before .before .before .before in
+    step-vectors (s .args .word) (s .args .scalars .now) (lent s) (bench s) (file-bad (s .args .vectors .now) (s .args .group) (c .if3 .taken))
+
+is-group-requires : tie.Need-is-group-requires
+is-group-requires c κs = search needs
+
 same-length-7 : tie.Need-same-length-7
 same-length-7 c = search needs
 
 same-length-8 : tie.Need-same-length-8
 same-length-8 c = search needs
 
-returns-3 : tie.Need-returns-3
-returns-3 c =
-    let a = c .before .before .before .before .before .before .before .before .before .before .before .before .before .before .before .before .before .before .before .before .before .before .before .args in
-    c .before .before .before .before .before .before .before .before .perform .ensures
-    ∙ step-decoded (a .word) (a .scalars .now) (benchOf (a .m) (a .registers .now) (a .marks .now) (a .memory .now)) (c .before .before .before .before .before .before .before .before .before .decode .result) (c .before .before .before .before .before .before .before .before .before .decode .ensures)
+returns-4 : tie.Need-returns-4
+returns-4 c =
+    let s = c .before .before .before .before .before .before .before .before .before .before .before .before .before in
+    step-vectors (s .args .word) (s .args .scalars .now) (lent s) (bench s)
+    (group-bad (s .args .vectors .now) (s .args .group) (c .before .before .if3 .left) (sym (c .before .is-group .ensures) ∙ not-true (c .before .is-group .result) (c .if4 .taken)))
+
+decode-requires : tie.Need-decode-requires
+decode-requires c κs = search needs
+
+perform-requires : tie.Need-perform-requires
+perform-requires c κs =
+    let g = c .before .before .before .before .before .before in
+    let b = g .before .before .before in
+    let e = b .before in
+    let s = e .before .before .before .before .before .before .before .before .before in
+    (fine e, (eq-eqb (length (s .args .scalars .now)) 32 (b .if2 .left), (good g, decoded (s .args .word) (c .decode .result) (c .decode .ensures))))
+
+same-length-9 : tie.Need-same-length-9
+same-length-9 c = search needs
+
+same-length-10 : tie.Need-same-length-10
+same-length-10 c = search needs
+
+same-length-11 : tie.Need-same-length-11
+same-length-11 c = search needs
+
+same-length-12 : tie.Need-same-length-12
+same-length-12 c = search needs
+
+same-length-13 : tie.Need-same-length-13
+same-length-13 c = search needs
+
+returns-5 : tie.Need-returns-5
+returns-5 c =
+    let p = c .before .before .before .before .before .before .before .before .before .before in
+    let d = p .before in
+    let g = d .before .before .before .before .before .before in
+    let s = g .before .before .before .before .before .before .before .before .before .before .before .before .before in
+    p .perform .ensures ∙ step-decoded (s .args .word) (s .args .scalars .now) (lent s) (bench s) (good g) (d .decode .result) (d .decode .ensures)
 
 pub step-spec : {M : Type 1} → statement M
-step-spec = tie.close (tie.spec is-sound-requires same-length same-length-2 returns same-length-3 same-length-4 returns-2 decode-requires perform-requires same-length-5 same-length-6 same-length-7 same-length-8 returns-3)
+step-spec =
+    tie.close
+    (tie.spec
+    is-sound-requires
+    same-length
+    same-length-2
+    returns
+    same-length-3
+    same-length-4
+    returns-2
+    same-length-5
+    same-length-6
+    returns-3
+    is-group-requires
+    same-length-7
+    same-length-8
+    returns-4
+    decode-requires
+    perform-requires
+    same-length-9
+    same-length-10
+    same-length-11
+    same-length-12
+    same-length-13
+    returns-5)

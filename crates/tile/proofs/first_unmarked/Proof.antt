@@ -14,24 +14,24 @@ use Rattle.tile.proofs.first_unmarked.Statement.{statement}
 use Rattle.tile.proofs.first_unmarked.Tie as tie
 
 abbrev Inv-loop : tie.InvT-loop
-Inv-loop marks start pitch rows cols w found₀ first i at₀ j₀ found at j =
-    (j ≤ cols) × (at ≡ first + j * w) × (found ≡ Done) × (all j (elementMarked marks first w) ≡ true)
+Inv-loop marks start pitch rows cols w found₀ i at₀ j₀ found at j =
+    (j ≤ cols) × (at ≡ start + i * pitch + j * w) × (found ≡ Done) × (all j (elementMarked marks (start + i * pitch) w) ≡ true)
 
 abbrev μ-loop : tie.MeasureT-loop
-μ-loop marks start pitch rows cols w found₀ first i at₀ j₀ found at j = cols - j
+μ-loop marks start pitch rows cols w found₀ i at₀ j₀ found at j = cols - j
 
 abbrev Inv-tile : tie.InvT-tile
-Inv-tile marks start pitch rows cols w found₀ first₀ i₀ found first i =
-    (i ≤ rows) × (first ≡ start + i * pitch) × (found ≡ Done) × (all i (rowMarked marks (λ i. start + i * pitch) (cols * w)) ≡ true)
+Inv-tile marks start pitch rows cols w found₀ i₀ found i =
+    (i ≤ rows) × (found ≡ Done) × (all i (rowMarked marks (λ i. start + i * pitch) (cols * w)) ≡ true)
 
 abbrev μ-tile : tie.MeasureT-tile
-μ-tile marks start pitch rows cols w found₀ first₀ i₀ found first i = rows - i
+μ-tile marks start pitch rows cols w found₀ i₀ found i = rows - i
 
 mul-tile-marked : tie.Need-mul-tile-marked Inv-loop μ-loop Inv-tile μ-tile
 mul-tile-marked c = omega arith
 
 tile-marked-requires : tie.Need-tile-marked-requires Inv-loop μ-loop Inv-tile μ-tile
-tile-marked-requires c κs = let s = c .before in omega (arith, s .pre)
+tile-marked-requires c κs = c .before .pre .0
 
 returns : tie.Need-returns Inv-loop μ-loop Inv-tile μ-tile
 returns c =
@@ -40,15 +40,18 @@ returns c =
     marked-done (a .marks .now) (λ i. a .start + i * a .pitch) (a .rows) (a .cols) (a .w) (sym (d .tile-marked .ensures) ∙ c .if1 .taken)
 
 tile-holds : tie.Need-tile-holds Inv-loop μ-loop Inv-tile μ-tile
-tile-holds c = (omega arith, omega (arith, zero-mul (c .before .before .before .args .pitch)), refl, refl)
+tile-holds c = (omega arith, refl, refl)
 
 -- the row lies in the marks
 row-in : (c : tie.In-tile Inv-loop μ-loop Inv-tile μ-tile) →
-    let a = c .before .before .before .before .before .args in c .before .tile .first + a .pitch ≤ length (a .marks .now)
-row-in c =
-    let s = c .before .before .before .before .before in
-    let p = row-fits (c .before .tile .i) (s .args .rows) (s .args .pitch) (c .tile-test .taken) in
-    omega (arith, s .pre)
+    let a = c .before .before .before .before .before .args in a .start + c .before .tile .i * a .pitch + a .cols * a .w ≤ length (a .marks .now)
+row-in c = c .before .before .before .before .before .pre .0 .1 (c .before .tile .i) (c .tile-test .taken)
+
+mul-at : tie.Need-mul-at Inv-loop μ-loop Inv-tile μ-tile
+mul-at c = let p = row-in c in omega arith
+
+add-at : tie.Need-add-at Inv-loop μ-loop Inv-tile μ-tile
+add-at c = let p = row-in c in omega arith
 
 -- and so does its element
 element-in : (c : tie.In-loop Inv-loop μ-loop Inv-tile μ-tile) →
@@ -58,13 +61,13 @@ element-in c =
     let s = d .before .before .before .before .before in
     let p = row-in d in
     let q = row-fits (c .before .loop .j) (s .args .cols) (s .args .w) (c .loop-test .taken) in
-    omega (arith, s .pre)
+    omega arith
 
 -- what the test found of element j of the row
 element-found : (c : tie.After-row-marked Inv-loop μ-loop Inv-tile μ-tile) →
     let d = c .before .before .before in
     let a = d .before .before .before .before .before .args in
-    c .row-marked .result ≡ elementMarked (a .marks .now) (d .before .tile .first) (a .w) (c .before .before .loop .j)
+    c .row-marked .result ≡ elementMarked (a .marks .now) (a .start + d .before .tile .i * a .pitch) (a .w) (c .before .before .loop .j)
 element-found c =
     let a = c .before .before .before .before .before .before .before .before .args in
     c .row-marked .ensures ∙ ap (λ (q : ℕ). all (a .w) (λ b. eqb (getD (a .marks .now) (q + b) 0) 1)) (c .before .before .loop .inv .1)
@@ -73,13 +76,13 @@ loop-holds : tie.Need-loop-holds Inv-loop μ-loop Inv-tile μ-tile
 loop-holds c =
     let t = c .before .tile in
     let a = c .before .before .before .before .before .args in
-    (omega arith, omega (arith, zero-mul (a .w)), t .inv .2, refl)
+    (omega arith, omega (arith, zero-mul (a .w)), t .inv .1, refl)
 
 row-marked-requires : tie.Need-row-marked-requires Inv-loop μ-loop Inv-tile μ-tile
 row-marked-requires c κs = element-in c
 
-add-at : tie.Need-add-at Inv-loop μ-loop Inv-tile μ-tile
-add-at c = let f = element-in (c .before .before) in omega arith
+add-at-2 : tie.Need-add-at-2 Inv-loop μ-loop Inv-tile μ-tile
+add-at-2 c = let f = element-in (c .before .before) in omega arith
 
 add-j : tie.Need-add-j Inv-loop μ-loop Inv-tile μ-tile
 add-j c = omega arith
@@ -96,11 +99,8 @@ loop-again c =
       omega arith,
       omega (arith, next-row (l .j) (a .w)),
       l .inv .2,
-      all-next (l .j) (elementMarked (a .marks .now) (t .first) (a .w)) (l .inv .3) (test-passed (d .row-marked .result) (elementMarked (a .marks .now) (t .first) (a .w) (l .j)) (element-found d) (c .if2 .left)),
+      all-next (l .j) (elementMarked (a .marks .now) (a .start + t .i * a .pitch) (a .w)) (l .inv .3) (test-passed (d .row-marked .result) (elementMarked (a .marks .now) (a .start + t .i * a .pitch) (a .w) (l .j)) (element-found d) (c .if2 .left)),
     )
-
-add-first : tie.Need-add-first Inv-loop μ-loop Inv-tile μ-tile
-add-first c = let p = row-in (c .before .before) in omega arith
 
 add-i : tie.Need-add-i Inv-loop μ-loop Inv-tile μ-tile
 add-i c = omega arith
@@ -115,12 +115,10 @@ tile-again c =
     let a = c .before .before .before .before .before .before .before .args in
     let e : l .j ≡ a .cols = omega arith in (
       omega arith,
-      omega (arith, next-row (t .i) (a .pitch)),
       l .inv .2,
-      all-next (t .i) (rowMarked (a .marks .now) (λ i. a .start + i * a .pitch) (a .cols * a .w)) (t .inv .3)
+      all-next (t .i) (rowMarked (a .marks .now) (λ i. a .start + i * a .pitch) (a .cols * a .w)) (t .inv .2)
           (row-elements (a .marks .now) (λ i. a .start + i * a .pitch) (a .rows) (a .cols) (a .w) (t .i)
-          (subst (λ (q : ℕ). all (a .cols) (elementMarked (a .marks .now) q (a .w)) ≡ true) (t .inv .1)
-          (subst (λ (n : ℕ). all n (elementMarked (a .marks .now) (t .first) (a .w)) ≡ true) e (l .inv .3)))),
+          (subst (λ (n : ℕ). all n (elementMarked (a .marks .now) (a .start + t .i * a .pitch) (a .w)) ≡ true) e (l .inv .3))),
     )
 
 returns-2 : tie.Need-returns-2 Inv-loop μ-loop Inv-tile μ-tile
@@ -128,8 +126,8 @@ returns-2 c =
     let t = c .before .tile in
     let a = c .before .before .before .before .before .args in
     let e : t .i ≡ a .rows = omega arith in
-    t .inv .2 ∙ tile-marked (a .marks .now) (λ i. a .start + i * a .pitch) (a .rows) (a .cols) (a .w)
-    (subst (λ (n : ℕ). all n (rowMarked (a .marks .now) (λ i. a .start + i * a .pitch) (a .cols * a .w)) ≡ true) e (t .inv .3))
+    t .inv .1 ∙ tile-marked (a .marks .now) (λ i. a .start + i * a .pitch) (a .rows) (a .cols) (a .w)
+    (subst (λ (n : ℕ). all n (rowMarked (a .marks .now) (λ i. a .start + i * a .pitch) (a .cols * a .w)) ≡ true) e (t .inv .2))
 
 returns-3 : tie.Need-returns-3 Inv-loop μ-loop Inv-tile μ-tile
 returns-3 c =
@@ -138,9 +136,8 @@ returns-3 c =
     let r = d .before .before .before in
     let t = r .before .tile in
     let a = r .before .before .before .before .before .args in
-    tile-unmarked (a .marks .now) (λ i. a .start + i * a .pitch) (a .rows) (a .cols) (a .w) (t .i) (l .j) (r .tile-test .taken) (d .before .loop-test .taken) (t .inv .3)
-    (subst (λ (q : ℕ). all (l .j) (elementMarked (a .marks .now) q (a .w)) ≡ true) (t .inv .1) (l .inv .3))
-    (subst (λ (q : ℕ). elementMarked (a .marks .now) q (a .w) (l .j) ≡ false) (t .inv .1) (test-failed (d .row-marked .result) (elementMarked (a .marks .now) (t .first) (a .w) (l .j)) (element-found d) (c .if2 .taken)))
+    tile-unmarked (a .marks .now) (λ i. a .start + i * a .pitch) (a .rows) (a .cols) (a .w) (t .i) (l .j) (r .tile-test .taken) (d .before .loop-test .taken) (t .inv .2) (l .inv .3)
+    (test-failed (d .row-marked .result) (elementMarked (a .marks .now) (a .start + t .i * a .pitch) (a .w) (l .j)) (element-found d) (c .if2 .taken))
 
 pub first-unmarked-spec : {M : Type 1} → statement M
 first-unmarked-spec =
@@ -154,13 +151,14 @@ first-unmarked-spec =
     tile-marked-requires
     returns
     tile-holds
+    mul-at
+    add-at
     loop-holds
     row-marked-requires
-    add-at
+    add-at-2
     add-j
     loop-less
     loop-again
-    add-first
     add-i
     tile-less
     tile-again

@@ -2,23 +2,26 @@ use mathlib.Core.Path.{_≡_, refl, sym, ap, _∙_}
 use Prim.Native.Nat.{ℕ, _+_, _*_, _-_, _≤_}
 use native.Mathlib.Omega.{arith}
 use borrow.Author.Needs.{needs}
-use native.Mathlib.Nat.{zero-mul}
 use lib.ListN.{length, length-append, length-take, length-drop}
 use Rattle.width.specs.Tile.{markTile}
-use Rattle.width.proofs.PutLaws.{row-fits, next-row, mark-back, markTile-next}
+use Rattle.width.proofs.PutLaws.{mark-back, markTile-next}
 use Rattle.tile.proofs.MarkLaws.{rows-together}
+use Rattle.tile.proofs.Room.{together-end}
 use Rattle.tile.proofs.mark_tile.Statement.{statement}
 use Rattle.tile.proofs.mark_tile.Tie as tie
 
 abbrev Inv-loop : tie.InvT-loop
-Inv-loop marks₀ start pitch rows n to₀ i₀ marks to i = (i ≤ rows) × (to ≡ start + i * pitch) × (length marks ≡ length marks₀) × (marks ≡ markTile (λ i. start + i * pitch) i n marks₀)
+Inv-loop marks₀ start pitch rows n i₀ marks i = (i ≤ rows) × (length marks ≡ length marks₀) × (marks ≡ markTile (λ i. start + i * pitch) i n marks₀)
 
 abbrev μ-loop : tie.MeasureT-loop
-μ-loop marks₀ start pitch rows n to₀ i₀ marks to i = rows - i
+μ-loop marks₀ start pitch rows n i₀ marks i = rows - i
 
 -- rows that lie one after another
 whole : (c : tie.Then1 Inv-loop μ-loop) → let a = c .before .before .args in a .start + a .rows * a .n ≤ length (a .marks .now)
-whole c = let a = c .before .before .args in omega (arith, ap (λ (p : ℕ). a .rows * p) (c .if1 .taken))
+whole c =
+    let s = c .before .before in
+    let a = s .args in
+    together-end (a .start) (a .pitch) (a .rows) (a .n) (length (a .marks .now)) (s .pre) (c .if1 .taken)
 
 sub-mark-row : tie.Need-sub-mark-row Inv-loop μ-loop
 sub-mark-row c = let b = whole c in omega arith
@@ -52,27 +55,30 @@ returns c =
 
 loop-holds : tie.Need-loop-holds Inv-loop μ-loop
 unfolding markTile
-loop-holds c = (search needs, omega (arith, zero-mul (c .before .before .args .pitch)), refl, refl)
+loop-holds c = (search needs, refl, refl)
 
-bounds : (c : tie.In-loop Inv-loop μ-loop) → let a = c .before .before .before .before .args in c .before .loop .to + a .pitch ≤ length (a .marks .now)
-bounds c =
-    let a = c .before .before .before .before .args in
-    omega (arith, row-fits (c .before .loop .i) (a .rows) (a .pitch) (c .loop-test .taken))
+-- the row lies in the marks
+row-in : (c : tie.In-loop Inv-loop μ-loop) →
+    let a = c .before .before .before .before .args in a .start + c .before .loop .i * a .pitch + a .n ≤ length (a .marks .now)
+row-in c = c .before .before .before .before .pre .1 (c .before .loop .i) (c .loop-test .taken)
 
-sub-mark-row-2 : tie.Need-sub-mark-row-2 Inv-loop μ-loop
-sub-mark-row-2 c = let b = bounds c in omega arith
-
-part-mark-row-start-2 : tie.Need-part-mark-row-start-2 Inv-loop μ-loop
-part-mark-row-start-2 c = let b = bounds c in search needs
-
-part-mark-row-end-2 : tie.Need-part-mark-row-end-2 Inv-loop μ-loop
-part-mark-row-end-2 c = let b = bounds c in search needs
-
-mark-row-requires-2 : tie.Need-mark-row-requires-2 Inv-loop μ-loop
-mark-row-requires-2 c κs = let b = bounds (c .before) in simp (length-take, length-drop) (omega arith)
+mul-to : tie.Need-mul-to Inv-loop μ-loop
+mul-to c = let b = row-in c in omega arith
 
 add-to : tie.Need-add-to Inv-loop μ-loop
-add-to c = let b = bounds (c .before .before .before .before) in omega arith
+add-to c = let b = row-in c in omega arith
+
+sub-mark-row-2 : tie.Need-sub-mark-row-2 Inv-loop μ-loop
+sub-mark-row-2 c = let b = row-in c in omega arith
+
+part-mark-row-start-2 : tie.Need-part-mark-row-start-2 Inv-loop μ-loop
+part-mark-row-start-2 c = let b = row-in c in search needs
+
+part-mark-row-end-2 : tie.Need-part-mark-row-end-2 Inv-loop μ-loop
+part-mark-row-end-2 c = let b = row-in c in search needs
+
+mark-row-requires-2 : tie.Need-mark-row-requires-2 Inv-loop μ-loop
+mark-row-requires-2 c κs = let b = row-in (c .before) in simp (length-take, length-drop) (omega arith)
 
 add-i : tie.Need-add-i Inv-loop μ-loop
 add-i c = search needs
@@ -85,13 +91,13 @@ loop-again c =
     let d = c .before .before .before .before in
     let l = d .before .loop in
     let a = d .before .before .before .before .args in
-    let b = bounds d in
-    let r = c .before .before .mark-row2 in (
+    let b = row-in d in
+    let r = c .before .before .mark-row2 in
+    let to : ℕ = a .start + l .i * a .pitch in (
       omega arith,
-      omega (arith, next-row (l .i) (a .pitch)),
       simp (length-append, length-take, length-drop, r .kept .0) (omega arith),
-      mark-back (l .marks) (r .last .0) (l .to) (length (l .marks) - l .to) (a .n) (omega arith) refl (r .ensures)
-          ∙ markTile-next (λ i. a .start + i * a .pitch) (l .i) (a .n) (a .marks .now) (l .marks) (l .to) (l .inv .3) (l .inv .1),
+      mark-back (l .marks) (r .last .0) to (length (l .marks) - to) (a .n) (omega arith) refl (r .ensures)
+          ∙ markTile-next (λ i. a .start + i * a .pitch) (l .i) (a .n) (a .marks .now) (l .marks) to (l .inv .2) refl,
     )
 
 same-length-2 : tie.Need-same-length-2 Inv-loop μ-loop
@@ -102,7 +108,7 @@ returns-2 c =
     let l = c .before .loop in
     let a = c .before .before .before .before .args in
     let e : l .i ≡ a .rows = omega arith in
-    l .inv .3 ∙ ap (λ (n : ℕ). markTile (λ i. a .start + i * a .pitch) n (a .n) (a .marks .now)) e
+    l .inv .2 ∙ ap (λ (n : ℕ). markTile (λ i. a .start + i * a .pitch) n (a .n) (a .marks .now)) e
 
 pub mark-tile-spec : {M : Type 1} → statement M
 mark-tile-spec =
@@ -118,11 +124,12 @@ mark-tile-spec =
     same-length
     returns
     loop-holds
+    mul-to
+    add-to
     sub-mark-row-2
     part-mark-row-start-2
     part-mark-row-end-2
     mark-row-requires-2
-    add-to
     add-i
     loop-less
     loop-again

@@ -1,6 +1,8 @@
 use mathlib.Core.Path.{_≡_, refl, sym}
 use mathlib.Core.Bool.{true}
 use mathlib.Core.List.{[], _∷_}
+use Prim.Native.Nat.{_*_}
+use lib.ListN.{length}
 use borrow.Author.Needs.{needs}
 use Rattle.machine.specs.Answers.{Check, isDone}
 use Rattle.machine.specs.Memory.{rowAt, inside, distinct, rowsMiss}
@@ -8,6 +10,7 @@ use Rattle.machine.proofs.CheckLaws.{no-refusal}
 use Rattle.address.proofs.TestLaws.{test-failed, test-passed}
 use Rattle.tile.specs.Checks.{marksCheck, memoryCheck, overlapCheck, sealCheck}
 use Rattle.tile.proofs.AnswerLaws.{answer-first, answer-holds, answer-after}
+use Rattle.tile.proofs.Room.{rows-end}
 use Rattle.tile.proofs.store_checked.Statement.{statement}
 use Rattle.tile.proofs.store_checked.Tie as tie
 
@@ -25,7 +28,10 @@ abbrev seven : tie.Start → Check
 seven s = let a = s .args in sealCheck (a .seal) (a .size) (a .base) (a .stride) (a .lines) (a .bytes)
 
 first-unmarked-requires : tie.Need-first-unmarked-requires
-first-unmarked-requires c κs = search needs
+first-unmarked-requires c κs =
+    let s = c .before in
+    let a = s .args in
+    (rows-end (a .start) (a .pitch) (a .rows) (a .cols * a .w) (length (a .marks .now)) (s .pre .0) (s .pre .1 .0), s .pre .1 .0)
 
 is-done-requires : tie.Need-is-done-requires
 is-done-requires c κs = search needs

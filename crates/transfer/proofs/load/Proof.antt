@@ -7,6 +7,7 @@ use borrow.Author.Needs.{needs}
 use Rattle.machine.specs.Memory.{inside}
 use Rattle.machine.specs.Operation.{memoryRows, memoryCols}
 use Rattle.address.proofs.TestLaws.{test-failed, test-passed}
+use Rattle.tile.proofs.Room.{rows-end}
 use Rattle.transfer.proofs.FormLaws.{line-small}
 use Rattle.transfer.proofs.load.Statement.{statement}
 use Rattle.transfer.proofs.load.Tie as tie
@@ -60,7 +61,10 @@ mul-mark-tile : tie.Need-mul-mark-tile
 mul-mark-tile c = search needs
 
 mark-tile-requires : tie.Need-mark-tile-requires
-mark-tile-requires c κs = search needs
+mark-tile-requires c κs =
+    let s = c .before .before .before .before .before .before .before .before .before .before .before .before in
+    let a = s .args in
+    rows-end (a .start) (a .pitch) (a .rows) (a .cols * a .w) (length (a .marks .now)) (omega (arith, s .pre .0, s .pre .1 .0)) (s .pre .1 .1 .0)
 
 same-length : tie.Need-same-length
 same-length c = search needs

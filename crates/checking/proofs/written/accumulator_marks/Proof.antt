@@ -1,7 +1,8 @@
 use mathlib.Core.Path.{ap, _∙_}
+use lib.ListN.{length}
 use Rattle.machine.specs.Answers.{verdict}
 use Rattle.checking.specs.declared.Placed.{Placed}
-use Rattle.checking.proofs.ArithmeticLaws.{accumulator-room, searched}
+use Rattle.checking.proofs.ArithmeticLaws.{accumulator-room, rows-room, searched}
 use Rattle.checking.proofs.written.accumulator_marks.Statement.{statement}
 use Rattle.checking.proofs.written.accumulator_marks.Tie as tie
 
@@ -11,7 +12,7 @@ tile-of-requires c κs = let s = c .before in (s .pre .0 .of-machine, s .pre .1 
 first-unmarked-requires : tie.Need-first-unmarked-requires
 first-unmarked-requires c κs =
     let s = c .before .before in
-    accumulator-room (s .args .m) (s .args .marks .now) (s .pre .0) (s .args .r) (s .args .width) (s .pre .1) (c .tile-of .result) (c .tile-of .ensures)
+    rows-room (length (s .args .marks .now)) (c .tile-of .result) (s .args .width) (accumulator-room (s .args .m) (s .args .marks .now) (s .pre .0) (s .args .r) (s .args .width) (s .pre .1) (c .tile-of .result) (c .tile-of .ensures))
 
 returns : tie.Need-returns
 returns c =

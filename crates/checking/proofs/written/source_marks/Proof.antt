@@ -1,7 +1,8 @@
 use mathlib.Core.Path.{sym, ap, _∙_}
+use lib.ListN.{length}
 use borrow.Author.Tests.{not-true, not-false}
 use Rattle.machine.specs.Answers.{isDone}
-use Rattle.checking.proofs.ArithmeticLaws.{a-room, b-room, no-rows, no-columns, first-source, second-source}
+use Rattle.checking.proofs.ArithmeticLaws.{rows-room, a-room, b-room, no-rows, no-columns, first-source, second-source}
 use Rattle.checking.proofs.CheckLaws.{type-legal}
 use Rattle.machine.specs.Operation.{times}
 use borrow.Author.Needs.{needs}
@@ -32,7 +33,7 @@ first-unmarked-requires : tie.Need-first-unmarked-requires
 first-unmarked-requires c κs =
     let s = c .before .before .before .before .before .before .before in
     let a = s .args in
-    a-room (a .m) (a .marks .now) (s .pre .0) (times (a .factor)) (s .pre .1 .0) (a .ms1) (c .before .sew-bytes .result) (s .pre .1 .1 .0) (c .before .sew-bytes .ensures .0) (c .tile-of .result) (c .tile-of .ensures)
+    rows-room (length (a .marks .now)) (c .tile-of .result) (c .before .sew-bytes .result) (a-room (a .m) (a .marks .now) (s .pre .0) (times (a .factor)) (s .pre .1 .0) (a .ms1) (c .before .sew-bytes .result) (s .pre .1 .1 .0) (c .before .sew-bytes .ensures .0) (c .tile-of .result) (c .tile-of .ensures))
 
 is-done-requires : tie.Need-is-done-requires
 is-done-requires c κs = search needs
@@ -57,7 +58,7 @@ first-unmarked-requires-2 c κs =
     let w = c .before .before .before .before .before in
     let s = w .before .before .before .before .before .before in
     let a = s .args in
-    b-room (a .m) (a .marks .now) (s .pre .0) (times (a .factor)) (s .pre .1 .0) (a .ms2) (w .sew-bytes .result) (s .pre .1 .1 .1) (w .sew-bytes .ensures .0) (c .tile-of2 .result) (c .tile-of2 .ensures)
+    rows-room (length (a .marks .now)) (c .tile-of2 .result) (w .sew-bytes .result) (b-room (a .m) (a .marks .now) (s .pre .0) (times (a .factor)) (s .pre .1 .0) (a .ms2) (w .sew-bytes .result) (s .pre .1 .1 .1) (w .sew-bytes .ensures .0) (c .tile-of2 .result) (c .tile-of2 .ensures))
 
 returns-4 : tie.Need-returns-4
 returns-4 c =

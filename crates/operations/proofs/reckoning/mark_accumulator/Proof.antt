@@ -3,7 +3,7 @@ use Prim.Native.Nat.{_+_, _*_, _≤_}
 use native.Mathlib.Omega.{arith}
 use lib.ListN.{length}
 use Rattle.checking.specs.declared.Placed.{Placed}
-use Rattle.checking.proofs.ArithmeticLaws.{accumulator-room}
+use Rattle.checking.proofs.ArithmeticLaws.{accumulator-room, rows-room}
 use Rattle.width.specs.Tile.{markTile}
 use borrow.Author.Needs.{needs}
 use Rattle.operations.proofs.reckoning.mark_accumulator.Statement.{statement}
@@ -22,7 +22,10 @@ mul-mark-tile : tie.Need-mul-mark-tile
 mul-mark-tile c = let r = room (c .before .before) in omega arith
 
 mark-tile-requires : tie.Need-mark-tile-requires
-mark-tile-requires c κs = room (c .before .before)
+mark-tile-requires c κs =
+    let k = c .before .before in
+    let s = k .before .before in
+    rows-room (length (s .args .marks .now)) (k .tile-of .result) (s .args .width) (room k) .0
 
 same-length : tie.Need-same-length
 same-length c = search needs

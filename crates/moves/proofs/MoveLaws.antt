@@ -1,0 +1,154 @@
+-- What each return of the two moves has to show.
+use mathlib.Core.Path.{_≡_, refl, sym, ap, ap₂, _∙_, subst}
+use mathlib.Core.Bool.{Bool, true, false, cond}
+use mathlib.Core.List.{List, [], _∷_, _++_}
+use Prim.Native.Nat.{ℕ, _+_, _*_, _<_}
+use Rattle.width.specs.Tile.{putTile, markTile}
+use Rattle.width.proofs.TileLaws.{putTile-rows}
+use Rattle.machine.specs.declared.Machine.{Machine}
+use Rattle.machine.specs.declared.Form.{Form}
+use Rattle.machine.specs.declared.Form.the-variants.{Plain, Transposed}
+use Rattle.machine.specs.declared.Answer.{Answer}
+use Rattle.machine.specs.declared.Answer.the-variants.{Done, WrongRegister}
+use Rattle.machine.specs.Answers.{Check, verdict, isDone}
+use Rattle.machine.specs.Geometry.{Parameters, State, stateOf}
+use Rattle.machine.specs.Vectors.{Vectors, vectorAt, vectorBytes, aligned}
+use Rattle.machine.specs.declared.Wrong.the-variants.{Register}
+use Rattle.machine.specs.Setting.{sew}
+use Rattle.machine.specs.Memory.{rowAt}
+use Rattle.machine.specs.Operation.{Operation, vectorsAfter, stateAfter, placed, element, lineOf, sliceAt, sliceRows, sliceCols, memoryRows, memoryCols}
+use Rattle.machine.specs.Refusals.{checks, sliceFits, sliceNeeds}
+use Rattle.machine.specs.Faults.{sound}
+use Rattle.checking.specs.declared.Placed.{Placed}
+use Rattle.checking.proofs.CheckLaws.{part-refused, part-passed}
+use Rattle.settings.specs.Parts.{ours}
+use Rattle.slices.proofs.TileLaws.{putTile-values, placed-rows}
+use Rattle.moves.specs.Parts.{slicePlaced, movedOut, movedIn, WritesVectors, WritesSlice}
+use Rattle.moves.proofs.SliceLaws.{row-is}
+
+module _ (m : Machine) (regs marks : List ℕ) (f : Form) (r v first count : ℕ) where
+  abbrev M : Parameters
+  M = ours m
+
+  abbrev st : State
+  st = stateOf m regs marks
+
+  abbrev bare : State
+  bare = stateOf m [] []
+
+  abbrev fits : List Check
+  fits = sliceFits M f first count bare
+
+  -- the lent bytes don't count
+  fits-is : sliceFits M f first count bare ≡ sliceFits M f first count st
+  fits-is = by f
+    where
+      by : (f : Form) → sliceFits M f first count bare ≡ sliceFits M f first count st
+      by Plain = refl
+      by Transposed = refl
+
+  line-is : lineOf f bare ≡ lineOf f st
+  line-is = by f
+    where
+      by : (f : Form) → lineOf f bare ≡ lineOf f st
+      by Plain = refl
+      by Transposed = refl
+
+  fits-done : isDone (verdict fits) ≡ true → isDone (verdict (sliceFits M f first count st)) ≡ true
+  fits-done d = subst (λ (cs : List Check). isDone (verdict cs) ≡ true) fits-is d
+
+  -- the check of answer 5, of a place and a width
+  abbrev five : Placed → ℕ → List Check
+  five p w = sliceNeeds f first marks (λ i. p .start + i * p .pitch) (p .rows) (p .columns) w ∷ []
+
+  abbrev here : ℕ → Placed
+  here w = slicePlaced m f r first count w
+
+  abbrev rest : List Check
+  rest = sliceNeeds f first marks (sliceAt M f r first (sew (m .mtype))) (sliceRows f st count) (sliceCols f st count) (sew (m .mtype)) ∷ []
+
+  five-is : five (here (sew (m .mtype))) (sew (m .mtype)) ≡ rest
+  five-is = ap (λ (n : ℕ). sliceNeeds f first marks (sliceAt M f r first (sew (m .mtype))) (memoryRows f count n) (memoryCols f count n) (sew (m .mtype)) ∷ []) line-is
+
+  -- ---- a move out
+
+  abbrev outward : Operation
+  outward = Operation.moveOut f r v first count
+
+  module _ (file : List ℕ) where
+    pub out-refused : (a : Answer) → a ≡ verdict fits → isDone a ≡ false → WritesVectors m outward regs marks file a file
+    out-refused a e d = record {
+      answer-is = part-refused (sliceFits M f first count st) rest refl a (e ∙ ap verdict fits-is) d;
+      vectors-are = rw d;
+    }
+
+    module _ (d : isDone (verdict fits) ≡ true) (w : ℕ) (ew : w ≡ sew (m .mtype)) (p : Placed) (e : p ≡ here w) where
+      five-here : verdict (five p w) ≡ verdict rest
+      five-here =
+          ap (λ (p : Placed). verdict (five p w)) e ∙ ap (λ (w : ℕ). verdict (five (here w) w)) ew ∙ ap verdict five-is
+
+      told : (a : Answer) → a ≡ verdict (five p w) → a ≡ verdict (checks M outward st [])
+      told a ea = part-passed (sliceFits M f first count st) rest refl (fits-done d) a (ea ∙ five-here)
+
+      pub out-unmarked : (a : Answer) → a ≡ verdict (five p w) → isDone a ≡ false → WritesVectors m outward regs marks file a file
+      out-unmarked a ea n = record { answer-is = told a ea; vectors-are = rw n }
+
+      pub out-done : sound m regs marks ≡ true → r < 2 → Done ≡ verdict (five p w) → (line : ℕ) → line ≡ lineOf f bare → (file′ : List ℕ)
+          → file′ ≡ putTile (λ i. v * vectorBytes + i * vectorBytes) count line w (placed f (element regs (rowAt (p .start) (p .pitch)) w)) file
+          → WritesVectors m outward regs marks file Done file′
+      out-done s l ea line el file′ ev = record {
+        answer-is = told Done ea;
+        vectors-are =
+            ev
+            ∙ ap₂ (λ (n : ℕ) (p : Placed). putTile (vectorAt v) count n w (placed f (element regs (rowAt (p .start) (p .pitch)) w)) file) (el ∙ line-is) e
+            ∙ putTile-values (vectorAt v) count (lineOf f st) w _ (placed f (element regs (sliceAt M f r first w) w)) file
+            (λ i j _ _. placed-rows f regs _ (sliceAt M f r first w) w (row-is m regs marks s f r first count l d w ew) i j)
+            ∙ ap (λ (w : ℕ). putTile (vectorAt v) count (lineOf f st) w (placed f (element regs (sliceAt M f r first w) w)) file) ew;
+      }
+
+  -- ---- a move in
+
+  module _ (file : List ℕ) where
+    abbrev inward : Operation
+    inward = Operation.moveIn f r v first count file
+
+    pub in-refused : (a : Answer) → a ≡ verdict fits → isDone a ≡ false → WritesSlice m inward regs marks a regs marks
+    in-refused a e d = record { answer-is = e ∙ ap verdict fits-is; registers-are = rw d; marks-are = rw d }
+
+    module _ (d : isDone (verdict fits) ≡ true) (w : ℕ) (ew : w ≡ sew (m .mtype)) (p : Placed) (e : p ≡ here w) where
+      pub in-done : sound m regs marks ≡ true → r < 2 → Done ≡ verdict fits → (line : ℕ) → line ≡ lineOf f bare → (regs′ marks′ : List ℕ)
+          → regs′ ≡ putTile (rowAt (p .start) (p .pitch)) (memoryRows f count line) (memoryCols f count line) w (placed f (element file (λ i. v * vectorBytes + i * vectorBytes) w)) regs
+          → marks′ ≡ markTile (λ i. p .start + i * p .pitch) (p .rows) (p .columns * w) marks
+          → WritesSlice m inward regs marks Done regs′ marks′
+      in-done s l ea line el regs′ marks′ er em = record {
+        answer-is = ea ∙ ap verdict fits-is;
+        registers-are =
+            er
+            ∙ ap₂ (λ (n : ℕ) (p : Placed). putTile (rowAt (p .start) (p .pitch)) (memoryRows f count n) (memoryCols f count n) w (placed f (element file (vectorAt v) w)) regs) (el ∙ line-is) e
+            ∙ putTile-rows _ (sliceAt M f r first w) (sliceRows f st count) (sliceCols f st count) w (placed f (element file (vectorAt v) w)) regs
+            (λ i _. row-is m regs marks s f r first count l d w ew i)
+            ∙ ap (λ (w : ℕ). putTile (sliceAt M f r first w) (sliceRows f st count) (sliceCols f st count) w (placed f (element file (vectorAt v) w)) regs) ew;
+        marks-are =
+            em
+            ∙ ap (λ (p : Placed). markTile (λ i. p .start + i * p .pitch) (p .rows) (p .columns * w) marks) e
+            ∙ ap₂ (λ (n w : ℕ). markTile (sliceAt M f r first w) (memoryRows f count n) (memoryCols f count n * w) marks) line-is ew;
+      }
+
+-- ---- with the group
+
+module _ (m : Machine) (regs marks : List ℕ) (f : Form) (r v first : ℕ) (W : Vectors) where
+  pub out-misaligned : aligned W v ≡ false → WritesVectors m (movedOut W f r v first) regs marks (W .file) WrongRegister (W .file)
+  out-misaligned a = record { answer-is = rw a; vectors-are = refl }
+
+  pub out-aligned : aligned W v ≡ true → (a : Answer) (file′ : List ℕ) → WritesVectors m (Operation.moveOut f r v first (W .group)) regs marks (W .file) a file′
+      → WritesVectors m (movedOut W f r v first) regs marks (W .file) a file′
+  out-aligned e a file′ l =
+      subst (λ (t : Bool). WritesVectors m (cond t (Operation.moveOut f r v first (W .group)) (Operation.illegal Register)) regs marks (W .file) a file′) (sym e) l
+
+  pub in-misaligned : aligned W v ≡ false → WritesSlice m (movedIn W f r v first) regs marks WrongRegister regs marks
+  in-misaligned a = record { answer-is = rw a; registers-are = refl; marks-are = refl }
+
+  pub in-aligned : aligned W v ≡ true → (a : Answer) (regs′ marks′ : List ℕ) → WritesSlice m (Operation.moveIn f r v first (W .group) (W .file)) regs marks a regs′ marks′
+      → WritesSlice m (movedIn W f r v first) regs marks a regs′ marks′
+  in-aligned e a regs′ marks′ l =
+      subst (λ (t : Bool). WritesSlice m (cond t (Operation.moveIn f r v first (W .group) (W .file)) (Operation.illegal Register)) regs marks a regs′ marks′) (sym e) l

@@ -1,0 +1,28 @@
+use mathlib.Core.Path.{sym}
+use Prim.Native.Nat.{_*_, _≤_}
+use native.Mathlib.Nat.{mul-le-mul}
+use native.Mathlib.Omega.{arith}
+use borrow.Author.Needs.{needs}
+use borrow.Author.Tests.{lt-leb}
+use Rattle.moves.proofs.fits_register.Statement.{statement}
+use Rattle.moves.proofs.fits_register.Tie as tie
+
+returns : tie.Need-returns
+returns c =
+    let s = c .before in
+    let a = s .args in
+    let l : 17 ≤ a .line = omega arith in
+    sym (lt-leb (a .line * a .w) 16 (omega (arith, mul-le-mul l (s .pre .0))))
+
+mul-result : tie.Need-mul-result
+mul-result c =
+    let s = c .before in
+    let a = s .args in
+    let l : a .line ≤ 16 = omega arith in
+    omega (arith, mul-le-mul l (s .pre .1))
+
+returns-2 : tie.Need-returns-2
+returns-2 c = search needs
+
+pub fits-register-spec : {M : Type 1} → statement M
+fits-register-spec = tie.close (tie.spec returns mul-result returns-2)

@@ -1,0 +1,2 @@
+-- Statement of a theorem.
+pub mod MovedBack
