@@ -4,13 +4,16 @@ use element::write8;
 use machine::Answer;
 use machine::Machine;
 ghost use mathlib.Core.Path.{_≡_};
-ghost use lib.ListN.{length};
-ghost use Rattle.width.specs.Tile.{putLe};
+ghost use mathlib.Core.Bool.{true};
+ghost use Prim.Native.Nat.{_+_, _*_, _≤_};
+ghost use lib.ListN.{length, getD};
+ghost use Rattle.width.specs.Tile.{putLe, putRow};
 ghost use Rattle.machine.specs.Answers.{reply};
-ghost use Rattle.blocks.specs.Blocks.{machineBytes, machineOf, putMachine, Kept, packed};
+ghost use Rattle.machine.specs.Starting.{ranges, paired};
+ghost use Rattle.blocks.specs.Blocks.{machineBytes, machineOf, putMachine, putSeals, Kept, packed};
 
 // The bytes of the machine's block.
-pub const MACHINE_BYTES: usize = 80;
+pub const MACHINE_BYTES: usize = 200;
 
 // The machine's numbers out of their block.
 pub fn machine_of(block: &[u8]) -> Machine
@@ -24,8 +27,6 @@ pub fn machine_of(block: &[u8]) -> Machine
         tile_m: read8(block, 24),
         tile_k: read8(block, 32),
         tile_n: read8(block, 40),
-        seal_start: read8(block, 48),
-        seal_length: read8(block, 56),
         rule: read8(block, 64),
         elen: read8(block, 72),
     }
@@ -50,8 +51,6 @@ pub fn put_machine(block: &mut [u8], m: Machine)
     write8(block, 24, m.tile_m);
     write8(block, 32, m.tile_k);
     write8(block, 40, m.tile_n);
-    write8(block, 48, m.seal_start);
-    write8(block, 56, m.seal_length);
     write8(block, 64, m.rule);
     write8(block, 72, m.elen);
 }
@@ -66,6 +65,41 @@ pub fn put_state(block: &mut [u8], m: Machine)
     write8(block, 24, m.tile_m);
     write8(block, 32, m.tile_k);
     write8(block, 40, m.tile_n);
+}
+
+// The number at i, or 0 past the last.
+fn number_at(numbers: &[u64], i: usize) -> u64
+    ensures { λ r. ⌜ r ≡ getD (now (numbers .entry)) i 0 ⌝ }
+{
+    if i < numbers.len() {
+        return numbers[i];
+    }
+    0
+}
+
+// So many numbers, from one on, into the block, from a byte on; zeros past the last.
+fn put_row(block: &mut [u8], at: usize, count: usize, numbers: &[u64], first: usize)
+    requires { ⌜ at + count * 8 ≤ length (now block) ⌝ }
+    requires { ⌜ (count ≤ 14) × (first ≤ 2) ⌝ }
+    ensures { λ _. ⌜ now (block .exit) ≡ putRow at count 8 (λ j. getD (now (numbers .entry)) (first + j) 0) (now (block .entry)) ⌝ }
+{
+    let mut j = 0;
+    while j < count {
+        let number = number_at(numbers, first + j);
+        write8(block, at + j * 8, number);
+        j += 1;
+    }
+}
+
+// Ranges into the block, start and length of each in turn.
+pub fn put_seals(block: &mut [u8], seals: &[u64])
+    requires { ⌜ length (now block) ≡ machineBytes ⌝ }
+    requires { ⌜ paired (now seals) ≡ true ⌝ }
+    ensures { λ _. ⌜ now (block .exit) ≡ putSeals (ranges (now (seals .entry))) (now (block .entry)) ⌝ }
+{
+    write8(block, 80, seals.len() as u64 / 2);
+    put_row(block, 48, 2, seals, 0);
+    put_row(block, 88, 14, seals, 2);
 }
 
 // An answer's number, with row and column in the bits above it.

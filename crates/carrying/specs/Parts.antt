@@ -6,7 +6,7 @@ use Rattle.machine.specs.declared.Answer.the-variants.{BadArguments}
 use Rattle.machine.specs.declared.Machine.{Machine}
 use Rattle.machine.specs.declared.Reply.{Reply}
 use Rattle.machine.specs.Answers.{reply}
-use Rattle.machine.specs.Geometry.{Bench, benchOf}
+use Rattle.machine.specs.Geometry.{Range, Bench, benchOf}
 use Rattle.machine.specs.Setting.{chosen}
 use Rattle.machine.specs.Step.{Outcome, step}
 use Rattle.run.specs.declared.Plan.{Plan}
@@ -21,8 +21,8 @@ pub record Carried : Type 0 where
   pub answer : Reply
   pub bench : Bench
 
-abbrev pub carried : Reply → Machine → (registers marks memory : List ℕ) → Carried
-carried a m registers marks memory = record { answer = a; bench = benchOf m registers marks memory }
+abbrev pub carried : Reply → Machine → List Range → (registers marks memory : List ℕ) → Carried
+carried a m seals registers marks memory = record { answer = a; bench = benchOf m seals registers marks memory }
 
 -- the word of an operation of a run
 abbrev pub carriedFor : Plan → Op → Bench → Carried

@@ -78,7 +78,7 @@ module _ (m : Machine) (regs marks : List ℕ) (f : Form) (r v first count : ℕ
   module _ (file : List ℕ) where
     pub out-refused : (a : Answer) → a ≡ verdict fits → isDone a ≡ false → WritesVectors m outward regs marks file a file
     out-refused a e d = record {
-      answer-is = part-refused (sliceFits M f first count st) rest refl a (e ∙ ap verdict fits-is) d;
+      answer-is = λ z. part-refused (sliceFits M f first count st) rest refl a (e ∙ ap verdict fits-is) d;
       vectors-are = rw d;
     }
 
@@ -87,8 +87,8 @@ module _ (m : Machine) (regs marks : List ℕ) (f : Form) (r v first count : ℕ
       five-here =
           ap (λ (p : Placed). verdict (five p w)) e ∙ ap (λ (w : ℕ). verdict (five (here w) w)) ew ∙ ap verdict five-is
 
-      told : (a : Answer) → a ≡ verdict (five p w) → a ≡ verdict (checks M outward st [])
-      told a ea = part-passed (sliceFits M f first count st) rest refl (fits-done d) a (ea ∙ five-here)
+      told : (a : Answer) → a ≡ verdict (five p w) → (z : ℕ → Bool) → a ≡ verdict (checks M z outward st [])
+      told a ea z = part-passed (sliceFits M f first count st) rest refl (fits-done d) a (ea ∙ five-here)
 
       pub out-unmarked : (a : Answer) → a ≡ verdict (five p w) → isDone a ≡ false → WritesVectors m outward regs marks file a file
       out-unmarked a ea n = record { answer-is = told a ea; vectors-are = rw n }
@@ -113,7 +113,7 @@ module _ (m : Machine) (regs marks : List ℕ) (f : Form) (r v first count : ℕ
     inward = Operation.moveIn f r v first count file
 
     pub in-refused : (a : Answer) → a ≡ verdict fits → isDone a ≡ false → WritesSlice m inward regs marks a regs marks
-    in-refused a e d = record { answer-is = e ∙ ap verdict fits-is; registers-are = rw d; marks-are = rw d }
+    in-refused a e d = record { answer-is = λ z. e ∙ ap verdict fits-is; registers-are = rw d; marks-are = rw d }
 
     module _ (d : isDone (verdict fits) ≡ true) (w : ℕ) (ew : w ≡ sew (m .mtype)) (p : Placed) (e : p ≡ here w) where
       pub in-done : sound m regs marks ≡ true → r < 2 → Done ≡ verdict fits → (line : ℕ) → line ≡ lineOf f bare → (regs′ marks′ : List ℕ)
@@ -121,7 +121,7 @@ module _ (m : Machine) (regs marks : List ℕ) (f : Form) (r v first count : ℕ
           → marks′ ≡ markTile (λ i. p .start + i * p .pitch) (p .rows) (p .columns * w) marks
           → WritesSlice m inward regs marks Done regs′ marks′
       in-done s l ea line el regs′ marks′ er em = record {
-        answer-is = ea ∙ ap verdict fits-is;
+        answer-is = λ z. ea ∙ ap verdict fits-is;
         registers-are =
             er
             ∙ ap₂ (λ (n : ℕ) (p : Placed). putTile (rowAt (p .start) (p .pitch)) (memoryRows f count n) (memoryCols f count n) w (placed f (element file (vectorAt v) w)) regs) (el ∙ line-is) e
@@ -138,7 +138,7 @@ module _ (m : Machine) (regs marks : List ℕ) (f : Form) (r v first count : ℕ
 
 module _ (m : Machine) (regs marks : List ℕ) (f : Form) (r v first : ℕ) (W : Vectors) where
   pub out-misaligned : aligned W v ≡ false → WritesVectors m (movedOut W f r v first) regs marks (W .file) WrongRegister (W .file)
-  out-misaligned a = record { answer-is = rw a; vectors-are = refl }
+  out-misaligned a = record { answer-is = λ z. rw a; vectors-are = refl }
 
   pub out-aligned : aligned W v ≡ true → (a : Answer) (file′ : List ℕ) → WritesVectors m (Operation.moveOut f r v first (W .group)) regs marks (W .file) a file′
       → WritesVectors m (movedOut W f r v first) regs marks (W .file) a file′
@@ -146,7 +146,7 @@ module _ (m : Machine) (regs marks : List ℕ) (f : Form) (r v first : ℕ) (W :
       subst (λ (t : Bool). WritesVectors m (cond t (Operation.moveOut f r v first (W .group)) (Operation.illegal Register)) regs marks (W .file) a file′) (sym e) l
 
   pub in-misaligned : aligned W v ≡ false → WritesSlice m (movedIn W f r v first) regs marks WrongRegister regs marks
-  in-misaligned a = record { answer-is = rw a; registers-are = refl; marks-are = refl }
+  in-misaligned a = record { answer-is = λ z. rw a; registers-are = refl; marks-are = refl }
 
   pub in-aligned : aligned W v ≡ true → (a : Answer) (regs′ marks′ : List ℕ) → WritesSlice m (Operation.moveIn f r v first (W .group) (W .file)) regs marks a regs′ marks′
       → WritesSlice m (movedIn W f r v first) regs marks a regs′ marks′

@@ -1,6 +1,6 @@
 -- What the functions of moves give, in the words of the definitions.
 use mathlib.Core.Path.{_≡_}
-use mathlib.Core.Bool.{cond}
+use mathlib.Core.Bool.{Bool, cond}
 use mathlib.Core.List.{List, []}
 use Prim.Native.Nat.{ℕ}
 use Rattle.machine.specs.declared.Machine.{Machine}
@@ -32,16 +32,16 @@ movedOut W f r v first = cond (aligned W v) (Operation.moveOut f r v first (W .g
 abbrev pub movedIn : Vectors → Form → (r v first : ℕ) → Operation
 movedIn W f r v first = cond (aligned W v) (Operation.moveIn f r v first (W .group) (W .file)) (Operation.illegal Register)
 
--- what a move answers and leaves of the vector file, and of the registers and marks
+-- what a move answers, whatever is sealed, and leaves of the vector file, and of the registers and marks
 module _ (m : Machine) (o : Operation) (regs marks : List ℕ) where
   abbrev pub before : State
   before = stateOf m regs marks
 
   pub record WritesVectors (file : List ℕ) (r : Answer) (file′ : List ℕ) : Type 0 where
-    pub answer-is : r ≡ verdict (checks (ours m) o before [])
+    pub answer-is : (isSealed : ℕ → Bool) → r ≡ verdict (checks (ours m) isSealed o before [])
     pub vectors-are : file′ ≡ cond (isDone r) (vectorsAfter (ours m) o before file) file
 
   pub record WritesSlice (r : Answer) (regs′ marks′ : List ℕ) : Type 0 where
-    pub answer-is : r ≡ verdict (checks (ours m) o before [])
+    pub answer-is : (isSealed : ℕ → Bool) → r ≡ verdict (checks (ours m) isSealed o before [])
     pub registers-are : regs′ ≡ cond (isDone r) (stateAfter (ours m) o before [] .regs) regs
     pub marks-are : marks′ ≡ cond (isDone r) (stateAfter (ours m) o before [] .marks) marks

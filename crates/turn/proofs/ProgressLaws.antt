@@ -1,15 +1,19 @@
 -- What turns answer and leave, from what carrying out their words does.
 use mathlib.Core.Path.{_≡_, refl, sym, ap, ap₂, _∙_}
 use mathlib.Core.Bool.{Bool, true, false, cond}
+use mathlib.Core.List.{List}
 use mathlib.Core.Option.{Option, none, some}
 use Prim.Native.Nat.{ℕ, _+_}
 use native.Mathlib.Nat.{zero-add}
 use native.Mathlib.Omega.{arith}
 use lib.Dec.{eqb}
 use Rattle.machine.specs.declared.Answer.the-variants.{Done, BadArguments}
+use Rattle.machine.specs.declared.Machine.{Machine}
 use Rattle.machine.specs.declared.Reply.{Reply}
 use Rattle.machine.specs.Answers.{reply, done}
-use Rattle.machine.specs.Geometry.{Bench}
+use Rattle.machine.specs.Geometry.{Range, Bench, benchOf}
+use Rattle.machine.specs.Faults.{sound, soundBench}
+use Rattle.machine.proofs.NoFault.{bench-sound}
 use Rattle.machine.specs.Setting.{chosen}
 use Rattle.run.specs.declared.Run.{Run}
 use Rattle.run.specs.declared.Place.{Place}
@@ -17,10 +21,10 @@ use Rattle.run.specs.Words.{Op}
 use Rattle.run.specs.Places.{wordAt}
 use Rattle.run.specs.Turn.{soundRun, runShape, moved, Running, running, turn, TurnOutcome, turnOutcome, turns, TurnsOutcome}
 use Rattle.run.proofs.HandedLaws.{turnWith}
-use Rattle.carrying.specs.Parts.{Carried, carriedBy, carriedAt}
+use Rattle.carrying.specs.Parts.{Carried, carried, carriedBy, carriedAt}
 use Rattle.turn.specs.Parts.{endingAt}
 use Rattle.run_places.specs.Parts.{atPlace}
-use Rattle.turn.proofs.TurnLaws.{leaving, turn-zero, taking, turns-stop, turns-more}
+use Rattle.turn.proofs.TurnLaws.{leaving, turn-sound, turn-zero, taking, turns-stop, turns-more}
 
 -- ---- a turn
 
@@ -39,6 +43,13 @@ turn-carried R B ok k e t d =
         ≡ leaving (turnWith chosen (running R B) o .answer) (turnWith chosen (running R B) o .after)
     go none = refl
     go (some o) = refl
+
+-- what it leaves is not at fault
+pub carried-sane : (R : Run) (B : Bench) → soundRun chosen R ≡ true → (a : Reply) (m : Machine) (seals : List Range) (regs marks mem : List ℕ) → carried a m seals regs marks mem ≡ carriedAt R B
+    → done a ≡ true → soundBench B ≡ true → sound m regs marks ≡ true
+carried-sane R B ok a m seals regs marks mem e d s =
+    bench-sound (benchOf m seals regs marks mem)
+    (ap (λ (o : TurnOutcome). soundBench (o .after .bench)) (turn-carried R B ok (carried a m seals regs marks mem) e true d) ∙ turn-sound (running R B) s)
 
 -- one more, after n that were answered 0
 pub turns-carried : (r : Running) (R : Run) (B : Bench) (n : ℕ) → taking n (running R B) ≡ turns chosen r n → soundRun chosen R ≡ true → (k : Carried) → k ≡ carriedAt R B

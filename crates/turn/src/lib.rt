@@ -10,7 +10,8 @@ ghost use mathlib.Core.Bool.{true};
 ghost use Prim.Native.Nat.{_<_};
 ghost use Rattle.machine.specs.Answers.{reply};
 ghost use Rattle.machine.specs.Geometry.{benchOf};
-ghost use Rattle.machine.specs.Faults.{sound};
+ghost use Rattle.machine.specs.Faults.{sound, sealsFit};
+ghost use Rattle.ranges.specs.Ranges.{sealsIn};
 ghost use Rattle.machine.specs.Setting.{chosen};
 ghost use Rattle.turn.specs.Parts.{endingAt};
 ghost use Rattle.run_places.specs.Parts.{atPlace};
@@ -44,15 +45,17 @@ fn take_turns(
     limit: u64,
     run: Run,
     m: Machine,
+    seals: &[u8],
     registers: &mut [u8],
     marks: &mut [u8],
     memory: &mut [u8],
 ) -> Progress
     requires { ⌜ sound m (now registers) (now marks) ≡ true ⌝ }
-    ensures { λ r. ⌜ takenAs (record { count = r .count; run = atPlace run (r .place); machine = r .machine }) (now (registers .exit)) (now (marks .exit)) (now (memory .exit))
-        ≡ turns chosen (running run (benchOf m (now (registers .entry)) (now (marks .entry)) (now (memory .entry)))) limit ⌝ }
+    requires { ⌜ sealsFit (sealsIn (now seals)) ≡ true ⌝ }
+    ensures { λ r. ⌜ takenAs (record { count = r .count; run = atPlace run (r .place); machine = r .machine }) (sealsIn (now (seals .entry))) (now (registers .exit)) (now (marks .exit)) (now (memory .exit))
+        ≡ turns chosen (running run (benchOf m (sealsIn (now (seals .entry))) (now (registers .entry)) (now (marks .entry)) (now (memory .entry)))) limit ⌝ }
     ensures { λ r. ⌜ (0 < limit → reply (r .answer) ≡ endingAt limit (r .count)
-        (turns chosen (running run (benchOf m (now (registers .entry)) (now (marks .entry)) (now (memory .entry)))) (r .count))) ⌝ }
+        (turns chosen (running run (benchOf m (sealsIn (now (seals .entry))) (now (registers .entry)) (now (marks .entry)) (now (memory .entry)))) (r .count))) ⌝ }
 {
     let mut place = run.place;
     if !run_places::is_sound_run(run) {
@@ -70,7 +73,7 @@ fn take_turns(
     let mut machine = m;
     while count < limit {
         let current = at_place(run, place);
-        let answer = carrying::carry_out(current, machine, registers, marks, memory);
+        let answer = carrying::carry_out(current, machine, seals, registers, marks, memory);
         if !machine::is_done(answer) {
             return Progress {
                 answer: answer,
@@ -96,21 +99,22 @@ fn take_turns(
 pub fn turn(
     run: Run,
     m: Machine,
+    seals: &[u8],
     registers: &mut [u8],
     marks: &mut [u8],
     memory: &mut [u8],
 ) -> Turned
-    ensures { λ r. ⌜ turnedAs r (now (registers .exit)) (now (marks .exit)) (now (memory .exit))
-        ≡ turnOutcome chosen (running run (benchOf m (now (registers .entry)) (now (marks .entry)) (now (memory .entry)))) ⌝ }
+    ensures { λ r. ⌜ turnedAs r (sealsIn (now (seals .entry))) (now (registers .exit)) (now (marks .exit)) (now (memory .exit))
+        ≡ turnOutcome chosen (running run (benchOf m (sealsIn (now (seals .entry))) (now (registers .entry)) (now (marks .entry)) (now (memory .entry)))) ⌝ }
 {
-    if !settings::faults::is_sound(m, registers, marks) {
+    if !settings::faults::is_sound(m, seals, registers, marks) {
         return Turned {
             answer: Answer::BadArguments,
             run: run,
             machine: m,
         };
     }
-    let progress = take_turns(1, run, m, registers, marks, memory);
+    let progress = take_turns(1, run, m, seals, registers, marks, memory);
     let answer = progress.answer;
     let place = progress.place;
     let after = at_place(run, place);
@@ -127,21 +131,22 @@ pub fn turns(
     limit: u64,
     run: Run,
     m: Machine,
+    seals: &[u8],
     registers: &mut [u8],
     marks: &mut [u8],
     memory: &mut [u8],
 ) -> Taken
-    ensures { λ r. ⌜ takenAs r (now (registers .exit)) (now (marks .exit)) (now (memory .exit))
-        ≡ turns chosen (running run (benchOf m (now (registers .entry)) (now (marks .entry)) (now (memory .entry)))) limit ⌝ }
+    ensures { λ r. ⌜ takenAs r (sealsIn (now (seals .entry))) (now (registers .exit)) (now (marks .exit)) (now (memory .exit))
+        ≡ turns chosen (running run (benchOf m (sealsIn (now (seals .entry))) (now (registers .entry)) (now (marks .entry)) (now (memory .entry)))) limit ⌝ }
 {
-    if !settings::faults::is_sound(m, registers, marks) {
+    if !settings::faults::is_sound(m, seals, registers, marks) {
         return Taken {
             count: 0,
             run: run,
             machine: m,
         };
     }
-    let progress = take_turns(limit, run, m, registers, marks, memory);
+    let progress = take_turns(limit, run, m, seals, registers, marks, memory);
     let place = progress.place;
     let after = at_place(run, place);
     let machine = progress.machine;

@@ -2,8 +2,8 @@ use mathlib.Core.Path.{refl}
 use native.Mathlib.Omega.{arith}
 use Rattle.address.proofs.SealLaws.{misses-no-bytes, misses-no-seal, misses-below, misses-not, misses-from}
 use borrow.Author.Needs.{needs}
-use Rattle.address.proofs.is_clear.Statement.{statement}
-use Rattle.address.proofs.is_clear.Tie as tie
+use Rattle.address.proofs.misses_range.Statement.{statement}
+use Rattle.address.proofs.misses_range.Tie as tie
 
 returns : tie.Need-returns
 returns c = let a = c .before .args in misses-no-bytes (a .seal) (a .size) (a .p) (a .n) (c .if1 .taken)
@@ -32,6 +32,6 @@ returns-5 c =
     let a = c .before .before .before .before .args in
     misses-from (a .seal) (a .size) (a .p) (a .n) (c .before .before .before .if1 .left) (c .before .before .if2 .left) (c .if4 .left)
 
-pub is-clear-spec : {M : Type 1} → statement M
-is-clear-spec =
+pub misses-range-spec : {M : Type 1} → statement M
+misses-range-spec =
     tie.close (tie.spec returns returns-2 add-end returns-3 returns-4 sub-last returns-5)

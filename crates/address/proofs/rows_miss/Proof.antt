@@ -10,8 +10,8 @@ use Rattle.machine.specs.Memory.{rowAt, misses}
 use Rattle.address.proofs.TestLaws.{all-next, test-failed, test-passed}
 use Rattle.address.proofs.AddressLaws.{step, passed-on, row-inside, row-reached, row-starts}
 use Rattle.address.proofs.SealLaws.{miss-no-bytes, miss-not, miss-all}
-use Rattle.address.proofs.rows_unsealed.Statement.{statement}
-use Rattle.address.proofs.rows_unsealed.Tie as tie
+use Rattle.address.proofs.rows_miss.Statement.{statement}
+use Rattle.address.proofs.rows_miss.Tie as tie
 
 abbrev Inv-loop : tie.InvT-loop
 Inv-loop len seal size base stride rows bytes i₀ i =
@@ -54,8 +54,8 @@ here c =
     let e = row-starts (a .len) (a .base) (a .stride) (a .rows) (a .bytes) i (c .row-address .result) (toZ w64 (ofZ w64 (c .before .as-signed .result))) (stride-is (c .before)) (c .row-address .ensures) in
     (e, omega (arith, e, row-inside (a .len) (a .base) (a .stride) (a .rows) (a .bytes) (s .pre .0) (omega (arith, t .before .before .if1 .left)) (s .fits .stride .fits) i (t .loop-test .taken) .1))
 
-is-clear-requires : tie.Need-is-clear-requires Inv-loop μ-loop
-is-clear-requires c κs = let h = here c in omega (arith, h .1)
+misses-range-requires : tie.Need-misses-range-requires Inv-loop μ-loop
+misses-range-requires c κs = let h = here c in omega (arith, h .1)
 
 returns-2 : tie.Need-returns-2 Inv-loop μ-loop
 returns-2 c =
@@ -63,7 +63,7 @@ returns-2 c =
     let t = d .before .before in
     let a = t .before .before .before .args in
     miss-not (a .seal) (a .size) (a .base) (a .stride) (a .rows) (a .bytes) (t .before .loop .i) (d .row-address .result) (t .loop-test .taken) (here d .0)
-    (sym (test-failed (c .before .is-clear .result) (misses (within (a .seal) (a .size)) (d .row-address .result) (a .bytes)) (c .before .is-clear .ensures) (c .if2 .taken)))
+    (sym (test-failed (c .before .misses-range .result) (misses (within (a .seal) (a .size)) (d .row-address .result) (a .bytes)) (c .before .misses-range .ensures) (c .if2 .taken)))
 
 add-i : tie.Need-add-i Inv-loop μ-loop
 add-i c = omega (arith, c .before .before .before .before .loop-test .taken)
@@ -77,7 +77,7 @@ loop-again c =
     let t = d .before .before in
     let a = t .before .before .before .args in
     let l = t .before .loop in
-    let r = c .before .is-clear in (
+    let r = c .before .misses-range in (
       omega (arith, t .loop-test .taken),
       all-next (l .i) (λ k. misses (within (a .seal) (a .size)) (rowAt (a .base) (a .stride) k) (a .bytes)) (l .inv .1)
           (ap (λ (x : ℕ). misses (within (a .seal) (a .size)) x (a .bytes)) (sym (here d .0)) ∙ test-passed (r .result) (misses (within (a .seal) (a .size)) (d .row-address .result) (a .bytes)) (r .ensures) (c .if2 .left)),
@@ -89,8 +89,8 @@ returns-3 c =
     let l = c .before .loop in
     miss-all (a .seal) (a .size) (a .base) (a .stride) (a .rows) (a .bytes) (l .i) (omega arith) (l .inv .1)
 
-pub rows-unsealed-spec : {M : Type 1} → statement M
-rows-unsealed-spec =
+pub rows-miss-spec : {M : Type 1} → statement M
+rows-miss-spec =
     tie.close
     (tie.spec
     Inv-loop
@@ -99,7 +99,7 @@ rows-unsealed-spec =
     loop-holds
     as-signed-requires
     row-address-requires
-    is-clear-requires
+    misses-range-requires
     returns-2
     add-i
     loop-less

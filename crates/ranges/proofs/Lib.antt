@@ -1,0 +1,2 @@
+-- Laws for code on a block's ranges.
+pub mod RangeLaws
