@@ -1,8 +1,8 @@
 use mathlib.Core.Path.{sym, ap}
 use borrow.Author.Needs.{needs}
-use Rattle.image_calls.specs.ImageCalls.{blockRefused}
-use Rattle.image_calls.proofs.block_refused.Statement.{statement}
-use Rattle.image_calls.proofs.block_refused.Tie as tie
+use Rattle.image_read.specs.Blocks.{blockRefused}
+use Rattle.image_read.proofs.block_refused.Statement.{statement}
+use Rattle.image_read.proofs.block_refused.Tie as tie
 
 enum-told : tie.Need-enum-told
 enum-told c = search needs

@@ -1,8 +1,8 @@
 use mathlib.Core.Path.{sym, _∙_}
-use Rattle.image_check.specs.Parts.{sealAt}
+use Rattle.image_check.specs.Parts.{rangeAt}
 use borrow.Author.Needs.{needs}
-use Rattle.image_check.proofs.head.seal_at.Statement.{statement}
-use Rattle.image_check.proofs.head.seal_at.Tie as tie
+use Rattle.image_check.proofs.head.range_at.Statement.{statement}
+use Rattle.image_check.proofs.head.range_at.Tie as tie
 
 number-from-requires : tie.Need-number-from-requires
 number-from-requires c κs = search needs
@@ -11,7 +11,7 @@ enum-known-p : tie.Need-enum-known-p
 enum-known-p c = search needs
 
 returns : tie.Need-returns
-unfolding sealAt
+unfolding rangeAt
 returns c =
     let k = c .before in
     let n = k .before .before in
@@ -30,7 +30,7 @@ enum-known-p-2 : tie.Need-enum-known-p-2
 enum-known-p-2 c = search needs
 
 returns-2 : tie.Need-returns-2
-unfolding sealAt
+unfolding rangeAt
 returns-2 c =
     let k = c .before in
     let o = k .before .before in
@@ -42,7 +42,7 @@ enum-known-size : tie.Need-enum-known-size
 enum-known-size c = search needs
 
 returns-3 : tie.Need-returns-3
-unfolding sealAt
+unfolding rangeAt
 returns-3 c =
     let k = c .before in
     let o = k .before .before in
@@ -50,8 +50,8 @@ returns-3 c =
     let n = g .before .before in
     rw (sym (n .number-from .ensures) ∙ g .start .given .1, sym (o .number-from2 .ensures) ∙ k .size .given .1)
 
-pub seal-at-spec : {M : Type 1} → statement M
-seal-at-spec =
+pub range-at-spec : {M : Type 1} → statement M
+range-at-spec =
     tie.close
     (tie.spec
     number-from-requires

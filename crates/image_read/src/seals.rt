@@ -1,0 +1,70 @@
+// The ranges of an image into a machine's block.
+use element::write8;
+use image_check::head::Pair;
+use image_check::head::range_at;
+use ranges::slot_at;
+ghost use mathlib.Core.Path.{_≡_};
+ghost use Prim.Native.Nat.{_-_, _≤_, _<_, _^_};
+ghost use lib.ListN.{length, replicate};
+ghost use Rattle.machine.specs.Geometry.{range};
+ghost use Rattle.ranges.specs.Ranges.{blockBytes};
+ghost use Rattle.image_check.specs.Parts.{rangesFound};
+ghost use Rattle.image_read.specs.Blocks.{putRange, putRanges, putSeals};
+ghost use Rattle.image_read.specs.Parts.{Stand};
+
+// Puts a range into slot i.
+fn put_range(block: &mut [u8], i: usize, start: u64, size: u64)
+    requires { ⌜ length (now block) ≡ blockBytes ⌝ }
+    requires { ⌜ i < 8 ⌝ }
+    ensures { λ _. ⌜ now (block .exit) ≡ putRange i (range start size) (now (block .entry)) ⌝ }
+{
+    let at = slot_at(i);
+    write8(block, at, start);
+    write8(block, at + 8, size);
+}
+
+// Puts the ranges that stand at a place of an image into the first slots.
+fn put_ranges(s: &[u8], first: usize, count: usize, block: &mut [u8])
+    requires { ⌜ length (now block) ≡ blockBytes ⌝ }
+    requires { ⌜ Stand (now s) count first ⌝ }
+    ensures { λ _. ⌜ now (block .exit) ≡ putRanges 0 (rangesFound (now (s .entry)) count first) (now (block .entry)) ⌝ }
+{
+    let mut at = first;
+    let mut i: usize = 0;
+    while i < count {
+        match range_at(s, at) {
+            Pair::PairBad(_) => {
+                return;
+            }
+            Pair::Both(start, size, next) => {
+                put_range(block, i, start, size);
+                at = next;
+                i += 1;
+            }
+        }
+    }
+}
+
+// Clears the slots from slot `count` on.
+fn clear_slots(block: &mut [u8], count: usize)
+    requires { ⌜ length (now block) ≡ blockBytes ⌝ }
+    requires { ⌜ count ≤ 8 ⌝ }
+    ensures { λ _. ⌜ now (block .exit) ≡ putRanges count (replicate (8 - count) (range 0 0)) (now (block .entry)) ⌝ }
+{
+    let mut i = count;
+    while i < 8 {
+        put_range(block, i, 0, 0);
+        i += 1;
+    }
+}
+
+// Puts the ranges that stand at a place of an image into a block: their number, each of them, and zeros behind them.
+pub fn put_seals(s: &[u8], first: usize, count: u64, block: &mut [u8])
+    requires { ⌜ length (now block) ≡ blockBytes ⌝ }
+    requires { ⌜ Stand (now s) count first ⌝ }
+    ensures { λ _. ⌜ now (block .exit) ≡ putSeals (rangesFound (now (s .entry)) count first) (now (block .entry)) ⌝ }
+{
+    write8(block, 80, count);
+    put_ranges(s, first, count as usize, block);
+    clear_slots(block, count as usize);
+}
