@@ -4,7 +4,7 @@
 #include <stdio.h>
 
 /* Lengths of the drawing. A cell is a byte; a register has room for its name, the numbers of its columns and those of its rows. */
-enum { CELL = 14, CROSS = 8, LEFT = 26, HEAD = 34, GAP = 20, MARGIN = 16, LEGEND = 76, LINE_REGISTERS = 4, WIDTH_LEAST = 640 };
+enum { CELL = 14, CROSS = 8, LEFT = 26, HEAD = 34, GAP = 20, MARGIN = 16, LEGEND = 76, LINE_REGISTERS = 4, WIDTH_LEAST = 640, MEMORY = 48 };
 
 /* With more than CELLS_MOST bytes in a row of a tile register cells are less wide, with more rows less high, down to CELL_LEAST. Where MLEN is
  * above GRID_MLEN_MOST, neighbours of one kind are not drawn one by one but as one area. */
@@ -157,9 +157,50 @@ static void draw_registers(FILE *file, const struct device *device)
     }
 }
 
+/* The part of a sealed range that lies in memory: its first and last byte; 0 if there is none. */
+static int sealed_part(const struct device *device, size_t i, uint64_t *first, uint64_t *last)
+{
+    uint64_t length;
+    device_seal_at(device, i, first, &length);
+    if (length == 0 || *first >= device->memory_bytes)
+        return 0;
+    *last = *first + (length - 1) < device->memory_bytes ? *first + (length - 1) : device->memory_bytes - 1;
+    return 1;
+}
+
+static int is_sealed(const struct device *device)
+{
+    uint64_t first, last;
+    size_t i;
+    for (i = 0; i < device_seals(device); i++)
+        if (sealed_part(device, i, &first, &last))
+            return 1;
+    return 0;
+}
+
+/* Memory as one bar, its sealed ranges on it and their addresses below. */
+static void draw_memory(FILE *file, const struct device *device, unsigned width, unsigned y)
+{
+    double unit = (double)(width - 2 * MARGIN) / (double)device->memory_bytes;
+    uint64_t first, last;
+    size_t i;
+    fprintf(file, "<text x=\"%d\" y=\"%u\" font-weight=\"bold\" font-size=\"13\">memory, %lu bytes</text>\n", MARGIN, y, (unsigned long)device->memory_bytes);
+    fprintf(file, "<rect x=\"%d\" y=\"%u\" width=\"%u\" height=\"%d\" fill=\"#ffffff\" stroke=\"#999999\"/>\n", MARGIN, y + 6, width - 2 * MARGIN, CELL);
+    for (i = 0; i < device_seals(device); i++)
+        if (sealed_part(device, i, &first, &last))
+            fprintf(file, "<rect x=\"%.2f\" y=\"%u\" width=\"%.2f\" height=\"%d\" fill=\"#ccbb44\" stroke=\"#999999\"/>\n", MARGIN + unit * (double)first, y + 6,
+                    unit * (double)(last - first + 1), CELL);
+    fprintf(file, "<text x=\"%d\" y=\"%u\">sealed:", MARGIN, y + 34);
+    for (i = 0; i < device_seals(device); i++)
+        if (sealed_part(device, i, &first, &last))
+            fprintf(file, " %" PRIu64 " to %" PRIu64 ";", first, last);
+    fprintf(file, "</text>\n");
+}
+
 static void draw(FILE *file, const struct device *device)
 {
-    unsigned width = 2 * MARGIN + LINE_REGISTERS * box_width(device), height = LEGEND + 4 * box_height(device);
+    unsigned width = 2 * MARGIN + LINE_REGISTERS * box_width(device), registers = LEGEND + 4 * box_height(device);
+    unsigned height = registers + (is_sealed(device) ? MEMORY : 0);
     if (width < WIDTH_LEAST)
         width = WIDTH_LEAST;
     fprintf(file, "<svg xmlns=\"http://www.w3.org/2000/svg\" width=\"%u\" height=\"%u\" viewBox=\"0 0 %u %u\" "
@@ -167,6 +208,8 @@ static void draw(FILE *file, const struct device *device)
                   "<rect width=\"%u\" height=\"%u\" fill=\"#ffffff\"/>\n", width, height, width, height, width, height);
     draw_legend(file, device);
     draw_registers(file, device);
+    if (is_sealed(device))
+        draw_memory(file, device, width, registers + 6);
     fprintf(file, "</svg>\n");
 }
 
