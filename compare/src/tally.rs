@@ -31,7 +31,8 @@
 //! and 13 only on a machine or memory that was changed between turns, or for a run
 //! block that no start made.
 //!
-//! The size of an image gives 0 or 8, writing one 14 too, reading one 0, 8 or 15.
+//! The size of an image gives 0 or 8, writing one 14 too, reading one 0, 8 or 15. The
+//! start of a machine and a further sealed range give 0, 8 or 16 (request Twelve).
 //!
 //! Words are also counted by ELEN (request Ten): each cell has to be met at both.
 
@@ -41,6 +42,7 @@ use std::collections::BTreeMap;
 #[derive(Clone, Copy, Debug, PartialEq, Eq, PartialOrd, Ord)]
 pub enum Call {
     MachineStart,
+    Seal,
     /// By the name of the family's first row.
     Family(&'static str),
     OtherWord,
@@ -68,8 +70,8 @@ pub struct Tally {
     pub overlaps: [[u64; 4]; KINDS.len()],
 }
 
-/// The versions of an image are 1 to 3.
-const VERSIONS: usize = 3;
+/// The versions of an image are 1 to 4.
+const VERSIONS: usize = 4;
 
 // What is compared at the least, without `long`; runs of each kind, of each kind by each
 // rule, and of these at each ELEN; images of each version.
@@ -83,7 +85,7 @@ const LEAST_IMAGES: u64 = 500;
 const UNKNOWN: u64 = KINDS.len() as u64;
 
 /// One more than the highest answer.
-pub const ANSWERS: u64 = 16;
+pub const ANSWERS: u64 = 17;
 
 /// The listing's name up to an element width.
 pub fn family_name(name: &'static str) -> &'static str {
@@ -122,7 +124,7 @@ pub fn family_of(word: u32) -> Call {
 /// Whether a call can give an answer.
 pub fn reachable(call: Call, number: u64) -> bool {
     let first = match call {
-        Call::MachineStart => return [0, 8].contains(&number),
+        Call::MachineStart | Call::Seal => return [0, 8, 16].contains(&number),
         Call::OtherWord => return [1, 8, 10].contains(&number),
         Call::RunStart(UNKNOWN) | Call::WholeRun(UNKNOWN) => return number == 8,
         Call::RunNext(UNKNOWN) | Call::RunTurn(UNKNOWN) => return number == 8,
@@ -206,7 +208,10 @@ impl Tally {
     }
 
     fn calls() -> Vec<(Call, String)> {
-        let mut calls = vec![(Call::MachineStart, "machine start".to_string())];
+        let mut calls = vec![
+            (Call::MachineStart, "machine start".to_string()),
+            (Call::Seal, "further range".to_string()),
+        ];
         for first in families().into_iter().chain(families_left_out()) {
             calls.push((Call::Family(first), family_name(first).to_string()));
         }
