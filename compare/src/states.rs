@@ -199,8 +199,7 @@ pub fn seals_with(random: &mut Random, range: Seal) -> Seals {
 /// A machine whose sizes are within their maxima at a SEW.
 fn machine_within(random: &mut Random, lengths: Lengths, mtype: u64, sew: i128) -> Machine {
     let rule = random.pick(&RULES);
-    let seals = idle_seals(random);
-    let mut machine = Machine { mtype, seals, ..Machine::of(lengths, rule) };
+    let mut machine = Machine { mtype, ..Machine::of(lengths, rule) };
     let limits = limits(random, &machine, sew);
     for (size, limit) in SIZES.into_iter().zip(limits) {
         set_size(&mut machine, size, size_up_to(random, limit));
@@ -249,12 +248,17 @@ pub fn any_scalar(random: &mut Random) -> u64 {
     }
 }
 
-/// A bench around a machine: all bytes marked, no memory yet.
+/// A bench around a machine: all bytes marked, no memory yet. In place of one range that
+/// seals nothing it may have others that seal nothing.
 pub fn bench_of(random: &mut Random, machine: &Machine) -> Lent {
     let length = model::register_bytes(machine.mlen);
+    let mut machine = *machine;
+    if machine.seals == Seals::of(&[(0, 0)]) {
+        machine.seals = idle_seals(random);
+    }
     let scalars: Vec<u64> = (0..32).map(|_| any_scalar(random)).collect();
     Lent {
-        machine: machine_block(machine),
+        machine: machine_block(&machine),
         registers: register_content(random, length),
         marks: vec![1; length],
         scalars: words_to_bytes(&scalars),

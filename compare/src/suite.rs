@@ -59,7 +59,7 @@ pub fn check_answer(word: u32, before: &Lent, tally: &mut Tally) -> Result<(Answ
             report(before, given, &library, packed(answer), &second)
         ));
     }
-    tally.step(word, answer.number, machine_of(&before.machine).map(|machine| machine.elen));
+    tally.step(word, answer.number, machine_of(&before.machine));
     Ok((answer, second))
 }
 

@@ -54,14 +54,14 @@ pub fn image_ranges(context: &mut Context) -> Outcome {
             if image[0] == 4 {
                 return Err(format!("one range in version 4: {}", hex(&image)));
             }
-            let runs = [&front[..], &ranges, &[0]].concat();
-            return at_fault(&runs, front.len(), tally);
+            let counted = [&front[..], &ranges, &[0]].concat();
+            return at_fault(&counted, front.len(), tally);
         }
         let beginning = [&front[..], &ranges].concat();
         if !image.starts_with(&beginning) {
             return Err(format!("{}, not {} ..", hex(&image), hex(&beginning)));
         }
-        for cut in 0..image.len().min(beginning.len() + 4) {
+        for cut in 0..image.len() {
             at_fault(&image[..cut], cut, tally)?;
         }
         at_fault(&[&image[..], &[0]].concat(), image.len(), tally)?;
@@ -85,8 +85,6 @@ pub fn image_ranges(context: &mut Context) -> Outcome {
             let before = front.len() + bad.len();
             let longest = long_groups((u64::MAX - start) as u128, 0);
             let beyond = long_groups((u64::MAX - start) as u128 + 1, 0);
-            // The first byte after which no length can follow: where the groups have no
-            // length up to the longest.
             let place = before + first_without(&beyond, u64::MAX - start);
             at_fault(&[&front[..], &bad, &beyond].concat(), place, tally)?;
             at_fault(&[&front[..], &bad, &longest].concat(), before + longest.len(), tally)?;
@@ -97,8 +95,8 @@ pub fn image_ranges(context: &mut Context) -> Outcome {
     Ok(format!("{cases}, {places} places of ends beside 2^64"))
 }
 
-/// The first byte of a number that is one more than the most at which no number up to it
-/// can go on: one with more groups, all that are left 0, if it is larger then.
+/// The first byte of some groups at which no number up to the most can go on: the least
+/// that begins with the groups so far is larger.
 fn first_without(bytes: &[u8], most: u64) -> usize {
     let mut least = 0u128;
     for (at, &byte) in bytes.iter().enumerate() {
