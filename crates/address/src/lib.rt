@@ -6,6 +6,7 @@ ghost use Prim.Native.Nat.{_+_, _*_, _^_, _<_};
 ghost use lib.Dec.{leb};
 ghost use lib.IntN.{pos, natAbs, _+ℤ_, _*ℤ_};
 ghost use Rattle.width.specs.Reduce.{signed};
+ghost use Rattle.machine.specs.Tests.{within};
 ghost use Rattle.machine.specs.Memory.{rowAt, address, inMemory, inside, distinct, misses, rowsMiss};
 
 // The signed number that the 64 bits of x stand for.
@@ -96,7 +97,7 @@ pub fn rows_distinct(len: usize, base: usize, stride: u64, rows: usize, bytes: u
 // Whether the n bytes from p on and the seal share none.
 fn is_clear(seal: u64, size: u64, p: usize, n: usize) -> bool
     requires { ⌜ p + n < 2 ^ 64 ⌝ }
-    ensures { λ r. ⌜ r ≡ misses seal size p n ⌝ }
+    ensures { λ r. ⌜ r ≡ misses (within seal size) p n ⌝ }
 {
     if n == 0 {
         return true;
@@ -129,7 +130,7 @@ pub fn rows_unsealed(
     requires { ⌜ inside len base stride rows bytes ≡ true ⌝ }
     requires { ⌜ len < 2 ^ 63 ⌝ }
     requires { ⌜ rows * bytes < 2 ^ 63 ⌝ }
-    ensures { λ r. ⌜ r ≡ rowsMiss seal size base stride rows bytes ⌝ }
+    ensures { λ r. ⌜ r ≡ rowsMiss (within seal size) base stride rows bytes ⌝ }
 {
     if bytes == 0 {
         return true;

@@ -11,11 +11,10 @@ use borrow.Author.Tests.{ltb-true, leb-true, le-leb, lt-ltb, le-ltb, eqb-true, e
 use Rattle.width.specs.Reduce.{signed}
 use Rattle.width.specs.Tile.{In}
 use Rattle.width.proofs.BlockLaws.{le-or-lt}
-use Rattle.machine.specs.Tests.{all}
+use Rattle.machine.specs.Tests.{all, within}
 use Rattle.machine.proofs.TestLaws.{all-true, all-at, or-not, false-true, same-test, within-not, not-within}
 use Rattle.machine.specs.Geometry.{Parameters}
 use Rattle.machine.specs.Memory.{rowZ, rowAt, address, inMemory, inside, misses, rowsMiss, clear, unsealed}
-use Rattle.machine.specs.Geometry.{sealed}
 
 -- the n bytes from z on lie in a memory of len bytes (for n > 0)
 abbrev pub fits : ℕ → ℕ → ℤ → Bool
@@ -72,57 +71,64 @@ module _ (len base stride rows n : ℕ) where
               go′ zero e = absurd (false-true (sym e))
               go′ (suc n) e = omega arith
 
--- ---- the seal
+-- ---- bytes against others
 
-pub clear-at : (M : Parameters) (p n : ℕ) → clear M p n ≡ true → (q : ℕ) → In p n q → not (sealed M q) ≡ true
+pub misses-at : (those : ℕ → Bool) (p n : ℕ) → misses those p n ≡ true → (q : ℕ) → In p n q → not (those q) ≡ true
 unfolding misses
-clear-at M p n h q x =
-    subst (λ (z : ℕ). not (sealed M z) ≡ true) (omega arith) (all-at n (λ b. not (sealed M (p + b))) h (q - p) (omega arith))
+misses-at those p n h q x = subst (λ (z : ℕ). not (those z) ≡ true) (omega arith) (all-at n (λ b. not (those (p + b))) h (q - p) (omega arith))
 
-pub clear-true : (M : Parameters) (p n : ℕ) → ((q : ℕ) → In p n q → not (sealed M q) ≡ true) → clear M p n ≡ true
+pub misses-true : (those : ℕ → Bool) (p n : ℕ) → ((q : ℕ) → In p n q → not (those q) ≡ true) → misses those p n ≡ true
 unfolding misses
-clear-true M p n h = all-true n (λ b. not (sealed M (p + b))) (λ b l. h (p + b) (omega arith))
+misses-true those p n h = all-true n (λ b. not (those (p + b))) (λ b l. h (p + b) (omega arith))
 
--- for code: the test by the ends of the two ranges
-pub clear-range : (M : Parameters) (p n : ℕ) → clear M p n ≡ eqb n 0 || (eqb (M .sealLen) 0 || (leb (p + n) (M .sealAt) || leb (M .sealAt + M .sealLen) p))
-clear-range M p n = same-test (clear M p n) (eqb n 0 || (eqb (M .sealLen) 0 || (leb (p + n) (M .sealAt) || leb (M .sealAt + M .sealLen) p)))
-    (λ h. there h (eqb n 0) refl (eqb (M .sealLen) 0) refl (leb (p + n) (M .sealAt)) refl (leb (M .sealAt + M .sealLen) p) refl)
-    (λ h. clear-true M p n (λ q x. not-within (M .sealAt) (M .sealLen) q (λ y. back h q x y (eqb n 0) refl (eqb (M .sealLen) 0) refl (leb (p + n) (M .sealAt)) refl)))
+-- for code: those of a range, by the ends of the two
+pub misses-range : (s o p n : ℕ) → misses (within s o) p n ≡ eqb n 0 || (eqb o 0 || (leb (p + n) s || leb (s + o) p))
+misses-range s o p n = same-test (misses (within s o) p n) (eqb n 0 || (eqb o 0 || (leb (p + n) s || leb (s + o) p)))
+    (λ h. there h (eqb n 0) refl (eqb o 0) refl (leb (p + n) s) refl (leb (s + o) p) refl)
+    (λ h. misses-true (within s o) p n (λ q x. not-within s o q (λ y. back h q x y (eqb n 0) refl (eqb o 0) refl (leb (p + n) s) refl)))
   where
-    there : clear M p n ≡ true → (s : Bool) → eqb n 0 ≡ s → (t : Bool) → eqb (M .sealLen) 0 ≡ t → (u : Bool) → leb (p + n) (M .sealAt) ≡ u → (v : Bool) → leb (M .sealAt + M .sealLen) p ≡ v → s || (t || (u || v)) ≡ true
+    there : misses (within s o) p n ≡ true → (z : Bool) → eqb n 0 ≡ z → (t : Bool) → eqb o 0 ≡ t → (u : Bool) → leb (p + n) s ≡ u → (v : Bool) → leb (s + o) p ≡ v → z || (t || (u || v)) ≡ true
     there h true es t et u eu v ev = refl
     there h false es true et u eu v ev = refl
     there h false es false et true eu v ev = refl
     there h false es false et false eu true ev = refl
     there h false es false et false eu false ev =
-        let a : M .sealAt < p + n = leb-false (p + n) (M .sealAt) eu in
-        let b : p < M .sealAt + M .sealLen = leb-false (M .sealAt + M .sealLen) p ev in
+        let a : s < p + n = leb-false (p + n) s eu in
+        let b : p < s + o = leb-false (s + o) p ev in
         let c : ¬ (n ≡ 0) = eqb-false n 0 es in
-        let d : ¬ (M .sealLen ≡ 0) = eqb-false (M .sealLen) 0 et in
-        absurd (meets (le-or-lt p (M .sealAt)) a b c d)
+        let d : ¬ (o ≡ 0) = eqb-false o 0 et in
+        absurd (meets (le-or-lt p s) a b c d)
       where
-        meets : (p ≤ M .sealAt) ⊎ (M .sealAt < p) → M .sealAt < p + n → p < M .sealAt + M .sealLen → ¬ (n ≡ 0) → ¬ (M .sealLen ≡ 0) → ⊥
-        meets (inl g) a b c d = within-not (M .sealAt) (M .sealLen) (M .sealAt) (clear-at M p n h (M .sealAt) (g, a)) (omega arith, positive d)
+        meets : (p ≤ s) ⊎ (s < p) → s < p + n → p < s + o → ¬ (n ≡ 0) → ¬ (o ≡ 0) → ⊥
+        meets (inl g) a b c d = within-not s o s (misses-at (within s o) p n h s (g, a)) (omega arith, positive d)
           where
-            positive : ¬ (M .sealLen ≡ 0) → M .sealAt < M .sealAt + M .sealLen
-            positive d = elim (le-or-lt (M .sealLen) 0) [ inl z ↦ absurd (d (omega arith)) | inr z ↦ omega arith ]
-        meets (inr g) a b c d = within-not (M .sealAt) (M .sealLen) p (clear-at M p n h p (omega arith, positive c)) (omega arith, b)
+            positive : ¬ (o ≡ 0) → s < s + o
+            positive d = elim (le-or-lt o 0) [ inl z ↦ absurd (d (omega arith)) | inr z ↦ omega arith ]
+        meets (inr g) a b c d = within-not s o p (misses-at (within s o) p n h p (omega arith, positive c)) (omega arith, b)
           where
             positive : ¬ (n ≡ 0) → p < p + n
             positive c = elim (le-or-lt n 0) [ inl z ↦ absurd (c (omega arith)) | inr z ↦ omega arith ]
 
-    back : eqb n 0 || (eqb (M .sealLen) 0 || (leb (p + n) (M .sealAt) || leb (M .sealAt + M .sealLen) p)) ≡ true → (q : ℕ) → In p n q → In (M .sealAt) (M .sealLen) q
-        → (s : Bool) → eqb n 0 ≡ s → (t : Bool) → eqb (M .sealLen) 0 ≡ t → (u : Bool) → leb (p + n) (M .sealAt) ≡ u → ⊥
+    back : eqb n 0 || (eqb o 0 || (leb (p + n) s || leb (s + o) p)) ≡ true → (q : ℕ) → In p n q → In s o q
+        → (z : Bool) → eqb n 0 ≡ z → (t : Bool) → eqb o 0 ≡ t → (u : Bool) → leb (p + n) s ≡ u → ⊥
     back h q x y true es t et u eu = omega (arith, eqb-true n 0 es)
-    back h q x y false es true et u eu = omega (arith, eqb-true (M .sealLen) 0 et)
-    back h q x y false es false et true eu = omega (arith, leb-true (p + n) (M .sealAt) eu)
+    back h q x y false es true et u eu = omega (arith, eqb-true o 0 et)
+    back h q x y false es false et true eu = omega (arith, leb-true (p + n) s eu)
     back h q x y false es false et false eu =
         omega (
           arith,
-          leb-true (M .sealAt + M .sealLen) p (or-not (leb (p + n) (M .sealAt)) (leb (M .sealAt + M .sealLen) p)
-              (or-not (eqb (M .sealLen) 0) (leb (p + n) (M .sealAt) || leb (M .sealAt + M .sealLen) p)
-              (or-not (eqb n 0) (eqb (M .sealLen) 0 || (leb (p + n) (M .sealAt) || leb (M .sealAt + M .sealLen) p)) h es) et) eu),
+          leb-true (s + o) p (or-not (leb (p + n) s) (leb (s + o) p)
+              (or-not (eqb o 0) (leb (p + n) s || leb (s + o) p)
+              (or-not (eqb n 0) (eqb o 0 || (leb (p + n) s || leb (s + o) p)) h es) et) eu),
         )
+
+-- ---- the seal
+
+pub clear-at : (M : Parameters) (p n : ℕ) → clear M p n ≡ true → (q : ℕ) → In p n q → not (M .isSealed q) ≡ true
+clear-at M = misses-at (M .isSealed)
+
+pub clear-true : (M : Parameters) (p n : ℕ) → ((q : ℕ) → In p n q → not (M .isSealed q) ≡ true) → clear M p n ≡ true
+clear-true M = misses-true (M .isSealed)
 
 pub unsealed-true : (M : Parameters) (base stride rows n : ℕ) → ((i : ℕ) → i < rows → clear M (rowAt base stride i) n ≡ true) → unsealed M base stride rows n ≡ true
 unfolding rowsMiss

@@ -13,7 +13,6 @@ use Rattle.machine.specs.Answers.{reply, isDone, verdict}
 use Rattle.machine.proofs.CheckLaws.{Passed, passed, refusals}
 use Rattle.machine.specs.Geometry.{Parameters, parameters, State}
 use Rattle.machine.specs.Setting.{chosen}
-use Rattle.machine.specs.Geometry.{sealed}
 use Rattle.machine.specs.Memory.{rowAt}
 use Rattle.machine.proofs.MemoryLaws.{clear-at, unsealed-at}
 use Rattle.machine.proofs.StoreLaws.{length-stored, stored-out}
@@ -66,7 +65,7 @@ module _ (M : Parameters) (st : State) (mem : List ℕ) where
   operation-length (Operation.moveOut f a v first count) = refl
   operation-length (Operation.moveIn f d v first count file) = refl
 
-  operation-sealed : (o : Operation) → Passed (checks M o st mem) → (q : ℕ) → sealed M q ≡ true → getD (memoryAfter M o st mem) q 0 ≡ getD mem q 0
+  operation-sealed : (o : Operation) → Passed (checks M o st mem) → (q : ℕ) → M .isSealed q ≡ true → getD (memoryAfter M o st mem) q 0 ≡ getD mem q 0
   operation-sealed (Operation.illegal wrong) p q h = refl
   operation-sealed (Operation.setType v) p q h = refl
   operation-sealed (Operation.setSize d a) p q h = refl
@@ -127,7 +126,7 @@ seal-holds grant (w ∷ ws) B =
     record {
       same-parameters = v .same-parameters ∙ u .same-parameters;
       same-length = v .same-length ∙ u .same-length;
-      same-bytes = λ q h. v .same-bytes q (subst (λ (M : Parameters). sealed M q ≡ true) (sym (u .same-parameters)) h) ∙ u .same-bytes q h;
+      same-bytes = λ q h. v .same-bytes q (subst (λ (M : Parameters). M .isSealed q ≡ true) (sym (u .same-parameters)) h) ∙ u .same-bytes q h;
     }
 
 -- from a started machine

@@ -41,14 +41,14 @@ module _ (at : ℕ → ℕ) (rows n : ℕ) where
       let e : at i + (q - at i) ≡ q = omega arith in
       subst (λ (z : ℕ). ¬ In (at k) n z) e (within-not (at k) n (at i + (q - at i))
       (all-at n (λ b. not (within (at k) n (at i + b)))
-      (all-at k (λ i. misses (at k) n (at i) n)
-      (all-at rows (λ k. all k (λ i. misses (at k) n (at i) n)) h k l′) i l) (q - at i) (omega arith)))
+      (all-at k (λ i. misses (within (at k) n) (at i) n)
+      (all-at rows (λ k. all k (λ i. misses (within (at k) n) (at i) n)) h k l′) i l) (q - at i) (omega arith)))
 
   pub at-distinct : ((i k q : ℕ) → i < k → k < rows → In (at i) n q → ¬ In (at k) n q) → distinct at rows n ≡ true
   unfolding distinct misses
   at-distinct h =
-      all-true rows (λ k. all k (λ i. misses (at k) n (at i) n)) (λ k l.
-      all-true k (λ i. misses (at k) n (at i) n) (λ i l′.
+      all-true rows (λ k. all k (λ i. misses (within (at k) n) (at i) n)) (λ k l.
+      all-true k (λ i. misses (within (at k) n) (at i) n) (λ i l′.
       all-true n (λ b. not (within (at k) n (at i + b))) (λ b l″. not-within (at k) n (at i + b) (h i k (at i + b) l′ l (omega arith)))))
 
 -- ---- each byte anew

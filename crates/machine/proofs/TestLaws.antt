@@ -123,6 +123,15 @@ within-in p n q h = (leb-true p q (and-left (leb p q) (ltb q (p + n)) h), ltb-tr
 pub in-within : (p n q : ℕ) → In p n q → within p n q ≡ true
 in-within p n q h = and-true (leb p q) (ltb q (p + n)) (le-leb p q (h .0)) (lt-ltb q (p + n) (h .1))
 
+-- what is not so is false
+pub fails-not : (b : Bool) → ¬ (b ≡ true) → not b ≡ true
+fails-not true h = absurd (h refl)
+fails-not false h = refl
+
+pub not-fails : (b : Bool) → not b ≡ true → ¬ (b ≡ true)
+not-fails true h e = false-true h
+not-fails false h e = false-true e
+
 pub not-within : (p n q : ℕ) → ¬ In p n q → not (within p n q) ≡ true
 not-within p n q h = go (within p n q) refl
   where

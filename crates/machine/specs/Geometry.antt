@@ -26,30 +26,36 @@ elens = 32 ∷ 64 ∷ []
 unfoldable pub permitted : (rlen mlen elen : ℕ) → Bool
 permitted rlen mlen elen = every (isIn rlen rlens ∷ isIn mlen mlens ∷ ltb rlen mlen ∷ isIn elen elens ∷ ltb elen rlen ∷ [])
 
+-- ---- the seal
+
+-- "The seal is one range of memory (start, length), given when the machine is started; length 0 seals nothing."
+abbrev pub sealed : Machine → ℕ → Bool
+sealed m q = within (m .«seal_start») (m .«seal_length») q
+
+-- ---- parameters
+
 -- what a machine keeps from its start on: the rows of its registers, the bytes of a tile register's row, ELEN, its choice of
--- sizes (from the maximum and what is asked), and the sealed range
+-- sizes (from the maximum and what is asked), and which bytes of memory are sealed
 pub record Parameters : Type 0 where
   pub rows : ℕ
   pub pitch : ℕ
   pub elen : ℕ
   pub grant : ℕ → ℕ → ℕ
-  pub sealAt : ℕ
-  pub sealLen : ℕ
+  pub isSealed : ℕ → Bool
 
 -- "Eight tile registers of MLEN bits have MLEN/RLEN rows of RLEN/8 bytes."
-abbrev pub parametersOf : (ℕ → ℕ → ℕ) → (rlen mlen elen sealStart sealLength : ℕ) → Parameters
-parametersOf grant rlen mlen elen sealStart sealLength = record {
+abbrev pub parametersOf : (ℕ → ℕ → ℕ) → (rlen mlen elen : ℕ) → (ℕ → Bool) → Parameters
+parametersOf grant rlen mlen elen isSealed = record {
   rows = mlen / rlen;
   pitch = rlen / 8;
   elen = elen;
   grant = grant;
-  sealAt = sealStart;
-  sealLen = sealLength;
+  isSealed = isSealed;
 }
 
 -- under a choice of sizes for each rule, of which the machine goes by its own: 02, Eight: "the size choice speaks of the rule"
 abbrev pub parameters : (ℕ → ℕ → ℕ → ℕ) → Machine → Parameters
-parameters grant m = parametersOf (grant (m .rule)) (m .rlen) (m .mlen) (m .elen) (m .«seal_start») (m .«seal_length»)
+parameters grant m = parametersOf (grant (m .rule)) (m .rlen) (m .mlen) (m .elen) (sealed m)
 
 -- ---- state
 
@@ -122,12 +128,6 @@ tileAt M = registerAt M MatrixA
 
 abbrev pub accAt : Parameters → ℕ → ℕ → ℕ
 accAt M = registerAt M MatrixC
-
--- ---- the seal
-
--- "The seal is one range of memory (start, length), given when the machine is started; length 0 seals nothing."
-abbrev pub sealed : Parameters → ℕ → Bool
-sealed M p = within (M .sealAt) (M .sealLen) p
 
 -- ---- scalars
 

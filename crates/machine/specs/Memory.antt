@@ -30,25 +30,25 @@ inMemory len (negsuc p) = false
 unfoldable pub inside : ℕ → ℕ → ℕ → ℕ → ℕ → Bool
 inside len base stride rows n = all rows (λ i. all n (λ b. inMemory len (rowZ base stride i +ℤ pos b)))
 
--- none of the n bytes from p on is one of the o bytes from q on
-unfoldable pub misses : (q o p n : ℕ) → Bool
-misses q o p n = all n (λ b. not (within q o (p + b)))
+-- none of the n bytes from p on is one of those
+unfoldable pub misses : (ℕ → Bool) → (p n : ℕ) → Bool
+misses those p n = all n (λ b. not (those (p + b)))
 
--- no byte of a row of n bytes is one of them
-unfoldable pub rowsMiss : (q o base stride rows n : ℕ) → Bool
-rowsMiss q o base stride rows n = all rows (λ i. misses q o (rowAt base stride i) n)
+-- no byte of a row of n bytes is one of those
+unfoldable pub rowsMiss : (ℕ → Bool) → (base stride rows n : ℕ) → Bool
+rowsMiss those base stride rows n = all rows (λ i. misses those (rowAt base stride i) n)
 
 -- 02, Seven: no "byte belongs to two rows", each of n bytes; a row of no byte shares none. Answer 9 reads it of C's rows too
 unfoldable pub distinct : (ℕ → ℕ) → (rows n : ℕ) → Bool
-distinct at rows n = all rows (λ k. all k (λ i. misses (at k) n (at i) n))
+distinct at rows n = all rows (λ k. all k (λ i. misses (within (at k) n) (at i) n))
 
 -- none of the n bytes from p on is sealed
-abbrev pub clear : Parameters → ℕ → ℕ → Bool
-clear M p n = misses (M .sealAt) (M .sealLen) p n
+abbrev pub clear : Parameters → (p n : ℕ) → Bool
+clear M p n = misses (M .isSealed) p n
 
 -- no byte of a row is sealed
-abbrev pub unsealed : Parameters → ℕ → ℕ → ℕ → ℕ → Bool
-unsealed M base stride rows n = rowsMiss (M .sealAt) (M .sealLen) base stride rows n
+abbrev pub unsealed : Parameters → (base stride rows n : ℕ) → Bool
+unsealed M base stride rows n = rowsMiss (M .isSealed) base stride rows n
 
 -- ---- rows stored
 

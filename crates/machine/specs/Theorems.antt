@@ -113,7 +113,7 @@ afterAll grant (w ∷ ws) B = afterAll grant ws (stepWith grant (w .word) (w .sc
 pub record Unharmed (grant : ℕ → ℕ → ℕ → ℕ) (B B′ : Bench) : Type 0 where
   pub same-parameters : parameters grant (B′ .machine) ≡ parameters grant (B .machine)
   pub same-length : length (B′ .memory) ≡ length (B .memory)
-  pub same-bytes : (q : ℕ) → sealed (parameters grant (B .machine)) q ≡ true → getD (B′ .memory) q 0 ≡ getD (B .memory) q 0
+  pub same-bytes : (q : ℕ) → sealed (B .machine) q ≡ true → getD (B′ .memory) q 0 ≡ getD (B .memory) q 0
 
 -- Demand 2: no byte of the seal changes, whatever words are stepped
 abbrev pub SealHolds : Type 0

@@ -8,7 +8,7 @@ use native.Mathlib.Omega.{arith}
 use lib.ListN.{length, getD, replicate}
 use Rattle.machine.specs.declared.Answer.the-variants.{Done, BadArguments}
 use Rattle.machine.specs.Answers.{reply}
-use Rattle.machine.specs.Geometry.{Parameters, parameters, sealed, Bench, benchOf}
+use Rattle.machine.specs.Geometry.{Parameters, parameters, Bench, benchOf}
 use Rattle.machine.specs.Starting.{startable, startMachine, StartOutcome, freshMachine, noMachine}
 use Rattle.machine.specs.Theorems.{Unharmed, startedBench}
 use Rattle.machine.proofs.TestLaws.{in-within}
@@ -33,7 +33,7 @@ then : (grant : ℕ → ℕ → ℕ → ℕ) (B C D : Bench) → Unharmed grant 
 then grant B C D u v = record {
   same-parameters = v .same-parameters ∙ u .same-parameters;
   same-length = v .same-length ∙ u .same-length;
-  same-bytes = λ q h. v .same-bytes q (subst (λ (M : Parameters). sealed M q ≡ true) (sym (u .same-parameters)) h) ∙ u .same-bytes q h;
+  same-bytes = λ q h. v .same-bytes q (subst (λ (M : Parameters). M .isSealed q ≡ true) (sym (u .same-parameters)) h) ∙ u .same-bytes q h;
 }
 
 -- ---- turns
@@ -116,9 +116,8 @@ module _ (grant : ℕ → ℕ → ℕ → ℕ) (rlen mlen elen rule sealStart se
   kept-from B mem e u =
       let p : parameters grant (B .machine) ≡ parameters grant (freshMachine rlen mlen elen rule sealStart sealLength) = u .same-parameters ∙ ap (parameters grant) (fresh e) in
       record {
-        same-start = ap (λ (M : Parameters). M .sealAt) p;
-        same-length = ap (λ (M : Parameters). M .sealLen) p;
-        same-bytes = λ q x. u .same-bytes q (subst (λ (M : Parameters). sealed M q ≡ true) (sym (ap (parameters grant) (fresh e))) (in-within sealStart sealLength q x));
+        same-seal = λ q. ap (λ (M : Parameters). M .isSealed q) p;
+        same-bytes = λ q x. u .same-bytes q (subst (λ (M : Parameters). M .isSealed q ≡ true) (sym (ap (parameters grant) (fresh e))) (in-within sealStart sealLength q x));
       }
 
 pub seal-holds-over-acts-from-start : SealHoldsOverActsFromStart

@@ -13,8 +13,8 @@ use Rattle.width.specs.Tile.{In}
 use Rattle.width.specs.Blocks.{EachGrants}
 use Rattle.width.proofs.BlockLaws.{le-or-lt}
 use Rattle.machine.specs.Tests.{all, every, within, isIn}
-use Rattle.machine.proofs.TestLaws.{all-true, all-at, every-each, each-every, within-not, not-within, or-right, false-true}
-use Rattle.machine.specs.Geometry.{Parameters, parameters, permitted}
+use Rattle.machine.proofs.TestLaws.{all-true, all-at, every-each, each-every, within-not, not-within, fails-not, not-fails, or-right, false-true}
+use Rattle.machine.specs.Geometry.{Parameters, parameters, sealed, permitted}
 use Rattle.machine.specs.Setting.{sew, mill, newType}
 use Rattle.machine.specs.Memory.{inMemory, rowZ, inside, distinct, unsealed}
 use Rattle.machine.proofs.StoreLaws.{distinct-at, at-distinct}
@@ -116,7 +116,7 @@ module _ (grant : ℕ → ℕ → ℕ → ℕ) (m : Machine) (P : Plan) where
         rows = distinct-at (cAt P) (P .m) (P .n * wide P) (t .0);
         from-a = apart-at (aAt P) (aRows P) (aColumns P * narrow P) (cAt P) (P .m) (P .n * wide P) (t .1 .0);
         from-b = apart-at (bAt P) (P .k) (P .n * narrow P) (cAt P) (P .m) (P .n * wide P) (t .1 .1 .0);
-        from-seal = λ i q l x. within-not (M .sealAt) (M .sealLen) q
+        from-seal = λ i q l x. not-fails (sealed m q)
             (clear-at M (cAt P i) (P .n * wide P) (unsealed-at M (P .c .address) (P .c .stride) (P .m) (P .n * wide P) (t .1 .1 .1 .0) i l) q x);
       }
 
@@ -130,7 +130,7 @@ module _ (grant : ℕ → ℕ → ℕ → ℕ) (m : Machine) (P : Plan) where
         at-apart (bAt P) (P .k) (P .n * narrow P) (cAt P) (P .m) (P .n * wide P) (h .from-b),
         (
           unsealed-true M (P .c .address) (P .c .stride) (P .m) (P .n * wide P) (λ i l.
-              clear-true M (cAt P i) (P .n * wide P) (λ q x. not-within (M .sealAt) (M .sealLen) q (h .from-seal i q l x))),
+              clear-true M (cAt P i) (P .n * wide P) (λ q x. fails-not (sealed m q) (h .from-seal i q l x))),
           tt,
         ),
       ),

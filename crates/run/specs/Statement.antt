@@ -11,7 +11,7 @@ use Rattle.width.specs.Tile.{In}
 use Rattle.width.specs.Blocks.{EachGrants}
 use Rattle.machine.specs.declared.Machine.{Machine}
 use Rattle.machine.specs.declared.Reply.{Reply}
-use Rattle.machine.specs.Geometry.{parameters, Bench}
+use Rattle.machine.specs.Geometry.{parameters, sealed, Bench}
 use Rattle.machine.specs.Setting.{smaller, halving, chosen}
 use Rattle.machine.specs.Memory.{rowZ}
 use Rattle.machine.specs.Operation.{element}
@@ -55,7 +55,7 @@ pub record Separate (m : Machine) (P : Plan) : Type 0 where
   pub rows : (i k q : ℕ) → i < k → k < P .m → In (cAt P i) (P .n * wide P) q → ¬ In (cAt P k) (P .n * wide P) q
   pub from-a : (i k q : ℕ) → i < aRows P → k < P .m → In (aAt P i) (aColumns P * narrow P) q → ¬ In (cAt P k) (P .n * wide P) q
   pub from-b : (i k q : ℕ) → i < P .k → k < P .m → In (bAt P i) (P .n * narrow P) q → ¬ In (cAt P k) (P .n * wide P) q
-  pub from-seal : (i q : ℕ) → i < P .m → In (cAt P i) (P .n * wide P) q → ¬ In (m .«seal_start») (m .«seal_length») q
+  pub from-seal : (i q : ℕ) → i < P .m → In (cAt P i) (P .n * wide P) q → ¬ (sealed m q ≡ true)
 
 -- the answer to a start: "Answer 8 for .. then 6 for an element outside memory; then 9", and 0 exactly where all three hold
 pub record Answered (P : Plan) (B : Bench) (a : Reply) : Type 0 where

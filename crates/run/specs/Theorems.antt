@@ -5,7 +5,8 @@ use mathlib.Core.Option.{none}
 use Prim.Native.Nat.{ℕ}
 use lib.ListN.{getD}
 use Rattle.width.specs.Tile.{In}
-use Rattle.machine.specs.Geometry.{Bench, benchOf}
+use Rattle.machine.specs.Tests.{within}
+use Rattle.machine.specs.Geometry.{sealed, Bench, benchOf}
 use Rattle.machine.specs.Starting.{startMachine}
 use Rattle.machine.specs.Vectors.{Vectors}
 use Rattle.machine.specs.Theorems.{startedBench, Unharmed}
@@ -50,8 +51,7 @@ SealHoldsOverActs = (grant : ℕ → ℕ → ℕ → ℕ) (acts : List Act) (S :
 
 -- a bench with this seal, whose sealed bytes are those of this memory
 pub record SealKept (sealStart sealLength : ℕ) (memory : List ℕ) (B : Bench) : Type 0 where
-  pub same-start : B .machine .«seal_start» ≡ sealStart
-  pub same-length : B .machine .«seal_length» ≡ sealLength
+  pub same-seal : (q : ℕ) → sealed (B .machine) q ≡ within sealStart sealLength q
   pub same-bytes : (q : ℕ) → In sealStart sealLength q → getD (B .memory) q 0 ≡ getD memory q 0
 
 -- and from a started machine, with any scalars and vector file and whatever run was there before: the range that it was started with

@@ -1,5 +1,5 @@
 -- A turn: a step is asked for and, if one is handed out, carried out with the run's own scalars.
-use mathlib.Core.Bool.{Bool, true, cond}
+use mathlib.Core.Bool.{Bool, true, false, cond}
 use mathlib.Core.List.{List, [], _∷_}
 use mathlib.Core.Option.{Option, none, some, Option·getD}
 use Prim.Native.Nat.{ℕ, zero, suc, _+_}
@@ -30,7 +30,7 @@ use Rattle.run.specs.Start.{planned}
 
 -- the blocks that a run goes by: those of the machine that it was started on, by its rule
 abbrev pub runParameters : (ℕ → ℕ → ℕ → ℕ) → Run → Parameters
-runParameters grant R = parametersOf (grant (R .rule)) (R .rlen) (R .mlen) (R .elen) 0 0
+runParameters grant R = parametersOf (grant (R .rule)) (R .rlen) (R .mlen) (R .elen) (λ q. false)
 
 abbrev pub runShape : (ℕ → ℕ → ℕ → ℕ) → Run → Shape
 runShape grant R = record {

@@ -1,6 +1,6 @@
 -- The checks that a store makes once the tile's sizes are checked: answers 5, 6, 13 and 7. Row i of the tile starts in the registers at
 -- start + i * pitch; in memory it has so many lines of n bytes each.
-use mathlib.Core.Bool.{false}
+use mathlib.Core.Bool.{Bool, false}
 use mathlib.Core.List.{List, [], _∷_}
 use Prim.Native.Nat.{ℕ, _+_, _*_, _≤_, _<_}
 use Rattle.machine.specs.declared.Answer.the-variants.{OutsideMemory, SealedByte, RowsOverlap}
@@ -21,12 +21,12 @@ memoryCheck len base stride rows n = inside len base stride rows n otherwise Out
 abbrev pub overlapCheck : (base stride rows n : ℕ) → Check
 overlapCheck base stride rows n = distinct (rowAt base stride) rows n otherwise RowsOverlap
 
-abbrev pub sealCheck : (seal size base stride rows n : ℕ) → Check
-sealCheck seal size base stride rows n = rowsMiss seal size base stride rows n otherwise SealedByte
+abbrev pub sealCheck : (ℕ → Bool) → (base stride rows n : ℕ) → Check
+sealCheck isSealed base stride rows n = rowsMiss isSealed base stride rows n otherwise SealedByte
 
-abbrev pub storeChecks : (seal size : ℕ) → List ℕ → (start pitch len base stride rows cols w lines n : ℕ) → List Check
-storeChecks seal size marks start pitch len base stride rows cols w lines n =
+abbrev pub storeChecks : (ℕ → Bool) → List ℕ → (start pitch len base stride rows cols w lines n : ℕ) → List Check
+storeChecks isSealed marks start pitch len base stride rows cols w lines n =
     marksCheck marks start pitch rows cols w
     ∷ memoryCheck len base stride lines n
     ∷ overlapCheck base stride lines n
-    ∷ sealCheck seal size base stride lines n ∷ []
+    ∷ sealCheck isSealed base stride lines n ∷ []

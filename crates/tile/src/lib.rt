@@ -17,6 +17,7 @@ ghost use mathlib.Core.List.{[], _∷_};
 ghost use Prim.Native.Nat.{_+_, _*_, _^_, _≤_, _<_};
 ghost use lib.ListN.{length};
 ghost use Rattle.width.specs.Tile.{putTile, markTile};
+ghost use Rattle.machine.specs.Tests.{within};
 ghost use Rattle.machine.specs.Memory.{rowAt, inside};
 ghost use Rattle.machine.specs.Operation.{element};
 ghost use Rattle.machine.specs.Refusals.{marked, needs};
@@ -182,7 +183,7 @@ pub fn store_checked(
     requires { ⌜ cols * w ≤ pitch ⌝ }
     requires { ⌜ len < 2 ^ 63 ⌝ }
     requires { ⌜ lines * bytes < 2 ^ 63 ⌝ }
-    ensures { λ r. ⌜ r ≡ verdict (storeChecks seal size (now (marks .entry)) start pitch len base stride rows cols w lines bytes) ⌝ }
+    ensures { λ r. ⌜ r ≡ verdict (storeChecks (within seal size) (now (marks .entry)) start pitch len base stride rows cols w lines bytes) ⌝ }
 {
     let at = base as usize;
     let written = first_unmarked(marks, start, pitch, rows, cols, w);

@@ -1,15 +1,15 @@
 use mathlib.Core.Path.{refl}
 use native.Mathlib.Omega.{arith}
-use Rattle.address.proofs.SealLaws.{sealedBy, clear-no-bytes, clear-no-seal, clear-below, clear-not, clear-from}
+use Rattle.address.proofs.SealLaws.{misses-no-bytes, misses-no-seal, misses-below, misses-not, misses-from}
 use borrow.Author.Needs.{needs}
 use Rattle.address.proofs.is_clear.Statement.{statement}
 use Rattle.address.proofs.is_clear.Tie as tie
 
 returns : tie.Need-returns
-returns c = let a = c .before .args in clear-no-bytes (sealedBy (a .seal) (a .size)) (a .p) (a .n) (c .if1 .taken)
+returns c = let a = c .before .args in misses-no-bytes (a .seal) (a .size) (a .p) (a .n) (c .if1 .taken)
 
 returns-2 : tie.Need-returns-2
-returns-2 c = let a = c .before .before .args in clear-no-seal (sealedBy (a .seal) (a .size)) (a .p) (a .n) (c .before .if1 .left) (c .if2 .taken)
+returns-2 c = let a = c .before .before .args in misses-no-seal (a .seal) (a .size) (a .p) (a .n) (c .before .if1 .left) (c .if2 .taken)
 
 add-end : tie.Need-add-end
 add-end c = search needs
@@ -17,12 +17,12 @@ add-end c = search needs
 returns-3 : tie.Need-returns-3
 returns-3 c =
     let a = c .before .before .before .args in
-    clear-below (sealedBy (a .seal) (a .size)) (a .p) (a .n) (c .before .before .if1 .left) (c .before .if2 .left) (omega arith)
+    misses-below (a .seal) (a .size) (a .p) (a .n) (c .before .before .if1 .left) (c .before .if2 .left) (omega arith)
 
 returns-4 : tie.Need-returns-4
 returns-4 c =
     let a = c .before .before .before .before .args in
-    clear-not (sealedBy (a .seal) (a .size)) (a .p) (a .n) (c .before .before .before .if1 .left) (c .before .before .if2 .left) (omega arith) (omega arith)
+    misses-not (a .seal) (a .size) (a .p) (a .n) (c .before .before .before .if1 .left) (c .before .before .if2 .left) (omega arith) (omega arith)
 
 sub-last : tie.Need-sub-last
 sub-last c = search needs
@@ -30,7 +30,7 @@ sub-last c = search needs
 returns-5 : tie.Need-returns-5
 returns-5 c =
     let a = c .before .before .before .before .args in
-    clear-from (sealedBy (a .seal) (a .size)) (a .p) (a .n) (c .before .before .before .if1 .left) (c .before .before .if2 .left) (a .seal) (a .size) refl refl (c .if4 .left)
+    misses-from (a .seal) (a .size) (a .p) (a .n) (c .before .before .before .if1 .left) (c .before .before .if2 .left) (c .if4 .left)
 
 pub is-clear-spec : {M : Type 1} → statement M
 is-clear-spec =

@@ -5,23 +5,23 @@ use native.Mathlib.Nat.{le-mul-of-pos-right}
 use native.Mathlib.Omega.{arith}
 use mir.Syntax.{w64}
 use mir.Val.{toZ, ofZ}
-use Rattle.machine.specs.Tests.{all}
+use Rattle.machine.specs.Tests.{all, within}
 use Rattle.machine.specs.Memory.{rowAt, misses}
 use Rattle.address.proofs.TestLaws.{all-next, test-failed, test-passed}
 use Rattle.address.proofs.AddressLaws.{step, passed-on, row-inside, row-reached, row-starts}
-use Rattle.address.proofs.SealLaws.{sealedBy, unsealed-no-bytes, unsealed-not, unsealed-all}
+use Rattle.address.proofs.SealLaws.{miss-no-bytes, miss-not, miss-all}
 use Rattle.address.proofs.rows_unsealed.Statement.{statement}
 use Rattle.address.proofs.rows_unsealed.Tie as tie
 
 abbrev Inv-loop : tie.InvT-loop
 Inv-loop len seal size base stride rows bytes i₀ i =
-    (i ≤ rows) × (all i (λ k. misses seal size (rowAt base stride k) bytes) ≡ true)
+    (i ≤ rows) × (all i (λ k. misses (within seal size) (rowAt base stride k) bytes) ≡ true)
 
 abbrev μ-loop : tie.MeasureT-loop
 μ-loop len seal size base stride rows bytes i₀ i = rows - i
 
 returns : tie.Need-returns Inv-loop μ-loop
-returns c = let a = c .before .args in unsealed-no-bytes (sealedBy (a .seal) (a .size)) (a .base) (a .stride) (a .rows) (a .bytes) (c .if1 .taken)
+returns c = let a = c .before .args in miss-no-bytes (a .seal) (a .size) (a .base) (a .stride) (a .rows) (a .bytes) (c .if1 .taken)
 
 loop-holds : tie.Need-loop-holds Inv-loop μ-loop
 loop-holds c = (omega arith, refl)
@@ -62,8 +62,8 @@ returns-2 c =
     let d = c .before .before in
     let t = d .before .before in
     let a = t .before .before .before .args in
-    unsealed-not (sealedBy (a .seal) (a .size)) (a .base) (a .stride) (a .rows) (a .bytes) (t .before .loop .i) (d .row-address .result) (t .loop-test .taken) (here d .0)
-    (sym (test-failed (c .before .is-clear .result) (misses (a .seal) (a .size) (d .row-address .result) (a .bytes)) (c .before .is-clear .ensures) (c .if2 .taken)))
+    miss-not (a .seal) (a .size) (a .base) (a .stride) (a .rows) (a .bytes) (t .before .loop .i) (d .row-address .result) (t .loop-test .taken) (here d .0)
+    (sym (test-failed (c .before .is-clear .result) (misses (within (a .seal) (a .size)) (d .row-address .result) (a .bytes)) (c .before .is-clear .ensures) (c .if2 .taken)))
 
 add-i : tie.Need-add-i Inv-loop μ-loop
 add-i c = omega (arith, c .before .before .before .before .loop-test .taken)
@@ -79,15 +79,15 @@ loop-again c =
     let l = t .before .loop in
     let r = c .before .is-clear in (
       omega (arith, t .loop-test .taken),
-      all-next (l .i) (λ k. misses (a .seal) (a .size) (rowAt (a .base) (a .stride) k) (a .bytes)) (l .inv .1)
-          (ap (λ (x : ℕ). misses (a .seal) (a .size) x (a .bytes)) (sym (here d .0)) ∙ test-passed (r .result) (misses (a .seal) (a .size) (d .row-address .result) (a .bytes)) (r .ensures) (c .if2 .left)),
+      all-next (l .i) (λ k. misses (within (a .seal) (a .size)) (rowAt (a .base) (a .stride) k) (a .bytes)) (l .inv .1)
+          (ap (λ (x : ℕ). misses (within (a .seal) (a .size)) x (a .bytes)) (sym (here d .0)) ∙ test-passed (r .result) (misses (within (a .seal) (a .size)) (d .row-address .result) (a .bytes)) (r .ensures) (c .if2 .left)),
     )
 
 returns-3 : tie.Need-returns-3 Inv-loop μ-loop
 returns-3 c =
     let a = c .before .before .before .args in
     let l = c .before .loop in
-    unsealed-all (sealedBy (a .seal) (a .size)) (a .base) (a .stride) (a .rows) (a .bytes) (l .i) (omega arith) (l .inv .1)
+    miss-all (a .seal) (a .size) (a .base) (a .stride) (a .rows) (a .bytes) (l .i) (omega arith) (l .inv .1)
 
 pub rows-unsealed-spec : {M : Type 1} → statement M
 rows-unsealed-spec =

@@ -5,6 +5,7 @@ use Prim.Native.Nat.{_*_}
 use lib.ListN.{length}
 use borrow.Author.Needs.{needs}
 use Rattle.machine.specs.Answers.{Check, isDone}
+use Rattle.machine.specs.Tests.{within}
 use Rattle.machine.specs.Memory.{rowAt, inside, distinct, rowsMiss}
 use Rattle.machine.proofs.CheckLaws.{no-refusal}
 use Rattle.address.proofs.TestLaws.{test-failed, test-passed}
@@ -25,7 +26,7 @@ abbrev thirteen : tie.Start → Check
 thirteen s = let a = s .args in overlapCheck (a .base) (a .stride) (a .lines) (a .bytes)
 
 abbrev seven : tie.Start → Check
-seven s = let a = s .args in sealCheck (a .seal) (a .size) (a .base) (a .stride) (a .lines) (a .bytes)
+seven s = let a = s .args in sealCheck (within (a .seal) (a .size)) (a .base) (a .stride) (a .lines) (a .bytes)
 
 first-unmarked-requires : tie.Need-first-unmarked-requires
 first-unmarked-requires c κs =
@@ -106,7 +107,7 @@ returns-4 c =
     let a = s .args in
     let u = c .before .rows-unsealed in
     answer-after (five s ∷ six s ∷ thirteen s ∷ []) (five-holds d, (six-holds g, (thirteen-holds h, tt))) (seven s)
-    (test-failed (u .result) (rowsMiss (a .seal) (a .size) (a .base) (a .stride) (a .lines) (a .bytes)) (u .ensures) (c .if4 .taken))
+    (test-failed (u .result) (rowsMiss (within (a .seal) (a .size)) (a .base) (a .stride) (a .lines) (a .bytes)) (u .ensures) (c .if4 .taken))
     []
 
 returns-5 : tie.Need-returns-5
@@ -117,7 +118,7 @@ returns-5 c =
     let s = d .before .before .before .before in
     let a = s .args in
     let u = c .before .rows-unsealed in
-    let clear = test-passed (u .result) (rowsMiss (a .seal) (a .size) (a .base) (a .stride) (a .lines) (a .bytes)) (u .ensures) (c .if4 .left) in
+    let clear = test-passed (u .result) (rowsMiss (within (a .seal) (a .size)) (a .base) (a .stride) (a .lines) (a .bytes)) (u .ensures) (c .if4 .left) in
     sym (no-refusal (five s ∷ six s ∷ thirteen s ∷ seven s ∷ []) (five-holds d, (six-holds g, (thirteen-holds h, (clear, tt)))))
 
 pub store-checked-spec : {M : Type 1} → statement M

@@ -9,6 +9,7 @@ use Rattle.machine.specs.Answers.{Check, verdict, isDone}
 use Rattle.machine.specs.Operation.{memoryRows, memoryCols}
 use Rattle.machine.proofs.CheckLaws.{Passed, passed, no-refusal}
 use Rattle.address.proofs.TestLaws.{test-failed, test-passed}
+use Rattle.machine.specs.Tests.{within}
 use Rattle.tile.specs.Checks.{storeChecks}
 use Rattle.transfer.proofs.FormLaws.{line-small, all-bytes}
 use Rattle.transfer.proofs.store.Statement.{statement}
@@ -44,7 +45,7 @@ is-done-requires c κs = search needs
 abbrev checks : tie.Start → ℕ → ℕ → List Check
 checks s lines columns =
     let a = s .args in
-    storeChecks (a .seal) (a .size) (a .marks .now) (a .start) (a .pitch) (length (a .memory .now)) (a .base) (a .stride) (a .rows) (a .cols) (a .w) lines (columns * a .w)
+    storeChecks (within (a .seal) (a .size)) (a .marks .now) (a .start) (a .pitch) (length (a .memory .now)) (a .base) (a .stride) (a .rows) (a .cols) (a .w) lines (columns * a .w)
 
 abbrev checksOf : tie.Start → List Check
 checksOf s = let a = s .args in checks s (memoryRows (a .form) (a .rows) (a .cols)) (memoryCols (a .form) (a .rows) (a .cols))
