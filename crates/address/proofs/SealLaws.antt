@@ -30,15 +30,15 @@ module _ (seal size p n : ℕ) where
     misses-not l l′ = sym (misses-test h ∙ rw (ne-eqb size 0 g, lt-leb (p + n) seal l, lt-leb (seal + size) p l′))
 
     -- the bytes start at the seal or after it: it is its last byte that counts
-    pub misses-from : seal ≤ p → ltb (size - 1) (p - seal) ≡ misses (within seal size) p n
+    pub misses-from : seal ≤ p → ltb (seal + (size - 1)) p ≡ misses (within seal size) p n
     misses-from k = by (le-or-lt (seal + size) p)
       where
-        by : (seal + size ≤ p) ⊎ (p < seal + size) → ltb (size - 1) (p - seal) ≡ misses (within seal size) p n
+        by : (seal + size ≤ p) ⊎ (p < seal + size) → ltb (seal + (size - 1)) p ≡ misses (within seal size) p n
         by (inl l) =
             let m : seal < p + n = omega arith in
-            lt-ltb (size - 1) (p - seal) (omega arith)
+            lt-ltb (seal + (size - 1)) p (omega arith)
             ∙ sym (misses-test h ∙ rw (ne-eqb size 0 g, lt-leb (p + n) seal m, le-leb (seal + size) p l))
-        by (inr l) = le-ltb (size - 1) (p - seal) (omega arith) ∙ misses-not (omega arith) l
+        by (inr l) = le-ltb (seal + (size - 1)) p (omega arith) ∙ misses-not (omega arith) l
 
 module _ (seal size base stride rows n : ℕ) where
   pub miss-no-bytes : n ≡ 0 → true ≡ rowsMiss (within seal size) base stride rows n

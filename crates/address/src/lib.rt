@@ -1,5 +1,5 @@
 // Where the rows of a tile lie in memory: row i at base + i * stride. The stride is signed, so rows go down as well as up. The tests
-// on all rows: in memory, no byte in two of them, none sealed.
+// on all rows: in memory, no byte in two of them, none in a range.
 ghost use mathlib.Core.Path.{_≡_};
 ghost use mathlib.Core.Bool.{true, false};
 ghost use Prim.Native.Nat.{_+_, _*_, _^_, _<_};
@@ -94,8 +94,8 @@ pub fn rows_distinct(len: usize, base: usize, stride: u64, rows: usize, bytes: u
     bytes <= magnitude(as_signed(stride))
 }
 
-// Whether the n bytes from p on and the seal share none.
-fn is_clear(seal: u64, size: u64, p: usize, n: usize) -> bool
+// Whether the n bytes from p on miss the range.
+pub fn misses_range(seal: u64, size: u64, p: usize, n: usize) -> bool
     requires { ⌜ p + n < 2 ^ 64 ⌝ }
     ensures { λ r. ⌜ r ≡ misses (within seal size) p n ⌝ }
 {
@@ -114,11 +114,14 @@ fn is_clear(seal: u64, size: u64, p: usize, n: usize) -> bool
         return false;
     }
     let last = size - 1;
-    first - seal > last
+    if last > 18446744073709551615 - seal {
+        return false;
+    }
+    first > seal + last
 }
 
-// Whether no byte of the rows, which lie in memory, is sealed.
-pub fn rows_unsealed(
+// Whether the rows, which lie in memory, miss a range.
+pub fn rows_miss(
     len: usize,
     seal: u64,
     size: u64,
@@ -138,7 +141,7 @@ pub fn rows_unsealed(
     let mut i = 0;
     while i < rows {
         let at = row_address(base, as_signed(stride), i);
-        if !is_clear(seal, size, at, bytes) {
+        if !misses_range(seal, size, at, bytes) {
             return false;
         }
         i += 1;

@@ -108,7 +108,7 @@ module _ (grant : ℕ → ℕ → ℕ → ℕ) (m : Machine) (registers marks me
       × (((m .«tile_m» ≤ M .rows) × ((m .«tile_k» ≤ M .rows) × (m .«tile_k» ≤ mostPitch)))
       × ((m .«tile_n» ≤ mostPitch) × ((m .«tile_n» * w ≤ M .pitch) × (m .«tile_k» * w ≤ M .pitch))))))))
 
-  pub multiply-ready : (f d a b : ℕ) → (d < 2) × ((a < 8) × (b < 8)) → Passed (checks M (multiply f d a b) st mem) → Multiplies f d a b
+  pub multiply-ready : (f d a b : ℕ) → (d < 2) × ((a < 8) × (b < 8)) → Passed (checks M (λ q. false) (multiply f d a b) st mem) → Multiplies f d a b
   multiply-ready f d a b regs p =
       let x = widths (m .elen) (m .mtype) f known (p .1 .0) in
       let hm = leb-true (m .«tile_m») (M .rows) (p .1 .1 .0) in
@@ -148,8 +148,8 @@ module _ (grant : ℕ → ℕ → ℕ → ℕ) (m : Machine) (registers marks me
       let n = fit (m .«tile_n») (M .pitch) w (x .0) (leb-true (m .«tile_n») (M .pitch / w) h3) in
       (regs, (bytes, (x .0, (x .1, (x .2, (leb-true (m .«tile_m») (M .rows) h2, (omega (arith, bytes, n), n .0)))))))
 
-  pub combine-ready : (o : Sum) (f d a : ℕ) → (d < 2) × (a < 2) → Passed (checks M (combine o f d a) st mem) → Combines f d a
+  pub combine-ready : (o : Sum) (f d a : ℕ) → (d < 2) × (a < 2) → Passed (checks M (λ q. false) (combine o f d a) st mem) → Combines f d a
   combine-ready o f d a regs p = combines f d a regs (p .1 .0) (p .1 .1 .0) (p .1 .1 .1 .0)
 
-  pub scale-ready : (f d a : ℕ) (z : ℤ) → (d < 2) × (a < 2) → Passed (checks M (scale f d a z) st mem) → Combines f d a
+  pub scale-ready : (f d a : ℕ) (z : ℤ) → (d < 2) × (a < 2) → Passed (checks M (λ q. false) (scale f d a z) st mem) → Combines f d a
   scale-ready f d a z regs p = combines f d a regs (p .1 .0) (p .1 .1 .0) (p .1 .1 .1 .0)

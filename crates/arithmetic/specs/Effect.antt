@@ -9,7 +9,7 @@ use Rattle.machine.specs.Operation.{productAt, sumAt, scaledAt}
 
 -- registers of that many rows and bytes a row; the rest counts for nothing here
 abbrev pub shape : ℕ → ℕ → Parameters
-shape rows pitch = record { rows = rows; pitch = pitch; elen = 0; grant = λ max asked. asked; isSealed = λ q. false }
+shape rows pitch = record { rows = rows; pitch = pitch; elen = 0; grant = λ max asked. asked }
 
 unfoldable pub productTile : Parameters → (wide narrow d a b m k n : ℕ) → List ℕ → List ℕ
 productTile M wide narrow d a b m k n s = putTile (accAt M d) m n wide (productAt M s wide narrow d a b k) s

@@ -14,7 +14,7 @@ use Rattle.machine.specs.declared.Matrix.the-variants.{MatrixA, MatrixB, Matrix
 use Rattle.machine.specs.Tests.{first}
 use Rattle.machine.specs.declared.Reply.{Reply}
 use Rattle.machine.specs.Answers.{reply, number, isDone, Check, verdict}
-use Rattle.machine.specs.Geometry.{Parameters, parameters, State, Bench, benchOf}
+use Rattle.machine.specs.Geometry.{sealed, Parameters, parameters, State, Bench, benchOf}
 use Rattle.machine.specs.Setting.{chosen}
 use Rattle.machine.specs.Listing.{decode}
 use Rattle.machine.specs.Operation.{Operation, illegal, setType, setSize, cutSize, load, store, multiply, combine, scale, floatMultiply, moveOut, moveIn, tileRows, tileCols, linesOf, sliceRows, sliceCols}
@@ -29,7 +29,8 @@ use Rattle.machine.specs.declared.Form.the-variants.{Plain, Transposed}
 use Rattle.machine.proofs.TestLaws.{first-le}
 use Rattle.machine.proofs.AnswerLaws.{number-small}
 use Rattle.machine.proofs.StepLaws.{permitted-bounds}
-use Rattle.machine.proofs.NoFault.{sound-is}
+use Rattle.machine.proofs.NoFault.{bench-sound, sound-is}
+use Rattle.ranges.specs.Ranges.{sealsIn}
 use Rattle.blocks.specs.Blocks.{machineBytes, machineOf, scalarBytes, valuesOf, packed}
 use Rattle.bench_calls.specs.BenchCalls.{hostStep}
 use Rattle.bench_calls.specs.Theorems.{StepPacksWhole}
@@ -80,22 +81,22 @@ module _ (M : Parameters) (st : State) (mem : List ℕ) (hm : st .tileM ≤ 1024
   slice-small Plain start count p q h = (omega (arith, leb-true (start + count) (st .tileM) h, first-le count p), omega (arith, first-le (st .tileN) q))
   slice-small Transposed start count p q h = (omega (arith, first-le (st .tileM) p), omega (arith, leb-true (start + count) (st .tileN) h, first-le count q))
 
-  checks-small : (o : Operation) → EachSmall (checks M o st mem)
-  checks-small (illegal Opcode) = (zeros, λ _. tt)
-  checks-small (illegal LeftOut) = (zeros, λ _. tt)
-  checks-small (illegal Unlisted) = (zeros, λ _. tt)
-  checks-small (illegal Register) = (zeros, λ _. tt)
-  checks-small (setType v) = tt
-  checks-small (setSize d a) = (zeros, λ _. tt)
-  checks-small (cutSize d) = (zeros, λ _. tt)
-  checks-small (load f k r w base stride) = (zeros, λ _. (zeros, λ _. (zeros, λ _. (zeros, λ _. (zeros, λ _. tt)))))
-  checks-small (store f k r w base stride) = (zeros, λ _. (zeros, λ _. (zeros, λ _. (zeros, λ _. (within _ _ _ _ (rows-small k) (cols-small k), λ _. (zeros, λ _. (zeros, λ _. (zeros, λ _. tt))))))))
-  checks-small (multiply f d a b) = (zeros, λ _. (zeros, λ _. (zeros, λ _. (zeros, λ _. (zeros, λ _. (within _ _ _ _ hm hk, λ _. (within _ _ _ _ hk hn, λ _. (within _ _ _ _ hm hn, λ _. tt))))))))
-  checks-small (combine o f d a) = (zeros, λ _. (zeros, λ _. (zeros, λ _. (zeros, λ _. (within _ _ _ _ hm hn, λ _. (within _ _ _ _ hm hn, λ _. tt))))))
-  checks-small (scale f d a x) = (zeros, λ _. (zeros, λ _. (zeros, λ _. (zeros, λ _. (within _ _ _ _ hm hn, λ _. tt)))))
-  checks-small (floatMultiply d a b) = (zeros, λ _. (zeros, λ _. (zeros, λ _. (zeros, λ _. (zeros, λ _. (within _ _ _ _ hm hk, λ _. (within _ _ _ _ hk hn, λ _. (within _ _ _ _ hm hn, λ _. tt))))))))
-  checks-small (moveOut f a v start count) = (zeros, λ _. (zeros, λ _. (zeros, λ _. (zeros, λ h. (zeros, λ _. (slice-small f start count _ _ h, λ _. tt))))))
-  checks-small (moveIn f d v start count file) = (zeros, λ _. (zeros, λ _. (zeros, λ _. (zeros, λ _. (zeros, λ _. tt)))))
+  checks-small : (isSealed : ℕ → Bool) (o : Operation) → EachSmall (checks M isSealed o st mem)
+  checks-small z (illegal Opcode) = (zeros, λ _. tt)
+  checks-small z (illegal LeftOut) = (zeros, λ _. tt)
+  checks-small z (illegal Unlisted) = (zeros, λ _. tt)
+  checks-small z (illegal Register) = (zeros, λ _. tt)
+  checks-small z (setType v) = tt
+  checks-small z (setSize d a) = (zeros, λ _. tt)
+  checks-small z (cutSize d) = (zeros, λ _. tt)
+  checks-small z (load f k r w base stride) = (zeros, λ _. (zeros, λ _. (zeros, λ _. (zeros, λ _. (zeros, λ _. tt)))))
+  checks-small z (store f k r w base stride) = (zeros, λ _. (zeros, λ _. (zeros, λ _. (zeros, λ _. (within _ _ _ _ (rows-small k) (cols-small k), λ _. (zeros, λ _. (zeros, λ _. (zeros, λ _. tt))))))))
+  checks-small z (multiply f d a b) = (zeros, λ _. (zeros, λ _. (zeros, λ _. (zeros, λ _. (zeros, λ _. (within _ _ _ _ hm hk, λ _. (within _ _ _ _ hk hn, λ _. (within _ _ _ _ hm hn, λ _. tt))))))))
+  checks-small z (combine o f d a) = (zeros, λ _. (zeros, λ _. (zeros, λ _. (zeros, λ _. (within _ _ _ _ hm hn, λ _. (within _ _ _ _ hm hn, λ _. tt))))))
+  checks-small z (scale f d a x) = (zeros, λ _. (zeros, λ _. (zeros, λ _. (zeros, λ _. (within _ _ _ _ hm hn, λ _. tt)))))
+  checks-small z (floatMultiply d a b) = (zeros, λ _. (zeros, λ _. (zeros, λ _. (zeros, λ _. (zeros, λ _. (within _ _ _ _ hm hk, λ _. (within _ _ _ _ hk hn, λ _. (within _ _ _ _ hm hn, λ _. tt))))))))
+  checks-small z (moveOut f a v start count) = (zeros, λ _. (zeros, λ _. (zeros, λ _. (zeros, λ h. (zeros, λ _. (slice-small f start count _ _ h, λ _. tt))))))
+  checks-small z (moveIn f d v start count file) = (zeros, λ _. (zeros, λ _. (zeros, λ _. (zeros, λ _. (zeros, λ _. tt)))))
 
 -- ---- a step
 
@@ -103,7 +104,7 @@ module _ (M : Parameters) (st : State) (mem : List ℕ) (hm : st .tileM ≤ 1024
 sizes-small : (B : Bench) → soundBench B ≡ true → (B .machine .«tile_m» ≤ 1024) × (B .machine .«tile_k» ≤ 1024) × (B .machine .«tile_n» ≤ 1024)
 sizes-small B h =
     let m = B .machine in
-    let s = sound-is m (B .registers) (B .marks) h in
+    let s = sound-is m (B .registers) (B .marks) (bench-sound B h) in
     let b = permitted-bounds (m .rlen) (m .mlen) (m .elen) (s .lengths) in
     let r : m .mlen / m .rlen ≤ 1024 = omega (arith, mul-le-mul-left (m .mlen / m .rlen) (b .0)) in
     (omega (arith, s .state .m-fits), omega (arith, s .state .k-fits), omega (arith, s .state .n-fits))
@@ -117,7 +118,7 @@ answer-small W M word xs B = last (vectorsFit W) (isDone (verdict cs)) (go (soun
     go : (t : Bool) → soundBench B ≡ t → Small (reply (verdict cs))
     go true e =
         let z = sizes-small B e in
-        verdict-small cs (zeros, λ _. (zeros, λ _. checks-small M (givenIn W M (decode word) xs B) (B .memory) (z .0) (z .1) (z .2) (meantIn W M (decode word) xs B)))
+        verdict-small cs (zeros, λ _. (zeros, λ _. checks-small M (givenIn W M (decode word) xs B) (B .memory) (z .0) (z .1) (z .2) (sealed (B .seals)) (meantIn W M (decode word) xs B)))
     go false e = rw e zeros
 
     last : (f t : Bool) → Small (reply (verdict cs))
@@ -137,4 +138,4 @@ pub packs-whole : StepPacksWhole
 unfolding hostStep
 packs-whole word group machine registers marks scalars memory file lm ls =
     rw (eq-eqb (length machine) machineBytes lm, eq-eqb (length scalars) scalarBytes ls)
-    (step-packs word (valuesOf scalars) (vectorsOf file group) (benchOf (machineOf machine) registers marks memory))
+    (step-packs word (valuesOf scalars) (vectorsOf file group) (benchOf (machineOf machine) (sealsIn machine) registers marks memory))

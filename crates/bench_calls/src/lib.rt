@@ -1,12 +1,13 @@
-// A start and a step of a machine as C calls them, on blocks of bytes. What each answers and leaves is defined in specs/.
+// A start of a machine, a step and the sealing of a range as C calls them, on blocks of bytes. What each answers and leaves is defined in specs/.
 use blocks::MACHINE_BYTES;
 use blocks::machine_of;
 use blocks::packed;
 use blocks::put_machine;
+use blocks::put_seals;
 use blocks::put_state;
 use machine::Answer;
 ghost use mathlib.Core.Path.{_≡_};
-ghost use Rattle.bench_calls.specs.BenchCalls.{startedOut, hostStart, steppedOut, hostStep};
+ghost use Rattle.bench_calls.specs.BenchCalls.{startedOut, hostStart, steppedOut, hostStep, sealedOut, hostSeal};
 
 // Starts a machine of this ELEN and rule on the lent register bytes and marks, and writes its numbers into the machine block.
 pub fn start(
@@ -14,34 +15,25 @@ pub fn start(
     mlen: u64,
     elen: u64,
     rule: u64,
-    seal_start: u64,
-    seal_length: u64,
+    seals: &[u64],
     machine: &mut [u8],
     registers: &[u8],
     marks: &mut [u8],
 ) -> u64
     ensures { λ r. ⌜ startedOut r (now (machine .exit)) (now (registers .entry)) (now (marks .exit))
-        ≡ hostStart rlen mlen elen rule «seal_start» «seal_length» (now (machine .entry)) (now (registers .entry)) (now (marks .entry)) ⌝ }
+        ≡ hostStart rlen mlen elen rule (now (seals .entry)) (now (machine .entry)) (now (registers .entry)) (now (marks .entry)) ⌝ }
 {
     if machine.len() != MACHINE_BYTES {
         return packed(Answer::BadArguments);
     }
-    let started = machine::start(
-        rlen,
-        mlen,
-        elen,
-        rule,
-        seal_start,
-        seal_length,
-        registers,
-        marks,
-    );
+    let started = machine::start(rlen, mlen, elen, rule, seals, registers, marks);
     let answer = started.answer;
     if !machine::is_done(answer) {
         return packed(answer);
     }
     let numbers = started.machine;
     put_machine(machine, numbers);
+    put_seals(machine, seals);
     packed(answer)
 }
 
@@ -68,6 +60,7 @@ pub fn step(
     let m = machine_of(machine);
     let stepped = scalar_block::step_block(
         m,
+        machine,
         registers,
         marks,
         scalars,
@@ -79,5 +72,18 @@ pub fn step(
     let next = stepped.machine;
     put_state(machine, next);
     let answer = stepped.answer;
+    packed(answer)
+}
+
+// Seals one more range of memory.
+pub fn seal(start: u64, length: u64, machine: &mut [u8], registers: &[u8], marks: &[u8]) -> u64
+    ensures { λ r. ⌜ sealedOut r (now (machine .exit)) (now (registers .entry)) (now (marks .entry))
+        ≡ hostSeal start length (now (machine .entry)) (now (registers .entry)) (now (marks .entry)) ⌝ }
+{
+    if machine.len() != MACHINE_BYTES {
+        return packed(Answer::BadArguments);
+    }
+    let m = machine_of(machine);
+    let answer = sealing::seal(start, length, m, machine, registers, marks);
     packed(answer)
 }

@@ -1,27 +1,32 @@
 -- Laws of the blocks: what is read back of what was written, and that a block written over with its own numbers stays.
-use mathlib.Core.Path.{_≡_, refl, sym, ap, _∙_}
-use mathlib.Core.Logic.{inl, inr}
+use mathlib.Core.Path.{_≡_, refl, sym, ap, ap₂, _∙_}
+use mathlib.Core.Logic.{_⊎_, inl, inr}
 use mathlib.Core.Bool.{Bool, true, false, cond}
 use mathlib.Core.List.{List, [], _∷_}
-use Prim.Native.Nat.{ℕ, zero, suc, _+_, _*_, _%_, _^_, _<_}
-use native.Mathlib.Nat.{zero-add, mod-eq-of-lt, eq-or-lt-of-le, le-of-suc-le-suc}
+use Prim.Native.Nat.{ℕ, zero, suc, _+_, _-_, _*_, _/_, _%_, _^_, _≤_, _<_}
+use native.Mathlib.Nat.{div-add-mod', zero-add, mod-eq-of-lt, eq-or-lt-of-le, le-of-suc-le-suc, not-suc-le-zero}
 use native.Mathlib.Omega.{arith}
-use lib.ListN.{length, getD, length-append, List·getD-append}
+use lib.ListN.{length, getD, length-append, List·getD-append, List·getD-eq-default}
 use lib.Seq.{getD-at}
 use Rattle.width.specs.Upto.{upto}
-use Rattle.width.specs.Tile.{le, putLe, putRow}
+use Rattle.width.specs.Tile.{le, putLe, putRow, In}
 use Rattle.width.proofs.UptoLaws.{upto-cong}
 use Rattle.width.proofs.PutLaws.{upto-add}
-use Rattle.width.proofs.TileLaws.{le-cong, putRow-out}
+use Rattle.width.proofs.TileLaws.{le-cong, length-putRow, putRow-out}
 use Rattle.width.proofs.WordLaws.{le-putRow, putRow-same}
 use Rattle.machine.specs.declared.Machine.{Machine}
 use Rattle.machine.specs.declared.Reply.{Reply}
 use Rattle.machine.specs.declared.Answer.the-variants.{Done, BadArguments}
 use Rattle.machine.specs.Answers.{reply, done, verdict, isDone}
-use Rattle.machine.specs.Geometry.{Parameters, parameters, Bench}
+use Rattle.machine.specs.Geometry.{Range, range, Parameters, parameters, Bench}
+use Rattle.machine.specs.Starting.{ranges}
+use Rattle.machine.proofs.StartLaws.{ranges-count}
 use Rattle.machine.specs.Listing.{decode}
 use Rattle.machine.specs.Vectors.{Vectors, vectorsFit, idle}
 use Rattle.machine.specs.Step.{checksIn, carriedIn, refusedIn, outcomeIn, vectorsIn, beside, stepWith, outcome, stepBy}
+use Rattle.ranges.specs.Ranges.{sealsIn, putRange, putSeals}
+use Rattle.ranges.proofs.RangeLaws.{seals-same}
+use Rattle.ranges.proofs.PutLaws.{putSeals-out}
 use Rattle.blocks.specs.Blocks.{Bytes, machineBytes, machineOf, putMachine, Kept, firstValues, valuesOf, putValues, packed}
 
 -- ---- values of eight bytes, one after another
@@ -76,17 +81,33 @@ module _ (f : ℕ → ℕ) (xs : List ℕ) where
 
 -- ---- the machine's block
 
--- the numbers in their order
-abbrev numbersOf : Machine → List ℕ
-numbersOf m = m .rlen ∷ m .mlen ∷ m .mtype ∷ m .«tile_m» ∷ m .«tile_k» ∷ m .«tile_n» ∷ m .«seal_start» ∷ m .«seal_length» ∷ m .rule ∷ m .elen ∷ []
+-- the numbers before the first range, and those behind it
+abbrev frontOf : Machine → List ℕ
+frontOf m = m .rlen ∷ m .mlen ∷ m .mtype ∷ m .«tile_m» ∷ m .«tile_k» ∷ m .«tile_n» ∷ []
 
-putMachine-row : (m : Machine) (b : List ℕ) → putMachine m b ≡ putRow 0 10 8 (λ j. getD (numbersOf m) j 0) b
+abbrev backOf : Machine → List ℕ
+backOf m = m .rule ∷ m .elen ∷ []
+
+abbrev front : Machine → List ℕ → List ℕ
+front m b = putRow 0 6 8 (λ j. getD (frontOf m) j 0) b
+
+putMachine-rows : (m : Machine) (b : List ℕ) → putMachine m b ≡ putRow 64 2 8 (λ j. getD (backOf m) j 0) (front m b)
 unfolding putMachine putRow
-putMachine-row m b = refl
+putMachine-rows m b = refl
 
-numbersOf-machineOf : (b : List ℕ) → numbersOf (machineOf b) ≡ firstValues 10 b
-unfolding machineOf
-numbersOf-machineOf b = refl
+-- a byte that is none of these numbers'
+pub putMachine-out : (m : Machine) (b : List ℕ) (q : ℕ) → ¬ In 0 48 q → ¬ In 64 16 q → getD (putMachine m b) q 0 ≡ getD b q 0
+putMachine-out m b q h g =
+    ap (λ (x : List ℕ). getD x q 0) (putMachine-rows m b)
+    ∙ putRow-out 64 2 8 (λ j. getD (backOf m) j 0) (front m b) q g ∙ putRow-out 0 6 8 (λ j. getD (frontOf m) j 0) b q h
+
+pub length-putMachine : (m : Machine) (b : List ℕ) → length (putMachine m b) ≡ length b
+length-putMachine m b =
+    ap length (putMachine-rows m b) ∙ length-putRow 64 2 8 (λ j. getD (backOf m) j 0) (front m b) ∙ length-putRow 0 6 8 (λ j. getD (frontOf m) j 0) b
+
+-- and so the ranges stay
+pub putMachine-seals : (m : Machine) (b : List ℕ) → sealsIn (putMachine m b) ≡ sealsIn b
+putMachine-seals m b = seals-same (putMachine m b) b (length-putMachine m b) (λ q l g. putMachine-out m b q (λ h. omega (arith, h .1)) g)
 
 -- numbers of 64 bits
 pub record Words (m : Machine) : Type 0 where
@@ -96,8 +117,6 @@ pub record Words (m : Machine) : Type 0 where
   pub tile-m : m .«tile_m» < 2 ^ 64
   pub tile-k : m .«tile_k» < 2 ^ 64
   pub tile-n : m .«tile_n» < 2 ^ 64
-  pub seal-start : m .«seal_start» < 2 ^ 64
-  pub seal-length : m .«seal_length» < 2 ^ 64
   pub rule : m .rule < 2 ^ 64
   pub elen : m .elen < 2 ^ 64
 
@@ -112,40 +131,124 @@ machineOf-putMachine m b w h =
       at 3 (m .«tile_m») (omega arith) refl (w .tile-m),
       at 4 (m .«tile_k») (omega arith) refl (w .tile-k),
       at 5 (m .«tile_n») (omega arith) refl (w .tile-n),
-      at 6 (m .«seal_start») (omega arith) refl (w .seal-start),
-      at 7 (m .«seal_length») (omega arith) refl (w .seal-length),
-      at 8 (m .rule) (omega arith) refl (w .rule),
-      at 9 (m .elen) (omega arith) refl (w .elen),
+      behind 0 (m .rule) (omega arith) refl (w .rule),
+      behind 1 (m .elen) (omega arith) refl (w .elen),
     )
   where
-    at : (j v : ℕ) → j < 10 → getD (numbersOf m) j 0 ≡ v → v < 2 ^ 64 → le (putMachine m b) (0 + j * 8) 8 ≡ v
+    at : (j v : ℕ) → j < 6 → getD (frontOf m) j 0 ≡ v → v < 2 ^ 64 → le (putMachine m b) (0 + j * 8) 8 ≡ v
     at j v l e f =
-        ap (λ (x : List ℕ). le x (0 + j * 8) 8) (putMachine-row m b)
-        ∙ le-putRow 0 10 8 (λ j. getD (numbersOf m) j 0) b (omega arith) j l
+        ap (λ (x : List ℕ). le x (0 + j * 8) 8) (putMachine-rows m b)
+        ∙ le-cong (putRow 64 2 8 (λ j. getD (backOf m) j 0) (front m b)) (front m b) (0 + j * 8) (0 + j * 8) 8
+        (λ i n. putRow-out 64 2 8 (λ j. getD (backOf m) j 0) (front m b) (0 + j * 8 + i) (λ x. omega (arith, x .0)))
+        ∙ le-putRow 0 6 8 (λ j. getD (frontOf m) j 0) b (omega arith) j l
         ∙ ap (λ (x : ℕ). x % 256 ^ 8) e ∙ mod-eq-of-lt f
+
+    behind : (j v : ℕ) → j < 2 → getD (backOf m) j 0 ≡ v → v < 2 ^ 64 → le (putMachine m b) (64 + j * 8) 8 ≡ v
+    behind j v l e f =
+        ap (λ (x : List ℕ). le x (64 + j * 8) 8) (putMachine-rows m b)
+        ∙ le-putRow 64 2 8 (λ j. getD (backOf m) j 0) (front m b) (omega (arith, length-putRow 0 6 8 (λ j. getD (frontOf m) j 0) b)) j l
+        ∙ ap (λ (x : ℕ). x % 256 ^ 8) e ∙ mod-eq-of-lt f
+
+-- the numbers as the block has them
+module _ (b : List ℕ) where
+  front-at : (j : ℕ) → j < 6 → getD (frontOf (machineOf b)) j 0 ≡ le b (0 + j * 8) 8
+  unfolding machineOf
+  front-at zero l = refl
+  front-at (suc zero) l = refl
+  front-at (suc (suc zero)) l = refl
+  front-at (suc (suc (suc zero))) l = refl
+  front-at (suc (suc (suc (suc zero)))) l = refl
+  front-at (suc (suc (suc (suc (suc zero))))) l = refl
+  front-at (suc (suc (suc (suc (suc (suc j)))))) l = absurd (omega arith)
+
+  back-at : (j : ℕ) → j < 2 → getD (backOf (machineOf b)) j 0 ≡ le b (64 + j * 8) 8
+  unfolding machineOf
+  back-at zero l = refl
+  back-at (suc zero) l = refl
+  back-at (suc (suc j)) l = absurd (omega arith)
 
 -- a block written over with its own numbers stays
 pub putMachine-same : (b : List ℕ) → Bytes b → putMachine (machineOf b) b ≡ b
 putMachine-same b small =
-    putMachine-row (machineOf b) b ∙ ap (λ (vs : List ℕ). putRow 0 10 8 (λ j. getD vs j 0) b) (numbersOf-machineOf b) ∙ put-same 10 b small
+    putMachine-rows (machineOf b) b
+    ∙ ap (putRow 64 2 8 (λ j. getD (backOf (machineOf b)) j 0)) (putRow-same b small 0 6 8 (λ j. getD (frontOf (machineOf b)) j 0) (front-at b))
+    ∙ putRow-same b small 64 2 8 (λ j. getD (backOf (machineOf b)) j 0) (back-at b)
 
 -- a machine that keeps what no step changes: its other numbers are enough
 pub put-state-is : (m : Machine) (xs ys : List ℕ) → Bytes xs → Bytes ys → Kept m (machineOf xs)
     → ys ≡ putLe 40 8 (m .«tile_n») (putLe 32 8 (m .«tile_k») (putLe 24 8 (m .«tile_m») (putLe 16 8 (m .mtype) xs))) → ys ≡ putMachine m xs
 unfolding machineOf putRow
-put-state-is m xs ys small small′ k e = put-middle (λ j. getD (numbersOf m) j 0) xs ys 2 4 4 small small′ e before behind ∙ sym (putMachine-row m xs)
+put-state-is m xs ys small small′ k e =
+    sym (putRow-same ys small′ 64 2 8 (λ j. getD (backOf m) j 0) behind)
+    ∙ ap (putRow 64 2 8 (λ j. getD (backOf m) j 0)) (put-middle (λ j. getD (frontOf m) j 0) xs ys 2 4 0 small small′ e before (λ j l. absurd (omega arith)))
+    ∙ sym (putMachine-rows m xs)
   where
-    before : (j : ℕ) → j < 2 → getD (numbersOf m) j 0 ≡ le xs (j * 8) 8
+    before : (j : ℕ) → j < 2 → getD (frontOf m) j 0 ≡ le xs (j * 8) 8
     before zero l = k .rlen
     before (suc zero) l = k .mlen
     before (suc (suc j)) l = absurd (omega arith)
 
-    behind : (j : ℕ) → j < 4 → getD (numbersOf m) (6 + j) 0 ≡ le xs ((6 + j) * 8) 8
-    behind zero l = k .seal-start
-    behind (suc zero) l = k .seal-length
-    behind (suc (suc zero)) l = k .rule
-    behind (suc (suc (suc zero))) l = k .elen
-    behind (suc (suc (suc (suc j)))) l = absurd (omega arith)
+    kept : (j : ℕ) → le ys (64 + j * 8) 8 ≡ le xs (64 + j * 8) 8
+    kept j =
+        ap (λ (l : List ℕ). le l (64 + j * 8) 8) e
+        ∙ le-cong (putRow 16 4 8 (λ j. getD (frontOf m) (2 + j) 0) xs) xs (64 + j * 8) (64 + j * 8) 8
+        (λ i l. putRow-out 16 4 8 (λ j. getD (frontOf m) (2 + j) 0) xs (64 + j * 8 + i) (λ h. omega (arith, h .1)))
+
+    behind : (j : ℕ) → j < 2 → getD (backOf m) j 0 ≡ le ys (64 + j * 8) 8
+    behind zero l = k .rule ∙ sym (kept 0)
+    behind (suc zero) l = k .elen ∙ sym (kept 1)
+    behind (suc (suc j)) l = absurd (omega arith)
+
+-- ---- the ranges in it
+
+-- ranges that are written leave the machine's numbers
+pub machineOf-putSeals : (rs : List Range) (b : List ℕ) → machineOf (putSeals rs b) ≡ machineOf b
+unfolding machineOf
+machineOf-putSeals rs b =
+    rw (
+      at 0 (inl (omega arith)),
+      at 8 (inl (omega arith)),
+      at 16 (inl (omega arith)),
+      at 24 (inl (omega arith)),
+      at 32 (inl (omega arith)),
+      at 40 (inl (omega arith)),
+      at 64 (inr (omega arith, omega arith)),
+      at 72 (inr (omega arith, omega arith)),
+    )
+  where
+    at : (p : ℕ) → (p + 8 ≤ 48) ⊎ ((64 ≤ p) × (p + 8 ≤ 80)) → le (putSeals rs b) p 8 ≡ le b p 8
+    at p (inl h) = le-cong (putSeals rs b) b p p 8 (λ k l. putSeals-out rs b (p + k) (inl (omega arith)))
+    at p (inr h) = le-cong (putSeals rs b) b p p 8 (λ k l. putSeals-out rs b (p + k) (inr (omega (arith, h .0), omega (arith, h .1))))
+
+-- the ranges that a start is given, by their numbers
+pub ranges-at : (xs : List ℕ) (i : ℕ) → 2 * i + 1 < length xs → getD (ranges xs) i (range 0 0) ≡ range (getD xs (2 * i) 0) (getD xs (2 * i + 1) 0)
+ranges-at [] i l = absurd (not-suc-le-zero l)
+ranges-at (x ∷ []) i l = absurd (omega arith)
+ranges-at (x ∷ y ∷ xs) zero l = refl
+ranges-at (x ∷ y ∷ xs) (suc i) l =
+    ranges-at xs i (omega arith)
+    ∙ ap₂ (λ (a b : ℕ). range (getD (x ∷ y ∷ xs) a 0) (getD (x ∷ y ∷ xs) b 0)) (twice i) (odd i)
+  where
+    twice : (i : ℕ) → suc (suc (2 * i)) ≡ 2 * suc i
+    twice i = omega arith
+
+    odd : (i : ℕ) → suc (suc (2 * i + 1)) ≡ 2 * suc i + 1
+    odd i = omega arith
+
+-- all of them, and zeros behind them
+pub put-seals-is : (xs b : List ℕ) (n : ℕ) → n ≡ length xs / 2 → length xs ≤ 16
+    → upto (8 - n) (λ i. putRange (n + i) (range 0 0)) (upto n (λ i. putRange i (getD (ranges xs) i (range 0 0))) (putLe 80 8 n b)) ≡ putSeals (ranges xs) b
+unfolding putSeals
+put-seals-is xs b n e l =
+    let m : length (ranges xs) ≡ n = ranges-count xs ∙ sym e in
+    upto-cong (8 - n) (λ i. putRange (n + i) (range 0 0)) (λ i. putRange (n + i) (at (n + i))) (upto n (λ i. putRange i (at i)) (putLe 80 8 n b))
+    (λ i k ys. ap (λ (r : Range). putRange (n + i) r ys) (sym (List·getD-eq-default (ranges xs) (range 0 0) (omega (arith, m)))))
+    ∙ sym (upto-add n (8 - n) (λ i. putRange i (at i)) (putLe 80 8 n b))
+    ∙ ap (λ (k : ℕ). upto k (λ i. putRange i (at i)) (putLe 80 8 n b)) {x = n + (8 - n)} {y = 8} (omega (arith, e, div-add-mod' (length xs) 2))
+    ∙ ap (λ (k : ℕ). upto 8 (λ i. putRange i (at i)) (putLe 80 8 k b)) (sym m)
+  where
+    at : ℕ → Range
+    at i = getD (ranges xs) i (range 0 0)
 
 -- a step keeps them
 module _ (grant : ℕ → ℕ → ℕ → ℕ) (word : ℕ) (xs : List ℕ) (B : Bench) where
@@ -156,8 +259,8 @@ module _ (grant : ℕ → ℕ → ℕ → ℕ) (word : ℕ) (xs : List ℕ) (B :
   outcome-kept W = go (isDone (verdict (checksIn W M (decode word) xs B)))
     where
       go : (t : Bool) → Kept ((cond t (carriedIn W M (decode word) xs B) (refusedIn W M (decode word) xs B (verdict (checksIn W M (decode word) xs B)))) .bench .machine) (B .machine)
-      go true = record { rlen = refl; mlen = refl; seal-start = refl; seal-length = refl; rule = refl; elen = refl }
-      go false = record { rlen = refl; mlen = refl; seal-start = refl; seal-length = refl; rule = refl; elen = refl }
+      go true = record { rlen = refl; mlen = refl; rule = refl; elen = refl }
+      go false = record { rlen = refl; mlen = refl; rule = refl; elen = refl }
 
   pub step-with-kept : (W : Vectors) → Kept (stepWith grant word xs W B .bench .machine) (B .machine)
   unfolding stepWith
@@ -165,7 +268,7 @@ module _ (grant : ℕ → ℕ → ℕ → ℕ) (word : ℕ) (xs : List ℕ) (B :
     where
       go : (t : Bool) → Kept ((cond t (beside (vectorsIn W M (decode word) xs B) (outcomeIn W M (decode word) xs B)) (beside (W .file) (refusedIn W M (decode word) xs B BadArguments))) .bench .machine) (B .machine)
       go true = outcome-kept W
-      go false = record { rlen = refl; mlen = refl; seal-start = refl; seal-length = refl; rule = refl; elen = refl }
+      go false = record { rlen = refl; mlen = refl; rule = refl; elen = refl }
 
   pub step-kept : Kept (stepBy grant word xs B .bench .machine) (B .machine)
   unfolding stepBy outcome

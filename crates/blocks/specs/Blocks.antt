@@ -7,6 +7,7 @@ use Prim.Native.Nat.{ℕ, _+_, _*_, _%_, _^_, _<_}
 use lib.ListN.{length, getD}
 use Rattle.width.specs.Upto.{upto}
 use Rattle.width.specs.Tile.{le, putLe, putRow}
+use Rattle.ranges.specs.Ranges.{blockBytes}
 use Rattle.machine.specs.declared.Machine.{Machine}
 use Rattle.machine.specs.declared.Reply.{Reply}
 
@@ -16,9 +17,10 @@ Bytes xs = (q : ℕ) → getD xs q 0 < 256
 
 -- ---- the machine's block
 
--- ten numbers of 64 bits, low byte first, in the order of the struct Machine
+-- the machine's numbers of 64 bits, low byte first, and its ranges (ranges/specs/Ranges.antt), of which the first lies between the sizes
+-- and the rule
 abbrev pub machineBytes : ℕ
-machineBytes = 80
+machineBytes = blockBytes
 
 unfoldable pub machineOf : List ℕ → Machine
 machineOf block = record {
@@ -28,8 +30,6 @@ machineOf block = record {
   «tile_m» = le block 24 8;
   «tile_k» = le block 32 8;
   «tile_n» = le block 40 8;
-  «seal_start» = le block 48 8;
-  «seal_length» = le block 56 8;
   rule = le block 64 8;
   elen = le block 72 8;
 }
@@ -39,21 +39,17 @@ unfoldable pub putMachine : Machine → List ℕ → List ℕ
 putMachine m block =
     putLe 72 8 (m .elen)
     (putLe 64 8 (m .rule)
-    (putLe 56 8 (m .«seal_length»)
-    (putLe 48 8 (m .«seal_start»)
     (putLe 40 8 (m .«tile_n»)
     (putLe 32 8 (m .«tile_k»)
     (putLe 24 8 (m .«tile_m»)
     (putLe 16 8 (m .mtype)
     (putLe 8 8 (m .mlen)
-    (putLe 0 8 (m .rlen) block)))))))))
+    (putLe 0 8 (m .rlen) block)))))))
 
--- a machine that has another's numbers but for those that steps change: its lengths, its seal, its rule and ELEN
+-- a machine that has another's numbers but for those that steps change: its lengths, its rule and ELEN
 pub record Kept (m other : Machine) : Type 0 where
   pub rlen : m .rlen ≡ other .rlen
   pub mlen : m .mlen ≡ other .mlen
-  pub seal-start : m .«seal_start» ≡ other .«seal_start»
-  pub seal-length : m .«seal_length» ≡ other .«seal_length»
   pub rule : m .rule ≡ other .rule
   pub elen : m .elen ≡ other .elen
 

@@ -3,14 +3,22 @@ use element::read8;
 use element::write8;
 use machine::Answer;
 use machine::Machine;
+use ranges::clear_slots;
+use ranges::put_range;
 ghost use mathlib.Core.Path.{_≡_};
-ghost use lib.ListN.{length};
+ghost use mathlib.Core.Bool.{true};
+ghost use Prim.Native.Nat.{_*_, _≤_};
+ghost use lib.ListN.{length, getD};
+ghost use Rattle.width.specs.Upto.{upto};
 ghost use Rattle.width.specs.Tile.{putLe};
 ghost use Rattle.machine.specs.Answers.{reply};
+ghost use Rattle.machine.specs.Geometry.{range};
+ghost use Rattle.machine.specs.Starting.{ranges, paired};
+ghost use Rattle.ranges.specs.Ranges.{putRange, putSeals};
 ghost use Rattle.blocks.specs.Blocks.{machineBytes, machineOf, putMachine, Kept, packed};
 
 // The bytes of the machine's block.
-pub const MACHINE_BYTES: usize = 80;
+pub const MACHINE_BYTES: usize = 200;
 
 // The machine's numbers out of their block.
 pub fn machine_of(block: &[u8]) -> Machine
@@ -24,8 +32,6 @@ pub fn machine_of(block: &[u8]) -> Machine
         tile_m: read8(block, 24),
         tile_k: read8(block, 32),
         tile_n: read8(block, 40),
-        seal_start: read8(block, 48),
-        seal_length: read8(block, 56),
         rule: read8(block, 64),
         elen: read8(block, 72),
     }
@@ -50,8 +56,6 @@ pub fn put_machine(block: &mut [u8], m: Machine)
     write8(block, 24, m.tile_m);
     write8(block, 32, m.tile_k);
     write8(block, 40, m.tile_n);
-    write8(block, 48, m.seal_start);
-    write8(block, 56, m.seal_length);
     write8(block, 64, m.rule);
     write8(block, 72, m.elen);
 }
@@ -66,6 +70,34 @@ pub fn put_state(block: &mut [u8], m: Machine)
     write8(block, 24, m.tile_m);
     write8(block, 32, m.tile_k);
     write8(block, 40, m.tile_n);
+}
+
+// Writes the ranges that a start is given, start and length of each in turn, over the first slots.
+fn put_ranges(block: &mut [u8], seals: &[u64], count: usize)
+    requires { ⌜ length (now block) ≡ machineBytes ⌝ }
+    requires { ⌜ (count ≤ 8) × (2 * count ≤ length (now seals)) ⌝ }
+    ensures { λ _. ⌜ now (block .exit) ≡ upto count (λ i. putRange i (getD (ranges (now (seals .entry))) i (range 0 0))) (now (block .entry)) ⌝ }
+{
+    let mut i = 0;
+    while i < count {
+        let start = seals[2 * i];
+        let size = seals[2 * i + 1];
+        put_range(block, i, start, size);
+        i += 1;
+    }
+}
+
+// The ranges that a start is given, into the machine's block.
+pub fn put_seals(block: &mut [u8], seals: &[u64])
+    requires { ⌜ length (now block) ≡ machineBytes ⌝ }
+    requires { ⌜ paired (now seals) ≡ true ⌝ }
+    requires { ⌜ length (now seals) ≤ 16 ⌝ }
+    ensures { λ _. ⌜ now (block .exit) ≡ putSeals (ranges (now (seals .entry))) (now (block .entry)) ⌝ }
+{
+    let count = seals.len() / 2;
+    write8(block, 80, count as u64);
+    put_ranges(block, seals, count);
+    clear_slots(block, count);
 }
 
 // An answer's number, with row and column in the bits above it.

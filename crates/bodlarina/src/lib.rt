@@ -5,7 +5,7 @@ mod images; // images of machines
 mod runs; // the product run
 
 ghost use mathlib.Core.Path.{_≡_};
-ghost use Rattle.bench_calls.specs.BenchCalls.{startedOut, hostStart, steppedOut, hostStep};
+ghost use Rattle.bench_calls.specs.BenchCalls.{startedOut, hostStart, steppedOut, hostStep, sealedOut, hostSeal};
 ghost use Rattle.bodlarina.specs.Host.{hostVersion};
 
 // The version of this interface.
@@ -13,7 +13,7 @@ ghost use Rattle.bodlarina.specs.Host.{hostVersion};
 pub extern "C" fn bodlarina_version() -> u64
     ensures { λ r. ⌜ r ≡ hostVersion ⌝ }
 {
-    500
+    600
 }
 
 // Starts a machine of this ELEN and rule on the lent register bytes and marks, and writes its numbers into the machine block.
@@ -23,26 +23,15 @@ pub extern "C" fn bodlarina_start(
     mlen: u64,
     elen: u64,
     rule: u64,
-    seal_start: u64,
-    seal_length: u64,
+    seals: &[u64],
     machine: &mut [u8],
     registers: &[u8],
     marks: &mut [u8],
 ) -> u64
     ensures { λ r. ⌜ startedOut r (now (machine .exit)) (now (registers .entry)) (now (marks .exit))
-        ≡ hostStart rlen mlen elen rule «seal_start» «seal_length» (now (machine .entry)) (now (registers .entry)) (now (marks .entry)) ⌝ }
+        ≡ hostStart rlen mlen elen rule (now (seals .entry)) (now (machine .entry)) (now (registers .entry)) (now (marks .entry)) ⌝ }
 {
-    bench_calls::start(
-        rlen,
-        mlen,
-        elen,
-        rule,
-        seal_start,
-        seal_length,
-        machine,
-        registers,
-        marks,
-    )
+    bench_calls::start(rlen, mlen, elen, rule, seals, machine, registers, marks)
 }
 
 // Steps one instruction word, beside a vector file with a group size.
@@ -70,4 +59,19 @@ pub extern "C" fn bodlarina_step(
         memory,
         vectors,
     )
+}
+
+// Seals one more range of memory, from now on.
+#[no_mangle]
+pub extern "C" fn bodlarina_seal(
+    start: u64,
+    length: u64,
+    machine: &mut [u8],
+    registers: &[u8],
+    marks: &[u8],
+) -> u64
+    ensures { λ r. ⌜ sealedOut r (now (machine .exit)) (now (registers .entry)) (now (marks .entry))
+        ≡ hostSeal start length (now (machine .entry)) (now (registers .entry)) (now (marks .entry)) ⌝ }
+{
+    bench_calls::seal(start, length, machine, registers, marks)
 }

@@ -26,7 +26,7 @@ use Rattle.machine.proofs.TestLaws.{and-right, every-each, each, each-in}
 use Rattle.machine.proofs.StepLaws.{step-refused, permitted-bounds, permitted-elen}
 use Rattle.machine.proofs.SizeLaws.{chosen-grants}
 use Rattle.machine.proofs.CodeLaws.{legalTypes, types-are}
-use Rattle.machine.proofs.NoFault.{Sound, sound-is, step-sound, step-keeps-sound}
+use Rattle.machine.proofs.NoFault.{Sound, sound-is, bench-sound, step-sound, step-keeps-sound}
 use Rattle.run.specs.declared.Plan.{Plan}
 use Rattle.run.specs.declared.Place.{Place}
 use Rattle.run.specs.declared.Place.the-variants.{AtType, AtM, AtN, AtClear, AtK, AtA, AtB, AtMultiply, AtStore, AtEnd}
@@ -60,8 +60,6 @@ machine-words b small = record {
   tile-m = le-lt b small 24 8;
   tile-k = le-lt b small 32 8;
   tile-n = le-lt b small 40 8;
-  seal-start = le-lt b small 48 8;
-  seal-length = le-lt b small 56 8;
   rule = le-lt b small 64 8;
   elen = le-lt b small 72 8;
 }
@@ -77,7 +75,7 @@ type-small elen v known e = go (isIn v (legalTypes elen)) refl
     go false d = let z : v ≡ 2 ^ 63 = sym e ∙ types-are elen known v ∙ rw d in omega (arith, z)
 
 -- of a state that is not at fault
-sound-words : (m : Machine) (registers marks : List ℕ) → Sound m registers marks → Words m
+pub sound-words : (m : Machine) (registers marks : List ℕ) → Sound m registers marks → Words m
 sound-words m registers marks s =
     let l = permitted-bounds (m .rlen) (m .mlen) (m .elen) (s .lengths) in
     let p = permitted-elen (m .rlen) (m .mlen) (m .elen) (s .lengths) in
@@ -89,8 +87,6 @@ sound-words m registers marks s =
       tile-m = omega (arith, s .state .m-fits);
       tile-k = omega (arith, s .state .k-fits);
       tile-n = omega (arith, s .state .n-fits);
-      seal-start = omega (arith, s .seal-ends);
-      seal-length = omega (arith, s .seal-ends);
       rule = omega (arith, leb-true (m .rule) 1 (s .rule-is));
       elen = omega (arith, p .1);
     }
@@ -102,7 +98,7 @@ step-words word xs B w = go (soundBench B) refl
     go : (t : Bool) → soundBench B ≡ t → Words (stepBy chosen word xs B .bench .machine)
     go true e =
         let C : Bench = stepBy chosen word xs B .bench in
-        sound-words (C .machine) (C .registers) (C .marks) (sound-is (C .machine) (C .registers) (C .marks) (step-sound chosen chosen-grants word xs B e))
+        sound-words (C .machine) (C .registers) (C .marks) (sound-is (C .machine) (C .registers) (C .marks) (bench-sound C (step-sound chosen chosen-grants word xs B e)))
     go false e =
         let r : verdict (stepChecks (parameters chosen (B .machine)) (decode word) xs B) ≡ BadArguments = rw e in
         subst (λ (o : Outcome). Words (o .bench .machine)) (sym (step-refused chosen word xs B BadArguments refl r)) w
@@ -122,7 +118,7 @@ step-with-words word xs W B w = go (soundBench B) refl
     stays false = w
 
     go : (t : Bool) → soundBench B ≡ t → Words (stepWith chosen word xs W B .bench .machine)
-    go true e = sound-words (C .machine) (C .registers) (C .marks) (sound-is (C .machine) (C .registers) (C .marks) (step-keeps-sound chosen chosen-grants word xs W B e))
+    go true e = sound-words (C .machine) (C .registers) (C .marks) (sound-is (C .machine) (C .registers) (C .marks) (bench-sound C (step-keeps-sound chosen chosen-grants word xs W B e)))
     go false e =
         let r : outcomeIn W M (decode word) xs B ≡ record { answer = reply BadArguments; bench = B; scalars = xs } = rw e in
         subst (λ (o : Outcome). Words (cond (vectorsFit W) (beside (vectorsIn W M (decode word) xs B) o) (beside (W .file) (Step.refusedIn W M (decode word) xs B BadArguments)) .bench .machine)) (sym r) (stays (vectorsFit W))

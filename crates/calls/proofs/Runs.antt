@@ -13,9 +13,9 @@ use Rattle.machine.specs.declared.Answer.the-variants.{Done, OutsideMemory, Bad
 use Rattle.machine.specs.Tests.{every}
 use Rattle.machine.specs.declared.Reply.{Reply}
 use Rattle.machine.specs.Answers.{reply, number, done, verdict, _otherwise_}
-use Rattle.machine.specs.Geometry.{Bench, parameters}
+use Rattle.machine.specs.Geometry.{sealed, Bench}
 use Rattle.machine.specs.Setting.{chosen}
-use Rattle.machine.specs.Faults.{sound}
+use Rattle.machine.specs.Faults.{soundBench}
 use Rattle.machine.specs.Operation.{element}
 use Rattle.machine.proofs.TestLaws.{every-each, each-every}
 use Rattle.run.specs.declared.Plan.{Plan}
@@ -45,6 +45,7 @@ use Rattle.calls.specs.Calls.{Buffers, buffers, Call, Called, afterRunSt
 use Rattle.calls.specs.Composed.{afterCalls, turnCalls, benchIn, PlanWords, StartCallsAreRight, with, jobIn, afterTurnCalls, handing, TurnCalls, TurnCallsAreRight, counting, RunIsTurnCalls}
 use Rattle.calls.proofs.Written.{putRun-over}
 use Rattle.calls.proofs.Numbers.{machine-words, fresh-words, Wordy, turns-wordy}
+use Rattle.sealing.proofs.AddedRange.{turns-seals}
 use Rattle.calls.proofs.Turns.{zero-is-done, left, runningIn, holds, on}
 
 -- ---- bodlarina_run_start
@@ -82,7 +83,7 @@ module _ (P : Plan) (b : Buffers) where
   start-plain : packed (s .answer) ≡ s .answer .number
   unfolding startRun
   start-plain =
-      go (sound (B .machine) (B .registers) (B .marks)) (planned (B .machine .elen) P) (lying P (B .memory)) (separate (parameters chosen (B .machine)) P)
+      go (soundBench B) (planned (B .machine .elen) P) (lying P (B .memory)) (separate (sealed (B .seals)) P)
     where
       out : (t u v w : Bool) → Answer
       out t u v w = verdict ((t otherwise BadArguments) ∷ (u otherwise BadArguments) ∷ (v otherwise OutsideMemory) ∷ (w otherwise Overlap) ∷ [])
@@ -229,7 +230,7 @@ module _ (P : Plan) (b : Buffers) (p : PlanWords P) (small : Bytes (b .machine))
 
   turning : (t : ℕ) → called Call.runTurn (afterTurnCalls P b t) ≡ left (packed (turn chosen (r t) .answer)) (with (turn chosen (r t) .after) b)
   turning t =
-      ap (called Call.runTurn) (holds₀ t) ∙ on b₀ fit₀ (r t) (wordy t)
+      ap (called Call.runTurn) (holds₀ t) ∙ on b₀ fit₀ (r t) (wordy t) (ap (λ (q : Running). afterTurns chosen q t .bench .seals) (sym held) ∙ turns-seals chosen (runningIn b₀) t)
       ∙ ap (left (packed (turn chosen (r t) .answer))) (over₀ (turn chosen (r t) .after))
 
   -- ---- asking

@@ -11,7 +11,8 @@ use Rattle.machine.specs.declared.Machine.{Machine}
 use Rattle.machine.specs.declared.Answer.the-variants.{Done, BadArguments}
 use Rattle.machine.specs.declared.Reply.{Reply}
 use Rattle.machine.specs.Answers.{reply, done}
-use Rattle.machine.specs.Geometry.{benchOf}
+use Rattle.machine.specs.Geometry.{Range, benchOf}
+use Rattle.ranges.specs.Ranges.{sealsIn}
 use Rattle.machine.specs.Setting.{chosen}
 use Rattle.machine.proofs.TestLaws.{false-true, every-each}
 use Rattle.run.specs.declared.Run.{Run}
@@ -20,14 +21,15 @@ use Rattle.run.proofs.RefusalLaws.{number-done}
 use Rattle.turn.proofs.TurnLaws.{turn-zero}
 use Rattle.blocks.specs.Blocks.{machineBytes, packed}
 use Rattle.run_blocks.specs.RunBlocks.{runBytes, runFit}
-use Rattle.blocks.proofs.BlockLaws.{machineOf-putMachine, putMachine-same}
+use Rattle.blocks.proofs.BlockLaws.{machineOf-putMachine, putMachine-same, length-putMachine, putMachine-seals}
 use Rattle.run_blocks.proofs.RunBlockLaws.{fit-length, runOf-putRun, runFit-putRun, putRun-same}
 use Rattle.turn_calls.specs.TurnCalls.{turnBlocks, heldRunning, turnedOut, shownTurn, hostTurn, shownTurns, hostTurns}
 use Rattle.turn_calls.proofs.TurnLaws.{blocks-fit}
 use Rattle.calls.specs.Calls.{Buffers, buffers, Call, Called, afterTurn, called, calls}
 use Rattle.calls.specs.Composed.{afterCalls, turnCalls, zeros, with, TurnsAreTurnCalls}
-use Rattle.calls.proofs.Written.{length-putMachine, putMachine-over, putRun-over}
+use Rattle.calls.proofs.Written.{putMachine-over, putRun-over}
 use Rattle.calls.proofs.Numbers.{machine-words, run-words, Wordy, turns-wordy}
+use Rattle.sealing.proofs.AddedRange.{turns-seals}
 
 -- ---- results
 
@@ -108,11 +110,13 @@ module _ (b : Buffers) (fit : turnBlocks (b .run) (b .machine) ≡ true) where
   machine-length : length (b .machine) ≡ machineBytes
   machine-length = eqb-true (length (b .machine)) machineBytes (every-each (runFit (b .run) ∷ eqb (length (b .machine)) machineBytes ∷ []) fit .1 .0)
 
-  module _ (r : Running) (w : Wordy r) where
+  module _ (r : Running) (w : Wordy r) (k : r .bench .seals ≡ sealsIn (b .machine)) where
     back : runningIn (with r b) ≡ r
     back =
-        ap₂ (λ (R : Run) (m : Machine). running R (benchOf m (r .bench .registers) (r .bench .marks) (r .bench .memory)))
+        ap₂ (λ (R : Run) (m : Machine). running R (benchOf m (sealsIn (with r b .machine)) (r .bench .registers) (r .bench .marks) (r .bench .memory)))
         (runOf-putRun (r .run) (b .run) (w .run) run-length) (machineOf-putMachine (r .bench .machine) (b .machine) (w .machine) machine-length)
+        ∙ ap (λ (rs : List Range). running (r .run) (benchOf (r .bench .machine) rs (r .bench .registers) (r .bench .marks) (r .bench .memory)))
+        (putMachine-seals (r .bench .machine) (b .machine) ∙ sym k)
 
     fits : turnBlocks (with r b .run) (with r b .machine) ≡ true
     fits =
@@ -138,10 +142,10 @@ module _ (b : Buffers) (fit : turnBlocks (b .run) (b .machine) ≡ true) where
     holds zero = sym same
     holds (suc t) =
         after-last Call.runTurn t b ∙ ap (λ (c : Buffers). called Call.runTurn c .after) (holds t)
-        ∙ ap (λ (o : Called). o .after) (on (r t) (turns-wordy (runningIn b) w t))
+        ∙ ap (λ (o : Called). o .after) (on (r t) (turns-wordy (runningIn b) w t) (turns-seals chosen (runningIn b) t))
 
     next : (t : ℕ) → called Call.runTurn (afterCalls (turnCalls t) b) ≡ left (packed (turn chosen (r t) .answer)) (with (r (suc t)) b)
-    next t = ap (called Call.runTurn) (holds t) ∙ on (r t) (turns-wordy (runningIn b) w t)
+    next t = ap (called Call.runTurn) (holds t) ∙ on (r t) (turns-wordy (runningIn b) w t) (turns-seals chosen (runningIn b) t)
 
     counts : (t : ℕ) → zeros (calls (turnCalls t) b) ≡ answeredDone chosen (runningIn b) t
     counts zero = refl

@@ -3,7 +3,7 @@
 use mathlib.Core.List.{List, [], _∷_}
 use Prim.Native.Nat.{ℕ}
 use Rattle.run.specs.declared.Plan.{Plan}
-use Rattle.bench_calls.specs.BenchCalls.{HostStarted, hostStart, HostStepped, hostStep}
+use Rattle.bench_calls.specs.BenchCalls.{HostStarted, hostStart, HostStepped, hostStep, HostSealed, hostSeal}
 use Rattle.run_calls.specs.RunCalls.{HostRunStarted, hostRunStart, HostNext, hostNext}
 use Rattle.turn_calls.specs.TurnCalls.{HostTurned, hostTurn, hostTurns, HostRan, hostRun}
 use Rattle.image_calls.specs.ImageCalls.{hostImageSize, hostImageWrite, HostRead, hostImageRead}
@@ -36,13 +36,14 @@ buffers machine registers marks scalars memory run step steps file = record {
 
 -- ---- calls
 
--- bodlarina_start, bodlarina_step, bodlarina_run_start, bodlarina_run_next, bodlarina_run_turn, bodlarina_run_turns and bodlarina_run;
+-- bodlarina_start, bodlarina_step, bodlarina_seal, bodlarina_run_start, bodlarina_run_next, bodlarina_run_turn, bodlarina_run_turns and bodlarina_run;
 -- bodlarina_image_size, bodlarina_image_write and bodlarina_image_read, where the lent image is an argument of the call: it is none of the
 -- buffers above, and of what bodlarina_image_write leaves in it a list of calls keeps nothing (image_calls/specs/ImageCalls.antt has it);
 -- and between them the host writes its buffers, all but registers and marks, as it likes
 pub data Call : Type 0 where
-  start : (rlen mlen elen rule sealStart sealLength : ℕ) → Call
+  start : (rlen mlen elen rule : ℕ) → (seals : List ℕ) → Call
   step : (word group : ℕ) → Call
+  seal : (from size : ℕ) → Call
   runStart : Plan → Call
   runNext : Call
   runTurn : Call
@@ -69,6 +70,12 @@ abbrev pub afterStep : Buffers → HostStepped → Called
 afterStep b o = record {
   result = o .result;
   after = buffers (o .machine) (o .registers) (o .marks) (o .scalars) (o .memory) (b .run) (b .step) (b .steps) (o .file);
+}
+
+abbrev pub afterSeal : Buffers → HostSealed → Called
+afterSeal b o = record {
+  result = o .result;
+  after = buffers (o .machine) (o .registers) (o .marks) (b .scalars) (b .memory) (b .run) (b .step) (b .steps) (b .file);
 }
 
 abbrev pub afterRunStart : Buffers → HostRunStarted → Called
@@ -102,9 +109,9 @@ afterRead b o = record {
 }
 
 abbrev pub called : Call → Buffers → Called
-called (Call.start rlen mlen elen rule sealStart sealLength) b =
-    afterStart b (hostStart rlen mlen elen rule sealStart sealLength (b .machine) (b .registers) (b .marks))
+called (Call.start rlen mlen elen rule seals) b = afterStart b (hostStart rlen mlen elen rule seals (b .machine) (b .registers) (b .marks))
 called (Call.step word group) b = afterStep b (hostStep word group (b .machine) (b .registers) (b .marks) (b .scalars) (b .memory) (b .file))
+called (Call.seal from size) b = afterSeal b (hostSeal from size (b .machine) (b .registers) (b .marks))
 called (Call.runStart P) b = afterRunStart b (hostRunStart P (b .machine) (b .registers) (b .marks) (b .memory) (b .run))
 called Call.runNext b = afterNext b (hostNext (b .run) (b .step))
 called Call.runTurn b = afterTurn b (hostTurn (b .run) (b .machine) (b .registers) (b .marks) (b .memory))

@@ -1,15 +1,16 @@
 -- What holds over lists of calls of the C functions (include/bodlarina.h): demand 3 from bodlarina_run_start on, bodlarina_run_turns as
 -- that many calls of bodlarina_run_turn, bodlarina_run as a start and all its turns, and demand 2. The proofs stand in proofs/.
 use mathlib.Core.Path.{_≡_}
-use mathlib.Core.Bool.{cond}
+use mathlib.Core.Bool.{true, cond}
 use mathlib.Core.List.{List, [], _∷_, _++_}
 use Prim.Native.Nat.{ℕ, suc, _+_, _^_, _≤_, _<_}
 use lib.ListN.{length, getD, replicate}
 use lib.Dec.{eqb}
-use Rattle.width.specs.Tile.{In}
-use Rattle.machine.specs.declared.Machine.{Machine}
 use Rattle.machine.specs.declared.Reply.{Reply}
-use Rattle.machine.specs.Geometry.{Bench, benchOf}
+use Rattle.machine.specs.Geometry.{Range, range, sealed, Bench, benchOf}
+use Rattle.machine.specs.Starting.{ranges}
+use Rattle.machine.specs.Sealing.{addSeal}
+use Rattle.machine.specs.Theorems.{Extends}
 use Rattle.machine.specs.Setting.{chosen}
 use Rattle.machine.specs.Operation.{element}
 use Rattle.run.specs.declared.Plan.{Plan}
@@ -21,6 +22,9 @@ use Rattle.run.specs.Turn.{Running, afterTurns}
 use Rattle.run.specs.Statement as Demand
 use Rattle.run.specs.Statement.{Answered, jobOf, startedRun}
 use Rattle.run.specs.Theorems.{SealKept}
+use Rattle.ranges.specs.Ranges.{sealsIn}
+use Rattle.format.specs.Numbers as Images
+use Rattle.image.specs.Reading.{readImage}
 use Rattle.blocks.specs.Blocks.{Bytes, machineBytes, machineOf, putMachine, putNumbers}
 use Rattle.run_blocks.specs.RunBlocks.{runBytes, putRun, planNumbers, stepBytes, putHanded}
 use Rattle.run_calls.specs.RunCalls.{hostRunSteps}
@@ -43,9 +47,9 @@ abbrev pub zeros : List Called → ℕ
 zeros [] = 0
 zeros (o ∷ os) = cond (eqb (o .result) 0) 1 0 + zeros os
 
--- the machine in the buffers, with its registers, marks and memory
+-- the machine in the buffers, with its ranges, registers, marks and memory
 abbrev pub benchIn : Buffers → Bench
-benchIn b = benchOf (machineOf (b .machine)) (b .registers) (b .marks) (b .memory)
+benchIn b = benchOf (machineOf (b .machine)) (sealsIn (b .machine)) (b .registers) (b .marks) (b .memory)
 
 -- ---- bodlarina_run_start
 
@@ -141,18 +145,19 @@ RunIsTurnCalls = (P : Plan) (b : Buffers) → PlanWords P → Bytes (b .machine)
     (called (Call.run P) b .result ≡ called (Call.runStart P) b .result)
     × (called (Call.run P) b .result ≡ 0 → called (Call.run P) b .after ≡ counting s (afterTurnCalls P b s) b)
 
--- ---- demand 2: the seal
+-- ---- demand 2: no sealed byte changes
 
--- byte q of memory is sealed, by the seal in the machine's block
+-- byte q of memory is sealed, by the ranges in the machine's block
 abbrev pub SealedIn : Buffers → ℕ → Type 0
-SealedIn b q = In (machineOf (b .machine) .«seal_start») (machineOf (b .machine) .«seal_length») q
+SealedIn b q = sealed (sealsIn (b .machine)) q ≡ true
 
--- A call that is not bodlarina_start. bodlarina_image_read replaces the machine: where it is done the image has the same seal, and a refused
--- one leaves the machine's block. Of what the host writes between calls, which is never registers or marks (Calls.antt): the machine's block
--- and the sealed bytes of memory stay, the rest may change.
+-- A call that is not bodlarina_start. bodlarina_image_read makes another machine: where it is done the image has the ranges in the block, and
+-- perhaps more behind them, and a refused one leaves the machine's block. Of what the host writes between calls, which is never registers or
+-- marks (Calls.antt): the machine's block and the sealed bytes of memory stay, the rest may change.
 abbrev pub SparesSeal : Call → Buffers → Type 0
-SparesSeal (Call.start rlen mlen elen rule sealStart sealLength) b = ⊥
+SparesSeal (Call.start rlen mlen elen rule seals) b = ⊥
 SparesSeal (Call.step word group) b = Unit {0}
+SparesSeal (Call.seal from size) b = Unit {0}
 SparesSeal (Call.runStart P) b = Unit {0}
 SparesSeal Call.runNext b = Unit {0}
 SparesSeal Call.runTurn b = Unit {0}
@@ -160,9 +165,7 @@ SparesSeal (Call.runTurns limit) b = Unit {0}
 SparesSeal (Call.run P) b = Unit {0}
 SparesSeal Call.imageSize b = Unit {0}
 SparesSeal (Call.imageWrite image) b = Unit {0}
-SparesSeal (Call.imageRead image) b =
-    let m : Machine = machineOf (called (Call.imageRead image) b .after .machine) in
-    (m .«seal_start» ≡ machineOf (b .machine) .«seal_start») × (m .«seal_length» ≡ machineOf (b .machine) .«seal_length»)
+SparesSeal (Call.imageRead image) b = Extends (sealsIn (b .machine)) (sealsIn (called (Call.imageRead image) b .after .machine))
 SparesSeal (Call.write w) b = (w .machine ≡ b .machine) × ((q : ℕ) → SealedIn b q → getD (w .memory) q 0 ≡ getD (b .memory) q 0)
 
 -- so of each call of a list, on the buffers that it gets
@@ -170,14 +173,91 @@ abbrev pub EachSparesSeal : List Call → Buffers → Type 0
 EachSparesSeal [] b = Unit {0}
 EachSparesSeal (c ∷ cs) b = SparesSeal c b × EachSparesSeal cs (called c b .after)
 
--- over any list of such calls, refused ones included: the seal in the machine's block stays, and no sealed byte of memory changes
+-- 02, Twelve: "a byte changes at no step after its sealing". From any moment on, over any list of such calls, refused ones included: the ranges
+-- in the machine's block stay, those added behind them, and no byte that is sealed at that moment changes
 abbrev pub SealHoldsOverCalls : Type 0
 SealHoldsOverCalls = (cs : List Call) (b : Buffers) → Bytes (b .machine) → EachSparesSeal cs b
-    → SealKept (machineOf (b .machine) .«seal_start») (machineOf (b .machine) .«seal_length») (b .memory) (benchIn (afterCalls cs b))
+    → SealKept (sealsIn (b .machine)) (b .memory) (benchIn (afterCalls cs b))
 
--- and from an accepted bodlarina_start on: the range that it was given
+-- and from an accepted bodlarina_start on: the ranges that it was given
 abbrev pub SealHoldsFromStartCall : Type 0
-SealHoldsFromStartCall = (rlen mlen elen rule sealStart sealLength : ℕ) (b : Buffers)
-    → let o : Called = called (Call.start rlen mlen elen rule sealStart sealLength) b in
+SealHoldsFromStartCall = (rlen mlen elen rule : ℕ) (seals : List ℕ) (b : Buffers)
+    → let o : Called = called (Call.start rlen mlen elen rule seals) b in
     o .result ≡ 0 → (cs : List Call) → EachSparesSeal cs (o .after)
-    → SealKept sealStart sealLength (b .memory) (benchIn (afterCalls cs (o .after)))
+    → SealKept (ranges seals) (b .memory) (benchIn (afterCalls cs (o .after)))
+
+-- and from an accepted bodlarina_image_read on: the ranges of the machine whose image it is
+abbrev pub SealHoldsFromReadCall : Type 0
+SealHoldsFromReadCall = (image : List ℕ) (b : Buffers) → Images.Bytes image
+    → let o : Called = called (Call.imageRead image) b in
+    o .result ≡ 0 → (cs : List Call) → EachSparesSeal cs (o .after)
+    → SealKept (readImage image (b .registers) (b .marks) .seals) (b .memory) (benchIn (afterCalls cs (o .after)))
+
+-- and from an accepted bodlarina_seal on: the ranges of before, and the one that it was given
+abbrev pub SealHoldsFromSealCall : Type 0
+SealHoldsFromSealCall = (from size : ℕ) (b : Buffers) → Bytes (b .machine)
+    → let o : Called = called (Call.seal from size) b in
+    o .result ≡ 0 → (cs : List Call) → EachSparesSeal cs (o .after)
+    → SealKept (sealsIn (b .machine) ++ (range from size ∷ [])) (b .memory) (benchIn (afterCalls cs (o .after)))
+
+-- ---- which ranges the machine's block holds
+
+-- bodlarina_seal is the addition of the definitions, on a machine's block of the right length (others get 8)
+abbrev pub SealCallSeals : Type 0
+SealCallSeals = (from size : ℕ) (b : Buffers) → length (b .machine) ≡ machineBytes
+    → let o : Called = called (Call.seal from size) b in
+    (o .result ≡ addSeal from size (benchIn b) .answer .number) × (benchIn (o .after) ≡ addSeal from size (benchIn b) .bench)
+
+-- an accepted bodlarina_start leaves exactly the ranges that it was given, and an accepted bodlarina_image_read those of the image's machine
+abbrev pub StartCallHolds : Type 0
+StartCallHolds = (rlen mlen elen rule : ℕ) (seals : List ℕ) (b : Buffers)
+    → let o : Called = called (Call.start rlen mlen elen rule seals) b in
+    o .result ≡ 0 → sealsIn (o .after .machine) ≡ ranges seals
+
+abbrev pub ReadCallHolds : Type 0
+ReadCallHolds = (image : List ℕ) (b : Buffers) → Images.Bytes image
+    → let o : Called = called (Call.imageRead image) b in
+    o .result ≡ 0 → sealsIn (o .after .machine) ≡ readImage image (b .registers) (b .marks) .seals
+
+-- the range that a call adds: that of a bodlarina_seal which returns 0
+abbrev pub addedByCall : Call → Buffers → List Range
+addedByCall (Call.start rlen mlen elen rule seals) b = []
+addedByCall (Call.step word group) b = []
+addedByCall (Call.seal from size) b = cond (eqb (called (Call.seal from size) b .result) 0) (range from size ∷ []) []
+addedByCall (Call.runStart P) b = []
+addedByCall Call.runNext b = []
+addedByCall Call.runTurn b = []
+addedByCall (Call.runTurns limit) b = []
+addedByCall (Call.run P) b = []
+addedByCall Call.imageSize b = []
+addedByCall (Call.imageWrite image) b = []
+addedByCall (Call.imageRead image) b = []
+addedByCall (Call.write w) b = []
+
+abbrev pub addedOverCalls : List Call → Buffers → List Range
+addedOverCalls [] b = []
+addedOverCalls (c ∷ cs) b = addedByCall c b ++ addedOverCalls cs (called c b .after)
+
+-- a call that makes no other machine: neither bodlarina_start nor bodlarina_image_read; the host leaves the machine's block
+abbrev pub KeepsMachine : Call → Buffers → Type 0
+KeepsMachine (Call.start rlen mlen elen rule seals) b = ⊥
+KeepsMachine (Call.step word group) b = Unit {0}
+KeepsMachine (Call.seal from size) b = Unit {0}
+KeepsMachine (Call.runStart P) b = Unit {0}
+KeepsMachine Call.runNext b = Unit {0}
+KeepsMachine Call.runTurn b = Unit {0}
+KeepsMachine (Call.runTurns limit) b = Unit {0}
+KeepsMachine (Call.run P) b = Unit {0}
+KeepsMachine Call.imageSize b = Unit {0}
+KeepsMachine (Call.imageWrite image) b = Unit {0}
+KeepsMachine (Call.imageRead image) b = ⊥
+KeepsMachine (Call.write w) b = w .machine ≡ b .machine
+
+abbrev pub EachKeepsMachine : List Call → Buffers → Type 0
+EachKeepsMachine [] b = Unit {0}
+EachKeepsMachine (c ∷ cs) b = KeepsMachine c b × EachKeepsMachine cs (called c b .after)
+
+-- over any list of such calls, refused ones included: the ranges of before and, behind them, those that were accepted since, and no other
+abbrev pub RangesAreExactOverCalls : Type 0
+RangesAreExactOverCalls = (cs : List Call) (b : Buffers) → EachKeepsMachine cs b
+    → sealsIn (afterCalls cs b .machine) ≡ sealsIn (b .machine) ++ addedOverCalls cs b

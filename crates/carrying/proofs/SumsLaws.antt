@@ -15,10 +15,10 @@ use Rattle.machine.specs.declared.Factor.{Factor}
 use Rattle.machine.specs.declared.Form.the-variants.{Plain}
 use Rattle.machine.specs.declared.Matrix.the-variants.{MatrixA, MatrixB}
 use Rattle.machine.specs.Answers.{reply, verdict, done, isDone}
-use Rattle.machine.specs.Geometry.{State, benchOf, stateOf, registerAt, accAt}
+use Rattle.machine.specs.Geometry.{Range, State, benchOf, stateOf, registerAt, accAt}
 use Rattle.machine.specs.Setting.{mill, sew}
 use Rattle.machine.specs.Refusals.{marked, checks}
-use Rattle.machine.specs.Faults.{sound}
+use Rattle.machine.specs.Faults.{sound, sealsFit}
 use Rattle.machine.specs.Operation.{Operation, times, stateAfter}
 use Rattle.machine.proofs.TestLaws.{every-each, false-true}
 use Rattle.machine.proofs.CheckLaws.{Passed, passed, no-refusal}
@@ -73,16 +73,21 @@ module _ (m : Machine) (marks : List ℕ) (a : ℕ) (m′ : Machine) (em : m′ 
 
 -- ---- a word, from the operation that it is
 
-module _ (P : Plan) (o : Op) (m : Machine) (regs marks mem : List ℕ) (O : Operation) where
+-- a state may hold no sealed range
+pub none-fit : sealsFit [] ≡ true
+unfolding sealsFit
+none-fit = refl
+
+module _ (P : Plan) (o : Op) (m : Machine) (seals : List Range) (regs marks mem : List ℕ) (O : Operation) where
   abbrev answer : Answer
-  answer = verdict (checks (ours m) O (stateOf m regs marks) mem)
+  answer = verdict (checks (ours m) (λ q. false) O (stateOf m regs marks) mem)
 
   abbrev left : State
   left = stateAfter (ours m) O (stateOf m regs marks) mem
 
   -- where it is answered 0, the operation's checks passed and its marks are set
-  word-done : carried (reply answer) m (cond (isDone answer) (left .regs) regs) (cond (isDone answer) (left .marks) marks) mem ≡ carriedFor P o (benchOf m regs marks mem)
-      → (r : Answer) (regs′ marks′ : List ℕ) → carried (reply r) m regs′ marks′ mem ≡ carriedFor P o (benchOf m regs marks mem) → isDone r ≡ true
+  word-done : carried (reply answer) m seals (cond (isDone answer) (left .regs) regs) (cond (isDone answer) (left .marks) marks) mem ≡ carriedFor P o (benchOf m seals regs marks mem)
+      → (r : Answer) (regs′ marks′ : List ℕ) → carried (reply r) m seals regs′ marks′ mem ≡ carriedFor P o (benchOf m seals regs marks mem) → isDone r ≡ true
       → (isDone answer ≡ true) × (marks′ ≡ left .marks)
   word-done k r regs′ marks′ e d =
       let q : isDone answer ≡ true = ap (λ (c : Carried). done (c .answer)) (k ∙ sym e) ∙ d in
@@ -90,29 +95,39 @@ module _ (P : Plan) (o : Op) (m : Machine) (regs marks mem : List ℕ) (O : Oper
 
 -- ---- the multiply
 
-module _ (P : Plan) (ok : planned mostElen P ≡ true) (m : Machine) (regs marks mem : List ℕ) (s : sound m regs marks ≡ true) (f : Factor) (e : times f ≡ P .factor) (q : Elements) (k : elementsOf P ≡ q) where
+-- which bytes are sealed says nothing of it
+unsealed-checks : (q : Elements) (m : Machine) (f : ℕ) (st : State) (mem : List ℕ) (z : ℕ → Bool) → verdict (checks (ours m) (λ q. false) (multiplyOf q f) st mem) ≡ verdict (checks (ours m) z (multiplyOf q f) st mem)
+unsealed-checks integers m f st mem z = refl
+unsealed-checks floats m f st mem z = refl
+
+module _ (P : Plan) (ok : planned mostElen P ≡ true) (m : Machine) (seals : List Range) (regs marks mem : List ℕ) (s : sound m regs marks ≡ true) (fit : sealsFit seals ≡ true)
+    (f : Factor) (e : times f ≡ P .factor) (q : Elements) (k : elementsOf P ≡ q) where
   abbrev multiplied : Answer
-  multiplied = verdict (checks (ours m) (multiplyOf q (times f)) (stateOf m regs marks) mem)
+  multiplied = verdict (checks (ours m) (λ q. false) (multiplyOf q (times f)) (stateOf m regs marks) mem)
 
-  answered : done (reply multiplied) ≡ done (carriedFor P Op.multiply (benchOf m regs marks mem) .answer)
-  answered = ap (λ (c : Carried). done (c .answer)) (multiply-carried P ok m regs marks mem s f e multiplied _ _ q k (record { answer-is = refl; registers-are = refl; marks-are = refl }))
+  answered : done (reply multiplied) ≡ done (carriedFor P Op.multiply (benchOf m seals regs marks mem) .answer)
+  answered =
+      ap (λ (c : Carried). done (c .answer))
+      (multiply-carried P ok m seals regs marks mem s fit f e multiplied _ _ q k
+      (record { answer-is = unsealed-checks q m (times f) (stateOf m regs marks) mem; registers-are = refl; marks-are = refl }))
 
-  pub multiply-permitted : done (carriedFor P Op.multiply (benchOf m regs marks mem) .answer) ≡ true → isDone multiplied ≡ true
+  pub multiply-permitted : done (carriedFor P Op.multiply (benchOf m seals regs marks mem) .answer) ≡ true → isDone multiplied ≡ true
   multiply-permitted d = answered ∙ d
 
-  pub multiply-answered : isDone multiplied ≡ true → done (carriedFor P Op.multiply (benchOf m regs marks mem) .answer) ≡ true
+  pub multiply-answered : isDone multiplied ≡ true → done (carriedFor P Op.multiply (benchOf m seals regs marks mem) .answer) ≡ true
   multiply-answered d = sym answered ∙ d
 
 -- and what it leaves
 pub multiply-left : (P : Plan) (ok : planned mostElen P ≡ true) (m : Machine) (regs : List ℕ) (f : Factor) (e : times f ≡ P .factor) (q : Elements) (k : elementsOf P ≡ q) (regs′ : List ℕ)
-    → regs′ ≡ registersAfter m (multiplyOf q (times f)) regs → (marks mem : List ℕ) → sound m regs marks ≡ true → done (carriedFor P Op.multiply (benchOf m regs marks mem) .answer) ≡ true
-    → carried (reply Done) m regs′ marks mem ≡ carriedFor P Op.multiply (benchOf m regs marks mem)
-multiply-left P ok m regs f e integers k regs′ er marks mem s d =
-    let w = product-loads m regs marks s (times f) 0 0 1 (multiply-permitted P ok m regs marks mem s f e integers k d) regs′ er in
-    multiply-carried P ok m regs marks mem s f e Done regs′ marks integers k (record { answer-is = w .answer-is; registers-are = w .registers-are; marks-are = w .marks-are })
-multiply-left P ok m regs f e floats k regs′ er marks mem s d =
-    let w = float-loads m regs marks s 0 0 1 (multiply-permitted P ok m regs marks mem s f e floats k d) regs′ er in
-    multiply-carried P ok m regs marks mem s f e Done regs′ marks floats k (record { answer-is = w .answer-is; registers-are = w .registers-are; marks-are = w .marks-are })
+    → regs′ ≡ registersAfter m (multiplyOf q (times f)) regs → (seals : List Range) (marks mem : List ℕ) → sound m regs marks ≡ true → sealsFit seals ≡ true
+    → done (carriedFor P Op.multiply (benchOf m seals regs marks mem) .answer) ≡ true
+    → carried (reply Done) m seals regs′ marks mem ≡ carriedFor P Op.multiply (benchOf m seals regs marks mem)
+multiply-left P ok m regs f e integers k regs′ er seals marks mem s fit d =
+    let w = product-loads m regs marks s (times f) 0 0 1 (multiply-permitted P ok m seals regs marks mem s fit f e integers k d) regs′ er in
+    multiply-carried P ok m seals regs marks mem s fit f e Done regs′ marks integers k (record { answer-is = w .answer-is; registers-are = w .registers-are; marks-are = w .marks-are })
+multiply-left P ok m regs f e floats k regs′ er seals marks mem s fit d =
+    let w = float-loads m regs marks s 0 0 1 (multiply-permitted P ok m seals regs marks mem s fit f e floats k d) regs′ er in
+    multiply-carried P ok m seals regs marks mem s fit f e Done regs′ marks floats k (record { answer-is = w .answer-is; registers-are = w .registers-are; marks-are = w .marks-are })
 
 -- ---- the two loads, and then the multiply
 
@@ -120,9 +135,11 @@ plan-kind : (P : Plan) → planned mostElen P ≡ true → kindFits P ≡ true
 unfolding planned
 plan-kind P h = every-each (format mostElen (P .sew) (P .factor) ∷ leb (P .m) 1024 ∷ leb (P .k) 1024 ∷ leb (P .n) 1024 ∷ kindFits P ∷ []) h .1 .1 .1 .1 .0
 
-module _ (P : Plan) (ok : planned mostElen P ≡ true) (m : Machine) (regs marks mem : List ℕ) (s : sound m regs marks ≡ true) (h : Steady P m marks) (i j t : ℕ)
-    (ra : Answer) (regs₁ marks₁ : List ℕ) (ea : carried (reply ra) m regs₁ marks₁ mem ≡ carriedFor P (Op.loadA i t) (benchOf m regs marks mem)) (da : isDone ra ≡ true) (s₁ : sound m regs₁ marks₁ ≡ true)
-    (rb : Answer) (regs₂ marks₂ : List ℕ) (eb : carried (reply rb) m regs₂ marks₂ mem ≡ carriedFor P (Op.loadB t j) (benchOf m regs₁ marks₁ mem)) (db : isDone rb ≡ true) (s₂ : sound m regs₂ marks₂ ≡ true) where
+module _ (P : Plan) (ok : planned mostElen P ≡ true) (m : Machine) (regs marks mem : List ℕ) (s : sound m regs marks ≡ true) (h : Steady P m marks) (i j t : ℕ) (ra : Answer) (regs₁ marks₁ : List ℕ)
+    (ea : (seals : List Range) → sealsFit seals ≡ true → carried (reply ra) m seals regs₁ marks₁ mem ≡ carriedFor P (Op.loadA i t) (benchOf m seals regs marks mem))
+    (da : isDone ra ≡ true) (s₁ : sound m regs₁ marks₁ ≡ true) (rb : Answer) (regs₂ marks₂ : List ℕ)
+    (eb : (seals : List Range) → sealsFit seals ≡ true → carried (reply rb) m seals regs₂ marks₂ mem ≡ carriedFor P (Op.loadB t j) (benchOf m seals regs₁ marks₁ mem))
+    (db : isDone rb ≡ true) (s₂ : sound m regs₂ marks₂ ≡ true) where
   abbrev a : ℕ
   a = startOf (P .a) (aRow P i t) (aColumn P i t * narrow P)
 
@@ -135,15 +152,15 @@ module _ (P : Plan) (ok : planned mostElen P ≡ true) (m : Machine) (regs marks
   abbrev loadsB : Operation
   loadsB = Operation.load Plain MatrixB 1 (narrow P) b (P .b .stride)
 
-  first : (isDone (verdict (checks (ours m) loadsA (stateOf m regs marks) mem)) ≡ true) × (marks₁ ≡ stateAfter (ours m) loadsA (stateOf m regs marks) mem .marks)
+  first : (isDone (verdict (checks (ours m) (λ q. false) loadsA (stateOf m regs marks) mem)) ≡ true) × (marks₁ ≡ stateAfter (ours m) loadsA (stateOf m regs marks) mem .marks)
   first =
-      word-done P (Op.loadA i t) m regs marks mem loadsA (a-carried P ok m regs marks mem s _ i t _ _ (record { answer-is = refl; registers-are = refl; marks-are = refl }))
-      ra regs₁ marks₁ ea da
+      word-done P (Op.loadA i t) m [] regs marks mem loadsA
+      (a-carried P ok m [] regs marks mem s none-fit _ i t _ _ (record { answer-is = λ z. refl; registers-are = refl; marks-are = refl })) ra regs₁ marks₁ (ea [] none-fit) da
 
-  second : (isDone (verdict (checks (ours m) loadsB (stateOf m regs₁ marks₁) mem)) ≡ true) × (marks₂ ≡ stateAfter (ours m) loadsB (stateOf m regs₁ marks₁) mem .marks)
+  second : (isDone (verdict (checks (ours m) (λ q. false) loadsB (stateOf m regs₁ marks₁) mem)) ≡ true) × (marks₂ ≡ stateAfter (ours m) loadsB (stateOf m regs₁ marks₁) mem .marks)
   second =
-      word-done P (Op.loadB t j) m regs₁ marks₁ mem loadsB (b-carried P ok m regs₁ marks₁ mem s₁ _ t j _ _ (record { answer-is = refl; registers-are = refl; marks-are = refl }))
-      rb regs₂ marks₂ eb db
+      word-done P (Op.loadB t j) m [] regs₁ marks₁ mem loadsB
+      (b-carried P ok m [] regs₁ marks₁ mem s₁ none-fit _ t j _ _ (record { answer-is = λ z. refl; registers-are = refl; marks-are = refl })) rb regs₂ marks₂ (eb [] none-fit) db
 
   abbrev after : State
   after = stateAfter (ours m) loadsB (stateAfter (ours m) loadsA (stateOf m regs marks) mem) mem
@@ -162,18 +179,18 @@ module _ (P : Plan) (ok : planned mostElen P ≡ true) (m : Machine) (regs marks
   suits : Suits (elementsOf P) (P .factor) (sew (m .mtype))
   suits = subst (Suits (elementsOf P) (P .factor)) (width-is m regs marks mem s (formOf P) (narrow P) a (P .a .stride) b (P .b .stride) (first .0) (second .0)) (suits-of P (plan-kind P ok))
 
-  passes : (mem′ : List ℕ) → Passed (checks (ours m) (multiplyOf (elementsOf P) (P .factor)) (stateOf m regs₂ marks₂) mem′)
+  passes : (mem′ : List ℕ) → Passed (checks (ours m) (λ q. false) (multiplyOf (elementsOf P) (P .factor)) (stateOf m regs₂ marks₂) mem′)
   passes mem′ =
-      multiply-passes (ours m) (stateOf m regs₂ marks₂) mem′ (P .factor) (elementsOf P) suits
-      (subst (λ (ms : List ℕ). Passed (checks (ours m) (Operation.multiply (P .factor) 0 0 1) (stateOf m regs₂ ms) mem′)) (sym marks-are)
+      multiply-passes (ours m) (stateOf m regs₂ marks₂) mem′ (P .factor) (λ q. false) (elementsOf P) suits
+      (subst (λ (ms : List ℕ). Passed (checks (ours m) (λ q. false) (Operation.multiply (P .factor) 0 0 1) (stateOf m regs₂ ms) mem′)) (sym marks-are)
       (product-passes m regs marks mem s (formOf P) (narrow P) a (P .a .stride) b (P .b .stride) (first .0) (second .0) (P .factor) (h .wide) (h .written)))
 
-  pub sums-answered : (mem′ : List ℕ) → done (carriedFor P Op.multiply (benchOf m regs₂ marks₂ mem′) .answer) ≡ true
-  sums-answered mem′ =
+  pub sums-answered : (mem′ : List ℕ) (seals : List Range) → sealsFit seals ≡ true → done (carriedFor P Op.multiply (benchOf m seals regs₂ marks₂ mem′) .answer) ≡ true
+  sums-answered mem′ seals fit =
       let F = formats mostElen (P .sew) (P .factor) refl (plan-format P ok) .1 in
-      multiply-answered P ok m regs₂ marks₂ mem′ s₂ (F .factor) (F .is) (elementsOf P) refl
-      (subst (λ (f : ℕ). isDone (verdict (checks (ours m) (multiplyOf (elementsOf P) f) (stateOf m regs₂ marks₂) mem′)) ≡ true) (sym (F .is))
-      (ap isDone (no-refusal (checks (ours m) (multiplyOf (elementsOf P) (P .factor)) (stateOf m regs₂ marks₂) mem′) (passes mem′))))
+      multiply-answered P ok m seals regs₂ marks₂ mem′ s₂ fit (F .factor) (F .is) (elementsOf P) refl
+      (subst (λ (f : ℕ). isDone (verdict (checks (ours m) (λ q. false) (multiplyOf (elementsOf P) f) (stateOf m regs₂ marks₂) mem′)) ≡ true) (sym (F .is))
+      (ap isDone (no-refusal (checks (ours m) (λ q. false) (multiplyOf (elementsOf P) (P .factor)) (stateOf m regs₂ marks₂) mem′) (passes mem′))))
 
   pub sums-multiply : Multiplies P m regs₂
-  sums-multiply = record { marks = marks₂; is-sound = s₂; is-done = sums-answered [] }
+  sums-multiply = record { marks = marks₂; is-sound = s₂; is-done = sums-answered [] [] none-fit }

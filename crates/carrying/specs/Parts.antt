@@ -8,7 +8,7 @@ use Rattle.machine.specs.declared.Answer.the-variants.{BadArguments}
 use Rattle.machine.specs.declared.Machine.{Machine}
 use Rattle.machine.specs.declared.Reply.{Reply}
 use Rattle.machine.specs.Answers.{reply, done}
-use Rattle.machine.specs.Geometry.{Bench, benchOf, accAt}
+use Rattle.machine.specs.Geometry.{Range, Bench, benchOf, accAt}
 use Rattle.machine.specs.Faults.{sound}
 use Rattle.machine.specs.Refusals.{widthOk, marked}
 use Rattle.machine.specs.Setting.{chosen, mill, sew}
@@ -26,8 +26,8 @@ pub record Carried : Type 0 where
   pub answer : Reply
   pub bench : Bench
 
-abbrev pub carried : Reply → Machine → (registers marks memory : List ℕ) → Carried
-carried a m registers marks memory = record { answer = a; bench = benchOf m registers marks memory }
+abbrev pub carried : Reply → Machine → List Range → (registers marks memory : List ℕ) → Carried
+carried a m seals registers marks memory = record { answer = a; bench = benchOf m seals registers marks memory }
 
 -- the word of an operation of a run
 abbrev pub carriedFor : Plan → Op → Bench → Carried
@@ -42,11 +42,12 @@ carriedBy P (some o) B = carriedFor P o B
 abbrev pub carriedAt : Run → Bench → Carried
 carriedAt R B = carriedBy (R .plan) (wordAt (runShape chosen R) (R .place)) B
 
--- the multiply of a run is not refused, in a state that is not at fault, with some marks of these registers
+-- the multiply of a run is not refused, in a state that is not at fault, with some marks of these registers; it asks for no memory and
+-- no sealed range
 pub record Multiplies (P : Plan) (m : Machine) (regs : List ℕ) : Type 0 where
   pub marks : List ℕ
   pub is-sound : sound m regs marks ≡ true
-  pub is-done : done (carriedFor P multiply (benchOf m regs marks []) .answer) ≡ true
+  pub is-done : done (carriedFor P multiply (benchOf m [] regs marks []) .answer) ≡ true
 
 -- what the multiplies of a block of C ask whatever k is: a legal type, a permitted width, and acc0 written
 pub record Steady (P : Plan) (m : Machine) (marks : List ℕ) : Type 0 where

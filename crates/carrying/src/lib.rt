@@ -16,8 +16,9 @@ ghost use Prim.Native.Nat.{ℕ, _*_, _≤_, _<_};
 ghost use Rattle.width.specs.Bounds.{mostElen};
 ghost use Rattle.machine.specs.declared.Answer.the-variants.{Done};
 ghost use Rattle.machine.specs.Answers.{reply, done, isDone, verdict};
-ghost use Rattle.machine.specs.Geometry.{Bench, benchOf, stateOf, registerCount};
-ghost use Rattle.machine.specs.Faults.{sound};
+ghost use Rattle.machine.specs.Geometry.{Range, Bench, benchOf, stateOf, registerCount};
+ghost use Rattle.machine.specs.Faults.{sound, sealsFit};
+ghost use Rattle.ranges.specs.Ranges.{sealsIn};
 ghost use Rattle.machine.specs.Refusals.{typed};
 ghost use Rattle.machine.specs.Setting.{chosen};
 ghost use Rattle.machine.specs.Operation.{Operation, times};
@@ -59,8 +60,8 @@ fn size_answer(m: Machine) -> Answer
 fn clear(plan: Plan, m: Machine, registers: &mut [u8], marks: &mut [u8]) -> Answer
     requires { ⌜ sound m (now registers) (now marks) ≡ true ⌝ }
     requires { ⌜ planned mostElen plan ≡ true ⌝ }
-    ensures { λ r. ⌜ ((memory : List ℕ) → carried (reply r) m (now (registers .exit)) (now (marks .exit)) memory
-        ≡ carriedFor plan clear (benchOf m (now (registers .entry)) (now (marks .entry)) memory)) ⌝ }
+    ensures { λ r. ⌜ ((seals : List Range) (memory : List ℕ) → sealsFit seals ≡ true → carried (reply r) m seals (now (registers .exit)) (now (marks .exit)) memory
+        ≡ carriedFor plan clear (benchOf m seals (now (registers .entry)) (now (marks .entry)) memory)) ⌝ }
 {
     let factor = plan_factor(plan);
     operations::reckoning::scale(m, registers, marks, factor, 0, 0, 0)
@@ -81,9 +82,9 @@ pub fn is_ready(plan: Plan, m: Machine, marks: &[u8]) -> bool
 pub fn multiply_written(plan: Plan, m: Machine, registers: &mut [u8])
     requires { ⌜ planned mostElen plan ≡ true ⌝ }
     requires { ⌜ Multiplies plan m (now registers) ⌝ }
-    ensures { λ _. ⌜ ((marks memory : List ℕ) → sound m (now (registers .entry)) marks ≡ true
-        → done (carriedFor plan multiply (benchOf m (now (registers .entry)) marks memory) .answer) ≡ true
-        → carried (reply Done) m (now (registers .exit)) marks memory ≡ carriedFor plan multiply (benchOf m (now (registers .entry)) marks memory)) ⌝ }
+    ensures { λ _. ⌜ ((seals : List Range) (marks memory : List ℕ) → sound m (now (registers .entry)) marks ≡ true → sealsFit seals ≡ true
+        → done (carriedFor plan multiply (benchOf m seals (now (registers .entry)) marks memory) .answer) ≡ true
+        → carried (reply Done) m seals (now (registers .exit)) marks memory ≡ carriedFor plan multiply (benchOf m seals (now (registers .entry)) marks memory)) ⌝ }
 {
     if plan.kind == 2 {
         operations::reckoning::multiply_floats(m, registers, 0, 0, 1);
@@ -97,8 +98,8 @@ pub fn multiply_written(plan: Plan, m: Machine, registers: &mut [u8])
 fn multiply(plan: Plan, m: Machine, registers: &mut [u8], marks: &[u8]) -> Answer
     requires { ⌜ sound m (now registers) (now marks) ≡ true ⌝ }
     requires { ⌜ planned mostElen plan ≡ true ⌝ }
-    ensures { λ r. ⌜ ((memory : List ℕ) → carried (reply r) m (now (registers .exit)) (now (marks .entry)) memory
-        ≡ carriedFor plan multiply (benchOf m (now (registers .entry)) (now (marks .entry)) memory)) ⌝ }
+    ensures { λ r. ⌜ ((seals : List Range) (memory : List ℕ) → sealsFit seals ≡ true → carried (reply r) m seals (now (registers .exit)) (now (marks .entry)) memory
+        ≡ carriedFor plan multiply (benchOf m seals (now (registers .entry)) (now (marks .entry)) memory)) ⌝ }
 {
     if plan.kind == 2 {
         return operations::reckoning::float_multiply(m, registers, marks, 0, 0, 1);
@@ -157,8 +158,8 @@ pub fn load_a(
     requires { ⌜ sound m (now registers) (now marks) ≡ true ⌝ }
     requires { ⌜ planned mostElen plan ≡ true ⌝ }
     requires { ⌜ (row ≤ 1024) × (term ≤ 1024) ⌝ }
-    ensures { λ r. ⌜ carried (reply r) m (now (registers .exit)) (now (marks .exit)) (now (memory .entry))
-        ≡ carriedFor plan (loadA row term) (benchOf m (now (registers .entry)) (now (marks .entry)) (now (memory .entry))) ⌝ }
+    ensures { λ r. ⌜ ((seals : List Range) → sealsFit seals ≡ true → carried (reply r) m seals (now (registers .exit)) (now (marks .exit)) (now (memory .entry))
+        ≡ carriedFor plan (loadA row term) (benchOf m seals (now (registers .entry)) (now (marks .entry)) (now (memory .entry)))) ⌝ }
 {
     let form = plan_numbers::form_of(plan);
     let line = plan_numbers::a_row(plan, row, term);
@@ -192,8 +193,8 @@ pub fn load_b(
     requires { ⌜ sound m (now registers) (now marks) ≡ true ⌝ }
     requires { ⌜ planned mostElen plan ≡ true ⌝ }
     requires { ⌜ (term ≤ 1024) × (column ≤ 1024) ⌝ }
-    ensures { λ r. ⌜ carried (reply r) m (now (registers .exit)) (now (marks .exit)) (now (memory .entry))
-        ≡ carriedFor plan (loadB term column) (benchOf m (now (registers .entry)) (now (marks .entry)) (now (memory .entry))) ⌝ }
+    ensures { λ r. ⌜ ((seals : List Range) → sealsFit seals ≡ true → carried (reply r) m seals (now (registers .exit)) (now (marks .exit)) (now (memory .entry))
+        ≡ carriedFor plan (loadB term column) (benchOf m seals (now (registers .entry)) (now (marks .entry)) (now (memory .entry)))) ⌝ }
 {
     let layout = plan.b;
     load(
@@ -215,6 +216,7 @@ pub fn load_b(
 fn store(
     plan: Plan,
     m: Machine,
+    seals: &[u8],
     registers: &[u8],
     marks: &[u8],
     memory: &mut [u8],
@@ -224,8 +226,9 @@ fn store(
     requires { ⌜ sound m (now registers) (now marks) ≡ true ⌝ }
     requires { ⌜ planned mostElen plan ≡ true ⌝ }
     requires { ⌜ (row ≤ 1024) × (column ≤ 1024) ⌝ }
-    ensures { λ r. ⌜ carried (reply r) m (now (registers .entry)) (now (marks .entry)) (now (memory .exit))
-        ≡ carriedFor plan (store row column) (benchOf m (now (registers .entry)) (now (marks .entry)) (now (memory .entry))) ⌝ }
+    requires { ⌜ sealsFit (sealsIn (now seals)) ≡ true ⌝ }
+    ensures { λ r. ⌜ carried (reply r) m (sealsIn (now (seals .entry))) (now (registers .entry)) (now (marks .entry)) (now (memory .exit))
+        ≡ carriedFor plan (store row column) (benchOf m (sealsIn (now (seals .entry))) (now (registers .entry)) (now (marks .entry)) (now (memory .entry))) ⌝ }
 {
     let bytes = plan_numbers::wide_bytes(plan);
     let offset = plan_numbers::small_times(column, bytes);
@@ -233,6 +236,7 @@ fn store(
     let start = plan_numbers::start_of(layout.address, layout.stride, row, offset);
     operations::transfers::store(
         m,
+        seals,
         registers,
         marks,
         memory,
@@ -250,14 +254,16 @@ fn store(
 pub fn carry_out(
     run: Run,
     m: Machine,
+    seals: &[u8],
     registers: &mut [u8],
     marks: &mut [u8],
     memory: &mut [u8],
 ) -> Answer
     requires { ⌜ sound m (now registers) (now marks) ≡ true ⌝ }
     requires { ⌜ soundRun chosen run ≡ true ⌝ }
-    ensures { λ r. ⌜ (let B : Bench = benchOf m (now (registers .entry)) (now (marks .entry)) (now (memory .entry)) in
-        carried (reply r) (carriedAt run B .bench .machine) (now (registers .exit)) (now (marks .exit)) (now (memory .exit)) ≡ carriedAt run B) ⌝ }
+    requires { ⌜ sealsFit (sealsIn (now seals)) ≡ true ⌝ }
+    ensures { λ r. ⌜ (let B : Bench = benchOf m (sealsIn (now (seals .entry))) (now (registers .entry)) (now (marks .entry)) (now (memory .entry)) in
+        carried (reply r) (carriedAt run B .bench .machine) (sealsIn (now (seals .entry))) (now (registers .exit)) (now (marks .exit)) (now (memory .exit)) ≡ carriedAt run B) ⌝ }
 {
     let plan = run.plan;
     let place = run.place;
@@ -270,7 +276,16 @@ pub fn carry_out(
         Place::AtA { row, term, .. } => load_a(plan, m, registers, marks, memory, row, term),
         Place::AtB { column, term, .. } => load_b(plan, m, registers, marks, memory, term, column),
         Place::AtMultiply { .. } => multiply(plan, m, registers, marks),
-        Place::AtStore { row, column } => store(plan, m, registers, marks, memory, row, column),
+        Place::AtStore { row, column } => store(
+            plan,
+            m,
+            seals,
+            registers,
+            marks,
+            memory,
+            row,
+            column,
+        ),
         Place::AtEnd => Answer::BadArguments,
     }
 }
@@ -279,7 +294,7 @@ pub fn carry_out(
 pub fn machine_after(run: Run, m: Machine) -> Machine
     requires { ⌜ numbersSound m ≡ true ⌝ }
     requires { ⌜ soundRun chosen run ≡ true ⌝ }
-    ensures { λ r. ⌜ ((registers marks memory : List ℕ) → sound m registers marks ≡ true → r ≡ carriedAt run (benchOf m registers marks memory) .bench .machine) ⌝ }
+    ensures { λ r. ⌜ ((seals : List Range) (registers marks memory : List ℕ) → sound m registers marks ≡ true → sealsFit seals ≡ true → r ≡ carriedAt run (benchOf m seals registers marks memory) .bench .machine) ⌝ }
 {
     let plan = run.plan;
     let place = run.place;

@@ -70,7 +70,7 @@ abbrev pub targetChecks : Machine → List ℕ → (f d : ℕ) → List Check
 targetChecks m marks f d = multiplyChecks m f ++ (accumulatorCheck m marks d (f * sew (m .mtype)) ∷ [])
 
 abbrev pub floatChecks : Machine → List ℕ → (d a b : ℕ) → List Check
-floatChecks m marks d a b = checks (ours m) (Operation.floatMultiply d a b) (stateOf m [] marks) []
+floatChecks m marks d a b = checks (ours m) (λ q. false) (Operation.floatMultiply d a b) (stateOf m [] marks) []
 
 abbrev pub combineChecks : Machine → List ℕ → (f d a : ℕ) → List Check
 combineChecks m marks f d a = elementwiseChecks m f ++ (accumulatorCheck m marks a (sew (m .mtype)) ∷ accumulatorCheck m marks d (f * sew (m .mtype)) ∷ [])

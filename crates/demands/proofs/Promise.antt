@@ -1,6 +1,6 @@
 -- The promise is kept.
-use Rattle.machine.proofs.Refusal.{step-refusal-changes-nothing, start-refusal-changes-nothing}
-use Rattle.machine.proofs.NoFault.{step-keeps-sound, step-keeps-file, start-sound}
+use Rattle.machine.proofs.Refusal.{step-refusal-changes-nothing, start-refusal-changes-nothing, seal-refusal-changes-nothing}
+use Rattle.machine.proofs.NoFault.{step-keeps-sound, step-keeps-file, seal-keeps-sound, start-sound}
 use Rattle.machine.proofs.Stores.{stores-are-exact}
 use Rattle.machine.proofs.SizeLaws.{chosen-grants}
 use Rattle.machine.proofs.Sealing.{seal-holds, seal-holds-from-start}
@@ -16,9 +16,11 @@ use Rattle.run_calls.proofs.Refusal as run
 use Rattle.turn_calls.proofs.Refusal as turn
 use Rattle.image_calls.proofs.Refusal as image
 use Rattle.image_calls.proofs.Packing.{image-size-packs-whole, image-write-packs-whole, image-read-packs-whole}
-use Rattle.calls.proofs.Seal.{seal-holds-over-calls, seal-holds-from-start-call}
+use Rattle.calls.proofs.Seal.{seal-holds-over-calls, seal-holds-from-start-call, seal-holds-from-read-call, start-call-holds, read-call-holds}
+use Rattle.calls.proofs.Ranges.{seal-holds-from-seal-call, seal-call-seals, ranges-are-exact-over-calls}
 use Rattle.calls.proofs.Runs.{start-calls-are-right, turn-calls-are-right, run-is-turn-calls}
 use Rattle.calls.proofs.Turns.{turns-are-turn-calls}
+use Rattle.sealing.proofs.AddedRange.{ranges-are-exact, added-range-refuses-only}
 use Rattle.transposed.proofs.Transposed.{load-then-store-transposes}
 use Rattle.slices.proofs.MovedBack.{out-and-back-restores}
 use Rattle.exact.proofs.Exact.{float-runs-are-exact, whole-runs-are-exact}
@@ -40,6 +42,7 @@ promise = record {
   demand-1 = record {
     start = start-refusal-changes-nothing;
     word = step-refusal-changes-nothing;
+    seal = seal-refusal-changes-nothing;
     run-start = run-start-changes-nothing;
     asking = ask-refusal-changes-nothing;
     turn = turn-refusal-changes-nothing;
@@ -49,6 +52,7 @@ promise = record {
     image-read = read-refusal;
     c-start = bench.start-refusal;
     c-step = bench.step-refusal;
+    c-seal = bench.seal-refusal;
     c-run-start = run.run-start-refusal;
     c-next = run.next-refusal;
     c-turn = turn.turn-refusal;
@@ -65,6 +69,7 @@ promise = record {
     words = word-refusals;
     stores = stores-are-exact;
     keeps-sound = step-keeps-sound;
+    seal-keeps-sound = seal-keeps-sound;
     start-sound = start-sound;
     seal-words = seal-holds;
     seal-words-from-start = seal-holds-from-start;
@@ -73,6 +78,8 @@ promise = record {
     seal-from-read = seal-holds-from-read;
     c-seal = seal-holds-over-calls;
     c-seal-from-start = seal-holds-from-start-call;
+    c-seal-from-read = seal-holds-from-read-call;
+    c-seal-from-seal = seal-holds-from-seal-call;
   };
   demand-3 = record {
     every-choice = demand-3;
@@ -125,5 +132,11 @@ promise = record {
     nine-c-image-write = image-write-ignores-unmarked;
     eleven = out-and-back-restores;
     eleven-file = step-keeps-file;
+    twelve = ranges-are-exact;
+    twelve-run = added-range-refuses-only;
+    twelve-c-seal = seal-call-seals;
+    twelve-c-start = start-call-holds;
+    twelve-c-read = read-call-holds;
+    twelve-c-calls = ranges-are-exact-over-calls;
   };
 }

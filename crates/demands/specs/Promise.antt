@@ -1,17 +1,18 @@
 -- All that is promised of the definitions and of the C functions, in one record: a part for each demand of document 01, and one for the
 -- statements that a request of document 02 asks for. Each line names a statement, which stands in the file that is named at the top.
 -- proofs/Promise.antt has one term of this type. That the code is its definitions is not said here, but by the contracts in src/.
-use Rattle.machine.specs.Theorems.{RefusalChangesNothing, StartRefusalChangesNothing, StepKeepsSound, StepKeepsFile, StartIsSound, StoresAreExact, RulesKeepConstraints, SealHolds, SealHoldsFromStart}
+use Rattle.machine.specs.Theorems.{RefusalChangesNothing, StartRefusalChangesNothing, SealRefusalChangesNothing, StepKeepsSound, StepKeepsFile, SealKeepsSound, StartIsSound, StoresAreExact, RulesKeepConstraints, SealHolds, SealHoldsFromStart}
 use Rattle.machine.specs.WordTheorems.{WordRefusals, NothingElseMoved, AddedGotOne}
 use Rattle.run.specs.Theorems.{RunStartChangesNothing, AskRefusalChangesNothing, TurnRefusalChangesNothing, NoTurnChangesNothing, WholeRefusalChangesNothing, SealHoldsOverActs, SealHoldsOverActsFromStart}
 use Rattle.run.specs.Statement.{RunsAreRight, OurRunsAreRight, SmallerRunsAreRight, HalvingRunsAreRight}
 use Rattle.run.specs.Whole.{WholeDelivers}
 use Rattle.run.specs.Sheet.{BenchSheet, ProductExample}
-use Rattle.bench_calls.specs.Theorems.{StartRefusalChangesNoByte, StepRefusalChangesNoByte, StepPacksWhole}
+use Rattle.bench_calls.specs.Theorems.{StartRefusalChangesNoByte, StepRefusalChangesNoByte, SealRefusalChangesNoByte, StepPacksWhole}
 use Rattle.run_calls.specs.Theorems.{RunStartRefusalChangesNoByte, NextRefusalChangesNoByte}
 use Rattle.turn_calls.specs.Theorems.{TurnRefusalChangesNoByte, NoTurnChangesNoByte, RunRefusalChangesNoByte}
 use Rattle.image_calls.specs.Theorems.{ImageWriteRefusalChangesNoByte, ImageReadRefusalChangesNoByte, ImageSizePacksWhole, ImageWritePacksWhole, ImageReadPacksWhole}
-use Rattle.calls.specs.Composed.{StartCallsAreRight, TurnCallsAreRight, TurnsAreTurnCalls, RunIsTurnCalls, SealHoldsOverCalls, SealHoldsFromStartCall}
+use Rattle.calls.specs.Composed.{StartCallsAreRight, TurnCallsAreRight, TurnsAreTurnCalls, RunIsTurnCalls, SealHoldsOverCalls, SealHoldsFromStartCall, SealHoldsFromReadCall, SealHoldsFromSealCall, SealCallSeals, StartCallHolds, ReadCallHolds, RangesAreExactOverCalls}
+use Rattle.sealing.specs.Theorems.{RangesAreExact, AddedRangeRefusesOnly}
 use Rattle.transposed.specs.Transposed.{LoadThenStoreTransposes}
 use Rattle.slices.specs.MovedBack.{OutAndBackRestores}
 use Rattle.exact.specs.Exact.{FloatRunsAreExact, WholeRunsAreExact}
@@ -29,6 +30,7 @@ use Rattle.powerup_host.specs.Calls.{CallIgnoresUnmarked, CallsIgnoreUnmarked, 
 pub record Demand1 : Type 0 where
   pub start : StartRefusalChangesNothing
   pub word : RefusalChangesNothing
+  pub seal : SealRefusalChangesNothing
   pub run-start : RunStartChangesNothing
   pub asking : AskRefusalChangesNothing
   pub turn : TurnRefusalChangesNothing
@@ -39,6 +41,7 @@ pub record Demand1 : Type 0 where
   -- of the C functions
   pub c-start : StartRefusalChangesNoByte
   pub c-step : StepRefusalChangesNoByte
+  pub c-seal : SealRefusalChangesNoByte
   pub c-run-start : RunStartRefusalChangesNoByte
   pub c-next : NextRefusalChangesNoByte
   pub c-turn : TurnRefusalChangesNoByte
@@ -57,6 +60,7 @@ pub record Demand2 : Type 0 where
   pub words : WordRefusals
   pub stores : StoresAreExact
   pub keeps-sound : StepKeepsSound
+  pub seal-keeps-sound : SealKeepsSound
   pub start-sound : StartIsSound
   pub seal-words : SealHolds
   pub seal-words-from-start : SealHoldsFromStart
@@ -66,6 +70,8 @@ pub record Demand2 : Type 0 where
   -- over lists of C calls
   pub c-seal : SealHoldsOverCalls
   pub c-seal-from-start : SealHoldsFromStartCall
+  pub c-seal-from-read : SealHoldsFromReadCall
+  pub c-seal-from-seal : SealHoldsFromSealCall
 
 -- 3: a product run, from its start on
 pub record Demand3 : Type 0 where
@@ -83,8 +89,8 @@ pub record Demand3 : Type 0 where
   pub c-many : TurnsAreTurnCalls
   pub c-run : RunIsTurnCalls
 
--- 02, where a request asks for a statement of its own: One, Two, Four, Five, Six, Nine and Eleven. Of Three, Seven and Eight the statements
--- above speak
+-- 02, where a request asks for a statement of its own: One, Two, Four, Five, Six, Nine, Eleven and Twelve. Of Three, Seven, Eight and Ten
+-- the statements above speak
 pub record Requests : Type 1 where
   pub one-nothing-else : NothingElseMoved
   pub one-added : AddedGotOne
@@ -125,6 +131,13 @@ pub record Requests : Type 1 where
   -- Eleven: of a slice, and of the vector file
   pub eleven : OutAndBackRestores
   pub eleven-file : StepKeepsFile
+  -- Twelve: which ranges a machine holds, and what one does that is added during a run; demands 1 to 3 read all ranges
+  pub twelve : RangesAreExact
+  pub twelve-run : AddedRangeRefusesOnly
+  pub twelve-c-seal : SealCallSeals
+  pub twelve-c-start : StartCallHolds
+  pub twelve-c-read : ReadCallHolds
+  pub twelve-c-calls : RangesAreExactOverCalls
 
 pub record Promise : Type 1 where
   pub demand-1 : Demand1

@@ -3,7 +3,7 @@ use mathlib.Core.Path.{_≡_, refl, sym, ap, ap₂, _∙_, subst}
 use mathlib.Core.Bool.{Bool, true, false, cond, not, _&&_, _||_}
 use mathlib.Core.List.{List, [], _∷_}
 use mathlib.Core.Logic.{inl, inr}
-use Prim.Native.Nat.{ℕ, _-_, _*_, _/_, _%_, _^_, _≤_, _<_, min}
+use Prim.Native.Nat.{ℕ, _+_, _-_, _*_, _/_, _%_, _^_, _≤_, _<_, min}
 use native.Mathlib.Omega.{arith}
 use lib.ListN.{length, getD}
 use lib.Dec.{leb, ltb, eqb}
@@ -15,12 +15,13 @@ use Rattle.machine.specs.declared.Machine.{Machine}
 use Rattle.machine.specs.Tests.{all, every, isIn}
 use Rattle.machine.specs.Geometry.{rlens, mlens, elens, permitted, registerBytes}
 use Rattle.machine.specs.Setting.{sew, legalType, newType}
-use Rattle.machine.specs.Faults.{sound}
-use Rattle.machine.proofs.TestLaws.{every-each, each, each-in, or-not, all-at}
+use Rattle.machine.specs.Starting.{sealEnds, sealsEnd, mostSeals}
+use Rattle.machine.specs.Faults.{sound, sealsFit}
+use Rattle.machine.proofs.TestLaws.{every-each, each-every, each, each-in, or-not, all-at, and-left, and-right, and-true}
 use Rattle.machine.proofs.NoFault.{Sound, sound-is, sound-true}
-use Rattle.image.specs.Images.{log2, exponent, Header, headerOf, machineFrom}
+use Rattle.image.specs.Images.{log2, exponent, Seals, Header, headerOf, machineFrom, soundWith}
 use Rattle.image.specs.ImageFormat.{mtypes, total}
-use Rattle.image.proofs.ImageLaws.{Held}
+use Rattle.image.proofs.ImageLaws.{Ending, Held}
 
 -- ---- permitted lengths and their exponents, computed
 
@@ -138,14 +139,40 @@ among-type e k t a = go a
 
 -- ---- machines
 
-module _ (m : Machine) (registers marks : List ℕ) (s : sound m registers marks ≡ true) where
+-- ranges that a machine can hold
+pub ends-ending : (rs : Seals) → sealsEnd rs ≡ true → Ending rs
+ends-ending [] h = tt
+ends-ending (r ∷ rs) h = (
+  let e : r .start + r .size ≤ 2 ^ 64 - 1 = leb-true (r .start + r .size) (2 ^ 64 - 1) (and-left (sealEnds (r .start) (r .size)) (sealsEnd rs) h) in omega arith,
+  ends-ending rs (and-right (sealEnds (r .start) (r .size)) (sealsEnd rs) h),
+)
+
+pub ending-ends : (rs : Seals) → Ending rs → sealsEnd rs ≡ true
+ending-ends [] h = refl
+ending-ends (r ∷ rs) h = and-true (sealEnds (r .start) (r .size)) (sealsEnd rs) (le-leb (r .start + r .size) (2 ^ 64 - 1) (omega (arith, h .0))) (ending-ends rs (h .1))
+
+fit-tests : Seals → List Bool
+fit-tests seals = leb (length seals) mostSeals ∷ sealsEnd seals ∷ []
+
+pub fit-facts : (seals : Seals) → sealsFit seals ≡ true → (length seals ≤ 8) × Ending seals
+unfolding sealsFit fit-tests
+fit-facts seals h = let t = every-each (fit-tests seals) h in (leb-true (length seals) 8 (t .0), ends-ending seals (t .1 .0))
+
+pub facts-fit : (seals : Seals) → length seals ≤ 8 → Ending seals → sealsFit seals ≡ true
+unfolding sealsFit fit-tests
+facts-fit seals few e = each-every (fit-tests seals) (le-leb (length seals) 8 few, (ending-ends seals e, tt))
+
+module _ (m : Machine) (seals : Seals) (registers marks : List ℕ) (s : soundWith m seals registers marks ≡ true) where
   facts : Sound m registers marks
-  facts = sound-is m registers marks s
+  facts = sound-is m registers marks (and-left (sound m registers marks) (sealsFit seals) s)
+
+  fit : (length seals ≤ 8) × Ending seals
+  fit = fit-facts seals (and-right (sound m registers marks) (sealsFit seals) s)
 
   powers : Powers (m .rlen) (m .mlen) (m .elen) (exponent (m .rlen)) (exponent (m .mlen)) (exponent (m .elen))
   powers = permitted-powers (m .rlen) (m .mlen) (m .elen) (facts .lengths)
 
-  pub held : Held (headerOf m)
+  pub held : Held (headerOf m seals)
   held =
       let st = facts .state in
       let p = powers in
@@ -158,15 +185,16 @@ module _ (m : Machine) (registers marks : List ℕ) (s : sound m registers marks
         tile-m-ok = subst (λ (x : ℕ). m .«tile_m» ≤ x) (sym (p .rows-are)) (st .m-fits);
         tile-k-ok = subst (λ (x : ℕ). m .«tile_k» ≤ x) least (st .k-fits);
         tile-n-ok = subst (λ (x : ℕ). m .«tile_n» ≤ x) (sym (p .columns-are)) (st .n-fits);
-        seal-ok = omega (arith, facts .seal-ends);
+        seals-few = fit .0;
+        seals-ok = fit .1;
         rule-ok = leb-true (m .rule) 1 (facts .rule-is);
       }
 
-  pub machine-back : machineFrom (headerOf m) ≡ m
+  pub machine-back : machineFrom (headerOf m seals) ≡ m
   machine-back =
-      ap₂ (λ (r l : ℕ). record { rlen = r; mlen = l; mtype = m .mtype; «tile_m» = m .«tile_m»; «tile_k» = m .«tile_k»; «tile_n» = m .«tile_n»; «seal_start» = m .«seal_start»; «seal_length» = m .«seal_length»; rule = m .rule; elen = 2 ^ exponent (m .elen) })
+      ap₂ (λ (r l : ℕ). record { rlen = r; mlen = l; mtype = m .mtype; «tile_m» = m .«tile_m»; «tile_k» = m .«tile_k»; «tile_n» = m .«tile_n»; rule = m .rule; elen = 2 ^ exponent (m .elen) })
       (powers .rlen-is) (powers .mlen-is)
-      ∙ ap (λ (e : ℕ). record { rlen = m .rlen; mlen = m .mlen; mtype = m .mtype; «tile_m» = m .«tile_m»; «tile_k» = m .«tile_k»; «tile_n» = m .«tile_n»; «seal_start» = m .«seal_start»; «seal_length» = m .«seal_length»; rule = m .rule; elen = e })
+      ∙ ap (λ (e : ℕ). record { rlen = m .rlen; mlen = m .mlen; mtype = m .mtype; «tile_m» = m .«tile_m»; «tile_k» = m .«tile_k»; «tile_n» = m .«tile_n»; rule = m .rule; elen = e })
       (powers .elen-is)
 
   pub registers-sized : length registers ≡ total (exponent (m .mlen))
@@ -182,21 +210,20 @@ module _ (h : Header) (k : Held h) where
   lengths-of : Lengths (h .rlen) (h .mlen) (h .elen)
   lengths-of = powers-permitted (h .rlen) (h .mlen) (h .elen) (k .elen-ok) (k .rlen-ok) (k .mlen-ok)
 
-  pub header-back : headerOf (machineFrom h) ≡ h
+  pub header-back : headerOf (machineFrom h) (h .seals) ≡ h
   header-back =
-      ap₂ (λ (r l : ℕ). record { rlen = r; mlen = l; mtype = h .mtype; tileM = h .tileM; tileK = h .tileK; tileN = h .tileN; sealStart = h .sealStart; sealLength = h .sealLength; rule = h .rule; elen = exponent (2 ^ h .elen) })
+      ap₂ (λ (r l : ℕ). record { rlen = r; mlen = l; mtype = h .mtype; tileM = h .tileM; tileK = h .tileK; tileN = h .tileN; seals = h .seals; rule = h .rule; elen = exponent (2 ^ h .elen) })
       (lengths-of .rlen-back) (lengths-of .mlen-back)
-      ∙ ap (λ (e : ℕ). record { rlen = h .rlen; mlen = h .mlen; mtype = h .mtype; tileM = h .tileM; tileK = h .tileK; tileN = h .tileN; sealStart = h .sealStart; sealLength = h .sealLength; rule = h .rule; elen = e })
+      ∙ ap (λ (e : ℕ). record { rlen = h .rlen; mlen = h .mlen; mtype = h .mtype; tileM = h .tileM; tileK = h .tileK; tileN = h .tileN; seals = h .seals; rule = h .rule; elen = e })
       (lengths-of .elen-back)
 
   pub sound-from : (registers marks : List ℕ) → length registers ≡ total (h .mlen) → length marks ≡ total (h .mlen) → ((q : ℕ) → getD marks q 0 < 2)
-      → sound (machineFrom h) registers marks ≡ true
+      → soundWith (machineFrom h) (h .seals) registers marks ≡ true
   sound-from registers marks nr nm two =
       let l = lengths-of in
-      sound-true (machineFrom h) registers marks (record {
+      and-true (sound (machineFrom h) registers marks) (sealsFit (h .seals)) (sound-true (machineFrom h) registers marks (record {
         lengths = l .allowed;
         rule-is = le-leb (h .rule) 1 (k .rule-ok);
-        seal-ends = omega (arith, k .seal-ok);
         state = record {
           regs-length = nr;
           marks-length = nm;
@@ -206,4 +233,4 @@ module _ (h : Header) (k : Held h) where
           k-fits = subst (λ (x : ℕ). h .tileK ≤ x) (ap₂ min (l .rows-are) (l .columns-are)) (k .tile-k-ok);
           n-fits = subst (λ (x : ℕ). h .tileN ≤ x) (l .columns-are) (k .tile-n-ok);
         };
-      })
+      })) (facts-fit (h .seals) (k .seals-few) (k .seals-ok))

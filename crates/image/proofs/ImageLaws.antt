@@ -1,9 +1,9 @@
 -- The format accepts the bytes of a header that a machine can hold and of runs that fit, and nothing else.
 use mathlib.Core.Path.{_≡_, refl, sym, ap, ap₂, _∙_, subst}
-use mathlib.Core.Bool.{Bool, true, false, cond, _&&_, _||_}
+use mathlib.Core.Bool.{Bool, true, false, cond, not, _&&_, _||_}
 use mathlib.Core.List.{List, [], _∷_, _++_, map}
 use mathlib.Core.Option.{none, some}
-use mathlib.Core.Logic.{inl, inr}
+use mathlib.Core.Logic.{_⊎_, inl, inr}
 use Prim.Native.Nat.{ℕ, zero, suc, _+_, _-_, _*_, _^_, _≤_, _<_, min}
 use native.Mathlib.Omega.{arith}
 use lib.ListN.{length, replicate}
@@ -18,9 +18,15 @@ use Rattle.format.specs.Parser.{Live}
 use Rattle.format.proofs.NumberLaws.{among-nonempty}
 use Rattle.image.specs.Cells.{Cell, widen, join, Run, runs, spread, Fit}
 use Rattle.image.specs.Cells.Run.{run}
-use Rattle.image.specs.Images.{Header, beyond, version, fields, runsBytes, spelled}
-use Rattle.image.specs.ImageFormat.{Described, topRlen, topMlen, leastMlen, mtypes, tilesFormat, sealFormat, total, runsFormat, imageFormat}
+use Rattle.machine.specs.Geometry.{range}
+use Rattle.image.specs.Images.{Seals, Header, beyond, single, version, bounds, sealFields, fields, runsBytes, spelled}
+use Rattle.image.specs.ImageFormat.{Described, topRlen, topMlen, leastMlen, mtypes, tilesFormat, rangesFormat, counts, sealsFormat, total, runsFormat, imageFormat}
 use Rattle.image.proofs.RunLaws.{fit-many}
+
+-- ranges that end where they may
+abbrev pub Ending : Seals → Type 0
+Ending [] = Unit {0}
+Ending (r ∷ rs) = (r .start + r .size < 2 ^ 64) × Ending rs
 
 -- numbers that a machine can hold
 pub record Held (h : Header) : Type 0 where
@@ -31,7 +37,8 @@ pub record Held (h : Header) : Type 0 where
   pub tile-m-ok : h .tileM ≤ 2 ^ (h .mlen - h .rlen)
   pub tile-k-ok : h .tileK ≤ min (2 ^ (h .mlen - h .rlen)) (2 ^ (h .rlen - 3))
   pub tile-n-ok : h .tileN ≤ 2 ^ (h .rlen - 3)
-  pub seal-ok : h .sealStart + h .sealLength < 2 ^ 64
+  pub seals-few : length (h .seals) ≤ 8
+  pub seals-ok : Ending (h .seals)
   pub rule-ok : h .rule ≤ 1
 
 -- there is room for l more runs
@@ -124,6 +131,127 @@ room-first (suc c) half h = omega arith
 pub fit-first : (n : ℕ) (rs : List Run) → Fit 0 n rs → 2 * length rs ≤ n + 1
 fit-first n [] h = omega arith
 fit-first n (run g b ∷ rs) h = omega (arith, h .0, fit-many (n - (g + length b)) rs (h .1))
+
+-- ---- the ranges
+
+ranges-live : (n : ℕ) (K : Seals → Format Described) → ((rs : Seals) → Live (K rs)) → Live (rangesFormat n K)
+unfolding rangesFormat
+ranges-live zero K h = h []
+ranges-live (suc n) K h = (
+  among-nonempty 0 (span 0 (2 ^ 64 - 1)) (inl (omega arith)),
+  λ st hst. (
+    among-nonempty 0 (span 0 (2 ^ 64 - 1 - st)) (inl (omega arith)),
+    λ ln hln. ranges-live n (λ rs. K (range st ln ∷ rs)) (λ rs. h (range st ln ∷ rs)),
+  ),
+)
+
+-- so many ranges, written, and what follows them
+record Ranged (n : ℕ) (K : Seals → Format Described) (s : List ℕ) (y : Described) : Type 0 where
+  them : Seals
+  rest : List ℕ
+  many : length them ≡ n
+  ending : Ending them
+  bytes-are : s ≡ encodeAll (bounds them) rest
+  follows : Accepts (K them) rest y
+
+ranges-out : (n : ℕ) (K : Seals → Format Described) (s : List ℕ) (y : Described) → Accepts (rangesFormat n K) s y → Ranged n K s y
+unfolding rangesFormat
+ranges-out zero K s y a = record { them = []; rest = s; many = refl; ending = tt; bytes-are = refl; follows = a }
+ranges-out (suc n) K s y (st, t, hst, e, (ln, u, hln, e₁, a)) =
+    let ks = among-span hst in
+    let kl = among-span hln in
+    let r = ranges-out n (λ rs. K (range st ln ∷ rs)) u y a in
+    record {
+      them = range st ln ∷ r .them;
+      rest = r .rest;
+      many = ap suc (r .many);
+      ending = (omega arith, r .ending);
+      bytes-are = e ∙ ap (λ (z : List ℕ). encode st ++ z) (e₁ ∙ ap (λ (z : List ℕ). encode ln ++ z) (r .bytes-are));
+      follows = r .follows;
+    }
+
+ranges-in : (rs : Seals) (K : Seals → Format Described) (t : List ℕ) (y : Described) → Ending rs → Accepts (K rs) t y
+    → Accepts (rangesFormat (length rs) K) (encodeAll (bounds rs) t) y
+unfolding rangesFormat
+ranges-in [] K t y h a = a
+ranges-in (r ∷ rs) K t y h a = (
+  r .start,
+  _,
+  inl (omega (arith, h .0)),
+  refl,
+  (r .size, _, inl (omega (arith, h .0)), refl, ranges-in rs (λ qs. K (range (r .start) (r .size) ∷ qs)) t y (h .1) a),
+)
+
+-- the number of ranges of version 4
+counts-among : (n : ℕ) → n ≤ 8 → ¬ (n ≡ 1) → Among n counts
+counts-among n few other = elim (le-or-lt 2 n) [
+  | inl l ↦ inr (inl (l, few))
+  | inr l ↦ elim (le-or-lt 1 n) [ inl g ↦ absurd (other (omega arith)) | inr g ↦ inl (omega arith) ]
+]
+
+among-counts : (n : ℕ) → Among n counts → (n ≤ 8) × ¬ (n ≡ 1)
+among-counts n (inl h) = (omega (arith, h), λ e. omega (arith, h, e))
+among-counts n (inr (inl h)) = (omega (arith, h), λ e. omega (arith, h, e))
+among-counts n (inr (inr h)) = absurd h
+
+seals-live : (v : ℕ) (K : Seals → Format Described) → ((rs : Seals) → Live (K rs)) → Live (sealsFormat v K)
+seals-live v K h = go (eqb v 4)
+  where
+    go : (t : Bool) → Live (cond t (number counts λ count. rangesFormat count K) (rangesFormat 1 K))
+    go true = (among-nonempty 0 counts (inl (omega arith)), λ n hn. ranges-live n K h)
+    go false = ranges-live 1 K h
+
+-- the ranges that a version has: version 4 any number but one, the others one
+record Sealing (v : ℕ) (K : Seals → Format Described) (s : List ℕ) (y : Described) : Type 0 where
+  them : Seals
+  rest : List ℕ
+  few : length them ≤ 8
+  one : single them ≡ not (eqb v 4)
+  ending : Ending them
+  bytes-are : s ≡ encodeAll (sealFields them) rest
+  follows : Accepts (K them) rest y
+
+seals-out : (v : ℕ) (K : Seals → Format Described) (s : List ℕ) (y : Described) → Accepts (sealsFormat v K) s y → Sealing v K s y
+seals-out v K s y = go (eqb v 4) refl
+  where
+    go : (t : Bool) → eqb v 4 ≡ t → Accepts (cond t (number counts λ count. rangesFormat count K) (rangesFormat 1 K)) s y → Sealing v K s y
+    go true q (n, t, hn, e, a) =
+        let r = ranges-out n K t y a in
+        let k = among-counts n hn in
+        let other : single (r .them) ≡ false = ne-eqb (length (r .them)) 1 (λ l. k .1 (sym (r .many) ∙ l)) in
+        record {
+          them = r .them;
+          rest = r .rest;
+          few = omega (arith, r .many, k .0);
+          one = other ∙ ap not (sym q);
+          ending = r .ending;
+          bytes-are = e ∙ ap₂ (λ (x : ℕ) (z : List ℕ). encode x ++ z) (sym (r .many)) (r .bytes-are)
+              ∙ ap (λ (b : Bool). encodeAll (cond b (bounds (r .them)) (length (r .them) ∷ bounds (r .them))) (r .rest)) (sym other);
+          follows = r .follows;
+        }
+    go false q a =
+        let r = ranges-out 1 K s y a in
+        let one : single (r .them) ≡ true = eq-eqb (length (r .them)) 1 (r .many) in
+        record {
+          them = r .them;
+          rest = r .rest;
+          few = omega (arith, r .many);
+          one = one ∙ ap not (sym q);
+          ending = r .ending;
+          bytes-are = r .bytes-are ∙ ap (λ (b : Bool). encodeAll (cond b (bounds (r .them)) (length (r .them) ∷ bounds (r .them))) (r .rest)) (sym one);
+          follows = r .follows;
+        }
+
+seals-in : (v : ℕ) (rs : Seals) (K : Seals → Format Described) (t : List ℕ) (y : Described) → length rs ≤ 8 → Ending rs → single rs ≡ not (eqb v 4)
+    → Accepts (K rs) t y → Accepts (sealsFormat v K) (encodeAll (sealFields rs) t) y
+seals-in v rs K t y few h one a = go (eqb v 4) one (single rs) refl
+  where
+    go : (u : Bool) → single rs ≡ not u → (o : Bool) → single rs ≡ o
+        → Accepts (cond u (number counts λ count. rangesFormat count K) (rangesFormat 1 K)) (encodeAll (cond o (bounds rs) (length rs ∷ bounds rs)) t) y
+    go true e true q = absurd (false-true (sym e ∙ q))
+    go true e false q = (length rs, _, counts-among (length rs) few (eqb-false (length rs) 1 q), refl, ranges-in rs K t y h a)
+    go false e true q = subst (λ (n : ℕ). Accepts (rangesFormat n K) (encodeAll (bounds rs) t) y) (eqb-true (length rs) 1 q) (ranges-in rs K t y h a)
+    go false e false q = absurd (false-true (sym q ∙ e))
 
 -- ---- the bounds by the version
 
@@ -223,9 +351,9 @@ afterRule version rule elen =
     number (span (suc elen) (topRlen version)) λ r.
     number (span (leastMlen version elen r) (topMlen version)) λ m.
     tilesFormat elen (2 ^ (m - r)) (2 ^ (r - 3)) λ t tm tk tn.
-    sealFormat λ st ln.
+    sealsFormat version λ seals.
     number (span 0 (2 ^ m)) λ c.
-    runsFormat (λ rs. record { header = record { rlen = r; mlen = m; mtype = t; tileM = tm; tileK = tk; tileN = tn; sealStart = st; sealLength = ln; rule = rule; elen = elen }; body = rs }) c 0 (total m)
+    runsFormat (λ rs. record { header = record { rlen = r; mlen = m; mtype = t; tileM = tm; tileK = tk; tileN = tn; seals = seals; rule = rule; elen = elen }; body = rs }) c 0 (total m)
 
 some-rlen : (v e : ℕ) → e ≤ 6 → suc e ≤ topRlen v
 unfolding topRlen
@@ -260,17 +388,11 @@ after-live v rule elen few = (
           among-nonempty 0 (span 0 (min (2 ^ (m - r)) (2 ^ (r - 3)))) (inl (omega arith)),
           λ tk htk. (
             among-nonempty 0 (span 0 (2 ^ (r - 3))) (inl (omega arith)),
-            λ tn htn. (
-              among-nonempty 0 (span 0 (2 ^ 64 - 1)) (inl (omega arith)),
-              λ st hst. (
-                among-nonempty 0 (span 0 (2 ^ 64 - 1 - st)) (inl (omega arith)),
-                λ ln hln. (
-                  among-nonempty 0 (span 0 (2 ^ m)) (inl (omega arith)),
-                  λ c hc. let kc = among-span hc in
-                      runs-live _ c 0 (total m) (room-first c (2 ^ m) (kc .1)),
-                ),
-              ),
-            ),
+            λ tn htn. seals-live v _ (λ rs. (
+              among-nonempty 0 (span 0 (2 ^ m)) (inl (omega arith)),
+              λ c hc. let kc = among-span hc in
+                  runs-live _ c 0 (total m) (room-first c (2 ^ m) (kc .1)),
+            )),
           ),
         ),
       ),
@@ -280,7 +402,7 @@ after-live v rule elen few = (
 
 pub image-live : Live imageFormat
 unfolding imageFormat
-image-live = (among-nonempty 1 (span 1 3) (inl (omega arith)), λ v hv. by v (eqb v 1) (eqb v 2))
+image-live = (among-nonempty 1 (span 1 4) (inl (omega arith)), λ v hv. by v (eqb v 1) (eqb v 2))
   where
     by : (v : ℕ) (t u : Bool) → Live (cond t (afterRule v 0 5) (cond u (number (span 1 1) λ rule. afterRule v rule 5) (number (span 0 1) λ rule. number (span 5 6) λ elen. afterRule v rule elen)))
     by v true u = after-live v 0 5 (omega arith)
@@ -302,6 +424,7 @@ bytesAfter h rs = encodeAll (fields h) (encode (length rs) ++ runsBytes rs)
 record SpellingAfter (version rule elen : ℕ) (s : List ℕ) (d : Described) : Type 0 where
   sound : Held (d .header)
   by-version : ByVersion version (d .header .elen) (d .header .rlen) (d .header .mlen)
+  seals-are : single (d .header .seals) ≡ not (eqb version 4)
   elen-is : d .header .elen ≡ elen
   fits : Fit 0 (total (d .header .mlen)) (d .body)
   all-bytes : AllBytes (d .body)
@@ -310,18 +433,19 @@ record SpellingAfter (version rule elen : ℕ) (s : List ℕ) (d : Described) : 
 
 after-out : (v rule elen : ℕ) → rule ≤ 1 → (5 ≤ elen) × (elen ≤ 6) → (v < 3 → elen ≡ 5) → (s : List ℕ) (d : Described)
     → Accepts (afterRule v rule elen) s d → SpellingAfter v rule elen s d
-after-out v rule elen u few five s d (r, t1, hr, e1, (m, t2, hm, e2, (ty, t3, hty, e3, (tm, t4, htm, e4, (tk, t5, htk, e5, (tn, t6, htn, e6, (st, t7, hst, e7, (ln, t8, hln, e8, (c, t9, hc, e9, a))))))))) =
-    let h : Header = record { rlen = r; mlen = m; mtype = ty; tileM = tm; tileK = tk; tileN = tn; sealStart = st; sealLength = ln; rule = rule; elen = elen } in
+after-out v rule elen u few five s d (r, t1, hr, e1, (m, t2, hm, e2, (ty, t3, hty, e3, (tm, t4, htm, e4, (tk, t5, htk, e5, (tn, t6, htn, e6, a₀)))))) =
+    let g : Seals → Header = λ seals. record { rlen = r; mlen = m; mtype = ty; tileM = tm; tileK = tk; tileN = tn; seals = seals; rule = rule; elen = elen } in
+    let z = seals-out v (λ seals. number (span 0 (2 ^ m)) λ c. runsFormat (λ rs. record { header = g seals; body = rs }) c 0 (total m)) t6 d a₀ in
+    let h : Header = g (z .them) in
+    let y = z .follows in
     let kr = among-span hr in
     let km = among-span hm in
     let ktm = among-span htm in
     let ktk = among-span htk in
     let ktn = among-span htn in
-    let kst = among-span hst in
-    let kln = among-span hln in
-    let kc = among-span hc in
+    let kc = among-span (y .2) in
     let low : r ≤ 12 = omega (arith, top-rlen v) in
-    let w = runs-out (λ rs. record { header = h; body = rs }) c 0 (total m) (room-first c (2 ^ m) (kc .1)) t9 d a in
+    let w = runs-out (λ rs. record { header = h; body = rs }) (y .0) 0 (total m) (room-first (y .0) (2 ^ m) (kc .1)) (y .1) d (y .4) in
     subst (SpellingAfter v rule elen s) (w .is)
     (record {
       sound = record {
@@ -332,12 +456,14 @@ after-out v rule elen u few five s d (r, t1, hr, e1, (m, t2, hm, e2, (ty, t3, ht
         tile-m-ok = ktm .1;
         tile-k-ok = ktk .1;
         tile-n-ok = ktn .1;
-        seal-ok = omega arith;
+        seals-few = z .few;
+        seals-ok = z .ending;
         rule-ok = u;
       };
       fits = w .fits;
       all-bytes = w .all-bytes;
       by-version = bounds-are v elen r m few five (kr .1) (km .0) (km .1);
+      seals-are = z .one;
       elen-is = refl;
       rule-is = refl;
       are =
@@ -347,24 +473,23 @@ after-out v rule elen u few five s d (r, t1, hr, e1, (m, t2, hm, e2, (ty, t3, ht
           (e4 ∙ ap (λ (z : List ℕ). encode tm ++ z)
           (e5 ∙ ap (λ (z : List ℕ). encode tk ++ z)
           (e6 ∙ ap (λ (z : List ℕ). encode tn ++ z)
-          (e7 ∙ ap (λ (z : List ℕ). encode st ++ z)
-          (e8 ∙ ap (λ (z : List ℕ). encode ln ++ z)
-          (e9 ∙ ap₂ (λ (x : ℕ) (z : List ℕ). encode x ++ z) (sym (w .many)) (w .bytes-are)))))))));
+          (z .bytes-are ∙ ap (encodeAll (sealFields (z .them)))
+          (y .3 ∙ ap₂ (λ (x : ℕ) (z : List ℕ). encode x ++ z) (sym (w .many)) (w .bytes-are))))))));
     })
 
 -- the version that a machine has, by its numbers
-spelledVersion : (large : Bool) (rule elen : ℕ) → List ℕ
-spelledVersion large rule elen = cond large (3 ∷ rule ∷ elen ∷ []) (cond (eqb rule 1) (2 ∷ 1 ∷ []) (1 ∷ []))
+spelledVersion : (one large : Bool) (rule elen : ℕ) → List ℕ
+spelledVersion one large rule elen = cond one (cond large (3 ∷ rule ∷ elen ∷ []) (cond (eqb rule 1) (2 ∷ 1 ∷ []) (1 ∷ []))) (4 ∷ rule ∷ elen ∷ [])
 
-spelling-behind : (large : Bool) (v rule elen : ℕ) (s t : List ℕ) (d : Described) → s ≡ encodeAll (spelledVersion large rule elen) t
-    → SpellingAfter v rule elen t d → beyond (d .header .elen) (d .header .rlen) (d .header .mlen) ≡ large → Spelling s d
+spelling-behind : (one large : Bool) (v rule elen : ℕ) (s t : List ℕ) (d : Described) → s ≡ encodeAll (spelledVersion one large rule elen) t
+    → SpellingAfter v rule elen t d → single (d .header .seals) ≡ one → beyond (d .header .elen) (d .header .rlen) (d .header .mlen) ≡ large → Spelling s d
 unfolding spelledVersion
-spelling-behind large v rule elen s t d e k b = record {
+spelling-behind one large v rule elen s t d e k o b = record {
   sound = k .sound;
   fits = k .fits;
   all-bytes = k .all-bytes;
-  are = e ∙ ap (λ (b : Bool). encodeAll (spelledVersion b rule elen) t) (sym b)
-      ∙ ap₂ (λ (x y : ℕ). encodeAll (spelledVersion (beyond (d .header .elen) (d .header .rlen) (d .header .mlen)) x y) t) (sym (k .rule-is)) (sym (k .elen-is))
+  are = e ∙ ap₂ (λ (o b : Bool). encodeAll (spelledVersion o b rule elen) t) (sym o) (sym b)
+      ∙ ap₂ (λ (x y : ℕ). encodeAll (spelledVersion (single (d .header .seals)) (beyond (d .header .elen) (d .header .rlen) (d .header .mlen)) x y) t) (sym (k .rule-is)) (sym (k .elen-is))
       ∙ ap (encodeAll (version (d .header))) (k .are);
 }
 
@@ -375,10 +500,14 @@ image-out s d (v, t, hv, e, a) = by (eqb v 1) refl (eqb v 2) refl a
     start : (x : ℕ) → v ≡ x → s ≡ encode x ++ t
     start x q = e ∙ ap (λ (y : ℕ). encode y ++ t) q
 
-    three : (1 ≤ v) × (v ≤ 3) → ¬ (v ≡ 1) → ¬ (v ≡ 2) → v ≡ 3
-    three k one two = elim (le-or-lt 2 v) [
-      | inl l ↦ elim (le-or-lt 3 v) [ inl g ↦ omega (arith, k) | inr g ↦ absurd (two (omega (arith, k))) ]
-      | inr l ↦ absurd (one (omega (arith, k)))
+    -- one range, but for version 4
+    ranges : (x : ℕ) → v ≡ x → {rule elen : ℕ} {t : List ℕ} → SpellingAfter v rule elen t d → single (d .header .seals) ≡ not (eqb x 4)
+    ranges x q k = k .seals-are ∙ ap (λ (y : ℕ). not (eqb y 4)) q
+
+    third : (1 ≤ v) × (v ≤ 4) → ¬ (v ≡ 1) → ¬ (v ≡ 2) → (v ≡ 3) ⊎ (v ≡ 4)
+    third k one two = elim (le-or-lt 3 v) [
+      | inl g ↦ elim (le-or-lt 4 v) [ inl l ↦ inr (omega (arith, k)) | inr l ↦ inl (omega (arith, k)) ]
+      | inr g ↦ elim (le-or-lt 2 v) [ inl l ↦ absurd (two (omega (arith, k))) | inr l ↦ absurd (one (omega (arith, k))) ]
     ]
 
     by : (b : Bool) → eqb v 1 ≡ b → (c : Bool) → eqb v 2 ≡ c
@@ -386,22 +515,29 @@ image-out s d (v, t, hv, e, a) = by (eqb v 1) refl (eqb v 2) refl a
     by true q c z a =
         let is = eqb-true v 1 q in
         let k = after-out v 0 5 (omega arith) (omega arith, omega arith) (λ l. refl) t d a in
-        spelling-behind false v 0 5 s t d (start 1 is) k (k .by-version .old (omega arith))
+        spelling-behind true false v 0 5 s t d (start 1 is) k (ranges 1 is k) (k .by-version .old (omega arith))
     by false q true z (r, t′, hr, e′, a) =
         let kr = among-span hr in
         let one : r ≡ 1 = omega arith in
         let is = eqb-true v 2 z in
         let k = subst (λ (x : ℕ). SpellingAfter v x 5 t′ d) one (after-out v r 5 (omega arith) (omega arith, omega arith) (λ l. refl) t′ d a) in
-        spelling-behind false v 1 5 s t′ d (start 2 is ∙ ap (λ (z : List ℕ). encode 2 ++ z) (e′ ∙ ap (λ (x : ℕ). encode x ++ t′) one)) k (k .by-version .old (omega arith))
-    by false q false z (r, t′, hr, e′, (el, t″, he, e″, a)) =
-        let kr = among-span hr in
-        let is = three (among-span hv) (eqb-false v 1 q) (eqb-false v 2 z) in
-        let k = after-out v r el (kr .1) (among-span he) (λ l. absurd (omega arith)) t″ d a in
-        spelling-behind true v r el s t″ d (start 3 is ∙ ap (λ (z : List ℕ). encode 3 ++ z) (e′ ∙ ap (λ (z : List ℕ). encode r ++ z) e″)) k (k .by-version .large is)
+        spelling-behind true false v 1 5 s t′ d (start 2 is ∙ ap (λ (z : List ℕ). encode 2 ++ z) (e′ ∙ ap (λ (x : ℕ). encode x ++ t′) one)) k (ranges 2 is k) (k .by-version .old (omega arith))
+    by false q false z (r, t′, hr, e′, (el, t″, he, e″, a)) = last (third (among-span hv) (eqb-false v 1 q) (eqb-false v 2 z))
+      where
+        behind : (x : ℕ) → v ≡ x → s ≡ encode x ++ (encode r ++ (encode el ++ t″))
+        behind x is = start x is ∙ ap (λ (z : List ℕ). encode x ++ z) (e′ ∙ ap (λ (z : List ℕ). encode r ++ z) e″)
 
-after-in : (v : ℕ) (h : Header) (rs : List Run) → ByVersion v (h .elen) (h .rlen) (h .mlen) → Held h → Fit 0 (total (h .mlen)) rs → AllBytes rs
+        last : (v ≡ 3) ⊎ (v ≡ 4) → Spelling s d
+        last (inl is) =
+            let k = after-out v r el (among-span hr .1) (among-span he) (λ l. absurd (omega arith)) t″ d a in
+            spelling-behind true true v r el s t″ d (behind 3 is) k (ranges 3 is k) (k .by-version .large is)
+        last (inr is) =
+            let k = after-out v r el (among-span hr .1) (among-span he) (λ l. absurd (omega arith)) t″ d a in
+            spelling-behind false (beyond (d .header .elen) (d .header .rlen) (d .header .mlen)) v r el s t″ d (behind 4 is) k (ranges 4 is k) refl
+
+after-in : (v : ℕ) (h : Header) (rs : List Run) → ByVersion v (h .elen) (h .rlen) (h .mlen) → single (h .seals) ≡ not (eqb v 4) → Held h → Fit 0 (total (h .mlen)) rs → AllBytes rs
     → Accepts (afterRule v (h .rule) (h .elen)) (bytesAfter h rs) (record { header = h; body = rs })
-after-in v h rs u k f b =
+after-in v h rs u o k f b =
     let n = are-bounds v (h .elen) (h .rlen) (h .mlen) (k .elen-ok) (k .rlen-ok .1) (k .mlen-ok) u in
     let many = fit-first (total (h .mlen)) rs f in (
       h .rlen,
@@ -433,25 +569,8 @@ after-in v h rs u k f b =
                 _,
                 inl (omega arith, k .tile-n-ok),
                 refl,
-                (
-                  h .sealStart,
-                  _,
-                  inl (omega (arith, k .seal-ok)),
-                  refl,
-                  (
-                    h .sealLength,
-                    _,
-                    inl (omega (arith, k .seal-ok)),
-                    refl,
-                    (
-                      length rs,
-                      _,
-                      inl (omega arith),
-                      refl,
-                      runs-in (λ qs. record { header = h; body = qs }) 0 (total (h .mlen)) rs f b,
-                    ),
-                  ),
-                ),
+                seals-in v (h .seals) _ _ _ (k .seals-few) (k .seals-ok) o
+                    (length rs, _, inl (omega arith), refl, runs-in (λ qs. record { header = h; body = qs }) 0 (total (h .mlen)) rs f b),
               ),
             ),
           ),
@@ -462,22 +581,23 @@ after-in v h rs u k f b =
 pub image-in : (h : Header) (rs : List Run) → Held h → Fit 0 (total (h .mlen)) rs → AllBytes rs
     → Accepts imageFormat (spelled h rs) (record { header = h; body = rs })
 unfolding imageFormat
-image-in h rs k f b = by (beyond (h .elen) (h .rlen) (h .mlen)) refl (eqb (h .rule) 1) refl
+image-in h rs k f b = by (single (h .seals)) refl (beyond (h .elen) (h .rlen) (h .mlen)) refl (eqb (h .rule) 1) refl
   where
     d : Described
     d = record { header = h; body = rs }
 
-    rest : (v x : ℕ) → v < 3 → beyond (h .elen) (h .rlen) (h .mlen) ≡ false → h .rule ≡ x → Accepts (afterRule v x 5) (bytesAfter h rs) d
-    rest v x l u q =
+    rest : (v x : ℕ) → v < 3 → single (h .seals) ≡ not (eqb v 4) → beyond (h .elen) (h .rlen) (h .mlen) ≡ false → h .rule ≡ x → Accepts (afterRule v x 5) (bytesAfter h rs) d
+    rest v x l o u q =
         let five = within-old (h .elen) (h .rlen) (h .mlen) (k .elen-ok) u .0 in
-        let is = after-in v h rs (record { old = λ z. u; large = λ z. absurd (omega arith) }) k f b in
+        let is = after-in v h rs (record { old = λ z. u; large = λ z. absurd (omega arith) }) o k f b in
         subst (λ (e : ℕ). Accepts (afterRule v x e) (bytesAfter h rs) d) five (subst (λ (x : ℕ). Accepts (afterRule v x (h .elen)) (bytesAfter h rs) d) q is)
 
-    by : (u : Bool) → beyond (h .elen) (h .rlen) (h .mlen) ≡ u → (t : Bool) → eqb (h .rule) 1 ≡ t
-        → Accepts imageFormat (encodeAll (cond u (3 ∷ h .rule ∷ h .elen ∷ []) (cond t (2 ∷ 1 ∷ []) (1 ∷ []))) (bytesAfter h rs)) d
-    by true p t q = (3, _, inl (omega arith), refl, (h .rule, _, inl (omega (arith, k .rule-ok)), refl, (h .elen, _, inl (k .elen-ok), refl, after-in 3 h rs (record { old = λ z. absurd (omega arith); large = λ z. p }) k f b)))
-    by false p true q = (2, _, inl (omega arith), refl, (1, _, inl (omega arith), refl, rest 2 1 (omega arith) p (eqb-true (h .rule) 1 q)))
-    by false p false q = (1, _, inl (omega arith), refl, rest 1 0 (omega arith) p (omega (arith, k .rule-ok, eqb-false (h .rule) 1 q)))
+    by : (o : Bool) → single (h .seals) ≡ o → (u : Bool) → beyond (h .elen) (h .rlen) (h .mlen) ≡ u → (t : Bool) → eqb (h .rule) 1 ≡ t
+        → Accepts imageFormat (encodeAll (cond o (cond u (3 ∷ h .rule ∷ h .elen ∷ []) (cond t (2 ∷ 1 ∷ []) (1 ∷ []))) (4 ∷ h .rule ∷ h .elen ∷ [])) (bytesAfter h rs)) d
+    by true o true p t q = (3, _, inl (omega arith), refl, (h .rule, _, inl (omega (arith, k .rule-ok)), refl, (h .elen, _, inl (k .elen-ok), refl, after-in 3 h rs (record { old = λ z. absurd (omega arith); large = λ z. p }) o k f b)))
+    by true o false p true q = (2, _, inl (omega arith), refl, (1, _, inl (omega arith), refl, rest 2 1 (omega arith) o p (eqb-true (h .rule) 1 q)))
+    by true o false p false q = (1, _, inl (omega arith), refl, rest 1 0 (omega arith) o p (omega (arith, k .rule-ok, eqb-false (h .rule) 1 q)))
+    by false o u p t q = (4, _, inl (omega arith), refl, (h .rule, _, inl (omega (arith, k .rule-ok)), refl, (h .elen, _, inl (k .elen-ok), refl, after-in 4 h rs (record { old = λ z. absurd (omega arith); large = λ z. absurd (omega arith) }) o k f b)))
 
 -- ---- the bytes of runs and of cells
 

@@ -19,14 +19,14 @@ use Rattle.machine.specs.declared.Machine.{Machine}
 use Rattle.machine.specs.Geometry.{registerBytes, Bench, benchOf}
 use Rattle.machine.specs.Setting.{chosen}
 use Rattle.machine.specs.Starting.{noMachine}
-use Rattle.machine.specs.Faults.{sound, soundBench}
+use Rattle.machine.specs.Faults.{soundBench}
 use Rattle.machine.specs.Alike.{Alike}
-use Rattle.machine.proofs.TestLaws.{every-each, each-every, in-within}
+use Rattle.machine.proofs.TestLaws.{every-each, each-every}
 use Rattle.machine.proofs.Sealing.{seal-holds}
 use Rattle.image.specs.declared.Imaged.the-variants.{Done, BadArguments, NoRoom}
 use Rattle.image.specs.Answers.{ImageReply, imageReply}
 use Rattle.image.specs.Cells.{Cell, Run, cellsOf, runs, spread, Fit, over, marksOf}
-use Rattle.image.specs.Images.{Header, exponent, headerOf, machineFrom, spelled, imageOf, IsImage}
+use Rattle.image.specs.Images.{Seals, Header, exponent, headerOf, machineFrom, spelled, imageOf, soundWith, IsImage}
 use Rattle.image.specs.ImageFormat.{Described, total, imageFormat}
 use Rattle.image.specs.Writing.{WriteOutcome, written, writeImage}
 use Rattle.image.specs.Reading.{ReadOutcome, restored, cellsIn, fitted, readAs, readImage}
@@ -41,45 +41,46 @@ use Rattle.image.proofs.CellLaws.{length-cells, cells-ok, alike-cells, 
 pub alike-one-image : AlikeHaveOneImage
 unfolding imageOf
 alike-one-image B B′ a =
-    ap₂ (λ (m : Machine) (cs : List Cell). spelled (headerOf m) (runs cs)) (a .same-machine)
+    ap₂ (λ (h : Header) (cs : List Cell). spelled h (runs cs)) (ap₂ (λ (m : Machine) (seals : Seals). headerOf m seals) (a .same-machine) (a .same-seals))
     (alike-cells (B .registers) (B′ .registers) (B .marks) (a .agree .same-length) (a .agree .same-bytes) ∙ ap (cellsOf (B′ .registers)) (a .same-marks))
 
 -- what the image of a machine that is not at fault is read as
-abbrev described : Machine → (registers marks : List ℕ) → Described
-described m registers marks = record { header = headerOf m; body = runs (cellsOf registers marks) }
+abbrev described : Machine → Seals → (registers marks : List ℕ) → Described
+described m seals registers marks = record { header = headerOf m seals; body = runs (cellsOf registers marks) }
 
-module _ (m : Machine) (registers marks : List ℕ) (s : sound m registers marks ≡ true) where
+module _ (m : Machine) (seals : Seals) (registers marks : List ℕ) (s : soundWith m seals registers marks ≡ true) where
   same-size : length registers ≡ length marks
-  same-size = registers-sized m registers marks s ∙ sym (marks-sized m registers marks s)
+  same-size = registers-sized m seals registers marks s ∙ sym (marks-sized m seals registers marks s)
 
   cells-sized : length (cellsOf registers marks) ≡ total (exponent (m .mlen))
-  cells-sized = length-cells registers marks same-size ∙ registers-sized m registers marks s
+  cells-sized = length-cells registers marks same-size ∙ registers-sized m seals registers marks s
 
-  pub image-accepts : Bytes registers → Accepts imageFormat (imageOf m registers marks) (described m registers marks)
+  pub image-accepts : Bytes registers → Accepts imageFormat (imageOf m seals registers marks) (described m seals registers marks)
   unfolding imageOf
   image-accepts b =
-      image-in (headerOf m) (runs (cellsOf registers marks)) (held m registers marks s)
+      image-in (headerOf m seals) (runs (cellsOf registers marks)) (held m seals registers marks s)
       (subst (λ (x : ℕ). Fit 0 x (runs (cellsOf registers marks))) cells-sized (fit-runs (cellsOf registers marks)))
       (all-runs (cellsOf registers marks) (cells-ok registers marks b))
 
-  cells-back : cellsIn (described m registers marks) ≡ cellsOf registers marks
+  cells-back : cellsIn (described m seals registers marks) ≡ cellsOf registers marks
   cells-back = ap (λ (x : ℕ). spread x (runs (cellsOf registers marks))) (sym cells-sized) ∙ spread-runs (cellsOf registers marks)
 
 -- machines with one image have the same numbers and cells
 pub others-never : OthersNever
 others-never B B′ s s′ b b′ e =
-    let d : Described = described (B .machine) (B .registers) (B .marks) in
-    let d′ : Described = described (B′ .machine) (B′ .registers) (B′ .marks) in
-    let one : d ≡ d′ = accepts-one imageFormat (imageIn B) d d′ (image-accepts (B .machine) (B .registers) (B .marks) s b)
-    (subst (λ (z : List ℕ). Accepts imageFormat z d′) (sym e) (image-accepts (B′ .machine) (B′ .registers) (B′ .marks) s′ b′)) in
+    let d : Described = described (B .machine) (B .seals) (B .registers) (B .marks) in
+    let d′ : Described = described (B′ .machine) (B′ .seals) (B′ .registers) (B′ .marks) in
+    let one : d ≡ d′ = accepts-one imageFormat (imageIn B) d d′ (image-accepts (B .machine) (B .seals) (B .registers) (B .marks) s b)
+    (subst (λ (z : List ℕ). Accepts imageFormat z d′) (sym e) (image-accepts (B′ .machine) (B′ .seals) (B′ .registers) (B′ .marks) s′ b′)) in
     let cs : cellsOf (B .registers) (B .marks) ≡ cellsOf (B′ .registers) (B′ .marks) =
-    sym (cells-back (B .machine) (B .registers) (B .marks) s) ∙ ap cellsIn one ∙ cells-back (B′ .machine) (B′ .registers) (B′ .marks) s′ in
-    let n : length (B .registers) ≡ length (B .marks) = same-size (B .machine) (B .registers) (B .marks) s in
-    let n′ : length (B′ .registers) ≡ length (B′ .marks) = same-size (B′ .machine) (B′ .registers) (B′ .marks) s′ in
+    sym (cells-back (B .machine) (B .seals) (B .registers) (B .marks) s) ∙ ap cellsIn one ∙ cells-back (B′ .machine) (B′ .seals) (B′ .registers) (B′ .marks) s′ in
+    let n : length (B .registers) ≡ length (B .marks) = same-size (B .machine) (B .seals) (B .registers) (B .marks) s in
+    let n′ : length (B′ .registers) ≡ length (B′ .marks) = same-size (B′ .machine) (B′ .seals) (B′ .registers) (B′ .marks) s′ in
     let ms : B .marks ≡ B′ .marks =
-    sym (marks-cells (B .registers) (B .marks) n (marks-two (B .machine) (B .registers) (B .marks) s)) ∙ ap marksOf cs ∙ marks-cells (B′ .registers) (B′ .marks) n′ (marks-two (B′ .machine) (B′ .registers) (B′ .marks) s′) in
+    sym (marks-cells (B .registers) (B .marks) n (marks-two (B .machine) (B .seals) (B .registers) (B .marks) s)) ∙ ap marksOf cs ∙ marks-cells (B′ .registers) (B′ .marks) n′ (marks-two (B′ .machine) (B′ .seals) (B′ .registers) (B′ .marks) s′) in
     record {
-      same-machine = sym (machine-back (B .machine) (B .registers) (B .marks) s) ∙ ap (λ (x : Described). machineFrom (x .header)) one ∙ machine-back (B′ .machine) (B′ .registers) (B′ .marks) s′;
+      same-machine = sym (machine-back (B .machine) (B .seals) (B .registers) (B .marks) s) ∙ ap (λ (x : Described). machineFrom (x .header)) one ∙ machine-back (B′ .machine) (B′ .seals) (B′ .registers) (B′ .marks) s′;
+      same-seals = ap (λ (x : Described). x .header .seals) one;
       same-marks = ms;
       agree = record {
         same-length = n ∙ ap length ms ∙ sym n′;
@@ -100,25 +101,25 @@ module _ (s : List ℕ) (d : Described) (a : Accepts imageFormat s d) (lent : Li
   lent-many : length lent ≡ length (cellsIn d)
   lent-many = n ∙ sym cells-many
 
-  made-sound : sound (machineFrom (d .header)) (over (cellsIn d) lent) (marksOf (cellsIn d)) ≡ true
+  made-sound : soundWith (machineFrom (d .header)) (d .header .seals) (over (cellsIn d) lent) (marksOf (cellsIn d)) ≡ true
   made-sound =
       sound-from (d .header) (spelling .sound) (over (cellsIn d) lent) (marksOf (cellsIn d))
       (length-over (cellsIn d) lent lent-many ∙ cells-many) (length-marks (cellsIn d) ∙ cells-many) (marks-of-two (cellsIn d))
 
-  made-image : imageOf (machineFrom (d .header)) (over (cellsIn d) lent) (marksOf (cellsIn d)) ≡ s
+  made-image : imageOf (machineFrom (d .header)) (d .header .seals) (over (cellsIn d) lent) (marksOf (cellsIn d)) ≡ s
   unfolding imageOf
   made-image =
       ap₂ (λ (h : Header) (rs : List Run). spelled h rs) (header-back (d .header) (spelling .sound))
       (ap runs (cells-over (cellsIn d) lent lent-many) ∙ runs-spread 0 (total (d .header .mlen)) (d .body) (spelling .fits))
       ∙ sym (spelling .are)
 
-  made : MakesItsMachine s lent (restored Done (machineFrom (d .header)) (over (cellsIn d) lent) (marksOf (cellsIn d)))
+  made : MakesItsMachine s lent (restored Done (machineFrom (d .header)) (d .header .seals) (over (cellsIn d) lent) (marksOf (cellsIn d)))
   made = record { not-at-fault = made-sound; its-image = made-image; as-lent = over-lent (cellsIn d) lent lent-many }
 
 pub is-accepted : (s : List ℕ) → IsImage s → Accepted imageFormat s
 is-accepted s i =
-    let d : Described = described (i .machine) (i .registers) (i .marks) in
-    (d, subst (λ (z : List ℕ). Accepts imageFormat z d) (sym (i .is-its-image)) (image-accepts (i .machine) (i .registers) (i .marks) (i .not-at-fault) (i .are-bytes)))
+    let d : Described = described (i .machine) (i .seals) (i .registers) (i .marks) in
+    (d, subst (λ (z : List ℕ). Accepts imageFormat z d) (sym (i .is-its-image)) (image-accepts (i .machine) (i .seals) (i .registers) (i .marks) (i .not-at-fault) (i .are-bytes)))
 
 pub accepted-is : (s : List ℕ) → Accepted imageFormat s → IsImage s
 accepted-is s (d, a) =
@@ -126,6 +127,7 @@ accepted-is s (d, a) =
     let n : length zeros ≡ total (d .header .mlen) = length-replicate (total (d .header .mlen)) 0 in
     record {
       machine = machineFrom (d .header);
+      seals = d .header .seals;
       registers = over (cellsIn d) zeros;
       marks = marksOf (cellsIn d);
       not-at-fault = made-sound s d a zeros n;
@@ -146,7 +148,7 @@ one-machine : (s : List ℕ) (d : Described) → Accepts imageFormat s d → (i 
 unfolding is-accepted
 one-machine s d a i =
     let w = is-accepted s i in
-    ap (λ (x : Described). machineFrom (x .header)) (accepts-one imageFormat s d (w .0) a (w .1)) ∙ machine-back (i .machine) (i .registers) (i .marks) (i .not-at-fault)
+    ap (λ (x : Described). machineFrom (x .header)) (accepts-one imageFormat s d (w .0) a (w .1)) ∙ machine-back (i .machine) (i .seals) (i .registers) (i .marks) (i .not-at-fault)
 
 module _ (d : Described) (registers marks : List ℕ) where
   abbrev size : ℕ
@@ -160,15 +162,15 @@ module _ (d : Described) (registers marks : List ℕ) where
       let t = every-each (eqb (length registers) size ∷ eqb (length marks) size ∷ []) h in
       (eqb-true (length registers) size (t .0), eqb-true (length marks) size (t .1 .0))
 
-  pub read-done : fitted d registers marks ≡ true → readAs (whole d) registers marks ≡ restored Done (machineFrom (d .header)) (over (cellsIn d) registers) (marksOf (cellsIn d))
+  pub read-done : fitted d registers marks ≡ true → readAs (whole d) registers marks ≡ restored Done (machineFrom (d .header)) (d .header .seals) (over (cellsIn d) registers) (marksOf (cellsIn d))
   read-done h = rw h
 
-  pub read-unfit : ¬ Fits (machineFrom (d .header)) registers marks → readAs (whole d) registers marks ≡ restored BadArguments noMachine registers marks
+  pub read-unfit : ¬ Fits (machineFrom (d .header)) registers marks → readAs (whole d) registers marks ≡ restored BadArguments noMachine [] registers marks
   read-unfit f = go (fitted d registers marks) refl
     where
       go : (t : Bool) → fitted d registers marks ≡ t
-          → cond t (restored Done (machineFrom (d .header)) (over (cellsIn d) registers) (marksOf (cellsIn d))) (restored BadArguments noMachine registers marks)
-          ≡ restored BadArguments noMachine registers marks
+          → cond t (restored Done (machineFrom (d .header)) (d .header .seals) (over (cellsIn d) registers) (marksOf (cellsIn d))) (restored BadArguments noMachine [] registers marks)
+          ≡ restored BadArguments noMachine [] registers marks
       go true e = absurd (f (true-fits e))
       go false e = refl
 
@@ -209,7 +211,7 @@ read-refusal s registers marks = go (parse imageFormat s)
     go (whole d) h = fit (fitted d registers marks) h
       where
         out : Bool → ReadOutcome
-        out t = cond t (restored Done (machineFrom (d .header)) (over (cellsIn d) registers) (marksOf (cellsIn d))) (restored BadArguments noMachine registers marks)
+        out t = cond t (restored Done (machineFrom (d .header)) (d .header .seals) (over (cellsIn d) registers) (marksOf (cellsIn d))) (restored BadArguments noMachine [] registers marks)
 
         fit : (t : Bool) → ¬ (out t .answer .number ≡ 0) → (out t .registers ≡ registers) × (out t .marks ≡ marks)
         fit true h = absurd (h refl)
@@ -217,10 +219,10 @@ read-refusal s registers marks = go (parse imageFormat s)
 
 pub write-refusal : WriteRefusalChangesNothing
 unfolding writeImage
-write-refusal m registers marks room = go (sound m registers marks) (leb (length (imageOf m registers marks)) (length room))
+write-refusal m seals registers marks room = go (soundWith m seals registers marks) (leb (length (imageOf m seals registers marks)) (length room))
   where
     out : Bool → Bool → WriteOutcome
-    out t u = cond t (cond u (written Done (length (imageOf m registers marks)) (imageOf m registers marks ++ drop (length (imageOf m registers marks)) room)) (written NoRoom 0 room)) (written BadArguments 0 room)
+    out t u = cond t (cond u (written Done (length (imageOf m seals registers marks)) (imageOf m seals registers marks ++ drop (length (imageOf m seals registers marks)) room)) (written NoRoom 0 room)) (written BadArguments 0 room)
 
     go : (t u : Bool) → ¬ (out t u .answer .number ≡ 0) → (out t u .size ≡ 0) × (out t u .room ≡ room)
     go true true h = absurd (h refl)
@@ -234,7 +236,7 @@ record Accepting (s registers marks : List ℕ) : Type 0 where
   what : Described
   accepted : Accepts imageFormat s what
   fits : Fits (machineFrom (what .header)) registers marks
-  leaves : readImage s registers marks ≡ restored Done (machineFrom (what .header)) (over (cellsIn what) registers) (marksOf (cellsIn what))
+  leaves : readImage s registers marks ≡ restored Done (machineFrom (what .header)) (what .header .seals) (over (cellsIn what) registers) (marksOf (cellsIn what))
 
 accepting : (s registers marks : List ℕ) → Bytes s → readImage s registers marks .answer ≡ imageReply Done → Accepting s registers marks
 unfolding readImage
@@ -245,7 +247,7 @@ accepting s registers marks b = go (parse imageFormat s) refl (parser-right imag
     go (whole d) e r h = fit (fitted d registers marks) refl h
       where
         out : Bool → ReadOutcome
-        out t = cond t (restored Done (machineFrom (d .header)) (over (cellsIn d) registers) (marksOf (cellsIn d))) (restored BadArguments noMachine registers marks)
+        out t = cond t (restored Done (machineFrom (d .header)) (d .header .seals) (over (cellsIn d) registers) (marksOf (cellsIn d))) (restored BadArguments noMachine [] registers marks)
 
         fit : (t : Bool) → fitted d registers marks ≡ t → out t .answer ≡ imageReply Done → Accepting s registers marks
         fit true f h = record {
@@ -264,39 +266,38 @@ read-makes s registers marks b h =
 pub seal-holds-from-read : SealHoldsFromRead
 seal-holds-from-read s registers marks memory b h ws q x =
     let o : ReadOutcome = readImage s registers marks in
-    seal-holds chosen ws (benchOf (o .machine) (o .registers) (o .marks) memory) .same-bytes q
-    (in-within (o .machine .«seal_start») (o .machine .«seal_length») q x)
+    seal-holds chosen ws (benchOf (o .machine) (o .seals) (o .registers) (o .marks) memory) .same-bytes q x
 
 -- ---- there and back
 
 -- an image that fits is written
-write-done : (m : Machine) (registers marks room : List ℕ) → sound m registers marks ≡ true → length (imageOf m registers marks) ≤ length room
-    → writeImage m registers marks room ≡ written Done (length (imageOf m registers marks)) (imageOf m registers marks ++ drop (length (imageOf m registers marks)) room)
+write-done : (m : Machine) (seals : Seals) (registers marks room : List ℕ) → soundWith m seals registers marks ≡ true → length (imageOf m seals registers marks) ≤ length room
+    → writeImage m seals registers marks room ≡ written Done (length (imageOf m seals registers marks)) (imageOf m seals registers marks ++ drop (length (imageOf m seals registers marks)) room)
 unfolding writeImage
-write-done m registers marks room s n = rw (s, le-leb (length (imageOf m registers marks)) (length room) n)
+write-done m seals registers marks room s n = rw (s, le-leb (length (imageOf m seals registers marks)) (length room) n)
 
 -- the image of a bench, read into buffers of its machine's size
 module _ (B : Bench) (registers marks : List ℕ) (s : soundBench B ≡ true) (b : Bytes (B .registers)) (f : Fits (B .machine) registers marks) where
   abbrev Back : ReadOutcome → Type 0
-  Back o = (o .answer ≡ imageReply Done) × Alike B (benchOf (o .machine) (o .registers) (o .marks) (B .memory))
+  Back o = (o .answer ≡ imageReply Done) × Alike B (benchOf (o .machine) (o .seals) (o .registers) (o .marks) (B .memory))
 
   abbrev own : Described
-  own = described (B .machine) (B .registers) (B .marks)
+  own = described (B .machine) (B .seals) (B .registers) (B .marks)
 
   own-machine : machineFrom (own .header) ≡ B .machine
-  own-machine = machine-back (B .machine) (B .registers) (B .marks) s
+  own-machine = machine-back (B .machine) (B .seals) (B .registers) (B .marks) s
 
   own-cells : cellsIn own ≡ cellsOf (B .registers) (B .marks)
-  own-cells = cells-back (B .machine) (B .registers) (B .marks) s
+  own-cells = cells-back (B .machine) (B .seals) (B .registers) (B .marks) s
 
   own-size : length (B .registers) ≡ length (B .marks)
-  own-size = same-size (B .machine) (B .registers) (B .marks) s
+  own-size = same-size (B .machine) (B .seals) (B .registers) (B .marks) s
 
   own-marks : marksOf (cellsIn own) ≡ B .marks
-  own-marks = ap marksOf own-cells ∙ marks-cells (B .registers) (B .marks) own-size (marks-two (B .machine) (B .registers) (B .marks) s)
+  own-marks = ap marksOf own-cells ∙ marks-cells (B .registers) (B .marks) own-size (marks-two (B .machine) (B .seals) (B .registers) (B .marks) s)
 
   lent-size : length registers ≡ length (cellsIn own)
-  lent-size = f .0 ∙ ap (λ (m : Machine). registerBytes (m .mlen)) (sym own-machine) ∙ sym (cells-sized (B .machine) (B .registers) (B .marks) s) ∙ ap length (sym own-cells)
+  lent-size = f .0 ∙ ap (λ (m : Machine). registerBytes (m .mlen)) (sym own-machine) ∙ sym (cells-sized (B .machine) (B .seals) (B .registers) (B .marks) s) ∙ ap length (sym own-cells)
 
   left-size : length (over (cellsIn own) registers) ≡ length (B .marks)
   left-size = length-over (cellsIn own) registers lent-size ∙ sym (length-marks (cellsIn own)) ∙ ap length own-marks
@@ -304,10 +305,10 @@ module _ (B : Bench) (registers marks : List ℕ) (s : soundBench B ≡ true) (b
   own-fits : fitted own registers marks ≡ true
   own-fits = fits-true own registers marks (subst (λ (m : Machine). Fits m registers marks) (sym own-machine) f)
 
-  reads-own : readImage (imageIn B) registers marks ≡ restored Done (machineFrom (own .header)) (over (cellsIn own) registers) (marksOf (cellsIn own))
+  reads-own : readImage (imageIn B) registers marks ≡ restored Done (machineFrom (own .header)) (own .header .seals) (over (cellsIn own) registers) (marksOf (cellsIn own))
   unfolding readImage
   reads-own =
-      ap (λ (q : Parsed Described). readAs q registers marks) (accepts-parse imageFormat (imageIn B) own (image-accepts (B .machine) (B .registers) (B .marks) s b))
+      ap (λ (q : Parsed Described). readAs q registers marks) (accepts-parse imageFormat (imageIn B) own (image-accepts (B .machine) (B .seals) (B .registers) (B .marks) s b))
       ∙ read-done own registers marks own-fits
 
   read-back : Back (readImage (imageIn B) registers marks)
@@ -315,6 +316,7 @@ module _ (B : Bench) (registers marks : List ℕ) (s : soundBench B ≡ true) (b
     refl,
     record {
       same-machine = sym own-machine;
+      same-seals = refl;
       same-marks = sym own-marks;
       agree = record {
         same-length = own-size ∙ sym left-size;
@@ -327,7 +329,7 @@ module _ (B : Bench) (registers marks : List ℕ) (s : soundBench B ≡ true) (b
 pub written-is-read-back : WrittenIsReadBack
 written-is-read-back B room registers marks s b n f =
     let image : List ℕ = imageIn B in
-    let w : writeImage (B .machine) (B .registers) (B .marks) room ≡ written Done (length image) (image ++ drop (length image) room) = write-done (B .machine) (B .registers) (B .marks) room s n in
+    let w : writeImage (B .machine) (B .seals) (B .registers) (B .marks) room ≡ written Done (length image) (image ++ drop (length image) room) = write-done (B .machine) (B .seals) (B .registers) (B .marks) room s n in
     let e : take (length image) (image ++ drop (length image) room) ≡ image = take-append-seam image (drop (length image) room) in
     subst (λ (o : WriteOutcome). Back B registers marks s b f (readImage (take (o .size) (o .room)) registers marks)) (sym w)
     (subst (λ (z : List ℕ). Back B registers marks s b f (readImage z registers marks)) (sym e) (read-back B registers marks s b f))
@@ -336,5 +338,5 @@ pub read-is-written-back : ReadIsWrittenBack
 read-is-written-back s registers marks room b h n =
     let o : ReadOutcome = readImage s registers marks in
     let m = read-makes s registers marks b h in
-    write-done (o .machine) (o .registers) (o .marks) room (m .not-at-fault) (subst (λ (z : List ℕ). length z ≤ length room) (sym (m .its-image)) n)
+    write-done (o .machine) (o .seals) (o .registers) (o .marks) room (m .not-at-fault) (subst (λ (z : List ℕ). length z ≤ length room) (sym (m .its-image)) n)
     ∙ ap (λ (z : List ℕ). written Done (length z) (z ++ drop (length z) room)) (m .its-image)

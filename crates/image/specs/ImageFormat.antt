@@ -9,7 +9,8 @@ use Rattle.format.specs.Formats.{Format}
 use Rattle.format.specs.Formats.Format.{done, number, bytes}
 use Rattle.image.specs.Cells.{Run}
 use Rattle.image.specs.Cells.Run.{run}
-use Rattle.image.specs.Images.{Header}
+use Rattle.machine.specs.Geometry.{range}
+use Rattle.image.specs.Images.{Seals, Header}
 
 -- what an image is read as
 pub record Described : Type 0 where
@@ -17,10 +18,10 @@ pub record Described : Type 0 where
   pub body : List Run
 
 -- the version, and what it says of the machine: its rule, and the exponent of ELEN. Of version 1 the rule is 0 and ELEN is 32; of version 2 the
--- rule follows and is 1, and ELEN is 32; of version 3 both follow
+-- rule follows and is 1, and ELEN is 32; of versions 3 and 4 both follow
 abbrev pub versionFormat : ((version rule elen : ℕ) → Format Described) → Format Described
 versionFormat K =
-    number (span 1 3) λ version.
+    number (span 1 4) λ version.
     cond (eqb version 1)
     (K version 0 5)
     (cond (eqb version 2) (number (span 1 1) λ rule. K version rule 5) (number (span 0 1) λ rule. number (span 5 6) λ elen. K version rule elen))
@@ -38,12 +39,12 @@ topMlen version = cond (ltb version 3) 12 16
 unfoldable pub leastMlen : (version elen rlen : ℕ) → ℕ
 leastMlen version elen rlen = cond (eqb version 3 && (eqb elen 5 && ltb rlen 10)) 13 (suc rlen)
 
-abbrev pub shapeFormat : ((rule elen rlen mlen : ℕ) → Format Described) → Format Described
+abbrev pub shapeFormat : ((version rule elen rlen mlen : ℕ) → Format Described) → Format Described
 shapeFormat K =
     versionFormat λ version rule elen.
     number (span (suc elen) (topRlen version)) λ rlen.
     number (span (leastMlen version elen rlen) (topMlen version)) λ mlen.
-    K rule elen rlen mlen
+    K version rule elen rlen mlen
 
 -- the mtypes that can arise, by the exponent of ELEN: msew, the exponent of SEW less 3, alone, while SEW is at most ELEN; with maccq (8), while
 -- 4 x SEW is at most ELEN; and 2^63
@@ -60,12 +61,21 @@ tilesFormat elen rows columns K =
     number (span 0 columns) λ tileN.
     K mtype tileM tileK tileN
 
--- a seal whose end doesn't exceed 2^64 - 1
-abbrev pub sealFormat : (ℕ → ℕ → Format Described) → Format Described
-sealFormat K =
+-- so many ranges, each with an end that doesn't exceed 2^64 - 1
+unfoldable pub rangesFormat : (count : ℕ) → (Seals → Format Described) → Format Described
+rangesFormat zero K = K []
+rangesFormat (suc n) K =
     number (span 0 (2 ^ 64 - 1)) λ start.
     number (span 0 (2 ^ 64 - 1 - start)) λ size.
-    K start size
+    rangesFormat n λ rs. K (range start size ∷ rs)
+
+-- none, or two to eight: one range has a lower version
+abbrev pub counts : List Range
+counts = record { low = 0; high = 0 } ∷ record { low = 2; high = 8 } ∷ []
+
+-- the sealed ranges: one, and of version 4 their number before them
+abbrev pub sealsFormat : (version : ℕ) → (Seals → Format Described) → Format Described
+sealsFormat version K = cond (eqb version 4) (number counts λ count. rangesFormat count K) (rangesFormat 1 K)
 
 -- So many runs in the room that is left, the first gap at least least. Each run after the first takes a byte of gap and one of its own.
 unfoldable pub runsFormat : (List Run → Described) → (count least room : ℕ) → Format Described
@@ -82,11 +92,11 @@ total mlen = 2 * 2 ^ mlen
 
 -- at most every second byte starts a run
 unfoldable pub imageFormat : Format Described
-unfolding runsFormat
+unfolding rangesFormat runsFormat
 imageFormat =
-    shapeFormat λ rule elen rlen mlen.
+    shapeFormat λ version rule elen rlen mlen.
     tilesFormat elen (2 ^ (mlen - rlen)) (2 ^ (rlen - 3)) λ mtype tileM tileK tileN.
-    sealFormat λ start size.
+    sealsFormat version λ seals.
     number (span 0 (2 ^ mlen)) λ count.
     runsFormat (λ rs. record {
       header = record {
@@ -96,8 +106,7 @@ imageFormat =
         tileM = tileM;
         tileK = tileK;
         tileN = tileN;
-        sealStart = start;
-        sealLength = size;
+        seals = seals;
         rule = rule;
         elen = elen;
       };

@@ -12,10 +12,9 @@ use Rattle.machine.specs.Geometry.{registerBytes}
 use Rattle.machine.specs.Starting.{noMachine}
 use Rattle.image.specs.declared.Imaged.{Imaged}
 use Rattle.image.specs.declared.Imaged.the-variants.{Done, BadArguments, Damaged}
-use Rattle.image.specs.declared.Restored.{Restored}
 use Rattle.image.specs.Answers.{ImageReply, imageReply}
 use Rattle.image.specs.Cells.{Cell, spread, over, marksOf}
-use Rattle.image.specs.Images.{machineFrom}
+use Rattle.image.specs.Images.{Seals, machineFrom}
 use Rattle.image.specs.ImageFormat.{Described, total, imageFormat}
 
 -- whether an input is an image, or the place of its fault
@@ -29,11 +28,13 @@ checkImage image = verdictOf (parse imageFormat image)
 pub record ReadOutcome : Type 0 where
   pub answer : ImageReply
   pub machine : Machine
+  pub seals : Seals
   pub registers : List ℕ
   pub marks : List ℕ
 
-abbrev pub restored : Imaged → Machine → (registers marks : List ℕ) → ReadOutcome
-restored answer machine registers marks = record { answer = imageReply answer; machine = machine; registers = registers; marks = marks }
+abbrev pub restored : Imaged → Machine → Seals → (registers marks : List ℕ) → ReadOutcome
+restored answer machine seals registers marks =
+    record { answer = imageReply answer; machine = machine; seals = seals; registers = registers; marks = marks }
 
 -- the cells of the machine whose image it is
 abbrev pub cellsIn : Described → List Cell
@@ -48,15 +49,11 @@ fitted d registers marks =
 -- "Reading leaves unmarked register bytes as lent and makes the machine whose image it is"; ".. gives 15 first, then 8 if the lent buffers
 -- aren't of its machine's size." A refusal changes nothing.
 abbrev pub readAs : Parsed Described → (registers marks : List ℕ) → ReadOutcome
-readAs (stopped p) registers marks = restored (Damaged p) noMachine registers marks
+readAs (stopped p) registers marks = restored (Damaged p) noMachine [] registers marks
 readAs (whole d) registers marks =
     cond (fitted d registers marks)
-    (restored Done (machineFrom (d .header)) (over (cellsIn d) registers) (marksOf (cellsIn d)))
-    (restored BadArguments noMachine registers marks)
+    (restored Done (machineFrom (d .header)) (d .header .seals) (over (cellsIn d) registers) (marksOf (cellsIn d)))
+    (restored BadArguments noMachine [] registers marks)
 
 unfoldable pub readImage : (image registers marks : List ℕ) → ReadOutcome
 readImage image registers marks = readAs (parse imageFormat image) registers marks
-
--- what the function `read_image` returned and left
-abbrev pub restoredAs : Restored → (registers marks : List ℕ) → ReadOutcome
-restoredAs r registers marks = restored (r .answer) (r .machine) registers marks

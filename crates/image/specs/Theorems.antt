@@ -5,19 +5,18 @@ use mathlib.Core.List.{List, _++_}
 use mathlib.Core.Logic.{_⊎_}
 use Prim.Native.Nat.{ℕ, _≤_}
 use lib.ListN.{length, take, drop, getD}
-use Rattle.width.specs.Tile.{In}
 use Rattle.format.specs.Numbers.{Bytes}
 use Rattle.format.specs.Formats.{Ends, Accepted}
 use Rattle.machine.specs.declared.Machine.{Machine}
-use Rattle.machine.specs.Geometry.{registerBytes, Bench, benchOf}
+use Rattle.machine.specs.Geometry.{registerBytes, sealed, Bench, benchOf}
 use Rattle.machine.specs.Setting.{chosen}
-use Rattle.machine.specs.Faults.{sound, soundBench}
+use Rattle.machine.specs.Faults.{soundBench}
 use Rattle.machine.specs.Alike.{Alike}
 use Rattle.machine.specs.Theorems.{Given, afterAll}
 use Rattle.image.specs.declared.Imaged.the-variants.{Done, BadArguments, Damaged}
 use Rattle.image.specs.Answers.{imageReply}
 use Rattle.image.specs.Cells.{Cell, runs, spread, Fit}
-use Rattle.image.specs.Images.{imageOf, IsImage}
+use Rattle.image.specs.Images.{Seals, imageOf, soundWith, IsImage}
 use Rattle.image.specs.ImageFormat.{imageFormat}
 use Rattle.image.specs.Writing.{written, writeImage}
 use Rattle.image.specs.Reading.{ReadOutcome, readImage}
@@ -25,7 +24,7 @@ use Rattle.image.specs.Reading.{ReadOutcome, readImage}
 -- ---- images
 
 abbrev pub imageIn : Bench → List ℕ
-imageIn B = imageOf (B .machine) (B .registers) (B .marks)
+imageIn B = imageOf (B .machine) (B .seals) (B .registers) (B .marks)
 
 -- "Two machines that differ only in unmarked bytes have the same image": at fault or not
 abbrev pub AlikeHaveOneImage : Type 0
@@ -70,7 +69,7 @@ ReadRefusalChangesNothing = (s registers marks : List ℕ) → let o = readImage
     → (o .registers ≡ registers) × (o .marks ≡ marks)
 
 abbrev pub WriteRefusalChangesNothing : Type 0
-WriteRefusalChangesNothing = (m : Machine) (registers marks room : List ℕ) → let o = writeImage m registers marks room in ¬ (o .answer .number ≡ 0)
+WriteRefusalChangesNothing = (m : Machine) (seals : Seals) (registers marks room : List ℕ) → let o = writeImage m seals registers marks room in ¬ (o .answer .number ≡ 0)
     → (o .size ≡ 0) × (o .room ≡ room)
 
 -- ---- the machine that is read
@@ -78,19 +77,19 @@ WriteRefusalChangesNothing = (m : Machine) (registers marks room : List ℕ) →
 -- "Reading leaves unmarked register bytes as lent and makes the machine whose image it is, from which demand 2 holds as from a started one":
 -- it is not at fault
 pub record MakesItsMachine (s lent : List ℕ) (o : ReadOutcome) : Type 0 where
-  pub not-at-fault : sound (o .machine) (o .registers) (o .marks) ≡ true
-  pub its-image : imageOf (o .machine) (o .registers) (o .marks) ≡ s
+  pub not-at-fault : soundWith (o .machine) (o .seals) (o .registers) (o .marks) ≡ true
+  pub its-image : imageOf (o .machine) (o .seals) (o .registers) (o .marks) ≡ s
   pub as-lent : (q : ℕ) → getD (o .marks) q 0 ≡ 0 → getD (o .registers) q 0 ≡ getD lent q 0
 
 abbrev pub ReadMakesItsMachine : Type 0
 ReadMakesItsMachine = (s registers marks : List ℕ) → Bytes s → let o = readImage s registers marks in o .answer ≡ imageReply Done
     → MakesItsMachine s registers o
 
--- and no word changes a byte of its seal, whatever memory it is lent
+-- and no word changes a byte of its sealed ranges, whatever memory it is lent
 abbrev pub SealHoldsFromRead : Type 0
 SealHoldsFromRead = (s registers marks memory : List ℕ) → Bytes s → let o = readImage s registers marks in o .answer ≡ imageReply Done
-    → (ws : List Given) (q : ℕ) → In (o .machine .«seal_start») (o .machine .«seal_length») q
-    → getD (afterAll chosen ws (benchOf (o .machine) (o .registers) (o .marks) memory) .memory) q 0 ≡ getD memory q 0
+    → (ws : List Given) (q : ℕ) → sealed (o .seals) q ≡ true
+    → getD (afterAll chosen ws (benchOf (o .machine) (o .seals) (o .registers) (o .marks) memory) .memory) q 0 ≡ getD memory q 0
 
 -- ---- there and back
 
@@ -98,12 +97,12 @@ SealHoldsFromRead = (s registers marks memory : List ℕ) → Bytes s → let o 
 abbrev pub WrittenIsReadBack : Type 0
 WrittenIsReadBack = (B : Bench) (room registers marks : List ℕ) → soundBench B ≡ true → Bytes (B .registers)
     → length (imageIn B) ≤ length room → Fits (B .machine) registers marks
-    → let w = writeImage (B .machine) (B .registers) (B .marks) room in
+    → let w = writeImage (B .machine) (B .seals) (B .registers) (B .marks) room in
     let o = readImage (take (w .size) (w .room)) registers marks in
-    (o .answer ≡ imageReply Done) × Alike B (benchOf (o .machine) (o .registers) (o .marks) (B .memory))
+    (o .answer ≡ imageReply Done) × Alike B (benchOf (o .machine) (o .seals) (o .registers) (o .marks) (B .memory))
 
 -- a machine that was read is written as the bytes that were read
 abbrev pub ReadIsWrittenBack : Type 0
 ReadIsWrittenBack = (s registers marks room : List ℕ) → Bytes s → let o = readImage s registers marks in o .answer ≡ imageReply Done
     → length s ≤ length room
-    → writeImage (o .machine) (o .registers) (o .marks) room ≡ written Done (length s) (s ++ drop (length s) room)
+    → writeImage (o .machine) (o .seals) (o .registers) (o .marks) room ≡ written Done (length s) (s ++ drop (length s) room)

@@ -5,13 +5,12 @@ use Prim.Native.Nat.{ℕ}
 use lib.ListN.{length, drop}
 use lib.Dec.{leb}
 use Rattle.machine.specs.declared.Machine.{Machine}
-use Rattle.machine.specs.Faults.{sound}
 use Rattle.image.specs.declared.Imaged.{Imaged}
 use Rattle.image.specs.declared.Imaged.the-variants.{Done, BadArguments, NoRoom}
 use Rattle.image.specs.declared.Sized.{Sized}
 use Rattle.image.specs.declared.Written.{Written}
 use Rattle.image.specs.Answers.{ImageReply, imageReply}
-use Rattle.image.specs.Images.{imageOf}
+use Rattle.image.specs.Images.{Seals, imageOf, soundWith}
 
 -- ---- sizing
 
@@ -23,8 +22,8 @@ abbrev pub sized : Imaged → ℕ → SizeOutcome
 sized answer size = record { answer = imageReply answer; size = size }
 
 -- the length of the machine's image; 8 for a state at fault
-unfoldable pub sizeImage : Machine → (registers marks : List ℕ) → SizeOutcome
-sizeImage m registers marks = cond (sound m registers marks) (sized Done (length (imageOf m registers marks))) (sized BadArguments 0)
+unfoldable pub sizeImage : Machine → Seals → (registers marks : List ℕ) → SizeOutcome
+sizeImage m seals registers marks = cond (soundWith m seals registers marks) (sized Done (length (imageOf m seals registers marks))) (sized BadArguments 0)
 
 -- what the function `image_size` returned
 abbrev pub sizedAs : Sized → SizeOutcome
@@ -41,10 +40,10 @@ abbrev pub written : Imaged → ℕ → List ℕ → WriteOutcome
 written answer size room = record { answer = imageReply answer; size = size; room = room }
 
 -- "Writing gives 8 first, then 14, returns the image's length (0 if refused) and leaves the room past the image as it was."
-unfoldable pub writeImage : Machine → (registers marks room : List ℕ) → WriteOutcome
-writeImage m registers marks room =
-    let image : List ℕ = imageOf m registers marks in
-    cond (sound m registers marks)
+unfoldable pub writeImage : Machine → Seals → (registers marks room : List ℕ) → WriteOutcome
+writeImage m seals registers marks room =
+    let image : List ℕ = imageOf m seals registers marks in
+    cond (soundWith m seals registers marks)
     (cond (leb (length image) (length room))
     (written Done (length image) (image ++ drop (length image) room))
     (written NoRoom 0 room))

@@ -20,17 +20,19 @@ use Rattle.format.proofs.NumberLaws.{isAmong-among}
 use Rattle.reader.proofs.SizeLaws.{size-bound}
 use Rattle.reader.proofs.FromLaws.{grow-in}
 use Rattle.machine.specs.declared.Machine.{Machine}
-use Rattle.machine.specs.Faults.{sound}
+use Rattle.machine.specs.Geometry.{range}
+use Rattle.machine.specs.Faults.{sound, sealsFit}
+use Rattle.machine.proofs.TestLaws.{and-left, and-right}
 use Rattle.machine.proofs.NoFault.{sound-is}
 use Rattle.machine.proofs.StepLaws.{permitted-bounds}
 use Rattle.image.specs.Cells.{Cell, Run, runs, cellsOf, Fit}
 use Rattle.image.specs.Cells.Run.{run}
-use Rattle.image.specs.Images.{Header, headerOf, beyond, version, fields, runsBytes, imageOf}
-use Rattle.image.specs.ImageFormat.{Described, mtypes, total, runsFormat, imageFormat}
+use Rattle.image.specs.Images.{Seals, Header, headerOf, beyond, single, version, bounds, sealFields, fields, runsBytes, imageOf, soundWith}
+use Rattle.image.specs.ImageFormat.{Described, mtypes, counts, rangesFormat, sealsFormat, total, runsFormat, imageFormat}
 use Rattle.image.proofs.RunLaws.{fit-runs}
 use Rattle.image.proofs.CellLaws.{length-cells}
-use Rattle.image.proofs.ImageLaws.{Room, room-next, room-first, among-span, fit-first, top-rlen, top-mlen, afterRule}
-use Rattle.image.proofs.HeaderLaws.{held}
+use Rattle.image.proofs.ImageLaws.{Room, room-next, room-first, among-span, fit-first, top-rlen, top-mlen, afterRule, Ending}
+use Rattle.image.proofs.HeaderLaws.{fit-facts, held}
 
 -- more bytes than any image has
 abbrev pub most : ℕ
@@ -71,42 +73,73 @@ mtype-small e t few (inr (inr (inl h))) = omega arith
 mtype-small e t few (inr (inr (inr h))) = absurd h
 
 version-short : (h : Header) (t : List ℕ) → h .rule ≤ 1 → h .elen ≤ 6 → length (encodeAll (version h) t) ≤ 30 + length t
-version-short h t hr he = go (beyond (h .elen) (h .rlen) (h .mlen)) (eqb (h .rule) 1)
+version-short h t hr he = go (single (h .seals)) (beyond (h .elen) (h .rlen) (h .mlen)) (eqb (h .rule) 1)
   where
-    go : (b c : Bool) → length (encodeAll (cond b (3 ∷ h .rule ∷ h .elen ∷ []) (cond c (2 ∷ 1 ∷ []) (1 ∷ []))) t) ≤ 30 + length t
-    go true c = numbers-short (3 ∷ h .rule ∷ h .elen ∷ []) t (omega arith, (omega arith, (omega arith, tt)))
-    go false true = omega (arith, numbers-short (2 ∷ 1 ∷ []) t (omega arith, (omega arith, tt)))
-    go false false = omega (arith, numbers-short (1 ∷ []) t (omega arith, tt))
+    long : (v : ℕ) → v < 2 ^ 64 → length (encodeAll (v ∷ h .rule ∷ h .elen ∷ []) t) ≤ 30 + length t
+    long v hv = numbers-short (v ∷ h .rule ∷ h .elen ∷ []) t (hv, (omega arith, (omega arith, tt)))
 
-pub image-short : (m : Machine) (registers marks : List ℕ) → sound m registers marks ≡ true → length (imageOf m registers marks) ≤ most
+    go : (a b c : Bool)
+        → length (encodeAll (cond a (cond b (3 ∷ h .rule ∷ h .elen ∷ []) (cond c (2 ∷ 1 ∷ []) (1 ∷ []))) (4 ∷ h .rule ∷ h .elen ∷ [])) t) ≤ 30 + length t
+    go true true c = long 3 (omega arith)
+    go true false true = omega (arith, numbers-short (2 ∷ 1 ∷ []) t (omega arith, (omega arith, tt)))
+    go true false false = omega (arith, numbers-short (1 ∷ []) t (omega arith, tt))
+    go false b c = long 4 (omega arith)
+
+-- a range takes at most twenty bytes, and their number ten
+bounds-short : (rs : Seals) (t : List ℕ) → Ending rs → length (encodeAll (bounds rs) t) ≤ 20 * length rs + length t
+bounds-short [] t h = omega arith
+bounds-short (r ∷ rs) t h =
+    let e = h .0 in
+    omega (
+      arith,
+      number-short (r .start) (encode (r .size) ++ encodeAll (bounds rs) t) (omega arith),
+      number-short (r .size) (encodeAll (bounds rs) t) (omega arith),
+      bounds-short rs t (h .1),
+    )
+
+seals-short : (rs : Seals) (t : List ℕ) → length rs ≤ 8 → Ending rs → length (encodeAll (sealFields rs) t) ≤ 170 + length t
+seals-short rs t few h = go (single rs)
+  where
+    all : length (encodeAll (bounds rs) t) ≤ 20 * length rs + length t
+    all = bounds-short rs t h
+
+    go : (a : Bool) → length (encodeAll (cond a (bounds rs) (length rs ∷ bounds rs)) t) ≤ 170 + length t
+    go true = omega (arith, all)
+    go false = omega (arith, all, number-short (length rs) (encodeAll (bounds rs) t) (omega arith))
+
+pub image-short : (m : Machine) (seals : Seals) (registers marks : List ℕ) → soundWith m seals registers marks ≡ true → length (imageOf m seals registers marks) ≤ most
 unfolding imageOf
-image-short m registers marks s =
-    let f = sound-is m registers marks s in
+image-short m seals registers marks s =
+    let f = sound-is m registers marks (and-left (sound m registers marks) (sealsFit seals) s) in
     let b = permitted-bounds (m .rlen) (m .mlen) (m .elen) (f .lengths) in
-    let h = held m registers marks s in
+    let h = held m seals registers marks s in
+    let few = fit-facts seals (and-right (sound m registers marks) (sealsFit seals) s) in
     let k = f .state in
     let rows : m .mlen / m .rlen ≤ m .mlen = div-le-self (m .mlen) (m .rlen) in
     let cells : List Cell = cellsOf registers marks in
     let n : length cells ≡ length registers = length-cells registers marks (k .regs-length ∙ sym (k .marks-length)) in
     let size : length cells ≤ 131072 = omega (arith, n, k .regs-length) in
-    let fit = fit-runs cells in
-    let count = fit-first (length cells) (runs cells) fit in
+    let runs-fit = fit-runs cells in
+    let count = fit-first (length cells) (runs cells) runs-fit in
     let body : List ℕ = encode (length (runs cells)) ++ runsBytes (runs cells) in
+    let H : Header = headerOf m seals in
+    let ranges : List ℕ = encodeAll (sealFields seals) body in
     omega (
       arith,
-      version-short (headerOf m) (encodeAll (fields (headerOf m)) body) (h .rule-ok) (h .elen-ok .1),
-      numbers-short (fields (headerOf m)) body (
+      version-short H (encodeAll (fields H) body) (h .rule-ok) (h .elen-ok .1),
+      numbers-short (H .rlen ∷ H .mlen ∷ m .mtype ∷ m .«tile_m» ∷ m .«tile_k» ∷ m .«tile_n» ∷ []) ranges (
         omega (arith, h .rlen-ok),
         (
           omega (arith, h .mlen-ok),
           (
-            mtype-small (headerOf m .elen) (m .mtype) (h .elen-ok .1) (h .mtype-ok),
-            (omega (arith, k .m-fits), (omega (arith, k .k-fits), (omega (arith, k .n-fits), (omega (arith, h .seal-ok), (omega (arith, h .seal-ok), tt))))),
+            mtype-small (H .elen) (m .mtype) (h .elen-ok .1) (h .mtype-ok),
+            (omega (arith, k .m-fits), (omega (arith, k .k-fits), (omega (arith, k .n-fits), tt))),
           ),
         ),
       ),
+      seals-short seals body (few .0) (few .1),
       number-short (length (runs cells)) (runsBytes (runs cells)) (omega arith),
-      runs-short 0 (length cells) (runs cells) (omega arith) fit,
+      runs-short 0 (length cells) (runs cells) (omega arith) runs-fit,
     )
 
 -- ---- the place of a fault
@@ -213,6 +246,32 @@ runs-fit f (suc l) least room k small h w = (
   ),
 )
 
+-- so many ranges, of at most twenty bytes each, before what is short
+ranges-fit : (n k : ℕ) (K : Seals → Format Described) → ((rs : Seals) → Short k (K rs)) → Short (20 * n + k) (rangesFormat n K)
+unfolding rangesFormat
+ranges-fit zero k K h = short-more (K []) k (20 * 0 + k) (omega arith) (h [])
+ranges-fit (suc n) k K h = (
+  omega arith,
+  (omega arith, tt),
+  λ st hst. (
+    omega arith,
+    (omega arith, tt),
+    λ ln hln. short-more (rangesFormat n (λ rs. K (range st ln ∷ rs))) (20 * n + k) (20 * suc n + k - 10 - 10) (omega arith) (ranges-fit n k (λ rs. K (range st ln ∷ rs)) (λ rs. h (range st ln ∷ rs))),
+  ),
+)
+
+seals-fit : (v k : ℕ) (K : Seals → Format Described) → ((rs : Seals) → Short k (K rs)) → Short (170 + k) (sealsFormat v K)
+seals-fit v k K h = go (eqb v 4)
+  where
+    few : (n : ℕ) → Among n counts → n ≤ 8
+    few n (inl a) = omega (arith, a .1)
+    few n (inr (inl a)) = a .1
+    few n (inr (inr a)) = absurd a
+
+    go : (t : Bool) → Short (170 + k) (cond t (number counts λ count. rangesFormat count K) (rangesFormat 1 K))
+    go true = (omega arith, (omega arith, (omega arith, tt)), λ n hn. short-more (rangesFormat n K) (20 * n + k) (170 + k - 10) (omega (arith, few n hn)) (ranges-fit n k K h))
+    go false = short-more (rangesFormat 1 K) (20 * 1 + k) (170 + k) (omega arith) (ranges-fit 1 k K h)
+
 after-fits : (v rule elen : ℕ) → elen ≤ 6 → Short (most - 30) (afterRule v rule elen)
 unfolding mtypes
 after-fits v rule elen few = (
@@ -239,19 +298,11 @@ after-fits v rule elen few = (
               λ tk htk. (
                 omega arith,
                 (omega arith, tt),
-                λ tn htn. (
+                λ tn htn. seals-fit v (most - 260) _ (λ rs. (
                   omega arith,
                   (omega arith, tt),
-                  λ st hst. (
-                    omega arith,
-                    (omega arith, tt),
-                    λ ln hln. (
-                      omega arith,
-                      (omega arith, tt),
-                      λ c hc. let kc = among-span hc in runs-fit _ c 0 (total m) (most - 120) (omega arith) (omega arith) (room-first c (2 ^ m) (kc .1)),
-                    ),
-                  ),
-                ),
+                  λ c hc. let kc = among-span hc in runs-fit _ c 0 (total m) (most - 270) (omega arith) (omega arith) (room-first c (2 ^ m) (kc .1)),
+                )),
               ),
             ),
           ),

@@ -1,7 +1,7 @@
 -- Nothing of a result is cut.
 use mathlib.Core.Path.{_≡_, refl}
 use mathlib.Core.Bool.{Bool, true, false, cond}
-use mathlib.Core.List.{List, _++_}
+use mathlib.Core.List.{List, [], _++_}
 use Prim.Native.Nat.{ℕ, _^_, _≤_, _<_}
 use native.Mathlib.Omega.{arith}
 use lib.Dec.{eqb, leb}
@@ -10,16 +10,17 @@ use Rattle.format.specs.Parser.{Parsed, parse}
 use Rattle.format.specs.Parser.Parsed.{whole, stopped}
 use Rattle.machine.specs.declared.Machine.{Machine}
 use Rattle.machine.specs.Starting.{noMachine}
-use Rattle.machine.specs.Faults.{sound}
 use Rattle.image.specs.declared.Imaged.the-variants.{Done, BadArguments, NoRoom, Damaged}
 use Rattle.image.specs.Answers.{ImageReply, imageReply}
 use Rattle.image.specs.Cells.{over, marksOf}
-use Rattle.image.specs.Images.{machineFrom, imageOf}
+use Rattle.image.specs.Images.{Seals, machineFrom, imageOf, soundWith}
 use Rattle.image.specs.ImageFormat.{Described, imageFormat}
 use Rattle.image.specs.Writing.{SizeOutcome, sized, sizeImage, WriteOutcome, written, writeImage}
 use Rattle.image.specs.Reading.{verdictOf, checkImage, ReadOutcome, restored, cellsIn, fitted, readAs, readImage}
+use Rattle.ranges.specs.Ranges.{sealsIn}
+use Rattle.image_read.specs.Blocks.{BlockOutcome, restoredAs, blockRefused, intoBlock, readBlock}
 use Rattle.blocks.specs.Blocks.{machineBytes, machineOf}
-use Rattle.image_calls.specs.ImageCalls.{packedReply, hostImageSize, HostWritten, writtenOut, hostImageWrite, blockRefused, HostRead, readOut, shownRead, hostImageRead}
+use Rattle.image_calls.specs.ImageCalls.{packedReply, hostImageSize, HostWritten, writtenOut, hostImageWrite, hostImageRead}
 use Rattle.image_calls.specs.Theorems.{PacksWhole, ImageSizePacksWhole, ImageWritePacksWhole, ImageReadPacksWhole}
 use Rattle.image_calls.proofs.Bounds.{most, image-short, Stops, place-short}
 
@@ -42,30 +43,30 @@ refused = record { number-small = omega arith; size-small = omega arith; place-s
 
 -- ---- sizing and writing
 
-module _ (m : Machine) (registers marks : List ℕ) where
-  size-small : let o = sizeImage m registers marks in Small (o .answer) (o .size)
+module _ (m : Machine) (seals : Seals) (registers marks : List ℕ) where
+  size-small : let o = sizeImage m seals registers marks in Small (o .answer) (o .size)
   unfolding sizeImage
-  size-small = go (sound m registers marks) refl
+  size-small = go (soundWith m seals registers marks) refl
     where
       out : Bool → SizeOutcome
-      out t = cond t (sized Done (length (imageOf m registers marks))) (sized BadArguments 0)
+      out t = cond t (sized Done (length (imageOf m seals registers marks))) (sized BadArguments 0)
 
-      go : (t : Bool) → sound m registers marks ≡ t → Small (out t .answer) (out t .size)
-      go true e = record { number-small = omega arith; size-small = image-short m registers marks e; place-small = omega arith }
+      go : (t : Bool) → soundWith m seals registers marks ≡ t → Small (out t .answer) (out t .size)
+      go true e = record { number-small = omega arith; size-small = image-short m seals registers marks e; place-small = omega arith }
       go false e = refused
 
-  write-small : (room : List ℕ) → let o = writeImage m registers marks room in Small (o .answer) (o .size)
+  write-small : (room : List ℕ) → let o = writeImage m seals registers marks room in Small (o .answer) (o .size)
   unfolding writeImage
-  write-small room = go (sound m registers marks) refl (leb (length (imageOf m registers marks)) (length room))
+  write-small room = go (soundWith m seals registers marks) refl (leb (length (imageOf m seals registers marks)) (length room))
     where
       image : List ℕ
-      image = imageOf m registers marks
+      image = imageOf m seals registers marks
 
       out : Bool → Bool → WriteOutcome
       out t u = cond t (cond u (written Done (length image) (image ++ drop (length image) room)) (written NoRoom 0 room)) (written BadArguments 0 room)
 
-      go : (t : Bool) → sound m registers marks ≡ t → (u : Bool) → Small (out t u .answer) (out t u .size)
-      go true e true = record { number-small = omega arith; size-small = image-short m registers marks e; place-small = omega arith }
+      go : (t : Bool) → soundWith m seals registers marks ≡ t → (u : Bool) → Small (out t u .answer) (out t u .size)
+      go true e true = record { number-small = omega arith; size-small = image-short m seals registers marks e; place-small = omega arith }
       go true e false = record { number-small = omega arith; size-small = omega arith; place-small = omega arith }
       go false e u = refused
 
@@ -74,11 +75,11 @@ unfolding hostImageSize
 image-size-packs-whole machine registers marks = go (eqb (length machine) machineBytes)
   where
     o : SizeOutcome
-    o = sizeImage (machineOf machine) registers marks
+    o = sizeImage (machineOf machine) (sealsIn machine) registers marks
 
     go : (t : Bool) → let q : SizeOutcome = cond t o (sized BadArguments 0) in
         PacksWhole (cond t (packedReply (o .answer) (o .size)) (packedReply (imageReply BadArguments) 0)) (q .answer) (q .size)
-    go true = packs (o .answer) (o .size) (size-small (machineOf machine) registers marks)
+    go true = packs (o .answer) (o .size) (size-small (machineOf machine) (sealsIn machine) registers marks)
     go false = packs (imageReply BadArguments) 0 refused
 
 pub image-write-packs-whole : ImageWritePacksWhole
@@ -86,13 +87,13 @@ unfolding hostImageWrite
 image-write-packs-whole machine registers marks image = go (eqb (length machine) machineBytes)
   where
     o : WriteOutcome
-    o = writeImage (machineOf machine) registers marks image
+    o = writeImage (machineOf machine) (sealsIn machine) registers marks image
 
     out : Bool → HostWritten
     out t = cond t (writtenOut (packedReply (o .answer) (o .size)) (o .room)) (writtenOut (packedReply (imageReply BadArguments) 0) image)
 
     go : (t : Bool) → let q : WriteOutcome = cond t o (written BadArguments 0 image) in PacksWhole (out t .result) (q .answer) (q .size)
-    go true = packs (o .answer) (o .size) (write-small (machineOf machine) registers marks image)
+    go true = packs (o .answer) (o .size) (write-small (machineOf machine) (sealsIn machine) registers marks image)
     go false = packs (imageReply BadArguments) 0 refused
 
 -- ---- reading
@@ -109,25 +110,22 @@ read-small (stopped p) registers marks h = damaged p h
 read-small (whole d) registers marks h = go (fitted d registers marks)
   where
     out : Bool → ReadOutcome
-    out t = cond t (restored Done (machineFrom (d .header)) (over (cellsIn d) registers) (marksOf (cellsIn d))) (restored BadArguments noMachine registers marks)
+    out t = cond t (restored Done (machineFrom (d .header)) (d .header .seals) (over (cellsIn d) registers) (marksOf (cellsIn d))) (restored BadArguments noMachine [] registers marks)
 
     go : (t : Bool) → Small (out t .answer) 0
     go true = record { number-small = omega arith; size-small = omega arith; place-small = omega arith }
     go false = refused
 
 pub image-read-packs-whole : ImageReadPacksWhole
-unfolding hostImageRead readImage checkImage
+unfolding hostImageRead readBlock readImage checkImage
 image-read-packs-whole image machine registers marks = go (eqb (length machine) machineBytes)
   where
     q : Parsed Described
     q = parse imageFormat image
 
-    out : Bool → HostRead
-    out t = cond t (shownRead machine (readAs q registers marks)) (readOut (packedReply (imageReply (blockRefused (verdictOf q))) 0) machine registers marks)
+    out : Bool → BlockOutcome
+    out t = cond t (intoBlock machine (readAs q registers marks)) (restoredAs (record { answer = blockRefused (verdictOf q); machine = noMachine }) machine registers marks)
 
-    answer : Bool → ImageReply
-    answer t = cond t (readAs q registers marks .answer) (imageReply (blockRefused (verdictOf q)))
-
-    go : (t : Bool) → PacksWhole (out t .result) (answer t) 0
+    go : (t : Bool) → PacksWhole (packedReply (out t .answer) 0) (out t .answer) 0
     go true = packs (readAs q registers marks .answer) 0 (read-small q registers marks (place-short image))
     go false = packs (imageReply (blockRefused (verdictOf q))) 0 (checked-small q (place-short image))

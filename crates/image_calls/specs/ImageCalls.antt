@@ -4,11 +4,11 @@ use mathlib.Core.List.{List}
 use Prim.Native.Nat.{ℕ, _+_, _*_, _%_, _^_}
 use lib.ListN.{length}
 use lib.Dec.{eqb}
-use Rattle.image.specs.declared.Imaged.{Imaged}
-use Rattle.image.specs.declared.Imaged.the-variants.{Done, BadArguments, NoRoom, Damaged}
+use Rattle.image.specs.declared.Imaged.the-variants.{BadArguments}
 use Rattle.image.specs.Answers.{ImageReply, imageReply}
 use Rattle.image.specs.Writing.{SizeOutcome, sizeImage, WriteOutcome, writeImage}
-use Rattle.image.specs.Reading.{checkImage, ReadOutcome, readImage}
+use Rattle.ranges.specs.Ranges.{sealsIn}
+use Rattle.image_read.specs.Blocks.{BlockOutcome, readBlock}
 use Rattle.blocks.specs.Blocks.{machineBytes, machineOf, putMachine}
 
 -- A result packs answer | value << 16: the value is a length where the call is done, and else the place that the answer names. The function
@@ -22,7 +22,7 @@ packedReply a size = a .number + cond (eqb (a .number) 0) size (a .place) % 2 ^ 
 -- a block of the wrong length is refused with 8
 unfoldable pub hostImageSize : (machine registers marks : List ℕ) → ℕ
 hostImageSize machine registers marks =
-    let o : SizeOutcome = sizeImage (machineOf machine) registers marks in
+    let o : SizeOutcome = sizeImage (machineOf machine) (sealsIn machine) registers marks in
     cond (eqb (length machine) machineBytes) (packedReply (o .answer) (o .size)) (packedReply (imageReply BadArguments) 0)
 
 -- ---- writing
@@ -37,7 +37,7 @@ writtenOut result image = record { result = result; image = image }
 
 unfoldable pub hostImageWrite : (machine registers marks image : List ℕ) → HostWritten
 hostImageWrite machine registers marks image =
-    let o : WriteOutcome = writeImage (machineOf machine) registers marks image in
+    let o : WriteOutcome = writeImage (machineOf machine) (sealsIn machine) registers marks image in
     cond (eqb (length machine) machineBytes) (writtenOut (packedReply (o .answer) (o .size)) (o .room)) (writtenOut (packedReply (imageReply BadArguments) 0) image)
 
 -- ---- reading
@@ -52,20 +52,11 @@ pub record HostRead : Type 0 where
 abbrev pub readOut : ℕ → (machine registers marks : List ℕ) → HostRead
 readOut result machine registers marks = record { result = result; machine = machine; registers = registers; marks = marks }
 
--- "Reading gives 15 first, then 8": the machine's block is a lent buffer too
-abbrev pub blockRefused : Imaged → Imaged
-blockRefused Done = BadArguments
-blockRefused BadArguments = BadArguments
-blockRefused NoRoom = BadArguments
-blockRefused (Damaged place) = Damaged place
+-- a read as the host sees it: where it is done the machine's numbers are written over the block too
+abbrev pub shownRead : BlockOutcome → HostRead
+shownRead o =
+    readOut (packedReply (o .answer) 0) (cond (eqb (o .answer .number) 0) (putMachine (o .machine) (o .block)) (o .block)) (o .registers) (o .marks)
 
--- a read as the host sees it; a refused one leaves the machine's block
-abbrev pub shownRead : List ℕ → ReadOutcome → HostRead
-shownRead machine o =
-    readOut (packedReply (o .answer) 0) (cond (eqb (o .answer .number) 0) (putMachine (o .machine) machine) machine) (o .registers) (o .marks)
-
+-- a block of the wrong length is refused as other buffers are: 15 first, then 8
 unfoldable pub hostImageRead : (image machine registers marks : List ℕ) → HostRead
-hostImageRead image machine registers marks =
-    cond (eqb (length machine) machineBytes)
-    (shownRead machine (readImage image registers marks))
-    (readOut (packedReply (imageReply (blockRefused (checkImage image))) 0) machine registers marks)
+hostImageRead image machine registers marks = shownRead (readBlock image machine registers marks)

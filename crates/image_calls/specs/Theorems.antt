@@ -6,11 +6,12 @@ use Prim.Native.Nat.{ℕ, _/_, _%_, _^_}
 use lib.Dec.{eqb}
 use lib.ListN.{length}
 use Rattle.image.specs.declared.Imaged.the-variants.{BadArguments}
-use Rattle.image.specs.Answers.{ImageReply, imageReply}
+use Rattle.image.specs.Answers.{ImageReply}
 use Rattle.image.specs.Writing.{SizeOutcome, sized, sizeImage, WriteOutcome, written, writeImage}
-use Rattle.image.specs.Reading.{checkImage, readImage}
+use Rattle.ranges.specs.Ranges.{sealsIn}
+use Rattle.image_read.specs.Blocks.{readBlock}
 use Rattle.blocks.specs.Blocks.{machineBytes, machineOf}
-use Rattle.image_calls.specs.ImageCalls.{hostImageSize, writtenOut, hostImageWrite, blockRefused, readOut, hostImageRead}
+use Rattle.image_calls.specs.ImageCalls.{hostImageSize, writtenOut, hostImageWrite, readOut, hostImageRead}
 
 -- "A refusal changes no byte of any buffer." A refusal of these: an answer, in bits 15..0, that is not 0
 abbrev pub ImageWriteRefusalChangesNoByte : Type 0
@@ -31,17 +32,16 @@ PacksWhole result a size = (result % 2 ^ 16 ≡ a .number) × (result / 2 ^ 16 �
 -- the length of the machine's image
 abbrev pub ImageSizePacksWhole : Type 0
 ImageSizePacksWhole = (machine registers marks : List ℕ)
-    → let o : SizeOutcome = cond (eqb (length machine) machineBytes) (sizeImage (machineOf machine) registers marks) (sized BadArguments 0) in
+    → let o : SizeOutcome = cond (eqb (length machine) machineBytes) (sizeImage (machineOf machine) (sealsIn machine) registers marks) (sized BadArguments 0) in
     PacksWhole (hostImageSize machine registers marks) (o .answer) (o .size)
 
 -- the length of what is written
 abbrev pub ImageWritePacksWhole : Type 0
 ImageWritePacksWhole = (machine registers marks image : List ℕ)
-    → let o : WriteOutcome = cond (eqb (length machine) machineBytes) (writeImage (machineOf machine) registers marks image) (written BadArguments 0 image) in
+    → let o : WriteOutcome = cond (eqb (length machine) machineBytes) (writeImage (machineOf machine) (sealsIn machine) registers marks image) (written BadArguments 0 image) in
     PacksWhole (hostImageWrite machine registers marks image .result) (o .answer) (o .size)
 
 -- the place of answer 15; a read that is done gives no length
 abbrev pub ImageReadPacksWhole : Type 0
 ImageReadPacksWhole = (image machine registers marks : List ℕ)
-    → let a : ImageReply = cond (eqb (length machine) machineBytes) (readImage image registers marks .answer) (imageReply (blockRefused (checkImage image))) in
-    PacksWhole (hostImageRead image machine registers marks .result) a 0
+    → PacksWhole (hostImageRead image machine registers marks .result) (readBlock image machine registers marks .answer) 0

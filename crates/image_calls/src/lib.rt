@@ -6,7 +6,7 @@ use blocks::put_machine;
 use image::Imaged;
 ghost use mathlib.Core.Path.{_≡_};
 ghost use Rattle.image.specs.Answers.{imageReply};
-ghost use Rattle.image_calls.specs.ImageCalls.{packedReply, hostImageSize, writtenOut, hostImageWrite, blockRefused, readOut, hostImageRead};
+ghost use Rattle.image_calls.specs.ImageCalls.{packedReply, hostImageSize, writtenOut, hostImageWrite, readOut, hostImageRead};
 
 // An answer's number, with the length of what is done, or the place that it names, in the bits above it.
 fn packed_reply(answer: Imaged, size: u64) -> u64
@@ -20,18 +20,6 @@ fn packed_reply(answer: Imaged, size: u64) -> u64
     }
 }
 
-// The answer to a machine block of the wrong length, by the verdict on the image.
-fn block_refused(verdict: Imaged) -> Imaged
-    ensures { λ r. ⌜ r ≡ blockRefused verdict ⌝ }
-{
-    match verdict {
-        Imaged::Done => Imaged::BadArguments,
-        Imaged::BadArguments => Imaged::BadArguments,
-        Imaged::NoRoom => Imaged::BadArguments,
-        Imaged::Damaged { place } => Imaged::Damaged { place },
-    }
-}
-
 // The length of a machine's image.
 pub fn size(machine: &[u8], registers: &[u8], marks: &[u8]) -> u64
     ensures { λ r. ⌜ r ≡ hostImageSize (now (machine .entry)) (now (registers .entry)) (now (marks .entry)) ⌝ }
@@ -40,7 +28,7 @@ pub fn size(machine: &[u8], registers: &[u8], marks: &[u8]) -> u64
         return packed_reply(Imaged::BadArguments, 0);
     }
     let m = machine_of(machine);
-    let sized = image_write::image_size(m, registers, marks);
+    let sized = image_write::image_size(m, machine, registers, marks);
     let answer = sized.answer;
     packed_reply(answer, sized.size)
 }
@@ -53,7 +41,7 @@ pub fn write(machine: &[u8], registers: &[u8], marks: &[u8], image: &mut [u8]) -
         return packed_reply(Imaged::BadArguments, 0);
     }
     let m = machine_of(machine);
-    let written = image_write::write_image(m, registers, marks, image);
+    let written = image_write::write_image(m, machine, registers, marks, image);
     let answer = written.answer;
     packed_reply(answer, written.length)
 }
@@ -63,11 +51,7 @@ pub fn read(image: &[u8], machine: &mut [u8], registers: &mut [u8], marks: &mut 
     ensures { λ r. ⌜ readOut r (now (machine .exit)) (now (registers .exit)) (now (marks .exit))
         ≡ hostImageRead (now (image .entry)) (now (machine .entry)) (now (registers .entry)) (now (marks .entry)) ⌝ }
 {
-    if machine.len() != MACHINE_BYTES {
-        let verdict = image_check::check_image(image);
-        return packed_reply(block_refused(verdict), 0);
-    }
-    let read = image_read::read_image(image, registers, marks);
+    let read = image_read::read_image(image, machine, registers, marks);
     let answer = read.answer;
     if !image_check::is_done(answer) {
         return packed_reply(answer, 0);

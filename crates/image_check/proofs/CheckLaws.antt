@@ -23,9 +23,9 @@ unfolding checkImage
 check-bad s h is p e = ap verdictOf (sym (head-bad s h is p e))
 
 -- the verdict on the runs is that on the image
-pub check-runs-is : (s : List ℕ) (m : Machine) (c a : ℕ) (h : HeadedOk s m c a) (v : Imaged) → v ≡ runsVerdict s a c 0 (2 * m .mlen) → v ≡ checkImage s
+pub check-runs-is : (s : List ℕ) (m : Machine) (n f c a : ℕ) (h : HeadedOk s m n f c a) (v : Imaged) → v ≡ runsVerdict s a c 0 (2 * m .mlen) → v ≡ checkImage s
 unfolding checkImage runsVerdict
-check-runs-is s m c a h v is = is ∙ go (runsFrom s a c 0 (2 * m .mlen)) ∙ ap verdictOf (sym (head-parse s m c a h))
+check-runs-is s m n f c a h v is = is ∙ go (runsFrom s a c 0 (2 * m .mlen)) ∙ ap verdictOf (sym (head-parse s m n f c a h))
   where
     go : (q : Parsed Described) → verdictOf q ≡ verdictOf (mapped (λ d. describe (h .header) (d .body)) q)
     go (whole d) = refl

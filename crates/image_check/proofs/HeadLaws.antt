@@ -1,15 +1,16 @@
 -- The numbers of an image, part by part: from what was read at each place to what the parser finds from there on.
 use mathlib.Core.Path.{_≡_, refl, sym, ap, _∙_, subst}
 use mathlib.Core.Bool.{Bool, true, false, cond, _&&_}
-use mathlib.Core.List.{List, _∷_}
+use mathlib.Core.List.{List, [], _∷_}
 use mathlib.Core.Logic.{_⊎_, inl, inr}
-use Prim.Native.Nat.{ℕ, suc, _+_, _-_, _*_, _/_, _^_, _≤_, _<_, max, min}
+use Prim.Native.Nat.{ℕ, zero, suc, _+_, _-_, _*_, _/_, _^_, _≤_, _<_, max, min}
 use native.Mathlib.Omega.{arith}
 use lib.ListN.{length, drop, getD, drop-of-length-le}
 use lib.Seq.{drop-cons}
-use lib.Dec.{leb, eqb}
+use lib.Dec.{leb, ltb, eqb}
 use lib.Pow.{pow-mono}
 use borrow.Author.Tests.{lt-ltb, le-ltb, le-leb, lt-leb, eq-eqb, ne-eqb, eqb-true}
+use Rattle.width.proofs.BlockLaws.{le-or-lt}
 use Rattle.format.specs.Numbers.{span, Among}
 use Rattle.format.specs.Formats.{Format}
 use Rattle.format.specs.Formats.Format.{number}
@@ -21,8 +22,9 @@ use Rattle.reader.specs.declared.Number.{Number}
 use Rattle.reader.specs.declared.Number.the-variants.{Value, Fault}
 use Rattle.reader.specs.At.{found, numberAt}
 use Rattle.reader.proofs.FromLaws.{from-number, from-fault, from-value, from-stuck, from-start, took, took-in}
-use Rattle.image.specs.Images.{Header, machineFrom}
-use Rattle.image.specs.ImageFormat.{Described, topRlen, topMlen, leastMlen, mtypes, versionFormat, shapeFormat, tilesFormat, sealFormat, runsFormat, total, imageFormat}
+use Rattle.machine.specs.Geometry.{range}
+use Rattle.image.specs.Images.{Seals, Header, machineFrom}
+use Rattle.image.specs.ImageFormat.{Described, topRlen, topMlen, leastMlen, mtypes, versionFormat, shapeFormat, tilesFormat, rangesFormat, counts, sealsFormat, runsFormat, total, imageFormat}
 use Rattle.image.proofs.ImageLaws.{top-rlen, top-mlen, least-above}
 use Rattle.image_check.specs.declared.head.Version.{Version}
 use Rattle.image_check.specs.declared.head.Version.the-variants.{Versioned, VersionBad}
@@ -32,8 +34,12 @@ use Rattle.image_check.specs.declared.head.Tiles.{Tiles}
 use Rattle.image_check.specs.declared.head.Tiles.the-variants.{Tiled, TilesBad}
 use Rattle.image_check.specs.declared.head.Pair.{Pair}
 use Rattle.image_check.specs.declared.head.Pair.the-variants.{Both, PairBad}
+use Rattle.image_check.specs.declared.head.Place.{Place}
+use Rattle.image_check.specs.declared.head.Place.the-variants.{Behind, PlaceBad}
+use Rattle.image_check.specs.declared.head.Ranges.{Ranges}
+use Rattle.image_check.specs.declared.head.Ranges.the-variants.{Ranged, RangesBad}
 use Rattle.image_check.specs.declared.head.Head.{Head}
-use Rattle.image_check.specs.Parts.{onward, largeAt, halvingAt, versionIn, exponentsAt, withVersion, shapeIn, mtypeAt, pairAt, sizesAt, withSizes, tilesAt, sealAt, numbersOf, withSeal, withTiles, headAt, withShape, headIn, describe, runsFrom}
+use Rattle.image_check.specs.Parts.{onward, largeAt, halvingAt, versionIn, exponentsAt, withVersion, shapeIn, mtypeAt, pairAt, sizesAt, withSizes, tilesAt, countAt, rangeAt, past, rangesEnd, rangesFound, withPlace, sealsAt, numbersOf, withRanges, withTiles, headAt, withShape, headIn, describe, runsFrom}
 use Rattle.image_check.proofs.RunsLaws.{mapped, runs-with}
 
 -- ---- what a part that was read is known to be: whatever format follows it goes on from the place behind it
@@ -49,16 +55,16 @@ VersionOk s (Versioned version rule elen at) = VersionedOk s version rule elen a
 VersionOk s (VersionBad p) = (K : ℕ → ℕ → ℕ → Format Described) → from (versionFormat K) s 0 ≡ stopped p
 
 -- and the exponents
-pub record ShapedOk (s : List ℕ) (r m rule elen at : ℕ) : Type 0 where
-  pub goes-on : (K : ℕ → ℕ → ℕ → ℕ → Format Described) → from (shapeFormat K) s 0 ≡ from (K rule elen r m) s at
+pub record ShapedOk (s : List ℕ) (version r m rule elen at : ℕ) : Type 0 where
+  pub goes-on : (K : ℕ → ℕ → ℕ → ℕ → ℕ → Format Described) → from (shapeFormat K) s 0 ≡ from (K version rule elen r m) s at
   pub elen-ok : (5 ≤ elen) × (elen ≤ 6)
   pub rlen-ok : (6 ≤ r) × (r ≤ 12)
   pub mlen-ok : (r < m) × (m ≤ 16)
   pub there : at ≤ length s
 
 abbrev ShapeOk : List ℕ → Shape → Type 0
-ShapeOk s (Shaped r m rule elen at) = ShapedOk s r m rule elen at
-ShapeOk s (ShapeBad p) = (K : ℕ → ℕ → ℕ → ℕ → Format Described) → from (shapeFormat K) s 0 ≡ stopped p
+ShapeOk s (Shaped version r m rule elen at) = ShapedOk s version r m rule elen at
+ShapeOk s (ShapeBad p) = (K : ℕ → ℕ → ℕ → ℕ → ℕ → Format Described) → from (shapeFormat K) s 0 ≡ stopped p
 
 -- two numbers, the second up to what the first says
 abbrev pairFormat : (most : ℕ) (mostOf : ℕ → ℕ) → (ℕ → ℕ → Format Described) → Format Described
@@ -81,51 +87,65 @@ abbrev TilesOk : List ℕ → ℕ → ℕ → ℕ → ℕ → Tiles → Type 0
 TilesOk s elen at rows columns (Tiled t tm tk tn a) = TiledOk s elen at rows columns t tm tk tn a
 TilesOk s elen at rows columns (TilesBad p) = (K : ℕ → ℕ → ℕ → ℕ → Format Described) → from (tilesFormat elen rows columns K) s at ≡ stopped p
 
+-- the ranges of an image of some version
+record RangedOk (s : List ℕ) (version at c a b : ℕ) : Type 0 where
+  goes-on : (K : Seals → Format Described) → from (sealsFormat version K) s at ≡ from (K (rangesFound s c a)) s b
+  few : c ≤ 8
+  ends : rangesEnd s c a ≡ Behind b
+  there : at ≤ length s → b ≤ length s
+
+abbrev RangesOk : List ℕ → (version at : ℕ) → Ranges → Type 0
+RangesOk s version at (Ranged c a b) = RangedOk s version at c a b
+RangesOk s version at (RangesBad p) = (K : Seals → Format Described) → from (sealsFormat version K) s at ≡ stopped p
+
 -- all numbers: the runs are read from a place on
-pub record HeadedOk (s : List ℕ) (m : Machine) (count at : ℕ) : Type 0 where
+pub record HeadedOk (s : List ℕ) (m : Machine) (seals first count at : ℕ) : Type 0 where
   pub header : Header
   pub machine-is : m ≡ machineFrom header
+  pub seals-are : header .seals ≡ rangesFound s seals first
+  pub seals-few : seals ≤ 8
+  pub seals-end : (b : ℕ) × (rangesEnd s seals first ≡ Behind b)
   pub goes-on : parse imageFormat s ≡ from (runsFormat (describe header) count 0 (total (header .mlen))) s at
   pub mlen-ok : header .mlen ≤ 16
   pub count-ok : count ≤ 2 ^ header .mlen
   pub there : at ≤ length s
 
-abbrev CountOk : List ℕ → Machine → Number → Type 0
-CountOk s m (Value count at) = HeadedOk s m count at
-CountOk s m (Fault p) = parse imageFormat s ≡ stopped p
+abbrev CountOk : List ℕ → Machine → (seals first : ℕ) → Number → Type 0
+CountOk s m seals a (Value count at) = HeadedOk s m seals a count at
+CountOk s m seals a (Fault p) = parse imageFormat s ≡ stopped p
 
 abbrev HeadOk : List ℕ → Head → Type 0
-HeadOk s h = CountOk s (h .machine) (h .count)
+HeadOk s h = CountOk s (h .machine) (h .seals) (h .«seals_at») (h .count)
 
 -- ---- the version, the rule, and the exponents of ELEN, RLEN and MLEN
 
 module _ (s : List ℕ) where
   -- version 1
-  one-right : (a : ℕ) → numberAt s 0 1 3 ≡ Value 1 a → VersionOk s (Versioned 1 0 5 a)
-  one-right a e = record { goes-on = λ K. from-number s 0 1 3 1 a _ e; elen-ok = (omega arith, omega arith); there = took s 0 1 3 1 a e .behind (omega arith) }
+  one-right : (a : ℕ) → numberAt s 0 1 4 ≡ Value 1 a → VersionOk s (Versioned 1 0 5 a)
+  one-right a e = record { goes-on = λ K. from-number s 0 1 4 1 a _ e; elen-ok = (omega arith, omega arith); there = took s 0 1 4 1 a e .behind (omega arith) }
 
   -- version 2
-  halving-right : (a : ℕ) → numberAt s 0 1 3 ≡ Value 2 a → (n : Number) → numberAt s a 1 1 ≡ n → VersionOk s (onward n VersionBad λ rule b. Versioned 2 rule 5 b)
+  halving-right : (a : ℕ) → numberAt s 0 1 4 ≡ Value 2 a → (n : Number) → numberAt s a 1 1 ≡ n → VersionOk s (onward n VersionBad λ rule b. Versioned 2 rule 5 b)
   halving-right a e (Value r b) e₁ = record {
-    goes-on = λ K. from-number s 0 1 3 2 a _ e ∙ from-number s a 1 1 r b (λ rule. K 2 rule 5) e₁;
+    goes-on = λ K. from-number s 0 1 4 2 a _ e ∙ from-number s a 1 1 r b (λ rule. K 2 rule 5) e₁;
     elen-ok = (omega arith, omega arith);
-    there = took s a 1 1 r b e₁ .behind (took s 0 1 3 2 a e .behind (omega arith));
+    there = took s a 1 1 r b e₁ .behind (took s 0 1 4 2 a e .behind (omega arith));
   }
-  halving-right a e (Fault p) e₁ = λ K. from-number s 0 1 3 2 a _ e ∙ from-fault s a 1 1 p (λ rule. K 2 rule 5) e₁
+  halving-right a e (Fault p) e₁ = λ K. from-number s 0 1 4 2 a _ e ∙ from-fault s a 1 1 p (λ rule. K 2 rule 5) e₁
 
   -- a version from 3 on
-  module _ (v a : ℕ) (e : numberAt s 0 1 3 ≡ Value v a) (one : eqb v 1 ≡ false) (two : eqb v 2 ≡ false) where
+  module _ (v a : ℕ) (e : numberAt s 0 1 4 ≡ Value v a) (one : eqb v 1 ≡ false) (two : eqb v 2 ≡ false) where
     abbrev elenThen : (ℕ → ℕ → ℕ → Format Described) → ℕ → Format Described
     elenThen K rule = number (span 5 6) (K v rule)
 
     past-version : (K : ℕ → ℕ → ℕ → Format Described) → from (versionFormat K) s 0 ≡ from (number (span 0 1) (elenThen K)) s a
-    past-version K = from-number s 0 1 3 v a _ e ∙ rw (one, two)
+    past-version K = from-number s 0 1 4 v a _ e ∙ rw (one, two)
 
     large-rest : (r b : ℕ) → numberAt s a 0 1 ≡ Value r b → (n : Number) → numberAt s b 5 6 ≡ n → VersionOk s (onward n VersionBad λ elen d. Versioned v r elen d)
     large-rest r b e₁ (Value el d) e₂ = record {
       goes-on = λ K. past-version K ∙ from-number s a 0 1 r b (elenThen K) e₁ ∙ from-number s b 5 6 el d (K v r) e₂;
       elen-ok = let t = took s b 5 6 el d e₂ in (t .least, t .most);
-      there = took s b 5 6 el d e₂ .behind (took s a 0 1 r b e₁ .behind (took s 0 1 3 v a e .behind (omega arith)));
+      there = took s b 5 6 el d e₂ .behind (took s a 0 1 r b e₁ .behind (took s 0 1 4 v a e .behind (omega arith)));
     }
     large-rest r b e₁ (Fault p) e₂ = λ K. past-version K ∙ from-number s a 0 1 r b (elenThen K) e₁ ∙ from-fault s b 5 6 p (K v r) e₂
 
@@ -135,23 +155,23 @@ module _ (s : List ℕ) where
 
   version-right : VersionOk s (versionIn s)
   unfolding versionIn largeAt halvingAt
-  version-right = go (numberAt s 0 1 3) refl
+  version-right = go (numberAt s 0 1 4) refl
     where
-      by : (v a : ℕ) → numberAt s 0 1 3 ≡ Value v a → (t : Bool) → eqb v 1 ≡ t → (u : Bool) → eqb v 2 ≡ u
+      by : (v a : ℕ) → numberAt s 0 1 4 ≡ Value v a → (t : Bool) → eqb v 1 ≡ t → (u : Bool) → eqb v 2 ≡ u
           → VersionOk s (cond t (Versioned 1 0 5 a) (cond u (halvingAt s a) (largeAt s v a)))
       by v a e true q u w = one-right a (e ∙ ap (λ (x : ℕ). Value x a) (eqb-true v 1 q))
       by v a e false q true w = halving-right a (e ∙ ap (λ (x : ℕ). Value x a) (eqb-true v 2 w)) (numberAt s a 1 1) refl
       by v a e false q false w = large-right v a e q w (numberAt s a 0 1) refl
 
-      go : (n : Number) → numberAt s 0 1 3 ≡ n → VersionOk s (onward n VersionBad λ v a. cond (eqb v 1) (Versioned 1 0 5 a) (cond (eqb v 2) (halvingAt s a) (largeAt s v a)))
+      go : (n : Number) → numberAt s 0 1 4 ≡ n → VersionOk s (onward n VersionBad λ v a. cond (eqb v 1) (Versioned 1 0 5 a) (cond (eqb v 2) (halvingAt s a) (largeAt s v a)))
       go (Value v a) e = by v a e (eqb v 1) refl (eqb v 2) refl
-      go (Fault p) e = λ K. from-fault s 0 1 3 p _ e
+      go (Fault p) e = λ K. from-fault s 0 1 4 p _ e
 
 abbrev mlenThen : (ℕ → ℕ → Format Described) → (version elen r : ℕ) → Format Described
 mlenThen K version elen r = number (span (leastMlen version elen r) (topMlen version)) (K r)
 
-abbrev rlenThen : (ℕ → ℕ → ℕ → ℕ → Format Described) → (version rule elen : ℕ) → Format Described
-rlenThen K version rule elen = number (span (suc elen) (topRlen version)) (mlenThen (K rule elen) version elen)
+abbrev rlenThen : (ℕ → ℕ → ℕ → ℕ → ℕ → Format Described) → (version rule elen : ℕ) → Format Described
+rlenThen K version rule elen = number (span (suc elen) (topRlen version)) (mlenThen (K version rule elen) version elen)
 
 -- by the tests of the code
 pub least-other : (v e r : ℕ) → ¬ (v ≡ 3) → r + 1 ≡ leastMlen v e r
@@ -180,7 +200,7 @@ module _ (s : List ℕ) where
     shift = omega arith
 
     rlen-bad : (p : ℕ) → numberAt s a (elen + 1) (topRlen version) ≡ Fault p → ShapeOk s (ShapeBad p)
-    rlen-bad p e₁ K = h .goes-on (rlenThen K) ∙ from-fault s a (suc elen) (topRlen version) p (mlenThen (K rule elen) version elen) (subst (λ (x : ℕ). numberAt s a x (topRlen version) ≡ Fault p) (sym shift) e₁)
+    rlen-bad p e₁ K = h .goes-on (rlenThen K) ∙ from-fault s a (suc elen) (topRlen version) p (mlenThen (K version rule elen) version elen) (subst (λ (x : ℕ). numberAt s a x (topRlen version) ≡ Fault p) (sym shift) e₁)
 
     module _ (r b : ℕ) (e₁ : numberAt s a (elen + 1) (topRlen version) ≡ Value r b) where
       e₀ : numberAt s a (suc elen) (topRlen version) ≡ Value r b
@@ -188,17 +208,17 @@ module _ (s : List ℕ) where
 
       mlen-bad : (p : ℕ) → numberAt s b (leastMlen version elen r) (topMlen version) ≡ Fault p → ShapeOk s (ShapeBad p)
       mlen-bad p e₂ K =
-          h .goes-on (rlenThen K) ∙ from-number s a (suc elen) (topRlen version) r b (mlenThen (K rule elen) version elen) e₀
-          ∙ from-fault s b (leastMlen version elen r) (topMlen version) p (K rule elen r) e₂
+          h .goes-on (rlenThen K) ∙ from-number s a (suc elen) (topRlen version) r b (mlenThen (K version rule elen) version elen) e₀
+          ∙ from-fault s b (leastMlen version elen r) (topMlen version) p (K version rule elen r) e₂
 
-      shaped : (m d : ℕ) → numberAt s b (leastMlen version elen r) (topMlen version) ≡ Value m d → ShapedOk s r m rule elen d
+      shaped : (m d : ℕ) → numberAt s b (leastMlen version elen r) (topMlen version) ≡ Value m d → ShapedOk s version r m rule elen d
       shaped m d e₂ =
           let t₁ = took s a (elen + 1) (topRlen version) r b e₁ in
           let t₂ = took s b (leastMlen version elen r) (topMlen version) m d e₂ in
           let few : r ≤ 12 = omega (arith, t₁ .most, top-rlen version) in
           record {
-            goes-on = λ K. h .goes-on (rlenThen K) ∙ from-number s a (suc elen) (topRlen version) r b (mlenThen (K rule elen) version elen) e₀
-                ∙ from-number s b (leastMlen version elen r) (topMlen version) m d (K rule elen r) e₂;
+            goes-on = λ K. h .goes-on (rlenThen K) ∙ from-number s a (suc elen) (topRlen version) r b (mlenThen (K version rule elen) version elen) e₀
+                ∙ from-number s b (leastMlen version elen r) (topMlen version) m d (K version rule elen r) e₂;
             elen-ok = h .elen-ok;
             rlen-ok = (omega (arith, t₁ .least, h .elen-ok), few);
             mlen-ok = (omega (arith, t₂ .least, least-above version elen r few), omega (arith, t₂ .most, top-mlen version));
@@ -210,12 +230,12 @@ module _ (s : List ℕ) where
     exponents-right = next (numberAt s a (elen + 1) (topRlen version)) refl
       where
         last : (r b : ℕ) (e₁ : numberAt s a (elen + 1) (topRlen version) ≡ Value r b) (n : Number) → numberAt s b (leastMlen version elen r) (topMlen version) ≡ n
-            → ShapeOk s (onward n ShapeBad λ m d. Shaped r m rule elen d)
+            → ShapeOk s (onward n ShapeBad λ m d. Shaped version r m rule elen d)
         last r b e₁ (Value m d) e = shaped r b e₁ m d e
         last r b e₁ (Fault p) e = mlen-bad r b e₁ p e
 
         next : (n : Number) → numberAt s a (elen + 1) (topRlen version) ≡ n
-            → ShapeOk s (onward n ShapeBad λ r b. onward (numberAt s b (leastMlen version elen r) (topMlen version)) ShapeBad λ m d. Shaped r m rule elen d)
+            → ShapeOk s (onward n ShapeBad λ r b. onward (numberAt s b (leastMlen version elen r) (topMlen version)) ShapeBad λ m d. Shaped version r m rule elen d)
         next (Value r b) e = last r b e (numberAt s b (leastMlen version elen r) (topMlen version)) refl
         next (Fault p) e = rlen-bad p e
 
@@ -230,8 +250,8 @@ module _ (s : List ℕ) where
   pub version-known : (version rule elen a : ℕ) → versionIn s ≡ Versioned version rule elen a → VersionedOk s version rule elen a
   version-known version rule elen a e = subst (VersionOk s) e (version-right s)
 
-  pub shape-known : (r m rule elen a : ℕ) → shapeIn s ≡ Shaped r m rule elen a → ShapedOk s r m rule elen a
-  shape-known r m rule elen a e = subst (ShapeOk s) e shape-right
+  pub shape-known : (version r m rule elen a : ℕ) → shapeIn s ≡ Shaped version r m rule elen a → ShapedOk s version r m rule elen a
+  shape-known version r m rule elen a e = subst (ShapeOk s) e shape-right
 
 -- ---- mtype: the permitted values are three ranges, of which only 2^63 takes more than a byte
 
@@ -338,60 +358,199 @@ module _ (s : List ℕ) (elen at rows columns : ℕ) where
       go (Value t a) e = m-tiles t a e (numberAt s a 0 rows) refl
       go (Fault p) e = λ K. from-stuck (mtypes elen) s at p _ e
 
+-- ---- the ranges
+
+-- a number of ranges other than 1 is at fault where a number up to 8 is
+counts-same : (b : ℕ) (t : List ℕ) → ¬ (b ≡ 1) → readNumber counts (b ∷ t) ≡ readNumber (span 0 8) (b ∷ t)
+unfolding readNumber isAmong nonempty
+counts-same b t d = go (ltb b 128) refl
+  where
+    none-left : (low high : ℕ) → high ≤ 8 → leb (max 1 ((low + 127 - (b - 128)) / 128)) ((high - (b - 128)) / 128) ≡ false
+    none-left low high h = lt-leb (max 1 ((low + 127 - (b - 128)) / 128)) ((high - (b - 128)) / 128) (omega arith)
+
+    same : isAmong b counts ≡ isAmong b (span 0 8)
+    same = elim (le-or-lt 2 b) [
+      | inl l ↦ rw (le-leb 0 b (omega arith), lt-leb b 0 (omega arith), le-leb 2 b l)
+      | inr l ↦ elim (le-or-lt 1 b) [ inl g ↦ absurd (d (omega arith)) | inr g ↦ rw (le-leb 0 b (omega arith), le-leb b 0 (omega arith), le-leb b 8 (omega arith)) ]
+    ]
+
+    go : (u : Bool) → ltb b 128 ≡ u → readNumber counts (b ∷ t) ≡ readNumber (span 0 8) (b ∷ t)
+    go true e = rw (e, same)
+    go false e = rw (e, none-left 0 0 (omega arith), none-left 2 8 (omega arith), none-left 0 8 (omega arith))
+
+module _ (s : List ℕ) (version at : ℕ) where
+  pub count-one : ¬ (version ≡ 4) → Value 1 at ≡ countAt s version at
+  unfolding countAt
+  count-one d = rw (ne-eqb version 4 d)
+
+  module _ (e : version ≡ 4) where
+    pub count-end : length s ≤ at → Fault at ≡ countAt s version at
+    unfolding countAt readNumber
+    count-end h = rw (eq-eqb version 4 e, drop-of-length-le s h) (ap Fault (omega arith))
+
+    module _ (b : ℕ) (h : at < length s) (is : b ≡ getD s at 0) where
+      begins : drop at s ≡ b ∷ drop (suc at) s
+      begins = drop-cons s at 0 h ∙ ap (λ (x : ℕ). x ∷ drop (suc at) s) (sym is)
+
+      pub count-bad : b ≡ 1 → Fault at ≡ countAt s version at
+      unfolding countAt readNumber isAmong
+      count-bad one = rw (eq-eqb version 4 e, begins, one) (ap Fault (omega arith))
+
+      pub count-some : ¬ (b ≡ 1) → numberAt s at 0 8 ≡ countAt s version at
+      unfolding countAt numberAt
+      count-some d = rw (eq-eqb version 4 e, begins) (ap (found at) (sym (counts-same b (drop (suc at) s) d)))
+
+-- so many ranges, one after the other
+pub ranges-none : (s : List ℕ) (n at : ℕ) → n ≤ 0 → Behind at ≡ rangesEnd s n at
+unfolding rangesEnd
+ranges-none s zero at h = refl
+ranges-none s (suc n) at h = absurd (omega arith)
+
+module _ (s : List ℕ) where
+  pub ranges-bad : (n at p : ℕ) → 0 < n → rangeAt s at ≡ PairBad p → PlaceBad p ≡ rangesEnd s n at
+  unfolding rangesEnd
+  ranges-bad zero at p h e = absurd (omega arith)
+  ranges-bad (suc n) at p h e = ap (λ (x : Pair). past x PlaceBad λ start size a. rangesEnd s n a) (sym e)
+
+  pub ranges-next : (n at st ln a : ℕ) → 0 < n → rangeAt s at ≡ Both st ln a → rangesEnd s (n - 1) a ≡ rangesEnd s n at
+  unfolding rangesEnd
+  ranges-next zero at st ln a h e = absurd (omega arith)
+  ranges-next (suc n) at st ln a h e = ap (λ (x : ℕ). rangesEnd s x a) {x = suc n - 1} {y = n} (omega arith) ∙ ap (λ (x : Pair). past x PlaceBad λ start size a. rangesEnd s n a) (sym e)
+
+  pub found-next : (n at st ln a : ℕ) → 0 < n → rangeAt s at ≡ Both st ln a → rangesFound s n at ≡ range st ln ∷ rangesFound s (n - 1) a
+  unfolding rangesFound
+  found-next zero at st ln a h e = absurd (omega arith)
+  found-next (suc n) at st ln a h e =
+      ap (λ (x : Pair). past x (λ p. []) λ start size a. range start size ∷ rangesFound s n a) e
+      ∙ ap (λ (x : ℕ). range st ln ∷ rangesFound s x a) {x = n} {y = suc n - 1} (omega arith)
+
+  -- what the format finds in them
+  abbrev EndOk : (n at : ℕ) → Seals → Place → Type 0
+  EndOk n at rs (Behind b) = ((K : Seals → Format Described) → from (rangesFormat n K) s at ≡ from (K rs) s b) × (at ≤ length s → b ≤ length s)
+  EndOk n at rs (PlaceBad p) = (K : Seals → Format Described) → from (rangesFormat n K) s at ≡ stopped p
+
+  abbrev bound : ℕ
+  bound = 2 ^ 64 - 1
+
+  abbrev left : ℕ → ℕ
+  left start = 2 ^ 64 - 1 - start
+
+  behind-one : (n at st ln a : ℕ) → BothOk s at bound left st ln a → (rs : Seals) (x : Place) → EndOk n a rs x → EndOk (suc n) at (range st ln ∷ rs) x
+  unfolding rangesFormat
+  behind-one n at st ln a h rs (Behind b) k = (
+    λ K. h .goes-on (λ start size. rangesFormat n λ qs. K (range start size ∷ qs)) ∙ k .0 (λ qs. K (range st ln ∷ qs)),
+    λ l. k .1 (h .there l),
+  )
+  behind-one n at st ln a h rs (PlaceBad p) k = λ K. h .goes-on (λ start size. rangesFormat n λ qs. K (range start size ∷ qs)) ∙ k (λ qs. K (range st ln ∷ qs))
+
+  ranges-right : (n at : ℕ) → EndOk n at (rangesFound s n at) (rangesEnd s n at)
+  unfolding rangesFormat rangesEnd rangesFound rangeAt
+  ranges-right zero at = (λ K. refl, λ l. l)
+  ranges-right (suc n) at = go (rangeAt s at) (pair-right s at bound left) (ranges-right n)
+    where
+      go : (x : Pair) → PairOk s at bound left x → ((a : ℕ) → EndOk n a (rangesFound s n a) (rangesEnd s n a))
+          → EndOk (suc n) at (past x (λ p. []) λ start size a. range start size ∷ rangesFound s n a) (past x PlaceBad λ start size a. rangesEnd s n a)
+      go (Both st ln a) h rest = behind-one n at st ln a h (rangesFound s n a) (rangesEnd s n a) (rest a)
+      go (PairBad p) h rest = λ K. h (λ start size. rangesFormat n λ qs. K (range start size ∷ qs))
+
+module _ (s : List ℕ) (version at : ℕ) where
+  -- the number of ranges
+  record CountedOk (c a : ℕ) : Type 0 where
+    goes-on : (K : Seals → Format Described) → from (sealsFormat version K) s at ≡ from (rangesFormat c K) s a
+    few : c ≤ 8
+    there : at ≤ length s → a ≤ length s
+
+  abbrev NumberOk : Number → Type 0
+  NumberOk (Value c a) = CountedOk c a
+  NumberOk (Fault p) = (K : Seals → Format Described) → from (sealsFormat version K) s at ≡ stopped p
+
+  few-of : (n : ℕ) → Among n counts → n ≤ 8
+  few-of n (inl h) = omega (arith, h)
+  few-of n (inr (inl h)) = h .1
+  few-of n (inr (inr h)) = absurd h
+
+  count-right : NumberOk (countAt s version at)
+  unfolding countAt
+  count-right = go (eqb version 4) refl (found at (readNumber counts (drop at s))) refl
+    where
+      go : (t : Bool) → eqb version 4 ≡ t → (n : Number) → found at (readNumber counts (drop at s)) ≡ n → NumberOk (cond t n (Value 1 at))
+      go true e (Value c a) q =
+          let t = took-in counts s at c a q in
+          record { goes-on = λ K. rw e (from-value counts s at c a (λ count. rangesFormat count K) q); few = few-of c (t .0); there = t .1 }
+      go true e (Fault p) q = λ K. rw e (from-stuck counts s at p (λ count. rangesFormat count K) q)
+      go false e n q = record { goes-on = λ K. rw e; few = omega arith; there = λ l. l }
+
+  seals-end : (c a : ℕ) → CountedOk c a → (x : Place) → rangesEnd s c a ≡ x → EndOk s c a (rangesFound s c a) x → RangesOk s version at (withPlace c a x)
+  seals-end c a h (Behind b) e k = record { goes-on = λ K. h .goes-on K ∙ k .0 K; few = h .few; ends = e; there = λ l. k .1 (h .there l) }
+  seals-end c a h (PlaceBad p) e k = λ K. h .goes-on K ∙ k K
+
+  seals-right : RangesOk s version at (sealsAt s version at)
+  unfolding sealsAt
+  seals-right = go (countAt s version at) count-right
+    where
+      go : (n : Number) → NumberOk n → RangesOk s version at (onward n RangesBad λ c a. withPlace c a (rangesEnd s c a))
+      go (Value c a) h = seals-end c a h (rangesEnd s c a) refl (ranges-right s c a)
+      go (Fault p) h = h
+
 -- ---- all of them
 
 module _ (s : List ℕ) where
-  abbrev runsPart : (rule elen r m t tm tk tn st ln c : ℕ) → Format Described
-  runsPart rule elen r m t tm tk tn st ln c = runsFormat (describe (numbersOf rule elen r m t tm tk tn st ln)) c 0 (total m)
+  abbrev runsPart : (rule elen r m t tm tk tn : ℕ) → Seals → ℕ → Format Described
+  runsPart rule elen r m t tm tk tn rs c = runsFormat (describe (numbersOf rule elen r m t tm tk tn rs)) c 0 (total m)
 
-  abbrev countPart : (rule elen r m t tm tk tn st ln : ℕ) → Format Described
-  countPart rule elen r m t tm tk tn st ln = number (span 0 (2 ^ m)) (runsPart rule elen r m t tm tk tn st ln)
+  abbrev countPart : (rule elen r m t tm tk tn : ℕ) → Seals → Format Described
+  countPart rule elen r m t tm tk tn rs = number (span 0 (2 ^ m)) (runsPart rule elen r m t tm tk tn rs)
 
-  abbrev sealPart : (rule elen r m t tm tk tn : ℕ) → Format Described
-  sealPart rule elen r m t tm tk tn = sealFormat (countPart rule elen r m t tm tk tn)
+  abbrev sealsPart : (version rule elen r m t tm tk tn : ℕ) → Format Described
+  sealsPart version rule elen r m t tm tk tn = sealsFormat version (countPart rule elen r m t tm tk tn)
 
-  abbrev tilesPart : (rule elen r m : ℕ) → Format Described
-  tilesPart rule elen r m = tilesFormat elen (2 ^ (m - r)) (2 ^ (r - 3)) (sealPart rule elen r m)
+  abbrev tilesPart : (version rule elen r m : ℕ) → Format Described
+  tilesPart version rule elen r m = tilesFormat elen (2 ^ (m - r)) (2 ^ (r - 3)) (sealsPart version rule elen r m)
 
   parts : parse imageFormat s ≡ from (shapeFormat tilesPart) s 0
   unfolding imageFormat
   parts = sym (from-start s imageFormat)
 
-  module _ (r m rule elen a : ℕ) (sh : ShapedOk s r m rule elen a) where
-    at-tiles : parse imageFormat s ≡ from (tilesPart rule elen r m) s a
+  module _ (version r m rule elen a : ℕ) (sh : ShapedOk s version r m rule elen a) where
+    at-tiles : parse imageFormat s ≡ from (tilesPart version rule elen r m) s a
     at-tiles = parts ∙ sh .goes-on tilesPart
 
     module _ (t tm tk tn b : ℕ) (ti : TiledOk s elen a (2 ^ (m - r)) (2 ^ (r - 3)) t tm tk tn b) where
-      at-seal : parse imageFormat s ≡ from (sealPart rule elen r m t tm tk tn) s b
-      at-seal = at-tiles ∙ ti .goes-on (sealPart rule elen r m)
+      at-seals : parse imageFormat s ≡ from (sealsPart version rule elen r m t tm tk tn) s b
+      at-seals = at-tiles ∙ ti .goes-on (sealsPart version rule elen r m)
 
-      module _ (st ln d : ℕ) (se : BothOk s b (2 ^ 64 - 1) (λ x. 2 ^ 64 - 1 - x) st ln d) where
-        at-count : parse imageFormat s ≡ from (countPart rule elen r m t tm tk tn st ln) s d
-        at-count = at-seal ∙ se .goes-on (countPart rule elen r m t tm tk tn)
+      module _ (c d e : ℕ) (se : RangedOk s version b c d e) where
+        abbrev rs : Seals
+        rs = rangesFound s c d
 
-        count-head : (n : Number) → numberAt s d 0 (2 ^ m) ≡ n → CountOk s (machineFrom (numbersOf rule elen r m t tm tk tn st ln)) n
-        count-head (Value c f) e = record {
-          header = numbersOf rule elen r m t tm tk tn st ln;
+        at-count : parse imageFormat s ≡ from (countPart rule elen r m t tm tk tn rs) s e
+        at-count = at-seals ∙ se .goes-on (countPart rule elen r m t tm tk tn)
+
+        count-head : (n : Number) → numberAt s e 0 (2 ^ m) ≡ n → CountOk s (machineFrom (numbersOf rule elen r m t tm tk tn rs)) c d n
+        count-head (Value l f) q = record {
+          header = numbersOf rule elen r m t tm tk tn rs;
           machine-is = refl;
-          goes-on = at-count ∙ from-number s d 0 (2 ^ m) c f (runsPart rule elen r m t tm tk tn st ln) e;
+          seals-are = refl;
+          seals-few = se .few;
+          seals-end = (e, se .ends);
+          goes-on = at-count ∙ from-number s e 0 (2 ^ m) l f (runsPart rule elen r m t tm tk tn rs) q;
           mlen-ok = sh .mlen-ok .1;
-          count-ok = took s d 0 (2 ^ m) c f e .most;
-          there = took s d 0 (2 ^ m) c f e .behind (se .there (ti .there (sh .there)));
+          count-ok = took s e 0 (2 ^ m) l f q .most;
+          there = took s e 0 (2 ^ m) l f q .behind (se .there (ti .there (sh .there)));
         }
-        count-head (Fault p) e = at-count ∙ from-fault s d 0 (2 ^ m) p (runsPart rule elen r m t tm tk tn st ln) e
+        count-head (Fault p) q = at-count ∙ from-fault s e 0 (2 ^ m) p (runsPart rule elen r m t tm tk tn rs) q
 
-      seal-head : (x : Pair) → PairOk s b (2 ^ 64 - 1) (λ x. 2 ^ 64 - 1 - x) x → HeadOk s (withSeal s rule elen r m t tm tk tn x)
-      seal-head (Both st ln d) se = count-head st ln d se (numberAt s d 0 (2 ^ m)) refl
-      seal-head (PairBad p) h = at-seal ∙ h (countPart rule elen r m t tm tk tn)
+      seals-head : (x : Ranges) → RangesOk s version b x → HeadOk s (withRanges s rule elen r m t tm tk tn x)
+      seals-head (Ranged c d e) se = count-head c d e se (numberAt s e 0 (2 ^ m)) refl
+      seals-head (RangesBad p) h = at-seals ∙ h (countPart rule elen r m t tm tk tn)
 
-    tiles-head : (x : Tiles) → TilesOk s elen a (2 ^ (m - r)) (2 ^ (r - 3)) x → HeadOk s (withTiles s rule elen r m x)
-    unfolding sealAt
-    tiles-head (Tiled t tm tk tn b) ti = seal-head t tm tk tn b ti (sealAt s b) (pair-right s b (2 ^ 64 - 1) (λ x. 2 ^ 64 - 1 - x))
-    tiles-head (TilesBad p) h = at-tiles ∙ h (sealPart rule elen r m)
+    tiles-head : (x : Tiles) → TilesOk s elen a (2 ^ (m - r)) (2 ^ (r - 3)) x → HeadOk s (withTiles s version rule elen r m x)
+    tiles-head (Tiled t tm tk tn b) ti = seals-head t tm tk tn b ti (sealsAt s version b) (seals-right s version b)
+    tiles-head (TilesBad p) h = at-tiles ∙ h (sealsPart version rule elen r m)
 
   shape-head : (x : Shape) → ShapeOk s x → HeadOk s (withShape s x)
   unfolding headAt
-  shape-head (Shaped r m rule elen a) sh = tiles-head r m rule elen a sh (tilesAt s elen a (2 ^ (m - r)) (2 ^ (r - 3))) (tiles-right s elen a (2 ^ (m - r)) (2 ^ (r - 3)))
+  shape-head (Shaped version r m rule elen a) sh = tiles-head version r m rule elen a sh (tilesAt s elen a (2 ^ (m - r)) (2 ^ (r - 3))) (tiles-right s elen a (2 ^ (m - r)) (2 ^ (r - 3)))
   shape-head (ShapeBad p) h = parts ∙ h tilesPart
 
   -- what is found is what the format has
@@ -404,14 +563,14 @@ module _ (s : List ℕ) where
     head-is = subst (HeadOk s) (sym is) head-right
 
     pub head-bad : (p : ℕ) → h .count ≡ Fault p → parse imageFormat s ≡ stopped p
-    head-bad p e = subst (CountOk s (h .machine)) e head-is
+    head-bad p e = subst (CountOk s (h .machine) (h .seals) (h .«seals_at»)) e head-is
 
-    pub head-known : (count at : ℕ) → h .count ≡ Value count at → HeadedOk s (h .machine) count at
-    head-known count at e = subst (CountOk s (h .machine)) e head-is
+    pub head-known : (count at : ℕ) → h .count ≡ Value count at → HeadedOk s (h .machine) (h .seals) (h .«seals_at») count at
+    head-known count at e = subst (CountOk s (h .machine) (h .seals) (h .«seals_at»)) e head-is
 
 -- ---- what the code uses of them
 
-module _ (s : List ℕ) (m : Machine) (c a : ℕ) (h : HeadedOk s m c a) where
+module _ (s : List ℕ) (m : Machine) (n f c a : ℕ) (h : HeadedOk s m n f c a) where
   mlen-is : m .mlen ≡ 2 ^ h .header .mlen
   mlen-is = ap (λ (x : Machine). x .mlen) (h .machine-is)
 

@@ -1,7 +1,7 @@
 -- What the parts of a check find, from a place of the input on.
 use mathlib.Core.Bool.{Bool, true, false, cond}
-use mathlib.Core.List.{List}
-use Prim.Native.Nat.{ℕ, _+_, _-_, _*_, _^_, min}
+use mathlib.Core.List.{List, [], _∷_}
+use Prim.Native.Nat.{ℕ, zero, suc, _+_, _-_, _*_, _^_, min}
 use lib.ListN.{length, drop}
 use lib.Dec.{eqb, leb}
 use Rattle.format.specs.Parser.{readNumber, Parsed, from}
@@ -12,8 +12,9 @@ use Rattle.machine.specs.Starting.{noMachine}
 use Rattle.image.specs.declared.Imaged.{Imaged}
 use Rattle.image.specs.declared.Imaged.the-variants.{Done, BadArguments, NoRoom, Damaged}
 use Rattle.image.specs.Cells.{Run}
-use Rattle.image.specs.Images.{Header, machineFrom}
-use Rattle.image.specs.ImageFormat.{Described, topRlen, topMlen, leastMlen, mtypes, runsFormat}
+use Rattle.machine.specs.Geometry.{range}
+use Rattle.image.specs.Images.{Seals, Header, machineFrom}
+use Rattle.image.specs.ImageFormat.{Described, topRlen, topMlen, leastMlen, mtypes, counts, runsFormat}
 use Rattle.image.specs.Reading.{verdictOf}
 use Rattle.image_check.specs.declared.head.Version.{Version}
 use Rattle.image_check.specs.declared.head.Version.the-variants.{Versioned, VersionBad}
@@ -23,6 +24,10 @@ use Rattle.image_check.specs.declared.head.Tiles.{Tiles}
 use Rattle.image_check.specs.declared.head.Tiles.the-variants.{Tiled, TilesBad}
 use Rattle.image_check.specs.declared.head.Pair.{Pair}
 use Rattle.image_check.specs.declared.head.Pair.the-variants.{Both, PairBad}
+use Rattle.image_check.specs.declared.head.Place.{Place}
+use Rattle.image_check.specs.declared.head.Place.the-variants.{Behind, PlaceBad}
+use Rattle.image_check.specs.declared.head.Ranges.{Ranges}
+use Rattle.image_check.specs.declared.head.Ranges.the-variants.{Ranged, RangesBad}
 use Rattle.image_check.specs.declared.head.Head.{Head}
 use Rattle.image_check.specs.declared.runs.Next.{Next}
 use Rattle.image_check.specs.declared.runs.Next.the-variants.{NextRun, NextBad}
@@ -48,7 +53,7 @@ halvingAt s at = onward (numberAt s at 1 1) VersionBad λ rule a. Versioned 2 ru
 -- the version, and what it says of the machine
 unfoldable pub versionIn : List ℕ → Version
 versionIn s =
-    onward (numberAt s 0 1 3) VersionBad λ version at.
+    onward (numberAt s 0 1 4) VersionBad λ version at.
     cond (eqb version 1) (Versioned 1 0 5 at) (cond (eqb version 2) (halvingAt s at) (largeAt s version at))
 
 -- the exponents of RLEN and MLEN
@@ -56,7 +61,7 @@ unfoldable pub exponentsAt : List ℕ → (version rule elen at : ℕ) → Shape
 exponentsAt s version rule elen a =
     onward (numberAt s a (elen + 1) (topRlen version)) ShapeBad λ rlen b.
     onward (numberAt s b (leastMlen version elen rlen) (topMlen version)) ShapeBad λ mlen e.
-    Shaped rlen mlen rule elen e
+    Shaped version rlen mlen rule elen e
 
 abbrev pub withVersion : List ℕ → Version → Shape
 withVersion s (Versioned version rule elen at) = exponentsAt s version rule elen at
@@ -91,32 +96,63 @@ tilesAt s elen at rows columns =
     onward (numberAt s a 0 rows) TilesBad λ tileM b.
     withSizes mtype tileM (sizesAt s b rows columns)
 
--- the seal's start and length
-unfoldable pub sealAt : List ℕ → ℕ → Pair
-sealAt s at = pairAt s at (2 ^ 64 - 1) (λ start. 2 ^ 64 - 1 - start)
+-- how many ranges there are, and the place of the first: of version 4 as the image says, and else one
+unfoldable pub countAt : List ℕ → (version at : ℕ) → Number
+countAt s version at = cond (eqb version 4) (found at (readNumber counts (drop at s))) (Value 1 at)
 
--- the parts put together: a machine, and the number of runs with the place behind it
-abbrev pub numbersOf : (rule elen rlen mlen mtype tileM tileK tileN start size : ℕ) → Header
-numbersOf rule elen rlen mlen mtype tileM tileK tileN start size =
-    record { rlen = rlen; mlen = mlen; mtype = mtype; tileM = tileM; tileK = tileK; tileN = tileN; sealStart = start; sealLength = size; rule = rule; elen = elen }
+-- a range's start and length
+unfoldable pub rangeAt : List ℕ → ℕ → Pair
+rangeAt s at = pairAt s at (2 ^ 64 - 1) (λ start. 2 ^ 64 - 1 - start)
+
+-- what follows a range and the place behind it, or the place of its fault
+abbrev pub past : {R : Type 0} → Pair → (bad : ℕ → R) → (good : ℕ → ℕ → ℕ → R) → R
+past (Both start size at) bad good = good start size at
+past (PairBad p) bad good = bad p
+
+-- the place behind so many ranges
+unfoldable pub rangesEnd : List ℕ → (count at : ℕ) → Place
+rangesEnd s zero at = Behind at
+rangesEnd s (suc n) at = past (rangeAt s at) PlaceBad λ start size a. rangesEnd s n a
+
+-- these ranges
+unfoldable pub rangesFound : List ℕ → (count at : ℕ) → Seals
+rangesFound s zero at = []
+rangesFound s (suc n) at = past (rangeAt s at) (λ p. []) λ start size a. range start size ∷ rangesFound s n a
+
+abbrev pub withPlace : (count at : ℕ) → Place → Ranges
+withPlace count at (Behind a) = Ranged count at a
+withPlace count at (PlaceBad p) = RangesBad p
+
+-- the ranges of an image of some version
+unfoldable pub sealsAt : List ℕ → (version at : ℕ) → Ranges
+sealsAt s version at = onward (countAt s version at) RangesBad λ count a. withPlace count a (rangesEnd s count a)
+
+-- the parts put together: a machine, its ranges, and the number of runs with the place behind it
+abbrev pub numbersOf : (rule elen rlen mlen mtype tileM tileK tileN : ℕ) → Seals → Header
+numbersOf rule elen rlen mlen mtype tileM tileK tileN seals =
+    record { rlen = rlen; mlen = mlen; mtype = mtype; tileM = tileM; tileK = tileK; tileN = tileN; seals = seals; rule = rule; elen = elen }
 
 abbrev pub badHead : ℕ → Head
-badHead p = record { machine = noMachine; count = Fault p }
+badHead p = record { machine = noMachine; seals = 0; «seals_at» = 0; count = Fault p }
 
-abbrev pub withSeal : List ℕ → (rule elen rlen mlen mtype tileM tileK tileN : ℕ) → Pair → Head
-withSeal s rule elen rlen mlen mtype tileM tileK tileN (Both start size at) =
-    record { machine = machineFrom (numbersOf rule elen rlen mlen mtype tileM tileK tileN start size); count = numberAt s at 0 (2 ^ mlen) }
-withSeal s rule elen rlen mlen mtype tileM tileK tileN (PairBad p) = badHead p
+abbrev pub withRanges : List ℕ → (rule elen rlen mlen mtype tileM tileK tileN : ℕ) → Ranges → Head
+withRanges s rule elen rlen mlen mtype tileM tileK tileN (Ranged seals from at) = record {
+  machine = machineFrom (numbersOf rule elen rlen mlen mtype tileM tileK tileN (rangesFound s seals from));
+  seals = seals;
+  «seals_at» = from;
+  count = numberAt s at 0 (2 ^ mlen);
+}
+withRanges s rule elen rlen mlen mtype tileM tileK tileN (RangesBad p) = badHead p
 
-abbrev pub withTiles : List ℕ → (rule elen rlen mlen : ℕ) → Tiles → Head
-withTiles s rule elen rlen mlen (Tiled mtype tileM tileK tileN at) = withSeal s rule elen rlen mlen mtype tileM tileK tileN (sealAt s at)
-withTiles s rule elen rlen mlen (TilesBad p) = badHead p
+abbrev pub withTiles : List ℕ → (version rule elen rlen mlen : ℕ) → Tiles → Head
+withTiles s version rule elen rlen mlen (Tiled mtype tileM tileK tileN at) = withRanges s rule elen rlen mlen mtype tileM tileK tileN (sealsAt s version at)
+withTiles s version rule elen rlen mlen (TilesBad p) = badHead p
 
-unfoldable pub headAt : List ℕ → (rule elen rlen mlen at : ℕ) → Head
-headAt s rule elen rlen mlen at = withTiles s rule elen rlen mlen (tilesAt s elen at (2 ^ (mlen - rlen)) (2 ^ (rlen - 3)))
+unfoldable pub headAt : List ℕ → (version rule elen rlen mlen at : ℕ) → Head
+headAt s version rule elen rlen mlen at = withTiles s version rule elen rlen mlen (tilesAt s elen at (2 ^ (mlen - rlen)) (2 ^ (rlen - 3)))
 
 abbrev pub withShape : List ℕ → Shape → Head
-withShape s (Shaped rlen mlen rule elen at) = headAt s rule elen rlen mlen at
+withShape s (Shaped version rlen mlen rule elen at) = headAt s version rule elen rlen mlen at
 withShape s (ShapeBad p) = badHead p
 
 -- all numbers of an image
@@ -137,7 +173,7 @@ describe h rs = record { header = h; body = rs }
 
 -- a machine's numbers don't matter to its runs
 abbrev pub noHeader : Header
-noHeader = record { rlen = 0; mlen = 0; mtype = 0; tileM = 0; tileK = 0; tileN = 0; sealStart = 0; sealLength = 0; rule = 0; elen = 0 }
+noHeader = record { rlen = 0; mlen = 0; mtype = 0; tileM = 0; tileK = 0; tileN = 0; seals = []; rule = 0; elen = 0 }
 
 -- so many runs in room bytes, from a place of the input on
 unfoldable pub runsFrom : (s : List ℕ) (at count least room : ℕ) → Parsed Described

@@ -8,7 +8,7 @@ ghost use mathlib.Core.Path.{_≡_};
 ghost use Prim.Native.Nat.{_^_, _≤_, _<_};
 ghost use Rattle.image.specs.ImageFormat.{topRlen, topMlen, leastMlen};
 ghost use Rattle.machine.specs.Starting.{noMachine};
-ghost use Rattle.image_check.specs.Parts.{largeAt, halvingAt, versionIn, exponentsAt, shapeIn, mtypeAt, sizesAt, tilesAt, sealAt, badHead, headAt, headIn};
+ghost use Rattle.image_check.specs.Parts.{largeAt, halvingAt, versionIn, exponentsAt, shapeIn, mtypeAt, sizesAt, tilesAt, countAt, rangeAt, rangesEnd, sealsAt, badHead, headAt, headIn};
 
 // The version, the rule, the exponent of ELEN and the place behind them, or the place of a fault.
 pub enum Version {
@@ -16,9 +16,9 @@ pub enum Version {
     VersionBad(usize),
 }
 
-// The exponents of RLEN and MLEN, the rule, the exponent of ELEN and the place behind them, or the place of a fault.
+// The version, the exponents of RLEN and MLEN, the rule, the exponent of ELEN and the place behind them, or the place of a fault.
 pub enum Shape {
-    Shaped(u64, u64, u64, u64, usize),
+    Shaped(u64, u64, u64, u64, u64, usize),
     ShapeBad(usize),
 }
 
@@ -34,9 +34,24 @@ pub enum Tiles {
     TilesBad(usize),
 }
 
-// A machine, and the number of runs with the place behind it; or the place of a fault, and then the machine says nothing.
+// The place behind so many ranges, or the place of a fault.
+pub enum Place {
+    Behind(usize),
+    PlaceBad(usize),
+}
+
+// The number of ranges, the place of the first and the place behind them, or the place of a fault.
+pub enum Ranges {
+    Ranged(u64, usize, usize),
+    RangesBad(usize),
+}
+
+// A machine, how many ranges it holds and where they stand, and the number of runs with the place behind it; or the place of a fault, and then
+// the others say nothing.
 pub struct Head {
     pub machine: Machine,
+    pub seals: u64,
+    pub seals_at: usize,
     pub count: Number,
 }
 
@@ -77,7 +92,7 @@ fn halving_at(s: &[u8], at: usize) -> Version
 fn version_of(s: &[u8]) -> Version
     ensures { λ r. ⌜ r ≡ versionIn (now (s .entry)) ⌝ }
 {
-    match number_from(s, 0, 1, 3) {
+    match number_from(s, 0, 1, 4) {
         Number::Fault(p) => {
             return Version::VersionBad(p);
         }
@@ -143,7 +158,7 @@ fn exponents_at(s: &[u8], version: u64, rule: u64, elen: u64, at: usize) -> Shap
                 return Shape::ShapeBad(p);
             }
             Number::Value(m, e) => {
-                return Shape::Shaped(r, m, rule, elen, e);
+                return Shape::Shaped(version, r, m, rule, elen, e);
             }
         },
     }
@@ -234,9 +249,25 @@ fn tiles_at(s: &[u8], elen: u64, at: usize, rows: u64, columns: u64) -> Tiles
     }
 }
 
-// The seal's start and length.
-fn seal_at(s: &[u8], at: usize) -> Pair
-    ensures { λ r. ⌜ r ≡ sealAt (now (s .entry)) at ⌝ }
+// The number of ranges, which version 4 has: none, or two to eight. The others have one range.
+fn count_at(s: &[u8], version: u64, at: usize) -> Number
+    ensures { λ r. ⌜ r ≡ countAt (now (s .entry)) version at ⌝ }
+{
+    if version != 4 {
+        return Number::Value(1, at);
+    }
+    if at < s.len() {
+        if wide(s[at]) == 1 {
+            return Number::Fault(at);
+        }
+        return number_from(s, at, 0, 8);
+    }
+    Number::Fault(at)
+}
+
+// A range's start and length.
+pub fn range_at(s: &[u8], at: usize) -> Pair
+    ensures { λ r. ⌜ r ≡ rangeAt (now (s .entry)) at ⌝ }
 {
     match number_from(s, at, 0, 18446744073709551615) {
         Number::Fault(p) => {
@@ -248,6 +279,45 @@ fn seal_at(s: &[u8], at: usize) -> Pair
             }
             Number::Value(size, b) => {
                 return Pair::Both(start, size, b);
+            }
+        },
+    }
+}
+
+// The place behind so many ranges.
+fn ranges_end(s: &[u8], count: u64, start: usize) -> Place
+    ensures { λ r. ⌜ r ≡ rangesEnd (now (s .entry)) count start ⌝ }
+{
+    let mut at = start;
+    let mut left = count;
+    while 0 < left {
+        match range_at(s, at) {
+            Pair::PairBad(p) => {
+                return Place::PlaceBad(p);
+            }
+            Pair::Both(_, _, a) => {
+                at = a;
+                left = left - 1;
+            }
+        }
+    }
+    Place::Behind(at)
+}
+
+// The ranges of an image of some version.
+fn seals_at(s: &[u8], version: u64, at: usize) -> Ranges
+    ensures { λ r. ⌜ r ≡ sealsAt (now (s .entry)) version at ⌝ }
+{
+    match count_at(s, version, at) {
+        Number::Fault(p) => {
+            return Ranges::RangesBad(p);
+        }
+        Number::Value(count, from) => match ranges_end(s, count, from) {
+            Place::PlaceBad(p) => {
+                return Ranges::RangesBad(p);
+            }
+            Place::Behind(b) => {
+                return Ranges::Ranged(count, from, b);
             }
         },
     }
@@ -278,8 +348,6 @@ pub fn no_machine() -> Machine
         tile_m: 0,
         tile_k: 0,
         tile_n: 0,
-        seal_start: 0,
-        seal_length: 0,
         rule: 0,
         elen: 0,
     }
@@ -292,26 +360,28 @@ fn bad_head(p: usize) -> Head
     let count = Number::Fault(p);
     Head {
         machine: no_machine(),
+        seals: 0,
+        seals_at: 0,
         count: count,
     }
 }
 
 // The numbers behind the exponents.
-fn head_at(s: &[u8], rule: u64, elen: u64, rlen: u64, mlen: u64, at: usize) -> Head
+fn head_at(s: &[u8], version: u64, rule: u64, elen: u64, rlen: u64, mlen: u64, at: usize) -> Head
     requires { ⌜ (5 ≤ elen) × (elen ≤ 6) ⌝ }
     requires { ⌜ (6 ≤ rlen) × (rlen ≤ 12) ⌝ }
     requires { ⌜ (rlen < mlen) × (mlen ≤ 16) ⌝ }
-    ensures { λ r. ⌜ r ≡ headAt (now (s .entry)) rule elen rlen mlen at ⌝ }
+    ensures { λ r. ⌜ r ≡ headAt (now (s .entry)) version rule elen rlen mlen at ⌝ }
 {
     match tiles_at(s, elen, at, power(mlen - rlen), power(rlen - 3)) {
         Tiles::TilesBad(p) => {
             return bad_head(p);
         }
-        Tiles::Tiled(mtype, tile_m, tile_k, tile_n, a) => match seal_at(s, a) {
-            Pair::PairBad(p) => {
+        Tiles::Tiled(mtype, tile_m, tile_k, tile_n, a) => match seals_at(s, version, a) {
+            Ranges::RangesBad(p) => {
                 return bad_head(p);
             }
-            Pair::Both(seal_start, seal_length, b) => {
+            Ranges::Ranged(seals, from, b) => {
                 let count = number_from(s, b, 0, power(mlen));
                 let machine = Machine {
                     rlen: power(rlen),
@@ -320,13 +390,13 @@ fn head_at(s: &[u8], rule: u64, elen: u64, rlen: u64, mlen: u64, at: usize) -> H
                     tile_m: tile_m,
                     tile_k: tile_k,
                     tile_n: tile_n,
-                    seal_start: seal_start,
-                    seal_length: seal_length,
                     rule: rule,
                     elen: power(elen),
                 };
                 return Head {
                     machine: machine,
+                    seals: seals,
+                    seals_at: from,
                     count: count,
                 };
             }
@@ -342,8 +412,8 @@ pub fn head_of(s: &[u8]) -> Head
         Shape::ShapeBad(p) => {
             return bad_head(p);
         }
-        Shape::Shaped(rlen, mlen, rule, elen, a) => {
-            return head_at(s, rule, elen, rlen, mlen, a);
+        Shape::Shaped(version, rlen, mlen, rule, elen, a) => {
+            return head_at(s, version, rule, elen, rlen, mlen, a);
         }
     }
 }

@@ -2,3 +2,5 @@
 pub mod MarkLaws
 pub mod FillLaws
 pub mod ReadLaws
+pub mod SealLaws
+pub mod BlockLaws

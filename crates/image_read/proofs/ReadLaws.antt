@@ -16,16 +16,18 @@ use Rattle.machine.specs.Starting.{noMachine}
 use Rattle.image.specs.declared.Imaged.{Imaged}
 use Rattle.image.specs.declared.Imaged.the-variants.{Done, BadArguments, Damaged}
 use Rattle.image.specs.Cells.{Run, spread, Fit, over, marksOf}
+use Rattle.image.specs.Images.{Seals}
 use Rattle.image.specs.ImageFormat.{Described, total, imageFormat}
 use Rattle.image.specs.Reading.{verdictOf, restored, readAs, readImage}
 use Rattle.image.proofs.ImageLaws.{image-live, image-out}
 use Rattle.image.proofs.Images.{fits-true, read-done, read-unfit}
 use Rattle.reader.specs.declared.Number.the-variants.{Fault}
 use Rattle.image_check.specs.declared.head.Head.{Head}
-use Rattle.image_check.specs.Parts.{headIn, describe, runsFrom, runsVerdict, imageDone}
+use Rattle.image_check.specs.Parts.{rangesEnd, rangesFound, headIn, describe, runsFrom, runsVerdict, imageDone}
 use Rattle.image_check.proofs.RunsLaws.{mapped}
 use Rattle.image_check.proofs.HeadLaws.{HeadedOk, head-bad, head-parse}
-use Rattle.image_read.specs.Parts.{bodyOf, bodyAt, ones}
+use Rattle.image_read.specs.declared.Found.{Found}
+use Rattle.image_read.specs.Parts.{bodyOf, bodyAt, ones, Ends, Stand, foundAs}
 use Rattle.image_read.proofs.FillLaws.{marks-ones}
 
 pub bytes-all : (s : List ℕ) → ((q : ℕ) → getD s q 0 < 256) → Bytes s
@@ -40,12 +42,25 @@ sets-all xs n v e =
     ∙ ap (λ (l : List ℕ). replicate n v ++ l) (drop-of-length-le xs {i = 0 + length (replicate n v)} (omega (arith, long, e)))
     ∙ append-nil (replicate n v)
 
+-- a refused read has no range
+pub found-none : (s registers marks : List ℕ) {r : Found} {v : Imaged} → r ≡ record { answer = v; machine = noMachine; seals = 0; «seals_at» = 0 }
+    → foundAs r s registers marks ≡ restored v noMachine [] registers marks
+unfolding rangesFound
+found-none s registers marks e = ap (λ (r : Found). foundAs r s registers marks) e
+
+pub none-stand : (s : List ℕ) {r : Found} {v : Imaged} → r ≡ record { answer = v; machine = noMachine; seals = 0; «seals_at» = 0 } → Stand s (r .seals) (r .«seals_at»)
+unfolding rangesEnd
+none-stand s e = subst (λ (r : Found). Stand s (r .seals) (r .«seals_at»)) (sym e) (record { few = omega arith; ends = tt })
+
+pub they-stand : (s : List ℕ) (m : Machine) (n f c a : ℕ) → HeadedOk s m n f c a → Stand s n f
+they-stand s m n f c a h = record { few = h .seals-few; ends = subst Ends (sym (h .seals-end .1)) tt }
+
 -- numbers at fault
-pub read-bad : (s registers marks : List ℕ) (h : Head) → h ≡ headIn s → (p : ℕ) → h .count ≡ Fault p → restored (Damaged p) noMachine registers marks ≡ readImage s registers marks
+pub read-bad : (s registers marks : List ℕ) (h : Head) → h ≡ headIn s → (p : ℕ) → h .count ≡ Fault p → restored (Damaged p) noMachine [] registers marks ≡ readImage s registers marks
 unfolding readImage
 read-bad s registers marks h is p e = ap (λ (q : Parsed Described). readAs q registers marks) (sym (head-bad s h is p e))
 
-module _ (s : List ℕ) (m : Machine) (c a : ℕ) (h : HeadedOk s m c a) (v : Imaged) (is : v ≡ runsVerdict s a c 0 (2 * m .mlen)) where
+module _ (s : List ℕ) (m : Machine) (n i c a : ℕ) (h : HeadedOk s m n i c a) (v : Imaged) (is : v ≡ runsVerdict s a c 0 (2 * m .mlen)) where
   abbrev runsLeft : Parsed Described
   runsLeft = runsFrom s a c 0 (2 * m .mlen)
 
@@ -53,15 +68,15 @@ module _ (s : List ℕ) (m : Machine) (c a : ℕ) (h : HeadedOk s m c a) (v : Im
   built = mapped (λ d. describe (h .header) (d .body))
 
   -- runs at fault
-  pub read-wrong : (registers marks : List ℕ) → imageDone v ≡ false → restored v noMachine registers marks ≡ readImage s registers marks
+  pub read-wrong : (registers marks : List ℕ) → imageDone v ≡ false → restored v noMachine [] registers marks ≡ readImage s registers marks
   unfolding readImage runsVerdict
   read-wrong registers marks f = go runsLeft refl
     where
-      go : (q : Parsed Described) → runsLeft ≡ q → restored v noMachine registers marks ≡ readAs (parse imageFormat s) registers marks
+      go : (q : Parsed Described) → runsLeft ≡ q → restored v noMachine [] registers marks ≡ readAs (parse imageFormat s) registers marks
       go (whole d) e = absurd (true≢false (sym (ap imageDone (is ∙ ap verdictOf e)) ∙ f))
       go (stopped p) e =
-          ap (λ (x : Imaged). restored x noMachine registers marks) (is ∙ ap verdictOf e)
-          ∙ ap (λ (q : Parsed Described). readAs q registers marks) (sym (head-parse s m c a h ∙ ap built e))
+          ap (λ (x : Imaged). restored x noMachine [] registers marks) (is ∙ ap verdictOf e)
+          ∙ ap (λ (q : Parsed Described). readAs q registers marks) (sym (head-parse s m n i c a h ∙ ap built e))
 
   module _ (f : imageDone v ≡ true) where
     pub runs-done : runsVerdict s a c 0 (2 * m .mlen) ≡ Done
@@ -77,7 +92,7 @@ module _ (s : List ℕ) (m : Machine) (c a : ℕ) (h : HeadedOk s m c a) (v : Im
 
     pub parsed : parse imageFormat s ≡ whole (describe (h .header) body)
     unfolding bodyAt runsVerdict
-    parsed = head-parse s m c a h ∙ go runsLeft refl
+    parsed = head-parse s m n i c a h ∙ go runsLeft refl
       where
         go : (q : Parsed Described) → runsLeft ≡ q → built runsLeft ≡ whole (describe (h .header) (bodyOf runsLeft))
         go (whole d) e = rw e
@@ -86,11 +101,11 @@ module _ (s : List ℕ) (m : Machine) (c a : ℕ) (h : HeadedOk s m c a) (v : Im
     size-is : 2 * m .mlen ≡ total (h .header .mlen)
     size-is = ap (λ (x : Machine). 2 * x .mlen) (h .machine-is)
 
-    pub read-unfit-is : (registers marks : List ℕ) → ¬ ((length registers ≡ 2 * m .mlen) × (length marks ≡ 2 * m .mlen)) → restored BadArguments noMachine registers marks ≡ readImage s registers marks
+    pub read-unfit-is : (registers marks : List ℕ) → ¬ ((length registers ≡ 2 * m .mlen) × (length marks ≡ 2 * m .mlen)) → restored BadArguments noMachine [] registers marks ≡ readImage s registers marks
     unfolding readImage
-    read-unfit-is registers marks n =
+    read-unfit-is registers marks other =
         sym (ap (λ (q : Parsed Described). readAs q registers marks) parsed
-        ∙ read-unfit (describe (h .header) body) registers marks (λ g. n (g .0 ∙ sym size-is, g .1 ∙ sym size-is)))
+        ∙ read-unfit (describe (h .header) body) registers marks (λ g. other (g .0 ∙ sym size-is, g .1 ∙ sym size-is)))
 
     fits-body : Bytes s → Fit 0 (total (h .header .mlen)) body
     fits-body b =
@@ -98,20 +113,20 @@ module _ (s : List ℕ) (m : Machine) (c a : ℕ) (h : HeadedOk s m c a) (v : Im
         image-out s (describe (h .header) body) a′ .fits
 
     -- the buffers as they are left
-    pub read-done-is : Bytes s → (registers marks cleared registers′ marks′ : List ℕ) (n : ℕ) → length registers ≡ 2 * m .mlen → length marks ≡ 2 * m .mlen → n ≡ length marks
-        → cleared ≡ sets marks 0 (replicate n 0)
+    pub read-done-is : Bytes s → (registers marks cleared registers′ marks′ : List ℕ) (k : ℕ) → length registers ≡ 2 * m .mlen → length marks ≡ 2 * m .mlen → k ≡ length marks
+        → cleared ≡ sets marks 0 (replicate k 0)
         → registers′ ≡ over (spread (length registers) (bodyAt s a c 0 (length registers))) registers
         → marks′ ≡ over (spread (length registers) (ones (bodyAt s a c 0 (length registers)))) cleared
-        → restored Done m registers′ marks′ ≡ readImage s registers marks
+        → restored Done m (rangesFound s n i) registers′ marks′ ≡ readImage s registers marks
     unfolding readImage
-    read-done-is b registers marks cleared registers′ marks′ n lr lm en ec er em =
+    read-done-is b registers marks cleared registers′ marks′ k lr lm en ec er em =
         let N : ℕ = total (h .header .mlen) in
         let d : Described = describe (h .header) body in
         let ln : length registers ≡ N = lr ∙ size-is in
-        let zeros : cleared ≡ replicate N 0 = ec ∙ sets-all marks n 0 en ∙ ap (λ (x : ℕ). replicate x 0) (en ∙ lm ∙ size-is) in
+        let zeros : cleared ≡ replicate N 0 = ec ∙ sets-all marks k 0 en ∙ ap (λ (x : ℕ). replicate x 0) (en ∙ lm ∙ size-is) in
         let r : registers′ ≡ over (spread N body) registers = er ∙ ap₂ (λ (x y : ℕ). over (spread x (bodyAt s a c 0 y)) registers) ln lr in
-        let k : marks′ ≡ marksOf (spread N body) =
+        let w : marks′ ≡ marksOf (spread N body) =
         em ∙ ap₂ (λ (x y : ℕ). over (spread x (ones (bodyAt s a c 0 y))) cleared) ln lr ∙ ap (over (spread N (ones body))) zeros ∙ sym (marks-ones 0 N body (fits-body b)) in
-        ap₂ (λ (x y : List ℕ). restored Done m x y) r k
-        ∙ ap (λ (x : Machine). restored Done x (over (spread N body) registers) (marksOf (spread N body))) (h .machine-is)
+        ap₂ (λ (x y : List ℕ). restored Done m (rangesFound s n i) x y) r w
+        ∙ ap₂ (λ (x : Machine) (rs : Seals). restored Done x rs (over (spread N body) registers) (marksOf (spread N body))) (h .machine-is) (sym (h .seals-are))
         ∙ sym (ap (λ (q : Parsed Described). readAs q registers marks) parsed ∙ read-done d registers marks (fits-true d registers marks (ln, lm ∙ size-is)))

@@ -4,31 +4,48 @@ use fill::fill_runs;
 use fill::put_marks;
 use image::Imaged;
 use image::Restored;
+use image_check::check_image;
 use image_check::head::head_of;
 use image_check::head::no_machine;
 use image_check::is_done;
 use image_check::runs::check_runs;
+use machine::Machine;
 use reader::Number;
+use seals::put_seals;
 ghost use mathlib.Core.Path.{_≡_};
-ghost use Rattle.image.specs.Reading.{restoredAs, readImage};
+ghost use Rattle.image.specs.Reading.{readImage};
 ghost use Rattle.machine.specs.Starting.{noMachine};
+ghost use Rattle.image_read.specs.Blocks.{restoredAs, blockRefused, readBlock};
+ghost use Rattle.image_read.specs.Parts.{Stand, foundAs};
 
 mod fill; // runs into registers and marks
+mod seals; // ranges into a block
 
-// What a refused read returns.
-fn refused(answer: Imaged) -> Restored
-    ensures { λ r. ⌜ r ≡ record { answer = answer; machine = noMachine } ⌝ }
+// What was read: the machine, how many ranges it holds and where they stand in the image; zeros where it is refused.
+pub struct Found {
+    pub answer: Imaged,
+    pub machine: Machine,
+    pub seals: u64,
+    pub seals_at: usize,
+}
+
+// What a refused read finds.
+fn refused(answer: Imaged) -> Found
+    ensures { λ r. ⌜ r ≡ record { answer = answer; machine = noMachine; seals = 0; «seals_at» = 0 } ⌝ }
 {
-    Restored {
+    Found {
         answer: answer,
         machine: no_machine(),
+        seals: 0,
+        seals_at: 0,
     }
 }
 
 // Reads an image into lent registers and marks. Refused, it changes nothing.
-pub fn read_image(image: &[u8], registers: &mut [u8], marks: &mut [u8]) -> Restored
-    ensures { λ r. ⌜ restoredAs r (now (registers .exit)) (now (marks .exit))
+fn read_runs(image: &[u8], registers: &mut [u8], marks: &mut [u8]) -> Found
+    ensures { λ r. ⌜ foundAs r (now (image .entry)) (now (registers .exit)) (now (marks .exit))
         ≡ readImage (now (image .entry)) (now (registers .entry)) (now (marks .entry)) ⌝ }
+    ensures { λ r. ⌜ Stand (now (image .entry)) (r .seals) (r .«seals_at») ⌝ }
 {
     let head = head_of(image);
     let machine = head.machine;
@@ -52,10 +69,59 @@ pub fn read_image(image: &[u8], registers: &mut [u8], marks: &mut [u8]) -> Resto
             let n = marks.len();
             put_marks(marks, 0, n, 0);
             fill_runs(image, at, count, registers, marks);
-            return Restored {
+            return Found {
                 answer: Imaged::Done,
                 machine: machine,
+                seals: head.seals,
+                seals_at: head.seals_at,
             };
         }
+    }
+}
+
+// What is answered where a machine's block has the wrong length.
+fn block_refused(verdict: Imaged) -> Imaged
+    ensures { λ r. ⌜ r ≡ blockRefused verdict ⌝ }
+{
+    match verdict {
+        Imaged::Done => Imaged::BadArguments,
+        Imaged::BadArguments => Imaged::BadArguments,
+        Imaged::NoRoom => Imaged::BadArguments,
+        Imaged::Damaged { place } => Imaged::Damaged { place: place },
+    }
+}
+
+// Reads an image into a machine's block, registers and marks: of the block it writes the ranges, and returns the machine. Refused, it changes
+// nothing.
+pub fn read_image(
+    image: &[u8],
+    block: &mut [u8],
+    registers: &mut [u8],
+    marks: &mut [u8],
+) -> Restored
+    ensures { λ r. ⌜ restoredAs r (now (block .exit)) (now (registers .exit)) (now (marks .exit))
+        ≡ readBlock (now (image .entry)) (now (block .entry)) (now (registers .entry)) (now (marks .entry)) ⌝ }
+{
+    if block.len() != ranges::BLOCK_BYTES {
+        let verdict = check_image(image);
+        return Restored {
+            answer: block_refused(verdict),
+            machine: no_machine(),
+        };
+    }
+    let found = read_runs(image, registers, marks);
+    let answer = found.answer;
+    let machine = found.machine;
+    let first = found.seals_at;
+    if is_done(answer) {
+        put_seals(image, first, found.seals, block);
+        return Restored {
+            answer: answer,
+            machine: machine,
+        };
+    }
+    Restored {
+        answer: answer,
+        machine: machine,
     }
 }

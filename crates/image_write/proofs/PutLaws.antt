@@ -60,14 +60,18 @@ put-three room a b d t room₁ room₂ room₃ at at₁ at₂ at₃ r₁ e₁ r�
 
 -- ---- the version of an image, with what follows it
 
-pub version-three : (h : Header) (e : ℕ) → e ≡ h .elen → beyond (h .elen) (h .rlen) (h .mlen) ≡ true → 3 ∷ h .rule ∷ e ∷ [] ≡ version h
-version-three h e q b = rw b (ap (λ (x : ℕ). 3 ∷ h .rule ∷ x ∷ []) q)
+pub version-four : (h : Header) (e : ℕ) → e ≡ h .elen → ¬ (length (h .seals) ≡ 1) → 4 ∷ h .rule ∷ e ∷ [] ≡ version h
+version-four h e q o = rw (ne-eqb (length (h .seals)) 1 o) (ap (λ (x : ℕ). 4 ∷ h .rule ∷ x ∷ []) q)
 
-pub version-two : (h : Header) → beyond (h .elen) (h .rlen) (h .mlen) ≡ false → h .rule ≡ 1 → 2 ∷ 1 ∷ [] ≡ version h
-version-two h b e = rw (b, eq-eqb (h .rule) 1 e)
+module _ (h : Header) (o : length (h .seals) ≡ 1) where
+  pub version-three : (e : ℕ) → e ≡ h .elen → beyond (h .elen) (h .rlen) (h .mlen) ≡ true → 3 ∷ h .rule ∷ e ∷ [] ≡ version h
+  version-three e q b = rw (eq-eqb (length (h .seals)) 1 o, b) (ap (λ (x : ℕ). 3 ∷ h .rule ∷ x ∷ []) q)
 
-pub version-one : (h : Header) → beyond (h .elen) (h .rlen) (h .mlen) ≡ false → ¬ (h .rule ≡ 1) → 1 ∷ [] ≡ version h
-version-one h b d = rw (b, ne-eqb (h .rule) 1 d)
+  pub version-two : beyond (h .elen) (h .rlen) (h .mlen) ≡ false → h .rule ≡ 1 → 2 ∷ 1 ∷ [] ≡ version h
+  version-two b e = rw (eq-eqb (length (h .seals)) 1 o, b, eq-eqb (h .rule) 1 e)
+
+  pub version-one : beyond (h .elen) (h .rlen) (h .mlen) ≡ false → ¬ (h .rule ≡ 1) → 1 ∷ [] ≡ version h
+  version-one b d = rw (eq-eqb (length (h .seals)) 1 o, b, ne-eqb (h .rule) 1 d)
 
 -- whether a machine is beyond the old bounds, test by test
 pub beyond-by : (e r m : ℕ) (a b : Bool) → eqb e 6 ≡ a → ltb 9 r ≡ b → a || (b || ltb 12 m) ≡ beyond e r m

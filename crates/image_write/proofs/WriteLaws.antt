@@ -9,18 +9,25 @@ use lib.Seq.{sets}
 use borrow.Author.Tests.{le-leb, lt-leb}
 use Rattle.format.specs.Numbers.{encode, encodeAll}
 use Rattle.machine.specs.declared.Machine.{Machine}
-use Rattle.machine.specs.Faults.{sound}
+use Rattle.machine.specs.Faults.{sound, sealsFit}
+use Rattle.machine.proofs.TestLaws.{and-left, and-right}
 use Rattle.machine.proofs.StepLaws.{permitted-bounds}
 use Rattle.machine.proofs.NoFault.{sound-is}
 use Rattle.image.specs.declared.Imaged.the-variants.{Done, BadArguments, NoRoom}
 use Rattle.image.specs.Cells.{cellsOf, runs}
-use Rattle.image.specs.Images.{version, fields, headerOf, runsBytes, imageOf}
+use Rattle.image.specs.Images.{Seals, version, fields, headerOf, runsBytes, imageOf, soundWith}
 use Rattle.image.specs.Writing.{sized, sizeImage, written, writeImage}
 use Rattle.image_write.specs.Parts.{TwoValued, TallyOk}
 use Rattle.image_write.proofs.PutLaws.{sets-append, sets-front, all-append, all-last}
 
-module _ (m : Machine) (registers marks : List ℕ) where
-  module _ (s : sound m registers marks ≡ true) where
+module _ (m : Machine) (seals : Seals) (registers marks : List ℕ) where
+  module _ (w : soundWith m seals registers marks ≡ true) where
+    s : sound m registers marks ≡ true
+    s = and-left (sound m registers marks) (sealsFit seals) w
+
+    pub seals-fit : sealsFit seals ≡ true
+    seals-fit = and-right (sound m registers marks) (sealsFit seals) w
+
     pub two-valued : TwoValued marks
     two-valued = sound-is m registers marks s .state .marks-two
 
@@ -34,26 +41,26 @@ module _ (m : Machine) (registers marks : List ℕ) where
 
     module _ (count : ℕ) (is : count ≡ length (runs (cellsOf registers marks))) where
       abbrev versionOf : List ℕ
-      versionOf = encodeAll (version (headerOf m)) []
+      versionOf = encodeAll (version (headerOf m seals)) []
 
       abbrev numbersOf : List ℕ
-      numbersOf = encodeAll (fields (headerOf m) ++ (count ∷ [])) []
+      numbersOf = encodeAll (fields (headerOf m seals) ++ (count ∷ [])) []
 
       abbrev runsOf : List ℕ
       runsOf = runsBytes (runs (cellsOf registers marks))
 
-      image-parts : imageOf m registers marks ≡ versionOf ++ (numbersOf ++ runsOf)
+      image-parts : imageOf m seals registers marks ≡ versionOf ++ (numbersOf ++ runsOf)
       unfolding imageOf
       image-parts =
-          all-append (version (headerOf m)) _
-          ∙ ap (λ (z : List ℕ). versionOf ++ z) (ap (λ (x : ℕ). encodeAll (fields (headerOf m)) (encode x ++ runsOf)) (sym is) ∙ sym (all-last (fields (headerOf m)) count runsOf))
+          all-append (version (headerOf m seals)) _
+          ∙ ap (λ (z : List ℕ). versionOf ++ z) (ap (λ (x : ℕ). encodeAll (fields (headerOf m seals)) (encode x ++ runsOf)) (sym is) ∙ sym (all-last (fields (headerOf m seals)) count runsOf))
 
-      pub size-is : length (imageOf m registers marks) ≡ length versionOf + (length numbersOf + length runsOf)
+      pub size-is : length (imageOf m seals registers marks) ≡ length versionOf + (length numbersOf + length runsOf)
       size-is = ap length image-parts ∙ length-append versionOf (numbersOf ++ runsOf) ∙ ap (λ (n : ℕ). length versionOf + n) (length-append numbersOf runsOf)
 
       -- put one after the other
       pub image-put : (room room₁ room₂ room₃ : List ℕ) (at at₁ : ℕ) → room₁ ≡ sets room 0 versionOf → at ≡ length versionOf
-          → room₂ ≡ sets room₁ at numbersOf → at₁ ≡ at + length numbersOf → room₃ ≡ sets room₂ at₁ runsOf → room₃ ≡ sets room 0 (imageOf m registers marks)
+          → room₂ ≡ sets room₁ at numbersOf → at₁ ≡ at + length numbersOf → room₃ ≡ sets room₂ at₁ runsOf → room₃ ≡ sets room 0 (imageOf m seals registers marks)
       image-put room room₁ room₂ room₃ at at₁ e₁ ea e₂ eb e₃ =
           e₃ ∙ ap₂ (λ (x : List ℕ) (y : ℕ). sets x y runsOf) e₂ eb ∙ sym (sets-append numbersOf runsOf room₁ at)
           ∙ ap₂ (λ (x : List ℕ) (y : ℕ). sets x y (numbersOf ++ runsOf)) e₁ starts
@@ -66,33 +73,33 @@ module _ (m : Machine) (registers marks : List ℕ) where
       pub count-is : count ≡ length (runs (cellsOf registers marks))
       count-is = t .counted registers same-size
 
-      pub image-size-is : (v n : ℕ) → v ≡ length (encodeAll (version (headerOf m)) []) → n ≡ length (encodeAll (fields (headerOf m) ++ (count ∷ [])) [])
-          → v + n + size ≡ length (imageOf m registers marks)
+      pub image-size-is : (v n : ℕ) → v ≡ length (encodeAll (version (headerOf m seals)) []) → n ≡ length (encodeAll (fields (headerOf m seals) ++ (count ∷ [])) [])
+          → v + n + size ≡ length (imageOf m seals registers marks)
       image-size-is v n d e = omega (arith, d, e, t .sized registers same-size, size-is count count-is)
 
   -- ---- what is returned
 
-  pub size-refused : sound m registers marks ≡ false → sized BadArguments 0 ≡ sizeImage m registers marks
+  pub size-refused : soundWith m seals registers marks ≡ false → sized BadArguments 0 ≡ sizeImage m seals registers marks
   unfolding sizeImage
   size-refused e = rw e
 
-  pub size-done : sound m registers marks ≡ true → (n : ℕ) → n ≡ length (imageOf m registers marks) → sized Done n ≡ sizeImage m registers marks
+  pub size-done : soundWith m seals registers marks ≡ true → (n : ℕ) → n ≡ length (imageOf m seals registers marks) → sized Done n ≡ sizeImage m seals registers marks
   unfolding sizeImage
   size-done e n q = rw e (ap (sized Done) q)
 
   module _ (room : List ℕ) where
-    pub write-refused : sound m registers marks ≡ false → written BadArguments 0 room ≡ writeImage m registers marks room
+    pub write-refused : soundWith m seals registers marks ≡ false → written BadArguments 0 room ≡ writeImage m seals registers marks room
     unfolding writeImage
     write-refused e = rw e
 
-    pub write-short : sound m registers marks ≡ true → (n : ℕ) → n ≡ length (imageOf m registers marks) → length room < n → written NoRoom 0 room ≡ writeImage m registers marks room
+    pub write-short : soundWith m seals registers marks ≡ true → (n : ℕ) → n ≡ length (imageOf m seals registers marks) → length room < n → written NoRoom 0 room ≡ writeImage m seals registers marks room
     unfolding writeImage
-    write-short e n q h = rw (e, lt-leb (length (imageOf m registers marks)) (length room) (omega (arith, q)))
+    write-short e n q h = rw (e, lt-leb (length (imageOf m seals registers marks)) (length room) (omega (arith, q)))
 
-    pub write-done : sound m registers marks ≡ true → (n : ℕ) → n ≡ length (imageOf m registers marks) → n ≤ length room → (room₁ : List ℕ) → room₁ ≡ sets room 0 (imageOf m registers marks)
-        → written Done n room₁ ≡ writeImage m registers marks room
+    pub write-done : soundWith m seals registers marks ≡ true → (n : ℕ) → n ≡ length (imageOf m seals registers marks) → n ≤ length room → (room₁ : List ℕ) → room₁ ≡ sets room 0 (imageOf m seals registers marks)
+        → written Done n room₁ ≡ writeImage m seals registers marks room
     unfolding writeImage
     write-done e n q h room₁ r =
-        let fits : length (imageOf m registers marks) ≤ length room = omega (arith, q) in
-        rw (e, le-leb (length (imageOf m registers marks)) (length room) fits)
-        (ap (λ (x : ℕ). written Done x room₁) q ∙ ap (written Done (length (imageOf m registers marks))) (r ∙ sets-front (imageOf m registers marks) room fits))
+        let fits : length (imageOf m seals registers marks) ≤ length room = omega (arith, q) in
+        rw (e, le-leb (length (imageOf m seals registers marks)) (length room) fits)
+        (ap (λ (x : ℕ). written Done x room₁) q ∙ ap (written Done (length (imageOf m seals registers marks))) (r ∙ sets-front (imageOf m seals registers marks) room fits))

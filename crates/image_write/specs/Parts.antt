@@ -1,10 +1,20 @@
 -- What the parts of a write find.
 use mathlib.Core.Path.{_≡_}
-use mathlib.Core.List.{List}
+use mathlib.Core.Bool.{cond}
+use mathlib.Core.List.{List, [], _∷_}
 use Prim.Native.Nat.{ℕ, _*_, _≤_, _<_}
 use lib.ListN.{length, getD}
+use lib.Dec.{eqb}
 use Rattle.image.specs.Cells.{runs, cellsOf}
-use Rattle.image.specs.Images.{runsBytes}
+use Rattle.image.specs.Images.{Header, runsBytes}
+
+-- the fields of an image before the ranges
+abbrev pub plainFields : Header → List ℕ
+plainFields h = h .rlen ∷ h .mlen ∷ h .mtype ∷ h .tileM ∷ h .tileK ∷ h .tileN ∷ []
+
+-- the number of ranges, of other than one
+abbrev pub countField : ℕ → List ℕ
+countField n = cond (eqb n 1) [] (n ∷ [])
 
 -- every mark is 0 or 1
 abbrev pub TwoValued : List ℕ → Type 0

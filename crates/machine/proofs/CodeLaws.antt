@@ -9,14 +9,14 @@ use borrow.Author.Tests.{eqb-true, ltb-true, ltb-false, lt-ltb, ne-eqb}
 use Rattle.width.specs.Bounds.{mostElen}
 use Rattle.machine.specs.declared.Machine.{Machine}
 use Rattle.machine.specs.declared.Answer.{Answer}
-use Rattle.machine.specs.declared.Answer.the-variants.{Done, IllegalWord, IllegalType, BadWidth, TileTooLarge, Unwritten, OutsideMemory, SealedByte, BadArguments, Overlap, WrongOpcode, LeftOutWord, WrongRegister, RowsOverlap}
+use Rattle.machine.specs.declared.Answer.the-variants.{Done, IllegalWord, IllegalType, BadWidth, TileTooLarge, Unwritten, OutsideMemory, SealedByte, BadArguments, Overlap, WrongOpcode, LeftOutWord, WrongRegister, RowsOverlap, TooManySeals}
 use Rattle.machine.specs.declared.Wrong.the-variants.{Opcode, Register}
 use Rattle.machine.specs.declared.Instruction.{Instruction}
 use Rattle.machine.specs.declared.Instruction.the-variants.{Illegal, SetTypeImmediate, SetType, SetTileImmediate, SetTile, Load, Store, Multiply, Combine, Scale, ScaleImmediate, FloatMultiply, MoveOut, MoveIn}
 use Rattle.machine.specs.Tests.{all, every, isIn}
 use Rattle.machine.proofs.TestLaws.{all-at, each, each-in, and-left, and-right, false-true}
 use Rattle.machine.specs.Answers.{reply, done, Check, verdict, isDone}
-use Rattle.machine.specs.Geometry.{elens, Parameters, parameters, machineAfter, Bench, benchOf, withScalar}
+use Rattle.machine.specs.Geometry.{elens, sealed, Parameters, parameters, machineAfter, Bench, benchOf, withScalar}
 use Rattle.machine.specs.Setting.{sew, mill, legalType, newType}
 use Rattle.machine.specs.Listing.{field7, field15, field20, immediate13, Row, lookUp, notOurs, listing, ranged, inRange, decode}
 use Rattle.machine.specs.Operation.{memoryAfter, resultOf}
@@ -43,6 +43,7 @@ only-done WrongOpcode h = absurd (false-true h)
 only-done LeftOutWord h = absurd (false-true h)
 only-done WrongRegister h = absurd (false-true h)
 only-done RowsOverlap h = absurd (false-true h)
+only-done TooManySeals h = absurd (false-true h)
 
 -- a step that is answered 0 is answered as `Done` is
 pub step-zero : (grant : ℕ → ℕ → ℕ → ℕ) (word : ℕ) (xs : List ℕ) (B : Bench) → done (stepBy grant word xs B .answer) ≡ true → stepBy grant word xs B .answer ≡ reply Done
@@ -77,7 +78,7 @@ verdict-append (c ∷ cs) bs r = go (c .holds) (verdict-append cs bs (and-right 
 
 module _ (M : Parameters) (i : Instruction) (xs : List ℕ) (B : Bench) (s : soundBench B ≡ true) (t : thirtyTwo xs ≡ true) where
   abbrev checked : List Check
-  checked = checks M (meant M i xs B) (given M i xs B) (B .memory)
+  checked = checks M (sealed (B .seals)) (meant M i xs B) (given M i xs B) (B .memory)
 
   abbrev out : Answer → Outcome
   out a = cond (isDone a) (Step.carriedOut M i xs B) (Step.refused M i xs B a)
@@ -93,17 +94,17 @@ module _ (M : Parameters) (i : Instruction) (xs : List ℕ) (B : Bench) (s : sou
       → mem ≡ cond (isDone a) (memoryAfter M (meant M i xs B) (given M i xs B) (B .memory)) (B .memory)
       → machineAfter (B .machine) (left M i xs B) ≡ B .machine
       → withScalar xs (destination i) (resultOf (meant M i xs B) (left M i xs B)) ≡ xs
-      → record { answer = reply a; bench = benchOf (B .machine) regs marks mem; scalars = xs } ≡ outcome M i xs B
+      → record { answer = reply a; bench = benchOf (B .machine) (B .seals) regs marks mem; scalars = xs } ≡ outcome M i xs B
   outcome-of a regs marks mem e er em eo kept same = go (isDone a) refl ∙ outcome-by a (sym e)
     where
-      go : (d : Bool) → isDone a ≡ d → record { answer = reply a; bench = benchOf (B .machine) regs marks mem; scalars = xs } ≡ out a
+      go : (d : Bool) → isDone a ≡ d → record { answer = reply a; bench = benchOf (B .machine) (B .seals) regs marks mem; scalars = xs } ≡ out a
       go true d =
-          rw d (ap₂ (λ (a : Answer) (r : List ℕ). record { answer = reply a; bench = benchOf (B .machine) r marks mem; scalars = xs }) (only-done a d) (er ∙ rw d)
-          ∙ ap₂ (λ (k o : List ℕ). record { answer = reply Done; bench = benchOf (B .machine) (left M i xs B .regs) k o; scalars = xs }) (em ∙ rw d) (eo ∙ rw d)
-          ∙ ap₂ (λ (m : Machine) (x : List ℕ). record { answer = reply Done; bench = benchOf m (left M i xs B .regs) (left M i xs B .marks) (memoryAfter M (meant M i xs B) (given M i xs B) (B .memory)); scalars = x }) (sym kept) (sym same))
+          rw d (ap₂ (λ (a : Answer) (r : List ℕ). record { answer = reply a; bench = benchOf (B .machine) (B .seals) r marks mem; scalars = xs }) (only-done a d) (er ∙ rw d)
+          ∙ ap₂ (λ (k o : List ℕ). record { answer = reply Done; bench = benchOf (B .machine) (B .seals) (left M i xs B .regs) k o; scalars = xs }) (em ∙ rw d) (eo ∙ rw d)
+          ∙ ap₂ (λ (m : Machine) (x : List ℕ). record { answer = reply Done; bench = benchOf m (B .seals) (left M i xs B .regs) (left M i xs B .marks) (memoryAfter M (meant M i xs B) (given M i xs B) (B .memory)); scalars = x }) (sym kept) (sym same))
       go false d =
-          rw d (ap (λ (r : List ℕ). record { answer = reply a; bench = benchOf (B .machine) r marks mem; scalars = xs }) (er ∙ rw d)
-          ∙ ap₂ (λ (k o : List ℕ). record { answer = reply a; bench = benchOf (B .machine) (B .registers) k o; scalars = xs }) (em ∙ rw d) (eo ∙ rw d))
+          rw d (ap (λ (r : List ℕ). record { answer = reply a; bench = benchOf (B .machine) (B .seals) r marks mem; scalars = xs }) (er ∙ rw d)
+          ∙ ap₂ (λ (k o : List ℕ). record { answer = reply a; bench = benchOf (B .machine) (B .seals) (B .registers) k o; scalars = xs }) (em ∙ rw d) (eo ∙ rw d))
 
 -- ---- mtype
 

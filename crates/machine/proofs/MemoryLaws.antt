@@ -13,8 +13,7 @@ use Rattle.width.specs.Tile.{In}
 use Rattle.width.proofs.BlockLaws.{le-or-lt}
 use Rattle.machine.specs.Tests.{all, within}
 use Rattle.machine.proofs.TestLaws.{all-true, all-at, or-not, false-true, same-test, within-not, not-within}
-use Rattle.machine.specs.Geometry.{Parameters}
-use Rattle.machine.specs.Memory.{rowZ, rowAt, address, inMemory, inside, misses, rowsMiss, clear, unsealed}
+use Rattle.machine.specs.Memory.{rowZ, rowAt, address, inMemory, inside, misses, rowsMiss}
 
 -- the n bytes from z on lie in a memory of len bytes (for n > 0)
 abbrev pub fits : ℕ → ℕ → ℤ → Bool
@@ -122,25 +121,17 @@ misses-range s o p n = same-test (misses (within s o) p n) (eqb n 0 || (eqb o 0 
               (or-not (eqb n 0) (eqb o 0 || (leb (p + n) s || leb (s + o) p)) h es) et) eu),
         )
 
--- ---- the seal
+-- a part of bytes that miss those misses them
+pub misses-part : (those : ℕ → Bool) (p n q o : ℕ) → misses those p n ≡ true → p ≤ q → q + o ≤ p + n → misses those q o ≡ true
+misses-part those p n q o h a b = misses-true those q o (λ r x. misses-at those p n h r (omega arith))
 
-pub clear-at : (M : Parameters) (p n : ℕ) → clear M p n ≡ true → (q : ℕ) → In p n q → not (M .isSealed q) ≡ true
-clear-at M = misses-at (M .isSealed)
-
-pub clear-true : (M : Parameters) (p n : ℕ) → ((q : ℕ) → In p n q → not (M .isSealed q) ≡ true) → clear M p n ≡ true
-clear-true M = misses-true (M .isSealed)
-
-pub unsealed-true : (M : Parameters) (base stride rows n : ℕ) → ((i : ℕ) → i < rows → clear M (rowAt base stride i) n ≡ true) → unsealed M base stride rows n ≡ true
+pub rows-miss-true : (those : ℕ → Bool) (base stride rows n : ℕ) → ((i : ℕ) → i < rows → misses those (rowAt base stride i) n ≡ true) → rowsMiss those base stride rows n ≡ true
 unfolding rowsMiss
-unsealed-true M base stride rows n h = all-true rows (λ i. clear M (rowAt base stride i) n) h
+rows-miss-true those base stride rows n h = all-true rows (λ i. misses those (rowAt base stride i) n) h
 
-pub unsealed-at : (M : Parameters) (base stride rows n : ℕ) → unsealed M base stride rows n ≡ true → (i : ℕ) → i < rows → clear M (rowAt base stride i) n ≡ true
+pub rows-miss-at : (those : ℕ → Bool) (base stride rows n : ℕ) → rowsMiss those base stride rows n ≡ true → (i : ℕ) → i < rows → misses those (rowAt base stride i) n ≡ true
 unfolding rowsMiss
-unsealed-at M base stride rows n h = all-at rows (λ i. clear M (rowAt base stride i) n) h
-
--- a part of unsealed bytes is unsealed
-pub clear-part : (M : Parameters) (p n q o : ℕ) → clear M p n ≡ true → p ≤ q → q + o ≤ p + n → clear M q o ≡ true
-clear-part M p n q o h a b = clear-true M q o (λ r x. clear-at M p n h r (omega arith))
+rows-miss-at those base stride rows n h = all-at rows (λ i. misses those (rowAt base stride i) n) h
 
 -- ---- the rows of a block
 

@@ -2,12 +2,12 @@
 use mathlib.Core.Path.{_≡_, refl, sym, ap, _∙_, subst}
 use mathlib.Core.Logic.{inl, inr}
 use mathlib.Core.Bool.{Bool, true, false, cond}
-use mathlib.Core.List.{List, [], _∷_}
+use mathlib.Core.List.{List, [], _∷_, _++_}
 use Prim.Native.Nat.{ℕ, zero, suc, _+_, _*_, _-_, _/_, _^_, _≤_, _<_, min}
 use native.Mathlib.Nat.{div-le-self}
 use native.Mathlib.Decide.{ℕ-discrete}
 use native.Mathlib.Omega.{arith}
-use lib.ListN.{length, getD, set, length-set, List·getD-eq-default, replicate, length-replicate}
+use lib.ListN.{length, getD, set, length-set, List·getD-eq-default, replicate, length-replicate, length-append}
 use lib.Seq.{getD-set-same, getD-set-other}
 use lib.Dec.{leb, ltb, eqb}
 use borrow.Author.Tests.{le-leb, lt-ltb, eq-eqb, leb-true, ltb-true, eqb-true}
@@ -20,19 +20,22 @@ use Rattle.machine.specs.declared.Machine.{Machine}
 use Rattle.machine.specs.declared.Dimension.the-variants.{DimensionM, DimensionK, DimensionN}
 use Rattle.machine.specs.declared.Instruction.{Instruction}
 use Rattle.machine.specs.Tests.{allOf, isIn}
-use Rattle.machine.proofs.TestLaws.{each-in, false-true, allOf-true, allOf-at, every-each, each-every}
+use Rattle.machine.proofs.TestLaws.{each-in, and-left, and-right, and-true, allOf-true, allOf-at, every-each, each-every}
 use Rattle.machine.specs.Answers.{reply, isDone, verdict}
-use Rattle.machine.specs.Faults.{soundBench}
-use Rattle.machine.specs.Geometry.{Parameters, parameters, State, stateOf, machineAfter, elens, permitted, registerBytes}
+use Rattle.machine.specs.Faults.{soundBench, sealsFit}
+use Rattle.machine.specs.Geometry.{Range, range, benchOf, Parameters, parameters, State, stateOf, machineAfter, elens, permitted, registerBytes}
 use Rattle.machine.proofs.StepLaws.{permitted-elen}
 use Rattle.machine.specs.Setting.{legalType, newType, maxK, maxN, sew}
 use Rattle.machine.specs.Operation
 use Rattle.machine.specs.Operation.{Operation, stateAfter, vectorsAfter, written}
 use Rattle.machine.specs.Vectors.{Vectors, vectorsFit, idle}
 use Rattle.machine.specs.Faults.{sound}
-use Rattle.machine.specs.Starting.{isRule, sealEnds, startable, startMachine, StartOutcome, freshMachine, noMachine}
-use Rattle.machine.specs.Theorems.{StepKeepsSound, StepKeepsFile, StartIsSound}
-use Rattle.machine.specs.declared.Answer.the-variants.{Done, BadArguments}
+use Rattle.machine.specs.Starting.{isRule, sealEnds, sealsEnd, mostSeals, ranges, paired, startable, StartOutcome, freshMachine}
+use Rattle.machine.specs.Sealing.{addSeal, sealChecks, withSeal}
+use Rattle.machine.proofs.StartLaws.{accepted}
+use Rattle.machine.proofs.CheckLaws.{passed}
+use Rattle.machine.specs.Theorems.{StepKeepsSound, StepKeepsFile, SealKeepsSound, StartIsSound}
+use Rattle.machine.specs.declared.Answer.the-variants.{BadArguments}
 use Rattle.machine.specs.Listing
 use Rattle.machine.specs.Step
 use Rattle.machine.specs.Step.{VectorOutcome, beside, outcome, outcomeIn, vectorsIn, stepBy, stepWith, checksIn, meantIn, givenIn, leftIn}
@@ -51,7 +54,6 @@ pub record Sane (rows pitch elen total : ℕ) (st : State) : Type 0 where
 pub record Sound (m : Machine) (registers marks : List ℕ) : Type 0 where
   pub lengths : permitted (m .rlen) (m .mlen) (m .elen) ≡ true
   pub rule-is : isRule (m .rule) ≡ true
-  pub seal-ends : m .«seal_start» + m .«seal_length» ≤ 2 ^ 64 - 1
   pub state : Sane (m .mlen / m .rlen) (m .rlen / 8) (m .elen) (registerBytes (m .mlen)) (stateOf m registers marks)
 
 module _ (m : Machine) (registers marks : List ℕ) where
@@ -65,7 +67,6 @@ module _ (m : Machine) (registers marks : List ℕ) where
       ∷ leb (m .«tile_k») (min (m .mlen / m .rlen) (m .rlen / 8))
       ∷ leb (m .«tile_n») (m .rlen / 8)
       ∷ isRule (m .rule)
-      ∷ sealEnds (m .«seal_start») (m .«seal_length»)
       ∷ allOf (λ mark. ltb mark 2) marks ∷ []
 
   pub sound-is : sound m registers marks ≡ true → Sound m registers marks
@@ -75,13 +76,12 @@ module _ (m : Machine) (registers marks : List ℕ) where
       record {
         lengths = t .0;
         rule-is = t .1 .1 .1 .1 .1 .1 .1 .0;
-        seal-ends = leb-true (m .«seal_start» + m .«seal_length») (2 ^ 64 - 1) (t .1 .1 .1 .1 .1 .1 .1 .1 .0);
         state = record {
           regs-length = eqb-true (length registers) (registerBytes (m .mlen)) (t .1 .0);
           marks-length = eqb-true (length marks) (registerBytes (m .mlen)) (t .1 .1 .0);
           marks-two = λ q. elim (le-or-lt (length marks) q) [
             | inl l ↦ rw (List·getD-eq-default marks 0 {n = q} l) (omega arith)
-            | inr l ↦ ltb-true (getD marks q 0) 2 (allOf-at (λ mark. ltb mark 2) marks (t .1 .1 .1 .1 .1 .1 .1 .1 .1 .0) q l)
+            | inr l ↦ ltb-true (getD marks q 0) 2 (allOf-at (λ mark. ltb mark 2) marks (t .1 .1 .1 .1 .1 .1 .1 .1 .0) q l)
           ];
           type-arises = eqb-true (newType (m .elen) (m .mtype)) (m .mtype) (t .1 .1 .1 .0);
           m-fits = leb-true (m .«tile_m») (m .mlen / m .rlen) (t .1 .1 .1 .1 .0);
@@ -110,10 +110,7 @@ module _ (m : Machine) (registers marks : List ℕ) where
                     le-leb (m .«tile_n») (m .rlen / 8) (s .n-fits),
                     (
                       h .rule-is,
-                      (
-                        le-leb (m .«seal_start» + m .«seal_length») (2 ^ 64 - 1) (h .seal-ends),
-                        (allOf-true (λ mark. ltb mark 2) marks (λ q l. lt-ltb (getD marks q 0) 2 (s .marks-two q)), tt),
-                      ),
+                      (allOf-true (λ mark. ltb mark 2) marks (λ q l. lt-ltb (getD marks q 0) 2 (s .marks-two q)), tt),
                     ),
                   ),
                 ),
@@ -238,6 +235,17 @@ module _ (M : Parameters) (G : Grants (M .grant)) (total : ℕ) where
   sane-after (Operation.moveOut f a v first count) st mem h = h
   sane-after (Operation.moveIn f d v first count file) st mem h = wrote st _ _ _ _ _ h
 
+-- ---- the machine's numbers and its ranges
+
+pub bench-sound : (B : Bench) → soundBench B ≡ true → sound (B .machine) (B .registers) (B .marks) ≡ true
+bench-sound B = and-left (sound (B .machine) (B .registers) (B .marks)) (sealsFit (B .seals))
+
+pub bench-seals : (B : Bench) → soundBench B ≡ true → sealsFit (B .seals) ≡ true
+bench-seals B = and-right (sound (B .machine) (B .registers) (B .marks)) (sealsFit (B .seals))
+
+pub sound-bench : (B : Bench) → sound (B .machine) (B .registers) (B .marks) ≡ true → sealsFit (B .seals) ≡ true → soundBench B ≡ true
+sound-bench B = and-true (sound (B .machine) (B .registers) (B .marks)) (sealsFit (B .seals))
+
 -- ---- no step leaves a machine at fault
 
 outcome-sound : (grant : ℕ → ℕ → ℕ → ℕ) → EachGrants grant → (i : Instruction) (xs : List ℕ) (W : Vectors) (B : Bench) → soundBench B ≡ true
@@ -248,7 +256,7 @@ outcome-sound grant G i xs W B h = go (isDone (verdict (checksIn W M i xs B)))
     M = parameters grant (B .machine)
 
     s : Sound (B .machine) (B .registers) (B .marks)
-    s = sound-is (B .machine) (B .registers) (B .marks) h
+    s = sound-is (B .machine) (B .registers) (B .marks) (bench-sound B h)
 
     l : State
     l = leftIn W M i xs B
@@ -257,7 +265,9 @@ outcome-sound grant G i xs W B h = go (isDone (verdict (checksIn W M i xs B)))
     after = sane-after M (G (B .machine .rule)) (registerBytes (B .machine .mlen)) (meantIn W M i xs B) (givenIn W M i xs B) (B .memory) (s .state)
 
     go : (t : Bool) → soundBench (cond t (Step.carriedIn W M i xs B) (Step.refusedIn W M i xs B (verdict (checksIn W M i xs B))) .bench) ≡ true
-    go true = sound-true (machineAfter (B .machine) l) (l .regs) (l .marks) (record { lengths = s .lengths; rule-is = s .rule-is; seal-ends = s .seal-ends; state = after })
+    go true =
+        and-true (sound (machineAfter (B .machine) l) (l .regs) (l .marks)) (sealsFit (B .seals))
+        (sound-true (machineAfter (B .machine) l) (l .regs) (l .marks) (record { lengths = s .lengths; rule-is = s .rule-is; state = after })) (bench-seals B h)
     go false = h
 
 pub step-keeps-sound : StepKeepsSound
@@ -320,28 +330,50 @@ zeros (suc n) zero = refl
 zeros (suc n) (suc q) = zeros n q
 
 pub start-sound : StartIsSound
-unfolding startMachine startable newType legalType sew
-start-sound rlen mlen elen rule sealStart sealLength registers marks memory = go (startable rlen mlen elen rule sealStart sealLength registers marks) refl
-  where
-    out : Bool → StartOutcome
-    out t = cond t (record { answer = reply Done; machine = freshMachine rlen mlen elen rule sealStart sealLength; registers = registers; marks = replicate (length marks) 0 })
-        (record { answer = reply BadArguments; machine = noMachine; registers = registers; marks = marks })
+unfolding startable newType legalType sew sealsFit
+start-sound rlen mlen elen rule seals registers marks memory d =
+    let k = accepted rlen mlen elen rule seals registers marks d in
+    let c = every-each (permitted rlen mlen elen ∷ eqb (length registers) (registerBytes mlen) ∷ eqb (length marks) (registerBytes mlen) ∷ isRule rule ∷ paired seals ∷ sealsEnd (ranges seals) ∷ []) (k .fits) in
+    subst (λ (o : StartOutcome). soundBench (benchOf (o .machine) (o .seals) (o .registers) (o .marks) memory) ≡ true) (sym (k .leaves))
+    (sound-bench (benchOf (freshMachine rlen mlen elen rule) (ranges seals) registers (replicate (length marks) 0) memory)
+    (sound-true (freshMachine rlen mlen elen rule) registers (replicate (length marks) 0) (record {
+      lengths = c .0;
+      rule-is = c .1 .1 .1 .0;
+      state = record {
+        regs-length = eqb-true (length registers) (registerBytes mlen) (c .1 .0);
+        marks-length = length-replicate (length marks) 0 ∙ eqb-true (length marks) (registerBytes mlen) (c .1 .1 .0);
+        marks-two = λ q. rw (zeros (length marks) q) (omega arith);
+        type-arises = type-zero elen (permitted-elen rlen mlen elen (c .0) .0);
+        m-fits = omega arith;
+        k-fits = omega arith;
+        n-fits = omega arith;
+      };
+    }))
+    (each-every (leb (length (ranges seals)) mostSeals ∷ sealsEnd (ranges seals) ∷ []) (k .few, (c .1 .1 .1 .1 .1 .0, tt))))
 
-    go : (t : Bool) → startable rlen mlen elen rule sealStart sealLength registers marks ≡ t → out t .answer .number ≡ 0 → sound (out t .machine) (out t .registers) (out t .marks) ≡ true
-    go false e d = absurd (false-true (ap (λ (n : ℕ). eqb n 0) d))
-    go true e d =
-        let c = every-each (permitted rlen mlen elen ∷ eqb (length registers) (registerBytes mlen) ∷ eqb (length marks) (registerBytes mlen) ∷ isRule rule ∷ sealEnds sealStart sealLength ∷ []) e in
-        sound-true (freshMachine rlen mlen elen rule sealStart sealLength) registers (replicate (length marks) 0) (record {
-          lengths = c .0;
-          rule-is = c .1 .1 .1 .0;
-          seal-ends = leb-true (sealStart + sealLength) (2 ^ 64 - 1) (c .1 .1 .1 .1 .0);
-          state = record {
-            regs-length = eqb-true (length registers) (registerBytes mlen) (c .1 .0);
-            marks-length = length-replicate (length marks) 0 ∙ eqb-true (length marks) (registerBytes mlen) (c .1 .1 .0);
-            marks-two = λ q. rw (zeros (length marks) q) (omega arith);
-            type-arises = type-zero elen (permitted-elen rlen mlen elen (c .0) .0);
-            m-fits = omega arith;
-            k-fits = omega arith;
-            n-fits = omega arith;
-          };
-        })
+-- ---- nor does adding a range
+
+ends-with : (rs : List Range) (r : Range) → sealsEnd rs ≡ true → sealEnds (r .start) (r .size) ≡ true → sealsEnd (rs ++ (r ∷ [])) ≡ true
+ends-with [] r h e = and-true (sealEnds (r .start) (r .size)) true e refl
+ends-with (s ∷ rs) r h e =
+    and-true (sealEnds (s .start) (s .size)) (sealsEnd (rs ++ (r ∷ []))) (and-left (sealEnds (s .start) (s .size)) (sealsEnd rs) h)
+    (ends-with rs r (and-right (sealEnds (s .start) (s .size)) (sealsEnd rs) h) e)
+
+pub seals-fit-with : (rs : List Range) (start size : ℕ) → sealsFit rs ≡ true → sealEnds start size ≡ true → length rs < mostSeals → sealsFit (rs ++ (range start size ∷ [])) ≡ true
+unfolding sealsFit
+seals-fit-with rs start size h e l =
+    each-every (leb (length (rs ++ (range start size ∷ []))) mostSeals ∷ sealsEnd (rs ++ (range start size ∷ [])) ∷ []) (
+      le-leb (length (rs ++ (range start size ∷ []))) mostSeals (omega (arith, length-append rs (range start size ∷ []))),
+      (ends-with rs (range start size) (every-each (leb (length rs) mostSeals ∷ sealsEnd rs ∷ []) h .1 .0) e, tt),
+    )
+
+pub seal-keeps-sound : SealKeepsSound
+unfolding addSeal
+seal-keeps-sound start size B h = go (isDone (verdict (sealChecks start size B))) refl
+  where
+    go : (t : Bool) → isDone (verdict (sealChecks start size B)) ≡ t → soundBench (cond t (withSeal start size B) B) ≡ true
+    go true e =
+        let p = passed (sealChecks start size B) refl e in
+        sound-bench (withSeal start size B) (bench-sound B h)
+        (seals-fit-with (B .seals) start size (bench-seals B h) (p .1 .0) (ltb-true (length (B .seals)) mostSeals (p .1 .1 .0)))
+    go false e = h

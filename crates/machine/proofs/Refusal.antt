@@ -1,19 +1,23 @@
 -- Demand 1: a refusal changes nothing lent or held, for every state and every word; and so of a start.
-use mathlib.Core.Path.{_≡_, refl}
+use mathlib.Core.Path.{_≡_, refl, ap, _∙_}
 use mathlib.Core.Bool.{Bool, true, false, cond}
 use lib.ListN.{length, replicate}
-use Rattle.machine.specs.declared.Answer.the-variants.{Done, BadArguments}
+use Rattle.machine.specs.declared.Answer.the-variants.{BadArguments}
+use Rattle.machine.specs.declared.Answer.{Answer}
+use Rattle.machine.specs.declared.Reply.{Reply}
+use borrow.Author.Tests.{eqb-true}
 use Rattle.machine.specs.Answers.{reply, isDone, verdict}
 use Rattle.machine.specs.Geometry.{Parameters, parameters, Bench}
 use Rattle.machine.specs.Listing.{decode}
-use Rattle.machine.specs.Starting.{StartOutcome, startable, startMachine, freshMachine, noMachine}
+use Rattle.machine.specs.Starting.{StartOutcome, startChecks, startedAs, startMachine, freshMachine, noMachine}
+use Rattle.machine.specs.Sealing.{addSeal, sealChecks, withSeal}
 use Rattle.machine.specs.Step
 use Rattle.machine.specs.Step.{Outcome, VectorOutcome, beside, outcome, stepBy, stepWith, stepChecks, checksIn, meantIn, givenIn}
 use Rattle.machine.specs.Operation.{vectorsAfter}
 use Rattle.machine.specs.Vectors.{vectorsFit}
 use Prim.Native.Nat.{ℕ}
 use mathlib.Core.List.{List}
-use Rattle.machine.specs.Theorems.{RefusalChangesNothing, StartRefusalChangesNothing}
+use Rattle.machine.specs.Theorems.{RefusalChangesNothing, StartRefusalChangesNothing, SealRefusalChangesNothing}
 
 pub step-refusal-changes-nothing : RefusalChangesNothing
 unfolding stepWith
@@ -49,12 +53,32 @@ refusal-changes-nothing grant word xs B h = go (isDone (verdict (stepChecks (par
 
 pub start-refusal-changes-nothing : StartRefusalChangesNothing
 unfolding startMachine
-start-refusal-changes-nothing rlen mlen elen rule sealStart sealLength registers marks = go (startable rlen mlen elen rule sealStart sealLength registers marks)
+start-refusal-changes-nothing rlen mlen elen rule seals registers marks = go (verdict (startChecks rlen mlen elen rule seals registers marks))
   where
-    out : Bool → StartOutcome
-    out t = cond t (record { answer = reply Done; machine = freshMachine rlen mlen elen rule sealStart sealLength; registers = registers; marks = replicate (length marks) 0 })
-        (record { answer = reply BadArguments; machine = noMachine; registers = registers; marks = marks })
+    out : Answer → StartOutcome
+    out a = cond (isDone a) (startedAs (record { answer = a; machine = freshMachine rlen mlen elen rule }) seals registers (replicate (length marks) 0))
+        (startedAs (record { answer = a; machine = noMachine }) seals registers marks)
 
-    go : (t : Bool) → ¬ (out t .answer .number ≡ 0) → (out t .registers ≡ registers) × (out t .marks ≡ marks)
-    go true d = absurd (d refl)
-    go false d = (refl, refl)
+    by : (a : Answer) (t : Bool) → isDone a ≡ t → ¬ (reply a .number ≡ 0)
+        → (cond t (startedAs (record { answer = a; machine = freshMachine rlen mlen elen rule }) seals registers (replicate (length marks) 0))
+        (startedAs (record { answer = a; machine = noMachine }) seals registers marks) .registers ≡ registers)
+        × (cond t (startedAs (record { answer = a; machine = freshMachine rlen mlen elen rule }) seals registers (replicate (length marks) 0))
+        (startedAs (record { answer = a; machine = noMachine }) seals registers marks) .marks ≡ marks)
+    by a true e d = absurd (d (eqb-true (reply a .number) 0 e))
+    by a false e d = (refl, refl)
+
+    answers : (a : Answer) (t : Bool) → cond t (startedAs (record { answer = a; machine = freshMachine rlen mlen elen rule }) seals registers (replicate (length marks) 0))
+        (startedAs (record { answer = a; machine = noMachine }) seals registers marks) .answer ≡ reply a
+    answers a true = refl
+    answers a false = refl
+
+    go : (a : Answer) → ¬ (out a .answer .number ≡ 0) → (out a .registers ≡ registers) × (out a .marks ≡ marks)
+    go a d = by a (isDone a) refl (λ e. d (ap (λ (r : Reply). r .number) (answers a (isDone a)) ∙ e))
+
+pub seal-refusal-changes-nothing : SealRefusalChangesNothing
+unfolding addSeal
+seal-refusal-changes-nothing start size B d = go (isDone (verdict (sealChecks start size B))) refl
+  where
+    go : (t : Bool) → isDone (verdict (sealChecks start size B)) ≡ t → cond t (withSeal start size B) B ≡ B
+    go true e = absurd (d (eqb-true (reply (verdict (sealChecks start size B)) .number) 0 e))
+    go false e = refl

@@ -13,7 +13,7 @@ use Rattle.machine.specs.Tests.{every, isIn}
 use Rattle.machine.proofs.TestLaws.{every-each, each, each-in, or-not}
 use Rattle.machine.specs.Answers.{reply, isDone, verdict}
 use Rattle.machine.proofs.CheckLaws.{Passed, no-refusal}
-use Rattle.machine.specs.Geometry.{Parameters, parameters, State, machineAfter, permitted, rlens, mlens, elens}
+use Rattle.machine.specs.Geometry.{sealed, Parameters, parameters, State, machineAfter, permitted, rlens, mlens, elens}
 use Rattle.machine.specs.Listing.{decode}
 use Rattle.machine.specs.Operation.{Operation, stateAfter, memoryAfter, resultOf}
 use Rattle.machine.specs.Refusals.{checks}
@@ -27,6 +27,7 @@ use Rattle.machine.specs.Geometry.{withScalar}
 abbrev pub benchAfter : Parameters → Operation → State → Bench → Bench
 benchAfter M o st B = record {
   machine = machineAfter (B .machine) (stateAfter M o st (B .memory));
+  seals = B .seals;
   registers = stateAfter M o st (B .memory) .regs;
   marks = stateAfter M o st (B .memory) .marks;
   memory = memoryAfter M o st (B .memory);
@@ -41,18 +42,18 @@ module _ (M : Parameters) (i : Instruction) (xs : List ℕ) (B : Bench) (o : Ope
   }
 
   outcome-done : soundBench B ≡ true → thirtyTwo xs ≡ true → meant M i xs B ≡ o
-      → Passed (checks M o (given M i xs B) (B .memory)) → outcome M i xs B ≡ doneBy o
+      → Passed (checks M (sealed (B .seals)) o (given M i xs B) (B .memory)) → outcome M i xs B ≡ doneBy o
   unfolding outcome
   outcome-done s t e p =
       let v : verdict (stepChecks M i xs B) ≡ Done =
-      no-refusal (stepChecks M i xs B) (s, (t, subst (λ (o : Operation). Passed (checks M o (given M i xs B) (B .memory))) (sym e) p)) in
+      no-refusal (stepChecks M i xs B) (s, (t, subst (λ (o : Operation). Passed (checks M (sealed (B .seals)) o (given M i xs B) (B .memory))) (sym e) p)) in
       ap (λ (a : Answer). cond (isDone a) (Step.carriedOut M i xs B) (Step.refused M i xs B a)) v ∙ ap doneBy e
 
 -- a word that decodes to an instruction, which with its scalars is the operation o, and whose checks pass
 pub step-is : (grant : ℕ → ℕ → ℕ → ℕ) (word : ℕ) (xs : List ℕ) (B : Bench) (i : Instruction) (o : Operation)
     → let M : Parameters = parameters grant (B .machine) in
     decode word ≡ i → soundBench B ≡ true → thirtyTwo xs ≡ true → meant M i xs B ≡ o
-    → Passed (checks M o (given M i xs B) (B .memory)) → stepBy grant word xs B ≡ doneBy M i xs B o o
+    → Passed (checks M (sealed (B .seals)) o (given M i xs B) (B .memory)) → stepBy grant word xs B ≡ doneBy M i xs B o o
 unfolding stepBy
 step-is grant word xs B i o d s t e p =
     let M : Parameters = parameters grant (B .machine) in
@@ -61,7 +62,7 @@ step-is grant word xs B i o d s t e p =
 pub step-done : (grant : ℕ → ℕ → ℕ → ℕ) (word : ℕ) (xs : List ℕ) (B : Bench) (i : Instruction) (o : Operation)
     → let M : Parameters = parameters grant (B .machine) in
     decode word ≡ i → soundBench B ≡ true → thirtyTwo xs ≡ true → meant M i xs B ≡ o
-    → Passed (checks M o (given M i xs B) (B .memory))
+    → Passed (checks M (sealed (B .seals)) o (given M i xs B) (B .memory))
     → (stepBy grant word xs B .answer ≡ reply Done) × (stepBy grant word xs B .bench ≡ benchAfter M o (given M i xs B) B)
 step-done grant word xs B i o d s t e p =
     let q = step-is grant word xs B i o d s t e p in

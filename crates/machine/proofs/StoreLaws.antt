@@ -116,7 +116,7 @@ module _ (at : ℕ → ℕ) (rows cols w : ℕ) (value : ℕ → ℕ → ℕ) (m
 
 -- ---- a store that is accepted
 
-module _ (M : Parameters) (st : State) (mem : List ℕ) (f : Form) (k : Matrix) (r w base stride : ℕ) where
+module _ (M : Parameters) (isSealed : ℕ → Bool) (st : State) (mem : List ℕ) (f : Form) (k : Matrix) (r w base stride : ℕ) where
   abbrev rows : ℕ
   rows = memoryRows f (tileRows st k) (tileCols st k)
 
@@ -132,7 +132,7 @@ module _ (M : Parameters) (st : State) (mem : List ℕ) (f : Form) (k : Matrix) 
   abbrev after : List ℕ
   after = memoryAfter M (Operation.store f k r w base stride) st mem
 
-  module _ (p : Passed (checks M (Operation.store f k r w base stride) st mem)) where
+  module _ (p : Passed (checks M isSealed (Operation.store f k r w base stride) st mem)) where
     pub store-lies : (i : ℕ) → i < rows → zero < cols * w → (rowZ base stride i ≡ pos (at i)) × (at i + cols * w ≤ length mem)
     store-lies i l some = inside-at (length mem) base stride rows (cols * w) (p .1 .1 .1 .1 .1 .0) some i l
 

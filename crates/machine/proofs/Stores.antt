@@ -7,7 +7,7 @@ use borrow.Author.Tests.{eq-eqb}
 use Rattle.machine.specs.declared.Instruction.{Instruction}
 use Rattle.machine.specs.declared.Instruction.the-variants.{Store}
 use Rattle.machine.specs.Answers.{number, isDone, verdict}
-use Rattle.machine.specs.Geometry.{Parameters, parameters, scalar, Bench}
+use Rattle.machine.specs.Geometry.{sealed, Parameters, parameters, scalar, Bench}
 use Rattle.machine.specs.Refusals.{checks}
 use Rattle.machine.specs.Faults.{soundBench}
 use Rattle.machine.specs.Step
@@ -26,14 +26,14 @@ use Rattle.machine.proofs.Sealing.{refusing}
 
 acceptedIn : (W : Vectors) (M : Parameters) (i : Instruction) (xs : List ℕ) (B : Bench) (u : Bool) → isDone (verdict (checksIn W M i xs B)) ≡ u
     → cond u (Step.carriedIn W M i xs B) (Step.refusedIn W M i xs B (verdict (checksIn W M i xs B))) .answer .number ≡ 0
-    → (u ≡ true) × (soundBench B ≡ true) × Passed (checks M (meantIn W M i xs B) (givenIn W M i xs B) (B .memory))
+    → (u ≡ true) × (soundBench B ≡ true) × Passed (checks M (sealed (B .seals)) (meantIn W M i xs B) (givenIn W M i xs B) (B .memory))
 acceptedIn W M i xs B true e h =
-    let p = passed (checksIn W M i xs B) (refusing M (meantIn W M i xs B) (givenIn W M i xs B) (B .memory)) e in (refl, p .0, p .1 .1)
+    let p = passed (checksIn W M i xs B) (refusing M (sealed (B .seals)) (meantIn W M i xs B) (givenIn W M i xs B) (B .memory)) e in (refl, p .0, p .1 .1)
 acceptedIn W M i xs B false e h = absurd (false-true (sym e ∙ eq-eqb (number (verdict (checksIn W M i xs B))) 0 h))
 
 -- of a step that is lent no vector file
 pub accepted : (M : Parameters) (i : Instruction) (xs : List ℕ) (B : Bench) → outcome M i xs B .answer .number ≡ 0
-    → (soundBench B ≡ true) × Passed (checks M (meant M i xs B) (given M i xs B) (B .memory)) × (outcome M i xs B ≡ Step.carriedOut M i xs B)
+    → (soundBench B ≡ true) × Passed (checks M (sealed (B .seals)) (meant M i xs B) (given M i xs B) (B .memory)) × (outcome M i xs B ≡ Step.carriedOut M i xs B)
 unfolding outcome
 accepted M i xs B h =
     let a = acceptedIn idle M i xs B (isDone (verdict (stepChecks M i xs B))) refl h in
@@ -43,7 +43,7 @@ accepted M i xs B h =
 pub record Accepted (grant : ℕ → ℕ → ℕ → ℕ) (i : Instruction) (xs : List ℕ) (W : Vectors) (B : Bench) (o : VectorOutcome) : Type 0 where
   pub fit : vectorsFit W ≡ true
   pub sound : soundBench B ≡ true
-  pub passes : let M : Parameters = parameters grant (B .machine) in Passed (checks M (meantIn W M i xs B) (givenIn W M i xs B) (B .memory))
+  pub passes : let M : Parameters = parameters grant (B .machine) in Passed (checks M (sealed (B .seals)) (meantIn W M i xs B) (givenIn W M i xs B) (B .memory))
   pub leaves : let M : Parameters = parameters grant (B .machine) in
       o ≡ beside (vectorsAfter M (meantIn W M i xs B) (givenIn W M i xs B) (W .file)) (Step.carriedIn W M i xs B)
 
@@ -78,9 +78,9 @@ stores-are-exact grant word xs W B f k w r rs1 rs2 d h =
     let i : Instruction = Store f k w r rs1 rs2 in
     let a = accepted-with grant word i xs W B d h in
     subst (λ (o : VectorOutcome). Stores grant xs B f k w r rs1 rs2 (o .bench .memory)) (sym (a .leaves)) (record {
-      lie-in-memory = store-lies M (givenIn W M i xs B) (B .memory) f k r w (scalar xs rs1) (scalar xs rs2) (a .passes);
-      no-byte-in-two-rows = store-apart M (givenIn W M i xs B) (B .memory) f k r w (scalar xs rs1) (scalar xs rs2) (a .passes);
-      elements = store-byte M (givenIn W M i xs B) (B .memory) f k r w (scalar xs rs1) (scalar xs rs2) (a .passes);
+      lie-in-memory = store-lies M (sealed (B .seals)) (givenIn W M i xs B) (B .memory) f k r w (scalar xs rs1) (scalar xs rs2) (a .passes);
+      no-byte-in-two-rows = store-apart M (sealed (B .seals)) (givenIn W M i xs B) (B .memory) f k r w (scalar xs rs1) (scalar xs rs2) (a .passes);
+      elements = store-byte M (sealed (B .seals)) (givenIn W M i xs B) (B .memory) f k r w (scalar xs rs1) (scalar xs rs2) (a .passes);
       others = stored-out _ _ _ w _ (B .memory);
       same-length = length-stored _ _ _ _ _ (B .memory);
     })

@@ -15,7 +15,7 @@ use Rattle.machine.specs.declared.Instruction.{Instruction}
 use Rattle.machine.specs.declared.Instruction.the-variants.{Illegal, SetTypeImmediate, SetType, SetTileImmediate, SetTile, Load, Store, Multiply, Combine, Scale, ScaleImmediate, FloatMultiply, MoveOut, MoveIn}
 use Rattle.machine.specs.Tests.{isIn}
 use Rattle.machine.specs.Answers.{reply, Check, _otherwise_, verdict, isDone, number}
-use Rattle.machine.specs.Geometry.{Parameters, parameters, State, Bench}
+use Rattle.machine.specs.Geometry.{sealed, Parameters, parameters, State, Bench}
 use Rattle.machine.specs.Listing.{bits, Fixed, Code, Row, listing, others, has, listed, lookUp, notOurs, inRange, ranged, decode}
 use Rattle.machine.specs.Operation.{Operation, operationIn}
 use Rattle.machine.specs.Vectors.{Vectors, vectorsFit}
@@ -231,9 +231,9 @@ isOurs (FloatMultiply md ms1 ms2) = true
 isOurs (MoveOut form vd ms1 rs2) = true
 isOurs (MoveIn form md vs1 rs2) = true
 
-module _ (W : Vectors) (M : Parameters) (st : State) (xs mem : List ℕ) where
+module _ (W : Vectors) (M : Parameters) (isSealed : ℕ → Bool) (st : State) (xs mem : List ℕ) where
   abbrev Elsewhere : Operation → Type 0
-  Elsewhere o = allElsewhere (checks M o st mem) ≡ true
+  Elsewhere o = allElsewhere (checks M isSealed o st mem) ≡ true
 
   either-elsewhere : (t : Bool) (o p : Operation) → Elsewhere o → Elsewhere p → Elsewhere (cond t o p)
   either-elsewhere true o p h g = h
@@ -285,7 +285,7 @@ module _ (W : Vectors) (M : Parameters) (xs : List ℕ) (B : Bench) where
 
   ours-elsewhere : (i : Instruction) → isOurs i ≡ true → groupFits W i ≡ true → elsewhere (outcomeIn W M i xs B .answer .number) ≡ true
   ours-elsewhere i h g =
-      subst (λ (n : ℕ). elsewhere n ≡ true) (sym (number-is i)) (verdict-elsewhere (checksIn W M i xs B) (checks-elsewhere W M (Step.givenIn W M i xs B) xs (B .memory) i h g))
+      subst (λ (n : ℕ). elsewhere n ≡ true) (sym (number-is i)) (verdict-elsewhere (checksIn W M i xs B) (checks-elsewhere W M (sealed (B .seals)) (Step.givenIn W M i xs B) xs (B .memory) i h g))
 
   -- ---- a word that is refused for what it is
 
@@ -316,8 +316,8 @@ module _ (W : Vectors) (M : Parameters) (xs : List ℕ) (B : Bench) where
   misaligned-told : (i : Instruction) → groupFits W i ≡ false → outcomeIn W M i xs B .answer .number ≡ number (told (soundBench B) (thirtyTwo xs) Register)
   misaligned-told i g =
       number-is i
-      ∙ ap (λ (o : Operation). number (verdict ((soundBench B otherwise BadArguments) ∷ (thirtyTwo xs otherwise BadArguments) ∷ checks M o (Step.givenIn W M i xs B) (B .memory))))
-      (misaligned W M (Step.givenIn W M i xs B) xs (B .memory) i g)
+      ∙ ap (λ (o : Operation). number (verdict ((soundBench B otherwise BadArguments) ∷ (thirtyTwo xs otherwise BadArguments) ∷ checks M (sealed (B .seals)) o (Step.givenIn W M i xs B) (B .memory))))
+      (misaligned W M (sealed (B .seals)) (Step.givenIn W M i xs B) xs (B .memory) i g)
 
 -- our rows mean instructions of ours
 allOurs : ℕ → List Row → Bool

@@ -5,13 +5,13 @@ use Prim.Native.Nat.{ℕ}
 use lib.Dec.{eqb}
 use Rattle.machine.specs.declared.Answer.{Answer}
 use Rattle.machine.specs.declared.Reply.{Reply}
-use Rattle.machine.specs.declared.Answer.the-variants.{Done, IllegalWord, IllegalType, BadWidth, TileTooLarge, Unwritten, OutsideMemory, SealedByte, BadArguments, Overlap, WrongOpcode, LeftOutWord, WrongRegister, RowsOverlap}
+use Rattle.machine.specs.declared.Answer.the-variants.{Done, IllegalWord, IllegalType, BadWidth, TileTooLarge, Unwritten, OutsideMemory, SealedByte, BadArguments, Overlap, WrongOpcode, LeftOutWord, WrongRegister, RowsOverlap, TooManySeals}
 
 -- a number that names no row and no column
 abbrev pub bare : ℕ → Reply
 bare n = record { number = n; row = 0; column = 0 }
 
--- 01, the table of "Numbers of the answers"; 10 to 12: 02, One; 13: 02, Seven. "Answer 5 names the row and column of the first such element .. Elsewhere both are 0."
+-- 01, the table of "Numbers of the answers"; 10 to 12: 02, One; 13: 02, Seven; 16: 02, Twelve. "Answer 5 names the row and column of the first such element .. Elsewhere both are 0."
 abbrev pub reply : Answer → Reply
 reply Done = bare 0
 reply IllegalWord = bare 1
@@ -27,6 +27,7 @@ reply WrongOpcode = bare 10
 reply LeftOutWord = bare 11
 reply WrongRegister = bare 12
 reply RowsOverlap = bare 13
+reply TooManySeals = bare 16
 
 abbrev pub number : Answer → ℕ
 number a = reply a .number

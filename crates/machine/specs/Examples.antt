@@ -17,8 +17,8 @@ use Rattle.machine.specs.Refusals.{widthOk, widthOf}
 use Rattle.machine.specs.Memory.{inside, misses, rowsMiss, distinct, stored}
 use Rattle.machine.specs.Refusals.{marked}
 use Rattle.machine.specs.Listing.{decode, listing, others}
-use Rattle.machine.specs.Geometry.{Bench}
-use Rattle.machine.specs.Faults.{sound}
+use Rattle.machine.specs.Geometry.{range, Bench}
+use Rattle.machine.specs.Faults.{sound, sealsFit}
 use Rattle.machine.specs.Step.{Outcome, step, stepBy, outcome}
 
 pub record Line : Type 0 where
@@ -32,7 +32,8 @@ word f e d c b = f * 2 ^ 25 + e * 2 ^ 20 + d * 2 ^ 15 + c * 2 ^ 12 + b * 2 ^ 7 +
 -- mtype, the tile sizes, a seal, and a mark for every byte; a memory of 32 bytes
 unfoldable pub bench : (t m k n sealStart sealLength mark : ℕ) → Bench
 bench t m k n s l mark = record {
-  machine = record { rlen = 64; mlen = 128; mtype = t; «tile_m» = m; «tile_k» = k; «tile_n» = n; «seal_start» = s; «seal_length» = l; rule = 0; elen = 32 };
+  machine = record { rlen = 64; mlen = 128; mtype = t; «tile_m» = m; «tile_k» = k; «tile_n» = n; rule = 0; elen = 32 };
+  seals = range s l ∷ [];
   registers = replicate 256 5;
   marks = replicate 256 mark;
   memory = replicate 32 9;
@@ -57,15 +58,15 @@ good = bench 0 2 2 2 0 0 1
 
 -- with other marks
 pub marking : List ℕ → Bench → Bench
-marking ms B = record { machine = B .machine; registers = B .registers; marks = ms; memory = B .memory }
+marking ms B = record { machine = B .machine; seals = B .seals; registers = B .registers; marks = ms; memory = B .memory }
 
 pub with : Machine → Bench → Bench
-with m B = record { machine = m; registers = B .registers; marks = B .marks; memory = B .memory }
+with m B = record { machine = m; seals = B .seals; registers = B .registers; marks = B .marks; memory = B .memory }
 
 -- with another rule
 pub ruled : ℕ → Bench → Bench
 ruled r B = let m = B .machine in
-    with (record { rlen = m .rlen; mlen = m .mlen; mtype = m .mtype; «tile_m» = m .«tile_m»; «tile_k» = m .«tile_k»; «tile_n» = m .«tile_n»; «seal_start» = m .«seal_start»; «seal_length» = m .«seal_length»; rule = r; elen = m .elen }) B
+    with (record { rlen = m .rlen; mlen = m .mlen; mtype = m .mtype; «tile_m» = m .«tile_m»; «tile_k» = m .«tile_k»; «tile_n» = m .«tile_n»; rule = r; elen = m .elen }) B
 
 pub examples : List Line
 examples =
@@ -80,7 +81,7 @@ examples =
     ∷ gives (step 0 (scalars 0 0) (bench 0 2 2 2 (2 ^ 64 - 1) 1 1)) 8
     ∷ gives (step 0 (scalars 0 0) (bench 0 2 2 2 0 0 2)) 8
     ∷ gives (step 0 (scalars 0 0) (marking (replicate 255 0) good)) 8
-    ∷ gives (step 0 (scalars 0 0) (with (record { rlen = 128; mlen = 128; mtype = 0; «tile_m» = 0; «tile_k» = 0; «tile_n» = 0; «seal_start» = 0; «seal_length» = 0; rule = 0; elen = 32 }) good)) 8
+    ∷ gives (step 0 (scalars 0 0) (with (record { rlen = 128; mlen = 128; mtype = 0; «tile_m» = 0; «tile_k» = 0; «tile_n» = 0; rule = 0; elen = 32 }) good)) 8
     ∷ gives (step 0 (scalars 0 0) (ruled 2 good)) 8
     -- none of these is a fault: a seal that ends at 2^64 - 1, mtype 2^63 and 8, sizes above the maximum at the present SEW
     ∷ gives (step (word 0 0 0 7 0) (scalars 0 0) (bench 0 2 2 8 (2 ^ 64 - 1) 0 1)) 0
@@ -187,7 +188,7 @@ examples =
     ∷ []
 
 pub refusals : map (λ l. l .got) examples ≡ map (λ l. l .want) examples
-unfolding examples word bench scalars shown gives unwritten good marking with ruled permitted sew newType legalType widthOk widthOf inside misses rowsMiss distinct marked listing others decode sound stepBy outcome
+unfolding examples word bench scalars shown gives unwritten good marking with ruled permitted sew newType legalType widthOk widthOf inside misses rowsMiss distinct marked listing others decode sound sealsFit stepBy outcome
 refusals = refl
 
 -- 02, Seven: "Refuse a store .. in which a byte belongs to two rows". A of two rows of two bytes
@@ -224,7 +225,7 @@ overlapping =
     ∷ []
 
 pub overlapping-right : map (λ l. l .got) overlapping ≡ map (λ l. l .want) overlapping
-unfolding overlapping word bench scalars shown gives unwritten good permitted sew newType legalType widthOf inside misses rowsMiss distinct marked listing others decode sound stepBy outcome
+unfolding overlapping word bench scalars shown gives unwritten good permitted sew newType legalType widthOf inside misses rowsMiss distinct marked listing others decode sound sealsFit stepBy outcome
 overlapping-right = refl
 
 -- ---- effects
@@ -245,7 +246,7 @@ settings =
     ∷ []
 
 pub settings-right : map (λ l. l .got) settings ≡ map (λ l. l .want) settings
-unfolding settings word bench scalars good chosen permitted sew newType legalType listing others decode sound stepBy outcome
+unfolding settings word bench scalars good chosen permitted sew newType legalType listing others decode sound sealsFit stepBy outcome
 settings-right = refl
 
 -- 02, Eight: sizes 3 to 9 asked at a maximum of 4, by either rule
@@ -272,7 +273,7 @@ halvedSizes =
     ∷ []
 
 pub halved-right : map (λ l. l .got) halvedSizes ≡ map (λ l. l .want) halvedSizes
-unfolding halvedSizes halved word bench scalars with ruled chosen halving permitted sew newType legalType listing others decode sound stepBy outcome
+unfolding halvedSizes halved word bench scalars with ruled chosen halving permitted sew newType legalType listing others decode sound sealsFit stepBy outcome
 halved-right = refl
 
 -- 02, Three: "A technician changed from 8 to 16 bits, renewed his sizes in this way and was refused with 4." Words one after another,
@@ -300,7 +301,7 @@ technician =
     ∷ []
 
 pub technician-right : map (λ l. l .got) technician ≡ map (λ l. l .want) technician
-unfolding technician after changed renewed sizesOf word bench scalars shown gives permitted sew newType legalType widthOf inside misses rowsMiss listing others decode sound stepBy outcome
+unfolding technician after changed renewed sizesOf word bench scalars shown gives permitted sew newType legalType widthOf inside misses rowsMiss listing others decode sound sealsFit stepBy outcome
 technician-right = refl
 
 -- acc0 and acc1 hold 0xFB, -5 at SEW 8, in every byte: one element of each instruction, with the byte after it
@@ -308,7 +309,7 @@ pub bytes : Outcome → ℕ → List ℕ
 bytes o p = getD (o .bench .registers) p 0 ∷ getD (o .bench .registers) (p + 1) 0 ∷ getD (o .bench .registers) (p + 2) 0 ∷ []
 
 pub minus5 : ℕ → Bench
-minus5 t = record { machine = bench t 1 1 1 0 0 1 .machine; registers = replicate 256 0xFB; marks = replicate 256 1; memory = [] }
+minus5 t = record { machine = bench t 1 1 1 0 0 1 .machine; seals = []; registers = replicate 256 0xFB; marks = replicate 256 1; memory = [] }
 
 pub arithmetic : List Line
 arithmetic =
@@ -330,7 +331,7 @@ arithmetic =
     ∷ []
 
 pub arithmetic-right : map (λ l. l .got) arithmetic ≡ map (λ l. l .want) arithmetic
-unfolding arithmetic bytes minus5 word bench scalars permitted sew newType legalType widthOk marked listing others decode sound stepBy outcome putTile putRow putLe markTile markRow reduce
+unfolding arithmetic bytes minus5 word bench scalars permitted sew newType legalType widthOk marked listing others decode sound sealsFit stepBy outcome putTile putRow putLe markTile markRow reduce
 arithmetic-right = refl
 
 -- 02, Four: mfma.mm acc0, tr0, tr1 of one row, two terms and one column: 0.5 + 1.5 x 2 + -3 x 4 is -8.5, and other bytes stay
@@ -339,6 +340,7 @@ halves =
     let B = bench 2 1 2 1 0 0 1 in
     record {
       machine = B .machine;
+      seals = [];
       registers = 0 ∷ 0 ∷ 0xC0 ∷ 0x3F ∷ 0 ∷ 0 ∷ 0x40 ∷ 0xC0 ∷ replicate 8 9
           ++ 0 ∷ 0 ∷ 0 ∷ 0x40 ∷ replicate 4 9 ++ 0 ∷ 0 ∷ 0x80 ∷ 0x40 ∷ replicate 100 9 ++ 0 ∷ 0 ∷ 0 ∷ 0x3F ∷ replicate 124 9;
       marks = B .marks;
@@ -346,7 +348,7 @@ halves =
     }
 
 pub halves-right : drop 126 (take 134 (step (word 0b0000001 1 0 6 0) (scalars 0 0) halves .bench .registers)) ≡ 9 ∷ 9 ∷ 0 ∷ 0 ∷ 0x08 ∷ 0xC1 ∷ 9 ∷ 9 ∷ []
-unfolding halves word bench scalars permitted sew newType legalType marked listing others decode sound stepBy outcome putTile putRow putLe markTile markRow valueOf settled multiplyAdd floatSum floatProduct Ieee.add Ieee.mul Ieee.ofBits Ieee.toBits
+unfolding halves word bench scalars permitted sew newType legalType marked listing others decode sound sealsFit stepBy outcome putTile putRow putLe markTile markRow valueOf settled multiplyAdd floatSum floatProduct Ieee.add Ieee.mul Ieee.ofBits Ieee.toBits
 halves-right = refl
 
 -- 02, Two: B of two rows and three columns, transposed. Memory, or tr0 on, counts its bytes from 0
@@ -357,7 +359,7 @@ counting (suc n) x = x ∷ counting n (x + 1)
 pub counted : ℕ → Bench
 counted t =
     let B = bench t 2 2 3 0 0 1 in
-    record { machine = B .machine; registers = counting 24 0 ++ replicate 232 5; marks = B .marks; memory = counting 32 0 }
+    record { machine = B .machine; seals = B .seals; registers = counting 24 0 ++ replicate 232 5; marks = B .marks; memory = counting 32 0 }
 
 pub transposed : List Line
 transposed =
@@ -377,7 +379,7 @@ transposed =
     ∷ []
 
 pub transposed-right : map (λ l. l .got) transposed ≡ map (λ l. l .want) transposed
-unfolding transposed counting counted word bench scalars permitted sew newType legalType widthOf inside misses rowsMiss distinct stored marked listing others decode sound stepBy outcome putTile putRow putLe markTile markRow
+unfolding transposed counting counted word bench scalars permitted sew newType legalType widthOf inside misses rowsMiss distinct stored marked listing others decode sound sealsFit stepBy outcome putTile putRow putLe markTile markRow
 transposed-right = refl
 
 -- ---- 02, Ten
@@ -400,7 +402,8 @@ types = refl
 -- of 64
 pub larger : (elen t m k n : ℕ) → Bench
 larger e t m k n = record {
-  machine = record { rlen = 128; mlen = 256; mtype = t; «tile_m» = m; «tile_k» = k; «tile_n» = n; «seal_start» = 0; «seal_length» = 0; rule = 0; elen = e };
+  machine = record { rlen = 128; mlen = 256; mtype = t; «tile_m» = m; «tile_k» = k; «tile_n» = n; rule = 0; elen = e };
+  seals = [];
   registers = replicate 512 5;
   marks = replicate 512 1;
   memory = replicate 32 9;
@@ -412,7 +415,7 @@ elen64 =
     gives (step 0 (scalars 0 0) (larger 16 0 2 2 2)) 8
     ∷ gives (step 0 (scalars 0 0) (larger 48 0 2 2 2)) 8
     ∷ gives (step 0 (scalars 0 0) (larger 128 0 2 2 2)) 8
-    ∷ gives (step 0 (scalars 0 0) (with (record { rlen = 64; mlen = 128; mtype = 0; «tile_m» = 0; «tile_k» = 0; «tile_n» = 0; «seal_start» = 0; «seal_length» = 0; rule = 0; elen = 64 }) good)) 8
+    ∷ gives (step 0 (scalars 0 0) (with (record { rlen = 64; mlen = 128; mtype = 0; «tile_m» = 0; «tile_k» = 0; «tile_n» = 0; rule = 0; elen = 64 }) good)) 8
     ∷ gives (step 0 (scalars 0 0) (larger 32 3 2 2 2)) 8
     ∷ gives (step 0 (scalars 0 0) (larger 32 9 2 2 2)) 8
     ∷ gives (step 0 (scalars 0 0) (larger 64 10 2 2 2)) 8
@@ -445,7 +448,7 @@ elen64 =
     ∷ []
 
 pub elen64-right : map (λ l. l .got) elen64 ≡ map (λ l. l .want) elen64
-unfolding elen64 larger word bench scalars shown gives unwritten good marking with permitted sew newType legalType widthOk widthOf inside misses rowsMiss distinct marked listing others decode sound stepBy outcome
+unfolding elen64 larger word bench scalars shown gives unwritten good marking with permitted sew newType legalType widthOk widthOf inside misses rowsMiss distinct marked listing others decode sound sealsFit stepBy outcome
 elen64-right = refl
 
 -- row 0 of tr0, of tr1, row 1 of tr1 and row 0 of acc0, each from its first byte on, among bytes of 9
@@ -455,7 +458,7 @@ wideRows a b b′ c = take 32 (a ++ replicate 32 9) ++ take 16 (b ++ replicate 1
 -- acc0 of one row after a word, at this mtype, of k terms and n columns: its first 17 bytes
 pub accumulated : (t k n w : ℕ) → (registers : List ℕ) → List ℕ
 accumulated t k n w registers =
-    take 17 (drop 256 (step w (scalars (2 ^ 64 - 3) 0) (record { machine = larger 64 t 1 k n .machine; registers = registers; marks = replicate 512 1; memory = [] }) .bench .registers))
+    take 17 (drop 256 (step w (scalars (2 ^ 64 - 3) 0) (record { machine = larger 64 t 1 k n .machine; seals = []; registers = registers; marks = replicate 512 1; memory = [] }) .bench .registers))
 
 pub sums64 : List Line
 sums64 =
@@ -490,21 +493,21 @@ sums64 =
     ∷ []
 
 pub sums64-right : map (λ l. l .got) sums64 ≡ map (λ l. l .want) sums64
-unfolding sums64 accumulated wideRows larger word scalars permitted sew newType legalType widthOk marked listing others decode sound stepBy outcome putTile putRow putLe markTile markRow reduce
+unfolding sums64 accumulated wideRows larger word scalars permitted sew newType legalType widthOk marked listing others decode sound sealsFit stepBy outcome putTile putRow putLe markTile markRow reduce
 sums64-right = refl
 
 -- mlce64.m and msce64.m of two rows and one column: eight bytes of each row of memory, and of acc0
 pub moved64 : List Line
 moved64 =
-    (let o = step (word 0b0000000 11 10 3 0) (scalars 1 16) (record { machine = larger 64 3 2 2 1 .machine; registers = replicate 512 5; marks = replicate 512 0; memory = counting 32 0 }) in
+    (let o = step (word 0b0000000 11 10 3 0) (scalars 1 16) (record { machine = larger 64 3 2 2 1 .machine; seals = []; registers = replicate 512 5; marks = replicate 512 0; memory = counting 32 0 }) in
     record {
       got = take 9 (drop 256 (o .bench .registers)) ++ take 9 (drop 320 (o .bench .registers)) ++ take 9 (drop 320 (o .bench .marks));
       want = 1 ∷ 2 ∷ 3 ∷ 4 ∷ 5 ∷ 6 ∷ 7 ∷ 8 ∷ 5 ∷ 17 ∷ 18 ∷ 19 ∷ 20 ∷ 21 ∷ 22 ∷ 23 ∷ 24 ∷ 5 ∷ replicate 8 1 ++ 0 ∷ [];
     })
-    ∷ (let o = step (word 0b0000001 11 10 3 0) (scalars 1 9) (record { machine = larger 64 3 2 2 1 .machine; registers = replicate 256 0 ++ counting 256 0; marks = replicate 512 1; memory = replicate 20 99 }) in
+    ∷ (let o = step (word 0b0000001 11 10 3 0) (scalars 1 9) (record { machine = larger 64 3 2 2 1 .machine; seals = []; registers = replicate 256 0 ++ counting 256 0; marks = replicate 512 1; memory = replicate 20 99 }) in
     record { got = o .bench .memory; want = 99 ∷ 0 ∷ 1 ∷ 2 ∷ 3 ∷ 4 ∷ 5 ∷ 6 ∷ 7 ∷ 99 ∷ 64 ∷ 65 ∷ 66 ∷ 67 ∷ 68 ∷ 69 ∷ 70 ∷ 71 ∷ 99 ∷ 99 ∷ [] })
     ∷ []
 
 pub moved64-right : map (λ l. l .got) moved64 ≡ map (λ l. l .want) moved64
-unfolding moved64 larger counting word scalars permitted sew newType legalType widthOf inside misses rowsMiss distinct stored marked listing others decode sound stepBy outcome putTile putRow putLe markTile markRow
+unfolding moved64 larger counting word scalars permitted sew newType legalType widthOf inside misses rowsMiss distinct stored marked listing others decode sound sealsFit stepBy outcome putTile putRow putLe markTile markRow
 moved64-right = refl

@@ -1,17 +1,17 @@
 -- 01, "Numbers of the answers": answer 8 of a step.
-use mathlib.Core.Bool.{Bool}
+use mathlib.Core.Bool.{Bool, _&&_}
 use mathlib.Core.List.{List, [], _∷_}
 use Prim.Native.Nat.{ℕ, _/_, min}
 use lib.ListN.{length}
 use lib.Dec.{leb, ltb, eqb}
 use Rattle.machine.specs.declared.Machine.{Machine}
 use Rattle.machine.specs.Tests.{allOf, every}
-use Rattle.machine.specs.Geometry.{permitted, registerBytes, Bench}
-use Rattle.machine.specs.Starting.{isRule, sealEnds}
+use Rattle.machine.specs.Geometry.{Range, permitted, registerBytes, Bench}
+use Rattle.machine.specs.Starting.{isRule, sealsEnd, mostSeals}
 use Rattle.machine.specs.Setting.{newType}
 
 -- "RLEN or MLEN not permitted, a buffer not of the size they demand, .. an mtype that can't arise, a tile size above its maximum
--- at SEW 8, a seal whose end exceeds 2^64 - 1, or a mark that is neither value", or, 02, Eight, "an unknown rule", or, 02, Ten, "an ELEN other than
+-- at SEW 8, .. or a mark that is neither value", or, 02, Eight, "an unknown rule", or, 02, Ten, "an ELEN other than
 -- 32 or 64, or not below RLEN": none of these
 unfoldable pub sound : Machine → List ℕ → List ℕ → Bool
 sound m registers marks = every (
@@ -23,8 +23,11 @@ sound m registers marks = every (
     ∷ leb (m .«tile_k») (min (m .mlen / m .rlen) (m .rlen / 8))
     ∷ leb (m .«tile_n») (m .rlen / 8)
     ∷ isRule (m .rule)
-    ∷ sealEnds (m .«seal_start») (m .«seal_length»)
     ∷ allOf (λ mark. ltb mark 2) marks ∷ [])
+
+-- "a seal whose end exceeds 2^64 - 1"; 02, Twelve: "a state that holds more than eight gets 8": neither
+unfoldable pub sealsFit : List Range → Bool
+sealsFit seals = every (leb (length seals) mostSeals ∷ sealsEnd seals ∷ [])
 
 -- "not thirty-two scalars"
 abbrev pub thirtyTwo : List ℕ → Bool
@@ -32,4 +35,4 @@ thirtyTwo scalars = eqb (length scalars) 32
 
 -- a state that is not at fault
 abbrev pub soundBench : Bench → Bool
-soundBench B = sound (B .machine) (B .registers) (B .marks)
+soundBench B = sound (B .machine) (B .registers) (B .marks) && sealsFit (B .seals)

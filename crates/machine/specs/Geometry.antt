@@ -1,6 +1,6 @@
--- 01, "What a machine is": its lengths, its registers in the lent bytes, the seal, and the scalars.
+-- 01, "What a machine is", and 02, Twelve: its lengths, its sealed ranges, its registers in the lent bytes, and the scalars.
 -- Lengths of the machine and ELEN are in bits, as 01 gives them; widths of elements and of rows are in bytes.
-use mathlib.Core.Bool.{Bool, cond}
+use mathlib.Core.Bool.{Bool, false, cond, _||_}
 use mathlib.Core.List.{List, [], _∷_}
 use Prim.Native.Nat.{ℕ, _+_, _*_, _/_}
 use lib.ListN.{getD, set}
@@ -26,36 +26,43 @@ elens = 32 ∷ 64 ∷ []
 unfoldable pub permitted : (rlen mlen elen : ℕ) → Bool
 permitted rlen mlen elen = every (isIn rlen rlens ∷ isIn mlen mlens ∷ ltb rlen mlen ∷ isIn elen elens ∷ ltb elen rlen ∷ [])
 
--- ---- the seal
+-- ---- the sealed ranges
 
--- "The seal is one range of memory (start, length), given when the machine is started; length 0 seals nothing."
-abbrev pub sealed : Machine → ℕ → Bool
-sealed m q = within (m .«seal_start») (m .«seal_length») q
+-- 01: "one range of memory (start, length)"; 02, Twelve: "none to eight sealed ranges"
+pub record Range : Type 0 where
+  pub start : ℕ
+  pub size : ℕ
+
+abbrev pub range : (start size : ℕ) → Range
+range start size = record { start = start; size = size }
+
+-- a byte is sealed if one of the ranges has it; "length 0 seals nothing"
+abbrev pub sealed : List Range → ℕ → Bool
+sealed [] q = false
+sealed (r ∷ rs) q = within (r .start) (r .size) q || sealed rs q
 
 -- ---- parameters
 
--- what a machine keeps from its start on: the rows of its registers, the bytes of a tile register's row, ELEN, its choice of
--- sizes (from the maximum and what is asked), and which bytes of memory are sealed
+-- what a machine keeps from its start on: the rows of its registers, the bytes of a tile register's row, ELEN, and its choice of
+-- sizes (from the maximum and what is asked)
 pub record Parameters : Type 0 where
   pub rows : ℕ
   pub pitch : ℕ
   pub elen : ℕ
   pub grant : ℕ → ℕ → ℕ
-  pub isSealed : ℕ → Bool
 
 -- "Eight tile registers of MLEN bits have MLEN/RLEN rows of RLEN/8 bytes."
-abbrev pub parametersOf : (ℕ → ℕ → ℕ) → (rlen mlen elen : ℕ) → (ℕ → Bool) → Parameters
-parametersOf grant rlen mlen elen isSealed = record {
+abbrev pub parametersOf : (ℕ → ℕ → ℕ) → (rlen mlen elen : ℕ) → Parameters
+parametersOf grant rlen mlen elen = record {
   rows = mlen / rlen;
   pitch = rlen / 8;
   elen = elen;
   grant = grant;
-  isSealed = isSealed;
 }
 
 -- under a choice of sizes for each rule, of which the machine goes by its own: 02, Eight: "the size choice speaks of the rule"
 abbrev pub parameters : (ℕ → ℕ → ℕ → ℕ) → Machine → Parameters
-parameters grant m = parametersOf (grant (m .rule)) (m .rlen) (m .mlen) (m .elen) (sealed m)
+parameters grant m = parametersOf (grant (m .rule)) (m .rlen) (m .mlen) (m .elen)
 
 -- ---- state
 
@@ -79,21 +86,21 @@ machineAfter m st = record {
   «tile_m» = st .tileM;
   «tile_k» = st .tileK;
   «tile_n» = st .tileN;
-  «seal_start» = m .«seal_start»;
-  «seal_length» = m .«seal_length»;
   rule = m .rule;
   elen = m .elen;
 }
 
--- a machine with what it is lent: the register bytes, their marks, and memory, "address 0 its first byte"
+-- a machine with its sealed ranges, in order of entry, and what it is lent: the register bytes, their marks, and memory, "address 0 its
+-- first byte"
 pub record Bench : Type 0 where
   pub machine : Machine
+  pub seals : List Range
   pub registers : List ℕ
   pub marks : List ℕ
   pub memory : List ℕ
 
-abbrev pub benchOf : Machine → (registers marks memory : List ℕ) → Bench
-benchOf m registers marks memory = record { machine = m; registers = registers; marks = marks; memory = memory }
+abbrev pub benchOf : Machine → List Range → (registers marks memory : List ℕ) → Bench
+benchOf m seals registers marks memory = record { machine = m; seals = seals; registers = registers; marks = marks; memory = memory }
 
 -- ---- registers: tr0 to tr7, acc0 and acc1 one after another, row by row
 

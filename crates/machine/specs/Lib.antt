@@ -10,6 +10,7 @@ pub mod Vectors
 pub mod Operation
 pub mod Refusals
 pub mod Faults
+pub mod Sealing
 pub mod Step
 -- Machines that differ at most in unmarked register bytes, of which 02 speaks.
 pub mod Alike
@@ -18,3 +19,4 @@ pub mod Theorems
 pub mod WordTheorems
 pub mod Examples
 pub mod MoveExamples
+pub mod SealExamples

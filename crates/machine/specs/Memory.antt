@@ -7,7 +7,6 @@ use lib.IntN.{ℤ, pos, negsuc, _+ℤ_, _*ℤ_}
 use Rattle.width.specs.Reduce.{signed}
 use Rattle.width.specs.Tile.{byteOf}
 use Rattle.machine.specs.Tests.{all, first, within}
-use Rattle.machine.specs.Geometry.{Parameters}
 
 -- "Row i lies at rs1 + i x rs2, with rs1 unsigned and rs2 a signed 64-bit stride, as whole numbers that don't wrap."
 abbrev pub rowZ : ℕ → ℕ → ℕ → ℤ
@@ -41,14 +40,6 @@ rowsMiss those base stride rows n = all rows (λ i. misses those (rowAt base str
 -- 02, Seven: no "byte belongs to two rows", each of n bytes; a row of no byte shares none. Answer 9 reads it of C's rows too
 unfoldable pub distinct : (ℕ → ℕ) → (rows n : ℕ) → Bool
 distinct at rows n = all rows (λ k. all k (λ i. misses (within (at k) n) (at i) n))
-
--- none of the n bytes from p on is sealed
-abbrev pub clear : Parameters → (p n : ℕ) → Bool
-clear M p n = misses (M .isSealed) p n
-
--- no byte of a row is sealed
-abbrev pub unsealed : Parameters → (base stride rows n : ℕ) → Bool
-unsealed M base stride rows n = rowsMiss (M .isSealed) base stride rows n
 
 -- ---- rows stored
 

@@ -9,7 +9,7 @@ use Rattle.machine.specs.Geometry.{permitted, Bench}
 use Rattle.machine.specs.Setting.{sew, newType, legalType}
 use Rattle.machine.specs.Refusals.{marked}
 use Rattle.machine.specs.Listing.{decode, listing, others}
-use Rattle.machine.specs.Faults.{sound}
+use Rattle.machine.specs.Faults.{sound, sealsFit}
 use Rattle.machine.specs.Vectors.{vectorsOf, vectorsFit}
 use Rattle.machine.specs.Step.{VectorOutcome, vectorStep, stepWith}
 use Rattle.machine.specs.Examples.{Line, word, bench, scalars, shown, counting}
@@ -17,7 +17,7 @@ use Rattle.machine.specs.Examples.{Line, word, bench, scalars, shown, co
 -- mtype, tile_m and tile_n, with registers that count their bytes, and a vector file that counts its bytes twice
 pub lent : (t m n : ℕ) → List ℕ → Bench
 lent t m n marks =
-    let B = bench t m 0 n 0 0 1 in record { machine = B .machine; registers = counting 256 0; marks = marks; memory = B .memory }
+    let B = bench t m 0 n 0 0 1 in record { machine = B .machine; seals = B .seals; registers = counting 256 0; marks = marks; memory = B .memory }
 
 pub all : List ℕ
 all = replicate 256 1
@@ -79,7 +79,7 @@ answers =
     ∷ []
 
 pub answers-right : map (λ l. l .got) answers ≡ map (λ l. l .want) answers
-unfolding answers lent all file told rowsOut rowsIn columnsOut columnsIn word bench scalars shown counting permitted sew newType legalType marked listing others decode sound stepWith vectorsFit
+unfolding answers lent all file told rowsOut rowsIn columnsOut columnsIn word bench scalars shown counting permitted sew newType legalType marked listing others decode sound sealsFit stepWith vectorsFit
 answers-right = refl
 
 pub moved : List Line
@@ -99,23 +99,24 @@ moved =
     ∷ []
 
 pub moved-right : map (λ l. l .got) moved ≡ map (λ l. l .want) moved
-unfolding moved lent all file told rowsOut rowsIn columnsOut columnsIn word bench scalars shown counting permitted sew newType legalType marked listing others decode sound stepWith vectorsFit putTile putRow putLe markTile markRow
+unfolding moved lent all file told rowsOut rowsIn columnsOut columnsIn word bench scalars shown counting permitted sew newType legalType marked listing others decode sound sealsFit stepWith vectorsFit putTile putRow putLe markTile markRow
 moved-right = refl
 
 -- "one row or column that exceeds 128 bits, gets 4": RLEN 256 and MLEN 512, rows of 16 and of 17 elements of 8 bits;
 -- and at ELEN 64 of 2 and of 3 elements of 64 bits
 pub wide : (elen t n : ℕ) → Bench
 wide elen t n = record {
-  machine = record { rlen = 256; mlen = 512; mtype = t; «tile_m» = 2; «tile_k» = 0; «tile_n» = n; «seal_start» = 0; «seal_length» = 0; rule = 0; elen = elen };
+  machine = record { rlen = 256; mlen = 512; mtype = t; «tile_m» = 2; «tile_k» = 0; «tile_n» = n; rule = 0; elen = elen };
+  seals = [];
   registers = replicate 1024 5;
   marks = replicate 1024 1;
   memory = [];
 }
 
 pub wide-right : map (λ n. vectorStep (rowsOut 10 0 0) (scalars 0 0) (vectorsOf file 1) (wide 32 0 n) .answer .number) (16 ∷ 17 ∷ []) ≡ 0 ∷ 4 ∷ []
-unfolding wide file rowsOut word scalars counting permitted sew newType legalType marked listing others decode sound stepWith vectorsFit
+unfolding wide file rowsOut word scalars counting permitted sew newType legalType marked listing others decode sound sealsFit stepWith vectorsFit
 wide-right = refl
 
 pub widest-right : map (λ n. vectorStep (rowsOut 10 0 0) (scalars 0 0) (vectorsOf file 1) (wide 64 3 n) .answer .number) (2 ∷ 3 ∷ []) ≡ 0 ∷ 4 ∷ []
-unfolding wide file rowsOut word scalars counting permitted sew newType legalType marked listing others decode sound stepWith vectorsFit
+unfolding wide file rowsOut word scalars counting permitted sew newType legalType marked listing others decode sound sealsFit stepWith vectorsFit
 widest-right = refl

@@ -19,7 +19,7 @@ use Rattle.machine.specs.Tests.{all, first}
 use Rattle.machine.specs.Answers.{Check, _otherwise_}
 use Rattle.machine.specs.Geometry.{Parameters, State, registerAt, tileAt, accAt}
 use Rattle.machine.specs.Setting.{sew, maccq, mill, maximum, sizeIn}
-use Rattle.machine.specs.Memory.{rowAt, inside, distinct, unsealed}
+use Rattle.machine.specs.Memory.{rowAt, inside, distinct, rowsMiss}
 use Rattle.machine.specs.Operation.{Operation, illegal, setType, setSize, cutSize, load, store, multiply, combine, scale, floatMultiply, moveOut, moveIn, rowsOf, columnsOf, tileRows, tileCols, memoryRows, memoryCols, linesOf, lineOf, sliceAt, sliceRows, sliceCols}
 use Rattle.machine.specs.Vectors.{vectorBytes}
 
@@ -104,18 +104,18 @@ sliceFits M f first count st =
 -- 6: "an element's byte lies outside memory"; 7: "a store would write a sealed byte"; "sources go ms1, ms2, md". 02, Two: "State, marks
 -- and checks are as for the plain forms; answer 5 names row and column in the register". 02, Seven: "Refuse a store, transposed too, in
 -- which a byte belongs to two rows. .. 13, after 6 and before 7."
-abbrev pub checks : Parameters → Operation → State → List ℕ → List Check
-checks M (illegal wrong) st mem = (false otherwise wordAnswer wrong) ∷ []
-checks M (setType v) st mem = []
-checks M (setSize d a) st mem = typed st ∷ []
-checks M (cutSize d) st mem = typed st ∷ []
-checks M (load f k r w base stride) st mem =
+abbrev pub checks : Parameters → (ℕ → Bool) → Operation → State → List ℕ → List Check
+checks M isSealed (illegal wrong) st mem = (false otherwise wordAnswer wrong) ∷ []
+checks M isSealed (setType v) st mem = []
+checks M isSealed (setSize d a) st mem = typed st ∷ []
+checks M isSealed (cutSize d) st mem = typed st ∷ []
+checks M isSealed (load f k r w base stride) st mem =
     typed st
     ∷ (widthOf (M .elen) (st .mtype) k w otherwise BadWidth)
     ∷ fitting M st (rowsOf k)
     ∷ fitting M st (columnsOf k)
     ∷ (inside (length mem) base stride (memoryRows f (tileRows st k) (tileCols st k)) (memoryCols f (tileRows st k) (tileCols st k) * w) otherwise OutsideMemory) ∷ []
-checks M (store f k r w base stride) st mem =
+checks M isSealed (store f k r w base stride) st mem =
     typed st
     ∷ (widthOf (M .elen) (st .mtype) k w otherwise BadWidth)
     ∷ fitting M st (rowsOf k)
@@ -123,12 +123,12 @@ checks M (store f k r w base stride) st mem =
     ∷ needs false (st .marks) (registerAt M k r) (tileRows st k) (tileCols st k) w
     ∷ (inside (length mem) base stride (memoryRows f (tileRows st k) (tileCols st k)) (memoryCols f (tileRows st k) (tileCols st k) * w) otherwise OutsideMemory)
     ∷ (distinct (rowAt base stride) (memoryRows f (tileRows st k) (tileCols st k)) (memoryCols f (tileRows st k) (tileCols st k) * w) otherwise RowsOverlap)
-    ∷ (unsealed M base stride (memoryRows f (tileRows st k) (tileCols st k)) (memoryCols f (tileRows st k) (tileCols st k) * w) otherwise SealedByte) ∷ []
-checks M (multiply f d a b) st mem =
+    ∷ (rowsMiss isSealed base stride (memoryRows f (tileRows st k) (tileCols st k)) (memoryCols f (tileRows st k) (tileCols st k) * w) otherwise SealedByte) ∷ []
+checks M isSealed (multiply f d a b) st mem =
     typed st
     ∷ (widthOk (M .elen) (st .mtype) f otherwise BadWidth)
     ∷ multiplyReads M f d a b st
-checks M (combine o f d a) st mem =
+checks M isSealed (combine o f d a) st mem =
     typed st
     ∷ (widthOk (M .elen) (st .mtype) f otherwise BadWidth)
     ∷ fitting M st DimensionM
@@ -136,19 +136,19 @@ checks M (combine o f d a) st mem =
     ∷ needs false (st .marks) (accAt M a) (st .tileM) (st .tileN) (sew (st .mtype))
     ∷ needs false (st .marks) (accAt M d) (st .tileM) (st .tileN) (f * sew (st .mtype)) ∷ []
 -- "If that multiplier is 0, ms1 isn't read and need not be written."
-checks M (scale f d a x) st mem =
+checks M isSealed (scale f d a x) st mem =
     typed st
     ∷ (widthOk (M .elen) (st .mtype) f otherwise BadWidth)
     ∷ fitting M st DimensionM
     ∷ fitting M st DimensionN
     ∷ needs (isZero x) (st .marks) (accAt M a) (st .tileM) (st .tileN) (sew (st .mtype)) ∷ []
 -- 02, Eleven: what is moved out was written; a move in writes
-checks M (moveOut f a v first count) st mem =
+checks M isSealed (moveOut f a v first count) st mem =
     sliceFits M f first count st
     ++ (sliceNeeds f first (st .marks) (sliceAt M f a first (sew (st .mtype))) (sliceRows f st count) (sliceCols f st count) (sew (st .mtype)) ∷ [])
-checks M (moveIn f d v first count file) st mem = sliceFits M f first count st
+checks M isSealed (moveIn f d v first count file) st mem = sliceFits M f first count st
 -- 02, Four: "a SEW other than 32 gets 3"; all else as for mma.mm
-checks M (floatMultiply d a b) st mem =
+checks M isSealed (floatMultiply d a b) st mem =
     typed st
     ∷ (eqb (8 * sew (st .mtype)) 32 otherwise BadWidth)
     ∷ multiplyReads M 1 d a b st

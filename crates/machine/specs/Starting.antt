@@ -1,16 +1,17 @@
--- 01, "What a machine is": starting a machine.
-use mathlib.Core.Bool.{Bool, cond}
+-- 01, "What a machine is", and 02, Twelve: starting a machine.
+use mathlib.Core.Bool.{Bool, true, cond, _&&_}
 use mathlib.Core.List.{List, [], _∷_}
-use Prim.Native.Nat.{ℕ, _+_, _-_, _^_}
+use Prim.Native.Nat.{ℕ, _+_, _-_, _%_, _^_}
 use lib.ListN.{length, replicate}
 use lib.Dec.{leb, eqb}
 use Rattle.machine.specs.declared.Machine.{Machine}
-use Rattle.machine.specs.declared.Answer.the-variants.{Done, BadArguments}
+use Rattle.machine.specs.declared.Answer.the-variants.{BadArguments, TooManySeals}
 use Rattle.machine.specs.declared.Started.{Started}
 use Rattle.machine.specs.Tests.{every}
+use Rattle.machine.specs.declared.Answer.{Answer}
 use Rattle.machine.specs.declared.Reply.{Reply}
-use Rattle.machine.specs.Answers.{reply}
-use Rattle.machine.specs.Geometry.{permitted, registerBytes}
+use Rattle.machine.specs.Answers.{reply, isDone, Check, _otherwise_, verdict}
+use Rattle.machine.specs.Geometry.{Range, range, permitted, registerBytes}
 
 -- 02, Eight: "one of two rules, 0 as before or 1 halving"
 abbrev pub isRule : ℕ → Bool
@@ -20,31 +21,50 @@ isRule rule = leb rule 1
 abbrev pub sealEnds : (start size : ℕ) → Bool
 sealEnds start size = leb (start + size) (2 ^ 64 - 1)
 
+-- none of these does
+abbrev pub sealsEnd : List Range → Bool
+sealsEnd [] = true
+sealsEnd (r ∷ rs) = sealEnds (r .start) (r .size) && sealsEnd rs
+
+-- 02, Twelve: "none to eight sealed ranges"
+abbrev pub mostSeals : ℕ
+mostSeals = 8
+
+-- the ranges that a start is given in numbers, start and length of each in turn
+abbrev pub ranges : List ℕ → List Range
+ranges [] = []
+ranges (start ∷ []) = []
+ranges (start ∷ size ∷ rest) = range start size ∷ ranges rest
+
+-- numbers in pairs
+abbrev pub paired : List ℕ → Bool
+paired numbers = eqb (length numbers % 2) 0
+
 -- "Starting a machine gives 8 for the same RLEN, MLEN and buffer faults, and for a seal whose end exceeds 2^64 - 1", and, 02, Eight,
--- for "an unknown rule", and, 02, Ten, for "an ELEN other than 32 or 64, or not below RLEN": none of these
-unfoldable pub startable : (rlen mlen elen rule sealStart sealLength : ℕ) → (registers marks : List ℕ) → Bool
-startable rlen mlen elen rule sealStart sealLength registers marks = every (
+-- for "an unknown rule", and, 02, Ten, for "an ELEN other than 32 or 64, or not below RLEN": none of these. A range beyond the ninth is
+-- tested too; a number too many is no range
+unfoldable pub startable : (rlen mlen elen rule : ℕ) → (seals registers marks : List ℕ) → Bool
+startable rlen mlen elen rule seals registers marks = every (
     permitted rlen mlen elen
     ∷ eqb (length registers) (registerBytes mlen)
     ∷ eqb (length marks) (registerBytes mlen)
     ∷ isRule rule
-    ∷ sealEnds sealStart sealLength ∷ [])
+    ∷ paired seals
+    ∷ sealsEnd (ranges seals) ∷ [])
 
 -- the numbers of no machine: what a refused start returns
 abbrev pub noMachine : Machine
-noMachine = record { rlen = 0; mlen = 0; mtype = 0; «tile_m» = 0; «tile_k» = 0; «tile_n» = 0; «seal_start» = 0; «seal_length» = 0; rule = 0; elen = 0 }
+noMachine = record { rlen = 0; mlen = 0; mtype = 0; «tile_m» = 0; «tile_k» = 0; «tile_n» = 0; rule = 0; elen = 0 }
 
 -- "Starting sets .. all tile sizes and mtype to 0"
-abbrev pub freshMachine : (rlen mlen elen rule sealStart sealLength : ℕ) → Machine
-freshMachine rlen mlen elen rule sealStart sealLength = record {
+abbrev pub freshMachine : (rlen mlen elen rule : ℕ) → Machine
+freshMachine rlen mlen elen rule = record {
   rlen = rlen;
   mlen = mlen;
   mtype = 0;
   «tile_m» = 0;
   «tile_k» = 0;
   «tile_n» = 0;
-  «seal_start» = sealStart;
-  «seal_length» = sealLength;
   rule = rule;
   elen = elen;
 }
@@ -53,16 +73,30 @@ freshMachine rlen mlen elen rule sealStart sealLength = record {
 pub record StartOutcome : Type 0 where
   pub answer : Reply
   pub machine : Machine
+  pub seals : List Range
   pub registers : List ℕ
   pub marks : List ℕ
 
--- "Starting sets every mark to 0 .. and leaves the register bytes as they were lent."
-unfoldable pub startMachine : (rlen mlen elen rule sealStart sealLength : ℕ) → (registers marks : List ℕ) → StartOutcome
-startMachine rlen mlen elen rule sealStart sealLength registers marks =
-    cond (startable rlen mlen elen rule sealStart sealLength registers marks)
-    (record { answer = reply Done; machine = freshMachine rlen mlen elen rule sealStart sealLength; registers = registers; marks = replicate (length marks) 0 })
-    (record { answer = reply BadArguments; machine = noMachine; registers = registers; marks = marks })
+-- 8, then 16: 02, Twelve: "a ninth range gets 16, at the start too; a range whose end exceeds 2^64 - 1 gets 8, which comes first"
+abbrev pub startChecks : (rlen mlen elen rule : ℕ) → (seals registers marks : List ℕ) → List Check
+startChecks rlen mlen elen rule seals registers marks =
+    (startable rlen mlen elen rule seals registers marks otherwise BadArguments)
+    ∷ (leb (length (ranges seals)) mostSeals otherwise TooManySeals) ∷ []
 
--- what the function `start` returned and left
-abbrev pub startedAs : Started → (registers marks : List ℕ) → StartOutcome
-startedAs r registers marks = record { answer = reply (r .answer); machine = r .machine; registers = registers; marks = marks }
+-- a machine holds the ranges that it is started with, in order of entry; one that is not started holds none
+abbrev pub startedAs : Started → (seals registers marks : List ℕ) → StartOutcome
+startedAs r seals registers marks = record {
+  answer = reply (r .answer);
+  machine = r .machine;
+  seals = cond (isDone (r .answer)) (ranges seals) [];
+  registers = registers;
+  marks = marks;
+}
+
+-- "Starting sets every mark to 0 .. and leaves the register bytes as they were lent."
+unfoldable pub startMachine : (rlen mlen elen rule : ℕ) → (seals registers marks : List ℕ) → StartOutcome
+startMachine rlen mlen elen rule seals registers marks =
+    let a : Answer = verdict (startChecks rlen mlen elen rule seals registers marks) in
+    cond (isDone a)
+    (startedAs (record { answer = a; machine = freshMachine rlen mlen elen rule }) seals registers (replicate (length marks) 0))
+    (startedAs (record { answer = a; machine = noMachine }) seals registers marks)

@@ -10,7 +10,7 @@ use Rattle.machine.specs.declared.Instruction.{Instruction}
 use Rattle.machine.specs.declared.Instruction.the-variants.{Illegal, SetTypeImmediate, SetType, SetTileImmediate, SetTile, Load, Store, Multiply, Combine, Scale, ScaleImmediate, FloatMultiply, MoveOut, MoveIn}
 use Rattle.machine.specs.declared.Reply.{Reply}
 use Rattle.machine.specs.Answers.{reply, Check, _otherwise_, verdict, isDone}
-use Rattle.machine.specs.Geometry.{Parameters, parameters, State, stateOf, machineAfter, Bench, benchOf, withScalar}
+use Rattle.machine.specs.Geometry.{Range, sealed, Parameters, parameters, State, stateOf, machineAfter, Bench, benchOf, withScalar}
 use Rattle.machine.specs.Setting.{chosen}
 use Rattle.machine.specs.Listing.{decode}
 use Rattle.machine.specs.Vectors.{Vectors, vectorsFit, idle}
@@ -65,7 +65,7 @@ module _ (W : Vectors) (M : Parameters) (i : Instruction) (xs : List ℕ) (B : B
   checksIn =
       (soundBench B otherwise BadArguments)
       ∷ (thirtyTwo xs otherwise BadArguments)
-      ∷ checks M meantIn givenIn (B .memory)
+      ∷ checks M (sealed (B .seals)) meantIn givenIn (B .memory)
 
   abbrev pub leftIn : State
   leftIn = stateAfter M meantIn givenIn (B .memory)
@@ -73,7 +73,7 @@ module _ (W : Vectors) (M : Parameters) (i : Instruction) (xs : List ℕ) (B : B
   abbrev pub carriedIn : Outcome
   carriedIn = record {
     answer = reply Done;
-    bench = benchOf (machineAfter (B .machine) leftIn) (leftIn .regs) (leftIn .marks) (memoryAfter M meantIn givenIn (B .memory));
+    bench = benchOf (machineAfter (B .machine) leftIn) (B .seals) (leftIn .regs) (leftIn .marks) (memoryAfter M meantIn givenIn (B .memory));
     scalars = withScalar xs (destination i) (resultOf meantIn leftIn);
   }
 
@@ -130,12 +130,12 @@ abbrev pub step : ℕ → List ℕ → Bench → Outcome
 step = stepBy chosen
 
 -- what the function `step` returned and left
-abbrev pub steppedAs : Stepped → (registers marks scalars memory : List ℕ) → Outcome
-steppedAs r registers marks scalars memory = record {
+abbrev pub steppedAs : Stepped → List Range → (registers marks scalars memory : List ℕ) → Outcome
+steppedAs r seals registers marks scalars memory = record {
   answer = reply (r .answer);
-  bench = benchOf (r .machine) registers marks memory;
+  bench = benchOf (r .machine) seals registers marks memory;
   scalars = scalars;
 }
 
-abbrev pub vectorSteppedAs : Stepped → (registers marks scalars memory file : List ℕ) → VectorOutcome
-vectorSteppedAs r registers marks scalars memory file = beside file (steppedAs r registers marks scalars memory)
+abbrev pub vectorSteppedAs : Stepped → List Range → (registers marks scalars memory file : List ℕ) → VectorOutcome
+vectorSteppedAs r seals registers marks scalars memory file = beside file (steppedAs r seals registers marks scalars memory)

@@ -1,7 +1,7 @@
 -- What is proved of these definitions, for every choice of sizes (one for each rule), state and word. The proofs stand in proofs/.
 use mathlib.Core.Path.{_≡_}
 use mathlib.Core.Bool.{true}
-use mathlib.Core.List.{List, [], _∷_}
+use mathlib.Core.List.{List, [], _∷_, _++_}
 use Prim.Native.Nat.{ℕ, _+_, _*_, _≤_, _<_}
 use lib.ListN.{length, getD}
 use lib.IntN.{pos}
@@ -10,10 +10,11 @@ use Rattle.width.specs.Blocks.{EachGrants}
 use Rattle.machine.specs.declared.Form.{Form}
 use Rattle.machine.specs.declared.Matrix.{Matrix}
 use Rattle.machine.specs.declared.Instruction.the-variants.{Store}
-use Rattle.machine.specs.Geometry.{parameters, State, stateOf, registerAt, scalar, Bench, benchOf, sealed}
+use Rattle.machine.specs.Geometry.{Range, parameters, State, stateOf, registerAt, scalar, Bench, benchOf, sealed}
 use Rattle.machine.specs.Setting.{chosen}
-use Rattle.machine.specs.Starting.{startMachine}
+use Rattle.machine.specs.Starting.{ranges, startMachine}
 use Rattle.machine.specs.Faults.{soundBench}
+use Rattle.machine.specs.Sealing.{addSeal}
 use Rattle.machine.specs.Listing.{decode}
 use Rattle.machine.specs.Memory.{rowZ, rowAt}
 use Rattle.machine.specs.Operation.{element, placed, tileRows, tileCols, memoryRows, memoryCols}
@@ -21,9 +22,9 @@ use Rattle.machine.specs.Vectors.{Vectors}
 use Rattle.machine.specs.Step.{stepWith}
 
 -- a bench as a start leaves it, with a memory
-abbrev pub startedBench : (rlen mlen elen rule sealStart sealLength : ℕ) (registers marks memory : List ℕ) → Bench
-startedBench rlen mlen elen rule sealStart sealLength registers marks memory =
-    let s = startMachine rlen mlen elen rule sealStart sealLength registers marks in benchOf (s .machine) (s .registers) (s .marks) memory
+abbrev pub startedBench : (rlen mlen elen rule : ℕ) (seals registers marks memory : List ℕ) → Bench
+startedBench rlen mlen elen rule seals registers marks memory =
+    let s = startMachine rlen mlen elen rule seals registers marks in benchOf (s .machine) (s .seals) (s .registers) (s .marks) memory
 
 -- ---- the choice of sizes
 
@@ -40,10 +41,14 @@ RefusalChangesNothing = (grant : ℕ → ℕ → ℕ → ℕ) (word : ℕ) (xs :
 
 -- and so of a start
 abbrev pub StartRefusalChangesNothing : Type 0
-StartRefusalChangesNothing = (rlen mlen elen rule sealStart sealLength : ℕ) (registers marks : List ℕ)
-    → ¬ (startMachine rlen mlen elen rule sealStart sealLength registers marks .answer .number ≡ 0)
-    → (startMachine rlen mlen elen rule sealStart sealLength registers marks .registers ≡ registers)
-    × (startMachine rlen mlen elen rule sealStart sealLength registers marks .marks ≡ marks)
+StartRefusalChangesNothing = (rlen mlen elen rule : ℕ) (seals registers marks : List ℕ)
+    → ¬ (startMachine rlen mlen elen rule seals registers marks .answer .number ≡ 0)
+    → (startMachine rlen mlen elen rule seals registers marks .registers ≡ registers)
+    × (startMachine rlen mlen elen rule seals registers marks .marks ≡ marks)
+
+-- and of adding a range
+abbrev pub SealRefusalChangesNothing : Type 0
+SealRefusalChangesNothing = (start size : ℕ) (B : Bench) → ¬ (addSeal start size B .answer .number ≡ 0) → addSeal start size B .bench ≡ B
 
 -- ---- states that are not at fault
 
@@ -56,11 +61,15 @@ StepKeepsSound = (grant : ℕ → ℕ → ℕ → ℕ) → EachGrants grant → 
 abbrev pub StepKeepsFile : Type 0
 StepKeepsFile = (grant : ℕ → ℕ → ℕ → ℕ) (word : ℕ) (xs : List ℕ) (W : Vectors) (B : Bench) → length (stepWith grant word xs W B .vectors) ≡ length (W .file)
 
+-- and so does adding a range
+abbrev pub SealKeepsSound : Type 0
+SealKeepsSound = (start size : ℕ) (B : Bench) → soundBench B ≡ true → soundBench (addSeal start size B .bench) ≡ true
+
 -- and so does a start, whatever memory is lent
 abbrev pub StartIsSound : Type 0
-StartIsSound = (rlen mlen elen rule sealStart sealLength : ℕ) (registers marks memory : List ℕ)
-    → startMachine rlen mlen elen rule sealStart sealLength registers marks .answer .number ≡ 0
-    → soundBench (startedBench rlen mlen elen rule sealStart sealLength registers marks memory) ≡ true
+StartIsSound = (rlen mlen elen rule : ℕ) (seals registers marks memory : List ℕ)
+    → startMachine rlen mlen elen rule seals registers marks .answer .number ≡ 0
+    → soundBench (startedBench rlen mlen elen rule seals registers marks memory) ≡ true
 
 -- ---- stores
 
@@ -109,19 +118,25 @@ abbrev pub afterAll : (ℕ → ℕ → ℕ → ℕ) → List Given → Bench →
 afterAll grant [] B = B
 afterAll grant (w ∷ ws) B = afterAll grant ws (stepWith grant (w .word) (w .scalars) (w .vectors) B .bench)
 
--- the seal stays, the memory keeps its length, and no sealed byte changes
+-- 02, Twelve: ranges are "never taken off", and stay in order of entry: those of before come first
+pub record Extends (before after : List Range) : Type 0 where
+  pub added : List Range
+  pub behind : after ≡ before ++ added
+
+-- every range stays, the memory keeps its length, and no byte that was sealed changes
 pub record Unharmed (grant : ℕ → ℕ → ℕ → ℕ) (B B′ : Bench) : Type 0 where
   pub same-parameters : parameters grant (B′ .machine) ≡ parameters grant (B .machine)
+  pub ranges-stay : Extends (B .seals) (B′ .seals)
   pub same-length : length (B′ .memory) ≡ length (B .memory)
-  pub same-bytes : (q : ℕ) → sealed (B .machine) q ≡ true → getD (B′ .memory) q 0 ≡ getD (B .memory) q 0
+  pub same-bytes : (q : ℕ) → sealed (B .seals) q ≡ true → getD (B′ .memory) q 0 ≡ getD (B .memory) q 0
 
--- Demand 2: no byte of the seal changes, whatever words are stepped
+-- Demand 2: no sealed byte changes, whatever words are stepped
 abbrev pub SealHolds : Type 0
 SealHolds = (grant : ℕ → ℕ → ℕ → ℕ) (ws : List Given) (B : Bench) → Unharmed grant B (afterAll grant ws B)
 
--- and from a started machine: each byte of the range that it was started with
+-- and from a started machine: each byte of the ranges that it was started with
 abbrev pub SealHoldsFromStart : Type 0
-SealHoldsFromStart = (rlen mlen elen rule sealStart sealLength : ℕ) (registers marks memory : List ℕ)
-    → startMachine rlen mlen elen rule sealStart sealLength registers marks .answer .number ≡ 0
-    → (ws : List Given) (q : ℕ) → In sealStart sealLength q
-    → getD (afterAll chosen ws (startedBench rlen mlen elen rule sealStart sealLength registers marks memory) .memory) q 0 ≡ getD memory q 0
+SealHoldsFromStart = (rlen mlen elen rule : ℕ) (seals registers marks memory : List ℕ)
+    → startMachine rlen mlen elen rule seals registers marks .answer .number ≡ 0
+    → (ws : List Given) (q : ℕ) → sealed (ranges seals) q ≡ true
+    → getD (afterAll chosen ws (startedBench rlen mlen elen rule seals registers marks memory) .memory) q 0 ≡ getD memory q 0

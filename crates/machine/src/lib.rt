@@ -8,10 +8,10 @@ ghost use Rattle.machine.specs.Tests.{isIn};
 ghost use Rattle.machine.specs.Answers.{bare, reply, isDone};
 ghost use Rattle.machine.specs.Geometry.{permitted, rlens, mlens, elens};
 ghost use Rattle.machine.specs.Setting.{chosen};
-ghost use Rattle.machine.specs.Starting.{isRule, sealEnds, startable, startMachine, startedAs, noMachine, freshMachine};
+ghost use Rattle.machine.specs.Starting.{isRule, sealEnds, sealsEnd, ranges, startable, startMachine, startedAs, noMachine, freshMachine};
 
-// The machine's numbers: its lengths in bits, mtype, the tile sizes, the sealed range of memory, the rule by which it chooses sizes, and
-// ELEN, the widest element in bits.
+// The machine's numbers: its lengths in bits, mtype, the tile sizes, the rule by which it chooses sizes, and ELEN, the widest element in
+// bits. Its sealed ranges are lent beside it.
 pub struct Machine {
     pub rlen: u64,
     pub mlen: u64,
@@ -19,8 +19,6 @@ pub struct Machine {
     pub tile_m: u64,
     pub tile_k: u64,
     pub tile_n: u64,
-    pub seal_start: u64,
-    pub seal_length: u64,
     pub rule: u64,
     pub elen: u64,
 }
@@ -41,6 +39,7 @@ pub enum Answer {
     LeftOutWord,
     WrongRegister,
     RowsOverlap,
+    TooManySeals,
 }
 
 // An answer's number, and the row and column that it names; 0 where it names none.
@@ -220,6 +219,7 @@ pub fn reply_of(answer: Answer) -> Reply
         Answer::LeftOutWord => bare(11),
         Answer::WrongRegister => bare(12),
         Answer::RowsOverlap => bare(13),
+        Answer::TooManySeals => bare(16),
     }
 }
 
@@ -290,6 +290,20 @@ pub fn seal_ends(start: u64, length: u64) -> bool
     length <= 18446744073709551615 - start
 }
 
+// Whether the ranges in these numbers, start and length of each in turn, all end so.
+fn seals_end(seals: &[u64]) -> bool
+    ensures { λ r. ⌜ r ≡ sealsEnd (ranges (now (seals .entry))) ⌝ }
+{
+    let mut i = 0;
+    while seals.len() - i >= 2 {
+        if !seal_ends(seals[i], seals[i + 1]) {
+            return false;
+        }
+        i += 2;
+    }
+    true
+}
+
 // The smaller of two numbers.
 pub fn smaller(a: u64, b: u64) -> u64
     ensures { λ r. ⌜ r ≡ min a b ⌝ }
@@ -341,22 +355,13 @@ fn no_machine() -> Machine
         tile_m: 0,
         tile_k: 0,
         tile_n: 0,
-        seal_start: 0,
-        seal_length: 0,
         rule: 0,
         elen: 0,
     }
 }
 
-fn fresh_machine(
-    rlen: u64,
-    mlen: u64,
-    elen: u64,
-    rule: u64,
-    seal_start: u64,
-    seal_length: u64,
-) -> Machine
-    ensures { λ r. ⌜ r ≡ freshMachine rlen mlen elen rule «seal_start» «seal_length» ⌝ }
+fn fresh_machine(rlen: u64, mlen: u64, elen: u64, rule: u64) -> Machine
+    ensures { λ r. ⌜ r ≡ freshMachine rlen mlen elen rule ⌝ }
 {
     Machine {
         rlen: rlen,
@@ -365,25 +370,23 @@ fn fresh_machine(
         tile_m: 0,
         tile_k: 0,
         tile_n: 0,
-        seal_start: seal_start,
-        seal_length: seal_length,
         rule: rule,
         elen: elen,
     }
 }
 
-// Whether a machine of these lengths and this ELEN can be started on so many register bytes and marks, with this rule and this seal.
+// Whether a machine of these lengths and this ELEN can be started on so many register bytes and marks, with this rule and these ranges,
+// but for their number.
 fn is_startable(
     rlen: u64,
     mlen: u64,
     elen: u64,
     rule: u64,
-    seal_start: u64,
-    seal_length: u64,
+    seals: &[u64],
     registers: &[u8],
     marks: &[u8],
 ) -> bool
-    ensures { λ r. ⌜ r ≡ startable rlen mlen elen rule «seal_start» «seal_length» (now (registers .entry)) (now (marks .entry)) ⌝ }
+    ensures { λ r. ⌜ r ≡ startable rlen mlen elen rule (now (seals .entry)) (now (registers .entry)) (now (marks .entry)) ⌝ }
 {
     if !permitted_lengths(rlen, mlen, elen) {
         return false;
@@ -397,41 +400,41 @@ fn is_startable(
     if !is_rule(rule) {
         return false;
     }
-    seal_ends(seal_start, seal_length)
+    if seals.len() % 2 != 0 {
+        return false;
+    }
+    seals_end(seals)
 }
 
-// Starts a machine on the lent register bytes and marks, with an ELEN, a rule and a sealed range of memory. Refused, it changes nothing.
+// Starts a machine on the lent register bytes and marks, with an ELEN, a rule and sealed ranges of memory, start and length of each in
+// turn. Refused, it changes nothing.
 pub fn start(
     rlen: u64,
     mlen: u64,
     elen: u64,
     rule: u64,
-    seal_start: u64,
-    seal_length: u64,
+    seals: &[u64],
     registers: &[u8],
     marks: &mut [u8],
 ) -> Started
-    ensures { λ r. ⌜ startedAs r (now (registers .entry)) (now (marks .exit))
-        ≡ startMachine rlen mlen elen rule «seal_start» «seal_length» (now (registers .entry)) (now (marks .entry)) ⌝ }
+    ensures { λ r. ⌜ startedAs r (now (seals .entry)) (now (registers .entry)) (now (marks .exit))
+        ≡ startMachine rlen mlen elen rule (now (seals .entry)) (now (registers .entry)) (now (marks .entry)) ⌝ }
 {
-    if !is_startable(
-        rlen,
-        mlen,
-        elen,
-        rule,
-        seal_start,
-        seal_length,
-        registers,
-        marks,
-    ) {
+    if !is_startable(rlen, mlen, elen, rule, seals, registers, marks) {
         return Started {
             answer: Answer::BadArguments,
+            machine: no_machine(),
+        };
+    }
+    if seals.len() > 16 {
+        return Started {
+            answer: Answer::TooManySeals,
             machine: no_machine(),
         };
     }
     clear(marks);
     Started {
         answer: Answer::Done,
-        machine: fresh_machine(rlen, mlen, elen, rule, seal_start, seal_length),
+        machine: fresh_machine(rlen, mlen, elen, rule),
     }
 }

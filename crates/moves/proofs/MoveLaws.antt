@@ -72,7 +72,7 @@ module _ (m : Machine) (regs marks : List ℕ) (f : Form) (r v first count : ℕ
   module _ (file : List ℕ) where
     pub out-refused : (a : Answer) → a ≡ verdict fits → isDone a ≡ false → MovesOut m outward regs marks file a file
     out-refused a e d = record {
-      answer-is = part-refused (sliceFits M f first count st) rest refl a (e ∙ ap verdict fits-is) d;
+      answer-is = λ z. part-refused (sliceFits M f first count st) rest refl a (e ∙ ap verdict fits-is) d;
       vectors-are = rw d;
     }
 
@@ -81,8 +81,8 @@ module _ (m : Machine) (regs marks : List ℕ) (f : Form) (r v first count : ℕ
       five-here =
           ap (λ (p : Placed). verdict (five p w)) e ∙ ap (λ (w : ℕ). verdict (five (here w) w)) ew ∙ ap verdict five-is
 
-      told : (a : Answer) → a ≡ verdict (five p w) → a ≡ verdict (checks M outward st [])
-      told a ea = part-passed (sliceFits M f first count st) rest refl (fits-done d) a (ea ∙ five-here)
+      told : (a : Answer) → a ≡ verdict (five p w) → (z : ℕ → Bool) → a ≡ verdict (checks M z outward st [])
+      told a ea z = part-passed (sliceFits M f first count st) rest refl (fits-done d) a (ea ∙ five-here)
 
       pub out-unmarked : (a : Answer) → a ≡ verdict (five p w) → isDone a ≡ false → MovesOut m outward regs marks file a file
       out-unmarked a ea n = record { answer-is = told a ea; vectors-are = rw n }
@@ -105,7 +105,7 @@ module _ (m : Machine) (regs marks : List ℕ) (f : Form) (r v first count : ℕ
     inward = Operation.moveIn f r v first count file
 
     pub in-refused : (a : Answer) → a ≡ verdict fits → isDone a ≡ false → MovesIn m inward regs marks a regs marks
-    in-refused a e d = record { answer-is = e ∙ ap verdict fits-is; registers-are = rw d; marks-are = rw d }
+    in-refused a e d = record { answer-is = λ z. e ∙ ap verdict fits-is; registers-are = rw d; marks-are = rw d }
 
     module _ (w : ℕ) (ew : w ≡ sew (m .mtype)) (p : Placed) (e : p ≡ here w) where
       pub in-done : Done ≡ verdict fits → (regs′ marks′ : List ℕ)
@@ -113,7 +113,7 @@ module _ (m : Machine) (regs marks : List ℕ) (f : Form) (r v first count : ℕ
           → marks′ ≡ markTile (λ i. p .start + i * p .pitch) (p .rows) (p .columns * w) marks
           → MovesIn m inward regs marks Done regs′ marks′
       in-done ea regs′ marks′ er em = record {
-        answer-is = ea ∙ ap verdict fits-is;
+        answer-is = λ z. ea ∙ ap verdict fits-is;
         registers-are =
             er
             ∙ ap (λ (p : Placed). putTile (λ i. p .start + i * p .pitch) (p .rows) (p .columns) w (placed f (element file (vectorAt v) w)) regs) e
@@ -130,8 +130,8 @@ module _ (m : Machine) (regs marks : List ℕ) (inward : Bool) (f : Form) (r v f
   -- a misaligned one
   pub misaligned : aligned W v ≡ false → Moves m (moved inward W f r v first) regs marks (W .file) WrongRegister regs marks (W .file)
   misaligned a = record {
-    inside = record { answer-is = rw a; registers-are = refl; marks-are = refl };
-    outside = record { answer-is = rw a; vectors-are = refl };
+    inside = record { answer-is = λ z. rw a; registers-are = refl; marks-are = refl };
+    outside = record { answer-is = λ z. rw a; vectors-are = refl };
   }
 
   -- a move in leaves the vector file

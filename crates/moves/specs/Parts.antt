@@ -32,17 +32,17 @@ moved inward W f r v first =
     (cond inward (Operation.moveIn f r v first (W .group) (W .file)) (Operation.moveOut f r v first (W .group)))
     (Operation.illegal Register)
 
--- what a move answers and leaves: out, of the vector file; in, of the registers and marks; and of all three
+-- what a move answers, whatever is sealed, and leaves: out, of the vector file; in, of the registers and marks; and of all three
 module _ (m : Machine) (o : Operation) (regs marks : List ℕ) where
   abbrev pub before : State
   before = stateOf m regs marks
 
   pub record MovesOut (file : List ℕ) (r : Answer) (file′ : List ℕ) : Type 0 where
-    pub answer-is : r ≡ verdict (checks (ours m) o before [])
+    pub answer-is : (isSealed : ℕ → Bool) → r ≡ verdict (checks (ours m) isSealed o before [])
     pub vectors-are : file′ ≡ cond (isDone r) (vectorsAfter (ours m) o before file) file
 
   pub record MovesIn (r : Answer) (regs′ marks′ : List ℕ) : Type 0 where
-    pub answer-is : r ≡ verdict (checks (ours m) o before [])
+    pub answer-is : (isSealed : ℕ → Bool) → r ≡ verdict (checks (ours m) isSealed o before [])
     pub registers-are : regs′ ≡ cond (isDone r) (stateAfter (ours m) o before [] .regs) regs
     pub marks-are : marks′ ≡ cond (isDone r) (stateAfter (ours m) o before [] .marks) marks
 

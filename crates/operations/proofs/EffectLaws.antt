@@ -73,12 +73,12 @@ module _ (m : Machine) (regs marks : List ℕ) (h : sound m regs marks ≡ true)
   marks-ready = record { of-machine = ready m regs marks h; of-length = s .state .marks-length ∙ sym (permitted-lengths (m .rlen) (m .mlen) (m .elen) (s .lengths) .2) }
 
   -- refused
-  pub arithmetic-refused : (o : Operation) (a : Answer) → a ≡ verdict (checks (ours m) o st []) → isDone a ≡ false → WritesRegisters m o regs marks [] a regs marks
+  pub arithmetic-refused : (o : Operation) (a : Answer) → ((z : ℕ → Bool) → a ≡ verdict (checks (ours m) z o st [])) → isDone a ≡ false → WritesRegisters m o regs marks [] a regs marks
   arithmetic-refused o a e d = record { answer-is = e; registers-are = rw d; marks-are = rw d }
 
-  done : (o : Operation) → isDone (verdict (checks (ours m) o st [])) ≡ true → (regs′ marks′ : List ℕ)
+  done : (o : Operation) → ((z : ℕ → Bool) → isDone (verdict (checks (ours m) z o st [])) ≡ true) → (regs′ marks′ : List ℕ)
       → regs′ ≡ stateAfter (ours m) o st [] .regs → marks′ ≡ stateAfter (ours m) o st [] .marks → WritesRegisters m o regs marks [] Done regs′ marks′
-  done o d regs′ marks′ er em = record { answer-is = sym (only-done (verdict (checks (ours m) o st [])) d); registers-are = er; marks-are = em }
+  done o d regs′ marks′ er em = record { answer-is = λ z. sym (only-done (verdict (checks (ours m) z o st [])) (d z)); registers-are = er; marks-are = em }
 
   -- a float multiply that passed has elements of four bytes
   module _ (d a b : ℕ) (p : isDone (verdict (floatChecks m marks d a b)) ≡ true) where
@@ -104,7 +104,7 @@ module _ (m : Machine) (regs marks : List ℕ) (h : sound m regs marks ≡ true)
 
     pub float-loads : (regs′ : List ℕ) → regs′ ≡ registersAfter m (Operation.floatMultiply d a b) regs → WritesRegisters m (Operation.floatMultiply d a b) regs marks [] Done regs′ marks
     float-loads regs′ er =
-        done (Operation.floatMultiply d a b) p regs′ marks er
+        done (Operation.floatMultiply d a b) (λ z. p) regs′ marks er
         (subst (λ (w : ℕ). marks ≡ markTile (accAt (ours m) d) (m .«tile_m») (m .«tile_n» * w) marks) (one-mul (sew (m .mtype)))
         (mark-again marks (accAt (ours m) d) (m .«tile_m») (m .«tile_n» * (1 * sew (m .mtype))) (passes .1 .1 .1 .1 .1 .1 .1 .0)))
 
@@ -112,8 +112,8 @@ module _ (m : Machine) (regs marks : List ℕ) (h : sound m regs marks ≡ true)
   pub product-loads : (f d a b : ℕ) → isDone (verdict (productChecks m marks f d a b)) ≡ true → (regs′ : List ℕ) → regs′ ≡ registersAfter m (Operation.multiply f d a b) regs
       → WritesRegisters m (Operation.multiply f d a b) regs marks [] Done regs′ marks
   product-loads f d a b p regs′ er =
-      done (Operation.multiply f d a b) p regs′ marks er
-      (mark-again marks (accAt (ours m) d) (m .«tile_m») (m .«tile_n» * (f * sew (m .mtype))) (passed (checks (ours m) (Operation.multiply f d a b) st []) refl p .1 .1 .1 .1 .1 .1 .1 .0))
+      done (Operation.multiply f d a b) (λ z. p) regs′ marks er
+      (mark-again marks (accAt (ours m) d) (m .«tile_m») (m .«tile_n» * (f * sew (m .mtype))) (passed (checks (ours m) (λ q. false) (Operation.multiply f d a b) st []) refl p .1 .1 .1 .1 .1 .1 .1 .0))
 
   -- a width and a factor as the code has them
   module _ (f w f′ : ℕ) (ef : f′ ≡ f) (ew : w ≡ sew (m .mtype)) where
@@ -137,7 +137,7 @@ module _ (m : Machine) (regs marks : List ℕ) (h : sound m regs marks ≡ true)
       pub product-asks : (d < 2) × ((a < 8) × (b < 8)) → Asked f′ w
       product-asks l =
           subst (λ (x : ℕ). Asked x w) (sym ef) (subst (λ (y : ℕ). Asked f y) (sym ew)
-          (multiply-ready chosen m regs marks [] h f d a b l (passed (checks (ours m) (Operation.multiply f d a b) st []) refl p)))
+          (multiply-ready chosen m regs marks [] h f d a b l (passed (checks (ours m) (λ q. false) (Operation.multiply f d a b) st []) refl p)))
 
       pub product-registers : (regs′ : List ℕ) → regs′ ≡ productTile (shape R P) (f′ * w) w d a b tm tk tn regs → regs′ ≡ registersAfter m (Operation.multiply f d a b) regs
       unfolding productTile
@@ -153,26 +153,26 @@ module _ (m : Machine) (regs marks : List ℕ) (h : sound m regs marks ≡ true)
 
     module _ (o : Sum) (d a : ℕ) (p : isDone (verdict (combineChecks m marks f d a)) ≡ true) where
       pub combine-asks : (d < 2) × (a < 2) → Elementwise d a f′ w
-      combine-asks l = elementwise-asks d a (combine-ready chosen m regs marks [] h o f d a l (passed (checks (ours m) (Operation.combine o f d a) st []) refl p))
+      combine-asks l = elementwise-asks d a (combine-ready chosen m regs marks [] h o f d a l (passed (checks (ours m) (λ q. false) (Operation.combine o f d a) st []) refl p))
 
       -- and so does an add or a subtract
       pub combine-loads : (regs′ : List ℕ) → regs′ ≡ combineTile (shape R P) o (f′ * w) w d a (m .«tile_m») (m .«tile_n») regs
           → WritesRegisters m (Operation.combine o f d a) regs marks [] Done regs′ marks
       unfolding combineTile
       combine-loads regs′ er =
-          done (Operation.combine o f d a) p regs′ marks
+          done (Operation.combine o f d a) (λ z. p) regs′ marks
           (er ∙ ap₂ (λ (x y : ℕ). combineTile (shape R P) o x y d a (m .«tile_m») (m .«tile_n») regs) wide-is ew)
-          (mark-again marks (accAt (ours m) d) (m .«tile_m») (m .«tile_n» * (f * sew (m .mtype))) (passed (checks (ours m) (Operation.combine o f d a) st []) refl p .1 .1 .1 .1 .1 .0))
+          (mark-again marks (accAt (ours m) d) (m .«tile_m») (m .«tile_n» * (f * sew (m .mtype))) (passed (checks (ours m) (λ q. false) (Operation.combine o f d a) st []) refl p .1 .1 .1 .1 .1 .0))
 
     module _ (d a x : ℕ) (p : isDone (verdict (scaleChecks m marks f a (eqb x 0))) ≡ true) where
-      checks-are : (z : ℤ) → isZero z ≡ eqb x 0 → isDone (verdict (checks (ours m) (Operation.scale f d a z) st [])) ≡ true
+      checks-are : (z : ℤ) → isZero z ≡ eqb x 0 → isDone (verdict (checks (ours m) (λ q. false) (Operation.scale f d a z) st [])) ≡ true
       checks-are z e = subst (λ (t : Bool). isDone (verdict (scaleChecks m marks f a t)) ≡ true) (sym e) p
 
       pub scale-asks : (d < 2) × (a < 2) → Elementwise d a f′ w
       scale-asks l = elementwise-asks d a (go (eqb x 0) refl)
         where
           by : (z : ℤ) → isZero z ≡ eqb x 0 → Elementwise d a f (sew (m .mtype))
-          by z e = scale-ready chosen m regs marks [] h f d a z l (passed (checks (ours m) (Operation.scale f d a z) st []) refl (checks-are z e))
+          by z e = scale-ready chosen m regs marks [] h f d a z l (passed (checks (ours m) (λ q. false) (Operation.scale f d a z) st []) refl (checks-are z e))
 
           go : (t : Bool) → eqb x 0 ≡ t → Elementwise d a f (sew (m .mtype))
           go true e = by (pos 0) (sym e)
@@ -183,10 +183,10 @@ module _ (m : Machine) (regs marks : List ℕ) (h : sound m regs marks ≡ true)
           → WritesRegisters m (Operation.scale f d a z) regs marks [] Done regs′ marks′
       unfolding scaleTile
       scale-loads z ez regs′ marks′ er em =
-          done (Operation.scale f d a z) (checks-are z ez) regs′ marks′
+          done (Operation.scale f d a z) (λ _. checks-are z ez) regs′ marks′
           (er ∙ ap₂ (λ (x y : ℕ). scaleTile (shape R P) x y d a z (m .«tile_m») (m .«tile_n») regs) wide-is ew)
           (em ∙ ap (λ (x : ℕ). markTile (accAt (ours m) d) (m .«tile_m») (m .«tile_n» * x) marks) wide-is)
 
   pub scale-refused : (f d a x : ℕ) (z : ℤ) → isZero z ≡ eqb x 0 → (r : Answer) → r ≡ verdict (scaleChecks m marks f a (eqb x 0)) → isDone r ≡ false
       → WritesRegisters m (Operation.scale f d a z) regs marks [] r regs marks
-  scale-refused f d a x z e r er h = arithmetic-refused (Operation.scale f d a z) r (er ∙ ap (λ (t : Bool). verdict (scaleChecks m marks f a t)) (sym e)) h
+  scale-refused f d a x z e r er h = arithmetic-refused (Operation.scale f d a z) r (λ _. er ∙ ap (λ (t : Bool). verdict (scaleChecks m marks f a t)) (sym e)) h

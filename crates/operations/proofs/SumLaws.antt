@@ -60,12 +60,12 @@ module _ (m : Machine) (regs marks mem : List ℕ) (h : sound m regs marks ≡ t
   pub both-keep : (at : ℕ → ℕ) (rows n : ℕ) → marked marks at rows n ≡ true → marked (after .marks) at rows n ≡ true
   both-keep at rows n k = marks-stay (between .marks) at rows n _ _ _ (marks-stay marks at rows n _ _ _ k)
 
-  module _ (da : isDone (verdict (checks (ours m) loadsA before mem)) ≡ true) (db : isDone (verdict (checks (ours m) loadsB between mem)) ≡ true) where
-    pa : Passed (checks (ours m) loadsA before mem)
-    pa = passed (checks (ours m) loadsA before mem) refl da
+  module _ (da : isDone (verdict (checks (ours m) (λ q. false) loadsA before mem)) ≡ true) (db : isDone (verdict (checks (ours m) (λ q. false) loadsB between mem)) ≡ true) where
+    pa : Passed (checks (ours m) (λ q. false) loadsA before mem)
+    pa = passed (checks (ours m) (λ q. false) loadsA before mem) refl da
 
-    pb : Passed (checks (ours m) loadsB between mem)
-    pb = passed (checks (ours m) loadsB between mem) refl db
+    pb : Passed (checks (ours m) (λ q. false) loadsB between mem)
+    pb = passed (checks (ours m) (λ q. false) loadsB between mem) refl db
 
     -- the loads have SEW
     pub width-is : w ≡ sew (m .mtype)
@@ -92,5 +92,5 @@ module _ (m : Machine) (regs marks mem : List ℕ) (h : sound m regs marks ≡ t
         (pa .1 .1 .0, (pa .1 .1 .1 .0, (pb .1 .1 .1 .0, (or-right none _ a-written, (or-right none _ b-written, (both-keep _ _ _ c, tt))))))
 
     pub product-passes : (f : ℕ) → widthOk (m .elen) (m .mtype) f ≡ true → marked marks (accAt (ours m) 0) (m .«tile_m») (m .«tile_n» * (f * sew (m .mtype))) ≡ true
-        → Passed (checks (ours m) (Operation.multiply f 0 0 1) after mem)
+        → Passed (checks (ours m) (λ q. false) (Operation.multiply f 0 0 1) after mem)
     product-passes f o c = (pa .0, (o, reads f c))

@@ -14,7 +14,7 @@ use Rattle.machine.specs.declared.Matrix.the-variants.{MatrixA, MatrixB, Matrix
 use Rattle.machine.specs.Answers.{Check, _otherwise_, verdict, isDone}
 use Rattle.machine.specs.Geometry.{State, stateOf, registerCount, registerAt, startOf, pitchOf}
 use Rattle.machine.specs.Setting.{chosen}
-use Rattle.machine.specs.Memory.{rowAt, inside, distinct, unsealed}
+use Rattle.machine.specs.Memory.{rowAt, inside, distinct, rowsMiss}
 use Rattle.machine.specs.Operation.{Operation, memoryAfter, element, placed, rowsOf, columnsOf, tileRows, tileCols, memoryRows, memoryCols}
 use Rattle.machine.specs.Refusals.{needs, typed, widthOf, fitting}
 use Rattle.machine.specs.Faults.{sound}
@@ -67,7 +67,7 @@ module _ (m : Machine) (regs marks mem : List ℕ) (f : Form) (k : Matrix) (r w 
 
   pub load-refused : (a : Answer) → a ≡ verdict (transferChecks m k w) → isDone a ≡ false → WritesRegisters m (Operation.load f k r w base stride) regs marks mem a regs marks
   load-refused a e′ d = let e : a ≡ verdict first = e′ ∙ ap verdict first-is in record {
-    answer-is = e ∙ ap (λ (t : Bool). cond t (verdict rest) (verdict first)) (sym (sym (ap isDone e) ∙ d)) ∙ sym (verdict-append first rest refl);
+    answer-is = λ z. e ∙ ap (λ (t : Bool). cond t (verdict rest) (verdict first)) (sym (sym (ap isDone e) ∙ d)) ∙ sym (verdict-append first rest refl);
     registers-are = rw d;
     marks-are = rw d;
   }
@@ -81,7 +81,7 @@ module _ (m : Machine) (regs marks mem : List ℕ) (f : Form) (k : Matrix) (r w 
       → marks′ ≡ cond (isDone a) (markTile (λ i. p .start + i * p .pitch) (p .rows) (p .columns * w) marks) marks
       → WritesRegisters m (Operation.load f k r w base stride) regs marks mem a regs′ marks′
   load-done p e′ d′ a regs′ marks′ ea er em = let d : isDone (verdict first) ≡ true = subst (λ (cs : List Check). isDone (verdict cs) ≡ true) first-is d′ in let e : p ≡ here = e′ ∙ here-is in record {
-    answer-is = ea ∙ ap (λ (p : Placed). verdict ((inside (length mem) base stride (memoryRows f (p .rows) (p .columns)) (memoryCols f (p .rows) (p .columns) * w) otherwise OutsideMemory) ∷ [])) e
+    answer-is = λ z. ea ∙ ap (λ (p : Placed). verdict ((inside (length mem) base stride (memoryRows f (p .rows) (p .columns)) (memoryCols f (p .rows) (p .columns) * w) otherwise OutsideMemory) ∷ [])) e
         ∙ ap (λ (t : Bool). cond t (verdict rest) (verdict first)) (sym d) ∙ sym (verdict-append first rest refl);
     registers-are = er ∙ ap (λ (p : Placed). cond (isDone a) (putTile (λ i. p .start + i * p .pitch) (p .rows) (p .columns) w (placed f (element mem (rowAt base stride) w)) regs) regs) e;
     marks-are = em ∙ ap (λ (p : Placed). cond (isDone a) (markTile (λ i. p .start + i * p .pitch) (p .rows) (p .columns * w) marks) marks) e;
@@ -91,35 +91,35 @@ module _ (m : Machine) (regs marks mem : List ℕ) (f : Form) (k : Matrix) (r w 
       rest = (inside (length mem) base stride (memoryRows f (tileRows st k) (tileCols st k)) (memoryCols f (tileRows st k) (tileCols st k) * w) otherwise OutsideMemory) ∷ []
 
   -- the checks of a store from answer 5 on
-  abbrev storeRest : Placed → List Check
-  storeRest p =
+  abbrev storeRest : (ℕ → Bool) → Placed → List Check
+  storeRest z p =
       needs false marks (λ i. p .start + i * p .pitch) (p .rows) (p .columns) w
       ∷ (inside (length mem) base stride (memoryRows f (p .rows) (p .columns)) (memoryCols f (p .rows) (p .columns) * w) otherwise OutsideMemory)
       ∷ (distinct (rowAt base stride) (memoryRows f (p .rows) (p .columns)) (memoryCols f (p .rows) (p .columns) * w) otherwise RowsOverlap)
-      ∷ (unsealed (ours m) base stride (memoryRows f (p .rows) (p .columns)) (memoryCols f (p .rows) (p .columns) * w) otherwise SealedByte) ∷ []
+      ∷ (rowsMiss z base stride (memoryRows f (p .rows) (p .columns)) (memoryCols f (p .rows) (p .columns) * w) otherwise SealedByte) ∷ []
 
-  pub store-refused : (a : Answer) → a ≡ verdict (transferChecks m k w) → isDone a ≡ false → WritesMemory m (Operation.store f k r w base stride) regs marks mem a mem
-  store-refused a e′ d = let e : a ≡ verdict first = e′ ∙ ap verdict first-is in record {
-    answer-is = e ∙ ap (λ (t : Bool). cond t (verdict (storeRest here)) (verdict first)) (sym (sym (ap isDone e) ∙ d)) ∙ sym (verdict-append first (storeRest here) refl);
+  pub store-refused : (z : ℕ → Bool) (a : Answer) → a ≡ verdict (transferChecks m k w) → isDone a ≡ false → WritesMemory m (Operation.store f k r w base stride) regs marks mem z a mem
+  store-refused z a e′ d = let e : a ≡ verdict first = e′ ∙ ap verdict first-is in record {
+    answer-is = e ∙ ap (λ (t : Bool). cond t (verdict (storeRest z here)) (verdict first)) (sym (sym (ap isDone e) ∙ d)) ∙ sym (verdict-append first (storeRest z here) refl);
     memory-is = rw d;
   }
 
   -- where these pass, the rows written one after another are the rows stored
-  put-or-kept : (t : Bool) → isDone (verdict (storeRest here)) ≡ t
+  put-or-kept : (z : ℕ → Bool) (t : Bool) → isDone (verdict (storeRest z here)) ≡ t
       → cond t (putTile (rowAt base stride) (memoryRows f (tileRows st k) (tileCols st k)) (memoryCols f (tileRows st k) (tileCols st k)) w (placed f (element regs (registerAt (ours m) k r) w)) mem) mem
       ≡ cond t (memoryAfter (ours m) (Operation.store f k r w base stride) st mem) mem
-  put-or-kept true e =
-      let q = passed (storeRest here) refl e in
+  put-or-kept z true e =
+      let q = passed (storeRest z here) refl e in
       sym (stored-puts (rowAt base stride) _ _ w _ mem (q .1 .1 .0) (λ i l some. inside-at (length mem) base stride _ _ (q .1 .0) some i l .1))
-  put-or-kept false e = refl
+  put-or-kept z false e = refl
 
-  pub store-done : (p : Placed) → p ≡ placedAs m k r → isDone (verdict (transferChecks m k w)) ≡ true → (a : Answer) (mem′ : List ℕ)
-      → a ≡ verdict (storeRest p)
+  pub store-done : (z : ℕ → Bool) (p : Placed) → p ≡ placedAs m k r → isDone (verdict (transferChecks m k w)) ≡ true → (a : Answer) (mem′ : List ℕ)
+      → a ≡ verdict (storeRest z p)
       → mem′ ≡ cond (isDone a) (putTile (rowAt base stride) (memoryRows f (p .rows) (p .columns)) (memoryCols f (p .rows) (p .columns)) w (placed f (element regs (λ i. p .start + i * p .pitch) w)) mem) mem
-      → WritesMemory m (Operation.store f k r w base stride) regs marks mem a mem′
-  store-done p e′ d′ a mem′ ea em = let d : isDone (verdict first) ≡ true = subst (λ (cs : List Check). isDone (verdict cs) ≡ true) first-is d′ in let e : p ≡ here = e′ ∙ here-is in record {
-    answer-is = ea ∙ ap (λ (p : Placed). verdict (storeRest p)) e
-        ∙ ap (λ (t : Bool). cond t (verdict (storeRest here)) (verdict first)) (sym d) ∙ sym (verdict-append first (storeRest here) refl);
+      → WritesMemory m (Operation.store f k r w base stride) regs marks mem z a mem′
+  store-done z p e′ d′ a mem′ ea em = let d : isDone (verdict first) ≡ true = subst (λ (cs : List Check). isDone (verdict cs) ≡ true) first-is d′ in let e : p ≡ here = e′ ∙ here-is in record {
+    answer-is = ea ∙ ap (λ (p : Placed). verdict (storeRest z p)) e
+        ∙ ap (λ (t : Bool). cond t (verdict (storeRest z here)) (verdict first)) (sym d) ∙ sym (verdict-append first (storeRest z here) refl);
     memory-is = em ∙ ap (λ (p : Placed). cond (isDone a) (putTile (rowAt base stride) (memoryRows f (p .rows) (p .columns)) (memoryCols f (p .rows) (p .columns)) w (placed f (element regs (λ i. p .start + i * p .pitch) w)) mem) mem) e
-        ∙ put-or-kept (isDone a) (ap isDone (sym (ea ∙ ap (λ (p : Placed). verdict (storeRest p)) e)));
+        ∙ put-or-kept z (isDone a) (ap isDone (sym (ea ∙ ap (λ (p : Placed). verdict (storeRest z p)) e)));
   }

@@ -1,6 +1,6 @@
 -- What the functions of a family answer and leave, in the words of the definitions.
 use mathlib.Core.Path.{_≡_}
-use mathlib.Core.Bool.{true, cond}
+use mathlib.Core.Bool.{Bool, true, false, cond}
 use mathlib.Core.List.{List, []}
 use Prim.Native.Nat.{ℕ}
 use Rattle.machine.specs.declared.Machine.{Machine}
@@ -16,22 +16,23 @@ module _ (m : Machine) (o : Operation) (regs marks mem : List ℕ) where
   abbrev pub before : State
   before = stateOf m regs marks
 
-  -- of one that writes registers: a refusal leaves them as they were
+  -- of one that writes registers: a refusal leaves them as they were; which bytes are sealed says nothing of it
   pub record WritesRegisters (r : Answer) (regs′ marks′ : List ℕ) : Type 0 where
-    pub answer-is : r ≡ verdict (checks (ours m) o before mem)
+    pub answer-is : (isSealed : ℕ → Bool) → r ≡ verdict (checks (ours m) isSealed o before mem)
     pub registers-are : regs′ ≡ cond (isDone r) (stateAfter (ours m) o before mem .regs) regs
     pub marks-are : marks′ ≡ cond (isDone r) (stateAfter (ours m) o before mem .marks) marks
 
   -- and of one that writes memory
-  pub record WritesMemory (r : Answer) (mem′ : List ℕ) : Type 0 where
-    pub answer-is : r ≡ verdict (checks (ours m) o before mem)
+  pub record WritesMemory (isSealed : ℕ → Bool) (r : Answer) (mem′ : List ℕ) : Type 0 where
+    pub answer-is : r ≡ verdict (checks (ours m) isSealed o before mem)
     pub memory-is : mem′ ≡ cond (isDone r) (memoryAfter (ours m) o before mem) mem
 
--- an operation that takes nothing from memory is not refused, in a state that is not at fault, with some marks of these registers
+-- an operation that takes nothing from memory and writes nothing there is not refused, in a state that is not at fault, with some marks
+-- of these registers
 pub record Permitted (m : Machine) (o : Operation) (regs : List ℕ) : Type 0 where
   pub marks : List ℕ
   pub is-sound : sound m regs marks ≡ true
-  pub is-done : isDone (verdict (checks (ours m) o (stateOf m regs marks) [])) ≡ true
+  pub is-done : isDone (verdict (checks (ours m) (λ q. false) o (stateOf m regs marks) [])) ≡ true
 
 -- the registers that it leaves, which no mark decides
 abbrev pub registersAfter : Machine → Operation → List ℕ → List ℕ

@@ -8,8 +8,9 @@ use machine::Matrix;
 ghost use mathlib.Core.Path.{_≡_};
 ghost use mathlib.Core.Bool.{true};
 ghost use Prim.Native.Nat.{_<_};
-ghost use Rattle.machine.specs.Geometry.{registerCount};
-ghost use Rattle.machine.specs.Faults.{sound};
+ghost use Rattle.machine.specs.Geometry.{registerCount, sealed};
+ghost use Rattle.machine.specs.Faults.{sound, sealsFit};
+ghost use Rattle.ranges.specs.Ranges.{sealsIn};
 ghost use Rattle.machine.specs.Operation.{Operation};
 ghost use Rattle.operations.specs.Parts.{WritesRegisters, WritesMemory};
 
@@ -53,6 +54,7 @@ pub fn load(
 // Answers 2 to 6, 13 and 7, and the store.
 pub fn store(
     m: Machine,
+    seals: &[u8],
     registers: &[u8],
     marks: &[u8],
     memory: &mut [u8],
@@ -65,7 +67,8 @@ pub fn store(
 ) -> Answer
     requires { ⌜ sound m (now registers) (now marks) ≡ true ⌝ }
     requires { ⌜ ms3 < registerCount matrix ⌝ }
-    ensures { λ r. ⌜ WritesMemory m (Operation.store form matrix ms3 width base stride) (now (registers .entry)) (now (marks .entry)) (now (memory .entry)) r (now (memory .exit)) ⌝ }
+    requires { ⌜ sealsFit (sealsIn (now seals)) ≡ true ⌝ }
+    ensures { λ r. ⌜ WritesMemory m (Operation.store form matrix ms3 width base stride) (now (registers .entry)) (now (marks .entry)) (now (memory .entry)) (sealed (sealsIn (now (seals .entry)))) r (now (memory .exit)) ⌝ }
 {
     let fitting = check_transfer(m, matrix, width);
     if !machine::is_done(fitting) {
@@ -77,8 +80,7 @@ pub fn store(
         registers,
         marks,
         memory,
-        m.seal_start,
-        m.seal_length,
+        seals,
         p.start,
         p.pitch,
         base,

@@ -7,21 +7,23 @@ use native.Mathlib.Omega.{arith}
 use lib.ListN.{length, getD, replicate}
 use lib.Dec.{eqb}
 use borrow.Author.Tests.{eqb-true}
-use Rattle.machine.specs.declared.Answer.the-variants.{Done, BadArguments}
+use Rattle.machine.specs.declared.Answer.the-variants.{Done}
+use Rattle.machine.specs.declared.Answer.{Answer}
 use Rattle.machine.specs.declared.Reply.{Reply}
-use Rattle.machine.specs.Answers.{reply}
+use Rattle.machine.specs.Answers.{reply, isDone, verdict}
 use Rattle.machine.specs.Geometry.{Bench, permitted, registerBytes}
 use Rattle.machine.specs.Alike.{Agree}
 use Rattle.machine.specs.Vectors.{Vectors, vectorsOf}
-use Rattle.machine.specs.Starting.{startable, startMachine, StartOutcome, freshMachine, noMachine, isRule, sealEnds}
+use Rattle.machine.specs.Starting.{startable, startMachine, startChecks, startedAs, StartOutcome, freshMachine, noMachine, isRule, ranges, paired, sealsEnd}
+use Rattle.machine.proofs.StartLaws.{accepted}
 use Rattle.machine.specs.Theorems.{startedBench}
-use Rattle.machine.proofs.TestLaws.{false-true, every-each}
+use Rattle.machine.proofs.TestLaws.{every-each}
 use Rattle.run.specs.declared.Run.{Run}
 use Rattle.run.specs.Turn.{running}
 use Rattle.run.specs.Acts.{Act, Session, session, Acted, act}
 use Rattle.powerup.specs.Steps.{AlikeBenches}
 use Rattle.powerup.specs.PowerUp.{StartsAlike, Reading, reading, readings, PowerUpNeverMatters}
-use Rattle.powerup.proofs.Steps.{step-ignores-unmarked}
+use Rattle.powerup.proofs.Steps.{step-ignores-unmarked, seal-ignores-unmarked}
 use Rattle.powerup.proofs.Runs.{run-start-ignores-unmarked, turns-ignore-unmarked, whole-ignores-unmarked}
 
 -- ---- two starts
@@ -35,57 +37,52 @@ zeros (suc n) (suc q) = zeros n q
 pub unmarked-agree : (n : ℕ) (xs ys : List ℕ) → length xs ≡ length ys → Agree (replicate n 0) xs ys
 unmarked-agree n xs ys e = record { same-length = e; same-bytes = λ q h. let z : _≡_ {A = ℕ} 0 1 = sym (zeros n q) ∙ h in absurd (omega arith) }
 
-module _ (rlen mlen elen rule sealStart sealLength : ℕ) where
-  -- what a start leaves, by its test
-  abbrev startOn : (registers marks : List ℕ) → Bool → StartOutcome
-  startOn registers marks t = cond t
-      (record { answer = reply Done; machine = freshMachine rlen mlen elen rule sealStart sealLength; registers = registers; marks = replicate (length marks) 0 })
-      (record { answer = reply BadArguments; machine = noMachine; registers = registers; marks = marks })
-
-  -- an accepted one
+module _ (rlen mlen elen rule : ℕ) (seals : List ℕ) where
+  -- an accepted start
   abbrev fresh : List ℕ → StartOutcome
-  fresh registers = record { answer = reply Done; machine = freshMachine rlen mlen elen rule sealStart sealLength; registers = registers; marks = replicate (registerBytes mlen) 0 }
+  fresh registers = startedAs (record { answer = Done; machine = freshMachine rlen mlen elen rule }) seals registers (replicate (registerBytes mlen) 0)
 
-  accepted : (registers marks : List ℕ) → startMachine rlen mlen elen rule sealStart sealLength registers marks .answer .number ≡ 0
-      → (startMachine rlen mlen elen rule sealStart sealLength registers marks ≡ fresh registers) × (length registers ≡ registerBytes mlen)
-  unfolding startMachine startable
-  accepted registers marks = go (startable rlen mlen elen rule sealStart sealLength registers marks) refl
-    where
-      go : (t : Bool) → startable rlen mlen elen rule sealStart sealLength registers marks ≡ t → startOn registers marks t .answer .number ≡ 0
-          → (startOn registers marks t ≡ fresh registers) × (length registers ≡ registerBytes mlen)
-      go false e d = absurd (false-true (ap (λ (n : ℕ). eqb n 0) d))
-      go true e d =
-          let c = every-each (permitted rlen mlen elen ∷ eqb (length registers) (registerBytes mlen) ∷ eqb (length marks) (registerBytes mlen) ∷ isRule rule ∷ sealEnds sealStart sealLength ∷ []) e in
-          let n : length marks ≡ registerBytes mlen = eqb-true (length marks) (registerBytes mlen) (c .1 .1 .0) in
-          (rw n, eqb-true (length registers) (registerBytes mlen) (c .1 .0))
-
-  -- the answer goes by the lengths of the registers and marks
-  start-answer : (registers marks : List ℕ)
-      → startMachine rlen mlen elen rule sealStart sealLength registers marks .answer ≡ cond (startable rlen mlen elen rule sealStart sealLength registers marks) (reply Done) (reply BadArguments)
-  unfolding startMachine
-  start-answer registers marks = go (startable rlen mlen elen rule sealStart sealLength registers marks)
-    where
-      go : (t : Bool) → startOn registers marks t .answer ≡ cond t (reply Done) (reply BadArguments)
-      go true = refl
-      go false = refl
+  fresh-is : (registers marks : List ℕ) → startMachine rlen mlen elen rule seals registers marks .answer .number ≡ 0
+      → (startMachine rlen mlen elen rule seals registers marks ≡ fresh registers) × (length registers ≡ registerBytes mlen)
+  unfolding startable
+  fresh-is registers marks d =
+      let k = accepted rlen mlen elen rule seals registers marks d in
+      let c = every-each (permitted rlen mlen elen ∷ eqb (length registers) (registerBytes mlen) ∷ eqb (length marks) (registerBytes mlen) ∷ isRule rule ∷ paired seals ∷ sealsEnd (ranges seals) ∷ []) (k .fits) in (
+        k .leaves ∙ ap (λ (n : ℕ). startedAs (record { answer = Done; machine = freshMachine rlen mlen elen rule }) seals registers (replicate n 0)) (eqb-true (length marks) (registerBytes mlen) (c .1 .1 .0)),
+        eqb-true (length registers) (registerBytes mlen) (c .1 .0),
+      )
 
   pub startable-same : (registers registers′ marks marks′ : List ℕ) → length registers ≡ length registers′ → length marks ≡ length marks′
-      → startable rlen mlen elen rule sealStart sealLength registers marks ≡ startable rlen mlen elen rule sealStart sealLength registers′ marks′
+      → startable rlen mlen elen rule seals registers marks ≡ startable rlen mlen elen rule seals registers′ marks′
   unfolding startable
   startable-same registers registers′ marks marks′ er em = rw (er, em)
 
+  -- the answer goes by the lengths of the registers and marks
+  start-answer : (registers marks : List ℕ) → startMachine rlen mlen elen rule seals registers marks .answer ≡ reply (verdict (startChecks rlen mlen elen rule seals registers marks))
+  unfolding startMachine
+  start-answer registers marks = go (isDone (verdict (startChecks rlen mlen elen rule seals registers marks)))
+    where
+      a : Answer
+      a = verdict (startChecks rlen mlen elen rule seals registers marks)
+
+      go : (t : Bool) → cond t (startedAs (record { answer = a; machine = freshMachine rlen mlen elen rule }) seals registers (replicate (length marks) 0))
+          (startedAs (record { answer = a; machine = noMachine }) seals registers marks) .answer ≡ reply a
+      go true = refl
+      go false = refl
+
   start-same : (registers registers′ marks marks′ : List ℕ) → length registers ≡ length registers′ → length marks ≡ length marks′
-      → startMachine rlen mlen elen rule sealStart sealLength registers marks .answer ≡ startMachine rlen mlen elen rule sealStart sealLength registers′ marks′ .answer
+      → startMachine rlen mlen elen rule seals registers marks .answer ≡ startMachine rlen mlen elen rule seals registers′ marks′ .answer
   start-same registers registers′ marks marks′ er em =
       rw (start-answer registers marks, start-answer registers′ marks′, startable-same registers registers′ marks marks′ er em)
 
 pub starts-alike : StartsAlike
-starts-alike rlen mlen elen rule sealStart sealLength registers registers′ marks marks′ memory d d′ =
-    let h = accepted rlen mlen elen rule sealStart sealLength registers marks d in
-    let h′ = accepted rlen mlen elen rule sealStart sealLength registers′ marks′ d′ in
+starts-alike rlen mlen elen rule seals registers registers′ marks marks′ memory d d′ =
+    let h = fresh-is rlen mlen elen rule seals registers marks d in
+    let h′ = fresh-is rlen mlen elen rule seals registers′ marks′ d′ in
     rw (h .0, h′ .0) (record {
       alike = record {
         same-machine = refl;
+        same-seals = refl;
         same-marks = refl;
         agree = unmarked-agree (registerBytes mlen) registers registers′ (h .1 ∙ sym (h′ .1));
       };
@@ -121,7 +118,7 @@ module _ (grant : ℕ → ℕ → ℕ → ℕ) (B B′ : Bench) (xs : List ℕ) 
       same-lent = refl;
       same-run = refl;
       alike-benches = record {
-        alike = record { same-machine = t .alike .same-machine; same-marks = t .alike .same-marks; agree = t .alike .agree };
+        alike = record { same-machine = t .alike .same-machine; same-seals = t .alike .same-seals; same-marks = t .alike .same-marks; agree = t .alike .agree };
         same-memory = refl;
       };
     };
@@ -172,6 +169,14 @@ module _ (grant : ℕ → ℕ → ℕ → ℕ) (B B′ : Bench) (xs : List ℕ) 
         same-count = k .same-count;
         same-after = record { same-scalars = refl; same-lent = refl; same-run = refl; alike-benches = k .alike-after };
       }
+  each-same (Act.seal start size) =
+      let k = seal-ignores-unmarked start size B B′ t in
+      record {
+        same-answer = k .0;
+        same-handed = refl;
+        same-count = refl;
+        same-after = record { same-scalars = refl; same-lent = refl; same-run = refl; alike-benches = k .1 };
+      }
 
 act-same : (grant : ℕ → ℕ → ℕ → ℕ) (a : Act) (S S′ : Session) → SameSession S S′ → SameActed (act grant a S) (act grant a S′)
 act-same grant a S S′ s =
@@ -187,10 +192,10 @@ readings-same grant (a ∷ acts) S S′ s =
     ap₂ (λ (r : Reading) (rs : List Reading). r ∷ rs) (reading-same (act grant a S) (act grant a S′) k) (readings-same grant acts (act grant a S .after) (act grant a S′ .after) (k .same-after))
 
 pub power-up-never-matters : PowerUpNeverMatters
-power-up-never-matters grant rlen mlen elen rule sealStart sealLength registers registers′ marks marks′ er em =
-    let e = start-same rlen mlen elen rule sealStart sealLength registers registers′ marks marks′ er em in (
+power-up-never-matters grant rlen mlen elen rule seals registers registers′ marks marks′ er em =
+    let e = start-same rlen mlen elen rule seals registers registers′ marks marks′ er em in (
       e,
       λ d acts memory scalars W R.
-          readings-same grant acts (session (startedBench rlen mlen elen rule sealStart sealLength registers marks memory) scalars W R) (session (startedBench rlen mlen elen rule sealStart sealLength registers′ marks′ memory) scalars W R)
-          (record { same-scalars = refl; same-lent = refl; same-run = refl; alike-benches = starts-alike rlen mlen elen rule sealStart sealLength registers registers′ marks marks′ memory d (ap (λ (a : Reply). a .number) (sym e) ∙ d) }),
+          readings-same grant acts (session (startedBench rlen mlen elen rule seals registers marks memory) scalars W R) (session (startedBench rlen mlen elen rule seals registers′ marks′ memory) scalars W R)
+          (record { same-scalars = refl; same-lent = refl; same-run = refl; alike-benches = starts-alike rlen mlen elen rule seals registers registers′ marks marks′ memory d (ap (λ (a : Reply). a .number) (sym e) ∙ d) }),
     )

@@ -1,13 +1,13 @@
 -- Request Nine: what a word answers, leaves in the scalars and in memory, and marks does not depend on unmarked register bytes.
 -- A new instruction adds a case to `meant-same` (by refl) and one to `unseen`.
 use mathlib.Core.Path.{_≡_, refl, sym, ap, ap₂, _∙_, subst}
-use mathlib.Core.Bool.{Bool, true, false, cond}
+use mathlib.Core.Bool.{Bool, true, false, cond, _&&_}
 use mathlib.Core.List.{List, [], _∷_}
 use Prim.Native.Nat.{ℕ, zero, suc, _*_, _^_, _<_}
 use native.Mathlib.Nat.{mul-pos, one-mul}
 use native.Mathlib.Omega.{arith}
 use lib.ListN.{length}
-use lib.Dec.{eqb}
+use lib.Dec.{eqb, ltb}
 use lib.IntN.{ℤ, pos, negsuc, _+ℤ_, _*ℤ_, *ℤ-zero}
 use borrow.Author.Tests.{ne-eqb}
 use Rattle.width.specs.Reduce.{signed, reduce}
@@ -15,7 +15,7 @@ use Rattle.width.specs.Binary32.{floatProduct}
 use Rattle.width.proofs.ReduceLaws.{sumℤ-cong}
 use Rattle.width.proofs.Binary32Laws.{product-cong}
 use Rattle.machine.specs.declared.Answer.{Answer}
-use Rattle.machine.specs.declared.Answer.the-variants.{Done, BadArguments}
+use Rattle.machine.specs.declared.Answer.the-variants.{Done, BadArguments, TooManySeals}
 use Rattle.machine.specs.declared.Machine.{Machine}
 use Rattle.machine.specs.declared.Dimension.{Dimension}
 use Rattle.machine.specs.declared.Dimension.the-variants.{DimensionM, DimensionK, DimensionN}
@@ -24,13 +24,15 @@ use Rattle.machine.specs.declared.Form.the-variants.{Plain, Transposed}
 use Rattle.machine.specs.declared.Instruction.{Instruction}
 use Rattle.machine.specs.declared.Instruction.the-variants.{Illegal, SetTypeImmediate, SetType, SetTileImmediate, SetTile, Load, Store, Multiply, Combine, Scale, ScaleImmediate, FloatMultiply, MoveOut, MoveIn}
 use Rattle.machine.specs.Answers.{reply, Check, _otherwise_, verdict, isDone}
-use Rattle.machine.specs.Geometry.{Parameters, parameters, State, machineAfter, Bench, benchOf, registerAt, tileAt, accAt, withScalar}
+use Rattle.machine.specs.Geometry.{Range, sealed, Parameters, parameters, State, machineAfter, Bench, benchOf, registerAt, tileAt, accAt, withScalar}
 use Rattle.machine.specs.Setting.{sew, maximum, sizeIn, smaller}
 use Rattle.machine.specs.Listing.{decode}
 use Rattle.machine.specs.Memory.{rowAt}
 use Rattle.machine.specs.Operation.{Operation, operationIn, stateAfter, memoryAfter, vectorsAfter, resultOf, element, written, resized, productAt, floatProductAt, sumOf, rowsOf, columnsOf, tileRows, tileCols, memoryRows, memoryCols, placed, sliceAt}
 use Rattle.machine.specs.Refusals.{marked, needs, checks, isZero}
-use Rattle.machine.specs.Faults.{sound, soundBench, thirtyTwo}
+use Rattle.machine.specs.Faults.{sound, sealsFit, soundBench, thirtyTwo}
+use Rattle.machine.specs.Starting.{sealEnds, mostSeals}
+use Rattle.machine.specs.Sealing.{addSeal, sealChecks, withSeal}
 use Rattle.machine.specs.Vectors.{Vectors, vectorsOf, vectorsFit, vectorAt, idle}
 use Rattle.machine.specs.Step
 use Rattle.machine.specs.Step.{Outcome, outcome, stepBy, VectorOutcome, beside, outcomeIn, vectorsIn, stepWith, givenIn, meantIn, destination}
@@ -57,12 +59,12 @@ pub record AlikeStates (st st′ : State) : Type 0 where
 
 -- an operation cannot tell the register bytes of st from ys: the checks and the result are equal, and where it is carried out,
 -- so is the memory, and the states it leaves are alike
-pub record Unseen (M : Parameters) (st : State) (ys mem : List ℕ) (o : Operation) : Type 0 where
-  pub same-checks : checks M o st mem ≡ checks M o (withRegs st ys) mem
+pub record Unseen (M : Parameters) (isSealed : ℕ → Bool) (st : State) (ys mem : List ℕ) (o : Operation) : Type 0 where
+  pub same-checks : checks M isSealed o st mem ≡ checks M isSealed o (withRegs st ys) mem
   pub same-result : resultOf o (stateAfter M o st mem) ≡ resultOf o (stateAfter M o (withRegs st ys) mem)
-  pub same-memory : Passed (checks M o st mem) → memoryAfter M o st mem ≡ memoryAfter M o (withRegs st ys) mem
-  pub alike-after : Passed (checks M o st mem) → AlikeStates (stateAfter M o st mem) (stateAfter M o (withRegs st ys) mem)
-  pub same-file : Passed (checks M o st mem) → (file : List ℕ) → vectorsAfter M o st file ≡ vectorsAfter M o (withRegs st ys) file
+  pub same-memory : Passed (checks M isSealed o st mem) → memoryAfter M o st mem ≡ memoryAfter M o (withRegs st ys) mem
+  pub alike-after : Passed (checks M isSealed o st mem) → AlikeStates (stateAfter M o st mem) (stateAfter M o (withRegs st ys) mem)
+  pub same-file : Passed (checks M isSealed o st mem) → (file : List ℕ) → vectorsAfter M o st file ≡ vectorsAfter M o (withRegs st ys) file
 
 -- values that are equal over the tile in the register are so over the tile in memory
 placed-cong : (f : Form) (rows cols : ℕ) (v u : ℕ → ℕ → ℕ) → ((i j : ℕ) → i < rows → j < cols → v i j ≡ u i j)
@@ -145,30 +147,30 @@ module _ (M : Parameters) (st : State) (ys mem : List ℕ) (a : Agree (st .marks
   kept : AlikeStates st (withRegs st ys)
   kept = record { same-rest = refl; agree = a }
 
-  pub unseen : (o : Operation) → Unseen M st ys mem o
-  unseen (Operation.illegal wrong) = record { same-checks = refl; same-result = refl; same-memory = λ p. refl; alike-after = λ p. kept; same-file = λ p file. refl }
-  unseen (Operation.setType v) = record { same-checks = refl; same-result = refl; same-memory = λ p. refl; alike-after = λ p. record { same-rest = refl; agree = a }; same-file = λ p file. refl }
-  unseen (Operation.setSize d n) = record { same-checks = refl; same-result = sized-result d (M .grant (maximum M (st .mtype) d) n); same-memory = λ p. refl; alike-after = λ p. sized-alike d (M .grant (maximum M (st .mtype) d) n); same-file = λ p file. refl }
-  unseen (Operation.cutSize d) = record {
+  pub unseen : (z : ℕ → Bool) (o : Operation) → Unseen M z st ys mem o
+  unseen z (Operation.illegal wrong) = record { same-checks = refl; same-result = refl; same-memory = λ p. refl; alike-after = λ p. kept; same-file = λ p file. refl }
+  unseen z (Operation.setType v) = record { same-checks = refl; same-result = refl; same-memory = λ p. refl; alike-after = λ p. record { same-rest = refl; agree = a }; same-file = λ p file. refl }
+  unseen z (Operation.setSize d n) = record { same-checks = refl; same-result = sized-result d (M .grant (maximum M (st .mtype) d) n); same-memory = λ p. refl; alike-after = λ p. sized-alike d (M .grant (maximum M (st .mtype) d) n); same-file = λ p file. refl }
+  unseen z (Operation.cutSize d) = record {
     same-checks = refl;
     same-result = refl;
     same-memory = λ p. refl;
     alike-after = λ p. rw (size-same d) (sized-alike d (smaller (maximum M (st .mtype) d) (sizeIn d st)));
     same-file = λ p file. refl;
   }
-  unseen (Operation.load f k r w b s) = record {
+  unseen z (Operation.load f k r w b s) = record {
     same-checks = rw (size-same (rowsOf k), size-same (columnsOf k));
     same-result = refl;
     same-memory = λ p. refl;
     alike-after = λ p. rw (size-same (rowsOf k), size-same (columnsOf k)) (wrote (registerAt M k r) _ _ w _ _ (λ i j l m. refl));
     same-file = λ p file. refl;
   }
-  unseen (Operation.store f k r w b s) = record {
+  unseen z (Operation.store f k r w b s) = record {
     same-checks = rw (size-same (rowsOf k), size-same (columnsOf k));
     same-result = refl;
     same-memory = λ p.
         let apart = p .1 .1 .1 .1 .1 .1 .0 in
-        let ends = store-ends M st mem f k r w b s p in
+        let ends = store-ends M z st mem f k r w b s p in
         rw (size-same (rowsOf k), size-same (columnsOf k))
         (stored-puts (rowAt b s) _ _ w _ mem apart ends
         ∙ putTile-cong (rowAt b s) _ _ w _ _ mem (placed-cong f (tileRows st k) (tileCols st k) (element (st .regs) (registerAt M k r) w) (element ys (registerAt M k r) w)
@@ -177,7 +179,7 @@ module _ (M : Parameters) (st : State) (ys mem : List ℕ) (a : Agree (st .marks
     alike-after = λ p. kept;
     same-file = λ p file. refl;
   }
-  unseen (Operation.multiply f d s t) = record {
+  unseen z (Operation.multiply f d s t) = record {
     same-checks = refl;
     same-result = refl;
     same-memory = λ p. refl;
@@ -188,7 +190,7 @@ module _ (M : Parameters) (st : State) (ys mem : List ℕ) (a : Agree (st .marks
         (operands-same (f * sew (st .mtype)) (sew (st .mtype)) d s t (q .0) (q .1 .0) (q .1 .1 .0) i j l m));
     same-file = λ p file. refl;
   }
-  unseen (Operation.combine o f d s) = record {
+  unseen z (Operation.combine o f d s) = record {
     same-checks = refl;
     same-result = refl;
     same-memory = λ p. refl;
@@ -200,7 +202,7 @@ module _ (M : Parameters) (st : State) (ys mem : List ℕ) (a : Agree (st .marks
         (read (accAt M s) (st .tileM) (st .tileN) (sew (st .mtype)) false (q .0) refl i j l m));
     same-file = λ p file. refl;
   }
-  unseen (Operation.scale f d s x) = record {
+  unseen z (Operation.scale f d s x) = record {
     same-checks = refl;
     same-result = refl;
     same-memory = λ p. refl;
@@ -211,7 +213,7 @@ module _ (M : Parameters) (st : State) (ys mem : List ℕ) (a : Agree (st .marks
         (λ e. read (accAt M s) (st .tileM) (st .tileN) v (isZero x) (p .1 .1 .1 .1 .0) e i j l m)));
     same-file = λ p file. refl;
   }
-  unseen (Operation.floatMultiply d s t) = record {
+  unseen z (Operation.floatMultiply d s t) = record {
     same-checks = refl;
     same-result = refl;
     same-memory = λ p. refl;
@@ -222,7 +224,7 @@ module _ (M : Parameters) (st : State) (ys mem : List ℕ) (a : Agree (st .marks
         wrote (accAt M d) _ _ _ _ _ (λ i j l m. float-same M (st .regs) ys v d s t (st .tileK) i j (operands-same v v d s t (q .0) (q .1 .0) hd i j l m));
     same-file = λ p file. refl;
   }
-  unseen (Operation.moveOut Plain s v start count) = record {
+  unseen z (Operation.moveOut Plain s v start count) = record {
     same-checks = refl;
     same-result = refl;
     same-memory = λ p. refl;
@@ -231,7 +233,7 @@ module _ (M : Parameters) (st : State) (ys mem : List ℕ) (a : Agree (st .marks
         putTile-cong (vectorAt v) count (st .tileN) (sew (st .mtype)) _ _ file (λ i j l m.
         element-same (st .marks) (st .regs) ys a (sliceAt M Plain s start (sew (st .mtype))) count (st .tileN) (sew (st .mtype)) (p .1 .1 .1 .1 .1 .0) i j l m);
   }
-  unseen (Operation.moveOut Transposed s v start count) = record {
+  unseen z (Operation.moveOut Transposed s v start count) = record {
     same-checks = refl;
     same-result = refl;
     same-memory = λ p. refl;
@@ -240,14 +242,14 @@ module _ (M : Parameters) (st : State) (ys mem : List ℕ) (a : Agree (st .marks
         putTile-cong (vectorAt v) count (st .tileM) (sew (st .mtype)) _ _ file (λ i j l m.
         element-same (st .marks) (st .regs) ys a (sliceAt M Transposed s start (sew (st .mtype))) (st .tileM) count (sew (st .mtype)) (p .1 .1 .1 .1 .1 .0) j i m l);
   }
-  unseen (Operation.moveIn Plain d v start count source) = record {
+  unseen z (Operation.moveIn Plain d v start count source) = record {
     same-checks = refl;
     same-result = refl;
     same-memory = λ p. refl;
     alike-after = λ p. wrote (sliceAt M Plain d start (sew (st .mtype))) _ _ _ _ _ (λ i j l m. refl);
     same-file = λ p file. refl;
   }
-  unseen (Operation.moveIn Transposed d v start count source) = record {
+  unseen z (Operation.moveIn Transposed d v start count source) = record {
     same-checks = refl;
     same-result = refl;
     same-memory = λ p. refl;
@@ -276,17 +278,22 @@ meant-same W M st ys xs (MoveIn form md vs1 rs2) = refl
 
 -- a bench with other register bytes
 abbrev lent : Bench → List ℕ → Bench
-lent B ys = benchOf (B .machine) ys (B .marks) (B .memory)
+lent B ys = benchOf (B .machine) (B .seals) ys (B .marks) (B .memory)
 
 pub sound-same : (m : Machine) (xs ys ms : List ℕ) → length xs ≡ length ys → sound m xs ms ≡ sound m ys ms
 unfolding sound
 sound-same m xs ys ms e = rw e
 
-benches-of : (m m′ : Machine) (st st′ : State) (mem mem′ : List ℕ) → m ≡ m′ → AlikeStates st st′ → mem ≡ mem′
-    → AlikeBenches (benchOf (machineAfter m st) (st .regs) (st .marks) mem) (benchOf (machineAfter m′ st′) (st′ .regs) (st′ .marks) mem′)
-benches-of m m′ st st′ mem mem′ em a e = record {
+-- and of the ranges too
+pub sound-bench-same : (B : Bench) (ys : List ℕ) → length (B .registers) ≡ length ys → soundBench B ≡ soundBench (lent B ys)
+sound-bench-same B ys e = ap (λ (t : Bool). t && sealsFit (B .seals)) (sound-same (B .machine) (B .registers) ys (B .marks) e)
+
+benches-of : (m m′ : Machine) (seals : List Range) (st st′ : State) (mem mem′ : List ℕ) → m ≡ m′ → AlikeStates st st′ → mem ≡ mem′
+    → AlikeBenches (benchOf (machineAfter m st) seals (st .regs) (st .marks) mem) (benchOf (machineAfter m′ st′) seals (st′ .regs) (st′ .marks) mem′)
+benches-of m m′ seals st st′ mem mem′ em a e = record {
   alike = record {
     same-machine = ap₂ machineAfter em (a .same-rest);
+    same-seals = refl;
     same-marks = ap (λ (s : State). s .marks) (a .same-rest);
     agree = a .agree;
   };
@@ -296,7 +303,7 @@ benches-of m m′ st st′ mem mem′ em a e = record {
 module _ (W : Vectors) (M : Parameters) (i : Instruction) (xs : List ℕ) where
   -- the checks and the outcome of a step, by what the state's test says and what the word means
   abbrev checksAs : Bench → Bool → Operation → List Check
-  checksAs B s o = (s otherwise BadArguments) ∷ (thirtyTwo xs otherwise BadArguments) ∷ checks M o (givenIn W M i xs B) (B .memory)
+  checksAs B s o = (s otherwise BadArguments) ∷ (thirtyTwo xs otherwise BadArguments) ∷ checks M (sealed (B .seals)) o (givenIn W M i xs B) (B .memory)
 
   abbrev after : Bench → Operation → State
   after B o = stateAfter M o (givenIn W M i xs B) (B .memory)
@@ -306,7 +313,7 @@ module _ (W : Vectors) (M : Parameters) (i : Instruction) (xs : List ℕ) where
       beside (cond (isDone a) (vectorsAfter M o (givenIn W M i xs B) (W .file)) (W .file)) (cond (isDone a)
       (record {
         answer = reply Done;
-        bench = benchOf (machineAfter (B .machine) (after B o)) (after B o .regs) (after B o .marks) (memoryAfter M o (givenIn W M i xs B) (B .memory));
+        bench = benchOf (machineAfter (B .machine) (after B o)) (B .seals) (after B o .regs) (after B o .marks) (memoryAfter M o (givenIn W M i xs B) (B .memory));
         scalars = withScalar xs (destination i) (resultOf o (after B o));
       })
       (record { answer = reply a; bench = B; scalars = xs }))
@@ -317,27 +324,27 @@ module _ (W : Vectors) (M : Parameters) (i : Instruction) (xs : List ℕ) where
   outcome-same : (B : Bench) (ys : List ℕ) → Agree (B .marks) (B .registers) ys → SameOutcome (here B) (here (lent B ys))
   outcome-same B ys a =
       subst (λ (q : Operation). SameOutcome (here B) (outcomeAs (lent B ys) q (verdict (checksAs (lent B ys) (soundBench (lent B ys)) q)))) (meant-same W M (givenIn W M i xs B) ys xs i)
-      (subst (λ (b : Bool). SameOutcome (here B) (outcomeAs (lent B ys) o (verdict (checksAs (lent B ys) b o)))) (sound-same (B .machine) (B .registers) ys (B .marks) (a .same-length))
+      (subst (λ (b : Bool). SameOutcome (here B) (outcomeAs (lent B ys) o (verdict (checksAs (lent B ys) b o)))) (sound-bench-same B ys (a .same-length))
       (subst (λ (cs : List Check). SameOutcome (here B) (outcomeAs (lent B ys) o (verdict ((soundBench B otherwise BadArguments) ∷ (thirtyTwo xs otherwise BadArguments) ∷ cs)))) (u .same-checks)
       (go (isDone (verdict (checksAs B (soundBench B) o))) refl)))
     where
       o : Operation
       o = meantIn W M i xs B
 
-      u : Unseen M (givenIn W M i xs B) ys (B .memory) o
-      u = unseen M (givenIn W M i xs B) ys (B .memory) a o
+      u : Unseen M (sealed (B .seals)) (givenIn W M i xs B) ys (B .memory) o
+      u = unseen M (givenIn W M i xs B) ys (B .memory) a (sealed (B .seals)) o
 
       v : Answer
       v = verdict (checksAs B (soundBench B) o)
 
       go : (t : Bool) → isDone v ≡ t → SameOutcome (outcomeAs B o v) (outcomeAs (lent B ys) o v)
       go true e =
-          let p = passed (checksAs B (soundBench B) o) (refusing M o (givenIn W M i xs B) (B .memory)) e in
+          let p = passed (checksAs B (soundBench B) o) (refusing M (sealed (B .seals)) o (givenIn W M i xs B) (B .memory)) e in
           rw e (record {
             same-answer = refl;
             same-scalars = ap (withScalar xs (destination i)) (u .same-result);
             same-vectors = u .same-file (p .1 .1) (W .file);
-            alike-after = benches-of (B .machine) (B .machine) (after B o) (after (lent B ys) o) (memoryAfter M o (givenIn W M i xs B) (B .memory)) (memoryAfter M o (givenIn W M i xs (lent B ys)) (B .memory)) refl (u .alike-after (p .1 .1)) (u .same-memory (p .1 .1));
+            alike-after = benches-of (B .machine) (B .machine) (B .seals) (after B o) (after (lent B ys) o) (memoryAfter M o (givenIn W M i xs B) (B .memory)) (memoryAfter M o (givenIn W M i xs (lent B ys)) (B .memory)) refl (u .alike-after (p .1 .1)) (u .same-memory (p .1 .1));
           })
       go false e =
           rw e (record {
@@ -345,15 +352,35 @@ module _ (W : Vectors) (M : Parameters) (i : Instruction) (xs : List ℕ) where
             same-scalars = refl;
             same-vectors = refl;
             alike-after = record {
-              alike = record { same-machine = refl; same-marks = refl; agree = a };
+              alike = record { same-machine = refl; same-seals = refl; same-marks = refl; agree = a };
               same-memory = refl;
             };
           })
 
-lent-is : (B B′ : Bench) → AlikeBenches B B′ → lent B (B′ .registers) ≡ B′
+pub lent-is : (B B′ : Bench) → AlikeBenches B B′ → lent B (B′ .registers) ≡ B′
 lent-is B B′ t =
-    ap₂ (λ (m : Machine) (ms : List ℕ). benchOf m (B′ .registers) ms (B .memory)) (t .alike .same-machine) (t .alike .same-marks)
-    ∙ ap (benchOf (B′ .machine) (B′ .registers) (B′ .marks)) (t .same-memory)
+    ap₂ (λ (m : Machine) (ms : List ℕ). benchOf m (B .seals) (B′ .registers) ms (B .memory)) (t .alike .same-machine) (t .alike .same-marks)
+    ∙ ap₂ (λ (rs : List Range) (mem : List ℕ). benchOf (B′ .machine) rs (B′ .registers) (B′ .marks) mem) (t .alike .same-seals) (t .same-memory)
+
+-- ---- adding a range
+
+pub seal-ignores-unmarked : (start size : ℕ) (B B′ : Bench) → AlikeBenches B B′
+    → (addSeal start size B .answer ≡ addSeal start size B′ .answer) × AlikeBenches (addSeal start size B .bench) (addSeal start size B′ .bench)
+unfolding addSeal
+seal-ignores-unmarked start size B B′ t =
+    subst (λ (C : Bench). (addSeal start size B .answer ≡ addSeal start size C .answer) × AlikeBenches (addSeal start size B .bench) (addSeal start size C .bench)) (lent-is B B′ t)
+    (ap reply v, subst (λ (a : Answer). AlikeBenches (addSeal start size B .bench) (cond (isDone a) (withSeal start size C) C)) v (go (isDone (verdict (sealChecks start size B)))))
+  where
+    C : Bench
+    C = lent B (B′ .registers)
+
+    v : verdict (sealChecks start size B) ≡ verdict (sealChecks start size C)
+    v = ap (λ (s : Bool). verdict ((s otherwise BadArguments) ∷ (sealEnds start size otherwise BadArguments) ∷ (ltb (length (B .seals)) mostSeals otherwise TooManySeals) ∷ []))
+        (sound-bench-same B (B′ .registers) (t .alike .agree .same-length))
+
+    go : (d : Bool) → AlikeBenches (cond d (withSeal start size B) B) (cond d (withSeal start size C) C)
+    go true = record { alike = record { same-machine = refl; same-seals = refl; same-marks = refl; agree = t .alike .agree }; same-memory = refl }
+    go false = record { alike = record { same-machine = refl; same-seals = refl; same-marks = refl; agree = t .alike .agree }; same-memory = refl }
 
 pub step-ignores-unmarked : StepIgnoresUnmarked
 unfolding stepWith
@@ -374,7 +401,7 @@ step-ignores-unmarked grant word xs W B B′ t =
       same-scalars = refl;
       same-vectors = refl;
       alike-after = record {
-        alike = record { same-machine = refl; same-marks = refl; agree = t .alike .agree };
+        alike = record { same-machine = refl; same-seals = refl; same-marks = refl; agree = t .alike .agree };
         same-memory = refl;
       };
     }

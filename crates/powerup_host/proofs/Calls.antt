@@ -1,6 +1,6 @@
 -- Request Nine, of the C functions: each call is a function of its blocks and of what a step, a run's start, its turns or a whole run gives.
 use mathlib.Core.Path.{_≡_, refl, sym, ap, ap₂, _∙_, subst}
-use mathlib.Core.Bool.{Bool, true, false, cond}
+use mathlib.Core.Bool.{Bool, true, false, cond, _&&_}
 use mathlib.Core.List.{List, [], _∷_, _++_}
 use mathlib.Core.Option.{none, some}
 use Prim.Native.Nat.{ℕ, zero, suc}
@@ -9,25 +9,29 @@ use lib.ListN.{length, drop, getD, replicate}
 use lib.Dec.{leb, eqb}
 use borrow.Author.Tests.{eqb-true}
 use Rattle.machine.specs.declared.Machine.{Machine}
-use Rattle.machine.specs.declared.Answer.the-variants.{Done, BadArguments}
+use Rattle.machine.specs.declared.Answer.the-variants.{Done, BadArguments, TooManySeals}
+use Rattle.machine.specs.declared.Answer.{Answer}
 use Rattle.machine.specs.Tests.{every}
 use Rattle.machine.specs.declared.Reply.{Reply}
-use Rattle.machine.specs.Answers.{reply, done}
-use Rattle.machine.specs.Geometry.{registerBytes, Bench, benchOf}
+use Rattle.machine.specs.Answers.{reply, done, isDone}
+use Rattle.machine.specs.Geometry.{Range, registerBytes, Bench, benchOf}
 use Rattle.machine.specs.Setting.{chosen}
-use Rattle.machine.specs.Starting.{startable, startMachine, freshMachine, noMachine}
+use Rattle.machine.specs.Starting.{ranges, mostSeals, startable, StartOutcome, startedAs, startMachine, freshMachine, noMachine}
+use Rattle.machine.specs.Sealing.{SealOutcome, addSeal}
 use Rattle.machine.specs.Vectors.{vectorsOf}
-use Rattle.machine.specs.Faults.{sound}
+use Rattle.machine.specs.Faults.{sealsFit}
 use Rattle.machine.specs.Alike.{Agree}
 use Rattle.run.specs.declared.Plan.{Plan}
 use Rattle.run.specs.declared.Run.{Run}
 use Rattle.run.specs.Start.{startRun}
 use Rattle.run.specs.Turn.{Running, turnOutcome, turns}
 use Rattle.run.specs.Whole as Whole
+use Rattle.ranges.specs.Ranges.{sealsIn, putSeals}
+use Rattle.sealing.specs.SealBlock.{sealBlock}
 use Rattle.blocks.specs.Blocks.{machineBytes, machineOf, putMachine, valuesOf, putValues, putNumbers, packed}
 use Rattle.run_blocks.specs.RunBlocks.{runBytes, putRun}
 use Rattle.scalar_block.specs.ScalarBlock.{stepBlock}
-use Rattle.bench_calls.specs.BenchCalls.{startedOut, shownStart, hostStart, steppedOut, shownStep, hostStep}
+use Rattle.bench_calls.specs.BenchCalls.{startedOut, shownStart, hostStart, steppedOut, shownStep, hostStep, sealedOut, hostSeal}
 use Rattle.run_calls.specs.RunCalls.{runStartedOut, shownRunStart, hostRunStart}
 use Rattle.turn_calls.specs.TurnCalls.{turnedOut, shownRunning, heldRunning, turnBlocks, shownTurn, hostTurn, shownTurns, hostTurns, ranOut, shownRun, hostRun}
 use Rattle.format.specs.Parser.{Parsed, parse}
@@ -35,19 +39,20 @@ use Rattle.format.specs.Parser.Parsed.{whole, stopped}
 use Rattle.image.specs.declared.Imaged.the-variants as Image
 use Rattle.image.specs.Answers.{imageReply}
 use Rattle.image.specs.Cells.{Cell, over, marksOf}
-use Rattle.image.specs.Images.{machineFrom, imageOf}
+use Rattle.image.specs.Images.{machineFrom, imageOf, soundWith}
 use Rattle.image.specs.ImageFormat.{Described, imageFormat}
 use Rattle.image.specs.Writing.{SizeOutcome, sized, sizeImage, WriteOutcome, written, writeImage}
 use Rattle.image.specs.Reading.{verdictOf, checkImage, restored, cellsIn, fitted, readAs, readImage}
 use Rattle.image.proofs.Images.{alike-one-image}
-use Rattle.image_calls.specs.ImageCalls.{packedReply, hostImageSize, HostWritten, writtenOut, hostImageWrite, blockRefused, readOut, shownRead, hostImageRead}
+use Rattle.image_read.specs.Blocks.{restoredAs, blockRefused, intoBlock, readBlock}
+use Rattle.image_calls.specs.ImageCalls.{packedReply, hostImageSize, HostWritten, writtenOut, hostImageWrite, shownRead, hostImageRead}
 use Rattle.powerup.specs.Steps.{AlikeBenches}
 use Rattle.powerup.specs.Runs.{SameRunning}
-use Rattle.powerup.proofs.Steps.{sound-same, step-ignores-unmarked}
+use Rattle.powerup.proofs.Steps.{sound-same, step-ignores-unmarked, seal-ignores-unmarked}
 use Rattle.powerup.proofs.Runs.{run-start-ignores-unmarked, turns-ignore-unmarked, whole-ignores-unmarked}
 use Rattle.powerup.proofs.PowerUp.{unmarked-agree, startable-same}
-use Rattle.calls.proofs.Written.{putMachine-fills}
-use Rattle.calls.specs.Calls.{Buffers, buffers, Call, Called, afterStart, afterStep, afterRunStart, afterTurn, afterRun, afterRead, called}
+use Rattle.calls.proofs.Written.{block-fills, read-fills}
+use Rattle.calls.specs.Calls.{Buffers, buffers, Call, Called, afterStart, afterStep, afterSeal, afterRunStart, afterTurn, afterRun, afterRead, called}
 use Rattle.powerup_host.specs.Calls.{AlikeBuffers, SameCalled, CallIgnoresUnmarked, CallsIgnoreUnmarked, ImageWriteIgnoresUnmarked, AtPowerUp, PowerUpNeverMattersToHosts, PowerUpNeverMattersToReaders}
 
 -- ---- cells in lent registers
@@ -99,13 +104,20 @@ agreeing machine marks scalars memory run step steps file xs ys a = record {
 }
 
 -- what a start leaves, by its tests on the machine's block and on the rest
-abbrev startOn : (rlen mlen elen rule sealStart sealLength : ℕ) → Buffers → Bool → Bool → Called
-startOn rlen mlen elen rule sealStart sealLength b t u =
-    afterStart b (cond t
-    (shownStart (b .machine) (cond u
-    (record { answer = reply Done; machine = freshMachine rlen mlen elen rule sealStart sealLength; registers = b .registers; marks = replicate (length (b .marks)) 0 })
-    (record { answer = reply BadArguments; machine = noMachine; registers = b .registers; marks = b .marks })))
+abbrev startedBy : (rlen mlen elen rule : ℕ) → (seals : List ℕ) → Buffers → Answer → StartOutcome
+startedBy rlen mlen elen rule seals b a =
+    cond (isDone a)
+    (startedAs (record { answer = a; machine = freshMachine rlen mlen elen rule }) seals (b .registers) (replicate (length (b .marks)) 0))
+    (startedAs (record { answer = a; machine = noMachine }) seals (b .registers) (b .marks))
+
+abbrev startOn : (rlen mlen elen rule : ℕ) → (seals : List ℕ) → Buffers → Bool → Bool → Bool → Called
+startOn rlen mlen elen rule seals b t u v =
+    afterStart b (cond t (shownStart (b .machine) (startedBy rlen mlen elen rule seals b (cond u (cond v Done TooManySeals) BadArguments)))
     (startedOut (packed (reply BadArguments)) (b .machine) (b .registers) (b .marks)))
+
+-- at most eight ranges
+abbrev few : List ℕ → Bool
+few seals = leb (length (ranges seals)) mostSeals
 
 module _ (b : Buffers) (ys : List ℕ) (a : Agree (b .marks) (b .registers) ys) where
   kept : AlikeBuffers b (with b ys)
@@ -113,22 +125,56 @@ module _ (b : Buffers) (ys : List ℕ) (a : Agree (b .marks) (b .registers) ys) 
 
   -- the machine in the blocks
   abbrev bench : List ℕ → Bench
-  bench xs = benchOf (machineOf (b .machine)) xs (b .marks) (b .memory)
+  bench xs = benchOf (machineOf (b .machine)) (sealsIn (b .machine)) xs (b .marks) (b .memory)
 
   benches : AlikeBenches (bench (b .registers)) (bench ys)
-  benches = record { alike = record { same-machine = refl; same-marks = refl; agree = a }; same-memory = refl }
+  benches = record { alike = record { same-machine = refl; same-seals = refl; same-marks = refl; agree = a }; same-memory = refl }
 
-  start-same : (rlen mlen elen rule sealStart sealLength : ℕ) → SameCalled (called (Call.start rlen mlen elen rule sealStart sealLength) b) (called (Call.start rlen mlen elen rule sealStart sealLength) (with b ys))
+  start-same : (rlen mlen elen rule : ℕ) (seals : List ℕ) → SameCalled (called (Call.start rlen mlen elen rule seals) b) (called (Call.start rlen mlen elen rule seals) (with b ys))
   unfolding hostStart startMachine
-  start-same rlen mlen elen rule sealStart sealLength =
-      subst (λ (u : Bool). SameCalled (called (Call.start rlen mlen elen rule sealStart sealLength) b) (startOn rlen mlen elen rule sealStart sealLength (with b ys) (eqb (length (b .machine)) machineBytes) u))
-      (startable-same rlen mlen elen rule sealStart sealLength (b .registers) ys (b .marks) (b .marks) (a .same-length) refl)
-      (go (eqb (length (b .machine)) machineBytes) (startable rlen mlen elen rule sealStart sealLength (b .registers) (b .marks)))
+  start-same rlen mlen elen rule seals =
+      subst (λ (u : Bool). SameCalled (called (Call.start rlen mlen elen rule seals) b) (startOn rlen mlen elen rule seals (with b ys) (eqb (length (b .machine)) machineBytes) u (few seals)))
+      (startable-same rlen mlen elen rule seals (b .registers) ys (b .marks) (b .marks) (a .same-length) refl)
+      (go (eqb (length (b .machine)) machineBytes) (startable rlen mlen elen rule seals (b .registers) (b .marks)) (few seals))
     where
-      go : (t u : Bool) → SameCalled (startOn rlen mlen elen rule sealStart sealLength b t u) (startOn rlen mlen elen rule sealStart sealLength (with b ys) t u)
-      go true true = record { same-result = refl; alike-after = agreeing _ _ _ _ _ _ _ _ _ _ (unmarked-agree (length (b .marks)) (b .registers) ys (a .same-length)) }
-      go true false = record { same-result = refl; alike-after = kept }
-      go false u = record { same-result = refl; alike-after = kept }
+      go : (t u v : Bool) → SameCalled (startOn rlen mlen elen rule seals b t u v) (startOn rlen mlen elen rule seals (with b ys) t u v)
+      go true true true = record { same-result = refl; alike-after = agreeing _ _ _ _ _ _ _ _ _ _ (unmarked-agree (length (b .marks)) (b .registers) ys (a .same-length)) }
+      go true true false = record { same-result = refl; alike-after = kept }
+      go true false v = record { same-result = refl; alike-after = kept }
+      go false u v = record { same-result = refl; alike-after = kept }
+
+  seal-same : (from size : ℕ) → SameCalled (called (Call.seal from size) b) (called (Call.seal from size) (with b ys))
+  unfolding hostSeal sealBlock
+  seal-same from size = go (eqb (length (b .machine)) machineBytes)
+    where
+      -- memory is not looked at
+      held : List ℕ → Bench
+      held xs = benchOf (machineOf (b .machine)) (sealsIn (b .machine)) xs (b .marks) []
+
+      out : Bool → List ℕ → Called
+      out t xs =
+          let o : SealOutcome = addSeal from size (held xs) in
+          afterSeal b (cond t (sealedOut (packed (o .answer)) (cond (done (o .answer)) (putSeals (o .bench .seals) (b .machine)) (b .machine)) xs (b .marks))
+          (sealedOut (packed (reply BadArguments)) (b .machine) xs (b .marks)))
+
+      go : (t : Bool) → SameCalled (out t (b .registers)) (out t ys)
+      go true =
+          let k = seal-ignores-unmarked from size (held (b .registers)) (held ys) (record { alike = record { same-machine = refl; same-seals = refl; same-marks = refl; agree = a }; same-memory = refl }) in
+          record {
+            same-result = ap packed (k .0);
+            alike-after = record {
+              same-machine = ap₂ (λ (v : Reply) (rs : List Range). cond (done v) (putSeals rs (b .machine)) (b .machine)) (k .0) (k .1 .alike .same-seals);
+              same-marks = refl;
+              agree = a;
+              same-scalars = refl;
+              same-memory = refl;
+              same-run = refl;
+              same-step = refl;
+              same-steps = refl;
+              same-file = refl;
+            };
+          }
+      go false = record { same-result = refl; alike-after = kept }
 
   step-same : (word group : ℕ) → SameCalled (called (Call.step word group) b) (called (Call.step word group) (with b ys))
   unfolding hostStep
@@ -263,11 +309,11 @@ module _ (b : Buffers) (ys : List ℕ) (a : Agree (b .marks) (b .registers) ys) 
 
   -- ---- images
 
-  one-image : imageOf (machineOf (b .machine)) (b .registers) (b .marks) ≡ imageOf (machineOf (b .machine)) ys (b .marks)
+  one-image : imageOf (machineOf (b .machine)) (sealsIn (b .machine)) (b .registers) (b .marks) ≡ imageOf (machineOf (b .machine)) (sealsIn (b .machine)) ys (b .marks)
   one-image = alike-one-image (bench (b .registers)) (bench ys) (benches .alike)
 
-  sound-alike : sound (machineOf (b .machine)) (b .registers) (b .marks) ≡ sound (machineOf (b .machine)) ys (b .marks)
-  sound-alike = sound-same (machineOf (b .machine)) (b .registers) ys (b .marks) (a .same-length)
+  sound-alike : soundWith (machineOf (b .machine)) (sealsIn (b .machine)) (b .registers) (b .marks) ≡ soundWith (machineOf (b .machine)) (sealsIn (b .machine)) ys (b .marks)
+  sound-alike = ap (λ (t : Bool). t && sealsFit (sealsIn (b .machine))) (sound-same (machineOf (b .machine)) (b .registers) ys (b .marks) (a .same-length))
 
   image-size-same : hostImageSize (b .machine) (b .registers) (b .marks) ≡ hostImageSize (b .machine) ys (b .marks)
   unfolding hostImageSize sizeImage
@@ -286,17 +332,20 @@ module _ (b : Buffers) (ys : List ℕ) (a : Agree (b .marks) (b .registers) ys) 
       sound-alike one-image
 
   image-read-same : (image : List ℕ) → SameCalled (called (Call.imageRead image) b) (called (Call.imageRead image) (with b ys))
-  unfolding hostImageRead readImage checkImage
+  unfolding hostImageRead readBlock readImage checkImage
   image-read-same image = go (eqb (length (b .machine)) machineBytes) (parse imageFormat image)
     where
       out : Bool → Parsed Described → List ℕ → Called
       out t q xs =
-          afterRead b (cond t (shownRead (b .machine) (readAs q xs (b .marks))) (readOut (packedReply (imageReply (blockRefused (verdictOf q))) 0) (b .machine) xs (b .marks)))
+          afterRead b (shownRead (cond t (intoBlock (b .machine) (readAs q xs (b .marks)))
+          (restoredAs (record { answer = blockRefused (verdictOf q); machine = noMachine }) (b .machine) xs (b .marks))))
 
       -- an image of which the buffers are of the machine's size, or not
       fits : Described → Bool → List ℕ → Called
       fits d u xs =
-          afterRead b (shownRead (b .machine) (cond u (restored Image.Done (machineFrom (d .header)) (over (cellsIn d) xs) (marksOf (cellsIn d))) (restored Image.BadArguments noMachine xs (b .marks))))
+          afterRead b (shownRead (intoBlock (b .machine) (cond u
+          (restored Image.Done (machineFrom (d .header)) (d .header .seals) (over (cellsIn d) xs) (marksOf (cellsIn d)))
+          (restored Image.BadArguments noMachine [] xs (b .marks)))))
 
       fit : (d : Described) (u : Bool) → SameCalled (fits d u (b .registers)) (fits d u ys)
       fit d true = record { same-result = refl; alike-after = agreeing _ _ _ _ _ _ _ _ _ _ (over-agree (cellsIn d) (b .registers) ys (a .same-length)) }
@@ -307,11 +356,13 @@ module _ (b : Buffers) (ys : List ℕ) (a : Agree (b .marks) (b .registers) ys) 
       go true (whole d) =
           subst (λ (u : Bool). SameCalled (out true (whole d) (b .registers)) (fits d u ys)) (fitted-same d (b .registers) ys (b .marks) (b .marks) (a .same-length) refl)
           (fit d (fitted d (b .registers) (b .marks)))
-      go false q = record { same-result = refl; alike-after = kept }
+      go false (whole d) = record { same-result = refl; alike-after = kept }
+      go false (stopped p) = record { same-result = refl; alike-after = kept }
 
   each-same : (c : Call) → SameCalled (called c b) (called c (with b ys))
-  each-same (Call.start rlen mlen elen rule sealStart sealLength) = start-same rlen mlen elen rule sealStart sealLength
+  each-same (Call.start rlen mlen elen rule seals) = start-same rlen mlen elen rule seals
   each-same (Call.step word group) = step-same word group
+  each-same (Call.seal from size) = seal-same from size
   each-same (Call.runStart P) = run-start-same P
   each-same Call.runNext = record { same-result = refl; alike-after = agreeing _ _ _ _ _ _ _ _ _ _ a }
   each-same Call.runTurn = turn-same
@@ -344,13 +395,13 @@ image-write-ignores-unmarked image b b′ t =
 abbrev Starts : Called → Called → Type 0
 Starts o o′ = (o .result ≡ o′ .result) × (o .result ≡ 0 → AlikeBuffers (o .after) (o′ .after))
 
-module _ (rlen mlen elen rule sealStart sealLength : ℕ) (b b′ : Buffers) (p : AtPowerUp b b′) where
-  starts : (t u : Bool) → eqb (length (b .machine)) machineBytes ≡ t → Starts (startOn rlen mlen elen rule sealStart sealLength b t u) (startOn rlen mlen elen rule sealStart sealLength b′ t u)
-  starts true true e =
+module _ (rlen mlen elen rule : ℕ) (seals : List ℕ) (b b′ : Buffers) (p : AtPowerUp b b′) where
+  starts : (t u v : Bool) → eqb (length (b .machine)) machineBytes ≡ t → Starts (startOn rlen mlen elen rule seals b t u v) (startOn rlen mlen elen rule seals b′ t u v)
+  starts true true true e =
       let n : length (b .machine) ≡ machineBytes = eqb-true (length (b .machine)) machineBytes e in (
         refl,
         λ d. record {
-          same-machine = putMachine-fills (freshMachine rlen mlen elen rule sealStart sealLength) (b .machine) (b′ .machine) n (sym (p .machine-length) ∙ n);
+          same-machine = block-fills (freshMachine rlen mlen elen rule) (ranges seals) (b .machine) (b′ .machine) n (sym (p .machine-length) ∙ n);
           same-marks = ap (λ (k : ℕ). replicate k 0) (p .marks-length);
           agree = unmarked-agree (length (b .marks)) (b .registers) (b′ .registers) (p .registers-length);
           same-scalars = p .same-scalars;
@@ -361,26 +412,26 @@ module _ (rlen mlen elen rule sealStart sealLength : ℕ) (b b′ : Buffers) (p 
           same-file = p .same-file;
         },
       )
-  starts true false e = (refl, λ d. let z : _≡_ {A = ℕ} 8 0 = d in absurd (omega arith))
-  starts false u e = (refl, λ d. let z : _≡_ {A = ℕ} 8 0 = d in absurd (omega arith))
+  starts true true false e = (refl, λ d. let z : _≡_ {A = ℕ} 16 0 = d in absurd (omega arith))
+  starts true false v e = (refl, λ d. let z : _≡_ {A = ℕ} 8 0 = d in absurd (omega arith))
+  starts false u v e = (refl, λ d. let z : _≡_ {A = ℕ} 8 0 = d in absurd (omega arith))
 
-  both : Starts (called (Call.start rlen mlen elen rule sealStart sealLength) b) (called (Call.start rlen mlen elen rule sealStart sealLength) b′)
+  both : Starts (called (Call.start rlen mlen elen rule seals) b) (called (Call.start rlen mlen elen rule seals) b′)
   unfolding hostStart startMachine
   both =
-      subst (λ (t : Bool). Starts (called (Call.start rlen mlen elen rule sealStart sealLength) b) (startOn rlen mlen elen rule sealStart sealLength b′ t (startable rlen mlen elen rule sealStart sealLength (b′ .registers) (b′ .marks))))
+      subst (λ (t : Bool). Starts (called (Call.start rlen mlen elen rule seals) b) (startOn rlen mlen elen rule seals b′ t (startable rlen mlen elen rule seals (b′ .registers) (b′ .marks)) (few seals)))
       (ap (λ (n : ℕ). eqb n machineBytes) (p .machine-length))
-      (subst (λ (u : Bool). Starts (called (Call.start rlen mlen elen rule sealStart sealLength) b) (startOn rlen mlen elen rule sealStart sealLength b′ (eqb (length (b .machine)) machineBytes) u))
-      (startable-same rlen mlen elen rule sealStart sealLength (b .registers) (b′ .registers) (b .marks) (b′ .marks) (p .registers-length) (p .marks-length))
-      (starts (eqb (length (b .machine)) machineBytes) (startable rlen mlen elen rule sealStart sealLength (b .registers) (b .marks)) refl))
+      (subst (λ (u : Bool). Starts (called (Call.start rlen mlen elen rule seals) b) (startOn rlen mlen elen rule seals b′ (eqb (length (b .machine)) machineBytes) u (few seals)))
+      (startable-same rlen mlen elen rule seals (b .registers) (b′ .registers) (b .marks) (b′ .marks) (p .registers-length) (p .marks-length))
+      (starts (eqb (length (b .machine)) machineBytes) (startable rlen mlen elen rule seals (b .registers) (b .marks)) (few seals) refl))
 
 pub power-up-never-matters-to-hosts : PowerUpNeverMattersToHosts
-power-up-never-matters-to-hosts rlen mlen elen rule sealStart sealLength b b′ p =
-    let s = both rlen mlen elen rule sealStart sealLength b b′ p in
+power-up-never-matters-to-hosts rlen mlen elen rule seals b b′ p =
+    let s = both rlen mlen elen rule seals b b′ p in
     record {
       same-result = s .0;
       alike-after = s .1;
-      same-calls = λ d cs.
-          calls-ignore-unmarked cs (called (Call.start rlen mlen elen rule sealStart sealLength) b .after) (called (Call.start rlen mlen elen rule sealStart sealLength) b′ .after) (s .1 d);
+      same-calls = λ d cs. calls-ignore-unmarked cs (called (Call.start rlen mlen elen rule seals) b .after) (called (Call.start rlen mlen elen rule seals) b′ .after) (s .1 d);
     }
 
 -- ---- from the reading of an image on
@@ -397,21 +448,21 @@ module _ (image : List ℕ) (b b′ : Buffers) (p : AtPowerUp b b′) where
   -- what a read leaves, by its test on the machine's block
   abbrev readOn : Buffers → Bool → Parsed Described → Called
   readOn c t q =
-      afterRead c (cond t (shownRead (c .machine) (readAs q (c .registers) (c .marks)))
-      (readOut (packedReply (imageReply (blockRefused (verdictOf q))) 0) (c .machine) (c .registers) (c .marks)))
+      afterRead c (shownRead (cond t (intoBlock (c .machine) (readAs q (c .registers) (c .marks)))
+      (restoredAs (record { answer = blockRefused (verdictOf q); machine = noMachine }) (c .machine) (c .registers) (c .marks))))
 
   -- and of an image, by that on the other buffers
   abbrev fitsOn : Buffers → Described → Bool → Called
   fitsOn c d u =
-      afterRead c (shownRead (c .machine) (cond u
-      (restored Image.Done (machineFrom (d .header)) (over (cellsIn d) (c .registers)) (marksOf (cellsIn d)))
-      (restored Image.BadArguments noMachine (c .registers) (c .marks))))
+      afterRead c (shownRead (intoBlock (c .machine) (cond u
+      (restored Image.Done (machineFrom (d .header)) (d .header .seals) (over (cellsIn d) (c .registers)) (marksOf (cellsIn d)))
+      (restored Image.BadArguments noMachine [] (c .registers) (c .marks)))))
 
   fits-both : (d : Described) (u : Bool) → length (b .machine) ≡ machineBytes → Starts (fitsOn b d u) (fitsOn b′ d u)
   fits-both d true n = (
     refl,
     λ z. record {
-      same-machine = putMachine-fills (machineFrom (d .header)) (b .machine) (b′ .machine) n (sym (p .machine-length) ∙ n);
+      same-machine = read-fills (machineFrom (d .header)) (d .header .seals) (b .machine) (b′ .machine) n (sym (p .machine-length) ∙ n);
       same-marks = refl;
       agree = over-agree (cellsIn d) (b .registers) (b′ .registers) (p .registers-length);
       same-scalars = p .same-scalars;
@@ -433,7 +484,7 @@ module _ (image : List ℕ) (b b′ : Buffers) (p : AtPowerUp b b′) where
   reads false e (stopped k) = (refl, λ z. absurd (damage-refuses k z))
 
   both-read : Starts (called (Call.imageRead image) b) (called (Call.imageRead image) b′)
-  unfolding hostImageRead readImage checkImage
+  unfolding hostImageRead readBlock readImage checkImage
   both-read =
       subst (λ (t : Bool). Starts (called (Call.imageRead image) b) (readOn b′ t (parse imageFormat image)))
       (ap (λ (n : ℕ). eqb n machineBytes) (p .machine-length))

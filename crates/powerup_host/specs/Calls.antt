@@ -10,7 +10,7 @@ use Rattle.calls.specs.Calls.{Buffers, Call, Called, called, calls}
 
 -- ---- the statements
 
--- equal bytes of machine, marks, scalars, memory, run, step and steps; registers of one length, equal wherever the mark is 1
+-- equal bytes of machine, marks, scalars, memory, run, step, steps and vector file; registers of one length, equal wherever the mark is 1
 pub record AlikeBuffers (b b′ : Buffers) : Type 0 where
   pub same-machine : b .machine ≡ b′ .machine
   pub same-marks : b .marks ≡ b′ .marks
@@ -68,8 +68,8 @@ pub record SameFromStart (o o′ : Called) : Type 0 where
   pub same-calls : o .result ≡ 0 → (cs : List Call) → EachSameCalled (calls cs (o .after)) (calls cs (o′ .after))
 
 abbrev pub PowerUpNeverMattersToHosts : Type 0
-PowerUpNeverMattersToHosts = (rlen mlen elen rule sealStart sealLength : ℕ) (b b′ : Buffers) → AtPowerUp b b′
-    → SameFromStart (called (Call.start rlen mlen elen rule sealStart sealLength) b) (called (Call.start rlen mlen elen rule sealStart sealLength) b′)
+PowerUpNeverMattersToHosts = (rlen mlen elen rule : ℕ) (seals : List ℕ) (b b′ : Buffers) → AtPowerUp b b′
+    → SameFromStart (called (Call.start rlen mlen elen rule seals) b) (called (Call.start rlen mlen elen rule seals) b′)
 
 abbrev pub PowerUpNeverMattersToReaders : Type 0
 PowerUpNeverMattersToReaders = (image : List ℕ) (b b′ : Buffers) → AtPowerUp b b′

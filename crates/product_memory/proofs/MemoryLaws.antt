@@ -16,14 +16,13 @@ use Rattle.width.proofs.ReduceLaws.{sumℤ-cong}
 use Rattle.width.proofs.TileLaws.{le-cong, length-putRow, putRow-out, pitched}
 use Rattle.width.proofs.PutLaws.{putLe-low}
 use Rattle.width.proofs.WordLaws.{le-putRow}
-use Rattle.machine.specs.declared.Machine.{Machine}
 use Rattle.machine.specs.declared.Reply.{Reply}
 use Rattle.machine.specs.Tests.{isIn, every}
-use Rattle.machine.specs.Geometry.{Parameters, Bench}
+use Rattle.machine.specs.Geometry.{Range, Parameters, Bench}
 use Rattle.machine.specs.Memory.{rowZ, rowAt, address}
 use Rattle.machine.specs.Faults.{soundBench}
 use Rattle.machine.specs.Operation.{element}
-use Rattle.machine.proofs.TestLaws.{every-each, each-every, each, each-in, or-not}
+use Rattle.machine.proofs.TestLaws.{false-true, every-each, each-every, each, each-in, or-not}
 use Rattle.machine.proofs.MemoryLaws.{rowZ-up}
 use Rattle.element.specs.Element.{Short}
 use Rattle.element.proofs.Laws.{short-small}
@@ -125,20 +124,20 @@ module _ (sew f m k n : ℕ) (formatted : format 32 sew f ≡ true) (m≤ : m �
     c-lies = λ i b l. lies 2048 (n * (f * (sew / 8))) c-row (length mem) i b (omega arith) (omega arith);
   }
 
-  separates : (machine : Machine) → machine .«seal_length» ≡ 0 → Separate machine (planFor sew f m k n)
+  separates : Separate [] (planFor sew f m k n)
   unfolding narrow
-  separates machine none = record {
+  separates = record {
     rows = λ i j q l g. rows-apart 2048 (n * (f * (sew / 8))) c-row i j q l;
     from-a = λ i j q l g x y. omega (arith, row-in 0 (k * (sew / 8)) a-row i q (omega arith) x, row-in 2048 (n * (f * (sew / 8))) c-row j q (omega arith) y);
     from-b = λ i j q l g x y. omega (arith, row-in 1024 (n * (sew / 8)) b-row i q (omega arith) x, row-in 2048 (n * (f * (sew / 8))) c-row j q (omega arith) y);
-    from-seal = λ i q l x y. omega arith;
+    from-seal = λ i q l x y. false-true y;
   }
 
   -- a start is accepted
-  pub accepted-here : (B : Bench) → soundBench B ≡ true → B .machine .elen ≡ 32 → B .machine .«seal_length» ≡ 0 → length (B .memory) ≡ 3072
+  pub accepted-here : (B : Bench) → soundBench B ≡ true → B .machine .elen ≡ 32 → B .seals ≡ [] → length (B .memory) ≡ 3072
       → (a : Reply) → Answered (planFor sew f m k n) B a → a .number ≡ 0
   accepted-here B s known none len a h =
-      h .gives-0 (numbers-are (planFor sew f m k n) B s (ap (λ (e : ℕ). planned e (planFor sew f m k n)) known ∙ numbers)) (insides (B .memory) len) (separates (B .machine) none)
+      h .gives-0 (numbers-are (planFor sew f m k n) B s (ap (λ (e : ℕ). planned e (planFor sew f m k n)) known ∙ numbers)) (insides (B .memory) len) (subst (λ (rs : List Range). Separate rs (planFor sew f m k n)) (sym none) separates)
 
   -- the elements of C lie row after row
   pub c-place : (mem : List ℕ) (i j : ℕ)

@@ -23,7 +23,7 @@ planFor sew f m k n = record {
 
 -- "The machine is MLEN 256, RLEN 64.", with ELEN 32, as every machine had it before 02, Ten, and no seal
 abbrev pub productMachine : Parameters
-productMachine = parametersOf smaller 64 256 32 (λ q. false)
+productMachine = parametersOf smaller 64 256 32
 
 -- its run on a memory
 abbrev pub jobFor : (sew f m k n : ℕ) → List ℕ → Job

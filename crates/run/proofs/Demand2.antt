@@ -8,11 +8,11 @@ use native.Mathlib.Omega.{arith}
 use lib.ListN.{length, getD, replicate}
 use Rattle.machine.specs.declared.Answer.the-variants.{Done, BadArguments}
 use Rattle.machine.specs.Answers.{reply}
-use Rattle.machine.specs.Geometry.{Parameters, parameters, Bench, benchOf}
-use Rattle.machine.specs.Starting.{startable, startMachine, StartOutcome, freshMachine, noMachine}
-use Rattle.machine.specs.Theorems.{Unharmed, startedBench}
-use Rattle.machine.proofs.TestLaws.{in-within}
-use Rattle.machine.proofs.Sealing.{step-unharmed, step-with-unharmed}
+use Rattle.machine.specs.Geometry.{Range, sealed, Bench, benchOf}
+use Rattle.machine.specs.Starting.{ranges, startMachine, StartOutcome}
+use Rattle.machine.specs.Theorems.{Extends, Unharmed, startedBench}
+use Rattle.machine.proofs.Sealing.{stay, stay-then, stays-sealed, step-unharmed, step-with-unharmed, seal-unharmed}
+use Rattle.machine.proofs.StartLaws.{accepted}
 use Rattle.run.specs.declared.Handed.{Handed}
 use Rattle.run.specs.Words.{Op, steps}
 use Rattle.run.specs.Plan.{shape}
@@ -27,13 +27,14 @@ use Rattle.run.proofs.HandedLaws.{turnWith}
 -- ---- one after another
 
 harmless : (grant : ℕ → ℕ → ℕ → ℕ) (B : Bench) → Unharmed grant B B
-harmless grant B = record { same-parameters = refl; same-length = refl; same-bytes = λ q h. refl }
+harmless grant B = record { same-parameters = refl; ranges-stay = stay (B .seals); same-length = refl; same-bytes = λ q h. refl }
 
 then : (grant : ℕ → ℕ → ℕ → ℕ) (B C D : Bench) → Unharmed grant B C → Unharmed grant C D → Unharmed grant B D
 then grant B C D u v = record {
   same-parameters = v .same-parameters ∙ u .same-parameters;
+  ranges-stay = stay-then (u .ranges-stay) (v .ranges-stay);
   same-length = v .same-length ∙ u .same-length;
-  same-bytes = λ q h. v .same-bytes q (subst (λ (M : Parameters). M .isSealed q ≡ true) (sym (u .same-parameters)) h) ∙ u .same-bytes q h;
+  same-bytes = λ q h. v .same-bytes q (stays-sealed (u .ranges-stay) q h) ∙ u .same-bytes q h;
 }
 
 -- ---- turns
@@ -54,7 +55,7 @@ turns-unharmed grant r (suc t) =
 
 -- a bench with another memory
 abbrev lent : Bench → List ℕ → Bench
-lent B memory = benchOf (B .machine) (B .registers) (B .marks) memory
+lent B memory = benchOf (B .machine) (B .seals) (B .registers) (B .marks) memory
 
 act-unharmed : (grant : ℕ → ℕ → ℕ → ℕ) (a : Act) (S : Session) → Unharmed grant (lent (S .bench) (lentBy a (S .bench .memory))) (act grant a S .after .bench)
 unfolding startRun
@@ -65,6 +66,7 @@ act-unharmed grant Act.runNext S = harmless grant (S .bench)
 act-unharmed grant Act.runTurn S = turn-unharmed grant (running (S .run) (S .bench))
 act-unharmed grant (Act.runTurns n) S = turns-unharmed grant (running (S .run) (S .bench)) n
 act-unharmed grant (Act.run P) S = turns-unharmed grant (startedRun grant P (S .bench)) (steps (shape (jobOf grant P (S .bench))))
+act-unharmed grant (Act.seal start size) S = seal-unharmed grant start size (S .bench)
 
 -- what two memories have in common stays, once others are lent to both
 lent-same : (Q : List ℕ → List ℕ → Type 0) → ((m : List ℕ) → Q m m) → (acts : List Act) (m m′ : List ℕ) → Q m m′ → Q (lentLast acts m) (lentLast acts m′)
@@ -76,11 +78,13 @@ lent-same Q r (Act.runNext ∷ acts) m m′ h = lent-same Q r acts m m′ h
 lent-same Q r (Act.runTurn ∷ acts) m m′ h = lent-same Q r acts m m′ h
 lent-same Q r (Act.runTurns n ∷ acts) m m′ h = lent-same Q r acts m m′ h
 lent-same Q r (Act.run P ∷ acts) m m′ h = lent-same Q r acts m m′ h
+lent-same Q r (Act.seal start size ∷ acts) m m′ h = lent-same Q r acts m m′ h
 
 lent-unharmed : (grant : ℕ → ℕ → ℕ → ℕ) (acts : List Act) (B C : Bench) → Unharmed grant B C
     → Unharmed grant (lent B (lentLast acts (B .memory))) (lent C (lentLast acts (C .memory)))
 lent-unharmed grant acts B C u = record {
   same-parameters = u .same-parameters;
+  ranges-stay = u .ranges-stay;
   same-length = lent-same (λ m m′. length m′ ≡ length m) (λ m. refl) acts (B .memory) (C .memory) (u .same-length);
   same-bytes = λ q h. lent-same (λ m m′. getD m′ q 0 ≡ getD m q 0) (λ m. refl) acts (B .memory) (C .memory) (u .same-bytes q h);
 }
@@ -95,32 +99,19 @@ seal-holds-over-acts grant (a ∷ acts) S =
 
 -- ---- from a start
 
-module _ (grant : ℕ → ℕ → ℕ → ℕ) (rlen mlen elen rule sealStart sealLength : ℕ) (registers marks memory : List ℕ) where
+module _ (grant : ℕ → ℕ → ℕ → ℕ) (rlen mlen elen rule : ℕ) (seals registers marks memory : List ℕ) where
   abbrev B₀ : Bench
-  B₀ = startedBench rlen mlen elen rule sealStart sealLength registers marks memory
+  B₀ = startedBench rlen mlen elen rule seals registers marks memory
 
-  fresh : startMachine rlen mlen elen rule sealStart sealLength registers marks .answer .number ≡ 0
-      → startMachine rlen mlen elen rule sealStart sealLength registers marks .machine ≡ freshMachine rlen mlen elen rule sealStart sealLength
-  unfolding startMachine
-  fresh = go (startable rlen mlen elen rule sealStart sealLength registers marks)
-    where
-      out : Bool → StartOutcome
-      out t = cond t (record { answer = reply Done; machine = freshMachine rlen mlen elen rule sealStart sealLength; registers = registers; marks = replicate (length marks) 0 })
-          (record { answer = reply BadArguments; machine = noMachine; registers = registers; marks = marks })
-
-      go : (t : Bool) → out t .answer .number ≡ 0 → out t .machine ≡ freshMachine rlen mlen elen rule sealStart sealLength
-      go true e = refl
-      go false e = absurd (omega arith)
-
-  pub kept-from : (B : Bench) (mem : List ℕ) → startMachine rlen mlen elen rule sealStart sealLength registers marks .answer .number ≡ 0 → Unharmed grant (lent B₀ mem) B → SealKept sealStart sealLength mem B
+  pub kept-from : (B : Bench) (mem : List ℕ) → startMachine rlen mlen elen rule seals registers marks .answer .number ≡ 0 → Unharmed grant (lent B₀ mem) B → SealKept (ranges seals) mem B
   kept-from B mem e u =
-      let p : parameters grant (B .machine) ≡ parameters grant (freshMachine rlen mlen elen rule sealStart sealLength) = u .same-parameters ∙ ap (parameters grant) (fresh e) in
+      let r : B₀ .seals ≡ ranges seals = ap (λ (o : StartOutcome). o .seals) (accepted rlen mlen elen rule seals registers marks e .leaves) in
       record {
-        same-seal = λ q. ap (λ (M : Parameters). M .isSealed q) p;
-        same-bytes = λ q x. u .same-bytes q (subst (λ (M : Parameters). M .isSealed q ≡ true) (sym (ap (parameters grant) (fresh e))) (in-within sealStart sealLength q x));
+        ranges-stay = subst (λ (rs : List Range). Extends rs (B .seals)) r (u .ranges-stay);
+        same-bytes = λ q x. u .same-bytes q (subst (λ (rs : List Range). sealed rs q ≡ true) (sym r) x);
       }
 
 pub seal-holds-over-acts-from-start : SealHoldsOverActsFromStart
-seal-holds-over-acts-from-start grant rlen mlen elen rule sealStart sealLength registers marks memory scalars W R e acts =
-    let S : Session = session (startedBench rlen mlen elen rule sealStart sealLength registers marks memory) scalars W R in
-    kept-from grant rlen mlen elen rule sealStart sealLength registers marks memory (afterActs grant acts S .bench) (lentLast acts memory) e (seal-holds-over-acts grant acts S)
+seal-holds-over-acts-from-start grant rlen mlen elen rule seals registers marks memory scalars W R e acts =
+    let S : Session = session (startedBench rlen mlen elen rule seals registers marks memory) scalars W R in
+    kept-from grant rlen mlen elen rule seals registers marks memory (afterActs grant acts S .bench) (lentLast acts memory) e (seal-holds-over-acts grant acts S)

@@ -19,7 +19,7 @@ use Rattle.machine.proofs.TestLaws.{every-each}
 use Rattle.machine.specs.declared.Reply.{Reply}
 use Rattle.machine.specs.Answers.{reply, number, done, verdict, _otherwise_}
 use Rattle.machine.proofs.CheckLaws.{Passed, passed, no-refusal}
-use Rattle.machine.specs.Geometry.{Parameters, parameters, permitted, State, stateOf}
+use Rattle.machine.specs.Geometry.{Range, sealed, Parameters, parameters, permitted, State, stateOf}
 use Rattle.machine.specs.Setting.{chosen}
 use Rattle.machine.specs.Starting.{isRule}
 use Rattle.machine.specs.Memory.{inside, rowZ, rowAt}
@@ -29,7 +29,7 @@ use Rattle.machine.specs.Refusals.{checks}
 use Rattle.machine.specs.Geometry.{Bench}
 use Rattle.machine.specs.Faults.{sound}
 use Rattle.machine.specs.Step.{Outcome, stepBy}
-use Rattle.machine.proofs.NoFault.{sound-is, step-sound}
+use Rattle.machine.proofs.NoFault.{sound-is, bench-sound, step-sound}
 use Rattle.machine.specs.Faults.{soundBench}
 use Rattle.machine.proofs.Sealing.{step-unharmed}
 use Rattle.machine.proofs.StepLaws.{step-done, benchAfter, permitted-lengths}
@@ -115,7 +115,7 @@ record Ready (grant : ℕ → ℕ → ℕ → ℕ) (P : Plan) (B : Bench) : Type
   lengths : permitted (B .machine .rlen) (B .machine .mlen) (B .machine .elen) ≡ true
   rule-is : isRule (B .machine .rule) ≡ true
   plan : planned (B .machine .elen) P ≡ true
-  accepts : Accepted (jobOf grant P B)
+  accepts : Accepted (jobOf grant P B) (sealed (B .seals))
   formatted : format mostElen (P .sew) (P .factor) ≡ true
   m≤ : P .m ≤ 1024
   k≤ : P .k ≤ 1024
@@ -139,6 +139,7 @@ module _ (grant : ℕ → ℕ → ℕ → ℕ) (P : Plan) (B₀ : Bench) where
     begun : begins S p ≡ true
     sane : soundBench B ≡ true
     same : parameters grant (B .machine) ≡ parameters grant (B₀ .machine)
+    seals : B .seals ≡ B₀ .seals
 
   -- what a word that is handed out does
   abbrev stepped : Op → Bench → Outcome
@@ -149,12 +150,12 @@ module _ (grant : ℕ → ℕ → ℕ → ℕ) (P : Plan) (B₀ : Bench) where
     holds : Holds (next S p) (stepped o B .bench)
 
 module _ (grant : ℕ → ℕ → ℕ → ℕ) (P : Plan) (B₀ : Bench) (R : Ready grant P B₀) where
-  abbrev A : Accepted (J grant P B₀)
+  abbrev A : Accepted (J grant P B₀) (sealed (B₀ .seals))
   A = R .accepts
 
   by-word : (p : Place) (o : Op) (B : Bench) → Holds grant P B₀ p B
       → Reads (parameters grant (B .machine)) (held B) (handedFor P o) (operationOf P o)
-      → Turns.Turned (J grant P B₀) A p (operationOf P o) (held B) (B .memory) → Done′ grant P B₀ p o B
+      → Turns.Turned (J grant P B₀) (sealed (B₀ .seals)) A p (operationOf P o) (held B) (B .memory) → Done′ grant P B₀ p o B
   by-word p o B h r t =
       let M : Parameters = parameters grant (B .machine) in
       let M₀ : Parameters = parameters grant (B₀ .machine) in
@@ -162,16 +163,18 @@ module _ (grant : ℕ → ℕ → ℕ → ℕ) (P : Plan) (B₀ : Bench) (R : Re
       let w : ℕ = handedFor P o .word in
       let xs : List ℕ = own (handedFor P o) in
       let d = step-done grant w xs B (r .instruction) q (r .decodes) (h .sane) refl (r .means)
-      (subst (λ (M : Parameters). Passed (checks M q (held B) (B .memory))) (sym (h .same)) (t .0)) in
+      (subst (λ (rs : List Range). Passed (checks M (sealed rs) q (held B) (B .memory))) (sym (h .seals))
+      (subst (λ (M : Parameters). Passed (checks M (sealed (B₀ .seals)) q (held B) (B .memory))) (sym (h .same)) (t .0))) in
       let a : At (J grant P B₀) (next (S grant P B₀) p) (held (benchAfter M q (held B) B)) (benchAfter M q (held B) B .memory) =
       subst (λ (M : Parameters). At (J grant P B₀) (next (S grant P B₀) p) (stateAfter M q (held B) (B .memory)) (memoryAfter M q (held B) (B .memory))) (sym (h .same)) (t .1) in
       record {
         answers = d .0;
         holds = record {
           here = subst (λ (C : Bench). At (J grant P B₀) (next (S grant P B₀) p) (held C) (C .memory)) (sym (d .1)) a;
-          begun = begins-next (S grant P B₀) (Turns.sound (J grant P B₀) A) p (h .begun);
+          begun = begins-next (S grant P B₀) (Turns.sound (J grant P B₀) (sealed (B₀ .seals)) A) p (h .begun);
           sane = step-sound grant (R .grants) w xs B (h .sane);
           same = step-unharmed grant w xs B .same-parameters ∙ h .same;
+          seals = ap (λ (C : Bench). C .seals) (d .1) ∙ h .seals;
         };
       }
 
@@ -208,46 +211,46 @@ module _ (grant : ℕ → ℕ → ℕ → ℕ) (P : Plan) (B₀ : Bench) (R : Re
   advance : (p : Place) (B : Bench) → Holds grant P B₀ p B → Advanced p B
   advance AtType B h =
       advanced AtType Op.setType B h refl (by-word AtType Op.setType B h (WordLaws.reads-type (parameters grant (B .machine)) P (R .formatted) (held B))
-      (Turns.turn-type (J grant P B₀) A (held B) (B .memory) (h .here)))
+      (Turns.turn-type (J grant P B₀) (sealed (B₀ .seals)) A (held B) (B .memory) (h .here)))
   advance (AtM i) B h =
       advanced (AtM i) (Op.setM (P .m - i)) B h refl (by-word (AtM i) (Op.setM (P .m - i)) B h
       (WordLaws.reads-m (parameters grant (B .machine)) P (R .formatted) (held B) (P .m - i) (omega (arith, R .m≤)))
-      (Turns.turn-m (J grant P B₀) A i (held B) (B .memory) (h .here)))
+      (Turns.turn-m (J grant P B₀) (sealed (B₀ .seals)) A i (held B) (B .memory) (h .here)))
   advance (AtN i j) B h =
       advanced (AtN i j) (Op.setN (P .n - j)) B h refl (by-word (AtN i j) (Op.setN (P .n - j)) B h
       (WordLaws.reads-n (parameters grant (B .machine)) P (R .formatted) (held B) (P .n - j) (omega (arith, R .n≤)))
-      (Turns.turn-n (J grant P B₀) A i j (held B) (B .memory) (h .here)))
+      (Turns.turn-n (J grant P B₀) (sealed (B₀ .seals)) A i j (held B) (B .memory) (h .here)))
   advance (AtClear i j) B h =
       advanced (AtClear i j) Op.clear B h refl (by-word (AtClear i j) Op.clear B h
       (WordLaws.reads-clear (parameters grant (B .machine)) P (R .formatted) (held B))
-      (Turns.turn-clear (J grant P B₀) A i j (held B) (B .memory) (h .here)))
+      (Turns.turn-clear (J grant P B₀) (sealed (B₀ .seals)) A i j (held B) (B .memory) (h .here)))
   advance (AtK i j s) B h =
       advanced (AtK i j s) (Op.setK (P .k - s)) B h refl (by-word (AtK i j s) (Op.setK (P .k - s)) B h
       (WordLaws.reads-k (parameters grant (B .machine)) P (R .formatted) (held B) (P .k - s) (omega (arith, R .k≤)))
-      (Turns.turn-k (J grant P B₀) A i j s (held B) (B .memory) (h .here)))
+      (Turns.turn-k (J grant P B₀) (sealed (B₀ .seals)) A i j s (held B) (B .memory) (h .here)))
   advance (AtA i j s) B h =
       let in-a = element-in (formOf P) i s (P .m) (P .k) (h .here .in-k .in-block .in-n .i<m) (h .here .s<k) in
       advanced (AtA i j s) (Op.loadA i s) B h refl (by-word (AtA i j s) (Op.loadA i s) B h
       (WordLaws.reads-a (parameters grant (B .machine)) P (R .formatted) (held B) i s
       (whole (P .a .address) (P .a .stride) (aRows P) (aColumns P) (narrow P) (A .0<narrow) (A .a-in) (aRow P i s) (aColumn P i s) (in-a .0) (in-a .1))
       (small (P .a .address) (P .a .stride) (aRows P) (aColumns P) (narrow P) (A .0<narrow) (A .a-in) (aRow P i s) (aColumn P i s) (in-a .0) (in-a .1)))
-      (Turns.turn-a (J grant P B₀) A i j s (held B) (B .memory) (h .here)))
+      (Turns.turn-a (J grant P B₀) (sealed (B₀ .seals)) A i j s (held B) (B .memory) (h .here)))
   advance (AtB i j s) B h =
       advanced (AtB i j s) (Op.loadB s j) B h refl (by-word (AtB i j s) (Op.loadB s j) B h
       (WordLaws.reads-b (parameters grant (B .machine)) P (R .formatted) (held B) s j
       (whole (P .b .address) (P .b .stride) (P .k) (P .n) (narrow P) (A .0<narrow) (A .b-in) s j (h .here .0 .s<k) (h .here .0 .in-k .in-block .j<n))
       (small (P .b .address) (P .b .stride) (P .k) (P .n) (narrow P) (A .0<narrow) (A .b-in) s j (h .here .0 .s<k) (h .here .0 .in-k .in-block .j<n)))
-      (Turns.turn-b (J grant P B₀) A i j s (held B) (B .memory) (h .here)))
+      (Turns.turn-b (J grant P B₀) (sealed (B₀ .seals)) A i j s (held B) (B .memory) (h .here)))
   advance (AtMultiply i j s) B h =
       advanced (AtMultiply i j s) Op.multiply B h refl (by-word (AtMultiply i j s) Op.multiply B h
       (WordLaws.reads-multiply (parameters grant (B .machine)) P (R .formatted) (held B))
-      (Turns.turn-multiply (J grant P B₀) A i j s (held B) (B .memory) (h .here)))
+      (Turns.turn-multiply (J grant P B₀) (sealed (B₀ .seals)) A i j s (held B) (B .memory) (h .here)))
   advance (AtStore i j) B h =
       advanced (AtStore i j) (Op.store i j) B h refl (by-word (AtStore i j) (Op.store i j) B h
       (WordLaws.reads-store (parameters grant (B .machine)) P (R .formatted) (held B) i j
       (whole (P .c .address) (P .c .stride) (P .m) (P .n) (wide P) (A .0<wide) (A .c-in) i j (h .here .in-block .in-n .i<m) (h .here .in-block .j<n))
       (small (P .c .address) (P .c .stride) (P .m) (P .n) (wide P) (A .0<wide) (A .c-in) i j (h .here .in-block .in-n .i<m) (h .here .in-block .j<n)))
-      (Turns.turn-store (J grant P B₀) A i j (held B) (B .memory) (h .here)))
+      (Turns.turn-store (J grant P B₀) (sealed (B₀ .seals)) A i j (held B) (B .memory) (h .here)))
   advance AtEnd B h =
       subst (λ (ws : Option Op). Holds grant P B₀ AtEnd (turnWith grant (at grant P B₀ AtEnd B) ws .after .bench) × ((AtEnd ≡ AtEnd) ⊎ (turnWith grant (at grant P B₀ AtEnd B) ws .answer ≡ reply Done)))
       (sym (hands AtEnd B h)) (h, inl refl)
@@ -276,7 +279,7 @@ module _ (grant : ℕ → ℕ → ℕ → ℕ) (P : Plan) (B₀ : Bench) (R : Re
   -- only the place and the bench of a run change, and the invariant holds
   both : (t : ℕ) → (after t ≡ at grant P B₀ (placeAfter (S grant P B₀) t) (after t .bench)) × Holds grant P B₀ (placeAfter (S grant P B₀) t) (after t .bench)
   both zero =
-      let s = sound-is (B₀ .machine) (B₀ .registers) (B₀ .marks) (R .sane) in
+      let s = sound-is (B₀ .machine) (B₀ .registers) (B₀ .marks) (bench-sound B₀ (R .sane)) in
       let n = permitted-lengths (B₀ .machine .rlen) (B₀ .machine .mlen) (B₀ .machine .elen) (s .lengths) in (
         refl,
         record {
@@ -284,6 +287,7 @@ module _ (grant : ℕ → ℕ → ℕ → ℕ) (P : Plan) (B₀ : Bench) (R : Re
           begun = refl;
           sane = R .sane;
           same = refl;
+          seals = refl;
         },
       )
   both (suc t) =
@@ -301,25 +305,25 @@ module _ (grant : ℕ → ℕ → ℕ → ℕ) (P : Plan) (B₀ : Bench) (R : Re
   holding t = both t .1
 
   to-come : (t : ℕ) → rest (S grant P B₀) (placeAfter (S grant P B₀) t) ≡ drop t (words (S grant P B₀))
-  to-come t = rest-after (S grant P B₀) (Turns.sound (J grant P B₀) A) t
+  to-come t = rest-after (S grant P B₀) (Turns.sound (J grant P B₀) (sealed (B₀ .seals)) A) t
 
   at-end : (t : ℕ) → steps (S grant P B₀) ≤ t → placeAfter (S grant P B₀) t ≡ AtEnd
   at-end t l = go (one-word (S grant P B₀) (placeAfter (S grant P B₀) t))
     where
       none : rest (S grant P B₀) (placeAfter (S grant P B₀) t) ≡ []
-      none = to-come t ∙ drop-of-length-le (words (S grant P B₀)) {i = t} (omega (arith, length-words (S grant P B₀) (Turns.sound (J grant P B₀) A)))
+      none = to-come t ∙ drop-of-length-le (words (S grant P B₀)) {i = t} (omega (arith, length-words (S grant P B₀) (Turns.sound (J grant P B₀) (sealed (B₀ .seals)) A)))
 
       go : (placeAfter (S grant P B₀) t ≡ AtEnd) ⊎ ((o : Op) × (wordAt (S grant P B₀) (placeAfter (S grant P B₀) t) ≡ some o)) → placeAfter (S grant P B₀) t ≡ AtEnd
       go (inl e) = e
       go (inr (o, e)) =
           let z : suc (length (rest (S grant P B₀) (next (S grant P B₀) (placeAfter (S grant P B₀) t)))) ≡ 0 =
-          ap length (ap (λ (w : Option Op). before w (rest (S grant P B₀) (next (S grant P B₀) (placeAfter (S grant P B₀) t)))) (sym e) ∙ sym (rest-next (S grant P B₀) (Turns.sound (J grant P B₀) A) (placeAfter (S grant P B₀) t)) ∙ none) in
+          ap length (ap (λ (w : Option Op). before w (rest (S grant P B₀) (next (S grant P B₀) (placeAfter (S grant P B₀) t)))) (sym e) ∙ sym (rest-next (S grant P B₀) (Turns.sound (J grant P B₀) (sealed (B₀ .seals)) A) (placeAfter (S grant P B₀) t)) ∙ none) in
           absurd (omega arith)
 
   not-end : (t : ℕ) → t < steps (S grant P B₀) → placeAfter (S grant P B₀) t ≡ AtEnd → ⊥
   not-end t l e =
       let z : 0 ≡ suc (length (drop (suc t) (words (S grant P B₀)))) =
-      ap length (ap (rest (S grant P B₀)) (sym e) ∙ to-come t ∙ drop-cons (words (S grant P B₀)) t Op.setType (omega (arith, length-words (S grant P B₀) (Turns.sound (J grant P B₀) A)))) in
+      ap length (ap (rest (S grant P B₀)) (sym e) ∙ to-come t ∙ drop-cons (words (S grant P B₀)) t Op.setType (omega (arith, length-words (S grant P B₀) (Turns.sound (J grant P B₀) (sealed (B₀ .seals)) A)))) in
       omega arith
 
   -- the word at the place after t turns is word t of the list
@@ -337,8 +341,8 @@ module _ (grant : ℕ → ℕ → ℕ → ℕ) (P : Plan) (B₀ : Bench) (R : Re
           e,
           ap (λ (w : List Op). handedFor P (getD w 0 Op.setType)) (
               ap (λ (w : Option Op). before w (rest (S grant P B₀) (next (S grant P B₀) p))) (sym e)
-              ∙ sym (rest-next (S grant P B₀) (Turns.sound (J grant P B₀) A) p) ∙ to-come t ∙ drop-cons (words (S grant P B₀)) t Op.setType (omega (arith, length-words (S grant P B₀) (Turns.sound (J grant P B₀) A))))
-              ∙ sym (getD-map (handedFor P) (words (S grant P B₀)) t Op.setType (plain 0) (omega (arith, length-words (S grant P B₀) (Turns.sound (J grant P B₀) A)))),
+              ∙ sym (rest-next (S grant P B₀) (Turns.sound (J grant P B₀) (sealed (B₀ .seals)) A) p) ∙ to-come t ∙ drop-cons (words (S grant P B₀)) t Op.setType (omega (arith, length-words (S grant P B₀) (Turns.sound (J grant P B₀) (sealed (B₀ .seals)) A))))
+              ∙ sym (getD-map (handedFor P) (words (S grant P B₀)) t Op.setType (plain 0) (omega (arith, length-words (S grant P B₀) (Turns.sound (J grant P B₀) (sealed (B₀ .seals)) A)))),
         ),
       )
 
@@ -428,11 +432,11 @@ module _ (grant : ℕ → ℕ → ℕ → ℕ) (G : EachGrants grant) (P : Plan)
       record {
         grants = G;
         sane = c .0;
-        lengths = sound-is (B .machine) (B .registers) (B .marks) (c .0) .lengths;
-        rule-is = sound-is (B .machine) (B .registers) (B .marks) (c .0) .rule-is;
+        lengths = sound-is (B .machine) (B .registers) (B .marks) (bench-sound B (c .0)) .lengths;
+        rule-is = sound-is (B .machine) (B .registers) (B .marks) (bench-sound B (c .0)) .rule-is;
         plan = c .1 .0;
-        accepts = accepted grant G P B bytes (sound-is (B .machine) (B .registers) (B .marks) (c .0) .lengths) (t .0) (t .1 .1 .1 .1 .0) (c .1 .1 .0) (c .1 .1 .1 .0);
-        formatted = widest-format (B .machine .elen) (P .sew) (P .factor) (permitted-elen (B .machine .rlen) (B .machine .mlen) (B .machine .elen) (sound-is (B .machine) (B .registers) (B .marks) (c .0) .lengths) .0) (t .0);
+        accepts = accepted grant G P B bytes (sound-is (B .machine) (B .registers) (B .marks) (bench-sound B (c .0)) .lengths) (t .0) (t .1 .1 .1 .1 .0) (c .1 .1 .0) (c .1 .1 .1 .0);
+        formatted = widest-format (B .machine .elen) (P .sew) (P .factor) (permitted-elen (B .machine .rlen) (B .machine .mlen) (B .machine .elen) (sound-is (B .machine) (B .registers) (B .marks) (bench-sound B (c .0)) .lengths) .0) (t .0);
         m≤ = leb-true (P .m) 1024 (t .1 .0);
         k≤ = leb-true (P .k) 1024 (t .1 .1 .0);
         n≤ = leb-true (P .n) 1024 (t .1 .1 .1 .0);
@@ -450,31 +454,31 @@ module _ (grant : ℕ → ℕ → ℕ → ℕ) (G : EachGrants grant) (P : Plan)
   answers : Answered P B (startRun grant P B .answer)
   unfolding startRun
   answers = record {
-    gives-0 = λ n i s. ap number (no-refusal (startChecks grant P B) (n .no-fault, (numbers-planned P B n, (is-inside P (B .memory) i, (is-separate grant (B .machine) P s, tt)))));
+    gives-0 = λ n i s. ap number (no-refusal (startChecks grant P B) (n .no-fault, (numbers-planned P B n, (is-inside P (B .memory) i, (is-separate (B .seals) P s, tt)))));
     only-then = λ e. let c = is-passed e in
-        (numbers-are P B (c .0) (c .1 .0), inside-is P (B .memory) (c .1 .1 .0), separate-is grant (B .machine) P (c .1 .1 .1 .0));
+        (numbers-are P B (c .0) (c .1 .0), inside-is P (B .memory) (c .1 .1 .0), separate-is (B .seals) P (c .1 .1 .1 .0));
     gives-8 = λ d. eight d (soundBench B) refl (planned (B .machine .elen) P) refl;
     gives-6 = λ n d. six n d (lying P (B .memory)) refl;
-    gives-9 = λ n i d. nine n i d (separate (parameters grant (B .machine)) P) refl;
+    gives-9 = λ n i d. nine n i d (separate (sealed (B .seals)) P) refl;
   }
     where
       rest-of : Bool → Bool → Bool → Bool → ℕ
       rest-of s p l d = number (verdict ((s otherwise BadArguments) ∷ (p otherwise BadArguments) ∷ (l otherwise OutsideMemory) ∷ (d otherwise Overlap) ∷ []))
 
       eight : ¬ Numbers P B → (s : Bool) → soundBench B ≡ s → (p : Bool) → planned (B .machine .elen) P ≡ p
-          → rest-of s p (lying P (B .memory)) (separate (parameters grant (B .machine)) P) ≡ 8
+          → rest-of s p (lying P (B .memory)) (separate (sealed (B .seals)) P) ≡ 8
       eight d true es true ep = absurd (d (numbers-are P B es ep))
       eight d true es false ep = refl
       eight d false es p ep = refl
 
       six : Numbers P B → ¬ Inside P (B .memory) → (l : Bool) → lying P (B .memory) ≡ l
-          → rest-of (soundBench B) (planned (B .machine .elen) P) l (separate (parameters grant (B .machine)) P) ≡ 6
+          → rest-of (soundBench B) (planned (B .machine .elen) P) l (separate (sealed (B .seals)) P) ≡ 6
       six n d true e = absurd (d (inside-is P (B .memory) e))
       six n d false e = rw (n .no-fault, numbers-planned P B n)
 
-      nine : Numbers P B → Inside P (B .memory) → ¬ Separate (B .machine) P → (d : Bool) → separate (parameters grant (B .machine)) P ≡ d
+      nine : Numbers P B → Inside P (B .memory) → ¬ Separate (B .seals) P → (d : Bool) → separate (sealed (B .seals)) P ≡ d
           → rest-of (soundBench B) (planned (B .machine .elen) P) (lying P (B .memory)) d ≡ 9
-      nine n i d true e = absurd (d (separate-is grant (B .machine) P e))
+      nine n i d true e = absurd (d (separate-is (B .seals) P e))
       nine n i d false e = rw (n .no-fault, numbers-planned P B n, is-inside P (B .memory) i)
 
 -- ---- demand 3
@@ -484,7 +488,7 @@ unfolding startRun
 demand-3 grant G P B bytes = record {
   answered = answers grant G P B bytes;
   unchanged = refl;
-  as-many = λ e. length-map (handedFor P) (words (shape (jobOf grant P B))) ∙ length-words (shape (jobOf grant P B)) (Turns.sound (jobOf grant P B) (ready grant G P B bytes (is-passed grant G P B bytes e) .accepts));
+  as-many = λ e. length-map (handedFor P) (words (shape (jobOf grant P B))) ∙ length-words (shape (jobOf grant P B)) (Turns.sound (jobOf grant P B) (sealed (B .seals)) (ready grant G P B bytes (is-passed grant G P B bytes e) .accepts));
   turns = λ e t. subst (λ (r : Run). Right grant (jobOf grant P B) (record { run = r; bench = B }) t) (sym (runs-fresh grant G P B bytes e)) (right grant P B (ready grant G P B bytes (is-passed grant G P B bytes e)) t);
   idle = started-idle grant P B;
 }

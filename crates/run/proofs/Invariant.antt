@@ -1,6 +1,6 @@
 -- The invariant of a run: what an accepted start says, what each step does, and what holds at each place.
 use mathlib.Core.Path.{_≡_}
-use mathlib.Core.Bool.{true, false}
+use mathlib.Core.Bool.{Bool, true, false}
 use mathlib.Core.List.{List}
 use Prim.Native.Nat.{ℕ, zero, _+_, _*_, _≤_, _<_}
 use lib.ListN.{length, getD}
@@ -13,7 +13,7 @@ use Rattle.machine.specs.declared.Dimension.the-variants.{DimensionM, Dimension
 use Rattle.machine.specs.Geometry.{State, tileAt, accAt}
 use Rattle.machine.specs.Setting.{sew, mill, newType}
 use Rattle.machine.specs.Refusals.{widthOk, widthOf}
-use Rattle.machine.specs.Memory.{inside, unsealed}
+use Rattle.machine.specs.Memory.{inside, rowsMiss}
 use Rattle.machine.specs.Operation.{Operation, element}
 use Rattle.run.specs.declared.Plan.{Plan}
 use Rattle.run.specs.declared.Place.{Place}
@@ -35,7 +35,7 @@ operationOf P Op.multiply = multiplyOf (elementsOf P) (P .factor)
 operationOf P (Op.store i j) = Operation.store Plain MatrixC 0 (wide P) (cAt P i + j * wide P) (P .c .stride)
 
 -- what an accepted start says
-pub record Accepted (J : Job) : Type 0 where
+pub record Accepted (J : Job) (isSealed : ℕ → Bool) : Type 0 where
   pub grants : Grants (J .machine .grant)
   pub 0<narrow : zero < narrow (J .plan)
   pub 0<rows : zero < J .machine .rows
@@ -52,7 +52,7 @@ pub record Accepted (J : Job) : Type 0 where
   pub a-in : inside (length (J .memory)) (J .plan .a .address) (J .plan .a .stride) (aRows (J .plan)) (aColumns (J .plan) * narrow (J .plan)) ≡ true
   pub b-in : inside (length (J .memory)) (J .plan .b .address) (J .plan .b .stride) (J .plan .k) (J .plan .n * narrow (J .plan)) ≡ true
   pub c-in : inside (length (J .memory)) (J .plan .c .address) (J .plan .c .stride) (J .plan .m) (J .plan .n * wide (J .plan)) ≡ true
-  pub c-unsealed : unsealed (J .machine) (J .plan .c .address) (J .plan .c .stride) (J .plan .m) (J .plan .n * wide (J .plan)) ≡ true
+  pub c-unsealed : rowsMiss isSealed (J .plan .c .address) (J .plan .c .stride) (J .plan .m) (J .plan .n * wide (J .plan)) ≡ true
   pub c-rows : (i k q : ℕ) → i < k → k < J .plan .m → In (cAt (J .plan) i) (J .plan .n * wide (J .plan)) q → ¬ In (cAt (J .plan) k) (J .plan .n * wide (J .plan)) q
   pub c-a : (i q : ℕ) → i < aRows (J .plan) → In (aAt (J .plan) i) (aColumns (J .plan) * narrow (J .plan)) q → ¬ OfC J q
   pub c-b : (l q : ℕ) → l < J .plan .k → In (bAt (J .plan) l) (J .plan .n * narrow (J .plan)) q → ¬ OfC J q

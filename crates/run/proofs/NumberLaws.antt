@@ -1,6 +1,7 @@
 -- What a run needs of its elements, integers or binary32 numbers: a multiply passes its checks where an integer multiply does, a cleared
 -- element is the sum of no product, a multiply adds the products of one block to the sum, and both fit their width. All that is
 -- particular to either in the proof of demand 3 stands here.
+use mathlib.Core.Bool.{Bool}
 use mathlib.Core.Path.{_≡_, refl, sym, ap, ap₂, _∙_, subst}
 use mathlib.Core.List.{List}
 use Prim.Native.Nat.{ℕ, _+_, _*_, _%_, _^_, _<_}
@@ -39,9 +40,9 @@ module _ (M : Parameters) (st : State) (mem : List ℕ) (f : ℕ) where
   abbrev narrow : ℕ
   narrow = sew (st .mtype)
 
-  pub multiply-passes : (q : Elements) → Suits q f narrow → Passed (checks M (Operation.multiply f 0 0 1) st mem) → Passed (checks M (multiplyOf q f) st mem)
-  multiply-passes integers s p = p
-  multiply-passes floats s p =
+  pub multiply-passes : (isSealed : ℕ → Bool) (q : Elements) → Suits q f narrow → Passed (checks M isSealed (Operation.multiply f 0 0 1) st mem) → Passed (checks M isSealed (multiplyOf q f) st mem)
+  multiply-passes z integers s p = p
+  multiply-passes z floats s p =
       (p .0, (eq-eqb (8 * narrow) 32 (ap (λ (e : ℕ). 8 * e) (s .1)), subst (λ (g : ℕ). Passed (multiplyReads M g 0 0 1 st)) (s .0) (p .1 .1)))
 
   pub multiply-leaves : (q : Elements) → Suits q f narrow → stateAfter M (multiplyOf q f) st mem

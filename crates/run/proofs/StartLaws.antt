@@ -14,11 +14,11 @@ use Rattle.width.specs.Blocks.{EachGrants}
 use Rattle.width.proofs.BlockLaws.{le-or-lt}
 use Rattle.machine.specs.Tests.{all, every, within, isIn}
 use Rattle.machine.proofs.TestLaws.{all-true, all-at, every-each, each-every, within-not, not-within, fails-not, not-fails, or-right, false-true}
-use Rattle.machine.specs.Geometry.{Parameters, parameters, sealed, permitted}
+use Rattle.machine.specs.Geometry.{Range, Parameters, parameters, sealed, permitted}
 use Rattle.machine.specs.Setting.{sew, mill, newType}
-use Rattle.machine.specs.Memory.{inMemory, rowZ, inside, distinct, unsealed}
+use Rattle.machine.specs.Memory.{inMemory, rowZ, inside, distinct, rowsMiss}
 use Rattle.machine.proofs.StoreLaws.{distinct-at, at-distinct}
-use Rattle.machine.proofs.MemoryLaws.{inside-byte, clear-at, clear-true, unsealed-at, unsealed-true}
+use Rattle.machine.proofs.MemoryLaws.{inside-byte, misses-at, misses-true, rows-miss-at, rows-miss-true}
 use Rattle.machine.specs.declared.Machine.{Machine}
 use Rattle.machine.specs.Geometry.{Bench}
 use Rattle.machine.specs.Faults.{soundBench}
@@ -97,18 +97,15 @@ module _ (at : ℕ → ℕ) (rows n : ℕ) (at′ : ℕ → ℕ) (rows′ o : �
       all-true n (λ b. all rows′ (λ k. not (within (at′ k) o (at i + b)))) (λ b l′.
       all-true rows′ (λ k. not (within (at′ k) o (at i + b))) (λ k l″. not-within (at′ k) o (at i + b) (h i k (at i + b) l l″ (omega arith)))))
 
-module _ (grant : ℕ → ℕ → ℕ → ℕ) (m : Machine) (P : Plan) where
-  abbrev M : Parameters
-  M = parameters grant m
-
+module _ (seals : List Range) (P : Plan) where
   abbrev separates : List Bool
   separates =
       distinct (cAt P) (P .m) (P .n * wide P)
       ∷ apart (aAt P) (aRows P) (aColumns P * narrow P) (cAt P) (P .m) (P .n * wide P)
       ∷ apart (bAt P) (P .k) (P .n * narrow P) (cAt P) (P .m) (P .n * wide P)
-      ∷ unsealed M (P .c .address) (P .c .stride) (P .m) (P .n * wide P) ∷ []
+      ∷ rowsMiss (sealed seals) (P .c .address) (P .c .stride) (P .m) (P .n * wide P) ∷ []
 
-  pub separate-is : separate M P ≡ true → Separate m P
+  pub separate-is : separate (sealed seals) P ≡ true → Separate seals P
   unfolding separate
   separate-is h =
       let t = every-each separates h in
@@ -116,11 +113,11 @@ module _ (grant : ℕ → ℕ → ℕ → ℕ) (m : Machine) (P : Plan) where
         rows = distinct-at (cAt P) (P .m) (P .n * wide P) (t .0);
         from-a = apart-at (aAt P) (aRows P) (aColumns P * narrow P) (cAt P) (P .m) (P .n * wide P) (t .1 .0);
         from-b = apart-at (bAt P) (P .k) (P .n * narrow P) (cAt P) (P .m) (P .n * wide P) (t .1 .1 .0);
-        from-seal = λ i q l x. not-fails (sealed m q)
-            (clear-at M (cAt P i) (P .n * wide P) (unsealed-at M (P .c .address) (P .c .stride) (P .m) (P .n * wide P) (t .1 .1 .1 .0) i l) q x);
+        from-seal = λ i q l x. not-fails (sealed seals q)
+            (misses-at (sealed seals) (cAt P i) (P .n * wide P) (rows-miss-at (sealed seals) (P .c .address) (P .c .stride) (P .m) (P .n * wide P) (t .1 .1 .1 .0) i l) q x);
       }
 
-  pub is-separate : Separate m P → separate M P ≡ true
+  pub is-separate : Separate seals P → separate (sealed seals) P ≡ true
   unfolding separate
   is-separate h = each-every separates (
     at-distinct (cAt P) (P .m) (P .n * wide P) (h .rows),
@@ -129,8 +126,8 @@ module _ (grant : ℕ → ℕ → ℕ → ℕ) (m : Machine) (P : Plan) where
       (
         at-apart (bAt P) (P .k) (P .n * narrow P) (cAt P) (P .m) (P .n * wide P) (h .from-b),
         (
-          unsealed-true M (P .c .address) (P .c .stride) (P .m) (P .n * wide P) (λ i l.
-              clear-true M (cAt P i) (P .n * wide P) (λ q x. fails-not (sealed m q) (h .from-seal i q l x))),
+          rows-miss-true (sealed seals) (P .c .address) (P .c .stride) (P .m) (P .n * wide P) (λ i l.
+              misses-true (sealed seals) (cAt P i) (P .n * wide P) (λ q x. fails-not (sealed seals q) (h .from-seal i q l x))),
           tt,
         ),
       ),
@@ -229,13 +226,13 @@ module _ (P : Plan) where
 -- ---- what the turns need
 
 pub accepted : (grant : ℕ → ℕ → ℕ → ℕ) → EachGrants grant → (P : Plan) (B : Bench) → Bytes (B .memory) → permitted (B .machine .rlen) (B .machine .mlen) (B .machine .elen) ≡ true
-    → format (B .machine .elen) (P .sew) (P .factor) ≡ true → kindFits P ≡ true → lying P (B .memory) ≡ true → separate (parameters grant (B .machine)) P ≡ true → Accepted (jobOf grant P B)
+    → format (B .machine .elen) (P .sew) (P .factor) ≡ true → kindFits P ≡ true → lying P (B .memory) ≡ true → separate (sealed (B .seals)) P ≡ true → Accepted (jobOf grant P B) (sealed (B .seals))
 unfolding narrow msew typeOf lying separate
 accepted grant G P B bytes lengths formatted kind l d =
     let n = permitted-lengths (B .machine .rlen) (B .machine .mlen) (B .machine .elen) lengths in
     let f = formats (B .machine .elen) (P .sew) (P .factor) (permitted-elen (B .machine .rlen) (B .machine .mlen) (B .machine .elen) lengths .0) formatted .0 in
     let t = every-each (insides P (B .memory)) l in
-    let s = separate-is grant (B .machine) P d in
+    let s = separate-is (B .seals) P d in
     record {
       grants = G (B .machine .rule);
       0<narrow = ltb-true 0 (P .sew / 8) (f .1 .1 .1 .1 .1 .1 .1 .1 .0);
@@ -253,7 +250,7 @@ accepted grant G P B bytes lengths formatted kind l d =
       a-in = t .0;
       b-in = t .1 .0;
       c-in = t .1 .1 .0;
-      c-unsealed = every-each (separates grant (B .machine) P) d .1 .1 .1 .0;
+      c-unsealed = every-each (separates (B .seals) P) d .1 .1 .1 .0;
       c-rows = s .rows;
       c-a = λ i q g x c. s .from-a i (c .0) q g (c .1) x (c .2);
       c-b = λ i q g x c. s .from-b i (c .0) q g (c .1) x (c .2);

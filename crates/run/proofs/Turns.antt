@@ -25,9 +25,9 @@ use Rattle.machine.proofs.CheckLaws.{Passed, marked-true}
 use Rattle.machine.specs.Geometry.{Parameters, State, tileAt, accAt}
 use Rattle.machine.specs.Setting.{sew, mill, maxN, maxK}
 use Rattle.machine.specs.Refusals.{widthOk, widthOf}
-use Rattle.machine.specs.Memory.{rowAt, inside, distinct, unsealed}
+use Rattle.machine.specs.Memory.{rowAt, inside, distinct, rowsMiss}
 use Rattle.machine.proofs.StoreLaws.{at-distinct, stored-puts}
-use Rattle.machine.proofs.MemoryLaws.{inside-at, block-inside, block-rowAt, clear-part, unsealed-at, unsealed-true}
+use Rattle.machine.proofs.MemoryLaws.{inside-at, block-inside, block-rowAt, misses-part, rows-miss-at, rows-miss-true}
 use Rattle.machine.specs.Operation.{Operation, memoryRows, memoryCols, placed, element, written, stateAfter, memoryAfter}
 use Rattle.machine.specs.Refusals.{marked, checks}
 use Rattle.run.specs.declared.Plan.{Plan}
@@ -68,7 +68,7 @@ isInput MatrixA = Unit {0}
 isInput MatrixB = Unit {0}
 isInput MatrixC = ⊥
 
-module _ (J : Job) (A : Accepted J) where
+module _ (J : Job) (isSealed : ℕ → Bool) (A : Accepted J isSealed) where
   abbrev M : Parameters
   M = J .machine
 
@@ -159,9 +159,9 @@ module _ (J : Job) (A : Accepted J) where
 
   -- the checks of an operation pass, and what it leaves holds at the next place
   abbrev pub Turned : Place → Operation → State → List ℕ → Type 0
-  Turned p o st mem = Passed (checks M o st mem) × At J (next S p) (stateAfter M o st mem) (memoryAfter M o st mem)
+  Turned p o st mem = Passed (checks M isSealed o st mem) × At J (next S p) (stateAfter M o st mem) (memoryAfter M o st mem)
 
-  done : (p : Place) (o : Operation) (st : State) (mem : List ℕ) → Passed (checks M o st mem)
+  done : (p : Place) (o : Operation) (st : State) (mem : List ℕ) → Passed (checks M isSealed o st mem)
       → At J (next S p) (stateAfter M o st mem) (memoryAfter M o st mem) → Turned p o st mem
   done p o st mem v h = (v, h)
 
@@ -428,7 +428,7 @@ module _ (J : Job) (A : Accepted J) where
       rw (h .tile-k, blk .tile-n, e-is i j st mem blk) (marked-true (st .marks) (tileAt M 1) (sizeK S s) (sizeN S j * e) (hb .written)) in
       let mark-c : marked (st .marks) (accAt M 0) (st .tileM) (st .tileN * (f * sew (st .mtype))) ≡ true =
       rw (blk .in-n .tile-m, blk .tile-n, w-is i j st mem blk) (marked-true (st .marks) (accAt M 0) (sizeM S i) (sizeN S j * W) (h .in-k .holds-c .written)) in
-      let passes : Passed (checks M (Operation.multiply f 0 0 1) st mem) = (
+      let passes : Passed (checks M isSealed (Operation.multiply f 0 0 1) st mem) = (
         no-mill st (typed i j st mem blk),
         (
           ok-w i j st mem blk,
@@ -454,7 +454,7 @@ module _ (J : Job) (A : Accepted J) where
             ∙ total-more f e q (λ l. aOf J (i + r) l) (λ l. bOf J l (j + c)) s (sizeK S s) (element (st .regs) (accAt M 0) W r c) (λ t. element (st .regs) (tileAt M 0) e r t) (λ t. element (st .regs) (tileAt M 1) e t c)
             (h .in-k .holds-c .values r c l l′) (λ t g. ha .values r t l g) (λ t g. hb .values t c g l′)));
       }) in
-      done (AtMultiply i j s) (multiplyOf q f) st mem (multiply-passes M st mem f q suits passes)
+      done (AtMultiply i j s) (multiplyOf q f) st mem (multiply-passes M st mem f isSealed q suits passes)
       (subst (λ (m : List ℕ). At J (headK S i j (s + sizeK S s)) (stateAfter M (multiplyOf q f) st mem) m) (sym (multiply-memory M st mem f q))
       (subst (λ (z : State). At J (headK S i j (s + sizeK S s)) z mem) (sym (multiply-leaves M st mem f q suits)) after))
 
@@ -503,11 +503,11 @@ module _ (J : Job) (A : Accepted J) where
         block-rowAt (length (J .memory)) (P .c .address) (P .c .stride) (P .m) (P .n * W) (A .c-in) i (j * W) (sizeM S i) (sizeN S j * W) (bound-m .0)
         (mul-pos {m = P .n} (omega (arith, blk .j<n)) (A .0<wide)) (omega (arith, bound-m, blk .in-n .i<m)) width≤ r l
 
-    store-unsealed : unsealed M (cAt P i + j * W) (P .c .stride) (sizeM S i) (sizeN S j * W) ≡ true
+    store-unsealed : rowsMiss isSealed (cAt P i + j * W) (P .c .stride) (sizeM S i) (sizeN S j * W) ≡ true
     store-unsealed =
-        unsealed-true M (cAt P i + j * W) (P .c .stride) (sizeM S i) (sizeN S j * W) (λ r l.
-        rw (row-is r l) (clear-part M (cAt P (i + r)) (P .n * W) (cAt P (i + r) + j * W) (sizeN S j * W)
-        (unsealed-at M (P .c .address) (P .c .stride) (P .m) (P .n * W) (A .c-unsealed) (i + r) (omega (arith, bound-m, blk .in-n .i<m)))
+        rows-miss-true isSealed (cAt P i + j * W) (P .c .stride) (sizeM S i) (sizeN S j * W) (λ r l.
+        rw (row-is r l) (misses-part isSealed (cAt P (i + r)) (P .n * W) (cAt P (i + r) + j * W) (sizeN S j * W)
+        (rows-miss-at isSealed (P .c .address) (P .c .stride) (P .m) (P .n * W) (A .c-unsealed) (i + r) (omega (arith, bound-m, blk .in-n .i<m)))
         (omega arith) (omega (arith, width≤))))
 
     store-distinct : distinct (rowAt (cAt P i + j * W) (P .c .stride)) (sizeM S i) (sizeN S j * W) ≡ true
@@ -575,7 +575,7 @@ module _ (J : Job) (A : Accepted J) where
       rw (b .in-n .tile-m, b .tile-n) (store-inside i j st mem h) in
       let dis : distinct (rowAt (cAt P i + j * W) (P .c .stride)) (st .tileM) (st .tileN * W) ≡ true =
       rw (b .in-n .tile-m, b .tile-n) (store-distinct i j st mem h) in
-      let uns : unsealed M (cAt P i + j * W) (P .c .stride) (st .tileM) (st .tileN * W) ≡ true =
+      let uns : rowsMiss isSealed (cAt P i + j * W) (P .c .stride) (st .tileM) (st .tileN * W) ≡ true =
       rw (b .in-n .tile-m, b .tile-n) (store-unsealed i j st mem h) in
       done (AtStore i j) o st mem
       (no-mill st (typed i j st mem b), (wide-ok i j st mem b, (ok-m i j st mem b, (ok-n i j st mem b, (mark-c, (ins, (dis, (uns, tt))))))))

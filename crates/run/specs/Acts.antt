@@ -7,6 +7,7 @@ use Rattle.machine.specs.declared.Reply.{Reply}
 use Rattle.machine.specs.Answers.{reply}
 use Rattle.machine.specs.Geometry.{Bench, benchOf}
 use Rattle.machine.specs.Vectors.{Vectors, vectorsOf}
+use Rattle.machine.specs.Sealing.{SealOutcome, addSeal}
 use Rattle.machine.specs.Step.{VectorOutcome, stepWith}
 use Rattle.run.specs.declared.Plan.{Plan}
 use Rattle.run.specs.declared.Run.{Run}
@@ -16,7 +17,7 @@ use Rattle.run.specs.Turn.{Ask, ask, Turn, turn, running, TurnsOutcome, 
 use Rattle.run.specs.Whole.{WholeOutcome, whole}
 
 -- other scalars, another vector file and memory are lent; a word is stepped; a product run is started; its next step is asked for; it
--- takes a turn, or n turns; a whole product run is made
+-- takes a turn, or n turns; a whole product run is made; a range is sealed
 pub data Act : Type 0 where
   lend : (scalars : List ℕ) → Vectors → (memory : List ℕ) → Act
   step : (word : ℕ) → Act
@@ -25,6 +26,7 @@ pub data Act : Type 0 where
   runTurn : Act
   runTurns : (n : ℕ) → Act
   run : Plan → Act
+  seal : (start size : ℕ) → Act
 
 -- the machine with its memory, the scalars, the vector file, which no run uses, and the run that was started last
 pub record Session : Type 0 where
@@ -49,7 +51,7 @@ acted answer handed count after = record { answer = answer; handed = handed; cou
 module _ (grant : ℕ → ℕ → ℕ → ℕ) where
   -- turns in number are counted, not answered
   abbrev pub act : Act → Session → Acted
-  act (Act.lend xs W memory) S = acted (reply Done) none 0 (session (benchOf (S .bench .machine) (S .bench .registers) (S .bench .marks) memory) xs W (S .run))
+  act (Act.lend xs W memory) S = acted (reply Done) none 0 (session (benchOf (S .bench .machine) (S .bench .seals) (S .bench .registers) (S .bench .marks) memory) xs W (S .run))
   act (Act.step word) S =
       let o : VectorOutcome = stepWith grant word (S .scalars) (S .lent) (S .bench) in
       acted (o .answer) none 0 (session (o .bench) (o .scalars) (vectorsOf (o .vectors) (S .lent .group)) (S .run))
@@ -63,6 +65,8 @@ module _ (grant : ℕ → ℕ → ℕ → ℕ) where
       let o : TurnsOutcome = turns grant (running (S .run) (S .bench)) n in acted (reply Done) none (o .count) (session (o .after .bench) (S .scalars) (S .lent) (o .after .run))
   act (Act.run P) S =
       let o : WholeOutcome = whole grant P (S .bench) in acted (o .answer) none (o .count) (session (o .bench) (S .scalars) (S .lent) (S .run))
+  act (Act.seal start size) S =
+      let o : SealOutcome = addSeal start size (S .bench) in acted (o .answer) none 0 (session (o .bench) (S .scalars) (S .lent) (S .run))
 
 -- after a list of acts, refused ones included
 abbrev pub afterActs : (ℕ → ℕ → ℕ → ℕ) → List Act → Session → Session
@@ -78,6 +82,7 @@ lentBy Act.runNext lent = lent
 lentBy Act.runTurn lent = lent
 lentBy (Act.runTurns n) lent = lent
 lentBy (Act.run P) lent = lent
+lentBy (Act.seal start size) lent = lent
 
 abbrev pub lentLast : List Act → List ℕ → List ℕ
 lentLast [] lent = lent

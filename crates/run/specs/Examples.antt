@@ -17,8 +17,8 @@ use Rattle.machine.specs.Operation.{element}
 use Rattle.machine.specs.Refusals.{widthOk, widthOf, marked}
 use Rattle.machine.specs.Listing.{decode, listing}
 use Rattle.machine.specs.Step.{stepBy, outcome}
-use Rattle.machine.specs.Geometry.{Bench}
-use Rattle.machine.specs.Faults.{sound}
+use Rattle.machine.specs.Geometry.{range, Bench}
+use Rattle.machine.specs.Faults.{sound, sealsFit}
 use Rattle.run.specs.declared.Layout.{Layout}
 use Rattle.run.specs.declared.Plan.{Plan}
 use Rattle.run.specs.declared.Place.{Place}
@@ -33,7 +33,8 @@ use Rattle.run.specs.Turn.{soundRun, ask, Running, afterTurns, answeredD
 -- a sound machine with a seal, or one at fault for its mtype or its rule
 pub ruled : (rule mtype sealStart sealLength : ℕ) → Bench
 ruled r t s l = record {
-  machine = record { rlen = 64; mlen = 128; mtype = t; «tile_m» = 0; «tile_k» = 0; «tile_n» = 0; «seal_start» = s; «seal_length» = l; rule = r; elen = 32 };
+  machine = record { rlen = 64; mlen = 128; mtype = t; «tile_m» = 0; «tile_k» = 0; «tile_n» = 0; rule = r; elen = 32 };
+  seals = range s l ∷ [];
   registers = replicate 256 0;
   marks = replicate 256 0;
   memory = replicate 64 1;
@@ -117,7 +118,7 @@ examples =
     ∷ []
 
 pub starts : map (λ l. l .got) examples ≡ map (λ l. l .want) examples
-unfolding examples bench ruled layout plan ofKind dot gives free small permitted newType legalType sew inside misses rowsMiss distinct sound narrow msew typeOf startRun format kindFits planned lying apart separate
+unfolding examples bench ruled layout plan ofKind dot gives free small permitted newType legalType sew inside misses rowsMiss distinct sound sealsFit narrow msew typeOf startRun format kindFits planned lying apart separate
 starts = refl
 
 -- ---- asking
@@ -176,6 +177,7 @@ pub rowOn : (rule : ℕ) → Running
 rowOn r =
     let B : Bench = record {
       machine = ruled r 0 0 0 .machine;
+      seals = [];
       registers = free .registers;
       marks = free .marks;
       memory = 2 ∷ replicate 10 7 ++ replicate 10 99;
@@ -189,7 +191,7 @@ rowAfter r t = drop 11 (afterTurns chosen (rowOn r) t .bench .memory)
 -- after the first store, and by halving after the last
 pub row-is : rowAfter 0 9 ++ rowAfter 1 9 ++ rowAfter 1 16
     ≡ replicate 8 14 ++ replicate 2 99 ++ replicate 5 14 ++ replicate 5 99 ++ replicate 10 14
-unfolding row rowOn rowAfter ruled plan layout free bench chosen halving permitted sew newType legalType widthOk widthOf inside misses rowsMiss stored marked listing decode sound stepBy outcome narrow msew typeOf startRun soundRun format kindFits planned lying distinct apart separate chunks putTile putRow putLe markTile markRow reduce
+unfolding row rowOn rowAfter ruled plan layout free bench chosen halving permitted sew newType legalType widthOk widthOf inside misses rowsMiss stored marked listing decode sound sealsFit stepBy outcome narrow msew typeOf startRun soundRun format kindFits planned lying distinct apart separate chunks putTile putRow putLe markTile markRow reduce
 row-is = refl
 
 -- ---- A kept transposed
@@ -211,6 +213,7 @@ pub counted : Running
 counted =
     let B : Bench = record {
       machine = free .machine;
+      seals = [];
       registers = free .registers;
       marks = free .marks;
       memory = 1 ∷ 252 ∷ 2 ∷ 5 ∷ 3 ∷ 250 ∷ 7 ∷ 8 ∷ 9 ∷ 10 ∷ 11 ∷ 12 ∷ replicate 16 99;
@@ -222,7 +225,7 @@ after t i j = element (afterTurns chosen counted t .bench .memory) (cAt columns)
 
 pub product-is : answeredDone chosen counted 15 ∷ after 13 0 0 ∷ after 13 0 1 ∷ after 13 1 0 ∷ after 13 1 1 ∷ []
     ≡ 13 ∷ reduce (256 ^ 4) (pos 58) ∷ reduce (256 ^ 4) (pos 64) ∷ reduce (256 ^ 4) (negsuc 48) ∷ reduce (256 ^ 4) (negsuc 53) ∷ []
-unfolding columns counted after ofKind plan layout free bench ruled chosen permitted sew newType legalType widthOk widthOf inside misses rowsMiss distinct stored marked listing decode sound stepBy outcome narrow msew typeOf startRun soundRun format kindFits planned lying apart separate chunks putTile putRow putLe markTile markRow reduce
+unfolding columns counted after ofKind plan layout free bench ruled chosen permitted sew newType legalType widthOk widthOf inside misses rowsMiss distinct stored marked listing decode sound sealsFit stepBy outcome narrow msew typeOf startRun soundRun format kindFits planned lying apart separate chunks putTile putRow putLe markTile markRow reduce
 product-is = refl
 
 -- ---- a float run
@@ -244,6 +247,7 @@ pub entered : Running
 entered =
     let B : Bench = record {
       machine = free .machine;
+      seals = [];
       registers = free .registers;
       marks = free .marks;
       memory = 0 ∷ 0 ∷ 192 ∷ 63 ∷ 0 ∷ 0 ∷ 0 ∷ 64 ∷ 0 ∷ 0 ∷ 64 ∷ 192 ∷ 205 ∷ 204 ∷ 204 ∷ 61 ∷ 0 ∷ 0 ∷ 128 ∷ 75 ∷ 0 ∷ 0 ∷ 128 ∷ 63
@@ -256,7 +260,7 @@ float-after t i j = element (afterTurns chosen entered t .bench .memory) (cAt nu
 
 pub floats-are : answeredDone chosen entered 15 ∷ float-after 13 0 0 ∷ float-after 13 0 1 ∷ float-after 13 1 0 ∷ float-after 13 1 1 ∷ []
     ≡ 13 ∷ 0x41180000 ∷ 0x7FC00000 ∷ 0x4C800000 ∷ 0x7FC00000 ∷ []
-unfolding numbers entered float-after ofKind plan layout free bench ruled permitted sew newType legalType chosen widthOk widthOf inside misses rowsMiss marked listing decode sound stepBy outcome narrow msew typeOf startRun soundRun format kindFits planned lying distinct stored apart separate chunks putTile putRow putLe markTile markRow reduce valueOf settled multiplyAdd floatSum floatProduct Ieee.add Ieee.mul Ieee.ofBits Ieee.toBits
+unfolding numbers entered float-after ofKind plan layout free bench ruled permitted sew newType legalType chosen widthOk widthOf inside misses rowsMiss marked listing decode sound sealsFit stepBy outcome narrow msew typeOf startRun soundRun format kindFits planned lying distinct stored apart separate chunks putTile putRow putLe markTile markRow reduce valueOf settled multiplyAdd floatSum floatProduct Ieee.add Ieee.mul Ieee.ofBits Ieee.toBits
 floats-are = refl
 
 -- ---- 02, Ten
@@ -264,7 +268,8 @@ floats-are = refl
 -- RLEN 128 and MLEN 256, with this ELEN and a memory: blocks of at most 2 rows and 2 terms
 pub larger : (elen : ℕ) → List ℕ → Bench
 larger e memory = record {
-  machine = record { rlen = 128; mlen = 256; mtype = 0; «tile_m» = 0; «tile_k» = 0; «tile_n» = 0; «seal_start» = 0; «seal_length» = 0; rule = 0; elen = e };
+  machine = record { rlen = 128; mlen = 256; mtype = 0; «tile_m» = 0; «tile_k» = 0; «tile_n» = 0; rule = 0; elen = e };
+  seals = [];
   registers = replicate 512 0;
   marks = replicate 512 0;
   memory = memory;
@@ -294,7 +299,7 @@ widths =
     ∷ []
 
 pub widths-right : map (λ l. l .got) widths ≡ map (λ l. l .want) widths
-unfolding widths shaped larger layout plan ofKind gives permitted newType legalType sew inside misses rowsMiss distinct sound narrow msew typeOf startRun format kindFits planned lying apart separate
+unfolding widths shaped larger layout plan ofKind gives permitted newType legalType sew inside misses rowsMiss distinct sound sealsFit narrow msew typeOf startRun format kindFits planned lying apart separate
 widths-right = refl
 
 -- msettypei and the loads of A and B at SEW 64, and the store of C at 4 x 16 bits: mtype 3 and 9, mlae64, mlbe64 and msce64
@@ -320,12 +325,12 @@ pub wide-product-is : ranTo (plan 64 1 1 3 1 (layout 0 24) (layout 24 8) (layout
     (replicate 7 0 ++ 0x80 ∷ 1 ∷ 0 ∷ 0 ∷ 0 ∷ 1 ∷ 0 ∷ 0 ∷ 0 ∷ 3 ∷ replicate 7 0
     ++ 3 ∷ replicate 7 0 ++ replicate 4 0xFF ++ replicate 4 0 ++ replicate 8 0xFF ++ replicate 8 99)
     ≡ 13 ∷ reduce (256 ^ 8) (pos (2 ^ 63 - 4)) ∷ []
-unfolding ranTo larger plan layout chosen permitted sew newType legalType widthOk widthOf inside misses rowsMiss distinct stored marked listing decode sound stepBy outcome narrow msew typeOf startRun soundRun format kindFits planned lying apart separate chunks putTile putRow putLe markTile markRow reduce
+unfolding ranTo larger plan layout chosen permitted sew newType legalType widthOk widthOf inside misses rowsMiss distinct stored marked listing decode sound sealsFit stepBy outcome narrow msew typeOf startRun soundRun format kindFits planned lying apart separate chunks putTile putRow putLe markTile markRow reduce
 wide-product-is = refl
 
 -- at SEW 16 and f = 4, three products of -2^15 and -2^15: 3 x 2^30, more than 32 bits hold, signed
 pub quadruple-is : ranTo (plan 16 4 1 3 1 (layout 0 6) (layout 6 2) (layout 12 8))
     (0 ∷ 0x80 ∷ 0 ∷ 0x80 ∷ 0 ∷ 0x80 ∷ 0 ∷ 0x80 ∷ 0 ∷ 0x80 ∷ 0 ∷ 0x80 ∷ replicate 8 99)
     ≡ 13 ∷ reduce (256 ^ 8) (pos (3 * 2 ^ 30)) ∷ []
-unfolding ranTo larger plan layout chosen permitted sew newType legalType widthOk widthOf inside misses rowsMiss distinct stored marked listing decode sound stepBy outcome narrow msew typeOf startRun soundRun format kindFits planned lying apart separate chunks putTile putRow putLe markTile markRow reduce
+unfolding ranTo larger plan layout chosen permitted sew newType legalType widthOk widthOf inside misses rowsMiss distinct stored marked listing decode sound sealsFit stepBy outcome narrow msew typeOf startRun soundRun format kindFits planned lying apart separate chunks putTile putRow putLe markTile markRow reduce
 quadruple-is = refl

@@ -25,8 +25,8 @@ pub record Line : Type 0 where
 -- "MLEN 256, RLEN 64 unless said", and ELEN 32: started, with register bytes of 7 and nothing sealed
 unfoldable pub bench : List ℕ → Bench
 bench memory =
-    let s = startMachine 64 256 32 0 0 0 (replicate 512 7) (replicate 512 1) in
-    record { machine = s .machine; registers = s .registers; marks = s .marks; memory = memory }
+    let s = startMachine 64 256 32 0 [] (replicate 512 7) (replicate 512 1) in
+    record { machine = s .machine; seals = s .seals; registers = s .registers; marks = s .marks; memory = memory }
 
 unfoldable pub M : Parameters
 M = parameters chosen (bench [] .machine)

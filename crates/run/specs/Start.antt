@@ -9,10 +9,10 @@ use Rattle.machine.specs.declared.Answer.the-variants.{BadArguments, OutsideMem
 use Rattle.machine.specs.Tests.{all, every, isIn, within}
 use Rattle.machine.specs.declared.Reply.{Reply}
 use Rattle.machine.specs.Answers.{reply, Check, _otherwise_, verdict, isDone}
-use Rattle.machine.specs.Geometry.{Parameters, parameters}
-use Rattle.machine.specs.Memory.{inside, distinct, unsealed}
+use Rattle.machine.specs.Geometry.{sealed}
+use Rattle.machine.specs.Memory.{inside, distinct, rowsMiss}
 use Rattle.machine.specs.Geometry.{Bench}
-use Rattle.machine.specs.Faults.{sound}
+use Rattle.machine.specs.Faults.{soundBench}
 use Rattle.run.specs.declared.Plan.{Plan}
 use Rattle.run.specs.declared.Run.{Run}
 use Rattle.run.specs.declared.RunStarted.{RunStarted}
@@ -42,20 +42,20 @@ lying P mem = every (
 unfoldable pub apart : (ℕ → ℕ) → ℕ → ℕ → (ℕ → ℕ) → ℕ → ℕ → Bool
 apart at rows n at′ rows′ o = all rows (λ i. all n (λ b. all rows′ (λ k. not (within (at′ k) o (at i + b)))))
 
--- "then 9": no "byte of C lies in two of its rows, in a row of A or B, or in the seal"
-unfoldable pub separate : Parameters → Plan → Bool
-separate M P = every (
+-- "then 9": no "byte of C lies in two of its rows, in a row of A or B, or in the seal"; 02, Twelve: "answer 9 read[s] all ranges"
+unfoldable pub separate : (ℕ → Bool) → Plan → Bool
+separate isSealed P = every (
     distinct (cAt P) (P .m) (P .n * wide P)
     ∷ apart (aAt P) (aRows P) (aColumns P * narrow P) (cAt P) (P .m) (P .n * wide P)
     ∷ apart (bAt P) (P .k) (P .n * narrow P) (cAt P) (P .m) (P .n * wide P)
-    ∷ unsealed M (P .c .address) (P .c .stride) (P .m) (P .n * wide P) ∷ [])
+    ∷ rowsMiss isSealed (P .c .address) (P .c .stride) (P .m) (P .n * wide P) ∷ [])
 
 abbrev pub startChecks : (ℕ → ℕ → ℕ → ℕ) → Plan → Bench → List Check
 startChecks grant P B =
-    (sound (B .machine) (B .registers) (B .marks) otherwise BadArguments)
+    (soundBench B otherwise BadArguments)
     ∷ (planned (B .machine .elen) P otherwise BadArguments)
     ∷ (lying P (B .memory) otherwise OutsideMemory)
-    ∷ (separate (parameters grant (B .machine)) P otherwise Overlap) ∷ []
+    ∷ (separate (sealed (B .seals)) P otherwise Overlap) ∷ []
 
 -- a run at its first word
 abbrev pub freshRun : Machine → Plan → Run

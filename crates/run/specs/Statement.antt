@@ -9,9 +9,8 @@ use lib.ListN.{length, getD}
 use lib.IntN.{ℤ, pos, _+ℤ_}
 use Rattle.width.specs.Tile.{In}
 use Rattle.width.specs.Blocks.{EachGrants}
-use Rattle.machine.specs.declared.Machine.{Machine}
 use Rattle.machine.specs.declared.Reply.{Reply}
-use Rattle.machine.specs.Geometry.{parameters, sealed, Bench}
+use Rattle.machine.specs.Geometry.{Range, sealed, parameters, Bench}
 use Rattle.machine.specs.Setting.{smaller, halving, chosen}
 use Rattle.machine.specs.Memory.{rowZ}
 use Rattle.machine.specs.Operation.{element}
@@ -50,20 +49,20 @@ pub record Inside (P : Plan) (mem : List ℕ) : Type 0 where
   pub b-lies : (i b : ℕ) → i < P .k → b < P .n * narrow P → Lies (length mem) (rowZ (P .b .address) (P .b .stride) i +ℤ pos b)
   pub c-lies : (i b : ℕ) → i < P .m → b < P .n * wide P → Lies (length mem) (rowZ (P .c .address) (P .c .stride) i +ℤ pos b)
 
--- 9: no byte q lies in two rows of C, in a row of A or B and one of C, or in a row of C and the seal
-pub record Separate (m : Machine) (P : Plan) : Type 0 where
+-- 9: no byte q lies in two rows of C, in a row of A or B and one of C, or in a row of C and a sealed range
+pub record Separate (seals : List Range) (P : Plan) : Type 0 where
   pub rows : (i k q : ℕ) → i < k → k < P .m → In (cAt P i) (P .n * wide P) q → ¬ In (cAt P k) (P .n * wide P) q
   pub from-a : (i k q : ℕ) → i < aRows P → k < P .m → In (aAt P i) (aColumns P * narrow P) q → ¬ In (cAt P k) (P .n * wide P) q
   pub from-b : (i k q : ℕ) → i < P .k → k < P .m → In (bAt P i) (P .n * narrow P) q → ¬ In (cAt P k) (P .n * wide P) q
-  pub from-seal : (i q : ℕ) → i < P .m → In (cAt P i) (P .n * wide P) q → ¬ (sealed m q ≡ true)
+  pub from-seal : (i q : ℕ) → i < P .m → In (cAt P i) (P .n * wide P) q → ¬ (sealed seals q ≡ true)
 
 -- the answer to a start: "Answer 8 for .. then 6 for an element outside memory; then 9", and 0 exactly where all three hold
 pub record Answered (P : Plan) (B : Bench) (a : Reply) : Type 0 where
-  pub gives-0 : Numbers P B → Inside P (B .memory) → Separate (B .machine) P → a .number ≡ 0
-  pub only-then : a .number ≡ 0 → Numbers P B × Inside P (B .memory) × Separate (B .machine) P
+  pub gives-0 : Numbers P B → Inside P (B .memory) → Separate (B .seals) P → a .number ≡ 0
+  pub only-then : a .number ≡ 0 → Numbers P B × Inside P (B .memory) × Separate (B .seals) P
   pub gives-8 : ¬ Numbers P B → a .number ≡ 8
   pub gives-6 : Numbers P B → ¬ Inside P (B .memory) → a .number ≡ 6
-  pub gives-9 : Numbers P B → Inside P (B .memory) → ¬ Separate (B .machine) P → a .number ≡ 9
+  pub gives-9 : Numbers P B → Inside P (B .memory) → ¬ Separate (B .seals) P → a .number ≡ 9
 
 -- ---- what asking and a turn answer, hand out and leave
 

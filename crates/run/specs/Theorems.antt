@@ -1,15 +1,14 @@
 -- Demands 1 and 2 where product runs are made. The proofs stand in proofs/.
 use mathlib.Core.Path.{_≡_}
+use mathlib.Core.Bool.{true}
 use mathlib.Core.List.{List}
 use mathlib.Core.Option.{none}
 use Prim.Native.Nat.{ℕ}
 use lib.ListN.{getD}
-use Rattle.width.specs.Tile.{In}
-use Rattle.machine.specs.Tests.{within}
-use Rattle.machine.specs.Geometry.{sealed, Bench, benchOf}
-use Rattle.machine.specs.Starting.{startMachine}
+use Rattle.machine.specs.Geometry.{Range, sealed, Bench, benchOf}
+use Rattle.machine.specs.Starting.{ranges, startMachine}
 use Rattle.machine.specs.Vectors.{Vectors}
-use Rattle.machine.specs.Theorems.{startedBench, Unharmed}
+use Rattle.machine.specs.Theorems.{startedBench, Extends, Unharmed}
 use Rattle.run.specs.declared.Plan.{Plan}
 use Rattle.run.specs.declared.Run.{Run}
 use Rattle.run.specs.Start.{startRun}
@@ -42,21 +41,23 @@ abbrev pub WholeRefusalChangesNothing : Type 0
 WholeRefusalChangesNothing = (grant : ℕ → ℕ → ℕ → ℕ) (P : Plan) (B : Bench) → ¬ (whole grant P B .answer .number ≡ 0)
     → (whole grant P B .count ≡ 0) × (whole grant P B .bench ≡ B)
 
--- ---- demand 2: no sealed byte changes, over any list of words, run starts, asking, turns and whole runs
+-- ---- demand 2: no sealed byte changes, over any list of words, run starts, asking, turns, whole runs and ranges added
 
--- on any machine: the seal stays, and the sealed bytes are those of the memory that was lent last
+-- 02, Twelve: "a byte changes at no step after its sealing". From any moment on: the ranges stay, and the bytes that are sealed at that
+-- moment are, after any acts, those of the memory that was lent last
 abbrev pub SealHoldsOverActs : Type 0
 SealHoldsOverActs = (grant : ℕ → ℕ → ℕ → ℕ) (acts : List Act) (S : Session)
-    → Unharmed grant (benchOf (S .bench .machine) (S .bench .registers) (S .bench .marks) (lentLast acts (S .bench .memory))) (afterActs grant acts S .bench)
+    → Unharmed grant (benchOf (S .bench .machine) (S .bench .seals) (S .bench .registers) (S .bench .marks) (lentLast acts (S .bench .memory)))
+    (afterActs grant acts S .bench)
 
--- a bench with this seal, whose sealed bytes are those of this memory
-pub record SealKept (sealStart sealLength : ℕ) (memory : List ℕ) (B : Bench) : Type 0 where
-  pub same-seal : (q : ℕ) → sealed (B .machine) q ≡ within sealStart sealLength q
-  pub same-bytes : (q : ℕ) → In sealStart sealLength q → getD (B .memory) q 0 ≡ getD memory q 0
+-- a bench that holds these ranges, those it was given first, and whose bytes in them are those of this memory
+pub record SealKept (seals : List Range) (memory : List ℕ) (B : Bench) : Type 0 where
+  pub ranges-stay : Extends seals (B .seals)
+  pub same-bytes : (q : ℕ) → sealed seals q ≡ true → getD (B .memory) q 0 ≡ getD memory q 0
 
--- and from a started machine, with any scalars and vector file and whatever run was there before: the range that it was started with
+-- and from a started machine, with any scalars and vector file and whatever run was there before: the ranges that it was started with
 abbrev pub SealHoldsOverActsFromStart : Type 0
-SealHoldsOverActsFromStart = (grant : ℕ → ℕ → ℕ → ℕ) (rlen mlen elen rule sealStart sealLength : ℕ) (registers marks memory scalars : List ℕ) (W : Vectors) (R : Run)
-    → startMachine rlen mlen elen rule sealStart sealLength registers marks .answer .number ≡ 0 → (acts : List Act)
-    → SealKept sealStart sealLength (lentLast acts memory)
-    (afterActs grant acts (session (startedBench rlen mlen elen rule sealStart sealLength registers marks memory) scalars W R) .bench)
+SealHoldsOverActsFromStart = (grant : ℕ → ℕ → ℕ → ℕ) (rlen mlen elen rule : ℕ) (seals registers marks memory scalars : List ℕ) (W : Vectors) (R : Run)
+    → startMachine rlen mlen elen rule seals registers marks .answer .number ≡ 0 → (acts : List Act)
+    → SealKept (ranges seals) (lentLast acts memory)
+    (afterActs grant acts (session (startedBench rlen mlen elen rule seals registers marks memory) scalars W R) .bench)

@@ -1,5 +1,5 @@
 -- A turn: a step is asked for and, if one is handed out, carried out with the run's own scalars.
-use mathlib.Core.Bool.{Bool, true, false, cond}
+use mathlib.Core.Bool.{Bool, true, cond}
 use mathlib.Core.List.{List, [], _∷_}
 use mathlib.Core.Option.{Option, none, some, Option·getD}
 use Prim.Native.Nat.{ℕ, zero, suc, _+_}
@@ -11,7 +11,7 @@ use Rattle.machine.specs.Tests.{every, isIn}
 use Rattle.machine.specs.Geometry.{Parameters, parametersOf, permitted}
 use Rattle.machine.specs.Starting.{isRule}
 use Rattle.machine.specs.Setting.{maxM, maxK, maxN}
-use Rattle.machine.specs.Geometry.{Bench, benchOf}
+use Rattle.machine.specs.Geometry.{Range, Bench, benchOf}
 use Rattle.machine.specs.Step.{Outcome, stepBy}
 use Rattle.run.specs.declared.Place.{Place}
 use Rattle.run.specs.declared.Place.the-variants.{AtType, AtM, AtN, AtClear, AtK, AtA, AtB, AtMultiply, AtStore, AtEnd}
@@ -30,7 +30,7 @@ use Rattle.run.specs.Start.{planned}
 
 -- the blocks that a run goes by: those of the machine that it was started on, by its rule
 abbrev pub runParameters : (ℕ → ℕ → ℕ → ℕ) → Run → Parameters
-runParameters grant R = parametersOf (grant (R .rule)) (R .rlen) (R .mlen) (R .elen) (λ q. false)
+runParameters grant R = parametersOf (grant (R .rule)) (R .rlen) (R .mlen) (R .elen)
 
 abbrev pub runShape : (ℕ → ℕ → ℕ → ℕ) → Run → Shape
 runShape grant R = record {
@@ -157,8 +157,8 @@ pub record TurnOutcome : Type 0 where
 abbrev pub turnOutcome : (ℕ → ℕ → ℕ → ℕ) → Running → TurnOutcome
 turnOutcome grant r = record { answer = turn grant r .answer; after = turn grant r .after }
 
-abbrev pub turnedAs : Turned → (registers marks memory : List ℕ) → TurnOutcome
-turnedAs r registers marks memory = record { answer = reply (r .answer); after = running (r .run) (benchOf (r .machine) registers marks memory) }
+abbrev pub turnedAs : Turned → List Range → (registers marks memory : List ℕ) → TurnOutcome
+turnedAs r seals registers marks memory = record { answer = reply (r .answer); after = running (r .run) (benchOf (r .machine) seals registers marks memory) }
 
 pub record TurnsOutcome : Type 0 where
   pub count : ℕ
@@ -168,5 +168,5 @@ pub record TurnsOutcome : Type 0 where
 abbrev pub turns : (ℕ → ℕ → ℕ → ℕ) → Running → ℕ → TurnsOutcome
 turns grant r n = record { count = answeredDone grant r n; after = afterTurns grant r n }
 
-abbrev pub takenAs : Taken → (registers marks memory : List ℕ) → TurnsOutcome
-takenAs r registers marks memory = record { count = r .count; after = running (r .run) (benchOf (r .machine) registers marks memory) }
+abbrev pub takenAs : Taken → List Range → (registers marks memory : List ℕ) → TurnsOutcome
+takenAs r seals registers marks memory = record { count = r .count; after = running (r .run) (benchOf (r .machine) seals registers marks memory) }

@@ -4,7 +4,7 @@ use mathlib.Core.List.{List}
 use Prim.Native.Nat.{ℕ, _<_}
 use Rattle.machine.specs.declared.Reply.{Reply}
 use Rattle.machine.specs.Answers.{reply}
-use Rattle.machine.specs.Geometry.{Bench, benchOf}
+use Rattle.machine.specs.Geometry.{Range, Bench, benchOf}
 use Rattle.machine.specs.Setting.{chosen}
 use Rattle.machine.specs.Operation.{element}
 use Rattle.run.specs.declared.Plan.{Plan}
@@ -29,8 +29,8 @@ whole grant P B = record {
 }
 
 -- what the function `whole` returned and left
-abbrev pub finishedAs : Finished → (registers marks memory : List ℕ) → WholeOutcome
-finishedAs r registers marks memory = record { answer = reply (r .answer); count = r .count; bench = benchOf (r .machine) registers marks memory }
+abbrev pub finishedAs : Finished → List Range → (registers marks memory : List ℕ) → WholeOutcome
+finishedAs r seals registers marks memory = record { answer = reply (r .answer); count = r .count; bench = benchOf (r .machine) seals registers marks memory }
 
 -- The customer's sentence, of a plan, the bench at entry, and what came back
 pub record Delivers (P : Plan) (B : Bench) (o : WholeOutcome) : Type 0 where

@@ -12,6 +12,7 @@ use Rattle.machine.specs.Setting.{chosen}
 use Rattle.machine.specs.Step.{step}
 use Rattle.run.specs.Start.{RunStart, startRun}
 use Rattle.run.specs.Turn.{ask, AskOutcome, asked}
+use Rattle.ranges.specs.Ranges.{sealsIn}
 use Rattle.blocks.specs.Blocks.{machineBytes, machineOf, packed}
 use Rattle.run_blocks.specs.RunBlocks.{runBytes, runOf, putRun, runFit, putHanded}
 use Rattle.run_calls.specs.RunCalls.{HostRunStarted, runStartedOut, shownRunStart, hostRunStart, HostNext, nextOut, shownNext, hostNext}
@@ -24,13 +25,13 @@ unfolding hostRunStart startRun
 run-start-refusal P machine registers marks memory run = go (every (eqb (length machine) machineBytes ∷ eqb (length run) runBytes ∷ []))
   where
     s : RunStart
-    s = startRun chosen P (benchOf (machineOf machine) registers marks memory)
+    s = startRun chosen P (benchOf (machineOf machine) (sealsIn machine) registers marks memory)
 
     out : Bool → HostRunStarted
     out t = cond t (shownRunStart machine run s) (runStartedOut (packed (reply BadArguments)) machine registers marks memory run)
 
     go : (t : Bool) → ¬ (out t .result ≡ 0) → out t ≡ runStartedOut (out t .result) machine registers marks memory run
-    go true d = ap (λ (t : Bool). runStartedOut (packed (s .answer)) machine registers marks memory (cond t (putRun (s .run) run) run)) (packed-refused (s .answer) (start-zero chosen P (benchOf (machineOf machine) registers marks memory)) d)
+    go true d = ap (λ (t : Bool). runStartedOut (packed (s .answer)) machine registers marks memory (cond t (putRun (s .run) run) run)) (packed-refused (s .answer) (start-zero chosen P (benchOf (machineOf machine) (sealsIn machine) registers marks memory)) d)
     go false d = refl
 
 pub next-refusal : NextRefusalChangesNoByte

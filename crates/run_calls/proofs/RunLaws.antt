@@ -16,6 +16,7 @@ use Rattle.run.specs.declared.RunStarted.{RunStarted}
 use Rattle.run.specs.declared.Asked.{Asked}
 use Rattle.run.specs.Start.{startRun, startedAs}
 use Rattle.run.specs.Turn.{stepsIn, ask, asked, askedAs}
+use Rattle.ranges.specs.Ranges.{sealsIn}
 use Rattle.blocks.specs.Blocks.{machineBytes, machineOf, packed}
 use Rattle.run_blocks.specs.RunBlocks.{runBytes, runFit, runOf, putRun, putHanded}
 use Rattle.run_calls.specs.RunCalls.{runStartedOut, shownRunStart, hostRunStart, nextOut, shownNext, hostNext, hostRunSteps}
@@ -35,18 +36,18 @@ module _ (P : Plan) (machine registers marks memory run : List ℕ) where
   run-start-short-run r h k er = rw (er, eq-eqb (length machine) machineBytes h, ne-eqb (length run) runBytes k)
 
   run-start-is : length machine ≡ machineBytes → length run ≡ runBytes
-      → shownRunStart machine run (startRun chosen P (benchOf (machineOf machine) registers marks memory)) ≡ hostRunStart P machine registers marks memory run
+      → shownRunStart machine run (startRun chosen P (benchOf (machineOf machine) (sealsIn machine) registers marks memory)) ≡ hostRunStart P machine registers marks memory run
   unfolding hostRunStart
   run-start-is h k = rw (eq-eqb (length machine) machineBytes h, eq-eqb (length run) runBytes k)
 
   -- what the start has answered, and the block written exactly where it is done
   pub run-start-shown : (t : Bool) (m : Machine) (s : RunStarted) (N : List ℕ) (r : ℕ) → length machine ≡ machineBytes → length run ≡ runBytes
-      → m ≡ machineOf machine → startedAs s (benchOf m registers marks memory) ≡ startRun chosen P (benchOf m registers marks memory)
+      → m ≡ machineOf machine → startedAs s (benchOf m (sealsIn machine) registers marks memory) ≡ startRun chosen P (benchOf m (sealsIn machine) registers marks memory)
       → isDone (s .answer) ≡ t → N ≡ cond t (putRun (s .run) run) run → r ≡ packed (reply (s .answer))
       → runStartedOut r machine registers marks memory N ≡ hostRunStart P machine registers marks memory run
   run-start-shown t m s N r h k em e et en er =
       rw (er, en, sym et)
-      (ap (shownRunStart machine run) (e ∙ ap (λ (m : Machine). startRun chosen P (benchOf m registers marks memory)) em) ∙ run-start-is h k)
+      (ap (shownRunStart machine run) (e ∙ ap (λ (m : Machine). startRun chosen P (benchOf m (sealsIn machine) registers marks memory)) em) ∙ run-start-is h k)
 
 -- ---- asking for a step
 

@@ -12,6 +12,7 @@ use Rattle.machine.specs.Setting.{chosen}
 use Rattle.run.specs.declared.Plan.{Plan}
 use Rattle.run.specs.Start.{RunStart, startRun}
 use Rattle.run.specs.Turn.{stepsIn, ask, AskOutcome, asked}
+use Rattle.ranges.specs.Ranges.{sealsIn}
 use Rattle.blocks.specs.Blocks.{machineBytes, machineOf, packed}
 use Rattle.run_blocks.specs.RunBlocks.{runBytes, runOf, putRun, runFit, stepBytes, putHanded}
 
@@ -45,7 +46,7 @@ shownRunStart machine run s =
 unfoldable pub hostRunStart : Plan → (machine registers marks memory run : List ℕ) → HostRunStarted
 hostRunStart P machine registers marks memory run =
     cond (every (eqb (length machine) machineBytes ∷ eqb (length run) runBytes ∷ []))
-    (shownRunStart machine run (startRun chosen P (benchOf (machineOf machine) registers marks memory)))
+    (shownRunStart machine run (startRun chosen P (benchOf (machineOf machine) (sealsIn machine) registers marks memory)))
     (runStartedOut (packed (reply BadArguments)) machine registers marks memory run)
 
 -- ---- asking a run for its next step

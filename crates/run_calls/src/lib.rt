@@ -32,7 +32,7 @@ pub fn start(
         return packed(Answer::BadArguments);
     }
     let held = machine_of(machine);
-    let started = starting::start(plan, held, registers, marks, memory);
+    let started = starting::start(plan, held, machine, registers, marks, memory);
     let answer = started.answer;
     if !machine::is_done(answer) {
         return packed(answer);

@@ -24,7 +24,7 @@ use Rattle.machine.specs.declared.Instruction.the-variants.{Illegal, SetTypeImm
 use Rattle.machine.specs.Tests.{every}
 use Rattle.machine.specs.declared.Reply.{Reply}
 use Rattle.machine.specs.Answers.{reply, _otherwise_, verdict, isDone}
-use Rattle.machine.specs.Geometry.{Parameters, parameters, State, stateOf, machineAfter, Bench, benchOf, scalar, withScalar}
+use Rattle.machine.specs.Geometry.{Range, sealed, Parameters, parameters, State, stateOf, machineAfter, Bench, benchOf, scalar, withScalar}
 use Rattle.machine.specs.Setting.{chosen}
 use Rattle.machine.specs.Listing
 use Rattle.machine.specs.Listing.{field7, field15, field20, lookUp, notOurs, listing, ranged, inRange, decode}
@@ -178,13 +178,13 @@ module _ (word : ℕ) (xs ys : List ℕ) (W : Vectors) (B : Bench) (tx : length 
 
   -- a step with its operation given and its scalars counted
   abbrev answered : Bool → Operation → Answer
-  answered t o = verdict ((soundBench B otherwise BadArguments) ∷ (t otherwise BadArguments) ∷ checks M o st (B .memory))
+  answered t o = verdict ((soundBench B otherwise BadArguments) ∷ (t otherwise BadArguments) ∷ checks M (sealed (B .seals)) o st (B .memory))
 
   abbrev ended : Answer → Operation → List ℕ → Bool → VectorOutcome
   ended a o zs t = let left = stateAfter M o st (B .memory) in beside (cond t (vectorsAfter M o st (W .file)) (W .file)) (cond t
       (record {
         answer = reply Done;
-        bench = benchOf (machineAfter (B .machine) left) (left .regs) (left .marks) (memoryAfter M o st (B .memory));
+        bench = benchOf (machineAfter (B .machine) left) (B .seals) (left .regs) (left .marks) (memoryAfter M o st (B .memory));
         scalars = withScalar zs (destination (decode word)) (resultOf o left);
       })
       (record { answer = reply a; bench = B; scalars = zs }))
@@ -291,11 +291,11 @@ still b xs s v r l e h = elim (ℕ-discrete r s) [
 
 module _ (word : ℕ) (block : List ℕ) (W : Vectors) (B : Bench) (whole : length block ≡ 256) (small : (q : ℕ) → getD block q 0 < 256) where
   -- values of which those in the slots of the word's fields are right, and what the step has left in the slot of bits 11..7 written back
-  block-named : (s : Stepped) (R K X Q F S xs : List ℕ) → length xs ≡ 32
+  block-named : (s : Stepped) (rs : List Range) (R K X Q F S xs : List ℕ) → length xs ≡ 32
       → Right block xs (field7 word) → Right block xs (field15 word) → Right block xs (field20 word)
-      → vectorSteppedAs s R K X Q F ≡ vectorStep word xs W B → S ≡ putSlot (field7 word) (getD X (field7 word) 0) block
-      → vectorSteppedAs s R K S Q F ≡ stepBlock word block W B
-  block-named s R K X Q F S xs t hd ha hb e es =
+      → vectorSteppedAs s rs R K X Q F ≡ vectorStep word xs W B → S ≡ putSlot (field7 word) (getD X (field7 word) 0) block
+      → vectorSteppedAs s rs R K S Q F ≡ stepBlock word block W B
+  block-named s rs R K X Q F S xs t hd ha hb e es =
       ap₂ (λ (a : Reply) (b : Bench). record { answer = a; bench = b; scalars = S; vectors = F }) (ap (λ (o : VectorOutcome). o .answer) e ∙ g .answer) (ap (λ (o : VectorOutcome). o .bench) e ∙ g .bench)
       ∙ ap₂ (λ (S F : List ℕ). record { answer = o .answer; bench = o .bench; scalars = S; vectors = F })
       (es ∙ ap (λ (v : ℕ). putSlot (field7 word) v block) (ap (λ (o : VectorOutcome). getD (o .scalars) (field7 word) 0) e ∙ g .value) ∙ written (eqb (field7 word) 0) refl)
@@ -322,11 +322,11 @@ module _ (word : ℕ) (block : List ℕ) (W : Vectors) (B : Bench) (whole : leng
           sym (putValues-one block (o .scalars) (field7 word) whole small (omega arith) (λ j n l. g .others j n ∙ values-at block j l))
 
   -- the code's values: zeros, and three slots filled
-  pub block-stepped : (s : Stepped) (R K X Q F S : List ℕ) (d a b u v w : ℕ) → d ≡ field7 word → a ≡ field15 word → b ≡ field20 word
+  pub block-stepped : (s : Stepped) (rs : List Range) (R K X Q F S : List ℕ) (d a b u v w : ℕ) → d ≡ field7 word → a ≡ field15 word → b ≡ field20 word
       → u ≡ le block (d * 8) 8 → v ≡ le block (a * 8) 8 → w ≡ le block (b * 8) 8
-      → vectorSteppedAs s R K X Q F ≡ vectorStep word (set (set (set (replicate 32 0) d u) a v) b w) W B → S ≡ putSlot d (getD X d 0) block
-      → vectorSteppedAs s R K S Q F ≡ stepBlock word block W B
-  block-stepped s R K X Q F S d a b u v w ed ea eb eu ev ew e es =
+      → vectorSteppedAs s rs R K X Q F ≡ vectorStep word (set (set (set (replicate 32 0) d u) a v) b w) W B → S ≡ putSlot d (getD X d 0) block
+      → vectorSteppedAs s rs R K S Q F ≡ stepBlock word block W B
+  block-stepped s rs R K X Q F S d a b u v w ed ea eb eu ev ew e es =
       let z : List ℕ = replicate 32 0 in
       let x : List ℕ = set z d u in
       let y : List ℕ = set x a v in
@@ -335,7 +335,7 @@ module _ (word : ℕ) (block : List ℕ) (W : Vectors) (B : Bench) (whole : leng
       let ld : d < length z = omega arith in
       let la : a < length x = omega arith in
       let lb : b < length y = omega arith in
-      block-named s R K X Q F S (set y b w) (length-set y b w ∙ ty)
+      block-named s rs R K X Q F S (set y b w) (length-set y b w ∙ ty)
       (subst (Right block (set y b w)) ed (still block y b w d lb ew (still block x a v d la ev (filled block z d u ld eu))))
       (subst (Right block (set y b w)) ea (still block y b w a lb ew (filled block x a v la ev)))
       (subst (Right block (set y b w)) eb (filled block y b w lb ew))

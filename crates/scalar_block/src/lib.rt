@@ -12,6 +12,7 @@ ghost use Rattle.width.specs.Tile.{putLe};
 ghost use Rattle.machine.specs.Geometry.{benchOf};
 ghost use Rattle.machine.specs.Step.{vectorSteppedAs};
 ghost use Rattle.machine.specs.Vectors.{vectorsOf};
+ghost use Rattle.ranges.specs.Ranges.{sealsIn};
 ghost use Rattle.blocks.specs.Blocks.{scalarBytes};
 ghost use Rattle.scalar_block.specs.ScalarBlock.{stepBlock};
 
@@ -31,6 +32,7 @@ fn put_scalar(scalars: &mut [u8], slot: usize, value: u64)
 // rd is written back, if it is not slot 0: no word uses another slot, and a word without such a field leaves the slot as it was.
 pub fn step_block(
     m: Machine,
+    seals: &[u8],
     registers: &mut [u8],
     marks: &mut [u8],
     scalars: &mut [u8],
@@ -40,8 +42,8 @@ pub fn step_block(
     word: u32,
 ) -> Stepped
     requires { ⌜ length (now scalars) ≡ scalarBytes ⌝ }
-    ensures { λ r. ⌜ vectorSteppedAs r (now (registers .exit)) (now (marks .exit)) (now (scalars .exit)) (now (memory .exit)) (now (vectors .exit))
-        ≡ stepBlock word (now (scalars .entry)) (vectorsOf (now (vectors .entry)) group) (benchOf m (now (registers .entry)) (now (marks .entry)) (now (memory .entry))) ⌝ }
+    ensures { λ r. ⌜ vectorSteppedAs r (sealsIn (now (seals .entry))) (now (registers .exit)) (now (marks .exit)) (now (scalars .exit)) (now (memory .exit)) (now (vectors .exit))
+        ≡ stepBlock word (now (scalars .entry)) (vectorsOf (now (vectors .entry)) group) (benchOf m (sealsIn (now (seals .entry))) (now (registers .entry)) (now (marks .entry)) (now (memory .entry))) ⌝ }
 {
     let rd = decode::low_field(word);
     let rs1 = decode::middle_field(word);
@@ -52,6 +54,7 @@ pub fn step_block(
     values[rs2] = read8(scalars, rs2 * 8);
     let stepped = step::step(
         m,
+        seals,
         registers,
         marks,
         &mut values,

@@ -8,7 +8,7 @@ use borrow.Author.Tests.{eqb-true}
 use Rattle.machine.specs.declared.Machine.{Machine}
 use Rattle.machine.specs.Tests.{every}
 use Rattle.machine.specs.Geometry.{permitted}
-use Rattle.machine.specs.Starting.{isRule, sealEnds}
+use Rattle.machine.specs.Starting.{isRule}
 use Rattle.machine.specs.Setting.{newType}
 use Rattle.settings.specs.Parts.{numbersSound, Ready}
 use lib.Dec.{ltb}
@@ -26,15 +26,14 @@ tests m =
     ∷ leb (m .«tile_m») (m .mlen / m .rlen)
     ∷ leb (m .«tile_k») (min (m .mlen / m .rlen) (m .rlen / 8))
     ∷ leb (m .«tile_n») (m .rlen / 8)
-    ∷ isRule (m .rule)
-    ∷ sealEnds (m .«seal_start») (m .«seal_length») ∷ []
+    ∷ isRule (m .rule) ∷ []
 
-pub numbers-by : (m : Machine) (a b c d e f g : Bool)
+pub numbers-by : (m : Machine) (a b c d e f : Bool)
     → permitted (m .rlen) (m .mlen) (m .elen) ≡ a → eqb (newType (m .elen) (m .mtype)) (m .mtype) ≡ b
     → leb (m .«tile_m») (m .mlen / m .rlen) ≡ c → leb (m .«tile_k») (min (m .mlen / m .rlen) (m .rlen / 8)) ≡ d
-    → leb (m .«tile_n») (m .rlen / 8) ≡ e → isRule (m .rule) ≡ f → sealEnds (m .«seal_start») (m .«seal_length») ≡ g
-    → every (a ∷ b ∷ c ∷ d ∷ e ∷ f ∷ g ∷ []) ≡ numbersSound m
-numbers-by m a b c d e f g ha hb hc hd he hf hg = rw (ha, hb, hc, hd, he, hf, hg)
+    → leb (m .«tile_n») (m .rlen / 8) ≡ e → isRule (m .rule) ≡ f
+    → every (a ∷ b ∷ c ∷ d ∷ e ∷ f ∷ []) ≡ numbersSound m
+numbers-by m a b c d e f ha hb hc hd he hf = rw (ha, hb, hc, hd, he, hf)
 
 pub sound-by : (m : Machine) (regs marks : List ℕ) (a b c d : Bool) → numbersSound m ≡ a → eqb (length regs) (2 * m .mlen) ≡ b → eqb (length marks) (2 * m .mlen) ≡ c
     → allOf (λ mark. ltb mark 2) marks ≡ d → every (a ∷ b ∷ c ∷ d ∷ []) ≡ sound m regs marks
@@ -43,12 +42,12 @@ sound-by m regs marks a b c d ha hb hc hd = same-test (every (a ∷ b ∷ c ∷ 
     (λ h.
     let t = every-each (a ∷ b ∷ c ∷ d ∷ []) h in
     let n = every-each (tests m) (ha ∙ t .0) in
-    each-every (all m) (n .0, (hb ∙ t .1 .0, (hc ∙ t .1 .1 .0, (n .1 .0, (n .1 .1 .0, (n .1 .1 .1 .0, (n .1 .1 .1 .1 .0, (n .1 .1 .1 .1 .1 .0, (n .1 .1 .1 .1 .1 .1 .0, (hd ∙ t .1 .1 .1 .0, tt)))))))))))
+    each-every (all m) (n .0, (hb ∙ t .1 .0, (hc ∙ t .1 .1 .0, (n .1 .0, (n .1 .1 .0, (n .1 .1 .1 .0, (n .1 .1 .1 .1 .0, (n .1 .1 .1 .1 .1 .0, (hd ∙ t .1 .1 .1 .0, tt))))))))))
     (λ h.
     let t = every-each (all m) h in
     each-every (a ∷ b ∷ c ∷ d ∷ []) (
-      sym ha ∙ each-every (tests m) (t .0, (t .1 .1 .1 .0, (t .1 .1 .1 .1 .0, (t .1 .1 .1 .1 .1 .0, (t .1 .1 .1 .1 .1 .1 .0, (t .1 .1 .1 .1 .1 .1 .1 .0, (t .1 .1 .1 .1 .1 .1 .1 .1 .0, tt))))))),
-      (sym hb ∙ t .1 .0, (sym hc ∙ t .1 .1 .0, (sym hd ∙ t .1 .1 .1 .1 .1 .1 .1 .1 .1 .0, tt))),
+      sym ha ∙ each-every (tests m) (t .0, (t .1 .1 .1 .0, (t .1 .1 .1 .1 .0, (t .1 .1 .1 .1 .1 .0, (t .1 .1 .1 .1 .1 .1 .0, (t .1 .1 .1 .1 .1 .1 .1 .0, tt)))))),
+      (sym hb ∙ t .1 .0, (sym hc ∙ t .1 .1 .0, (sym hd ∙ t .1 .1 .1 .1 .1 .1 .1 .1 .0, tt))),
     ))
   where
     all : Machine → List Bool
@@ -61,7 +60,6 @@ sound-by m regs marks a b c d ha hb hc hd = same-test (every (a ∷ b ∷ c ∷ 
         ∷ leb (m .«tile_k») (min (m .mlen / m .rlen) (m .rlen / 8))
         ∷ leb (m .«tile_n») (m .rlen / 8)
         ∷ isRule (m .rule)
-        ∷ sealEnds (m .«seal_start») (m .«seal_length»)
         ∷ allOf (λ mark. ltb mark 2) marks ∷ []
 
 pub numbers-permitted : (m : Machine) → numbersSound m ≡ true → permitted (m .rlen) (m .mlen) (m .elen) ≡ true

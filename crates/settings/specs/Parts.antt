@@ -11,7 +11,7 @@ use Rattle.machine.specs.declared.Answer.the-variants.{Done, IllegalType}
 use Rattle.machine.specs.declared.Stepped.{Stepped}
 use Rattle.machine.specs.Tests.{every}
 use Rattle.machine.specs.Geometry.{permitted, parameters, Parameters, stateOf, machineAfter, scalar, withScalar}
-use Rattle.machine.specs.Starting.{isRule, sealEnds}
+use Rattle.machine.specs.Starting.{isRule}
 use Rattle.machine.specs.Setting.{newType, mill, maximum, smaller, chosen, sizeIn}
 use Rattle.machine.specs.Operation.{sized}
 
@@ -27,8 +27,7 @@ numbersSound m = every (
     ∷ leb (m .«tile_m») (m .mlen / m .rlen)
     ∷ leb (m .«tile_k») (min (m .mlen / m .rlen) (m .rlen / 8))
     ∷ leb (m .«tile_n») (m .rlen / 8)
-    ∷ isRule (m .rule)
-    ∷ sealEnds (m .«seal_start») (m .«seal_length») ∷ [])
+    ∷ isRule (m .rule) ∷ [])
 
 -- the machine's numbers with another mtype, and with another size
 abbrev pub withType : Machine → ℕ → Machine

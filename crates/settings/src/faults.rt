@@ -3,12 +3,13 @@ use super::kept_type;
 use machine::Machine;
 use machine::smaller;
 ghost use mathlib.Core.Path.{_≡_};
-ghost use mathlib.Core.Bool.{true};
+ghost use mathlib.Core.Bool.{true, _&&_};
 ghost use Rattle.machine.specs.Tests.{isIn};
 ghost use lib.Dec.{eqb};
 ghost use Rattle.machine.specs.Geometry.{elens};
 ghost use Rattle.machine.specs.Setting.{newType};
-ghost use Rattle.machine.specs.Faults.{sound};
+ghost use Rattle.machine.specs.Faults.{sound, sealsFit};
+ghost use Rattle.ranges.specs.Ranges.{sealsIn};
 ghost use Rattle.settings.specs.Parts.{numbersSound};
 
 // Whether the machine's numbers are ones that a machine can hold.
@@ -35,10 +36,7 @@ fn numbers_sound(m: Machine) -> bool
     if m.tile_n > pitch {
         return false;
     }
-    if !machine::is_rule(m.rule) {
-        return false;
-    }
-    machine::seal_ends(m.seal_start, m.seal_length)
+    machine::is_rule(m.rule)
 }
 
 fn type_arises(elen: u64, mtype: u64) -> bool
@@ -48,9 +46,9 @@ fn type_arises(elen: u64, mtype: u64) -> bool
     kept_type(elen, mtype) == mtype
 }
 
-// Whether the state is not at fault.
-pub fn is_sound(m: Machine, registers: &[u8], marks: &[u8]) -> bool
-    ensures { λ r. ⌜ r ≡ sound m (now (registers .entry)) (now (marks .entry)) ⌝ }
+// Whether the state is not at fault, with the ranges in a machine's block.
+pub fn is_sound(m: Machine, seals: &[u8], registers: &[u8], marks: &[u8]) -> bool
+    ensures { λ r. ⌜ r ≡ sound m (now (registers .entry)) (now (marks .entry)) && sealsFit (sealsIn (now (seals .entry))) ⌝ }
 {
     if !numbers_sound(m) {
         return false;
@@ -61,5 +59,8 @@ pub fn is_sound(m: Machine, registers: &[u8], marks: &[u8]) -> bool
     if marks.len() as u64 != 2 * m.mlen {
         return false;
     }
-    row::marks_sound(marks)
+    if !row::marks_sound(marks) {
+        return false;
+    }
+    ranges::is_fit(seals)
 }

@@ -15,7 +15,7 @@ use Rattle.machine.specs.declared.Form.the-variants.{Plain, Transposed}
 use Rattle.machine.specs.declared.Wrong.the-variants.{Register}
 use Rattle.machine.specs.declared.Instruction.{Instruction}
 use Rattle.machine.specs.declared.Instruction.the-variants.{MoveOut, MoveIn}
-use Rattle.machine.specs.Geometry.{Parameters, parameters, State, stateOf, Bench, benchOf, scalar, withScalar, machineAfter}
+use Rattle.machine.specs.Geometry.{sealed, Parameters, parameters, State, stateOf, Bench, benchOf, scalar, withScalar, machineAfter}
 use Rattle.machine.specs.Vectors.{Vectors, vectorsOf, vectorAt, vectorBytes, aligned}
 use Rattle.machine.specs.Setting.{sew}
 use Rattle.machine.specs.Operation.{Operation, stateAfter, memoryAfter, vectorsAfter, resultOf, placed, element, lineOf, sliceAt, sliceRows, sliceCols, memoryRows, memoryCols}
@@ -104,12 +104,12 @@ module _ (grant : ℕ → ℕ → ℕ → ℕ) (S : Slice) (out : Given) (back-w
   on-group : aligned W (S .vector) ≡ true
   on-group = go (aligned W (S .vector)) (A .passes)
     where
-      go : (t : Bool) → Passed (checks N (cond t moved (Operation.illegal Register)) lies (B .memory)) → t ≡ true
+      go : (t : Bool) → Passed (checks N (sealed (B .seals)) (cond t moved (Operation.illegal Register)) lies (B .memory)) → t ≡ true
       go true p = refl
       go false p = absurd (false-true (p .0))
 
-  passes : Passed (checks N moved lies (B .memory))
-  passes = subst (λ (t : Bool). Passed (checks N (cond t moved (Operation.illegal Register)) lies (B .memory))) on-group (A .passes)
+  passes : Passed (checks N (sealed (B .seals)) moved lies (B .memory))
+  passes = subst (λ (t : Bool). Passed (checks N (sealed (B .seals)) (cond t moved (Operation.illegal Register)) lies (B .memory))) on-group (A .passes)
 
   -- what the first word leaves
   abbrev file₁ : List ℕ
@@ -123,7 +123,7 @@ module _ (grant : ℕ → ℕ → ℕ → ℕ) (S : Slice) (out : Given) (back-w
     where
       by : Operation → VectorOutcome
       by o = leaving (withScalar xs 0 (resultOf o (stateAfter N o lies (B .memory))))
-          (benchOf (machineAfter (B .machine) (stateAfter N o lies (B .memory)))
+          (benchOf (machineAfter (B .machine) (stateAfter N o lies (B .memory))) (B .seals)
           (stateAfter N o lies (B .memory) .regs) (stateAfter N o lies (B .memory) .marks)
           (memoryAfter N o lies (B .memory)))
           (vectorsAfter N o lies (W .file))
@@ -144,14 +144,14 @@ module _ (grant : ℕ → ℕ → ℕ → ℕ) (S : Slice) (out : Given) (back-w
   abbrev after : ℕ → State
   after first = stateAfter N (returned first) lies (B .memory)
 
-  left-back : stepWith grant back-word ys W₂ B ≡ leaving ys (benchOf (B .machine) (after (scalar xs (S .out-first)) .regs) (after (scalar xs (S .out-first)) .marks) (B .memory)) file₁
+  left-back : stepWith grant back-word ys W₂ B ≡ leaving ys (benchOf (B .machine) (B .seals) (after (scalar xs (S .out-first)) .regs) (after (scalar xs (S .out-first)) .marks) (B .memory)) file₁
   left-back =
       A₂ .leaves ∙ ap (λ (t : Bool). by (cond t (returned (scalar ys (S .back-first))) (Operation.illegal Register))) on-group
-      ∙ ap (λ (first : ℕ). leaving ys (benchOf (B .machine) (after first .regs) (after first .marks) (B .memory)) file₁) (h .same-first)
+      ∙ ap (λ (first : ℕ). leaving ys (benchOf (B .machine) (B .seals) (after first .regs) (after first .marks) (B .memory)) file₁) (h .same-first)
     where
       by : Operation → VectorOutcome
       by o = leaving (withScalar ys 0 (resultOf o (stateAfter N o lies (B .memory))))
-          (benchOf (machineAfter (B .machine) (stateAfter N o lies (B .memory)))
+          (benchOf (machineAfter (B .machine) (stateAfter N o lies (B .memory))) (B .seals)
           (stateAfter N o lies (B .memory) .regs) (stateAfter N o lies (B .memory) .marks)
           (memoryAfter N o lies (B .memory)))
           (vectorsAfter N o lies file₁)
@@ -174,7 +174,7 @@ module _ (grant : ℕ → ℕ → ℕ → ℕ) (S : Slice) (out : Given) (back-w
       (sliceCols (S .form) lies (W .group) * sew (B .machine .mtype)) (B .marks) (passes .1 .1 .1 .1 .1 .0)
 
   restored : stepWith grant back-word ys W₂ B ≡ leaving ys B file₁
-  restored = left-back ∙ ap₂ (λ (regs marks : List ℕ). leaving ys (benchOf (B .machine) regs marks (B .memory)) file₁) regs-same marks-same
+  restored = left-back ∙ ap₂ (λ (regs marks : List ℕ). leaving ys (benchOf (B .machine) (B .seals) regs marks (B .memory)) file₁) regs-same marks-same
 
   pub out-and-back : Restored grant S out back-word ys B
   out-and-back =

@@ -1,7 +1,7 @@
 -- Parts of the numbers laid in memory, and what a run on them leaves.
-use mathlib.Core.Path.{_≡_, refl, sym, ap, _∙_, subst}
+use mathlib.Core.Path.{_≡_, refl, sym, ap, ap₂, _∙_, subst}
 use mathlib.Core.Bool.{true}
-use mathlib.Core.List.{List}
+use mathlib.Core.List.{List, []}
 use Prim.Native.Nat.{ℕ, _+_, _*_, _-_, _/_, _%_, _^_, _≤_, _<_}
 use native.Mathlib.Nat.{mul-le-mul}
 use native.Mathlib.Omega.{arith}
@@ -10,7 +10,8 @@ use lib.Seq.{getD-take, getD-drop, length-take-le}
 use Rattle.width.specs.Tile.{le, putRow}
 use Rattle.width.proofs.PutLaws.{putRow-low}
 use Rattle.machine.specs.declared.Started.{Started}
-use Rattle.machine.specs.Geometry.{Bench, benchOf, permitted}
+use Rattle.machine.specs.Geometry.{Range, Bench, benchOf, permitted}
+use Rattle.ranges.specs.Ranges.{sealsIn, wellFormed}
 use Rattle.machine.specs.Faults.{soundBench}
 use Rattle.machine.specs.Starting.{StartOutcome, startMachine, startedAs, startable, freshMachine}
 use Rattle.machine.proofs.NoFault.{start-sound}
@@ -46,18 +47,27 @@ module _ (xs : List ℕ) (p n : ℕ) (fits : p + n ≤ length xs) where
 abbrev zeros : List ℕ
 zeros = replicate 512 0
 
+-- a block without ranges
+abbrev pub none : List ℕ
+none = replicate 200 0
+
+none-sealed : sealsIn none ≡ []
+unfolding sealsIn wellFormed
+none-sealed = refl
+
 -- and the bench, with a memory
 abbrev fresh : List ℕ → Bench
-fresh memory = benchOf (freshMachine 64 256 32 0 0 0) zeros zeros memory
+fresh memory = benchOf (freshMachine 64 256 32 0) [] zeros zeros memory
 
 fresh-sound : (memory : List ℕ) → soundBench (fresh memory) ≡ true
 unfolding startMachine startable permitted
-fresh-sound memory = start-sound 64 256 32 0 0 0 zeros zeros memory refl
+fresh-sound memory = start-sound 64 256 32 0 [] zeros zeros memory refl
 
-started-fresh : (s : Started) (marks memory : List ℕ) → startedAs s zeros marks ≡ startMachine 64 256 32 0 0 0 zeros zeros
-    → benchOf (s .machine) zeros marks memory ≡ fresh memory
+started-fresh : (s : Started) (marks memory : List ℕ) → startedAs s [] zeros marks ≡ startMachine 64 256 32 0 [] zeros zeros
+    → benchOf (s .machine) (sealsIn none) zeros marks memory ≡ fresh memory
 unfolding startMachine startable permitted
-started-fresh s marks memory e = ap (λ (o : StartOutcome). benchOf (o .machine) (o .registers) (o .marks) memory) e
+started-fresh s marks memory e =
+    ap₂ (λ (rs : List Range) (o : StartOutcome). benchOf (o .machine) rs (o .registers) (o .marks) memory) none-sealed e
 
 -- the 256 numbers that are read lie in C's place
 pub c-fits : (sew f : ℕ) → format 32 sew f ≡ true → 256 * (f * (sew / 8)) ≤ 1024
@@ -65,8 +75,8 @@ c-fits sew f formatted = matrix-small 16 16 (f * (sew / 8)) (omega arith) (omega
 
 module _ (sew f m k n : ℕ) (formatted : format 32 sew f ≡ true) (m≤ : m ≤ 16) (k≤ : k ≤ 16) (n≤ : n ≤ 16) where
   -- from what the calls of `multiply` return and leave: the run's count, and the elements of C that were read
-  pub multiplied : (s : Started) (marks memory : List ℕ) → startedAs s zeros marks ≡ startMachine 64 256 32 0 0 0 zeros zeros → length memory ≡ 3072
-      → (P : Plan) → P ≡ planFor sew f m k n → (o : WholeOutcome) → Delivers P (benchOf (s .machine) zeros marks memory) o
+  pub multiplied : (s : Started) (marks memory : List ℕ) → startedAs s [] zeros marks ≡ startMachine 64 256 32 0 [] zeros zeros → length memory ≡ 3072
+      → (P : Plan) → P ≡ planFor sew f m k n → (o : WholeOutcome) → Delivers P (benchOf (s .machine) (sealsIn none) zeros marks memory) o
       → (c : List ℕ) → ((j : ℕ) → j < 256 → getD c j 0 ≡ le (o .bench .memory) (2048 + j * (f * (sew / 8))) (f * (sew / 8)))
       → (o .count ≡ steps (shape (jobFor sew f m k n memory)))
       × ((i j : ℕ) → i < m → j < n → getD c (i * n + j) 0 ≡ productOf (jobFor sew f m k n memory) i j)

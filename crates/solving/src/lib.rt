@@ -43,10 +43,12 @@ fn multiply(c: &mut [u64], memory: &mut [u8], sew: u64, factor: u64, m: u64, k: 
 {
     let mut registers = [0u8; 512];
     let mut marks = [0u8; 512];
-    let started = machine::start(64, 256, 32, 0, 0, 0, &registers, &mut marks);
+    let none: [u64; 0] = [];
+    let seals = [0u8; 200];
+    let started = machine::start(64, 256, 32, 0, &none, &registers, &mut marks);
     let machine = started.machine;
     let plan = product_memory::plan_for(sew, factor, m, k, n);
-    let finished = whole::whole(plan, machine, &mut registers, &mut marks, memory);
+    let finished = whole::whole(plan, machine, &seals, &mut registers, &mut marks, memory);
     let width = (factor * (sew / 8)) as usize;
     product_memory::read_elements(c, memory, 2048, width);
     finished.count

@@ -10,9 +10,9 @@ use lib.Dec.{leb}
 use borrow.Author.Tests.{leb-true}
 use Rattle.machine.specs.declared.Answer.the-variants.{BadArguments, OutsideMemory, Overlap}
 use Rattle.machine.specs.Answers.{reply, Check, _otherwise_, verdict, isDone}
-use Rattle.machine.specs.Geometry.{Parameters, Bench, parameters}
-use Rattle.machine.specs.Memory.{inside, distinct, unsealed}
-use Rattle.machine.specs.Faults.{sound}
+use Rattle.machine.specs.Geometry.{Bench, sealed}
+use Rattle.machine.specs.Memory.{inside, distinct, rowsMiss}
+use Rattle.machine.specs.Faults.{soundBench}
 use Rattle.machine.specs.Setting.{chosen}
 use Rattle.machine.proofs.TestLaws.{Each, every-each, fails, last}
 use Rattle.run.specs.declared.Plan.{Plan}
@@ -110,8 +110,8 @@ module _ (P : Plan) where
   abbrev pub bApart : ℕ → ℕ → Bool
   bApart n o = apart (bAt P) (P .k) n (cAt P) (P .m) o
 
-  abbrev pub cUnsealed : Parameters → ℕ → Bool
-  cUnsealed M o = unsealed M (P .c .address) (P .c .stride) (P .m) o
+  abbrev pub cUnsealed : (ℕ → Bool) → ℕ → Bool
+  cUnsealed z o = rowsMiss z (P .c .address) (P .c .stride) (P .m) o
 
   -- and of as many as the plan gives it
   abbrev pub rowsDiffer : Bool
@@ -123,25 +123,25 @@ module _ (P : Plan) where
   abbrev pub fromB : Bool
   fromB = bApart (P .n * narrow P) (P .n * wide P)
 
-  abbrev pub fromSeal : Parameters → Bool
-  fromSeal M = cUnsealed M (P .n * wide P)
+  abbrev pub fromSeal : (ℕ → Bool) → Bool
+  fromSeal z = cUnsealed z (P .n * wide P)
 
-  module _ (M : Parameters) where
-    pub rows-meet : rowsDiffer ≡ false → false ≡ separate M P
+  module _ (z : ℕ → Bool) where
+    pub rows-meet : rowsDiffer ≡ false → false ≡ separate z P
     unfolding separate
-    rows-meet h = fails [] tt rowsDiffer h (fromA ∷ fromB ∷ fromSeal M ∷ [])
+    rows-meet h = fails [] tt rowsDiffer h (fromA ∷ fromB ∷ fromSeal z ∷ [])
 
-    pub meets-a : rowsDiffer ≡ true → fromA ≡ false → false ≡ separate M P
+    pub meets-a : rowsDiffer ≡ true → fromA ≡ false → false ≡ separate z P
     unfolding separate
-    meets-a r h = fails (rowsDiffer ∷ []) (r, tt) fromA h (fromB ∷ fromSeal M ∷ [])
+    meets-a r h = fails (rowsDiffer ∷ []) (r, tt) fromA h (fromB ∷ fromSeal z ∷ [])
 
-    pub meets-b : rowsDiffer ≡ true → fromA ≡ true → fromB ≡ false → false ≡ separate M P
+    pub meets-b : rowsDiffer ≡ true → fromA ≡ true → fromB ≡ false → false ≡ separate z P
     unfolding separate
-    meets-b r a h = fails (rowsDiffer ∷ fromA ∷ []) (r, (a, tt)) fromB h (fromSeal M ∷ [])
+    meets-b r a h = fails (rowsDiffer ∷ fromA ∷ []) (r, (a, tt)) fromB h (fromSeal z ∷ [])
 
-    pub seal-decides : rowsDiffer ≡ true → fromA ≡ true → fromB ≡ true → fromSeal M ≡ separate M P
+    pub seal-decides : rowsDiffer ≡ true → fromA ≡ true → fromB ≡ true → fromSeal z ≡ separate z P
     unfolding separate
-    seal-decides r a b = last (rowsDiffer ∷ fromA ∷ fromB ∷ []) (r, (a, (b, tt))) (fromSeal M)
+    seal-decides r a b = last (rowsDiffer ∷ fromA ∷ fromB ∷ []) (r, (a, (b, tt))) (fromSeal z)
 
 -- ---- what a start leaves, by its four tests
 
@@ -156,7 +156,7 @@ module _ (P : Plan) (B : Bench) where
     bench = B;
   }
 
-  pub started-by : {s p l d : Bool} → sound (B .machine) (B .registers) (B .marks) ≡ s → planned (B .machine .elen) P ≡ p → lying P (B .memory) ≡ l
-      → separate (parameters chosen (B .machine)) P ≡ d → out s p l d ≡ startRun chosen P B
+  pub started-by : {s p l d : Bool} → soundBench B ≡ s → planned (B .machine .elen) P ≡ p → lying P (B .memory) ≡ l
+      → separate (sealed (B .seals)) P ≡ d → out s p l d ≡ startRun chosen P B
   unfolding startRun
   started-by hs hp hl hd = rw (hs, hp, hl, hd)

@@ -8,6 +8,7 @@ use run::RunStarted;
 ghost use mathlib.Core.Path.{_≡_};
 ghost use Rattle.machine.specs.Geometry.{benchOf};
 ghost use Rattle.machine.specs.Setting.{chosen};
+ghost use Rattle.ranges.specs.Ranges.{sealsIn};
 ghost use Rattle.run.specs.Start.{startRun, startedAs, noRun};
 
 mod tests; // the tests of a start on memory
@@ -30,11 +31,18 @@ fn refused(plan: Plan, answer: Answer) -> RunStarted
 }
 
 // Starts a run on a machine: 8, then 6, then 9.
-pub fn start(plan: Plan, m: Machine, registers: &[u8], marks: &[u8], memory: &[u8]) -> RunStarted
-    ensures { λ r. ⌜ startedAs r (benchOf m (now (registers .entry)) (now (marks .entry)) (now (memory .entry)))
-        ≡ startRun chosen plan (benchOf m (now (registers .entry)) (now (marks .entry)) (now (memory .entry))) ⌝ }
+pub fn start(
+    plan: Plan,
+    m: Machine,
+    seals: &[u8],
+    registers: &[u8],
+    marks: &[u8],
+    memory: &[u8],
+) -> RunStarted
+    ensures { λ r. ⌜ startedAs r (benchOf m (sealsIn (now (seals .entry))) (now (registers .entry)) (now (marks .entry)) (now (memory .entry)))
+        ≡ startRun chosen plan (benchOf m (sealsIn (now (seals .entry))) (now (registers .entry)) (now (marks .entry)) (now (memory .entry))) ⌝ }
 {
-    if !settings::faults::is_sound(m, registers, marks) {
+    if !settings::faults::is_sound(m, seals, registers, marks) {
         return refused(plan, Answer::BadArguments);
     }
     if !plan_numbers::is_planned(m.elen, plan) {
@@ -43,7 +51,7 @@ pub fn start(plan: Plan, m: Machine, registers: &[u8], marks: &[u8], memory: &[u
     if !tests::is_lying(plan, memory) {
         return refused(plan, Answer::OutsideMemory);
     }
-    if !tests::is_separate(plan, m, memory) {
+    if !tests::is_separate(plan, seals, memory) {
         return refused(plan, Answer::Overlap);
     }
     RunStarted {

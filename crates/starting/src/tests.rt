@@ -1,18 +1,18 @@
 // The tests of a start on memory: that the matrices lie in it, and that C lies apart from the rest.
 use address::rows_distinct;
 use address::rows_inside;
-use address::rows_unsealed;
-use machine::Machine;
 use overlap::rows_apart;
 use plan_numbers::a_column;
 use plan_numbers::a_row;
+use ranges::several_missed;
 use run::Plan;
 ghost use mathlib.Core.Path.{_≡_};
 ghost use mathlib.Core.Bool.{true};
 ghost use Prim.Native.Nat.{_*_, _≤_};
 ghost use Rattle.width.specs.Bounds.{mostElen};
-ghost use Rattle.machine.specs.Geometry.{parameters};
-ghost use Rattle.machine.specs.Setting.{chosen};
+ghost use Rattle.machine.specs.Geometry.{sealed};
+ghost use Rattle.machine.specs.Faults.{sealsFit};
+ghost use Rattle.ranges.specs.Ranges.{sealsIn};
 ghost use Rattle.run.specs.Plan.{narrow, wide};
 ghost use Rattle.run.specs.Start.{planned, lying, separate};
 
@@ -72,11 +72,12 @@ pub fn is_lying(plan: Plan, memory: &[u8]) -> bool
     )
 }
 
-// Whether no byte of C lies in two of its rows, in a row of A or B, or in the seal.
-pub fn is_separate(plan: Plan, m: Machine, memory: &[u8]) -> bool
+// Whether no byte of C lies in two of its rows, in a row of A or B, or in a sealed range.
+pub fn is_separate(plan: Plan, seals: &[u8], memory: &[u8]) -> bool
     requires { ⌜ planned mostElen plan ≡ true ⌝ }
     requires { ⌜ lying plan (now memory) ≡ true ⌝ }
-    ensures { λ r. ⌜ r ≡ separate (parameters chosen m) plan ⌝ }
+    requires { ⌜ sealsFit (sealsIn (now seals)) ≡ true ⌝ }
+    ensures { λ r. ⌜ r ≡ separate (sealed (sealsIn (now (seals .entry)))) plan ⌝ }
 {
     let len = memory.len();
     let c = plan.c;
@@ -116,5 +117,5 @@ pub fn is_separate(plan: Plan, m: Machine, memory: &[u8]) -> bool
     ) {
         return false;
     }
-    rows_unsealed(len, m.seal_start, m.seal_length, at, c.stride, rows, bytes)
+    several_missed(len, seals, at, c.stride, rows, bytes)
 }

@@ -12,11 +12,11 @@ use Rattle.machine.specs.declared.Answer.the-variants.{Done}
 use Rattle.machine.specs.declared.Instruction.{Instruction}
 use Rattle.machine.specs.declared.Instruction.the-variants.{Illegal, SetTypeImmediate, SetType, SetTileImmediate, SetTile, Load, Store, Multiply, Combine, Scale, ScaleImmediate, FloatMultiply, MoveOut, MoveIn}
 use Rattle.machine.specs.Answers.{Check, reply, verdict, isDone}
-use Rattle.machine.specs.Geometry.{Parameters, State, stateOf, machineAfter, Bench, benchOf, withScalar}
+use Rattle.machine.specs.Geometry.{Range, sealed, Parameters, State, stateOf, machineAfter, Bench, benchOf, withScalar}
 use Rattle.machine.specs.Vectors.{Vectors, aligned}
 use Rattle.machine.specs.Operation.{Operation, stateAfter, memoryAfter, vectorsAfter, resultOf}
 use Rattle.machine.specs.Refusals.{checks}
-use Rattle.machine.specs.Faults.{sound, thirtyTwo}
+use Rattle.machine.specs.Faults.{sound, sealsFit, thirtyTwo}
 use Rattle.machine.specs.Step
 use Rattle.machine.specs.Step.{Outcome, VectorOutcome, beside, outcome, outcomeIn, vectorsIn, checksIn, meantIn, givenIn, destination}
 use Rattle.machine.proofs.TestLaws.{false-true}
@@ -97,42 +97,42 @@ module _ (W : Vectors) (M : Parameters) (xs : List ℕ) (B : Bench) where
 
 -- ---- a move
 
-module _ (m : Machine) (i : Instruction) (xs regs marks mem : List ℕ) (W : Vectors) (s : sound m regs marks ≡ true) (t : thirtyTwo xs ≡ true) (to-zero : destination i ≡ 0) where
+module _ (m : Machine) (seals : List Range) (i : Instruction) (xs regs marks mem : List ℕ) (W : Vectors) (s : sound m regs marks ≡ true) (fit : sealsFit seals ≡ true) (t : thirtyTwo xs ≡ true) (to-zero : destination i ≡ 0) where
   abbrev M : Parameters
   M = ours m
 
   abbrev B : Bench
-  B = benchOf m regs marks mem
+  B = benchOf m seals regs marks mem
 
   abbrev st : State
   st = stateOf m regs marks
 
   abbrev checked : List Check
-  checked = checks M (meantIn W M i xs B) st mem
+  checked = checks M (sealed seals) (meantIn W M i xs B) st mem
 
   abbrev out : Answer → VectorOutcome
   out a = beside (cond (isDone a) (vectorsAfter M (meantIn W M i xs B) st (W .file)) (W .file)) (cond (isDone a) (Step.carriedIn W M i xs B) (Step.refusedIn W M i xs B a))
 
   out-by : (a : Answer) → verdict checked ≡ a → out a ≡ carriedBeside W M i xs B
-  out-by a e = rw (s, t) (ap out (sym e))
+  out-by a e = rw (s, fit, t) (ap out (sym e))
 
   abbrev leaving : Answer → (regs marks file : List ℕ) → VectorOutcome
-  leaving a regs′ marks′ file = beside file (record { answer = reply a; bench = benchOf m regs′ marks′ mem; scalars = xs })
+  leaving a regs′ marks′ file = beside file (record { answer = reply a; bench = benchOf m seals regs′ marks′ mem; scalars = xs })
 
   -- of an operation that writes neither memory nor numbers
   moved-outcome : (o : Operation) → meantIn W M i xs B ≡ o → memoryAfter M o st mem ≡ mem → machineAfter m (stateAfter M o st mem) ≡ m
-      → (a : Answer) (regs′ marks′ file′ : List ℕ) → a ≡ verdict (checks M o st mem)
+      → (a : Answer) (regs′ marks′ file′ : List ℕ) → a ≡ verdict (checks M (sealed seals) o st mem)
       → regs′ ≡ cond (isDone a) (stateAfter M o st mem .regs) regs → marks′ ≡ cond (isDone a) (stateAfter M o st mem .marks) marks
       → file′ ≡ cond (isDone a) (vectorsAfter M o st (W .file)) (W .file)
       → leaving a regs′ marks′ file′ ≡ carriedBeside W M i xs B
   moved-outcome o e no-memory no-number a regs′ marks′ file′ ea er em ef =
       go (isDone a) refl ∙ ap (λ (o : Operation). beside (cond (isDone a) (vectorsAfter M o st (W .file)) (W .file)) (cond (isDone a) (done o) (Step.refusedIn W M i xs B a))) (sym e)
-      ∙ out-by a (ap (λ (o : Operation). verdict (checks M o st mem)) e ∙ sym ea)
+      ∙ out-by a (ap (λ (o : Operation). verdict (checks M (sealed seals) o st mem)) e ∙ sym ea)
     where
       done : Operation → Outcome
       done o = record {
         answer = reply Done;
-        bench = benchOf (machineAfter m (stateAfter M o st mem)) (stateAfter M o st mem .regs) (stateAfter M o st mem .marks) (memoryAfter M o st mem);
+        bench = benchOf (machineAfter m (stateAfter M o st mem)) seals (stateAfter M o st mem .regs) (stateAfter M o st mem .marks) (memoryAfter M o st mem);
         scalars = withScalar xs (destination i) (resultOf o (stateAfter M o st mem));
       }
 
@@ -141,10 +141,10 @@ module _ (m : Machine) (i : Instruction) (xs regs marks mem : List ℕ) (W : Vec
       go true d =
           rw d (ap₂ (λ (a : Answer) (f : List ℕ). leaving a regs′ marks′ f) (only-done a d) (ef ∙ rw d)
           ∙ ap₂ (λ (r k : List ℕ). leaving Done r k (vectorsAfter M o st (W .file))) (er ∙ rw d) (em ∙ rw d)
-          ∙ ap₂ (λ (n : Machine) (q : List ℕ). beside (vectorsAfter M o st (W .file)) (record { answer = reply Done; bench = benchOf n (stateAfter M o st mem .regs) (stateAfter M o st mem .marks) q; scalars = xs })) (sym no-number) (sym no-memory)
+          ∙ ap₂ (λ (n : Machine) (q : List ℕ). beside (vectorsAfter M o st (W .file)) (record { answer = reply Done; bench = benchOf n seals (stateAfter M o st mem .regs) (stateAfter M o st mem .marks) q; scalars = xs })) (sym no-number) (sym no-memory)
           ∙ ap (λ (rd : ℕ). beside (vectorsAfter M o st (W .file)) (record {
             answer = reply Done;
-            bench = benchOf (machineAfter m (stateAfter M o st mem)) (stateAfter M o st mem .regs) (stateAfter M o st mem .marks) (memoryAfter M o st mem);
+            bench = benchOf (machineAfter m (stateAfter M o st mem)) seals (stateAfter M o st mem .regs) (stateAfter M o st mem .marks) (memoryAfter M o st mem);
             scalars = withScalar xs rd (resultOf o (stateAfter M o st mem));
           })) (sym to-zero))
       go false d =
@@ -156,7 +156,7 @@ module _ (m : Machine) (i : Instruction) (xs regs marks mem : List ℕ) (W : Vec
     by t u = cond t (cond u (Operation.moveIn f r v first (W .group) (W .file)) (Operation.moveOut f r v first (W .group))) (Operation.illegal Register)
 
     -- it asks nothing of memory, and leaves that and the numbers
-    same-checks : (t u : Bool) → checks M (by t u) st [] ≡ checks M (by t u) st mem
+    same-checks : (t u : Bool) → checks M (sealed seals) (by t u) st [] ≡ checks M (sealed seals) (by t u) st mem
     same-checks true true = refl
     same-checks true false = refl
     same-checks false u = refl
@@ -182,7 +182,7 @@ module _ (m : Machine) (i : Instruction) (xs regs marks mem : List ℕ) (W : Vec
         let al : Bool = aligned W v in
         let k = l .inside in
         moved-outcome (by al inward) e (same-memory al inward) (same-numbers al inward) a regs′ marks′ file′
-        (k .answer-is ∙ ap verdict (same-checks al inward))
+        (k .answer-is (sealed seals) ∙ ap verdict (same-checks al inward))
         (k .registers-are ∙ ap (λ (z : State). cond (isDone a) (z .regs) regs) (same-state al inward))
         (k .marks-are ∙ ap (λ (z : State). cond (isDone a) (z .marks) marks) (same-state al inward))
         (l .outside .vectors-are)

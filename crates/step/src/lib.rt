@@ -22,7 +22,8 @@ ghost use Prim.Native.Nat.{_<_, _≤_, _%_, _^_, _+_};
 ghost use lib.Dec.{eqb};
 ghost use Rattle.width.specs.Reduce.{reduce, signed};
 ghost use Rattle.machine.specs.Setting.{sew};
-ghost use Rattle.machine.specs.Faults.{sound, thirtyTwo};
+ghost use Rattle.machine.specs.Faults.{sound, sealsFit, thirtyTwo};
+ghost use Rattle.ranges.specs.Ranges.{sealsIn};
 ghost use Rattle.machine.specs.Geometry.{benchOf};
 ghost use Rattle.machine.specs.Tests.{isIn};
 ghost use Rattle.machine.specs.Vectors.{vectorsOf, groupSizes, vectorsFit};
@@ -75,6 +76,7 @@ fn multiplier(mtype: u64, value: u64) -> u64
 // Carries out an instruction in a state that is not at fault.
 fn perform(
     m: Machine,
+    seals: &[u8],
     registers: &mut [u8],
     marks: &mut [u8],
     scalars: &mut [u64],
@@ -87,8 +89,9 @@ fn perform(
     requires { ⌜ thirtyTwo (now scalars) ≡ true ⌝ }
     requires { ⌜ vectorsFit (vectorsOf (now vectors) group) ≡ true ⌝ }
     requires { ⌜ Decoded instruction ⌝ }
-    ensures { λ r. ⌜ vectorSteppedAs r (now (registers .exit)) (now (marks .exit)) (now (scalars .exit)) (now (memory .exit)) (now (vectors .exit))
-        ≡ carriedBeside (vectorsOf (now (vectors .entry)) group) (ours m) instruction (now (scalars .entry)) (benchOf m (now (registers .entry)) (now (marks .entry)) (now (memory .entry))) ⌝ }
+    requires { ⌜ sealsFit (sealsIn (now seals)) ≡ true ⌝ }
+    ensures { λ r. ⌜ vectorSteppedAs r (sealsIn (now (seals .entry))) (now (registers .exit)) (now (marks .exit)) (now (scalars .exit)) (now (memory .exit)) (now (vectors .exit))
+        ≡ carriedBeside (vectorsOf (now (vectors .entry)) group) (ours m) instruction (now (scalars .entry)) (benchOf m (sealsIn (now (seals .entry))) (now (registers .entry)) (now (marks .entry)) (now (memory .entry))) ⌝ }
 {
     match instruction {
         Instruction::Illegal { wrong } => Stepped {
@@ -151,6 +154,7 @@ fn perform(
             Stepped {
                 answer: store(
                     m,
+                    seals,
                     registers,
                     marks,
                     memory,
@@ -262,9 +266,10 @@ fn is_group(group: u64) -> bool
     }
 }
 
-// Steps one instruction word, beside a vector file with a group size.
+// Steps one instruction word of a machine with the ranges in its block, beside a vector file with a group size.
 pub fn step(
     m: Machine,
+    seals: &[u8],
     registers: &mut [u8],
     marks: &mut [u8],
     scalars: &mut [u64],
@@ -273,8 +278,8 @@ pub fn step(
     group: u64,
     word: u32,
 ) -> Stepped
-    ensures { λ r. ⌜ vectorSteppedAs r (now (registers .exit)) (now (marks .exit)) (now (scalars .exit)) (now (memory .exit)) (now (vectors .exit))
-        ≡ vectorStep word (now (scalars .entry)) (vectorsOf (now (vectors .entry)) group) (benchOf m (now (registers .entry)) (now (marks .entry)) (now (memory .entry))) ⌝ }
+    ensures { λ r. ⌜ vectorSteppedAs r (sealsIn (now (seals .entry))) (now (registers .exit)) (now (marks .exit)) (now (scalars .exit)) (now (memory .exit)) (now (vectors .exit))
+        ≡ vectorStep word (now (scalars .entry)) (vectorsOf (now (vectors .entry)) group) (benchOf m (sealsIn (now (seals .entry))) (now (registers .entry)) (now (marks .entry)) (now (memory .entry))) ⌝ }
 {
     if vectors.len() != 512 {
         return Stepped {
@@ -288,7 +293,7 @@ pub fn step(
             machine: m,
         };
     }
-    if !is_sound(m, registers, marks) {
+    if !is_sound(m, seals, registers, marks) {
         return Stepped {
             answer: Answer::BadArguments,
             machine: m,
@@ -302,6 +307,7 @@ pub fn step(
     }
     perform(
         m,
+        seals,
         registers,
         marks,
         scalars,

@@ -4,9 +4,9 @@ use address::as_signed;
 use address::row_address;
 use address::rows_distinct;
 use address::rows_inside;
-use address::rows_unsealed;
 use machine::Answer;
 use machine::is_done;
+use ranges::rows_unsealed;
 use row::line_marked;
 use row::mark_row;
 use row::row_marked;
@@ -17,7 +17,9 @@ ghost use mathlib.Core.List.{[], _∷_};
 ghost use Prim.Native.Nat.{_+_, _*_, _^_, _≤_, _<_};
 ghost use lib.ListN.{length};
 ghost use Rattle.width.specs.Tile.{putTile, markTile};
-ghost use Rattle.machine.specs.Tests.{within};
+ghost use Rattle.machine.specs.Geometry.{sealed};
+ghost use Rattle.machine.specs.Faults.{sealsFit};
+ghost use Rattle.ranges.specs.Ranges.{sealsIn};
 ghost use Rattle.machine.specs.Memory.{rowAt, inside};
 ghost use Rattle.machine.specs.Operation.{element};
 ghost use Rattle.machine.specs.Refusals.{marked, needs};
@@ -167,8 +169,7 @@ pub fn store_tile(
 pub fn store_checked(
     marks: &[u8],
     len: usize,
-    seal: u64,
-    size: u64,
+    seals: &[u8],
     start: usize,
     pitch: usize,
     base: u64,
@@ -183,7 +184,8 @@ pub fn store_checked(
     requires { ⌜ cols * w ≤ pitch ⌝ }
     requires { ⌜ len < 2 ^ 63 ⌝ }
     requires { ⌜ lines * bytes < 2 ^ 63 ⌝ }
-    ensures { λ r. ⌜ r ≡ verdict (storeChecks (within seal size) (now (marks .entry)) start pitch len base stride rows cols w lines bytes) ⌝ }
+    requires { ⌜ sealsFit (sealsIn (now seals)) ≡ true ⌝ }
+    ensures { λ r. ⌜ r ≡ verdict (storeChecks (sealed (sealsIn (now (seals .entry)))) (now (marks .entry)) start pitch len base stride rows cols w lines bytes) ⌝ }
 {
     let at = base as usize;
     let written = first_unmarked(marks, start, pitch, rows, cols, w);
@@ -196,7 +198,7 @@ pub fn store_checked(
     if !rows_distinct(len, at, stride, lines, bytes) {
         return Answer::RowsOverlap;
     }
-    if !rows_unsealed(len, seal, size, at, stride, lines, bytes) {
+    if !rows_unsealed(len, seals, at, stride, lines, bytes) {
         return Answer::SealedByte;
     }
     Answer::Done

@@ -24,7 +24,9 @@ ghost use mathlib.Core.List.{[], _∷_};
 ghost use Prim.Native.Nat.{_+_, _*_, _≤_, _<_};
 ghost use lib.ListN.{length};
 ghost use Rattle.width.specs.Tile.{le, putLe, putRow, putTile, markTile};
-ghost use Rattle.machine.specs.Tests.{within};
+ghost use Rattle.machine.specs.Geometry.{sealed};
+ghost use Rattle.machine.specs.Faults.{sealsFit};
+ghost use Rattle.ranges.specs.Ranges.{sealsIn};
 ghost use Rattle.machine.specs.Memory.{rowAt, inside};
 ghost use Rattle.machine.specs.Operation.{element, placed, memoryRows, memoryCols};
 ghost use Rattle.machine.specs.declared.Answer.the-variants.{OutsideMemory};
@@ -272,8 +274,7 @@ pub fn store(
     registers: &[u8],
     marks: &[u8],
     memory: &mut [u8],
-    seal: u64,
-    size: u64,
+    seals: &[u8],
     start: usize,
     pitch: usize,
     base: u64,
@@ -287,7 +288,8 @@ pub fn store(
     requires { ⌜ cols * w ≤ pitch ⌝ }
     requires { ⌜ Width w ⌝ }
     requires { ⌜ w ≤ pitch ⌝ }
-    ensures { λ r. ⌜ r ≡ verdict (storeChecks (within seal size) (now (marks .entry)) start pitch (length (now (memory .entry))) base stride rows cols w (memoryRows form rows cols) (memoryCols form rows cols * w)) ⌝ }
+    requires { ⌜ sealsFit (sealsIn (now seals)) ≡ true ⌝ }
+    ensures { λ r. ⌜ r ≡ verdict (storeChecks (sealed (sealsIn (now (seals .entry)))) (now (marks .entry)) start pitch (length (now (memory .entry))) base stride rows cols w (memoryRows form rows cols) (memoryCols form rows cols * w)) ⌝ }
     ensures { λ r. ⌜ now (memory .exit) ≡ cond (isDone r) (putTile (rowAt base stride) (memoryRows form rows cols) (memoryCols form rows cols) w (placed form (element (now (registers .entry)) (λ i. start + i * pitch) w)) (now (memory .entry))) (now (memory .entry)) ⌝ }
 {
     let lines = memory_rows(form, rows, cols);
@@ -295,8 +297,7 @@ pub fn store(
     let answer = store_checked(
         marks,
         memory.len(),
-        seal,
-        size,
+        seals,
         start,
         pitch,
         base,

@@ -18,7 +18,7 @@ use Rattle.machine.specs.declared.Form.the-variants.{Plain, Transposed}
 use Rattle.machine.specs.declared.Instruction.{Instruction}
 use Rattle.machine.specs.declared.Instruction.the-variants.{Load, Store}
 use Rattle.machine.specs.Answers.{number}
-use Rattle.machine.specs.Geometry.{Parameters, parameters, State, stateOf, Bench, benchOf, registerAt, startOf, pitchOf, registerCount, scalar}
+use Rattle.machine.specs.Geometry.{sealed, Parameters, parameters, State, stateOf, Bench, benchOf, registerAt, startOf, pitchOf, registerCount, scalar}
 use Rattle.machine.specs.Listing.{inRange}
 use Rattle.machine.specs.Memory.{rowAt}
 use Rattle.machine.specs.Operation.{memoryAfter, element, written, tileRows, tileCols}
@@ -29,6 +29,7 @@ use Rattle.machine.specs.Step.{VectorOutcome, beside, stepWith, given, meant}
 use Rattle.machine.specs.Theorems.{Given}
 use Rattle.machine.proofs.CheckLaws.{Passed}
 use Rattle.machine.proofs.CodeLaws.{decode-bounded}
+use Rattle.machine.proofs.NoFault.{bench-sound}
 use Rattle.machine.proofs.StoreLaws.{length-stored, stored-out, store-byte}
 use Rattle.machine.proofs.Stores.{Accepted, accepted-with}
 use Rattle.transfer.proofs.Room.{transfer-requires}
@@ -88,7 +89,7 @@ module _ (grant : ℕ → ℕ → ℕ → ℕ) (k : Matrix) (w r a b c d : ℕ) 
 
   -- what the load leaves, and after it the store
   abbrev B₁ : Bench
-  B₁ = benchOf (B .machine) regs₁ marks₁ (B .memory)
+  B₁ = benchOf (B .machine) (B .seals) regs₁ marks₁ (B .memory)
 
   abbrev st₁ : State
   st₁ = stateOf (B .machine) regs₁ marks₁
@@ -99,14 +100,14 @@ module _ (grant : ℕ → ℕ → ℕ → ℕ) (k : Matrix) (w r a b c d : ℕ) 
   sizes : Sizes
   sizes = rows-same st (registerAt M k r) rows cols w (element (B .memory) from w) k
 
-  module _ (in-range : r < registerCount k) (s : soundBench B ≡ true) (p : Passed (checks M (meant M loading xs B) (given M loading xs B) (B .memory)))
-      (p₂ : Passed (checks M (meant M storing ys B₁) (given M storing ys B₁) (B₁ .memory))) where
+  module _ (in-range : r < registerCount k) (s : soundBench B ≡ true) (p : Passed (checks M (sealed (B .seals)) (meant M loading xs B) (given M loading xs B) (B .memory)))
+      (p₂ : Passed (checks M (sealed (B .seals)) (meant M storing ys B₁) (given M storing ys B₁) (B₁ .memory))) where
     abbrev Room : Type 0
     Room = (startOf M k r + rows * pitchOf M k ≤ length (B .registers)) × (cols * w ≤ pitchOf M k) × (zero < w)
 
     room : Room
     room =
-        let f = transfer-requires grant (B .machine) (B .registers) (B .marks) s k r w in-range (p .0, (p .1 .0, (p .1 .1 .0, (p .1 .1 .1 .0, tt)))) in
+        let f = transfer-requires grant (B .machine) (B .registers) (B .marks) (bench-sound B s) k r w in-range (p .0, (p .1 .0, (p .1 .1 .0, (p .1 .1 .1 .0, tt)))) in
         (f .0, f .1 .1 .0, width-some w (f .1 .1 .1 .0))
 
     -- element (i, j) of the register is element (i, j) of memory
@@ -120,7 +121,7 @@ module _ (grant : ℕ → ℕ → ℕ → ℕ) (k : Matrix) (w r a b c d : ℕ) 
         → element (memoryAfter M (meant M storing ys B₁) st₁ (B .memory)) to w j i ≡ element (B .memory) from w i j
     turned small i j l m =
         le-bytes (memoryAfter M (meant M storing ys B₁) st₁ (B .memory)) (to j + i * w) w (element regs₁ (registerAt M k r) w i j) (λ b n.
-        store-byte M st₁ (B .memory) Transposed k r w (scalar ys c) (scalar ys d) p₂ j i b (subst (λ (x : ℕ). j < x) (sym (sizes .1)) m) (subst (λ (x : ℕ). i < x) (sym (sizes .0)) l) n)
+        store-byte M (sealed (B .seals)) st₁ (B .memory) Transposed k r w (scalar ys c) (scalar ys d) p₂ j i b (subst (λ (x : ℕ). j < x) (sym (sizes .1)) m) (subst (λ (x : ℕ). i < x) (sym (sizes .0)) l) n)
         ∙ ap (λ (v : ℕ). v % 256 ^ w) (held small i j l m) ∙ mod-eq-of-lt (le-lt (B .memory) small (from i + j * w) w)
 
   -- a byte that is in no row of the store

@@ -9,7 +9,8 @@ use Rattle.machine.specs.declared.Reply.{Reply}
 use Rattle.machine.specs.Answers.{reply, done}
 use Rattle.machine.specs.Geometry.{Bench}
 use Rattle.machine.specs.Setting.{chosen}
-use Rattle.machine.specs.Faults.{soundBench}
+use Rattle.machine.specs.Faults.{sound, sealsFit, soundBench}
+use Rattle.machine.proofs.NoFault.{bench-sound, sound-bench}
 use Rattle.run.specs.declared.Run.{Run}
 use Rattle.run.specs.Words.{Op}
 use Rattle.run.specs.Places.{wordAt}
@@ -59,10 +60,14 @@ turns-unsound R B n h = turns-stop (running R B) 0 n (omega arith) (ap (λ (o : 
 
 -- ---- turns that were answered 0
 
-pub none-taken : (R : Run) (B : Bench) → soundRun chosen R ≡ true → soundBench B ≡ true → Taking (running R B) 0 R B
-none-taken R B ok s = record { taken = refl; run-sound = ok; bench-sound = s }
+pub none-taken : {R : Run} {B : Bench} → soundRun chosen R ≡ true → sound (B .machine) (B .registers) (B .marks) ≡ true → sealsFit (B .seals) ≡ true → Taking (running R B) 0 R B
+none-taken {R} {B} ok s fit = record { taken = refl; run-sound = ok; bench-sound = sound-bench B s fit }
 
 module _ {r : Running} {n : ℕ} {R : Run} {B : Bench} (t : Taking r n R B) where
+  -- the state but for its ranges
+  pub taken-sane : sound (B .machine) (B .registers) (B .marks) ≡ true
+  taken-sane = bench-sound B (t .bench-sound)
+
   -- one more, from what it answers and leaves
   pub turn-taken : (a : Reply) (R′ : Run) (B′ : Bench) → leaving a (running R′ B′) ≡ turnOutcome chosen (running R B) → done a ≡ true → Taking r (n + 1) R′ B′
   turn-taken a R′ B′ h d = record {

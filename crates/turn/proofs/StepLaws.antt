@@ -12,9 +12,9 @@ use Rattle.machine.specs.declared.Dimension.the-variants.{DimensionK}
 use Rattle.machine.specs.declared.Machine.{Machine}
 use Rattle.machine.specs.declared.Stepped.{Stepped}
 use Rattle.machine.specs.Answers.{reply}
-use Rattle.machine.specs.Geometry.{Bench, benchOf}
+use Rattle.machine.specs.Geometry.{Range, Bench, benchOf}
 use Rattle.machine.specs.Setting.{chosen, mill}
-use Rattle.machine.specs.Faults.{sound}
+use Rattle.machine.specs.Faults.{sound, sealsFit}
 use Rattle.settings.specs.Parts.{withSize, granted, sizeStepped}
 use Rattle.run.specs.declared.Place.{Place}
 use Rattle.run.specs.declared.Place.the-variants.{AtK, AtA, AtStore}
@@ -54,12 +54,12 @@ module _ (R : Run) (i j t : ℕ) (ok : soundRun chosen (atPlace R (AtK i j t)) �
   -- ---- the first: k is set
 
   pub set-taken : (m m′ : Machine) (regs marks mem : List ℕ) → sound m regs marks ≡ true → mill (m .mtype) ≡ false → m′ ≡ sizeStepped m DimensionK (R .plan .k - t) .machine
-      → Taking (running (atPlace R (AtK i j t)) (benchOf m regs marks mem)) 1 (atPlace R (AtA i j t)) (benchOf m′ regs marks mem)
-  set-taken m m′ regs marks mem s e em =
+      → (seals : List Range) → sealsFit seals ≡ true → Taking (running (atPlace R (AtK i j t)) (benchOf m seals regs marks mem)) 1 (atPlace R (AtA i j t)) (benchOf m′ seals regs marks mem)
+  set-taken m m′ regs marks mem s e em seals fit =
       let a : ℕ = R .plan .k - t in
-      word-taken (none-taken (atPlace R (AtK i j t)) (benchOf m regs marks mem) ok s) (carried (reply Done) m′ regs marks mem)
-      (ap₂ (λ (x : Answer) (m : Machine). carried (reply x) m regs marks mem) (done-is a) em
-      ∙ size-carried (R .plan) (Op.setK a) m regs marks mem s DimensionK a (decode-k a (omega (arith, here-small))))
+      word-taken (none-taken ok s fit) (carried (reply Done) m′ seals regs marks mem)
+      (ap₂ (λ (x : Answer) (m : Machine). carried (reply x) m seals regs marks mem) (done-is a) em
+      ∙ size-carried (R .plan) (Op.setK a) m seals regs marks mem s fit DimensionK a (decode-k a (omega (arith, here-small))))
       refl (atPlace R (AtA i j t)) refl
     where
       done-is : (a : ℕ) → Done ≡ sizeStepped m DimensionK a .answer
@@ -73,11 +73,11 @@ head-next S i j s h = sym (rw (lt-ltb s (S .k) h))
 pub head-past : (S : Shape) (i j s : ℕ) → S .k ≤ s → AtStore i j ≡ headK S i j s
 head-past S i j s h = sym (rw (le-ltb s (S .k) h))
 
-pub multiply-taken : {r : Running} {n : ℕ} (R : Run) (i j t : ℕ) (B : Bench) → Taking r n (atPlace R (AtK i j t)) B → (c : ℕ) (p : Place) (m : Machine) (regs marks mem : List ℕ)
-    → Taking (running (atPlace R (AtK i j t)) B) c (atPlace R p) (benchOf m regs marks mem) → c ≡ 3 → Loaded (R .plan) i j t p m regs marks mem
-    → (regs′ : List ℕ) → carried (reply Done) m regs′ marks mem ≡ carriedFor (R .plan) multiply (benchOf m regs marks mem)
-    → (q : Place) → q ≡ headK (runShape chosen R) i j (t + sizeK (runShape chosen R) t) → Taking r (n + 4) (atPlace R q) (benchOf m regs′ marks mem)
-multiply-taken {r} {n} R i j t B T c p m regs marks mem U ec l regs′ e q eq =
+pub multiply-taken : {r : Running} {n : ℕ} (R : Run) (i j t : ℕ) (B : Bench) → Taking r n (atPlace R (AtK i j t)) B → (c : ℕ) (p : Place) (m : Machine) (seals : List Range) (regs marks mem : List ℕ)
+    → Taking (running (atPlace R (AtK i j t)) B) c (atPlace R p) (benchOf m seals regs marks mem) → c ≡ 3 → Loaded (R .plan) i j t p m regs marks mem
+    → (regs′ : List ℕ) → carried (reply Done) m seals regs′ marks mem ≡ carriedFor (R .plan) multiply (benchOf m seals regs marks mem)
+    → (q : Place) → q ≡ headK (runShape chosen R) i j (t + sizeK (runShape chosen R) t) → Taking r (n + 4) (atPlace R q) (benchOf m seals regs′ marks mem)
+multiply-taken {r} {n} R i j t B T c p m seals regs marks mem U ec l regs′ e q eq =
     let z : n + 3 + 1 ≡ n + 4 = omega arith in
     taken-as z refl refl
-    (word-taken (taken-as (ap (λ (c : ℕ). n + c) ec) (ap (atPlace R) (l .place-is)) refl (more-taken T U)) (carried (reply Done) m regs′ marks mem) e refl (atPlace R q) (ap (atPlace R) eq))
+    (word-taken (taken-as (ap (λ (c : ℕ). n + c) ec) (ap (atPlace R) (l .place-is)) refl (more-taken T U)) (carried (reply Done) m seals regs′ marks mem) e refl (atPlace R q) (ap (atPlace R) eq))

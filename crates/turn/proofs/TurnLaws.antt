@@ -55,10 +55,10 @@ turn-run r ok = go (handsOut chosen (r .run))
 
 -- a turn that is refused, whose slices the code keeps beside the run and the machine as they were
 pub turn-kept : (r : Running) (t : TurnOutcome) → t ≡ turnOutcome chosen r → done (t .answer) ≡ false
-    → leaving (t .answer) (running (r .run) (benchOf (r .bench .machine) (t .after .bench .registers) (t .after .bench .marks) (t .after .bench .memory))) ≡ turnOutcome chosen r
+    → leaving (t .answer) (running (r .run) (benchOf (r .bench .machine) (r .bench .seals) (t .after .bench .registers) (t .after .bench .marks) (t .after .bench .memory))) ≡ turnOutcome chosen r
 turn-kept r t h d =
     let k : t .after ≡ r = ap (λ (o : TurnOutcome). o .after) h ∙ turn-refused chosen r (sym (ap (λ (o : TurnOutcome). done (o .answer)) h) ∙ d) in
-    ap (λ (x : Running). leaving (t .answer) (running (r .run) (benchOf (r .bench .machine) (x .bench .registers) (x .bench .marks) (x .bench .memory)))) k
+    ap (λ (x : Running). leaving (t .answer) (running (r .run) (benchOf (r .bench .machine) (r .bench .seals) (x .bench .registers) (x .bench .marks) (x .bench .memory)))) k
     ∙ ap (leaving (t .answer)) (sym k) ∙ h
 
 -- in a state at fault every turn is refused, whether or not a step is handed out
@@ -126,11 +126,11 @@ turns-join r n (suc c) =
 
 -- and one that is refused, whose slices the code keeps beside the run and the machine as they were
 pub turns-refused : (r s : Running) (n limit : ℕ) → n ≤ limit → taking n s ≡ turns chosen r n → (t : TurnOutcome) → t ≡ turnOutcome chosen s → done (t .answer) ≡ false
-    → taking n (running (s .run) (benchOf (s .bench .machine) (t .after .bench .registers) (t .after .bench .marks) (t .after .bench .memory))) ≡ turns chosen r limit
+    → taking n (running (s .run) (benchOf (s .bench .machine) (s .bench .seals) (t .after .bench .registers) (t .after .bench .marks) (t .after .bench .memory))) ≡ turns chosen r limit
 turns-refused r s n limit l e t h d =
     let f : done (turn chosen s .answer) ≡ false = sym (ap (λ (o : TurnOutcome). done (o .answer)) h) ∙ d in
     let k : t .after ≡ s = ap (λ (o : TurnOutcome). o .after) h ∙ turn-refused chosen s f in
-    ap (λ (x : Running). taking n (running (s .run) (benchOf (s .bench .machine) (x .bench .registers) (x .bench .marks) (x .bench .memory)))) k
+    ap (λ (x : Running). taking n (running (s .run) (benchOf (s .bench .machine) (s .bench .seals) (x .bench .registers) (x .bench .marks) (x .bench .memory)))) k
     ∙ e ∙ turns-stop r n limit l (ap (λ (o : TurnsOutcome). done (turn chosen (o .after) .answer)) (sym e) ∙ f)
 
 -- in a state at fault all are

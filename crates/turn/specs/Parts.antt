@@ -5,9 +5,9 @@ use mathlib.Core.List.{List}
 use Prim.Native.Nat.{ℕ}
 use Rattle.machine.specs.declared.Machine.{Machine}
 use Rattle.machine.specs.Answers.{done}
-use Rattle.machine.specs.Geometry.{Bench, benchOf}
+use Rattle.machine.specs.Geometry.{Range, Bench, benchOf}
 use Rattle.machine.specs.Setting.{chosen}
-use Rattle.machine.specs.Faults.{soundBench}
+use Rattle.machine.specs.Faults.{soundBench, sealsFit}
 use Rattle.run.specs.declared.Plan.{Plan}
 use Rattle.run.specs.declared.Place.{Place}
 use Rattle.run.specs.declared.Place.the-variants.{AtMultiply}
@@ -27,4 +27,4 @@ pub record Loaded (P : Plan) (row column term : ℕ) (p : Place) (m : Machine) (
   pub place-is : p ≡ AtMultiply row column term
   pub steady : Steady P m marks
   pub multiplies : Multiplies P m regs
-  pub answered : done (carriedFor P multiply (benchOf m regs marks mem) .answer) ≡ true
+  pub answered : (seals : List Range) → sealsFit seals ≡ true → done (carriedFor P multiply (benchOf m seals regs marks mem) .answer) ≡ true

@@ -8,10 +8,12 @@ use run::Taken;
 use run::Turned;
 ghost use mathlib.Core.Path.{_≡_};
 ghost use mathlib.Core.Bool.{true};
+ghost use mathlib.Core.List.{List};
 ghost use Prim.Native.Nat.{_≤_};
-ghost use Rattle.machine.specs.Geometry.{benchOf};
-ghost use Rattle.machine.specs.Faults.{sound};
+ghost use Rattle.machine.specs.Geometry.{Range, benchOf};
+ghost use Rattle.machine.specs.Faults.{sound, sealsFit};
 ghost use Rattle.machine.specs.Setting.{chosen};
+ghost use Rattle.ranges.specs.Ranges.{sealsIn};
 ghost use Rattle.run.specs.declared.Place.the-variants.{AtK};
 ghost use Rattle.run.specs.Turn.{soundRun, running, turnOutcome, turnedAs, turns, takenAs};
 ghost use Rattle.run_places.specs.Parts.{atPlace};
@@ -51,16 +53,18 @@ fn at_place(run: Run, place: Place) -> Run
 fn take_turn(
     run: Run,
     m: Machine,
+    seals: &[u8],
     registers: &mut [u8],
     marks: &mut [u8],
     memory: &mut [u8],
 ) -> Moved
     requires { ⌜ sound m (now registers) (now marks) ≡ true ⌝ }
     requires { ⌜ soundRun chosen run ≡ true ⌝ }
-    ensures { λ r. ⌜ turnedAs (record { answer = r .answer; run = atPlace run (r .place); machine = r .machine }) (now (registers .exit)) (now (marks .exit)) (now (memory .exit))
-        ≡ turnOutcome chosen (running run (benchOf m (now (registers .entry)) (now (marks .entry)) (now (memory .entry)))) ⌝ }
+    requires { ⌜ sealsFit (sealsIn (now seals)) ≡ true ⌝ }
+    ensures { λ r. ⌜ turnedAs (record { answer = r .answer; run = atPlace run (r .place); machine = r .machine }) (sealsIn (now (seals .entry))) (now (registers .exit)) (now (marks .exit)) (now (memory .exit))
+        ≡ turnOutcome chosen (running run (benchOf m (sealsIn (now (seals .entry))) (now (registers .entry)) (now (marks .entry)) (now (memory .entry)))) ⌝ }
 {
-    let answer = carrying::carry_out(run, m, registers, marks, memory);
+    let answer = carrying::carry_out(run, m, seals, registers, marks, memory);
     if !machine::is_done(answer) {
         let place = run.place;
         return Moved {
@@ -92,8 +96,8 @@ fn take_loads(
     requires { ⌜ sound m (now registers) (now marks) ≡ true ⌝ }
     requires { ⌜ soundRun chosen (atPlace run (AtK row column term)) ≡ true ⌝ }
     requires { ⌜ Steady (run .plan) m (now marks) ⌝ }
-    ensures { λ r. ⌜ Taking (running (atPlace run (AtK row column term)) (benchOf m (now (registers .entry)) (now (marks .entry)) (now (memory .entry)))) (r .count)
-        (atPlace run (r .place)) (benchOf (r .machine) (now (registers .exit)) (now (marks .exit)) (now (memory .entry))) ⌝ }
+    ensures { λ r. ⌜ ((seals : List Range) → sealsFit seals ≡ true → Taking (running (atPlace run (AtK row column term)) (benchOf m seals (now (registers .entry)) (now (marks .entry)) (now (memory .entry)))) (r .count)
+        (atPlace run (r .place)) (benchOf (r .machine) seals (now (registers .exit)) (now (marks .exit)) (now (memory .entry)))) ⌝ }
     ensures { λ r. ⌜ r .count ≤ 3 ⌝ }
     ensures { λ r. ⌜ (3 ≤ r .count → Loaded (run .plan) row column term (r .place) (r .machine) (now (registers .exit)) (now (marks .exit)) (now (memory .entry))) ⌝ }
 {
@@ -149,8 +153,8 @@ fn take_sums(
     requires { ⌜ sound m (now registers) (now marks) ≡ true ⌝ }
     requires { ⌜ soundRun chosen (atPlace run (AtK row column from)) ≡ true ⌝ }
     requires { ⌜ Steady (run .plan) m (now marks) ⌝ }
-    ensures { λ r. ⌜ Taking (running (atPlace run (AtK row column from)) (benchOf m (now (registers .entry)) (now (marks .entry)) (now (memory .entry)))) (r .count)
-        (atPlace run (r .place)) (benchOf (r .machine) (now (registers .exit)) (now (marks .exit)) (now (memory .entry))) ⌝ }
+    ensures { λ r. ⌜ ((seals : List Range) → sealsFit seals ≡ true → Taking (running (atPlace run (AtK row column from)) (benchOf m seals (now (registers .entry)) (now (marks .entry)) (now (memory .entry)))) (r .count)
+        (atPlace run (r .place)) (benchOf (r .machine) seals (now (registers .exit)) (now (marks .exit)) (now (memory .entry)))) ⌝ }
     ensures { λ r. ⌜ r .count ≤ limit ⌝ }
 {
     let plan = run.plan;
@@ -206,8 +210,8 @@ fn sums_from(
 ) -> Progress
     requires { ⌜ sound m (now registers) (now marks) ≡ true ⌝ }
     requires { ⌜ soundRun chosen (atPlace run place) ≡ true ⌝ }
-    ensures { λ r. ⌜ Taking (running (atPlace run place) (benchOf m (now (registers .entry)) (now (marks .entry)) (now (memory .entry)))) (r .count)
-        (atPlace run (r .place)) (benchOf (r .machine) (now (registers .exit)) (now (marks .exit)) (now (memory .entry))) ⌝ }
+    ensures { λ r. ⌜ ((seals : List Range) → sealsFit seals ≡ true → Taking (running (atPlace run place) (benchOf m seals (now (registers .entry)) (now (marks .entry)) (now (memory .entry)))) (r .count)
+        (atPlace run (r .place)) (benchOf (r .machine) seals (now (registers .exit)) (now (marks .exit)) (now (memory .entry)))) ⌝ }
     ensures { λ r. ⌜ r .count ≤ limit ⌝ }
 {
     let none = Progress {
@@ -233,21 +237,23 @@ fn take_turns(
     limit: u64,
     run: Run,
     m: Machine,
+    seals: &[u8],
     registers: &mut [u8],
     marks: &mut [u8],
     memory: &mut [u8],
 ) -> Progress
     requires { ⌜ sound m (now registers) (now marks) ≡ true ⌝ }
     requires { ⌜ soundRun chosen run ≡ true ⌝ }
-    ensures { λ r. ⌜ takenAs (record { count = r .count; run = atPlace run (r .place); machine = r .machine }) (now (registers .exit)) (now (marks .exit)) (now (memory .exit))
-        ≡ turns chosen (running run (benchOf m (now (registers .entry)) (now (marks .entry)) (now (memory .entry)))) limit ⌝ }
+    requires { ⌜ sealsFit (sealsIn (now seals)) ≡ true ⌝ }
+    ensures { λ r. ⌜ takenAs (record { count = r .count; run = atPlace run (r .place); machine = r .machine }) (sealsIn (now (seals .entry))) (now (registers .exit)) (now (marks .exit)) (now (memory .exit))
+        ≡ turns chosen (running run (benchOf m (sealsIn (now (seals .entry))) (now (registers .entry)) (now (marks .entry)) (now (memory .entry)))) limit ⌝ }
 {
     let mut place = run.place;
     let mut machine = m;
     let mut count = 0;
     while count < limit {
         let current = at_place(run, place);
-        let moved = take_turn(current, machine, registers, marks, memory);
+        let moved = take_turn(current, machine, seals, registers, marks, memory);
         let answer = moved.answer;
         if !machine::is_done(answer) {
             return Progress {
@@ -275,14 +281,15 @@ fn take_turns(
 pub fn turn(
     run: Run,
     m: Machine,
+    seals: &[u8],
     registers: &mut [u8],
     marks: &mut [u8],
     memory: &mut [u8],
 ) -> Turned
-    ensures { λ r. ⌜ turnedAs r (now (registers .exit)) (now (marks .exit)) (now (memory .exit))
-        ≡ turnOutcome chosen (running run (benchOf m (now (registers .entry)) (now (marks .entry)) (now (memory .entry)))) ⌝ }
+    ensures { λ r. ⌜ turnedAs r (sealsIn (now (seals .entry))) (now (registers .exit)) (now (marks .exit)) (now (memory .exit))
+        ≡ turnOutcome chosen (running run (benchOf m (sealsIn (now (seals .entry))) (now (registers .entry)) (now (marks .entry)) (now (memory .entry)))) ⌝ }
 {
-    if !settings::faults::is_sound(m, registers, marks) {
+    if !settings::faults::is_sound(m, seals, registers, marks) {
         return Turned {
             answer: Answer::BadArguments,
             run: run,
@@ -296,7 +303,7 @@ pub fn turn(
             machine: m,
         };
     }
-    let moved = take_turn(run, m, registers, marks, memory);
+    let moved = take_turn(run, m, seals, registers, marks, memory);
     let answer = moved.answer;
     let place = moved.place;
     let after = at_place(run, place);
@@ -313,14 +320,15 @@ pub fn turns(
     limit: u64,
     run: Run,
     m: Machine,
+    seals: &[u8],
     registers: &mut [u8],
     marks: &mut [u8],
     memory: &mut [u8],
 ) -> Taken
-    ensures { λ r. ⌜ takenAs r (now (registers .exit)) (now (marks .exit)) (now (memory .exit))
-        ≡ turns chosen (running run (benchOf m (now (registers .entry)) (now (marks .entry)) (now (memory .entry)))) limit ⌝ }
+    ensures { λ r. ⌜ takenAs r (sealsIn (now (seals .entry))) (now (registers .exit)) (now (marks .exit)) (now (memory .exit))
+        ≡ turns chosen (running run (benchOf m (sealsIn (now (seals .entry))) (now (registers .entry)) (now (marks .entry)) (now (memory .entry)))) limit ⌝ }
 {
-    if !settings::faults::is_sound(m, registers, marks) {
+    if !settings::faults::is_sound(m, seals, registers, marks) {
         return Taken {
             count: 0,
             run: run,
@@ -334,7 +342,7 @@ pub fn turns(
             machine: m,
         };
     }
-    let progress = take_turns(limit, run, m, registers, marks, memory);
+    let progress = take_turns(limit, run, m, seals, registers, marks, memory);
     let place = progress.place;
     let after = at_place(run, place);
     let machine = progress.machine;

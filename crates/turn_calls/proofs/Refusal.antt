@@ -18,6 +18,7 @@ use Rattle.run.specs.Whole.{whole}
 use Rattle.run.proofs.RefusalLaws.{turn-refused}
 use Rattle.turn.proofs.TurnLaws.{turn-zero}
 use Rattle.whole.proofs.WholeLaws.{whole-refused}
+use Rattle.ranges.specs.Ranges.{sealsIn}
 use Rattle.blocks.specs.Blocks.{machineBytes, machineOf, putMachine, putNumbers, packed}
 use Rattle.run_blocks.specs.RunBlocks.{runFit}
 use Rattle.turn_calls.specs.TurnCalls.{HostTurned, turnedOut, shownRunning, heldRunning, turnBlocks, shownTurn, hostTurn, shownTurns, hostTurns, HostRan, ranOut, shownRun, hostRun}
@@ -86,7 +87,7 @@ unfolding hostRun
 run-refusal P machine registers marks memory steps = go (every (eqb (length machine) machineBytes ∷ eqb (length steps) 8 ∷ []))
   where
     B : Bench
-    B = benchOf (machineOf machine) registers marks memory
+    B = benchOf (machineOf machine) (sealsIn machine) registers marks memory
 
     out : Bool → HostRan
     out t = cond t (shownRun machine steps (whole chosen P B)) (ranOut (packed (reply BadArguments)) machine registers marks memory steps)

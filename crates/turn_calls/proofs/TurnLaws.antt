@@ -23,6 +23,7 @@ use Rattle.run.specs.Encoding.{own, handedFor}
 use Rattle.run.specs.Turn.{handsOut, moved, Running, running, turn, TurnOutcome, turnOutcome, turnedAs, turns, takenAs}
 use Rattle.run.proofs.HandedLaws.{turnWith}
 use Rattle.run.specs.Whole.{whole, finishedAs}
+use Rattle.ranges.specs.Ranges.{sealsIn}
 use Rattle.blocks.specs.Blocks.{machineBytes, machineOf, putMachine, Kept, putNumbers, packed}
 use Rattle.blocks.proofs.BlockLaws.{step-kept}
 use Rattle.run_blocks.specs.RunBlocks.{runFit, runOf, putRun, RunKept}
@@ -53,7 +54,7 @@ turn-kept r = go (handsOut chosen (r .run))
     goes false = stays (r .run)
 
     go : (o : Option Op) → Kept (turnWith chosen r o .after .bench .machine) (r .bench .machine) × RunKept (turnWith chosen r o .after .run) (r .run)
-    go none = (record { rlen = refl; mlen = refl; seal-start = refl; seal-length = refl; rule = refl; elen = refl }, stays (r .run))
+    go none = (record { rlen = refl; mlen = refl; rule = refl; elen = refl }, stays (r .run))
     go (some o) =
         let h : Handed = handedFor (r .run .plan) o in
         (step-kept chosen (h .word) (own h) (r .bench), goes (done (stepBy chosen (h .word) (own h) (r .bench) .answer)))
@@ -61,8 +62,8 @@ turn-kept r = go (handsOut chosen (r .run))
 module _ (run machine registers marks memory : List ℕ) where
   -- the run and the machine that were read of the blocks
   held : (R : Run) (m : Machine) → R ≡ runOf run → m ≡ machineOf machine
-      → running R (benchOf m registers marks memory) ≡ heldRunning run machine registers marks memory
-  held R m eR em = ap₂ (λ (R : Run) (m : Machine). running R (benchOf m registers marks memory)) eR em
+      → running R (benchOf m (sealsIn machine) registers marks memory) ≡ heldRunning run machine registers marks memory
+  held R m eR em = ap₂ (λ (R : Run) (m : Machine). running R (benchOf m (sealsIn machine) registers marks memory)) eR em
 
   pub turn-refused : (r : ℕ) → turnBlocks run machine ≡ false → r ≡ packed (reply BadArguments)
       → turnedOut r run machine registers marks memory ≡ hostTurn run machine registers marks memory
@@ -76,7 +77,7 @@ module _ (run machine registers marks memory : List ℕ) where
 
   -- the numbers that the turn has left are written over the blocks
   pub turn-shown : (R : Run) (m : Machine) (s : Turned) (N M G K Q : List ℕ) (r : ℕ) → turnBlocks run machine ≡ true
-      → R ≡ runOf run → m ≡ machineOf machine → turnedAs s G K Q ≡ turnOutcome chosen (running R (benchOf m registers marks memory))
+      → R ≡ runOf run → m ≡ machineOf machine → turnedAs s (sealsIn machine) G K Q ≡ turnOutcome chosen (running R (benchOf m (sealsIn machine) registers marks memory))
       → N ≡ putRun (s .run) run → M ≡ putMachine (s .machine) machine → r ≡ packed (reply (s .answer))
       → turnedOut r N M G K Q ≡ hostTurn run machine registers marks memory
   turn-shown R m s N M G K Q r h eR em e en ex er =
@@ -84,7 +85,7 @@ module _ (run machine registers marks memory : List ℕ) where
 
   -- and but for the place, mtype and the sizes they are those of the blocks
   pub turn-keeps : (R : Run) (m : Machine) (s : Turned) (G K Q : List ℕ) → R ≡ runOf run → m ≡ machineOf machine
-      → turnedAs s G K Q ≡ turnOutcome chosen (running R (benchOf m registers marks memory)) → Kept (s .machine) (machineOf machine) × RunKept (s .run) (runOf run)
+      → turnedAs s (sealsIn machine) G K Q ≡ turnOutcome chosen (running R (benchOf m (sealsIn machine) registers marks memory)) → Kept (s .machine) (machineOf machine) × RunKept (s .run) (runOf run)
   turn-keeps R m s G K Q eR em e =
       subst (λ (r : Running). Kept (r .bench .machine) (machineOf machine) × RunKept (r .run) (runOf run)) (sym (ap (λ (o : TurnOutcome). o .after) (e ∙ ap (turnOutcome chosen) (held R m eR em))))
       (turn-kept (heldRunning run machine registers marks memory))
@@ -101,7 +102,7 @@ module _ (run machine registers marks memory : List ℕ) where
     turns-is h = rw h
 
     pub turns-shown : (R : Run) (m : Machine) (s : Taken) (N M G K Q : List ℕ) → turnBlocks run machine ≡ true
-        → R ≡ runOf run → m ≡ machineOf machine → takenAs s G K Q ≡ turns chosen (running R (benchOf m registers marks memory)) limit
+        → R ≡ runOf run → m ≡ machineOf machine → takenAs s (sealsIn machine) G K Q ≡ turns chosen (running R (benchOf m (sealsIn machine) registers marks memory)) limit
         → N ≡ putRun (s .run) run → M ≡ putMachine (s .machine) machine
         → turnedOut (s .count) N M G K Q ≡ hostTurns limit run machine registers marks memory
     turns-shown R m s N M G K Q h eR em e en ex =
@@ -122,15 +123,15 @@ module _ (P : Plan) (machine registers marks memory steps : List ℕ) where
   run-short-steps r h k er = rw (er, eq-eqb (length machine) machineBytes h, ne-eqb (length steps) 8 k)
 
   run-is : length machine ≡ machineBytes → length steps ≡ 8
-      → shownRun machine steps (whole chosen P (benchOf (machineOf machine) registers marks memory)) ≡ hostRun P machine registers marks memory steps
+      → shownRun machine steps (whole chosen P (benchOf (machineOf machine) (sealsIn machine) registers marks memory)) ≡ hostRun P machine registers marks memory steps
   unfolding hostRun
   run-is h k = rw (eq-eqb (length machine) machineBytes h, eq-eqb (length steps) 8 k)
 
   -- what the run has answered and left, and the blocks written exactly where it is done
   pub run-shown : (t : Bool) (m : Machine) (s : Finished) (M G K Q S : List ℕ) (r : ℕ) → length machine ≡ machineBytes → length steps ≡ 8
-      → m ≡ machineOf machine → finishedAs s G K Q ≡ whole chosen P (benchOf m registers marks memory)
+      → m ≡ machineOf machine → finishedAs s (sealsIn machine) G K Q ≡ whole chosen P (benchOf m (sealsIn machine) registers marks memory)
       → isDone (s .answer) ≡ t → M ≡ cond t (putMachine (s .machine) machine) machine → S ≡ cond t (putNumbers (s .count ∷ []) steps) steps
       → r ≡ packed (reply (s .answer)) → ranOut r M G K Q S ≡ hostRun P machine registers marks memory steps
   run-shown t m s M G K Q S r h k em e et ex es er =
       rw (er, ex, es, sym et)
-      (ap (shownRun machine steps) (e ∙ ap (λ (m : Machine). whole chosen P (benchOf m registers marks memory)) em) ∙ run-is h k)
+      (ap (shownRun machine steps) (e ∙ ap (λ (m : Machine). whole chosen P (benchOf m (sealsIn machine) registers marks memory)) em) ∙ run-is h k)

@@ -12,6 +12,7 @@ use Rattle.machine.specs.Setting.{chosen}
 use Rattle.run.specs.declared.Plan.{Plan}
 use Rattle.run.specs.Turn.{Running, running, TurnOutcome, turnOutcome, TurnsOutcome, turns}
 use Rattle.run.specs.Whole.{WholeOutcome, whole}
+use Rattle.ranges.specs.Ranges.{sealsIn}
 use Rattle.blocks.specs.Blocks.{machineBytes, machineOf, putMachine, putNumbers, packed}
 use Rattle.run_blocks.specs.RunBlocks.{runOf, putRun, runFit}
 
@@ -43,7 +44,7 @@ shownRunning result run machine r =
 
 -- the run and the machine in these blocks
 abbrev pub heldRunning : (run machine registers marks memory : List ℕ) → Running
-heldRunning run machine registers marks memory = running (runOf run) (benchOf (machineOf machine) registers marks memory)
+heldRunning run machine registers marks memory = running (runOf run) (benchOf (machineOf machine) (sealsIn machine) registers marks memory)
 
 -- a run's block that fits and a machine's block
 abbrev pub turnBlocks : (run machine : List ℕ) → Bool
@@ -103,5 +104,5 @@ shownRun machine steps o =
 unfoldable pub hostRun : Plan → (machine registers marks memory steps : List ℕ) → HostRan
 hostRun P machine registers marks memory steps =
     cond (every (eqb (length machine) machineBytes ∷ eqb (length steps) countBytes ∷ []))
-    (shownRun machine steps (whole chosen P (benchOf (machineOf machine) registers marks memory)))
+    (shownRun machine steps (whole chosen P (benchOf (machineOf machine) (sealsIn machine) registers marks memory)))
     (ranOut (packed (reply BadArguments)) machine registers marks memory steps)

@@ -33,7 +33,7 @@ pub fn turn(
     }
     let held = run_of(run);
     let m = machine_of(machine);
-    let turned = turn::turn(held, m, registers, marks, memory);
+    let turned = turn::turn(held, m, machine, registers, marks, memory);
     let after = turned.run;
     put_place(run, after);
     let next = turned.machine;
@@ -62,7 +62,7 @@ pub fn turns(
     }
     let held = run_of(run);
     let m = machine_of(machine);
-    let taken = turn::turns(turns, held, m, registers, marks, memory);
+    let taken = turn::turns(turns, held, m, machine, registers, marks, memory);
     let after = taken.run;
     put_run(run, after);
     let next = taken.machine;
@@ -89,7 +89,7 @@ pub fn whole(
         return packed(Answer::BadArguments);
     }
     let held = machine_of(machine);
-    let finished = whole::whole(plan, held, registers, marks, memory);
+    let finished = whole::whole(plan, held, machine, registers, marks, memory);
     let answer = finished.answer;
     if !machine::is_done(answer) {
         return packed(answer);

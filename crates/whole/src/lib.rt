@@ -5,22 +5,24 @@ use run::Plan;
 ghost use mathlib.Core.Path.{_≡_};
 ghost use Rattle.machine.specs.Geometry.{benchOf};
 ghost use Rattle.machine.specs.Setting.{chosen};
+ghost use Rattle.ranges.specs.Ranges.{sealsIn};
 ghost use Rattle.run.specs.Whole.{whole, finishedAs, Delivers};
 
 // Starts a run and takes turns until one is refused: C becomes the product, and no other byte of memory changes.
 pub fn whole(
     plan: Plan,
     m: Machine,
+    seals: &[u8],
     registers: &mut [u8],
     marks: &mut [u8],
     memory: &mut [u8],
 ) -> Finished
-    ensures { λ r. ⌜ finishedAs r (now (registers .exit)) (now (marks .exit)) (now (memory .exit))
-        ≡ whole chosen plan (benchOf m (now (registers .entry)) (now (marks .entry)) (now (memory .entry))) ⌝ }
-    ensures { λ r. ⌜ Delivers plan (benchOf m (now (registers .entry)) (now (marks .entry)) (now (memory .entry)))
-        (finishedAs r (now (registers .exit)) (now (marks .exit)) (now (memory .exit))) ⌝ }
+    ensures { λ r. ⌜ finishedAs r (sealsIn (now (seals .entry))) (now (registers .exit)) (now (marks .exit)) (now (memory .exit))
+        ≡ whole chosen plan (benchOf m (sealsIn (now (seals .entry))) (now (registers .entry)) (now (marks .entry)) (now (memory .entry))) ⌝ }
+    ensures { λ r. ⌜ Delivers plan (benchOf m (sealsIn (now (seals .entry))) (now (registers .entry)) (now (marks .entry)) (now (memory .entry)))
+        (finishedAs r (sealsIn (now (seals .entry))) (now (registers .exit)) (now (marks .exit)) (now (memory .exit))) ⌝ }
 {
-    let started = starting::start(plan, m, registers, marks, memory);
+    let started = starting::start(plan, m, seals, registers, marks, memory);
     let answer = started.answer;
     if !machine::is_done(answer) {
         return Finished {
@@ -30,7 +32,15 @@ pub fn whole(
         };
     }
     let run = started.run;
-    let taken = turn::turns(18446744073709551615, run, m, registers, marks, memory);
+    let taken = turn::turns(
+        18446744073709551615,
+        run,
+        m,
+        seals,
+        registers,
+        marks,
+        memory,
+    );
     let after = taken.machine;
     Finished {
         answer: answer,

@@ -28,11 +28,11 @@ step-block-requires c κs = search needs
 put-state-requires : tie.Need-put-state-requires
 put-state-requires c κs =
     let z = c .before .before .before .before .before .before .before .before .before .before .before .before in
-    let f = z .before .before .before .before .before .before in
-    let a = z .before .before .before .before .before .before .before .before .before .before .before .before .before .before .before .before .args in (
+    let f = z .before .before .before .before .before .before .before in
+    let a = z .before .before .before .before .before .before .before .before .before .before .before .before .before .before .before .before .before .args in (
       search needs,
       step-keeps (a .word) (a .machine .now) (a .registers .now) (a .marks .now) (a .scalars .now) (a .memory .now) _ (f .machine-of .result) (z .step-block .result)
-          (z .step-block .last .1 .0) (z .step-block .last .1 .1 .0) (z .step-block .last .1 .1 .1 .0) (z .step-block .last .1 .1 .1 .1 .0) (z .step-block .last .1 .1 .1 .1 .1 .0) (f .machine-of .ensures) (z .step-block .ensures),
+          (z .step-block .last .1 .1 .0) (z .step-block .last .1 .1 .1 .0) (z .step-block .last .1 .1 .1 .1 .0) (z .step-block .last .1 .1 .1 .1 .1 .0) (z .step-block .last .1 .1 .1 .1 .1 .1 .0) (f .machine-of .ensures) (z .step-block .ensures),
     )
 
 packed-requires-3 : tie.Need-packed-requires-3
@@ -60,11 +60,11 @@ returns-3 : tie.Need-returns-3
 returns-3 c =
     let k = c .before .before .before in
     let z = c .before .before .before .before .before .before .before .before .before .before .before .before .before .before .before .before in
-    let f = z .before .before .before .before .before .before in
+    let f = z .before .before .before .before .before .before .before in
     let e = f .before .before in
-    let a = c .before .before .before .before .before .before .before .before .before .before .before .before .before .before .before .before .before .before .before .before .before .before .before .before .before .before .before .before .before .before .before .before .args in
+    let a = c .before .before .before .before .before .before .before .before .before .before .before .before .before .before .before .before .before .before .before .before .before .before .before .before .before .before .before .before .before .before .before .before .before .args in
     step-shown (a .word) (a .group) (a .machine .now) (a .registers .now) (a .marks .now) (a .scalars .now) (a .memory .now) (a .vectors .now) (f .machine-of .result) (z .step-block .result)
-    (k .put-state .last .0) (z .step-block .last .1 .0) (z .step-block .last .1 .1 .0) (z .step-block .last .1 .1 .1 .0) (z .step-block .last .1 .1 .1 .1 .0) (z .step-block .last .1 .1 .1 .1 .1 .0) (c .packed3 .result) (e .before .if1 .left) (e .if2 .left)
+    (k .put-state .last .0) (z .step-block .last .1 .1 .0) (z .step-block .last .1 .1 .1 .0) (z .step-block .last .1 .1 .1 .1 .0) (z .step-block .last .1 .1 .1 .1 .1 .0) (z .step-block .last .1 .1 .1 .1 .1 .1 .0) (c .packed3 .result) (e .before .if1 .left) (e .if2 .left)
     (f .machine-of .ensures) (z .step-block .ensures) (k .put-state .ensures) (c .packed3 .ensures)
 
 pub step-spec : {M : Type 1} → statement M

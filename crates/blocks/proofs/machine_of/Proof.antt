@@ -1,8 +1,5 @@
-use Prim.Native.Nat.{_≤_}
-use native.Mathlib.Omega.{arith}
-use lib.ListN.{length}
 use borrow.Author.Needs.{needs}
-use Rattle.blocks.specs.Blocks.{machineBytes, machineOf}
+use Rattle.blocks.specs.Blocks.{machineOf}
 use Rattle.blocks.proofs.machine_of.Statement.{statement}
 use Rattle.blocks.proofs.machine_of.Tie as tie
 
@@ -30,16 +27,6 @@ read8-requires-7 c κs = search needs
 read8-requires-8 : tie.Need-read8-requires-8
 read8-requires-8 c κs = search needs
 
--- the last number ends with the block
-ends : (s : tie.Start) → machineBytes ≤ length (s .args .block .now)
-ends s = omega arith
-
-read8-requires-9 : tie.Need-read8-requires-9
-read8-requires-9 c κs = let e = ends (c .before .before .before .before .before .before .before .before .before) in omega arith
-
-read8-requires-10 : tie.Need-read8-requires-10
-read8-requires-10 c κs = ends (c .before .before .before .before .before .before .before .before .before .before)
-
 returns : tie.Need-returns
 unfolding machineOf
 returns c = cc
@@ -56,6 +43,4 @@ machine-of-spec =
     read8-requires-6
     read8-requires-7
     read8-requires-8
-    read8-requires-9
-    read8-requires-10
     returns)

@@ -5,6 +5,7 @@ use native.Mathlib.Omega.{arith}
 use Rattle.machine.specs.declared.Dimension.the-variants.{DimensionM, DimensionK, DimensionN}
 use Rattle.machine.specs.Answers.{reply}
 use Rattle.machine.specs.Geometry.{benchOf}
+use Rattle.ranges.specs.Ranges.{sealsIn}
 use Rattle.run.specs.declared.Place.{Place}
 use Rattle.run.specs.Words.{Op}
 use Rattle.run.specs.Plan.{typeOf}
@@ -37,8 +38,8 @@ enum-told-4 c = search needs
 
 clear-requires : tie.Need-clear-requires
 clear-requires c κs =
-    let s = c .before .before .before .before .before .before .before .before in
-    (s .pre .0, run-planned (s .args .run) (run-numbered (s .args .run) (s .pre .1)))
+    let s = c .before .before .before .before .before .before .before .before .before in
+    (s .pre .0, run-planned (s .args .run) (run-numbered (s .args .run) (s .pre .1 .0)))
 
 enum-told-5 : tie.Need-enum-told-5
 enum-told-5 c = search needs
@@ -52,11 +53,11 @@ enum-known-place c = search needs
 load-a-requires : tie.Need-load-a-requires
 load-a-requires c κs =
     let p = c .before .before .before .before in
-    let s = p .before .before .before .before .before .before in
+    let s = p .before .before .before .before .before .before .before in
     let R = s .args .run in
     let g = p .place .given in
-    let N = run-numbered R (s .pre .1) in
-    let h = subst (λ (q : Place). placed (R .plan) q ≡ true) (g .1) (run-placed R (s .pre .1)) in
+    let N = run-numbered R (s .pre .1 .0) in
+    let h = subst (λ (q : Place). placed (R .plan) q ≡ true) (g .1) (run-placed R (s .pre .1 .0)) in
     let z = run-sizes R N in
     let b = at-multiply (R .plan) (g .0 .0) (g .0 .1 .0) (g .0 .1 .1 .0) h in
     (s .pre .0, (run-planned R N, (omega (arith, b .0, z .0), omega (arith, b .1 .1, z .1))))
@@ -67,11 +68,11 @@ enum-known-place-2 c = search needs
 load-b-requires : tie.Need-load-b-requires
 load-b-requires c κs =
     let p = c .before .before .before .before in
-    let s = p .before .before .before .before .before .before in
+    let s = p .before .before .before .before .before .before .before in
     let R = s .args .run in
     let g = p .place2 .given in
-    let N = run-numbered R (s .pre .1) in
-    let h = subst (λ (q : Place). placed (R .plan) q ≡ true) (g .1) (run-placed R (s .pre .1)) in
+    let N = run-numbered R (s .pre .1 .0) in
+    let h = subst (λ (q : Place). placed (R .plan) q ≡ true) (g .1) (run-placed R (s .pre .1 .0)) in
     let z = run-sizes R N in
     let b = at-multiply (R .plan) (g .0 .0) (g .0 .1 .0) (g .0 .1 .1 .0) h in
     (s .pre .0, (run-planned R N, (omega (arith, b .1 .1, z .1), omega (arith, b .1 .0, z .2))))
@@ -81,8 +82,8 @@ enum-told-6 c = search needs
 
 multiply-requires : tie.Need-multiply-requires
 multiply-requires c κs =
-    let s = c .before .before .before .before .before .before .before .before in
-    (s .pre .0, run-planned (s .args .run) (run-numbered (s .args .run) (s .pre .1)))
+    let s = c .before .before .before .before .before .before .before .before .before in
+    (s .pre .0, run-planned (s .args .run) (run-numbered (s .args .run) (s .pre .1 .0)))
 
 enum-known-place-3 : tie.Need-enum-known-place-3
 enum-known-place-3 c = search needs
@@ -90,50 +91,50 @@ enum-known-place-3 c = search needs
 store-requires : tie.Need-store-requires
 store-requires c κs =
     let p = c .before .before .before .before in
-    let s = p .before .before .before .before .before .before in
+    let s = p .before .before .before .before .before .before .before in
     let R = s .args .run in
     let g = p .place3 .given in
-    let N = run-numbered R (s .pre .1) in
-    let h = subst (λ (q : Place). placed (R .plan) q ≡ true) (g .1) (run-placed R (s .pre .1)) in
+    let N = run-numbered R (s .pre .1 .0) in
+    let h = subst (λ (q : Place). placed (R .plan) q ≡ true) (g .1) (run-placed R (s .pre .1 .0)) in
     let z = run-sizes R N in
     let b = at-store (R .plan) (g .0 .0) (g .0 .1 .0) h in
-    (s .pre .0, (run-planned R N, (omega (arith, b .0, z .0), omega (arith, b .1, z .2))))
+    (s .pre .0, (run-planned R N, ((omega (arith, b .0, z .0), omega (arith, b .1, z .2)), s .pre .1 .1)))
 
 enum-told-7 : tie.Need-enum-told-7
 enum-told-7 c = search needs
 
 returns : tie.Need-returns
 returns c =
-    let s = c .before .before .before .before .before .before in
+    let s = c .before .before .before .before .before .before .before in
     let R = s .args .run in
-    let N = run-numbered R (s .pre .1) in
-    numbers-apart _ _ _ _ _ _ _ refl
-    (type-carried (R .plan) Op.setType (s .args .m) (s .args .registers .now) (s .args .marks .now) (s .args .memory .now) (s .pre .0) (typeOf (R .plan)) (decode-type (typeOf (R .plan)) (plan-type (R .plan) (run-planned R N)))
-    ∙ at-place R (benchOf (s .args .m) (s .args .registers .now) (s .args .marks .now) (s .args .memory .now)) _ (c .enum-told .given .1))
+    let N = run-numbered R (s .pre .1 .0) in
+    numbers-apart _ _ _ _ _ _ _ _ refl
+    (type-carried (R .plan) Op.setType (s .args .m) (sealsIn (s .args .seals .now)) (s .args .registers .now) (s .args .marks .now) (s .args .memory .now) (s .pre .0) (s .pre .1 .1) (typeOf (R .plan)) (decode-type (typeOf (R .plan)) (plan-type (R .plan) (run-planned R N)))
+    ∙ at-place R (benchOf (s .args .m) (sealsIn (s .args .seals .now)) (s .args .registers .now) (s .args .marks .now) (s .args .memory .now)) _ (c .enum-told .given .1))
 
 returns-2 : tie.Need-returns-2
 returns-2 c =
     let t = c .before in
-    let s = t .before .before .before .before .before .before in
+    let s = t .before .before .before .before .before .before .before in
     let R = s .args .run in
-    let z = run-sizes R (run-numbered R (s .pre .1)) in
+    let z = run-sizes R (run-numbered R (s .pre .1 .0)) in
     let b = z .0 in
     let a = R .plan .m - t .enum-told2 .given .0 .0 in
-    numbers-apart _ _ _ _ _ _ _ (ap reply (c .size-answer .ensures ∙ size-answers (s .args .m) DimensionM a))
-    (size-carried (R .plan) (Op.setM a) (s .args .m) (s .args .registers .now) (s .args .marks .now) (s .args .memory .now) (s .pre .0) DimensionM a (decode-m a (omega (arith, b)))
-    ∙ at-place R (benchOf (s .args .m) (s .args .registers .now) (s .args .marks .now) (s .args .memory .now)) _ (t .enum-told2 .given .1))
+    numbers-apart _ _ _ _ _ _ _ _ (ap reply (c .size-answer .ensures ∙ size-answers (s .args .m) DimensionM a))
+    (size-carried (R .plan) (Op.setM a) (s .args .m) (sealsIn (s .args .seals .now)) (s .args .registers .now) (s .args .marks .now) (s .args .memory .now) (s .pre .0) (s .pre .1 .1) DimensionM a (decode-m a (omega (arith, b)))
+    ∙ at-place R (benchOf (s .args .m) (sealsIn (s .args .seals .now)) (s .args .registers .now) (s .args .marks .now) (s .args .memory .now)) _ (t .enum-told2 .given .1))
 
 returns-3 : tie.Need-returns-3
 returns-3 c =
     let t = c .before in
-    let s = t .before .before .before .before .before .before in
+    let s = t .before .before .before .before .before .before .before in
     let R = s .args .run in
-    let z = run-sizes R (run-numbered R (s .pre .1)) in
+    let z = run-sizes R (run-numbered R (s .pre .1 .0)) in
     let b = z .2 in
     let a = R .plan .n - t .enum-told3 .given .0 .1 .0 in
-    numbers-apart _ _ _ _ _ _ _ (ap reply (c .size-answer2 .ensures ∙ size-answers (s .args .m) DimensionN a))
-    (size-carried (R .plan) (Op.setN a) (s .args .m) (s .args .registers .now) (s .args .marks .now) (s .args .memory .now) (s .pre .0) DimensionN a (decode-n a (omega (arith, b)))
-    ∙ at-place R (benchOf (s .args .m) (s .args .registers .now) (s .args .marks .now) (s .args .memory .now)) _ (t .enum-told3 .given .1))
+    numbers-apart _ _ _ _ _ _ _ _ (ap reply (c .size-answer2 .ensures ∙ size-answers (s .args .m) DimensionN a))
+    (size-carried (R .plan) (Op.setN a) (s .args .m) (sealsIn (s .args .seals .now)) (s .args .registers .now) (s .args .marks .now) (s .args .memory .now) (s .pre .0) (s .pre .1 .1) DimensionN a (decode-n a (omega (arith, b)))
+    ∙ at-place R (benchOf (s .args .m) (sealsIn (s .args .seals .now)) (s .args .registers .now) (s .args .marks .now) (s .args .memory .now)) _ (t .enum-told3 .given .1))
 
 same-length : tie.Need-same-length
 same-length c = search needs
@@ -144,20 +145,20 @@ same-length-2 c = search needs
 returns-4 : tie.Need-returns-4
 returns-4 c =
     let t = c .before .before .before .before .before .before .before in
-    let s = t .before .before .before .before .before .before in
-    numbers-apart _ _ _ _ _ _ _ refl ((c .before .before .before .before .clear .ensures) (s .args .memory .now) ∙ at-place (s .args .run) (benchOf (s .args .m) (s .args .registers .now) (s .args .marks .now) (s .args .memory .now)) _ (t .enum-told4 .given .1))
+    let s = t .before .before .before .before .before .before .before in
+    numbers-apart _ _ _ _ _ _ _ _ refl ((c .before .before .before .before .clear .ensures) (sealsIn (s .args .seals .now)) (s .args .memory .now) (s .pre .1 .1) ∙ at-place (s .args .run) (benchOf (s .args .m) (sealsIn (s .args .seals .now)) (s .args .registers .now) (s .args .marks .now) (s .args .memory .now)) _ (t .enum-told4 .given .1))
 
 returns-5 : tie.Need-returns-5
 returns-5 c =
     let t = c .before in
-    let s = t .before .before .before .before .before .before in
+    let s = t .before .before .before .before .before .before .before in
     let R = s .args .run in
-    let z = run-sizes R (run-numbered R (s .pre .1)) in
+    let z = run-sizes R (run-numbered R (s .pre .1 .0)) in
     let b = z .1 in
     let a = R .plan .k - t .enum-told5 .given .0 .1 .1 .0 in
-    numbers-apart _ _ _ _ _ _ _ (ap reply (c .size-answer3 .ensures ∙ size-answers (s .args .m) DimensionK a))
-    (size-carried (R .plan) (Op.setK a) (s .args .m) (s .args .registers .now) (s .args .marks .now) (s .args .memory .now) (s .pre .0) DimensionK a (decode-k a (omega (arith, b)))
-    ∙ at-place R (benchOf (s .args .m) (s .args .registers .now) (s .args .marks .now) (s .args .memory .now)) _ (t .enum-told5 .given .1))
+    numbers-apart _ _ _ _ _ _ _ _ (ap reply (c .size-answer3 .ensures ∙ size-answers (s .args .m) DimensionK a))
+    (size-carried (R .plan) (Op.setK a) (s .args .m) (sealsIn (s .args .seals .now)) (s .args .registers .now) (s .args .marks .now) (s .args .memory .now) (s .pre .0) (s .pre .1 .1) DimensionK a (decode-k a (omega (arith, b)))
+    ∙ at-place R (benchOf (s .args .m) (sealsIn (s .args .seals .now)) (s .args .registers .now) (s .args .marks .now) (s .args .memory .now)) _ (t .enum-told5 .given .1))
 
 same-length-3 : tie.Need-same-length-3
 same-length-3 c = search needs
@@ -171,12 +172,12 @@ same-length-5 c = search needs
 returns-6 : tie.Need-returns-6
 returns-6 c =
     let p = c .before .before .before .before .before .before .before .before .before in
-    let s = p .before .before .before .before .before .before in
+    let s = p .before .before .before .before .before .before .before in
     let R = s .args .run in
     let g = p .place .given in
-    numbers-apart _ _ _ _ _ _ _ refl
-    (c .before .before .before .before .load-a .ensures
-    ∙ at-place R (benchOf (s .args .m) (s .args .registers .now) (s .args .marks .now) (s .args .memory .now)) _ (g .1))
+    numbers-apart _ _ _ _ _ _ _ _ refl
+    ((c .before .before .before .before .load-a .ensures) (sealsIn (s .args .seals .now)) (s .pre .1 .1)
+    ∙ at-place R (benchOf (s .args .m) (sealsIn (s .args .seals .now)) (s .args .registers .now) (s .args .marks .now) (s .args .memory .now)) _ (g .1))
 
 same-length-6 : tie.Need-same-length-6
 same-length-6 c = search needs
@@ -190,10 +191,10 @@ same-length-8 c = search needs
 returns-7 : tie.Need-returns-7
 returns-7 c =
     let p = c .before .before .before .before .before .before .before .before .before in
-    let s = p .before .before .before .before .before .before in
-    numbers-apart _ _ _ _ _ _ _ refl
-    (c .before .before .before .before .load-b .ensures
-    ∙ at-place (s .args .run) (benchOf (s .args .m) (s .args .registers .now) (s .args .marks .now) (s .args .memory .now)) _ (p .place2 .given .1))
+    let s = p .before .before .before .before .before .before .before in
+    numbers-apart _ _ _ _ _ _ _ _ refl
+    ((c .before .before .before .before .load-b .ensures) (sealsIn (s .args .seals .now)) (s .pre .1 .1)
+    ∙ at-place (s .args .run) (benchOf (s .args .m) (sealsIn (s .args .seals .now)) (s .args .registers .now) (s .args .marks .now) (s .args .memory .now)) _ (p .place2 .given .1))
 
 same-length-9 : tie.Need-same-length-9
 same-length-9 c = search needs
@@ -204,8 +205,8 @@ same-length-10 c = search needs
 returns-8 : tie.Need-returns-8
 returns-8 c =
     let t = c .before .before .before .before .before in
-    let s = t .before .before .before .before .before .before in
-    numbers-apart _ _ _ _ _ _ _ refl ((c .before .before .multiply .ensures) (s .args .memory .now) ∙ at-place (s .args .run) (benchOf (s .args .m) (s .args .registers .now) (s .args .marks .now) (s .args .memory .now)) _ (t .enum-told6 .given .1))
+    let s = t .before .before .before .before .before .before .before in
+    numbers-apart _ _ _ _ _ _ _ _ refl ((c .before .before .multiply .ensures) (sealsIn (s .args .seals .now)) (s .args .memory .now) (s .pre .1 .1) ∙ at-place (s .args .run) (benchOf (s .args .m) (sealsIn (s .args .seals .now)) (s .args .registers .now) (s .args .marks .now) (s .args .memory .now)) _ (t .enum-told6 .given .1))
 
 same-length-11 : tie.Need-same-length-11
 same-length-11 c = search needs
@@ -219,13 +220,13 @@ same-length-13 c = search needs
 returns-9 : tie.Need-returns-9
 returns-9 c =
     let p = c .before .before .before .before .before .before .before in
-    let s = p .before .before .before .before .before .before in
-    numbers-apart _ _ _ _ _ _ _ refl (c .before .before .store .ensures ∙ at-place (s .args .run) (benchOf (s .args .m) (s .args .registers .now) (s .args .marks .now) (s .args .memory .now)) _ (p .place3 .given .1))
+    let s = p .before .before .before .before .before .before .before in
+    numbers-apart _ _ _ _ _ _ _ _ refl (c .before .before .store .ensures ∙ at-place (s .args .run) (benchOf (s .args .m) (sealsIn (s .args .seals .now)) (s .args .registers .now) (s .args .marks .now) (s .args .memory .now)) _ (p .place3 .given .1))
 
 returns-10 : tie.Need-returns-10
 returns-10 c =
-    let s = c .before .before .before .before .before .before in
-    numbers-apart _ _ _ _ _ _ _ refl (at-place (s .args .run) (benchOf (s .args .m) (s .args .registers .now) (s .args .marks .now) (s .args .memory .now)) _ (c .enum-told7 .given .1))
+    let s = c .before .before .before .before .before .before .before in
+    numbers-apart _ _ _ _ _ _ _ _ refl (at-place (s .args .run) (benchOf (s .args .m) (sealsIn (s .args .seals .now)) (s .args .registers .now) (s .args .marks .now) (s .args .memory .now)) _ (c .enum-told7 .given .1))
 
 pub carry-out-spec : {M : Type 1} → statement M
 carry-out-spec =

@@ -24,7 +24,7 @@ returns c =
     let s = f .before .before .before in
     let a = s .args in
     let k = l .scale .ensures (pos 0) zero-residue refl in
-    λ mem. clear-carried (a .plan) (s .pre .1) (a .m) (a .registers .now) (a .marks .now) mem (s .pre .0) (f .plan-factor .result) (f .plan-factor .ensures) (l .scale .result) _ _
+    λ seals mem fit. clear-carried (a .plan) (s .pre .1) (a .m) seals (a .registers .now) (a .marks .now) mem (s .pre .0) fit (f .plan-factor .result) (f .plan-factor .ensures) (l .scale .result) _ _
     (record { answer-is = k .answer-is; registers-are = k .registers-are; marks-are = k .marks-are })
 
 pub clear-spec : {M : Type 1} → statement M

@@ -47,7 +47,7 @@ returns c =
     let o =
     ap (λ (g : Form). Operation.load g MatrixA 0 (narrow P) (startOf (P .a) (r .a-row .result) (k .a-column .result * narrow P)) (P .a .stride)) (f .form-of .ensures)
     ∙ ap₂ (λ (i j : ℕ). Operation.load (formOf P) MatrixA 0 (narrow P) (startOf (P .a) i (j * narrow P)) (P .a .stride)) (r .a-row .ensures) (k .a-column .ensures) in
-    a-carried P (s .pre .1 .0) (a .m) (a .registers .now) (a .marks .now) (a .memory .now) (s .pre .0) (l .load .result) (a .row) (a .term) _ _ (loads-for o (l .load .ensures))
+    λ seals fit. a-carried P (s .pre .1 .0) (a .m) seals (a .registers .now) (a .marks .now) (a .memory .now) (s .pre .0) fit (l .load .result) (a .row) (a .term) _ _ (loads-for o (l .load .ensures))
 
 pub load-a-spec : {M : Type 1} → statement M
 load-a-spec = tie.close (tie.spec form-of-requires a-row-requires a-column-requires load-requires same-length same-length-2 returns)

@@ -18,7 +18,7 @@ returns c =
     let l = c .before .before .before .before in
     let s = l .before .before .before .before .before .before .before in
     let a = s .args in
-    b-carried (a .plan) (s .pre .1 .0) (a .m) (a .registers .now) (a .marks .now) (a .memory .now) (s .pre .0) (l .load .result) (a .term) (a .column) _ _ (l .load .ensures)
+    λ seals fit. b-carried (a .plan) (s .pre .1 .0) (a .m) seals (a .registers .now) (a .marks .now) (a .memory .now) (s .pre .0) fit (l .load .result) (a .term) (a .column) _ _ (l .load .ensures)
 
 pub load-b-spec : {M : Type 1} → statement M
 load-b-spec = tie.close (tie.spec load-requires same-length same-length-2 returns)

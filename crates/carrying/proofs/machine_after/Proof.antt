@@ -108,8 +108,8 @@ returns c =
     let R = s .args .run in
     let N = run-numbered R (s .pre .1) in
     let v = w .with-type .ensures ∙ ap (withType (s .args .m)) (c .before .kept-type .ensures ∙ ap (newType (s .args .m .elen)) (c .before .before .type-of .ensures .0)) in
-    λ regs marks mem so. v ∙ ap numbers (type-carried (R .plan) Op.setType (s .args .m) regs marks mem so (typeOf (R .plan)) (decode-type (typeOf (R .plan)) (plan-type (R .plan) (run-planned R N)))
-    ∙ at-place R (benchOf (s .args .m) regs marks mem) _ (t .enum-told .given .1))
+    λ seals regs marks mem so fit. v ∙ ap numbers (type-carried (R .plan) Op.setType (s .args .m) seals regs marks mem so fit (typeOf (R .plan)) (decode-type (typeOf (R .plan)) (plan-type (R .plan) (run-planned R N)))
+    ∙ at-place R (benchOf (s .args .m) seals regs marks mem) _ (t .enum-told .given .1))
 
 returns-2 : tie.Need-returns-2
 returns-2 c =
@@ -119,8 +119,8 @@ returns-2 c =
     let z = run-sizes R (run-numbered R (s .pre .1)) in
     let b = z .0 in
     let a = R .plan .m - p .place .given .0 .0 in
-    λ regs marks mem so. c .sized .ensures ∙ ap numbers (size-carried (R .plan) (Op.setM a) (s .args .m) regs marks mem so DimensionM a (decode-m a (omega (arith, b)))
-    ∙ at-place R (benchOf (s .args .m) regs marks mem) _ (p .place .given .1))
+    λ seals regs marks mem so fit. c .sized .ensures ∙ ap numbers (size-carried (R .plan) (Op.setM a) (s .args .m) seals regs marks mem so fit DimensionM a (decode-m a (omega (arith, b)))
+    ∙ at-place R (benchOf (s .args .m) seals regs marks mem) _ (p .place .given .1))
 
 returns-3 : tie.Need-returns-3
 returns-3 c =
@@ -130,16 +130,16 @@ returns-3 c =
     let z = run-sizes R (run-numbered R (s .pre .1)) in
     let b = z .2 in
     let a = R .plan .n - p .place2 .given .0 .1 .0 in
-    λ regs marks mem so. c .sized2 .ensures ∙ ap numbers (size-carried (R .plan) (Op.setN a) (s .args .m) regs marks mem so DimensionN a (decode-n a (omega (arith, b)))
-    ∙ at-place R (benchOf (s .args .m) regs marks mem) _ (p .place2 .given .1))
+    λ seals regs marks mem so fit. c .sized2 .ensures ∙ ap numbers (size-carried (R .plan) (Op.setN a) (s .args .m) seals regs marks mem so fit DimensionN a (decode-n a (omega (arith, b)))
+    ∙ at-place R (benchOf (s .args .m) seals regs marks mem) _ (p .place2 .given .1))
 
 returns-4 : tie.Need-returns-4
 returns-4 c =
     let s = c .before .before .before in
     let R = s .args .run in
     let g = c .enum-told2 .given in
-    λ regs marks mem so. clear-keeps (R .plan) (run-planned R (run-numbered R (s .pre .1))) (s .args .m) regs marks mem so
-    ∙ ap numbers (at-place R (benchOf (s .args .m) regs marks mem) _ (g .1))
+    λ seals regs marks mem so fit. clear-keeps (R .plan) (run-planned R (run-numbered R (s .pre .1))) (s .args .m) seals regs marks mem so fit
+    ∙ ap numbers (at-place R (benchOf (s .args .m) seals regs marks mem) _ (g .1))
 
 returns-5 : tie.Need-returns-5
 returns-5 c =
@@ -149,46 +149,46 @@ returns-5 c =
     let z = run-sizes R (run-numbered R (s .pre .1)) in
     let b = z .1 in
     let a = R .plan .k - p .place3 .given .0 .1 .1 .0 in
-    λ regs marks mem so. c .sized3 .ensures ∙ ap numbers (size-carried (R .plan) (Op.setK a) (s .args .m) regs marks mem so DimensionK a (decode-k a (omega (arith, b)))
-    ∙ at-place R (benchOf (s .args .m) regs marks mem) _ (p .place3 .given .1))
+    λ seals regs marks mem so fit. c .sized3 .ensures ∙ ap numbers (size-carried (R .plan) (Op.setK a) (s .args .m) seals regs marks mem so fit DimensionK a (decode-k a (omega (arith, b)))
+    ∙ at-place R (benchOf (s .args .m) seals regs marks mem) _ (p .place3 .given .1))
 
 returns-6 : tie.Need-returns-6
 returns-6 c =
     let s = c .before .before .before in
     let R = s .args .run in
     let g = c .enum-told3 .given in
-    λ regs marks mem so. a-keeps (R .plan) (run-planned R (run-numbered R (s .pre .1))) (s .args .m) regs marks mem so (g .0 .0) (g .0 .1 .1 .0)
-    ∙ ap numbers (at-place R (benchOf (s .args .m) regs marks mem) _ (g .1))
+    λ seals regs marks mem so fit. a-keeps (R .plan) (run-planned R (run-numbered R (s .pre .1))) (s .args .m) seals regs marks mem so fit (g .0 .0) (g .0 .1 .1 .0)
+    ∙ ap numbers (at-place R (benchOf (s .args .m) seals regs marks mem) _ (g .1))
 
 returns-7 : tie.Need-returns-7
 returns-7 c =
     let s = c .before .before .before in
     let R = s .args .run in
     let g = c .enum-told4 .given in
-    λ regs marks mem so. b-keeps (R .plan) (run-planned R (run-numbered R (s .pre .1))) (s .args .m) regs marks mem so (g .0 .1 .1 .0) (g .0 .1 .0)
-    ∙ ap numbers (at-place R (benchOf (s .args .m) regs marks mem) _ (g .1))
+    λ seals regs marks mem so fit. b-keeps (R .plan) (run-planned R (run-numbered R (s .pre .1))) (s .args .m) seals regs marks mem so fit (g .0 .1 .1 .0) (g .0 .1 .0)
+    ∙ ap numbers (at-place R (benchOf (s .args .m) seals regs marks mem) _ (g .1))
 
 returns-8 : tie.Need-returns-8
 returns-8 c =
     let s = c .before .before .before in
     let R = s .args .run in
     let g = c .enum-told5 .given in
-    λ regs marks mem so. multiply-keeps (R .plan) (run-planned R (run-numbered R (s .pre .1))) (s .args .m) regs marks mem so
-    ∙ ap numbers (at-place R (benchOf (s .args .m) regs marks mem) _ (g .1))
+    λ seals regs marks mem so fit. multiply-keeps (R .plan) (run-planned R (run-numbered R (s .pre .1))) (s .args .m) seals regs marks mem so fit
+    ∙ ap numbers (at-place R (benchOf (s .args .m) seals regs marks mem) _ (g .1))
 
 returns-9 : tie.Need-returns-9
 returns-9 c =
     let s = c .before .before .before in
     let R = s .args .run in
     let g = c .enum-told6 .given in
-    λ regs marks mem so. c-keeps (R .plan) (run-planned R (run-numbered R (s .pre .1))) (s .args .m) regs marks mem so (g .0 .0) (g .0 .1 .0)
-    ∙ ap numbers (at-place R (benchOf (s .args .m) regs marks mem) _ (g .1))
+    λ seals regs marks mem so fit. c-keeps (R .plan) (run-planned R (run-numbered R (s .pre .1))) (s .args .m) seals regs marks mem so fit (g .0 .0) (g .0 .1 .0)
+    ∙ ap numbers (at-place R (benchOf (s .args .m) seals regs marks mem) _ (g .1))
 
 returns-10 : tie.Need-returns-10
 returns-10 c =
     let s = c .before .before .before in
     let R = s .args .run in
-    λ regs marks mem so. ap numbers (at-place R (benchOf (s .args .m) regs marks mem) _ (c .enum-told7 .given .1))
+    λ seals regs marks mem so fit. ap numbers (at-place R (benchOf (s .args .m) seals regs marks mem) _ (c .enum-told7 .given .1))
 
 pub machine-after-spec : {M : Type 1} → statement M
 machine-after-spec =

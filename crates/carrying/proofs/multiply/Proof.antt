@@ -16,7 +16,7 @@ returns c =
     let k = l .float-multiply .ensures in
     let q : elementsOf (a .plan) ≡ floats = rw (eq-eqb (a .plan .kind) 2 (c .before .before .before .before .if1 .taken)) in
     let F = formats mostElen (a .plan .sew) (a .plan .factor) refl (plan-format (a .plan) (s .pre .1)) .1 in
-    λ mem. multiply-carried (a .plan) (s .pre .1) (a .m) (a .registers .now) (a .marks .now) mem (s .pre .0) (F .factor) (F .is) (l .float-multiply .result) _ _ floats q
+    λ seals mem fit. multiply-carried (a .plan) (s .pre .1) (a .m) seals (a .registers .now) (a .marks .now) mem (s .pre .0) fit (F .factor) (F .is) (l .float-multiply .result) _ _ floats q
     (record { answer-is = k .answer-is; registers-are = k .registers-are; marks-are = k .marks-are })
 
 returns-2 : tie.Need-returns-2
@@ -27,7 +27,7 @@ returns-2 c =
     let a = s .args in
     let k = l .multiply .ensures in
     let q : elementsOf (a .plan) ≡ integers = rw (ne-eqb (a .plan .kind) 2 (c .before .before .before .before .before .if1 .left)) in
-    λ mem. multiply-carried (a .plan) (s .pre .1) (a .m) (a .registers .now) (a .marks .now) mem (s .pre .0) (f .plan-factor .result) (f .plan-factor .ensures) (l .multiply .result) _ _ integers q
+    λ seals mem fit. multiply-carried (a .plan) (s .pre .1) (a .m) seals (a .registers .now) (a .marks .now) mem (s .pre .0) fit (f .plan-factor .result) (f .plan-factor .ensures) (l .multiply .result) _ _ integers q
     (record { answer-is = k .answer-is; registers-are = k .registers-are; marks-are = k .marks-are })
 
 pub multiply-spec : {M : Type 1} → statement M

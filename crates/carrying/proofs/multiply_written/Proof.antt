@@ -6,7 +6,7 @@ use Rattle.width.specs.Bounds.{mostElen}
 use Rattle.run.specs.Plan.{integers, floats, elementsOf}
 use Rattle.run.proofs.WordLaws.{formats}
 use Rattle.carrying.proofs.CarriedLaws.{plan-format}
-use Rattle.carrying.proofs.SumsLaws.{multiply-permitted, multiply-left}
+use Rattle.carrying.proofs.SumsLaws.{none-fit, multiply-permitted, multiply-left}
 use borrow.Author.Needs.{needs}
 use Rattle.carrying.proofs.multiply_written.Statement.{statement}
 use Rattle.carrying.proofs.multiply_written.Tie as tie
@@ -27,7 +27,7 @@ multiply-floats-requires c κs =
       record {
         marks = p .marks;
         is-sound = p .is-sound;
-        is-done = multiply-permitted (a .plan) (s .pre .0) (a .m) (a .registers .now) (p .marks) [] (p .is-sound) (F .factor) (F .is) floats (are-floats (c .before)) (p .is-done);
+        is-done = multiply-permitted (a .plan) (s .pre .0) (a .m) [] (a .registers .now) (p .marks) [] (p .is-sound) none-fit (F .factor) (F .is) floats (are-floats (c .before)) (p .is-done);
       },
       omega arith,
     )
@@ -56,7 +56,7 @@ multiply-tiles-requires c κs =
       record {
         marks = p .marks;
         is-sound = p .is-sound;
-        is-done = multiply-permitted (a .plan) (s .pre .0) (a .m) (a .registers .now) (p .marks) [] (p .is-sound) (f .plan-factor .result) (f .plan-factor .ensures) integers (are-integers (f .before)) (p .is-done);
+        is-done = multiply-permitted (a .plan) (s .pre .0) (a .m) [] (a .registers .now) (p .marks) [] (p .is-sound) none-fit (f .plan-factor .result) (f .plan-factor .ensures) integers (are-integers (f .before)) (p .is-done);
       },
       omega arith,
     )

@@ -28,7 +28,7 @@ returns-2 c =
     let s = c .before .before .before in
     let m = s .before .before in
     let a = m .before .before .before .before .before .before .args in
-    write-shown (a .machine .now) (a .registers .now) (a .marks .now) (a .image .now) (s .write-image .last .1 .1 .1 .0) (m .machine-of .result) (s .write-image .result) (c .packed-reply2 .result)
+    write-shown (a .machine .now) (a .registers .now) (a .marks .now) (a .image .now) (s .write-image .last .1 .1 .1 .1 .0) (m .machine-of .result) (s .write-image .result) (c .packed-reply2 .result)
     (m .before .if1 .left) (m .machine-of .ensures) (s .write-image .ensures) (c .packed-reply2 .ensures)
 
 pub write-spec : {M : Type 1} → statement M

@@ -1,16 +1,18 @@
--- `image_write::header_size` meets its contract.
-use mathlib.Core.Path.{ap, _∙_}
-use mathlib.Core.List.{List, []}
-use Prim.Native.Nat.{ℕ}
-use borrow.Author.Needs.{needs}
 use native.Mathlib.Omega.{arith}
-use lib.ListN.{length}
-use Rattle.format.specs.Numbers.{encodeAll}
+use Rattle.ranges.specs.Ranges.{sealsIn}
+use Rattle.image_write.proofs.SealLaws.{header-long}
+use borrow.Author.Needs.{needs}
 use Rattle.image_write.proofs.header_size.Statement.{statement}
 use Rattle.image_write.proofs.header_size.Tie as tie
 
-fields-of-requires : tie.Need-fields-of-requires
-fields-of-requires c κs = search needs
+fields-size-requires : tie.Need-fields-size-requires
+fields-size-requires c κs = search needs
+
+seals-size-requires : tie.Need-seals-size-requires
+seals-size-requires c κs = search needs
+
+add-result : tie.Need-add-result
+add-result c = search needs
 
 slice-aggregate-numbers-size : tie.Need-slice-aggregate-numbers-size
 slice-aggregate-numbers-size c = search needs
@@ -18,12 +20,25 @@ slice-aggregate-numbers-size c = search needs
 numbers-size-requires : tie.Need-numbers-size-requires
 numbers-size-requires c κs = search needs
 
+add-result-2 : tie.Need-add-result-2
+add-result-2 c = search needs
+
 returns : tie.Need-returns
 returns c =
-    let e = c .before .before .fields-of .ensures in
-    (c .numbers-size .ensures .0 ∙ ap (λ (ns : List ℕ). length (encodeAll ns [])) e, omega (arith, c .numbers-size .ensures .1, ap length e))
+    let s = c .before .before in
+    let f = s .before in
+    let a = f .before .before .args in
+    let long = header-long (a .m) (sealsIn (a .block .now)) (a .count) in
+    (omega (arith, long, f .fields-size .ensures .0, s .seals-size .ensures .0, c .numbers-size .ensures .0), omega (arith, f .fields-size .ensures .1, s .seals-size .ensures .1, c .numbers-size .ensures .1))
 
 pub header-size-spec : {M : Type 1} → statement M
 header-size-spec =
     tie.close
-    (tie.spec fields-of-requires slice-aggregate-numbers-size numbers-size-requires returns)
+    (tie.spec
+    fields-size-requires
+    seals-size-requires
+    add-result
+    slice-aggregate-numbers-size
+    numbers-size-requires
+    add-result-2
+    returns)

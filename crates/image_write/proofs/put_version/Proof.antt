@@ -29,7 +29,7 @@ put-numbers-requires : tie.Need-put-numbers-requires
 put-numbers-requires c κs =
     let v = c .before .before .before .version-of in
     let same = ap (λ (ns : List ℕ). length (encodeAll ns [])) (v .ensures .1) in
-    (omega (arith, taken (c .before), v .ensures .0), omega (arith, same, c .before .before .before .before .before .pre))
+    (omega (arith, taken (c .before), v .ensures .0), omega (arith, same, c .before .before .before .before .before .before .pre .1))
 
 same-length : tie.Need-same-length
 same-length c = search needs
@@ -38,7 +38,7 @@ returns : tie.Need-returns
 returns c =
     let p = c .before .before .put-numbers in
     let v = c .before .before .before .before .before .before .version-of in
-    let a = c .before .before .before .before .before .before .before .before .args in (
+    let a = c .before .before .before .before .before .before .before .before .before .args in (
       omega (arith, p .ensures .0, ap (λ (ns : List ℕ). length (encodeAll ns [])) (v .ensures .1)),
       p .ensures .1 ∙ ap (λ (ns : List ℕ). sets (a .room .now) 0 (encodeAll ns [])) (v .ensures .1),
     )

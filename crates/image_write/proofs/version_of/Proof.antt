@@ -1,13 +1,21 @@
-use mathlib.Core.Path.{sym, _∙_}
+use mathlib.Core.Path.{_≡_, sym, _∙_}
+use Prim.Native.Nat.{ℕ}
 use native.Mathlib.Omega.{arith}
+use lib.ListN.{length}
+use Rattle.ranges.specs.Ranges.{sealsIn}
 use Rattle.image.specs.Images.{headerOf}
-use Rattle.image_write.proofs.PutLaws.{version-three, version-two, version-one}
+use Rattle.image_write.proofs.PutLaws.{version-four, version-three, version-two, version-one}
+use Rattle.image_write.proofs.SealLaws.{seals-many}
 use borrow.Author.Needs.{needs}
 use Rattle.image_write.proofs.version_of.Statement.{statement}
 use Rattle.image_write.proofs.version_of.Tie as tie
 
-is-beyond-requires : tie.Need-is-beyond-requires
-is-beyond-requires c κs = search needs
+-- as many ranges as were counted
+many : (c : tie.After-count-of) → length (sealsIn (c .before .before .args .block .now)) ≡ c .count-of .result
+many c = let st = c .before .before in seals-many (st .args .block .now) (st .pre) ∙ sym (c .count-of .ensures .0)
+
+count-of-requires : tie.Need-count-of-requires
+count-of-requires c κs = search needs
 
 exponent-requires : tie.Need-exponent-requires
 exponent-requires c κs = search needs
@@ -15,21 +23,49 @@ exponent-requires c κs = search needs
 returns : tie.Need-returns
 returns c =
     let i = c .before in
-    let m = i .before .before .args .m in
-    (omega arith, version-three (headerOf m) (c .exponent .result) (c .exponent .ensures .0) (sym (i .before .is-beyond .ensures) ∙ i .if1 .taken))
+    let n = i .before in
+    let a = n .before .before .args in
+    (omega arith, version-four (headerOf (a .m) (sealsIn (a .block .now))) (c .exponent .result) (c .exponent .ensures .0) (λ e. i .if1 .taken (sym (many n) ∙ e)))
+
+is-beyond-requires : tie.Need-is-beyond-requires
+is-beyond-requires c κs = search needs
+
+exponent-requires-2 : tie.Need-exponent-requires-2
+exponent-requires-2 c κs = search needs
 
 returns-2 : tie.Need-returns-2
 returns-2 c =
-    let i = c .before .before in
-    let m = i .before .before .args .m in
-    (omega arith, version-two (headerOf m) (sym (i .before .is-beyond .ensures) ∙ i .if1 .left) (c .if2 .taken))
+    let i = c .before in
+    let j = i .before .before in
+    let n = j .before in
+    let a = n .before .before .args in
+    (omega arith, version-three (headerOf (a .m) (sealsIn (a .block .now))) (many n ∙ j .if1 .left) (c .exponent2 .result) (c .exponent2 .ensures .0) (sym (i .before .is-beyond .ensures) ∙ i .if2 .taken))
 
 returns-3 : tie.Need-returns-3
 returns-3 c =
     let i = c .before .before in
-    let m = i .before .before .args .m in
-    (omega arith, version-one (headerOf m) (sym (i .before .is-beyond .ensures) ∙ i .if1 .left) (c .if2 .left))
+    let j = i .before .before in
+    let n = j .before in
+    let a = n .before .before .args in
+    (omega arith, version-two (headerOf (a .m) (sealsIn (a .block .now))) (many n ∙ j .if1 .left) (sym (i .before .is-beyond .ensures) ∙ i .if2 .left) (c .if3 .taken))
+
+returns-4 : tie.Need-returns-4
+returns-4 c =
+    let i = c .before .before in
+    let j = i .before .before in
+    let n = j .before in
+    let a = n .before .before .args in
+    (omega arith, version-one (headerOf (a .m) (sealsIn (a .block .now))) (many n ∙ j .if1 .left) (sym (i .before .is-beyond .ensures) ∙ i .if2 .left) (c .if3 .left))
 
 pub version-of-spec : {M : Type 1} → statement M
 version-of-spec =
-    tie.close (tie.spec is-beyond-requires exponent-requires returns returns-2 returns-3)
+    tie.close
+    (tie.spec
+    count-of-requires
+    exponent-requires
+    returns
+    is-beyond-requires
+    exponent-requires-2
+    returns-2
+    returns-3
+    returns-4)

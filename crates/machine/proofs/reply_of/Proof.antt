@@ -85,6 +85,12 @@ enum-told-13 c = search needs
 bare-requires-13 : tie.Need-bare-requires-13
 bare-requires-13 c κs = search needs
 
+enum-told-14 : tie.Need-enum-told-14
+enum-told-14 c = search needs
+
+bare-requires-14 : tie.Need-bare-requires-14
+bare-requires-14 c κs = search needs
+
 returns : tie.Need-returns
 returns c = c .bare .ensures ∙ ap reply (sym (c .before .enum-told .given .1))
 
@@ -127,6 +133,9 @@ returns-13 c = c .bare12 .ensures ∙ ap reply (sym (c .before .enum-told12 .giv
 returns-14 : tie.Need-returns-14
 returns-14 c = c .bare13 .ensures ∙ ap reply (sym (c .before .enum-told13 .given .1))
 
+returns-15 : tie.Need-returns-15
+returns-15 c = c .bare14 .ensures ∙ ap reply (sym (c .before .enum-told14 .given .1))
+
 pub reply-of-spec : {M : Type 1} → statement M
 reply-of-spec =
     tie.close
@@ -158,6 +167,8 @@ reply-of-spec =
     bare-requires-12
     enum-told-13
     bare-requires-13
+    enum-told-14
+    bare-requires-14
     returns
     returns-2
     returns-3
@@ -171,4 +182,5 @@ reply-of-spec =
     returns-11
     returns-12
     returns-13
-    returns-14)
+    returns-14
+    returns-15)

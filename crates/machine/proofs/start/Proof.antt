@@ -2,12 +2,13 @@ use mathlib.Core.Path.{sym, ap, ap₂, _∙_}
 use mathlib.Core.Bool.{true, false}
 use mathlib.Core.List.{List}
 use Prim.Native.Nat.{ℕ}
+use native.Mathlib.Omega.{arith}
 use borrow.Author.Needs.{needs}
 use borrow.Author.Tests.{not-true, not-false}
 use Rattle.machine.specs.declared.Machine.{Machine}
-use Rattle.machine.specs.declared.Answer.the-variants.{Done, BadArguments}
-use Rattle.machine.specs.Answers.{reply}
-use Rattle.machine.proofs.StartLaws.{started-as}
+use Rattle.machine.specs.declared.Answer.the-variants.{Done, BadArguments, TooManySeals}
+use Rattle.machine.specs.Starting.{startedAs}
+use Rattle.machine.proofs.StartLaws.{started-as, started-bad, few-ranges, many-ranges, startable-paired}
 use Rattle.machine.proofs.start.Statement.{statement}
 use Rattle.machine.proofs.start.Tie as tie
 
@@ -23,10 +24,25 @@ same-length c = search needs
 returns : tie.Need-returns
 returns c =
     let s = c .before .before in
-    let a = s .before .before .before .before .args in
-    ap (λ (m : Machine). record { answer = reply BadArguments; machine = m; registers = a .registers .now; marks = a .marks .now }) (c .no-machine .ensures)
-    ∙ started-as (a .rlen) (a .mlen) (a .elen) (a .rule) (a .seal-start) (a .seal-length) (a .registers .now) (a .marks .now) false
+    let a = s .before .before .before .before .before .args in
+    ap (λ (m : Machine). startedAs (record { answer = BadArguments; machine = m }) (a .seals .now) (a .registers .now) (a .marks .now)) (c .no-machine .ensures)
+    ∙ started-bad (a .rlen) (a .mlen) (a .elen) (a .rule) (a .seals .now) (a .registers .now) (a .marks .now)
     (sym (s .is-startable .ensures) ∙ not-true (s .is-startable .result) (c .before .if1 .taken))
+
+no-machine-requires-2 : tie.Need-no-machine-requires-2
+no-machine-requires-2 c κs = search needs
+
+same-length-2 : tie.Need-same-length-2
+same-length-2 c = search needs
+
+returns-2 : tie.Need-returns-2
+returns-2 c =
+    let s = c .before .before .before in
+    let a = s .before .before .before .before .before .args in
+    let e = sym (s .is-startable .ensures) ∙ not-false (s .is-startable .result) (c .before .before .if1 .left) in
+    ap (λ (m : Machine). startedAs (record { answer = TooManySeals; machine = m }) (a .seals .now) (a .registers .now) (a .marks .now)) (c .no-machine2 .ensures)
+    ∙ started-as (a .rlen) (a .mlen) (a .elen) (a .rule) (a .seals .now) (a .registers .now) (a .marks .now) true false e
+    (many-ranges (a .seals .now) (startable-paired (a .rlen) (a .mlen) (a .elen) (a .rule) (a .seals .now) (a .registers .now) (a .marks .now) e) (omega (arith, c .before .if2 .taken)))
 
 clear-requires : tie.Need-clear-requires
 clear-requires c κs = search needs
@@ -34,19 +50,31 @@ clear-requires c κs = search needs
 fresh-machine-requires : tie.Need-fresh-machine-requires
 fresh-machine-requires c κs = search needs
 
-same-length-2 : tie.Need-same-length-2
-same-length-2 c = search needs
+same-length-3 : tie.Need-same-length-3
+same-length-3 c = search needs
 
-returns-2 : tie.Need-returns-2
-returns-2 c =
+returns-3 : tie.Need-returns-3
+returns-3 c =
     let l = c .before .before .before in
-    let s = l .before .before .before in
-    let a = s .before .before .before .before .args in
-    ap₂ (λ (m : Machine) (z : List ℕ). record { answer = reply Done; machine = m; registers = a .registers .now; marks = z }) (c .fresh-machine .ensures) (l .clear .ensures)
-    ∙ started-as (a .rlen) (a .mlen) (a .elen) (a .rule) (a .seal-start) (a .seal-length) (a .registers .now) (a .marks .now) true
-    (sym (s .is-startable .ensures) ∙ not-false (s .is-startable .result) (l .before .before .if1 .left))
+    let s = l .before .before .before .before in
+    let a = s .before .before .before .before .before .args in
+    ap₂ (λ (m : Machine) (z : List ℕ). startedAs (record { answer = Done; machine = m }) (a .seals .now) (a .registers .now) z) (c .fresh-machine .ensures) (l .clear .ensures)
+    ∙ started-as (a .rlen) (a .mlen) (a .elen) (a .rule) (a .seals .now) (a .registers .now) (a .marks .now) true true
+    (sym (s .is-startable .ensures) ∙ not-false (s .is-startable .result) (l .before .before .before .if1 .left))
+    (few-ranges (a .seals .now) (omega (arith, l .before .before .if2 .left)))
 
 pub start-spec : {M : Type 1} → statement M
 start-spec =
     tie.close
-    (tie.spec is-startable-requires no-machine-requires same-length returns clear-requires fresh-machine-requires same-length-2 returns-2)
+    (tie.spec
+    is-startable-requires
+    no-machine-requires
+    same-length
+    returns
+    no-machine-requires-2
+    same-length-2
+    returns-2
+    clear-requires
+    fresh-machine-requires
+    same-length-3
+    returns-3)

@@ -1,10 +1,12 @@
 use mathlib.Core.Path.{_≡_, sym, ap, _∙_}
+use mathlib.Core.Bool.{Bool}
 use mathlib.Core.Logic.{⊎-elim}
+use mathlib.Core.List.{List}
 use Prim.Native.Nat.{ℕ, _-_, _≤_}
 use native.Mathlib.Omega.{arith}
 use lib.Dec.{ltb}
 use lib.ListN.{length, getD}
-use Rattle.machine.specs.Tests.{all}
+use Rattle.machine.specs.Tests.{all, allOf}
 use Rattle.machine.proofs.TestLaws.{allOf-all}
 use Rattle.row.proofs.MarkLaws.{most-more, most-same}
 use Rattle.row.proofs.marks_sound.Statement.{statement}
@@ -16,14 +18,24 @@ Inv-loop marks quarter most₀ i₀ most i = (i ≤ length marks) × (ltb most 2
 abbrev μ-loop : tie.MeasureT-loop
 μ-loop marks quarter most₀ i₀ most i = length marks - i
 
+-- the marks, by the largest of all of them
+told : (m : List ℕ) (n : ℕ) → n ≡ length m → (t : Bool) → t ≡ all n (λ k. ltb (getD m k 0) 2) → t ≡ allOf (λ mark. ltb mark 2) m
+told m n e t h = h ∙ ap (λ (n : ℕ). all n (λ k. ltb (getD m k 0) 2)) e ∙ sym (allOf-all (λ mark. ltb mark 2) m)
+
 most-of-requires : tie.Need-most-of-requires Inv-loop μ-loop
 most-of-requires c κs = omega arith
+
+returns : tie.Need-returns Inv-loop μ-loop
+returns c = told (c .before .before .before .args .marks .now) 256 (sym (c .before .if1 .taken)) (ltb (c .most-of .result) 2) (c .most-of .ensures)
+
+most-of-requires-2 : tie.Need-most-of-requires-2 Inv-loop μ-loop
+most-of-requires-2 c κs = omega arith
 
 mul-i : tie.Need-mul-i Inv-loop μ-loop
 mul-i c = omega arith
 
 loop-holds : tie.Need-loop-holds Inv-loop μ-loop
-loop-holds c = (omega arith, c .most-of .ensures)
+loop-holds c = (omega arith, c .most-of2 .ensures)
 
 shared-slice-read-mark : tie.Need-shared-slice-read-mark Inv-loop μ-loop
 shared-slice-read-mark c = omega arith
@@ -37,20 +49,19 @@ loop-less c = omega arith
 loop-again : tie.Need-loop-again Inv-loop μ-loop
 loop-again c =
     let l = c .before .before .before .loop in
-    let m = c .before .before .before .before .before .before .args .marks .now in (
+    let m = c .before .before .before .before .before .before .before .args .marks .now in (
       omega arith,
       ⊎-elim
           (λ w. ap (λ (x : ℕ). ltb x 2) (w .1) ∙ most-more m (l .i) (l .most) (w .0 .taken) (l .inv .1))
           (λ w. ap (λ (x : ℕ). ltb x 2) (w .1) ∙ most-same m (l .i) (l .most) (w .0 .left) (l .inv .1))
-          (c .if1 .came),
+          (c .if2 .came),
     )
 
-returns : tie.Need-returns Inv-loop μ-loop
-returns c =
+returns-2 : tie.Need-returns-2 Inv-loop μ-loop
+returns-2 c =
     let l = c .before .loop in
-    let m = c .before .before .before .before .args .marks .now in
-    let e : l .i ≡ length m = omega arith in
-    l .inv .1 ∙ ap (λ (n : ℕ). all n (λ k. ltb (getD m k 0) 2)) e ∙ sym (allOf-all (λ mark. ltb mark 2) m)
+    let m = c .before .before .before .before .before .args .marks .now in
+    told m (l .i) (omega arith) (ltb (l .most) 2) (l .inv .1)
 
 pub marks-sound-spec : {M : Type 1} → statement M
 marks-sound-spec =
@@ -59,10 +70,12 @@ marks-sound-spec =
     Inv-loop
     μ-loop
     most-of-requires
+    returns
+    most-of-requires-2
     mul-i
     loop-holds
     shared-slice-read-mark
     add-i
     loop-less
     loop-again
-    returns)
+    returns-2)

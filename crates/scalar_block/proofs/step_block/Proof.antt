@@ -2,6 +2,7 @@ use native.Mathlib.Omega.{arith}
 use borrow.Author.Needs.{needs}
 use Rattle.machine.specs.Geometry.{benchOf}
 use Rattle.machine.specs.Vectors.{vectorsOf}
+use Rattle.ranges.specs.Ranges.{sealsIn}
 use Rattle.scalar_block.proofs.NamedScalars.{block-stepped}
 use Rattle.scalar_block.proofs.step_block.Statement.{statement}
 use Rattle.scalar_block.proofs.step_block.Tie as tie
@@ -66,7 +67,7 @@ array-read-put-scalar c = search needs
 put-scalar-requires : tie.Need-put-scalar-requires
 put-scalar-requires c κs =
     let d = c .before .before .before .before .before .before .before .before .before .before .before .before .before .before .before .before .before .before .before .before .before .before .before .before in
-    (d .before .before .before .before .before .before .pre, omega (arith, d .low-field .ensures))
+    (d .before .before .before .before .before .before .before .pre, omega (arith, d .low-field .ensures))
 
 same-length : tie.Need-same-length
 same-length c = search needs
@@ -94,10 +95,10 @@ returns c =
     let a = b .before in
     let d = a .before in
     let k = d .before .before .before in
-    let g = k .before .before .before in
+    let g = k .before .before .before .before in
     let z = g .args in
-    block-stepped (z .word) (z .scalars .now) (vectorsOf (z .vectors .now) (z .group)) (benchOf (z .m) (z .registers .now) (z .marks .now) (z .memory .now)) (g .pre)
-    (λ i. omega (arith, k .slice-known3 .given i)) (s .step .result) _ _ _ _ _ _
+    block-stepped (z .word) (z .scalars .now) (vectorsOf (z .vectors .now) (z .group)) (benchOf (z .m) (sealsIn (z .seals .now)) (z .registers .now) (z .marks .now) (z .memory .now)) (g .pre)
+    (λ i. omega (arith, k .slice-known3 .given i)) (s .step .result) (sealsIn (z .seals .now)) _ _ _ _ _ _
     (d .low-field .result) (a .middle-field .result) (b .high-field .result) (o .read8 .result) (p .read82 .result) (q .read83 .result)
     (d .low-field .ensures) (a .middle-field .ensures) (b .high-field .ensures) (o .read8 .ensures) (p .read82 .ensures) (q .read83 .ensures)
     (s .step .ensures) (w .put-scalar .ensures)

@@ -1,9 +1,10 @@
 use mathlib.Core.Path.{ap}
 use Prim.Native.Nat.{ℕ, _*_, _/_, _≤_}
 use native.Mathlib.Omega.{arith}
+use Rattle.ranges.specs.Ranges.{sealsIn}
 use Rattle.run.specs.Whole.{finishedAs}
 use Rattle.product_memory.proofs.MemoryLaws.{widths}
-use Rattle.solving.proofs.RunLaws.{c-fits, multiplied}
+use Rattle.solving.proofs.RunLaws.{none, c-fits, multiplied}
 use borrow.Author.Needs.{needs}
 use Rattle.solving.proofs.multiply.Statement.{statement}
 use Rattle.solving.proofs.multiply.Tie as tie
@@ -18,6 +19,9 @@ slice-aggregate-start c = search needs
 slice-aggregate-start-2 : tie.Need-slice-aggregate-start-2
 slice-aggregate-start-2 c = search needs
 
+slice-aggregate-start-3 : tie.Need-slice-aggregate-start-3
+slice-aggregate-start-3 c = search needs
+
 start-requires : tie.Need-start-requires
 start-requires c κs = search needs
 
@@ -30,20 +34,23 @@ slice-aggregate-whole c = search needs
 slice-aggregate-whole-2 : tie.Need-slice-aggregate-whole-2
 slice-aggregate-whole-2 c = search needs
 
+slice-aggregate-whole-3 : tie.Need-slice-aggregate-whole-3
+slice-aggregate-whole-3 c = search needs
+
 whole-requires : tie.Need-whole-requires
 whole-requires c κs = search needs
 
 mul-width : tie.Need-mul-width
 mul-width c =
-    let s = c .before .before .before .before .before .before .before .before .before .before .before .before .before .before .before .before in
+    let s = c .before .before .before .before .before .before .before .before .before .before .before .before .before .before .before .before .before .before in
     omega (arith, fits s)
 
 read-elements-requires : tie.Need-read-elements-requires
 read-elements-requires c κs =
     let p = c .before .before .before .before .before .before in
-    let s = p .before .before .before .before .before .before .before .before .before .before .before .before in
+    let s = p .before .before .before .before .before .before .before .before .before .before .before .before .before .before in
     let e = ap (λ (t : ℕ). t * (s .args .factor * (s .args .sew / 8))) (s .pre .1 .1 .1) in
-    (widths (s .args .sew) (s .args .factor) (s .pre .1 .0) .1, omega (arith, fits s, p .whole .kept .1 .1 .1 .1 .0))
+    (widths (s .args .sew) (s .args .factor) (s .pre .1 .0) .1, omega (arith, fits s, p .whole .kept .1 .1 .1 .1 .1 .0))
 
 same-length : tie.Need-same-length
 same-length c = search needs
@@ -55,14 +62,14 @@ returns : tie.Need-returns
 returns c =
     let r = c .before .before in
     let p = r .before .before .before .before .before .before .before in
-    let q = p .before .before .before .before in
+    let q = p .before .before .before .before .before in
     let t = q .before .before .before in
-    let s = t .before .before .before .before .before in
+    let s = t .before .before .before .before .before .before in
     let a = s .args in
     multiplied (a .sew) (a .factor) (a .m) (a .k) (a .n) (s .pre .1 .0) (s .pre .0 .0) (s .pre .0 .1 .0) (s .pre .0 .1 .1)
-    (t .start .result) (t .start .last .1 .1 .1 .1 .1 .1 .1 .0) (a .memory .now) (t .start .ensures) (s .pre .1 .1 .0)
+    (t .start .result) (t .start .last .1 .1 .1 .1 .1 .1 .0) (a .memory .now) (t .start .ensures) (s .pre .1 .1 .0)
     (q .plan-for .result) (q .plan-for .ensures)
-    (finishedAs (p .whole .result) (p .whole .last .1 .1 .0) (p .whole .last .1 .1 .1 .0) (p .whole .last .1 .1 .1 .1 .0)) (p .whole .ensures .1)
+    (finishedAs (p .whole .result) (sealsIn none) (p .whole .last .1 .1 .1 .0) (p .whole .last .1 .1 .1 .1 .0) (p .whole .last .1 .1 .1 .1 .1 .0)) (p .whole .ensures .1)
     (r .read-elements .last .0) (λ j l. r .read-elements .ensures .1 j (omega arith))
 
 pub multiply-spec : {M : Type 1} → statement M
@@ -71,10 +78,12 @@ multiply-spec =
     (tie.spec
     slice-aggregate-start
     slice-aggregate-start-2
+    slice-aggregate-start-3
     start-requires
     plan-for-requires
     slice-aggregate-whole
     slice-aggregate-whole-2
+    slice-aggregate-whole-3
     whole-requires
     mul-width
     read-elements-requires

@@ -20,7 +20,7 @@ found : (s : tie.Start) {q : Place} → s .args .place ≡ q → soundRun chosen
 found s e = subst (λ (q : Place). soundRun chosen (atPlace (s .args .run) q) ≡ true) e (s .pre .1)
 
 returns : tie.Need-returns
-returns c = let s = c .before .before .before .before in (none-taken _ _ (s .pre .1) (s .pre .0), omega arith)
+returns c = let s = c .before .before .before .before in (λ seals fit. none-taken (s .pre .1) (s .pre .0) fit, omega arith)
 
 enum-known-place : tie.Need-enum-known-place
 enum-known-place c = search needs
@@ -61,16 +61,16 @@ returns-2 : tie.Need-returns-2
 returns-2 c =
     let w = c .before .before .before .before .take-sums in
     let a = c .before .before .before .before .before .before .before .before .before .before .before .before .before .before .before .before .before .before .before .before .args in
-    (taken-from (ap (λ (q : Place). running (atPlace (a .run) q) (benchOf (a .m) (a .registers .now) (a .marks .now) (a .memory .now))) (sym (c .before .before .before .before .before .before .before .before .before .before .before .before .before .before .place .given .1))) (w .ensures .0), w .ensures .1)
+    (λ seals fit. taken-from (ap (λ (q : Place). running (atPlace (a .run) q) (benchOf (a .m) seals (a .registers .now) (a .marks .now) (a .memory .now))) (sym (c .before .before .before .before .before .before .before .before .before .before .before .before .before .before .place .given .1))) (w .ensures .0 seals fit), w .ensures .1)
 
 same-length-3 : tie.Need-same-length-3
 same-length-3 c = search needs
 
 returns-3 : tie.Need-returns-3
-returns-3 c = let s = c .before .before .before .before .before .before .before .before .before .before .before .before .before in (none-taken _ _ (s .pre .1) (s .pre .0), omega arith)
+returns-3 c = let s = c .before .before .before .before .before .before .before .before .before .before .before .before .before in (λ seals fit. none-taken (s .pre .1) (s .pre .0) fit, omega arith)
 
 returns-4 : tie.Need-returns-4
-returns-4 c = let s = c .before .before .before .before .before in (none-taken _ _ (s .pre .1) (s .pre .0), omega arith)
+returns-4 c = let s = c .before .before .before .before .before in (λ seals fit. none-taken (s .pre .1) (s .pre .0) fit, omega arith)
 
 pub sums-from-spec : {M : Type 1} → statement M
 sums-from-spec =

@@ -1,28 +1,30 @@
 use mathlib.Core.Path.{_≡_, refl, sym, _∙_}
 use mathlib.Core.Bool.{true, false}
+use mathlib.Core.List.{List, []}
 use Prim.Native.Nat.{_-_}
 use native.Mathlib.Omega.{arith}
 use borrow.Author.Tests.{not-true, not-false}
 use Rattle.machine.specs.Answers.{isDone}
-use Rattle.machine.specs.Geometry.{benchOf}
+use Rattle.machine.specs.Geometry.{Range, benchOf}
+use Rattle.machine.specs.Faults.{sealsFit}
 use Rattle.settings.proofs.FaultLaws.{ready}
 use Rattle.run.specs.declared.Place.the-variants.{AtK, AtA, AtB}
 use Rattle.run.specs.Turn.{Running, running}
 use Rattle.run_places.specs.Parts.{atPlace}
-use Rattle.carrying.proofs.SumsLaws.{steady-sized, still-steady, sums-answered, sums-multiply}
+use Rattle.carrying.proofs.SumsLaws.{none-fit, steady-sized, still-steady, sums-answered, sums-multiply}
 use Rattle.turn.specs.Parts.{Taking}
-use Rattle.turn.proofs.ProgressLaws.{word-kept, word-taken, taken-as}
+use Rattle.turn.proofs.ProgressLaws.{word-kept, word-taken, taken-sane, taken-as}
 use Rattle.turn.proofs.StepLaws.{here-planned, here-placed, here-small, set-taken}
 use borrow.Author.Needs.{needs}
 use Rattle.turn.proofs.take_loads.Statement.{statement}
 use Rattle.turn.proofs.take_loads.Tie as tie
 
-abbrev from : tie.Start → Running
-from s = let a = s .args in running (atPlace (a .run) (AtK (a .row) (a .column) (a .term))) (benchOf (a .m) (a .registers .now) (a .marks .now) (a .memory .now))
+abbrev from : tie.Start → List Range → Running
+from s seals = let a = s .args in running (atPlace (a .run) (AtK (a .row) (a .column) (a .term))) (benchOf (a .m) seals (a .registers .now) (a .marks .now) (a .memory .now))
 
 -- k is set
 set : (c : tie.After-sized) → let s = c .before .before .before .before .before .before in let a = s .args in
-    Taking (from s) 1 (atPlace (a .run) (AtA (a .row) (a .column) (a .term))) (benchOf (c .sized .result) (a .registers .now) (a .marks .now) (a .memory .now))
+    (seals : List Range) → sealsFit seals ≡ true → Taking (from s seals) 1 (atPlace (a .run) (AtA (a .row) (a .column) (a .term))) (benchOf (c .sized .result) seals (a .registers .now) (a .marks .now) (a .memory .now))
 set c =
     let s = c .before .before .before .before .before .before in
     let a = s .args in
@@ -33,8 +35,8 @@ yes-a : (c : tie.Else1) → isDone (c .before .before .before .before .before .b
 yes-a c = sym (c .before .is-done .ensures) ∙ not-false (c .before .is-done .result) (c .if1 .left)
 
 loaded : (c : tie.Else1) → let w = c .before .before .before .before .before .before .load-a in let s = c .before .before .before .before .before .before .before .before .before .before .before .before .before .before .before in let a = s .args in
-    Taking (from s) 2 (atPlace (a .run) (AtB (a .row) (a .column) (a .term))) (benchOf (c .before .before .before .before .before .before .before .before .before .sized .result) (w .last .1 .1 .0) (w .last .1 .1 .1 .0) (a .memory .now))
-loaded c = let w = c .before .before .before .before .before .before .load-a in word-taken (set (c .before .before .before .before .before .before .before .before .before)) _ (w .ensures) (yes-a c) _ refl
+    (seals : List Range) → sealsFit seals ≡ true → Taking (from s seals) 2 (atPlace (a .run) (AtB (a .row) (a .column) (a .term))) (benchOf (c .before .before .before .before .before .before .before .before .before .sized .result) seals (w .last .1 .1 .0) (w .last .1 .1 .1 .0) (a .memory .now))
+loaded c seals fit = let w = c .before .before .before .before .before .before .load-a in word-taken (set (c .before .before .before .before .before .before .before .before .before) seals fit) _ (w .ensures seals fit) (yes-a c) _ refl
 
 sub-sized : tie.Need-sub-sized
 sub-sized c =
@@ -52,7 +54,7 @@ load-a-requires c κs =
     let s = c .before .before .before .before .before .before .before .before in
     let a = s .args in
     let b = here-placed (a .run) (a .row) (a .column) (a .term) (s .pre .1 .0) in
-    (set (c .before .before) .bench-sound, (here-planned (a .run) (a .row) (a .column) (a .term) (s .pre .1 .0), (b .0, omega (arith, b .2, here-small (a .run) (a .row) (a .column) (a .term) (s .pre .1 .0)))))
+    (taken-sane (set (c .before .before) [] none-fit), (here-planned (a .run) (a .row) (a .column) (a .term) (s .pre .1 .0), (b .0, omega (arith, b .2, here-small (a .run) (a .row) (a .column) (a .term) (s .pre .1 .0)))))
 
 is-done-requires : tie.Need-is-done-requires
 is-done-requires c κs = search needs
@@ -68,7 +70,7 @@ returns c =
     let w = c .before .before .before .before .before .before .load-a in
     let z = c .before .before .before .before .before .before .before .before .before in
     let no : isDone (w .result) ≡ false = sym (c .before .is-done .ensures) ∙ not-true (c .before .is-done .result) (c .if1 .taken) in
-    (taken-as refl refl (word-kept _ _ (set z .run-sound) _ (w .ensures) no) (set z), (omega arith, λ h. absurd (omega (arith, h))))
+    (λ seals fit. taken-as refl refl (word-kept _ _ (set z seals fit .run-sound) _ (w .ensures seals fit) no) (set z seals fit), (omega arith, λ h. absurd (omega (arith, h))))
 
 load-b-requires : tie.Need-load-b-requires
 load-b-requires c κs =
@@ -76,7 +78,7 @@ load-b-requires c κs =
     let s = c .before .before .before .before .before .before .before .before .before .before .before .before .before .before .before .before .before in
     let a = s .args in
     let b = here-placed (a .run) (a .row) (a .column) (a .term) (s .pre .1 .0) in
-    (loaded e .bench-sound, (here-planned (a .run) (a .row) (a .column) (a .term) (s .pre .1 .0), (omega (arith, b .2, here-small (a .run) (a .row) (a .column) (a .term) (s .pre .1 .0)), b .1)))
+    (taken-sane (loaded e [] none-fit), (here-planned (a .run) (a .row) (a .column) (a .term) (s .pre .1 .0), (omega (arith, b .2, here-small (a .run) (a .row) (a .column) (a .term) (s .pre .1 .0)), b .1)))
 
 is-done-requires-2 : tie.Need-is-done-requires-2
 is-done-requires-2 c κs = search needs
@@ -92,7 +94,7 @@ returns-2 c =
     let w = c .before .before .before .before .before .before .load-b in
     let e = c .before .before .before .before .before .before .before .before .before in
     let no : isDone (w .result) ≡ false = sym (c .before .is-done2 .ensures) ∙ not-true (c .before .is-done2 .result) (c .if2 .taken) in
-    (taken-as refl refl (word-kept _ _ (loaded e .run-sound) _ (w .ensures) no) (loaded e), (omega arith, λ h. absurd (omega (arith, h))))
+    (λ seals fit. taken-as refl refl (word-kept _ _ (loaded e seals fit .run-sound) _ (w .ensures seals fit) no) (loaded e seals fit), (omega arith, λ h. absurd (omega (arith, h))))
 
 same-length-5 : tie.Need-same-length-5
 same-length-5 c = search needs
@@ -112,19 +114,19 @@ returns-3 c =
     let m = z .sized .result in
     let ok = here-planned (a .run) (a .row) (a .column) (a .term) (s .pre .1 .0) in
     let yes : isDone (w .result) ≡ true = sym (c .before .is-done2 .ensures) ∙ not-false (c .before .is-done2 .result) (c .if2 .left) in
-    let t = word-taken (loaded e) _ (w .ensures) yes _ refl in
+    let t = taken-sane (word-taken (loaded e [] none-fit) _ (w .ensures [] none-fit) yes _ refl) in
     let h = steady-sized (a .m) (a .marks .now) (P .k - a .term) m (z .sized .ensures) P (s .pre .1 .1) in (
-      t,
+      λ seals fit. word-taken (loaded e seals fit) _ (w .ensures seals fit) yes _ refl,
       (
         omega arith,
         λ _. record {
           place-is = refl;
-          steady = still-steady P ok m (a .registers .now) (a .marks .now) (a .memory .now) (set z .bench-sound) h (a .row) (a .column) (a .term)
-              (v .result) _ _ (v .ensures) (yes-a e) (loaded e .bench-sound) (w .result) _ _ (w .ensures) yes (t .bench-sound);
-          multiplies = sums-multiply P ok m (a .registers .now) (a .marks .now) (a .memory .now) (set z .bench-sound) h (a .row) (a .column) (a .term)
-              (v .result) _ _ (v .ensures) (yes-a e) (loaded e .bench-sound) (w .result) _ _ (w .ensures) yes (t .bench-sound);
-          answered = sums-answered P ok m (a .registers .now) (a .marks .now) (a .memory .now) (set z .bench-sound) h (a .row) (a .column) (a .term)
-              (v .result) _ _ (v .ensures) (yes-a e) (loaded e .bench-sound) (w .result) _ _ (w .ensures) yes (t .bench-sound) (a .memory .now);
+          steady = still-steady P ok m (a .registers .now) (a .marks .now) (a .memory .now) (taken-sane (set z [] none-fit)) h (a .row) (a .column) (a .term)
+              (v .result) _ _ (v .ensures) (yes-a e) (taken-sane (loaded e [] none-fit)) (w .result) _ _ (w .ensures) yes t;
+          multiplies = sums-multiply P ok m (a .registers .now) (a .marks .now) (a .memory .now) (taken-sane (set z [] none-fit)) h (a .row) (a .column) (a .term)
+              (v .result) _ _ (v .ensures) (yes-a e) (taken-sane (loaded e [] none-fit)) (w .result) _ _ (w .ensures) yes t;
+          answered = sums-answered P ok m (a .registers .now) (a .marks .now) (a .memory .now) (taken-sane (set z [] none-fit)) h (a .row) (a .column) (a .term)
+              (v .result) _ _ (v .ensures) (yes-a e) (taken-sane (loaded e [] none-fit)) (w .result) _ _ (w .ensures) yes t (a .memory .now);
         },
       ),
     )

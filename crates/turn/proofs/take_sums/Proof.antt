@@ -1,8 +1,11 @@
 use mathlib.Core.Path.{_≡_, refl, ap, _∙_}
+use mathlib.Core.Bool.{true}
+use mathlib.Core.List.{List, []}
 use Prim.Native.Nat.{ℕ, _+_, _-_, _≤_}
 use native.Mathlib.Omega.{arith}
 use lib.ListN.{length}
-use Rattle.machine.specs.Geometry.{benchOf}
+use Rattle.machine.specs.Geometry.{Range, benchOf}
+use Rattle.machine.specs.Faults.{sealsFit}
 use Rattle.machine.specs.Setting.{chosen}
 use Rattle.run.specs.declared.Place.{Place}
 use Rattle.run.specs.declared.Place.the-variants.{AtK}
@@ -10,8 +13,9 @@ use Rattle.run.specs.Places.{headK}
 use Rattle.run.specs.Turn.{runShape, running}
 use Rattle.run_places.specs.Parts.{atPlace}
 use Rattle.carrying.specs.Parts.{Steady}
+use Rattle.carrying.proofs.SumsLaws.{none-fit}
 use Rattle.turn.specs.Parts.{Taking}
-use Rattle.turn.proofs.ProgressLaws.{none-taken, more-taken}
+use Rattle.turn.proofs.ProgressLaws.{none-taken, more-taken, taken-sane}
 use Rattle.turn.proofs.StepLaws.{here-numbered, here-planned, here-placed, head-next, head-past, multiply-taken}
 use borrow.Author.Needs.{needs}
 use Rattle.turn.proofs.take_sums.Statement.{statement}
@@ -20,7 +24,8 @@ use Rattle.turn.proofs.take_sums.Tie as tie
 -- every turn so far was answered 0, and the multiplies to come ask only for their sources
 abbrev Inv-loop : tie.InvT-loop
 Inv-loop limit run registers₀ marks₀ memory row column from plan terms term₀ machine₀ count₀ registers marks term machine count =
-    (count ≤ limit) × (Taking (running (atPlace run (AtK row column from)) (benchOf machine₀ registers₀ marks₀ memory)) count (atPlace run (AtK row column term)) (benchOf machine registers marks memory))
+    (count ≤ limit)
+    × ((seals : List Range) → sealsFit seals ≡ true → Taking (running (atPlace run (AtK row column from)) (benchOf machine₀ seals registers₀ marks₀ memory)) count (atPlace run (AtK row column term)) (benchOf machine seals registers marks memory))
     × (Steady (run .plan) machine marks) × (terms ≡ runShape chosen run .tk) × (length registers ≡ length registers₀) × (length marks ≡ length marks₀)
 
 abbrev μ-loop : tie.MeasureT-loop
@@ -30,13 +35,13 @@ most-terms-requires : tie.Need-most-terms-requires Inv-loop μ-loop
 most-terms-requires c κs = let s = c .before .before .before .before in here-numbered (s .args .run) (s .args .row) (s .args .column) (s .args .from) (s .pre .1 .0)
 
 loop-holds : tie.Need-loop-holds Inv-loop μ-loop
-loop-holds c = let s = c .before .before .before .before .before in (omega arith, none-taken _ _ (s .pre .1 .0) (s .pre .0), s .pre .1 .1, c .most-terms .ensures, refl, refl)
+loop-holds c = let s = c .before .before .before .before .before in (omega arith, λ seals fit. none-taken (s .pre .1 .0) (s .pre .0) fit, s .pre .1 .1, c .most-terms .ensures, refl, refl)
 
 sub-loop : tie.Need-sub-loop Inv-loop μ-loop
 sub-loop c = omega (arith, c .loop .inv .0)
 
 take-loads-requires : tie.Need-take-loads-requires Inv-loop μ-loop
-take-loads-requires c κs = let l = c .before .before .before .loop in (l .inv .1 .bench-sound, (l .inv .1 .run-sound, l .inv .2))
+take-loads-requires c κs = let l = c .before .before .before .loop in (taken-sane (l .inv .1 [] none-fit), (l .inv .1 [] none-fit .run-sound, l .inv .2))
 
 add-t23 : tie.Need-add-t23 Inv-loop μ-loop
 add-t23 c = omega (arith, c .before .before .before .before .before .before .before .before .before .before .before .before .loop .inv .0, c .before .before .before .before .before .before .before .before .before .before .before .loop-test .taken, c .before .before .before .before .before .before .before .before .take-loads .ensures .1 .0, c .before .before .before .before .before .before .before .before .before .before .before .before .before .before .before .before .before .before .fits .limit)
@@ -51,20 +56,20 @@ returns : tie.Need-returns Inv-loop μ-loop
 returns c =
     let w = c .before .before .before .before .before .before .before .before .take-loads in
     let l = c .before .before .before .before .before .before .before .before .before .before .before .before .loop in
-    (more-taken (l .inv .1) (w .ensures .0), omega (arith, l .inv .0, c .before .before .before .before .before .before .before .before .before .before .before .loop-test .taken, w .ensures .1 .0))
+    (λ seals fit. more-taken (l .inv .1 seals fit) (w .ensures .0 seals fit), omega (arith, l .inv .0, c .before .before .before .before .before .before .before .before .before .before .before .loop-test .taken, w .ensures .1 .0))
 
 multiply-written-requires : tie.Need-multiply-written-requires Inv-loop μ-loop
 multiply-written-requires c κs =
     let w = c .before .before .before .before .before .before .before .before .take-loads in
     let l = c .before .before .before .before .before .before .before .before .before .before .before .before .loop in
     let a = c .before .before .before .before .before .before .before .before .before .before .before .before .before .before .before .before .before .before .args in
-    (here-planned (a .run) (a .row) (a .column) (l .term) (l .inv .1 .run-sound), w .ensures .1 .1 (c .before .if1 .left) .multiplies)
+    (here-planned (a .run) (a .row) (a .column) (l .term) (l .inv .1 [] none-fit .run-sound), w .ensures .1 .1 (c .before .if1 .left) .multiplies)
 
 block-end-requires : tie.Need-block-end-requires Inv-loop μ-loop
 block-end-requires c κs =
     let l = c .before .before .before .before .before .before .before .before .before .before .before .before .before .before .before .loop in
     let a = c .before .before .before .before .before .before .before .before .before .before .before .before .before .before .before .before .before .before .before .before .before .args in
-    here-placed (a .run) (a .row) (a .column) (l .term) (l .inv .1 .run-sound) .2
+    here-placed (a .run) (a .row) (a .column) (l .term) (l .inv .1 [] none-fit .run-sound) .2
 
 add-count : tie.Need-add-count Inv-loop μ-loop
 add-count c = omega (arith, c .before .before .before .before .before .before .before .before .before .before .before .before .before .before .before .before .loop .inv .0, c .before .before .before .before .before .before .before .before .before .before .before .before .before .before .before .loop-test .taken, c .before .before .before .before .before .before .before .before .before .before .before .before .before .before .before .before .before .before .before .before .before .before .fits .limit)
@@ -78,9 +83,9 @@ same-length-4 c = search needs
 -- a step over k has been taken, and the place is that after it
 step : (c : tie.After-block-end Inv-loop μ-loop) → let w = c .before .before .before .before .before .before .before .before .before .before .before .before .take-loads in let l = c .before .before .before .before .before .before .before .before .before .before .before .before .before .before .before .before .loop in let a = c .before .before .before .before .before .before .before .before .before .before .before .before .before .before .before .before .before .before .before .before .before .before .args in
     (q : Place) → q ≡ headK (runShape chosen (a .run)) (a .row) (a .column) (c .block-end .result)
-    → Taking (running (atPlace (a .run) (AtK (a .row) (a .column) (a .from))) (benchOf (a .m) (a .registers .now) (a .marks .now) (a .memory .now))) (l .count + 4)
-    (atPlace (a .run) q) (benchOf (w .result .machine) (c .before .before .before .multiply-written .last .1 .1 .0) (w .last .1 .1 .1 .0) (a .memory .now))
-step c q eq =
+    → (seals : List Range) → sealsFit seals ≡ true → Taking (running (atPlace (a .run) (AtK (a .row) (a .column) (a .from))) (benchOf (a .m) seals (a .registers .now) (a .marks .now) (a .memory .now))) (l .count + 4)
+    (atPlace (a .run) q) (benchOf (w .result .machine) seals (c .before .before .before .multiply-written .last .1 .1 .0) (w .last .1 .1 .1 .0) (a .memory .now))
+step c q eq seals fit =
     let w = c .before .before .before .before .before .before .before .before .before .before .before .before .take-loads in
     let l = c .before .before .before .before .before .before .before .before .before .before .before .before .before .before .before .before .loop in
     let a = c .before .before .before .before .before .before .before .before .before .before .before .before .before .before .before .before .before .before .before .before .before .before .args in
@@ -89,8 +94,8 @@ step c q eq =
     let h = w .ensures .1 .1 left in
     let three : w .result .count ≡ 3 = omega (arith, w .ensures .1 .0, left) in
     let at = c .block-end .ensures ∙ ap (λ (most : ℕ). l .term + chosen (R .rule) most (R .plan .k - l .term)) (l .inv .3) in
-    multiply-taken R (a .row) (a .column) (l .term) (benchOf (l .machine) (l .registers) (l .marks) (a .memory .now)) (l .inv .1) (w .result .count) (w .result .place) (w .result .machine) _ _ _
-    (w .ensures .0) three h _ (c .before .before .before .multiply-written .ensures _ _ (w .ensures .0 .bench-sound) (h .answered)) q (eq ∙ ap (headK (runShape chosen R) (a .row) (a .column)) at)
+    multiply-taken R (a .row) (a .column) (l .term) (benchOf (l .machine) seals (l .registers) (l .marks) (a .memory .now)) (l .inv .1 seals fit) (w .result .count) (w .result .place) (w .result .machine) seals _ _ _
+    (w .ensures .0 seals fit) three h _ (c .before .before .before .multiply-written .ensures seals _ _ (taken-sane (w .ensures .0 seals fit)) fit (h .answered seals fit)) q (eq ∙ ap (headK (runShape chosen R) (a .row) (a .column)) at)
 
 returns-2 : tie.Need-returns-2 Inv-loop μ-loop
 returns-2 c =

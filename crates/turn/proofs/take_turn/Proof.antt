@@ -3,6 +3,7 @@ use mathlib.Core.Bool.{true, false}
 use borrow.Author.Tests.{not-true, not-false}
 use Rattle.machine.specs.Answers.{isDone}
 use Rattle.machine.specs.Geometry.{benchOf}
+use Rattle.ranges.specs.Ranges.{sealsIn}
 use Rattle.settings.proofs.FaultLaws.{sound-numbers}
 use Rattle.run.specs.Turn.{running}
 use Rattle.run_places.specs.Parts.{atPlace}
@@ -31,20 +32,20 @@ same-length-3 c = search needs
 returns : tie.Need-returns
 returns c =
     let w = c .before .before .before .before .before .before .before .before .carry-out in
-    let s = c .before .before .before .before .before .before .before .before .before .before .before .before .before .before .before in
+    let s = c .before .before .before .before .before .before .before .before .before .before .before .before .before .before .before .before in
     let a = s .args in
     let R = a .run in
-    let B = benchOf (a .m) (a .registers .now) (a .marks .now) (a .memory .now) in
+    let B = benchOf (a .m) (sealsIn (a .seals .now)) (a .registers .now) (a .marks .now) (a .memory .now) in
     let no : isDone (w .result) ≡ false = sym (c .before .is-done .ensures) ∙ not-true (c .before .is-done .result) (c .if1 .taken) in
-    turn-kept (running R B) _ (turn-carried R B (s .pre .1) _ (w .ensures) false no) no
+    turn-kept (running R B) _ (turn-carried R B (s .pre .1 .0) _ (w .ensures) false no) no
 
 next-place-requires : tie.Need-next-place-requires
 next-place-requires c κs = search needs
 
 machine-after-requires : tie.Need-machine-after-requires
 machine-after-requires c κs =
-    let s = c .before .before .before .before .before .before .before .before .before .before .before .before .before .before .before .before in
-    (sound-numbers (s .args .m) (s .args .registers .now) (s .args .marks .now) (s .pre .0), s .pre .1)
+    let s = c .before .before .before .before .before .before .before .before .before .before .before .before .before .before .before .before .before in
+    (sound-numbers (s .args .m) (s .args .registers .now) (s .args .marks .now) (s .pre .0), s .pre .1 .0)
 
 same-length-4 : tie.Need-same-length-4
 same-length-4 c = search needs
@@ -59,13 +60,13 @@ returns-2 : tie.Need-returns-2
 returns-2 c =
     let e = c .before .before in
     let w = c .before .before .before .before .before .before .before .before .before .before .carry-out in
-    let s = c .before .before .before .before .before .before .before .before .before .before .before .before .before .before .before .before .before in
+    let s = c .before .before .before .before .before .before .before .before .before .before .before .before .before .before .before .before .before .before in
     let a = s .args in
     let R = a .run in
-    let B = benchOf (a .m) (a .registers .now) (a .marks .now) (a .memory .now) in
+    let B = benchOf (a .m) (sealsIn (a .seals .now)) (a .registers .now) (a .marks .now) (a .memory .now) in
     let yes : isDone (w .result) ≡ true = sym (e .before .is-done .ensures) ∙ not-false (e .before .is-done .result) (e .if1 .left) in
-    let j = numbers-joined _ _ _ _ _ _ (c .machine-after .ensures (a .registers .now) (a .marks .now) (a .memory .now) (s .pre .0)) (w .ensures) in
-    turn-moved R B (s .pre .1) _ j yes _ (ap (atPlace R) (c .before .next-place .ensures))
+    let j = numbers-joined _ _ _ _ _ _ _ (c .machine-after .ensures (sealsIn (a .seals .now)) (a .registers .now) (a .marks .now) (a .memory .now) (s .pre .0) (s .pre .1 .1)) (w .ensures) in
+    turn-moved R B (s .pre .1 .0) _ j yes _ (ap (atPlace R) (c .before .next-place .ensures))
 
 pub take-turn-spec : {M : Type 1} → statement M
 take-turn-spec =

@@ -1,6 +1,10 @@
-use mathlib.Core.Path.{sym, _∙_}
+use mathlib.Core.Path.{_≡_, sym, _∙_}
+use mathlib.Core.Bool.{true}
 use borrow.Author.Tests.{not-true, not-false}
 use Rattle.machine.specs.Geometry.{benchOf}
+use Rattle.machine.specs.Faults.{soundBench}
+use Rattle.machine.proofs.NoFault.{bench-sound, bench-seals}
+use Rattle.ranges.specs.Ranges.{sealsIn}
 use Rattle.turn.proofs.TurnLaws.{turns-fault}
 use Rattle.turn.proofs.ProgressLaws.{turns-unsound, at-end}
 use borrow.Author.Needs.{needs}
@@ -19,8 +23,8 @@ same-length-2 c = search needs
 returns : tie.Need-returns
 returns c =
     let d = c .before in
-    let a = c .before .before .before .before .before .before .before .args in
-    turns-fault (a .run) (benchOf (a .m) (a .registers .now) (a .marks .now) (a .memory .now)) (a .limit) (sym (d .is-sound .ensures) ∙ not-true (d .is-sound .result) (c .if1 .taken))
+    let a = c .before .before .before .before .before .before .before .before .args in
+    turns-fault (a .run) (benchOf (a .m) (sealsIn (a .seals .now)) (a .registers .now) (a .marks .now) (a .memory .now)) (a .limit) (sym (d .is-sound .ensures) ∙ not-true (d .is-sound .result) (c .if1 .taken))
 
 is-sound-run-requires : tie.Need-is-sound-run-requires
 is-sound-run-requires c κs = search needs
@@ -34,14 +38,17 @@ same-length-4 c = search needs
 returns-2 : tie.Need-returns-2
 returns-2 c =
     let d = c .before in
-    let a = c .before .before .before .before .before .before .before .before .before .args in
-    turns-unsound (a .run) (benchOf (a .m) (a .registers .now) (a .marks .now) (a .memory .now)) (a .limit) (sym (d .is-sound-run .ensures) ∙ not-true (d .is-sound-run .result) (c .if2 .taken))
+    let a = c .before .before .before .before .before .before .before .before .before .before .args in
+    turns-unsound (a .run) (benchOf (a .m) (sealsIn (a .seals .now)) (a .registers .now) (a .marks .now) (a .memory .now)) (a .limit) (sym (d .is-sound-run .ensures) ∙ not-true (d .is-sound-run .result) (c .if2 .taken))
 
 take-turns-requires : tie.Need-take-turns-requires
 take-turns-requires c κs =
     let f = c .before .before .before in
     let e = f .before .before in
-    (sym (e .before .is-sound .ensures) ∙ not-false (e .before .is-sound .result) (e .if1 .left), sym (f .before .is-sound-run .ensures) ∙ not-false (f .before .is-sound-run .result) (f .if2 .left))
+    let a = e .before .before .before .before .before .before .before .before .args in
+    let B = benchOf (a .m) (sealsIn (a .seals .now)) (a .registers .now) (a .marks .now) (a .memory .now) in
+    let h : soundBench B ≡ true = sym (e .before .is-sound .ensures) ∙ not-false (e .before .is-sound .result) (e .if1 .left) in
+    (bench-sound B h, (sym (f .before .is-sound-run .ensures) ∙ not-false (f .before .is-sound-run .result) (f .if2 .left), bench-seals B h))
 
 at-place-requires : tie.Need-at-place-requires
 at-place-requires c κs = search needs

@@ -53,19 +53,19 @@ turn-requires c κs = search needs
 
 -- what the turn has left has the blocks' other numbers
 keeps : (t : tie.After-turn) →
-    let a = t .before .before .before .before .before .before .before .before .before .before .before .before .before .before .before .before .before .args in
+    let a = t .before .before .before .before .before .before .before .before .before .before .before .before .before .before .before .before .before .before .args in
     Kept (t .turn .result .machine) (machineOf (a .machine .now)) × RunKept (t .turn .result .run) (runOf (a .run .now))
 keeps t =
-    let m = t .before .before .before .before in
+    let m = t .before .before .before .before .before in
     let h = m .before .before in
     let a = h .before .before .before .before .before .before .before .before .before .before .before .args in
     turn-keeps (a .run .now) (a .machine .now) (a .registers .now) (a .marks .now) (a .memory .now) (h .run-of .result) (m .machine-of .result) (t .turn .result)
-    (t .turn .last .1 .1 .0) (t .turn .last .1 .1 .1 .0) (t .turn .last .1 .1 .1 .1 .0) (h .run-of .ensures) (m .machine-of .ensures) (t .turn .ensures)
+    (t .turn .last .1 .1 .1 .0) (t .turn .last .1 .1 .1 .1 .0) (t .turn .last .1 .1 .1 .1 .1 .0) (h .run-of .ensures) (m .machine-of .ensures) (t .turn .ensures)
 
 put-place-requires : tie.Need-put-place-requires
 put-place-requires c κs =
     let t = c .before .before .before .before .before .before .before .before in
-    (fit-length (t .before .before .before .before .before .before .before .before .before .before .before .before .before .before .before .before .before .args .run .now) (fit (t .before .before .before .before .before .before .before .before .before)), keeps t .1)
+    (fit-length (t .before .before .before .before .before .before .before .before .before .before .before .before .before .before .before .before .before .before .args .run .now) (fit (t .before .before .before .before .before .before .before .before .before .before)), keeps t .1)
 
 put-state-requires : tie.Need-put-state-requires
 put-state-requires c κs = (search needs, keeps (c .before .before .before .before .before .before .before .before .before .before .before .before .before) .0)
@@ -93,14 +93,14 @@ returns-3 c =
     let x = c .before .before .before in
     let p = x .before .before .before .before .before in
     let t = p .before .before .before .before .before .before .before .before .before in
-    let m = t .before .before .before .before in
+    let m = t .before .before .before .before .before in
     let h = m .before .before in
     let l = h .before .before in
     let e = l .before in
     let a = e .before .before .before .before .before .before .before .before .args in
     turn-shown (a .run .now) (a .machine .now) (a .registers .now) (a .marks .now) (a .memory .now)
     (h .run-of .result) (m .machine-of .result) (t .turn .result)
-    (p .put-place .last .0) (x .put-state .last .0) (t .turn .last .1 .1 .0) (t .turn .last .1 .1 .1 .0) (t .turn .last .1 .1 .1 .1 .0) (c .packed3 .result)
+    (p .put-place .last .0) (x .put-state .last .0) (t .turn .last .1 .1 .1 .0) (t .turn .last .1 .1 .1 .1 .0) (t .turn .last .1 .1 .1 .1 .1 .0) (c .packed3 .result)
     (blocks-fit (a .run .now) (a .machine .now) (fit e) (l .if2 .left))
     (h .run-of .ensures) (m .machine-of .ensures) (t .turn .ensures) (p .put-place .ensures) (x .put-state .ensures) (c .packed3 .ensures)
 

@@ -45,7 +45,7 @@ turns-requires : tie.Need-turns-requires
 turns-requires c κs = search needs
 
 put-run-requires : tie.Need-put-run-requires
-put-run-requires c κs = fit-length (c .before .before .before .before .before .before .before .before .before .before .before .before .before .before .before .before .before .before .before .before .before .before .before .before .before .args .run .now) (fit (c .before .before .before .before .before .before .before .before .before .before .before .before .before .before .before .before .before))
+put-run-requires c κs = fit-length (c .before .before .before .before .before .before .before .before .before .before .before .before .before .before .before .before .before .before .before .before .before .before .before .before .before .before .args .run .now) (fit (c .before .before .before .before .before .before .before .before .before .before .before .before .before .before .before .before .before .before))
 
 put-machine-requires : tie.Need-put-machine-requires
 put-machine-requires c κs = search needs
@@ -70,14 +70,14 @@ returns-3 c =
     let x = c .before .before in
     let p = x .before .before .before .before .before in
     let t = p .before .before .before .before .before .before .before .before .before in
-    let m = t .before .before .before .before in
+    let m = t .before .before .before .before .before in
     let h = m .before .before in
     let l = h .before .before in
     let e = l .before in
     let a = e .before .before .before .before .before .before .before .before .args in
     turns-shown (a .run .now) (a .machine .now) (a .registers .now) (a .marks .now) (a .memory .now) (a .turns)
     (h .run-of .result) (m .machine-of .result) (t .turns .result)
-    (p .put-run .last .0) (x .put-machine .last .0) (t .turns .last .1 .1 .1 .0) (t .turns .last .1 .1 .1 .1 .0) (t .turns .last .1 .1 .1 .1 .1 .0)
+    (p .put-run .last .0) (x .put-machine .last .0) (t .turns .last .1 .1 .1 .1 .0) (t .turns .last .1 .1 .1 .1 .1 .0) (t .turns .last .1 .1 .1 .1 .1 .1 .0)
     (blocks-fit (a .run .now) (a .machine .now) (fit e) (l .if2 .left))
     (h .run-of .ensures) (m .machine-of .ensures) (t .turns .ensures) (p .put-run .ensures) (x .put-machine .ensures)
 

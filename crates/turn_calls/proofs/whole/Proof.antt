@@ -52,12 +52,12 @@ returns-3 : tie.Need-returns-3
 returns-3 c =
     let d = c .before .before in
     let s = d .before .before .before .before .before .before .before in
-    let m = s .before .before .before .before in
+    let m = s .before .before .before .before .before in
     let l = m .before .before in
     let a = l .before .before .before .before .before .before .before .args in
     run-shown (a .plan) (a .machine .now) (a .registers .now) (a .marks .now) (a .memory .now) (a .steps .now)
     false (m .machine-of .result) (s .whole .result)
-    (a .machine .now) (s .whole .last .1 .1 .0) (s .whole .last .1 .1 .1 .0) (s .whole .last .1 .1 .1 .1 .0) (a .steps .now) (c .packed3 .result)
+    (a .machine .now) (s .whole .last .1 .1 .1 .0) (s .whole .last .1 .1 .1 .1 .0) (s .whole .last .1 .1 .1 .1 .1 .0) (a .steps .now) (c .packed3 .result)
     (l .before .if1 .left) (l .if2 .left) (m .machine-of .ensures) (s .whole .ensures .0)
     (sym (d .is-done .ensures) ∙ not-true (d .is-done .result) (c .before .if3 .taken)) refl refl (c .packed3 .ensures)
 
@@ -93,12 +93,12 @@ returns-4 c =
     let i = x .before .before .before in
     let d = i .before in
     let s = d .before .before .before .before .before .before .before in
-    let m = s .before .before .before .before in
+    let m = s .before .before .before .before .before in
     let l = m .before .before in
     let a = l .before .before .before .before .before .before .before .args in
     run-shown (a .plan) (a .machine .now) (a .registers .now) (a .marks .now) (a .memory .now) (a .steps .now)
     true (m .machine-of .result) (s .whole .result)
-    (x .put-machine .last .0) (s .whole .last .1 .1 .0) (s .whole .last .1 .1 .1 .0) (s .whole .last .1 .1 .1 .1 .0) (w .write8 .last .0) (c .packed4 .result)
+    (x .put-machine .last .0) (s .whole .last .1 .1 .1 .0) (s .whole .last .1 .1 .1 .1 .0) (s .whole .last .1 .1 .1 .1 .1 .0) (w .write8 .last .0) (c .packed4 .result)
     (l .before .if1 .left) (l .if2 .left) (m .machine-of .ensures) (s .whole .ensures .0)
     (sym (d .is-done .ensures) ∙ not-false (d .is-done .result) (i .if3 .left)) (x .put-machine .ensures) (w .write8 .ensures) (c .packed4 .ensures)
 

@@ -2,6 +2,7 @@ use mathlib.Core.Path.{sym, _∙_}
 use native.Mathlib.Omega.{arith}
 use borrow.Author.Tests.{not-true, not-false}
 use Rattle.machine.specs.Geometry.{Bench, benchOf}
+use Rattle.ranges.specs.Ranges.{sealsIn}
 use Rattle.run.specs.Statement.{Bytes}
 use Rattle.whole.proofs.WholeLaws.{finishes-refused, finishes-done}
 use borrow.Author.Needs.{needs}
@@ -10,9 +11,9 @@ use Rattle.whole.proofs.whole.Tie as tie
 
 -- what the run is lent, and that its memory holds bytes
 abbrev bench : tie.Start → Bench
-bench s = let a = s .args in benchOf (a .m) (a .registers .now) (a .marks .now) (a .memory .now)
+bench s = let a = s .args in benchOf (a .m) (sealsIn (a .seals .now)) (a .registers .now) (a .marks .now) (a .memory .now)
 
-bytes : (c : tie.After-slice-known3) → Bytes (bench (c .before .before .before) .memory)
+bytes : (c : tie.After-slice-known3) → Bytes (bench (c .before .before .before .before) .memory)
 bytes c = record { below = λ q. omega (arith, c .slice-known3 .given q); addressed = omega arith }
 
 start-requires : tie.Need-start-requires
@@ -35,7 +36,7 @@ returns c =
     let d = c .before in
     let e = d .before in
     let s = e .before .before .before .before in
-    finishes-refused (s .before .before .before .args .plan) (bench (s .before .before .before)) (bytes s) (e .start .result) (e .start .ensures)
+    finishes-refused (s .before .before .before .before .args .plan) (bench (s .before .before .before .before)) (bytes s) (e .start .result) (e .start .ensures)
     (sym (d .is-done .ensures) ∙ not-true (d .is-done .result) (c .if1 .taken))
 
 turns-requires : tie.Need-turns-requires
@@ -57,7 +58,7 @@ returns-2 c =
     let d = i .before in
     let e = d .before in
     let s = e .before .before .before .before in
-    finishes-done (s .before .before .before .args .plan) (bench (s .before .before .before)) (bytes s) (e .start .result) (e .start .ensures)
+    finishes-done (s .before .before .before .before .args .plan) (bench (s .before .before .before .before)) (bytes s) (e .start .result) (e .start .ensures)
     (sym (d .is-done .ensures) ∙ not-false (d .is-done .result) (i .if1 .left)) _ (t .turns .ensures)
 
 pub whole-spec : {M : Type 1} → statement M

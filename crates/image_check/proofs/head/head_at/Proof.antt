@@ -37,8 +37,8 @@ returns c =
 enum-known-mtype : tie.Need-enum-known-mtype
 enum-known-mtype c = search needs
 
-seal-at-requires : tie.Need-seal-at-requires
-seal-at-requires c κs = search needs
+seals-at-requires : tie.Need-seals-at-requires
+seals-at-requires c κs = search needs
 
 enum-known-p-2 : tie.Need-enum-known-p-2
 enum-known-p-2 c = search needs
@@ -55,10 +55,10 @@ returns-2 c =
     let t = u .before .before in
     let o = t .before in
     let w = o .before in
-    rw (← w .power .ensures, ← o .power2 .ensures, sym (t .tiles-at .ensures) ∙ u .mtype .given .1, sym (e .seal-at .ensures) ∙ k .p2 .given .1) (c .bad-head2 .ensures)
+    rw (← w .power .ensures, ← o .power2 .ensures, sym (t .tiles-at .ensures) ∙ u .mtype .given .1, sym (e .seals-at .ensures) ∙ k .p2 .given .1) (c .bad-head2 .ensures)
 
-enum-known-seal-start : tie.Need-enum-known-seal-start
-enum-known-seal-start c = search needs
+enum-known-seals : tie.Need-enum-known-seals
+enum-known-seals c = search needs
 
 power-requires-3 : tie.Need-power-requires-3
 power-requires-3 c κs = search needs
@@ -88,7 +88,7 @@ returns-3 c =
     let t = u .before .before in
     let o = t .before in
     let w = o .before in
-    rw (c .power6 .ensures, l .power5 .ensures, r .power4 .ensures, n .number-from .ensures, q .power3 .ensures, ← w .power .ensures, ← o .power2 .ensures, sym (t .tiles-at .ensures) ∙ u .mtype .given .1, sym (e .seal-at .ensures) ∙ k .seal-start .given .1)
+    rw (c .power6 .ensures, l .power5 .ensures, r .power4 .ensures, n .number-from .ensures, q .power3 .ensures, ← w .power .ensures, ← o .power2 .ensures, sym (t .tiles-at .ensures) ∙ u .mtype .given .1, sym (e .seals-at .ensures) ∙ k .seals .given .1)
 
 pub head-at-spec : {M : Type 1} → statement M
 head-at-spec =
@@ -103,11 +103,11 @@ head-at-spec =
     bad-head-requires
     returns
     enum-known-mtype
-    seal-at-requires
+    seals-at-requires
     enum-known-p-2
     bad-head-requires-2
     returns-2
-    enum-known-seal-start
+    enum-known-seals
     power-requires-3
     number-from-requires
     power-requires-4

@@ -21,15 +21,15 @@ returns c =
     let f = k .before .before in
     rw (sym (f .shape-of .ensures) ∙ k .p .given .1) (c .bad-head .ensures)
 
-enum-known-rlen : tie.Need-enum-known-rlen
-enum-known-rlen c = search needs
+enum-known-version : tie.Need-enum-known-version
+enum-known-version c = search needs
 
 head-at-requires : tie.Need-head-at-requires
 head-at-requires c κs =
     let k = c .before in
     let f = k .before .before in
-    let g = k .rlen .given .0 in
-    let sh = shape-known (f .before .before .args .s .now) (g .0) (g .1 .0) (g .1 .1 .0) (g .1 .1 .1 .0) (g .1 .1 .1 .1 .0) (sym (f .shape-of .ensures) ∙ k .rlen .given .1) in
+    let g = k .version .given .0 in
+    let sh = shape-known (f .before .before .args .s .now) (g .0) (g .1 .0) (g .1 .1 .0) (g .1 .1 .1 .0) (g .1 .1 .1 .1 .0) (g .1 .1 .1 .1 .1 .0) (sym (f .shape-of .ensures) ∙ k .version .given .1) in
     (sh .elen-ok, (sh .rlen-ok, sh .mlen-ok))
 
 returns-2 : tie.Need-returns-2
@@ -37,7 +37,7 @@ unfolding headIn
 returns-2 c =
     let k = c .before .before in
     let f = k .before .before in
-    rw (sym (f .shape-of .ensures) ∙ k .rlen .given .1) (c .head-at .ensures)
+    rw (sym (f .shape-of .ensures) ∙ k .version .given .1) (c .head-at .ensures)
 
 pub head-of-spec : {M : Type 1} → statement M
 head-of-spec =
@@ -47,6 +47,6 @@ head-of-spec =
     enum-known-p
     bad-head-requires
     returns
-    enum-known-rlen
+    enum-known-version
     head-at-requires
     returns-2)

@@ -37,7 +37,7 @@ returns : tie.Need-returns
 returns c =
     let s = c .before .before .before .before .before in
     let a = s .args in
-    arithmetic-refused (a .m) (a .registers .now) (a .marks .now) (s .pre .0) (Operation.combine (a .sum) (times (a .factor)) (a .md) (a .ms1)) (c .before .before .check-combine .result) (c .before .before .check-combine .ensures)
+    arithmetic-refused (a .m) (a .registers .now) (a .marks .now) (s .pre .0) (Operation.combine (a .sum) (times (a .factor)) (a .md) (a .ms1)) (c .before .before .check-combine .result) (λ z. c .before .before .check-combine .ensures)
     (sym (c .before .is-done .ensures) ∙ not-true (c .before .is-done .result) (c .if1 .taken))
 
 factor-of-requires : tie.Need-factor-of-requires

@@ -25,7 +25,7 @@ returns : tie.Need-returns
 returns c =
     let s = c .before .before .before .before .before in
     let a = s .args in
-    arithmetic-refused (a .m) (a .registers .now) (a .marks .now) (s .pre .0) (Operation.floatMultiply (a .md) (a .ms1) (a .ms2)) (c .before .before .check-float .result) (c .before .before .check-float .ensures)
+    arithmetic-refused (a .m) (a .registers .now) (a .marks .now) (s .pre .0) (Operation.floatMultiply (a .md) (a .ms1) (a .ms2)) (c .before .before .check-float .result) (λ z. c .before .before .check-float .ensures)
     (sym (c .before .is-done .ensures) ∙ not-true (c .before .is-done .result) (c .if1 .taken))
 
 multiply-floats-requires : tie.Need-multiply-floats-requires

@@ -25,7 +25,7 @@ returns : tie.Need-returns
 returns c =
     let s = c .before .before .before .before .before in
     let a = s .args in
-    arithmetic-refused (a .m) (a .registers .now) (a .marks .now) (s .pre .0) (Operation.multiply (times (a .factor)) (a .md) (a .ms1) (a .ms2)) (c .before .before .check-product .result) (c .before .before .check-product .ensures)
+    arithmetic-refused (a .m) (a .registers .now) (a .marks .now) (s .pre .0) (Operation.multiply (times (a .factor)) (a .md) (a .ms1) (a .ms2)) (c .before .before .check-product .result) (λ z. c .before .before .check-product .ensures)
     (sym (c .before .is-done .ensures) ∙ not-true (c .before .is-done .result) (c .if1 .taken))
 
 multiply-tiles-requires : tie.Need-multiply-tiles-requires

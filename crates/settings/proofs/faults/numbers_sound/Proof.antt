@@ -6,7 +6,7 @@ use lib.Dec.{eqb}
 use borrow.Author.Tests.{le-leb, lt-leb, not-true, not-false}
 use Rattle.machine.specs.Geometry.{permitted}
 use Rattle.machine.specs.Setting.{newType}
-use Rattle.machine.specs.Starting.{sealEnds}
+use Rattle.machine.specs.Starting.{isRule}
 use Rattle.machine.proofs.StepLaws.{permitted-bounds, permitted-elen}
 use Rattle.machine.proofs.StartLaws.{and-truth}
 use Rattle.settings.proofs.FaultLaws.{numbers-by}
@@ -27,7 +27,7 @@ ok-2 c = sym (c .before .type-arises .ensures) ∙ not-false (c .before .type-ar
 returns : tie.Need-returns
 returns c =
     let m = c .before .before .args .m in
-    numbers-by m false _ _ _ _ _ _ (sym (c .before .permitted-lengths .ensures) ∙ not-true (c .before .permitted-lengths .result) (c .if1 .taken)) refl refl refl refl refl refl
+    numbers-by m false _ _ _ _ _ (sym (c .before .permitted-lengths .ensures) ∙ not-true (c .before .permitted-lengths .result) (c .if1 .taken)) refl refl refl refl refl
 
 type-arises-requires : tie.Need-type-arises-requires
 type-arises-requires c κs = let m = c .before .before .args .m in permitted-elen (m .rlen) (m .mlen) (m .elen) (ok-1 c) .0
@@ -35,7 +35,7 @@ type-arises-requires c κs = let m = c .before .before .args .m in permitted-ele
 returns-2 : tie.Need-returns-2
 returns-2 c =
     let m = c .before .before .before .before .args .m in
-    numbers-by m true false _ _ _ _ _ (ok-1 (c .before .before)) (sym (c .before .type-arises .ensures) ∙ not-true (c .before .type-arises .result) (c .if2 .taken)) refl refl refl refl refl
+    numbers-by m true false _ _ _ _ (ok-1 (c .before .before)) (sym (c .before .type-arises .ensures) ∙ not-true (c .before .type-arises .result) (c .if2 .taken)) refl refl refl refl
 
 div-rows : tie.Need-div-rows
 div-rows c =
@@ -47,7 +47,7 @@ returns-3 : tie.Need-returns-3
 returns-3 c =
     let e = c .before .before in
     let m = e .before .before .before .before .args .m in
-    numbers-by m true true false _ _ _ _ (ok-1 (e .before .before)) (ok-2 e) (lt-leb (m .«tile_m») (m .mlen / m .rlen) (c .if3 .taken)) refl refl refl refl
+    numbers-by m true true false _ _ _ (ok-1 (e .before .before)) (ok-2 e) (lt-leb (m .«tile_m») (m .mlen / m .rlen) (c .if3 .taken)) refl refl refl
 
 smaller-requires : tie.Need-smaller-requires
 smaller-requires c κs = search needs
@@ -58,8 +58,8 @@ returns-4 c =
     let f = s .before in
     let e = f .before .before in
     let m = e .before .before .before .before .args .m in
-    numbers-by m true true true false _ _ _ (ok-1 (e .before .before)) (ok-2 e) (le-leb (m .«tile_m») (m .mlen / m .rlen) (f .if3 .left))
-    (lt-leb (m .«tile_k») (min (m .mlen / m .rlen) (m .rlen / 8)) (omega (arith, s .smaller .ensures, c .if4 .taken))) refl refl refl
+    numbers-by m true true true false _ _ (ok-1 (e .before .before)) (ok-2 e) (le-leb (m .«tile_m») (m .mlen / m .rlen) (f .if3 .left))
+    (lt-leb (m .«tile_k») (min (m .mlen / m .rlen) (m .rlen / 8)) (omega (arith, s .smaller .ensures, c .if4 .taken))) refl refl
 
 returns-5 : tie.Need-returns-5
 returns-5 c =
@@ -68,41 +68,25 @@ returns-5 c =
     let f = s .before in
     let e = f .before .before in
     let m = e .before .before .before .before .args .m in
-    numbers-by m true true true true false _ _ (ok-1 (e .before .before)) (ok-2 e) (le-leb (m .«tile_m») (m .mlen / m .rlen) (f .if3 .left))
+    numbers-by m true true true true false _ (ok-1 (e .before .before)) (ok-2 e) (le-leb (m .«tile_m») (m .mlen / m .rlen) (f .if3 .left))
     (le-leb (m .«tile_k») (min (m .mlen / m .rlen) (m .rlen / 8)) (omega (arith, s .smaller .ensures, g .if4 .left)))
-    (lt-leb (m .«tile_n») (m .rlen / 8) (c .if5 .taken)) refl refl
+    (lt-leb (m .«tile_n») (m .rlen / 8) (c .if5 .taken)) refl
 
 is-rule-requires : tie.Need-is-rule-requires
 is-rule-requires c κs = search needs
 
 returns-6 : tie.Need-returns-6
 returns-6 c =
-    let i = c .before .before in
+    let i = c .before in
     let g = i .before .before in
     let s = g .before .before in
     let f = s .before in
     let e = f .before .before in
     let m = e .before .before .before .before .args .m in
-    numbers-by m true true true true true false _ (ok-1 (e .before .before)) (ok-2 e) (le-leb (m .«tile_m») (m .mlen / m .rlen) (f .if3 .left))
+    c .is-rule .ensures ∙ and-truth (isRule (m .rule))
+    ∙ numbers-by m true true true true true (isRule (m .rule)) (ok-1 (e .before .before)) (ok-2 e) (le-leb (m .«tile_m») (m .mlen / m .rlen) (f .if3 .left))
     (le-leb (m .«tile_k») (min (m .mlen / m .rlen) (m .rlen / 8)) (omega (arith, s .smaller .ensures, g .if4 .left)))
-    (le-leb (m .«tile_n») (m .rlen / 8) (i .if5 .left)) (sym (c .before .is-rule .ensures) ∙ not-true (c .before .is-rule .result) (c .if6 .taken)) refl
-
-seal-ends-requires : tie.Need-seal-ends-requires
-seal-ends-requires c κs = search needs
-
-returns-7 : tie.Need-returns-7
-returns-7 c =
-    let j = c .before in
-    let i = j .before .before in
-    let g = i .before .before in
-    let s = g .before .before in
-    let f = s .before in
-    let e = f .before .before in
-    let m = e .before .before .before .before .args .m in
-    c .seal-ends .ensures ∙ and-truth (sealEnds (m .«seal_start») (m .«seal_length»))
-    ∙ numbers-by m true true true true true true (sealEnds (m .«seal_start») (m .«seal_length»)) (ok-1 (e .before .before)) (ok-2 e) (le-leb (m .«tile_m») (m .mlen / m .rlen) (f .if3 .left))
-    (le-leb (m .«tile_k») (min (m .mlen / m .rlen) (m .rlen / 8)) (omega (arith, s .smaller .ensures, g .if4 .left)))
-    (le-leb (m .«tile_n») (m .rlen / 8) (i .if5 .left)) (sym (j .before .is-rule .ensures) ∙ not-false (j .before .is-rule .result) (j .if6 .left)) refl
+    (le-leb (m .«tile_n») (m .rlen / 8) (i .if5 .left)) refl
 
 pub numbers-sound-spec : {M : Type 1} → statement M
 numbers-sound-spec =
@@ -118,6 +102,4 @@ numbers-sound-spec =
     returns-4
     returns-5
     is-rule-requires
-    returns-6
-    seal-ends-requires
-    returns-7)
+    returns-6)

@@ -1,0 +1,41 @@
+use mathlib.Core.Path.{refl, ap, _∙_}
+use mathlib.Core.List.{List}
+use Prim.Native.Nat.{ℕ, _+_, _-_, _/_}
+use lib.ListN.{length, getD}
+use Rattle.width.specs.Upto.{upto}
+use Rattle.machine.specs.Geometry.{range}
+use Rattle.machine.specs.Starting.{ranges}
+use Rattle.ranges.specs.Ranges.{putRange}
+use Rattle.blocks.proofs.BlockLaws.{put-seals-is}
+use borrow.Author.Needs.{needs}
+use Rattle.blocks.proofs.put_seals.Statement.{statement}
+use Rattle.blocks.proofs.put_seals.Tie as tie
+
+write8-requires : tie.Need-write8-requires
+write8-requires c κs = search needs
+
+put-ranges-requires : tie.Need-put-ranges-requires
+put-ranges-requires c κs = search needs
+
+clear-slots-requires : tie.Need-clear-slots-requires
+clear-slots-requires c κs = search needs
+
+same-length : tie.Need-same-length
+same-length c = search needs
+
+returns : tie.Need-returns
+returns c =
+    let e = c .before .before in
+    let p = e .before .before .before .before in
+    let w = p .before .before .before .before in
+    let st = w .before .before .before .before in
+    let a = st .args in
+    let n : ℕ = length (a .seals .now) / 2 in
+    e .clear-slots .ensures
+    ∙ ap (upto (8 - n) (λ i. putRange (n + i) (range 0 0))) (p .put-ranges .ensures ∙ ap (upto n (λ i. putRange i (getD (ranges (a .seals .now)) i (range 0 0)))) (w .write8 .ensures))
+    ∙ put-seals-is (a .seals .now) (a .block .now) n refl (st .pre .1 .1)
+
+pub put-seals-spec : {M : Type 1} → statement M
+put-seals-spec =
+    tie.close
+    (tie.spec write8-requires put-ranges-requires clear-slots-requires same-length returns)

@@ -1,0 +1,42 @@
+use mathlib.Core.Path.{ap, _∙_}
+use mathlib.Core.List.{List}
+use Prim.Native.Nat.{ℕ, _+_, _-_}
+use Rattle.machine.specs.Geometry.{range}
+use Rattle.image.specs.Images.{Seals}
+use Rattle.image_check.specs.Parts.{rangesFound}
+use Rattle.width.specs.Upto.{upto}
+use Rattle.ranges.specs.Ranges.{putRange}
+use Rattle.image_read.specs.Parts.{putRanges}
+use Rattle.image_read.proofs.SealLaws.{found-many, seals-put}
+use borrow.Author.Needs.{needs}
+use Rattle.image_read.proofs.seals.put_seals.Statement.{statement}
+use Rattle.image_read.proofs.seals.put_seals.Tie as tie
+
+write8-requires : tie.Need-write8-requires
+write8-requires c κs = search needs
+
+put-ranges-requires : tie.Need-put-ranges-requires
+put-ranges-requires c κs = search needs
+
+clear-slots-requires : tie.Need-clear-slots-requires
+clear-slots-requires c κs = search needs
+
+same-length : tie.Need-same-length
+same-length c = search needs
+
+returns : tie.Need-returns
+returns c =
+    let e = c .before .before in
+    let p = e .before .before .before .before in
+    let w = p .before .before .before .before in
+    let st = w .before .before .before .before in
+    let a = st .args in
+    let rs : Seals = rangesFound (a .s .now) (a .count) (a .first) in
+    e .clear-slots .ensures
+    ∙ ap (λ (b : List ℕ). upto (8 - a .count) (λ i. putRange (a .count + i) (range 0 0)) b) (p .put-ranges .ensures ∙ ap (putRanges 0 rs) (w .write8 .ensures))
+    ∙ seals-put rs (a .count) (st .pre .1 .few) (found-many (a .s .now) (a .count) (a .first) (st .pre .1 .ends)) (a .block .now)
+
+pub put-seals-spec : {M : Type 1} → statement M
+put-seals-spec =
+    tie.close
+    (tie.spec write8-requires put-ranges-requires clear-slots-requires same-length returns)

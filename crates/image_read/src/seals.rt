@@ -1,0 +1,44 @@
+// The ranges of an image into a machine's block.
+use element::write8;
+use image_check::head::Pair;
+use image_check::head::range_at;
+use ranges::clear_slots;
+use ranges::put_range;
+ghost use mathlib.Core.Path.{_≡_};
+ghost use lib.ListN.{length};
+ghost use Rattle.ranges.specs.Ranges.{blockBytes, putSeals};
+ghost use Rattle.image_check.specs.Parts.{rangesFound};
+ghost use Rattle.image_read.specs.Parts.{Stand, putRanges};
+
+// Puts the ranges that stand at a place of an image into the first slots.
+fn put_ranges(s: &[u8], first: usize, count: usize, block: &mut [u8])
+    requires { ⌜ length (now block) ≡ blockBytes ⌝ }
+    requires { ⌜ Stand (now s) count first ⌝ }
+    ensures { λ _. ⌜ now (block .exit) ≡ putRanges 0 (rangesFound (now (s .entry)) count first) (now (block .entry)) ⌝ }
+{
+    let mut at = first;
+    let mut i: usize = 0;
+    while i < count {
+        match range_at(s, at) {
+            Pair::PairBad(_) => {
+                return;
+            }
+            Pair::Both(start, size, next) => {
+                put_range(block, i, start, size);
+                at = next;
+                i += 1;
+            }
+        }
+    }
+}
+
+// Puts the ranges that stand at a place of an image into a block: their number, each of them, and zeros behind them.
+pub fn put_seals(s: &[u8], first: usize, count: u64, block: &mut [u8])
+    requires { ⌜ length (now block) ≡ blockBytes ⌝ }
+    requires { ⌜ Stand (now s) count first ⌝ }
+    ensures { λ _. ⌜ now (block .exit) ≡ putSeals (rangesFound (now (s .entry)) count first) (now (block .entry)) ⌝ }
+{
+    write8(block, 80, count);
+    put_ranges(s, first, count as usize, block);
+    clear_slots(block, count as usize);
+}

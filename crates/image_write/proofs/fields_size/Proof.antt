@@ -1,0 +1,29 @@
+-- `image_write::fields_size` meets its contract.
+use mathlib.Core.Path.{ap, _∙_}
+use mathlib.Core.List.{List, []}
+use Prim.Native.Nat.{ℕ}
+use borrow.Author.Needs.{needs}
+use native.Mathlib.Omega.{arith}
+use lib.ListN.{length}
+use Rattle.format.specs.Numbers.{encodeAll}
+use Rattle.image_write.proofs.fields_size.Statement.{statement}
+use Rattle.image_write.proofs.fields_size.Tie as tie
+
+fields-of-requires : tie.Need-fields-of-requires
+fields-of-requires c κs = search needs
+
+slice-aggregate-numbers-size : tie.Need-slice-aggregate-numbers-size
+slice-aggregate-numbers-size c = search needs
+
+numbers-size-requires : tie.Need-numbers-size-requires
+numbers-size-requires c κs = search needs
+
+returns : tie.Need-returns
+returns c =
+    let e = c .before .before .fields-of .ensures in
+    (c .numbers-size .ensures .0 ∙ ap (λ (ns : List ℕ). length (encodeAll ns [])) e, omega (arith, c .numbers-size .ensures .1, ap length e))
+
+pub fields-size-spec : {M : Type 1} → statement M
+fields-size-spec =
+    tie.close
+    (tie.spec fields-of-requires slice-aggregate-numbers-size numbers-size-requires returns)

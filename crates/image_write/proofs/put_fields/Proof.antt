@@ -1,0 +1,44 @@
+-- `image_write::put_fields` meets its contract.
+use mathlib.Core.Path.{ap, _∙_}
+use mathlib.Core.List.{List, []}
+use Prim.Native.Nat.{ℕ}
+use native.Mathlib.Omega.{arith}
+use borrow.Author.Needs.{needs}
+use lib.ListN.{length}
+use lib.Seq.{sets}
+use Rattle.format.specs.Numbers.{encodeAll}
+use Rattle.image_write.proofs.put_fields.Statement.{statement}
+use Rattle.image_write.proofs.put_fields.Tie as tie
+
+fields-of-requires : tie.Need-fields-of-requires
+fields-of-requires c κs = search needs
+
+slice-aggregate-put-numbers : tie.Need-slice-aggregate-put-numbers
+slice-aggregate-put-numbers c = search needs
+
+put-numbers-requires : tie.Need-put-numbers-requires
+put-numbers-requires c κs =
+    let e = c .before .before .fields-of .ensures in
+    (omega (arith, ap length e), omega (arith, ap (λ (ns : List ℕ). length (encodeAll ns [])) e, c .before .before .before .before .pre))
+
+same-length : tie.Need-same-length
+same-length c = search needs
+
+returns : tie.Need-returns
+returns c =
+    let p = c .before .before .put-numbers in
+    let e = c .before .before .before .before .before .fields-of .ensures in
+    let a = c .before .before .before .before .before .before .before .args in (
+      omega (arith, p .ensures .0, ap (λ (ns : List ℕ). length (encodeAll ns [])) e),
+      p .ensures .1 ∙ ap (λ (ns : List ℕ). sets (a .room .now) (a .start) (encodeAll ns [])) e,
+    )
+
+pub put-fields-spec : {M : Type 1} → statement M
+put-fields-spec =
+    tie.close
+    (tie.spec
+    fields-of-requires
+    slice-aggregate-put-numbers
+    put-numbers-requires
+    same-length
+    returns)

@@ -1,0 +1,3 @@
+-- Laws for code on a block's ranges.
+pub mod RangeLaws
+pub mod PutLaws

@@ -1,0 +1,78 @@
+use mathlib.Core.Path.{_≡_, refl, sym, ap, ap₂, _∙_}
+use mathlib.Core.Bool.{Bool, _&&_}
+use Prim.Native.Nat.{ℕ, suc, _-_, _≤_}
+use native.Mathlib.Numerals.{add-one}
+use native.Mathlib.Omega.{arith}
+use lib.Dec.{eqb}
+use borrow.Author.Needs.{needs}
+use Rattle.machine.specs.Tests.{all}
+use Rattle.ranges.specs.Parts.{slotEmpty}
+use Rattle.ranges.proofs.RangeLaws.{or-three, behind-first}
+use Rattle.ranges.proofs.others_empty.Statement.{statement}
+use Rattle.ranges.proofs.others_empty.Tie as tie
+
+abbrev Inv-loop : tie.InvT-loop
+Inv-loop block any₀ i₀ any i = (i ≤ 7) × (eqb any 0 ≡ all i (λ j. slotEmpty block (suc j)))
+
+abbrev μ-loop : tie.MeasureT-loop
+μ-loop block any₀ i₀ any i = 7 - i
+
+loop-holds : tie.Need-loop-holds Inv-loop μ-loop
+loop-holds c = (omega arith, refl)
+
+mul-at : tie.Need-mul-at Inv-loop μ-loop
+mul-at c = omega arith
+
+add-at : tie.Need-add-at Inv-loop μ-loop
+add-at c = omega arith
+
+read8-requires : tie.Need-read8-requires Inv-loop μ-loop
+read8-requires c κs = search needs
+
+add-read8 : tie.Need-add-read8 Inv-loop μ-loop
+add-read8 c = search needs
+
+read8-requires-2 : tie.Need-read8-requires-2 Inv-loop μ-loop
+read8-requires-2 c κs = search needs
+
+add-i : tie.Need-add-i Inv-loop μ-loop
+add-i c = search needs
+
+loop-less : tie.Need-loop-less Inv-loop μ-loop
+loop-less c = search needs
+
+loop-again : tie.Need-loop-again Inv-loop μ-loop
+loop-again c =
+    let t = c .before .before in
+    let l = t .before .loop in
+    let b = t .before .before .before .args .block .now in
+    let x = c .before .read8 in
+    let y = c .read82 in (
+      omega (arith, t .loop-test .taken),
+      rw add-one (or-three (l .any) (x .result) (y .result)
+          ∙ ap₂ (λ (s t : Bool). s && t) (l .inv .1) (ap₂ (λ (p q : ℕ). eqb p 0 && eqb q 0) (x .ensures) (y .ensures) ∙ sym (behind-first b (l .i)))),
+    )
+
+returns : tie.Need-returns Inv-loop μ-loop
+returns c =
+    let l = c .before .loop in
+    let b = c .before .before .before .args .block .now in
+    let e : l .i ≡ 7 = omega arith in
+    l .inv .1 ∙ ap (λ (n : ℕ). all n (λ j. slotEmpty b (suc j))) e
+
+pub others-empty-spec : {M : Type 1} → statement M
+others-empty-spec =
+    tie.close
+    (tie.spec
+    Inv-loop
+    μ-loop
+    loop-holds
+    mul-at
+    add-at
+    read8-requires
+    add-read8
+    read8-requires-2
+    add-i
+    loop-less
+    loop-again
+    returns)

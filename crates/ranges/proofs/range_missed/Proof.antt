@@ -1,0 +1,25 @@
+use mathlib.Core.Path.{sym, _∙_}
+use borrow.Author.Needs.{needs}
+use Rattle.machine.specs.Tests.{within}
+use Rattle.ranges.proofs.RangeLaws.{span-missed}
+use Rattle.ranges.proofs.range_missed.Statement.{statement}
+use Rattle.ranges.proofs.range_missed.Tie as tie
+
+misses-range-requires : tie.Need-misses-range-requires
+misses-range-requires c κs = search needs
+
+returns : tie.Need-returns
+returns c =
+    let r = c .before .misses-range in
+    let s = c .before .before in
+    let a = s .args in
+    span-missed (a .base) (a .stride) (a .rows) (a .bytes) (within (a .start) (a .size)) (a .p) (a .n) (s .pre .1 .1 .1 .0) (sym (r .ensures) ∙ c .if1 .taken)
+
+rows-miss-requires : tie.Need-rows-miss-requires
+rows-miss-requires c κs = search needs
+
+returns-2 : tie.Need-returns-2
+returns-2 c = search needs
+
+pub range-missed-spec : {M : Type 1} → statement M
+range-missed-spec = tie.close (tie.spec misses-range-requires returns rows-miss-requires returns-2)

@@ -1,0 +1,56 @@
+-- A sealing by its three tests.
+use mathlib.Core.Path.{_≡_, refl, sym, ap, _∙_}
+use mathlib.Core.Bool.{Bool, true, false, cond}
+use mathlib.Core.List.{List, [], _∷_, _++_}
+use Prim.Native.Nat.{ℕ}
+use lib.ListN.{length}
+use lib.Dec.{ltb}
+use Rattle.machine.specs.declared.Machine.{Machine}
+use Rattle.machine.specs.declared.Answer.{Answer}
+use Rattle.machine.specs.declared.Answer.the-variants.{Done, BadArguments, TooManySeals}
+use Rattle.machine.specs.Answers.{reply, done, isDone}
+use Rattle.machine.specs.Geometry.{Range, range, Bench, benchOf}
+use Rattle.machine.specs.Starting.{sealEnds, mostSeals}
+use Rattle.machine.specs.Faults.{soundBench}
+use Rattle.machine.specs.Sealing.{addSeal, withSeal}
+use Rattle.ranges.specs.Ranges.{sealsIn, putSeals}
+use Rattle.sealing.specs.SealBlock.{BlockSealed, blockSealed, sealBlock}
+
+module _ (start size : ℕ) (m : Machine) (block registers marks : List ℕ) where
+  abbrev B : Bench
+  B = benchOf m (sealsIn block) registers marks []
+
+  abbrev few : Bool
+  few = ltb (length (sealsIn block)) mostSeals
+
+  -- the answer by the tests
+  abbrev answered : Bool → Bool → Bool → Answer
+  answered s e f = cond s (cond e (cond f Done TooManySeals) BadArguments) BadArguments
+
+  abbrev left : Answer → BlockSealed
+  left a = record {
+    answer = reply a;
+    block = cond (done (reply a)) (putSeals (cond (isDone a) (withSeal start size B) B .seals) block) block;
+  }
+
+  by-tests : sealBlock start size m block registers marks ≡ left (answered (soundBench B) (sealEnds start size) few)
+  unfolding sealBlock addSeal
+  by-tests = refl
+
+  pub seal-fault : soundBench B ≡ false → blockSealed BadArguments block ≡ sealBlock start size m block registers marks
+  seal-fault h = sym (by-tests ∙ ap (λ (s : Bool). left (answered s (sealEnds start size) few)) h)
+
+  pub seal-beyond : soundBench B ≡ true → sealEnds start size ≡ false → blockSealed BadArguments block ≡ sealBlock start size m block registers marks
+  seal-beyond h e = sym (by-tests ∙ ap (λ (s : Bool). left (answered s (sealEnds start size) few)) h ∙ ap (λ (e : Bool). left (answered true e few)) e)
+
+  pub seal-ninth : soundBench B ≡ true → sealEnds start size ≡ true → few ≡ false → blockSealed TooManySeals block ≡ sealBlock start size m block registers marks
+  seal-ninth h e f =
+      sym (by-tests ∙ ap (λ (s : Bool). left (answered s (sealEnds start size) few)) h ∙ ap (λ (e : Bool). left (answered true e few)) e
+      ∙ ap (λ (f : Bool). left (answered true true f)) f)
+
+  pub seal-done : soundBench B ≡ true → sealEnds start size ≡ true → few ≡ true → (block′ : List ℕ) → block′ ≡ putSeals (sealsIn block ++ (range start size ∷ [])) block
+      → blockSealed Done block′ ≡ sealBlock start size m block registers marks
+  seal-done h e f block′ eb =
+      ap (blockSealed Done) eb
+      ∙ sym (by-tests ∙ ap (λ (s : Bool). left (answered s (sealEnds start size) few)) h ∙ ap (λ (e : Bool). left (answered true e few)) e
+      ∙ ap (λ (f : Bool). left (answered true true f)) f)

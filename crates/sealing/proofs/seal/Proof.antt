@@ -1,0 +1,101 @@
+use mathlib.Core.Path.{_≡_, sym, ap, _∙_}
+use mathlib.Core.Bool.{true}
+use mathlib.Core.List.{List, []}
+use Prim.Native.Nat.{_<_}
+use native.Mathlib.Omega.{arith}
+use lib.ListN.{length}
+use borrow.Author.Needs.{needs}
+use borrow.Author.Tests.{not-true, not-false, lt-ltb, le-ltb}
+use Rattle.machine.specs.Geometry.{Bench, benchOf}
+use Rattle.machine.specs.Starting.{sealEnds}
+use Rattle.machine.specs.Faults.{soundBench}
+use Rattle.machine.proofs.NoFault.{bench-seals}
+use Rattle.ranges.specs.Ranges.{sealsIn}
+use Rattle.ranges.proofs.PutLaws.{count-is}
+use Rattle.sealing.proofs.SealLaws.{seal-fault, seal-beyond, seal-ninth, seal-done}
+use Rattle.sealing.proofs.seal.Statement.{statement}
+use Rattle.sealing.proofs.seal.Tie as tie
+
+abbrev bench : tie.Start → Bench
+bench s = let a = s .args in benchOf (a .m) (sealsIn (a .block .now)) (a .registers .now) (a .marks .now) []
+
+-- the state is not at fault; the range ends where it may
+fine : (c : tie.Else1) → soundBench (bench (c .before .before .before .before .before .before)) ≡ true
+fine c = sym (c .before .is-sound .ensures) ∙ not-false (c .before .is-sound .result) (c .if1 .left)
+
+ends : (c : tie.Else2) → let a = c .before .before .before .before .before .before .before .before .args in sealEnds (a .start) (a .size) ≡ true
+ends c = sym (c .before .seal-ends .ensures) ∙ not-false (c .before .seal-ends .result) (c .if2 .left)
+
+is-sound-requires : tie.Need-is-sound-requires
+is-sound-requires c κs = search needs
+
+same-length : tie.Need-same-length
+same-length c = search needs
+
+returns : tie.Need-returns
+returns c =
+    let a = c .before .before .before .before .before .before .args in
+    seal-fault (a .start) (a .size) (a .m) (a .block .now) (a .registers .now) (a .marks .now) (sym (c .before .is-sound .ensures) ∙ not-true (c .before .is-sound .result) (c .if1 .taken))
+
+seal-ends-requires : tie.Need-seal-ends-requires
+seal-ends-requires c κs = search needs
+
+same-length-2 : tie.Need-same-length-2
+same-length-2 c = search needs
+
+returns-2 : tie.Need-returns-2
+returns-2 c =
+    let a = c .before .before .before .before .before .before .before .before .args in
+    seal-beyond (a .start) (a .size) (a .m) (a .block .now) (a .registers .now) (a .marks .now) (fine (c .before .before)) (sym (c .before .seal-ends .ensures) ∙ not-true (c .before .seal-ends .result) (c .if2 .taken))
+
+count-of-requires : tie.Need-count-of-requires
+count-of-requires c κs = let e = c .before .before .before in bench-seals (bench (e .before .before .before .before .before .before)) (fine e)
+
+same-length-3 : tie.Need-same-length-3
+same-length-3 c = search needs
+
+returns-3 : tie.Need-returns-3
+returns-3 c =
+    let k = c .before .before .before in
+    let st = k .before .before .before .before .before .before .before .before in
+    let a = st .args in
+    seal-ninth (a .start) (a .size) (a .m) (a .block .now) (a .registers .now) (a .marks .now) (fine (k .before .before)) (ends k)
+    (le-ltb (length (sealsIn (a .block .now))) 8 (omega (arith, c .if3 .taken, c .before .count-of .ensures .0, count-is (a .block .now) (bench-seals (bench st) (fine (k .before .before))))))
+
+-- one more has room
+room : (c : tie.Else3) → length (sealsIn (c .before .before .before .before .before .before .before .before .before .before .before .args .block .now)) < 8
+room c =
+    let k = c .before .before .before in
+    let st = k .before .before .before .before .before .before .before .before in
+    omega (arith, c .if3 .left, c .before .count-of .ensures .0, count-is (st .args .block .now) (bench-seals (bench st) (fine (k .before .before))))
+
+add-range-requires : tie.Need-add-range-requires
+add-range-requires c κs = let k = c .before .before .before .before in (bench-seals (bench (k .before .before .before .before .before .before .before .before)) (fine (k .before .before)), room (c .before))
+
+same-length-4 : tie.Need-same-length-4
+same-length-4 c = search needs
+
+returns-4 : tie.Need-returns-4
+returns-4 c =
+    let d = c .before .before .before .before in
+    let k = d .before .before .before in
+    let a = k .before .before .before .before .before .before .before .before .args in
+    seal-done (a .start) (a .size) (a .m) (a .block .now) (a .registers .now) (a .marks .now) (fine (k .before .before)) (ends k) (lt-ltb (length (sealsIn (a .block .now))) 8 (room d))
+    (c .before .before .add-range .last .0) (c .before .before .add-range .ensures)
+
+pub seal-spec : {M : Type 1} → statement M
+seal-spec =
+    tie.close
+    (tie.spec
+    is-sound-requires
+    same-length
+    returns
+    seal-ends-requires
+    same-length-2
+    returns-2
+    count-of-requires
+    same-length-3
+    returns-3
+    add-range-requires
+    same-length-4
+    returns-4)
