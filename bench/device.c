@@ -50,7 +50,7 @@ uint64_t device_start(struct device *device, uint64_t rlen, uint64_t mlen, uint6
     device->rule = rule;
     bench = lent(device);
     /* not by bodlarina_bench_start, which takes an ELEN of 0 for 32 */
-    answer(device, bodlarina_start(rlen, mlen, elen, rule, device->seal_start, device->seal_length, bench.machine, bench.machine_len,
+    answer(device, bodlarina_start(rlen, mlen, elen, rule, device->seals, device->seals_len, bench.machine, bench.machine_len,
                                    bench.registers, bench.registers_len, bench.marks, bench.marks_len));
     device->started = device->result == 0;
     return device->result;
@@ -66,6 +66,14 @@ uint64_t device_step(struct device *device, uint32_t word)
     remember_named(device, word);
     return device->result;
 }
+
+uint64_t device_seal(struct device *device, uint64_t start, uint64_t length)
+{
+    struct bodlarina_bench bench = lent(device);
+    return answer(device, bodlarina_bench_seal(&bench, start, length));
+}
+
+void device_refuse_sealed(struct device *device) { answer(device, BODLARINA_SEALED_BYTE); }
 
 uint64_t device_run_start(struct device *device, const struct bodlarina_plan *plan)
 {
@@ -125,8 +133,6 @@ static void take_numbers(struct device *device)
     device->mlen = bodlarina_get64(device->machine + BODLARINA_MACHINE_MLEN_AT);
     device->rule = bodlarina_get64(device->machine + BODLARINA_MACHINE_RULE_AT);
     device->elen = bodlarina_get64(device->machine + BODLARINA_MACHINE_ELEN_AT);
-    device->seal_start = bodlarina_get64(device->machine + BODLARINA_MACHINE_SEAL_START_AT);
-    device->seal_length = bodlarina_get64(device->machine + BODLARINA_MACHINE_SEAL_LENGTH_AT);
     device->named.known = 0;
     device->started = 1;
 }
@@ -169,9 +175,50 @@ void device_free(struct device *device)
     device->memory_bytes = 0;
 }
 
+/* ---- sealed ranges: those of the machine's block, before a start those that the script gave ---- */
+
+size_t device_seals(const struct device *device)
+{
+    return device->started ? (size_t)bodlarina_get64(device->machine + BODLARINA_MACHINE_SEALS_AT) : device->seals_len / 2;
+}
+
+void device_seal_at(const struct device *device, size_t i, uint64_t *start, uint64_t *length)
+{
+    if (device->started) {
+        *start = bodlarina_get64(device->machine + BODLARINA_MACHINE_SEAL_AT(i));
+        *length = bodlarina_get64(device->machine + BODLARINA_MACHINE_SEAL_AT(i) + 8);
+    } else {
+        *start = device->seals[2 * i];
+        *length = device->seals[2 * i + 1];
+    }
+}
+
 int in_seal(const struct device *device, uint64_t address)
 {
-    return address >= device->seal_start && address - device->seal_start < device->seal_length;
+    uint64_t start, length;
+    size_t i;
+    for (i = 0; i < device_seals(device); i++) {
+        device_seal_at(device, i, &start, &length);
+        if (address >= start && address - start < length)
+            return 1;
+    }
+    return 0;
+}
+
+int first_sealed(const struct device *device, uint64_t address, uint64_t bytes, uint64_t *sealed)
+{
+    uint64_t start, length, first;
+    int found = 0;
+    size_t i;
+    for (i = 0; i < device_seals(device); i++) {
+        device_seal_at(device, i, &start, &length);
+        first = start > address ? start : address;
+        if (first - address < bytes && first - start < length && (!found || first < *sealed)) {
+            *sealed = first;
+            found = 1;
+        }
+    }
+    return found;
 }
 
 /* ---- settings ---- */

@@ -8,6 +8,9 @@
 /* The most bytes of memory that a script may ask for. */
 #define MEMORY_BYTES_MOST 268435456
 
+/* The most ranges that a script may seal before the machine starts; a machine has fewer, and says so. */
+#define SEALS_MOST 64
+
 /* Registers by number: tr0 to tr7 are 0 to 7, acc0 and acc1 are 8 and 9. */
 #define REGISTERS 10
 #define ACCUMULATOR_0 8
@@ -45,8 +48,9 @@ struct device {
     uint8_t *memory; /* NULL until the script gives its size */
     size_t memory_bytes;
     uint64_t rlen, mlen, elen, rule;
-    uint64_t seal_start, seal_length;
-    int sealed, started;
+    uint64_t seals[2 * SEALS_MOST]; /* start and length of each range that the machine is to be started with */
+    size_t seals_len;               /* how many numbers these are */
+    int started;
     int answered;         /* whether there was a start, a step, a run or an image */
     uint64_t result;      /* of the last one */
     unsigned long steps;  /* words carried out or refused */
@@ -69,6 +73,9 @@ void device_free(struct device *device);
 /* Each call leaves its result in the device and returns it. */
 uint64_t device_start(struct device *device, uint64_t rlen, uint64_t mlen, uint64_t elen, uint64_t rule);
 uint64_t device_step(struct device *device, uint32_t word);
+
+/* Seals a further range of the machine. */
+uint64_t device_seal(struct device *device, uint64_t start, uint64_t length);
 uint64_t device_run_start(struct device *device, const struct bodlarina_plan *plan);
 
 /* One turn of the run, and which word it was. */
@@ -117,6 +124,17 @@ struct tile word_tile(const struct device *device, const struct instruction *ins
 /* The part of an accumulator that a move takes, from this row or column on. */
 struct tile word_slice(const struct device *device, const struct instruction *instruction, uint32_t word, uint64_t first);
 
+/* The sealed ranges: how many, and start and length of each. */
+size_t device_seals(const struct device *device);
+void device_seal_at(const struct device *device, size_t i, uint64_t *start, uint64_t *length);
+
+/* Whether a byte of memory is sealed. */
 int in_seal(const struct device *device, uint64_t address);
+
+/* The first sealed byte of those from an address on; 0 if none is. */
+int first_sealed(const struct device *device, uint64_t address, uint64_t bytes, uint64_t *sealed);
+
+/* Refuses with 7 what the script would enter over a sealed byte. */
+void device_refuse_sealed(struct device *device);
 
 #endif

@@ -1,4 +1,4 @@
-/* Commands that enter bytes into memory and vector registers, the seal, and the group size of moves. */
+/* Commands that enter bytes into memory and vector registers, sealed ranges, and the group size of moves. */
 #include "commands.h"
 
 #include <stdlib.h>
@@ -17,59 +17,94 @@ int run_memory(struct session *session)
     return device_memory(&session->device, (size_t)size) || not_now(session, "there is no room for so much memory");
 }
 
+/* Before the machine starts, a range that it is started with; after it, one that is added. */
 int run_seal(struct session *session)
 {
     struct reader *reader = &session->reader;
     struct device *device = &session->device;
     uint64_t start, length;
-    if (!take_any(reader, "the start of the seal", &start) || !take_any(reader, "its length", &length) || !take_end(reader))
+    if (!take_any(reader, "the start of the range", &start) || !take_any(reader, "its length", &length) || !take_end(reader))
         return 0;
-    if (device->started || device->sealed)
-        return not_now(session, "there is one seal, given before the machine starts");
-    device->sealed = 1;
-    device->seal_start = start;
-    device->seal_length = length;
+    if (device->started) {
+        device_seal(device, start, length);
+        report(session, "seal");
+        return 1;
+    }
+    if (device->seals_len == 2 * SEALS_MOST)
+        return not_now(session, "no machine has so many sealed ranges");
+    device->seals[device->seals_len++] = start;
+    device->seals[device->seals_len++] = length;
+    return 1;
+}
+
+/* Whether nothing of the bytes from an address on is sealed on a started machine; else the line is refused with 7, and the script goes on. */
+static int may_enter(struct session *session, uint64_t address, uint64_t bytes)
+{
+    struct device *device = &session->device;
+    uint64_t sealed;
+    if (!device->started || !first_sealed(device, address, bytes, &sealed))
+        return 1;
+    device_refuse_sealed(device);
+    report_sealed(session, sealed);
+    return 0;
+}
+
+/* Takes a number of the line into its bytes, at most eight. */
+typedef int take(struct reader *reader, enum form form, uint8_t *bytes);
+
+static int take_value(struct reader *reader, enum form form, uint8_t *bytes)
+{
+    int64_t value;
+    if (!take_number_of(reader, form, &value))
+        return 0;
+    put_number(bytes, form, value);
+    return 1;
+}
+
+/* Two hexadecimal digits. */
+static int take_hex(struct reader *reader, enum form form, uint8_t *bytes)
+{
+    size_t at = next_at(reader);
+    int empty = at_end(reader);
+    int high = empty ? -1 : hex_digit(reader->text[at]);
+    int low = empty || at + 1 == reader->line_end ? -1 : hex_digit(reader->text[at + 1]);
+    (void)form;
+    if (high < 0 || low < 0)
+        return refuse(reader, at, "expected a byte, two hexadecimal digits");
+    *bytes = (uint8_t)(16 * high + low);
+    reader->at = at + 2;
+    return 1;
+}
+
+/* An address, and numbers from it on: all are read before the first is entered. */
+static int enter(struct session *session, enum form form, take *take_one)
+{
+    struct reader *reader = &session->reader;
+    size_t width = form_bytes(form), first, at;
+    uint64_t address, end;
+    uint8_t bytes[8];
+    if (!needs_memory(session) || !take_any(reader, "an address", &address))
+        return 0;
+    first = reader->at;
+    end = address;
+    do {
+        at = next_at(reader);
+        if (!take_one(reader, form, bytes) || !in_memory(session, at, end, 1, width))
+            return 0;
+        end += width;
+    } while (!at_end(reader));
+    if (!may_enter(session, address, end - address))
+        return 1;
+    reader->at = first;
+    for (; address < end && take_one(reader, form, bytes); address += width)
+        memcpy(session->device.memory + address, bytes, width);
     return 1;
 }
 
 /* Two hexadecimal digits a byte, with blanks between bytes or without. */
-int run_bytes(struct session *session)
-{
-    struct reader *reader = &session->reader;
-    uint64_t address;
-    if (!needs_memory(session) || !take_any(reader, "an address", &address))
-        return 0;
-    do {
-        size_t at = next_at(reader);
-        int empty = at_end(reader);
-        int high = empty ? -1 : hex_digit(reader->text[at]);
-        int low = empty || at + 1 == reader->line_end ? -1 : hex_digit(reader->text[at + 1]);
-        if (high < 0 || low < 0)
-            return refuse(reader, at, "expected a byte, two hexadecimal digits");
-        if (!in_memory(session, at, address, 1, 1))
-            return 0;
-        session->device.memory[address++] = (uint8_t)(16 * high + low);
-        reader->at = at + 2;
-    } while (!at_end(reader));
-    return 1;
-}
+int run_bytes(struct session *session) { return enter(session, BYTE, take_hex); }
 
-static int run_numbers(struct session *session, enum form form)
-{
-    struct reader *reader = &session->reader;
-    uint64_t address;
-    int64_t value;
-    if (!needs_memory(session) || !take_any(reader, "an address", &address))
-        return 0;
-    do {
-        size_t at = next_at(reader);
-        if (!take_number_of(reader, form, &value) || !in_memory(session, at, address, 1, form_bytes(form)))
-            return 0;
-        put_number(session->device.memory + address, form, value);
-        address += form_bytes(form);
-    } while (!at_end(reader));
-    return 1;
-}
+static int run_numbers(struct session *session, enum form form) { return enter(session, form, take_value); }
 
 int run_int8(struct session *session) { return run_numbers(session, INT8); }
 int run_int16(struct session *session) { return run_numbers(session, INT16); }
@@ -121,7 +156,8 @@ static int load_file(struct session *session, size_t at, const char *path, size_
     char *bytes = read_file(path, device->memory_bytes - address, &length, &fault);
     if (bytes == NULL)
         return refuse(&session->reader, at, "this file %s", fault);
-    memcpy(device->memory + address, bytes, length);
+    if (may_enter(session, address, length))
+        memcpy(device->memory + address, bytes, length);
     free(bytes);
     return 1;
 }

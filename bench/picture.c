@@ -6,6 +6,9 @@
 /* Lengths of the drawing. A cell is a byte; a register has room for its name, the numbers of its columns and those of its rows. */
 enum { CELL = 14, CROSS = 8, LEFT = 26, HEAD = 34, GAP = 20, MARGIN = 16, LEGEND = 76, LINE_REGISTERS = 4, WIDTH_LEAST = 640 };
 
+/* Below the registers: memory, and the addresses of so many sealed ranges a line. */
+enum { MEMORY = 48, LINE_RANGES = 4 };
+
 /* With more than CELLS_MOST bytes in a row of a tile register cells are less wide, with more rows less high, down to CELL_LEAST. Where MLEN is
  * above GRID_MLEN_MOST, neighbours of one kind are not drawn one by one but as one area. */
 enum { CELLS_MOST = 64, CELL_LEAST = 2, GRID_MLEN_MOST = 4096 };
@@ -157,9 +160,52 @@ static void draw_registers(FILE *file, const struct device *device)
     }
 }
 
+/* The part of a sealed range that lies in memory: its first and last byte; 0 if there is none. */
+static int sealed_part(const struct device *device, size_t i, uint64_t *first, uint64_t *last)
+{
+    uint64_t length;
+    device_seal_at(device, i, first, &length);
+    if (length == 0 || *first >= device->memory_bytes)
+        return 0;
+    *last = *first + (length - 1) < device->memory_bytes ? *first + (length - 1) : device->memory_bytes - 1;
+    return 1;
+}
+
+/* How many sealed ranges have a part in memory. */
+static unsigned sealed_parts(const struct device *device)
+{
+    uint64_t first, last;
+    unsigned count = 0;
+    size_t i;
+    for (i = 0; i < device_seals(device); i++)
+        count += sealed_part(device, i, &first, &last) ? 1 : 0;
+    return count;
+}
+
+/* Memory as one bar, its sealed ranges on it and their first and last addresses below. */
+static void draw_memory(FILE *file, const struct device *device, unsigned width, unsigned y)
+{
+    unsigned length = width - 2 * MARGIN, drawn = 0;
+    double unit = (double)length / (double)device->memory_bytes;
+    uint64_t first, last;
+    size_t i;
+    fprintf(file, "<text x=\"%d\" y=\"%u\" font-weight=\"bold\" font-size=\"13\">memory, %lu bytes; sealed:</text>\n", MARGIN, y,
+            (unsigned long)device->memory_bytes);
+    fprintf(file, "<rect x=\"%d\" y=\"%u\" width=\"%u\" height=\"%d\" fill=\"#ffffff\" stroke=\"#999999\"/>\n", MARGIN, y + 6, length, CELL);
+    for (i = 0; i < device_seals(device); i++)
+        if (sealed_part(device, i, &first, &last)) {
+            fprintf(file, "<rect x=\"%.2f\" y=\"%u\" width=\"%.2f\" height=\"%d\" fill=\"#ccbb44\" stroke=\"#999999\"/>\n",
+                    MARGIN + unit * (double)first, y + 6, unit * (double)(last - first + 1), CELL);
+            fprintf(file, "<text x=\"%u\" y=\"%u\">%" PRIu64 " to %" PRIu64 "</text>\n", MARGIN + drawn % LINE_RANGES * length / LINE_RANGES,
+                    y + 34 + drawn / LINE_RANGES * CELL, first, last);
+            drawn++;
+        }
+}
+
 static void draw(FILE *file, const struct device *device)
 {
-    unsigned width = 2 * MARGIN + LINE_REGISTERS * box_width(device), height = LEGEND + 4 * box_height(device);
+    unsigned width = 2 * MARGIN + LINE_REGISTERS * box_width(device), registers = LEGEND + 4 * box_height(device);
+    unsigned sealed = sealed_parts(device), height = registers + (sealed == 0 ? 0 : MEMORY + (sealed - 1) / LINE_RANGES * CELL);
     if (width < WIDTH_LEAST)
         width = WIDTH_LEAST;
     fprintf(file, "<svg xmlns=\"http://www.w3.org/2000/svg\" width=\"%u\" height=\"%u\" viewBox=\"0 0 %u %u\" "
@@ -167,6 +213,8 @@ static void draw(FILE *file, const struct device *device)
                   "<rect width=\"%u\" height=\"%u\" fill=\"#ffffff\"/>\n", width, height, width, height, width, height);
     draw_legend(file, device);
     draw_registers(file, device);
+    if (sealed != 0)
+        draw_memory(file, device, width, registers + 6);
     fprintf(file, "</svg>\n");
 }
 

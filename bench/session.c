@@ -68,3 +68,9 @@ void report(const struct session *session, const char *what)
     write_place(device);
     printf("\n");
 }
+
+void report_sealed(const struct session *session, uint64_t address)
+{
+    printf("%s:%lu: refused with %u, this would write over a sealed byte: address %" PRIu64 "\n", session->reader.path, session->reader.line,
+           BODLARINA_SEALED_BYTE, address);
+}

@@ -32,6 +32,9 @@ int in_memory(const struct session *session, size_t at, uint64_t address, uint64
 /* Whether a number that ends at this byte of a vector register lies in it; else the line is refused. */
 int in_vector(const struct session *session, size_t at, size_t end);
 
+/* Prints that what the line would enter was refused with 7, at this address. */
+void report_sealed(const struct session *session, uint64_t address);
+
 /* Prints the last answer if it is a refusal. */
 void report(const struct session *session, const char *what);
 

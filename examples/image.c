@@ -65,9 +65,12 @@ static int take_over(const char *what, const uint8_t *bytes, size_t length)
 
 static void show_numbers(void)
 {
-    static const char *const names[] = {"RLEN", "MLEN", "mtype", "tile_m", "tile_k", "tile_n", "seal start", "seal length"};
-    for (unsigned i = 0; i < 8; i++)
+    static const char *const names[] = {"RLEN", "MLEN", "mtype", "tile_m", "tile_k", "tile_n"};
+    for (unsigned i = 0; i < 6; i++)
         printf("  %-11s %4" PRIu64 "\n", names[i], bodlarina_get64(machine + 8 * i));
+    for (unsigned i = 0; i < bodlarina_get64(machine + BODLARINA_MACHINE_SEALS_AT); i++)
+        printf("  %-11s %4" PRIu64 ", %" PRIu64 " bytes\n", "sealed from", bodlarina_get64(machine + BODLARINA_MACHINE_SEAL_AT(i)),
+               bodlarina_get64(machine + BODLARINA_MACHINE_SEAL_AT(i) + 8));
 }
 
 /* The bytes of tr0 that are written. */

@@ -18,7 +18,7 @@
 enum { RLEN = 64, MLEN = 256, MEMORY_BYTES = 64 };
 
 /* Where the matrices lie in memory. The counts are sealed: no word of this machine can change them. */
-enum { COUNTS = 0, COUNTS_STRIDE = 4, COUNTS_BYTES = 12, WEIGHTS = 16, WEIGHTS_STRIDE = 2, SUMS = 32, SUMS_STRIDE = 8 };
+enum { COUNTS = 0, COUNTS_STRIDE = 4, COUNTS_BYTES = 12, WEIGHTS = 16, WEIGHTS_STRIDE = 2, SUMS = 32, SUMS_STRIDE = 8, SUMS_BYTES = 24 };
 
 /* Every byte that the machine works on belongs to the host. */
 static struct buffers {
@@ -109,6 +109,11 @@ int main(void)
     printf("the sums stored over the counts\n");
     step("msettilemi x0, 3", bodlarina_msettilemi(0, 3));
     point(COUNTS, SUMS_STRIDE);
+    step("msce32.m acc0, (x10), x11", bodlarina_msce32_m(0, 10, 11));
+
+    printf("the %d bytes of the sums sealed as well: ", SUMS_BYTES);
+    explain(bodlarina_bench_seal(&bench, SUMS, SUMS_BYTES));
+    point(SUMS, SUMS_STRIDE);
     step("msce32.m acc0, (x10), x11", bodlarina_msce32_m(0, 10, 11));
 
     printf("words that are wrong, each in its own way\n");

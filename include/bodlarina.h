@@ -4,18 +4,19 @@
  * A machine has eight tile registers tr0 to tr7 and two accumulators acc0 and acc1, a type (mtype) with the width of an element,
  * and tile sizes m, k and n. A WORD is one instruction of 32 bits (bodlarina_words.h encodes each). Each call gives an ANSWER: 0
  * is done, each other number one reason for a refusal. Each register byte has a MARK: written since the start, or not; reading an
- * element that was never written is refused. The SEAL is a range of memory that no store may change. A TURN is one step of a
- * product run: a word is handed out and carried out.
+ * element that was never written is refused. A SEAL is a range of memory that no store may change; a machine has none to eight. A TURN
+ * is one step of a product run: a word is handed out and carried out.
  *
  * The library holds nothing. The host owns every buffer and lends it for one call; a call allocates nothing, keeps nothing and
  * calls nothing back. Each function is proved to do what its definition says for EVERY argument, so a wrong length or a damaged
  * block is answered and never undefined. The host has to ensure only that
- *   - each pointer points to as many readable (and, unless const, writable) bytes as the length beside it says, and is not NULL,
- *     not even at length 0: then give the address of any byte;
+ *   - each pointer points to as many readable (and, unless const, writable) bytes as the length beside it says (seals to as many
+ *     numbers), and is not NULL, not even at length 0: then give the address of any byte or number;
  *   - the buffers of one call do not overlap;
  *   - while mfma.mm or a float run is carried out, the processor works with floats as C starts it: it rounds to the nearest, ties to
  *     even, and flushes no subnormal number to zero (no fesetround, no -ffast-math at the link, DAZ and FTZ off in MXCSR).
- * No alignment is asked. Calls on different buffers may run at once, in any number of threads; calls that share a buffer, in turn.
+ * No alignment is asked, but of seals that of its numbers. Calls on different buffers may run at once, in any number of threads; calls
+ * that share a buffer, in turn.
  * The deepest call, bodlarina_run, was measured to use less than 5,000 bytes of stack (x86-64, the largest machines); tests/library.c
  * measures it again and fails above 8 KiB.
  *
@@ -48,8 +49,8 @@ extern "C" {
 
 /* The number is 10,000 times the major number, 100 times the minor one, and the patch number. While the major number is 0, the minor
  * one goes up when a block or a signature changes: then compile the host again. */
-#define BODLARINA_VERSION "0.5.0"
-#define BODLARINA_VERSION_NUMBER 500
+#define BODLARINA_VERSION "0.6.0"
+#define BODLARINA_VERSION_NUMBER 600
 
 /* The number of the library that is linked. It is BODLARINA_VERSION_NUMBER, or header and library do not belong together. */
 uint64_t bodlarina_version(void);
@@ -79,7 +80,7 @@ uint64_t bodlarina_version(void);
 #define BODLARINA_SEALED_BYTE 7u     /* a store would write a sealed byte */
 #define BODLARINA_BAD_ARGUMENTS 8u   /* arguments: a block or buffer of the wrong length, or numbers that no machine,
                                         plan or run can have; a run that is asked past its last step */
-#define BODLARINA_OVERLAP 9u         /* a byte of C lies in two of its rows, in a row of A or B, or in the seal */
+#define BODLARINA_OVERLAP 9u         /* a byte of C lies in two of its rows, in a row of A or B, or in a seal */
 #define BODLARINA_WRONG_OPCODE 10u   /* bits 6..0 of the word are not 1110111 */
 #define BODLARINA_LEFT_OUT_WORD 11u  /* an instruction of the draft that is not carried out here: a float word other
                                         than mfma.mm or a conversion */
@@ -89,6 +90,7 @@ uint64_t bodlarina_version(void);
 #define BODLARINA_NO_ROOM 14u        /* an image does not fit the lent room */
 #define BODLARINA_DAMAGED 15u        /* not an image; the place is that of the first byte at which no image can go on,
                                         the length if it is only cut short */
+#define BODLARINA_TOO_MANY_SEALS 16u /* a ninth sealed range */
 
 /* What an answer, or the answer in a result, says: one line of plain text. */
 BODLARINA_INLINE const char *bodlarina_answer_text(uint64_t result)
@@ -103,13 +105,14 @@ BODLARINA_INLINE const char *bodlarina_answer_text(uint64_t result)
     case BODLARINA_OUTSIDE_MEMORY: return "an element lies outside memory";
     case BODLARINA_SEALED_BYTE: return "a store would write a sealed byte";
     case BODLARINA_BAD_ARGUMENTS: return "the arguments or the state are at fault, or the run is over";
-    case BODLARINA_OVERLAP: return "C overlaps A, B, the seal or itself";
+    case BODLARINA_OVERLAP: return "C overlaps A, B, a seal or itself";
     case BODLARINA_WRONG_OPCODE: return "the opcode is not 1110111";
     case BODLARINA_LEFT_OUT_WORD: return "an instruction of the draft that is not carried out here";
     case BODLARINA_WRONG_REGISTER: return "there is no such register, or a vector group starts at no multiple of its size";
     case BODLARINA_ROWS_OVERLAP: return "a byte of a store lies in two of its rows";
     case BODLARINA_NO_ROOM: return "the image does not fit the room";
     case BODLARINA_DAMAGED: return "this is no image, or it is cut short";
+    case BODLARINA_TOO_MANY_SEALS: return "a machine has at most eight sealed ranges";
     }
     return "no answer of this version";
 }
@@ -133,19 +136,25 @@ BODLARINA_INLINE void bodlarina_put64(uint8_t *bytes, uint64_t value)
         bytes[i] = (uint8_t)(value >> (8 * i) & 0xffu);
 }
 
-/* machine: ten numbers of 64 bits, each low byte first, at the bytes below. bodlarina_start writes them; the host may read, keep and
- * copy the block: bodlarina_get64(machine + BODLARINA_MACHINE_MTYPE_AT). */
-#define BODLARINA_MACHINE_BYTES 80
+/* machine: twenty-five numbers of 64 bits, each low byte first, at the bytes below. bodlarina_start writes them; the host may read, keep
+ * and copy the block: bodlarina_get64(machine + BODLARINA_MACHINE_MTYPE_AT). */
+#define BODLARINA_MACHINE_BYTES 200
 #define BODLARINA_MACHINE_RLEN_AT 0 /* RLEN and MLEN in bits */
 #define BODLARINA_MACHINE_MLEN_AT 8
 #define BODLARINA_MACHINE_MTYPE_AT 16
 #define BODLARINA_MACHINE_TILE_M_AT 24
 #define BODLARINA_MACHINE_TILE_K_AT 32
 #define BODLARINA_MACHINE_TILE_N_AT 40
-#define BODLARINA_MACHINE_SEAL_START_AT 48
+#define BODLARINA_MACHINE_SEAL_START_AT 48 /* of the first sealed range */
 #define BODLARINA_MACHINE_SEAL_LENGTH_AT 56
 #define BODLARINA_MACHINE_RULE_AT 64
 #define BODLARINA_MACHINE_ELEN_AT 72 /* in bits */
+#define BODLARINA_MACHINE_SEALS_AT 80 /* how many sealed ranges there are */
+
+/* Where the start of sealed range i stands in the block, and 8 bytes on its length: 0 is the first, 7 the last. What belongs to a range that is
+ * not there is 0; a block with anything else there is answered with 8. */
+#define BODLARINA_SEALS_MOST 8
+#define BODLARINA_MACHINE_SEAL_AT(i) ((i) == 0 ? 48 : 72 + 16 * (size_t)(i))
 
 /* The largest RLEN, MLEN and ELEN in bits. BODLARINA_REGISTER_BYTES(BODLARINA_MLEN_MOST) bytes hold the registers of any machine, and as many
  * its marks. */
@@ -183,25 +192,35 @@ BODLARINA_INLINE void bodlarina_put64(uint8_t *bytes, uint64_t value)
 #define BODLARINA_HALVING 1u /* the same, but of a size strictly between the maximum and twice it half, rounded up */
 
 /* Starts a machine: every mark becomes 0, mtype and the tile sizes become 0, the register bytes stay, and the
- * machine block is written. The seal is the range of memory that no store of this machine may change; length 0
- * seals nothing, and it may reach past the end of memory. What marks and machine held before does not matter.
+ * machine block is written. What marks and machine held before does not matter.
  *   rlen   a power of two from 64 to 4096
  *   mlen   a power of two from 128 to 65536, above rlen
  *   elen   the bits of the widest element: 32 or 64, below rlen. With 64, elements of 64 bits are legal in mtype, and maccq with
  *          those of 16 bits
  *   rule   what a tile setting gives of the size that it asks for: BODLARINA_SMALLER or BODLARINA_HALVING
- * Answers: 0; 8 for other lengths, another ELEN or rule, a buffer of the wrong size, or seal_start + seal_length above 2^64 - 1. */
-uint64_t bodlarina_start(uint64_t rlen, uint64_t mlen, uint64_t elen, uint64_t rule, uint64_t seal_start, uint64_t seal_length,
+ *   seals  none to eight ranges of memory that no store of this machine may change, the start and the length of each; seals_len counts
+ *          the numbers, two a range. Ranges may overlap and reach past the end of memory; one of length 0 seals nothing and counts
+ * Answers: 0; 8 for other lengths, another ELEN or rule, a buffer of the wrong size, an odd seals_len, or a range whose start + length is
+ * above 2^64 - 1; then 16 for more than eight ranges. */
+uint64_t bodlarina_start(uint64_t rlen, uint64_t mlen, uint64_t elen, uint64_t rule, const uint64_t *seals, size_t seals_len,
                          uint8_t *machine, size_t machine_len,
                          const uint8_t *registers, size_t registers_len,
                          uint8_t *marks, size_t marks_len);
 
+/* Seals a further range, behind the others, from now on; none is ever taken off. What memory holds there stays, and any word may read it. A
+ * product run may go on: a turn that would then write a sealed byte is refused with 7, and the run stays at its place.
+ * Answers: 0; 8 for a state at fault as in bodlarina_step, or start + length above 2^64 - 1; then 16 for a ninth range. */
+uint64_t bodlarina_seal(uint64_t start, uint64_t length,
+                        uint8_t *machine, size_t machine_len,
+                        const uint8_t *registers, size_t registers_len,
+                        const uint8_t *marks, size_t marks_len);
+
 /* Carries out one instruction word. rs1 and rs2 are read from scalars, rd is written there. Moves read and write the vector file.
  * Answers: 0, or the first that applies in the order 8, then 10, 11, 1, 12 (the word itself), then 2 to 6, 13, 7.
  * 8 means that the state is at fault: lengths or an ELEN that are not permitted, a buffer of the wrong size, an mtype that
- * cannot arise with that ELEN, a tile size above its maximum at 8 bits, another rule than 0 and 1, a seal whose end is above
- * 2^64 - 1, a mark other than 0 and 1, or another group size than 1, 2, 4 and 8. With buffers of the right size and such a
- * group size, a started machine that nothing but these functions has written never gets 8. */
+ * cannot arise with that ELEN, a tile size above its maximum at 8 bits, another rule than 0 and 1, more than eight sealed ranges, one
+ * whose end is above 2^64 - 1 or anything but 0 where there is none, a mark other than 0 and 1, or another group size than 1, 2, 4 and 8.
+ * With buffers of the right size and such a group size, a started machine that nothing but these functions has written never gets 8. */
 uint64_t bodlarina_step(uint32_t word, uint64_t group,
                         uint8_t *machine, size_t machine_len,
                         uint8_t *registers, size_t registers_len,
@@ -226,12 +245,13 @@ uint64_t bodlarina_step(uint32_t word, uint64_t group,
  *
  * A start checks the plan and the machine, and changes neither machine nor memory. Then each turn hands out one
  * instruction word and carries it out, until all are done. The machine may have been used before, and may be used
- * between runs; between the turns of one run, leave machine, registers, marks and memory to the run.
+ * between runs; between the turns of one run, leave machine, registers, marks and memory to the run. A further range may be sealed
+ * (bodlarina_seal); a turn that would write a byte of it is refused with 7.
  *
  * Answers of a start, the first that applies:
  *   8   a state at fault as in bodlarina_step, another kind, other widths or factors, or a size above 1,024
  *   6   an element of A, B or C lies outside memory
- *   9   a byte of C lies in two of its rows, in a row of A or B, or in the seal
+ *   9   a byte of C lies in two of its rows, in a row of A or B, or in a seal
  * A matrix with no element has nothing to test. */
 
 /* kind: what is multiplied, and how A lies in memory. */
@@ -319,15 +339,16 @@ uint64_t bodlarina_run(uint64_t kind, uint64_t sew, uint64_t factor, uint64_t m,
 /* The image of a machine: its numbers and its marked register bytes, to hand it over. Two machines have the same image
  * exactly if they differ at most in unmarked register bytes. It is made of numbers in groups of seven bits, low group
  * first, the top bit set on all but the last group, in the shortest form: the version and what belongs to it, the exponents
- * of RLEN and MLEN, mtype, tile_m, tile_k, tile_n, the seal's start and length, the number of runs; then for each maximal run
+ * of RLEN and MLEN, mtype, tile_m, tile_k, tile_n, start and length of each sealed range, the number of runs; then for each maximal run
  * of marked bytes, in the order of the registers, its gap from the end of the run before it (or from the start), its length,
  * and its bytes as they are. The version is the lowest that can hold the machine, and another one is refused:
- *   1                              RLEN up to 512, MLEN up to 4,096, ELEN 32 and rule 0
+ *   1                              one sealed range, RLEN up to 512, MLEN up to 4,096, ELEN 32 and rule 0
  *   2, the rule                    the same with rule 1
- *   3, the rule, ELEN's exponent   RLEN above 512, MLEN above 4,096 or ELEN 64, with either rule */
+ *   3, the rule, ELEN's exponent   one sealed range, RLEN above 512, MLEN above 4,096 or ELEN 64, either rule
+ *   4, the rule, ELEN's exponent   none or two to eight sealed ranges, any machine; their number stands before them */
 
 /* No image of a machine of this MLEN is longer. */
-#define BODLARINA_IMAGE_BYTES_MOST(mlen) (3 * (size_t)(mlen) + 64)
+#define BODLARINA_IMAGE_BYTES_MOST(mlen) (3 * (size_t)(mlen) + 256)
 
 /* The length of a machine's image, in bits 63..16.
  * Answers: 0; 8 for a state at fault as in bodlarina_step. */
@@ -356,19 +377,19 @@ uint64_t bodlarina_image_read(const uint8_t *image, size_t image_len,
  * hold before it lends them. */
 BODLARINA_INLINE uint64_t bodlarina_image_mlen(const uint8_t *image, size_t image_len)
 {
-    unsigned version = image_len == 0 ? 0u : image[0], elen = 5, rlen, mlen; /* elen, rlen, mlen: exponents */
-    if (version < 1 || version > 3 || image_len < version + 2u) /* RLEN and MLEN stand behind what belongs to the version */
+    unsigned version = image_len == 0 ? 0u : image[0], at = version < 3 ? version : 3u, elen = 5, rlen, mlen; /* the last three: exponents */
+    if (version < 1 || version > 4 || image_len < at + 2u) /* RLEN and MLEN stand behind what belongs to the version */
         return 0;
     if (version == 2 && image[1] != BODLARINA_HALVING)
         return 0;
-    if (version == 3) {
+    if (version >= 3) {
         elen = image[2];
         if (image[1] > BODLARINA_HALVING || elen < 5 || elen > 6)
             return 0;
     }
-    rlen = image[version];
-    mlen = image[version + 1];
-    if (rlen <= elen || mlen <= rlen || rlen > (version == 3 ? 12u : 9u) || mlen > (version == 3 ? 16u : 12u))
+    rlen = image[at];
+    mlen = image[at + 1];
+    if (rlen <= elen || mlen <= rlen || rlen > (version >= 3 ? 12u : 9u) || mlen > (version >= 3 ? 16u : 12u))
         return 0;
     if (version == 3 && elen == 5 && rlen <= 9 && mlen <= 12) /* a machine that a lower version holds */
         return 0;
@@ -419,11 +440,27 @@ struct bodlarina_plan {
     uint64_t kind; /* BODLARINA_PRODUCT, 0, unless it is set */
 };
 
+/* With as many sealed ranges as seals has, two numbers each; below with one, which counts if its length is 0 too. */
+BODLARINA_INLINE uint64_t bodlarina_bench_start_sealed(const struct bodlarina_bench *bench, uint64_t rlen, uint64_t mlen,
+                                                       const uint64_t *seals, size_t seals_len)
+{
+    return bodlarina_start(rlen, mlen, bench->elen == 0 ? 32 : bench->elen, bench->rule, seals, seals_len, bench->machine,
+                           bench->machine_len, bench->registers, bench->registers_len, bench->marks, bench->marks_len);
+}
+
 BODLARINA_INLINE uint64_t bodlarina_bench_start(const struct bodlarina_bench *bench, uint64_t rlen, uint64_t mlen,
                                                 uint64_t seal_start, uint64_t seal_length)
 {
-    return bodlarina_start(rlen, mlen, bench->elen == 0 ? 32 : bench->elen, bench->rule, seal_start, seal_length, bench->machine,
-                           bench->machine_len, bench->registers, bench->registers_len, bench->marks, bench->marks_len);
+    uint64_t seal[2];
+    seal[0] = seal_start;
+    seal[1] = seal_length;
+    return bodlarina_bench_start_sealed(bench, rlen, mlen, seal, 2);
+}
+
+BODLARINA_INLINE uint64_t bodlarina_bench_seal(const struct bodlarina_bench *bench, uint64_t start, uint64_t length)
+{
+    return bodlarina_seal(start, length, bench->machine, bench->machine_len, bench->registers, bench->registers_len, bench->marks,
+                          bench->marks_len);
 }
 
 BODLARINA_INLINE uint64_t bodlarina_bench_step(const struct bodlarina_bench *bench, uint32_t word)

@@ -1,5 +1,5 @@
 /* What the headers say beside the words: the version, the texts, the number of a run's steps, that slot 0 of the scalars is not
- * written, float runs, images, larger machines, moves, and how much stack a call uses. Writes a line for each, and ends with
+ * written, float runs, images, larger machines, moves, sealed ranges, and how much stack a call uses. Writes a line for each, and ends with
  * 'N passed, M failed'. */
 #define _GNU_SOURCE
 #include <inttypes.h>
@@ -19,6 +19,7 @@ static struct bodlarina_bench bench = {
     machine, sizeof machine, registers, sizeof registers, marks, sizeof marks,
     scalars, sizeof scalars, memory, sizeof memory, run, sizeof run, BODLARINA_SMALLER, 32, NULL, 0, 0,
 };
+static const uint64_t no_seals[1]; /* lent with a length of 0 */
 static int passed, failed;
 
 static void check(int right, const char *text)
@@ -41,14 +42,15 @@ static void texts(void)
 {
     const char *unknown = bodlarina_answer_text(0xffff);
     int right = 1;
-    for (unsigned i = 0; i <= BODLARINA_DAMAGED + 1; i++) {
-        int named = i <= BODLARINA_DAMAGED;
+    for (unsigned i = 0; i <= BODLARINA_TOO_MANY_SEALS + 1; i++) {
+        int named = i <= BODLARINA_TOO_MANY_SEALS;
         right = right && (bodlarina_answer_text(i) != unknown) == named;
         for (unsigned j = 0; named && j < i; j++)
             right = right && strcmp(bodlarina_answer_text(i), bodlarina_answer_text(j)) != 0;
     }
     right = right && strcmp(bodlarina_answer_text(14), "the image does not fit the room") == 0;
     right = right && strcmp(bodlarina_answer_text(15 | 70 << 16), "this is no image, or it is cut short") == 0;
+    right = right && strcmp(bodlarina_answer_text(16), "a machine has at most eight sealed ranges") == 0;
     check(right, "a text for each answer");
 }
 
@@ -268,8 +270,8 @@ static void image_damaged(void)
     for (size_t length = 0; length < whole; length++)
         right = right && damaged(length, 0, 1, length);
     check(right, "an image that is cut short: 15 and its length");
-    right = damaged(whole, 0, 0, 0) && damaged(whole, 0, 4, 0) && damaged(whole, 0, 129, 0); /* version */
-    right = right && damaged(whole, 0, 2, 1) && damaged(whole, 0, 3, 1);                    /* no rule after version 2 or 3 */
+    right = damaged(whole, 0, 0, 0) && damaged(whole, 0, 5, 0) && damaged(whole, 0, 129, 0); /* version */
+    right = right && damaged(whole, 0, 2, 1) && damaged(whole, 0, 3, 1) && damaged(whole, 0, 4, 1); /* no rule after version 2, 3 or 4 */
     right = right && damaged(whole, 1, 5, 1) && damaged(whole, 1, 10, 1);                   /* RLEN */
     right = right && damaged(whole, 2, 6, 2) && damaged(whole, 2, 13, 2);                   /* MLEN */
     right = right && damaged(whole, 3, 3, 3) && damaged(whole, 4, 3, 4);                    /* mtype, tile_m */
@@ -345,11 +347,11 @@ static struct bodlarina_bench large = {
     scalars, sizeof scalars, memory, sizeof memory, run, sizeof run, BODLARINA_SMALLER, 64, NULL, 0, 0,
 };
 
-/* The result of a start on buffers of the size that MLEN demands. */
+/* The result of a start without a sealed range, on buffers of the size that MLEN demands. */
 static uint64_t large_start(uint64_t rlen, uint64_t mlen, uint64_t elen)
 {
     large.registers_len = large.marks_len = BODLARINA_REGISTER_BYTES(mlen);
-    return bodlarina_start(rlen, mlen, elen, large.rule, 0, 0, large_machine, sizeof large_machine, large_registers, large.registers_len,
+    return bodlarina_start(rlen, mlen, elen, large.rule, no_seals, 0, large_machine, sizeof large_machine, large_registers, large.registers_len,
                            large_marks, large.marks_len);
 }
 
@@ -406,10 +408,10 @@ static int are_numbers(const uint8_t *block, const uint64_t *numbers, size_t cou
     return right;
 }
 
-/* Each number of the blocks at its byte; ELEN is the last. */
+/* Each number of the blocks at its byte. */
 static void block_numbers(void)
 {
-    static const uint64_t of_machine[] = {128, 256, 9, 2, 1, 2, 1000, 24, BODLARINA_HALVING, 64};
+    static const uint64_t of_machine[25] = {128, 256, 9, 2, 1, 2, 1000, 24, BODLARINA_HALVING, 64, 1};
     static const uint64_t of_run[] = {
         16, 4, 3, 5, 7, 8, 10, 200, 14, 400, 56, 128, 256, 0, 0, 0, 0, BODLARINA_A_TRANSPOSED, BODLARINA_HALVING, 64,
     };
@@ -418,8 +420,8 @@ static void block_numbers(void)
     int right = bodlarina_bench_start(&large, 128, 256, 1000, 24) == 0 && does(bodlarina_msettypei(0, BODLARINA_E16 | BODLARINA_MACCQ));
     large.rule = BODLARINA_SMALLER;
     right = right && does(bodlarina_msettilemi(0, 2)) && does(bodlarina_msettileki(0, 1)) && does(bodlarina_msettileni(0, 2));
-    right = right && BODLARINA_MACHINE_BYTES == 80 && BODLARINA_MACHINE_ELEN_AT == 72 && are_numbers(large_machine, of_machine, 10);
-    check(right, "the ten numbers of a machine's block");
+    right = right && BODLARINA_MACHINE_BYTES == 200 && BODLARINA_MACHINE_ELEN_AT == 72 && are_numbers(large_machine, of_machine, 25);
+    check(right, "the twenty-five numbers of a machine's block");
     right = BODLARINA_RUN_BYTES == 160 && bodlarina_bench_run_start(&large, &plan) == 0 && are_numbers(run, of_run, 20);
     check(right, "the twenty numbers of a run's block");
 }
@@ -695,7 +697,7 @@ static uint64_t place_of(const uint8_t *bytes, size_t length)
     return BODLARINA_ANSWER(result) == BODLARINA_DAMAGED ? BODLARINA_PLACE(result) : UINT64_MAX;
 }
 
-/* Images of each machine have the lowest version; a higher one, or a lower, is refused where it is known. */
+/* Images of each machine have the lowest version; a higher one, or a lower, is refused where it is known. Version 4 goes with any. */
 static void image_versions(void)
 {
     static const struct {
@@ -709,6 +711,7 @@ static void image_versions(void)
         /* each in its own */
         {{3, 0, 5, 6, 13}, 5, 5}, {{3, 1, 5, 9, 16}, 5, 5}, {{3, 0, 5, 10, 11}, 5, 5}, {{3, 0, 6, 7, 8}, 5, 5}, {{3, 0, 6, 12, 13}, 5, 5},
         {{1, 9, 12}, 3, 3}, {{2, 1, 9, 12}, 4, 4},
+        {{4, 0, 5, 6, 7}, 5, 5}, {{4, 1, 5, 9, 12}, 5, 5}, {{4, 1, 6, 12, 16}, 5, 5}, {{4, 0, 6, 6, 7}, 5, 3}, {{4, 2, 5, 6, 7}, 5, 1},
     };
     int right = 1;
     for (size_t i = 0; i < sizeof starts / sizeof starts[0]; i++) {
@@ -723,12 +726,13 @@ static void image_versions(void)
 static int mlen_right(uint8_t *end, const uint8_t *bytes)
 {
     int right = 1;
+    size_t lengths = (bytes[0] < 3 ? bytes[0] : 3) + 2u; /* where RLEN and MLEN are there */
     for (size_t length = 0; length <= 6; length++) {
         uint8_t *image_start = end - length;
         memcpy(image_start, bytes, length);
         uint64_t mlen = bodlarina_image_mlen(image_start, length);
-        int whole = length > 0 && length >= (size_t)bytes[0] + 2, header = whole && place_of(bytes, (size_t)bytes[0] + 2) == bytes[0] + 2u;
-        right = right && mlen == (header ? (uint64_t)1 << bytes[bytes[0] + 1] : 0);
+        int header = length >= lengths && place_of(bytes, lengths) == lengths;
+        right = right && mlen == (header ? (uint64_t)1 << bytes[lengths - 1] : 0);
     }
     return right;
 }
@@ -739,10 +743,10 @@ static void image_mlens(void)
     size_t page = (size_t)sysconf(_SC_PAGESIZE), count = sizeof values;
     uint8_t *pages = mmap(NULL, 2 * page, PROT_READ | PROT_WRITE, MAP_PRIVATE | MAP_ANONYMOUS, -1, 0);
     int right = mprotect(pages + page, page, PROT_NONE) == 0;
-    for (unsigned version = 0; version < 6; version++)
+    for (unsigned version = 0; version < 7; version++)
         for (size_t i = 0; i < count * count * count * count; i++) {
             const uint8_t bytes[6] = {
-                version < 5 ? (uint8_t)version : 255, values[i % count], values[i / count % count], values[i / count / count % count],
+                version < 6 ? (uint8_t)version : 255, values[i % count], values[i / count % count], values[i / count / count % count],
                 values[i / count / count / count], 0,
             };
             right = right && mlen_right(pages + page, bytes);
@@ -756,14 +760,17 @@ static void image_mlens(void)
 static uint8_t long_image[BODLARINA_IMAGE_BYTES_MOST(BODLARINA_MLEN_MOST)], long_again[sizeof long_image];
 
 /* The longest image: every second byte is marked, and the first two. Five bytes of version and lengths, ten of an illegal mtype, four of
- * the sizes 1024, 8 and 8, nineteen of the seal, three of the number of runs; then a run of four bytes and 65,535 runs of three. */
+ * the sizes 1024, 8 and 8, one of the number of ranges and nineteen of each of eight, three of the number of runs; then a run of four bytes and
+ * 65,535 runs of three. */
 static void image_longest(void)
 {
-    uint64_t length = (uint64_t)(5 + 10 + 4 + 19 + 3 + 4 + 3 * 65535);
+    uint64_t length = (uint64_t)(5 + 10 + 4 + 1 + 8 * 19 + 3 + 4 + 3 * 65535), seals[16];
     large.registers_len = large.marks_len = BODLARINA_REGISTER_BYTES(65536);
     large.rule = BODLARINA_HALVING;
     large.elen = 32;
-    int right = bodlarina_bench_start(&large, 64, 65536, (uint64_t)1 << 63, INT64_MAX) == 0;
+    for (unsigned i = 0; i < 16; i++)
+        seals[i] = i % 2 == 0 ? (uint64_t)1 << 63 : INT64_MAX;
+    int right = bodlarina_bench_start_sealed(&large, 64, 65536, seals, 16) == 0;
     large.rule = BODLARINA_SMALLER;
     large.elen = 64;
     right = right && does(bodlarina_msettilem(1, 0)) && does(bodlarina_msettilek(1, 0)) && does(bodlarina_msettilen(1, 0));
@@ -944,6 +951,369 @@ static void moves(void)
     short_scalars();
 }
 
+/* ---- sealed ranges, on the machine of RLEN 64 and MLEN 128 ---- */
+
+enum { RANGES_TRIED = 20, SEALED_AT = 100, SEALED_BYTES = 3, ONES_AT = 0 };
+
+/* Ranges behind memory, every second of length 0; each has numbers of its own. */
+static void far_ranges(uint64_t *seals, size_t count)
+{
+    for (size_t i = 0; i < count; i++) {
+        seals[2 * i] = MEMORY_BYTES + i;
+        seals[2 * i + 1] = i % 2;
+    }
+}
+
+static uint64_t small_start(const uint64_t *seals, size_t numbers) { return bodlarina_bench_start_sealed(&small, 64, SMALL, seals, numbers); }
+
+/* The block has these ranges in this order, and 0 wherever there is none. */
+static int ranges_are(const uint64_t *seals, size_t count)
+{
+    int right = bodlarina_get64(small_machine + BODLARINA_MACHINE_SEALS_AT) == count;
+    for (size_t i = 0; i < BODLARINA_SEALS_MOST; i++) {
+        const uint8_t *slot = small_machine + BODLARINA_MACHINE_SEAL_AT(i);
+        right = right && bodlarina_get64(slot) == (i < count ? seals[2 * i] : 0) && bodlarina_get64(slot + 8) == (i < count ? seals[2 * i + 1] : 0);
+    }
+    return right;
+}
+
+static int start_refused(const uint64_t *seals, size_t numbers, uint64_t answer)
+{
+    fill();
+    return small_start(seals, numbers) == answer && untouched();
+}
+
+/* So many ranges, a bad end at each place, and a number too many. */
+static int starts_right(size_t count)
+{
+    uint64_t seals[2 * RANGES_TRIED + 1] = {0};
+    int right = 1;
+    far_ranges(seals, count);
+    fill();
+    if (count <= BODLARINA_SEALS_MOST)
+        right = small_start(seals, 2 * count) == 0 && ranges_are(seals, count) && all(small_marks, 0, SMALL_BYTES, 0);
+    else
+        right = start_refused(seals, 2 * count, BODLARINA_TOO_MANY_SEALS);
+    right = right && start_refused(seals, 2 * count + 1, BODLARINA_BAD_ARGUMENTS);
+    for (size_t bad = 0; bad < count; bad++) {
+        far_ranges(seals, count);
+        seals[2 * bad] = UINT64_MAX; /* with a length of 1 its end is 2^64 */
+        seals[2 * bad + 1] = 1;
+        right = right && start_refused(seals, 2 * count, BODLARINA_BAD_ARGUMENTS);
+        seals[2 * bad + 1] = 0;
+        right = right && small_start(seals, 2 * count) == (count <= BODLARINA_SEALS_MOST ? 0 : BODLARINA_TOO_MANY_SEALS);
+    }
+    return right;
+}
+
+static void sealed_starts(void)
+{
+    uint64_t seals[2 * RANGES_TRIED];
+    int right = BODLARINA_SEALS_MOST == 8 && BODLARINA_MACHINE_SEAL_AT(0) == 48 && BODLARINA_MACHINE_SEALS_AT == 80
+                && BODLARINA_MACHINE_SEAL_AT(1) == 88 && BODLARINA_MACHINE_SEAL_AT(7) == 184;
+    for (size_t count = 0; count <= RANGES_TRIED; count++)
+        right = right && starts_right(count);
+    check(right, "starts with none to twenty ranges: 0 up to eight, 16 above; 8 first, for a bad end beyond the ninth and an odd count too");
+    far_ranges(seals, 9);
+    fill();
+    right = bodlarina_bench_start_sealed(&small, 64, 2 * SMALL, seals, 18) == BODLARINA_BAD_ARGUMENTS && untouched();
+    small.rule = 2;
+    right = right && start_refused(seals, 18, BODLARINA_BAD_ARGUMENTS);
+    small.rule = BODLARINA_SMALLER;
+    check(right, "nine ranges and another fault of a start: 8");
+}
+
+static int small_state_is(const uint8_t *block, const uint8_t *bytes, const uint8_t *with_marks)
+{
+    return memcmp(small_machine, block, sizeof small_machine) == 0 && memcmp(small_registers, bytes, SMALL_BYTES) == 0
+           && memcmp(small_marks, with_marks, SMALL_BYTES) == 0;
+}
+
+/* A further range: this answer; refused, no byte changes. */
+static int seal_gets(const struct bodlarina_bench *on, uint64_t start, uint64_t length, uint64_t answer)
+{
+    uint8_t block[sizeof small_machine], bytes[SMALL_BYTES], with_marks[SMALL_BYTES];
+    memcpy(block, small_machine, sizeof block);
+    memcpy(bytes, small_registers, sizeof bytes);
+    memcpy(with_marks, small_marks, sizeof with_marks);
+    int right = bodlarina_bench_seal(on, start, length) == answer;
+    if (answer == 0) /* the ranges are looked at by the caller */
+        memcpy(block + BODLARINA_MACHINE_SEAL_START_AT, small_machine + BODLARINA_MACHINE_SEAL_START_AT, 16);
+    if (answer == 0)
+        memcpy(block + BODLARINA_MACHINE_SEALS_AT, small_machine + BODLARINA_MACHINE_SEALS_AT, sizeof block - BODLARINA_MACHINE_SEALS_AT);
+    return right && small_state_is(block, bytes, with_marks);
+}
+
+static int bad_ends_get_8(void)
+{
+    return seal_gets(&small, UINT64_MAX, 1, BODLARINA_BAD_ARGUMENTS) && seal_gets(&small, 1, UINT64_MAX, BODLARINA_BAD_ARGUMENTS)
+           && seal_gets(&small, UINT64_MAX, UINT64_MAX, BODLARINA_BAD_ARGUMENTS);
+}
+
+static void further_ranges(void)
+{
+    uint64_t seals[16];
+    struct bodlarina_bench other = small;
+    int right = 1;
+    far_ranges(seals, 8);
+    seals[4] = UINT64_MAX; /* of length 0 */
+    for (size_t first = 0; first <= BODLARINA_SEALS_MOST; first++) {
+        fill();
+        right = right && small_start(seals, 2 * first) == 0;
+        for (size_t i = first; i < BODLARINA_SEALS_MOST; i++) {
+            right = right && bad_ends_get_8() && ranges_are(seals, i);
+            right = right && seal_gets(&small, seals[2 * i], seals[2 * i + 1], 0) && ranges_are(seals, i + 1);
+        }
+        right = right && seal_gets(&small, 0, 0, BODLARINA_TOO_MANY_SEALS) && seal_gets(&small, 0, 5, BODLARINA_TOO_MANY_SEALS) && bad_ends_get_8();
+    }
+    check(right, "further ranges up to the eighth, then 16; a bad end gets 8 first; nothing else changes");
+    small_marks[5] = 2;
+    right = seal_gets(&small, 0, 0, BODLARINA_BAD_ARGUMENTS);
+    small_marks[5] = 0;
+    other.registers_len--;
+    right = right && seal_gets(&other, 0, 0, BODLARINA_BAD_ARGUMENTS);
+    other = small;
+    other.marks_len--;
+    right = right && seal_gets(&other, 0, 0, BODLARINA_BAD_ARGUMENTS);
+    for (other = small; other.machine_len-- > 0;)
+        right = right && seal_gets(&other, 0, 0, BODLARINA_BAD_ARGUMENTS);
+    check(right && seal_gets(&small, 0, 0, BODLARINA_TOO_MANY_SEALS), "a further range on a state at fault: 8 before 16");
+}
+
+/* C = A x B on the small machine, two rows of C at a time; each block of C is two rows of two bytes, one after the other. */
+static const struct bodlarina_plan sealed_plan = {8, 1, 4, 2, 2, {ONES_AT, 2}, {ONES_AT, 2}, {SEALED_AT - 4, 2}, BODLARINA_PRODUCT};
+
+/* Every call that looks at the machine is refused with 8, and no byte changes. */
+static int is_at_fault(void)
+{
+    uint8_t room[1024] = {0}, block[sizeof small_machine], bytes[SMALL_BYTES], with_marks[SMALL_BYTES], its_run[sizeof run];
+    uint64_t steps;
+    memcpy(block, small_machine, sizeof block);
+    memcpy(bytes, small_registers, sizeof bytes);
+    memcpy(with_marks, small_marks, sizeof with_marks);
+    memcpy(its_run, run, sizeof its_run);
+    int right = bodlarina_bench_step(&small, bodlarina_msettypei(0, BODLARINA_E16)) == BODLARINA_BAD_ARGUMENTS;
+    right = right && bodlarina_bench_seal(&small, 0, 0) == BODLARINA_BAD_ARGUMENTS;
+    right = right && bodlarina_bench_image_size(&small) == BODLARINA_BAD_ARGUMENTS;
+    right = right && bodlarina_bench_image_write(&small, room, sizeof room) == BODLARINA_BAD_ARGUMENTS && all(room, 0, sizeof room, 0);
+    right = right && bodlarina_bench_run_start(&small, &sealed_plan) == BODLARINA_BAD_ARGUMENTS;
+    right = right && bodlarina_bench_run_turn(&small) == BODLARINA_BAD_ARGUMENTS && bodlarina_bench_run_turns(&small, 3) == 0;
+    right = right && bodlarina_bench_run(&small, &sealed_plan, &steps) == BODLARINA_BAD_ARGUMENTS;
+    return right && small_state_is(block, bytes, with_marks) && memcmp(run, its_run, sizeof run) == 0;
+}
+
+/* Blocks of a machine with so many ranges, damaged in each way. */
+static int damage_right(size_t count)
+{
+    const uint64_t counts[] = {9, 10, 127, 255, 256 + count, 65536 + count, ((uint64_t)1 << 32) + count, UINT64_MAX};
+    uint64_t seals[16];
+    int right = 1;
+    for (size_t i = 0; i < 16; i++)
+        seals[i] = MEMORY_BYTES + i;
+    right = small_start(seals, 2 * count) == 0 && bodlarina_bench_run_start(&small, &sealed_plan) == 0;
+    for (size_t i = 0; i < sizeof counts / sizeof counts[0]; i++) {
+        bodlarina_put64(small_machine + BODLARINA_MACHINE_SEALS_AT, counts[i]);
+        right = right && is_at_fault();
+    }
+    for (size_t less = 0; less < count; less++) {
+        bodlarina_put64(small_machine + BODLARINA_MACHINE_SEALS_AT, less);
+        right = right && is_at_fault();
+    }
+    bodlarina_put64(small_machine + BODLARINA_MACHINE_SEALS_AT, count);
+    for (size_t i = count; i < BODLARINA_SEALS_MOST; i++)
+        for (size_t byte = 0; byte < 16; byte++) {
+            small_machine[BODLARINA_MACHINE_SEAL_AT(i) + byte] = byte % 2 == 0 ? 1 : 128;
+            right = right && is_at_fault();
+            small_machine[BODLARINA_MACHINE_SEAL_AT(i) + byte] = 0;
+        }
+    for (size_t i = 0; i < count; i++) {
+        bodlarina_put64(small_machine + BODLARINA_MACHINE_SEAL_AT(i), UINT64_MAX - seals[2 * i + 1] + 1);
+        right = right && is_at_fault();
+        bodlarina_put64(small_machine + BODLARINA_MACHINE_SEAL_AT(i), UINT64_MAX - seals[2 * i + 1]);
+        right = right && bodlarina_bench_step(&small, bodlarina_msettypei(0, BODLARINA_E8)) == 0;
+    }
+    return right;
+}
+
+static void damaged_blocks(void)
+{
+    int right = 1;
+    for (size_t count = 0; count <= BODLARINA_SEALS_MOST; count++)
+        right = right && damage_right(count);
+    check(right, "a block with another number of ranges, something in an unused slot or a bad end: 8 in every call");
+}
+
+/* A machine with so many ranges, of which one lies in memory; tr0 is two rows of two ones. */
+static int one_in_memory(size_t count, size_t which)
+{
+    uint64_t seals[16];
+    far_ranges(seals, count);
+    seals[2 * which] = SEALED_AT;
+    seals[2 * which + 1] = SEALED_BYTES;
+    memset(memory, 0, 2 * SEALED_AT);
+    memset(memory + ONES_AT, 1, 4);
+    bodlarina_bench_set_scalar(&small, 10, ONES_AT);
+    bodlarina_bench_set_scalar(&small, 11, 2);
+    return small_start(seals, 2 * count) == 0 && bodlarina_bench_step(&small, bodlarina_msettilemi(0, 2)) == 0
+           && bodlarina_bench_step(&small, bodlarina_msettileki(0, 2)) == 0 && bodlarina_bench_step(&small, bodlarina_mlae8_m(0, 10, 11)) == 0;
+}
+
+/* The store of tr0, two rows of two bytes so far apart: refused with 7 exactly if one of them has a sealed byte, and done otherwise. */
+static int store_right(uint64_t address, uint64_t apart)
+{
+    int right = 1, sealed = 0;
+    memset(memory + 4, 0, 2 * SEALED_AT - 4);
+    for (uint64_t i = 0; i < 4; i++) {
+        uint64_t at = address + i / 2 * apart + i % 2;
+        sealed = sealed || (at >= SEALED_AT && at < SEALED_AT + SEALED_BYTES);
+    }
+    bodlarina_bench_set_scalar(&small, 10, address);
+    bodlarina_bench_set_scalar(&small, 11, apart);
+    right = bodlarina_bench_step(&small, bodlarina_msae8_m(0, 10, 11)) == (sealed ? BODLARINA_SEALED_BYTE : 0);
+    for (uint64_t at = 4; at < 2 * SEALED_AT; at++) {
+        int stored = at - address < 2 || at - address - apart < 2;
+        right = right && memory[at] == (!sealed && stored);
+    }
+    return right;
+}
+
+/* The start of a run whose C is eight bytes from here on: refused with 9 exactly if one of them is sealed. */
+static int run_start_right(uint64_t c)
+{
+    struct bodlarina_plan plan = sealed_plan;
+    uint64_t steps, answer = c < SEALED_AT + SEALED_BYTES && c + 8 > SEALED_AT ? BODLARINA_OVERLAP : 0;
+    plan.c.address = c;
+    return bodlarina_bench_run_start(&small, &plan) == answer && bodlarina_bench_run(&small, &plan, &steps) == answer
+           && all(memory, SEALED_AT, SEALED_AT + SEALED_BYTES, 0);
+}
+
+static void each_range(void)
+{
+    int stores = 1, starts = 1;
+    for (size_t count = 1; count <= BODLARINA_SEALS_MOST; count++)
+        for (size_t which = 0; which < count; which++)
+            for (uint64_t address = SEALED_AT - 20; address < SEALED_AT + 10; address++) {
+                stores = stores && one_in_memory(count, which) && store_right(address, 2) && store_right(address, 11);
+                memset(memory + 4, 0, 2 * SEALED_AT - 4);
+                starts = starts && run_start_right(address);
+            }
+    check(stores, "a store over each of eight ranges: 7, and nothing changes");
+    check(starts, "the start of a run over each of eight ranges: 9");
+}
+
+/* A range over the second block of C, added after so many of the 17 turns: the last of them, which stores that block, is refused with 7. Each turn
+ * before it is done, the run stays at its place, and nothing changes. */
+static int added_right(uint64_t turns, int one_by_one)
+{
+    uint8_t block[sizeof small_machine], bytes[SMALL_BYTES], with_marks[SMALL_BYTES], its_run[sizeof run];
+    uint64_t done = turns;
+    memset(memory, 0, 2 * SEALED_AT);
+    memset(memory + ONES_AT, 1, 8);
+    int right = small_start(no_seals, 0) == 0 && bodlarina_bench_run_start(&small, &sealed_plan) == 0;
+    right = right && bodlarina_bench_run_turns(&small, turns) == turns && bodlarina_bench_seal(&small, SEALED_AT, SEALED_BYTES) == 0;
+    if (!one_by_one)
+        done += bodlarina_bench_run_turns(&small, 100);
+    while (right && one_by_one && done < 17 && bodlarina_bench_run_turn(&small) == 0)
+        done++;
+    memcpy(block, small_machine, sizeof block);
+    memcpy(bytes, small_registers, sizeof bytes);
+    memcpy(with_marks, small_marks, sizeof with_marks);
+    memcpy(its_run, run, sizeof its_run);
+    right = right && done == 16 && bodlarina_bench_run_turn(&small) == BODLARINA_SEALED_BYTE && bodlarina_bench_run_turns(&small, 1) == 0;
+    right = right && small_state_is(block, bytes, with_marks) && memcmp(run, its_run, sizeof run) == 0 && !bodlarina_bench_run_is_over(&small);
+    return right && all(memory, SEALED_AT - 4, SEALED_AT, 2) && all(memory, SEALED_AT, 2 * SEALED_AT, 0);
+}
+
+/* One beside C, and one over a block that is stored already, change nothing of the run. */
+static int added_elsewhere(uint64_t turns, uint64_t start, uint64_t length)
+{
+    memset(memory, 0, 2 * SEALED_AT);
+    memset(memory + ONES_AT, 1, 8);
+    int right = small_start(no_seals, 0) == 0 && bodlarina_bench_run_start(&small, &sealed_plan) == 0;
+    right = right && bodlarina_bench_run_turns(&small, turns) == turns && bodlarina_bench_seal(&small, start, length) == 0;
+    right = right && bodlarina_bench_run_turns(&small, 100) == 17 - turns && bodlarina_bench_run_is_over(&small);
+    return right && all(memory, SEALED_AT - 4, SEALED_AT + 4, 2) && all(memory, SEALED_AT + 4, 2 * SEALED_AT, 0);
+}
+
+static void added_to_runs(void)
+{
+    int right = 1;
+    for (uint64_t turns = 0; turns <= 16; turns++) {
+        right = right && added_right(turns, 0) && added_right(turns, 1) && added_elsewhere(turns, SEALED_AT + 4, 50);
+        right = right && added_elsewhere(turns, SEALED_AT, 0) && (turns < 9 || added_elsewhere(turns, SEALED_AT - 4, 4));
+    }
+    check(right, "a range added between the turns of a run: later turns get 7, the place stays; others go on");
+}
+
+/* ---- images of version 4: the machine of the image above with other ranges ---- */
+
+static const uint8_t image_none[] = {4, 0, 5, 6, 7, 1, 2, 2, 3, 0, 2, 1, 2, 11, 0, 252, 1, 1, 255};
+static const uint8_t image_two[] = {4, 0, 5, 6, 7, 1, 2, 2, 3, 2, 5, 172, 2, 0, 0, 2, 1, 2, 11, 0, 252, 1, 1, 255};
+
+/* The last three: 2^64 - 1 and 0, 128 and 127, 7 and 7; halving. */
+static const uint8_t image_eight[] = {
+    4, 1, 5, 6, 7, 1, 2, 2, 3, 8, 5, 172, 2, 0, 0, 1, 1, 1, 1, 3, 0, 255, 255, 255, 255, 255, 255, 255, 255, 255, 1, 0, 128, 1, 127, 7, 7,
+    2, 1, 2, 11, 0, 252, 1, 1, 255,
+};
+static const uint64_t of_eight[] = {5, 300, 0, 0, 1, 1, 1, 1, 3, 0, UINT64_MAX, 0, 128, 127, 7, 7};
+
+/* Read, and written as it was; cut short, it is refused with its length. */
+static int ranges_round(const uint8_t *bytes, size_t length, const uint64_t *seals, size_t count)
+{
+    uint8_t room[sizeof image_eight + 1];
+    memset(room, 9, sizeof room);
+    fill();
+    int right = bodlarina_image_mlen(bytes, length) == SMALL && bodlarina_bench_image_read(&small, bytes, length) == 0 && ranges_are(seals, count);
+    right = right && bodlarina_get64(small_machine + BODLARINA_MACHINE_RULE_AT) == bytes[1];
+    right = right && bodlarina_get64(small_machine + BODLARINA_MACHINE_TILE_N_AT) == 3 && small_registers[1] == 11 && small_marks[255] == 1;
+    right = right && bodlarina_bench_image_size(&small) == (uint64_t)length << 16;
+    right = right && bodlarina_bench_image_write(&small, room, length - 1) == BODLARINA_NO_ROOM && all(room, 0, sizeof room, 9);
+    right = right && bodlarina_bench_image_write(&small, room, sizeof room) == (uint64_t)length << 16;
+    right = right && memcmp(room, bytes, length) == 0 && all(room, length, sizeof room, 9);
+    fill();
+    for (size_t cut = 0; cut < length; cut++)
+        right = right && bodlarina_bench_image_read(&small, bytes, cut) == ((uint64_t)cut << 16 | BODLARINA_DAMAGED);
+    return right && untouched();
+}
+
+/* A byte of an image changed: refused with 15 and this place. */
+static int ranges_damaged(const uint8_t *bytes, size_t length, size_t at, uint8_t value, uint64_t place)
+{
+    uint8_t changed[sizeof image_eight];
+    memcpy(changed, bytes, length);
+    changed[at] = value;
+    fill();
+    return bodlarina_bench_image_read(&small, changed, length) == (place << 16 | BODLARINA_DAMAGED) && untouched();
+}
+
+static void range_images(void)
+{
+    static const uint8_t counts[] = {1, 9, 10, 127, 128, 129, 130, 136, 255};
+    int right = ranges_round(image_none, sizeof image_none, of_eight, 0) && ranges_round(image_two, sizeof image_two, of_eight, 2);
+    check(right && ranges_round(image_eight, sizeof image_eight, of_eight, 8), "images with none, two and eight ranges, there and back; cut short");
+    for (size_t i = 0; i < sizeof counts; i++) {
+        right = right && ranges_damaged(image_none, sizeof image_none, 9, counts[i], 9);
+        right = right && ranges_damaged(image_two, sizeof image_two, 9, counts[i], 9);
+        right = right && ranges_damaged(image_eight, sizeof image_eight, 9, counts[i], 9);
+    }
+    check(right, "an image with one range in version 4, or with more than eight: 15 at their number");
+    right = ranges_damaged(image_two, sizeof image_two, 9, 0, 12);               /* five runs and a gap of 300 */
+    right = right && ranges_damaged(image_two, sizeof image_two, 9, 3, 19);      /* a run without a byte */
+    right = right && ranges_damaged(image_eight, sizeof image_eight, 31, 1, 31); /* an end of 2^64 */
+    right = right && ranges_damaged(image_eight, sizeof image_eight, 30, 2, 30); /* a start of 3 * 2^63 - 1 */
+    check(right, "an image with a range too few, a range too many or a bad end: 15 and the place");
+}
+
+static void sealed_ranges(void)
+{
+    sealed_starts();
+    further_ranges();
+    damaged_blocks();
+    each_range();
+    added_to_runs();
+    range_images();
+}
+
 /* ---- stack: a call in a thread whose stack was painted ---- */
 
 enum { STACK_STRIDE = 1208 };
@@ -960,6 +1330,7 @@ static void whole_run(void) { stack_result = bodlarina_bench_run(&large, &stack_
 static void run_start(void) { stack_result = bodlarina_bench_run_start(&large, &stack_plan); }
 static void all_turns(void) { stack_result = bodlarina_bench_run_turns(&large, UINT64_MAX) == 0; }
 static void one_step(void) { stack_result = bodlarina_bench_step(&large, stack_word); }
+static void one_range(void) { stack_result = bodlarina_bench_seal(&large, MEMORY_BYTES + 8, 1); }
 static void image_size(void) { stack_result = BODLARINA_ANSWER(bodlarina_bench_image_size(&large)); }
 static size_t stack_image_length;
 
@@ -1100,9 +1471,12 @@ static int measure_type(unsigned width, unsigned times)
            && measure_plan(BODLARINA_A_TRANSPOSED, (uint64_t)8 << width, (uint64_t)1 << times);
 }
 
+/* With eight ranges behind memory. */
 static int measure_machine(uint64_t rlen, uint64_t mlen, uint64_t elen)
 {
     int right = large_start(rlen, mlen, elen) == 0;
+    for (unsigned i = 0; i < BODLARINA_SEALS_MOST; i++)
+        right = right && measure(one_range);
     for (unsigned width = 0; width < 4; width++)
         for (unsigned times = 0; times < 3; times++)
             right = right && ((uint64_t)8 << (width + times) > elen || measure_type(width, times));
@@ -1129,6 +1503,7 @@ int main(void)
     images();
     larger();
     moves();
+    sealed_ranges();
     stack();
     printf("%d passed, %d failed\n", passed, failed);
     return failed != 0;
