@@ -5,9 +5,10 @@
 #include <string.h>
 #include <time.h>
 
-static uint8_t machine[BODLARINA_MACHINE_BYTES], registers[131072], marks[131072], scalars[256], vectors[512], run[BODLARINA_RUN_BYTES], seals[16];
+static uint8_t machine[BODLARINA_MACHINE_BYTES], registers[131072], marks[131072], scalars[256], vectors[512], run[BODLARINA_RUN_BYTES];
+static uint64_t seals[16]; /* one range that seals nothing, where the header takes ranges */
 static uint8_t *memory;
-static size_t memory_len, size;
+static size_t memory_len, size, seal_numbers = 2;
 static uint64_t elen = 32, group = 1;
 
 static double now(void) {
@@ -130,6 +131,25 @@ int main(void) {
             snprintf(title, sizeof title, "%s, %s, ns", words[j].name, on[i].name);
             step(title, on[i].rlen, on[i].mlen, words[j].mtype, words[j].word);
         }
+    /* a store beside eight sealed ranges: behind its rows, and between its first two; a tree without several ranges refuses it */
+    for (int i = 0; i < 4; i++) {
+        uint64_t rlen = on[i / 2].rlen, mlen = on[i / 2].mlen;
+        char title[80];
+        snprintf(title, sizeof title, "store C, 8 ranges %s, %s, ns", i % 2 ? "between rows" : "behind", on[i / 2].name);
+#ifdef BODLARINA_SEALS_MOST
+        for (int j = 0; j < 8; j++) {
+            seals[2 * j] = i % 2 ? 8 + rlen / 8 + (uint64_t)j : 40000 + 100 * (uint64_t)j;
+            seals[2 * j + 1] = i % 2 ? 1 : 50;
+        }
+        seal_numbers = 16;
+        step(title, rlen, mlen, 0, TRANSFER(1));
+        memset(seals, 0, sizeof seals);
+        seal_numbers = 2;
+#else
+        (void)rlen, (void)mlen;
+        printf("%s\t-1\t0\n", title);
+#endif
+    }
     /* groups of eight lines, on the smallest machine that has so many rows and columns, and on a large one */
     group = 8;
     for (int i = 0; i < 2; i++) {

@@ -7,7 +7,7 @@ use crate::moves::reckoned::rows_of_moves;
 use crate::random::Random;
 use crate::states::{set_size, SIZES, WIDTHS};
 use crate::tally::{families, family_name};
-use model::{assemble, maximum, sew, Kind, Lengths, LISTING, SMALLER};
+use model::{assemble, maximum, sew, Kind, Lengths, Seal, Seals, LISTING, SMALLER};
 use std::hint::black_box;
 use std::time::Instant;
 
@@ -27,6 +27,7 @@ pub fn bench() {
     steps_by_family();
     transposed_moves();
     moves_of_groups();
+    stores_beside_ranges();
     multiply_accumulates();
     against_the_second_program();
     images();
@@ -179,6 +180,45 @@ fn moves_of_groups() {
         });
         let answers = format!("{first}, {second}");
         println!("{:28}{small:>20.1}{large:>20.1}{:>10.2}{answers:>10}", row.name, large / small);
+    }
+}
+
+/// Stores of C on machines with one and with eight ranges, behind the rows or between the
+/// first two of them.
+fn stores_beside_ranges() {
+    println!();
+    println!("nanoseconds of a store of C at SEW 8 by the number of sealed ranges: 1, 8, ratio");
+    let [small, large] = [SMALL, LARGE].map(machine_name);
+    println!("{:28}{small:>30}{large:>30}{:>12}", "", "answers");
+    for width in [8, 32] {
+        for between in [false, true] {
+            let name = format!("msce{width}.m");
+            let word = assemble(&name, &[("rs1", 1), ("rs2", 2)]);
+            let mut answers = Vec::new();
+            print!("{:28}", format!("{name}, {}", if between { "between rows" } else { "behind" }));
+            for machine in [SMALL, LARGE] {
+                let [one, eight] = [1, 8].map(|number| {
+                    let mut lent = full_bench(machine, 8, 32768);
+                    lent.set_scalar(1, 8);
+                    lent.set_scalar(2, machine.0 / 2 + 8);
+                    let row_bytes = machine.0 / 8 * width / 8;
+                    let range = |at| match between {
+                        true => (8 + row_bytes + at, 1),
+                        false => (20_000 + 100 * at, 50),
+                    };
+                    let list: Vec<Seal> = (0..number).map(range).collect();
+                    let seals = Seals::of(&list);
+                    lent.set_machine(&model::Machine { seals, ..lent.machine() });
+                    let mut given = 0;
+                    let time =
+                        nanoseconds(|| given = black_box(library_step(black_box(word), &mut lent)));
+                    answers.push(given & 0xFFFF);
+                    time
+                });
+                print!("{one:>10.1}{eight:>10.1}{:>10.2}", eight / one);
+            }
+            println!("{:>12}", answers.iter().map(u64::to_string).collect::<Vec<_>>().join(","));
+        }
     }
 }
 

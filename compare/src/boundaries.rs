@@ -6,7 +6,8 @@ use crate::random::Random;
 use crate::states::{
     any_operands, any_row, any_scalar, bench_of, good_case, good_machine, left_out_word, lengths,
     lengths_at_64, lines_of, machine_fitting_on, moved_rows, mtypes, put_state_fault, raise_sizes,
-    register_fields, set_size, unmark_source, wrapping_stride, Case, SIZES, WILD_STRIDES,
+    register_fields, seals_with, set_size, unmark_source, wrapping_stride, Case, SIZES,
+    WILD_STRIDES,
 };
 use crate::suite::{check_step, each_case, Context, Outcome};
 use model::{maximum, sew, Kind, Lengths, Machine, Matrix, Row, Size, LEFT_OUT, LISTING, MILL};
@@ -262,10 +263,10 @@ fn laid_store(random: &mut Random) -> (Moving, i64, i128, i128) {
     (moving, stride, 5 - lowest, extent + 10)
 }
 
-pub fn seal(case: &mut Case, start: u64, length: u64) {
+/// A range, mostly alone, else among others that seal nothing in memory.
+pub fn seal(random: &mut Random, case: &mut Case, start: u64, length: u64) {
     let mut machine = case.lent.machine();
-    machine.seal_start = start;
-    machine.seal_length = length;
+    machine.seals = seals_with(random, (start, length));
     case.lent.set_machine(&machine);
 }
 
@@ -274,7 +275,7 @@ fn seal_on_a_byte(random: &mut Random) -> Made {
     let row = random.below(moving.rows as u64) as i128;
     let byte = random.below(moving.row_bytes as u64) as i128;
     let mut case = moving.lay(random, address, stride, memory);
-    seal(&mut case, (address + row * stride as i128 + byte) as u64, 1);
+    seal(random, &mut case, (address + row * stride as i128 + byte) as u64, 1);
     (case, 7)
 }
 
@@ -285,7 +286,7 @@ fn seal_beside(random: &mut Random) -> Made {
     let row = random.below(moving.rows as u64 + 1) as i128;
     let memory = memory + moving.rows;
     let mut case = moving.lay(random, 5, stride, memory);
-    seal(&mut case, (5 + row * stride as i128 - 1) as u64, 1);
+    seal(random, &mut case, (5 + row * stride as i128 - 1) as u64, 1);
     (case, 0)
 }
 
@@ -296,7 +297,7 @@ fn seal_past_the_end(random: &mut Random) -> Made {
     let mut case = moving.lay(random, address, stride, memory);
     let (start, expected) = random.pick(&[(after - 1, 7), (after, 0), (memory as u64, 0)]);
     let length = random.pick(&[memory as u64 + 7, u64::MAX - start]);
-    seal(&mut case, start, length);
+    seal(random, &mut case, start, length);
     (case, expected)
 }
 
@@ -304,7 +305,7 @@ fn seal_of_nothing(random: &mut Random) -> Made {
     let (moving, stride, address, memory) = laid_store(random);
     let mut case = moving.lay(random, address, stride, memory);
     let start = random.pick(&[address as u64, u64::MAX, 0]);
-    seal(&mut case, start, 0);
+    seal(random, &mut case, start, 0);
     (case, 0)
 }
 
@@ -313,7 +314,7 @@ fn seal_at_the_top(random: &mut Random) -> Made {
     let mut case = moving.lay(random, address, stride, memory);
     let start = random.pick(&[u64::MAX, 1 << 63, u64::MAX - 1, memory as u64]);
     let within = random.chance(50);
-    seal(&mut case, start, u64::MAX - start + u64::from(!within));
+    seal(random, &mut case, start, u64::MAX - start + u64::from(!within));
     (case, if within { 0 } else { 8 })
 }
 
@@ -323,7 +324,7 @@ fn sealed_load(random: &mut Random) -> Made {
     let stride = moving.clear_stride(random);
     let (extent, lowest) = moving.extent(stride);
     let mut case = moving.lay(random, -lowest, stride, extent);
-    seal(&mut case, 0, u64::MAX);
+    seal(random, &mut case, 0, u64::MAX);
     (case, 0)
 }
 
@@ -392,7 +393,7 @@ fn no_element(random: &mut Random) -> Made {
         }
     };
     set_size(&mut machine, size, 0);
-    machine.seal_length = u64::MAX;
+    machine.seals = seals_with(random, (0, u64::MAX));
     let mut case = case_on(random, row, &machine);
     case.lent.set_scalar(1, any_scalar(random));
     case.lent.set_scalar(2, random.pick(&WILD_STRIDES) as u64);

@@ -1,8 +1,7 @@
 //! Damaged input to a start and a step: wrong block lengths, random bytes and
 //! empty slices.
 
-use crate::lent::Lent;
-use crate::library;
+use crate::lent::{library_seal, library_start};
 use crate::states::{any_row, good_case, wrong_length};
 use crate::suite::{check_step, each_case, Context, Outcome};
 
@@ -56,10 +55,10 @@ pub fn empty_slices(context: &mut Context) -> Outcome {
         }
         check_step(random.next() as u32, &lent, tally)?;
         let before = lent.clone();
-        let Lent { machine, registers, marks, .. } = &mut lent;
-        let given = library::start(64, 128, 32, case / 7 % 2, 0, 0, machine, registers, marks);
-        if given != 8 || lent != before {
-            return Err(format!("a start gives {given}, or bytes change"));
+        let given = library_start((64, 128, 32), case / 7 % 2, &mut [], &mut lent);
+        let sealed = library_seal((0, 0), &mut lent);
+        if (given, sealed) != (8, 8) || lent != before {
+            return Err(format!("a start gives {given}, a seal {sealed}, or bytes change"));
         }
         Ok(())
     })

@@ -72,10 +72,14 @@ fn bytes(numbers: &[u64]) -> Vec<u8> {
     numbers.iter().flat_map(|number| number.to_le_bytes()).collect()
 }
 
-fn numbers(m: &Machine) -> [u64; 10] {
+fn numbers(m: &Machine) -> Vec<u64> {
     let (tile_m, tile_k, tile_n) = (m.tile_m, m.tile_k, m.tile_n);
-    let (seal_start, seal_length) = (m.seal_start, m.seal_length);
-    [m.rlen, m.mlen, m.mtype, tile_m, tile_k, tile_n, seal_start, seal_length, m.rule, m.elen]
+    let mut ranges = m.seals.ranges.iter().flat_map(|&(start, length)| [start, length]);
+    let mut numbers = vec![m.rlen, m.mlen, m.mtype, tile_m, tile_k, tile_n];
+    numbers.extend(ranges.by_ref().take(2));
+    numbers.extend([m.rule, m.elen, m.seals.number]);
+    numbers.extend(ranges);
+    numbers
 }
 
 /// A small machine of either ELEN with each legal mtype.

@@ -1,6 +1,7 @@
 //! Machine images (request Six): written, read back, and read where they are damaged;
 //! those of halving machines have version 2 (request Eight), those of larger machines
-//! version 3 (request Ten).
+//! version 3 (request Ten), those with other than one sealed range version 4 (request
+//! Twelve).
 
 use crate::lent::{
     differences, hex, library_image_read, library_image_size, library_image_write, second_image,
@@ -15,12 +16,12 @@ use crate::states::{
 use crate::suite::{each_case, Context, Outcome};
 use crate::tally::{Call, Tally};
 use model::images::{completed, parts, Parts};
-use model::{Lengths, RULES};
+use model::{Lengths, Machine, Seal, Seals, MOST_SEALS, RULES};
 
 // ---------------------------------------------------------------------------
 // One call on both programs
 
-fn result_text(result: u64) -> String {
+pub fn result_text(result: u64) -> String {
     format!("answer {} with {}", result & 0xFFFF, result >> 16)
 }
 
@@ -43,7 +44,7 @@ fn check_size(lent: &Lent, tally: &mut Tally) -> Result<(), String> {
 }
 
 /// Writing a machine's image to a room of random bytes; the result and the room.
-fn check_write(
+pub fn check_write(
     lent: &Lent,
     room: usize,
     random: &mut Random,
@@ -73,7 +74,7 @@ fn check_write(
 }
 
 /// Reading an image; the result and what is left.
-fn check_read(image: &[u8], before: &Lent, tally: &mut Tally) -> Result<(u64, Lent), String> {
+pub fn check_read(image: &[u8], before: &Lent, tally: &mut Tally) -> Result<(u64, Lent), String> {
     let mut library = before.clone();
     let mut library_image = image.to_vec();
     let given = library_image_read(&mut library_image, &mut library);
@@ -140,8 +141,8 @@ fn mark(random: &mut Random, pattern: u64, mlen: u64, marks: &mut [u8]) {
     }
 }
 
-/// A seal that a machine can hold, often one that ends at 2^64 - 1.
-fn any_seal(random: &mut Random) -> (u64, u64) {
+/// A range that a machine can hold, often one that ends at 2^64 - 1.
+pub fn any_seal(random: &mut Random) -> (u64, u64) {
     let start = any_scalar(random);
     let longest = u64::MAX - start;
     let length = match random.below(4) {
@@ -153,17 +154,23 @@ fn any_seal(random: &mut Random) -> (u64, u64) {
     (start, length)
 }
 
+/// Some of them: one in most machines.
+fn any_seals(random: &mut Random) -> Seals {
+    let number = if random.chance(70) { 1 } else { random.below(MOST_SEALS as u64 + 1) };
+    Seals::of(&(0..number).map(|_| any_seal(random)).collect::<Vec<_>>())
+}
+
 /// A machine that is not at fault, with a pattern of marks.
-fn sound_bench(random: &mut Random, lengths: Lengths, pattern: u64) -> Lent {
+pub fn sound_bench(random: &mut Random, lengths: Lengths, pattern: u64) -> Lent {
     let mut machine = any_machine(random, lengths);
-    (machine.seal_start, machine.seal_length) = any_seal(random);
+    machine.seals = any_seals(random);
     let mut lent = bench_of(random, &machine);
     mark(random, pattern, machine.mlen, &mut lent.marks);
     lent
 }
 
 /// Buffers of a machine's size, with random bytes.
-fn other_buffers(random: &mut Random, mlen: u64) -> Lent {
+pub fn other_buffers(random: &mut Random, mlen: u64) -> Lent {
     let length = model::register_bytes(mlen);
     Lent {
         machine: random.bytes(library::MACHINE_BYTES),
@@ -239,7 +246,7 @@ pub fn images(context: &mut Context) -> Outcome {
 }
 
 /// The machine made of an image: the same but for unmarked bytes, with the same image.
-fn check_handed_over(
+pub fn check_handed_over(
     lent: &Lent,
     image: &[u8],
     random: &mut Random,
@@ -288,10 +295,13 @@ fn check_alike(
 // ---------------------------------------------------------------------------
 // Versions
 
-/// The bytes of an image before mtype, each a number of one group.
-fn head((rlen, mlen, elen): Lengths, rule: u64) -> Vec<u8> {
+/// The bytes of an image before mtype, each a number of one group; `counted` if there is
+/// not one range.
+fn head((rlen, mlen, elen): Lengths, rule: u64, counted: bool) -> Vec<u8> {
     let [r, m, e] = [rlen, mlen, elen].map(|length| length.trailing_zeros() as u8);
-    if rlen > 512 || mlen > 4096 || elen == 64 {
+    if counted {
+        vec![4, rule as u8, e, r, m]
+    } else if rlen > 512 || mlen > 4096 || elen == 64 {
         vec![3, rule as u8, e, r, m]
     } else if rule == 1 {
         vec![2, 1, r, m]
@@ -307,22 +317,24 @@ fn fault_in_head(image: &[u8]) -> Option<usize> {
         _ => Some(at),
     };
     let at = |at: usize| image.get(at).copied().unwrap_or(0);
-    let version = check(0, 1, 3);
+    let version = check(0, 1, 4);
     version.or_else(|| match image[0] {
         1 => check(1, 6, 9).or_else(|| check(2, at(1) + 1, 12)),
         2 => check(1, 1, 1).or_else(|| check(2, 6, 9)).or_else(|| check(3, at(2) + 1, 12)),
         _ => check(1, 0, 1).or_else(|| check(2, 5, 6)).or_else(|| check(3, at(2) + 1, 12)).or_else(
             || {
-                // With ELEN 32 and RLEN up to 512, MLEN is the one beyond the old bounds.
-                let old = at(2) == 5 && at(3) <= 9;
+                // With ELEN 32 and RLEN up to 512, MLEN is the one beyond the old bounds,
+                // but in version 4.
+                let old = image[0] == 3 && at(2) == 5 && at(3) <= 9;
                 check(4, if old { 13 } else { at(3) + 1 }, 16)
             },
         ),
     })
 }
 
-/// The image of each machine by each rule: its version, and the machine made of it. Then
-/// each byte of its head with every other value, and the head in every other version.
+/// The image of each machine by each rule, with one range and with another number: its
+/// version, and the machine made of it. Then each byte of its head with every other value,
+/// and the head in every other version.
 pub fn image_versions(context: &mut Context) -> Outcome {
     let machines = model::permitted_lengths();
     let old = old_lengths().len() as u64;
@@ -333,32 +345,35 @@ pub fn image_versions(context: &mut Context) -> Outcome {
         let lengths = machines[at as usize];
         let pattern = if case < old { 0 } else { random.pick(&[0, 2, 3, 4, 9]) };
         let lent = sound_bench(random, lengths, pattern);
-        let [plain, halving] = RULES.map(|rule| {
-            let mut machine = lent.machine();
-            machine.rule = rule;
-            let mut lent = lent.clone();
-            lent.set_machine(&machine);
-            lent
-        });
-        let [one, two] = [&plain, &halving].map(|lent| written(lent, random, tally));
-        let (one, two) = (one?, two?);
-        let heads = RULES.map(|rule| head(lengths, rule));
-        let [rest, other_rest] = [(&one, &heads[0]), (&two, &heads[1])]
-            .map(|(image, head)| image.strip_prefix(&head[..]));
-        if rest.is_none() || rest != other_rest {
-            return Err(format!("{lengths:?}: {} and {}", hex(&one), hex(&two)));
+        let other = random.pick(&[0, 2, 3, 4, 5, 6, 7, 8]);
+        for number in [1, other] {
+            let list: Vec<Seal> = (0..number).map(|_| any_seal(random)).collect();
+            let [plain, halving] = RULES.map(|rule| {
+                let mut lent = lent.clone();
+                lent.set_machine(&Machine { rule, seals: Seals::of(&list), ..lent.machine() });
+                lent
+            });
+            let [one, two] = [&plain, &halving].map(|lent| written(lent, random, tally));
+            let (one, two) = (one?, two?);
+            let heads = RULES.map(|rule| head(lengths, rule, number != 1));
+            let [rest, other_rest] = [(&one, &heads[0]), (&two, &heads[1])]
+                .map(|(image, head)| image.strip_prefix(&head[..]));
+            if rest.is_none() || rest != other_rest {
+                return Err(format!("{lengths:?}, {list:?}: {} and {}", hex(&one), hex(&two)));
+            }
+            check_handed_over(&plain, &one, random, tally)?;
+            check_handed_over(&halving, &two, random, tally)?;
+            for image in [&one, &two] {
+                changed_head(image, tally)?;
+            }
+            in_every_version(lengths, number != 1, rest.unwrap_or(&[]), tally)?;
         }
-        check_handed_over(&plain, &one, random, tally)?;
-        check_handed_over(&halving, &two, random, tally)?;
-        for image in [&one, &two] {
-            changed_head(image, tally)?;
-        }
-        in_every_version(lengths, rest.unwrap_or(&[]), tally)
+        Ok(())
     })
 }
 
 /// No buffers: an image that is accepted gets 8.
-fn no_buffers() -> Lent {
+pub fn no_buffers() -> Lent {
     Lent {
         machine: vec![],
         registers: vec![],
@@ -387,7 +402,7 @@ fn check_head(image: &[u8], tally: &mut Tally) -> Result<u64, String> {
 
 /// Each byte of the head with every other value.
 fn changed_head(image: &[u8], tally: &mut Tally) -> Result<(), String> {
-    for at in 0..[3, 4, 5][image[0] as usize - 1] {
+    for at in 0..[3, 4, 5, 5][image[0] as usize - 1] {
         for value in (0..=255).filter(|&value| value != image[at]) {
             let mut changed = image.to_vec();
             changed[at] = value;
@@ -398,29 +413,28 @@ fn changed_head(image: &[u8], tally: &mut Tally) -> Result<(), String> {
 }
 
 /// A machine's lengths in each version and with each rule: but for those that it has by
-/// either rule they are refused, or are those of a machine of the other ELEN.
+/// either rule they are refused, or are those of a machine of the other ELEN, or the rest
+/// is read with a number of ranges that it does not have.
 fn in_every_version(
     (rlen, mlen, elen): Lengths,
+    counted: bool,
     rest: &[u8],
     tally: &mut Tally,
 ) -> Result<(), String> {
     let [r, m, e] = [rlen, mlen, elen].map(|length| length.trailing_zeros() as u8);
-    let heads: [&[u8]; 9] = [
-        &[1, r, m],
-        &[2, 0, r, m],
-        &[2, 1, r, m],
-        &[3, 0, 5, r, m],
-        &[3, 1, 5, r, m],
-        &[3, 0, 6, r, m],
-        &[3, 1, 6, r, m],
-        &[3, 2, e, r, m],
-        &[3, r, m],
-    ];
+    let mut heads = vec![vec![1, r, m], vec![2, 0, r, m], vec![2, 1, r, m], vec![3, r, m]];
+    for version in [3, 4] {
+        for (rule, elen) in [(0, 5), (1, 5), (0, 6), (1, 6), (2, e)] {
+            heads.push(vec![version, rule, elen, r, m]);
+        }
+    }
     for in_version in heads {
-        let image = [in_version, rest].concat();
+        let image = [&in_version[..], rest].concat();
         let given = check_head(&image, tally)?;
-        let own = RULES.iter().any(|&rule| head((rlen, mlen, elen), rule) == in_version);
-        if own != (given == 8) && elen == 32 && in_version.get(2) != Some(&6) {
+        let own = RULES.iter().any(|&rule| head((rlen, mlen, elen), rule, counted) == in_version);
+        let as_written = (in_version[0] == 4) == counted;
+        let same_elen = in_version.get(2) == Some(&e) || in_version[0] < 3;
+        if own && given != 8 || !own && given == 8 && as_written && same_elen && elen == 32 {
             return Err(format!("{}: {}", hex(&image), result_text(given)));
         }
     }
@@ -431,15 +445,18 @@ fn in_every_version(
 /// short at each byte, and with each mtype.
 pub fn image_heads(context: &mut Context) -> Outcome {
     let exponents: Vec<(u8, u8)> = (4..=14).flat_map(|r| (5..=18).map(move |m| (r, m))).collect();
-    let mut fronts: Vec<Vec<u8>> = vec![vec![0], vec![1], vec![4], vec![5]];
+    let mut fronts: Vec<Vec<u8>> = vec![vec![0], vec![1], vec![5], vec![6]];
     fronts.extend((0..4).map(|rule| vec![2, rule]));
-    fronts.extend((0..4).flat_map(|rule| (3..9).map(move |elen| vec![3, rule, elen])));
+    for version in [3, 4] {
+        let rules = (0..4).flat_map(|rule| (3..9).map(move |elen| vec![version, rule, elen]));
+        fronts.extend(rules);
+    }
     let count = fronts.len() as u64;
     let mut accepted = 0;
     let cases = each_case(context, "image heads", count, |case, random, tally| {
         for &(r, m) in &exponents {
             let head = [&fronts[case as usize][..], &[r, m]].concat();
-            let image = [&head[..], &[0; 7]].concat();
+            let image = [&head[..], &ZEROS[..zeros_after(&head)]].concat();
             let given = check_head(&image, tally)?;
             if (given == 8) != fault_in_head(&image).is_none() {
                 return Err(format!("{}: {}", hex(&image), result_text(given)));
@@ -451,7 +468,7 @@ pub fn image_heads(context: &mut Context) -> Outcome {
             let made = other_buffers(random, 1 << m);
             let (given, made) = check_read(&image, &made, tally)?;
             let machine = made.machine();
-            let elen = if image[0] == 3 { 1 << image[2] } else { 32 };
+            let elen = if image[0] >= 3 { 1 << image[2] } else { 32 };
             if given != 0 || machine.lengths() != (1 << r, 1 << m, elen) {
                 return Err(format!("{}: {machine:?}", hex(&image)));
             }
@@ -466,18 +483,29 @@ pub fn image_heads(context: &mut Context) -> Outcome {
         Ok(())
     })?;
     let text = format!("{cases}, {accepted} heads accepted");
-    // 18 machines of either rule in versions 1 and 2, 70 in version 3.
-    if context.only_case.is_none() && accepted != 2 * (18 + 70) {
+    // 18 machines of either rule in versions 1 and 2, 70 in version 3, all of them in 4.
+    if context.only_case.is_none() && accepted != 2 * (18 + 70 + 88) {
         return Err(text);
     }
     Ok(text)
+}
+
+const ZEROS: [u8; 7] = [0; 7];
+
+/// The numbers from mtype on, all 0: one range and no run, or no range and no run.
+fn zeros_after(head: &[u8]) -> usize {
+    if head[0] == 4 {
+        6
+    } else {
+        7
+    }
 }
 
 /// Every mtype up to 16, and every tile size at its maximum and one above.
 fn types_and_sizes(head: &[u8], elen: u64, tally: &mut Tally) -> Result<(), String> {
     let legal: &[u8] = if elen == 64 { &[0, 1, 2, 3, 8, 9] } else { &[0, 1, 2, 8] };
     for mtype in 0..=16 {
-        let image = [head, &[mtype], &[0; 6]].concat();
+        let image = [head, &[mtype], &ZEROS[1..zeros_after(head)]].concat();
         let (given, _) = check_read(&image, &no_buffers(), tally)?;
         let at_fault = 15 | (head.len() as u64) << 16;
         if given != if legal.contains(&mtype) { 8 } else { at_fault } {
@@ -489,7 +517,7 @@ fn types_and_sizes(head: &[u8], elen: u64, tally: &mut Tally) -> Result<(), Stri
     for (at, most) in [rows, rows.min(columns), columns].into_iter().enumerate() {
         for (size, fits) in [(most, true), (most + 1, false), (2 * most, false)] {
             let mut image = [head, &[0]].concat();
-            for other in 0..6 {
+            for other in 0..zeros_after(head) - 1 {
                 image.extend(long_groups(if other == at { size as u128 } else { 0 }, 0));
             }
             let (given, _) = check_read(&image, &no_buffers(), tally)?;
@@ -502,7 +530,7 @@ fn types_and_sizes(head: &[u8], elen: u64, tally: &mut Tally) -> Result<(), Stri
 }
 
 /// The image of a machine, in a room of its size.
-fn written(lent: &Lent, random: &mut Random, tally: &mut Tally) -> Result<Vec<u8>, String> {
+pub fn written(lent: &Lent, random: &mut Random, tally: &mut Tally) -> Result<Vec<u8>, String> {
     check_size(lent, tally)?;
     let length = second_image(lent).ok_or("the machine is at fault")?.len();
     check_write(lent, length, random, tally).map(|(_, image)| image)
@@ -561,7 +589,7 @@ pub fn image_buffers(context: &mut Context) -> Outcome {
 
 /// An image that may be damaged. What stands before the place of answer 15 is the
 /// beginning of an image that the library accepts.
-fn check_damaged(
+pub fn check_damaged(
     image: &[u8],
     before: &Lent,
     random: &mut Random,
@@ -615,7 +643,7 @@ pub fn damaged_images(context: &mut Context) -> Outcome {
 }
 
 /// A number in groups, with as many more that are 0.
-fn long_groups(number: u128, more: usize) -> Vec<u8> {
+pub fn long_groups(number: u128, more: usize) -> Vec<u8> {
     let mut bytes = Vec::new();
     let mut rest = number;
     while rest >= 128 {
@@ -636,9 +664,10 @@ fn numbers(Parts { machine, runs }: &Parts) -> Vec<(u64, u64, Vec<u8>)> {
     let total = model::register_bytes(machine.mlen) as u64;
     let plain = |number: u64, most: u64| (number, most, vec![]);
     let rows = machine.mlen / machine.rlen;
-    let mut numbers: Vec<_> = head(machine.lengths(), machine.rule)
+    let ranges = machine.seals.list();
+    let mut numbers: Vec<_> = head(machine.lengths(), machine.rule, ranges.len() != 1)
         .into_iter()
-        .zip([3, 1, 6, 12, 16])
+        .zip([4, 1, 6, 12, 16])
         .map(|(number, most)| plain(number as u64, most))
         .collect();
     numbers.extend([
@@ -646,10 +675,14 @@ fn numbers(Parts { machine, runs }: &Parts) -> Vec<(u64, u64, Vec<u8>)> {
         plain(machine.tile_m, rows),
         plain(machine.tile_k, rows.min(machine.rlen / 8)),
         plain(machine.tile_n, machine.rlen / 8),
-        plain(machine.seal_start, u64::MAX),
-        plain(machine.seal_length, u64::MAX - machine.seal_start),
-        plain(runs.len() as u64, total / 2),
     ]);
+    if ranges.len() != 1 {
+        numbers.push(plain(machine.seals.number, MOST_SEALS as u64));
+    }
+    for &(start, length) in ranges {
+        numbers.extend([plain(start, u64::MAX), plain(length, u64::MAX - start)]);
+    }
+    numbers.push(plain(runs.len() as u64, total / 2));
     let mut end = 0;
     for (index, (start, bytes)) in runs.iter().enumerate() {
         let room = total - end - 2 * (runs.len() - 1 - index) as u64;

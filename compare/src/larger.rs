@@ -5,7 +5,7 @@
 use crate::float_numbers;
 use crate::lent::{
     library_image_size, library_image_write, library_run, library_run_start, library_run_turn,
-    library_run_turns, packed, words_to_bytes, Lent,
+    library_run_turns, library_seal, library_start, packed, second_start, words_to_bytes, Lent,
 };
 use crate::library;
 use crate::random::Random;
@@ -66,7 +66,7 @@ pub fn permitted_machines(context: &mut Context) -> Outcome {
     Ok(text)
 }
 
-const CALLS: usize = 9;
+const CALLS: usize = 10;
 
 /// Answers of calls on a machine of these lengths; a refusal changes nothing.
 fn calls_on(
@@ -126,18 +126,21 @@ fn calls_on(
     let whole = library_run(&plan, &mut ran, &mut [0; library::STEPS_BYTES]);
     tally.run(Call::WholeRun, plan.kind, whole);
     let mut started = before.clone();
-    let Lent { machine, registers, marks, .. } = &mut started;
-    let start = library::start(rlen, mlen, elen, rule, 0, 0, machine, registers, marks);
+    let start = library_start(lengths, rule, &mut [0, 0], &mut started);
     tally.count(Call::MachineStart, start);
+    let mut sealed = before.clone();
+    let seal = library_seal((0, 0), &mut sealed);
+    tally.count(Call::Seal, seal);
     if !unchanged
-        || [(turn, turned), (whole, ran), (start, started)]
+        || [(turn, turned), (whole, ran), (start, started), (seal, sealed)]
             .iter()
             .any(|(given, after)| *given != 0 && *after != before)
     {
         return Err(format!("RLEN, MLEN, ELEN {lengths:?}: a refusal changes bytes"));
     }
-    let second = model::start(lengths, rule, 0, 0, &before.registers, &mut before.marks.clone());
-    Ok([stepped, size, write, run_start, next, turn, whole, start, second.map_or(8, |_| 0)])
+    let mut second = before.clone();
+    let second = second_start(lengths, rule, &[0, 0], &mut second);
+    Ok([stepped, size, write, run_start, next, turn, whole, start, seal, second])
 }
 
 // ---------------------------------------------------------------------------

@@ -2,7 +2,7 @@
 
 use crate::library;
 use model::moves::Vectors;
-use model::{Answer, Bench, Handed, Lengths, Machine, Plan, Run};
+use model::{Answer, Bench, Handed, Lengths, Machine, Plan, Run, Seal, Seals, MOST_SEALS};
 use std::fmt::Write;
 
 #[derive(Clone, Debug, PartialEq, Eq)]
@@ -36,19 +36,30 @@ pub fn bytes_to_words(bytes: &[u8]) -> Vec<u64> {
     bytes.chunks_exact(8).map(|chunk| u64::from_le_bytes(chunk.try_into().unwrap())).collect()
 }
 
+/// The first range stands where the only one stood, the number of them and the others
+/// behind ELEN.
 pub fn machine_block(machine: &Machine) -> Vec<u8> {
-    words_to_bytes(&[
+    let Seals { number, ranges } = machine.seals;
+    let mut words = vec![
         machine.rlen,
         machine.mlen,
         machine.mtype,
         machine.tile_m,
         machine.tile_k,
         machine.tile_n,
-        machine.seal_start,
-        machine.seal_length,
+        ranges[0].0,
+        ranges[0].1,
         machine.rule,
         machine.elen,
-    ])
+        number,
+    ];
+    words.extend(numbers_of(&ranges[1..]));
+    words_to_bytes(&words)
+}
+
+/// Start and length of each range, as a start is given them.
+pub fn numbers_of(ranges: &[Seal]) -> Vec<u64> {
+    ranges.iter().flat_map(|&(start, length)| [start, length]).collect()
 }
 
 /// The machine of a block; `None` if the block has the wrong length.
@@ -56,10 +67,15 @@ pub fn machine_of(block: &[u8]) -> Option<Machine> {
     if block.len() != library::MACHINE_BYTES {
         return None;
     }
-    let [rlen, mlen, mtype, tile_m, tile_k, tile_n, seal_start, seal_length, rule, elen] =
-        bytes_to_words(block).try_into().unwrap();
+    let words = bytes_to_words(block);
+    let [rlen, mlen, mtype, tile_m, tile_k, tile_n] = words[..6].try_into().unwrap();
+    let [rule, elen, number] = words[8..11].try_into().unwrap();
+    let mut ranges = [(words[6], words[7]); MOST_SEALS];
+    for (at, pair) in words[11..].chunks_exact(2).enumerate() {
+        ranges[1 + at] = (pair[0], pair[1]);
+    }
     let machine = Machine { rlen, mlen, mtype, rule, elen, ..Machine::default() };
-    Some(Machine { tile_m, tile_k, tile_n, seal_start, seal_length, ..machine })
+    Some(Machine { tile_m, tile_k, tile_n, seals: Seals { number, ranges }, ..machine })
 }
 
 pub fn handed_block(handed: &Handed) -> Vec<u8> {
@@ -71,8 +87,9 @@ pub fn handed_of(block: &[u8]) -> Handed {
     Handed { word: words[0] as u32, scalar_10: words[1], scalar_11: words[2] }
 }
 
-/// A machine that the library started on register bytes and memory, all marks 1
-/// before, all scalars 0 and the vector file too, in groups of one.
+/// A machine with one range that seals nothing, which the library started on register
+/// bytes and memory, all marks 1 before, all scalars 0 and the vector file too, in groups
+/// of one.
 pub fn started(lengths: Lengths, rule: u64, registers: Vec<u8>, memory: Vec<u8>) -> Lent {
     let mut lent = Lent {
         machine: vec![0; library::MACHINE_BYTES],
@@ -83,9 +100,7 @@ pub fn started(lengths: Lengths, rule: u64, registers: Vec<u8>, memory: Vec<u8>)
         vectors: vec![0; library::VECTORS_BYTES],
         group: 1,
     };
-    let Lent { machine, registers, marks, .. } = &mut lent;
-    let (rlen, mlen, elen) = lengths;
-    library::start(rlen, mlen, elen, rule, 0, 0, machine, registers, marks);
+    library_start(lengths, rule, &mut [0, 0], &mut lent);
     lent
 }
 
@@ -117,14 +132,6 @@ impl Lent {
         })
     }
 
-    /// Whether the blocks hold exactly this bench.
-    pub fn holds(&self, bench: &Bench) -> bool {
-        self.machine == machine_block(&bench.machine)
-            && self.registers == bench.registers
-            && self.marks == bench.marks
-            && self.memory == bench.memory
-    }
-
     /// Takes what a bench holds; the scalars and the vector file stay.
     pub fn take(&mut self, bench: Bench) {
         self.machine = machine_block(&bench.machine);
@@ -136,6 +143,16 @@ impl Lent {
 
 // ---------------------------------------------------------------------------
 // The library
+
+pub fn library_start(lengths: Lengths, rule: u64, seals: &mut [u64], lent: &mut Lent) -> u64 {
+    let Lent { machine, registers, marks, .. } = lent;
+    library::start(lengths.into(), rule, seals, machine, registers, marks)
+}
+
+pub fn library_seal((start, length): Seal, lent: &mut Lent) -> u64 {
+    let Lent { machine, registers, marks, .. } = lent;
+    library::seal(start, length, machine, registers, marks)
+}
 
 pub fn library_step(word: u32, lent: &mut Lent) -> u64 {
     let Lent { machine, registers, marks, scalars, memory, vectors, group } = lent;
@@ -179,6 +196,29 @@ pub fn library_image_read(image: &mut [u8], lent: &mut Lent) -> u64 {
 
 // ---------------------------------------------------------------------------
 // The second program
+
+/// The answer's number, as for the next one.
+pub fn second_start(lengths: Lengths, rule: u64, seals: &[u64], lent: &mut Lent) -> u64 {
+    if lent.machine.len() != library::MACHINE_BYTES {
+        return BAD_ARGUMENTS.number;
+    }
+    match model::start(lengths, rule, seals, &lent.registers, &mut lent.marks) {
+        Ok(machine) => {
+            lent.set_machine(&machine);
+            0
+        }
+        Err(number) => number,
+    }
+}
+
+pub fn second_seal(range: Seal, lent: &mut Lent) -> u64 {
+    let Some(mut bench) = lent.bench() else {
+        return BAD_ARGUMENTS.number;
+    };
+    let number = model::seal(range, &mut bench);
+    lent.take(bench);
+    number
+}
 
 pub fn second_step(word: u32, lent: &mut Lent) -> Answer {
     let Some(mut bench) = lent.bench() else {

@@ -5,7 +5,7 @@ use model::Plan;
 
 // The block lengths of the library's header. Machine and run blocks are made of numbers
 // of 8 bytes (src/lent.rs and src/runs/damage.rs have their order).
-pub const MACHINE_BYTES: usize = 80;
+pub const MACHINE_BYTES: usize = 200;
 pub const SCALARS_BYTES: usize = 256;
 pub const VECTORS_BYTES: usize = 512;
 pub const RUN_BYTES: usize = 160;
@@ -45,10 +45,7 @@ macro_rules! plan_calls {
 }
 
 calls! {
-    start = bodlarina_start(
-        rlen: u64, mlen: u64, elen: u64, rule: u64, seal_start: u64, seal_length: u64;
-        machine, registers, marks
-    );
+    seal = bodlarina_seal(start: u64, length: u64; machine, registers, marks);
     step = bodlarina_step(
         word: u32, group: u64;
         machine, registers, marks, scalars, memory, vectors
@@ -60,6 +57,50 @@ calls! {
     image_size = bodlarina_image_size(; machine, registers, marks);
     image_write = bodlarina_image_write(; machine, registers, marks, image);
     image_read = bodlarina_image_read(; image, machine, registers, marks);
+}
+
+/// RLEN, MLEN, ELEN, the rule, and start and length of each sealed range, of which the
+/// library is told how many numbers they are.
+pub fn start(
+    [rlen, mlen, elen]: [u64; 3],
+    rule: u64,
+    seals: &mut [u64],
+    machine: &mut [u8],
+    registers: &mut [u8],
+    marks: &mut [u8],
+) -> u64 {
+    extern "C" {
+        fn bodlarina_start(
+            rlen: u64,
+            mlen: u64,
+            elen: u64,
+            rule: u64,
+            seals: *mut u64,
+            _: usize,
+            machine: *mut u8,
+            _: usize,
+            registers: *mut u8,
+            _: usize,
+            marks: *mut u8,
+            _: usize,
+        ) -> u64;
+    }
+    unsafe {
+        bodlarina_start(
+            rlen,
+            mlen,
+            elen,
+            rule,
+            seals.as_mut_ptr(),
+            seals.len(),
+            machine.as_mut_ptr(),
+            machine.len(),
+            registers.as_mut_ptr(),
+            registers.len(),
+            marks.as_mut_ptr(),
+            marks.len(),
+        )
+    }
 }
 
 plan_calls! {

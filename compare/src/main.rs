@@ -23,6 +23,7 @@ mod random;
 mod renewed;
 mod rules;
 mod runs;
+mod seals;
 mod sheet;
 mod starts;
 mod states;
@@ -35,7 +36,7 @@ mod words;
 use std::time::Instant;
 use suite::{Context, Outcome, Suite};
 
-const SUITES: [Suite; 66] = [
+const SUITES: [Suite; 75] = [
     ("bench sheet", sheet::bench_sheet),
     ("machine starts", starts::machine_starts),
     ("codes", steps::codes),
@@ -71,6 +72,11 @@ const SUITES: [Suite; 66] = [
     ("moved out and back", moves::suites::out_and_back),
     ("move lists", moves::suites::move_lists),
     ("section 6.1.7", moves::listing::listing_of_vectors),
+    ("sealed ranges", seals::ranges::sealed_ranges),
+    ("starts of ranges", seals::ranges::starts_of_ranges),
+    ("damaged ranges", seals::damage::damaged_ranges),
+    ("faulty seals", seals::damage::faulty_seals),
+    ("added ranges", seals::added::added_ranges),
     ("sequences", steps::sequences),
     ("power-up words", powerup::power_up_words),
     ("damaged steps", damage::damaged_steps),
@@ -85,6 +91,8 @@ const SUITES: [Suite; 66] = [
     ("float runs", runs::floats::float_runs),
     ("whole float runs", runs::floats::whole_float_runs),
     ("power-up runs", runs::powerup::power_up_runs),
+    ("ranges of runs", runs::seals::ranges_of_runs),
+    ("ranges added to runs", runs::seals::ranges_added_to_runs),
     ("largest sizes", runs::suites::largest_sizes),
     ("larger products", runs::suites::larger_products),
     ("larger runs", runs::larger::larger_runs),
@@ -97,6 +105,8 @@ const SUITES: [Suite; 66] = [
     ("images", images::images),
     ("image versions", images::image_versions),
     ("image heads", images::image_heads),
+    ("image ranges", seals::images::image_ranges),
+    ("handed on", seals::images::handed_on),
     ("faulty images", images::faulty_images),
     ("image buffers", images::image_buffers),
     ("damaged images", images::damaged_images),

@@ -1,6 +1,6 @@
 //! The second program: the rules of the scope paper and of the change requests
-//! that have landed (One, Two, Three, Four, Six, Seven, Eight, Ten, Eleven; Nine asks
-//! for nothing new), each as one plain function.
+//! that have landed (One, Two, Three, Four, Six, Seven, Eight, Ten, Eleven, Twelve; Nine
+//! asks for nothing new), each as one plain function.
 //!
 //! It is written to be read beside the paper, not to be fast. Sizes and
 //! addresses are whole numbers (`i128`), bytes are looked at one by one, and a
@@ -28,11 +28,52 @@ pub struct Machine {
     pub tile_m: u64,
     pub tile_k: u64,
     pub tile_n: u64,
-    pub seal_start: u64,
-    pub seal_length: u64,
+    pub seals: Seals,
     pub rule: u64,
     /// The widest element in bits (request Ten).
     pub elen: u64,
+}
+
+/// A sealed range of memory: its start and its length.
+pub type Seal = (u64, u64);
+
+/// The most ranges that a machine can have (request Twelve).
+pub const MOST_SEALS: usize = 8;
+
+/// The sealed ranges of a machine in order of entry, and how many they are. What belongs
+/// to a range that is not there is 0, or the state is at fault.
+#[derive(Clone, Copy, Debug, Default, PartialEq, Eq)]
+pub struct Seals {
+    pub number: u64,
+    pub ranges: [Seal; MOST_SEALS],
+}
+
+impl Seals {
+    /// Up to eight ranges.
+    pub fn of(list: &[Seal]) -> Seals {
+        let mut seals = Seals::default();
+        for &range in list {
+            seals.add(range);
+        }
+        seals
+    }
+
+    /// A further range, behind the others.
+    fn add(&mut self, range: Seal) {
+        self.ranges[self.number as usize] = range;
+        self.number += 1;
+    }
+
+    /// The ranges that are there.
+    pub fn list(&self) -> &[Seal] {
+        &self.ranges[..self.number.min(MOST_SEALS as u64) as usize]
+    }
+
+    fn permitted(&self) -> bool {
+        self.number <= MOST_SEALS as u64
+            && self.ranges[self.list().len()..].iter().all(|&range| range == (0, 0))
+            && self.list().iter().all(|&range| seal_permitted(range))
+    }
 }
 
 /// The rules by which a machine chooses its tile sizes (request Eight): the smaller of
@@ -99,9 +140,10 @@ impl Machine {
         (self.rlen, self.mlen, self.elen)
     }
 
-    /// A machine of some lengths and a rule, its other numbers 0.
+    /// A machine of some lengths and a rule, with one range that seals nothing, its other
+    /// numbers 0.
     pub fn of((rlen, mlen, elen): Lengths, rule: u64) -> Machine {
-        Machine { rlen, mlen, elen, rule, ..Machine::default() }
+        Machine { rlen, mlen, elen, rule, seals: Seals::of(&[(0, 0)]), ..Machine::default() }
     }
 }
 
@@ -114,31 +156,49 @@ fn buffers_fit(mlen: u64, registers: &[u8], marks: &[u8]) -> bool {
     registers.len() == register_bytes(mlen) && marks.len() == register_bytes(mlen)
 }
 
-/// A seal's end is its start plus its length.
-fn seal_permitted(start: u64, length: u64) -> bool {
+/// A range's end is its start plus its length.
+fn seal_permitted((start, length): Seal) -> bool {
     start as i128 + length as i128 <= u64::MAX as i128
 }
 
-/// Starts a machine; `None` is answer 8.
+/// Starts a machine with as many ranges as there are pairs of numbers, start and length;
+/// an error is the answer's number. Every 8 comes before 16, also that of a range beyond
+/// the ninth.
 pub fn start(
     lengths: Lengths,
     rule: u64,
-    seal_start: u64,
-    seal_length: u64,
+    seals: &[u64],
     registers: &[u8],
     marks: &mut [u8],
-) -> Option<Machine> {
+) -> Result<Machine, u64> {
+    let list: Vec<Seal> = seals.chunks_exact(2).map(|pair| (pair[0], pair[1])).collect();
     if !lengths_permitted(lengths)
         || !RULES.contains(&rule)
         || !buffers_fit(lengths.1, registers, marks)
-        || !seal_permitted(seal_start, seal_length)
+        || seals.len() % 2 != 0
+        || !list.iter().all(|&range| seal_permitted(range))
     {
-        return None;
+        return Err(8);
+    }
+    if list.len() > MOST_SEALS {
+        return Err(16);
     }
     for mark in marks.iter_mut() {
         *mark = 0;
     }
-    Some(Machine { seal_start, seal_length, ..Machine::of(lengths, rule) })
+    Ok(Machine { seals: Seals::of(&list), ..Machine::of(lengths, rule) })
+}
+
+/// Seals a further range (request Twelve); the answer's number.
+pub fn seal(range: Seal, bench: &mut Bench) -> u64 {
+    if state_at_fault(bench) || !seal_permitted(range) {
+        return 8;
+    }
+    if bench.machine.seals.number == MOST_SEALS as u64 {
+        return 16;
+    }
+    bench.machine.seals.add(range);
+    0
 }
 
 /// The values of mtype that can arise.
@@ -158,7 +218,7 @@ pub fn state_at_fault(bench: &Bench) -> bool {
     !buffers_fit(machine.mlen, &bench.registers, &bench.marks)
         || !mtype_can_arise(machine.mtype, machine.elen)
         || above_maximum
-        || !seal_permitted(machine.seal_start, machine.seal_length)
+        || !machine.seals.permitted()
         || !RULES.contains(&machine.rule)
         || bench.marks.iter().any(|&mark| mark != 0 && mark != 1)
 }
@@ -793,9 +853,14 @@ fn addresses(instruction: &Instruction, machine: &Machine, scalars: &[u64]) -> V
     moved.iter().flat_map(|placed| placed.bytes()).map(|(address, _)| address).collect()
 }
 
+fn in_range((start, length): Seal, address: i128) -> bool {
+    let start = start as i128;
+    start <= address && address < start + length as i128
+}
+
+/// A byte is sealed if some range has it.
 pub fn sealed(machine: &Machine, address: i128) -> bool {
-    let start = machine.seal_start as i128;
-    start <= address && address < start + machine.seal_length as i128
+    machine.seals.list().iter().any(|&range| in_range(range, address))
 }
 
 // ---------------------------------------------------------------------------
@@ -1206,7 +1271,7 @@ fn plan_outside_memory(plan: &Plan, memory: &[u8]) -> bool {
 }
 
 /// The reasons of answer 9: a byte of C lies in two of its rows, in a row of
-/// A, in a row of B, or in the seal.
+/// A, in a row of B, or in a sealed range.
 pub fn overlaps(plan: &Plan, machine: &Machine) -> [bool; 4] {
     let row_of = plan.placed(C).first_rows();
     let meets = |matrix| plan.placed(matrix).bytes().any(|(at, _)| row_of.contains_key(&at));
@@ -1380,3 +1445,7 @@ pub fn product(plan: &Plan, memory: &[u8]) -> Vec<Vec<i128>> {
 #[cfg(test)]
 #[path = "model_examples.rs"]
 mod examples;
+
+#[cfg(test)]
+#[path = "model_seals_examples.rs"]
+mod seals_examples;

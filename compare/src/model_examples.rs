@@ -15,7 +15,7 @@ fn started_as(lengths: Lengths, memory: usize) -> Bench {
 fn started_by(rule: u64, lengths: Lengths, memory: usize) -> Bench {
     let registers = vec![0xA5; register_bytes(lengths.1)];
     let mut marks = vec![1; register_bytes(lengths.1)];
-    let machine = start(lengths, rule, 0, 0, &registers, &mut marks).expect("a good machine");
+    let machine = start(lengths, rule, &[0, 0], &registers, &mut marks).expect("a good machine");
     Bench { machine, registers, marks, memory: vec![0; memory] }
 }
 
@@ -602,7 +602,7 @@ fn transposed_stores() {
     assert_eq!(moved(MSATE8, (5, i64::MIN), &bench).0.number, 6);
     // The seal on one byte, and between the rows.
     let sealed = |start| {
-        let machine = Machine { seal_start: start, seal_length: 1, ..bench.machine };
+        let machine = Machine { seals: Seals::of(&[(start, 1)]), ..bench.machine };
         let sealed = Bench { machine, ..bench.clone() };
         let (answer, after) = moved(MSATE8, (1, 4), &sealed);
         assert!(answer.number == 0 || after == sealed);
@@ -672,8 +672,8 @@ fn a_byte_in_two_rows_among_the_answers() {
     };
     assert_eq!(with(|_| ()), [13, 13]);
     // Before 7: the seal on the first stored byte, and on all of memory.
-    assert_eq!(with(|machine| (machine.seal_start, machine.seal_length) = (8, 1)), [13, 13]);
-    assert_eq!(with(|machine| machine.seal_length = u64::MAX), [13, 13]);
+    assert_eq!(with(|machine| machine.seals = Seals::of(&[(8, 1)])), [13, 13]);
+    assert_eq!(with(|machine| machine.seals = Seals::of(&[(0, u64::MAX)])), [13, 13]);
     // After 2, 3 and 8.
     assert_eq!(with(|machine| machine.mtype = MILL), [2, 2]);
     assert_eq!(with(|machine| machine.mtype = 1), [3, 3]);
@@ -794,17 +794,16 @@ fn seals_and_refused_stores() {
     bench.marks.fill(1);
     bench.machine.tile_m = 4;
     bench.machine.tile_n = 8;
-    bench.machine.seal_start = 31;
-    bench.machine.seal_length = 1;
+    bench.machine.seals = Seals::of(&[(31, 1)]);
     scalars[2] = 8;
     let before = bench.clone();
     assert_eq!(number(assemble("msce8.m", &[("rs2", 2)]), &mut bench, &mut scalars), 7);
     assert_eq!(bench, before);
     assert_eq!(number(assemble("mlce8.m", &[("rs2", 2)]), &mut bench, &mut scalars), 0);
     // A seal's end may not exceed 2^64 - 1.
-    bench.machine.seal_start = u64::MAX;
+    bench.machine.seals = Seals::of(&[(u64::MAX, 1)]);
     assert_eq!(number(0x000472F7, &mut bench, &mut scalars), 8);
-    bench.machine.seal_length = 0;
+    bench.machine.seals = Seals::of(&[(u64::MAX, 0)]);
     assert_eq!(number(0x000472F7, &mut bench, &mut scalars), 0);
 }
 
@@ -1039,10 +1038,9 @@ fn reasons_of_answer_9() {
     assert_eq!(run_start(&Plan { c: 64, c_stride: 1, ..good }, &bench), Err(9));
     assert!(run_start(&Plan { c: 64, c_stride: 0, m: 1, ..good }, &bench).is_ok());
     let mut sealed = bench.clone();
-    sealed.machine.seal_start = 11;
-    sealed.machine.seal_length = 1;
+    sealed.machine.seals = Seals::of(&[(11, 1)]);
     assert_eq!(run_start(&good, &sealed), Err(9));
-    sealed.machine.seal_start = 12;
+    sealed.machine.seals = Seals::of(&[(12, 1)]);
     assert!(run_start(&good, &sealed).is_ok());
 }
 
@@ -1124,7 +1122,7 @@ fn both_x0_on_a_halving_machine() {
 fn rules_that_are_unknown() {
     for rule in [2, 3, 256, 1 << 32, (1 << 63) + 1, u64::MAX] {
         let (registers, mut marks) = (vec![0; 512], vec![1; 512]);
-        assert_eq!(start((64, 256, 32), rule, 0, 0, &registers, &mut marks), None);
+        assert_eq!(start((64, 256, 32), rule, &[0, 0], &registers, &mut marks), Err(8));
         assert_eq!(marks, [1; 512]);
         let mut bench = started(64);
         let good = plan(8, 1, 1, 1, 1);

@@ -1,5 +1,6 @@
-//! Machine images (request Six), those of halving machines (request Eight) and those of
-//! larger machines (request Ten).
+//! Machine images (request Six), those of halving machines (request Eight), of larger
+//! machines (request Ten) and of machines with other than one sealed range (request
+//! Twelve).
 //!
 //! The reader is the rules turned round: of each number it knows which ones some
 //! accepted image has there, after all that stands before. A byte is at fault as
@@ -38,11 +39,17 @@ fn within_old_bounds(machine: &Machine) -> bool {
     machine.rlen <= 512 && machine.mlen <= 4096 && machine.elen == 32
 }
 
+/// Whether an image has the number of ranges before them.
+fn counts_ranges(machine: &Machine) -> bool {
+    machine.seals.number != 1
+}
+
 /// The numbers of an image up to the exponent of MLEN: the lowest version that can hold
 /// the machine, what that version has of rule and ELEN, and the exponents.
 fn head(machine: &Machine) -> Vec<u64> {
     let exponent = |length: u64| length.ilog2() as u64;
     let mut head = match machine.rule {
+        rule if counts_ranges(machine) => vec![4, rule, exponent(machine.elen)],
         rule if !within_old_bounds(machine) => vec![3, rule, exponent(machine.elen)],
         HALVING => vec![2, HALVING],
         _ => vec![1],
@@ -51,12 +58,14 @@ fn head(machine: &Machine) -> Vec<u64> {
     head
 }
 
-/// The heads of all images, each with its machine's lengths and rule.
+/// The heads of all images, each with its machine's lengths and rule, and with one range
+/// or none.
 fn heads() -> &'static [(Vec<u64>, Machine)] {
     static HEADS: OnceLock<Vec<(Vec<u64>, Machine)>> = OnceLock::new();
     HEADS.get_or_init(|| {
         let lengths = permitted_lengths().into_iter();
-        let machines = lengths.flat_map(|lengths| RULES.map(|rule| Machine::of(lengths, rule)));
+        let one = lengths.flat_map(|lengths| RULES.map(|rule| Machine::of(lengths, rule)));
+        let machines = one.flat_map(|one| [one, Machine { seals: Seals::default(), ..one }]);
         machines.map(|machine| (head(&machine), machine)).collect()
     })
 }
@@ -68,16 +77,16 @@ pub fn image(bench: &Bench) -> Option<Vec<u8>> {
     }
     let machine = &bench.machine;
     let runs = runs(&bench.marks);
-    let numbers = [
-        machine.mtype,
-        machine.tile_m,
-        machine.tile_k,
-        machine.tile_n,
-        machine.seal_start,
-        machine.seal_length,
-        runs.len() as u64,
-    ];
-    let mut image: Vec<u8> = head(machine).into_iter().chain(numbers).flat_map(groups).collect();
+    let mut numbers = head(machine);
+    numbers.extend([machine.mtype, machine.tile_m, machine.tile_k, machine.tile_n]);
+    if counts_ranges(machine) {
+        numbers.push(machine.seals.number);
+    }
+    for &(start, length) in machine.seals.list() {
+        numbers.extend([start, length]);
+    }
+    numbers.push(runs.len() as u64);
+    let mut image: Vec<u8> = numbers.into_iter().flat_map(groups).collect();
     let mut end = 0;
     for run in runs {
         image.extend(groups((run.start - end) as u64));
@@ -194,9 +203,17 @@ impl Reader {
             let asked = self.number(Permitted::Range(0, widest))?;
             set_tile_size(&mut machine, size, asked);
         }
-        machine.seal_start = self.number(Permitted::Range(0, u64::MAX))?;
-        let longest = u64::MAX - machine.seal_start;
-        machine.seal_length = self.number(Permitted::Range(0, longest))?;
+        let mut number = 1;
+        if counts_ranges(&machine) {
+            let not_one = (0..=MOST_SEALS as u64).filter(|&number| number != 1);
+            number = self.number(Permitted::OneOf(not_one.collect()))?;
+        }
+        machine.seals = Seals::default();
+        for _ in 0..number {
+            let start = self.number(Permitted::Range(0, u64::MAX))?;
+            let length = self.number(Permitted::Range(0, u64::MAX - start))?;
+            machine.seals.add((start, length));
+        }
         Ok(machine)
     }
 

@@ -9,7 +9,7 @@ use std::collections::HashSet;
 fn marked(places: impl IntoIterator<Item = usize>) -> Bench {
     let registers: Vec<u8> = (0..=255).collect();
     let mut marks = vec![1; 256];
-    let machine = start((64, 128, 32), SMALLER, 0, 0, &registers, &mut marks);
+    let machine = start((64, 128, 32), SMALLER, &[0, 0], &registers, &mut marks);
     let machine = machine.expect("a good machine");
     for at in places {
         marks[at] = 1;
@@ -57,9 +57,8 @@ fn images_by_hand() {
 fn numbers_of_the_machine() {
     let registers = vec![7; register_bytes(4096)];
     let mut marks = vec![0; register_bytes(4096)];
-    let seal = (300, u64::MAX - 300);
-    let mut machine =
-        start((512, 4096, 32), SMALLER, seal.0, seal.1, &registers, &mut marks).expect("good");
+    let seal = [300, u64::MAX - 300];
+    let mut machine = start((512, 4096, 32), SMALLER, &seal, &registers, &mut marks).expect("good");
     machine.mtype = MILL;
     (machine.tile_m, machine.tile_k, machine.tile_n) = (8, 7, 64);
     let bench = Bench { machine, registers, marks, memory: vec![] };
@@ -105,7 +104,7 @@ fn numbers_that_no_machine_holds() {
     let place = |bytes: &[u8]| parts(bytes).expect_err("a damaged image");
     assert_eq!(place(&[]), 0);
     assert_eq!(place(&[0]), 0);
-    assert_eq!(place(&[4]), 0);
+    assert_eq!(place(&[5]), 0);
     assert_eq!(place(&[0x81]), 0);
     assert_eq!(place(&[1, 5]), 1);
     assert_eq!(place(&[1, 10]), 1);
@@ -273,7 +272,7 @@ fn images_of_halving_machines() {
 #[test]
 fn versions_and_rules_that_no_image_has() {
     let place = |bytes: &[u8]| parts(bytes).expect_err("a damaged image");
-    for version in (4..=255).chain([0]) {
+    for version in (5..=255).chain([0]) {
         assert_eq!(place(&[version, 1, 6, 7, 0, 0, 0, 0, 0, 0, 0]), 0, "{version}");
     }
     for rule in (2..=255).chain([0]) {
@@ -323,7 +322,7 @@ fn larger(lengths: Lengths, rule: u64, places: &[usize]) -> Bench {
     let total = register_bytes(lengths.1);
     let registers: Vec<u8> = (0..total).map(|at| at as u8).collect();
     let mut marks = vec![0; total];
-    let machine = start(lengths, rule, 0, 0, &registers, &mut marks).expect("a good machine");
+    let machine = start(lengths, rule, &[0, 0], &registers, &mut marks).expect("a good machine");
     places.iter().for_each(|&at| marks[at] = 1);
     Bench { machine, registers, marks, memory: vec![] }
 }
@@ -335,7 +334,7 @@ fn version_3_byte_by_byte() {
     let mut bench = larger((128, 256, 64), HALVING, &[3, 4, 10]);
     bench.machine.mtype = 9;
     (bench.machine.tile_m, bench.machine.tile_k, bench.machine.tile_n) = (2, 1, 16);
-    (bench.machine.seal_start, bench.machine.seal_length) = (128, 7);
+    bench.machine.seals = Seals::of(&[(128, 7)]);
     let by_hand = [3, 1, 6, 7, 8, 9, 2, 1, 16, 0x80, 1, 7, 2, 3, 2, 3, 4, 5, 1, 10];
     assert_eq!(image(&bench).unwrap(), by_hand);
     assert_eq!(parts(&by_hand).unwrap().machine, bench.machine);
@@ -357,7 +356,8 @@ fn the_lowest_version_that_holds_the_machine() {
     assert_eq!(front((512, 4096, 64), HALVING), [3, 1, 6, 9, 12]);
     assert_eq!(front((512, 8192, 32), SMALLER), [3, 0, 5, 9, 13]);
     assert_eq!(front((1024, 2048, 32), HALVING), [3, 1, 5, 10, 11]);
-    assert_eq!(heads().len(), 2 * 88);
+    // With one range, and with another number.
+    assert_eq!(heads().len(), 2 * 2 * 88);
 }
 
 #[test]

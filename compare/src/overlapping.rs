@@ -244,7 +244,7 @@ fn and_sealed(random: &mut Random) -> Made {
     let mut case = moving.lay(random, -lowest, stride, extent);
     let at = (-lowest + row * stride as i128 + byte) as u64;
     let (start, length) = random.pick(&[(at, 1), (0, u64::MAX)]);
-    seal(&mut case, start, length);
+    seal(random, &mut case, start, length);
     (case, 13)
 }
 

@@ -4,15 +4,14 @@
 //! file is input like memory (request Eleven): equal before, and after each call.
 //! The second program has no part in this.
 
-use crate::lent::{library_step, state_text, Lent};
-use crate::library;
+use crate::lent::{library_seal, library_start, library_step, numbers_of, state_text, Lent};
 use crate::moves::reckoned::rows_of_moves;
 use crate::random::Random;
-use crate::states::{bad_word, bench_of, good_machine, lines_of, mtypes};
+use crate::states::{bad_word, bench_of, good_machine, lines_of, mtypes, number_of_ranges};
 use crate::steps::{following_word, word_of_row};
 use crate::suite::{each_case, Context, Outcome};
 use crate::tally::ANSWERS;
-use model::{decode, sew, Kind, Machine};
+use model::{decode, sew, Kind, Seal};
 
 /// A bench, and the block of a run where there is one.
 #[derive(Clone)]
@@ -162,11 +161,11 @@ fn any_pair(random: &mut Random) -> Result<Pair, String> {
     }
     lent.marks.fill(0);
     let mut pair = Pair::new(random, lent, vec![]);
-    let (seal_start, seal_length) = (random.below(1500), random.below(20));
+    let ranges: Vec<Seal> =
+        (0..number_of_ranges(random)).map(|_| (random.below(1500), random.below(20))).collect();
     pair.call("start of a machine", |side| {
-        let Lent { machine: block, registers, marks, .. } = &mut side.lent;
-        let Machine { rlen, mlen, elen, rule, .. } = machine;
-        library::start(rlen, mlen, elen, rule, seal_start, seal_length, block, registers, marks)
+        let mut numbers = numbers_of(&ranges);
+        library_start(machine.lengths(), machine.rule, &mut numbers, &mut side.lent)
     })?;
     Ok(pair)
 }
@@ -194,16 +193,23 @@ fn any_word(random: &mut Random, lent: &mut Lent) -> u32 {
 
 /// Words one after the other on both sides, by a step that is to be tested.
 /// In some lists the scalars are set for each word, in others they are what the
-/// words before left. How often each answer was given to them, and to the float
-/// products, the moves out and the moves in among them.
-fn word_list(
+/// words before left; now and then a range is added. How often each answer was given to
+/// the words, to the float products, the moves out and the moves in among them, and to
+/// the ranges.
+pub fn word_list(
     random: &mut Random,
     pair: &mut Pair,
     step: fn(u32, &mut Lent) -> u64,
-    [met, met_by_floats, met_by_moves_out, met_by_moves_in]: &mut [Met; 4],
+    [met, met_by_floats, met_by_moves_out, met_by_moves_in, met_by_ranges]: &mut [Met; 5],
 ) -> Result<(), String> {
     let set_scalars = random.chance(50);
     for _ in 0..75 {
+        if random.chance(4) {
+            let range = (random.below(1500), random.below(20));
+            let name = format!("range {range:?} added");
+            let number = pair.call(&name, |side| library_seal(range, &mut side.lent))?;
+            met_by_ranges[number as usize] += 1;
+        }
         let mut lent = pair.0[0].lent.clone();
         let word = any_word(random, &mut lent);
         if set_scalars {
@@ -246,7 +252,7 @@ fn move_without_marks(word: u32, lent: &mut Lent) -> u64 {
 /// found out, in most lists and in some.
 pub fn power_up_words(context: &mut Context) -> Outcome {
     let count = 4_000 * context.scale;
-    let mut all = [Met::default(); 4];
+    let mut all = [Met::default(); 5];
     let (mut lists, mut found_out) = (0, [0; 2]);
     let cases = each_case(context, "power-up words", count, |case, random, _| {
         let mut pair = any_pair(random)?;
@@ -263,14 +269,14 @@ pub fn power_up_words(context: &mut Context) -> Outcome {
         }
         Ok(())
     })?;
-    let [met, met_by_floats, met_by_moves_out, met_by_moves_in] = all;
-    // No state is at fault here, and 9, 14 and 15 are no answers of a step.
+    let [met, met_by_floats, met_by_moves_out, met_by_moves_in, met_by_ranges] = all;
+    // No state is at fault here, and 9, 14, 15 and 16 are no answers of a step.
     let missing: Vec<usize> = (0..met.len())
-        .filter(|&number| met[number] == 0 && ![8, 9, 14, 15].contains(&number))
+        .filter(|&number| met[number] == 0 && ![8, 9, 14, 15, 16].contains(&number))
         .collect();
     let text = format!(
         "{cases}, {} words done, {} refused with 5, {} otherwise; of float products {} and {}, \
-         of moves out {} and {}, {} moves in done; without marks, and without them in moves, \
+         of moves out {} and {}, {} moves in done, {} ranges added, {} ninths; without marks, and without them in moves, \
          {found_out:?} of {lists} lists found out",
         met[0],
         met[5],
@@ -280,12 +286,15 @@ pub fn power_up_words(context: &mut Context) -> Outcome {
         met_by_moves_out[0],
         met_by_moves_out[5],
         met_by_moves_in[0],
+        met_by_ranges[0],
+        met_by_ranges[16],
     );
-    let done = [met_by_floats[0], met_by_moves_out[0], met_by_moves_in[0]];
+    let done = [met_by_floats[0], met_by_moves_out[0], met_by_moves_in[0], met_by_ranges[0]];
     let unwritten = [met_by_floats[5], met_by_moves_out[5]];
     let too_few = !missing.is_empty()
         || done.contains(&0)
         || unwritten.contains(&0)
+        || met_by_ranges[16] == 0
         || 2 * found_out[0] < lists
         || 20 * found_out[1] < lists;
     if context.only_case.is_none() && too_few {

@@ -2,8 +2,9 @@
 //! gives is reckoned here from the paper's sentence and from the constraints of document
 //! 001, apart from the second program.
 
-use crate::lent::{library_image_size, library_image_write, library_step, Lent};
-use crate::library;
+use crate::lent::{
+    library_image_size, library_image_write, library_seal, library_start, library_step, Lent,
+};
 use crate::random::Random;
 use crate::renewed::SETTINGS;
 use crate::states::{
@@ -146,7 +147,7 @@ pub fn sized_by_x0(
 // ---------------------------------------------------------------------------
 // Unknown rules
 
-/// Good starts, words and images on a machine whose rule is none: 8, and nothing
+/// Good starts, words, images and ranges on a machine whose rule is none: 8, and nothing
 /// changes.
 pub fn unknown_rules(context: &mut Context) -> Outcome {
     let count = 200 * UNKNOWN_RULES.len() as u64;
@@ -170,12 +171,10 @@ pub fn unknown_rules(context: &mut Context) -> Outcome {
         }
         tally.count(Call::ImageWrite, 8);
 
-        let (rlen, mlen, elen) = lengths;
-        refused(rule, lent, |lent| {
-            let Lent { machine, registers, marks, .. } = lent;
-            library::start(rlen, mlen, elen, rule, 0, 0, machine, registers, marks)
-        })?;
+        refused(rule, lent.clone(), |lent| library_start(lengths, rule, &mut [0, 0], lent))?;
         tally.count(Call::MachineStart, 8);
+        refused(rule, lent, |lent| library_seal((0, 0), lent))?;
+        tally.count(Call::Seal, 8);
         Ok(())
     })
 }

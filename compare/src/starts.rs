@@ -1,6 +1,6 @@
 //! Starting a machine: good and bad numbers, lengths and seals.
 
-use crate::lent::{differences, machine_block};
+use crate::lent::{differences, library_start, second_start, Lent};
 use crate::library;
 use crate::random::Random;
 use crate::states::{UNKNOWN_ELENS, UNKNOWN_RULES};
@@ -96,51 +96,70 @@ fn length(random: &mut Random, right: usize) -> usize {
     }
 }
 
+/// Ranges: mostly one, else up to more than there can be; some are bad, and some lists
+/// have a number too many.
+fn any_numbers(random: &mut Random) -> Vec<u64> {
+    let count = if random.chance(70) { 1 } else { random.below(12) };
+    let mut numbers = Vec::new();
+    for _ in 0..count {
+        let (start, length) = match random.below(if count == 1 { 3 } else { 12 }) {
+            0 => random.pick(&SEALS),
+            _ => (random.below(1000), random.below(1000)),
+        };
+        numbers.extend([start, length]);
+    }
+    if random.chance(5) {
+        numbers.push(random.below(9));
+    }
+    numbers
+}
+
 fn check_start(lengths: Lengths, random: &mut Random, tally: &mut Tally) -> Result<(), String> {
-    let (rlen, mlen, elen) = lengths;
-    let (seal_start, seal_length) = match random.below(3) {
-        0 => random.pick(&SEALS),
-        _ => (random.below(1000), random.below(1000)),
-    };
+    let numbers = any_numbers(random);
     let rule = match random.below(8) {
         0 => random.pick(&UNKNOWN_RULES),
         _ => random.pick(&RULES),
     };
-    let right = model::register_bytes(mlen.clamp(64, 1 << 17));
+    let right = model::register_bytes(lengths.1.clamp(64, 1 << 17));
     let [machine_length, registers_length, marks_length] =
         [library::MACHINE_BYTES, right, right].map(|right| length(random, right));
-    let machine = random.bytes(machine_length);
-    let registers = random.bytes(registers_length);
-    let marks = random.bytes(marks_length);
+    let lent = Lent {
+        machine: random.bytes(machine_length),
+        registers: random.bytes(registers_length),
+        marks: random.bytes(marks_length),
+        scalars: vec![],
+        memory: vec![],
+        vectors: vec![],
+        group: 1,
+    };
+    check_started(lengths, rule, &numbers, &lent, tally).map(|_| ())
+}
 
-    let mut ours = (machine.clone(), registers.clone(), marks.clone());
-    let (block, register_bytes, mark_bytes) = (&mut ours.0, &mut ours.1, &mut ours.2);
-    let seal = (seal_start, seal_length);
-    let given =
-        library::start(rlen, mlen, elen, rule, seal.0, seal.1, block, register_bytes, mark_bytes);
-
-    let mut expected = (8, machine.clone(), registers.clone(), marks.clone());
-    if machine_length == library::MACHINE_BYTES {
-        let started =
-            model::start(lengths, rule, seal_start, seal_length, &registers, &mut expected.3);
-        if let Some(started) = started {
-            expected.0 = 0;
-            expected.1 = machine_block(&started);
-        }
-    }
-    if (given, &ours.0, &ours.1, &ours.2) != (expected.0, &expected.1, &expected.2, &expected.3) {
+/// A start on both programs; the answer and what it left.
+pub fn check_started(
+    lengths: Lengths,
+    rule: u64,
+    numbers: &[u64],
+    before: &Lent,
+    tally: &mut Tally,
+) -> Result<(u64, Lent), String> {
+    let (mut library, mut read) = (before.clone(), numbers.to_vec());
+    let given = library_start(lengths, rule, &mut read, &mut library);
+    let mut second = before.clone();
+    let expected = second_start(lengths, rule, numbers, &mut second);
+    if given != expected || library != second || read != numbers {
         return Err(format!(
-            "start {lengths:?} rule {rule} seal {seal_start}+{seal_length}, {} bytes of \
-             machine, {} of registers, {} of marks\nlibrary: {given}, second program: {}\n{}{}{}",
-            machine.len(),
-            registers.len(),
-            marks.len(),
-            expected.0,
-            differences("machine block", &machine, &ours.0, &expected.1),
-            differences("registers", &registers, &ours.1, &expected.2),
-            differences("marks", &marks, &ours.2, &expected.3),
+            "start {lengths:?} rule {rule} seals {numbers:?}, {} bytes of machine, {} of \
+             registers, {} of marks\nlibrary: {given}, second program: {expected}\n{}{}{}{}",
+            before.machine.len(),
+            before.registers.len(),
+            before.marks.len(),
+            if read == numbers { "" } else { "the library writes to the seals\n" },
+            differences("machine block", &before.machine, &library.machine, &second.machine),
+            differences("registers", &before.registers, &library.registers, &second.registers),
+            differences("marks", &before.marks, &library.marks, &second.marks),
         ));
     }
     tally.count(Call::MachineStart, given);
-    Ok(())
+    Ok((given, second))
 }

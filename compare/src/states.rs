@@ -7,7 +7,8 @@ use crate::library;
 use crate::random::Random;
 use model::moves::{Lines, GROUPS, VECTOR_BITS};
 use model::{
-    maximum, sew, Kind, Lengths, Machine, Matrix, Row, Size, LEFT_OUT, LISTING, MILL, RULES,
+    maximum, sew, Kind, Lengths, Machine, Matrix, Row, Seal, Seals, Size, LEFT_OUT, LISTING, MILL,
+    MOST_SEALS, RULES,
 };
 
 pub struct Case {
@@ -158,6 +159,43 @@ pub fn any_machine(random: &mut Random, lengths: Lengths) -> Machine {
     machine_within(random, lengths, mtype, 8)
 }
 
+/// How many ranges a machine has: mostly one (request Twelve).
+pub fn number_of_ranges(random: &mut Random) -> usize {
+    match random.below(20) {
+        0 => 0,
+        1..=4 => random.range(2, MOST_SEALS as u64) as usize,
+        _ => 1,
+    }
+}
+
+/// A range that seals no byte of a memory.
+fn idle_range(random: &mut Random) -> Seal {
+    if random.chance(50) {
+        return (any_scalar(random), 0);
+    }
+    let start = (1 << 40) + (random.next() >> 1);
+    (start, any_scalar(random).min(u64::MAX - start))
+}
+
+/// As many such ranges as a machine has; the only one starts at 0 and has no byte.
+fn idle_seals(random: &mut Random) -> Seals {
+    match number_of_ranges(random) {
+        1 => Seals::of(&[(0, 0)]),
+        number => Seals::of(&(0..number).map(|_| idle_range(random)).collect::<Vec<_>>()),
+    }
+}
+
+/// A range, mostly alone, else among others that seal no byte of a memory.
+pub fn seals_with(random: &mut Random, range: Seal) -> Seals {
+    let mut list = vec![range];
+    if random.chance(20) {
+        list.resize_with(random.range(2, MOST_SEALS as u64) as usize, || idle_range(random));
+        let last = list.len() as u64;
+        list.swap(0, random.below(last) as usize);
+    }
+    Seals::of(&list)
+}
+
 /// A machine whose sizes are within their maxima at a SEW.
 fn machine_within(random: &mut Random, lengths: Lengths, mtype: u64, sew: i128) -> Machine {
     let rule = random.pick(&RULES);
@@ -210,12 +248,17 @@ pub fn any_scalar(random: &mut Random) -> u64 {
     }
 }
 
-/// A bench around a machine: all bytes marked, no memory yet.
+/// A bench around a machine: all bytes marked, no memory yet. In place of one range that
+/// seals nothing it may have others that seal nothing.
 pub fn bench_of(random: &mut Random, machine: &Machine) -> Lent {
     let length = model::register_bytes(machine.mlen);
+    let mut machine = *machine;
+    if machine.seals == Seals::of(&[(0, 0)]) {
+        machine.seals = idle_seals(random);
+    }
     let scalars: Vec<u64> = (0..32).map(|_| any_scalar(random)).collect();
     Lent {
-        machine: machine_block(machine),
+        machine: machine_block(&machine),
         registers: register_content(random, length),
         marks: vec![1; length],
         scalars: words_to_bytes(&scalars),
@@ -529,7 +572,7 @@ pub fn put_faults(random: &mut Random, case: &mut Case, percent: u64) {
         raise_sizes(random, &mut machine);
     }
     if random.chance(2 * percent) {
-        put_seal(random, &mut machine, &case.lent);
+        put_seals(random, &mut machine, &case.lent);
     }
     case.lent.set_machine(&machine);
     if random.chance(2 * percent) {
@@ -593,17 +636,23 @@ fn put_move_fault(random: &mut Random, case: &mut Case) {
     }
 }
 
-/// A seal of one byte, of some, past the end of memory, or of everything.
-pub fn put_seal(random: &mut Random, machine: &mut Machine, lent: &Lent) {
-    let length = lent.memory.len() as u64;
+/// Ranges, each of one byte, of some, past the end of memory, or of everything.
+pub fn put_seals(random: &mut Random, machine: &mut Machine, lent: &Lent) {
+    let ranges = (0..number_of_ranges(random)).map(|_| any_range(random, lent.memory.len()));
+    machine.seals = Seals::of(&ranges.collect::<Vec<_>>());
+}
+
+/// One of them.
+pub fn any_range(random: &mut Random, memory: usize) -> Seal {
+    let length = memory as u64;
     let inside = random.below(length + 1);
-    (machine.seal_start, machine.seal_length) = match random.below(6) {
+    match random.below(6) {
         0 | 1 => (inside, 1),
         2 => (inside, random.below(length + 2)),
         3 => (inside, u64::MAX - inside),
         4 => (length + random.below(3), random.below(100)),
         _ => (random.next() >> 1, random.next() >> 1),
-    };
+    }
 }
 
 /// Takes marks away: a byte of an element that the word reads, some, or all.
@@ -671,13 +720,13 @@ fn move_end_of_memory(random: &mut Random, lent: &mut Lent) {
 
 /// Puts in a fault of the state (answer 8) of any kind.
 pub fn put_state_fault(random: &mut Random, lent: &mut Lent) {
-    let kind = random.below(14);
+    let kind = random.below(15);
     state_fault(random, lent, kind);
 }
 
 /// The same but for the scalars and the vector file, of which a run is lent none.
 pub fn put_bench_fault(random: &mut Random, lent: &mut Lent) {
-    let kind = random.below(11);
+    let kind = random.below(12);
     state_fault(random, lent, kind);
 }
 
@@ -713,9 +762,10 @@ fn state_fault(random: &mut Random, lent: &mut Lent, kind: u64) {
             set_size(&mut machine, size, widest + beyond);
         }
         6 => {
-            machine.seal_start = random.pick(&[1, 1 << 63, u64::MAX]);
-            machine.seal_length = random.pick(&[u64::MAX, u64::MAX - machine.seal_start + 1]);
-            machine.seal_length = machine.seal_length.max(u64::MAX - machine.seal_start + 1);
+            // A bad range among those that are there, or alone.
+            let number = (machine.seals.list().len() as u64).max(1);
+            machine.seals.number = number;
+            machine.seals.ranges[random.below(number) as usize] = bad_range(random);
         }
         7 => {
             let at = random.below(lent.marks.len().max(1) as u64) as usize;
@@ -735,11 +785,36 @@ fn state_fault(random: &mut Random, lent: &mut Lent, kind: u64) {
             wrong_length(random, &mut lent.machine);
             return;
         }
-        11 => wrong_length(random, &mut lent.scalars),
-        12 => wrong_length(random, &mut lent.vectors),
+        11 => damage_seals(random, &mut machine.seals),
+        12 => wrong_length(random, &mut lent.scalars),
+        13 => wrong_length(random, &mut lent.vectors),
         _ => lent.group = random.pick(&UNKNOWN_GROUPS),
     }
     lent.set_machine(&machine);
+}
+
+/// A range whose end exceeds 2^64 - 1.
+pub fn bad_range(random: &mut Random) -> Seal {
+    let start = random.pick(&[1, 1 << 63, u64::MAX]);
+    let least = u64::MAX - start + 1;
+    (start, random.pick(&[u64::MAX, least]).max(least))
+}
+
+/// Numbers of ranges that no machine has.
+pub const BAD_NUMBERS: [u64; 10] =
+    [9, 10, 15, 16, 255, 256 + 1, 1 << 32, (1 << 32) + 1, 1 << 63, u64::MAX];
+
+/// A number above eight, or something where no range is.
+fn damage_seals(random: &mut Random, seals: &mut Seals) {
+    if random.chance(50) {
+        seals.number = random.pick(&BAD_NUMBERS);
+        return;
+    }
+    let number = random.below(MOST_SEALS as u64) as usize;
+    seals.number = number as u64;
+    seals.ranges[number..].fill((0, 0));
+    let slot = random.range(number as u64, MOST_SEALS as u64 - 1) as usize;
+    seals.ranges[slot] = random.pick(&[(1, 0), (0, 1), (7, 7), (1 << 63, 0), (0, 1 << 63)]);
 }
 
 /// Sizes and buffers as bad lengths would demand them, so that nothing else

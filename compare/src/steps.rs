@@ -1,16 +1,15 @@
 //! Steps: random ones, every code, and sequences on one machine.
 
-use crate::lent::{words_to_bytes, Lent};
-use crate::library;
+use crate::lent::{library_start, numbers_of, second_start, words_to_bytes, Lent};
 use crate::random::Random;
 use crate::states::{
     any_row, any_scalar, bad_word, bench_of, good_case, good_machine, group_start, lines_of,
-    moved_rows, mtypes, name_lines, put_faults, sizes_of_lines, WILD_STRIDES,
+    moved_rows, mtypes, name_lines, number_of_ranges, put_faults, sizes_of_lines, WILD_STRIDES,
 };
 use crate::suite::{check_step, each_case, Context, Outcome};
 use crate::tally::{Call, Tally};
 use model::moves::{Lines, GROUPS};
-use model::{tile_size, Kind, Row, LISTING};
+use model::{tile_size, Kind, Row, Seal, LISTING};
 
 /// Random words on random states, most of them done.
 pub fn random_steps(context: &mut Context) -> Outcome {
@@ -100,32 +99,17 @@ fn started(random: &mut Random, tally: &mut Tally) -> Result<Lent, String> {
     let machine = good_machine(random);
     let mut lent = bench_of(random, &machine);
     lent.memory = random.bytes(2000);
-    let (seal_start, seal_length) = match random.below(3) {
-        0 => (random.below(2000), random.below(20)),
-        _ => (0, 0),
+    let ranges: Vec<Seal> = match random.below(3) {
+        0 => {
+            (0..number_of_ranges(random)).map(|_| (random.below(2000), random.below(20))).collect()
+        }
+        _ => vec![(0, 0)],
     };
-    let mut bench = lent.bench().expect("a whole machine block");
-    let started = library::start(
-        machine.rlen,
-        machine.mlen,
-        machine.elen,
-        machine.rule,
-        seal_start,
-        seal_length,
-        &mut lent.machine,
-        &mut lent.registers,
-        &mut lent.marks,
-    );
-    bench.machine = model::start(
-        machine.lengths(),
-        machine.rule,
-        seal_start,
-        seal_length,
-        &bench.registers,
-        &mut bench.marks,
-    )
-    .expect("good numbers");
-    if started != 0 || !lent.holds(&bench) {
+    let mut numbers = numbers_of(&ranges);
+    let mut second = lent.clone();
+    let given = library_start(machine.lengths(), machine.rule, &mut numbers, &mut lent);
+    let expected = second_start(machine.lengths(), machine.rule, &numbers, &mut second);
+    if (given, expected) != (0, 0) || lent != second || numbers != numbers_of(&ranges) {
         return Err(format!("a good machine was not started as asked: {machine:?}"));
     }
     tally.count(Call::MachineStart, 0);

@@ -1,9 +1,11 @@
 //! What every suite shares: the seed, the tally, and cases run one by one.
 
-use crate::lent::{library_step, machine_of, packed, report, second_step, Lent};
+use crate::lent::{
+    library_seal, library_step, machine_of, packed, report, second_seal, second_step, Lent,
+};
 use crate::random::Random;
-use crate::tally::Tally;
-use model::Answer;
+use crate::tally::{Call, Tally};
+use model::{Answer, Seal};
 
 pub struct Context {
     pub seed: u64,
@@ -57,6 +59,22 @@ pub fn check_answer(word: u32, before: &Lent, tally: &mut Tally) -> Result<(Answ
             report(before, given, &library, packed(answer), &second)
         ));
     }
-    tally.step(word, answer.number, machine_of(&before.machine).map(|machine| machine.elen));
+    tally.step(word, answer.number, machine_of(&before.machine));
     Ok((answer, second))
+}
+
+/// A range added on both programs; the answer's number and what it left.
+pub fn check_seal(range: Seal, before: &Lent, tally: &mut Tally) -> Result<(u64, Lent), String> {
+    let mut library = before.clone();
+    let given = library_seal(range, &mut library);
+    let mut second = before.clone();
+    let number = second_seal(range, &mut second);
+    if given != number || library != second {
+        return Err(format!(
+            "range {range:?} added\n{}",
+            report(before, given, &library, number, &second)
+        ));
+    }
+    tally.count(Call::Seal, number);
+    Ok((number, second))
 }

@@ -31,16 +31,19 @@
 //! and 13 only on a machine or memory that was changed between turns, or for a run
 //! block that no start made.
 //!
-//! The size of an image gives 0 or 8, writing one 14 too, reading one 0, 8 or 15.
+//! The size of an image gives 0 or 8, writing one 14 too, reading one 0, 8 or 15. The
+//! start of a machine and a further sealed range give 0, 8 or 16 (request Twelve).
 //!
-//! Words are also counted by ELEN (request Ten): each cell has to be met at both.
+//! Words are also counted by ELEN (request Ten): each cell has to be met at both; and by
+//! the number of sealed ranges.
 
-use model::{Kind, ELENS, KINDS, LEFT_OUT, LISTING, RULES};
+use model::{Kind, Machine, ELENS, KINDS, LEFT_OUT, LISTING, MOST_SEALS, RULES};
 use std::collections::BTreeMap;
 
 #[derive(Clone, Copy, Debug, PartialEq, Eq, PartialOrd, Ord)]
 pub enum Call {
     MachineStart,
+    Seal,
     /// By the name of the family's first row.
     Family(&'static str),
     OtherWord,
@@ -60,6 +63,8 @@ pub struct Tally {
     /// The same of words, by ELEN.
     by_elen: [BTreeMap<(Call, u64), u64>; ELENS.len()],
     pub steps: u64,
+    /// Steps on machines of each number of sealed ranges.
+    by_ranges: [u64; MOST_SEALS + 1],
     /// Runs compared after each turn, by kind, by the machine's rule and by ELEN.
     pub runs: [[[u64; ELENS.len()]; RULES.len()]; KINDS.len()],
     /// Images written and read that were accepted, by version.
@@ -68,12 +73,14 @@ pub struct Tally {
     pub overlaps: [[u64; 4]; KINDS.len()],
 }
 
-/// The versions of an image are 1 to 3.
-const VERSIONS: usize = 3;
+/// The versions of an image are 1 to 4.
+const VERSIONS: usize = 4;
 
-// What is compared at the least, without `long`; runs of each kind, of each kind by each
-// rule, and of these at each ELEN; images of each version.
+// What is compared at the least, without `long`; steps on machines of each number of
+// ranges; runs of each kind, of each kind by each rule, and of these at each ELEN; images
+// of each version.
 const LEAST_STEPS: u64 = 200_000;
+const LEAST_STEPS_BY_RANGES: u64 = 5_000;
 const LEAST_RUNS: u64 = 1_500;
 const LEAST_RUNS_BY_RULE: u64 = 700;
 const LEAST_RUNS_BY_ELEN: u64 = 300;
@@ -83,7 +90,7 @@ const LEAST_IMAGES: u64 = 500;
 const UNKNOWN: u64 = KINDS.len() as u64;
 
 /// One more than the highest answer.
-pub const ANSWERS: u64 = 16;
+pub const ANSWERS: u64 = 17;
 
 /// The listing's name up to an element width.
 pub fn family_name(name: &'static str) -> &'static str {
@@ -122,7 +129,7 @@ pub fn family_of(word: u32) -> Call {
 /// Whether a call can give an answer.
 pub fn reachable(call: Call, number: u64) -> bool {
     let first = match call {
-        Call::MachineStart => return [0, 8].contains(&number),
+        Call::MachineStart | Call::Seal => return [0, 8, 16].contains(&number),
         Call::OtherWord => return [1, 8, 10].contains(&number),
         Call::RunStart(UNKNOWN) | Call::WholeRun(UNKNOWN) => return number == 8,
         Call::RunNext(UNKNOWN) | Call::RunTurn(UNKNOWN) => return number == 8,
@@ -181,13 +188,19 @@ impl Tally {
         self.count(call(kind.min(UNKNOWN)), number);
     }
 
-    /// A word, with the machine's ELEN if it has one.
-    pub fn step(&mut self, word: u32, number: u64, elen: Option<u64>) {
+    /// A word, with the machine if its block has the right length.
+    pub fn step(&mut self, word: u32, number: u64, machine: Option<Machine>) {
         self.steps += 1;
         let family = family_of(word);
         self.count(family, number);
-        if let Some(at) = ELENS.iter().position(|&known| Some(known) == elen) {
+        let Some(machine) = machine else {
+            return;
+        };
+        if let Some(at) = ELENS.iter().position(|&known| known == machine.elen) {
             *self.by_elen[at].entry((family, number)).or_insert(0) += 1;
+        }
+        if machine.seals.number <= MOST_SEALS as u64 {
+            self.by_ranges[machine.seals.number as usize] += 1;
         }
     }
 
@@ -206,7 +219,10 @@ impl Tally {
     }
 
     fn calls() -> Vec<(Call, String)> {
-        let mut calls = vec![(Call::MachineStart, "machine start".to_string())];
+        let mut calls = vec![
+            (Call::MachineStart, "machine start".to_string()),
+            (Call::Seal, "further range".to_string()),
+        ];
         for first in families().into_iter().chain(families_left_out()) {
             calls.push((Call::Family(first), family_name(first).to_string()));
         }
@@ -242,7 +258,7 @@ impl Tally {
         for (kind, [rows, a, b, seal]) in self.overlaps.iter().enumerate() {
             println!(
                 "answer 9 by one reason alone, kind {kind}: two rows of C {rows}, A {a}, B {b}, \
-                 seal {seal}"
+                 a sealed range {seal}"
             );
         }
     }
@@ -283,9 +299,9 @@ impl Tally {
     pub fn amount(&self) -> Result<String, String> {
         let whole: Vec<u64> = KINDS.map(|kind| self.get(Call::WholeRun(kind), 0)).to_vec();
         let text = format!(
-            "{} steps; by kind, rule and ELEN {:?} runs turn by turn, by kind {whole:?} whole runs \
+            "{} steps, by number of ranges {:?}; by kind, rule and ELEN {:?} runs turn by turn, by kind {whole:?} whole runs \
              in one call; by version {:?} images written, {:?} read",
-            self.steps, self.runs, self.images[0], self.images[1]
+            self.steps, self.by_ranges, self.runs, self.images[0], self.images[1]
         );
         let enough = self.runs.iter().all(|by_rule| {
             let of_rules = by_rule.map(|by_elen| by_elen.iter().sum::<u64>());
@@ -294,11 +310,13 @@ impl Tally {
                 && by_rule.as_flattened().iter().all(|&runs| runs >= LEAST_RUNS_BY_ELEN)
         });
         let images = self.images.as_flattened().iter().all(|&images| images >= LEAST_IMAGES);
-        if self.steps >= LEAST_STEPS && enough && images {
+        let ranges = self.by_ranges.iter().all(|&steps| steps >= LEAST_STEPS_BY_RANGES);
+        if self.steps >= LEAST_STEPS && ranges && enough && images {
             Ok(text)
         } else {
             Err(format!(
-                "{text}; asked for: {LEAST_STEPS} steps, {LEAST_RUNS} runs of each kind, \
+                "{text}; asked for: {LEAST_STEPS} steps, {LEAST_STEPS_BY_RANGES} of each number of \
+                 ranges, {LEAST_RUNS} runs of each kind, \
                  {LEAST_RUNS_BY_RULE} of them by each rule, {LEAST_RUNS_BY_ELEN} of these at each \
                  ELEN, {LEAST_IMAGES} images of each version"
             ))

@@ -9,7 +9,7 @@ use crate::states::{
 };
 use crate::suite::{each_case, Context, Outcome};
 use model::moves::Lines;
-use model::{maximum, Size, MILL};
+use model::{maximum, Seals, Size, MILL};
 
 type Boundary = (&'static str, fn(&mut Random) -> Made);
 
@@ -470,7 +470,7 @@ fn nothing_marked(random: &mut Random) -> Made {
 fn sealed_memory(random: &mut Random) -> Made {
     let mut made = any_move(random);
     let mut machine = made.lent.machine();
-    machine.seal_length = u64::MAX;
+    machine.seals = Seals::of(&[(0, u64::MAX)]);
     made.lent.set_machine(&machine);
     made.lent.memory.truncate(random.below(2) as usize);
     made.done()

@@ -7,4 +7,5 @@ pub mod larger;
 pub mod plans;
 pub mod powerup;
 pub mod rules;
+pub mod seals;
 pub mod suites;

@@ -4,10 +4,10 @@ use crate::float_numbers::{any_style, number};
 use crate::lent::{machine_of, Lent};
 use crate::random::Random;
 use crate::states::{
-    any_machine, any_scalar, any_widths, bench_of, is_larger, lengths, put_bench_fault, put_seal,
-    wrapping_stride, SIZES, WIDTHS, WIDTHS_TO_64, WILD_STRIDES,
+    any_machine, any_range, any_scalar, any_widths, bench_of, is_larger, lengths, number_of_ranges,
+    put_bench_fault, seals_with, wrapping_stride, SIZES, WIDTHS, WIDTHS_TO_64, WILD_STRIDES,
 };
-use model::{maximum, Lengths, Machine, Matrix, Plan, Size, FLOAT, KINDS, PRODUCT};
+use model::{maximum, Lengths, Machine, Matrix, Plan, Seal, Seals, Size, FLOAT, KINDS, PRODUCT};
 
 pub const UNKNOWN_KINDS: [u64; 6] = [3, 4, 258, 1 << 32, (1 << 63) + 2, u64::MAX];
 
@@ -170,7 +170,7 @@ pub fn plan_around(random: &mut Random, lengths: Lengths) -> (Plan, Lent) {
     }
     let (plan, mut lent) = good_plan(random, &machine, (kind, widths), sizes);
     if random.chance(40) {
-        harmless_seal(random, &plan, &mut lent);
+        harmless_seals(random, &plan, &mut lent);
     }
     (plan, lent)
 }
@@ -216,17 +216,23 @@ fn trimmed_end(plan: &Plan, end: i128) -> usize {
     last.min(end) as usize
 }
 
-/// Puts a seal that holds no byte of C, if one of four tries finds it.
-fn harmless_seal(random: &mut Random, plan: &Plan, lent: &mut Lent) {
-    let mut machine = lent.machine();
-    for _ in 0..4 {
-        put_seal(random, &mut machine, lent);
-        let placed = plan.placed(Matrix::C);
-        if !placed.bytes().any(|(address, _)| model::sealed(&machine, address)) {
-            lent.set_machine(&machine);
-            return;
-        }
+/// Puts ranges that hold no byte of C, each if one of four tries finds it.
+fn harmless_seals(random: &mut Random, plan: &Plan, lent: &mut Lent) {
+    let mut list = Vec::new();
+    for _ in 0..number_of_ranges(random) {
+        list.push(harmless_range(random, plan, lent).unwrap_or((0, 0)));
     }
+    lent.set_machine(&Machine { seals: Seals::of(&list), ..lent.machine() });
+}
+
+/// A range that holds no byte of C, if one of four tries finds it.
+pub fn harmless_range(random: &mut Random, plan: &Plan, lent: &Lent) -> Option<Seal> {
+    (0..4).map(|_| any_range(random, lent.memory.len())).find(|&range| {
+        let machine = Machine { seals: Seals::of(&[range]), ..lent.machine() };
+        let placed = plan.placed(Matrix::C);
+        let mut bytes = placed.bytes();
+        !bytes.any(|(address, _)| model::sealed(&machine, address))
+    })
 }
 
 /// Spoils a plan or its bench, by one or two changes.
@@ -312,7 +318,6 @@ fn seal_a_byte_of_c(random: &mut Random, plan: &Plan, lent: &mut Lent) {
     let j = random.below(plan.n) as i128;
     let bytes = (placed.width / 8).clamp(1, 8) as u64;
     let address = placed.element(i, j) + random.below(bytes) as i128;
-    machine.seal_start = address as u64;
-    machine.seal_length = 1;
+    machine.seals = seals_with(random, (address as u64, 1));
     lent.set_machine(&machine);
 }

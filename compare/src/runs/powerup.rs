@@ -3,17 +3,20 @@
 
 use super::plans::{plan_around, spoil};
 use super::suites::machine_of_case;
-use crate::lent::{library_run, library_run_start, library_run_turn, library_run_turns, Lent};
+use crate::lent::{
+    library_run, library_run_start, library_run_turn, library_run_turns, library_seal, Lent,
+};
 use crate::library;
 use crate::powerup::{Met, Pair};
 use crate::random::Random;
+use crate::states::any_range;
 use crate::suite::{each_case, Context, Outcome};
 use model::Plan;
 
 /// Plans on pairs, some of them spoiled, and marks taken away between turns.
 pub fn power_up_runs(context: &mut Context) -> Outcome {
     let count = 3_000 * context.scale;
-    let (mut started, mut turns, mut unmarked) = (0, 0, 0);
+    let (mut started, mut turns, mut unmarked, mut sealed) = (0, 0, 0, 0);
     let cases = each_case(context, "power-up runs", count, |case, random, _| {
         let (plan, lent) = any_plan(random, case);
         let name = format!("{plan:?}");
@@ -33,11 +36,14 @@ pub fn power_up_runs(context: &mut Context) -> Outcome {
             let met = single_turns(random, &mut pair, &name)?;
             turns += met[0];
             unmarked += met[5];
+            sealed += met[7];
         }
         pair.check_comparison(random)
     })?;
-    let text = format!("{cases}, {started} started, {turns} turns done, {unmarked} refused with 5");
-    if context.only_case.is_none() && (turns == 0 || unmarked == 0) {
+    let text = format!(
+        "{cases}, {started} started, {turns} turns done, {unmarked} refused with 5, {sealed} with 7"
+    );
+    if context.only_case.is_none() && [turns, unmarked, sealed].contains(&0) {
         return Err(text);
     }
     Ok(text)
@@ -57,7 +63,7 @@ fn any_plan(random: &mut Random, case: u64) -> (Plan, Lent) {
 }
 
 /// Turn by turn to the end and two past it, or until refused; at times marks
-/// are taken away from both sides, and the bytes under them set apart.
+/// are taken away from both sides, and the bytes under them set apart, or a range is added.
 fn single_turns(random: &mut Random, pair: &mut Pair, name: &str) -> Result<Met, String> {
     let mut met = Met::default();
     let disturbed = random.chance(40);
@@ -65,6 +71,10 @@ fn single_turns(random: &mut Random, pair: &mut Pair, name: &str) -> Result<Met,
     while refused < 2 {
         if disturbed && random.chance(10) {
             take_marks(random, pair);
+        }
+        if disturbed && random.chance(5) {
+            let range = any_range(random, pair.0[0].lent.memory.len());
+            pair.call(name, |side| library_seal(range, &mut side.lent))?;
         }
         let given = pair.call(name, |side| library_run_turn(&mut side.block, &mut side.lent))?;
         met[(given & 0xFFFF) as usize] += 1;

@@ -11,7 +11,7 @@ use crate::lent::{
 use crate::library;
 use crate::random::Random;
 use crate::states::{
-    any_machine, lengths, mtypes, put_bench_fault, put_seal, raise_sizes, usual_lengths, SIZES,
+    any_machine, lengths, mtypes, put_bench_fault, put_seals, raise_sizes, usual_lengths, SIZES,
     WIDTHS, WIDTHS_TO_64,
 };
 use crate::suite::{each_case, Context, Outcome};
@@ -25,12 +25,12 @@ use model::{
 pub struct Started {
     pub plan: Plan,
     pub lent: Lent,
-    block: Vec<u8>,
-    run: Run,
+    pub block: Vec<u8>,
+    pub run: Run,
 }
 
 /// Starts a run on both programs; `None` if both refuse it.
-fn start_both(
+pub fn start_both(
     random: &mut Random,
     plan: Plan,
     mut lent: Lent,
@@ -120,7 +120,7 @@ pub fn check_run(random: &mut Random, started: Started, tally: &mut Tally) -> Re
 }
 
 /// One turn on both programs.
-fn check_turn(
+pub fn check_turn(
     plan: &Plan,
     block: &mut [u8],
     run: &mut Run,
@@ -472,7 +472,7 @@ pub fn overlapping_turns(context: &mut Context) -> Outcome {
     })
 }
 
-fn is_store(handed: &Handed) -> bool {
+pub fn is_store(handed: &Handed) -> bool {
     let instruction = model::decode(handed.word).expect("a good word");
     matches!(instruction.row.kind, Kind::Store(..))
 }
@@ -541,7 +541,7 @@ fn disturb(random: &mut Random, lent: &mut Lent) {
             }
         }
         5 => lent.memory.truncate(random.below(lent.memory.len() as u64 + 1) as usize),
-        6 => put_seal(random, &mut machine, lent),
+        6 => put_seals(random, &mut machine, lent),
         // The run keeps the rule it was started with.
         7 => machine.rule ^= 1,
         // And the ELEN; with the other one mtype may be none that can arise.
