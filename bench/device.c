@@ -53,6 +53,8 @@ uint64_t device_start(struct device *device, uint64_t rlen, uint64_t mlen, uint6
     answer(device, bodlarina_start(rlen, mlen, elen, rule, device->seals, device->seals_len, bench.machine, bench.machine_len,
                                    bench.registers, bench.registers_len, bench.marks, bench.marks_len));
     device->started = device->result == 0;
+    if (!device->started)
+        device->seals_len = 0; /* they may be what was refused: another machine is given its own */
     return device->result;
 }
 

@@ -17,7 +17,7 @@
  *     even, and flushes no subnormal number to zero (no fesetround, no -ffast-math at the link, DAZ and FTZ off in MXCSR).
  * No alignment is asked, but of seals that of its numbers. Calls on different buffers may run at once, in any number of threads; calls
  * that share a buffer, in turn.
- * The deepest call, bodlarina_run, was measured to use less than 5,000 bytes of stack (x86-64, the largest machines); tests/library.c
+ * The deepest call, bodlarina_run, was measured to use less than 5,200 bytes of stack (x86-64, the largest machines); tests/library.c
  * measures it again and fails above 8 KiB.
  *
  * Every function but bodlarina_run_turns, bodlarina_run_steps and bodlarina_version, which return a number, returns a result: the
