@@ -4,3 +4,4 @@ pub mod PutLaws
 pub mod SizeLaws
 pub mod CopyLaws
 pub mod FromLaws
+pub mod StepLaws

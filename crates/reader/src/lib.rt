@@ -4,7 +4,7 @@ ghost use Prim.Native.Nat.{_+_, _-_, _/_, _<_, _≤_, max};
 ghost use lib.ListN.{length, take, drop};
 ghost use lib.Seq.{sets};
 ghost use Rattle.format.specs.Numbers.{encode};
-ghost use Rattle.reader.specs.At.{numberAt};
+ghost use Rattle.reader.specs.At.{numberAt, placeBehind, stepFrom, allFrom};
 
 // What is read at a place: a number and the place behind it, or the place of the first byte at which no permitted number can go on.
 pub enum Number {
@@ -102,6 +102,26 @@ pub fn next_number<'a>(r: Reader<'a>, low: u64, high: u64) -> Number
     number_at(r.image, r.at, low, high)
 }
 
+// The place behind a number, or that of its fault.
+fn place_behind(n: Number) -> usize
+    ensures { λ r. ⌜ r ≡ placeBehind n ⌝ }
+{
+    match n {
+        Number::Value(_, at) => at,
+        Number::Fault(p) => p,
+    }
+}
+
+// The number from low to high at the reader's place, which is then behind it; at a fault the reader is at the fault's place.
+pub fn read_number<'s, 'a>(r: &'s mut Reader<'a>, low: u64, high: u64) -> Number
+    ensures { λ n. ⌜ (n ≡ numberAt (now (now (r .entry) .image)) (now (r .entry) .at) low high)
+        × (now (r .exit) .image ≡ now (r .entry) .image) × (now (r .exit) .at ≡ placeBehind n) ⌝ }
+{
+    let n = number_at(r.image, r.at, low, high);
+    r.at = place_behind(n);
+    n
+}
+
 // The number from low to high at a place of s, by a reader set on s.
 pub fn number_from(s: &[u8], at: usize, low: u64, high: u64) -> Number
     ensures { λ n. ⌜ n ≡ numberAt (now (s .entry)) at low high ⌝ }
@@ -149,4 +169,38 @@ pub fn copy_bytes(room: &mut [u8], to: usize, s: &[u8], from: usize, n: usize)
         room[to + i] = s[from + i];
         i += 1;
     }
+}
+
+// What is left to read, and the place behind what was read.
+pub struct Runs {
+    pub left: u64,
+    pub at: usize,
+}
+
+// One more at a place of s.
+fn step_from(s: &[u8], at: usize, t: Runs) -> Runs
+    ensures { λ r. ⌜ r ≡ stepFrom (now (s .entry)) at t ⌝ }
+{
+    if t.left < 1 {
+        return Runs { left: 0, at: at };
+    }
+    match number_at(s, at, 0, 255) {
+        Number::Value(_, a) => Runs {
+            left: t.left - 1,
+            at: a,
+        },
+        Number::Fault(p) => Runs { left: 0, at: p },
+    }
+}
+
+// All that is left.
+pub fn read_all<'s, 'a>(r: &'s mut Reader<'a>, first: Runs) -> Runs
+    ensures { λ t. ⌜ (t ≡ allFrom (now (now (r .entry) .image)) (first .left) (now (r .entry) .at) first) × (now (r .exit) .image ≡ now (r .entry) .image) ⌝ }
+{
+    let mut t = first;
+    while 0 < t.left {
+        t = step_from(r.image, r.at, t);
+        r.at = t.at;
+    }
+    t
 }
