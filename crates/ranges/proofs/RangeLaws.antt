@@ -208,6 +208,12 @@ module _ (block : List ℕ) where
   pub one-fails : ends block 0 ≡ false → false ≡ all 8 (slotSound block 1)
   one-fails h = ap behind (sym h)
 
+  pub none-ends : slotEmpty block 0 ≡ true → all 7 (λ i. slotEmpty block (suc i)) ≡ all 8 (slotSound block 0)
+  none-ends h = ap behind (sym h)
+
+  pub none-fails : slotEmpty block 0 ≡ false → false ≡ all 8 (slotSound block 0)
+  none-fails h = ap behind (sym h)
+
 -- ---- blocks with the same ranges
 
 abbrev sealsBy : (size count : ℕ) → (ℕ → Range) → List Range

@@ -101,7 +101,23 @@ fn one_sound(block: &[u8]) -> bool
     others_empty(block)
 }
 
-// Whether a machine can hold the ranges in its block. One range, the most common number, is looked at without a loop over the slots.
+// Whether each slot of a block without a range is so.
+fn none_sound(block: &[u8]) -> bool
+    requires { ⌜ length (now block) ≡ blockBytes ⌝ }
+    ensures { λ r. ⌜ r ≡ all 8 (slotSound (now (block .entry)) 0) ⌝ }
+{
+    let start = read8(block, 48);
+    let size = read8(block, 56);
+    if start != 0 {
+        return false;
+    }
+    if size != 0 {
+        return false;
+    }
+    others_empty(block)
+}
+
+// Whether a machine can hold the ranges in its block. None and one, the most common numbers, are looked at without a loop over the slots.
 pub fn is_fit(block: &[u8]) -> bool
     ensures { λ r. ⌜ r ≡ sealsFit (sealsIn (now (block .entry))) ⌝ }
 {
@@ -111,6 +127,9 @@ pub fn is_fit(block: &[u8]) -> bool
     let count = read8(block, 80);
     if count == 1 {
         return one_sound(block);
+    }
+    if count == 0 {
+        return none_sound(block);
     }
     if count > 8 {
         return false;
@@ -305,6 +324,9 @@ pub fn rows_unsealed(
     ensures { λ r. ⌜ r ≡ rowsMiss (sealed (sealsIn (now (block .entry)))) base stride rows bytes ⌝ }
 {
     let count = count_of(block);
+    if count == 0 {
+        return true;
+    }
     if count != 1 {
         return several_missed(len, block, base, stride, rows, bytes);
     }

@@ -50,23 +50,35 @@ returns-2 c =
     before b (r .read8 .result) (e .if1 .left) (r .read8 .ensures) (omega (arith, d .if2 .taken)) (c .one-sound .result)
     (c .one-sound .ensures ∙ ap (λ (n : ℕ). all mostSeals (slotSound b n)) (sym (d .if2 .taken)))
 
+none-sound-requires : tie.Need-none-sound-requires
+none-sound-requires c κs = search needs
+
 returns-3 : tie.Need-returns-3
 returns-3 c =
-    let r = c .before .before in
-    let e = r .before in
-    let b = e .before .before .args .block .now in
-    fails (long b ∷ []) (eq-eqb (length b) 200 (e .if1 .left), tt) (few b) (lt-leb (countIn b) 8 (omega (arith, c .if3 .taken, r .read8 .ensures))) (slots b ∷ []) ∙ fit-by b
-
-slots-sound-requires : tie.Need-slots-sound-requires
-slots-sound-requires c κs = search needs
-
-returns-4 : tie.Need-returns-4
-returns-4 c =
     let d = c .before in
     let r = d .before .before in
     let e = r .before in
     let b = e .before .before .args .block .now in
-    before b (r .read8 .result) (e .if1 .left) (r .read8 .ensures) (omega (arith, d .if3 .left)) (c .slots-sound .result) (c .slots-sound .ensures)
+    before b (r .read8 .result) (e .if1 .left) (r .read8 .ensures) (omega (arith, d .if3 .taken)) (c .none-sound .result)
+    (c .none-sound .ensures ∙ ap (λ (n : ℕ). all mostSeals (slotSound b n)) (sym (d .if3 .taken)))
+
+returns-4 : tie.Need-returns-4
+returns-4 c =
+    let r = c .before .before .before in
+    let e = r .before in
+    let b = e .before .before .args .block .now in
+    fails (long b ∷ []) (eq-eqb (length b) 200 (e .if1 .left), tt) (few b) (lt-leb (countIn b) 8 (omega (arith, c .if4 .taken, r .read8 .ensures))) (slots b ∷ []) ∙ fit-by b
+
+slots-sound-requires : tie.Need-slots-sound-requires
+slots-sound-requires c κs = search needs
+
+returns-5 : tie.Need-returns-5
+returns-5 c =
+    let d = c .before in
+    let r = d .before .before .before in
+    let e = r .before in
+    let b = e .before .before .args .block .now in
+    before b (r .read8 .result) (e .if1 .left) (r .read8 .ensures) (omega (arith, d .if4 .left)) (c .slots-sound .result) (c .slots-sound .ensures)
 
 pub is-fit-spec : {M : Type 1} → statement M
-is-fit-spec = tie.close (tie.spec returns read8-requires one-sound-requires returns-2 returns-3 slots-sound-requires returns-4)
+is-fit-spec = tie.close (tie.spec returns read8-requires one-sound-requires returns-2 none-sound-requires returns-3 returns-4 slots-sound-requires returns-5)

@@ -1,0 +1,48 @@
+use mathlib.Core.Path.{sym, ap, ap₂, _∙_}
+use mathlib.Core.Bool.{Bool, _&&_}
+use lib.Dec.{eqb}
+use borrow.Author.Needs.{needs}
+use borrow.Author.Tests.{eq-eqb, ne-eqb}
+use Rattle.width.specs.Tile.{le}
+use Rattle.ranges.proofs.RangeLaws.{none-ends, none-fails}
+use Rattle.ranges.proofs.none_sound.Statement.{statement}
+use Rattle.ranges.proofs.none_sound.Tie as tie
+
+read8-requires : tie.Need-read8-requires
+read8-requires c κs = search needs
+
+read8-requires-2 : tie.Need-read8-requires-2
+read8-requires-2 c κs = search needs
+
+returns : tie.Need-returns
+returns c =
+    let y = c .before in
+    let x = y .before in
+    let b = x .before .before .args .block .now in
+    none-fails b (ap (λ (t : Bool). t && eqb (le b 56 8) 0) (ne-eqb (le b 48 8) 0 (λ e. c .if1 .taken (x .read8 .ensures ∙ e))))
+
+returns-2 : tie.Need-returns-2
+returns-2 c =
+    let d = c .before in
+    let y = d .before in
+    let x = y .before in
+    let b = x .before .before .args .block .now in
+    none-fails b (ap₂ (λ (t u : Bool). t && u) (eq-eqb (le b 48 8) 0 (sym (x .read8 .ensures) ∙ d .if1 .left)) (ne-eqb (le b 56 8) 0 (λ e. c .if2 .taken (y .read82 .ensures ∙ e))))
+
+others-empty-requires : tie.Need-others-empty-requires
+others-empty-requires c κs = search needs
+
+returns-3 : tie.Need-returns-3
+returns-3 c =
+    let f = c .before in
+    let d = f .before in
+    let y = d .before in
+    let x = y .before in
+    let b = x .before .before .args .block .now in
+    c .others-empty .ensures
+    ∙ none-ends b (ap₂ (λ (t u : Bool). t && u) (eq-eqb (le b 48 8) 0 (sym (x .read8 .ensures) ∙ d .if1 .left)) (eq-eqb (le b 56 8) 0 (sym (y .read82 .ensures) ∙ f .if2 .left)))
+
+pub none-sound-spec : {M : Type 1} → statement M
+none-sound-spec =
+    tie.close
+    (tie.spec read8-requires read8-requires-2 returns returns-2 others-empty-requires returns-3)
