@@ -3,6 +3,7 @@
 // crates that it calls.
 mod images; // images of machines
 mod runs; // the product run
+mod texts; // lines of assembler text
 
 ghost use mathlib.Core.Path.{_≡_};
 ghost use Rattle.bench_calls.specs.BenchCalls.{startedOut, hostStart, steppedOut, hostStep, sealedOut, hostSeal};

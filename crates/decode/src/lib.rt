@@ -282,7 +282,7 @@ fn move_in(word: u32, form: Form) -> Instruction
 }
 
 // The table's entry for a word.
-fn number_of(word: u32) -> u8
+pub fn number_of(word: u32) -> u8
     ensures { λ r. ⌜ r ≡ entryOf word ⌝ }
 {
     let high = word / 268435456;

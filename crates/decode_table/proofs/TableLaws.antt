@@ -190,7 +190,7 @@ module _ (word e : ℕ) (small : e < 32) (same : eqb (field20 word) 0 ≡ eqb e 
       (number-same rs (and-right (allKnown (r .code .fixed)) (rowsKnown rs) k))
 
 -- the table's number, where bits 24..20 are right
-number-is : (word : ℕ) → numberIn word listing ≡ cond (restRight (entryOf word) word) (entryOf word) 0
+pub number-is : (word : ℕ) → numberIn word listing ≡ cond (restRight (entryOf word) word) (entryOf word) 0
 number-is word = go (eqb (field20 word) 0) refl (fixesZero n) (and-left zeros others-there h) (and-right zeros others-there h)
   where
     n : ℕ

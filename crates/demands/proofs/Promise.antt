@@ -16,6 +16,8 @@ use Rattle.run_calls.proofs.Refusal as run
 use Rattle.turn_calls.proofs.Refusal as turn
 use Rattle.image_calls.proofs.Refusal as image
 use Rattle.image_calls.proofs.Packing.{image-size-packs-whole, image-write-packs-whole, image-read-packs-whole}
+use Rattle.text_calls.proofs.Refusal as text
+use Rattle.text_calls.proofs.Packing.{word-text-packs, text-word-packs}
 use Rattle.calls.proofs.Seal.{seal-holds-over-calls, seal-holds-from-start-call, seal-holds-from-read-call, start-call-holds, read-call-holds}
 use Rattle.calls.proofs.Ranges.{seal-holds-from-seal-call, seal-call-seals, ranges-are-exact-over-calls}
 use Rattle.calls.proofs.Runs.{start-calls-are-right, turn-calls-are-right, run-is-turn-calls}
@@ -30,6 +32,12 @@ use Rattle.format.proofs.NumberLaws.{encode-apart}
 use Rattle.format.proofs.FormatLaws.{ends-one, parser-is-right}
 use Rattle.image.proofs.RunLaws.{runs-are-maximal}
 use Rattle.image.proofs.Images.{alike-one-image, others-never, format-is-images, read-is-exact, read-refusal, write-refusal, read-makes, seal-holds-from-read, written-is-read-back, read-is-written-back}
+use Rattle.assembly.proofs.LegalLaws.{legal-have-lines}
+use Rattle.assembly.proofs.AnswerLaws.{accepted-have-lines, codes-answered, lines-go-back}
+use Rattle.assembly.proofs.AcceptedLaws.{lines-are-accepted}
+use Rattle.assembly.proofs.LineLaws.{reads-right, reads-back, one-word}
+use Rattle.assembly.proofs.SizeLaws.{line-size}
+use Rattle.assembly.proofs.HexLaws.{words-right, words-read-back}
 use Rattle.powerup.proofs.Steps.{step-ignores-unmarked, words-ignore-unmarked, given-words-ignore-unmarked}
 use Rattle.powerup.proofs.Runs.{run-start-ignores-unmarked, turns-ignore-unmarked, whole-ignores-unmarked}
 use Rattle.powerup.proofs.PowerUp.{starts-alike, power-up-never-matters}
@@ -60,10 +68,14 @@ promise = record {
     c-run = turn.run-refusal;
     c-image-write = image.image-write-refusal;
     c-image-read = image.image-read-refusal;
+    c-word-text = text.word-text-refusal;
+    c-text-word = text.text-word-refusal;
     c-step-whole = packs-whole;
     c-image-size-whole = image-size-packs-whole;
     c-image-write-whole = image-write-packs-whole;
     c-image-read-whole = image-read-packs-whole;
+    c-word-text-whole = word-text-packs;
+    c-text-word-whole = text-word-packs;
   };
   demand-2 = record {
     words = word-refusals;
@@ -138,5 +150,16 @@ promise = record {
     twelve-c-start = start-call-holds;
     twelve-c-read = read-call-holds;
     twelve-c-calls = ranges-are-exact-over-calls;
+    fourteen = legal-have-lines;
+    fourteen-accepted = accepted-have-lines;
+    fourteen-only = lines-are-accepted;
+    fourteen-codes = codes-answered;
+    fourteen-back = reads-back;
+    fourteen-read = reads-right;
+    fourteen-one = one-word;
+    fourteen-short = line-size;
+    fourteen-digits = words-right;
+    fourteen-digits-back = words-read-back;
+    fourteen-both = lines-go-back;
   };
 }

@@ -11,6 +11,7 @@ use Rattle.bench_calls.specs.Theorems.{StartRefusalChangesNoByte, StepRefusalCh
 use Rattle.run_calls.specs.Theorems.{RunStartRefusalChangesNoByte, NextRefusalChangesNoByte}
 use Rattle.turn_calls.specs.Theorems.{TurnRefusalChangesNoByte, NoTurnChangesNoByte, RunRefusalChangesNoByte}
 use Rattle.image_calls.specs.Theorems.{ImageWriteRefusalChangesNoByte, ImageReadRefusalChangesNoByte, ImageSizePacksWhole, ImageWritePacksWhole, ImageReadPacksWhole}
+use Rattle.text_calls.specs.Theorems.{WordTextRefusalChangesNoByte, TextWordRefusalChangesNoByte, WordTextPacksWhole, TextWordPacksWhole}
 use Rattle.calls.specs.Composed.{StartCallsAreRight, TurnCallsAreRight, TurnsAreTurnCalls, RunIsTurnCalls, SealHoldsOverCalls, SealHoldsFromStartCall, SealHoldsFromReadCall, SealHoldsFromSealCall, SealCallSeals, StartCallHolds, ReadCallHolds, RangesAreExactOverCalls}
 use Rattle.sealing.specs.Theorems.{RangesAreExact, AddedRangeRefusesOnly}
 use Rattle.transposed.specs.Transposed.{LoadThenStoreTransposes}
@@ -20,6 +21,7 @@ use Rattle.exact.specs.Examples.{TwoTerms}
 use Rattle.decode_table.specs.Table.{TableAgrees, TableDecodes}
 use Rattle.format.specs.Theorems.{NumbersApart, OnePlace, ParserIsRight}
 use Rattle.image.specs.Theorems.{AlikeHaveOneImage, OthersNever, RunsAreMaximal, FormatIsImages, ReadIsExact, ReadRefusalChangesNothing, WriteRefusalChangesNothing, ReadMakesItsMachine, SealHoldsFromRead, WrittenIsReadBack, ReadIsWrittenBack}
+use Rattle.assembly.specs.Theorems.{LegalHaveLines, AcceptedHaveLines, LinesAreAccepted, CodesAnswered, LinesAreShort, ReadsBack, ReadsRight, OneWord, WordsRight, WordsReadBack, LinesGoBack}
 use Rattle.powerup.specs.Steps.{StepIgnoresUnmarked, WordsIgnoreUnmarked, GivenWordsIgnoreUnmarked}
 use Rattle.powerup.specs.Runs.{RunStartIgnoresUnmarked, TurnsIgnoreUnmarked, WholeIgnoresUnmarked}
 use Rattle.powerup.specs.PowerUp.{StartsAlike, PowerUpNeverMatters}
@@ -49,11 +51,15 @@ pub record Demand1 : Type 0 where
   pub c-run : RunRefusalChangesNoByte
   pub c-image-write : ImageWriteRefusalChangesNoByte
   pub c-image-read : ImageReadRefusalChangesNoByte
+  pub c-word-text : WordTextRefusalChangesNoByte
+  pub c-text-word : TextWordRefusalChangesNoByte
   -- and nothing of an answer is cut in what they return
   pub c-step-whole : StepPacksWhole
   pub c-image-size-whole : ImageSizePacksWhole
   pub c-image-write-whole : ImageWritePacksWhole
   pub c-image-read-whole : ImageReadPacksWhole
+  pub c-word-text-whole : WordTextPacksWhole
+  pub c-text-word-whole : TextWordPacksWhole
 
 -- 2: a step is its definition (the contract of `step::step`); refusals of a word are exact, and no sealed byte changes
 pub record Demand2 : Type 0 where
@@ -89,8 +95,8 @@ pub record Demand3 : Type 0 where
   pub c-many : TurnsAreTurnCalls
   pub c-run : RunIsTurnCalls
 
--- 02, where a request asks for a statement of its own: One, Two, Four, Five, Six, Nine, Eleven and Twelve. Of Three, Seven, Eight and Ten
--- the statements above speak
+-- 02, where a request asks for a statement of its own: One, Two, Four, Five, Six, Nine, Eleven, Twelve and Fourteen. Of Three, Seven, Eight and
+-- Ten the statements above speak
 pub record Requests : Type 1 where
   pub one-nothing-else : NothingElseMoved
   pub one-added : AddedGotOne
@@ -138,6 +144,18 @@ pub record Requests : Type 1 where
   pub twelve-c-start : StartCallHolds
   pub twelve-c-read : ReadCallHolds
   pub twelve-c-calls : RangesAreExactOverCalls
+  -- Fourteen: which words have a line, the line back to its word, the column of a refusal; the same of words in digits
+  pub fourteen : LegalHaveLines
+  pub fourteen-accepted : AcceptedHaveLines
+  pub fourteen-only : LinesAreAccepted
+  pub fourteen-codes : CodesAnswered
+  pub fourteen-back : ReadsBack
+  pub fourteen-read : ReadsRight
+  pub fourteen-one : OneWord
+  pub fourteen-short : LinesAreShort
+  pub fourteen-digits : WordsRight
+  pub fourteen-digits-back : WordsReadBack
+  pub fourteen-both : LinesGoBack
 
 pub record Promise : Type 1 where
   pub demand-1 : Demand1

@@ -5,6 +5,7 @@
 use mathlib.Core.Bool.{Bool, true, false, cond, _&&_, _||_}
 use mathlib.Core.List.{List, [], _∷_}
 use Prim.Native.Nat.{ℕ, _+_, _-_, _/_, _%_, _^_}
+use Prim.Native.String.{String}
 use lib.Dec.{ltb, eqb}
 use Rattle.machine.specs.declared.Matrix.{Matrix}
 use Rattle.machine.specs.declared.Matrix.the-variants.{MatrixA, MatrixB, MatrixC}
@@ -54,9 +55,12 @@ pub record Code : Type 0 where
   pub number : ℕ
   pub fixed : List Fixed
 
--- an entry that is ours, and the instruction that a word with its bits is
+-- an entry that is ours, its line (02, Fourteen: "the draft's mnemonics (mg printed there is mq)", "Operands stand as in the draft, the base in
+-- brackets"), in which a capital letter stands for an operand's number (assembly/specs/Lines.antt: operandOf), and the instruction that a
+-- word with its bits is
 pub record Row : Type 0 where
   pub code : Code
+  pub text : String
   pub means : ℕ → Instruction
 
 abbrev fix : ℕ → ℕ → ℕ → Fixed
@@ -72,128 +76,128 @@ coded number funct6 bit25 funct3 = entry number (fix 14 12 funct3 ∷ fix 31 26 
 abbrev coded0 : (number funct6 bit25 funct3 : ℕ) → Code
 coded0 number funct6 bit25 funct3 = entry number (fix 14 12 funct3 ∷ fix 31 26 funct6 ∷ fix 25 25 bit25 ∷ fix 24 20 0 ∷ [])
 
-abbrev meaning : Code → (ℕ → Instruction) → Row
-meaning code means = record { code = code; means = means }
+abbrev meaning : Code → String → (ℕ → Instruction) → Row
+meaning code text means = record { code = code; text = text; means = means }
 
 -- settings with an immediate: bits 14..12 and 31..28
-abbrev settingI : (number funct4 : ℕ) → (ℕ → Instruction) → Row
-settingI number funct4 means = meaning (entry number (fix 14 12 0b111 ∷ fix 31 28 funct4 ∷ [])) means
+abbrev settingI : ℕ → String → (funct4 : ℕ) → (ℕ → Instruction) → Row
+settingI number text funct4 means = meaning (entry number (fix 14 12 0b111 ∷ fix 31 28 funct4 ∷ [])) text means
 
 -- settings with rs1; "any bit of 27..20 set in a setting word that has an rs1 field" is refused
-abbrev setting : (number funct4 : ℕ) → (ℕ → Instruction) → Row
-setting number funct4 means = meaning (entry number (fix 14 12 0b111 ∷ fix 31 28 funct4 ∷ fix 27 20 0 ∷ [])) means
+abbrev setting : ℕ → String → (funct4 : ℕ) → (ℕ → Instruction) → Row
+setting number text funct4 means = meaning (entry number (fix 14 12 0b111 ∷ fix 31 28 funct4 ∷ fix 27 20 0 ∷ [])) text means
 
 -- loads and stores
-abbrev loading : (number funct6 eew : ℕ) → Form → Matrix → ℕ → Row
-loading number funct6 eew form matrix width = meaning (coded number funct6 0 eew) (λ word. Load form matrix width (field7 word) (field15 word) (field20 word))
+abbrev loading : ℕ → String → (funct6 eew : ℕ) → Form → Matrix → ℕ → Row
+loading number text funct6 eew form matrix width = meaning (coded number funct6 0 eew) text (λ word. Load form matrix width (field7 word) (field15 word) (field20 word))
 
-abbrev storing : (number funct6 eew : ℕ) → Form → Matrix → ℕ → Row
-storing number funct6 eew form matrix width = meaning (coded number funct6 1 eew) (λ word. Store form matrix width (field7 word) (field15 word) (field20 word))
+abbrev storing : ℕ → String → (funct6 eew : ℕ) → Form → Matrix → ℕ → Row
+storing number text funct6 eew form matrix width = meaning (coded number funct6 1 eew) text (λ word. Store form matrix width (field7 word) (field15 word) (field20 word))
 
 -- multiplies and element-wise multiplies
-abbrev arithmetic : (number funct6 : ℕ) → (ℕ → Instruction) → Row
-arithmetic number funct6 means = meaning (coded number funct6 0 0b110) means
+abbrev arithmetic : ℕ → String → (funct6 : ℕ) → (ℕ → Instruction) → Row
+arithmetic number text funct6 means = meaning (coded number funct6 0 0b110) text means
 
 -- adds and subtracts; "bits 24..20 of an add or subtract not what the listing fixes (zero where it fixes nothing)" are refused
-abbrev combining : (number funct6 : ℕ) → Sum → Factor → Row
-combining number funct6 sum factor = meaning (coded0 number funct6 0 0b110) (λ word. Combine sum factor (field7 word) (field15 word))
+abbrev combining : ℕ → String → (funct6 : ℕ) → Sum → Factor → Row
+combining number text funct6 sum factor = meaning (coded0 number funct6 0 0b110) text (λ word. Combine sum factor (field7 word) (field15 word))
 
 -- moves between accumulators and vector registers, of rows (plain) and of columns (transposed): vd, ms1 and rs2; md, vs1 and rs2
-abbrev movingOut : (number funct6 : ℕ) → Form → Row
-movingOut number funct6 form = meaning (coded number funct6 0 0b101) (λ word. MoveOut form (field7 word) (field15 word) (field20 word))
+abbrev movingOut : ℕ → String → (funct6 : ℕ) → Form → Row
+movingOut number text funct6 form = meaning (coded number funct6 0 0b101) text (λ word. MoveOut form (field7 word) (field15 word) (field20 word))
 
-abbrev movingIn : (number funct6 : ℕ) → Form → Row
-movingIn number funct6 form = meaning (coded number funct6 1 0b101) (λ word. MoveIn form (field7 word) (field15 word) (field20 word))
+abbrev movingIn : ℕ → String → (funct6 : ℕ) → Form → Row
+movingIn number text funct6 form = meaning (coded number funct6 1 0b101) text (λ word. MoveIn form (field7 word) (field15 word) (field20 word))
 
 -- our entries
 unfoldable pub listing : List Row
 listing =
     -- configuration: "the eight setting codes are 0000 to 0111 in listing order"
-    settingI 1 0b0000 (λ word. SetTypeImmediate (field7 word) (immediate13 word))  -- msettypei
-    ∷ setting 2 0b0001 (λ word. SetType (field7 word) (field15 word))  -- msettype
-    ∷ settingI 3 0b0010 (λ word. SetTileImmediate DimensionM (field7 word) (immediate13 word))  -- msettilemi
-    ∷ setting 4 0b0011 (λ word. SetTile DimensionM (field7 word) (field15 word))  -- msettilem
-    ∷ settingI 5 0b0100 (λ word. SetTileImmediate DimensionK (field7 word) (immediate13 word))  -- msettileki
-    ∷ setting 6 0b0101 (λ word. SetTile DimensionK (field7 word) (field15 word))  -- msettilek
-    ∷ settingI 7 0b0110 (λ word. SetTileImmediate DimensionN (field7 word) (immediate13 word))  -- msettileni
-    ∷ setting 8 0b0111 (λ word. SetTile DimensionN (field7 word) (field15 word))  -- msettilen
+    settingI 1 "msettypei xX, I" 0b0000 (λ word. SetTypeImmediate (field7 word) (immediate13 word))
+    ∷ setting 2 "msettype xX, xX" 0b0001 (λ word. SetType (field7 word) (field15 word))
+    ∷ settingI 3 "msettilemi xX, I" 0b0010 (λ word. SetTileImmediate DimensionM (field7 word) (immediate13 word))
+    ∷ setting 4 "msettilem xX, xX" 0b0011 (λ word. SetTile DimensionM (field7 word) (field15 word))
+    ∷ settingI 5 "msettileki xX, I" 0b0100 (λ word. SetTileImmediate DimensionK (field7 word) (immediate13 word))
+    ∷ setting 6 "msettilek xX, xX" 0b0101 (λ word. SetTile DimensionK (field7 word) (field15 word))
+    ∷ settingI 7 "msettileni xX, I" 0b0110 (λ word. SetTileImmediate DimensionN (field7 word) (immediate13 word))
+    ∷ setting 8 "msettilen xX, xX" 0b0111 (λ word. SetTile DimensionN (field7 word) (field15 word))
     -- loads
-    ∷ loading 9 0b000001 0b000 Plain MatrixA 1  -- mlae8.m
-    ∷ loading 10 0b000001 0b001 Plain MatrixA 2  -- mlae16.m
-    ∷ loading 11 0b000001 0b010 Plain MatrixA 4  -- mlae32.m
-    ∷ loading 12 0b000001 0b011 Plain MatrixA 8  -- mlae64.m
-    ∷ loading 13 0b000010 0b000 Plain MatrixB 1  -- mlbe8.m
-    ∷ loading 14 0b000010 0b001 Plain MatrixB 2  -- mlbe16.m
-    ∷ loading 15 0b000010 0b010 Plain MatrixB 4  -- mlbe32.m
-    ∷ loading 16 0b000010 0b011 Plain MatrixB 8  -- mlbe64.m
-    ∷ loading 17 0b000000 0b000 Plain MatrixC 1  -- mlce8.m
-    ∷ loading 18 0b000000 0b001 Plain MatrixC 2  -- mlce16.m
-    ∷ loading 19 0b000000 0b010 Plain MatrixC 4  -- mlce32.m
-    ∷ loading 20 0b000000 0b011 Plain MatrixC 8  -- mlce64.m
+    ∷ loading 9 "mlae8.m trT, (xX), xX" 0b000001 0b000 Plain MatrixA 1
+    ∷ loading 10 "mlae16.m trT, (xX), xX" 0b000001 0b001 Plain MatrixA 2
+    ∷ loading 11 "mlae32.m trT, (xX), xX" 0b000001 0b010 Plain MatrixA 4
+    ∷ loading 12 "mlae64.m trT, (xX), xX" 0b000001 0b011 Plain MatrixA 8
+    ∷ loading 13 "mlbe8.m trT, (xX), xX" 0b000010 0b000 Plain MatrixB 1
+    ∷ loading 14 "mlbe16.m trT, (xX), xX" 0b000010 0b001 Plain MatrixB 2
+    ∷ loading 15 "mlbe32.m trT, (xX), xX" 0b000010 0b010 Plain MatrixB 4
+    ∷ loading 16 "mlbe64.m trT, (xX), xX" 0b000010 0b011 Plain MatrixB 8
+    ∷ loading 17 "mlce8.m accA, (xX), xX" 0b000000 0b000 Plain MatrixC 1
+    ∷ loading 18 "mlce16.m accA, (xX), xX" 0b000000 0b001 Plain MatrixC 2
+    ∷ loading 19 "mlce32.m accA, (xX), xX" 0b000000 0b010 Plain MatrixC 4
+    ∷ loading 20 "mlce64.m accA, (xX), xX" 0b000000 0b011 Plain MatrixC 8
     -- stores
-    ∷ storing 21 0b000001 0b000 Plain MatrixA 1  -- msae8.m
-    ∷ storing 22 0b000001 0b001 Plain MatrixA 2  -- msae16.m
-    ∷ storing 23 0b000001 0b010 Plain MatrixA 4  -- msae32.m
-    ∷ storing 24 0b000001 0b011 Plain MatrixA 8  -- msae64.m
-    ∷ storing 25 0b000010 0b000 Plain MatrixB 1  -- msbe8.m
-    ∷ storing 26 0b000010 0b001 Plain MatrixB 2  -- msbe16.m
-    ∷ storing 27 0b000010 0b010 Plain MatrixB 4  -- msbe32.m
-    ∷ storing 28 0b000010 0b011 Plain MatrixB 8  -- msbe64.m
-    ∷ storing 29 0b000000 0b000 Plain MatrixC 1  -- msce8.m
-    ∷ storing 30 0b000000 0b001 Plain MatrixC 2  -- msce16.m
-    ∷ storing 31 0b000000 0b010 Plain MatrixC 4  -- msce32.m
-    ∷ storing 32 0b000000 0b011 Plain MatrixC 8  -- msce64.m
+    ∷ storing 21 "msae8.m trT, (xX), xX" 0b000001 0b000 Plain MatrixA 1
+    ∷ storing 22 "msae16.m trT, (xX), xX" 0b000001 0b001 Plain MatrixA 2
+    ∷ storing 23 "msae32.m trT, (xX), xX" 0b000001 0b010 Plain MatrixA 4
+    ∷ storing 24 "msae64.m trT, (xX), xX" 0b000001 0b011 Plain MatrixA 8
+    ∷ storing 25 "msbe8.m trT, (xX), xX" 0b000010 0b000 Plain MatrixB 1
+    ∷ storing 26 "msbe16.m trT, (xX), xX" 0b000010 0b001 Plain MatrixB 2
+    ∷ storing 27 "msbe32.m trT, (xX), xX" 0b000010 0b010 Plain MatrixB 4
+    ∷ storing 28 "msbe64.m trT, (xX), xX" 0b000010 0b011 Plain MatrixB 8
+    ∷ storing 29 "msce8.m accA, (xX), xX" 0b000000 0b000 Plain MatrixC 1
+    ∷ storing 30 "msce16.m accA, (xX), xX" 0b000000 0b001 Plain MatrixC 2
+    ∷ storing 31 "msce32.m accA, (xX), xX" 0b000000 0b010 Plain MatrixC 4
+    ∷ storing 32 "msce64.m accA, (xX), xX" 0b000000 0b011 Plain MatrixC 8
     -- 02, Two: transposed loads
-    ∷ loading 109 0b000101 0b000 Transposed MatrixA 1  -- mlate8.m
-    ∷ loading 110 0b000101 0b001 Transposed MatrixA 2  -- mlate16.m
-    ∷ loading 111 0b000101 0b010 Transposed MatrixA 4  -- mlate32.m
-    ∷ loading 112 0b000101 0b011 Transposed MatrixA 8  -- mlate64.m
-    ∷ loading 113 0b000110 0b000 Transposed MatrixB 1  -- mlbte8.m
-    ∷ loading 114 0b000110 0b001 Transposed MatrixB 2  -- mlbte16.m
-    ∷ loading 115 0b000110 0b010 Transposed MatrixB 4  -- mlbte32.m
-    ∷ loading 116 0b000110 0b011 Transposed MatrixB 8  -- mlbte64.m
-    ∷ loading 117 0b000100 0b000 Transposed MatrixC 1  -- mlcte8.m
-    ∷ loading 118 0b000100 0b001 Transposed MatrixC 2  -- mlcte16.m
-    ∷ loading 119 0b000100 0b010 Transposed MatrixC 4  -- mlcte32.m
-    ∷ loading 120 0b000100 0b011 Transposed MatrixC 8  -- mlcte64.m
+    ∷ loading 109 "mlate8.m trT, (xX), xX" 0b000101 0b000 Transposed MatrixA 1
+    ∷ loading 110 "mlate16.m trT, (xX), xX" 0b000101 0b001 Transposed MatrixA 2
+    ∷ loading 111 "mlate32.m trT, (xX), xX" 0b000101 0b010 Transposed MatrixA 4
+    ∷ loading 112 "mlate64.m trT, (xX), xX" 0b000101 0b011 Transposed MatrixA 8
+    ∷ loading 113 "mlbte8.m trT, (xX), xX" 0b000110 0b000 Transposed MatrixB 1
+    ∷ loading 114 "mlbte16.m trT, (xX), xX" 0b000110 0b001 Transposed MatrixB 2
+    ∷ loading 115 "mlbte32.m trT, (xX), xX" 0b000110 0b010 Transposed MatrixB 4
+    ∷ loading 116 "mlbte64.m trT, (xX), xX" 0b000110 0b011 Transposed MatrixB 8
+    ∷ loading 117 "mlcte8.m accA, (xX), xX" 0b000100 0b000 Transposed MatrixC 1
+    ∷ loading 118 "mlcte16.m accA, (xX), xX" 0b000100 0b001 Transposed MatrixC 2
+    ∷ loading 119 "mlcte32.m accA, (xX), xX" 0b000100 0b010 Transposed MatrixC 4
+    ∷ loading 120 "mlcte64.m accA, (xX), xX" 0b000100 0b011 Transposed MatrixC 8
     -- 02, Two: transposed stores
-    ∷ storing 121 0b000101 0b000 Transposed MatrixA 1  -- msate8.m
-    ∷ storing 122 0b000101 0b001 Transposed MatrixA 2  -- msate16.m
-    ∷ storing 123 0b000101 0b010 Transposed MatrixA 4  -- msate32.m
-    ∷ storing 124 0b000101 0b011 Transposed MatrixA 8  -- msate64.m
-    ∷ storing 125 0b000110 0b000 Transposed MatrixB 1  -- msbte8.m
-    ∷ storing 126 0b000110 0b001 Transposed MatrixB 2  -- msbte16.m
-    ∷ storing 127 0b000110 0b010 Transposed MatrixB 4  -- msbte32.m
-    ∷ storing 128 0b000110 0b011 Transposed MatrixB 8  -- msbte64.m
-    ∷ storing 129 0b000100 0b000 Transposed MatrixC 1  -- mscte8.m
-    ∷ storing 130 0b000100 0b001 Transposed MatrixC 2  -- mscte16.m
-    ∷ storing 131 0b000100 0b010 Transposed MatrixC 4  -- mscte32.m
-    ∷ storing 132 0b000100 0b011 Transposed MatrixC 8  -- mscte64.m
+    ∷ storing 121 "msate8.m trT, (xX), xX" 0b000101 0b000 Transposed MatrixA 1
+    ∷ storing 122 "msate16.m trT, (xX), xX" 0b000101 0b001 Transposed MatrixA 2
+    ∷ storing 123 "msate32.m trT, (xX), xX" 0b000101 0b010 Transposed MatrixA 4
+    ∷ storing 124 "msate64.m trT, (xX), xX" 0b000101 0b011 Transposed MatrixA 8
+    ∷ storing 125 "msbte8.m trT, (xX), xX" 0b000110 0b000 Transposed MatrixB 1
+    ∷ storing 126 "msbte16.m trT, (xX), xX" 0b000110 0b001 Transposed MatrixB 2
+    ∷ storing 127 "msbte32.m trT, (xX), xX" 0b000110 0b010 Transposed MatrixB 4
+    ∷ storing 128 "msbte64.m trT, (xX), xX" 0b000110 0b011 Transposed MatrixB 8
+    ∷ storing 129 "mscte8.m accA, (xX), xX" 0b000100 0b000 Transposed MatrixC 1
+    ∷ storing 130 "mscte16.m accA, (xX), xX" 0b000100 0b001 Transposed MatrixC 2
+    ∷ storing 131 "mscte32.m accA, (xX), xX" 0b000100 0b010 Transposed MatrixC 4
+    ∷ storing 132 "mscte64.m accA, (xX), xX" 0b000100 0b011 Transposed MatrixC 8
     -- 02, Eleven: "the plain moves mmvcr and mmvcc in both forms, .. (codes from its 6.1.7 ..)"
-    ∷ movingOut 229 0b000000 Plain  -- mmvcr.v.m
-    ∷ movingIn 230 0b000000 Plain  -- mmvcr.m.v
-    ∷ movingOut 235 0b000100 Transposed  -- mmvcc.v.m
-    ∷ movingIn 236 0b000100 Transposed  -- mmvcc.m.v
+    ∷ movingOut 229 "mmvcr.v.m vX, accA, xX" 0b000000 Plain
+    ∷ movingIn 230 "mmvcr.m.v accA, vX, xX" 0b000000 Plain
+    ∷ movingOut 235 "mmvcc.v.m vX, accA, xX" 0b000100 Transposed
+    ∷ movingIn 236 "mmvcc.m.v accA, vX, xX" 0b000100 Transposed
     -- arithmetic
-    ∷ arithmetic 33 0b000000 (λ word. Multiply Single (field7 word) (field15 word) (field20 word))  -- mma.mm
-    ∷ meaning (coded 34 0b000000 1 0b110) (λ word. FloatMultiply (field7 word) (field15 word) (field20 word))  -- mfma.mm: 02, Four
-    ∷ arithmetic 35 0b000001 (λ word. Multiply Double (field7 word) (field15 word) (field20 word))  -- mwma.mm
-    ∷ arithmetic 37 0b000010 (λ word. Multiply Quadruple (field7 word) (field15 word) (field20 word))  -- mqma.mm
-    ∷ combining 38 0b000100 Add Single  -- maddc.mm
-    ∷ combining 40 0b000101 Add Double  -- mwaddc.mm
-    ∷ combining 42 0b000110 Add Quadruple  -- mqaddc.mm
-    ∷ combining 43 0b000111 Subtract Single  -- msubc.mm
-    ∷ combining 45 0b001000 Subtract Double  -- mwsubc.mm
-    ∷ combining 47 0b001001 Subtract Quadruple  -- mqsubc.mm
-    ∷ combining 48 0b001010 ReverseSubtract Single  -- mrsubc.mm
-    ∷ combining 50 0b001011 ReverseSubtract Double  -- mwrsubc.mm
-    ∷ combining 52 0b001100 ReverseSubtract Quadruple  -- mqrsubc.mm
-    ∷ arithmetic 53 0b001101 (λ word. Scale Single (field7 word) (field15 word) (field20 word))  -- memulc.mx
-    ∷ arithmetic 55 0b001110 (λ word. Scale Double (field7 word) (field15 word) (field20 word))  -- mwemulc.mx
-    ∷ arithmetic 57 0b001111 (λ word. Scale Quadruple (field7 word) (field15 word) (field20 word))  -- mqemulc.mx
-    ∷ arithmetic 58 0b010000 (λ word. ScaleImmediate Single (field7 word) (field15 word) (field20 word))  -- memulc.mi
-    ∷ arithmetic 59 0b010001 (λ word. ScaleImmediate Double (field7 word) (field15 word) (field20 word))  -- mwemulc.mi
-    ∷ arithmetic 60 0b010010 (λ word. ScaleImmediate Quadruple (field7 word) (field15 word) (field20 word))  -- mqemulc.mi
+    ∷ arithmetic 33 "mma.mm accA, trT, trT" 0b000000 (λ word. Multiply Single (field7 word) (field15 word) (field20 word))
+    ∷ meaning (coded 34 0b000000 1 0b110) "mfma.mm accA, trT, trT" (λ word. FloatMultiply (field7 word) (field15 word) (field20 word))  -- 02, Four
+    ∷ arithmetic 35 "mwma.mm accA, trT, trT" 0b000001 (λ word. Multiply Double (field7 word) (field15 word) (field20 word))
+    ∷ arithmetic 37 "mqma.mm accA, trT, trT" 0b000010 (λ word. Multiply Quadruple (field7 word) (field15 word) (field20 word))
+    ∷ combining 38 "maddc.mm accA, accA" 0b000100 Add Single
+    ∷ combining 40 "mwaddc.mm accA, accA" 0b000101 Add Double
+    ∷ combining 42 "mqaddc.mm accA, accA" 0b000110 Add Quadruple
+    ∷ combining 43 "msubc.mm accA, accA" 0b000111 Subtract Single
+    ∷ combining 45 "mwsubc.mm accA, accA" 0b001000 Subtract Double
+    ∷ combining 47 "mqsubc.mm accA, accA" 0b001001 Subtract Quadruple
+    ∷ combining 48 "mrsubc.mm accA, accA" 0b001010 ReverseSubtract Single
+    ∷ combining 50 "mwrsubc.mm accA, accA" 0b001011 ReverseSubtract Double
+    ∷ combining 52 "mqrsubc.mm accA, accA" 0b001100 ReverseSubtract Quadruple
+    ∷ arithmetic 53 "memulc.mx accA, accA, xX" 0b001101 (λ word. Scale Single (field7 word) (field15 word) (field20 word))
+    ∷ arithmetic 55 "mwemulc.mx accA, accA, xX" 0b001110 (λ word. Scale Double (field7 word) (field15 word) (field20 word))
+    ∷ arithmetic 57 "mqemulc.mx accA, accA, xX" 0b001111 (λ word. Scale Quadruple (field7 word) (field15 word) (field20 word))
+    ∷ arithmetic 58 "memulc.mi accA, accA, S" 0b010000 (λ word. ScaleImmediate Single (field7 word) (field15 word) (field20 word))
+    ∷ arithmetic 59 "mwemulc.mi accA, accA, S" 0b010001 (λ word. ScaleImmediate Double (field7 word) (field15 word) (field20 word))
+    ∷ arithmetic 60 "mqemulc.mi accA, accA, S" 0b010010 (λ word. ScaleImmediate Quadruple (field7 word) (field15 word) (field20 word))
     ∷ []
 
 -- the entries of section 4.5 that are not ours

@@ -1,0 +1,10 @@
+pub mod DecimalLaws
+pub mod OperandLaws
+pub mod PieceLaws
+pub mod WordLaws
+pub mod LineLaws
+pub mod LegalLaws
+pub mod HexLaws
+pub mod AnswerLaws
+pub mod SizeLaws
+pub mod AcceptedLaws

@@ -1,0 +1,112 @@
+use mathlib.Core.Path.{_≡_, ap, _∙_}
+use Prim.Native.Nat.{ℕ, _+_, _*_, _-_, _/_, _%_, _<_}
+use native.Mathlib.Omega.{arith}
+use lib.ListN.{getD}
+use mathlib.Core.List.{List}
+use Rattle.line_read.specs.Table.{baseOf, rowAt}
+use Rattle.line_read.proofs.RowLaws.{table-size, row-apt, byte-at}
+use borrow.Author.Needs.{needs}
+use Rattle.line_read.proofs.fixed_bits.Statement.{statement}
+use Rattle.line_read.proofs.fixed_bits.Tie as tie
+
+summed : (n x y z a b d e : ℕ) → n ≡ a + 256 * x → x ≡ b + 256 * y → y ≡ d + 256 * z → e ≡ z → a + 256 * b + 65536 * d + 16777216 * e ≡ n
+summed n x y z a b d e p q r s = omega arith
+
+joined : (n a b d e : ℕ) → n < 4294967296 → a ≡ n % 256 → b ≡ n / 256 % 256 → d ≡ n / 65536 % 256 → e ≡ n / 16777216 % 256 → a + 256 * b + 65536 * d + 16777216 * e ≡ n
+joined n a b d e h p q r s =
+    let one : n ≡ a + 256 * (n / 256) = omega (arith, p) in
+    let two : n / 256 ≡ b + 256 * (n / 65536) = omega (arith, q) in
+    let three : n / 65536 ≡ d + 256 * (n / 16777216) = omega (arith, r) in
+    let four : e ≡ n / 16777216 = omega (arith, s, h) in
+    summed n (n / 256) (n / 65536) (n / 16777216) a b d e one two three four
+
+mul-at : tie.Need-mul-at
+mul-at c = search needs
+
+shared-slice-read-wide : tie.Need-shared-slice-read-wide
+shared-slice-read-wide c = omega (arith, table-size (c .before .before .args .rows .now) (c .before .before .pre .0))
+
+wide-requires : tie.Need-wide-requires
+wide-requires c κs = search needs
+
+add-wide : tie.Need-add-wide
+add-wide c = search needs
+
+shared-slice-read-wide-2 : tie.Need-shared-slice-read-wide-2
+shared-slice-read-wide-2 c = omega (arith, table-size (c .before .before .before .before .args .rows .now) (c .before .before .before .before .pre .0))
+
+wide-requires-2 : tie.Need-wide-requires-2
+wide-requires-2 c κs = search needs
+
+mul-low : tie.Need-mul-low
+mul-low c = search needs
+
+add-low : tie.Need-add-low
+add-low c = search needs
+
+add-wide-2 : tie.Need-add-wide-2
+add-wide-2 c = search needs
+
+shared-slice-read-wide-3 : tie.Need-shared-slice-read-wide-3
+shared-slice-read-wide-3 c = omega (arith, table-size (c .before .before .before .before .before .before .args .rows .now) (c .before .before .before .before .before .before .pre .0))
+
+wide-requires-3 : tie.Need-wide-requires-3
+wide-requires-3 c κs = search needs
+
+mul-result : tie.Need-mul-result
+mul-result c = search needs
+
+add-result : tie.Need-add-result
+add-result c = search needs
+
+add-wide-3 : tie.Need-add-wide-3
+add-wide-3 c = search needs
+
+shared-slice-read-wide-4 : tie.Need-shared-slice-read-wide-4
+shared-slice-read-wide-4 c = omega (arith, table-size (c .before .before .before .before .before .before .before .before .args .rows .now) (c .before .before .before .before .before .before .before .before .pre .0))
+
+wide-requires-4 : tie.Need-wide-requires-4
+wide-requires-4 c κs = search needs
+
+mul-result-2 : tie.Need-mul-result-2
+mul-result-2 c = search needs
+
+add-result-2 : tie.Need-add-result-2
+add-result-2 c = search needs
+
+returns : tie.Need-returns
+returns c =
+    let a = c .before .before .before .before .before .before .before .before .before .args in
+    let p = c .before .before .before .before .before .before .before .before .before .pre in
+    let t : List ℕ = a .rows .now in
+    let k : ℕ = a .k in
+    let z : 32 * k ≡ 32 * k + 0 = omega arith in
+    let b0 = c .before .before .before .before .before .before .wide .ensures .0 ∙ ap (λ (i : ℕ). getD t i 0) z ∙ byte-at t (p .0) k (p .1) 0 (omega arith) in
+    let b1 = c .before .before .before .before .wide2 .ensures .0 ∙ byte-at t (p .0) k (p .1) 1 (omega arith) in
+    let b2 = c .before .before .wide3 .ensures .0 ∙ byte-at t (p .0) k (p .1) 2 (omega arith) in
+    let b3 = c .wide4 .ensures .0 ∙ byte-at t (p .0) k (p .1) 3 (omega arith) in
+    joined (baseOf (rowAt k)) (c .before .before .before .before .before .before .wide .result) (c .before .before .before .before .wide2 .result) (c .before .before .wide3 .result) (c .wide4 .result) (row-apt t (p .0) k (p .1) .small) b0 b1 b2 b3
+
+pub fixed-bits-spec : {M : Type 1} → statement M
+fixed-bits-spec =
+    tie.close
+    (tie.spec
+    mul-at
+    shared-slice-read-wide
+    wide-requires
+    add-wide
+    shared-slice-read-wide-2
+    wide-requires-2
+    mul-low
+    add-low
+    add-wide-2
+    shared-slice-read-wide-3
+    wide-requires-3
+    mul-result
+    add-result
+    add-wide-3
+    shared-slice-read-wide-4
+    wide-requires-4
+    mul-result-2
+    add-result-2
+    returns)

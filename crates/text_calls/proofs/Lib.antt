@@ -1,0 +1,3 @@
+pub mod CallLaws
+pub mod Refusal
+pub mod Packing

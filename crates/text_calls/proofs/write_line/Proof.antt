@@ -1,0 +1,83 @@
+use mathlib.Core.Path.{_≡_, refl, sym, ap, _∙_}
+use Prim.Native.Nat.{_+_, _≤_}
+use native.Mathlib.Omega.{arith}
+use lib.ListN.{length, take, drop}
+use mathlib.Core.Bool.{Bool, true, cond}
+use mathlib.Core.List.{_++_}
+use lib.Dec.{leb}
+use lib.Seq.{length-take-le}
+use borrow.Author.Tests.{lt-leb, le-leb}
+use Rattle.lines.proofs.WriteLaws.{wrote-as}
+use Rattle.machine.specs.Listing.{listing}
+use Rattle.assembly.specs.Lines.{line}
+use Rattle.line_read.specs.Table.{table}
+use Rattle.line_write.specs.Parts.{lineText}
+use Rattle.text_calls.proofs.CallLaws.{text-short, front-written}
+use borrow.Author.Needs.{needs}
+use Rattle.text_calls.proofs.write_line.Statement.{statement}
+use Rattle.text_calls.proofs.write_line.Tie as tie
+
+size : (c : tie.After-put-line) → c .put-line .result ≡ length (lineText (line (c .before .before .before .before .before .args .word)))
+size c = let w = c .put-line .ensures in omega (arith, w .to)
+
+long : (c : tie.After-put-line) → c .put-line .result ≤ length (c .put-line .last .0)
+long c = let w = c .put-line .ensures in omega (arith, size c, text-short (c .before .before .before .before .before .args .word) (omega arith), w .same)
+
+own : (c : tie.After-put-line) → take (c .put-line .result) (c .put-line .last .0) ≡ lineText (line (c .before .before .before .before .before .args .word))
+own c = c .put-line .ensures .text
+
+slice-aggregate-put-line : tie.Need-slice-aggregate-put-line
+slice-aggregate-put-line c = search needs
+
+slice-aggregate-put-line-2 : tie.Need-slice-aggregate-put-line-2
+slice-aggregate-put-line-2 c = search needs
+
+slice-aggregate-put-line-3 : tie.Need-slice-aggregate-put-line-3
+slice-aggregate-put-line-3 c = search needs
+
+put-line-requires : tie.Need-put-line-requires
+unfolding table listing
+put-line-requires c κs = ((refl, refl, refl, c .before .before .before .before .pre), omega (arith, text-short (c .before .before .before .before .args .word) (omega arith)))
+
+returns : tie.Need-returns
+returns c =
+    let s = c .before .before .before .before .before .before .before in
+    let n = size (c .before .before) in
+    (n, sym (ap (λ (b : Bool). cond b (lineText (line (s .args .word)) ++ drop (c .before .before .put-line .result) (s .args .text .now)) (s .args .text .now)) (lt-leb (c .before .before .put-line .result) (length (s .args .text .now)) (c .if1 .taken))))
+
+array-share-prefix-own : tie.Need-array-share-prefix-own
+array-share-prefix-own c = long (c .before .before .before)
+
+slice-aggregate-put-text : tie.Need-slice-aggregate-put-text
+slice-aggregate-put-text c = let w = c .before .before .before .before in sym (length-take-le (w .put-line .result) (w .put-line .last .0) (long w))
+
+put-text-requires : tie.Need-put-text-requires
+put-text-requires c κs = let w = c .before .before .before .before in omega (arith, length-take-le (w .put-line .result) (w .put-line .last .0) (long w), c .before .before .if1 .left)
+
+same-length : tie.Need-same-length
+same-length c = search needs
+
+returns-2 : tie.Need-returns-2
+returns-2 c =
+    let s = c .before .before .before .before .before .before .before .before .before .before .before .before in
+    let w = c .before .before .before .before .before .before .before in
+    let t = lineText (line (s .args .word)) in
+    let put = wrote-as (own w) (c .before .before .put-text .ensures) in
+    let n : c .before .before .put-text .result ≡ length t = omega (arith, put .to) in
+    let f : leb (c .before .before .put-text .result) (length (s .args .text .now)) ≡ true = le-leb (c .before .before .put-text .result) (length (s .args .text .now)) (omega (arith, n, size w, c .before .before .before .before .before .if1 .left)) in
+    (n, front-written (s .args .text .now) (c .before .before .put-text .last .0) t (c .before .before .put-text .result) put ∙ sym (ap (λ (b : Bool). cond b (t ++ drop (c .before .before .put-text .result) (s .args .text .now)) (s .args .text .now)) f))
+
+pub write-line-spec : {M : Type 1} → statement M
+write-line-spec =
+    tie.close
+    (tie.spec
+    slice-aggregate-put-line
+    slice-aggregate-put-line-2
+    slice-aggregate-put-line-3
+    put-line-requires
+    returns
+    array-share-prefix-own
+    slice-aggregate-put-text
+    put-text-requires
+    same-length
+    returns-2)
