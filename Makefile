@@ -1,4 +1,5 @@
-# Builds, installs and packs the library, its headers, its manual pages and the programs `product` and `bodlarina-bench`.
+# Builds, installs and packs the library, its headers, its manual pages and the programs `product`, `disassemble`, `assemble` and
+# `bodlarina-bench`.
 #
 #     make                     prove and build the library and the programs; needs the Rattle kit (rt)
 #     make install PREFIX=..   install them; needs no kit where they are built, as in an archive of `make dist`
@@ -12,33 +13,34 @@ INSTALL ?= install
 VERSION := $(shell sed -n 's/^.define BODLARINA_VERSION "\(.*\)"$$/\1/p' include/bodlarina.h)
 PACKAGE := bodlarina-$(VERSION)-linux-x86_64
 HEADERS := include/bodlarina.h include/bodlarina_words.h
-MANUAL := man/bodlarina.3 man/product.1 man/bodlarina-bench.1
+PROVED := product disassemble assemble
+MANUAL := man/bodlarina.3 $(PROVED:%=man/%.1) man/bodlarina-bench.1
 
 # In an archive of `make dist` the library and the programs stand built in lib/ and bin/.
 ifneq ($(wildcard lib/libbodlarina.a),)
 LIBRARY := lib/libbodlarina.a
-PROGRAM := bin/product
-BENCH := bin/bodlarina-bench
+BIN := bin
 else
 LIBRARY := target/staticlib/libbodlarina.a
-PROGRAM := target/bin/product
-BENCH := target/bin/bodlarina-bench
+BIN := target/bin
 endif
+PROGRAMS := $(PROVED:%=$(BIN)/%)
+BENCH := $(BIN)/bodlarina-bench
 
-.PHONY: all lib product bench install uninstall dist pack test
+.PHONY: all lib $(PROVED) bench install uninstall dist pack test
 
-all: lib product
+all: lib $(PROVED)
 	$(MAKE) bench
 
 ifeq ($(LIBRARY),lib/libbodlarina.a)
-lib product bench:
-	@echo "built already: $(LIBRARY), $(PROGRAM), $(BENCH)"
+lib $(PROVED) bench:
+	@echo "built already: $(LIBRARY), $(PROGRAMS), $(BENCH)"
 else
 lib:
 	rt staticlib bodlarina
 
-product:
-	rt check product
+$(PROVED):
+	rt check $@
 
 # over the library as it is built
 bench:
@@ -55,17 +57,14 @@ install:
 	$(INSTALL) -m 644 $(HEADERS) $(DESTDIR)$(PREFIX)/include
 	sed -e 's|@PREFIX@|$(PREFIX)|' -e 's|@VERSION@|$(VERSION)|' bodlarina.pc.in >$(DESTDIR)$(PREFIX)/lib/pkgconfig/bodlarina.pc
 	$(INSTALL) -m 644 man/bodlarina.3 $(DESTDIR)$(PREFIX)/share/man/man3
-	if test -f $(PROGRAM); then $(INSTALL) -d $(DESTDIR)$(PREFIX)/bin && \
-	  $(INSTALL) -m 755 $(PROGRAM) $(DESTDIR)$(PREFIX)/bin/product && \
-	  $(INSTALL) -m 644 man/product.1 $(DESTDIR)$(PREFIX)/share/man/man1; fi
-	if test -f $(BENCH); then $(INSTALL) -d $(DESTDIR)$(PREFIX)/bin && \
-	  $(INSTALL) -m 755 $(BENCH) $(DESTDIR)$(PREFIX)/bin/bodlarina-bench && \
-	  $(INSTALL) -m 644 man/bodlarina-bench.1 $(DESTDIR)$(PREFIX)/share/man/man1; fi
+	for name in $(PROVED) bodlarina-bench; do if test -f $(BIN)/$$name; then $(INSTALL) -d $(DESTDIR)$(PREFIX)/bin && \
+	  $(INSTALL) -m 755 $(BIN)/$$name $(DESTDIR)$(PREFIX)/bin && \
+	  $(INSTALL) -m 644 man/$$name.1 $(DESTDIR)$(PREFIX)/share/man/man1 || exit 1; fi; done
 
 uninstall:
 	rm -f $(addprefix $(DESTDIR)$(PREFIX)/,lib/libbodlarina.a include/bodlarina.h include/bodlarina_words.h \
-	  lib/pkgconfig/bodlarina.pc bin/product bin/bodlarina-bench share/man/man3/bodlarina.3 \
-	  share/man/man1/product.1 share/man/man1/bodlarina-bench.1)
+	  lib/pkgconfig/bodlarina.pc share/man/man3/bodlarina.3 \
+	  $(PROVED:%=bin/%) bin/bodlarina-bench $(PROVED:%=share/man/man1/%.1) share/man/man1/bodlarina-bench.1)
 
 dist: all pack
 
@@ -75,7 +74,7 @@ pack:
 	mkdir -p $(addprefix target/dist/$(PACKAGE)/,include lib bin man examples/bench docs)
 	cp $(HEADERS) target/dist/$(PACKAGE)/include
 	cp $(LIBRARY) target/dist/$(PACKAGE)/lib
-	cp $(PROGRAM) $(BENCH) target/dist/$(PACKAGE)/bin
+	cp $(PROGRAMS) $(BENCH) target/dist/$(PACKAGE)/bin
 	cp $(MANUAL) target/dist/$(PACKAGE)/man
 	cp examples/*.c examples/*.out target/dist/$(PACKAGE)/examples
 	cp bench/examples/* target/dist/$(PACKAGE)/examples/bench

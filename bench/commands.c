@@ -65,11 +65,13 @@ static int step_word(struct session *session, uint32_t word)
 {
     struct device *device = &session->device;
     struct settings before = device_settings(device);
+    struct instruction instruction;
     struct turn turn;
     char text[INSTRUCTION_TEXT_BYTES];
+    instruction_of(word, &instruction);
     turn.word = word;
-    turn.address = device_scalar(device, (unsigned)field_of(word, BASE));
-    turn.stride = device_scalar(device, (unsigned)field_of(word, RS2));
+    turn.address = device_scalar(device, number_of(&instruction, BASE));
+    turn.stride = device_scalar(device, number_of(&instruction, SCALAR));
     device_step(device, word);
     write_instruction(word, text);
     if (session->trace)
@@ -188,7 +190,6 @@ static const struct {
 int run_line(struct session *session)
 {
     struct reader *reader = &session->reader;
-    const struct instruction *instruction;
     struct span span;
     uint32_t word;
     size_t i;
@@ -199,8 +200,7 @@ int run_line(struct session *session)
     for (i = 0; i < sizeof commands / sizeof commands[0]; i++)
         if (span_is(span, commands[i].name))
             return commands[i].run(session);
-    instruction = instruction_called(span);
-    if (instruction == NULL)
+    if (!is_mnemonic(span))
         return refuse(reader, span.at, "this is no command, and no instruction of the unit");
-    return take_operands(reader, instruction, &word) && needs_machine(session) && step_word(session, word);
+    return take_instruction(reader, span, &word) && needs_machine(session) && step_word(session, word);
 }

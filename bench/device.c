@@ -302,23 +302,21 @@ static struct tile make_tile(const struct device *device, unsigned reg, enum sha
 }
 
 /* The register that an operand names: accumulators follow the tile registers. */
-static unsigned register_in(uint32_t word, enum operand operand)
+static unsigned register_in(const struct instruction *instruction, size_t i)
 {
-    uint32_t field = field_of(word, operand);
-    return (unsigned)(operand == ACC_D || operand == ACC_1 ? ACCUMULATOR_0 + field : field);
+    return instruction->numbers[i] + (instruction->operands[i] == ACCUMULATOR ? ACCUMULATOR_0 : 0);
 }
 
-struct tile word_tile(const struct device *device, const struct instruction *instruction, uint32_t word)
+struct tile word_tile(const struct device *device, const struct instruction *instruction)
 {
     int transfer = instruction->action == LOADS || instruction->action == STORES;
     unsigned width = transfer ? instruction->width / 8 : instruction->width * device_sew(device);
-    return make_tile(device, register_in(word, instruction->operands[0]), instruction->shape, width);
+    return make_tile(device, register_in(instruction, 0), instruction->shape, width);
 }
 
-struct tile word_slice(const struct device *device, const struct instruction *instruction, uint32_t word, uint64_t first)
+struct tile word_slice(const struct device *device, const struct instruction *instruction, uint64_t first)
 {
-    enum operand accumulator = instruction->action == MOVES_OUT ? ACC_1 : ACC_D;
-    struct tile tile = make_tile(device, register_in(word, accumulator), C, device_sew(device));
+    struct tile tile = make_tile(device, register_in(instruction, instruction->action == MOVES_OUT), C, device_sew(device));
     if (instruction->shape == ROWS) {
         tile.row = (unsigned)first;
         tile.rows = device_group(device);
@@ -330,22 +328,20 @@ struct tile word_slice(const struct device *device, const struct instruction *in
 }
 
 /* The tiles that a word reads, in the order ms1, ms2, md; how many. */
-static unsigned word_sources(const struct device *device, const struct instruction *instruction, uint32_t word,
-                             struct tile tiles[3])
+static unsigned word_sources(const struct device *device, const struct instruction *instruction, struct tile tiles[3])
 {
-    unsigned sew = device_sew(device);
-    unsigned first = register_in(word, instruction->operands[1]), second = register_in(word, instruction->operands[2]);
+    unsigned sew = device_sew(device), first = register_in(instruction, 1), second = register_in(instruction, 2);
     switch (instruction->action) {
     case SETS: case LOADS: case MOVES_IN: return 0;
-    case STORES: tiles[0] = word_tile(device, instruction, word); return 1;
+    case STORES: tiles[0] = word_tile(device, instruction); return 1;
     case MULTIPLIES:
         tiles[0] = make_tile(device, first, A, sew);
         tiles[1] = make_tile(device, second, B, sew);
-        tiles[2] = word_tile(device, instruction, word);
+        tiles[2] = word_tile(device, instruction);
         return 3;
     case COMBINES:
         tiles[0] = make_tile(device, first, C, sew);
-        tiles[1] = word_tile(device, instruction, word);
+        tiles[1] = word_tile(device, instruction);
         return 2;
     case SCALES: case MOVES_OUT: tiles[0] = make_tile(device, first, C, sew); return 1;
     }
@@ -355,15 +351,15 @@ static unsigned word_sources(const struct device *device, const struct instructi
 /* A refusal 5 names row and column of the first source that has an unwritten element: this finds which one that is. */
 static void remember_named(struct device *device, uint32_t word)
 {
-    const struct instruction *instruction = instruction_of(word);
+    struct instruction instruction;
     unsigned row = BODLARINA_ROW(device->result), column = BODLARINA_COLUMN(device->result), i, count;
     struct tile tiles[3];
     if (BODLARINA_ANSWER(device->result) != BODLARINA_UNWRITTEN)
         return;
     device->named.known = 0;
-    if (instruction == NULL)
+    if (!instruction_of(word, &instruction))
         return;
-    count = word_sources(device, instruction, word, tiles);
+    count = word_sources(device, &instruction, tiles);
     for (i = 0; i < count && !device->named.known; i++)
         if (row < tiles[i].rows && column < tiles[i].columns
             && !element_written(device, tiles[i].reg, row, column, tiles[i].width)) {

@@ -119,10 +119,10 @@ int is_named(const struct device *device, unsigned reg, unsigned row, unsigned b
 int named_stands(const struct device *device);
 
 /* The tile that a word writes into a register or stores from one; rows and columns under the settings as they are. */
-struct tile word_tile(const struct device *device, const struct instruction *instruction, uint32_t word);
+struct tile word_tile(const struct device *device, const struct instruction *instruction);
 
 /* The part of an accumulator that a move takes, from this row or column on. */
-struct tile word_slice(const struct device *device, const struct instruction *instruction, uint32_t word, uint64_t first);
+struct tile word_slice(const struct device *device, const struct instruction *instruction, uint64_t first);
 
 /* The sealed ranges: how many, and start and length of each. */
 size_t device_seals(const struct device *device);

@@ -2,68 +2,139 @@
 
 #include <inttypes.h>
 #include <stdio.h>
+#include <stdlib.h>
 #include <string.h>
 
 #include "bodlarina_words.h"
 
-/* ---- the table ---- */
+/* ---- lines, as the library has them ---- */
 
-#define TWO(name, mnemonic, first, second, action, shape, width) \
-    static uint32_t encode_##name(const uint32_t *o) { return bodlarina_##name(o[0], o[1]); }
-#define THREE(name, mnemonic, first, second, third, action, shape, width) \
-    static uint32_t encode_##name(const uint32_t *o) { return bodlarina_##name(o[0], o[1], o[2]); }
-#include "instructions.def"
-#undef TWO
-#undef THREE
-
-static const struct instruction table[] = {
-#define TWO(name, mnemonic, first, second, action, shape, width) \
-    {mnemonic, {first, second, NO_OPERAND}, action, shape, width, encode_##name},
-#define THREE(name, mnemonic, first, second, third, action, shape, width) \
-    {mnemonic, {first, second, third}, action, shape, width, encode_##name},
-#include "instructions.def"
-#undef TWO
-#undef THREE
+struct line {
+    char text[BODLARINA_TEXT_BYTES_MOST + 16];
+    size_t length;
 };
 
-static const size_t table_length = sizeof table / sizeof table[0];
-
-const struct instruction *instruction_called(struct span mnemonic)
+/* Adds to a line; 0 if it is longer than any line then. */
+static int add(struct line *line, const char *text, size_t length)
 {
-    size_t i;
-    for (i = 0; i < table_length; i++)
-        if (span_is(mnemonic, table[i].mnemonic))
-            return &table[i];
-    return NULL;
+    if (length > sizeof line->text - line->length)
+        return 0;
+    memcpy(line->text + line->length, text, length);
+    line->length += length;
+    return 1;
 }
 
-uint32_t field_of(uint32_t word, enum operand operand)
+/* Whether this is a line, and whose. */
+static int is_line(const struct line *line, uint32_t *word)
 {
-    switch (operand) {
-    case RD: case TILE_D: case ACC_D: case VECTOR_D: return word >> 7 & 31;
-    case RS1: case BASE: case TILE_1: case ACC_1: case VECTOR_1: return word >> 15 & 31;
-    case RS2: case TILE_2: case IMMEDIATE: return word >> 20 & 31;
-    case TYPE: case SIZE: return word >> 15 & 0x1fff;
-    case NO_OPERAND: break;
+    uint8_t block[BODLARINA_WORD_BYTES];
+    if (bodlarina_text_word((const uint8_t *)line->text, line->length, block, sizeof block) != 0)
+        return 0;
+    *word = (uint32_t)bodlarina_get64(block);
+    return 1;
+}
+
+/* Whether some line goes on with this text: it is a line, or is refused only because it is cut short. */
+static int goes_on(struct line line, const char *text)
+{
+    uint8_t block[BODLARINA_WORD_BYTES];
+    uint64_t result;
+    if (!add(&line, text, strlen(text)))
+        return 0;
+    result = bodlarina_text_word((const uint8_t *)line.text, line.length, block, sizeof block);
+    return BODLARINA_ANSWER(result) == BODLARINA_DONE || BODLARINA_LINE_COLUMN(result) > line.length;
+}
+
+/* The line of a word, with a zero byte at its end; 0 if it has none. */
+static int line_of(uint32_t word, char text[BODLARINA_TEXT_BYTES_MOST + 1])
+{
+    uint64_t result = bodlarina_word_text(word, (uint8_t *)text, BODLARINA_TEXT_BYTES_MOST);
+    if (BODLARINA_ANSWER(result) != BODLARINA_DONE)
+        return 0;
+    text[BODLARINA_LENGTH(result)] = '\0';
+    return 1;
+}
+
+/* ---- what a line says ---- */
+
+/* By what its mnemonic begins with: what is done with which tile, and how many times SEW the output is wide. A load or store has its
+ * width in the mnemonic. */
+static const struct {
+    const char *mnemonic;
+    enum action action;
+    enum shape shape;
+    unsigned width;
+} kinds[] = {
+    {"mset", SETS, NONE, 0},
+    {"mla", LOADS, A, 0}, {"mlb", LOADS, B, 0}, {"mlc", LOADS, C, 0},
+    {"msa", STORES, A, 0}, {"msb", STORES, B, 0}, {"msc", STORES, C, 0},
+    {"mma.", MULTIPLIES, C, 1}, {"mwma.", MULTIPLIES, C, 2}, {"mqma.", MULTIPLIES, C, 4}, {"mfma.", MULTIPLIES, C, 1},
+    {"maddc.", COMBINES, C, 1}, {"mwaddc.", COMBINES, C, 2}, {"mqaddc.", COMBINES, C, 4},
+    {"msubc.", COMBINES, C, 1}, {"mwsubc.", COMBINES, C, 2}, {"mqsubc.", COMBINES, C, 4},
+    {"mrsubc.", COMBINES, C, 1}, {"mwrsubc.", COMBINES, C, 2}, {"mqrsubc.", COMBINES, C, 4},
+    {"memulc.", SCALES, C, 1}, {"mwemulc.", SCALES, C, 2}, {"mqemulc.", SCALES, C, 4},
+    {"mmvcr.v", MOVES_OUT, ROWS, 1}, {"mmvcr.m", MOVES_IN, ROWS, 1},
+    {"mmvcc.v", MOVES_OUT, COLUMNS, 1}, {"mmvcc.m", MOVES_IN, COLUMNS, 1},
+};
+
+static int begins(const char *text, const char *with) { return strncmp(text, with, strlen(with)) == 0; }
+
+static enum operand operand_of(const char *text)
+{
+    if (begins(text, "(x"))
+        return BASE;
+    if (begins(text, "x"))
+        return SCALAR;
+    if (begins(text, "tr"))
+        return TILE;
+    if (begins(text, "acc"))
+        return ACCUMULATOR;
+    return begins(text, "v") ? VECTOR : NUMBER;
+}
+
+int instruction_of(uint32_t word, struct instruction *instruction)
+{
+    static const char digits[] = "0123456789";
+    char text[BODLARINA_TEXT_BYTES_MOST + 1];
+    const char *operand;
+    size_t i = 0;
+    memset(instruction, 0, sizeof *instruction);
+    if (!line_of(word, text))
+        return 0;
+    while (i < sizeof kinds / sizeof kinds[0] && !begins(text, kinds[i].mnemonic))
+        i++;
+    if (i == sizeof kinds / sizeof kinds[0])
+        return 0;
+    instruction->action = kinds[i].action;
+    instruction->shape = kinds[i].shape;
+    instruction->width = kinds[i].width != 0 ? kinds[i].width : (unsigned)strtoul(text + strcspn(text, digits), NULL, 10);
+    operand = strchr(text, ' ');
+    for (i = 0; operand != NULL && i < OPERANDS_MOST; i++) {
+        operand++;
+        instruction->operands[i] = operand_of(operand);
+        instruction->numbers[i] = (unsigned)strtoul(operand + strcspn(operand, digits), NULL, 10);
+        operand = strchr(operand, ' ');
     }
+    return 1;
+}
+
+unsigned number_of(const struct instruction *instruction, enum operand operand)
+{
+    size_t i;
+    for (i = 0; i < OPERANDS_MOST; i++)
+        if (instruction->operands[i] == operand)
+            return instruction->numbers[i];
     return 0;
 }
 
-/* A word is an instruction's if encoding its fields gives it back. */
-const struct instruction *instruction_of(uint32_t word)
-{
-    uint32_t operands[OPERANDS_MOST];
-    size_t i, j;
-    for (i = 0; i < table_length; i++) {
-        for (j = 0; j < OPERANDS_MOST; j++)
-            operands[j] = field_of(word, table[i].operands[j]);
-        if (table[i].encode(operands) == word)
-            return &table[i];
-    }
-    return NULL;
-}
+/* ---- reading ---- */
 
-/* ---- reading operands ---- */
+int is_mnemonic(struct span mnemonic)
+{
+    struct line line;
+    line.length = 0;
+    return add(&line, mnemonic.text, mnemonic.length) && goes_on(line, " ");
+}
 
 /* The names of scalars that the draft's examples use beside x0 to x31: those of the RISC-V calling convention, in order. */
 static const char *const scalar_names[32] = {
@@ -71,64 +142,36 @@ static const char *const scalar_names[32] = {
     "a6", "a7", "s2", "s3", "s4", "s5", "s6", "s7", "s8", "s9", "s10", "s11", "t3", "t4", "t5", "t6",
 };
 
-/* A name and a number below `count`, as x5, tr0 or acc1. */
-static int numbered(struct span span, const char *name, unsigned count, uint32_t *value)
+static int add_number(struct line *line, const char *name, int number)
 {
     char text[16];
-    for (*value = 0; *value < count; ++*value) {
-        snprintf(text, sizeof text, "%s%" PRIu32, name, *value);
-        if (span_is(span, text))
-            return 1;
-    }
-    return 0;
+    int length = snprintf(text, sizeof text, "%s%d", name, number);
+    return add(line, text, (size_t)length);
 }
 
-static int take_scalar(struct reader *reader, uint32_t *value)
+/* A register: its name, or another name of a scalar. The line has to end with it, or to go on with `after`. */
+static int take_register(struct reader *reader, struct line *line, const char *after, const char *what)
 {
     struct span span = take_name(reader);
-    if (numbered(span, "x", 32, value))
+    uint32_t word;
+    int slot, added = 0;
+    for (slot = 0; slot < 32 && !span_is(span, scalar_names[slot]); slot++)
+        ;
+    added = slot < 32 ? add_number(line, "x", slot) : add(line, span.text, span.length);
+    if (added && (is_line(line, &word) || goes_on(*line, after)))
         return 1;
-    for (*value = 0; *value < 32; ++*value)
-        if (span_is(span, scalar_names[*value]))
-            return 1;
-    return refuse(reader, span.at, "expected a scalar, x0 to x31");
+    return refuse(reader, span.at, "expected %s", what);
 }
 
-static int take_tile(struct reader *reader, uint32_t *value)
+static int take_base(struct reader *reader, struct line *line)
 {
-    struct span span = take_name(reader);
-    return numbered(span, "tr", 8, value) || refuse(reader, span.at, "expected a tile register, tr0 to tr7");
-}
-
-static int take_accumulator(struct reader *reader, uint32_t *value)
-{
-    struct span span = take_name(reader);
-    return numbered(span, "acc", 2, value) || refuse(reader, span.at, "expected an accumulator, acc0 or acc1");
-}
-
-static int take_vector(struct reader *reader, uint32_t *value)
-{
-    struct span span = take_name(reader);
-    return numbered(span, "v", 32, value) || refuse(reader, span.at, "expected a vector register, v0 to v31");
-}
-
-static int take_base(struct reader *reader, uint32_t *value)
-{
-    return take_mark(reader, '(', "a scalar in brackets, (x0) to (x31)") && take_scalar(reader, value)
-           && take_mark(reader, ')', "the closing bracket");
-}
-
-static int take_number_up_to(struct reader *reader, const char *what, uint64_t most, uint32_t *value)
-{
-    uint64_t number;
-    if (!take_unsigned(reader, what, most, &number))
-        return 0;
-    *value = (uint32_t)number;
-    return 1;
+    return take_mark(reader, '(', "a scalar in brackets, (x0) to (x31)") && add(line, "(", 1)
+           && take_register(reader, line, "), ", "a scalar, x0 to x31") && take_mark(reader, ')', "the closing bracket")
+           && add(line, ")", 1);
 }
 
 /* e8, e16, e32 or e64, and accq after it if 4 times as wide an accumulator is asked for; or the number itself. */
-static int take_type(struct reader *reader, uint32_t *value)
+static int take_type(struct reader *reader, uint64_t *value)
 {
     static const char *const widths[] = {"e8", "e16", "e32", "e64"};
     struct span span = take_name(reader);
@@ -137,7 +180,7 @@ static int take_type(struct reader *reader, uint32_t *value)
             break;
     if (*value == 4) {
         reader->at = span.at;
-        return take_number_up_to(reader, "e8, e16, e32, e64 or mtypei", 8191, value);
+        return take_unsigned(reader, "e8, e16, e32, e64 or mtypei", 8191, value);
     }
     if (at_end(reader))
         return 1;
@@ -148,81 +191,66 @@ static int take_type(struct reader *reader, uint32_t *value)
     return span_is(span, "accq") || refuse(reader, span.at, "expected accq");
 }
 
-static int take_immediate(struct reader *reader, uint32_t *value)
+static int take_immediate(struct reader *reader, struct line *line)
 {
-    int64_t number;
-    if (!take_signed(reader, "an immediate", 5, &number))
+    int64_t immediate;
+    return take_signed(reader, "an immediate", 5, &immediate) && add_number(line, "", (int)immediate);
+}
+
+static int take_setting(struct reader *reader, struct line *line)
+{
+    uint64_t value;
+    int type = begins(line->text, "msettypei ");
+    return (type ? take_type(reader, &value) : take_unsigned(reader, "a size", 8191, &value)) && add_number(line, "", (int)value);
+}
+
+/* Takes the operand that the line can go on with. */
+static int take_operand(struct reader *reader, struct line *line)
+{
+    static const char after[] = ", ";
+    if (goes_on(*line, "("))
+        return take_base(reader, line);
+    if (goes_on(*line, "x"))
+        return take_register(reader, line, after, "a scalar, x0 to x31");
+    if (goes_on(*line, "tr"))
+        return take_register(reader, line, after, "a tile register, tr0 to tr7");
+    if (goes_on(*line, "acc"))
+        return take_register(reader, line, after, "an accumulator, acc0 or acc1");
+    if (goes_on(*line, "v"))
+        return take_register(reader, line, after, "a vector register, v0 to v31");
+    return goes_on(*line, "-") ? take_immediate(reader, line) : take_setting(reader, line);
+}
+
+int take_instruction(struct reader *reader, struct span mnemonic, uint32_t *word)
+{
+    struct line line;
+    memset(&line, 0, sizeof line);
+    if (!add(&line, mnemonic.text, mnemonic.length) || !add(&line, " ", 1) || !take_operand(reader, &line))
         return 0;
-    *value = (uint32_t)(number & 31);
-    return 1;
-}
-
-static int take_operand(struct reader *reader, enum operand operand, uint32_t *value)
-{
-    switch (operand) {
-    case RD: case RS1: case RS2: return take_scalar(reader, value);
-    case BASE: return take_base(reader, value);
-    case TILE_D: case TILE_1: case TILE_2: return take_tile(reader, value);
-    case ACC_D: case ACC_1: return take_accumulator(reader, value);
-    case VECTOR_D: case VECTOR_1: return take_vector(reader, value);
-    case TYPE: return take_type(reader, value);
-    case SIZE: return take_number_up_to(reader, "a size", 8191, value);
-    case IMMEDIATE: return take_immediate(reader, value);
-    case NO_OPERAND: break;
-    }
-    return 1;
-}
-
-int take_operands(struct reader *reader, const struct instruction *instruction, uint32_t *word)
-{
-    uint32_t operands[OPERANDS_MOST] = {0, 0, 0};
-    size_t i;
-    for (i = 0; i < OPERANDS_MOST && instruction->operands[i] != NO_OPERAND; i++) {
-        if (i > 0 && !take_mark(reader, ',', "a comma and the next operand"))
+    while (!is_line(&line, word))
+        if (!take_mark(reader, ',', "a comma and the next operand") || !add(&line, ", ", 2) || !take_operand(reader, &line))
             return 0;
-        if (!take_operand(reader, instruction->operands[i], &operands[i]))
-            return 0;
-    }
-    *word = instruction->encode(operands);
     return take_end(reader);
 }
 
-/* ---- writing instructions ---- */
+/* ---- writing ---- */
 
-static void write_type(uint32_t value, char *text, size_t room)
+/* mtypei as e8 and its like. */
+static void write_type(char *text, size_t room)
 {
-    if ((value & ~(BODLARINA_MACCQ | 3u)) != 0)
-        snprintf(text, room, "%" PRIu32, value);
-    else
+    uint32_t value = (uint32_t)strtoul(text, NULL, 10);
+    if ((value & ~(BODLARINA_MACCQ | 3u)) == 0)
         snprintf(text, room, "e%u%s", 8u << (value & 3), (value & BODLARINA_MACCQ) != 0 ? ", accq" : "");
-}
-
-static void write_operand(uint32_t word, enum operand operand, char *text, size_t room)
-{
-    uint32_t value = field_of(word, operand);
-    switch (operand) {
-    case RD: case RS1: case RS2: snprintf(text, room, "x%" PRIu32, value); break;
-    case BASE: snprintf(text, room, "(x%" PRIu32 ")", value); break;
-    case TILE_D: case TILE_1: case TILE_2: snprintf(text, room, "tr%" PRIu32, value); break;
-    case ACC_D: case ACC_1: snprintf(text, room, "acc%" PRIu32, value); break;
-    case VECTOR_D: case VECTOR_1: snprintf(text, room, "v%" PRIu32, value); break;
-    case TYPE: write_type(value, text, room); break;
-    case SIZE: snprintf(text, room, "%" PRIu32, value); break;
-    case IMMEDIATE: snprintf(text, room, "%d", value < 16 ? (int)value : (int)value - 32); break;
-    case NO_OPERAND: text[0] = '\0'; break;
-    }
 }
 
 void write_instruction(uint32_t word, char text[INSTRUCTION_TEXT_BYTES])
 {
-    const struct instruction *instruction = instruction_of(word);
-    char first[16], second[16], third[16];
-    if (instruction == NULL) {
+    if (!line_of(word, text)) {
         snprintf(text, INSTRUCTION_TEXT_BYTES, "word 0x%08" PRIX32, word);
         return;
     }
-    write_operand(word, instruction->operands[0], first, sizeof first);
-    write_operand(word, instruction->operands[1], second, sizeof second);
-    write_operand(word, instruction->operands[2], third, sizeof third);
-    snprintf(text, INSTRUCTION_TEXT_BYTES, "%s %s, %s%s%s", instruction->mnemonic, first, second, third[0] == '\0' ? "" : ", ", third);
+    if (begins(text, "msettypei ")) {
+        size_t at = (size_t)(strrchr(text, ' ') - text) + 1;
+        write_type(text + at, INSTRUCTION_TEXT_BYTES - at);
+    }
 }

@@ -1,11 +1,12 @@
-/* Instructions as text and as words, by the one table in instructions.def. */
+/* Instructions as text and as words. The library turns the one into the other (bodlarina_word_text, bodlarina_text_word); a script may
+ * write a line more freely, and has its exact line made first. */
 #ifndef INSTRUCTIONS_H
 #define INSTRUCTIONS_H
 
 #include "reader.h"
 
-/* An operand: how it is written, and its field. _D stands in bits 11..7, _1 in 19..15, _2 in 24..20. */
-enum operand { NO_OPERAND, RD, RS1, RS2, BASE, TILE_D, TILE_1, TILE_2, ACC_D, ACC_1, VECTOR_D, VECTOR_1, TYPE, SIZE, IMMEDIATE };
+/* What an operand of a line is. */
+enum operand { NO_OPERAND, SCALAR, BASE, TILE, ACCUMULATOR, VECTOR, NUMBER };
 
 enum action { SETS, LOADS, STORES, MULTIPLIES, COMBINES, SCALES, MOVES_OUT, MOVES_IN };
 
@@ -14,26 +15,26 @@ enum shape { NONE, A, B, C, ROWS, COLUMNS };
 
 #define OPERANDS_MOST 3
 
+/* What the line of a word says. */
 struct instruction {
-    const char *mnemonic;
-    enum operand operands[OPERANDS_MOST];
     enum action action;
     enum shape shape;
     unsigned width; /* of a load or store in bits, else in SEW */
-    uint32_t (*encode)(const uint32_t *operands);
+    enum operand operands[OPERANDS_MOST];
+    unsigned numbers[OPERANDS_MOST]; /* of a register, its number */
 };
 
-/* The instruction of this mnemonic, or NULL. */
-const struct instruction *instruction_called(struct span mnemonic);
+/* What the word's line says; 0 if it has none. */
+int instruction_of(uint32_t word, struct instruction *instruction);
 
-/* Takes the operands and gives the word. */
-int take_operands(struct reader *reader, const struct instruction *instruction, uint32_t *word);
+/* The number of the first operand of a kind; 0 if there is none. */
+unsigned number_of(const struct instruction *instruction, enum operand operand);
 
-/* The instruction whose word this is, or NULL. */
-const struct instruction *instruction_of(uint32_t word);
+/* Whether some line begins with this mnemonic. */
+int is_mnemonic(struct span mnemonic);
 
-/* The field of an operand in a word. */
-uint32_t field_of(uint32_t word, enum operand operand);
+/* Takes the operands behind a mnemonic, makes the exact line and gives its word. */
+int take_instruction(struct reader *reader, struct span mnemonic, uint32_t *word);
 
 /* The word as it is written in a script: an instruction, or "word" and its digits. */
 #define INSTRUCTION_TEXT_BYTES 64

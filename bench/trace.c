@@ -37,10 +37,10 @@ static void write_change(const char *name, uint64_t before, uint64_t after)
 }
 
 /* mtype, tile sizes and rd of a setting. */
-static void write_settings(const struct device *device, uint32_t word, struct settings before)
+static void write_settings(const struct device *device, const struct instruction *instruction, struct settings before)
 {
     struct settings after = device_settings(device);
-    unsigned rd = (unsigned)field_of(word, RD);
+    unsigned rd = instruction->numbers[0];
     write_change("mtype", before.mtype, after.mtype);
     write_change("m", before.m, after.m);
     write_change("k", before.k, after.k);
@@ -65,8 +65,8 @@ static void write_tile(struct tile tile)
 static void write_move(const struct device *device, const struct instruction *instruction, const struct turn *turn)
 {
     int out = instruction->action == MOVES_OUT;
-    unsigned first = (unsigned)field_of(turn->word, out ? VECTOR_D : VECTOR_1);
-    write_tile(word_slice(device, instruction, turn->word, turn->stride));
+    unsigned first = number_of(instruction, VECTOR);
+    write_tile(word_slice(device, instruction, turn->stride));
     printf(" %s v%u", out ? "to" : "from", first);
     if (device_group(device) > 1)
         printf(" .. v%u", first + device_group(device) - 1);
@@ -82,20 +82,20 @@ static void write_stride(uint64_t stride)
 
 static void write_changes(const struct device *device, const struct turn *turn, struct settings before)
 {
-    const struct instruction *instruction = instruction_of(turn->word);
-    if (instruction == NULL)
+    struct instruction instruction;
+    if (!instruction_of(turn->word, &instruction))
         return;
-    if (instruction->action == SETS) {
-        write_settings(device, turn->word, before);
-        return;
-    }
-    if (instruction->action == MOVES_OUT || instruction->action == MOVES_IN) {
-        write_move(device, instruction, turn);
+    if (instruction.action == SETS) {
+        write_settings(device, &instruction, before);
         return;
     }
-    write_tile(word_tile(device, instruction, turn->word));
-    if (instruction->action == LOADS || instruction->action == STORES) {
-        printf(" %s memory at %" PRIu64, instruction->action == LOADS ? "from" : "to", turn->address);
+    if (instruction.action == MOVES_OUT || instruction.action == MOVES_IN) {
+        write_move(device, &instruction, turn);
+        return;
+    }
+    write_tile(word_tile(device, &instruction));
+    if (instruction.action == LOADS || instruction.action == STORES) {
+        printf(" %s memory at %" PRIu64, instruction.action == LOADS ? "from" : "to", turn->address);
         write_stride(turn->stride);
     }
 }

@@ -59,14 +59,15 @@ uint64_t bodlarina_version(void);
 
 /* Bits 15..0 of a result are the answer, bits 31..16 the row and bits 47..32 the column that answer 5 names.
  * Row and column are 0 with every other answer. So a call is done exactly when its result is 0; but a result of the functions on
- * images has in bits 63..16 the length of an image that was sized or written, or the place that answer 15 names: there test
- * BODLARINA_ANSWER(result).
+ * images and on lines of text has in bits 63..16 the length of an image that was sized or written or of a line that was written, or the
+ * place that answer 15 or the column that answer 17 names: there test BODLARINA_ANSWER(result).
  * bodlarina_answer_text, below, has a sentence for each. */
 #define BODLARINA_ANSWER(result) ((unsigned)((result) & 0xffffu))
 #define BODLARINA_ROW(result) ((unsigned)(((result) >> 16) & 0xffffu))
 #define BODLARINA_COLUMN(result) ((unsigned)(((result) >> 32) & 0xffffu))
 #define BODLARINA_LENGTH(result) ((result) >> 16)
 #define BODLARINA_PLACE(result) ((result) >> 16)
+#define BODLARINA_LINE_COLUMN(result) ((result) >> 16)
 
 #define BODLARINA_DONE 0u            /* done */
 #define BODLARINA_ILLEGAL_WORD 1u    /* no row of the draft's listing (section 4.5, of moves 6.1.7) has all its fixed bits in the word */
@@ -87,10 +88,12 @@ uint64_t bodlarina_version(void);
 #define BODLARINA_WRONG_REGISTER 12u /* a register field out of range: a tile register is 0 to 7, an accumulator 0 or 1;
                                         or a vector group that starts at no multiple of its size */
 #define BODLARINA_ROWS_OVERLAP 13u   /* a byte of a store lies in two of its rows in memory */
-#define BODLARINA_NO_ROOM 14u        /* an image does not fit the lent room */
+#define BODLARINA_NO_ROOM 14u        /* an image or a line of text does not fit the lent room */
 #define BODLARINA_DAMAGED 15u        /* not an image; the place is that of the first byte at which no image can go on,
                                         the length if it is only cut short */
 #define BODLARINA_TOO_MANY_SEALS 16u /* a ninth sealed range */
+#define BODLARINA_BAD_LINE 17u       /* no line of assembler text; the column, from 1, is that of the first character at
+                                        which no line can go on, one past the end if it is only cut short */
 
 /* What an answer, or the answer in a result, says: one line of plain text. */
 BODLARINA_INLINE const char *bodlarina_answer_text(uint64_t result)
@@ -110,9 +113,10 @@ BODLARINA_INLINE const char *bodlarina_answer_text(uint64_t result)
     case BODLARINA_LEFT_OUT_WORD: return "an instruction of the draft that is not carried out here";
     case BODLARINA_WRONG_REGISTER: return "there is no such register, or a vector group starts at no multiple of its size";
     case BODLARINA_ROWS_OVERLAP: return "a byte of a store lies in two of its rows";
-    case BODLARINA_NO_ROOM: return "the image does not fit the room";
+    case BODLARINA_NO_ROOM: return "the image or the line does not fit the room";
     case BODLARINA_DAMAGED: return "this is no image, or it is cut short";
     case BODLARINA_TOO_MANY_SEALS: return "a machine has at most eight sealed ranges";
+    case BODLARINA_BAD_LINE: return "no line of assembler text goes on at this column";
     }
     return "no answer of this version";
 }
@@ -395,6 +399,28 @@ BODLARINA_INLINE uint64_t bodlarina_image_mlen(const uint8_t *image, size_t imag
         return 0;
     return (uint64_t)1 << mlen;
 }
+
+/* ---- Lines of assembler text ------------------------------------------------------------------------------ */
+
+/* Every word that some machine accepts has exactly one line: the draft's mnemonic, one space, and the operands with a comma and a space
+ * between them, as in
+ *     mlae8.m tr0, (x10), x11
+ *     memulc.mi acc1, acc0, -16
+ * registers as x0 to x31, tr0 to tr7, acc0 and acc1, v0 to v31; numbers in decimal, without leading zeros; the immediate of memulc.mi and
+ * its kin from -16 to 15, those of settings from 0 to 8191. A line is accepted exactly if some word prints it, and reading it gives that
+ * word back. No line feed belongs to it. */
+
+/* No line is longer. */
+#define BODLARINA_TEXT_BYTES_MOST 32
+
+/* Writes the line of a word to the front of text, and leaves the bytes past it; no zero byte follows it. Its length is in bits 63..16.
+ * Answers: 0; 10, 11, 1 or 12 for a word without a line, as bodlarina_step gives for it; then 14 if the line is longer than text_len. */
+uint64_t bodlarina_word_text(uint32_t word, uint8_t *text, size_t text_len);
+
+/* Writes the word of a line to the word block of 8 bytes, a number of 64 bits, low byte first: bodlarina_get64(word).
+ * Answers: 0; 8 for a block of another length; then 17 with the column in bits 63..16 if it is no line. */
+#define BODLARINA_WORD_BYTES 8
+uint64_t bodlarina_text_word(const uint8_t *text, size_t text_len, uint8_t *word, size_t word_len);
 
 /* ---- The same in short ------------------------------------------------------------------------------------ */
 

@@ -42,13 +42,13 @@ static void texts(void)
 {
     const char *unknown = bodlarina_answer_text(0xffff);
     int right = 1;
-    for (unsigned i = 0; i <= BODLARINA_TOO_MANY_SEALS + 1; i++) {
-        int named = i <= BODLARINA_TOO_MANY_SEALS;
+    for (unsigned i = 0; i <= BODLARINA_BAD_LINE + 1; i++) {
+        int named = i <= BODLARINA_BAD_LINE;
         right = right && (bodlarina_answer_text(i) != unknown) == named;
         for (unsigned j = 0; named && j < i; j++)
             right = right && strcmp(bodlarina_answer_text(i), bodlarina_answer_text(j)) != 0;
     }
-    right = right && strcmp(bodlarina_answer_text(14), "the image does not fit the room") == 0;
+    right = right && strcmp(bodlarina_answer_text(14), "the image or the line does not fit the room") == 0;
     right = right && strcmp(bodlarina_answer_text(15 | 70 << 16), "this is no image, or it is cut short") == 0;
     right = right && strcmp(bodlarina_answer_text(16), "a machine has at most eight sealed ranges") == 0;
     check(right, "a text for each answer");
@@ -1483,10 +1483,83 @@ static int measure_machine(uint64_t rlen, uint64_t mlen, uint64_t elen)
     return right && measure_plan(BODLARINA_FLOAT, 32, 1);
 }
 
+/* ---- lines of assembler text */
+
+static int line_is(uint32_t word, const char *line)
+{
+    uint8_t text[BODLARINA_TEXT_BYTES_MOST + 4], block[BODLARINA_WORD_BYTES];
+    size_t length = strlen(line);
+    memset(text, 9, sizeof text);
+    int right = bodlarina_word_text(word, text, length - 1) == BODLARINA_NO_ROOM && all(text, 0, sizeof text, 9);
+    right = right && bodlarina_word_text(word, text, length) == (uint64_t)length << 16;
+    right = right && memcmp(text, line, length) == 0 && all(text, length, sizeof text, 9);
+    right = right && bodlarina_text_word(text, length, block, sizeof block) == 0;
+    return right && bodlarina_get64(block) == word;
+}
+
+static int no_line(const char *line, uint64_t column)
+{
+    uint8_t block[BODLARINA_WORD_BYTES + 1];
+    memset(block, 9, sizeof block);
+    const uint8_t *text = (const uint8_t *)line;
+    int right = bodlarina_text_word(text, strlen(line), block, BODLARINA_WORD_BYTES) == (BODLARINA_BAD_LINE | column << 16);
+    right = right && bodlarina_text_word(text, strlen(line), block, sizeof block) == BODLARINA_BAD_ARGUMENTS;
+    return right && bodlarina_text_word(text, strlen(line), block, BODLARINA_WORD_BYTES - 1) == BODLARINA_BAD_ARGUMENTS && all(block, 0, sizeof block, 9);
+}
+
+/* What a step gives for the code of a word: 10, 11, 1, 12 or, for any other answer, 0. */
+static uint64_t code_answer(uint32_t word)
+{
+    static uint8_t block[BODLARINA_MACHINE_BYTES], bytes[BODLARINA_REGISTER_BYTES(128)], written[sizeof bytes];
+    static uint8_t values[BODLARINA_SCALAR_BYTES], memory[1], file[BODLARINA_VECTOR_BYTES];
+    bodlarina_start(64, 128, 32, BODLARINA_SMALLER, no_seals, 0, block, sizeof block, bytes, sizeof bytes, written, sizeof written);
+    uint64_t result = bodlarina_step(word, 1, block, sizeof block, bytes, sizeof bytes, written, sizeof written, values, sizeof values,
+                                     memory, sizeof memory, file, sizeof file);
+    return result == 1 || (10 <= result && result <= 12) ? result : 0;
+}
+
+/* A line exactly where a step does not refuse the code, and the word back. */
+static int line_back(uint32_t word)
+{
+    uint8_t text[BODLARINA_TEXT_BYTES_MOST], block[BODLARINA_WORD_BYTES];
+    memset(text, 9, sizeof text);
+    uint64_t result = bodlarina_word_text(word, text, sizeof text);
+    if (BODLARINA_ANSWER(result) != code_answer(word))
+        return 0;
+    if (BODLARINA_ANSWER(result) != BODLARINA_DONE)
+        return result == BODLARINA_ANSWER(result) && all(text, 0, sizeof text, 9);
+    return bodlarina_text_word(text, (size_t)BODLARINA_LENGTH(result), block, sizeof block) == 0 && bodlarina_get64(block) == word;
+}
+
+static void text_lines(void)
+{
+    int right = line_is(bodlarina_msettypei(5, 8), "msettypei x5, 8") && line_is(bodlarina_mlae8_m(0, 10, 11), "mlae8.m tr0, (x10), x11");
+    right = right && line_is(bodlarina_memulc_mi(1, 0, -16), "memulc.mi acc1, acc0, -16");
+    right = right && line_is(bodlarina_mmvcr_v_m(31, 0, 12), "mmvcr.v.m v31, acc0, x12");
+    check(right, "the line of a word, where it just fits and where it does not, and back");
+    right = no_line("", 1) && no_line("mqma", 5) && no_line("mgma.mm acc0, tr0, tr1", 2) && no_line("msettypei x05, 8", 13);
+    right = right && no_line("memulc.mi acc0, acc0, -17", 25) && no_line("maddc.mm  acc0, acc1", 10) && no_line("maddc.mm acc0, acc1 ", 20);
+    check(right, "no line: 17 and the column; a block of another length: 8; and nothing changes");
+    right = 1;
+    for (uint32_t i = 0; i < 200000; i++)
+        right = right && line_back((i * 2654435761u & ~(uint32_t)127) | (i % 16 != 0 ? 119 : i / 16 % 128));
+    for (uint32_t code = 0; code < 1024; code++) /* bits 31..25 and 14..12, with registers in and out of range */
+        for (uint32_t i = 0; i < 64; i++)
+            right = right && line_back((code >> 3 << 25) | (code & 7) << 12 | 119 | (i % 4) << 7 | (i / 4 % 4 * 3) << 15 | (i / 16 * 5) << 20);
+    check(right, "words to lines and back, and the answers of steps");
+}
+
+static uint8_t listed[BODLARINA_TEXT_BYTES_MOST], listed_word[BODLARINA_WORD_BYTES];
+
+static void list_word(void) { stack_result = BODLARINA_ANSWER(bodlarina_word_text(bodlarina_mqma_mm(0, 0, 1), listed, sizeof listed)); }
+
+static void read_listed(void) { stack_result = bodlarina_text_word(listed, 22, listed_word, sizeof listed_word); }
+
 static void stack(void)
 {
     size_t none = stack_of(no_call);
     int right = measure_machine(512, 4096, 32) && measure_machine(4096, 65536, 64) && measure_machine(512, 65536, 64);
+    right = right && measure(list_word) && measure(read_listed);
     check(right && measure_machine(64, 65536, 32), "calls of every family on the largest machines are done");
     printf("stack: %zu bytes\n", stack_most - none);
     check(stack_most > none && stack_most - none <= MOST_STACK, "the stack of the deepest call");
@@ -1504,6 +1577,7 @@ int main(void)
     larger();
     moves();
     sealed_ranges();
+    text_lines();
     stack();
     printf("%d passed, %d failed\n", passed, failed);
     return failed != 0;

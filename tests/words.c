@@ -1,11 +1,13 @@
 /* Every encoder of include/bodlarina_words.h on all values of its register fields and on the bounds of its immediates: one line for
- * each, with the mnemonic, the operands, the word, and what the library answers to it on a started machine.
+ * each, with the mnemonic, the operands, the word, and what the library answers to it on a started machine. The line of assembler text
+ * that the library has for the word begins with the mnemonic.
  *
  * tests/words makes `encoders.inc` out of the header: for each encoder a line
  *     ENCODER(mlae8_m, "mlae8.m", "md", "rs1", "rs2", (v[0], v[1], v[2]))
  */
 #include <inttypes.h>
 #include <stdio.h>
+#include <stdlib.h>
 #include <string.h>
 
 #include "bodlarina_words.h"
@@ -38,9 +40,25 @@ static uint32_t answer(uint32_t word)
     return BODLARINA_ANSWER(bodlarina_bench_step(&bench, word));
 }
 
+/* A word of an encoder has a line, or a register out of range; the line has the encoder's mnemonic, and is the word's. */
+static void named(const struct encoder *e, uint32_t word)
+{
+    uint8_t text[BODLARINA_TEXT_BYTES_MOST], block[BODLARINA_WORD_BYTES];
+    size_t length = strlen(e->mnemonic);
+    uint64_t result = bodlarina_word_text(word, text, sizeof text);
+    if (result == BODLARINA_WRONG_REGISTER)
+        return;
+    if (BODLARINA_ANSWER(result) == BODLARINA_DONE && memcmp(text, e->mnemonic, length) == 0 && text[length] == ' '
+        && bodlarina_text_word(text, (size_t)BODLARINA_LENGTH(result), block, sizeof block) == 0 && bodlarina_get64(block) == word)
+        return;
+    fprintf(stderr, "%s: %08" PRIx32 " has another line\n", e->mnemonic, word);
+    exit(1);
+}
+
 static void line(const struct encoder *e, const uint32_t *v)
 {
     uint32_t word = e->encode(v);
+    named(e, word);
     printf("%s", e->mnemonic);
     for (int i = 0; i < 3 && e->operands[i]; i++)
         printf(" %s=%" PRIu32, e->operands[i], v[i]);
