@@ -1,5 +1,5 @@
 //! Links the binary with libbodlarina.a, whose folder BODLARINA_LIB names, and with the
-//! plain C products of its benchmark. The lib target needs neither.
+//! plain C products and listings of its benchmark. The lib target needs neither.
 
 use std::path::{Path, PathBuf};
 use std::process::Command;
@@ -22,18 +22,32 @@ fn link_library() {
 }
 
 fn link_baseline() {
-    println!("cargo:rerun-if-changed=c/baseline.c");
-    println!("cargo:rerun-if-changed=c/baseline.h");
     let folder = PathBuf::from(std::env::var("OUT_DIR").expect("OUT_DIR is set by cargo"));
-    let object = folder.join("baseline.o");
-    let compiled = Command::new("gcc")
-        .args(["-O3", "-std=c99", "-Wall", "-Wextra", "-c", "c/baseline.c", "-o"])
-        .arg(&object)
-        .status();
-    match compiled {
-        Ok(status) if status.success() => {
-            println!("cargo:rustc-link-arg-bins={}", object.display())
+    for name in ["baseline", "listing"] {
+        println!("cargo:rerun-if-changed=c/{name}.c");
+        println!("cargo:rerun-if-changed=c/{name}.h");
+        let object = folder.join(name).with_extension("o");
+        if compiled(&["-c"], name, &object) {
+            println!("cargo:rustc-link-arg-bins={}", object.display());
         }
-        _ => println!("cargo:warning=gcc did not compile c/baseline.c: only the lib target links"),
     }
+    // the same lines of assembler text as a program of its own
+    let program = folder.join("listing");
+    compiled(&["-DLISTING_PROGRAM"], "listing", &program);
+    println!("cargo:rustc-env=LISTING_PROGRAM={}", program.display());
+}
+
+/// c/NAME.c compiled by gcc.
+fn compiled(options: &[&str], name: &str, out: &Path) -> bool {
+    let status = Command::new("gcc")
+        .args(["-O3", "-std=c99", "-Wall", "-Wextra"])
+        .args(options)
+        .args([&format!("c/{name}.c"), "-o"])
+        .arg(out)
+        .status();
+    let done = status.is_ok_and(|status| status.success());
+    if !done {
+        println!("cargo:warning=gcc did not compile c/{name}.c: only the lib target links");
+    }
+    done
 }

@@ -31,6 +31,7 @@ pub fn bench() {
     multiply_accumulates();
     against_the_second_program();
     images();
+    crate::text::bench::bench();
     crate::runs::bench::bench();
 }
 

@@ -57,6 +57,8 @@ calls! {
     image_size = bodlarina_image_size(; machine, registers, marks);
     image_write = bodlarina_image_write(; machine, registers, marks, image);
     image_read = bodlarina_image_read(; image, machine, registers, marks);
+    word_text = bodlarina_word_text(word: u32; text);
+    text_word = bodlarina_text_word(; text, word);
 }
 
 /// RLEN, MLEN, ELEN, the rule, and start and length of each sealed range, of which the

@@ -3,7 +3,8 @@
 //!     compare [long|bench] [--seed N] [--suite NAME [--case N]]
 //!
 //! Without a word: the suites at their usual length. `long`: ten million steps
-//! and a hundred thousand runs. `bench`: one table of times. A reported
+//! and a hundred thousand runs, every word as a line. `bench`: one table of times, with
+//! `--suite lines` that of lines of assembler text alone. A reported
 //! difference names its suite, case and seed, which repeat it.
 
 mod bench;
@@ -30,13 +31,14 @@ mod states;
 mod steps;
 mod suite;
 mod tally;
+mod text;
 mod transposed;
 mod words;
 
 use std::time::Instant;
 use suite::{Context, Outcome, Suite};
 
-const SUITES: [Suite; 75] = [
+const SUITES: [Suite; 88] = [
     ("bench sheet", sheet::bench_sheet),
     ("machine starts", starts::machine_starts),
     ("codes", steps::codes),
@@ -112,6 +114,19 @@ const SUITES: [Suite; 75] = [
     ("damaged images", images::damaged_images),
     ("image numbers", images::image_numbers),
     ("random images", images::random_images),
+    ("lines of rows", text::lines::lines_of_rows),
+    ("lines of codes", text::lines::lines_of_codes),
+    ("random lines", text::lines::random_lines),
+    ("every word", text::lines::every_word),
+    ("lines apart", text::lines::lines_apart),
+    ("damaged lines", text::damage::damaged_lines),
+    ("cut lines", text::damage::cut_lines),
+    ("numbers of lines", text::damage::numbers_of_lines),
+    ("long lines", text::damage::long_lines),
+    ("line ends", text::programs::line_ends),
+    ("listings", text::programs::listings),
+    ("there and back", text::programs::there_and_back),
+    ("every word listed", text::programs::every_word_listed),
 ];
 
 /// `long` takes this many times the random steps and runs: above ten million steps.
@@ -150,7 +165,10 @@ fn main() {
         std::process::exit(2);
     };
     if arguments.bench {
-        bench::bench();
+        match arguments.suite.as_deref() {
+            Some("lines") => text::bench::bench(),
+            _ => bench::bench(),
+        }
         return;
     }
     if arguments.speed {

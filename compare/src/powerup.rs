@@ -272,7 +272,7 @@ pub fn power_up_words(context: &mut Context) -> Outcome {
     let [met, met_by_floats, met_by_moves_out, met_by_moves_in, met_by_ranges] = all;
     // No state is at fault here, and 9, 14, 15 and 16 are no answers of a step.
     let missing: Vec<usize> = (0..met.len())
-        .filter(|&number| met[number] == 0 && ![8, 9, 14, 15, 16].contains(&number))
+        .filter(|&number| met[number] == 0 && ![8, 9, 14, 15, 16, 17].contains(&number))
         .collect();
     let text = format!(
         "{cases}, {} words done, {} refused with 5, {} otherwise; of float products {} and {}, \

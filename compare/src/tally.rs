@@ -1,5 +1,5 @@
-//! How often each answer was met for each instruction family, for the calls of a run
-//! and for those on images.
+//! How often each answer was met for each instruction family, for the calls of a run,
+//! for those on images and for those on lines of assembler text.
 //!
 //! A word belongs to the family whose code it has, whatever its opcode and
 //! operands; a family is ours or left out. Which cells can be met, by the scope
@@ -34,9 +34,16 @@
 //! The size of an image gives 0 or 8, writing one 14 too, reading one 0, 8 or 15. The
 //! start of a machine and a further sealed range give 0, 8 or 16 (request Twelve).
 //!
+//! The line of a word (request Fourteen) gives 0 and 14 for every family of ours, and 10, 11,
+//! 1 and 12 where a step does. Reading a line gives 0, 8 or 17; it belongs to the family whose
+//! mnemonic it begins with, and no line without one gives 0. The program `disassemble` gives
+//! for a line, or 8 for its whole input, what the line of a word does and 17, `assemble` 0, 8
+//! and 17.
+//!
 //! Words are also counted by ELEN (request Ten): each cell has to be met at both; and by
 //! the number of sealed ranges.
 
+use model::text::BAD_LINE;
 use model::{Kind, Machine, ELENS, KINDS, LEFT_OUT, LISTING, MOST_SEALS, RULES};
 use std::collections::BTreeMap;
 
@@ -55,6 +62,13 @@ pub enum Call {
     ImageSize,
     ImageWrite,
     ImageRead,
+    // Lines, by the name of the family's first row.
+    LineOf(&'static str),
+    LineOfOther,
+    LineRead(&'static str),
+    OtherLineRead,
+    Disassembled,
+    Assembled,
 }
 
 #[derive(Default)]
@@ -69,6 +83,8 @@ pub struct Tally {
     pub runs: [[[u64; ELENS.len()]; RULES.len()]; KINDS.len()],
     /// Images written and read that were accepted, by version.
     pub images: [[u64; VERSIONS]; 2],
+    /// Words that were held to their lines, and lines that were read.
+    lines: [u64; 2],
     /// How often each reason of answer 9 was met alone, by kind.
     pub overlaps: [[u64; 4]; KINDS.len()],
 }
@@ -85,12 +101,14 @@ const LEAST_RUNS: u64 = 1_500;
 const LEAST_RUNS_BY_RULE: u64 = 700;
 const LEAST_RUNS_BY_ELEN: u64 = 300;
 const LEAST_IMAGES: u64 = 500;
+/// Lines of words, and as many lines that are read.
+const LEAST_LINES: u64 = 200_000;
 
 /// What every number counts as that is no kind.
 const UNKNOWN: u64 = KINDS.len() as u64;
 
 /// One more than the highest answer.
-pub const ANSWERS: u64 = 17;
+pub const ANSWERS: u64 = 18;
 
 /// The listing's name up to an element width.
 pub fn family_name(name: &'static str) -> &'static str {
@@ -118,12 +136,14 @@ fn first_rows(names: impl Iterator<Item = &'static str>) -> Vec<&'static str> {
 
 /// The family of the row whose code a word has.
 pub fn family_of(word: u32) -> Call {
-    let Some(name) = model::name_by_code(word) else {
-        return Call::OtherWord;
-    };
+    model::name_by_code(word).map_or(Call::OtherWord, |name| Call::Family(first_of_family(name)))
+}
+
+/// The name of the first row of a row's family.
+pub fn first_of_family(name: &'static str) -> &'static str {
     let mut names = LISTING.iter().map(|row| row.name).chain(LEFT_OUT.iter().map(|row| row.0));
     let first = names.find(|other| family_name(other) == family_name(name));
-    Call::Family(first.expect("every row has a family"))
+    first.expect("every row has a family")
 }
 
 /// Whether a call can give an answer.
@@ -139,6 +159,15 @@ pub fn reachable(call: Call, number: u64) -> bool {
         Call::ImageSize => return [0, 8].contains(&number),
         Call::ImageWrite => return [0, 8, 14].contains(&number),
         Call::ImageRead => return [0, 8, 15].contains(&number),
+        Call::LineOfOther => return [1, 10].contains(&number),
+        Call::LineRead(_) | Call::Assembled => return [0, 8, BAD_LINE].contains(&number),
+        Call::OtherLineRead => return [8, BAD_LINE].contains(&number),
+        Call::Disassembled => return [0, 1, 8, 10, 11, 12, BAD_LINE].contains(&number),
+        Call::LineOf(first) => {
+            let of_word = [0, 1, 10, 11, 12].contains(&number);
+            let ours = LISTING.iter().any(|row| row.name == first);
+            return of_word && reachable(Call::Family(first), number) || number == 14 && ours;
+        }
         Call::Family(first) => first,
     };
     let zeros = model::has_zeros(first);
@@ -204,6 +233,29 @@ impl Tally {
         }
     }
 
+    /// The line of a word.
+    pub fn line_of(&mut self, word: u32, number: u64) {
+        self.lines[0] += 1;
+        self.count(
+            match family_of(word) {
+                Call::Family(first) => Call::LineOf(first),
+                _ => Call::LineOfOther,
+            },
+            number,
+        );
+    }
+
+    /// A line that was read.
+    pub fn read_line(&mut self, line: &[u8], number: u64) {
+        self.lines[1] += 1;
+        let row = LISTING.iter().find(|row| {
+            let name = row.name.as_bytes();
+            line.starts_with(name) && line.get(name.len()) == Some(&b' ')
+        });
+        let call = row.map(|row| Call::LineRead(first_of_family(row.name)));
+        self.count(call.unwrap_or(Call::OtherLineRead), number);
+    }
+
     /// A run of a kind that was compared after each turn.
     pub fn ran(&mut self, kind: u64, rule: u64, elen: u64) {
         self.runs[kind as usize][rule as usize][usize::from(elen == 64)] += 1;
@@ -237,6 +289,22 @@ impl Tally {
         calls.push((Call::ImageSize, "image size".to_string()));
         calls.push((Call::ImageWrite, "image write".to_string()));
         calls.push((Call::ImageRead, "image read".to_string()));
+        calls.push((Call::Disassembled, "disassemble".to_string()));
+        calls.push((Call::Assembled, "assemble".to_string()));
+        calls
+    }
+
+    /// Lines of words, and lines that are read, by family.
+    fn calls_on_lines() -> Vec<(Call, String)> {
+        let mut calls = Vec::new();
+        for first in families().into_iter().chain(families_left_out()) {
+            calls.push((Call::LineOf(first), format!("line of {}", family_name(first))));
+        }
+        calls.push((Call::LineOfOther, "line of other words".to_string()));
+        for first in families() {
+            calls.push((Call::LineRead(first), format!("line read {}", family_name(first))));
+        }
+        calls.push((Call::OtherLineRead, "line read, other".to_string()));
         calls
     }
 
@@ -255,6 +323,7 @@ impl Tally {
             }
             println!();
         }
+        self.print_lines();
         for (kind, [rows, a, b, seal]) in self.overlaps.iter().enumerate() {
             println!(
                 "answer 9 by one reason alone, kind {kind}: two rows of C {rows}, A {a}, B {b}, \
@@ -263,10 +332,36 @@ impl Tally {
         }
     }
 
+    /// Each answer of a word's line, then of reading one, by family.
+    fn print_lines(&self) {
+        const WRITTEN: [u64; 6] = [0, 10, 11, 1, 12, 14];
+        const READ: [u64; 3] = [0, 8, BAD_LINE];
+        println!("the same of the line of a word, then of reading a line");
+        print!("{:16}", "answer");
+        WRITTEN.iter().chain(&READ).for_each(|number| print!("{number:>9}"));
+        println!();
+        let left_out = families_left_out();
+        for first in families().into_iter().chain(left_out).map(Some).chain([None]) {
+            let (of, read) = match first {
+                Some(first) => (Call::LineOf(first), Call::LineRead(first)),
+                None => (Call::LineOfOther, Call::OtherLineRead),
+            };
+            print!("{:16}", first.map_or("other", family_name));
+            let calls = WRITTEN.map(|number| (of, number)).into_iter();
+            for (call, number) in calls.chain(READ.map(|number| (read, number))) {
+                match self.get(call, number) {
+                    0 => print!("{:>9}", "-"),
+                    count => print!("{count:>9}"),
+                }
+            }
+            println!();
+        }
+    }
+
     /// Cells that can be met but were not, and those met that cannot be.
     pub fn check(&self) -> Result<String, String> {
         let mut faults = Vec::new();
-        for (call, name) in Tally::calls() {
+        for (call, name) in Tally::calls().into_iter().chain(Tally::calls_on_lines()) {
             for number in 0..ANSWERS {
                 match (reachable(call, number), self.get(call, number)) {
                     (true, 0) => faults.push(format!("{name} never gave {number}")),
@@ -300,8 +395,8 @@ impl Tally {
         let whole: Vec<u64> = KINDS.map(|kind| self.get(Call::WholeRun(kind), 0)).to_vec();
         let text = format!(
             "{} steps, by number of ranges {:?}; by kind, rule and ELEN {:?} runs turn by turn, by kind {whole:?} whole runs \
-             in one call; by version {:?} images written, {:?} read",
-            self.steps, self.by_ranges, self.runs, self.images[0], self.images[1]
+             in one call; by version {:?} images written, {:?} read; {} lines of words, {} lines read",
+            self.steps, self.by_ranges, self.runs, self.images[0], self.images[1], self.lines[0], self.lines[1]
         );
         let enough = self.runs.iter().all(|by_rule| {
             let of_rules = by_rule.map(|by_elen| by_elen.iter().sum::<u64>());
@@ -311,14 +406,16 @@ impl Tally {
         });
         let images = self.images.as_flattened().iter().all(|&images| images >= LEAST_IMAGES);
         let ranges = self.by_ranges.iter().all(|&steps| steps >= LEAST_STEPS_BY_RANGES);
-        if self.steps >= LEAST_STEPS && ranges && enough && images {
+        let lines = self.lines.iter().all(|&lines| lines >= LEAST_LINES);
+        if self.steps >= LEAST_STEPS && ranges && enough && images && lines {
             Ok(text)
         } else {
             Err(format!(
                 "{text}; asked for: {LEAST_STEPS} steps, {LEAST_STEPS_BY_RANGES} of each number of \
                  ranges, {LEAST_RUNS} runs of each kind, \
                  {LEAST_RUNS_BY_RULE} of them by each rule, {LEAST_RUNS_BY_ELEN} of these at each \
-                 ELEN, {LEAST_IMAGES} images of each version"
+                 ELEN, {LEAST_IMAGES} images of each version, {LEAST_LINES} lines of words and \
+                 lines read"
             ))
         }
     }
