@@ -376,6 +376,19 @@ uint64_t bodlarina_image_read(const uint8_t *image, size_t image_len,
                               uint8_t *registers, size_t registers_len,
                               uint8_t *marks, size_t marks_len);
 
+/* The bytes of a salvage's report: three numbers of 64 bits, low byte first (bodlarina_get64): the runs kept, the runs announced, and
+ * the place of the fault, which is image_len if there is none. */
+#define BODLARINA_REPORT_BYTES 24
+
+/* Salvage of an image that was cut or damaged: keeps its header, up to and with the number of runs, and every run that ends before the
+ * place of the fault, writes a fresh image of them to the front of room, and leaves the bytes past it. The length of the fresh image,
+ * never more than image_len, is in bits 63..16, and the report is written. A sound image comes out as it is.
+ * Answers: 0; 8 if report_len is not BODLARINA_REPORT_BYTES; then, with the place in bits 63..16, 15 if the header is at fault or cut
+ * short, and 14 if the fresh image is longer than room_len. */
+uint64_t bodlarina_image_salvage(const uint8_t *image, size_t image_len,
+                                 uint8_t *room, size_t room_len,
+                                 uint8_t *report, size_t report_len);
+
 /* MLEN of the machine whose image starts like this, which gives the lengths of registers and marks; 0 if no image does, or too few bytes
  * are there to tell. It may be as large as BODLARINA_MLEN_MOST: a host whose buffers are shorter than that compares it with what they
  * hold before it lends them. */

@@ -1,6 +1,7 @@
 // Images in the C interface.
 ghost use mathlib.Core.Path.{_≡_};
 ghost use Rattle.image_calls.specs.ImageCalls.{hostImageSize, writtenOut, hostImageWrite, readOut, hostImageRead};
+ghost use Rattle.salvage_calls.specs.SalvageCalls.{salvagedOut, hostSalvage};
 
 // The length of a machine's image.
 #[no_mangle]
@@ -35,4 +36,12 @@ pub extern "C" fn bodlarina_image_read(
         ≡ hostImageRead (now (image .entry)) (now (machine .entry)) (now (registers .entry)) (now (marks .entry)) ⌝ }
 {
     image_calls::read(image, machine, registers, marks)
+}
+
+// Writes a fresh image of what is kept of one that was cut or damaged, and the report of it.
+#[no_mangle]
+pub extern "C" fn bodlarina_image_salvage(image: &[u8], room: &mut [u8], report: &mut [u8]) -> u64
+    ensures { λ r. ⌜ salvagedOut r (now (room .exit)) (now (report .exit)) ≡ hostSalvage (now (image .entry)) (now (room .entry)) (now (report .entry)) ⌝ }
+{
+    salvage_calls::salvage(image, room, report)
 }

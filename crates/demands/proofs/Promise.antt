@@ -16,6 +16,8 @@ use Rattle.run_calls.proofs.Refusal as run
 use Rattle.turn_calls.proofs.Refusal as turn
 use Rattle.image_calls.proofs.Refusal as image
 use Rattle.image_calls.proofs.Packing.{image-size-packs-whole, image-write-packs-whole, image-read-packs-whole}
+use Rattle.salvage_calls.proofs.Refusal.{salvage-call-refusal}
+use Rattle.salvage_calls.proofs.Packing.{salvage-packs-whole}
 use Rattle.text_calls.proofs.Refusal as text
 use Rattle.text_calls.proofs.Packing.{word-text-packs, text-word-packs}
 use Rattle.calls.proofs.Seal.{seal-holds-over-calls, seal-holds-from-start-call, seal-holds-from-read-call, start-call-holds, read-call-holds}
@@ -32,6 +34,9 @@ use Rattle.format.proofs.NumberLaws.{encode-apart}
 use Rattle.format.proofs.FormatLaws.{ends-one, parser-is-right}
 use Rattle.image.proofs.RunLaws.{runs-are-maximal}
 use Rattle.image.proofs.Images.{alike-one-image, others-never, format-is-images, read-is-exact, read-refusal, write-refusal, read-makes, seal-holds-from-read, written-is-read-back, read-is-written-back}
+use Rattle.salvage.proofs.Keeps.{place-as-in-six, salvage-is-exact, fresh-is-image, sound-unchanged, salvage-refusal}
+use Rattle.salvage.proofs.Room.{enough-room}
+use Rattle.salvage.proofs.Cut.{cut-keeps-bytes, cut-place}
 use Rattle.assembly.proofs.LegalLaws.{legal-have-lines}
 use Rattle.assembly.proofs.AnswerLaws.{accepted-have-lines, codes-answered, lines-go-back}
 use Rattle.assembly.proofs.AcceptedLaws.{lines-are-accepted}
@@ -58,6 +63,7 @@ promise = record {
     whole-run = whole-refusal-changes-nothing;
     image-write = write-refusal;
     image-read = read-refusal;
+    image-salvage = salvage-refusal;
     c-start = bench.start-refusal;
     c-step = bench.step-refusal;
     c-seal = bench.seal-refusal;
@@ -68,12 +74,14 @@ promise = record {
     c-run = turn.run-refusal;
     c-image-write = image.image-write-refusal;
     c-image-read = image.image-read-refusal;
+    c-image-salvage = salvage-call-refusal;
     c-word-text = text.word-text-refusal;
     c-text-word = text.text-word-refusal;
     c-step-whole = packs-whole;
     c-image-size-whole = image-size-packs-whole;
     c-image-write-whole = image-write-packs-whole;
     c-image-read-whole = image-read-packs-whole;
+    c-image-salvage-whole = salvage-packs-whole;
     c-word-text-whole = word-text-packs;
     c-text-word-whole = text-word-packs;
   };
@@ -150,6 +158,13 @@ promise = record {
     twelve-c-start = start-call-holds;
     twelve-c-read = read-call-holds;
     twelve-c-calls = ranges-are-exact-over-calls;
+    thirteen = salvage-is-exact;
+    thirteen-place = place-as-in-six;
+    thirteen-image = fresh-is-image;
+    thirteen-room = enough-room;
+    thirteen-sound = sound-unchanged;
+    thirteen-cut = cut-keeps-bytes;
+    thirteen-cut-place = cut-place;
     fourteen = legal-have-lines;
     fourteen-accepted = accepted-have-lines;
     fourteen-only = lines-are-accepted;

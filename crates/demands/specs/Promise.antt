@@ -11,6 +11,7 @@ use Rattle.bench_calls.specs.Theorems.{StartRefusalChangesNoByte, StepRefusalCh
 use Rattle.run_calls.specs.Theorems.{RunStartRefusalChangesNoByte, NextRefusalChangesNoByte}
 use Rattle.turn_calls.specs.Theorems.{TurnRefusalChangesNoByte, NoTurnChangesNoByte, RunRefusalChangesNoByte}
 use Rattle.image_calls.specs.Theorems.{ImageWriteRefusalChangesNoByte, ImageReadRefusalChangesNoByte, ImageSizePacksWhole, ImageWritePacksWhole, ImageReadPacksWhole}
+use Rattle.salvage_calls.specs.Theorems.{SalvageRefusalChangesNoByte, SalvagePacksWhole}
 use Rattle.text_calls.specs.Theorems.{WordTextRefusalChangesNoByte, TextWordRefusalChangesNoByte, WordTextPacksWhole, TextWordPacksWhole}
 use Rattle.calls.specs.Composed.{StartCallsAreRight, TurnCallsAreRight, TurnsAreTurnCalls, RunIsTurnCalls, SealHoldsOverCalls, SealHoldsFromStartCall, SealHoldsFromReadCall, SealHoldsFromSealCall, SealCallSeals, StartCallHolds, ReadCallHolds, RangesAreExactOverCalls}
 use Rattle.sealing.specs.Theorems.{RangesAreExact, AddedRangeRefusesOnly}
@@ -21,6 +22,7 @@ use Rattle.exact.specs.Examples.{TwoTerms}
 use Rattle.decode_table.specs.Table.{TableAgrees, TableDecodes}
 use Rattle.format.specs.Theorems.{NumbersApart, OnePlace, ParserIsRight}
 use Rattle.image.specs.Theorems.{AlikeHaveOneImage, OthersNever, RunsAreMaximal, FormatIsImages, ReadIsExact, ReadRefusalChangesNothing, WriteRefusalChangesNothing, ReadMakesItsMachine, SealHoldsFromRead, WrittenIsReadBack, ReadIsWrittenBack}
+use Rattle.salvage.specs.Theorems.{PlaceAsInSix, SalvageIsExact, FreshIsImage, EnoughRoom, SoundUnchanged, CutKeepsBytes, CutPlace, SalvageRefusalChangesNothing}
 use Rattle.assembly.specs.Theorems.{LegalHaveLines, AcceptedHaveLines, LinesAreAccepted, CodesAnswered, LinesAreShort, ReadsBack, ReadsRight, OneWord, WordsRight, WordsReadBack, LinesGoBack}
 use Rattle.powerup.specs.Steps.{StepIgnoresUnmarked, WordsIgnoreUnmarked, GivenWordsIgnoreUnmarked}
 use Rattle.powerup.specs.Runs.{RunStartIgnoresUnmarked, TurnsIgnoreUnmarked, WholeIgnoresUnmarked}
@@ -40,6 +42,7 @@ pub record Demand1 : Type 0 where
   pub whole-run : WholeRefusalChangesNothing
   pub image-write : WriteRefusalChangesNothing
   pub image-read : ReadRefusalChangesNothing
+  pub image-salvage : SalvageRefusalChangesNothing
   -- of the C functions
   pub c-start : StartRefusalChangesNoByte
   pub c-step : StepRefusalChangesNoByte
@@ -51,6 +54,7 @@ pub record Demand1 : Type 0 where
   pub c-run : RunRefusalChangesNoByte
   pub c-image-write : ImageWriteRefusalChangesNoByte
   pub c-image-read : ImageReadRefusalChangesNoByte
+  pub c-image-salvage : SalvageRefusalChangesNoByte
   pub c-word-text : WordTextRefusalChangesNoByte
   pub c-text-word : TextWordRefusalChangesNoByte
   -- and nothing of an answer is cut in what they return
@@ -58,6 +62,7 @@ pub record Demand1 : Type 0 where
   pub c-image-size-whole : ImageSizePacksWhole
   pub c-image-write-whole : ImageWritePacksWhole
   pub c-image-read-whole : ImageReadPacksWhole
+  pub c-image-salvage-whole : SalvagePacksWhole
   pub c-word-text-whole : WordTextPacksWhole
   pub c-text-word-whole : TextWordPacksWhole
 
@@ -95,8 +100,8 @@ pub record Demand3 : Type 0 where
   pub c-many : TurnsAreTurnCalls
   pub c-run : RunIsTurnCalls
 
--- 02, where a request asks for a statement of its own: One, Two, Four, Five, Six, Nine, Eleven, Twelve and Fourteen. Of Three, Seven, Eight and
--- Ten the statements above speak
+-- 02, where a request asks for a statement of its own: One, Two, Four, Five, Six, Nine, Eleven, Twelve, Thirteen and Fourteen. Of Three, Seven,
+-- Eight and Ten the statements above speak
 pub record Requests : Type 1 where
   pub one-nothing-else : NothingElseMoved
   pub one-added : AddedGotOne
@@ -144,6 +149,14 @@ pub record Requests : Type 1 where
   pub twelve-c-start : StartCallHolds
   pub twelve-c-read : ReadCallHolds
   pub twelve-c-calls : RangesAreExactOverCalls
+  -- Thirteen: what is kept of any input, and its place; of a sound image, and of one that is cut
+  pub thirteen : SalvageIsExact
+  pub thirteen-place : PlaceAsInSix
+  pub thirteen-image : FreshIsImage
+  pub thirteen-room : EnoughRoom
+  pub thirteen-sound : SoundUnchanged
+  pub thirteen-cut : CutKeepsBytes
+  pub thirteen-cut-place : CutPlace
   -- Fourteen: which words have a line, the line back to its word, the column of a refusal; the same of words in digits
   pub fourteen : LegalHaveLines
   pub fourteen-accepted : AcceptedHaveLines

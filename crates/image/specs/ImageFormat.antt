@@ -19,7 +19,7 @@ pub record Described : Type 0 where
 
 -- the version, and what it says of the machine: its rule, and the exponent of ELEN. Of version 1 the rule is 0 and ELEN is 32; of version 2 the
 -- rule follows and is 1, and ELEN is 32; of versions 3 and 4 both follow
-abbrev pub versionFormat : ((version rule elen : ℕ) → Format Described) → Format Described
+abbrev pub versionFormat : {X : Type 0} → ((version rule elen : ℕ) → Format X) → Format X
 versionFormat K =
     number (span 1 4) λ version.
     cond (eqb version 1)
@@ -39,7 +39,7 @@ topMlen version = cond (ltb version 3) 12 16
 unfoldable pub leastMlen : (version elen rlen : ℕ) → ℕ
 leastMlen version elen rlen = cond (eqb version 3 && (eqb elen 5 && ltb rlen 10)) 13 (suc rlen)
 
-abbrev pub shapeFormat : ((version rule elen rlen mlen : ℕ) → Format Described) → Format Described
+abbrev pub shapeFormat : {X : Type 0} → ((version rule elen rlen mlen : ℕ) → Format X) → Format X
 shapeFormat K =
     versionFormat λ version rule elen.
     number (span (suc elen) (topRlen version)) λ rlen.
@@ -53,7 +53,7 @@ mtypes elen =
     record { low = 0; high = elen - 3 } ∷ record { low = 8; high = 8 + (elen - 5) } ∷ record { low = 2 ^ 63; high = 2 ^ 63 } ∷ []
 
 -- mtype, and tile sizes up to their maxima at SEW 8, of a machine with registers of so many rows, each of so many bytes
-abbrev pub tilesFormat : (elen rows columns : ℕ) → (ℕ → ℕ → ℕ → ℕ → Format Described) → Format Described
+abbrev pub tilesFormat : {X : Type 0} → (elen rows columns : ℕ) → (ℕ → ℕ → ℕ → ℕ → Format X) → Format X
 tilesFormat elen rows columns K =
     number (mtypes elen) λ mtype.
     number (span 0 rows) λ tileM.
@@ -62,7 +62,7 @@ tilesFormat elen rows columns K =
     K mtype tileM tileK tileN
 
 -- so many ranges, each with an end that doesn't exceed 2^64 - 1
-unfoldable pub rangesFormat : (count : ℕ) → (Seals → Format Described) → Format Described
+unfoldable pub rangesFormat : {X : Type 0} → (count : ℕ) → (Seals → Format X) → Format X
 rangesFormat zero K = K []
 rangesFormat (suc n) K =
     number (span 0 (2 ^ 64 - 1)) λ start.
@@ -74,42 +74,48 @@ abbrev pub counts : List Range
 counts = record { low = 0; high = 0 } ∷ record { low = 2; high = 8 } ∷ []
 
 -- the sealed ranges: one, and of version 4 their number before them
-abbrev pub sealsFormat : (version : ℕ) → (Seals → Format Described) → Format Described
+abbrev pub sealsFormat : {X : Type 0} → (version : ℕ) → (Seals → Format X) → Format X
 sealsFormat version K = cond (eqb version 4) (number counts λ count. rangesFormat count K) (rangesFormat 1 K)
 
--- So many runs in the room that is left, the first gap at least least. Each run after the first takes a byte of gap and one of its own.
+-- The next run, behind which so many more are announced, in the room that is left, its gap at least least. Each run after it takes a byte of gap
+-- and one of its own.
+abbrev pub runFormat : {X : Type 0} → (more least room : ℕ) → (ℕ → ℕ → List ℕ → Format X) → Format X
+runFormat more least room K =
+    number (span least (room - (1 + 2 * more))) λ gap.
+    number (span 1 (room - (gap + 2 * more))) λ size.
+    bytes size λ b.
+    K gap size b
+
+-- so many runs in the room that is left
 unfoldable pub runsFormat : (List Run → Described) → (count least room : ℕ) → Format Described
 runsFormat f zero least room = done (f [])
 runsFormat f (suc l) least room =
-    number (span least (room - (1 + 2 * l))) λ gap.
-    number (span 1 (room - (gap + 2 * l))) λ size.
-    bytes size λ b.
+    runFormat l least room λ gap size b.
     runsFormat (λ rs. f (run gap b ∷ rs)) l 1 (room - (gap + size))
 
 -- how many bytes the registers have, by the exponent of MLEN
 abbrev pub total : ℕ → ℕ
 total mlen = 2 * 2 ^ mlen
 
--- at most every second byte starts a run
-unfoldable pub imageFormat : Format Described
-unfolding rangesFormat runsFormat
-imageFormat =
+-- a machine's numbers and the number of runs: at most every second byte starts a run
+abbrev pub headFormat : {X : Type 0} → (Header → ℕ → Format X) → Format X
+headFormat K =
     shapeFormat λ version rule elen rlen mlen.
     tilesFormat elen (2 ^ (mlen - rlen)) (2 ^ (rlen - 3)) λ mtype tileM tileK tileN.
     sealsFormat version λ seals.
     number (span 0 (2 ^ mlen)) λ count.
-    runsFormat (λ rs. record {
-      header = record {
-        rlen = rlen;
-        mlen = mlen;
-        mtype = mtype;
-        tileM = tileM;
-        tileK = tileK;
-        tileN = tileN;
-        seals = seals;
-        rule = rule;
-        elen = elen;
-      };
-      body = rs;
-    })
-    count 0 (total mlen)
+    K (record {
+      rlen = rlen;
+      mlen = mlen;
+      mtype = mtype;
+      tileM = tileM;
+      tileK = tileK;
+      tileN = tileN;
+      seals = seals;
+      rule = rule;
+      elen = elen;
+    }) count
+
+-- and the runs
+unfoldable pub imageFormat : Format Described
+imageFormat = headFormat λ header count. runsFormat (λ rs. record { header = header; body = rs }) count 0 (total (header .mlen))

@@ -25,12 +25,12 @@ use Rattle.image_calls.specs.Theorems.{PacksWhole, ImageSizePacksWhole, 
 use Rattle.image_calls.proofs.Bounds.{most, image-short, Stops, place-short}
 
 -- an answer's number has 16 bits; a length and a place that an image can have
-record Small (a : ImageReply) (size : ℕ) : Type 0 where
-  number-small : a .number < 2 ^ 16
-  size-small : size ≤ most
-  place-small : a .place ≤ most
+pub record Small (a : ImageReply) (size : ℕ) : Type 0 where
+  pub number-small : a .number < 2 ^ 16
+  pub size-small : size ≤ most
+  pub place-small : a .place ≤ most
 
-packs : (a : ImageReply) (size : ℕ) → Small a size → PacksWhole (packedReply a size) a size
+pub packs : (a : ImageReply) (size : ℕ) → Small a size → PacksWhole (packedReply a size) a size
 unfolding packedReply
 packs a size h = let v = value (eqb (a .number) 0) in (omega (arith, h .number-small), omega (arith, h .number-small))
   where

@@ -24,7 +24,7 @@ use Rattle.reader.specs.At.{found, numberAt}
 use Rattle.reader.proofs.FromLaws.{from-number, from-fault, from-value, from-stuck, from-start, took, took-in}
 use Rattle.machine.specs.Geometry.{range}
 use Rattle.image.specs.Images.{Seals, Header, machineFrom}
-use Rattle.image.specs.ImageFormat.{Described, topRlen, topMlen, leastMlen, mtypes, versionFormat, shapeFormat, tilesFormat, rangesFormat, counts, sealsFormat, runsFormat, total, imageFormat}
+use Rattle.image.specs.ImageFormat.{Described, topRlen, topMlen, leastMlen, mtypes, versionFormat, shapeFormat, tilesFormat, rangesFormat, counts, sealsFormat, runsFormat, total, headFormat, imageFormat}
 use Rattle.image.proofs.ImageLaws.{top-rlen, top-mlen, least-above}
 use Rattle.image_check.specs.declared.head.Version.{Version}
 use Rattle.image_check.specs.declared.head.Version.the-variants.{Versioned, VersionBad}
@@ -98,21 +98,21 @@ abbrev RangesOk : List ℕ → (version at : ℕ) → Ranges → Type 0
 RangesOk s version at (Ranged c a b) = RangedOk s version at c a b
 RangesOk s version at (RangesBad p) = (K : Seals → Format Described) → from (sealsFormat version K) s at ≡ stopped p
 
--- all numbers: the runs are read from a place on
+-- all numbers: whatever follows them, as the runs do, is read from a place on
 pub record HeadedOk (s : List ℕ) (m : Machine) (seals first count at : ℕ) : Type 0 where
   pub header : Header
   pub machine-is : m ≡ machineFrom header
   pub seals-are : header .seals ≡ rangesFound s seals first
   pub seals-few : seals ≤ 8
   pub seals-end : (b : ℕ) × (rangesEnd s seals first ≡ Behind b)
-  pub goes-on : parse imageFormat s ≡ from (runsFormat (describe header) count 0 (total (header .mlen))) s at
+  pub goes-on : (K : Header → ℕ → Format Described) → from (headFormat K) s 0 ≡ from (K header count) s at
   pub mlen-ok : header .mlen ≤ 16
   pub count-ok : count ≤ 2 ^ header .mlen
   pub there : at ≤ length s
 
 abbrev CountOk : List ℕ → Machine → (seals first : ℕ) → Number → Type 0
 CountOk s m seals a (Value count at) = HeadedOk s m seals a count at
-CountOk s m seals a (Fault p) = parse imageFormat s ≡ stopped p
+CountOk s m seals a (Fault p) = (K : Header → ℕ → Format Described) → from (headFormat K) s 0 ≡ stopped p
 
 abbrev HeadOk : List ℕ → Head → Type 0
 HeadOk s h = CountOk s (h .machine) (h .seals) (h .«seals_at») (h .count)
@@ -494,37 +494,42 @@ module _ (s : List ℕ) (version at : ℕ) where
 
 -- ---- all of them
 
+-- the format from a part on, by what follows the number of runs
+abbrev pub runsPart : {X : Type 0} → (Header → ℕ → Format X) → (rule elen r m t tm tk tn : ℕ) → Seals → ℕ → Format X
+runsPart K rule elen r m t tm tk tn rs c = K (numbersOf rule elen r m t tm tk tn rs) c
+
+abbrev pub countPart : {X : Type 0} → (Header → ℕ → Format X) → (rule elen r m t tm tk tn : ℕ) → Seals → Format X
+countPart K rule elen r m t tm tk tn rs = number (span 0 (2 ^ m)) (runsPart K rule elen r m t tm tk tn rs)
+
+abbrev pub sealsPart : {X : Type 0} → (Header → ℕ → Format X) → (version rule elen r m t tm tk tn : ℕ) → Format X
+sealsPart K version rule elen r m t tm tk tn = sealsFormat version (countPart K rule elen r m t tm tk tn)
+
+abbrev pub tilesPart : {X : Type 0} → (Header → ℕ → Format X) → (version rule elen r m : ℕ) → Format X
+tilesPart K version rule elen r m = tilesFormat elen (2 ^ (m - r)) (2 ^ (r - 3)) (sealsPart K version rule elen r m)
+
+-- the runs behind a machine's numbers
+abbrev runsBehind : Header → ℕ → Format Described
+runsBehind h count = runsFormat (describe h) count 0 (total (h .mlen))
+
 module _ (s : List ℕ) where
-  abbrev runsPart : (rule elen r m t tm tk tn : ℕ) → Seals → ℕ → Format Described
-  runsPart rule elen r m t tm tk tn rs c = runsFormat (describe (numbersOf rule elen r m t tm tk tn rs)) c 0 (total m)
-
-  abbrev countPart : (rule elen r m t tm tk tn : ℕ) → Seals → Format Described
-  countPart rule elen r m t tm tk tn rs = number (span 0 (2 ^ m)) (runsPart rule elen r m t tm tk tn rs)
-
-  abbrev sealsPart : (version rule elen r m t tm tk tn : ℕ) → Format Described
-  sealsPart version rule elen r m t tm tk tn = sealsFormat version (countPart rule elen r m t tm tk tn)
-
-  abbrev tilesPart : (version rule elen r m : ℕ) → Format Described
-  tilesPart version rule elen r m = tilesFormat elen (2 ^ (m - r)) (2 ^ (r - 3)) (sealsPart version rule elen r m)
-
-  parts : parse imageFormat s ≡ from (shapeFormat tilesPart) s 0
+  parts : parse imageFormat s ≡ from (headFormat runsBehind) s 0
   unfolding imageFormat
   parts = sym (from-start s imageFormat)
 
   module _ (version r m rule elen a : ℕ) (sh : ShapedOk s version r m rule elen a) where
-    at-tiles : parse imageFormat s ≡ from (tilesPart version rule elen r m) s a
-    at-tiles = parts ∙ sh .goes-on tilesPart
+    at-tiles : (K : Header → ℕ → Format Described) → from (headFormat K) s 0 ≡ from (tilesPart K version rule elen r m) s a
+    at-tiles K = sh .goes-on (tilesPart K)
 
     module _ (t tm tk tn b : ℕ) (ti : TiledOk s elen a (2 ^ (m - r)) (2 ^ (r - 3)) t tm tk tn b) where
-      at-seals : parse imageFormat s ≡ from (sealsPart version rule elen r m t tm tk tn) s b
-      at-seals = at-tiles ∙ ti .goes-on (sealsPart version rule elen r m)
+      at-seals : (K : Header → ℕ → Format Described) → from (headFormat K) s 0 ≡ from (sealsPart K version rule elen r m t tm tk tn) s b
+      at-seals K = at-tiles K ∙ ti .goes-on (sealsPart K version rule elen r m)
 
       module _ (c d e : ℕ) (se : RangedOk s version b c d e) where
         abbrev rs : Seals
         rs = rangesFound s c d
 
-        at-count : parse imageFormat s ≡ from (countPart rule elen r m t tm tk tn rs) s e
-        at-count = at-seals ∙ se .goes-on (countPart rule elen r m t tm tk tn)
+        at-count : (K : Header → ℕ → Format Described) → from (headFormat K) s 0 ≡ from (countPart K rule elen r m t tm tk tn rs) s e
+        at-count K = at-seals K ∙ se .goes-on (countPart K rule elen r m t tm tk tn)
 
         count-head : (n : Number) → numberAt s e 0 (2 ^ m) ≡ n → CountOk s (machineFrom (numbersOf rule elen r m t tm tk tn rs)) c d n
         count-head (Value l f) q = record {
@@ -533,25 +538,25 @@ module _ (s : List ℕ) where
           seals-are = refl;
           seals-few = se .few;
           seals-end = (e, se .ends);
-          goes-on = at-count ∙ from-number s e 0 (2 ^ m) l f (runsPart rule elen r m t tm tk tn rs) q;
+          goes-on = λ K. at-count K ∙ from-number s e 0 (2 ^ m) l f (runsPart K rule elen r m t tm tk tn rs) q;
           mlen-ok = sh .mlen-ok .1;
           count-ok = took s e 0 (2 ^ m) l f q .most;
           there = took s e 0 (2 ^ m) l f q .behind (se .there (ti .there (sh .there)));
         }
-        count-head (Fault p) q = at-count ∙ from-fault s e 0 (2 ^ m) p (runsPart rule elen r m t tm tk tn rs) q
+        count-head (Fault p) q = λ K. at-count K ∙ from-fault s e 0 (2 ^ m) p (runsPart K rule elen r m t tm tk tn rs) q
 
       seals-head : (x : Ranges) → RangesOk s version b x → HeadOk s (withRanges s rule elen r m t tm tk tn x)
       seals-head (Ranged c d e) se = count-head c d e se (numberAt s e 0 (2 ^ m)) refl
-      seals-head (RangesBad p) h = at-seals ∙ h (countPart rule elen r m t tm tk tn)
+      seals-head (RangesBad p) h = λ K. at-seals K ∙ h (countPart K rule elen r m t tm tk tn)
 
     tiles-head : (x : Tiles) → TilesOk s elen a (2 ^ (m - r)) (2 ^ (r - 3)) x → HeadOk s (withTiles s version rule elen r m x)
     tiles-head (Tiled t tm tk tn b) ti = seals-head t tm tk tn b ti (sealsAt s version b) (seals-right s version b)
-    tiles-head (TilesBad p) h = at-tiles ∙ h (sealsPart version rule elen r m)
+    tiles-head (TilesBad p) h = λ K. at-tiles K ∙ h (sealsPart K version rule elen r m)
 
   shape-head : (x : Shape) → ShapeOk s x → HeadOk s (withShape s x)
   unfolding headAt
   shape-head (Shaped version r m rule elen a) sh = tiles-head version r m rule elen a sh (tilesAt s elen a (2 ^ (m - r)) (2 ^ (r - 3))) (tiles-right s elen a (2 ^ (m - r)) (2 ^ (r - 3)))
-  shape-head (ShapeBad p) h = parts ∙ h tilesPart
+  shape-head (ShapeBad p) h = λ K. h (tilesPart K)
 
   -- what is found is what the format has
   head-right : HeadOk s (headIn s)
@@ -562,8 +567,12 @@ module _ (s : List ℕ) where
     head-is : HeadOk s h
     head-is = subst (HeadOk s) (sym is) head-right
 
+    -- whatever follows the numbers
+    pub head-stops : (p : ℕ) → h .count ≡ Fault p → (K : Header → ℕ → Format Described) → from (headFormat K) s 0 ≡ stopped p
+    head-stops p e = subst (CountOk s (h .machine) (h .seals) (h .«seals_at»)) e head-is
+
     pub head-bad : (p : ℕ) → h .count ≡ Fault p → parse imageFormat s ≡ stopped p
-    head-bad p e = subst (CountOk s (h .machine) (h .seals) (h .«seals_at»)) e head-is
+    head-bad p e = parts ∙ head-stops p e runsBehind
 
     pub head-known : (count at : ℕ) → h .count ≡ Value count at → HeadedOk s (h .machine) (h .seals) (h .«seals_at») count at
     head-known count at e = subst (CountOk s (h .machine) (h .seals) (h .«seals_at»)) e head-is
@@ -581,4 +590,4 @@ module _ (s : List ℕ) (m : Machine) (n f c a : ℕ) (h : HeadedOk s m n f c a)
 
   -- the runs as the format has them behind these numbers
   pub head-parse : parse imageFormat s ≡ mapped (λ d. describe (h .header) (d .body)) (runsFrom s a c 0 (2 * m .mlen))
-  head-parse = h .goes-on ∙ runs-with (h .header) c 0 (total (h .header .mlen)) s a ∙ ap (λ (x : ℕ). mapped (λ d. describe (h .header) (d .body)) (runsFrom s a c 0 (2 * x))) (sym mlen-is)
+  head-parse = parts s ∙ h .goes-on runsBehind ∙ runs-with (h .header) c 0 (total (h .header .mlen)) s a ∙ ap (λ (x : ℕ). mapped (λ d. describe (h .header) (d .body)) (runsFrom s a c 0 (2 * x))) (sym mlen-is)

@@ -1,0 +1,5 @@
+-- For code: what each return has to show.
+pub mod SalvageLaws
+-- The theorems of specs/Theorems.antt.
+pub mod Refusal
+pub mod Packing
