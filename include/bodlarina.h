@@ -49,8 +49,8 @@ extern "C" {
 
 /* The number is 10,000 times the major number, 100 times the minor one, and the patch number. While the major number is 0, the minor
  * one goes up when a block or a signature changes: then compile the host again. */
-#define BODLARINA_VERSION "0.6.0"
-#define BODLARINA_VERSION_NUMBER 600
+#define BODLARINA_VERSION "0.7.0"
+#define BODLARINA_VERSION_NUMBER 700
 
 /* The number of the library that is linked. It is BODLARINA_VERSION_NUMBER, or header and library do not belong together. */
 uint64_t bodlarina_version(void);
