@@ -1,5 +1,5 @@
-# Builds, installs and packs the library, its headers, its manual pages and the programs `product`, `disassemble`, `assemble` and
-# `bodlarina-bench`.
+# Builds, installs and packs the library, its headers, its manual pages and the programs `product`, `disassemble`, `assemble`,
+# `bodlarina-bench` and `bodlarina-salvage`.
 #
 #     make                     prove and build the library and the programs; needs the Rattle kit (rt)
 #     make install PREFIX=..   install them; needs no kit where they are built, as in an archive of `make dist`
@@ -14,7 +14,8 @@ VERSION := $(shell sed -n 's/^.define BODLARINA_VERSION "\(.*\)"$$/\1/p' include
 PACKAGE := bodlarina-$(VERSION)-linux-x86_64
 HEADERS := include/bodlarina.h include/bodlarina_words.h
 PROVED := product disassemble assemble
-MANUAL := man/bodlarina.3 $(PROVED:%=man/%.1) man/bodlarina-bench.1
+PROGRAMS := $(PROVED) bodlarina-bench bodlarina-salvage
+MANUAL := man/bodlarina.3 $(PROGRAMS:%=man/%.1)
 
 # In an archive of `make dist` the library and the programs stand built in lib/ and bin/.
 ifneq ($(wildcard lib/libbodlarina.a),)
@@ -24,17 +25,16 @@ else
 LIBRARY := target/staticlib/libbodlarina.a
 BIN := target/bin
 endif
-PROGRAMS := $(PROVED:%=$(BIN)/%)
-BENCH := $(BIN)/bodlarina-bench
+BUILT := $(PROGRAMS:%=$(BIN)/%)
 
-.PHONY: all lib $(PROVED) bench install uninstall dist pack test
+.PHONY: all lib $(PROVED) bench salvage install uninstall dist pack test
 
 all: lib $(PROVED)
-	$(MAKE) bench
+	$(MAKE) bench salvage
 
 ifeq ($(LIBRARY),lib/libbodlarina.a)
-lib $(PROVED) bench:
-	@echo "built already: $(LIBRARY), $(PROGRAMS), $(BENCH)"
+lib $(PROVED) bench salvage:
+	@echo "built already: $(LIBRARY), $(BUILT)"
 else
 lib:
 	rt staticlib bodlarina
@@ -45,8 +45,13 @@ $(PROVED):
 # over the library as it is built
 bench:
 	@test -f $(LIBRARY) || { echo "$(LIBRARY) is not built: make lib"; exit 1; }
-	mkdir -p $(dir $(BENCH))
-	$(CC) -std=c99 -O2 -Iinclude bench/*.c $(LIBRARY) -o $(BENCH)
+	mkdir -p $(BIN)
+	$(CC) -std=c99 -O2 -Iinclude bench/*.c $(LIBRARY) -o $(BIN)/bodlarina-bench
+
+salvage:
+	@test -f $(LIBRARY) || { echo "$(LIBRARY) is not built: make lib"; exit 1; }
+	mkdir -p $(BIN)
+	$(CC) -std=c99 -O2 -Iinclude -Ibench tools/salvage.c bench/files.c bench/kept.c $(LIBRARY) -o $(BIN)/bodlarina-salvage
 endif
 
 install:
@@ -57,14 +62,14 @@ install:
 	$(INSTALL) -m 644 $(HEADERS) $(DESTDIR)$(PREFIX)/include
 	sed -e 's|@PREFIX@|$(PREFIX)|' -e 's|@VERSION@|$(VERSION)|' bodlarina.pc.in >$(DESTDIR)$(PREFIX)/lib/pkgconfig/bodlarina.pc
 	$(INSTALL) -m 644 man/bodlarina.3 $(DESTDIR)$(PREFIX)/share/man/man3
-	for name in $(PROVED) bodlarina-bench; do if test -f $(BIN)/$$name; then $(INSTALL) -d $(DESTDIR)$(PREFIX)/bin && \
+	for name in $(PROGRAMS); do if test -f $(BIN)/$$name; then $(INSTALL) -d $(DESTDIR)$(PREFIX)/bin && \
 	  $(INSTALL) -m 755 $(BIN)/$$name $(DESTDIR)$(PREFIX)/bin && \
 	  $(INSTALL) -m 644 man/$$name.1 $(DESTDIR)$(PREFIX)/share/man/man1 || exit 1; fi; done
 
 uninstall:
 	rm -f $(addprefix $(DESTDIR)$(PREFIX)/,lib/libbodlarina.a include/bodlarina.h include/bodlarina_words.h \
 	  lib/pkgconfig/bodlarina.pc share/man/man3/bodlarina.3 \
-	  $(PROVED:%=bin/%) bin/bodlarina-bench $(PROVED:%=share/man/man1/%.1) share/man/man1/bodlarina-bench.1)
+	  $(PROGRAMS:%=bin/%) $(PROGRAMS:%=share/man/man1/%.1))
 
 dist: all pack
 
@@ -74,7 +79,7 @@ pack:
 	mkdir -p $(addprefix target/dist/$(PACKAGE)/,include lib bin man examples/bench docs)
 	cp $(HEADERS) target/dist/$(PACKAGE)/include
 	cp $(LIBRARY) target/dist/$(PACKAGE)/lib
-	cp $(PROGRAMS) $(BENCH) target/dist/$(PACKAGE)/bin
+	cp $(BUILT) target/dist/$(PACKAGE)/bin
 	cp $(MANUAL) target/dist/$(PACKAGE)/man
 	cp examples/*.c examples/*.out target/dist/$(PACKAGE)/examples
 	cp bench/examples/* target/dist/$(PACKAGE)/examples/bench

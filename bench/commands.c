@@ -184,7 +184,7 @@ static const struct {
     {"machine", run_machine}, {"memory", run_memory}, {"seal", run_seal},       {"bytes", run_bytes},     {"int8", run_int8},
     {"int16", run_int16},     {"int32", run_int32},   {"int64", run_int64},     {"float32", run_float32}, {"load", run_load},
     {"x", run_scalar},        {"v", run_vector},      {"group", run_group},     {"word", run_word},       {"product", run_product},
-    {"save", run_save},       {"restore", run_restore}, {"expect", run_expect}, {"show", run_show},
+    {"save", run_save},       {"restore", run_restore}, {"salvage", run_salvage}, {"expect", run_expect},   {"show", run_show},
 };
 
 int run_line(struct session *session)

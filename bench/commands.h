@@ -20,6 +20,7 @@ int run_load(struct session *session);
 /* images.c */
 int run_save(struct session *session);
 int run_restore(struct session *session);
+int run_salvage(struct session *session);
 
 /* looking.c */
 int run_expect(struct session *session);

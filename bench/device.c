@@ -148,6 +148,15 @@ uint64_t device_restore(struct device *device, const uint8_t *image, size_t leng
     return device->result;
 }
 
+uint64_t device_salvage(struct device *device, const uint8_t *image, size_t length, uint8_t report[BODLARINA_REPORT_BYTES])
+{
+    static uint8_t fresh[BODLARINA_IMAGE_BYTES_MOST(BODLARINA_MLEN_MOST)]; /* no image is longer */
+    uint64_t result = bodlarina_image_salvage(image, length, fresh, sizeof fresh, report, BODLARINA_REPORT_BYTES);
+    if (BODLARINA_ANSWER(result) != BODLARINA_DONE)
+        return answer(device, result);
+    return device_restore(device, fresh, (size_t)BODLARINA_LENGTH(result));
+}
+
 unsigned device_group(const struct device *device) { return device->group == 0 ? 1 : (unsigned)device->group; }
 
 uint64_t device_scalar(const struct device *device, unsigned slot)

@@ -91,6 +91,9 @@ uint8_t *device_image(struct device *device, size_t *length);
 /* The machine becomes the one whose image it is, whatever it was, and is then started. */
 uint64_t device_restore(struct device *device, const uint8_t *image, size_t length);
 
+/* The same with what a salvage keeps of an image that was cut or damaged, and its report; refused, the report stays. */
+uint64_t device_salvage(struct device *device, const uint8_t *image, size_t length, uint8_t report[BODLARINA_REPORT_BYTES]);
+
 /* How many vector registers a move takes. */
 unsigned device_group(const struct device *device);
 

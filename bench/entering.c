@@ -4,6 +4,7 @@
 #include <stdlib.h>
 #include <string.h>
 
+#include "files.h"
 #include "numbers.h"
 
 int run_memory(struct session *session)

@@ -1,22 +1,15 @@
-/* Commands that hand the machine over: save and restore. */
+/* Commands that hand the machine over: save, restore and salvage. */
 #include "commands.h"
 
 #include <inttypes.h>
 #include <stdio.h>
 #include <stdlib.h>
 
-/* A file of more bytes is not read; no image is so long. */
-#define IMAGE_BYTES_MOST 1048576
+#include "files.h"
+#include "kept.h"
 
-static int write_file(const char *path, const uint8_t *bytes, size_t length)
-{
-    FILE *file = fopen(path, "wb");
-    int written;
-    if (file == NULL)
-        return 0;
-    written = fwrite(bytes, 1, length, file) == length;
-    return fclose(file) == 0 && written;
-}
+/* A file of more bytes is not restored; no image is so long. */
+#define IMAGE_BYTES_MOST 1048576
 
 /* Writes the image, and says how long it is. */
 static int save_file(struct session *session, size_t at, const char *path)
@@ -41,18 +34,26 @@ int run_save(struct session *session)
     return take_file(session, &at, path) && needs_machine(session) && save_file(session, at, path);
 }
 
+/* Prints which machine the one of an image is. */
+static void write_machine(const struct session *session, const char *what)
+{
+    const struct device *device = &session->device;
+    printf("%s:%lu: %s: RLEN %" PRIu64 ", MLEN %" PRIu64 "%s%s", session->reader.path, session->reader.line, what, device->rlen, device->mlen,
+           device->elen == 64 ? ", ELEN 64" : "", device->rule == BODLARINA_HALVING ? ", halving" : "");
+}
+
 /* Reads an image, and says which machine it is of. */
 static int restore_file(struct session *session, size_t at, const char *path)
 {
-    struct device *device = &session->device;
     const char *fault;
     size_t length;
     char *image = read_file(path, IMAGE_BYTES_MOST, &length, &fault);
     if (image == NULL)
         return refuse(&session->reader, at, "this file %s", fault);
-    if (device_restore(device, (const uint8_t *)image, length) == 0)
-        printf("%s:%lu: restore: RLEN %" PRIu64 ", MLEN %" PRIu64 "%s%s\n", session->reader.path, session->reader.line, device->rlen,
-               device->mlen, device->elen == 64 ? ", ELEN 64" : "", device->rule == BODLARINA_HALVING ? ", halving" : "");
+    if (device_restore(&session->device, (const uint8_t *)image, length) == 0) {
+        write_machine(session, "restore");
+        printf("\n");
+    }
     report(session, "restore");
     free(image);
     return 1;
@@ -63,4 +64,31 @@ int run_restore(struct session *session)
     char path[PATH_BYTES];
     size_t at;
     return take_file(session, &at, path) && restore_file(session, at, path);
+}
+
+/* Reads what is kept of an image, and says which machine it is of and what that is. */
+static int salvage_file(struct session *session, size_t at, const char *path)
+{
+    uint8_t kept[BODLARINA_REPORT_BYTES];
+    char text[KEPT_TEXT_BYTES];
+    const char *fault;
+    size_t length;
+    char *image = read_front(path, SALVAGED_BYTES_MOST, &length, &fault);
+    if (image == NULL)
+        return refuse(&session->reader, at, "this file %s", fault);
+    if (device_salvage(&session->device, (const uint8_t *)image, length, kept) == 0) {
+        write_kept(kept, length, text);
+        write_machine(session, "salvage");
+        printf("; %s\n", text);
+    }
+    report(session, "salvage");
+    free(image);
+    return 1;
+}
+
+int run_salvage(struct session *session)
+{
+    char path[PATH_BYTES];
+    size_t at;
+    return take_file(session, &at, path) && salvage_file(session, at, path);
 }

@@ -6,35 +6,9 @@
 #include <stdlib.h>
 #include <string.h>
 
-/* ---- files and lines ---- */
+#include "files.h"
 
-/* Reads at most `room` bytes; *length is how many there were. */
-static int read_stream(FILE *file, char *buffer, size_t room, size_t *length)
-{
-    *length = fread(buffer, 1, room, file);
-    return !ferror(file);
-}
-
-char *read_file(const char *path, size_t most, size_t *length, const char **fault)
-{
-    FILE *file = fopen(path, "rb");
-    char *buffer = malloc(most + 1);
-    *fault = NULL;
-    if (file == NULL)
-        *fault = "cannot be opened";
-    else if (buffer == NULL)
-        *fault = "is not read: no room";
-    else if (!read_stream(file, buffer, most + 1, length))
-        *fault = "cannot be read";
-    else if (*length > most)
-        *fault = "is too long";
-    if (file != NULL)
-        fclose(file);
-    if (*fault == NULL)
-        return buffer;
-    free(buffer);
-    return NULL;
-}
+/* ---- lines ---- */
 
 int reader_open(struct reader *reader, const char *path)
 {

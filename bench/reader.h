@@ -61,7 +61,4 @@ int take_either(struct reader *reader, const char *what, uint64_t *value); /* -2
 /* The value of a hexadecimal digit, or -1. */
 int hex_digit(char c);
 
-/* A file of at most `most` bytes, read whole; NULL and a sentence in *fault if that can't be. The caller frees it. */
-char *read_file(const char *path, size_t most, size_t *length, const char **fault);
-
 #endif

@@ -1,4 +1,5 @@
-/* A host in C: takes over a machine from an image that a bench saved, shows what it holds, goes on with it, and hands it on.
+/* A host in C: takes over a machine from an image that a bench saved, shows what it holds, goes on with it, hands it on, and keeps what is whole
+ * of an image that was cut short.
  *
  *     make lib
  *     cc -std=c99 -Wall -Wextra -pedantic -Iinclude examples/image.c target/staticlib/libbodlarina.a -o image
@@ -115,6 +116,20 @@ static void store_readings(const char *what, uint64_t address)
     explain(what, bodlarina_bench_step(&bench, bodlarina_msce32_m(0, 10, 11)));
 }
 
+/* Keeps what is whole of an image that was cut short, and takes that machine over; the readings that are lost are not stored. */
+static void salvage(size_t length)
+{
+    uint8_t report[BODLARINA_REPORT_BYTES];
+    uint64_t result = bodlarina_image_salvage(image, length, again, sizeof again, report, sizeof report);
+    explain("salvage it", result);
+    if (BODLARINA_ANSWER(result) != BODLARINA_DONE)
+        return;
+    printf("  kept %" PRIu64 " of %" PRIu64 " runs, cut at byte %" PRIu64 "\n", bodlarina_get64(report + BODLARINA_REPORT_KEPT_AT),
+           bodlarina_get64(report + BODLARINA_REPORT_ANNOUNCED_AT), bodlarina_get64(report + BODLARINA_REPORT_PLACE_AT));
+    if (take_over("read what is kept", again, (size_t)BODLARINA_LENGTH(result)))
+        store_readings("store the readings", READINGS);
+}
+
 int main(int count, char **words)
 {
     size_t length = count == 2 ? read_image(words[1]) : 0;
@@ -135,6 +150,7 @@ int main(int count, char **words)
     store_readings("store them over the counts", 0);
 
     take_over("read it without its last byte", image, length - 1);
+    salvage(length - 1);
     image[1] = 5; /* the exponent of RLEN */
     take_over("read it with an RLEN of 32", image, length);
     return 0;

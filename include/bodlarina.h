@@ -49,8 +49,8 @@ extern "C" {
 
 /* The number is 10,000 times the major number, 100 times the minor one, and the patch number. While the major number is 0, the minor
  * one goes up when a block or a signature changes: then compile the host again. */
-#define BODLARINA_VERSION "0.7.0"
-#define BODLARINA_VERSION_NUMBER 700
+#define BODLARINA_VERSION "0.8.0"
+#define BODLARINA_VERSION_NUMBER 800
 
 /* The number of the library that is linked. It is BODLARINA_VERSION_NUMBER, or header and library do not belong together. */
 uint64_t bodlarina_version(void);
@@ -60,7 +60,7 @@ uint64_t bodlarina_version(void);
 /* Bits 15..0 of a result are the answer, bits 31..16 the row and bits 47..32 the column that answer 5 names.
  * Row and column are 0 with every other answer. So a call is done exactly when its result is 0; but a result of the functions on
  * images and on lines of text has in bits 63..16 the length of an image that was sized or written or of a line that was written, or the
- * place that answer 15 or the column that answer 17 names: there test BODLARINA_ANSWER(result).
+ * place that answer 15, and of bodlarina_image_salvage 14 too, or the column that answer 17 names: there test BODLARINA_ANSWER(result).
  * bodlarina_answer_text, below, has a sentence for each. */
 #define BODLARINA_ANSWER(result) ((unsigned)((result) & 0xffffu))
 #define BODLARINA_ROW(result) ((unsigned)(((result) >> 16) & 0xffffu))
@@ -376,15 +376,19 @@ uint64_t bodlarina_image_read(const uint8_t *image, size_t image_len,
                               uint8_t *registers, size_t registers_len,
                               uint8_t *marks, size_t marks_len);
 
-/* The bytes of a salvage's report: three numbers of 64 bits, low byte first (bodlarina_get64): the runs kept, the runs announced, and
- * the place of the fault, which is image_len if there is none. */
+/* report: three numbers of 64 bits, low byte first, at the bytes below: the runs kept, the runs announced, and the place of the fault as
+ * bodlarina_image_read names it, or image_len if there is none. */
 #define BODLARINA_REPORT_BYTES 24
+#define BODLARINA_REPORT_KEPT_AT 0
+#define BODLARINA_REPORT_ANNOUNCED_AT 8
+#define BODLARINA_REPORT_PLACE_AT 16
 
-/* Salvage of an image that was cut or damaged: keeps its header, up to and with the number of runs, and every run that ends before the
- * place of the fault, writes a fresh image of them to the front of room, and leaves the bytes past it. The length of the fresh image,
- * never more than image_len, is in bits 63..16, and the report is written. A sound image comes out as it is.
- * Answers: 0; 8 if report_len is not BODLARINA_REPORT_BYTES; then, with the place in bits 63..16, 15 if the header is at fault or cut
- * short, and 14 if the fresh image is longer than room_len. */
+/* Salvages an image that was cut short or damaged: keeps its header, up to and with the number of runs, and every run whose last byte lies before
+ * the place of the fault. Writes a fresh image of these, with their number, to the front of room, leaves the bytes past it, and writes the
+ * report. Its length is in bits 63..16 and never above image_len, so as much room is enough. In its machine the bytes of other runs are unmarked.
+ * An image without fault comes out as it is; of one that is only cut short, what is kept is as in the machine whose image it was.
+ * Answers: 0; 8 if report_len is not BODLARINA_REPORT_BYTES; then 15 if the header is at fault or cut short; then 14 if the fresh image is longer
+ * than room_len. With 15 and 14 the place of the fault, or image_len, is in bits 63..16; both counts are 0, and no report is written. */
 uint64_t bodlarina_image_salvage(const uint8_t *image, size_t image_len,
                                  uint8_t *room, size_t room_len,
                                  uint8_t *report, size_t report_len);

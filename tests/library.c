@@ -1,6 +1,6 @@
 /* What the headers say beside the words: the version, the texts, the number of a run's steps, that slot 0 of the scalars is not
- * written, float runs, images, larger machines, moves, sealed ranges, and how much stack a call uses. Writes a line for each, and ends with
- * 'N passed, M failed'. */
+ * written, float runs, images, larger machines, moves, sealed ranges, salvage, lines of assembler text, and how much stack a call uses. Writes a
+ * line for each, and ends with 'N passed, M failed'. */
 #define _GNU_SOURCE
 #include <inttypes.h>
 #include <pthread.h>
@@ -1314,6 +1314,223 @@ static void sealed_ranges(void)
     range_images();
 }
 
+/* ---- salvage ---- */
+
+static uint8_t salvage_room[1024], salvage_report[BODLARINA_REPORT_BYTES + 8];
+
+/* A salvage with so much room and report; all of both is filled with 9 before. */
+static uint64_t salvage_into(const uint8_t *bytes, size_t length, size_t room_len, size_t report_len)
+{
+    memset(salvage_room, 9, sizeof salvage_room);
+    memset(salvage_report, 9, sizeof salvage_report);
+    return bodlarina_image_salvage(bytes, length, salvage_room, room_len, salvage_report, report_len);
+}
+
+/* Refused with this result, and no byte changed. */
+static int salvage_gets(const uint8_t *bytes, size_t length, size_t room_len, size_t report_len, uint64_t result)
+{
+    return salvage_into(bytes, length, room_len, report_len) == result && all(salvage_room, 0, sizeof salvage_room, 9)
+           && all(salvage_report, 0, sizeof salvage_report, 9);
+}
+
+static int salvage_15(const uint8_t *bytes, size_t length, uint64_t place)
+{
+    return salvage_gets(bytes, length, sizeof salvage_room, BODLARINA_REPORT_BYTES, place << 16 | BODLARINA_DAMAGED)
+           && salvage_gets(bytes, length, 0, BODLARINA_REPORT_BYTES, place << 16 | BODLARINA_DAMAGED)
+           && salvage_gets(bytes, length, 0, 0, BODLARINA_BAD_ARGUMENTS);
+}
+
+/* What a salvage must keep. */
+struct kept {
+    uint64_t runs, announced, place;
+    size_t length; /* of the fresh image */
+    uint8_t fresh[sizeof salvage_room];
+};
+
+/* Done with all room and with just enough, the bytes past it and past the report stay; with a byte less, 14 and the place. */
+static int salvage_keeps(const uint8_t *bytes, size_t length, const struct kept *kept)
+{
+    const uint64_t report[] = {kept->runs, kept->announced, kept->place};
+    size_t rooms[] = {sizeof salvage_room, kept->length};
+    int right = 1;
+    for (unsigned i = 0; i < 2; i++) {
+        right = right && salvage_into(bytes, length, rooms[i], BODLARINA_REPORT_BYTES) == (uint64_t)kept->length << 16;
+        right = right && memcmp(salvage_room, kept->fresh, kept->length) == 0 && all(salvage_room, kept->length, sizeof salvage_room, 9);
+        right = right && are_numbers(salvage_report, report, 3) && all(salvage_report, BODLARINA_REPORT_BYTES, sizeof salvage_report, 9);
+    }
+    return right && salvage_gets(bytes, length, kept->length - 1, BODLARINA_REPORT_BYTES, kept->place << 16 | BODLARINA_NO_ROOM);
+}
+
+/* A number in groups of seven bits; how many bytes it takes. */
+static size_t put_groups(uint8_t *bytes, uint64_t number)
+{
+    size_t count = 0;
+    for (; number >= 128; number /= 128)
+        bytes[count++] = (uint8_t)(128 + number % 128);
+    bytes[count++] = (uint8_t)number;
+    return count;
+}
+
+/* The bytes before the number of runs, another number, and the runs from a byte to another. */
+static void make_fresh(struct kept *kept, const uint8_t *bytes, size_t count_at, size_t from, size_t to)
+{
+    memcpy(kept->fresh, bytes, count_at);
+    kept->length = count_at + put_groups(kept->fresh + count_at, kept->runs);
+    memcpy(kept->fresh + kept->length, bytes + from, to - from);
+    kept->length += to - from;
+}
+
+/* Of the images above, which end with the number of their two runs and these, of four bytes each: so many kept, of so many announced. */
+static int two_runs_keep(const uint8_t *bytes, size_t given, size_t length, uint64_t runs, uint64_t announced, uint64_t place)
+{
+    struct kept kept = {runs, announced, place, 0, {0}};
+    make_fresh(&kept, bytes, length - 9, length - 8, length - 8 + 4 * (size_t)runs);
+    return salvage_keeps(bytes, given, &kept);
+}
+
+/* Every cut: 15 in the header; behind it the runs that are whole. The place is that of a read. */
+static int cuts_right(const uint8_t *bytes, size_t length)
+{
+    int right = 1;
+    for (size_t cut = 0; cut <= length; cut++) {
+        right = right && (cut == length || place_of(bytes, cut) == cut);
+        if (cut < length - 8)
+            right = right && salvage_15(bytes, cut, cut);
+        else
+            right = right && two_runs_keep(bytes, cut, length, cut < length - 4 ? 0 : cut < length ? 1 : 2, 2, cut);
+    }
+    return right;
+}
+
+static void salvage_cuts(void)
+{
+    uint8_t image_2[sizeof image + 1] = {2};
+    memcpy(image_2 + 1, image, sizeof image);
+    int right = cuts_right(image, sizeof image) && cuts_right(image_2, sizeof image_2) && cuts_right(image_3, sizeof image_3);
+    right = right && cuts_right(image_none, sizeof image_none) && cuts_right(image_two, sizeof image_two);
+    check(right && cuts_right(image_eight, sizeof image_eight), "salvage of every cut of an image of each version");
+    right = salvage_into(image, sizeof image, sizeof salvage_room, BODLARINA_REPORT_BYTES) == (uint64_t)sizeof image << 16;
+    check(right && memcmp(salvage_room, image, sizeof image) == 0, "salvage of a sound image: as it is");
+}
+
+/* A byte of the first image changed: these runs are kept, or, with none announced, the header is refused. */
+static int salvage_changed(size_t at, uint8_t value, uint64_t runs, uint64_t announced, uint64_t place)
+{
+    uint8_t bytes[sizeof image];
+    memcpy(bytes, image, sizeof image);
+    bytes[at] = value;
+    if (place_of(bytes, sizeof bytes) != (place < sizeof bytes ? place : UINT64_MAX))
+        return 0;
+    return announced == 0 ? salvage_15(bytes, sizeof bytes, place) : two_runs_keep(bytes, sizeof bytes, sizeof bytes, runs, announced, place);
+}
+
+static void salvage_damaged(void)
+{
+    int right = salvage_changed(0, 0, 0, 0, 0) && salvage_changed(0, 5, 0, 0, 0) && salvage_changed(0, 129, 0, 0, 0); /* version */
+    right = right && salvage_changed(0, 2, 0, 0, 1) && salvage_changed(0, 4, 0, 0, 1) && salvage_changed(1, 5, 0, 0, 1);
+    right = right && salvage_changed(2, 6, 0, 0, 2) && salvage_changed(3, 3, 0, 0, 3) && salvage_changed(4, 3, 0, 0, 4);
+    right = right && salvage_changed(9, 0, 0, 0, 9) && salvage_changed(10, 129, 0, 0, 10); /* a longer form; 129 runs and more */
+    check(right, "salvage of a damaged header: 15 and the place, before 14, and nothing changes");
+    right = salvage_changed(10, 1, 1, 1, 15) && salvage_changed(10, 3, 1, 3, 15);                         /* a run too many, a run too few */
+    right = right && salvage_changed(11, 133, 0, 2, 12);                                                  /* a gap of 261 */
+    right = right && salvage_changed(12, 0, 0, 2, 12) && salvage_changed(15, 0, 1, 2, 15);                /* no length, no gap */
+    right = right && salvage_changed(15, 253, 1, 2, 15) && salvage_changed(16, 2, 1, 2, 16);              /* a gap past the registers */
+    right = right && salvage_changed(17, 2, 1, 2, 17) && salvage_changed(13, 12, 2, 2, sizeof image);     /* a length past them; a byte of a run */
+    check(right, "salvage of damaged runs: those before the place");
+}
+
+static void salvage_longer(void)
+{
+    uint8_t longer[700];
+    memset(longer, 1, sizeof longer);
+    memcpy(longer, image, sizeof image);
+    int right = 1;
+    for (size_t length = sizeof image + 1; length <= sizeof longer; length++)
+        right = right && two_runs_keep(longer, length, sizeof image, 2, 2, sizeof image);
+    check(right, "salvage of an image with bytes too many: all of it, and its end");
+}
+
+static void salvage_reports(void)
+{
+    static const size_t lengths[] = {0, 1, 23, 25, 32};
+    int right = 1;
+    for (size_t i = 0; i < sizeof lengths / sizeof lengths[0]; i++)
+        for (size_t cut = 0; cut <= sizeof image; cut++)
+            right = right && salvage_gets(image, cut, sizeof salvage_room, lengths[i], BODLARINA_BAD_ARGUMENTS)
+                    && salvage_gets(image, cut, 0, lengths[i], BODLARINA_BAD_ARGUMENTS);
+    check(right, "a report's block of another length: 8 first, and nothing changes");
+}
+
+/* RLEN 64 and MLEN 256, 200 runs of a byte: their number takes two bytes, and that of the kept ones often one. */
+static void salvage_many(void)
+{
+    uint8_t bytes[11 + 3 * 200] = {1, 6, 8, 0, 0, 0, 0, 0, 0, 200, 1};
+    int right = 1;
+    for (size_t i = 0; i < 200; i++) {
+        bytes[11 + 3 * i] = bytes[12 + 3 * i] = 1;
+        bytes[13 + 3 * i] = (uint8_t)(7 * i);
+    }
+    for (size_t cut = 0; cut <= sizeof bytes; cut++) {
+        struct kept kept = {cut < 11 ? 0 : (cut - 11) / 3, 200, cut, 0, {0}};
+        make_fresh(&kept, bytes, 9, 11, 11 + 3 * (size_t)kept.runs);
+        right = right && (cut < 11 ? salvage_15(bytes, cut, cut) : salvage_keeps(bytes, cut, &kept));
+    }
+    check(right, "salvage of every cut of an image of 200 runs");
+}
+
+/* The longest image, which image_longest made: its number of runs stands at 172, its runs from 175 on, the first of four bytes. */
+static int longest_right(size_t cut)
+{
+    uint64_t runs = 1 + (cut - 179) / 3, number_bytes = runs < 128 ? 1 : runs < 16384 ? 2 : 3;
+    const uint64_t report[] = {runs, 65536, cut};
+    uint8_t number[10];
+    size_t length = (size_t)(172 + number_bytes + 4 + 3 * (runs - 1));
+    memset(long_again, 9, sizeof long_again);
+    uint64_t result = bodlarina_image_salvage(long_image, cut, long_again, sizeof long_again, salvage_report, BODLARINA_REPORT_BYTES);
+    int right = result == (uint64_t)length << 16 && put_groups(number, runs) == number_bytes && memcmp(long_again, long_image, 172) == 0;
+    right = right && memcmp(long_again + 172, number, (size_t)number_bytes) == 0;
+    right = right && memcmp(long_again + 172 + number_bytes, long_image + 175, length - 172 - (size_t)number_bytes) == 0;
+    return right && all(long_again, length, sizeof long_again, 9) && are_numbers(salvage_report, report, 3);
+}
+
+static void salvage_longest(void)
+{
+    size_t whole = 175 + 4 + 3 * 65535;
+    int right = 1;
+    for (size_t cut = 179; cut < 179 + 3 * 130; cut++)
+        right = right && longest_right(cut);
+    for (size_t cut = 179 + 3 * 16380; cut < 179 + 3 * 16390; cut++)
+        right = right && longest_right(cut);
+    for (size_t cut = 1000; cut < whole; cut += 4999)
+        right = right && longest_right(cut);
+    for (size_t cut = whole - 7; cut <= whole; cut++)
+        right = right && longest_right(cut);
+    check(right, "salvage of cuts of the longest image");
+}
+
+/* What is kept is read: the same numbers, the marks and bytes of the runs kept, and no others. */
+static void salvage_read(void)
+{
+    static const uint64_t numbers[] = {64, 128, 1, 2, 2, 3, 5, 300, 0, 32, 1};
+    uint64_t result = salvage_into(image, sizeof image - 1, sizeof salvage_room, BODLARINA_REPORT_BYTES);
+    fill();
+    int right = bodlarina_bench_image_read(&small, salvage_room, (size_t)BODLARINA_LENGTH(result)) == 0 && are_numbers(small_machine, numbers, 11);
+    right = right && small_registers[1] == 11 && small_registers[2] == 0 && small_registers[0] == 7 && all(small_registers, 3, SMALL_BYTES, 7);
+    right = right && small_marks[0] == 0 && all(small_marks, 1, 3, 1) && all(small_marks, 3, SMALL_BYTES, 0);
+    check(right, "what a salvage kept is read: the machine without the run that was cut");
+}
+
+static void salvages(void)
+{
+    salvage_cuts();
+    salvage_damaged();
+    salvage_longer();
+    salvage_reports();
+    salvage_many();
+    salvage_longest();
+    salvage_read();
+}
+
 /* ---- stack: a call in a thread whose stack was painted ---- */
 
 enum { STACK_STRIDE = 1208 };
@@ -1342,6 +1559,12 @@ static void write_image(void)
 }
 
 static void read_image(void) { stack_result = bodlarina_bench_image_read(&large, long_image, stack_image_length); }
+
+static void salvage_image(void)
+{
+    stack_result = BODLARINA_ANSWER(bodlarina_image_salvage(long_image, stack_image_length - 1, long_again, sizeof long_again, salvage_report,
+                                                            BODLARINA_REPORT_BYTES));
+}
 
 static void *call(void *function)
 {
@@ -1466,7 +1689,7 @@ static int measure_type(unsigned width, unsigned times)
     right = right && measure_word(bodlarina_msettilek(1, 0)) && measure_word(bodlarina_msettilen(1, 0));
     right = right && measure_transfers(width, width + times) && measure_arithmetic(times) && measure_moves(width);
     right = right && (mtype != BODLARINA_E32 || measure_word(bodlarina_mfma_mm(0, 0, 1)));
-    right = right && measure(image_size) && measure(write_image) && measure(read_image);
+    right = right && measure(image_size) && measure(write_image) && measure(read_image) && measure(salvage_image);
     return right && measure_plan(BODLARINA_PRODUCT, (uint64_t)8 << width, (uint64_t)1 << times)
            && measure_plan(BODLARINA_A_TRANSPOSED, (uint64_t)8 << width, (uint64_t)1 << times);
 }
@@ -1577,6 +1800,7 @@ int main(void)
     larger();
     moves();
     sealed_ranges();
+    salvages();
     text_lines();
     stack();
     printf("%d passed, %d failed\n", passed, failed);

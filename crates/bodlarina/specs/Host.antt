@@ -5,9 +5,9 @@ use Rattle.run.specs.declared.Plan.{Plan}
 
 -- ---- the version
 
--- what a call of bodlarina_version returns: 10,000 times the major number, 100 times the minor one, and the patch number. 0.7.0
+-- what a call of bodlarina_version returns: 10,000 times the major number, 100 times the minor one, and the patch number. 0.8.0
 abbrev pub hostVersion : ℕ
-hostVersion = 700
+hostVersion = 800
 
 -- ---- a plan
 

@@ -14,7 +14,7 @@ ghost use Rattle.bodlarina.specs.Host.{hostVersion};
 pub extern "C" fn bodlarina_version() -> u64
     ensures { λ r. ⌜ r ≡ hostVersion ⌝ }
 {
-    700
+    800
 }
 
 // Starts a machine of this ELEN and rule on the lent register bytes and marks, and writes its numbers into the machine block.
