@@ -8,8 +8,9 @@
  * is one step of a product run: a word is handed out and carried out.
  *
  * The library holds nothing. The host owns every buffer and lends it for one call; a call allocates nothing, keeps nothing and
- * calls nothing back. Each function is proved to do what its definition says for EVERY argument, so a wrong length or a damaged
- * block is answered and never undefined. The host has to ensure only that
+ * calls nothing back. Each function of the library is proved to do what its definition says for EVERY argument, so a wrong length or a
+ * damaged block is answered and never undefined; those that stand in the headers, marked BODLARINA_INLINE, are plain C over them, tested
+ * and not proved. The host has to ensure only that
  *   - each pointer points to as many readable (and, unless const, writable) bytes as the length beside it says (seals to as many
  *     numbers), and is not NULL, not even at length 0: then give the address of any byte or number;
  *   - the buffers of one call do not overlap;
@@ -48,7 +49,7 @@ extern "C" {
 /* ---- Version ---------------------------------------------------------------------------------------------- */
 
 /* The number is 10,000 times the major number, 100 times the minor one, and the patch number. While the major number is 0, the minor
- * one goes up when a block or a signature changes: then compile the host again. */
+ * one goes up when a block or a signature changes or a function comes: then compile the host again. */
 #define BODLARINA_VERSION "0.8.0"
 #define BODLARINA_VERSION_NUMBER 800
 
@@ -219,7 +220,8 @@ uint64_t bodlarina_seal(uint64_t start, uint64_t length,
                         const uint8_t *registers, size_t registers_len,
                         const uint8_t *marks, size_t marks_len);
 
-/* Carries out one instruction word. rs1 and rs2 are read from scalars, rd is written there. Moves read and write the vector file.
+/* Carries out one instruction word. rs1 and rs2 are read from scalars, rd is written there; mtype and the tile sizes stand in the machine
+ * block, which a setting word writes. Moves read and write the vector file.
  * Answers: 0, or the first that applies in the order 8, then 10, 11, 1, 12 (the word itself), then 2 to 6, 13, 7.
  * 8 means that the state is at fault: lengths or an ELEN that are not permitted, a buffer of the wrong size, an mtype that
  * cannot arise with that ELEN, a tile size above its maximum at 8 bits, another rule than 0 and 1, more than eight sealed ranges, one
@@ -280,7 +282,8 @@ uint64_t bodlarina_step(uint32_t word, uint64_t group,
 #define BODLARINA_HANDED_ADDRESS_AT 8
 #define BODLARINA_HANDED_STRIDE_AT 16
 
-/* Starts a run: on 0 the run block is written; refused, it stays as it was, with whatever run it held. */
+/* Starts a run: on 0 the run block is written; refused, it stays as it was, with whatever run it held.
+ * Answers: those above; 8 too for a run block that is not BODLARINA_RUN_BYTES long. */
 uint64_t bodlarina_run_start(uint64_t kind, uint64_t sew, uint64_t factor, uint64_t m, uint64_t k, uint64_t n,
                              uint64_t a, int64_t a_stride, uint64_t b, int64_t b_stride, uint64_t c, int64_t c_stride,
                              const uint8_t *machine, size_t machine_len,
@@ -291,7 +294,7 @@ uint64_t bodlarina_run_start(uint64_t kind, uint64_t sew, uint64_t factor, uint6
 
 /* Hands out the next step and moves the run past it, for a host that carries it out with bodlarina_step: the word,
  * with scalars 10 and 11 as given and the others 0.
- * Answers: 0; 8 past the last step, and for a run block of the wrong length or with numbers that no run can have. */
+ * Answers: 0; 8 past the last step, for a run or handed block of the wrong length, and for a run block with numbers that no run can have. */
 uint64_t bodlarina_run_next(uint8_t *run, size_t run_len, uint8_t *handed, size_t handed_len);
 
 /* RETURNS HOW MANY STEPS THE RUN HAS IN ALL, not a result: 1 + M * (1 + N * (3 + 4 * K)), with M, K and N the numbers of blocks that m,
@@ -305,7 +308,8 @@ BODLARINA_INLINE int bodlarina_run_is_over(const uint8_t *run, size_t run_len)
     return bodlarina_run_steps(run, run_len) != 0 && bodlarina_get64(run + BODLARINA_RUN_NEXT_AT) == BODLARINA_RUN_OVER;
 }
 
-/* One turn: hands out the next step and carries it out with scalars of the run's own.
+/* One turn: hands out the next step and carries it out with scalars of the run's own. It writes the run and the machine block, and what the
+ * word writes.
  * Answers: 0; 8 as bodlarina_run_next and bodlarina_step; and those of the word. A run that was started here, on
  * buffers that nothing else has written since, gets 0 for each of its steps and 8 after the last. On another machine
  * than that of its start, of another rule or ELEN for instance, each word is answered as by bodlarina_step, and C need not be
@@ -327,8 +331,9 @@ uint64_t bodlarina_run_turns(uint64_t turns,
                              uint8_t *marks, size_t marks_len,
                              uint8_t *memory, size_t memory_len);
 
-/* A whole run in one call: starts it and takes all its turns. Answers are those of the start. On 0 C is the product,
- * and the steps block of 8 bytes has the number of steps, low byte first. */
+/* A whole run in one call: starts it and takes all its turns, which leave their last mtype and tile sizes in the machine block. Answers are
+ * those of the start, and 8 for a steps block that is not BODLARINA_STEPS_BYTES long. On 0 C is the product, and the steps block has the
+ * number of steps, low byte first. */
 #define BODLARINA_STEPS_BYTES 8
 uint64_t bodlarina_run(uint64_t kind, uint64_t sew, uint64_t factor, uint64_t m, uint64_t k, uint64_t n,
                        uint64_t a, int64_t a_stride, uint64_t b, int64_t b_stride, uint64_t c, int64_t c_stride,
