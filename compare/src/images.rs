@@ -107,10 +107,10 @@ pub fn check_read(image: &[u8], before: &Lent, tally: &mut Tally) -> Result<(u64
 // ---------------------------------------------------------------------------
 // Machines and buffers
 
-const PATTERNS: u64 = 13;
+pub const PATTERNS: u64 = 13;
 
 /// One of the patterns of marks.
-fn mark(random: &mut Random, pattern: u64, mlen: u64, marks: &mut [u8]) {
+pub fn mark(random: &mut Random, pattern: u64, mlen: u64, marks: &mut [u8]) {
     let length = marks.len();
     let percent = random.pick(&[1, 5, 50, 95]);
     let stretches = random.bytes(length);
@@ -184,7 +184,7 @@ pub fn other_buffers(random: &mut Random, mlen: u64) -> Lent {
 }
 
 /// The image of a machine of small lengths, with few runs.
-fn small_image(random: &mut Random) -> Vec<u8> {
+pub fn small_image(random: &mut Random) -> Vec<u8> {
     // The fifth has more rows than bytes in a row.
     let old = [(64, 128), (64, 128), (128, 256), (512, 1024), (64, 1024)];
     let lengths = match random.below(100) {
@@ -609,7 +609,7 @@ pub fn check_damaged(
 
 /// An image cut before a byte, and with that byte changed, put in twice, preceded by
 /// another or left out.
-fn damages(random: &mut Random, image: &[u8], at: usize) -> Vec<Vec<u8>> {
+pub fn damages(random: &mut Random, image: &[u8], at: usize) -> Vec<Vec<u8>> {
     let (front, byte, rest) = (&image[..at], image[at], &image[at + 1..]);
     let other = random.next() as u8;
     let flipped = byte ^ 1 << random.below(8);
@@ -660,7 +660,7 @@ pub fn long_groups(number: u128, more: usize) -> Vec<u8> {
 
 /// The numbers of an image, each with the most that can stand there, and the bytes
 /// that follow it.
-fn numbers(Parts { machine, runs }: &Parts) -> Vec<(u64, u64, Vec<u8>)> {
+pub fn numbers(Parts { machine, runs }: &Parts) -> Vec<(u64, u64, Vec<u8>)> {
     let total = model::register_bytes(machine.mlen) as u64;
     let plain = |number: u64, most: u64| (number, most, vec![]);
     let rows = machine.mlen / machine.rlen;
@@ -696,7 +696,7 @@ fn numbers(Parts { machine, runs }: &Parts) -> Vec<(u64, u64, Vec<u8>)> {
 
 /// Another number near the one that stands there or the most that can, or the same
 /// with more groups than it needs: the number, and how many more.
-fn other_number(random: &mut Random, number: u64, most: u64) -> (u128, usize) {
+pub fn other_number(random: &mut Random, number: u64, most: u64) -> (u128, usize) {
     let (number, most) = (number as u128, most as u128);
     let near = random.below(4) as u128;
     match random.below(7) {

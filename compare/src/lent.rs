@@ -2,6 +2,7 @@
 
 use crate::library;
 use model::moves::Vectors;
+use model::salvage::Report;
 use model::{Answer, Bench, Handed, Lengths, Machine, Plan, Run, Seal, Seals, MOST_SEALS};
 use std::fmt::Write;
 
@@ -287,6 +288,20 @@ pub fn second_image_read(image: &[u8], lent: &mut Lent) -> u64 {
             read.set_machine(&machine);
             *lent = read;
             0
+        }
+    }
+}
+
+/// The result of the salvage of an image, as the C interface packs it.
+pub fn second_salvage(image: &[u8], room: &mut [u8], report: &mut [u8]) -> u64 {
+    if report.len() != library::REPORT_BYTES {
+        return BAD_ARGUMENTS.number;
+    }
+    match model::salvage::salvage(image, room) {
+        Err((number, Report { place, .. })) => number | (place as u64) << 16,
+        Ok((length, Report { kept, announced, place })) => {
+            report.copy_from_slice(&words_to_bytes(&[kept, announced, place as u64]));
+            (length as u64) << 16
         }
     }
 }

@@ -11,6 +11,7 @@ pub const VECTORS_BYTES: usize = 512;
 pub const RUN_BYTES: usize = 160;
 pub const STEP_BYTES: usize = 24;
 pub const STEPS_BYTES: usize = 8;
+pub const REPORT_BYTES: usize = 24;
 
 /// Wrappers of functions that take numbers, then buffers. Each call passes
 /// slices that live through it and do not overlap. Buffers that the header calls
@@ -57,6 +58,7 @@ calls! {
     image_size = bodlarina_image_size(; machine, registers, marks);
     image_write = bodlarina_image_write(; machine, registers, marks, image);
     image_read = bodlarina_image_read(; image, machine, registers, marks);
+    image_salvage = bodlarina_image_salvage(; image, room, report);
     word_text = bodlarina_word_text(word: u32; text);
     text_word = bodlarina_text_word(; text, word);
 }

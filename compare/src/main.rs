@@ -24,6 +24,7 @@ mod random;
 mod renewed;
 mod rules;
 mod runs;
+mod salvage;
 mod seals;
 mod sheet;
 mod starts;
@@ -38,7 +39,7 @@ mod words;
 use std::time::Instant;
 use suite::{Context, Outcome, Suite};
 
-const SUITES: [Suite; 88] = [
+const SUITES: [Suite; 99] = [
     ("bench sheet", sheet::bench_sheet),
     ("machine starts", starts::machine_starts),
     ("codes", steps::codes),
@@ -114,6 +115,17 @@ const SUITES: [Suite; 88] = [
     ("damaged images", images::damaged_images),
     ("image numbers", images::image_numbers),
     ("random images", images::random_images),
+    ("salvaged cuts", salvage::cuts::salvaged_cuts),
+    ("salvaged machines", salvage::cuts::salvaged_machines),
+    ("sound salvages", salvage::cuts::sound_salvages),
+    ("salvaged damage", salvage::damage::salvaged_damage),
+    ("salvaged heads", salvage::damage::salvaged_heads),
+    ("salvaged numbers", salvage::damage::salvaged_numbers),
+    ("salvaged strings", salvage::damage::salvaged_strings),
+    ("salvage rooms", salvage::damage::salvage_rooms),
+    ("salvage reports", salvage::damage::salvage_reports),
+    ("salvage hosts", salvage::hosts::salvage_hosts),
+    ("salvage stand-ins", salvage::stand_ins::salvage_stand_ins),
     ("lines of rows", text::lines::lines_of_rows),
     ("lines of codes", text::lines::lines_of_codes),
     ("random lines", text::lines::random_lines),

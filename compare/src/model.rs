@@ -1,6 +1,6 @@
 //! The second program: the rules of the scope paper and of the change requests
 //! that have landed (One, Two, Three, Four, Six, Seven, Eight, Ten, Eleven, Twelve,
-//! Fourteen; Nine asks for nothing new), each as one plain function.
+//! Thirteen, Fourteen; Nine asks for nothing new), each as one plain function.
 //!
 //! It is written to be read beside the paper, not to be fast. Sizes and
 //! addresses are whole numbers (`i128`), bytes are looked at one by one, and a
@@ -14,6 +14,8 @@ pub mod floats;
 pub mod images;
 #[path = "model_moves.rs"]
 pub mod moves;
+#[path = "model_salvage.rs"]
+pub mod salvage;
 #[path = "model_text.rs"]
 pub mod text;
 

@@ -273,8 +273,14 @@ pub fn parts(image: &[u8]) -> Result<Parts, usize> {
 
 /// An accepted image that begins with some bytes, if there is one.
 pub fn completed(bytes: &[u8]) -> Option<Vec<u8>> {
+    completed_parts(bytes).map(|(image, _)| image)
+}
+
+/// The same, and what it says.
+pub fn completed_parts(bytes: &[u8]) -> Option<(Vec<u8>, Parts)> {
     let mut reader = Reader { image: bytes.to_vec(), at: 0, complete: true };
-    reader.parts().ok().map(|_| reader.image)
+    let parts = reader.parts().ok()?;
+    Some((reader.image, parts))
 }
 
 /// Makes the machine whose image it is; or the answer's number and place.

@@ -31,7 +31,8 @@
 //! and 13 only on a machine or memory that was changed between turns, or for a run
 //! block that no start made.
 //!
-//! The size of an image gives 0 or 8, writing one 14 too, reading one 0, 8 or 15. The
+//! The size of an image gives 0 or 8, writing one 14 too, reading one 0, 8 or 15, the
+//! salvage of one (request Thirteen) 0, 8, 14 or 15. The
 //! start of a machine and a further sealed range give 0, 8 or 16 (request Twelve).
 //!
 //! The line of a word (request Fourteen) gives 0 and 14 for every family of ours, and 10, 11,
@@ -62,6 +63,7 @@ pub enum Call {
     ImageSize,
     ImageWrite,
     ImageRead,
+    ImageSalvage,
     // Lines, by the name of the family's first row.
     LineOf(&'static str),
     LineOfOther,
@@ -81,8 +83,8 @@ pub struct Tally {
     by_ranges: [u64; MOST_SEALS + 1],
     /// Runs compared after each turn, by kind, by the machine's rule and by ELEN.
     pub runs: [[[u64; ELENS.len()]; RULES.len()]; KINDS.len()],
-    /// Images written and read that were accepted, by version.
-    pub images: [[u64; VERSIONS]; 2],
+    /// Images written, read and salvaged that were accepted, by version.
+    pub images: [[u64; VERSIONS]; 3],
     /// Words that were held to their lines, and lines that were read.
     lines: [u64; 2],
     /// How often each reason of answer 9 was met alone, by kind.
@@ -159,6 +161,7 @@ pub fn reachable(call: Call, number: u64) -> bool {
         Call::ImageSize => return [0, 8].contains(&number),
         Call::ImageWrite => return [0, 8, 14].contains(&number),
         Call::ImageRead => return [0, 8, 15].contains(&number),
+        Call::ImageSalvage => return [0, 8, 14, 15].contains(&number),
         Call::LineOfOther => return [1, 10].contains(&number),
         Call::LineRead(_) | Call::Assembled => return [0, 8, BAD_LINE].contains(&number),
         Call::OtherLineRead => return [8, BAD_LINE].contains(&number),
@@ -261,9 +264,9 @@ impl Tally {
         self.runs[kind as usize][rule as usize][usize::from(elen == 64)] += 1;
     }
 
-    /// An image that was written (0) or read (1).
-    pub fn image(&mut self, read: usize, version: u8) {
-        self.images[read][version as usize - 1] += 1;
+    /// An image that was written (0), read (1) or salvaged (2).
+    pub fn image(&mut self, call: usize, version: u8) {
+        self.images[call][version as usize - 1] += 1;
     }
 
     fn get(&self, call: Call, number: u64) -> u64 {
@@ -289,6 +292,7 @@ impl Tally {
         calls.push((Call::ImageSize, "image size".to_string()));
         calls.push((Call::ImageWrite, "image write".to_string()));
         calls.push((Call::ImageRead, "image read".to_string()));
+        calls.push((Call::ImageSalvage, "image salvage".to_string()));
         calls.push((Call::Disassembled, "disassemble".to_string()));
         calls.push((Call::Assembled, "assemble".to_string()));
         calls
@@ -395,8 +399,8 @@ impl Tally {
         let whole: Vec<u64> = KINDS.map(|kind| self.get(Call::WholeRun(kind), 0)).to_vec();
         let text = format!(
             "{} steps, by number of ranges {:?}; by kind, rule and ELEN {:?} runs turn by turn, by kind {whole:?} whole runs \
-             in one call; by version {:?} images written, {:?} read; {} lines of words, {} lines read",
-            self.steps, self.by_ranges, self.runs, self.images[0], self.images[1], self.lines[0], self.lines[1]
+             in one call; by version {:?} images written, {:?} read, {:?} salvaged; {} lines of words, {} lines read",
+            self.steps, self.by_ranges, self.runs, self.images[0], self.images[1], self.images[2], self.lines[0], self.lines[1]
         );
         let enough = self.runs.iter().all(|by_rule| {
             let of_rules = by_rule.map(|by_elen| by_elen.iter().sum::<u64>());
