@@ -127,7 +127,7 @@ fn store(word: u32, form: Form, matrix: Matrix, count: usize, width: usize) -> I
 }
 
 // Whether these are an accumulator and two tile registers.
-fn are_registers(md: usize, ms1: usize, ms2: usize) -> bool
+pub fn are_registers(md: usize, ms1: usize, ms2: usize) -> bool
     ensures { λ r. ⌜ r ≡ every (ltb md 2 ∷ ltb ms1 8 ∷ ltb ms2 8 ∷ []) ⌝ }
 {
     if md >= 2 {
@@ -282,7 +282,7 @@ fn move_in(word: u32, form: Form) -> Instruction
 }
 
 // The table's entry for a word.
-pub fn number_of(word: u32) -> u8
+fn number_of(word: u32) -> u8
     ensures { λ r. ⌜ r ≡ entryOf word ⌝ }
 {
     let high = word / 268435456;
@@ -456,7 +456,7 @@ fn meant(word: u32, number: u8) -> Instruction
 }
 
 // Bits 24..20 of a word are what the entry with this number fixes.
-fn rest_right(word: u32, number: u8) -> bool
+pub fn rest_right(word: u32, number: u8) -> bool
     ensures { λ r. ⌜ r ≡ restRight number word ⌝ }
 {
     let rest = high_field(word);

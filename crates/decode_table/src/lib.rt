@@ -147,3 +147,30 @@ pub fn entry(high: u32, middle: usize, form: usize) -> u8
         _ => CODES_1111[middle][form],
     }
 }
+
+// The same, for lines of text: a function that has two callers is not compiled into a step.
+pub fn entry_for_text(high: u32, middle: usize, form: usize) -> u8
+    requires { ⌜ high < 16 ⌝ }
+    requires { ⌜ middle < 8 ⌝ }
+    requires { ⌜ form < 8 ⌝ }
+    ensures { λ r. ⌜ r ≡ getD (getD (getD numbers high []) middle []) form 0 ⌝ }
+{
+    match high {
+        0b0000 => CODES_0000[middle][form],
+        0b0001 => CODES_0001[middle][form],
+        0b0010 => CODES_0010[middle][form],
+        0b0011 => CODES_0011[middle][form],
+        0b0100 => CODES_0100[middle][form],
+        0b0101 => CODES_0101[middle][form],
+        0b0110 => CODES_0110[middle][form],
+        0b0111 => CODES_0111[middle][form],
+        0b1000 => CODES_1000[middle][form],
+        0b1001 => CODES_1001[middle][form],
+        0b1010 => CODES_1010[middle][form],
+        0b1011 => CODES_1011[middle][form],
+        0b1100 => CODES_1100[middle][form],
+        0b1101 => CODES_1101[middle][form],
+        0b1110 => CODES_1110[middle][form],
+        _ => CODES_1111[middle][form],
+    }
+}

@@ -4,6 +4,7 @@ ghost use mathlib.Core.Bool.{true};
 ghost use Prim.Native.Nat.{_+_, _-_, _≤_, _<_};
 ghost use lib.ListN.{length, drop};
 ghost use Rattle.machine.specs.Listing.{listing};
+ghost use Rattle.decode_table.specs.Table.{entryOf};
 ghost use Rattle.lines.specs.Parts.{Wrote};
 ghost use Rattle.assembly.specs.Lines.{shown, operandOf, pieces, fill, fieldsOf, line};
 ghost use Rattle.assembly.specs.Theorems.{hasLine};
@@ -115,21 +116,28 @@ fn put_row(out: &mut [u8], at: usize, texts: &[u8], from: usize, word: u32) -> u
     next
 }
 
-// The row of a word that has a line, by its number in the listing.
-fn row_of(index: &[u8], word: u32) -> usize
-    requires { ⌜ (finds (now index) 0 listing ≡ true) × (length (now index) ≡ 512) × (hasLine (line word) ≡ true) ⌝ }
+// The row of a word that has a line, by the decode table's entry for it.
+fn row_of(index: &[u8], number: u8, word: u32) -> usize
+    requires { ⌜ (finds (now index) 0 listing ≡ true) × (length (now index) ≡ 512) × (number ≡ entryOf word) × (hasLine (line word) ≡ true) ⌝ }
     ensures { λ r. ⌜ (r < 79) × (fill (pieces (rowAt r .text)) (fieldsOf (pieces (rowAt r .text)) word) ≡ lineText (line word)) ⌝ }
 {
-    index[decode::number_of(word) as usize] as usize
+    index[number as usize] as usize
 }
 
 // The line of a word that has one, by the table of the rows and the index to it.
-pub fn put_line(out: &mut [u8], at: usize, rows: &[u8], index: &[u8], word: u32) -> usize
-    requires { ⌜ (now rows ≡ table) × (finds (now index) 0 listing ≡ true) × (length (now index) ≡ 512) × (hasLine (line word) ≡ true) ⌝ }
+pub fn put_line(
+    out: &mut [u8],
+    at: usize,
+    rows: &[u8],
+    index: &[u8],
+    number: u8,
+    word: u32,
+) -> usize
+    requires { ⌜ (now rows ≡ table) × (finds (now index) 0 listing ≡ true) × (length (now index) ≡ 512) × (number ≡ entryOf word) × (hasLine (line word) ≡ true) ⌝ }
     requires { ⌜ at + length (lineText (line word)) ≤ length (now out) ⌝ }
     ensures { λ r. ⌜ Wrote (now (out .entry)) at (now (out .exit)) r (lineText (line word)) ⌝ }
 {
-    let k = row_of(index, word);
+    let k = row_of(index, number, word);
     put_row(out, at, rows, 32 * k + 4, word)
 }
 

@@ -5,6 +5,7 @@ use line_write::INDEX;
 use line_write::ROWS;
 use text_answers::answer_number;
 use text_answers::code_answer;
+use text_answers::number_of;
 use text_answers::put_refused;
 ghost use mathlib.Core.Path.{_≡_};
 ghost use mathlib.Core.Bool.{true, false};
@@ -107,9 +108,10 @@ fn put_listed(out: &mut [u8], at: usize, rows: &[u8], index: &[u8], word: u32) -
     requires { ⌜ at + length (listed word (line word)) ≤ length (now out) ⌝ }
     ensures { λ r. ⌜ Wrote (now (out .entry)) at (now (out .exit)) r (listed word (line word)) ⌝ }
 {
-    let answer = code_answer(decode::decode(word));
+    let number = number_of(word);
+    let answer = code_answer(word, number);
     if answer_number(answer) == 0 {
-        return line_write::put_line(out, at, rows, index, word);
+        return line_write::put_line(out, at, rows, index, number, word);
     }
     put_refused(out, at, answer)
 }

@@ -1,13 +1,26 @@
 // The answers to words and lines of text: their numbers and columns, and a refused line as it is printed.
 use assembly::Texted;
-use machine::Instruction;
+use decode::are_registers;
+use decode::high_field;
+use decode::low_field;
+use decode::middle_field;
+use decode::rest_right;
+use decode_table::entry_for_text;
 use machine::Wrong;
 ghost use mathlib.Core.Path.{_≡_};
+ghost use mathlib.Core.Bool.{cond};
+ghost use mathlib.Core.List.{[], _∷_};
 ghost use Prim.Native.Nat.{_+_, _≤_};
+ghost use lib.Dec.{ltb};
 ghost use lib.ListN.{length};
 ghost use Rattle.machine.specs.Answers.{number};
 ghost use Rattle.machine.specs.Refusals.{wordAnswer};
+ghost use Rattle.machine.specs.Tests.{every};
+ghost use Rattle.machine.specs.Listing.{listing, decode, ranged};
+ghost use Rattle.machine.specs.declared.Wrong.the-variants.{Register};
+ghost use Rattle.decode_table.specs.Table.{entryOf, meant};
 ghost use Rattle.lines.specs.Parts.{Wrote};
+ghost use Rattle.assembly.specs.declared.Texted.the-variants.{Done, NoLine};
 ghost use Rattle.assembly.specs.Answers.{textReply, codeAnswer};
 ghost use Rattle.assembly.specs.Programs.{refusal, refused};
 
@@ -48,14 +61,89 @@ pub fn answer_column(answer: Texted) -> u64
     }
 }
 
-// What stepping answers for the code of a word; done, if it has a line.
-pub fn code_answer(instruction: Instruction) -> Texted
-    ensures { λ r. ⌜ r ≡ codeAnswer instruction ⌝ }
+// The decode table's entry for a word.
+pub fn number_of(word: u32) -> u8
+    ensures { λ r. ⌜ r ≡ entryOf word ⌝ }
 {
-    if let Instruction::Illegal { wrong } = instruction {
-        return Texted::NoLine { wrong: wrong };
+    let high = word / 268435456;
+    let middle = (word / 33554432 % 8) as usize;
+    let form = (word / 4096 % 8) as usize;
+    entry_for_text(high, middle, form)
+}
+
+fn are_accumulators(md: usize, ms1: usize) -> bool
+    ensures { λ r. ⌜ r ≡ every (ltb md 2 ∷ ltb ms1 2 ∷ []) ⌝ }
+{
+    if md >= 2 {
+        return false;
     }
-    Texted::Done
+    ms1 < 2
+}
+
+// By whether a word's registers are in range.
+fn range_answer(right: bool) -> Texted
+    ensures { λ r. ⌜ r ≡ cond right Done (NoLine Register) ⌝ }
+{
+    if right {
+        return Texted::Done;
+    }
+    Texted::NoLine {
+        wrong: Wrong::Register,
+    }
+}
+
+// At an entry's number, which registers its words name: t a tile register and c an accumulator in bits 11..7 (loads and stores of A and B;
+// those of C, and moves to an accumulator), v an accumulator in bits 19..15 (moves from one), m an accumulator and two tile registers
+// (multiplies), e two accumulators (element-wise), s none that could be out of range (settings). A dot is left out, a minus no entry.
+const SHAPES: [u8; 256] = *b"-ssssssssttttttttccccttttttttccc\
+cmmm.me.e.ee.e.ee.e.ee.e.eeee...\
+................................\
+.............ttttttttccccttttttt\
+tcccc...........................\
+................................\
+................................\
+.....vc....vc...................";
+
+// By the entry with this number, and the registers that a word names.
+fn number_answer(word: u32, number: u8) -> Texted
+    ensures { λ r. ⌜ r ≡ codeAnswer (ranged (meant number word listing)) ⌝ }
+{
+    let low = low_field(word);
+    let middle = middle_field(word);
+    let shape = SHAPES[number as usize];
+    match shape {
+        b't' => range_answer(low < 8),
+        b'c' => range_answer(low < 2),
+        b'v' => range_answer(middle < 2),
+        b'm' => range_answer(are_registers(low, middle, high_field(word))),
+        b'e' => range_answer(are_accumulators(low, middle)),
+        b's' => Texted::Done,
+        b'-' => Texted::NoLine {
+            wrong: Wrong::Unlisted,
+        },
+        _ => Texted::NoLine {
+            wrong: Wrong::LeftOut,
+        },
+    }
+}
+
+// What stepping answers for the code of a word that has this entry; done, if it has a line.
+pub fn code_answer(word: u32, number: u8) -> Texted
+    requires { ⌜ number ≡ entryOf word ⌝ }
+    ensures { λ r. ⌜ r ≡ codeAnswer (decode word) ⌝ }
+{
+    if word % 128 != 119 {
+        return Texted::NoLine {
+            wrong: Wrong::Opcode,
+        };
+    }
+    let right = rest_right(word, number);
+    if !right {
+        return Texted::NoLine {
+            wrong: Wrong::Unlisted,
+        };
+    }
+    number_answer(word, number)
 }
 
 // A number and a column.

@@ -7,11 +7,13 @@ use line_write::ROWS;
 use text_answers::answer_column;
 use text_answers::answer_number;
 use text_answers::code_answer;
+use text_answers::number_of;
 ghost use mathlib.Core.Path.{_≡_};
 ghost use mathlib.Core.Bool.{true, cond};
 ghost use mathlib.Core.List.{_++_};
 ghost use lib.Dec.{leb};
 ghost use lib.ListN.{length, drop};
+ghost use Rattle.decode_table.specs.Table.{entryOf};
 ghost use Rattle.assembly.specs.Answers.{textReply};
 ghost use Rattle.assembly.specs.Lines.{line};
 ghost use Rattle.assembly.specs.Theorems.{hasLine};
@@ -30,15 +32,15 @@ fn packed_text(answer: Texted, size: u64) -> u64
 }
 
 // Writes the line of a word that has one to the front of the text, where it fits; returns its length.
-fn write_line(word: u32, text: &mut [u8]) -> usize
-    requires { ⌜ hasLine (line word) ≡ true ⌝ }
+fn write_line(word: u32, number: u8, text: &mut [u8]) -> usize
+    requires { ⌜ (number ≡ entryOf word) × (hasLine (line word) ≡ true) ⌝ }
     ensures { λ r. ⌜ r ≡ length (lineText (line word)) ⌝ }
     ensures { λ r. ⌜ now (text .exit) ≡ cond (leb r (length (now (text .entry)))) (lineText (line word) ++ drop r (now (text .entry))) (now (text .entry)) ⌝ }
 {
     let rows = ROWS;
     let index = INDEX;
     let mut own = [0u8; 32];
-    let size = line_write::put_line(&mut own, 0, &rows, &index, word);
+    let size = line_write::put_line(&mut own, 0, &rows, &index, number, word);
     if text.len() < size {
         return size;
     }
@@ -49,12 +51,13 @@ fn write_line(word: u32, text: &mut [u8]) -> usize
 pub fn word_text(word: u32, text: &mut [u8]) -> u64
     ensures { λ r. ⌜ textOut r (now (text .exit)) ≡ hostWordText word (now (text .entry)) ⌝ }
 {
-    let answer = code_answer(decode::decode(word));
+    let number = number_of(word);
+    let answer = code_answer(word, number);
     if answer_number(answer) != 0 {
         return packed_text(answer, 0);
     }
     let room = text.len();
-    let size = write_line(word, text);
+    let size = write_line(word, number, text);
     if room < size {
         return packed_text(Texted::NoRoom, 0);
     }

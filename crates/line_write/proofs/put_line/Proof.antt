@@ -17,7 +17,7 @@ text c =
     text-at (s .args .rows .now) (s .pre .0 .0) (c .row-of .result) (c .row-of .ensures .0) (s .args .word) ∙ c .row-of .ensures .1
 
 row-of-requires : tie.Need-row-of-requires
-row-of-requires c κs = (c .before .before .before .pre .0 .1, c .before .before .before .pre .0 .2, c .before .before .before .pre .0 .3)
+row-of-requires c κs = (c .before .before .before .pre .0 .1, c .before .before .before .pre .0 .2, c .before .before .before .pre .0 .3, c .before .before .before .pre .0 .4)
 
 mul-put-row : tie.Need-mul-put-row
 mul-put-row c = omega (arith, c .before .row-of .ensures .0)

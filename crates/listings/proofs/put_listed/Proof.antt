@@ -15,7 +15,7 @@ use Rattle.listings.proofs.put_listed.Statement.{statement}
 use Rattle.listings.proofs.put_listed.Tie as tie
 
 answer : (c : tie.After-code-answer) → c .code-answer .result ≡ codeAnswer (decode (c .before .before .before .before .before .args .word))
-answer c = c .code-answer .ensures ∙ ap codeAnswer (c .before .decode .ensures)
+answer c = c .code-answer .ensures
 
 has : (c : tie.Then1) → (hasLine (line (c .before .before .before .before .before .before .before .args .word)) ≡ true) × (listed (c .before .before .before .before .before .before .before .args .word) (line (c .before .before .before .before .before .before .before .args .word)) ≡ lineText (line (c .before .before .before .before .before .before .before .args .word)))
 has c = listed-line (c .before .before .before .before .before .before .before .args .word) (c .before .before .code-answer .result) (answer (c .before .before)) (sym (c .before .answer-number .ensures) ∙ c .if1 .taken)
@@ -23,11 +23,11 @@ has c = listed-line (c .before .before .before .before .before .before .before .
 lacks : (c : tie.Else1) → listed (c .before .before .before .before .before .before .before .args .word) (line (c .before .before .before .before .before .before .before .args .word)) ≡ refused (c .before .before .code-answer .result)
 lacks c = listed-none (c .before .before .before .before .before .before .before .args .word) (c .before .before .code-answer .result) (answer (c .before .before)) (λ e. c .if1 .left (c .before .answer-number .ensures ∙ e))
 
-decode-requires : tie.Need-decode-requires
-decode-requires c κs = search needs
+number-of-requires : tie.Need-number-of-requires
+number-of-requires c κs = search needs
 
 code-answer-requires : tie.Need-code-answer-requires
-code-answer-requires c κs = search needs
+code-answer-requires c κs = c .number-of .ensures
 
 answer-number-requires : tie.Need-answer-number-requires
 answer-number-requires c κs = search needs
@@ -36,7 +36,7 @@ put-line-requires : tie.Need-put-line-requires
 put-line-requires c κs =
     let h = has (c .before) in
     let p = c .before .before .before .before .before .before .before .before .pre in
-    ((p .0 .0, p .0 .1, p .0 .2, h .0), omega (arith, p .1, ap length (h .1)))
+    ((p .0 .0, p .0 .1, p .0 .2, c .before .before .before .before .number-of .ensures, h .0), omega (arith, p .1, ap length (h .1)))
 
 same-length : tie.Need-same-length
 same-length c = search needs
@@ -57,7 +57,7 @@ pub put-listed-spec : {M : Type 1} → statement M
 put-listed-spec =
     tie.close
     (tie.spec
-    decode-requires
+    number-of-requires
     code-answer-requires
     answer-number-requires
     put-line-requires

@@ -1,47 +1,55 @@
-use mathlib.Core.Path.{_≡_, refl, sym, ap}
-use mathlib.Core.List.{List, [], _∷_}
-use Prim.Native.Nat.{ℕ}
-use types.Run.{OneOf}
-use denote.Enum.Declared.{tagOf}
-use Rattle.machine.proofs.Instruction.{the-type}
+use mathlib.Core.Path.{_≡_, sym, ap, ap₂, _∙_}
+use mathlib.Core.Bool.{Bool, cond}
+use Prim.Native.Nat.{ℕ, _%_}
+use native.Mathlib.Omega.{arith}
+use borrow.Author.Tests.{not-true, not-false}
+use Rattle.machine.specs.declared.Wrong.the-variants.{Unlisted}
 use Rattle.machine.specs.declared.Instruction.{Instruction}
-use Rattle.machine.specs.declared.Instruction.the-variants.{Illegal, SetTypeImmediate, SetType, SetTileImmediate, SetTile, Load, Store, Multiply, Combine, Scale, ScaleImmediate, FloatMultiply, MoveOut, MoveIn}
-use Rattle.machine.proofs.MatchLaws.{one-of}
-use Rattle.machine.proofs.TestLaws.{false-true}
-use Rattle.assembly.specs.declared.Texted.the-variants.{Done}
+use Rattle.machine.specs.declared.Instruction.the-variants.{Illegal}
+use Rattle.machine.specs.Listing.{bits, listing, ranged, decode}
+use Rattle.decode_table.specs.Table.{entryOf, restRight, meant}
+use Rattle.decode_table.proofs.TableLaws.{wrong-opcode, table-decodes}
 use Rattle.assembly.specs.Answers.{codeAnswer}
 use borrow.Author.Needs.{needs}
 use Rattle.text_answers.proofs.code_answer.Statement.{statement}
 use Rattle.text_answers.proofs.code_answer.Tie as tie
 
-abbrev others : List ℕ
-others = 1 ∷ 2 ∷ 3 ∷ 4 ∷ 5 ∷ 6 ∷ 7 ∷ 8 ∷ 9 ∷ 10 ∷ 11 ∷ 12 ∷ 13 ∷ []
+opcode : (word : ℕ) → word % 128 ≡ 119 → bits 6 0 word ≡ 0b1110111
+opcode word h = omega arith
 
--- a variant other than the first
-legal : (i : Instruction) → OneOf others (tagOf the-type i) → Done ≡ codeAnswer i
-legal (Illegal wrong) h = absurd (false-true (sym (one-of others 0 h)))
-legal (SetTypeImmediate rd immediate) h = refl
-legal (SetType rd rs1) h = refl
-legal (SetTileImmediate dimension rd immediate) h = refl
-legal (SetTile dimension rd rs1) h = refl
-legal (Load form matrix width md rs1 rs2) h = refl
-legal (Store form matrix width ms3 rs1 rs2) h = refl
-legal (Multiply factor md ms1 ms2) h = refl
-legal (Combine sum factor md ms1) h = refl
-legal (Scale factor md ms1 rs2) h = refl
-legal (ScaleImmediate factor md ms1 immediate) h = refl
-legal (FloatMultiply md ms1 ms2) h = refl
-legal (MoveOut form vd ms1 rs2) h = refl
-legal (MoveIn form md vs1 rs2) h = refl
+abbrev read : (number word : ℕ) → Bool → Instruction
+read number word right = cond right (ranged (meant number word listing)) (Illegal Unlisted)
 
-enum-known-instruction : tie.Need-enum-known-instruction
-enum-known-instruction c = search needs
+-- read by its entry and a test of bits 24..20
+reads : (word number : ℕ) (right : Bool) → word % 128 ≡ 119 → number ≡ entryOf word → right ≡ restRight number word → read number word right ≡ decode word
+reads word number right o n r =
+    ap₂ (λ (t : Bool) (k : ℕ). read k word t) (r ∙ ap (λ (k : ℕ). restRight k word) n) n
+    ∙ table-decodes word (opcode word o)
 
 returns : tie.Need-returns
-returns c = sym (ap codeAnswer (c .before .instruction .given .1))
+returns c = ap codeAnswer (wrong-opcode (c .before .args .word) (λ e. c .if1 .taken (omega (arith, e))))
+
+rest-right-requires : tie.Need-rest-right-requires
+rest-right-requires c κs = search needs
 
 returns-2 : tie.Need-returns-2
-returns-2 c = legal (c .before .args .instruction) (c .match .keys2)
+returns-2 c =
+    let s = c .before .before in
+    let a = s .before .args in
+    let r = c .before .rest-right in
+    ap codeAnswer (sym (ap (read (a .number) (a .word)) (not-true (r .result) (c .if2 .taken))) ∙ reads (a .word) (a .number) (r .result) (s .if1 .left) (s .before .pre) (r .ensures))
+
+number-answer-requires : tie.Need-number-answer-requires
+number-answer-requires c κs = search needs
+
+returns-3 : tie.Need-returns-3
+returns-3 c =
+    let h = c .before in
+    let s = h .before .before in
+    let a = s .before .args in
+    let r = h .before .rest-right in
+    c .number-answer .ensures
+    ∙ ap codeAnswer (sym (ap (read (a .number) (a .word)) (not-false (r .result) (h .if2 .left))) ∙ reads (a .word) (a .number) (r .result) (s .if1 .left) (s .before .pre) (r .ensures))
 
 pub code-answer-spec : {M : Type 1} → statement M
-code-answer-spec = tie.close (tie.spec enum-known-instruction returns returns-2)
+code-answer-spec = tie.close (tie.spec returns rest-right-requires returns-2 number-answer-requires returns-3)

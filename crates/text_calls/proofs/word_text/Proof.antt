@@ -1,4 +1,4 @@
-use mathlib.Core.Path.{_≡_, sym, ap, _∙_}
+use mathlib.Core.Path.{_≡_, sym, _∙_}
 use mathlib.Core.Bool.{true}
 use borrow.Author.Tests.{eq-eqb}
 use Rattle.machine.specs.Listing.{decode}
@@ -12,7 +12,7 @@ use Rattle.text_calls.proofs.word_text.Statement.{statement}
 use Rattle.text_calls.proofs.word_text.Tie as tie
 
 answer : (c : tie.After-code-answer) → c .code-answer .result ≡ codeAnswer (decode (c .before .before .before .args .word))
-answer c = c .code-answer .ensures ∙ ap codeAnswer (c .before .decode .ensures)
+answer c = c .code-answer .ensures
 
 has : (c : tie.Else1) → hasLine (line (c .before .before .before .before .before .args .word)) ≡ true
 has c =
@@ -20,11 +20,11 @@ has c =
     let z : c .before .answer-number .result ≡ 0 = c .if1 .left in
     told (c .before .before .before .before .before .args .word) a (answer (c .before .before)) ∙ eq-eqb (textReply a .number) 0 (sym (c .before .answer-number .ensures) ∙ z)
 
-decode-requires : tie.Need-decode-requires
-decode-requires c κs = search needs
+number-of-requires : tie.Need-number-of-requires
+number-of-requires c κs = search needs
 
 code-answer-requires : tie.Need-code-answer-requires
-code-answer-requires c κs = search needs
+code-answer-requires c κs = c .number-of .ensures
 
 answer-number-requires : tie.Need-answer-number-requires
 answer-number-requires c κs = search needs
@@ -36,7 +36,7 @@ returns : tie.Need-returns
 returns c = text-refused (c .before .before .before .before .before .before .args .word) (c .before .before .before .before .before .before .args .text .now) (c .before .before .before .code-answer .result) (answer (c .before .before .before)) (λ e. c .before .if1 .taken (c .before .before .answer-number .ensures ∙ e)) (c .packed-text .result) (c .packed-text .ensures)
 
 write-line-requires : tie.Need-write-line-requires
-write-line-requires c κs = has (c .before)
+write-line-requires c κs = (c .before .before .before .before .number-of .ensures, has (c .before))
 
 packed-text-requires-2 : tie.Need-packed-text-requires-2
 packed-text-requires-2 c κs = search needs
@@ -48,7 +48,7 @@ returns-2 : tie.Need-returns-2
 returns-2 c =
     let s = c .before .before .before .before .before .before .before .before .before .before .before in
     let w = c .before .before .before .before .write-line in
-    text-long (s .args .word) (s .args .text .now) (has (c .before .before .before .before .before .before)) (w .result) (w .ensures .0) (c .before .if2 .taken) (w .last .1 .0) (w .ensures .1) (c .packed-text2 .result) (c .packed-text2 .ensures)
+    text-long (s .args .word) (s .args .text .now) (has (c .before .before .before .before .before .before)) (w .result) (w .ensures .0) (c .before .if2 .taken) (w .last .1 .1 .0) (w .ensures .1) (c .packed-text2 .result) (c .packed-text2 .ensures)
 
 packed-text-requires-3 : tie.Need-packed-text-requires-3
 packed-text-requires-3 c κs = search needs
@@ -60,13 +60,13 @@ returns-3 : tie.Need-returns-3
 returns-3 c =
     let s = c .before .before .before .before .before .before .before .before .before .before .before in
     let w = c .before .before .before .before .write-line in
-    text-done (s .args .word) (s .args .text .now) (has (c .before .before .before .before .before .before)) (w .result) (w .ensures .0) (c .before .if2 .left) (w .last .1 .0) (w .ensures .1) (c .packed-text3 .result) (c .packed-text3 .ensures)
+    text-done (s .args .word) (s .args .text .now) (has (c .before .before .before .before .before .before)) (w .result) (w .ensures .0) (c .before .if2 .left) (w .last .1 .1 .0) (w .ensures .1) (c .packed-text3 .result) (c .packed-text3 .ensures)
 
 pub word-text-spec : {M : Type 1} → statement M
 word-text-spec =
     tie.close
     (tie.spec
-    decode-requires
+    number-of-requires
     code-answer-requires
     answer-number-requires
     packed-text-requires

@@ -37,7 +37,7 @@ slice-aggregate-put-line-3 c = search needs
 
 put-line-requires : tie.Need-put-line-requires
 unfolding table listing
-put-line-requires c κs = ((refl, refl, refl, c .before .before .before .before .pre), omega (arith, text-short (c .before .before .before .before .args .word) (omega arith)))
+put-line-requires c κs = ((refl, refl, refl, c .before .before .before .before .pre .0, c .before .before .before .before .pre .1), omega (arith, text-short (c .before .before .before .before .args .word) (omega arith)))
 
 returns : tie.Need-returns
 returns c =

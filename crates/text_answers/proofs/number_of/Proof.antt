@@ -1,0 +1,29 @@
+use mathlib.Core.Path.{_≡_, ap₂, _∙_}
+use mathlib.Core.List.{[]}
+use Prim.Native.Nat.{ℕ, _/_, _%_}
+use native.Mathlib.Omega.{arith}
+use lib.ListN.{getD}
+use Rattle.machine.specs.Listing.{bits}
+use Rattle.decode_table.specs.Table.{numbers}
+use borrow.Author.Needs.{needs}
+use Rattle.text_answers.proofs.number_of.Statement.{statement}
+use Rattle.text_answers.proofs.number_of.Tie as tie
+
+cast-middle : tie.Need-cast-middle
+cast-middle c = search needs
+
+cast-form : tie.Need-cast-form
+cast-form c = search needs
+
+entry-for-text-requires : tie.Need-entry-for-text-requires
+entry-for-text-requires c κs = search needs
+
+returns : tie.Need-returns
+returns c =
+    let w = c .before .args .word in
+    let high : w / 268435456 ≡ bits 31 28 w = omega arith in
+    let middle : w / 33554432 % 8 ≡ bits 27 25 w = omega arith in
+    c .entry-for-text .ensures ∙ ap₂ (λ (h m : ℕ). getD (getD (getD numbers h []) m []) (bits 14 12 w) 0) high middle
+
+pub number-of-spec : {M : Type 1} → statement M
+number-of-spec = tie.close (tie.spec cast-middle cast-form entry-for-text-requires returns)
