@@ -10,6 +10,7 @@ use lib.Dec.{leb, eqb}
 use lib.ListN.{length}
 use lib.IntN.{ℤ}
 use borrow.Author.Tests.{leb-true, eqb-true}
+use Rattle.width.specs.Blocks.{Choice}
 use Rattle.width.specs.Bounds.{mostPitch, mostSize}
 use Rattle.element.specs.Element.{Width}
 use Rattle.machine.specs.declared.Machine.{Machine}
@@ -76,7 +77,7 @@ fit n p x hx h =
     let k : 1 ≤ x = ⊎-elim (λ e. omega arith) (λ g. ⊎-elim (λ e. omega arith) (λ g. ⊎-elim (λ e. omega arith) (λ e. omega arith) g) g) hx in
     (e, omega (arith, mul-le-mul-right n k))
 
-module _ (grant : ℕ → ℕ → ℕ → ℕ) (m : Machine) (registers marks mem : List ℕ) (ok : sound m registers marks ≡ true) where
+module _ (grant : Choice) (m : Machine) (registers marks mem : List ℕ) (ok : sound m registers marks ≡ true) where
   abbrev M : Parameters
   M = parameters grant m
 

@@ -11,7 +11,7 @@ use lib.Seq.{ext-getD}
 use lib.IntN.{ℤ, _+ℤ_, _*ℤ_, +ℤ-assoc}
 use Rattle.width.specs.Reduce.{signed, reduce, sumℤ}
 use Rattle.width.proofs.ReduceLaws.{sumℤ-add, sumℤ-cong, reduce-lt, accumulate}
-use Rattle.width.specs.Tile.{le, byteOf, putTile, In}
+use Rattle.width.specs.Tile.{getLe, byteOf, putTile, In}
 use Rattle.width.proofs.TileLaws.{length-putTile, putTile-out, putTile-at, putTile-le, putTile-keeps, putTile-rows, pitched}
 use Rattle.width.proofs.PutLaws.{putTile-low}
 use Rattle.width.proofs.ElementLaws.{pow-256}
@@ -144,7 +144,7 @@ abbrev Rule : Type 0
 Rule = ℕ → ℕ → (ℕ → ℕ) → (ℕ → ℕ) → ℕ
 
 abbrev ruleRow : Rule → List ℕ → (cw w pitch k a b c j : ℕ) → ℕ
-ruleRow rule s cw w pitch k a b c j = rule k (le s (c + j * cw) cw) (λ l. le s (a + l * w) w) (λ l. le s (b + l * pitch + j * w) w)
+ruleRow rule s cw w pitch k a b c j = rule k (getLe s (c + j * cw) cw) (λ l. getLe s (a + l * w) w) (λ l. getLe s (b + l * pitch + j * w) w)
 
 -- it reads the first k of them, fits cw bytes, and goes on from a value of its own
 pub record Joins (cw : ℕ) (rule : Rule) : Type 0 where
@@ -174,31 +174,31 @@ module _ (rule : Rule) (cw w pitch cpitch n a b c m : ℕ) (s : List ℕ) (joins
       (λ i j li lj. ap (λ (x : ℕ). x % 256 ^ cw) (same i j li lj))
       ∙ ap (putTile rowAt m n cw (ruled (k + o))) er ∙ tile-over c cpitch m n cw (ruled k) (ruled (k + o)) s wide rooms
     where
-      kept : (p v : ℕ) → p + v ≤ c → le r p v ≡ le s p v
-      kept p v h = ap (λ (l : List ℕ). le l p v) er ∙ putTile-keeps rowAt m n cw (ruled k) s p v (λ i li q x y. omega (arith, x, y))
+      kept : (p v : ℕ) → p + v ≤ c → getLe r p v ≡ getLe s p v
+      kept p v h = ap (λ (l : List ℕ). getLe l p v) er ∙ putTile-keeps rowAt m n cw (ruled k) s p v (λ i li q x y. omega (arith, x, y))
 
-      old : (i j : ℕ) → i < m → j < n → le r (rowAt i + j * cw) cw ≡ ruled k i j
+      old : (i j : ℕ) → i < m → j < n → getLe r (rowAt i + j * cw) cw ≡ ruled k i j
       old i j li lj =
-          ap (λ (l : List ℕ). le l (rowAt i + j * cw) cw) er
+          ap (λ (l : List ℕ). getLe l (rowAt i + j * cw) cw) er
           ∙ putTile-le rowAt m n cw (ruled k) s i li (rooms i li) j lj (λ h lh g q x. pitched c cpitch (n * cw) wide i h g q x)
-          ∙ joins .small k (le s (rowAt i + j * cw) cw) (λ l. le s (a + i * pitch + l * w) w) (λ l. le s (b + l * pitch + j * w) w)
+          ∙ joins .small k (getLe s (rowAt i + j * cw) cw) (λ l. getLe s (a + i * pitch + l * w) w) (λ l. getLe s (b + l * pitch + j * w) w)
 
-      of-a : (i : ℕ) → i < m → (l : ℕ) → l < o → le r (from + i * pitch + l * w) w ≡ le s (a + i * pitch + (k + l) * w) w
+      of-a : (i : ℕ) → i < m → (l : ℕ) → l < o → getLe r (from + i * pitch + l * w) w ≡ getLe s (a + i * pitch + (k + l) * w) w
       of-a i li l ll =
           kept (from + i * pitch + l * w) w (omega (arith, ef, mul-le-mul-right w ll, mul-le-mul-right pitch li))
-          ∙ ap (λ (p : ℕ). le s p w) (omega (arith, ef))
+          ∙ ap (λ (p : ℕ). getLe s p w) (omega (arith, ef))
 
-      of-b : (j : ℕ) → j < n → (l : ℕ) → l < o → le r (row + l * pitch + j * w) w ≡ le s (b + (k + l) * pitch + j * w) w
+      of-b : (j : ℕ) → j < n → (l : ℕ) → l < o → getLe r (row + l * pitch + j * w) w ≡ getLe s (b + (k + l) * pitch + j * w) w
       of-b j lj l ll =
           kept (row + l * pitch + j * w) w (omega (arith, eb, mul-le-mul-right w lj, mul-le-mul-right pitch ll))
-          ∙ ap (λ (p : ℕ). le s p w) (omega (arith, eb))
+          ∙ ap (λ (p : ℕ). getLe s p w) (omega (arith, eb))
 
       same : (i j : ℕ) → i < m → j < n → ruleRow rule r cw w pitch o (from + i * pitch) row (rowAt i) j ≡ ruled (k + o) i j
       same i j li lj =
-          ap (λ (v : ℕ). rule o v (λ l. le r (from + i * pitch + l * w) w) (λ l. le r (row + l * pitch + j * w) w)) (old i j li lj)
-          ∙ joins .reads o (ruled k i j) (λ l. le r (from + i * pitch + l * w) w) (λ l. le r (row + l * pitch + j * w) w)
-          (λ l. le s (a + i * pitch + (k + l) * w) w) (λ l. le s (b + (k + l) * pitch + j * w) w) (of-a i li) (of-b j lj)
-          ∙ joins .more k o (le s (rowAt i + j * cw) cw) (λ l. le s (a + i * pitch + l * w) w) (λ l. le s (b + l * pitch + j * w) w)
+          ap (λ (v : ℕ). rule o v (λ l. getLe r (from + i * pitch + l * w) w) (λ l. getLe r (row + l * pitch + j * w) w)) (old i j li lj)
+          ∙ joins .reads o (ruled k i j) (λ l. getLe r (from + i * pitch + l * w) w) (λ l. getLe r (row + l * pitch + j * w) w)
+          (λ l. getLe s (a + i * pitch + (k + l) * w) w) (λ l. getLe s (b + (k + l) * pitch + j * w) w) (of-a i li) (of-b j lj)
+          ∙ joins .more k o (getLe s (rowAt i + j * cw) cw) (λ l. getLe s (a + i * pitch + l * w) w) (λ l. getLe s (b + l * pitch + j * w) w)
 
   -- what holds before a block of terms: none was taken, or the product has the first k
   abbrev pub Part : ℕ → List ℕ → Type 0
@@ -231,14 +231,14 @@ module _ (rule : Rule) (cw w pitch cpitch k a b c m : ℕ) (s : List ℕ) (joins
       ∙ ap (putTile (λ i. c + n * cw + i * cpitch) m o cw (λ i j. columnRuled i (n + j))) er
       ∙ tile-join c cpitch m n o cw columnRuled s wide (λ i li. omega (arith, room, wide, mul-le-mul-right cpitch li))
     where
-      kept : (p v : ℕ) → p + v ≤ c → le r p v ≡ le s p v
-      kept p v h = ap (λ (l : List ℕ). le l p v) er ∙ putTile-keeps (λ i. c + i * cpitch) m n cw columnRuled s p v (λ i li q x y. omega (arith, x, y))
+      kept : (p v : ℕ) → p + v ≤ c → getLe r p v ≡ getLe s p v
+      kept p v h = ap (λ (l : List ℕ). getLe l p v) er ∙ putTile-keeps (λ i. c + i * cpitch) m n cw columnRuled s p v (λ i li q x y. omega (arith, x, y))
 
-      old : (i j : ℕ) → i < m → j < o → le r (to + i * cpitch + j * cw) cw ≡ le s (c + i * cpitch + (n + j) * cw) cw
+      old : (i j : ℕ) → i < m → j < o → getLe r (to + i * cpitch + j * cw) cw ≡ getLe s (c + i * cpitch + (n + j) * cw) cw
       old i j li lj =
-          ap (λ (l : List ℕ). le l (to + i * cpitch + j * cw) cw) er
+          ap (λ (l : List ℕ). getLe l (to + i * cpitch + j * cw) cw) er
           ∙ putTile-keeps (λ i. c + i * cpitch) m n cw columnRuled s (to + i * cpitch + j * cw) cw (λ h lh q x y. apart h q x y (le-or-lt h i) (le-or-lt i h))
-          ∙ ap (λ (p : ℕ). le s p cw) (omega (arith, et))
+          ∙ ap (λ (p : ℕ). getLe s p cw) (omega (arith, et))
         where
           apart : (h q : ℕ) → In (to + i * cpitch + j * cw) cw q → In (c + h * cpitch) (n * cw) q → (h ≤ i) ⊎ (i < h) → (i ≤ h) ⊎ (h < i) → ⊥
           apart h q x y (inl l) (inl g) = let e : h ≡ i = omega arith in omega (arith, et, x, y, ap (λ (t : ℕ). t * cpitch) e)
@@ -247,12 +247,12 @@ module _ (rule : Rule) (cw w pitch cpitch k a b c m : ℕ) (s : List ℕ) (joins
 
       same : (i j : ℕ) → i < m → j < o → ruleRow rule r cw w pitch k (a + i * pitch) from (to + i * cpitch) j ≡ columnRuled i (n + j)
       same i j li lj =
-          ap (λ (v : ℕ). rule k v (λ l. le r (a + i * pitch + l * w) w) (λ l. le r (from + l * pitch + j * w) w)) (old i j li lj)
-          ∙ joins .reads k (le s (c + i * cpitch + (n + j) * cw) cw) (λ l. le r (a + i * pitch + l * w) w) (λ l. le r (from + l * pitch + j * w) w)
-          (λ l. le s (a + i * pitch + l * w) w) (λ l. le s (b + l * pitch + (n + j) * w) w)
+          ap (λ (v : ℕ). rule k v (λ l. getLe r (a + i * pitch + l * w) w) (λ l. getLe r (from + l * pitch + j * w) w)) (old i j li lj)
+          ∙ joins .reads k (getLe s (c + i * cpitch + (n + j) * cw) cw) (λ l. getLe r (a + i * pitch + l * w) w) (λ l. getLe r (from + l * pitch + j * w) w)
+          (λ l. getLe s (a + i * pitch + l * w) w) (λ l. getLe s (b + l * pitch + (n + j) * w) w)
           (λ l ll. kept (a + i * pitch + l * w) w (omega (arith, row, mul-le-mul-right w ll, mul-le-mul-right pitch li)))
           (λ l ll. kept (from + l * pitch + j * w) w (omega (arith, ef, mul-le-mul-right w lj, mul-le-mul-right pitch ll))
-          ∙ ap (λ (p : ℕ). le s p w) (omega (arith, ef)))
+          ∙ ap (λ (p : ℕ). getLe s p w) (omega (arith, ef)))
 
 -- ---- for code: a block lies where its tile does
 

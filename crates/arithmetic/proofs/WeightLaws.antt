@@ -8,7 +8,7 @@ use native.Mathlib.Omega.{arith}
 use lib.IntN.{ℤ, one, pos, negsuc, negℤ, _+ℤ_, _*ℤ_, *ℤ-one, zero-*ℤ, *ℤ-negsuc, *ℤ-comm, +ℤ-comm, +ℤ-idl}
 use Rattle.width.specs.Reduce.{signed, reduce}
 use lib.ListN.{length, getD}
-use Rattle.width.specs.Tile.{le, byteOf, In, putRow}
+use Rattle.width.specs.Tile.{getLe, byteOf, In, putRow}
 use Rattle.width.proofs.TileLaws.{le-cong, length-putRow, putRow-out, putRow-at}
 use Rattle.width.proofs.ElementLaws.{pow-256, cut, still, tile-turn, putRow-cong}
 use Rattle.width.proofs.BlockLaws.{le-or-lt}
@@ -122,7 +122,7 @@ block-turn from to w cw x y n j o s r out wider h room aligned er eo =
     value t = weightedRow s from to w cw x y (j + t)
 
     -- what a block reads was not written
-    kept : (p v : ℕ) → (p + v ≤ to + (j + o) * cw) ⊎ (to + n * cw ≤ p) → le r p v ≡ le s p v
+    kept : (p v : ℕ) → (p + v ≤ to + (j + o) * cw) ⊎ (to + n * cw ≤ p) → getLe r p v ≡ getLe s p v
     kept p v g = le-cong r s p p v (λ b l. ap (λ (l : List ℕ). getD l (p + b) 0) er
         ∙ putRow-out (to + (j + o) * cw) (n - (j + o)) cw (λ t. weightedRow s from to w cw x y (j + o + t)) s (p + b) (outside b l g))
       where
@@ -147,8 +147,8 @@ block-turn from to w cw x y n j o s r out wider h room aligned er eo =
     same : (t : ℕ) → t < o → weightedRow r (from + j * w) (to + j * cw) w cw x y t ≡ value t
     same t l =
         ap₂ (λ (d a : ℕ). reduce (256 ^ cw) (signed (256 ^ cw) x *ℤ signed (256 ^ cw) d +ℤ signed (256 ^ cw) y *ℤ signed (256 ^ w) a))
-        (kept (to + j * cw + t * cw) cw (inl (omega (arith, mul-le-mul-right cw l))) ∙ ap (λ (p : ℕ). le s p cw) (omega arith))
-        (kept (from + j * w + t * w) w (source t l) ∙ ap (λ (p : ℕ). le s p w) (omega arith))
+        (kept (to + j * cw + t * cw) cw (inl (omega (arith, mul-le-mul-right cw l))) ∙ ap (λ (p : ℕ). getLe s p cw) (omega arith))
+        (kept (from + j * w + t * w) w (source t l) ∙ ap (λ (p : ℕ). getLe s p w) (omega arith))
 
 -- rows of accumulators are aligned
 pub acc-aligned : (rows pitch d a i n o : ℕ) → d < 2 → a < 2 → i < rows → n ≤ 4 * pitch → o ≤ 4 * pitch

@@ -21,7 +21,7 @@ ghost use Rattle.width.specs.Blocks.{count};
 ghost use Rattle.width.specs.Bounds.{mostElen, mostMlen};
 ghost use Rattle.asking.specs.Parts.{isEnd, handedOf};
 ghost use Rattle.machine.specs.declared.Answer.the-variants.{BadArguments};
-ghost use Rattle.run.specs.Encoding.{settingWord, memoryWord, arithmeticWord, plain, startOf, handedFor};
+ghost use Rattle.run.specs.Encoding.{settingWord, memoryWord, arithmeticWord, plain, addressIn, handedFor};
 
 // ---- the words
 
@@ -99,7 +99,7 @@ fn hand_load(plan: Plan, code: u32, register: u32, layout: Layout, row: u64, col
     requires { ⌜ planned mostElen plan ≡ true ⌝ }
     requires { ⌜ (code ≤ 10) × (register ≤ 1) ⌝ }
     requires { ⌜ (row ≤ 1024) × (column ≤ 1024) ⌝ }
-    ensures { λ r. ⌜ r ≡ record { word = memoryWord code (msew plan) register; address = startOf layout row (column * narrow plan); stride = layout .stride } ⌝ }
+    ensures { λ r. ⌜ r ≡ record { word = memoryWord code (msew plan) register; address = addressIn layout row (column * narrow plan); stride = layout .stride } ⌝ }
 {
     let width = plan_numbers::width_code(plan);
     let word = memory_word(code, width, register);

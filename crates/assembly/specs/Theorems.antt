@@ -5,6 +5,7 @@ use mathlib.Core.List.{List}
 use mathlib.Core.Option.{Option, none, some}
 use Prim.Native.Nat.{ℕ, _^_, _≤_, _<_}
 use lib.ListN.{length}
+use Rattle.width.specs.Blocks.{Choice}
 use Rattle.machine.specs.declared.Instruction.{Instruction}
 use Rattle.machine.specs.declared.Instruction.the-variants.{Illegal, SetTypeImmediate, SetType, SetTileImmediate, SetTile, Load, Store, Multiply, Combine, Scale, ScaleImmediate, FloatMultiply, MoveOut, MoveIn}
 use Rattle.machine.specs.Geometry.{Bench}
@@ -55,7 +56,7 @@ LegalHaveLines = (word : ℕ) → hasLine (line word) ≡ isLegal (decode word)
 
 -- so every word that some machine accepts, under any choice of sizes, has a line
 abbrev pub AcceptedHaveLines : Type 0
-AcceptedHaveLines = (grant : ℕ → ℕ → ℕ → ℕ) (word : ℕ) (xs : List ℕ) (W : Vectors) (B : Bench) → stepWith grant word xs W B .answer .number ≡ 0 → hasLine (line word) ≡ true
+AcceptedHaveLines = (grant : Choice) (word : ℕ) (xs : List ℕ) (W : Vectors) (B : Bench) → stepWith grant word xs W B .answer .number ≡ 0 → hasLine (line word) ≡ true
 
 -- and every word that has a line, some machine accepts in some state
 abbrev pub LinesAreAccepted : Type 0
@@ -63,7 +64,7 @@ LinesAreAccepted = (word : ℕ) → hasLine (line word) ≡ true → (xs : List 
 
 -- "words without a line get what stepping gives for the code", on every machine that is not at fault
 abbrev pub CodesAnswered : Type 0
-CodesAnswered = (grant : ℕ → ℕ → ℕ → ℕ) (word : ℕ) (xs : List ℕ) (W : Vectors) (B : Bench) → Faultless xs W B → hasLine (line word) ≡ false
+CodesAnswered = (grant : Choice) (word : ℕ) (xs : List ℕ) (W : Vectors) (B : Bench) → Faultless xs W B → hasLine (line word) ≡ false
     → stepWith grant word xs W B .answer .number ≡ codeNumber (decode word)
 
 -- no line is longer than 32 bytes

@@ -37,10 +37,10 @@ use Rattle.bench_calls.specs.Theorems.{StepPacksWhole}
 
 -- ---- answers with small rows and columns
 
-abbrev Small : Reply → Type 0
+abbrev pub Small : Reply → Type 0
 Small a = (a .row ≤ 1024) × (a .column ≤ 1024)
 
-whole : (a : Reply) → a .number < 2 ^ 16 → Small a → (packed a % 2 ^ 16 ≡ a .number) × (packed a / 2 ^ 16 % 2 ^ 16 ≡ a .row) × (packed a / 2 ^ 32 ≡ a .column)
+pub whole : (a : Reply) → a .number < 2 ^ 16 → Small a → (packed a % 2 ^ 16 ≡ a .number) × (packed a / 2 ^ 16 % 2 ^ 16 ≡ a .row) × (packed a / 2 ^ 32 ≡ a .column)
 whole a n s = (omega arith, omega arith, omega arith)
 
 -- ---- checks whose answers are small, where those before have passed
@@ -109,7 +109,7 @@ sizes-small B h =
     let r : m .mlen / m .rlen ≤ 1024 = omega (arith, mul-le-mul-left (m .mlen / m .rlen) (b .0)) in
     (omega (arith, s .state .m-fits), omega (arith, s .state .k-fits), omega (arith, s .state .n-fits))
 
-answer-small : (W : Vectors) (M : Parameters) (word : ℕ) (xs : List ℕ) (B : Bench) → let a = steppedIn W M (decode word) xs B .answer in (a .number < 2 ^ 16) × Small a
+pub answer-small : (W : Vectors) (M : Parameters) (word : ℕ) (xs : List ℕ) (B : Bench) → let a = steppedIn W M (decode word) xs B .answer in (a .number < 2 ^ 16) × Small a
 answer-small W M word xs B = last (vectorsFit W) (isDone (verdict cs)) (go (soundBench B) refl)
   where
     cs : List Check

@@ -8,8 +8,9 @@ use native.Mathlib.Nat.{div-add-mod', zero-add, mod-eq-of-lt, eq-or-lt-of-le, le
 use native.Mathlib.Omega.{arith}
 use lib.ListN.{length, getD, length-append, List·getD-append, List·getD-eq-default}
 use lib.Seq.{getD-at}
+use Rattle.width.specs.Blocks.{Choice}
 use Rattle.width.specs.Upto.{upto}
-use Rattle.width.specs.Tile.{le, putLe, putRow, In}
+use Rattle.width.specs.Tile.{getLe, putLe, putRow, In}
 use Rattle.width.proofs.UptoLaws.{upto-cong}
 use Rattle.width.proofs.PutLaws.{upto-add}
 use Rattle.width.proofs.TileLaws.{le-cong, length-putRow, putRow-out}
@@ -33,21 +34,21 @@ use Rattle.blocks.specs.Blocks.{Bytes, machineBytes, machineOf, putMachi
 
 length-firstValues : (n : ℕ) (b : List ℕ) → length (firstValues n b) ≡ n
 length-firstValues zero b = refl
-length-firstValues (suc n) b = length-append (firstValues n b) (le b (n * 8) 8 ∷ []) ∙ omega (arith, length-firstValues n b)
+length-firstValues (suc n) b = length-append (firstValues n b) (getLe b (n * 8) 8 ∷ []) ∙ omega (arith, length-firstValues n b)
 
-pub value-at : (n : ℕ) (b : List ℕ) (s : ℕ) → s < n → getD (firstValues n b) s 0 ≡ le b (s * 8) 8
+pub value-at : (n : ℕ) (b : List ℕ) (s : ℕ) → s < n → getD (firstValues n b) s 0 ≡ getLe b (s * 8) 8
 value-at zero b s l = absurd (omega arith)
 value-at (suc n) b s l = elim (eq-or-lt-of-le (le-of-suc-le-suc l)) [
   | inl e ↦
-      getD-at (firstValues n b) (le b (n * 8) 8) [] 0 s (length-firstValues n b ∙ sym e) ∙ ap (λ (k : ℕ). le b (k * 8) 8) (sym e)
+      getD-at (firstValues n b) (getLe b (n * 8) 8) [] 0 s (length-firstValues n b ∙ sym e) ∙ ap (λ (k : ℕ). getLe b (k * 8) 8) (sym e)
   | inr k ↦
-      List·getD-append (firstValues n b) (le b (n * 8) 8 ∷ []) 0 s (rw (length-firstValues n b) k) ∙ value-at n b s k
+      List·getD-append (firstValues n b) (getLe b (n * 8) 8 ∷ []) 0 s (rw (length-firstValues n b) k) ∙ value-at n b s k
 ]
 
 -- written over the bytes they were read of
 pub put-same : (n : ℕ) (b : List ℕ) → Bytes b → putRow 0 n 8 (λ s. getD (firstValues n b) s 0) b ≡ b
 put-same n b small =
-    putRow-same b small 0 n 8 (λ s. getD (firstValues n b) s 0) (λ s l. value-at n b s l ∙ ap (λ (p : ℕ). le b p 8) (sym (zero-add (s * 8))))
+    putRow-same b small 0 n 8 (λ s. getD (firstValues n b) s 0) (λ s l. value-at n b s l ∙ ap (λ (p : ℕ). getLe b p 8) (sym (zero-add (s * 8))))
 
 -- ---- values in the middle of others
 
@@ -61,7 +62,7 @@ module _ (f : ℕ → ℕ) (xs : List ℕ) where
 
   -- a values before them and c behind them stand in the block already
   pub put-middle : (ys : List ℕ) (a b c : ℕ) → Bytes xs → Bytes ys → ys ≡ putRow (a * 8) b 8 (λ j. f (a + j)) xs
-      → ((j : ℕ) → j < a → f j ≡ le xs (j * 8) 8) → ((j : ℕ) → j < c → f (a + b + j) ≡ le xs ((a + b + j) * 8) 8) → ys ≡ putRow 0 (a + b + c) 8 f xs
+      → ((j : ℕ) → j < a → f j ≡ getLe xs (j * 8) 8) → ((j : ℕ) → j < c → f (a + b + j) ≡ getLe xs ((a + b + j) * 8) 8) → ys ≡ putRow 0 (a + b + c) 8 f xs
   put-middle ys a b c small small′ e before behind =
       sym (first-then (a + b) c
       ∙ ap (putRow ((a + b) * 8) c 8 (λ j. f (a + b + j))) first
@@ -70,12 +71,12 @@ module _ (f : ℕ → ℕ) (xs : List ℕ) where
       first : putRow 0 (a + b) 8 f xs ≡ ys
       first =
           first-then a b
-          ∙ ap (putRow (a * 8) b 8 (λ j. f (a + j))) (putRow-same xs small 0 a 8 f (λ j l. before j l ∙ ap (λ (p : ℕ). le xs p 8) (sym (zero-add (j * 8)))))
+          ∙ ap (putRow (a * 8) b 8 (λ j. f (a + j))) (putRow-same xs small 0 a 8 f (λ j l. before j l ∙ ap (λ (p : ℕ). getLe xs p 8) (sym (zero-add (j * 8)))))
           ∙ sym e
 
-      kept : (j : ℕ) → le ys ((a + b) * 8 + j * 8) 8 ≡ le xs ((a + b + j) * 8) 8
+      kept : (j : ℕ) → getLe ys ((a + b) * 8 + j * 8) 8 ≡ getLe xs ((a + b + j) * 8) 8
       kept j =
-          ap (λ (l : List ℕ). le l ((a + b) * 8 + j * 8) 8) e
+          ap (λ (l : List ℕ). getLe l ((a + b) * 8 + j * 8) 8) e
           ∙ le-cong (putRow (a * 8) b 8 (λ j. f (a + j)) xs) xs ((a + b) * 8 + j * 8) ((a + b + j) * 8) 8
           (λ i l. putRow-out (a * 8) b 8 (λ j. f (a + j)) xs ((a + b) * 8 + j * 8 + i) (λ h. omega (arith, h .1)) ∙ ap (λ (p : ℕ). getD xs p 0) (omega arith))
 
@@ -135,23 +136,23 @@ machineOf-putMachine m b w h =
       behind 1 (m .elen) (omega arith) refl (w .elen),
     )
   where
-    at : (j v : ℕ) → j < 6 → getD (frontOf m) j 0 ≡ v → v < 2 ^ 64 → le (putMachine m b) (0 + j * 8) 8 ≡ v
+    at : (j v : ℕ) → j < 6 → getD (frontOf m) j 0 ≡ v → v < 2 ^ 64 → getLe (putMachine m b) (0 + j * 8) 8 ≡ v
     at j v l e f =
-        ap (λ (x : List ℕ). le x (0 + j * 8) 8) (putMachine-rows m b)
+        ap (λ (x : List ℕ). getLe x (0 + j * 8) 8) (putMachine-rows m b)
         ∙ le-cong (putRow 64 2 8 (λ j. getD (backOf m) j 0) (front m b)) (front m b) (0 + j * 8) (0 + j * 8) 8
         (λ i n. putRow-out 64 2 8 (λ j. getD (backOf m) j 0) (front m b) (0 + j * 8 + i) (λ x. omega (arith, x .0)))
         ∙ le-putRow 0 6 8 (λ j. getD (frontOf m) j 0) b (omega arith) j l
         ∙ ap (λ (x : ℕ). x % 256 ^ 8) e ∙ mod-eq-of-lt f
 
-    behind : (j v : ℕ) → j < 2 → getD (backOf m) j 0 ≡ v → v < 2 ^ 64 → le (putMachine m b) (64 + j * 8) 8 ≡ v
+    behind : (j v : ℕ) → j < 2 → getD (backOf m) j 0 ≡ v → v < 2 ^ 64 → getLe (putMachine m b) (64 + j * 8) 8 ≡ v
     behind j v l e f =
-        ap (λ (x : List ℕ). le x (64 + j * 8) 8) (putMachine-rows m b)
+        ap (λ (x : List ℕ). getLe x (64 + j * 8) 8) (putMachine-rows m b)
         ∙ le-putRow 64 2 8 (λ j. getD (backOf m) j 0) (front m b) (omega (arith, length-putRow 0 6 8 (λ j. getD (frontOf m) j 0) b)) j l
         ∙ ap (λ (x : ℕ). x % 256 ^ 8) e ∙ mod-eq-of-lt f
 
 -- the numbers as the block has them
 module _ (b : List ℕ) where
-  front-at : (j : ℕ) → j < 6 → getD (frontOf (machineOf b)) j 0 ≡ le b (0 + j * 8) 8
+  front-at : (j : ℕ) → j < 6 → getD (frontOf (machineOf b)) j 0 ≡ getLe b (0 + j * 8) 8
   unfolding machineOf
   front-at zero l = refl
   front-at (suc zero) l = refl
@@ -161,7 +162,7 @@ module _ (b : List ℕ) where
   front-at (suc (suc (suc (suc (suc zero))))) l = refl
   front-at (suc (suc (suc (suc (suc (suc j)))))) l = absurd (omega arith)
 
-  back-at : (j : ℕ) → j < 2 → getD (backOf (machineOf b)) j 0 ≡ le b (64 + j * 8) 8
+  back-at : (j : ℕ) → j < 2 → getD (backOf (machineOf b)) j 0 ≡ getLe b (64 + j * 8) 8
   unfolding machineOf
   back-at zero l = refl
   back-at (suc zero) l = refl
@@ -183,18 +184,18 @@ put-state-is m xs ys small small′ k e =
     ∙ ap (putRow 64 2 8 (λ j. getD (backOf m) j 0)) (put-middle (λ j. getD (frontOf m) j 0) xs ys 2 4 0 small small′ e before (λ j l. absurd (omega arith)))
     ∙ sym (putMachine-rows m xs)
   where
-    before : (j : ℕ) → j < 2 → getD (frontOf m) j 0 ≡ le xs (j * 8) 8
+    before : (j : ℕ) → j < 2 → getD (frontOf m) j 0 ≡ getLe xs (j * 8) 8
     before zero l = k .rlen
     before (suc zero) l = k .mlen
     before (suc (suc j)) l = absurd (omega arith)
 
-    kept : (j : ℕ) → le ys (64 + j * 8) 8 ≡ le xs (64 + j * 8) 8
+    kept : (j : ℕ) → getLe ys (64 + j * 8) 8 ≡ getLe xs (64 + j * 8) 8
     kept j =
-        ap (λ (l : List ℕ). le l (64 + j * 8) 8) e
+        ap (λ (l : List ℕ). getLe l (64 + j * 8) 8) e
         ∙ le-cong (putRow 16 4 8 (λ j. getD (frontOf m) (2 + j) 0) xs) xs (64 + j * 8) (64 + j * 8) 8
         (λ i l. putRow-out 16 4 8 (λ j. getD (frontOf m) (2 + j) 0) xs (64 + j * 8 + i) (λ h. omega (arith, h .1)))
 
-    behind : (j : ℕ) → j < 2 → getD (backOf m) j 0 ≡ le ys (64 + j * 8) 8
+    behind : (j : ℕ) → j < 2 → getD (backOf m) j 0 ≡ getLe ys (64 + j * 8) 8
     behind zero l = k .rule ∙ sym (kept 0)
     behind (suc zero) l = k .elen ∙ sym (kept 1)
     behind (suc (suc j)) l = absurd (omega arith)
@@ -216,7 +217,7 @@ machineOf-putSeals rs b =
       at 72 (inr (omega arith, omega arith)),
     )
   where
-    at : (p : ℕ) → (p + 8 ≤ 48) ⊎ ((64 ≤ p) × (p + 8 ≤ 80)) → le (putSeals rs b) p 8 ≡ le b p 8
+    at : (p : ℕ) → (p + 8 ≤ 48) ⊎ ((64 ≤ p) × (p + 8 ≤ 80)) → getLe (putSeals rs b) p 8 ≡ getLe b p 8
     at p (inl h) = le-cong (putSeals rs b) b p p 8 (λ k l. putSeals-out rs b (p + k) (inl (omega arith)))
     at p (inr h) = le-cong (putSeals rs b) b p p 8 (λ k l. putSeals-out rs b (p + k) (inr (omega (arith, h .0), omega (arith, h .1))))
 
@@ -251,7 +252,7 @@ put-seals-is xs b n e l =
     at i = getD (ranges xs) i (range 0 0)
 
 -- a step keeps them
-module _ (grant : ℕ → ℕ → ℕ → ℕ) (word : ℕ) (xs : List ℕ) (B : Bench) where
+module _ (grant : Choice) (word : ℕ) (xs : List ℕ) (B : Bench) where
   abbrev M : Parameters
   M = parameters grant (B .machine)
 
@@ -280,7 +281,7 @@ pub length-values : (b : List ℕ) → length (valuesOf b) ≡ 32
 unfolding valuesOf
 length-values b = length-firstValues 32 b
 
-pub values-at : (b : List ℕ) (s : ℕ) → s < 32 → getD (valuesOf b) s 0 ≡ le b (s * 8) 8
+pub values-at : (b : List ℕ) (s : ℕ) → s < 32 → getD (valuesOf b) s 0 ≡ getLe b (s * 8) 8
 unfolding valuesOf
 values-at b s l = value-at 32 b s l
 

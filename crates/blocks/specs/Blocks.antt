@@ -6,7 +6,7 @@ use mathlib.Core.List.{List, [], _∷_, _++_}
 use Prim.Native.Nat.{ℕ, _+_, _*_, _%_, _^_, _<_}
 use lib.ListN.{length, getD}
 use Rattle.width.specs.Upto.{upto}
-use Rattle.width.specs.Tile.{le, putLe, putRow}
+use Rattle.width.specs.Tile.{getLe, putLe, putRow}
 use Rattle.ranges.specs.Ranges.{blockBytes}
 use Rattle.machine.specs.declared.Machine.{Machine}
 use Rattle.machine.specs.declared.Reply.{Reply}
@@ -24,14 +24,14 @@ machineBytes = blockBytes
 
 unfoldable pub machineOf : List ℕ → Machine
 machineOf block = record {
-  rlen = le block 0 8;
-  mlen = le block 8 8;
-  mtype = le block 16 8;
-  «tile_m» = le block 24 8;
-  «tile_k» = le block 32 8;
-  «tile_n» = le block 40 8;
-  rule = le block 64 8;
-  elen = le block 72 8;
+  rlen = getLe block 0 8;
+  mlen = getLe block 8 8;
+  mtype = getLe block 16 8;
+  «tile_m» = getLe block 24 8;
+  «tile_k» = getLe block 32 8;
+  «tile_n» = getLe block 40 8;
+  rule = getLe block 64 8;
+  elen = getLe block 72 8;
 }
 
 -- the numbers of a machine written over a block, each where machineOf reads it
@@ -61,7 +61,7 @@ scalarBytes = 256
 
 -- the first n values: slot s at byte 8 x s, low byte first
 abbrev pub firstValues : ℕ → List ℕ → List ℕ
-firstValues n block = upto n (λ s values. values ++ (le block (s * 8) 8 ∷ [])) []
+firstValues n block = upto n (λ s values. values ++ (getLe block (s * 8) 8 ∷ [])) []
 
 unfoldable pub valuesOf : List ℕ → List ℕ
 valuesOf block = firstValues 32 block

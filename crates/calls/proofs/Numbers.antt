@@ -9,7 +9,7 @@ use native.Mathlib.Omega.{arith}
 use lib.ListN.{length, getD}
 use lib.Dec.{ltb, eqb}
 use borrow.Author.Tests.{eqb-true, ltb-true, leb-true}
-use Rattle.width.specs.Tile.{le}
+use Rattle.width.specs.Tile.{getLe}
 use Rattle.width.proofs.TileLaws.{le-lt}
 use Rattle.machine.specs.declared.Machine.{Machine}
 use Rattle.machine.specs.declared.Answer.the-variants.{BadArguments}
@@ -38,7 +38,7 @@ use Rattle.run.specs.Encoding.{own, handedFor}
 use Rattle.run.specs.Start.{freshRun}
 use Rattle.run.specs.Turn.{runShape, soundRun, handsOut, moved, Running, turn, afterTurns}
 use Rattle.run.proofs.HandedLaws.{turnWith}
-use Rattle.plan_numbers.specs.Parts.{placed}
+use Rattle.plan_numbers.specs.Parts.{inMatrices}
 use Rattle.plan_numbers.proofs.PlanLaws.{at-m, at-store, at-multiply}
 use Rattle.run_places.proofs.RunPlaceLaws.{run-numbered, run-placed, run-sizes, moved-sound}
 use Rattle.run_blocks.specs.declared.Spot.{Spot}
@@ -158,7 +158,7 @@ parts R p r m e u s = begin-alike (2 ^ 64) (planNumbers (R .plan)) (R .plan .kin
     tail (suc (suc j)) = with-kind (spotOf (R .place)) (R .plan .kind) (R .rule) (R .elen) s (p 11) u e j
 
 -- eight bytes each of a block of bytes
-values-small : (b : List ℕ) → Bytes b → (ps : List ℕ) (j : ℕ) → getD (map (λ p. le b p 8) ps) j 0 < 2 ^ 64
+values-small : (b : List ℕ) → Bytes b → (ps : List ℕ) (j : ℕ) → getD (map (λ p. getLe b p 8) ps) j 0 < 2 ^ 64
 values-small b small [] j = omega arith
 values-small b small (p ∷ ps) zero = le-lt b small p 8
 values-small b small (p ∷ ps) (suc j) = values-small b small ps j
@@ -181,7 +181,7 @@ run-words b small h =
     (same-small (spotIn b .column) (s .column) (e .1 .1 .0) (le-lt b small 120 8)) (same-small (spotIn b .term) (s .term) (e .1 .1 .1 .0) (le-lt b small 128 8)))
 
 -- at a place in matrices whose sizes are at most 1,024
-place-words : (P : Plan) (p : Place) → (P .m ≤ 1024) × (P .k ≤ 1024) × (P .n ≤ 1024) → placed P p ≡ true
+place-words : (P : Plan) (p : Place) → (P .m ≤ 1024) × (P .k ≤ 1024) × (P .n ≤ 1024) → inMatrices P p ≡ true
     → (j : ℕ) → getD (spotNumbers (spotOf p)) j 0 < 2 ^ 64
 place-words P AtType l h = four (spotOf AtType) (omega arith) (omega arith) (omega arith) (omega arith)
 place-words P (AtM i) l h = let b = at-m P i h in four (spotOf (AtM i)) (omega arith) (omega arith) (omega arith) (omega arith)

@@ -57,7 +57,7 @@ use Rattle.image.proofs.Images.{read-makes}
 use Rattle.image_read.specs.Blocks.{BlockOutcome, restoredAs, blockRefused, intoBlock, readBlock}
 use Rattle.image.specs.Reading.{checkImage, ReadOutcome, restored, cellsIn, fitted, readAs, readImage}
 use Rattle.image_calls.specs.ImageCalls.{packedReply, shownRead, hostImageRead}
-use Rattle.calls.specs.Calls.{Buffers, Call, Called, afterStart, afterStep, afterSeal, afterRunStart, afterTurn, afterRun, afterRead, called}
+use Rattle.calls.specs.Calls.{Buffers, buffers, Call, Called, afterStart, afterStep, afterSeal, afterRunStart, afterTurn, afterRun, afterRead, called}
 use Rattle.calls.specs.Composed.{afterCalls, benchIn, SealedIn, SparesSeal, EachSparesSeal, SealHoldsOverCalls, SealHoldsFromStartCall, SealHoldsFromReadCall, StartCallHolds, ReadCallHolds}
 use Rattle.calls.proofs.Written.{putMachine-words}
 use Rattle.calls.proofs.Numbers.{machine-words, sound-words, step-with-words, turn-machine, turns-machine}
@@ -384,13 +384,16 @@ read-done (whole d) registers marks h = go (fitted d registers marks) h
     go true h = refl
     go false h = let z : _≡_ {A = ℕ} 8 0 = h in absurd (omega arith)
 
--- what an accepted read leaves in the block
-record Read (image : List ℕ) (b : Buffers) (o : Called) : Type 0 where
-  words : Words (machineOf (o .after .machine))
-  holds : sealsIn (o .after .machine) ≡ readImage image (b .registers) (b .marks) .seals
-  memory-stays : o .after .memory ≡ b .memory
+-- what an accepted read leaves
+pub record Read (image : List ℕ) (b : Buffers) (o : Called) : Type 0 where
+  pub done : readImage image (b .registers) (b .marks) .answer ≡ imageReply Image.Done
+  pub words : Words (machineOf (o .after .machine))
+  pub made : machineOf (o .after .machine) ≡ readImage image (b .registers) (b .marks) .machine
+  pub holds : sealsIn (o .after .machine) ≡ readImage image (b .registers) (b .marks) .seals
+  pub long : length (o .after .machine) ≡ machineBytes
+  pub rest : o .after ≡ buffers (o .after .machine) (readImage image (b .registers) (b .marks) .registers) (readImage image (b .registers) (b .marks) .marks) (b .scalars) (b .memory) (b .run) (b .step) (b .steps) (b .file)
 
-was-read : (image : List ℕ) (b : Buffers) → Images.Bytes image → let o = called (Call.imageRead image) b in o .result ≡ 0 → Read image b o
+pub was-read : (image : List ℕ) (b : Buffers) → Images.Bytes image → let o = called (Call.imageRead image) b in o .result ≡ 0 → Read image b o
 unfolding hostImageRead readBlock readImage
 was-read image b small = go (eqb (length (b .machine)) machineBytes) refl
   where
@@ -405,17 +408,22 @@ was-read image b small = go (eqb (length (b .machine)) machineBytes) refl
     go : (t : Bool) → eqb (length (b .machine)) machineBytes ≡ t → out t .result ≡ 0 → Read image b (out t)
     go true e z =
         let n : o .answer .number ≡ 0 = number-zero (o .answer) z in
-        let m = read-makes image (b .registers) (b .marks) small (read-done (parse imageFormat image) (b .registers) (b .marks) n) in
+        let d = read-done (parse imageFormat image) (b .registers) (b .marks) n in
+        let m = read-makes image (b .registers) (b .marks) small d in
         let l : length (b .machine) ≡ machineBytes = eqb-true (length (b .machine)) machineBytes e in
         let fit = and-right (sound (o .machine) (o .registers) (o .marks)) (sealsFit (o .seals)) (m .not-at-fault) in
         let w : Words (o .machine) =
         sound-words (o .machine) (o .registers) (o .marks) (sound-is (o .machine) (o .registers) (o .marks) (and-left (sound (o .machine) (o .registers) (o .marks)) (sealsFit (o .seals)) (m .not-at-fault))) in
         let long : length (putSeals (o .seals) (b .machine)) ≡ machineBytes = length-putSeals (o .seals) (b .machine) ∙ l in
         let is : out true .after .machine ≡ putMachine (o .machine) (putSeals (o .seals) (b .machine)) = rw (eq-eqb (o .answer .number) 0 n) in
+        let made : machineOf (out true .after .machine) ≡ o .machine = ap machineOf is ∙ machineOf-putMachine (o .machine) (putSeals (o .seals) (b .machine)) w long in
         record {
-          words = subst Words (sym (ap machineOf is ∙ machineOf-putMachine (o .machine) (putSeals (o .seals) (b .machine)) w long)) w;
+          done = d;
+          words = subst Words (sym made) w;
+          made = made;
           holds = ap sealsIn is ∙ putMachine-seals (o .machine) (putSeals (o .seals) (b .machine)) ∙ putSeals-seals (o .seals) (b .machine) l fit;
-          memory-stays = refl;
+          long = ap length is ∙ length-putMachine (o .machine) (putSeals (o .seals) (b .machine)) ∙ long;
+          rest = refl;
         }
     go false e z = absurd (never-done (checkImage image) (number-zero (imageReply (blockRefused (checkImage image))) z))
 
@@ -423,7 +431,7 @@ pub seal-holds-from-read-call : SealHoldsFromReadCall
 seal-holds-from-read-call image b small z cs h =
     let o : Called = called (Call.imageRead image) b in
     let k = was-read image b small z in
-    subst (λ (memory : List ℕ). SealKept (readImage image (b .registers) (b .marks) .seals) memory (benchIn (afterCalls cs (o .after)))) (k .memory-stays)
+    subst (λ (memory : List ℕ). SealKept (readImage image (b .registers) (b .marks) .seals) memory (benchIn (afterCalls cs (o .after)))) (ap (λ (a : Buffers). a .memory) (k .rest))
     (from-block (readImage image (b .registers) (b .marks) .seals) (o .after) cs (k .words) (k .holds) h)
 
 pub read-call-holds : ReadCallHolds

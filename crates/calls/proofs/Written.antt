@@ -7,7 +7,7 @@ use Prim.Native.Nat.{ℕ, _+_, _-_, _*_, _/_, _%_, _^_, _≤_, _<_}
 use native.Mathlib.Omega.{arith}
 use lib.ListN.{length, getD}
 use lib.Seq.{ext-getD}
-use Rattle.width.specs.Tile.{le, byteOf, putRow, In}
+use Rattle.width.specs.Tile.{getLe, byteOf, putRow, In}
 use Rattle.width.proofs.TileLaws.{le-cong, length-putRow, putRow-at, putRow-out}
 use Rattle.width.proofs.WordLaws.{le-putRow}
 use Rattle.width.proofs.BlockLaws.{le-or-lt}
@@ -152,18 +152,18 @@ putMachine-words m xs e = record {
     front : List ℕ
     front = putRow 0 6 8 (frontOf m) xs
 
-    first : (j : ℕ) → j < 6 → le (putMachine m xs) (0 + j * 8) 8 < 2 ^ 64
+    first : (j : ℕ) → j < 6 → getLe (putMachine m xs) (0 + j * 8) 8 < 2 ^ 64
     first j l =
-        let v : le (putMachine m xs) (0 + j * 8) 8 ≡ frontOf m j % 256 ^ 8 =
-        ap (λ (ys : List ℕ). le ys (0 + j * 8) 8) (putMachine-rows m xs)
+        let v : getLe (putMachine m xs) (0 + j * 8) 8 ≡ frontOf m j % 256 ^ 8 =
+        ap (λ (ys : List ℕ). getLe ys (0 + j * 8) 8) (putMachine-rows m xs)
         ∙ le-cong (putRow 64 2 8 (backOf m) front) front (0 + j * 8) (0 + j * 8) 8 (λ i n. putRow-out 64 2 8 (backOf m) front (0 + j * 8 + i) (λ x. omega (arith, x .0)))
         ∙ le-putRow 0 6 8 (frontOf m) xs (omega arith) j l in
         omega (arith, v)
 
-    second : (j : ℕ) → j < 2 → le (putMachine m xs) (64 + j * 8) 8 < 2 ^ 64
+    second : (j : ℕ) → j < 2 → getLe (putMachine m xs) (64 + j * 8) 8 < 2 ^ 64
     second j l =
-        let v : le (putMachine m xs) (64 + j * 8) 8 ≡ backOf m j % 256 ^ 8 =
-        ap (λ (ys : List ℕ). le ys (64 + j * 8) 8) (putMachine-rows m xs)
+        let v : getLe (putMachine m xs) (64 + j * 8) 8 ≡ backOf m j % 256 ^ 8 =
+        ap (λ (ys : List ℕ). getLe ys (64 + j * 8) 8) (putMachine-rows m xs)
         ∙ le-putRow 64 2 8 (backOf m) front (omega (arith, length-putRow 0 6 8 (frontOf m) xs)) j l in
         omega (arith, v)
 

@@ -67,7 +67,7 @@ pub record StartCall (P : Plan) (b : Buffers) (o : Called) : Type 0 where
 
 -- for every plan, on blocks of the right lengths (others get 8: run_calls/specs/RunCalls.antt) and a memory that is a slice of bytes
 abbrev pub StartCallsAreRight : Type 0
-StartCallsAreRight = (P : Plan) (b : Buffers) → length (b .machine) ≡ machineBytes → length (b .run) ≡ runBytes → Demand.Bytes (b .memory)
+StartCallsAreRight = (P : Plan) (b : Buffers) → length (b .machine) ≡ machineBytes → length (b .run) ≡ runBytes → Demand.MemoryBytes (b .memory)
     → StartCall P b (called (Call.runStart P) b)
 
 -- ---- demand 3: bodlarina_run_turn, from an accepted bodlarina_run_start on
@@ -117,7 +117,7 @@ pub record TurnCalls (P : Plan) (b : Buffers) (t : ℕ) : Type 0 where
 
 -- for every plan that is accepted, every machine's block of bytes, and every memory that is a slice of bytes; whatever the other buffers hold
 abbrev pub TurnCallsAreRight : Type 0
-TurnCallsAreRight = (P : Plan) (b : Buffers) → PlanWords P → Bytes (b .machine) → Demand.Bytes (b .memory)
+TurnCallsAreRight = (P : Plan) (b : Buffers) → PlanWords P → Bytes (b .machine) → Demand.MemoryBytes (b .memory)
     → called (Call.runStart P) b .result ≡ 0 → (t : ℕ) → TurnCalls P b t
 
 -- ---- bodlarina_run_turns
@@ -139,7 +139,7 @@ counting n c b =
 -- It returns what bodlarina_run_start returns. Where that is 0 it leaves the machine's block, registers, marks and memory as this and s
 -- calls of bodlarina_run_turn after it do, and s in its count's block, where s is the number of steps; the run's block isn't lent to it.
 abbrev pub RunIsTurnCalls : Type 0
-RunIsTurnCalls = (P : Plan) (b : Buffers) → PlanWords P → Bytes (b .machine) → Demand.Bytes (b .memory)
+RunIsTurnCalls = (P : Plan) (b : Buffers) → PlanWords P → Bytes (b .machine) → Demand.MemoryBytes (b .memory)
     → length (b .run) ≡ runBytes → length (b .steps) ≡ countBytes
     → let s : ℕ = steps (shape (jobIn P b)) in
     (called (Call.run P) b .result ≡ called (Call.runStart P) b .result)

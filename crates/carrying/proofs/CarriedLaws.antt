@@ -37,7 +37,7 @@ use Rattle.run.specs.declared.Place.{Place}
 use Rattle.run.specs.Words.{Op}
 use Rattle.run.specs.Plan.{Elements, integers, floats, elementsOf, narrow, wide, msew, typeOf, formOf, aRow, aColumn}
 use Rattle.run.specs.Places.{wordAt}
-use Rattle.run.specs.Encoding.{own, multiplyWord, handedFor, startOf, log}
+use Rattle.run.specs.Encoding.{own, multiplyWord, handedFor, addressIn, log}
 use Rattle.run.specs.Start.{format, kindFits, planned}
 use Rattle.run.specs.Turn.{runShape}
 use Rattle.run.proofs.NumberLaws.{multiplyOf}
@@ -145,32 +145,32 @@ stores-for {m} {o} {o′} {regs} {marks} {mem} {z} {a} {mem′} e l = subst (λ 
 
 module _ (P : Plan) (ok : planned mostElen P ≡ true) (m : Machine) (seals : List Range) (regs marks mem : List ℕ) (s : sound m regs marks ≡ true) (fit : sealsFit seals ≡ true) (a : Answer) where
   pub a-carried : (i t : ℕ) (regs′ marks′ : List ℕ)
-      → WritesRegisters m (Operation.load (formOf P) MatrixA 0 (narrow P) (startOf (P .a) (aRow P i t) (aColumn P i t * narrow P)) (P .a .stride)) regs marks mem a regs′ marks′
+      → WritesRegisters m (Operation.load (formOf P) MatrixA 0 (narrow P) (addressIn (P .a) (aRow P i t) (aColumn P i t * narrow P)) (P .a .stride)) regs marks mem a regs′ marks′
       → carried (reply a) m seals regs′ marks′ mem ≡ carriedFor P (Op.loadA i t) (benchOf m seals regs marks mem)
   a-carried i t regs′ marks′ l =
       let g = plan-format P ok in
       let k : Instruction = Load (formOf P) MatrixA (2 ^ msew P) 0 10 11 in
-      let p = startOf (P .a) (aRow P i t) (aColumn P i t * narrow P) in
+      let p = addressIn (P .a) (aRow P i t) (aColumn P i t * narrow P) in
       by-decoding P (Op.loadA i t) m seals regs marks mem s fit k (decode-a (formOf P) (msew P) (msew<4 (ours m) P g (stateOf m regs marks))) _
       (loads-outcome m seals k (own (handedFor P (Op.loadA i t))) regs marks mem s fit refl (Operation.load (formOf P) MatrixA 0 (narrow P) p (P .a .stride))
       (ap (λ (w : ℕ). Operation.load (formOf P) MatrixA 0 w p (P .a .stride)) (narrow-is (ours m) P g (stateOf m regs marks))) refl a regs′ marks′ l refl refl)
 
-  pub b-carried : (t j : ℕ) (regs′ marks′ : List ℕ) → WritesRegisters m (Operation.load Plain MatrixB 1 (narrow P) (startOf (P .b) t (j * narrow P)) (P .b .stride)) regs marks mem a regs′ marks′
+  pub b-carried : (t j : ℕ) (regs′ marks′ : List ℕ) → WritesRegisters m (Operation.load Plain MatrixB 1 (narrow P) (addressIn (P .b) t (j * narrow P)) (P .b .stride)) regs marks mem a regs′ marks′
       → carried (reply a) m seals regs′ marks′ mem ≡ carriedFor P (Op.loadB t j) (benchOf m seals regs marks mem)
   b-carried t j regs′ marks′ l =
       let g = plan-format P ok in
       let k : Instruction = Load Plain MatrixB (2 ^ msew P) 1 10 11 in
-      let p = startOf (P .b) t (j * narrow P) in
+      let p = addressIn (P .b) t (j * narrow P) in
       by-decoding P (Op.loadB t j) m seals regs marks mem s fit k (decode-b (msew P) (msew<4 (ours m) P g (stateOf m regs marks))) _
       (loads-outcome m seals k (own (handedFor P (Op.loadB t j))) regs marks mem s fit refl (Operation.load Plain MatrixB 1 (narrow P) p (P .b .stride))
       (ap (λ (w : ℕ). Operation.load Plain MatrixB 1 w p (P .b .stride)) (narrow-is (ours m) P g (stateOf m regs marks))) refl a regs′ marks′ l refl refl)
 
-  pub c-carried : (i j : ℕ) (mem′ : List ℕ) → WritesMemory m (Operation.store Plain MatrixC 0 (wide P) (startOf (P .c) i (j * wide P)) (P .c .stride)) regs marks mem (sealed seals) a mem′
+  pub c-carried : (i j : ℕ) (mem′ : List ℕ) → WritesMemory m (Operation.store Plain MatrixC 0 (wide P) (addressIn (P .c) i (j * wide P)) (P .c .stride)) regs marks mem (sealed seals) a mem′
       → carried (reply a) m seals regs marks mem′ ≡ carriedFor P (Op.store i j) (benchOf m seals regs marks mem)
   c-carried i j mem′ l =
       let g = plan-format P ok in
       let k : Instruction = Store Plain MatrixC (2 ^ (msew P + log (P .factor))) 0 10 11 in
-      let p = startOf (P .c) i (j * wide P) in
+      let p = addressIn (P .c) i (j * wide P) in
       by-decoding P (Op.store i j) m seals regs marks mem s fit k (decode-c (msew P + log (P .factor)) (wide<4 (ours m) P g (stateOf m regs marks))) _
       (stores-outcome m seals k (own (handedFor P (Op.store i j))) regs marks mem s fit refl (Operation.store Plain MatrixC 0 (wide P) p (P .c .stride))
       (ap (λ (w : ℕ). Operation.store Plain MatrixC 0 w p (P .c .stride)) (wide-is (ours m) P g (stateOf m regs marks))) refl a mem′ l refl)

@@ -31,7 +31,7 @@ use Rattle.run.specs.declared.Plan.{Plan}
 use Rattle.run.specs.Words.{Op}
 use Rattle.run.specs.Plan.{Elements, integers, floats, elementsOf, narrow, formOf, aRow, aColumn}
 use Rattle.run.specs.Start.{format, kindFits, planned}
-use Rattle.run.specs.Encoding.{startOf}
+use Rattle.run.specs.Encoding.{addressIn}
 use Rattle.run.proofs.NumberLaws.{Suits, multiplyOf, multiply-passes}
 use Rattle.run.proofs.StartLaws.{suits-of}
 use Rattle.run.proofs.WordLaws.{formats}
@@ -141,10 +141,10 @@ module _ (P : Plan) (ok : planned mostElen P ≡ true) (m : Machine) (regs marks
     (eb : (seals : List Range) → sealsFit seals ≡ true → carried (reply rb) m seals regs₂ marks₂ mem ≡ carriedFor P (Op.loadB t j) (benchOf m seals regs₁ marks₁ mem))
     (db : isDone rb ≡ true) (s₂ : sound m regs₂ marks₂ ≡ true) where
   abbrev a : ℕ
-  a = startOf (P .a) (aRow P i t) (aColumn P i t * narrow P)
+  a = addressIn (P .a) (aRow P i t) (aColumn P i t * narrow P)
 
   abbrev b : ℕ
-  b = startOf (P .b) t (j * narrow P)
+  b = addressIn (P .b) t (j * narrow P)
 
   abbrev loadsA : Operation
   loadsA = Operation.load (formOf P) MatrixA 0 (narrow P) a (P .a .stride)

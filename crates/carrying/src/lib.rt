@@ -27,7 +27,7 @@ ghost use Rattle.operations.specs.Parts.{WritesRegisters};
 ghost use Rattle.settings.specs.Parts.{numbersSound};
 ghost use Rattle.run.specs.Plan.{narrow};
 ghost use Rattle.run.specs.Words.{clear, loadA, loadB, multiply, store};
-ghost use Rattle.run.specs.Encoding.{startOf};
+ghost use Rattle.run.specs.Encoding.{addressIn};
 ghost use Rattle.carrying.specs.Parts.{carried, carriedFor, carriedAt, Multiplies};
 ghost use Rattle.run.specs.Start.{planned};
 ghost use Rattle.run.specs.Turn.{soundRun};
@@ -126,7 +126,7 @@ fn load(
     requires { ⌜ planned mostElen plan ≡ true ⌝ }
     requires { ⌜ (row ≤ 1024) × (column ≤ 1024) ⌝ }
     requires { ⌜ md < registerCount matrix ⌝ }
-    ensures { λ r. ⌜ WritesRegisters m (Operation.load form matrix md (narrow plan) (startOf layout row (column * narrow plan)) (layout .stride)) (now (registers .entry)) (now (marks .entry)) (now (memory .entry)) r (now (registers .exit)) (now (marks .exit)) ⌝ }
+    ensures { λ r. ⌜ WritesRegisters m (Operation.load form matrix md (narrow plan) (addressIn layout row (column * narrow plan)) (layout .stride)) (now (registers .entry)) (now (marks .entry)) (now (memory .entry)) r (now (registers .exit)) (now (marks .exit)) ⌝ }
 {
     let bytes = plan_numbers::narrow_bytes(plan);
     let offset = plan_numbers::small_times(column, bytes);

@@ -3,7 +3,7 @@ ghost use mathlib.Core.Path.{_≡_};
 ghost use Prim.Native.Nat.{_+_, _^_, _≤_, _<_, _%_};
 ghost use lib.IntN.{_*ℤ_};
 ghost use lib.ListN.{length};
-ghost use Rattle.width.specs.Tile.{le, putLe};
+ghost use Rattle.width.specs.Tile.{getLe, putLe};
 ghost use Rattle.width.specs.Reduce.{reduce, signed};
 ghost use Rattle.element.specs.Element.{Width, Short, Narrow};
 
@@ -16,7 +16,7 @@ pub const TERMS: usize = 16;
 // The element of one byte that starts at `at`.
 pub fn read1(s: &[u8], at: usize) -> u8
     requires { ⌜ at + 1 ≤ length (now s) ⌝ }
-    ensures { λ r. ⌜ (r ≡ le (now (s .entry)) at 1) × (r < 256) ⌝ }
+    ensures { λ r. ⌜ (r ≡ getLe (now (s .entry)) at 1) × (r < 256) ⌝ }
 {
     s[at]
 }
@@ -36,7 +36,7 @@ fn wide32(x: u8) -> u32
 // The element of two bytes that starts at `at`.
 pub fn read2(s: &[u8], at: usize) -> u16
     requires { ⌜ at + 2 ≤ length (now s) ⌝ }
-    ensures { λ r. ⌜ (r ≡ le (now (s .entry)) at 2) × (r < 65536) ⌝ }
+    ensures { λ r. ⌜ (r ≡ getLe (now (s .entry)) at 2) × (r < 65536) ⌝ }
 {
     wide16(s[at]) + 256 * wide16(s[at + 1])
 }
@@ -44,7 +44,7 @@ pub fn read2(s: &[u8], at: usize) -> u16
 // The element of four bytes that starts at `at`.
 pub fn read4(s: &[u8], at: usize) -> u32
     requires { ⌜ at + 4 ≤ length (now s) ⌝ }
-    ensures { λ r. ⌜ (r ≡ le (now (s .entry)) at 4) × (r < 4294967296) ⌝ }
+    ensures { λ r. ⌜ (r ≡ getLe (now (s .entry)) at 4) × (r < 4294967296) ⌝ }
 {
     wide32(s[at])
         + 256 * wide32(s[at + 1])
@@ -61,7 +61,7 @@ fn wide64(x: u8) -> u64
 // The element of eight bytes that starts at `at`.
 pub fn read8(s: &[u8], at: usize) -> u64
     requires { ⌜ at + 8 ≤ length (now s) ⌝ }
-    ensures { λ r. ⌜ r ≡ le (now (s .entry)) at 8 ⌝ }
+    ensures { λ r. ⌜ r ≡ getLe (now (s .entry)) at 8 ⌝ }
 {
     wide64(s[at])
         + 256 * wide64(s[at + 1])
@@ -182,7 +182,7 @@ fn extend4to8(x: u32) -> u64
 // The signed element of one byte at `at`, as a residue at 8 bits: the byte itself.
 pub fn read_signed8(s: &[u8], at: usize) -> u8
     requires { ⌜ at + 1 ≤ length (now s) ⌝ }
-    ensures { λ r. ⌜ r ≡ reduce (256 ^ 1) (signed (256 ^ 1) (le (now (s .entry)) at 1)) ⌝ }
+    ensures { λ r. ⌜ r ≡ reduce (256 ^ 1) (signed (256 ^ 1) (getLe (now (s .entry)) at 1)) ⌝ }
 {
     read1(s, at)
 }
@@ -191,7 +191,7 @@ pub fn read_signed8(s: &[u8], at: usize) -> u8
 pub fn read_signed16(s: &[u8], at: usize, width: usize) -> u16
     requires { ⌜ Narrow width ⌝ }
     requires { ⌜ at + width ≤ length (now s) ⌝ }
-    ensures { λ r. ⌜ r ≡ reduce (256 ^ 2) (signed (256 ^ width) (le (now (s .entry)) at width)) ⌝ }
+    ensures { λ r. ⌜ r ≡ reduce (256 ^ 2) (signed (256 ^ width) (getLe (now (s .entry)) at width)) ⌝ }
 {
     if width == 1 {
         return extend1to2(read1(s, at));
@@ -203,7 +203,7 @@ pub fn read_signed16(s: &[u8], at: usize, width: usize) -> u16
 pub fn read_signed32(s: &[u8], at: usize, width: usize) -> u32
     requires { ⌜ Short width ⌝ }
     requires { ⌜ at + width ≤ length (now s) ⌝ }
-    ensures { λ r. ⌜ r ≡ reduce (256 ^ 4) (signed (256 ^ width) (le (now (s .entry)) at width)) ⌝ }
+    ensures { λ r. ⌜ r ≡ reduce (256 ^ 4) (signed (256 ^ width) (getLe (now (s .entry)) at width)) ⌝ }
 {
     if width == 1 {
         return extend1to4(read1(s, at));
@@ -218,7 +218,7 @@ pub fn read_signed32(s: &[u8], at: usize, width: usize) -> u32
 pub fn read_signed64(s: &[u8], at: usize, width: usize) -> u64
     requires { ⌜ Width width ⌝ }
     requires { ⌜ at + width ≤ length (now s) ⌝ }
-    ensures { λ r. ⌜ r ≡ reduce (256 ^ 8) (signed (256 ^ width) (le (now (s .entry)) at width)) ⌝ }
+    ensures { λ r. ⌜ r ≡ reduce (256 ^ 8) (signed (256 ^ width) (getLe (now (s .entry)) at width)) ⌝ }
 {
     if width == 1 {
         return extend1to8(read1(s, at));

@@ -7,7 +7,7 @@ use lib.IntN.{ℤ, pos, negℤ, natAbs, _*ℤ_}
 use lib.Ieee.{Float, nan, inf, fin, binary32, up, down, ofInt}
 use Rattle.width.specs.Reduce.{sumℤ}
 use Rattle.width.specs.Binary32.{valueOf, settled}
-use Rattle.width.specs.Blocks.{EachGrants}
+use Rattle.width.specs.Blocks.{Choice, EachGrants}
 use Rattle.machine.specs.Geometry.{Bench}
 use Rattle.machine.specs.Setting.{chosen}
 use Rattle.machine.specs.Operation.{element}
@@ -16,7 +16,7 @@ use Rattle.run.specs.Words.{steps}
 use Rattle.run.specs.Plan.{shape, wide, cAt, aOf, bOf}
 use Rattle.run.specs.Start.{startRun}
 use Rattle.run.specs.Turn.{afterTurns}
-use Rattle.run.specs.Statement.{Bytes, jobOf, startedRun}
+use Rattle.run.specs.Statement.{MemoryBytes, jobOf, startedRun}
 use Rattle.run.specs.Whole.{WholeOutcome, Delivers}
 
 -- ---- whole numbers
@@ -54,7 +54,7 @@ pub record Exactly (bits : ℕ) (z : ℤ) : Type 0 where
 -- turns and each later one, the entry C(i, j) is exactly the sum of the products of A's row i and B's column j, where these are whole
 -- numbers within the bounds; of other rows and columns nothing is asked
 abbrev pub FloatRunsAreExact : Type 0
-FloatRunsAreExact = (grant : ℕ → ℕ → ℕ → ℕ) → EachGrants grant → (P : Plan) (B : Bench) → Bytes (B .memory) → P .kind ≡ 2 → startRun grant P B .answer .number ≡ 0
+FloatRunsAreExact = (grant : Choice) → EachGrants grant → (P : Plan) (B : Bench) → MemoryBytes (B .memory) → P .kind ≡ 2 → startRun grant P B .answer .number ≡ 0
     → (t i j : ℕ) → steps (shape (jobOf grant P B)) ≤ t → i < P .m → j < P .n
     → (x y : ℕ → ℤ) → WholeNumbers (P .k) (λ l. aOf (jobOf grant P B) i l) (λ l. bOf (jobOf grant P B) l j) x y
     → Exactly (element (afterTurns grant (startedRun grant P B) t .bench .memory) (cAt P) (wide P) i j) (sumℤ (P .k) (λ l. x l *ℤ y l))

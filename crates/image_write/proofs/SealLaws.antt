@@ -7,7 +7,7 @@ use native.Mathlib.Omega.{arith}
 use lib.ListN.{length, take, set, length-append, length-set}
 use lib.Dec.{eqb}
 use borrow.Author.Tests.{eq-eqb, ne-eqb}
-use Rattle.width.specs.Tile.{le}
+use Rattle.width.specs.Tile.{getLe}
 use Rattle.format.specs.Numbers.{encode, encodeAll}
 use Rattle.machine.specs.declared.Machine.{Machine}
 use Rattle.machine.specs.Geometry.{Range, range}
@@ -42,11 +42,11 @@ take-two xs i a b l =
     ∙ append-two (take (2 * i) xs) a b
 
 -- one more range
-pub bounds-next : (block xs : List ℕ) (i at a b : ℕ) → at ≡ slotAt i → a ≡ le block at 8 → b ≡ le block (at + 8) 8 → xs ≡ bounds (firstRanges i block)
+pub bounds-next : (block xs : List ℕ) (i at a b : ℕ) → at ≡ slotAt i → a ≡ getLe block at 8 → b ≡ getLe block (at + 8) 8 → xs ≡ bounds (firstRanges i block)
     → xs ++ (a ∷ b ∷ []) ≡ bounds (firstRanges (i + 1) block)
 bounds-next block xs i at a b et ea eb ex =
     ap (λ (l : List ℕ). l ++ (a ∷ b ∷ [])) ex
-    ∙ ap₂ (λ (x y : ℕ). bounds (firstRanges i block) ++ (x ∷ y ∷ [])) (ea ∙ ap (λ (x : ℕ). le block x 8) et) (eb ∙ ap (λ (x : ℕ). le block (x + 8) 8) et)
+    ∙ ap₂ (λ (x y : ℕ). bounds (firstRanges i block) ++ (x ∷ y ∷ [])) (ea ∙ ap (λ (x : ℕ). getLe block x 8) et) (eb ∙ ap (λ (x : ℕ). getLe block (x + 8) 8) et)
     ∙ sym (bounds-behind (firstRanges i block) (rangeAt block i))
     ∙ ap (λ (x : ℕ). bounds (firstRanges x block)) {x = suc i} {y = i + 1} (omega arith)
 

@@ -6,6 +6,7 @@ use Prim.Native.Nat.{ℕ, _^_, _≤_}
 use native.Mathlib.Omega.{arith}
 use lib.Dec.{ltb, eqb}
 use borrow.Author.Tests.{eqb-true, ltb-true, ltb-false, lt-ltb, ne-eqb}
+use Rattle.width.specs.Blocks.{Choice}
 use Rattle.width.specs.Bounds.{mostElen}
 use Rattle.machine.specs.declared.Machine.{Machine}
 use Rattle.machine.specs.declared.Answer.{Answer}
@@ -46,7 +47,7 @@ only-done RowsOverlap h = absurd (false-true h)
 only-done TooManySeals h = absurd (false-true h)
 
 -- a step that is answered 0 is answered as `Done` is
-pub step-zero : (grant : ℕ → ℕ → ℕ → ℕ) (word : ℕ) (xs : List ℕ) (B : Bench) → done (stepBy grant word xs B .answer) ≡ true → stepBy grant word xs B .answer ≡ reply Done
+pub step-zero : (grant : Choice) (word : ℕ) (xs : List ℕ) (B : Bench) → done (stepBy grant word xs B .answer) ≡ true → stepBy grant word xs B .answer ≡ reply Done
 unfolding stepBy outcome
 step-zero grant word xs B = go (isDone told) refl
   where

@@ -14,7 +14,7 @@ use borrow.Author.Tests.{le-leb, lt-ltb, eq-eqb, leb-true, ltb-true, eqb-true}
 use Rattle.width.proofs.UptoLaws.{upto-keeps}
 use Rattle.width.specs.Tile.{markTile, markRow}
 use Rattle.width.proofs.TileLaws.{length-putTile, length-markTile}
-use Rattle.width.specs.Blocks.{Grants, EachGrants}
+use Rattle.width.specs.Blocks.{Choice, Grants, EachGrants}
 use Rattle.width.proofs.BlockLaws.{le-or-lt, at-most}
 use Rattle.machine.specs.declared.Machine.{Machine}
 use Rattle.machine.specs.declared.Dimension.the-variants.{DimensionM, DimensionK, DimensionN}
@@ -248,7 +248,7 @@ sound-bench B = and-true (sound (B .machine) (B .registers) (B .marks)) (sealsFi
 
 -- ---- no step leaves a machine at fault
 
-outcome-sound : (grant : ℕ → ℕ → ℕ → ℕ) → EachGrants grant → (i : Instruction) (xs : List ℕ) (W : Vectors) (B : Bench) → soundBench B ≡ true
+outcome-sound : (grant : Choice) → EachGrants grant → (i : Instruction) (xs : List ℕ) (W : Vectors) (B : Bench) → soundBench B ≡ true
     → soundBench (outcomeIn W (parameters grant (B .machine)) i xs B .bench) ≡ true
 outcome-sound grant G i xs W B h = go (isDone (verdict (checksIn W M i xs B)))
   where
@@ -281,7 +281,7 @@ step-keeps-sound grant G word xs W B h = go (vectorsFit W)
     go true = outcome-sound grant G (Listing.decode word) xs W B h
     go false = h
 
-pub step-sound : (grant : ℕ → ℕ → ℕ → ℕ) → EachGrants grant → (word : ℕ) (xs : List ℕ) (B : Bench) → soundBench B ≡ true → soundBench (stepBy grant word xs B .bench) ≡ true
+pub step-sound : (grant : Choice) → EachGrants grant → (word : ℕ) (xs : List ℕ) (B : Bench) → soundBench B ≡ true → soundBench (stepBy grant word xs B .bench) ≡ true
 unfolding stepBy outcome
 step-sound grant G word xs B h = outcome-sound grant G (Listing.decode word) xs idle B h
 

@@ -2,6 +2,7 @@
 use mathlib.Core.Path.{_≡_, refl, ap, _∙_}
 use mathlib.Core.Bool.{Bool, true, false, cond}
 use lib.ListN.{length, replicate}
+use Rattle.width.specs.Blocks.{Choice}
 use Rattle.machine.specs.declared.Answer.the-variants.{BadArguments}
 use Rattle.machine.specs.declared.Answer.{Answer}
 use Rattle.machine.specs.declared.Reply.{Reply}
@@ -38,7 +39,7 @@ step-refusal-changes-nothing grant word xs W B h = go (vectorsFit W) (isDone (ve
     go false u d = (refl, refl, refl)
 
 -- of a step that is lent no vector file
-pub refusal-changes-nothing : (grant : ℕ → ℕ → ℕ → ℕ) (word : ℕ) (xs : List ℕ) (B : Bench) → ¬ (stepBy grant word xs B .answer .number ≡ 0)
+pub refusal-changes-nothing : (grant : Choice) (word : ℕ) (xs : List ℕ) (B : Bench) → ¬ (stepBy grant word xs B .answer .number ≡ 0)
     → (stepBy grant word xs B .bench ≡ B) × (stepBy grant word xs B .scalars ≡ xs)
 unfolding stepBy outcome
 refusal-changes-nothing grant word xs B h = go (isDone (verdict (stepChecks (parameters grant (B .machine)) (decode word) xs B))) h

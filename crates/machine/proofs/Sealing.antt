@@ -5,6 +5,7 @@ use mathlib.Core.List.{List, [], _∷_, _++_, append-nil, append-assoc}
 use Prim.Native.Nat.{ℕ}
 use lib.Dec.{eqb}
 use lib.ListN.{length, getD}
+use Rattle.width.specs.Blocks.{Choice}
 use Rattle.machine.specs.declared.Answer.the-variants.{Done, BadArguments}
 use Rattle.machine.specs.declared.Instruction.{Instruction}
 use Rattle.machine.specs.Tests.{within}
@@ -104,7 +105,7 @@ module _ (M : Parameters) (st : State) (mem : List ℕ) where
 
 -- ---- one step
 
-outcome-unharmed : (grant : ℕ → ℕ → ℕ → ℕ) (i : Instruction) (xs : List ℕ) (W : Vectors) (B : Bench)
+outcome-unharmed : (grant : Choice) (i : Instruction) (xs : List ℕ) (W : Vectors) (B : Bench)
     → Unharmed grant B (outcomeIn W (parameters grant (B .machine)) i xs B .bench)
 outcome-unharmed grant i xs W B = go (isDone (verdict (checksIn W M i xs B))) refl
   where
@@ -123,7 +124,7 @@ outcome-unharmed grant i xs W B = go (isDone (verdict (checksIn W M i xs B))) re
         }
     go false e = record { same-parameters = refl; ranges-stay = stay (B .seals); same-length = refl; same-bytes = λ q h. refl }
 
-pub step-with-unharmed : (grant : ℕ → ℕ → ℕ → ℕ) (word : ℕ) (xs : List ℕ) (W : Vectors) (B : Bench) → Unharmed grant B (stepWith grant word xs W B .bench)
+pub step-with-unharmed : (grant : Choice) (word : ℕ) (xs : List ℕ) (W : Vectors) (B : Bench) → Unharmed grant B (stepWith grant word xs W B .bench)
 unfolding stepWith
 step-with-unharmed grant word xs W B = go (vectorsFit W)
   where
@@ -134,7 +135,7 @@ step-with-unharmed grant word xs W B = go (vectorsFit W)
     go true = outcome-unharmed grant (decode word) xs W B
     go false = record { same-parameters = refl; ranges-stay = stay (B .seals); same-length = refl; same-bytes = λ q h. refl }
 
-pub step-unharmed : (grant : ℕ → ℕ → ℕ → ℕ) (word : ℕ) (xs : List ℕ) (B : Bench) → Unharmed grant B (stepBy grant word xs B .bench)
+pub step-unharmed : (grant : Choice) (word : ℕ) (xs : List ℕ) (B : Bench) → Unharmed grant B (stepBy grant word xs B .bench)
 unfolding stepBy outcome
 step-unharmed grant word xs B = outcome-unharmed grant (decode word) xs idle B
 
@@ -161,7 +162,7 @@ seal-holds-from-start rlen mlen elen rule seals registers marks memory d ws q x 
 
 -- ---- adding a range
 
-pub seal-unharmed : (grant : ℕ → ℕ → ℕ → ℕ) (start size : ℕ) (B : Bench) → Unharmed grant B (addSeal start size B .bench)
+pub seal-unharmed : (grant : Choice) (start size : ℕ) (B : Bench) → Unharmed grant B (addSeal start size B .bench)
 unfolding addSeal
 seal-unharmed grant start size B = go (isDone (verdict (sealChecks start size B)))
   where

@@ -5,6 +5,7 @@ use mathlib.Core.List.{List, [], _∷_}
 use Prim.Native.Nat.{ℕ, zero, _*_, _/_, _≤_, _<_}
 use lib.Dec.{leb, ltb, eqb}
 use borrow.Author.Tests.{leb-true, ltb-true, eqb-true}
+use Rattle.width.specs.Blocks.{Choice}
 use Rattle.width.specs.Bounds.{mostRlen, mostMlen}
 use Rattle.machine.specs.declared.Answer.{Answer}
 use Rattle.machine.specs.declared.Answer.the-variants.{Done}
@@ -50,7 +51,7 @@ module _ (M : Parameters) (i : Instruction) (xs : List ℕ) (B : Bench) (o : Ope
       ap (λ (a : Answer). cond (isDone a) (Step.carriedOut M i xs B) (Step.refused M i xs B a)) v ∙ ap doneBy e
 
 -- a word that decodes to an instruction, which with its scalars is the operation o, and whose checks pass
-pub step-is : (grant : ℕ → ℕ → ℕ → ℕ) (word : ℕ) (xs : List ℕ) (B : Bench) (i : Instruction) (o : Operation)
+pub step-is : (grant : Choice) (word : ℕ) (xs : List ℕ) (B : Bench) (i : Instruction) (o : Operation)
     → let M : Parameters = parameters grant (B .machine) in
     decode word ≡ i → soundBench B ≡ true → thirtyTwo xs ≡ true → meant M i xs B ≡ o
     → Passed (checks M (sealed (B .seals)) o (given M i xs B) (B .memory)) → stepBy grant word xs B ≡ doneBy M i xs B o o
@@ -59,7 +60,7 @@ step-is grant word xs B i o d s t e p =
     let M : Parameters = parameters grant (B .machine) in
     ap (λ (i : Instruction). outcome M i xs B) d ∙ outcome-done M i xs B o s t e p
 
-pub step-done : (grant : ℕ → ℕ → ℕ → ℕ) (word : ℕ) (xs : List ℕ) (B : Bench) (i : Instruction) (o : Operation)
+pub step-done : (grant : Choice) (word : ℕ) (xs : List ℕ) (B : Bench) (i : Instruction) (o : Operation)
     → let M : Parameters = parameters grant (B .machine) in
     decode word ≡ i → soundBench B ≡ true → thirtyTwo xs ≡ true → meant M i xs B ≡ o
     → Passed (checks M (sealed (B .seals)) o (given M i xs B) (B .memory))
@@ -69,7 +70,7 @@ step-done grant word xs B i o d s t e p =
     (ap (λ (u : Outcome). u .answer) q, ap (λ (u : Outcome). u .bench) q)
 
 -- a word that a check refuses
-pub step-refused : (grant : ℕ → ℕ → ℕ → ℕ) (word : ℕ) (xs : List ℕ) (B : Bench) (a : Answer) → isDone a ≡ false
+pub step-refused : (grant : Choice) (word : ℕ) (xs : List ℕ) (B : Bench) (a : Answer) → isDone a ≡ false
     → verdict (stepChecks (parameters grant (B .machine)) (decode word) xs B) ≡ a → stepBy grant word xs B ≡ record { answer = reply a; bench = B; scalars = xs }
 unfolding stepBy outcome
 step-refused grant word xs B a d e =

@@ -4,6 +4,7 @@ use mathlib.Core.Bool.{Bool, true, false, cond}
 use mathlib.Core.List.{List}
 use Prim.Native.Nat.{ℕ}
 use borrow.Author.Tests.{eq-eqb}
+use Rattle.width.specs.Blocks.{Choice}
 use Rattle.machine.specs.declared.Instruction.{Instruction}
 use Rattle.machine.specs.declared.Instruction.the-variants.{Store}
 use Rattle.machine.specs.Answers.{number, isDone, verdict}
@@ -40,14 +41,14 @@ accepted M i xs B h =
     (a .1, a .2, ap (λ (t : Bool). cond t (Step.carriedOut M i xs B) (Step.refused M i xs B (verdict (stepChecks M i xs B)))) (a .0))
 
 -- of any
-pub record Accepted (grant : ℕ → ℕ → ℕ → ℕ) (i : Instruction) (xs : List ℕ) (W : Vectors) (B : Bench) (o : VectorOutcome) : Type 0 where
+pub record Accepted (grant : Choice) (i : Instruction) (xs : List ℕ) (W : Vectors) (B : Bench) (o : VectorOutcome) : Type 0 where
   pub fit : vectorsFit W ≡ true
   pub sound : soundBench B ≡ true
   pub passes : let M : Parameters = parameters grant (B .machine) in Passed (checks M (sealed (B .seals)) (meantIn W M i xs B) (givenIn W M i xs B) (B .memory))
   pub leaves : let M : Parameters = parameters grant (B .machine) in
       o ≡ beside (vectorsAfter M (meantIn W M i xs B) (givenIn W M i xs B) (W .file)) (Step.carriedIn W M i xs B)
 
-pub accepted-with : (grant : ℕ → ℕ → ℕ → ℕ) (word : ℕ) (i : Instruction) (xs : List ℕ) (W : Vectors) (B : Bench) → decode word ≡ i
+pub accepted-with : (grant : Choice) (word : ℕ) (i : Instruction) (xs : List ℕ) (W : Vectors) (B : Bench) → decode word ≡ i
     → stepWith grant word xs W B .answer .number ≡ 0 → Accepted grant i xs W B (stepWith grant word xs W B)
 unfolding stepWith
 accepted-with grant word i xs W B d h =

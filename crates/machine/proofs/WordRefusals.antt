@@ -39,7 +39,7 @@ has-bits word (g ∷ gs) h f m =
       | inr n ↦ has-bits word gs (and-right (eqb (bits (g .high) (g .low) word) (g .value)) (has word gs) h) f n
     ]
 
-bits-has : (word : ℕ) (fs : List Fixed) → ((f : Fixed) → List·Memᴰ f fs → bits (f .high) (f .low) word ≡ f .value) → has word fs ≡ true
+pub bits-has : (word : ℕ) (fs : List Fixed) → ((f : Fixed) → List·Memᴰ f fs → bits (f .high) (f .low) word ≡ f .value) → has word fs ≡ true
 bits-has word [] h = refl
 bits-has word (g ∷ gs) h =
     and-true (eqb (bits (g .high) (g .low) word) (g .value)) (has word gs)
@@ -145,6 +145,14 @@ before-one word none (s ∷ rs) p r m h =
 
 before-none : (word : ℕ) (none : Instruction) → ((r : Row) → List·Memᴰ r listing → ¬ (has word (r .code .fixed) ≡ true)) → lookUp word none (listingBefore listing) ≡ none
 before-none word none n = look-up-none word none (listingBefore listing) (λ r m. n r (before-ours listing r m))
+
+-- whether a word is one of ours
+pub ours-or-not : (word : ℕ) → IsOurs word ⊎ ¬ IsOurs word
+ours-or-not word =
+    elim (search-in (λ (r : Row). has word (r .code .fixed)) listing) [
+      | inl r ↦ inl (r .0, r .1, has-bits word (r .0 .code .fixed) (r .2))
+      | inr n ↦ inr (λ r. n (r .0) (r .1) (bits-has word (r .0 .code .fixed) (r .2)))
+    ]
 
 -- ---- the kinds of words, and what each decodes to, now and before
 

@@ -5,6 +5,7 @@ use mathlib.Core.List.{List, [], _∷_}
 use Prim.Native.Nat.{ℕ, _+_, _*_, _/_}
 use lib.ListN.{getD, set}
 use lib.Dec.{ltb, eqb}
+use Rattle.width.specs.Blocks.{Choice}
 use Rattle.machine.specs.declared.Machine.{Machine}
 use Rattle.machine.specs.declared.Matrix.{Matrix}
 use Rattle.machine.specs.declared.Matrix.the-variants.{MatrixA, MatrixB, MatrixC}
@@ -61,7 +62,7 @@ parametersOf grant rlen mlen elen = record {
 }
 
 -- under a choice of sizes for each rule, of which the machine goes by its own: 02, Eight: "the size choice speaks of the rule"
-abbrev pub parameters : (ℕ → ℕ → ℕ → ℕ) → Machine → Parameters
+abbrev pub parameters : Choice → Machine → Parameters
 parameters grant m = parametersOf (grant (m .rule)) (m .rlen) (m .mlen) (m .elen)
 
 -- ---- state

@@ -4,7 +4,7 @@ use mathlib.Core.List.{List}
 use Prim.Native.Nat.{ℕ, _+_, _*_, _%_, _^_}
 use lib.Dec.{eqb}
 use lib.IntN.{ℤ, _+ℤ_, _-ℤ_, _*ℤ_}
-use Rattle.width.specs.Tile.{le, putTile, markTile}
+use Rattle.width.specs.Tile.{getLe, putTile, markTile}
 use Rattle.width.specs.Reduce.{signed, reduce, sumℤ}
 use Rattle.width.specs.Binary32.{floatProduct}
 use Rattle.machine.specs.declared.Matrix.{Matrix}
@@ -28,9 +28,9 @@ use Rattle.machine.specs.Vectors.{Vectors, vectorAt, aligned, idle}
 
 -- ---- an instruction with the values of its scalars
 
--- a new mtype; a size that is asked, or none, which cuts the size; plain or transposed, a matrix, a register, a width, an address and a stride; an output factor, md, ms1
--- and ms2; an output factor, md, ms1 and the multiplier; md, ms1 and ms2; rows or columns, ms1, vd, the first of them and how many; rows
--- or columns, md, vs1, the first, how many, and the vector file
+-- a new mtype; a size that is asked, or none, which cuts the size; plain or transposed, a matrix, a register, a width, an address and a stride;
+-- an output factor, md, ms1 and ms2; which sum, an output factor, md and ms1; an output factor, md, ms1 and the multiplier; md, ms1 and ms2; rows
+-- or columns, ms1, vd, the first of them and how many; rows or columns, md, vs1, the first, how many, and the vector file
 pub data Operation : Type 0 where
   illegal : Wrong → Operation
   setType : ℕ → Operation
@@ -117,7 +117,7 @@ placed Transposed value = λ i j. value j i
 
 -- "Element (i, j) of w bits starts in row i at byte j x w/8, low byte first."
 abbrev pub element : List ℕ → (ℕ → ℕ) → ℕ → ℕ → ℕ → ℕ
-element xs at w i j = le xs (at i + j * w) w
+element xs at w i j = getLe xs (at i + j * w) w
 
 -- ---- slices of an accumulator (02, Eleven)
 

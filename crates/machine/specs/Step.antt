@@ -3,6 +3,7 @@
 use mathlib.Core.Bool.{cond}
 use mathlib.Core.List.{List, _∷_}
 use Prim.Native.Nat.{ℕ}
+use Rattle.width.specs.Blocks.{Choice}
 use Rattle.machine.specs.declared.Answer.{Answer}
 use Rattle.machine.specs.declared.Answer.the-variants.{Done, BadArguments}
 use Rattle.machine.specs.declared.Stepped.{Stepped}
@@ -92,7 +93,7 @@ module _ (W : Vectors) (M : Parameters) (i : Instruction) (xs : List ℕ) (B : B
   steppedIn = cond (vectorsFit W) (beside vectorsIn outcomeIn) (beside (W .file) (refusedIn BadArguments))
 
 -- a step under a choice of sizes for each rule
-unfoldable pub stepWith : (ℕ → ℕ → ℕ → ℕ) → ℕ → List ℕ → Vectors → Bench → VectorOutcome
+unfoldable pub stepWith : Choice → ℕ → List ℕ → Vectors → Bench → VectorOutcome
 stepWith grant word xs W B = steppedIn W (parameters grant (B .machine)) (decode word) xs B
 
 -- and under ours
@@ -123,7 +124,7 @@ module _ (M : Parameters) (i : Instruction) (xs : List ℕ) (B : Bench) where
   unfoldable pub outcome : Outcome
   outcome = outcomeIn idle M i xs B
 
-unfoldable pub stepBy : (ℕ → ℕ → ℕ → ℕ) → ℕ → List ℕ → Bench → Outcome
+unfoldable pub stepBy : Choice → ℕ → List ℕ → Bench → Outcome
 stepBy grant word xs B = outcome (parameters grant (B .machine)) (decode word) xs B
 
 abbrev pub step : ℕ → List ℕ → Bench → Outcome

@@ -6,7 +6,7 @@ use Prim.Native.Nat.{ℕ, _+_, _*_, _≤_, _<_}
 use lib.ListN.{length, getD}
 use lib.IntN.{pos}
 use Rattle.width.specs.Tile.{byteOf, In}
-use Rattle.width.specs.Blocks.{EachGrants}
+use Rattle.width.specs.Blocks.{Choice, EachGrants}
 use Rattle.machine.specs.declared.Form.{Form}
 use Rattle.machine.specs.declared.Matrix.{Matrix}
 use Rattle.machine.specs.declared.Instruction.the-variants.{Store}
@@ -36,7 +36,7 @@ RulesKeepConstraints = EachGrants chosen
 
 -- Demand 1: "A refusal changes nothing lent or held."
 abbrev pub RefusalChangesNothing : Type 0
-RefusalChangesNothing = (grant : ℕ → ℕ → ℕ → ℕ) (word : ℕ) (xs : List ℕ) (W : Vectors) (B : Bench) → ¬ (stepWith grant word xs W B .answer .number ≡ 0)
+RefusalChangesNothing = (grant : Choice) (word : ℕ) (xs : List ℕ) (W : Vectors) (B : Bench) → ¬ (stepWith grant word xs W B .answer .number ≡ 0)
     → (stepWith grant word xs W B .bench ≡ B) × (stepWith grant word xs W B .scalars ≡ xs) × (stepWith grant word xs W B .vectors ≡ W .file)
 
 -- and so of a start
@@ -54,12 +54,8 @@ SealRefusalChangesNothing = (start size : ℕ) (B : Bench) → ¬ (addSeal start
 
 -- a step of a state that is not at fault leaves one that is not at fault
 abbrev pub StepKeepsSound : Type 0
-StepKeepsSound = (grant : ℕ → ℕ → ℕ → ℕ) → EachGrants grant → (word : ℕ) (xs : List ℕ) (W : Vectors) (B : Bench) → soundBench B ≡ true
+StepKeepsSound = (grant : Choice) → EachGrants grant → (word : ℕ) (xs : List ℕ) (W : Vectors) (B : Bench) → soundBench B ≡ true
     → soundBench (stepWith grant word xs W B .bench) ≡ true
-
--- and the vector file keeps its length
-abbrev pub StepKeepsFile : Type 0
-StepKeepsFile = (grant : ℕ → ℕ → ℕ → ℕ) (word : ℕ) (xs : List ℕ) (W : Vectors) (B : Bench) → length (stepWith grant word xs W B .vectors) ≡ length (W .file)
 
 -- and so does adding a range
 abbrev pub SealKeepsSound : Type 0
@@ -71,19 +67,23 @@ StartIsSound = (rlen mlen elen rule : ℕ) (seals registers marks memory : List 
     → startMachine rlen mlen elen rule seals registers marks .answer .number ≡ 0
     → soundBench (startedBench rlen mlen elen rule seals registers marks memory) ≡ true
 
+-- a step leaves a vector file of the same length
+abbrev pub StepKeepsFile : Type 0
+StepKeepsFile = (grant : Choice) (word : ℕ) (xs : List ℕ) (W : Vectors) (B : Bench) → length (stepWith grant word xs W B .vectors) ≡ length (W .file)
+
 -- ---- stores
 
 -- what a store of a tile, plain or transposed, leaves in memory, over the rows and columns that it has there: its rows lie in memory, no
 -- byte is in two of them, each byte of element (i, j) is that of the register's element, every other byte is as before, and so is the length
-module _ (grant : ℕ → ℕ → ℕ → ℕ) (xs : List ℕ) (B : Bench) (f : Form) (k : Matrix) (w r rs1 rs2 : ℕ) where
-  abbrev tile : State
-  tile = stateOf (B .machine) (B .registers) (B .marks)
+module _ (grant : Choice) (xs : List ℕ) (B : Bench) (f : Form) (k : Matrix) (w r rs1 rs2 : ℕ) where
+  abbrev state : State
+  state = stateOf (B .machine) (B .registers) (B .marks)
 
   abbrev rows : ℕ
-  rows = memoryRows f (tileRows tile k) (tileCols tile k)
+  rows = memoryRows f (tileRows state k) (tileCols state k)
 
   abbrev cols : ℕ
-  cols = memoryCols f (tileRows tile k) (tileCols tile k)
+  cols = memoryCols f (tileRows state k) (tileCols state k)
 
   abbrev at : ℕ → ℕ
   at = rowAt (scalar xs rs1) (scalar xs rs2)
@@ -101,7 +101,7 @@ module _ (grant : ℕ → ℕ → ℕ → ℕ) (xs : List ℕ) (B : Bench) (f : 
 
 -- 02, Seven: each element where it belongs, with no order of rows
 abbrev pub StoresAreExact : Type 0
-StoresAreExact = (grant : ℕ → ℕ → ℕ → ℕ) (word : ℕ) (xs : List ℕ) (W : Vectors) (B : Bench) (f : Form) (k : Matrix) (w r rs1 rs2 : ℕ)
+StoresAreExact = (grant : Choice) (word : ℕ) (xs : List ℕ) (W : Vectors) (B : Bench) (f : Form) (k : Matrix) (w r rs1 rs2 : ℕ)
     → decode word ≡ Store f k w r rs1 rs2 → stepWith grant word xs W B .answer .number ≡ 0
     → Stores grant xs B f k w r rs1 rs2 (stepWith grant word xs W B .bench .memory)
 
@@ -114,7 +114,7 @@ pub record Given : Type 0 where
   pub vectors : Vectors
 
 -- the bench after a list of words, refusals included
-abbrev pub afterAll : (ℕ → ℕ → ℕ → ℕ) → List Given → Bench → Bench
+abbrev pub afterAll : Choice → List Given → Bench → Bench
 afterAll grant [] B = B
 afterAll grant (w ∷ ws) B = afterAll grant ws (stepWith grant (w .word) (w .scalars) (w .vectors) B .bench)
 
@@ -124,7 +124,7 @@ pub record Extends (before after : List Range) : Type 0 where
   pub behind : after ≡ before ++ added
 
 -- every range stays, the memory keeps its length, and no byte that was sealed changes
-pub record Unharmed (grant : ℕ → ℕ → ℕ → ℕ) (B B′ : Bench) : Type 0 where
+pub record Unharmed (grant : Choice) (B B′ : Bench) : Type 0 where
   pub same-parameters : parameters grant (B′ .machine) ≡ parameters grant (B .machine)
   pub ranges-stay : Extends (B .seals) (B′ .seals)
   pub same-length : length (B′ .memory) ≡ length (B .memory)
@@ -132,7 +132,7 @@ pub record Unharmed (grant : ℕ → ℕ → ℕ → ℕ) (B B′ : Bench) : Typ
 
 -- Demand 2: no sealed byte changes, whatever words are stepped
 abbrev pub SealHolds : Type 0
-SealHolds = (grant : ℕ → ℕ → ℕ → ℕ) (ws : List Given) (B : Bench) → Unharmed grant B (afterAll grant ws B)
+SealHolds = (grant : Choice) (ws : List Given) (B : Bench) → Unharmed grant B (afterAll grant ws B)
 
 -- and from a started machine: each byte of the ranges that it was started with
 abbrev pub SealHoldsFromStart : Type 0

@@ -5,6 +5,7 @@ use mathlib.Core.Bool.{Bool, true, false, cond, _||_, _&&_}
 use mathlib.Core.List.{List, [], _∷_, List·Memᴰ}
 use Prim.Native.Nat.{ℕ}
 use lib.Dec.{eqb, ltb}
+use Rattle.width.specs.Blocks.{Choice}
 use Rattle.machine.specs.declared.Wrong.the-variants.{Unlisted}
 use Rattle.machine.specs.declared.Instruction.{Instruction}
 use Rattle.machine.specs.declared.Instruction.the-variants.{Illegal, SetTypeImmediate, SetType, SetTileImmediate, SetTile, Load, Store, Multiply, Combine, Scale, ScaleImmediate, FloatMultiply, MoveOut, MoveIn}
@@ -65,7 +66,7 @@ pub record RefusedAs (n word : ℕ) (xs : List ℕ) (W : Vectors) (B : Bench) : 
   pub twelve : (n ≡ 12) ↔ Faultless xs W B × RightOpcode word × OutOfRange W word
 
 abbrev pub WordRefusals : Type 0
-WordRefusals = (grant : ℕ → ℕ → ℕ → ℕ) (word : ℕ) (xs : List ℕ) (W : Vectors) (B : Bench) → RefusedAs (stepWith grant word xs W B .answer .number) word xs W B
+WordRefusals = (grant : Choice) (word : ℕ) (xs : List ℕ) (W : Vectors) (B : Bench) → RefusedAs (stepWith grant word xs W B .answer .number) word xs W B
 
 -- ---- nothing else moved
 
@@ -86,7 +87,7 @@ decodeBefore word =
     let i : Instruction = lookUp word (Illegal Unlisted) (listingBefore listing) in
     cond (eqb (bits 6 0 word) 0b1110111) (cond (inRange i) i (Illegal Unlisted)) (Illegal Unlisted)
 
-abbrev pub stepBefore : (ℕ → ℕ → ℕ → ℕ) → ℕ → List ℕ → Vectors → Bench → VectorOutcome
+abbrev pub stepBefore : Choice → ℕ → List ℕ → Vectors → Bench → VectorOutcome
 stepBefore grant word xs W B = steppedIn W (parameters grant (B .machine)) (decodeBefore word) xs B
 
 -- 10, 11 and 12 stand where 1 stood
@@ -107,10 +108,10 @@ IsAdded word = RightOpcode word × ((r : Row) × List·Memᴰ r listing × Every
 
 -- of every word but these
 abbrev pub NothingElseMoved : Type 0
-NothingElseMoved = (grant : ℕ → ℕ → ℕ → ℕ) (word : ℕ) (xs : List ℕ) (W : Vectors) (B : Bench) → ¬ IsAdded word
+NothingElseMoved = (grant : Choice) (word : ℕ) (xs : List ℕ) (W : Vectors) (B : Bench) → ¬ IsAdded word
     → OnlyNumberMoved (stepWith grant word xs W B) (stepBefore grant word xs W B)
 
 -- and these got 1
 abbrev pub AddedGotOne : Type 0
-AddedGotOne = (grant : ℕ → ℕ → ℕ → ℕ) (word : ℕ) (xs : List ℕ) (W : Vectors) (B : Bench) → Faultless xs W B → IsAdded word
+AddedGotOne = (grant : Choice) (word : ℕ) (xs : List ℕ) (W : Vectors) (B : Bench) → Faultless xs W B → IsAdded word
     → stepBefore grant word xs W B .answer .number ≡ 1

@@ -19,7 +19,7 @@ ghost use mathlib.Core.List.{[], _∷_};
 ghost use Prim.Native.Nat.{_+_, _*_, _^_, _≤_, _<_};
 ghost use lib.ListN.{length};
 ghost use lib.Dec.{leb};
-ghost use Rattle.width.specs.Tile.{le, putRow, putTile};
+ghost use Rattle.width.specs.Tile.{getLe, putRow, putTile};
 ghost use Rattle.machine.specs.declared.Form.the-variants.{Transposed};
 ghost use Rattle.machine.specs.Answers.{verdict};
 ghost use Rattle.machine.specs.Geometry.{stateOf};
@@ -185,7 +185,7 @@ fn copy_column(dst: &mut [u8], src: &[u8], to: usize, from: usize, apart: usize,
     requires { ⌜ Width w ⌝ }
     requires { ⌜ to + n * w ≤ length (now dst) ⌝ }
     requires { ⌜ RowsIn from apart n w (length (now src)) ⌝ }
-    ensures { λ _. ⌜ now (dst .exit) ≡ putRow to n w (λ j. le (now (src .entry)) (from + j * apart) w) (now (dst .entry)) ⌝ }
+    ensures { λ _. ⌜ now (dst .exit) ≡ putRow to n w (λ j. getLe (now (src .entry)) (from + j * apart) w) (now (dst .entry)) ⌝ }
 {
     let mut j = 0;
     while j < n {

@@ -14,7 +14,7 @@ use borrow.Author.Count.{below-more}
 use borrow.Author.Tests.{ltb-true, ltb-false, lt-ltb, le-ltb}
 use Rattle.width.specs.Upto.{upto}
 use Rattle.width.specs.Reduce.{signed, reduce, sumℤ}
-use Rattle.width.specs.Tile.{le, putLe, putRow}
+use Rattle.width.specs.Tile.{getLe, putLe, putRow}
 use Rattle.width.proofs.UptoLaws.{upto-cong}
 use Rattle.width.proofs.TileLaws.{le-cong, le-lt, putRow-out}
 use Rattle.width.proofs.PutLaws.{upto-add}
@@ -37,9 +37,9 @@ each-of-four P a b c d (suc (suc (suc zero))) l = d
 each-of-four P a b c d (suc (suc (suc (suc q)))) l = absurd (omega arith)
 
 -- what stands after the first j elements of a row that is written
-pub after-row : (c j : ℕ) (F : ℕ → ℕ) (s₀ s : List ℕ) → s ≡ putRow c j 4 F s₀ → (p q : ℕ) → p ≡ q → c + j * 4 ≤ q → le s p 4 ≡ le s₀ q 4
+pub after-row : (c j : ℕ) (F : ℕ → ℕ) (s₀ s : List ℕ) → s ≡ putRow c j 4 F s₀ → (p q : ℕ) → p ≡ q → c + j * 4 ≤ q → getLe s p 4 ≡ getLe s₀ q 4
 after-row c j F s₀ s es p q e h =
-    ap₂ (λ (l : List ℕ) (p : ℕ). le l p 4) es e
+    ap₂ (λ (l : List ℕ) (p : ℕ). getLe l p 4) es e
     ∙ le-cong (putRow c j 4 F s₀) s₀ q q 4 (λ i l. putRow-out c j 4 F s₀ (q + i) (λ x. omega arith))
 
 -- j elements of the row of C at c are written, and then n more at `to`, each from what stands there: they are those of the entry
@@ -65,7 +65,7 @@ columns-more s₀ s out xs b c j n to at pairs z ln et ea es eo =
         let e : 2 * (q % 4) ≡ 2 * ((j + q) % 4) = omega arith in
         let f : at + 2 * q ≡ 0 + 2 * (j + q) = omega arith in
         ap (λ (v : ℕ). plusPairs v xs (2 * (q % 4)) b (at + 2 * q) pairs) (after-row c j F s₀ s es (to + q * 4) (c + (j + q) * 4) (place q) (omega arith))
-        ∙ ap₂ (λ (h o : ℕ). plusPairs (le s₀ (c + (j + q) * 4) 4) xs h b o pairs) e f
+        ∙ ap₂ (λ (h o : ℕ). plusPairs (getLe s₀ (c + (j + q) * 4) 4) xs h b o pairs) e f
 
 -- ---- numbers in pairs
 
@@ -172,7 +172,7 @@ sum-rest f n (suc d) z =
 
 -- the signed number of 16 bits is the signed element
 half-is : (s : List ℕ) → ((q : ℕ) → getD s q 0 < 256) → (p w : ℕ) → Narrow w → signed (256 ^ 2) (half s p w) ≡ signedLe s p w
-half-is s bytes p w ok = signed-widened (256 ^ w) (256 ^ 2) (le s p w) (le-lt s bytes p w) (⊎-elim (λ e. rw e (omega arith)) (λ e. rw e (omega arith)) ok)
+half-is s bytes p w ok = signed-widened (256 ^ w) (256 ^ 2) (getLe s p w) (le-lt s bytes p w) (⊎-elim (λ e. rw e (omega arith)) (λ e. rw e (omega arith)) ok)
 
 module _ (s : List ℕ) (bytes : (q : ℕ) → getD s q 0 < 256) (w : ℕ) (ok : Narrow w) (a b pitch k n : ℕ) (xs bs : List ℕ)
     (row : (p q : ℕ) → q < 4 → (getD xs (8 * p + 2 * q) 0 ≡ padded s a w k (2 * p)) × (getD xs (8 * p + 2 * q + 1) 0 ≡ padded s a w k (2 * p + 1)))
@@ -208,7 +208,7 @@ module _ (s : List ℕ) (bytes : (q : ℕ) → getD s q 0 < 256) (w : ℕ) (ok :
 
   -- all pairs of column j, and d more, make its sum of products
   pub pairs-product : (v j pairs d : ℕ) → j < n → pairs ≡ (k + 1) / 2 + d
-      → plusPairs v xs (2 * (j % 4)) bs (0 + 2 * j) pairs ≡ product 4 w k v (λ l. le s (a + l * w) w) (λ l. le s (b + l * pitch + j * w) w)
+      → plusPairs v xs (2 * (j % 4)) bs (0 + 2 * j) pairs ≡ product 4 w k v (λ l. getLe s (a + l * w) w) (λ l. getLe s (b + l * pitch + j * w) w)
   pairs-product v j pairs d lj e =
       ap (λ (z : ℤ). reduce (256 ^ 4) (signed (256 ^ 4) v +ℤ z))
       (sumℤ-cong pairs (λ p. pair xs (2 * (j % 4) + 8 * p) bs (0 + 2 * j + pairPlaces * p)) two (λ p lp. pair-terms j p)

@@ -6,7 +6,7 @@ use lib.Dec.{ltb}
 use lib.IntN.{ℤ, _+ℤ_, _*ℤ_}
 use lib.ListN.{getD}
 use Rattle.width.specs.Reduce.{signed, reduce, sumℤ}
-use Rattle.width.specs.Tile.{le}
+use Rattle.width.specs.Tile.{getLe}
 use Rattle.width.specs.Bounds.{mostColumns, mostTerms}
 use Rattle.pairs.specs.declared.Block.{Block}
 use Rattle.sums.specs.Rows.{signedLe}
@@ -49,4 +49,4 @@ lane x (suc (suc (suc q))) = x .e3
 
 -- element j of the row of C at c plus its pairs, where the columns stand from o on in b and the pairs of xs four times each
 abbrev pub pairsRow : List ℕ → ℕ → List ℕ → List ℕ → (o pairs j : ℕ) → ℕ
-pairsRow s c xs b o pairs j = plusPairs (le s (c + j * 4) 4) xs (2 * (j % 4)) b (o + 2 * j) pairs
+pairsRow s c xs b o pairs j = plusPairs (getLe s (c + j * 4) 4) xs (2 * (j % 4)) b (o + 2 * j) pairs

@@ -6,7 +6,7 @@ ghost use Prim.Native.Nat.{ℕ, _+_, _*_, _/_, _%_, _^_, _≤_, _<_};
 ghost use lib.IntN.{_+ℤ_, _*ℤ_};
 ghost use lib.ListN.{length, getD};
 ghost use Rattle.width.specs.Reduce.{reduce, signed};
-ghost use Rattle.width.specs.Tile.{le, putLe, putRow, putTile};
+ghost use Rattle.width.specs.Tile.{getLe, putLe, putRow, putTile};
 ghost use Rattle.width.specs.Bounds.{mostPitch, mostColumns, mostTerms};
 ghost use Rattle.element.specs.Element.{Narrow};
 ghost use Rattle.sums.specs.Rows.{productRow};
@@ -55,7 +55,7 @@ struct Block {
 // The four elements of C from `c` on.
 fn read_block(s: &[u8], c: usize) -> Block
     requires { ⌜ c + 16 ≤ length (now s) ⌝ }
-    ensures { λ r. ⌜ ((q : ℕ) → q < 4 → lane r q ≡ le (now (s .entry)) (c + q * 4) 4) ⌝ }
+    ensures { λ r. ⌜ ((q : ℕ) → q < 4 → lane r q ≡ getLe (now (s .entry)) (c + q * 4) 4) ⌝ }
 {
     Block {
         e0: element::read4(s, c),
@@ -137,7 +137,7 @@ fn add_column(s: &mut [u8], c: usize, b: &[u16], o: usize, xs: &[u16], from: usi
     requires { ⌜ c + 4 ≤ length (now s) ⌝ }
     requires { ⌜ (o + 2 ≤ pairPlaces) × (pairs * pairPlaces ≤ length (now b)) ⌝ }
     requires { ⌜ (from + 2 ≤ 8) × (pairs * 8 ≤ length (now xs)) ⌝ }
-    ensures { λ _. ⌜ now (s .exit) ≡ putLe c 4 (plusPairs (le (now (s .entry)) c 4) (now (xs .entry)) from (now (b .entry)) o pairs) (now (s .entry)) ⌝ }
+    ensures { λ _. ⌜ now (s .exit) ≡ putLe c 4 (plusPairs (getLe (now (s .entry)) c 4) (now (xs .entry)) from (now (b .entry)) o pairs) (now (s .entry)) ⌝ }
 {
     let mut sum = element::read4(s, c);
     let mut p = 0;

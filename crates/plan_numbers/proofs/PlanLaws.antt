@@ -15,10 +15,10 @@ use Rattle.run.specs.declared.Layout.{Layout}
 use Rattle.run.specs.declared.Plan.{Plan}
 use Rattle.run.specs.declared.Place.the-variants.{AtM, AtMultiply, AtStore}
 use Rattle.run.specs.Plan.{msew, typeOf}
-use Rattle.run.specs.Encoding.{startOf}
+use Rattle.run.specs.Encoding.{addressIn}
 use Rattle.run.specs.Start.{format, kindFits, planned}
 use Rattle.run.proofs.WordLaws.{start-wraps, widest-format}
-use Rattle.plan_numbers.specs.Parts.{placed}
+use Rattle.plan_numbers.specs.Parts.{inMatrices}
 
 -- ---- formats
 
@@ -80,7 +80,7 @@ pub row-halves : (i s : ℕ) → (i * (s / 4294967296) % 4294967296 * 4294967296
 row-halves i s = halves (i * (s / 4294967296)) (i * (s % 4294967296)) (i * s) (omega (arith, ap (λ (x : ℕ). i * x) (sym (div-add-mod' s 4294967296))))
 
 pub start-by : (l : Layout) (i b : ℕ) → i ≤ 1024 → l .address < 2 ^ 64 → l .stride < 2 ^ 64 → b < 2 ^ 64
-    → ((l .address + (i * l .stride) % 2 ^ 64) % 2 ^ 64 + b) % 2 ^ 64 ≡ startOf l i b
+    → ((l .address + (i * l .stride) % 2 ^ 64) % 2 ^ 64 + b) % 2 ^ 64 ≡ addressIn l i b
 start-by l i b hi ha hs hb =
     let ei : i % 18446744073709551616 ≡ i = mod-eq-of-lt (omega arith) in
     let ea : l .address % 18446744073709551616 ≡ l .address = mod-eq-of-lt ha in
@@ -92,16 +92,16 @@ start-by l i b hi ha hs hb =
 
 -- ---- a place in the matrices
 
-pub at-m : (P : Plan) (i : ℕ) → placed P (AtM i) ≡ true → i ≤ P .m
+pub at-m : (P : Plan) (i : ℕ) → inMatrices P (AtM i) ≡ true → i ≤ P .m
 at-m P i h = omega (arith, ltb-true i (P .m) h)
 
 -- a place in a block of C, and one in a block of terms
-pub at-store : (P : Plan) (i j : ℕ) → placed P (AtStore i j) ≡ true → (i ≤ P .m) × (j ≤ P .n)
+pub at-store : (P : Plan) (i j : ℕ) → inMatrices P (AtStore i j) ≡ true → (i ≤ P .m) × (j ≤ P .n)
 at-store P i j h =
     let t = every-each (ltb i (P .m) ∷ ltb j (P .n) ∷ []) h in
     omega (arith, ltb-true i (P .m) (t .0), ltb-true j (P .n) (t .1 .0))
 
-pub at-multiply : (P : Plan) (i j s : ℕ) → placed P (AtMultiply i j s) ≡ true → (i ≤ P .m) × ((j ≤ P .n) × (s ≤ P .k))
+pub at-multiply : (P : Plan) (i j s : ℕ) → inMatrices P (AtMultiply i j s) ≡ true → (i ≤ P .m) × ((j ≤ P .n) × (s ≤ P .k))
 at-multiply P i j s h =
     let t = every-each (ltb i (P .m) ∷ ltb j (P .n) ∷ ltb s (P .k) ∷ []) h in
     omega (arith, ltb-true i (P .m) (t .0), ltb-true j (P .n) (t .1 .0), ltb-true s (P .k) (t .1 .1 .0))

@@ -11,8 +11,8 @@ ghost use Rattle.width.specs.Bounds.{mostElen};
 ghost use Rattle.machine.specs.Tests.{every, isIn};
 ghost use Rattle.run.specs.Plan.{narrow, wide, msew, typeOf, formOf, aRow, aColumn};
 ghost use Rattle.run.specs.Start.{format, kindFits, planned};
-ghost use Rattle.run.specs.Encoding.{log, startOf, loadCode};
-ghost use Rattle.plan_numbers.specs.Parts.{placed};
+ghost use Rattle.run.specs.Encoding.{log, addressIn, loadCode};
+ghost use Rattle.plan_numbers.specs.Parts.{inMatrices};
 
 // ---- numbers that are permitted
 
@@ -213,7 +213,7 @@ fn row_times(row: u64, stride: u64) -> u64
 // The address so many bytes into a row, modulo 2^64.
 pub fn start_of(address: u64, stride: u64, row: u64, bytes: u64) -> u64
     requires { ⌜ row ≤ 1024 ⌝ }
-    ensures { λ r. ⌜ r ≡ startOf (record { address = address; stride = stride }) row bytes ⌝ }
+    ensures { λ r. ⌜ r ≡ addressIn (record { address = address; stride = stride }) row bytes ⌝ }
 {
     let away = row_times(row, stride);
     let start = std::num::wrapping_add_u64(address, away);
@@ -245,7 +245,7 @@ fn in_sums(plan: Plan, row: u64, column: u64, term: u64) -> bool
 
 // Whether a place lies in the matrices.
 pub fn is_placed(plan: Plan, place: Place) -> bool
-    ensures { λ r. ⌜ r ≡ placed plan place ⌝ }
+    ensures { λ r. ⌜ r ≡ inMatrices plan place ⌝ }
 {
     match place {
         Place::AtType => true,

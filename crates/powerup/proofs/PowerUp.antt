@@ -7,10 +7,11 @@ use native.Mathlib.Omega.{arith}
 use lib.ListN.{length, getD, replicate}
 use lib.Dec.{eqb}
 use borrow.Author.Tests.{eqb-true}
+use Rattle.width.specs.Blocks.{Choice}
 use Rattle.machine.specs.declared.Answer.the-variants.{Done}
 use Rattle.machine.specs.declared.Answer.{Answer}
 use Rattle.machine.specs.declared.Reply.{Reply}
-use Rattle.machine.specs.Answers.{reply, isDone, verdict}
+use Rattle.machine.specs.Answers.{reply, done, isDone, verdict}
 use Rattle.machine.specs.Geometry.{Bench, permitted, registerBytes}
 use Rattle.machine.specs.Alike.{Agree}
 use Rattle.machine.specs.Vectors.{Vectors, vectorsOf}
@@ -107,7 +108,7 @@ pub record SameActed (o o′ : Acted) : Type 0 where
 reading-same : (o o′ : Acted) → SameActed o o′ → reading o ≡ reading o′
 reading-same o o′ k = cc
 
-module _ (grant : ℕ → ℕ → ℕ → ℕ) (B B′ : Bench) (xs : List ℕ) (W : Vectors) (R : Run) (t : AlikeBenches B B′) where
+module _ (grant : Choice) (B B′ : Bench) (xs : List ℕ) (W : Vectors) (R : Run) (t : AlikeBenches B B′) where
   each-same : (a : Act) → SameActed (act grant a (session B xs W R)) (act grant a (session B′ xs W R))
   each-same (Act.lend ys W′ memory) = record {
     same-answer = refl;
@@ -137,7 +138,7 @@ module _ (grant : ℕ → ℕ → ℕ → ℕ) (B B′ : Bench) (xs : List ℕ) 
         same-answer = k .same-answer;
         same-handed = refl;
         same-count = refl;
-        same-after = record { same-scalars = refl; same-lent = refl; same-run = k .same-run; alike-benches = k .alike-after };
+        same-after = record { same-scalars = refl; same-lent = refl; same-run = ap₂ (λ (a : Reply) (Q : Run). cond (done a) Q R) (k .same-answer) (k .same-run); alike-benches = k .alike-after };
       }
   each-same Act.runNext = record {
     same-answer = refl;
@@ -178,14 +179,14 @@ module _ (grant : ℕ → ℕ → ℕ → ℕ) (B B′ : Bench) (xs : List ℕ) 
         same-after = record { same-scalars = refl; same-lent = refl; same-run = refl; alike-benches = k .1 };
       }
 
-act-same : (grant : ℕ → ℕ → ℕ → ℕ) (a : Act) (S S′ : Session) → SameSession S S′ → SameActed (act grant a S) (act grant a S′)
+act-same : (grant : Choice) (a : Act) (S S′ : Session) → SameSession S S′ → SameActed (act grant a S) (act grant a S′)
 act-same grant a S S′ s =
     subst (λ (xs : List ℕ). SameActed (act grant a S) (act grant a (session (S′ .bench) xs (S′ .lent) (S′ .run)))) (s .same-scalars)
     (subst (λ (W : Vectors). SameActed (act grant a S) (act grant a (session (S′ .bench) (S .scalars) W (S′ .run)))) (s .same-lent)
     (subst (λ (R : Run). SameActed (act grant a S) (act grant a (session (S′ .bench) (S .scalars) (S .lent) R))) (s .same-run)
     (each-same grant (S .bench) (S′ .bench) (S .scalars) (S .lent) (S .run) (s .alike-benches) a)))
 
-readings-same : (grant : ℕ → ℕ → ℕ → ℕ) (acts : List Act) (S S′ : Session) → SameSession S S′ → readings grant acts S ≡ readings grant acts S′
+readings-same : (grant : Choice) (acts : List Act) (S S′ : Session) → SameSession S S′ → readings grant acts S ≡ readings grant acts S′
 readings-same grant [] S S′ s = refl
 readings-same grant (a ∷ acts) S S′ s =
     let k = act-same grant a S S′ s in

@@ -10,6 +10,7 @@ use lib.ListN.{length}
 use lib.Dec.{eqb, ltb}
 use lib.IntN.{ℤ, pos, negsuc, _+ℤ_, _*ℤ_, *ℤ-zero}
 use borrow.Author.Tests.{ne-eqb}
+use Rattle.width.specs.Blocks.{Choice}
 use Rattle.width.specs.Reduce.{signed, reduce}
 use Rattle.width.specs.Binary32.{floatProduct}
 use Rattle.width.proofs.ReduceLaws.{sumℤ-cong}
@@ -412,7 +413,7 @@ pub record SameBy (o o′ : Outcome) : Type 0 where
   pub same-scalars : o .scalars ≡ o′ .scalars
   pub alike-after : AlikeBenches (o .bench) (o′ .bench)
 
-pub step-by-ignores-unmarked : (grant : ℕ → ℕ → ℕ → ℕ) (word : ℕ) (xs : List ℕ) (B B′ : Bench) → AlikeBenches B B′ → SameBy (stepBy grant word xs B) (stepBy grant word xs B′)
+pub step-by-ignores-unmarked : (grant : Choice) (word : ℕ) (xs : List ℕ) (B B′ : Bench) → AlikeBenches B B′ → SameBy (stepBy grant word xs B) (stepBy grant word xs B′)
 unfolding stepBy outcome
 step-by-ignores-unmarked grant word xs B B′ t =
     subst (λ (C : Bench). SameBy (stepBy grant word xs B) (stepBy grant word xs C)) (lent-is B B′ t)

@@ -6,6 +6,7 @@
 use mathlib.Core.Path.{_≡_}
 use mathlib.Core.List.{List, [], _∷_}
 use Prim.Native.Nat.{ℕ}
+use Rattle.width.specs.Blocks.{Choice}
 use Rattle.machine.specs.Geometry.{Bench}
 use Rattle.machine.specs.Vectors.{Vectors, vectorsOf}
 use Rattle.machine.specs.Step.{VectorOutcome, stepWith}
@@ -33,28 +34,28 @@ EachSame (o ∷ os) (o′ ∷ os′) = SameOutcome o o′ × EachSame os os′
 
 -- one word
 abbrev pub StepIgnoresUnmarked : Type 0
-StepIgnoresUnmarked = (grant : ℕ → ℕ → ℕ → ℕ) (word : ℕ) (xs : List ℕ) (W : Vectors) (B B′ : Bench) → AlikeBenches B B′
+StepIgnoresUnmarked = (grant : Choice) (word : ℕ) (xs : List ℕ) (W : Vectors) (B B′ : Bench) → AlikeBenches B B′
     → SameOutcome (stepWith grant word xs W B) (stepWith grant word xs W B′)
 
 -- ---- one word after another, refusals included
 
 -- the outcome of each word, with the scalars and the vector file as the word before left them
-abbrev pub outcomes : (ℕ → ℕ → ℕ → ℕ) → List ℕ → List ℕ → Vectors → Bench → List VectorOutcome
+abbrev pub outcomes : Choice → List ℕ → List ℕ → Vectors → Bench → List VectorOutcome
 outcomes grant [] xs W B = []
 outcomes grant (w ∷ ws) xs W B =
     let o : VectorOutcome = stepWith grant w xs W B in o ∷ outcomes grant ws (o .scalars) (vectorsOf (o .vectors) (W .group)) (o .bench)
 
 -- "given the same words one after another .. after each", the scalars and the vector file lent once
 abbrev pub WordsIgnoreUnmarked : Type 0
-WordsIgnoreUnmarked = (grant : ℕ → ℕ → ℕ → ℕ) (ws xs : List ℕ) (W : Vectors) (B B′ : Bench) → AlikeBenches B B′
+WordsIgnoreUnmarked = (grant : Choice) (ws xs : List ℕ) (W : Vectors) (B B′ : Bench) → AlikeBenches B B′
     → EachSame (outcomes grant ws xs W B) (outcomes grant ws xs W B′)
 
 -- the outcome of each word, with the scalars and the vector file that it is given
-abbrev pub outcomesGiven : (ℕ → ℕ → ℕ → ℕ) → List Given → Bench → List VectorOutcome
+abbrev pub outcomesGiven : Choice → List Given → Bench → List VectorOutcome
 outcomesGiven grant [] B = []
 outcomesGiven grant (w ∷ ws) B = let o : VectorOutcome = stepWith grant (w .word) (w .scalars) (w .vectors) B in o ∷ outcomesGiven grant ws (o .bench)
 
 -- the same, the scalars and the vector file given with each word
 abbrev pub GivenWordsIgnoreUnmarked : Type 0
-GivenWordsIgnoreUnmarked = (grant : ℕ → ℕ → ℕ → ℕ) (ws : List Given) (B B′ : Bench) → AlikeBenches B B′
+GivenWordsIgnoreUnmarked = (grant : Choice) (ws : List Given) (B B′ : Bench) → AlikeBenches B B′
     → EachSame (outcomesGiven grant ws B) (outcomesGiven grant ws B′)

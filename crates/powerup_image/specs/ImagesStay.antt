@@ -4,6 +4,7 @@
 use mathlib.Core.Path.{_≡_}
 use mathlib.Core.List.{List, map}
 use Prim.Native.Nat.{ℕ}
+use Rattle.width.specs.Blocks.{Choice}
 use Rattle.machine.specs.Geometry.{Bench}
 use Rattle.machine.specs.Vectors.{Vectors}
 use Rattle.machine.specs.Step.{VectorOutcome}
@@ -17,10 +18,10 @@ imagesAfter os = map (λ (o : VectorOutcome). imageIn (o .bench)) os
 
 -- the scalars and the vector file lent once
 abbrev pub ImagesStayEqual : Type 0
-ImagesStayEqual = (grant : ℕ → ℕ → ℕ → ℕ) (ws xs : List ℕ) (W : Vectors) (B B′ : Bench) → AlikeBenches B B′
+ImagesStayEqual = (grant : Choice) (ws xs : List ℕ) (W : Vectors) (B B′ : Bench) → AlikeBenches B B′
     → (imageIn B ≡ imageIn B′) × (imagesAfter (outcomes grant ws xs W B) ≡ imagesAfter (outcomes grant ws xs W B′))
 
 -- the scalars and the vector file given with each word
 abbrev pub ImagesStayEqualGiven : Type 0
-ImagesStayEqualGiven = (grant : ℕ → ℕ → ℕ → ℕ) (ws : List Given) (B B′ : Bench) → AlikeBenches B B′
+ImagesStayEqualGiven = (grant : Choice) (ws : List Given) (B B′ : Bench) → AlikeBenches B B′
     → (imageIn B ≡ imageIn B′) × (imagesAfter (outcomesGiven grant ws B) ≡ imagesAfter (outcomesGiven grant ws B′))

@@ -11,7 +11,7 @@ use lib.ListN.{length}
 use lib.IntN.{ℤ, pos, negsuc, _+ℤ_, _*ℤ_}
 use borrow.Author.Tests.{le-leb, le-ltb, lt-ltb}
 use Rattle.width.specs.Reduce.{signed, reduce, sumℤ}
-use Rattle.width.specs.Tile.{le, putLe, putRow, In}
+use Rattle.width.specs.Tile.{getLe, putLe, putRow, In}
 use Rattle.width.proofs.ReduceLaws.{sumℤ-cong}
 use Rattle.width.proofs.TileLaws.{le-cong, length-putRow, putRow-out, pitched}
 use Rattle.width.proofs.PutLaws.{putLe-low}
@@ -86,17 +86,17 @@ module _ (base s : ℕ) (small : s ≤ 64) where
 -- ---- elements written and read by rows
 
 -- element (i, j) of rows of cols elements, one after another
-pub place : (mem : List ℕ) (base cols w i j : ℕ) → cols * w ≤ 64 → element mem (rowAt base (cols * w)) w i j ≡ le mem (base + (i * cols + j) * w) w
+pub place : (mem : List ℕ) (base cols w i j : ℕ) → cols * w ≤ 64 → element mem (rowAt base (cols * w)) w i j ≡ getLe mem (base + (i * cols + j) * w) w
 place mem base cols w i j small =
     let e : base + i * (cols * w) + j * w ≡ base + (i * cols + j) * w = omega arith in
-    ap (λ (p : ℕ). le mem (p + j * w) w) (row-at base (cols * w) small i) ∙ ap (λ (p : ℕ). le mem p w) e
+    ap (λ (p : ℕ). getLe mem (p + j * w) w) (row-at base (cols * w) small i) ∙ ap (λ (p : ℕ). getLe mem p w) e
 
 -- element (i, j) of a matrix is one of its elements
 pub element-in : (rows cols i j : ℕ) → i < rows → j < cols → i * cols + j < rows * cols
 element-in rows cols i j l g = omega (arith, mul-le-mul-right cols l)
 
 -- a number that ends before a row that is written stays
-row-keeps : (p cols w : ℕ) (value : ℕ → ℕ) (xs : List ℕ) (q v : ℕ) → q + v ≤ p → le (putRow p cols w value xs) q v ≡ le xs q v
+row-keeps : (p cols w : ℕ) (value : ℕ → ℕ) (xs : List ℕ) (q v : ℕ) → q + v ≤ p → getLe (putRow p cols w value xs) q v ≡ getLe xs q v
 row-keeps p cols w value xs q v h = le-cong (putRow p cols w value xs) xs q q v (λ b l. putRow-out p cols w value xs (q + b) (λ x. omega arith))
 
 -- ---- the plan of a format and sizes up to 16
@@ -141,7 +141,7 @@ module _ (sew f m k n : ℕ) (formatted : format 32 sew f ≡ true) (m≤ : m �
 
   -- the elements of C lie row after row
   pub c-place : (mem : List ℕ) (i j : ℕ)
-      → element mem (cAt (planFor sew f m k n)) (wide (planFor sew f m k n)) i j ≡ le mem (2048 + (i * n + j) * (f * (sew / 8))) (f * (sew / 8))
+      → element mem (cAt (planFor sew f m k n)) (wide (planFor sew f m k n)) i j ≡ getLe mem (2048 + (i * n + j) * (f * (sew / 8))) (f * (sew / 8))
   unfolding narrow
   c-place mem i j = place mem 2048 n (f * (sew / 8)) i j c-row
 
@@ -168,7 +168,7 @@ module _ (sew f m k n : ℕ) (formatted : format 32 sew f ≡ true) (m≤ : m �
         → ((q : ℕ) → q < m * k → signed (256 ^ (sew / 8)) (va q % 256 ^ (sew / 8)) ≡ za q)
         → ((q : ℕ) → q < k * n → signed (256 ^ (sew / 8)) (vb q % 256 ^ (sew / 8)) ≡ zb q)
         → (i j : ℕ) → i < m → j < n
-        → productOf (record { machine = M; plan = planFor sew f m k n; memory = filled (sew / 8) m k n va vb mem }) i j
+        → productOf (record { parameters = M; plan = planFor sew f m k n; memory = filled (sew / 8) m k n va vb mem }) i j
         ≡ reduce (256 ^ (f * (sew / 8))) (sumℤ k (λ l. za (i * k + l) *ℤ zb (l * n + j)))
     unfolding narrow total
     sum-here M za zb ea eb i j i< j< =

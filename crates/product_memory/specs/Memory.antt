@@ -27,7 +27,7 @@ productMachine = parametersOf smaller 64 256 32
 
 -- its run on a memory
 abbrev pub jobFor : (sew f m k n : ℕ) → List ℕ → Job
-jobFor sew f m k n mem = record { machine = productMachine; plan = planFor sew f m k n; memory = mem }
+jobFor sew f m k n mem = record { parameters = productMachine; plan = planFor sew f m k n; memory = mem }
 
 -- A, m by k, and then B, k by n, written to their places by rows, in elements of w bytes
 abbrev pub filled : (w m k n : ℕ) → (a b : ℕ → ℕ) → List ℕ → List ℕ

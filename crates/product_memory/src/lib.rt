@@ -5,7 +5,7 @@ ghost use mathlib.Core.Path.{_≡_};
 ghost use mathlib.Core.Bool.{true};
 ghost use Prim.Native.Nat.{ℕ, _+_, _*_, _≤_, _<_};
 ghost use lib.ListN.{length, getD};
-ghost use Rattle.width.specs.Tile.{le, putLe, putRow};
+ghost use Rattle.width.specs.Tile.{getLe, putLe, putRow};
 ghost use Rattle.element.specs.Element.{Short};
 ghost use Rattle.run.specs.Start.{format};
 ghost use Rattle.product_memory.specs.Memory.{planFor};
@@ -76,7 +76,7 @@ pub fn put_elements(memory: &mut [u8], at: usize, width: usize, values: &[u64])
 fn read_element(memory: &[u8], at: usize, width: usize) -> u64
     requires { ⌜ Short width ⌝ }
     requires { ⌜ at + width ≤ length (now memory) ⌝ }
-    ensures { λ r. ⌜ r ≡ le (now (memory .entry)) at width ⌝ }
+    ensures { λ r. ⌜ r ≡ getLe (now (memory .entry)) at width ⌝ }
 {
     if width == 1 {
         return element::read1(memory, at) as u64;
@@ -92,7 +92,7 @@ pub fn read_elements(values: &mut [u64], memory: &[u8], at: usize, width: usize)
     requires { ⌜ Short width ⌝ }
     requires { ⌜ at + length (now values) * width ≤ length (now memory) ⌝ }
     ensures { λ _. ⌜ length (now (values .exit)) ≡ length (now (values .entry)) ⌝ }
-    ensures { λ _. ⌜ ((j : ℕ) → j < length (now (values .entry)) → getD (now (values .exit)) j 0 ≡ le (now (memory .entry)) (at + j * width) width) ⌝ }
+    ensures { λ _. ⌜ ((j : ℕ) → j < length (now (values .entry)) → getD (now (values .exit)) j 0 ≡ getLe (now (memory .entry)) (at + j * width) width) ⌝ }
 {
     let mut from = at;
     let mut j = 0;

@@ -11,7 +11,7 @@ use lib.Seq.{getD-at}
 use lib.Dec.{leb, ltb, eqb}
 use borrow.Author.Tests.{leb-true, le-leb, lt-ltb, le-ltb, eqb-true, eq-eqb, ne-eqb}
 use Rattle.width.specs.Upto.{upto}
-use Rattle.width.specs.Tile.{le, putLe, In}
+use Rattle.width.specs.Tile.{getLe, putLe, In}
 use Rattle.width.proofs.UptoLaws.{upto-keeps, upto-cong}
 use Rattle.width.proofs.PutLaws.{upto-add}
 use Rattle.width.proofs.TileLaws.{le-cong, le-bytes, length-putLe, putLe-out, putLe-at}
@@ -264,7 +264,7 @@ module _ (c : List ℕ) (small : (q : ℕ) → getD c q 0 < 256) where
   unfolding putRange
   putRange-same i r e =
       ap (λ (r : Range). putLe (slotAt i + 8) 8 (r .size) (putLe (slotAt i) 8 (r .start) c)) (sym e)
-      ∙ ap (putLe (slotAt i + 8) 8 (le c (slotAt i + 8) 8)) (putLe-same c small (slotAt i) 8) ∙ putLe-same c small (slotAt i + 8) 8
+      ∙ ap (putLe (slotAt i + 8) 8 (getLe c (slotAt i + 8) 8)) (putLe-same c small (slotAt i) 8) ∙ putLe-same c small (slotAt i + 8) 8
 
   puts-same : (g : ℕ → Range) (j k : ℕ) → ((i : ℕ) → i < k → rangeAt c (j + i) ≡ g (j + i)) → upto k (λ i. putRange (j + i) (g (j + i))) c ≡ c
   puts-same g j k e =

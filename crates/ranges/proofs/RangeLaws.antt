@@ -11,7 +11,7 @@ use lib.Dec.{leb, ltb, eqb}
 use lib.Bits.{bitOr, or-add-and, or-zero-l, and-le-l, and-le-r}
 use borrow.Author.Tests.{leb-true, le-leb, lt-ltb, le-ltb, eqb-true, eq-eqb, ne-eqb}
 use Rattle.width.specs.Upto.{upto}
-use Rattle.width.specs.Tile.{le, In}
+use Rattle.width.specs.Tile.{getLe, In}
 use Rattle.width.proofs.TileLaws.{le-cong}
 use Rattle.width.proofs.BlockLaws.{le-or-lt}
 use Rattle.machine.specs.Tests.{all, every, within}
@@ -194,10 +194,10 @@ or-three a b d = or-none (bitOr a b) d ∙ ap (λ (t : Bool). t && eqb d 0) (or-
     again false = refl
 
 module _ (block : List ℕ) where
-  pub behind-first : (i : ℕ) → slotEmpty block (suc i) ≡ eqb (le block (88 + 16 * i) 8) 0 && eqb (le block (88 + 16 * i + 8) 8) 0
+  pub behind-first : (i : ℕ) → slotEmpty block (suc i) ≡ eqb (getLe block (88 + 16 * i) 8) 0 && eqb (getLe block (88 + 16 * i + 8) 8) 0
   behind-first i =
       let e : 72 + 16 * suc i ≡ 88 + 16 * i = omega arith in
-      rw (ne-eqb (suc i) 0 (λ e. omega (arith, e))) (ap (λ (p : ℕ). eqb (le block p 8) 0 && eqb (le block (p + 8) 8) 0) e)
+      rw (ne-eqb (suc i) 0 (λ e. omega (arith, e))) (ap (λ (p : ℕ). eqb (getLe block p 8) 0 && eqb (getLe block (p + 8) 8) 0) e)
 
   abbrev behind : Bool → Bool
   behind t = (((((((t && slotEmpty block 1) && slotEmpty block 2) && slotEmpty block 3) && slotEmpty block 4) && slotEmpty block 5) && slotEmpty block 6) && slotEmpty block 7)
@@ -223,7 +223,7 @@ sealsBy size count at =
 
 module _ (xs ys : List ℕ) (long : length xs ≡ length ys) (same : (q : ℕ) → 48 ≤ q → ¬ In 64 16 q → getD xs q 0 ≡ getD ys q 0) where
   -- a number that lies in no other's place
-  number-same : (p : ℕ) → 48 ≤ p → (p + 8 ≤ 64) ⊎ (80 ≤ p) → le xs p 8 ≡ le ys p 8
+  number-same : (p : ℕ) → 48 ≤ p → (p + 8 ≤ 64) ⊎ (80 ≤ p) → getLe xs p 8 ≡ getLe ys p 8
   number-same p l (inl h) = le-cong xs ys p p 8 (λ b k. same (p + b) (omega arith) (λ x. omega (arith, x .0)))
   number-same p l (inr h) = le-cong xs ys p p 8 (λ b k. same (p + b) (omega arith) (λ x. omega (arith, x .1)))
 

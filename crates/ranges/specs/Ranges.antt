@@ -6,7 +6,7 @@ use Prim.Native.Nat.{ℕ, _+_, _*_, _^_}
 use lib.ListN.{length, getD}
 use lib.Dec.{leb, ltb, eqb}
 use Rattle.width.specs.Upto.{upto}
-use Rattle.width.specs.Tile.{le, putLe}
+use Rattle.width.specs.Tile.{getLe, putLe}
 use Rattle.machine.specs.Tests.{all, every}
 use Rattle.machine.specs.Geometry.{Range, range}
 use Rattle.machine.specs.Starting.{mostSeals}
@@ -16,14 +16,14 @@ blockBytes = 200
 
 -- the number of ranges
 abbrev pub countIn : List ℕ → ℕ
-countIn block = le block 80 8
+countIn block = getLe block 80 8
 
 -- eight slots, each a start and a length: the first where the one seal of a machine lay, the others behind the number
 abbrev pub slotAt : ℕ → ℕ
 slotAt i = cond (eqb i 0) 48 (72 + 16 * i)
 
 abbrev pub rangeAt : List ℕ → ℕ → Range
-rangeAt block i = range (le block (slotAt i) 8) (le block (slotAt i + 8) 8)
+rangeAt block i = range (getLe block (slotAt i) 8) (getLe block (slotAt i + 8) 8)
 
 -- the ranges of the first n slots
 abbrev pub firstRanges : ℕ → List ℕ → List Range

@@ -8,7 +8,7 @@ use native.Mathlib.Omega.{arith}
 use lib.ListN.{getD}
 use lib.Dec.{eqb, ltb}
 use borrow.Author.Tests.{ne-eqb, eq-eqb, eqb-true, lt-ltb, le-ltb, ltb-true, ltb-false}
-use Rattle.width.specs.Tile.{le, byteOf}
+use Rattle.width.specs.Tile.{getLe, byteOf}
 use Rattle.width.proofs.PutLaws.{le-byte}
 use Rattle.machine.specs.Tests.{all, every}
 use Rattle.machine.proofs.TestLaws.{all-at, all-true, same-test, Each, every-each, each-every}
@@ -27,16 +27,16 @@ abbrev ones : ℕ → ℕ
 ones zero = 0
 ones (suc w) = ones w + 1 * 256 ^ w
 
-le-ones : (ms : List ℕ) (p w : ℕ) → ((b : ℕ) → b < w → getD ms (p + b) 0 ≡ 1) → le ms p w ≡ ones w
+le-ones : (ms : List ℕ) (p w : ℕ) → ((b : ℕ) → b < w → getD ms (p + b) 0 ≡ 1) → getLe ms p w ≡ ones w
 le-ones ms p zero h = refl
 le-ones ms p (suc w) h = ap₂ (λ (x y : ℕ). x + y * 256 ^ w) (le-ones ms p w (λ b l. h b (omega arith))) (h w (omega arith))
 
 -- eight marks as one number
-pub eight-marked : (ms : List ℕ) (p : ℕ) → ((q : ℕ) → getD ms q 0 < 256) → eqb (le ms p 8) 72340172838076673 ≡ all 8 (λ b. eqb (getD ms (p + b) 0) 1)
-eight-marked ms p small = same-test (eqb (le ms p 8) 72340172838076673) (all 8 (λ b. eqb (getD ms (p + b) 0) 1))
+pub eight-marked : (ms : List ℕ) (p : ℕ) → ((q : ℕ) → getD ms q 0 < 256) → eqb (getLe ms p 8) 72340172838076673 ≡ all 8 (λ b. eqb (getD ms (p + b) 0) 1)
+eight-marked ms p small = same-test (eqb (getLe ms p 8) 72340172838076673) (all 8 (λ b. eqb (getD ms (p + b) 0) 1))
     (λ h. all-true 8 (λ b. eqb (getD ms (p + b) 0) 1) (λ b l. eq-eqb (getD ms (p + b) 0) 1
-    (sym (le-byte ms small p 8 b l) ∙ ap (λ (v : ℕ). byteOf v b) (eqb-true (le ms p 8) 72340172838076673 h) ∙ byte-one b l)))
-    (λ h. eq-eqb (le ms p 8) 72340172838076673 (le-ones ms p 8 (λ b l. eqb-true (getD ms (p + b) 0) 1 (all-at 8 (λ b. eqb (getD ms (p + b) 0) 1) h b l))))
+    (sym (le-byte ms small p 8 b l) ∙ ap (λ (v : ℕ). byteOf v b) (eqb-true (getLe ms p 8) 72340172838076673 h) ∙ byte-one b l)))
+    (λ h. eq-eqb (getLe ms p 8) 72340172838076673 (le-ones ms p 8 (λ b l. eqb-true (getD ms (p + b) 0) 1 (all-at 8 (λ b. eqb (getD ms (p + b) 0) 1) h b l))))
   where
     byte-one : (b : ℕ) → b < 8 → byteOf 72340172838076673 b ≡ 1
     byte-one b l = eqb-true (byteOf 72340172838076673 b) 1 (all-at 8 (λ b. eqb (byteOf 72340172838076673 b) 1) refl b l)

@@ -6,6 +6,7 @@ use mathlib.Core.Option.{Option, none, some}
 use Prim.Native.Nat.{ℕ, zero, suc}
 use native.Mathlib.Omega.{arith}
 use lib.ListN.{length, getD, replicate}
+use Rattle.width.specs.Blocks.{Choice}
 use Rattle.machine.specs.declared.Answer.the-variants.{Done, BadArguments}
 use Rattle.machine.specs.Answers.{reply}
 use Rattle.machine.specs.Geometry.{Range, sealed, Bench, benchOf}
@@ -26,10 +27,10 @@ use Rattle.run.proofs.HandedLaws.{turnWith}
 
 -- ---- one after another
 
-harmless : (grant : ℕ → ℕ → ℕ → ℕ) (B : Bench) → Unharmed grant B B
+harmless : (grant : Choice) (B : Bench) → Unharmed grant B B
 harmless grant B = record { same-parameters = refl; ranges-stay = stay (B .seals); same-length = refl; same-bytes = λ q h. refl }
 
-then : (grant : ℕ → ℕ → ℕ → ℕ) (B C D : Bench) → Unharmed grant B C → Unharmed grant C D → Unharmed grant B D
+then : (grant : Choice) (B C D : Bench) → Unharmed grant B C → Unharmed grant C D → Unharmed grant B D
 then grant B C D u v = record {
   same-parameters = v .same-parameters ∙ u .same-parameters;
   ranges-stay = stay-then (u .ranges-stay) (v .ranges-stay);
@@ -39,14 +40,14 @@ then grant B C D u v = record {
 
 -- ---- turns
 
-turn-unharmed : (grant : ℕ → ℕ → ℕ → ℕ) (r : Running) → Unharmed grant (r .bench) (turn grant r .after .bench)
+turn-unharmed : (grant : Choice) (r : Running) → Unharmed grant (r .bench) (turn grant r .after .bench)
 turn-unharmed grant r = go (handsOut grant (r .run))
   where
     go : (o : Option Op) → Unharmed grant (r .bench) (turnWith grant r o .after .bench)
     go none = harmless grant (r .bench)
     go (some o) = let h : Handed = handedFor (r .run .plan) o in step-unharmed grant (h .word) (own h) (r .bench)
 
-turns-unharmed : (grant : ℕ → ℕ → ℕ → ℕ) (r : Running) (t : ℕ) → Unharmed grant (r .bench) (afterTurns grant r t .bench)
+turns-unharmed : (grant : Choice) (r : Running) (t : ℕ) → Unharmed grant (r .bench) (afterTurns grant r t .bench)
 turns-unharmed grant r zero = harmless grant (r .bench)
 turns-unharmed grant r (suc t) =
     then grant (r .bench) (afterTurns grant r t .bench) (afterTurns grant r (suc t) .bench) (turns-unharmed grant r t) (turn-unharmed grant (afterTurns grant r t))
@@ -57,7 +58,7 @@ turns-unharmed grant r (suc t) =
 abbrev lent : Bench → List ℕ → Bench
 lent B memory = benchOf (B .machine) (B .seals) (B .registers) (B .marks) memory
 
-act-unharmed : (grant : ℕ → ℕ → ℕ → ℕ) (a : Act) (S : Session) → Unharmed grant (lent (S .bench) (lentBy a (S .bench .memory))) (act grant a S .after .bench)
+act-unharmed : (grant : Choice) (a : Act) (S : Session) → Unharmed grant (lent (S .bench) (lentBy a (S .bench .memory))) (act grant a S .after .bench)
 unfolding startRun
 act-unharmed grant (Act.lend xs W memory) S = harmless grant (lent (S .bench) memory)
 act-unharmed grant (Act.step word) S = step-with-unharmed grant word (S .scalars) (S .lent) (S .bench)
@@ -80,7 +81,7 @@ lent-same Q r (Act.runTurns n ∷ acts) m m′ h = lent-same Q r acts m m′ h
 lent-same Q r (Act.run P ∷ acts) m m′ h = lent-same Q r acts m m′ h
 lent-same Q r (Act.seal start size ∷ acts) m m′ h = lent-same Q r acts m m′ h
 
-lent-unharmed : (grant : ℕ → ℕ → ℕ → ℕ) (acts : List Act) (B C : Bench) → Unharmed grant B C
+lent-unharmed : (grant : Choice) (acts : List Act) (B C : Bench) → Unharmed grant B C
     → Unharmed grant (lent B (lentLast acts (B .memory))) (lent C (lentLast acts (C .memory)))
 lent-unharmed grant acts B C u = record {
   same-parameters = u .same-parameters;
@@ -99,7 +100,7 @@ seal-holds-over-acts grant (a ∷ acts) S =
 
 -- ---- from a start
 
-module _ (grant : ℕ → ℕ → ℕ → ℕ) (rlen mlen elen rule : ℕ) (seals registers marks memory : List ℕ) where
+module _ (grant : Choice) (rlen mlen elen rule : ℕ) (seals registers marks memory : List ℕ) where
   abbrev B₀ : Bench
   B₀ = startedBench rlen mlen elen rule seals registers marks memory
 

@@ -12,7 +12,7 @@ use lib.Seq.{drop-cons}
 use lib.Dec.{leb}
 use lib.IntN.{pos}
 use borrow.Author.Tests.{leb-true}
-use Rattle.width.specs.Blocks.{EachGrants}
+use Rattle.width.specs.Blocks.{Choice, EachGrants}
 use Rattle.width.proofs.BlockLaws.{le-or-lt}
 use Rattle.machine.specs.declared.Answer.the-variants.{Done, BadArguments, OutsideMemory, Overlap}
 use Rattle.machine.proofs.TestLaws.{every-each}
@@ -59,7 +59,7 @@ use Rattle.width.specs.Bounds.{mostElen}
 use Rattle.run.proofs.FormLaws.{element-in}
 use Rattle.run.proofs.Invariant.{operationOf, Accepted, At}
 use Rattle.run.proofs.Turns
-use Rattle.run.specs.Statement.{Numbers, Inside, Separate, Answered, Asks, jobOf, Right, Bytes, RunsAreRight, OurRunsAreRight, SmallerRunsAreRight, HalvingRunsAreRight}
+use Rattle.run.specs.Statement.{Numbers, Inside, Separate, Answered, Asks, jobOf, Right, MemoryBytes, RunsAreRight, OurRunsAreRight, SmallerRunsAreRight, HalvingRunsAreRight}
 use Rattle.run.proofs.StartLaws.{numbers-are, numbers-planned, inside-is, is-inside, separate-is, is-separate, accepted}
 
 -- ---- lists
@@ -109,7 +109,7 @@ abbrev held : Bench → State
 held B = stateOf (B .machine) (B .registers) (B .marks)
 
 -- what an accepted start says
-record Ready (grant : ℕ → ℕ → ℕ → ℕ) (P : Plan) (B : Bench) : Type 0 where
+record Ready (grant : Choice) (P : Plan) (B : Bench) : Type 0 where
   grants : EachGrants grant
   sane : soundBench B ≡ true
   lengths : permitted (B .machine .rlen) (B .machine .mlen) (B .machine .elen) ≡ true
@@ -122,7 +122,7 @@ record Ready (grant : ℕ → ℕ → ℕ → ℕ) (P : Plan) (B : Bench) : Type
   n≤ : P .n ≤ 1024
   addressed : length (B .memory) ≤ 18446744073709551616
 
-module _ (grant : ℕ → ℕ → ℕ → ℕ) (P : Plan) (B₀ : Bench) where
+module _ (grant : Choice) (P : Plan) (B₀ : Bench) where
   abbrev J : Job
   J = jobOf grant P B₀
 
@@ -149,7 +149,7 @@ module _ (grant : ℕ → ℕ → ℕ → ℕ) (P : Plan) (B₀ : Bench) where
     answers : stepped o B .answer ≡ reply Done
     holds : Holds (next S p) (stepped o B .bench)
 
-module _ (grant : ℕ → ℕ → ℕ → ℕ) (P : Plan) (B₀ : Bench) (R : Ready grant P B₀) where
+module _ (grant : Choice) (P : Plan) (B₀ : Bench) (R : Ready grant P B₀) where
   abbrev A : Accepted (J grant P B₀) (sealed (B₀ .seals))
   A = R .accepts
 
@@ -424,7 +424,7 @@ module _ (grant : ℕ → ℕ → ℕ → ℕ) (P : Plan) (B₀ : Bench) (R : Re
 
 -- ---- the start
 
-module _ (grant : ℕ → ℕ → ℕ → ℕ) (G : EachGrants grant) (P : Plan) (B : Bench) (bytes : Bytes (B .memory)) where
+module _ (grant : Choice) (G : EachGrants grant) (P : Plan) (B : Bench) (bytes : MemoryBytes (B .memory)) where
   ready : Passed (startChecks grant P B) → Ready grant P B
   unfolding planned
   ready c =

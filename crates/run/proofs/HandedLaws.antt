@@ -2,6 +2,7 @@
 use mathlib.Core.Bool.{cond}
 use mathlib.Core.Option.{Option, none, some}
 use Prim.Native.Nat.{ℕ}
+use Rattle.width.specs.Blocks.{Choice}
 use Rattle.machine.specs.declared.Answer.the-variants.{Done, BadArguments}
 use Rattle.machine.specs.Answers.{reply, done}
 use Rattle.machine.specs.Step.{Outcome, stepBy}
@@ -10,7 +11,7 @@ use Rattle.run.specs.Words.{Op}
 use Rattle.run.specs.Encoding.{own, handedFor}
 use Rattle.run.specs.Turn.{moved, Ask, Running, running, Turn}
 
-module _ (grant : ℕ → ℕ → ℕ → ℕ) where
+module _ (grant : Choice) where
   abbrev pub askWith : Run → Option Op → Ask
   askWith R o = elim o [
     | none ↦ record { answer = reply BadArguments; handed = none; run = R }

@@ -36,16 +36,16 @@ operationOf P (Op.store i j) = Operation.store Plain MatrixC 0 (wide P) (cAt P i
 
 -- what an accepted start says
 pub record Accepted (J : Job) (isSealed : ℕ → Bool) : Type 0 where
-  pub grants : Grants (J .machine .grant)
+  pub grants : Grants (J .parameters .grant)
   pub 0<narrow : zero < narrow (J .plan)
-  pub 0<rows : zero < J .machine .rows
-  pub row-holds : narrow (J .plan) ≤ J .machine .pitch
+  pub 0<rows : zero < J .parameters .rows
+  pub row-holds : narrow (J .plan) ≤ J .parameters .pitch
   pub factor≤4 : J .plan .factor ≤ 4
-  pub legal : newType (J .machine .elen) (typeOf (J .plan)) ≡ typeOf (J .plan)
+  pub legal : newType (J .parameters .elen) (typeOf (J .plan)) ≡ typeOf (J .plan)
   pub no-mill : mill (typeOf (J .plan)) ≡ false
   pub sew-is : sew (typeOf (J .plan)) ≡ narrow (J .plan)
-  pub width : widthOk (J .machine .elen) (typeOf (J .plan)) (J .plan .factor) ≡ true
-  pub c-width : widthOf (J .machine .elen) (typeOf (J .plan)) MatrixC (wide (J .plan)) ≡ true
+  pub width : widthOk (J .parameters .elen) (typeOf (J .plan)) (J .plan .factor) ≡ true
+  pub c-width : widthOf (J .parameters .elen) (typeOf (J .plan)) MatrixC (wide (J .plan)) ≡ true
   pub 0<wide : zero < wide (J .plan)
   pub suits : Suits (elementsOf (J .plan)) (J .plan .factor) (narrow (J .plan))
   pub bytes : (q : ℕ) → getD (J .memory) q 0 < 256
@@ -64,8 +64,8 @@ abbrev pub partial : Job → ℕ → ℕ → ℕ → ℕ
 partial J i j s = total (elementsOf (J .plan)) (wide (J .plan)) (narrow (J .plan)) (λ l. aOf J i l) (λ l. bOf J l j) s
 
 pub record Registers (J : Job) (regs marks : List ℕ) : Type 0 where
-  pub regs-length : length regs ≡ 16 * (J .machine .rows * J .machine .pitch)
-  pub marks-length : length marks ≡ 16 * (J .machine .rows * J .machine .pitch)
+  pub regs-length : length regs ≡ 16 * (J .parameters .rows * J .parameters .pitch)
+  pub marks-length : length marks ≡ 16 * (J .parameters .rows * J .parameters .pitch)
 
 -- the elements of the first i rows of C are the products'
 abbrev pub RowsDone : Job → ℕ → List ℕ → Type 0
@@ -81,13 +81,13 @@ pub record Holds (at : ℕ → ℕ) (rows cols w : ℕ) (value : ℕ → ℕ →
   pub written : (r b : ℕ) → r < rows → b < cols * w → getD marks (at r + b) 0 ≡ 1
 
 abbrev pub HoldsC : Job → ℕ → ℕ → ℕ → List ℕ → List ℕ → Type 0
-HoldsC J i j s regs marks = Holds (accAt (J .machine) 0) (sizeM (shape J) i) (sizeN (shape J) j) (wide (J .plan)) (λ r c. partial J (i + r) (j + c) s) regs marks
+HoldsC J i j s regs marks = Holds (accAt (J .parameters) 0) (sizeM (shape J) i) (sizeN (shape J) j) (wide (J .plan)) (λ r c. partial J (i + r) (j + c) s) regs marks
 
 abbrev pub HoldsA : Job → ℕ → ℕ → List ℕ → List ℕ → Type 0
-HoldsA J i s regs marks = Holds (tileAt (J .machine) 0) (sizeM (shape J) i) (sizeK (shape J) s) (narrow (J .plan)) (λ r c. aOf J (i + r) (s + c)) regs marks
+HoldsA J i s regs marks = Holds (tileAt (J .parameters) 0) (sizeM (shape J) i) (sizeK (shape J) s) (narrow (J .plan)) (λ r c. aOf J (i + r) (s + c)) regs marks
 
 abbrev pub HoldsB : Job → ℕ → ℕ → List ℕ → List ℕ → Type 0
-HoldsB J s j regs marks = Holds (tileAt (J .machine) 1) (sizeK (shape J) s) (sizeN (shape J) j) (narrow (J .plan)) (λ r c. bOf J (s + r) (j + c)) regs marks
+HoldsB J s j regs marks = Holds (tileAt (J .parameters) 1) (sizeK (shape J) s) (sizeN (shape J) j) (narrow (J .plan)) (λ r c. bOf J (s + r) (j + c)) regs marks
 
 -- at the head of the loop over rows, columns and terms
 pub record InM (J : Job) (i : ℕ) (st : State) (mem : List ℕ) : Type 0 where

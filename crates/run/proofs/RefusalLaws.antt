@@ -6,6 +6,7 @@ use Prim.Native.Nat.{ℕ, zero, suc, _+_}
 use native.Mathlib.Nat.{add-zero}
 use lib.Dec.{eqb}
 use borrow.Author.Tests.{eq-eqb, ne-eqb}
+use Rattle.width.specs.Blocks.{Choice}
 use Rattle.machine.specs.declared.Answer.the-variants.{Done, BadArguments}
 use Rattle.machine.specs.declared.Reply.{Reply}
 use Rattle.machine.specs.Answers.{reply, verdict, done}
@@ -33,12 +34,12 @@ pub number-refused : (a : Reply) → ¬ (a .number ≡ 0) → done a ≡ false
 number-refused a d = ne-eqb (a .number) 0 d
 
 -- a start whose number is 0 answers `Done`
-pub start-zero : (grant : ℕ → ℕ → ℕ → ℕ) (P : Plan) (B : Bench) → done (startRun grant P B .answer) ≡ true → startRun grant P B .answer ≡ reply Done
+pub start-zero : (grant : Choice) (P : Plan) (B : Bench) → done (startRun grant P B .answer) ≡ true → startRun grant P B .answer ≡ reply Done
 unfolding startRun
 start-zero grant P B e = ap reply (only-done (verdict (startChecks grant P B)) e)
 
 -- and so does asking
-pub ask-zero : (grant : ℕ → ℕ → ℕ → ℕ) (R : Run) → done (ask grant R .answer) ≡ true → ask grant R .answer ≡ reply Done
+pub ask-zero : (grant : Choice) (R : Run) → done (ask grant R .answer) ≡ true → ask grant R .answer ≡ reply Done
 ask-zero grant R = go (handsOut grant R)
   where
     go : (o : Option Op) → done (askWith grant R o .answer) ≡ true → askWith grant R o .answer ≡ reply Done
@@ -47,7 +48,7 @@ ask-zero grant R = go (handsOut grant R)
 
 -- ---- a refused turn
 
-pub turn-refused : (grant : ℕ → ℕ → ℕ → ℕ) (r : Running) → done (turn grant r .answer) ≡ false → turn grant r .after ≡ r
+pub turn-refused : (grant : Choice) (r : Running) → done (turn grant r .answer) ≡ false → turn grant r .after ≡ r
 turn-refused grant r = go (handsOut grant (r .run))
   where
     stays : (h : Handed) (R : Run) → let out : Outcome = stepBy grant (h .word) (own h) (r .bench) in
@@ -62,7 +63,7 @@ turn-refused grant r = go (handsOut grant (r .run))
 
 -- ---- a refused start
 
-module _ (grant : ℕ → ℕ → ℕ → ℕ) (P : Plan) (B : Bench) where
+module _ (grant : Choice) (P : Plan) (B : Bench) where
   -- a run that hands out nothing
   abbrev nothing : Running
   nothing = running (noRun P) B

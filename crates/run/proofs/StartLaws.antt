@@ -10,7 +10,7 @@ use lib.IntN.{ℤ, pos, negsuc, _+ℤ_}
 use lib.Dec.{leb, eqb}
 use borrow.Author.Tests.{leb-true, le-leb, ltb-true, eqb-true, eqb-false, eq-eqb, lt-ltb, not-true}
 use Rattle.width.specs.Tile.{In}
-use Rattle.width.specs.Blocks.{EachGrants}
+use Rattle.width.specs.Blocks.{Choice, EachGrants}
 use Rattle.width.proofs.BlockLaws.{le-or-lt}
 use Rattle.machine.specs.Tests.{all, every, within, isIn}
 use Rattle.machine.proofs.TestLaws.{all-true, all-at, every-each, each-every, within-not, not-within, fails-not, not-fails, or-right, false-true}
@@ -30,7 +30,7 @@ use Rattle.run.proofs.NumberLaws.{Suits}
 use Rattle.run.proofs.WordLaws.{formats}
 use Rattle.machine.proofs.StepLaws.{permitted-elen}
 use Rattle.run.proofs.Invariant.{Accepted}
-use Rattle.run.specs.Statement.{Numbers, Lies, Inside, Separate, jobOf, Bytes}
+use Rattle.run.specs.Statement.{Numbers, Lies, Inside, Separate, jobOf, MemoryBytes}
 
 -- ---- bytes in memory
 
@@ -225,7 +225,7 @@ module _ (P : Plan) where
 
 -- ---- what the turns need
 
-pub accepted : (grant : ℕ → ℕ → ℕ → ℕ) → EachGrants grant → (P : Plan) (B : Bench) → Bytes (B .memory) → permitted (B .machine .rlen) (B .machine .mlen) (B .machine .elen) ≡ true
+pub accepted : (grant : Choice) → EachGrants grant → (P : Plan) (B : Bench) → MemoryBytes (B .memory) → permitted (B .machine .rlen) (B .machine .mlen) (B .machine .elen) ≡ true
     → format (B .machine .elen) (P .sew) (P .factor) ≡ true → kindFits P ≡ true → lying P (B .memory) ≡ true → separate (sealed (B .seals)) P ≡ true → Accepted (jobOf grant P B) (sealed (B .seals))
 unfolding narrow msew typeOf lying separate
 accepted grant G P B bytes lengths formatted kind l d =

@@ -13,7 +13,7 @@ use lib.IntN.{ℤ, pos, _*ℤ_}
 use borrow.Author.Tests.{ltb-true, ltb-false, le-leb, eq-eqb}
 use Rattle.width.specs.Reduce.{signed, reduce}
 use Rattle.width.proofs.TileLaws as Tile
-use Rattle.width.specs.Tile.{le, In, putTile, markTile}
+use Rattle.width.specs.Tile.{getLe, In, putTile, markTile}
 use Rattle.width.proofs.BlockLaws.{granted, le-or-lt}
 use Rattle.machine.specs.declared.Form.{Form}
 use Rattle.machine.specs.declared.Form.the-variants.{Plain, Transposed}
@@ -70,7 +70,7 @@ isInput MatrixC = ⊥
 
 module _ (J : Job) (isSealed : ℕ → Bool) (A : Accepted J isSealed) where
   abbrev M : Parameters
-  M = J .machine
+  M = J .parameters
 
   abbrev P : Plan
   P = J .plan
@@ -276,7 +276,7 @@ module _ (J : Job) (isSealed : ℕ → Bool) (A : Accepted J isSealed) where
   -- ---- loads
 
   -- bytes that are none of C's are as at the start
-  as-started : (mem : List ℕ) → Kept J mem → (p w : ℕ) → ((q : ℕ) → In p w q → ¬ OfC J q) → le mem p w ≡ le (J .memory) p w
+  as-started : (mem : List ℕ) → Kept J mem → (p w : ℕ) → ((q : ℕ) → In p w q → ¬ OfC J q) → getLe mem p w ≡ getLe (J .memory) p w
   as-started mem kept p w h = Tile.le-cong mem (J .memory) p p w (λ b l. kept .outside (p + b) (h (p + b) (omega arith)))
 
   -- a block of a matrix in memory
@@ -294,9 +294,9 @@ module _ (J : Job) (isSealed : ℕ → Bool) (A : Accepted J isSealed) where
         let at : rowAt (rowAt base stride i₀ + j₀ * e) stride r ≡ rowAt base stride (i₀ + r) + j₀ * e =
         block-rowAt (length (J .memory)) base stride total (n * e) in-memory i₀ (j₀ * e) rows (cols * e) 0<rows (mul-pos 0<n 0<e) rows≤ (omega (arith, mul-le-mul-right e cols≤)) r l in
         let here : rowAt (rowAt base stride i₀ + j₀ * e) stride r + c * e ≡ p = omega (arith, at) in
-        let same : le mem p e ≡ le (J .memory) p e =
+        let same : getLe mem p e ≡ getLe (J .memory) p e =
         as-started mem kept p e (λ q x. apart (i₀ + r) q (omega arith) (omega (arith, mul-le-mul-right {m = suc (j₀ + c)} {n = n} e (omega arith)))) in
-        ap (λ (p : ℕ). le mem p e % 256 ^ e) here ∙ ap (λ (v : ℕ). v % 256 ^ e) same ∙ mod-eq-of-lt (Tile.le-lt (J .memory) (A .bytes) p e)
+        ap (λ (p : ℕ). getLe mem p e % 256 ^ e) here ∙ ap (λ (v : ℕ). v % 256 ^ e) same ∙ mod-eq-of-lt (Tile.le-lt (J .memory) (A .bytes) p e)
 
   -- the address of the block of a load, plain or transposed
   abbrev from : Form → (base stride i₀ j₀ : ℕ) → ℕ
@@ -552,7 +552,7 @@ module _ (J : Job) (isSealed : ℕ → Bool) (A : Accepted J isSealed) where
 
         new : (c′ : ℕ) → c′ < sizeN S j → element (storedBy i j (st .regs) mem) (cAt P) W (i + r) (j + c′) ≡ partial J (i + r) (j + c′) (P .k)
         new c′ g =
-            ap (λ (p : ℕ). le (storedBy i j (st .regs) mem) p W) (omega arith)
+            ap (λ (p : ℕ). getLe (storedBy i j (st .regs) mem) p W) (omega arith)
             ∙ Tile.putTile-le (blockAt i j) (sizeM S i) (sizeN S j) W (element (st .regs) (accAt M 0) W) mem r l
             (omega (arith, width≤, blk .in-n .in-m .kept .same-length, inside-at (length (J .memory)) (P .c .address) (P .c .stride) (P .m) (P .n * W) (A .c-in) (mul-pos {m = P .n} (omega (arith, blk .j<n)) (A .0<wide)) (i + r) (omega (arith, bound-m, blk .in-n .i<m)) .1))
             c′ g (λ k g′ d q x y. A .c-rows (i + r) (i + k) q (omega arith) (omega (arith, bound-m, blk .in-n .i<m)) (in-c r q x) (in-c k q y))

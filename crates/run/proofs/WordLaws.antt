@@ -35,7 +35,7 @@ use Rattle.run.specs.declared.Handed.{Handed}
 use Rattle.run.specs.Words.{Op}
 use Rattle.run.specs.Plan.{Elements, integers, floats, elementsOf, narrow, wide, msew, typeOf, aAt, bAt, cAt, formOf, aRow, aColumn}
 use Rattle.run.specs.Start.{format}
-use Rattle.run.specs.Encoding.{settingWord, memoryWord, arithmeticWord, log, own, plain, startOf, loadCode, multiplyWord, handedFor}
+use Rattle.run.specs.Encoding.{settingWord, memoryWord, arithmeticWord, log, own, plain, addressIn, loadCode, multiplyWord, handedFor}
 use Rattle.run.proofs.NumberLaws.{multiplyOf}
 use Rattle.run.proofs.Invariant.{operationOf}
 
@@ -185,12 +185,12 @@ widest-format elen s f known h =
 -- ---- addresses
 
 -- an address that fits 64 bits is held as it is
-start-is : (l : Layout) (i b p : ℕ) → rowZ (l .address) (l .stride) i ≡ pos p → p + b < 2 ^ 64 → startOf l i b ≡ p + b
+start-is : (l : Layout) (i b p : ℕ) → rowZ (l .address) (l .stride) i ≡ pos p → p + b < 2 ^ 64 → addressIn l i b ≡ p + b
 unfolding reduce
 start-is l i b p e small = ap (λ (z : ℤ). reduce (2 ^ 64) (z +ℤ pos b)) e ∙ mod-eq-of-lt small
 
 -- for code: by wrapping operations
-pub start-wraps : (l : Layout) (i b : ℕ) → l .stride < 2 ^ 64 → startOf l i b ≡ (((l .address % 2 ^ 64) + (i % 2 ^ 64 * l .stride) % 2 ^ 64) % 2 ^ 64 + b % 2 ^ 64) % 2 ^ 64
+pub start-wraps : (l : Layout) (i b : ℕ) → l .stride < 2 ^ 64 → addressIn l i b ≡ (((l .address % 2 ^ 64) + (i % 2 ^ 64 * l .stride) % 2 ^ 64) % 2 ^ 64 + b % 2 ^ 64) % 2 ^ 64
 unfolding reduce
 start-wraps l i b h =
     let m : ℕ = 18446744073709551616 in

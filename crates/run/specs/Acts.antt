@@ -1,10 +1,12 @@
--- What is done with a started machine, one act after another: words, product runs, and asking for a run's steps.
+-- What is done with a started machine, one act after another: words, product runs, asking for a run's steps, and sealing further ranges.
+use mathlib.Core.Bool.{cond}
 use mathlib.Core.List.{List, [], _∷_}
 use mathlib.Core.Option.{Option, none}
 use Prim.Native.Nat.{ℕ}
+use Rattle.width.specs.Blocks.{Choice}
 use Rattle.machine.specs.declared.Answer.the-variants.{Done}
 use Rattle.machine.specs.declared.Reply.{Reply}
-use Rattle.machine.specs.Answers.{reply}
+use Rattle.machine.specs.Answers.{reply, done}
 use Rattle.machine.specs.Geometry.{Bench, benchOf}
 use Rattle.machine.specs.Vectors.{Vectors, vectorsOf}
 use Rattle.machine.specs.Sealing.{SealOutcome, addSeal}
@@ -28,7 +30,7 @@ pub data Act : Type 0 where
   run : Plan → Act
   seal : (start size : ℕ) → Act
 
--- the machine with its memory, the scalars, the vector file, which no run uses, and the run that was started last
+-- the machine with its memory, the scalars, the vector file, which no run uses, and the run that was started last; a refused start leaves it
 pub record Session : Type 0 where
   pub bench : Bench
   pub scalars : List ℕ
@@ -48,7 +50,7 @@ pub record Acted : Type 0 where
 abbrev pub acted : Reply → Option Handed → ℕ → Session → Acted
 acted answer handed count after = record { answer = answer; handed = handed; count = count; after = after }
 
-module _ (grant : ℕ → ℕ → ℕ → ℕ) where
+module _ (grant : Choice) where
   -- turns in number are counted, not answered
   abbrev pub act : Act → Session → Acted
   act (Act.lend xs W memory) S = acted (reply Done) none 0 (session (benchOf (S .bench .machine) (S .bench .seals) (S .bench .registers) (S .bench .marks) memory) xs W (S .run))
@@ -56,7 +58,7 @@ module _ (grant : ℕ → ℕ → ℕ → ℕ) where
       let o : VectorOutcome = stepWith grant word (S .scalars) (S .lent) (S .bench) in
       acted (o .answer) none 0 (session (o .bench) (o .scalars) (vectorsOf (o .vectors) (S .lent .group)) (S .run))
   act (Act.runStart P) S =
-      let o : RunStart = startRun grant P (S .bench) in acted (o .answer) none 0 (session (o .bench) (S .scalars) (S .lent) (o .run))
+      let o : RunStart = startRun grant P (S .bench) in acted (o .answer) none 0 (session (o .bench) (S .scalars) (S .lent) (cond (done (o .answer)) (o .run) (S .run)))
   act Act.runNext S =
       let o : Ask = ask grant (S .run) in acted (o .answer) (o .handed) 0 (session (S .bench) (S .scalars) (S .lent) (o .run))
   act Act.runTurn S =
@@ -69,7 +71,7 @@ module _ (grant : ℕ → ℕ → ℕ → ℕ) where
       let o : SealOutcome = addSeal start size (S .bench) in acted (o .answer) none 0 (session (o .bench) (S .scalars) (S .lent) (S .run))
 
 -- after a list of acts, refused ones included
-abbrev pub afterActs : (ℕ → ℕ → ℕ → ℕ) → List Act → Session → Session
+abbrev pub afterActs : Choice → List Act → Session → Session
 afterActs grant [] S = S
 afterActs grant (a ∷ acts) S = afterActs grant acts (act grant a S .after)
 

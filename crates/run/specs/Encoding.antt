@@ -42,8 +42,8 @@ abbrev pub plain : ℕ → Handed
 plain word = record { word = word; address = 0; stride = 0 }
 
 -- the address b bytes into row i, as a scalar holds it; in a run that is accepted it lies in memory
-abbrev pub startOf : Layout → ℕ → ℕ → ℕ
-startOf l i b = reduce (2 ^ 64) (rowZ (l .address) (l .stride) i +ℤ pos b)
+abbrev pub addressIn : Layout → ℕ → ℕ → ℕ
+addressIn l i b = reduce (2 ^ 64) (rowZ (l .address) (l .stride) i +ℤ pos b)
 
 -- mlae, or where A is kept transposed mlate
 abbrev pub loadCode : Form → ℕ
@@ -65,12 +65,12 @@ handedFor P (Op.setN a) = plain (settingWord 0b0110 a)
 handedFor P Op.clear = plain (arithmeticWord (0b010000 + log (P .factor)) 0)
 handedFor P (Op.loadA i s) = record {
   word = memoryWord (loadCode (formOf P)) (msew P) 0;
-  address = startOf (P .a) (aRow P i s) (aColumn P i s * narrow P);
+  address = addressIn (P .a) (aRow P i s) (aColumn P i s * narrow P);
   stride = P .a .stride;
 }
-handedFor P (Op.loadB s j) = record { word = memoryWord 0b0000100 (msew P) 1; address = startOf (P .b) s (j * narrow P); stride = P .b .stride }
+handedFor P (Op.loadB s j) = record { word = memoryWord 0b0000100 (msew P) 1; address = addressIn (P .b) s (j * narrow P); stride = P .b .stride }
 handedFor P Op.multiply = plain (multiplyWord (elementsOf P) (P .factor))
-handedFor P (Op.store i j) = record { word = memoryWord 0b0000001 (msew P + log (P .factor)) 0; address = startOf (P .c) i (j * wide P); stride = P .c .stride }
+handedFor P (Op.store i j) = record { word = memoryWord 0b0000001 (msew P + log (P .factor)) 0; address = addressIn (P .c) i (j * wide P); stride = P .c .stride }
 
 -- "Otherwise the words are: msettypei; for each block of rows msettilemi; .."
 abbrev pub wordList : Job → List Handed

@@ -70,17 +70,17 @@ aColumns P = memoryCols (formOf P) (P .m) (P .k)
 
 -- a machine, a plan and the memory at the start
 pub record Job : Type 0 where
-  pub machine : Parameters
+  pub parameters : Parameters
   pub plan : Plan
   pub memory : List ℕ
 
 -- the sizes and the maxima that its blocks go by
 abbrev pub shape : Job → Shape
 shape J = record {
-  grant = J .machine .grant;
-  tm = maxM (J .machine) (typeOf (J .plan));
-  tk = maxK (J .machine) (typeOf (J .plan));
-  tn = maxN (J .machine) (typeOf (J .plan));
+  grant = J .parameters .grant;
+  tm = maxM (J .parameters) (typeOf (J .plan));
+  tk = maxK (J .parameters) (typeOf (J .plan));
+  tn = maxN (J .parameters) (typeOf (J .plan));
   m = J .plan .m;
   k = J .plan .k;
   n = J .plan .n;

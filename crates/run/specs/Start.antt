@@ -4,6 +4,7 @@ use mathlib.Core.List.{List, [], _∷_}
 use Prim.Native.Nat.{ℕ, _+_, _*_}
 use lib.ListN.{length}
 use lib.Dec.{leb, eqb}
+use Rattle.width.specs.Blocks.{Choice}
 use Rattle.machine.specs.declared.Machine.{Machine}
 use Rattle.machine.specs.declared.Answer.the-variants.{BadArguments, OutsideMemory, Overlap}
 use Rattle.machine.specs.Tests.{all, every, isIn, within}
@@ -50,7 +51,7 @@ separate isSealed P = every (
     ∷ apart (bAt P) (P .k) (P .n * narrow P) (cAt P) (P .m) (P .n * wide P)
     ∷ rowsMiss isSealed (P .c .address) (P .c .stride) (P .m) (P .n * wide P) ∷ [])
 
-abbrev pub startChecks : (ℕ → ℕ → ℕ → ℕ) → Plan → Bench → List Check
+abbrev pub startChecks : Choice → Plan → Bench → List Check
 startChecks grant P B =
     (soundBench B otherwise BadArguments)
     ∷ (planned (B .machine .elen) P otherwise BadArguments)
@@ -71,7 +72,7 @@ pub record RunStart : Type 0 where
   pub bench : Bench
 
 -- "The start itself, accepted or refused, changes neither machine nor memory."
-unfoldable pub startRun : (ℕ → ℕ → ℕ → ℕ) → Plan → Bench → RunStart
+unfoldable pub startRun : Choice → Plan → Bench → RunStart
 startRun grant P B = record {
   answer = reply (verdict (startChecks grant P B));
   run = cond (isDone (verdict (startChecks grant P B))) (freshRun (B .machine) P) (noRun P);

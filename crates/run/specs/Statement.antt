@@ -8,7 +8,7 @@ use Prim.Native.Nat.{ℕ, suc, _*_, _^_, _≤_, _<_, min}
 use lib.ListN.{length, getD}
 use lib.IntN.{ℤ, pos, _+ℤ_}
 use Rattle.width.specs.Tile.{In}
-use Rattle.width.specs.Blocks.{EachGrants}
+use Rattle.width.specs.Blocks.{Choice, EachGrants}
 use Rattle.machine.specs.declared.Reply.{Reply}
 use Rattle.machine.specs.Geometry.{Range, sealed, parameters, Bench}
 use Rattle.machine.specs.Setting.{smaller, halving, chosen}
@@ -78,14 +78,14 @@ pub record Turns (u : Turn) (n : ℕ) (handed : Option Handed) (after : Running)
 
 -- ---- after t turns
 
-abbrev pub jobOf : (ℕ → ℕ → ℕ → ℕ) → Plan → Bench → Job
-jobOf grant P B = record { machine = parameters grant (B .machine); plan = P; memory = B .memory }
+abbrev pub jobOf : Choice → Plan → Bench → Job
+jobOf grant P B = record { parameters = parameters grant (B .machine); plan = P; memory = B .memory }
 
 -- the run as it was started
-abbrev pub startedRun : (ℕ → ℕ → ℕ → ℕ) → Plan → Bench → Running
+abbrev pub startedRun : Choice → Plan → Bench → Running
 startedRun grant P B = record { run = startRun grant P B .run; bench = startRun grant P B .bench }
 
-pub record Right (grant : ℕ → ℕ → ℕ → ℕ) (J : Job) (r : Running) (t : ℕ) : Type 0 where
+pub record Right (grant : Choice) (J : Job) (r : Running) (t : ℕ) : Type 0 where
   -- "Turns 1 to s each hand out one step, the next of the words above in their order, and it is answered 0."
   pub next-done : t < steps (shape J) → Turns (turn grant (afterTurns grant r t)) 0 (some (wordOf J t)) (afterTurns grant r (suc t))
   -- "Every later turn gives 8 and changes nothing."
@@ -105,7 +105,7 @@ pub record Right (grant : ℕ → ℕ → ℕ → ℕ) (J : Job) (r : Running) (
   pub tells : stepsIn grant (afterTurns grant r t .run) ≡ steps (shape J)
 
 -- after a refused start: the turns have changed nothing, the next gives 8, hands out nothing and changes nothing, and so does asking
-pub record Idle (grant : ℕ → ℕ → ℕ → ℕ) (r : Running) (t : ℕ) : Type 0 where
+pub record Idle (grant : Choice) (r : Running) (t : ℕ) : Type 0 where
   pub unchanged : afterTurns grant r t ≡ r
   pub no-turn : Turns (turn grant (afterTurns grant r t)) 8 none r
   pub no-step : Asks (ask grant (afterTurns grant r t .run)) 8 none (r .run)
@@ -114,7 +114,7 @@ pub record Idle (grant : ℕ → ℕ → ℕ → ℕ) (r : Running) (t : ℕ) : 
 
 -- ---- demand 3, of a plan and a bench
 
-pub record Demand3 (grant : ℕ → ℕ → ℕ → ℕ) (P : Plan) (B : Bench) : Type 0 where
+pub record Demand3 (grant : Choice) (P : Plan) (B : Bench) : Type 0 where
   -- when the start gives 0, 8, 6 and 9
   pub answered : Answered P B (startRun grant P B .answer)
   -- "The start itself, accepted or refused, changes neither machine nor memory."
@@ -129,23 +129,23 @@ pub record Demand3 (grant : ℕ → ℕ → ℕ → ℕ) (P : Plan) (B : Bench) 
 -- ---- demand 3
 
 -- a slice of bytes
-pub record Bytes (mem : List ℕ) : Type 0 where
+pub record MemoryBytes (mem : List ℕ) : Type 0 where
   pub below : (q : ℕ) → getD mem q 0 < 256
   pub addressed : length mem ≤ 2 ^ 64
 
 -- 02, Eight: "once over every choice that keeps the three constraints of source document 001": for every choice of sizes under them, one for
 -- each rule, every plan, machine and state, and every memory that is a slice of bytes
 abbrev pub RunsAreRight : Type 0
-RunsAreRight = (grant : ℕ → ℕ → ℕ → ℕ) → EachGrants grant → (P : Plan) (B : Bench) → Bytes (B .memory) → Demand3 grant P B
+RunsAreRight = (grant : Choice) → EachGrants grant → (P : Plan) (B : Bench) → MemoryBytes (B .memory) → Demand3 grant P B
 
 -- "then name our two": for our choice of sizes; a machine of rule 0 goes by the smaller size, one of rule 1 by halving
 abbrev pub OurRunsAreRight : Type 0
-OurRunsAreRight = (P : Plan) (B : Bench) → Bytes (B .memory) → Demand3 chosen P B
+OurRunsAreRight = (P : Plan) (B : Bench) → MemoryBytes (B .memory) → Demand3 chosen P B
 
 abbrev pub SmallerRunsAreRight : Type 0
-SmallerRunsAreRight = (P : Plan) (B : Bench) → B .machine .rule ≡ 0 → Bytes (B .memory)
+SmallerRunsAreRight = (P : Plan) (B : Bench) → B .machine .rule ≡ 0 → MemoryBytes (B .memory)
     → (shape (jobOf chosen P B) .grant ≡ smaller) × Demand3 chosen P B
 
 abbrev pub HalvingRunsAreRight : Type 0
-HalvingRunsAreRight = (P : Plan) (B : Bench) → B .machine .rule ≡ 1 → Bytes (B .memory)
+HalvingRunsAreRight = (P : Plan) (B : Bench) → B .machine .rule ≡ 1 → MemoryBytes (B .memory)
     → (shape (jobOf chosen P B) .grant ≡ halving) × Demand3 chosen P B

@@ -6,7 +6,7 @@ use Prim.Native.Nat.{ℕ, zero, suc, _+_}
 use Rattle.machine.specs.declared.Answer.the-variants.{Done, BadArguments}
 use Rattle.machine.specs.declared.Reply.{Reply}
 use Rattle.machine.specs.Answers.{reply, done}
-use Rattle.width.specs.Blocks.{chunks}
+use Rattle.width.specs.Blocks.{Choice, chunks}
 use Rattle.machine.specs.Tests.{every, isIn}
 use Rattle.machine.specs.Geometry.{Parameters, parametersOf, permitted}
 use Rattle.machine.specs.Starting.{isRule}
@@ -29,10 +29,10 @@ use Rattle.run.specs.Start.{planned}
 -- ---- asking for a step
 
 -- the blocks that a run goes by: those of the machine that it was started on, by its rule
-abbrev pub runParameters : (ℕ → ℕ → ℕ → ℕ) → Run → Parameters
+abbrev pub runParameters : Choice → Run → Parameters
 runParameters grant R = parametersOf (grant (R .rule)) (R .rlen) (R .mlen) (R .elen)
 
-abbrev pub runShape : (ℕ → ℕ → ℕ → ℕ) → Run → Shape
+abbrev pub runShape : Choice → Run → Shape
 runShape grant R = record {
   grant = grant (R .rule);
   tm = maxM (runParameters grant R) (typeOf (R .plan));
@@ -68,7 +68,7 @@ begins S (AtStore i j) = every (startsM S i ∷ startsN S j ∷ [])
 begins S AtEnd = true
 
 -- numbers that a run can hold, at a place that a start and its turns can have made; one that holds others hands out nothing
-unfoldable pub soundRun : (ℕ → ℕ → ℕ → ℕ) → Run → Bool
+unfoldable pub soundRun : Choice → Run → Bool
 soundRun grant R = every (
     permitted (R .rlen) (R .mlen) (R .elen)
     ∷ isRule (R .rule)
@@ -76,15 +76,15 @@ soundRun grant R = every (
     ∷ begins (runShape grant R) (R .place) ∷ [])
 
 -- the next word: none past the last, and none of a run that no start and turns can have made
-abbrev pub handsOut : (ℕ → ℕ → ℕ → ℕ) → Run → Option Op
+abbrev pub handsOut : Choice → Run → Option Op
 handsOut grant R = cond (soundRun grant R) (wordAt (runShape grant R) (R .place)) none
 
 -- "there are 1 + M(1 + N(3 + 4K)) steps", wherever the run has come to; none of a run that no start and turns can have made
-abbrev pub stepsIn : (ℕ → ℕ → ℕ → ℕ) → Run → ℕ
+abbrev pub stepsIn : Choice → Run → ℕ
 stepsIn grant R = cond (soundRun grant R) (steps (runShape grant R)) 0
 
 -- the run once a step is handed out
-abbrev pub moved : (ℕ → ℕ → ℕ → ℕ) → Run → Run
+abbrev pub moved : Choice → Run → Run
 moved grant R = record { plan = R .plan; rlen = R .rlen; mlen = R .mlen; rule = R .rule; elen = R .elen; place = next (runShape grant R) (R .place) }
 
 -- what asking gives: 0, a step and the run at the next place; or, past the last, 8 and the run as it was
@@ -94,7 +94,7 @@ pub record Ask : Type 0 where
   pub run : Run
 
 -- "Steps are handed out one at a time .. asking past the last gives 8."
-abbrev pub ask : (ℕ → ℕ → ℕ → ℕ) → Run → Ask
+abbrev pub ask : Choice → Run → Ask
 ask grant R = elim (handsOut grant R) [
   | none ↦ record { answer = reply BadArguments; handed = none; run = R }
   | some o ↦ record { answer = reply Done; handed = some (handedFor (R .plan) o); run = moved grant R }
@@ -129,7 +129,7 @@ pub record Turn : Type 0 where
 
 -- "In a turn a step is asked for and, if one is handed out, carried out with the run's own scalars." A step that is refused leaves
 -- the place where it was too: "A refusal changes nothing lent or held."
-abbrev pub turn : (ℕ → ℕ → ℕ → ℕ) → Running → Turn
+abbrev pub turn : Choice → Running → Turn
 turn grant r =
     let a : Ask = ask grant (r .run) in
     elim (a .handed) [
@@ -139,12 +139,12 @@ turn grant r =
     ]
 
 -- after t turns
-abbrev pub afterTurns : (ℕ → ℕ → ℕ → ℕ) → Running → ℕ → Running
+abbrev pub afterTurns : Choice → Running → ℕ → Running
 afterTurns grant r zero = r
 afterTurns grant r (suc t) = turn grant (afterTurns grant r t) .after
 
 -- "The count .. is the number of turns answered 0."
-abbrev pub answeredDone : (ℕ → ℕ → ℕ → ℕ) → Running → ℕ → ℕ
+abbrev pub answeredDone : Choice → Running → ℕ → ℕ
 answeredDone grant r zero = 0
 answeredDone grant r (suc t) = answeredDone grant r t + cond (done (turn grant (afterTurns grant r t) .answer)) 1 0
 
@@ -154,7 +154,7 @@ pub record TurnOutcome : Type 0 where
   pub answer : Reply
   pub after : Running
 
-abbrev pub turnOutcome : (ℕ → ℕ → ℕ → ℕ) → Running → TurnOutcome
+abbrev pub turnOutcome : Choice → Running → TurnOutcome
 turnOutcome grant r = record { answer = turn grant r .answer; after = turn grant r .after }
 
 abbrev pub turnedAs : Turned → List Range → (registers marks memory : List ℕ) → TurnOutcome
@@ -165,7 +165,7 @@ pub record TurnsOutcome : Type 0 where
   pub after : Running
 
 -- n times a turn: how many of them were answered 0, and what the last one left
-abbrev pub turns : (ℕ → ℕ → ℕ → ℕ) → Running → ℕ → TurnsOutcome
+abbrev pub turns : Choice → Running → ℕ → TurnsOutcome
 turns grant r n = record { count = answeredDone grant r n; after = afterTurns grant r n }
 
 abbrev pub takenAs : Taken → List Range → (registers marks memory : List ℕ) → TurnsOutcome

@@ -2,6 +2,7 @@
 use mathlib.Core.Path.{_≡_}
 use mathlib.Core.List.{List}
 use Prim.Native.Nat.{ℕ, _<_}
+use Rattle.width.specs.Blocks.{Choice}
 use Rattle.machine.specs.declared.Reply.{Reply}
 use Rattle.machine.specs.Answers.{reply}
 use Rattle.machine.specs.Geometry.{Range, Bench, benchOf}
@@ -13,7 +14,7 @@ use Rattle.run.specs.Words.{steps}
 use Rattle.run.specs.Plan.{Kept, shape, wide, cAt, productOf}
 use Rattle.run.specs.Start.{startRun}
 use Rattle.run.specs.Turn.{turns}
-use Rattle.run.specs.Statement.{Answered, Bytes, jobOf, startedRun}
+use Rattle.run.specs.Statement.{Answered, MemoryBytes, jobOf, startedRun}
 
 pub record WholeOutcome : Type 0 where
   pub answer : Reply
@@ -21,7 +22,7 @@ pub record WholeOutcome : Type 0 where
   pub bench : Bench
 
 -- a start, then as many turns as there are steps; the run of a refused start hands out nothing
-abbrev pub whole : (ℕ → ℕ → ℕ → ℕ) → Plan → Bench → WholeOutcome
+abbrev pub whole : Choice → Plan → Bench → WholeOutcome
 whole grant P B = record {
   answer = startRun grant P B .answer;
   count = turns grant (startedRun grant P B) (steps (shape (jobOf grant P B))) .count;
@@ -49,4 +50,4 @@ pub record Delivers (P : Plan) (B : Bench) (o : WholeOutcome) : Type 0 where
 
 -- for every plan, machine and state, and every memory that is a slice of bytes
 abbrev pub WholeDelivers : Type 0
-WholeDelivers = (P : Plan) (B : Bench) → Bytes (B .memory) → Delivers P B (whole chosen P B)
+WholeDelivers = (P : Plan) (B : Bench) → MemoryBytes (B .memory) → Delivers P B (whole chosen P B)

@@ -9,7 +9,7 @@ use lib.ListN.{length, getD}
 use lib.Seq.{getD-take, getD-drop}
 use lib.Dec.{eqb}
 use borrow.Author.Tests.{eqb-true, eq-eqb}
-use Rattle.width.specs.Tile.{le, putLe, putRow}
+use Rattle.width.specs.Tile.{getLe, putLe, putRow}
 use Rattle.width.proofs.TileLaws.{length-putRow}
 use Rattle.width.proofs.WordLaws.{le-putRow}
 use Rattle.machine.specs.Tests.{every}
@@ -35,19 +35,19 @@ abbrev pub layoutPut : ℕ → Layout → List ℕ → List ℕ
 layoutPut at l b = putLe (at + 8) 8 (l .stride) (putLe at 8 (l .address) b)
 
 module _ (b : List ℕ) where
-  pub layout-is : (at : ℕ) {x y : ℕ} → x ≡ le b at 8 → y ≡ le b (at + 8) 8 → record { address = x; stride = y } ≡ layoutOf b at
+  pub layout-is : (at : ℕ) {x y : ℕ} → x ≡ getLe b at 8 → y ≡ getLe b (at + 8) 8 → record { address = x; stride = y } ≡ layoutOf b at
   layout-is at e f = ap₂ (λ (x y : ℕ). record { address = x; stride = y }) e f
 
-  pub spot-is : {k r c t : ℕ} → k ≡ le b 104 8 → r ≡ le b 112 8 → c ≡ le b 120 8 → t ≡ le b 128 8 → spot k r c t ≡ spotIn b
+  pub spot-is : {k r c t : ℕ} → k ≡ getLe b 104 8 → r ≡ getLe b 112 8 → c ≡ getLe b 120 8 → t ≡ getLe b 128 8 → spot k r c t ≡ spotIn b
   spot-is e f g h = cc
 
   pub plan-is : {x y z : Layout} {kind sew factor m k n : ℕ} → x ≡ layoutOf b 40 → y ≡ layoutOf b 56 → z ≡ layoutOf b 72
-      → kind ≡ le b 136 8 → sew ≡ le b 0 8 → factor ≡ le b 8 8 → m ≡ le b 16 8 → k ≡ le b 24 8 → n ≡ le b 32 8
+      → kind ≡ getLe b 136 8 → sew ≡ getLe b 0 8 → factor ≡ getLe b 8 8 → m ≡ getLe b 16 8 → k ≡ getLe b 24 8 → n ≡ getLe b 32 8
       → record { kind = kind; sew = sew; factor = factor; m = m; k = k; n = n; a = x; b = y; c = z } ≡ planOf b
   unfolding planOf
   plan-is ex ey ez e₀ e₁ e₂ e₃ e₄ e₅ = cc
 
-  pub run-is : {P : Plan} {s : Spot} {p : Place} {rlen mlen rule elen : ℕ} → P ≡ planOf b → s ≡ spotIn b → p ≡ placeOf s → rlen ≡ le b 88 8 → mlen ≡ le b 96 8 → rule ≡ le b 144 8 → elen ≡ le b 152 8
+  pub run-is : {P : Plan} {s : Spot} {p : Place} {rlen mlen rule elen : ℕ} → P ≡ planOf b → s ≡ spotIn b → p ≡ placeOf s → rlen ≡ getLe b 88 8 → mlen ≡ getLe b 96 8 → rule ≡ getLe b 144 8 → elen ≡ getLe b 152 8
       → record { plan = P; rlen = rlen; mlen = mlen; rule = rule; elen = elen; place = p } ≡ runOf b
   unfolding runOf
   run-is eP es ep e₀ e₁ e₂ e₃ = cc
@@ -81,7 +81,7 @@ pub length-putRun : (R : Run) (b : List ℕ) → length (putRun R b) ≡ length 
 unfolding putRun putNumbers
 length-putRun R b = length-putRow 0 20 8 _ b
 
-numbers-of-run : (b : List ℕ) → runNumbers (planOf b) (le b 88 8) (le b 96 8) (le b 152 8) (le b 144 8) (spotIn b) ≡ firstValues 20 b
+numbers-of-run : (b : List ℕ) → runNumbers (planOf b) (getLe b 88 8) (getLe b 96 8) (getLe b 152 8) (getLe b 144 8) (spotIn b) ≡ firstValues 20 b
 unfolding planOf
 numbers-of-run b = refl
 
@@ -91,7 +91,7 @@ unfolding putRun putNumbers runOf runFit
 putRun-same b small h =
     let e : spotOf (placeOf (spotIn b)) ≡ spotIn b =
     sym (same-spots (spotIn b) (spotOf (placeOf (spotIn b))) (and-right (eqb (length b) runBytes) (every (sameSpot (spotIn b) (spotOf (placeOf (spotIn b))))) h)) in
-    ap (λ (s : Spot). putRow 0 20 8 (λ j. getD (runNumbers (planOf b) (le b 88 8) (le b 96 8) (le b 152 8) (le b 144 8) s) j 0) b) e
+    ap (λ (s : Spot). putRow 0 20 8 (λ j. getD (runNumbers (planOf b) (getLe b 88 8) (getLe b 96 8) (getLe b 152 8) (getLe b 144 8) s) j 0) b) e
     ∙ ap (λ (vs : List ℕ). putRow 0 20 8 (λ j. getD vs j 0) b) (numbers-of-run b) ∙ put-same 20 b small
 
 -- a run that keeps all but its place: the place is enough
@@ -103,15 +103,15 @@ put-place-is R s xs ys small small′ k es e =
     ∙ ap (λ (vs : List ℕ). putRow 0 20 8 (λ j. getD vs j 0) xs) (sym numbers)
   where
     vs : List ℕ
-    vs = runNumbers (planOf xs) (le xs 88 8) (le xs 96 8) (le xs 152 8) (le xs 144 8) s
+    vs = runNumbers (planOf xs) (getLe xs 88 8) (getLe xs 96 8) (getLe xs 152 8) (getLe xs 144 8) s
 
     numbers : runNumbers (R .plan) (R .rlen) (R .mlen) (R .elen) (R .rule) (spotOf (R .place)) ≡ vs
     numbers = rw (k .plan, k .rlen, k .mlen, k .rule, k .elen, sym es)
 
-    before : (j : ℕ) → j < 13 → getD vs j 0 ≡ le xs (j * 8) 8
+    before : (j : ℕ) → j < 13 → getD vs j 0 ≡ getLe xs (j * 8) 8
     before j l = sym (getD-take 13 vs j 0 l) ∙ getD-take 13 (firstValues 20 xs) j 0 l ∙ value-at 20 xs j (omega arith)
 
-    behind : (j : ℕ) → j < 3 → getD vs (17 + j) 0 ≡ le xs ((17 + j) * 8) 8
+    behind : (j : ℕ) → j < 3 → getD vs (17 + j) 0 ≡ getLe xs ((17 + j) * 8) 8
     behind j l = sym (getD-drop 17 vs j 0) ∙ getD-drop 17 (firstValues 20 xs) j 0 ∙ value-at 20 xs (17 + j) (omega arith)
 
 place-back : (p : Place) → placeOf (spotOf p) ≡ p
@@ -135,7 +135,7 @@ abbrev pub RunWords : Run → Type 0
 RunWords R = (j : ℕ) → getD (numbersOfRun R) j 0 < 2 ^ 64
 
 module _ (R : Run) (b : List ℕ) (w : RunWords R) (h : length b ≡ runBytes) where
-  number-at : (j : ℕ) → j < 20 → le (putRun R b) (0 + j * 8) 8 ≡ getD (numbersOfRun R) j 0
+  number-at : (j : ℕ) → j < 20 → getLe (putRun R b) (0 + j * 8) 8 ≡ getD (numbersOfRun R) j 0
   unfolding putRun putNumbers
   number-at j l = le-putRow 0 20 8 (λ j. getD (numbersOfRun R) j 0) b (omega arith) j l ∙ mod-eq-of-lt (w j)
 

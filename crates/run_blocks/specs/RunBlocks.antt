@@ -5,7 +5,7 @@ use mathlib.Core.List.{List, [], _∷_, _++_}
 use Prim.Native.Nat.{ℕ, _+_}
 use lib.ListN.{length, getD}
 use lib.Dec.{eqb}
-use Rattle.width.specs.Tile.{le}
+use Rattle.width.specs.Tile.{getLe}
 use Rattle.machine.specs.Tests.{every}
 use Rattle.run.specs.declared.Layout.{Layout}
 use Rattle.run.specs.declared.Plan.{Plan}
@@ -49,31 +49,31 @@ unfoldable pub placeOf : Spot → Place
 placeOf s = getD (places (s .row) (s .column) (s .term)) (s .kind) AtEnd
 
 abbrev pub layoutOf : List ℕ → ℕ → Layout
-layoutOf block at = record { address = le block at 8; stride = le block (at + 8) 8 }
+layoutOf block at = record { address = getLe block at 8; stride = getLe block (at + 8) 8 }
 
 unfoldable pub planOf : List ℕ → Plan
 planOf block = record {
-  kind = le block 136 8;
-  sew = le block 0 8;
-  factor = le block 8 8;
-  m = le block 16 8;
-  k = le block 24 8;
-  n = le block 32 8;
+  kind = getLe block 136 8;
+  sew = getLe block 0 8;
+  factor = getLe block 8 8;
+  m = getLe block 16 8;
+  k = getLe block 24 8;
+  n = getLe block 32 8;
   a = layoutOf block 40;
   b = layoutOf block 56;
   c = layoutOf block 72;
 }
 
 abbrev pub spotIn : List ℕ → Spot
-spotIn block = spot (le block 104 8) (le block 112 8) (le block 120 8) (le block 128 8)
+spotIn block = spot (getLe block 104 8) (getLe block 112 8) (getLe block 120 8) (getLe block 128 8)
 
 unfoldable pub runOf : List ℕ → Run
 runOf block = record {
   plan = planOf block;
-  rlen = le block 88 8;
-  mlen = le block 96 8;
-  rule = le block 144 8;
-  elen = le block 152 8;
+  rlen = getLe block 88 8;
+  mlen = getLe block 96 8;
+  rule = getLe block 144 8;
+  elen = getLe block 152 8;
   place = placeOf (spotIn block);
 }
 

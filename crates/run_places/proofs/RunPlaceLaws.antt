@@ -23,7 +23,7 @@ use Rattle.run.specs.Places.{next}
 use Rattle.run.specs.Plan.{msew, typeOf}
 use Rattle.run.specs.Start.{format, kindFits, planned}
 use Rattle.run.specs.Turn.{startsM, startsN, startsK, begins, soundRun, runShape, moved}
-use Rattle.plan_numbers.specs.Parts.{placed}
+use Rattle.plan_numbers.specs.Parts.{inMatrices}
 use Rattle.plan_numbers.proofs.PlanLaws.{widest-plan}
 use Rattle.run_places.specs.Parts.{numbered}
 use Rattle.run.proofs.PlaceLaws.{Sound}
@@ -106,7 +106,7 @@ module _ (R : Run) (ok : numbered R ≡ true) where
       let t = every-each (startsM S i ∷ startsN S j ∷ startsK S s ∷ []) h in
       each-every (ltb i (R .plan .m) ∷ ltb j (R .plan .n) ∷ ltb s (R .plan .k) ∷ []) (in-m i (t .0), (in-n j (t .1 .0), (in-k s (t .1 .1 .0), tt)))
 
-  pub place-in : (p : Place) → begins S p ≡ true → placed (R .plan) p ≡ true
+  pub place-in : (p : Place) → begins S p ≡ true → inMatrices (R .plan) p ≡ true
   place-in AtType h = refl
   place-in (AtM i) h = in-m i h
   place-in (AtN i j) h = in-mn i j h
@@ -127,7 +127,7 @@ module _ (R : Run) (ok : soundRun chosen R ≡ true) where
   unfolding numbered
   run-numbered = each-every (permitted (R .rlen) (R .mlen) (R .elen) ∷ isRule (R .rule) ∷ planned (R .elen) (R .plan) ∷ []) (tests .0, (tests .1 .0, (tests .1 .1 .0, tt)))
 
-  pub run-placed : placed (R .plan) (R .place) ≡ true
+  pub run-placed : inMatrices (R .plan) (R .place) ≡ true
   run-placed = place-in R run-numbered (R .place) (tests .1 .1 .1 .0)
 
 -- ---- the next place

@@ -13,7 +13,7 @@ ghost use Rattle.run.specs.Places.{headM, headN, headK, next};
 ghost use Rattle.run.specs.Turn.{startsM, startsN, startsK, begins, soundRun, runParameters, runShape, moved};
 ghost use Rattle.width.specs.Blocks.{chunks};
 ghost use Rattle.run_places.specs.Parts.{numbered};
-ghost use Rattle.plan_numbers.specs.Parts.{placed};
+ghost use Rattle.plan_numbers.specs.Parts.{inMatrices};
 
 // ---- blocks, and runs that a start can have made
 
@@ -120,7 +120,7 @@ fn starts_sums(run: Run, row: u64, column: u64, term: u64) -> bool
 // Whether blocks start at the place of a run.
 fn is_begun(run: Run) -> bool
     requires { ⌜ numbered run ≡ true ⌝ }
-    requires { ⌜ placed (run .plan) (run .place) ≡ true ⌝ }
+    requires { ⌜ inMatrices (run .plan) (run .place) ≡ true ⌝ }
     ensures { λ r. ⌜ r ≡ begins (runShape chosen run) (run .place) ⌝ }
 {
     let place = run.place;

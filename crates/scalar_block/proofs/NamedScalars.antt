@@ -12,7 +12,7 @@ use lib.Dec.{eqb}
 use lib.ListN.{length, getD, set, replicate, length-set}
 use lib.Seq.{getD-set-same, getD-set-other, ext-getD}
 use borrow.Author.Tests.{eq-eqb, eqb-true, eqb-false}
-use Rattle.width.specs.Tile.{le, byteOf, putLe, putRow}
+use Rattle.width.specs.Tile.{getLe, byteOf, putLe, putRow}
 use Rattle.width.proofs.TileLaws.{length-putLe, putLe-at, putLe-out, length-putRow, putRow-at}
 use Rattle.width.proofs.PutLaws.{le-byte}
 use Rattle.width.proofs.WordLaws.{putRow-same}
@@ -240,7 +240,7 @@ module _ (word : ℕ) (xs ys : List ℕ) (W : Vectors) (B : Bench) (tx : length 
 -- ---- written back
 
 -- values that are those of the block in all slots but f: written over it, they change slot f alone
-putValues-one : (b zs : List ℕ) (f : ℕ) → length b ≡ 256 → ((q : ℕ) → getD b q 0 < 256) → f < 32 → ((s : ℕ) → ¬ (s ≡ f) → s < 32 → getD zs s 0 ≡ le b (s * 8) 8)
+putValues-one : (b zs : List ℕ) (f : ℕ) → length b ≡ 256 → ((q : ℕ) → getD b q 0 < 256) → f < 32 → ((s : ℕ) → ¬ (s ≡ f) → s < 32 → getD zs s 0 ≡ getLe b (s * 8) 8)
     → putValues zs b ≡ putLe (f * 8) 8 (getD zs f 0) b
 unfolding putValues
 putValues-one b zs f h small l e =
@@ -265,9 +265,9 @@ putValues-one b zs f h small l e =
         ]
 
 -- values that are those of the block in all slots: written over it, they change nothing
-putValues-none : (b zs : List ℕ) → ((q : ℕ) → getD b q 0 < 256) → ((s : ℕ) → s < 32 → getD zs s 0 ≡ le b (s * 8) 8) → b ≡ putValues zs b
+putValues-none : (b zs : List ℕ) → ((q : ℕ) → getD b q 0 < 256) → ((s : ℕ) → s < 32 → getD zs s 0 ≡ getLe b (s * 8) 8) → b ≡ putValues zs b
 unfolding putValues
-putValues-none b zs small e = sym (putRow-same b small 0 32 8 (λ s. getD zs s 0) (λ s l. e s l ∙ ap (λ (p : ℕ). le b p 8) (sym (zero-add (s * 8)))))
+putValues-none b zs small e = sym (putRow-same b small 0 32 8 (λ s. getD zs s 0) (λ s l. e s l ∙ ap (λ (p : ℕ). getLe b p 8) (sym (zero-add (s * 8)))))
 
 -- slot f written, if it is not slot 0
 abbrev putSlot : ℕ → ℕ → List ℕ → List ℕ
@@ -277,13 +277,13 @@ putSlot f v b = cond (eqb f 0) b (putLe (f * 8) 8 v b)
 
 -- slot s of the values is that of the block
 abbrev Right : List ℕ → List ℕ → ℕ → Type 0
-Right b xs s = getD xs s 0 ≡ le b (s * 8) 8
+Right b xs s = getD xs s 0 ≡ getLe b (s * 8) 8
 
 -- one slot filled from the block, and the slots filled before stay right
-filled : (b xs : List ℕ) (s v : ℕ) → s < length xs → v ≡ le b (s * 8) 8 → Right b (set xs s v) s
+filled : (b xs : List ℕ) (s v : ℕ) → s < length xs → v ≡ getLe b (s * 8) 8 → Right b (set xs s v) s
 filled b xs s v l e = getD-set-same xs s v 0 l ∙ e
 
-still : (b xs : List ℕ) (s v r : ℕ) → s < length xs → v ≡ le b (s * 8) 8 → Right b xs r → Right b (set xs s v) r
+still : (b xs : List ℕ) (s v r : ℕ) → s < length xs → v ≡ getLe b (s * 8) 8 → Right b xs r → Right b (set xs s v) r
 still b xs s v r l e h = elim (ℕ-discrete r s) [
   | yes z ↦ subst (Right b (set xs s v)) (sym z) (filled b xs s v l e)
   | no z ↦ getD-set-other xs s r v 0 z ∙ h
@@ -309,7 +309,7 @@ module _ (word : ℕ) (block : List ℕ) (W : Vectors) (B : Bench) (whole : leng
           (hd ∙ sym (values-at block (field7 word) (omega arith))) (ha ∙ sym (values-at block (field15 word) (omega arith))) (hb ∙ sym (values-at block (field20 word) (omega arith)))
 
       -- every slot but that of bits 11..7 is as it was, and this one too where it is slot 0
-      all : field7 word ≡ 0 → (j : ℕ) → j < 32 → getD (o .scalars) j 0 ≡ le block (j * 8) 8
+      all : field7 word ≡ 0 → (j : ℕ) → j < 32 → getD (o .scalars) j 0 ≡ getLe block (j * 8) 8
       all z j l = elim (ℕ-discrete j 0) [
         | yes w ↦ ap (λ (j : ℕ). getD (o .scalars) j 0) w ∙ g .zero ∙ ap (λ (j : ℕ). getD (valuesOf block) j 0) (sym w) ∙ values-at block j l
         | no n ↦ g .others j (λ e. n (e ∙ z)) ∙ values-at block j l
@@ -323,7 +323,7 @@ module _ (word : ℕ) (block : List ℕ) (W : Vectors) (B : Bench) (whole : leng
 
   -- the code's values: zeros, and three slots filled
   pub block-stepped : (s : Stepped) (rs : List Range) (R K X Q F S : List ℕ) (d a b u v w : ℕ) → d ≡ field7 word → a ≡ field15 word → b ≡ field20 word
-      → u ≡ le block (d * 8) 8 → v ≡ le block (a * 8) 8 → w ≡ le block (b * 8) 8
+      → u ≡ getLe block (d * 8) 8 → v ≡ getLe block (a * 8) 8 → w ≡ getLe block (b * 8) 8
       → vectorSteppedAs s rs R K X Q F ≡ vectorStep word (set (set (set (replicate 32 0) d u) a v) b w) W B → S ≡ putSlot d (getD X d 0) block
       → vectorSteppedAs s rs R K S Q F ≡ stepBlock word block W B
   block-stepped s rs R K X Q F S d a b u v w ed ea eb eu ev ew e es =

@@ -8,6 +8,7 @@ use Prim.Native.Nat.{ℕ, zero, suc, _*_, _≤_}
 use native.Mathlib.Omega.{arith}
 use lib.ListN.{length}
 use borrow.Author.Tests.{eq-eqb, ne-eqb}
+use Rattle.width.specs.Blocks.{Choice}
 use Rattle.machine.specs.declared.Answer.{Answer}
 use Rattle.machine.specs.declared.Answer.the-variants.{Done, BadArguments, BadWidth, OutsideMemory, RowsOverlap, SealedByte}
 use Rattle.machine.specs.declared.Reply.{Reply}
@@ -105,7 +106,7 @@ module _ (z z′ : ℕ → Bool) (more : (q : ℕ) → z q ≡ true → z′ q �
 abbrev holding : List Range → Bench → Bench
 holding rs B = benchOf (B .machine) rs (B .registers) (B .marks) (B .memory)
 
-module _ (grant : ℕ → ℕ → ℕ → ℕ) (rs : List Range) (fit : sealsFit rs ≡ true) where
+module _ (grant : Choice) (rs : List Range) (fit : sealsFit rs ≡ true) where
   -- what a step answers and leaves is that of the bench without, but for the ranges, or it gets 7 and changes nothing
   abbrev Steps : (word : ℕ) (xs : List ℕ) (B : Bench) → Type 0
   Steps word xs B =
@@ -192,7 +193,7 @@ module _ (grant : ℕ → ℕ → ℕ → ℕ) (rs : List Range) (fit : sealsFit
 -- ---- over turns
 
 -- no step changes the ranges
-step-seals : (grant : ℕ → ℕ → ℕ → ℕ) (word : ℕ) (xs : List ℕ) (B : Bench) → stepBy grant word xs B .bench .seals ≡ B .seals
+step-seals : (grant : Choice) (word : ℕ) (xs : List ℕ) (B : Bench) → stepBy grant word xs B .bench .seals ≡ B .seals
 unfolding stepBy outcome
 step-seals grant word xs B = go (isDone (verdict (checksIn idle M (decode word) xs B)))
   where
@@ -203,18 +204,18 @@ step-seals grant word xs B = go (isDone (verdict (checksIn idle M (decode word) 
     go true = refl
     go false = refl
 
-turn-seals : (grant : ℕ → ℕ → ℕ → ℕ) (s : Running) → turn grant s .after .bench .seals ≡ s .bench .seals
+turn-seals : (grant : Choice) (s : Running) → turn grant s .after .bench .seals ≡ s .bench .seals
 turn-seals grant s = go (handsOut grant (s .run))
   where
     go : (o : Option Op) → turnWith grant s o .after .bench .seals ≡ s .bench .seals
     go none = refl
     go (some o) = let h : Handed = handedFor (s .run .plan) o in step-seals grant (h .word) (own h) (s .bench)
 
-pub turns-seals : (grant : ℕ → ℕ → ℕ → ℕ) (r : Running) (t : ℕ) → afterTurns grant r t .bench .seals ≡ r .bench .seals
+pub turns-seals : (grant : Choice) (r : Running) (t : ℕ) → afterTurns grant r t .bench .seals ≡ r .bench .seals
 turns-seals grant r zero = refl
 turns-seals grant r (suc t) = turn-seals grant (afterTurns grant r t) ∙ turns-seals grant r t
 
-module _ (grant : ℕ → ℕ → ℕ → ℕ) (rs : List Range) (fit : sealsFit rs ≡ true) (r : Running) (fits : sealsFit (r .bench .seals) ≡ true)
+module _ (grant : Choice) (rs : List Range) (fit : sealsFit rs ≡ true) (r : Running) (fits : sealsFit (r .bench .seals) ≡ true)
     (more : (q : ℕ) → sealed (r .bench .seals) q ≡ true → sealed rs q ≡ true) where
   abbrev s : Running
   s = under rs r
@@ -307,7 +308,7 @@ added-range-refuses-only grant r start size z =
 
 -- ---- the ranges over acts
 
-step-with-seals : (grant : ℕ → ℕ → ℕ → ℕ) (word : ℕ) (xs : List ℕ) (W : Vectors) (B : Bench) → stepWith grant word xs W B .bench .seals ≡ B .seals
+step-with-seals : (grant : Choice) (word : ℕ) (xs : List ℕ) (W : Vectors) (B : Bench) → stepWith grant word xs W B .bench .seals ≡ B .seals
 unfolding stepWith
 step-with-seals grant word xs W B = go (vectorsFit W) (isDone a)
   where
@@ -331,7 +332,7 @@ sealed-ranges from size B = go (isDone (verdict (sealChecks from size B)))
     go true = refl
     go false = sym (append-nil (B .seals))
 
-act-ranges : (grant : ℕ → ℕ → ℕ → ℕ) (a : Act) (S : Session) → act grant a S .after .bench .seals ≡ S .bench .seals ++ addedBy grant a S
+act-ranges : (grant : Choice) (a : Act) (S : Session) → act grant a S .after .bench .seals ≡ S .bench .seals ++ addedBy grant a S
 act-ranges grant (Act.lend scalars W memory) S = sym (append-nil (S .bench .seals))
 act-ranges grant (Act.step word) S = step-with-seals grant word (S .scalars) (S .lent) (S .bench) ∙ sym (append-nil (S .bench .seals))
 act-ranges grant (Act.runStart P) S = ap (λ (C : Bench). C .seals) (run-start-changes-nothing grant P (S .bench)) ∙ sym (append-nil (S .bench .seals))

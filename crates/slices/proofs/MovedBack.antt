@@ -8,6 +8,7 @@ use native.Mathlib.Omega.{arith}
 use lib.ListN.{length, getD}
 use lib.Dec.{ltb}
 use borrow.Author.Tests.{leb-true, ltb-true}
+use Rattle.width.specs.Blocks.{Choice}
 use Rattle.width.specs.Tile.{putTile}
 use Rattle.width.proofs.TileLaws.{putTile-le, pitched, le-lt}
 use Rattle.machine.specs.declared.Form.{Form}
@@ -75,7 +76,7 @@ module _ (M : Parameters) (f : Form) (r v first count : ℕ) (st : State) (file 
 
 -- ---- two words
 
-module _ (grant : ℕ → ℕ → ℕ → ℕ) (S : Slice) (out : Given) (back-word : ℕ) (ys : List ℕ) (B : Bench) (h : OutAndBack grant S out back-word ys B) where
+module _ (grant : Choice) (S : Slice) (out : Given) (back-word : ℕ) (ys : List ℕ) (B : Bench) (h : OutAndBack grant S out back-word ys B) where
   abbrev N : Parameters
   N = parameters grant (B .machine)
 

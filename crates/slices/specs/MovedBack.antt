@@ -4,6 +4,7 @@ use mathlib.Core.Path.{_≡_}
 use mathlib.Core.List.{List}
 use Prim.Native.Nat.{ℕ, _<_}
 use lib.ListN.{getD}
+use Rattle.width.specs.Blocks.{Choice}
 use Rattle.machine.specs.declared.Form.{Form}
 use Rattle.machine.specs.declared.Instruction.the-variants.{MoveOut, MoveIn}
 use Rattle.machine.specs.Geometry.{Bench, scalar}
@@ -20,7 +21,7 @@ pub record Slice : Type 0 where
   pub out-first : ℕ
   pub back-first : ℕ
 
-module _ (grant : ℕ → ℕ → ℕ → ℕ) (S : Slice) (out : Given) (back : ℕ) (scalars : List ℕ) (B : Bench) where
+module _ (grant : Choice) (S : Slice) (out : Given) (back : ℕ) (scalars : List ℕ) (B : Bench) where
   abbrev pub afterOut : VectorOutcome
   afterOut = stepWith grant (out .word) (out .scalars) (out .vectors) B
 
@@ -45,5 +46,5 @@ module _ (grant : ℕ → ℕ → ℕ → ℕ) (S : Slice) (out : Given) (back :
     pub same-scalars : (afterOut .scalars ≡ out .scalars) × (afterBack .scalars ≡ scalars)
 
 abbrev pub OutAndBackRestores : Type 0
-OutAndBackRestores = (grant : ℕ → ℕ → ℕ → ℕ) (S : Slice) (out : Given) (back : ℕ) (scalars : List ℕ) (B : Bench)
+OutAndBackRestores = (grant : Choice) (S : Slice) (out : Given) (back : ℕ) (scalars : List ℕ) (B : Bench)
     → OutAndBack grant S out back scalars B → Restored grant S out back scalars B

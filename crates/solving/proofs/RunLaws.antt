@@ -7,7 +7,7 @@ use native.Mathlib.Nat.{mul-le-mul}
 use native.Mathlib.Omega.{arith}
 use lib.ListN.{length, take, drop, getD, replicate, length-drop}
 use lib.Seq.{getD-take, getD-drop, length-take-le}
-use Rattle.width.specs.Tile.{le, putRow}
+use Rattle.width.specs.Tile.{getLe, putRow}
 use Rattle.width.proofs.PutLaws.{putRow-low}
 use Rattle.machine.specs.declared.Started.{Started}
 use Rattle.machine.specs.Geometry.{Range, Bench, benchOf, permitted}
@@ -77,7 +77,7 @@ module _ (sew f m k n : ℕ) (formatted : format 32 sew f ≡ true) (m≤ : m �
   -- from what the calls of `multiply` return and leave: the run's count, and the elements of C that were read
   pub multiplied : (s : Started) (marks memory : List ℕ) → startedAs s [] zeros marks ≡ startMachine 64 256 32 0 [] zeros zeros → length memory ≡ 3072
       → (P : Plan) → P ≡ planFor sew f m k n → (o : WholeOutcome) → Delivers P (benchOf (s .machine) (sealsIn none) zeros marks memory) o
-      → (c : List ℕ) → ((j : ℕ) → j < 256 → getD c j 0 ≡ le (o .bench .memory) (2048 + j * (f * (sew / 8))) (f * (sew / 8)))
+      → (c : List ℕ) → ((j : ℕ) → j < 256 → getD c j 0 ≡ getLe (o .bench .memory) (2048 + j * (f * (sew / 8))) (f * (sew / 8)))
       → (o .count ≡ steps (shape (jobFor sew f m k n memory)))
       × ((i j : ℕ) → i < m → j < n → getD c (i * n + j) 0 ≡ productOf (jobFor sew f m k n memory) i j)
   multiplied s marks memory e len P p o d c read =

@@ -7,7 +7,7 @@ use native.Mathlib.Omega.{arith}
 use lib.IntN.{_*ℤ_}
 use lib.ListN.{length, set, getD, length-set}
 use Rattle.width.specs.Reduce.{signed, reduce}
-use Rattle.width.specs.Tile.{le, putLe, putRow}
+use Rattle.width.specs.Tile.{getLe, putLe, putRow}
 use Rattle.width.proofs.TileLaws.{le-cong, putRow-out}
 use Rattle.width.proofs.ElementLaws.{pow-256, putRow-next}
 use Rattle.width.proofs.SumLaws.{sum-none}
@@ -60,7 +60,7 @@ add-literal W acc₀ s acc at v w n x e all j h = all j h ∙ ap (λ (u : ℕ). 
 abbrev pub Summed : ℕ → (acc₀ s : List ℕ) (a b pitch w k n : ℕ) (acc : List ℕ) (l from row : ℕ) → Type 0
 Summed W acc₀ s a b pitch w k n acc l from row =
     (l ≤ k) × (from ≡ a + l * w) × (row ≡ b + l * pitch) × (length acc ≡ length acc₀)
-    × ((q : ℕ) → q < n → getD acc q 0 ≡ product W w l (getD acc₀ q 0) (λ t. le s (a + t * w) w) (λ t. le s (b + t * pitch + q * w) w))
+    × ((q : ℕ) → q < n → getD acc q 0 ≡ product W w l (getD acc₀ q 0) (λ t. getLe s (a + t * w) w) (λ t. getLe s (b + t * pitch + q * w) w))
 
 module _ (W : ℕ) (acc₀ s : List ℕ) (a b pitch w k n : ℕ) where
   pub sum-first : ((q : ℕ) → getD acc₀ q 0 < 256 ^ W) → Summed W acc₀ s a b pitch w k n acc₀ 0 a b
@@ -84,10 +84,10 @@ module _ (W : ℕ) (acc₀ s : List ℕ) (a b pitch w k n : ℕ) where
   )
 
   pub sum-all : (acc : List ℕ) (l from row : ℕ) → Summed W acc₀ s a b pitch w k n acc l from row → k ≤ l
-      → (q : ℕ) → q < n → getD acc q 0 ≡ product W w k (getD acc₀ q 0) (λ t. le s (a + t * w) w) (λ t. le s (b + t * pitch + q * w) w)
+      → (q : ℕ) → q < n → getD acc q 0 ≡ product W w k (getD acc₀ q 0) (λ t. getLe s (a + t * w) w) (λ t. getLe s (b + t * pitch + q * w) w)
   sum-all acc l from row inv h q i =
       let e : l ≡ k = omega (arith, inv .0) in
-      inv .4 q i ∙ ap (λ (m : ℕ). product W w m (getD acc₀ q 0) (λ t. le s (a + t * w) w) (λ t. le s (b + t * pitch + q * w) w)) e
+      inv .4 q i ∙ ap (λ (m : ℕ). product W w m (getD acc₀ q 0) (λ t. getLe s (a + t * w) w) (λ t. getLe s (b + t * pitch + q * w) w)) e
 
 -- ---- finish_row: the first j numbers are stored
 
@@ -114,9 +114,9 @@ module _ (W : ℕ) (s₀ : List ℕ) (value : ℕ → ℕ) (to n : ℕ) where
       inv .3 ∙ ap (λ (m : ℕ). putRow to m W value s₀) e
 
 -- the element that is written next is still that of the entry
-pub yet-unwritten : (W : ℕ) (s₀ s : List ℕ) (value : ℕ → ℕ) (to j at : ℕ) → at ≡ to + j * W → s ≡ putRow to j W value s₀ → le s at W ≡ le s₀ (to + j * W) W
+pub yet-unwritten : (W : ℕ) (s₀ s : List ℕ) (value : ℕ → ℕ) (to j at : ℕ) → at ≡ to + j * W → s ≡ putRow to j W value s₀ → getLe s at W ≡ getLe s₀ (to + j * W) W
 yet-unwritten W s₀ s value to j at ea es =
-    ap₂ (λ (x : List ℕ) (p : ℕ). le x p W) es ea
+    ap₂ (λ (x : List ℕ) (p : ℕ). getLe x p W) es ea
     ∙ le-cong (putRow to j W value s₀) s₀ (to + j * W) (to + j * W) W (λ b l. putRow-out to j W value s₀ (to + j * W + b) (λ i. omega (arith, i .1)))
 
 -- an element becomes x times itself plus its accumulator

@@ -6,7 +6,7 @@ use native.Mathlib.Nat.{add-comm, one-mul, mod-eq-of-lt}
 use lib.IntN.{ℤ, _+ℤ_, _*ℤ_}
 use lib.ListN.{getD, replicate, getD-replicate}
 use Rattle.width.specs.Reduce.{signed, reduce, sumℤ}
-use Rattle.width.specs.Tile.{le, putRow}
+use Rattle.width.specs.Tile.{getLe, putRow}
 use Rattle.width.proofs.TileLaws.{le-lt}
 use Rattle.width.proofs.ElementLaws.{pow-256, putRow-cong}
 use Rattle.width.proofs.ReduceLaws.{reduce-add, reduce-mul, reduce-signed}
@@ -36,9 +36,9 @@ module _ (W : ℕ) (s : List ℕ) where
 
   -- product l of column j, of A's element x at `from` and B's row at `row`
   pub product-added : (w pitch a b j l old v x from row r : ℕ)
-      → v ≡ product W w l old (λ t. le s (a + t * w) w) (λ t. le s (b + t * pitch + j * w) w)
+      → v ≡ product W w l old (λ t. getLe s (a + t * w) w) (λ t. getLe s (b + t * pitch + j * w) w)
       → x ≡ reduce (256 ^ W) (signedLe s from w) → from ≡ a + l * w → row ≡ b + l * pitch → r ≡ plusProduct W v x s (row + j * w) w
-      → r ≡ product W w (l + 1) old (λ t. le s (a + t * w) w) (λ t. le s (b + t * pitch + j * w) w)
+      → r ≡ product W w (l + 1) old (λ t. getLe s (a + t * w) w) (λ t. getLe s (b + t * pitch + j * w) w)
   product-added w pitch a b j l old v x from row r ev ex ef eb er =
       er ∙ ap (λ (q : ℕ). plusProduct W v x s (q + j * w) w) eb
       ∙ product-more (256 ^ W) (pow-256 W) (signed (256 ^ W) old) (A l) (B l) l (λ t. A t *ℤ B t) v x ev (ex ∙ ap (λ (q : ℕ). reduce (256 ^ W) (signedLe s q w)) ef) refl
@@ -51,13 +51,13 @@ module _ (W : ℕ) (s : List ℕ) where
 
   -- accumulators that start at 0: all products, and the old elements once, stored
   pub row-of-products : (w pitch k a b c n size : ℕ) (sums out : List ℕ) → 1 < 256 ^ W → ((q : ℕ) → getD s q 0 < 256) → ((j : ℕ) → j < n → j < size)
-      → ((j : ℕ) → j < n → getD sums j 0 ≡ product W w k (getD (replicate size 0) j 0) (λ l. le s (a + l * w) w) (λ l. le s (b + l * pitch + j * w) w))
+      → ((j : ℕ) → j < n → getD sums j 0 ≡ product W w k (getD (replicate size 0) j 0) (λ l. getLe s (a + l * w) w) (λ l. getLe s (b + l * pitch + j * w) w))
       → out ≡ putRow c n W (λ j. plusProduct W (getD sums j 0) 1 s (c + j * W) W) s → out ≡ putRow c n W (productRow s W w pitch k a b c) s
   row-of-products w pitch k a b c n size sums out big bytes room es e =
       e ∙ putRow-cong W c n (λ j. plusProduct W (getD sums j 0) 1 s (c + j * W) W) (productRow s W w pitch k a b c) s
       (λ j h. ap (λ (v : ℕ). plusProduct W v 1 s (c + j * W) W)
-      (es j h ∙ ap (λ (o : ℕ). product W w k o (λ l. le s (a + l * w) w) (λ l. le s (b + l * pitch + j * w) w)) (getD-replicate size j 0 0 (room j h)))
-      ∙ once-last (256 ^ W) (pow-256 W) big (sumℤ k (λ l. signedLe s (a + l * w) w *ℤ signedLe s (b + l * pitch + j * w) w)) (le s (c + j * W) W) (le-lt s bytes (c + j * W) W))
+      (es j h ∙ ap (λ (o : ℕ). product W w k o (λ l. getLe s (a + l * w) w) (λ l. getLe s (b + l * pitch + j * w) w)) (getD-replicate size j 0 0 (room j h)))
+      ∙ once-last (256 ^ W) (pow-256 W) big (sumℤ k (λ l. signedLe s (a + l * w) w *ℤ signedLe s (b + l * pitch + j * w) w)) (getLe s (c + j * W) W) (le-lt s bytes (c + j * W) W))
 
   -- and two products, stored
   pub row-of-weights : (w from to n size x y : ℕ) (one out : List ℕ) → ((j : ℕ) → j < n → j < size)

@@ -8,7 +8,7 @@ use native.Mathlib.Omega.{arith}
 use lib.IntN.{ℤ, _+ℤ_, _*ℤ_}
 use Rattle.width.specs.Reduce.{signed, reduce}
 use Rattle.width.proofs.ReduceLaws.{sumℤ-cong}
-use Rattle.width.specs.Tile.{le, putRow, putTile}
+use Rattle.width.specs.Tile.{getLe, putRow, putTile}
 use Rattle.width.proofs.TileLaws.{pitched}
 use Rattle.width.proofs.ElementLaws.{still, tile-turn}
 use Rattle.machine.specs.Operation.{product}
@@ -24,7 +24,7 @@ Reads k rule = (old : ℕ) (x y u v : ℕ → ℕ) → ((l : ℕ) → l < k → 
 
 -- element j of the row of C at c, with the row of A at a and the rows of B from b on
 abbrev ruleRow : Rule → List ℕ → (cw w pitch a b c j : ℕ) → ℕ
-ruleRow rule s cw w pitch a b c j = rule (le s (c + j * cw) cw) (λ l. le s (a + l * w) w) (λ l. le s (b + l * pitch + j * w) w)
+ruleRow rule s cw w pitch a b c j = rule (getLe s (c + j * cw) cw) (λ l. getLe s (a + l * w) w) (λ l. getLe s (b + l * pitch + j * w) w)
 
 -- the elements of A and B lie before those of C: A's last row ends before it
 module _ (cw w pitch cpitch k n a b c m : ℕ) (s : List ℕ) (narrow : n * w ≤ pitch) (wide : n * cw ≤ cpitch)
@@ -34,17 +34,17 @@ module _ (cw w pitch cpitch k n a b c m : ℕ) (s : List ℕ) (narrow : n * w �
 
   module _ (value : ℕ → ℕ → ℕ) (i : ℕ) (r : List ℕ) (li : i < m) (er : r ≡ putTile at i n cw value s) where
     -- the elements of A's row i, of B, and of C's row i
-    same-a : (l : ℕ) → l < k → le r (a + i * pitch + l * w) w ≡ le s (a + i * pitch + l * w) w
+    same-a : (l : ℕ) → l < k → getLe r (a + i * pitch + l * w) w ≡ getLe s (a + i * pitch + l * w) w
     same-a l ll =
         still at n cw value s r i er (a + i * pitch + l * w) w
         (λ h lh q hq x. omega (arith, hq, x, mul-le-mul-right w ll, mul-le-mul-right pitch li))
 
-    pub same-b : (l j : ℕ) → l < k → j < n → le r (b + l * pitch + j * w) w ≡ le s (b + l * pitch + j * w) w
+    pub same-b : (l j : ℕ) → l < k → j < n → getLe r (b + l * pitch + j * w) w ≡ getLe s (b + l * pitch + j * w) w
     same-b l j ll lj =
         still at n cw value s r i er (b + l * pitch + j * w) w
         (λ h lh q hq x. omega (arith, hq, x, mul-le-mul-right w lj, mul-le-mul-right pitch ll))
 
-    same-c : (j : ℕ) → j < n → le r (at i + j * cw) cw ≡ le s (at i + j * cw) cw
+    same-c : (j : ℕ) → j < n → getLe r (at i + j * cw) cw ≡ getLe s (at i + j * cw) cw
     same-c j lj =
         still at n cw value s r i er (at i + j * cw) cw
         (λ h lh q hq x. pitched c cpitch (n * cw) wide h i lh q x (omega (arith, hq, mul-le-mul-right cw lj)))
@@ -62,9 +62,9 @@ module _ (cw w pitch cpitch k n a b c m : ℕ) (s : List ℕ) (narrow : n * w �
       where
         same-row : (j : ℕ) → j < n → ruleRow rule r cw w pitch (a + i * pitch) b (at i) j ≡ ruled i j
         same-row j lj =
-            ap (λ (o : ℕ). rule o (λ l. le r (a + i * pitch + l * w) w) (λ l. le r (b + l * pitch + j * w) w)) (same-c ruled i r li er j lj)
-            ∙ reads (le s (at i + j * cw) cw) (λ l. le r (a + i * pitch + l * w) w) (λ l. le r (b + l * pitch + j * w) w)
-            (λ l. le s (a + i * pitch + l * w) w) (λ l. le s (b + l * pitch + j * w) w)
+            ap (λ (o : ℕ). rule o (λ l. getLe r (a + i * pitch + l * w) w) (λ l. getLe r (b + l * pitch + j * w) w)) (same-c ruled i r li er j lj)
+            ∙ reads (getLe s (at i + j * cw) cw) (λ l. getLe r (a + i * pitch + l * w) w) (λ l. getLe r (b + l * pitch + j * w) w)
+            (λ l. getLe s (a + i * pitch + l * w) w) (λ l. getLe s (b + l * pitch + j * w) w)
             (λ l ll. same-a ruled i r li er l ll) (λ l ll. same-b ruled i r li er l j ll lj)
 
   -- by products of signed numbers

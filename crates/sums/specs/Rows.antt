@@ -2,13 +2,13 @@
 use mathlib.Core.List.{List}
 use Prim.Native.Nat.{ℕ, _+_, _*_, _^_}
 use lib.IntN.{ℤ, _+ℤ_, _*ℤ_}
-use Rattle.width.specs.Tile.{le}
+use Rattle.width.specs.Tile.{getLe}
 use Rattle.width.specs.Reduce.{signed, reduce}
 use Rattle.machine.specs.Operation.{product}
 
 -- the signed element of w bytes at p
 abbrev pub signedLe : List ℕ → ℕ → ℕ → ℤ
-signedLe s p w = signed (256 ^ w) (le s p w)
+signedLe s p w = signed (256 ^ w) (getLe s p w)
 
 -- the accumulator v of `wide` bytes plus x, of that width, times the signed element of w bytes at p
 abbrev pub plusProduct : (wide v x : ℕ) → List ℕ → (p w : ℕ) → ℕ
@@ -17,7 +17,7 @@ plusProduct wide v x s p w = reduce (256 ^ wide) (signed (256 ^ wide) v +ℤ sig
 -- element j of the row of C at c after a multiply of the row of A at a by the rows of B from b on
 abbrev pub productRow : List ℕ → (wide narrow pitch k a b c j : ℕ) → ℕ
 productRow s wide narrow pitch k a b c j =
-    product wide narrow k (le s (c + j * wide) wide) (λ l. le s (a + l * narrow) narrow) (λ l. le s (b + l * pitch + j * narrow) narrow)
+    product wide narrow k (getLe s (c + j * wide) wide) (λ l. getLe s (a + l * narrow) narrow) (λ l. getLe s (b + l * pitch + j * narrow) narrow)
 
 -- x times element j of the row at `to` plus y times that of the row at `from`
 abbrev pub weightedRow : List ℕ → (from to narrow wide x y j : ℕ) → ℕ

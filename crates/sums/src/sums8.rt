@@ -3,7 +3,7 @@
 ghost use mathlib.Core.Path.{_≡_};
 ghost use Prim.Native.Nat.{ℕ, _+_, _*_, _≤_, _<_};
 ghost use lib.ListN.{length, getD};
-ghost use Rattle.width.specs.Tile.{le, putRow};
+ghost use Rattle.width.specs.Tile.{getLe, putRow};
 ghost use Rattle.machine.specs.Operation.{product};
 ghost use Rattle.width.specs.Bounds.{mostColumns};
 ghost use Rattle.sums.specs.Rows.{plusProduct, productRow, weightedRow};
@@ -30,7 +30,7 @@ fn add_products(acc: &mut [u8], s: &[u8], a: usize, b: usize, pitch: usize, k: u
     requires { ⌜ n ≤ pitch ⌝ }
     requires { ⌜ a + k ≤ length (now s) ⌝ }
     requires { ⌜ b + k * pitch ≤ length (now s) ⌝ }
-    ensures { λ _. ⌜ ((j : ℕ) → j < n → getD (now (acc .exit)) j 0 ≡ product 1 1 k (getD (now (acc .entry)) j 0) (λ l. le (now (s .entry)) (a + l * 1) 1) (λ l. le (now (s .entry)) (b + l * pitch + j * 1) 1)) ⌝ }
+    ensures { λ _. ⌜ ((j : ℕ) → j < n → getD (now (acc .exit)) j 0 ≡ product 1 1 k (getD (now (acc .entry)) j 0) (λ l. getLe (now (s .entry)) (a + l * 1) 1) (λ l. getLe (now (s .entry)) (b + l * pitch + j * 1) 1)) ⌝ }
 {
     let mut l = 0;
     let mut from = a;

@@ -8,6 +8,7 @@ use native.Mathlib.Omega.{arith}
 use lib.ListN.{length}
 use lib.Dec.{eqb, leb}
 use borrow.Author.Tests.{eqb-true, leb-true}
+use Rattle.width.specs.Blocks.{Choice}
 use Rattle.machine.specs.declared.Machine.{Machine}
 use Rattle.machine.specs.declared.Matrix.{Matrix}
 use Rattle.machine.specs.declared.Matrix.the-variants.{MatrixA, MatrixB, MatrixC}
@@ -78,7 +79,7 @@ sizes M st k w = typed st ∷ (widthOf (M .elen) (st .mtype) k w otherwise BadWi
 
 -- ---- a sound machine
 
-module _ (grant : ℕ → ℕ → ℕ → ℕ) (m : Machine) (regs marks : List ℕ) where
+module _ (grant : Choice) (m : Machine) (regs marks : List ℕ) where
   abbrev M : Parameters
   M = parameters grant m
 

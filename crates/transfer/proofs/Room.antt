@@ -8,6 +8,7 @@ use native.Mathlib.Omega.{arith}
 use lib.ListN.{length}
 use lib.Dec.{eqb, leb, ltb}
 use borrow.Author.Tests.{eqb-true, leb-true, ltb-true, not-true}
+use Rattle.width.specs.Blocks.{Choice}
 use Rattle.width.specs.Bounds.{mostElen}
 use Rattle.machine.specs.declared.Machine.{Machine}
 use Rattle.machine.specs.declared.Matrix.{Matrix}
@@ -72,7 +73,7 @@ width-is elen t MatrixC w known s h = go (eqb w (sew t)) refl (eqb w (2 * sew t)
     go false e true f g = two-width w (sew t) s few (eqb-true w (2 * sew t) f)
     go false e false f g = four-width w (sew t) s few (eqb-true w (4 * sew t) (and-right (maccq t) (eqb w (4 * sew t)) g))
 
-module _ (grant : ℕ → ℕ → ℕ → ℕ) (m : Machine) (regs marks : List ℕ) where
+module _ (grant : Choice) (m : Machine) (regs marks : List ℕ) where
   abbrev M : Parameters
   M = parameters grant m
 

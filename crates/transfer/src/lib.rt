@@ -23,7 +23,7 @@ ghost use mathlib.Core.Bool.{true, cond};
 ghost use mathlib.Core.List.{[], _∷_};
 ghost use Prim.Native.Nat.{_+_, _*_, _≤_, _<_};
 ghost use lib.ListN.{length};
-ghost use Rattle.width.specs.Tile.{le, putLe, putRow, putTile, markTile};
+ghost use Rattle.width.specs.Tile.{getLe, putLe, putRow, putTile, markTile};
 ghost use Rattle.machine.specs.Geometry.{sealed};
 ghost use Rattle.machine.specs.Faults.{sealsFit};
 ghost use Rattle.ranges.specs.Ranges.{sealsIn};
@@ -40,7 +40,7 @@ pub fn copy_element(dst: &mut [u8], src: &[u8], to: usize, from: usize, w: usize
     requires { ⌜ Width w ⌝ }
     requires { ⌜ to + w ≤ length (now dst) ⌝ }
     requires { ⌜ from + w ≤ length (now src) ⌝ }
-    ensures { λ _. ⌜ now (dst .exit) ≡ putLe to w (le (now (src .entry)) from w) (now (dst .entry)) ⌝ }
+    ensures { λ _. ⌜ now (dst .exit) ≡ putLe to w (getLe (now (src .entry)) from w) (now (dst .entry)) ⌝ }
 {
     if w == 1 {
         write1(dst, to, read1(src, from));
@@ -62,7 +62,7 @@ fn gather(dst: &mut [u8], src: &[u8], base: u64, stride: u64, n: usize, w: usize
     requires { ⌜ Width w ⌝ }
     requires { ⌜ n * w ≤ length (now dst) ⌝ }
     requires { ⌜ inside (length (now src)) base stride n w ≡ true ⌝ }
-    ensures { λ _. ⌜ now (dst .exit) ≡ putRow 0 n w (λ j. le (now (src .entry)) (rowAt base stride j) w) (now (dst .entry)) ⌝ }
+    ensures { λ _. ⌜ now (dst .exit) ≡ putRow 0 n w (λ j. getLe (now (src .entry)) (rowAt base stride j) w) (now (dst .entry)) ⌝ }
 {
     let mut from = base;
     let mut to = 0;

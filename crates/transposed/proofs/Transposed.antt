@@ -8,6 +8,7 @@ use native.Mathlib.Omega.{arith}
 use lib.ListN.{length, getD, set}
 use lib.Seq.{getD-set-other}
 use borrow.Author.Tests.{ltb-true}
+use Rattle.width.specs.Blocks.{Choice}
 use Rattle.width.specs.Tile.{putTile, markTile, markRow, In}
 use Rattle.width.proofs.UptoLaws.{upto-keeps}
 use Rattle.width.proofs.PutLaws.{row-fits}
@@ -56,7 +57,7 @@ rows-same st at n m w v MatrixA = (refl, refl)
 rows-same st at n m w v MatrixB = (refl, refl)
 rows-same st at n m w v MatrixC = (refl, refl)
 
-module _ (grant : ℕ → ℕ → ℕ → ℕ) (k : Matrix) (w r a b c d : ℕ) (xs ys : List ℕ) (B : Bench) where
+module _ (grant : Choice) (k : Matrix) (w r a b c d : ℕ) (xs ys : List ℕ) (B : Bench) where
   abbrev M : Parameters
   M = parameters grant (B .machine)
 
@@ -131,7 +132,7 @@ module _ (grant : ℕ → ℕ → ℕ → ℕ) (k : Matrix) (w r a b c d : ℕ) 
 
 -- ---- the theorem
 
-module _ (grant : ℕ → ℕ → ℕ → ℕ) (P : Pair) (first second : Given) (B : Bench) (h : LoadThenStore grant P first second B) where
+module _ (grant : Choice) (P : Pair) (first second : Given) (B : Bench) (h : LoadThenStore grant P first second B) where
   abbrev xs : List ℕ
   xs = first .scalars
 

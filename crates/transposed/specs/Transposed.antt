@@ -4,6 +4,7 @@
 use mathlib.Core.Path.{_≡_}
 use Prim.Native.Nat.{ℕ, _*_, _<_}
 use lib.ListN.{length, getD}
+use Rattle.width.specs.Blocks.{Choice}
 use Rattle.width.specs.Tile.{In}
 use Rattle.machine.specs.declared.Matrix.{Matrix}
 use Rattle.machine.specs.declared.Form.the-variants.{Plain, Transposed}
@@ -25,7 +26,7 @@ pub record Pair : Type 0 where
   pub store-base : ℕ
   pub store-stride : ℕ
 
-module _ (grant : ℕ → ℕ → ℕ → ℕ) (P : Pair) (first second : Given) (B : Bench) where
+module _ (grant : Choice) (P : Pair) (first second : Given) (B : Bench) where
   -- "nothing comes between"
   abbrev pub afterLoad : VectorOutcome
   afterLoad = stepWith grant (first .word) (first .scalars) (first .vectors) B
@@ -73,4 +74,4 @@ module _ (grant : ℕ → ℕ → ℕ → ℕ) (P : Pair) (first second : Given)
     pub same-scalars : (afterLoad .scalars ≡ first .scalars) × (afterStore .scalars ≡ second .scalars)
 
 abbrev pub LoadThenStoreTransposes : Type 0
-LoadThenStoreTransposes = (grant : ℕ → ℕ → ℕ → ℕ) (P : Pair) (first second : Given) (B : Bench) → LoadThenStore grant P first second B → Transposes grant P first second B
+LoadThenStoreTransposes = (grant : Choice) (P : Pair) (first second : Given) (B : Bench) → LoadThenStore grant P first second B → Transposes grant P first second B

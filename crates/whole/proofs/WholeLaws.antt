@@ -16,7 +16,7 @@ use Rattle.run.specs.Words.{Shape, steps}
 use Rattle.run.specs.Plan.{shape}
 use Rattle.run.specs.Start.{RunStart, startRun, startedAs}
 use Rattle.run.specs.Turn.{running, TurnsOutcome, turn, afterTurns, turns}
-use Rattle.run.specs.Statement.{Bytes, Demand3, jobOf, startedRun}
+use Rattle.run.specs.Statement.{MemoryBytes, Demand3, jobOf, startedRun}
 use Rattle.run.specs.Whole.{WholeOutcome, whole, Delivers}
 use Rattle.run.proofs.RefusalLaws.{number-done, number-refused}
 use Rattle.run.proofs.Demand1.{whole-refusal-changes-nothing}
@@ -48,7 +48,7 @@ module _ (P : Plan) (B : Bench) where
 
   -- ---- an accepted one
 
-  module _ (bytes : Bytes (B .memory)) where
+  module _ (bytes : MemoryBytes (B .memory)) where
     the-demand : Demand3 chosen P B
     the-demand = demand-3-ours P B bytes
 

@@ -10,7 +10,7 @@ use lib.Dec.{ltb}
 use lib.IntN.{ℤ, pos, negsuc}
 use lib.Pow.{pow-pos, pow-add}
 use borrow.Author.Tests.{ltb-true, ltb-false, lt-ltb, le-ltb}
-use Rattle.width.specs.Tile.{le, putLe, putRow, putTile, In}
+use Rattle.width.specs.Tile.{getLe, putLe, putRow, putTile, In}
 use Rattle.width.proofs.TileLaws.{putTile-keeps}
 use Rattle.width.specs.Reduce.{signed, reduce}
 use Rattle.width.proofs.ReduceLaws.{widened, narrowed}
@@ -42,8 +42,8 @@ module _ (w : ℕ) where
 
 module _ (at : ℕ → ℕ) (cols w : ℕ) (value : ℕ → ℕ → ℕ) (s r : List ℕ) (i : ℕ) (er : r ≡ putTile at i cols w value s) where
   -- a number that shares no byte with an earlier row is still that of the entry
-  pub still : (p v : ℕ) → ((h : ℕ) → h < i → (q : ℕ) → In p v q → In (at h) (cols * w) q → ⊥) → le r p v ≡ le s p v
-  still p v apart = ap (λ (l : List ℕ). le l p v) er ∙ putTile-keeps at i cols w value s p v apart
+  pub still : (p v : ℕ) → ((h : ℕ) → h < i → (q : ℕ) → In p v q → In (at h) (cols * w) q → ⊥) → getLe r p v ≡ getLe s p v
+  still p v apart = ap (λ (l : List ℕ). getLe l p v) er ∙ putTile-keeps at i cols w value s p v apart
 
   -- a row of the values of the entry is the tile's next row
   pub tile-turn : (p : ℕ) (g : ℕ → ℕ) (out : List ℕ) → p ≡ at i → out ≡ putRow p cols w g r → ((j : ℕ) → j < cols → g j ≡ value i j)

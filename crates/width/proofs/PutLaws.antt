@@ -12,7 +12,7 @@ use lib.Arith.{mod-mul}
 use lib.Pow.{pow-add}
 use lib.Seq.{getD-take, getD-drop, take-all, length-take-le}
 use Rattle.width.specs.Upto.{upto}
-use Rattle.width.specs.Tile.{le, byteOf, putLe, putRow, putTile, markRow, markTile}
+use Rattle.width.specs.Tile.{getLe, byteOf, putLe, putRow, putTile, markRow, markTile}
 use Rattle.width.proofs.UptoLaws.{upto-cong, upto-keeps}
 use Rattle.width.proofs.TileLaws.{le-lt}
 use Rattle.width.proofs.PartLaws.{putRow-part, markRow-past}
@@ -50,25 +50,25 @@ next-row i p = rw add-one (suc-mul i p)
 -- ---- the bytes of a value
 
 -- a byte of a number that was read is the byte
-pub le-byte : (xs : List ℕ) → ((q : ℕ) → getD xs q 0 < 256) → (p w b : ℕ) → b < w → byteOf (le xs p w) b ≡ getD xs (p + b) 0
+pub le-byte : (xs : List ℕ) → ((q : ℕ) → getD xs q 0 < 256) → (p w b : ℕ) → b < w → byteOf (getLe xs p w) b ≡ getD xs (p + b) 0
 le-byte xs h p zero b l = absurd (omega arith)
 le-byte xs h p (suc w) b l = ⊎-elim top (λ g. lower g (le-byte xs h p w b g)) (eq-or-lt-of-le (le-of-suc-le-suc l))
   where
-    top : b ≡ w → byteOf (le xs p (suc w)) b ≡ getD xs (p + b) 0
+    top : b ≡ w → byteOf (getLe xs p (suc w)) b ≡ getD xs (p + b) 0
     top e =
-        rw (e, add-mul-div-right (le xs p w) (getD xs (p + w) 0) {z = 256 ^ w} (one-le-pow w 256 (omega arith)), div-eq-of-lt (le-lt xs h p w))
+        rw (e, add-mul-div-right (getLe xs p w) (getD xs (p + w) 0) {z = 256 ^ w} (one-le-pow w 256 (omega arith)), div-eq-of-lt (le-lt xs h p w))
         (ap (λ (x : ℕ). x % 256) (zero-add (getD xs (p + w) 0)) ∙ mod-eq-of-lt (h (p + w)))
 
-    lower : b < w → byteOf (le xs p w) b ≡ getD xs (p + b) 0 → byteOf (le xs p (suc w)) b ≡ getD xs (p + b) 0
+    lower : b < w → byteOf (getLe xs p w) b ≡ getD xs (p + b) 0 → byteOf (getLe xs p (suc w)) b ≡ getD xs (p + b) 0
     lower g ih =
         let d : ℕ = w - suc b in
         let v : ℕ = getD xs (p + w) 0 in
         let e : 256 ^ w ≡ 256 ^ d * 256 * 256 ^ b =
         ap (λ (n : ℕ). 256 ^ n) (let q : w ≡ suc d + b = omega arith in q) ∙ pow-add 256 (suc d) b ∙ ap (λ (n : ℕ). n * 256 ^ b) (pow-suc 256 d) in
         let f : v * 256 ^ w ≡ v * 256 ^ d * 256 * 256 ^ b = ap (λ (n : ℕ). v * n) e ∙ omega arith in
-        ap (λ (n : ℕ). (le xs p w + n) / 256 ^ b % 256) f
-        ∙ ap (λ (n : ℕ). n % 256) (add-mul-div-right (le xs p w) (v * 256 ^ d * 256) {z = 256 ^ b} (one-le-pow b 256 (omega arith)))
-        ∙ add-mul-mod-self-right (le xs p w / 256 ^ b) (v * 256 ^ d) 256 ∙ ih
+        ap (λ (n : ℕ). (getLe xs p w + n) / 256 ^ b % 256) f
+        ∙ ap (λ (n : ℕ). n % 256) (add-mul-div-right (getLe xs p w) (v * 256 ^ d * 256) {z = 256 ^ b} (one-le-pow b 256 (omega arith)))
+        ∙ add-mul-mod-self-right (getLe xs p w / 256 ^ b) (v * 256 ^ d) 256 ∙ ih
 
 byte-of-low : (v b : ℕ) → v % 256 ^ suc b / 256 ^ b ≡ byteOf v b
 byte-of-low v b =
@@ -116,15 +116,15 @@ module _ (w : ℕ) where
 -- the bytes of s, which are those of xs from p on, copied to the front are a row of numbers
 row-copied : (xs s ys : List ℕ) (p cols w : ℕ) → ((q : ℕ) → getD xs q 0 < 256) → length s ≡ cols * w
     → ((b : ℕ) → b < cols * w → getD s b 0 ≡ getD xs (p + b) 0)
-    → upto (length s) (λ b ys. set ys b (getD s b 0)) ys ≡ putRow 0 cols w (λ j. le xs (p + j * w) w) ys
+    → upto (length s) (λ b ys. set ys b (getD s b 0)) ys ≡ putRow 0 cols w (λ j. getLe xs (p + j * w) w) ys
 unfolding putRow putLe
 row-copied xs s ys p cols w small e h =
     ap (λ (n : ℕ). upto n (λ b ys. set ys b (getD s b 0)) ys) e
-    ∙ upto-elements cols w (λ b ys. set ys b (getD s b 0)) (λ j b ys. set ys (0 + j * w + b) (byteOf (le xs (p + j * w) w) b)) ys
+    ∙ upto-elements cols w (λ b ys. set ys b (getD s b 0)) (λ j b ys. set ys (0 + j * w + b) (byteOf (getLe xs (p + j * w) w) b)) ys
     (λ j b l l′ y. turn j b y (h (j * w + b) (omega (arith, mul-le-mul-right w l))) (le-byte xs small (p + j * w) w b l′))
   where
-    turn : (j b : ℕ) (y : List ℕ) → getD s (j * w + b) 0 ≡ getD xs (p + (j * w + b)) 0 → byteOf (le xs (p + j * w) w) b ≡ getD xs (p + j * w + b) 0
-        → set y (j * w + b) (getD s (j * w + b) 0) ≡ set y (0 + j * w + b) (byteOf (le xs (p + j * w) w) b)
+    turn : (j b : ℕ) (y : List ℕ) → getD s (j * w + b) 0 ≡ getD xs (p + (j * w + b)) 0 → byteOf (getLe xs (p + j * w) w) b ≡ getD xs (p + j * w + b) 0
+        → set y (j * w + b) (getD s (j * w + b) 0) ≡ set y (0 + j * w + b) (byteOf (getLe xs (p + j * w) w) b)
     turn j b y e f = rw (e, f, zero-add, add-assoc)
 
 lent : (xs : List ℕ) (p k : ℕ) (f : List ℕ → List ℕ) → k ≡ length xs - p → take p xs ++ (f (take k (drop p xs)) ++ drop k (drop p xs)) ≡ take p xs ++ f (drop p xs)
@@ -143,9 +143,9 @@ put-back xs s p k cols w value h e es = rw es (lent xs p k (putRow 0 cols w valu
 pub copied-back : (xs ys s : List ℕ) (p from q k n cols w : ℕ) → ((q : ℕ) → getD ys q 0 < 256) → n ≡ cols * w → from ≡ q → from + cols * w ≤ length ys → p ≤ length xs
     → k ≡ length xs - p
     → s ≡ upto (length (take n (drop from ys))) (λ b zs. set zs b (getD (take n (drop from ys)) b 0)) (take k (drop p xs))
-    → take p xs ++ (s ++ drop k (drop p xs)) ≡ putRow p cols w (λ j. le ys (q + j * w) w) xs
+    → take p xs ++ (s ++ drop k (drop p xs)) ≡ putRow p cols w (λ j. getLe ys (q + j * w) w) xs
 copied-back xs ys s p from q k n cols w small en eq h hp ek es =
-    put-back xs s p k cols w (λ j. le ys (q + j * w) w) hp ek
+    put-back xs s p k cols w (λ j. getLe ys (q + j * w) w) hp ek
     (es ∙ row-copied ys (take n (drop from ys)) (take k (drop p xs)) q cols w small (simp (length-take, length-drop) (omega arith))
     (λ b l. getD-take n (drop from ys) b 0 (omega arith) ∙ getD-drop from ys b 0 ∙ ap (λ (x : ℕ). getD ys (x + b) 0) eq))
 

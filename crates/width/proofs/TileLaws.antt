@@ -9,15 +9,15 @@ use lib.ListN.{length, getD, set, length-set, List·getD-eq-default}
 use lib.Seq.{getD-set-same, getD-set-other}
 use lib.Arith.{mod-mul}
 use Rattle.width.proofs.UptoLaws.{upto-keeps, upto-makes, upto-cong}
-use Rattle.width.specs.Tile.{le, byteOf, putLe, putRow, putTile, In, markRow, markTile}
+use Rattle.width.specs.Tile.{getLe, byteOf, putLe, putRow, putTile, In, markRow, markTile}
 
--- ---- le
+-- ---- getLe
 
-pub le-cong : (xs ys : List ℕ) (p q w : ℕ) → ((b : ℕ) → b < w → getD xs (p + b) 0 ≡ getD ys (q + b) 0) → le xs p w ≡ le ys q w
+pub le-cong : (xs ys : List ℕ) (p q w : ℕ) → ((b : ℕ) → b < w → getD xs (p + b) 0 ≡ getD ys (q + b) 0) → getLe xs p w ≡ getLe ys q w
 le-cong xs ys p q zero h = refl
 le-cong xs ys p q (suc w) h = rw (le-cong xs ys p q w (λ b l. h b (omega arith)), h w (omega arith))
 
-pub le-bytes : (xs : List ℕ) (p w v : ℕ) → ((b : ℕ) → b < w → getD xs (p + b) 0 ≡ byteOf v b) → le xs p w ≡ v % 256 ^ w
+pub le-bytes : (xs : List ℕ) (p w v : ℕ) → ((b : ℕ) → b < w → getD xs (p + b) 0 ≡ byteOf v b) → getLe xs p w ≡ v % 256 ^ w
 le-bytes xs p zero v h = rw pow-zero (sym (mod-one v))
 le-bytes xs p (suc w) v h =
     rw (le-bytes xs p w v (λ b l. h b (omega arith)), h w (omega arith), pow-succ' 256 w, mod-mul v {m = 256} {c = 256 ^ w} (omega arith) (one-le-pow w 256 (omega arith))) (omega arith)
@@ -94,13 +94,13 @@ module _ (at : ℕ → ℕ) (rows cols w : ℕ) (value : ℕ → ℕ → ℕ) (x
   -- where no later row shares a byte with it, element (i, j) is the value, cut to w bytes
   pub putTile-le : (i : ℕ) → i < rows → at i + cols * w ≤ length xs → (j : ℕ) → j < cols
       → ((k : ℕ) → k < rows → i < k → (q : ℕ) → In (at i) (cols * w) q → ¬ In (at k) (cols * w) q)
-      → le (putTile at rows cols w value xs) (at i + j * w) w ≡ value i j % 256 ^ w
+      → getLe (putTile at rows cols w value xs) (at i + j * w) w ≡ value i j % 256 ^ w
   putTile-le i l f j m apart =
       le-bytes (putTile at rows cols w value xs) (at i + j * w) w (value i j)
       (λ b n. putTile-at i l f j m b n (λ k l′ g. apart k l′ g (at i + j * w + b) (omega (arith, mul-le-mul-right w m))))
 
   -- a number that shares no byte with any row stays
-  pub putTile-keeps : (p v : ℕ) → ((i : ℕ) → i < rows → (q : ℕ) → In p v q → ¬ In (at i) (cols * w) q) → le (putTile at rows cols w value xs) p v ≡ le xs p v
+  pub putTile-keeps : (p v : ℕ) → ((i : ℕ) → i < rows → (q : ℕ) → In p v q → ¬ In (at i) (cols * w) q) → getLe (putTile at rows cols w value xs) p v ≡ getLe xs p v
   putTile-keeps p v apart = le-cong (putTile at rows cols w value xs) xs p p v (λ b l. putTile-out (p + b) (λ i l′. apart i l′ (p + b) (omega arith)))
 
 -- only where the rows start counts
@@ -167,7 +167,7 @@ module _ (at : ℕ → ℕ) (rows n : ℕ) (ms : List ℕ) where
 
 -- ---- bounds
 
-pub le-lt : (xs : List ℕ) → ((q : ℕ) → getD xs q 0 < 256) → (p w : ℕ) → le xs p w < 256 ^ w
+pub le-lt : (xs : List ℕ) → ((q : ℕ) → getD xs q 0 < 256) → (p w : ℕ) → getLe xs p w < 256 ^ w
 le-lt xs h p zero = rw pow-zero (omega arith)
 le-lt xs h p (suc w) = rw (pow-succ' 256 w) (omega (arith, le-lt xs h p w, mul-le-mul-right (256 ^ w) (h (p + w))))
 

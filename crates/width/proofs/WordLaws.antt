@@ -7,7 +7,7 @@ use native.Mathlib.Nat.{add-zero, pow-zero, div-one}
 use lib.ListN.{length, getD, set}
 use lib.Seq.{set-getD}
 use Rattle.width.specs.Upto.{upto}
-use Rattle.width.specs.Tile.{le, byteOf, putLe, putRow}
+use Rattle.width.specs.Tile.{getLe, byteOf, putLe, putRow}
 use Rattle.width.proofs.UptoLaws.{upto-keeps, upto-cong}
 use Rattle.width.proofs.TileLaws.{le-bytes, putRow-at}
 use Rattle.width.proofs.PutLaws.{le-byte}
@@ -45,19 +45,19 @@ put-bytes w p v last xs e =
 -- ---- read back what was written
 
 pub le-putRow : (p cols w : ℕ) (value : ℕ → ℕ) (xs : List ℕ) → p + cols * w ≤ length xs → (j : ℕ) → j < cols
-    → le (putRow p cols w value xs) (p + j * w) w ≡ value j % 256 ^ w
+    → getLe (putRow p cols w value xs) (p + j * w) w ≡ value j % 256 ^ w
 le-putRow p cols w value xs h j l = le-bytes (putRow p cols w value xs) (p + j * w) w (value j) (putRow-at p cols w value xs h j l)
 
 -- ---- write what was read
 
 module _ (xs : List ℕ) (small : (q : ℕ) → getD xs q 0 < 256) where
-  pub putLe-same : (p w : ℕ) → putLe p w (le xs p w) xs ≡ xs
+  pub putLe-same : (p w : ℕ) → putLe p w (getLe xs p w) xs ≡ xs
   unfolding putLe
   putLe-same p w =
-      upto-keeps (λ ys. ys ≡ xs) w (λ b ys. set ys (p + b) (byteOf (le xs p w) b)) xs
+      upto-keeps (λ ys. ys ≡ xs) w (λ b ys. set ys (p + b) (byteOf (getLe xs p w) b)) xs
       (λ b l ys e. rw (e, le-byte xs small p w b l) (set-getD xs (p + b) 0)) refl
 
-  pub putRow-same : (p cols w : ℕ) (value : ℕ → ℕ) → ((j : ℕ) → j < cols → value j ≡ le xs (p + j * w) w) → putRow p cols w value xs ≡ xs
+  pub putRow-same : (p cols w : ℕ) (value : ℕ → ℕ) → ((j : ℕ) → j < cols → value j ≡ getLe xs (p + j * w) w) → putRow p cols w value xs ≡ xs
   unfolding putRow
   putRow-same p cols w value e =
       upto-keeps (λ ys. ys ≡ xs) cols (λ j ys. putLe (p + j * w) w (value j) ys) xs

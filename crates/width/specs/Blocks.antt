@@ -12,8 +12,11 @@ pub record Grants (grant : ℕ → ℕ → ℕ) : Type 0 where
   pub middle : (max asked : ℕ) → asked < 2 * max → (asked ≤ 2 * grant max asked) × (grant max asked ≤ max)
   pub large : (max asked : ℕ) → 2 * max ≤ asked → grant max asked ≡ max
 
--- a choice for each rule that a machine may have
-abbrev pub EachGrants : (ℕ → ℕ → ℕ → ℕ) → Type 0
+-- one for each rule that a machine may have: a size out of the rule, the maximum and what is asked
+abbrev pub Choice : Type 0
+Choice = ℕ → ℕ → ℕ → ℕ
+
+abbrev pub EachGrants : Choice → Type 0
 EachGrants grant = (rule : ℕ) → Grants (grant rule)
 
 -- the number of blocks, rounded up

@@ -5,9 +5,9 @@ use lib.ListN.{getD, set}
 use Rattle.width.specs.Upto.{upto}
 
 -- the number that the w bytes from p stand for, low byte first
-abbrev pub le : List ℕ → ℕ → ℕ → ℕ
-le xs p zero = 0
-le xs p (suc w) = le xs p w + getD xs (p + w) 0 * 256 ^ w
+abbrev pub getLe : List ℕ → ℕ → ℕ → ℕ
+getLe xs p zero = 0
+getLe xs p (suc w) = getLe xs p w + getD xs (p + w) 0 * 256 ^ w
 
 -- byte b of a number
 abbrev pub byteOf : ℕ → ℕ → ℕ

@@ -1,6 +1,6 @@
 use mathlib.Core.Path.{ap, _∙_}
 use Prim.Native.Nat.{ℕ, _*_}
-use Rattle.run.specs.Encoding.{memoryWord, startOf}
+use Rattle.run.specs.Encoding.{memoryWord, addressIn}
 use Rattle.asking.proofs.AskingLaws.{handed-by}
 use borrow.Author.Needs.{needs}
 use Rattle.asking.proofs.hand_load.Statement.{statement}
@@ -29,7 +29,7 @@ returns c =
     let w = m .before in
     let a = w .before .args in
     handed-by (a .layout .stride) (m .memory-word .ensures ∙ ap (λ (e : ℕ). memoryWord (a .code) e (a .register)) (w .width-code .ensures .0))
-    (c .start-of .ensures ∙ ap (startOf (a .layout) (a .row)) (t .small-times .ensures ∙ ap (λ (b : ℕ). a .column * b) (n .narrow-bytes .ensures .0)))
+    (c .start-of .ensures ∙ ap (addressIn (a .layout) (a .row)) (t .small-times .ensures ∙ ap (λ (b : ℕ). a .column * b) (n .narrow-bytes .ensures .0)))
 
 pub hand-load-spec : {M : Type 1} → statement M
 hand-load-spec =

@@ -2,7 +2,7 @@ use mathlib.Core.Path.{sym, ap, ap₂, _∙_, subst}
 use Prim.Native.Nat.{ℕ, _*_, _≤_}
 use native.Mathlib.Omega.{arith}
 use Rattle.run.specs.Plan.{narrow, msew, formOf}
-use Rattle.run.specs.Encoding.{memoryWord, startOf}
+use Rattle.run.specs.Encoding.{memoryWord, addressIn}
 use Rattle.run.proofs.FormLaws.{most-in}
 use Rattle.asking.proofs.AskingLaws.{handed-by}
 use borrow.Author.Needs.{needs}
@@ -35,7 +35,7 @@ returns c =
     let P = l .before .args .plan in
     c .hand-load .ensures
     ∙ handed-by (P .a .stride) (ap (λ (code : ℕ). memoryWord code (msew P) 0) (l .load-code .ensures .0))
-    (ap₂ (λ (i j : ℕ). startOf (P .a) i (j * narrow P)) (r .a-row .ensures) (k .a-column .ensures))
+    (ap₂ (λ (i j : ℕ). addressIn (P .a) i (j * narrow P)) (r .a-row .ensures) (k .a-column .ensures))
 
 pub hand-load-a-spec : {M : Type 1} → statement M
 hand-load-a-spec = tie.close (tie.spec load-code-requires a-row-requires a-column-requires hand-load-requires returns)

@@ -1,6 +1,6 @@
 use mathlib.Core.Path.{ap, ap₂, _∙_}
 use Prim.Native.Nat.{ℕ, _+_, _*_}
-use Rattle.run.specs.Encoding.{memoryWord, startOf}
+use Rattle.run.specs.Encoding.{memoryWord, addressIn}
 use Rattle.asking.proofs.AskingLaws.{handed-by}
 use borrow.Author.Needs.{needs}
 use Rattle.asking.proofs.hand_store.Statement.{statement}
@@ -36,7 +36,7 @@ returns c =
     let w = f .before in
     let a = w .before .args in
     handed-by (a .plan .c .stride) (m .memory-word .ensures ∙ ap₂ (λ (e g : ℕ). memoryWord 1 (e + g) 0) (w .width-code .ensures .0) (f .factor-code .ensures .0))
-    (c .start-of .ensures ∙ ap (startOf (a .plan .c) (a .row)) (t .small-times .ensures ∙ ap (λ (b : ℕ). a .column * b) (n .wide-bytes .ensures .0)))
+    (c .start-of .ensures ∙ ap (addressIn (a .plan .c) (a .row)) (t .small-times .ensures ∙ ap (λ (b : ℕ). a .column * b) (n .wide-bytes .ensures .0)))
 
 pub hand-store-spec : {M : Type 1} → statement M
 hand-store-spec =

@@ -5,7 +5,7 @@ use Rattle.machine.specs.Setting.{chosen}
 use Rattle.run.specs.declared.Place.{Place}
 use Rattle.run.specs.Places.{wordAt}
 use Rattle.run.specs.Turn.{runShape}
-use Rattle.plan_numbers.specs.Parts.{placed}
+use Rattle.plan_numbers.specs.Parts.{inMatrices}
 use Rattle.asking.specs.Parts.{handedOf}
 use Rattle.plan_numbers.proofs.PlanLaws.{at-m, at-store, at-multiply}
 use Rattle.run_places.proofs.RunPlaceLaws.{run-numbered, run-placed, run-planned, run-sizes}
@@ -28,7 +28,7 @@ sub-hand-setting c =
     let s = p .before .before .before in
     let R = s .args .run in
     let g = p .place .given in
-    let h = subst (λ (q : Place). placed (R .plan) q ≡ true) (g .1) (run-placed R (s .pre)) in
+    let h = subst (λ (q : Place). inMatrices (R .plan) q ≡ true) (g .1) (run-placed R (s .pre)) in
     let z = run-sizes R (run-numbered R (s .pre)) in
     at-m (R .plan) (g .0 .0) h
 
@@ -38,7 +38,7 @@ hand-setting-requires c κs =
     let s = p .before .before .before in
     let R = s .args .run in
     let g = p .place .given in
-    let h = subst (λ (q : Place). placed (R .plan) q ≡ true) (g .1) (run-placed R (s .pre)) in
+    let h = subst (λ (q : Place). inMatrices (R .plan) q ≡ true) (g .1) (run-placed R (s .pre)) in
     let z = run-sizes R (run-numbered R (s .pre)) in
     (omega arith, omega (arith, z .0))
 
@@ -51,7 +51,7 @@ sub-hand-setting-2 c =
     let s = p .before .before .before in
     let R = s .args .run in
     let g = p .place2 .given in
-    let h = subst (λ (q : Place). placed (R .plan) q ≡ true) (g .1) (run-placed R (s .pre)) in
+    let h = subst (λ (q : Place). inMatrices (R .plan) q ≡ true) (g .1) (run-placed R (s .pre)) in
     let z = run-sizes R (run-numbered R (s .pre)) in
     at-store (R .plan) (g .0 .0) (g .0 .1 .0) h .1
 
@@ -61,7 +61,7 @@ hand-setting-requires-2 c κs =
     let s = p .before .before .before in
     let R = s .args .run in
     let g = p .place2 .given in
-    let h = subst (λ (q : Place). placed (R .plan) q ≡ true) (g .1) (run-placed R (s .pre)) in
+    let h = subst (λ (q : Place). inMatrices (R .plan) q ≡ true) (g .1) (run-placed R (s .pre)) in
     let z = run-sizes R (run-numbered R (s .pre)) in
     (omega arith, omega (arith, z .2))
 
@@ -80,7 +80,7 @@ sub-hand-setting-3 c =
     let s = p .before .before .before in
     let R = s .args .run in
     let g = p .place3 .given in
-    let h = subst (λ (q : Place). placed (R .plan) q ≡ true) (g .1) (run-placed R (s .pre)) in
+    let h = subst (λ (q : Place). inMatrices (R .plan) q ≡ true) (g .1) (run-placed R (s .pre)) in
     let z = run-sizes R (run-numbered R (s .pre)) in
     at-multiply (R .plan) (g .0 .0) (g .0 .1 .0) (g .0 .1 .1 .0) h .1 .1
 
@@ -90,7 +90,7 @@ hand-setting-requires-3 c κs =
     let s = p .before .before .before in
     let R = s .args .run in
     let g = p .place3 .given in
-    let h = subst (λ (q : Place). placed (R .plan) q ≡ true) (g .1) (run-placed R (s .pre)) in
+    let h = subst (λ (q : Place). inMatrices (R .plan) q ≡ true) (g .1) (run-placed R (s .pre)) in
     let z = run-sizes R (run-numbered R (s .pre)) in
     (omega arith, omega (arith, z .1))
 
@@ -103,7 +103,7 @@ hand-load-a-requires c κs =
     let s = p .before .before .before in
     let R = s .args .run in
     let g = p .place4 .given in
-    let h = subst (λ (q : Place). placed (R .plan) q ≡ true) (g .1) (run-placed R (s .pre)) in
+    let h = subst (λ (q : Place). inMatrices (R .plan) q ≡ true) (g .1) (run-placed R (s .pre)) in
     let z = run-sizes R (run-numbered R (s .pre)) in
     let b = at-multiply (R .plan) (g .0 .0) (g .0 .1 .0) (g .0 .1 .1 .0) h in
     (run-planned R (run-numbered R (s .pre)), (omega (arith, b .0, z .0), omega (arith, b .1 .1, z .1)))
@@ -117,7 +117,7 @@ hand-load-b-requires c κs =
     let s = p .before .before .before in
     let R = s .args .run in
     let g = p .place5 .given in
-    let h = subst (λ (q : Place). placed (R .plan) q ≡ true) (g .1) (run-placed R (s .pre)) in
+    let h = subst (λ (q : Place). inMatrices (R .plan) q ≡ true) (g .1) (run-placed R (s .pre)) in
     let z = run-sizes R (run-numbered R (s .pre)) in
     let b = at-multiply (R .plan) (g .0 .0) (g .0 .1 .0) (g .0 .1 .1 .0) h in
     (run-planned R (run-numbered R (s .pre)), (omega (arith, b .1 .1, z .1), omega (arith, b .1 .0, z .2)))
@@ -137,7 +137,7 @@ hand-store-requires c κs =
     let s = p .before .before .before in
     let R = s .args .run in
     let g = p .place6 .given in
-    let h = subst (λ (q : Place). placed (R .plan) q ≡ true) (g .1) (run-placed R (s .pre)) in
+    let h = subst (λ (q : Place). inMatrices (R .plan) q ≡ true) (g .1) (run-placed R (s .pre)) in
     let z = run-sizes R (run-numbered R (s .pre)) in
     let b = at-store (R .plan) (g .0 .0) (g .0 .1 .0) h in
     (run-planned R (run-numbered R (s .pre)), (omega (arith, b .0, z .0), omega (arith, b .1, z .2)))

@@ -9,7 +9,7 @@ use Rattle.ranges.specs.Ranges.{sealsIn}
 use Rattle.run.specs.declared.Place.{Place}
 use Rattle.run.specs.Words.{Op}
 use Rattle.run.specs.Plan.{typeOf}
-use Rattle.plan_numbers.specs.Parts.{placed}
+use Rattle.plan_numbers.specs.Parts.{inMatrices}
 use Rattle.plan_numbers.proofs.PlanLaws.{at-store, at-multiply}
 use Rattle.run_places.proofs.RunPlaceLaws.{run-numbered, run-placed, run-planned, run-sizes}
 use Rattle.run.proofs.WordLaws.{decode-type, decode-m, decode-n, decode-k}
@@ -57,7 +57,7 @@ load-a-requires c κs =
     let R = s .args .run in
     let g = p .place .given in
     let N = run-numbered R (s .pre .1 .0) in
-    let h = subst (λ (q : Place). placed (R .plan) q ≡ true) (g .1) (run-placed R (s .pre .1 .0)) in
+    let h = subst (λ (q : Place). inMatrices (R .plan) q ≡ true) (g .1) (run-placed R (s .pre .1 .0)) in
     let z = run-sizes R N in
     let b = at-multiply (R .plan) (g .0 .0) (g .0 .1 .0) (g .0 .1 .1 .0) h in
     (s .pre .0, (run-planned R N, (omega (arith, b .0, z .0), omega (arith, b .1 .1, z .1))))
@@ -72,7 +72,7 @@ load-b-requires c κs =
     let R = s .args .run in
     let g = p .place2 .given in
     let N = run-numbered R (s .pre .1 .0) in
-    let h = subst (λ (q : Place). placed (R .plan) q ≡ true) (g .1) (run-placed R (s .pre .1 .0)) in
+    let h = subst (λ (q : Place). inMatrices (R .plan) q ≡ true) (g .1) (run-placed R (s .pre .1 .0)) in
     let z = run-sizes R N in
     let b = at-multiply (R .plan) (g .0 .0) (g .0 .1 .0) (g .0 .1 .1 .0) h in
     (s .pre .0, (run-planned R N, (omega (arith, b .1 .1, z .1), omega (arith, b .1 .0, z .2))))
@@ -95,7 +95,7 @@ store-requires c κs =
     let R = s .args .run in
     let g = p .place3 .given in
     let N = run-numbered R (s .pre .1 .0) in
-    let h = subst (λ (q : Place). placed (R .plan) q ≡ true) (g .1) (run-placed R (s .pre .1 .0)) in
+    let h = subst (λ (q : Place). inMatrices (R .plan) q ≡ true) (g .1) (run-placed R (s .pre .1 .0)) in
     let z = run-sizes R N in
     let b = at-store (R .plan) (g .0 .0) (g .0 .1 .0) h in
     (s .pre .0, (run-planned R N, ((omega (arith, b .0, z .0), omega (arith, b .1, z .2)), s .pre .1 .1)))

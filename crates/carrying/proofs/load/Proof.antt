@@ -1,6 +1,6 @@
 use mathlib.Core.Path.{ap, ap₂, _∙_}
 use Prim.Native.Nat.{ℕ, _*_}
-use Rattle.run.specs.Encoding.{startOf}
+use Rattle.run.specs.Encoding.{addressIn}
 use Rattle.machine.specs.Operation.{Operation}
 use Rattle.carrying.proofs.CarriedLaws.{loads-for}
 use borrow.Author.Needs.{needs}
@@ -34,7 +34,7 @@ returns c =
     let s = n .before .before .before .before in
     let a = s .args in
     let w = n .narrow-bytes .ensures .0 in
-    let e = p .start-of .ensures ∙ ap (startOf (a .layout) (a .row)) (t .small-times .ensures ∙ ap (λ (b : ℕ). a .column * b) w) in
+    let e = p .start-of .ensures ∙ ap (addressIn (a .layout) (a .row)) (t .small-times .ensures ∙ ap (λ (b : ℕ). a .column * b) w) in
     let o = ap₂ (λ (w p : ℕ). Operation.load (a .form) (a .matrix) (a .md) w p (a .layout .stride)) w e in
     loads-for o (l .load .ensures)
 

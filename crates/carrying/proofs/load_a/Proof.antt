@@ -5,7 +5,7 @@ use Rattle.machine.specs.declared.Form.{Form}
 use Rattle.machine.specs.declared.Matrix.the-variants.{MatrixA}
 use Rattle.machine.specs.Operation.{Operation}
 use Rattle.run.specs.Plan.{narrow, formOf}
-use Rattle.run.specs.Encoding.{startOf}
+use Rattle.run.specs.Encoding.{addressIn}
 use Rattle.run.proofs.FormLaws.{most-in}
 use Rattle.carrying.proofs.CarriedLaws.{loads-for, a-carried}
 use borrow.Author.Needs.{needs}
@@ -45,8 +45,8 @@ returns c =
     let a = s .args in
     let P = a .plan in
     let o =
-    ap (λ (g : Form). Operation.load g MatrixA 0 (narrow P) (startOf (P .a) (r .a-row .result) (k .a-column .result * narrow P)) (P .a .stride)) (f .form-of .ensures)
-    ∙ ap₂ (λ (i j : ℕ). Operation.load (formOf P) MatrixA 0 (narrow P) (startOf (P .a) i (j * narrow P)) (P .a .stride)) (r .a-row .ensures) (k .a-column .ensures) in
+    ap (λ (g : Form). Operation.load g MatrixA 0 (narrow P) (addressIn (P .a) (r .a-row .result) (k .a-column .result * narrow P)) (P .a .stride)) (f .form-of .ensures)
+    ∙ ap₂ (λ (i j : ℕ). Operation.load (formOf P) MatrixA 0 (narrow P) (addressIn (P .a) i (j * narrow P)) (P .a .stride)) (r .a-row .ensures) (k .a-column .ensures) in
     λ seals fit. a-carried P (s .pre .1 .0) (a .m) seals (a .registers .now) (a .marks .now) (a .memory .now) (s .pre .0) fit (l .load .result) (a .row) (a .term) _ _ (loads-for o (l .load .ensures))
 
 pub load-a-spec : {M : Type 1} → statement M

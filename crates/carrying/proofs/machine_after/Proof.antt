@@ -12,7 +12,7 @@ use Rattle.settings.proofs.TypeLaws.{ready-elen}
 use Rattle.run.specs.declared.Place.{Place}
 use Rattle.run.specs.Words.{Op}
 use Rattle.run.specs.Plan.{typeOf}
-use Rattle.plan_numbers.specs.Parts.{placed}
+use Rattle.plan_numbers.specs.Parts.{inMatrices}
 use Rattle.plan_numbers.proofs.PlanLaws.{at-m, at-store, at-multiply}
 use Rattle.run_places.proofs.RunPlaceLaws.{run-numbered, run-placed, run-planned, run-sizes}
 use Rattle.run.proofs.WordLaws.{decode-type, decode-m, decode-n, decode-k}
@@ -46,7 +46,7 @@ sub-sized c =
     let s = p .before .before .before in
     let R = s .args .run in
     let g = p .place .given in
-    let h = subst (λ (q : Place). placed (R .plan) q ≡ true) (g .1) (run-placed R (s .pre .1)) in
+    let h = subst (λ (q : Place). inMatrices (R .plan) q ≡ true) (g .1) (run-placed R (s .pre .1)) in
     at-m (R .plan) (g .0 .0) h
 
 sized-requires : tie.Need-sized-requires
@@ -61,7 +61,7 @@ sub-sized-2 c =
     let s = p .before .before .before in
     let R = s .args .run in
     let g = p .place2 .given in
-    let h = subst (λ (q : Place). placed (R .plan) q ≡ true) (g .1) (run-placed R (s .pre .1)) in
+    let h = subst (λ (q : Place). inMatrices (R .plan) q ≡ true) (g .1) (run-placed R (s .pre .1)) in
     at-store (R .plan) (g .0 .0) (g .0 .1 .0) h .1
 
 sized-requires-2 : tie.Need-sized-requires-2
@@ -79,7 +79,7 @@ sub-sized-3 c =
     let s = p .before .before .before in
     let R = s .args .run in
     let g = p .place3 .given in
-    let h = subst (λ (q : Place). placed (R .plan) q ≡ true) (g .1) (run-placed R (s .pre .1)) in
+    let h = subst (λ (q : Place). inMatrices (R .plan) q ≡ true) (g .1) (run-placed R (s .pre .1)) in
     at-multiply (R .plan) (g .0 .0) (g .0 .1 .0) (g .0 .1 .1 .0) h .1 .1
 
 sized-requires-3 : tie.Need-sized-requires-3

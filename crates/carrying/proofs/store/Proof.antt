@@ -4,7 +4,7 @@ use Rattle.machine.specs.declared.Form.the-variants.{Plain}
 use Rattle.machine.specs.declared.Matrix.the-variants.{MatrixC}
 use Rattle.machine.specs.Operation.{Operation}
 use Rattle.ranges.specs.Ranges.{sealsIn}
-use Rattle.run.specs.Encoding.{startOf}
+use Rattle.run.specs.Encoding.{addressIn}
 use Rattle.carrying.proofs.CarriedLaws.{stores-for, c-carried}
 use borrow.Author.Needs.{needs}
 use Rattle.carrying.proofs.store.Statement.{statement}
@@ -34,7 +34,7 @@ returns c =
     let s = n .before .before .before .before .before in
     let a = s .args in
     let w = n .wide-bytes .ensures .0 in
-    let e = p .start-of .ensures ∙ ap (startOf (a .plan .c) (a .row)) (t .small-times .ensures ∙ ap (λ (b : ℕ). a .column * b) w) in
+    let e = p .start-of .ensures ∙ ap (addressIn (a .plan .c) (a .row)) (t .small-times .ensures ∙ ap (λ (b : ℕ). a .column * b) w) in
     let o = ap₂ (λ (w p : ℕ). Operation.store Plain MatrixC 0 w p (a .plan .c .stride)) w e in
     c-carried (a .plan) (s .pre .1 .0) (a .m) (sealsIn (a .seals .now)) (a .registers .now) (a .marks .now) (a .memory .now) (s .pre .0) (s .pre .1 .1 .1) (l .store .result) (a .row) (a .column) _
     (stores-for o (l .store .ensures))

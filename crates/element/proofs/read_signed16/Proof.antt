@@ -3,7 +3,7 @@ use mathlib.Core.Path.{sym, ap, _∙_}
 use Prim.Native.Nat.{ℕ, _^_}
 use native.Mathlib.Omega.{arith}
 use borrow.Author.Needs.{needs}
-use Rattle.width.specs.Tile.{le}
+use Rattle.width.specs.Tile.{getLe}
 use Rattle.width.specs.Reduce.{signed, reduce}
 use Rattle.width.proofs.ReduceLaws.{reduce-signed}
 use Rattle.element.proofs.Laws.{is2}
@@ -20,7 +20,7 @@ returns : tie.Need-returns
 returns c =
     let a = c .before .before .before .before .args in
     c .extend1to2 .ensures ∙ ap (λ (x : ℕ). reduce 65536 (signed 256 x)) (c .before .read1 .ensures .0)
-    ∙ ap (λ (w : ℕ). reduce 65536 (signed (256 ^ w) (le (a .s .now) (a .at) w))) (sym (c .before .before .if1 .taken))
+    ∙ ap (λ (w : ℕ). reduce 65536 (signed (256 ^ w) (getLe (a .s .now) (a .at) w))) (sym (c .before .before .if1 .taken))
 
 read2-requires : tie.Need-read2-requires
 read2-requires c κs =
@@ -35,7 +35,7 @@ returns-2 c =
     let r = c .read2 in
     let e = is2 (a .width) (s .pre .0) (c .before .if1 .left) in
     sym (reduce-signed 65536 (omega arith) (r .result) (r .ensures .1)) ∙ ap (λ (x : ℕ). reduce 65536 (signed 65536 x)) (r .ensures .0)
-    ∙ ap (λ (w : ℕ). reduce 65536 (signed (256 ^ w) (le (a .s .now) (a .at) w))) (sym e)
+    ∙ ap (λ (w : ℕ). reduce 65536 (signed (256 ^ w) (getLe (a .s .now) (a .at) w))) (sym e)
 
 pub read-signed16-spec : {M : Type 1} → statement M
 read-signed16-spec =

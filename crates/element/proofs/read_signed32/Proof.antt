@@ -3,7 +3,7 @@ use mathlib.Core.Path.{sym, ap, _∙_}
 use Prim.Native.Nat.{ℕ, _^_}
 use native.Mathlib.Omega.{arith}
 use borrow.Author.Needs.{needs}
-use Rattle.width.specs.Tile.{le}
+use Rattle.width.specs.Tile.{getLe}
 use Rattle.width.specs.Reduce.{signed, reduce}
 use Rattle.width.proofs.ReduceLaws.{reduce-signed}
 use Rattle.element.proofs.Laws.{is4}
@@ -20,7 +20,7 @@ returns : tie.Need-returns
 returns c =
     let a = c .before .before .before .before .args in
     c .extend1to4 .ensures ∙ ap (λ (x : ℕ). reduce 4294967296 (signed 256 x)) (c .before .read1 .ensures .0)
-    ∙ ap (λ (w : ℕ). reduce 4294967296 (signed (256 ^ w) (le (a .s .now) (a .at) w))) (sym (c .before .before .if1 .taken))
+    ∙ ap (λ (w : ℕ). reduce 4294967296 (signed (256 ^ w) (getLe (a .s .now) (a .at) w))) (sym (c .before .before .if1 .taken))
 
 read2-requires : tie.Need-read2-requires
 read2-requires c κs = search needs
@@ -32,7 +32,7 @@ returns-2 : tie.Need-returns-2
 returns-2 c =
     let a = c .before .before .before .before .before .args in
     c .extend2to4 .ensures ∙ ap (λ (x : ℕ). reduce 4294967296 (signed 65536 x)) (c .before .read2 .ensures .0)
-    ∙ ap (λ (w : ℕ). reduce 4294967296 (signed (256 ^ w) (le (a .s .now) (a .at) w))) (sym (c .before .before .if2 .taken))
+    ∙ ap (λ (w : ℕ). reduce 4294967296 (signed (256 ^ w) (getLe (a .s .now) (a .at) w))) (sym (c .before .before .if2 .taken))
 
 read4-requires : tie.Need-read4-requires
 read4-requires c κs =
@@ -47,7 +47,7 @@ returns-3 c =
     let r = c .read4 in
     let e = is4 (a .width) (s .pre .0) (c .before .before .if1 .left) (c .before .if2 .left) in
     sym (reduce-signed 4294967296 (omega arith) (r .result) (r .ensures .1)) ∙ ap (λ (x : ℕ). reduce 4294967296 (signed 4294967296 x)) (r .ensures .0)
-    ∙ ap (λ (w : ℕ). reduce 4294967296 (signed (256 ^ w) (le (a .s .now) (a .at) w))) (sym e)
+    ∙ ap (λ (w : ℕ). reduce 4294967296 (signed (256 ^ w) (getLe (a .s .now) (a .at) w))) (sym e)
 
 pub read-signed32-spec : {M : Type 1} → statement M
 read-signed32-spec =

@@ -3,7 +3,7 @@ use mathlib.Core.Path.{_≡_, sym, ap, _∙_}
 use Prim.Native.Nat.{ℕ, _^_}
 use native.Mathlib.Omega.{arith}
 use borrow.Author.Needs.{needs}
-use Rattle.width.specs.Tile.{le}
+use Rattle.width.specs.Tile.{getLe}
 use Rattle.width.specs.Reduce.{signed, reduce}
 use Rattle.width.proofs.ReduceLaws.{reduce-signed}
 use Rattle.element.proofs.Laws.{is8}
@@ -20,7 +20,7 @@ returns : tie.Need-returns
 returns c =
     let a = c .before .before .before .before .args in
     c .extend1to8 .ensures ∙ ap (λ (x : ℕ). reduce 18446744073709551616 (signed 256 x)) (c .before .read1 .ensures .0)
-    ∙ ap (λ (w : ℕ). reduce 18446744073709551616 (signed (256 ^ w) (le (a .s .now) (a .at) w))) (sym (c .before .before .if1 .taken))
+    ∙ ap (λ (w : ℕ). reduce 18446744073709551616 (signed (256 ^ w) (getLe (a .s .now) (a .at) w))) (sym (c .before .before .if1 .taken))
 
 read2-requires : tie.Need-read2-requires
 read2-requires c κs = search needs
@@ -32,7 +32,7 @@ returns-2 : tie.Need-returns-2
 returns-2 c =
     let a = c .before .before .before .before .before .args in
     c .extend2to8 .ensures ∙ ap (λ (x : ℕ). reduce 18446744073709551616 (signed 65536 x)) (c .before .read2 .ensures .0)
-    ∙ ap (λ (w : ℕ). reduce 18446744073709551616 (signed (256 ^ w) (le (a .s .now) (a .at) w))) (sym (c .before .before .if2 .taken))
+    ∙ ap (λ (w : ℕ). reduce 18446744073709551616 (signed (256 ^ w) (getLe (a .s .now) (a .at) w))) (sym (c .before .before .if2 .taken))
 
 read4-requires : tie.Need-read4-requires
 read4-requires c κs = search needs
@@ -44,7 +44,7 @@ returns-3 : tie.Need-returns-3
 returns-3 c =
     let a = c .before .before .before .before .before .before .args in
     c .extend4to8 .ensures ∙ ap (λ (x : ℕ). reduce 18446744073709551616 (signed 4294967296 x)) (c .before .read4 .ensures .0)
-    ∙ ap (λ (w : ℕ). reduce 18446744073709551616 (signed (256 ^ w) (le (a .s .now) (a .at) w))) (sym (c .before .before .if3 .taken))
+    ∙ ap (λ (w : ℕ). reduce 18446744073709551616 (signed (256 ^ w) (getLe (a .s .now) (a .at) w))) (sym (c .before .before .if3 .taken))
 
 -- none of the others
 eight : (c : tie.Else3) → c .before .before .before .before .args .width ≡ 8
@@ -58,7 +58,7 @@ returns-4 c =
     let a = c .before .before .before .before .before .args in
     let r = c .read8 in
     sym (reduce-signed 18446744073709551616 (omega arith) (r .result) (search needs)) ∙ ap (λ (x : ℕ). reduce 18446744073709551616 (signed 18446744073709551616 x)) (r .ensures)
-    ∙ ap (λ (w : ℕ). reduce 18446744073709551616 (signed (256 ^ w) (le (a .s .now) (a .at) w))) (sym (eight (c .before)))
+    ∙ ap (λ (w : ℕ). reduce 18446744073709551616 (signed (256 ^ w) (getLe (a .s .now) (a .at) w))) (sym (eight (c .before)))
 
 pub read-signed64-spec : {M : Type 1} → statement M
 read-signed64-spec =

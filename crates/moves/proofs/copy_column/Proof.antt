@@ -3,7 +3,7 @@ use Prim.Native.Nat.{ℕ, _+_, _*_, _-_, _≤_}
 use native.Mathlib.Omega.{arith}
 use borrow.Author.Needs.{needs}
 use lib.ListN.{length}
-use Rattle.width.specs.Tile.{le, putRow}
+use Rattle.width.specs.Tile.{getLe, putRow}
 use Rattle.width.proofs.TileLaws.{length-putRow}
 use Rattle.width.proofs.PutLaws.{row-fits}
 use Rattle.width.proofs.ElementLaws.{putRow-next}
@@ -12,7 +12,7 @@ use Rattle.moves.proofs.copy_column.Tie as tie
 
 abbrev Inv-loop : tie.InvT-loop
 Inv-loop dst₀ src to from apart n w j₀ dst j =
-    (j ≤ n) × (length dst ≡ length dst₀) × (dst ≡ putRow to j w (λ j. le src (from + j * apart) w) dst₀)
+    (j ≤ n) × (length dst ≡ length dst₀) × (dst ≡ putRow to j w (λ j. getLe src (from + j * apart) w) dst₀)
 
 abbrev μ-loop : tie.MeasureT-loop
 μ-loop dst₀ src to from apart n w j₀ dst j = n - j
@@ -60,7 +60,7 @@ loop-again c =
     let t = c .before .before .before .before in
     let l = t .before .loop in
     let a = t .before .before .before .before .args in
-    let value : ℕ → ℕ = λ j. le (a .src .now) (a .from + j * a .apart) (a .w) in
+    let value : ℕ → ℕ = λ j. getLe (a .src .now) (a .from + j * a .apart) (a .w) in
     let next = putRow-next (a .w) (a .dst .now) (l .dst) _ value (a .to) (l .j) (a .to + l .j * a .w) (value (l .j)) (l .inv .2) refl refl (c .before .before .copy-element .ensures) in (
       omega (arith, t .loop-test .taken),
       ap length next ∙ length-putRow (a .to) (l .j + 1) (a .w) value (a .dst .now),
@@ -75,7 +75,7 @@ returns c =
     let l = c .before .loop in
     let a = c .before .before .before .before .args in
     let e : l .j ≡ a .n = omega arith in
-    l .inv .2 ∙ ap (λ (n : ℕ). putRow (a .to) n (a .w) (λ j. le (a .src .now) (a .from + j * a .apart) (a .w)) (a .dst .now)) e
+    l .inv .2 ∙ ap (λ (n : ℕ). putRow (a .to) n (a .w) (λ j. getLe (a .src .now) (a .from + j * a .apart) (a .w)) (a .dst .now)) e
 
 pub copy-column-spec : {M : Type 1} → statement M
 copy-column-spec =

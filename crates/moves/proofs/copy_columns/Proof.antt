@@ -4,7 +4,7 @@ use native.Mathlib.Nat.{zero-mul}
 use native.Mathlib.Omega.{arith}
 use borrow.Author.Needs.{needs}
 use lib.ListN.{length}
-use Rattle.width.specs.Tile.{le, putTile}
+use Rattle.width.specs.Tile.{getLe, putTile}
 use Rattle.width.proofs.TileLaws.{length-putTile}
 use Rattle.width.proofs.PutLaws.{row-fits, putTile-none, putTile-next}
 use Rattle.width.proofs.ElementLaws.{putRow-cong}
@@ -76,7 +76,7 @@ loop-again c =
     let at : ℕ = a .to + l .i * a .pitch in
     let next =
     c .before .before .copy-column .ensures
-    ∙ putRow-cong (a .w) at (a .cols) (λ j. le (a .src .now) (a .from + l .i * a .w + j * a .apart) (a .w)) (value (l .i)) (l .dst) (λ j m. ap (λ (p : ℕ). le (a .src .now) p (a .w)) (omega arith))
+    ∙ putRow-cong (a .w) at (a .cols) (λ j. getLe (a .src .now) (a .from + l .i * a .w + j * a .apart) (a .w)) (value (l .i)) (l .dst) (λ j m. ap (λ (p : ℕ). getLe (a .src .now) p (a .w)) (omega arith))
     ∙ putTile-next (λ i. a .to + i * a .pitch) (l .i) (a .cols) (a .w) value (a .dst .now) (l .dst) at (l .inv .2) refl in (
       omega (arith, t .loop-test .taken),
       ap length next ∙ length-putTile (λ i. a .to + i * a .pitch) (l .i + 1) (a .cols) (a .w) value (a .dst .now),

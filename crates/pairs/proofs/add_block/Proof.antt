@@ -3,7 +3,7 @@ use native.Mathlib.Omega.{arith}
 use mathlib.Core.Path.{_≡_, refl, ap, _∙_}
 use Prim.Native.Nat.{ℕ, _+_, _-_, _*_, _%_, _^_, _≤_, _<_}
 use lib.ListN.{length}
-use Rattle.width.specs.Tile.{le}
+use Rattle.width.specs.Tile.{getLe}
 use Rattle.width.proofs.TileLaws.{le-lt}
 use Rattle.width.proofs.ElementLaws.{putRow-cong}
 use Rattle.pairs.specs.declared.Block.{Block}
@@ -45,7 +45,7 @@ loop-holds c =
       omega arith,
       refl,
       λ q l. (let z : lane none q ≡ 0 = each-of-four (λ q. lane none q ≡ 0) refl refl refl refl q l in
-          let v : ℕ = le (a .s .now) (a .c + q * 4) 4 in
+          let v : ℕ = getLe (a .s .now) (a .c + q * 4) 4 in
           let e : lane (r .result) q ≡ v = r .ensures q l in
           let small : v < 4294967296 = le-lt (a .s .now) (λ i. omega (arith, c .before .before .before .before .slice-known .given i)) (a .c + q * 4) 4 in
           let f : ((lane (r .result) q + lane none q) % 4294967296 + lane none q) % 4294967296 ≡ v = omega arith in
@@ -94,7 +94,7 @@ loop-again c =
       λ q h. (let row : ℕ → ℕ = λ p. pairsRow (a .s .now) (a .c) (a .xs .now) (a .b .now) (a .o) p q in
           let e : lane (c .before .before .plus2 .result) q ≡ row (l .p) =
           c .before .before .plus2 .ensures q h ∙ ap (λ (v : ℕ). (v + lane (l .u) q) % 4294967296) (c .before .before .before .plus .ensures q h) ∙ l .inv .4 q h in
-          let add = pair-added (le (a .s .now) (a .c + q * 4) 4) (a .xs .now) (2 * (q % 4)) (a .b .now) (a .o + 2 * q) in
+          let add = pair-added (getLe (a .s .now) (a .c + q * 4) 4) (a .xs .now) (2 * (q % 4)) (a .b .now) (a .o + 2 * q) in
           let t = c .before .pairs-at in
           let u = c .pairs-at2 in
           let e1 = add (l .p) (lane (c .before .before .plus2 .result) q) (lane (t .result) q) (l .h + 2 * q) (l .at + 2 * q) e (t .ensures q h) (omega arith) (omega arith) in

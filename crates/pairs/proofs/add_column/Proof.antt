@@ -2,7 +2,7 @@
 use native.Mathlib.Omega.{arith}
 use mathlib.Core.Path.{_≡_, ap, _∙_}
 use Prim.Native.Nat.{ℕ, _+_, _-_, _*_, _≤_}
-use Rattle.width.specs.Tile.{le, putLe}
+use Rattle.width.specs.Tile.{getLe, putLe}
 use Rattle.pairs.specs.Pairs.{pairPlaces, plusPairs}
 use Rattle.pairs.proofs.PairLaws.{no-pairs, pair-added}
 use borrow.Author.Needs.{needs}
@@ -11,7 +11,7 @@ use Rattle.pairs.proofs.add_column.Tie as tie
 
 abbrev Inv-loop : tie.InvT-loop
 Inv-loop s c b o xs from pairs sum₀ p₀ at₀ h₀ sum p at h =
-    (p ≤ pairs) × (at ≡ o + pairPlaces * p) × (h ≡ from + 8 * p) × (sum ≡ plusPairs (le s c 4) xs from b o p)
+    (p ≤ pairs) × (at ≡ o + pairPlaces * p) × (h ≡ from + 8 * p) × (sum ≡ plusPairs (getLe s c 4) xs from b o p)
 
 abbrev μ-loop : tie.MeasureT-loop
 μ-loop s c b o xs from pairs sum₀ p₀ at₀ h₀ sum p at h = pairs - p
@@ -23,7 +23,7 @@ loop-holds : tie.Need-loop-holds Inv-loop μ-loop
 loop-holds c =
     let a = c .before .before .before .before .before .args in
     let r = c .read4 .ensures in
-    (omega arith, omega arith, omega arith, r .0 ∙ no-pairs (le (a .s .now) (a .c) 4) (a .xs .now) (a .from) (a .b .now) (a .o) (omega (arith, r)))
+    (omega arith, omega arith, omega arith, r .0 ∙ no-pairs (getLe (a .s .now) (a .c) 4) (a .xs .now) (a .from) (a .b .now) (a .o) (omega (arith, r)))
 
 pair-at-requires : tie.Need-pair-at-requires Inv-loop μ-loop
 pair-at-requires c κs = search needs
@@ -52,7 +52,7 @@ loop-again c =
       omega arith,
       omega arith,
       c .wrapping-add-u32 .ensures
-          ∙ pair-added (le (a .s .now) (a .c) 4) (a .xs .now) (a .from) (a .b .now) (a .o) (l .p) (l .sum) (c .before .pair-at .result) (l .h) (l .at)
+          ∙ pair-added (getLe (a .s .now) (a .c) 4) (a .xs .now) (a .from) (a .b .now) (a .o) (l .p) (l .sum) (c .before .pair-at .result) (l .h) (l .at)
           (l .inv .3) (c .before .pair-at .ensures) (l .inv .2) (l .inv .1),
     )
 
@@ -69,7 +69,7 @@ returns c =
     let e : l .p ≡ a .pairs = omega arith in
     c .before .before .write4 .ensures
     ∙ ap (λ (v : ℕ). putLe (a .c) 4 v (a .s .now))
-    (l .inv .3 ∙ ap (plusPairs (le (a .s .now) (a .c) 4) (a .xs .now) (a .from) (a .b .now) (a .o)) e)
+    (l .inv .3 ∙ ap (plusPairs (getLe (a .s .now) (a .c) 4) (a .xs .now) (a .from) (a .b .now) (a .o)) e)
 
 pub add-column-spec : {M : Type 1} → statement M
 add-column-spec =

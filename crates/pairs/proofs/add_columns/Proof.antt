@@ -3,7 +3,7 @@ use native.Mathlib.Omega.{arith}
 use mathlib.Core.Path.{_≡_, refl, ap, ap₂, _∙_}
 use Prim.Native.Nat.{ℕ, _+_, _-_, _*_, _%_, _≤_, _<_}
 use lib.ListN.{length}
-use Rattle.width.specs.Tile.{le, putRow}
+use Rattle.width.specs.Tile.{getLe, putRow}
 use Rattle.width.proofs.ElementLaws.{putRow-next}
 use Rattle.pairs.specs.Pairs.{plusPairs, pairsRow}
 use Rattle.pairs.proofs.PairLaws.{after-row}
@@ -51,9 +51,9 @@ loop-again c =
     let F : ℕ → ℕ = pairsRow (a .s .now) (a .c) (a .xs .now) (a .b .now) (a .o) (a .pairs) in
     let e : l .h ≡ 2 * (l .j % 4) = omega arith in
     let old = after-row (a .c) (l .j) F (a .s .now) (l .s) (l .inv .5) (l .to) (a .c + l .j * 4) (l .inv .1) (omega arith) in
-    let ev : plusPairs (le (l .s) (l .to) 4) (a .xs .now) (l .h) (a .b .now) (l .at) (a .pairs) ≡ F (l .j) =
+    let ev : plusPairs (getLe (l .s) (l .to) 4) (a .xs .now) (l .h) (a .b .now) (l .at) (a .pairs) ≡ F (l .j) =
     ap (λ (v : ℕ). plusPairs v (a .xs .now) (l .h) (a .b .now) (l .at) (a .pairs)) old
-    ∙ ap₂ (λ (h o : ℕ). plusPairs (le (a .s .now) (a .c + l .j * 4) 4) (a .xs .now) h (a .b .now) o (a .pairs)) e (l .inv .2) in (
+    ∙ ap₂ (λ (h o : ℕ). plusPairs (getLe (a .s .now) (a .c + l .j * 4) 4) (a .xs .now) h (a .b .now) o (a .pairs)) e (l .inv .2) in (
       omega arith,
       omega arith,
       omega arith,

@@ -3,7 +3,7 @@ use native.Mathlib.Omega.{arith}
 use mathlib.Core.Path.{_≡_, refl, _∙_}
 use Prim.Native.Nat.{ℕ, _+_, _*_, _-_, _/_, _<_}
 use lib.ListN.{getD}
-use Rattle.width.specs.Tile.{le}
+use Rattle.width.specs.Tile.{getLe}
 use Rattle.width.proofs.ElementLaws.{putRow-cong}
 use Rattle.sums.specs.Rows.{productRow}
 use Rattle.pairs.specs.Pairs.{factorPlaces, pairsRow}
@@ -46,7 +46,7 @@ returns c =
     c .before .before .add-row .ensures
     ∙ putRow-cong 4 (a .c) (a .n) (pairsRow s (a .c) (x .last .0) (a .bs .now) 0 pairs) (productRow s 4 (a .width) (a .pitch) (a .k) (a .a) (a .b) (a .c)) s
     (λ j h. pairs-product s bytes (a .width) (k .pre .1 .0) (a .a) (a .b) (a .pitch) (a .k) (a .n) (x .last .0) (a .bs .now) (x .ensures) (k .pre .1 .1 .1 .1)
-    (le s (a .c + j * 4) 4) j pairs (pairs - (a .k + 1) / 2) h e)
+    (getLe s (a .c + j * 4) 4) j pairs (pairs - (a .k + 1) / 2) h e)
 
 pub multiply-row-spec : {M : Type 1} → statement M
 multiply-row-spec =

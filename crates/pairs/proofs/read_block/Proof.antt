@@ -2,7 +2,7 @@
 use native.Mathlib.Omega.{arith}
 use mathlib.Core.Path.{_≡_, ap, _∙_}
 use Prim.Native.Nat.{ℕ, _+_, _*_}
-use Rattle.width.specs.Tile.{le}
+use Rattle.width.specs.Tile.{getLe}
 use Rattle.pairs.specs.Pairs.{lane}
 use Rattle.pairs.proofs.PairLaws.{each-of-four}
 use borrow.Author.Needs.{needs}
@@ -34,8 +34,8 @@ returns : tie.Need-returns
 returns c =
     let a = c .before .before .before .before .before .args in
     let z : a .c ≡ a .c + 0 * 4 = omega arith in
-    each-of-four (λ q. lane _ q ≡ le (a .s .now) (a .c + q * 4) 4)
-    (c .before .before .before .read4 .ensures .0 ∙ ap (λ (p : ℕ). le (a .s .now) p 4) z)
+    each-of-four (λ q. lane _ q ≡ getLe (a .s .now) (a .c + q * 4) 4)
+    (c .before .before .before .read4 .ensures .0 ∙ ap (λ (p : ℕ). getLe (a .s .now) p 4) z)
     (c .before .before .read42 .ensures .0)
     (c .before .read43 .ensures .0)
     (c .read44 .ensures .0)

@@ -2,7 +2,7 @@
 use mathlib.Core.Path.{sym, ap, _∙_}
 use native.Mathlib.Omega.{arith}
 use borrow.Author.Needs.{needs}
-use Rattle.width.specs.Tile.{le}
+use Rattle.width.specs.Tile.{getLe}
 use Rattle.element.proofs.Laws.{is4}
 use Rattle.product_memory.proofs.read_element.Statement.{statement}
 use Rattle.product_memory.proofs.read_element.Tie as tie
@@ -16,7 +16,7 @@ cast-result c = search needs
 returns : tie.Need-returns
 returns c =
     let a = c .before .before .before .args in
-    c .read1 .ensures .0 ∙ ap (le (a .memory .now) (a .at)) (sym (c .before .if1 .taken))
+    c .read1 .ensures .0 ∙ ap (getLe (a .memory .now) (a .at)) (sym (c .before .if1 .taken))
 
 read2-requires : tie.Need-read2-requires
 read2-requires c κs = search needs
@@ -27,7 +27,7 @@ cast-result-2 c = search needs
 returns-2 : tie.Need-returns-2
 returns-2 c =
     let a = c .before .before .before .before .args in
-    c .read2 .ensures .0 ∙ ap (le (a .memory .now) (a .at)) (sym (c .before .if2 .taken))
+    c .read2 .ensures .0 ∙ ap (getLe (a .memory .now) (a .at)) (sym (c .before .if2 .taken))
 
 read4-requires : tie.Need-read4-requires
 read4-requires c κs =
@@ -42,7 +42,7 @@ returns-3 : tie.Need-returns-3
 returns-3 c =
     let s = c .before .before .before .before in
     let a = s .args in
-    c .read4 .ensures .0 ∙ ap (le (a .memory .now) (a .at)) (sym (is4 (a .width) (s .pre .0) (c .before .before .if1 .left) (c .before .if2 .left)))
+    c .read4 .ensures .0 ∙ ap (getLe (a .memory .now) (a .at)) (sym (is4 (a .width) (s .pre .0) (c .before .before .if1 .left) (c .before .if2 .left)))
 
 pub read-element-spec : {M : Type 1} → statement M
 read-element-spec =

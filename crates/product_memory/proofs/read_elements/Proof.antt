@@ -7,7 +7,7 @@ use lib.ListN.{length, getD, set, length-set}
 use lib.Seq.{getD-set-same, getD-set-other}
 use borrow.Author.Count.{below-more}
 use borrow.Author.Needs.{needs}
-use Rattle.width.specs.Tile.{le}
+use Rattle.width.specs.Tile.{getLe}
 use Rattle.width.proofs.PutLaws.{row-fits, next-row}
 use Rattle.product_memory.proofs.read_elements.Statement.{statement}
 use Rattle.product_memory.proofs.read_elements.Tie as tie
@@ -15,7 +15,7 @@ use Rattle.product_memory.proofs.read_elements.Tie as tie
 abbrev Inv-loop : tie.InvT-loop
 Inv-loop values₀ memory at width from₀ j₀ values from j =
     (j ≤ length values) × (from ≡ at + j * width) × (length values ≡ length values₀)
-    × ((q : ℕ) → q < j → getD values q 0 ≡ le memory (at + q * width) width)
+    × ((q : ℕ) → q < j → getD values q 0 ≡ getLe memory (at + q * width) width)
 
 abbrev μ-loop : tie.MeasureT-loop
 μ-loop values₀ memory at width from₀ j₀ values from j = length values - j
@@ -58,9 +58,9 @@ loop-again c =
       simp length-set (omega arith),
       omega (arith, next-row (l .j) (a .width)),
       simp length-set (omega arith),
-      below-more (λ q. getD (set (l .values) (l .j) (r .result)) q 0 ≡ le (a .memory .now) (a .at + q * a .width) (a .width)) (l .j)
+      below-more (λ q. getD (set (l .values) (l .j) (r .result)) q 0 ≡ getLe (a .memory .now) (a .at + q * a .width) (a .width)) (l .j)
           (λ q k. getD-set-other (l .values) (l .j) q (r .result) 0 (λ e. omega arith) ∙ l .inv .3 q k)
-          (getD-set-same (l .values) (l .j) (r .result) 0 (omega arith) ∙ r .ensures ∙ ap (λ (p : ℕ). le (a .memory .now) p (a .width)) (l .inv .1)),
+          (getD-set-same (l .values) (l .j) (r .result) 0 (omega arith) ∙ r .ensures ∙ ap (λ (p : ℕ). getLe (a .memory .now) p (a .width)) (l .inv .1)),
     )
 
 same-length : tie.Need-same-length Inv-loop μ-loop

@@ -4,7 +4,7 @@ use Prim.Native.Nat.{ℕ, _+_, _-_, _≤_}
 use native.Mathlib.Numerals.{add-one}
 use native.Mathlib.Omega.{arith}
 use borrow.Author.Needs.{needs}
-use Rattle.width.specs.Tile.{le}
+use Rattle.width.specs.Tile.{getLe}
 use Rattle.machine.specs.Tests.{within}
 use Rattle.machine.specs.Geometry.{Range, sealed}
 use Rattle.machine.specs.Memory.{rowsMiss}
@@ -56,8 +56,8 @@ told c =
     let e = b .before .before .slot-at .ensures .0 in
     c .range-missed .ensures
     ∙ ap₂ (λ (x y : ℕ). rowsMiss (within x y) (s .args .base) (s .args .stride) (s .args .rows) (s .args .bytes))
-    (b .before .read8 .ensures ∙ ap (λ (p : ℕ). le (s .args .block .now) p 8) e)
-    (b .read82 .ensures ∙ ap (λ (p : ℕ). le (s .args .block .now) (p + 8) 8) e)
+    (b .before .read8 .ensures ∙ ap (λ (p : ℕ). getLe (s .args .block .now) p 8) e)
+    (b .read82 .ensures ∙ ap (λ (p : ℕ). getLe (s .args .block .now) (p + 8) 8) e)
 
 returns : tie.Need-returns Inv-loop μ-loop
 returns c =

@@ -4,7 +4,7 @@ use native.Mathlib.Nat.{not-suc-le-zero, min-le-left, min-le-right}
 use native.Mathlib.Omega.{arith}
 use borrow.Author.Needs.{needs}
 use borrow.Author.Tests.{leb-true}
-use Rattle.width.specs.Tile.{le}
+use Rattle.width.specs.Tile.{getLe}
 use Rattle.machine.specs.Geometry.{Range}
 use Rattle.ranges.specs.Ranges.{rangeAt}
 use Rattle.ranges.specs.Parts.{Around}
@@ -47,8 +47,8 @@ told c =
     let b = s .args .block .now in
     let i = t .before .loop .i in
     let e = c .before .before .slot-at .ensures .0 in
-    let x = c .before .read8 .ensures ∙ ap (λ (p : ℕ). le b p 8) e in
-    let y = c .read82 .ensures ∙ ap (λ (p : ℕ). le b (p + 8) 8) e in
+    let x = c .before .read8 .ensures ∙ ap (λ (p : ℕ). getLe b p 8) e in
+    let y = c .read82 .ensures ∙ ap (λ (p : ℕ). getLe b (p + 8) 8) e in
     let z = leb-true (rangeAt b i .start + rangeAt b i .size) (2 ^ 64 - 1) (each-ends b (s .pre .0) i (omega (arith, t .loop-test .taken, s .pre .1))) in
     (x, y, omega (arith, x, y, z))
 

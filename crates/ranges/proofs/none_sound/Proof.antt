@@ -3,7 +3,7 @@ use mathlib.Core.Bool.{Bool, _&&_}
 use lib.Dec.{eqb}
 use borrow.Author.Needs.{needs}
 use borrow.Author.Tests.{eq-eqb, ne-eqb}
-use Rattle.width.specs.Tile.{le}
+use Rattle.width.specs.Tile.{getLe}
 use Rattle.ranges.proofs.RangeLaws.{none-ends, none-fails}
 use Rattle.ranges.proofs.none_sound.Statement.{statement}
 use Rattle.ranges.proofs.none_sound.Tie as tie
@@ -19,7 +19,7 @@ returns c =
     let y = c .before in
     let x = y .before in
     let b = x .before .before .args .block .now in
-    none-fails b (ap (λ (t : Bool). t && eqb (le b 56 8) 0) (ne-eqb (le b 48 8) 0 (λ e. c .if1 .taken (x .read8 .ensures ∙ e))))
+    none-fails b (ap (λ (t : Bool). t && eqb (getLe b 56 8) 0) (ne-eqb (getLe b 48 8) 0 (λ e. c .if1 .taken (x .read8 .ensures ∙ e))))
 
 returns-2 : tie.Need-returns-2
 returns-2 c =
@@ -27,7 +27,7 @@ returns-2 c =
     let y = d .before in
     let x = y .before in
     let b = x .before .before .args .block .now in
-    none-fails b (ap₂ (λ (t u : Bool). t && u) (eq-eqb (le b 48 8) 0 (sym (x .read8 .ensures) ∙ d .if1 .left)) (ne-eqb (le b 56 8) 0 (λ e. c .if2 .taken (y .read82 .ensures ∙ e))))
+    none-fails b (ap₂ (λ (t u : Bool). t && u) (eq-eqb (getLe b 48 8) 0 (sym (x .read8 .ensures) ∙ d .if1 .left)) (ne-eqb (getLe b 56 8) 0 (λ e. c .if2 .taken (y .read82 .ensures ∙ e))))
 
 others-empty-requires : tie.Need-others-empty-requires
 others-empty-requires c κs = search needs
@@ -40,7 +40,7 @@ returns-3 c =
     let x = y .before in
     let b = x .before .before .args .block .now in
     c .others-empty .ensures
-    ∙ none-ends b (ap₂ (λ (t u : Bool). t && u) (eq-eqb (le b 48 8) 0 (sym (x .read8 .ensures) ∙ d .if1 .left)) (eq-eqb (le b 56 8) 0 (sym (y .read82 .ensures) ∙ f .if2 .left)))
+    ∙ none-ends b (ap₂ (λ (t u : Bool). t && u) (eq-eqb (getLe b 48 8) 0 (sym (x .read8 .ensures) ∙ d .if1 .left)) (eq-eqb (getLe b 56 8) 0 (sym (y .read82 .ensures) ∙ f .if2 .left)))
 
 pub none-sound-spec : {M : Type 1} → statement M
 none-sound-spec =

@@ -5,7 +5,7 @@ use native.Mathlib.Omega.{arith}
 use lib.Dec.{eqb, ltb}
 use borrow.Author.Tests.{lt-ltb, le-ltb, eq-eqb, ne-eqb}
 use Rattle.machine.specs.Starting.{sealEnds}
-use Rattle.width.specs.Tile.{le}
+use Rattle.width.specs.Tile.{getLe}
 use Rattle.machine.specs.Geometry.{Range}
 use Rattle.ranges.specs.Ranges.{rangeAt}
 use Rattle.ranges.specs.Parts.{slotSound}
@@ -39,10 +39,10 @@ abbrev here : tie.After-read82 → Range
 here b = rangeAt (b .before .before .before .before .args .block .now) (at b)
 
 first : (b : tie.After-read82) → b .before .read8 .result ≡ here b .start
-first b = b .before .read8 .ensures ∙ ap (λ (p : ℕ). le (b .before .before .before .before .args .block .now) p 8) (b .before .before .slot-at .ensures .0)
+first b = b .before .read8 .ensures ∙ ap (λ (p : ℕ). getLe (b .before .before .before .before .args .block .now) p 8) (b .before .before .slot-at .ensures .0)
 
 second : (b : tie.After-read82) → b .read82 .result ≡ here b .size
-second b = b .read82 .ensures ∙ ap (λ (p : ℕ). le (b .before .before .before .before .args .block .now) (p + 8) 8) (b .before .before .slot-at .ensures .0)
+second b = b .read82 .ensures ∙ ap (λ (p : ℕ). getLe (b .before .before .before .before .args .block .now) (p + 8) 8) (b .before .before .slot-at .ensures .0)
 
 -- a slot beyond the ranges
 abbrev unused : tie.After-read82 → Bool

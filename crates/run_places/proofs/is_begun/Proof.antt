@@ -5,7 +5,7 @@ use Rattle.machine.specs.Setting.{chosen}
 use Rattle.run.specs.declared.Run.{Run}
 use Rattle.run.specs.declared.Place.{Place}
 use Rattle.run.specs.Turn.{begins, runShape}
-use Rattle.plan_numbers.specs.Parts.{placed}
+use Rattle.plan_numbers.specs.Parts.{inMatrices}
 use borrow.Author.Needs.{needs}
 use Rattle.run_places.proofs.is_begun.Statement.{statement}
 use Rattle.run_places.proofs.is_begun.Tie as tie
@@ -25,7 +25,7 @@ starts-rows-requires c κs =
     let s = c .before .before .before in
     let R = s .args .run in
     let g = c .before .place .given in
-    (s .pre .0, ltb-true (g .0 .0) (R .plan .m) (subst (λ (q : Place). placed (R .plan) q ≡ true) (g .1) (s .pre .1)))
+    (s .pre .0, ltb-true (g .0 .0) (R .plan .m) (subst (λ (q : Place). inMatrices (R .plan) q ≡ true) (g .1) (s .pre .1)))
 
 enum-known-place-2 : tie.Need-enum-known-place-2
 enum-known-place-2 c = search needs
@@ -35,7 +35,7 @@ starts-product-requires c κs =
     let s = c .before .before .before in
     let R = s .args .run in
     let g = c .before .place2 .given in
-    (s .pre .0, subst (λ (q : Place). placed (R .plan) q ≡ true) (g .1) (s .pre .1))
+    (s .pre .0, subst (λ (q : Place). inMatrices (R .plan) q ≡ true) (g .1) (s .pre .1))
 
 enum-known-place-3 : tie.Need-enum-known-place-3
 enum-known-place-3 c = search needs
@@ -45,7 +45,7 @@ starts-product-requires-2 c κs =
     let s = c .before .before .before in
     let R = s .args .run in
     let g = c .before .place3 .given in
-    (s .pre .0, subst (λ (q : Place). placed (R .plan) q ≡ true) (g .1) (s .pre .1))
+    (s .pre .0, subst (λ (q : Place). inMatrices (R .plan) q ≡ true) (g .1) (s .pre .1))
 
 enum-known-place-4 : tie.Need-enum-known-place-4
 enum-known-place-4 c = search needs
@@ -55,7 +55,7 @@ starts-sums-requires c κs =
     let s = c .before .before .before in
     let R = s .args .run in
     let g = c .before .place4 .given in
-    (s .pre .0, subst (λ (q : Place). placed (R .plan) q ≡ true) (g .1) (s .pre .1))
+    (s .pre .0, subst (λ (q : Place). inMatrices (R .plan) q ≡ true) (g .1) (s .pre .1))
 
 enum-known-place-5 : tie.Need-enum-known-place-5
 enum-known-place-5 c = search needs
@@ -65,7 +65,7 @@ starts-sums-requires-2 c κs =
     let s = c .before .before .before in
     let R = s .args .run in
     let g = c .before .place5 .given in
-    (s .pre .0, subst (λ (q : Place). placed (R .plan) q ≡ true) (g .1) (s .pre .1))
+    (s .pre .0, subst (λ (q : Place). inMatrices (R .plan) q ≡ true) (g .1) (s .pre .1))
 
 enum-known-place-6 : tie.Need-enum-known-place-6
 enum-known-place-6 c = search needs
@@ -75,7 +75,7 @@ starts-sums-requires-3 c κs =
     let s = c .before .before .before in
     let R = s .args .run in
     let g = c .before .place6 .given in
-    (s .pre .0, subst (λ (q : Place). placed (R .plan) q ≡ true) (g .1) (s .pre .1))
+    (s .pre .0, subst (λ (q : Place). inMatrices (R .plan) q ≡ true) (g .1) (s .pre .1))
 
 enum-known-place-7 : tie.Need-enum-known-place-7
 enum-known-place-7 c = search needs
@@ -85,7 +85,7 @@ starts-sums-requires-4 c κs =
     let s = c .before .before .before in
     let R = s .args .run in
     let g = c .before .place7 .given in
-    (s .pre .0, subst (λ (q : Place). placed (R .plan) q ≡ true) (g .1) (s .pre .1))
+    (s .pre .0, subst (λ (q : Place). inMatrices (R .plan) q ≡ true) (g .1) (s .pre .1))
 
 enum-known-place-8 : tie.Need-enum-known-place-8
 enum-known-place-8 c = search needs
@@ -95,7 +95,7 @@ starts-product-requires-3 c κs =
     let s = c .before .before .before in
     let R = s .args .run in
     let g = c .before .place8 .given in
-    (s .pre .0, subst (λ (q : Place). placed (R .plan) q ≡ true) (g .1) (s .pre .1))
+    (s .pre .0, subst (λ (q : Place). inMatrices (R .plan) q ≡ true) (g .1) (s .pre .1))
 
 enum-told-2 : tie.Need-enum-told-2
 enum-told-2 c = search needs

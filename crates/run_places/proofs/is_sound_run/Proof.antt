@@ -9,7 +9,7 @@ use Rattle.machine.proofs.TestLaws.{each-every, fails, last}
 use Rattle.run.specs.declared.Run.{Run}
 use Rattle.run.specs.Start.{planned}
 use Rattle.run.specs.Turn.{begins, runShape, soundRun}
-use Rattle.plan_numbers.specs.Parts.{placed}
+use Rattle.plan_numbers.specs.Parts.{inMatrices}
 use Rattle.run_places.specs.Parts.{numbered}
 use Rattle.run_places.proofs.RunPlaceLaws.{place-in}
 use borrow.Author.Needs.{needs}
@@ -27,7 +27,7 @@ abbrev plans : Run → Bool
 plans R = planned (R .elen) (R .plan)
 
 abbrev places : Run → Bool
-places R = placed (R .plan) (R .place)
+places R = inMatrices (R .plan) (R .place)
 
 abbrev blocks : Run → Bool
 blocks R = begins (runShape chosen R) (R .place)

@@ -5,7 +5,7 @@ use Rattle.machine.specs.Setting.{chosen}
 use Rattle.run.specs.declared.Place.{Place}
 use Rattle.run.specs.Places.{headN, headK, next}
 use Rattle.run.specs.Turn.{runShape}
-use Rattle.plan_numbers.specs.Parts.{placed}
+use Rattle.plan_numbers.specs.Parts.{inMatrices}
 use Rattle.plan_numbers.proofs.PlanLaws.{at-m, at-store, at-multiply}
 use Rattle.run_places.proofs.RunPlaceLaws.{run-numbered, run-placed}
 use borrow.Author.Needs.{needs}
@@ -13,8 +13,8 @@ use Rattle.run_places.proofs.next_place.Statement.{statement}
 use Rattle.run_places.proofs.next_place.Tie as tie
 
 -- the place that the match has found lies in the matrices
-lies : (s : tie.Start) {q : Place} → s .args .run .place ≡ q → placed (s .args .run .plan) q ≡ true
-lies s e = subst (λ (q : Place). placed (s .args .run .plan) q ≡ true) e (run-placed (s .args .run) (s .pre))
+lies : (s : tie.Start) {q : Place} → s .args .run .place ≡ q → inMatrices (s .args .run .plan) q ≡ true
+lies s e = subst (λ (q : Place). inMatrices (s .args .run .plan) q ≡ true) e (run-placed (s .args .run) (s .pre))
 
 -- and what follows it follows the run's
 after : (s : tie.Start) {q : Place} → s .args .run .place ≡ q → next (runShape chosen (s .args .run)) q ≡ next (runShape chosen (s .args .run)) (s .args .run .place)

@@ -3,7 +3,7 @@ use mathlib.Core.Path.{_≡_, sym, ap, _∙_}
 use Prim.Native.Nat.{ℕ}
 use native.Mathlib.Omega.{arith}
 use borrow.Author.Needs.{needs}
-use Rattle.width.specs.Tile.{le, putLe}
+use Rattle.width.specs.Tile.{getLe, putLe}
 use Rattle.element.proofs.Laws.{is8}
 use Rattle.transfer.proofs.copy_element.Statement.{statement}
 use Rattle.transfer.proofs.copy_element.Tie as tie
@@ -22,7 +22,7 @@ returns c =
     let f = c .before .before .before .before .before in
     let a = f .before .before .before .args in
     c .before .before .write1 .ensures ∙ ap (λ (v : ℕ). putLe (a .to) 1 v (a .dst .now)) (c .before .before .before .read1 .ensures .0)
-    ∙ ap (λ (w : ℕ). putLe (a .to) w (le (a .src .now) (a .from) w) (a .dst .now)) (sym (f .if1 .taken))
+    ∙ ap (λ (w : ℕ). putLe (a .to) w (getLe (a .src .now) (a .from) w) (a .dst .now)) (sym (f .if1 .taken))
 
 read2-requires : tie.Need-read2-requires
 read2-requires c κs = search needs
@@ -38,7 +38,7 @@ returns-2 c =
     let f = c .before .before .before .before .before in
     let a = f .before .before .before .before .args in
     c .before .before .write2 .ensures ∙ ap (λ (v : ℕ). putLe (a .to) 2 v (a .dst .now)) (c .before .before .before .read2 .ensures .0)
-    ∙ ap (λ (w : ℕ). putLe (a .to) w (le (a .src .now) (a .from) w) (a .dst .now)) (sym (f .if2 .taken))
+    ∙ ap (λ (w : ℕ). putLe (a .to) w (getLe (a .src .now) (a .from) w) (a .dst .now)) (sym (f .if2 .taken))
 
 read4-requires : tie.Need-read4-requires
 read4-requires c κs = search needs
@@ -54,7 +54,7 @@ returns-3 c =
     let f = c .before .before .before .before .before in
     let a = f .before .before .before .before .before .args in
     c .before .before .write4 .ensures ∙ ap (λ (v : ℕ). putLe (a .to) 4 v (a .dst .now)) (c .before .before .before .read4 .ensures .0)
-    ∙ ap (λ (w : ℕ). putLe (a .to) w (le (a .src .now) (a .from) w) (a .dst .now)) (sym (f .if3 .taken))
+    ∙ ap (λ (w : ℕ). putLe (a .to) w (getLe (a .src .now) (a .from) w) (a .dst .now)) (sym (f .if3 .taken))
 
 -- the width that is left
 eight : (c : tie.Else3) → c .before .before .before .before .before .args .w ≡ 8
@@ -74,7 +74,7 @@ returns-4 c =
     let f = c .before .before .before .before .before in
     let a = f .before .before .before .before .before .args in
     c .before .before .write8 .ensures ∙ ap (λ (v : ℕ). putLe (a .to) 8 v (a .dst .now)) (c .before .before .before .read8 .ensures)
-    ∙ ap (λ (w : ℕ). putLe (a .to) w (le (a .src .now) (a .from) w) (a .dst .now)) (sym (eight f))
+    ∙ ap (λ (w : ℕ). putLe (a .to) w (getLe (a .src .now) (a .from) w) (a .dst .now)) (sym (eight f))
 
 pub copy-element-spec : {M : Type 1} → statement M
 copy-element-spec =

@@ -4,7 +4,7 @@ use native.Mathlib.Nat.{zero-mul}
 use native.Mathlib.Omega.{arith}
 use lib.ListN.{length}
 use borrow.Author.Needs.{needs}
-use Rattle.width.specs.Tile.{le, putRow}
+use Rattle.width.specs.Tile.{getLe, putRow}
 use Rattle.width.proofs.TileLaws.{length-putRow}
 use Rattle.width.proofs.PutLaws.{row-fits, next-row}
 use Rattle.width.proofs.ElementLaws.{putRow-next}
@@ -17,7 +17,7 @@ use Rattle.transfer.proofs.gather.Tie as tie
 abbrev Inv-loop : tie.InvT-loop
 Inv-loop dst₀ src base stride n w from₀ to₀ j₀ dst from to j =
     (j ≤ n) × (to ≡ j * w) × (length dst ≡ length dst₀) × (j < n → from ≡ rowAt base stride j)
-    × (dst ≡ putRow 0 j w (λ j. le src (rowAt base stride j) w) dst₀)
+    × (dst ≡ putRow 0 j w (λ j. getLe src (rowAt base stride j) w) dst₀)
 
 abbrev μ-loop : tie.MeasureT-loop
 μ-loop dst₀ src base stride n w from₀ to₀ j₀ dst from to j = n - j
@@ -66,10 +66,10 @@ loop-again c =
     let a = s .args in
     let l = t .before .loop in
     let h = here t in
-    let value : ℕ → ℕ = λ j. le (a .src .now) (rowAt (a .base) (a .stride) j) (a .w) in
+    let value : ℕ → ℕ = λ j. getLe (a .src .now) (rowAt (a .base) (a .stride) j) (a .w) in
     let next =
-    putRow-next (a .w) (a .dst .now) (l .dst) _ value 0 (l .j) (l .to) (le (a .src .now) (l .from) (a .w)) (l .inv .4) (omega (arith, l .inv .1))
-    (ap (λ (p : ℕ). le (a .src .now) p (a .w)) (h .1)) (c .before .before .before .copy-element .ensures) in (
+    putRow-next (a .w) (a .dst .now) (l .dst) _ value 0 (l .j) (l .to) (getLe (a .src .now) (l .from) (a .w)) (l .inv .4) (omega (arith, l .inv .1))
+    (ap (λ (p : ℕ). getLe (a .src .now) p (a .w)) (h .1)) (c .before .before .before .copy-element .ensures) in (
       omega (arith, t .loop-test .taken),
       omega (arith, l .inv .1, next-row (l .j) (a .w)),
       ap length next ∙ length-putRow 0 (l .j + 1) (a .w) value (a .dst .now),
@@ -86,7 +86,7 @@ returns c =
     let l = c .before .loop in
     let a = c .before .before .before .before .args in
     let e : l .j ≡ a .n = omega arith in
-    l .inv .4 ∙ ap (λ (n : ℕ). putRow 0 n (a .w) (λ j. le (a .src .now) (rowAt (a .base) (a .stride) j) (a .w)) (a .dst .now)) e
+    l .inv .4 ∙ ap (λ (n : ℕ). putRow 0 n (a .w) (λ j. getLe (a .src .now) (rowAt (a .base) (a .stride) j) (a .w)) (a .dst .now)) e
 
 pub gather-spec : {M : Type 1} → statement M
 gather-spec =

@@ -5,7 +5,7 @@ use native.Mathlib.Nat.{zero-mul}
 use native.Mathlib.Omega.{arith}
 use borrow.Author.Needs.{needs}
 use lib.ListN.{length, length-take, length-drop}
-use Rattle.width.specs.Tile.{le, putTile}
+use Rattle.width.specs.Tile.{getLe, putTile}
 use Rattle.width.proofs.TileLaws.{length-putTile}
 use Rattle.width.proofs.PutLaws.{row-fits, next-row, put-back, putTile-none, putTile-next}
 use Rattle.width.proofs.ElementLaws.{putRow-cong}
@@ -90,10 +90,10 @@ loop-again c =
     let r = c .before .before .gather in
     let value : ℕ → ℕ → ℕ = λ i j. element (a .memory .now) (rowAt (a .base) (a .stride)) (a .w) j i in
     let next =
-    put-back (l .registers) (r .last .0) (l .to) (length (l .registers) - l .to) (a .cols) (a .w) (λ j. le (a .memory .now) (rowAt (l .from) (a .stride) j) (a .w))
+    put-back (l .registers) (r .last .0) (l .to) (length (l .registers) - l .to) (a .cols) (a .w) (λ j. getLe (a .memory .now) (rowAt (l .from) (a .stride) j) (a .w))
     (omega (arith, h .0, l .inv .3)) refl (r .ensures)
-    ∙ putRow-cong (a .w) (l .to) (a .cols) (λ j. le (a .memory .now) (rowAt (l .from) (a .stride) j) (a .w)) (value (l .i)) (l .registers)
-    (λ j m. ap (λ (p : ℕ). le (a .memory .now) p (a .w)) (h .4 j m))
+    ∙ putRow-cong (a .w) (l .to) (a .cols) (λ j. getLe (a .memory .now) (rowAt (l .from) (a .stride) j) (a .w)) (value (l .i)) (l .registers)
+    (λ j m. ap (λ (p : ℕ). getLe (a .memory .now) p (a .w)) (h .4 j m))
     ∙ putTile-next (λ i. a .start + i * a .pitch) (l .i) (a .cols) (a .w) value (a .registers .now) (l .registers) (l .to) (l .inv .4) (l .inv .1) in (
       omega (arith, t .loop-test .taken),
       omega (arith, l .inv .1, next-row (l .i) (a .pitch)),

@@ -7,7 +7,7 @@ use borrow.Author.Needs.{needs}
 use lib.ListN.{length, length-take, length-drop}
 use mir.Syntax.{w64}
 use mir.Val.{toZ, ofZ}
-use Rattle.width.specs.Tile.{le, putTile}
+use Rattle.width.specs.Tile.{getLe, putTile}
 use Rattle.width.proofs.TileLaws.{length-putTile}
 use Rattle.width.proofs.PutLaws.{row-fits, next-row, put-back, putTile-none, putTile-next}
 use Rattle.width.proofs.ElementLaws.{putRow-cong}
@@ -132,10 +132,10 @@ loop-again c =
     let r = c .before .before .gather in
     let value : ℕ → ℕ → ℕ = λ j i. element (a .registers .now) (λ i. a .start + i * a .pitch) (a .w) i j in
     let next =
-    put-back (l .memory) (r .last .0) p (length (l .memory) - p) (a .rows) (a .w) (λ i. le (a .registers .now) (rowAt (l .from) (a .pitch) i) (a .w))
+    put-back (l .memory) (r .last .0) p (length (l .memory) - p) (a .rows) (a .w) (λ i. getLe (a .registers .now) (rowAt (l .from) (a .pitch) i) (a .w))
     (omega (arith, h .1, l .inv .2)) refl (r .ensures)
-    ∙ putRow-cong (a .w) p (a .rows) (λ i. le (a .registers .now) (rowAt (l .from) (a .pitch) i) (a .w)) (value (l .j)) (l .memory)
-    (λ i m. ap (λ (q : ℕ). le (a .registers .now) q (a .w)) (h .3 i))
+    ∙ putRow-cong (a .w) p (a .rows) (λ i. getLe (a .registers .now) (rowAt (l .from) (a .pitch) i) (a .w)) (value (l .j)) (l .memory)
+    (λ i m. ap (λ (q : ℕ). getLe (a .registers .now) q (a .w)) (h .3 i))
     ∙ putTile-next (rowAt (a .base) (a .stride)) (l .j) (a .rows) (a .w) value (a .memory .now) (l .memory) p (l .inv .3) (h .0) in (
       omega (arith, t .loop-test .taken),
       omega (arith, l .inv .1, next-row (l .j) (a .w)),

@@ -3,7 +3,7 @@ use native.Mathlib.Omega.{arith}
 use borrow.Author.Tests.{not-true, not-false}
 use Rattle.machine.specs.Geometry.{Bench, benchOf}
 use Rattle.ranges.specs.Ranges.{sealsIn}
-use Rattle.run.specs.Statement.{Bytes}
+use Rattle.run.specs.Statement.{MemoryBytes}
 use Rattle.whole.proofs.WholeLaws.{finishes-refused, finishes-done}
 use borrow.Author.Needs.{needs}
 use Rattle.whole.proofs.whole.Statement.{statement}
@@ -13,7 +13,7 @@ use Rattle.whole.proofs.whole.Tie as tie
 abbrev bench : tie.Start → Bench
 bench s = let a = s .args in benchOf (a .m) (sealsIn (a .seals .now)) (a .registers .now) (a .marks .now) (a .memory .now)
 
-bytes : (c : tie.After-slice-known3) → Bytes (bench (c .before .before .before .before) .memory)
+bytes : (c : tie.After-slice-known3) → MemoryBytes (bench (c .before .before .before .before) .memory)
 bytes c = record { below = λ q. omega (arith, c .slice-known3 .given q); addressed = omega arith }
 
 start-requires : tie.Need-start-requires
