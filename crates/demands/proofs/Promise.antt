@@ -48,72 +48,29 @@ use Rattle.powerup.proofs.Runs.{run-start-ignores-unmarked, turns-ignore-unmark
 use Rattle.powerup.proofs.PowerUp.{starts-alike, power-up-never-matters}
 use Rattle.powerup_image.proofs.ImagesStay.{images-stay-equal, images-stay-equal-given}
 use Rattle.powerup_host.proofs.Calls.{call-ignores-unmarked, calls-ignore-unmarked, image-write-ignores-unmarked, power-up-never-matters-to-hosts, power-up-never-matters-to-readers}
+use Rattle.refusals.proofs.Exact.{step-answers-exactly}
+use Rattle.refusals.proofs.Listed.{no-code-twice, types-are-these, registers-fill}
+use Rattle.handover.proofs.Handover.{read-call-makes, written-call-is-read-back, read-call-is-written-back, images-stay-equal-over-calls, turn-packs-whole}
+use Rattle.demands.proofs.Answered.{every-deed-answers}
+use Rattle.demands.proofs.HostAnswered.{every-call-answers}
+use Rattle.demands.proofs.Meant.{step-is-its-meaning}
+use Rattle.demands.proofs.Sealed.{sealed-bytes-stay, sealed-bytes-stay-in-c}
 use Rattle.demands.specs.Promise.{Promise}
 
 pub promise : Promise
 promise = record {
-  demand-1 = record {
-    start = start-refusal-changes-nothing;
-    word = step-refusal-changes-nothing;
-    seal = seal-refusal-changes-nothing;
-    run-start = run-start-changes-nothing;
-    asking = ask-refusal-changes-nothing;
-    turn = turn-refusal-changes-nothing;
-    turns = no-turn-changes-nothing;
-    whole-run = whole-refusal-changes-nothing;
-    image-write = write-refusal;
-    image-read = read-refusal;
-    image-salvage = salvage-refusal;
-    c-start = bench.start-refusal;
-    c-step = bench.step-refusal;
-    c-seal = bench.seal-refusal;
-    c-run-start = run.run-start-refusal;
-    c-next = run.next-refusal;
-    c-turn = turn.turn-refusal;
-    c-turns = turn.no-turn;
-    c-run = turn.run-refusal;
-    c-image-write = image.image-write-refusal;
-    c-image-read = image.image-read-refusal;
-    c-image-salvage = salvage-call-refusal;
-    c-word-text = text.word-text-refusal;
-    c-text-word = text.text-word-refusal;
-    c-step-whole = packs-whole;
-    c-image-size-whole = image-size-packs-whole;
-    c-image-write-whole = image-write-packs-whole;
-    c-image-read-whole = image-read-packs-whole;
-    c-image-salvage-whole = salvage-packs-whole;
-    c-word-text-whole = word-text-packs;
-    c-text-word-whole = text-word-packs;
-  };
+  demand-1 = record { deeds = every-deed-answers; in-c = every-call-answers };
   demand-2 = record {
-    words = word-refusals;
+    words = step-is-its-meaning;
     stores = stores-are-exact;
-    keeps-sound = step-keeps-sound;
-    seal-keeps-sound = seal-keeps-sound;
-    start-sound = start-sound;
-    seal-words = seal-holds;
-    seal-words-from-start = seal-holds-from-start;
-    seal = seal-holds-over-acts;
-    seal-from-start = seal-holds-over-acts-from-start;
-    seal-from-read = seal-holds-from-read;
-    c-seal = seal-holds-over-calls;
-    c-seal-from-start = seal-holds-from-start-call;
-    c-seal-from-read = seal-holds-from-read-call;
-    c-seal-from-seal = seal-holds-from-seal-call;
+    unwritten = power-up-never-matters;
+    unwritten-in-c = power-up-never-matters-to-hosts;
+    sealed = sealed-bytes-stay;
+    sealed-in-c = sealed-bytes-stay-in-c;
   };
   demand-3 = record {
-    every-choice = demand-3;
-    ours = demand-3-ours;
-    smaller = demand-3-smaller;
-    halving = demand-3-halving;
-    rules = chosen-grants;
-    whole-run = whole-delivers;
-    sheet = bench-sheet;
-    example = product-example;
-    c-start = start-calls-are-right;
-    c-turns = turn-calls-are-right;
-    c-many = turns-are-turn-calls;
-    c-run = run-is-turn-calls;
+    runs = demand-3-ours;
+    in-c = record { start = start-calls-are-right; turns = turn-calls-are-right; many = turns-are-turn-calls; whole = run-is-turn-calls };
   };
   requests = record {
     one-nothing-else = nothing-else-moved;
@@ -135,6 +92,9 @@ promise = record {
     six-made = read-makes;
     six-back = written-is-read-back;
     six-again = read-is-written-back;
+    six-c-made = read-call-makes;
+    six-c-back = written-call-is-read-back;
+    six-c-again = read-call-is-written-back;
     nine = power-up-never-matters;
     nine-starts = starts-alike;
     nine-step = step-ignores-unmarked;
@@ -150,6 +110,7 @@ promise = record {
     nine-c-call = call-ignores-unmarked;
     nine-c-calls = calls-ignore-unmarked;
     nine-c-image-write = image-write-ignores-unmarked;
+    nine-c-images = images-stay-equal-over-calls;
     eleven = out-and-back-restores;
     eleven-file = step-keeps-file;
     twelve = ranges-are-exact;
@@ -176,5 +137,75 @@ promise = record {
     fourteen-digits = words-right;
     fourteen-digits-back = words-read-back;
     fourteen-both = lines-go-back;
+  };
+  results = record {
+    c-step-whole = packs-whole;
+    c-turn-whole = turn-packs-whole;
+    c-image-size-whole = image-size-packs-whole;
+    c-image-write-whole = image-write-packs-whole;
+    c-image-read-whole = image-read-packs-whole;
+    c-image-salvage-whole = salvage-packs-whole;
+    c-word-text-whole = word-text-packs;
+    c-text-word-whole = text-word-packs;
+  };
+  refusals = record {
+    start = start-refusal-changes-nothing;
+    word = step-refusal-changes-nothing;
+    seal = seal-refusal-changes-nothing;
+    run-start = run-start-changes-nothing;
+    asking = ask-refusal-changes-nothing;
+    turn = turn-refusal-changes-nothing;
+    turns = no-turn-changes-nothing;
+    whole-run = whole-refusal-changes-nothing;
+    image-write = write-refusal;
+    image-read = read-refusal;
+    image-salvage = salvage-refusal;
+    c-start = bench.start-refusal;
+    c-step = bench.step-refusal;
+    c-seal = bench.seal-refusal;
+    c-run-start = run.run-start-refusal;
+    c-next = run.next-refusal;
+    c-turn = turn.turn-refusal;
+    c-turns = turn.no-turn;
+    c-run = turn.run-refusal;
+    c-image-write = image.image-write-refusal;
+    c-image-read = image.image-read-refusal;
+    c-image-salvage = salvage-call-refusal;
+    c-word-text = text.word-text-refusal;
+    c-text-word = text.text-word-refusal;
+  };
+  words = record {
+    exact = step-answers-exactly;
+    words = word-refusals;
+    no-code-twice = no-code-twice;
+    types = types-are-these;
+    registers = registers-fill;
+    stores = stores-are-exact;
+    keeps-sound = step-keeps-sound;
+    seal-keeps-sound = seal-keeps-sound;
+    start-sound = start-sound;
+    seal-words = seal-holds;
+    seal-words-from-start = seal-holds-from-start;
+    seal = seal-holds-over-acts;
+    seal-from-start = seal-holds-over-acts-from-start;
+    seal-from-read = seal-holds-from-read;
+    c-seal = seal-holds-over-calls;
+    c-seal-from-start = seal-holds-from-start-call;
+    c-seal-from-read = seal-holds-from-read-call;
+    c-seal-from-seal = seal-holds-from-seal-call;
+  };
+  runs = record {
+    every-choice = demand-3;
+    ours = demand-3-ours;
+    smaller = demand-3-smaller;
+    halving = demand-3-halving;
+    rules = chosen-grants;
+    whole-run = whole-delivers;
+    sheet = bench-sheet;
+    example = product-example;
+    c-start = start-calls-are-right;
+    c-turns = turn-calls-are-right;
+    c-many = turns-are-turn-calls;
+    c-run = run-is-turn-calls;
   };
 }

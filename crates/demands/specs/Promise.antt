@@ -1,8 +1,11 @@
--- All that is promised of the definitions and of the C functions, in one record: a part for each demand of document 01, and one for the
--- statements that a request of document 02 asks for. Each line names a statement, which stands in the file that is named at the top.
--- proofs/Promise.antt has one term of this type. That the code is its definitions is not said here, but by the contracts in src/.
+-- All that is promised of the definitions and of the C functions, in one record: the three demands of document 01, each one statement
+-- (Demand1.antt, Demand2.antt, Demand3.antt), the statements that a request of document 02 asks for, and what the demands are put together from.
+-- Each line names a statement, which stands in the file that is named at the top. proofs/Promise.antt has one term of this type. That the code is
+-- its definitions is not said here, but by the contracts in src/.
 use Rattle.machine.specs.Theorems.{RefusalChangesNothing, StartRefusalChangesNothing, SealRefusalChangesNothing, StepKeepsSound, StepKeepsFile, SealKeepsSound, StartIsSound, StoresAreExact, RulesKeepConstraints, SealHolds, SealHoldsFromStart}
 use Rattle.machine.specs.WordTheorems.{WordRefusals, NothingElseMoved, AddedGotOne}
+use Rattle.refusals.specs.Given.{StepAnswersExactly}
+use Rattle.refusals.specs.Listed.{NoCodeTwice, TypesAreThese, RegistersFill}
 use Rattle.run.specs.Theorems.{RunStartChangesNothing, AskRefusalChangesNothing, TurnRefusalChangesNothing, NoTurnChangesNothing, WholeRefusalChangesNothing, SealHoldsOverActs, SealHoldsOverActsFromStart}
 use Rattle.run.specs.Statement.{RunsAreRight, OurRunsAreRight, SmallerRunsAreRight, HalvingRunsAreRight}
 use Rattle.run.specs.Whole.{WholeDelivers}
@@ -29,9 +32,13 @@ use Rattle.powerup.specs.Runs.{RunStartIgnoresUnmarked, TurnsIgnoreUnmarked, Wh
 use Rattle.powerup.specs.PowerUp.{StartsAlike, PowerUpNeverMatters}
 use Rattle.powerup_image.specs.ImagesStay.{ImagesStayEqual, ImagesStayEqualGiven}
 use Rattle.powerup_host.specs.Calls.{CallIgnoresUnmarked, CallsIgnoreUnmarked, ImageWriteIgnoresUnmarked, PowerUpNeverMattersToHosts, PowerUpNeverMattersToReaders}
+use Rattle.handover.specs.Handover.{ReadCallMakesItsMachine, WrittenCallIsReadBack, ReadCallIsWrittenBack, ImagesStayEqualOverCalls, TurnPacksWhole}
+use Rattle.demands.specs.Demand1.{Demand1}
+use Rattle.demands.specs.Demand2.{Demand2}
+use Rattle.demands.specs.Demand3.{Demand3}
 
--- 1: every input has an answer (the definitions are total), and a refusal changes nothing
-pub record Demand1 : Type 0 where
+-- what demand 1 is put together from: refusals, one by one
+pub record Refusals : Type 0 where
   pub start : StartRefusalChangesNothing
   pub word : RefusalChangesNothing
   pub seal : SealRefusalChangesNothing
@@ -57,18 +64,14 @@ pub record Demand1 : Type 0 where
   pub c-image-salvage : SalvageRefusalChangesNoByte
   pub c-word-text : WordTextRefusalChangesNoByte
   pub c-text-word : TextWordRefusalChangesNoByte
-  -- and nothing of an answer is cut in what they return
-  pub c-step-whole : StepPacksWhole
-  pub c-image-size-whole : ImageSizePacksWhole
-  pub c-image-write-whole : ImageWritePacksWhole
-  pub c-image-read-whole : ImageReadPacksWhole
-  pub c-image-salvage-whole : SalvagePacksWhole
-  pub c-word-text-whole : WordTextPacksWhole
-  pub c-text-word-whole : TextWordPacksWhole
 
--- 2: a step is its definition (the contract of `step::step`); refusals of a word are exact, and no sealed byte changes
-pub record Demand2 : Type 0 where
+-- what demand 2 is put together from: the answers of a word, states that are not at fault, and sealed bytes from any moment on
+pub record Words : Type 0 where
+  pub exact : StepAnswersExactly
   pub words : WordRefusals
+  pub no-code-twice : NoCodeTwice
+  pub types : TypesAreThese
+  pub registers : RegistersFill
   pub stores : StoresAreExact
   pub keeps-sound : StepKeepsSound
   pub seal-keeps-sound : SealKeepsSound
@@ -84,8 +87,8 @@ pub record Demand2 : Type 0 where
   pub c-seal-from-read : SealHoldsFromReadCall
   pub c-seal-from-seal : SealHoldsFromSealCall
 
--- 3: a product run, from its start on
-pub record Demand3 : Type 0 where
+-- of demand 3: every choice of sizes under the draft's constraints, and ours, one by one; a whole run, and the bench sheet
+pub record Runs : Type 0 where
   pub every-choice : RunsAreRight
   pub ours : OurRunsAreRight
   pub smaller : SmallerRunsAreRight
@@ -123,6 +126,9 @@ pub record Requests : Type 1 where
   pub six-made : ReadMakesItsMachine
   pub six-back : WrittenIsReadBack
   pub six-again : ReadIsWrittenBack
+  pub six-c-made : ReadCallMakesItsMachine
+  pub six-c-back : WrittenCallIsReadBack
+  pub six-c-again : ReadCallIsWrittenBack
   -- Nine: of words, of runs, of images, and of a host's calls
   pub nine : PowerUpNeverMatters
   pub nine-starts : StartsAlike
@@ -139,6 +145,7 @@ pub record Requests : Type 1 where
   pub nine-c-call : CallIgnoresUnmarked
   pub nine-c-calls : CallsIgnoreUnmarked
   pub nine-c-image-write : ImageWriteIgnoresUnmarked
+  pub nine-c-images : ImagesStayEqualOverCalls
   -- Eleven: of a slice, and of the vector file
   pub eleven : OutAndBackRestores
   pub eleven-file : StepKeepsFile
@@ -170,8 +177,23 @@ pub record Requests : Type 1 where
   pub fourteen-digits-back : WordsReadBack
   pub fourteen-both : LinesGoBack
 
+-- nothing of an answer is cut in what the C functions return
+pub record Results : Type 0 where
+  pub c-step-whole : StepPacksWhole
+  pub c-turn-whole : TurnPacksWhole
+  pub c-image-size-whole : ImageSizePacksWhole
+  pub c-image-write-whole : ImageWritePacksWhole
+  pub c-image-read-whole : ImageReadPacksWhole
+  pub c-image-salvage-whole : SalvagePacksWhole
+  pub c-word-text-whole : WordTextPacksWhole
+  pub c-text-word-whole : TextWordPacksWhole
+
 pub record Promise : Type 1 where
   pub demand-1 : Demand1
   pub demand-2 : Demand2
   pub demand-3 : Demand3
   pub requests : Requests
+  pub results : Results
+  pub refusals : Refusals
+  pub words : Words
+  pub runs : Runs

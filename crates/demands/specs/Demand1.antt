@@ -1,0 +1,66 @@
+-- Demand 1: every word, scalar, memory size and state gets an answer, and a refusal changes nothing.
+use mathlib.Core.Path.{_≡_}
+use mathlib.Core.List.{List}
+use Prim.Native.Nat.{ℕ, _%_, _^_, _≤_, _<_}
+use Rattle.width.specs.Blocks.{Choice}
+use Rattle.blocks.specs.Blocks.{Bytes}
+use Rattle.run.specs.Acts.{Session}
+use Rattle.run.specs.Turn.{Running, turn, afterTurns, turns}
+use Rattle.calls.specs.Calls.{Buffers, Call, called}
+use Rattle.demands.specs.Deeds.{Deed, Deeded, roomOf, deed, HostCall, Hosted, lentTo, hostCalled}
+
+-- the table of answers ends with 17: 01 has 0 to 9, 02 10 to 17
+abbrev pub lastAnswer : ℕ
+lastAnswer = 17
+
+-- ---- over the definitions
+
+-- "gets an answer": a number of the table; "A refusal changes nothing lent or held": neither machine, ranges, registers, marks, memory, scalars,
+-- vector file and run, nor the room for an image; and it takes no turn that is answered 0
+pub record Answers (d : Deed) (S : Session) (o : Deeded) : Type 0 where
+  pub number : o .answer ≤ lastAnswer
+  pub refusal : ¬ (o .answer ≡ 0) → (o .after ≡ S) × (o .room ≡ roomOf d) × (o .count ≡ 0)
+
+-- Turns in number are counted and not answered. The count says which were answered 0: the first so many, and what is left is what these leave.
+-- Below the number asked it says that the next turn, too, is refused, which then answers why: a faulty state is told so
+pub record Counted (grant : Choice) (r : Running) (n : ℕ) : Type 0 where
+  pub at-most : turns grant r n .count ≤ n
+  pub accepted : (t : ℕ) → t < turns grant r n .count → turn grant (afterTurns grant r t) .answer .number ≡ 0
+  pub left : turns grant r n .after ≡ afterTurns grant r (turns grant r n .count)
+  pub refused : turns grant r n .count < n → ¬ (turn grant (turns grant r n .after) .answer .number ≡ 0)
+
+-- for every choice of sizes, whatever is done, with whatever is held and lent
+pub record EveryDeedAnswers : Type 0 where
+  pub answers : (grant : Choice) (d : Deed) (S : Session) → Answers d S (deed grant d S)
+  pub counts : (grant : Choice) (r : Running) (n : ℕ) → Counted grant r n
+
+-- ---- over the C functions
+
+-- bits 15..0 of a result are the answer's number; a refusal changes no byte of any buffer
+pub record CallAnswers (c : HostCall) (b : Buffers) (o : Hosted) : Type 0 where
+  pub number : o .result % 2 ^ 16 ≤ lastAnswer
+  pub refusal : ¬ (o .result % 2 ^ 16 ≡ 0) → (o .after ≡ b) × (o .lent ≡ lentTo c)
+
+-- the host's blocks are bytes, as everything lent in C is
+pub record InBytes (b : Buffers) : Type 0 where
+  pub machine : Bytes (b .machine)
+  pub scalars : Bytes (b .scalars)
+  pub run : Bytes (b .run)
+
+-- bodlarina_run_turns counts: below its limit the next bodlarina_run_turn answers why it stopped, and changes no byte
+pub record CallCounted (limit : ℕ) (b : Buffers) : Type 0 where
+  pub at-most : called (Call.runTurns limit) b .result ≤ limit
+  pub refused : called (Call.runTurns limit) b .result < limit
+      → let after : Buffers = called (Call.runTurns limit) b .after in
+      ¬ (called Call.runTurn after .result ≡ 0) × (called Call.runTurn after .after ≡ after)
+
+-- for every call but that, every argument, and every buffer of any length
+pub record EveryCallAnswers : Type 0 where
+  pub answers : (c : HostCall) (b : Buffers) → InBytes b → ((limit : ℕ) → ¬ (c ≡ HostCall.call (Call.runTurns limit))) → CallAnswers c b (hostCalled c b)
+  pub counts : (limit : ℕ) (b : Buffers) → InBytes b → CallCounted limit b
+
+-- ---- the demand
+
+pub record Demand1 : Type 0 where
+  pub deeds : EveryDeedAnswers
+  pub in-c : EveryCallAnswers

@@ -1,0 +1,4 @@
+pub mod Reflect
+pub mod Groups
+pub mod Exact
+pub mod Listed

@@ -1,0 +1,33 @@
+-- What a reviewer looks for in the definitions: no code is given twice, the values that mtype can take, and that the registers fill their bytes.
+-- The proofs stand in proofs/.
+use mathlib.Core.Path.{_≡_}
+use mathlib.Core.Bool.{true, cond}
+use mathlib.Core.List.{List, [], _∷_, List·Memᴰ}
+use Prim.Native.Nat.{ℕ, _*_, _/_, _^_}
+use lib.Dec.{eqb}
+use Rattle.machine.specs.Tests.{isIn}
+use Rattle.machine.specs.Geometry.{elens, permitted, registerBytes}
+use Rattle.machine.specs.Setting.{newType}
+use Rattle.machine.specs.Listing.{Code, Row, listing, others}
+use Rattle.machine.specs.WordTheorems.{EveryBit}
+
+-- the entries of the listing: ours, and behind them the others
+abbrev pub entries : List Row → List Code
+entries [] = others
+entries (r ∷ rs) = r .code ∷ entries rs
+
+-- 01: "If it gives one code to two of our instructions, .."; it does not: two entries whose bits a word has are one
+abbrev pub NoCodeTwice : Type 0
+NoCodeTwice = (word : ℕ) (c d : Code) → List·Memᴰ c (entries listing) → List·Memᴰ d (entries listing) → EveryBit word c → EveryBit word d → c .number ≡ d .number
+
+-- the legal values of mtype: 8, 16 and 32 bits, 8 bits with maccq; with ELEN 64 also 64 bits, and 16 bits with maccq
+abbrev pub legalValues : (elen : ℕ) → List ℕ
+legalValues elen = 0 ∷ 1 ∷ 2 ∷ 8 ∷ cond (eqb elen 64) (3 ∷ 9 ∷ []) []
+
+-- "An illegal value is no refusal: mtype becomes 2^63."
+abbrev pub TypesAreThese : Type 0
+TypesAreThese = (elen : ℕ) → isIn elen elens ≡ true → (v : ℕ) → newType elen v ≡ cond (isIn v (legalValues elen)) v (2 ^ 63)
+
+-- "Eight tile registers of MLEN bits have MLEN/RLEN rows of RLEN/8 bytes", and two accumulators of four times that: sixteen such tiles
+abbrev pub RegistersFill : Type 0
+RegistersFill = (rlen mlen elen : ℕ) → permitted rlen mlen elen ≡ true → 16 * (mlen / rlen * (rlen / 8)) ≡ registerBytes mlen

@@ -1,0 +1,1 @@
+// Which step gets which answer: what stands in specs/ and proofs/. No code.
