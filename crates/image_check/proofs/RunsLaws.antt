@@ -13,9 +13,8 @@ use Rattle.format.specs.Formats.Format.{number, bytes}
 use Rattle.format.specs.Parser.{Got, readNumber, Parsed, later, parse, from}
 use Rattle.format.specs.Parser.Got.{value, fault}
 use Rattle.format.specs.Parser.Parsed.{whole, stopped}
-use Rattle.reader.specs.declared.Number.{Number}
-use Rattle.reader.specs.declared.Number.the-variants.{Value, Fault}
-use Rattle.reader.specs.At.{numberAt}
+use Rattle.reader.specs.At.{Number, numberAt}
+use Rattle.reader.specs.At.Number.{Value, Fault}
 use Rattle.reader.proofs.FromLaws.{from-number, from-fault, from-bytes, from-short, from-end, from-more, took}
 use Rattle.image.specs.declared.Imaged.the-variants.{Done, Damaged}
 use Rattle.image.specs.Cells.{Run}
@@ -23,9 +22,8 @@ use Rattle.image.specs.Cells.Run.{run}
 use Rattle.image.specs.Images.{Header}
 use Rattle.image.specs.ImageFormat.{Described, runsFormat}
 use Rattle.image.specs.Reading.{verdictOf}
-use Rattle.image_check.specs.declared.runs.Next.{Next}
-use Rattle.image_check.specs.declared.runs.Next.the-variants.{NextRun, NextBad}
-use Rattle.image_check.specs.Parts.{onward, nextAt, describe, noHeader, runsFrom, runsVerdict}
+use Rattle.image_check.specs.Parts.Next.{NextRun, NextBad}
+use Rattle.image_check.specs.Parts.{Next, onward, nextAt, describe, noHeader, runsFrom, runsVerdict}
 
 -- ---- what is built of the runs does not matter to reading them
 

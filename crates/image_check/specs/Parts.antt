@@ -1,78 +1,53 @@
 -- What the parts of a check find, from a place of the input on.
+use mathlib.Core.Path.{_≡_}
 use mathlib.Core.Bool.{Bool, true, false, cond}
 use mathlib.Core.List.{List, [], _∷_}
-use Prim.Native.Nat.{ℕ, zero, suc, _+_, _-_, _*_, _^_, min}
+use Prim.Native.Nat.{ℕ, zero, suc, _+_, _-_, _*_, _^_, _≤_, _<_, min}
 use lib.ListN.{length, drop}
-use lib.Dec.{eqb, leb}
+use lib.Dec.{eqb, leb, ltb}
 use Rattle.format.specs.Parser.{readNumber, Parsed, from}
-use Rattle.reader.specs.declared.Number.{Number}
-use Rattle.reader.specs.declared.Number.the-variants.{Value, Fault}
-use Rattle.reader.specs.At.{found, numberAt}
-use Rattle.machine.specs.Starting.{noMachine}
+use Rattle.reader.specs.At.{Number, found, numberAt}
+use Rattle.reader.specs.At.Number.{Value, Fault}
+use Rattle.machine.specs.declared.Machine.{Machine}
 use Rattle.image.specs.declared.Imaged.{Imaged}
 use Rattle.image.specs.declared.Imaged.the-variants.{Done, BadArguments, NoRoom, Damaged}
 use Rattle.image.specs.Cells.{Run}
 use Rattle.machine.specs.Geometry.{range}
-use Rattle.image.specs.Images.{Seals, Header, machineFrom}
+use Rattle.image.specs.Images.{Seals, Header}
 use Rattle.image.specs.ImageFormat.{Described, topRlen, topMlen, leastMlen, mtypes, counts, runsFormat}
 use Rattle.image.specs.Reading.{verdictOf}
-use Rattle.image_check.specs.declared.head.Version.{Version}
-use Rattle.image_check.specs.declared.head.Version.the-variants.{Versioned, VersionBad}
-use Rattle.image_check.specs.declared.head.Shape.{Shape}
-use Rattle.image_check.specs.declared.head.Shape.the-variants.{Shaped, ShapeBad}
-use Rattle.image_check.specs.declared.head.Tiles.{Tiles}
-use Rattle.image_check.specs.declared.head.Tiles.the-variants.{Tiled, TilesBad}
-use Rattle.image_check.specs.declared.head.Pair.{Pair}
-use Rattle.image_check.specs.declared.head.Pair.the-variants.{Both, PairBad}
-use Rattle.image_check.specs.declared.head.Place.{Place}
-use Rattle.image_check.specs.declared.head.Place.the-variants.{Behind, PlaceBad}
-use Rattle.image_check.specs.declared.head.Ranges.{Ranges}
-use Rattle.image_check.specs.declared.head.Ranges.the-variants.{Ranged, RangesBad}
-use Rattle.image_check.specs.declared.head.Head.{Head}
-use Rattle.image_check.specs.declared.runs.Next.{Next}
-use Rattle.image_check.specs.declared.runs.Next.the-variants.{NextRun, NextBad}
-
--- ---- the numbers, one after the other
+use Rattle.image_check.specs.declared.head.Fields.{Fields}
+use Rattle.image_check.specs.declared.head.Row.{Row}
+use Rattle.image_check.specs.declared.head.RangeRead.{RangeRead}
+use Rattle.image_check.specs.declared.runs.RunRead.{RunRead}
+use Rattle.image_check.specs.declared.runs.Runs.{Runs}
+use Rattle.image_check.specs.declared.scan.Scanned.{Scanned}
 
 -- what follows a number and the place behind it, or the place of its fault
 abbrev pub onward : {R : Type 0} → Number → (bad : ℕ → R) → (good : ℕ → ℕ → R) → R
 onward (Value n at) bad good = good n at
 onward (Fault p) bad good = bad p
 
--- of a version from 3 on the rule and the exponent of ELEN
-unfoldable pub largeAt : List ℕ → (version at : ℕ) → Version
-largeAt s version at =
-    onward (numberAt s at 0 1) VersionBad λ rule a.
-    onward (numberAt s a 5 6) VersionBad λ elen b.
-    Versioned version rule elen b
-
--- of version 2 the rule
-unfoldable pub halvingAt : List ℕ → ℕ → Version
-halvingAt s at = onward (numberAt s at 1 1) VersionBad λ rule a. Versioned 2 rule 5 a
-
--- the version, and what it says of the machine
-unfoldable pub versionIn : List ℕ → Version
-versionIn s =
-    onward (numberAt s 0 1 4) VersionBad λ version at.
-    cond (eqb version 1) (Versioned 1 0 5 at) (cond (eqb version 2) (halvingAt s at) (largeAt s version at))
-
--- the exponents of RLEN and MLEN
-unfoldable pub exponentsAt : List ℕ → (version rule elen at : ℕ) → Shape
-exponentsAt s version rule elen a =
-    onward (numberAt s a (elen + 1) (topRlen version)) ShapeBad λ rlen b.
-    onward (numberAt s b (leastMlen version elen rlen) (topMlen version)) ShapeBad λ mlen e.
-    Shaped version rlen mlen rule elen e
-
-abbrev pub withVersion : List ℕ → Version → Shape
-withVersion s (Versioned version rule elen at) = exponentsAt s version rule elen at
-withVersion s (VersionBad p) = ShapeBad p
-
-unfoldable pub shapeIn : List ℕ → Shape
-shapeIn s = withVersion s (versionIn s)
+-- ---- numbers that are not all those of a span
 
 -- the mtype at a place, by the exponent of ELEN
 unfoldable pub mtypeAt : List ℕ → (elen at : ℕ) → Number
 mtypeAt s elen at = found at (readNumber (mtypes elen) (drop at s))
+
+-- how many ranges there are, as version 4 says
+unfoldable pub countAt : List ℕ → (at : ℕ) → Number
+countAt s at = found at (readNumber counts (drop at s))
+
+-- ---- ranges
+
+-- two numbers and the place behind them, or the place of a fault
+pub data Pair : Type 0 where
+  Both : ℕ → ℕ → ℕ → Pair
+  PairBad : ℕ → Pair
+
+abbrev pub plainRange : Pair → RangeRead
+plainRange (Both start size at) = record { good = true; start = start; size = size; at = at }
+plainRange (PairBad p) = record { good = false; start = 0; size = 0; at = p }
 
 -- two numbers, each up to its most; that of the second by the first
 abbrev pub pairAt : List ℕ → (at most : ℕ) (mostOf : ℕ → ℕ) → Pair
@@ -80,25 +55,6 @@ pairAt s at most mostOf =
     onward (numberAt s at 0 most) PairBad λ x a.
     onward (numberAt s a 0 (mostOf x)) PairBad λ y b.
     Both x y b
-
--- tile_k and tile_n of a machine with so many rows and columns
-unfoldable pub sizesAt : List ℕ → (at rows columns : ℕ) → Pair
-sizesAt s at rows columns = pairAt s at (min rows columns) (λ tileK. columns)
-
-abbrev pub withSizes : (mtype tileM : ℕ) → Pair → Tiles
-withSizes mtype tileM (Both tileK tileN at) = Tiled mtype tileM tileK tileN at
-withSizes mtype tileM (PairBad p) = TilesBad p
-
--- mtype and the tile sizes
-unfoldable pub tilesAt : List ℕ → (elen at rows columns : ℕ) → Tiles
-tilesAt s elen at rows columns =
-    onward (mtypeAt s elen at) TilesBad λ mtype a.
-    onward (numberAt s a 0 rows) TilesBad λ tileM b.
-    withSizes mtype tileM (sizesAt s b rows columns)
-
--- how many ranges there are, and the place of the first: of version 4 as the image says, and else one
-unfoldable pub countAt : List ℕ → (version at : ℕ) → Number
-countAt s version at = cond (eqb version 4) (found at (readNumber counts (drop at s))) (Value 1 at)
 
 -- a range's start and length
 unfoldable pub rangeAt : List ℕ → ℕ → Pair
@@ -109,7 +65,11 @@ abbrev pub past : {R : Type 0} → Pair → (bad : ℕ → R) → (good : ℕ �
 past (Both start size at) bad good = good start size at
 past (PairBad p) bad good = bad p
 
--- the place behind so many ranges
+-- the place behind so many ranges, or the place of a fault
+pub data Place : Type 0 where
+  Behind : ℕ → Place
+  PlaceBad : ℕ → Place
+
 unfoldable pub rangesEnd : List ℕ → (count at : ℕ) → Place
 rangesEnd s zero at = Behind at
 rangesEnd s (suc n) at = past (rangeAt s at) PlaceBad λ start size a. rangesEnd s n a
@@ -119,47 +79,136 @@ unfoldable pub rangesFound : List ℕ → (count at : ℕ) → Seals
 rangesFound s zero at = []
 rangesFound s (suc n) at = past (rangeAt s at) (λ p. []) λ start size a. range start size ∷ rangesFound s n a
 
-abbrev pub withPlace : (count at : ℕ) → Place → Ranges
-withPlace count at (Behind a) = Ranged count at a
-withPlace count at (PlaceBad p) = RangesBad p
+abbrev pub placed : ℕ → Place → Number
+placed at (Behind a) = Value at a
+placed at (PlaceBad p) = Fault p
 
--- the ranges of an image of some version
-unfoldable pub sealsAt : List ℕ → (version at : ℕ) → Ranges
-sealsAt s version at = onward (countAt s version at) RangesBad λ count a. withPlace count a (rangesEnd s count a)
+-- as one number: their place
+unfoldable pub rangesAt : List ℕ → (count at : ℕ) → Number
+rangesAt s count at = placed at (rangesEnd s count at)
 
--- the parts put together: a machine, its ranges, and the number of runs with the place behind it
+-- ---- the fields of a header
+
+abbrev pub fieldsOf : (next at version rule elen rlen mlen mtype tileM tileK tileN seals first runs : ℕ) → Fields
+fieldsOf next at version rule elen rlen mlen mtype tileM tileK tileN seals first runs = record {
+  next = next;
+  at = at;
+  version = version;
+  rule = rule;
+  elen = elen;
+  rlen = rlen;
+  mlen = mlen;
+  mtype = mtype;
+  «tile_m» = tileM;
+  «tile_k» = tileK;
+  «tile_n» = tileN;
+  seals = seals;
+  «seals_at» = first;
+  runs = runs;
+}
+
+-- before the first: what a version that has no such field has in its place, and else any numbers that are permitted
+abbrev pub firstField : Fields
+firstField = fieldsOf 0 0 0 0 5 6 16 0 0 0 0 1 0 0
+
+-- the exponents are always some that are permitted
+pub record FieldsOk (t : Fields) : Type 0 where
+  pub elen-ok : (5 ≤ t .elen) × (t .elen ≤ 6)
+  pub rlen-ok : (6 ≤ t .rlen) × (t .rlen ≤ 12)
+  pub mlen-ok : (t .rlen < t .mlen) × (t .mlen ≤ 16)
+  pub mlen-most : t .next ≤ 4 → t .mlen ≡ 16
+
+abbrev pub leastRule : ℕ → ℕ
+leastRule version = cond (eqb version 2) 1 0
+
+abbrev pub row : (kind low high : ℕ) → Row
+row kind low high = record { kind = kind; low = low; high = high }
+
+-- what the next field may be
+unfoldable pub rowOf : Fields → Row
+rowOf t =
+    cond (eqb (t .next) 0) (row 0 1 4)
+    (cond (eqb (t .next) 1) (row 0 (leastRule (t .version)) 1)
+    (cond (eqb (t .next) 2) (row 0 5 6)
+    (cond (eqb (t .next) 3) (row 0 (suc (t .elen)) (topRlen (t .version)))
+    (cond (eqb (t .next) 4) (row 0 (leastMlen (t .version) (t .elen) (t .rlen)) (topMlen (t .version)))
+    (cond (eqb (t .next) 5) (row 1 (t .elen) 0)
+    (cond (eqb (t .next) 6) (row 0 0 (2 ^ (t .mlen - t .rlen)))
+    (cond (eqb (t .next) 7) (row 0 0 (min (2 ^ (t .mlen - t .rlen)) (2 ^ (t .rlen - 3))))
+    (cond (eqb (t .next) 8) (row 0 0 (2 ^ (t .rlen - 3)))
+    (cond (eqb (t .next) 9) (row 2 0 0)
+    (cond (eqb (t .next) 10) (row 3 (t .seals) 0)
+    (row 0 0 (2 ^ t .mlen))))))))))))
+
+abbrev pub RowOk : Row → Type 0
+RowOk r = r .kind ≡ 1 → (5 ≤ r .low) × (r .low ≤ 6)
+
+-- the number at a place, of those of a row
+unfoldable pub numberIn : List ℕ → ℕ → Row → Number
+numberIn s at r =
+    cond (eqb (r .kind) 0) (numberAt s at (r .low) (r .high))
+    (cond (eqb (r .kind) 1) (mtypeAt s (r .low) at)
+    (cond (eqb (r .kind) 2) (countAt s at) (rangesAt s (r .low) at)))
+
+-- the fields with n for the next
+unfoldable pub putField : Fields → ℕ → Fields
+putField t n =
+    fieldsOf (t .next) (t .at) (new 0 (t .version)) (new 1 (t .rule)) (new 2 (t .elen)) (new 3 (t .rlen)) (new 4 (t .mlen)) (new 5 (t .mtype))
+    (new 6 (t .«tile_m»)) (new 7 (t .«tile_k»)) (new 8 (t .«tile_n»)) (new 9 (t .seals)) (new 10 (t .«seals_at»)) (new 11 (t .runs))
+  where
+    new : ℕ → ℕ → ℕ
+    new f old = cond (eqb (t .next) f) n old
+
+-- the field behind field f, of some version
+unfoldable pub after : (f version : ℕ) → ℕ
+after f version =
+    cond (eqb f 0) (cond (eqb version 1) 3 1)
+    (cond (eqb f 1) (cond (eqb version 2) 3 2)
+    (cond (eqb f 8) (cond (eqb version 4) 9 10)
+    (f + 1)))
+
+abbrev pub movedTo : (next at : ℕ) → Fields → Fields
+movedTo next at t = fieldsOf next at (t .version) (t .rule) (t .elen) (t .rlen) (t .mlen) (t .mtype) (t .«tile_m») (t .«tile_k») (t .«tile_n») (t .seals) (t .«seals_at») (t .runs)
+
+-- one field more, read at a place; 13 at a fault
+unfoldable pub fieldFrom : List ℕ → ℕ → Fields → Fields
+fieldFrom s at t = onward (numberIn s at (rowOf t)) (λ p. movedTo 13 p t) (λ n a. movedTo (after (t .next) (putField t n .version)) a (putField t n))
+
+-- all that are left, at most so many
+unfoldable pub fieldsAll : List ℕ → (most : ℕ) → Fields → Fields
+fieldsAll s zero t = t
+fieldsAll s (suc n) t = cond (ltb (t .next) 12) (fieldsAll s n (fieldFrom s (t .at) t)) t
+
+unfoldable pub fieldsIn : List ℕ → Fields
+fieldsIn s = fieldsAll s 12 firstField
+
+abbrev pub machineOf : Fields → Machine
+machineOf t = record {
+  rlen = 2 ^ t .rlen;
+  mlen = 2 ^ t .mlen;
+  mtype = t .mtype;
+  «tile_m» = t .«tile_m»;
+  «tile_k» = t .«tile_k»;
+  «tile_n» = t .«tile_n»;
+  rule = t .rule;
+  elen = 2 ^ t .elen;
+}
+
+-- the parts put together: a machine and its ranges
 abbrev pub numbersOf : (rule elen rlen mlen mtype tileM tileK tileN : ℕ) → Seals → Header
 numbersOf rule elen rlen mlen mtype tileM tileK tileN seals =
     record { rlen = rlen; mlen = mlen; mtype = mtype; tileM = tileM; tileK = tileK; tileN = tileN; seals = seals; rule = rule; elen = elen }
 
-abbrev pub badHead : ℕ → Head
-badHead p = record { machine = noMachine; seals = 0; «seals_at» = 0; count = Fault p }
-
-abbrev pub withRanges : List ℕ → (rule elen rlen mlen mtype tileM tileK tileN : ℕ) → Ranges → Head
-withRanges s rule elen rlen mlen mtype tileM tileK tileN (Ranged seals from at) = record {
-  machine = machineFrom (numbersOf rule elen rlen mlen mtype tileM tileK tileN (rangesFound s seals from));
-  seals = seals;
-  «seals_at» = from;
-  count = numberAt s at 0 (2 ^ mlen);
-}
-withRanges s rule elen rlen mlen mtype tileM tileK tileN (RangesBad p) = badHead p
-
-abbrev pub withTiles : List ℕ → (version rule elen rlen mlen : ℕ) → Tiles → Head
-withTiles s version rule elen rlen mlen (Tiled mtype tileM tileK tileN at) = withRanges s rule elen rlen mlen mtype tileM tileK tileN (sealsAt s version at)
-withTiles s version rule elen rlen mlen (TilesBad p) = badHead p
-
-unfoldable pub headAt : List ℕ → (version rule elen rlen mlen at : ℕ) → Head
-headAt s version rule elen rlen mlen at = withTiles s version rule elen rlen mlen (tilesAt s elen at (2 ^ (mlen - rlen)) (2 ^ (rlen - 3)))
-
-abbrev pub withShape : List ℕ → Shape → Head
-withShape s (Shaped version rlen mlen rule elen at) = headAt s version rule elen rlen mlen at
-withShape s (ShapeBad p) = badHead p
-
--- all numbers of an image
-unfoldable pub headIn : List ℕ → Head
-headIn s = withShape s (shapeIn s)
-
 -- ---- the runs
+
+-- the gap and the length of a run and the place of its bytes, or the place of a fault
+pub data Next : Type 0 where
+  NextRun : ℕ → ℕ → ℕ → Next
+  NextBad : ℕ → Next
+
+abbrev pub plainRun : Next → RunRead
+plainRun (NextRun gap size at) = record { good = true; gap = gap; size = size; at = at }
+plainRun (NextBad p) = record { good = false; gap = 0; size = 0; at = p }
 
 -- the next of so many runs in room bytes, whose gap is at least least
 unfoldable pub nextAt : (s : List ℕ) (at left least room : ℕ) → Next
@@ -167,6 +216,42 @@ nextAt s at left least room =
     onward (numberAt s at least (room - (1 + 2 * (left - 1)))) NextBad λ gap a.
     onward (numberAt s a 1 (room - (gap + 2 * (left - 1)))) NextBad λ size b.
     cond (leb (b + size) (length s)) (NextRun gap size b) (NextBad (length s))
+
+-- what the code asks of the runs that are left
+abbrev pub RunsOk : List ℕ → ℕ → Runs → Type 0
+RunsOk s at t = (at ≤ length s) × (min (t .kept) 1 + 2 * t .left ≤ t .room + 1) × (t .room < 2 ^ 32) × (t .kept + t .left < 2 ^ 32)
+
+abbrev pub runsOf : (left kept room at place : ℕ) → Runs
+runsOf left kept room at place = record { left = left; kept = kept; room = room; at = at; place = place }
+
+abbrev pub pastRun : Runs → ℕ → Next → Runs
+pastRun t at (NextRun gap size a) = runsOf (t .left - 1) (t .kept + 1) (t .room - (gap + size)) (a + size) (a + size)
+pastRun t at (NextBad p) = runsOf 0 (t .kept) (t .room) at p
+
+-- one run more, read at a place
+unfoldable pub runFrom : List ℕ → ℕ → Runs → Runs
+runFrom s at t = pastRun t at (nextAt s at (t .left) (min (t .kept) 1) (t .room))
+
+-- all that are left, at most so many
+unfoldable pub runsAll : List ℕ → (most : ℕ) → Runs → Runs
+runsAll s zero t = t
+runsAll s (suc n) t = cond (ltb 0 (t .left)) (runsAll s n (runFrom s (t .at) t)) t
+
+-- before the first: none is left where the header is at fault
+unfoldable pub runsBehind : Fields → Runs
+runsBehind f = cond (eqb (f .next) 12) (runsOf (f .runs) 0 (2 * 2 ^ f .mlen) (f .at) (f .at)) (runsOf 0 0 0 (f .at) (f .at))
+
+-- ---- the header, then the runs
+
+unfoldable pub scanIn : List ℕ → Scanned
+scanIn s = record { fields = fieldsIn s; runs = runsAll s (runsBehind (fieldsIn s) .left) (runsBehind (fieldsIn s)) }
+
+-- whether that is an image of so many bytes, or the place of the fault
+unfoldable pub verdictIn : Scanned → ℕ → Imaged
+verdictIn t size =
+    cond (eqb (t .fields .next) 12)
+    (cond (eqb (t .runs .kept) (t .fields .runs)) (cond (eqb (t .runs .place) size) Done (Damaged (t .runs .place))) (Damaged (t .runs .place)))
+    (Damaged (t .runs .place))
 
 abbrev pub describe : Header → List Run → Described
 describe h rs = record { header = h; body = rs }

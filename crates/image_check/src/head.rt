@@ -1,111 +1,65 @@
-// The numbers of an image, up to and with the number of runs.
+// The header of an image: its numbers, field by field, up to and with the number of runs. What a field may be is a row of a table, by the
+// numbers read so far.
 use machine::Machine;
 use machine::smaller;
-use reader::Number;
-use reader::number_from;
+use reader::Reading;
+use reader::fault;
+use reader::found;
+use reader::number_at;
 use reader::wide;
 ghost use mathlib.Core.Path.{_≡_};
 ghost use Prim.Native.Nat.{_^_, _≤_, _<_};
 ghost use Rattle.image.specs.ImageFormat.{topRlen, topMlen, leastMlen};
 ghost use Rattle.machine.specs.Starting.{noMachine};
-ghost use Rattle.image_check.specs.Parts.{largeAt, halvingAt, versionIn, exponentsAt, shapeIn, mtypeAt, sizesAt, tilesAt, countAt, rangeAt, rangesEnd, sealsAt, badHead, headAt, headIn};
+ghost use Rattle.reader.specs.At.{plain};
+ghost use Rattle.image_check.specs.Parts.{mtypeAt, countAt, plainRange, rangeAt, rangesAt, leastRule, row, rowOf, RowOk, numberIn, putField, after, fieldFrom, firstField, FieldsOk, machineOf};
+ghost use Rattle.image_check.specs.Parts.Pair.{PairBad};
 
-// The version, the rule, the exponent of ELEN and the place behind them, or the place of a fault.
-pub enum Version {
-    Versioned(u64, u64, u64, usize),
-    VersionBad(usize),
+// The number behind the last field, and the one that stands for a fault.
+pub const ALL_READ: usize = 12;
+
+const AT_FAULT: usize = 13;
+
+// The fields read so far: the number of the next one, and the place behind them; at a fault the place of it. A field that is not read yet, or
+// that the version does not have, is what it is in `first_field`.
+pub struct Fields {
+    pub next: usize,
+    pub at: usize,
+    pub version: u64, // field 0
+    pub rule: u64, // 1
+    pub elen: u64, // 2: the exponents of ELEN,
+    pub rlen: u64, // 3: RLEN
+    pub mlen: u64, // 4: and MLEN
+    pub mtype: u64, // 5
+    pub tile_m: u64, // 6
+    pub tile_k: u64, // 7
+    pub tile_n: u64, // 8
+    pub seals: u64, // 9: how many ranges there are,
+    pub seals_at: u64, // 10: their place,
+    pub runs: u64, // 11: and how many runs
 }
 
-// The version, the exponents of RLEN and MLEN, the rule, the exponent of ELEN and the place behind them, or the place of a fault.
-pub enum Shape {
-    Shaped(u64, u64, u64, u64, u64, usize),
-    ShapeBad(usize),
+// What may stand in a field, by the kind.
+pub struct Row {
+    pub kind: u64,
+    pub low: u64,
+    pub high: u64,
 }
 
-// Two numbers and the place behind them, or the place of a fault.
-pub enum Pair {
-    Both(u64, u64, usize),
-    PairBad(usize),
-}
+const SPAN: u64 = 0; // a number from low to high
 
-// mtype, tile_m, tile_k, tile_n and the place behind them, or the place of a fault.
-pub enum Tiles {
-    Tiled(u64, u64, u64, u64, usize),
-    TilesBad(usize),
-}
+const MTYPE: u64 = 1; // an mtype, where low is the exponent of ELEN
 
-// The place behind so many ranges, or the place of a fault.
-pub enum Place {
-    Behind(usize),
-    PlaceBad(usize),
-}
+const COUNT: u64 = 2; // how many ranges there are
 
-// The number of ranges, the place of the first and the place behind them, or the place of a fault.
-pub enum Ranges {
-    Ranged(u64, usize, usize),
-    RangesBad(usize),
-}
+const RANGES: u64 = 3; // so many ranges, low of them: the number is their place
 
-// A machine, how many ranges it holds and where they stand, and the number of runs with the place behind it; or the place of a fault, and then
-// the others say nothing.
-pub struct Head {
-    pub machine: Machine,
-    pub seals: u64,
-    pub seals_at: usize,
-    pub count: Number,
-}
-
-// The rule and the exponent of ELEN behind a version from 3 on.
-fn large_at(s: &[u8], version: u64, at: usize) -> Version
-    ensures { λ r. ⌜ r ≡ largeAt (now (s .entry)) version at ⌝ }
-{
-    match number_from(s, at, 0, 1) {
-        Number::Fault(p) => {
-            return Version::VersionBad(p);
-        }
-        Number::Value(rule, a) => match number_from(s, a, 5, 6) {
-            Number::Fault(p) => {
-                return Version::VersionBad(p);
-            }
-            Number::Value(elen, b) => {
-                return Version::Versioned(version, rule, elen, b);
-            }
-        },
-    }
-}
-
-// The rule behind version 2.
-fn halving_at(s: &[u8], at: usize) -> Version
-    ensures { λ r. ⌜ r ≡ halvingAt (now (s .entry)) at ⌝ }
-{
-    match number_from(s, at, 1, 1) {
-        Number::Fault(p) => {
-            return Version::VersionBad(p);
-        }
-        Number::Value(rule, a) => {
-            return Version::Versioned(2, rule, 5, a);
-        }
-    }
-}
-
-// The version at the start of an image, and what it says of the machine.
-fn version_of(s: &[u8]) -> Version
-    ensures { λ r. ⌜ r ≡ versionIn (now (s .entry)) ⌝ }
-{
-    match number_from(s, 0, 1, 4) {
-        Number::Fault(p) => {
-            return Version::VersionBad(p);
-        }
-        Number::Value(version, a) => {
-            if version == 1 {
-                return Version::Versioned(1, 0, 5, a);
-            }
-            if version == 2 {
-                return halving_at(s, a);
-            }
-            return large_at(s, version, a);
-        }
-    }
+// A range of an image: whether it is there, and the place behind it, or that of the fault.
+pub struct RangeRead {
+    pub good: bool,
+    pub start: u64,
+    pub size: u64,
+    pub at: usize,
 }
 
 // The largest exponent of RLEN, by the version.
@@ -139,202 +93,261 @@ fn least_mlen(version: u64, elen: u64, rlen: u64) -> u64
     13
 }
 
-// The exponents of RLEN and MLEN at a place of s.
-fn exponents_at(s: &[u8], version: u64, rule: u64, elen: u64, at: usize) -> Shape
-    requires { ⌜ elen ≤ 6 ⌝ }
-    ensures { λ r. ⌜ r ≡ exponentsAt (now (s .entry)) version rule elen at ⌝ }
-{
-    match number_from(s, at, elen + 1, top_rlen(version)) {
-        Number::Fault(p) => {
-            return Shape::ShapeBad(p);
-        }
-        Number::Value(r, b) => match number_from(
-            s,
-            b,
-            least_mlen(version, elen, r),
-            top_mlen(version),
-        ) {
-            Number::Fault(p) => {
-                return Shape::ShapeBad(p);
-            }
-            Number::Value(m, e) => {
-                return Shape::Shaped(version, r, m, rule, elen, e);
-            }
-        },
-    }
-}
-
-// The version and the exponents at the start of an image.
-fn shape_of(s: &[u8]) -> Shape
-    ensures { λ r. ⌜ r ≡ shapeIn (now (s .entry)) ⌝ }
-{
-    match version_of(s) {
-        Version::VersionBad(p) => {
-            return Shape::ShapeBad(p);
-        }
-        Version::Versioned(version, rule, elen, a) => {
-            return exponents_at(s, version, rule, elen, a);
-        }
-    }
-}
-
 // The mtype at a place of s, by the exponent of ELEN.
-fn mtype_at(s: &[u8], elen: u64, at: usize) -> Number
+fn mtype_at(s: &[u8], elen: u64, at: usize) -> Reading
     requires { ⌜ (5 ≤ elen) × (elen ≤ 6) ⌝ }
-    ensures { λ r. ⌜ r ≡ mtypeAt (now (s .entry)) elen at ⌝ }
+    ensures { λ r. ⌜ r ≡ plain (mtypeAt (now (s .entry)) elen at) ⌝ }
 {
     if at < s.len() {
         let b = wide(s[at]);
         if b < 128 {
             if b <= elen - 3 {
-                return Number::Value(b, at + 1);
+                return found(b, at + 1);
             }
             if b < 8 {
-                return Number::Fault(at);
+                return fault(at);
             }
             if b <= 8 + (elen - 5) {
-                return Number::Value(b, at + 1);
+                return found(b, at + 1);
             }
-            return Number::Fault(at);
+            return fault(at);
         }
         if b == 128 {
-            return number_from(s, at, 9223372036854775808, 9223372036854775808);
+            return number_at(s, at, 9223372036854775808, 9223372036854775808);
         }
-        return Number::Fault(at);
+        return fault(at);
     }
-    Number::Fault(at)
+    fault(at)
 }
 
-// tile_k and tile_n of a machine with so many rows and columns.
-fn sizes_at(s: &[u8], at: usize, rows: u64, columns: u64) -> Pair
-    ensures { λ r. ⌜ r ≡ sizesAt (now (s .entry)) at rows columns ⌝ }
+// The number of ranges of version 4: none, or two to eight.
+fn count_at(s: &[u8], at: usize) -> Reading
+    ensures { λ r. ⌜ r ≡ plain (countAt (now (s .entry)) at) ⌝ }
 {
-    match number_from(s, at, 0, smaller(rows, columns)) {
-        Number::Fault(p) => {
-            return Pair::PairBad(p);
-        }
-        Number::Value(k, a) => match number_from(s, a, 0, columns) {
-            Number::Fault(p) => {
-                return Pair::PairBad(p);
-            }
-            Number::Value(n, b) => {
-                return Pair::Both(k, n, b);
-            }
-        },
-    }
-}
-
-// mtype and the tile sizes.
-fn tiles_at(s: &[u8], elen: u64, at: usize, rows: u64, columns: u64) -> Tiles
-    requires { ⌜ (5 ≤ elen) × (elen ≤ 6) ⌝ }
-    ensures { λ r. ⌜ r ≡ tilesAt (now (s .entry)) elen at rows columns ⌝ }
-{
-    match mtype_at(s, elen, at) {
-        Number::Fault(p) => {
-            return Tiles::TilesBad(p);
-        }
-        Number::Value(t, a) => match number_from(s, a, 0, rows) {
-            Number::Fault(p) => {
-                return Tiles::TilesBad(p);
-            }
-            Number::Value(m, b) => match sizes_at(s, b, rows, columns) {
-                Pair::PairBad(p) => {
-                    return Tiles::TilesBad(p);
-                }
-                Pair::Both(k, n, e) => {
-                    return Tiles::Tiled(t, m, k, n, e);
-                }
-            },
-        },
-    }
-}
-
-// The number of ranges, which version 4 has: none, or two to eight. The others have one range.
-fn count_at(s: &[u8], version: u64, at: usize) -> Number
-    ensures { λ r. ⌜ r ≡ countAt (now (s .entry)) version at ⌝ }
-{
-    if version != 4 {
-        return Number::Value(1, at);
-    }
     if at < s.len() {
         if wide(s[at]) == 1 {
-            return Number::Fault(at);
+            return fault(at);
         }
-        return number_from(s, at, 0, 8);
+        return number_at(s, at, 0, 8);
     }
-    Number::Fault(at)
+    fault(at)
 }
 
 // A range's start and length.
-pub fn range_at(s: &[u8], at: usize) -> Pair
-    ensures { λ r. ⌜ r ≡ rangeAt (now (s .entry)) at ⌝ }
+pub fn range_at(s: &[u8], at: usize) -> RangeRead
+    ensures { λ r. ⌜ r ≡ plainRange (rangeAt (now (s .entry)) at) ⌝ }
 {
-    match number_from(s, at, 0, 18446744073709551615) {
-        Number::Fault(p) => {
-            return Pair::PairBad(p);
-        }
-        Number::Value(start, a) => match number_from(s, a, 0, 18446744073709551615 - start) {
-            Number::Fault(p) => {
-                return Pair::PairBad(p);
-            }
-            Number::Value(size, b) => {
-                return Pair::Both(start, size, b);
-            }
-        },
+    let start = number_at(s, at, 0, 18446744073709551615);
+    if !start.good {
+        return no_range(start.at);
+    }
+    let size = number_at(s, start.at, 0, 18446744073709551615 - start.value);
+    if !size.good {
+        return no_range(size.at);
+    }
+    RangeRead {
+        good: true,
+        start: start.value,
+        size: size.value,
+        at: size.at,
     }
 }
 
-// The place behind so many ranges.
-fn ranges_end(s: &[u8], count: u64, start: usize) -> Place
-    ensures { λ r. ⌜ r ≡ rangesEnd (now (s .entry)) count start ⌝ }
+// No range, and the place of the fault.
+fn no_range(at: usize) -> RangeRead
+    ensures { λ r. ⌜ r ≡ plainRange (PairBad at) ⌝ }
+{
+    RangeRead {
+        good: false,
+        start: 0,
+        size: 0,
+        at: at,
+    }
+}
+
+// So many ranges: their place, and the one behind them.
+fn ranges_at(s: &[u8], count: u64, start: usize) -> Reading
+    ensures { λ r. ⌜ r ≡ plain (rangesAt (now (s .entry)) count start) ⌝ }
 {
     let mut at = start;
     let mut left = count;
     while 0 < left {
-        match range_at(s, at) {
-            Pair::PairBad(p) => {
-                return Place::PlaceBad(p);
-            }
-            Pair::Both(_, _, a) => {
-                at = a;
-                left = left - 1;
-            }
+        let range = range_at(s, at);
+        if !range.good {
+            return fault(range.at);
         }
+        at = range.at;
+        left = left - 1;
     }
-    Place::Behind(at)
-}
-
-// The ranges of an image of some version.
-fn seals_at(s: &[u8], version: u64, at: usize) -> Ranges
-    ensures { λ r. ⌜ r ≡ sealsAt (now (s .entry)) version at ⌝ }
-{
-    match count_at(s, version, at) {
-        Number::Fault(p) => {
-            return Ranges::RangesBad(p);
-        }
-        Number::Value(count, from) => match ranges_end(s, count, from) {
-            Place::PlaceBad(p) => {
-                return Ranges::RangesBad(p);
-            }
-            Place::Behind(b) => {
-                return Ranges::Ranged(count, from, b);
-            }
-        },
-    }
+    found(start as u64, at)
 }
 
 // Two to the power of k.
-fn power(k: u64) -> u64
+pub fn power(k: u64) -> u64
     requires { ⌜ k ≤ 16 ⌝ }
     ensures { λ r. ⌜ r ≡ 2 ^ k ⌝ }
 {
-    let mut x: u64 = 1;
-    let mut i: u64 = 0;
-    while i < k {
-        x = x * 2;
-        i += 1;
+    1 << k
+}
+
+// The least rule, by the version.
+fn least_rule(version: u64) -> u64
+    ensures { λ r. ⌜ r ≡ leastRule version ⌝ }
+{
+    if version == 2 { 1 } else { 0 }
+}
+
+// A row of the table.
+fn permitted(kind: u64, low: u64, high: u64) -> Row
+    ensures { λ r. ⌜ r ≡ row kind low high ⌝ }
+{
+    Row {
+        kind: kind,
+        low: low,
+        high: high,
     }
-    x
+}
+
+// The row of the next field.
+fn row_of(t: Fields) -> Row
+    requires { ⌜ FieldsOk t ⌝ }
+    ensures { λ r. ⌜ r ≡ rowOf t ⌝ }
+{
+    let next = t.next;
+    match next {
+        0 => permitted(SPAN, 1, 4),
+        1 => permitted(SPAN, least_rule(t.version), 1),
+        2 => permitted(SPAN, 5, 6),
+        3 => permitted(SPAN, t.elen + 1, top_rlen(t.version)),
+        4 => permitted(
+            SPAN,
+            least_mlen(t.version, t.elen, t.rlen),
+            top_mlen(t.version),
+        ),
+        5 => permitted(MTYPE, t.elen, 0),
+        6 => permitted(SPAN, 0, power(t.mlen - t.rlen)),
+        7 => permitted(SPAN, 0, smaller(power(t.mlen - t.rlen), power(t.rlen - 3))),
+        8 => permitted(SPAN, 0, power(t.rlen - 3)),
+        9 => permitted(COUNT, 0, 0),
+        10 => permitted(RANGES, t.seals, 0),
+        _ => permitted(SPAN, 0, power(t.mlen)),
+    }
+}
+
+// The number at a place of s, of those of a row.
+fn number_in(s: &[u8], at: usize, row: Row) -> Reading
+    requires { ⌜ RowOk row ⌝ }
+    ensures { λ r. ⌜ r ≡ plain (numberIn (now (s .entry)) at row) ⌝ }
+{
+    if row.kind == SPAN {
+        return number_at(s, at, row.low, row.high);
+    }
+    if row.kind == MTYPE {
+        return mtype_at(s, row.low, at);
+    }
+    if row.kind == COUNT {
+        return count_at(s, at);
+    }
+    ranges_at(s, row.low, at)
+}
+
+// The fields with the next one.
+fn put_field(t: Fields, n: u64) -> Fields
+    requires { ⌜ t .next < 12 ⌝ }
+    ensures { λ r. ⌜ r ≡ putField t n ⌝ }
+{
+    let next = t.next;
+    match next {
+        0 => Fields { version: n, ..t },
+        1 => Fields { rule: n, ..t },
+        2 => Fields { elen: n, ..t },
+        3 => Fields { rlen: n, ..t },
+        4 => Fields { mlen: n, ..t },
+        5 => Fields { mtype: n, ..t },
+        6 => Fields { tile_m: n, ..t },
+        7 => Fields { tile_k: n, ..t },
+        8 => Fields { tile_n: n, ..t },
+        9 => Fields { seals: n, ..t },
+        10 => Fields { seals_at: n, ..t },
+        _ => Fields { runs: n, ..t },
+    }
+}
+
+// The field behind field f: version 1 has no rule, 1 and 2 have no ELEN, and only 4 says how many ranges there are.
+fn after(f: usize, version: u64) -> usize
+    requires { ⌜ f < 12 ⌝ }
+    ensures { λ r. ⌜ r ≡ after f version ⌝ }
+{
+    if f == 0 {
+        return if version == 1 { 3 } else { 1 };
+    }
+    if f == 1 {
+        return if version == 2 { 3 } else { 2 };
+    }
+    if f == 8 {
+        return if version == 4 { 9 } else { 10 };
+    }
+    f + 1
+}
+
+// Reads the next field at a place of s.
+pub fn field_from(s: &[u8], at: usize, t: Fields) -> Fields
+    requires { ⌜ (t .next < 12) × FieldsOk t ⌝ }
+    ensures { λ r. ⌜ r ≡ fieldFrom (now (s .entry)) at t ⌝ }
+{
+    let n = number_in(s, at, row_of(t));
+    if !n.good {
+        return Fields {
+            next: AT_FAULT,
+            at: n.at,
+            ..t
+        };
+    }
+    let x = put_field(t, n.value);
+    Fields {
+        next: after(t.next, x.version),
+        at: n.at,
+        ..x
+    }
+}
+
+// Before the first field.
+pub fn first_field() -> Fields
+    ensures { λ r. ⌜ r ≡ firstField ⌝ }
+{
+    Fields {
+        next: 0,
+        at: 0,
+        version: 0,
+        rule: 0,
+        elen: 5,
+        rlen: 6,
+        mlen: 16,
+        mtype: 0,
+        tile_m: 0,
+        tile_k: 0,
+        tile_n: 0,
+        seals: 1,
+        seals_at: 0,
+        runs: 0,
+    }
+}
+
+// The machine of a header.
+pub fn machine_of(t: Fields) -> Machine
+    requires { ⌜ FieldsOk t ⌝ }
+    ensures { λ r. ⌜ r ≡ machineOf t ⌝ }
+{
+    Machine {
+        rlen: power(t.rlen),
+        mlen: power(t.mlen),
+        mtype: t.mtype,
+        tile_m: t.tile_m,
+        tile_k: t.tile_k,
+        tile_n: t.tile_n,
+        rule: t.rule,
+        elen: power(t.elen),
+    }
 }
 
 // No machine: zeros.
@@ -350,70 +363,5 @@ pub fn no_machine() -> Machine
         tile_n: 0,
         rule: 0,
         elen: 0,
-    }
-}
-
-// A fault at a place.
-fn bad_head(p: usize) -> Head
-    ensures { λ r. ⌜ r ≡ badHead p ⌝ }
-{
-    let count = Number::Fault(p);
-    Head {
-        machine: no_machine(),
-        seals: 0,
-        seals_at: 0,
-        count: count,
-    }
-}
-
-// The numbers behind the exponents.
-fn head_at(s: &[u8], version: u64, rule: u64, elen: u64, rlen: u64, mlen: u64, at: usize) -> Head
-    requires { ⌜ (5 ≤ elen) × (elen ≤ 6) ⌝ }
-    requires { ⌜ (6 ≤ rlen) × (rlen ≤ 12) ⌝ }
-    requires { ⌜ (rlen < mlen) × (mlen ≤ 16) ⌝ }
-    ensures { λ r. ⌜ r ≡ headAt (now (s .entry)) version rule elen rlen mlen at ⌝ }
-{
-    match tiles_at(s, elen, at, power(mlen - rlen), power(rlen - 3)) {
-        Tiles::TilesBad(p) => {
-            return bad_head(p);
-        }
-        Tiles::Tiled(mtype, tile_m, tile_k, tile_n, a) => match seals_at(s, version, a) {
-            Ranges::RangesBad(p) => {
-                return bad_head(p);
-            }
-            Ranges::Ranged(seals, from, b) => {
-                let count = number_from(s, b, 0, power(mlen));
-                let machine = Machine {
-                    rlen: power(rlen),
-                    mlen: power(mlen),
-                    mtype: mtype,
-                    tile_m: tile_m,
-                    tile_k: tile_k,
-                    tile_n: tile_n,
-                    rule: rule,
-                    elen: power(elen),
-                };
-                return Head {
-                    machine: machine,
-                    seals: seals,
-                    seals_at: from,
-                    count: count,
-                };
-            }
-        },
-    }
-}
-
-// The numbers of an image.
-pub fn head_of(s: &[u8]) -> Head
-    ensures { λ r. ⌜ r ≡ headIn (now (s .entry)) ⌝ }
-{
-    match shape_of(s) {
-        Shape::ShapeBad(p) => {
-            return bad_head(p);
-        }
-        Shape::Shaped(version, rlen, mlen, rule, elen, a) => {
-            return head_at(s, version, rule, elen, rlen, mlen, a);
-        }
     }
 }

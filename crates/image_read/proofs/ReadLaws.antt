@@ -14,18 +14,16 @@ use Rattle.format.proofs.FormatLaws.{ParseRight, parse-right}
 use Rattle.machine.specs.declared.Machine.{Machine}
 use Rattle.machine.specs.Starting.{noMachine}
 use Rattle.image.specs.declared.Imaged.{Imaged}
-use Rattle.image.specs.declared.Imaged.the-variants.{Done, BadArguments, Damaged}
+use Rattle.image.specs.declared.Imaged.the-variants.{Done, BadArguments}
 use Rattle.image.specs.Cells.{Run, spread, Fit, over, marksOf}
 use Rattle.image.specs.Images.{Seals}
 use Rattle.image.specs.ImageFormat.{Described, total, imageFormat}
-use Rattle.image.specs.Reading.{verdictOf, restored, readAs, readImage}
+use Rattle.image.specs.Reading.{verdictOf, checkImage, restored, readAs, readImage}
 use Rattle.image.proofs.ImageLaws.{image-live, image-out}
 use Rattle.image.proofs.Images.{fits-true, read-done, read-unfit}
-use Rattle.reader.specs.declared.Number.the-variants.{Fault}
-use Rattle.image_check.specs.declared.head.Head.{Head}
-use Rattle.image_check.specs.Parts.{rangesEnd, rangesFound, headIn, describe, runsFrom, runsVerdict, imageDone}
+use Rattle.image_check.specs.Parts.{rangesEnd, rangesFound, describe, runsFrom, runsVerdict, imageDone}
 use Rattle.image_check.proofs.RunsLaws.{mapped}
-use Rattle.image_check.proofs.HeadLaws.{HeadedOk, head-bad, head-parse}
+use Rattle.image_check.proofs.HeadLaws.{HeadedOk, head-parse}
 use Rattle.image_read.specs.declared.Found.{Found}
 use Rattle.image_read.specs.Parts.{bodyOf, bodyAt, ones, Ends, Stand, foundAs}
 use Rattle.image_read.proofs.FillLaws.{marks-ones}
@@ -55,10 +53,14 @@ none-stand s e = subst (λ (r : Found). Stand s (r .seals) (r .«seals_at»)) (s
 pub they-stand : (s : List ℕ) (m : Machine) (n f c a : ℕ) → HeadedOk s m n f c a → Stand s n f
 they-stand s m n f c a h = record { few = h .seals-few; ends = subst Ends (sym (h .seals-end .1)) tt }
 
--- numbers at fault
-pub read-bad : (s registers marks : List ℕ) (h : Head) → h ≡ headIn s → (p : ℕ) → h .count ≡ Fault p → restored (Damaged p) noMachine [] registers marks ≡ readImage s registers marks
-unfolding readImage
-read-bad s registers marks h is p e = ap (λ (q : Parsed Described). readAs q registers marks) (sym (head-bad s h is p e))
+-- refused for the image
+pub read-refused : (s registers marks : List ℕ) (v : Imaged) → v ≡ checkImage s → imageDone v ≡ false → restored v noMachine [] registers marks ≡ readImage s registers marks
+unfolding readImage checkImage
+read-refused s registers marks v is f = go (parse imageFormat s) is
+  where
+    go : (q : Parsed Described) → v ≡ verdictOf q → restored v noMachine [] registers marks ≡ readAs q registers marks
+    go (whole d) e = absurd (true≢false (sym (ap imageDone e) ∙ f))
+    go (stopped p) e = ap (λ (x : Imaged). restored x noMachine [] registers marks) e
 
 module _ (s : List ℕ) (m : Machine) (n i c a : ℕ) (h : HeadedOk s m n i c a) (v : Imaged) (is : v ≡ runsVerdict s a c 0 (2 * m .mlen)) where
   abbrev runsLeft : Parsed Described
@@ -66,17 +68,6 @@ module _ (s : List ℕ) (m : Machine) (n i c a : ℕ) (h : HeadedOk s m n i c a)
 
   abbrev built : Parsed Described → Parsed Described
   built = mapped (λ d. describe (h .header) (d .body))
-
-  -- runs at fault
-  pub read-wrong : (registers marks : List ℕ) → imageDone v ≡ false → restored v noMachine [] registers marks ≡ readImage s registers marks
-  unfolding readImage runsVerdict
-  read-wrong registers marks f = go runsLeft refl
-    where
-      go : (q : Parsed Described) → runsLeft ≡ q → restored v noMachine [] registers marks ≡ readAs (parse imageFormat s) registers marks
-      go (whole d) e = absurd (true≢false (sym (ap imageDone (is ∙ ap verdictOf e)) ∙ f))
-      go (stopped p) e =
-          ap (λ (x : Imaged). restored x noMachine [] registers marks) (is ∙ ap verdictOf e)
-          ∙ ap (λ (q : Parsed Described). readAs q registers marks) (sym (head-parse s m n i c a h ∙ ap built e))
 
   module _ (f : imageDone v ≡ true) where
     pub runs-done : runsVerdict s a c 0 (2 * m .mlen) ≡ Done

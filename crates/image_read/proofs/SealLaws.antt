@@ -11,11 +11,9 @@ use Rattle.width.specs.Tile.{putLe}
 use Rattle.machine.specs.Geometry.{Range, range}
 use Rattle.ranges.specs.Ranges.{putRange, putSeals}
 use Rattle.image.specs.Images.{Seals}
-use Rattle.image_check.specs.declared.head.Pair.{Pair}
-use Rattle.image_check.specs.declared.head.Pair.the-variants.{Both, PairBad}
-use Rattle.image_check.specs.declared.head.Place.{Place}
-use Rattle.image_check.specs.declared.head.Place.the-variants.{PlaceBad}
-use Rattle.image_check.specs.Parts.{rangeAt, past, rangesEnd, rangesFound}
+use Rattle.image_check.specs.Parts.Pair.{Both, PairBad}
+use Rattle.image_check.specs.Parts.Place.{PlaceBad}
+use Rattle.image_check.specs.Parts.{Pair, rangeAt, past, rangesEnd, rangesFound}
 use Rattle.image_check.proofs.HeadLaws.{ranges-bad, ranges-next, found-next}
 use Rattle.image_read.specs.Parts.{Ends, putRanges}
 

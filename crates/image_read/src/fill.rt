@@ -1,5 +1,4 @@
 // The runs of an image into registers and marks.
-use image_check::runs::Next;
 use image_check::runs::next_run;
 use reader::copy_bytes;
 ghost use mathlib.Core.Path.{_≡_};
@@ -23,7 +22,7 @@ pub fn put_marks(marks: &mut [u8], at: usize, n: usize, value: u8)
     }
 }
 
-// Fills the runs that check_runs found sound into registers and marks.
+// Fills the runs that a scan found sound into registers and marks.
 pub fn fill_runs(s: &[u8], start: usize, count: u64, registers: &mut [u8], marks: &mut [u8])
     requires { ⌜ start ≤ length (now s) ⌝ }
     requires { ⌜ 2 * count ≤ length (now registers) + 1 ⌝ }
@@ -40,20 +39,18 @@ pub fn fill_runs(s: &[u8], start: usize, count: u64, registers: &mut [u8], marks
     let mut least: u64 = 0;
     let mut to: usize = 0;
     while 0 < left {
-        match next_run(s, at, left, least, (registers.len() - to) as u64) {
-            Next::NextBad(_) => {
-                return;
-            }
-            Next::NextRun(gap, size, from) => {
-                let n = size as usize;
-                let first = to + gap as usize;
-                copy_bytes(registers, first, s, from, n);
-                put_marks(marks, first, n, 1);
-                at = from + n;
-                to = first + n;
-                least = 1;
-                left = left - 1;
-            }
+        let run = next_run(s, at, left, least, (registers.len() - to) as u64);
+        if !run.good {
+            return;
         }
+        let from = run.at;
+        let n = run.size as usize;
+        let first = to + run.gap as usize;
+        copy_bytes(registers, first, s, from, n);
+        put_marks(marks, first, n, 1);
+        at = from + n;
+        to = first + n;
+        least = 1;
+        left = left - 1;
     }
 }

@@ -5,12 +5,12 @@ use fill::put_marks;
 use image::Imaged;
 use image::Restored;
 use image_check::check_image;
-use image_check::head::head_of;
+use image_check::head::machine_of;
 use image_check::head::no_machine;
 use image_check::is_done;
-use image_check::runs::check_runs;
+use image_check::scan::scan;
+use image_check::verdict_of;
 use machine::Machine;
-use reader::Number;
 use seals::put_seals;
 ghost use mathlib.Core.Path.{_≡_};
 ghost use Rattle.image.specs.Reading.{readImage};
@@ -47,35 +47,28 @@ fn read_runs(image: &[u8], registers: &mut [u8], marks: &mut [u8]) -> Found
         ≡ readImage (now (image .entry)) (now (registers .entry)) (now (marks .entry)) ⌝ }
     ensures { λ r. ⌜ Stand (now (image .entry)) (r .seals) (r .«seals_at») ⌝ }
 {
-    let head = head_of(image);
-    let machine = head.machine;
-    let numbers = head.count;
-    match numbers {
-        Number::Fault(p) => {
-            return refused(Imaged::Damaged { place: p as u64 });
-        }
-        Number::Value(count, at) => {
-            let total = 2 * machine.mlen;
-            let verdict = check_runs(image, at, count, total);
-            if !is_done(verdict) {
-                return refused(verdict);
-            }
-            if registers.len() as u64 != total {
-                return refused(Imaged::BadArguments);
-            }
-            if marks.len() as u64 != total {
-                return refused(Imaged::BadArguments);
-            }
-            let n = marks.len();
-            put_marks(marks, 0, n, 0);
-            fill_runs(image, at, count, registers, marks);
-            return Found {
-                answer: Imaged::Done,
-                machine: machine,
-                seals: head.seals,
-                seals_at: head.seals_at,
-            };
-        }
+    let found = scan(image);
+    let verdict = verdict_of(found, image.len());
+    if !is_done(verdict) {
+        return refused(verdict);
+    }
+    let fields = found.fields;
+    let machine = machine_of(fields);
+    let total = 2 * machine.mlen;
+    if registers.len() as u64 != total {
+        return refused(Imaged::BadArguments);
+    }
+    if marks.len() as u64 != total {
+        return refused(Imaged::BadArguments);
+    }
+    let n = marks.len();
+    put_marks(marks, 0, n, 0);
+    fill_runs(image, fields.at, fields.runs, registers, marks);
+    Found {
+        answer: Imaged::Done,
+        machine: machine,
+        seals: fields.seals,
+        seals_at: fields.seals_at as usize,
     }
 }
 

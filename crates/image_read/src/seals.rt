@@ -1,6 +1,5 @@
 // The ranges of an image into a machine's block.
 use element::write8;
-use image_check::head::Pair;
 use image_check::head::range_at;
 use ranges::clear_slots;
 use ranges::put_range;
@@ -19,16 +18,13 @@ fn put_ranges(s: &[u8], first: usize, count: usize, block: &mut [u8])
     let mut at = first;
     let mut i: usize = 0;
     while i < count {
-        match range_at(s, at) {
-            Pair::PairBad(_) => {
-                return;
-            }
-            Pair::Both(start, size, next) => {
-                put_range(block, i, start, size);
-                at = next;
-                i += 1;
-            }
+        let range = range_at(s, at);
+        if !range.good {
+            return;
         }
+        put_range(block, i, range.start, range.size);
+        at = range.at;
+        i += 1;
     }
 }
 

@@ -13,9 +13,8 @@ use Rattle.format.specs.Numbers.{span}
 use Rattle.format.specs.Parser.{Got, readNumber, isAmong, nonempty, afters, grow}
 use Rattle.format.specs.Parser.Got.{value, fault}
 use Rattle.format.proofs.NumberLaws.{reads-more}
-use Rattle.reader.specs.At.{found, numberAt}
-use Rattle.reader.specs.declared.Number.{Number}
-use Rattle.reader.specs.declared.Number.the-variants.{Value, Fault}
+use Rattle.reader.specs.At.{Number, found, numberAt}
+use Rattle.reader.specs.At.Number.{Value, Fault}
 
 -- the same behind groups that spell v, where the next counts u times
 abbrev pub foundAfter : ℕ → ℕ → ℕ → Got → Number
@@ -97,3 +96,14 @@ pub bound-more : (v u hi b hi′ high : ℕ) → v + u * hi ≤ high → 128 ≤
 bound-more v u hi b hi′ high h k e p =
     let w : u * ((b - 128) + 128 * hi′) ≤ u * hi = mul-le-mul-left u (omega arith) in
     omega arith
+
+-- ---- a number of one group
+module _ (s : List ℕ) (at low high b : ℕ) (h : at < length s) (is : b ≡ getD s at 0) (k : b < 128) where
+  pub one-low : b < low → Fault at ≡ numberAt s at low high
+  one-low a = turn-low s at 0 1 low high b _ (rest-first s at low high) h is k a
+
+  pub one-high : low ≤ b → high < b → Fault at ≡ numberAt s at low high
+  one-high a d = turn-high s at 0 1 low high b _ (rest-first s at low high) h is k a d
+
+  pub one-last : low ≤ b → b ≤ high → Value b (at + 1) ≡ numberAt s at low high
+  one-last a d = ap (λ (x : ℕ). Value x (at + 1)) {x = b} {y = 0 + 1 * b} (omega arith) ∙ turn-last s at 0 1 low high b _ (rest-first s at low high) h is k a d

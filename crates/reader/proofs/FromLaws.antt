@@ -16,8 +16,19 @@ use Rattle.format.specs.Parser.{isAmong, nonempty, afters, Got, grow, readNumbe
 use Rattle.format.specs.Parser.Got.{value, fault}
 use Rattle.format.specs.Parser.Parsed.{whole, stopped}
 use Rattle.format.proofs.NumberLaws.{isAmong-among}
-use Rattle.reader.specs.At.{found, numberAt}
-use Rattle.reader.specs.declared.Number.the-variants.{Value, Fault}
+use Rattle.reader.specs.declared.Reading.{Reading}
+use Rattle.reader.specs.At.{Number, plain, found, numberAt}
+use Rattle.reader.specs.At.Number.{Value, Fault}
+
+-- ---- what the code has of it
+
+pub good-is : (r : Reading) (q : Number) → r ≡ plain q → r .good ≡ true → q ≡ Value (r .value) (r .at)
+good-is r (Value n a) e g = cc
+good-is r (Fault p) e g = let z : _≡_ {A = ℕ} 0 1 = ap (λ (b : Bool). cond b 1 0) (sym (ap (λ (x : Reading). x .good) e) ∙ g) in absurd (omega arith)
+
+pub bad-is : (r : Reading) (q : Number) → r ≡ plain q → r .good ≡ false → q ≡ Fault (r .at)
+bad-is r (Value n a) e g = let z : _≡_ {A = ℕ} 0 1 = ap (λ (b : Bool). cond b 1 0) (sym g ∙ ap (λ (x : Reading). x .good) e) in absurd (omega arith)
+bad-is r (Fault p) e g = cc
 
 -- ---- what a number that was read is known to be
 

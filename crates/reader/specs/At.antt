@@ -1,14 +1,24 @@
 -- The number at a place of a slice, as the code answers it.
+use mathlib.Core.Bool.{true, false}
 use mathlib.Core.List.{List}
 use Prim.Native.Nat.{ℕ, _+_}
 use lib.ListN.{drop}
 use Rattle.format.specs.Numbers.{span}
 use Rattle.format.specs.Parser.{Got, readNumber}
 use Rattle.format.specs.Parser.Got.{value, fault}
-use Rattle.reader.specs.declared.Number.{Number}
-use Rattle.reader.specs.declared.Number.the-variants.{Value, Fault}
+use Rattle.reader.specs.declared.Reading.{Reading}
 
--- what was found behind so many bytes: the number with the place behind it, or the place of the fault
+-- a number with the place behind it, or the place of the fault
+pub data Number : Type 0 where
+  Value : ℕ → ℕ → Number
+  Fault : ℕ → Number
+
+-- the code has it as plain data
+abbrev pub plain : Number → Reading
+plain (Value n at) = record { good = true; value = n; at = at }
+plain (Fault p) = record { good = false; value = 0; at = p }
+
+-- what was found behind so many bytes
 abbrev pub found : ℕ → Got → Number
 found at (value n k) = Value n (at + k)
 found at (fault p) = Fault (at + p)

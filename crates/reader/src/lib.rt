@@ -4,12 +4,37 @@ ghost use Prim.Native.Nat.{_+_, _-_, _/_, _<_, _≤_, max};
 ghost use lib.ListN.{length, take, drop};
 ghost use lib.Seq.{sets};
 ghost use Rattle.format.specs.Numbers.{encode};
-ghost use Rattle.reader.specs.At.{numberAt};
+ghost use Rattle.reader.specs.At.{plain, numberAt};
+ghost use Rattle.reader.specs.At.Number.{Value, Fault};
 
-// What is read at a place: a number and the place behind it, or the place of the first byte at which no permitted number can go on.
-pub enum Number {
-    Value(u64, usize),
-    Fault(usize),
+// What is read at a place: a permitted number and the place behind it; or that none is there, and the place of the first byte at which none can
+// go on.
+pub struct Reading {
+    pub good: bool,
+    pub value: u64,
+    pub at: usize,
+}
+
+// A number, and the place behind it.
+pub fn found(value: u64, at: usize) -> Reading
+    ensures { λ r. ⌜ r ≡ plain (Value value at) ⌝ }
+{
+    Reading {
+        good: true,
+        value: value,
+        at: at,
+    }
+}
+
+// No number, and the place of the fault.
+pub fn fault(at: usize) -> Reading
+    ensures { λ r. ⌜ r ≡ plain (Fault at) ⌝ }
+{
+    Reading {
+        good: false,
+        value: 0,
+        at: at,
+    }
 }
 
 // A byte as a number.
@@ -40,9 +65,9 @@ fn most_after(hi: u64, g: u64) -> u64
     (hi - g) / 128
 }
 
-// The number from low to high at a place of s.
-fn number_at(s: &[u8], at: usize, low: u64, high: u64) -> Number
-    ensures { λ r. ⌜ r ≡ numberAt (now (s .entry)) at low high ⌝ }
+// The number from low to high at a place of s, group by group.
+fn long_at(s: &[u8], at: usize, low: u64, high: u64) -> Reading
+    ensures { λ r. ⌜ r ≡ plain (numberAt (now (s .entry)) at low high) ⌝ }
 {
     let mut i = at;
     let mut lo = low;
@@ -53,18 +78,18 @@ fn number_at(s: &[u8], at: usize, low: u64, high: u64) -> Number
         let b = wide(s[i]);
         if b < 128 {
             if b < lo {
-                return Number::Fault(i);
+                return fault(i);
             }
             if hi < b {
-                return Number::Fault(i);
+                return fault(i);
             }
-            return Number::Value(value + unit * b, i + 1);
+            return found(value + unit * b, i + 1);
         }
         let g = b - 128;
         let next_lo = least_after(lo, g);
         let next_hi = most_after(hi, g);
         if next_hi < next_lo {
-            return Number::Fault(i);
+            return fault(i);
         }
         value = value + g * unit;
         unit = unit * 128;
@@ -72,7 +97,26 @@ fn number_at(s: &[u8], at: usize, low: u64, high: u64) -> Number
         hi = next_hi;
         i += 1;
     }
-    Number::Fault(i)
+    fault(i)
+}
+
+// The number from low to high at a place of s; most take one byte.
+pub fn number_at(s: &[u8], at: usize, low: u64, high: u64) -> Reading
+    ensures { λ r. ⌜ r ≡ plain (numberAt (now (s .entry)) at low high) ⌝ }
+{
+    if at < s.len() {
+        let b = wide(s[at]);
+        if b < 128 {
+            if b < low {
+                return fault(at);
+            }
+            if high < b {
+                return fault(at);
+            }
+            return found(b, at + 1);
+        }
+    }
+    long_at(s, at, low, high)
 }
 
 // A reader set on an image, which remembers how far it has read.
@@ -86,27 +130,6 @@ pub fn set_on<'a>(image: &'a [u8]) -> Reader<'a>
     ensures { λ r. ⌜ (r .image ≡ image .entry) × (r .at ≡ 0) ⌝ }
 {
     Reader { image, at: 0 }
-}
-
-// The reader at another place.
-pub fn moved<'a>(r: Reader<'a>, at: usize) -> Reader<'a>
-    ensures { λ q. ⌜ (q .image ≡ r .entry .image) × (q .at ≡ at) ⌝ }
-{
-    Reader { image: r.image, at }
-}
-
-// The number from low to high at the reader's place.
-pub fn next_number<'a>(r: Reader<'a>, low: u64, high: u64) -> Number
-    ensures { λ n. ⌜ n ≡ numberAt (now (r .entry .image)) (r .entry .at) low high ⌝ }
-{
-    number_at(r.image, r.at, low, high)
-}
-
-// The number from low to high at a place of s, by a reader set on s.
-pub fn number_from(s: &[u8], at: usize, low: u64, high: u64) -> Number
-    ensures { λ n. ⌜ n ≡ numberAt (now (s .entry)) at low high ⌝ }
-{
-    next_number(moved(set_on(s), at), low, high)
 }
 
 // How many bytes a number takes.

@@ -24,16 +24,15 @@ use Rattle.image.specs.Cells.Run.{run}
 use Rattle.image.specs.Images.{Header, version, fields, runsBytes, spelled}
 use Rattle.image.specs.ImageFormat.{Described, total, headFormat, imageFormat}
 use Rattle.image.proofs.ImageLaws.{image-out}
-use Rattle.reader.specs.declared.Number.the-variants.{Fault}
-use Rattle.image_check.specs.declared.head.Head.{Head}
-use Rattle.image_check.specs.Parts.{headIn, describe, runsFrom}
+use Rattle.image_check.specs.declared.head.Fields.{Fields}
+use Rattle.image_check.specs.Parts.{fieldsIn, describe, runsFrom}
 use Rattle.image_check.proofs.RunsLaws.{mapped}
-use Rattle.image_check.proofs.HeadLaws.{HeadedOk, head-stops, head-bad, head-parse}
+use Rattle.image_check.proofs.HeadLaws.{HeadedOk, head-parse}
+use Rattle.image_check.proofs.FieldLaws.{head-stops, head-bad}
 use Rattle.salvage.specs.Fronts.{Front, front}
 use Rattle.salvage.specs.Fronts.Front.{ahead, stuck}
 use Rattle.salvage.specs.Salvage.{placeOf, placeIn, Announced, announcedFormat, oneRun, runsKept, Kept, keptFrom, keptIn, SalvageOutcome, salvaged, salvageOf, salvage}
-use Rattle.salvage.specs.declared.keep.Tally.{Tally}
-use Rattle.salvage.specs.Parts.{placeAt, keptAt, tallyAt, freshAt, rescued}
+use Rattle.salvage.specs.Parts.{Tally, placeAt, keptAt, tallyAt, freshAt, rescued}
 use Rattle.salvage.proofs.FrontLaws.{bytes-drop, take-before, front-ahead, onto}
 use Rattle.salvage.proofs.KeepLaws.{run-bytes, kept-ahead, kept-stuck, follows, head-then, stopped-never, whole-one, runs-of, unlater, place-later}
 use Rattle.salvage.proofs.Keeps.{accepts-bytes, behindHead, head-parses, place-ends}
@@ -204,25 +203,25 @@ announced h c = record { header = h; count = c }
 
 module _ (s : List ℕ) (b : Bytes s) where
   -- a header at fault
-  front-bad : (H : Head) → H ≡ headIn s → (p : ℕ) → H .count ≡ Fault p → keptIn s ≡ none
+  front-bad : (H : Fields) → H ≡ fieldsIn s → ¬ (H .next ≡ 12) → keptIn s ≡ none
   unfolding keptIn
-  front-bad H is p e = go (front announcedFormat s) refl
+  front-bad H is e = go (front announcedFormat s) refl
     where
       go : (q : Front Announced) → front announcedFormat s ≡ q → keptFrom s q ≡ none
       go (stuck q) h = refl
       go (ahead a k) h =
           let A = front-ahead announcedFormat s b a k h in
           let r : ℕ = length s - k in
-          let one : parse (headFormat (telling r)) s ≡ stopped p = sym (from-start s (headFormat (telling r))) ∙ head-stops s H is p e (telling r) in
+          let one : parse (headFormat (telling r)) s ≡ stopped (H .at) = sym (from-start s (headFormat (telling r))) ∙ head-stops s H is e (telling r) in
           let two : parse (headFormat (telling r)) s ≡ later k (parse (telling r (a .header) (a .count)) (drop k s)) = head-then (telling r) s ∙ ap (onto (follows (telling r)) s) h in
           let three : later k (parse (telling r (a .header) (a .count)) (drop k s)) ≡ whole (describe (a .header) (replicate (a .count) (run 0 []))) =
           ap (later k) (tells r (a .header) (a .count) (drop k s) (length-drop k s)) in
-          absurd (stopped-never (describe (a .header) (replicate (a .count) (run 0 []))) p (sym one ∙ two ∙ three))
+          absurd (stopped-never (describe (a .header) (replicate (a .count) (run 0 []))) (H .at) (sym one ∙ two ∙ three))
 
-  pub salvage-bad : (H : Head) → H ≡ headIn s → (p : ℕ) (room : List ℕ) → H .count ≡ Fault p → salvaged (Damaged p) 0 0 p 0 room ≡ salvage s room
+  pub salvage-bad : (H : Fields) → H ≡ fieldsIn s → (room : List ℕ) → ¬ (H .next ≡ 12) → salvaged (Damaged (H .at)) 0 0 (H .at) 0 room ≡ salvage s room
   unfolding salvage placeIn
-  salvage-bad H is p room e =
-      sym (ap₂ (λ (x : ℕ) (y : Option Kept). salvageOf x y room) (ap (placeOf s) (head-bad s H is p e)) (front-bad H is p e))
+  salvage-bad H is room e =
+      sym (ap₂ (λ (x : ℕ) (y : Option Kept). salvageOf x y room) (ap (placeOf s) (head-bad s H is e)) (front-bad H is e))
 
   module _ (m : Machine) (n f c at : ℕ) (h : HeadedOk s m n f c at) where
     pub front-good : front announcedFormat s ≡ ahead (announced (h .header) c) at

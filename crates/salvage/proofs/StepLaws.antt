@@ -2,21 +2,20 @@
 use mathlib.Core.Path.{_≡_, refl, sym, ap, ap₂, _∙_, subst}
 use mathlib.Core.Bool.{Bool, true, false, cond}
 use mathlib.Core.List.{List, [], _∷_, _++_}
-use Prim.Native.Nat.{ℕ, suc, _+_, _-_, _*_, _≤_, _<_}
+use Prim.Native.Nat.{ℕ, zero, suc, _+_, _-_, _*_, _^_, _≤_, _<_, min}
 use native.Mathlib.Omega.{arith}
 use lib.Dec.{leb, ltb}
 use lib.ListN.{length, take, drop, getD, length-append, length-drop}
 use lib.Seq.{length-take-le, drop-drop}
-use borrow.Author.Tests.{leb-true, leb-false, le-leb, lt-leb, ltb-true, ltb-false}
+use borrow.Author.Tests.{leb-true, leb-false, le-leb, lt-leb, lt-ltb, le-ltb, ltb-true, ltb-false}
 use Rattle.format.specs.Numbers.{Range, span, encode, Bytes}
 use Rattle.format.specs.Formats.{Format}
 use Rattle.format.specs.Formats.Format.{done, number, bytes}
 use Rattle.format.specs.Parser.{Got, readNumber, Parsed, from}
 use Rattle.format.specs.Parser.Got.{value, fault}
 use Rattle.format.specs.Parser.Parsed.{whole, stopped}
-use Rattle.reader.specs.declared.Number.{Number}
-use Rattle.reader.specs.declared.Number.the-variants.{Value, Fault}
-use Rattle.reader.specs.At.{found, numberAt}
+use Rattle.reader.specs.At.{Number, found, numberAt}
+use Rattle.reader.specs.At.Number.{Value, Fault}
 use Rattle.reader.proofs.FromLaws.{from-end, from-more, took}
 use Rattle.image.specs.declared.Imaged.the-variants.{Damaged}
 use Rattle.image.specs.Cells.{Run}
@@ -24,15 +23,18 @@ use Rattle.image.specs.Cells.Run.{run}
 use Rattle.image.specs.Images.{runsBytes}
 use Rattle.image.specs.ImageFormat.{Described, runsFormat}
 use Rattle.image.specs.Reading.{verdictOf}
-use Rattle.image_check.specs.declared.runs.Next.{Next}
-use Rattle.image_check.specs.declared.runs.Next.the-variants.{NextRun, NextBad}
-use Rattle.image_check.specs.Parts.{onward, nextAt, runsFrom, runsVerdict}
+use Rattle.image_check.specs.declared.runs.Runs.{Runs}
+use Rattle.image_check.specs.declared.scan.Scanned.{Scanned}
+use Rattle.image_check.specs.Parts.{Next, onward, nextAt, runsFrom, runsVerdict, runsOf, pastRun, runFrom, runsAll, scanIn}
+use Rattle.image_check.specs.Parts.Next.{NextRun, NextBad}
 use Rattle.image_check.proofs.RunsLaws.{mapped, plain, cons, RunOk, next-bad, next-known}
+use Rattle.image_check.proofs.HeadLaws.{head-sizes}
+use Rattle.image_check.proofs.ScanLaws.{Sound, run-ok}
+use Rattle.image_check.proofs.CheckLaws.{scan-headed, scan-runs, scan-sound}
 use Rattle.salvage.specs.Fronts.{Front, behind, front}
 use Rattle.salvage.specs.Fronts.Front.{ahead, stuck}
 use Rattle.salvage.specs.Salvage.{placeOf, oneRun, runsKept}
-use Rattle.salvage.specs.declared.keep.Tally.{Tally}
-use Rattle.salvage.specs.Parts.{placeAt, keptAt}
+use Rattle.salvage.specs.Parts.{placeAt, keptAt, Tally, tallyAt}
 use Rattle.salvage.proofs.FrontLaws.{bytes-drop}
 use Rattle.salvage.proofs.KeepLaws.{run-bytes, kept-ahead, kept-stuck}
 
@@ -201,5 +203,81 @@ pub bytes-all : (s : List ℕ) → ((q : ℕ) → getD s q 0 < 256) → Bytes s
 bytes-all [] h = tt
 bytes-all (b ∷ s) h = (h 0, bytes-all s (λ q. h (suc q)))
 
-pub tally-is : (a b c x y z : ℕ) → a ≡ x → b ≡ y → c ≡ z → _≡_ {A = Tally} (record { runs = a; end = b; place = c }) (record { runs = x; end = y; place = z })
+tally-is : (a b c x y z : ℕ) → a ≡ x → b ≡ y → c ≡ z → _≡_ {A = Tally} (record { runs = a; end = b; place = c }) (record { runs = x; end = y; place = z })
 tally-is a b c x y z p q r = cc
+
+-- ---- all runs that a scan reads
+
+module _ (s : List ℕ) (bytes-ok : Bytes s) where
+  none-more : (n : ℕ) (u : Runs) → u .left ≡ 0 → runsAll s n u ≡ u
+  unfolding runsAll
+  none-more zero u e = refl
+  none-more (suc n) u e = rw (le-ltb 0 (u .left) (omega (arith, e)))
+
+  -- what is kept of those that are left
+  abbrev keptFor : Runs → List Run
+  keptFor t = keptAt s (t .at) (t .left) (min (t .kept) 1) (t .room)
+
+  record Tallied (t r : Runs) : Type 0 where
+    kept-is : r .kept ≡ t .kept + length (keptFor t)
+    end-is : r .at ≡ t .at + length (runsBytes (keptFor t))
+    place-is : r .place ≡ placeAt s (t .at) (t .left) (min (t .kept) 1) (t .room)
+
+  tally-all : (n : ℕ) (t : Runs) → t .left ≡ n → t .at ≤ length s → Sound s t → t .place ≡ t .at → Tallied t (runsAll s n t)
+  unfolding runsAll runFrom
+  tally-all zero t e there ok same =
+      let none : keptFor t ≡ [] = kept-none s (t .at) (t .left) (min (t .kept) 1) (t .room) e in
+      record {
+        kept-is = omega (arith, ap length none);
+        end-is = omega (arith, ap (λ (rs : List Run). length (runsBytes rs)) none);
+        place-is = same ∙ sym (place-none s (t .at) (t .left) (min (t .kept) 1) (t .room) e there);
+      }
+  tally-all (suc n) t e there ok same =
+      let some : 0 < t .left = omega (arith, e) in
+      rw (lt-ltb 0 (t .left) some) (go (nextAt s (t .at) (t .left) (min (t .kept) 1) (t .room)) refl (λ u. tally-all n u))
+    where
+      go : (q : Next) → nextAt s (t .at) (t .left) (min (t .kept) 1) (t .room) ≡ q
+          → ((u : Runs) → u .left ≡ n → u .at ≤ length s → Sound s u → u .place ≡ u .at → Tallied u (runsAll s n u)) → Tallied t (runsAll s n (runFrom s (t .at) t))
+      go (NextRun gap size a) i ih =
+          let some : 0 < t .left = omega (arith, e) in
+          let k = ok some in
+          let least = min (t .kept) 1 in
+          let r = next-known s (t .at) (t .left) least (t .room) (k .0) some (omega arith) (k .1) gap size a i in
+          let u : Runs = runsOf (t .left - 1) (t .kept + 1) (t .room - (gap + size)) (a + size) (a + size) in
+          let w : Tallied u (runsAll s n u) = ih u (omega (arith, e)) (r .in-image) (subst (λ (x : Next). Sound s (pastRun t (t .at) x)) i (run-ok s (t .at) t some k)) refl in
+          let one : min (t .kept + 1) 1 ≡ 1 = omega arith in
+          let rest : List Run = keptAt s (a + size) (t .left - 1) 1 (t .room - (gap + size)) in
+          let same-rest : keptFor u ≡ rest = ap (λ (x : ℕ). keptAt s (a + size) (t .left - 1) x (t .room - (gap + size))) one in
+          let kept = good-kept s (t .at) (t .left) least (t .room) (k .0) some (omega arith) (k .1) gap size a i in
+          let end = good-end s (t .at) (t .left) least (t .room) (k .0) some (omega arith) (k .1) gap size a i bytes-ok rest in
+          let z : Tallied t (runsAll s n u) = record {
+            kept-is = omega (arith, w .kept-is, ap length same-rest, ap length kept);
+            end-is = w .end-is ∙ ap (λ (rs : List Run). a + size + length (runsBytes rs)) same-rest ∙ sym end ∙ ap (λ (rs : List Run). t .at + length (runsBytes rs)) (sym kept);
+            place-is = w .place-is ∙ ap (λ (x : ℕ). placeAt s (a + size) (t .left - 1) x (t .room - (gap + size))) one ∙ sym (good-place s (t .at) (t .left) least (t .room) (k .0) some (omega arith) (k .1) gap size a i);
+          } in
+          subst (λ (x : Next). Tallied t (runsAll s n (pastRun t (t .at) x))) (sym i) z
+      go (NextBad p) i ih =
+          let some : 0 < t .left = omega (arith, e) in
+          let k = ok some in
+          let least = min (t .kept) 1 in
+          let u : Runs = runsOf 0 (t .kept) (t .room) (t .at) p in
+          let none : keptFor t ≡ [] = bad-kept s (t .at) (t .left) least (t .room) (k .0) some (omega arith) (k .1) p i in
+          let z : Tallied t u = record {
+            kept-is = omega (arith, ap length none);
+            end-is = omega (arith, ap (λ (rs : List Run). length (runsBytes rs)) none);
+            place-is = sym (bad-place s (t .at) (t .left) least (t .room) (k .0) some (omega arith) (k .1) p i);
+          } in
+          subst (λ (x : Next). Tallied t (runsAll s n (pastRun t (t .at) x))) (sym i) (subst (Tallied t) (sym (none-more n u refl)) z)
+
+  pub tally-scan : (t : Scanned) (is : t ≡ scanIn s) (e : t .fields .next ≡ 12)
+      → record { runs = t .runs .kept; end = t .runs .at; place = t .runs .place } ≡ tallyAt s (t .fields .at) (t .fields .runs) (2 * 2 ^ t .fields .mlen)
+  tally-scan t is e =
+      let first : Runs = runsOf (t .fields .runs) 0 (2 * 2 ^ t .fields .mlen) (t .fields .at) (t .fields .at) in
+      let w : Tallied first (t .runs) =
+      subst (Tallied first) (sym (scan-runs s t is e)) (tally-all (t .fields .runs) first refl (head-sizes s _ _ _ _ _ (scan-headed s t is e) .2) (scan-sound s t is e) refl) in
+      let none : min 0 1 ≡ 0 = omega arith in
+      let kept : keptFor first ≡ keptAt s (t .fields .at) (t .fields .runs) 0 (2 * 2 ^ t .fields .mlen) = ap (λ (x : ℕ). keptAt s (t .fields .at) (t .fields .runs) x (2 * 2 ^ t .fields .mlen)) none in
+      tally-is _ _ _ _ _ _
+      (omega (arith, w .kept-is, ap length kept))
+      (w .end-is ∙ ap (λ (rs : List Run). t .fields .at + length (runsBytes rs)) kept)
+      (w .place-is ∙ ap (λ (x : ℕ). placeAt s (t .fields .at) (t .fields .runs) x (2 * 2 ^ t .fields .mlen)) none)

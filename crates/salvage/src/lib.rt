@@ -2,13 +2,12 @@
 // written is defined in specs/. The first pass finds what is kept; only then the room is written, so that a refusal changes nothing.
 use fresh::rescue;
 use image::Imaged;
-use image_check::head::head_of;
-use reader::Number;
+use image_check::head::ALL_READ;
+use image_check::scan::scan;
 ghost use mathlib.Core.Path.{_≡_};
 ghost use Rattle.salvage.specs.Salvage.{salvage, salvagedAs};
 
 mod fresh; // the fresh image
-mod keep; // the runs that are there whole
 
 // What a salvage returns beside the lent room: the runs kept and announced, the place of the fault, and the length of the fresh image. Where
 // it is refused, all but the place are 0.
@@ -24,15 +23,11 @@ pub struct Salvaged {
 pub fn salvage(image: &[u8], room: &mut [u8]) -> Salvaged
     ensures { λ r. ⌜ salvagedAs r (now (room .exit)) ≡ salvage (now (image .entry)) (now (room .entry)) ⌝ }
 {
-    let head = head_of(image);
-    let machine = head.machine;
-    let numbers = head.count;
-    match numbers {
-        Number::Fault(p) => {
-            return fresh::refused(Imaged::Damaged { place: p as u64 }, p as u64);
-        }
-        Number::Value(count, at) => {
-            return rescue(image, at, count, 2 * machine.mlen, room);
-        }
+    let found = scan(image);
+    let fields = found.fields;
+    if fields.next != ALL_READ {
+        let place = fields.at as u64;
+        return fresh::refused(Imaged::Damaged { place: place }, place);
     }
+    rescue(image, found, room)
 }

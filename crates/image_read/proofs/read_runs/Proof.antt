@@ -1,106 +1,92 @@
 -- `image_read::read_runs` meets its contract.
 use mathlib.Core.Path.{_≡_, refl, sym, ap, _∙_, subst}
 use mathlib.Core.Bool.{true, false}
-use Prim.Native.Nat.{ℕ, _*_, _<_}
+use Prim.Native.Nat.{ℕ, _*_, _^_, _<_}
 use native.Mathlib.Omega.{arith}
-use borrow.Author.Needs.{needs}
 use borrow.Author.Tests.{not-true, not-false}
 use lib.ListN.{length, getD}
+use Rattle.machine.specs.declared.Machine.{Machine}
 use Rattle.image.specs.declared.Imaged.the-variants.{Done}
-use Rattle.image_check.specs.Parts.{runsVerdict, imageDone}
-use Rattle.image_check.proofs.HeadLaws.{HeadedOk, head-known, head-sizes}
-use Rattle.image_read.specs.declared.Found.{Found}
-use Rattle.image_read.specs.Parts.{Stand, foundAs}
-use Rattle.image_read.proofs.ReadLaws.{none-stand, they-stand, found-none, bytes-all, read-bad, read-wrong, runs-done, read-unfit-is, read-done-is}
+use Rattle.image.specs.Reading.{restored}
+use Rattle.image_check.specs.Parts.{rangesFound, machineOf, runsVerdict, imageDone}
+use Rattle.image_check.proofs.HeadLaws.{HeadedOk, head-sizes}
+use Rattle.image_check.proofs.CheckLaws.{scan-ok, scan-verdict, scan-headed, scan-verdict-runs, done-headed}
+use Rattle.image_read.proofs.ReadLaws.{none-stand, they-stand, found-none, bytes-all, read-refused, runs-done, read-unfit-is, read-done-is}
+use borrow.Author.Needs.{needs}
 use Rattle.image_read.proofs.read_runs.Statement.{statement}
 use Rattle.image_read.proofs.read_runs.Tie as tie
 
-abbrev start : tie.After-numbers2 → tie.Start
-start k = k .before .before .before .before .before .before .before
+-- the scan, and what it found: the header is whole, and the runs are sound
+headed : (k : tie.Else1) → k .before .before .before .scan .result .fields .next ≡ 12
+headed k =
+    let v = k .before .before .verdict-of in
+    done-headed (k .before .before .before .scan .result) (length (k .before .before .before .before .before .before .before .args .image .now)) (ap imageDone (sym (v .ensures)) ∙ sym (k .before .is-done .ensures) ∙ not-false (k .before .is-done .result) (k .if1 .left))
 
--- the numbers that were read
-head : (k : tie.After-numbers2) → HeadedOk (start k .args .image .now) (k .before .before .before .head-of .result .machine) (k .before .before .before .head-of .result .seals) (k .before .before .before .head-of .result .«seals_at») (k .numbers2 .given .0 .0) (k .numbers2 .given .0 .1 .0)
-head k =
-    let h = k .before .before .before .head-of in
-    head-known (start k .args .image .now) (h .result) (h .ensures) (k .numbers2 .given .0 .0) (k .numbers2 .given .0 .1 .0) (k .numbers2 .given .1)
+done : (k : tie.Else1) → imageDone (k .before .before .verdict-of .result) ≡ true
+done k = sym (k .before .is-done .ensures) ∙ not-false (k .before .is-done .result) (k .if1 .left)
 
-head-of-requires : tie.Need-head-of-requires
-head-of-requires c κs = search needs
+head : (k : tie.Else1) → let f = k .before .before .before .scan .result .fields in HeadedOk (k .before .before .before .before .before .before .before .args .image .now) (machineOf f) (f .seals) (f .«seals_at») (f .runs) (f .at)
+head k = let sc = k .before .before .before .scan in scan-headed (k .before .before .before .before .before .before .before .args .image .now) (sc .result) (sc .ensures) (headed k)
 
-enum-known-numbers : tie.Need-enum-known-numbers
-enum-known-numbers c = search needs
+runs-are : (k : tie.Else1) → let f = k .before .before .before .scan .result .fields in k .before .before .verdict-of .result ≡ runsVerdict (k .before .before .before .before .before .before .before .args .image .now) (f .at) (f .runs) 0 (2 * 2 ^ f .mlen)
+runs-are k = let sc = k .before .before .before .scan in scan-verdict-runs (k .before .before .before .before .before .before .before .args .image .now) (sc .result) (sc .ensures) (headed k) (k .before .before .verdict-of .result) (k .before .before .verdict-of .ensures)
+
+-- how many bytes the registers have
+size-is : (k : tie.After-machine-of) → 2 * k .machine-of .result .mlen ≡ 2 * 2 ^ k .before .before .before .before .before .scan .result .fields .mlen
+size-is k = ap (λ (m : Machine). 2 * m .mlen) (k .machine-of .ensures)
+
+scan-requires : tie.Need-scan-requires
+scan-requires c κs = search needs
+
+verdict-of-requires : tie.Need-verdict-of-requires
+verdict-of-requires c κs = search needs
+
+is-done-requires : tie.Need-is-done-requires
+is-done-requires c κs = search needs
 
 refused-requires : tie.Need-refused-requires
 refused-requires c κs = search needs
 
 returns : tie.Need-returns
 returns c =
-    let k = c .before .before in
-    let h = k .before .before .before .head-of in
-    let a = k .before .before .before .before .before .before .before .args in (
+    let a = c .before .before .before .before .before .before .before .before .args in
+    let sc = c .before .before .before .before .scan in
+    let v = c .before .before .before .verdict-of in
+    let i = c .before .before .is-done in
+    let f : imageDone (v .result) ≡ false = sym (i .ensures) ∙ not-true (i .result) (c .before .if1 .taken) in (
       found-none (a .image .now) (a .registers .now) (a .marks .now) (c .refused .ensures)
-          ∙ read-bad (a .image .now) (a .registers .now) (a .marks .now) (h .result) (h .ensures) (k .numbers .given .0 .0) (k .numbers .given .1),
+          ∙ read-refused (a .image .now) (a .registers .now) (a .marks .now) (v .result) (scan-verdict (a .image .now) (sc .result) (sc .ensures) (v .result) (v .ensures)) f,
       none-stand (a .image .now) (c .refused .ensures),
     )
 
-enum-known-numbers-2 : tie.Need-enum-known-numbers-2
-enum-known-numbers-2 c = search needs
+machine-of-requires : tie.Need-machine-of-requires
+machine-of-requires c κs = let sc = c .before .before .before .before .scan in scan-ok (c .before .before .before .before .before .before .before .before .args .image .now) (sc .result) (sc .ensures)
 
 mul-total : tie.Need-mul-total
-mul-total c = let z = head-sizes _ _ _ _ _ _ (head (c .before .before)) in omega arith
-
-check-runs-requires : tie.Need-check-runs-requires
-check-runs-requires c κs = let z = head-sizes _ _ _ _ _ _ (head (c .before .before)) in (z .2, (omega arith, omega arith))
-
-is-done-requires : tie.Need-is-done-requires
-is-done-requires c κs = search needs
+mul-total c = let z = head-sizes _ _ _ _ _ _ (head (c .before .before .before)) in omega (arith, z .0, size-is (c .before))
 
 refused-requires-2 : tie.Need-refused-requires-2
 refused-requires-2 c κs = search needs
 
 returns-2 : tie.Need-returns-2
 returns-2 c =
-    let j = c .before in
-    let i = j .before in
-    let q = i .before in
-    let k = q .before .before .before in
-    let a = start k .args in
-    let f : imageDone (q .check-runs .result) ≡ false = sym (i .is-done .ensures) ∙ not-true (i .is-done .result) (j .if1 .taken) in (
+    let k = c .before .before .before .before .before in
+    let a = k .before .before .before .before .before .before .before .args in (
       found-none (a .image .now) (a .registers .now) (a .marks .now) (c .refused2 .ensures)
-          ∙ read-wrong _ _ _ _ _ _ (head k) (q .check-runs .result) (q .check-runs .ensures) (a .registers .now) (a .marks .now) f,
+          ∙ read-unfit-is _ _ _ _ _ _ (head k) (k .before .before .verdict-of .result) (runs-are k) (done k) (a .registers .now) (a .marks .now) (λ w. c .before .if2 .taken (w .0 ∙ sym (size-is (c .before .before .before)))),
       none-stand (a .image .now) (c .refused2 .ensures),
     )
 
 refused-requires-3 : tie.Need-refused-requires-3
 refused-requires-3 c κs = search needs
 
--- the runs are sound
-done : (j : tie.Else1) → imageDone (j .before .before .check-runs .result) ≡ true
-done j = let i = j .before in sym (i .is-done .ensures) ∙ not-false (i .is-done .result) (j .if1 .left)
-
 returns-3 : tie.Need-returns-3
 returns-3 c =
-    let j = c .before .before in
-    let q = j .before .before in
-    let k = q .before .before .before in
-    let a = start k .args in (
+    let k = c .before .before .before .before .before .before in
+    let a = k .before .before .before .before .before .before .before .args in (
       found-none (a .image .now) (a .registers .now) (a .marks .now) (c .refused3 .ensures)
-          ∙ read-unfit-is _ _ _ _ _ _ (head k) (q .check-runs .result) (q .check-runs .ensures) (done j) (a .registers .now) (a .marks .now) (λ w. c .before .if2 .taken (w .0)),
+          ∙ read-unfit-is _ _ _ _ _ _ (head k) (k .before .before .verdict-of .result) (runs-are k) (done k) (a .registers .now) (a .marks .now) (λ w. c .before .if3 .taken (w .1 ∙ sym (size-is (c .before .before .before .before)))),
       none-stand (a .image .now) (c .refused3 .ensures),
-    )
-
-refused-requires-4 : tie.Need-refused-requires-4
-refused-requires-4 c κs = search needs
-
-returns-4 : tie.Need-returns-4
-returns-4 c =
-    let j = c .before .before .before in
-    let q = j .before .before in
-    let k = q .before .before .before in
-    let a = start k .args in (
-      found-none (a .image .now) (a .registers .now) (a .marks .now) (c .refused4 .ensures)
-          ∙ read-unfit-is _ _ _ _ _ _ (head k) (q .check-runs .result) (q .check-runs .ensures) (done j) (a .registers .now) (a .marks .now) (λ w. c .before .if3 .taken (w .1)),
-      none-stand (a .image .now) (c .refused4 .ensures),
     )
 
 put-marks-requires : tie.Need-put-marks-requires
@@ -108,25 +94,22 @@ put-marks-requires c κs = search needs
 
 fill-runs-requires : tie.Need-fill-runs-requires
 fill-runs-requires c κs =
+    let k = c .before .before .before .before .before .before .before .before .before .before .before in
+    let a = k .before .before .before .before .before .before .before .args in
+    let f = k .before .before .before .scan .result .fields in
     let p = c .before .before .before .before in
-    let l = p .before .before in
-    let j = l .before .before in
-    let q = j .before .before in
-    let k = q .before .before .before in
-    let a = start k .args in
-    let size : ℕ = 2 * k .before .before .before .head-of .result .machine .mlen in
     let z = head-sizes _ _ _ _ _ _ (head k) in
-    let lr : length (a .registers .now) ≡ size = l .before .if2 .left in
-    let lm : length (a .marks .now) ≡ size = l .if3 .left in
-    let sound = runs-done _ _ _ _ _ _ (head k) (q .check-runs .result) (q .check-runs .ensures) (done j) in (
+    let lr : length (a .registers .now) ≡ 2 * 2 ^ f .mlen = c .before .before .before .before .before .before .before .if2 .left ∙ size-is (c .before .before .before .before .before .before .before .before .before) in
+    let lm : length (a .marks .now) ≡ 2 * 2 ^ f .mlen = c .before .before .before .before .before .before .if3 .left ∙ size-is (c .before .before .before .before .before .before .before .before .before) in
+    let sound = runs-done _ _ _ _ _ _ (head k) (k .before .before .verdict-of .result) (runs-are k) (done k) in (
       z .2,
       (
-        omega (arith, lr),
+        omega (arith, lr, z .1),
         (
-          omega (arith, lr),
+          omega (arith, lr, z .0),
           (
             p .put-marks .kept .0 ∙ lm ∙ sym lr,
-            subst (λ (x : ℕ). runsVerdict (a .image .now) (k .numbers2 .given .0 .1 .0) (k .numbers2 .given .0 .0) 0 x ≡ Done) (sym lr) sound,
+            subst (λ (x : ℕ). runsVerdict (a .image .now) (f .at) (f .runs) 0 x ≡ Done) (sym lr) sound,
           ),
         ),
       ),
@@ -138,19 +121,21 @@ same-length c = search needs
 same-length-2 : tie.Need-same-length-2
 same-length-2 c = search needs
 
-returns-5 : tie.Need-returns-5
-returns-5 c =
+returns-4 : tie.Need-returns-4
+returns-4 c =
     let fr = c .before .before .before .before .fill-runs in
     let p = c .before .before .before .before .before .before .before .before .before in
-    let l = p .before .before in
-    let j = l .before .before in
-    let q = j .before .before in
-    let k = q .before .before .before in
-    let a = start k .args in
-    let small : (x : ℕ) → getD (a .image .now) x 0 < 256 = λ x. omega (arith, k .before .before .before .before .before .before .shared-slice-known .given x) in (
-      read-done-is _ _ _ _ _ _ (head k) (q .check-runs .result) (q .check-runs .ensures) (done j) (bytes-all (a .image .now) small) (a .registers .now) (a .marks .now)
+    let k = c .before .before .before .before .before .before .before .before .before .before .before .before .before .before .before .before in
+    let a = k .before .before .before .before .before .before .before .args in
+    let f = k .before .before .before .scan .result .fields in
+    let mo = c .before .before .before .before .before .before .before .before .before .before .before .before .before .before in
+    let small : (x : ℕ) → getD (a .image .now) x 0 < 256 = λ x. omega (arith, k .before .before .before .before .before .before .shared-slice-known .given x) in
+    let lr : length (a .registers .now) ≡ 2 * 2 ^ f .mlen = c .before .before .before .before .before .before .before .before .before .before .before .before .if2 .left ∙ size-is mo in
+    let lm : length (a .marks .now) ≡ 2 * 2 ^ f .mlen = c .before .before .before .before .before .before .before .before .before .before .before .if3 .left ∙ size-is mo in (
+      ap (λ (x : Machine). restored Done x (rangesFound (a .image .now) (f .seals) (f .«seals_at»)) (fr .last .1 .1 .1 .0) (fr .last .1 .1 .1 .1 .0)) (mo .machine-of .ensures)
+          ∙ read-done-is _ _ _ _ _ _ (head k) (k .before .before .verdict-of .result) (runs-are k) (done k) (bytes-all (a .image .now) small) (a .registers .now) (a .marks .now)
           (p .put-marks .last .0) (fr .last .1 .1 .1 .0) (fr .last .1 .1 .1 .1 .0) (length (a .marks .now))
-          (l .before .if2 .left) (l .if3 .left) refl (p .put-marks .ensures) (fr .ensures .0) (fr .ensures .1),
+          lr lm refl (p .put-marks .ensures) (fr .ensures .0) (fr .ensures .1),
       they-stand _ _ _ _ _ _ (head k),
     )
 
@@ -158,22 +143,19 @@ pub read-runs-spec : {M : Type 1} → statement M
 read-runs-spec =
     tie.close
     (tie.spec
-    head-of-requires
-    enum-known-numbers
+    scan-requires
+    verdict-of-requires
+    is-done-requires
     refused-requires
     returns
-    enum-known-numbers-2
+    machine-of-requires
     mul-total
-    check-runs-requires
-    is-done-requires
     refused-requires-2
     returns-2
     refused-requires-3
     returns-3
-    refused-requires-4
-    returns-4
     put-marks-requires
     fill-runs-requires
     same-length
     same-length-2
-    returns-5)
+    returns-4)

@@ -1,66 +1,61 @@
-use mathlib.Core.Path.{sym, _∙_}
+-- `image_check::head::range_at` meets its contract.
+use mathlib.Core.Path.{_∙_}
+use borrow.Author.Tests.{not-true, not-false}
+use Prim.Native.Nat.{_-_}
+use Rattle.reader.specs.At.{numberAt}
+use Rattle.reader.proofs.FromLaws.{good-is, bad-is}
 use Rattle.image_check.specs.Parts.{rangeAt}
 use borrow.Author.Needs.{needs}
 use Rattle.image_check.proofs.head.range_at.Statement.{statement}
 use Rattle.image_check.proofs.head.range_at.Tie as tie
 
-number-from-requires : tie.Need-number-from-requires
-number-from-requires c κs = search needs
+number-at-requires : tie.Need-number-at-requires
+number-at-requires c κs = search needs
 
-enum-known-p : tie.Need-enum-known-p
-enum-known-p c = search needs
+no-range-requires : tie.Need-no-range-requires
+no-range-requires c κs = search needs
 
 returns : tie.Need-returns
 unfolding rangeAt
 returns c =
-    let k = c .before in
-    let n = k .before .before in
-    rw (sym (n .number-from .ensures) ∙ k .p .given .1)
+    let n = c .before .before .before .number-at in
+    let a = c .before .before .before .before .before .args in
+    c .no-range .ensures ∙ rw (bad-is (n .result) (numberAt (a .s .now) (a .at) 0 18446744073709551615) (n .ensures) (not-true (n .result .good) (c .before .if1 .taken)))
 
-enum-known-start : tie.Need-enum-known-start
-enum-known-start c = search needs
+sub-number-at : tie.Need-sub-number-at
+sub-number-at c = search needs
 
-sub-number-from : tie.Need-sub-number-from
-sub-number-from c = search needs
+number-at-requires-2 : tie.Need-number-at-requires-2
+number-at-requires-2 c κs = search needs
 
-number-from-requires-2 : tie.Need-number-from-requires-2
-number-from-requires-2 c κs = search needs
-
-enum-known-p-2 : tie.Need-enum-known-p-2
-enum-known-p-2 c = search needs
+no-range-requires-2 : tie.Need-no-range-requires-2
+no-range-requires-2 c κs = search needs
 
 returns-2 : tie.Need-returns-2
 unfolding rangeAt
 returns-2 c =
-    let k = c .before in
-    let o = k .before .before in
-    let g = o .before .before in
-    let n = g .before .before in
-    rw (sym (n .number-from .ensures) ∙ g .start .given .1, sym (o .number-from2 .ensures) ∙ k .p2 .given .1)
-
-enum-known-size : tie.Need-enum-known-size
-enum-known-size c = search needs
+    let n = c .before .before .before .before .before .before .before .number-at in
+    let m = c .before .before .before .number-at2 in
+    let a = c .before .before .before .before .before .before .before .before .before .args in
+    c .no-range2 .ensures ∙ rw (good-is (n .result) (numberAt (a .s .now) (a .at) 0 18446744073709551615) (n .ensures) (not-false (n .result .good) (c .before .before .before .before .before .if1 .left)), bad-is (m .result) (numberAt (a .s .now) (n .result .at) 0 (18446744073709551615 - n .result .value)) (m .ensures) (not-true (m .result .good) (c .before .if2 .taken)))
 
 returns-3 : tie.Need-returns-3
 unfolding rangeAt
 returns-3 c =
-    let k = c .before in
-    let o = k .before .before in
-    let g = o .before .before in
-    let n = g .before .before in
-    rw (sym (n .number-from .ensures) ∙ g .start .given .1, sym (o .number-from2 .ensures) ∙ k .size .given .1)
+    let n = c .before .before .before .before .before .before .number-at in
+    let m = c .before .before .number-at2 in
+    let a = c .before .before .before .before .before .before .before .before .args in
+    rw (good-is (n .result) (numberAt (a .s .now) (a .at) 0 18446744073709551615) (n .ensures) (not-false (n .result .good) (c .before .before .before .before .if1 .left)), good-is (m .result) (numberAt (a .s .now) (n .result .at) 0 (18446744073709551615 - n .result .value)) (m .ensures) (not-false (m .result .good) (c .if2 .left)))
 
 pub range-at-spec : {M : Type 1} → statement M
 range-at-spec =
     tie.close
     (tie.spec
-    number-from-requires
-    enum-known-p
+    number-at-requires
+    no-range-requires
     returns
-    enum-known-start
-    sub-number-from
-    number-from-requires-2
-    enum-known-p-2
+    sub-number-at
+    number-at-requires-2
+    no-range-requires-2
     returns-2
-    enum-known-size
     returns-3)

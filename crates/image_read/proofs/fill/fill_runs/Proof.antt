@@ -3,12 +3,13 @@ use mathlib.Core.Path.{_≡_, refl, sym, ap, _∙_}
 use mathlib.Core.List.{List}
 use Prim.Native.Nat.{ℕ, _+_, _-_, _*_, _≤_}
 use native.Mathlib.Omega.{arith}
-use borrow.Author.Needs.{needs}
+use borrow.Author.Tests.{not-true, not-false}
 use lib.ListN.{length}
 use Rattle.image.specs.declared.Imaged.the-variants.{Done}
 use Rattle.image.specs.Cells.{Run, spread, over}
-use Rattle.image_check.specs.Parts.{runsVerdict}
+use Rattle.image_check.specs.Parts.{nextAt, runsVerdict}
 use Rattle.image_check.proofs.RunsLaws.{RunOk, next-bad, next-known}
+use Rattle.image_check.proofs.ScanLaws.{run-good, run-bad}
 use Rattle.image_read.specs.Parts.{bodyAt, ones}
 use Rattle.image_read.proofs.FillLaws.{filled, filled-start, filled-end, damaged-done, body-end, length-regs, length-marks, still-done, regs-filled, marks-filled}
 use Rattle.image_read.proofs.fill.fill_runs.Statement.{statement}
@@ -26,13 +27,15 @@ abbrev μ-loop : tie.MeasureT-loop
 μ-loop s start count registers₀ marks₀ at₀ left₀ least₀ to₀ registers marks at left least to = left
 
 -- the run that was read
-next : (c : tie.After-gap Inv-loop μ-loop) → let l = c .before .before .before .before .loop in
-    RunOk (c .before .before .before .before .before .before .before .before .args .s .now) (l .at) (l .left) (l .least) (length (l .registers) - l .to) (c .gap .given .0 .0) (c .gap .given .0 .1 .0) (c .gap .given .0 .1 .1 .0)
+next : (c : tie.Else1 Inv-loop μ-loop) → let l = c .before .before .before .before .loop in
+    let n = c .before .before .next-run .result in
+    RunOk (c .before .before .before .before .before .before .before .before .args .s .now) (l .at) (l .left) (l .least) (length (l .registers) - l .to) (n .gap) (n .size) (n .at)
 next c =
-    let t = c .before .before .before in
-    let l = t .before .loop in
-    next-known (t .before .before .before .before .before .args .s .now) (l .at) (l .left) (l .least) (length (l .registers) - l .to) (l .inv .0) (t .loop-test .taken) (l .inv .1) (l .inv .3)
-    (c .gap .given .0 .0) (c .gap .given .0 .1 .0) (c .gap .given .0 .1 .1 .0) (sym (c .before .before .next-run .ensures) ∙ c .gap .given .1)
+    let l = c .before .before .before .before .loop in
+    let n = c .before .before .next-run in
+    let a = c .before .before .before .before .before .before .before .before .args in
+    next-known (a .s .now) (l .at) (l .left) (l .least) (length (l .registers) - l .to) (l .inv .0) (c .before .before .before .loop-test .taken) (l .inv .1) (l .inv .3)
+    (n .result .gap) (n .result .size) (n .result .at) (run-good (n .result) (nextAt (a .s .now) (l .at) (l .left) (l .least) (length (l .registers) - l .to)) (n .ensures) (not-false (n .result .good) (c .if1 .left)))
 
 loop-holds : tie.Need-loop-holds Inv-loop μ-loop
 loop-holds c =
@@ -60,9 +63,6 @@ next-run-requires c κs =
     let l = c .before .loop in
     (l .inv .0, (c .loop-test .taken, (l .inv .1, (l .inv .3, omega (arith, c .before .before .before .before .before .pre .1 .1 .0)))))
 
-enum-told : tie.Need-enum-told Inv-loop μ-loop
-enum-told c = search needs
-
 same-length : tie.Need-same-length Inv-loop μ-loop
 same-length c = c .before .before .before .before .loop .inv .4
 
@@ -71,39 +71,37 @@ same-length-2 c = let l = c .before .before .before .before .loop in l .inv .5 �
 
 returns : tie.Need-returns Inv-loop μ-loop
 returns c =
-    let n = c .before .before in
-    let t = n .before in
+    let n = c .before .before .next-run in
+    let t = c .before .before .before in
     let l = t .before .loop in
-    absurd (damaged-done (c .enum-told .given .0 .0) (sym (next-bad (t .before .before .before .before .before .args .s .now) (l .at) (l .left) (l .least) (length (l .registers) - l .to) (l .inv .0) (t .loop-test .taken) (l .inv .1) (l .inv .3)
-    (c .enum-told .given .0 .0) (sym (n .next-run .ensures) ∙ c .enum-told .given .1)) ∙ l .inv .6))
-
-enum-known-gap : tie.Need-enum-known-gap Inv-loop μ-loop
-enum-known-gap c = search needs
+    let a = c .before .before .before .before .before .before .before .before .args in
+    absurd (damaged-done (n .result .at) (sym (next-bad (a .s .now) (l .at) (l .left) (l .least) (length (l .registers) - l .to) (l .inv .0) (t .loop-test .taken) (l .inv .1) (l .inv .3)
+    (n .result .at) (run-bad (n .result) (nextAt (a .s .now) (l .at) (l .left) (l .least) (length (l .registers) - l .to)) (n .ensures) (not-true (n .result .good) (c .if1 .taken)))) ∙ l .inv .6))
 
 add-first : tie.Need-add-first Inv-loop μ-loop
-add-first c = let r = next (c .before) in omega (arith, r .in-room)
+add-first c = let r = next c in omega (arith, r .in-room)
 
 copy-bytes-requires : tie.Need-copy-bytes-requires Inv-loop μ-loop
-copy-bytes-requires c κs = let r = next (c .before .before) in (omega (arith, r .in-room), r .in-image)
+copy-bytes-requires c κs = let r = next (c .before) in (omega (arith, r .in-room), r .in-image)
 
 put-marks-requires : tie.Need-put-marks-requires Inv-loop μ-loop
-put-marks-requires c κs = let r = next (c .before .before .before .before .before .before) in omega (arith, r .in-room, c .before .before .before .before .before .before .before .before .before .before .loop .inv .5)
+put-marks-requires c κs = let r = next (c .before .before .before .before .before) in omega (arith, r .in-room, c .before .before .before .before .before .before .before .before .before .loop .inv .5)
 
 add-at : tie.Need-add-at Inv-loop μ-loop
-add-at c = let r = next (c .before .before .before .before .before .before .before .before .before) in omega (arith, r .in-image)
+add-at c = let r = next (c .before .before .before .before .before .before .before .before) in omega (arith, r .in-image)
 
 add-to : tie.Need-add-to Inv-loop μ-loop
-add-to c = let r = next (c .before .before .before .before .before .before .before .before .before) in omega (arith, r .in-room)
+add-to c = let r = next (c .before .before .before .before .before .before .before .before) in omega (arith, r .in-room)
 
 sub-left : tie.Need-sub-left Inv-loop μ-loop
-sub-left c = omega (arith, c .before .before .before .before .before .before .before .before .before .before .before .before .loop-test .taken)
+sub-left c = omega (arith, c .before .before .before .before .before .before .before .before .before .before .before .loop-test .taken)
 
 loop-less : tie.Need-loop-less Inv-loop μ-loop
-loop-less c = omega (arith, c .before .before .before .before .before .before .before .before .before .before .before .before .loop-test .taken)
+loop-less c = omega (arith, c .before .before .before .before .before .before .before .before .before .before .before .loop-test .taken)
 
 loop-again : tie.Need-loop-again Inv-loop μ-loop
 loop-again c =
-    let g = c .before .before .before .before .before .before .before .before .before in
+    let g = c .before .before .before .before .before .before .before .before in
     let cb = c .before .before .before .before .before .before .copy-bytes in
     let pm = c .before .before .put-marks in
     let t = g .before .before .before in
@@ -146,11 +144,9 @@ fill-runs-spec =
     loop-holds
     sub-next-run
     next-run-requires
-    enum-told
     same-length
     same-length-2
     returns
-    enum-known-gap
     add-first
     copy-bytes-requires
     put-marks-requires

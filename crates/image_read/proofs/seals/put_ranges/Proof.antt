@@ -1,13 +1,15 @@
 -- `image_read::seals::put_ranges` meets its contract. The invariant: the ranges that are left make of the block what all make.
-use mathlib.Core.Path.{_≡_, refl, sym, ap, _∙_}
+use mathlib.Core.Path.{_≡_, refl, ap, _∙_}
 use mathlib.Core.List.{List}
 use Prim.Native.Nat.{ℕ, _+_, _-_, _≤_}
 use native.Mathlib.Omega.{arith}
-use borrow.Author.Needs.{needs}
+use borrow.Author.Tests.{not-true, not-false}
 use lib.ListN.{length}
-use Rattle.image_check.specs.Parts.{rangesEnd, rangesFound}
+use Rattle.image_check.specs.Parts.{rangeAt, rangesEnd, rangesFound}
+use Rattle.image_check.proofs.HeadLaws.{range-good, range-bad}
 use Rattle.image_read.specs.Parts.{Ends, putRanges}
 use Rattle.image_read.proofs.SealLaws.{stands-not, stands-next, put-next, put-none}
+use borrow.Author.Needs.{needs}
 use Rattle.image_read.proofs.seals.put_ranges.Statement.{statement}
 use Rattle.image_read.proofs.seals.put_ranges.Tie as tie
 
@@ -28,51 +30,44 @@ loop-holds c =
 range-at-requires : tie.Need-range-at-requires Inv-loop μ-loop
 range-at-requires c κs = search needs
 
-enum-told : tie.Need-enum-told Inv-loop μ-loop
-enum-told c = search needs
-
 same-length : tie.Need-same-length Inv-loop μ-loop
 same-length c = c .before .before .before .before .loop .inv .0
 
 returns : tie.Need-returns Inv-loop μ-loop
 returns c =
-    let r = c .before .before in
-    let t = r .before in
+    let r = c .before .before .range-at in
+    let t = c .before .before .before in
     let l = t .before .loop in
     let a = t .before .before .before .before .args in
-    absurd (stands-not (a .s .now) (a .count) (l .i) (l .at) (c .enum-told .given .0 .0) (t .loop-test .taken) (sym (r .range-at .ensures) ∙ c .enum-told .given .1) (l .inv .2))
-
-enum-known-start : tie.Need-enum-known-start Inv-loop μ-loop
-enum-known-start c = search needs
+    absurd (stands-not (a .s .now) (a .count) (l .i) (l .at) (r .result .at) (t .loop-test .taken) (range-bad (r .result) (rangeAt (a .s .now) (l .at)) (r .ensures) (not-true (r .result .good) (c .if1 .taken))) (l .inv .2))
 
 put-range-requires : tie.Need-put-range-requires Inv-loop μ-loop
 put-range-requires c κs =
-    let t = c .before .before .before .before .before in
+    let t = c .before .before .before .before in
     let l = t .before in
     let st = l .before .before .before in
     (l .loop .inv .0 ∙ st .pre .0, omega (arith, t .loop-test .taken, st .pre .1 .few))
 
 add-i : tie.Need-add-i Inv-loop μ-loop
-add-i c = let t = c .before .before .before .before .before .before .before .before in omega (arith, t .loop-test .taken)
+add-i c = let t = c .before .before .before .before .before .before .before in omega (arith, t .loop-test .taken)
 
 loop-less : tie.Need-loop-less Inv-loop μ-loop
-loop-less c = let t = c .before .before .before .before .before .before .before .before in omega (arith, t .loop-test .taken)
+loop-less c = let t = c .before .before .before .before .before .before .before in omega (arith, t .loop-test .taken)
 
 loop-again : tie.Need-loop-again Inv-loop μ-loop
 loop-again c =
     let p = c .before .before in
-    let k = p .before .before .before in
-    let r = k .before .before in
-    let t = r .before in
+    let k = c .before .before .before .before in
+    let r = k .before .before .range-at in
+    let t = k .before .before .before in
     let l = t .before .loop in
     let a = t .before .before .before .before .args in
-    let g = k .start .given .0 in
-    let e = sym (r .range-at .ensures) ∙ k .start .given .1 in (
+    let e = range-good (r .result) (rangeAt (a .s .now) (l .at)) (r .ensures) (not-false (r .result .good) (k .if1 .left)) in (
       p .put-range .kept .0 ∙ l .inv .0,
       omega (arith, t .loop-test .taken),
-      stands-next (a .s .now) (a .count) (l .i) (l .at) (g .0) (g .1 .0) (g .1 .1 .0) (t .loop-test .taken) e (l .inv .2),
-      ap (λ (b : List ℕ). putRanges (l .i + 1) (rangesFound (a .s .now) (a .count - (l .i + 1)) (g .1 .1 .0)) b) (p .put-range .ensures)
-          ∙ put-next (a .s .now) (a .count) (l .i) (l .at) (g .0) (g .1 .0) (g .1 .1 .0) (t .loop-test .taken) e (l .block) ∙ l .inv .3,
+      stands-next (a .s .now) (a .count) (l .i) (l .at) (r .result .start) (r .result .size) (r .result .at) (t .loop-test .taken) e (l .inv .2),
+      ap (λ (b : List ℕ). putRanges (l .i + 1) (rangesFound (a .s .now) (a .count - (l .i + 1)) (r .result .at)) b) (p .put-range .ensures)
+          ∙ put-next (a .s .now) (a .count) (l .i) (l .at) (r .result .start) (r .result .size) (r .result .at) (t .loop-test .taken) e (l .block) ∙ l .inv .3,
     )
 
 same-length-2 : tie.Need-same-length-2 Inv-loop μ-loop
@@ -92,10 +87,8 @@ put-ranges-spec =
     μ-loop
     loop-holds
     range-at-requires
-    enum-told
     same-length
     returns
-    enum-known-start
     put-range-requires
     add-i
     loop-less
