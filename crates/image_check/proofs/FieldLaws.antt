@@ -20,7 +20,7 @@ use Rattle.image.specs.Images.{Header}
 use Rattle.image.specs.ImageFormat.{Described, topRlen, topMlen, leastMlen, mtypes, rangesFormat, counts, headFormat, imageFormat}
 use Rattle.image.proofs.ImageLaws.{top-mlen}
 use Rattle.image_check.specs.declared.head.Fields.{Fields}
-use Rattle.image_check.specs.Parts.{Place, onward, mtypeAt, countAt, rangesEnd, rangesFound, placed, rangesAt, fieldsOf, firstField, row, rowOf, numberIn, putField, after, movedTo, fieldFrom, fieldsAll, fieldsIn, machineOf, numbersOf}
+use Rattle.image_check.specs.Parts.{Place, onward, mtypeAt, countAt, rangesEnd, rangesFound, placed, rangesAt, fieldsOf, firstField, row, rowAt, rowOf, numberIn, putField, after, movedTo, fieldRead, withRow, fieldFrom, fieldsAll, readIn, fieldsIn, machineOf, numbersOf}
 use Rattle.image_check.specs.Parts.Place.{Behind, PlaceBad}
 use Rattle.image_check.proofs.HeadLaws.{HeadedOk, EndOk, ranges-right, runsPart, countPart, sealsPart, tilesPart, bodyPart, parts}
 
@@ -43,7 +43,7 @@ pub last-field : (n : ℕ) → n < 12 → Last n → n ≡ 11
 last-field n l r = from-eleven n (up n 10 (up n 9 (up n 8 (up n 7 (up n 6 (up n 5 (up n 4 (up n 3 (up n 2 (up n 1 (up n 0 (zero-le n) (r .0 .0 .0 .0 .0 .0 .0 .0 .0 .0 .1)) (r .0 .0 .0 .0 .0 .0 .0 .0 .0 .1)) (r .0 .0 .0 .0 .0 .0 .0 .0 .1)) (r .0 .0 .0 .0 .0 .0 .0 .1)) (r .0 .0 .0 .0 .0 .0 .1)) (r .0 .0 .0 .0 .0 .1)) (r .0 .0 .0 .0 .1)) (r .0 .0 .0 .1)) (r .0 .0 .1)) (r .0 .1)) (r .1)) l
 
 pub row-last : (t : Fields) (x : ℕ) → x ≡ 2 ^ t .mlen → Last (t .next) → row 0 0 x ≡ rowOf t
-unfolding rowOf
+unfolding rowAt
 row-last t x e r = rw (
   e,
   ne-eqb (t .next) 0 (r .0 .0 .0 .0 .0 .0 .0 .0 .0 .0 .1),
@@ -79,9 +79,9 @@ after-more f v = go (eqb f 0) refl (eqb v 1) (eqb f 1) refl (eqb v 2) (eqb f 8) 
 module _ (s : List ℕ) where
   pub field-more : (at : ℕ) (t : Fields) → t .next < 12 → t .next < fieldFrom s at t .next
   unfolding fieldFrom
-  field-more at t h = go (numberIn s at (rowOf t))
+  field-more at t h = go (numberIn s at (t .row))
     where
-      go : (n : Number) → t .next < onward n (λ p. movedTo 13 p t) (λ n a. movedTo (after (t .next) (putField t n .version)) a (putField t n)) .next
+      go : (n : Number) → t .next < onward n (λ p. movedTo 13 p t) (λ n a. withRow (fieldRead t n a)) .next
       go (Value n a) = after-more (t .next) (putField t n .version)
       go (Fault p) = omega (arith, h)
 
@@ -126,13 +126,13 @@ HeadOk s t = (t .next ≡ 12 → HeadedOk s (machineOf t) (t .seals) (t .«seals
 module _ (s : List ℕ) where
   -- one field
   field : (t : Fields) → t .next < 12
-      → ((n a : ℕ) → numberIn s (t .at) (rowOf t) ≡ Value n a → HeadOk s (left s (movedTo (after (t .next) (putField t n .version)) a (putField t n))))
-      → ((p : ℕ) → numberIn s (t .at) (rowOf t) ≡ Fault p → (K : Header → ℕ → Format Described) → from (headFormat K) s 0 ≡ stopped p) → HeadOk s (left s t)
+      → ((n a : ℕ) → numberIn s (t .at) (t .row) ≡ Value n a → HeadOk s (left s (withRow (fieldRead t n a))))
+      → ((p : ℕ) → numberIn s (t .at) (t .row) ≡ Fault p → (K : Header → ℕ → Format Described) → from (headFormat K) s 0 ≡ stopped p) → HeadOk s (left s t)
   unfolding fieldFrom fieldsAll
-  field t h good bad = subst (HeadOk s) (fields-step s t h) (go (numberIn s (t .at) (rowOf t)) refl)
+  field t h good bad = subst (HeadOk s) (fields-step s t h) (go (numberIn s (t .at) (t .row)) refl)
     where
-      go : (q : Number) → numberIn s (t .at) (rowOf t) ≡ q
-          → HeadOk s (left s (onward q (λ p. movedTo 13 p t) (λ n a. movedTo (after (t .next) (putField t n .version)) a (putField t n))))
+      go : (q : Number) → numberIn s (t .at) (t .row) ≡ q
+          → HeadOk s (left s (onward q (λ p. movedTo 13 p t) (λ n a. withRow (fieldRead t n a))))
       go (Value n a) e = good n a e
       go (Fault p) e = (λ x. absurd (omega (arith, x)), λ d K. bad p e K)
 
@@ -144,7 +144,7 @@ module _ (s : List ℕ) where
     module _ (t tm tk tn : ℕ) where
       runs-field : (c d e : ℕ) → Known (λ K. countPart K rule elen r m t tm tk tn (rangesFound s c d)) e → c ≤ 8 → rangesEnd s c d ≡ Behind e → e ≤ length s
           → HeadOk s (left s (fieldsOf 11 e v rule elen r m t tm tk tn c d 0))
-      unfolding rowOf numberIn putField after fieldsAll
+      unfolding rowAt numberIn putField after fieldsAll
       runs-field c d e known few ends there =
           field (fieldsOf 11 e v rule elen r m t tm tk tn c d 0) (omega arith)
           (λ n a q. (
@@ -165,7 +165,7 @@ module _ (s : List ℕ) where
 
       ranges-field : (c b : ℕ) → Known (λ K. rangesFormat c (countPart K rule elen r m t tm tk tn)) b → c ≤ 8 → b ≤ length s
           → HeadOk s (left s (fieldsOf 10 b v rule elen r m t tm tk tn c 0 0))
-      unfolding rowOf numberIn putField after rangesAt
+      unfolding rowAt numberIn putField after rangesAt
       ranges-field c b known few there =
           field (fieldsOf 10 b v rule elen r m t tm tk tn c 0 0) (omega arith)
           (λ n a q. at-end (rangesEnd s c b) refl (ranges-right s c b) n a q)
@@ -187,7 +187,7 @@ module _ (s : List ℕ) where
 
       count-field : (b : ℕ) → Known (λ K. number counts (λ c. rangesFormat c (countPart K rule elen r m t tm tk tn))) b → b ≤ length s
           → HeadOk s (left s (fieldsOf 9 b v rule elen r m t tm tk tn 1 0 0))
-      unfolding rowOf numberIn putField after countAt
+      unfolding rowAt numberIn putField after countAt
       count-field b known there =
           field (fieldsOf 9 b v rule elen r m t tm tk tn 1 0 0) (omega arith)
           (λ n a q. let w = took-in counts s b n a q in ranges-field n a (λ K. known K ∙ from-value counts s b n a (λ c. rangesFormat c (countPart K rule elen r m t tm tk tn)) q) (few n (w .0)) (w .1 there))
@@ -214,7 +214,7 @@ module _ (s : List ℕ) where
     columns = 2 ^ (r - 3)
 
     n-field : (t tm tk a : ℕ) → Known (λ K. number (span 0 columns) (sealsPart K v rule elen r m t tm tk)) a → a ≤ length s → HeadOk s (left s (fieldsOf 8 a v rule elen r m t tm tk 0 1 0 0))
-    unfolding rowOf numberIn putField
+    unfolding rowAt numberIn putField
     n-field t tm tk a known there =
         field (fieldsOf 8 a v rule elen r m t tm tk 0 1 0 0) (omega arith)
         (λ n b q. seals-field t tm tk n b (λ K. known K ∙ from-number s a 0 columns n b (sealsPart K v rule elen r m t tm tk) q) (took s a 0 columns n b q .behind there))
@@ -227,21 +227,21 @@ module _ (s : List ℕ) where
     kThen K t tm = number (span 0 (min rows columns)) (nThen K t tm)
 
     k-field : (t tm a : ℕ) → Known (λ K. kThen K t tm) a → a ≤ length s → HeadOk s (left s (fieldsOf 7 a v rule elen r m t tm 0 0 1 0 0))
-    unfolding rowOf numberIn putField after
+    unfolding rowAt numberIn putField after
     k-field t tm a known there =
         field (fieldsOf 7 a v rule elen r m t tm 0 0 1 0 0) (omega arith)
         (λ n b q. n-field t tm n b (λ K. known K ∙ from-number s a 0 (min rows columns) n b (nThen K t tm) q) (took s a 0 (min rows columns) n b q .behind there))
         (λ p q K. known K ∙ from-fault s a 0 (min rows columns) p (nThen K t tm) q)
 
     m-field : (t a : ℕ) → Known (λ K. number (span 0 rows) (kThen K t)) a → a ≤ length s → HeadOk s (left s (fieldsOf 6 a v rule elen r m t 0 0 0 1 0 0))
-    unfolding rowOf numberIn putField after
+    unfolding rowAt numberIn putField after
     m-field t a known there =
         field (fieldsOf 6 a v rule elen r m t 0 0 0 1 0 0) (omega arith)
         (λ n b q. k-field t n b (λ K. known K ∙ from-number s a 0 rows n b (kThen K t) q) (took s a 0 rows n b q .behind there))
         (λ p q K. known K ∙ from-fault s a 0 rows p (kThen K t) q)
 
     mtype-field : (a : ℕ) → Known (λ K. tilesPart K v rule elen r m) a → a ≤ length s → HeadOk s (left s (fieldsOf 5 a v rule elen r m 0 0 0 0 1 0 0))
-    unfolding rowOf numberIn putField after mtypeAt
+    unfolding rowAt numberIn putField after mtypeAt
     mtype-field a known there =
         field (fieldsOf 5 a v rule elen r m 0 0 0 0 1 0 0) (omega arith)
         (λ n b q. m-field n b (λ K. known K ∙ from-value (mtypes elen) s a n b (λ t. number (span 0 rows) (kThen K t)) q) (took-in (mtypes elen) s a n b q .1 there))
@@ -252,7 +252,7 @@ module _ (s : List ℕ) where
     mlenThen K r = number (span (leastMlen v elen r) (topMlen v)) (tilesPart K v rule elen r)
 
     mlen-field : (r a : ℕ) → Known (λ K. mlenThen K r) a → a ≤ length s → HeadOk s (left s (fieldsOf 4 a v rule elen r 16 0 0 0 0 1 0 0))
-    unfolding rowOf numberIn putField after
+    unfolding rowAt numberIn putField after
     mlen-field r a known there =
         field (fieldsOf 4 a v rule elen r 16 0 0 0 0 1 0 0) (omega arith)
         (λ n b q.
@@ -261,7 +261,7 @@ module _ (s : List ℕ) where
         (λ p q K. known K ∙ from-fault s a (leastMlen v elen r) (topMlen v) p (tilesPart K v rule elen r) q)
 
     rlen-field : (a : ℕ) → Known (λ K. number (span (suc elen) (topRlen v)) (mlenThen K)) a → a ≤ length s → HeadOk s (left s (fieldsOf 3 a v rule elen 6 16 0 0 0 0 1 0 0))
-    unfolding rowOf numberIn putField after
+    unfolding rowAt numberIn putField after
     rlen-field a known there =
         field (fieldsOf 3 a v rule elen 6 16 0 0 0 0 1 0 0) (omega arith)
         (λ n b q. mlen-field n b (λ K. known K ∙ from-number s a (suc elen) (topRlen v) n b (mlenThen K) q) (took s a (suc elen) (topRlen v) n b q .behind there))
@@ -272,7 +272,7 @@ module _ (s : List ℕ) where
   rlenThen K v rule elen = number (span (suc elen) (topRlen v)) (mlenThen v rule elen K)
 
   elen-field : (v rule a : ℕ) → Known (λ K. number (span 5 6) (rlenThen K v rule)) a → a ≤ length s → HeadOk s (left s (fieldsOf 2 a v rule 5 6 16 0 0 0 0 1 0 0))
-  unfolding rowOf numberIn putField after
+  unfolding rowAt numberIn putField after
   elen-field v rule a known there =
       field (fieldsOf 2 a v rule 5 6 16 0 0 0 0 1 0 0) (omega arith)
       (λ n b q. rlen-field v rule n b (λ K. known K ∙ from-number s a 5 6 n b (rlenThen K v rule) q) (took s a 5 6 n b q .behind there))
@@ -283,7 +283,7 @@ module _ (s : List ℕ) where
   ruleThen K v two = cond two (number (span 1 1) λ rule. rlenThen K v rule 5) (number (span 0 1) λ rule. number (span 5 6) (rlenThen K v rule))
 
   rule-field : (v a : ℕ) → Known (λ K. ruleThen K v (eqb v 2)) a → a ≤ length s → HeadOk s (left s (fieldsOf 1 a v 0 5 6 16 0 0 0 0 1 0 0))
-  unfolding rowOf numberIn putField after
+  unfolding rowAt numberIn putField after
   rule-field v a known there =
       field (fieldsOf 1 a v 0 5 6 16 0 0 0 0 1 0 0) (omega arith)
       (λ n b q. good (eqb v 2) known n b q)
@@ -302,7 +302,7 @@ module _ (s : List ℕ) where
 
   -- what is read is what the format has
   pub fields-right : HeadOk s (fieldsIn s)
-  unfolding fieldsIn rowOf numberIn putField after
+  unfolding fieldsIn readIn rowAt numberIn putField after
   fields-right =
       field firstField (omega arith)
       (λ n a q. good (eqb n 1) n a (λ K. from-number s 0 1 4 n a (versionThen K) q) (took s 0 1 4 n a q .behind (omega arith)))

@@ -19,7 +19,7 @@ use Rattle.image_check.specs.declared.head.Fields.{Fields}
 use Rattle.image_check.specs.declared.head.Row.{Row}
 use Rattle.image_check.specs.declared.runs.RunRead.{RunRead}
 use Rattle.image_check.specs.declared.runs.Runs.{Runs}
-use Rattle.image_check.specs.Parts.{Next, plainRun, onward, firstField, FieldsOk, leastRule, row, rowOf, RowOk, numberIn, putField, after, movedTo, fieldFrom, fieldsAll, fieldsIn, nextAt, RunsOk, runsOf, pastRun, runFrom, runsAll, runsBehind, runsVerdict}
+use Rattle.image_check.specs.Parts.{Next, plainRun, onward, firstField, FieldsOk, Ready, leastRule, row, rowAt, rowOf, fieldsWith, RowOk, numberIn, putField, after, movedTo, fieldRead, withRow, fieldFrom, fieldsAll, readIn, fieldsIn, nextAt, RunsOk, runsOf, pastRun, runFrom, runsAll, runsBehind, runsVerdict}
 use Rattle.image_check.specs.Parts.Next.{NextRun, NextBad}
 use Rattle.image_check.proofs.RunsLaws.{runs-end, runs-trail, next-bad, next-known, run-next}
 use Rattle.image_check.proofs.HeadLaws.{head-sizes}
@@ -28,7 +28,7 @@ use Rattle.image_check.proofs.FieldLaws.{after-more, head-known}
 -- ---- the exponents stay some that are permitted
 
 pub row-ok : (t : Fields) → FieldsOk t → RowOk (rowOf t)
-unfolding rowOf
+unfolding rowAt
 row-ok t ok = go (eqb (t .next) 0) (eqb (t .next) 1) (eqb (t .next) 2) (eqb (t .next) 3) (eqb (t .next) 4) (eqb (t .next) 5) (eqb (t .next) 6) (eqb (t .next) 7) (eqb (t .next) 8) (eqb (t .next) 9) (eqb (t .next) 10)
   where
     go : (a b c d e f g h i j k : Bool) → RowOk (cond a (row 0 1 4) (cond b (row 0 (leastRule (t .version)) 1) (cond c (row 0 5 6) (cond d (row 0 (suc (t .elen)) (topRlen (t .version))) (cond e (row 0 (leastMlen (t .version) (t .elen) (t .rlen)) (topMlen (t .version))) (cond f (row 1 (t .elen) 0) (cond g (row 0 0 (2 ^ (t .mlen - t .rlen))) (cond h (row 0 0 (min (2 ^ (t .mlen - t .rlen)) (2 ^ (t .rlen - 3)))) (cond i (row 0 0 (2 ^ (t .rlen - 3))) (cond j (row 2 0 0) (cond k (row 3 (t .seals) 0) (row 0 0 (2 ^ t .mlen)))))))))))))
@@ -45,28 +45,33 @@ row-ok t ok = go (eqb (t .next) 0) (eqb (t .next) 1) (eqb (t .next) 2) (eqb (t .
     go false false false false false false false false false false true = λ x. absurd (omega (arith, x))
     go false false false false false false false false false false false = λ x. absurd (omega (arith, x))
 
-module _ (s : List ℕ) (at : ℕ) (t : Fields) (ok : FieldsOk t) (n a : ℕ) (q : numberIn s at (rowOf t) ≡ Value n a) where
+module _ (s : List ℕ) (at : ℕ) (t : Fields) (low : t .next < 12) (ready : Ready t) (n a : ℕ) (read : numberIn s at (t .row) ≡ Value n a) where
+  ok : FieldsOk t
+  ok = ready .sizes-ok
+
+  q : numberIn s at (rowOf t) ≡ Value n a
+  q = ap (numberIn s at) (sym (ready .row-is low)) ∙ read
+
   elen-read : t .next ≡ 2 → (5 ≤ n) × (n ≤ 6)
-  unfolding rowOf numberIn
+  unfolding rowAt numberIn
   elen-read e = let w = took s at 5 6 n a (rw e at q) in (w .least, w .most)
 
   rlen-read : t .next ≡ 3 → (6 ≤ n) × (n ≤ 12)
-  unfolding rowOf numberIn
+  unfolding rowAt numberIn
   rlen-read e = let w = took s at (suc (t .elen)) (topRlen (t .version)) n a (rw e at q) in (omega (arith, w .least, ok .elen-ok), omega (arith, w .most, top-rlen (t .version)))
 
   mlen-read : t .next ≡ 4 → (t .rlen < n) × (n ≤ 16)
-  unfolding rowOf numberIn
+  unfolding rowAt numberIn
   mlen-read e =
       let w = took s at (leastMlen (t .version) (t .elen) (t .rlen)) (topMlen (t .version)) n a (rw e at q) in
       (omega (arith, w .least, least-above (t .version) (t .elen) (t .rlen) (ok .rlen-ok .1)), omega (arith, w .most, top-mlen (t .version)))
 
-  put-ok : (next : ℕ) → t .next < next → FieldsOk (movedTo next a (putField t n))
+  pub put-ok : FieldsOk (fieldRead t n a)
   unfolding putField
-  put-ok next more = record {
+  put-ok = record {
     elen-ok = go-elen (eqb (t .next) 2) refl;
     rlen-ok = go-rlen (eqb (t .next) 3) refl;
     mlen-ok = go-mlen (eqb (t .next) 3) refl (eqb (t .next) 4) refl;
-    mlen-most = λ l. go-most (eqb (t .next) 4) refl (omega arith);
   }
     where
       go-elen : (u : Bool) → eqb (t .next) 2 ≡ u → (5 ≤ cond u n (t .elen)) × (cond u n (t .elen) ≤ 6)
@@ -81,51 +86,75 @@ module _ (s : List ℕ) (at : ℕ) (t : Fields) (ok : FieldsOk t) (n a : ℕ) (q
       go-mlen true e true i = absurd (omega (arith, eqb-true (t .next) 3 e, eqb-true (t .next) 4 i))
       go-mlen true e false i =
           let three : t .next ≡ 3 = eqb-true (t .next) 3 e in
-          let m : t .mlen ≡ 16 = ok .mlen-most (omega arith) in
+          let m : t .mlen ≡ 16 = ready .mlen-most (omega arith) in
           (omega (arith, rlen-read three), ok .mlen-ok .1)
       go-mlen false e true i = mlen-read (eqb-true (t .next) 4 i)
       go-mlen false e false i = ok .mlen-ok
 
+  put-ready : Ready (withRow (fieldRead t n a))
+  unfolding putField
+  put-ready = record {
+    sizes-ok = record { elen-ok = put-ok .elen-ok; rlen-ok = put-ok .rlen-ok; mlen-ok = put-ok .mlen-ok };
+    mlen-most = λ l. go-most (eqb (t .next) 4) refl (omega (arith, l, after-more (t .next) (putField t n .version)));
+    row-is = λ _. refl;
+  }
+    where
       go-most : (w : Bool) → eqb (t .next) 4 ≡ w → t .next ≤ 3 → cond w n (t .mlen) ≡ 16
       go-most true i l = absurd (omega (arith, eqb-true (t .next) 4 i))
-      go-most false i l = ok .mlen-most (omega arith)
+      go-most false i l = ready .mlen-most (omega arith)
 
 -- one field, as the code has it
-module _ (s : List ℕ) (at : ℕ) (t : Fields) (n : Reading) {w : Row} (is : n ≡ plain (numberIn s at w)) (row-is : w ≡ rowOf t) where
-  read : n ≡ plain (numberIn s at (rowOf t))
-  read = is ∙ ap (λ (x : Row). plain (numberIn s at x)) row-is
-
+module _ (s : List ℕ) (at : ℕ) (t : Fields) (n : Reading) (is : n ≡ plain (numberIn s at (t .row))) where
   pub field-bad : n .good ≡ false → movedTo 13 (n .at) t ≡ fieldFrom s at t
   unfolding fieldFrom
-  field-bad g = rw (bad-is n (numberIn s at (rowOf t)) read g)
+  field-bad g = rw (bad-is n (numberIn s at (t .row)) is g)
 
-  pub field-good : n .good ≡ true → (x : Fields) → x ≡ putField t (n .value) → (next : ℕ) → next ≡ after (t .next) (x .version) → movedTo next (n .at) x ≡ fieldFrom s at t
-  unfolding fieldFrom
-  field-good g x ex next en = rw (good-is n (numberIn s at (rowOf t)) read g, en, ex)
+  module _ (g : n .good ≡ true) (x : Fields) (ex : x ≡ putField t (n .value)) (next : ℕ) (en : next ≡ after (t .next) (x .version)) where
+    read-is : movedTo next (n .at) x ≡ fieldRead t (n .value) (n .at)
+    read-is = rw (en, ex)
 
-pub field-ok : (s : List ℕ) (at : ℕ) (t : Fields) → FieldsOk t → FieldsOk (fieldFrom s at t)
+    pub field-sizes : t .next < 12 → Ready t → FieldsOk (movedTo next (n .at) x)
+    field-sizes low ready = subst FieldsOk (sym read-is) (put-ok s at t low ready (n .value) (n .at) (good-is n (numberIn s at (t .row)) is g))
+
+    pub field-good : (w : Row) → w ≡ rowOf (movedTo next (n .at) x) → fieldsWith w next (n .at) (x .version) (x .rule) (x .elen) (x .rlen) (x .mlen) (x .mtype) (x .«tile_m») (x .«tile_k») (x .«tile_n») (x .seals) (x .«seals_at») (x .runs) ≡ fieldFrom s at t
+    unfolding fieldFrom
+    field-good w ew = rw (good-is n (numberIn s at (t .row)) is g, ew, en, ex)
+
+pub field-ready : (s : List ℕ) (at : ℕ) (t : Fields) → t .next < 12 → Ready t → Ready (fieldFrom s at t)
 unfolding fieldFrom
-field-ok s at t ok = go (numberIn s at (rowOf t)) refl
+field-ready s at t low ready = go (numberIn s at (t .row)) refl
   where
-    go : (q : Number) → numberIn s at (rowOf t) ≡ q → FieldsOk (onward q (λ p. movedTo 13 p t) (λ n a. movedTo (after (t .next) (putField t n .version)) a (putField t n)))
-    go (Value n a) e = put-ok s at t ok n a e (after (t .next) (putField t n .version)) (after-more (t .next) (putField t n .version))
-    go (Fault p) e = record { elen-ok = ok .elen-ok; rlen-ok = ok .rlen-ok; mlen-ok = ok .mlen-ok; mlen-most = λ l. absurd (omega (arith, l)) }
+    go : (q : Number) → numberIn s at (t .row) ≡ q → Ready (onward q (λ p. movedTo 13 p t) (λ n a. withRow (fieldRead t n a)))
+    go (Value n a) e = put-ready s at t low ready n a e
+    go (Fault p) e = record {
+      sizes-ok = record { elen-ok = ready .sizes-ok .elen-ok; rlen-ok = ready .sizes-ok .rlen-ok; mlen-ok = ready .sizes-ok .mlen-ok };
+      mlen-most = λ l. absurd (omega (arith, l));
+      row-is = λ l. absurd (omega (arith, l));
+    }
 
-all-ok : (s : List ℕ) (k : ℕ) (t : Fields) → FieldsOk t → FieldsOk (fieldsAll s k t)
+all-ready : (s : List ℕ) (k : ℕ) (t : Fields) → Ready t → Ready (fieldsAll s k t)
 unfolding fieldsAll
-all-ok s zero t ok = ok
-all-ok s (suc k) t ok = go (ltb (t .next) 12) (all-ok s k (fieldFrom s (t .at) t) (field-ok s (t .at) t ok))
+all-ready s zero t ok = ok
+all-ready s (suc k) t ok = go (ltb (t .next) 12) refl (λ l. all-ready s k (fieldFrom s (t .at) t) (field-ready s (t .at) t l ok))
   where
-    go : (u : Bool) → FieldsOk (fieldsAll s k (fieldFrom s (t .at) t)) → FieldsOk (cond u (fieldsAll s k (fieldFrom s (t .at) t)) t)
-    go true h = h
-    go false h = ok
+    go : (u : Bool) → ltb (t .next) 12 ≡ u → (t .next < 12 → Ready (fieldsAll s k (fieldFrom s (t .at) t))) → Ready (cond u (fieldsAll s k (fieldFrom s (t .at) t)) t)
+    go true e h = h (ltb-true (t .next) 12 e)
+    go false e h = ok
 
-pub first-ok : FieldsOk firstField
-first-ok = record { elen-ok = (omega arith, omega arith); rlen-ok = (omega arith, omega arith); mlen-ok = (omega arith, omega arith); mlen-most = λ l. refl }
+pub first-ready : Ready firstField
+first-ready = record {
+  sizes-ok = record { elen-ok = (omega arith, omega arith); rlen-ok = (omega arith, omega arith); mlen-ok = (omega arith, omega arith) };
+  mlen-most = λ l. refl;
+  row-is = λ l. refl;
+}
+
+pub read-ok : (s : List ℕ) → FieldsOk (readIn s)
+unfolding readIn
+read-ok s = all-ready s 12 firstField first-ready .sizes-ok
 
 pub fields-ok : (s : List ℕ) → FieldsOk (fieldsIn s)
 unfolding fieldsIn
-fields-ok s = all-ok s 12 firstField first-ok
+fields-ok s = record { elen-ok = read-ok s .elen-ok; rlen-ok = read-ok s .rlen-ok; mlen-ok = read-ok s .mlen-ok }
 
 -- ---- the runs
 
@@ -215,6 +244,10 @@ module _ (s : List ℕ) where
           let z = head-sizes s _ _ _ _ _ (head-known s (fieldsIn s) refl (eqb-true (fieldsIn s .next) 12 e)) in
           (z .2, omega (arith, z .1), omega (arith, z .0), omega (arith, z .0, z .1))
       go false e l = absurd (omega (arith, l))
+
+  pub behind-read : Sound (runsBehind (readIn s))
+  unfolding runsBehind fieldsIn
+  behind-read = behind-ok
 
   -- what they say of the image
   abbrev pub runVerdict : ℕ → Runs → Imaged

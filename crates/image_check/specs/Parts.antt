@@ -89,8 +89,35 @@ rangesAt s count at = placed at (rangesEnd s count at)
 
 -- ---- the fields of a header
 
-abbrev pub fieldsOf : (next at version rule elen rlen mlen mtype tileM tileK tileN seals first runs : ℕ) → Fields
-fieldsOf next at version rule elen rlen mlen mtype tileM tileK tileN seals first runs = record {
+abbrev pub row : (kind low high : ℕ) → Row
+row kind low high = record { kind = kind; low = low; high = high }
+
+abbrev pub leastRule : ℕ → ℕ
+leastRule version = cond (eqb version 2) 1 0
+
+-- what a field may be, by its number and by what was read
+unfoldable pub rowAt : (next version elen rlen mlen seals : ℕ) → Row
+rowAt next version elen rlen mlen seals =
+    cond (eqb next 0) (row 0 1 4)
+    (cond (eqb next 1) (row 0 (leastRule version) 1)
+    (cond (eqb next 2) (row 0 5 6)
+    (cond (eqb next 3) (row 0 (suc elen) (topRlen version))
+    (cond (eqb next 4) (row 0 (leastMlen version elen rlen) (topMlen version))
+    (cond (eqb next 5) (row 1 elen 0)
+    (cond (eqb next 6) (row 0 0 (2 ^ (mlen - rlen)))
+    (cond (eqb next 7) (row 0 0 (min (2 ^ (mlen - rlen)) (2 ^ (rlen - 3))))
+    (cond (eqb next 8) (row 0 0 (2 ^ (rlen - 3)))
+    (cond (eqb next 9) (row 2 0 0)
+    (cond (eqb next 10) (row 3 seals 0)
+    (row 0 0 (2 ^ mlen))))))))))))
+
+-- what the next field may be
+abbrev pub rowOf : Fields → Row
+rowOf t = rowAt (t .next) (t .version) (t .elen) (t .rlen) (t .mlen) (t .seals)
+
+abbrev pub fieldsWith : Row → (next at version rule elen rlen mlen mtype tileM tileK tileN seals first runs : ℕ) → Fields
+fieldsWith row next at version rule elen rlen mlen mtype tileM tileK tileN seals first runs = record {
+  row = row;
   next = next;
   at = at;
   version = version;
@@ -107,6 +134,11 @@ fieldsOf next at version rule elen rlen mlen mtype tileM tileK tileN seals first
   runs = runs;
 }
 
+-- with the row of the next
+abbrev pub fieldsOf : (next at version rule elen rlen mlen mtype tileM tileK tileN seals first runs : ℕ) → Fields
+fieldsOf next at version rule elen rlen mlen mtype tileM tileK tileN seals first runs =
+    fieldsWith (rowAt next version elen rlen mlen seals) next at version rule elen rlen mlen mtype tileM tileK tileN seals first runs
+
 -- before the first: what a version that has no such field has in its place, and else any numbers that are permitted
 abbrev pub firstField : Fields
 firstField = fieldsOf 0 0 0 0 5 6 16 0 0 0 0 1 0 0
@@ -116,29 +148,12 @@ pub record FieldsOk (t : Fields) : Type 0 where
   pub elen-ok : (5 ≤ t .elen) × (t .elen ≤ 6)
   pub rlen-ok : (6 ≤ t .rlen) × (t .rlen ≤ 12)
   pub mlen-ok : (t .rlen < t .mlen) × (t .mlen ≤ 16)
+
+-- and where a field is left, its row is there
+pub record Ready (t : Fields) : Type 0 where
+  pub sizes-ok : FieldsOk t
   pub mlen-most : t .next ≤ 4 → t .mlen ≡ 16
-
-abbrev pub leastRule : ℕ → ℕ
-leastRule version = cond (eqb version 2) 1 0
-
-abbrev pub row : (kind low high : ℕ) → Row
-row kind low high = record { kind = kind; low = low; high = high }
-
--- what the next field may be
-unfoldable pub rowOf : Fields → Row
-rowOf t =
-    cond (eqb (t .next) 0) (row 0 1 4)
-    (cond (eqb (t .next) 1) (row 0 (leastRule (t .version)) 1)
-    (cond (eqb (t .next) 2) (row 0 5 6)
-    (cond (eqb (t .next) 3) (row 0 (suc (t .elen)) (topRlen (t .version)))
-    (cond (eqb (t .next) 4) (row 0 (leastMlen (t .version) (t .elen) (t .rlen)) (topMlen (t .version)))
-    (cond (eqb (t .next) 5) (row 1 (t .elen) 0)
-    (cond (eqb (t .next) 6) (row 0 0 (2 ^ (t .mlen - t .rlen)))
-    (cond (eqb (t .next) 7) (row 0 0 (min (2 ^ (t .mlen - t .rlen)) (2 ^ (t .rlen - 3))))
-    (cond (eqb (t .next) 8) (row 0 0 (2 ^ (t .rlen - 3)))
-    (cond (eqb (t .next) 9) (row 2 0 0)
-    (cond (eqb (t .next) 10) (row 3 (t .seals) 0)
-    (row 0 0 (2 ^ t .mlen))))))))))))
+  pub row-is : t .next < 12 → t .row ≡ rowOf t
 
 abbrev pub RowOk : Row → Type 0
 RowOk r = r .kind ≡ 1 → (5 ≤ r .low) × (r .low ≤ 6)
@@ -153,7 +168,7 @@ numberIn s at r =
 -- the fields with n for the next
 unfoldable pub putField : Fields → ℕ → Fields
 putField t n =
-    fieldsOf (t .next) (t .at) (new 0 (t .version)) (new 1 (t .rule)) (new 2 (t .elen)) (new 3 (t .rlen)) (new 4 (t .mlen)) (new 5 (t .mtype))
+    fieldsWith (t .row) (t .next) (t .at) (new 0 (t .version)) (new 1 (t .rule)) (new 2 (t .elen)) (new 3 (t .rlen)) (new 4 (t .mlen)) (new 5 (t .mtype))
     (new 6 (t .«tile_m»)) (new 7 (t .«tile_k»)) (new 8 (t .«tile_n»)) (new 9 (t .seals)) (new 10 (t .«seals_at»)) (new 11 (t .runs))
   where
     new : ℕ → ℕ → ℕ
@@ -168,19 +183,34 @@ after f version =
     (f + 1)))
 
 abbrev pub movedTo : (next at : ℕ) → Fields → Fields
-movedTo next at t = fieldsOf next at (t .version) (t .rule) (t .elen) (t .rlen) (t .mlen) (t .mtype) (t .«tile_m») (t .«tile_k») (t .«tile_n») (t .seals) (t .«seals_at») (t .runs)
+movedTo next at t = fieldsWith (t .row) next at (t .version) (t .rule) (t .elen) (t .rlen) (t .mlen) (t .mtype) (t .«tile_m») (t .«tile_k») (t .«tile_n») (t .seals) (t .«seals_at») (t .runs)
+
+-- with n for the next, behind which is a place
+abbrev pub fieldRead : Fields → (n at : ℕ) → Fields
+fieldRead t n at = movedTo (after (t .next) (putField t n .version)) at (putField t n)
+
+-- with the row of the next
+abbrev pub withRow : Fields → Fields
+withRow t = fieldsOf (t .next) (t .at) (t .version) (t .rule) (t .elen) (t .rlen) (t .mlen) (t .mtype) (t .«tile_m») (t .«tile_k») (t .«tile_n») (t .seals) (t .«seals_at») (t .runs)
 
 -- one field more, read at a place; 13 at a fault
 unfoldable pub fieldFrom : List ℕ → ℕ → Fields → Fields
-fieldFrom s at t = onward (numberIn s at (rowOf t)) (λ p. movedTo 13 p t) (λ n a. movedTo (after (t .next) (putField t n .version)) a (putField t n))
+fieldFrom s at t = onward (numberIn s at (t .row)) (λ p. movedTo 13 p t) (λ n a. withRow (fieldRead t n a))
 
 -- all that are left, at most so many
 unfoldable pub fieldsAll : List ℕ → (most : ℕ) → Fields → Fields
 fieldsAll s zero t = t
 fieldsAll s (suc n) t = cond (ltb (t .next) 12) (fieldsAll s n (fieldFrom s (t .at) t)) t
 
+unfoldable pub readIn : List ℕ → Fields
+readIn s = fieldsAll s 12 firstField
+
+-- without a row
+abbrev pub rested : Fields → Fields
+rested t = fieldsWith (row 0 0 0) (t .next) (t .at) (t .version) (t .rule) (t .elen) (t .rlen) (t .mlen) (t .mtype) (t .«tile_m») (t .«tile_k») (t .«tile_n») (t .seals) (t .«seals_at») (t .runs)
+
 unfoldable pub fieldsIn : List ℕ → Fields
-fieldsIn s = fieldsAll s 12 firstField
+fieldsIn s = rested (readIn s)
 
 abbrev pub machineOf : Fields → Machine
 machineOf t = record {

@@ -12,32 +12,13 @@ ghost use Prim.Native.Nat.{_^_, _≤_, _<_};
 ghost use Rattle.image.specs.ImageFormat.{topRlen, topMlen, leastMlen};
 ghost use Rattle.machine.specs.Starting.{noMachine};
 ghost use Rattle.reader.specs.At.{plain};
-ghost use Rattle.image_check.specs.Parts.{mtypeAt, countAt, plainRange, rangeAt, rangesAt, leastRule, row, rowOf, RowOk, numberIn, putField, after, fieldFrom, firstField, FieldsOk, machineOf};
+ghost use Rattle.image_check.specs.Parts.{mtypeAt, countAt, plainRange, rangeAt, rangesAt, leastRule, row, rowOf, RowOk, numberIn, putField, after, fieldFrom, firstField, FieldsOk, Ready, rested, machineOf};
 ghost use Rattle.image_check.specs.Parts.Pair.{PairBad};
 
 // The number behind the last field, and the one that stands for a fault.
 pub const ALL_READ: usize = 12;
 
 const AT_FAULT: usize = 13;
-
-// The fields read so far: the number of the next one, and the place behind them; at a fault the place of it. A field that is not read yet, or
-// that the version does not have, is what it is in `first_field`.
-pub struct Fields {
-    pub next: usize,
-    pub at: usize,
-    pub version: u64, // field 0
-    pub rule: u64, // 1
-    pub elen: u64, // 2: the exponents of ELEN,
-    pub rlen: u64, // 3: RLEN
-    pub mlen: u64, // 4: and MLEN
-    pub mtype: u64, // 5
-    pub tile_m: u64, // 6
-    pub tile_k: u64, // 7
-    pub tile_n: u64, // 8
-    pub seals: u64, // 9: how many ranges there are,
-    pub seals_at: u64, // 10: their place,
-    pub runs: u64, // 11: and how many runs
-}
 
 // What may stand in a field, by the kind.
 pub struct Row {
@@ -53,6 +34,26 @@ const MTYPE: u64 = 1; // an mtype, where low is the exponent of ELEN
 const COUNT: u64 = 2; // how many ranges there are
 
 const RANGES: u64 = 3; // so many ranges, low of them: the number is their place
+
+// The fields read so far: the number of the next one and its row, and the place behind them; at a fault the place of it. A field that is not
+// read yet, or that the version does not have, is what it is in `first_field`.
+pub struct Fields {
+    pub next: usize,
+    pub at: usize,
+    pub row: Row,
+    pub version: u64, // field 0
+    pub rule: u64, // 1
+    pub elen: u64, // 2: the exponents of ELEN,
+    pub rlen: u64, // 3: RLEN
+    pub mlen: u64, // 4: and MLEN
+    pub mtype: u64, // 5
+    pub tile_m: u64, // 6
+    pub tile_k: u64, // 7
+    pub tile_n: u64, // 8
+    pub seals: u64, // 9: how many ranges there are,
+    pub seals_at: u64, // 10: their place,
+    pub runs: u64, // 11: and how many runs
+}
 
 // A range of an image: whether it is there, and the place behind it, or that of the fault.
 pub struct RangeRead {
@@ -290,12 +291,12 @@ fn after(f: usize, version: u64) -> usize
     f + 1
 }
 
-// Reads the next field at a place of s.
+// Reads the next field at a place of s, and finds the row of the one behind it.
 pub fn field_from(s: &[u8], at: usize, t: Fields) -> Fields
-    requires { ⌜ (t .next < 12) × FieldsOk t ⌝ }
+    requires { ⌜ (t .next < 12) × Ready t ⌝ }
     ensures { λ r. ⌜ r ≡ fieldFrom (now (s .entry)) at t ⌝ }
 {
-    let n = number_in(s, at, row_of(t));
+    let n = number_in(s, at, t.row);
     if !n.good {
         return Fields {
             next: AT_FAULT,
@@ -304,10 +305,14 @@ pub fn field_from(s: &[u8], at: usize, t: Fields) -> Fields
         };
     }
     let x = put_field(t, n.value);
-    Fields {
+    let y = Fields {
         next: after(t.next, x.version),
         at: n.at,
         ..x
+    };
+    Fields {
+        row: row_of(y),
+        ..y
     }
 }
 
@@ -316,6 +321,7 @@ pub fn first_field() -> Fields
     ensures { λ r. ⌜ r ≡ firstField ⌝ }
 {
     Fields {
+        row: permitted(SPAN, 1, 4),
         next: 0,
         at: 0,
         version: 0,
@@ -330,6 +336,16 @@ pub fn first_field() -> Fields
         seals: 1,
         seals_at: 0,
         runs: 0,
+    }
+}
+
+// The fields without a row.
+pub fn rested(t: Fields) -> Fields
+    ensures { λ r. ⌜ r ≡ rested t ⌝ }
+{
+    Fields {
+        row: permitted(SPAN, 0, 0),
+        ..t
     }
 }
 

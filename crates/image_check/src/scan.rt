@@ -4,13 +4,14 @@ use crate::head::Fields;
 use crate::head::field_from;
 use crate::head::first_field;
 use crate::head::power;
+use crate::head::rested;
 use crate::runs::Runs;
 use crate::runs::run_from;
 use reader::Reader;
 use reader::set_on;
 ghost use mathlib.Core.Path.{_≡_};
 ghost use Prim.Native.Nat.{_-_, _<_};
-ghost use Rattle.image_check.specs.Parts.{FieldsOk, fieldsAll, RunsOk, runsAll, runsBehind, scanIn};
+ghost use Rattle.image_check.specs.Parts.{FieldsOk, Ready, fieldsAll, RunsOk, runsAll, runsBehind, rested, scanIn};
 
 // What is found in an image: its header, and its runs.
 pub struct Scanned {
@@ -20,7 +21,7 @@ pub struct Scanned {
 
 // Reads the fields that are left; the reader is then behind them, or at the fault.
 fn read_fields<'s, 'a>(r: &'s mut Reader<'a>, first: Fields) -> Fields
-    requires { ⌜ FieldsOk first × (now r .at ≡ first .at) ⌝ }
+    requires { ⌜ Ready first × (now r .at ≡ first .at) ⌝ }
     ensures { λ t. ⌜ (t ≡ fieldsAll (now (now (r .entry) .image)) (12 - first .next) first)
         × (now (r .exit) .image ≡ now (r .entry) .image) × (now (r .exit) .at ≡ t .at) ⌝ }
 {
@@ -69,12 +70,12 @@ fn runs_behind(f: Fields) -> Runs
     }
 }
 
-// Both together.
+// Both together. No row is left.
 fn found(fields: Fields, runs: Runs) -> Scanned
-    ensures { λ r. ⌜ r ≡ record { fields = fields; runs = runs } ⌝ }
+    ensures { λ r. ⌜ r ≡ record { fields = rested fields; runs = runs } ⌝ }
 {
     Scanned {
-        fields: fields,
+        fields: rested(fields),
         runs: runs,
     }
 }

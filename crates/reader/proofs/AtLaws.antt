@@ -13,13 +13,8 @@ use Rattle.format.specs.Numbers.{span}
 use Rattle.format.specs.Parser.{Got, readNumber, isAmong, nonempty, afters, grow}
 use Rattle.format.specs.Parser.Got.{value, fault}
 use Rattle.format.proofs.NumberLaws.{reads-more}
-use Rattle.reader.specs.At.{Number, found, numberAt}
+use Rattle.reader.specs.At.{Number, found, numberAt, foundAfter, rest}
 use Rattle.reader.specs.At.Number.{Value, Fault}
-
--- the same behind groups that spell v, where the next counts u times
-abbrev pub foundAfter : ℕ → ℕ → ℕ → Got → Number
-foundAfter v u at (value n k) = Value (v + u * n) (at + k)
-foundAfter v u at (fault p) = Fault (at + p)
 
 found-first : (at : ℕ) (g : Got) → found at g ≡ foundAfter 0 1 at g
 found-first at (value n k) = ap (λ (x : ℕ). Value x (at + k)) (omega arith)
@@ -28,10 +23,6 @@ found-first at (fault p) = refl
 found-grow : (v u i g : ℕ) (r : Got) → foundAfter v u i (grow g r) ≡ foundAfter (v + g * u) (u * 128) (i + 1) r
 found-grow v u i g (value n k) = ap₂ Value (omega arith) (omega arith)
 found-grow v u i g (fault p) = ap Fault (omega arith)
-
--- what is still to be found at i
-unfoldable pub rest : List ℕ → ℕ → ℕ → ℕ → ℕ → ℕ → Number
-rest s i v u lo hi = foundAfter v u i (readNumber (span lo hi) (drop i s))
 
 pub rest-first : (s : List ℕ) (at low high : ℕ) → rest s at 0 1 low high ≡ numberAt s at low high
 unfolding rest numberAt
@@ -107,3 +98,29 @@ module _ (s : List ℕ) (at low high b : ℕ) (h : at < length s) (is : b ≡ ge
 
   pub one-last : low ≤ b → b ≤ high → Value b (at + 1) ≡ numberAt s at low high
   one-last a d = ap (λ (x : ℕ). Value x (at + 1)) {x = b} {y = 0 + 1 * b} (omega arith) ∙ turn-last s at 0 1 low high b _ (rest-first s at low high) h is k a d
+
+-- ---- a number of more
+module _ (s : List ℕ) (at low high g lo hi : ℕ) (h : at < length s) (is : getD s at 0 ≡ 128 + g) (el : lo ≡ max 1 ((low + 127 - g) / 128)) (eh : hi ≡ (high - g) / 128) where
+  same : 128 + g - 128 ≡ g
+  same = omega arith
+
+  lo-is : lo ≡ max 1 ((low + 127 - (128 + g - 128)) / 128)
+  lo-is = el ∙ ap (λ (x : ℕ). max 1 ((low + 127 - x) / 128)) (sym same)
+
+  hi-is : hi ≡ (high - (128 + g - 128)) / 128
+  hi-is = eh ∙ ap (λ (x : ℕ). (high - x) / 128) (sym same)
+
+  pub long-none : hi < lo → Fault at ≡ numberAt s at low high
+  long-none a = turn-none s at 0 1 low high (128 + g) _ (rest-first s at low high) h (sym is) (omega arith) lo hi lo-is hi-is a
+
+  pub long-more : lo ≤ hi → rest s (at + 1) g 128 lo hi ≡ numberAt s at low high
+  long-more a =
+      ap (λ (x : ℕ). rest s (at + 1) x 128 lo hi) {x = g} {y = 0 + (128 + g - 128) * 1} (omega arith)
+      ∙ turn-more s at 0 1 low high (128 + g) _ (rest-first s at low high) h (sym is) (omega arith) lo hi lo-is hi-is a
+
+  -- what is left fits
+  pub long-fits : 0 < lo → lo ≤ hi → g + 128 * hi ≤ high
+  long-fits p a = omega arith
+
+pub at-end : (s : List ℕ) (at low high : ℕ) → length s ≤ at → Fault at ≡ numberAt s at low high
+at-end s at low high h = sym (rest-end s at 0 1 low high h) ∙ rest-first s at low high

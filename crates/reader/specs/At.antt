@@ -1,7 +1,7 @@
 -- The number at a place of a slice, as the code answers it.
 use mathlib.Core.Bool.{true, false}
 use mathlib.Core.List.{List}
-use Prim.Native.Nat.{ℕ, _+_}
+use Prim.Native.Nat.{ℕ, _+_, _*_}
 use lib.ListN.{drop}
 use Rattle.format.specs.Numbers.{span}
 use Rattle.format.specs.Parser.{Got, readNumber}
@@ -26,3 +26,12 @@ found at (fault p) = Fault (at + p)
 -- the number from low to high at a place of s
 unfoldable pub numberAt : List ℕ → ℕ → ℕ → ℕ → Number
 numberAt s at low high = found at (readNumber (span low high) (drop at s))
+
+-- the same behind groups that spell v, where the next counts u times
+abbrev pub foundAfter : ℕ → ℕ → ℕ → Got → Number
+foundAfter v u at (value n k) = Value (v + u * n) (at + k)
+foundAfter v u at (fault p) = Fault (at + p)
+
+-- what is still to be found at i
+unfoldable pub rest : List ℕ → ℕ → ℕ → ℕ → ℕ → ℕ → Number
+rest s i v u lo hi = foundAfter v u i (readNumber (span lo hi) (drop i s))

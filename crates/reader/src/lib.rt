@@ -1,10 +1,10 @@
 // Numbers in groups of seven bits: read from a slice, by a reader set on it, and put into one; and bytes as they are.
 ghost use mathlib.Core.Path.{_≡_};
-ghost use Prim.Native.Nat.{_+_, _-_, _/_, _<_, _≤_, max};
-ghost use lib.ListN.{length, take, drop};
+ghost use Prim.Native.Nat.{_+_, _-_, _*_, _/_, _^_, _<_, _≤_, max};
+ghost use lib.ListN.{length, take, drop, getD};
 ghost use lib.Seq.{sets};
 ghost use Rattle.format.specs.Numbers.{encode};
-ghost use Rattle.reader.specs.At.{plain, numberAt};
+ghost use Rattle.reader.specs.At.{plain, numberAt, rest};
 ghost use Rattle.reader.specs.At.Number.{Value, Fault};
 
 // What is read at a place: a permitted number and the place behind it; or that none is there, and the place of the first byte at which none can
@@ -65,15 +65,16 @@ fn most_after(hi: u64, g: u64) -> u64
     (hi - g) / 128
 }
 
-// The number from low to high at a place of s, group by group.
-fn long_at(s: &[u8], at: usize, low: u64, high: u64) -> Reading
-    ensures { λ r. ⌜ r ≡ plain (numberAt (now (s .entry)) at low high) ⌝ }
+// A number behind its first group, group by group: the rest is from low to high.
+fn rest_at(s: &[u8], at: usize, low: u64, high: u64, first: u64) -> Reading
+    requires { ⌜ first + 128 * high < 2 ^ 64 ⌝ }
+    ensures { λ r. ⌜ r ≡ plain (rest (now (s .entry)) at first 128 low high) ⌝ }
 {
     let mut i = at;
     let mut lo = low;
     let mut hi = high;
-    let mut value: u64 = 0;
-    let mut unit: u64 = 1;
+    let mut value = first;
+    let mut unit: u64 = 128;
     while i < s.len() {
         let b = wide(s[i]);
         if b < 128 {
@@ -100,6 +101,19 @@ fn long_at(s: &[u8], at: usize, low: u64, high: u64) -> Reading
     fault(i)
 }
 
+// The number from low to high at a place of s, where its first group is g and others follow.
+fn long_at(s: &[u8], at: usize, low: u64, high: u64, g: u64) -> Reading
+    requires { ⌜ (at < length (now s)) × (getD (now s) at 0 ≡ 128 + g) × (g < 128) ⌝ }
+    ensures { λ r. ⌜ r ≡ plain (numberAt (now (s .entry)) at low high) ⌝ }
+{
+    let lo = least_after(low, g);
+    let hi = most_after(high, g);
+    if hi < lo {
+        return fault(at);
+    }
+    rest_at(s, at + 1, lo, hi, g)
+}
+
 // The number from low to high at a place of s; most take one byte.
 pub fn number_at(s: &[u8], at: usize, low: u64, high: u64) -> Reading
     ensures { λ r. ⌜ r ≡ plain (numberAt (now (s .entry)) at low high) ⌝ }
@@ -115,8 +129,9 @@ pub fn number_at(s: &[u8], at: usize, low: u64, high: u64) -> Reading
             }
             return found(b, at + 1);
         }
+        return long_at(s, at, low, high, b - 128);
     }
-    long_at(s, at, low, high)
+    fault(at)
 }
 
 // A reader set on an image, which remembers how far it has read.

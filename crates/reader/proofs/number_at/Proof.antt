@@ -1,9 +1,9 @@
 -- `reader::number_at` meets its contract.
-use mathlib.Core.Path.{ap, _∙_}
+use mathlib.Core.Path.{sym, ap, _∙_}
 use native.Mathlib.Omega.{arith}
 use borrow.Author.Needs.{needs}
 use Rattle.reader.specs.At.{plain}
-use Rattle.reader.proofs.AtLaws.{one-low, one-high, one-last}
+use Rattle.reader.proofs.AtLaws.{one-low, one-high, one-last, at-end}
 use Rattle.reader.proofs.number_at.Statement.{statement}
 use Rattle.reader.proofs.number_at.Tie as tie
 
@@ -44,10 +44,22 @@ returns-3 c =
     c .found .ensures ∙ ap plain (one-last (a .s .now) (a .at) (a .low) (a .high) (w .wide .result) (omega arith) (w .wide .ensures) (omega arith) (omega arith) (omega arith))
 
 long-at-requires : tie.Need-long-at-requires
-long-at-requires c κs = search needs
+long-at-requires c κs =
+    let w = c .before .wide in
+    let a = c .before .before .before .before .before .args in
+    let few = c .before .before .shared-slice-known2 .given (a .at) in
+    (omega arith, sym (w .ensures) ∙ omega arith, omega (arith, w .ensures, few))
 
 returns-4 : tie.Need-returns-4
 returns-4 c = search needs
+
+fault-requires-3 : tie.Need-fault-requires-3
+fault-requires-3 c κs = search needs
+
+returns-5 : tie.Need-returns-5
+returns-5 c =
+    let a = c .before .before .before .args in
+    c .fault3 .ensures ∙ ap plain (at-end (a .s .now) (a .at) (a .low) (a .high) (omega arith))
 
 pub number-at-spec : {M : Type 1} → statement M
 number-at-spec =
@@ -63,4 +75,6 @@ number-at-spec =
     found-requires
     returns-3
     long-at-requires
-    returns-4)
+    returns-4
+    fault-requires-3
+    returns-5)

@@ -2,22 +2,20 @@
 use mathlib.Core.Path.{sym, subst}
 use borrow.Author.Tests.{not-true, not-false}
 use Rattle.image_check.specs.Parts.{RowOk}
-use Rattle.image_check.proofs.ScanLaws.{row-ok, field-good, field-bad}
+use Rattle.image_check.proofs.ScanLaws.{row-ok, field-bad, field-sizes, field-good}
 use borrow.Author.Needs.{needs}
 use Rattle.image_check.proofs.head.field_from.Statement.{statement}
 use Rattle.image_check.proofs.head.field_from.Tie as tie
 
-row-of-requires : tie.Need-row-of-requires
-row-of-requires c κs = search needs
-
 number-in-requires : tie.Need-number-in-requires
-number-in-requires c κs = subst RowOk (sym (c .row-of .ensures)) (row-ok (c .before .before .args .t) (c .before .before .pre .1))
+number-in-requires c κs = subst RowOk (sym (c .before .pre .1 .row-is (c .before .pre .0))) (row-ok (c .before .args .t) (c .before .pre .1 .sizes-ok))
 
 returns : tie.Need-returns
 returns c =
-    let n = c .before .before .number-in in
-    let a = c .before .before .before .before .before .args in
-    field-bad (a .s .now) (a .at) (a .t) (n .result) (n .ensures) (c .before .before .before .row-of .ensures) (not-true (n .result .good) (c .if1 .taken))
+    let k = c .before .before .before in
+    let n = k .number-in in
+    let a = k .before .before .args in
+    field-bad (a .s .now) (a .at) (a .t) (n .result) (n .ensures) (not-true (n .result .good) (c .before .if1 .taken))
 
 put-field-requires : tie.Need-put-field-requires
 put-field-requires c κs = search needs
@@ -25,19 +23,29 @@ put-field-requires c κs = search needs
 after-requires : tie.Need-after-requires
 after-requires c κs = search needs
 
+row-of-requires : tie.Need-row-of-requires
+row-of-requires c κs =
+    let k = c .before .before .before .before .before in
+    let n = k .number-in in
+    let p = k .before .before in
+    let a = p .args in
+    field-sizes (a .s .now) (a .at) (a .t) (n .result) (n .ensures) (not-false (n .result .good) (c .before .before .before .if1 .left)) _ (c .before .before .put-field .ensures) _ (c .before .after .ensures) (p .pre .0) (p .pre .1)
+
 returns-2 : tie.Need-returns-2
 returns-2 c =
-    let n = c .before .before .before .before .number-in in
-    let a = c .before .before .before .before .before .before .before .args in
-    field-good (a .s .now) (a .at) (a .t) (n .result) (n .ensures) (c .before .before .before .before .before .row-of .ensures) (not-false (n .result .good) (c .before .before .if1 .left)) _ (c .before .put-field .ensures) _ (c .after .ensures)
+    let d = c .before in
+    let k = d .before .before .before .before .before in
+    let n = k .number-in in
+    let a = k .before .before .args in
+    field-good (a .s .now) (a .at) (a .t) (n .result) (n .ensures) (not-false (n .result .good) (d .before .before .before .if1 .left)) _ (d .before .before .put-field .ensures) _ (d .before .after .ensures) _ (c .row-of .ensures)
 
 pub field-from-spec : {M : Type 1} → statement M
 field-from-spec =
     tie.close
     (tie.spec
-    row-of-requires
     number-in-requires
     returns
     put-field-requires
     after-requires
+    row-of-requires
     returns-2)

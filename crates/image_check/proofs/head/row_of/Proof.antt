@@ -1,7 +1,7 @@
 -- `image_check::head::row_of` meets its contract.
 use mathlib.Core.Path.{_∙_}
 use native.Mathlib.Numerals.{add-one}
-use Rattle.image_check.specs.Parts.{rowOf}
+use Rattle.image_check.specs.Parts.{rowAt}
 use Rattle.image_check.proofs.FieldLaws.{row-last}
 use borrow.Author.Needs.{needs}
 use Rattle.image_check.proofs.head.row_of.Statement.{statement}
@@ -89,48 +89,48 @@ permitted-requires-12 : tie.Need-permitted-requires-12
 permitted-requires-12 c κs = search needs
 
 returns : tie.Need-returns
-unfolding rowOf
+unfolding rowAt
 returns c = c .permitted .ensures ∙ rw (c .before .match .keys1)
 
 returns-2 : tie.Need-returns-2
-unfolding rowOf
+unfolding rowAt
 returns-2 c = c .permitted2 .ensures ∙ rw (c .before .least-rule .ensures, c .before .before .match .keys2)
 
 returns-3 : tie.Need-returns-3
-unfolding rowOf
+unfolding rowAt
 returns-3 c = c .permitted3 .ensures ∙ rw (c .before .match .keys3)
 
 returns-4 : tie.Need-returns-4
-unfolding rowOf
+unfolding rowAt
 returns-4 c =
     c .permitted4 .ensures ∙ rw (add-one (c .before .before .before .before .args .t .elen), c .before .top-rlen .ensures, c .before .before .before .match .keys4)
 
 returns-5 : tie.Need-returns-5
-unfolding rowOf
+unfolding rowAt
 returns-5 c = c .permitted5 .ensures ∙ rw (c .before .top-mlen .ensures, c .before .before .least-mlen .ensures, c .before .before .before .match .keys5)
 
 returns-6 : tie.Need-returns-6
-unfolding rowOf
+unfolding rowAt
 returns-6 c = c .permitted6 .ensures ∙ rw (c .before .match .keys6)
 
 returns-7 : tie.Need-returns-7
-unfolding rowOf
+unfolding rowAt
 returns-7 c = c .permitted7 .ensures ∙ rw (c .before .power .ensures, c .before .before .before .match .keys7)
 
 returns-8 : tie.Need-returns-8
-unfolding rowOf
+unfolding rowAt
 returns-8 c = c .permitted8 .ensures ∙ rw (c .before .smaller .ensures, c .before .before .power3 .ensures, c .before .before .before .before .power2 .ensures, c .before .before .before .before .before .before .match .keys8)
 
 returns-9 : tie.Need-returns-9
-unfolding rowOf
+unfolding rowAt
 returns-9 c = c .permitted9 .ensures ∙ rw (c .before .power4 .ensures, c .before .before .before .match .keys9)
 
 returns-10 : tie.Need-returns-10
-unfolding rowOf
+unfolding rowAt
 returns-10 c = c .permitted10 .ensures ∙ rw (c .before .match .keys10)
 
 returns-11 : tie.Need-returns-11
-unfolding rowOf
+unfolding rowAt
 returns-11 c = c .permitted11 .ensures ∙ rw (c .before .match .keys11)
 
 returns-12 : tie.Need-returns-12

@@ -54,9 +54,9 @@ use Rattle.reader.specs.declared.Reader.{Reader}
 use Rattle.reader.proofs.Reader as T
 use Rattle.reader.proofs.Reader.Laws as T′
 use Rattle.image_check.specs.declared.head.Fields.{Fields}
-use Rattle.image_check.specs.Parts.{FieldsOk, fieldFrom}
+use Rattle.image_check.specs.Parts.{Ready, fieldFrom}
 use Rattle.image_check.proofs.FieldLaws.{left, field-more, fields-step, fields-done}
-use Rattle.image_check.proofs.ScanLaws.{field-ok}
+use Rattle.image_check.proofs.ScanLaws.{field-ready}
 use Rattle.image_check.proofs.head.Fields as U
 use Rattle.image_check.proofs.head.Fields.Laws as U′
 use Rattle.image_check.proofs.head.field_from as step
@@ -93,7 +93,7 @@ module _ {M : Type 1} (𝓤 : URA M) (H : Heap 𝓤) (A : Atoms 𝓤) (mem : Mem
   abbrev Step : Contract 𝓤
   Step = tripleOf 𝓤 H A step.signature (step.spec 𝓤 H A mem run)
 
-module _ {M : Type 1} (𝓤 : URA M) (H : Heap 𝓤) (A : Atoms 𝓤) (W : Given 𝓤 H A) (at-mem : Memory → SProp 𝓤) (run : Routine → Fun 𝓤) (κ κ′ : Lft) (q q′ : Share) (bounds : AllOutlive 2 (all.signature .outlives) (κ, (κ′, tt))) (b o : ℕ) (γ : GName) (h : Reader) (f : Fields) (isf : Is U.the-row f (U′.lowered f ∷ [])) (pre : FieldsOk f × (h .at ≡ f .at)) where
+module _ {M : Type 1} (𝓤 : URA M) (H : Heap 𝓤) (A : Atoms 𝓤) (W : Given 𝓤 H A) (at-mem : Memory → SProp 𝓤) (run : Routine → Fun 𝓤) (κ κ′ : Lft) (q q′ : Share) (bounds : AllOutlive 2 (all.signature .outlives) (κ, (κ′, tt))) (b o : ℕ) (γ : GName) (h : Reader) (f : Fields) (isf : Is U.the-row f (U′.lowered f ∷ [])) (pre : Ready f × (h .at ≡ f .at)) where
   abbrev x : RefT Reader × (Fields × Unit {0})
   x = (record { ptr = (b, o); name = γ; now = h }, (f, tt))
 
@@ -124,7 +124,7 @@ module _ {M : Type 1} (𝓤 : URA M) (H : Heap 𝓤) (A : Atoms 𝓤) (W : Given
     t : Fields
     p-fits : p < 2 ^ 64
     is : Is U.the-row t (U′.lowered t ∷ [])
-    ok : FieldsOk t
+    ok : Ready t
     same : p ≡ t .at
     goes : left (now (h .image)) t ≡ left (now (h .image)) f
 
@@ -141,10 +141,10 @@ module _ {M : Type 1} (𝓤 : URA M) (H : Heap 𝓤) (A : Atoms 𝓤) (W : Given
   abbrev to : ℕ → Fields → Step 𝓤 H A at-mem run .Ghost
   to p t = (((κ′, tt), (q′, tt), tt, (h .image, (p, (t, tt))), passed p t), tt)
 
-  asked : (p : ℕ) (t : Fields) → (t .next < 12) × FieldsOk t → ent 𝓤 (onEntry 𝓤 H A step.signature (κ′, tt) (q′, tt) (h .image, (p, (t, tt))) (passed p t)) (Step 𝓤 H A at-mem run .pre (to p t))
+  asked : (p : ℕ) (t : Fields) → (t .next < 12) × Ready t → ent 𝓤 (onEntry 𝓤 H A step.signature (κ′, tt) (q′, tt) (h .image, (p, (t, tt))) (passed p t)) (Step 𝓤 H A at-mem run .pre (to p t))
   asked p t pre = qed W ((‵ (flft κ′ q′) ⊛ ‵ ftrue) ∷ ‵ (owns (ShrSlice (named 0) κ′ u8 ∷ usize ∷ U.the-row ∷ []) (h .image, (p, (t, tt))) (passed p t)) ∷ []) ∵ says ! pre $ frame ! $ done !
 
-  apart : (p : ℕ) (t : Fields) → (t .next < 12) × FieldsOk t → p < 2 ^ 64 → Is U.the-row t (U′.lowered t ∷ []) → ent 𝓤 (⋆ 𝓤 H A (‵ (Own p) ∷ (‵ (flft κ′ q′) ⊛ ‵ ftrue) ∷ [])) (sep 𝓤 (Step 𝓤 H A at-mem run .pre (to p t)) (sem 𝓤 H A (Own p)))
+  apart : (p : ℕ) (t : Fields) → (t .next < 12) × Ready t → p < 2 ^ 64 → Is U.the-row t (U′.lowered t ∷ []) → ent 𝓤 (⋆ 𝓤 H A (‵ (Own p) ∷ (‵ (flft κ′ q′) ⊛ ‵ ftrue) ∷ [])) (sep 𝓤 (Step 𝓤 H A at-mem run .pre (to p t)) (sem 𝓤 H A (Own p)))
   apart p t pre fits is =
       qed W (‵ (Own p) ∷ (‵ (flft κ′ q′) ⊛ ‵ ftrue) ∷ []) ∵
       use1 W (‵ (Own p) ⊛ ‵ (Own p)) (LL.copy D (T′.the-copy (α κ′)) 𝓤 H A W .twice (at-place p) (T′.lowered (at-place p) ∷ [])) $ split ! $
@@ -184,7 +184,7 @@ module _ {M : Type 1} (𝓤 : URA M) (H : Heap 𝓤) (A : Atoms 𝓤) (W : Given
     t = t′;
     p-fits = fits t′ u is;
     is = subst (λ (z : Val). Is U.the-row t′ (z ∷ [])) (told t′ u is) is;
-    ok = subst FieldsOk (sym e) (field-ok (now (h .image)) (y .p) (y .t) (y .ok));
+    ok = subst Ready (sym e) (field-ready (now (h .image)) (y .p) (y .t) pos (y .ok));
     same = refl;
     goes = ap (left (now (h .image))) (e ∙ ap (λ (x : ℕ). fieldFrom (now (h .image)) x (y .t)) (y .same)) ∙ fields-step (now (h .image)) (y .t) pos ∙ y .goes;
   }

@@ -53,8 +53,8 @@ use Rattle.reader.proofs.set_on.Met as new-thm
 use Rattle.image_check.specs.declared.head.Fields.{Fields}
 use Rattle.image_check.specs.declared.runs.Runs.{Runs}
 use Rattle.image_check.specs.declared.scan.Scanned.{Scanned}
-use Rattle.image_check.specs.Parts.{firstField, FieldsOk, fieldsAll, fieldsIn, RunsOk, runsAll, runsBehind, scanIn}
-use Rattle.image_check.proofs.ScanLaws.{first-ok, fields-ok, behind-ok, behind-at}
+use Rattle.image_check.specs.Parts.{firstField, FieldsOk, Ready, fieldsAll, readIn, fieldsIn, rested, RunsOk, runsAll, runsBehind, scanIn}
+use Rattle.image_check.proofs.ScanLaws.{first-ready, read-ok, behind-read, behind-at}
 use Rattle.image_check.proofs.head.Fields as U
 use Rattle.image_check.proofs.head.Fields.Laws as U′
 use Rattle.image_check.proofs.runs.Runs as Y
@@ -88,20 +88,20 @@ use Rattle.image_check.proofs.scan.scan.Code as code
 
 -- ---- what is known of what was read
 
-fields-is : (s i : List ℕ) (f t : Fields) → i ≡ s → f ≡ firstField → t ≡ fieldsAll i (12 - f .next) f → t ≡ fieldsIn s
-unfolding fieldsIn
+fields-is : (s i : List ℕ) (f t : Fields) → i ≡ s → f ≡ firstField → t ≡ fieldsAll i (12 - f .next) f → t ≡ readIn s
+unfolding readIn
 fields-is s i f t ei ef et = et ∙ ap₂ (λ (x : List ℕ) (g : Fields). fieldsAll x (12 - g .next) g) ei ef
 
-runs-pre : (s i : List ℕ) (t : Fields) (b : Runs) → i ≡ s → t ≡ fieldsIn s → b ≡ runsBehind t → (0 < b .left → RunsOk i (b .at) b) × (t .at ≡ b .at)
+runs-pre : (s i : List ℕ) (t : Fields) (b : Runs) → i ≡ s → t ≡ readIn s → b ≡ runsBehind t → (0 < b .left → RunsOk i (b .at) b) × (t .at ≡ b .at)
 runs-pre s i t b ei et eb = (
-  subst (λ (x : List ℕ). 0 < b .left → RunsOk x (b .at) b) (sym ei) (subst (λ (y : Runs). 0 < y .left → RunsOk s (y .at) y) (sym (eb ∙ ap runsBehind et)) (behind-ok s)),
+  subst (λ (x : List ℕ). 0 < b .left → RunsOk x (b .at) b) (sym ei) (subst (λ (y : Runs). 0 < y .left → RunsOk s (y .at) y) (sym (eb ∙ ap runsBehind et)) (behind-read s)),
   sym (ap (λ (y : Runs). y .at) eb ∙ behind-at t),
 )
 
-whole-is : (s i : List ℕ) (t : Fields) (b z : Runs) (w : Scanned) → i ≡ s → t ≡ fieldsIn s → b ≡ runsBehind t → z ≡ runsAll i (b .left) b → w ≡ record { fields = t; runs = z } → w ≡ scanIn s
-unfolding scanIn
+whole-is : (s i : List ℕ) (t : Fields) (b z : Runs) (w : Scanned) → i ≡ s → t ≡ readIn s → b ≡ runsBehind t → z ≡ runsAll i (b .left) b → w ≡ record { fields = rested t; runs = z } → w ≡ scanIn s
+unfolding scanIn fieldsIn runsBehind
 whole-is s i t b z w ei et eb ez ew =
-    ew ∙ ap₂ (λ (x : Fields) (y : Runs). record { fields = x; runs = y }) et (ez ∙ ap₂ (λ (x : List ℕ) (y : Runs). runsAll x (y .left) y) ei (eb ∙ ap runsBehind et))
+    ew ∙ ap₂ (λ (x : Fields) (y : Runs). record { fields = rested x; runs = y }) et (ez ∙ ap₂ (λ (x : List ℕ) (y : Runs). runsAll x (y .left) y) ei (eb ∙ ap runsBehind et))
 
 abbrev stayed : Stays (scan.ended .signature .params) (scan.ended .kept)
 stayed = (stay-none-slice (0 ∷ []) tt (plain (λ _. u8)) yes, tt)
@@ -209,7 +209,7 @@ module _ {M : Type 1} (𝓤 : URA M) (H : Heap 𝓤) (A : Atoms 𝓤) (W : Given
   abbrev to-fields : ℕ → ℕ → GName → Reader → Fields → ReadFields 𝓤 H A at-mem run .Ghost
   to-fields α l δ h f = (((α ∷ κ, (κ, tt)), (hr, (hl, tt)), (meet-⊑-right (α ∷ []) κ, tt), (ref-to l δ h, (f, tt)), (vptr l 0 ∷ [], (U′.lowered f ∷ [], tt))), tt)
 
-  goes-fields : (α l : ℕ) (δ : GName) (h : Reader) (f : Fields) → Is U.the-row f (U′.lowered f ∷ []) → FieldsOk f × (h .at ≡ f .at)
+  goes-fields : (α l : ℕ) (δ : GName) (h : Reader) (f : Fields) → Is U.the-row f (U′.lowered f ∷ []) → Ready f × (h .at ≡ f .at)
       → ent 𝓤 (⋆ 𝓤 H A (‵ (flft (α ∷ κ) hr) ∷ ‵ (flft κ hl) ∷ ‵ (lent-to α l δ h) ∷ [])) (ReadFields 𝓤 H A at-mem run .pre (to-fields α l δ h f))
   goes-fields α l δ h f isf pre =
       qed W (‵ (flft (α ∷ κ) hr) ∷ ‵ (flft κ hl) ∷ ‵ (lent-to α l δ h) ∷ []) ∵ says ! pre $
@@ -261,8 +261,8 @@ module _ {M : Type 1} (𝓤 : URA M) (H : Heap 𝓤) (A : Atoms 𝓤) (W : Given
       qed W [] ∵ nothing ! $ owned ! Y.the-row (Is Y.the-row) (LL.makes Y.the-type Y′.the-plain 𝓤 H A) z _ isz $ fjoin ! $ owned ! U.the-row (Is U.the-row) (LL.makes U.the-type U′.the-plain 𝓤 H A) f _ isf $ fjoin ! $
       nothing ! $ join ! $ frame ! $ done !
 
-  both-said : (f : Fields) (z : Runs) (w : Scanned) → ent 𝓤 (ensured 𝓤 H A both.ended (both.clauses 𝓤 H A at-mem run) tt (f, (z, tt)) tt w) (fact 𝓤 (w ≡ record { fields = f; runs = z }))
-  both-said f z w = exE 𝓤 _ (λ ws. snd∗ 𝓤 (sem 𝓤 H A (lasts both.ended tt (f, (z, tt)) ws)) (fact 𝓤 (w ≡ record { fields = f; runs = z })))
+  both-said : (f : Fields) (z : Runs) (w : Scanned) → ent 𝓤 (ensured 𝓤 H A both.ended (both.clauses 𝓤 H A at-mem run) tt (f, (z, tt)) tt w) (fact 𝓤 (w ≡ record { fields = rested f; runs = z }))
+  both-said f z w = exE 𝓤 _ (λ ws. snd∗ 𝓤 (sem 𝓤 H A (lasts both.ended tt (f, (z, tt)) ws)) (fact 𝓤 (w ≡ record { fields = rested f; runs = z })))
 
   exits : (w : Scanned) (u : Val) → w ≡ scanIn (now s) → ent 𝓤 (⋆ 𝓤 H A (‵ (X.the-row .own w (u ∷ [])) ∷ (‵ (flft κ q) ⊛ ‵ ftrue) ∷ ‵ OwnS ∷ [])) (Post u)
   exits w u e =
@@ -319,7 +319,7 @@ module _ {M : Type 1} (𝓤 : URA M) (H : Heap 𝓤) (A : Atoms 𝓤) (W : Given
         -- [the reference; the lender's part; the new token; the image's; what s owns; …]
         move ! (3 ∷ []) $ split ! $ use1 W (‵ (flft κ hl) ⊛ ‵ (flft κ hr)) (W .lfts .lft-split κ q) $ split ! $
         move ! (5 ∷ 1 ∷ []) $ use2 W (‵ (flft (α ∷ κ) hr) ⊛ raw (Rest 𝓤 H A W α hr)) (within-token 𝓤 H A W α κ hr) $ split ! $
-        move ! (0 ∷ 2 ∷ 4 ∷ []) $ use3 W (raw (ReadFields 𝓤 H A at-mem run .pre (to-fields α l₂ δ r f))) (goes-fields α l₂ δ r f (spelt-fields f u₁ isf) (subst FieldsOk (sym e₁) first-ok, e .1 ∙ ap (λ (x : Fields). x .at) (sym e₁))) $
+        move ! (0 ∷ 2 ∷ 4 ∷ []) $ use3 W (raw (ReadFields 𝓤 H A at-mem run .pre (to-fields α l₂ δ r f))) (goes-fields α l₂ δ r f (spelt-fields f u₁ isf) (subst Ready (sym e₁) first-ready, e .1 ∙ ap (λ (x : Fields). x .at) (sym e₁))) $
         -- [what it asks; the way back; true; the lender's part; what s owns; _9; …; _3; …; _2's end; _1; …]
         calls-at ! fm (ReadFields 𝓤 H A at-mem run) known-fields (to-fields α l₂ δ r f) (and-then ! (load ! (from ! (stop !)) (look ! 7 refl)) (and-then ! (load ! (from ! (stop !)) (look ! 17 refl)) (no-more !))) (λ u₂.
         use1 W (later (some (λ (t : Fields). ((‵ (flft (α ∷ κ) hr) ⊛ ‵ (flft κ hl) ⊛ ‵ ftrue) ⊛ ‵ (U.the-row .own t (u₂ ∷ []))) ⊛ raw (ensured 𝓤 H A fields.ended (fields.clauses 𝓤 H A at-mem run) (α ∷ κ, (κ, tt)) (ref-to l₂ δ r, (f, tt)) tt t)))) (id⊢ 𝓤 _) $ await ! tt $ pick ! (λ t.
@@ -331,7 +331,7 @@ module _ {M : Type 1} (𝓤 : URA M) (H : Heap 𝓤) (A : Atoms 𝓤) (W : Given
         move ! (2 ∷ 1 ∷ []) $ use2 W (‵ (flft κ q)) (W .lfts .lft-join κ q) $
         move ! (1 ∷ 5 ∷ 3 ∷ []) $ use3 W (later (‵ (mem R .lies (record { image = r .image; at = t .at }) l₂ 0))) (ref-back 𝓤 H A W R (α ∷ κ) δ (record { image = r .image; at = t .at }) l₂ 0) $ await ! tt $ move ! (2 ∷ []) $ drop ! $
         -- [the reader; the token; true; what s owns; _9; …]
-        use0 W (raw (Behind 𝓤 H A at-mem run .pre (to-behind t))) (goes-behind t (spelt-fields t u₂ ist) (subst FieldsOk (sym (fields-is (now s) (now (r .image)) f t (ap now (e .0)) e₁ e₂)) (fields-ok (now s)))) $
+        use0 W (raw (Behind 𝓤 H A at-mem run .pre (to-behind t))) (goes-behind t (spelt-fields t u₂ ist) (subst FieldsOk (sym (fields-is (now s) (now (r .image)) f t (ap now (e .0)) e₁ e₂)) (read-ok (now s)))) $
         calls-at ! fm (Behind 𝓤 H A at-mem run) known-behind (to-behind t) (and-then ! (load ! (from ! (stop !)) (look ! 15 refl)) (no-more !)) (λ u₃.
         use1 W (later (some (λ (b : Runs). (‵ ftrue ⊛ ‵ (Y.the-row .own b (u₃ ∷ []))) ⊛ raw (ensured 𝓤 H A behind.ended (behind.clauses 𝓤 H A at-mem run) tt (t, tt) tt b)))) (id⊢ 𝓤 _) $ await ! tt $ pick ! (λ b.
         split ! $ move ! (1 ∷ []) $ use1 W (raw (fact 𝓤 (b ≡ runsBehind t))) (behind-said t b) $ heard ! (b ≡ runsBehind t) (λ e₃. split ! $ drop ! $ facts ! Y.the-row (Is Y.the-row) (shows 𝓤 H A Y.the-row) b (u₃ ∷ []) (λ isb.
@@ -357,7 +357,7 @@ module _ {M : Type 1} (𝓤 : URA M) (H : Heap 𝓤) (A : Atoms 𝓤) (W : Given
         use0 W (raw (Both 𝓤 H A at-mem run .pre (to-both t z))) (goes-both t z (spelt-fields t u₂ ist) (spelt-runs z u₄ isz)) $
         calls-at ! fm (Both 𝓤 H A at-mem run) known-both (to-both t z) (and-then ! (load ! (from ! (stop !)) (look ! 15 refl)) (and-then ! (load ! (from ! (stop !)) (look ! 11 refl)) (no-more !))) (λ u₅.
         use1 W (later (some (λ (w : Scanned). (‵ ftrue ⊛ ‵ (X.the-row .own w (u₅ ∷ []))) ⊛ raw (ensured 𝓤 H A both.ended (both.clauses 𝓤 H A at-mem run) tt (t, (z, tt)) tt w)))) (id⊢ 𝓤 _) $ await ! tt $ pick ! (λ w.
-        split ! $ move ! (1 ∷ []) $ use1 W (raw (fact 𝓤 (w ≡ record { fields = t; runs = z }))) (both-said t z w) $ heard ! (w ≡ record { fields = t; runs = z }) (λ e₅. split ! $ drop ! $
+        split ! $ move ! (1 ∷ []) $ use1 W (raw (fact 𝓤 (w ≡ record { fields = rested t; runs = z }))) (both-said t z w) $ heard ! (w ≡ record { fields = rested t; runs = z }) (λ e₅. split ! $ drop ! $
         -- [the result; _2; the token; true; what s owns; _9; …; _3; …; _2's end; _1; …; room for _0; …]
         peeks ! X.the-row (Is X.the-row) (shows 𝓤 H A X.the-row) w (u₅ ∷ []) (λ isw.
         land ! (from ! (stop !)) (init ! 22 refl (LL.lawful X.the-type X′.the-laws 𝓤 H A W .typed w _ isw .0)) $

@@ -1,0 +1,13 @@
+-- `image_check::scan::found` meets its contract.
+use borrow.Author.Needs.{needs}
+use Rattle.image_check.proofs.scan.found.Statement.{statement}
+use Rattle.image_check.proofs.scan.found.Tie as tie
+
+rested-requires : tie.Need-rested-requires
+rested-requires c κs = search needs
+
+returns : tie.Need-returns
+returns c = rw (c .rested .ensures)
+
+pub found-spec : {M : Type 1} → statement M
+found-spec = tie.close (tie.spec rested-requires returns)
