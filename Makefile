@@ -1,5 +1,5 @@
-# Builds, installs and packs the library, its headers, its manual pages and the programs `product`, `disassemble`, `assemble`,
-# `bodlarina-bench` and `bodlarina-salvage`.
+# Builds, installs and packs the library, static and shared, its headers, its manual pages, the programs `product`, `disassemble`,
+# `assemble`, `bodlarina-bench` and `bodlarina-salvage`, and the module for Python.
 #
 #     make                     prove and build the library and the programs; needs the Rattle kit (rt)
 #     make install PREFIX=..   install them; needs no kit where they are built, as in an archive of `make dist`
@@ -17,27 +17,44 @@ PROVED := product disassemble assemble
 PROGRAMS := $(PROVED) bodlarina-bench bodlarina-salvage
 MANUAL := man/bodlarina.3 $(PROGRAMS:%=man/%.1)
 
-# In an archive of `make dist` the library and the programs stand built in lib/ and bin/.
+# The shared library and the name that a host asks for at run time: while the major number is 0, that has the minor number too.
+NUMBERS := $(subst ., ,$(VERSION))
+SHARED_NAME := libbodlarina.so.$(VERSION)
+SONAME := libbodlarina.so.$(word 1,$(NUMBERS))$(if $(filter 0,$(word 1,$(NUMBERS))),.$(word 2,$(NUMBERS)))
+
+# In an archive of `make dist` the libraries and the programs stand built in lib/ and bin/.
 ifneq ($(wildcard lib/libbodlarina.a),)
 LIBRARY := lib/libbodlarina.a
+SHARED := lib/$(SHARED_NAME)
 BIN := bin
 else
 LIBRARY := target/staticlib/libbodlarina.a
+SHARED := target/sharedlib/$(SHARED_NAME)
 BIN := target/bin
 endif
 BUILT := $(PROGRAMS:%=$(BIN)/%)
 
-.PHONY: all lib $(PROVED) bench salvage install uninstall dist pack test
+.PHONY: all lib shared $(PROVED) bench salvage install uninstall dist pack test
 
 all: lib $(PROVED)
 	$(MAKE) bench salvage
 
 ifeq ($(LIBRARY),lib/libbodlarina.a)
-lib $(PROVED) bench salvage:
-	@echo "built already: $(LIBRARY), $(BUILT)"
+lib shared $(PROVED) bench salvage:
+	@echo "built already: $(LIBRARY), $(SHARED), $(BUILT)"
 else
 lib:
 	rt staticlib bodlarina
+	$(MAKE) shared
+
+# over the library as it is built; the linker refuses code that has to be written to where it is loaded
+shared:
+	@test -f $(LIBRARY) || { echo "$(LIBRARY) is not built: make lib"; exit 1; }
+	mkdir -p $(dir $(SHARED))
+	$(CC) -shared -Wl,--whole-archive $(LIBRARY) -Wl,--no-whole-archive -Wl,-soname,$(SONAME) -Wl,--version-script,bodlarina.map \
+	  -Wl,-z,defs -Wl,-z,text -o $(SHARED)
+	ln -sf $(SHARED_NAME) $(dir $(SHARED))$(SONAME)
+	ln -sf $(SONAME) $(dir $(SHARED))libbodlarina.so
 
 $(PROVED):
 	rt check $@
@@ -54,35 +71,48 @@ salvage:
 	$(CC) -std=c99 -O2 -Iinclude -Ibench tools/salvage.c bench/files.c bench/kept.c $(LIBRARY) -o $(BIN)/bodlarina-salvage
 endif
 
+# pkg-config's `bodlarina` is the static library, `bodlarina-shared` the shared one, found at run time where it is installed
+PC := sed -e 's|@PREFIX@|$(PREFIX)|' -e 's|@VERSION@|$(VERSION)|'
+
 install:
-	@test -f $(LIBRARY) || { echo "$(LIBRARY) is not built: make lib"; exit 1; }
-	$(INSTALL) -d $(DESTDIR)$(PREFIX)/lib/pkgconfig $(DESTDIR)$(PREFIX)/include
+	@for file in $(LIBRARY) $(SHARED); do test -f $$file || { echo "$$file is not built: make lib"; exit 1; }; done
+	$(INSTALL) -d $(DESTDIR)$(PREFIX)/lib/pkgconfig $(DESTDIR)$(PREFIX)/include $(DESTDIR)$(PREFIX)/share/bodlarina/python
 	$(INSTALL) -d $(DESTDIR)$(PREFIX)/share/man/man1 $(DESTDIR)$(PREFIX)/share/man/man3
 	$(INSTALL) -m 644 $(LIBRARY) $(DESTDIR)$(PREFIX)/lib/libbodlarina.a
+	$(INSTALL) -m 755 $(SHARED) $(DESTDIR)$(PREFIX)/lib/$(SHARED_NAME)
+	ln -sf $(SHARED_NAME) $(DESTDIR)$(PREFIX)/lib/$(SONAME)
+	ln -sf $(SONAME) $(DESTDIR)$(PREFIX)/lib/libbodlarina.so
 	$(INSTALL) -m 644 $(HEADERS) $(DESTDIR)$(PREFIX)/include
-	sed -e 's|@PREFIX@|$(PREFIX)|' -e 's|@VERSION@|$(VERSION)|' bodlarina.pc.in >$(DESTDIR)$(PREFIX)/lib/pkgconfig/bodlarina.pc
+	$(PC) -e 's|@NAME@|bodlarina|' -e 's|@LIBS@|$${libdir}/libbodlarina.a|' bodlarina.pc.in \
+	  >$(DESTDIR)$(PREFIX)/lib/pkgconfig/bodlarina.pc
+	$(PC) -e 's|@NAME@|bodlarina-shared|' -e 's|@LIBS@|-L$${libdir} -Wl,-rpath,$${libdir} -lbodlarina|' bodlarina.pc.in \
+	  >$(DESTDIR)$(PREFIX)/lib/pkgconfig/bodlarina-shared.pc
+	$(INSTALL) -m 644 python/bodlarina.py $(DESTDIR)$(PREFIX)/share/bodlarina/python
 	$(INSTALL) -m 644 man/bodlarina.3 $(DESTDIR)$(PREFIX)/share/man/man3
 	for name in $(PROGRAMS); do if test -f $(BIN)/$$name; then $(INSTALL) -d $(DESTDIR)$(PREFIX)/bin && \
 	  $(INSTALL) -m 755 $(BIN)/$$name $(DESTDIR)$(PREFIX)/bin && \
 	  $(INSTALL) -m 644 man/$$name.1 $(DESTDIR)$(PREFIX)/share/man/man1 || exit 1; fi; done
 
 uninstall:
-	rm -f $(addprefix $(DESTDIR)$(PREFIX)/,lib/libbodlarina.a include/bodlarina.h include/bodlarina_words.h \
-	  lib/pkgconfig/bodlarina.pc share/man/man3/bodlarina.3 \
+	rm -f $(addprefix $(DESTDIR)$(PREFIX)/,include/bodlarina.h include/bodlarina_words.h \
+	  lib/libbodlarina.a lib/libbodlarina.so lib/$(SONAME) lib/$(SHARED_NAME) \
+	  lib/pkgconfig/bodlarina.pc lib/pkgconfig/bodlarina-shared.pc share/man/man3/bodlarina.3 \
 	  $(PROGRAMS:%=bin/%) $(PROGRAMS:%=share/man/man1/%.1))
+	rm -rf $(DESTDIR)$(PREFIX)/share/bodlarina
 
 dist: all pack
 
 # the archive of what is built already
 pack:
 	rm -rf target/dist/$(PACKAGE)
-	mkdir -p $(addprefix target/dist/$(PACKAGE)/,include lib bin man examples/bench docs)
+	mkdir -p $(addprefix target/dist/$(PACKAGE)/,include lib bin man examples/bench python docs)
 	cp $(HEADERS) target/dist/$(PACKAGE)/include
-	cp $(LIBRARY) target/dist/$(PACKAGE)/lib
+	cp $(LIBRARY) $(SHARED) target/dist/$(PACKAGE)/lib
 	cp $(BUILT) target/dist/$(PACKAGE)/bin
 	cp $(MANUAL) target/dist/$(PACKAGE)/man
 	cp examples/*.c examples/*.out target/dist/$(PACKAGE)/examples
 	cp bench/examples/* target/dist/$(PACKAGE)/examples/bench
+	cp python/bodlarina.py python/four_loops.py python/four_loops.out target/dist/$(PACKAGE)/python
 	cp docs/INSTRUCTIONS.md target/dist/$(PACKAGE)/docs
 	cp Makefile bodlarina.pc.in target/dist/$(PACKAGE)
 	tar -C target/dist --sort=name --owner=0 --group=0 --numeric-owner -czf target/dist/$(PACKAGE).tar.gz $(PACKAGE)
