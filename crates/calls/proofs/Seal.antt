@@ -302,13 +302,16 @@ pub from-block : (rs : List Range) (b : Buffers) (cs : List Call) → Words (mac
     → SealKept rs (b .memory) (benchIn (afterCalls cs b))
 from-block rs b cs w e h = subst (λ (x : List Range). SealKept x (b .memory) (benchIn (afterCalls cs b))) e (calls-keep cs b w h)
 
--- what an accepted start leaves in the block
-record Started (rlen mlen elen rule : ℕ) (seals : List ℕ) (b : Buffers) (o : Called) : Type 0 where
-  words : Words (machineOf (o .after .machine))
-  holds : sealsIn (o .after .machine) ≡ ranges seals
-  memory-stays : o .after .memory ≡ b .memory
+-- what an accepted start leaves
+pub record Started (rlen mlen elen rule : ℕ) (seals : List ℕ) (b : Buffers) (o : Called) : Type 0 where
+  pub leaves : startMachine rlen mlen elen rule seals (b .registers) (b .marks)
+      ≡ startedAs (record { answer = Done; machine = freshMachine rlen mlen elen rule }) seals (b .registers) (replicate (length (b .marks)) 0)
+  pub words : Words (machineOf (o .after .machine))
+  pub made : machineOf (o .after .machine) ≡ freshMachine rlen mlen elen rule
+  pub holds : sealsIn (o .after .machine) ≡ ranges seals
+  pub rest : o .after ≡ buffers (o .after .machine) (b .registers) (replicate (length (b .marks)) 0) (b .scalars) (b .memory) (b .run) (b .step) (b .steps) (b .file)
 
-was-started : (rlen mlen elen rule : ℕ) (seals : List ℕ) (b : Buffers) → let o = called (Call.start rlen mlen elen rule seals) b in o .result ≡ 0 → Started rlen mlen elen rule seals b o
+pub was-started : (rlen mlen elen rule : ℕ) (seals : List ℕ) (b : Buffers) → let o = called (Call.start rlen mlen elen rule seals) b in o .result ≡ 0 → Started rlen mlen elen rule seals b o
 unfolding hostStart startMachine
 was-started rlen mlen elen rule seals b =
     go (eqb (length (b .machine)) machineBytes) (startable rlen mlen elen rule seals (b .registers) (b .marks)) (leb (length (ranges seals)) mostSeals) refl refl refl
@@ -343,10 +346,13 @@ was-started rlen mlen elen rule seals b =
         let l : length (b .machine) ≡ machineBytes = eqb-true (length (b .machine)) machineBytes e in
         let w : Words fresh = sound-words fresh (b .registers) (B .marks) (sound-is fresh (b .registers) (B .marks) (bench-sound B k)) in
         let m : machineOf (out true true true .after .machine) ≡ fresh = machineOf-putSeals (ranges seals) (putMachine fresh (b .machine)) ∙ machineOf-putMachine fresh (b .machine) w l in
+        let v : verdict (startChecks rlen mlen elen rule seals (b .registers) (b .marks)) ≡ Done = rw (f, g) in
         record {
+          leaves = ap started v;
           words = subst Words (sym m) w;
+          made = m;
           holds = putSeals-seals (ranges seals) (putMachine fresh (b .machine)) (length-putMachine fresh (b .machine) ∙ l) (bench-seals B k);
-          memory-stays = refl;
+          rest = refl;
         }
     go true true false e f g z = let y : _≡_ {A = ℕ} 16 0 = z in absurd (omega arith)
     go true false v e f g z = let y : _≡_ {A = ℕ} 8 0 = z in absurd (omega arith)
@@ -356,7 +362,7 @@ pub seal-holds-from-start-call : SealHoldsFromStartCall
 seal-holds-from-start-call rlen mlen elen rule seals b z cs h =
     let o : Called = called (Call.start rlen mlen elen rule seals) b in
     let k = was-started rlen mlen elen rule seals b z in
-    subst (λ (memory : List ℕ). SealKept (ranges seals) memory (benchIn (afterCalls cs (o .after)))) (k .memory-stays) (from-block (ranges seals) (o .after) cs (k .words) (k .holds) h)
+    subst (λ (memory : List ℕ). SealKept (ranges seals) memory (benchIn (afterCalls cs (o .after)))) (ap (λ (a : Buffers). a .memory) (k .rest)) (from-block (ranges seals) (o .after) cs (k .words) (k .holds) h)
 
 pub start-call-holds : StartCallHolds
 start-call-holds rlen mlen elen rule seals b z = was-started rlen mlen elen rule seals b z .holds

@@ -5,11 +5,11 @@ use mathlib.Core.Bool.{Bool, true, false, cond}
 use mathlib.Core.List.{List, [], _∷_, _++_}
 use mathlib.Core.Option.{Option, none, some}
 use Prim.Native.Nat.{ℕ, zero, suc, _+_, _≤_, _<_}
-use native.Mathlib.Nat.{eq-or-lt-of-le, le-of-suc-le-suc}
+use native.Mathlib.Nat.{eq-or-lt-of-le, eq-zero-or-pos, le-of-suc-le-suc}
 use native.Mathlib.Omega.{arith}
 use lib.Dec.{leb, eqb}
 use lib.ListN.{length, drop, replicate}
-use borrow.Author.Tests.{eqb-true, leb-true}
+use borrow.Author.Tests.{eqb-true, eqb-false, leb-true}
 use Rattle.width.specs.Blocks.{Choice}
 use Rattle.format.specs.Parser.{Parsed, parse}
 use Rattle.format.specs.Parser.Parsed.{whole, stopped}
@@ -17,8 +17,10 @@ use Rattle.machine.specs.declared.Answer.{Answer}
 use Rattle.machine.specs.declared.Answer.the-variants.{Done, IllegalWord, IllegalType, BadWidth, TileTooLarge, Unwritten, OutsideMemory, SealedByte, BadArguments, Overlap, WrongOpcode, LeftOutWord, WrongRegister, RowsOverlap, TooManySeals}
 use Rattle.machine.specs.declared.Machine.{Machine}
 use Rattle.machine.specs.declared.Reply.{Reply}
-use Rattle.machine.specs.Answers.{reply, number, done, isDone, verdict}
-use Rattle.machine.specs.Geometry.{Range, Parameters, parameters, Bench, benchOf}
+use Rattle.machine.specs.Answers.{reply, number, done, isDone, _otherwise_, verdict}
+use Rattle.machine.specs.Refusals.{checks}
+use Rattle.machine.specs.Faults.{soundBench, thirtyTwo}
+use Rattle.machine.specs.Geometry.{Range, sealed, Parameters, parameters, Bench, benchOf}
 use Rattle.machine.specs.Vectors.{Vectors, vectorsOf, idle}
 use Rattle.machine.specs.Starting.{startMachine}
 use Rattle.machine.specs.Starting
@@ -111,6 +113,21 @@ module _ (grant : Choice) where
       go none = omega arith
       go (some o) = let h = handedFor (r .run .plan) o in own-step-low (h .word) (own h) (r .bench)
 
+  -- a step of a state at fault
+  faulty-step : (word : ℕ) (xs : List ℕ) (B : Bench) → soundBench B ≡ false → stepBy grant word xs B .answer .number ≡ 8
+  unfolding stepBy outcome
+  faulty-step word xs B e =
+      let M = parameters grant (B .machine) in
+      let rest : Answer = verdict ((thirtyTwo xs otherwise BadArguments) ∷ checks M (sealed (B .seals)) (Step.meantIn idle M (decode word) xs B) (Step.givenIn idle M (decode word) xs B) (B .memory)) in
+      ap (λ (s : Bool). let v : Answer = cond s rest BadArguments in cond (isDone v) (Step.carriedIn idle M (decode word) xs B) (Step.refusedIn idle M (decode word) xs B v) .answer .number) e
+
+  faulty-turn : (r : Running) → soundBench (r .bench) ≡ false → turn grant r .answer .number ≡ 8
+  faulty-turn r e = go (handsOut grant (r .run))
+    where
+      go : (o : Option Op) → turnWith grant r o .answer .number ≡ 8
+      go none = refl
+      go (some o) = let h = handedFor (r .run .plan) o in faulty-step (h .word) (own h) (r .bench) e
+
   pub run-start-low : (P : Plan) (B : Bench) → startRun grant P B .answer .number ≤ lastAnswer
   unfolding startRun
   run-start-low P B = low (verdict (Start.startChecks grant P B))
@@ -134,12 +151,16 @@ module _ (grant : Choice) where
   act-refused : (a : Act) (S : Session) → ¬ (act grant a S .answer .number ≡ 0) → (act grant a S .after ≡ S) × (act grant a S .count ≡ 0)
   act-refused (Act.lend xs W memory) S d = absurd (d refl)
   act-refused (Act.step word) S d =
-      let k = step-refusal-changes-nothing grant word (S .scalars) (S .lent) (S .bench) d in
-      (ap₂ (λ (B : Bench) (xs : List ℕ). session B xs (vectorsOf (stepWith grant word (S .scalars) (S .lent) (S .bench) .vectors) (S .lent .group)) (S .run)) (k .0) (k .1)
-      ∙ ap (λ (file : List ℕ). session (S .bench) (S .scalars) (vectorsOf file (S .lent .group)) (S .run)) (k .2), refl)
-  act-refused (Act.runStart P) S d =
-      (ap₂ (λ (B : Bench) (t : Bool). session B (S .scalars) (S .lent) (cond t (startRun grant P (S .bench) .run) (S .run)))
-      (run-start-changes-nothing grant P (S .bench)) (number-refused (startRun grant P (S .bench) .answer) d), refl)
+      let k = step-refusal-changes-nothing grant word (S .scalars) (S .lent) (S .bench) d in (
+        ap₂ (λ (B : Bench) (xs : List ℕ). session B xs (vectorsOf (stepWith grant word (S .scalars) (S .lent) (S .bench) .vectors) (S .lent .group)) (S .run)) (k .0) (k .1)
+            ∙ ap (λ (file : List ℕ). session (S .bench) (S .scalars) (vectorsOf file (S .lent .group)) (S .run)) (k .2),
+        refl,
+      )
+  act-refused (Act.runStart P) S d = (
+    ap₂ (λ (B : Bench) (t : Bool). session B (S .scalars) (S .lent) (cond t (startRun grant P (S .bench) .run) (S .run)))
+        (run-start-changes-nothing grant P (S .bench)) (number-refused (startRun grant P (S .bench) .answer) d),
+    refl,
+  )
   act-refused Act.runNext S d =
       (ap (λ (R : Run). session (S .bench) (S .scalars) (S .lent) R) (ask-refusal-changes-nothing grant (S .run) d .1), refl)
   act-refused Act.runTurn S d =
@@ -214,31 +235,6 @@ module _ (grant : Choice) where
       go p none = omega arith
       go p (some k) = let f = spelled (k .header) (k .body) in fit p k f (leb (length f) (length room))
 
-  -- ---- all deeds
-
-  answers : (d : Deed) (S : Session) → Answers d S (deed grant d S)
-  answers (Deed.start rlen mlen elen rule seals) S = record {
-    number = start-low rlen mlen elen rule seals (S .bench .registers) (S .bench .marks);
-    refusal = λ h.
-        let o = startMachine rlen mlen elen rule seals (S .bench .registers) (S .bench .marks) in
-        let k = start-refusal-changes-nothing rlen mlen elen rule seals (S .bench .registers) (S .bench .marks) h in
-        (remade-same S (o .answer) (o .machine) (o .seals) (o .registers) (o .marks) h (k .0) (k .1), refl, refl);
-  }
-  answers (Deed.does a) S = record { number = act-low a S; refusal = λ h. let k = act-refused a S h in (k .0, refl, k .1) }
-  answers Deed.imageSize S = record { number = size-low (S .bench .machine) (S .bench .seals) (S .bench .registers) (S .bench .marks); refusal = λ h. (refl, refl, refl) }
-  answers (Deed.imageWrite room) S = record {
-    number = write-low (S .bench .machine) (S .bench .seals) (S .bench .registers) (S .bench .marks) room;
-    refusal = λ h. (refl, write-refusal (S .bench .machine) (S .bench .seals) (S .bench .registers) (S .bench .marks) room h .1, refl);
-  }
-  answers (Deed.imageRead image) S = record {
-    number = read-low image (S .bench .registers) (S .bench .marks);
-    refusal = λ h.
-        let o = readImage image (S .bench .registers) (S .bench .marks) in
-        let k = read-refusal image (S .bench .registers) (S .bench .marks) h in
-        (remade-same S (record { number = o .answer .number; row = 0; column = 0 }) (o .machine) (o .seals) (o .registers) (o .marks) h (k .0) (k .1), refl, refl);
-  }
-  answers (Deed.imageSalvage image room) S = record { number = salvage-low image room; refusal = λ h. (refl, salvage-refusal image room h .3, refl) }
-
   -- ---- turns in number
 
   module _ (r : Running) where
@@ -286,19 +282,60 @@ module _ (grant : Choice) where
     counted : (n : ℕ) → Counted grant r n
     counted n = go (so n)
       where
+        none-done : Accepted (count n) → soundBench (r .bench) ≡ false → (count n ≡ 0) × (turn grant r .answer .number ≡ 8)
+        none-done h e =
+            let f = faulty-turn r e in
+            (elim (eq-zero-or-pos (count n)) [ inl z ↦ z | inr l ↦ absurd (eqb-false 8 0 refl (sym f ∙ h 0 l)) ], f)
+
         go : So n → Counted grant r n
         go (inl x) = record {
           at-most = omega (arith, x .0);
           accepted = λ t l. x .1 t (omega (arith, l, x .0));
           left = ap at (sym (x .0));
           refused = λ l. absurd (omega (arith, l, x .0));
+          faulty = none-done (λ t l. x .1 t (omega (arith, l, x .0)));
         }
         go (inr x) = record {
           at-most = omega (arith, x .0);
           accepted = x .1;
           left = x .2;
           refused = λ l e. false-true (sym (x .3) ∙ number-done (turn grant (at n) .answer) e);
+          faulty = none-done (x .1);
         }
 
+  -- ---- all deeds
+
+  counting : (S : Session) {d : Deed} (n : ℕ) → d ≡ Deed.does (Act.runTurns n) → Counted grant (running (S .run) (S .bench)) n
+  counting S n e = counted (running (S .run) (S .bench)) n
+
+  answers : (d : Deed) (S : Session) → Answers grant d S (deed grant d S)
+  answers (Deed.start rlen mlen elen rule seals) S = record {
+    number = start-low rlen mlen elen rule seals (S .bench .registers) (S .bench .marks);
+    refusal = λ h.
+        let o = startMachine rlen mlen elen rule seals (S .bench .registers) (S .bench .marks) in
+        let k = start-refusal-changes-nothing rlen mlen elen rule seals (S .bench .registers) (S .bench .marks) h in
+        (remade-same S (o .answer) (o .machine) (o .seals) (o .registers) (o .marks) h (k .0) (k .1), refl, refl);
+    counted = counting S;
+  }
+  answers (Deed.does a) S = record { number = act-low a S; refusal = λ h. let k = act-refused a S h in (k .0, refl, k .1); counted = counting S }
+  answers Deed.imageSize S = record { number = size-low (S .bench .machine) (S .bench .seals) (S .bench .registers) (S .bench .marks); refusal = λ h. (refl, refl, refl); counted = counting S }
+  answers (Deed.imageWrite room) S = record {
+    number = write-low (S .bench .machine) (S .bench .seals) (S .bench .registers) (S .bench .marks) room;
+    refusal = λ h. (refl, write-refusal (S .bench .machine) (S .bench .seals) (S .bench .registers) (S .bench .marks) room h .1, refl);
+    counted = counting S;
+  }
+  answers (Deed.imageRead image) S = record {
+    number = read-low image (S .bench .registers) (S .bench .marks);
+    refusal = λ h.
+        let o = readImage image (S .bench .registers) (S .bench .marks) in
+        let k = read-refusal image (S .bench .registers) (S .bench .marks) h in
+        (remade-same S (record { number = o .answer .number; row = 0; column = 0 }) (o .machine) (o .seals) (o .registers) (o .marks) h (k .0) (k .1), refl, refl);
+    counted = counting S;
+  }
+  answers (Deed.imageSalvage image room) S = record { number = salvage-low image room; refusal = λ h. (refl, salvage-refusal image room h .3, refl); counted = counting S }
+
 pub every-deed-answers : EveryDeedAnswers
-every-deed-answers = record { answers = answers; counts = counted }
+every-deed-answers = answers
+
+pub every-count : (grant : Choice) (r : Running) (n : ℕ) → Counted grant r n
+every-count = counted

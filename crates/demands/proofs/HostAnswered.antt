@@ -58,13 +58,15 @@ use Rattle.image_calls.proofs.Refusal as images
 use Rattle.salvage_calls.proofs.Refusal.{salvage-call-refusal}
 use Rattle.text_calls.proofs.Refusal as texts
 use Rattle.calls.specs.Calls.{Buffers, buffers, Call, Called, afterStart, afterStep, afterSeal, afterRunStart, afterNext, afterTurn, afterRun, afterRead, called}
-use Rattle.calls.specs.Composed.{with}
+use Rattle.calls.specs.Composed.{afterCalls, turnCalls, with}
 use Rattle.calls.proofs.Numbers.{machine-words, run-words, Wordy, turns-wordy}
-use Rattle.calls.proofs.Turns.{runningIn, left, on}
+use Rattle.blocks.proofs.BlockLaws.{putMachine-same}
+use Rattle.run_blocks.proofs.RunBlockLaws.{putRun-same}
+use Rattle.calls.proofs.Turns.{runningIn, left, on, holds}
 use Rattle.sealing.proofs.AddedRange.{turns-seals}
-use Rattle.demands.specs.Deeds.{HostCall, imageBefore, imageAfter, hostCalled}
+use Rattle.demands.specs.Deeds.{HostCall, hostCalled}
 use Rattle.demands.specs.Demand1.{lastAnswer, CallAnswers, InBytes, CallCounted, EveryCallAnswers}
-use Rattle.demands.proofs.Answered.{step-low, start-low, run-start-low, ask-low, turn-low, seal-low, size-low, write-low, read-low, salvage-low, image-low, every-deed-answers}
+use Rattle.demands.proofs.Answered.{step-low, start-low, run-start-low, ask-low, turn-low, seal-low, size-low, write-low, read-low, salvage-low, image-low, every-count}
 
 -- ---- results
 
@@ -220,26 +222,26 @@ module _ (b : Buffers) where
   call-number (Call.write w) n = omega arith
 
   module _ (small : InBytes b) where
-    call-refused : (c : Call) → ((limit : ℕ) → ¬ (c ≡ Call.runTurns limit)) → ¬ (called c b .result % 2 ^ 16 ≡ 0) → (called c b .after ≡ b) × (imageAfter c b ≡ imageBefore c)
+    call-refused : (c : Call) → ((limit : ℕ) → ¬ (c ≡ Call.runTurns limit)) → ¬ (called c b .result % 2 ^ 16 ≡ 0) → called c b .after ≡ b
     call-refused (Call.start rlen mlen elen rule seals) n h =
-        (ap (λ (o : HostStarted). afterStart b o .after) (steps.start-refusal rlen mlen elen rule seals (b .machine) (b .registers) (b .marks) (nonzero (called (Call.start rlen mlen elen rule seals) b .result) h)), refl)
+        ap (λ (o : HostStarted). afterStart b o .after) (steps.start-refusal rlen mlen elen rule seals (b .machine) (b .registers) (b .marks) (nonzero (called (Call.start rlen mlen elen rule seals) b .result) h))
     call-refused (Call.step word group) n h =
-        (ap (λ (o : HostStepped). afterStep b o .after)
-        (steps.step-refusal word group (b .machine) (b .registers) (b .marks) (b .scalars) (b .memory) (b .file) (small .machine) (small .scalars) (nonzero (called (Call.step word group) b .result) h)), refl)
+        ap (λ (o : HostStepped). afterStep b o .after)
+        (steps.step-refusal word group (b .machine) (b .registers) (b .marks) (b .scalars) (b .memory) (b .file) (small .machine) (small .scalars) (nonzero (called (Call.step word group) b .result) h))
     call-refused (Call.seal from size) n h =
-        (ap (λ (o : HostSealed). afterSeal b o .after) (steps.seal-refusal from size (b .machine) (b .registers) (b .marks) (nonzero (called (Call.seal from size) b .result) h)), refl)
+        ap (λ (o : HostSealed). afterSeal b o .after) (steps.seal-refusal from size (b .machine) (b .registers) (b .marks) (nonzero (called (Call.seal from size) b .result) h))
     call-refused (Call.runStart P) n h =
-        (ap (λ (o : HostRunStarted). afterRunStart b o .after) (runs.run-start-refusal P (b .machine) (b .registers) (b .marks) (b .memory) (b .run) (nonzero (called (Call.runStart P) b .result) h)), refl)
-    call-refused Call.runNext n h = (ap (λ (o : HostNext). afterNext b o .after) (runs.next-refusal (b .run) (b .step) (nonzero (called Call.runNext b .result) h)), refl)
+        ap (λ (o : HostRunStarted). afterRunStart b o .after) (runs.run-start-refusal P (b .machine) (b .registers) (b .marks) (b .memory) (b .run) (nonzero (called (Call.runStart P) b .result) h))
+    call-refused Call.runNext n h = ap (λ (o : HostNext). afterNext b o .after) (runs.next-refusal (b .run) (b .step) (nonzero (called Call.runNext b .result) h))
     call-refused Call.runTurn n h =
-        (ap (λ (o : HostTurned). afterTurn b o .after)
-        (taking.turn-refusal (b .run) (b .machine) (b .registers) (b .marks) (b .memory) (small .run) (small .machine) (nonzero (called Call.runTurn b .result) h)), refl)
+        ap (λ (o : HostTurned). afterTurn b o .after)
+        (taking.turn-refusal (b .run) (b .machine) (b .registers) (b .marks) (b .memory) (small .run) (small .machine) (nonzero (called Call.runTurn b .result) h))
     call-refused (Call.runTurns limit) n h = absurd (n limit refl)
     call-refused (Call.run P) n h =
-        (ap (λ (o : HostRan). afterRun b o .after) (taking.run-refusal P (b .machine) (b .registers) (b .marks) (b .memory) (b .steps) (nonzero (called (Call.run P) b .result) h)), refl)
-    call-refused Call.imageSize n h = (refl, refl)
-    call-refused (Call.imageWrite image) n h = (refl, ap (λ (o : HostWritten). o .image ∷ []) (images.image-write-refusal (b .machine) (b .registers) (b .marks) image h))
-    call-refused (Call.imageRead image) n h = (ap (λ (o : HostRead). afterRead b o .after) (images.image-read-refusal image (b .machine) (b .registers) (b .marks) h), refl)
+        ap (λ (o : HostRan). afterRun b o .after) (taking.run-refusal P (b .machine) (b .registers) (b .marks) (b .memory) (b .steps) (nonzero (called (Call.run P) b .result) h))
+    call-refused Call.imageSize n h = refl
+    call-refused (Call.imageWrite image) n h = refl
+    call-refused (Call.imageRead image) n h = ap (λ (o : HostRead). afterRead b o .after) (images.image-read-refusal image (b .machine) (b .registers) (b .marks) h)
     call-refused (Call.write w) n h = absurd (h refl)
 
 -- ---- the others
@@ -279,7 +281,11 @@ text-word-number text word = go (eqb (length word) wordBytes) (readLine text)
 answers : (c : HostCall) (b : Buffers) → InBytes b → ((limit : ℕ) → ¬ (c ≡ HostCall.call (Call.runTurns limit))) → CallAnswers c b (hostCalled c b)
 answers (HostCall.call c) b small n = record {
   number = call-number b c (λ limit e. n limit (ap HostCall.call e));
-  refusal = call-refused b small c (λ limit e. n limit (ap HostCall.call e));
+  refusal = λ h. (call-refused b small c (λ limit e. n limit (ap HostCall.call e)) h, refl);
+}
+answers (HostCall.imageWrite image) b small n = record {
+  number = image-write-number b image;
+  refusal = λ h. (refl, ap (λ (o : HostWritten). o .image ∷ []) (images.image-write-refusal (b .machine) (b .registers) (b .marks) image h));
 }
 answers (HostCall.imageSalvage image room report) b small n = record {
   number = salvage-number image room report;
@@ -313,12 +319,12 @@ module _ (limit : ℕ) (b : Buffers) (small : InBytes b) where
   turns-call t e = ap turnsOn e
 
   abbrev Counts : Called → Type 0
-  Counts o = (o .result ≤ limit) × (o .result < limit → ¬ (called Call.runTurn (o .after) .result ≡ 0) × (called Call.runTurn (o .after) .after ≡ o .after))
+  Counts o = (o .result ≤ limit) × (o .after ≡ afterCalls (turnCalls (o .result)) b) × (o .result < limit → ¬ (called Call.runTurn (o .after) .result ≡ 0) × (called Call.runTurn (o .after) .after ≡ o .after))
 
   -- blocks that are refused take no turn
   unfit : turnBlocks (b .run) (b .machine) ≡ false → Counts (turnsOn false)
   unfolding hostTurn
-  unfit e = (omega arith, λ l. (λ z. eqb-false 8 0 refl (sym (ap (λ (t : Bool). result t) e) ∙ z), ap (λ (t : Bool). out t .after) e))
+  unfit e = (omega arith, refl, λ l. (λ z. eqb-false 8 0 refl (sym (ap (λ (t : Bool). result t) e) ∙ z), ap (λ (t : Bool). out t .after) e))
     where
       out : Bool → Called
       out t = afterTurn b (cond t (shownTurn (b .run) (b .machine) (turnOutcome chosen r)) (turnedOut (packed (reply BadArguments)) (b .run) (b .machine) (b .registers) (b .marks) (b .memory)))
@@ -328,14 +334,21 @@ module _ (limit : ℕ) (b : Buffers) (small : InBytes b) where
 
   fit : turnBlocks (b .run) (b .machine) ≡ true → Counts (turnsOn true)
   fit e =
-      let c = every-deed-answers .counts chosen r limit in
-      (c .at-most, λ l.
-        let q : Running = turns chosen r limit .after in
-        let w : Wordy r = record { run = run-words (b .run) (small .run) (every-each (runFit (b .run) ∷ eqb (length (b .machine)) machineBytes ∷ []) e .0); machine = machine-words (b .machine) (small .machine) } in
-        let k = on b e q (turns-wordy r w limit) (turns-seals chosen r limit) in
-        let n = c .refused l in
-        (λ z. packed-nonzero (turn chosen q .answer) n (sym (ap (λ (o : Called). o .result) k) ∙ z)
-        , ap (λ (o : Called). o .after) k ∙ ap (λ (s : Running). with s b) (turn-refusal-changes-nothing chosen q n)))
+      let c = every-count chosen r limit in
+      let f = every-each (runFit (b .run) ∷ eqb (length (b .machine)) machineBytes ∷ []) e .0 in
+      let w : Wordy r = record { run = run-words (b .run) (small .run) f; machine = machine-words (b .machine) (small .machine) } in
+      let same : with r b ≡ b =
+      ap₂ (λ (m R : List ℕ). buffers m (b .registers) (b .marks) (b .scalars) (b .memory) R (b .step) (b .steps) (b .file)) (putMachine-same (b .machine) (small .machine)) (putRun-same (b .run) (small .run) f) in (
+        c .at-most,
+        ap (λ (s : Running). with s b) (c .left) ∙ sym (holds b e w same (turns chosen r limit .count)),
+        λ l.
+            let q : Running = turns chosen r limit .after in
+            let k = on b e q (turns-wordy r w limit) (turns-seals chosen r limit) in
+            let n = c .refused l in (
+              λ z. packed-nonzero (turn chosen q .answer) n (sym (ap (λ (o : Called). o .result) k) ∙ z),
+              ap (λ (o : Called). o .after) k ∙ ap (λ (s : Running). with s b) (turn-refusal-changes-nothing chosen q n),
+            ),
+      )
 
   all-counts : Counts (called (Call.runTurns limit) b)
   all-counts = go (turnBlocks (b .run) (b .machine)) refl
@@ -345,7 +358,7 @@ module _ (limit : ℕ) (b : Buffers) (small : InBytes b) where
       go false e = subst Counts (sym (turns-call false e)) (unfit e)
 
 counts : (limit : ℕ) (b : Buffers) → InBytes b → CallCounted limit b
-counts limit b small = let k = all-counts limit b small in record { at-most = k .0; refused = k .1 }
+counts limit b small = let k = all-counts limit b small in record { at-most = k .0; left = k .1; refused = k .2 }
 
 pub every-call-answers : EveryCallAnswers
 every-call-answers = record { answers = answers; counts = counts }

@@ -52,8 +52,10 @@ use Rattle.refusals.proofs.Exact.{step-answers-exactly}
 use Rattle.refusals.proofs.Listed.{no-code-twice, types-are-these, registers-fill}
 use Rattle.handover.proofs.Handover.{read-call-makes, written-call-is-read-back, read-call-is-written-back, images-stay-equal-over-calls, turn-packs-whole}
 use Rattle.demands.proofs.Answered.{every-deed-answers}
+use Rattle.demands.proofs.Delivered.{run-calls-deliver}
 use Rattle.demands.proofs.HostAnswered.{every-call-answers}
-use Rattle.demands.proofs.Meant.{step-is-its-meaning}
+use Rattle.demands.proofs.InC.{step-call-steps, start-call-starts}
+use Rattle.demands.proofs.Meant.{step-is-its-meaning, turn-is-its-step}
 use Rattle.demands.proofs.Sealed.{sealed-bytes-stay, sealed-bytes-stay-in-c}
 use Rattle.demands.specs.Promise.{Promise}
 
@@ -62,15 +64,22 @@ promise = record {
   demand-1 = record { deeds = every-deed-answers; in-c = every-call-answers };
   demand-2 = record {
     words = step-is-its-meaning;
+    turns = turn-is-its-step;
+    words-in-c = step-call-steps;
+    starts-in-c = start-call-starts;
     stores = stores-are-exact;
     unwritten = power-up-never-matters;
+    unwritten-words = words-ignore-unmarked;
     unwritten-in-c = power-up-never-matters-to-hosts;
+    unwritten-readers-in-c = power-up-never-matters-to-readers;
     sealed = sealed-bytes-stay;
     sealed-in-c = sealed-bytes-stay-in-c;
   };
   demand-3 = record {
     runs = demand-3-ours;
-    in-c = record { start = start-calls-are-right; turns = turn-calls-are-right; many = turns-are-turn-calls; whole = run-is-turn-calls };
+    every-choice = demand-3;
+    whole-runs = whole-delivers;
+    in-c = record { start = start-calls-are-right; turns = turn-calls-are-right; many = turns-are-turn-calls; whole = run-is-turn-calls; delivers = run-calls-deliver };
   };
   requests = record {
     one-nothing-else = nothing-else-moved;

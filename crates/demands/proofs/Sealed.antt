@@ -1,6 +1,6 @@
 -- No sealed byte changes, from a machine that was started or that an image made.
 use mathlib.Core.Path.{_≡_, sym, ap, _∙_, subst}
-use mathlib.Core.Bool.{true}
+use mathlib.Core.Bool.{Bool, cond}
 use mathlib.Core.List.{List, [], _∷_, _++_}
 use Prim.Native.Nat.{ℕ}
 use Rattle.width.specs.Blocks.{Choice}
@@ -9,6 +9,9 @@ use Rattle.machine.specs.Starting.{ranges, StartOutcome}
 use Rattle.machine.proofs.StartLaws.{accepted}
 use Rattle.run.specs.Acts.{Act, Session, lentLast, afterActs}
 use Rattle.run.specs.Theorems.{SealKept}
+use Rattle.machine.specs.Sealing.{addSeal}
+use Rattle.run.proofs.RefusalLaws.{number-done}
+use Rattle.sealing.proofs.AddedRange.{sealed-ranges}
 use Rattle.run.proofs.Demand2.{seal-holds-over-acts}
 use Rattle.ranges.specs.Ranges.{sealsIn}
 use Rattle.image.specs.Reading.{readImage}
@@ -28,6 +31,9 @@ sealed-bytes-stay grant acts S seals m = subst (λ (rs : List Range). SealKept r
     held : Made seals (S .bench) → S .bench .seals ≡ seals
     held (Made.started rlen mlen elen rule given registers marks h e s) = ap (λ (B : Bench). B .seals) e ∙ ap (λ (o : StartOutcome). o .seals) (accepted rlen mlen elen rule given registers marks h .leaves) ∙ sym s
     held (Made.read image registers marks b h e s) = ap (λ (B : Bench). B .seals) e ∙ sym s
+    held (Made.added start size A h e s) =
+        ap (λ (B : Bench). B .seals) e ∙ sealed-ranges start size A
+        ∙ ap (λ (t : Bool). A .seals ++ cond t (range start size ∷ []) []) (number-done (addSeal start size A .answer) h) ∙ sym s
 
 -- from a call on
 abbrev StayFrom : Buffers → List Range → Call → Type 0

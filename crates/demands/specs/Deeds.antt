@@ -13,7 +13,7 @@ use Rattle.run.specs.Acts.{Act, Session, session, Acted, act}
 use Rattle.image.specs.Writing.{sizeImage, WriteOutcome, writeImage}
 use Rattle.image.specs.Reading.{ReadOutcome, readImage}
 use Rattle.salvage.specs.Salvage.{SalvageOutcome, salvage}
-use Rattle.image_calls.specs.ImageCalls.{hostImageWrite}
+use Rattle.image_calls.specs.ImageCalls.{HostWritten, hostImageWrite}
 use Rattle.salvage_calls.specs.SalvageCalls.{HostSalvaged, hostSalvage}
 use Rattle.text_calls.specs.TextCalls.{HostText, hostWordText, HostWord, hostTextWord}
 use Rattle.calls.specs.Calls.{Buffers, Call, called}
@@ -74,10 +74,12 @@ module _ (grant : Choice) where
 
 -- ---- over the C functions
 
--- those on a machine, runs and images (calls/specs/Calls.antt); bodlarina_image_salvage, bodlarina_word_text and bodlarina_text_word. The others,
--- bodlarina_version and bodlarina_run_steps, are lent nothing to write to, and give a number that is no answer
+-- those on a machine, runs and images (calls/specs/Calls.antt, which keeps nothing of the image that bodlarina_image_write leaves);
+-- bodlarina_image_write with it, bodlarina_image_salvage, bodlarina_word_text and bodlarina_text_word. The others, bodlarina_version and
+-- bodlarina_run_steps, are lent nothing to write to, and give a number that is no answer
 pub data HostCall : Type 0 where
   call : Call → HostCall
+  imageWrite : (image : List ℕ) → HostCall
   imageSalvage : (image room report : List ℕ) → HostCall
   wordText : (word : ℕ) → (text : List ℕ) → HostCall
   textWord : (text word : List ℕ) → HostCall
@@ -91,43 +93,17 @@ pub record Hosted : Type 0 where
 abbrev pub hosted : ℕ → Buffers → List (List ℕ) → Hosted
 hosted result after lent = record { result = result; after = after; lent = lent }
 
--- the image that is lent to bodlarina_image_write, before and after it
-abbrev pub imageBefore : Call → List (List ℕ)
-imageBefore (Call.start rlen mlen elen rule seals) = []
-imageBefore (Call.step word group) = []
-imageBefore (Call.seal from size) = []
-imageBefore (Call.runStart P) = []
-imageBefore Call.runNext = []
-imageBefore Call.runTurn = []
-imageBefore (Call.runTurns limit) = []
-imageBefore (Call.run P) = []
-imageBefore Call.imageSize = []
-imageBefore (Call.imageWrite image) = image ∷ []
-imageBefore (Call.imageRead image) = []
-imageBefore (Call.write w) = []
-
-abbrev pub imageAfter : Call → Buffers → List (List ℕ)
-imageAfter (Call.start rlen mlen elen rule seals) b = []
-imageAfter (Call.step word group) b = []
-imageAfter (Call.seal from size) b = []
-imageAfter (Call.runStart P) b = []
-imageAfter Call.runNext b = []
-imageAfter Call.runTurn b = []
-imageAfter (Call.runTurns limit) b = []
-imageAfter (Call.run P) b = []
-imageAfter Call.imageSize b = []
-imageAfter (Call.imageWrite image) b = hostImageWrite (b .machine) (b .registers) (b .marks) image .image ∷ []
-imageAfter (Call.imageRead image) b = []
-imageAfter (Call.write w) b = []
-
 abbrev pub lentTo : HostCall → List (List ℕ)
-lentTo (HostCall.call c) = imageBefore c
+lentTo (HostCall.call c) = []
+lentTo (HostCall.imageWrite image) = image ∷ []
 lentTo (HostCall.imageSalvage image room report) = room ∷ report ∷ []
 lentTo (HostCall.wordText word text) = text ∷ []
 lentTo (HostCall.textWord text word) = word ∷ []
 
 abbrev pub hostCalled : HostCall → Buffers → Hosted
-hostCalled (HostCall.call c) b = hosted (called c b .result) (called c b .after) (imageAfter c b)
+hostCalled (HostCall.call c) b = hosted (called c b .result) (called c b .after) []
+hostCalled (HostCall.imageWrite image) b =
+    let o : HostWritten = hostImageWrite (b .machine) (b .registers) (b .marks) image in hosted (o .result) b (o .image ∷ [])
 hostCalled (HostCall.imageSalvage image room report) b = let o : HostSalvaged = hostSalvage image room report in hosted (o .result) b (o .room ∷ o .report ∷ [])
 hostCalled (HostCall.wordText word text) b = let o : HostText = hostWordText word text in hosted (o .result) b (o .text ∷ [])
 hostCalled (HostCall.textWord text word) b = let o : HostWord = hostTextWord text word in hosted (o .result) b (o .word ∷ [])

@@ -1,27 +1,36 @@
 -- Demand 2: each accepted word does exactly what the papers define, refusals are exact, and no sealed byte ever changes.
 use mathlib.Core.Path.{_≡_}
+use mathlib.Core.Bool.{cond}
 use mathlib.Core.List.{List, [], _∷_, _++_}
-use Prim.Native.Nat.{ℕ}
+use mathlib.Core.Option.{some}
+use Prim.Native.Nat.{ℕ, _%_, _^_, _<_}
+use lib.ListN.{length, getD}
 use Rattle.width.specs.Blocks.{Choice}
 use Rattle.format.specs.Numbers as Images
 use Rattle.machine.specs.Geometry.{Range, range, Parameters, parameters, State, stateOf, Bench, benchOf}
-use Rattle.machine.specs.Vectors.{Vectors}
+use Rattle.machine.specs.Answers.{done}
+use Rattle.machine.specs.Vectors.{Vectors, vectorsOf, idle}
 use Rattle.machine.specs.Starting.{ranges, startMachine}
 use Rattle.machine.specs.Listing.{decode}
 use Rattle.machine.specs.Operation.{vectorsAfter}
-use Rattle.machine.specs.Step.{VectorOutcome, beside, meantIn, givenIn, carriedIn, stepWith}
+use Rattle.machine.specs.Sealing.{addSeal}
+use Rattle.machine.specs.Step.{VectorOutcome, beside, meantIn, givenIn, carriedIn, stepWith, vectorStep}
 use Rattle.machine.specs.Theorems.{startedBench, StoresAreExact}
+use Rattle.run.specs.declared.Handed.{Handed}
+use Rattle.run.specs.Encoding.{own}
+use Rattle.run.specs.Turn.{ask, Running, running, turn}
 use Rattle.run.specs.Acts.{Act, Session, afterActs, lentLast}
 use Rattle.run.specs.Theorems.{SealKept}
 use Rattle.ranges.specs.Ranges.{sealsIn}
-use Rattle.blocks.specs.Blocks.{Bytes}
+use Rattle.blocks.specs.Blocks.{Bytes, machineBytes, scalarBytes, valuesOf, packed}
 use Rattle.image.specs.declared.Imaged.the-variants.{Done}
 use Rattle.image.specs.Answers.{imageReply}
 use Rattle.image.specs.Reading.{ReadOutcome, readImage}
 use Rattle.calls.specs.Calls.{Buffers, Call, Called, called}
 use Rattle.calls.specs.Composed.{afterCalls, benchIn, EachSparesSeal}
 use Rattle.powerup.specs.PowerUp.{PowerUpNeverMatters}
-use Rattle.powerup_host.specs.Calls.{PowerUpNeverMattersToHosts}
+use Rattle.powerup.specs.Steps.{WordsIgnoreUnmarked}
+use Rattle.powerup_host.specs.Calls.{PowerUpNeverMattersToHosts, PowerUpNeverMattersToReaders}
 use Rattle.refusals.specs.Given.{GivenExactly}
 
 -- ---- a word
@@ -39,6 +48,30 @@ module _ (grant : Choice) (word : ℕ) (xs : List ℕ) (W : Vectors) (B : Bench)
 abbrev pub StepIsItsMeaning : Type 0
 StepIsItsMeaning = (grant : Choice) (word : ℕ) (xs : List ℕ) (W : Vectors) (B : Bench) → IsItsMeaning grant word xs W B (stepWith grant word xs W B)
 
+-- 01: a step of a run is "carried out as any other word is": a turn that hands one out answers and leaves what a step of its word does, with the
+-- run's own scalars; no word of a run is a move
+abbrev pub TurnIsItsStep : Type 0
+TurnIsItsStep = (grant : Choice) (r : Running) (h : Handed) → ask grant (r .run) .handed ≡ some h
+    → let o : VectorOutcome = stepWith grant (h .word) (own h) idle (r .bench) in
+    turn grant r ≡ record { answer = o .answer; handed = some h; after = running (cond (done (o .answer)) (ask grant (r .run) .run) (r .run)) (o .bench) }
+
+-- in C: what bodlarina_step returns and leaves is the step's, on blocks of the right lengths (others get 8), each scalar as a number of 64 bits
+pub record StepCall (word group : ℕ) (b : Buffers) (o : VectorOutcome) (c : Called) : Type 0 where
+  pub result : c .result ≡ packed (o .answer)
+  pub bench : benchIn (c .after) ≡ o .bench
+  pub scalars : (s : ℕ) → s < 32 → getD (valuesOf (c .after .scalars)) s 0 ≡ getD (o .scalars) s 0 % 2 ^ 64
+  pub vectors : c .after .file ≡ o .vectors
+
+abbrev pub StepCallSteps : Type 0
+StepCallSteps = (word group : ℕ) (b : Buffers) → Bytes (b .machine) → length (b .machine) ≡ machineBytes → length (b .scalars) ≡ scalarBytes
+    → StepCall word group b (vectorStep word (valuesOf (b .scalars)) (vectorsOf (b .file) group) (benchIn b)) (called (Call.step word group) b)
+
+-- and an accepted bodlarina_start leaves the machine that was started
+abbrev pub StartCallStarts : Type 0
+StartCallStarts = (rlen mlen elen rule : ℕ) (seals : List ℕ) (b : Buffers)
+    → let o : Called = called (Call.start rlen mlen elen rule seals) b in
+    o .result ≡ 0 → benchIn (o .after) ≡ startedBench rlen mlen elen rule seals (b .registers) (b .marks) (b .memory)
+
 -- ---- sealed bytes
 
 -- a bench as the reading of an image leaves it, with a memory
@@ -46,12 +79,14 @@ abbrev pub readBench : (image registers marks memory : List ℕ) → Bench
 readBench image registers marks memory =
     let o : ReadOutcome = readImage image registers marks in benchOf (o .machine) (o .seals) (o .registers) (o .marks) memory
 
--- a machine with these ranges, and any memory: one that was started, or one that an image made
+-- a machine with these ranges, and any memory: one that was started, one that an image made, or one to which a range was added
 pub data Made (seals : List Range) (B : Bench) : Type 0 where
   started : (rlen mlen elen rule : ℕ) (given registers marks : List ℕ) → startMachine rlen mlen elen rule given registers marks .answer .number ≡ 0
       → B ≡ startedBench rlen mlen elen rule given registers marks (B .memory) → seals ≡ ranges given → Made seals B
   read : (image registers marks : List ℕ) → Images.Bytes image → readImage image registers marks .answer ≡ imageReply Done
       → B ≡ readBench image registers marks (B .memory) → seals ≡ readImage image registers marks .seals → Made seals B
+  added : (start size : ℕ) (A : Bench) → addSeal start size A .answer .number ≡ 0
+      → B ≡ benchOf (A .machine) (addSeal start size A .bench .seals) (A .registers) (A .marks) (B .memory) → seals ≡ A .seals ++ (range start size ∷ []) → Made seals B
 
 -- whatever is done with it, for every choice of sizes: the ranges stay, and their bytes are those of the memory that was lent last
 abbrev pub SealedBytesStay : Type 0
@@ -64,8 +99,8 @@ pub data MadeInC (c : Call) (b : Buffers) (seals : List Range) : Type 0 where
   read : (image : List ℕ) → Images.Bytes image → c ≡ Call.imageRead image → seals ≡ readImage image (b .registers) (b .marks) .seals → MadeInC c b seals
   added : (from size : ℕ) → Bytes (b .machine) → c ≡ Call.seal from size → seals ≡ sealsIn (b .machine) ++ (range from size ∷ []) → MadeInC c b seals
 
--- over any calls that make no other machine (calls/specs/Composed.antt: SparesSeal), between which the host writes what it likes but the machine's
--- block and the sealed bytes
+-- over any calls that leave these ranges (calls/specs/Composed.antt: SparesSeal: another start, and a read of an image with other ranges, do not),
+-- between which the host writes what it likes but the machine's block and the sealed bytes
 abbrev pub SealedBytesStayInC : Type 0
 SealedBytesStayInC = (c : Call) (b : Buffers) (seals : List Range) → MadeInC c b seals
     → let o : Called = called c b in o .result ≡ 0 → (cs : List Call) → EachSparesSeal cs (o .after)
@@ -75,10 +110,16 @@ SealedBytesStayInC = (c : Call) (b : Buffers) (seals : List Range) → MadeInC c
 
 pub record Demand2 : Type 0 where
   pub words : StepIsItsMeaning
+  pub turns : TurnIsItsStep
+  pub words-in-c : StepCallSteps
+  pub starts-in-c : StartCallStarts
   -- 02, Seven: each element of a store where it belongs, and no other byte
   pub stores : StoresAreExact
-  -- an element never written is never read as a number: no reading depends on what registers held at power-up (02, Nine)
+  -- no reading depends on what registers held at power-up (02, Nine), of started machines and of those that an image made; that an element never
+  -- written is not read at all is answer 5, above
   pub unwritten : PowerUpNeverMatters
+  pub unwritten-words : WordsIgnoreUnmarked
   pub unwritten-in-c : PowerUpNeverMattersToHosts
+  pub unwritten-readers-in-c : PowerUpNeverMattersToReaders
   pub sealed : SealedBytesStay
   pub sealed-in-c : SealedBytesStayInC

@@ -3,7 +3,7 @@ use mathlib.Core.Path.{_≡_, refl, sym, ap, ap₂, _∙_, subst}
 use mathlib.Core.Bool.{Bool, true, false, cond}
 use mathlib.Core.List.{List, [], _∷_, _++_}
 use mathlib.Core.Option.{Option, none, some}
-use Prim.Native.Nat.{ℕ, _/_, _^_, _≤_, _<_}
+use Prim.Native.Nat.{ℕ, _/_, _%_, _^_, _≤_, _<_}
 use native.Mathlib.Omega.{arith}
 use lib.ListN.{length, take, drop, getD}
 use lib.Seq.{take-append-seam}
@@ -17,7 +17,7 @@ use Rattle.machine.specs.Alike.{Agree, Alike}
 use Rattle.machine.specs.Setting.{chosen}
 use Rattle.machine.specs.Starting.{noMachine}
 use Rattle.ranges.specs.Ranges.{sealsIn}
-use Rattle.blocks.specs.Blocks.{machineBytes, machineOf}
+use Rattle.blocks.specs.Blocks.{machineBytes, machineOf, packed}
 use Rattle.image.specs.declared.Imaged.the-variants as Imaged
 use Rattle.image.specs.Answers.{ImageReply, imageReply}
 use Rattle.image.specs.Images.{imageOf, IsImage}
@@ -31,16 +31,18 @@ use Rattle.salvage.proofs.Keeps.{accepts-bytes}
 use Rattle.image_calls.specs.ImageCalls.{packedReply, HostWritten, writtenOut, hostImageWrite, shownRead, hostImageRead}
 use Rattle.image_calls.proofs.Packing.{image-write-packs-whole}
 use Rattle.machine.specs.declared.Answer.the-variants.{BadArguments}
+use Rattle.machine.specs.declared.Reply.{Reply}
+use Rattle.machine.specs.Answers.{bare, reply}
 use Rattle.machine.specs.Geometry.{parameters}
 use Rattle.machine.specs.Listing.{decode}
 use Rattle.machine.specs.Vectors.{vectorsFit, idle}
 use Rattle.machine.specs.Step.{beside, vectorsIn, outcomeIn, refusedIn, outcome, stepBy}
 use Rattle.run.specs.Words.{Op}
 use Rattle.run.specs.Encoding.{own, handedFor}
-use Rattle.run.specs.Turn.{handsOut, Running, turn}
+use Rattle.run.specs.Turn.{handsOut, Running, turn, turnOutcome}
 use Rattle.run.proofs.HandedLaws.{turnWith}
 use Rattle.bench_calls.proofs.Packing.{Small, whole, answer-small}
-use Rattle.turn_calls.specs.TurnCalls.{heldRunning, hostTurn}
+use Rattle.turn_calls.specs.TurnCalls.{turnBlocks, heldRunning, turnedOut, shownTurn, hostTurn}
 use Rattle.calls.specs.Calls.{Buffers, buffers, Call, Called, called, calls}
 use Rattle.calls.specs.Composed.{benchIn}
 use Rattle.calls.proofs.Seal.{was-read}
@@ -83,7 +85,7 @@ module _ (image : List ℕ) (b : Buffers) (small : Bytes image) (z : called (Cal
       let k = was-read image b small z in
       let w : (B : Bench) → WriteOutcome = λ B. writeImage (B .machine) (B .seals) (B .registers) (B .marks) room in
       let e : w (benchIn after) ≡ written Imaged.Done (length image) (image ++ drop (length image) room)
-          = ap w bench-is ∙ read-is-written-back image (b .registers) (b .marks) room small (k .done) l in
+      = ap w bench-is ∙ read-is-written-back image (b .registers) (b .marks) room small (k .done) l in
       ap (λ (t : Bool). cond t (writtenOut (packedReply (w (benchIn after) .answer) (w (benchIn after) .size)) (w (benchIn after) .room)) (writtenOut (packedReply (imageReply Imaged.BadArguments) 0) room)) (eq-eqb (length (after .machine)) machineBytes (k .long))
       ∙ ap (λ (x : WriteOutcome). writtenOut (packedReply (x .answer) (x .size)) (x .room)) e
 
@@ -148,13 +150,15 @@ module _ (b b′ : Buffers) (room : List ℕ) (sb : soundBench (benchIn b) ≡ t
       let e = bench-is image b′ image-bytes accepted in
       let a = back .1 in
       let marks-are = ap (λ (B : Bench). B .marks) e in
-      let registers-are = ap (λ (B : Bench). B .registers) e in
-      (accepted, record {
-        same-machine = a .same-machine ∙ sym (ap (λ (B : Bench). B .machine) e);
-        same-seals = a .same-seals ∙ sym (ap (λ (B : Bench). B .seals) e);
-        same-marks = a .same-marks ∙ sym marks-are;
-        agree = subst (λ (r : List ℕ). Agree (b .marks) (b .registers) r) (sym registers-are) (a .agree);
-      })
+      let registers-are = ap (λ (B : Bench). B .registers) e in (
+        accepted,
+        record {
+          same-machine = a .same-machine ∙ sym (ap (λ (B : Bench). B .machine) e);
+          same-seals = a .same-seals ∙ sym (ap (λ (B : Bench). B .seals) e);
+          same-marks = a .same-marks ∙ sym marks-are;
+          agree = subst (λ (r : List ℕ). Agree (b .marks) (b .registers) r) (sym registers-are) (a .agree);
+        },
+      )
 
 pub written-call-is-read-back : WrittenCallIsReadBack
 written-call-is-read-back b b′ room sb bytes lm fits lm′ same =
@@ -195,7 +199,13 @@ turn-small r = go (handsOut chosen (r .run))
 
 pub turn-packs-whole : TurnPacksWhole
 unfolding hostTurn
-turn-packs-whole run machine registers marks memory fit =
-    let r = heldRunning run machine registers marks memory in
-    let s = turn-small r in
-    rw fit (whole (turn chosen r .answer) (s .0) (s .1))
+turn-packs-whole run machine registers marks memory = go (turnBlocks run machine)
+  where
+    r : Running
+    r = heldRunning run machine registers marks memory
+
+    go : (t : Bool) → let a : Reply = cond t (turn chosen r .answer) (bare 8) in
+        let n = cond t (shownTurn run machine (turnOutcome chosen r)) (turnedOut (packed (reply BadArguments)) run machine registers marks memory) .result in
+        (n % 2 ^ 16 ≡ a .number) × (n / 2 ^ 16 % 2 ^ 16 ≡ a .row) × (n / 2 ^ 32 ≡ a .column)
+    go true = let s = turn-small r in whole (turn chosen r .answer) (s .0) (s .1)
+    go false = (refl, refl, refl)

@@ -1,11 +1,13 @@
 -- The hand-over in C: what 02, Six, asks of an image, said of bodlarina_image_write and bodlarina_image_read, and Nine of images after each call;
 -- and that nothing of a turn's answer is cut in its result. The proofs stand in proofs/.
 use mathlib.Core.Path.{_≡_}
-use mathlib.Core.Bool.{true}
+use mathlib.Core.Bool.{true, cond}
 use mathlib.Core.List.{List, [], _∷_, _++_}
 use Prim.Native.Nat.{ℕ, _/_, _%_, _^_, _≤_}
 use lib.ListN.{length, take, drop, getD}
 use Rattle.format.specs.Numbers.{Bytes}
+use Rattle.machine.specs.declared.Reply.{Reply}
+use Rattle.machine.specs.Answers.{bare}
 use Rattle.machine.specs.Faults.{soundBench}
 use Rattle.machine.specs.Alike.{Alike}
 use Rattle.machine.specs.Setting.{chosen}
@@ -70,10 +72,10 @@ ImagesStayEqualOverCalls = (cs : List Call) (b b′ : Buffers) → AlikeBuffers 
 
 -- ---- the result of a turn
 
--- bits 15..0 of a result are the number, bits 31..16 the row and bits 47..32 the column of the turn's answer, none of them cut. On blocks that do
--- not fit the result is 8.
+-- bits 15..0 of a result are the number, bits 31..16 the row and bits 47..32 the column of the turn's answer, none of them cut; on blocks that do
+-- not fit the result is 8
 abbrev pub TurnPacksWhole : Type 0
-TurnPacksWhole = (run machine registers marks memory : List ℕ) → turnBlocks run machine ≡ true
-    → let a = turn chosen (heldRunning run machine registers marks memory) .answer in
+TurnPacksWhole = (run machine registers marks memory : List ℕ)
+    → let a : Reply = cond (turnBlocks run machine) (turn chosen (heldRunning run machine registers marks memory) .answer) (bare 8) in
     let r = hostTurn run machine registers marks memory .result in
     (r % 2 ^ 16 ≡ a .number) × (r / 2 ^ 16 % 2 ^ 16 ≡ a .row) × (r / 2 ^ 32 ≡ a .column)

@@ -69,16 +69,19 @@ module _ (marks : List ℕ) where
       let y = first-fails (E .columns) (λ j. all (E .width) (λ b. mark E i (j * E .width + b))) (sym (all-elements (E .columns) (E .width) (mark E i)) ∙ x .2) in
       let j = y .0 in
       let z = first-fails (E .width) (λ b. mark E i (j * E .width + b)) (y .2) in
-      let b = z .0 in
-      (i, j, record {
-        row-there = x .1;
-        column-there = y .1;
-        without-mark = (b, z .1, subst (λ (q : ℕ). ¬ (getD marks q 0 ≡ 1)) (element-byte E i j b) (eqb-false (getD marks (E .at i + (j * E .width + b)) 0) 1 (z .2)));
-        rows-before = λ k l g m. row-written E k (x .3 k g) l m;
-        columns-before = λ l g c n.
-            subst (λ (q : ℕ). getD marks q 0 ≡ 1) (element-byte E i l c)
-            (eqb-true (getD marks (E .at i + (l * E .width + c)) 0) 1 (all-at (E .width) (λ b. mark E i (l * E .width + b)) (y .3 l g) c n));
-      })
+      let b = z .0 in (
+        i,
+        j,
+        record {
+          row-there = x .1;
+          column-there = y .1;
+          without-mark = (b, z .1, subst (λ (q : ℕ). ¬ (getD marks q 0 ≡ 1)) (element-byte E i j b) (eqb-false (getD marks (E .at i + (j * E .width + b)) 0) 1 (z .2)));
+          rows-before = λ k l g m. row-written E k (x .3 k g) l m;
+          columns-before = λ l g c n.
+              subst (λ (q : ℕ). getD marks q 0 ≡ 1) (element-byte E i l c)
+              (eqb-true (getD marks (E .at i + (l * E .width + c)) 0) 1 (all-at (E .width) (λ b. mark E i (l * E .width + b)) (y .3 l g) c n));
+        },
+      )
 
   -- the check names it
   check-names : (E : Elements) (i j : ℕ) → First marks E i j → elementsCheck E .answer ≡ Unwritten (E .top + i) (E .left + j)
@@ -124,8 +127,12 @@ module _ (marks : List ℕ) where
           inr (x .0, x .1, inr (all-written E e, x .2), ap (λ (b : Bool). cond b (verdict (map elementsCheck Es ++ rest)) (elementsCheck E .answer)) e ∙ x .3)
       go false e x =
           let f = not-written E e in
-          inr (E .top + f .0, E .left + f .1, inl (f .0, f .1, f .2, refl, refl)
-          , ap (λ (b : Bool). cond b (verdict (map elementsCheck Es ++ rest)) (elementsCheck E .answer)) e ∙ check-names E (f .0) (f .1) (f .2))
+          inr (
+            E .top + f .0,
+            E .left + f .1,
+            inl (f .0, f .1, f .2, refl, refl),
+            ap (λ (b : Bool). cond b (verdict (map elementsCheck Es ++ rest)) (elementsCheck E .answer)) e ∙ check-names E (f .0) (f .1) (f .2),
+          )
 
   pub all-none : (Es : List Elements) → AllOf Es → ¬ ((row : ℕ) × (column : ℕ) × FirstAmong marks Es row column)
   all-none [] a x = x .2
@@ -402,25 +409,33 @@ module _ (M : Parameters) (st : State) where
   pub tells-width : (op : Operation) → Tells (widthsKept (M .elen) (st .mtype) op) (WidthIsBroken M st op)
   tells-width op = tells-not (widthsKept (M .elen) (st .mtype) op) (KeepsWidths (M .elen) (st .mtype) op) (keeps op) (kept op)
 
-  tells-lines : (f : Form) (first count : ℕ) → Tells (every (linesFit st f first count)) (LinesTooLarge st f first count)
-  tells-lines f first count = record {
-    shows = shown (leb (first + count) (linesOf f st)) (leb (lineOf f st * sew (st .mtype)) vectorBytes) refl refl;
+  -- two bounds, and what is above one of them
+  tells-both : (a b c d : ℕ) → Tells (every (leb a b ∷ leb c d ∷ [])) ((b < a) ⊎ (d < c))
+  tells-both a b c d = record {
+    shows = shown (leb a b) (leb c d) refl refl;
     refutes = λ e s. elim s [
-      | inl l ↦ omega (arith, l, leb-true (first + count) (linesOf f st) (and-left a (b && true) e))
-      | inr l ↦ omega (arith, l, leb-true (lineOf f st * sew (st .mtype)) vectorBytes (and-left b true (and-right a (b && true) e)))
+      | inl l ↦ omega (arith, l, leb-true a b (and-left (leb a b) (leb c d && true) e))
+      | inr l ↦ omega (arith, l, leb-true c d (and-left (leb c d) true (and-right (leb a b) (leb c d && true) e)))
     ];
   }
     where
-      a : Bool
-      a = leb (first + count) (linesOf f st)
-
-      b : Bool
-      b = leb (lineOf f st * sew (st .mtype)) vectorBytes
-
-      shown : (s t : Bool) → a ≡ s → b ≡ t → s && (t && true) ≡ false → LinesTooLarge st f first count
-      shown false t e g h = inl (leb-false (first + count) (linesOf f st) e)
-      shown true false e g h = inr (leb-false (lineOf f st * sew (st .mtype)) vectorBytes g)
+      shown : (s t : Bool) → leb a b ≡ s → leb c d ≡ t → s && (t && true) ≡ false → (b < a) ⊎ (d < c)
+      shown false t e g h = inl (leb-false a b e)
+      shown true false e g h = inr (leb-false c d g)
       shown true true e g h = absurd (false-true (sym h))
+
+  -- a line's bytes and bits
+  tells-bits : (t : Bool) (a b n w : ℕ) → Tells t ((b < a) ⊎ (vectorBytes < n * w)) → Tells t ((b < a) ⊎ (128 < n * (8 * w)))
+  tells-bits t a b n w k = record {
+    shows = λ e. elim (k .shows e) [ inl l ↦ inl l | inr l ↦ inr (omega (arith, l)) ];
+    refutes = λ e s. k .refutes e (elim s [ inl l ↦ inl l | inr l ↦ inr (omega (arith, l)) ]);
+  }
+
+  tells-lines : (f : Form) (first count : ℕ) → Tells (every (linesFit st f first count)) (LinesTooLarge st f first count)
+  tells-lines Plain first count =
+      tells-bits (every (linesFit st Plain first count)) (first + count) (st .tileM) (st .tileN) (sew (st .mtype)) (tells-both (first + count) (st .tileM) (st .tileN * sew (st .mtype)) vectorBytes)
+  tells-lines Transposed first count =
+      tells-bits (every (linesFit st Transposed first count)) (first + count) (st .tileN) (st .tileM) (sew (st .mtype)) (tells-both (first + count) (st .tileN) (st .tileM * sew (st .mtype)) vectorBytes)
 
   tells-slice : (op : Operation) → Tells (every (sliceFitting st op)) (SliceTooLarge st op)
   tells-slice (illegal wrong) = tells-never ⊥ (λ x. x)

@@ -66,15 +66,16 @@ memory-width elen t MatrixC w h =
     let a = eqb w (sew t) in
     let b = eqb w (2 * sew t) in
     let c = maccq t && eqb w (4 * sew t) in
-    let r = and-right (leb (8 * w) elen) (a || (b || c)) h in
-    (leb-true (8 * w) elen (and-left (leb (8 * w) elen) (a || (b || c)) h)
-    , elim (or-either a (b || c) r) [
+    let r = and-right (leb (8 * w) elen) (a || (b || c)) h in (
+      leb-true (8 * w) elen (and-left (leb (8 * w) elen) (a || (b || c)) h),
+      elim (or-either a (b || c) r) [
         | inl e ↦ inl (eqb-true w (sew t) e)
         | inr s ↦ inr (elim (or-either b c s) [
-            | inl e ↦ inl (eqb-true w (2 * sew t) e)
-            | inr m ↦ inr (and-left (maccq t) (eqb w (4 * sew t)) m, eqb-true w (4 * sew t) (and-right (maccq t) (eqb w (4 * sew t)) m))
-          ])
-      ])
+          | inl e ↦ inl (eqb-true w (2 * sew t) e)
+          | inr m ↦ inr (and-left (maccq t) (eqb w (4 * sew t)) m, eqb-true w (4 * sew t) (and-right (maccq t) (eqb w (4 * sew t)) m))
+        ])
+      ],
+    )
 
 pub width-memory : (elen t : ℕ) (k : Matrix) (w : ℕ) → WidthInMemory elen t k w → widthOf elen t k w ≡ true
 unfolding widthOf
@@ -88,9 +89,9 @@ width-memory elen t MatrixC w h =
     (elim (h .1) [
       | inl e ↦ or-left a (b || c) (eq-eqb w (sew t) e)
       | inr s ↦ or-right a (b || c) (elim s [
-          | inl e ↦ or-left b c (eq-eqb w (2 * sew t) e)
-          | inr m ↦ or-right b c (and-true (maccq t) (eqb w (4 * sew t)) (m .0) (eq-eqb w (4 * sew t) (m .1)))
-        ])
+        | inl e ↦ or-left b c (eq-eqb w (2 * sew t) e)
+        | inr m ↦ or-right b c (and-true (maccq t) (eqb w (4 * sew t)) (m .0) (eq-eqb w (4 * sew t) (m .1)))
+      ])
     ])
 
 pub output-width : (elen t f : ℕ) → widthOk elen t f ≡ true → WidthOfOutput elen t f
@@ -100,15 +101,16 @@ output-width elen t f h =
     let a = eqb f 1 in
     let b = eqb f 2 in
     let c = eqb f 4 && maccq t in
-    let r = and-right l (a || (b || c)) h in
-    (leb-true (f * (8 * sew t)) elen (and-left l (a || (b || c)) h)
-    , elim (or-either a (b || c) r) [
+    let r = and-right l (a || (b || c)) h in (
+      leb-true (f * (8 * sew t)) elen (and-left l (a || (b || c)) h),
+      elim (or-either a (b || c) r) [
         | inl e ↦ inl (eqb-true f 1 e)
         | inr s ↦ inr (elim (or-either b c s) [
-            | inl e ↦ inl (eqb-true f 2 e)
-            | inr m ↦ inr (eqb-true f 4 (and-left (eqb f 4) (maccq t) m), and-right (eqb f 4) (maccq t) m)
-          ])
-      ])
+          | inl e ↦ inl (eqb-true f 2 e)
+          | inr m ↦ inr (eqb-true f 4 (and-left (eqb f 4) (maccq t) m), and-right (eqb f 4) (maccq t) m)
+        ])
+      ],
+    )
 
 pub width-output : (elen t f : ℕ) → WidthOfOutput elen t f → widthOk elen t f ≡ true
 unfolding widthOk
@@ -121,9 +123,9 @@ width-output elen t f h =
     (elim (h .1) [
       | inl e ↦ or-left a (b || c) (eq-eqb f 1 e)
       | inr s ↦ or-right a (b || c) (elim s [
-          | inl e ↦ or-left b c (eq-eqb f 2 e)
-          | inr m ↦ or-right b c (and-true (eqb f 4) (maccq t) (eq-eqb f 4 (m .0)) (m .1))
-        ])
+        | inl e ↦ or-left b c (eq-eqb f 2 e)
+        | inr m ↦ or-right b c (and-true (eqb f 4) (maccq t) (eq-eqb f 4 (m .0)) (m .1))
+      ])
     ])
 
 -- ---- 4
@@ -155,9 +157,9 @@ module _ (M : Parameters) (st : State) where
         shows = shown rest (fits d) ih refl;
         refutes = λ e s. elim s [
           | inl x ↦ elim (List·Memᴰ·cases-cons (x .1)) [
-              | inl p ↦ here (subst (λ (z : Dimension). maximum M (st .mtype) z < sizeIn z st) p (x .2)) (and-left (fits d) rest e)
-              | inr m ↦ ih .refutes (and-right (fits d) rest e) (inl (x .0, m, x .2))
-            ]
+            | inl p ↦ here (subst (λ (z : Dimension). maximum M (st .mtype) z < sizeIn z st) p (x .2)) (and-left (fits d) rest e)
+            | inr m ↦ ih .refutes (and-right (fits d) rest e) (inl (x .0, m, x .2))
+          ]
           | inr y ↦ ih .refutes (and-right (fits d) rest e) (inr y)
         ];
       }

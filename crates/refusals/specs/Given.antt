@@ -1,5 +1,5 @@
 -- 01, "Numbers of the answers", of a step: each answer is "given exactly when" the sentence of its row holds and none before it does; 02, One,
--- Four, Seven, Ten, Eleven and Twelve. The proofs stand in proofs/.
+-- Four, Seven, Ten, Eleven and Twelve. 8 is the state at fault of machine/specs/Faults.antt. The proofs stand in proofs/.
 use mathlib.Core.Path.{_≡_}
 use mathlib.Core.Logic.{_↔_, _⊎_}
 use mathlib.Core.Bool.{true, cond}
@@ -23,8 +23,8 @@ use Rattle.machine.specs.Geometry.{Range, sealed, Parameters, parameters, State
 use Rattle.machine.specs.Setting.{sew, maccq, mill, maximum, sizeIn}
 use Rattle.machine.specs.Listing.{decode}
 use Rattle.machine.specs.Memory.{rowZ, rowAt}
-use Rattle.machine.specs.Vectors.{Vectors, vectorBytes}
-use Rattle.machine.specs.Operation.{Operation, illegal, setType, setSize, cutSize, load, store, multiply, combine, scale, floatMultiply, moveOut, moveIn, operationIn, rowsOf, columnsOf, tileRows, tileCols, memoryRows, memoryCols, linesOf, lineOf, sliceAt, sliceRows, sliceCols}
+use Rattle.machine.specs.Vectors.{Vectors}
+use Rattle.machine.specs.Operation.{Operation, illegal, setType, setSize, cutSize, load, store, multiply, combine, scale, floatMultiply, moveOut, moveIn, operationIn, rowsOf, columnsOf, tileRows, tileCols, memoryRows, memoryCols, sliceAt, sliceRows, sliceCols}
 use Rattle.machine.specs.Refusals.{isZero}
 use Rattle.machine.specs.Step.{stepWith}
 use Rattle.machine.specs.WordTheorems.{Faultless, RightOpcode, IsOurs, OutOfRange, RefusedAs}
@@ -84,7 +84,8 @@ uses (moveIn f d v first count file) = DimensionM ∷ DimensionN ∷ []
 
 -- 02, Eleven: "a slice past the tile, or one row or column that exceeds 128 bits, gets 4"
 abbrev pub LinesTooLarge : State → Form → (first count : ℕ) → Type 0
-LinesTooLarge st f first count = (linesOf f st < first + count) ⊎ (vectorBytes < lineOf f st * sew (st .mtype))
+LinesTooLarge st Plain first count = (st .tileM < first + count) ⊎ (128 < st .tileN * (8 * sew (st .mtype)))
+LinesTooLarge st Transposed first count = (st .tileN < first + count) ⊎ (128 < st .tileM * (8 * sew (st .mtype)))
 
 abbrev pub SliceTooLarge : State → Operation → Type 0
 SliceTooLarge st (illegal wrong) = ⊥
@@ -278,41 +279,41 @@ module _ (grant : Choice) (word : ℕ) (xs : List ℕ) (W : Vectors) (B : Bench)
     pub in-range : ¬ OutOfRange W word
 
   -- the sentences, in the order in which they are looked at
-  abbrev pub Two : Type 0
-  Two = TypeIsIllegal st op
+  abbrev pub IllegalType : Type 0
+  IllegalType = TypeIsIllegal st op
 
-  abbrev pub Three : Type 0
-  Three = WidthIsBroken M st op
+  abbrev pub WrongWidth : Type 0
+  WrongWidth = WidthIsBroken M st op
 
-  abbrev pub Four : Type 0
-  Four = SizeTooLarge M st op
+  abbrev pub TooLarge : Type 0
+  TooLarge = SizeTooLarge M st op
 
-  abbrev pub Five : Type 0
-  Five = NotWritten M st op
+  abbrev pub Unwritten : Type 0
+  Unwritten = NotWritten M st op
 
-  abbrev pub Six : Type 0
-  Six = LiesOutside (B .memory) (touches st op)
+  abbrev pub Outside : Type 0
+  Outside = LiesOutside (B .memory) (touches st op)
 
-  abbrev pub Thirteen : Type 0
-  Thirteen = InTwoRows (writes st op)
+  abbrev pub SharedByte : Type 0
+  SharedByte = InTwoRows (writes st op)
 
-  abbrev pub Seven : Type 0
-  Seven = WritesSealed (B .seals) (writes st op)
+  abbrev pub SealedByte : Type 0
+  SealedByte = WritesSealed (B .seals) (writes st op)
 
   -- "Given exactly when": each sentence holds and none before it
   pub record GivenExactly (answer : Reply) : Type 0 where
     pub eight : (answer .number ≡ 8) ↔ ¬ Faultless xs W B
     -- 10, 11, 1 and 12
     pub by-code : RefusedAs (answer .number) word xs W B
-    pub two : (answer .number ≡ 2) ↔ Legal × Two
-    pub three : (answer .number ≡ 3) ↔ Legal × (Two else Three)
-    pub four : (answer .number ≡ 4) ↔ Legal × (Two else Three else Four)
-    pub five : (answer .number ≡ 5) ↔ Legal × (Two else Three else Four else Five)
-    pub six : (answer .number ≡ 6) ↔ Legal × (Two else Three else Four else Five else Six)
-    pub thirteen : (answer .number ≡ 13) ↔ Legal × (Two else Three else Four else Five else Six else Thirteen)
-    pub seven : (answer .number ≡ 7) ↔ Legal × (Two else Three else Four else Five else Six else Thirteen else Seven)
-    pub nought : (answer .number ≡ 0) ↔ Legal × (Two else Three else Four else Five else Six else Thirteen else ¬ Seven)
-    -- no other: 9, 14 and 15 are never a step's
+    pub two : (answer .number ≡ 2) ↔ Legal × IllegalType
+    pub three : (answer .number ≡ 3) ↔ Legal × (IllegalType else WrongWidth)
+    pub four : (answer .number ≡ 4) ↔ Legal × (IllegalType else WrongWidth else TooLarge)
+    pub five : (answer .number ≡ 5) ↔ Legal × (IllegalType else WrongWidth else TooLarge else Unwritten)
+    pub six : (answer .number ≡ 6) ↔ Legal × (IllegalType else WrongWidth else TooLarge else Unwritten else Outside)
+    pub thirteen : (answer .number ≡ 13) ↔ Legal × (IllegalType else WrongWidth else TooLarge else Unwritten else Outside else SharedByte)
+    pub seven : (answer .number ≡ 7) ↔ Legal × (IllegalType else WrongWidth else TooLarge else Unwritten else Outside else SharedByte else SealedByte)
+    pub nought : (answer .number ≡ 0) ↔ Legal × (IllegalType else WrongWidth else TooLarge else Unwritten else Outside else SharedByte else ¬ SealedByte)
+    -- no other: 9 and 14 to 17 are never a step's
     pub no-other : isIn (answer .number) (0 ∷ 1 ∷ 2 ∷ 3 ∷ 4 ∷ 5 ∷ 6 ∷ 7 ∷ 8 ∷ 10 ∷ 11 ∷ 12 ∷ 13 ∷ []) ≡ true
     -- "Answer 5 names the row and column of the first such element, row by row; sources go ms1, ms2, md. Elsewhere both are 0."
     pub named : answer .number ≡ 5 → FirstAmong (B .marks) (reads M st op) (answer .row) (answer .column)

@@ -2,9 +2,10 @@
 -- The proofs stand in proofs/.
 use mathlib.Core.Path.{_≡_}
 use mathlib.Core.Bool.{true, cond}
-use mathlib.Core.List.{List, [], _∷_, List·Memᴰ}
-use Prim.Native.Nat.{ℕ, _*_, _/_, _^_}
+use mathlib.Core.List.{List, [], _∷_}
+use Prim.Native.Nat.{ℕ, _*_, _/_, _^_, _<_}
 use lib.Dec.{eqb}
+use lib.ListN.{length, getD}
 use Rattle.machine.specs.Tests.{isIn}
 use Rattle.machine.specs.Geometry.{elens, permitted, registerBytes}
 use Rattle.machine.specs.Setting.{newType}
@@ -16,9 +17,10 @@ abbrev pub entries : List Row → List Code
 entries [] = others
 entries (r ∷ rs) = r .code ∷ entries rs
 
--- 01: "If it gives one code to two of our instructions, .."; it does not: two entries whose bits a word has are one
+-- 01: "If it gives one code to two of our instructions, .."; it does not: no word has the bits of two entries
 abbrev pub NoCodeTwice : Type 0
-NoCodeTwice = (word : ℕ) (c d : Code) → List·Memᴰ c (entries listing) → List·Memᴰ d (entries listing) → EveryBit word c → EveryBit word d → c .number ≡ d .number
+NoCodeTwice = (word j k : ℕ) (c : Code) → j < k → k < length (entries listing)
+    → EveryBit word (getD (entries listing) j c) → EveryBit word (getD (entries listing) k c) → ⊥
 
 -- the legal values of mtype: 8, 16 and 32 bits, 8 bits with maccq; with ELEN 64 also 64 bits, and 16 bits with maccq
 abbrev pub legalValues : (elen : ℕ) → List ℕ

@@ -1,0 +1,64 @@
+-- What a call of bodlarina_run delivers.
+use mathlib.Core.Path.{_≡_, refl, sym, ap, _∙_, subst}
+use mathlib.Core.Bool.{Bool, true, false}
+use mathlib.Core.List.{List}
+use Prim.Native.Nat.{ℕ, _<_}
+use lib.Dec.{eqb}
+use lib.ListN.{length}
+use native.Mathlib.Nat.{le-refl}
+use borrow.Author.Tests.{eqb-true, eqb-false}
+use Rattle.machine.specs.Operation.{element}
+use Rattle.run.specs.declared.Plan.{Plan}
+use Rattle.run.specs.Words.{steps}
+use Rattle.run.specs.Plan.{Kept, shape, wide, cAt, productOf}
+use Rattle.run.specs.Statement.{MemoryBytes}
+use Rattle.blocks.specs.Blocks.{Bytes, machineBytes}
+use Rattle.run_blocks.specs.RunBlocks.{runBytes}
+use Rattle.turn_calls.specs.TurnCalls.{countBytes, HostRan}
+use Rattle.turn_calls.proofs.Refusal.{run-refusal}
+use Rattle.calls.specs.Calls.{Buffers, Call, Called, afterRun, called}
+use Rattle.calls.specs.Composed.{PlanWords, jobIn, afterTurnCalls, counting}
+use Rattle.calls.proofs.Runs.{start-calls-are-right, turn-calls-are-right, run-is-turn-calls}
+use Rattle.demands.specs.Demand3.{RunCallDelivers, RunCallsDeliver}
+
+module _ (P : Plan) (b : Buffers) (p : PlanWords P) (small : Bytes (b .machine)) (mem : MemoryBytes (b .memory))
+    (lm : length (b .machine) ≡ machineBytes) (lr : length (b .run) ≡ runBytes) (lc : length (b .steps) ≡ countBytes) where
+  abbrev o : Called
+  o = called (Call.run P) b
+
+  abbrev s : ℕ
+  s = steps (shape (jobIn P b))
+
+  same : o .result ≡ called (Call.runStart P) b .result
+  same = run-is-turn-calls P b p small mem lr lc .0
+
+  after-is : o .result ≡ 0 → o .after ≡ counting s (afterTurnCalls P b s) b
+  after-is = run-is-turn-calls P b p small mem lr lc .1
+
+  refused : ¬ (o .result ≡ 0) → o .after ≡ b
+  refused h = ap (λ (x : HostRan). afterRun b x .after) (run-refusal P (b .machine) (b .registers) (b .marks) (b .memory) (b .steps) h)
+
+  kept : Kept (jobIn P b) (o .after .memory)
+  kept = go (eqb (o .result) 0) refl
+    where
+      go : (t : Bool) → eqb (o .result) 0 ≡ t → Kept (jobIn P b) (o .after .memory)
+      go true e =
+          let z = eqb-true (o .result) 0 e in
+          subst (Kept (jobIn P b)) (sym (ap (λ (a : Buffers). a .memory) (after-is z))) (turn-calls-are-right P b p small mem (sym same ∙ z) s .kept)
+      go false e = subst (Kept (jobIn P b)) (sym (ap (λ (a : Buffers). a .memory) (refused (eqb-false (o .result) 0 e)))) (record { same-length = refl; outside = λ q h. refl })
+
+  delivers : RunCallDelivers P b o
+  delivers =
+      let a = start-calls-are-right P b lm lr mem .answered in
+      record {
+        answered = (a .0, same ∙ a .1, a .2);
+        refused = refused;
+        counted = λ z. ap (λ (x : Buffers). x .steps) (after-is z);
+        product = λ z i j l m.
+            ap (λ (x : Buffers). element (x .memory) (cAt P) (wide P) i j) (after-is z)
+            ∙ turn-calls-are-right P b p small mem (sym same ∙ z) s .product (le-refl s) i j l m;
+        kept = kept;
+      }
+
+pub run-calls-deliver : RunCallsDeliver
+run-calls-deliver P b p small mem lm lr lc = delivers P b p small mem lm lr lc
