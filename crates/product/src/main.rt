@@ -1,17 +1,19 @@
 // Reads the numbers of a product from standard input, and writes its answer to standard output.
+use libc::STDERR_FILENO;
 use libc::STDOUT_FILENO;
 
 // One byte more is read than a text may have, so that a longer one is refused. A text that was not read whole gets no answer.
+// Where a line on standard error cannot be written either, nothing is left to do.
 fn main() {
     let mut text = [0u8; 8193];
     let reading = stream::read_text(&mut text);
     if reading.failed {
-        stream::complain(b"product: cannot read standard input\n");
+        io::write_all(STDERR_FILENO, b"product: cannot read standard input\n");
         return;
     }
     let mut out = [0u8; 8192];
     let written = solving::answer(&text[..reading.count], &mut out);
     if !io::write_all(STDOUT_FILENO, &out[..written]) {
-        stream::complain(b"product: cannot write the answer\n");
+        io::write_all(STDERR_FILENO, b"product: cannot write the answer\n");
     }
 }

@@ -11,11 +11,11 @@ slice-aggregate-read-text c = search needs
 read-text-requires : tie.Need-read-text-requires
 read-text-requires c κs = search needs
 
-slice-aggregate-complain : tie.Need-slice-aggregate-complain
-slice-aggregate-complain c = search needs
+slice-aggregate-write-all : tie.Need-slice-aggregate-write-all
+slice-aggregate-write-all c = search needs
 
-complain-requires : tie.Need-complain-requires
-complain-requires c κs = search needs
+write-all-requires : tie.Need-write-all-requires
+write-all-requires c κs = search needs
 
 returns : tie.Need-returns
 returns c = search needs
@@ -32,17 +32,17 @@ answer-requires c κs = search needs
 array-share-prefix-out : tie.Need-array-share-prefix-out
 array-share-prefix-out c = omega arith
 
-slice-aggregate-write-all : tie.Need-slice-aggregate-write-all
-slice-aggregate-write-all c = let a = c .before .answer in sym (length-take-le (a .result) (a .last .1 .0) (omega arith))
+slice-aggregate-write-all-2 : tie.Need-slice-aggregate-write-all-2
+slice-aggregate-write-all-2 c = let a = c .before .answer in sym (length-take-le (a .result) (a .last .1 .0) (omega arith))
 
-write-all-requires : tie.Need-write-all-requires
-write-all-requires c κs = search needs
+write-all-requires-2 : tie.Need-write-all-requires-2
+write-all-requires-2 c κs = search needs
 
-slice-aggregate-complain-2 : tie.Need-slice-aggregate-complain-2
-slice-aggregate-complain-2 c = search needs
+slice-aggregate-write-all-3 : tie.Need-slice-aggregate-write-all-3
+slice-aggregate-write-all-3 c = search needs
 
-complain-requires-2 : tie.Need-complain-requires-2
-complain-requires-2 c κs = search needs
+write-all-requires-3 : tie.Need-write-all-requires-3
+write-all-requires-3 c κs = search needs
 
 returns-2 : tie.Need-returns-2
 returns-2 c = search needs
@@ -56,16 +56,16 @@ main-spec =
     (tie.spec
     slice-aggregate-read-text
     read-text-requires
-    slice-aggregate-complain
-    complain-requires
+    slice-aggregate-write-all
+    write-all-requires
     returns
     array-share-prefix-text
     slice-aggregate-answer
     answer-requires
     array-share-prefix-out
-    slice-aggregate-write-all
-    write-all-requires
-    slice-aggregate-complain-2
-    complain-requires-2
+    slice-aggregate-write-all-2
+    write-all-requires-2
+    slice-aggregate-write-all-3
+    write-all-requires-3
     returns-2
     returns-3)
