@@ -9,15 +9,6 @@ use borrow.Author.Needs.{needs}
 use Rattle.address.proofs.as_signed.Statement.{statement}
 use Rattle.address.proofs.as_signed.Tie as tie
 
-cast-result : tie.Need-cast-result
-cast-result c = search needs
-
-sub-result : tie.Need-sub-result
-sub-result c = search needs
-
-cast-result-2 : tie.Need-cast-result-2
-cast-result-2 c = search needs
-
 sub-result-2 : tie.Need-sub-result-2
 sub-result-2 c =
     let k = 18446744073709551615 - c .before .args .x in
@@ -35,4 +26,4 @@ returns-2 c =
 
 pub as-signed-spec : {M : Type 1} → statement M
 as-signed-spec =
-    tie.close (tie.spec cast-result sub-result cast-result-2 sub-result-2 returns returns-2)
+    tie.close (tie.spec (λ c. search needs) (λ c. search needs) (λ c. search needs) sub-result-2 returns returns-2)

@@ -12,12 +12,6 @@ use Rattle.address.proofs.is_bounded.Tie as tie
 returns : tie.Need-returns
 returns c = let a = c .before .args in no-distance (natAbs (a .stride)) (a .row) (a .room) (c .if1 .taken)
 
-magnitude-requires : tie.Need-magnitude-requires
-magnitude-requires c κs = search needs
-
-div-result : tie.Need-div-result
-div-result c = search needs
-
 returns-2 : tie.Need-returns-2
 returns-2 c =
     let s = c .before .before in
@@ -26,4 +20,4 @@ returns-2 c =
     ∙ by-division (natAbs (a .stride)) (a .row) (a .room) (c .before .if1 .left)
 
 pub is-bounded-spec : {M : Type 1} → statement M
-is-bounded-spec = tie.close (tie.spec returns magnitude-requires div-result returns-2)
+is-bounded-spec = tie.close (tie.spec returns (λ c _. search needs) (λ c. search needs) returns-2)

@@ -49,9 +49,6 @@ returns c =
     rw (toZ-ofZ w64 z (s .fits .z), below-negative z (below c), toZ-ofZ w64 (pos (mag z)) (record { sfits = s .fits .z .sfits }))
     (magnitude-negative z (below c))
 
-returns-2 : tie.Need-returns-2
-returns-2 c = search needs
-
 pub magnitude-spec : {M : Type 1} → statement M
 magnitude-spec =
-    tie.close (tie.spec sub-result cast-result add-result cast-result-2 returns returns-2)
+    tie.close (tie.spec sub-result cast-result add-result cast-result-2 returns (λ c. search needs))

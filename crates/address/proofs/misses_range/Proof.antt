@@ -10,9 +10,6 @@ returns c = let a = c .before .args in misses-no-bytes (a .seal) (a .size) (a .p
 returns-2 : tie.Need-returns-2
 returns-2 c = let a = c .before .before .args in misses-no-seal (a .seal) (a .size) (a .p) (a .n) (c .before .if1 .left) (c .if2 .taken)
 
-add-end : tie.Need-add-end
-add-end c = search needs
-
 returns-3 : tie.Need-returns-3
 returns-3 c =
     let a = c .before .before .before .args in
@@ -23,19 +20,10 @@ returns-4 c =
     let a = c .before .before .before .before .args in
     misses-not (a .seal) (a .size) (a .p) (a .n) (c .before .before .before .if1 .left) (c .before .before .if2 .left) (omega arith) (omega arith)
 
-sub-last : tie.Need-sub-last
-sub-last c = search needs
-
-sub-if5 : tie.Need-sub-if5
-sub-if5 c = search needs
-
 returns-5 : tie.Need-returns-5
 returns-5 c =
     let a = c .before .before .before .before .before .args in
     misses-not (a .seal) (a .size) (a .p) (a .n) (c .before .before .before .before .if1 .left) (c .before .before .before .if2 .left) (omega arith) (omega arith)
-
-add-result : tie.Need-add-result
-add-result c = omega arith
 
 returns-6 : tie.Need-returns-6
 returns-6 c =
@@ -44,4 +32,4 @@ returns-6 c =
 
 pub misses-range-spec : {M : Type 1} → statement M
 misses-range-spec =
-    tie.close (tie.spec returns returns-2 add-end returns-3 returns-4 sub-last sub-if5 returns-5 add-result returns-6)
+    tie.close (tie.spec returns returns-2 (λ c. search needs) returns-3 returns-4 (λ c. search needs) (λ c. search needs) returns-5 (λ c. omega arith) returns-6)

@@ -11,9 +11,6 @@ use borrow.Author.Needs.{needs}
 use Rattle.address.proofs.row_address.Statement.{statement}
 use Rattle.address.proofs.row_address.Tie as tie
 
-cast-distance : tie.Need-cast-distance
-cast-distance c = search needs
-
 -- the factors, the product, and that it fits
 factors : (c : tie.Start) → toZ w64 (c .args .row) *ℤ toZ w64 (ofZ w64 (c .args .stride)) ≡ pos (c .args .row) *ℤ c .args .stride
 factors c = rw (toZ-pos w64 (c .args .row) (omega arith), toZ-ofZ w64 (c .args .stride) (c .fits .stride))
@@ -45,17 +42,11 @@ up c =
     let e : c .magnitude2 .result ≡ natAbs (pos (a .row) *ℤ a .stride) = c .magnitude2 .ensures ∙ ap natAbs (product s) in
     rw e (goes-up (2 ^ 64) (a .base) (pos (a .row) *ℤ a .stride) (s .pre .1 .1) (rw (product s) at (c .before .if1 .left)))
 
-magnitude-requires : tie.Need-magnitude-requires
-magnitude-requires c κs = search needs
-
 sub-result : tie.Need-sub-result
 sub-result c = down c .0
 
 returns : tie.Need-returns
 returns c = down c .1
-
-magnitude-requires-2 : tie.Need-magnitude-requires-2
-magnitude-requires-2 c κs = search needs
 
 add-result : tie.Need-add-result
 add-result c = record { fits = up c .0 }
@@ -67,11 +58,11 @@ pub row-address-spec : {M : Type 1} → statement M
 row-address-spec =
     tie.close
     (tie.spec
-    cast-distance
+    (λ c. search needs)
     mul-distance
-    magnitude-requires
+    (λ c _. search needs)
     sub-result
     returns
-    magnitude-requires-2
+    (λ c _. search needs)
     add-result
     returns-2)

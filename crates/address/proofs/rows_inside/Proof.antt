@@ -30,18 +30,9 @@ returns-4 c =
     let a = c .before .before .before .before .args in
     sym (inside-first-not (a .len) (a .base) (a .stride) (a .rows) (a .bytes) (c .before .before .before .if1 .left) (omega arith) (omega arith))
 
-as-signed-requires : tie.Need-as-signed-requires
-as-signed-requires c κs = search needs
-
 -- the stride as the definitions read it
 stride-is : (c : tie.After-as-signed) → toZ w64 (ofZ w64 (c .as-signed .result)) ≡ step (c .before .before .before .before .before .args .stride)
 stride-is c = passed-on (c .as-signed .result) (c .before .before .before .before .before .args .stride) (c .as-signed .ok) (c .as-signed .ensures)
-
-sub-is-bounded : tie.Need-sub-is-bounded
-sub-is-bounded c = search needs
-
-is-bounded-requires : tie.Need-is-bounded-requires
-is-bounded-requires c κs = search needs
 
 returns-5 : tie.Need-returns-5
 returns-5 c =
@@ -52,12 +43,6 @@ returns-5 c =
     c .is-bounded .ensures ∙ ap (λ (z : ℤ). leb (natAbs z * (a .rows - 1)) (a .base)) e
     ∙ inside-down (a .len) (a .base) (a .stride) (a .rows) (a .bytes) (a .rows - 1) (omega arith) (s .fits .stride .fits) (d .before .before .before .before .if1 .left) (omega arith)
     (rw e at (c .before .if5 .taken))
-
-sub-is-bounded-2 : tie.Need-sub-is-bounded-2
-sub-is-bounded-2 c = search needs
-
-is-bounded-requires-2 : tie.Need-is-bounded-requires-2
-is-bounded-requires-2 c κs = search needs
 
 returns-6 : tie.Need-returns-6
 returns-6 c =
@@ -77,10 +62,10 @@ rows-inside-spec =
     returns-2
     returns-3
     returns-4
-    as-signed-requires
-    sub-is-bounded
-    is-bounded-requires
+    (λ c _. search needs)
+    (λ c. search needs)
+    (λ c _. search needs)
     returns-5
-    sub-is-bounded-2
-    is-bounded-requires-2
+    (λ c. search needs)
+    (λ c _. search needs)
     returns-6)

@@ -16,9 +16,6 @@ use Rattle.arithmetic.proofs.combine_tile.Tie as tie
 mul-wide : tie.Need-mul-wide
 mul-wide c = omega (arith, width-small (c .before .args .factor * c .before .args .width) (c .before .pre .1 .1 .1 .0))
 
-enum-told : tie.Need-enum-told
-enum-told c = search needs
-
 weigh-tile-requires : tie.Need-weigh-tile-requires
 weigh-tile-requires c κs =
     let k = c .before .before .before .before in
@@ -26,9 +23,6 @@ weigh-tile-requires c κs =
     let p = k .pre in
     let q = p .1 .1 .1 .1 .1 in
     (p .0, (p .1 .0, ((p .1 .1 .0, (p .1 .1 .1 .0, wider (a .factor) (a .width) (p .1 .1 .1 .0))), (q .0, (q .1 .0, columns (a .factor) (a .width) (a .n) (a .pitch) (p .1 .1 .1 .1 .0) (q .1 .1))))))
-
-enum-told-2 : tie.Need-enum-told-2
-enum-told-2 c = search needs
 
 weigh-tile-requires-2 : tie.Need-weigh-tile-requires-2
 weigh-tile-requires-2 c κs =
@@ -38,9 +32,6 @@ weigh-tile-requires-2 c κs =
     let q = p .1 .1 .1 .1 .1 in
     (p .0, (p .1 .0, ((p .1 .1 .0, (p .1 .1 .1 .0, wider (a .factor) (a .width) (p .1 .1 .1 .0))), (q .0, (q .1 .0, columns (a .factor) (a .width) (a .n) (a .pitch) (p .1 .1 .1 .1 .0) (q .1 .1))))))
 
-enum-told-3 : tie.Need-enum-told-3
-enum-told-3 c = search needs
-
 weigh-tile-requires-3 : tie.Need-weigh-tile-requires-3
 weigh-tile-requires-3 c κs =
     let k = c .before .before .before .before in
@@ -48,9 +39,6 @@ weigh-tile-requires-3 c κs =
     let p = k .pre in
     let q = p .1 .1 .1 .1 .1 in
     (p .0, (p .1 .0, ((p .1 .1 .0, (p .1 .1 .1 .0, wider (a .factor) (a .width) (p .1 .1 .1 .0))), (q .0, (q .1 .0, columns (a .factor) (a .width) (a .n) (a .pitch) (p .1 .1 .1 .1 .0) (q .1 .1))))))
-
-same-length : tie.Need-same-length
-same-length c = search needs
 
 returns : tie.Need-returns
 returns c =
@@ -61,9 +49,6 @@ returns c =
     ∙ combine-is (shape (a .rows) (a .pitch)) (a .width) w (a .d) (a .a) (a .m) (a .n) (a .registers .now) Add (1 % 256 ^ w) (1 % 256 ^ w) (weight-one w ok) (weight-one w ok)
     ∙ ap (λ (o : Sum). combineTile (shape (a .rows) (a .pitch)) o w (a .width) (a .d) (a .a) (a .m) (a .n) (a .registers .now)) (sym (c .before .before .before .before .enum-told .given .1))
 
-same-length-2 : tie.Need-same-length-2
-same-length-2 c = search needs
-
 returns-2 : tie.Need-returns-2
 returns-2 c =
     let a = c .before .before .before .before .before .before .before .args in
@@ -72,9 +57,6 @@ returns-2 c =
     c .before .before .weigh-tile2 .ensures
     ∙ combine-is (shape (a .rows) (a .pitch)) (a .width) w (a .d) (a .a) (a .m) (a .n) (a .registers .now) Subtract (1 % 256 ^ w) (18446744073709551615 % 256 ^ w) (weight-one w ok) (weight-minus w ok)
     ∙ ap (λ (o : Sum). combineTile (shape (a .rows) (a .pitch)) o w (a .width) (a .d) (a .a) (a .m) (a .n) (a .registers .now)) (sym (c .before .before .before .before .enum-told2 .given .1))
-
-same-length-3 : tie.Need-same-length-3
-same-length-3 c = search needs
 
 returns-3 : tie.Need-returns-3
 returns-3 c =
@@ -90,15 +72,15 @@ combine-tile-spec =
     tie.close
     (tie.spec
     mul-wide
-    enum-told
+    (λ c. search needs)
     weigh-tile-requires
-    enum-told-2
+    (λ c. search needs)
     weigh-tile-requires-2
-    enum-told-3
+    (λ c. search needs)
     weigh-tile-requires-3
-    same-length
+    (λ c. search needs)
     returns
-    same-length-2
+    (λ c. search needs)
     returns-2
-    same-length-3
+    (λ c. search needs)
     returns-3)

@@ -9,24 +9,6 @@ use borrow.Author.Needs.{needs}
 use Rattle.arithmetic.proofs.multiply_rows.Statement.{statement}
 use Rattle.arithmetic.proofs.multiply_rows.Tie as tie
 
-multiply-rows-requires : tie.Need-multiply-rows-requires
-multiply-rows-requires c κs = search needs
-
-same-length : tie.Need-same-length
-same-length c = search needs
-
-returns : tie.Need-returns
-returns c = search needs
-
-multiply-rows-requires-2 : tie.Need-multiply-rows-requires-2
-multiply-rows-requires-2 c κs = search needs
-
-same-length-2 : tie.Need-same-length-2
-same-length-2 c = search needs
-
-returns-2 : tie.Need-returns-2
-returns-2 c = search needs
-
 multiply-rows-requires-3 : tie.Need-multiply-rows-requires-3
 multiply-rows-requires-3 c κs =
     let k = c .before .before .before .before in
@@ -34,9 +16,6 @@ multiply-rows-requires-3 c κs =
     let p = k .pre in
     let e = ap (λ (w : ℕ). a .n * w) (c .before .before .if1 .left) in
     (p .0, (not-4 (a .width) (short (a .width) (p .1 .0 .0) (omega (arith, p, c .before .before .if1 .left))) (c .before .if2 .left), ((p .1 .1 .0 .0, (p .1 .1 .0 .1 .0, omega (arith, p, e))), (p .1 .1 .1 .0, (p .1 .1 .1 .1 .0, (p .1 .1 .1 .1 .1 .0, omega (arith, p, e)))))))
-
-same-length-3 : tie.Need-same-length-3
-same-length-3 c = search needs
 
 returns-3 : tie.Need-returns-3
 returns-3 c =
@@ -48,12 +27,12 @@ pub multiply-rows-spec : {M : Type 1} → statement M
 multiply-rows-spec =
     tie.close
     (tie.spec
-    multiply-rows-requires
-    same-length
-    returns
-    multiply-rows-requires-2
-    same-length-2
-    returns-2
+    (λ c _. search needs)
+    (λ c. search needs)
+    (λ c. search needs)
+    (λ c _. search needs)
+    (λ c. search needs)
+    (λ c. search needs)
     multiply-rows-requires-3
-    same-length-3
+    (λ c. search needs)
     returns-3)

@@ -15,20 +15,11 @@ bounds c =
     room (a .rows) (a .pitch) (a .factor) (a .width) (a .d) (a .a) (a .b) (a .m) (a .k) (a .n) (length (a .registers .now))
     (p .0) (p .1 .0) (p .1 .1 .1 .0) (p .1 .1 .1 .1 .0) (p .1 .1 .1 .1 .1 .0) (p .1 .1 .1 .1 .1 .1)
 
-mul-size : tie.Need-mul-size
-mul-size c = search needs
-
 mul-at-a : tie.Need-mul-at-a
 mul-at-a c = let f = bounds c in omega arith
 
 mul-at-b : tie.Need-mul-at-b
 mul-at-b c = let f = bounds c in omega arith
-
-mul-at-c : tie.Need-mul-at-c
-mul-at-c c = search needs
-
-add-at-c : tie.Need-add-at-c
-add-at-c c = search needs
 
 mul-at-c-2 : tie.Need-mul-at-c-2
 mul-at-c-2 c = let f = bounds c in omega arith
@@ -45,9 +36,6 @@ multiply-blocks-requires c κs =
     let q = p .1 .1 .1 .1 .1 .1 in
     ((q .0, (p .1 .1 .1 .1 .1 .0 .1 .1, p .1 .0 .1 .0)), ((p .1 .1 .0, (p .1 .1 .1 .0, wider (a .factor) (a .width) (p .1 .1 .1 .0))), ((q .1 .0, (q .1 .1, f .c-row)), (omega arith, (omega arith, f .c-ends)))))
 
-same-length : tie.Need-same-length
-same-length c = search needs
-
 returns : tie.Need-returns
 unfolding productTile
 returns c = c .before .before .multiply-blocks .ensures
@@ -56,13 +44,13 @@ pub multiply-tile-spec : {M : Type 1} → statement M
 multiply-tile-spec =
     tie.close
     (tie.spec
-    mul-size
+    (λ c. search needs)
     mul-at-a
     mul-at-b
-    mul-at-c
-    add-at-c
+    (λ c. search needs)
+    (λ c. search needs)
     mul-at-c-2
     mul-wide
     multiply-blocks-requires
-    same-length
+    (λ c. search needs)
     returns)

@@ -21,9 +21,6 @@ weigh-tile-requires c κs =
     let q = p .1 .1 .1 .1 .1 in
     (p .0, (p .1 .0, ((p .1 .1 .0, (p .1 .1 .1 .0, wider (a .factor) (a .width) (p .1 .1 .1 .0))), (q .0, (q .1 .0, columns (a .factor) (a .width) (a .n) (a .pitch) (p .1 .1 .1 .1 .0) (q .1 .1))))))
 
-same-length : tie.Need-same-length
-same-length c = search needs
-
 returns : tie.Need-returns
 returns c =
     let a = c .before .before .before .before .before .args in
@@ -32,4 +29,4 @@ returns c =
     ∙ scale-is (shape (a .rows) (a .pitch)) (a .width) w (a .d) (a .a) (a .m) (a .n) (a .registers .now) (width-small w (c .before .before .before .before .before .pre .1 .1 .1 .0)) z (a .x) e
 
 pub scale-tile-spec : {M : Type 1} → statement M
-scale-tile-spec = tie.close (tie.spec mul-wide weigh-tile-requires same-length returns)
+scale-tile-spec = tie.close (tie.spec mul-wide weigh-tile-requires (λ c. search needs) returns)

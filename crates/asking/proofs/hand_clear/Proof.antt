@@ -5,18 +5,6 @@ use borrow.Author.Needs.{needs}
 use Rattle.asking.proofs.hand_clear.Statement.{statement}
 use Rattle.asking.proofs.hand_clear.Tie as tie
 
-factor-code-requires : tie.Need-factor-code-requires
-factor-code-requires c κs = search needs
-
-add-arithmetic-word : tie.Need-add-arithmetic-word
-add-arithmetic-word c = search needs
-
-arithmetic-word-requires : tie.Need-arithmetic-word-requires
-arithmetic-word-requires c κs = search needs
-
-plain-step-requires : tie.Need-plain-step-requires
-plain-step-requires c κs = search needs
-
 returns : tie.Need-returns
 returns c =
     c .plain-step .ensures ∙ ap plain (c .before .arithmetic-word .ensures)
@@ -26,8 +14,8 @@ pub hand-clear-spec : {M : Type 1} → statement M
 hand-clear-spec =
     tie.close
     (tie.spec
-    factor-code-requires
-    add-arithmetic-word
-    arithmetic-word-requires
-    plain-step-requires
+    (λ c _. search needs)
+    (λ c. search needs)
+    (λ c _. search needs)
+    (λ c _. search needs)
     returns)

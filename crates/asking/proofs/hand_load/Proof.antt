@@ -6,21 +6,6 @@ use borrow.Author.Needs.{needs}
 use Rattle.asking.proofs.hand_load.Statement.{statement}
 use Rattle.asking.proofs.hand_load.Tie as tie
 
-width-code-requires : tie.Need-width-code-requires
-width-code-requires c κs = search needs
-
-memory-word-requires : tie.Need-memory-word-requires
-memory-word-requires c κs = search needs
-
-narrow-bytes-requires : tie.Need-narrow-bytes-requires
-narrow-bytes-requires c κs = search needs
-
-small-times-requires : tie.Need-small-times-requires
-small-times-requires c κs = search needs
-
-start-of-requires : tie.Need-start-of-requires
-start-of-requires c κs = search needs
-
 returns : tie.Need-returns
 returns c =
     let t = c .before in
@@ -35,9 +20,9 @@ pub hand-load-spec : {M : Type 1} → statement M
 hand-load-spec =
     tie.close
     (tie.spec
-    width-code-requires
-    memory-word-requires
-    narrow-bytes-requires
-    small-times-requires
-    start-of-requires
+    (λ c _. search needs)
+    (λ c _. search needs)
+    (λ c _. search needs)
+    (λ c _. search needs)
+    (λ c _. search needs)
     returns)

@@ -9,15 +9,6 @@ use borrow.Author.Needs.{needs}
 use Rattle.asking.proofs.hand_load_a.Statement.{statement}
 use Rattle.asking.proofs.hand_load_a.Tie as tie
 
-load-code-requires : tie.Need-load-code-requires
-load-code-requires c κs = search needs
-
-a-row-requires : tie.Need-a-row-requires
-a-row-requires c κs = search needs
-
-a-column-requires : tie.Need-a-column-requires
-a-column-requires c κs = search needs
-
 hand-load-requires : tie.Need-hand-load-requires
 hand-load-requires c κs =
     let k = c .before in
@@ -38,4 +29,4 @@ returns c =
     (ap₂ (λ (i j : ℕ). addressIn (P .a) i (j * narrow P)) (r .a-row .ensures) (k .a-column .ensures))
 
 pub hand-load-a-spec : {M : Type 1} → statement M
-hand-load-a-spec = tie.close (tie.spec load-code-requires a-row-requires a-column-requires hand-load-requires returns)
+hand-load-a-spec = tie.close (tie.spec (λ c _. search needs) (λ c _. search needs) (λ c _. search needs) hand-load-requires returns)

@@ -4,14 +4,8 @@ use borrow.Author.Needs.{needs}
 use Rattle.asking.proofs.hand_setting.Statement.{statement}
 use Rattle.asking.proofs.hand_setting.Tie as tie
 
-setting-word-requires : tie.Need-setting-word-requires
-setting-word-requires c κs = search needs
-
-plain-step-requires : tie.Need-plain-step-requires
-plain-step-requires c κs = search needs
-
 returns : tie.Need-returns
 returns c = c .plain-step .ensures ∙ ap plain (c .before .setting-word .ensures)
 
 pub hand-setting-spec : {M : Type 1} → statement M
-hand-setting-spec = tie.close (tie.spec setting-word-requires plain-step-requires returns)
+hand-setting-spec = tie.close (tie.spec (λ c _. search needs) (λ c _. search needs) returns)

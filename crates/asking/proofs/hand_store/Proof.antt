@@ -6,27 +6,6 @@ use borrow.Author.Needs.{needs}
 use Rattle.asking.proofs.hand_store.Statement.{statement}
 use Rattle.asking.proofs.hand_store.Tie as tie
 
-width-code-requires : tie.Need-width-code-requires
-width-code-requires c κs = search needs
-
-factor-code-requires : tie.Need-factor-code-requires
-factor-code-requires c κs = search needs
-
-add-memory-word : tie.Need-add-memory-word
-add-memory-word c = search needs
-
-memory-word-requires : tie.Need-memory-word-requires
-memory-word-requires c κs = search needs
-
-wide-bytes-requires : tie.Need-wide-bytes-requires
-wide-bytes-requires c κs = search needs
-
-small-times-requires : tie.Need-small-times-requires
-small-times-requires c κs = search needs
-
-start-of-requires : tie.Need-start-of-requires
-start-of-requires c κs = search needs
-
 returns : tie.Need-returns
 returns c =
     let t = c .before .before in
@@ -42,11 +21,11 @@ pub hand-store-spec : {M : Type 1} → statement M
 hand-store-spec =
     tie.close
     (tie.spec
-    width-code-requires
-    factor-code-requires
-    add-memory-word
-    memory-word-requires
-    wide-bytes-requires
-    small-times-requires
-    start-of-requires
+    (λ c _. search needs)
+    (λ c _. search needs)
+    (λ c. search needs)
+    (λ c _. search needs)
+    (λ c _. search needs)
+    (λ c _. search needs)
+    (λ c _. search needs)
     returns)

@@ -5,14 +5,8 @@ use borrow.Author.Needs.{needs}
 use Rattle.asking.proofs.hand_type.Statement.{statement}
 use Rattle.asking.proofs.hand_type.Tie as tie
 
-type-of-requires : tie.Need-type-of-requires
-type-of-requires c κs = search needs
-
-hand-setting-requires : tie.Need-hand-setting-requires
-hand-setting-requires c κs = search needs
-
 returns : tie.Need-returns
 returns c = c .hand-setting .ensures ∙ ap (λ (t : ℕ). plain (settingWord 0 t)) (c .before .type-of .ensures .0)
 
 pub hand-type-spec : {M : Type 1} → statement M
-hand-type-spec = tie.close (tie.spec type-of-requires hand-setting-requires returns)
+hand-type-spec = tie.close (tie.spec (λ c _. search needs) (λ c _. search needs) returns)

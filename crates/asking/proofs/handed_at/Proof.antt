@@ -13,15 +13,6 @@ use borrow.Author.Needs.{needs}
 use Rattle.asking.proofs.handed_at.Statement.{statement}
 use Rattle.asking.proofs.handed_at.Tie as tie
 
-enum-told : tie.Need-enum-told
-enum-told c = search needs
-
-hand-type-requires : tie.Need-hand-type-requires
-hand-type-requires c κs = search needs
-
-enum-known-place : tie.Need-enum-known-place
-enum-known-place c = search needs
-
 sub-hand-setting : tie.Need-sub-hand-setting
 sub-hand-setting c =
     let p = c .before .before in
@@ -41,9 +32,6 @@ hand-setting-requires c κs =
     let h = subst (λ (q : Place). inMatrices (R .plan) q ≡ true) (g .1) (run-placed R (s .pre)) in
     let z = run-sizes R (run-numbered R (s .pre)) in
     (omega arith, omega (arith, z .0))
-
-enum-known-place-2 : tie.Need-enum-known-place-2
-enum-known-place-2 c = search needs
 
 sub-hand-setting-2 : tie.Need-sub-hand-setting-2
 sub-hand-setting-2 c =
@@ -65,15 +53,6 @@ hand-setting-requires-2 c κs =
     let z = run-sizes R (run-numbered R (s .pre)) in
     (omega arith, omega (arith, z .2))
 
-enum-told-2 : tie.Need-enum-told-2
-enum-told-2 c = search needs
-
-hand-clear-requires : tie.Need-hand-clear-requires
-hand-clear-requires c κs = search needs
-
-enum-known-place-3 : tie.Need-enum-known-place-3
-enum-known-place-3 c = search needs
-
 sub-hand-setting-3 : tie.Need-sub-hand-setting-3
 sub-hand-setting-3 c =
     let p = c .before .before in
@@ -94,9 +73,6 @@ hand-setting-requires-3 c κs =
     let z = run-sizes R (run-numbered R (s .pre)) in
     (omega arith, omega (arith, z .1))
 
-enum-known-place-4 : tie.Need-enum-known-place-4
-enum-known-place-4 c = search needs
-
 hand-load-a-requires : tie.Need-hand-load-a-requires
 hand-load-a-requires c κs =
     let p = c .before in
@@ -107,9 +83,6 @@ hand-load-a-requires c κs =
     let z = run-sizes R (run-numbered R (s .pre)) in
     let b = at-multiply (R .plan) (g .0 .0) (g .0 .1 .0) (g .0 .1 .1 .0) h in
     (run-planned R (run-numbered R (s .pre)), (omega (arith, b .0, z .0), omega (arith, b .1 .1, z .1)))
-
-enum-known-place-5 : tie.Need-enum-known-place-5
-enum-known-place-5 c = search needs
 
 hand-load-b-requires : tie.Need-hand-load-b-requires
 hand-load-b-requires c κs =
@@ -122,15 +95,6 @@ hand-load-b-requires c κs =
     let b = at-multiply (R .plan) (g .0 .0) (g .0 .1 .0) (g .0 .1 .1 .0) h in
     (run-planned R (run-numbered R (s .pre)), (omega (arith, b .1 .1, z .1), omega (arith, b .1 .0, z .2)))
 
-enum-told-3 : tie.Need-enum-told-3
-enum-told-3 c = search needs
-
-hand-multiply-requires : tie.Need-hand-multiply-requires
-hand-multiply-requires c κs = search needs
-
-enum-known-place-6 : tie.Need-enum-known-place-6
-enum-known-place-6 c = search needs
-
 hand-store-requires : tie.Need-hand-store-requires
 hand-store-requires c κs =
     let p = c .before in
@@ -141,12 +105,6 @@ hand-store-requires c κs =
     let z = run-sizes R (run-numbered R (s .pre)) in
     let b = at-store (R .plan) (g .0 .0) (g .0 .1 .0) h in
     (run-planned R (run-numbered R (s .pre)), (omega (arith, b .0, z .0), omega (arith, b .1, z .2)))
-
-enum-told-4 : tie.Need-enum-told-4
-enum-told-4 c = search needs
-
-plain-step-requires : tie.Need-plain-step-requires
-plain-step-requires c κs = search needs
 
 returns : tie.Need-returns
 returns c =
@@ -212,29 +170,29 @@ pub handed-at-spec : {M : Type 1} → statement M
 handed-at-spec =
     tie.close
     (tie.spec
-    enum-told
-    hand-type-requires
-    enum-known-place
+    (λ c. search needs)
+    (λ c _. search needs)
+    (λ c. search needs)
     sub-hand-setting
     hand-setting-requires
-    enum-known-place-2
+    (λ c. search needs)
     sub-hand-setting-2
     hand-setting-requires-2
-    enum-told-2
-    hand-clear-requires
-    enum-known-place-3
+    (λ c. search needs)
+    (λ c _. search needs)
+    (λ c. search needs)
     sub-hand-setting-3
     hand-setting-requires-3
-    enum-known-place-4
+    (λ c. search needs)
     hand-load-a-requires
-    enum-known-place-5
+    (λ c. search needs)
     hand-load-b-requires
-    enum-told-3
-    hand-multiply-requires
-    enum-known-place-6
+    (λ c. search needs)
+    (λ c _. search needs)
+    (λ c. search needs)
     hand-store-requires
-    enum-told-4
-    plain-step-requires
+    (λ c. search needs)
+    (λ c _. search needs)
     returns
     returns-2
     returns-3

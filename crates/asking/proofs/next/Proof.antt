@@ -13,22 +13,10 @@ use Rattle.asking.proofs.next.Tie as tie
 ok-1 : (c : tie.Else1) → soundRun chosen (c .before .before .args .run) ≡ true
 ok-1 c = sym (c .before .is-sound-run .ensures) ∙ not-false (c .before .is-sound-run .result) (c .if1 .left)
 
-is-sound-run-requires : tie.Need-is-sound-run-requires
-is-sound-run-requires c κs = search needs
-
-refused-requires : tie.Need-refused-requires
-refused-requires c κs = search needs
-
 returns : tie.Need-returns
 returns c =
     let t = c .before .before in
     c .refused .ensures ∙ ask-unsound (t .before .args .run) (sym (t .is-sound-run .ensures) ∙ not-true (t .is-sound-run .result) (c .before .if1 .taken))
-
-is-end-requires : tie.Need-is-end-requires
-is-end-requires c κs = search needs
-
-refused-requires-2 : tie.Need-refused-requires-2
-refused-requires-2 c κs = search needs
 
 returns-2 : tie.Need-returns-2
 returns-2 c =
@@ -55,11 +43,11 @@ pub next-spec : {M : Type 1} → statement M
 next-spec =
     tie.close
     (tie.spec
-    is-sound-run-requires
-    refused-requires
+    (λ c _. search needs)
+    (λ c _. search needs)
     returns
-    is-end-requires
-    refused-requires-2
+    (λ c _. search needs)
+    (λ c _. search needs)
     returns-2
     handed-at-requires
     moved-run-requires

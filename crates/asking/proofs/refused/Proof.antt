@@ -6,11 +6,8 @@ use borrow.Author.Needs.{needs}
 use Rattle.asking.proofs.refused.Statement.{statement}
 use Rattle.asking.proofs.refused.Tie as tie
 
-plain-step-requires : tie.Need-plain-step-requires
-plain-step-requires c κs = search needs
-
 returns : tie.Need-returns
 returns c = ap (λ (h : Handed). giving BadArguments h (c .before .args .run)) (c .plain-step .ensures)
 
 pub refused-spec : {M : Type 1} → statement M
-refused-spec = tie.close (tie.spec plain-step-requires returns)
+refused-spec = tie.close (tie.spec (λ c _. search needs) returns)

@@ -17,9 +17,6 @@ use Rattle.asking.proofs.steps.Tie as tie
 ok-1 : (c : tie.Else1) → soundRun chosen (c .before .before .args .run) ≡ true
 ok-1 c = sym (c .before .is-sound-run .ensures) ∙ not-false (c .before .is-sound-run .result) (c .if1 .left)
 
-is-sound-run-requires : tie.Need-is-sound-run-requires
-is-sound-run-requires c κs = search needs
-
 returns : tie.Need-returns
 returns c = no-steps (c .before .before .args .run) (sym (c .before .is-sound-run .ensures) ∙ not-true (c .before .is-sound-run .result) (c .if1 .taken))
 
@@ -90,7 +87,7 @@ pub steps-spec : {M : Type 1} → statement M
 steps-spec =
     tie.close
     (tie.spec
-    is-sound-run-requires
+    (λ c _. search needs)
     returns
     most-rows-requires
     blocks-requires

@@ -4,12 +4,6 @@ use Rattle.run_places.proofs.CountLaws.{few-inner, few-outer}
 use Rattle.asking.proofs.steps_by.Statement.{statement}
 use Rattle.asking.proofs.steps_by.Tie as tie
 
-mul-result : tie.Need-mul-result
-mul-result c = search needs
-
-add-result : tie.Need-add-result
-add-result c = search needs
-
 mul-result-2 : tie.Need-mul-result-2
 mul-result-2 c = let a = c .args in omega (arith, few-inner (a .rows) (a .columns) (a .terms) (c .pre .0) (c .pre .1 .0) (c .pre .1 .1))
 
@@ -22,8 +16,5 @@ mul-result-3 c = let a = c .args in omega (arith, few-outer (a .rows) (a .column
 add-result-3 : tie.Need-add-result-3
 add-result-3 c = let a = c .args in omega (arith, few-outer (a .rows) (a .columns) (a .terms) (c .pre .0) (c .pre .1 .0) (c .pre .1 .1))
 
-returns : tie.Need-returns
-returns c = search needs
-
 pub steps-by-spec : {M : Type 1} → statement M
-steps-by-spec = tie.close (tie.spec mul-result add-result mul-result-2 add-result-2 mul-result-3 add-result-3 returns)
+steps-by-spec = tie.close (tie.spec (λ c. search needs) (λ c. search needs) mul-result-2 add-result-2 mul-result-3 add-result-3 (λ c. search needs))

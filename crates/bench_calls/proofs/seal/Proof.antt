@@ -3,25 +3,10 @@ use Rattle.bench_calls.proofs.BenchLaws.{seal-short, seal-shown}
 use Rattle.bench_calls.proofs.seal.Statement.{statement}
 use Rattle.bench_calls.proofs.seal.Tie as tie
 
-packed-requires : tie.Need-packed-requires
-packed-requires c κs = search needs
-
 returns : tie.Need-returns
 returns c =
     let a = c .before .before .before .before .before .args in
     seal-short (a .start) (a .length) (a .machine .now) (a .registers .now) (a .marks .now) (c .packed .result) (c .before .if1 .taken) (c .packed .ensures)
-
-machine-of-requires : tie.Need-machine-of-requires
-machine-of-requires c κs = search needs
-
-seal-requires : tie.Need-seal-requires
-seal-requires c κs = search needs
-
-packed-requires-2 : tie.Need-packed-requires-2
-packed-requires-2 c κs = search needs
-
-same-length : tie.Need-same-length
-same-length c = search needs
 
 returns-2 : tie.Need-returns-2
 returns-2 c =
@@ -36,10 +21,10 @@ pub seal-spec : {M : Type 1} → statement M
 seal-spec =
     tie.close
     (tie.spec
-    packed-requires
+    (λ c _. search needs)
     returns
-    machine-of-requires
-    seal-requires
-    packed-requires-2
-    same-length
+    (λ c _. search needs)
+    (λ c _. search needs)
+    (λ c _. search needs)
+    (λ c. search needs)
     returns-2)

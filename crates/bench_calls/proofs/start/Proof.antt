@@ -8,26 +8,11 @@ use Rattle.bench_calls.proofs.BenchLaws.{start-short, start-shown, star
 use Rattle.bench_calls.proofs.start.Statement.{statement}
 use Rattle.bench_calls.proofs.start.Tie as tie
 
-packed-requires : tie.Need-packed-requires
-packed-requires c κs = search needs
-
 returns : tie.Need-returns
 returns c =
     let a = c .before .before .before .before .before .before .args in
     start-short (a .rlen) (a .mlen) (a .elen) (a .rule) (a .seals .now) (a .machine .now) (a .registers .now) (a .marks .now) (c .packed .result)
     (c .before .if1 .taken) (c .packed .ensures)
-
-start-requires : tie.Need-start-requires
-start-requires c κs = search needs
-
-is-done-requires : tie.Need-is-done-requires
-is-done-requires c κs = search needs
-
-packed-requires-2 : tie.Need-packed-requires-2
-packed-requires-2 c κs = search needs
-
-same-length : tie.Need-same-length
-same-length c = search needs
 
 returns-2 : tie.Need-returns-2
 returns-2 c =
@@ -39,9 +24,6 @@ returns-2 c =
     (s .before .before .if1 .left) (s .start .ensures)
     (sym (d .is-done .ensures) ∙ not-true (d .is-done .result) (c .before .if2 .taken)) refl (c .packed2 .ensures)
 
-put-machine-requires : tie.Need-put-machine-requires
-put-machine-requires c κs = search needs
-
 put-seals-requires : tie.Need-put-seals-requires
 put-seals-requires c κs =
     let p = c .before .before .before in
@@ -51,15 +33,6 @@ put-seals-requires c κs =
     let k = start-numbers (a .rlen) (a .mlen) (a .elen) (a .rule) (a .seals .now) (a .machine .now) (a .registers .now) (a .marks .now) (s .start .result) (s .start .last .1 .1 .1 .1 .1 .1 .0)
     (s .start .ensures) (sym (d .is-done .ensures) ∙ not-false (d .is-done .result) (p .before .before .before .if2 .left)) in
     (p .put-machine .kept .0 ∙ s .before .before .if1 .left, (k .0, k .1))
-
-packed-requires-3 : tie.Need-packed-requires-3
-packed-requires-3 c κs = search needs
-
-same-length-2 : tie.Need-same-length-2
-same-length-2 c = search needs
-
-same-length-3 : tie.Need-same-length-3
-same-length-3 c = search needs
 
 returns-3 : tie.Need-returns-3
 returns-3 c =
@@ -77,16 +50,16 @@ pub start-spec : {M : Type 1} → statement M
 start-spec =
     tie.close
     (tie.spec
-    packed-requires
+    (λ c _. search needs)
     returns
-    start-requires
-    is-done-requires
-    packed-requires-2
-    same-length
+    (λ c _. search needs)
+    (λ c _. search needs)
+    (λ c _. search needs)
+    (λ c. search needs)
     returns-2
-    put-machine-requires
+    (λ c _. search needs)
     put-seals-requires
-    packed-requires-3
-    same-length-2
-    same-length-3
+    (λ c _. search needs)
+    (λ c. search needs)
+    (λ c. search needs)
     returns-3)

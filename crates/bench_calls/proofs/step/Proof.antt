@@ -3,27 +3,15 @@ use borrow.Author.Needs.{needs}
 use Rattle.bench_calls.proofs.step.Statement.{statement}
 use Rattle.bench_calls.proofs.step.Tie as tie
 
-packed-requires : tie.Need-packed-requires
-packed-requires c κs = search needs
-
 returns : tie.Need-returns
 returns c =
     let a = c .before .before .before .before .before .before .before .before .args in
     step-short (a .word) (a .group) (a .machine .now) (a .registers .now) (a .marks .now) (a .scalars .now) (a .memory .now) (a .vectors .now) (c .packed .result) (c .before .if1 .taken) (c .packed .ensures)
 
-packed-requires-2 : tie.Need-packed-requires-2
-packed-requires-2 c κs = search needs
-
 returns-2 : tie.Need-returns-2
 returns-2 c =
     let a = c .before .before .before .before .before .before .before .before .before .args in
     step-short-scalars (a .word) (a .group) (a .machine .now) (a .registers .now) (a .marks .now) (a .scalars .now) (a .memory .now) (a .vectors .now) (c .packed2 .result) (c .before .before .if1 .left) (c .before .if2 .taken) (c .packed2 .ensures)
-
-machine-of-requires : tie.Need-machine-of-requires
-machine-of-requires c κs = search needs
-
-step-block-requires : tie.Need-step-block-requires
-step-block-requires c κs = search needs
 
 put-state-requires : tie.Need-put-state-requires
 put-state-requires c κs =
@@ -34,27 +22,6 @@ put-state-requires c κs =
       step-keeps (a .word) (a .machine .now) (a .registers .now) (a .marks .now) (a .scalars .now) (a .memory .now) _ (f .machine-of .result) (z .step-block .result)
           (z .step-block .last .1 .1 .0) (z .step-block .last .1 .1 .1 .0) (z .step-block .last .1 .1 .1 .1 .0) (z .step-block .last .1 .1 .1 .1 .1 .0) (z .step-block .last .1 .1 .1 .1 .1 .1 .0) (f .machine-of .ensures) (z .step-block .ensures),
     )
-
-packed-requires-3 : tie.Need-packed-requires-3
-packed-requires-3 c κs = search needs
-
-same-length : tie.Need-same-length
-same-length c = search needs
-
-same-length-2 : tie.Need-same-length-2
-same-length-2 c = search needs
-
-same-length-3 : tie.Need-same-length-3
-same-length-3 c = search needs
-
-same-length-4 : tie.Need-same-length-4
-same-length-4 c = search needs
-
-same-length-5 : tie.Need-same-length-5
-same-length-5 c = search needs
-
-same-length-6 : tie.Need-same-length-6
-same-length-6 c = search needs
 
 returns-3 : tie.Need-returns-3
 returns-3 c =
@@ -71,18 +38,18 @@ pub step-spec : {M : Type 1} → statement M
 step-spec =
     tie.close
     (tie.spec
-    packed-requires
+    (λ c _. search needs)
     returns
-    packed-requires-2
+    (λ c _. search needs)
     returns-2
-    machine-of-requires
-    step-block-requires
+    (λ c _. search needs)
+    (λ c _. search needs)
     put-state-requires
-    packed-requires-3
-    same-length
-    same-length-2
-    same-length-3
-    same-length-4
-    same-length-5
-    same-length-6
+    (λ c _. search needs)
+    (λ c. search needs)
+    (λ c. search needs)
+    (λ c. search needs)
+    (λ c. search needs)
+    (λ c. search needs)
+    (λ c. search needs)
     returns-3)

@@ -6,9 +6,6 @@ use Rattle.binary32.proofs.Laws.{nan-value, no-nan}
 use Rattle.binary32.proofs.value_of.Statement.{statement}
 use Rattle.binary32.proofs.value_of.Tie as tie
 
-is-nan-bits-requires : tie.Need-is-nan-bits-requires
-is-nan-bits-requires c κs = search needs
-
 float-from-bits-result : tie.Need-float-from-bits-result
 float-from-bits-result c = no-nan (nanBits binary32 (c .before .before .args .bits)) (sym (c .before .is-nan-bits .ensures) ∙ c .if1 .left)
 
@@ -21,4 +18,4 @@ unfolding valueOf
 returns-2 c = refl
 
 pub value-of-spec : {M : Type 1} → statement M
-value-of-spec = tie.close (tie.spec is-nan-bits-requires float-from-bits-result returns returns-2)
+value-of-spec = tie.close (tie.spec (λ c _. search needs) float-from-bits-result returns returns-2)

@@ -7,20 +7,11 @@ use Rattle.blocks.specs.Blocks.{packed}
 use Rattle.blocks.proofs.packed.Statement.{statement}
 use Rattle.blocks.proofs.packed.Tie as tie
 
-reply-of-requires : tie.Need-reply-of-requires
-reply-of-requires c κs = search needs
-
-mul-result : tie.Need-mul-result
-mul-result c = search needs
-
 add-result : tie.Need-add-result
 add-result c =
     let d = c .before .before in
     let number : d .reply-of .result .number < 2 ^ 16 = rw (d .reply-of .ensures) (number-small (d .before .args .answer)) in
     omega arith
-
-mul-result-2 : tie.Need-mul-result-2
-mul-result-2 c = search needs
 
 add-result-2 : tie.Need-add-result-2
 add-result-2 c =
@@ -33,4 +24,4 @@ returns c = ap packed (c .before .before .before .reply-of .ensures)
 
 pub packed-spec : {M : Type 1} → statement M
 packed-spec =
-    tie.close (tie.spec reply-of-requires mul-result add-result mul-result-2 add-result-2 returns)
+    tie.close (tie.spec (λ c _. search needs) (λ c. search needs) add-result (λ c. search needs) add-result-2 returns)

@@ -18,37 +18,10 @@ use borrow.Author.Needs.{needs}
 use Rattle.carrying.proofs.carry_out.Statement.{statement}
 use Rattle.carrying.proofs.carry_out.Tie as tie
 
-enum-told : tie.Need-enum-told
-enum-told c = search needs
-
-enum-told-2 : tie.Need-enum-told-2
-enum-told-2 c = search needs
-
-size-answer-requires : tie.Need-size-answer-requires
-size-answer-requires c κs = search needs
-
-enum-told-3 : tie.Need-enum-told-3
-enum-told-3 c = search needs
-
-size-answer-requires-2 : tie.Need-size-answer-requires-2
-size-answer-requires-2 c κs = search needs
-
-enum-told-4 : tie.Need-enum-told-4
-enum-told-4 c = search needs
-
 clear-requires : tie.Need-clear-requires
 clear-requires c κs =
     let s = c .before .before .before .before .before .before .before .before .before in
     (s .pre .0, run-planned (s .args .run) (run-numbered (s .args .run) (s .pre .1 .0)))
-
-enum-told-5 : tie.Need-enum-told-5
-enum-told-5 c = search needs
-
-size-answer-requires-3 : tie.Need-size-answer-requires-3
-size-answer-requires-3 c κs = search needs
-
-enum-known-place : tie.Need-enum-known-place
-enum-known-place c = search needs
 
 load-a-requires : tie.Need-load-a-requires
 load-a-requires c κs =
@@ -62,9 +35,6 @@ load-a-requires c κs =
     let b = at-multiply (R .plan) (g .0 .0) (g .0 .1 .0) (g .0 .1 .1 .0) h in
     (s .pre .0, (run-planned R N, (omega (arith, b .0, z .0), omega (arith, b .1 .1, z .1))))
 
-enum-known-place-2 : tie.Need-enum-known-place-2
-enum-known-place-2 c = search needs
-
 load-b-requires : tie.Need-load-b-requires
 load-b-requires c κs =
     let p = c .before .before .before .before in
@@ -77,16 +47,10 @@ load-b-requires c κs =
     let b = at-multiply (R .plan) (g .0 .0) (g .0 .1 .0) (g .0 .1 .1 .0) h in
     (s .pre .0, (run-planned R N, (omega (arith, b .1 .1, z .1), omega (arith, b .1 .0, z .2))))
 
-enum-told-6 : tie.Need-enum-told-6
-enum-told-6 c = search needs
-
 multiply-requires : tie.Need-multiply-requires
 multiply-requires c κs =
     let s = c .before .before .before .before .before .before .before .before .before in
     (s .pre .0, run-planned (s .args .run) (run-numbered (s .args .run) (s .pre .1 .0)))
-
-enum-known-place-3 : tie.Need-enum-known-place-3
-enum-known-place-3 c = search needs
 
 store-requires : tie.Need-store-requires
 store-requires c κs =
@@ -99,9 +63,6 @@ store-requires c κs =
     let z = run-sizes R N in
     let b = at-store (R .plan) (g .0 .0) (g .0 .1 .0) h in
     (s .pre .0, (run-planned R N, ((omega (arith, b .0, z .0), omega (arith, b .1, z .2)), s .pre .1 .1)))
-
-enum-told-7 : tie.Need-enum-told-7
-enum-told-7 c = search needs
 
 returns : tie.Need-returns
 returns c =
@@ -136,12 +97,6 @@ returns-3 c =
     (size-carried (R .plan) (Op.setN a) (s .args .m) (sealsIn (s .args .seals .now)) (s .args .registers .now) (s .args .marks .now) (s .args .memory .now) (s .pre .0) (s .pre .1 .1) DimensionN a (decode-n a (omega (arith, b)))
     ∙ at-place R (benchOf (s .args .m) (sealsIn (s .args .seals .now)) (s .args .registers .now) (s .args .marks .now) (s .args .memory .now)) _ (t .enum-told3 .given .1))
 
-same-length : tie.Need-same-length
-same-length c = search needs
-
-same-length-2 : tie.Need-same-length-2
-same-length-2 c = search needs
-
 returns-4 : tie.Need-returns-4
 returns-4 c =
     let t = c .before .before .before .before .before .before .before in
@@ -160,15 +115,6 @@ returns-5 c =
     (size-carried (R .plan) (Op.setK a) (s .args .m) (sealsIn (s .args .seals .now)) (s .args .registers .now) (s .args .marks .now) (s .args .memory .now) (s .pre .0) (s .pre .1 .1) DimensionK a (decode-k a (omega (arith, b)))
     ∙ at-place R (benchOf (s .args .m) (sealsIn (s .args .seals .now)) (s .args .registers .now) (s .args .marks .now) (s .args .memory .now)) _ (t .enum-told5 .given .1))
 
-same-length-3 : tie.Need-same-length-3
-same-length-3 c = search needs
-
-same-length-4 : tie.Need-same-length-4
-same-length-4 c = search needs
-
-same-length-5 : tie.Need-same-length-5
-same-length-5 c = search needs
-
 returns-6 : tie.Need-returns-6
 returns-6 c =
     let p = c .before .before .before .before .before .before .before .before .before in
@@ -179,15 +125,6 @@ returns-6 c =
     ((c .before .before .before .before .load-a .ensures) (sealsIn (s .args .seals .now)) (s .pre .1 .1)
     ∙ at-place R (benchOf (s .args .m) (sealsIn (s .args .seals .now)) (s .args .registers .now) (s .args .marks .now) (s .args .memory .now)) _ (g .1))
 
-same-length-6 : tie.Need-same-length-6
-same-length-6 c = search needs
-
-same-length-7 : tie.Need-same-length-7
-same-length-7 c = search needs
-
-same-length-8 : tie.Need-same-length-8
-same-length-8 c = search needs
-
 returns-7 : tie.Need-returns-7
 returns-7 c =
     let p = c .before .before .before .before .before .before .before .before .before in
@@ -196,26 +133,11 @@ returns-7 c =
     ((c .before .before .before .before .load-b .ensures) (sealsIn (s .args .seals .now)) (s .pre .1 .1)
     ∙ at-place (s .args .run) (benchOf (s .args .m) (sealsIn (s .args .seals .now)) (s .args .registers .now) (s .args .marks .now) (s .args .memory .now)) _ (p .place2 .given .1))
 
-same-length-9 : tie.Need-same-length-9
-same-length-9 c = search needs
-
-same-length-10 : tie.Need-same-length-10
-same-length-10 c = search needs
-
 returns-8 : tie.Need-returns-8
 returns-8 c =
     let t = c .before .before .before .before .before in
     let s = t .before .before .before .before .before .before .before in
     numbers-apart _ _ _ _ _ _ _ _ refl ((c .before .before .multiply .ensures) (sealsIn (s .args .seals .now)) (s .args .memory .now) (s .pre .1 .1) ∙ at-place (s .args .run) (benchOf (s .args .m) (sealsIn (s .args .seals .now)) (s .args .registers .now) (s .args .marks .now) (s .args .memory .now)) _ (t .enum-told6 .given .1))
-
-same-length-11 : tie.Need-same-length-11
-same-length-11 c = search needs
-
-same-length-12 : tie.Need-same-length-12
-same-length-12 c = search needs
-
-same-length-13 : tie.Need-same-length-13
-same-length-13 c = search needs
 
 returns-9 : tie.Need-returns-9
 returns-9 c =
@@ -232,44 +154,44 @@ pub carry-out-spec : {M : Type 1} → statement M
 carry-out-spec =
     tie.close
     (tie.spec
-    enum-told
-    enum-told-2
-    size-answer-requires
-    enum-told-3
-    size-answer-requires-2
-    enum-told-4
+    (λ c. search needs)
+    (λ c. search needs)
+    (λ c _. search needs)
+    (λ c. search needs)
+    (λ c _. search needs)
+    (λ c. search needs)
     clear-requires
-    enum-told-5
-    size-answer-requires-3
-    enum-known-place
+    (λ c. search needs)
+    (λ c _. search needs)
+    (λ c. search needs)
     load-a-requires
-    enum-known-place-2
+    (λ c. search needs)
     load-b-requires
-    enum-told-6
+    (λ c. search needs)
     multiply-requires
-    enum-known-place-3
+    (λ c. search needs)
     store-requires
-    enum-told-7
+    (λ c. search needs)
     returns
     returns-2
     returns-3
-    same-length
-    same-length-2
+    (λ c. search needs)
+    (λ c. search needs)
     returns-4
     returns-5
-    same-length-3
-    same-length-4
-    same-length-5
+    (λ c. search needs)
+    (λ c. search needs)
+    (λ c. search needs)
     returns-6
-    same-length-6
-    same-length-7
-    same-length-8
+    (λ c. search needs)
+    (λ c. search needs)
+    (λ c. search needs)
     returns-7
-    same-length-9
-    same-length-10
+    (λ c. search needs)
+    (λ c. search needs)
     returns-8
-    same-length-11
-    same-length-12
-    same-length-13
+    (λ c. search needs)
+    (λ c. search needs)
+    (λ c. search needs)
     returns-9
     returns-10)

@@ -5,18 +5,6 @@ use borrow.Author.Needs.{needs}
 use Rattle.carrying.proofs.clear.Statement.{statement}
 use Rattle.carrying.proofs.clear.Tie as tie
 
-plan-factor-requires : tie.Need-plan-factor-requires
-plan-factor-requires c κs = search needs
-
-scale-requires : tie.Need-scale-requires
-scale-requires c κs = search needs
-
-same-length : tie.Need-same-length
-same-length c = search needs
-
-same-length-2 : tie.Need-same-length-2
-same-length-2 c = search needs
-
 returns : tie.Need-returns
 returns c =
     let l = c .before .before .before .before in
@@ -29,4 +17,4 @@ returns c =
 
 pub clear-spec : {M : Type 1} → statement M
 clear-spec =
-    tie.close (tie.spec plan-factor-requires scale-requires same-length same-length-2 returns)
+    tie.close (tie.spec (λ c _. search needs) (λ c _. search needs) (λ c. search needs) (λ c. search needs) returns)

@@ -7,24 +7,6 @@ use borrow.Author.Needs.{needs}
 use Rattle.carrying.proofs.load.Statement.{statement}
 use Rattle.carrying.proofs.load.Tie as tie
 
-narrow-bytes-requires : tie.Need-narrow-bytes-requires
-narrow-bytes-requires c κs = search needs
-
-small-times-requires : tie.Need-small-times-requires
-small-times-requires c κs = search needs
-
-start-of-requires : tie.Need-start-of-requires
-start-of-requires c κs = search needs
-
-load-requires : tie.Need-load-requires
-load-requires c κs = search needs
-
-same-length : tie.Need-same-length
-same-length c = search needs
-
-same-length-2 : tie.Need-same-length-2
-same-length-2 c = search needs
-
 returns : tie.Need-returns
 returns c =
     let l = c .before .before .before .before in
@@ -42,10 +24,10 @@ pub load-spec : {M : Type 1} → statement M
 load-spec =
     tie.close
     (tie.spec
-    narrow-bytes-requires
-    small-times-requires
-    start-of-requires
-    load-requires
-    same-length
-    same-length-2
+    (λ c _. search needs)
+    (λ c _. search needs)
+    (λ c _. search needs)
+    (λ c _. search needs)
+    (λ c. search needs)
+    (λ c. search needs)
     returns)

@@ -12,15 +12,6 @@ use borrow.Author.Needs.{needs}
 use Rattle.carrying.proofs.load_a.Statement.{statement}
 use Rattle.carrying.proofs.load_a.Tie as tie
 
-form-of-requires : tie.Need-form-of-requires
-form-of-requires c κs = search needs
-
-a-row-requires : tie.Need-a-row-requires
-a-row-requires c κs = search needs
-
-a-column-requires : tie.Need-a-column-requires
-a-column-requires c κs = search needs
-
 load-requires : tie.Need-load-requires
 load-requires c κs =
     let k = c .before .before .before in
@@ -28,12 +19,6 @@ load-requires c κs =
     let s = r .before .before .before .before .before in
     let b = most-in (formOf (s .args .plan)) (s .args .row) (s .args .term) 1024 (s .pre .1 .1 .0) (s .pre .1 .1 .1) in
     (s .pre .0, (s .pre .1 .0, ((subst (λ (x : ℕ). x ≤ 1024) (sym (r .a-row .ensures)) (b .0), subst (λ (x : ℕ). x ≤ 1024) (sym (k .a-column .ensures)) (b .1)), omega arith)))
-
-same-length : tie.Need-same-length
-same-length c = search needs
-
-same-length-2 : tie.Need-same-length-2
-same-length-2 c = search needs
 
 returns : tie.Need-returns
 returns c =
@@ -50,4 +35,4 @@ returns c =
     λ seals fit. a-carried P (s .pre .1 .0) (a .m) seals (a .registers .now) (a .marks .now) (a .memory .now) (s .pre .0) fit (l .load .result) (a .row) (a .term) _ _ (loads-for o (l .load .ensures))
 
 pub load-a-spec : {M : Type 1} → statement M
-load-a-spec = tie.close (tie.spec form-of-requires a-row-requires a-column-requires load-requires same-length same-length-2 returns)
+load-a-spec = tie.close (tie.spec (λ c _. search needs) (λ c _. search needs) (λ c _. search needs) load-requires (λ c. search needs) (λ c. search needs) returns)

@@ -25,20 +25,8 @@ use Rattle.carrying.proofs.machine_after.Tie as tie
 abbrev numbers : Carried → Machine
 numbers k = k .bench .machine
 
-enum-told : tie.Need-enum-told
-enum-told c = search needs
-
-type-of-requires : tie.Need-type-of-requires
-type-of-requires c κs = search needs
-
 kept-type-requires : tie.Need-kept-type-requires
 kept-type-requires c κs = let s = c .before .before .before .before in ready-elen (s .args .m) (numbers-ready (s .args .m) (s .pre .0))
-
-with-type-requires : tie.Need-with-type-requires
-with-type-requires c κs = search needs
-
-enum-known-place : tie.Need-enum-known-place
-enum-known-place c = search needs
 
 sub-sized : tie.Need-sub-sized
 sub-sized c =
@@ -52,9 +40,6 @@ sub-sized c =
 sized-requires : tie.Need-sized-requires
 sized-requires c κs = let s = c .before .before .before .before .before in numbers-ready (s .args .m) (s .pre .0)
 
-enum-known-place-2 : tie.Need-enum-known-place-2
-enum-known-place-2 c = search needs
-
 sub-sized-2 : tie.Need-sub-sized-2
 sub-sized-2 c =
     let p = c .before .before in
@@ -67,12 +52,6 @@ sub-sized-2 c =
 sized-requires-2 : tie.Need-sized-requires-2
 sized-requires-2 c κs = let s = c .before .before .before .before .before in numbers-ready (s .args .m) (s .pre .0)
 
-enum-told-2 : tie.Need-enum-told-2
-enum-told-2 c = search needs
-
-enum-known-place-3 : tie.Need-enum-known-place-3
-enum-known-place-3 c = search needs
-
 sub-sized-3 : tie.Need-sub-sized-3
 sub-sized-3 c =
     let p = c .before .before in
@@ -84,21 +63,6 @@ sub-sized-3 c =
 
 sized-requires-3 : tie.Need-sized-requires-3
 sized-requires-3 c κs = let s = c .before .before .before .before .before in numbers-ready (s .args .m) (s .pre .0)
-
-enum-told-3 : tie.Need-enum-told-3
-enum-told-3 c = search needs
-
-enum-told-4 : tie.Need-enum-told-4
-enum-told-4 c = search needs
-
-enum-told-5 : tie.Need-enum-told-5
-enum-told-5 c = search needs
-
-enum-told-6 : tie.Need-enum-told-6
-enum-told-6 c = search needs
-
-enum-told-7 : tie.Need-enum-told-7
-enum-told-7 c = search needs
 
 returns : tie.Need-returns
 returns c =
@@ -194,25 +158,25 @@ pub machine-after-spec : {M : Type 1} → statement M
 machine-after-spec =
     tie.close
     (tie.spec
-    enum-told
-    type-of-requires
+    (λ c. search needs)
+    (λ c _. search needs)
     kept-type-requires
-    with-type-requires
-    enum-known-place
+    (λ c _. search needs)
+    (λ c. search needs)
     sub-sized
     sized-requires
-    enum-known-place-2
+    (λ c. search needs)
     sub-sized-2
     sized-requires-2
-    enum-told-2
-    enum-known-place-3
+    (λ c. search needs)
+    (λ c. search needs)
     sub-sized-3
     sized-requires-3
-    enum-told-3
-    enum-told-4
-    enum-told-5
-    enum-told-6
-    enum-told-7
+    (λ c. search needs)
+    (λ c. search needs)
+    (λ c. search needs)
+    (λ c. search needs)
+    (λ c. search needs)
     returns
     returns-2
     returns-3

@@ -32,9 +32,6 @@ multiply-floats-requires c κs =
       omega arith,
     )
 
-same-length : tie.Need-same-length
-same-length c = search needs
-
 returns : tie.Need-returns
 returns c =
     let t = c .before .before in
@@ -43,9 +40,6 @@ returns c =
     let a = s .args in
     let F = formats mostElen (a .plan .sew) (a .plan .factor) refl (plan-format (a .plan) (s .pre .0)) .1 in
     multiply-left (a .plan) (s .pre .0) (a .m) (a .registers .now) (F .factor) (F .is) floats (are-floats i) _ (t .multiply-floats .ensures)
-
-plan-factor-requires : tie.Need-plan-factor-requires
-plan-factor-requires c κs = search needs
 
 multiply-tiles-requires : tie.Need-multiply-tiles-requires
 multiply-tiles-requires c κs =
@@ -61,9 +55,6 @@ multiply-tiles-requires c κs =
       omega arith,
     )
 
-same-length-2 : tie.Need-same-length-2
-same-length-2 c = search needs
-
 returns-2 : tie.Need-returns-2
 returns-2 c =
     let t = c .before .before in
@@ -77,9 +68,9 @@ multiply-written-spec =
     tie.close
     (tie.spec
     multiply-floats-requires
-    same-length
+    (λ c. search needs)
     returns
-    plan-factor-requires
+    (λ c _. search needs)
     multiply-tiles-requires
-    same-length-2
+    (λ c. search needs)
     returns-2)

@@ -3,14 +3,8 @@ use borrow.Author.Needs.{needs}
 use Rattle.carrying.proofs.plan_factor.Statement.{statement}
 use Rattle.carrying.proofs.plan_factor.Tie as tie
 
-returns : tie.Need-returns
-returns c = search needs
-
-returns-2 : tie.Need-returns-2
-returns-2 c = search needs
-
 returns-3 : tie.Need-returns-3
 returns-3 c = let s = c .before .before .before .before in factor-one (s .args .plan) (s .pre) (c .before .before .if1 .left) (c .if2 .left)
 
 pub plan-factor-spec : {M : Type 1} → statement M
-plan-factor-spec = tie.close (tie.spec returns returns-2 returns-3)
+plan-factor-spec = tie.close (tie.spec (λ c. search needs) (λ c. search needs) returns-3)

@@ -7,9 +7,6 @@ use borrow.Author.Needs.{needs}
 use Rattle.carrying.proofs.size_answer.Statement.{statement}
 use Rattle.carrying.proofs.size_answer.Tie as tie
 
-is-mill-requires : tie.Need-is-mill-requires
-is-mill-requires c κs = search needs
-
 returns : tie.Need-returns
 returns c = ap (λ (t : Bool). verdict ((not t otherwise IllegalType) ∷ [])) (sym (c .if1 .taken) ∙ c .before .is-mill .ensures)
 
@@ -17,4 +14,4 @@ returns-2 : tie.Need-returns-2
 returns-2 c = ap (λ (t : Bool). verdict ((not t otherwise IllegalType) ∷ [])) (sym (c .if1 .left) ∙ c .before .is-mill .ensures)
 
 pub size-answer-spec : {M : Type 1} → statement M
-size-answer-spec = tie.close (tie.spec is-mill-requires returns returns-2)
+size-answer-spec = tie.close (tie.spec (λ c _. search needs) returns returns-2)

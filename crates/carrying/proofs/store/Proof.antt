@@ -10,21 +10,6 @@ use borrow.Author.Needs.{needs}
 use Rattle.carrying.proofs.store.Statement.{statement}
 use Rattle.carrying.proofs.store.Tie as tie
 
-wide-bytes-requires : tie.Need-wide-bytes-requires
-wide-bytes-requires c κs = search needs
-
-small-times-requires : tie.Need-small-times-requires
-small-times-requires c κs = search needs
-
-start-of-requires : tie.Need-start-of-requires
-start-of-requires c κs = search needs
-
-store-requires : tie.Need-store-requires
-store-requires c κs = search needs
-
-same-length : tie.Need-same-length
-same-length c = search needs
-
 returns : tie.Need-returns
 returns c =
     let l = c .before .before in
@@ -43,9 +28,9 @@ pub store-spec : {M : Type 1} → statement M
 store-spec =
     tie.close
     (tie.spec
-    wide-bytes-requires
-    small-times-requires
-    start-of-requires
-    store-requires
-    same-length
+    (λ c _. search needs)
+    (λ c _. search needs)
+    (λ c _. search needs)
+    (λ c _. search needs)
+    (λ c. search needs)
     returns)

@@ -19,26 +19,17 @@ div-size c = let b = small c in omega arith
 mul-size : tie.Need-mul-size
 mul-size c = let b = small c in omega arith
 
-enum-told : tie.Need-enum-told
-enum-told c = search needs
-
 mul-t12 : tie.Need-mul-t12
 mul-t12 c =
     let b = small (c .before .before) in
     let s = c .before .before .before .before in
     record { fits = in-file (s .args .matrix) (s .args .r) (s .args .m .mlen / s .args .m .rlen * (s .args .m .rlen / 8)) (s .pre .1) (b .2) .0 }
 
-enum-told-2 : tie.Need-enum-told-2
-enum-told-2 c = search needs
-
 mul-t13 : tie.Need-mul-t13
 mul-t13 c =
     let b = small (c .before .before) in
     let s = c .before .before .before .before in
     record { fits = in-file (s .args .matrix) (s .args .r) (s .args .m .mlen / s .args .m .rlen * (s .args .m .rlen / 8)) (s .pre .1) (b .2) .0 }
-
-enum-told-3 : tie.Need-enum-told-3
-enum-told-3 c = search needs
 
 mul-t14 : tie.Need-mul-t14
 mul-t14 c =
@@ -71,4 +62,4 @@ returns-3 : tie.Need-returns-3
 returns-3 c = let a = c .before .before .before .before .args in ap (λ (k : Matrix). placedAs (a .m) k (a .r)) (sym (c .enum-told3 .given .1))
 
 pub tile-of-spec : {M : Type 1} → statement M
-tile-of-spec = tie.close (tie.spec div-size mul-size enum-told mul-t12 enum-told-2 mul-t13 enum-told-3 mul-t14 add-t15 mul-t16 mul-t17 returns returns-2 returns-3)
+tile-of-spec = tie.close (tie.spec div-size mul-size (λ c. search needs) mul-t12 (λ c. search needs) mul-t13 (λ c. search needs) mul-t14 add-t15 mul-t16 mul-t17 returns returns-2 returns-3)

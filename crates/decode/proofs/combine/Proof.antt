@@ -9,12 +9,6 @@ use borrow.Author.Needs.{needs}
 use Rattle.decode.proofs.combine.Statement.{statement}
 use Rattle.decode.proofs.combine.Tie as tie
 
-low-field-requires : tie.Need-low-field-requires
-low-field-requires c κs = search needs
-
-middle-field-requires : tie.Need-middle-field-requires
-middle-field-requires c κs = search needs
-
 returns : tie.Need-returns
 returns c =
     let h = c .before in
@@ -35,4 +29,4 @@ returns-3 c =
     ∙ ranged-in (Combine (a .sum) (a .factor) (field7 (a .word)) (field15 (a .word))) (rw (lt-ltb (field7 (a .word)) 2 (omega (arith, h .before .low-field .ensures)), lt-ltb (field15 (a .word)) 2 (omega (arith, h .middle-field .ensures))))
 
 pub combine-spec : {M : Type 1} → statement M
-combine-spec = tie.close (tie.spec low-field-requires middle-field-requires returns returns-2 returns-3)
+combine-spec = tie.close (tie.spec (λ c _. search needs) (λ c _. search needs) returns returns-2 returns-3)

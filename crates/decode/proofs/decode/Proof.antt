@@ -25,12 +25,6 @@ reads word number right o n r =
 returns : tie.Need-returns
 returns c = wrong-opcode (c .before .args .word) (λ e. c .if1 .taken (omega (arith, e)))
 
-number-of-requires : tie.Need-number-of-requires
-number-of-requires c κs = search needs
-
-rest-right-requires : tie.Need-rest-right-requires
-rest-right-requires c κs = search needs
-
 returns-2 : tie.Need-returns-2
 returns-2 c =
     let s = c .before .before .before in
@@ -39,9 +33,6 @@ returns-2 c =
     let n = c .before .before .number-of in
     sym (ap (λ (t : Bool). cond t (ranged (meant (n .result) w listing)) (Illegal Unlisted)) (not-true (r .result) (c .if2 .taken)))
     ∙ reads w (n .result) (r .result) (s .if1 .left) (n .ensures) (r .ensures)
-
-meant-requires : tie.Need-meant-requires
-meant-requires c κs = search needs
 
 returns-3 : tie.Need-returns-3
 returns-3 c =
@@ -55,4 +46,4 @@ returns-3 c =
     ∙ reads w (n .result) (r .result) (s .if1 .left) (n .ensures) (r .ensures)
 
 pub decode-spec : {M : Type 1} → statement M
-decode-spec = tie.close (tie.spec returns number-of-requires rest-right-requires returns-2 meant-requires returns-3)
+decode-spec = tie.close (tie.spec returns (λ c _. search needs) (λ c _. search needs) returns-2 (λ c _. search needs) returns-3)

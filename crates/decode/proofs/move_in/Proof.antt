@@ -9,19 +9,10 @@ use Rattle.decode.proofs.Laws.{ranged-in, ranged-out}
 use Rattle.decode.proofs.move_in.Statement.{statement}
 use Rattle.decode.proofs.move_in.Tie as tie
 
-low-field-requires : tie.Need-low-field-requires
-low-field-requires c κs = search needs
-
 returns : tie.Need-returns
 returns c =
     let a = c .before .before .args in
     ranged-out (MoveIn (a .form) (field7 (a .word)) (field15 (a .word)) (field20 (a .word))) (le-ltb (field7 (a .word)) 2 (omega (arith, c .before .low-field .ensures)))
-
-middle-field-requires : tie.Need-middle-field-requires
-middle-field-requires c κs = search needs
-
-high-field-requires : tie.Need-high-field-requires
-high-field-requires c κs = search needs
 
 returns-2 : tie.Need-returns-2
 returns-2 c =
@@ -32,4 +23,4 @@ returns-2 c =
     ∙ ranged-in (MoveIn (a .form) (field7 (a .word)) (field15 (a .word)) (field20 (a .word))) (lt-ltb (field7 (a .word)) 2 (omega (arith, m .before .low-field .ensures)))
 
 pub move-in-spec : {M : Type 1} → statement M
-move-in-spec = tie.close (tie.spec low-field-requires returns middle-field-requires high-field-requires returns-2)
+move-in-spec = tie.close (tie.spec (λ c _. search needs) returns (λ c _. search needs) (λ c _. search needs) returns-2)

@@ -9,19 +9,10 @@ use Rattle.decode.proofs.Laws.{ranged-in, ranged-out}
 use Rattle.decode.proofs.move_out.Statement.{statement}
 use Rattle.decode.proofs.move_out.Tie as tie
 
-middle-field-requires : tie.Need-middle-field-requires
-middle-field-requires c κs = search needs
-
 returns : tie.Need-returns
 returns c =
     let a = c .before .before .args in
     ranged-out (MoveOut (a .form) (field7 (a .word)) (field15 (a .word)) (field20 (a .word))) (le-ltb (field15 (a .word)) 2 (omega (arith, c .before .middle-field .ensures)))
-
-low-field-requires : tie.Need-low-field-requires
-low-field-requires c κs = search needs
-
-high-field-requires : tie.Need-high-field-requires
-high-field-requires c κs = search needs
 
 returns-2 : tie.Need-returns-2
 returns-2 c =
@@ -32,4 +23,4 @@ returns-2 c =
     ∙ ranged-in (MoveOut (a .form) (field7 (a .word)) (field15 (a .word)) (field20 (a .word))) (lt-ltb (field15 (a .word)) 2 (omega (arith, m .before .middle-field .ensures)))
 
 pub move-out-spec : {M : Type 1} → statement M
-move-out-spec = tie.close (tie.spec middle-field-requires returns low-field-requires high-field-requires returns-2)
+move-out-spec = tie.close (tie.spec (λ c _. search needs) returns (λ c _. search needs) (λ c _. search needs) returns-2)

@@ -9,15 +9,6 @@ use borrow.Author.Needs.{needs}
 use Rattle.decode.proofs.number_of.Statement.{statement}
 use Rattle.decode.proofs.number_of.Tie as tie
 
-cast-middle : tie.Need-cast-middle
-cast-middle c = search needs
-
-cast-form : tie.Need-cast-form
-cast-form c = search needs
-
-entry-requires : tie.Need-entry-requires
-entry-requires c κs = search needs
-
 returns : tie.Need-returns
 returns c =
     let w = c .before .args .word in
@@ -26,4 +17,4 @@ returns c =
     c .entry .ensures ∙ ap₂ (λ (h m : ℕ). getD (getD (getD numbers h []) m []) (bits 14 12 w) 0) high middle
 
 pub number-of-spec : {M : Type 1} → statement M
-number-of-spec = tie.close (tie.spec cast-middle cast-form entry-requires returns)
+number-of-spec = tie.close (tie.spec (λ c. search needs) (λ c. search needs) (λ c _. search needs) returns)

@@ -6,9 +6,6 @@ use borrow.Author.Tests.{lt-ltb, le-ltb}
 use Rattle.decode.proofs.printed.Statement.{statement}
 use Rattle.decode.proofs.printed.Tie as tie
 
-sub-result : tie.Need-sub-result
-sub-result c = omega arith
-
 returns : tie.Need-returns
 returns c = let n = c .before .args .number in sym (ap (λ (t : Bool). cond t (n - 100) n) (lt-ltb 108 n (c .if1 .taken)))
 
@@ -16,4 +13,4 @@ returns-2 : tie.Need-returns-2
 returns-2 c = let n = c .before .args .number in sym (ap (λ (t : Bool). cond t (n - 100) n) (le-ltb 108 n (c .if1 .left)))
 
 pub printed-spec : {M : Type 1} → statement M
-printed-spec = tie.close (tie.spec sub-result returns returns-2)
+printed-spec = tie.close (tie.spec (λ c. omega arith) returns returns-2)

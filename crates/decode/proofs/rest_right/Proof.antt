@@ -8,12 +8,6 @@ use borrow.Author.Needs.{needs}
 use Rattle.decode.proofs.rest_right.Statement.{statement}
 use Rattle.decode.proofs.rest_right.Tie as tie
 
-high-field-requires : tie.Need-high-field-requires
-high-field-requires c κs = search needs
-
-fixes-zero-requires : tie.Need-fixes-zero-requires
-fixes-zero-requires c κs = search needs
-
 returns : tie.Need-returns
 returns c =
     let a = c .before .before .before .args in
@@ -27,4 +21,4 @@ returns-2 c =
     sym (ap (λ (b : Bool). cond b (eqb (field20 (a .word)) 0) true) e)
 
 pub rest-right-spec : {M : Type 1} → statement M
-rest-right-spec = tie.close (tie.spec high-field-requires fixes-zero-requires returns returns-2)
+rest-right-spec = tie.close (tie.spec (λ c _. search needs) (λ c _. search needs) returns returns-2)

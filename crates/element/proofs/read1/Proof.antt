@@ -5,11 +5,8 @@ use borrow.Author.Needs.{needs}
 use Rattle.element.proofs.read1.Statement.{statement}
 use Rattle.element.proofs.read1.Tie as tie
 
-shared-slice-read-result : tie.Need-shared-slice-read-result
-shared-slice-read-result c = search needs
-
 returns : tie.Need-returns
 returns c = (rw add-zero (omega arith), omega (arith, c .shared-slice-known .given (c .before .args .at)))
 
 pub read1-spec : {M : Type 1} → statement M
-read1-spec = tie.close (tie.spec shared-slice-read-result returns)
+read1-spec = tie.close (tie.spec (λ c. search needs) returns)

@@ -10,12 +10,6 @@ use Rattle.element.proofs.Laws.{is2}
 use Rattle.element.proofs.read_signed16.Statement.{statement}
 use Rattle.element.proofs.read_signed16.Tie as tie
 
-read1-requires : tie.Need-read1-requires
-read1-requires c κs = search needs
-
-extend1to2-requires : tie.Need-extend1to2-requires
-extend1to2-requires c κs = search needs
-
 returns : tie.Need-returns
 returns c =
     let a = c .before .before .before .before .args in
@@ -39,4 +33,4 @@ returns-2 c =
 
 pub read-signed16-spec : {M : Type 1} → statement M
 read-signed16-spec =
-    tie.close (tie.spec read1-requires extend1to2-requires returns read2-requires returns-2)
+    tie.close (tie.spec (λ c _. search needs) (λ c _. search needs) returns read2-requires returns-2)

@@ -10,23 +10,11 @@ use Rattle.element.proofs.Laws.{is4}
 use Rattle.element.proofs.read_signed32.Statement.{statement}
 use Rattle.element.proofs.read_signed32.Tie as tie
 
-read1-requires : tie.Need-read1-requires
-read1-requires c κs = search needs
-
-extend1to4-requires : tie.Need-extend1to4-requires
-extend1to4-requires c κs = search needs
-
 returns : tie.Need-returns
 returns c =
     let a = c .before .before .before .before .args in
     c .extend1to4 .ensures ∙ ap (λ (x : ℕ). reduce 4294967296 (signed 256 x)) (c .before .read1 .ensures .0)
     ∙ ap (λ (w : ℕ). reduce 4294967296 (signed (256 ^ w) (getLe (a .s .now) (a .at) w))) (sym (c .before .before .if1 .taken))
-
-read2-requires : tie.Need-read2-requires
-read2-requires c κs = search needs
-
-extend2to4-requires : tie.Need-extend2to4-requires
-extend2to4-requires c κs = search needs
 
 returns-2 : tie.Need-returns-2
 returns-2 c =
@@ -53,11 +41,11 @@ pub read-signed32-spec : {M : Type 1} → statement M
 read-signed32-spec =
     tie.close
     (tie.spec
-    read1-requires
-    extend1to4-requires
+    (λ c _. search needs)
+    (λ c _. search needs)
     returns
-    read2-requires
-    extend2to4-requires
+    (λ c _. search needs)
+    (λ c _. search needs)
     returns-2
     read4-requires
     returns-3)

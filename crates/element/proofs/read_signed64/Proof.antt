@@ -10,35 +10,17 @@ use Rattle.element.proofs.Laws.{is8}
 use Rattle.element.proofs.read_signed64.Statement.{statement}
 use Rattle.element.proofs.read_signed64.Tie as tie
 
-read1-requires : tie.Need-read1-requires
-read1-requires c κs = search needs
-
-extend1to8-requires : tie.Need-extend1to8-requires
-extend1to8-requires c κs = search needs
-
 returns : tie.Need-returns
 returns c =
     let a = c .before .before .before .before .args in
     c .extend1to8 .ensures ∙ ap (λ (x : ℕ). reduce 18446744073709551616 (signed 256 x)) (c .before .read1 .ensures .0)
     ∙ ap (λ (w : ℕ). reduce 18446744073709551616 (signed (256 ^ w) (getLe (a .s .now) (a .at) w))) (sym (c .before .before .if1 .taken))
 
-read2-requires : tie.Need-read2-requires
-read2-requires c κs = search needs
-
-extend2to8-requires : tie.Need-extend2to8-requires
-extend2to8-requires c κs = search needs
-
 returns-2 : tie.Need-returns-2
 returns-2 c =
     let a = c .before .before .before .before .before .args in
     c .extend2to8 .ensures ∙ ap (λ (x : ℕ). reduce 18446744073709551616 (signed 65536 x)) (c .before .read2 .ensures .0)
     ∙ ap (λ (w : ℕ). reduce 18446744073709551616 (signed (256 ^ w) (getLe (a .s .now) (a .at) w))) (sym (c .before .before .if2 .taken))
-
-read4-requires : tie.Need-read4-requires
-read4-requires c κs = search needs
-
-extend4to8-requires : tie.Need-extend4to8-requires
-extend4to8-requires c κs = search needs
 
 returns-3 : tie.Need-returns-3
 returns-3 c =
@@ -64,14 +46,14 @@ pub read-signed64-spec : {M : Type 1} → statement M
 read-signed64-spec =
     tie.close
     (tie.spec
-    read1-requires
-    extend1to8-requires
+    (λ c _. search needs)
+    (λ c _. search needs)
     returns
-    read2-requires
-    extend2to8-requires
+    (λ c _. search needs)
+    (λ c _. search needs)
     returns-2
-    read4-requires
-    extend4to8-requires
+    (λ c _. search needs)
+    (λ c _. search needs)
     returns-3
     read8-requires
     returns-4)

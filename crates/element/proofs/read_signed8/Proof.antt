@@ -8,13 +8,10 @@ use Rattle.width.proofs.ReduceLaws.{reduce-signed}
 use Rattle.element.proofs.read_signed8.Statement.{statement}
 use Rattle.element.proofs.read_signed8.Tie as tie
 
-read1-requires : tie.Need-read1-requires
-read1-requires c κs = search needs
-
 returns : tie.Need-returns
 returns c =
     let r = c .read1 in
     sym (reduce-signed 256 (omega arith) (r .result) (r .ensures .1)) ∙ ap (λ (x : ℕ). reduce 256 (signed 256 x)) (r .ensures .0)
 
 pub read-signed8-spec : {M : Type 1} → statement M
-read-signed8-spec = tie.close (tie.spec read1-requires returns)
+read-signed8-spec = tie.close (tie.spec (λ c _. search needs) returns)

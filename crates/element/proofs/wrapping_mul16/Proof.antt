@@ -9,11 +9,8 @@ use Rattle.element.proofs.wrapping_mul16.Tie as tie
 mul-result : tie.Need-mul-result
 mul-result c = record { fits = mul-below 16 (search needs) (search needs) }
 
-cast-result : tie.Need-cast-result
-cast-result c = search needs
-
 returns : tie.Need-returns
 returns c = wrapping-mul 65536 (omega arith) (c .args .x) (c .args .y) (search needs) (search needs)
 
 pub wrapping-mul16-spec : {M : Type 1} → statement M
-wrapping-mul16-spec = tie.close (tie.spec mul-result cast-result returns)
+wrapping-mul16-spec = tie.close (tie.spec mul-result (λ c. search needs) returns)

@@ -18,17 +18,8 @@ mul-across c = record { fits = mul-below 32 (high (c .args .x) (search needs)) (
 mul-across-2 : tie.Need-mul-across-2
 mul-across-2 c = record { fits = mul-below 32 (omega arith) (high (c .args .y) (search needs)) }
 
-add-across : tie.Need-add-across
-add-across c = search needs
-
 mul-wrapping-add-u64 : tie.Need-mul-wrapping-add-u64
 mul-wrapping-add-u64 c = record { fits = mul-below 32 (omega arith) (omega arith) }
-
-mul-wrapping-add-u64-2 : tie.Need-mul-wrapping-add-u64-2
-mul-wrapping-add-u64-2 c = search needs
-
-wrapping-add-u64-requires : tie.Need-wrapping-add-u64-requires
-wrapping-add-u64-requires c κs = search needs
 
 returns : tie.Need-returns
 returns c =
@@ -41,8 +32,8 @@ wrapping-mul64-spec =
     (tie.spec
     mul-across
     mul-across-2
-    add-across
+    (λ c. search needs)
     mul-wrapping-add-u64
-    mul-wrapping-add-u64-2
-    wrapping-add-u64-requires
+    (λ c. search needs)
+    (λ c _. search needs)
     returns)

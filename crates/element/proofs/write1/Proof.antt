@@ -6,16 +6,10 @@ use Rattle.width.proofs.WordLaws.{put-bytes}
 use Rattle.element.proofs.write1.Statement.{statement}
 use Rattle.element.proofs.write1.Tie as tie
 
-slice-write-s : tie.Need-slice-write-s
-slice-write-s c = search needs
-
-same-length : tie.Need-same-length
-same-length c = search needs
-
 returns : tie.Need-returns
 returns c =
     let small : c .args .v < 256 ^ 1 = search needs in
     put-bytes 0 (c .args .at) (c .args .v) (c .args .v) (c .args .s .now) (omega arith)
 
 pub write1-spec : {M : Type 1} → statement M
-write1-spec = tie.close (tie.spec slice-write-s same-length returns)
+write1-spec = tie.close (tie.spec (λ c. search needs) (λ c. search needs) returns)

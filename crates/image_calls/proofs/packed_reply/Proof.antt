@@ -3,27 +3,6 @@ use Rattle.image_calls.proofs.ImageLaws.{packs-done, packs-arguments, p
 use Rattle.image_calls.proofs.packed_reply.Statement.{statement}
 use Rattle.image_calls.proofs.packed_reply.Tie as tie
 
-enum-told : tie.Need-enum-told
-enum-told c = search needs
-
-mul-result : tie.Need-mul-result
-mul-result c = search needs
-
-enum-told-2 : tie.Need-enum-told-2
-enum-told-2 c = search needs
-
-enum-told-3 : tie.Need-enum-told-3
-enum-told-3 c = search needs
-
-enum-known-answer : tie.Need-enum-known-answer
-enum-known-answer c = search needs
-
-mul-result-2 : tie.Need-mul-result-2
-mul-result-2 c = search needs
-
-add-result : tie.Need-add-result
-add-result c = search needs
-
 returns : tie.Need-returns
 returns c = let a = c .before .before .args in packs-done (a .answer) (a .size) (c .enum-told .given .1)
 
@@ -40,13 +19,13 @@ pub packed-reply-spec : {M : Type 1} → statement M
 packed-reply-spec =
     tie.close
     (tie.spec
-    enum-told
-    mul-result
-    enum-told-2
-    enum-told-3
-    enum-known-answer
-    mul-result-2
-    add-result
+    (λ c. search needs)
+    (λ c. search needs)
+    (λ c. search needs)
+    (λ c. search needs)
+    (λ c. search needs)
+    (λ c. search needs)
+    (λ c. search needs)
     returns
     returns-2
     returns-3

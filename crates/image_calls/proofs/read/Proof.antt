@@ -6,24 +6,6 @@ use Rattle.image_calls.proofs.ImageLaws.{read-shown, read-long}
 use Rattle.image_calls.proofs.read.Statement.{statement}
 use Rattle.image_calls.proofs.read.Tie as tie
 
-read-image-requires : tie.Need-read-image-requires
-read-image-requires c κs = search needs
-
-is-done-requires : tie.Need-is-done-requires
-is-done-requires c κs = search needs
-
-packed-reply-requires : tie.Need-packed-reply-requires
-packed-reply-requires c κs = search needs
-
-same-length : tie.Need-same-length
-same-length c = search needs
-
-same-length-2 : tie.Need-same-length-2
-same-length-2 c = search needs
-
-same-length-3 : tie.Need-same-length-3
-same-length-3 c = search needs
-
 returns : tie.Need-returns
 returns c =
     let d = c .before .before in
@@ -42,18 +24,6 @@ put-machine-requires c κs =
     ∙ read-long (a .image .now) (a .machine .now) (a .registers .now) (a .marks .now) (s .read-image .result) (s .read-image .last .1 .0) (s .read-image .last .1 .1 .0) (s .read-image .last .1 .1 .1 .0)
     (s .read-image .ensures) (sym (d .is-done .ensures) ∙ not-false (d .is-done .result) (c .before .before .if1 .left))
 
-packed-reply-requires-2 : tie.Need-packed-reply-requires-2
-packed-reply-requires-2 c κs = search needs
-
-same-length-4 : tie.Need-same-length-4
-same-length-4 c = search needs
-
-same-length-5 : tie.Need-same-length-5
-same-length-5 c = search needs
-
-same-length-6 : tie.Need-same-length-6
-same-length-6 c = search needs
-
 returns-2 : tie.Need-returns-2
 returns-2 c =
     let p = c .before .before .before in
@@ -68,16 +38,16 @@ pub read-spec : {M : Type 1} → statement M
 read-spec =
     tie.close
     (tie.spec
-    read-image-requires
-    is-done-requires
-    packed-reply-requires
-    same-length
-    same-length-2
-    same-length-3
+    (λ c _. search needs)
+    (λ c _. search needs)
+    (λ c _. search needs)
+    (λ c. search needs)
+    (λ c. search needs)
+    (λ c. search needs)
     returns
     put-machine-requires
-    packed-reply-requires-2
-    same-length-4
-    same-length-5
-    same-length-6
+    (λ c _. search needs)
+    (λ c. search needs)
+    (λ c. search needs)
+    (λ c. search needs)
     returns-2)

@@ -3,22 +3,10 @@ use Rattle.image_calls.proofs.ImageLaws.{size-short, size-shown}
 use Rattle.image_calls.proofs.size.Statement.{statement}
 use Rattle.image_calls.proofs.size.Tie as tie
 
-packed-reply-requires : tie.Need-packed-reply-requires
-packed-reply-requires c κs = search needs
-
 returns : tie.Need-returns
 returns c =
     let a = c .before .before .before .before .before .args in
     size-short (a .machine .now) (a .registers .now) (a .marks .now) (c .packed-reply .result) (c .before .if1 .taken) (c .packed-reply .ensures)
-
-machine-of-requires : tie.Need-machine-of-requires
-machine-of-requires c κs = search needs
-
-image-size-requires : tie.Need-image-size-requires
-image-size-requires c κs = search needs
-
-packed-reply-requires-2 : tie.Need-packed-reply-requires-2
-packed-reply-requires-2 c κs = search needs
 
 returns-2 : tie.Need-returns-2
 returns-2 c =
@@ -31,9 +19,9 @@ pub size-spec : {M : Type 1} → statement M
 size-spec =
     tie.close
     (tie.spec
-    packed-reply-requires
+    (λ c _. search needs)
     returns
-    machine-of-requires
-    image-size-requires
-    packed-reply-requires-2
+    (λ c _. search needs)
+    (λ c _. search needs)
+    (λ c _. search needs)
     returns-2)

@@ -3,25 +3,10 @@ use Rattle.image_calls.proofs.ImageLaws.{write-short, write-shown}
 use Rattle.image_calls.proofs.write.Statement.{statement}
 use Rattle.image_calls.proofs.write.Tie as tie
 
-packed-reply-requires : tie.Need-packed-reply-requires
-packed-reply-requires c κs = search needs
-
 returns : tie.Need-returns
 returns c =
     let a = c .before .before .before .before .before .before .args in
     write-short (a .machine .now) (a .registers .now) (a .marks .now) (a .image .now) (c .packed-reply .result) (c .before .if1 .taken) (c .packed-reply .ensures)
-
-machine-of-requires : tie.Need-machine-of-requires
-machine-of-requires c κs = search needs
-
-write-image-requires : tie.Need-write-image-requires
-write-image-requires c κs = search needs
-
-packed-reply-requires-2 : tie.Need-packed-reply-requires-2
-packed-reply-requires-2 c κs = search needs
-
-same-length : tie.Need-same-length
-same-length c = search needs
 
 returns-2 : tie.Need-returns-2
 returns-2 c =
@@ -35,10 +20,10 @@ pub write-spec : {M : Type 1} → statement M
 write-spec =
     tie.close
     (tie.spec
-    packed-reply-requires
+    (λ c _. search needs)
     returns
-    machine-of-requires
-    write-image-requires
-    packed-reply-requires-2
-    same-length
+    (λ c _. search needs)
+    (λ c _. search needs)
+    (λ c _. search needs)
+    (λ c. search needs)
     returns-2)

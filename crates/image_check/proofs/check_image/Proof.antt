@@ -8,16 +8,10 @@ use borrow.Author.Needs.{needs}
 use Rattle.image_check.proofs.check_image.Statement.{statement}
 use Rattle.image_check.proofs.check_image.Tie as tie
 
-scan-requires : tie.Need-scan-requires
-scan-requires c κs = search needs
-
-verdict-of-requires : tie.Need-verdict-of-requires
-verdict-of-requires c κs = search needs
-
 returns : tie.Need-returns
 returns c =
     let s = c .before .before .before .args .s .now in
     c .verdict-of .ensures ∙ ap (λ (x : Scanned). verdictIn x (length s)) (c .before .scan .ensures) ∙ verdict-is s
 
 pub check-image-spec : {M : Type 1} → statement M
-check-image-spec = tie.close (tie.spec scan-requires verdict-of-requires returns)
+check-image-spec = tie.close (tie.spec (λ c _. search needs) (λ c _. search needs) returns)

@@ -35,18 +35,6 @@ runs-are k = let sc = k .before .before .before .scan in scan-verdict-runs (k .b
 size-is : (k : tie.After-machine-of) → 2 * k .machine-of .result .mlen ≡ 2 * 2 ^ k .before .before .before .before .before .scan .result .fields .mlen
 size-is k = ap (λ (m : Machine). 2 * m .mlen) (k .machine-of .ensures)
 
-scan-requires : tie.Need-scan-requires
-scan-requires c κs = search needs
-
-verdict-of-requires : tie.Need-verdict-of-requires
-verdict-of-requires c κs = search needs
-
-is-done-requires : tie.Need-is-done-requires
-is-done-requires c κs = search needs
-
-refused-requires : tie.Need-refused-requires
-refused-requires c κs = search needs
-
 returns : tie.Need-returns
 returns c =
     let a = c .before .before .before .before .before .before .before .before .args in
@@ -65,9 +53,6 @@ machine-of-requires c κs = let sc = c .before .before .before .before .scan in 
 mul-total : tie.Need-mul-total
 mul-total c = let z = head-sizes _ _ _ _ _ _ (head (c .before .before .before)) in omega (arith, z .0, size-is (c .before))
 
-refused-requires-2 : tie.Need-refused-requires-2
-refused-requires-2 c κs = search needs
-
 returns-2 : tie.Need-returns-2
 returns-2 c =
     let k = c .before .before .before .before .before in
@@ -77,9 +62,6 @@ returns-2 c =
       none-stand (a .image .now) (c .refused2 .ensures),
     )
 
-refused-requires-3 : tie.Need-refused-requires-3
-refused-requires-3 c κs = search needs
-
 returns-3 : tie.Need-returns-3
 returns-3 c =
     let k = c .before .before .before .before .before .before in
@@ -88,9 +70,6 @@ returns-3 c =
           ∙ read-unfit-is _ _ _ _ _ _ (head k) (k .before .before .verdict-of .result) (runs-are k) (done k) (a .registers .now) (a .marks .now) (λ w. c .before .if3 .taken (w .1 ∙ sym (size-is (c .before .before .before .before)))),
       none-stand (a .image .now) (c .refused3 .ensures),
     )
-
-put-marks-requires : tie.Need-put-marks-requires
-put-marks-requires c κs = search needs
 
 fill-runs-requires : tie.Need-fill-runs-requires
 fill-runs-requires c κs =
@@ -115,12 +94,6 @@ fill-runs-requires c κs =
       ),
     )
 
-same-length : tie.Need-same-length
-same-length c = search needs
-
-same-length-2 : tie.Need-same-length-2
-same-length-2 c = search needs
-
 returns-4 : tie.Need-returns-4
 returns-4 c =
     let fr = c .before .before .before .before .fill-runs in
@@ -143,19 +116,19 @@ pub read-runs-spec : {M : Type 1} → statement M
 read-runs-spec =
     tie.close
     (tie.spec
-    scan-requires
-    verdict-of-requires
-    is-done-requires
-    refused-requires
+    (λ c _. search needs)
+    (λ c _. search needs)
+    (λ c _. search needs)
+    (λ c _. search needs)
     returns
     machine-of-requires
     mul-total
-    refused-requires-2
+    (λ c _. search needs)
     returns-2
-    refused-requires-3
+    (λ c _. search needs)
     returns-3
-    put-marks-requires
+    (λ c _. search needs)
     fill-runs-requires
-    same-length
-    same-length-2
+    (λ c. search needs)
+    (λ c. search needs)
     returns-4)

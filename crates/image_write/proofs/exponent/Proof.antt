@@ -16,12 +16,6 @@ abbrev μ-loop : tie.MeasureT-loop
 loop-holds : tie.Need-loop-holds Inv-loop μ-loop
 loop-holds c = (omega arith, c .fits .n .fits, omega arith)
 
-add-e : tie.Need-add-e Inv-loop μ-loop
-add-e c = omega arith
-
-loop-less : tie.Need-loop-less Inv-loop μ-loop
-loop-less c = omega arith
-
 loop-again : tie.Need-loop-again Inv-loop μ-loop
 loop-again c =
     let l = c .before .loop in
@@ -35,4 +29,4 @@ returns c =
     (omega (arith, none-left, l .inv .2), l .inv .0)
 
 pub exponent-spec : {M : Type 1} → statement M
-exponent-spec = tie.close (tie.spec Inv-loop μ-loop loop-holds add-e loop-less loop-again returns)
+exponent-spec = tie.close (tie.spec Inv-loop μ-loop loop-holds (λ c. omega arith) (λ c. omega arith) loop-again returns)

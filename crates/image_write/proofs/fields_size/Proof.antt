@@ -9,15 +9,6 @@ use Rattle.format.specs.Numbers.{encodeAll}
 use Rattle.image_write.proofs.fields_size.Statement.{statement}
 use Rattle.image_write.proofs.fields_size.Tie as tie
 
-fields-of-requires : tie.Need-fields-of-requires
-fields-of-requires c κs = search needs
-
-slice-aggregate-numbers-size : tie.Need-slice-aggregate-numbers-size
-slice-aggregate-numbers-size c = search needs
-
-numbers-size-requires : tie.Need-numbers-size-requires
-numbers-size-requires c κs = search needs
-
 returns : tie.Need-returns
 returns c =
     let e = c .before .before .fields-of .ensures in
@@ -26,4 +17,4 @@ returns c =
 pub fields-size-spec : {M : Type 1} → statement M
 fields-size-spec =
     tie.close
-    (tie.spec fields-of-requires slice-aggregate-numbers-size numbers-size-requires returns)
+    (tie.spec (λ c _. search needs) (λ c. search needs) (λ c _. search needs) returns)

@@ -5,24 +5,6 @@ use borrow.Author.Needs.{needs}
 use Rattle.image_write.proofs.header_size.Statement.{statement}
 use Rattle.image_write.proofs.header_size.Tie as tie
 
-fields-size-requires : tie.Need-fields-size-requires
-fields-size-requires c κs = search needs
-
-seals-size-requires : tie.Need-seals-size-requires
-seals-size-requires c κs = search needs
-
-add-result : tie.Need-add-result
-add-result c = search needs
-
-slice-aggregate-numbers-size : tie.Need-slice-aggregate-numbers-size
-slice-aggregate-numbers-size c = search needs
-
-numbers-size-requires : tie.Need-numbers-size-requires
-numbers-size-requires c κs = search needs
-
-add-result-2 : tie.Need-add-result-2
-add-result-2 c = search needs
-
 returns : tie.Need-returns
 returns c =
     let s = c .before .before in
@@ -35,10 +17,10 @@ pub header-size-spec : {M : Type 1} → statement M
 header-size-spec =
     tie.close
     (tie.spec
-    fields-size-requires
-    seals-size-requires
-    add-result
-    slice-aggregate-numbers-size
-    numbers-size-requires
-    add-result-2
+    (λ c _. search needs)
+    (λ c _. search needs)
+    (λ c. search needs)
+    (λ c. search needs)
+    (λ c _. search needs)
+    (λ c. search needs)
     returns)

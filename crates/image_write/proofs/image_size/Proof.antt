@@ -9,9 +9,6 @@ use Rattle.image_write.proofs.WriteLaws.{size-refused, size-done}
 use Rattle.image_write.proofs.image_size.Statement.{statement}
 use Rattle.image_write.proofs.image_size.Tie as tie
 
-is-sound-requires : tie.Need-is-sound-requires
-is-sound-requires c κs = search needs
-
 returns : tie.Need-returns
 returns c =
     let a = c .before .before .before .before .before .args in
@@ -37,4 +34,4 @@ returns-2 c =
     size-done (a .m) (sealsIn (a .block .now)) R M s (c .measure-of .result .size) (c .measure-of .ensures .1)
 
 pub image-size-spec : {M : Type 1} → statement M
-image-size-spec = tie.close (tie.spec is-sound-requires returns measure-of-requires returns-2)
+image-size-spec = tie.close (tie.spec (λ c _. search needs) returns measure-of-requires returns-2)

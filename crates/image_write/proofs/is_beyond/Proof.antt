@@ -10,17 +10,11 @@ use borrow.Author.Needs.{needs}
 use Rattle.image_write.proofs.is_beyond.Statement.{statement}
 use Rattle.image_write.proofs.is_beyond.Tie as tie
 
-exponent-requires : tie.Need-exponent-requires
-exponent-requires c κs = search needs
-
 returns : tie.Need-returns
 returns c =
     let e = c .before .exponent .ensures .0 in
     let m = c .before .before .args .m in
     beyond-by (exponent (m .elen)) (exponent (m .rlen)) (exponent (m .mlen)) true _ (eq-eqb (exponent (m .elen)) 6 (sym e ∙ c .if1 .taken)) refl
-
-exponent-requires-2 : tie.Need-exponent-requires-2
-exponent-requires-2 c κs = search needs
 
 returns-2 : tie.Need-returns-2
 returns-2 c =
@@ -30,9 +24,6 @@ returns-2 c =
     let m = i .before .before .args .m in
     beyond-by (exponent (m .elen)) (exponent (m .rlen)) (exponent (m .mlen)) false true (ne-eqb (exponent (m .elen)) 6 (λ z. i .if1 .left (e ∙ z)))
     (lt-ltb 9 (exponent (m .rlen)) (omega (arith, r, c .if2 .taken)))
-
-exponent-requires-3 : tie.Need-exponent-requires-3
-exponent-requires-3 c κs = search needs
 
 returns-3 : tie.Need-returns-3
 returns-3 c =
@@ -49,9 +40,9 @@ pub is-beyond-spec : {M : Type 1} → statement M
 is-beyond-spec =
     tie.close
     (tie.spec
-    exponent-requires
+    (λ c _. search needs)
     returns
-    exponent-requires-2
+    (λ c _. search needs)
     returns-2
-    exponent-requires-3
+    (λ c _. search needs)
     returns-3)

@@ -10,19 +10,10 @@ use Rattle.format.specs.Numbers.{encodeAll}
 use Rattle.image_write.proofs.put_fields.Statement.{statement}
 use Rattle.image_write.proofs.put_fields.Tie as tie
 
-fields-of-requires : tie.Need-fields-of-requires
-fields-of-requires c κs = search needs
-
-slice-aggregate-put-numbers : tie.Need-slice-aggregate-put-numbers
-slice-aggregate-put-numbers c = search needs
-
 put-numbers-requires : tie.Need-put-numbers-requires
 put-numbers-requires c κs =
     let e = c .before .before .fields-of .ensures in
     (omega (arith, ap length e), omega (arith, ap (λ (ns : List ℕ). length (encodeAll ns [])) e, c .before .before .before .before .pre))
-
-same-length : tie.Need-same-length
-same-length c = search needs
 
 returns : tie.Need-returns
 returns c =
@@ -37,8 +28,8 @@ pub put-fields-spec : {M : Type 1} → statement M
 put-fields-spec =
     tie.close
     (tie.spec
-    fields-of-requires
-    slice-aggregate-put-numbers
+    (λ c _. search needs)
+    (λ c. search needs)
     put-numbers-requires
-    same-length
+    (λ c. search needs)
     returns)

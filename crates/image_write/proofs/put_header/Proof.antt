@@ -35,9 +35,6 @@ put-number-requires c κs =
     let a = st .args in
     omega (arith, st .pre .1, f .put-fields .ensures .0, f .put-fields .kept .0, s .put-seals .ensures .0, s .put-seals .kept .0, header-long (a .m) (sealsIn (a .block .now)) (a .count), last-long (a .count))
 
-same-length : tie.Need-same-length
-same-length c = search needs
-
 returns : tie.Need-returns
 returns c =
     let n = c .before .before in
@@ -59,5 +56,5 @@ put-header-spec =
     put-fields-requires
     put-seals-requires
     put-number-requires
-    same-length
+    (λ c. search needs)
     returns)

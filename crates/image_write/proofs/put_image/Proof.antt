@@ -47,9 +47,6 @@ put-runs-requires c κs =
       (same-size (a .m) (sealsIn (a .block .now)) R M s, two-valued (a .m) (sealsIn (a .block .now)) R M s),
     )
 
-same-length : tie.Need-same-length
-same-length c = search needs
-
 returns : tie.Need-returns
 returns c =
     let q = c .before .before in
@@ -62,4 +59,4 @@ returns c =
     (v .put-version .ensures .1) (v .put-version .ensures .0) (h .put-header .ensures .1) (h .put-header .ensures .0) (q .put-runs .ensures)
 
 pub put-image-spec : {M : Type 1} → statement M
-put-image-spec = tie.close (tie.spec put-version-requires put-header-requires put-runs-requires same-length returns)
+put-image-spec = tie.close (tie.spec put-version-requires put-header-requires put-runs-requires (λ c. search needs) returns)

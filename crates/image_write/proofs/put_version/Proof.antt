@@ -13,9 +13,6 @@ use Rattle.image_write.proofs.put_version.Tie as tie
 long : (c : tie.After-put-numbers-arg) → length (c .before .before .version-of .result .numbers) ≡ 3
 long c = search needs
 
-version-of-requires : tie.Need-version-of-requires
-version-of-requires c κs = search needs
-
 array-share-prefix-numbers : tie.Need-array-share-prefix-numbers
 array-share-prefix-numbers c = omega (arith, long c, c .before .before .version-of .ensures .0)
 
@@ -31,9 +28,6 @@ put-numbers-requires c κs =
     let same = ap (λ (ns : List ℕ). length (encodeAll ns [])) (v .ensures .1) in
     (omega (arith, taken (c .before), v .ensures .0), omega (arith, same, c .before .before .before .before .before .before .pre .1))
 
-same-length : tie.Need-same-length
-same-length c = search needs
-
 returns : tie.Need-returns
 returns c =
     let p = c .before .before .put-numbers in
@@ -47,9 +41,9 @@ pub put-version-spec : {M : Type 1} → statement M
 put-version-spec =
     tie.close
     (tie.spec
-    version-of-requires
+    (λ c _. search needs)
     array-share-prefix-numbers
     slice-aggregate-put-numbers
     put-numbers-requires
-    same-length
+    (λ c. search needs)
     returns)

@@ -14,24 +14,12 @@ use Rattle.image_write.proofs.version_of.Tie as tie
 many : (c : tie.After-count-of) → length (sealsIn (c .before .before .args .block .now)) ≡ c .count-of .result
 many c = let st = c .before .before in seals-many (st .args .block .now) (st .pre) ∙ sym (c .count-of .ensures .0)
 
-count-of-requires : tie.Need-count-of-requires
-count-of-requires c κs = search needs
-
-exponent-requires : tie.Need-exponent-requires
-exponent-requires c κs = search needs
-
 returns : tie.Need-returns
 returns c =
     let i = c .before in
     let n = i .before in
     let a = n .before .before .args in
     (omega arith, version-four (headerOf (a .m) (sealsIn (a .block .now))) (c .exponent .result) (c .exponent .ensures .0) (λ e. i .if1 .taken (sym (many n) ∙ e)))
-
-is-beyond-requires : tie.Need-is-beyond-requires
-is-beyond-requires c κs = search needs
-
-exponent-requires-2 : tie.Need-exponent-requires-2
-exponent-requires-2 c κs = search needs
 
 returns-2 : tie.Need-returns-2
 returns-2 c =
@@ -61,11 +49,11 @@ pub version-of-spec : {M : Type 1} → statement M
 version-of-spec =
     tie.close
     (tie.spec
-    count-of-requires
-    exponent-requires
+    (λ c _. search needs)
+    (λ c _. search needs)
     returns
-    is-beyond-requires
-    exponent-requires-2
+    (λ c _. search needs)
+    (λ c _. search needs)
     returns-2
     returns-3
     returns-4)

@@ -12,9 +12,6 @@ use Rattle.image_write.proofs.version_size.Tie as tie
 long : (c : tie.After-numbers) → length (c .before .version-of .result .numbers) ≡ 3
 long c = search needs
 
-version-of-requires : tie.Need-version-of-requires
-version-of-requires c κs = search needs
-
 array-share-prefix-numbers : tie.Need-array-share-prefix-numbers
 array-share-prefix-numbers c = omega (arith, long c, c .before .version-of .ensures .0)
 
@@ -38,7 +35,7 @@ pub version-size-spec : {M : Type 1} → statement M
 version-size-spec =
     tie.close
     (tie.spec
-    version-of-requires
+    (λ c _. search needs)
     array-share-prefix-numbers
     slice-aggregate-numbers-size
     numbers-size-requires

@@ -10,9 +10,6 @@ use Rattle.image_write.proofs.WriteLaws.{write-refused, write-short, wr
 use Rattle.image_write.proofs.write_image.Statement.{statement}
 use Rattle.image_write.proofs.write_image.Tie as tie
 
-is-sound-requires : tie.Need-is-sound-requires
-is-sound-requires c κs = search needs
-
 returns : tie.Need-returns
 returns c =
     let a = c .before .before .before .before .before .before .args in
@@ -47,9 +44,6 @@ put-image-requires c κs =
     let z = c .before .before .measure-of in
     (s, (z .ensures .0, omega (arith, z .ensures .1, c .before .if2 .left)))
 
-same-length : tie.Need-same-length
-same-length c = search needs
-
 returns-3 : tie.Need-returns-3
 returns-3 c =
     let a = c .before .before .before .before .before .before .before .before .before .before .before .before .args in
@@ -64,10 +58,10 @@ pub write-image-spec : {M : Type 1} → statement M
 write-image-spec =
     tie.close
     (tie.spec
-    is-sound-requires
+    (λ c _. search needs)
     returns
     measure-of-requires
     returns-2
     put-image-requires
-    same-length
+    (λ c. search needs)
     returns-3)

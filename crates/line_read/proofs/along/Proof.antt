@@ -18,35 +18,17 @@ no-mark c = sym (c .before .is-mark .ensures) ∙ not-true (c .before .is-mark .
 a-mark : (c : tie.Else1) → isMark (c .before .before .before .args .c) ≡ true
 a-mark c = sym (c .before .is-mark .ensures) ∙ not-false (c .before .is-mark .result) (c .if1 .left)
 
-is-mark-requires : tie.Need-is-mark-requires
-is-mark-requires c κs = search needs
-
 returns : tie.Need-returns
 returns c = let a = c .before .before .before .before .args in let p = c .before .before .before .before .pre in (letter-none (a .line .now) (a .c) (a .at) (a .scale) (a .word) (p .3) (no-mark (c .before)) (c .if2 .taken), tt)
 
-shared-slice-read-if3 : tie.Need-shared-slice-read-if3
-shared-slice-read-if3 c = search needs
-
 returns-2 : tie.Need-returns-2
 returns-2 c = let a = c .before .before .before .before .before .before .args in let p = c .before .before .before .before .before .before .pre in (letter-other (a .line .now) (a .c) (a .at) (a .scale) (a .word) (p .3) (no-mark (c .before .before .before)) (c .before .before .if2 .left) (c .if3 .taken), tt)
-
-add-t11 : tie.Need-add-t11
-add-t11 c = search needs
 
 returns-3 : tie.Need-returns-3
 returns-3 c =
     let a = c .before .before .before .before .before .before .args in
     let p = c .before .before .before .before .before .before .pre in
     (letter-same (a .line .now) (a .c) (a .at) (a .scale) (a .word) (p .3) (no-mark (c .before .before .before)) (c .before .before .if2 .left) (c .if3 .left), (omega (arith, c .before .before .if2 .left), p .1, omega arith))
-
-read-operand-requires : tie.Need-read-operand-requires
-read-operand-requires c κs = search needs
-
-enum-known-number : tie.Need-enum-known-number
-enum-known-number c = search needs
-
-next-scale-requires : tie.Need-next-scale-requires
-next-scale-requires c κs = search needs
 
 read : (c : tie.After-number) → (c .number .given .0 .0 ≤ 8191) × (c .number .given .0 .1 .0 ≤ length (c .before .before .before .before .before .before .args .line .now))
 read c =
@@ -79,9 +61,6 @@ returns-4 c =
       (read (c .before .before) .1, omega arith, omega arith),
     )
 
-enum-known-place : tie.Need-enum-known-place
-enum-known-place c = search needs
-
 returns-5 : tie.Need-returns-5
 returns-5 c =
     let a = c .before .before .before .before .before .before .before .args in
@@ -92,17 +71,17 @@ pub along-spec : {M : Type 1} → statement M
 along-spec =
     tie.close
     (tie.spec
-    is-mark-requires
+    (λ c _. search needs)
     returns
-    shared-slice-read-if3
+    (λ c. search needs)
     returns-2
-    add-t11
+    (λ c. search needs)
     returns-3
-    read-operand-requires
-    enum-known-number
-    next-scale-requires
+    (λ c _. search needs)
+    (λ c. search needs)
+    (λ c _. search needs)
     mul-t17
     add-t18
     returns-4
-    enum-known-place
+    (λ c. search needs)
     returns-5)

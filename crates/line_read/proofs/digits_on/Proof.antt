@@ -23,12 +23,6 @@ on c = sym (c .before .goes-on .ensures) ∙ not-false (c .before .goes-on .resu
 loop-holds : tie.Need-loop-holds Inv-loop μ-loop
 loop-holds c = (omega arith, omega arith, refl)
 
-shared-slice-read-b : tie.Need-shared-slice-read-b Inv-loop μ-loop
-shared-slice-read-b c = omega arith
-
-goes-on-requires : tie.Need-goes-on-requires Inv-loop μ-loop
-goes-on-requires c κs = omega arith
-
 returns : tie.Need-returns Inv-loop μ-loop
 returns c =
     let l = c .before .before .before .before .loop in
@@ -41,12 +35,6 @@ more-requires c κs =
     let a = c .before .before .before .before .before .before .args in
     let r = goes-range (a .most) (l .n) (getD (a .line .now) (l .i) 0) (on c) in
     (omega arith, omega arith, omega arith)
-
-add-i : tie.Need-add-i Inv-loop μ-loop
-add-i c = omega arith
-
-loop-less : tie.Need-loop-less Inv-loop μ-loop
-loop-less c = omega arith
 
 loop-again : tie.Need-loop-again Inv-loop μ-loop
 loop-again c =
@@ -71,11 +59,11 @@ digits-on-spec =
     Inv-loop
     μ-loop
     loop-holds
-    shared-slice-read-b
-    goes-on-requires
+    (λ c. omega arith)
+    (λ c _. omega arith)
     returns
     more-requires
-    add-i
-    loop-less
+    (λ c. omega arith)
+    (λ c. omega arith)
     loop-again
     returns-2)

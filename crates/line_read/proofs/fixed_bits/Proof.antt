@@ -20,59 +20,17 @@ joined n a b d e h p q r s =
     let four : e ≡ n / 16777216 = omega (arith, s, h) in
     summed n (n / 256) (n / 65536) (n / 16777216) a b d e one two three four
 
-mul-at : tie.Need-mul-at
-mul-at c = search needs
-
 shared-slice-read-wide : tie.Need-shared-slice-read-wide
 shared-slice-read-wide c = omega (arith, table-size (c .before .before .args .rows .now) (c .before .before .pre .0))
-
-wide-requires : tie.Need-wide-requires
-wide-requires c κs = search needs
-
-add-wide : tie.Need-add-wide
-add-wide c = search needs
 
 shared-slice-read-wide-2 : tie.Need-shared-slice-read-wide-2
 shared-slice-read-wide-2 c = omega (arith, table-size (c .before .before .before .before .args .rows .now) (c .before .before .before .before .pre .0))
 
-wide-requires-2 : tie.Need-wide-requires-2
-wide-requires-2 c κs = search needs
-
-mul-low : tie.Need-mul-low
-mul-low c = search needs
-
-add-low : tie.Need-add-low
-add-low c = search needs
-
-add-wide-2 : tie.Need-add-wide-2
-add-wide-2 c = search needs
-
 shared-slice-read-wide-3 : tie.Need-shared-slice-read-wide-3
 shared-slice-read-wide-3 c = omega (arith, table-size (c .before .before .before .before .before .before .args .rows .now) (c .before .before .before .before .before .before .pre .0))
 
-wide-requires-3 : tie.Need-wide-requires-3
-wide-requires-3 c κs = search needs
-
-mul-result : tie.Need-mul-result
-mul-result c = search needs
-
-add-result : tie.Need-add-result
-add-result c = search needs
-
-add-wide-3 : tie.Need-add-wide-3
-add-wide-3 c = search needs
-
 shared-slice-read-wide-4 : tie.Need-shared-slice-read-wide-4
 shared-slice-read-wide-4 c = omega (arith, table-size (c .before .before .before .before .before .before .before .before .args .rows .now) (c .before .before .before .before .before .before .before .before .pre .0))
-
-wide-requires-4 : tie.Need-wide-requires-4
-wide-requires-4 c κs = search needs
-
-mul-result-2 : tie.Need-mul-result-2
-mul-result-2 c = search needs
-
-add-result-2 : tie.Need-add-result-2
-add-result-2 c = search needs
 
 returns : tie.Need-returns
 returns c =
@@ -91,22 +49,22 @@ pub fixed-bits-spec : {M : Type 1} → statement M
 fixed-bits-spec =
     tie.close
     (tie.spec
-    mul-at
+    (λ c. search needs)
     shared-slice-read-wide
-    wide-requires
-    add-wide
+    (λ c _. search needs)
+    (λ c. search needs)
     shared-slice-read-wide-2
-    wide-requires-2
-    mul-low
-    add-low
-    add-wide-2
+    (λ c _. search needs)
+    (λ c. search needs)
+    (λ c. search needs)
+    (λ c. search needs)
     shared-slice-read-wide-3
-    wide-requires-3
-    mul-result
-    add-result
-    add-wide-3
+    (λ c _. search needs)
+    (λ c. search needs)
+    (λ c. search needs)
+    (λ c. search needs)
     shared-slice-read-wide-4
-    wide-requires-4
-    mul-result-2
-    add-result-2
+    (λ c _. search needs)
+    (λ c. search needs)
+    (λ c. search needs)
     returns)

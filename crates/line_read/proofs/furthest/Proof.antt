@@ -18,26 +18,11 @@ loop-holds c = left-all (c .before .before .args .line .now)
 read-at-requires : tie.Need-read-at-requires Inv-loop μ-loop
 read-at-requires c κs = (c .before .before .before .before .pre, omega arith)
 
-enum-known-word : tie.Need-enum-known-word Inv-loop μ-loop
-enum-known-word c = search needs
-
 returns : tie.Need-returns Inv-loop μ-loop
 returns c =
     let l = c .before .before .before .before .before .loop in
     let a = c .before .before .before .before .before .before .before .before .args in
     left-word (a .line .now) (l .k) (l .best) (omega arith) (l .inv) (c .before .word .given .0 .0) (sym (c .before .word .given .1) ∙ c .before .before .before .read-at .ensures)
-
-enum-known-place : tie.Need-enum-known-place Inv-loop μ-loop
-enum-known-place c = search needs
-
-larger-requires : tie.Need-larger-requires Inv-loop μ-loop
-larger-requires c κs = search needs
-
-add-k : tie.Need-add-k Inv-loop μ-loop
-add-k c = omega arith
-
-loop-less : tie.Need-loop-less Inv-loop μ-loop
-loop-less c = omega arith
 
 loop-again : tie.Need-loop-again Inv-loop μ-loop
 loop-again c =
@@ -58,11 +43,11 @@ furthest-spec =
     μ-loop
     loop-holds
     read-at-requires
-    enum-known-word
+    (λ c. search needs)
     returns
-    enum-known-place
-    larger-requires
-    add-k
-    loop-less
+    (λ c. search needs)
+    (λ c _. search needs)
+    (λ c. omega arith)
+    (λ c. omega arith)
     loop-again
     returns-2)

@@ -13,9 +13,6 @@ use Rattle.line_read.proofs.goes_on.Tie as tie
 is-digit : (c : tie.Else1) → isDigit (c .before .before .args .b) ≡ true
 is-digit c = sym (c .before .is-digit .ensures) ∙ not-false (c .before .is-digit .result) (c .if1 .left)
 
-is-digit-requires : tie.Need-is-digit-requires
-is-digit-requires c κs = search needs
-
 returns : tie.Need-returns
 returns c = let a = c .before .before .args in no-digit (a .most) (a .v) (a .b) (sym (c .before .is-digit .ensures) ∙ not-true (c .before .is-digit .result) (c .if1 .taken))
 
@@ -31,4 +28,4 @@ returns-3 c =
     ap (λ (z : ℕ). leb z (a .most)) (c .more .ensures) ∙ on-test (a .most) (a .v) (a .b) (is-digit (c .before .before)) (omega (arith, c .before .if2 .left))
 
 pub goes-on-spec : {M : Type 1} → statement M
-goes-on-spec = tie.close (tie.spec is-digit-requires returns returns-2 more-requires returns-3)
+goes-on-spec = tie.close (tie.spec (λ c _. search needs) returns returns-2 more-requires returns-3)

@@ -19,17 +19,8 @@ loop-holds c = let e : c .args .n - 0 ≡ c .args .n = omega arith in (omega ari
 returns : tie.Need-returns Inv-loop μ-loop
 returns c = let l = c .before .before .loop in let a = c .before .before .before .args in sym (space-none (a .line .now) (a .n) (l .i) (c .if1 .taken)) ∙ l .inv .1
 
-shared-slice-read-if2 : tie.Need-shared-slice-read-if2 Inv-loop μ-loop
-shared-slice-read-if2 c = omega arith
-
 returns-2 : tie.Need-returns-2 Inv-loop μ-loop
 returns-2 c = let l = c .before .before .before .before .loop in let a = c .before .before .before .before .before .args in sym (space-here (a .line .now) (a .n) (l .i) (omega arith) (omega arith) (c .if2 .taken)) ∙ l .inv .1
-
-add-i : tie.Need-add-i Inv-loop μ-loop
-add-i c = omega arith
-
-loop-less : tie.Need-loop-less Inv-loop μ-loop
-loop-less c = omega arith
 
 loop-again : tie.Need-loop-again Inv-loop μ-loop
 loop-again c = let l = c .before .before .before .before .loop in let a = c .before .before .before .before .before .args in (omega arith, sym (space-on (a .line .now) (a .n) (l .i) (omega arith) (omega arith) (c .if2 .left)) ∙ l .inv .1)
@@ -45,9 +36,9 @@ has-space-spec =
     μ-loop
     loop-holds
     returns
-    shared-slice-read-if2
+    (λ c. omega arith)
     returns-2
-    add-i
-    loop-less
+    (λ c. omega arith)
+    (λ c. omega arith)
     loop-again
     returns-3)

@@ -13,9 +13,6 @@ use Rattle.line_read.proofs.is_first.Tie as tie
 is-digit : (c : tie.Else1) → isDigit (c .before .before .args .b) ≡ true
 is-digit c = sym (c .before .is-digit .ensures) ∙ not-false (c .before .is-digit .result) (c .if1 .left)
 
-is-digit-requires : tie.Need-is-digit-requires
-is-digit-requires c κs = search needs
-
 returns : tie.Need-returns
 returns c = let a = c .before .before .args in first-not (a .least) (a .most) (a .b) (sym (c .before .is-digit .ensures) ∙ not-true (c .before .is-digit .result) (c .if1 .taken))
 
@@ -38,7 +35,7 @@ pub is-first-spec : {M : Type 1} → statement M
 is-first-spec =
     tie.close
     (tie.spec
-    is-digit-requires
+    (λ c _. search needs)
     returns
     more-requires
     returns-2

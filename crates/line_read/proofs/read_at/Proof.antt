@@ -8,15 +8,6 @@ use borrow.Author.Needs.{needs}
 use Rattle.line_read.proofs.read_at.Statement.{statement}
 use Rattle.line_read.proofs.read_at.Tie as tie
 
-fixed-bits-requires : tie.Need-fixed-bits-requires
-fixed-bits-requires c κs = search needs
-
-mul-read-row : tie.Need-mul-read-row
-mul-read-row c = search needs
-
-add-read-row : tie.Need-add-read-row
-add-read-row c = search needs
-
 read-row-requires : tie.Need-read-row-requires
 read-row-requires c κs =
     let a = c .before .before .before .args in
@@ -34,4 +25,4 @@ returns c =
 
 pub read-at-spec : {M : Type 1} → statement M
 read-at-spec =
-    tie.close (tie.spec fixed-bits-requires mul-read-row add-read-row read-row-requires returns)
+    tie.close (tie.spec (λ c _. search needs) (λ c. search needs) (λ c. search needs) read-row-requires returns)

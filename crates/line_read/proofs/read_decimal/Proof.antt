@@ -16,19 +16,10 @@ first c = sym (c .before .is-first .ensures) ∙ not-false (c .before .is-first 
 returns : tie.Need-returns
 returns c = let a = c .before .before .args in none-there (a .line .now) (a .at) (a .least) (a .most) (c .if1 .taken)
 
-shared-slice-read-b : tie.Need-shared-slice-read-b
-shared-slice-read-b c = search needs
-
-is-first-requires : tie.Need-is-first-requires
-is-first-requires c κs = search needs
-
 returns-2 : tie.Need-returns-2
 returns-2 c =
     let a = c .before .before .before .before .before .args in
     not-first (a .line .now) (a .at) (a .least) (a .most) (c .before .before .before .if1 .left) (sym (c .before .is-first .ensures) ∙ not-true (c .before .is-first .result) (c .if2 .taken))
-
-add-digits-on : tie.Need-add-digits-on
-add-digits-on c = search needs
 
 more-requires : tie.Need-more-requires
 more-requires c κs =
@@ -53,10 +44,10 @@ read-decimal-spec =
     tie.close
     (tie.spec
     returns
-    shared-slice-read-b
-    is-first-requires
+    (λ c. search needs)
+    (λ c _. search needs)
     returns-2
-    add-digits-on
+    (λ c. search needs)
     more-requires
     digits-on-requires
     returns-3)

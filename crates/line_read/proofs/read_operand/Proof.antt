@@ -8,32 +8,17 @@ use Rattle.line_read.proofs.RowLaws.{operand-x, operand-t, operand-a, o
 use Rattle.line_read.proofs.read_operand.Statement.{statement}
 use Rattle.line_read.proofs.read_operand.Tie as tie
 
-read-decimal-requires : tie.Need-read-decimal-requires
-read-decimal-requires c κs = search needs
-
 returns : tie.Need-returns
 returns c = let a = c .before .before .before .args in c .read-decimal .ensures ∙ ap (λ (o : Operand). gotFrom (a .at) (readOperand o (drop (a .at) (a .line .now)))) (sym (operand-x (a .mark) (c .before .if1 .taken)))
-
-read-decimal-requires-2 : tie.Need-read-decimal-requires-2
-read-decimal-requires-2 c κs = search needs
 
 returns-2 : tie.Need-returns-2
 returns-2 c = let a = c .before .before .before .before .args in c .read-decimal2 .ensures ∙ ap (λ (o : Operand). gotFrom (a .at) (readOperand o (drop (a .at) (a .line .now)))) (sym (operand-t (a .mark) (c .before .if2 .taken)))
 
-read-decimal-requires-3 : tie.Need-read-decimal-requires-3
-read-decimal-requires-3 c κs = search needs
-
 returns-3 : tie.Need-returns-3
 returns-3 c = let a = c .before .before .before .before .before .args in c .read-decimal3 .ensures ∙ ap (λ (o : Operand). gotFrom (a .at) (readOperand o (drop (a .at) (a .line .now)))) (sym (operand-a (a .mark) (c .before .if3 .taken)))
 
-read-decimal-requires-4 : tie.Need-read-decimal-requires-4
-read-decimal-requires-4 c κs = search needs
-
 returns-4 : tie.Need-returns-4
 returns-4 c = let a = c .before .before .before .before .before .before .args in c .read-decimal4 .ensures ∙ ap (λ (o : Operand). gotFrom (a .at) (readOperand o (drop (a .at) (a .line .now)))) (sym (operand-i (a .mark) (c .before .if4 .taken)))
-
-read-small-requires : tie.Need-read-small-requires
-read-small-requires c κs = search needs
 
 returns-5 : tie.Need-returns-5
 returns-5 c =
@@ -44,13 +29,13 @@ pub read-operand-spec : {M : Type 1} → statement M
 read-operand-spec =
     tie.close
     (tie.spec
-    read-decimal-requires
+    (λ c _. search needs)
     returns
-    read-decimal-requires-2
+    (λ c _. search needs)
     returns-2
-    read-decimal-requires-3
+    (λ c _. search needs)
     returns-3
-    read-decimal-requires-4
+    (λ c _. search needs)
     returns-4
-    read-small-requires
+    (λ c _. search needs)
     returns-5)

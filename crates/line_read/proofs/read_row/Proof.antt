@@ -21,9 +21,6 @@ abbrev μ-loop : tie.MeasureT-loop
 loop-holds : tie.Need-loop-holds Inv-loop μ-loop
 loop-holds c = (omega arith, omega arith, omega arith, omega arith, omega arith, refl)
 
-shared-slice-read-c : tie.Need-shared-slice-read-c Inv-loop μ-loop
-shared-slice-read-c c = omega arith
-
 finished-requires : tie.Need-finished-requires Inv-loop μ-loop
 finished-requires c κs = c .before .before .before .loop .inv .2
 
@@ -39,12 +36,6 @@ along-requires c κs =
     let a = c .before .before .before .before .before .before .args in
     (l .inv .2, l .inv .3, omega (arith, l .inv .4, l .inv .1, l .inv .0, c .before .before .before .before .before .before .pre .1), ne-eqb (getD (a .texts .now) (l .i) 0) 10 (c .if1 .left))
 
-enum-known-next : tie.Need-enum-known-next Inv-loop μ-loop
-enum-known-next c = search needs
-
-enum-known-place : tie.Need-enum-known-place Inv-loop μ-loop
-enum-known-place c = search needs
-
 returns-2 : tie.Need-returns-2 Inv-loop μ-loop
 returns-2 c =
     let l = c .before .before .before .before .before .before .before .loop in
@@ -52,12 +43,6 @@ returns-2 c =
     let t = drop (l .i + 1) (a .texts .now) in
     let e = c .before .before .before .along .ensures .0 t ∙ ap (goOn t (a .line .now)) (c .before .place .given .1) in
     sym (ap asLine (l .inv .5 ∙ row-goes (a .texts .now) (drop (l .at) (a .line .now)) (l .i) (l .at) (l .scale) (l .word) (omega arith) ∙ e))
-
-add-i : tie.Need-add-i Inv-loop μ-loop
-add-i c = omega arith
-
-loop-less : tie.Need-loop-less Inv-loop μ-loop
-loop-less c = omega arith
 
 loop-again : tie.Need-loop-again Inv-loop μ-loop
 loop-again c =
@@ -90,15 +75,15 @@ read-row-spec =
     Inv-loop
     μ-loop
     loop-holds
-    shared-slice-read-c
+    (λ c. omega arith)
     finished-requires
     returns
     along-requires
-    enum-known-next
-    enum-known-place
+    (λ c. search needs)
+    (λ c. search needs)
     returns-2
-    add-i
-    loop-less
+    (λ c. omega arith)
+    (λ c. omega arith)
     loop-again
     finished-requires-2
     returns-3)

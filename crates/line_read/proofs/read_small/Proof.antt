@@ -10,25 +10,10 @@ use Rattle.line_read.proofs.read_small.Tie as tie
 returns : tie.Need-returns
 returns c = let a = c .before .before .args in small-none (a .line .now) (a .at) (c .if1 .taken)
 
-shared-slice-read-b : tie.Need-shared-slice-read-b
-shared-slice-read-b c = search needs
-
-read-decimal-requires : tie.Need-read-decimal-requires
-read-decimal-requires c κs = search needs
-
 returns-2 : tie.Need-returns-2
 returns-2 c =
     let a = c .before .before .before .before .before .args in
     c .read-decimal .ensures ∙ small-plus (a .line .now) (a .at) (c .before .before .before .if1 .left) (c .before .if2 .taken)
-
-add-read-decimal : tie.Need-add-read-decimal
-add-read-decimal c = search needs
-
-read-decimal-requires-2 : tie.Need-read-decimal-requires-2
-read-decimal-requires-2 c κs = search needs
-
-enum-known-number : tie.Need-enum-known-number
-enum-known-number c = search needs
 
 sub-t12 : tie.Need-sub-t12
 sub-t12 c =
@@ -42,9 +27,6 @@ returns-3 c =
     let a = c .before .before .before .before .before .before .before .before .args in
     small-value (a .line .now) (a .at) (c .before .before .before .before .before .before .if1 .left) (c .before .before .before .before .if2 .left) (c .before .number .given .0 .0) (c .before .number .given .0 .1 .0) (sym (c .before .number .given .1) ∙ c .before .before .before .read-decimal2 .ensures)
 
-enum-known-place : tie.Need-enum-known-place
-enum-known-place c = search needs
-
 returns-4 : tie.Need-returns-4
 returns-4 c =
     let a = c .before .before .before .before .before .before .before .before .args in
@@ -55,13 +37,13 @@ read-small-spec =
     tie.close
     (tie.spec
     returns
-    shared-slice-read-b
-    read-decimal-requires
+    (λ c. search needs)
+    (λ c _. search needs)
     returns-2
-    add-read-decimal
-    read-decimal-requires-2
-    enum-known-number
+    (λ c. search needs)
+    (λ c _. search needs)
+    (λ c. search needs)
     sub-t12
     returns-3
-    enum-known-place
+    (λ c. search needs)
     returns-4)

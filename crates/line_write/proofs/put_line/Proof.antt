@@ -31,13 +31,10 @@ put-row-requires c κs =
     let n = table-size (s .args .rows .now) (s .pre .0 .0) in
     (omega (arith, n, c .before .row-of .ensures .0), omega (arith, s .pre .1, ap length (text (c .before))))
 
-same-length : tie.Need-same-length
-same-length c = search needs
-
 returns : tie.Need-returns
 returns c = wrote-as (text (c .before .before .before .before)) (c .before .before .put-row .ensures)
 
 pub put-line-spec : {M : Type 1} → statement M
 put-line-spec =
     tie.close
-    (tie.spec row-of-requires mul-put-row add-put-row put-row-requires same-length returns)
+    (tie.spec row-of-requires mul-put-row add-put-row put-row-requires (λ c. search needs) returns)

@@ -20,26 +20,14 @@ unmarked c = let e : isMark (c .before .before .before .args .c) ≡ false = sym
 field : (c : tie.After-field-of) → pieceText (c .before .before .before .before .before .args .c) (c .before .before .before .before .before .args .scale) (c .before .before .before .before .before .args .word) ≡ shown (operandOf (c .before .before .before .before .before .args .c)) (c .field-of .result)
 field c = marked (c .before .before) ∙ ap (shown (operandOf (c .before .before .before .before .before .args .c))) (sym (c .field-of .ensures))
 
-is-mark-requires : tie.Need-is-mark-requires
-is-mark-requires c κs = search needs
-
-field-of-requires : tie.Need-field-of-requires
-field-of-requires c κs = search needs
-
 put-operand-requires : tie.Need-put-operand-requires
 put-operand-requires c κs = omega (arith, c .before .before .before .before .before .pre, ap length (field c))
-
-same-length : tie.Need-same-length
-same-length c = search needs
 
 returns : tie.Need-returns
 returns c = wrote-as (sym (field (c .before .before .before))) (c .before .before .put-operand .ensures)
 
 put-byte-requires : tie.Need-put-byte-requires
 put-byte-requires c κs = omega (arith, c .before .before .before .before .pre, ap length (unmarked (c .before)))
-
-same-length-2 : tie.Need-same-length-2
-same-length-2 c = search needs
 
 returns-2 : tie.Need-returns-2
 returns-2 c = wrote-as (sym (unmarked (c .before .before .before .before))) (c .before .before .put-byte .ensures)
@@ -48,11 +36,11 @@ pub put-piece-spec : {M : Type 1} → statement M
 put-piece-spec =
     tie.close
     (tie.spec
-    is-mark-requires
-    field-of-requires
+    (λ c _. search needs)
+    (λ c _. search needs)
     put-operand-requires
-    same-length
+    (λ c. search needs)
     returns
     put-byte-requires
-    same-length-2
+    (λ c. search needs)
     returns-2)

@@ -20,9 +20,6 @@ abbrev μ-loop : tie.MeasureT-loop
 loop-holds : tie.Need-loop-holds Inv-loop μ-loop
 loop-holds c = (omega arith, ahead-start)
 
-shared-slice-read-c : tie.Need-shared-slice-read-c Inv-loop μ-loop
-shared-slice-read-c c = omega arith
-
 same-length : tie.Need-same-length Inv-loop μ-loop
 same-length c = c .before .before .before .loop .inv .1 .same
 
@@ -48,15 +45,6 @@ put-piece-requires c κs =
     let x = getD (a .texts .now) (l .i) 0 in
     ahead-room (pieceText x (l .scale) (a .word)) (textFrom (drop (l .i + 1) (a .texts .now)) (scaleAfter x (l .scale)) (a .word)) (left (c .before)) (c .before .before .before .before .before .before .before .pre .1)
 
-scale-after-requires : tie.Need-scale-after-requires Inv-loop μ-loop
-scale-after-requires c κs = search needs
-
-add-i : tie.Need-add-i Inv-loop μ-loop
-add-i c = omega arith
-
-loop-less : tie.Need-loop-less Inv-loop μ-loop
-loop-less c = omega arith
-
 loop-again : tie.Need-loop-again Inv-loop μ-loop
 loop-again c =
     let l = c .before .before .before .before .before .before .before .before .loop in
@@ -81,13 +69,13 @@ put-row-spec =
     Inv-loop
     μ-loop
     loop-holds
-    shared-slice-read-c
+    (λ c. omega arith)
     same-length
     returns
     put-piece-requires
-    scale-after-requires
-    add-i
-    loop-less
+    (λ c _. search needs)
+    (λ c. omega arith)
+    (λ c. omega arith)
     loop-again
     same-length-2
     returns-2)

@@ -6,9 +6,6 @@ use borrow.Author.Needs.{needs}
 use Rattle.line_write.proofs.row_of.Statement.{statement}
 use Rattle.line_write.proofs.row_of.Tie as tie
 
-shared-slice-read-result : tie.Need-shared-slice-read-result
-shared-slice-read-result c = search needs
-
 cast-result : tie.Need-cast-result
 cast-result c = omega (arith, c .shared-slice-known .given (c .before .args .number))
 
@@ -18,4 +15,4 @@ returns c =
     row-led (s .args .index .now) (s .args .word) (s .args .number) (getD (s .args .index .now) (s .args .number) 0) (s .pre .0) (s .pre .2) refl (s .pre .3)
 
 pub row-of-spec : {M : Type 1} → statement M
-row-of-spec = tie.close (tie.spec shared-slice-read-result cast-result returns)
+row-of-spec = tie.close (tie.spec (λ c. search needs) cast-result returns)

@@ -5,12 +5,6 @@ use borrow.Author.Needs.{needs}
 use Rattle.line_write.proofs.scale_after.Statement.{statement}
 use Rattle.line_write.proofs.scale_after.Tie as tie
 
-is-mark-requires : tie.Need-is-mark-requires
-is-mark-requires c κs = search needs
-
-next-scale-requires : tie.Need-next-scale-requires
-next-scale-requires c κs = search needs
-
 returns : tie.Need-returns
 returns c = c .next-scale .ensures ∙ ap (λ (b : Bool). cond b (nextScale (c .before .before .before .args .scale)) (c .before .before .before .args .scale)) (sym (sym (c .before .before .is-mark .ensures) ∙ c .before .if1 .taken))
 
@@ -18,4 +12,4 @@ returns-2 : tie.Need-returns-2
 returns-2 c = ap (λ (b : Bool). cond b (nextScale (c .before .before .args .scale)) (c .before .before .args .scale)) (sym (sym (c .before .is-mark .ensures) ∙ c .if1 .left))
 
 pub scale-after-spec : {M : Type 1} → statement M
-scale-after-spec = tie.close (tie.spec is-mark-requires next-scale-requires returns returns-2)
+scale-after-spec = tie.close (tie.spec (λ c _. search needs) (λ c _. search needs) returns returns-2)

@@ -7,9 +7,6 @@ use Rattle.lines.proofs.WriteLaws.{minus-test}
 use Rattle.lines.proofs.is_minus.Statement.{statement}
 use Rattle.lines.proofs.is_minus.Tie as tie
 
-sub-result : tie.Need-sub-result
-sub-result c = search needs
-
 returns : tie.Need-returns
 returns c = minus-test (c .before .args .q) (c .before .args .x) (c .if1 .taken)
 
@@ -17,4 +14,4 @@ returns-2 : tie.Need-returns-2
 returns-2 c = sym (le-leb (c .before .args .q) (c .before .args .x + c .before .args .x) (omega arith))
 
 pub is-minus-spec : {M : Type 1} → statement M
-is-minus-spec = tie.close (tie.spec sub-result returns returns-2)
+is-minus-spec = tie.close (tie.spec (λ c. search needs) returns returns-2)

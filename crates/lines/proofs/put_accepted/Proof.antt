@@ -21,11 +21,8 @@ put-lines-requires c κs =
     let n = page-room (a .rows) (a .cols) (s .pre .1) (s .pre .2) in
     (s .pre .3, omega (arith, r, m, n, w .to, w .same, s .pre .0))
 
-same-length : tie.Need-same-length
-same-length c = search needs
-
 returns : tie.Need-returns
 returns c = wrote-more refl (c .before .before .before .before .before .before .put-first .ensures) (c .before .before .put-lines .ensures)
 
 pub put-accepted-spec : {M : Type 1} → statement M
-put-accepted-spec = tie.close (tie.spec put-first-requires put-lines-requires same-length returns)
+put-accepted-spec = tie.close (tie.spec put-first-requires put-lines-requires (λ c. search needs) returns)

@@ -33,20 +33,11 @@ left3 c = ahead-step (left2 (c .before .before .before .before .before)) (c .put
 left4 : (c : tie.After-put-decimal2) → Left (c .before .before .before .before .before .before .before .before .before .before .before .before .before .before .before .before .before) (c .put-decimal2 .last .0) (c .put-decimal2 .result) (10 ∷ [])
 left4 c = ahead-step (left3 (c .before .before .before .before)) (c .put-decimal2 .ensures)
 
-slice-aggregate-put-text : tie.Need-slice-aggregate-put-text
-slice-aggregate-put-text c = search needs
-
-put-text-requires : tie.Need-put-text-requires
-put-text-requires c κs = search needs
-
 put-decimal-requires : tie.Need-put-decimal-requires
 put-decimal-requires c κs =
     let w = c .before .before .before in
     let s = w .before .before .before .before in
     ahead-room (decimal (s .args .answer)) (rest2 s) (left1 w) (rw zero-add (s .pre))
-
-slice-aggregate-put-text-2 : tie.Need-slice-aggregate-put-text-2
-slice-aggregate-put-text-2 c = search needs
 
 put-text-requires-2 : tie.Need-put-text-requires-2
 put-text-requires-2 c κs =
@@ -67,9 +58,6 @@ put-byte-requires c κs =
     let g = ahead-room (10 ∷ []) [] (left4 w) (rw zero-add (s .pre)) in
     omega arith
 
-same-length : tie.Need-same-length
-same-length c = search needs
-
 returns : tie.Need-returns
 returns c = ahead-end (ahead-step (left4 (c .before .before .before .before .before .before)) (c .before .before .put-byte .ensures))
 
@@ -77,12 +65,12 @@ pub put-first-spec : {M : Type 1} → statement M
 put-first-spec =
     tie.close
     (tie.spec
-    slice-aggregate-put-text
-    put-text-requires
+    (λ c. search needs)
+    (λ c _. search needs)
     put-decimal-requires
-    slice-aggregate-put-text-2
+    (λ c. search needs)
     put-text-requires-2
     put-decimal-requires-2
     put-byte-requires
-    same-length
+    (λ c. search needs)
     returns)

@@ -51,12 +51,6 @@ add-to c = omega (arith, fits c)
 mul-put-row : tie.Need-mul-put-row Inv-loop μ-loop
 mul-put-row c = omega (arith, fits (c .before))
 
-sub-put-row : tie.Need-sub-put-row Inv-loop μ-loop
-sub-put-row c = omega arith
-
-part-put-row-start : tie.Need-part-put-row-start Inv-loop μ-loop
-part-put-row-start c = omega arith
-
 part-put-row-end : tie.Need-part-put-row-end Inv-loop μ-loop
 part-put-row-end c = omega (arith, fits (c .before))
 
@@ -69,12 +63,6 @@ put-byte-requires c κs =
     let t = w .before .before .before in
     let g = ahead-room (10 ∷ []) (rest t) (left-feed w) (t .before .before .before .before .pre .1) in
     omega arith
-
-add-i : tie.Need-add-i Inv-loop μ-loop
-add-i c = omega arith
-
-loop-less : tie.Need-loop-less Inv-loop μ-loop
-loop-less c = omega arith
 
 loop-again : tie.Need-loop-again Inv-loop μ-loop
 loop-again c =
@@ -100,13 +88,13 @@ put-lines-spec =
     loop-holds
     add-to
     mul-put-row
-    sub-put-row
-    part-put-row-start
+    (λ c. omega arith)
+    (λ c. omega arith)
     part-put-row-end
     put-row-requires
     put-byte-requires
-    add-i
-    loop-less
+    (λ c. omega arith)
+    (λ c. omega arith)
     loop-again
     same-length
     returns)

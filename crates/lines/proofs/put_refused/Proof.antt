@@ -7,11 +7,5 @@ use Rattle.lines.proofs.put_refused.Tie as tie
 put-first-requires : tie.Need-put-first-requires
 put-first-requires c κs = omega (arith, first-room 8 0 (omega arith) (omega arith))
 
-same-length : tie.Need-same-length
-same-length c = search needs
-
-returns : tie.Need-returns
-returns c = search needs
-
 pub put-refused-spec : {M : Type 1} → statement M
-put-refused-spec = tie.close (tie.spec put-first-requires same-length returns)
+put-refused-spec = tie.close (tie.spec put-first-requires (λ c. search needs) (λ c. search needs))

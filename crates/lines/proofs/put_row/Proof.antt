@@ -72,24 +72,12 @@ put-byte-requires c κs =
     let g = ahead-room (32 ∷ []) (item s j ++ tail s (j + 1)) (left t) (t .before .loop .inv .1) in
     omega arith
 
-mul-put-signed : tie.Need-mul-put-signed Inv-loop μ-loop
-mul-put-signed c = search needs
-
-shared-slice-read-put-signed-2 : tie.Need-shared-slice-read-put-signed-2 Inv-loop μ-loop
-shared-slice-read-put-signed-2 c = omega arith
-
 put-signed-requires-2 : tie.Need-put-signed-requires-2 Inv-loop μ-loop
 put-signed-requires-2 c κs =
     let w = c .before .before .before .before in
     let s = w .before .before .before .before .before .before .before .before .before .before .before .before in
     let l = w .before .before .before .loop in
     ahead-room (item s (l .j)) (tail s (l .j + 1)) (left-number w) (l .inv .1)
-
-add-j : tie.Need-add-j Inv-loop μ-loop
-add-j c = omega arith
-
-loop-less : tie.Need-loop-less Inv-loop μ-loop
-loop-less c = omega arith
 
 loop-again : tie.Need-loop-again Inv-loop μ-loop
 loop-again c = (omega arith, c .before .before .before .before .before .before .before .before .before .before .loop .inv .1, ahead-step (left-number (c .before .before .before .before .before .before .before)) (c .before .before .put-signed2 .ensures))
@@ -115,11 +103,11 @@ put-row-spec =
     put-signed-requires
     loop-holds
     put-byte-requires
-    mul-put-signed
-    shared-slice-read-put-signed-2
+    (λ c. search needs)
+    (λ c. omega arith)
     put-signed-requires-2
-    add-j
-    loop-less
+    (λ c. omega arith)
+    (λ c. omega arith)
     loop-again
     same-length
     returns-2)

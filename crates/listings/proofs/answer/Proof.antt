@@ -15,26 +15,14 @@ put-refused-requires c κs = omega (arith, eight-size, c .before .before .before
 put-byte-requires : tie.Need-put-byte-requires
 put-byte-requires c κs = let w = c .before .before .before .put-refused .ensures in omega (arith, eight-size, c .before .before .before .before .before .before .before .before .pre, w .to, w .same)
 
-same-length : tie.Need-same-length
-same-length c = search needs
-
 returns : tie.Need-returns
 returns c =
     let a = c .before .before .before .before .before .before .before .before .before .before .before .args in
     wrote-more (sym (text-long (a .back) (a .text .now) (c .before .before .before .before .before .before .before .before .if1 .taken))) (c .before .before .before .before .before .before .put-refused .ensures) (c .before .before .put-byte .ensures)
 
-slice-aggregate-put-replies : tie.Need-slice-aggregate-put-replies
-slice-aggregate-put-replies c = search needs
-
-slice-aggregate-put-replies-2 : tie.Need-slice-aggregate-put-replies-2
-slice-aggregate-put-replies-2 c = search needs
-
 put-replies-requires : tie.Need-put-replies-requires
 unfolding table listing
 put-replies-requires c κs = ((refl, refl, refl), (c .before .before .before .if1 .left, c .before .before .before .before .before .before .pre))
-
-same-length-2 : tie.Need-same-length-2
-same-length-2 c = search needs
 
 returns-2 : tie.Need-returns-2
 returns-2 c =
@@ -47,10 +35,10 @@ answer-spec =
     (tie.spec
     put-refused-requires
     put-byte-requires
-    same-length
+    (λ c. search needs)
     returns
-    slice-aggregate-put-replies
-    slice-aggregate-put-replies-2
+    (λ c. search needs)
+    (λ c. search needs)
     put-replies-requires
-    same-length-2
+    (λ c. search needs)
     returns-2)

@@ -21,20 +21,11 @@ bad c = line-place (c .before .before .before .before .before .before .before .a
 read-line-requires : tie.Need-read-line-requires
 read-line-requires c κs = (c .before .before .before .before .pre .0 .0, c .before .before .before .before .pre .0 .2)
 
-enum-known-word : tie.Need-enum-known-word
-enum-known-word c = search needs
-
 put-word-requires : tie.Need-put-word-requires
 put-word-requires c κs = omega (arith, c .before .before .before .before .before .before .before .before .before .pre .1 .1, ap (λ (q : Parsed ℕ). length (assembledAs q)) (found (c .before .before)))
 
-same-length : tie.Need-same-length
-same-length c = search needs
-
 returns : tie.Need-returns
 returns c = wrote-as (sym (ap assembledAs (found (c .before .before .before .before .before)))) (c .before .before .put-word .ensures)
-
-enum-known-place : tie.Need-enum-known-place
-enum-known-place c = search needs
 
 add-t14 : tie.Need-add-t14
 add-t14 c = let f = bad (c .before .before) .0 in omega (arith, c .before .before .before .before .before .before .before .before .before .pre .1 .0)
@@ -45,9 +36,6 @@ column c = ap assembledAs (bad c .1) ∙ ap (refusal 17) (sym (add-one (c .place
 put-refused-requires : tie.Need-put-refused-requires
 put-refused-requires c κs = omega (arith, c .before .before .before .before .before .before .before .before .before .pre .1 .1, ap length (column (c .before .before)))
 
-same-length-2 : tie.Need-same-length-2
-same-length-2 c = search needs
-
 returns-2 : tie.Need-returns-2
 returns-2 c = wrote-as (sym (column (c .before .before .before .before .before))) (c .before .before .put-refused .ensures)
 
@@ -56,12 +44,12 @@ assemble-line-spec =
     tie.close
     (tie.spec
     read-line-requires
-    enum-known-word
+    (λ c. search needs)
     put-word-requires
-    same-length
+    (λ c. search needs)
     returns
-    enum-known-place
+    (λ c. search needs)
     add-t14
     put-refused-requires
-    same-length-2
+    (λ c. search needs)
     returns-2)

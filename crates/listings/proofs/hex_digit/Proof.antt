@@ -10,26 +10,11 @@ use Rattle.listings.proofs.hex_digit.Tie as tie
 value : (c : tie.After-power) → c .before .args .word / c .power .result % 16 ≡ c .before .args .word / 16 ^ c .before .args .n % 16
 value c = ap (λ (z : ℕ). c .before .args .word / z % 16) (c .power .ensures)
 
-power-requires : tie.Need-power-requires
-power-requires c κs = search needs
-
 div-d : tie.Need-div-d
 div-d c = let p = one-le-pow (c .before .args .n) 16 (omega arith) in omega (arith, c .power .ensures)
 
-cast-result : tie.Need-cast-result
-cast-result c = search needs
-
-add-result : tie.Need-add-result
-add-result c = search needs
-
 returns : tie.Need-returns
 returns c = ten-digit (c .before .before .args .word / 16 ^ c .before .before .args .n % 16) (c .before .before .args .word / c .before .power .result % 16) (value (c .before)) (c .if1 .taken)
-
-cast-result-2 : tie.Need-cast-result-2
-cast-result-2 c = search needs
-
-add-result-2 : tie.Need-add-result-2
-add-result-2 c = search needs
 
 returns-2 : tie.Need-returns-2
 returns-2 c = letter-digit (c .before .before .args .word / 16 ^ c .before .before .args .n % 16) (c .before .before .args .word / c .before .power .result % 16) (value (c .before)) (c .if1 .left)
@@ -38,11 +23,11 @@ pub hex-digit-spec : {M : Type 1} → statement M
 hex-digit-spec =
     tie.close
     (tie.spec
-    power-requires
+    (λ c _. search needs)
     div-d
-    cast-result
-    add-result
+    (λ c. search needs)
+    (λ c. search needs)
     returns
-    cast-result-2
-    add-result-2
+    (λ c. search needs)
+    (λ c. search needs)
     returns-2)

@@ -5,15 +5,6 @@ use Rattle.listings.proofs.ListLaws.{hex-low, hex-ten, hex-middle, hex-
 use Rattle.listings.proofs.hex_value.Statement.{statement}
 use Rattle.listings.proofs.hex_value.Tie as tie
 
-cast-result : tie.Need-cast-result
-cast-result c = search needs
-
-sub-result : tie.Need-sub-result
-sub-result c = search needs
-
-cast-result-2 : tie.Need-cast-result-2
-cast-result-2 c = search needs
-
 returns : tie.Need-returns
 returns c = hex-ten (c .before .before .args .b) (omega arith) (omega arith)
 
@@ -33,9 +24,9 @@ pub hex-value-spec : {M : Type 1} → statement M
 hex-value-spec =
     tie.close
     (tie.spec
-    cast-result
-    sub-result
-    cast-result-2
+    (λ c. search needs)
+    (λ c. search needs)
+    (λ c. search needs)
     returns
     returns-2
     returns-3

@@ -18,12 +18,6 @@ found c = word-bound (c .before .before .before .before .before .before .before 
 bad : (c : tie.After-place) → (c .place .given .0 .0 ≤ length (c .before .before .before .before .before .before .before .args .line .now)) × (readWord (c .before .before .before .before .before .before .before .args .line .now) ≡ Parsed.stopped (c .place .given .0 .0))
 bad c = word-place (c .before .before .before .before .before .before .before .args .line .now) (c .place .given .0 .0) (sym (c .place .given .1) ∙ c .before .before .read-word .ensures)
 
-read-word-requires : tie.Need-read-word-requires
-read-word-requires c κs = search needs
-
-enum-known-word : tie.Need-enum-known-word
-enum-known-word c = search needs
-
 cast-put-listed : tie.Need-cast-put-listed
 cast-put-listed c = let f = found (c .before .before) .0 in omega arith
 
@@ -32,14 +26,8 @@ put-listed-requires c κs =
     let w = c .before .before in
     (c .before .before .before .before .before .before .before .before .before .pre .0, omega (arith, c .before .before .before .before .before .before .before .before .before .pre .1 .1, ap (λ (q : Parsed ℕ). length (listedAs q)) (found w .1)))
 
-same-length : tie.Need-same-length
-same-length c = search needs
-
 returns : tie.Need-returns
 returns c = wrote-as (sym (ap listedAs (found (c .before .before .before .before .before) .1))) (c .before .before .put-listed .ensures)
-
-enum-known-place : tie.Need-enum-known-place
-enum-known-place c = search needs
 
 add-t15 : tie.Need-add-t15
 add-t15 c = let f = bad (c .before .before) .0 in omega (arith, c .before .before .before .before .before .before .before .before .before .pre .1 .0)
@@ -50,9 +38,6 @@ column c = ap listedAs (bad c .1) ∙ ap (refusal 17) (sym (add-one (c .place .g
 put-refused-requires : tie.Need-put-refused-requires
 put-refused-requires c κs = omega (arith, c .before .before .before .before .before .before .before .before .before .pre .1 .1, ap length (column (c .before .before)))
 
-same-length-2 : tie.Need-same-length-2
-same-length-2 c = search needs
-
 returns-2 : tie.Need-returns-2
 returns-2 c = wrote-as (sym (column (c .before .before .before .before .before))) (c .before .before .put-refused .ensures)
 
@@ -60,14 +45,14 @@ pub list-line-spec : {M : Type 1} → statement M
 list-line-spec =
     tie.close
     (tie.spec
-    read-word-requires
-    enum-known-word
+    (λ c _. search needs)
+    (λ c. search needs)
     cast-put-listed
     put-listed-requires
-    same-length
+    (λ c. search needs)
     returns
-    enum-known-place
+    (λ c. search needs)
     add-t15
     put-refused-requires
-    same-length-2
+    (λ c. search needs)
     returns-2)

@@ -23,14 +23,8 @@ has c = listed-line (c .before .before .before .before .before .before .before .
 lacks : (c : tie.Else1) → listed (c .before .before .before .before .before .before .before .args .word) (line (c .before .before .before .before .before .before .before .args .word)) ≡ refused (c .before .before .code-answer .result)
 lacks c = listed-none (c .before .before .before .before .before .before .before .args .word) (c .before .before .code-answer .result) (answer (c .before .before)) (λ e. c .if1 .left (c .before .answer-number .ensures ∙ e))
 
-number-of-requires : tie.Need-number-of-requires
-number-of-requires c κs = search needs
-
 code-answer-requires : tie.Need-code-answer-requires
 code-answer-requires c κs = c .number-of .ensures
-
-answer-number-requires : tie.Need-answer-number-requires
-answer-number-requires c κs = search needs
 
 put-line-requires : tie.Need-put-line-requires
 put-line-requires c κs =
@@ -38,17 +32,11 @@ put-line-requires c κs =
     let p = c .before .before .before .before .before .before .before .before .pre in
     ((p .0 .0, p .0 .1, p .0 .2, c .before .before .before .before .number-of .ensures, h .0), omega (arith, p .1, ap length (h .1)))
 
-same-length : tie.Need-same-length
-same-length c = search needs
-
 returns : tie.Need-returns
 returns c = wrote-as (sym (has (c .before .before .before .before) .1)) (c .before .before .put-line .ensures)
 
 put-refused-requires : tie.Need-put-refused-requires
 put-refused-requires c κs = omega (arith, c .before .before .before .before .before .before .before .before .pre .1, ap length (lacks (c .before)))
-
-same-length-2 : tie.Need-same-length-2
-same-length-2 c = search needs
 
 returns-2 : tie.Need-returns-2
 returns-2 c = wrote-as (sym (lacks (c .before .before .before .before))) (c .before .before .put-refused .ensures)
@@ -57,12 +45,12 @@ pub put-listed-spec : {M : Type 1} → statement M
 put-listed-spec =
     tie.close
     (tie.spec
-    number-of-requires
+    (λ c _. search needs)
     code-answer-requires
-    answer-number-requires
+    (λ c _. search needs)
     put-line-requires
-    same-length
+    (λ c. search needs)
     returns
     put-refused-requires
-    same-length-2
+    (λ c. search needs)
     returns-2)

@@ -61,9 +61,6 @@ short w =
 loop-holds : tie.Need-loop-holds Inv-loop μ-loop
 loop-holds c = (omega (arith, c .before .before .before .before .pre .1 .0), ahead-start)
 
-line-end-requires : tie.Need-line-end-requires Inv-loop μ-loop
-line-end-requires c κs = omega arith
-
 sub-put-reply : tie.Need-sub-put-reply Inv-loop μ-loop
 sub-put-reply c = let b = in-text (c .before) in omega arith
 
@@ -117,7 +114,7 @@ put-replies-spec =
     Inv-loop
     μ-loop
     loop-holds
-    line-end-requires
+    (λ c _. omega arith)
     sub-put-reply
     part-put-reply-start
     part-put-reply-end

@@ -20,17 +20,11 @@ back c = ap (λ (b : Bool). replyTo b (c .before .before .before .before .before
 assemble-line-requires : tie.Need-assemble-line-requires
 assemble-line-requires c κs = let p = c .before .before .before .before .before .before .pre in (p .0, (p .1 .0, omega (arith, p .1 .1, ap length (forth (c .before)))))
 
-same-length : tie.Need-same-length
-same-length c = search needs
-
 returns : tie.Need-returns
 returns c = wrote-as (sym (forth (c .before .before .before .before))) (c .before .before .assemble-line .ensures)
 
 list-line-requires : tie.Need-list-line-requires
 list-line-requires c κs = let p = c .before .before .before .before .before .before .pre in (p .0, (p .1 .0, omega (arith, p .1 .1, ap length (back (c .before)))))
-
-same-length-2 : tie.Need-same-length-2
-same-length-2 c = search needs
 
 returns-2 : tie.Need-returns-2
 returns-2 c = wrote-as (sym (back (c .before .before .before .before))) (c .before .before .list-line .ensures)
@@ -40,8 +34,8 @@ put-reply-spec =
     tie.close
     (tie.spec
     assemble-line-requires
-    same-length
+    (λ c. search needs)
     returns
     list-line-requires
-    same-length-2
+    (λ c. search needs)
     returns-2)

@@ -17,12 +17,6 @@ abbrev μ-loop : tie.MeasureT-loop
 loop-holds : tie.Need-loop-holds Inv-loop μ-loop
 loop-holds c = (omega arith, ahead-start)
 
-sub-n : tie.Need-sub-n Inv-loop μ-loop
-sub-n c = omega arith
-
-hex-digit-requires : tie.Need-hex-digit-requires Inv-loop μ-loop
-hex-digit-requires c κs = omega arith
-
 left : (c : tie.After-hex-digit Inv-loop μ-loop) → Ahead (c .before .before .before .before .before .args .out .now) (c .before .before .before .before .before .args .at) (c .before .before .before .loop .out) (c .before .before .before .loop .next)
     ((c .hex-digit .result ∷ []) ++ hexDigits (c .before .before .before .loop .n - 1) (c .before .before .before .before .before .args .word)) (hexDigits 8 (c .before .before .before .before .before .args .word))
 left c =
@@ -37,9 +31,6 @@ put-byte-requires c κs =
     let a = c .before .before .before .before .before .args in
     let g = ahead-room (c .hex-digit .result ∷ []) (hexDigits (l .n - 1) (a .word)) (left c) (c .before .before .before .before .before .pre) in
     omega arith
-
-loop-less : tie.Need-loop-less Inv-loop μ-loop
-loop-less c = omega arith
 
 loop-again : tie.Need-loop-again Inv-loop μ-loop
 loop-again c = (omega arith, ahead-step (left (c .before .before .before)) (c .before .before .put-byte .ensures))
@@ -62,10 +53,10 @@ put-word-spec =
     Inv-loop
     μ-loop
     loop-holds
-    sub-n
-    hex-digit-requires
+    (λ c. omega arith)
+    (λ c _. omega arith)
     put-byte-requires
-    loop-less
+    (λ c. omega arith)
     loop-again
     same-length
     returns)

@@ -25,12 +25,6 @@ returns c =
     let l = c .before .before .loop in
     word-none (c .before .before .before .before .args .line .now) (l .i) (l .word) (omega arith) (c .if1 .taken) ∙ sym (ap asLine (l .inv .2))
 
-shared-slice-read-hex-value : tie.Need-shared-slice-read-hex-value Inv-loop μ-loop
-shared-slice-read-hex-value c = omega arith
-
-hex-value-requires : tie.Need-hex-value-requires Inv-loop μ-loop
-hex-value-requires c κs = search needs
-
 returns-2 : tie.Need-returns-2 Inv-loop μ-loop
 returns-2 c =
     let l = c .before .before .before .before .before .loop in
@@ -41,12 +35,6 @@ mul-word c = let l = c .before .before .before .before .before .loop in let p = 
 
 add-word : tie.Need-add-word Inv-loop μ-loop
 add-word c = let l = c .before .before .before .before .before .loop in let p = power-bound (l .i) (omega arith) in omega (arith, l .inv .1, c .if2 .left)
-
-add-i : tie.Need-add-i Inv-loop μ-loop
-add-i c = omega arith
-
-loop-less : tie.Need-loop-less Inv-loop μ-loop
-loop-less c = omega arith
 
 loop-again : tie.Need-loop-again Inv-loop μ-loop
 loop-again c =
@@ -76,13 +64,13 @@ read-word-spec =
     μ-loop
     loop-holds
     returns
-    shared-slice-read-hex-value
-    hex-value-requires
+    (λ c. omega arith)
+    (λ c _. search needs)
     returns-2
     mul-word
     add-word
-    add-i
-    loop-less
+    (λ c. omega arith)
+    (λ c. omega arith)
     loop-again
     returns-3
     returns-4)

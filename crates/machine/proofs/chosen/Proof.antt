@@ -6,20 +6,11 @@ use Rattle.machine.proofs.SizeLaws.{chosen-by}
 use Rattle.machine.proofs.chosen.Statement.{statement}
 use Rattle.machine.proofs.chosen.Tie as tie
 
-is-halved-requires : tie.Need-is-halved-requires
-is-halved-requires c κs = search needs
-
-add-result : tie.Need-add-result
-add-result c = search needs
-
 returns : tie.Need-returns
 returns c =
     let t = c .before in
     let a = t .before .args in
     omega (arith, chosen-by (a .rule) (a .most) (a .asked) true (sym (c .if1 .taken) ∙ t .is-halved .ensures))
-
-smaller-requires : tie.Need-smaller-requires
-smaller-requires c κs = search needs
 
 returns-2 : tie.Need-returns-2
 returns-2 c =
@@ -28,4 +19,4 @@ returns-2 c =
     c .smaller .ensures ∙ chosen-by (a .rule) (a .most) (a .asked) false (sym (c .before .if1 .left) ∙ t .is-halved .ensures)
 
 pub chosen-spec : {M : Type 1} → statement M
-chosen-spec = tie.close (tie.spec is-halved-requires add-result returns smaller-requires returns-2)
+chosen-spec = tie.close (tie.spec (λ c _. search needs) (λ c. search needs) returns (λ c _. search needs) returns-2)

@@ -19,15 +19,6 @@ abbrev μ-loop : tie.MeasureT-loop
 loop-holds : tie.Need-loop-holds Inv-loop μ-loop
 loop-holds c = (refl, omega arith, λ q l. absurd (not-suc-le-zero l))
 
-slice-write-marks : tie.Need-slice-write-marks Inv-loop μ-loop
-slice-write-marks c = search needs
-
-add-i : tie.Need-add-i Inv-loop μ-loop
-add-i c = search needs
-
-loop-less : tie.Need-loop-less Inv-loop μ-loop
-loop-less c = search needs
-
 zero-to : (ms : List ℕ) (i q : ℕ) → i < length ms → ((q : ℕ) → q < i → getD ms q 0 ≡ 0) → q ≤ i → getD (set ms i 0) q 0 ≡ 0
 zero-to ms i q l h g = elim (eq-or-lt-of-le g) [
   | inl e ↦ subst (λ (j : ℕ). getD (set ms i 0) j 0 ≡ 0) (sym e) (getD-set-same ms i 0 0 l)
@@ -38,9 +29,6 @@ loop-again : tie.Need-loop-again Inv-loop μ-loop
 loop-again c =
     let l = c .before .loop in
     (length-set (l .marks) (l .i) 0 ∙ l .inv .0, omega arith, λ q g. zero-to (l .marks) (l .i) q (omega arith) (l .inv .2) (omega arith))
-
-same-length : tie.Need-same-length Inv-loop μ-loop
-same-length c = search needs
 
 all-zero : (ms : List ℕ) (n : ℕ) → length ms ≡ n → ((q : ℕ) → q < n → getD ms q 0 ≡ 0) → ms ≡ replicate n 0
 all-zero [] zero e h = refl
@@ -54,4 +42,4 @@ returns c =
     all-zero (l .marks) (length (c .before .before .args .marks .now)) (l .inv .0) (λ q g. l .inv .2 q (omega arith))
 
 pub clear-spec : {M : Type 1} → statement M
-clear-spec = tie.close (tie.spec Inv-loop μ-loop loop-holds slice-write-marks add-i loop-less loop-again same-length returns)
+clear-spec = tie.close (tie.spec Inv-loop μ-loop loop-holds (λ c. search needs) (λ c. search needs) (λ c. search needs) loop-again (λ c. search needs) returns)

@@ -4,11 +4,8 @@ use Rattle.machine.specs.Answers.{done}
 use Rattle.machine.proofs.is_done.Statement.{statement}
 use Rattle.machine.proofs.is_done.Tie as tie
 
-reply-of-requires : tie.Need-reply-of-requires
-reply-of-requires c κs = search needs
-
 returns : tie.Need-returns
 returns c = ap done (c .before .reply-of .ensures)
 
 pub is-done-spec : {M : Type 1} → statement M
-is-done-spec = tie.close (tie.spec reply-of-requires returns)
+is-done-spec = tie.close (tie.spec (λ c _. search needs) returns)

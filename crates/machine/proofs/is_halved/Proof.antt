@@ -12,9 +12,6 @@ returns c = let a = c .before .args in rw (ne-eqb (a .rule) 1 (c .if1 .taken))
 returns-2 : tie.Need-returns-2
 returns-2 c = let a = c .before .before .args in rw (eq-eqb (a .rule) 1 (c .before .if1 .left), le-ltb (a .most) (a .asked) (omega (arith, c .if2 .taken)))
 
-sub-result : tie.Need-sub-result
-sub-result c = search needs
-
 returns-3 : tie.Need-returns-3
 returns-3 c =
     let a = c .before .before .args in
@@ -22,4 +19,4 @@ returns-3 c =
     rw (eq-eqb (a .rule) 1 (c .before .if1 .left), lt-ltb (a .most) (a .asked) above) (below-twice (a .most) (a .asked) above)
 
 pub is-halved-spec : {M : Type 1} → statement M
-is-halved-spec = tie.close (tie.spec returns returns-2 sub-result returns-3)
+is-halved-spec = tie.close (tie.spec returns returns-2 (λ c. search needs) returns-3)

@@ -12,9 +12,6 @@ use Rattle.machine.proofs.StepLaws.{permitted-bounds}
 use Rattle.machine.proofs.is_startable.Statement.{statement}
 use Rattle.machine.proofs.is_startable.Tie as tie
 
-permitted-lengths-requires : tie.Need-permitted-lengths-requires
-permitted-lengths-requires c κs = search needs
-
 returns : tie.Need-returns
 returns c =
     let a = c .before .before .before .before .before .args in
@@ -34,18 +31,12 @@ returns-2 c =
     startable-by (a .rlen) (a .mlen) (a .elen) (a .rule) (a .seals .now) (a .registers .now) (a .marks .now) true false _ _ _ _
     (lengths-ok (c .before)) (ne-eqb (length (a .registers .now)) (2 * a .mlen) (c .if2 .taken)) refl refl refl refl
 
-mul-if3 : tie.Need-mul-if3
-mul-if3 c = search needs
-
 returns-3 : tie.Need-returns-3
 returns-3 c =
     let a = c .before .before .before .before .before .before .before .args in
     startable-by (a .rlen) (a .mlen) (a .elen) (a .rule) (a .seals .now) (a .registers .now) (a .marks .now) true true false _ _ _
     (lengths-ok (c .before .before)) (eq-eqb (length (a .registers .now)) (2 * a .mlen) (c .before .if2 .left))
     (ne-eqb (length (a .marks .now)) (2 * a .mlen) (c .if3 .taken)) refl refl refl
-
-is-rule-requires : tie.Need-is-rule-requires
-is-rule-requires c κs = search needs
 
 returns-4 : tie.Need-returns-4
 returns-4 c =
@@ -65,9 +56,6 @@ returns-5 c =
     (eq-eqb (length (a .marks .now)) (2 * a .mlen) (e .if3 .left)) (sym (d .before .is-rule .ensures) ∙ not-false (d .before .is-rule .result) (d .if4 .left))
     (ne-eqb (length (a .seals .now) % 2) 0 (c .if5 .taken)) refl
 
-seals-end-requires : tie.Need-seals-end-requires
-seals-end-requires c κs = search needs
-
 returns-6 : tie.Need-returns-6
 returns-6 c =
     let b = c .before in
@@ -82,4 +70,4 @@ returns-6 c =
 
 pub is-startable-spec : {M : Type 1} → statement M
 is-startable-spec =
-    tie.close (tie.spec permitted-lengths-requires returns mul-if2 returns-2 mul-if3 returns-3 is-rule-requires returns-4 returns-5 seals-end-requires returns-6)
+    tie.close (tie.spec (λ c _. search needs) returns mul-if2 returns-2 (λ c. search needs) returns-3 (λ c _. search needs) returns-4 returns-5 (λ c _. search needs) returns-6)

@@ -10,16 +10,10 @@ use Rattle.machine.specs.Tests.{isIn}
 use Rattle.machine.proofs.permitted_lengths.Statement.{statement}
 use Rattle.machine.proofs.permitted_lengths.Tie as tie
 
-is-rlen-requires : tie.Need-is-rlen-requires
-is-rlen-requires c κs = search needs
-
 returns : tie.Need-returns
 returns c =
     let a = c .before .before .args in
     permitted-by (a .rlen) (a .mlen) (a .elen) false _ _ _ (sym (c .before .is-rlen .ensures) ∙ not-true (c .before .is-rlen .result) (c .if1 .taken)) refl refl refl
-
-is-mlen-requires : tie.Need-is-mlen-requires
-is-mlen-requires c κs = search needs
 
 -- the first test has passed
 is-r : (c : tie.Else1) → isIn (c .before .before .args .rlen) rlens ≡ true
@@ -44,9 +38,6 @@ returns-3 c =
 below : (c : tie.Else3) → let a = c .before .before .before .before .before .args in a .rlen < a .mlen
 below c = omega arith
 
-is-elen-requires : tie.Need-is-elen-requires
-is-elen-requires c κs = search needs
-
 returns-4 : tie.Need-returns-4
 returns-4 c =
     let e = c .before .before in
@@ -64,4 +55,4 @@ returns-5 c =
     (sym (c .before .is-elen .ensures) ∙ not-false (c .before .is-elen .result) (c .if4 .left))
 
 pub permitted-lengths-spec : {M : Type 1} → statement M
-permitted-lengths-spec = tie.close (tie.spec is-rlen-requires returns is-mlen-requires returns-2 returns-3 is-elen-requires returns-4 returns-5)
+permitted-lengths-spec = tie.close (tie.spec (λ c _. search needs) returns (λ c _. search needs) returns-2 returns-3 (λ c _. search needs) returns-4 returns-5)

@@ -3,11 +3,8 @@ use Rattle.machine.proofs.StartLaws.{seal-fits}
 use Rattle.machine.proofs.seal_ends.Statement.{statement}
 use Rattle.machine.proofs.seal_ends.Tie as tie
 
-sub-result : tie.Need-sub-result
-sub-result c = search needs
-
 returns : tie.Need-returns
 returns c = let a = c .args in seal-fits (a .start) (a .length) (search needs)
 
 pub seal-ends-spec : {M : Type 1} → statement M
-seal-ends-spec = tie.close (tie.spec sub-result returns)
+seal-ends-spec = tie.close (tie.spec (λ c. search needs) returns)

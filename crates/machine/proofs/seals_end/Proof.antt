@@ -25,27 +25,6 @@ abbrev μ-loop : tie.MeasureT-loop
 loop-holds : tie.Need-loop-holds Inv-loop μ-loop
 loop-holds c = (omega arith, refl)
 
-sub-loop : tie.Need-sub-loop Inv-loop μ-loop
-sub-loop c = search needs
-
-mul-seal-ends : tie.Need-mul-seal-ends Inv-loop μ-loop
-mul-seal-ends c = search needs
-
-shared-slice-read-seal-ends : tie.Need-shared-slice-read-seal-ends Inv-loop μ-loop
-shared-slice-read-seal-ends c = search needs
-
-add-seal-ends : tie.Need-add-seal-ends Inv-loop μ-loop
-add-seal-ends c = search needs
-
-mul-seal-ends-2 : tie.Need-mul-seal-ends-2 Inv-loop μ-loop
-mul-seal-ends-2 c = search needs
-
-shared-slice-read-seal-ends-2 : tie.Need-shared-slice-read-seal-ends-2 Inv-loop μ-loop
-shared-slice-read-seal-ends-2 c = search needs
-
-seal-ends-requires : tie.Need-seal-ends-requires Inv-loop μ-loop
-seal-ends-requires c κs = search needs
-
 returns : tie.Need-returns Inv-loop μ-loop
 returns c =
     let t = c .before .before .before .before in
@@ -54,12 +33,6 @@ returns c =
     let r = c .before .seal-ends in
     ap (λ (b : Bool). b && rest s (l .i + 2)) (sym (not-true (r .result) (c .if1 .taken)) ∙ r .ensures)
     ∙ sym (ap sealsEnd (ranges-from s (l .i) (omega (arith, t .loop-test .taken)))) ∙ l .inv .1
-
-add-i : tie.Need-add-i Inv-loop μ-loop
-add-i c = search needs
-
-loop-less : tie.Need-loop-less Inv-loop μ-loop
-loop-less c = search needs
 
 loop-again : tie.Need-loop-again Inv-loop μ-loop
 loop-again c =
@@ -85,15 +58,15 @@ seals-end-spec =
     Inv-loop
     μ-loop
     loop-holds
-    sub-loop
-    mul-seal-ends
-    shared-slice-read-seal-ends
-    add-seal-ends
-    mul-seal-ends-2
-    shared-slice-read-seal-ends-2
-    seal-ends-requires
+    (λ c. search needs)
+    (λ c. search needs)
+    (λ c. search needs)
+    (λ c. search needs)
+    (λ c. search needs)
+    (λ c. search needs)
+    (λ c _. search needs)
     returns
-    add-i
-    loop-less
+    (λ c. search needs)
+    (λ c. search needs)
     loop-again
     returns-2)

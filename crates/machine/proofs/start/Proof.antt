@@ -12,15 +12,6 @@ use Rattle.machine.proofs.StartLaws.{started-as, started-bad, few-range
 use Rattle.machine.proofs.start.Statement.{statement}
 use Rattle.machine.proofs.start.Tie as tie
 
-is-startable-requires : tie.Need-is-startable-requires
-is-startable-requires c κs = search needs
-
-no-machine-requires : tie.Need-no-machine-requires
-no-machine-requires c κs = search needs
-
-same-length : tie.Need-same-length
-same-length c = search needs
-
 returns : tie.Need-returns
 returns c =
     let s = c .before .before in
@@ -28,12 +19,6 @@ returns c =
     ap (λ (m : Machine). startedAs (record { answer = BadArguments; machine = m }) (a .seals .now) (a .registers .now) (a .marks .now)) (c .no-machine .ensures)
     ∙ started-bad (a .rlen) (a .mlen) (a .elen) (a .rule) (a .seals .now) (a .registers .now) (a .marks .now)
     (sym (s .is-startable .ensures) ∙ not-true (s .is-startable .result) (c .before .if1 .taken))
-
-no-machine-requires-2 : tie.Need-no-machine-requires-2
-no-machine-requires-2 c κs = search needs
-
-same-length-2 : tie.Need-same-length-2
-same-length-2 c = search needs
 
 returns-2 : tie.Need-returns-2
 returns-2 c =
@@ -43,15 +28,6 @@ returns-2 c =
     ap (λ (m : Machine). startedAs (record { answer = TooManySeals; machine = m }) (a .seals .now) (a .registers .now) (a .marks .now)) (c .no-machine2 .ensures)
     ∙ started-as (a .rlen) (a .mlen) (a .elen) (a .rule) (a .seals .now) (a .registers .now) (a .marks .now) true false e
     (many-ranges (a .seals .now) (startable-paired (a .rlen) (a .mlen) (a .elen) (a .rule) (a .seals .now) (a .registers .now) (a .marks .now) e) (omega (arith, c .before .if2 .taken)))
-
-clear-requires : tie.Need-clear-requires
-clear-requires c κs = search needs
-
-fresh-machine-requires : tie.Need-fresh-machine-requires
-fresh-machine-requires c κs = search needs
-
-same-length-3 : tie.Need-same-length-3
-same-length-3 c = search needs
 
 returns-3 : tie.Need-returns-3
 returns-3 c =
@@ -67,14 +43,14 @@ pub start-spec : {M : Type 1} → statement M
 start-spec =
     tie.close
     (tie.spec
-    is-startable-requires
-    no-machine-requires
-    same-length
+    (λ c _. search needs)
+    (λ c _. search needs)
+    (λ c. search needs)
     returns
-    no-machine-requires-2
-    same-length-2
+    (λ c _. search needs)
+    (λ c. search needs)
     returns-2
-    clear-requires
-    fresh-machine-requires
-    same-length-3
+    (λ c _. search needs)
+    (λ c _. search needs)
+    (λ c. search needs)
     returns-3)

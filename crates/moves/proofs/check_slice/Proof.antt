@@ -16,9 +16,6 @@ use Rattle.settings.proofs.TypeLaws.{ready-legal}
 use Rattle.moves.proofs.check_slice.Statement.{statement}
 use Rattle.moves.proofs.check_slice.Tie as tie
 
-is-mill-requires : tie.Need-is-mill-requires
-is-mill-requires c κs = search needs
-
 returns : tie.Need-returns
 returns c = rw (sym (c .before .is-mill .ensures) ∙ c .if1 .taken)
 
@@ -44,12 +41,6 @@ returns-3 c = rw (typed (c .before .before .before .before), rows-fit (c .before
 columns-fit : (c : tie.Else3) → let m = c .before .before .before .before .before .before .args .m in fitting (ours m) (stateOf m [] []) DimensionN .holds ≡ true
 columns-fit c = sym (c .before .fits3 .ensures) ∙ not-false (c .before .fits3 .result) (c .if3 .left)
 
-lines-of-requires : tie.Need-lines-of-requires
-lines-of-requires c κs = search needs
-
-lies-in-requires : tie.Need-lies-in-requires
-lies-in-requires c κs = search needs
-
 -- whether the slice lies in the tile
 slice-told : (c : tie.After-lies-in) → let a = c .before .before .before .before .before .before .before .before .args in
     c .lies-in .result ≡ leb (a .first + a .count) (linesOf (a .form) (stateOf (a .m) [] []))
@@ -66,16 +57,10 @@ slice-fits : (c : tie.Else4) → let a = c .before .before .before .before .befo
     leb (a .first + a .count) (linesOf (a .form) (stateOf (a .m) [] [])) ≡ true
 slice-fits c = sym (slice-told (c .before)) ∙ not-false (c .before .lies-in .result) (c .if4 .left)
 
-line-of-requires : tie.Need-line-of-requires
-line-of-requires c κs = search needs
-
 sew-bytes-requires : tie.Need-sew-bytes-requires
 sew-bytes-requires c κs =
     let s = c .before .before .before .before .before .before .before .before .before .before in
     ready-legal (s .args .m) (s .pre) (typed (c .before .before .before .before .before .before .before .before))
-
-fits-register-requires : tie.Need-fits-register-requires
-fits-register-requires c κs = search needs
 
 -- whether a row or column fits into a register
 line-told : (c : tie.After-fits-register) → let a = c .before .before .before .before .before .before .before .before .before .before .before .before .args in
@@ -98,17 +83,17 @@ pub check-slice-spec : {M : Type 1} → statement M
 check-slice-spec =
     tie.close
     (tie.spec
-    is-mill-requires
+    (λ c _. search needs)
     returns
     fits-requires
     returns-2
     fits-requires-2
     returns-3
-    lines-of-requires
-    lies-in-requires
+    (λ c _. search needs)
+    (λ c _. search needs)
     returns-4
-    line-of-requires
+    (λ c _. search needs)
     sew-bytes-requires
-    fits-register-requires
+    (λ c _. search needs)
     returns-5
     returns-6)

@@ -57,12 +57,6 @@ part-write-row-start c = let h = here c in omega (arith, h .0, c .before .loop .
 part-write-row-end : tie.Need-part-write-row-end Inv-loop μ-loop
 part-write-row-end c = let h = here c in omega (arith, h .0, c .before .loop .inv .1)
 
-sub-write-row-2 : tie.Need-sub-write-row-2 Inv-loop μ-loop
-sub-write-row-2 c = omega arith
-
-part-write-row-start-2 : tie.Need-part-write-row-start-2 Inv-loop μ-loop
-part-write-row-start-2 c = search needs
-
 part-write-row-end-2 : tie.Need-part-write-row-end-2 Inv-loop μ-loop
 part-write-row-end-2 c = let h = here (c .before) in omega (arith, h .1)
 
@@ -95,9 +89,6 @@ loop-again c =
       next,
     )
 
-same-length : tie.Need-same-length Inv-loop μ-loop
-same-length c = search needs
-
 returns : tie.Need-returns Inv-loop μ-loop
 returns c =
     let l = c .before .loop in
@@ -121,12 +112,12 @@ copy-rows-spec =
     sub-write-row
     part-write-row-start
     part-write-row-end
-    sub-write-row-2
-    part-write-row-start-2
+    (λ c. omega arith)
+    (λ c. search needs)
     part-write-row-end-2
     write-row-requires
     add-i
     loop-less
     loop-again
-    same-length
+    (λ c. search needs)
     returns)

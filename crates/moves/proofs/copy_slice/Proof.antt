@@ -15,30 +15,18 @@ rows-in s f e =
     let a = s .args in
     subst (λ (f : Form). RowsIn (a .from) (a .apart) (memoryRows f (a .rows) (a .cols)) (memoryCols f (a .rows) (a .cols) * a .w) (length (a .src .now))) e (s .pre .1 .0)
 
-enum-told : tie.Need-enum-told
-enum-told c = search needs
-
 copy-rows-requires : tie.Need-copy-rows-requires
 copy-rows-requires c κs =
     let s = c .before .before .before .before .before in
     (s .pre .0, (rows-in s _ (c .before .enum-told .given .1), s .pre .1 .1 .0))
-
-enum-told-2 : tie.Need-enum-told-2
-enum-told-2 c = search needs
 
 copy-columns-requires : tie.Need-copy-columns-requires
 copy-columns-requires c κs =
     let s = c .before .before .before .before .before in
     (s .pre .0, (rows-in s _ (c .before .enum-told2 .given .1), s .pre .1 .1 .1))
 
-same-length : tie.Need-same-length
-same-length c = search needs
-
 returns : tie.Need-returns
 returns c = rw (c .before .before .before .before .enum-told .given .1) (c .before .before .copy-rows .ensures)
-
-same-length-2 : tie.Need-same-length-2
-same-length-2 c = search needs
 
 returns-2 : tie.Need-returns-2
 returns-2 c = rw (c .before .before .before .before .enum-told2 .given .1) (c .before .before .copy-columns .ensures)
@@ -47,11 +35,11 @@ pub copy-slice-spec : {M : Type 1} → statement M
 copy-slice-spec =
     tie.close
     (tie.spec
-    enum-told
+    (λ c. search needs)
     copy-rows-requires
-    enum-told-2
+    (λ c. search needs)
     copy-columns-requires
-    same-length
+    (λ c. search needs)
     returns
-    same-length-2
+    (λ c. search needs)
     returns-2)

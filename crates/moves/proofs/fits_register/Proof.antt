@@ -21,8 +21,5 @@ mul-result c =
     let l : a .line ≤ 16 = omega arith in
     omega (arith, mul-le-mul l (s .pre .1))
 
-returns-2 : tie.Need-returns-2
-returns-2 c = search needs
-
 pub fits-register-spec : {M : Type 1} → statement M
-fits-register-spec = tie.close (tie.spec returns mul-result returns-2)
+fits-register-spec = tie.close (tie.spec returns mul-result (λ c. search needs))

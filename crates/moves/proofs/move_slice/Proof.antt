@@ -29,15 +29,6 @@ slice-in-requires c κs =
     let g = group-fits (lent s) (s .pre .1 .0) (a .v) (eq-eqb (a .v % a .group) 0 (d .if1 .left)) (s .pre .1 .1 .1) in
     (s .pre .0, (file-length (lent s) (s .pre .1 .0), (s .pre .1 .1 .0, g)))
 
-same-length : tie.Need-same-length
-same-length c = search needs
-
-same-length-2 : tie.Need-same-length-2
-same-length-2 c = search needs
-
-same-length-3 : tie.Need-same-length-3
-same-length-3 c = search needs
-
 returns-2 : tie.Need-returns-2
 returns-2 c =
     let k = c .before .before .before .before in
@@ -55,15 +46,6 @@ slice-out-requires c κs =
     let g = group-fits (lent s) (s .pre .1 .0) (a .v) (eq-eqb (a .v % a .group) 0 (d .if1 .left)) (s .pre .1 .1 .1) in
     (s .pre .0, (file-length (lent s) (s .pre .1 .0), (s .pre .1 .1 .0, g)))
 
-same-length-4 : tie.Need-same-length-4
-same-length-4 c = search needs
-
-same-length-5 : tie.Need-same-length-5
-same-length-5 c = search needs
-
-same-length-6 : tie.Need-same-length-6
-same-length-6 c = search needs
-
 returns-3 : tie.Need-returns-3
 returns-3 c =
     let k = c .before .before in
@@ -80,12 +62,12 @@ move-slice-spec =
     rem-if1
     returns
     slice-in-requires
-    same-length
-    same-length-2
-    same-length-3
+    (λ c. search needs)
+    (λ c. search needs)
+    (λ c. search needs)
     returns-2
     slice-out-requires
-    same-length-4
-    same-length-5
-    same-length-6
+    (λ c. search needs)
+    (λ c. search needs)
+    (λ c. search needs)
     returns-3)

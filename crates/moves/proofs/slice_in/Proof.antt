@@ -25,9 +25,6 @@ use Rattle.moves.proofs.slice_in.Tie as tie
 check-slice-requires : tie.Need-check-slice-requires
 check-slice-requires c κs = let s = c .before .before .before in ready (s .args .m) (s .args .registers .now) (s .args .marks .now) (s .pre .0)
 
-is-done-requires : tie.Need-is-done-requires
-is-done-requires c κs = search needs
-
 returns : tie.Need-returns
 returns c =
     let k = c .before .before in
@@ -77,9 +74,6 @@ lies c =
     × RowsIn (p .start) (p .pitch) (p .rows) (p .columns * w) (length (a .marks .now)) × (p .columns * w ≤ p .pitch) × (p .pitch < 2 ^ 32)) (sym (c .slice-of .ensures))
     (r, k, q, b .1)
 
-mul-copy-slice : tie.Need-mul-copy-slice
-mul-copy-slice c = search needs
-
 copy-slice-requires : tie.Need-copy-slice-requires
 copy-slice-requires c κs =
     let p = c .before in
@@ -106,12 +100,6 @@ mul-mark-tile c = let l = lies (c .before .before .before .before .before .befor
 mark-tile-requires : tie.Need-mark-tile-requires
 mark-tile-requires c κs = let l = lies (c .before .before .before .before .before .before) in (l .1 .0, λ i g. omega (arith, l .1 .1 i g))
 
-same-length : tie.Need-same-length
-same-length c = search needs
-
-same-length-2 : tie.Need-same-length-2
-same-length-2 c = search needs
-
 returns-2 : tie.Need-returns-2
 returns-2 c =
     let t = c .before .before in
@@ -130,14 +118,14 @@ slice-in-spec =
     tie.close
     (tie.spec
     check-slice-requires
-    is-done-requires
+    (λ c _. search needs)
     returns
     sew-bytes-requires
     slice-of-requires
-    mul-copy-slice
+    (λ c. search needs)
     copy-slice-requires
     mul-mark-tile
     mark-tile-requires
-    same-length
-    same-length-2
+    (λ c. search needs)
+    (λ c. search needs)
     returns-2)

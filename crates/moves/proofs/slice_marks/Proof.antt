@@ -15,18 +15,12 @@ use Rattle.moves.proofs.slice_marks.Tie as tie
 first-unmarked-requires : tie.Need-first-unmarked-requires
 first-unmarked-requires c κs = (c .before .pre .0, c .before .pre .1 .0)
 
-is-done-requires : tie.Need-is-done-requires
-is-done-requires c κs = search needs
-
 returns : tie.Need-returns
 returns c =
     let f = c .before .before in
     let a = f .before .before .args in
     needs-done (a .form) (a .first) (a .marks .now) (λ i. a .p .start + i * a .p .pitch) (a .p .rows) (a .p .columns) (a .w)
     (sym (ap isDone (f .first-unmarked .ensures)) ∙ sym (c .before .is-done .ensures) ∙ c .if1 .taken)
-
-reply-of-requires : tie.Need-reply-of-requires
-reply-of-requires c κs = search needs
 
 -- the row and column that are named
 named : (c : tie.After-reply-of) → let a = c .before .before .before .before .before .args in
@@ -57,8 +51,8 @@ slice-marks-spec =
     tie.close
     (tie.spec
     first-unmarked-requires
-    is-done-requires
+    (λ c _. search needs)
     returns
-    reply-of-requires
+    (λ c _. search needs)
     unwritten-in-requires
     returns-2)

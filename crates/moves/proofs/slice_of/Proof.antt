@@ -27,9 +27,6 @@ product-is c = let a = c .before .args in ap (λ (p : Placed). a .first * p .pit
 tile-of-requires : tie.Need-tile-of-requires
 tile-of-requires c κs = (c .pre .0, c .pre .1 .0)
 
-enum-told : tie.Need-enum-told
-enum-told c = search needs
-
 mul-t10 : tie.Need-mul-t10
 mul-t10 c =
     let t = c .before .before .before in
@@ -44,9 +41,6 @@ add-t11 c =
     let p = product-is t in
     let q = start-is t in
     omega arith
-
-enum-told-2 : tie.Need-enum-told-2
-enum-told-2 c = search needs
 
 mul-t12 : tie.Need-mul-t12
 mul-t12 c =
@@ -80,10 +74,10 @@ slice-of-spec =
     tie.close
     (tie.spec
     tile-of-requires
-    enum-told
+    (λ c. search needs)
     mul-t10
     add-t11
-    enum-told-2
+    (λ c. search needs)
     mul-t12
     add-t13
     returns

@@ -26,9 +26,6 @@ use Rattle.moves.proofs.slice_out.Tie as tie
 check-slice-requires : tie.Need-check-slice-requires
 check-slice-requires c κs = let s = c .before .before .before in ready (s .args .m) (s .args .registers .now) (s .args .marks .now) (s .pre .0)
 
-is-done-requires : tie.Need-is-done-requires
-is-done-requires c κs = search needs
-
 returns : tie.Need-returns
 returns c =
     let k = c .before .before in
@@ -73,9 +70,6 @@ slice-marks-requires c κs =
     × ((p .columns * w ≤ p .pitch) × ((a .first + p .rows < 2 ^ 64) × (a .first + p .columns < 2 ^ 64)))) (sym (c .slice-of .ensures))
     (r, (q, h))
 
-is-done-requires-2 : tie.Need-is-done-requires-2
-is-done-requires-2 c κs = search needs
-
 returns-2 : tie.Need-returns-2
 returns-2 c =
     let k = c .before .before in
@@ -86,12 +80,6 @@ returns-2 c =
     out-unmarked (a .m) (a .registers .now) (a .marks .now) (a .form) (a .ms1) (a .vd) (a .first) (a .count) (a .vectors .now) (fits d) (v .sew-bytes .result) (v .sew-bytes .ensures .0)
     (p .slice-of .result) (p .slice-of .ensures) (k .slice-marks .result) (k .slice-marks .ensures)
     (sym (c .before .is-done2 .ensures) ∙ not-true (c .before .is-done2 .result) (c .if2 .taken))
-
-line-of-requires : tie.Need-line-of-requires
-line-of-requires c κs = search needs
-
-mul-copy-slice : tie.Need-mul-copy-slice
-mul-copy-slice c = search needs
 
 copy-slice-requires : tie.Need-copy-slice-requires
 copy-slice-requires c κs =
@@ -113,9 +101,6 @@ copy-slice-requires c κs =
     × ((x * w ≤ vectorBytes) × Width w))) (sym (n .line-of .ensures))
     (g, (subst (λ (p : Placed). RowsIn (p .start) (p .pitch) (memoryRows (a .form) (a .count) line) (memoryCols (a .form) (a .count) line * w) (length (a .registers .now))) (sym (p .slice-of .ensures)) r, (l, y)))
 
-same-length : tie.Need-same-length
-same-length c = search needs
-
 returns-3 : tie.Need-returns-3
 returns-3 c =
     let y = c .before .before in
@@ -136,15 +121,15 @@ slice-out-spec =
     tie.close
     (tie.spec
     check-slice-requires
-    is-done-requires
+    (λ c _. search needs)
     returns
     sew-bytes-requires
     slice-of-requires
     slice-marks-requires
-    is-done-requires-2
+    (λ c _. search needs)
     returns-2
-    line-of-requires
-    mul-copy-slice
+    (λ c _. search needs)
+    (λ c. search needs)
     copy-slice-requires
-    same-length
+    (λ c. search needs)
     returns-3)

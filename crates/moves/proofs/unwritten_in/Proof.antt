@@ -5,18 +5,6 @@ use Rattle.machine.specs.Refusals.{unwrittenIn}
 use Rattle.moves.proofs.unwritten_in.Statement.{statement}
 use Rattle.moves.proofs.unwritten_in.Tie as tie
 
-enum-told : tie.Need-enum-told
-enum-told c = search needs
-
-add-t6 : tie.Need-add-t6
-add-t6 c = search needs
-
-enum-told-2 : tie.Need-enum-told-2
-enum-told-2 c = search needs
-
-add-t7 : tie.Need-add-t7
-add-t7 c = search needs
-
 returns : tie.Need-returns
 returns c = let a = c .before .before .args in ap (λ (f : Form). unwrittenIn f (a .first) (a .row) (a .column)) (sym (c .enum-told .given .1))
 
@@ -24,4 +12,4 @@ returns-2 : tie.Need-returns-2
 returns-2 c = let a = c .before .before .args in ap (λ (f : Form). unwrittenIn f (a .first) (a .row) (a .column)) (sym (c .enum-told2 .given .1))
 
 pub unwritten-in-spec : {M : Type 1} → statement M
-unwritten-in-spec = tie.close (tie.spec enum-told add-t6 enum-told-2 add-t7 returns returns-2)
+unwritten-in-spec = tie.close (tie.spec (λ c. search needs) (λ c. search needs) (λ c. search needs) (λ c. search needs) returns returns-2)

@@ -18,9 +18,6 @@ returns c = let a = c .before .args in rows-no-bytes (rowAt (a .base) (a .stride
 returns-2 : tie.Need-returns-2
 returns-2 c = let a = c .before .before .args in rows-no-others (rowAt (a .base) (a .stride)) (a .rows) (a .bytes) (a .q) (a .o) (c .if2 .taken)
 
-returns-3 : tie.Need-returns-3
-returns-3 c = search needs
-
 as-signed-requires : tie.Need-as-signed-requires
 as-signed-requires c κs = tt
 
@@ -69,9 +66,6 @@ returns-4 c =
 
 add-steps-past : tie.Need-add-steps-past
 add-steps-past c = let h = first-lies (c .before .before) in omega (arith, h, c .before .before .before .before .before .before .before .pre .1 .0)
-
-steps-past-requires : tie.Need-steps-past-requires
-steps-past-requires c κs = search needs
 
 -- going up: what the rows below the range are
 up-passed : (c : tie.After-steps-past) →
@@ -123,9 +117,6 @@ returns-6 c =
     ∙ up-next (a .base) (a .stride) (a .rows) (a .bytes) (a .q) (a .o) (d .before .before .before .before .if1 .left) (d .before .before .before .if2 .left)
     (rows-up (a .base) (a .stride) (a .rows) (e .before .if5 .taken)) (e .steps-past .result) (up-passed e .0) (c .before .row-address .result) (up-row (c .before)) (up-passed e .1)
     (omega (arith, c .before .before .before .if6 .left))
-
-add-steps-past-2 : tie.Need-add-steps-past-2
-add-steps-past-2 c = search needs
 
 steps-past-requires-2 : tie.Need-steps-past-requires-2
 steps-past-requires-2 c κs = let h = first-lies (c .before .before) in (omega (arith, c .before .if4 .left), omega (arith, h, c .before .before .before .before .before .before .before .pre .1 .0))
@@ -191,19 +182,19 @@ rows-miss-spec =
     (tie.spec
     returns
     returns-2
-    returns-3
+    (λ c. search needs)
     as-signed-requires
     magnitude-requires
     ranges-apart-requires
     returns-4
     add-steps-past
-    steps-past-requires
+    (λ c _. search needs)
     returns-5
     as-signed-requires-2
     row-address-requires
     ranges-apart-requires-2
     returns-6
-    add-steps-past-2
+    (λ c. search needs)
     steps-past-requires-2
     returns-7
     as-signed-requires-3

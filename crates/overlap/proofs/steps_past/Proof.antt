@@ -4,12 +4,6 @@ use Rattle.overlap.proofs.OverlapLaws.{steps-passed, steps-next, steps-
 use Rattle.overlap.proofs.steps_past.Statement.{statement}
 use Rattle.overlap.proofs.steps_past.Tie as tie
 
-returns : tie.Need-returns
-returns c = search needs
-
-div-result : tie.Need-div-result
-div-result c = search needs
-
 add-result : tie.Need-add-result
 add-result c =
     let a = c .before .args in
@@ -23,4 +17,4 @@ returns-2 c =
     )
 
 pub steps-past-spec : {M : Type 1} → statement M
-steps-past-spec = tie.close (tie.spec returns div-result add-result returns-2)
+steps-past-spec = tie.close (tie.spec (λ c. search needs) (λ c. search needs) add-result returns-2)

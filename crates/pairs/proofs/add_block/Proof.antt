@@ -21,9 +21,6 @@ Inv-loop s c b o xs pairs sum₀ t₀ u₀ p₀ at₀ h₀ sum t u p at h =
 abbrev μ-loop : tie.MeasureT-loop
 μ-loop s c b o xs pairs sum₀ t₀ u₀ p₀ at₀ h₀ sum t u p at h = pairs - p
 
-read-block-requires : tie.Need-read-block-requires Inv-loop μ-loop
-read-block-requires c κs = search needs
-
 -- in a turn, two more pairs are left, and all that is read lies in the slices
 fits : (c : tie.In-loop Inv-loop μ-loop) →
     let a = c .before .before .before .before .before .before .before .args in
@@ -51,12 +48,6 @@ loop-holds c =
           let f : ((lane (r .result) q + lane none q) % 4294967296 + lane none q) % 4294967296 ≡ v = omega arith in
           f ∙ no-pairs v (a .xs .now) (2 * (q % 4)) (a .b .now) (a .o + 2 * q) small),
     )
-
-plus-requires : tie.Need-plus-requires Inv-loop μ-loop
-plus-requires c κs = search needs
-
-plus-requires-2 : tie.Need-plus-requires-2 Inv-loop μ-loop
-plus-requires-2 c κs = search needs
 
 pairs-at-requires : tie.Need-pairs-at-requires Inv-loop μ-loop
 pairs-at-requires c κs = let f = fits (c .before .before) in (omega arith, omega arith)
@@ -104,18 +95,6 @@ loop-again c =
           e2 ∙ ap row two),
     )
 
-plus-requires-3 : tie.Need-plus-requires-3 Inv-loop μ-loop
-plus-requires-3 c κs = search needs
-
-plus-requires-4 : tie.Need-plus-requires-4 Inv-loop μ-loop
-plus-requires-4 c κs = search needs
-
-write-block-requires : tie.Need-write-block-requires Inv-loop μ-loop
-write-block-requires c κs = search needs
-
-same-length : tie.Need-same-length Inv-loop μ-loop
-same-length c = search needs
-
 returns : tie.Need-returns Inv-loop μ-loop
 returns c =
     let l = c .before .before .before .before .before .before .before .loop in
@@ -134,10 +113,10 @@ add-block-spec =
     (tie.spec
     Inv-loop
     μ-loop
-    read-block-requires
+    (λ c _. search needs)
     loop-holds
-    plus-requires
-    plus-requires-2
+    (λ c _. search needs)
+    (λ c _. search needs)
     pairs-at-requires
     add-pairs-at
     add-pairs-at-2
@@ -147,8 +126,8 @@ add-block-spec =
     add-p
     loop-less
     loop-again
-    plus-requires-3
-    plus-requires-4
-    write-block-requires
-    same-length
+    (λ c _. search needs)
+    (λ c _. search needs)
+    (λ c _. search needs)
+    (λ c. search needs)
     returns)

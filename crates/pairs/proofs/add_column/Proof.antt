@@ -16,32 +16,11 @@ Inv-loop s c b o xs from pairs sum₀ p₀ at₀ h₀ sum p at h =
 abbrev μ-loop : tie.MeasureT-loop
 μ-loop s c b o xs from pairs sum₀ p₀ at₀ h₀ sum p at h = pairs - p
 
-read4-requires : tie.Need-read4-requires Inv-loop μ-loop
-read4-requires c κs = search needs
-
 loop-holds : tie.Need-loop-holds Inv-loop μ-loop
 loop-holds c =
     let a = c .before .before .before .before .before .args in
     let r = c .read4 .ensures in
     (omega arith, omega arith, omega arith, r .0 ∙ no-pairs (getLe (a .s .now) (a .c) 4) (a .xs .now) (a .from) (a .b .now) (a .o) (omega (arith, r)))
-
-pair-at-requires : tie.Need-pair-at-requires Inv-loop μ-loop
-pair-at-requires c κs = search needs
-
-wrapping-add-u32-requires : tie.Need-wrapping-add-u32-requires Inv-loop μ-loop
-wrapping-add-u32-requires c κs = search needs
-
-add-at : tie.Need-add-at Inv-loop μ-loop
-add-at c = search needs
-
-add-h : tie.Need-add-h Inv-loop μ-loop
-add-h c = search needs
-
-add-p : tie.Need-add-p Inv-loop μ-loop
-add-p c = search needs
-
-loop-less : tie.Need-loop-less Inv-loop μ-loop
-loop-less c = search needs
 
 loop-again : tie.Need-loop-again Inv-loop μ-loop
 loop-again c =
@@ -55,12 +34,6 @@ loop-again c =
           ∙ pair-added (getLe (a .s .now) (a .c) 4) (a .xs .now) (a .from) (a .b .now) (a .o) (l .p) (l .sum) (c .before .pair-at .result) (l .h) (l .at)
           (l .inv .3) (c .before .pair-at .ensures) (l .inv .2) (l .inv .1),
     )
-
-write4-requires : tie.Need-write4-requires Inv-loop μ-loop
-write4-requires c κs = search needs
-
-same-length : tie.Need-same-length Inv-loop μ-loop
-same-length c = search needs
 
 returns : tie.Need-returns Inv-loop μ-loop
 returns c =
@@ -77,15 +50,15 @@ add-column-spec =
     (tie.spec
     Inv-loop
     μ-loop
-    read4-requires
+    (λ c _. search needs)
     loop-holds
-    pair-at-requires
-    wrapping-add-u32-requires
-    add-at
-    add-h
-    add-p
-    loop-less
+    (λ c _. search needs)
+    (λ c _. search needs)
+    (λ c. search needs)
+    (λ c. search needs)
+    (λ c. search needs)
+    (λ c. search needs)
     loop-again
-    write4-requires
-    same-length
+    (λ c _. search needs)
+    (λ c. search needs)
     returns)

@@ -22,24 +22,6 @@ loop-holds : tie.Need-loop-holds Inv-loop μ-loop
 unfolding putRow
 loop-holds c = (omega arith, omega arith, omega arith, omega arith, refl, refl)
 
-add-column-requires : tie.Need-add-column-requires Inv-loop μ-loop
-add-column-requires c κs = search needs
-
-add-to : tie.Need-add-to Inv-loop μ-loop
-add-to c = search needs
-
-add-at : tie.Need-add-at Inv-loop μ-loop
-add-at c = search needs
-
-add-h : tie.Need-add-h Inv-loop μ-loop
-add-h c = search needs
-
-add-j : tie.Need-add-j Inv-loop μ-loop
-add-j c = search needs
-
-loop-less : tie.Need-loop-less Inv-loop μ-loop
-loop-less c = search needs
-
 loop-again : tie.Need-loop-again Inv-loop μ-loop
 loop-again c =
     let l = c .before .before .before .before .before .loop in
@@ -62,9 +44,6 @@ loop-again c =
       putRow-next 4 (a .s .now) (l .s) (w .last .0) F (a .c) (l .j) (l .to) _ (l .inv .5) (l .inv .1) ev (w .ensures),
     )
 
-same-length : tie.Need-same-length Inv-loop μ-loop
-same-length c = search needs
-
 returns : tie.Need-returns Inv-loop μ-loop
 returns c =
     let l = c .before .loop in
@@ -79,12 +58,12 @@ add-columns-spec =
     Inv-loop
     μ-loop
     loop-holds
-    add-column-requires
-    add-to
-    add-at
-    add-h
-    add-j
-    loop-less
+    (λ c _. search needs)
+    (λ c. search needs)
+    (λ c. search needs)
+    (λ c. search needs)
+    (λ c. search needs)
+    (λ c. search needs)
     loop-again
-    same-length
+    (λ c. search needs)
     returns)

@@ -21,24 +21,6 @@ loop-holds : tie.Need-loop-holds Inv-loop μ-loop
 unfolding putRow
 loop-holds c = (omega arith, refl, omega arith, refl, refl, refl)
 
-sub-loop : tie.Need-sub-loop Inv-loop μ-loop
-sub-loop c = search needs
-
-add-block-requires : tie.Need-add-block-requires Inv-loop μ-loop
-add-block-requires c κs = search needs
-
-add-to : tie.Need-add-to Inv-loop μ-loop
-add-to c = search needs
-
-add-at : tie.Need-add-at Inv-loop μ-loop
-add-at c = search needs
-
-add-j : tie.Need-add-j Inv-loop μ-loop
-add-j c = search needs
-
-loop-less : tie.Need-loop-less Inv-loop μ-loop
-loop-less c = search needs
-
 loop-again : tie.Need-loop-again Inv-loop μ-loop
 loop-again c =
     let l = c .before .before .before .before .before .loop in
@@ -53,15 +35,6 @@ loop-again c =
       columns-more (a .s .now) (l .s) (w .last .0) (a .xs .now) (a .b .now) (a .c) (l .j) 4 (l .to) (l .at) (a .pairs)
           (l .inv .1) (omega arith) (l .inv .2) (l .inv .3) (l .inv .5) (w .ensures),
     )
-
-sub-add-columns : tie.Need-sub-add-columns Inv-loop μ-loop
-sub-add-columns c = search needs
-
-add-columns-requires : tie.Need-add-columns-requires Inv-loop μ-loop
-add-columns-requires c κs = search needs
-
-same-length : tie.Need-same-length Inv-loop μ-loop
-same-length c = search needs
 
 returns : tie.Need-returns Inv-loop μ-loop
 returns c =
@@ -81,14 +54,14 @@ add-row-spec =
     Inv-loop
     μ-loop
     loop-holds
-    sub-loop
-    add-block-requires
-    add-to
-    add-at
-    add-j
-    loop-less
+    (λ c. search needs)
+    (λ c _. search needs)
+    (λ c. search needs)
+    (λ c. search needs)
+    (λ c. search needs)
+    (λ c. search needs)
     loop-again
-    sub-add-columns
-    add-columns-requires
-    same-length
+    (λ c. search needs)
+    (λ c _. search needs)
+    (λ c. search needs)
     returns)

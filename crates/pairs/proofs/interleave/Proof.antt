@@ -36,38 +36,17 @@ fits c =
 read-signed16-requires : tie.Need-read-signed16-requires Inv-loop μ-loop
 read-signed16-requires c κs = (c .before .before .before .before .pre .0, fits c .0)
 
-mul-d : tie.Need-mul-d Inv-loop μ-loop
-mul-d c = search needs
-
-slice-write-d : tie.Need-slice-write-d Inv-loop μ-loop
-slice-write-d c = search needs
-
 read-signed16-requires-2 : tie.Need-read-signed16-requires-2 Inv-loop μ-loop
 read-signed16-requires-2 c κs = (c .before .before .before .before .before .pre .0, fits (c .before) .1)
 
-add-d : tie.Need-add-d Inv-loop μ-loop
-add-d c = search needs
-
-mul-d-2 : tie.Need-mul-d-2 Inv-loop μ-loop
-mul-d-2 c = search needs
-
 slice-write-d-2 : tie.Need-slice-write-d-2 Inv-loop μ-loop
 slice-write-d-2 c = simp length-set (omega arith)
-
-add-o : tie.Need-add-o Inv-loop μ-loop
-add-o c = search needs
 
 add-f : tie.Need-add-f Inv-loop μ-loop
 add-f c = let f = fits (c .before .before) in omega arith
 
 add-g : tie.Need-add-g Inv-loop μ-loop
 add-g c = let f = fits (c .before .before) in omega arith
-
-add-j : tie.Need-add-j Inv-loop μ-loop
-add-j c = search needs
-
-loop-less : tie.Need-loop-less Inv-loop μ-loop
-loop-less c = search needs
 
 loop-again : tie.Need-loop-again Inv-loop μ-loop
 loop-again c =
@@ -88,9 +67,6 @@ loop-again c =
       λ i h. pair-keep (l .d) (l .o) (x .result) (y .result) i (getD (a .d .now) i 0) (λ e. omega arith) (λ e. omega arith) (l .inv .6 i h),
     )
 
-same-length : tie.Need-same-length Inv-loop μ-loop
-same-length c = search needs
-
 returns : tie.Need-returns Inv-loop μ-loop
 returns c = (λ j h. c .before .loop .inv .5 j (omega arith), c .before .loop .inv .6)
 
@@ -102,17 +78,17 @@ interleave-spec =
     μ-loop
     loop-holds
     read-signed16-requires
-    mul-d
-    slice-write-d
+    (λ c. search needs)
+    (λ c. search needs)
     read-signed16-requires-2
-    add-d
-    mul-d-2
+    (λ c. search needs)
+    (λ c. search needs)
     slice-write-d-2
-    add-o
+    (λ c. search needs)
     add-f
     add-g
-    add-j
-    loop-less
+    (λ c. search needs)
+    (λ c. search needs)
     loop-again
-    same-length
+    (λ c. search needs)
     returns)

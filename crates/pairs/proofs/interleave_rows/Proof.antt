@@ -32,9 +32,6 @@ fits c =
     let p = row-fits (l .l + 1) (k .args .k) (k .args .pitch) (c .loop-test .taken) in
     omega (arith, k .pre)
 
-add-loop : tie.Need-add-loop Inv-loop μ-loop
-add-loop c = search needs
-
 add-interleave : tie.Need-add-interleave Inv-loop μ-loop
 add-interleave c = let f = fits (c .before) in omega arith
 
@@ -49,15 +46,6 @@ add-row c = let f = fits (c .before .before .before .before) in omega arith
 
 add-row-2 : tie.Need-add-row-2 Inv-loop μ-loop
 add-row-2 c = let f = fits (c .before .before .before .before) in omega arith
-
-add-to : tie.Need-add-to Inv-loop μ-loop
-add-to c = search needs
-
-add-l : tie.Need-add-l Inv-loop μ-loop
-add-l c = search needs
-
-loop-less : tie.Need-loop-less Inv-loop μ-loop
-loop-less c = search needs
 
 loop-again : tie.Need-loop-again Inv-loop μ-loop
 loop-again c =
@@ -79,9 +67,6 @@ interleave-requires-2 c κs =
     let f = row-fits (l .l) (k .args .k) (k .args .pitch) (c .before .if1 .taken) in
     (k .pre .0, (omega (arith, k .pre), (omega (arith, k .pre), omega (arith, k .pre))))
 
-same-length : tie.Need-same-length Inv-loop μ-loop
-same-length c = search needs
-
 returns : tie.Need-returns Inv-loop μ-loop
 returns c =
     let m = c .before .before .interleave2 in
@@ -93,9 +78,6 @@ returns c =
     (λ j h. m .ensures .0 j h .0 ∙ ap (λ (x : ℕ). half (a .s .now) (x + j * a .width) (a .width)) (l .inv .2)) in
     λ r j h g. more r (omega arith) j g
 
-same-length-2 : tie.Need-same-length-2 Inv-loop μ-loop
-same-length-2 c = search needs
-
 returns-2 : tie.Need-returns-2 Inv-loop μ-loop
 returns-2 c = λ r j h g. c .before .before .loop .inv .5 r j (omega arith) g
 
@@ -106,17 +88,17 @@ interleave-rows-spec =
     Inv-loop
     μ-loop
     loop-holds
-    add-loop
+    (λ c. search needs)
     add-interleave
     interleave-requires
     add-row
     add-row-2
-    add-to
-    add-l
-    loop-less
+    (λ c. search needs)
+    (λ c. search needs)
+    (λ c. search needs)
     loop-again
     interleave-requires-2
-    same-length
+    (λ c. search needs)
     returns
-    same-length-2
+    (λ c. search needs)
     returns-2)

@@ -16,9 +16,6 @@ interleave-rows-requires c κs =
     let e = ap (λ (w : ℕ). k .args .n * w) (c .before .if1 .taken) in
     (inl refl, (p .1 .0, (p .1 .1 .0, (omega (arith, p, e), p .1 .1 .1 .1))))
 
-same-length : tie.Need-same-length
-same-length c = search needs
-
 returns : tie.Need-returns
 returns c =
     let k = c .before .before .before .before .before .before .before in
@@ -33,9 +30,6 @@ interleave-rows-requires-2 c κs =
     let e = ap (λ (w : ℕ). k .args .n * w) (is2 (k .args .width) (k .pre .0) (c .before .if1 .left)) in
     (inr refl, (p .1 .0, (p .1 .1 .0, (omega (arith, p, e), p .1 .1 .1 .1))))
 
-same-length-2 : tie.Need-same-length-2
-same-length-2 c = search needs
-
 returns-2 : tie.Need-returns-2
 returns-2 c =
     let k = c .before .before .before .before .before .before .before in
@@ -48,8 +42,8 @@ interleave-tile-spec =
     tie.close
     (tie.spec
     interleave-rows-requires
-    same-length
+    (λ c. search needs)
     returns
     interleave-rows-requires-2
-    same-length-2
+    (λ c. search needs)
     returns-2)

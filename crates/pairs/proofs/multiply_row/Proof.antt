@@ -12,27 +12,9 @@ use borrow.Author.Needs.{needs}
 use Rattle.pairs.proofs.multiply_row.Statement.{statement}
 use Rattle.pairs.proofs.multiply_row.Tie as tie
 
-slice-aggregate-repeat-row : tie.Need-slice-aggregate-repeat-row
-slice-aggregate-repeat-row c = search needs
-
 repeat-row-requires : tie.Need-repeat-row-requires
 repeat-row-requires c κs =
     let p = c .before .before .before .before .pre in (p .1 .0, ((p .0 .1, refl), (zeros factorPlaces, p .1 .1 .1 .0 .0)))
-
-slice-aggregate-add-row : tie.Need-slice-aggregate-add-row
-slice-aggregate-add-row c = search needs
-
-add-add-row : tie.Need-add-add-row
-add-add-row c = search needs
-
-mul-add-row : tie.Need-mul-add-row
-mul-add-row c = search needs
-
-add-row-requires : tie.Need-add-row-requires
-add-row-requires c κs = search needs
-
-same-length : tie.Need-same-length
-same-length c = search needs
 
 returns : tie.Need-returns
 returns c =
@@ -52,11 +34,11 @@ pub multiply-row-spec : {M : Type 1} → statement M
 multiply-row-spec =
     tie.close
     (tie.spec
-    slice-aggregate-repeat-row
+    (λ c. search needs)
     repeat-row-requires
-    slice-aggregate-add-row
-    add-add-row
-    mul-add-row
-    add-row-requires
-    same-length
+    (λ c. search needs)
+    (λ c. search needs)
+    (λ c. search needs)
+    (λ c _. search needs)
+    (λ c. search needs)
     returns)

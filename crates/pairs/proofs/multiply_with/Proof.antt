@@ -24,9 +24,6 @@ abbrev μ-loop : tie.MeasureT-loop
 interleave-tile-requires : tie.Need-interleave-tile-requires Inv-loop μ-loop
 interleave-tile-requires c κs = let p = c .before .before .before .before .pre in (p .1 .0, (p .0 .0, (omega (arith, p), (p .1 .1 .0 .0, omega (arith, p)))))
 
-mul-step : tie.Need-mul-step Inv-loop μ-loop
-mul-step c = search needs
-
 loop-holds : tie.Need-loop-holds Inv-loop μ-loop
 unfolding putTile
 loop-holds c =
@@ -76,12 +73,6 @@ add-from c = let f = fits (c .before .before .before .before .before) in omega a
 add-to : tie.Need-add-to Inv-loop μ-loop
 add-to c = let f = fits (c .before .before .before .before .before) in omega arith
 
-add-i : tie.Need-add-i Inv-loop μ-loop
-add-i c = search needs
-
-loop-less : tie.Need-loop-less Inv-loop μ-loop
-loop-less c = search needs
-
 loop-again : tie.Need-loop-again Inv-loop μ-loop
 loop-again c =
     let d = c .before .before .before .before .before in
@@ -99,12 +90,6 @@ loop-again c =
           (l .i) (l .s) (d .loop-test .taken) (l .inv .5) (l .from) (l .to) (w .last .0) (l .inv .1) (l .inv .2) (w .ensures),
     )
 
-same-length : tie.Need-same-length Inv-loop μ-loop
-same-length c = search needs
-
-same-length-2 : tie.Need-same-length-2 Inv-loop μ-loop
-same-length-2 c = search needs
-
 returns : tie.Need-returns Inv-loop μ-loop
 returns c =
     let l = c .before .loop in
@@ -120,14 +105,14 @@ multiply-with-spec =
     Inv-loop
     μ-loop
     interleave-tile-requires
-    mul-step
+    (λ c. search needs)
     loop-holds
     multiply-row-requires
     add-from
     add-to
-    add-i
-    loop-less
+    (λ c. search needs)
+    (λ c. search needs)
     loop-again
-    same-length
-    same-length-2
+    (λ c. search needs)
+    (λ c. search needs)
     returns)

@@ -6,27 +6,6 @@ use borrow.Author.Needs.{needs}
 use Rattle.pairs.proofs.pair_of.Statement.{statement}
 use Rattle.pairs.proofs.pair_of.Tie as tie
 
-extend2to4-requires : tie.Need-extend2to4-requires
-extend2to4-requires c κs = search needs
-
-extend2to4-requires-2 : tie.Need-extend2to4-requires-2
-extend2to4-requires-2 c κs = search needs
-
-wrapping-mul32-requires : tie.Need-wrapping-mul32-requires
-wrapping-mul32-requires c κs = search needs
-
-extend2to4-requires-3 : tie.Need-extend2to4-requires-3
-extend2to4-requires-3 c κs = search needs
-
-extend2to4-requires-4 : tie.Need-extend2to4-requires-4
-extend2to4-requires-4 c κs = search needs
-
-wrapping-mul32-requires-2 : tie.Need-wrapping-mul32-requires-2
-wrapping-mul32-requires-2 c κs = search needs
-
-wrapping-add-u32-requires : tie.Need-wrapping-add-u32-requires
-wrapping-add-u32-requires c κs = search needs
-
 returns : tie.Need-returns
 returns c =
     let a = c .before .before .before .before .before .before .before .args in
@@ -44,11 +23,11 @@ pub pair-of-spec : {M : Type 1} → statement M
 pair-of-spec =
     tie.close
     (tie.spec
-    extend2to4-requires
-    extend2to4-requires-2
-    wrapping-mul32-requires
-    extend2to4-requires-3
-    extend2to4-requires-4
-    wrapping-mul32-requires-2
-    wrapping-add-u32-requires
+    (λ c _. search needs)
+    (λ c _. search needs)
+    (λ c _. search needs)
+    (λ c _. search needs)
+    (λ c _. search needs)
+    (λ c _. search needs)
+    (λ c _. search needs)
     returns)

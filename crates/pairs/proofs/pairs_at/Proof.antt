@@ -9,36 +9,6 @@ use borrow.Author.Needs.{needs}
 use Rattle.pairs.proofs.pairs_at.Statement.{statement}
 use Rattle.pairs.proofs.pairs_at.Tie as tie
 
-pair-at-requires : tie.Need-pair-at-requires
-pair-at-requires c κs = search needs
-
-add-pair-at : tie.Need-add-pair-at
-add-pair-at c = search needs
-
-add-pair-at-2 : tie.Need-add-pair-at-2
-add-pair-at-2 c = search needs
-
-pair-at-requires-2 : tie.Need-pair-at-requires-2
-pair-at-requires-2 c κs = search needs
-
-add-pair-at-3 : tie.Need-add-pair-at-3
-add-pair-at-3 c = search needs
-
-add-pair-at-4 : tie.Need-add-pair-at-4
-add-pair-at-4 c = search needs
-
-pair-at-requires-3 : tie.Need-pair-at-requires-3
-pair-at-requires-3 c κs = search needs
-
-add-pair-at-5 : tie.Need-add-pair-at-5
-add-pair-at-5 c = search needs
-
-add-pair-at-6 : tie.Need-add-pair-at-6
-add-pair-at-6 c = search needs
-
-pair-at-requires-4 : tie.Need-pair-at-requires-4
-pair-at-requires-4 c κs = search needs
-
 returns : tie.Need-returns
 returns c =
     let a = c .before .before .before .before .before .before .args in
@@ -54,14 +24,14 @@ pub pairs-at-spec : {M : Type 1} → statement M
 pairs-at-spec =
     tie.close
     (tie.spec
-    pair-at-requires
-    add-pair-at
-    add-pair-at-2
-    pair-at-requires-2
-    add-pair-at-3
-    add-pair-at-4
-    pair-at-requires-3
-    add-pair-at-5
-    add-pair-at-6
-    pair-at-requires-4
+    (λ c _. search needs)
+    (λ c. search needs)
+    (λ c. search needs)
+    (λ c _. search needs)
+    (λ c. search needs)
+    (λ c. search needs)
+    (λ c _. search needs)
+    (λ c. search needs)
+    (λ c. search needs)
+    (λ c _. search needs)
     returns)

@@ -9,27 +9,6 @@ use borrow.Author.Needs.{needs}
 use Rattle.pairs.proofs.read_block.Statement.{statement}
 use Rattle.pairs.proofs.read_block.Tie as tie
 
-read4-requires : tie.Need-read4-requires
-read4-requires c κs = search needs
-
-add-read4 : tie.Need-add-read4
-add-read4 c = search needs
-
-read4-requires-2 : tie.Need-read4-requires-2
-read4-requires-2 c κs = search needs
-
-add-read4-2 : tie.Need-add-read4-2
-add-read4-2 c = search needs
-
-read4-requires-3 : tie.Need-read4-requires-3
-read4-requires-3 c κs = search needs
-
-add-read4-3 : tie.Need-add-read4-3
-add-read4-3 c = search needs
-
-read4-requires-4 : tie.Need-read4-requires-4
-read4-requires-4 c κs = search needs
-
 returns : tie.Need-returns
 returns c =
     let a = c .before .before .before .before .before .args in
@@ -44,11 +23,11 @@ pub read-block-spec : {M : Type 1} → statement M
 read-block-spec =
     tie.close
     (tie.spec
-    read4-requires
-    add-read4
-    read4-requires-2
-    add-read4-2
-    read4-requires-3
-    add-read4-3
-    read4-requires-4
+    (λ c _. search needs)
+    (λ c. search needs)
+    (λ c _. search needs)
+    (λ c. search needs)
+    (λ c _. search needs)
+    (λ c. search needs)
+    (λ c _. search needs)
     returns)

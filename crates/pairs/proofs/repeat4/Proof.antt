@@ -21,29 +21,8 @@ abbrev μ-loop : tie.MeasureT-loop
 loop-holds : tie.Need-loop-holds Inv-loop μ-loop
 loop-holds c = (omega arith, omega arith, refl, λ r h. absurd (omega arith), λ i h. refl)
 
-mul-d : tie.Need-mul-d Inv-loop μ-loop
-mul-d c = search needs
-
-slice-write-d : tie.Need-slice-write-d Inv-loop μ-loop
-slice-write-d c = search needs
-
-add-d : tie.Need-add-d Inv-loop μ-loop
-add-d c = search needs
-
-mul-d-2 : tie.Need-mul-d-2 Inv-loop μ-loop
-mul-d-2 c = search needs
-
 slice-write-d-2 : tie.Need-slice-write-d-2 Inv-loop μ-loop
 slice-write-d-2 c = simp length-set (omega arith)
-
-add-h : tie.Need-add-h Inv-loop μ-loop
-add-h c = search needs
-
-add-q : tie.Need-add-q Inv-loop μ-loop
-add-q c = search needs
-
-loop-less : tie.Need-loop-less Inv-loop μ-loop
-loop-less c = search needs
 
 loop-again : tie.Need-loop-again Inv-loop μ-loop
 loop-again c =
@@ -59,9 +38,6 @@ loop-again c =
           (λ e. ⊎-elim (λ g. omega arith) (λ g. omega arith) h) (λ e. ⊎-elim (λ g. omega arith) (λ g. omega arith) h) (l .inv .4 i h),
     )
 
-same-length : tie.Need-same-length Inv-loop μ-loop
-same-length c = search needs
-
 returns : tie.Need-returns Inv-loop μ-loop
 returns c = (λ q h. c .before .loop .inv .3 q (omega arith), c .before .loop .inv .4)
 
@@ -72,14 +48,14 @@ repeat4-spec =
     Inv-loop
     μ-loop
     loop-holds
-    mul-d
-    slice-write-d
-    add-d
-    mul-d-2
+    (λ c. search needs)
+    (λ c. search needs)
+    (λ c. search needs)
+    (λ c. search needs)
     slice-write-d-2
-    add-h
-    add-q
-    loop-less
+    (λ c. search needs)
+    (λ c. search needs)
+    (λ c. search needs)
     loop-again
-    same-length
+    (λ c. search needs)
     returns)

@@ -34,9 +34,6 @@ fits c =
     let p = row-fits (l .l + 1) (k .args .k) (k .args .width) (c .loop-test .taken) in
     omega (arith, k .pre)
 
-add-loop : tie.Need-add-loop Inv-loop μ-loop
-add-loop c = search needs
-
 read-signed16-requires : tie.Need-read-signed16-requires Inv-loop μ-loop
 read-signed16-requires c κs = let f = fits c in (c .before .before .before .before .pre .0, omega arith)
 
@@ -48,18 +45,6 @@ read-signed16-requires-2 c κs = let f = fits (c .before) in (c .before .before 
 
 add-at-2 : tie.Need-add-at-2 Inv-loop μ-loop
 add-at-2 c = let f = fits (c .before .before) in omega arith
-
-repeat4-requires : tie.Need-repeat4-requires Inv-loop μ-loop
-repeat4-requires c κs = search needs
-
-add-h : tie.Need-add-h Inv-loop μ-loop
-add-h c = search needs
-
-add-l : tie.Need-add-l Inv-loop μ-loop
-add-l c = search needs
-
-loop-less : tie.Need-loop-less Inv-loop μ-loop
-loop-less c = search needs
 
 loop-again : tie.Need-loop-again Inv-loop μ-loop
 loop-again c =
@@ -83,12 +68,6 @@ read-signed16-requires-3 c κs =
     let f = row-fits (l .l) (k .args .k) (k .args .width) (c .if1 .taken) in
     (k .pre .0, omega (arith, k .pre))
 
-repeat4-requires-2 : tie.Need-repeat4-requires-2 Inv-loop μ-loop
-repeat4-requires-2 c κs = search needs
-
-same-length : tie.Need-same-length Inv-loop μ-loop
-same-length c = search needs
-
 returns : tie.Need-returns Inv-loop μ-loop
 returns c =
     let m = c .before .before .repeat42 in
@@ -101,9 +80,6 @@ returns c =
     let more = repeat-more F (l .d) (m .last .0) (l .l) (l .h) (l .inv .4) (l .inv .1) (l .inv .5) (λ i h. m .ensures .1 i (inl h)) (λ q h. (m .ensures .0 q h .0 ∙ ex, m .ensures .0 q h .1 ∙ ey)) in
     repeat-all (a .s .now) (a .a) (a .width) (a .k) (m .last .0) (l .l + 2) (omega arith) (omega arith) more
     (λ i h. m .ensures .1 i (inr (omega arith)) ∙ l .inv .6 i (omega arith))
-
-same-length-2 : tie.Need-same-length-2 Inv-loop μ-loop
-same-length-2 c = search needs
 
 returns-2 : tie.Need-returns-2 Inv-loop μ-loop
 returns-2 c =
@@ -118,19 +94,19 @@ repeat-row-spec =
     Inv-loop
     μ-loop
     loop-holds
-    add-loop
+    (λ c. search needs)
     read-signed16-requires
     add-at
     read-signed16-requires-2
     add-at-2
-    repeat4-requires
-    add-h
-    add-l
-    loop-less
+    (λ c _. search needs)
+    (λ c. search needs)
+    (λ c. search needs)
+    (λ c. search needs)
     loop-again
     read-signed16-requires-3
-    repeat4-requires-2
-    same-length
+    (λ c _. search needs)
+    (λ c. search needs)
     returns
-    same-length-2
+    (λ c. search needs)
     returns-2)

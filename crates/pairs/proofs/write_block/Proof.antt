@@ -9,30 +9,6 @@ use borrow.Author.Needs.{needs}
 use Rattle.pairs.proofs.write_block.Statement.{statement}
 use Rattle.pairs.proofs.write_block.Tie as tie
 
-write4-requires : tie.Need-write4-requires
-write4-requires c κs = search needs
-
-add-write4 : tie.Need-add-write4
-add-write4 c = search needs
-
-write4-requires-2 : tie.Need-write4-requires-2
-write4-requires-2 c κs = search needs
-
-add-write4-2 : tie.Need-add-write4-2
-add-write4-2 c = search needs
-
-write4-requires-3 : tie.Need-write4-requires-3
-write4-requires-3 c κs = search needs
-
-add-write4-3 : tie.Need-add-write4-3
-add-write4-3 c = search needs
-
-write4-requires-4 : tie.Need-write4-requires-4
-write4-requires-4 c κs = search needs
-
-same-length : tie.Need-same-length
-same-length c = search needs
-
 returns : tie.Need-returns
 unfolding putRow
 returns c =
@@ -52,12 +28,12 @@ pub write-block-spec : {M : Type 1} → statement M
 write-block-spec =
     tie.close
     (tie.spec
-    write4-requires
-    add-write4
-    write4-requires-2
-    add-write4-2
-    write4-requires-3
-    add-write4-3
-    write4-requires-4
-    same-length
+    (λ c _. search needs)
+    (λ c. search needs)
+    (λ c _. search needs)
+    (λ c. search needs)
+    (λ c _. search needs)
+    (λ c. search needs)
+    (λ c _. search needs)
+    (λ c. search needs)
     returns)

@@ -20,17 +20,11 @@ ok-1 c = sym (c .before .is-sew .ensures) ∙ not-false (c .before .is-sew .resu
 ok-2 : (c : tie.Else2) → isIn (c .before .before .before .before .args .factor) factors ≡ true
 ok-2 c = sym (c .before .is-factor .ensures) ∙ not-false (c .before .is-factor .result) (c .if2 .left)
 
-is-sew-requires : tie.Need-is-sew-requires
-is-sew-requires c κs = search needs
-
 returns : tie.Need-returns
 unfolding format
 returns c =
     let a = c .before .before .args in
     fails [] tt (isIn (a .sew) sews) (sym (c .before .is-sew .ensures) ∙ not-true (c .before .is-sew .result) (c .if1 .taken)) (isIn (a .factor) factors ∷ leb (a .factor * a .sew) (a .elen) ∷ [])
-
-is-factor-requires : tie.Need-is-factor-requires
-is-factor-requires c κs = search needs
 
 returns-2 : tie.Need-returns-2
 unfolding format
@@ -52,4 +46,4 @@ returns-3 c =
 
 pub is-format-spec : {M : Type 1} → statement M
 is-format-spec =
-    tie.close (tie.spec is-sew-requires returns is-factor-requires returns-2 mul-result returns-3)
+    tie.close (tie.spec (λ c _. search needs) returns (λ c _. search needs) returns-2 mul-result returns-3)

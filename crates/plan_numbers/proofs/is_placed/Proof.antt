@@ -4,57 +4,6 @@ use borrow.Author.Needs.{needs}
 use Rattle.plan_numbers.proofs.is_placed.Statement.{statement}
 use Rattle.plan_numbers.proofs.is_placed.Tie as tie
 
-enum-told : tie.Need-enum-told
-enum-told c = search needs
-
-enum-known-place : tie.Need-enum-known-place
-enum-known-place c = search needs
-
-enum-known-place-2 : tie.Need-enum-known-place-2
-enum-known-place-2 c = search needs
-
-in-product-requires : tie.Need-in-product-requires
-in-product-requires c κs = search needs
-
-enum-known-place-3 : tie.Need-enum-known-place-3
-enum-known-place-3 c = search needs
-
-in-product-requires-2 : tie.Need-in-product-requires-2
-in-product-requires-2 c κs = search needs
-
-enum-known-place-4 : tie.Need-enum-known-place-4
-enum-known-place-4 c = search needs
-
-in-sums-requires : tie.Need-in-sums-requires
-in-sums-requires c κs = search needs
-
-enum-known-place-5 : tie.Need-enum-known-place-5
-enum-known-place-5 c = search needs
-
-in-sums-requires-2 : tie.Need-in-sums-requires-2
-in-sums-requires-2 c κs = search needs
-
-enum-known-place-6 : tie.Need-enum-known-place-6
-enum-known-place-6 c = search needs
-
-in-sums-requires-3 : tie.Need-in-sums-requires-3
-in-sums-requires-3 c κs = search needs
-
-enum-known-place-7 : tie.Need-enum-known-place-7
-enum-known-place-7 c = search needs
-
-in-sums-requires-4 : tie.Need-in-sums-requires-4
-in-sums-requires-4 c κs = search needs
-
-enum-known-place-8 : tie.Need-enum-known-place-8
-enum-known-place-8 c = search needs
-
-in-product-requires-3 : tie.Need-in-product-requires-3
-in-product-requires-3 c κs = search needs
-
-enum-told-2 : tie.Need-enum-told-2
-enum-told-2 c = search needs
-
 returns : tie.Need-returns
 returns c = ap (inMatrices (c .before .before .args .plan)) (sym (c .enum-told .given .1))
 
@@ -89,23 +38,23 @@ pub is-placed-spec : {M : Type 1} → statement M
 is-placed-spec =
     tie.close
     (tie.spec
-    enum-told
-    enum-known-place
-    enum-known-place-2
-    in-product-requires
-    enum-known-place-3
-    in-product-requires-2
-    enum-known-place-4
-    in-sums-requires
-    enum-known-place-5
-    in-sums-requires-2
-    enum-known-place-6
-    in-sums-requires-3
-    enum-known-place-7
-    in-sums-requires-4
-    enum-known-place-8
-    in-product-requires-3
-    enum-told-2
+    (λ c. search needs)
+    (λ c. search needs)
+    (λ c. search needs)
+    (λ c _. search needs)
+    (λ c. search needs)
+    (λ c _. search needs)
+    (λ c. search needs)
+    (λ c _. search needs)
+    (λ c. search needs)
+    (λ c _. search needs)
+    (λ c. search needs)
+    (λ c _. search needs)
+    (λ c. search needs)
+    (λ c _. search needs)
+    (λ c. search needs)
+    (λ c _. search needs)
+    (λ c. search needs)
     returns
     returns-2
     returns-3

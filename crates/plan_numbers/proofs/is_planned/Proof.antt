@@ -13,9 +13,6 @@ use Rattle.plan_numbers.proofs.is_planned.Tie as tie
 ok-1 : (c : tie.Else1) → let a = c .before .before .args in format (a .elen) (a .plan .sew) (a .plan .factor) ≡ true
 ok-1 c = sym (c .before .is-format .ensures) ∙ not-false (c .before .is-format .result) (c .if1 .left)
 
-is-format-requires : tie.Need-is-format-requires
-is-format-requires c κs = search needs
-
 returns : tie.Need-returns
 unfolding planned
 returns c =
@@ -52,9 +49,6 @@ returns-4 c =
     fails (format E (P .sew) (P .factor) ∷ leb (P .m) 1024 ∷ leb (P .k) 1024 ∷ []) (ok-1 o, (le-leb (P .m) 1024 (d .if2 .left), (le-leb (P .k) 1024 (e .if3 .left), tt)))
     (leb (P .n) 1024) (lt-leb (P .n) 1024 (c .if4 .taken)) (kindFits P ∷ [])
 
-is-kind-fit-requires : tie.Need-is-kind-fit-requires
-is-kind-fit-requires c κs = search needs
-
 returns-5 : tie.Need-returns-5
 unfolding planned
 returns-5 c =
@@ -68,4 +62,4 @@ returns-5 c =
     (ok-1 o, (le-leb (P .m) 1024 (d .if2 .left), (le-leb (P .k) 1024 (e .if3 .left), (le-leb (P .n) 1024 (f .if4 .left), tt)))) (kindFits P)
 
 pub is-planned-spec : {M : Type 1} → statement M
-is-planned-spec = tie.close (tie.spec is-format-requires returns returns-2 returns-3 returns-4 is-kind-fit-requires returns-5)
+is-planned-spec = tie.close (tie.spec (λ c _. search needs) returns returns-2 returns-3 returns-4 (λ c _. search needs) returns-5)

@@ -13,15 +13,9 @@ mul-high c = let h : c .args .stride / 4294967296 ≤ 4294967295 = omega arith i
 mul-low : tie.Need-mul-low
 mul-low c = let h : c .args .stride % 4294967296 ≤ 4294967295 = omega arith in omega (arith, mul-le-mul (c .pre) h)
 
-mul-wrapping-add-u64 : tie.Need-mul-wrapping-add-u64
-mul-wrapping-add-u64 c = search needs
-
-wrapping-add-u64-requires : tie.Need-wrapping-add-u64-requires
-wrapping-add-u64-requires c κs = search needs
-
 returns : tie.Need-returns
 returns c = c .wrapping-add-u64 .ensures ∙ row-halves (c .before .args .row) (c .before .args .stride)
 
 pub row-times-spec : {M : Type 1} → statement M
 row-times-spec =
-    tie.close (tie.spec mul-high mul-low mul-wrapping-add-u64 wrapping-add-u64-requires returns)
+    tie.close (tie.spec mul-high mul-low (λ c. search needs) (λ c _. search needs) returns)

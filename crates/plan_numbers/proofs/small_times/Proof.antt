@@ -7,8 +7,5 @@ use Rattle.plan_numbers.proofs.small_times.Tie as tie
 mul-result : tie.Need-mul-result
 mul-result c = omega (arith, mul-le-mul (c .pre .0) (c .pre .1))
 
-returns : tie.Need-returns
-returns c = search needs
-
 pub small-times-spec : {M : Type 1} → statement M
-small-times-spec = tie.close (tie.spec mul-result returns)
+small-times-spec = tie.close (tie.spec mul-result (λ c. search needs))

@@ -6,15 +6,6 @@ use borrow.Author.Needs.{needs}
 use Rattle.plan_numbers.proofs.start_of.Statement.{statement}
 use Rattle.plan_numbers.proofs.start_of.Tie as tie
 
-row-times-requires : tie.Need-row-times-requires
-row-times-requires c κs = search needs
-
-wrapping-add-u64-requires : tie.Need-wrapping-add-u64-requires
-wrapping-add-u64-requires c κs = search needs
-
-wrapping-add-u64-requires-2 : tie.Need-wrapping-add-u64-requires-2
-wrapping-add-u64-requires-2 c κs = search needs
-
 returns : tie.Need-returns
 returns c =
     let f = c .before in
@@ -27,4 +18,4 @@ returns c =
 pub start-of-spec : {M : Type 1} → statement M
 start-of-spec =
     tie.close
-    (tie.spec row-times-requires wrapping-add-u64-requires wrapping-add-u64-requires-2 returns)
+    (tie.spec (λ c _. search needs) (λ c _. search needs) (λ c _. search needs) returns)

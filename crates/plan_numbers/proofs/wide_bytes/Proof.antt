@@ -7,9 +7,6 @@ use borrow.Author.Needs.{needs}
 use Rattle.plan_numbers.proofs.wide_bytes.Statement.{statement}
 use Rattle.plan_numbers.proofs.wide_bytes.Tie as tie
 
-narrow-bytes-requires : tie.Need-narrow-bytes-requires
-narrow-bytes-requires c κs = search needs
-
 small-times-requires : tie.Need-small-times-requires
 small-times-requires c κs = let s = c .before in (omega (arith, plan-small (s .args .plan) (s .pre) .1), omega (arith, c .narrow-bytes .ensures .1))
 
@@ -24,4 +21,4 @@ returns c =
     )
 
 pub wide-bytes-spec : {M : Type 1} → statement M
-wide-bytes-spec = tie.close (tie.spec narrow-bytes-requires small-times-requires returns)
+wide-bytes-spec = tie.close (tie.spec (λ c _. search needs) small-times-requires returns)

@@ -21,8 +21,5 @@ mul-t12 c =
     let a = c .args in
     omega (arith, row-small (a .n) (a .factor * (a .sew / 8)) (c .pre .0 .1 .1) (widths (a .sew) (a .factor) (c .pre .1) .1))
 
-returns : tie.Need-returns
-returns c = search needs
-
 pub plan-for-spec : {M : Type 1} → statement M
-plan-for-spec = tie.close (tie.spec mul-wide mul-t8 mul-t10 mul-t12 returns)
+plan-for-spec = tie.close (tie.spec mul-wide mul-t8 mul-t10 mul-t12 (λ c. search needs))

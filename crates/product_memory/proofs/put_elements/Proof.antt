@@ -30,24 +30,12 @@ fits c =
     let p = row-fits (c .before .loop .i) (length (s .args .values .now)) (s .args .width) (c .loop-test .taken) in
     omega (arith, s .pre)
 
-mul-put-element : tie.Need-mul-put-element Inv-loop μ-loop
-mul-put-element c = search needs
-
-shared-slice-read-put-element : tie.Need-shared-slice-read-put-element Inv-loop μ-loop
-shared-slice-read-put-element c = search needs
-
 put-element-requires : tie.Need-put-element-requires Inv-loop μ-loop
 put-element-requires c κs =
     let f = fits (c .before .before) in (c .before .before .before .before .before .before .pre .0, omega arith)
 
 add-to : tie.Need-add-to Inv-loop μ-loop
 add-to c = let f = fits (c .before .before .before .before .before) in omega arith
-
-add-i : tie.Need-add-i Inv-loop μ-loop
-add-i c = search needs
-
-loop-less : tie.Need-loop-less Inv-loop μ-loop
-loop-less c = search needs
 
 loop-again : tie.Need-loop-again Inv-loop μ-loop
 loop-again c =
@@ -63,9 +51,6 @@ loop-again c =
           (l .inv .3) (l .inv .1) refl (w .ensures),
     )
 
-same-length : tie.Need-same-length Inv-loop μ-loop
-same-length c = search needs
-
 returns : tie.Need-returns Inv-loop μ-loop
 returns c =
     let l = c .before .loop in
@@ -79,12 +64,12 @@ put-elements-spec =
     Inv-loop
     μ-loop
     loop-holds
-    mul-put-element
-    shared-slice-read-put-element
+    (λ c. search needs)
+    (λ c. search needs)
     put-element-requires
     add-to
-    add-i
-    loop-less
+    (λ c. search needs)
+    (λ c. search needs)
     loop-again
-    same-length
+    (λ c. search needs)
     returns)

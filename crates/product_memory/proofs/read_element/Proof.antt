@@ -7,22 +7,10 @@ use Rattle.element.proofs.Laws.{is4}
 use Rattle.product_memory.proofs.read_element.Statement.{statement}
 use Rattle.product_memory.proofs.read_element.Tie as tie
 
-read1-requires : tie.Need-read1-requires
-read1-requires c κs = search needs
-
-cast-result : tie.Need-cast-result
-cast-result c = search needs
-
 returns : tie.Need-returns
 returns c =
     let a = c .before .before .before .args in
     c .read1 .ensures .0 ∙ ap (getLe (a .memory .now) (a .at)) (sym (c .before .if1 .taken))
-
-read2-requires : tie.Need-read2-requires
-read2-requires c κs = search needs
-
-cast-result-2 : tie.Need-cast-result-2
-cast-result-2 c = search needs
 
 returns-2 : tie.Need-returns-2
 returns-2 c =
@@ -35,9 +23,6 @@ read4-requires c κs =
     let e = is4 (s .args .width) (s .pre .0) (c .before .if1 .left) (c .if2 .left) in
     omega arith
 
-cast-result-3 : tie.Need-cast-result-3
-cast-result-3 c = search needs
-
 returns-3 : tie.Need-returns-3
 returns-3 c =
     let s = c .before .before .before .before in
@@ -48,12 +33,12 @@ pub read-element-spec : {M : Type 1} → statement M
 read-element-spec =
     tie.close
     (tie.spec
-    read1-requires
-    cast-result
+    (λ c _. search needs)
+    (λ c. search needs)
     returns
-    read2-requires
-    cast-result-2
+    (λ c _. search needs)
+    (λ c. search needs)
     returns-2
     read4-requires
-    cast-result-3
+    (λ c. search needs)
     returns-3)

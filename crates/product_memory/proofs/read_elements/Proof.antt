@@ -34,17 +34,8 @@ fits c =
 read-element-requires : tie.Need-read-element-requires Inv-loop μ-loop
 read-element-requires c κs = (c .before .before .before .before .pre .0, fits c)
 
-mul-values : tie.Need-mul-values Inv-loop μ-loop
-mul-values c = search needs
-
-slice-write-values : tie.Need-slice-write-values Inv-loop μ-loop
-slice-write-values c = search needs
-
 add-from : tie.Need-add-from Inv-loop μ-loop
 add-from c = let f = fits (c .before) in omega arith
-
-add-j : tie.Need-add-j Inv-loop μ-loop
-add-j c = search needs
 
 loop-less : tie.Need-loop-less Inv-loop μ-loop
 loop-less c = simp length-set (omega arith)
@@ -63,9 +54,6 @@ loop-again c =
           (getD-set-same (l .values) (l .j) (r .result) 0 (omega arith) ∙ r .ensures ∙ ap (λ (p : ℕ). getLe (a .memory .now) p (a .width)) (l .inv .1)),
     )
 
-same-length : tie.Need-same-length Inv-loop μ-loop
-same-length c = search needs
-
 returns : tie.Need-returns Inv-loop μ-loop
 returns c = let l = c .before .loop in (l .inv .2, λ q h. l .inv .3 q (omega arith))
 
@@ -77,11 +65,11 @@ read-elements-spec =
     μ-loop
     loop-holds
     read-element-requires
-    mul-values
-    slice-write-values
+    (λ c. search needs)
+    (λ c. search needs)
     add-from
-    add-j
+    (λ c. search needs)
     loop-less
     loop-again
-    same-length
+    (λ c. search needs)
     returns)

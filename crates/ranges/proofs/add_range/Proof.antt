@@ -11,12 +11,6 @@ use Rattle.ranges.proofs.PutLaws.{count-is, added}
 use Rattle.ranges.proofs.add_range.Statement.{statement}
 use Rattle.ranges.proofs.add_range.Tie as tie
 
-count-of-requires : tie.Need-count-of-requires
-count-of-requires c κs = search needs
-
-add-write8 : tie.Need-add-write8
-add-write8 c = search needs
-
 write8-requires : tie.Need-write8-requires
 write8-requires c κs =
     let st = c .before .before .before .before in
@@ -28,9 +22,6 @@ put-range-requires c κs =
     let k = w .before .before in
     let st = k .before .before .before in
     (w .write8 .kept .0 ∙ held (st .args .block .now) (st .pre .0) .long, omega (arith, st .pre .1, count-is (st .args .block .now) (st .pre .0), k .count-of .ensures .0))
-
-same-length : tie.Need-same-length
-same-length c = search needs
 
 returns : tie.Need-returns
 returns c =
@@ -46,4 +37,4 @@ returns c =
 pub add-range-spec : {M : Type 1} → statement M
 add-range-spec =
     tie.close
-    (tie.spec count-of-requires add-write8 write8-requires put-range-requires same-length returns)
+    (tie.spec (λ c _. search needs) (λ c. search needs) write8-requires put-range-requires (λ c. search needs) returns)

@@ -22,15 +22,6 @@ last-row-requires c κs =
     let b : 0 < a .bytes = omega (arith, c .if2 .left) in
     (s .pre .1 .0, (s .pre .1 .1 .0, (omega (arith, s .pre .1 .1 .1, le-mul-of-pos-right {m = a .bytes} (a .rows) b), (r, b))))
 
-smaller-requires : tie.Need-smaller-requires
-smaller-requires c κs = search needs
-
-larger-requires : tie.Need-larger-requires
-larger-requires c κs = search needs
-
-sub-n : tie.Need-sub-n
-sub-n c = search needs
-
 -- where the rows begin and end
 record Ends (len base bytes last p high : ℕ) : Type 0 where
   first-ends : base + bytes ≤ len
@@ -79,9 +70,6 @@ each-missed-requires c κs =
     (e .before-first) (omega (arith, e .before-last, r)) (e .from-first) (omega (arith, e .from-last, r)) in
     (s .pre .0, (s .pre .1 .0, (s .pre .1 .1 .0, (s .pre .1 .1 .1, (λ i l. (span i l .0, omega (arith, span i l .1, k)), omega (arith, e .first-ends, e .last-ends, e .near, s .pre .1 .1 .0, k))))))
 
-returns-3 : tie.Need-returns-3
-returns-3 c = search needs
-
 pub apart-missed-spec : {M : Type 1} → statement M
 apart-missed-spec =
     tie.close
@@ -89,9 +77,9 @@ apart-missed-spec =
     returns
     returns-2
     last-row-requires
-    smaller-requires
-    larger-requires
-    sub-n
+    (λ c _. search needs)
+    (λ c _. search needs)
+    (λ c. search needs)
     add-n
     each-missed-requires
-    returns-3)
+    (λ c. search needs))

@@ -27,12 +27,6 @@ loop-holds c =
 put-range-requires : tie.Need-put-range-requires Inv-loop μ-loop
 put-range-requires c κs = let t = c .before in let l = t .before in (l .loop .inv .0 ∙ l .before .before .pre .0, t .loop-test .taken)
 
-add-i : tie.Need-add-i Inv-loop μ-loop
-add-i c = omega arith
-
-loop-less : tie.Need-loop-less Inv-loop μ-loop
-loop-less c = omega arith
-
 loop-again : tie.Need-loop-again Inv-loop μ-loop
 loop-again c =
     let p = c .before .before in
@@ -65,8 +59,8 @@ clear-slots-spec =
     μ-loop
     loop-holds
     put-range-requires
-    add-i
-    loop-less
+    (λ c. omega arith)
+    (λ c. omega arith)
     loop-again
     same-length
     returns)

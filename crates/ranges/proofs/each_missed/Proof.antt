@@ -69,12 +69,6 @@ returns c =
     in-block (a .base) (a .stride) (a .rows) (a .bytes) (a .block .now) (s .pre .0) (k .result) (k .ensures .0) false
     (met (a .base) (a .stride) (a .rows) (a .bytes) (a .block .now) (k .result) (t .before .loop .i) (t .loop-test .taken) (test-failed (r .range-missed .result) _ (told r) (c .if1 .taken)))
 
-add-i : tie.Need-add-i Inv-loop μ-loop
-add-i c = search needs
-
-loop-less : tie.Need-loop-less Inv-loop μ-loop
-loop-less c = search needs
-
 loop-again : tie.Need-loop-again Inv-loop μ-loop
 loop-again c =
     let r = c .before in
@@ -109,7 +103,7 @@ each-missed-spec =
     read8-requires-2
     range-missed-requires
     returns
-    add-i
-    loop-less
+    (λ c. search needs)
+    (λ c. search needs)
     loop-again
     returns-2)

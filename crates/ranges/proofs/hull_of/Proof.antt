@@ -55,18 +55,6 @@ told c =
 add-end : tie.Need-add-end Inv-loop μ-loop
 add-end c = let e = told c in omega (arith, e .2)
 
-smaller-requires : tie.Need-smaller-requires Inv-loop μ-loop
-smaller-requires c κs = search needs
-
-larger-requires : tie.Need-larger-requires Inv-loop μ-loop
-larger-requires c κs = search needs
-
-add-i : tie.Need-add-i Inv-loop μ-loop
-add-i c = search needs
-
-loop-less : tie.Need-loop-less Inv-loop μ-loop
-loop-less c = search needs
-
 loop-again : tie.Need-loop-again Inv-loop μ-loop
 loop-again c =
     let d = c .before .before in
@@ -100,9 +88,9 @@ hull-of-spec =
     add-read8
     read8-requires-2
     add-end
-    smaller-requires
-    larger-requires
-    add-i
-    loop-less
+    (λ c _. search needs)
+    (λ c _. search needs)
+    (λ c. search needs)
+    (λ c. search needs)
     loop-again
     returns)

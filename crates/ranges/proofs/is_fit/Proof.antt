@@ -30,12 +30,6 @@ slots b = all mostSeals (slotSound b (countIn b))
 returns : tie.Need-returns
 returns c = let b = c .before .before .args .block .now in fails [] tt (long b) (ne-eqb (length b) 200 (c .if1 .taken)) (few b ∷ slots b ∷ []) ∙ fit-by b
 
-read8-requires : tie.Need-read8-requires
-read8-requires c κs = search needs
-
-one-sound-requires : tie.Need-one-sound-requires
-one-sound-requires c κs = search needs
-
 -- the tests before the slots
 before : (b : List ℕ) (n : ℕ) → length b ≡ 200 → n ≡ countIn b → n ≤ 8 → (t : Bool) → t ≡ all mostSeals (slotSound b n) → t ≡ sealsFit (sealsIn b)
 before b n l e k t h =
@@ -49,9 +43,6 @@ returns-2 c =
     let b = e .before .before .args .block .now in
     before b (r .read8 .result) (e .if1 .left) (r .read8 .ensures) (omega (arith, d .if2 .taken)) (c .one-sound .result)
     (c .one-sound .ensures ∙ ap (λ (n : ℕ). all mostSeals (slotSound b n)) (sym (d .if2 .taken)))
-
-none-sound-requires : tie.Need-none-sound-requires
-none-sound-requires c κs = search needs
 
 returns-3 : tie.Need-returns-3
 returns-3 c =
@@ -69,9 +60,6 @@ returns-4 c =
     let b = e .before .before .args .block .now in
     fails (long b ∷ []) (eq-eqb (length b) 200 (e .if1 .left), tt) (few b) (lt-leb (countIn b) 8 (omega (arith, c .if4 .taken, r .read8 .ensures))) (slots b ∷ []) ∙ fit-by b
 
-slots-sound-requires : tie.Need-slots-sound-requires
-slots-sound-requires c κs = search needs
-
 returns-5 : tie.Need-returns-5
 returns-5 c =
     let d = c .before in
@@ -81,4 +69,4 @@ returns-5 c =
     before b (r .read8 .result) (e .if1 .left) (r .read8 .ensures) (omega (arith, d .if4 .left)) (c .slots-sound .result) (c .slots-sound .ensures)
 
 pub is-fit-spec : {M : Type 1} → statement M
-is-fit-spec = tie.close (tie.spec returns read8-requires one-sound-requires returns-2 none-sound-requires returns-3 returns-4 slots-sound-requires returns-5)
+is-fit-spec = tie.close (tie.spec returns (λ c _. search needs) (λ c _. search needs) returns-2 (λ c _. search needs) returns-3 returns-4 (λ c _. search needs) returns-5)

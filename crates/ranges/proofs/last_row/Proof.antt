@@ -8,12 +8,6 @@ use Rattle.address.proofs.AddressLaws.{step, passed-on, row-inside, row-reached
 use Rattle.ranges.proofs.last_row.Statement.{statement}
 use Rattle.ranges.proofs.last_row.Tie as tie
 
-as-signed-requires : tie.Need-as-signed-requires
-as-signed-requires c κs = search needs
-
-sub-row-address : tie.Need-sub-row-address
-sub-row-address c = search needs
-
 -- the stride
 stride-is : (c : tie.After-as-signed) → toZ w64 (ofZ w64 (c .as-signed .result)) ≡ step (c .before .args .stride)
 stride-is c = passed-on (c .as-signed .result) (c .before .args .stride) (c .as-signed .ok) (c .as-signed .ensures)
@@ -35,4 +29,4 @@ returns c =
 
 pub last-row-spec : {M : Type 1} → statement M
 last-row-spec =
-    tie.close (tie.spec as-signed-requires sub-row-address row-address-requires returns)
+    tie.close (tie.spec (λ c _. search needs) (λ c. search needs) row-address-requires returns)

@@ -8,12 +8,6 @@ use Rattle.ranges.proofs.RangeLaws.{none-ends, none-fails}
 use Rattle.ranges.proofs.none_sound.Statement.{statement}
 use Rattle.ranges.proofs.none_sound.Tie as tie
 
-read8-requires : tie.Need-read8-requires
-read8-requires c κs = search needs
-
-read8-requires-2 : tie.Need-read8-requires-2
-read8-requires-2 c κs = search needs
-
 returns : tie.Need-returns
 returns c =
     let y = c .before in
@@ -29,9 +23,6 @@ returns-2 c =
     let b = x .before .before .args .block .now in
     none-fails b (ap₂ (λ (t u : Bool). t && u) (eq-eqb (getLe b 48 8) 0 (sym (x .read8 .ensures) ∙ d .if1 .left)) (ne-eqb (getLe b 56 8) 0 (λ e. c .if2 .taken (y .read82 .ensures ∙ e))))
 
-others-empty-requires : tie.Need-others-empty-requires
-others-empty-requires c κs = search needs
-
 returns-3 : tie.Need-returns-3
 returns-3 c =
     let f = c .before in
@@ -45,4 +36,4 @@ returns-3 c =
 pub none-sound-spec : {M : Type 1} → statement M
 none-sound-spec =
     tie.close
-    (tie.spec read8-requires read8-requires-2 returns returns-2 others-empty-requires returns-3)
+    (tie.spec (λ c _. search needs) (λ c _. search needs) returns returns-2 (λ c _. search needs) returns-3)

@@ -6,23 +6,11 @@ use Rattle.ranges.proofs.RangeLaws.{one-ends, one-fails}
 use Rattle.ranges.proofs.one_sound.Statement.{statement}
 use Rattle.ranges.proofs.one_sound.Tie as tie
 
-read8-requires : tie.Need-read8-requires
-read8-requires c κs = search needs
-
-read8-requires-2 : tie.Need-read8-requires-2
-read8-requires-2 c κs = search needs
-
-seal-ends-requires : tie.Need-seal-ends-requires
-seal-ends-requires c κs = search needs
-
 returns : tie.Need-returns
 returns c =
     let r = c .before in
     let b = r .before .before .before .before .args .block .now in
     one-fails b (sym (ap₂ sealEnds (r .before .before .read8 .ensures) (r .before .read82 .ensures)) ∙ test-failed (r .seal-ends .result) _ (r .seal-ends .ensures) (c .if1 .taken))
-
-others-empty-requires : tie.Need-others-empty-requires
-others-empty-requires c κs = search needs
 
 returns-2 : tie.Need-returns-2
 returns-2 c =
@@ -36,9 +24,9 @@ pub one-sound-spec : {M : Type 1} → statement M
 one-sound-spec =
     tie.close
     (tie.spec
-    read8-requires
-    read8-requires-2
-    seal-ends-requires
+    (λ c _. search needs)
+    (λ c _. search needs)
+    (λ c _. search needs)
     returns
-    others-empty-requires
+    (λ c _. search needs)
     returns-2)

@@ -5,9 +5,6 @@ use Rattle.ranges.proofs.RangeLaws.{span-missed}
 use Rattle.ranges.proofs.range_missed.Statement.{statement}
 use Rattle.ranges.proofs.range_missed.Tie as tie
 
-misses-range-requires : tie.Need-misses-range-requires
-misses-range-requires c κs = search needs
-
 returns : tie.Need-returns
 returns c =
     let r = c .before .misses-range in
@@ -15,11 +12,5 @@ returns c =
     let a = s .args in
     span-missed (a .base) (a .stride) (a .rows) (a .bytes) (within (a .start) (a .size)) (a .p) (a .n) (s .pre .1 .1 .1 .0) (sym (r .ensures) ∙ c .if1 .taken)
 
-rows-miss-requires : tie.Need-rows-miss-requires
-rows-miss-requires c κs = search needs
-
-returns-2 : tie.Need-returns-2
-returns-2 c = search needs
-
 pub range-missed-spec : {M : Type 1} → statement M
-range-missed-spec = tie.close (tie.spec misses-range-requires returns rows-miss-requires returns-2)
+range-missed-spec = tie.close (tie.spec (λ c _. search needs) returns (λ c _. search needs) (λ c. search needs))

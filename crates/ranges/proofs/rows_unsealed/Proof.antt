@@ -9,9 +9,6 @@ use Rattle.ranges.proofs.RangeLaws.{held, none-met, one-missed, in-bloc
 use Rattle.ranges.proofs.rows_unsealed.Statement.{statement}
 use Rattle.ranges.proofs.rows_unsealed.Tie as tie
 
-count-of-requires : tie.Need-count-of-requires
-count-of-requires c κs = search needs
-
 returns : tie.Need-returns
 returns c =
     let k = c .before .count-of in
@@ -19,20 +16,11 @@ returns c =
     let a = s .args in
     in-block (a .base) (a .stride) (a .rows) (a .bytes) (a .block .now) (s .pre .0) 0 (omega (arith, c .if1 .taken, k .ensures .0)) true (none-met (a .base) (a .stride) (a .rows) (a .bytes))
 
-several-missed-requires : tie.Need-several-missed-requires
-several-missed-requires c κs = search needs
-
-returns-2 : tie.Need-returns-2
-returns-2 c = search needs
-
 read8-requires : tie.Need-read8-requires
 read8-requires c κs = let s = c .before .before .before .before in let h = held (s .args .block .now) (s .pre .0) in omega (arith, h .long)
 
 read8-requires-2 : tie.Need-read8-requires-2
 read8-requires-2 c κs = let s = c .before .before .before .before .before in let h = held (s .args .block .now) (s .pre .0) in omega (arith, h .long)
-
-rows-miss-requires : tie.Need-rows-miss-requires
-rows-miss-requires c κs = search needs
 
 returns-3 : tie.Need-returns-3
 returns-3 c =
@@ -51,11 +39,11 @@ pub rows-unsealed-spec : {M : Type 1} → statement M
 rows-unsealed-spec =
     tie.close
     (tie.spec
-    count-of-requires
+    (λ c _. search needs)
     returns
-    several-missed-requires
-    returns-2
+    (λ c _. search needs)
+    (λ c. search needs)
     read8-requires
     read8-requires-2
-    rows-miss-requires
+    (λ c _. search needs)
     returns-3)

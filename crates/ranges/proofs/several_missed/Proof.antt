@@ -6,9 +6,6 @@ use Rattle.ranges.proofs.RangeLaws.{none-met, all-missed, in-block}
 use Rattle.ranges.proofs.several_missed.Statement.{statement}
 use Rattle.ranges.proofs.several_missed.Tie as tie
 
-count-of-requires : tie.Need-count-of-requires
-count-of-requires c κs = search needs
-
 returns : tie.Need-returns
 returns c =
     let k = c .before .count-of in
@@ -16,14 +13,8 @@ returns c =
     let a = s .args in
     in-block (a .base) (a .stride) (a .rows) (a .bytes) (a .block .now) (s .pre .0) 0 (omega (arith, c .if1 .taken, k .ensures .0)) true (none-met (a .base) (a .stride) (a .rows) (a .bytes))
 
-hull-of-requires : tie.Need-hull-of-requires
-hull-of-requires c κs = search needs
-
 sub-size : tie.Need-sub-size
 sub-size c = let h = c .before .hull-of .ensures 0 (omega (arith, c .before .before .if1 .left)) in omega (arith, h .0, h .1)
-
-rows-miss-requires : tie.Need-rows-miss-requires
-rows-miss-requires c κs = search needs
 
 returns-2 : tie.Need-returns-2
 returns-2 c =
@@ -36,21 +27,15 @@ returns-2 c =
     in-block (a .base) (a .stride) (a .rows) (a .bytes) (a .block .now) (s .pre .0) (k .result) (k .ensures .0) true
     (all-missed (a .base) (a .stride) (a .rows) (a .bytes) (a .block .now) (k .result) (h .result .low) (h .result .high) (h .ensures) (sym (r .rows-miss .ensures) ∙ c .if2 .taken))
 
-apart-missed-requires : tie.Need-apart-missed-requires
-apart-missed-requires c κs = search needs
-
-returns-3 : tie.Need-returns-3
-returns-3 c = search needs
-
 pub several-missed-spec : {M : Type 1} → statement M
 several-missed-spec =
     tie.close
     (tie.spec
-    count-of-requires
+    (λ c _. search needs)
     returns
-    hull-of-requires
+    (λ c _. search needs)
     sub-size
-    rows-miss-requires
+    (λ c _. search needs)
     returns-2
-    apart-missed-requires
-    returns-3)
+    (λ c _. search needs)
+    (λ c. search needs))

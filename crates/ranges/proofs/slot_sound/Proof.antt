@@ -13,21 +13,6 @@ use borrow.Author.Needs.{needs}
 use Rattle.ranges.proofs.slot_sound.Statement.{statement}
 use Rattle.ranges.proofs.slot_sound.Tie as tie
 
-slot-at-requires : tie.Need-slot-at-requires
-slot-at-requires c κs = search needs
-
-read8-requires : tie.Need-read8-requires
-read8-requires c κs = search needs
-
-add-read8 : tie.Need-add-read8
-add-read8 c = search needs
-
-read8-requires-2 : tie.Need-read8-requires-2
-read8-requires-2 c κs = search needs
-
-seal-ends-requires : tie.Need-seal-ends-requires
-seal-ends-requires c κs = search needs
-
 -- the slot, and what is read of it
 abbrev at : tie.After-read82 → ℕ
 at b = b .before .before .before .before .args .i
@@ -75,11 +60,11 @@ pub slot-sound-spec : {M : Type 1} → statement M
 slot-sound-spec =
     tie.close
     (tie.spec
-    slot-at-requires
-    read8-requires
-    add-read8
-    read8-requires-2
-    seal-ends-requires
+    (λ c _. search needs)
+    (λ c _. search needs)
+    (λ c. search needs)
+    (λ c _. search needs)
+    (λ c _. search needs)
     returns
     returns-2
     returns-3)

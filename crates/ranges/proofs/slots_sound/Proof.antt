@@ -19,21 +19,12 @@ abbrev μ-loop : tie.MeasureT-loop
 loop-holds : tie.Need-loop-holds Inv-loop μ-loop
 loop-holds c = (omega arith, refl)
 
-slot-sound-requires : tie.Need-slot-sound-requires Inv-loop μ-loop
-slot-sound-requires c κs = search needs
-
 returns : tie.Need-returns Inv-loop μ-loop
 returns c =
     let t = c .before .before in
     let a = t .before .before .before .args in
     let r = c .before .slot-sound in
     sym (all-false 8 (slotSound (a .block .now) (a .count)) (t .before .loop .i) (omega (arith, t .loop-test .taken)) (test-failed (r .result) _ (r .ensures) (c .if1 .taken)))
-
-add-i : tie.Need-add-i Inv-loop μ-loop
-add-i c = search needs
-
-loop-less : tie.Need-loop-less Inv-loop μ-loop
-loop-less c = search needs
 
 loop-again : tie.Need-loop-again Inv-loop μ-loop
 loop-again c =
@@ -57,9 +48,9 @@ slots-sound-spec =
     Inv-loop
     μ-loop
     loop-holds
-    slot-sound-requires
+    (λ c _. search needs)
     returns
-    add-i
-    loop-less
+    (λ c. search needs)
+    (λ c. search needs)
     loop-again
     returns-2)

@@ -20,24 +20,6 @@ loop-holds c =
     let a = c .args in
     (omega arith, refl, copy-start (a .room .now) (a .s .now) (a .to) (a .from) (a .n) 0 refl)
 
-add-room : tie.Need-add-room Inv-loop μ-loop
-add-room c = omega arith
-
-shared-slice-read-room : tie.Need-shared-slice-read-room Inv-loop μ-loop
-shared-slice-read-room c = omega arith
-
-add-room-2 : tie.Need-add-room-2 Inv-loop μ-loop
-add-room-2 c = omega arith
-
-slice-write-room : tie.Need-slice-write-room Inv-loop μ-loop
-slice-write-room c = omega arith
-
-add-i : tie.Need-add-i Inv-loop μ-loop
-add-i c = omega arith
-
-loop-less : tie.Need-loop-less Inv-loop μ-loop
-loop-less c = omega arith
-
 loop-again : tie.Need-loop-again Inv-loop μ-loop
 loop-again c =
     let l = c .before .before .loop in
@@ -63,12 +45,12 @@ copy-bytes-spec =
     Inv-loop
     μ-loop
     loop-holds
-    add-room
-    shared-slice-read-room
-    add-room-2
-    slice-write-room
-    add-i
-    loop-less
+    (λ c. omega arith)
+    (λ c. omega arith)
+    (λ c. omega arith)
+    (λ c. omega arith)
+    (λ c. omega arith)
+    (λ c. omega arith)
     loop-again
     same-length
     returns)

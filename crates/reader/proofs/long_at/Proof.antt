@@ -7,15 +7,6 @@ use Rattle.reader.proofs.AtLaws.{long-none, long-more}
 use Rattle.reader.proofs.long_at.Statement.{statement}
 use Rattle.reader.proofs.long_at.Tie as tie
 
-least-after-requires : tie.Need-least-after-requires
-least-after-requires c κs = search needs
-
-most-after-requires : tie.Need-most-after-requires
-most-after-requires c κs = search needs
-
-fault-requires : tie.Need-fault-requires
-fault-requires c κs = search needs
-
 returns : tie.Need-returns
 returns c =
     let k = c .before in
@@ -24,12 +15,6 @@ returns c =
     let p = k .before .before .before .before in
     let a = p .args in
     c .fault .ensures ∙ ap plain (long-none (a .s .now) (a .at) (a .low) (a .high) (a .g) (l .result) (m .result) (p .pre .0) (p .pre .1) (l .ensures) (m .ensures) (omega arith))
-
-add-rest-at : tie.Need-add-rest-at
-add-rest-at c = search needs
-
-rest-at-requires : tie.Need-rest-at-requires
-rest-at-requires c κs = search needs
 
 returns-2 : tie.Need-returns-2
 returns-2 c =
@@ -44,10 +29,10 @@ pub long-at-spec : {M : Type 1} → statement M
 long-at-spec =
     tie.close
     (tie.spec
-    least-after-requires
-    most-after-requires
-    fault-requires
+    (λ c _. search needs)
+    (λ c _. search needs)
+    (λ c _. search needs)
     returns
-    add-rest-at
-    rest-at-requires
+    (λ c. search needs)
+    (λ c _. search needs)
     returns-2)

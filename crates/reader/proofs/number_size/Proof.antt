@@ -14,15 +14,6 @@ Inv-loop n x₀ k₀ x k = (k + x ≤ n + 1) × (k + length (encode x) ≡ 1 + l
 abbrev μ-loop : tie.MeasureT-loop
 μ-loop n x₀ k₀ x k = x
 
-loop-holds : tie.Need-loop-holds Inv-loop μ-loop
-loop-holds c = omega arith
-
-add-k : tie.Need-add-k Inv-loop μ-loop
-add-k c = omega arith
-
-loop-less : tie.Need-loop-less Inv-loop μ-loop
-loop-less c = omega arith
-
 loop-again : tie.Need-loop-again Inv-loop μ-loop
 loop-again c = omega (arith, length-more (c .before .loop .x) (omega arith))
 
@@ -30,4 +21,4 @@ returns : tie.Need-returns Inv-loop μ-loop
 returns c = omega (arith, length-last (c .before .loop .x) (omega arith))
 
 pub number-size-spec : {M : Type 1} → statement M
-number-size-spec = tie.close (tie.spec Inv-loop μ-loop loop-holds add-k loop-less loop-again returns)
+number-size-spec = tie.close (tie.spec Inv-loop μ-loop (λ c. omega arith) (λ c. omega arith) (λ c. omega arith) loop-again returns)

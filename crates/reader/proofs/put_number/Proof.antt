@@ -19,28 +19,16 @@ abbrev μ-loop : tie.MeasureT-loop
 loop-holds : tie.Need-loop-holds Inv-loop μ-loop
 loop-holds c = (refl, refl, refl)
 
-add-room : tie.Need-add-room Inv-loop μ-loop
-add-room c = omega arith
-
-cast-room : tie.Need-cast-room Inv-loop μ-loop
-cast-room c = omega arith
-
 slice-write-room : tie.Need-slice-write-room Inv-loop μ-loop
 slice-write-room c = omega (arith, length-more (c .before .loop .x) (omega arith))
 
 add-i : tie.Need-add-i Inv-loop μ-loop
 add-i c = omega (arith, length-more (c .before .loop .x) (omega arith))
 
-loop-less : tie.Need-loop-less Inv-loop μ-loop
-loop-less c = omega arith
-
 loop-again : tie.Need-loop-again Inv-loop μ-loop
 loop-again c =
     let l = c .before .loop in
     (length-set (l .room) (l .i) (128 + l .x % 128) ∙ l .inv .0, omega (arith, length-more (l .x) (omega arith)), sym (put-more (l .room) (l .i) (l .x) (omega arith)) ∙ l .inv .2)
-
-cast-room-2 : tie.Need-cast-room-2 Inv-loop μ-loop
-cast-room-2 c = omega arith
 
 slice-write-room-2 : tie.Need-slice-write-room-2 Inv-loop μ-loop
 slice-write-room-2 c = omega (arith, length-last (c .before .loop .x) (omega arith))
@@ -63,13 +51,13 @@ put-number-spec =
     Inv-loop
     μ-loop
     loop-holds
-    add-room
-    cast-room
+    (λ c. omega arith)
+    (λ c. omega arith)
     slice-write-room
     add-i
-    loop-less
+    (λ c. omega arith)
     loop-again
-    cast-room-2
+    (λ c. omega arith)
     slice-write-room-2
     add-result
     same-length

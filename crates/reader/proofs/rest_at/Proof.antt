@@ -20,24 +20,12 @@ abbrev μ-loop : tie.MeasureT-loop
 loop-holds : tie.Need-loop-holds Inv-loop μ-loop
 loop-holds c = (omega arith, omega arith, refl)
 
-shared-slice-read-wide : tie.Need-shared-slice-read-wide Inv-loop μ-loop
-shared-slice-read-wide c = omega arith
-
-wide-requires : tie.Need-wide-requires Inv-loop μ-loop
-wide-requires c κs = search needs
-
-fault-requires : tie.Need-fault-requires Inv-loop μ-loop
-fault-requires c κs = search needs
-
 returns : tie.Need-returns Inv-loop μ-loop
 returns c =
     let k = c .before in
     let l = k .before .before .before .before .before .loop in
     let a = k .before .before .before .before .before .before .before .args in
     c .fault .ensures ∙ ap plain (turn-low (a .s .now) (l .i) (l .value) (l .unit) (l .lo) (l .hi) (k .before .before .wide .result) _ (l .inv .2) (omega arith) (k .before .before .wide .ensures) (omega arith) (omega arith))
-
-fault-requires-2 : tie.Need-fault-requires-2 Inv-loop μ-loop
-fault-requires-2 c κs = search needs
 
 returns-2 : tie.Need-returns-2 Inv-loop μ-loop
 returns-2 c =
@@ -60,12 +48,6 @@ add-found c =
     let w : l .unit * c .before .before .before .wide .result ≤ l .unit * l .hi = mul-le-mul-left (l .unit) (omega arith) in
     omega arith
 
-add-found-2 : tie.Need-add-found-2 Inv-loop μ-loop
-add-found-2 c = omega arith
-
-found-requires : tie.Need-found-requires Inv-loop μ-loop
-found-requires c κs = search needs
-
 returns-3 : tie.Need-returns-3 Inv-loop μ-loop
 returns-3 c =
     let k = c .before in
@@ -75,12 +57,6 @@ returns-3 c =
 
 least-after-requires : tie.Need-least-after-requires Inv-loop μ-loop
 least-after-requires c κs = omega (arith, c .before .wide .ensures, c .before .before .shared-slice-known2 .given (c .before .before .before .before .loop .i))
-
-most-after-requires : tie.Need-most-after-requires Inv-loop μ-loop
-most-after-requires c κs = search needs
-
-fault-requires-3 : tie.Need-fault-requires-3 Inv-loop μ-loop
-fault-requires-3 c κs = search needs
 
 returns-4 : tie.Need-returns-4 Inv-loop μ-loop
 returns-4 c =
@@ -111,12 +87,6 @@ mul-unit c =
     let w : l .unit * 128 * 1 ≤ l .unit * 128 * c .before .most-after .result = mul-le-mul-left (l .unit * 128) (omega (arith, c .before .before .least-after .ensures)) in
     omega arith
 
-add-i : tie.Need-add-i Inv-loop μ-loop
-add-i c = omega arith
-
-loop-less : tie.Need-loop-less Inv-loop μ-loop
-loop-less c = omega arith
-
 loop-again : tie.Need-loop-again Inv-loop μ-loop
 loop-again c =
     let l = c .before .before .before .before .before .before .before .loop in
@@ -126,9 +96,6 @@ loop-again c =
       h,
       turn-more (a .s .now) (l .i) (l .value) (l .unit) (l .lo) (l .hi) (c .before .before .before .before .wide .result) _ (l .inv .2) (omega arith) (c .before .before .before .before .wide .ensures) (omega arith) (c .before .before .least-after .result) (c .before .most-after .result) (c .before .before .least-after .ensures) (c .before .most-after .ensures) (omega arith),
     )
-
-fault-requires-4 : tie.Need-fault-requires-4 Inv-loop μ-loop
-fault-requires-4 c κs = search needs
 
 returns-5 : tie.Need-returns-5 Inv-loop μ-loop
 returns-5 c =
@@ -144,26 +111,26 @@ rest-at-spec =
     Inv-loop
     μ-loop
     loop-holds
-    shared-slice-read-wide
-    wide-requires
-    fault-requires
+    (λ c. omega arith)
+    (λ c _. search needs)
+    (λ c _. search needs)
     returns
-    fault-requires-2
+    (λ c _. search needs)
     returns-2
     mul-found
     add-found
-    add-found-2
-    found-requires
+    (λ c. omega arith)
+    (λ c _. search needs)
     returns-3
     least-after-requires
-    most-after-requires
-    fault-requires-3
+    (λ c _. search needs)
+    (λ c _. search needs)
     returns-4
     mul-value
     add-value
     mul-unit
-    add-i
-    loop-less
+    (λ c. omega arith)
+    (λ c. omega arith)
     loop-again
-    fault-requires-4
+    (λ c _. search needs)
     returns-5)

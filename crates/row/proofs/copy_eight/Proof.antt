@@ -26,9 +26,6 @@ length-written s (suc k) = length-set (written s k) (s .args .i + suc k) (getD (
 lies-still : (s : tie.Start) (k j : ℕ) → j < 8 → s .args .i + j < length (written s k)
 lies-still s k j h = subst (λ (n : ℕ). s .args .i + j < n) (sym (length-written s k)) (lies s j h .1)
 
-shared-slice-read-a : tie.Need-shared-slice-read-a
-shared-slice-read-a c = omega arith
-
 add-b : tie.Need-add-b
 add-b c = lies (c .before) 1 (ltb-true 1 8 refl) .2
 
@@ -70,9 +67,6 @@ add-h c = lies (c .before .before .before .before .before .before .before) 7 (lt
 
 shared-slice-read-h : tie.Need-shared-slice-read-h
 shared-slice-read-h c = lies (c .before .before .before .before .before .before .before .before) 7 (ltb-true 7 8 refl) .0
-
-slice-write-dst : tie.Need-slice-write-dst
-slice-write-dst c = omega arith
 
 add-dst : tie.Need-add-dst
 add-dst c = lies (c .before .before .before .before .before .before .before .before) 1 (ltb-true 1 8 refl) .2
@@ -128,7 +122,7 @@ pub copy-eight-spec : {M : Type 1} → statement M
 copy-eight-spec =
     tie.close
     (tie.spec
-    shared-slice-read-a
+    (λ c. omega arith)
     add-b
     shared-slice-read-b
     add-c
@@ -143,7 +137,7 @@ copy-eight-spec =
     shared-slice-read-g
     add-h
     shared-slice-read-h
-    slice-write-dst
+    (λ c. omega arith)
     add-dst
     slice-write-dst-2
     add-dst-2

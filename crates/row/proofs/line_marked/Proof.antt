@@ -9,9 +9,6 @@ use borrow.Author.Needs.{needs}
 use Rattle.row.proofs.line_marked.Statement.{statement}
 use Rattle.row.proofs.line_marked.Tie as tie
 
-read8-requires : tie.Need-read8-requires
-read8-requires c κs = search needs
-
 returns : tie.Need-returns
 returns c =
     let s = c .before .before .before in
@@ -19,11 +16,5 @@ returns c =
     ap (λ (v : ℕ). eqb v 72340172838076673) (c .read8 .ensures) ∙ eight-marked (a .marks .now) (a .p) (λ q. omega (arith, c .before .before .shared-slice-known .given q))
     ∙ ap (λ (n : ℕ). all n (λ b. eqb (getD (a .marks .now) (a .p + b) 0) 1)) (sym (c .before .if1 .taken))
 
-row-marked-requires : tie.Need-row-marked-requires
-row-marked-requires c κs = search needs
-
-returns-2 : tie.Need-returns-2
-returns-2 c = search needs
-
 pub line-marked-spec : {M : Type 1} → statement M
-line-marked-spec = tie.close (tie.spec read8-requires returns row-marked-requires returns-2)
+line-marked-spec = tie.close (tie.spec (λ c _. search needs) returns (λ c _. search needs) (λ c. search needs))

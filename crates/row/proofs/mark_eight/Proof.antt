@@ -23,47 +23,23 @@ length-marked s (suc k) = length-set (marked s k) (s .args .i + suc k) 1 ∙ len
 lies : (s : tie.Start) (k j : ℕ) → j < 8 → s .args .i + j < length (marked s k)
 lies s k j h = subst (λ (n : ℕ). s .args .i + j < n) (sym (length-marked s k)) (omega arith)
 
-slice-write-dst : tie.Need-slice-write-dst
-slice-write-dst c = search needs
-
-add-dst : tie.Need-add-dst
-add-dst c = search needs
-
 slice-write-dst-2 : tie.Need-slice-write-dst-2
 slice-write-dst-2 c = lies c 0 1 (ltb-true 1 8 refl)
-
-add-dst-2 : tie.Need-add-dst-2
-add-dst-2 c = search needs
 
 slice-write-dst-3 : tie.Need-slice-write-dst-3
 slice-write-dst-3 c = lies c 1 2 (ltb-true 2 8 refl)
 
-add-dst-3 : tie.Need-add-dst-3
-add-dst-3 c = search needs
-
 slice-write-dst-4 : tie.Need-slice-write-dst-4
 slice-write-dst-4 c = lies c 2 3 (ltb-true 3 8 refl)
-
-add-dst-4 : tie.Need-add-dst-4
-add-dst-4 c = search needs
 
 slice-write-dst-5 : tie.Need-slice-write-dst-5
 slice-write-dst-5 c = lies c 3 4 (ltb-true 4 8 refl)
 
-add-dst-5 : tie.Need-add-dst-5
-add-dst-5 c = search needs
-
 slice-write-dst-6 : tie.Need-slice-write-dst-6
 slice-write-dst-6 c = lies c 4 5 (ltb-true 5 8 refl)
 
-add-dst-6 : tie.Need-add-dst-6
-add-dst-6 c = search needs
-
 slice-write-dst-7 : tie.Need-slice-write-dst-7
 slice-write-dst-7 c = lies c 5 6 (ltb-true 6 8 refl)
-
-add-dst-7 : tie.Need-add-dst-7
-add-dst-7 c = search needs
 
 slice-write-dst-8 : tie.Need-slice-write-dst-8
 slice-write-dst-8 c = lies c 6 7 (ltb-true 7 8 refl)
@@ -80,20 +56,20 @@ pub mark-eight-spec : {M : Type 1} → statement M
 mark-eight-spec =
     tie.close
     (tie.spec
-    slice-write-dst
-    add-dst
+    (λ c. search needs)
+    (λ c. search needs)
     slice-write-dst-2
-    add-dst-2
+    (λ c. search needs)
     slice-write-dst-3
-    add-dst-3
+    (λ c. search needs)
     slice-write-dst-4
-    add-dst-4
+    (λ c. search needs)
     slice-write-dst-5
-    add-dst-5
+    (λ c. search needs)
     slice-write-dst-6
-    add-dst-6
+    (λ c. search needs)
     slice-write-dst-7
-    add-dst-7
+    (λ c. search needs)
     slice-write-dst-8
     same-length
     returns)

@@ -15,25 +15,10 @@ Inv-loop dst₀ n i₀ dst i = (i ≤ n) × (length dst ≡ length dst₀) × (d
 abbrev μ-loop : tie.MeasureT-loop
 μ-loop dst₀ n i₀ dst i = n - i
 
-mark-eight-requires : tie.Need-mark-eight-requires Inv-loop μ-loop
-mark-eight-requires c κs = omega arith
-
-same-length : tie.Need-same-length Inv-loop μ-loop
-same-length c = search needs
-
 returns : tie.Need-returns Inv-loop μ-loop
 returns c =
     let d = c .before .before in
     d .mark-eight .ensures ∙ ap (λ (n : ℕ). markRow 0 n (d .before .before .before .before .args .dst .now)) (sym (d .before .before .if1 .taken))
-
-mark-eight-requires-2 : tie.Need-mark-eight-requires-2 Inv-loop μ-loop
-mark-eight-requires-2 c κs = omega arith
-
-mark-eight-requires-3 : tie.Need-mark-eight-requires-3 Inv-loop μ-loop
-mark-eight-requires-3 c κs = omega arith
-
-same-length-2 : tie.Need-same-length-2 Inv-loop μ-loop
-same-length-2 c = search needs
 
 -- eight marks and eight more
 sixteen : (xs : List ℕ) → markRow 8 8 (markRow 0 8 xs) ≡ markRow 0 16 xs
@@ -51,23 +36,11 @@ loop-holds : tie.Need-loop-holds Inv-loop μ-loop
 unfolding markRow
 loop-holds c = (search needs, refl, refl)
 
-slice-write-dst : tie.Need-slice-write-dst Inv-loop μ-loop
-slice-write-dst c = search needs
-
-add-i : tie.Need-add-i Inv-loop μ-loop
-add-i c = search needs
-
-loop-less : tie.Need-loop-less Inv-loop μ-loop
-loop-less c = search needs
-
 loop-again : tie.Need-loop-again Inv-loop μ-loop
 loop-again c =
     let l = c .before .loop in
     let a = c .before .before .before .before .before .args in
     (search needs, simp length-set (search needs), markRow-next (l .i) (a .dst .now) (l .dst) (l .inv .2))
-
-same-length-3 : tie.Need-same-length-3 Inv-loop μ-loop
-same-length-3 c = search needs
 
 returns-3 : tie.Need-returns-3 Inv-loop μ-loop
 returns-3 c =
@@ -81,17 +54,17 @@ mark-row-spec =
     (tie.spec
     Inv-loop
     μ-loop
-    mark-eight-requires
-    same-length
+    (λ c _. omega arith)
+    (λ c. search needs)
     returns
-    mark-eight-requires-2
-    mark-eight-requires-3
-    same-length-2
+    (λ c _. omega arith)
+    (λ c _. omega arith)
+    (λ c. search needs)
     returns-2
     loop-holds
-    slice-write-dst
-    add-i
-    loop-less
+    (λ c. search needs)
+    (λ c. search needs)
+    (λ c. search needs)
     loop-again
-    same-length-3
+    (λ c. search needs)
     returns-3)

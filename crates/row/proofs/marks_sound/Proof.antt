@@ -22,29 +22,11 @@ abbrev μ-loop : tie.MeasureT-loop
 told : (m : List ℕ) (n : ℕ) → n ≡ length m → (t : Bool) → t ≡ all n (λ k. ltb (getD m k 0) 2) → t ≡ allOf (λ mark. ltb mark 2) m
 told m n e t h = h ∙ ap (λ (n : ℕ). all n (λ k. ltb (getD m k 0) 2)) e ∙ sym (allOf-all (λ mark. ltb mark 2) m)
 
-most-of-requires : tie.Need-most-of-requires Inv-loop μ-loop
-most-of-requires c κs = omega arith
-
 returns : tie.Need-returns Inv-loop μ-loop
 returns c = told (c .before .before .before .args .marks .now) 256 (sym (c .before .if1 .taken)) (ltb (c .most-of .result) 2) (c .most-of .ensures)
 
-most-of-requires-2 : tie.Need-most-of-requires-2 Inv-loop μ-loop
-most-of-requires-2 c κs = omega arith
-
-mul-i : tie.Need-mul-i Inv-loop μ-loop
-mul-i c = omega arith
-
 loop-holds : tie.Need-loop-holds Inv-loop μ-loop
 loop-holds c = (omega arith, c .most-of2 .ensures)
-
-shared-slice-read-mark : tie.Need-shared-slice-read-mark Inv-loop μ-loop
-shared-slice-read-mark c = omega arith
-
-add-i : tie.Need-add-i Inv-loop μ-loop
-add-i c = omega arith
-
-loop-less : tie.Need-loop-less Inv-loop μ-loop
-loop-less c = omega arith
 
 loop-again : tie.Need-loop-again Inv-loop μ-loop
 loop-again c =
@@ -69,13 +51,13 @@ marks-sound-spec =
     (tie.spec
     Inv-loop
     μ-loop
-    most-of-requires
+    (λ c _. omega arith)
     returns
-    most-of-requires-2
-    mul-i
+    (λ c _. omega arith)
+    (λ c. omega arith)
     loop-holds
-    shared-slice-read-mark
-    add-i
-    loop-less
+    (λ c. omega arith)
+    (λ c. omega arith)
+    (λ c. omega arith)
     loop-again
     returns-2)

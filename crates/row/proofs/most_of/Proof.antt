@@ -17,53 +17,8 @@ Inv-loop marks quarter second third most₀ i₀ most i = (i ≤ quarter) × (lt
 abbrev μ-loop : tie.MeasureT-loop
 μ-loop marks quarter second third most₀ i₀ most i = quarter - i
 
-add-second : tie.Need-add-second Inv-loop μ-loop
-add-second c = omega arith
-
-add-third : tie.Need-add-third Inv-loop μ-loop
-add-third c = omega arith
-
 loop-holds : tie.Need-loop-holds Inv-loop μ-loop
 loop-holds c = (omega arith, refl)
-
-shared-slice-read-larger : tie.Need-shared-slice-read-larger Inv-loop μ-loop
-shared-slice-read-larger c = omega arith
-
-add-larger : tie.Need-add-larger Inv-loop μ-loop
-add-larger c = omega arith
-
-shared-slice-read-larger-2 : tie.Need-shared-slice-read-larger-2 Inv-loop μ-loop
-shared-slice-read-larger-2 c = omega arith
-
-larger-requires : tie.Need-larger-requires Inv-loop μ-loop
-larger-requires c κs = search needs
-
-add-larger-2 : tie.Need-add-larger-2 Inv-loop μ-loop
-add-larger-2 c = omega arith
-
-shared-slice-read-larger-3 : tie.Need-shared-slice-read-larger-3 Inv-loop μ-loop
-shared-slice-read-larger-3 c = omega arith
-
-add-larger-3 : tie.Need-add-larger-3 Inv-loop μ-loop
-add-larger-3 c = omega arith
-
-shared-slice-read-larger-4 : tie.Need-shared-slice-read-larger-4 Inv-loop μ-loop
-shared-slice-read-larger-4 c = omega arith
-
-larger-requires-2 : tie.Need-larger-requires-2 Inv-loop μ-loop
-larger-requires-2 c κs = search needs
-
-larger-requires-3 : tie.Need-larger-requires-3 Inv-loop μ-loop
-larger-requires-3 c κs = search needs
-
-larger-requires-4 : tie.Need-larger-requires-4 Inv-loop μ-loop
-larger-requires-4 c κs = search needs
-
-add-i : tie.Need-add-i Inv-loop μ-loop
-add-i c = omega arith
-
-loop-less : tie.Need-loop-less Inv-loop μ-loop
-loop-less c = omega arith
 
 loop-again : tie.Need-loop-again Inv-loop μ-loop
 loop-again c =
@@ -87,21 +42,21 @@ most-of-spec =
     (tie.spec
     Inv-loop
     μ-loop
-    add-second
-    add-third
+    (λ c. omega arith)
+    (λ c. omega arith)
     loop-holds
-    shared-slice-read-larger
-    add-larger
-    shared-slice-read-larger-2
-    larger-requires
-    add-larger-2
-    shared-slice-read-larger-3
-    add-larger-3
-    shared-slice-read-larger-4
-    larger-requires-2
-    larger-requires-3
-    larger-requires-4
-    add-i
-    loop-less
+    (λ c. omega arith)
+    (λ c. omega arith)
+    (λ c. omega arith)
+    (λ c _. search needs)
+    (λ c. omega arith)
+    (λ c. omega arith)
+    (λ c. omega arith)
+    (λ c. omega arith)
+    (λ c _. search needs)
+    (λ c _. search needs)
+    (λ c _. search needs)
+    (λ c. omega arith)
+    (λ c. omega arith)
     loop-again
     returns)

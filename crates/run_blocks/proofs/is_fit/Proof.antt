@@ -12,18 +12,6 @@ returns : tie.Need-returns
 unfolding runFit
 returns c = rw (ne-eqb (length (c .before .before .args .block .now)) runBytes (c .if1 .taken))
 
-spot-in-requires : tie.Need-spot-in-requires
-spot-in-requires c κs = search needs
-
-place-of-requires : tie.Need-place-of-requires
-place-of-requires c κs = search needs
-
-spot-of-requires : tie.Need-spot-of-requires
-spot-of-requires c κs = search needs
-
-same-spot-requires : tie.Need-same-spot-requires
-same-spot-requires c κs = search needs
-
 returns-2 : tie.Need-returns-2
 unfolding runFit
 returns-2 c =
@@ -42,8 +30,8 @@ is-fit-spec =
     tie.close
     (tie.spec
     returns
-    spot-in-requires
-    place-of-requires
-    spot-of-requires
-    same-spot-requires
+    (λ c _. search needs)
+    (λ c _. search needs)
+    (λ c _. search needs)
+    (λ c _. search needs)
     returns-2)

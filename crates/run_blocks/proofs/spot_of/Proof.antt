@@ -4,66 +4,6 @@ use borrow.Author.Needs.{needs}
 use Rattle.run_blocks.proofs.spot_of.Statement.{statement}
 use Rattle.run_blocks.proofs.spot_of.Tie as tie
 
-enum-told : tie.Need-enum-told
-enum-told c = search needs
-
-spot-at-requires : tie.Need-spot-at-requires
-spot-at-requires c κs = search needs
-
-enum-known-place : tie.Need-enum-known-place
-enum-known-place c = search needs
-
-spot-at-requires-2 : tie.Need-spot-at-requires-2
-spot-at-requires-2 c κs = search needs
-
-enum-known-place-2 : tie.Need-enum-known-place-2
-enum-known-place-2 c = search needs
-
-spot-at-requires-3 : tie.Need-spot-at-requires-3
-spot-at-requires-3 c κs = search needs
-
-enum-known-place-3 : tie.Need-enum-known-place-3
-enum-known-place-3 c = search needs
-
-spot-at-requires-4 : tie.Need-spot-at-requires-4
-spot-at-requires-4 c κs = search needs
-
-enum-known-place-4 : tie.Need-enum-known-place-4
-enum-known-place-4 c = search needs
-
-spot-at-requires-5 : tie.Need-spot-at-requires-5
-spot-at-requires-5 c κs = search needs
-
-enum-known-place-5 : tie.Need-enum-known-place-5
-enum-known-place-5 c = search needs
-
-spot-at-requires-6 : tie.Need-spot-at-requires-6
-spot-at-requires-6 c κs = search needs
-
-enum-known-place-6 : tie.Need-enum-known-place-6
-enum-known-place-6 c = search needs
-
-spot-at-requires-7 : tie.Need-spot-at-requires-7
-spot-at-requires-7 c κs = search needs
-
-enum-known-place-7 : tie.Need-enum-known-place-7
-enum-known-place-7 c = search needs
-
-spot-at-requires-8 : tie.Need-spot-at-requires-8
-spot-at-requires-8 c κs = search needs
-
-enum-known-place-8 : tie.Need-enum-known-place-8
-enum-known-place-8 c = search needs
-
-spot-at-requires-9 : tie.Need-spot-at-requires-9
-spot-at-requires-9 c κs = search needs
-
-enum-told-2 : tie.Need-enum-told-2
-enum-told-2 c = search needs
-
-spot-at-requires-10 : tie.Need-spot-at-requires-10
-spot-at-requires-10 c κs = search needs
-
 returns : tie.Need-returns
 returns c = c .spot-at .ensures ∙ ap spotOf (sym (c .before .enum-told .given .1))
 
@@ -98,26 +38,26 @@ pub spot-of-spec : {M : Type 1} → statement M
 spot-of-spec =
     tie.close
     (tie.spec
-    enum-told
-    spot-at-requires
-    enum-known-place
-    spot-at-requires-2
-    enum-known-place-2
-    spot-at-requires-3
-    enum-known-place-3
-    spot-at-requires-4
-    enum-known-place-4
-    spot-at-requires-5
-    enum-known-place-5
-    spot-at-requires-6
-    enum-known-place-6
-    spot-at-requires-7
-    enum-known-place-7
-    spot-at-requires-8
-    enum-known-place-8
-    spot-at-requires-9
-    enum-told-2
-    spot-at-requires-10
+    (λ c. search needs)
+    (λ c _. search needs)
+    (λ c. search needs)
+    (λ c _. search needs)
+    (λ c. search needs)
+    (λ c _. search needs)
+    (λ c. search needs)
+    (λ c _. search needs)
+    (λ c. search needs)
+    (λ c _. search needs)
+    (λ c. search needs)
+    (λ c _. search needs)
+    (λ c. search needs)
+    (λ c _. search needs)
+    (λ c. search needs)
+    (λ c _. search needs)
+    (λ c. search needs)
+    (λ c _. search needs)
+    (λ c. search needs)
+    (λ c _. search needs)
     returns
     returns-2
     returns-3

@@ -12,26 +12,11 @@ use Rattle.run_calls.proofs.next.Tie as tie
 fit : (c : tie.Else1) → runFit (c .before .before .before .before .before .args .run .now) ≡ true
 fit c = sym (c .before .is-fit .ensures) ∙ not-false (c .before .is-fit .result) (c .if1 .left)
 
-is-fit-requires : tie.Need-is-fit-requires
-is-fit-requires c κs = search needs
-
-packed-requires : tie.Need-packed-requires
-packed-requires c κs = search needs
-
-same-length : tie.Need-same-length
-same-length c = search needs
-
 returns : tie.Need-returns
 returns c =
     let f = c .before .before in
     let a = f .before .before .before .before .args in
     next-unfit (a .run .now) (a .step .now) (c .packed .result) (sym (f .is-fit .ensures) ∙ not-true (f .is-fit .result) (c .before .if1 .taken)) (c .packed .ensures)
-
-packed-requires-2 : tie.Need-packed-requires-2
-packed-requires-2 c κs = search needs
-
-same-length-2 : tie.Need-same-length-2
-same-length-2 c = search needs
 
 returns-2 : tie.Need-returns-2
 returns-2 c =
@@ -41,18 +26,6 @@ returns-2 c =
 
 run-of-requires : tie.Need-run-of-requires
 run-of-requires c κs = fit-length (c .before .before .before .before .before .before .before .args .run .now) (fit (c .before .before))
-
-next-requires : tie.Need-next-requires
-next-requires c κs = search needs
-
-is-done-requires : tie.Need-is-done-requires
-is-done-requires c κs = search needs
-
-packed-requires-3 : tie.Need-packed-requires-3
-packed-requires-3 c κs = search needs
-
-same-length-3 : tie.Need-same-length-3
-same-length-3 c = search needs
 
 returns-3 : tie.Need-returns-3
 returns-3 c =
@@ -66,20 +39,8 @@ returns-3 c =
     (fit e) (l .if2 .left) (h .run-of .ensures) (n .next .ensures)
     (sym (d .is-done .ensures) ∙ not-true (d .is-done .result) (c .before .if3 .taken)) refl refl (c .packed3 .ensures)
 
-put-handed-requires : tie.Need-put-handed-requires
-put-handed-requires c κs = search needs
-
 put-run-requires : tie.Need-put-run-requires
 put-run-requires c κs = fit-length (c .before .before .before .before .before .before .before .before .before .before .before .before .before .before .before .before .before .before .args .run .now) (fit (c .before .before .before .before .before .before .before .before .before .before .before .before .before))
-
-packed-requires-4 : tie.Need-packed-requires-4
-packed-requires-4 c κs = search needs
-
-same-length-4 : tie.Need-same-length-4
-same-length-4 c = search needs
-
-same-length-5 : tie.Need-same-length-5
-same-length-5 c = search needs
 
 returns-4 : tie.Need-returns-4
 returns-4 c =
@@ -100,22 +61,22 @@ pub next-spec : {M : Type 1} → statement M
 next-spec =
     tie.close
     (tie.spec
-    is-fit-requires
-    packed-requires
-    same-length
+    (λ c _. search needs)
+    (λ c _. search needs)
+    (λ c. search needs)
     returns
-    packed-requires-2
-    same-length-2
+    (λ c _. search needs)
+    (λ c. search needs)
     returns-2
     run-of-requires
-    next-requires
-    is-done-requires
-    packed-requires-3
-    same-length-3
+    (λ c _. search needs)
+    (λ c _. search needs)
+    (λ c _. search needs)
+    (λ c. search needs)
     returns-3
-    put-handed-requires
+    (λ c _. search needs)
     put-run-requires
-    packed-requires-4
-    same-length-4
-    same-length-5
+    (λ c _. search needs)
+    (λ c. search needs)
+    (λ c. search needs)
     returns-4)

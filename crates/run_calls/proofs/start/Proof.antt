@@ -6,33 +6,15 @@ use borrow.Author.Needs.{needs}
 use Rattle.run_calls.proofs.start.Statement.{statement}
 use Rattle.run_calls.proofs.start.Tie as tie
 
-packed-requires : tie.Need-packed-requires
-packed-requires c κs = search needs
-
 returns : tie.Need-returns
 returns c =
     let a = c .before .before .before .before .before .before .before .args in
     run-start-short (a .plan) (a .machine .now) (a .registers .now) (a .marks .now) (a .memory .now) (a .run .now) (c .packed .result) (c .before .if1 .taken) (c .packed .ensures)
 
-packed-requires-2 : tie.Need-packed-requires-2
-packed-requires-2 c κs = search needs
-
 returns-2 : tie.Need-returns-2
 returns-2 c =
     let a = c .before .before .before .before .before .before .before .before .args in
     run-start-short-run (a .plan) (a .machine .now) (a .registers .now) (a .marks .now) (a .memory .now) (a .run .now) (c .packed2 .result) (c .before .before .if1 .left) (c .before .if2 .taken) (c .packed2 .ensures)
-
-machine-of-requires : tie.Need-machine-of-requires
-machine-of-requires c κs = search needs
-
-start-requires : tie.Need-start-requires
-start-requires c κs = search needs
-
-is-done-requires : tie.Need-is-done-requires
-is-done-requires c κs = search needs
-
-packed-requires-3 : tie.Need-packed-requires-3
-packed-requires-3 c κs = search needs
 
 returns-3 : tie.Need-returns-3
 returns-3 c =
@@ -45,15 +27,6 @@ returns-3 c =
     false (m .machine-of .result) (s .start .result) (a .run .now) (c .packed3 .result)
     (l .before .if1 .left) (l .if2 .left) (m .machine-of .ensures) (s .start .ensures)
     (sym (d .is-done .ensures) ∙ not-true (d .is-done .result) (c .before .if3 .taken)) refl (c .packed3 .ensures)
-
-put-run-requires : tie.Need-put-run-requires
-put-run-requires c κs = search needs
-
-packed-requires-4 : tie.Need-packed-requires-4
-packed-requires-4 c κs = search needs
-
-same-length : tie.Need-same-length
-same-length c = search needs
 
 returns-4 : tie.Need-returns-4
 returns-4 c =
@@ -73,16 +46,16 @@ pub start-spec : {M : Type 1} → statement M
 start-spec =
     tie.close
     (tie.spec
-    packed-requires
+    (λ c _. search needs)
     returns
-    packed-requires-2
+    (λ c _. search needs)
     returns-2
-    machine-of-requires
-    start-requires
-    is-done-requires
-    packed-requires-3
+    (λ c _. search needs)
+    (λ c _. search needs)
+    (λ c _. search needs)
+    (λ c _. search needs)
     returns-3
-    put-run-requires
-    packed-requires-4
-    same-length
+    (λ c _. search needs)
+    (λ c _. search needs)
+    (λ c. search needs)
     returns-4)

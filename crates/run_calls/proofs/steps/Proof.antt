@@ -12,9 +12,6 @@ use Rattle.run_calls.proofs.steps.Tie as tie
 fit : (c : tie.Else1) → runFit (c .before .before .before .args .run .now) ≡ true
 fit c = sym (c .before .is-fit .ensures) ∙ not-false (c .before .is-fit .result) (c .if1 .left)
 
-is-fit-requires : tie.Need-is-fit-requires
-is-fit-requires c κs = search needs
-
 returns : tie.Need-returns
 returns c =
     let f = c .before in
@@ -23,9 +20,6 @@ returns c =
 run-of-requires : tie.Need-run-of-requires
 run-of-requires c κs = fit-length (c .before .before .before .args .run .now) (fit c)
 
-steps-requires : tie.Need-steps-requires
-steps-requires c κs = search needs
-
 returns-2 : tie.Need-returns-2
 returns-2 c =
     let r = c .before in
@@ -33,4 +27,4 @@ returns-2 c =
     steps-fit (e .before .before .before .args .run .now) (r .run-of .result) (c .steps .result) (fit e) (r .run-of .ensures) (c .steps .ensures)
 
 pub steps-spec : {M : Type 1} → statement M
-steps-spec = tie.close (tie.spec is-fit-requires returns run-of-requires steps-requires returns-2)
+steps-spec = tie.close (tie.spec (λ c _. search needs) returns run-of-requires (λ c _. search needs) returns-2)

@@ -7,20 +7,11 @@ use Rattle.machine.proofs.SizeLaws.{chosen-grants}
 use Rattle.run_places.proofs.block_end.Statement.{statement}
 use Rattle.run_places.proofs.block_end.Tie as tie
 
-sub-chosen : tie.Need-sub-chosen
-sub-chosen c = search needs
-
-chosen-requires : tie.Need-chosen-requires
-chosen-requires c κs = search needs
-
 add-result : tie.Need-add-result
 add-result c =
     let s = c .before in
     let a = s .args in
     omega (arith, c .chosen .ensures, s .pre, at-most (chosen (a .rule)) (chosen-grants (a .rule)) (a .most) (a .total - a .at) .1)
 
-returns : tie.Need-returns
-returns c = search needs
-
 pub block-end-spec : {M : Type 1} → statement M
-block-end-spec = tie.close (tie.spec sub-chosen chosen-requires add-result returns)
+block-end-spec = tie.close (tie.spec (λ c. search needs) (λ c _. search needs) add-result (λ c. search needs))

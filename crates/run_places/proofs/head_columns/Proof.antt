@@ -11,15 +11,6 @@ use Rattle.run_places.proofs.head_columns.Tie as tie
 returns : tie.Need-returns
 returns c = let a = c .before .before .args in rw (lt-ltb (a .column) (a .run .plan .n) (c .if1 .taken))
 
-most-rows-requires : tie.Need-most-rows-requires
-most-rows-requires c κs = search needs
-
-block-end-requires : tie.Need-block-end-requires
-block-end-requires c κs = search needs
-
-head-rows-requires : tie.Need-head-rows-requires
-head-rows-requires c κs = search needs
-
 returns-2 : tie.Need-returns-2
 returns-2 c =
     let b = c .before in
@@ -31,4 +22,4 @@ returns-2 c =
     ∙ rw (le-ltb (a .column) (R .plan .n) (r .before .if1 .left))
 
 pub head-columns-spec : {M : Type 1} → statement M
-head-columns-spec = tie.close (tie.spec returns most-rows-requires block-end-requires head-rows-requires returns-2)
+head-columns-spec = tie.close (tie.spec returns (λ c _. search needs) (λ c _. search needs) (λ c _. search needs) returns-2)

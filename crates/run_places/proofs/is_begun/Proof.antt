@@ -14,21 +14,12 @@ use Rattle.run_places.proofs.is_begun.Tie as tie
 at-place : (R : Run) {p : Place} {r : Bool} → R .place ≡ p → r ≡ begins (runShape chosen R) p → r ≡ begins (runShape chosen R) (R .place)
 at-place R e h = h ∙ ap (begins (runShape chosen R)) (sym e)
 
-enum-told : tie.Need-enum-told
-enum-told c = search needs
-
-enum-known-place : tie.Need-enum-known-place
-enum-known-place c = search needs
-
 starts-rows-requires : tie.Need-starts-rows-requires
 starts-rows-requires c κs =
     let s = c .before .before .before in
     let R = s .args .run in
     let g = c .before .place .given in
     (s .pre .0, ltb-true (g .0 .0) (R .plan .m) (subst (λ (q : Place). inMatrices (R .plan) q ≡ true) (g .1) (s .pre .1)))
-
-enum-known-place-2 : tie.Need-enum-known-place-2
-enum-known-place-2 c = search needs
 
 starts-product-requires : tie.Need-starts-product-requires
 starts-product-requires c κs =
@@ -37,18 +28,12 @@ starts-product-requires c κs =
     let g = c .before .place2 .given in
     (s .pre .0, subst (λ (q : Place). inMatrices (R .plan) q ≡ true) (g .1) (s .pre .1))
 
-enum-known-place-3 : tie.Need-enum-known-place-3
-enum-known-place-3 c = search needs
-
 starts-product-requires-2 : tie.Need-starts-product-requires-2
 starts-product-requires-2 c κs =
     let s = c .before .before .before in
     let R = s .args .run in
     let g = c .before .place3 .given in
     (s .pre .0, subst (λ (q : Place). inMatrices (R .plan) q ≡ true) (g .1) (s .pre .1))
-
-enum-known-place-4 : tie.Need-enum-known-place-4
-enum-known-place-4 c = search needs
 
 starts-sums-requires : tie.Need-starts-sums-requires
 starts-sums-requires c κs =
@@ -57,18 +42,12 @@ starts-sums-requires c κs =
     let g = c .before .place4 .given in
     (s .pre .0, subst (λ (q : Place). inMatrices (R .plan) q ≡ true) (g .1) (s .pre .1))
 
-enum-known-place-5 : tie.Need-enum-known-place-5
-enum-known-place-5 c = search needs
-
 starts-sums-requires-2 : tie.Need-starts-sums-requires-2
 starts-sums-requires-2 c κs =
     let s = c .before .before .before in
     let R = s .args .run in
     let g = c .before .place5 .given in
     (s .pre .0, subst (λ (q : Place). inMatrices (R .plan) q ≡ true) (g .1) (s .pre .1))
-
-enum-known-place-6 : tie.Need-enum-known-place-6
-enum-known-place-6 c = search needs
 
 starts-sums-requires-3 : tie.Need-starts-sums-requires-3
 starts-sums-requires-3 c κs =
@@ -77,9 +56,6 @@ starts-sums-requires-3 c κs =
     let g = c .before .place6 .given in
     (s .pre .0, subst (λ (q : Place). inMatrices (R .plan) q ≡ true) (g .1) (s .pre .1))
 
-enum-known-place-7 : tie.Need-enum-known-place-7
-enum-known-place-7 c = search needs
-
 starts-sums-requires-4 : tie.Need-starts-sums-requires-4
 starts-sums-requires-4 c κs =
     let s = c .before .before .before in
@@ -87,18 +63,12 @@ starts-sums-requires-4 c κs =
     let g = c .before .place7 .given in
     (s .pre .0, subst (λ (q : Place). inMatrices (R .plan) q ≡ true) (g .1) (s .pre .1))
 
-enum-known-place-8 : tie.Need-enum-known-place-8
-enum-known-place-8 c = search needs
-
 starts-product-requires-3 : tie.Need-starts-product-requires-3
 starts-product-requires-3 c κs =
     let s = c .before .before .before in
     let R = s .args .run in
     let g = c .before .place8 .given in
     (s .pre .0, subst (λ (q : Place). inMatrices (R .plan) q ≡ true) (g .1) (s .pre .1))
-
-enum-told-2 : tie.Need-enum-told-2
-enum-told-2 c = search needs
 
 returns : tie.Need-returns
 returns c = at-place (c .before .before .args .run) (c .enum-told .given .1) refl
@@ -150,24 +120,24 @@ pub is-begun-spec : {M : Type 1} → statement M
 is-begun-spec =
     tie.close
     (tie.spec
-    enum-told
-    enum-known-place
+    (λ c. search needs)
+    (λ c. search needs)
     starts-rows-requires
-    enum-known-place-2
+    (λ c. search needs)
     starts-product-requires
-    enum-known-place-3
+    (λ c. search needs)
     starts-product-requires-2
-    enum-known-place-4
+    (λ c. search needs)
     starts-sums-requires
-    enum-known-place-5
+    (λ c. search needs)
     starts-sums-requires-2
-    enum-known-place-6
+    (λ c. search needs)
     starts-sums-requires-3
-    enum-known-place-7
+    (λ c. search needs)
     starts-sums-requires-4
-    enum-known-place-8
+    (λ c. search needs)
     starts-product-requires-3
-    enum-told-2
+    (λ c. search needs)
     returns
     returns-2
     returns-3

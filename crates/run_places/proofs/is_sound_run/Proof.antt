@@ -45,18 +45,12 @@ ok-3 c = sym (c .before .is-planned .ensures) ∙ not-false (c .before .is-plann
 ok-4 : (c : tie.Else4) → places (c .before .before .before .before .before .before .before .before .before .args .run) ≡ true
 ok-4 c = sym (c .before .is-placed .ensures) ∙ not-false (c .before .is-placed .result) (c .if4 .left)
 
-permitted-lengths-requires : tie.Need-permitted-lengths-requires
-permitted-lengths-requires c κs = search needs
-
 returns : tie.Need-returns
 unfolding soundRun
 returns c =
     let R = c .before .before .args .run in
     fails [] tt (lengths R) (sym (c .before .permitted-lengths .ensures) ∙ not-true (c .before .permitted-lengths .result) (c .if1 .taken))
     (rules R ∷ plans R ∷ blocks R ∷ [])
-
-is-rule-requires : tie.Need-is-rule-requires
-is-rule-requires c κs = search needs
 
 returns-2 : tie.Need-returns-2
 unfolding soundRun
@@ -66,9 +60,6 @@ returns-2 c =
     fails (lengths R ∷ []) (ok-1 o, tt) (rules R) (sym (c .before .is-rule .ensures) ∙ not-true (c .before .is-rule .result) (c .if2 .taken))
     (plans R ∷ blocks R ∷ [])
 
-is-planned-requires : tie.Need-is-planned-requires
-is-planned-requires c κs = search needs
-
 returns-3 : tie.Need-returns-3
 unfolding soundRun
 returns-3 c =
@@ -77,9 +68,6 @@ returns-3 c =
     let R = o .before .before .args .run in
     fails (lengths R ∷ rules R ∷ []) (ok-1 o, (ok-2 u, tt)) (plans R) (sym (c .before .is-planned .ensures) ∙ not-true (c .before .is-planned .result) (c .if3 .taken))
     (blocks R ∷ [])
-
-is-placed-requires : tie.Need-is-placed-requires
-is-placed-requires c κs = search needs
 
 -- the numbers that a run can hold
 ok-numbered : (c : tie.Else3) → numbered (c .before .before .before .before .before .before .before .args .run) ≡ true
@@ -122,13 +110,13 @@ pub is-sound-run-spec : {M : Type 1} → statement M
 is-sound-run-spec =
     tie.close
     (tie.spec
-    permitted-lengths-requires
+    (λ c _. search needs)
     returns
-    is-rule-requires
+    (λ c _. search needs)
     returns-2
-    is-planned-requires
+    (λ c _. search needs)
     returns-3
-    is-placed-requires
+    (λ c _. search needs)
     returns-4
     is-begun-requires
     returns-5)

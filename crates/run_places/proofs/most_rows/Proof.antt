@@ -7,8 +7,5 @@ use Rattle.run_places.proofs.most_rows.Tie as tie
 div-result : tie.Need-div-result
 div-result c = omega (arith, run-rlen (c .before .args .run) (c .before .pre))
 
-returns : tie.Need-returns
-returns c = search needs
-
 pub most-rows-spec : {M : Type 1} → statement M
-most-rows-spec = tie.close (tie.spec div-result returns)
+most-rows-spec = tie.close (tie.spec div-result (λ c. search needs))

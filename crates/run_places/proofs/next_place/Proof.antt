@@ -20,51 +20,15 @@ lies s e = subst (λ (q : Place). inMatrices (s .args .run .plan) q ≡ true) e 
 after : (s : tie.Start) {q : Place} → s .args .run .place ≡ q → next (runShape chosen (s .args .run)) q ≡ next (runShape chosen (s .args .run)) (s .args .run .place)
 after s e = ap (next (runShape chosen (s .args .run))) (sym e)
 
-enum-told : tie.Need-enum-told
-enum-told c = search needs
-
-head-rows-requires : tie.Need-head-rows-requires
-head-rows-requires c κs = search needs
-
-enum-known-place : tie.Need-enum-known-place
-enum-known-place c = search needs
-
 head-columns-requires : tie.Need-head-columns-requires
 head-columns-requires c κs = let s = c .before .before .before in
     (run-numbered (s .args .run) (s .pre), at-m (s .args .run .plan) _ (lies s (c .before .place .given .1)))
-
-enum-known-place-2 : tie.Need-enum-known-place-2
-enum-known-place-2 c = search needs
-
-enum-known-place-3 : tie.Need-enum-known-place-3
-enum-known-place-3 c = search needs
-
-head-terms-requires : tie.Need-head-terms-requires
-head-terms-requires c κs = search needs
-
-enum-known-place-4 : tie.Need-enum-known-place-4
-enum-known-place-4 c = search needs
-
-enum-known-place-5 : tie.Need-enum-known-place-5
-enum-known-place-5 c = search needs
-
-enum-known-place-6 : tie.Need-enum-known-place-6
-enum-known-place-6 c = search needs
-
-enum-known-place-7 : tie.Need-enum-known-place-7
-enum-known-place-7 c = search needs
 
 most-terms-requires : tie.Need-most-terms-requires
 most-terms-requires c κs = let s = c .before .before .before in run-numbered (s .args .run) (s .pre)
 
 block-end-requires : tie.Need-block-end-requires
 block-end-requires c κs = let s = c .before .before .before .before in at-multiply (s .args .run .plan) _ _ _ (lies s (c .before .before .place7 .given .1)) .1 .1
-
-head-terms-requires-2 : tie.Need-head-terms-requires-2
-head-terms-requires-2 c κs = search needs
-
-enum-known-place-8 : tie.Need-enum-known-place-8
-enum-known-place-8 c = search needs
 
 most-columns-requires : tie.Need-most-columns-requires
 most-columns-requires c κs = let s = c .before .before .before in run-numbered (s .args .run) (s .pre)
@@ -76,9 +40,6 @@ head-columns-requires-2 : tie.Need-head-columns-requires-2
 head-columns-requires-2 c κs =
     let s = c .before .before .before .before .before in
     (run-numbered (s .args .run) (s .pre), at-store (s .args .run .plan) _ _ (lies s (c .before .before .before .place8 .given .1)) .0)
-
-enum-told-2 : tie.Need-enum-told-2
-enum-told-2 c = search needs
 
 returns : tie.Need-returns
 returns c = c .head-rows .ensures ∙ after (c .before .before .before) (c .before .enum-told .given .1)
@@ -130,25 +91,25 @@ pub next-place-spec : {M : Type 1} → statement M
 next-place-spec =
     tie.close
     (tie.spec
-    enum-told
-    head-rows-requires
-    enum-known-place
+    (λ c. search needs)
+    (λ c _. search needs)
+    (λ c. search needs)
     head-columns-requires
-    enum-known-place-2
-    enum-known-place-3
-    head-terms-requires
-    enum-known-place-4
-    enum-known-place-5
-    enum-known-place-6
-    enum-known-place-7
+    (λ c. search needs)
+    (λ c. search needs)
+    (λ c _. search needs)
+    (λ c. search needs)
+    (λ c. search needs)
+    (λ c. search needs)
+    (λ c. search needs)
     most-terms-requires
     block-end-requires
-    head-terms-requires-2
-    enum-known-place-8
+    (λ c _. search needs)
+    (λ c. search needs)
     most-columns-requires
     block-end-requires-2
     head-columns-requires-2
-    enum-told-2
+    (λ c. search needs)
     returns
     returns-2
     returns-3

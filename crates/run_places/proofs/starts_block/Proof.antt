@@ -19,12 +19,6 @@ returns c =
     sym (starts-first (chosen (a .rule)) (chosen-grants (a .rule)) (a .most) (s .pre .0) (a .total) (omega (arith, s .pre .1)))
     ∙ ap (λ (i : ℕ). isIn i (chunks (chosen (a .rule)) (a .most) (a .total) 0)) (sym (c .if1 .taken))
 
-sub-base : tie.Need-sub-base
-sub-base c = search needs
-
-div-base : tie.Need-div-base
-div-base c = search needs
-
 mul-base : tie.Need-mul-base
 mul-base c = let a = c .before .args in omega (arith, div-mul-le-self (a .at - 1) (a .most))
 
@@ -41,4 +35,4 @@ returns-2 c =
 
 pub starts-block-spec : {M : Type 1} → statement M
 starts-block-spec =
-    tie.close (tie.spec returns sub-base div-base mul-base block-end-requires returns-2)
+    tie.close (tie.spec returns (λ c. search needs) (λ c. search needs) mul-base block-end-requires returns-2)

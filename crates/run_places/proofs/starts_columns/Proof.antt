@@ -9,9 +9,6 @@ use borrow.Author.Needs.{needs}
 use Rattle.run_places.proofs.starts_columns.Statement.{statement}
 use Rattle.run_places.proofs.starts_columns.Tie as tie
 
-most-columns-requires : tie.Need-most-columns-requires
-most-columns-requires c κs = search needs
-
 starts-block-requires : tie.Need-starts-block-requires
 starts-block-requires c κs = let s = c .before in omega (arith, c .most-columns .ensures, run-most (s .args .run) (s .pre .0) .0<tn, s .pre .1)
 
@@ -22,4 +19,4 @@ returns c =
     c .starts-block .ensures ∙ ap (λ (x : ℕ). isIn (s .args .column) (chunks (chosen (R .rule)) x (R .plan .n) 0)) (c .before .most-columns .ensures)
 
 pub starts-columns-spec : {M : Type 1} → statement M
-starts-columns-spec = tie.close (tie.spec most-columns-requires starts-block-requires returns)
+starts-columns-spec = tie.close (tie.spec (λ c _. search needs) starts-block-requires returns)

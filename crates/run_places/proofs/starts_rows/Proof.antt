@@ -9,9 +9,6 @@ use borrow.Author.Needs.{needs}
 use Rattle.run_places.proofs.starts_rows.Statement.{statement}
 use Rattle.run_places.proofs.starts_rows.Tie as tie
 
-most-rows-requires : tie.Need-most-rows-requires
-most-rows-requires c κs = search needs
-
 starts-block-requires : tie.Need-starts-block-requires
 starts-block-requires c κs = let s = c .before in omega (arith, c .most-rows .ensures, run-most (s .args .run) (s .pre .0) .0<tm, s .pre .1)
 
@@ -22,4 +19,4 @@ returns c =
     c .starts-block .ensures ∙ ap (λ (x : ℕ). isIn (s .args .row) (chunks (chosen (R .rule)) x (R .plan .m) 0)) (c .before .most-rows .ensures)
 
 pub starts-rows-spec : {M : Type 1} → statement M
-starts-rows-spec = tie.close (tie.spec most-rows-requires starts-block-requires returns)
+starts-rows-spec = tie.close (tie.spec (λ c _. search needs) starts-block-requires returns)

@@ -9,9 +9,6 @@ use borrow.Author.Needs.{needs}
 use Rattle.run_places.proofs.starts_terms.Statement.{statement}
 use Rattle.run_places.proofs.starts_terms.Tie as tie
 
-most-terms-requires : tie.Need-most-terms-requires
-most-terms-requires c κs = search needs
-
 starts-block-requires : tie.Need-starts-block-requires
 starts-block-requires c κs = let s = c .before in omega (arith, c .most-terms .ensures, run-most (s .args .run) (s .pre .0) .0<tk, s .pre .1)
 
@@ -22,4 +19,4 @@ returns c =
     c .starts-block .ensures ∙ ap (λ (x : ℕ). isIn (s .args .term) (chunks (chosen (R .rule)) x (R .plan .k) 0)) (c .before .most-terms .ensures)
 
 pub starts-terms-spec : {M : Type 1} → statement M
-starts-terms-spec = tie.close (tie.spec most-terms-requires starts-block-requires returns)
+starts-terms-spec = tie.close (tie.spec (λ c _. search needs) starts-block-requires returns)

@@ -20,24 +20,12 @@ input k =
     let small : (q : ℕ) → getD s q 0 < 256 = λ q. omega (arith, k .before .before .shared-slice-known .given q) in
     bytes-all s small
 
-scan-requires : tie.Need-scan-requires
-scan-requires c κs = search needs
-
-refused-requires : tie.Need-refused-requires
-refused-requires c κs = search needs
-
 returns : tie.Need-returns
 returns c =
     let k = c .before .before .before .before in
     let a = k .before .before .before .args in
     ap (λ (r : Salvaged). salvagedAs r (a .room .now)) (c .refused .ensures)
     ∙ salvage-bad (a .image .now) (input k) (k .scan .result .fields) (scan-fields (a .image .now) (k .scan .result) (k .scan .ensures)) (a .room .now) (c .before .if1 .taken)
-
-rescue-requires : tie.Need-rescue-requires
-rescue-requires c κs = search needs
-
-same-length : tie.Need-same-length
-same-length c = search needs
 
 returns-2 : tie.Need-returns-2
 returns-2 c =
@@ -48,4 +36,4 @@ returns-2 c =
 pub salvage-spec : {M : Type 1} → statement M
 salvage-spec =
     tie.close
-    (tie.spec scan-requires refused-requires returns rescue-requires same-length returns-2)
+    (tie.spec (λ c _. search needs) (λ c _. search needs) returns (λ c _. search needs) (λ c. search needs) returns-2)

@@ -6,15 +6,6 @@ use Rattle.scalar_block.proofs.put_scalar.Tie as tie
 returns : tie.Need-returns
 returns c = rw (eq-eqb (c .before .before .args .slot) 0 (c .if1 .taken))
 
-mul-write8 : tie.Need-mul-write8
-mul-write8 c = search needs
-
-write8-requires : tie.Need-write8-requires
-write8-requires c κs = search needs
-
-same-length : tie.Need-same-length
-same-length c = search needs
-
 returns-2 : tie.Need-returns-2
 returns-2 c =
     let w = c .before .before in
@@ -22,4 +13,4 @@ returns-2 c =
     rw (ne-eqb (i .before .before .args .slot) 0 (i .if1 .left)) (w .write8 .ensures)
 
 pub put-scalar-spec : {M : Type 1} → statement M
-put-scalar-spec = tie.close (tie.spec returns mul-write8 write8-requires same-length returns-2)
+put-scalar-spec = tie.close (tie.spec returns (λ c. search needs) (λ c _. search needs) (λ c. search needs) returns-2)

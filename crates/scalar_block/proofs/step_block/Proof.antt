@@ -7,82 +7,10 @@ use Rattle.scalar_block.proofs.NamedScalars.{block-stepped}
 use Rattle.scalar_block.proofs.step_block.Statement.{statement}
 use Rattle.scalar_block.proofs.step_block.Tie as tie
 
-low-field-requires : tie.Need-low-field-requires
-low-field-requires c κs = search needs
-
-middle-field-requires : tie.Need-middle-field-requires
-middle-field-requires c κs = search needs
-
-high-field-requires : tie.Need-high-field-requires
-high-field-requires c κs = search needs
-
-mul-read8 : tie.Need-mul-read8
-mul-read8 c = search needs
-
-read8-requires : tie.Need-read8-requires
-read8-requires c κs = search needs
-
-mul-values : tie.Need-mul-values
-mul-values c = search needs
-
-array-write-values : tie.Need-array-write-values
-array-write-values c = search needs
-
-mul-read8-2 : tie.Need-mul-read8-2
-mul-read8-2 c = search needs
-
-read8-requires-2 : tie.Need-read8-requires-2
-read8-requires-2 c κs = search needs
-
-mul-values-2 : tie.Need-mul-values-2
-mul-values-2 c = search needs
-
-array-write-values-2 : tie.Need-array-write-values-2
-array-write-values-2 c = search needs
-
-mul-read8-3 : tie.Need-mul-read8-3
-mul-read8-3 c = search needs
-
-read8-requires-3 : tie.Need-read8-requires-3
-read8-requires-3 c κs = search needs
-
-mul-values-3 : tie.Need-mul-values-3
-mul-values-3 c = search needs
-
-array-write-values-3 : tie.Need-array-write-values-3
-array-write-values-3 c = search needs
-
-slice-aggregate-step : tie.Need-slice-aggregate-step
-slice-aggregate-step c = search needs
-
-step-requires : tie.Need-step-requires
-step-requires c κs = search needs
-
-mul-put-scalar : tie.Need-mul-put-scalar
-mul-put-scalar c = search needs
-
-array-read-put-scalar : tie.Need-array-read-put-scalar
-array-read-put-scalar c = search needs
-
 put-scalar-requires : tie.Need-put-scalar-requires
 put-scalar-requires c κs =
     let d = c .before .before .before .before .before .before .before .before .before .before .before .before .before .before .before .before .before .before .before .before .before .before .before .before in
     (d .before .before .before .before .before .before .before .pre, omega (arith, d .low-field .ensures))
-
-same-length : tie.Need-same-length
-same-length c = search needs
-
-same-length-2 : tie.Need-same-length-2
-same-length-2 c = search needs
-
-same-length-3 : tie.Need-same-length-3
-same-length-3 c = search needs
-
-same-length-4 : tie.Need-same-length-4
-same-length-4 c = search needs
-
-same-length-5 : tie.Need-same-length-5
-same-length-5 c = search needs
 
 returns : tie.Need-returns
 returns c =
@@ -107,29 +35,29 @@ pub step-block-spec : {M : Type 1} → statement M
 step-block-spec =
     tie.close
     (tie.spec
-    low-field-requires
-    middle-field-requires
-    high-field-requires
-    mul-read8
-    read8-requires
-    mul-values
-    array-write-values
-    mul-read8-2
-    read8-requires-2
-    mul-values-2
-    array-write-values-2
-    mul-read8-3
-    read8-requires-3
-    mul-values-3
-    array-write-values-3
-    slice-aggregate-step
-    step-requires
-    mul-put-scalar
-    array-read-put-scalar
+    (λ c _. search needs)
+    (λ c _. search needs)
+    (λ c _. search needs)
+    (λ c. search needs)
+    (λ c _. search needs)
+    (λ c. search needs)
+    (λ c. search needs)
+    (λ c. search needs)
+    (λ c _. search needs)
+    (λ c. search needs)
+    (λ c. search needs)
+    (λ c. search needs)
+    (λ c _. search needs)
+    (λ c. search needs)
+    (λ c. search needs)
+    (λ c. search needs)
+    (λ c _. search needs)
+    (λ c. search needs)
+    (λ c. search needs)
     put-scalar-requires
-    same-length
-    same-length-2
-    same-length-3
-    same-length-4
-    same-length-5
+    (λ c. search needs)
+    (λ c. search needs)
+    (λ c. search needs)
+    (λ c. search needs)
+    (λ c. search needs)
     returns)

@@ -26,22 +26,10 @@ fine c = sym (c .before .is-sound .ensures) ∙ not-false (c .before .is-sound .
 ends : (c : tie.Else2) → let a = c .before .before .before .before .before .before .before .before .args in sealEnds (a .start) (a .size) ≡ true
 ends c = sym (c .before .seal-ends .ensures) ∙ not-false (c .before .seal-ends .result) (c .if2 .left)
 
-is-sound-requires : tie.Need-is-sound-requires
-is-sound-requires c κs = search needs
-
-same-length : tie.Need-same-length
-same-length c = search needs
-
 returns : tie.Need-returns
 returns c =
     let a = c .before .before .before .before .before .before .args in
     seal-fault (a .start) (a .size) (a .m) (a .block .now) (a .registers .now) (a .marks .now) (sym (c .before .is-sound .ensures) ∙ not-true (c .before .is-sound .result) (c .if1 .taken))
-
-seal-ends-requires : tie.Need-seal-ends-requires
-seal-ends-requires c κs = search needs
-
-same-length-2 : tie.Need-same-length-2
-same-length-2 c = search needs
 
 returns-2 : tie.Need-returns-2
 returns-2 c =
@@ -50,9 +38,6 @@ returns-2 c =
 
 count-of-requires : tie.Need-count-of-requires
 count-of-requires c κs = let e = c .before .before .before in bench-seals (bench (e .before .before .before .before .before .before)) (fine e)
-
-same-length-3 : tie.Need-same-length-3
-same-length-3 c = search needs
 
 returns-3 : tie.Need-returns-3
 returns-3 c =
@@ -72,9 +57,6 @@ room c =
 add-range-requires : tie.Need-add-range-requires
 add-range-requires c κs = let k = c .before .before .before .before in (bench-seals (bench (k .before .before .before .before .before .before .before .before)) (fine (k .before .before)), room (c .before))
 
-same-length-4 : tie.Need-same-length-4
-same-length-4 c = search needs
-
 returns-4 : tie.Need-returns-4
 returns-4 c =
     let d = c .before .before .before .before in
@@ -87,15 +69,15 @@ pub seal-spec : {M : Type 1} → statement M
 seal-spec =
     tie.close
     (tie.spec
-    is-sound-requires
-    same-length
+    (λ c _. search needs)
+    (λ c. search needs)
     returns
-    seal-ends-requires
-    same-length-2
+    (λ c _. search needs)
+    (λ c. search needs)
     returns-2
     count-of-requires
-    same-length-3
+    (λ c. search needs)
     returns-3
     add-range-requires
-    same-length-4
+    (λ c. search needs)
     returns-4)

@@ -11,9 +11,6 @@ use borrow.Author.Needs.{needs}
 use Rattle.settings.proofs.cut_size.Statement.{statement}
 use Rattle.settings.proofs.cut_size.Tie as tie
 
-is-mill-requires : tie.Need-is-mill-requires
-is-mill-requires c κs = search needs
-
 returns : tie.Need-returns
 returns c = rw (sym (c .before .is-mill .ensures) ∙ c .if1 .taken)
 
@@ -21,17 +18,8 @@ returns c = rw (sym (c .before .is-mill .ensures) ∙ c .if1 .taken)
 no-mill : (c : tie.Else1) → mill (c .before .before .args .m .mtype) ≡ false
 no-mill c = sym (c .before .is-mill .ensures) ∙ c .if1 .left
 
-size-of-requires : tie.Need-size-of-requires
-size-of-requires c κs = search needs
-
 largest-requires : tie.Need-largest-requires
 largest-requires c κs = (c .before .before .before .pre, no-mill (c .before))
-
-smaller-requires : tie.Need-smaller-requires
-smaller-requires c κs = search needs
-
-with-size-requires : tie.Need-with-size-requires
-with-size-requires c κs = search needs
 
 returns-2 : tie.Need-returns-2
 returns-2 c =
@@ -45,4 +33,4 @@ returns-2 c =
     ∙ sym (rw e)
 
 pub cut-size-spec : {M : Type 1} → statement M
-cut-size-spec = tie.close (tie.spec is-mill-requires returns size-of-requires largest-requires smaller-requires with-size-requires returns-2)
+cut-size-spec = tie.close (tie.spec (λ c _. search needs) returns (λ c _. search needs) largest-requires (λ c _. search needs) (λ c _. search needs) returns-2)

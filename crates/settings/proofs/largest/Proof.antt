@@ -20,21 +20,6 @@ sew-bytes-requires c κs =
     let s = c .before .before in
     ready-legal (s .args .m) (s .pre .0) (s .pre .1)
 
-div-columns : tie.Need-div-columns
-div-columns c = search needs
-
-enum-told : tie.Need-enum-told
-enum-told c = search needs
-
-enum-told-2 : tie.Need-enum-told-2
-enum-told-2 c = search needs
-
-smaller-requires : tie.Need-smaller-requires
-smaller-requires c κs = search needs
-
-enum-told-3 : tie.Need-enum-told-3
-enum-told-3 c = search needs
-
 returns : tie.Need-returns
 returns c =
     let m = c .before .before .before .before .before .args .m in
@@ -54,4 +39,4 @@ returns-3 c =
     ap (λ (e : ℕ). m .rlen / 8 / e) (w .sew-bytes .ensures .0) ∙ ap (maximum (ours m) (m .mtype)) (sym (c .enum-told3 .given .1))
 
 pub largest-spec : {M : Type 1} → statement M
-largest-spec = tie.close (tie.spec div-rows sew-bytes-requires div-columns enum-told enum-told-2 smaller-requires enum-told-3 returns returns-2 returns-3)
+largest-spec = tie.close (tie.spec div-rows sew-bytes-requires (λ c. search needs) (λ c. search needs) (λ c. search needs) (λ c _. search needs) (λ c. search needs) returns returns-2 returns-3)

@@ -7,9 +7,6 @@ use borrow.Author.Needs.{needs}
 use Rattle.settings.proofs.set_largest.Statement.{statement}
 use Rattle.settings.proofs.set_largest.Tie as tie
 
-is-mill-requires : tie.Need-is-mill-requires
-is-mill-requires c κs = search needs
-
 returns : tie.Need-returns
 returns c =
     let e : mill (c .before .before .before .args .m .mtype) ≡ true = sym (c .before .is-mill .ensures) ∙ c .if1 .taken in
@@ -17,12 +14,6 @@ returns c =
 
 largest-requires : tie.Need-largest-requires
 largest-requires c κs = (c .before .before .before .pre .0, sym (c .before .is-mill .ensures) ∙ c .if1 .left)
-
-set-size-requires : tie.Need-set-size-requires
-set-size-requires c κs = search needs
-
-same-length : tie.Need-same-length
-same-length c = search needs
 
 returns-2 : tie.Need-returns-2
 returns-2 c =
@@ -34,4 +25,4 @@ returns-2 c =
     )
 
 pub set-largest-spec : {M : Type 1} → statement M
-set-largest-spec = tie.close (tie.spec is-mill-requires returns largest-requires set-size-requires same-length returns-2)
+set-largest-spec = tie.close (tie.spec (λ c _. search needs) returns largest-requires (λ c _. search needs) (λ c. search needs) returns-2)

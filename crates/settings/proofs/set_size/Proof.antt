@@ -10,9 +10,6 @@ use borrow.Author.Needs.{needs}
 use Rattle.settings.proofs.set_size.Statement.{statement}
 use Rattle.settings.proofs.set_size.Tie as tie
 
-is-mill-requires : tie.Need-is-mill-requires
-is-mill-requires c κs = search needs
-
 returns : tie.Need-returns
 returns c =
     let e : mill (c .before .before .before .args .m .mtype) ≡ true = sym (c .before .is-mill .ensures) ∙ c .if1 .taken in
@@ -24,18 +21,6 @@ no-mill c = sym (c .before .is-mill .ensures) ∙ c .if1 .left
 
 largest-requires : tie.Need-largest-requires
 largest-requires c κs = (c .before .before .before .pre .0, no-mill c)
-
-chosen-requires : tie.Need-chosen-requires
-chosen-requires c κs = search needs
-
-write-scalar-requires : tie.Need-write-scalar-requires
-write-scalar-requires c κs = search needs
-
-with-size-requires : tie.Need-with-size-requires
-with-size-requires c κs = search needs
-
-same-length : tie.Need-same-length
-same-length c = search needs
 
 returns-2 : tie.Need-returns-2
 returns-2 c =
@@ -51,4 +36,4 @@ returns-2 c =
     )
 
 pub set-size-spec : {M : Type 1} → statement M
-set-size-spec = tie.close (tie.spec is-mill-requires returns largest-requires chosen-requires write-scalar-requires with-size-requires same-length returns-2)
+set-size-spec = tie.close (tie.spec (λ c _. search needs) returns largest-requires (λ c _. search needs) (λ c _. search needs) (λ c _. search needs) (λ c. search needs) returns-2)

@@ -8,15 +8,6 @@ use borrow.Author.Needs.{needs}
 use Rattle.settings.proofs.set_tile.Statement.{statement}
 use Rattle.settings.proofs.set_tile.Tie as tie
 
-read-scalar-requires : tie.Need-read-scalar-requires
-read-scalar-requires c κs = search needs
-
-set-size-requires : tie.Need-set-size-requires
-set-size-requires c κs = search needs
-
-same-length : tie.Need-same-length
-same-length c = search needs
-
 returns : tie.Need-returns
 returns c =
     let z = c .before .before in
@@ -28,12 +19,6 @@ returns c =
       z .set-size .ensures .1 ∙ ap (λ (x : ℕ). sizeScalars (a .m) (a .dimension) x (a .rd) (a .scalars .now)) (r .read-scalar .ensures) ∙ sym (rw t),
     )
 
-set-largest-requires : tie.Need-set-largest-requires
-set-largest-requires c κs = search needs
-
-same-length-2 : tie.Need-same-length-2
-same-length-2 c = search needs
-
 returns-2 : tie.Need-returns-2
 returns-2 c =
     let z = c .before .before in
@@ -43,9 +28,6 @@ returns-2 c =
     let t : eqb (a .rs1) 0 ≡ true = eq-eqb (a .rs1) 0 (e .if1 .left) in
     let u : eqb (a .rd) 0 ≡ false = ne-eqb (a .rd) 0 (f .if2 .taken) in
     (z .set-largest .ensures .0 ∙ sym (rw (t, u)), z .set-largest .ensures .1 ∙ sym (rw (t, u)))
-
-cut-size-requires : tie.Need-cut-size-requires
-cut-size-requires c κs = search needs
 
 returns-3 : tie.Need-returns-3
 returns-3 c =
@@ -57,4 +39,4 @@ returns-3 c =
     (c .cut-size .ensures ∙ sym (rw (t, u)), sym (rw (t, u)))
 
 pub set-tile-spec : {M : Type 1} → statement M
-set-tile-spec = tie.close (tie.spec read-scalar-requires set-size-requires same-length returns set-largest-requires same-length-2 returns-2 cut-size-requires returns-3)
+set-tile-spec = tie.close (tie.spec (λ c _. search needs) (λ c _. search needs) (λ c. search needs) returns (λ c _. search needs) (λ c. search needs) returns-2 (λ c _. search needs) returns-3)

@@ -5,18 +5,6 @@ use borrow.Author.Needs.{needs}
 use Rattle.settings.proofs.set_type.Statement.{statement}
 use Rattle.settings.proofs.set_type.Tie as tie
 
-kept-type-requires : tie.Need-kept-type-requires
-kept-type-requires c κs = search needs
-
-write-scalar-requires : tie.Need-write-scalar-requires
-write-scalar-requires c κs = search needs
-
-with-type-requires : tie.Need-with-type-requires
-with-type-requires c κs = search needs
-
-same-length : tie.Need-same-length
-same-length c = search needs
-
 returns : tie.Need-returns
 returns c =
     let w = c .before .before .before in
@@ -27,4 +15,4 @@ returns c =
     )
 
 pub set-type-spec : {M : Type 1} → statement M
-set-type-spec = tie.close (tie.spec kept-type-requires write-scalar-requires with-type-requires same-length returns)
+set-type-spec = tie.close (tie.spec (λ c _. search needs) (λ c _. search needs) (λ c _. search needs) (λ c. search needs) returns)

@@ -7,9 +7,6 @@ use borrow.Author.Needs.{needs}
 use Rattle.settings.proofs.sized.Statement.{statement}
 use Rattle.settings.proofs.sized.Tie as tie
 
-is-mill-requires : tie.Need-is-mill-requires
-is-mill-requires c κs = search needs
-
 returns : tie.Need-returns
 returns c =
     let e : mill (c .before .before .args .m .mtype) ≡ true = sym (c .before .is-mill .ensures) ∙ c .if1 .taken in
@@ -22,12 +19,6 @@ no-mill c = sym (c .before .is-mill .ensures) ∙ c .if1 .left
 largest-requires : tie.Need-largest-requires
 largest-requires c κs = (c .before .before .pre, no-mill c)
 
-chosen-requires : tie.Need-chosen-requires
-chosen-requires c κs = search needs
-
-with-size-requires : tie.Need-with-size-requires
-with-size-requires c κs = search needs
-
 returns-2 : tie.Need-returns-2
 returns-2 c =
     let s = c .before in
@@ -38,4 +29,4 @@ returns-2 c =
     c .with-size .ensures ∙ ap (withSize (a .m) (a .dimension)) size ∙ sym (rw e)
 
 pub sized-spec : {M : Type 1} → statement M
-sized-spec = tie.close (tie.spec is-mill-requires returns largest-requires chosen-requires with-size-requires returns-2)
+sized-spec = tie.close (tie.spec (λ c _. search needs) returns largest-requires (λ c _. search needs) (λ c _. search needs) returns-2)

@@ -7,18 +7,6 @@ use borrow.Author.Needs.{needs}
 use Rattle.solving.proofs.answer.Statement.{statement}
 use Rattle.solving.proofs.answer.Tie as tie
 
-slice-aggregate-parse : tie.Need-slice-aggregate-parse
-slice-aggregate-parse c = search needs
-
-parse-requires : tie.Need-parse-requires
-parse-requires c κs = search needs
-
-enum-known-sew : tie.Need-enum-known-sew
-enum-known-sew c = search needs
-
-slice-aggregate-solve : tie.Need-slice-aggregate-solve
-slice-aggregate-solve c = search needs
-
 solve-requires : tie.Need-solve-requires
 solve-requires c κs =
     let k = c .before .before .before in
@@ -26,12 +14,6 @@ solve-requires c κs =
     let s = p .before .before .before in
     let f = subst Fit (sym (p .parse .ensures .0) ∙ k .sew .given .1) (posed-fits (s .args .text .now)) in
     (f .0, (f .1, (p .parse .kept .1 .0, omega arith)))
-
-enum-told : tie.Need-enum-told
-enum-told c = search needs
-
-put-refused-requires : tie.Need-put-refused-requires
-put-refused-requires c κs = search needs
 
 returns : tie.Need-returns
 returns c =
@@ -54,12 +36,12 @@ pub answer-spec : {M : Type 1} → statement M
 answer-spec =
     tie.close
     (tie.spec
-    slice-aggregate-parse
-    parse-requires
-    enum-known-sew
-    slice-aggregate-solve
+    (λ c. search needs)
+    (λ c _. search needs)
+    (λ c. search needs)
+    (λ c. search needs)
     solve-requires
-    enum-told
-    put-refused-requires
+    (λ c. search needs)
+    (λ c _. search needs)
     returns
     returns-2)

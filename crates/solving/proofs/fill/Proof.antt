@@ -8,46 +8,16 @@ use borrow.Author.Needs.{needs}
 use Rattle.solving.proofs.fill.Statement.{statement}
 use Rattle.solving.proofs.fill.Tie as tie
 
-add-middle : tie.Need-add-middle
-add-middle c = search needs
-
-add-end : tie.Need-add-end
-add-end c = search needs
-
-sub-put-elements : tie.Need-sub-put-elements
-sub-put-elements c = search needs
-
-part-put-elements-start : tie.Need-part-put-elements-start
-part-put-elements-start c = search needs
-
-part-put-elements-end : tie.Need-part-put-elements-end
-part-put-elements-end c = search needs
-
 put-elements-requires : tie.Need-put-elements-requires
 put-elements-requires c κs =
     let s = c .before .before .before .before in
     (s .pre .0, omega (arith, ap (λ (t : ℕ). t * s .args .width) (part-length (s .args .numbers .now) 5 (s .args .a) (omega arith))))
-
-mul-put-elements : tie.Need-mul-put-elements
-mul-put-elements c = search needs
-
-sub-put-elements-2 : tie.Need-sub-put-elements-2
-sub-put-elements-2 c = search needs
-
-part-put-elements-start-2 : tie.Need-part-put-elements-start-2
-part-put-elements-start-2 c = search needs
-
-part-put-elements-end-2 : tie.Need-part-put-elements-end-2
-part-put-elements-end-2 c = search needs
 
 put-elements-requires-2 : tie.Need-put-elements-requires-2
 put-elements-requires-2 c κs =
     let w = c .before .before .before .before in
     let s = w .before .before .before .before .before in
     (s .pre .0, omega (arith, ap (λ (t : ℕ). t * s .args .width) (part-length (s .args .numbers .now) (5 + s .args .a) (s .args .b) (omega arith)), w .put-elements .kept .0))
-
-same-length : tie.Need-same-length
-same-length c = search needs
 
 returns : tie.Need-returns
 returns c =
@@ -63,16 +33,16 @@ pub fill-spec : {M : Type 1} → statement M
 fill-spec =
     tie.close
     (tie.spec
-    add-middle
-    add-end
-    sub-put-elements
-    part-put-elements-start
-    part-put-elements-end
+    (λ c. search needs)
+    (λ c. search needs)
+    (λ c. search needs)
+    (λ c. search needs)
+    (λ c. search needs)
     put-elements-requires
-    mul-put-elements
-    sub-put-elements-2
-    part-put-elements-start-2
-    part-put-elements-end-2
+    (λ c. search needs)
+    (λ c. search needs)
+    (λ c. search needs)
+    (λ c. search needs)
     put-elements-requires-2
-    same-length
+    (λ c. search needs)
     returns)

@@ -13,33 +13,6 @@ use Rattle.solving.proofs.multiply.Tie as tie
 fits : (s : tie.Start) → 256 * (s .args .factor * (s .args .sew / 8)) ≤ 1024
 fits s = c-fits (s .args .sew) (s .args .factor) (s .pre .1 .0)
 
-slice-aggregate-start : tie.Need-slice-aggregate-start
-slice-aggregate-start c = search needs
-
-slice-aggregate-start-2 : tie.Need-slice-aggregate-start-2
-slice-aggregate-start-2 c = search needs
-
-slice-aggregate-start-3 : tie.Need-slice-aggregate-start-3
-slice-aggregate-start-3 c = search needs
-
-start-requires : tie.Need-start-requires
-start-requires c κs = search needs
-
-plan-for-requires : tie.Need-plan-for-requires
-plan-for-requires c κs = search needs
-
-slice-aggregate-whole : tie.Need-slice-aggregate-whole
-slice-aggregate-whole c = search needs
-
-slice-aggregate-whole-2 : tie.Need-slice-aggregate-whole-2
-slice-aggregate-whole-2 c = search needs
-
-slice-aggregate-whole-3 : tie.Need-slice-aggregate-whole-3
-slice-aggregate-whole-3 c = search needs
-
-whole-requires : tie.Need-whole-requires
-whole-requires c κs = search needs
-
 mul-width : tie.Need-mul-width
 mul-width c =
     let s = c .before .before .before .before .before .before .before .before .before .before .before .before .before .before .before .before .before .before in
@@ -51,12 +24,6 @@ read-elements-requires c κs =
     let s = p .before .before .before .before .before .before .before .before .before .before .before .before .before .before in
     let e = ap (λ (t : ℕ). t * (s .args .factor * (s .args .sew / 8))) (s .pre .1 .1 .1) in
     (widths (s .args .sew) (s .args .factor) (s .pre .1 .0) .1, omega (arith, fits s, p .whole .kept .1 .1 .1 .1 .1 .0))
-
-same-length : tie.Need-same-length
-same-length c = search needs
-
-same-length-2 : tie.Need-same-length-2
-same-length-2 c = search needs
 
 returns : tie.Need-returns
 returns c =
@@ -76,17 +43,17 @@ pub multiply-spec : {M : Type 1} → statement M
 multiply-spec =
     tie.close
     (tie.spec
-    slice-aggregate-start
-    slice-aggregate-start-2
-    slice-aggregate-start-3
-    start-requires
-    plan-for-requires
-    slice-aggregate-whole
-    slice-aggregate-whole-2
-    slice-aggregate-whole-3
-    whole-requires
+    (λ c. search needs)
+    (λ c. search needs)
+    (λ c. search needs)
+    (λ c _. search needs)
+    (λ c _. search needs)
+    (λ c. search needs)
+    (λ c. search needs)
+    (λ c. search needs)
+    (λ c _. search needs)
     mul-width
     read-elements-requires
-    same-length
-    same-length-2
+    (λ c. search needs)
+    (λ c. search needs)
     returns)

@@ -27,9 +27,6 @@ mul-a c = let l = areas (c .before .before) in omega arith
 mul-b : tie.Need-mul-b
 mul-b c = let l = areas (c .before .before) in omega arith
 
-slice-aggregate-fill : tie.Need-slice-aggregate-fill
-slice-aggregate-fill c = search needs
-
 fill-requires : tie.Need-fill-requires
 fill-requires c κs =
     let s = c .before .before .before in
@@ -39,15 +36,6 @@ fill-requires c κs =
     let l = areas s in
     (w, ((matrix-small (a .m) (a .k) (a .sew / 8) (n .0) (n .1 .0) w, matrix-small (a .k) (a .n) (a .sew / 8) (n .1 .0) (n .1 .1) w), (refl, omega arith)))
 
-slice-aggregate-multiply : tie.Need-slice-aggregate-multiply
-slice-aggregate-multiply c = search needs
-
-slice-aggregate-multiply-2 : tie.Need-slice-aggregate-multiply-2
-slice-aggregate-multiply-2 c = search needs
-
-multiply-requires : tie.Need-multiply-requires
-multiply-requires c κs = search needs
-
 mul-modulus : tie.Need-mul-modulus
 mul-modulus c =
     let s = c .before .before .before .before .before .before .before .before .before .before in
@@ -56,17 +44,11 @@ mul-modulus c =
 modulus-requires : tie.Need-modulus-requires
 modulus-requires c κs = wide (c .before .before .before .before .before .before .before .before .before .before)
 
-slice-aggregate-put-accepted : tie.Need-slice-aggregate-put-accepted
-slice-aggregate-put-accepted c = search needs
-
 put-accepted-requires : tie.Need-put-accepted-requires
 put-accepted-requires c κs =
     let f = c .before .before .before .before .before in
     let s = f .before .before .before .before .before .before .before .before in
     (s .pre .1 .1 .1, s .pre .0 .0, s .pre .0 .1 .1, omega (arith, mul-le-mul (s .pre .0 .0) (s .pre .0 .1 .1), f .multiply .kept .0))
-
-same-length : tie.Need-same-length
-same-length c = search needs
 
 returns : tie.Need-returns
 returns c t e elements =
@@ -88,14 +70,14 @@ solve-spec =
     (tie.spec
     mul-a
     mul-b
-    slice-aggregate-fill
+    (λ c. search needs)
     fill-requires
-    slice-aggregate-multiply
-    slice-aggregate-multiply-2
-    multiply-requires
+    (λ c. search needs)
+    (λ c. search needs)
+    (λ c _. search needs)
     mul-modulus
     modulus-requires
-    slice-aggregate-put-accepted
+    (λ c. search needs)
     put-accepted-requires
-    same-length
+    (λ c. search needs)
     returns)

@@ -20,12 +20,6 @@ use Rattle.starting.proofs.start.Tie as tie
 abbrev bench : tie.Start → Bench
 bench s = let a = s .args in benchOf (a .m) (sealsIn (a .seals .now)) (a .registers .now) (a .marks .now) (a .memory .now)
 
-is-sound-requires : tie.Need-is-sound-requires
-is-sound-requires c κs = search needs
-
-refused-requires : tie.Need-refused-requires
-refused-requires c κs = search needs
-
 returns : tie.Need-returns
 returns c =
     let d = c .before .before in
@@ -38,12 +32,6 @@ returns c =
 -- the state is not at fault
 fine : (c : tie.Else1) → soundBench (bench (c .before .before .before .before .before .before)) ≡ true
 fine c = test-passed (c .before .is-sound .result) (soundBench (bench (c .before .before .before .before .before .before))) (c .before .is-sound .ensures) (c .if1 .left)
-
-is-planned-requires : tie.Need-is-planned-requires
-is-planned-requires c κs = search needs
-
-refused-requires-2 : tie.Need-refused-requires-2
-refused-requires-2 c κs = search needs
 
 returns-2 : tie.Need-returns-2
 returns-2 c =
@@ -68,9 +56,6 @@ plan-widest c =
 is-lying-requires : tie.Need-is-lying-requires
 is-lying-requires c κs = plan-widest c
 
-refused-requires-3 : tie.Need-refused-requires-3
-refused-requires-3 c κs = search needs
-
 returns-3 : tie.Need-returns-3
 returns-3 c =
     let d = c .before .before in
@@ -91,9 +76,6 @@ is-separate-requires : tie.Need-is-separate-requires
 is-separate-requires c κs =
     let e = c .before .before .before .before in
     (plan-widest (c .before .before), (lies c, bench-seals (bench (e .before .before .before .before .before .before)) (fine e)))
-
-refused-requires-4 : tie.Need-refused-requires-4
-refused-requires-4 c κs = search needs
 
 returns-4 : tie.Need-returns-4
 returns-4 c =
@@ -120,16 +102,16 @@ pub start-spec : {M : Type 1} → statement M
 start-spec =
     tie.close
     (tie.spec
-    is-sound-requires
-    refused-requires
+    (λ c _. search needs)
+    (λ c _. search needs)
     returns
-    is-planned-requires
-    refused-requires-2
+    (λ c _. search needs)
+    (λ c _. search needs)
     returns-2
     is-lying-requires
-    refused-requires-3
+    (λ c _. search needs)
     returns-3
     is-separate-requires
-    refused-requires-4
+    (λ c _. search needs)
     returns-4
     returns-5)

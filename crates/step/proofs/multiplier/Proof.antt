@@ -4,20 +4,11 @@ use borrow.Author.Needs.{needs}
 use Rattle.step.proofs.multiplier.Statement.{statement}
 use Rattle.step.proofs.multiplier.Tie as tie
 
-sign-extend-requires : tie.Need-sign-extend-requires
-sign-extend-requires c κs = omega arith
-
 returns : tie.Need-returns
 returns c = let a = c .before .before .args in multiplier-is (a .mtype) 0 (a .value) (c .sign-extend .result) (c .before .if1 .taken) (c .sign-extend .ensures)
 
-sign-extend-requires-2 : tie.Need-sign-extend-requires-2
-sign-extend-requires-2 c κs = omega arith
-
 returns-2 : tie.Need-returns-2
 returns-2 c = let a = c .before .before .before .args in multiplier-is (a .mtype) 1 (a .value) (c .sign-extend2 .result) (c .before .if2 .taken) (c .sign-extend2 .ensures)
-
-sign-extend-requires-3 : tie.Need-sign-extend-requires-3
-sign-extend-requires-3 c κs = omega arith
 
 returns-3 : tie.Need-returns-3
 returns-3 c = let a = c .before .before .before .before .args in multiplier-is (a .mtype) 2 (a .value) (c .sign-extend3 .result) (c .before .if3 .taken) (c .sign-extend3 .ensures)
@@ -28,4 +19,4 @@ returns-4 c =
     multiplier-is (s .args .mtype) 3 (s .args .value) (s .args .value) (omega (arith, s .pre, c .if3 .left, c .before .if2 .left, c .before .before .if1 .left)) (whole-word (s .args .value) (search needs))
 
 pub multiplier-spec : {M : Type 1} → statement M
-multiplier-spec = tie.close (tie.spec sign-extend-requires returns sign-extend-requires-2 returns-2 sign-extend-requires-3 returns-3 returns-4)
+multiplier-spec = tie.close (tie.spec (λ c _. omega arith) returns (λ c _. omega arith) returns-2 (λ c _. omega arith) returns-3 returns-4)

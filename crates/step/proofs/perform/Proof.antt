@@ -55,23 +55,11 @@ other-arm s i e n o h =
     let B = benchOf (a .m) (sealsIn (a .seals .now)) (a .registers .now) (a .marks .now) (a .memory .now) in
     ap (beside (a .vectors .now)) h ∙ other-outcome (vectorsOf (a .vectors .now) (a .group)) (ours (a .m)) (a .scalars .now) B (a .instruction) (ap isMove e ∙ n)
 
-enum-known-instruction : tie.Need-enum-known-instruction
-enum-known-instruction c = search needs
-
-word-answer-requires : tie.Need-word-answer-requires
-word-answer-requires c κs = search needs
-
-enum-known-instruction-2 : tie.Need-enum-known-instruction-2
-enum-known-instruction-2 c = search needs
-
 set-type-requires : tie.Need-set-type-requires
 set-type-requires c κs =
     let g = c .before .before .instruction2 .given in
     let s = c .before .before .before .before .before .before .before .before .before .before in
     (ready-elen (s .args .m) (ready (s .args .m) (s .args .registers .now) (s .args .marks .now) (s .pre .0)), omega (arith, fields s _ (g .1), slots s))
-
-enum-known-instruction-3 : tie.Need-enum-known-instruction-3
-enum-known-instruction-3 c = search needs
 
 read-scalar-requires : tie.Need-read-scalar-requires
 read-scalar-requires c κs =
@@ -85,26 +73,17 @@ set-type-requires-2 c κs =
     let s = c .before .before .before .before .before .before .before .before .before .before .before .before in
     (ready-elen (s .args .m) (ready (s .args .m) (s .args .registers .now) (s .args .marks .now) (s .pre .0)), omega (arith, fields s _ (g .1) .0, slots s))
 
-enum-known-instruction-4 : tie.Need-enum-known-instruction-4
-enum-known-instruction-4 c = search needs
-
 set-size-requires : tie.Need-set-size-requires
 set-size-requires c κs =
     let g = c .before .before .instruction4 .given in
     let s = c .before .before .before .before .before .before .before .before .before .before in
     (ready (s .args .m) (s .args .registers .now) (s .args .marks .now) (s .pre .0), omega (arith, fields s _ (g .1), slots s))
 
-enum-known-instruction-5 : tie.Need-enum-known-instruction-5
-enum-known-instruction-5 c = search needs
-
 set-tile-requires : tie.Need-set-tile-requires
 set-tile-requires c κs =
     let g = c .before .before .instruction5 .given in
     let s = c .before .before .before .before .before .before .before .before .before .before in
     (ready (s .args .m) (s .args .registers .now) (s .args .marks .now) (s .pre .0), (omega (arith, fields s _ (g .1) .0, slots s), omega (arith, fields s _ (g .1) .1, slots s)))
-
-enum-known-instruction-6 : tie.Need-enum-known-instruction-6
-enum-known-instruction-6 c = search needs
 
 read-scalar-requires-2 : tie.Need-read-scalar-requires-2
 read-scalar-requires-2 c κs =
@@ -124,9 +103,6 @@ load-requires c κs =
     let s = c .before .before .before .before .before .before .before .before .before .before .before .before .before .before .before .before in
     (s .pre .0, fields s _ (g .1) .0)
 
-enum-known-instruction-7 : tie.Need-enum-known-instruction-7
-enum-known-instruction-7 c = search needs
-
 read-scalar-requires-4 : tie.Need-read-scalar-requires-4
 read-scalar-requires-4 c κs =
     let g = c .before .before .instruction7 .given in
@@ -145,26 +121,17 @@ store-requires c κs =
     let s = c .before .before .before .before .before .before .before .before .before .before .before .before .before .before .before .before in
     (s .pre .0, (fields s _ (g .1) .0, s .pre .1 .1 .1 .1))
 
-enum-known-instruction-8 : tie.Need-enum-known-instruction-8
-enum-known-instruction-8 c = search needs
-
 multiply-requires : tie.Need-multiply-requires
 multiply-requires c κs =
     let g = c .before .before .before .instruction8 .given in
     let s = c .before .before .before .before .before .before .before .before .before .before .before in
     (s .pre .0, fields s _ (g .1))
 
-enum-known-instruction-9 : tie.Need-enum-known-instruction-9
-enum-known-instruction-9 c = search needs
-
 combine-requires : tie.Need-combine-requires
 combine-requires c κs =
     let g = c .before .before .before .instruction9 .given in
     let s = c .before .before .before .before .before .before .before .before .before .before .before in
     (s .pre .0, fields s _ (g .1))
-
-enum-known-instruction-10 : tie.Need-enum-known-instruction-10
-enum-known-instruction-10 c = search needs
 
 read-scalar-requires-6 : tie.Need-read-scalar-requires-6
 read-scalar-requires-6 c κs =
@@ -184,9 +151,6 @@ scale-requires c κs =
     let s = c .before .before .before .before .before .before .before .before .before .before .before .before .before .before in
     (s .pre .0, fields s _ (g .1) .0)
 
-enum-known-instruction-11 : tie.Need-enum-known-instruction-11
-enum-known-instruction-11 c = search needs
-
 sign-extend-requires : tie.Need-sign-extend-requires
 sign-extend-requires c κs =
     let g = c .before .instruction11 .given in
@@ -198,9 +162,6 @@ scale-requires-2 c κs =
     let g = c .before .before .before .before .instruction11 .given in
     let s = c .before .before .before .before .before .before .before .before .before .before .before .before in
     (s .pre .0, fields s _ (g .1) .0)
-
-enum-known-instruction-12 : tie.Need-enum-known-instruction-12
-enum-known-instruction-12 c = search needs
 
 float-multiply-requires : tie.Need-float-multiply-requires
 float-multiply-requires c κs =
@@ -218,9 +179,6 @@ returns c =
     ap (λ (x : Answer). steppedAs (record { answer = x; machine = a .m }) (sealsIn (a .seals .now)) (a .registers .now) (a .marks .now) (a .scalars .now) (a .memory .now)) (c .word-answer .ensures)
     ∙ illegal-outcome (a .m) (sealsIn (a .seals .now)) (a .instruction) (a .scalars .now) (a .registers .now) (a .marks .now) (a .memory .now) (s .pre .0) (s .pre .1 .1 .1 .1) (s .pre .1 .0) _ (meant s _ (g .1)))
 
-same-length : tie.Need-same-length
-same-length c = search needs
-
 returns-2 : tie.Need-returns-2
 returns-2 c =
     let g = c .before .before .before .before .before .instruction2 .given in
@@ -230,9 +188,6 @@ returns-2 c =
     other-arm s _ (g .1) refl _ (
     ap₂ (λ (m : Machine) (x : List ℕ). record { answer = reply Done; bench = benchOf m (sealsIn (a .seals .now)) (a .registers .now) (a .marks .now) (a .memory .now); scalars = x }) (z .set-type .ensures .0) (z .set-type .ensures .1)
     ∙ type-outcome (a .m) (sealsIn (a .seals .now)) (a .instruction) (a .scalars .now) (a .registers .now) (a .marks .now) (a .memory .now) (s .pre .0) (s .pre .1 .1 .1 .1) (s .pre .1 .0) _ _ (meant s _ (g .1)) (ap destination (g .1)))
-
-same-length-2 : tie.Need-same-length-2
-same-length-2 c = search needs
 
 returns-3 : tie.Need-returns-3
 returns-3 c =
@@ -245,9 +200,6 @@ returns-3 c =
     ap₂ (λ (m : Machine) (x : List ℕ). record { answer = reply Done; bench = benchOf m (sealsIn (a .seals .now)) (a .registers .now) (a .marks .now) (a .memory .now); scalars = x }) (z .set-type2 .ensures .0 ∙ ap (λ (v : ℕ). withType (a .m) (newType (a .m .elen) v)) v) (z .set-type2 .ensures .1 ∙ ap (λ (v : ℕ). withScalar (a .scalars .now) (g .0 .0) (newType (a .m .elen) v)) v)
     ∙ type-outcome (a .m) (sealsIn (a .seals .now)) (a .instruction) (a .scalars .now) (a .registers .now) (a .marks .now) (a .memory .now) (s .pre .0) (s .pre .1 .1 .1 .1) (s .pre .1 .0) _ _ (meant s _ (g .1)) (ap destination (g .1)))
 
-same-length-3 : tie.Need-same-length-3
-same-length-3 c = search needs
-
 returns-4 : tie.Need-returns-4
 returns-4 c =
     let g = c .before .before .before .before .before .instruction4 .given in
@@ -258,9 +210,6 @@ returns-4 c =
     ap₂ (λ (r : Stepped) (x : List ℕ). record { answer = reply (r .answer); bench = benchOf (r .machine) (sealsIn (a .seals .now)) (a .registers .now) (a .marks .now) (a .memory .now); scalars = x }) (z .set-size .ensures .0) (z .set-size .ensures .1)
     ∙ size-outcome (a .m) (sealsIn (a .seals .now)) (a .instruction) (a .scalars .now) (a .registers .now) (a .marks .now) (a .memory .now) (s .pre .0) (s .pre .1 .1 .1 .1) (s .pre .1 .0) _ _ _ (meant s _ (g .1)) (ap destination (g .1)))
 
-same-length-4 : tie.Need-same-length-4
-same-length-4 c = search needs
-
 returns-5 : tie.Need-returns-5
 returns-5 c =
     let g = c .before .before .before .before .before .instruction5 .given in
@@ -270,18 +219,6 @@ returns-5 c =
     other-arm s _ (g .1) refl _ (
     ap₂ (λ (r : Stepped) (x : List ℕ). record { answer = reply (r .answer); bench = benchOf (r .machine) (sealsIn (a .seals .now)) (a .registers .now) (a .marks .now) (a .memory .now); scalars = x }) (z .set-tile .ensures .0) (z .set-tile .ensures .1)
     ∙ tile-outcome (a .m) (sealsIn (a .seals .now)) (a .instruction) (a .scalars .now) (a .registers .now) (a .marks .now) (a .memory .now) (s .pre .0) (s .pre .1 .1 .1 .1) (s .pre .1 .0) (g .0 .0) (g .0 .1 .0) (g .0 .1 .1 .0) (meant s _ (g .1)) (ap destination (g .1)))
-
-same-length-5 : tie.Need-same-length-5
-same-length-5 c = search needs
-
-same-length-6 : tie.Need-same-length-6
-same-length-6 c = search needs
-
-same-length-7 : tie.Need-same-length-7
-same-length-7 c = search needs
-
-same-length-8 : tie.Need-same-length-8
-same-length-8 c = search needs
 
 returns-6 : tie.Need-returns-6
 returns-6 c =
@@ -294,18 +231,6 @@ returns-6 c =
     other-arm s _ (g .1) refl _ (
     loads-outcome (a .m) (sealsIn (a .seals .now)) (a .instruction) (a .scalars .now) (a .registers .now) (a .marks .now) (a .memory .now) (s .pre .0) (s .pre .1 .1 .1 .1) (s .pre .1 .0) _ (meant s _ (g .1) ∙ ap₂ (λ (x y : ℕ). Operation.load (g .0 .0) (g .0 .1 .0) (g .0 .1 .1 .1 .0) (g .0 .1 .1 .0) x y) (sym base) (sym stride)) (ap destination (g .1)) _ _ _ (z .load .ensures) refl refl)
 
-same-length-9 : tie.Need-same-length-9
-same-length-9 c = search needs
-
-same-length-10 : tie.Need-same-length-10
-same-length-10 c = search needs
-
-same-length-11 : tie.Need-same-length-11
-same-length-11 c = search needs
-
-same-length-12 : tie.Need-same-length-12
-same-length-12 c = search needs
-
 returns-7 : tie.Need-returns-7
 returns-7 c =
     let g = c .before .before .before .before .before .before .before .before .before .before .before .instruction7 .given in
@@ -317,12 +242,6 @@ returns-7 c =
     other-arm s _ (g .1) refl _ (
     stores-outcome (a .m) (sealsIn (a .seals .now)) (a .instruction) (a .scalars .now) (a .registers .now) (a .marks .now) (a .memory .now) (s .pre .0) (s .pre .1 .1 .1 .1) (s .pre .1 .0) _ (meant s _ (g .1) ∙ ap₂ (λ (x y : ℕ). Operation.store (g .0 .0) (g .0 .1 .0) (g .0 .1 .1 .1 .0) (g .0 .1 .1 .0) x y) (sym base) (sym stride)) (ap destination (g .1)) _ _ (z .store .ensures) refl)
 
-same-length-13 : tie.Need-same-length-13
-same-length-13 c = search needs
-
-same-length-14 : tie.Need-same-length-14
-same-length-14 c = search needs
-
 returns-8 : tie.Need-returns-8
 returns-8 c =
     let g = c .before .before .before .before .before .before .instruction8 .given in
@@ -332,12 +251,6 @@ returns-8 c =
     other-arm s _ (g .1) refl _ (
     loads-outcome (a .m) (sealsIn (a .seals .now)) (a .instruction) (a .scalars .now) (a .registers .now) (a .marks .now) (a .memory .now) (s .pre .0) (s .pre .1 .1 .1 .1) (s .pre .1 .0) _ (meant s _ (g .1)) (ap destination (g .1)) _ _ _ (record { answer-is = l .answer-is; registers-are = l .registers-are; marks-are = l .marks-are }) refl refl)
 
-same-length-15 : tie.Need-same-length-15
-same-length-15 c = search needs
-
-same-length-16 : tie.Need-same-length-16
-same-length-16 c = search needs
-
 returns-9 : tie.Need-returns-9
 returns-9 c =
     let g = c .before .before .before .before .before .before .instruction9 .given in
@@ -346,15 +259,6 @@ returns-9 c =
     let l = c .before .before .combine .ensures in
     other-arm s _ (g .1) refl _ (
     loads-outcome (a .m) (sealsIn (a .seals .now)) (a .instruction) (a .scalars .now) (a .registers .now) (a .marks .now) (a .memory .now) (s .pre .0) (s .pre .1 .1 .1 .1) (s .pre .1 .0) _ (meant s _ (g .1)) (ap destination (g .1)) _ _ _ (record { answer-is = l .answer-is; registers-are = l .registers-are; marks-are = l .marks-are }) refl refl)
-
-same-length-17 : tie.Need-same-length-17
-same-length-17 c = search needs
-
-same-length-18 : tie.Need-same-length-18
-same-length-18 c = search needs
-
-same-length-19 : tie.Need-same-length-19
-same-length-19 c = search needs
 
 returns-10 : tie.Need-returns-10
 returns-10 c =
@@ -368,12 +272,6 @@ returns-10 c =
     other-arm s _ (g .1) refl _ (
     loads-outcome (a .m) (sealsIn (a .seals .now)) (a .instruction) (a .scalars .now) (a .registers .now) (a .marks .now) (a .memory .now) (s .pre .0) (s .pre .1 .1 .1 .1) (s .pre .1 .0) _ (meant s _ (g .1) ∙ ap (λ (x : ℕ). Operation.scale (times (g .0 .0)) (g .0 .1 .0) (g .0 .1 .1 .0) (signed (256 ^ sew (a .m .mtype)) (x % 256 ^ sew (a .m .mtype)))) (sym v)) (ap destination (g .1)) _ _ _ (record { answer-is = l .answer-is; registers-are = l .registers-are; marks-are = l .marks-are }) refl refl)
 
-same-length-20 : tie.Need-same-length-20
-same-length-20 c = search needs
-
-same-length-21 : tie.Need-same-length-21
-same-length-21 c = search needs
-
 returns-11 : tie.Need-returns-11
 returns-11 c =
     let g = c .before .before .before .before .before .before .before .before .before .instruction11 .given in
@@ -384,12 +282,6 @@ returns-11 c =
     other-arm s _ (g .1) refl _ (
     loads-outcome (a .m) (sealsIn (a .seals .now)) (a .instruction) (a .scalars .now) (a .registers .now) (a .marks .now) (a .memory .now) (s .pre .0) (s .pre .1 .1 .1 .1) (s .pre .1 .0) _ (meant s _ (g .1)) (ap destination (g .1)) _ _ _ (record { answer-is = l .answer-is; registers-are = l .registers-are; marks-are = l .marks-are }) refl refl)
 
-same-length-22 : tie.Need-same-length-22
-same-length-22 c = search needs
-
-same-length-23 : tie.Need-same-length-23
-same-length-23 c = search needs
-
 returns-12 : tie.Need-returns-12
 returns-12 c =
     let g = c .before .before .before .before .before .before .instruction12 .given in
@@ -398,9 +290,6 @@ returns-12 c =
     let l = c .before .before .float-multiply .ensures in
     other-arm s _ (g .1) refl _ (
     loads-outcome (a .m) (sealsIn (a .seals .now)) (a .instruction) (a .scalars .now) (a .registers .now) (a .marks .now) (a .memory .now) (s .pre .0) (s .pre .1 .1 .1 .1) (s .pre .1 .0) _ (meant s _ (g .1)) (ap destination (g .1)) _ _ _ (record { answer-is = l .answer-is; registers-are = l .registers-are; marks-are = l .marks-are }) refl refl)
-
-enum-known-instruction-13 : tie.Need-enum-known-instruction-13
-enum-known-instruction-13 c = search needs
 
 read-scalar-requires-7 : tie.Need-read-scalar-requires-7
 read-scalar-requires-7 c κs =
@@ -414,9 +303,6 @@ move-slice-requires c κs =
     let s = c .before .before .before .before .before .before .before .before .before .before .before .before .before .before in
     (s .pre .0, (s .pre .1 .1 .0, fields s _ (g .1) .0))
 
-enum-known-instruction-14 : tie.Need-enum-known-instruction-14
-enum-known-instruction-14 c = search needs
-
 read-scalar-requires-8 : tie.Need-read-scalar-requires-8
 read-scalar-requires-8 c κs =
     let g = c .before .before .instruction14 .given in
@@ -428,18 +314,6 @@ move-slice-requires-2 c κs =
     let g = c .before .before .before .before .before .before .instruction14 .given in
     let s = c .before .before .before .before .before .before .before .before .before .before .before .before .before .before in
     (s .pre .0, (s .pre .1 .1 .0, fields s _ (g .1) .0))
-
-same-length-24 : tie.Need-same-length-24
-same-length-24 c = search needs
-
-same-length-25 : tie.Need-same-length-25
-same-length-25 c = search needs
-
-same-length-26 : tie.Need-same-length-26
-same-length-26 c = search needs
-
-same-length-27 : tie.Need-same-length-27
-same-length-27 c = search needs
 
 -- what a move means
 meant-in : (s : tie.Start) (i : Instruction) → s .args .instruction ≡ i → let a = s .args in
@@ -459,18 +333,6 @@ returns-13 c =
     slice-outcome (a .m) (sealsIn (a .seals .now)) (a .instruction) (a .scalars .now) (a .registers .now) (a .marks .now) (a .memory .now) W (s .pre .0) (s .pre .1 .1 .1 .1) (s .pre .1 .0) (ap destination (g .1)) false (g .0 .0) (g .0 .1 .1 .0) (g .0 .1 .0) (v .read-scalar7 .result)
     (meant-in s _ (g .1) ∙ ap (λ (x : ℕ). moved false W (g .0 .0) (g .0 .1 .1 .0) (g .0 .1 .0) x) (sym (v .read-scalar7 .ensures))) _ _ _ _ (k .move-slice .ensures)
 
-same-length-28 : tie.Need-same-length-28
-same-length-28 c = search needs
-
-same-length-29 : tie.Need-same-length-29
-same-length-29 c = search needs
-
-same-length-30 : tie.Need-same-length-30
-same-length-30 c = search needs
-
-same-length-31 : tie.Need-same-length-31
-same-length-31 c = search needs
-
 returns-14 : tie.Need-returns-14
 returns-14 c =
     let k = c .before .before .before .before .before .before in
@@ -484,4 +346,4 @@ returns-14 c =
     (meant-in s _ (g .1) ∙ ap (λ (x : ℕ). moved true W (g .0 .0) (g .0 .1 .0) (g .0 .1 .1 .0) x) (sym (v .read-scalar8 .ensures))) _ _ _ _ (k .move-slice2 .ensures)
 
 pub perform-spec : {M : Type 1} → statement M
-perform-spec = tie.close (tie.spec enum-known-instruction word-answer-requires enum-known-instruction-2 set-type-requires enum-known-instruction-3 read-scalar-requires set-type-requires-2 enum-known-instruction-4 set-size-requires enum-known-instruction-5 set-tile-requires enum-known-instruction-6 read-scalar-requires-2 read-scalar-requires-3 load-requires enum-known-instruction-7 read-scalar-requires-4 read-scalar-requires-5 store-requires enum-known-instruction-8 multiply-requires enum-known-instruction-9 combine-requires enum-known-instruction-10 read-scalar-requires-6 multiplier-requires scale-requires enum-known-instruction-11 sign-extend-requires scale-requires-2 enum-known-instruction-12 float-multiply-requires enum-known-instruction-13 read-scalar-requires-7 move-slice-requires enum-known-instruction-14 read-scalar-requires-8 move-slice-requires-2 returns same-length returns-2 same-length-2 returns-3 same-length-3 returns-4 same-length-4 returns-5 same-length-5 same-length-6 same-length-7 same-length-8 returns-6 same-length-9 same-length-10 same-length-11 same-length-12 returns-7 same-length-13 same-length-14 returns-8 same-length-15 same-length-16 returns-9 same-length-17 same-length-18 same-length-19 returns-10 same-length-20 same-length-21 returns-11 same-length-22 same-length-23 returns-12 same-length-24 same-length-25 same-length-26 same-length-27 returns-13 same-length-28 same-length-29 same-length-30 same-length-31 returns-14)
+perform-spec = tie.close (tie.spec (λ c. search needs) (λ c _. search needs) (λ c. search needs) set-type-requires (λ c. search needs) read-scalar-requires set-type-requires-2 (λ c. search needs) set-size-requires (λ c. search needs) set-tile-requires (λ c. search needs) read-scalar-requires-2 read-scalar-requires-3 load-requires (λ c. search needs) read-scalar-requires-4 read-scalar-requires-5 store-requires (λ c. search needs) multiply-requires (λ c. search needs) combine-requires (λ c. search needs) read-scalar-requires-6 multiplier-requires scale-requires (λ c. search needs) sign-extend-requires scale-requires-2 (λ c. search needs) float-multiply-requires (λ c. search needs) read-scalar-requires-7 move-slice-requires (λ c. search needs) read-scalar-requires-8 move-slice-requires-2 returns (λ c. search needs) returns-2 (λ c. search needs) returns-3 (λ c. search needs) returns-4 (λ c. search needs) returns-5 (λ c. search needs) (λ c. search needs) (λ c. search needs) (λ c. search needs) returns-6 (λ c. search needs) (λ c. search needs) (λ c. search needs) (λ c. search needs) returns-7 (λ c. search needs) (λ c. search needs) returns-8 (λ c. search needs) (λ c. search needs) returns-9 (λ c. search needs) (λ c. search needs) (λ c. search needs) returns-10 (λ c. search needs) (λ c. search needs) returns-11 (λ c. search needs) (λ c. search needs) returns-12 (λ c. search needs) (λ c. search needs) (λ c. search needs) (λ c. search needs) returns-13 (λ c. search needs) (λ c. search needs) (λ c. search needs) (λ c. search needs) returns-14)

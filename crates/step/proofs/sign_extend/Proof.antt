@@ -7,21 +7,9 @@ use Rattle.step.proofs.sign_extend.Tie as tie
 returns : tie.Need-returns
 returns c = let s = c .before in extend-low (s .args .x) (s .args .half) (c .if1 .taken) (s .pre .1)
 
-add-result : tie.Need-add-result
-add-result c = search needs
-
-sub-result : tie.Need-sub-result
-sub-result c = search needs
-
-sub-result-2 : tie.Need-sub-result-2
-sub-result-2 c = search needs
-
-add-result-2 : tie.Need-add-result-2
-add-result-2 c = search needs
-
 returns-2 : tie.Need-returns-2
 returns-2 c = let s = c .before in extend-high (s .args .x) (s .args .half) _ (c .if1 .left) (s .pre .0) (s .pre .1) refl
 
 pub sign-extend-spec : {M : Type 1} → statement M
 sign-extend-spec =
-    tie.close (tie.spec returns add-result sub-result sub-result-2 add-result-2 returns-2)
+    tie.close (tie.spec returns (λ c. search needs) (λ c. search needs) (λ c. search needs) (λ c. search needs) returns-2)

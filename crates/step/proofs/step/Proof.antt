@@ -34,42 +34,21 @@ returns c =
     let s = c .before .before .before .before .before .before .before in
     step-vectors (s .args .word) (s .args .scalars .now) (lent s) (bench s) (file-bad (s .args .vectors .now) (s .args .group) (c .if1 .taken))
 
-is-group-requires : tie.Need-is-group-requires
-is-group-requires c κs = search needs
-
 returns-2 : tie.Need-returns-2
 returns-2 c =
     let s = c .before .before .before .before .before .before .before .before .before in
     step-vectors (s .args .word) (s .args .scalars .now) (lent s) (bench s)
     (group-bad (s .args .vectors .now) (s .args .group) (c .before .before .if1 .left) (sym (c .before .is-group .ensures) ∙ not-true (c .before .is-group .result) (c .if2 .taken)))
 
-is-sound-requires : tie.Need-is-sound-requires
-is-sound-requires c κs = search needs
-
-same-length : tie.Need-same-length
-same-length c = search needs
-
-same-length-2 : tie.Need-same-length-2
-same-length-2 c = search needs
-
 returns-3 : tie.Need-returns-3
 returns-3 c =
     let s = c .before .before .before .before .before .before .before .before .before .before .before .before .before in
     step-fault (s .args .word) (s .args .scalars .now) (lent s) (bench s) (sym (c .before .is-sound .ensures) ∙ not-true (c .before .is-sound .result) (c .if3 .taken))
 
-same-length-3 : tie.Need-same-length-3
-same-length-3 c = search needs
-
-same-length-4 : tie.Need-same-length-4
-same-length-4 c = search needs
-
 returns-4 : tie.Need-returns-4
 returns-4 c =
     let s = c .before .before .before .before .before .before .before .before .before .before .before .before .before .before in
     step-scalars (s .args .word) (s .args .scalars .now) (lent s) (bench s) (fine (c .before)) (ne-eqb (length (s .args .scalars .now)) 32 (c .if4 .taken))
-
-decode-requires : tie.Need-decode-requires
-decode-requires c κs = search needs
 
 perform-requires : tie.Need-perform-requires
 perform-requires c κs =
@@ -78,21 +57,6 @@ perform-requires c κs =
     let g = e .before .before .before .before in
     let s = g .before .before .before .before .before .before .before .before .before in
     (bench-sound (bench s) (fine e), (eq-eqb (length (s .args .scalars .now)) 32 (b .if4 .left), (good g, (decoded (s .args .word) (c .decode .result) (c .decode .ensures), bench-seals (bench s) (fine e)))))
-
-same-length-5 : tie.Need-same-length-5
-same-length-5 c = search needs
-
-same-length-6 : tie.Need-same-length-6
-same-length-6 c = search needs
-
-same-length-7 : tie.Need-same-length-7
-same-length-7 c = search needs
-
-same-length-8 : tie.Need-same-length-8
-same-length-8 c = search needs
-
-same-length-9 : tie.Need-same-length-9
-same-length-9 c = search needs
 
 returns-5 : tie.Need-returns-5
 returns-5 c =
@@ -107,20 +71,20 @@ step-spec =
     tie.close
     (tie.spec
     returns
-    is-group-requires
+    (λ c _. search needs)
     returns-2
-    is-sound-requires
-    same-length
-    same-length-2
+    (λ c _. search needs)
+    (λ c. search needs)
+    (λ c. search needs)
     returns-3
-    same-length-3
-    same-length-4
+    (λ c. search needs)
+    (λ c. search needs)
     returns-4
-    decode-requires
+    (λ c _. search needs)
     perform-requires
-    same-length-5
-    same-length-6
-    same-length-7
-    same-length-8
-    same-length-9
+    (λ c. search needs)
+    (λ c. search needs)
+    (λ c. search needs)
+    (λ c. search needs)
+    (λ c. search needs)
     returns-5)

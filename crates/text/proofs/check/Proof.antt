@@ -71,39 +71,6 @@ elements c = c .each-inside .ensures ∙ ap₂ (λ (h : ℕ) (l : List ℕ). all
 returns : tie.Need-returns
 returns c = λ zs e. too-few zs (c .before .before .args .xs .now) e (c .if1 .taken)
 
-shared-slice-read-size : tie.Need-shared-slice-read-size
-shared-slice-read-size c = search needs
-
-size-requires : tie.Need-size-requires
-size-requires c κs = search needs
-
-shared-slice-read-size-2 : tie.Need-shared-slice-read-size-2
-shared-slice-read-size-2 c = search needs
-
-size-requires-2 : tie.Need-size-requires-2
-size-requires-2 c κs = search needs
-
-shared-slice-read-size-3 : tie.Need-shared-slice-read-size-3
-shared-slice-read-size-3 c = search needs
-
-size-requires-3 : tie.Need-size-requires-3
-size-requires-3 c κs = search needs
-
-shared-slice-read-size-4 : tie.Need-shared-slice-read-size-4
-shared-slice-read-size-4 c = search needs
-
-size-requires-4 : tie.Need-size-requires-4
-size-requires-4 c κs = search needs
-
-shared-slice-read-size-5 : tie.Need-shared-slice-read-size-5
-shared-slice-read-size-5 c = search needs
-
-size-requires-5 : tie.Need-size-requires-5
-size-requires-5 c κs = search needs
-
-is-format-requires : tie.Need-is-format-requires
-is-format-requires c κs = search needs
-
 returns-2 : tie.Need-returns-2
 returns-2 c = fails (c .before .before) 0 (sym (c .before .is-format .ensures) ∙ not-true (c .before .is-format .result) (c .if2 .taken))
 
@@ -138,18 +105,6 @@ half-requires c κs =
     let r = c .before .before .before .before .before .before in
     format-sew (sew r) (factor r) (formatted (c .before .before .before .before))
 
-sub-each-inside : tie.Need-sub-each-inside
-sub-each-inside c = search needs
-
-part-each-inside-start : tie.Need-part-each-inside-start
-part-each-inside-start c = search needs
-
-part-each-inside-end : tie.Need-part-each-inside-end
-part-each-inside-end c = search needs
-
-each-inside-requires : tie.Need-each-inside-requires
-each-inside-requires c κs = search needs
-
 returns-7 : tie.Need-returns-7
 returns-7 c =
     let r = c .before .before .before .before .before .before .before .before .before .before in
@@ -181,17 +136,17 @@ check-spec =
     tie.close
     (tie.spec
     returns
-    shared-slice-read-size
-    size-requires
-    shared-slice-read-size-2
-    size-requires-2
-    shared-slice-read-size-3
-    size-requires-3
-    shared-slice-read-size-4
-    size-requires-4
-    shared-slice-read-size-5
-    size-requires-5
-    is-format-requires
+    (λ c. search needs)
+    (λ c _. search needs)
+    (λ c. search needs)
+    (λ c _. search needs)
+    (λ c. search needs)
+    (λ c _. search needs)
+    (λ c. search needs)
+    (λ c _. search needs)
+    (λ c. search needs)
+    (λ c _. search needs)
+    (λ c _. search needs)
     returns-2
     returns-3
     returns-4
@@ -202,9 +157,9 @@ check-spec =
     add-if6-2
     returns-6
     half-requires
-    sub-each-inside
-    part-each-inside-start
-    part-each-inside-end
-    each-inside-requires
+    (λ c. search needs)
+    (λ c. search needs)
+    (λ c. search needs)
+    (λ c _. search needs)
     returns-7
     returns-8)

@@ -24,12 +24,6 @@ is-digit c = sym (c .before .is-digit .ensures) ∙ not-false (c .before .is-dig
 loop-holds : tie.Need-loop-holds Inv-loop μ-loop
 loop-holds c = (omega arith, omega arith, refl)
 
-shared-slice-read-d : tie.Need-shared-slice-read-d Inv-loop μ-loop
-shared-slice-read-d c = omega arith
-
-is-digit-requires : tie.Need-is-digit-requires Inv-loop μ-loop
-is-digit-requires c κs = search needs
-
 returns : tie.Need-returns Inv-loop μ-loop
 returns c =
     let l = c .before .before .before .before .loop in
@@ -37,12 +31,6 @@ returns c =
 
 more-requires : tie.Need-more-requires Inv-loop μ-loop
 more-requires c κs = let d = digit-range (getD (c .before .before .before .before .before .before .args .word .now) (c .before .before .before .before .loop .i) 0) (is-digit c) in (omega arith, omega arith, omega arith)
-
-add-i : tie.Need-add-i Inv-loop μ-loop
-add-i c = omega arith
-
-loop-less : tie.Need-loop-less Inv-loop μ-loop
-loop-less c = omega arith
 
 loop-again : tie.Need-loop-again Inv-loop μ-loop
 loop-again c =
@@ -60,11 +48,11 @@ digits-from-spec =
     Inv-loop
     μ-loop
     loop-holds
-    shared-slice-read-d
-    is-digit-requires
+    (λ c. omega arith)
+    (λ c _. search needs)
     returns
     more-requires
-    add-i
-    loop-less
+    (λ c. omega arith)
+    (λ c. omega arith)
     loop-again
     returns-2)

@@ -4,12 +4,6 @@ use borrow.Author.Needs.{needs}
 use Rattle.text.proofs.is_inside.Statement.{statement}
 use Rattle.text.proofs.is_inside.Tie as tie
 
-sub-if1 : tie.Need-sub-if1
-sub-if1 c = search needs
-
-add-result : tie.Need-add-result
-add-result c = search needs
-
 returns : tie.Need-returns
 returns c = rw (le-leb (4294967296 - c .before .args .h) (c .before .args .x) (c .if1 .taken))
 
@@ -17,4 +11,4 @@ returns-2 : tie.Need-returns-2
 returns-2 c = rw (lt-leb (4294967296 - c .before .args .h) (c .before .args .x) (c .if1 .left))
 
 pub is-inside-spec : {M : Type 1} → statement M
-is-inside-spec = tie.close (tie.spec sub-if1 add-result returns returns-2)
+is-inside-spec = tie.close (tie.spec (λ c. search needs) (λ c. search needs) returns returns-2)

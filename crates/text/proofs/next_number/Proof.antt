@@ -18,9 +18,6 @@ word c = take (c .word-end .result - c .before .before .skip .result) (drop (c .
 ahead-words : (c : tie.After-word-end) → words (drop (c .before .before .before .before .args .at) (c .before .before .before .before .args .text .now)) ≡ word c ∷ words (drop (c .word-end .result) (c .before .before .before .before .args .text .now))
 ahead-words c = sym (c .before .before .skip .ensures .1 .0) ∙ c .word-end .ensures .1
 
-skip-requires : tie.Need-skip-requires
-skip-requires c κs = search needs
-
 returns : tie.Need-returns
 returns c =
     let a = c .before .before .before .args in
@@ -33,24 +30,6 @@ word-end-requires : tie.Need-word-end-requires
 word-end-requires c κs =
     let l : c .before .skip .result < length (c .before .before .before .args .text .now) = omega (arith, c .if1 .left, c .before .skip .ensures .0) in
     (l, c .before .skip .ensures .1 .1 l)
-
-sub-read-word : tie.Need-sub-read-word
-sub-read-word c = search needs
-
-part-read-word-start : tie.Need-part-read-word-start
-part-read-word-start c = search needs
-
-part-read-word-end : tie.Need-part-read-word-end
-part-read-word-end c = search needs
-
-read-word-requires : tie.Need-read-word-requires
-read-word-requires c κs = search needs
-
-enum-known-held : tie.Need-enum-known-held
-enum-known-held c = search needs
-
-enum-told : tie.Need-enum-told
-enum-told c = search needs
 
 returns-2 : tie.Need-returns-2
 returns-2 c =
@@ -78,14 +57,14 @@ pub next-number-spec : {M : Type 1} → statement M
 next-number-spec =
     tie.close
     (tie.spec
-    skip-requires
+    (λ c _. search needs)
     returns
     word-end-requires
-    sub-read-word
-    part-read-word-start
-    part-read-word-end
-    read-word-requires
-    enum-known-held
-    enum-told
+    (λ c. search needs)
+    (λ c. search needs)
+    (λ c. search needs)
+    (λ c _. search needs)
+    (λ c. search needs)
+    (λ c. search needs)
     returns-2
     returns-3)

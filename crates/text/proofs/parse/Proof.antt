@@ -17,26 +17,11 @@ returns c =
     let g = parse-long (a .text .now) (a .out .now) (c .if1 .taken) in
     (g .0, (g .1, read-none (a .text .now) (a .out .now) (c .if1 .taken)))
 
-read-all-requires : tie.Need-read-all-requires
-read-all-requires c κs = search needs
-
-enum-known-n : tie.Need-enum-known-n
-enum-known-n c = search needs
-
 slice-reshare-prefix-check : tie.Need-slice-reshare-prefix-check
 slice-reshare-prefix-check c = read (c .before) .0
 
 slice-aggregate-check : tie.Need-slice-aggregate-check
 slice-aggregate-check c = let d = c .before .before in sym (length-take-le (d .n .given .0 .0) (d .before .before .before .before .read-all .last .1 .0) (read d .0))
-
-check-requires : tie.Need-check-requires
-check-requires c κs = search needs
-
-enum-told : tie.Need-enum-told
-enum-told c = search needs
-
-same-length : tie.Need-same-length
-same-length c = search needs
 
 returns-2 : tie.Need-returns-2
 returns-2 c =
@@ -46,9 +31,6 @@ returns-2 c =
     let h = d .before .before .before .before .before .before .if1 .left in
     let g = parse-all (a .text .now) (r .read-all .last .1 .0) (d .n .given .0 .0) (c .check .result) h (read d .0) (read d .1) (c .check .ensures) in
     (g .0, (g .1, r .read-all .ensures .1 ∙ read-some (a .text .now) (a .out .now) h))
-
-same-length-2 : tie.Need-same-length-2
-same-length-2 c = search needs
 
 returns-3 : tie.Need-returns-3
 returns-3 c =
@@ -64,13 +46,13 @@ parse-spec =
     tie.close
     (tie.spec
     returns
-    read-all-requires
-    enum-known-n
+    (λ c _. search needs)
+    (λ c. search needs)
     slice-reshare-prefix-check
     slice-aggregate-check
-    check-requires
-    enum-told
-    same-length
+    (λ c _. search needs)
+    (λ c. search needs)
+    (λ c. search needs)
     returns-2
-    same-length-2
+    (λ c. search needs)
     returns-3)

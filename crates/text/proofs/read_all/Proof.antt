@@ -58,15 +58,6 @@ no-more c e = let l = c .loop in put-last (fronts c) (front-here c) (l .out) (le
 loop-holds : tie.Need-loop-holds Inv-loop μ-loop
 loop-holds c = (omega arith, omega arith, refl, onto-nil (heldIn (c .before .before .args .text .now)), refl, refl)
 
-next-number-requires : tie.Need-next-number-requires Inv-loop μ-loop
-next-number-requires c κs = omega arith
-
-enum-known-held : tie.Need-enum-known-held Inv-loop μ-loop
-enum-known-held c = search needs
-
-same-length : tie.Need-same-length Inv-loop μ-loop
-same-length c = omega arith
-
 returns : tie.Need-returns Inv-loop μ-loop
 returns c =
     let d = c .before .before in
@@ -75,15 +66,6 @@ returns c =
       read-many (all g) (here g) (l .out) (l .n) (l .inv .3) (next d) (d .held .given .0 .0) (read-next d) (c .if1 .taken),
       put-full (fronts g) (front-here g) (l .out) (lent g) (l .n) (l .inv .1) (l .inv .2) (l .inv .4) (l .inv .5) (c .if1 .taken),
     )
-
-mul-out : tie.Need-mul-out Inv-loop μ-loop
-mul-out c = search needs
-
-slice-write-out : tie.Need-slice-write-out Inv-loop μ-loop
-slice-write-out c = omega arith
-
-add-n : tie.Need-add-n Inv-loop μ-loop
-add-n c = omega arith
 
 loop-less : tie.Need-loop-less Inv-loop μ-loop
 loop-less c = let w = read-onward (c .before .before) in omega arith
@@ -99,12 +81,6 @@ loop-again c =
     let m = put-more (fronts g) (front-here g) (l .out) (lent g) (l .n) (l .inv .1) (l .inv .2) (l .inv .4) (l .inv .5) _ x (front-next d) h in
     (read-onward d .1, omega arith, omega arith, read-more (all g) (here g) (l .out) (l .n) (l .inv .3) (next d) x (read-next d) h, m .0, m .1)
 
-enum-told : tie.Need-enum-told Inv-loop μ-loop
-enum-told c = search needs
-
-same-length-2 : tie.Need-same-length-2 Inv-loop μ-loop
-same-length-2 c = omega arith
-
 returns-2 : tie.Need-returns-2 Inv-loop μ-loop
 returns-2 c =
     let d = c .before .before .before in
@@ -113,12 +89,6 @@ returns-2 c =
       (l .inv .1, read-end (all d) (here d) (l .out) (l .n) (l .inv .3) (c .before .before .next-number .ensures .0 ∙ ap (ahead t) (c .enum-told .given .1))),
       no-more d (front-told (c .before .before) ∙ ap (frontAhead t) (c .enum-told .given .1)),
     )
-
-enum-told-2 : tie.Need-enum-told-2 Inv-loop μ-loop
-enum-told-2 c = search needs
-
-same-length-3 : tie.Need-same-length-3 Inv-loop μ-loop
-same-length-3 c = omega arith
 
 returns-3 : tie.Need-returns-3 Inv-loop μ-loop
 returns-3 c =
@@ -136,18 +106,18 @@ read-all-spec =
     Inv-loop
     μ-loop
     loop-holds
-    next-number-requires
-    enum-known-held
-    same-length
+    (λ c _. omega arith)
+    (λ c. search needs)
+    (λ c. omega arith)
     returns
-    mul-out
-    slice-write-out
-    add-n
+    (λ c. search needs)
+    (λ c. omega arith)
+    (λ c. omega arith)
     loop-less
     loop-again
-    enum-told
-    same-length-2
+    (λ c. search needs)
+    (λ c. omega arith)
     returns-2
-    enum-told-2
-    same-length-3
+    (λ c. search needs)
+    (λ c. omega arith)
     returns-3)

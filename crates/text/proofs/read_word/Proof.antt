@@ -32,35 +32,14 @@ above c = held-plus (valueFrom 0 (drop 0 (c .before .before .before .before .bef
 returns : tie.Need-returns
 returns c = sym (ap heldWord (number-empty (c .before .before .args .word .now) (c .if1 .taken)))
 
-shared-slice-read-if2 : tie.Need-shared-slice-read-if2
-shared-slice-read-if2 c = search needs
-
 returns-2 : tie.Need-returns-2
 returns-2 c = sym (ap heldWord (number-lone (c .before .before .before .before .before .args .word .now) (c .if3 .taken) (c .before .if2 .taken)))
-
-digits-from-requires : tie.Need-digits-from-requires
-digits-from-requires c κs = search needs
-
-enum-known-v : tie.Need-enum-known-v
-enum-known-v c = search needs
 
 sub-t13 : tie.Need-sub-t13
 sub-t13 c = below (c .before) .0
 
-enum-told : tie.Need-enum-told
-enum-told c = search needs
-
-digits-from-requires-2 : tie.Need-digits-from-requires-2
-digits-from-requires-2 c κs = search needs
-
-enum-known-v-2 : tie.Need-enum-known-v-2
-enum-known-v-2 c = search needs
-
 add-t16 : tie.Need-add-t16
 add-t16 c = omega (arith, above (c .before) .0)
-
-enum-told-2 : tie.Need-enum-told-2
-enum-told-2 c = search needs
 
 returns-3 : tie.Need-returns-3
 returns-3 c = sym (with-minus (c .before .before .before) ∙ below (c .before) .1)
@@ -83,16 +62,16 @@ read-word-spec =
     tie.close
     (tie.spec
     returns
-    shared-slice-read-if2
+    (λ c. search needs)
     returns-2
-    digits-from-requires
-    enum-known-v
+    (λ c _. search needs)
+    (λ c. search needs)
     sub-t13
-    enum-told
-    digits-from-requires-2
-    enum-known-v-2
+    (λ c. search needs)
+    (λ c _. search needs)
+    (λ c. search needs)
     add-t16
-    enum-told-2
+    (λ c. search needs)
     returns-3
     returns-4
     returns-5

@@ -16,29 +16,14 @@ Inv-loop text from i₀ i = (from < i) × (i ≤ length text) × (words (drop fr
 abbrev μ-loop : tie.MeasureT-loop
 μ-loop text from i₀ i = length text - i
 
-add-i : tie.Need-add-i Inv-loop μ-loop
-add-i c = omega arith
-
 loop-holds : tie.Need-loop-holds Inv-loop μ-loop
 loop-holds c = (omega arith, omega arith, word-first (c .before .args .text .now) (c .before .args .from) (c .before .pre .0) (c .before .pre .1))
-
-shared-slice-read-is-separator : tie.Need-shared-slice-read-is-separator Inv-loop μ-loop
-shared-slice-read-is-separator c = omega arith
-
-is-separator-requires : tie.Need-is-separator-requires Inv-loop μ-loop
-is-separator-requires c κs = search needs
 
 returns : tie.Need-returns Inv-loop μ-loop
 returns c = let a = c .before .before .before .before .before .before .args in
     let i = c .before .before .before .before .loop .i in
     let e : separator (getD (a .text .now) i 0) ≡ true = cc (c .before .is-separator .ensures, c .if1 .taken) in
     ((omega arith, omega arith), c .before .before .before .before .loop .inv .2 ∙ word-done (a .text .now) (a .from) i (omega arith) (omega arith) (inr (omega arith, e)))
-
-add-i-2 : tie.Need-add-i-2 Inv-loop μ-loop
-add-i-2 c = omega arith
-
-loop-less : tie.Need-loop-less Inv-loop μ-loop
-loop-less c = omega arith
 
 loop-again : tie.Need-loop-again Inv-loop μ-loop
 loop-again c = let a = c .before .before .before .before .before .before .args in
@@ -56,12 +41,12 @@ word-end-spec =
     (tie.spec
     Inv-loop
     μ-loop
-    add-i
+    (λ c. omega arith)
     loop-holds
-    shared-slice-read-is-separator
-    is-separator-requires
+    (λ c. omega arith)
+    (λ c _. search needs)
     returns
-    add-i-2
-    loop-less
+    (λ c. omega arith)
+    (λ c. omega arith)
     loop-again
     returns-2)

@@ -29,18 +29,12 @@ reads word number right o n r =
 returns : tie.Need-returns
 returns c = ap codeAnswer (wrong-opcode (c .before .args .word) (λ e. c .if1 .taken (omega (arith, e))))
 
-rest-right-requires : tie.Need-rest-right-requires
-rest-right-requires c κs = search needs
-
 returns-2 : tie.Need-returns-2
 returns-2 c =
     let s = c .before .before in
     let a = s .before .args in
     let r = c .before .rest-right in
     ap codeAnswer (sym (ap (read (a .number) (a .word)) (not-true (r .result) (c .if2 .taken))) ∙ reads (a .word) (a .number) (r .result) (s .if1 .left) (s .before .pre) (r .ensures))
-
-number-answer-requires : tie.Need-number-answer-requires
-number-answer-requires c κs = search needs
 
 returns-3 : tie.Need-returns-3
 returns-3 c =
@@ -52,4 +46,4 @@ returns-3 c =
     ∙ ap codeAnswer (sym (ap (read (a .number) (a .word)) (not-false (r .result) (h .if2 .left))) ∙ reads (a .word) (a .number) (r .result) (s .if1 .left) (s .before .pre) (r .ensures))
 
 pub code-answer-spec : {M : Type 1} → statement M
-code-answer-spec = tie.close (tie.spec returns rest-right-requires returns-2 number-answer-requires returns-3)
+code-answer-spec = tie.close (tie.spec returns (λ c _. search needs) returns-2 (λ c _. search needs) returns-3)

@@ -14,39 +14,6 @@ use Rattle.text_answers.proofs.number_answer.Tie as tie
 abbrev told : Bool → Texted
 told right = cond right Done (NoLine Register)
 
-low-field-requires : tie.Need-low-field-requires
-low-field-requires c κs = search needs
-
-middle-field-requires : tie.Need-middle-field-requires
-middle-field-requires c κs = search needs
-
-array-read-shape : tie.Need-array-read-shape
-array-read-shape c = search needs
-
-range-answer-requires : tie.Need-range-answer-requires
-range-answer-requires c κs = search needs
-
-range-answer-requires-2 : tie.Need-range-answer-requires-2
-range-answer-requires-2 c κs = search needs
-
-range-answer-requires-3 : tie.Need-range-answer-requires-3
-range-answer-requires-3 c κs = search needs
-
-high-field-requires : tie.Need-high-field-requires
-high-field-requires c κs = search needs
-
-are-registers-requires : tie.Need-are-registers-requires
-are-registers-requires c κs = search needs
-
-range-answer-requires-4 : tie.Need-range-answer-requires-4
-range-answer-requires-4 c κs = search needs
-
-are-accumulators-requires : tie.Need-are-accumulators-requires
-are-accumulators-requires c κs = search needs
-
-range-answer-requires-5 : tie.Need-range-answer-requires-5
-range-answer-requires-5 c κs = search needs
-
 returns : tie.Need-returns
 returns c =
     let m = c .before .before in
@@ -102,17 +69,17 @@ pub number-answer-spec : {M : Type 1} → statement M
 number-answer-spec =
     tie.close
     (tie.spec
-    low-field-requires
-    middle-field-requires
-    array-read-shape
-    range-answer-requires
-    range-answer-requires-2
-    range-answer-requires-3
-    high-field-requires
-    are-registers-requires
-    range-answer-requires-4
-    are-accumulators-requires
-    range-answer-requires-5
+    (λ c _. search needs)
+    (λ c _. search needs)
+    (λ c. search needs)
+    (λ c _. search needs)
+    (λ c _. search needs)
+    (λ c _. search needs)
+    (λ c _. search needs)
+    (λ c _. search needs)
+    (λ c _. search needs)
+    (λ c _. search needs)
+    (λ c _. search needs)
     returns
     returns-2
     returns-3

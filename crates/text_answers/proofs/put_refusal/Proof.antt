@@ -25,9 +25,6 @@ left2 c = ahead-step (left1 (c .before .before .before .before)) (c .put-decimal
 left3 : (c : tie.After-put-byte) → Left (c .before .before .before .before .before .before .before .before .before .before .before .before) (c .put-byte .last .0) (c .put-byte .result) (decimal (c .before .before .before .before .before .before .before .before .before .before .before .before .args .column) ++ [])
 left3 c = ahead-as (sym (append-nil (decimal (c .before .before .before .before .before .before .before .before .before .before .before .before .args .column)))) (ahead-step (left2 (c .before .before .before .before)) (c .put-byte .ensures))
 
-slice-aggregate-put-text : tie.Need-slice-aggregate-put-text
-slice-aggregate-put-text c = search needs
-
 put-text-requires : tie.Need-put-text-requires
 put-text-requires c κs =
     let s = c .before .before .before in
@@ -53,9 +50,6 @@ put-decimal-requires-2 c κs =
     let s = w .before .before .before .before .before .before .before .before .before .before .before .before in
     ahead-room (decimal (s .args .column)) [] (left3 w) (s .pre)
 
-same-length : tie.Need-same-length
-same-length c = search needs
-
 returns : tie.Need-returns
 returns c = ahead-end (ahead-step (left3 (c .before .before .before .before .before .before)) (c .before .before .put-decimal2 .ensures))
 
@@ -63,10 +57,10 @@ pub put-refusal-spec : {M : Type 1} → statement M
 put-refusal-spec =
     tie.close
     (tie.spec
-    slice-aggregate-put-text
+    (λ c. search needs)
     put-text-requires
     put-decimal-requires
     put-byte-requires
     put-decimal-requires-2
-    same-length
+    (λ c. search needs)
     returns)

@@ -10,17 +10,8 @@ use Rattle.text_answers.proofs.put_refused.Tie as tie
 same : (c : tie.After-answer-number) → refusal (c .answer-number .result) (c .before .before .answer-column .result) ≡ refused (c .before .before .before .before .args .answer)
 same c = ap₂ refusal (c .answer-number .ensures) (c .before .before .answer-column .ensures)
 
-answer-column-requires : tie.Need-answer-column-requires
-answer-column-requires c κs = search needs
-
-answer-number-requires : tie.Need-answer-number-requires
-answer-number-requires c κs = search needs
-
 put-refusal-requires : tie.Need-put-refusal-requires
 put-refusal-requires c κs = omega (arith, c .before .before .before .before .pre, ap length (same (c)))
-
-same-length : tie.Need-same-length
-same-length c = search needs
 
 returns : tie.Need-returns
 returns c = wrote-as (same (c .before .before .before)) (c .before .before .put-refusal .ensures)
@@ -29,8 +20,8 @@ pub put-refused-spec : {M : Type 1} → statement M
 put-refused-spec =
     tie.close
     (tie.spec
-    answer-column-requires
-    answer-number-requires
+    (λ c _. search needs)
+    (λ c _. search needs)
     put-refusal-requires
-    same-length
+    (λ c. search needs)
     returns)

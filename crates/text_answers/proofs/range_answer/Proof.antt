@@ -6,11 +6,8 @@ use borrow.Author.Needs.{needs}
 use Rattle.text_answers.proofs.range_answer.Statement.{statement}
 use Rattle.text_answers.proofs.range_answer.Tie as tie
 
-returns : tie.Need-returns
-returns c = search needs
-
 returns-2 : tie.Need-returns-2
 returns-2 c = sym (ap (λ (b : Bool). cond b Done (NoLine Register)) (c .if1 .left))
 
 pub range-answer-spec : {M : Type 1} → statement M
-range-answer-spec = tie.close (tie.spec returns returns-2)
+range-answer-spec = tie.close (tie.spec (λ c. search needs) returns-2)

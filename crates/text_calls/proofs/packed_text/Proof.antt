@@ -6,20 +6,8 @@ use borrow.Author.Needs.{needs}
 use Rattle.text_calls.proofs.packed_text.Statement.{statement}
 use Rattle.text_calls.proofs.packed_text.Tie as tie
 
-answer-number-requires : tie.Need-answer-number-requires
-answer-number-requires c κs = search needs
-
-mul-result : tie.Need-mul-result
-mul-result c = search needs
-
 returns : tie.Need-returns
 returns c = packs-size (textReply (c .before .before .args .answer)) (c .before .before .args .size) (sym (c .before .answer-number .ensures) ∙ c .if1 .taken)
-
-answer-column-requires : tie.Need-answer-column-requires
-answer-column-requires c κs = search needs
-
-mul-result-2 : tie.Need-mul-result-2
-mul-result-2 c = search needs
 
 add-result : tie.Need-add-result
 add-result c = omega (arith, c .before .before .answer-number .ensures, number-small (c .before .before .before .args .answer))
@@ -31,10 +19,10 @@ pub packed-text-spec : {M : Type 1} → statement M
 packed-text-spec =
     tie.close
     (tie.spec
-    answer-number-requires
-    mul-result
+    (λ c _. search needs)
+    (λ c. search needs)
     returns
-    answer-column-requires
-    mul-result-2
+    (λ c _. search needs)
+    (λ c. search needs)
     add-result
     returns-2)

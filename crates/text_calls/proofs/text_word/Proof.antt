@@ -17,33 +17,12 @@ eight c = c .if1 .left
 bad : (c : tie.After-place) → readLine (c .before .before .before .before .before .before .before .before .args .text .now) ≡ stopped (c .place .given .0 .0)
 bad c = bad-stopped (c .place .given .0 .0) (readLine (c .before .before .before .before .before .before .before .before .args .text .now)) (sym (c .place .given .1) ∙ c .before .before .read-line .ensures)
 
-packed-text-requires : tie.Need-packed-text-requires
-packed-text-requires c κs = search needs
-
 returns : tie.Need-returns
 returns c = word-refused (c .before .before .before .before .args .text .now) (c .before .before .before .before .args .word .now) (c .before .if1 .taken) (c .packed-text .result) (c .packed-text .ensures)
-
-slice-aggregate-read-line : tie.Need-slice-aggregate-read-line
-slice-aggregate-read-line c = search needs
-
-slice-aggregate-read-line-2 : tie.Need-slice-aggregate-read-line-2
-slice-aggregate-read-line-2 c = search needs
 
 read-line-requires : tie.Need-read-line-requires
 unfolding table listing
 read-line-requires c κs = (refl, refl)
-
-enum-known-value : tie.Need-enum-known-value
-enum-known-value c = search needs
-
-write8-requires : tie.Need-write8-requires
-write8-requires c κs = search needs
-
-packed-text-requires-2 : tie.Need-packed-text-requires-2
-packed-text-requires-2 c κs = search needs
-
-same-length : tie.Need-same-length
-same-length c = search needs
 
 returns-2 : tie.Need-returns-2
 returns-2 c =
@@ -52,14 +31,8 @@ returns-2 c =
     word-read (s .args .text .now) (s .args .word .now) (eight (c .before .before .before .before .before .before .before .before .before .before .before)) (v .given .0 .0) (word-whole (v .given .0 .0) (readLine (s .args .text .now)) (sym (v .given .1) ∙ c .before .before .before .before .before .before .before .before .read-line .ensures))
     (c .before .before .before .write8 .last .0) (c .before .before .before .write8 .ensures) (c .packed-text2 .result) (c .packed-text2 .ensures)
 
-enum-known-place : tie.Need-enum-known-place
-enum-known-place c = search needs
-
 add-t22 : tie.Need-add-t22
 add-t22 c = omega (arith, stop-short (c .before .before .before .before .before .before .before .before .before .args .text .now) (c .before .place .given .0 .0) (bad (c .before)))
-
-packed-text-requires-3 : tie.Need-packed-text-requires-3
-packed-text-requires-3 c κs = search needs
 
 returns-3 : tie.Need-returns-3
 returns-3 c = word-bad (c .before .before .before .before .before .before .before .before .before .before .args .text .now) (c .before .before .before .before .before .before .before .before .before .before .args .word .now) (eight (c .before .before .before .before .before .before .before)) (c .before .before .place .given .0 .0) (bad (c .before .before)) (c .packed-text3 .result) (c .packed-text3 .ensures)
@@ -68,17 +41,17 @@ pub text-word-spec : {M : Type 1} → statement M
 text-word-spec =
     tie.close
     (tie.spec
-    packed-text-requires
+    (λ c _. search needs)
     returns
-    slice-aggregate-read-line
-    slice-aggregate-read-line-2
+    (λ c. search needs)
+    (λ c. search needs)
     read-line-requires
-    enum-known-value
-    write8-requires
-    packed-text-requires-2
-    same-length
+    (λ c. search needs)
+    (λ c _. search needs)
+    (λ c _. search needs)
+    (λ c. search needs)
     returns-2
-    enum-known-place
+    (λ c. search needs)
     add-t22
-    packed-text-requires-3
+    (λ c _. search needs)
     returns-3)

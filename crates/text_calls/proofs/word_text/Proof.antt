@@ -20,17 +20,8 @@ has c =
     let z : c .before .answer-number .result ≡ 0 = c .if1 .left in
     told (c .before .before .before .before .before .args .word) a (answer (c .before .before)) ∙ eq-eqb (textReply a .number) 0 (sym (c .before .answer-number .ensures) ∙ z)
 
-number-of-requires : tie.Need-number-of-requires
-number-of-requires c κs = search needs
-
 code-answer-requires : tie.Need-code-answer-requires
 code-answer-requires c κs = c .number-of .ensures
-
-answer-number-requires : tie.Need-answer-number-requires
-answer-number-requires c κs = search needs
-
-packed-text-requires : tie.Need-packed-text-requires
-packed-text-requires c κs = search needs
 
 returns : tie.Need-returns
 returns c = text-refused (c .before .before .before .before .before .before .args .word) (c .before .before .before .before .before .before .args .text .now) (c .before .before .before .code-answer .result) (answer (c .before .before .before)) (λ e. c .before .if1 .taken (c .before .before .answer-number .ensures ∙ e)) (c .packed-text .result) (c .packed-text .ensures)
@@ -38,23 +29,11 @@ returns c = text-refused (c .before .before .before .before .before .before .arg
 write-line-requires : tie.Need-write-line-requires
 write-line-requires c κs = (c .before .before .before .before .number-of .ensures, has (c .before))
 
-packed-text-requires-2 : tie.Need-packed-text-requires-2
-packed-text-requires-2 c κs = search needs
-
-same-length : tie.Need-same-length
-same-length c = search needs
-
 returns-2 : tie.Need-returns-2
 returns-2 c =
     let s = c .before .before .before .before .before .before .before .before .before .before .before in
     let w = c .before .before .before .before .write-line in
     text-long (s .args .word) (s .args .text .now) (has (c .before .before .before .before .before .before)) (w .result) (w .ensures .0) (c .before .if2 .taken) (w .last .1 .1 .0) (w .ensures .1) (c .packed-text2 .result) (c .packed-text2 .ensures)
-
-packed-text-requires-3 : tie.Need-packed-text-requires-3
-packed-text-requires-3 c κs = search needs
-
-same-length-2 : tie.Need-same-length-2
-same-length-2 c = search needs
 
 returns-3 : tie.Need-returns-3
 returns-3 c =
@@ -66,15 +45,15 @@ pub word-text-spec : {M : Type 1} → statement M
 word-text-spec =
     tie.close
     (tie.spec
-    number-of-requires
+    (λ c _. search needs)
     code-answer-requires
-    answer-number-requires
-    packed-text-requires
+    (λ c _. search needs)
+    (λ c _. search needs)
     returns
     write-line-requires
-    packed-text-requires-2
-    same-length
+    (λ c _. search needs)
+    (λ c. search needs)
     returns-2
-    packed-text-requires-3
-    same-length-2
+    (λ c _. search needs)
+    (λ c. search needs)
     returns-3)

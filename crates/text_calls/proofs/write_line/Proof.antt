@@ -26,15 +26,6 @@ long c = let w = c .put-line .ensures in omega (arith, size c, text-short (c .be
 own : (c : tie.After-put-line) → take (c .put-line .result) (c .put-line .last .0) ≡ lineText (line (c .before .before .before .before .before .args .word))
 own c = c .put-line .ensures .text
 
-slice-aggregate-put-line : tie.Need-slice-aggregate-put-line
-slice-aggregate-put-line c = search needs
-
-slice-aggregate-put-line-2 : tie.Need-slice-aggregate-put-line-2
-slice-aggregate-put-line-2 c = search needs
-
-slice-aggregate-put-line-3 : tie.Need-slice-aggregate-put-line-3
-slice-aggregate-put-line-3 c = search needs
-
 put-line-requires : tie.Need-put-line-requires
 unfolding table listing
 put-line-requires c κs = ((refl, refl, refl, c .before .before .before .before .pre .0, c .before .before .before .before .pre .1), omega (arith, text-short (c .before .before .before .before .args .word) (omega arith)))
@@ -54,9 +45,6 @@ slice-aggregate-put-text c = let w = c .before .before .before .before in sym (l
 put-text-requires : tie.Need-put-text-requires
 put-text-requires c κs = let w = c .before .before .before .before in omega (arith, length-take-le (w .put-line .result) (w .put-line .last .0) (long w), c .before .before .if1 .left)
 
-same-length : tie.Need-same-length
-same-length c = search needs
-
 returns-2 : tie.Need-returns-2
 returns-2 c =
     let s = c .before .before .before .before .before .before .before .before .before .before .before .before in
@@ -71,13 +59,13 @@ pub write-line-spec : {M : Type 1} → statement M
 write-line-spec =
     tie.close
     (tie.spec
-    slice-aggregate-put-line
-    slice-aggregate-put-line-2
-    slice-aggregate-put-line-3
+    (λ c. search needs)
+    (λ c. search needs)
+    (λ c. search needs)
     put-line-requires
     returns
     array-share-prefix-own
     slice-aggregate-put-text
     put-text-requires
-    same-length
+    (λ c. search needs)
     returns-2)

@@ -28,9 +28,6 @@ Inv-tile marks start pitch rows cols w found₀ first₀ i₀ found first i =
 abbrev μ-tile : tie.MeasureT-tile
 μ-tile marks start pitch rows cols w found₀ first₀ i₀ found first i = rows - i
 
-mul-tile-marked : tie.Need-mul-tile-marked Inv-loop μ-loop Inv-tile μ-tile
-mul-tile-marked c = omega arith
-
 tile-marked-requires : tie.Need-tile-marked-requires Inv-loop μ-loop Inv-tile μ-tile
 tile-marked-requires c κs = c .before .pre .0
 
@@ -84,12 +81,6 @@ row-marked-requires c κs = element-in c
 add-at : tie.Need-add-at Inv-loop μ-loop Inv-tile μ-tile
 add-at c = let f = element-in (c .before .before) in omega arith
 
-add-j : tie.Need-add-j Inv-loop μ-loop Inv-tile μ-tile
-add-j c = omega arith
-
-loop-less : tie.Need-loop-less Inv-loop μ-loop Inv-tile μ-tile
-loop-less c = omega arith
-
 loop-again : tie.Need-loop-again Inv-loop μ-loop Inv-tile μ-tile
 loop-again c =
     let d = c .before in
@@ -104,12 +95,6 @@ loop-again c =
 
 wrapping-add-usize-requires : tie.Need-wrapping-add-usize-requires Inv-loop μ-loop Inv-tile μ-tile
 wrapping-add-usize-requires c κs = tt
-
-add-i : tie.Need-add-i Inv-loop μ-loop Inv-tile μ-tile
-add-i c = omega arith
-
-tile-less : tie.Need-tile-less Inv-loop μ-loop Inv-tile μ-tile
-tile-less c = omega arith
 
 tile-again : tie.Need-tile-again Inv-loop μ-loop Inv-tile μ-tile
 tile-again c =
@@ -156,19 +141,19 @@ first-unmarked-spec =
     μ-loop
     Inv-tile
     μ-tile
-    mul-tile-marked
+    (λ c. omega arith)
     tile-marked-requires
     returns
     tile-holds
     loop-holds
     row-marked-requires
     add-at
-    add-j
-    loop-less
+    (λ c. omega arith)
+    (λ c. omega arith)
     loop-again
     wrapping-add-usize-requires
-    add-i
-    tile-less
+    (λ c. omega arith)
+    (λ c. omega arith)
     tile-again
     returns-2
     returns-3)

@@ -82,12 +82,6 @@ mark-row-requires-2 c κs = let b = row-in (c .before) in simp (length-take, len
 wrapping-add-usize-requires : tie.Need-wrapping-add-usize-requires Inv-loop μ-loop
 wrapping-add-usize-requires c κs = tt
 
-add-i : tie.Need-add-i Inv-loop μ-loop
-add-i c = search needs
-
-loop-less : tie.Need-loop-less Inv-loop μ-loop
-loop-less c = search needs
-
 loop-again : tie.Need-loop-again Inv-loop μ-loop
 loop-again c =
     let d = c .before .before .before .before .before in
@@ -102,9 +96,6 @@ loop-again c =
       mark-back (l .marks) (r .last .0) (l .to) (length (l .marks) - l .to) (a .n) (omega arith) refl (r .ensures)
           ∙ markTile-next (λ i. a .start + i * a .pitch) (l .i) (a .n) (a .marks .now) (l .marks) (l .to) (l .inv .3) (starts d),
     )
-
-same-length-2 : tie.Need-same-length-2 Inv-loop μ-loop
-same-length-2 c = search needs
 
 returns-2 : tie.Need-returns-2 Inv-loop μ-loop
 returns-2 c =
@@ -132,8 +123,8 @@ mark-tile-spec =
     part-mark-row-end-2
     mark-row-requires-2
     wrapping-add-usize-requires
-    add-i
-    loop-less
+    (λ c. search needs)
+    (λ c. search needs)
     loop-again
-    same-length-2
+    (λ c. search needs)
     returns-2)

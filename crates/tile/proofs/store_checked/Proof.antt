@@ -35,9 +35,6 @@ first-unmarked-requires c κs =
     let a = s .args in
     (rows-end (a .start) (a .pitch) (a .rows) (a .cols * a .w) (length (a .marks .now)) (s .pre .0) (s .pre .1 .0), s .pre .1 .0)
 
-is-done-requires : tie.Need-is-done-requires
-is-done-requires c κs = search needs
-
 returns : tie.Need-returns
 returns c =
     let s = c .before .before .before .before .before in
@@ -51,9 +48,6 @@ five-holds c =
     let r = c .before .before .first-unmarked in
     let d = c .before .is-done in
     answer-holds (five (c .before .before .before .before .before)) (r .result) (r .ensures) (test-passed (d .result) (isDone (r .result)) (d .ensures) (c .if1 .left)) refl
-
-rows-inside-requires : tie.Need-rows-inside-requires
-rows-inside-requires c κs = search needs
 
 returns-2 : tie.Need-returns-2
 returns-2 c =
@@ -127,9 +121,9 @@ store-checked-spec =
     tie.close
     (tie.spec
     first-unmarked-requires
-    is-done-requires
+    (λ c _. search needs)
     returns
-    rows-inside-requires
+    (λ c _. search needs)
     returns-2
     rows-distinct-requires
     returns-3

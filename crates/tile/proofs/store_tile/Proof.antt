@@ -23,9 +23,6 @@ Inv-loop memory₀ registers start pitch base stride rows cols w bytes from₀ i
 abbrev μ-loop : tie.MeasureT-loop
 μ-loop memory₀ registers start pitch base stride rows cols w bytes from₀ i₀ memory from i = rows - i
 
-mul-bytes : tie.Need-mul-bytes Inv-loop μ-loop
-mul-bytes c = omega arith
-
 returns : tie.Need-returns Inv-loop μ-loop
 returns c =
     let a = c .before .before .before .args in
@@ -85,12 +82,6 @@ part-write-row-start c = let h = here c in search needs
 part-write-row-end : tie.Need-part-write-row-end Inv-loop μ-loop
 part-write-row-end c = let h = here c in search needs
 
-sub-write-row-2 : tie.Need-sub-write-row-2 Inv-loop μ-loop
-sub-write-row-2 c = omega arith
-
-part-write-row-start-2 : tie.Need-part-write-row-start-2 Inv-loop μ-loop
-part-write-row-start-2 c = search needs
-
 part-write-row-end-2 : tie.Need-part-write-row-end-2 Inv-loop μ-loop
 part-write-row-end-2 c = let h = here (c .before) in search needs
 
@@ -126,9 +117,6 @@ loop-again c =
       next,
     )
 
-same-length : tie.Need-same-length Inv-loop μ-loop
-same-length c = search needs
-
 returns-2 : tie.Need-returns-2 Inv-loop μ-loop
 returns-2 c =
     let l = c .before .loop in
@@ -142,7 +130,7 @@ store-tile-spec =
     (tie.spec
     Inv-loop
     μ-loop
-    mul-bytes
+    (λ c. omega arith)
     returns
     loop-holds
     as-signed-requires
@@ -151,13 +139,13 @@ store-tile-spec =
     sub-write-row
     part-write-row-start
     part-write-row-end
-    sub-write-row-2
-    part-write-row-start-2
+    (λ c. omega arith)
+    (λ c. search needs)
     part-write-row-end-2
     write-row-requires
     add-from
     add-i
     loop-less
     loop-again
-    same-length
+    (λ c. search needs)
     returns-2)

@@ -49,12 +49,6 @@ returns c =
 wrapping-add-usize-requires : tie.Need-wrapping-add-usize-requires Inv-loop μ-loop
 wrapping-add-usize-requires c κs = tt
 
-add-i : tie.Need-add-i Inv-loop μ-loop
-add-i c = omega arith
-
-loop-less : tie.Need-loop-less Inv-loop μ-loop
-loop-less c = omega arith
-
 loop-again : tie.Need-loop-again Inv-loop μ-loop
 loop-again c =
     let d = c .before .before in
@@ -77,4 +71,4 @@ returns-2 c =
 
 pub tile-marked-spec : {M : Type 1} → statement M
 tile-marked-spec =
-    tie.close (tie.spec Inv-loop μ-loop loop-holds line-marked-requires returns wrapping-add-usize-requires add-i loop-less loop-again returns-2)
+    tie.close (tie.spec Inv-loop μ-loop loop-holds line-marked-requires returns wrapping-add-usize-requires (λ c. omega arith) (λ c. omega arith) loop-again returns-2)

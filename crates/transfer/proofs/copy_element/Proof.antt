@@ -8,15 +8,6 @@ use Rattle.element.proofs.Laws.{is8}
 use Rattle.transfer.proofs.copy_element.Statement.{statement}
 use Rattle.transfer.proofs.copy_element.Tie as tie
 
-read1-requires : tie.Need-read1-requires
-read1-requires c κs = search needs
-
-write1-requires : tie.Need-write1-requires
-write1-requires c κs = search needs
-
-same-length : tie.Need-same-length
-same-length c = search needs
-
 returns : tie.Need-returns
 returns c =
     let f = c .before .before .before .before .before in
@@ -24,30 +15,12 @@ returns c =
     c .before .before .write1 .ensures ∙ ap (λ (v : ℕ). putLe (a .to) 1 v (a .dst .now)) (c .before .before .before .read1 .ensures .0)
     ∙ ap (λ (w : ℕ). putLe (a .to) w (getLe (a .src .now) (a .from) w) (a .dst .now)) (sym (f .if1 .taken))
 
-read2-requires : tie.Need-read2-requires
-read2-requires c κs = search needs
-
-write2-requires : tie.Need-write2-requires
-write2-requires c κs = search needs
-
-same-length-2 : tie.Need-same-length-2
-same-length-2 c = search needs
-
 returns-2 : tie.Need-returns-2
 returns-2 c =
     let f = c .before .before .before .before .before in
     let a = f .before .before .before .before .args in
     c .before .before .write2 .ensures ∙ ap (λ (v : ℕ). putLe (a .to) 2 v (a .dst .now)) (c .before .before .before .read2 .ensures .0)
     ∙ ap (λ (w : ℕ). putLe (a .to) w (getLe (a .src .now) (a .from) w) (a .dst .now)) (sym (f .if2 .taken))
-
-read4-requires : tie.Need-read4-requires
-read4-requires c κs = search needs
-
-write4-requires : tie.Need-write4-requires
-write4-requires c κs = search needs
-
-same-length-3 : tie.Need-same-length-3
-same-length-3 c = search needs
 
 returns-3 : tie.Need-returns-3
 returns-3 c =
@@ -66,9 +39,6 @@ read8-requires c κs = let e = eight (c .before) in omega (arith, c .before .bef
 write8-requires : tie.Need-write8-requires
 write8-requires c κs = let e = eight (c .before .before) in omega (arith, c .before .before .before .before .before .before .before .pre .1 .0)
 
-same-length-4 : tie.Need-same-length-4
-same-length-4 c = search needs
-
 returns-4 : tie.Need-returns-4
 returns-4 c =
     let f = c .before .before .before .before .before in
@@ -80,19 +50,19 @@ pub copy-element-spec : {M : Type 1} → statement M
 copy-element-spec =
     tie.close
     (tie.spec
-    read1-requires
-    write1-requires
-    same-length
+    (λ c _. search needs)
+    (λ c _. search needs)
+    (λ c. search needs)
     returns
-    read2-requires
-    write2-requires
-    same-length-2
+    (λ c _. search needs)
+    (λ c _. search needs)
+    (λ c. search needs)
     returns-2
-    read4-requires
-    write4-requires
-    same-length-3
+    (λ c _. search needs)
+    (λ c _. search needs)
+    (λ c. search needs)
     returns-3
     read8-requires
     write8-requires
-    same-length-4
+    (λ c. search needs)
     returns-4)

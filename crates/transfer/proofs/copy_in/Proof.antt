@@ -16,30 +16,18 @@ rows-in s f e =
     let a = s .args in
     subst (λ (f : Form). inside (length (a .memory .now)) (a .base) (a .stride) (memoryRows f (a .rows) (a .cols)) (memoryCols f (a .rows) (a .cols) * a .w) ≡ true) e (s .pre .1 .1 .1)
 
-enum-told : tie.Need-enum-told
-enum-told c = search needs
-
 load-tile-requires : tie.Need-load-tile-requires
 load-tile-requires c κs =
     let s = c .before .before .before .before .before in
     (s .pre .0, (s .pre .1 .0, rows-in s _ (c .before .enum-told .given .1)))
-
-enum-told-2 : tie.Need-enum-told-2
-enum-told-2 c = search needs
 
 gather-tile-requires : tie.Need-gather-tile-requires
 gather-tile-requires c κs =
     let s = c .before .before .before .before .before in
     (s .pre .0, (s .pre .1 .0, (s .pre .1 .1 .0, rows-in s _ (c .before .enum-told2 .given .1))))
 
-same-length : tie.Need-same-length
-same-length c = search needs
-
 returns : tie.Need-returns
 returns c = rw (c .before .before .before .before .enum-told .given .1) (c .before .before .load-tile .ensures)
-
-same-length-2 : tie.Need-same-length-2
-same-length-2 c = search needs
 
 returns-2 : tie.Need-returns-2
 returns-2 c = rw (c .before .before .before .before .enum-told2 .given .1) (c .before .before .gather-tile .ensures)
@@ -48,11 +36,11 @@ pub copy-in-spec : {M : Type 1} → statement M
 copy-in-spec =
     tie.close
     (tie.spec
-    enum-told
+    (λ c. search needs)
     load-tile-requires
-    enum-told-2
+    (λ c. search needs)
     gather-tile-requires
-    same-length
+    (λ c. search needs)
     returns
-    same-length-2
+    (λ c. search needs)
     returns-2)

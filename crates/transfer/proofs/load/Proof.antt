@@ -12,12 +12,6 @@ use Rattle.transfer.proofs.FormLaws.{line-small}
 use Rattle.transfer.proofs.load.Statement.{statement}
 use Rattle.transfer.proofs.load.Tie as tie
 
-memory-rows-requires : tie.Need-memory-rows-requires
-memory-rows-requires c κs = search needs
-
-memory-columns-requires : tie.Need-memory-columns-requires
-memory-columns-requires c κs = search needs
-
 mul-bytes : tie.Need-mul-bytes
 mul-bytes c =
     let s = c .before .before .before .before .before in
@@ -26,9 +20,6 @@ mul-bytes c =
       fits = subst (λ (n : ℕ). n * a .w < 2 ^ 64) (sym (c .memory-columns .ensures))
           (line-small (a .form) (a .rows) (a .cols) (a .w) (a .pitch) (2 ^ 64) (s .pre .1 .1 .0) (s .pre .1 .1 .1 .1) (omega arith) (omega (arith, s .pre .0)));
     }
-
-rows-inside-requires : tie.Need-rows-inside-requires
-rows-inside-requires c κs = search needs
 
 -- whether the rows lie in memory, of so many rows of so many elements
 abbrev lie : tie.Start → ℕ → ℕ → Bool
@@ -57,20 +48,11 @@ copy-in-requires c κs =
     let s = c .before .before .before .before .before .before .before .before in
     (s .pre .0, (s .pre .1 .1 .0, (s .pre .1 .1 .1 .0, rows-in (c .before))))
 
-mul-mark-tile : tie.Need-mul-mark-tile
-mul-mark-tile c = search needs
-
 mark-tile-requires : tie.Need-mark-tile-requires
 mark-tile-requires c κs =
     let s = c .before .before .before .before .before .before .before .before .before .before .before .before in
     let a = s .args in
     rows-end (a .start) (a .pitch) (a .rows) (a .cols * a .w) (length (a .marks .now)) (omega (arith, s .pre .0, s .pre .1 .0)) (s .pre .1 .1 .0)
-
-same-length : tie.Need-same-length
-same-length c = search needs
-
-same-length-2 : tie.Need-same-length-2
-same-length-2 c = search needs
 
 returns-2 : tie.Need-returns-2
 returns-2 c =
@@ -81,14 +63,14 @@ pub load-spec : {M : Type 1} → statement M
 load-spec =
     tie.close
     (tie.spec
-    memory-rows-requires
-    memory-columns-requires
+    (λ c _. search needs)
+    (λ c _. search needs)
     mul-bytes
-    rows-inside-requires
+    (λ c _. search needs)
     returns
     copy-in-requires
-    mul-mark-tile
+    (λ c. search needs)
     mark-tile-requires
-    same-length
-    same-length-2
+    (λ c. search needs)
+    (λ c. search needs)
     returns-2)

@@ -16,12 +16,6 @@ use Rattle.transfer.proofs.FormLaws.{line-small, all-bytes}
 use Rattle.transfer.proofs.store.Statement.{statement}
 use Rattle.transfer.proofs.store.Tie as tie
 
-memory-rows-requires : tie.Need-memory-rows-requires
-memory-rows-requires c κs = search needs
-
-memory-columns-requires : tie.Need-memory-columns-requires
-memory-columns-requires c κs = search needs
-
 mul-bytes : tie.Need-mul-bytes
 mul-bytes c =
     let s = c .before .before .before .before .before .before in
@@ -38,9 +32,6 @@ store-checked-requires c κs =
     let e : c .before .memory-rows .result * (c .memory-columns .result * a .w) ≡ a .rows * (a .cols * a .w) =
     ap₂ (λ (l n : ℕ). l * (n * a .w)) (c .before .memory-rows .ensures) (c .memory-columns .ensures) ∙ all-bytes (a .form) (a .rows) (a .cols) (a .w) in
     (omega (arith, s .pre .0, s .pre .1 .0), (s .pre .1 .1 .0, (omega arith, (omega (arith, e, s .pre .0, mul-le-mul-left (a .rows) (s .pre .1 .1 .0)), s .pre .1 .1 .1 .1 .1))))
-
-is-done-requires : tie.Need-is-done-requires
-is-done-requires c κs = search needs
 
 -- the checks, of so many rows of so many elements in memory
 abbrev checks : tie.Start → ℕ → ℕ → List Check
@@ -75,9 +66,6 @@ copy-out-requires c κs =
     let s = d .before .before .before .before .before .before .before .before .before in
     (s .pre .0, (s .pre .1 .1 .0, (s .pre .1 .1 .1 .0, all-passed d .1 .0)))
 
-same-length : tie.Need-same-length
-same-length c = search needs
-
 returns-2 : tie.Need-returns-2
 returns-2 c =
     let d = c .before .before .before .before in
@@ -88,12 +76,12 @@ pub store-spec : {M : Type 1} → statement M
 store-spec =
     tie.close
     (tie.spec
-    memory-rows-requires
-    memory-columns-requires
+    (λ c _. search needs)
+    (λ c _. search needs)
     mul-bytes
     store-checked-requires
-    is-done-requires
+    (λ c _. search needs)
     returns
     copy-out-requires
-    same-length
+    (λ c. search needs)
     returns-2)

@@ -22,9 +22,6 @@ found s e = subst (λ (q : Place). soundRun chosen (atPlace (s .args .run) q) �
 returns : tie.Need-returns
 returns c = let s = c .before .before .before .before in (λ seals fit. none-taken (s .pre .1) (s .pre .0) fit, omega arith)
 
-enum-known-place : tie.Need-enum-known-place
-enum-known-place c = search needs
-
 sub-sized : tie.Need-sub-sized
 sub-sized c =
     let s = c .before .before .before .before .before .before .before .before .before in
@@ -51,20 +48,11 @@ take-sums-requires c κs =
     let g = c .before .before .before .before .before .before .before .before .before .place .given in
     (s .pre .0, (found s (g .1), ready-steady (a .m) (a .marks .now) (a .run .plan .k - g .0 .1 .1 .0) (z .sized .result) (z .sized .ensures) (a .run .plan) (sym (f .before .is-ready .ensures) ∙ f .if2 .taken)))
 
-same-length : tie.Need-same-length
-same-length c = search needs
-
-same-length-2 : tie.Need-same-length-2
-same-length-2 c = search needs
-
 returns-2 : tie.Need-returns-2
 returns-2 c =
     let w = c .before .before .before .before .take-sums in
     let a = c .before .before .before .before .before .before .before .before .before .before .before .before .before .before .before .before .before .before .before .before .args in
     (λ seals fit. taken-from (ap (λ (q : Place). running (atPlace (a .run) q) (benchOf (a .m) seals (a .registers .now) (a .marks .now) (a .memory .now))) (sym (c .before .before .before .before .before .before .before .before .before .before .before .before .before .before .place .given .1))) (w .ensures .0 seals fit), w .ensures .1)
-
-same-length-3 : tie.Need-same-length-3
-same-length-3 c = search needs
 
 returns-3 : tie.Need-returns-3
 returns-3 c = let s = c .before .before .before .before .before .before .before .before .before .before .before .before .before in (λ seals fit. none-taken (s .pre .1) (s .pre .0) fit, omega arith)
@@ -77,14 +65,14 @@ sums-from-spec =
     tie.close
     (tie.spec
     returns
-    enum-known-place
+    (λ c. search needs)
     sub-sized
     sized-requires
     is-ready-requires
     take-sums-requires
-    same-length
-    same-length-2
+    (λ c. search needs)
+    (λ c. search needs)
     returns-2
-    same-length-3
+    (λ c. search needs)
     returns-3
     returns-4)

@@ -56,15 +56,6 @@ load-a-requires c κs =
     let b = here-placed (a .run) (a .row) (a .column) (a .term) (s .pre .1 .0) in
     (taken-sane (set (c .before .before) [] none-fit), (here-planned (a .run) (a .row) (a .column) (a .term) (s .pre .1 .0), (b .0, omega (arith, b .2, here-small (a .run) (a .row) (a .column) (a .term) (s .pre .1 .0)))))
 
-is-done-requires : tie.Need-is-done-requires
-is-done-requires c κs = search needs
-
-same-length : tie.Need-same-length
-same-length c = search needs
-
-same-length-2 : tie.Need-same-length-2
-same-length-2 c = search needs
-
 returns : tie.Need-returns
 returns c =
     let w = c .before .before .before .before .before .before .load-a in
@@ -80,27 +71,12 @@ load-b-requires c κs =
     let b = here-placed (a .run) (a .row) (a .column) (a .term) (s .pre .1 .0) in
     (taken-sane (loaded e [] none-fit), (here-planned (a .run) (a .row) (a .column) (a .term) (s .pre .1 .0), (omega (arith, b .2, here-small (a .run) (a .row) (a .column) (a .term) (s .pre .1 .0)), b .1)))
 
-is-done-requires-2 : tie.Need-is-done-requires-2
-is-done-requires-2 c κs = search needs
-
-same-length-3 : tie.Need-same-length-3
-same-length-3 c = search needs
-
-same-length-4 : tie.Need-same-length-4
-same-length-4 c = search needs
-
 returns-2 : tie.Need-returns-2
 returns-2 c =
     let w = c .before .before .before .before .before .before .load-b in
     let e = c .before .before .before .before .before .before .before .before .before in
     let no : isDone (w .result) ≡ false = sym (c .before .is-done2 .ensures) ∙ not-true (c .before .is-done2 .result) (c .if2 .taken) in
     (λ seals fit. taken-as refl refl (word-kept _ _ (loaded e seals fit .run-sound) _ (w .ensures seals fit) no) (loaded e seals fit), (omega arith, λ h. absurd (omega (arith, h))))
-
-same-length-5 : tie.Need-same-length-5
-same-length-5 c = search needs
-
-same-length-6 : tie.Need-same-length-6
-same-length-6 c = search needs
 
 returns-3 : tie.Need-returns-3
 returns-3 c =
@@ -138,15 +114,15 @@ take-loads-spec =
     sub-sized
     sized-requires
     load-a-requires
-    is-done-requires
-    same-length
-    same-length-2
+    (λ c _. search needs)
+    (λ c. search needs)
+    (λ c. search needs)
     returns
     load-b-requires
-    is-done-requires-2
-    same-length-3
-    same-length-4
+    (λ c _. search needs)
+    (λ c. search needs)
+    (λ c. search needs)
     returns-2
-    same-length-5
-    same-length-6
+    (λ c. search needs)
+    (λ c. search needs)
     returns-3)

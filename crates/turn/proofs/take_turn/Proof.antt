@@ -14,21 +14,6 @@ use borrow.Author.Needs.{needs}
 use Rattle.turn.proofs.take_turn.Statement.{statement}
 use Rattle.turn.proofs.take_turn.Tie as tie
 
-carry-out-requires : tie.Need-carry-out-requires
-carry-out-requires c κs = search needs
-
-is-done-requires : tie.Need-is-done-requires
-is-done-requires c κs = search needs
-
-same-length : tie.Need-same-length
-same-length c = search needs
-
-same-length-2 : tie.Need-same-length-2
-same-length-2 c = search needs
-
-same-length-3 : tie.Need-same-length-3
-same-length-3 c = search needs
-
 returns : tie.Need-returns
 returns c =
     let w = c .before .before .before .before .before .before .before .before .carry-out in
@@ -39,22 +24,10 @@ returns c =
     let no : isDone (w .result) ≡ false = sym (c .before .is-done .ensures) ∙ not-true (c .before .is-done .result) (c .if1 .taken) in
     turn-kept (running R B) _ (turn-carried R B (s .pre .1 .0) _ (w .ensures) false no) no
 
-next-place-requires : tie.Need-next-place-requires
-next-place-requires c κs = search needs
-
 machine-after-requires : tie.Need-machine-after-requires
 machine-after-requires c κs =
     let s = c .before .before .before .before .before .before .before .before .before .before .before .before .before .before .before .before .before in
     (sound-numbers (s .args .m) (s .args .registers .now) (s .args .marks .now) (s .pre .0), s .pre .1 .0)
-
-same-length-4 : tie.Need-same-length-4
-same-length-4 c = search needs
-
-same-length-5 : tie.Need-same-length-5
-same-length-5 c = search needs
-
-same-length-6 : tie.Need-same-length-6
-same-length-6 c = search needs
 
 returns-2 : tie.Need-returns-2
 returns-2 c =
@@ -72,15 +45,15 @@ pub take-turn-spec : {M : Type 1} → statement M
 take-turn-spec =
     tie.close
     (tie.spec
-    carry-out-requires
-    is-done-requires
-    same-length
-    same-length-2
-    same-length-3
+    (λ c _. search needs)
+    (λ c _. search needs)
+    (λ c. search needs)
+    (λ c. search needs)
+    (λ c. search needs)
     returns
-    next-place-requires
+    (λ c _. search needs)
     machine-after-requires
-    same-length-4
-    same-length-5
-    same-length-6
+    (λ c. search needs)
+    (λ c. search needs)
+    (λ c. search needs)
     returns-2)

@@ -30,25 +30,10 @@ abbrev μ-loop : tie.MeasureT-loop
 loop-holds : tie.Need-loop-holds Inv-loop μ-loop
 loop-holds c = let s = c .before .before .before .before in (omega arith, none-taken (s .pre .1 .0) (s .pre .0) (s .pre .1 .1), refl, refl, refl)
 
-at-place-requires : tie.Need-at-place-requires Inv-loop μ-loop
-at-place-requires c κs = search needs
-
 take-turn-requires : tie.Need-take-turn-requires Inv-loop μ-loop
 take-turn-requires c κs =
     let l = c .before .before .before .before .before .loop in
     (taken-sane (l .inv .1), (ap (soundRun chosen) (c .before .before .before .at-place .ensures) ∙ l .inv .1 .run-sound, c .before .before .before .before .before .before .before .before .before .before .pre .1 .1))
-
-is-done-requires : tie.Need-is-done-requires Inv-loop μ-loop
-is-done-requires c κs = search needs
-
-same-length : tie.Need-same-length Inv-loop μ-loop
-same-length c = search needs
-
-same-length-2 : tie.Need-same-length-2 Inv-loop μ-loop
-same-length-2 c = search needs
-
-same-length-3 : tie.Need-same-length-3 Inv-loop μ-loop
-same-length-3 c = search needs
 
 returns : tie.Need-returns Inv-loop μ-loop
 returns c =
@@ -120,12 +105,12 @@ take-turns-spec =
     Inv-loop
     μ-loop
     loop-holds
-    at-place-requires
+    (λ c _. search needs)
     take-turn-requires
-    is-done-requires
-    same-length
-    same-length-2
-    same-length-3
+    (λ c _. search needs)
+    (λ c. search needs)
+    (λ c. search needs)
+    (λ c. search needs)
     returns
     add-count
     sub-sums-from

@@ -11,29 +11,11 @@ use borrow.Author.Needs.{needs}
 use Rattle.turn.proofs.turns.Statement.{statement}
 use Rattle.turn.proofs.turns.Tie as tie
 
-is-sound-requires : tie.Need-is-sound-requires
-is-sound-requires c κs = search needs
-
-same-length : tie.Need-same-length
-same-length c = search needs
-
-same-length-2 : tie.Need-same-length-2
-same-length-2 c = search needs
-
 returns : tie.Need-returns
 returns c =
     let d = c .before in
     let a = c .before .before .before .before .before .before .before .before .args in
     turns-fault (a .run) (benchOf (a .m) (sealsIn (a .seals .now)) (a .registers .now) (a .marks .now) (a .memory .now)) (a .limit) (sym (d .is-sound .ensures) ∙ not-true (d .is-sound .result) (c .if1 .taken))
-
-is-sound-run-requires : tie.Need-is-sound-run-requires
-is-sound-run-requires c κs = search needs
-
-same-length-3 : tie.Need-same-length-3
-same-length-3 c = search needs
-
-same-length-4 : tie.Need-same-length-4
-same-length-4 c = search needs
 
 returns-2 : tie.Need-returns-2
 returns-2 c =
@@ -50,18 +32,6 @@ take-turns-requires c κs =
     let h : soundBench B ≡ true = sym (e .before .is-sound .ensures) ∙ not-false (e .before .is-sound .result) (e .if1 .left) in
     (bench-sound B h, (sym (f .before .is-sound-run .ensures) ∙ not-false (f .before .is-sound-run .result) (f .if2 .left), bench-seals B h))
 
-at-place-requires : tie.Need-at-place-requires
-at-place-requires c κs = search needs
-
-same-length-5 : tie.Need-same-length-5
-same-length-5 c = search needs
-
-same-length-6 : tie.Need-same-length-6
-same-length-6 c = search needs
-
-same-length-7 : tie.Need-same-length-7
-same-length-7 c = search needs
-
 returns-3 : tie.Need-returns-3
 returns-3 c = at-end _ _ _ _ _ (c .before .at-place .ensures) (c .before .before .before .before .before .before .before .before .take-turns .ensures)
 
@@ -69,17 +39,17 @@ pub turns-spec : {M : Type 1} → statement M
 turns-spec =
     tie.close
     (tie.spec
-    is-sound-requires
-    same-length
-    same-length-2
+    (λ c _. search needs)
+    (λ c. search needs)
+    (λ c. search needs)
     returns
-    is-sound-run-requires
-    same-length-3
-    same-length-4
+    (λ c _. search needs)
+    (λ c. search needs)
+    (λ c. search needs)
     returns-2
     take-turns-requires
-    at-place-requires
-    same-length-5
-    same-length-6
-    same-length-7
+    (λ c _. search needs)
+    (λ c. search needs)
+    (λ c. search needs)
+    (λ c. search needs)
     returns-3)

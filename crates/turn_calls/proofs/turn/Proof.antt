@@ -13,27 +13,12 @@ use Rattle.turn_calls.proofs.turn.Tie as tie
 fit : (c : tie.Else1) → runFit (c .before .before .before .before .before .before .before .before .args .run .now) ≡ true
 fit c = sym (c .before .is-fit .ensures) ∙ not-false (c .before .is-fit .result) (c .if1 .left)
 
-is-fit-requires : tie.Need-is-fit-requires
-is-fit-requires c κs = search needs
-
-packed-requires : tie.Need-packed-requires
-packed-requires c κs = search needs
-
-same-length : tie.Need-same-length
-same-length c = search needs
-
 returns : tie.Need-returns
 returns c =
     let f = c .before .before in
     let a = f .before .before .before .before .before .before .before .args in
     turn-refused (a .run .now) (a .machine .now) (a .registers .now) (a .marks .now) (a .memory .now) (c .packed .result)
     (blocks-unfit (a .run .now) (a .machine .now) (sym (f .is-fit .ensures) ∙ not-true (f .is-fit .result) (c .before .if1 .taken))) (c .packed .ensures)
-
-packed-requires-2 : tie.Need-packed-requires-2
-packed-requires-2 c κs = search needs
-
-same-length-2 : tie.Need-same-length-2
-same-length-2 c = search needs
 
 returns-2 : tie.Need-returns-2
 returns-2 c =
@@ -44,12 +29,6 @@ returns-2 c =
 
 run-of-requires : tie.Need-run-of-requires
 run-of-requires c κs = fit-length (c .before .before .before .before .before .before .before .before .before .before .args .run .now) (fit (c .before .before))
-
-machine-of-requires : tie.Need-machine-of-requires
-machine-of-requires c κs = search needs
-
-turn-requires : tie.Need-turn-requires
-turn-requires c κs = search needs
 
 -- what the turn has left has the blocks' other numbers
 keeps : (t : tie.After-turn) →
@@ -69,24 +48,6 @@ put-place-requires c κs =
 
 put-state-requires : tie.Need-put-state-requires
 put-state-requires c κs = (search needs, keeps (c .before .before .before .before .before .before .before .before .before .before .before .before .before) .0)
-
-packed-requires-3 : tie.Need-packed-requires-3
-packed-requires-3 c κs = search needs
-
-same-length-3 : tie.Need-same-length-3
-same-length-3 c = search needs
-
-same-length-4 : tie.Need-same-length-4
-same-length-4 c = search needs
-
-same-length-5 : tie.Need-same-length-5
-same-length-5 c = search needs
-
-same-length-6 : tie.Need-same-length-6
-same-length-6 c = search needs
-
-same-length-7 : tie.Need-same-length-7
-same-length-7 c = search needs
 
 returns-3 : tie.Need-returns-3
 returns-3 c =
@@ -108,22 +69,22 @@ pub turn-spec : {M : Type 1} → statement M
 turn-spec =
     tie.close
     (tie.spec
-    is-fit-requires
-    packed-requires
-    same-length
+    (λ c _. search needs)
+    (λ c _. search needs)
+    (λ c. search needs)
     returns
-    packed-requires-2
-    same-length-2
+    (λ c _. search needs)
+    (λ c. search needs)
     returns-2
     run-of-requires
-    machine-of-requires
-    turn-requires
+    (λ c _. search needs)
+    (λ c _. search needs)
     put-place-requires
     put-state-requires
-    packed-requires-3
-    same-length-3
-    same-length-4
-    same-length-5
-    same-length-6
-    same-length-7
+    (λ c _. search needs)
+    (λ c. search needs)
+    (λ c. search needs)
+    (λ c. search needs)
+    (λ c. search needs)
+    (λ c. search needs)
     returns-3)

@@ -12,21 +12,12 @@ use Rattle.turn_calls.proofs.turns.Tie as tie
 fit : (c : tie.Else1) → runFit (c .before .before .before .before .before .before .before .before .args .run .now) ≡ true
 fit c = sym (c .before .is-fit .ensures) ∙ not-false (c .before .is-fit .result) (c .if1 .left)
 
-is-fit-requires : tie.Need-is-fit-requires
-is-fit-requires c κs = search needs
-
-same-length : tie.Need-same-length
-same-length c = search needs
-
 returns : tie.Need-returns
 returns c =
     let f = c .before in
     let a = f .before .before .before .before .before .before .before .args in
     turns-refused (a .run .now) (a .machine .now) (a .registers .now) (a .marks .now) (a .memory .now) (a .turns)
     (blocks-unfit (a .run .now) (a .machine .now) (sym (f .is-fit .ensures) ∙ not-true (f .is-fit .result) (c .if1 .taken)))
-
-same-length-2 : tie.Need-same-length-2
-same-length-2 c = search needs
 
 returns-2 : tie.Need-returns-2
 returns-2 c =
@@ -38,32 +29,8 @@ returns-2 c =
 run-of-requires : tie.Need-run-of-requires
 run-of-requires c κs = fit-length (c .before .before .before .before .before .before .before .before .before .before .args .run .now) (fit (c .before .before))
 
-machine-of-requires : tie.Need-machine-of-requires
-machine-of-requires c κs = search needs
-
-turns-requires : tie.Need-turns-requires
-turns-requires c κs = search needs
-
 put-run-requires : tie.Need-put-run-requires
 put-run-requires c κs = fit-length (c .before .before .before .before .before .before .before .before .before .before .before .before .before .before .before .before .before .before .before .before .before .before .before .before .before .before .args .run .now) (fit (c .before .before .before .before .before .before .before .before .before .before .before .before .before .before .before .before .before .before))
-
-put-machine-requires : tie.Need-put-machine-requires
-put-machine-requires c κs = search needs
-
-same-length-3 : tie.Need-same-length-3
-same-length-3 c = search needs
-
-same-length-4 : tie.Need-same-length-4
-same-length-4 c = search needs
-
-same-length-5 : tie.Need-same-length-5
-same-length-5 c = search needs
-
-same-length-6 : tie.Need-same-length-6
-same-length-6 c = search needs
-
-same-length-7 : tie.Need-same-length-7
-same-length-7 c = search needs
 
 returns-3 : tie.Need-returns-3
 returns-3 c =
@@ -85,19 +52,19 @@ pub turns-spec : {M : Type 1} → statement M
 turns-spec =
     tie.close
     (tie.spec
-    is-fit-requires
-    same-length
+    (λ c _. search needs)
+    (λ c. search needs)
     returns
-    same-length-2
+    (λ c. search needs)
     returns-2
     run-of-requires
-    machine-of-requires
-    turns-requires
+    (λ c _. search needs)
+    (λ c _. search needs)
     put-run-requires
-    put-machine-requires
-    same-length-3
-    same-length-4
-    same-length-5
-    same-length-6
-    same-length-7
+    (λ c _. search needs)
+    (λ c. search needs)
+    (λ c. search needs)
+    (λ c. search needs)
+    (λ c. search needs)
+    (λ c. search needs)
     returns-3)

@@ -21,9 +21,6 @@ multiply-row-requires c κs =
     let i = ap (λ (w : ℕ). a .n * w) e in
     (p .0, (omega (arith, p), (omega (arith, p), (p .1 .1 .1 .1 .0, omega (arith, p)))))
 
-same-length : tie.Need-same-length
-same-length c = search needs
-
 returns : tie.Need-returns
 returns c =
     let k = c .before .before .before .before .before .before in
@@ -41,9 +38,6 @@ multiply-row-requires-2 c κs =
     let e = ap (λ (w : ℕ). a .n * w) (c .before .if2 .taken) in
     (p .0, (narrow (a .width) (short (a .width) (p .1 .0 .0) (omega (arith, p))) (omega (arith, p)), (p .1 .1 .0, (p .1 .1 .1 .0, (p .1 .1 .1 .1 .0, omega (arith, p))))))
 
-same-length-2 : tie.Need-same-length-2
-same-length-2 c = search needs
-
 returns-2 : tie.Need-returns-2
 returns-2 c =
     let k = c .before .before .before .before .before .before .before in
@@ -59,9 +53,6 @@ multiply-row-requires-3 c κs =
     let p = k .pre in
     let e = ap (λ (w : ℕ). a .n * w) (c .before .if3 .taken) in
     (p .0, (short (a .width) (p .1 .0 .0) (omega (arith, p)), (p .1 .1 .0, (p .1 .1 .1 .0, (p .1 .1 .1 .1 .0, omega (arith, p))))))
-
-same-length-3 : tie.Need-same-length-3
-same-length-3 c = search needs
 
 returns-3 : tie.Need-returns-3
 returns-3 c =
@@ -82,9 +73,6 @@ multiply-row-requires-4 c κs =
     let e = ap (λ (w : ℕ). a .n * w) (eight (c .before)) in
     (p .0, (p .1 .0 .0, (p .1 .1 .0, (p .1 .1 .1 .0, (p .1 .1 .1 .1 .0, omega (arith, p))))))
 
-same-length-4 : tie.Need-same-length-4
-same-length-4 c = search needs
-
 returns-4 : tie.Need-returns-4
 returns-4 c =
     let k = c .before .before .before .before .before .before .before .before in
@@ -97,14 +85,14 @@ multiply-row-spec =
     tie.close
     (tie.spec
     multiply-row-requires
-    same-length
+    (λ c. search needs)
     returns
     multiply-row-requires-2
-    same-length-2
+    (λ c. search needs)
     returns-2
     multiply-row-requires-3
-    same-length-3
+    (λ c. search needs)
     returns-3
     multiply-row-requires-4
-    same-length-4
+    (λ c. search needs)
     returns-4)

@@ -20,9 +20,6 @@ Inv-loop s₀ a b c pitch width wide m k n step i₀ from₀ to₀ s i from to =
 abbrev μ-loop : tie.MeasureT-loop
 μ-loop s₀ a b c pitch width wide m k n step i₀ from₀ to₀ s i from to = m - i
 
-mul-step : tie.Need-mul-step Inv-loop μ-loop
-mul-step c = search needs
-
 loop-holds : tie.Need-loop-holds Inv-loop μ-loop
 unfolding putTile
 loop-holds c = let a = c .before .args in (omega arith, omega (arith, zero-mul (a .pitch)), omega (arith, zero-mul (4 * a .pitch)), refl, refl, refl)
@@ -51,12 +48,6 @@ add-from c = let f = fits (c .before .before .before .before) in omega arith
 add-to : tie.Need-add-to Inv-loop μ-loop
 add-to c = let f = fits (c .before .before .before .before) in omega arith
 
-add-i : tie.Need-add-i Inv-loop μ-loop
-add-i c = search needs
-
-loop-less : tie.Need-loop-less Inv-loop μ-loop
-loop-less c = search needs
-
 loop-again : tie.Need-loop-again Inv-loop μ-loop
 loop-again c =
     let d = c .before .before .before .before in
@@ -74,9 +65,6 @@ loop-again c =
           (l .i) (l .s) (d .loop-test .taken) (l .inv .5) (l .from) (l .to) (w .last .0) (l .inv .1) (l .inv .2) (w .ensures),
     )
 
-same-length : tie.Need-same-length Inv-loop μ-loop
-same-length c = search needs
-
 returns : tie.Need-returns Inv-loop μ-loop
 returns c =
     let l = c .before .loop in
@@ -91,13 +79,13 @@ multiply-rows-spec =
     (tie.spec
     Inv-loop
     μ-loop
-    mul-step
+    (λ c. search needs)
     loop-holds
     multiply-row-requires
     add-from
     add-to
-    add-i
-    loop-less
+    (λ c. search needs)
+    (λ c. search needs)
     loop-again
-    same-length
+    (λ c. search needs)
     returns)

@@ -10,12 +10,6 @@ use borrow.Author.Needs.{needs}
 use Rattle.arithmetic.proofs.weights.weigh_block.Statement.{statement}
 use Rattle.arithmetic.proofs.weights.weigh_block.Tie as tie
 
-low8-requires : tie.Need-low8-requires
-low8-requires c κs = search needs
-
-low8-requires-2 : tie.Need-low8-requires-2
-low8-requires-2 c κs = search needs
-
 weigh-row-requires : tie.Need-weigh-row-requires
 weigh-row-requires c κs =
     let k = c .before .before .before .before .before in
@@ -25,9 +19,6 @@ weigh-row-requires c κs =
     let g = ap (λ (w : ℕ). a .n * w) (is1 (a .width) (short (a .width) (p .1 .0 .0) (omega (arith, p))) (omega (arith, p))) in
     let i = ap (λ (w : ℕ). a .n * w) e in
     (p .0, (omega (arith, p), omega (arith, p)))
-
-same-length : tie.Need-same-length
-same-length c = search needs
 
 returns : tie.Need-returns
 returns c =
@@ -39,12 +30,6 @@ returns c =
     ∙ ap₂ (λ (x y : ℕ). putRow (a .to) (a .n) 1 (weightedRow (a .s .now) (a .from) (a .to) 1 1 x y) (a .s .now)) (c .before .before .before .before .low8 .ensures) (c .before .before .before .low82 .ensures)
     ∙ ap₂ (λ (v w : ℕ). putRow (a .to) (a .n) w (weightedRow (a .s .now) (a .from) (a .to) v w (a .x % 256 ^ w) (a .y % 256 ^ w)) (a .s .now)) (sym f) (sym e)
 
-low16-requires : tie.Need-low16-requires
-low16-requires c κs = search needs
-
-low16-requires-2 : tie.Need-low16-requires-2
-low16-requires-2 c κs = search needs
-
 weigh-row-requires-2 : tie.Need-weigh-row-requires-2
 weigh-row-requires-2 c κs =
     let k = c .before .before .before .before .before .before in
@@ -53,21 +38,12 @@ weigh-row-requires-2 c κs =
     let e = ap (λ (w : ℕ). a .n * w) (c .before .before .before .if2 .taken) in
     (p .0, (narrow (a .width) (short (a .width) (p .1 .0 .0) (omega (arith, p, c .before .before .before .if2 .taken))) (omega (arith, p, c .before .before .before .if2 .taken)), (p .1 .1 .0, omega (arith, p))))
 
-same-length-2 : tie.Need-same-length-2
-same-length-2 c = search needs
-
 returns-2 : tie.Need-returns-2
 returns-2 c =
     let a = c .before .before .before .before .before .before .before .before .before .args in
     c .before .before .weigh-row2 .ensures
     ∙ ap₂ (λ (x y : ℕ). putRow (a .to) (a .n) 2 (weightedRow (a .s .now) (a .from) (a .to) (a .width) 2 x y) (a .s .now)) (c .before .before .before .before .low16 .ensures) (c .before .before .before .low162 .ensures)
     ∙ ap (λ (w : ℕ). putRow (a .to) (a .n) w (weightedRow (a .s .now) (a .from) (a .to) (a .width) w (a .x % 256 ^ w) (a .y % 256 ^ w)) (a .s .now)) (sym (c .before .before .before .before .before .before .if2 .taken))
-
-low32-requires : tie.Need-low32-requires
-low32-requires c κs = search needs
-
-low32-requires-2 : tie.Need-low32-requires-2
-low32-requires-2 c κs = search needs
 
 weigh-row-requires-3 : tie.Need-weigh-row-requires-3
 weigh-row-requires-3 c κs =
@@ -76,9 +52,6 @@ weigh-row-requires-3 c κs =
     let p = k .pre in
     let e = ap (λ (w : ℕ). a .n * w) (c .before .before .before .if3 .taken) in
     (p .0, (short (a .width) (p .1 .0 .0) (omega (arith, p, c .before .before .before .if3 .taken)), (p .1 .1 .0, omega (arith, p))))
-
-same-length-3 : tie.Need-same-length-3
-same-length-3 c = search needs
 
 returns-3 : tie.Need-returns-3
 returns-3 c =
@@ -99,9 +72,6 @@ weigh-row-requires-4 c κs =
     let e = ap (λ (w : ℕ). a .n * w) (eight (c .before)) in
     (p .0, (p .1 .0 .0, (p .1 .1 .0, omega (arith, p))))
 
-same-length-4 : tie.Need-same-length-4
-same-length-4 c = search needs
-
 returns-4 : tie.Need-returns-4
 returns-4 c =
     let k = c .before .before .before .before .before .before .before .before in
@@ -116,21 +86,21 @@ pub weigh-block-spec : {M : Type 1} → statement M
 weigh-block-spec =
     tie.close
     (tie.spec
-    low8-requires
-    low8-requires-2
+    (λ c _. search needs)
+    (λ c _. search needs)
     weigh-row-requires
-    same-length
+    (λ c. search needs)
     returns
-    low16-requires
-    low16-requires-2
+    (λ c _. search needs)
+    (λ c _. search needs)
     weigh-row-requires-2
-    same-length-2
+    (λ c. search needs)
     returns-2
-    low32-requires
-    low32-requires-2
+    (λ c _. search needs)
+    (λ c _. search needs)
     weigh-row-requires-3
-    same-length-3
+    (λ c. search needs)
     returns-3
     weigh-row-requires-4
-    same-length-4
+    (λ c. search needs)
     returns-4)

@@ -23,26 +23,8 @@ Inv-loop registers₀ rows pitch width wide d a x y m n size step i₀ from₀ t
 abbrev μ-loop : tie.MeasureT-loop
 μ-loop registers₀ rows pitch width wide d a x y m n size step i₀ from₀ to₀ registers i from to = m - i
 
-mul-size : tie.Need-mul-size Inv-loop μ-loop
-mul-size c = search needs
-
-mul-step : tie.Need-mul-step Inv-loop μ-loop
-mul-step c = search needs
-
-mul-from : tie.Need-mul-from Inv-loop μ-loop
-mul-from c = search needs
-
-add-from : tie.Need-add-from Inv-loop μ-loop
-add-from c = search needs
-
 mul-from-2 : tie.Need-mul-from-2 Inv-loop μ-loop
 mul-from-2 c = let a = c .before .args in let p = c .before .pre in omega (arith, mul-le-mul-right (a .rows * a .pitch) (p .0 .1), p)
-
-mul-to : tie.Need-mul-to Inv-loop μ-loop
-mul-to c = search needs
-
-add-to : tie.Need-add-to Inv-loop μ-loop
-add-to c = search needs
 
 mul-to-2 : tie.Need-mul-to-2 Inv-loop μ-loop
 mul-to-2 c = let a = c .before .args in let p = c .before .pre in omega (arith, mul-le-mul-right (a .rows * a .pitch) (p .0 .0), p)
@@ -89,12 +71,6 @@ add-from-2 c = let f = fits (c .before .before .before .before) in omega arith
 add-to-2 : tie.Need-add-to-2 Inv-loop μ-loop
 add-to-2 c = let f = fits (c .before .before .before .before) in omega arith
 
-add-i : tie.Need-add-i Inv-loop μ-loop
-add-i c = search needs
-
-loop-less : tie.Need-loop-less Inv-loop μ-loop
-loop-less c = search needs
-
 loop-again : tie.Need-loop-again Inv-loop μ-loop
 loop-again c =
     let k = c .before .before .before .before in
@@ -112,9 +88,6 @@ loop-again c =
           (a .registers .now) (l .registers) (w .last .0) (p .0 .0) (p .0 .1) (q .0) (k .loop-test .taken) (q .1 .1 .0) (q .1 .1 .1) (l .inv .5) (l .inv .1) (l .inv .2) (w .ensures),
     )
 
-same-length : tie.Need-same-length Inv-loop μ-loop
-same-length c = search needs
-
 returns : tie.Need-returns Inv-loop μ-loop
 returns c =
     let l = c .before .loop in
@@ -128,20 +101,20 @@ weigh-tile-spec =
     (tie.spec
     Inv-loop
     μ-loop
-    mul-size
-    mul-step
-    mul-from
-    add-from
+    (λ c. search needs)
+    (λ c. search needs)
+    (λ c. search needs)
+    (λ c. search needs)
     mul-from-2
-    mul-to
-    add-to
+    (λ c. search needs)
+    (λ c. search needs)
     mul-to-2
     loop-holds
     weigh-row-requires
     add-from-2
     add-to-2
-    add-i
-    loop-less
+    (λ c. search needs)
+    (λ c. search needs)
     loop-again
-    same-length
+    (λ c. search needs)
     returns)

@@ -6,27 +6,6 @@ use Rattle.bodlarina.specs.Host.{planIn}
 use Rattle.bodlarina.proofs.runs.bodlarina_run.Statement.{statement}
 use Rattle.bodlarina.proofs.runs.bodlarina_run.Tie as tie
 
-plan-in-requires : tie.Need-plan-in-requires
-plan-in-requires c κs = search needs
-
-whole-requires : tie.Need-whole-requires
-whole-requires c κs = search needs
-
-same-length : tie.Need-same-length
-same-length c = search needs
-
-same-length-2 : tie.Need-same-length-2
-same-length-2 c = search needs
-
-same-length-3 : tie.Need-same-length-3
-same-length-3 c = search needs
-
-same-length-4 : tie.Need-same-length-4
-same-length-4 c = search needs
-
-same-length-5 : tie.Need-same-length-5
-same-length-5 c = search needs
-
 returns : tie.Need-returns
 returns c =
     let w = c .before .before .before .before .before .before .before .before .before .before in
@@ -41,11 +20,11 @@ pub bodlarina-run-spec : {M : Type 1} → statement M
 bodlarina-run-spec =
     tie.close
     (tie.spec
-    plan-in-requires
-    whole-requires
-    same-length
-    same-length-2
-    same-length-3
-    same-length-4
-    same-length-5
+    (λ c _. search needs)
+    (λ c _. search needs)
+    (λ c. search needs)
+    (λ c. search needs)
+    (λ c. search needs)
+    (λ c. search needs)
+    (λ c. search needs)
     returns)

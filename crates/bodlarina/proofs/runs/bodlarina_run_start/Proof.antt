@@ -6,15 +6,6 @@ use Rattle.bodlarina.specs.Host.{planIn}
 use Rattle.bodlarina.proofs.runs.bodlarina_run_start.Statement.{statement}
 use Rattle.bodlarina.proofs.runs.bodlarina_run_start.Tie as tie
 
-plan-in-requires : tie.Need-plan-in-requires
-plan-in-requires c κs = search needs
-
-start-requires : tie.Need-start-requires
-start-requires c κs = search needs
-
-same-length : tie.Need-same-length
-same-length c = search needs
-
 returns : tie.Need-returns
 returns c =
     let s = c .before .before in
@@ -26,4 +17,4 @@ returns c =
     (ap start {y = planIn (a .kind) (a .sew) (a .factor) (a .m) (a .k) (a .n) (a .a) (a .a-stride) (a .b) (a .b-stride) (a .c) (a .c-stride)} (p .plan-in .ensures))
 
 pub bodlarina-run-start-spec : {M : Type 1} → statement M
-bodlarina-run-start-spec = tie.close (tie.spec plan-in-requires start-requires same-length returns)
+bodlarina-run-start-spec = tie.close (tie.spec (λ c _. search needs) (λ c _. search needs) (λ c. search needs) returns)

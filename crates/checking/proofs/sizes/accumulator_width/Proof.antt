@@ -9,9 +9,6 @@ use borrow.Author.Needs.{needs}
 use Rattle.checking.proofs.sizes.accumulator_width.Statement.{statement}
 use Rattle.checking.proofs.sizes.accumulator_width.Tie as tie
 
-sew-bytes-requires : tie.Need-sew-bytes-requires
-sew-bytes-requires c κs = search needs
-
 returns : tie.Need-returns
 unfolding widthOf
 returns c = let a = c .before .before .args in rw (lt-leb (8 * a .width) (a .elen) (omega (arith, c .if1 .taken)))
@@ -22,9 +19,6 @@ returns-2 c =
     let w = c .before .before in
     let a = w .before .args in
     rw (le-leb (8 * a .width) (a .elen) (omega arith), eq-eqb (a .width) (sew (a .mtype)) (c .if2 .taken ∙ w .sew-bytes .ensures .0))
-
-mul-if3 : tie.Need-mul-if3
-mul-if3 c = search needs
 
 -- the width is neither SEW nor more than ELEN
 not-one : (c : tie.Else2) → ¬ (c .before .before .before .args .width ≡ sew (c .before .before .before .args .mtype))
@@ -37,9 +31,6 @@ returns-3 c =
     let w = e .before .before in
     let a = w .before .args in
     rw (le-leb (8 * a .width) (a .elen) (omega arith), ne-eqb (a .width) (sew (a .mtype)) (not-one e), eq-eqb (a .width) (2 * sew (a .mtype)) (omega (arith, c .if3 .taken, w .sew-bytes .ensures .0)))
-
-is-maccq-requires : tie.Need-is-maccq-requires
-is-maccq-requires c κs = search needs
 
 returns-4 : tie.Need-returns-4
 unfolding widthOf
@@ -54,9 +45,6 @@ returns-4 c =
       ne-eqb (a .width) (2 * sew (a .mtype)) (λ z. f .if3 .left (z ∙ ap (λ (x : ℕ). 2 * x) (sym (w .sew-bytes .ensures .0)))),
       sym (c .before .is-maccq .ensures) ∙ not-true (c .before .is-maccq .result) (c .if4 .taken),
     )
-
-mul-result : tie.Need-mul-result
-mul-result c = search needs
 
 returns-5 : tie.Need-returns-5
 unfolding widthOf
@@ -74,4 +62,4 @@ returns-5 c =
     (ap (λ (x : ℕ). eqb (a .width) (4 * x)) (w .sew-bytes .ensures .0))
 
 pub accumulator-width-spec : {M : Type 1} → statement M
-accumulator-width-spec = tie.close (tie.spec sew-bytes-requires returns returns-2 mul-if3 returns-3 is-maccq-requires returns-4 mul-result returns-5)
+accumulator-width-spec = tie.close (tie.spec (λ c _. search needs) returns returns-2 (λ c. search needs) returns-3 (λ c _. search needs) returns-4 (λ c. search needs) returns-5)

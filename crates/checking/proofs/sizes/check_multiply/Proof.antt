@@ -13,9 +13,6 @@ use borrow.Author.Needs.{needs}
 use Rattle.checking.proofs.sizes.check_multiply.Statement.{statement}
 use Rattle.checking.proofs.sizes.check_multiply.Tie as tie
 
-is-mill-requires : tie.Need-is-mill-requires
-is-mill-requires c κs = search needs
-
 -- the tests that have passed
 typed-1 : (c : tie.Else1) → mill (c .before .before .args .m .mtype) ≡ false
 typed-1 c = sym (c .before .is-mill .ensures) ∙ c .if1 .left
@@ -65,4 +62,4 @@ returns-6 : tie.Need-returns-6
 returns-6 c = rw (typed-1 (c .before .before .before .before .before .before .before .before), ok-2 (c .before .before .before .before .before .before), ok-3 (c .before .before .before .before), ok-4 (c .before .before), ok-5 (c))
 
 pub check-multiply-spec : {M : Type 1} → statement M
-check-multiply-spec = tie.close (tie.spec is-mill-requires returns factor-width-requires returns-2 fits-requires returns-3 fits-requires-2 returns-4 fits-requires-3 returns-5 returns-6)
+check-multiply-spec = tie.close (tie.spec (λ c _. search needs) returns factor-width-requires returns-2 fits-requires returns-3 fits-requires-2 returns-4 fits-requires-3 returns-5 returns-6)

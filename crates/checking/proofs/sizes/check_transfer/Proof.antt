@@ -13,9 +13,6 @@ use borrow.Author.Needs.{needs}
 use Rattle.checking.proofs.sizes.check_transfer.Statement.{statement}
 use Rattle.checking.proofs.sizes.check_transfer.Tie as tie
 
-is-mill-requires : tie.Need-is-mill-requires
-is-mill-requires c κs = search needs
-
 -- the tests that have passed
 typed-1 : (c : tie.Else1) → mill (c .before .before .args .m .mtype) ≡ false
 typed-1 c = sym (c .before .is-mill .ensures) ∙ c .if1 .left
@@ -34,9 +31,6 @@ transfer-width-requires c κs =
 returns-2 : tie.Need-returns-2
 returns-2 c = rw (typed-1 (c .before .before), sym (c .before .transfer-width .ensures) ∙ not-true (c .before .transfer-width .result) (c .if2 .taken))
 
-rows-of-requires : tie.Need-rows-of-requires
-rows-of-requires c κs = search needs
-
 fits-requires : tie.Need-fits-requires
 fits-requires c κs = (c .before .before .before .before .before .pre, typed-1 (c .before .before .before))
 
@@ -45,9 +39,6 @@ ok-3 c = sym (c .before .fits2 .ensures ∙ ap (λ (d : Dimension). fitting (our
 
 returns-3 : tie.Need-returns-3
 returns-3 c = rw (typed-1 (c .before .before .before .before .before), ok-2 (c .before .before .before), sym (c .before .fits2 .ensures ∙ ap (λ (d : Dimension). fitting (ours (c .before .before .before .before .before .before .before .args .m)) (stateOf (c .before .before .before .before .before .before .before .args .m) [] []) d .holds) (c .before .before .rows-of .ensures)) ∙ not-true (c .before .fits2 .result) (c .if3 .taken))
-
-columns-of-requires : tie.Need-columns-of-requires
-columns-of-requires c κs = search needs
 
 fits-requires-2 : tie.Need-fits-requires-2
 fits-requires-2 c κs = (c .before .before .before .before .before .before .before .before .pre, typed-1 (c .before .before .before .before .before .before))
@@ -62,4 +53,4 @@ returns-5 : tie.Need-returns-5
 returns-5 c = rw (typed-1 (c .before .before .before .before .before .before .before .before), ok-2 (c .before .before .before .before .before .before), ok-3 (c .before .before .before), ok-4 (c))
 
 pub check-transfer-spec : {M : Type 1} → statement M
-check-transfer-spec = tie.close (tie.spec is-mill-requires returns transfer-width-requires returns-2 rows-of-requires fits-requires returns-3 columns-of-requires fits-requires-2 returns-4 returns-5)
+check-transfer-spec = tie.close (tie.spec (λ c _. search needs) returns transfer-width-requires returns-2 (λ c _. search needs) fits-requires returns-3 (λ c _. search needs) fits-requires-2 returns-4 returns-5)

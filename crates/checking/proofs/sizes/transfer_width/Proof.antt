@@ -6,21 +6,6 @@ use borrow.Author.Needs.{needs}
 use Rattle.checking.proofs.sizes.transfer_width.Statement.{statement}
 use Rattle.checking.proofs.sizes.transfer_width.Tie as tie
 
-sew-bytes-requires : tie.Need-sew-bytes-requires
-sew-bytes-requires c κs = search needs
-
-enum-told : tie.Need-enum-told
-enum-told c = search needs
-
-enum-told-2 : tie.Need-enum-told-2
-enum-told-2 c = search needs
-
-enum-told-3 : tie.Need-enum-told-3
-enum-told-3 c = search needs
-
-accumulator-width-requires : tie.Need-accumulator-width-requires
-accumulator-width-requires c κs = search needs
-
 returns : tie.Need-returns
 unfolding widthOf
 returns c =
@@ -41,4 +26,4 @@ returns-3 c =
     c .accumulator-width .ensures ∙ ap (λ (k : Matrix). widthOf (a .elen) (a .mtype) k (a .width)) (sym (c .before .enum-told3 .given .1))
 
 pub transfer-width-spec : {M : Type 1} → statement M
-transfer-width-spec = tie.close (tie.spec sew-bytes-requires enum-told enum-told-2 enum-told-3 accumulator-width-requires returns returns-2 returns-3)
+transfer-width-spec = tie.close (tie.spec (λ c _. search needs) (λ c. search needs) (λ c. search needs) (λ c. search needs) (λ c _. search needs) returns returns-2 returns-3)

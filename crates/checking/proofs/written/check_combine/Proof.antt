@@ -29,9 +29,6 @@ target c = let a = c .args in accumulatorCheck (a .m) (a .marks .now) (a .md) (t
 check-elementwise-requires : tie.Need-check-elementwise-requires
 check-elementwise-requires c κs = c .before .pre .0 .of-machine
 
-is-done-requires : tie.Need-is-done-requires
-is-done-requires c κs = search needs
-
 returns : tie.Need-returns
 returns c =
     let s = c .before .before .before .before in
@@ -46,9 +43,6 @@ accumulator-marks-requires c κs =
     let s = c .before .before .before .before .before in
     (s .pre .0, source-fits (s .args .m) (times (s .args .factor)) (fits (c .before)) (s .args .ms1) (c .sew-bytes .result) (s .pre .1 .1) (c .sew-bytes .ensures .0))
 
-is-done-requires-2 : tie.Need-is-done-requires-2
-is-done-requires-2 c κs = search needs
-
 -- the search of the source, at SEW
 searched : (c : tie.After-accumulator-marks) → let s = c .before .before .before .before .before .before in c .accumulator-marks .result ≡ verdict (source s ∷ [])
 searched c = let a = c .before .before .before .before .before .before .args in c .accumulator-marks .ensures ∙ ap (λ (x : ℕ). verdict (accumulatorCheck (a .m) (a .marks .now) (a .ms1) x ∷ [])) (c .before .sew-bytes .ensures .0)
@@ -61,9 +55,6 @@ returns-2 c =
     part-passed (elementwiseChecks (s .args .m) (times (s .args .factor))) (source s ∷ target s ∷ []) refl (fits e) (g .accumulator-marks .result)
     (part-refused (source s ∷ []) (target s ∷ []) refl (g .accumulator-marks .result) (searched g)
     (sym (c .before .is-done2 .ensures) ∙ not-true (c .before .is-done2 .result) (c .if2 .taken)))
-
-factor-of-requires : tie.Need-factor-of-requires
-factor-of-requires c κs = search needs
 
 mul-wide : tie.Need-mul-wide
 mul-wide c = let b = c .factor-of .ensures .1 in let d = c .before .before .before .before .sew-bytes .ensures .1 in omega (arith, mul-le-mul b (d .1))
@@ -87,4 +78,4 @@ returns-3 c =
     (c .accumulator-marks2 .ensures ∙ ap₂ (λ (x y : ℕ). verdict (accumulatorCheck (a .m) (a .marks .now) (a .md) (x * y) ∷ [])) (f .factor-of .ensures .0) (g .before .sew-bytes .ensures .0)))
 
 pub check-combine-spec : {M : Type 1} → statement M
-check-combine-spec = tie.close (tie.spec check-elementwise-requires is-done-requires returns sew-bytes-requires accumulator-marks-requires is-done-requires-2 returns-2 factor-of-requires mul-wide accumulator-marks-requires-2 returns-3)
+check-combine-spec = tie.close (tie.spec check-elementwise-requires (λ c _. search needs) returns sew-bytes-requires accumulator-marks-requires (λ c _. search needs) returns-2 (λ c _. search needs) mul-wide accumulator-marks-requires-2 returns-3)

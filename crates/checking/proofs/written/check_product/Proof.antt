@@ -23,9 +23,6 @@ fits c = sym (ap isDone (c .before .before .check-multiply .ensures)) ∙ sym (c
 check-multiply-requires : tie.Need-check-multiply-requires
 check-multiply-requires c κs = c .before .pre .0 .of-machine
 
-is-done-requires : tie.Need-is-done-requires
-is-done-requires c κs = search needs
-
 -- the checks after answers 2 to 4
 abbrev later : (c : tie.Start) → List Check
 later c = let a = c .args in sourceChecks (a .m) (a .marks .now) (a .ms1) (a .ms2) ++ (accumulatorCheck (a .m) (a .marks .now) (a .md) (times (a .factor) * sew (a .m .mtype)) ∷ [])
@@ -39,9 +36,6 @@ returns c =
 source-marks-requires : tie.Need-source-marks-requires
 source-marks-requires c κs = let s = c .before .before .before .before in (s .pre .0, (fits c, s .pre .1 .1))
 
-is-done-requires-2 : tie.Need-is-done-requires-2
-is-done-requires-2 c κs = search needs
-
 returns-2 : tie.Need-returns-2
 returns-2 c =
     let g = c .before .before in
@@ -51,9 +45,6 @@ returns-2 c =
     part-passed (multiplyChecks (a .m) (times (a .factor))) (later s) refl (fits e) (g .source-marks .result)
     (part-refused (sourceChecks (a .m) (a .marks .now) (a .ms1) (a .ms2)) (accumulatorCheck (a .m) (a .marks .now) (a .md) (times (a .factor) * sew (a .m .mtype)) ∷ []) refl (g .source-marks .result) (g .source-marks .ensures)
     (sym (c .before .is-done2 .ensures) ∙ not-true (c .before .is-done2 .result) (c .if2 .taken)))
-
-factor-of-requires : tie.Need-factor-of-requires
-factor-of-requires c κs = search needs
 
 sew-bytes-requires : tie.Need-sew-bytes-requires
 sew-bytes-requires c κs =
@@ -85,4 +76,4 @@ returns-3 c =
     (c .accumulator-marks .ensures ∙ ap₂ (λ (x y : ℕ). verdict (accumulatorCheck (a .m) (a .marks .now) (a .md) (x * y) ∷ [])) (f .factor-of .ensures .0) (w .sew-bytes .ensures .0)))
 
 pub check-product-spec : {M : Type 1} → statement M
-check-product-spec = tie.close (tie.spec check-multiply-requires is-done-requires returns source-marks-requires is-done-requires-2 returns-2 factor-of-requires sew-bytes-requires mul-wide accumulator-marks-requires returns-3)
+check-product-spec = tie.close (tie.spec check-multiply-requires (λ c _. search needs) returns source-marks-requires (λ c _. search needs) returns-2 (λ c _. search needs) sew-bytes-requires mul-wide accumulator-marks-requires returns-3)

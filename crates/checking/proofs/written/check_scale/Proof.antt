@@ -28,9 +28,6 @@ source c t = let a = c .args in marked-check t (a .marks .now) (accAt (ours (a .
 check-elementwise-requires : tie.Need-check-elementwise-requires
 check-elementwise-requires c κs = c .before .pre .0 .of-machine
 
-is-done-requires : tie.Need-is-done-requires
-is-done-requires c κs = search needs
-
 returns : tie.Need-returns
 returns c =
     let s = c .before .before .before .before in
@@ -61,4 +58,4 @@ returns-3 c =
     (c .accumulator-marks .ensures ∙ ap (λ (x : ℕ). verdict (accumulatorCheck (a .m) (a .marks .now) (a .ms1) x ∷ [])) (w .sew-bytes .ensures .0) ∙ ap (λ (t : Bool). verdict (source s t)) (sym (w .before .if2 .left)))
 
 pub check-scale-spec : {M : Type 1} → statement M
-check-scale-spec = tie.close (tie.spec check-elementwise-requires is-done-requires returns returns-2 sew-bytes-requires accumulator-marks-requires returns-3)
+check-scale-spec = tie.close (tie.spec check-elementwise-requires (λ c _. search needs) returns returns-2 sew-bytes-requires accumulator-marks-requires returns-3)

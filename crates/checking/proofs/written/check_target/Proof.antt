@@ -26,17 +26,11 @@ later c = let a = c .args in accumulatorCheck (a .m) (a .marks .now) (a .md) (ti
 check-multiply-requires : tie.Need-check-multiply-requires
 check-multiply-requires c κs = c .before .pre .0 .of-machine
 
-is-done-requires : tie.Need-is-done-requires
-is-done-requires c κs = search needs
-
 returns : tie.Need-returns
 returns c =
     let s = c .before .before .before .before in
     part-refused (multiplyChecks (s .args .m) (times (s .args .factor))) (later s) refl (c .before .before .check-multiply .result) (c .before .before .check-multiply .ensures)
     (sym (c .before .is-done .ensures) ∙ not-true (c .before .is-done .result) (c .if1 .taken))
-
-factor-of-requires : tie.Need-factor-of-requires
-factor-of-requires c κs = search needs
 
 sew-bytes-requires : tie.Need-sew-bytes-requires
 sew-bytes-requires c κs =
@@ -65,4 +59,4 @@ returns-2 c =
     (c .accumulator-marks .ensures ∙ ap₂ (λ (x y : ℕ). verdict (accumulatorCheck (a .m) (a .marks .now) (a .md) (x * y) ∷ [])) (f .factor-of .ensures .0) (w .sew-bytes .ensures .0))
 
 pub check-target-spec : {M : Type 1} → statement M
-check-target-spec = tie.close (tie.spec check-multiply-requires is-done-requires returns factor-of-requires sew-bytes-requires mul-wide accumulator-marks-requires returns-2)
+check-target-spec = tie.close (tie.spec check-multiply-requires (λ c _. search needs) returns (λ c _. search needs) sew-bytes-requires mul-wide accumulator-marks-requires returns-2)

@@ -35,9 +35,6 @@ first-unmarked-requires c κs =
     let a = s .args in
     rows-room (length (a .marks .now)) (c .tile-of .result) (c .before .sew-bytes .result) (a-room (a .m) (a .marks .now) (s .pre .0) (times (a .factor)) (s .pre .1 .0) (a .ms1) (c .before .sew-bytes .result) (s .pre .1 .1 .0) (c .before .sew-bytes .ensures .0) (c .tile-of .result) (c .tile-of .ensures))
 
-is-done-requires : tie.Need-is-done-requires
-is-done-requires c κs = search needs
-
 returns-3 : tie.Need-returns-3
 returns-3 c =
     let t = c .before .before .before in
@@ -74,4 +71,4 @@ returns-4 c =
     (y .tile-of2 .result) (y .tile-of2 .ensures) (c .first-unmarked2 .result) (c .first-unmarked2 .ensures)
 
 pub source-marks-spec : {M : Type 1} → statement M
-source-marks-spec = tie.close (tie.spec returns returns-2 sew-bytes-requires tile-of-requires first-unmarked-requires is-done-requires returns-3 tile-of-requires-2 first-unmarked-requires-2 returns-4)
+source-marks-spec = tie.close (tie.spec returns returns-2 sew-bytes-requires tile-of-requires first-unmarked-requires (λ c _. search needs) returns-3 tile-of-requires-2 first-unmarked-requires-2 returns-4)

@@ -41,9 +41,6 @@ returns-6 c =
     let a = c .before .before .before .before .args in
     rw (ne-eqb (a .f) 0 (c .before .before .before .if1 .left), ne-eqb (a .f) 1 (c .before .before .if3 .left), eq-eqb (a .f) 8 (c .before .if5 .taken), ne-eqb (a .version) 4 (c .if6 .left))
 
-add-result : tie.Need-add-result
-add-result c = search needs
-
 returns-7 : tie.Need-returns-7
 unfolding after
 returns-7 c =
@@ -53,4 +50,4 @@ returns-7 c =
 pub after-spec : {M : Type 1} → statement M
 after-spec =
     tie.close
-    (tie.spec returns returns-2 returns-3 returns-4 returns-5 returns-6 add-result returns-7)
+    (tie.spec returns returns-2 returns-3 returns-4 returns-5 returns-6 (λ c. search needs) returns-7)

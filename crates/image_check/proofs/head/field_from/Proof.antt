@@ -17,12 +17,6 @@ returns c =
     let a = k .before .before .args in
     field-bad (a .s .now) (a .at) (a .t) (n .result) (n .ensures) (not-true (n .result .good) (c .before .if1 .taken))
 
-put-field-requires : tie.Need-put-field-requires
-put-field-requires c κs = search needs
-
-after-requires : tie.Need-after-requires
-after-requires c κs = search needs
-
 row-of-requires : tie.Need-row-of-requires
 row-of-requires c κs =
     let k = c .before .before .before .before .before in
@@ -45,7 +39,7 @@ field-from-spec =
     (tie.spec
     number-in-requires
     returns
-    put-field-requires
-    after-requires
+    (λ c _. search needs)
+    (λ c _. search needs)
     row-of-requires
     returns-2)

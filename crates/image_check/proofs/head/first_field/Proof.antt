@@ -4,12 +4,9 @@ use borrow.Author.Needs.{needs}
 use Rattle.image_check.proofs.head.first_field.Statement.{statement}
 use Rattle.image_check.proofs.head.first_field.Tie as tie
 
-permitted-requires : tie.Need-permitted-requires
-permitted-requires c κs = search needs
-
 returns : tie.Need-returns
 unfolding rowAt
 returns c = rw (c .permitted .ensures)
 
 pub first-field-spec : {M : Type 1} → statement M
-first-field-spec = tie.close (tie.spec permitted-requires returns)
+first-field-spec = tie.close (tie.spec (λ c _. search needs) returns)

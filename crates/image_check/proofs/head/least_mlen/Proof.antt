@@ -4,20 +4,11 @@ use borrow.Author.Needs.{needs}
 use Rattle.image_check.proofs.head.least_mlen.Statement.{statement}
 use Rattle.image_check.proofs.head.least_mlen.Tie as tie
 
-add-result : tie.Need-add-result
-add-result c = search needs
-
 returns : tie.Need-returns
 returns c = let a = c .before .args in least-other (a .version) (a .elen) (a .rlen) (c .if1 .taken)
 
-add-result-2 : tie.Need-add-result-2
-add-result-2 c = search needs
-
 returns-2 : tie.Need-returns-2
 returns-2 c = let a = c .before .before .args in least-wide (a .version) (a .elen) (a .rlen) ((c .before .if1 .left)) (c .if2 .taken)
-
-add-result-3 : tie.Need-add-result-3
-add-result-3 c = search needs
 
 returns-3 : tie.Need-returns-3
 returns-3 c = let a = c .before .before .before .args in least-far (a .version) (a .elen) (a .rlen) ((c .before .before .if1 .left)) (c .if3 .taken)
@@ -27,4 +18,4 @@ returns-4 c = let a = c .before .before .before .args in least-near (a .version)
 
 pub least-mlen-spec : {M : Type 1} → statement M
 least-mlen-spec =
-    tie.close (tie.spec add-result returns add-result-2 returns-2 add-result-3 returns-3 returns-4)
+    tie.close (tie.spec (λ c. search needs) returns (λ c. search needs) returns-2 (λ c. search needs) returns-3 returns-4)

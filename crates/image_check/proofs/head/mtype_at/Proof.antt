@@ -8,29 +8,14 @@ use borrow.Author.Needs.{needs}
 use Rattle.image_check.proofs.head.mtype_at.Statement.{statement}
 use Rattle.image_check.proofs.head.mtype_at.Tie as tie
 
-shared-slice-read-wide : tie.Need-shared-slice-read-wide
-shared-slice-read-wide c = search needs
-
-wide-requires : tie.Need-wide-requires
-wide-requires c κs = search needs
-
 sub-if3 : tie.Need-sub-if3
 sub-if3 c = let s = c .before .before .before .before .before in omega (arith, s .pre)
-
-add-found : tie.Need-add-found
-add-found c = search needs
-
-found-requires : tie.Need-found-requires
-found-requires c κs = search needs
 
 returns : tie.Need-returns
 returns c =
     let s = c .before .before .before .before .before .before .before in
     let w = c .before .before .before .wide in
     c .found .ensures ∙ ap plain (mtype-small (s .args .s .now) (s .args .elen) (s .args .at) (s .pre) (w .result) (c .before .before .before .before .before .if1 .taken) (w .ensures) (c .before .if3 .taken))
-
-fault-requires : tie.Need-fault-requires
-fault-requires c κs = search needs
 
 returns-2 : tie.Need-returns-2
 returns-2 c =
@@ -44,20 +29,11 @@ sub-if5 c = let s = c .before .before .before .before .before .before .before in
 add-if5 : tie.Need-add-if5
 add-if5 c = let s = c .before .before .before .before .before .before .before in omega (arith, s .pre)
 
-add-found-2 : tie.Need-add-found-2
-add-found-2 c = search needs
-
-found-requires-2 : tie.Need-found-requires-2
-found-requires-2 c κs = search needs
-
 returns-3 : tie.Need-returns-3
 returns-3 c =
     let s = c .before .before .before .before .before .before .before .before .before in
     let w = c .before .before .before .before .before .wide in
     c .found2 .ensures ∙ ap plain (mtype-eight (s .args .s .now) (s .args .elen) (s .args .at) (s .pre) (w .result) (c .before .before .before .before .before .before .before .if1 .taken) (w .ensures) (omega (arith, c .before .before .if4 .left)) (c .before .if5 .taken))
-
-fault-requires-2 : tie.Need-fault-requires-2
-fault-requires-2 c κs = search needs
 
 returns-4 : tie.Need-returns-4
 returns-4 c =
@@ -65,26 +41,17 @@ returns-4 c =
     let w = c .before .before .before .before .before .wide in
     c .fault2 .ensures ∙ ap plain (mtype-none (s .args .s .now) (s .args .elen) (s .args .at) (s .pre) (w .result) (c .before .before .before .before .before .before .before .if1 .taken) (w .ensures) (c .before .before .before .before .if2 .taken) (omega (arith, c .before .before .before .if3 .left)) (inr (omega (arith, c .before .if5 .left))))
 
-number-at-requires : tie.Need-number-at-requires
-number-at-requires c κs = search needs
-
 returns-5 : tie.Need-returns-5
 returns-5 c =
     let s = c .before .before .before .before .before .before .before in
     let w = c .before .before .before .wide in
     c .number-at .ensures ∙ ap plain (mtype-wide (s .args .s .now) (s .args .elen) (s .args .at) (s .pre) (w .result) (c .before .before .before .before .before .if1 .taken) (w .ensures) (c .before .if6 .taken))
 
-fault-requires-3 : tie.Need-fault-requires-3
-fault-requires-3 c κs = search needs
-
 returns-6 : tie.Need-returns-6
 returns-6 c =
     let s = c .before .before .before .before .before .before .before in
     let w = c .before .before .before .wide in
     c .fault3 .ensures ∙ ap plain (mtype-odd (s .args .s .now) (s .args .elen) (s .args .at) (s .pre) (w .result) (c .before .before .before .before .before .if1 .taken) (w .ensures) (omega (arith, c .before .before .if2 .left, c .before .if6 .left)) (omega (arith, w .ensures, c .before .before .before .before .shared-slice-known2 .given (s .args .at))))
-
-fault-requires-4 : tie.Need-fault-requires-4
-fault-requires-4 c κs = search needs
 
 returns-7 : tie.Need-returns-7
 returns-7 c =
@@ -95,24 +62,24 @@ pub mtype-at-spec : {M : Type 1} → statement M
 mtype-at-spec =
     tie.close
     (tie.spec
-    shared-slice-read-wide
-    wide-requires
+    (λ c. search needs)
+    (λ c _. search needs)
     sub-if3
-    add-found
-    found-requires
+    (λ c. search needs)
+    (λ c _. search needs)
     returns
-    fault-requires
+    (λ c _. search needs)
     returns-2
     sub-if5
     add-if5
-    add-found-2
-    found-requires-2
+    (λ c. search needs)
+    (λ c _. search needs)
     returns-3
-    fault-requires-2
+    (λ c _. search needs)
     returns-4
-    number-at-requires
+    (λ c _. search needs)
     returns-5
-    fault-requires-3
+    (λ c _. search needs)
     returns-6
-    fault-requires-4
+    (λ c _. search needs)
     returns-7)

@@ -6,9 +6,6 @@ use borrow.Author.Needs.{needs}
 use Rattle.image_check.proofs.head.number_in.Statement.{statement}
 use Rattle.image_check.proofs.head.number_in.Tie as tie
 
-number-at-requires : tie.Need-number-at-requires
-number-at-requires c κs = search needs
-
 returns : tie.Need-returns
 unfolding numberIn
 returns c =
@@ -24,17 +21,11 @@ returns-2 c =
     let k = c .before .before .before .before .before .before .args .row .kind in
     c .mtype-at .ensures ∙ rw (ne-eqb k 0 (c .before .before .before .if1 .left), eq-eqb k 1 (c .before .if2 .taken))
 
-count-at-requires : tie.Need-count-at-requires
-count-at-requires c κs = search needs
-
 returns-3 : tie.Need-returns-3
 unfolding numberIn
 returns-3 c =
     let k = c .before .before .before .before .before .before .before .before .args .row .kind in
     c .count-at .ensures ∙ rw (ne-eqb k 0 (c .before .before .before .before .before .if1 .left), ne-eqb k 1 (c .before .before .before .if2 .left), eq-eqb k 2 (c .before .if3 .taken))
-
-ranges-at-requires : tie.Need-ranges-at-requires
-ranges-at-requires c κs = search needs
 
 returns-4 : tie.Need-returns-4
 unfolding numberIn
@@ -46,11 +37,11 @@ pub number-in-spec : {M : Type 1} → statement M
 number-in-spec =
     tie.close
     (tie.spec
-    number-at-requires
+    (λ c _. search needs)
     returns
     mtype-at-requires
     returns-2
-    count-at-requires
+    (λ c _. search needs)
     returns-3
-    ranges-at-requires
+    (λ c _. search needs)
     returns-4)

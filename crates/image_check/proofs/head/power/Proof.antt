@@ -8,9 +8,6 @@ use borrow.Author.Needs.{needs}
 use Rattle.image_check.proofs.head.power.Statement.{statement}
 use Rattle.image_check.proofs.head.power.Tie as tie
 
-shl-result : tie.Need-shl-result
-shl-result c = search needs
-
 returns : tie.Need-returns
 returns c =
     let k = c .args .k in
@@ -18,4 +15,4 @@ returns c =
     mod-eq-of-lt (omega (arith, w)) ∙ omega arith
 
 pub power-spec : {M : Type 1} → statement M
-power-spec = tie.close (tie.spec shl-result returns)
+power-spec = tie.close (tie.spec (λ c. search needs) returns)

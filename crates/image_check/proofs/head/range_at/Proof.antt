@@ -9,27 +9,12 @@ use borrow.Author.Needs.{needs}
 use Rattle.image_check.proofs.head.range_at.Statement.{statement}
 use Rattle.image_check.proofs.head.range_at.Tie as tie
 
-number-at-requires : tie.Need-number-at-requires
-number-at-requires c κs = search needs
-
-no-range-requires : tie.Need-no-range-requires
-no-range-requires c κs = search needs
-
 returns : tie.Need-returns
 unfolding rangeAt
 returns c =
     let n = c .before .before .before .number-at in
     let a = c .before .before .before .before .before .args in
     c .no-range .ensures ∙ rw (bad-is (n .result) (numberAt (a .s .now) (a .at) 0 18446744073709551615) (n .ensures) (not-true (n .result .good) (c .before .if1 .taken)))
-
-sub-number-at : tie.Need-sub-number-at
-sub-number-at c = search needs
-
-number-at-requires-2 : tie.Need-number-at-requires-2
-number-at-requires-2 c κs = search needs
-
-no-range-requires-2 : tie.Need-no-range-requires-2
-no-range-requires-2 c κs = search needs
 
 returns-2 : tie.Need-returns-2
 unfolding rangeAt
@@ -51,11 +36,11 @@ pub range-at-spec : {M : Type 1} → statement M
 range-at-spec =
     tie.close
     (tie.spec
-    number-at-requires
-    no-range-requires
+    (λ c _. search needs)
+    (λ c _. search needs)
     returns
-    sub-number-at
-    number-at-requires-2
-    no-range-requires-2
+    (λ c. search needs)
+    (λ c _. search needs)
+    (λ c _. search needs)
     returns-2
     returns-3)

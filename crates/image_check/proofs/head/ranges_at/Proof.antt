@@ -18,12 +18,6 @@ abbrev μ-loop : tie.MeasureT-loop
 loop-holds : tie.Need-loop-holds Inv-loop μ-loop
 loop-holds c = refl
 
-range-at-requires : tie.Need-range-at-requires Inv-loop μ-loop
-range-at-requires c κs = search needs
-
-fault-requires : tie.Need-fault-requires Inv-loop μ-loop
-fault-requires c κs = search needs
-
 returns : tie.Need-returns Inv-loop μ-loop
 unfolding rangesAt
 returns c =
@@ -45,9 +39,6 @@ loop-again c =
     let a = c .before .before .before .before .before .before .args in
     ranges-next (a .s .now) (l .left) (l .at) (r .result .start) (r .result .size) (r .result .at) (c .before .before .before .loop-test .taken) (range-good (r .result) _ (r .ensures) (not-false (r .result .good) (c .if1 .left))) ∙ l .inv
 
-found-requires : tie.Need-found-requires Inv-loop μ-loop
-found-requires c κs = search needs
-
 returns-2 : tie.Need-returns-2 Inv-loop μ-loop
 unfolding rangesAt
 returns-2 c =
@@ -62,11 +53,11 @@ ranges-at-spec =
     Inv-loop
     μ-loop
     loop-holds
-    range-at-requires
-    fault-requires
+    (λ c _. search needs)
+    (λ c _. search needs)
     returns
     sub-left
     loop-less
     loop-again
-    found-requires
+    (λ c _. search needs)
     returns-2)

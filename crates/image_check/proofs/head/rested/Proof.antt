@@ -3,11 +3,8 @@ use borrow.Author.Needs.{needs}
 use Rattle.image_check.proofs.head.rested.Statement.{statement}
 use Rattle.image_check.proofs.head.rested.Tie as tie
 
-permitted-requires : tie.Need-permitted-requires
-permitted-requires c κs = search needs
-
 returns : tie.Need-returns
 returns c = rw (c .permitted .ensures)
 
 pub rested-spec : {M : Type 1} → statement M
-rested-spec = tie.close (tie.spec permitted-requires returns)
+rested-spec = tie.close (tie.spec (λ c _. search needs) returns)

@@ -29,24 +29,6 @@ there c =
     let t = took (a .s .now) (g .result .at) 1 (a .room - (g .result .value + 2 * (a .left - 1))) (n .result .value) (n .result .at) (good-is (n .result) (numberAt (a .s .now) (g .result .at) 1 (a .room - (g .result .value + 2 * (a .left - 1)))) (n .ensures) (not-false (n .result .good) (c .if2 .left))) in
     t .behind (gap-read e .behind (e .before .before .before .before .pre .0))
 
-sub-later : tie.Need-sub-later
-sub-later c = search needs
-
-mul-later : tie.Need-mul-later
-mul-later c = search needs
-
-add-number-at : tie.Need-add-number-at
-add-number-at c = search needs
-
-sub-number-at : tie.Need-sub-number-at
-sub-number-at c = search needs
-
-number-at-requires : tie.Need-number-at-requires
-number-at-requires c κs = search needs
-
-no-run-requires : tie.Need-no-run-requires
-no-run-requires c κs = search needs
-
 returns : tie.Need-returns
 unfolding nextAt
 returns c =
@@ -60,12 +42,6 @@ add-number-at-2 c = let t = gap-read (c .before) in omega arith
 sub-number-at-2 : tie.Need-sub-number-at-2
 sub-number-at-2 c = let t = gap-read (c .before) in omega arith
 
-number-at-requires-2 : tie.Need-number-at-requires-2
-number-at-requires-2 c κs = search needs
-
-no-run-requires-2 : tie.Need-no-run-requires-2
-no-run-requires-2 c κs = search needs
-
 returns-2 : tie.Need-returns-2
 unfolding nextAt
 returns-2 c =
@@ -76,9 +52,6 @@ returns-2 c =
 
 sub-if3 : tie.Need-sub-if3
 sub-if3 c = there (c .before)
-
-no-run-requires-3 : tie.Need-no-run-requires-3
-no-run-requires-3 c κs = search needs
 
 returns-3 : tie.Need-returns-3
 unfolding nextAt
@@ -102,19 +75,19 @@ pub next-run-spec : {M : Type 1} → statement M
 next-run-spec =
     tie.close
     (tie.spec
-    sub-later
-    mul-later
-    add-number-at
-    sub-number-at
-    number-at-requires
-    no-run-requires
+    (λ c. search needs)
+    (λ c. search needs)
+    (λ c. search needs)
+    (λ c. search needs)
+    (λ c _. search needs)
+    (λ c _. search needs)
     returns
     add-number-at-2
     sub-number-at-2
-    number-at-requires-2
-    no-run-requires-2
+    (λ c _. search needs)
+    (λ c _. search needs)
     returns-2
     sub-if3
-    no-run-requires-3
+    (λ c _. search needs)
     returns-3
     returns-4)

@@ -30,9 +30,6 @@ run-ok c =
     let a = st .args in
     next-known (a .s .now) (a .at) (a .t .left) (min (a .t .kept) 1) (a .t .room) (st .pre .1 .0) (st .pre .0) (least-one (a .t .kept)) (st .pre .1 .1) (n .gap) (n .size) (n .at) (run-is c)
 
-smaller-requires : tie.Need-smaller-requires
-smaller-requires c κs = search needs
-
 next-run-requires : tie.Need-next-run-requires
 next-run-requires c κs =
     let st = c .before .before in
@@ -51,9 +48,6 @@ returns c =
 add-end : tie.Need-add-end
 add-end c = let r = run-ok (c .before) in omega (arith, r .in-image)
 
-sub-t6 : tie.Need-sub-t6
-sub-t6 c = search needs
-
 add-t9 : tie.Need-add-t9
 add-t9 c = let st = c .before .before .before .before .before .before .before .before in omega (arith, st .pre .1 .3, st .pre .0)
 
@@ -71,11 +65,11 @@ pub run-from-spec : {M : Type 1} → statement M
 run-from-spec =
     tie.close
     (tie.spec
-    smaller-requires
+    (λ c _. search needs)
     next-run-requires
     returns
     add-end
-    sub-t6
+    (λ c. search needs)
     add-t9
     add-t10
     sub-t11

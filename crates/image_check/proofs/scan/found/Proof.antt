@@ -3,11 +3,8 @@ use borrow.Author.Needs.{needs}
 use Rattle.image_check.proofs.scan.found.Statement.{statement}
 use Rattle.image_check.proofs.scan.found.Tie as tie
 
-rested-requires : tie.Need-rested-requires
-rested-requires c κs = search needs
-
 returns : tie.Need-returns
 returns c = rw (c .rested .ensures)
 
 pub found-spec : {M : Type 1} → statement M
-found-spec = tie.close (tie.spec rested-requires returns)
+found-spec = tie.close (tie.spec (λ c _. search needs) returns)

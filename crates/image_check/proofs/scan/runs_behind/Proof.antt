@@ -12,9 +12,6 @@ returns : tie.Need-returns
 unfolding runsBehind
 returns c = rw (ne-eqb (c .before .before .args .f .next) 12 (c .if1 .taken))
 
-power-requires : tie.Need-power-requires
-power-requires c κs = search needs
-
 mul-t4 : tie.Need-mul-t4
 mul-t4 c =
     let st = c .before .before .before in
@@ -26,4 +23,4 @@ unfolding runsBehind
 returns-2 c = rw (eq-eqb (c .before .before .before .args .f .next) 12 (c .before .if1 .left), c .power .ensures)
 
 pub runs-behind-spec : {M : Type 1} → statement M
-runs-behind-spec = tie.close (tie.spec returns power-requires mul-t4 returns-2)
+runs-behind-spec = tie.close (tie.spec returns (λ c _. search needs) mul-t4 returns-2)

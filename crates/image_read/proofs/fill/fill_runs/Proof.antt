@@ -55,9 +55,6 @@ loop-holds c =
       rw len (filled-start (ones (bodyAt s (a .start) (a .count) 0 (length regs))) (a .marks .now) ∙ ap (λ (x : ℕ). over (spread x (ones (bodyAt s (a .start) (a .count) 0 (length regs)))) (a .marks .now)) (st .pre .1 .1 .1 .0)),
     )
 
-sub-next-run : tie.Need-sub-next-run Inv-loop μ-loop
-sub-next-run c = omega arith
-
 next-run-requires : tie.Need-next-run-requires Inv-loop μ-loop
 next-run-requires c κs =
     let l = c .before .loop in
@@ -142,7 +139,7 @@ fill-runs-spec =
     Inv-loop
     μ-loop
     loop-holds
-    sub-next-run
+    (λ c. omega arith)
     next-run-requires
     same-length
     same-length-2

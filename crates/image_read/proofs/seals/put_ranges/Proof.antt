@@ -27,9 +27,6 @@ loop-holds c =
     let all : st .args .count - 0 ≡ st .args .count = omega arith in
     (refl, omega arith, rw all (st .pre .1 .ends), rw all)
 
-range-at-requires : tie.Need-range-at-requires Inv-loop μ-loop
-range-at-requires c κs = search needs
-
 same-length : tie.Need-same-length Inv-loop μ-loop
 same-length c = c .before .before .before .before .loop .inv .0
 
@@ -86,7 +83,7 @@ put-ranges-spec =
     Inv-loop
     μ-loop
     loop-holds
-    range-at-requires
+    (λ c _. search needs)
     same-length
     returns
     put-range-requires

@@ -12,18 +12,6 @@ use borrow.Author.Needs.{needs}
 use Rattle.image_read.proofs.seals.put_seals.Statement.{statement}
 use Rattle.image_read.proofs.seals.put_seals.Tie as tie
 
-write8-requires : tie.Need-write8-requires
-write8-requires c κs = search needs
-
-put-ranges-requires : tie.Need-put-ranges-requires
-put-ranges-requires c κs = search needs
-
-clear-slots-requires : tie.Need-clear-slots-requires
-clear-slots-requires c κs = search needs
-
-same-length : tie.Need-same-length
-same-length c = search needs
-
 returns : tie.Need-returns
 returns c =
     let e = c .before .before in
@@ -39,4 +27,4 @@ returns c =
 pub put-seals-spec : {M : Type 1} → statement M
 put-seals-spec =
     tie.close
-    (tie.spec write8-requires put-ranges-requires clear-slots-requires same-length returns)
+    (tie.spec (λ c _. search needs) (λ c _. search needs) (λ c _. search needs) (λ c. search needs) returns)

@@ -20,15 +20,6 @@ abbrev μ-loop : tie.MeasureT-loop
 loop-holds : tie.Need-loop-holds Inv-loop μ-loop
 loop-holds c = (omega arith, omega arith, omega arith)
 
-mul-number-size : tie.Need-mul-number-size Inv-loop μ-loop
-mul-number-size c = omega arith
-
-shared-slice-read-number-size : tie.Need-shared-slice-read-number-size Inv-loop μ-loop
-shared-slice-read-number-size c = omega arith
-
-number-size-requires : tie.Need-number-size-requires Inv-loop μ-loop
-number-size-requires c κs = search needs
-
 add-size : tie.Need-add-size Inv-loop μ-loop
 add-size c =
     let l = c .before .before .before .loop in
@@ -64,9 +55,9 @@ numbers-size-spec =
     Inv-loop
     μ-loop
     loop-holds
-    mul-number-size
-    shared-slice-read-number-size
-    number-size-requires
+    (λ c. omega arith)
+    (λ c. omega arith)
+    (λ c _. search needs)
     add-size
     add-i
     loop-less

@@ -26,9 +26,6 @@ abbrev μ-loop : tie.MeasureT-loop
 loop-holds : tie.Need-loop-holds Inv-loop μ-loop
 loop-holds c = (omega arith, refl, refl, refl)
 
-stretch-end-requires : tie.Need-stretch-end-requires Inv-loop μ-loop
-stretch-end-requires c κs = omega arith
-
 same-length : tie.Need-same-length Inv-loop μ-loop
 same-length c = c .before .before .before .loop .inv .1
 
@@ -181,7 +178,7 @@ put-runs-spec =
     Inv-loop
     μ-loop
     loop-holds
-    stretch-end-requires
+    (λ c _. omega arith)
     same-length
     returns
     stretch-end-requires-2

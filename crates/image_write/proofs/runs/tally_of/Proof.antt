@@ -24,9 +24,6 @@ abbrev μ-loop : tie.MeasureT-loop
 loop-holds : tie.Need-loop-holds Inv-loop μ-loop
 loop-holds c = (omega arith, omega arith, omega arith, λ registers n. (omega arith, omega arith))
 
-stretch-end-requires : tie.Need-stretch-end-requires Inv-loop μ-loop
-stretch-end-requires c κs = omega arith
-
 returns : tie.Need-returns Inv-loop μ-loop
 returns c =
     let st = c .before .before .before .before .before in
@@ -49,12 +46,6 @@ sub-size c = omega (arith, c .stretch-end2 .ensures .to .from-there)
 
 sub-number-size : tie.Need-sub-number-size Inv-loop μ-loop
 sub-number-size c = omega (arith, c .before .before .stretch-end .ensures .to .from-there)
-
-number-size-requires : tie.Need-number-size-requires Inv-loop μ-loop
-number-size-requires c κs = search needs
-
-number-size-requires-2 : tie.Need-number-size-requires-2 Inv-loop μ-loop
-number-size-requires-2 c κs = search needs
 
 -- the run that was found, before the place of the next turn
 found : (c : tie.After-number-size2 Inv-loop μ-loop) → let l = c .before .before .before .before .before .before .loop in
@@ -112,13 +103,13 @@ tally-of-spec =
     Inv-loop
     μ-loop
     loop-holds
-    stretch-end-requires
+    (λ c _. omega arith)
     returns
     stretch-end-requires-2
     sub-size
     sub-number-size
-    number-size-requires
-    number-size-requires-2
+    (λ c _. search needs)
+    (λ c _. search needs)
     add-bytes
     add-bytes-2
     add-bytes-3

@@ -17,9 +17,6 @@ Inv-loop block count numbers₀ i₀ numbers i = (i ≤ count) × (length number
 abbrev μ-loop : tie.MeasureT-loop
 μ-loop block count numbers₀ i₀ numbers i = count - i
 
-count-of-requires : tie.Need-count-of-requires Inv-loop μ-loop
-count-of-requires c κs = search needs
-
 loop-holds : tie.Need-loop-holds Inv-loop μ-loop
 loop-holds c = (omega arith, refl, refl)
 
@@ -98,7 +95,7 @@ bounds-of-spec =
     (tie.spec
     Inv-loop
     μ-loop
-    count-of-requires
+    (λ c _. search needs)
     loop-holds
     slot-at-requires
     read8-requires

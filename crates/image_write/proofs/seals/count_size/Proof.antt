@@ -9,14 +9,8 @@ use Rattle.image_write.proofs.seals.count_size.Tie as tie
 returns : tie.Need-returns
 returns c = (ap length (count-none (c .before .args .count) (c .if1 .taken)), omega arith)
 
-slice-aggregate-numbers-size : tie.Need-slice-aggregate-numbers-size
-slice-aggregate-numbers-size c = search needs
-
-numbers-size-requires : tie.Need-numbers-size-requires
-numbers-size-requires c κs = search needs
-
 returns-2 : tie.Need-returns-2
 returns-2 c = let i = c .before .before in (c .numbers-size .ensures .0 ∙ ap length (count-listed (i .before .args .count) (i .if1 .left)), omega (arith, c .numbers-size .ensures .1))
 
 pub count-size-spec : {M : Type 1} → statement M
-count-size-spec = tie.close (tie.spec returns slice-aggregate-numbers-size numbers-size-requires returns-2)
+count-size-spec = tie.close (tie.spec returns (λ c. search needs) (λ c _. search needs) returns-2)

@@ -20,9 +20,6 @@ put-number-requires c κs =
     let st = c .before .before .before in
     omega (arith, st .pre, ap length (count-some (st .args .count) (c .before .if1 .left)))
 
-same-length : tie.Need-same-length
-same-length c = search needs
-
 returns-2 : tie.Need-returns-2
 returns-2 c =
     let p = c .before .before in
@@ -32,4 +29,4 @@ returns-2 c =
     (omega (arith, p .put-number .ensures .0, ap length e), p .put-number .ensures .1 ∙ ap (sets (a .room .now) (a .at)) e)
 
 pub put-count-spec : {M : Type 1} → statement M
-put-count-spec = tie.close (tie.spec returns put-number-requires same-length returns-2)
+put-count-spec = tie.close (tie.spec returns put-number-requires (λ c. search needs) returns-2)

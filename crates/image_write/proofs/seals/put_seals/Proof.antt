@@ -29,23 +29,11 @@ part c =
 many : (n : tie.After-count-of) → length (sealsIn (n .before .before .before .args .block .now)) ≡ n .count-of .result
 many n = let st = n .before .before .before in seals-many (st .args .block .now) (st .pre .0) ∙ sym (n .count-of .ensures .0)
 
-count-of-requires : tie.Need-count-of-requires
-count-of-requires c κs = search needs
-
-bounds-of-requires : tie.Need-bounds-of-requires
-bounds-of-requires c κs = search needs
-
-mul-end : tie.Need-mul-end
-mul-end c = search needs
-
 put-count-requires : tie.Need-put-count-requires
 put-count-requires c κs =
     let n = c .before .before in
     let st = n .before .before .before in
     omega (arith, st .pre .1, seal-long (sealsIn (st .args .block .now)) (n .count-of .result) (many n))
-
-array-share-prefix-numbers : tie.Need-array-share-prefix-numbers
-array-share-prefix-numbers c = search needs
 
 slice-aggregate-put-numbers : tie.Need-slice-aggregate-put-numbers
 slice-aggregate-put-numbers c = sym (taken (c .before .before .before .before .before .before))
@@ -58,9 +46,6 @@ put-numbers-requires c κs =
     let st = n .before .before .before in
     let same = ap (λ (ns : List ℕ). length (encodeAll ns [])) (part b) in
     (omega (arith, taken b, n .count-of .ensures .1), omega (arith, same, st .pre .1, p .put-count .ensures .0, p .put-count .kept .0, seal-long (sealsIn (st .args .block .now)) (n .count-of .result) (many n)))
-
-same-length : tie.Need-same-length
-same-length c = search needs
 
 returns : tie.Need-returns
 returns c =
@@ -84,12 +69,12 @@ pub put-seals-spec : {M : Type 1} → statement M
 put-seals-spec =
     tie.close
     (tie.spec
-    count-of-requires
-    bounds-of-requires
-    mul-end
+    (λ c _. search needs)
+    (λ c _. search needs)
+    (λ c. search needs)
     put-count-requires
-    array-share-prefix-numbers
+    (λ c. search needs)
     slice-aggregate-put-numbers
     put-numbers-requires
-    same-length
+    (λ c. search needs)
     returns)

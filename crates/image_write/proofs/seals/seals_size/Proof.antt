@@ -16,21 +16,6 @@ taken c =
     let st = n .before .before in
     taken-many (st .args .block .now) (st .pre) (n .count-of .result) (c .bounds-of .result) (n .count-of .ensures .0) (c .bounds-of .ensures)
 
-count-of-requires : tie.Need-count-of-requires
-count-of-requires c κs = search needs
-
-bounds-of-requires : tie.Need-bounds-of-requires
-bounds-of-requires c κs = search needs
-
-mul-end : tie.Need-mul-end
-mul-end c = search needs
-
-count-size-requires : tie.Need-count-size-requires
-count-size-requires c κs = search needs
-
-array-share-prefix-numbers : tie.Need-array-share-prefix-numbers
-array-share-prefix-numbers c = search needs
-
 slice-aggregate-numbers-size : tie.Need-slice-aggregate-numbers-size
 slice-aggregate-numbers-size c = sym (taken (c .before .before))
 
@@ -59,11 +44,11 @@ pub seals-size-spec : {M : Type 1} → statement M
 seals-size-spec =
     tie.close
     (tie.spec
-    count-of-requires
-    bounds-of-requires
-    mul-end
-    count-size-requires
-    array-share-prefix-numbers
+    (λ c _. search needs)
+    (λ c _. search needs)
+    (λ c. search needs)
+    (λ c _. search needs)
+    (λ c. search needs)
     slice-aggregate-numbers-size
     numbers-size-requires
     add-result

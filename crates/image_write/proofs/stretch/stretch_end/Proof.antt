@@ -5,34 +5,10 @@ use Rattle.image_write.proofs.StretchLaws.{joined}
 use Rattle.image_write.proofs.stretch.stretch_end.Statement.{statement}
 use Rattle.image_write.proofs.stretch.stretch_end.Tie as tie
 
-sub-if1 : tie.Need-sub-if1
-sub-if1 c = search needs
-
-end-before-requires : tie.Need-end-before-requires
-end-before-requires c κs = search needs
-
-returns : tie.Need-returns
-returns c = search needs
-
-add-end-before : tie.Need-add-end-before
-add-end-before c = search needs
-
-end-before-requires-2 : tie.Need-end-before-requires-2
-end-before-requires-2 c κs = search needs
-
-add-if2 : tie.Need-add-if2
-add-if2 c = search needs
-
 returns-2 : tie.Need-returns-2
 returns-2 c =
     let e = c .before .end-before2 .ensures in
     record { to = e .to; within = e .to .in-marks; other = λ k. e .other (c .if2 .taken) }
-
-blocks-end-requires : tie.Need-blocks-end-requires
-blocks-end-requires c κs = search needs
-
-end-before-requires-3 : tie.Need-end-before-requires-3
-end-before-requires-3 c κs = search needs
 
 returns-3 : tie.Need-returns-3
 returns-3 c =
@@ -58,13 +34,13 @@ pub stretch-end-spec : {M : Type 1} → statement M
 stretch-end-spec =
     tie.close
     (tie.spec
-    sub-if1
-    end-before-requires
-    returns
-    add-end-before
-    end-before-requires-2
-    add-if2
+    (λ c. search needs)
+    (λ c _. search needs)
+    (λ c. search needs)
+    (λ c. search needs)
+    (λ c _. search needs)
+    (λ c. search needs)
     returns-2
-    blocks-end-requires
-    end-before-requires-3
+    (λ c _. search needs)
+    (λ c _. search needs)
     returns-3)

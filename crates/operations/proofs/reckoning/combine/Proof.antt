@@ -30,18 +30,12 @@ check-combine-requires c κs =
     let s = c .before .before in
     (marks-ready (s .args .m) (s .args .registers .now) (s .args .marks .now) (s .pre .0), s .pre .1)
 
-is-done-requires : tie.Need-is-done-requires
-is-done-requires c κs = search needs
-
 returns : tie.Need-returns
 returns c =
     let s = c .before .before .before .before .before in
     let a = s .args in
     arithmetic-refused (a .m) (a .registers .now) (a .marks .now) (s .pre .0) (Operation.combine (a .sum) (times (a .factor)) (a .md) (a .ms1)) (c .before .before .check-combine .result) (λ z. c .before .before .check-combine .ensures)
     (sym (c .before .is-done .ensures) ∙ not-true (c .before .is-done .result) (c .if1 .taken))
-
-factor-of-requires : tie.Need-factor-of-requires
-factor-of-requires c κs = search needs
 
 sew-bytes-requires : tie.Need-sew-bytes-requires
 sew-bytes-requires c κs =
@@ -64,9 +58,6 @@ combine-tile-requires c κs =
     let a = s .args in
     combine-asks (a .m) (a .registers .now) (a .marks .now) (s .pre .0) (times (a .factor)) (w .sew-bytes .result) (f .factor-of .result) (f .factor-of .ensures .0) (w .sew-bytes .ensures .0) (a .sum) (a .md) (a .ms1) (checked e) (s .pre .1)
 
-same-length : tie.Need-same-length
-same-length c = search needs
-
 returns-2 : tie.Need-returns-2
 returns-2 c =
     let t = c .before .before in
@@ -79,4 +70,4 @@ returns-2 c =
     (t .combine-tile .ensures)
 
 pub combine-spec : {M : Type 1} → statement M
-combine-spec = tie.close (tie.spec check-combine-requires is-done-requires returns factor-of-requires sew-bytes-requires div-rows combine-tile-requires same-length returns-2)
+combine-spec = tie.close (tie.spec check-combine-requires (λ c _. search needs) returns (λ c _. search needs) sew-bytes-requires div-rows combine-tile-requires (λ c. search needs) returns-2)

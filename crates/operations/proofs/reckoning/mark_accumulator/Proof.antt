@@ -27,9 +27,6 @@ mark-tile-requires c κs =
     let s = k .before .before in
     rows-room (length (s .args .marks .now)) (k .tile-of .result) (s .args .width) (room k) .0
 
-same-length : tie.Need-same-length
-same-length c = search needs
-
 returns : tie.Need-returns
 returns c =
     let k = c .before .before in
@@ -38,4 +35,4 @@ returns c =
     k .mark-tile .ensures ∙ ap (λ (p : Placed). markTile (λ i. p .start + i * p .pitch) (p .rows) (p .columns * a .width) (a .marks .now)) (t .tile-of .ensures)
 
 pub mark-accumulator-spec : {M : Type 1} → statement M
-mark-accumulator-spec = tie.close (tie.spec tile-of-requires mul-mark-tile mark-tile-requires same-length returns)
+mark-accumulator-spec = tie.close (tie.spec tile-of-requires mul-mark-tile mark-tile-requires (λ c. search needs) returns)

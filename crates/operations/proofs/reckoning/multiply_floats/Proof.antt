@@ -20,9 +20,6 @@ multiply-tile-requires c κs =
     let p = s .pre .0 in
     float-asks (a .m) (a .registers .now) (p .marks) (p .is-sound) (a .md) (a .ms1) (a .ms2) (p .is-done) (s .pre .1)
 
-same-length : tie.Need-same-length
-same-length c = search needs
-
 returns : tie.Need-returns
 returns c =
     let t = c .before .before in
@@ -32,4 +29,4 @@ returns c =
     float-registers (a .m) (a .registers .now) (p .marks) (p .is-sound) (a .md) (a .ms1) (a .ms2) (p .is-done) _ (t .multiply-tile .ensures)
 
 pub multiply-floats-spec : {M : Type 1} → statement M
-multiply-floats-spec = tie.close (tie.spec div-rows multiply-tile-requires same-length returns)
+multiply-floats-spec = tie.close (tie.spec div-rows multiply-tile-requires (λ c. search needs) returns)

@@ -23,9 +23,6 @@ fits s =
     let p = s .pre .0 in
     part-done (multiplyChecks (a .m) (times (a .factor))) (sourceChecks (a .m) (p .marks) (a .ms1) (a .ms2) ++ (accumulatorCheck (a .m) (p .marks) (a .md) (times (a .factor) * sew (a .m .mtype)) ∷ [])) refl (p .is-done)
 
-factor-of-requires : tie.Need-factor-of-requires
-factor-of-requires c κs = search needs
-
 sew-bytes-requires : tie.Need-sew-bytes-requires
 sew-bytes-requires c κs =
     let s = c .before .before in
@@ -47,9 +44,6 @@ multiply-tile-requires c κs =
     let p = s .pre .0 in
     product-asks (a .m) (a .registers .now) (p .marks) (p .is-sound) (times (a .factor)) (w .sew-bytes .result) (f .factor-of .result) (f .factor-of .ensures .0) (w .sew-bytes .ensures .0) (a .md) (a .ms1) (a .ms2) (p .is-done) (s .pre .1)
 
-same-length : tie.Need-same-length
-same-length c = search needs
-
 returns : tie.Need-returns
 returns c =
     let t = c .before .before in
@@ -62,4 +56,4 @@ returns c =
     (t .multiply-tile .ensures)
 
 pub multiply-tiles-spec : {M : Type 1} → statement M
-multiply-tiles-spec = tie.close (tie.spec factor-of-requires sew-bytes-requires div-rows multiply-tile-requires same-length returns)
+multiply-tiles-spec = tie.close (tie.spec (λ c _. search needs) sew-bytes-requires div-rows multiply-tile-requires (λ c. search needs) returns)

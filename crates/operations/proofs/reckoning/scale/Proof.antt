@@ -35,21 +35,12 @@ check-scale-requires c κs =
     let s = c .before .before .before in
     (marks-ready (s .args .m) (s .args .registers .now) (s .args .marks .now) (s .pre .0), s .pre .1 .1)
 
-is-done-requires : tie.Need-is-done-requires
-is-done-requires c κs = search needs
-
-same-length : tie.Need-same-length
-same-length c = search needs
-
 returns : tie.Need-returns
 returns c =
     let s = c .before .before .before .before .before .before in
     let a = s .args in
     λ z e ez. scale-refused (a .m) (a .registers .now) (a .marks .now) (s .pre .0) (times (a .factor)) (a .md) (a .ms1) (a .multiplier) z ez (c .before .before .check-scale .result) (c .before .before .check-scale .ensures)
     (sym (c .before .is-done .ensures) ∙ not-true (c .before .is-done .result) (c .if1 .taken))
-
-factor-of-requires : tie.Need-factor-of-requires
-factor-of-requires c κs = search needs
 
 sew-bytes-requires : tie.Need-sew-bytes-requires
 sew-bytes-requires c κs =
@@ -90,12 +81,6 @@ mark-accumulator-requires c κs =
       elementwise-fits (a .m) (times (a .factor)) (fits e) (a .md) (f .factor-of .result) (w .sew-bytes .result) (s .pre .1 .0) (f .factor-of .ensures .1) (w .sew-bytes .ensures .0),
     )
 
-same-length-2 : tie.Need-same-length-2
-same-length-2 c = search needs
-
-same-length-3 : tie.Need-same-length-3
-same-length-3 c = search needs
-
 returns-2 : tie.Need-returns-2
 returns-2 c =
     let k = c .before .before in
@@ -109,4 +94,4 @@ returns-2 c =
     (t .scale-tile .ensures z e′) (k .mark-accumulator .ensures)
 
 pub scale-spec : {M : Type 1} → statement M
-scale-spec = tie.close (tie.spec check-scale-requires is-done-requires same-length returns factor-of-requires sew-bytes-requires div-rows scale-tile-requires mul-mark-accumulator mark-accumulator-requires same-length-2 same-length-3 returns-2)
+scale-spec = tie.close (tie.spec check-scale-requires (λ c _. search needs) (λ c. search needs) returns (λ c _. search needs) sew-bytes-requires div-rows scale-tile-requires mul-mark-accumulator mark-accumulator-requires (λ c. search needs) (λ c. search needs) returns-2)

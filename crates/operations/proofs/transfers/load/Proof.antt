@@ -14,9 +14,6 @@ check-transfer-requires c κs =
     let s = c .before .before .before in
     ready (s .args .m) (s .args .registers .now) (s .args .marks .now) (s .pre .0)
 
-is-done-requires : tie.Need-is-done-requires
-is-done-requires c κs = search needs
-
 returns : tie.Need-returns
 returns c =
     let a = c .before .before .before .before .before .before .args in
@@ -39,12 +36,6 @@ load-requires c κs =
     let a = s .args in
     room (a .m) (a .registers .now) (a .marks .now) (a .memory .now) (a .form) (a .matrix) (a .md) (a .width) (a .base) (a .stride) (s .pre .0) (s .pre .1) (checked (t .before)) (t .tile-of .result) (t .tile-of .ensures)
 
-same-length : tie.Need-same-length
-same-length c = search needs
-
-same-length-2 : tie.Need-same-length-2
-same-length-2 c = search needs
-
 returns-2 : tie.Need-returns-2
 returns-2 c =
     let l = c .before .before .before .before in
@@ -54,4 +45,4 @@ returns-2 c =
     (l .load .ensures .0) (l .load .ensures .1 .0) (l .load .ensures .1 .1)
 
 pub load-spec : {M : Type 1} → statement M
-load-spec = tie.close (tie.spec check-transfer-requires is-done-requires returns tile-of-requires load-requires same-length same-length-2 returns-2)
+load-spec = tie.close (tie.spec check-transfer-requires (λ c _. search needs) returns tile-of-requires load-requires (λ c. search needs) (λ c. search needs) returns-2)

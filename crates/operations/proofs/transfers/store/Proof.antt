@@ -16,9 +16,6 @@ check-transfer-requires c κs =
     let s = c .before .before .before .before in
     ready (s .args .m) (s .args .registers .now) (s .args .marks .now) (s .pre .0)
 
-is-done-requires : tie.Need-is-done-requires
-is-done-requires c κs = search needs
-
 returns : tie.Need-returns
 returns c =
     let a = c .before .before .before .before .before .before .before .args in
@@ -42,9 +39,6 @@ store-requires c κs =
     let q = room (a .m) (a .registers .now) (a .marks .now) (a .memory .now) (a .form) (a .matrix) (a .ms3) (a .width) (a .base) (a .stride) (s .pre .0) (s .pre .1 .0) (checked (t .before)) (t .tile-of .result) (t .tile-of .ensures) in
     (q .0, (q .1 .0, (q .1 .1 .0, (q .1 .1 .1 .0, (q .1 .1 .1 .1, s .pre .1 .1)))))
 
-same-length : tie.Need-same-length
-same-length c = search needs
-
 returns-2 : tie.Need-returns-2
 returns-2 c =
     let l = c .before .before in
@@ -54,4 +48,4 @@ returns-2 c =
     (l .store .ensures .0) (l .store .ensures .1)
 
 pub store-spec : {M : Type 1} → statement M
-store-spec = tie.close (tie.spec check-transfer-requires is-done-requires returns tile-of-requires store-requires same-length returns-2)
+store-spec = tie.close (tie.spec check-transfer-requires (λ c _. search needs) returns tile-of-requires store-requires (λ c. search needs) returns-2)

@@ -41,14 +41,8 @@ sizes k =
 before : (k : tie.After-tally) → length (encode (k .before .before .before .before .args .found .fields .runs)) ≤ k .before .before .before .before .args .found .fields .at
 before k = count-before _ (input k) _ _ _ _ _ (head k)
 
-number-size-requires : tie.Need-number-size-requires
-number-size-requires c κs = search needs
-
 sub-first : tie.Need-sub-first
 sub-first c = omega (arith, c .number-size .ensures, before (c .before))
-
-number-size-requires-2 : tie.Need-number-size-requires-2
-number-size-requires-2 c κs = search needs
 
 add-size : tie.Need-add-size
 add-size c = let z = sizes (c .before .before) in omega (arith, z .0, z .1, z .2, c .number-size2 .ensures, c .before .number-size .ensures, before (c .before .before))
@@ -58,9 +52,6 @@ sub-size c = sizes (c .before .before) .0
 
 add-size-2 : tie.Need-add-size-2
 add-size-2 c = let z = sizes (c .before .before) in omega (arith, z .0, z .1, z .2, c .number-size2 .ensures, c .before .number-size .ensures, before (c .before .before))
-
-refused-requires : tie.Need-refused-requires
-refused-requires c κs = search needs
 
 returns : tie.Need-returns
 returns c =
@@ -80,9 +71,6 @@ put-fresh-requires c κs =
     let z = sizes k in
     ((omega (arith, z .0, z .1), omega (arith, z .0, z .1)), omega (arith, c .before .if1 .left, c .before .before .number-size2 .ensures))
 
-same-length : tie.Need-same-length
-same-length c = search needs
-
 returns-2 : tie.Need-returns-2
 returns-2 c =
     let k = c .before .before .before .before .before .before .before in
@@ -96,15 +84,15 @@ pub rescue-spec : {M : Type 1} → statement M
 rescue-spec =
     tie.close
     (tie.spec
-    number-size-requires
+    (λ c _. search needs)
     sub-first
-    number-size-requires-2
+    (λ c _. search needs)
     add-size
     sub-size
     add-size-2
-    refused-requires
+    (λ c _. search needs)
     returns
     sub-put-fresh
     put-fresh-requires
-    same-length
+    (λ c. search needs)
     returns-2)

@@ -18,9 +18,6 @@ use Rattle.settings.proofs.faults.is_sound.Tie as tie
 with : {s t : Bool} (b : List ℕ) → s ≡ t → s && sealsFit (sealsIn b) ≡ t && sealsFit (sealsIn b)
 with b = ap (λ (t : Bool). t && sealsFit (sealsIn b))
 
-numbers-sound-requires : tie.Need-numbers-sound-requires
-numbers-sound-requires c κs = search needs
-
 returns : tie.Need-returns
 returns c =
     let a = c .before .before .before .before .before .args in
@@ -57,9 +54,6 @@ returns-3 c =
     with (a .seals .now) (sound-by (a .m) (a .registers .now) (a .marks .now) true true false _ (numbers e) (eq-eqb (length (a .registers .now)) (2 * a .m .mlen) (f .if2 .left))
     (ne-eqb (length (a .marks .now)) (2 * a .m .mlen) (c .if3 .taken)) refl)
 
-marks-sound-requires : tie.Need-marks-sound-requires
-marks-sound-requires c κs = search needs
-
 -- the marks, in a state whose numbers and sizes are sound
 marks : (c : tie.After-marks-sound) → let a = c .before .before .before .before .before .before .before .before .before .before .args in
     c .marks-sound .result ≡ sound (a .m) (a .registers .now) (a .marks .now)
@@ -81,9 +75,6 @@ returns-4 c =
     let a = w .before .before .before .before .before .before .before .before .before .before .args in
     with (a .seals .now) (sym (not-true (w .marks-sound .result) (c .if4 .taken)) ∙ marks w)
 
-is-fit-requires : tie.Need-is-fit-requires
-is-fit-requires c κs = search needs
-
 returns-5 : tie.Need-returns-5
 returns-5 c =
     let d = c .before in
@@ -92,4 +83,4 @@ returns-5 c =
     c .is-fit .ensures ∙ with (a .seals .now) (sym (not-false (w .marks-sound .result) (d .if4 .left)) ∙ marks w)
 
 pub is-sound-spec : {M : Type 1} → statement M
-is-sound-spec = tie.close (tie.spec numbers-sound-requires returns mul-if2 returns-2 mul-if3 returns-3 marks-sound-requires returns-4 is-fit-requires returns-5)
+is-sound-spec = tie.close (tie.spec (λ c _. search needs) returns mul-if2 returns-2 mul-if3 returns-3 (λ c _. search needs) returns-4 (λ c _. search needs) returns-5)

@@ -14,9 +14,6 @@ use borrow.Author.Needs.{needs}
 use Rattle.settings.proofs.faults.numbers_sound.Statement.{statement}
 use Rattle.settings.proofs.faults.numbers_sound.Tie as tie
 
-permitted-lengths-requires : tie.Need-permitted-lengths-requires
-permitted-lengths-requires c κs = search needs
-
 -- the tests that have passed
 ok-1 : (c : tie.Else1) → permitted (c .before .before .args .m .rlen) (c .before .before .args .m .mlen) (c .before .before .args .m .elen) ≡ true
 ok-1 c = sym (c .before .permitted-lengths .ensures) ∙ not-false (c .before .permitted-lengths .result) (c .if1 .left)
@@ -49,9 +46,6 @@ returns-3 c =
     let m = e .before .before .before .before .args .m in
     numbers-by m true true false _ _ _ (ok-1 (e .before .before)) (ok-2 e) (lt-leb (m .«tile_m») (m .mlen / m .rlen) (c .if3 .taken)) refl refl refl
 
-smaller-requires : tie.Need-smaller-requires
-smaller-requires c κs = search needs
-
 returns-4 : tie.Need-returns-4
 returns-4 c =
     let s = c .before .before in
@@ -72,9 +66,6 @@ returns-5 c =
     (le-leb (m .«tile_k») (min (m .mlen / m .rlen) (m .rlen / 8)) (omega (arith, s .smaller .ensures, g .if4 .left)))
     (lt-leb (m .«tile_n») (m .rlen / 8) (c .if5 .taken)) refl
 
-is-rule-requires : tie.Need-is-rule-requires
-is-rule-requires c κs = search needs
-
 returns-6 : tie.Need-returns-6
 returns-6 c =
     let i = c .before in
@@ -92,14 +83,14 @@ pub numbers-sound-spec : {M : Type 1} → statement M
 numbers-sound-spec =
     tie.close
     (tie.spec
-    permitted-lengths-requires
+    (λ c _. search needs)
     returns
     type-arises-requires
     returns-2
     div-rows
     returns-3
-    smaller-requires
+    (λ c _. search needs)
     returns-4
     returns-5
-    is-rule-requires
+    (λ c _. search needs)
     returns-6)

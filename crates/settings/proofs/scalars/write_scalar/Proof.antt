@@ -3,15 +3,6 @@ use borrow.Author.Needs.{needs}
 use Rattle.settings.proofs.scalars.write_scalar.Statement.{statement}
 use Rattle.settings.proofs.scalars.write_scalar.Tie as tie
 
-mul-scalars : tie.Need-mul-scalars
-mul-scalars c = search needs
-
-slice-write-scalars : tie.Need-slice-write-scalars
-slice-write-scalars c = search needs
-
-same-length : tie.Need-same-length
-same-length c = search needs
-
 returns : tie.Need-returns
 returns c = rw (ne-eqb (c .before .args .slot) 0 (c .if1 .taken))
 
@@ -19,4 +10,4 @@ returns-2 : tie.Need-returns-2
 returns-2 c = rw (eq-eqb (c .before .args .slot) 0 (c .if1 .left))
 
 pub write-scalar-spec : {M : Type 1} → statement M
-write-scalar-spec = tie.close (tie.spec mul-scalars slice-write-scalars same-length returns returns-2)
+write-scalar-spec = tie.close (tie.spec (λ c. search needs) (λ c. search needs) (λ c. search needs) returns returns-2)

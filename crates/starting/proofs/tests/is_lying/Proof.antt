@@ -8,18 +8,9 @@ use Rattle.starting.proofs.StartLaws.{plan-sizes, a-sizes, counted, cou
 use Rattle.starting.proofs.tests.is_lying.Statement.{statement}
 use Rattle.starting.proofs.tests.is_lying.Tie as tie
 
-a-row-requires : tie.Need-a-row-requires
-a-row-requires c κs = search needs
-
-a-column-requires : tie.Need-a-column-requires
-a-column-requires c κs = search needs
-
 narrow-row-requires : tie.Need-narrow-row-requires
 narrow-row-requires c κs =
     let s = c .before .before .before .before in (s .pre, subst (λ (x : ℕ). x ≤ 1024) (sym (c .a-column .ensures)) (a-sizes (s .args .plan) (s .pre) .1))
-
-rows-inside-requires : tie.Need-rows-inside-requires
-rows-inside-requires c κs = search needs
 
 -- the test of A
 a-test : (c : tie.After-rows-inside) → let a = c .before .before .before .before .before .before .args in c .rows-inside .result ≡ aIn (a .plan) (a .memory .now)
@@ -43,9 +34,6 @@ a-in c =
 narrow-row-requires-2 : tie.Need-narrow-row-requires-2
 narrow-row-requires-2 c κs = let s = c .before .before .before .before .before .before .before .before in (s .pre, plan-sizes (s .args .plan) (s .pre) .2)
 
-rows-inside-requires-2 : tie.Need-rows-inside-requires-2
-rows-inside-requires-2 c κs = search needs
-
 -- the test of B
 b-test : (c : tie.After-rows-inside2) → let a = c .before .before .before .before .before .before .before .before .before .before .args in c .rows-inside2 .result ≡ bIn (a .plan) (a .memory .now)
 b-test c =
@@ -57,12 +45,6 @@ returns-2 c =
     let e = c .before .before .before .before in
     let a = e .before .before .before .before .before .before .before .args in
     b-outside (a .plan) (a .memory .now) (a-in e) (test-failed (c .before .rows-inside2 .result) (bIn (a .plan) (a .memory .now)) (b-test (c .before)) (c .if2 .taken))
-
-wide-row-requires : tie.Need-wide-row-requires
-wide-row-requires c κs = search needs
-
-rows-inside-requires-3 : tie.Need-rows-inside-requires-3
-rows-inside-requires-3 c κs = search needs
 
 returns-3 : tie.Need-returns-3
 returns-3 c =
@@ -76,14 +58,14 @@ pub is-lying-spec : {M : Type 1} → statement M
 is-lying-spec =
     tie.close
     (tie.spec
-    a-row-requires
-    a-column-requires
+    (λ c _. search needs)
+    (λ c _. search needs)
     narrow-row-requires
-    rows-inside-requires
+    (λ c _. search needs)
     returns
     narrow-row-requires-2
-    rows-inside-requires-2
+    (λ c _. search needs)
     returns-2
-    wide-row-requires
-    rows-inside-requires-3
+    (λ c _. search needs)
+    (λ c _. search needs)
     returns-3)

@@ -21,9 +21,6 @@ those s = sealed (sealsIn (s .args .seals .now))
 short : (s : tie.Start) → length (s .args .memory .now) < 2 ^ 63
 short s = omega arith
 
-wide-row-requires : tie.Need-wide-row-requires
-wide-row-requires c κs = search needs
-
 -- the rows of C lie in memory
 c-in : (c : tie.After-wide-row) → let a = c .before .before .before .before .args in cInside (a .plan) (a .memory .now) (c .wide-row .result) ≡ true
 c-in c =
@@ -46,12 +43,6 @@ returns c =
 
 rows-differ : (c : tie.Else1) → rowsDiffer (c .before .before .before .before .before .before .args .plan) ≡ true
 rows-differ c = test-passed (c .before .rows-distinct .result) (rowsDiffer (c .before .before .before .before .before .before .args .plan)) (rows-test (c .before)) (c .if1 .left)
-
-a-row-requires : tie.Need-a-row-requires
-a-row-requires c κs = search needs
-
-a-column-requires : tie.Need-a-column-requires
-a-column-requires c κs = search needs
 
 narrow-row-requires : tie.Need-narrow-row-requires
 narrow-row-requires c κs =
@@ -135,11 +126,11 @@ pub is-separate-spec : {M : Type 1} → statement M
 is-separate-spec =
     tie.close
     (tie.spec
-    wide-row-requires
+    (λ c _. search needs)
     rows-distinct-requires
     returns
-    a-row-requires
-    a-column-requires
+    (λ c _. search needs)
+    (λ c _. search needs)
     narrow-row-requires
     rows-apart-requires
     returns-2
