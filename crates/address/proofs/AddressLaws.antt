@@ -1,17 +1,11 @@
 -- Signed strides in code and in the definitions, the address of a row, and the test of all rows by the first and the last.
-use mathlib.Core.Path.{_≡_, refl, sym, ap, _∙_, subst}
-use mathlib.Core.Bool.{Bool, true, false, cond, true≢false}
-use mathlib.Core.Logic.{_⊎_, inl, inr}
-use Prim.Native.Nat.{ℕ, zero, suc, _+_, _*_, _-_, _/_, _^_, _≤_, _<_}
-use native.Mathlib.Nat.{zero-mul, mul-zero, mul-le-mul-right, add-zero, mul-comm, le-div-iff-mul-le}
-use native.Mathlib.Omega.{arith}
-use lib.Dec.{T, leb, ltb}
-use lib.IntN.{ℤ, pos, negsuc, negℤ, natAbs, _+ℤ_, _-ℤ_, _*ℤ_}
+use Rattle.width.proofs.Kit.{_≡_, refl, sym, ap, _∙_, subst, _⊎_, inl, inr, Bool, true, false, cond, true≢false, ℕ, zero, suc, _+_, _*_, _-_, _/_, _^_, _≤_}
+use Rattle.width.proofs.Kit.{_<_, zero-mul, mul-zero, mul-le-mul-right, add-zero, mul-comm, le-div-iff-mul-le, arith, T, leb, ltb, ℤ, pos, negsuc, negℤ}
+use Rattle.width.proofs.Kit.{natAbs, _+ℤ_, _-ℤ_, _*ℤ_, eq-eqb, ne-eqb, lt-ltb, le-ltb, ltb-true, ltb-false, le-leb, lt-leb, leb-true}
 use lib.Signed.{mag, nonNeg, ltZ}
 use mir.Syntax.{w64}
 use mir.Val.{toZ, ofZ}
 use mir.ValLaws.{toZ-ofZ}
-use borrow.Author.Tests.{eq-eqb, ne-eqb, lt-ltb, le-ltb, ltb-true, ltb-false, le-leb, lt-leb, leb-true}
 use Rattle.width.specs.Reduce.{signed}
 use Rattle.width.proofs.BlockLaws.{le-or-lt}
 use Rattle.machine.specs.Memory.{rowZ, rowAt, address, inMemory, inside}

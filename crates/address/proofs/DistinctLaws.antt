@@ -1,13 +1,6 @@
 -- Rows at a stride: they go up or down by the same distance, and by that alone it is decided whether two share a byte.
-use mathlib.Core.Path.{_≡_, sym, ap, _∙_}
-use mathlib.Core.Logic.{_⊎_, inl, inr}
-use mathlib.Core.Bool.{true, false}
-use Prim.Native.Nat.{ℕ, zero, suc, _+_, _*_, _-_, _^_, _≤_, _<_}
-use native.Mathlib.Nat.{mul-le-mul-right}
-use native.Mathlib.Omega.{arith}
-use lib.Dec.{leb, ltb}
-use lib.IntN.{natAbs}
-use borrow.Author.Tests.{leb-true, le-leb, lt-ltb, le-ltb}
+use Rattle.width.proofs.Kit.{_≡_, sym, ap, _∙_, _⊎_, inl, inr, true, false, ℕ, zero, suc, _+_, _*_, _-_, _^_, _≤_, _<_, mul-le-mul-right, arith, leb, ltb}
+use Rattle.width.proofs.Kit.{natAbs, leb-true, le-leb, lt-ltb, le-ltb}
 use Rattle.width.proofs.BlockLaws.{le-or-lt}
 use Rattle.machine.specs.Memory.{rowZ, rowAt, address, inside, distinct}
 use Rattle.machine.proofs.TestLaws.{false-true, same-test}

@@ -1,11 +1,6 @@
 -- A range of bytes: a row against it, and rows one after another.
-use mathlib.Core.Path.{_≡_, sym, ap, _∙_}
-use mathlib.Core.Bool.{true, false, _||_}
-use mathlib.Core.Logic.{_⊎_, inl, inr}
-use Prim.Native.Nat.{ℕ, _+_, _-_, _≤_, _<_}
-use native.Mathlib.Omega.{arith}
-use lib.Dec.{eqb, leb, ltb}
-use borrow.Author.Tests.{ne-eqb, eq-eqb, lt-leb, le-leb, lt-ltb, le-ltb}
+use Rattle.width.proofs.Kit.{_≡_, sym, ap, _∙_, _⊎_, inl, inr, true, false, _||_, ℕ, _+_, _-_, _≤_, _<_, arith, eqb, leb, ltb, ne-eqb, eq-eqb, lt-leb}
+use Rattle.width.proofs.Kit.{le-leb, lt-ltb, le-ltb}
 use Rattle.width.proofs.BlockLaws.{le-or-lt}
 use Rattle.machine.specs.Tests.{all, within}
 use Rattle.machine.specs.Memory.{rowAt, misses, rowsMiss}

@@ -1,10 +1,5 @@
 -- Tests: one that a call made, and tests one after another.
-use mathlib.Core.Path.{_≡_, refl, sym, _∙_}
-use mathlib.Core.Bool.{Bool, true, false, not, _&&_}
-use Prim.Native.Nat.{ℕ, _+_, _<_}
-use native.Mathlib.Numerals.{add-one}
-use native.Mathlib.Omega.{arith}
-use borrow.Author.Tests.{not-true, not-false}
+use Rattle.width.proofs.Kit.{_≡_, refl, sym, _∙_, Bool, true, false, not, _&&_, ℕ, _+_, _<_, arith, add-one, not-true, not-false}
 use Rattle.machine.specs.Tests.{all, first}
 use Rattle.machine.proofs.TestLaws.{all-at, all-false, first-is, and-true}
 

@@ -1,15 +1,7 @@
 -- What a step's arm knows once the checks have passed is what the tile functions require.
-use mathlib.Core.Path.{_≡_, refl, sym, ap, ap₂, _∙_, subst}
-use mathlib.Core.Bool.{Bool, true, false, _&&_, _||_}
-use mathlib.Core.List.{List, [], _∷_}
-use mathlib.Core.Logic.{_⊎_, ⊎-elim, inl, inr}
-use Prim.Native.Nat.{ℕ, zero, suc, _*_, _/_, _%_, _^_, _≤_, _<_, min}
-use native.Mathlib.Nat.{one-mul, pow-succ', one-le-pow, div-mul-le-self, mul-le-mul-right}
-use native.Mathlib.Omega.{arith}
-use lib.Dec.{leb, eqb}
-use lib.ListN.{length}
-use lib.IntN.{ℤ}
-use borrow.Author.Tests.{leb-true, eqb-true}
+use Rattle.width.proofs.Kit.{_≡_, refl, sym, ap, ap₂, _∙_, subst, _⊎_, ⊎-elim, inl, inr, Bool, true, false, _&&_, _||_, List, [], _∷_, ℕ, zero, suc, _*_}
+use Rattle.width.proofs.Kit.{_/_, _%_, _^_, _≤_, _<_, min, one-mul, pow-succ', one-le-pow, div-mul-le-self, mul-le-mul-right, arith, leb, eqb, length, ℤ}
+use Rattle.width.proofs.Kit.{leb-true, eqb-true}
 use Rattle.width.specs.Blocks.{Choice}
 use Rattle.width.specs.Bounds.{mostPitch, mostSize}
 use Rattle.element.specs.Element.{Width}

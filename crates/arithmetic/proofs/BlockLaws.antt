@@ -1,14 +1,8 @@
 -- A tile multiplied in blocks of columns and terms is the tile multiplied at once, by whatever rule an element of C is made from its old
 -- value and the elements of A and B.
-use mathlib.Core.Path.{_≡_, sym, ap, ap₂, _∙_, subst}
-use mathlib.Core.Logic.{_⊎_, inl, inr}
-use mathlib.Core.List.{List}
-use Prim.Native.Nat.{ℕ, zero, suc, _+_, _*_, _-_, _/_, _%_, _^_, _≤_, _<_}
-use native.Mathlib.Nat.{mul-le-mul-right, mul-le-mul-left, div-add-mod', mod-lt, mod-eq-of-lt, div-lt-iff-lt-mul, eq-or-lt-of-le, le-of-suc-le-suc, not-suc-le-zero}
-use native.Mathlib.Omega.{arith}
-use lib.ListN.{length, getD}
-use lib.Seq.{ext-getD}
-use lib.IntN.{ℤ, _+ℤ_, _*ℤ_, +ℤ-assoc}
+use Rattle.width.proofs.Kit.{_≡_, sym, ap, ap₂, _∙_, subst, _⊎_, inl, inr, List, ℕ, zero, suc, _+_, _*_, _-_, _/_, _%_, _^_, _≤_, _<_, mul-le-mul-right}
+use Rattle.width.proofs.Kit.{mul-le-mul-left, div-add-mod', mod-lt, mod-eq-of-lt, div-lt-iff-lt-mul, eq-or-lt-of-le, le-of-suc-le-suc, not-suc-le-zero}
+use Rattle.width.proofs.Kit.{arith, length, getD, ext-getD, ℤ, _+ℤ_, _*ℤ_, +ℤ-assoc}
 use Rattle.width.specs.Reduce.{signed, reduce, sumℤ}
 use Rattle.width.proofs.ReduceLaws.{sumℤ-add, sumℤ-cong, reduce-lt, accumulate}
 use Rattle.width.specs.Tile.{getLe, byteOf, putTile, In}

@@ -1,9 +1,5 @@
 -- Where the tiles lie in the registers.
-use Prim.Native.Nat.{ℕ, zero, suc, _+_, _*_, _≤_, _<_}
-use mathlib.Core.Path.{_≡_}
-use mathlib.Core.Logic.{inl, inr}
-use native.Mathlib.Nat.{mul-le-mul-right}
-use native.Mathlib.Omega.{arith}
+use Rattle.width.proofs.Kit.{_≡_, inl, inr, ℕ, zero, suc, _+_, _*_, _≤_, _<_, mul-le-mul-right, arith}
 use Rattle.machine.specs.Geometry.{accAt}
 use Rattle.width.specs.Bounds.{mostPitch, mostSize}
 use Rattle.element.specs.Element.{Width}

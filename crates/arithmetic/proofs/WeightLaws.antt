@@ -1,13 +1,8 @@
 -- Weighted sums: rows written one after another hold the values that every element had at entry, and the whole is the element-wise instructions.
-use mathlib.Core.Path.{_≡_, refl, sym, ap, ap₂, _∙_, subst}
-use mathlib.Core.List.{List}
-use mathlib.Core.Logic.{_⊎_, inl, inr}
-use Prim.Native.Nat.{ℕ, zero, suc, _+_, _*_, _-_, _%_, _^_, _≤_, _<_}
-use native.Mathlib.Nat.{mul-le-mul-right, mul-le-mul-left}
-use native.Mathlib.Omega.{arith}
-use lib.IntN.{ℤ, one, pos, negsuc, negℤ, _+ℤ_, _*ℤ_, *ℤ-one, zero-*ℤ, *ℤ-negsuc, *ℤ-comm, +ℤ-comm, +ℤ-idl}
+use Rattle.width.proofs.Kit.{_≡_, refl, sym, ap, ap₂, _∙_, subst, _⊎_, inl, inr, List, ℕ, zero, suc, _+_, _*_, _-_, _%_, _^_, _≤_, _<_, mul-le-mul-right}
+use Rattle.width.proofs.Kit.{mul-le-mul-left, arith, length, getD, ℤ, one, pos, negsuc, negℤ, _+ℤ_, _*ℤ_, *ℤ-one, zero-*ℤ, *ℤ-negsuc, *ℤ-comm, +ℤ-comm}
+use Rattle.width.proofs.Kit.{+ℤ-idl}
 use Rattle.width.specs.Reduce.{signed, reduce}
-use lib.ListN.{length, getD}
 use Rattle.width.specs.Tile.{getLe, byteOf, In, putRow}
 use Rattle.width.proofs.TileLaws.{le-cong, length-putRow, putRow-out, putRow-at}
 use Rattle.width.proofs.ElementLaws.{pow-256, cut, still, tile-turn, putRow-cong}

@@ -1,7 +1,5 @@
 -- What multiply, add, subtract, reverse subtract and multiply by a number do to the register bytes, one definition each.
-use mathlib.Core.List.{List}
-use Prim.Native.Nat.{ℕ}
-use lib.IntN.{ℤ}
+use Rattle.width.specs.Kit.{List, ℕ, ℤ}
 use Rattle.width.specs.Tile.{putTile}
 use Rattle.machine.specs.declared.Sum.{Sum}
 use Rattle.machine.specs.Geometry.{Parameters, accAt}

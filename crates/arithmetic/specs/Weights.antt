@@ -1,8 +1,5 @@
 -- What the weighted sums leave, and how their two rows may lie.
-use mathlib.Core.Path.{_≡_}
-use mathlib.Core.Logic.{_⊎_}
-use mathlib.Core.List.{List}
-use Prim.Native.Nat.{ℕ, _+_, _≤_}
+use Rattle.width.specs.Kit.{_≡_, _⊎_, List, ℕ, _+_, _≤_}
 use Rattle.width.specs.Tile.{putTile}
 use Rattle.machine.specs.Geometry.{Parameters, accAt}
 use Rattle.sums.specs.Rows.{weightedRow}

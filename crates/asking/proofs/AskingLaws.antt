@@ -1,8 +1,5 @@
 -- For code: what asking gives, and the number of steps.
-use mathlib.Core.Path.{_≡_, refl, sym, ap, ap₂, _∙_}
-use mathlib.Core.Bool.{Bool, true, false, cond}
-use mathlib.Core.Option.{Option, none}
-use Prim.Native.Nat.{ℕ, _+_, _*_}
+use Rattle.width.proofs.Kit.{_≡_, refl, sym, ap, ap₂, _∙_, Bool, true, false, cond, Option, none, ℕ, _+_, _*_}
 use Rattle.machine.specs.Answers.{reply}
 use Rattle.machine.proofs.TestLaws.{false-true}
 use Rattle.machine.specs.Setting.{chosen}

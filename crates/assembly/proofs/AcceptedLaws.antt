@@ -1,13 +1,6 @@
 -- Every word that has a line is accepted: on a machine with empty tiles, whose mtype fits the instruction.
-use mathlib.Core.Path.{_≡_, refl, sym, ap, ap₂, _∙_}
-use mathlib.Core.Bool.{Bool, true, false, cond, _||_}
-use mathlib.Core.List.{List, [], _∷_}
-use Prim.Native.Nat.{ℕ, zero, suc, _%_, _^_}
-use native.Mathlib.Omega.{arith}
-use lib.Dec.{eqb}
-use lib.ListN.{getD, replicate}
-use lib.IntN.{ℤ}
-use borrow.Author.Tests.{eq-eqb}
+use Rattle.width.proofs.Kit.{_≡_, refl, sym, ap, ap₂, _∙_, Bool, true, false, cond, _||_, List, [], _∷_, ℕ, zero, suc, _%_, _^_, arith, eqb, getD}
+use Rattle.width.proofs.Kit.{replicate, ℤ, eq-eqb}
 use Rattle.width.specs.Reduce.{signed}
 use Rattle.machine.specs.declared.Answer.{Answer}
 use Rattle.machine.specs.declared.Answer.the-variants.{Done, BadArguments}

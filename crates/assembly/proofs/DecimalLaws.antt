@@ -1,14 +1,7 @@
 -- Decimal numbers: their digits, their value, and reading the longest one that is permitted.
-use mathlib.Core.Path.{_≡_, refl, sym, ap, ap₂, _∙_, subst}
-use mathlib.Core.Bool.{Bool, true, false, cond, _&&_}
-use mathlib.Core.List.{List, [], _∷_, _++_, append-assoc, append-nil}
-use mathlib.Core.Logic.{_⊎_, ⊎-elim}
-use Prim.Native.Nat.{ℕ, zero, suc, _+_, _-_, _*_, _/_, _%_, _≤_, _<_}
-use native.Mathlib.Omega.{arith}
-use lib.Dec.{ltb, leb}
-use lib.ListN.{length, take, drop, take-append-drop}
-use lib.Seq.{length-take-le}
-use borrow.Author.Tests.{ltb-true, leb-true, lt-ltb, le-leb}
+use Rattle.width.proofs.Kit.{_≡_, refl, sym, ap, ap₂, _∙_, subst, _⊎_, ⊎-elim, Bool, true, false, cond, _&&_, List, [], _∷_, _++_, append-assoc, append-nil}
+use Rattle.width.proofs.Kit.{ℕ, zero, suc, _+_, _-_, _*_, _/_, _%_, _≤_, _<_, arith, ltb, leb, length, take, drop, take-append-drop, length-take-le}
+use Rattle.width.proofs.Kit.{ltb-true, leb-true, lt-ltb, le-leb}
 use Rattle.width.proofs.BlockLaws.{le-or-lt}
 use Rattle.machine.proofs.TestLaws.{and-left, and-right, false-true}
 use Rattle.lines.specs.Lines.{decimal}

@@ -1,15 +1,7 @@
 -- Words in eight hexadecimal digits: each has one text, the reader gives it back, and the place of a fault.
-use mathlib.Core.Path.{_≡_, refl, sym, ap, ap₂, _∙_, subst}
-use mathlib.Core.Bool.{Bool, true, false, cond, _&&_, _||_}
-use mathlib.Core.List.{List, [], _∷_}
-use mathlib.Core.Logic.{_⊎_, ⊎-elim}
-use Prim.Native.Nat.{ℕ, zero, suc, _+_, _-_, _*_, _/_, _%_, _^_, _≤_, _<_}
-use native.Mathlib.Nat.{mul-add-div-right, div-eq-of-lt, mul-le-mul-right, pow-succ', one-le-pow}
-use native.Mathlib.Omega.{arith}
-use lib.Arith.{mod-mul}
-use lib.Dec.{leb}
-use lib.ListN.{length}
-use borrow.Author.Tests.{leb-true, le-leb, lt-leb, lt-ltb, le-ltb}
+use Rattle.width.proofs.Kit.{_≡_, refl, sym, ap, ap₂, _∙_, subst, _⊎_, ⊎-elim, Bool, true, false, cond, _&&_, _||_, List, [], _∷_, ℕ, zero, suc, _+_, _-_}
+use Rattle.width.proofs.Kit.{_*_, _/_, _%_, _^_, _≤_, _<_, mul-add-div-right, div-eq-of-lt, mul-le-mul-right, pow-succ', one-le-pow, arith, leb, length}
+use Rattle.width.proofs.Kit.{mod-mul, leb-true, le-leb, lt-leb, lt-ltb, le-ltb}
 use Rattle.width.proofs.BlockLaws.{le-or-lt}
 use Rattle.machine.proofs.TestLaws.{and-left, and-right, false-true}
 use Rattle.format.specs.Formats.{Ends}

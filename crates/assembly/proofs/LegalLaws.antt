@@ -1,12 +1,5 @@
 -- The words that have a line are those that decode.
-use mathlib.Core.Path.{_≡_, refl, sym, _∙_}
-use mathlib.Core.Bool.{Bool, true, false, cond, _&&_}
-use mathlib.Core.List.{List, [], _∷_}
-use mathlib.Core.Option.{none, some}
-use Prim.Native.Nat.{ℕ}
-use native.Mathlib.Omega.{arith}
-use lib.Dec.{ltb, eqb}
-use borrow.Author.Tests.{lt-ltb}
+use Rattle.width.proofs.Kit.{_≡_, refl, sym, _∙_, Bool, true, false, cond, _&&_, List, [], _∷_, none, some, ℕ, arith, ltb, eqb, lt-ltb}
 use Rattle.machine.specs.declared.Wrong.the-variants.{Register, Opcode}
 use Rattle.machine.specs.declared.Instruction.{Instruction}
 use Rattle.machine.specs.declared.Instruction.the-variants.{Illegal}

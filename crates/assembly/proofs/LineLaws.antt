@@ -1,15 +1,7 @@
 -- Lines: of every row one text, no two rows share a line, and what reading a line finds is right.
-use mathlib.Core.Path.{_≡_, refl, sym, ap, ap₂, _∙_, subst}
-use mathlib.Core.Bool.{Bool, true, false, cond, not, _&&_}
-use mathlib.Core.List.{List, [], _∷_, _++_, append-assoc}
-use mathlib.Core.Logic.{_⊎_, inl, inr, ⊎-elim}
-use mathlib.Core.Option.{none, some}
-use Prim.Native.Nat.{ℕ, suc, _+_, _≤_, _<_, max}
-use native.Mathlib.Omega.{arith}
-use lib.Dec.{ltb, eqb}
-use lib.Seq.{take-take}
-use lib.ListN.{length, take, drop, take-append-drop}
-use borrow.Author.Tests.{eqb-true, eqb-false, eq-eqb, ltb-true, lt-ltb}
+use Rattle.width.proofs.Kit.{_≡_, refl, sym, ap, ap₂, _∙_, subst, _⊎_, inl, inr, ⊎-elim, Bool, true, false, cond, not, _&&_, List, [], _∷_, _++_}
+use Rattle.width.proofs.Kit.{append-assoc, none, some, ℕ, suc, _+_, _≤_, _<_, max, arith, ltb, eqb, length, take, drop, take-append-drop, take-take}
+use Rattle.width.proofs.Kit.{eqb-true, eqb-false, eq-eqb, ltb-true, lt-ltb}
 use Rattle.width.proofs.BlockLaws.{le-or-lt}
 use Rattle.machine.specs.Listing.{bits, Code, Row, has, listing}
 use Rattle.machine.proofs.TestLaws.{and-left, and-right, false-true}

@@ -1,13 +1,6 @@
 -- Operands: the reader finds the value whose text stands at the front, and else the place at which no operand's text can go on.
-use mathlib.Core.Path.{_≡_, refl, sym, ap, _∙_, subst}
-use mathlib.Core.Bool.{Bool, true, false, cond}
-use mathlib.Core.List.{List, [], _∷_, _++_}
-use mathlib.Core.Logic.{_⊎_, ⊎-elim}
-use Prim.Native.Nat.{ℕ, suc, _+_, _-_, _≤_, _<_}
-use native.Mathlib.Omega.{arith}
-use lib.Dec.{eqb}
-use lib.ListN.{length, take, drop}
-use borrow.Author.Tests.{lt-ltb, le-ltb, eqb-true, eqb-false}
+use Rattle.width.proofs.Kit.{_≡_, refl, sym, ap, _∙_, subst, _⊎_, ⊎-elim, Bool, true, false, cond, List, [], _∷_, _++_, ℕ, suc, _+_, _-_, _≤_, _<_, arith}
+use Rattle.width.proofs.Kit.{eqb, length, take, drop, lt-ltb, le-ltb, eqb-true, eqb-false}
 use Rattle.width.proofs.BlockLaws.{le-or-lt}
 use Rattle.lines.specs.Lines.{decimal}
 use Rattle.format.specs.Parser.{Got}

@@ -1,13 +1,6 @@
 -- The text of a row: the reader finds the values with which a line is that text, and else the place at which it leaves it.
-use mathlib.Core.Path.{_≡_, refl, sym, ap, ap₂, _∙_, subst}
-use mathlib.Core.Bool.{Bool, true, false, cond, not, _&&_}
-use mathlib.Core.List.{List, [], _∷_, _++_, append-assoc}
-use Prim.Native.Nat.{ℕ, suc, _+_, _-_, _<_}
-use native.Mathlib.Omega.{arith}
-use lib.Dec.{leb, eqb}
-use lib.Seq.{take-append-add}
-use lib.ListN.{length, take, drop, length-append}
-use borrow.Author.Tests.{eqb-true, eqb-false, leb-true, not-true}
+use Rattle.width.proofs.Kit.{_≡_, refl, sym, ap, ap₂, _∙_, subst, Bool, true, false, cond, not, _&&_, List, [], _∷_, _++_, append-assoc, ℕ, suc, _+_, _-_}
+use Rattle.width.proofs.Kit.{_<_, arith, leb, eqb, length, take, drop, length-append, take-append-add, eqb-true, eqb-false, leb-true, not-true}
 use Rattle.machine.proofs.TestLaws.{and-left, and-right, false-true}
 use Rattle.format.specs.Formats.{Ends}
 use Rattle.format.specs.Parser.{Got, Parsed, later}

@@ -1,13 +1,6 @@
 -- How long a line is.
-use mathlib.Core.Path.{_≡_, refl, sym, ap, subst}
-use mathlib.Core.Bool.{Bool, true, false, cond, _&&_}
-use mathlib.Core.List.{List, [], _∷_}
-use mathlib.Core.Logic.{inl, inr, ⊎-elim}
-use Prim.Native.Nat.{ℕ, suc, _+_, _-_, _≤_, _<_}
-use native.Mathlib.Omega.{arith}
-use lib.Dec.{leb}
-use lib.ListN.{length, length-append}
-use borrow.Author.Tests.{leb-true, lt-ltb, le-ltb}
+use Rattle.width.proofs.Kit.{_≡_, refl, sym, ap, subst, inl, inr, ⊎-elim, Bool, true, false, cond, _&&_, List, [], _∷_, ℕ, suc, _+_, _-_, _≤_, _<_, arith}
+use Rattle.width.proofs.Kit.{leb, length, length-append, leb-true, lt-ltb, le-ltb}
 use Rattle.width.proofs.BlockLaws.{le-or-lt}
 use Rattle.machine.specs.Listing.{Row, listing}
 use Rattle.machine.proofs.TestLaws.{and-left, and-right}

@@ -1,11 +1,6 @@
 -- A row's word from the values of its operands, and back: rows whose fixed bits and operands together fill a word.
-use mathlib.Core.Path.{_≡_, refl, sym, ap, ap₂, _∙_, subst}
-use mathlib.Core.Bool.{Bool, true, false, _&&_}
-use mathlib.Core.List.{List, [], _∷_}
-use Prim.Native.Nat.{ℕ, _+_, _*_, _-_, _/_, _^_, _≤_, _<_}
-use native.Mathlib.Omega.{arith}
-use lib.Dec.{ltb, leb, eqb}
-use borrow.Author.Tests.{eqb-true, eq-eqb, ltb-true, leb-true}
+use Rattle.width.proofs.Kit.{_≡_, refl, sym, ap, ap₂, _∙_, subst, Bool, true, false, _&&_, List, [], _∷_, ℕ, _+_, _*_, _-_, _/_, _^_, _≤_, _<_, arith, ltb}
+use Rattle.width.proofs.Kit.{leb, eqb, eqb-true, eq-eqb, ltb-true, leb-true}
 use Rattle.machine.proofs.TestLaws.{and-left, and-right, false-true}
 use Rattle.machine.specs.Listing.{bits, field7, field15, field20, immediate13, Fixed, has}
 use Rattle.assembly.specs.Lines.{Operand, below, wide, small, count, fieldAt, fieldsFrom, wordWith}

@@ -1,5 +1,5 @@
 -- The answers to words and lines of text, and their numbers.
-use Prim.Native.Nat.{ℕ}
+use Rattle.width.specs.Kit.{ℕ}
 use Rattle.machine.specs.declared.Instruction.{Instruction}
 use Rattle.machine.specs.declared.Instruction.the-variants.{Illegal, SetTypeImmediate, SetType, SetTileImmediate, SetTile, Load, Store, Multiply, Combine, Scale, ScaleImmediate, FloatMultiply, MoveOut, MoveIn}
 use Rattle.machine.specs.Answers.{number}

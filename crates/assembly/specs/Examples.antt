@@ -1,10 +1,6 @@
 -- Computed examples of lines and of reading them.
-use mathlib.Core.Path.{_≡_, refl}
-use mathlib.Core.Bool.{true, false}
-use mathlib.Core.List.{List, [], _∷_}
-use mathlib.Core.Option.{Option, none, some}
+use Rattle.width.specs.Kit.{_≡_, refl, true, false, List, [], _∷_, Option, none, some, ℕ}
 use Prim.Native.String.{String}
-use Prim.Native.Nat.{ℕ}
 use Rattle.machine.specs.Listing.{listing, decode}
 use Rattle.format.specs.Parser.{Parsed}
 use Rattle.format.specs.Parser.Parsed.{whole, stopped}

@@ -1,12 +1,7 @@
 -- 02, Fourteen: the line of a word. "Every word of all families so far that some machine accepts has exactly one line, lower case, one
 -- space after the mnemonic, a comma and a space between operands."
-use mathlib.Core.Bool.{Bool, true, false, cond, _&&_}
-use mathlib.Core.List.{List, [], _∷_, _++_, map}
-use mathlib.Core.Option.{Option, none, some}
+use Rattle.width.specs.Kit.{Bool, true, false, cond, _&&_, List, [], _∷_, _++_, map, Option, none, some, ℕ, zero, suc, _+_, _*_, _-_, _^_, ltb, eqb, getD}
 use Prim.Native.String.{String}
-use Prim.Native.Nat.{ℕ, zero, suc, _+_, _*_, _-_, _^_}
-use lib.Dec.{ltb, eqb}
-use lib.ListN.{getD}
 use Rattle.machine.specs.Tests.{isIn}
 use Rattle.machine.specs.Listing.{bits, field7, field15, field20, immediate13, Fixed, Row, has, listing}
 use Rattle.lines.specs.Lines.{decimal}

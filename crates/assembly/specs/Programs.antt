@@ -1,10 +1,5 @@
 -- 02, Fourteen: the two programs, text to text. A text is its bytes.
-use mathlib.Core.Bool.{Bool, cond}
-use mathlib.Core.List.{List, [], _∷_, _++_}
-use mathlib.Core.Option.{Option, none, some}
-use Prim.Native.Nat.{ℕ, suc}
-use lib.Dec.{eqb, leb}
-use lib.ListN.{length}
+use Rattle.width.specs.Kit.{Bool, cond, List, [], _∷_, _++_, Option, none, some, ℕ, suc, eqb, leb, length}
 use Rattle.machine.specs.Listing.{decode}
 use Rattle.lines.specs.Lines.{decimal}
 use Rattle.format.specs.Parser.{Parsed}

@@ -1,10 +1,6 @@
 -- 02, Fourteen: reading a line. "Refusals: 17 with the column, from 1, of the first character at which no accepted line .. can go on
 -- (one past the end if cut short)". Places count from 0 here: the column is the place and one more.
-use mathlib.Core.Bool.{Bool, cond, _&&_}
-use mathlib.Core.List.{List, [], _∷_}
-use Prim.Native.Nat.{ℕ, suc, _+_, _*_, _-_, max}
-use lib.Dec.{ltb, leb, eqb}
-use lib.ListN.{drop}
+use Rattle.width.specs.Kit.{Bool, cond, _&&_, List, [], _∷_, ℕ, suc, _+_, _*_, _-_, max, ltb, leb, eqb, drop}
 use Rattle.machine.specs.Listing.{Fixed, Row, listing}
 use Rattle.format.specs.Parser.{Got, Parsed, later}
 use Rattle.format.specs.Parser.Got.{value, fault}

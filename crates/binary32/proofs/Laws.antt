@@ -1,8 +1,5 @@
 -- Values and bits, with a NaN and without.
-use mathlib.Core.Path.{_≡_, refl, sym, _∙_, subst}
-use mathlib.Core.Bool.{Bool, true, false, not, true≢false, false≢true}
-use Prim.Native.Nat.{ℕ}
-use lib.Dec.{T}
+use Rattle.width.proofs.Kit.{_≡_, refl, sym, _∙_, subst, Bool, true, false, not, true≢false, false≢true, ℕ, T}
 use lib.Ieee.{Float, nan, inf, fin, binary32, ne, isNan, nanBits, ofBits, toBits}
 use lib.Ieee.Bits.{nanBits-is}
 use Rattle.width.specs.Binary32.{valueOf, settled}

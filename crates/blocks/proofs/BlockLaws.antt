@@ -1,13 +1,7 @@
 -- Laws of the blocks: what is read back of what was written, and that a block written over with its own numbers stays.
-use mathlib.Core.Path.{_≡_, refl, sym, ap, ap₂, _∙_}
-use mathlib.Core.Logic.{_⊎_, inl, inr}
-use mathlib.Core.Bool.{Bool, true, false, cond}
-use mathlib.Core.List.{List, [], _∷_}
-use Prim.Native.Nat.{ℕ, zero, suc, _+_, _-_, _*_, _/_, _%_, _^_, _≤_, _<_}
-use native.Mathlib.Nat.{div-add-mod', zero-add, mod-eq-of-lt, eq-or-lt-of-le, le-of-suc-le-suc, not-suc-le-zero}
-use native.Mathlib.Omega.{arith}
-use lib.ListN.{length, getD, length-append, List·getD-append, List·getD-eq-default}
-use lib.Seq.{getD-at}
+use Rattle.width.proofs.Kit.{_≡_, refl, sym, ap, ap₂, _∙_, _⊎_, inl, inr, Bool, true, false, cond, List, [], _∷_, ℕ, zero, suc, _+_, _-_, _*_, _/_, _%_}
+use Rattle.width.proofs.Kit.{_^_, _≤_, _<_, div-add-mod', zero-add, mod-eq-of-lt, eq-or-lt-of-le, le-of-suc-le-suc, not-suc-le-zero, arith, length, getD}
+use Rattle.width.proofs.Kit.{length-append, List·getD-append, List·getD-eq-default, getD-at}
 use Rattle.width.specs.Blocks.{Choice}
 use Rattle.width.specs.Upto.{upto}
 use Rattle.width.specs.Tile.{getLe, putLe, putRow, In}

@@ -1,10 +1,7 @@
 -- Numbers as the host passes them: the machine's numbers and the scalars in blocks of bytes, an answer in one number.
 -- 01, "What a machine is": "The bench host is written in C and passes numbers and byte buffers, so stepping is offered to it in that
 -- form too". The layout of the blocks is that of include/bodlarina.h (docs/DECISIONS.md).
-use mathlib.Core.Path.{_≡_}
-use mathlib.Core.List.{List, [], _∷_, _++_}
-use Prim.Native.Nat.{ℕ, _+_, _*_, _%_, _^_, _<_}
-use lib.ListN.{length, getD}
+use Rattle.width.specs.Kit.{_≡_, List, [], _∷_, _++_, ℕ, _+_, _*_, _%_, _^_, _<_, length, getD}
 use Rattle.width.specs.Upto.{upto}
 use Rattle.width.specs.Tile.{getLe, putLe, putRow}
 use Rattle.ranges.specs.Ranges.{blockBytes}

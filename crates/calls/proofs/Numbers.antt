@@ -1,14 +1,6 @@
 -- Numbers of 64 bits stay such: those of a machine over steps, and those of a run over turns. So what is written to a block is read back.
-use mathlib.Core.Path.{_≡_, refl, sym, _∙_, subst}
-use mathlib.Core.Bool.{Bool, true, false, cond}
-use mathlib.Core.List.{List, [], _∷_, _++_, map}
-use mathlib.Core.Option.{Option, none, some}
-use Prim.Native.Nat.{ℕ, zero, suc, _+_, _/_, _^_, _≤_, _<_}
-use native.Mathlib.Nat.{div-le-self}
-use native.Mathlib.Omega.{arith}
-use lib.ListN.{length, getD}
-use lib.Dec.{ltb, eqb}
-use borrow.Author.Tests.{eqb-true, ltb-true, leb-true}
+use Rattle.width.proofs.Kit.{_≡_, refl, sym, _∙_, subst, Bool, true, false, cond, List, [], _∷_, _++_, map, Option, none, some, ℕ, zero, suc, _+_, _/_, _^_}
+use Rattle.width.proofs.Kit.{_≤_, _<_, div-le-self, arith, ltb, eqb, length, getD, eqb-true, ltb-true, leb-true}
 use Rattle.width.specs.Tile.{getLe}
 use Rattle.width.proofs.TileLaws.{le-lt}
 use Rattle.machine.specs.declared.Machine.{Machine}

@@ -1,13 +1,6 @@
 -- Demand 3 over calls: bodlarina_run_start, bodlarina_run_turn and bodlarina_run_next; and bodlarina_run as such calls.
-use mathlib.Core.Path.{_≡_, refl, sym, ap, ap₂, _∙_, subst}
-use mathlib.Core.Bool.{Bool, true, false, cond}
-use mathlib.Core.List.{List, [], _∷_}
-use mathlib.Core.Option.{Option, none, some}
-use Prim.Native.Nat.{ℕ, suc}
-use native.Mathlib.Omega.{arith}
-use lib.ListN.{length}
-use lib.Dec.{eqb}
-use borrow.Author.Tests.{eqb-true, eq-eqb, ne-eqb}
+use Rattle.width.proofs.Kit.{_≡_, refl, sym, ap, ap₂, _∙_, subst, Bool, true, false, cond, List, [], _∷_, Option, none, some, ℕ, suc, arith, eqb, length}
+use Rattle.width.proofs.Kit.{eqb-true, eq-eqb, ne-eqb}
 use Rattle.machine.specs.declared.Answer.{Answer}
 use Rattle.machine.specs.declared.Answer.the-variants.{Done, OutsideMemory, BadArguments, Overlap}
 use Rattle.machine.specs.Tests.{every}

@@ -1,12 +1,6 @@
 -- Ranges that are written over a block: what stood in its slots before is gone.
-use mathlib.Core.Path.{_≡_, refl, sym, ap, _∙_}
-use mathlib.Core.Logic.{_⊎_, inl, inr}
-use mathlib.Core.List.{List}
-use Prim.Native.Nat.{ℕ, zero, suc, _+_, _-_, _*_, _/_, _≤_, _<_}
-use native.Mathlib.Nat.{eq-or-lt-of-le, le-of-suc-le-suc, not-suc-le-zero}
-use native.Mathlib.Omega.{arith}
-use lib.ListN.{length, getD}
-use borrow.Author.Tests.{ne-eqb}
+use Rattle.width.proofs.Kit.{_≡_, refl, sym, ap, _∙_, _⊎_, inl, inr, List, ℕ, zero, suc, _+_, _-_, _*_, _/_, _≤_, _<_, eq-or-lt-of-le, le-of-suc-le-suc}
+use Rattle.width.proofs.Kit.{not-suc-le-zero, arith, length, getD, ne-eqb}
 use Rattle.width.specs.Upto.{upto}
 use Rattle.width.specs.Tile.{byteOf, putLe, In}
 use Rattle.width.proofs.UptoLaws.{upto-keeps}

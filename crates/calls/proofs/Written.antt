@@ -1,12 +1,7 @@
 -- Blocks that are written over again: the numbers and ranges of a machine, or the numbers of a run, fill their block, so what it held before
 -- is gone.
-use mathlib.Core.Path.{_≡_, refl, sym, ap, _∙_}
-use mathlib.Core.Logic.{_⊎_, inl, inr}
-use mathlib.Core.List.{List, [], _∷_}
-use Prim.Native.Nat.{ℕ, _+_, _-_, _*_, _/_, _%_, _^_, _≤_, _<_}
-use native.Mathlib.Omega.{arith}
-use lib.ListN.{length, getD}
-use lib.Seq.{ext-getD}
+use Rattle.width.proofs.Kit.{_≡_, refl, sym, ap, _∙_, _⊎_, inl, inr, List, [], _∷_, ℕ, _+_, _-_, _*_, _/_, _%_, _^_, _≤_, _<_, arith, length, getD}
+use Rattle.width.proofs.Kit.{ext-getD}
 use Rattle.width.specs.Tile.{getLe, byteOf, putRow, In}
 use Rattle.width.proofs.TileLaws.{le-cong, length-putRow, putRow-at, putRow-out}
 use Rattle.width.proofs.WordLaws.{le-putRow}

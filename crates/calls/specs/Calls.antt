@@ -1,7 +1,6 @@
 -- A host's buffers, the calls that it makes of the C functions on machines, runs and images (include/bodlarina.h), what it does between
 -- them, and what each leaves.
-use mathlib.Core.List.{List, [], _∷_}
-use Prim.Native.Nat.{ℕ}
+use Rattle.width.specs.Kit.{List, [], _∷_, ℕ}
 use Rattle.run.specs.declared.Plan.{Plan}
 use Rattle.bench_calls.specs.BenchCalls.{HostStarted, hostStart, HostStepped, hostStep, HostSealed, hostSeal}
 use Rattle.run_calls.specs.RunCalls.{HostRunStarted, hostRunStart, HostNext, hostNext}

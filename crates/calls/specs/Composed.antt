@@ -1,11 +1,6 @@
 -- What holds over lists of calls of the C functions (include/bodlarina.h): demand 3 from bodlarina_run_start on, bodlarina_run_turns as
 -- that many calls of bodlarina_run_turn, bodlarina_run as a start and all its turns, and demand 2. The proofs stand in proofs/.
-use mathlib.Core.Path.{_≡_}
-use mathlib.Core.Bool.{true, cond}
-use mathlib.Core.List.{List, [], _∷_, _++_}
-use Prim.Native.Nat.{ℕ, suc, _+_, _^_, _≤_, _<_}
-use lib.ListN.{length, getD, replicate}
-use lib.Dec.{eqb}
+use Rattle.width.specs.Kit.{_≡_, true, cond, List, [], _∷_, _++_, ℕ, suc, _+_, _^_, _≤_, _<_, eqb, length, getD, replicate}
 use Rattle.machine.specs.declared.Reply.{Reply}
 use Rattle.machine.specs.Geometry.{Range, range, sealed, Bench, benchOf}
 use Rattle.machine.specs.Starting.{ranges}

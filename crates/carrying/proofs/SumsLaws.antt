@@ -1,9 +1,5 @@
 -- Steps over k: after two loads that are answered 0 the multiply is too, where its widths and the marks of acc0 were found right before.
-use mathlib.Core.Path.{_≡_, refl, sym, ap, _∙_, subst}
-use mathlib.Core.Bool.{Bool, true, false, cond, not}
-use mathlib.Core.List.{List, [], _∷_}
-use Prim.Native.Nat.{ℕ, _*_}
-use lib.Dec.{leb}
+use Rattle.width.proofs.Kit.{_≡_, refl, sym, ap, _∙_, subst, Bool, true, false, cond, not, List, [], _∷_, ℕ, _*_, leb}
 use Rattle.width.specs.Bounds.{mostElen}
 use Rattle.width.specs.Tile.{markTile}
 use Rattle.machine.specs.declared.Machine.{Machine}

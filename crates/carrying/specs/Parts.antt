@@ -1,9 +1,5 @@
 -- What the contracts of inner functions name; a reader of the demand need not read it.
-use mathlib.Core.Path.{_≡_}
-use mathlib.Core.Bool.{true, false}
-use mathlib.Core.List.{List, []}
-use mathlib.Core.Option.{Option, none, some}
-use Prim.Native.Nat.{ℕ, _*_}
+use Rattle.width.specs.Kit.{_≡_, true, false, List, [], Option, none, some, ℕ, _*_}
 use Rattle.machine.specs.declared.Answer.the-variants.{BadArguments}
 use Rattle.machine.specs.declared.Machine.{Machine}
 use Rattle.machine.specs.declared.Reply.{Reply}

@@ -1,14 +1,7 @@
 -- Arithmetic: what the checks of answers 2 to 4 give, and what answer 5 and the rest then are.
-use mathlib.Core.Path.{_≡_, refl, sym, ap, _∙_, subst}
-use mathlib.Core.Logic.{inl, inr}
-use mathlib.Core.Bool.{Bool, true, false, cond}
-use mathlib.Core.List.{List, [], _∷_, _++_}
-use Prim.Native.Nat.{ℕ, zero, _+_, _*_, _/_, _≤_, _<_, min}
-use native.Mathlib.Nat.{mul-le-mul, one-mul, mul-le-mul-right, div-mul-le-self, zero-mul, mul-zero, mul-pos, eq-zero-or-pos}
-use native.Mathlib.Omega.{arith}
-use lib.ListN.{length}
-use lib.Dec.{eqb}
-use borrow.Author.Tests.{leb-true, eq-eqb, ne-eqb}
+use Rattle.width.proofs.Kit.{_≡_, refl, sym, ap, _∙_, subst, inl, inr, Bool, true, false, cond, List, [], _∷_, _++_, ℕ, zero, _+_, _*_, _/_, _≤_, _<_, min}
+use Rattle.width.proofs.Kit.{mul-le-mul, one-mul, mul-le-mul-right, div-mul-le-self, zero-mul, mul-zero, mul-pos, eq-zero-or-pos, arith, eqb, length}
+use Rattle.width.proofs.Kit.{leb-true, eq-eqb, ne-eqb}
 use Rattle.machine.specs.declared.Machine.{Machine}
 use Rattle.machine.specs.declared.Matrix.the-variants.{MatrixA, MatrixB, MatrixC}
 use Rattle.machine.specs.declared.Answer.{Answer}

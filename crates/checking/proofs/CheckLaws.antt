@@ -1,17 +1,11 @@
 -- The checks of each family: the width rule of arithmetic, registers, mtype once answer 2 has passed, and checks made in parts.
-use mathlib.Core.Path.{_≡_, refl, sym, ap, _∙_, subst}
-use mathlib.Core.Bool.{Bool, true, false, cond, not}
-use mathlib.Core.List.{List, _++_}
-use Prim.Native.Nat.{ℕ, _+_, _*_, _/_, _^_, _≤_, _<_}
-use native.Mathlib.Omega.{arith}
-use lib.Dec.{leb}
-use borrow.Author.Tests.{not-true, eq-eqb, ne-eqb, le-leb, lt-leb, leb-true}
+use Rattle.width.proofs.Kit.{_≡_, refl, sym, ap, _∙_, subst, Bool, true, false, cond, not, List, _++_, ℕ, _+_, _*_, _/_, _^_, _≤_, _<_, mul-le-mul, arith}
+use Rattle.width.proofs.Kit.{leb, not-true, eq-eqb, ne-eqb, le-leb, lt-leb, leb-true}
 use Rattle.width.specs.Bounds.{mostPitch, mostSize}
 use Rattle.machine.specs.declared.Machine.{Machine}
 use Rattle.machine.specs.Tests.{isIn}
 use Rattle.machine.proofs.TestLaws.{each-in}
 use Rattle.machine.proofs.StartLaws.{and-truth}
-use native.Mathlib.Nat.{mul-le-mul}
 use Rattle.machine.specs.declared.Matrix.{Matrix}
 use Rattle.machine.specs.declared.Matrix.the-variants.{MatrixA, MatrixB, MatrixC}
 use Rattle.machine.proofs.StepLaws.{permitted-bounds, permitted-lengths}

@@ -1,10 +1,5 @@
 -- The checks of each family in parts, in the words of the definitions.
-use mathlib.Core.Path.{_≡_}
-use mathlib.Core.Bool.{Bool, false}
-use mathlib.Core.List.{List, [], _∷_, _++_}
-use Prim.Native.Nat.{ℕ, _*_, _/_, _≤_, _<_}
-use lib.ListN.{length}
-use lib.Dec.{eqb}
+use Rattle.width.specs.Kit.{_≡_, Bool, false, List, [], _∷_, _++_, ℕ, _*_, _/_, _≤_, _<_, eqb, length}
 use Rattle.machine.specs.declared.Machine.{Machine}
 use Rattle.machine.specs.declared.Dimension.the-variants.{DimensionM, DimensionK, DimensionN}
 use Rattle.machine.specs.declared.Answer.the-variants.{BadWidth}

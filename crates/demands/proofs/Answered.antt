@@ -1,15 +1,7 @@
 -- Whatever a host does is answered with a number of the table, and a refusal changes nothing.
-use mathlib.Core.Path.{_≡_, refl, sym, ap, ap₂, _∙_, subst}
-use mathlib.Core.Logic.{_⊎_, inl, inr}
-use mathlib.Core.Bool.{Bool, true, false, cond}
-use mathlib.Core.List.{List, [], _∷_, _++_}
-use mathlib.Core.Option.{Option, none, some}
-use Prim.Native.Nat.{ℕ, zero, suc, _+_, _≤_, _<_}
-use native.Mathlib.Nat.{eq-or-lt-of-le, eq-zero-or-pos, le-of-suc-le-suc}
-use native.Mathlib.Omega.{arith}
-use lib.Dec.{leb, eqb}
-use lib.ListN.{length, drop, replicate}
-use borrow.Author.Tests.{eqb-true, eqb-false, leb-true}
+use Rattle.width.proofs.Kit.{_≡_, refl, sym, ap, ap₂, _∙_, subst, _⊎_, inl, inr, Bool, true, false, cond, List, [], _∷_, _++_, Option, none, some, ℕ, zero}
+use Rattle.width.proofs.Kit.{suc, _+_, _≤_, _<_, eq-or-lt-of-le, eq-zero-or-pos, le-of-suc-le-suc, arith, leb, eqb, length, drop, replicate, eqb-true}
+use Rattle.width.proofs.Kit.{eqb-false, leb-true}
 use Rattle.width.specs.Blocks.{Choice}
 use Rattle.format.specs.Parser.{Parsed, parse}
 use Rattle.format.specs.Parser.Parsed.{whole, stopped}

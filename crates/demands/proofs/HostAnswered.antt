@@ -1,13 +1,6 @@
 -- Whatever a host calls is answered with a number of the table, and a refusal changes no byte.
-use mathlib.Core.Path.{_≡_, refl, sym, ap, ap₂, _∙_, subst}
-use mathlib.Core.Bool.{Bool, true, false, cond}
-use mathlib.Core.List.{List, [], _∷_, _++_}
-use mathlib.Core.Option.{Option, none, some}
-use Prim.Native.Nat.{ℕ, suc, _+_, _*_, _%_, _^_, _≤_, _<_}
-use native.Mathlib.Omega.{arith}
-use lib.Dec.{leb, eqb}
-use lib.ListN.{length, drop}
-use borrow.Author.Tests.{eqb-true, eqb-false}
+use Rattle.width.proofs.Kit.{_≡_, refl, sym, ap, ap₂, _∙_, subst, Bool, true, false, cond, List, [], _∷_, _++_, Option, none, some, ℕ, suc, _+_, _*_, _%_}
+use Rattle.width.proofs.Kit.{_^_, _≤_, _<_, arith, leb, eqb, length, drop, eqb-true, eqb-false}
 use Rattle.format.specs.Parser.{Parsed}
 use Rattle.format.specs.Parser.Parsed.{whole, stopped}
 use Rattle.machine.specs.declared.Answer.the-variants.{BadArguments}

@@ -1,12 +1,6 @@
 -- Steps and starts in C are those of the definitions.
-use mathlib.Core.Path.{_≡_, refl, sym, ap, ap₂, _∙_, subst}
-use mathlib.Core.Bool.{Bool, true, cond}
-use mathlib.Core.List.{List, [], _∷_, append-nil}
-use Prim.Native.Nat.{ℕ, _*_, _%_, _^_, _<_}
-use native.Mathlib.Omega.{arith}
-use lib.ListN.{length, getD}
-use lib.Dec.{eqb}
-use borrow.Author.Tests.{eq-eqb}
+use Rattle.width.proofs.Kit.{_≡_, refl, sym, ap, ap₂, _∙_, subst, Bool, true, cond, List, [], _∷_, append-nil, ℕ, _*_, _%_, _^_, _<_, arith, eqb, length}
+use Rattle.width.proofs.Kit.{getD, eq-eqb}
 use Rattle.width.proofs.WordLaws.{le-putRow}
 use Rattle.width.specs.Tile.{getLe, putRow}
 use Rattle.machine.specs.declared.Answer.the-variants.{Done, BadArguments}

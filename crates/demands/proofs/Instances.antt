@@ -1,16 +1,8 @@
 -- Each instance, from the promise's own term.
-use mathlib.Core.Path.{_≡_, refl, sym, ap, subst, _∙_}
-use mathlib.Core.Logic.{inl, inr}
-use mathlib.Core.Bool.{Bool, true, false, not, _&&_, _||_, true≢false}
-use mathlib.Core.List.{List, [], _∷_, _++_, List·Memᴰ, List·Memᴰ·head, List·Memᴰ·tail, List·Memᴰ·cases-cons, List·Memᴰ·not-nil}
-use mathlib.Core.Option.{none, some}
-use Prim.Native.Nat.{ℕ, zero, suc, _+_, _*_, _-_, _^_, _≤_, _<_}
-use native.Mathlib.Omega.{arith}
-use lib.ListN.{length, getD, replicate}
-use lib.Dec.{ltb, eqb}
-use lib.IntN.{ℤ, pos, negsuc, _*ℤ_}
+use Rattle.width.proofs.Kit.{_≡_, refl, sym, ap, subst, _∙_, inl, inr, Bool, true, false, not, _&&_, _||_, true≢false, List, [], _∷_, _++_, List·Memᴰ}
+use Rattle.width.proofs.Kit.{List·Memᴰ·head, List·Memᴰ·tail, List·Memᴰ·cases-cons, List·Memᴰ·not-nil, none, some, ℕ, zero, suc, _+_, _*_, _-_, _^_, _≤_}
+use Rattle.width.proofs.Kit.{_<_, arith, ltb, eqb, length, getD, replicate, ℤ, pos, negsuc, _*ℤ_, ltb-true, eq-eqb, eqb-true}
 use lib.Ieee.{ofInt, ofBits, toBits}
-use borrow.Author.Tests.{ltb-true, eq-eqb, eqb-true}
 use Rattle.width.specs.Reduce.{reduce, sumℤ}
 use Rattle.width.specs.Blocks.{Choice, chunks}
 use Rattle.width.specs.Tile.{In, putTile, putRow, putLe, markTile, markRow}

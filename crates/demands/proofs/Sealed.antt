@@ -1,8 +1,5 @@
 -- No sealed byte changes, from a machine that was started or that an image made.
-use mathlib.Core.Path.{_≡_, sym, ap, _∙_, subst}
-use mathlib.Core.Bool.{Bool, cond}
-use mathlib.Core.List.{List, [], _∷_, _++_}
-use Prim.Native.Nat.{ℕ}
+use Rattle.width.proofs.Kit.{_≡_, sym, ap, _∙_, subst, Bool, cond, List, [], _∷_, _++_, ℕ}
 use Rattle.width.specs.Blocks.{Choice}
 use Rattle.machine.specs.Geometry.{Range, range, Bench}
 use Rattle.machine.specs.Starting.{ranges, StartOutcome}

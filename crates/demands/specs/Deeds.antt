@@ -1,7 +1,5 @@
 -- What a host can do with a machine, over the definitions, and over the C functions of include/bodlarina.h; what each answers and leaves.
-use mathlib.Core.Bool.{cond}
-use mathlib.Core.List.{List, [], _∷_}
-use Prim.Native.Nat.{ℕ}
+use Rattle.width.specs.Kit.{cond, List, [], _∷_, ℕ}
 use Rattle.width.specs.Blocks.{Choice}
 use Rattle.machine.specs.Answers.{done}
 use Rattle.machine.specs.Geometry.{Range, Bench, benchOf}

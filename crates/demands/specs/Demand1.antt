@@ -1,8 +1,5 @@
 -- Demand 1: every word, scalar, memory size and state gets an answer, and a refusal changes nothing.
-use mathlib.Core.Path.{_≡_}
-use mathlib.Core.Bool.{false}
-use mathlib.Core.List.{List}
-use Prim.Native.Nat.{ℕ, _%_, _^_, _≤_, _<_}
+use Rattle.width.specs.Kit.{_≡_, false, List, ℕ, _%_, _^_, _≤_, _<_}
 use Rattle.width.specs.Blocks.{Choice}
 use Rattle.blocks.specs.Blocks.{Bytes}
 use Rattle.machine.specs.Faults.{soundBench}

@@ -1,10 +1,5 @@
 -- Demand 2: each accepted word does exactly what the papers define, refusals are exact, and no sealed byte ever changes.
-use mathlib.Core.Path.{_≡_}
-use mathlib.Core.Bool.{cond}
-use mathlib.Core.List.{List, [], _∷_, _++_}
-use mathlib.Core.Option.{some}
-use Prim.Native.Nat.{ℕ, _%_, _^_, _<_}
-use lib.ListN.{length, getD}
+use Rattle.width.specs.Kit.{_≡_, cond, List, [], _∷_, _++_, some, ℕ, _%_, _^_, _<_, length, getD}
 use Rattle.width.specs.Blocks.{Choice}
 use Rattle.format.specs.Numbers as Images
 use Rattle.machine.specs.Geometry.{Range, range, Parameters, parameters, State, stateOf, Bench, benchOf}

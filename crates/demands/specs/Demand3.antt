@@ -1,8 +1,5 @@
 -- Demand 3: the tiled product run, as one statement over any number of turns from its start.
-use mathlib.Core.Path.{_≡_}
-use mathlib.Core.List.{[], _∷_}
-use Prim.Native.Nat.{ℕ, _<_}
-use lib.ListN.{length}
+use Rattle.width.specs.Kit.{_≡_, [], _∷_, ℕ, _<_, length}
 use Rattle.machine.specs.declared.Reply.{Reply}
 use Rattle.machine.specs.Operation.{element}
 use Rattle.run.specs.declared.Plan.{Plan}

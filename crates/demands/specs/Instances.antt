@@ -2,14 +2,8 @@
 -- sealed ranges, words with three operands, a run of 47 steps, an image of two runs, several acts and calls. Records and lines have the names that
 -- Promise.antt and the demands' pages have; proofs/Instances.antt takes each line from the promise's own term, so that a statement which asks for
 -- more, or speaks of less, no longer gives its line.
-use mathlib.Core.Path.{_≡_}
-use mathlib.Core.Logic.{_⊎_}
-use mathlib.Core.Bool.{true, false, cond}
-use mathlib.Core.List.{map, List, [], _∷_, _++_, List·Memᴰ}
-use mathlib.Core.Option.{none, some}
-use Prim.Native.Nat.{ℕ, zero, suc, _+_, _*_, _-_, _/_, _%_, _^_, _≤_, _<_}
-use lib.ListN.{length, getD, replicate, set, take, drop}
-use lib.IntN.{negsuc}
+use Rattle.width.specs.Kit.{_≡_, _⊎_, true, false, cond, map, List, [], _∷_, _++_, List·Memᴰ, none, some, ℕ, zero, suc, _+_, _*_, _-_, _/_, _%_, _^_, _≤_}
+use Rattle.width.specs.Kit.{_<_, length, getD, replicate, set, take, drop, negsuc}
 use Rattle.width.specs.Reduce.{reduce}
 use Rattle.width.specs.Blocks.{Choice}
 use Rattle.width.specs.Binary32.{valueOf}

@@ -1,9 +1,5 @@
 -- Widths by cases.
-use mathlib.Core.Path.{_≡_, sym, ap, ap₂, _∙_}
-use mathlib.Core.Logic.{⊎-elim, inl, inr}
-use Prim.Native.Nat.{ℕ, _+_, _*_, _/_, _%_, _≤_}
-use native.Mathlib.Nat.{div-add-mod', add-mod, add-mul-mod-self-right}
-use native.Mathlib.Omega.{arith}
+use Rattle.width.proofs.Kit.{_≡_, sym, ap, ap₂, _∙_, ⊎-elim, inl, inr, ℕ, _+_, _*_, _/_, _%_, _≤_, div-add-mod', add-mod, add-mul-mod-self-right, arith}
 use Rattle.element.specs.Element.{Width, Short, Narrow}
 
 pub is8 : (w : ℕ) → Width w → (w ≡ 1 → ⊥) → (w ≡ 2 → ⊥) → (w ≡ 4 → ⊥) → w ≡ 8

@@ -1,7 +1,5 @@
 -- The widths of elements, in bytes.
-use mathlib.Core.Path.{_≡_}
-use mathlib.Core.Logic.{_⊎_}
-use Prim.Native.Nat.{ℕ}
+use Rattle.width.specs.Kit.{_≡_, _⊎_, ℕ}
 
 abbrev pub Width : ℕ → Type 0
 Width w = (w ≡ 1) ⊎ ((w ≡ 2) ⊎ ((w ≡ 4) ⊎ (w ≡ 8)))

@@ -1,9 +1,5 @@
 -- A float run on whole numbers within 2^24 is exact.
-use mathlib.Core.Path.{_≡_, sym, ap, _∙_, subst}
-use mathlib.Core.Bool.{Bool, cond}
-use Prim.Native.Nat.{ℕ}
-use lib.IntN.{ℤ, _*ℤ_}
-use borrow.Author.Tests.{eq-eqb}
+use Rattle.width.proofs.Kit.{_≡_, sym, ap, _∙_, subst, Bool, cond, ℕ, ℤ, _*ℤ_, eq-eqb}
 use Rattle.width.specs.Reduce.{sumℤ}
 use Rattle.machine.specs.Setting.{chosen}
 use Rattle.run.specs.Plan.{Job, integers, floats, narrow, wide, aOf, bOf, total, productOf}

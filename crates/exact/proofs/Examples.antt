@@ -1,8 +1,5 @@
 -- The example of specs/Examples.antt.
-use mathlib.Core.Path.{refl}
-use Prim.Native.Nat.{ℕ, zero, suc, _≤_, _<_}
-use native.Mathlib.Omega.{arith}
-use lib.IntN.{_*ℤ_}
+use Rattle.width.proofs.Kit.{refl, ℕ, zero, suc, _≤_, _<_, arith, _*ℤ_}
 use lib.Ieee.{ofBits}
 use Rattle.width.specs.Reduce.{sumℤ}
 use Rattle.width.specs.Binary32.{valueOf}

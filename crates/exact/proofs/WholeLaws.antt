@@ -1,18 +1,14 @@
 -- Sums and products of whole numbers within 2^24 are not rounded.
-use mathlib.Core.Path.{_≡_, refl, sym, ap, ap₂, _∙_, subst}
-use mathlib.Core.Bool.{Bool, true, false, _&&_, cond}
-use Prim.Native.Nat.{ℕ, zero, suc, _+_, _-_, _*_, _^_, _≤_, _<_, zero-le}
-use native.Mathlib.Nat.{mul-one, mul-comm, mul-assoc, mul-pos, mul-mul-mul-comm, zero-mul, mul-zero, lt-irrefl, zero-lt-suc, le-refl, mul-sub, mul-lt-mul-of-pos-right, mul-le-mul-right}
-use native.Mathlib.Omega.{arith}
-use lib.IntN.{ℤ, pos, negsuc, negℤ, natAbs, subℕ, _+ℤ_, _*ℤ_, zero-*ℤ, pos-ne-negsuc}
-use lib.Dec.{T, ltb}
+use Rattle.width.proofs.Kit.{_≡_, refl, sym, ap, ap₂, _∙_, subst, Bool, true, false, _&&_, cond, ℕ, zero, suc, _+_, _-_, _*_, _^_, _≤_, _<_, zero-le}
+use Rattle.width.proofs.Kit.{mul-one, mul-comm, mul-assoc, mul-pos, mul-mul-mul-comm, zero-mul, mul-zero, lt-irrefl, zero-lt-suc, le-refl, mul-sub}
+use Rattle.width.proofs.Kit.{mul-lt-mul-of-pos-right, mul-le-mul-right, arith, T, ltb, ℤ, pos, negsuc, negℤ, natAbs, subℕ, _+ℤ_, _*ℤ_, zero-*ℤ}
+use Rattle.width.proofs.Kit.{pos-ne-negsuc, ltb-true, ltb-false, lt-ltb, le-ltb}
 use lib.Ieee.{Float, nan, inf, fin, Format, binary32, prec, up, down, unlike, round, sum, add, mul, ofInt}
 use lib.Ieee.Exact.{HasValue}
 use lib.Ieee.Back.{round-whole}
 use lib.Ieee.Scale.{round-same}
 use lib.Ieee.Fits.{up-pos, down-pos, ofInt-fits}
 use lib.Ieee.Positive.{first-pos}
-use borrow.Author.Tests.{ltb-true, ltb-false, lt-ltb, le-ltb}
 use Rattle.width.specs.Reduce.{sumℤ}
 use Rattle.width.specs.Binary32.{valueOf, settled, multiplyAdd, floatSum, plusZero}
 use Rattle.width.proofs.Binary32Laws.{value-stored}

@@ -1,9 +1,6 @@
 -- 02, Four: "where all elements are whole numbers and all products and partial sums lie between -2^24 and 2^24, each entry is exactly the
 -- whole-number sum". The proofs stand in proofs/.
-use mathlib.Core.Path.{_≡_}
-use mathlib.Core.Bool.{Bool, cond}
-use Prim.Native.Nat.{ℕ, _*_, _^_, _≤_, _<_}
-use lib.IntN.{ℤ, pos, negℤ, natAbs, _*ℤ_}
+use Rattle.width.specs.Kit.{_≡_, Bool, cond, ℕ, _*_, _^_, _≤_, _<_, ℤ, pos, negℤ, natAbs, _*ℤ_}
 use lib.Ieee.{Float, nan, inf, fin, binary32, up, down, ofInt}
 use Rattle.width.specs.Reduce.{sumℤ}
 use Rattle.width.specs.Binary32.{valueOf, settled}

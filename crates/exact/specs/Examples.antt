@@ -1,8 +1,6 @@
 -- Which bits stand for whole numbers, computed.
-use mathlib.Core.Path.{_≡_, refl}
-use Prim.Native.Nat.{ℕ, zero, suc}
+use Rattle.width.specs.Kit.{_≡_, refl, ℕ, zero, suc, ℤ, pos, negsuc}
 use native.Mathlib.Omega.{arith}
-use lib.IntN.{ℤ, pos, negsuc}
 use lib.Ieee.{binary32, ofBits, toBits, ofInt}
 use Rattle.width.specs.Binary32.{valueOf, settled}
 use Rattle.exact.specs.Exact.{Is, WholeNumbers}

@@ -1,13 +1,7 @@
 -- The loops over float rows: what holds in each turn, at its start, after one turn more, and at its end.
-use mathlib.Core.Path.{_≡_, refl, sym, ap, _∙_}
-use mathlib.Core.List.{List}
-use Prim.Native.Nat.{ℕ, _+_, _*_, _≤_, _<_}
-use native.Mathlib.Nat.{zero-mul, zero-add}
-use native.Mathlib.Numerals.{add-one}
-use native.Mathlib.Omega.{arith}
+use Rattle.width.proofs.Kit.{_≡_, refl, sym, ap, _∙_, List, ℕ, _+_, _*_, _≤_, _<_, zero-mul, zero-add, arith, add-one, length, set, getD, length-set}
+use Rattle.width.proofs.Kit.{getD-set-same, getD-set-other}
 use borrow.Author.Count.{below-more}
-use lib.ListN.{length, set, getD, length-set}
-use lib.Seq.{getD-set-same, getD-set-other}
 use lib.Ieee.{Float, nan}
 use Rattle.width.specs.Tile.{putRow}
 use Rattle.width.specs.Binary32.{settled, multiplyAdd, floatSum, floatProduct}

@@ -1,6 +1,5 @@
 -- What a multiply of binary32 elements leaves, row by row and as a tile.
-use mathlib.Core.List.{List}
-use Prim.Native.Nat.{ℕ, _+_, _*_}
+use Rattle.width.specs.Kit.{List, ℕ, _+_, _*_}
 use lib.Ieee.{Float}
 use Rattle.width.specs.Tile.{getLe, putTile}
 use Rattle.width.specs.Binary32.{valueOf, floatProduct}

@@ -1,13 +1,6 @@
 -- Cells and the registers and marks that they stand for.
-use mathlib.Core.Path.{_≡_, refl, ap, ap₂, subst}
-use mathlib.Core.Bool.{Bool, true, false, cond}
-use mathlib.Core.List.{List, [], _∷_}
-use mathlib.Core.Option.{none, some}
-use Prim.Native.Nat.{ℕ, zero, suc, _<_}
-use native.Mathlib.Omega.{arith}
-use lib.ListN.{length, getD}
-use lib.Dec.{eqb}
-use borrow.Author.Tests.{eqb-true}
+use Rattle.width.proofs.Kit.{_≡_, refl, ap, ap₂, subst, Bool, true, false, cond, List, [], _∷_, none, some, ℕ, zero, suc, _<_, arith, eqb, length, getD}
+use Rattle.width.proofs.Kit.{eqb-true}
 use Rattle.format.specs.Numbers.{Bytes}
 use Rattle.image.specs.Cells.{Cell, cell, cellsOf, over, marksOf}
 use Rattle.image.proofs.ImageLaws.{CellsOk}

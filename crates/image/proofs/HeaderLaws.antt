@@ -1,13 +1,6 @@
 -- A machine that is not at fault has numbers that an image can hold, and such numbers make a machine that is not at fault.
-use mathlib.Core.Path.{_≡_, refl, sym, ap, ap₂, _∙_, subst}
-use mathlib.Core.Bool.{Bool, true, false, cond, not, _&&_, _||_}
-use mathlib.Core.List.{List, [], _∷_}
-use mathlib.Core.Logic.{inl, inr}
-use Prim.Native.Nat.{ℕ, _+_, _-_, _*_, _/_, _%_, _^_, _≤_, _<_, min}
-use native.Mathlib.Omega.{arith}
-use lib.ListN.{length, getD}
-use lib.Dec.{leb, ltb, eqb}
-use borrow.Author.Tests.{leb-true, ltb-true, eqb-true, le-leb, lt-ltb}
+use Rattle.width.proofs.Kit.{_≡_, refl, sym, ap, ap₂, _∙_, subst, inl, inr, Bool, true, false, cond, not, _&&_, _||_, List, [], _∷_, ℕ, _+_, _-_, _*_, _/_}
+use Rattle.width.proofs.Kit.{_%_, _^_, _≤_, _<_, min, arith, leb, ltb, eqb, length, getD, leb-true, ltb-true, eqb-true, le-leb, lt-ltb}
 use Rattle.format.specs.Numbers.{Among}
 use Rattle.format.specs.Parser.{isAmong}
 use Rattle.format.proofs.NumberLaws.{isAmong-among, among-isAmong}

@@ -1,14 +1,7 @@
 -- The format accepts the bytes of a header that a machine can hold and of runs that fit, and nothing else.
-use mathlib.Core.Path.{_≡_, refl, sym, ap, ap₂, _∙_, subst}
-use mathlib.Core.Bool.{Bool, true, false, cond, not, _&&_, _||_}
-use mathlib.Core.List.{List, [], _∷_, _++_, map}
-use mathlib.Core.Option.{none, some}
-use mathlib.Core.Logic.{_⊎_, inl, inr}
-use Prim.Native.Nat.{ℕ, zero, suc, _+_, _-_, _*_, _^_, _≤_, _<_, min}
-use native.Mathlib.Omega.{arith}
-use lib.ListN.{length, replicate}
-use lib.Dec.{eqb, ltb}
-use borrow.Author.Tests.{eqb-true, eqb-false, eq-eqb, ne-eqb, ltb-true, ltb-false, lt-ltb, le-ltb}
+use Rattle.width.proofs.Kit.{_≡_, refl, sym, ap, ap₂, _∙_, subst, _⊎_, inl, inr, Bool, true, false, cond, not, _&&_, _||_, List, [], _∷_, _++_, map, none}
+use Rattle.width.proofs.Kit.{some, ℕ, zero, suc, _+_, _-_, _*_, _^_, _≤_, _<_, min, arith, eqb, ltb, length, replicate, eqb-true, eqb-false, eq-eqb, ne-eqb}
+use Rattle.width.proofs.Kit.{ltb-true, ltb-false, lt-ltb, le-ltb}
 use Rattle.width.proofs.BlockLaws.{le-or-lt}
 use Rattle.machine.proofs.TestLaws.{false-true}
 use Rattle.format.specs.Numbers.{span, Among, encode, encodeAll, Bytes}

@@ -1,14 +1,6 @@
 -- The theorems of specs/Theorems.antt.
-use mathlib.Core.Path.{_≡_, refl, sym, ap, ap₂, _∙_, subst}
-use mathlib.Core.Bool.{Bool, true, false, cond}
-use mathlib.Core.List.{List, [], _∷_, _++_}
-use mathlib.Core.Logic.{inl, inr}
-use Prim.Native.Nat.{ℕ, _≤_}
-use native.Mathlib.Omega.{arith}
-use lib.ListN.{length, take, drop, replicate, length-replicate}
-use lib.Seq.{take-append-seam}
-use lib.Dec.{leb, eqb}
-use borrow.Author.Tests.{eqb-true, eq-eqb, le-leb}
+use Rattle.width.proofs.Kit.{_≡_, refl, sym, ap, ap₂, _∙_, subst, inl, inr, Bool, true, false, cond, List, [], _∷_, _++_, ℕ, _≤_, arith, leb, eqb, length}
+use Rattle.width.proofs.Kit.{take, drop, replicate, length-replicate, take-append-seam, eqb-true, eq-eqb, le-leb}
 use Rattle.format.specs.Numbers.{Bytes}
 use Rattle.format.specs.Formats.{Ends, Accepts, Accepted}
 use Rattle.format.specs.Parser.{Parsed, parse}

@@ -1,10 +1,6 @@
 -- Runs and cells: the runs tell the cells, and runs that fit are the runs of the cells that they spell.
-use mathlib.Core.Path.{_≡_, refl, sym, ap, ap₂, _∙_, subst}
-use mathlib.Core.List.{List, [], _∷_, _++_, map}
-use mathlib.Core.Option.{none, some}
-use Prim.Native.Nat.{ℕ, zero, suc, _+_, _-_, _*_, _≤_}
-use native.Mathlib.Omega.{arith}
-use lib.ListN.{length, replicate, length-append, length-replicate, length-map}
+use Rattle.width.proofs.Kit.{_≡_, refl, sym, ap, ap₂, _∙_, subst, List, [], _∷_, _++_, map, none, some, ℕ, zero, suc, _+_, _-_, _*_, _≤_, arith, length}
+use Rattle.width.proofs.Kit.{replicate, length-append, length-replicate, length-map}
 use Rattle.image.specs.Cells.{Cell, Run, widen, join, runs, spread, Fit}
 use Rattle.image.specs.Cells.Run.{run}
 use Rattle.image.specs.Theorems.{RunsAreMaximal}

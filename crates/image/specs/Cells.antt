@@ -1,10 +1,5 @@
 -- Register bytes with their marks, and their runs.
-use mathlib.Core.Bool.{cond}
-use mathlib.Core.List.{List, [], _∷_, _++_, map}
-use mathlib.Core.Option.{Option, none, some}
-use Prim.Native.Nat.{ℕ, zero, suc, _+_, _-_, _≤_, _<_}
-use lib.Dec.{eqb}
-use lib.ListN.{length, replicate}
+use Rattle.width.specs.Kit.{cond, List, [], _∷_, _++_, map, Option, none, some, ℕ, zero, suc, _+_, _-_, _≤_, _<_, eqb, length, replicate}
 
 -- a register byte: the byte if its mark is 1, nothing if not
 abbrev pub Cell : Type 0

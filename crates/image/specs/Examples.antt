@@ -1,9 +1,5 @@
 -- Computed examples of images.
-use mathlib.Core.Path.{_≡_, refl}
-use mathlib.Core.Bool.{true, false}
-use mathlib.Core.List.{List, [], _∷_, _++_}
-use Prim.Native.Nat.{ℕ}
-use lib.ListN.{take}
+use Rattle.width.specs.Kit.{_≡_, refl, true, false, List, [], _∷_, _++_, ℕ, take}
 use Rattle.format.specs.Numbers.{groups, encode}
 use Rattle.format.specs.Parser.{isAmong, nonempty, readNumber, parse}
 use Rattle.image.specs.Cells.{cellsOf, runs}

@@ -1,9 +1,6 @@
 -- The format of all images: each number has the range that the numbers before it leave. specs/Theorems.antt says that it accepts exactly
 -- the images of machines that are not at fault.
-use mathlib.Core.Bool.{cond, _&&_}
-use mathlib.Core.List.{List, [], _∷_}
-use Prim.Native.Nat.{ℕ, zero, suc, _+_, _-_, _*_, _^_, min}
-use lib.Dec.{eqb, ltb}
+use Rattle.width.specs.Kit.{cond, _&&_, List, [], _∷_, ℕ, zero, suc, _+_, _-_, _*_, _^_, min, eqb, ltb}
 use Rattle.format.specs.Numbers.{Range, span}
 use Rattle.format.specs.Formats.{Format}
 use Rattle.format.specs.Formats.Format.{done, number, bytes}

@@ -1,10 +1,5 @@
 -- 02, Six: the image of a machine.
-use mathlib.Core.Path.{_≡_}
-use mathlib.Core.Bool.{Bool, true, cond, _||_, _&&_}
-use mathlib.Core.List.{List, [], _∷_, _++_}
-use Prim.Native.Nat.{ℕ, zero, suc, _/_, _^_}
-use lib.ListN.{length}
-use lib.Dec.{ltb, eqb}
+use Rattle.width.specs.Kit.{_≡_, Bool, true, cond, _||_, _&&_, List, [], _∷_, _++_, ℕ, zero, suc, _/_, _^_, ltb, eqb, length}
 use Rattle.format.specs.Numbers.{encode, encodeAll, Bytes}
 use Rattle.machine.specs.declared.Machine.{Machine}
 use Rattle.machine.specs.Geometry.{Range}

@@ -1,9 +1,5 @@
 -- 02, Six: reading an image.
-use mathlib.Core.Bool.{Bool, cond}
-use mathlib.Core.List.{List, [], _∷_}
-use Prim.Native.Nat.{ℕ}
-use lib.ListN.{length}
-use lib.Dec.{eqb}
+use Rattle.width.specs.Kit.{Bool, cond, List, [], _∷_, ℕ, eqb, length}
 use Rattle.format.specs.Parser.{Parsed, parse}
 use Rattle.format.specs.Parser.Parsed.{whole, stopped}
 use Rattle.machine.specs.declared.Machine.{Machine}

@@ -1,10 +1,5 @@
 -- What is proved of these definitions. The proofs stand in proofs/.
-use mathlib.Core.Path.{_≡_}
-use mathlib.Core.Bool.{true}
-use mathlib.Core.List.{List, _++_}
-use mathlib.Core.Logic.{_⊎_}
-use Prim.Native.Nat.{ℕ, _≤_}
-use lib.ListN.{length, take, drop, getD}
+use Rattle.width.specs.Kit.{_≡_, _⊎_, true, List, _++_, ℕ, _≤_, length, take, drop, getD}
 use Rattle.format.specs.Numbers.{Bytes}
 use Rattle.format.specs.Formats.{Ends, Accepted}
 use Rattle.machine.specs.declared.Machine.{Machine}

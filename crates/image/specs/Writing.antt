@@ -1,9 +1,5 @@
 -- 02, Six: sizing and writing an image.
-use mathlib.Core.Bool.{cond}
-use mathlib.Core.List.{List, _++_}
-use Prim.Native.Nat.{ℕ}
-use lib.ListN.{length, drop}
-use lib.Dec.{leb}
+use Rattle.width.specs.Kit.{cond, List, _++_, ℕ, leb, length, drop}
 use Rattle.machine.specs.declared.Machine.{Machine}
 use Rattle.image.specs.declared.Imaged.{Imaged}
 use Rattle.image.specs.declared.Imaged.the-variants.{Done, BadArguments, NoRoom}

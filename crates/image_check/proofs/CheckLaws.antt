@@ -1,11 +1,6 @@
 -- What a return of the entry point has to show.
-use mathlib.Core.Path.{_≡_, refl, sym, ap, _∙_, subst}
-use mathlib.Core.Bool.{Bool, true, false, cond, true≢false}
-use mathlib.Core.List.{List}
-use Prim.Native.Nat.{ℕ, _*_, _^_}
-use lib.Dec.{eqb}
-use lib.ListN.{length}
-use borrow.Author.Tests.{eqb-true, eqb-false, eq-eqb}
+use Rattle.width.proofs.Kit.{_≡_, refl, sym, ap, _∙_, subst, Bool, true, false, cond, true≢false, List, ℕ, _*_, _^_, eqb, length, eqb-true, eqb-false}
+use Rattle.width.proofs.Kit.{eq-eqb}
 use Rattle.format.specs.Parser.{Parsed}
 use Rattle.format.specs.Parser.Parsed.{whole, stopped}
 use Rattle.machine.specs.declared.Machine.{Machine}

@@ -1,13 +1,6 @@
 -- The fields of a header, one after the other: from each on, what is read is what the format has.
-use mathlib.Core.Path.{_≡_, refl, sym, ap, _∙_, subst}
-use mathlib.Core.Bool.{Bool, true, false, cond}
-use mathlib.Core.List.{List}
-use mathlib.Core.Logic.{inl, inr}
-use Prim.Native.Nat.{ℕ, zero, suc, _+_, _-_, _^_, _≤_, _<_, min}
-use native.Mathlib.Omega.{arith}
-use lib.Dec.{eqb, ltb}
-use lib.ListN.{length}
-use borrow.Author.Tests.{lt-ltb, le-ltb, ltb-true, eqb-true, ne-eqb}
+use Rattle.width.proofs.Kit.{_≡_, refl, sym, ap, _∙_, subst, inl, inr, Bool, true, false, cond, List, ℕ, zero, suc, _+_, _-_, _^_, _≤_, _<_, min, arith}
+use Rattle.width.proofs.Kit.{eqb, ltb, length, lt-ltb, le-ltb, ltb-true, eqb-true, ne-eqb}
 use Rattle.format.specs.Numbers.{span, Among}
 use Rattle.format.specs.Formats.{Format}
 use Rattle.format.specs.Formats.Format.{number}

@@ -1,15 +1,7 @@
 -- The header of an image, part by part: from what was read at each place to what the parser finds from there on.
-use mathlib.Core.Path.{_≡_, refl, sym, ap, _∙_}
-use mathlib.Core.Bool.{Bool, true, false, cond, _&&_}
-use mathlib.Core.List.{List, [], _∷_}
-use mathlib.Core.Logic.{_⊎_, inl, inr}
-use Prim.Native.Nat.{ℕ, zero, suc, _+_, _-_, _*_, _/_, _^_, _≤_, _<_, max}
-use native.Mathlib.Omega.{arith}
-use lib.ListN.{length, drop, getD, drop-of-length-le}
-use lib.Seq.{drop-cons}
-use lib.Dec.{leb, ltb, eqb}
-use lib.Pow.{pow-mono}
-use borrow.Author.Tests.{lt-ltb, le-ltb, le-leb, lt-leb, eq-eqb, ne-eqb}
+use Rattle.width.proofs.Kit.{_≡_, refl, sym, ap, _∙_, _⊎_, inl, inr, Bool, true, false, cond, _&&_, List, [], _∷_, ℕ, zero, suc, _+_, _-_, _*_, _/_, _^_}
+use Rattle.width.proofs.Kit.{_≤_, _<_, max, arith, leb, ltb, eqb, length, drop, getD, drop-of-length-le, drop-cons, pow-mono, lt-ltb, le-ltb, le-leb}
+use Rattle.width.proofs.Kit.{lt-leb, eq-eqb, ne-eqb}
 use Rattle.width.proofs.BlockLaws.{le-or-lt}
 use Rattle.format.specs.Numbers.{span, Among}
 use Rattle.format.specs.Formats.{Format}

@@ -1,12 +1,6 @@
 -- The runs of an image from a place on, one run at a time.
-use mathlib.Core.Path.{_≡_, refl, ap, _∙_, subst}
-use mathlib.Core.Bool.{Bool, true, false, cond}
-use mathlib.Core.List.{List, [], _∷_}
-use Prim.Native.Nat.{ℕ, zero, suc, _+_, _-_, _*_, _≤_, _<_}
-use native.Mathlib.Omega.{arith}
-use lib.Dec.{leb}
-use lib.ListN.{length, take, drop}
-use borrow.Author.Tests.{leb-true, leb-false}
+use Rattle.width.proofs.Kit.{_≡_, refl, ap, _∙_, subst, Bool, true, false, cond, List, [], _∷_, ℕ, zero, suc, _+_, _-_, _*_, _≤_, _<_, arith, leb, length}
+use Rattle.width.proofs.Kit.{take, drop, leb-true, leb-false}
 use Rattle.format.specs.Numbers.{Range, span}
 use Rattle.format.specs.Formats.{Format}
 use Rattle.format.specs.Formats.Format.{number, bytes}

@@ -1,10 +1,5 @@
 -- What the parts of a check find, from a place of the input on.
-use mathlib.Core.Path.{_≡_}
-use mathlib.Core.Bool.{Bool, true, false, cond}
-use mathlib.Core.List.{List, [], _∷_}
-use Prim.Native.Nat.{ℕ, zero, suc, _+_, _-_, _*_, _^_, _≤_, _<_, min}
-use lib.ListN.{length, drop}
-use lib.Dec.{eqb, leb, ltb}
+use Rattle.width.specs.Kit.{_≡_, Bool, true, false, cond, List, [], _∷_, ℕ, zero, suc, _+_, _-_, _*_, _^_, _≤_, _<_, min, eqb, leb, ltb, length, drop}
 use Rattle.format.specs.Parser.{readNumber, Parsed, from}
 use Rattle.reader.specs.At.{Number, found, numberAt}
 use Rattle.reader.specs.At.Number.{Value, Fault}

@@ -1,10 +1,5 @@
 -- What a return of the entry point has to show.
-use mathlib.Core.Path.{_≡_, sym, ap, _∙_}
-use mathlib.Core.Bool.{Bool, cond}
-use mathlib.Core.List.{List}
-use Prim.Native.Nat.{ℕ}
-use lib.ListN.{length}
-use borrow.Author.Tests.{eq-eqb, ne-eqb}
+use Rattle.width.proofs.Kit.{_≡_, sym, ap, _∙_, Bool, cond, List, ℕ, length, eq-eqb, ne-eqb}
 use Rattle.machine.specs.declared.Machine.{Machine}
 use Rattle.machine.specs.Starting.{noMachine}
 use Rattle.ranges.specs.Ranges.{blockBytes, putSeals}

@@ -1,14 +1,7 @@
 -- Filling runs into lent registers and marks, run by run.
-use mathlib.Core.Path.{_≡_, refl, sym, ap, ap₂, _∙_, subst}
-use mathlib.Core.Bool.{Bool, true, false}
-use mathlib.Core.List.{List, [], _∷_, _++_, map, append-assoc}
-use mathlib.Core.Option.{none, some}
-use Prim.Native.Nat.{ℕ, zero, suc, _+_, _-_, _≤_}
-use native.Mathlib.Omega.{arith}
-use lib.Dec.{ltb}
-use borrow.Author.Tests.{ltb-true, ltb-false}
-use lib.ListN.{length, take, drop, replicate, length-append, length-drop, length-replicate, take-append-drop}
-use lib.Seq.{sets, sets-eq, length-sets, drop-drop, take-add, take-at, drop-at, length-take-le}
+use Rattle.width.proofs.Kit.{_≡_, refl, sym, ap, ap₂, _∙_, subst, Bool, true, false, List, [], _∷_, _++_, map, append-assoc, none, some, ℕ, zero, suc, _+_}
+use Rattle.width.proofs.Kit.{_-_, _≤_, arith, ltb, length, take, drop, replicate, length-append, length-drop, length-replicate, take-append-drop, sets}
+use Rattle.width.proofs.Kit.{sets-eq, length-sets, drop-drop, take-add, take-at, drop-at, length-take-le, ltb-true, ltb-false}
 use Rattle.format.specs.Formats.Format.{done}
 use Rattle.format.specs.Parser.{Parsed, from}
 use Rattle.format.specs.Parser.Parsed.{whole, stopped}

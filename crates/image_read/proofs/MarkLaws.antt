@@ -1,10 +1,5 @@
 -- Setting marks one after the other.
-use mathlib.Core.Path.{_≡_, ap, _∙_}
-use mathlib.Core.List.{List}
-use Prim.Native.Nat.{ℕ, suc, _+_, _-_, _≤_, _<_}
-use native.Mathlib.Omega.{arith}
-use lib.ListN.{set, replicate}
-use lib.Seq.{sets}
+use Rattle.width.proofs.Kit.{_≡_, ap, _∙_, List, ℕ, suc, _+_, _-_, _≤_, _<_, arith, set, replicate, sets}
 
 module _ (xs : List ℕ) (at n v : ℕ) where
   pub marks-start : (i : ℕ) → i ≡ 0 → sets xs (at + i) (replicate (n - i) v) ≡ sets xs at (replicate n v)

@@ -1,11 +1,6 @@
 -- What a return of the entry points has to show.
-use mathlib.Core.Path.{_≡_, refl, sym, ap, ap₂, _∙_, subst}
-use mathlib.Core.Bool.{true, false, true≢false}
-use mathlib.Core.List.{List, [], _∷_, _++_, append-nil}
-use Prim.Native.Nat.{ℕ, suc, _+_, _*_, _<_}
-use native.Mathlib.Omega.{arith}
-use lib.ListN.{length, getD, replicate, length-replicate, drop-of-length-le}
-use lib.Seq.{sets, sets-eq}
+use Rattle.width.proofs.Kit.{_≡_, refl, sym, ap, ap₂, _∙_, subst, true, false, true≢false, List, [], _∷_, _++_, append-nil, ℕ, suc, _+_, _*_, _<_, arith}
+use Rattle.width.proofs.Kit.{length, getD, replicate, length-replicate, drop-of-length-le, sets, sets-eq}
 use Rattle.format.specs.Numbers.{Bytes}
 use Rattle.format.specs.Formats.{Accepts}
 use Rattle.format.specs.Parser.{Parsed, parse}

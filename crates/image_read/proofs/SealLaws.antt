@@ -1,9 +1,6 @@
 -- The ranges of an image into a block: one at a time.
-use mathlib.Core.Path.{_≡_, refl, sym, ap, ap₂, _∙_, subst}
-use mathlib.Core.List.{List, [], _∷_}
-use Prim.Native.Nat.{ℕ, zero, suc, _+_, _-_, _≤_, _<_}
-use native.Mathlib.Omega.{arith}
-use lib.ListN.{length, getD, List·getD-eq-default}
+use Rattle.width.proofs.Kit.{_≡_, refl, sym, ap, ap₂, _∙_, subst, List, [], _∷_, ℕ, zero, suc, _+_, _-_, _≤_, _<_, arith, length, getD}
+use Rattle.width.proofs.Kit.{List·getD-eq-default}
 use Rattle.width.specs.Upto.{upto}
 use Rattle.width.proofs.UptoLaws.{upto-cong}
 use Rattle.width.proofs.PutLaws.{upto-add}

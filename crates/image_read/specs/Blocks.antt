@@ -1,9 +1,5 @@
 -- Reading an image into a machine's block, its registers and its marks.
-use mathlib.Core.Bool.{cond}
-use mathlib.Core.List.{List}
-use Prim.Native.Nat.{ℕ}
-use lib.Dec.{eqb}
-use lib.ListN.{length}
+use Rattle.width.specs.Kit.{cond, List, ℕ, eqb, length}
 use Rattle.machine.specs.declared.Machine.{Machine}
 use Rattle.machine.specs.Starting.{noMachine}
 use Rattle.ranges.specs.Ranges.{blockBytes, putSeals}

@@ -1,7 +1,5 @@
 -- What the parts of a read leave.
-use mathlib.Core.List.{List, [], _∷_}
-use Prim.Native.Nat.{ℕ, suc, _≤_}
-use lib.ListN.{length, replicate}
+use Rattle.width.specs.Kit.{List, [], _∷_, ℕ, suc, _≤_, length, replicate}
 use Rattle.format.specs.Parser.{Parsed}
 use Rattle.format.specs.Parser.Parsed.{whole, stopped}
 use Rattle.ranges.specs.Ranges.{putRange}

@@ -1,13 +1,8 @@
 -- Finding the runs of marked bytes, one after the other.
-use mathlib.Core.Path.{_≡_, refl, sym, ap, ap₂, _∙_, subst}
-use mathlib.Core.List.{List, [], _∷_, _++_, map, append-nil}
-use mathlib.Core.Option.{none, some}
-use mathlib.Core.Logic.{_⊎_, inl, inr}
-use Prim.Native.Nat.{ℕ, zero, suc, _+_, _-_, _^_, _≤_, _<_}
-use native.Mathlib.Omega.{arith}
+use Rattle.width.proofs.Kit.{_≡_, refl, sym, ap, ap₂, _∙_, subst, _⊎_, inl, inr, List, [], _∷_, _++_, map, append-nil, none, some, ℕ, zero, suc, _+_, _-_}
+use Rattle.width.proofs.Kit.{_^_, _≤_, _<_, arith, length, take, drop, getD, replicate, length-drop, drop-of-length-le, length-append, getD-drop, drop-drop}
+use Rattle.width.proofs.Kit.{length-take-le}
 use Rattle.width.proofs.BlockLaws.{le-or-lt}
-use lib.ListN.{length, take, drop, getD, replicate, length-drop, drop-of-length-le, length-append}
-use lib.Seq.{getD-drop, drop-drop, length-take-le}
 use Rattle.format.specs.Numbers.{encode}
 use Rattle.image.specs.Cells.{Cell, cell, cellsOf, Run, widen, runs, Fit}
 use Rattle.image.specs.Cells.Run.{run}

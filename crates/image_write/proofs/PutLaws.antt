@@ -1,14 +1,6 @@
 -- Numbers and bytes put into room one after the other.
-use mathlib.Core.Path.{_≡_, refl, sym, ap, ap₂, _∙_}
-use mathlib.Core.Bool.{Bool, true, false, _||_}
-use lib.Dec.{eqb, ltb}
-use mathlib.Core.List.{List, [], _∷_, _++_, append-assoc, append-nil}
-use Prim.Native.Nat.{ℕ, suc, _+_, _≤_, _<_}
-use native.Mathlib.Omega.{arith}
-use native.Mathlib.Numerals.{add-one}
-use lib.ListN.{length, drop, getD, set, length-append, drop-of-length-le}
-use lib.Seq.{sets, sets-eq, drop-cons}
-use borrow.Author.Tests.{eq-eqb, ne-eqb}
+use Rattle.width.proofs.Kit.{_≡_, refl, sym, ap, ap₂, _∙_, Bool, true, false, _||_, List, [], _∷_, _++_, append-assoc, append-nil, ℕ, suc, _+_, _≤_, _<_}
+use Rattle.width.proofs.Kit.{arith, add-one, eqb, ltb, length, drop, getD, set, length-append, drop-of-length-le, sets, sets-eq, drop-cons, eq-eqb, ne-eqb}
 use Rattle.format.specs.Numbers.{encode, encodeAll}
 use Rattle.image.specs.Images.{Header, beyond, version}
 

@@ -1,12 +1,6 @@
 -- The ranges in a block as numbers, and the parts of a header.
-use mathlib.Core.Path.{_≡_, refl, sym, ap, ap₂, _∙_}
-use mathlib.Core.Bool.{Bool, true, false, cond}
-use mathlib.Core.List.{List, [], _∷_, _++_, append-nil}
-use Prim.Native.Nat.{ℕ, zero, suc, _+_, _*_, _≤_, _<_}
-use native.Mathlib.Omega.{arith}
-use lib.ListN.{length, take, set, length-append, length-set}
-use lib.Dec.{eqb}
-use borrow.Author.Tests.{eq-eqb, ne-eqb}
+use Rattle.width.proofs.Kit.{_≡_, refl, sym, ap, ap₂, _∙_, Bool, true, false, cond, List, [], _∷_, _++_, append-nil, ℕ, zero, suc, _+_, _*_, _≤_, _<_}
+use Rattle.width.proofs.Kit.{arith, eqb, length, take, set, length-append, length-set, eq-eqb, ne-eqb}
 use Rattle.width.specs.Tile.{getLe}
 use Rattle.format.specs.Numbers.{encode, encodeAll}
 use Rattle.machine.specs.declared.Machine.{Machine}

@@ -1,13 +1,5 @@
 -- Stretches of marks that all have one value.
-use mathlib.Core.Path.{_≡_, _∙_, subst}
-use mathlib.Core.Bool.{Bool, true, false}
-use mathlib.Core.List.{List}
-use mathlib.Core.Logic.{_⊎_, inl, inr}
-use Prim.Native.Nat.{ℕ, _+_, _-_, _≤_, _<_}
-use native.Mathlib.Omega.{arith}
-use lib.Dec.{eqb}
-use lib.ListN.{getD}
-use borrow.Author.Tests.{eqb-true, eq-eqb, ne-eqb}
+use Rattle.width.proofs.Kit.{_≡_, _∙_, subst, _⊎_, inl, inr, Bool, true, false, List, ℕ, _+_, _-_, _≤_, _<_, arith, eqb, getD, eqb-true, eq-eqb, ne-eqb}
 use Rattle.width.proofs.BlockLaws.{le-or-lt}
 use Rattle.machine.specs.Tests.{all}
 use Rattle.machine.proofs.TestLaws.{all-at}

@@ -1,12 +1,5 @@
 -- What the entry points have to show: an image is its numbers, then its runs.
-use mathlib.Core.Path.{_≡_, sym, ap, ap₂, _∙_}
-use mathlib.Core.Bool.{true, false}
-use mathlib.Core.List.{List, [], _∷_, _++_}
-use Prim.Native.Nat.{ℕ, _+_, _≤_, _<_}
-use native.Mathlib.Omega.{arith}
-use lib.ListN.{length, length-append}
-use lib.Seq.{sets}
-use borrow.Author.Tests.{le-leb, lt-leb}
+use Rattle.width.proofs.Kit.{_≡_, sym, ap, ap₂, _∙_, true, false, List, [], _∷_, _++_, ℕ, _+_, _≤_, _<_, arith, length, length-append, sets, le-leb, lt-leb}
 use Rattle.format.specs.Numbers.{encode, encodeAll}
 use Rattle.machine.specs.declared.Machine.{Machine}
 use Rattle.machine.specs.Faults.{sound, sealsFit}

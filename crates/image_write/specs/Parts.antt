@@ -1,10 +1,5 @@
 -- What the parts of a write find.
-use mathlib.Core.Path.{_≡_}
-use mathlib.Core.Bool.{cond}
-use mathlib.Core.List.{List, [], _∷_}
-use Prim.Native.Nat.{ℕ, _*_, _≤_, _<_}
-use lib.ListN.{length, getD}
-use lib.Dec.{eqb}
+use Rattle.width.specs.Kit.{_≡_, cond, List, [], _∷_, ℕ, _*_, _≤_, _<_, eqb, length, getD}
 use Rattle.image.specs.Cells.{runs, cellsOf}
 use Rattle.image.specs.Images.{Header, runsBytes}
 

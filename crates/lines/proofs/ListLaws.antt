@@ -1,8 +1,5 @@
 -- take and drop of a list that is mapped.
-use Prim.Native.Nat.{ℕ, zero, suc}
-use mathlib.Core.Path.{_≡_, refl, ap}
-use mathlib.Core.List.{List, [], _∷_, map}
-use lib.ListN.{take, drop}
+use Rattle.width.proofs.Kit.{_≡_, refl, ap, List, [], _∷_, map, ℕ, zero, suc, take, drop}
 
 module _ {A B : Type 0} (f : A → B) where
   pub take-map : (n : ℕ) (l : List A) → take n (map f l) ≡ map f (take n l)

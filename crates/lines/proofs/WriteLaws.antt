@@ -1,16 +1,8 @@
 -- Laws of decimal text and of writers.
-use Prim.Native.Nat.{ℕ, zero, suc, _+_, _*_, _-_, _/_, _%_, _^_, _≤_, _<_}
-use mathlib.Core.Path.{_≡_, refl, sym, ap, _∙_, subst}
-use mathlib.Core.Bool.{true, false}
-use mathlib.Core.List.{List, [], _∷_, _++_, append-assoc, append-nil}
-use mathlib.Core.Logic.{_⊎_, inl, inr}
-use native.Mathlib.Nat.{mod-eq-of-lt, mul-le-mul-right, pow-succ', suc-mul}
-use native.Mathlib.Numerals.{add-one}
-use native.Mathlib.Omega.{arith}
-use lib.ListN.{length, take, drop, getD, set, length-append, length-take, length-set, drop-of-length-le}
-use lib.Seq.{take-suc-set, drop-set-lt, drop-cons, drop-drop, getD-drop}
-use lib.Dec.{leb}
-use borrow.Author.Tests.{leb-true, leb-false, lt-ltb, le-ltb, le-leb, lt-leb}
+use Rattle.width.proofs.Kit.{_≡_, refl, sym, ap, _∙_, subst, _⊎_, inl, inr, true, false, List, [], _∷_, _++_, append-assoc, append-nil, ℕ, zero, suc, _+_}
+use Rattle.width.proofs.Kit.{_*_, _-_, _/_, _%_, _^_, _≤_, _<_, mod-eq-of-lt, mul-le-mul-right, pow-succ', suc-mul, arith, add-one, leb, length, take, drop}
+use Rattle.width.proofs.Kit.{getD, set, length-append, length-take, length-set, drop-of-length-le, take-suc-set, drop-set-lt, drop-cons, drop-drop}
+use Rattle.width.proofs.Kit.{getD-drop, leb-true, leb-false, lt-ltb, le-ltb, le-leb, lt-leb}
 use Rattle.width.specs.Reduce.{signed}
 use Rattle.width.proofs.BlockLaws.{le-or-lt}
 use Rattle.lines.specs.Lines.{digitsOf, decimal, written, others, spaced, lines, firstLine, stepsWord}

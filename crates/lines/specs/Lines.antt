@@ -1,9 +1,5 @@
 -- 01, the program `product`: the lines that it writes. A text is its bytes, and a line ends with a line feed.
-use Prim.Native.Nat.{ℕ, zero, suc, _+_, _/_, _%_}
-use mathlib.Core.Bool.{cond}
-use mathlib.Core.List.{List, [], _∷_, _++_}
-use lib.Dec.{ltb}
-use lib.IntN.{ℤ, pos, negsuc}
+use Rattle.width.specs.Kit.{cond, List, [], _∷_, _++_, ℕ, zero, suc, _+_, _/_, _%_, ltb, ℤ, pos, negsuc}
 use Rattle.machine.specs.declared.Answer.the-variants.{Done, BadArguments}
 use Rattle.machine.specs.Answers.{number}
 

@@ -1,9 +1,5 @@
 -- What the contracts of writers name; a reader of Lines.antt need not read it.
-use Prim.Native.Nat.{ℕ, zero, suc, _+_}
-use mathlib.Core.Path.{_≡_}
-use mathlib.Core.List.{List, [], _∷_, _++_, map}
-use lib.IntN.{ℤ}
-use lib.ListN.{length, take, drop}
+use Rattle.width.specs.Kit.{_≡_, List, [], _∷_, _++_, map, ℕ, zero, suc, _+_, length, take, drop, ℤ}
 use Rattle.width.specs.Reduce.{signed}
 
 -- a writer went from at to next: what stood before at stands, t follows it, and what stands after t is as it was

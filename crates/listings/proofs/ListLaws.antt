@@ -1,16 +1,7 @@
 -- Digits, words and refusals.
-use mathlib.Core.Path.{_≡_, refl, sym, ap, ap₂, _∙_, subst}
-use mathlib.Core.Bool.{Bool, true, false, cond, _&&_, _||_}
-use mathlib.Core.List.{List, [], _∷_, _++_}
-use mathlib.Core.Option.{Option, none, some}
-use Prim.Native.Nat.{ℕ, suc, _+_, _-_, _*_, _/_, _%_, _^_, _≤_, _<_}
-use native.Mathlib.Nat.{pow-succ'}
-use native.Mathlib.Numerals.{add-one}
-use native.Mathlib.Omega.{arith}
-use lib.Dec.{leb}
-use lib.ListN.{length, drop, getD, drop-of-length-le}
-use lib.Seq.{drop-cons}
-use borrow.Author.Tests.{leb-true, le-leb, lt-leb, lt-ltb, le-ltb, eq-eqb, ne-eqb}
+use Rattle.width.proofs.Kit.{_≡_, refl, sym, ap, ap₂, _∙_, subst, Bool, true, false, cond, _&&_, _||_, List, [], _∷_, _++_, Option, none, some, ℕ, suc, _+_}
+use Rattle.width.proofs.Kit.{_-_, _*_, _/_, _%_, _^_, _≤_, _<_, pow-succ', arith, add-one, leb, length, drop, getD, drop-of-length-le, drop-cons, leb-true}
+use Rattle.width.proofs.Kit.{le-leb, lt-leb, lt-ltb, le-ltb, eq-eqb, ne-eqb}
 use Rattle.machine.proofs.TestLaws.{all-at, false-true}
 use Rattle.machine.specs.Listing.{decode}
 use Rattle.format.specs.Parser.{Parsed, later}

@@ -1,15 +1,7 @@
 -- The lines of a text, and the room that the replies to them take.
-use mathlib.Core.Path.{_≡_, refl, sym, ap, _∙_}
-use mathlib.Core.Bool.{Bool, true, false, cond}
-use mathlib.Core.List.{List, [], _∷_, _++_, append-assoc, append-nil}
-use mathlib.Core.Logic.{_⊎_, ⊎-elim}
-use mathlib.Core.Option.{Option, none, some}
-use Prim.Native.Nat.{ℕ, suc, _+_, _-_, _*_, _^_, _≤_, _<_}
-use native.Mathlib.Omega.{arith}
-use lib.Dec.{eqb}
-use lib.ListN.{length, take, drop, drop-of-length-le, length-append, length-take, length-drop}
-use lib.Seq.{drop-drop, length-take-le}
-use borrow.Author.Tests.{le-leb, lt-leb}
+use Rattle.width.proofs.Kit.{_≡_, refl, sym, ap, _∙_, _⊎_, ⊎-elim, Bool, true, false, cond, List, [], _∷_, _++_, append-assoc, append-nil, Option, none}
+use Rattle.width.proofs.Kit.{some, ℕ, suc, _+_, _-_, _*_, _^_, _≤_, _<_, arith, eqb, length, take, drop, drop-of-length-le, length-append, length-take}
+use Rattle.width.proofs.Kit.{length-drop, drop-drop, length-take-le, le-leb, lt-leb}
 use Rattle.width.proofs.BlockLaws.{le-or-lt}
 use Rattle.machine.specs.declared.Wrong.the-variants.{Opcode, LeftOut, Unlisted, Register}
 use Rattle.machine.specs.declared.Instruction.{Instruction}

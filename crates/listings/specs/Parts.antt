@@ -1,8 +1,5 @@
 -- Digits as code reads them, and the room that a reply takes.
-use mathlib.Core.Bool.{cond}
-use Prim.Native.Nat.{ℕ, _*_, max}
-use mathlib.Core.List.{List}
-use lib.ListN.{length}
+use Rattle.width.specs.Kit.{cond, List, ℕ, _*_, max, length}
 use Rattle.assembly.specs.Words.{isHex, hexValue}
 
 -- the value of a digit; 16, if it is none

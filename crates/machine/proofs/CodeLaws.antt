@@ -1,11 +1,6 @@
 -- For code: the verdict of checks made in parts, the outcome of an instruction from its parts, and bounds of what is decoded.
-use mathlib.Core.Path.{_≡_, refl, sym, ap, ap₂, _∙_}
-use mathlib.Core.Bool.{Bool, true, false, cond, not, _&&_}
-use mathlib.Core.List.{List, [], _∷_, _++_}
-use Prim.Native.Nat.{ℕ, _^_, _≤_}
-use native.Mathlib.Omega.{arith}
-use lib.Dec.{ltb, eqb}
-use borrow.Author.Tests.{eqb-true, ltb-true, ltb-false, lt-ltb, ne-eqb}
+use Rattle.width.proofs.Kit.{_≡_, refl, sym, ap, ap₂, _∙_, Bool, true, false, cond, not, _&&_, List, [], _∷_, _++_, ℕ, _^_, _≤_, arith, ltb, eqb, eqb-true}
+use Rattle.width.proofs.Kit.{ltb-true, ltb-false, lt-ltb, ne-eqb}
 use Rattle.width.specs.Blocks.{Choice}
 use Rattle.width.specs.Bounds.{mostElen}
 use Rattle.machine.specs.declared.Machine.{Machine}

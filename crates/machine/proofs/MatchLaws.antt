@@ -1,11 +1,5 @@
 -- A `match` on a number, against a list that the number is in or not.
-use mathlib.Core.Path.{_≡_, refl, sym, _∙_}
-use mathlib.Core.Logic.{inl, inr}
-use mathlib.Core.Bool.{Bool, true, false, _||_}
-use mathlib.Core.List.{List, [], _∷_}
-use Prim.Native.Nat.{ℕ}
-use lib.Dec.{eqb}
-use borrow.Author.Tests.{eq-eqb, eqb-true}
+use Rattle.width.proofs.Kit.{_≡_, refl, sym, _∙_, inl, inr, Bool, true, false, _||_, List, [], _∷_, ℕ, eqb, eq-eqb, eqb-true}
 use types.Run.{OneOf}
 use Rattle.machine.specs.Tests.{isIn}
 use Rattle.machine.proofs.TestLaws.{or-right, or-not, false-true}

@@ -1,13 +1,7 @@
 -- Rows of bytes in memory: the tests on bytes against tests on whole rows, and the rows of a block of a matrix.
-use mathlib.Core.Path.{_≡_, refl, sym, ap, _∙_, subst}
-use mathlib.Core.Logic.{_⊎_, inl, inr}
-use mathlib.Core.Bool.{Bool, true, false, not, _||_}
-use Prim.Native.Nat.{ℕ, zero, suc, _+_, _*_, _-_, _≤_, _<_}
-use native.Mathlib.Nat.{add-mul, not-suc-le-zero}
-use native.Mathlib.Omega.{arith}
-use lib.Dec.{leb, ltb, eqb}
-use lib.IntN.{ℤ, pos, negsuc, negℤ, _+ℤ_, _*ℤ_, +ℤ-assoc, +ℤ-comm, negℤ-+ℤ}
-use borrow.Author.Tests.{ltb-true, leb-true, le-leb, lt-ltb, le-ltb, eqb-true, eqb-false, leb-false}
+use Rattle.width.proofs.Kit.{_≡_, refl, sym, ap, _∙_, subst, _⊎_, inl, inr, Bool, true, false, not, _||_, ℕ, zero, suc, _+_, _*_, _-_, _≤_, _<_, add-mul}
+use Rattle.width.proofs.Kit.{not-suc-le-zero, arith, leb, ltb, eqb, ℤ, pos, negsuc, negℤ, _+ℤ_, _*ℤ_, +ℤ-assoc, +ℤ-comm, negℤ-+ℤ, ltb-true, leb-true}
+use Rattle.width.proofs.Kit.{le-leb, lt-ltb, le-ltb, eqb-true, eqb-false, leb-false}
 use Rattle.width.specs.Reduce.{signed}
 use Rattle.width.specs.Tile.{In}
 use Rattle.width.proofs.BlockLaws.{le-or-lt}

@@ -1,16 +1,7 @@
 -- A step of a machine that is not at fault leaves one that is not at fault; and so does a start.
-use mathlib.Core.Path.{_≡_, refl, sym, ap, _∙_, subst}
-use mathlib.Core.Logic.{inl, inr}
-use mathlib.Core.Bool.{Bool, true, false, cond}
-use mathlib.Core.List.{List, [], _∷_, _++_}
-use Prim.Native.Nat.{ℕ, zero, suc, _+_, _*_, _-_, _/_, _^_, _≤_, _<_, min}
-use native.Mathlib.Nat.{div-le-self}
-use native.Mathlib.Decide.{ℕ-discrete}
-use native.Mathlib.Omega.{arith}
-use lib.ListN.{length, getD, set, length-set, List·getD-eq-default, replicate, length-replicate, length-append}
-use lib.Seq.{getD-set-same, getD-set-other}
-use lib.Dec.{leb, ltb, eqb}
-use borrow.Author.Tests.{le-leb, lt-ltb, eq-eqb, leb-true, ltb-true, eqb-true}
+use Rattle.width.proofs.Kit.{_≡_, refl, sym, ap, _∙_, subst, inl, inr, Bool, true, false, cond, List, [], _∷_, _++_, ℕ, zero, suc, _+_, _*_, _-_, _/_, _^_}
+use Rattle.width.proofs.Kit.{_≤_, _<_, min, div-le-self, arith, ℕ-discrete, leb, ltb, eqb, length, getD, set, length-set, List·getD-eq-default, replicate}
+use Rattle.width.proofs.Kit.{length-replicate, length-append, getD-set-same, getD-set-other, le-leb, lt-ltb, eq-eqb, leb-true, ltb-true, eqb-true}
 use Rattle.width.proofs.UptoLaws.{upto-keeps}
 use Rattle.width.specs.Tile.{markTile, markRow}
 use Rattle.width.proofs.TileLaws.{length-putTile, length-markTile}

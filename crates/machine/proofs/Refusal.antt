@@ -1,12 +1,9 @@
 -- Demand 1: a refusal changes nothing lent or held, for every state and every word; and so of a start.
-use mathlib.Core.Path.{_≡_, refl, ap, _∙_}
-use mathlib.Core.Bool.{Bool, true, false, cond}
-use lib.ListN.{length, replicate}
+use Rattle.width.proofs.Kit.{_≡_, refl, ap, _∙_, Bool, true, false, cond, List, ℕ, length, replicate, eqb-true}
 use Rattle.width.specs.Blocks.{Choice}
 use Rattle.machine.specs.declared.Answer.the-variants.{BadArguments}
 use Rattle.machine.specs.declared.Answer.{Answer}
 use Rattle.machine.specs.declared.Reply.{Reply}
-use borrow.Author.Tests.{eqb-true}
 use Rattle.machine.specs.Answers.{reply, isDone, verdict}
 use Rattle.machine.specs.Geometry.{Parameters, parameters, Bench}
 use Rattle.machine.specs.Listing.{decode}
@@ -16,8 +13,6 @@ use Rattle.machine.specs.Step
 use Rattle.machine.specs.Step.{Outcome, VectorOutcome, beside, outcome, stepBy, stepWith, stepChecks, checksIn, meantIn, givenIn}
 use Rattle.machine.specs.Operation.{vectorsAfter}
 use Rattle.machine.specs.Vectors.{vectorsFit}
-use Prim.Native.Nat.{ℕ}
-use mathlib.Core.List.{List}
 use Rattle.machine.specs.Theorems.{RefusalChangesNothing, StartRefusalChangesNothing, SealRefusalChangesNothing}
 
 pub step-refusal-changes-nothing : RefusalChangesNothing

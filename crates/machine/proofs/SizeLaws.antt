@@ -1,10 +1,6 @@
 -- The choice of sizes: both rules keep the draft's three constraints; and, for code, how a size is reckoned.
-use mathlib.Core.Path.{_≡_, refl}
-use mathlib.Core.Bool.{Bool, true, false, cond, _&&_}
-use Prim.Native.Nat.{ℕ, _+_, _-_, _*_, _/_, _≤_, _<_, min}
-use native.Mathlib.Omega.{arith}
-use lib.Dec.{ltb, eqb}
-use borrow.Author.Tests.{ltb-true, ltb-false, lt-ltb, le-ltb}
+use Rattle.width.proofs.Kit.{_≡_, refl, Bool, true, false, cond, _&&_, ℕ, _+_, _-_, _*_, _/_, _≤_, _<_, min, arith, ltb, eqb, ltb-true, ltb-false, lt-ltb}
+use Rattle.width.proofs.Kit.{le-ltb}
 use Rattle.width.specs.Blocks.{Grants}
 use Rattle.machine.proofs.TestLaws.{same-test}
 use Rattle.machine.specs.Setting.{smaller, halving, chosen}

@@ -1,17 +1,10 @@
 -- For code: permitted lengths by their parts, and what a return of `start` has to show.
-use mathlib.Core.Path.{_≡_, refl, sym, ap, ap₂, _∙_}
-use mathlib.Core.Bool.{Bool, true, false, cond, _&&_}
-use mathlib.Core.List.{List, [], _∷_}
-use Prim.Native.Nat.{ℕ, suc, _+_, _*_, _-_, _/_, _%_, _^_, _≤_, _<_}
-use lib.ListN.{length, replicate, getD, drop, length-drop}
-use lib.Seq.{drop-cons}
-use native.Mathlib.Nat.{div-add-mod', add-div-right}
-use native.Mathlib.Omega.{arith}
-use borrow.Author.Tests.{le-leb, lt-leb, leb-true, eqb-true}
+use Rattle.width.proofs.Kit.{_≡_, refl, sym, ap, ap₂, _∙_, Bool, true, false, cond, _&&_, List, [], _∷_, ℕ, suc, _+_, _*_, _-_, _/_, _%_, _^_, _≤_, _<_}
+use Rattle.width.proofs.Kit.{div-add-mod', add-div-right, arith, leb, ltb, eqb, length, replicate, getD, drop, length-drop, drop-cons, le-leb, lt-leb}
+use Rattle.width.proofs.Kit.{leb-true, eqb-true}
 use Rattle.machine.proofs.TestLaws.{same-test, false-true, every-each}
 use Rattle.machine.specs.declared.Answer.the-variants.{Done, BadArguments, TooManySeals}
 use Rattle.machine.specs.declared.Answer.{Answer}
-use lib.Dec.{leb, ltb, eqb}
 use Rattle.machine.specs.Answers.{isDone}
 use Rattle.machine.specs.Tests.{isIn, every}
 use Rattle.machine.specs.Geometry.{Range, range, permitted, rlens, mlens, elens}

@@ -1,10 +1,6 @@
 -- A step whose checks pass is carried out; geometry that every permitted machine has.
-use mathlib.Core.Path.{_≡_, refl, sym, ap, _∙_, subst}
-use mathlib.Core.Bool.{Bool, true, false, cond, not, _||_}
-use mathlib.Core.List.{List, [], _∷_}
-use Prim.Native.Nat.{ℕ, zero, _*_, _/_, _≤_, _<_}
-use lib.Dec.{leb, ltb, eqb}
-use borrow.Author.Tests.{leb-true, ltb-true, eqb-true}
+use Rattle.width.proofs.Kit.{_≡_, refl, sym, ap, _∙_, subst, Bool, true, false, cond, not, _||_, List, [], _∷_, ℕ, zero, _*_, _/_, _≤_, _<_, leb, ltb, eqb}
+use Rattle.width.proofs.Kit.{leb-true, ltb-true, eqb-true}
 use Rattle.width.specs.Blocks.{Choice}
 use Rattle.width.specs.Bounds.{mostRlen, mostMlen}
 use Rattle.machine.specs.declared.Answer.{Answer}

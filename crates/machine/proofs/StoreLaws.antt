@@ -1,16 +1,7 @@
 -- Rows that share no byte, and what a store of such rows leaves.
-use mathlib.Core.Path.{_≡_, refl, sym, ap, _∙_, subst}
-use mathlib.Core.Logic.{inl, inr}
-use mathlib.Core.Bool.{Bool, true, false, not, cond}
-use mathlib.Core.List.{List, [], _∷_}
-use Prim.Native.Nat.{ℕ, zero, suc, _+_, _*_, _-_, _/_, _%_, _≤_, _<_}
-use native.Mathlib.Nat.{not-suc-le-zero, le-of-suc-le-suc, mod-lt, div-add-mod', div-lt-iff-lt-mul, eq-zero-or-pos, mul-zero, mul-pos, mul-le-mul-right}
-use native.Mathlib.Omega.{arith}
-use lib.Dec.{ltb}
-use lib.IntN.{pos}
-use lib.ListN.{length, getD, List·getD-eq-default}
-use lib.Seq.{ext-getD}
-use borrow.Author.Tests.{le-ltb, ltb-true, ltb-false}
+use Rattle.width.proofs.Kit.{_≡_, refl, sym, ap, _∙_, subst, inl, inr, Bool, true, false, not, cond, List, [], _∷_, ℕ, zero, suc, _+_, _*_, _-_, _/_, _%_}
+use Rattle.width.proofs.Kit.{_≤_, _<_, not-suc-le-zero, le-of-suc-le-suc, mod-lt, div-add-mod', div-lt-iff-lt-mul, eq-zero-or-pos, mul-zero, mul-pos}
+use Rattle.width.proofs.Kit.{mul-le-mul-right, arith, ltb, length, getD, List·getD-eq-default, ext-getD, pos, le-ltb, ltb-true, ltb-false}
 use Rattle.width.specs.Tile.{byteOf, putTile, In}
 use Rattle.width.proofs.TileLaws.{putTile-at, putTile-out, length-putTile}
 use Rattle.width.proofs.BlockLaws.{le-or-lt}

@@ -1,14 +1,8 @@
 -- Laws of the tests over ranges and lists: when one passes, and what it then says.
-use mathlib.Core.Path.{_≡_, refl, sym, ap, _∙_, subst}
-use mathlib.Core.Bool.{Bool, true, false, not, cond, _&&_, _||_}
-use mathlib.Core.List.{List, [], _∷_, _++_}
-use mathlib.Core.Logic.{_⊎_, inl, inr}
-use Prim.Native.Nat.{ℕ, zero, suc, _+_, _*_, _/_, _%_, _≤_, _<_}
-use native.Mathlib.Nat.{not-suc-le-zero, eq-or-lt-of-le, le-of-suc-le-suc, mul-le-mul-right, mod-lt, div-add-mod', div-lt-iff-lt-mul, eq-zero-or-pos, mul-zero}
-use native.Mathlib.Omega.{arith}
-use lib.ListN.{length, getD}
-use lib.Dec.{T, leb, ltb, eqb}
-use borrow.Author.Tests.{lt-ltb, le-ltb, ltb-true, ltb-false, eqb-true, leb-true, le-leb}
+use Rattle.width.proofs.Kit.{_≡_, refl, sym, ap, _∙_, subst, _⊎_, inl, inr, Bool, true, false, not, cond, _&&_, _||_, List, [], _∷_, _++_, ℕ, zero, suc}
+use Rattle.width.proofs.Kit.{_+_, _*_, _/_, _%_, _≤_, _<_, not-suc-le-zero, eq-or-lt-of-le, le-of-suc-le-suc, mul-le-mul-right, mod-lt, div-add-mod'}
+use Rattle.width.proofs.Kit.{div-lt-iff-lt-mul, eq-zero-or-pos, mul-zero, arith, T, leb, ltb, eqb, length, getD, lt-ltb, le-ltb, ltb-true, ltb-false}
+use Rattle.width.proofs.Kit.{eqb-true, leb-true, le-leb}
 use Rattle.width.specs.Tile.{In}
 use Rattle.machine.specs.Tests.{all, first, every, allOf, isIn, within}
 

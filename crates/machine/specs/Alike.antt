@@ -1,8 +1,5 @@
 -- Machines that differ at most in unmarked register bytes. Requests Six and Nine of document 02 both speak of them.
-use mathlib.Core.Path.{_≡_}
-use mathlib.Core.List.{List}
-use Prim.Native.Nat.{ℕ}
-use lib.ListN.{length, getD}
+use Rattle.width.specs.Kit.{_≡_, List, ℕ, length, getD}
 use Rattle.machine.specs.Geometry.{Bench}
 
 -- register bytes of one length, equal wherever the mark is 1

@@ -1,10 +1,6 @@
 -- Refusals of each number and their neighbours, computed: a machine of RLEN 64 and MLEN 128 (two rows of eight bytes) and
 -- ELEN 32; at the end one of RLEN 128 and MLEN 256, with ELEN 64.
-use mathlib.Core.Path.{_≡_, refl}
-use mathlib.Core.Bool.{true, false}
-use mathlib.Core.List.{List, [], _∷_, _++_, map}
-use Prim.Native.Nat.{ℕ, zero, suc, _+_, _*_, _-_, _^_}
-use lib.ListN.{getD, replicate, set, take, drop}
+use Rattle.width.specs.Kit.{_≡_, refl, true, false, List, [], _∷_, _++_, map, ℕ, zero, suc, _+_, _*_, _-_, _^_, getD, replicate, set, take, drop}
 use lib.Ieee as Ieee
 use Rattle.width.specs.Reduce.{reduce}
 use Rattle.width.specs.Tile.{putTile, putRow, putLe, markTile, markRow}

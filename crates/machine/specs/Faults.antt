@@ -1,9 +1,5 @@
 -- 01, "Numbers of the answers": answer 8 of a step.
-use mathlib.Core.Bool.{Bool, _&&_}
-use mathlib.Core.List.{List, [], _∷_}
-use Prim.Native.Nat.{ℕ, _/_, min}
-use lib.ListN.{length}
-use lib.Dec.{leb, ltb, eqb}
+use Rattle.width.specs.Kit.{Bool, _&&_, List, [], _∷_, ℕ, _/_, min, leb, ltb, eqb, length}
 use Rattle.machine.specs.declared.Machine.{Machine}
 use Rattle.machine.specs.Tests.{allOf, every}
 use Rattle.machine.specs.Geometry.{Range, permitted, registerBytes, Bench}

@@ -2,11 +2,8 @@
 -- look-up in it: `listing` has our instructions, with the four of section 6.1.7 that 02, Eleven, adds, `others` the rest of section 4.5.
 -- Ten rows, all ours, are damaged in our copy and read by symmetry: No. 1, 3, 5, 6, 7, 8, 15, 21, 22 and 31 (docs/DIFFERENCES.md, 1.2).
 -- No code is given twice.
-use mathlib.Core.Bool.{Bool, true, false, cond, _&&_, _||_}
-use mathlib.Core.List.{List, [], _∷_}
-use Prim.Native.Nat.{ℕ, _+_, _-_, _/_, _%_, _^_}
+use Rattle.width.specs.Kit.{Bool, true, false, cond, _&&_, _||_, List, [], _∷_, ℕ, _+_, _-_, _/_, _%_, _^_, ltb, eqb}
 use Prim.Native.String.{String}
-use lib.Dec.{ltb, eqb}
 use Rattle.machine.specs.declared.Matrix.{Matrix}
 use Rattle.machine.specs.declared.Matrix.the-variants.{MatrixA, MatrixB, MatrixC}
 use Rattle.machine.specs.declared.Dimension.the-variants.{DimensionM, DimensionK, DimensionN}

@@ -1,9 +1,5 @@
 -- 01, "Loading, storing, reckoning", and 02, Seven: rows of elements in memory, the tests on their bytes, and rows stored.
-use mathlib.Core.Bool.{Bool, false, not, cond}
-use mathlib.Core.List.{List, [], _∷_}
-use Prim.Native.Nat.{ℕ, suc, _+_, _*_, _-_, _/_, _%_, _^_}
-use lib.Dec.{ltb}
-use lib.IntN.{ℤ, pos, negsuc, _+ℤ_, _*ℤ_}
+use Rattle.width.specs.Kit.{Bool, false, not, cond, List, [], _∷_, ℕ, suc, _+_, _*_, _-_, _/_, _%_, _^_, ltb, ℤ, pos, negsuc, _+ℤ_, _*ℤ_}
 use Rattle.width.specs.Reduce.{signed}
 use Rattle.width.specs.Tile.{byteOf}
 use Rattle.machine.specs.Tests.{all, first, within}

@@ -1,9 +1,6 @@
 -- 02, Eleven: moves of slices, computed: a machine of RLEN 64 and MLEN 128, whose accumulators have two rows of 32 bytes, from bytes 128 and
 -- 192 on.
-use mathlib.Core.Path.{_≡_, refl}
-use mathlib.Core.List.{List, [], _∷_, _++_, map}
-use Prim.Native.Nat.{ℕ, _-_, _^_}
-use lib.ListN.{replicate, set, take, drop}
+use Rattle.width.specs.Kit.{_≡_, refl, List, [], _∷_, _++_, map, ℕ, _-_, _^_, replicate, set, take, drop}
 use Rattle.width.specs.Tile.{putTile, putRow, putLe, markTile, markRow}
 use Rattle.machine.specs.Geometry.{permitted, Bench}
 use Rattle.machine.specs.Setting.{sew, newType, legalType}

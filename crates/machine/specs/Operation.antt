@@ -1,9 +1,5 @@
 -- 01, "Loading, storing, reckoning", and 02, Two, Four, Seven and Eleven: what each instruction does, once its scalars are read.
-use mathlib.Core.Bool.{cond}
-use mathlib.Core.List.{List}
-use Prim.Native.Nat.{ℕ, _+_, _*_, _%_, _^_}
-use lib.Dec.{eqb}
-use lib.IntN.{ℤ, _+ℤ_, _-ℤ_, _*ℤ_}
+use Rattle.width.specs.Kit.{cond, List, ℕ, _+_, _*_, _%_, _^_, eqb, ℤ, _+ℤ_, _-ℤ_, _*ℤ_}
 use Rattle.width.specs.Tile.{getLe, putTile, markTile}
 use Rattle.width.specs.Reduce.{signed, reduce, sumℤ}
 use Rattle.width.specs.Binary32.{floatProduct}

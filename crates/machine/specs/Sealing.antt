@@ -1,9 +1,5 @@
 -- 02, Twelve: "a range may be added between steps but never taken off".
-use mathlib.Core.Bool.{cond}
-use mathlib.Core.List.{List, [], _∷_, _++_}
-use Prim.Native.Nat.{ℕ}
-use lib.ListN.{length}
-use lib.Dec.{ltb}
+use Rattle.width.specs.Kit.{cond, List, [], _∷_, _++_, ℕ, ltb, length}
 use Rattle.machine.specs.declared.Answer.{Answer}
 use Rattle.machine.specs.declared.Answer.the-variants.{BadArguments, TooManySeals}
 use Rattle.machine.specs.declared.Reply.{Reply}

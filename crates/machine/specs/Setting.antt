@@ -1,8 +1,5 @@
 -- 01, "Setting mtype and tile sizes".
-use mathlib.Core.Bool.{Bool, cond, not, _&&_, _||_}
-use mathlib.Core.List.{[], _∷_}
-use Prim.Native.Nat.{ℕ, _+_, _*_, _/_, _%_, _^_, min}
-use lib.Dec.{leb, ltb, eqb}
+use Rattle.width.specs.Kit.{Bool, cond, not, _&&_, _||_, [], _∷_, ℕ, _+_, _*_, _/_, _%_, _^_, min, leb, ltb, eqb}
 use Rattle.machine.specs.declared.Dimension.{Dimension}
 use Rattle.machine.specs.declared.Dimension.the-variants.{DimensionM, DimensionK, DimensionN}
 use Rattle.machine.specs.Tests.{every}

@@ -1,10 +1,5 @@
 -- What is proved of these definitions, for every choice of sizes (one for each rule), state and word. The proofs stand in proofs/.
-use mathlib.Core.Path.{_≡_}
-use mathlib.Core.Bool.{true}
-use mathlib.Core.List.{List, [], _∷_, _++_}
-use Prim.Native.Nat.{ℕ, _+_, _*_, _≤_, _<_}
-use lib.ListN.{length, getD}
-use lib.IntN.{pos}
+use Rattle.width.specs.Kit.{_≡_, true, List, [], _∷_, _++_, ℕ, _+_, _*_, _≤_, _<_, length, getD, pos}
 use Rattle.width.specs.Tile.{byteOf, In}
 use Rattle.width.specs.Blocks.{Choice, EachGrants}
 use Rattle.machine.specs.declared.Form.{Form}

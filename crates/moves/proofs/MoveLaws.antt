@@ -1,8 +1,5 @@
 -- What each return of the two moves has to show.
-use mathlib.Core.Path.{_≡_, refl, ap, ap₂, _∙_, subst}
-use mathlib.Core.Bool.{Bool, true, false, cond}
-use mathlib.Core.List.{List, [], _∷_}
-use Prim.Native.Nat.{ℕ, _+_, _*_}
+use Rattle.width.proofs.Kit.{_≡_, refl, ap, ap₂, _∙_, subst, Bool, true, false, cond, List, [], _∷_, ℕ, _+_, _*_}
 use Rattle.width.specs.Tile.{putTile, markTile}
 use Rattle.machine.specs.declared.Machine.{Machine}
 use Rattle.machine.specs.declared.Form.{Form}

@@ -1,13 +1,6 @@
 -- A slice whose checks of answers 2 and 4 passed lies in its accumulator, and its group in the vector file; and what answer 5 names.
-use mathlib.Core.Path.{_≡_, refl, sym, subst}
-use mathlib.Core.Bool.{Bool, true, false, cond, not}
-use mathlib.Core.List.{List, [], _∷_}
-use Prim.Native.Nat.{ℕ, suc, _+_, _*_, _/_, _^_, _≤_, _<_}
-use native.Mathlib.Nat.{mul-le-mul-right, div-le-self}
-use native.Mathlib.Omega.{arith}
-use lib.ListN.{length, getD}
-use lib.Dec.{eqb}
-use borrow.Author.Tests.{leb-true, not-true}
+use Rattle.width.proofs.Kit.{_≡_, refl, sym, subst, Bool, true, false, cond, not, List, [], _∷_, ℕ, suc, _+_, _*_, _/_, _^_, _≤_, _<_, mul-le-mul-right}
+use Rattle.width.proofs.Kit.{div-le-self, arith, eqb, length, getD, leb-true, not-true}
 use Rattle.width.specs.Bounds.{mostElen}
 use Rattle.machine.specs.declared.Machine.{Machine}
 use Rattle.machine.specs.declared.Form.{Form}

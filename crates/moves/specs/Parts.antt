@@ -1,8 +1,5 @@
 -- What the functions of moves give, in the words of the definitions.
-use mathlib.Core.Path.{_≡_}
-use mathlib.Core.Bool.{Bool, cond}
-use mathlib.Core.List.{List, []}
-use Prim.Native.Nat.{ℕ}
+use Rattle.width.specs.Kit.{_≡_, Bool, cond, List, [], ℕ}
 use Rattle.machine.specs.declared.Machine.{Machine}
 use Rattle.machine.specs.declared.Form.{Form}
 use Rattle.machine.specs.declared.Matrix.the-variants.{MatrixC}

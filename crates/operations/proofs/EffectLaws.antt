@@ -1,15 +1,6 @@
 -- Arithmetic: what the tile functions require, and what they leave is the effect of the definitions.
-use mathlib.Core.Path.{_≡_, refl, sym, ap, ap₂, _∙_, subst}
-use mathlib.Core.Bool.{Bool, true, false}
-use mathlib.Core.List.{List, []}
-use Prim.Native.Nat.{ℕ, _+_, _*_, _/_, _≤_, _<_}
-use native.Mathlib.Nat.{one-mul}
-use native.Mathlib.Omega.{arith}
-use lib.Dec.{eqb, leb}
-use lib.IntN.{ℤ, pos}
-use lib.ListN.{length, getD, set}
-use lib.Seq.{set-getD}
-use borrow.Author.Tests.{eqb-true, le-leb, leb-true}
+use Rattle.width.proofs.Kit.{_≡_, refl, sym, ap, ap₂, _∙_, subst, Bool, true, false, List, [], ℕ, _+_, _*_, _/_, _≤_, _<_, one-mul, arith, eqb, leb, length}
+use Rattle.width.proofs.Kit.{getD, set, set-getD, ℤ, pos, eqb-true, le-leb, leb-true}
 use Rattle.width.specs.Upto.{upto}
 use Rattle.width.specs.Tile.{putTile, markRow, markTile}
 use Rattle.width.proofs.UptoLaws.{upto-keeps}

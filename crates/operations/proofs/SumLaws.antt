@@ -1,13 +1,5 @@
 -- Two loads, and then the multiply of what they load: its sources are written, so that only its widths and the marks of its md are asked.
-use mathlib.Core.Path.{_≡_, refl, subst}
-use mathlib.Core.Bool.{Bool, true, false, _||_}
-use mathlib.Core.List.{List}
-use Prim.Native.Nat.{ℕ, _+_, _*_, _≤_}
-use native.Mathlib.Nat.{mul-le-mul-right}
-use native.Mathlib.Omega.{arith}
-use lib.Dec.{eqb}
-use lib.ListN.{length}
-use borrow.Author.Tests.{eqb-true}
+use Rattle.width.proofs.Kit.{_≡_, refl, subst, Bool, true, false, _||_, List, ℕ, _+_, _*_, _≤_, mul-le-mul-right, arith, eqb, length, eqb-true}
 use Rattle.width.specs.Tile.{markTile}
 use Rattle.width.proofs.TileLaws.{length-markTile, markTile-keeps, markTile-at}
 use Rattle.machine.specs.declared.Machine.{Machine}

@@ -1,8 +1,5 @@
 -- What the functions of a family answer and leave, in the words of the definitions.
-use mathlib.Core.Path.{_≡_}
-use mathlib.Core.Bool.{Bool, true, false, cond}
-use mathlib.Core.List.{List, []}
-use Prim.Native.Nat.{ℕ}
+use Rattle.width.specs.Kit.{_≡_, Bool, true, false, cond, List, [], ℕ}
 use Rattle.machine.specs.declared.Machine.{Machine}
 use Rattle.machine.specs.declared.Answer.{Answer}
 use Rattle.machine.specs.Answers.{verdict, isDone}

@@ -1,12 +1,7 @@
 -- Ranges of bytes that share none: the test on bytes against the test on ends, and the tests of a start as tests on pairs of rows.
-use mathlib.Core.Path.{_≡_, refl, sym, ap, _∙_, subst}
-use mathlib.Core.Logic.{_⊎_, inl, inr}
-use mathlib.Core.Bool.{Bool, true, false, not, _||_}
-use Prim.Native.Nat.{ℕ, zero, _+_, _*_, _-_, _/_, _≤_, _<_}
-use native.Mathlib.Nat.{mul-le-mul-right, le-mul-of-pos-right, div-add-mod', mod-lt}
-use native.Mathlib.Omega.{arith}
-use lib.Dec.{leb, eqb}
-use borrow.Author.Tests.{leb-true, eqb-true, eqb-false, leb-false, eq-eqb, ne-eqb, le-leb, lt-leb}
+use Rattle.width.proofs.Kit.{_≡_, refl, sym, ap, _∙_, subst, _⊎_, inl, inr, Bool, true, false, not, _||_, ℕ, zero, _+_, _*_, _-_, _/_, _≤_, _<_}
+use Rattle.width.proofs.Kit.{mul-le-mul-right, le-mul-of-pos-right, div-add-mod', mod-lt, arith, leb, eqb, leb-true, eqb-true, eqb-false, leb-false, eq-eqb}
+use Rattle.width.proofs.Kit.{ne-eqb, le-leb, lt-leb}
 use Rattle.width.specs.Tile.{In}
 use Rattle.width.proofs.BlockLaws.{le-or-lt}
 use Rattle.machine.specs.Tests.{all, within}

@@ -1,17 +1,8 @@
 -- Blocks of a row, numbers in pairs, and their sums.
-use mathlib.Core.Path.{_≡_, refl, sym, ap, ap₂, _∙_}
-use mathlib.Core.List.{List}
-use mathlib.Core.Bool.{Bool, true, false}
-use mathlib.Core.Logic.{⊎-elim}
-use Prim.Native.Nat.{ℕ, zero, suc, _+_, _*_, _/_, _%_, _^_, _≤_, _<_}
-use native.Mathlib.Nat.{add-zero, add-suc}
-use native.Mathlib.Omega.{arith}
-use lib.Dec.{ltb}
-use lib.IntN.{ℤ, pos, _+ℤ_, _*ℤ_, zero-*ℤ, +ℤ-idr}
-use lib.ListN.{length, set, getD, replicate, length-set}
-use lib.Seq.{getD-set-same, getD-set-other}
+use Rattle.width.proofs.Kit.{_≡_, refl, sym, ap, ap₂, _∙_, ⊎-elim, Bool, true, false, List, ℕ, zero, suc, _+_, _*_, _/_, _%_, _^_, _≤_, _<_, add-zero}
+use Rattle.width.proofs.Kit.{add-suc, arith, ltb, length, set, getD, replicate, length-set, getD-set-same, getD-set-other, ℤ, pos, _+ℤ_, _*ℤ_, zero-*ℤ}
+use Rattle.width.proofs.Kit.{+ℤ-idr, ltb-true, ltb-false, lt-ltb, le-ltb}
 use borrow.Author.Count.{below-more}
-use borrow.Author.Tests.{ltb-true, ltb-false, lt-ltb, le-ltb}
 use Rattle.width.specs.Upto.{upto}
 use Rattle.width.specs.Reduce.{signed, reduce, sumℤ}
 use Rattle.width.specs.Tile.{getLe, putLe, putRow}

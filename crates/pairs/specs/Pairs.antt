@@ -1,10 +1,5 @@
 -- Sums of products two terms at a time: elements of one or two bytes as numbers of 16 bits, in pairs.
-use mathlib.Core.Bool.{cond}
-use mathlib.Core.List.{List}
-use Prim.Native.Nat.{ℕ, zero, suc, _+_, _*_, _/_, _%_, _^_}
-use lib.Dec.{ltb}
-use lib.IntN.{ℤ, _+ℤ_, _*ℤ_}
-use lib.ListN.{getD}
+use Rattle.width.specs.Kit.{cond, List, ℕ, zero, suc, _+_, _*_, _/_, _%_, _^_, ltb, getD, ℤ, _+ℤ_, _*ℤ_}
 use Rattle.width.specs.Reduce.{signed, reduce, sumℤ}
 use Rattle.width.specs.Tile.{getLe}
 use Rattle.width.specs.Bounds.{mostColumns, mostTerms}

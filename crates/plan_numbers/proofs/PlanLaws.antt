@@ -1,12 +1,6 @@
 -- For code: formats, widths and mtype of a plan, where a block starts, and places in the matrices.
-use mathlib.Core.Path.{_≡_, refl, sym, ap, _∙_}
-use mathlib.Core.Bool.{Bool, true, false, _||_}
-use mathlib.Core.List.{List, [], _∷_}
-use Prim.Native.Nat.{ℕ, _+_, _*_, _/_, _%_, _^_, _≤_, _<_}
-use native.Mathlib.Nat.{mul-le-mul, mul-le-mul-left, div-mul-le-self, mod-eq-of-lt, div-add-mod'}
-use native.Mathlib.Omega.{arith}
-use lib.Dec.{leb, ltb, eqb}
-use borrow.Author.Tests.{leb-true, ltb-true, eq-eqb, ne-eqb}
+use Rattle.width.proofs.Kit.{_≡_, refl, sym, ap, _∙_, Bool, true, false, _||_, List, [], _∷_, ℕ, _+_, _*_, _/_, _%_, _^_, _≤_, _<_, mul-le-mul}
+use Rattle.width.proofs.Kit.{mul-le-mul-left, div-mul-le-self, mod-eq-of-lt, div-add-mod', arith, leb, ltb, eqb, leb-true, ltb-true, eq-eqb, ne-eqb}
 use Rattle.machine.specs.Tests.{isIn}
 use Rattle.machine.proofs.TestLaws.{every-each, each-every, each-in}
 use Rattle.width.specs.Bounds.{mostElen}

@@ -1,7 +1,5 @@
 -- What the contract of `is_placed` names; a reader of the demand need not read it.
-use mathlib.Core.Bool.{Bool, true}
-use mathlib.Core.List.{[], _∷_}
-use lib.Dec.{ltb}
+use Rattle.width.specs.Kit.{Bool, true, [], _∷_, ltb}
 use Rattle.machine.specs.Tests.{every}
 use Rattle.run.specs.declared.Plan.{Plan}
 use Rattle.run.specs.declared.Place.{Place}

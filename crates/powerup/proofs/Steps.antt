@@ -1,15 +1,7 @@
 -- Request Nine: what a word answers, leaves in the scalars and in memory, and marks does not depend on unmarked register bytes.
 -- A new instruction adds a case to `meant-same` (by refl) and one to `unseen`.
-use mathlib.Core.Path.{_≡_, refl, sym, ap, ap₂, _∙_, subst}
-use mathlib.Core.Bool.{Bool, true, false, cond, _&&_}
-use mathlib.Core.List.{List, [], _∷_}
-use Prim.Native.Nat.{ℕ, zero, suc, _*_, _^_, _<_}
-use native.Mathlib.Nat.{mul-pos, one-mul}
-use native.Mathlib.Omega.{arith}
-use lib.ListN.{length}
-use lib.Dec.{eqb, ltb}
-use lib.IntN.{ℤ, pos, negsuc, _+ℤ_, _*ℤ_, *ℤ-zero}
-use borrow.Author.Tests.{ne-eqb}
+use Rattle.width.proofs.Kit.{_≡_, refl, sym, ap, ap₂, _∙_, subst, Bool, true, false, cond, _&&_, List, [], _∷_, ℕ, zero, suc, _*_, _^_, _<_, mul-pos}
+use Rattle.width.proofs.Kit.{one-mul, arith, eqb, ltb, length, ℤ, pos, negsuc, _+ℤ_, _*ℤ_, *ℤ-zero, ne-eqb}
 use Rattle.width.specs.Blocks.{Choice}
 use Rattle.width.specs.Reduce.{signed, reduce}
 use Rattle.width.specs.Binary32.{floatProduct}

@@ -3,9 +3,7 @@
 -- bytes after each, refusals included." 02, Eleven: "Vector bytes .. are input like memory in request Nine's statement." For every
 -- choice of sizes, word, state, scalars, vector file and memory. Machines at fault need no exception: both get 8 for every word. The
 -- proofs stand in proofs/.
-use mathlib.Core.Path.{_≡_}
-use mathlib.Core.List.{List, [], _∷_}
-use Prim.Native.Nat.{ℕ}
+use Rattle.width.specs.Kit.{_≡_, List, [], _∷_, ℕ}
 use Rattle.width.specs.Blocks.{Choice}
 use Rattle.machine.specs.Geometry.{Bench}
 use Rattle.machine.specs.Vectors.{Vectors, vectorsOf}

@@ -1,7 +1,5 @@
 -- Images before and after words: machines that differ at most in unmarked register bytes have one image.
-use mathlib.Core.Path.{_≡_, refl, ap₂}
-use mathlib.Core.List.{List, [], _∷_}
-use Prim.Native.Nat.{ℕ}
+use Rattle.width.proofs.Kit.{_≡_, refl, ap₂, List, [], _∷_, ℕ}
 use Rattle.machine.specs.Step.{VectorOutcome}
 use Rattle.image.proofs.Images.{alike-one-image}
 use Rattle.powerup.specs.Steps.{EachSame, outcomes, outcomesGiven}

@@ -1,9 +1,7 @@
 -- Request Nine, of images: two machines that differ at most in unmarked register bytes, "given the same words one after another, .. again
 -- differ at most in unmarked register bytes after each, refusals included. Images are equal too." Before the first word, and after each, for
 -- every choice of sizes, words, scalars, vector file and memory. The proofs stand in proofs/.
-use mathlib.Core.Path.{_≡_}
-use mathlib.Core.List.{List, map}
-use Prim.Native.Nat.{ℕ}
+use Rattle.width.specs.Kit.{_≡_, List, map, ℕ}
 use Rattle.width.specs.Blocks.{Choice}
 use Rattle.machine.specs.Geometry.{Bench}
 use Rattle.machine.specs.Vectors.{Vectors}

@@ -1,15 +1,7 @@
 -- The layout of `product`: a start is accepted, the elements of A and B are the numbers that were written, and where C's elements lie.
-use mathlib.Core.Path.{_≡_, refl, sym, ap, ap₂, _∙_, subst}
-use mathlib.Core.Bool.{Bool, true, not, _||_}
-use mathlib.Core.List.{List, [], _∷_}
-use mathlib.Core.Logic.{inl, inr}
-use Prim.Native.Nat.{ℕ, suc, _+_, _*_, _-_, _/_, _%_, _^_, _≤_, _<_}
-use native.Mathlib.Nat.{mul-le-mul-left, mul-le-mul-right, mod-eq-of-lt, add-mul-mod-self-right, mod-mod}
-use native.Mathlib.Omega.{arith}
-use lib.Dec.{leb}
-use lib.ListN.{length}
-use lib.IntN.{ℤ, pos, negsuc, _+ℤ_, _*ℤ_}
-use borrow.Author.Tests.{le-leb, le-ltb, lt-ltb}
+use Rattle.width.proofs.Kit.{_≡_, refl, sym, ap, ap₂, _∙_, subst, inl, inr, Bool, true, not, _||_, List, [], _∷_, ℕ, suc, _+_, _*_, _-_, _/_, _%_, _^_, _≤_}
+use Rattle.width.proofs.Kit.{_<_, mul-le-mul-left, mul-le-mul-right, mod-eq-of-lt, add-mul-mod-self-right, mod-mod, arith, leb, length, ℤ, pos, negsuc}
+use Rattle.width.proofs.Kit.{_+ℤ_, _*ℤ_, le-leb, le-ltb, lt-ltb}
 use Rattle.width.specs.Reduce.{signed, reduce, sumℤ}
 use Rattle.width.specs.Tile.{getLe, putLe, putRow, In}
 use Rattle.width.proofs.ReduceLaws.{sumℤ-cong}

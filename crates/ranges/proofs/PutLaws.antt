@@ -1,15 +1,8 @@
 -- Ranges written over a block: they are what is read there, and one more behind those that stand there needs its own slot and the number.
-use mathlib.Core.Path.{_≡_, refl, sym, ap, ap₂, _∙_, subst}
-use mathlib.Core.Bool.{Bool, true, false, cond, _&&_, _||_}
-use mathlib.Core.Logic.{_⊎_, inl, inr}
-use mathlib.Core.List.{List, [], _∷_, _++_}
-use Prim.Native.Nat.{ℕ, zero, suc, _+_, _-_, _*_, _≤_, _<_, _^_}
-use native.Mathlib.Nat.{eq-or-lt-of-le, le-of-suc-le-suc, not-suc-le-zero, mod-eq-of-lt}
-use native.Mathlib.Omega.{arith}
-use lib.ListN.{length, getD, length-append, List·getD-append, List·getD-eq-default}
-use lib.Seq.{getD-at}
-use lib.Dec.{leb, ltb, eqb}
-use borrow.Author.Tests.{leb-true, le-leb, lt-ltb, le-ltb, eqb-true, eq-eqb, ne-eqb}
+use Rattle.width.proofs.Kit.{_≡_, refl, sym, ap, ap₂, _∙_, subst, _⊎_, inl, inr, Bool, true, false, cond, _&&_, _||_, List, [], _∷_, _++_, ℕ, zero, suc}
+use Rattle.width.proofs.Kit.{_+_, _-_, _*_, _≤_, _<_, _^_, eq-or-lt-of-le, le-of-suc-le-suc, not-suc-le-zero, mod-eq-of-lt, arith, leb, ltb, eqb, length}
+use Rattle.width.proofs.Kit.{getD, length-append, List·getD-append, List·getD-eq-default, getD-at, leb-true, le-leb, lt-ltb, le-ltb, eqb-true, eq-eqb}
+use Rattle.width.proofs.Kit.{ne-eqb}
 use Rattle.width.specs.Upto.{upto}
 use Rattle.width.specs.Tile.{getLe, putLe, In}
 use Rattle.width.proofs.UptoLaws.{upto-keeps, upto-cong}

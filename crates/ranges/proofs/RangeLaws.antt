@@ -1,15 +1,8 @@
 -- The ranges in a block: what it takes for a machine to hold them, slot by slot, and the ranges of the first slots.
-use mathlib.Core.Path.{_≡_, refl, sym, ap, ap₂, _∙_, subst}
-use mathlib.Core.Bool.{Bool, true, false, not, cond, _&&_, _||_}
-use mathlib.Core.Logic.{_⊎_, inl, inr}
-use mathlib.Core.List.{List, [], _∷_, _++_}
-use Prim.Native.Nat.{ℕ, zero, suc, _+_, _*_, _-_, _≤_, _<_, _^_}
-use native.Mathlib.Nat.{eq-or-lt-of-le, le-of-suc-le-suc, not-suc-le-zero, mul-le-mul-right}
-use native.Mathlib.Omega.{arith}
-use lib.ListN.{length, getD, length-append}
-use lib.Dec.{leb, ltb, eqb}
+use Rattle.width.proofs.Kit.{_≡_, refl, sym, ap, ap₂, _∙_, subst, _⊎_, inl, inr, Bool, true, false, not, cond, _&&_, _||_, List, [], _∷_, _++_, ℕ, zero}
+use Rattle.width.proofs.Kit.{suc, _+_, _*_, _-_, _≤_, _<_, _^_, eq-or-lt-of-le, le-of-suc-le-suc, not-suc-le-zero, mul-le-mul-right, arith, leb, ltb, eqb}
+use Rattle.width.proofs.Kit.{length, getD, length-append, leb-true, le-leb, lt-ltb, le-ltb, eqb-true, eq-eqb, ne-eqb}
 use lib.Bits.{bitOr, or-add-and, or-zero-l, and-le-l, and-le-r}
-use borrow.Author.Tests.{leb-true, le-leb, lt-ltb, le-ltb, eqb-true, eq-eqb, ne-eqb}
 use Rattle.width.specs.Upto.{upto}
 use Rattle.width.specs.Tile.{getLe, In}
 use Rattle.width.proofs.TileLaws.{le-cong}

@@ -1,8 +1,5 @@
 -- What a slot must be, for the contracts of private functions.
-use mathlib.Core.Bool.{Bool, cond, _&&_}
-use mathlib.Core.List.{List}
-use Prim.Native.Nat.{ℕ, _+_, _≤_, _<_}
-use lib.Dec.{ltb, eqb}
+use Rattle.width.specs.Kit.{Bool, cond, _&&_, List, ℕ, _+_, _≤_, _<_, ltb, eqb}
 use Rattle.machine.specs.Starting.{sealEnds}
 use Rattle.machine.specs.Memory.{rowAt}
 use Rattle.ranges.specs.Ranges.{rangeAt}

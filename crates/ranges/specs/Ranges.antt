@@ -1,10 +1,6 @@
 -- 02, Twelve: a machine's sealed ranges in the bytes of its block. The layout is that of include/bodlarina.h (docs/DECISIONS.md); numbers
 -- have 64 bits, low byte first.
-use mathlib.Core.Bool.{Bool, cond, _||_, _&&_}
-use mathlib.Core.List.{List, [], _∷_, _++_}
-use Prim.Native.Nat.{ℕ, _+_, _*_, _^_}
-use lib.ListN.{length, getD}
-use lib.Dec.{leb, ltb, eqb}
+use Rattle.width.specs.Kit.{Bool, cond, _||_, _&&_, List, [], _∷_, _++_, ℕ, _+_, _*_, _^_, leb, ltb, eqb, length, getD}
 use Rattle.width.specs.Upto.{upto}
 use Rattle.width.specs.Tile.{getLe, putLe}
 use Rattle.machine.specs.Tests.{all, every}

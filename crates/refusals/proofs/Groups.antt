@@ -1,14 +1,7 @@
 -- The checks of an operation that is not illegal, in the groups of their answers: 2, 3, 4, 5, 6, 13, 7.
-use mathlib.Core.Path.{_≡_, refl, sym, ap, ap₂, _∙_, subst}
-use mathlib.Core.Logic.{_⊎_, inl, inr}
-use mathlib.Core.Bool.{Bool, true, false, cond, not, _&&_, _||_}
-use mathlib.Core.List.{List, [], _∷_, _++_, map}
-use Prim.Native.Nat.{ℕ, zero, suc, _+_, _*_, _≤_, _<_}
-use native.Mathlib.Nat.{zero-add, zero-mul, one-mul, mul-le-mul-right}
-use native.Mathlib.Omega.{arith}
-use lib.ListN.{length, getD}
-use lib.Dec.{leb, eqb}
-use borrow.Author.Tests.{eq-eqb, eqb-true, eqb-false, ne-eqb, leb-true, leb-false}
+use Rattle.width.proofs.Kit.{_≡_, refl, sym, ap, ap₂, _∙_, subst, _⊎_, inl, inr, Bool, true, false, cond, not, _&&_, _||_, List, [], _∷_, _++_, map, ℕ}
+use Rattle.width.proofs.Kit.{zero, suc, _+_, _*_, _≤_, _<_, zero-add, zero-mul, one-mul, mul-le-mul-right, arith, leb, eqb, length, getD, eq-eqb, eqb-true}
+use Rattle.width.proofs.Kit.{eqb-false, ne-eqb, leb-true, leb-false}
 use Rattle.machine.specs.declared.Answer.{Answer}
 use Rattle.machine.specs.declared.Answer.the-variants.{Done, IllegalType, BadWidth, TileTooLarge, Unwritten, OutsideMemory, SealedByte, RowsOverlap}
 use Rattle.machine.specs.declared.Form.{Form}

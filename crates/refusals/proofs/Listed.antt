@@ -1,10 +1,5 @@
 -- No code twice, the values of mtype, and the bytes of the registers.
-use mathlib.Core.Path.{_≡_, refl, sym, ap, subst}
-use mathlib.Core.Bool.{true}
-use mathlib.Core.List.{List, [], _∷_}
-use Prim.Native.Nat.{ℕ, zero, suc, _<_}
-use native.Mathlib.Omega.{arith}
-use lib.ListN.{length, getD}
+use Rattle.width.proofs.Kit.{_≡_, refl, sym, ap, subst, true, List, [], _∷_, ℕ, zero, suc, _<_, arith, length, getD}
 use Rattle.machine.specs.Listing.{Code, Row, has, listing}
 use Rattle.machine.proofs.TestLaws.{and-left, and-right}
 use Rattle.machine.proofs.ListingLaws.{clash, clashAll, pairwise, codes, one-row-each, clash-apart}

@@ -1,13 +1,6 @@
 -- 01, "Numbers of the answers", of a step: each answer is "given exactly when" the sentence of its row holds and none before it does; 02, One,
 -- Four, Seven, Ten, Eleven and Twelve. 8 is the state at fault of machine/specs/Faults.antt. The proofs stand in proofs/.
-use mathlib.Core.Path.{_≡_}
-use mathlib.Core.Logic.{_↔_, _⊎_}
-use mathlib.Core.Bool.{true, cond}
-use mathlib.Core.List.{List, [], _∷_, List·Memᴰ}
-use Prim.Native.Nat.{ℕ, _+_, _*_, _≤_, _<_}
-use lib.ListN.{length, getD}
-use lib.Dec.{eqb}
-use lib.IntN.{pos, _+ℤ_}
+use Rattle.width.specs.Kit.{_≡_, _↔_, _⊎_, true, cond, List, [], _∷_, List·Memᴰ, ℕ, _+_, _*_, _≤_, _<_, eqb, length, getD, pos, _+ℤ_}
 use Rattle.width.specs.Blocks.{Choice}
 use Rattle.width.specs.Tile.{In}
 use Rattle.machine.specs.declared.Reply.{Reply}

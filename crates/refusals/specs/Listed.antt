@@ -1,11 +1,6 @@
 -- What a reviewer looks for in the definitions: no code is given twice, the values that mtype can take, and that the registers fill their bytes.
 -- The proofs stand in proofs/.
-use mathlib.Core.Path.{_≡_}
-use mathlib.Core.Bool.{true, cond}
-use mathlib.Core.List.{List, [], _∷_}
-use Prim.Native.Nat.{ℕ, _*_, _/_, _^_, _<_}
-use lib.Dec.{eqb}
-use lib.ListN.{length, getD}
+use Rattle.width.specs.Kit.{_≡_, true, cond, List, [], _∷_, ℕ, _*_, _/_, _^_, _<_, eqb, length, getD}
 use Rattle.machine.specs.Tests.{isIn}
 use Rattle.machine.specs.Geometry.{elens, permitted, registerBytes}
 use Rattle.machine.specs.Setting.{newType}

@@ -1,13 +1,6 @@
 -- The starts of blocks: a run comes to no other place; and how code tells them.
-use mathlib.Core.Path.{_≡_, refl, sym, ap, _∙_, subst}
-use mathlib.Core.Logic.{_⊎_, inl, inr}
-use mathlib.Core.Bool.{Bool, true, false, cond}
-use mathlib.Core.List.{[], _∷_}
-use Prim.Native.Nat.{ℕ, zero, suc, _+_, _*_, _-_, _/_, _≤_, _<_}
-use native.Mathlib.Nat.{div-eq-of-lt, add-div-right}
-use native.Mathlib.Omega.{arith}
-use lib.Dec.{ltb, eqb}
-use borrow.Author.Tests.{ltb-true, lt-ltb, eqb-true, eq-eqb, ne-eqb}
+use Rattle.width.proofs.Kit.{_≡_, refl, sym, ap, _∙_, subst, _⊎_, inl, inr, Bool, true, false, cond, [], _∷_, ℕ, zero, suc, _+_, _*_, _-_, _/_, _≤_, _<_}
+use Rattle.width.proofs.Kit.{div-eq-of-lt, add-div-right, arith, ltb, eqb, ltb-true, lt-ltb, eqb-true, eq-eqb, ne-eqb}
 use Rattle.width.specs.Blocks.{Grants, starts, chunks}
 use Rattle.width.proofs.BlockLaws.{le-or-lt, granted, chunks-end, chunks-next}
 use Rattle.machine.specs.Tests.{isIn}

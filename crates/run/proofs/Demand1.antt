@@ -1,9 +1,5 @@
 -- Demand 1 where product runs are made.
-use mathlib.Core.Path.{_≡_, refl, ap, _∙_}
-use mathlib.Core.Bool.{Bool, true, false, cond}
-use mathlib.Core.Option.{Option, none, some}
-use Prim.Native.Nat.{zero, suc, _+_}
-use native.Mathlib.Omega.{arith}
+use Rattle.width.proofs.Kit.{_≡_, refl, ap, _∙_, Bool, true, false, cond, Option, none, some, zero, suc, _+_, arith}
 use Rattle.machine.specs.Answers.{done}
 use Rattle.run.specs.Words.{Op, steps}
 use Rattle.run.specs.Plan.{shape}

@@ -1,17 +1,7 @@
 -- Demand 3, proved: one invariant over the place, the state and the memory, which every turn keeps.
-use mathlib.Core.Path.{_≡_, refl, sym, ap, _∙_, subst}
-use mathlib.Core.Logic.{_⊎_, inl, inr}
-use mathlib.Core.Bool.{Bool, true, false, cond}
-use mathlib.Core.List.{List, [], _∷_}
-use mathlib.Core.Option.{Option, none, some}
-use Prim.Native.Nat.{ℕ, zero, suc, _+_, _*_, _-_, _≤_, _<_, min}
-use native.Mathlib.Omega.{arith}
-use native.Mathlib.Nat.{mul-le-mul-right, mul-pos}
-use lib.ListN.{length, getD, drop, drop-of-length-le}
-use lib.Seq.{drop-cons}
-use lib.Dec.{leb}
-use lib.IntN.{pos}
-use borrow.Author.Tests.{leb-true}
+use Rattle.width.proofs.Kit.{_≡_, refl, sym, ap, _∙_, subst, _⊎_, inl, inr, Bool, true, false, cond, List, [], _∷_, map, Option, none, some, ℕ, zero, suc}
+use Rattle.width.proofs.Kit.{_+_, _*_, _-_, _≤_, _<_, min, mul-le-mul-right, mul-pos, arith, leb, length, getD, drop, drop-of-length-le, drop-cons, pos}
+use Rattle.width.proofs.Kit.{leb-true}
 use Rattle.width.specs.Blocks.{Choice, EachGrants}
 use Rattle.width.proofs.BlockLaws.{le-or-lt}
 use Rattle.machine.specs.declared.Answer.the-variants.{Done, BadArguments, OutsideMemory, Overlap}
@@ -37,7 +27,6 @@ use Rattle.machine.proofs.SizeLaws.{chosen-grants}
 use Rattle.run.specs.declared.Plan.{Plan}
 use Rattle.run.specs.declared.Handed.{Handed}
 use Rattle.run.specs.declared.Run.{Run}
-use mathlib.Core.List.{map}
 use Rattle.run.specs.declared.Handed.{Handed}
 use Rattle.run.specs.Encoding.{plain, wordOf}
 use Rattle.run.specs.declared.Place.{Place}

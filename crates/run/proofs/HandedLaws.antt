@@ -1,7 +1,5 @@
 -- Asking and a turn as Turn.antt defines them, with the word that is handed out as an argument: proofs go by its cases.
-use mathlib.Core.Bool.{cond}
-use mathlib.Core.Option.{Option, none, some}
-use Prim.Native.Nat.{ℕ}
+use Rattle.width.proofs.Kit.{cond, Option, none, some, ℕ}
 use Rattle.width.specs.Blocks.{Choice}
 use Rattle.machine.specs.declared.Answer.the-variants.{Done, BadArguments}
 use Rattle.machine.specs.Answers.{reply, done}

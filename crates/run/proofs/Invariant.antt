@@ -1,10 +1,5 @@
 -- The invariant of a run: what an accepted start says, what each step does, and what holds at each place.
-use mathlib.Core.Path.{_≡_}
-use mathlib.Core.Bool.{Bool, true, false}
-use mathlib.Core.List.{List}
-use Prim.Native.Nat.{ℕ, zero, _+_, _*_, _≤_, _<_}
-use lib.ListN.{length, getD}
-use lib.IntN.{pos}
+use Rattle.width.proofs.Kit.{_≡_, Bool, true, false, List, ℕ, zero, _+_, _*_, _≤_, _<_, length, getD, pos}
 use Rattle.width.specs.Tile.{In}
 use Rattle.width.specs.Blocks.{Grants}
 use Rattle.machine.specs.declared.Form.the-variants.{Plain}

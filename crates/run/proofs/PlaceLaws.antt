@@ -1,16 +1,6 @@
 -- The words handed out one at a time are the words of the nested loops, in their order and number.
-use mathlib.Core.Path.{_≡_, refl, sym, ap, _∙_}
-use mathlib.Core.Bool.{Bool, true, false, cond}
-use mathlib.Core.List.{List, [], _∷_, _++_, append-assoc}
-use mathlib.Core.Option.{Option, none, some}
-use Prim.Native.Nat.{ℕ, zero, suc, _+_, _*_, _-_, _<_}
-use native.Mathlib.Nat.{zero-mul}
-use native.Mathlib.Omega.{arith}
-use lib.ListN.{length, length-append, drop}
-use lib.Seq.{drop-drop}
-use native.Mathlib.Numerals.{add-one}
-use lib.Dec.{ltb}
-use borrow.Author.Tests.{ltb-true, ltb-false}
+use Rattle.width.proofs.Kit.{_≡_, refl, sym, ap, _∙_, Bool, true, false, cond, List, [], _∷_, _++_, append-assoc, Option, none, some, ℕ, zero, suc, _+_}
+use Rattle.width.proofs.Kit.{_*_, _-_, _<_, zero-mul, arith, add-one, ltb, length, length-append, drop, drop-drop, ltb-true, ltb-false}
 use Rattle.width.specs.Blocks.{Grants, count, chunks}
 use Rattle.width.proofs.BlockLaws.{chunks-end, chunks-next, length-chunks}
 use Rattle.run.specs.declared.Place.{Place}

@@ -1,5 +1,5 @@
 -- The bench sheet's starred lines and 01's product example, by computation.
-use mathlib.Core.Path.{refl}
+use Rattle.width.proofs.Kit.{refl}
 use Rattle.width.specs.Reduce.{reduce}
 use Rattle.width.specs.Tile.{putTile, putRow, putLe, markTile, markRow}
 use Rattle.width.specs.Blocks.{chunks}

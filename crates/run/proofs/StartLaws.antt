@@ -1,14 +1,6 @@
 -- The tests of a start say what the statement says of bytes, both ways; and an accepted start gives what the turns need.
-use mathlib.Core.Path.{_≡_, refl, sym, ap, subst}
-use mathlib.Core.Logic.{_⊎_, inl, inr}
-use mathlib.Core.Bool.{Bool, true, false, cond, not, _||_}
-use mathlib.Core.List.{List, [], _∷_}
-use Prim.Native.Nat.{ℕ, _+_, _*_, _-_, _/_, _≤_, _<_}
-use native.Mathlib.Omega.{arith}
-use lib.ListN.{length}
-use lib.IntN.{ℤ, pos, negsuc, _+ℤ_}
-use lib.Dec.{leb, eqb}
-use borrow.Author.Tests.{leb-true, le-leb, ltb-true, eqb-true, eqb-false, eq-eqb, lt-ltb, not-true}
+use Rattle.width.proofs.Kit.{_≡_, refl, sym, ap, subst, _⊎_, inl, inr, Bool, true, false, cond, not, _||_, List, [], _∷_, ℕ, _+_, _*_, _-_, _/_, _≤_, _<_}
+use Rattle.width.proofs.Kit.{arith, leb, eqb, length, ℤ, pos, negsuc, _+ℤ_, leb-true, le-leb, ltb-true, eqb-true, eqb-false, eq-eqb, lt-ltb, not-true}
 use Rattle.width.specs.Tile.{In}
 use Rattle.width.specs.Blocks.{Choice, EachGrants}
 use Rattle.width.proofs.BlockLaws.{le-or-lt}

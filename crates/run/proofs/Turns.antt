@@ -1,16 +1,7 @@
 -- One turn keeps the invariant: the checks of each step pass, and what it leaves holds at the next place.
-use mathlib.Core.Path.{_≡_, refl, sym, ap, _∙_, subst}
-use mathlib.Core.Logic.{_⊎_, inl, inr, _≢_}
-use mathlib.Core.Bool.{Bool, true, false, cond, not}
-use mathlib.Core.List.{List}
-use Prim.Native.Nat.{ℕ, zero, suc, _+_, _*_, _-_, _/_, _%_, _^_, _≤_, _<_}
-use native.Mathlib.Nat.{min-le-left, mul-pos, not-suc-le-zero, min-le-right, div-mul-le-self, le-div-iff-mul-le, mul-le-mul-right, mul-le-mul, mod-eq-of-lt}
-use native.Mathlib.Omega.{arith}
-use native.Mathlib.Decide.{ℕ-discrete}
-use lib.ListN.{length}
-use lib.Dec.{ltb, leb, eqb}
-use lib.IntN.{ℤ, pos, _*ℤ_}
-use borrow.Author.Tests.{ltb-true, ltb-false, le-leb, eq-eqb}
+use Rattle.width.proofs.Kit.{_≡_, refl, sym, ap, _∙_, subst, _⊎_, inl, inr, _≢_, Bool, true, false, cond, not, List, ℕ, zero, suc, _+_, _*_, _-_, _/_, _%_}
+use Rattle.width.proofs.Kit.{_^_, _≤_, _<_, min-le-left, mul-pos, not-suc-le-zero, min-le-right, div-mul-le-self, le-div-iff-mul-le, mul-le-mul-right}
+use Rattle.width.proofs.Kit.{mul-le-mul, mod-eq-of-lt, arith, ℕ-discrete, ltb, leb, eqb, length, ℤ, pos, _*ℤ_, ltb-true, ltb-false, le-leb, eq-eqb}
 use Rattle.width.specs.Reduce.{signed, reduce}
 use Rattle.width.proofs.TileLaws as Tile
 use Rattle.width.specs.Tile.{getLe, In, putTile, markTile}

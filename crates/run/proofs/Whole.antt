@@ -1,10 +1,5 @@
 -- A whole run delivers what its statement says.
-use mathlib.Core.Path.{_≡_, refl, sym, _∙_, subst}
-use mathlib.Core.Bool.{Bool, true, false}
-use Prim.Native.Nat.{ℕ, min}
-use native.Mathlib.Omega.{arith}
-use lib.Dec.{eqb}
-use borrow.Author.Tests.{eqb-true, eqb-false}
+use Rattle.width.proofs.Kit.{_≡_, refl, sym, _∙_, subst, Bool, true, false, ℕ, min, arith, eqb, eqb-true, eqb-false}
 use Rattle.machine.specs.Geometry.{Bench}
 use Rattle.machine.specs.Setting.{chosen}
 use Rattle.run.specs.declared.Plan.{Plan}

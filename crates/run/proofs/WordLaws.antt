@@ -1,15 +1,8 @@
 -- Each word that a run hands out is read as its operation.
-use mathlib.Core.Path.{_≡_, refl, sym, ap, ap₂, _∙_, subst}
-use mathlib.Core.Bool.{Bool, true, false, cond, not, _||_}
-use mathlib.Core.List.{List, [], _∷_}
-use Prim.Native.Nat.{ℕ, zero, suc, _+_, _*_, _/_, _%_, _^_, _<_}
-use native.Mathlib.Nat.{mod-eq-of-lt}
-use native.Mathlib.Omega.{arith}
-use lib.Dec.{T, leb, ltb, eqb}
-use lib.IntN.{ℤ, pos, _+ℤ_, _*ℤ_}
+use Rattle.width.proofs.Kit.{_≡_, refl, sym, ap, ap₂, _∙_, subst, Bool, true, false, cond, not, _||_, List, [], _∷_, ℕ, zero, suc, _+_, _*_, _/_, _%_, _^_}
+use Rattle.width.proofs.Kit.{_<_, mod-eq-of-lt, arith, T, leb, ltb, eqb, ℤ, pos, _+ℤ_, _*ℤ_, eqb-true, ltb-true, leb-true, le-leb}
 use Rattle.width.specs.Reduce.{signed, reduce}
 use Rattle.width.proofs.ReduceLaws.{reduce-add, reduce-mul, reduce-signed}
-use borrow.Author.Tests.{eqb-true, ltb-true, leb-true, le-leb}
 use Rattle.machine.specs.declared.Form.{Form}
 use Rattle.machine.specs.declared.Form.the-variants.{Plain, Transposed}
 use Rattle.machine.specs.declared.Matrix.the-variants.{MatrixA, MatrixB, MatrixC}

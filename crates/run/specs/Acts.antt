@@ -1,8 +1,5 @@
 -- What is done with a started machine, one act after another: words, product runs, asking for a run's steps, and sealing further ranges.
-use mathlib.Core.Bool.{cond}
-use mathlib.Core.List.{List, [], _∷_}
-use mathlib.Core.Option.{Option, none}
-use Prim.Native.Nat.{ℕ}
+use Rattle.width.specs.Kit.{cond, List, [], _∷_, Option, none, ℕ}
 use Rattle.width.specs.Blocks.{Choice}
 use Rattle.machine.specs.declared.Answer.the-variants.{Done}
 use Rattle.machine.specs.declared.Reply.{Reply}

@@ -1,10 +1,5 @@
 -- The words of a run as numbers, each with the run's scalars 10 and 11.
-use mathlib.Core.Bool.{cond}
-use mathlib.Core.List.{List, _∷_, _++_}
-use Prim.Native.Nat.{ℕ, _+_, _*_, _^_}
-use lib.ListN.{getD, replicate}
-use lib.Dec.{eqb}
-use lib.IntN.{pos, _+ℤ_}
+use Rattle.width.specs.Kit.{cond, List, _∷_, _++_, map, ℕ, _+_, _*_, _^_, eqb, getD, replicate, pos, _+ℤ_}
 use Rattle.width.specs.Reduce.{reduce}
 use Rattle.machine.specs.declared.Form.{Form}
 use Rattle.machine.specs.declared.Form.the-variants.{Plain, Transposed}
@@ -14,7 +9,6 @@ use Rattle.run.specs.declared.Plan.{Plan}
 use Rattle.run.specs.declared.Handed.{Handed}
 use Rattle.run.specs.Words.{Op}
 use Rattle.run.specs.Plan.{Elements, integers, floats, elementsOf, narrow, wide, msew, typeOf, formOf, aRow, aColumn}
-use mathlib.Core.List.{map}
 use Rattle.run.specs.Words.{words}
 use Rattle.run.specs.Plan.{Job, shape}
 

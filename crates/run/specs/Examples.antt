@@ -1,11 +1,7 @@
 -- Starts that are refused and places that hand out nothing, with their neighbours, a run that keeps A transposed and a float run,
 -- computed: MLEN 128, RLEN 64, ELEN 32, a memory of 64 bytes; at the end MLEN 256, RLEN 128, ELEN 64.
-use mathlib.Core.Path.{_≡_, refl}
-use mathlib.Core.List.{List, [], _∷_, _++_, map}
-use Prim.Native.Nat.{ℕ, _-_, _*_, _^_}
-use lib.ListN.{length, drop, replicate}
+use Rattle.width.specs.Kit.{_≡_, refl, List, [], _∷_, _++_, map, ℕ, _-_, _*_, _^_, length, drop, replicate, pos, negsuc}
 use lib.Ieee as Ieee
-use lib.IntN.{pos, negsuc}
 use Rattle.width.specs.Reduce.{reduce}
 use Rattle.width.specs.Tile.{putTile, putRow, putLe, markTile, markRow}
 use Rattle.width.specs.Blocks.{chunks}

@@ -1,11 +1,5 @@
 -- A plan: its widths, the rows of its matrices in memory, and the product that C shall be.
-use mathlib.Core.Path.{_≡_}
-use mathlib.Core.Bool.{cond}
-use mathlib.Core.List.{List}
-use Prim.Native.Nat.{ℕ, _+_, _*_, _/_, _^_, _<_}
-use lib.ListN.{length, getD}
-use lib.Dec.{eqb}
-use lib.IntN.{_*ℤ_}
+use Rattle.width.specs.Kit.{_≡_, cond, List, ℕ, _+_, _*_, _/_, _^_, _<_, eqb, length, getD, _*ℤ_}
 use Rattle.width.specs.Reduce.{signed, reduce, sumℤ}
 use Rattle.width.specs.Binary32.{valueOf, settled, floatSum, plusZero}
 use Rattle.width.specs.Tile.{In}

@@ -1,9 +1,5 @@
 -- The start of a run: its checks in the order 8, 6, 9.
-use mathlib.Core.Bool.{Bool, cond, not}
-use mathlib.Core.List.{List, [], _∷_}
-use Prim.Native.Nat.{ℕ, _+_, _*_}
-use lib.ListN.{length}
-use lib.Dec.{leb, eqb}
+use Rattle.width.specs.Kit.{Bool, cond, not, List, [], _∷_, ℕ, _+_, _*_, leb, eqb, length}
 use Rattle.width.specs.Blocks.{Choice}
 use Rattle.machine.specs.declared.Machine.{Machine}
 use Rattle.machine.specs.declared.Answer.the-variants.{BadArguments, OutsideMemory, Overlap}

@@ -1,12 +1,5 @@
 -- Demand 3, the statement: when a start is accepted and what it answers otherwise, and what holds after any number of turns.
-use mathlib.Core.Path.{_≡_}
-use mathlib.Core.Bool.{true}
-use mathlib.Core.Logic.{_⊎_}
-use mathlib.Core.List.{List}
-use mathlib.Core.Option.{Option, none, some}
-use Prim.Native.Nat.{ℕ, suc, _*_, _^_, _≤_, _<_, min}
-use lib.ListN.{length, getD}
-use lib.IntN.{ℤ, pos, _+ℤ_}
+use Rattle.width.specs.Kit.{_≡_, _⊎_, true, List, Option, none, some, ℕ, suc, _*_, _^_, _≤_, _<_, min, length, getD, ℤ, pos, _+ℤ_}
 use Rattle.width.specs.Tile.{In}
 use Rattle.width.specs.Blocks.{Choice, EachGrants}
 use Rattle.machine.specs.declared.Reply.{Reply}

@@ -1,10 +1,5 @@
 -- Demands 1 and 2 where product runs are made. The proofs stand in proofs/.
-use mathlib.Core.Path.{_≡_}
-use mathlib.Core.Bool.{true}
-use mathlib.Core.List.{List}
-use mathlib.Core.Option.{none}
-use Prim.Native.Nat.{ℕ}
-use lib.ListN.{getD}
+use Rattle.width.specs.Kit.{_≡_, true, List, none, ℕ, getD}
 use Rattle.width.specs.Blocks.{Choice}
 use Rattle.machine.specs.Geometry.{Range, sealed, Bench, benchOf}
 use Rattle.machine.specs.Starting.{ranges, startMachine}

@@ -1,8 +1,5 @@
 -- A turn: a step is asked for and, if one is handed out, carried out with the run's own scalars.
-use mathlib.Core.Bool.{Bool, true, cond}
-use mathlib.Core.List.{List, [], _∷_}
-use mathlib.Core.Option.{Option, none, some, Option·getD}
-use Prim.Native.Nat.{ℕ, zero, suc, _+_}
+use Rattle.width.specs.Kit.{Bool, true, cond, List, [], _∷_, Option, none, some, Option·getD, ℕ, zero, suc, _+_}
 use Rattle.machine.specs.declared.Answer.the-variants.{Done, BadArguments}
 use Rattle.machine.specs.declared.Reply.{Reply}
 use Rattle.machine.specs.Answers.{reply, done}

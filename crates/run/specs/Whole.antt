@@ -1,7 +1,5 @@
 -- A whole product run: a start, and as many turns as there are steps; and what a customer is told of it.
-use mathlib.Core.Path.{_≡_}
-use mathlib.Core.List.{List}
-use Prim.Native.Nat.{ℕ, _<_}
+use Rattle.width.specs.Kit.{_≡_, List, ℕ, _<_}
 use Rattle.width.specs.Blocks.{Choice}
 use Rattle.machine.specs.declared.Reply.{Reply}
 use Rattle.machine.specs.Answers.{reply}

@@ -1,6 +1,5 @@
 -- The words of a product run, as 01 lists them: nested loops over the blocks of rows, columns and terms.
-use mathlib.Core.List.{List, [], _∷_, _++_}
-use Prim.Native.Nat.{ℕ, _+_, _*_, _-_}
+use Rattle.width.specs.Kit.{List, [], _∷_, _++_, ℕ, _+_, _*_, _-_}
 use Rattle.width.specs.Blocks.{chunks, count}
 
 -- what a step of a run does: the mtype of the plan; a size that is asked; the clear; a load from a row and a column; ..

@@ -1,14 +1,6 @@
 -- Laws of a run's block: what is read back of what was written, and that a block written over with its own numbers stays.
-use mathlib.Core.Path.{_≡_, refl, sym, ap, ap₂, _∙_, subst}
-use mathlib.Core.Bool.{true}
-use mathlib.Core.List.{List, _∷_}
-use Prim.Native.Nat.{ℕ, _+_, _*_, _^_, _<_}
-use native.Mathlib.Nat.{mod-eq-of-lt}
-use native.Mathlib.Omega.{arith}
-use lib.ListN.{length, getD}
-use lib.Seq.{getD-take, getD-drop}
-use lib.Dec.{eqb}
-use borrow.Author.Tests.{eqb-true, eq-eqb}
+use Rattle.width.proofs.Kit.{_≡_, refl, sym, ap, ap₂, _∙_, subst, true, List, _∷_, ℕ, _+_, _*_, _^_, _<_, mod-eq-of-lt, arith, eqb, length, getD, getD-take}
+use Rattle.width.proofs.Kit.{getD-drop, eqb-true, eq-eqb}
 use Rattle.width.specs.Tile.{getLe, putLe, putRow}
 use Rattle.width.proofs.TileLaws.{length-putRow}
 use Rattle.width.proofs.WordLaws.{le-putRow}

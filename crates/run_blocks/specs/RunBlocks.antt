@@ -1,10 +1,5 @@
 -- A run and a step as the host passes them, in blocks of bytes. The layout is that of include/bodlarina.h (docs/DECISIONS.md).
-use mathlib.Core.Path.{_≡_}
-use mathlib.Core.Bool.{Bool}
-use mathlib.Core.List.{List, [], _∷_, _++_}
-use Prim.Native.Nat.{ℕ, _+_}
-use lib.ListN.{length, getD}
-use lib.Dec.{eqb}
+use Rattle.width.specs.Kit.{_≡_, Bool, List, [], _∷_, _++_, ℕ, _+_, eqb, length, getD}
 use Rattle.width.specs.Tile.{getLe}
 use Rattle.machine.specs.Tests.{every}
 use Rattle.run.specs.declared.Layout.{Layout}

@@ -1,7 +1,5 @@
 -- For code: the number of blocks and of steps stays small.
-use Prim.Native.Nat.{ℕ, zero, suc, _+_, _*_, _-_, _≤_, _<_}
-use native.Mathlib.Nat.{zero-lt-suc, div-zero, div-lt-iff-lt-mul, mul-le-mul, mul-le-mul-right}
-use native.Mathlib.Omega.{arith}
+use Rattle.width.proofs.Kit.{ℕ, zero, suc, _+_, _*_, _-_, _≤_, _<_, zero-lt-suc, div-zero, div-lt-iff-lt-mul, mul-le-mul, mul-le-mul-right, arith}
 use Rattle.width.specs.Blocks.{count}
 
 pub count-least : (max n : ℕ) → count max n ≤ n

@@ -1,12 +1,5 @@
 -- For code: what the numbers and the place of a sound run say, and the next place.
-use mathlib.Core.Path.{_≡_, refl, sym}
-use mathlib.Core.Bool.{true}
-use mathlib.Core.List.{[], _∷_}
-use Prim.Native.Nat.{ℕ, _/_, _≤_, _<_}
-use native.Mathlib.Nat.{le-div-iff-mul-le, div-le-self}
-use native.Mathlib.Omega.{arith}
-use lib.Dec.{leb, ltb}
-use borrow.Author.Tests.{eqb-true, ltb-true, leb-true}
+use Rattle.width.proofs.Kit.{_≡_, refl, sym, true, [], _∷_, ℕ, _/_, _≤_, _<_, le-div-iff-mul-le, div-le-self, arith, leb, ltb, eqb-true, ltb-true, leb-true}
 use Rattle.width.specs.Bounds.{mostElen, mostMlen}
 use Rattle.machine.specs.Tests.{every}
 use Rattle.machine.proofs.TestLaws.{Each, every-each, each-every}

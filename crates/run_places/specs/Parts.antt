@@ -1,6 +1,5 @@
 -- What the contracts of inner functions name; a reader of the demand need not read it.
-use mathlib.Core.Bool.{Bool}
-use mathlib.Core.List.{[], _∷_}
+use Rattle.width.specs.Kit.{Bool, [], _∷_}
 use Rattle.machine.specs.Tests.{every}
 use Rattle.machine.specs.Geometry.{permitted}
 use Rattle.run.specs.declared.Place.{Place}

@@ -1,12 +1,5 @@
 -- Nothing of a result is cut.
-use mathlib.Core.Path.{_≡_, refl, sym, subst}
-use mathlib.Core.Bool.{Bool, true, false, cond}
-use mathlib.Core.List.{List, _++_}
-use mathlib.Core.Option.{Option, none, some}
-use Prim.Native.Nat.{ℕ, _≤_}
-use native.Mathlib.Omega.{arith}
-use lib.Dec.{eqb, leb}
-use lib.ListN.{length, drop}
+use Rattle.width.proofs.Kit.{_≡_, refl, sym, subst, Bool, true, false, cond, List, _++_, Option, none, some, ℕ, _≤_, arith, eqb, leb, length, drop}
 use Rattle.format.specs.Numbers.{Bytes}
 use Rattle.format.specs.Parser.{Parsed, parse}
 use Rattle.format.specs.Parser.Parsed.{whole, stopped}

@@ -1,12 +1,5 @@
 -- A refusal changes no byte of any buffer.
-use mathlib.Core.Path.{_≡_, refl, ap₂}
-use mathlib.Core.Bool.{Bool, true, false, cond}
-use mathlib.Core.List.{List, [], _∷_}
-use Prim.Native.Nat.{ℕ, _%_, _^_}
-use native.Mathlib.Omega.{arith}
-use lib.Dec.{eqb}
-use lib.ListN.{length}
-use borrow.Author.Tests.{ne-eqb}
+use Rattle.width.proofs.Kit.{_≡_, refl, ap₂, Bool, true, false, cond, List, [], _∷_, ℕ, _%_, _^_, arith, eqb, length, ne-eqb}
 use Rattle.blocks.specs.Blocks.{putNumbers}
 use Rattle.image_calls.specs.ImageCalls.{packedReply}
 use Rattle.salvage.specs.Salvage.{SalvageOutcome, salvage}

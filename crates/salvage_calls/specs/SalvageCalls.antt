@@ -1,9 +1,5 @@
 -- What a call of bodlarina_image_salvage answers and leaves (include/bodlarina.h).
-use mathlib.Core.Bool.{cond}
-use mathlib.Core.List.{List, [], _∷_}
-use Prim.Native.Nat.{ℕ}
-use lib.ListN.{length}
-use lib.Dec.{eqb}
+use Rattle.width.specs.Kit.{cond, List, [], _∷_, ℕ, eqb, length}
 use Rattle.blocks.specs.Blocks.{putNumbers}
 use Rattle.image_calls.specs.ImageCalls.{packedReply}
 use Rattle.salvage.specs.Salvage.{SalvageOutcome, salvage}

@@ -1,10 +1,5 @@
 -- What is proved of these definitions. The proofs stand in proofs/.
-use mathlib.Core.Path.{_≡_}
-use mathlib.Core.Bool.{cond}
-use mathlib.Core.List.{List}
-use Prim.Native.Nat.{ℕ, _%_, _^_}
-use lib.Dec.{eqb}
-use lib.ListN.{length}
+use Rattle.width.specs.Kit.{_≡_, cond, List, ℕ, _%_, _^_, eqb, length}
 use Rattle.format.specs.Numbers.{Bytes}
 use Rattle.image.specs.declared.Imaged.the-variants.{BadArguments}
 use Rattle.image_calls.specs.Theorems.{PacksWhole}

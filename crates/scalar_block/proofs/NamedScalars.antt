@@ -1,17 +1,8 @@
 -- A step reads no scalars but those in the slots that fields of its word name, and writes none but the one that bits 11..7 name. So it
 -- does the same on values of which only these are right, and only this one need be written back.
-use mathlib.Core.Path.{_≡_, refl, sym, ap, ap₂, _∙_, subst}
-use mathlib.Core.Bool.{Bool, true, false, cond}
-use mathlib.Core.Logic.{_⊎_, inl, inr}
-use mathlib.Core.List.{List, [], _∷_}
-use Prim.Native.Nat.{ℕ, _+_, _*_, _/_, _%_, _<_}
-use native.Mathlib.Nat.{zero-add, mod-lt, div-add-mod'}
-use native.Mathlib.Decide.{ℕ-discrete}
-use native.Mathlib.Omega.{arith}
-use lib.Dec.{eqb}
-use lib.ListN.{length, getD, set, replicate, length-set}
-use lib.Seq.{getD-set-same, getD-set-other, ext-getD}
-use borrow.Author.Tests.{eq-eqb, eqb-true, eqb-false}
+use Rattle.width.proofs.Kit.{_≡_, refl, sym, ap, ap₂, _∙_, subst, _⊎_, inl, inr, Bool, true, false, cond, List, [], _∷_, ℕ, _+_, _*_, _/_, _%_, _<_}
+use Rattle.width.proofs.Kit.{zero-add, mod-lt, div-add-mod', arith, ℕ-discrete, eqb, length, getD, set, replicate, length-set, getD-set-same}
+use Rattle.width.proofs.Kit.{getD-set-other, ext-getD, eq-eqb, eqb-true, eqb-false}
 use Rattle.width.specs.Tile.{getLe, byteOf, putLe, putRow}
 use Rattle.width.proofs.TileLaws.{length-putLe, putLe-at, putLe-out, length-putRow, putRow-at}
 use Rattle.width.proofs.PutLaws.{le-byte}

@@ -1,6 +1,5 @@
 -- A step with the scalars as the host passes them. 01: "the scalars as 256 bytes, low byte first"
-use mathlib.Core.List.{List}
-use Prim.Native.Nat.{ℕ}
+use Rattle.width.specs.Kit.{List, ℕ}
 use Rattle.machine.specs.Geometry.{Bench}
 use Rattle.machine.specs.Vectors.{Vectors}
 use Rattle.machine.specs.Step.{VectorOutcome, vectorStep}

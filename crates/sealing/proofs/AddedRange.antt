@@ -1,13 +1,6 @@
 -- The ranges that a machine holds, and one that is added while a run is being made.
-use mathlib.Core.Path.{_≡_, refl, sym, ap, ap₂, _∙_, subst}
-use mathlib.Core.Bool.{Bool, true, false, not, cond, _&&_}
-use mathlib.Core.Logic.{_⊎_, inl, inr}
-use mathlib.Core.List.{List, [], _∷_, _++_, append-assoc, append-nil}
-use mathlib.Core.Option.{Option, none, some}
-use Prim.Native.Nat.{ℕ, zero, suc, _*_, _≤_}
-use native.Mathlib.Omega.{arith}
-use lib.ListN.{length}
-use borrow.Author.Tests.{eq-eqb, ne-eqb}
+use Rattle.width.proofs.Kit.{_≡_, refl, sym, ap, ap₂, _∙_, subst, _⊎_, inl, inr, Bool, true, false, not, cond, _&&_, List, [], _∷_, _++_, append-assoc}
+use Rattle.width.proofs.Kit.{append-nil, Option, none, some, ℕ, zero, suc, _*_, _≤_, arith, length, eq-eqb, ne-eqb}
 use Rattle.width.specs.Blocks.{Choice}
 use Rattle.machine.specs.declared.Answer.{Answer}
 use Rattle.machine.specs.declared.Answer.the-variants.{Done, BadArguments, BadWidth, OutsideMemory, RowsOverlap, SealedByte}

@@ -1,7 +1,5 @@
 -- 02, Twelve: "a range may be added between steps but never taken off": of a machine whose ranges lie in its block.
-use mathlib.Core.Bool.{cond}
-use mathlib.Core.List.{List, []}
-use Prim.Native.Nat.{ℕ}
+use Rattle.width.specs.Kit.{cond, List, [], ℕ}
 use Rattle.machine.specs.declared.Machine.{Machine}
 use Rattle.machine.specs.declared.Answer.{Answer}
 use Rattle.machine.specs.declared.Reply.{Reply}

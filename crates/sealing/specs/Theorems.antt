@@ -1,9 +1,5 @@
 -- What is proved of the ranges that a machine holds, and of one that is added while a run is being made. The proofs stand in proofs/.
-use mathlib.Core.Path.{_≡_}
-use mathlib.Core.Logic.{_⊎_}
-use mathlib.Core.Bool.{cond}
-use mathlib.Core.List.{List, [], _∷_, _++_}
-use Prim.Native.Nat.{ℕ, _≤_}
+use Rattle.width.specs.Kit.{_≡_, _⊎_, cond, List, [], _∷_, _++_, ℕ, _≤_}
 use Rattle.width.specs.Blocks.{Choice}
 use Rattle.machine.specs.Geometry.{Range, range, benchOf}
 use Rattle.machine.specs.Answers.{done}

@@ -1,12 +1,5 @@
 -- A group that starts at a multiple of its size lies in the vector file.
-use mathlib.Core.Path.{_≡_, refl, subst}
-use mathlib.Core.Bool.{Bool, true, false, _||_}
-use mathlib.Core.List.{[], _∷_}
-use Prim.Native.Nat.{ℕ, _+_, _*_, _%_, _≤_, _<_}
-use native.Mathlib.Omega.{arith}
-use lib.ListN.{length}
-use lib.Dec.{eqb}
-use borrow.Author.Tests.{eqb-true}
+use Rattle.width.proofs.Kit.{_≡_, refl, subst, Bool, true, false, _||_, [], _∷_, ℕ, _+_, _*_, _%_, _≤_, _<_, arith, eqb, length, eqb-true}
 use Rattle.machine.specs.Tests.{isIn}
 use Rattle.machine.specs.Vectors.{Vectors, vectorsFit, vectorBytes, fileBytes, groupSizes, aligned}
 use Rattle.machine.proofs.TestLaws.{false-true, every-each}

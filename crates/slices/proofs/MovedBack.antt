@@ -1,13 +1,6 @@
 -- A slice moved out and at once moved back leaves the accumulator as it was.
-use mathlib.Core.Path.{_≡_, refl, sym, ap, ap₂, _∙_, subst}
-use mathlib.Core.Bool.{Bool, true, false, cond}
-use mathlib.Core.List.{List, [], _∷_}
-use Prim.Native.Nat.{ℕ, _+_, _*_, _%_, _^_, _≤_, _<_}
-use native.Mathlib.Nat.{mod-eq-of-lt, mul-le-mul-right}
-use native.Mathlib.Omega.{arith}
-use lib.ListN.{length, getD}
-use lib.Dec.{ltb}
-use borrow.Author.Tests.{leb-true, ltb-true}
+use Rattle.width.proofs.Kit.{_≡_, refl, sym, ap, ap₂, _∙_, subst, Bool, true, false, cond, List, [], _∷_, ℕ, _+_, _*_, _%_, _^_, _≤_, _<_, mod-eq-of-lt}
+use Rattle.width.proofs.Kit.{mul-le-mul-right, arith, ltb, length, getD, leb-true, ltb-true}
 use Rattle.width.specs.Blocks.{Choice}
 use Rattle.width.specs.Tile.{putTile}
 use Rattle.width.proofs.TileLaws.{putTile-le, pitched, le-lt}

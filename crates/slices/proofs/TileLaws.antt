@@ -1,11 +1,5 @@
 -- Tiles of equal values, and tiles written over themselves.
-use mathlib.Core.Path.{_≡_, refl, sym, ap, _∙_}
-use mathlib.Core.Bool.{true}
-use mathlib.Core.List.{List, [], _∷_}
-use Prim.Native.Nat.{ℕ, zero, suc, _+_, _*_, _<_}
-use lib.ListN.{getD, set}
-use lib.Dec.{eqb}
-use borrow.Author.Tests.{eqb-true}
+use Rattle.width.proofs.Kit.{_≡_, refl, sym, ap, _∙_, true, List, [], _∷_, ℕ, zero, suc, _+_, _*_, _<_, eqb, getD, set, eqb-true}
 use Rattle.width.specs.Tile.{byteOf, putLe, putRow, putTile, markRow, markTile}
 use Rattle.width.proofs.UptoLaws.{upto-cong, upto-keeps}
 use Rattle.width.proofs.PutLaws.{le-byte}

@@ -1,9 +1,6 @@
 -- 02, Eleven: "Prove that a slice moved out and at once moved back, both accepted, leaves the accumulator as it was." The proof stands in
 -- proofs/MovedBack.antt.
-use mathlib.Core.Path.{_≡_}
-use mathlib.Core.List.{List}
-use Prim.Native.Nat.{ℕ, _<_}
-use lib.ListN.{getD}
+use Rattle.width.specs.Kit.{_≡_, List, ℕ, _<_, getD}
 use Rattle.width.specs.Blocks.{Choice}
 use Rattle.machine.specs.declared.Form.{Form}
 use Rattle.machine.specs.declared.Instruction.the-variants.{MoveOut, MoveIn}

@@ -1,12 +1,6 @@
 -- Parts of the numbers laid in memory, and what a run on them leaves.
-use mathlib.Core.Path.{_≡_, refl, sym, ap, ap₂, _∙_, subst}
-use mathlib.Core.Bool.{true}
-use mathlib.Core.List.{List, []}
-use Prim.Native.Nat.{ℕ, _+_, _*_, _-_, _/_, _%_, _^_, _≤_, _<_}
-use native.Mathlib.Nat.{mul-le-mul}
-use native.Mathlib.Omega.{arith}
-use lib.ListN.{length, take, drop, getD, replicate, length-drop}
-use lib.Seq.{getD-take, getD-drop, length-take-le}
+use Rattle.width.proofs.Kit.{_≡_, refl, sym, ap, ap₂, _∙_, subst, true, List, [], ℕ, _+_, _*_, _-_, _/_, _%_, _^_, _≤_, _<_, mul-le-mul, arith, length}
+use Rattle.width.proofs.Kit.{take, drop, getD, replicate, length-drop, getD-take, getD-drop, length-take-le}
 use Rattle.width.specs.Tile.{getLe, putRow}
 use Rattle.width.proofs.PutLaws.{putRow-low}
 use Rattle.machine.specs.declared.Started.{Started}

@@ -1,15 +1,7 @@
 -- The numbers as they are held stand for the problem's elements, so C has the sums that the answer writes.
-use mathlib.Core.Path.{_≡_, refl, sym, ap, ap₂, _∙_}
-use mathlib.Core.Bool.{true}
-use mathlib.Core.List.{List, [], _∷_, _++_, map}
-use mathlib.Core.Option.{Option, none, some}
-use Prim.Native.Nat.{ℕ, zero, suc, _+_, _*_, _-_, _/_, _%_, _^_, _≤_, _<_, min}
-use native.Mathlib.Nat.{mul-le-mul}
-use native.Mathlib.Omega.{arith}
-use lib.IntN.{ℤ, pos, negsuc}
-use lib.ListN.{length, take, drop, getD, length-append, length-take, List·getD-append}
-use lib.Seq.{getD-take, getD-drop, getD-append-add}
-use borrow.Author.Tests.{ltb-true}
+use Rattle.width.proofs.Kit.{_≡_, refl, sym, ap, ap₂, _∙_, true, List, [], _∷_, _++_, map, Option, none, some, ℕ, zero, suc, _+_, _*_, _-_, _/_, _%_, _^_}
+use Rattle.width.proofs.Kit.{_≤_, _<_, min, mul-le-mul, arith, length, take, drop, getD, length-append, length-take, List·getD-append, getD-take, getD-drop}
+use Rattle.width.proofs.Kit.{getD-append-add, ℤ, pos, negsuc, ltb-true}
 use Rattle.width.specs.Reduce.{signed, reduce}
 use Rattle.machine.specs.Tests.{every}
 use Rattle.machine.proofs.TestLaws.{and-left, and-right}

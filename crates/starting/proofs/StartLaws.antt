@@ -1,13 +1,5 @@
 -- For the start of a run: what a plan's numbers bound, and what its tests and checks decide, one after another.
-use mathlib.Core.Path.{_≡_, ap, ap₂, _∙_}
-use mathlib.Core.Bool.{Bool, true, false, cond}
-use mathlib.Core.List.{List, [], _∷_}
-use Prim.Native.Nat.{ℕ, _*_, _/_, _≤_}
-use native.Mathlib.Nat.{mul-le-mul}
-use native.Mathlib.Omega.{arith}
-use lib.ListN.{length}
-use lib.Dec.{leb}
-use borrow.Author.Tests.{leb-true}
+use Rattle.width.proofs.Kit.{_≡_, ap, ap₂, _∙_, Bool, true, false, cond, List, [], _∷_, ℕ, _*_, _/_, _≤_, mul-le-mul, arith, leb, length, leb-true}
 use Rattle.machine.specs.declared.Answer.the-variants.{BadArguments, OutsideMemory, Overlap}
 use Rattle.machine.specs.Answers.{reply, Check, _otherwise_, verdict, isDone}
 use Rattle.machine.specs.Geometry.{Bench, sealed}

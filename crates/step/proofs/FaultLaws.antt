@@ -1,10 +1,5 @@
 -- Answer 8 of a step, and its word.
-use mathlib.Core.Path.{_≡_, refl, sym, ap, _∙_}
-use mathlib.Core.Bool.{Bool, true, false, cond}
-use mathlib.Core.List.{List}
-use Prim.Native.Nat.{ℕ}
-use lib.ListN.{length}
-use borrow.Author.Tests.{eq-eqb, ne-eqb}
+use Rattle.width.proofs.Kit.{_≡_, refl, sym, ap, _∙_, Bool, true, false, cond, List, ℕ, length, eq-eqb, ne-eqb}
 use Rattle.machine.specs.declared.Instruction.{Instruction}
 use Rattle.machine.specs.declared.Answer.the-variants.{BadArguments}
 use Rattle.machine.specs.Tests.{isIn}

@@ -1,9 +1,5 @@
 -- The outcome of a move from its parts, in a state that is not at fault; and of any other instruction beside a vector file.
-use mathlib.Core.Path.{_≡_, refl, sym, ap, ap₂, _∙_}
-use mathlib.Core.Bool.{Bool, true, false, cond}
-use mathlib.Core.List.{List, []}
-use Prim.Native.Nat.{ℕ}
-use lib.Dec.{eqb}
+use Rattle.width.proofs.Kit.{_≡_, refl, sym, ap, ap₂, _∙_, Bool, true, false, cond, List, [], ℕ, eqb}
 use Rattle.machine.specs.declared.Machine.{Machine}
 use Rattle.machine.specs.declared.Form.{Form}
 use Rattle.machine.specs.declared.Wrong.the-variants.{Register}

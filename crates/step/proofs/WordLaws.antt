@@ -1,13 +1,6 @@
 -- Multipliers, and a decoded word's fields.
-use mathlib.Core.Path.{_≡_, refl, sym, ap, _∙_, subst}
-use mathlib.Core.Bool.{Bool, true, false, cond}
-use mathlib.Core.List.{[], _∷_}
-use Prim.Native.Nat.{ℕ, zero, suc, _+_, _-_, _%_, _^_, _≤_, _<_}
-use native.Mathlib.Nat.{mod-eq-of-lt}
-use native.Mathlib.Omega.{arith}
-use lib.Dec.{ltb, eqb}
-use lib.IntN.{pos, negsuc}
-use borrow.Author.Tests.{lt-ltb, le-ltb, ltb-true, ltb-false, ne-eqb}
+use Rattle.width.proofs.Kit.{_≡_, refl, sym, ap, _∙_, subst, Bool, true, false, cond, [], _∷_, ℕ, zero, suc, _+_, _-_, _%_, _^_, _≤_, _<_, mod-eq-of-lt}
+use Rattle.width.proofs.Kit.{arith, ltb, eqb, pos, negsuc, lt-ltb, le-ltb, ltb-true, ltb-false, ne-eqb}
 use Rattle.width.specs.Reduce.{reduce, signed}
 use Rattle.width.proofs.ReduceLaws.{widened, reduce-signed}
 use Rattle.machine.specs.declared.Instruction.{Instruction}

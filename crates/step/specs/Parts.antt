@@ -1,13 +1,9 @@
 -- What holds of a decoded word, and of a multiplier.
-use lib.IntN.{ℤ}
-use mathlib.Core.Path.{_≡_}
-use Prim.Native.Nat.{ℕ, _^_, _<_}
-use lib.Dec.{eqb}
+use Rattle.width.specs.Kit.{_≡_, List, ℕ, _^_, _<_, eqb, ℤ}
 use Rattle.machine.specs.Geometry.{registerCount}
 use Rattle.machine.specs.declared.Instruction.{Instruction}
 use Rattle.machine.specs.declared.Instruction.the-variants.{Illegal, SetTypeImmediate, SetType, SetTileImmediate, SetTile, Load, Store, Multiply, Combine, Scale, ScaleImmediate, FloatMultiply, MoveOut, MoveIn}
 use Rattle.machine.specs.Refusals.{isZero}
-use mathlib.Core.List.{List}
 use Rattle.machine.specs.Geometry.{Parameters, Bench}
 use Rattle.machine.specs.Vectors.{Vectors}
 use Rattle.machine.specs.Step.{VectorOutcome, beside, outcomeIn, vectorsIn}

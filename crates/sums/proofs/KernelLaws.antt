@@ -1,11 +1,5 @@
 -- The loops of the kernels, once over the width: what holds in each turn, at its start, after one turn more, and at its end.
-use mathlib.Core.Path.{_≡_, refl, sym, ap, ap₂, _∙_}
-use mathlib.Core.List.{List}
-use Prim.Native.Nat.{ℕ, _+_, _*_, _%_, _^_, _≤_, _<_}
-use native.Mathlib.Nat.{zero-mul}
-use native.Mathlib.Omega.{arith}
-use lib.IntN.{_*ℤ_}
-use lib.ListN.{length, set, getD, length-set}
+use Rattle.width.proofs.Kit.{_≡_, refl, sym, ap, ap₂, _∙_, List, ℕ, _+_, _*_, _%_, _^_, _≤_, _<_, zero-mul, arith, length, set, getD, length-set, _*ℤ_}
 use Rattle.width.specs.Reduce.{signed, reduce}
 use Rattle.width.specs.Tile.{getLe, putLe, putRow}
 use Rattle.width.proofs.TileLaws.{le-cong, putRow-out}

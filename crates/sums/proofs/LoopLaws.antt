@@ -1,11 +1,6 @@
 -- Loops over accumulators.
-use mathlib.Core.Path.{_≡_, _∙_}
-use mathlib.Core.List.{List}
-use Prim.Native.Nat.{ℕ, _+_, _≤_, _<_}
-use native.Mathlib.Omega.{arith}
+use Rattle.width.proofs.Kit.{_≡_, _∙_, List, ℕ, _+_, _≤_, _<_, arith, length, set, getD, getD-set-same, getD-set-other}
 use borrow.Author.Count.{below-more}
-use lib.ListN.{length, set, getD}
-use lib.Seq.{getD-set-same, getD-set-other}
 
 -- accumulators of any type; past the last there is x
 module _ {A : Type 0} (x : A) where

@@ -1,10 +1,6 @@
 -- Sums of products kept at a width, once over the width: one product more, and the rows that are stored.
-use mathlib.Core.Path.{_≡_, refl, sym, ap, ap₂, _∙_}
-use mathlib.Core.List.{List}
-use Prim.Native.Nat.{ℕ, _+_, _*_, _%_, _^_, _<_}
-use native.Mathlib.Nat.{add-comm, one-mul, mod-eq-of-lt}
-use lib.IntN.{ℤ, _+ℤ_, _*ℤ_}
-use lib.ListN.{getD, replicate, getD-replicate}
+use Rattle.width.proofs.Kit.{_≡_, refl, sym, ap, ap₂, _∙_, List, ℕ, _+_, _*_, _%_, _^_, _<_, add-comm, one-mul, mod-eq-of-lt, getD, replicate}
+use Rattle.width.proofs.Kit.{getD-replicate, ℤ, _+ℤ_, _*ℤ_}
 use Rattle.width.specs.Reduce.{signed, reduce, sumℤ}
 use Rattle.width.specs.Tile.{getLe, putRow}
 use Rattle.width.proofs.TileLaws.{le-lt}

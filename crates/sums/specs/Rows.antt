@@ -1,7 +1,5 @@
 -- What the kernels leave, as residues at the output's width.
-use mathlib.Core.List.{List}
-use Prim.Native.Nat.{ℕ, _+_, _*_, _^_}
-use lib.IntN.{ℤ, _+ℤ_, _*ℤ_}
+use Rattle.width.specs.Kit.{List, ℕ, _+_, _*_, _^_, ℤ, _+ℤ_, _*ℤ_}
 use Rattle.width.specs.Tile.{getLe}
 use Rattle.width.specs.Reduce.{signed, reduce}
 use Rattle.machine.specs.Operation.{product}

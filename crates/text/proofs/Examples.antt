@@ -1,10 +1,5 @@
 -- Texts and what `product` writes for them, by computation.
-use Prim.Native.Nat.{ℕ}
-use mathlib.Core.Path.{_≡_, refl}
-use mathlib.Core.List.{List, [], _∷_, map}
-use mathlib.Core.Option.{none, some}
-use lib.IntN.{pos, negsuc}
-use lib.ListN.{replicate}
+use Rattle.width.proofs.Kit.{_≡_, refl, List, [], _∷_, map, none, some, ℕ, replicate, pos, negsuc}
 use Rattle.width.specs.Reduce.{reduce}
 use Rattle.machine.specs.Setting.{sew}
 use Rattle.run.specs.Plan.{msew, typeOf}

@@ -1,11 +1,5 @@
 -- The rest of a list, and a part of its front.
-use Prim.Native.Nat.{ℕ, zero, suc, _+_, _-_}
-use mathlib.Core.Path.{_≡_, sym}
-use mathlib.Core.List.{List, [], _∷_}
-use native.Mathlib.Nat.{zero-add, suc-add}
-use native.Mathlib.Omega.{arith}
-use lib.ListN.{length, take, drop, length-drop}
-use lib.Seq.{take-all, take-nil}
+use Rattle.width.proofs.Kit.{_≡_, sym, List, [], _∷_, ℕ, zero, suc, _+_, _-_, zero-add, suc-add, arith, length, take, drop, length-drop, take-all, take-nil}
 
 -- as code lends it: `&xs[i..]`
 pub rest-of : (i : ℕ) (xs : List ℕ) → take (length xs - i) (drop i xs) ≡ drop i xs

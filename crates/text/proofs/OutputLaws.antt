@@ -1,11 +1,6 @@
 -- The rows of C's residues, as they are written, are those of the product; and what is known of a problem that a text poses.
-use Prim.Native.Nat.{ℕ, zero, suc, _+_, _*_, _≤_, _<_}
-use mathlib.Core.Path.{_≡_, refl, ap, ap₂, _∙_}
-use mathlib.Core.List.{List, [], _∷_}
-use native.Mathlib.Omega.{arith}
-use lib.IntN.{ℤ, pos}
-use lib.ListN.{length, take, drop, getD, length-drop, length-map}
-use lib.Seq.{getD-drop}
+use Rattle.width.proofs.Kit.{_≡_, refl, ap, ap₂, _∙_, List, [], _∷_, ℕ, zero, suc, _+_, _*_, _≤_, _<_, arith, length, take, drop, getD, length-drop}
+use Rattle.width.proofs.Kit.{length-map, getD-drop, ℤ, pos}
 use Rattle.width.specs.Reduce.{signed, reduce}
 use Rattle.width.proofs.PutLaws.{row-fits}
 use Rattle.text.specs.Problem.{Problem, nth}

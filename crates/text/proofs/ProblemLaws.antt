@@ -1,18 +1,8 @@
 -- Laws of the problem that numbers pose: its tests, of the numbers as the code holds them.
-use Prim.Native.Nat.{ℕ, zero, suc, _+_, _*_, _-_, _^_, _≤_, _<_, min}
-use mathlib.Core.Path.{_≡_, refl, sym, ap, ap₂, _∙_, subst}
-use mathlib.Core.Bool.{Bool, true, false, not, _||_, cond}
-use mathlib.Core.List.{List, [], _∷_, _++_, map}
-use mathlib.Core.Option.{Option, none, some, Option·map}
-use mathlib.Core.Logic.{_⊎_, inl, inr}
-use native.Mathlib.Nat.{mul-le-mul}
-use native.Mathlib.Numerals.{add-one}
-use native.Mathlib.Omega.{arith}
-use lib.Dec.{leb, ltb, eqb}
-use lib.IntN.{ℤ, pos, negsuc, natAbs}
-use lib.ListN.{length, take, drop, getD, length-take, length-drop, length-map, drop-of-length-le, take-append-drop}
-use lib.Seq.{drop-cons, length-take-le}
-use borrow.Author.Tests.{leb-true, eqb-true, ne-eqb, le-leb, lt-leb, lt-ltb, le-ltb}
+use Rattle.width.proofs.Kit.{_≡_, refl, sym, ap, ap₂, _∙_, subst, _⊎_, inl, inr, Bool, true, false, not, _||_, cond, List, [], _∷_, _++_, map, Option, none}
+use Rattle.width.proofs.Kit.{some, Option·map, ℕ, zero, suc, _+_, _*_, _-_, _^_, _≤_, _<_, min, mul-le-mul, arith, add-one, leb, ltb, eqb, length, take}
+use Rattle.width.proofs.Kit.{drop, getD, length-take, length-drop, length-map, drop-of-length-le, take-append-drop, drop-cons, length-take-le, ℤ, pos}
+use Rattle.width.proofs.Kit.{negsuc, natAbs, leb-true, eqb-true, ne-eqb, le-leb, lt-leb, lt-ltb, le-ltb}
 use Rattle.width.proofs.BlockLaws.{le-or-lt}
 use Rattle.machine.specs.Tests.{all, every, allOf, isIn}
 use Rattle.machine.proofs.TestLaws.{Each, every-each, each-every, each, each-in, or-not, all-at, false-true}

@@ -1,18 +1,8 @@
 -- Laws of words and numbers, for the functions that read.
-use Prim.Native.Nat.{ℕ, zero, suc, _+_, _*_, _-_, _≤_, _<_, min}
-use mathlib.Core.Path.{_≡_, refl, sym, ap, ap₂, _∙_}
-use mathlib.Core.Bool.{Bool, true, false, cond}
-use mathlib.Core.List.{List, [], _∷_, _++_, append-assoc, append-nil, map}
-use mathlib.Core.Option.{Option, none, some, Option·map}
-use mathlib.Core.Logic.{_⊎_, inl, inr}
-use native.Mathlib.Nat.{sub-self}
-use native.Mathlib.Numerals.{add-one}
-use native.Mathlib.Omega.{arith}
-use lib.Dec.{leb}
-use lib.IntN.{ℤ, pos, negsuc, negℤ}
-use lib.ListN.{length, take, drop, getD, set, length-append, length-take, length-drop, take-append-drop, drop-of-length-le}
-use lib.Seq.{drop-cons, drop-drop, drop-set-lt, length-take-le, take-all, take-append-seam, take-suc, take-suc-set, getD-drop}
-use borrow.Author.Tests.{leb-true, ne-eqb}
+use Rattle.width.proofs.Kit.{_≡_, refl, sym, ap, ap₂, _∙_, _⊎_, inl, inr, Bool, true, false, cond, List, [], _∷_, _++_, append-assoc, append-nil, map}
+use Rattle.width.proofs.Kit.{Option, none, some, Option·map, ℕ, zero, suc, _+_, _*_, _-_, _≤_, _<_, min, sub-self, arith, add-one, leb, length, take, drop}
+use Rattle.width.proofs.Kit.{getD, set, length-append, length-take, length-drop, take-append-drop, drop-of-length-le, drop-cons, drop-drop, drop-set-lt}
+use Rattle.width.proofs.Kit.{length-take-le, take-all, take-append-seam, take-suc, take-suc-set, getD-drop, ℤ, pos, negsuc, negℤ, leb-true, ne-eqb}
 use Rattle.machine.proofs.TestLaws.{and-left, and-right}
 use Rattle.text.specs.declared.Word.the-variants.{Value, Other}
 use Rattle.text.specs.Text.{separator, keep, wordsFrom, words, digit, valueFrom, number, numbers, before}

@@ -1,8 +1,5 @@
 -- 01, the program `product`: the text that it writes, for each text that it reads.
-use Prim.Native.Nat.{ℕ, zero, suc, _+_, _*_, _/_, _^_}
-use mathlib.Core.List.{List, [], _∷_}
-use mathlib.Core.Option.{Option, none, some}
-use lib.IntN.{ℤ, _*ℤ_}
+use Rattle.width.specs.Kit.{List, [], _∷_, Option, none, some, ℕ, zero, suc, _+_, _*_, _/_, _^_, ℤ, _*ℤ_}
 use Rattle.width.specs.Reduce.{signed, reduce, sumℤ}
 use Rattle.run.specs.Words.{steps}
 use Rattle.run.specs.Plan.{shape}

@@ -1,12 +1,6 @@
 -- What the contracts of inner functions name; a reader of Output.antt need not read it.
-use Prim.Native.Nat.{ℕ, suc, _+_, _*_, _-_, _≤_, _<_, min}
-use mathlib.Core.Path.{_≡_}
-use mathlib.Core.Bool.{Bool, cond, _&&_}
-use mathlib.Core.List.{List, [], _∷_, _++_, map}
-use mathlib.Core.Option.{Option, none, some, Option·map}
-use lib.Dec.{leb, ltb}
-use lib.IntN.{ℤ, pos, negsuc}
-use lib.ListN.{length, take, drop}
+use Rattle.width.specs.Kit.{_≡_, Bool, cond, _&&_, List, [], _∷_, _++_, map, Option, none, some, Option·map, ℕ, suc, _+_, _*_, _-_, _≤_, _<_, min, leb, ltb}
+use Rattle.width.specs.Kit.{length, take, drop, ℤ, pos, negsuc}
 use Rattle.text.specs.declared.Count.{Count}
 use Rattle.text.specs.declared.Count.the-variants.{All, Many}
 use Rattle.text.specs.declared.Parsed.{Parsed}

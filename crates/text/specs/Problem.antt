@@ -1,11 +1,6 @@
 -- 01, the program `product`: the problem that a text poses, if it poses one.
-use Prim.Native.Nat.{ℕ, _+_, _*_, _-_, _^_}
-use mathlib.Core.Bool.{Bool, true, false, cond}
-use mathlib.Core.List.{List, [], _∷_, map}
-use mathlib.Core.Option.{Option, none, some}
-use lib.Dec.{eqb, leb, ltb}
-use lib.IntN.{ℤ, pos, negsuc, natAbs}
-use lib.ListN.{length, take, drop, getD}
+use Rattle.width.specs.Kit.{Bool, true, false, cond, List, [], _∷_, map, Option, none, some, ℕ, _+_, _*_, _-_, _^_, eqb, leb, ltb, length, take, drop, getD}
+use Rattle.width.specs.Kit.{ℤ, pos, negsuc, natAbs}
 use Rattle.machine.specs.Tests.{all, every}
 use Rattle.run.specs.Start.{format}
 use Rattle.product_memory.specs.Memory.{productMachine}

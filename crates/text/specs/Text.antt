@@ -1,10 +1,5 @@
 -- 01, the program `product`: the numbers of a text. It "reads decimal numbers split by spaces or line ends". A text is its bytes.
-use Prim.Native.Nat.{ℕ, _+_, _*_, _-_}
-use mathlib.Core.Bool.{Bool, cond, _&&_, _||_}
-use mathlib.Core.List.{List, [], _∷_, _++_}
-use mathlib.Core.Option.{Option, none, some, Option·map}
-use lib.Dec.{eqb, leb}
-use lib.IntN.{ℤ, pos, negℤ}
+use Rattle.width.specs.Kit.{Bool, cond, _&&_, _||_, List, [], _∷_, _++_, Option, none, some, Option·map, ℕ, _+_, _*_, _-_, eqb, leb, ℤ, pos, negℤ}
 
 -- ---- "split by spaces or line ends"
 

@@ -1,15 +1,6 @@
 -- What code does, as the definitions of the calls have it.
-use mathlib.Core.Path.{_≡_, refl, sym, ap, ap₂, _∙_}
-use mathlib.Core.Bool.{Bool, true, false, cond}
-use mathlib.Core.List.{List, _++_}
-use mathlib.Core.Option.{Option, none, some}
-use Prim.Native.Nat.{ℕ, _+_, _*_, _%_, _^_, _≤_, _<_}
-use native.Mathlib.Numerals.{add-one}
-use native.Mathlib.Omega.{arith}
-use lib.Dec.{leb}
-use lib.ListN.{length, take, drop, length-append, take-append-drop}
-use lib.Seq.{length-take-le}
-use borrow.Author.Tests.{eq-eqb, ne-eqb, le-leb, lt-leb}
+use Rattle.width.proofs.Kit.{_≡_, refl, sym, ap, ap₂, _∙_, Bool, true, false, cond, List, _++_, Option, none, some, ℕ, _+_, _*_, _%_, _^_, _≤_, _<_, arith}
+use Rattle.width.proofs.Kit.{add-one, leb, length, take, drop, length-append, take-append-drop, length-take-le, eq-eqb, ne-eqb, le-leb, lt-leb}
 use Rattle.width.specs.Tile.{putLe}
 use Rattle.machine.specs.declared.Wrong.the-variants.{Opcode, LeftOut, Unlisted, Register}
 use Rattle.machine.specs.Listing.{decode}

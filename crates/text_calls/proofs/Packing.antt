@@ -1,12 +1,5 @@
 -- Nothing of a result is cut.
-use mathlib.Core.Path.{_≡_, refl}
-use mathlib.Core.Bool.{Bool, true, false, cond}
-use mathlib.Core.List.{List, _++_}
-use mathlib.Core.Option.{Option, none, some}
-use Prim.Native.Nat.{ℕ, suc, _≤_}
-use native.Mathlib.Omega.{arith}
-use lib.Dec.{eqb, leb}
-use lib.ListN.{length, drop}
+use Rattle.width.proofs.Kit.{_≡_, refl, Bool, true, false, cond, List, _++_, Option, none, some, ℕ, suc, _≤_, arith, eqb, leb, length, drop}
 use Rattle.machine.specs.declared.Instruction.{Instruction}
 use Rattle.machine.specs.declared.Instruction.the-variants.{Illegal, SetTypeImmediate, SetType, SetTileImmediate, SetTile, Load, Store, Multiply, Combine, Scale, ScaleImmediate, FloatMultiply, MoveOut, MoveIn}
 use Rattle.machine.specs.Listing.{decode}

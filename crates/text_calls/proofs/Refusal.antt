@@ -1,12 +1,5 @@
 -- A refusal changes no byte of any buffer.
-use mathlib.Core.Path.{_≡_, refl}
-use mathlib.Core.Bool.{Bool, true, false, cond}
-use mathlib.Core.List.{List, _++_}
-use mathlib.Core.Option.{Option, none, some}
-use Prim.Native.Nat.{ℕ, _%_, _^_}
-use native.Mathlib.Omega.{arith}
-use lib.Dec.{eqb, leb}
-use lib.ListN.{length, drop}
+use Rattle.width.proofs.Kit.{_≡_, refl, Bool, true, false, cond, List, _++_, Option, none, some, ℕ, _%_, _^_, arith, eqb, leb, length, drop}
 use Rattle.format.specs.Parser.{Parsed}
 use Rattle.format.specs.Parser.Parsed.{whole, stopped}
 use Rattle.assembly.specs.declared.Texted.the-variants.{Done, BadArguments, NoRoom}

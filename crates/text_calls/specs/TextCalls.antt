@@ -1,10 +1,5 @@
 -- What each call on lines of assembler text answers and leaves (include/bodlarina.h).
-use mathlib.Core.Bool.{cond}
-use mathlib.Core.List.{List, _++_}
-use mathlib.Core.Option.{Option, none, some}
-use Prim.Native.Nat.{ℕ, suc, _+_, _*_, _%_, _^_}
-use lib.ListN.{length, drop}
-use lib.Dec.{eqb, leb}
+use Rattle.width.specs.Kit.{cond, List, _++_, Option, none, some, ℕ, suc, _+_, _*_, _%_, _^_, eqb, leb, length, drop}
 use Rattle.width.specs.Tile.{putLe}
 use Rattle.machine.specs.Listing.{decode}
 use Rattle.format.specs.Parser.{Parsed}

@@ -1,10 +1,5 @@
 -- What is proved of these definitions. The proofs stand in proofs/.
-use mathlib.Core.Path.{_≡_}
-use mathlib.Core.Bool.{cond}
-use mathlib.Core.List.{List}
-use Prim.Native.Nat.{ℕ, suc, _/_, _%_, _^_, _<_}
-use lib.Dec.{eqb}
-use lib.ListN.{length}
+use Rattle.width.specs.Kit.{_≡_, cond, List, ℕ, suc, _/_, _%_, _^_, _<_, eqb, length}
 use Rattle.format.specs.Parser.{Parsed}
 use Rattle.format.specs.Parser.Parsed.{whole, stopped}
 use Rattle.assembly.specs.declared.Texted.{Texted}

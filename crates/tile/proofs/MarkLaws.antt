@@ -1,11 +1,5 @@
 -- The marks of a tile by rows and elements.
-use mathlib.Core.Path.{_≡_, sym, ap, _∙_, subst}
-use mathlib.Core.Bool.{Bool, true, false}
-use mathlib.Core.List.{List, [], _∷_}
-use Prim.Native.Nat.{ℕ, _+_, _*_, _<_}
-use native.Mathlib.Omega.{arith}
-use lib.ListN.{getD, set}
-use lib.Dec.{eqb}
+use Rattle.width.proofs.Kit.{_≡_, sym, ap, _∙_, subst, Bool, true, false, List, [], _∷_, ℕ, _+_, _*_, _<_, arith, eqb, getD, set}
 use Rattle.width.specs.Tile.{markRow, markTile}
 use Rattle.width.proofs.PutLaws.{upto-elements}
 use Rattle.machine.specs.declared.Answer.the-variants.{Done, Unwritten}

@@ -1,8 +1,6 @@
 -- The checks that a store makes once the tile's sizes are checked: answers 5, 6, 13 and 7. Row i of the tile starts in the registers at
 -- start + i * pitch; in memory it has so many lines of n bytes each.
-use mathlib.Core.Bool.{Bool, false}
-use mathlib.Core.List.{List, [], _∷_}
-use Prim.Native.Nat.{ℕ, _+_, _*_, _≤_, _<_}
+use Rattle.width.specs.Kit.{Bool, false, List, [], _∷_, ℕ, _+_, _*_, _≤_, _<_}
 use Rattle.machine.specs.declared.Answer.the-variants.{OutsideMemory, SealedByte, RowsOverlap}
 use Rattle.machine.specs.Answers.{Check, _otherwise_}
 use Rattle.machine.specs.Memory.{rowAt, inside, distinct, rowsMiss}

@@ -1,8 +1,5 @@
 -- How many bytes a tile takes in memory, by its form.
-use mathlib.Core.Path.{_≡_, refl}
-use Prim.Native.Nat.{ℕ, _*_, _≤_, _<_}
-use native.Mathlib.Nat.{mul-le-mul-left}
-use native.Mathlib.Omega.{arith}
+use Rattle.width.proofs.Kit.{_≡_, refl, ℕ, _*_, _≤_, _<_, mul-le-mul-left, arith}
 use Rattle.machine.specs.declared.Form.{Form}
 use Rattle.machine.specs.declared.Form.the-variants.{Plain, Transposed}
 use Rattle.machine.specs.Operation.{memoryRows, memoryCols}

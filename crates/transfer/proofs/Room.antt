@@ -1,13 +1,6 @@
 -- What `load` and `store` require follows from a sound machine and the checks of answers 2 to 4.
-use mathlib.Core.Path.{_≡_, refl, sym, subst}
-use mathlib.Core.Logic.{inl, inr}
-use mathlib.Core.Bool.{Bool, true, false, _&&_, _||_}
-use mathlib.Core.List.{List}
-use Prim.Native.Nat.{ℕ, zero, suc, _+_, _*_, _%_, _^_, _≤_, _<_}
-use native.Mathlib.Omega.{arith}
-use lib.ListN.{length}
-use lib.Dec.{eqb, leb, ltb}
-use borrow.Author.Tests.{eqb-true, leb-true, ltb-true, not-true}
+use Rattle.width.proofs.Kit.{_≡_, refl, sym, subst, inl, inr, Bool, true, false, _&&_, _||_, List, ℕ, zero, suc, _+_, _*_, _%_, _^_, _≤_, _<_, arith, eqb}
+use Rattle.width.proofs.Kit.{leb, ltb, length, eqb-true, leb-true, ltb-true, not-true}
 use Rattle.width.specs.Blocks.{Choice}
 use Rattle.width.specs.Bounds.{mostElen}
 use Rattle.machine.specs.declared.Machine.{Machine}

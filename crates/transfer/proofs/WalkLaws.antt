@@ -1,11 +1,6 @@
 -- Elements one stride apart: the address of the next by a wrapping add, and the columns of a tile as such elements.
-use mathlib.Core.Path.{_≡_, sym, ap, _∙_}
-use mathlib.Core.Bool.{true}
-use mathlib.Core.Logic.{_⊎_, inl, inr}
-use Prim.Native.Nat.{ℕ, zero, suc, _+_, _*_, _-_, _%_, _^_, _≤_, _<_}
-use native.Mathlib.Nat.{zero-mul, add-zero, mod-eq-of-lt, mul-le-mul-right}
-use native.Mathlib.Omega.{arith}
-use lib.IntN.{ℤ, pos, negsuc, _+ℤ_, _*ℤ_}
+use Rattle.width.proofs.Kit.{_≡_, sym, ap, _∙_, _⊎_, inl, inr, true, ℕ, zero, suc, _+_, _*_, _-_, _%_, _^_, _≤_, _<_, zero-mul, add-zero, mod-eq-of-lt}
+use Rattle.width.proofs.Kit.{mul-le-mul-right, arith, ℤ, pos, negsuc, _+ℤ_, _*ℤ_}
 use Rattle.width.proofs.BlockLaws.{le-or-lt}
 use Rattle.width.proofs.ReduceLaws.{shift}
 use Rattle.machine.specs.Memory.{rowZ, rowAt, address, inside}

@@ -1,13 +1,6 @@
 -- 02, Two: a plain load, then the matching transposed store, leaves the transposed tile.
-use mathlib.Core.Path.{_≡_, refl, sym, ap, _∙_, subst}
-use mathlib.Core.Bool.{true}
-use mathlib.Core.List.{List}
-use Prim.Native.Nat.{ℕ, zero, _+_, _*_, _%_, _^_, _≤_, _<_}
-use native.Mathlib.Nat.{mod-eq-of-lt}
-use native.Mathlib.Omega.{arith}
-use lib.ListN.{length, getD, set}
-use lib.Seq.{getD-set-other}
-use borrow.Author.Tests.{ltb-true}
+use Rattle.width.proofs.Kit.{_≡_, refl, sym, ap, _∙_, subst, true, List, ℕ, zero, _+_, _*_, _%_, _^_, _≤_, _<_, mod-eq-of-lt, arith, length, getD, set}
+use Rattle.width.proofs.Kit.{getD-set-other, ltb-true}
 use Rattle.width.specs.Blocks.{Choice}
 use Rattle.width.specs.Tile.{putTile, markTile, markRow, In}
 use Rattle.width.proofs.UptoLaws.{upto-keeps}

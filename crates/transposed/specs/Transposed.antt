@@ -1,9 +1,7 @@
 -- 02, Two: "Prove once over all three that a plain load, then the matching transposed store of that register and width, leaves the
 -- transposed tile, where both are accepted, nothing comes between and no byte lies in two of the store's rows." Since 02, Seven, no byte
 -- lies in two rows of a store that is accepted. The proof stands in proofs/Transposed.antt.
-use mathlib.Core.Path.{_≡_}
-use Prim.Native.Nat.{ℕ, _*_, _<_}
-use lib.ListN.{length, getD}
+use Rattle.width.specs.Kit.{_≡_, ℕ, _*_, _<_, length, getD}
 use Rattle.width.specs.Blocks.{Choice}
 use Rattle.width.specs.Tile.{In}
 use Rattle.machine.specs.declared.Matrix.{Matrix}

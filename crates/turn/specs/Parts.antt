@@ -1,8 +1,5 @@
 -- What the contracts of inner functions name; a reader of the demand need not read it.
-use mathlib.Core.Path.{_≡_}
-use mathlib.Core.Bool.{true}
-use mathlib.Core.List.{List}
-use Prim.Native.Nat.{ℕ}
+use Rattle.width.specs.Kit.{_≡_, true, List, ℕ}
 use Rattle.machine.specs.declared.Machine.{Machine}
 use Rattle.machine.specs.Answers.{done}
 use Rattle.machine.specs.Geometry.{Range, Bench, benchOf}

@@ -1,11 +1,5 @@
 -- A refusal changes no byte of any buffer.
-use mathlib.Core.Path.{_≡_, refl, ap, ap₂, _∙_}
-use mathlib.Core.Bool.{Bool, true, false, cond}
-use mathlib.Core.List.{List, [], _∷_}
-use Prim.Native.Nat.{ℕ, zero, suc}
-use native.Mathlib.Omega.{arith}
-use lib.ListN.{length}
-use lib.Dec.{eqb}
+use Rattle.width.proofs.Kit.{_≡_, refl, ap, ap₂, _∙_, Bool, true, false, cond, List, [], _∷_, ℕ, zero, suc, arith, eqb, length}
 use Rattle.machine.specs.declared.Answer.the-variants.{BadArguments}
 use Rattle.machine.specs.Tests.{every}
 use Rattle.machine.specs.Answers.{reply, done}

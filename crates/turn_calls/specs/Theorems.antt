@@ -1,7 +1,5 @@
 -- What is proved of these definitions. The proofs stand in proofs/.
-use mathlib.Core.Path.{_≡_}
-use mathlib.Core.List.{List}
-use Prim.Native.Nat.{ℕ}
+use Rattle.width.specs.Kit.{_≡_, List, ℕ}
 use Rattle.run.specs.declared.Plan.{Plan}
 use Rattle.blocks.specs.Blocks.{Bytes}
 use Rattle.turn_calls.specs.TurnCalls.{turnedOut, hostTurn, hostTurns, ranOut, hostRun}

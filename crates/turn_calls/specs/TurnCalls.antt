@@ -1,9 +1,5 @@
 -- What the calls of C that take turns of a run, and that of a whole run, answer and leave (include/bodlarina.h).
-use mathlib.Core.Bool.{Bool, cond}
-use mathlib.Core.List.{List, [], _∷_}
-use Prim.Native.Nat.{ℕ}
-use lib.ListN.{length}
-use lib.Dec.{eqb}
+use Rattle.width.specs.Kit.{Bool, cond, List, [], _∷_, ℕ, eqb, length}
 use Rattle.machine.specs.declared.Answer.the-variants.{BadArguments}
 use Rattle.machine.specs.Tests.{every}
 use Rattle.machine.specs.Answers.{reply, done}

@@ -1,9 +1,5 @@
 -- What the calls of a whole run return is what its statement says; it takes no more turns than there are steps.
-use mathlib.Core.Path.{_≡_, sym, ap, ap₂, _∙_, subst}
-use mathlib.Core.Bool.{true, false}
-use Prim.Native.Nat.{ℕ, _≤_, _<_, _^_}
-use native.Mathlib.Omega.{arith}
-use borrow.Author.Tests.{eqb-true}
+use Rattle.width.proofs.Kit.{_≡_, sym, ap, ap₂, _∙_, subst, true, false, ℕ, _≤_, _<_, _^_, arith, eqb-true}
 use Rattle.width.specs.Blocks.{count}
 use Rattle.machine.specs.declared.Reply.{Reply}
 use Rattle.machine.specs.Answers.{reply, number, done, isDone}

@@ -1,9 +1,5 @@
 -- Sums of binary32 products: what is stored is read again as it was, so a sum made in blocks is the sum at once.
-use mathlib.Core.Path.{_≡_, refl, sym, ap, _∙_, subst}
-use Prim.Native.Nat.{ℕ, zero, suc, _+_, _%_, _^_, _<_}
-use native.Mathlib.Nat.{add-zero, add-suc, mod-eq-of-lt}
-use native.Mathlib.Omega.{arith}
-use lib.Dec.{T}
+use Rattle.width.proofs.Kit.{_≡_, refl, sym, ap, _∙_, subst, ℕ, zero, suc, _+_, _%_, _^_, _<_, add-zero, add-suc, mod-eq-of-lt, arith, T}
 use lib.Ieee.{Float, nan, inf, fin, binary32, ofBits, toBits, fits}
 use lib.Ieee.Bits.{ofBits-toBits, ofBits-fits, toBits-lt}
 use lib.Ieee.Fits.{add-fits}

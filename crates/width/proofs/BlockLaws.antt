@@ -1,13 +1,7 @@
 -- Laws of blocks: their number, their sizes, their starts.
-use mathlib.Core.Path.{_≡_, refl, sym, ap, _∙_}
-use mathlib.Core.Logic.{_⊎_, inl, inr}
-use mathlib.Core.List.{List, [], _∷_}
-use Prim.Native.Nat.{ℕ, zero, suc, _+_, _*_, _-_, _≤_, _<_}
-use native.Mathlib.Nat.{div-eq-of-lt-le, add-div-right, div-eq-of-lt, sub-self, sub-zero, sub-eq-zero-of-le, sub-add-eq, lt-of-not-le}
-use native.Mathlib.Decide.{decLe}
-use native.Mathlib.Omega.{arith}
-use lib.ListN.{length}
-use borrow.Author.Tests.{lt-ltb, le-ltb}
+use Rattle.width.proofs.Kit.{_≡_, refl, sym, ap, _∙_, _⊎_, inl, inr, List, [], _∷_, ℕ, zero, suc, _+_, _*_, _-_, _≤_, _<_, div-eq-of-lt-le}
+use Rattle.width.proofs.Kit.{add-div-right, div-eq-of-lt, sub-self, sub-zero, sub-eq-zero-of-le, sub-add-eq, lt-of-not-le, arith, decLe, length}
+use Rattle.width.proofs.Kit.{lt-ltb, le-ltb}
 use Rattle.width.specs.Blocks.{Grants, count, starts, chunks}
 
 pub le-or-lt : (a b : ℕ) → (a ≤ b) ⊎ (b < a)

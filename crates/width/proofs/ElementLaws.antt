@@ -1,15 +1,7 @@
 -- For code on elements: only the low bytes of a value are stored, and sign extension.
-use mathlib.Core.Path.{_≡_, refl, sym, ap, _∙_, subst, subst⁻¹}
-use mathlib.Core.Bool.{Bool, true, false, cond}
-use mathlib.Core.List.{List}
-use Prim.Native.Nat.{ℕ, zero, suc, _+_, _*_, _-_, _%_, _^_, _≤_, _<_}
-use native.Mathlib.Nat.{mod-eq-of-lt, one-le-pow, mul-add-mod-self-left, lt-of-le-of-lt, mul-le-mul-left, mul-lt-mul-of-pos-right, le-of-lt}
-use native.Mathlib.Numerals.{add-one}
-use native.Mathlib.Omega.{arith}
-use lib.Dec.{ltb}
-use lib.IntN.{ℤ, pos, negsuc}
-use lib.Pow.{pow-pos, pow-add}
-use borrow.Author.Tests.{ltb-true, ltb-false, lt-ltb, le-ltb}
+use Rattle.width.proofs.Kit.{_≡_, refl, sym, ap, _∙_, subst, subst⁻¹, Bool, true, false, cond, List, ℕ, zero, suc, _+_, _*_, _-_, _%_, _^_, _≤_, _<_}
+use Rattle.width.proofs.Kit.{mod-eq-of-lt, one-le-pow, mul-add-mod-self-left, lt-of-le-of-lt, mul-le-mul-left, mul-lt-mul-of-pos-right, le-of-lt}
+use Rattle.width.proofs.Kit.{arith, add-one, ltb, ℤ, pos, negsuc, pow-pos, pow-add, ltb-true, ltb-false, lt-ltb, le-ltb}
 use Rattle.width.specs.Tile.{getLe, putLe, putRow, putTile, In}
 use Rattle.width.proofs.TileLaws.{putTile-keeps}
 use Rattle.width.specs.Reduce.{signed, reduce}

@@ -1,3 +1,5 @@
+-- The kit's names.
+pub mod Kit
 -- Laws of the definitions, each once over the width or the modulus.
 pub mod UptoLaws
 pub mod TileLaws

@@ -1,11 +1,6 @@
 -- A row writer on a part of a list that starts anywhere: writing past a front leaves it.
-use mathlib.Core.Path.{_≡_, ap, subst}
-use mathlib.Core.List.{List, [], _∷_, _++_}
-use Prim.Native.Nat.{ℕ, _+_, _*_, _≤_}
-use native.Mathlib.Nat.{zero-add, suc-add, add-assoc}
-use native.Mathlib.Omega.{arith}
-use lib.ListN.{length, set, take, drop, take-append-drop}
-use lib.Seq.{length-take-le}
+use Rattle.width.proofs.Kit.{_≡_, ap, subst, List, [], _∷_, _++_, ℕ, _+_, _*_, _≤_, zero-add, suc-add, add-assoc, arith, length, set, take, drop}
+use Rattle.width.proofs.Kit.{take-append-drop, length-take-le}
 use Rattle.width.proofs.UptoLaws.{upto-inside}
 use Rattle.width.specs.Tile.{putLe, putRow, markRow, byteOf}
 

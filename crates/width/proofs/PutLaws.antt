@@ -1,16 +1,10 @@
 -- For code that writes bytes: loops over bytes as loops over elements, the bytes of a value that count, a row writer that is lent a
 -- part, and one row more of a tile.
-use mathlib.Core.Path.{_≡_, refl, sym, ap, _∙_, subst}
-use mathlib.Core.List.{List, [], _++_, append-nil}
-use mathlib.Core.Logic.{⊎-elim}
-use Prim.Native.Nat.{ℕ, zero, suc, _+_, _*_, _-_, _/_, _%_, _^_, _≤_, _<_}
-use native.Mathlib.Nat.{zero-mul, suc-mul, mul-le-mul-right, mod-lt, mod-eq-of-lt, mod-mod-of-dvd, dvd-mul-right, add-mul-div-right, add-mul-mod-self-right, div-eq-of-lt, div-eq-of-lt-le, one-le-pow, pow-suc, pow-succ', add-zero, zero-add, add-suc, add-assoc, eq-or-lt-of-le, le-of-suc-le-suc}
-use native.Mathlib.Numerals.{add-one}
-use native.Mathlib.Omega.{arith}
-use lib.ListN.{length, getD, set, take, drop, length-take, length-drop, drop-of-length-le, take-append-drop}
-use lib.Arith.{mod-mul}
-use lib.Pow.{pow-add}
-use lib.Seq.{getD-take, getD-drop, take-all, length-take-le}
+use Rattle.width.proofs.Kit.{_≡_, refl, sym, ap, _∙_, subst, ⊎-elim, List, [], _++_, append-nil, ℕ, zero, suc, _+_, _*_, _-_, _/_, _%_, _^_, _≤_}
+use Rattle.width.proofs.Kit.{_<_, zero-mul, suc-mul, mul-le-mul-right, mod-lt, mod-eq-of-lt, mod-mod-of-dvd, dvd-mul-right, add-mul-div-right}
+use Rattle.width.proofs.Kit.{add-mul-mod-self-right, div-eq-of-lt, div-eq-of-lt-le, one-le-pow, pow-suc, pow-succ', add-zero, zero-add, add-suc}
+use Rattle.width.proofs.Kit.{add-assoc, eq-or-lt-of-le, le-of-suc-le-suc, arith, add-one, length, getD, set, take, drop, length-take, length-drop}
+use Rattle.width.proofs.Kit.{drop-of-length-le, take-append-drop, getD-take, getD-drop, take-all, length-take-le, mod-mul, pow-add}
 use Rattle.width.specs.Upto.{upto}
 use Rattle.width.specs.Tile.{getLe, byteOf, putLe, putRow, putTile, markRow, markTile}
 use Rattle.width.proofs.UptoLaws.{upto-cong, upto-keeps}

@@ -1,12 +1,8 @@
 -- Laws of two's complement, at any modulus.
-use mathlib.Core.Path.{_≡_, refl, sym, ap, _∙_, subst, ap₂}
-use mathlib.Core.Bool.{Bool, true, false, cond}
-use Prim.Native.Nat.{ℕ, zero, suc, pred, _+_, _*_, _-_, _/_, _%_, _≤_, _<_}
-use native.Mathlib.Nat.{add-mod, mod-lt, mod-eq-of-lt, div-add-mod', add-mul-mod-self-right, add-zero, add-suc, suc-pred-eq-of-pos, mod-mod-of-dvd, dvd-mul-right, mul-pos, div-lt-iff-lt-mul}
-use native.Mathlib.Omega.{arith}
-use lib.Dec.{ltb}
-use lib.IntN.{ℤ, pos, negsuc, negℤ, subℕ, _+ℤ_, _*ℤ_, +ℤ-idr, +ℤ-assoc}
-use borrow.Author.Tests.{ltb-true, ltb-false}
+use Rattle.width.proofs.Kit.{_≡_, refl, sym, ap, _∙_, subst, ap₂, Bool, true, false, cond, ℕ, zero, suc, pred, _+_, _*_, _-_, _/_, _%_, _≤_, _<_}
+use Rattle.width.proofs.Kit.{add-mod, mod-lt, mod-eq-of-lt, div-add-mod', add-mul-mod-self-right, add-zero, add-suc, suc-pred-eq-of-pos}
+use Rattle.width.proofs.Kit.{mod-mod-of-dvd, dvd-mul-right, mul-pos, div-lt-iff-lt-mul, arith, ltb, ℤ, pos, negsuc, negℤ, subℕ, _+ℤ_, _*ℤ_, +ℤ-idr}
+use Rattle.width.proofs.Kit.{+ℤ-assoc, ltb-true, ltb-false}
 use Rattle.width.specs.Reduce.{signed, reduce, sumℤ}
 
 -- ---- residues of ℕ

@@ -1,12 +1,6 @@
 -- For code: sums of products kept as residues by wrapping operations, at any modulus.
-use mathlib.Core.Path.{_≡_, refl, sym, ap, ap₂, _∙_}
-use mathlib.Core.Logic.{_⊎_, inl, inr}
-use Prim.Native.Nat.{ℕ, zero, suc, _+_, _*_, _/_, _%_, _≤_, _<_}
-use native.Mathlib.Nat.{one-mul, zero-add, mod-eq-of-lt, eq-or-lt-of-le}
-use native.Mathlib.Numerals.{add-one}
-use native.Mathlib.Omega.{arith}
-use lib.IntN.{ℤ, pos, _+ℤ_, _*ℤ_, +ℤ-idl, +ℤ-idr, +ℤ-assoc}
-use borrow.Author.Tests.{lt-ltb}
+use Rattle.width.proofs.Kit.{_≡_, refl, sym, ap, ap₂, _∙_, _⊎_, inl, inr, ℕ, zero, suc, _+_, _*_, _/_, _%_, _≤_, _<_, one-mul, zero-add}
+use Rattle.width.proofs.Kit.{mod-eq-of-lt, eq-or-lt-of-le, arith, add-one, ℤ, pos, _+ℤ_, _*ℤ_, +ℤ-idl, +ℤ-idr, +ℤ-assoc, lt-ltb}
 use Rattle.width.specs.Reduce.{signed, reduce, sumℤ}
 use Rattle.width.proofs.ReduceLaws.{reduce-add, reduce-mul, reduce-lt, reduce-signed, accumulate}
 

@@ -1,13 +1,7 @@
 -- Laws of bytes and tiles.
-use mathlib.Core.Path.{_≡_, refl, sym, ap, _∙_, subst}
-use mathlib.Core.List.{List}
-use Prim.Native.Nat.{ℕ, zero, suc, _+_, _*_, _/_, _%_, _^_, _≤_, _<_}
-use native.Mathlib.Nat.{div-div-eq-div-mul, pow-suc, pow-succ', pow-zero, mod-one, mul-le-mul-right, one-le-pow}
-use native.Mathlib.Omega.{arith}
-use native.Mathlib.Decide.{ℕ-discrete, decLt}
-use lib.ListN.{length, getD, set, length-set, List·getD-eq-default}
-use lib.Seq.{getD-set-same, getD-set-other}
-use lib.Arith.{mod-mul}
+use Rattle.width.proofs.Kit.{_≡_, refl, sym, ap, _∙_, subst, List, ℕ, zero, suc, _+_, _*_, _/_, _%_, _^_, _≤_, _<_, div-div-eq-div-mul, pow-suc}
+use Rattle.width.proofs.Kit.{pow-succ', pow-zero, mod-one, mul-le-mul-right, one-le-pow, arith, ℕ-discrete, decLt, length, getD, set, length-set}
+use Rattle.width.proofs.Kit.{List·getD-eq-default, getD-set-same, getD-set-other, mod-mul}
 use Rattle.width.proofs.UptoLaws.{upto-keeps, upto-makes, upto-cong}
 use Rattle.width.specs.Tile.{getLe, byteOf, putLe, putRow, putTile, In, markRow, markTile}
 

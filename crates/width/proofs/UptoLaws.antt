@@ -1,9 +1,5 @@
 -- The two ways to prove things about a counted loop.
-use mathlib.Core.Path.{_≡_, refl, subst, ap, _∙_}
-use mathlib.Core.Logic.{_⊎_, inl, inr}
-use native.Mathlib.Nat.{not-suc-le-zero, eq-or-lt-of-le, le-of-suc-le-suc}
-use Prim.Native.Nat.{ℕ, zero, suc, _<_}
-use native.Mathlib.Omega.{arith}
+use Rattle.width.proofs.Kit.{_≡_, refl, subst, ap, _∙_, _⊎_, inl, inr, ℕ, zero, suc, _<_, not-suc-le-zero, eq-or-lt-of-le, le-of-suc-le-suc, arith}
 use Rattle.width.specs.Upto.{upto}
 
 -- what every turn keeps, the loop keeps

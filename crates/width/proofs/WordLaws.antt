@@ -1,11 +1,7 @@
 -- For code that keeps numbers in bytes: a number written byte by byte, what is read back of a row that was written,
 -- and a row written over itself.
-use mathlib.Core.Path.{_≡_, refl, sym, ap, ap₂, _∙_}
-use mathlib.Core.List.{List}
-use Prim.Native.Nat.{ℕ, zero, suc, _+_, _*_, _/_, _%_, _^_, _≤_, _<_}
-use native.Mathlib.Nat.{add-zero, pow-zero, div-one}
-use lib.ListN.{length, getD, set}
-use lib.Seq.{set-getD}
+use Rattle.width.proofs.Kit.{_≡_, refl, sym, ap, ap₂, _∙_, List, ℕ, zero, suc, _+_, _*_, _/_, _%_, _^_, _≤_, _<_, add-zero, pow-zero, div-one}
+use Rattle.width.proofs.Kit.{length, getD, set, set-getD}
 use Rattle.width.specs.Upto.{upto}
 use Rattle.width.specs.Tile.{getLe, byteOf, putLe, putRow}
 use Rattle.width.proofs.UptoLaws.{upto-keeps, upto-cong}

@@ -1,8 +1,6 @@
 -- 02, Four: elements of 32 bits as binary32 numbers. `add` and `mul` of the kit's lib.Ieee are the exact sum and product "rounded .. to the
 -- nearest binary32, ties to even": subnormal numbers are kept, and what is too large becomes an infinity.
-use mathlib.Core.Bool.{false}
-use Prim.Native.Nat.{ℕ, zero, suc}
-use lib.IntN.{pos}
+use Rattle.width.specs.Kit.{false, ℕ, zero, suc, pos}
 use lib.Ieee.{Float, nan, inf, fin, binary32, add, mul, ofBits, toBits}
 
 -- the value that 32 bits stand for: a number, an infinity, or `nan`, which is not a number

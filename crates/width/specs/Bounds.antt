@@ -1,6 +1,6 @@
 -- The largest machine: every bound that the tile functions ask for follows from the largest RLEN, MLEN and ELEN. And the block of a product
 -- that the kernels take at once: a larger tile is multiplied in blocks.
-use Prim.Native.Nat.{ℕ, _/_}
+use Rattle.width.specs.Kit.{ℕ, _/_}
 
 -- RLEN and MLEN, in bits
 abbrev pub mostRlen : ℕ

@@ -1,8 +1,5 @@
 -- 02, Four: products of binary32 elements, computed.
-use mathlib.Core.Path.{_≡_, refl}
-use mathlib.Core.List.{List, [], _∷_, map}
-use Prim.Native.Nat.{ℕ}
-use lib.ListN.{length, getD}
+use Rattle.width.specs.Kit.{_≡_, refl, List, [], _∷_, map, ℕ, length, getD}
 use lib.Ieee.{add, mul, ofBits, toBits}
 use Rattle.width.specs.Binary32.{valueOf, settled, multiplyAdd, floatSum, floatProduct}
 

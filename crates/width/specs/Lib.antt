@@ -1,3 +1,5 @@
+-- The kit's names.
+pub mod Kit
 -- What a reader must believe, in the order of reading.
 pub mod Upto
 pub mod Tile

@@ -1,7 +1,5 @@
 -- Bytes and tiles: numbers stored low byte first, in rows that start anywhere, and their marks.
-use mathlib.Core.List.{List}
-use Prim.Native.Nat.{ℕ, zero, suc, _+_, _*_, _/_, _%_, _^_, _≤_, _<_}
-use lib.ListN.{getD, set}
+use Rattle.width.specs.Kit.{List, ℕ, zero, suc, _+_, _*_, _/_, _%_, _^_, _≤_, _<_, getD, set}
 use Rattle.width.specs.Upto.{upto}
 
 -- the number that the w bytes from p stand for, low byte first

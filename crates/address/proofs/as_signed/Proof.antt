@@ -1,11 +1,8 @@
-use mathlib.Core.Path.{_≡_, sym, ap, _∙_}
-use Prim.Native.Nat.{suc, _-_, _^_}
-use native.Mathlib.Omega.{arith}
+use Rattle.width.proofs.Kit.{_≡_, sym, ap, _∙_, suc, _-_, _^_, arith, needs}
 use mir.Syntax.{w64}
 use mir.Val.{toZ}
 use mir.ValLaws.{toZ-pos}
 use Rattle.address.proofs.AddressLaws.{below-one, signed-is}
-use borrow.Author.Needs.{needs}
 use Rattle.address.proofs.as_signed.Statement.{statement}
 use Rattle.address.proofs.as_signed.Tie as tie
 

@@ -1,11 +1,7 @@
-use mathlib.Core.Path.{ap, _∙_}
-use Prim.Native.Nat.{ℕ, _/_}
-use lib.Dec.{leb}
-use lib.IntN.{natAbs}
+use Rattle.width.proofs.Kit.{ap, _∙_, ℕ, _/_, leb, natAbs, needs}
 use mir.Syntax.{w64}
 use mir.ValLaws.{toZ-ofZ}
 use Rattle.address.proofs.AddressLaws.{no-distance, by-division}
-use borrow.Author.Needs.{needs}
 use Rattle.address.proofs.is_bounded.Statement.{statement}
 use Rattle.address.proofs.is_bounded.Tie as tie
 

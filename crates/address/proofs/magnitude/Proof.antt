@@ -1,12 +1,8 @@
-use mathlib.Core.Path.{_≡_}
-use mathlib.Core.Bool.{false}
-use native.Mathlib.Omega.{arith}
-use lib.IntN.{pos}
+use Rattle.width.proofs.Kit.{_≡_, false, arith, pos, needs}
 use lib.Signed.{mag, nonNeg}
 use mir.Syntax.{w64}
 use mir.ValLaws.{toZ-ofZ}
 use Rattle.address.proofs.AddressLaws.{is-negative, not-negative, below-negative, magnitude-negative}
-use borrow.Author.Needs.{needs}
 use Rattle.address.proofs.magnitude.Statement.{statement}
 use Rattle.address.proofs.magnitude.Tie as tie
 

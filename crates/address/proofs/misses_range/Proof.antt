@@ -1,6 +1,5 @@
-use native.Mathlib.Omega.{arith}
+use Rattle.width.proofs.Kit.{arith, needs}
 use Rattle.address.proofs.SealLaws.{misses-no-bytes, misses-no-seal, misses-below, misses-not, misses-from}
-use borrow.Author.Needs.{needs}
 use Rattle.address.proofs.misses_range.Statement.{statement}
 use Rattle.address.proofs.misses_range.Tie as tie
 

@@ -1,13 +1,9 @@
-use mathlib.Core.Path.{_≡_, ap, _∙_}
-use Prim.Native.Nat.{_+_, _-_, _^_, _≤_, _<_}
-use native.Mathlib.Omega.{arith}
-use lib.IntN.{pos, natAbs, _+ℤ_, _*ℤ_}
+use Rattle.width.proofs.Kit.{_≡_, ap, _∙_, _+_, _-_, _^_, _≤_, _<_, arith, pos, natAbs, _+ℤ_, _*ℤ_, needs}
 use mir.Syntax.{w64}
 use mir.Val.{toZ, ofZ, SFits}
 use mir.ValLaws.{toZ-ofZ, toZ-pos}
 use Rattle.machine.specs.Memory.{address}
 use Rattle.address.proofs.AddressLaws.{natAbs-times, mag-le, goes-down, goes-up}
-use borrow.Author.Needs.{needs}
 use Rattle.address.proofs.row_address.Statement.{statement}
 use Rattle.address.proofs.row_address.Tie as tie
 

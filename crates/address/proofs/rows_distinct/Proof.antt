@@ -1,8 +1,4 @@
-use mathlib.Core.Path.{_≡_, ap, _∙_}
-use Prim.Native.Nat.{ℕ}
-use native.Mathlib.Omega.{arith}
-use lib.Dec.{leb}
-use lib.IntN.{natAbs}
+use Rattle.width.proofs.Kit.{_≡_, ap, _∙_, ℕ, arith, leb, natAbs}
 use mir.Syntax.{w64}
 use mir.Val.{toZ, ofZ}
 use Rattle.address.proofs.AddressLaws.{step, passed-on}

@@ -1,12 +1,7 @@
-use mathlib.Core.Path.{_≡_, sym, ap, _∙_}
-use Prim.Native.Nat.{_*_, _-_}
-use native.Mathlib.Omega.{arith}
-use lib.Dec.{leb}
-use lib.IntN.{ℤ, natAbs}
+use Rattle.width.proofs.Kit.{_≡_, sym, ap, _∙_, _*_, _-_, arith, leb, ℤ, natAbs, needs}
 use mir.Syntax.{w64}
 use mir.Val.{toZ, ofZ}
 use Rattle.address.proofs.AddressLaws.{step, passed-on, inside-no-bytes, inside-no-rows, inside-first-not, inside-up, inside-down}
-use borrow.Author.Needs.{needs}
 use Rattle.address.proofs.rows_inside.Statement.{statement}
 use Rattle.address.proofs.rows_inside.Tie as tie
 

@@ -1,7 +1,5 @@
 -- Each sum by its weights.
-use native.Mathlib.Omega.{arith}
-use mathlib.Core.Path.{sym, ap, _∙_}
-use Prim.Native.Nat.{ℕ, _*_, _%_, _^_}
+use Rattle.width.proofs.Kit.{sym, ap, _∙_, ℕ, _*_, _%_, _^_, arith, needs}
 use Rattle.machine.specs.declared.Sum.{Sum}
 use Rattle.machine.specs.declared.Sum.the-variants.{Add, Subtract, ReverseSubtract}
 use Rattle.element.specs.Element.{Width}
@@ -9,7 +7,6 @@ use Rattle.element.proofs.Laws.{width-small}
 use Rattle.arithmetic.specs.Effect.{shape, combineTile}
 use Rattle.arithmetic.proofs.RoomLaws.{columns, wider}
 use Rattle.arithmetic.proofs.WeightLaws.{weight-one, weight-minus, combine-is}
-use borrow.Author.Needs.{needs}
 use Rattle.arithmetic.proofs.combine_tile.Statement.{statement}
 use Rattle.arithmetic.proofs.combine_tile.Tie as tie
 

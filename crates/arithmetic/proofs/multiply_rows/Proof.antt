@@ -1,11 +1,8 @@
 -- By cases of the widths.
-use native.Mathlib.Omega.{arith}
-use mathlib.Core.Path.{sym, ap, _∙_}
-use Prim.Native.Nat.{ℕ, _+_, _*_}
+use Rattle.width.proofs.Kit.{sym, ap, _∙_, ℕ, _+_, _*_, arith, needs}
 use Rattle.width.specs.Tile.{putTile}
 use Rattle.element.proofs.Laws.{not-4, short}
 use Rattle.sums.specs.Rows.{productRow}
-use borrow.Author.Needs.{needs}
 use Rattle.arithmetic.proofs.multiply_rows.Statement.{statement}
 use Rattle.arithmetic.proofs.multiply_rows.Tie as tie
 

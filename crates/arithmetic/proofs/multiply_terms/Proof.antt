@@ -1,15 +1,9 @@
 -- The loop: each element of C has the product of the first `l` terms, once a block was taken.
-use native.Mathlib.Omega.{arith}
-use mathlib.Core.Path.{_≡_, refl, ap, _∙_}
-use mathlib.Core.Logic.{_⊎_, inl, inr}
-use Prim.Native.Nat.{ℕ, _+_, _-_, _*_, _≤_, _<_}
-use native.Mathlib.Nat.{zero-mul}
-use lib.ListN.{length}
+use Rattle.width.proofs.Kit.{_≡_, refl, ap, _∙_, _⊎_, inl, inr, ℕ, _+_, _-_, _*_, _≤_, _<_, zero-mul, arith, length, needs}
 use Rattle.width.specs.Tile.{putTile}
 use Rattle.machine.specs.Operation.{product}
 use Rattle.sums.specs.Rows.{productRow}
 use Rattle.arithmetic.proofs.BlockLaws.{Terms, terms-fit, term-next, product-joins}
-use borrow.Author.Needs.{needs}
 use Rattle.arithmetic.proofs.multiply_terms.Statement.{statement}
 use Rattle.arithmetic.proofs.multiply_terms.Tie as tie
 

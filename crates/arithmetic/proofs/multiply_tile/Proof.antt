@@ -1,9 +1,7 @@
 -- The three tiles lie one after another in the registers.
-use native.Mathlib.Omega.{arith}
-use lib.ListN.{length}
+use Rattle.width.proofs.Kit.{arith, length, needs}
 use Rattle.arithmetic.specs.Effect.{productTile}
 use Rattle.arithmetic.proofs.RoomLaws.{wider, Room, room}
-use borrow.Author.Needs.{needs}
 use Rattle.arithmetic.proofs.multiply_tile.Statement.{statement}
 use Rattle.arithmetic.proofs.multiply_tile.Tie as tie
 

@@ -1,12 +1,9 @@
 -- The weights 0 and the multiplier.
-use native.Mathlib.Omega.{arith}
-use mathlib.Core.Path.{_∙_}
-use Prim.Native.Nat.{ℕ, _*_}
+use Rattle.width.proofs.Kit.{_∙_, ℕ, _*_, arith, needs}
 use Rattle.element.proofs.Laws.{width-small}
 use Rattle.arithmetic.specs.Effect.{shape}
 use Rattle.arithmetic.proofs.RoomLaws.{columns, wider}
 use Rattle.arithmetic.proofs.WeightLaws.{scale-is}
-use borrow.Author.Needs.{needs}
 use Rattle.arithmetic.proofs.scale_tile.Statement.{statement}
 use Rattle.arithmetic.proofs.scale_tile.Tie as tie
 

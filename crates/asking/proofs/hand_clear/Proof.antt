@@ -1,7 +1,5 @@
-use mathlib.Core.Path.{ap, _∙_}
-use Prim.Native.Nat.{ℕ, _+_}
+use Rattle.width.proofs.Kit.{ap, _∙_, ℕ, _+_, needs}
 use Rattle.run.specs.Encoding.{plain, arithmeticWord}
-use borrow.Author.Needs.{needs}
 use Rattle.asking.proofs.hand_clear.Statement.{statement}
 use Rattle.asking.proofs.hand_clear.Tie as tie
 

@@ -1,8 +1,6 @@
-use mathlib.Core.Path.{ap, _∙_}
-use Prim.Native.Nat.{ℕ, _*_}
+use Rattle.width.proofs.Kit.{ap, _∙_, ℕ, _*_, needs}
 use Rattle.run.specs.Encoding.{memoryWord, addressIn}
 use Rattle.asking.proofs.AskingLaws.{handed-by}
-use borrow.Author.Needs.{needs}
 use Rattle.asking.proofs.hand_load.Statement.{statement}
 use Rattle.asking.proofs.hand_load.Tie as tie
 

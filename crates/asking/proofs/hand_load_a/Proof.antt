@@ -1,11 +1,8 @@
-use mathlib.Core.Path.{sym, ap, ap₂, _∙_, subst}
-use Prim.Native.Nat.{ℕ, _*_, _≤_}
-use native.Mathlib.Omega.{arith}
+use Rattle.width.proofs.Kit.{sym, ap, ap₂, _∙_, subst, ℕ, _*_, _≤_, arith, needs}
 use Rattle.run.specs.Plan.{narrow, msew, formOf}
 use Rattle.run.specs.Encoding.{memoryWord, addressIn}
 use Rattle.run.proofs.FormLaws.{most-in}
 use Rattle.asking.proofs.AskingLaws.{handed-by}
-use borrow.Author.Needs.{needs}
 use Rattle.asking.proofs.hand_load_a.Statement.{statement}
 use Rattle.asking.proofs.hand_load_a.Tie as tie
 

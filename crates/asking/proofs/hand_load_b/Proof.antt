@@ -1,4 +1,4 @@
-use native.Mathlib.Omega.{arith}
+use Rattle.width.proofs.Kit.{arith}
 use Rattle.asking.proofs.hand_load_b.Statement.{statement}
 use Rattle.asking.proofs.hand_load_b.Tie as tie
 

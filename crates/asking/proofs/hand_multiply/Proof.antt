@@ -1,8 +1,5 @@
-use mathlib.Core.Path.{ap, _∙_}
-use Prim.Native.Nat.{ℕ}
-use borrow.Author.Tests.{eq-eqb, ne-eqb}
+use Rattle.width.proofs.Kit.{ap, _∙_, ℕ, eq-eqb, ne-eqb, needs}
 use Rattle.run.specs.Encoding.{plain, arithmeticWord}
-use borrow.Author.Needs.{needs}
 use Rattle.asking.proofs.hand_multiply.Statement.{statement}
 use Rattle.asking.proofs.hand_multiply.Tie as tie
 

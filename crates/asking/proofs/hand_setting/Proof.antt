@@ -1,6 +1,5 @@
-use mathlib.Core.Path.{ap, _∙_}
+use Rattle.width.proofs.Kit.{ap, _∙_, needs}
 use Rattle.run.specs.Encoding.{plain}
-use borrow.Author.Needs.{needs}
 use Rattle.asking.proofs.hand_setting.Statement.{statement}
 use Rattle.asking.proofs.hand_setting.Tie as tie
 

@@ -1,8 +1,6 @@
-use mathlib.Core.Path.{ap, ap₂, _∙_}
-use Prim.Native.Nat.{ℕ, _+_, _*_}
+use Rattle.width.proofs.Kit.{ap, ap₂, _∙_, ℕ, _+_, _*_, needs}
 use Rattle.run.specs.Encoding.{memoryWord, addressIn}
 use Rattle.asking.proofs.AskingLaws.{handed-by}
-use borrow.Author.Needs.{needs}
 use Rattle.asking.proofs.hand_store.Statement.{statement}
 use Rattle.asking.proofs.hand_store.Tie as tie
 

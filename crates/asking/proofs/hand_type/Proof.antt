@@ -1,7 +1,5 @@
-use mathlib.Core.Path.{ap, _∙_}
-use Prim.Native.Nat.{ℕ}
+use Rattle.width.proofs.Kit.{ap, _∙_, ℕ, needs}
 use Rattle.run.specs.Encoding.{plain, settingWord}
-use borrow.Author.Needs.{needs}
 use Rattle.asking.proofs.hand_type.Statement.{statement}
 use Rattle.asking.proofs.hand_type.Tie as tie
 

@@ -1,6 +1,4 @@
-use mathlib.Core.Path.{_≡_, sym, ap, _∙_, subst}
-use mathlib.Core.Bool.{true}
-use native.Mathlib.Omega.{arith}
+use Rattle.width.proofs.Kit.{_≡_, sym, ap, _∙_, subst, true, arith, needs}
 use Rattle.machine.specs.Setting.{chosen}
 use Rattle.run.specs.declared.Place.{Place}
 use Rattle.run.specs.Places.{wordAt}
@@ -9,7 +7,6 @@ use Rattle.plan_numbers.specs.Parts.{inMatrices}
 use Rattle.asking.specs.Parts.{handedOf}
 use Rattle.plan_numbers.proofs.PlanLaws.{at-m, at-store, at-multiply}
 use Rattle.run_places.proofs.RunPlaceLaws.{run-numbered, run-placed, run-planned, run-sizes}
-use borrow.Author.Needs.{needs}
 use Rattle.asking.proofs.handed_at.Statement.{statement}
 use Rattle.asking.proofs.handed_at.Tie as tie
 

@@ -1,11 +1,8 @@
-use mathlib.Core.Path.{_≡_, sym, ap₂, _∙_}
-use mathlib.Core.Bool.{true}
-use borrow.Author.Tests.{not-true, not-false}
+use Rattle.width.proofs.Kit.{_≡_, sym, ap₂, _∙_, true, not-true, not-false, needs}
 use Rattle.machine.specs.declared.Answer.the-variants.{Done}
 use Rattle.machine.specs.Setting.{chosen}
 use Rattle.run.specs.Turn.{soundRun}
 use Rattle.asking.proofs.AskingLaws.{giving, ask-unsound, ask-end, ask-done}
-use borrow.Author.Needs.{needs}
 use Rattle.asking.proofs.next.Statement.{statement}
 use Rattle.asking.proofs.next.Tie as tie
 

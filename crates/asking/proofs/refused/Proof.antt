@@ -1,8 +1,7 @@
-use mathlib.Core.Path.{ap}
+use Rattle.width.proofs.Kit.{ap, needs}
 use Rattle.machine.specs.declared.Answer.the-variants.{BadArguments}
 use Rattle.run.specs.declared.Handed.{Handed}
 use Rattle.asking.proofs.AskingLaws.{giving}
-use borrow.Author.Needs.{needs}
 use Rattle.asking.proofs.refused.Statement.{statement}
 use Rattle.asking.proofs.refused.Tie as tie
 

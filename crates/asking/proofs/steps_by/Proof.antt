@@ -1,5 +1,4 @@
-use native.Mathlib.Omega.{arith}
-use borrow.Author.Needs.{needs}
+use Rattle.width.proofs.Kit.{arith, needs}
 use Rattle.run_places.proofs.CountLaws.{few-inner, few-outer}
 use Rattle.asking.proofs.steps_by.Statement.{statement}
 use Rattle.asking.proofs.steps_by.Tie as tie

@@ -1,5 +1,5 @@
 -- The comparison is `nanBits`.
-use mathlib.Core.Path.{sym}
+use Rattle.width.proofs.Kit.{sym}
 use lib.Ieee.{binary32}
 use lib.Ieee.Bits.{nanBits-above}
 use Rattle.binary32.proofs.is_nan_bits.Statement.{statement}

@@ -1,4 +1,4 @@
-use mathlib.Core.Path.{refl}
+use Rattle.width.proofs.Kit.{refl}
 use Rattle.width.specs.Binary32.{multiplyAdd}
 use Rattle.binary32.proofs.multiply_add.Statement.{statement}
 use Rattle.binary32.proofs.multiply_add.Tie as tie

@@ -1,5 +1,4 @@
-use mathlib.Core.Path.{sym, ap, subst, _∙_, refl}
-use lib.Dec.{T}
+use Rattle.width.proofs.Kit.{sym, ap, subst, _∙_, refl, T}
 use lib.Ieee.Compare.{differs-from-itself}
 use Rattle.width.specs.Binary32.{settled}
 use Rattle.binary32.proofs.Laws.{equals-itself, stored-other}

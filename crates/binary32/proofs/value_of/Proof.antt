@@ -1,5 +1,4 @@
-use mathlib.Core.Path.{refl, sym, _∙_}
-use borrow.Author.Needs.{needs}
+use Rattle.width.proofs.Kit.{refl, sym, _∙_, needs}
 use lib.Ieee.{binary32, div, ofBits, nanBits}
 use Rattle.width.specs.Binary32.{valueOf}
 use Rattle.binary32.proofs.Laws.{nan-value, no-nan}

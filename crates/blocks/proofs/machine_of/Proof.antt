@@ -1,4 +1,4 @@
-use borrow.Author.Needs.{needs}
+use Rattle.width.proofs.Kit.{needs}
 use Rattle.blocks.specs.Blocks.{machineOf}
 use Rattle.blocks.proofs.machine_of.Statement.{statement}
 use Rattle.blocks.proofs.machine_of.Tie as tie

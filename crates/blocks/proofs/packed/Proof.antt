@@ -1,7 +1,4 @@
-use mathlib.Core.Path.{ap}
-use native.Mathlib.Omega.{arith}
-use Prim.Native.Nat.{_^_, _<_}
-use borrow.Author.Needs.{needs}
+use Rattle.width.proofs.Kit.{ap, _^_, _<_, arith, needs}
 use Rattle.machine.proofs.AnswerLaws.{number-small}
 use Rattle.blocks.specs.Blocks.{packed}
 use Rattle.blocks.proofs.packed.Statement.{statement}

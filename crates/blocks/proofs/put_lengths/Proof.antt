@@ -1,4 +1,4 @@
-use borrow.Author.Needs.{needs}
+use Rattle.width.proofs.Kit.{needs}
 use Rattle.blocks.proofs.put_lengths.Statement.{statement}
 use Rattle.blocks.proofs.put_lengths.Tie as tie
 

@@ -1,4 +1,4 @@
-use borrow.Author.Needs.{needs}
+use Rattle.width.proofs.Kit.{needs}
 use Rattle.blocks.specs.Blocks.{putMachine}
 use Rattle.blocks.proofs.put_machine.Statement.{statement}
 use Rattle.blocks.proofs.put_machine.Tie as tie

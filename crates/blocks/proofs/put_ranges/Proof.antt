@@ -1,8 +1,4 @@
-use mathlib.Core.Path.{_≡_, refl, sym, ap, ap₂, _∙_}
-use mathlib.Core.List.{List}
-use Prim.Native.Nat.{ℕ, suc, _+_, _-_, _*_, _≤_}
-use native.Mathlib.Omega.{arith}
-use lib.ListN.{length, getD}
+use Rattle.width.proofs.Kit.{_≡_, refl, sym, ap, ap₂, _∙_, List, ℕ, suc, _+_, _-_, _*_, _≤_, arith, length, getD}
 use Rattle.width.specs.Upto.{upto}
 use Rattle.machine.specs.Geometry.{Range, range}
 use Rattle.machine.specs.Starting.{ranges}

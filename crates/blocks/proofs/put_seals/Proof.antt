@@ -1,13 +1,9 @@
-use mathlib.Core.Path.{refl, ap, _∙_}
-use mathlib.Core.List.{List}
-use Prim.Native.Nat.{ℕ, _+_, _-_, _/_}
-use lib.ListN.{length, getD}
+use Rattle.width.proofs.Kit.{refl, ap, _∙_, List, ℕ, _+_, _-_, _/_, length, getD, needs}
 use Rattle.width.specs.Upto.{upto}
 use Rattle.machine.specs.Geometry.{range}
 use Rattle.machine.specs.Starting.{ranges}
 use Rattle.ranges.specs.Ranges.{putRange}
 use Rattle.blocks.proofs.BlockLaws.{put-seals-is}
-use borrow.Author.Needs.{needs}
 use Rattle.blocks.proofs.put_seals.Statement.{statement}
 use Rattle.blocks.proofs.put_seals.Tie as tie
 

@@ -1,8 +1,6 @@
-use mathlib.Core.Path.{ap, _∙_}
-use native.Mathlib.Omega.{arith}
+use Rattle.width.proofs.Kit.{ap, _∙_, arith, needs}
 use Rattle.width.specs.Tile.{putLe}
 use Rattle.blocks.proofs.BlockLaws.{put-state-is}
-use borrow.Author.Needs.{needs}
 use Rattle.blocks.proofs.put_state.Statement.{statement}
 use Rattle.blocks.proofs.put_state.Tie as tie
 

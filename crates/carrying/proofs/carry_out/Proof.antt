@@ -1,7 +1,4 @@
-use mathlib.Core.Path.{_≡_, refl, ap, _∙_, subst}
-use mathlib.Core.Bool.{true}
-use Prim.Native.Nat.{_-_}
-use native.Mathlib.Omega.{arith}
+use Rattle.width.proofs.Kit.{_≡_, refl, ap, _∙_, subst, true, _-_, arith, needs}
 use Rattle.machine.specs.declared.Dimension.the-variants.{DimensionM, DimensionK, DimensionN}
 use Rattle.machine.specs.Answers.{reply}
 use Rattle.machine.specs.Geometry.{benchOf}
@@ -14,7 +11,6 @@ use Rattle.plan_numbers.proofs.PlanLaws.{at-store, at-multiply}
 use Rattle.run_places.proofs.RunPlaceLaws.{run-numbered, run-placed, run-planned, run-sizes}
 use Rattle.run.proofs.WordLaws.{decode-type, decode-m, decode-n, decode-k}
 use Rattle.carrying.proofs.CarriedLaws.{numbers-apart, at-place, type-carried, size-carried, size-answers, plan-type}
-use borrow.Author.Needs.{needs}
 use Rattle.carrying.proofs.carry_out.Statement.{statement}
 use Rattle.carrying.proofs.carry_out.Tie as tie
 

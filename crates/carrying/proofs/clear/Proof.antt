@@ -1,7 +1,5 @@
-use mathlib.Core.Path.{refl}
-use lib.IntN.{pos}
+use Rattle.width.proofs.Kit.{refl, pos, needs}
 use Rattle.carrying.proofs.CarriedLaws.{zero-residue, clear-carried}
-use borrow.Author.Needs.{needs}
 use Rattle.carrying.proofs.clear.Statement.{statement}
 use Rattle.carrying.proofs.clear.Tie as tie
 

@@ -1,8 +1,6 @@
-use mathlib.Core.Path.{ap, _∙_}
-use Prim.Native.Nat.{ℕ}
+use Rattle.width.proofs.Kit.{ap, _∙_, ℕ, needs}
 use Rattle.machine.specs.Answers.{verdict, isDone}
 use Rattle.checking.specs.Parts.{targetChecks}
-use borrow.Author.Needs.{needs}
 use Rattle.carrying.proofs.is_ready.Statement.{statement}
 use Rattle.carrying.proofs.is_ready.Tie as tie
 

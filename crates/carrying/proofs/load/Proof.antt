@@ -1,9 +1,7 @@
-use mathlib.Core.Path.{ap, ap₂, _∙_}
-use Prim.Native.Nat.{ℕ, _*_}
+use Rattle.width.proofs.Kit.{ap, ap₂, _∙_, ℕ, _*_, needs}
 use Rattle.run.specs.Encoding.{addressIn}
 use Rattle.machine.specs.Operation.{Operation}
 use Rattle.carrying.proofs.CarriedLaws.{loads-for}
-use borrow.Author.Needs.{needs}
 use Rattle.carrying.proofs.load.Statement.{statement}
 use Rattle.carrying.proofs.load.Tie as tie
 

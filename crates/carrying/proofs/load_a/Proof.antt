@@ -1,6 +1,4 @@
-use mathlib.Core.Path.{sym, ap, ap₂, _∙_, subst}
-use Prim.Native.Nat.{ℕ, _*_, _≤_}
-use native.Mathlib.Omega.{arith}
+use Rattle.width.proofs.Kit.{sym, ap, ap₂, _∙_, subst, ℕ, _*_, _≤_, arith, needs}
 use Rattle.machine.specs.declared.Form.{Form}
 use Rattle.machine.specs.declared.Matrix.the-variants.{MatrixA}
 use Rattle.machine.specs.Operation.{Operation}
@@ -8,7 +6,6 @@ use Rattle.run.specs.Plan.{narrow, formOf}
 use Rattle.run.specs.Encoding.{addressIn}
 use Rattle.run.proofs.FormLaws.{most-in}
 use Rattle.carrying.proofs.CarriedLaws.{loads-for, a-carried}
-use borrow.Author.Needs.{needs}
 use Rattle.carrying.proofs.load_a.Statement.{statement}
 use Rattle.carrying.proofs.load_a.Tie as tie
 

@@ -1,6 +1,5 @@
-use native.Mathlib.Omega.{arith}
+use Rattle.width.proofs.Kit.{arith, needs}
 use Rattle.carrying.proofs.CarriedLaws.{b-carried}
-use borrow.Author.Needs.{needs}
 use Rattle.carrying.proofs.load_b.Statement.{statement}
 use Rattle.carrying.proofs.load_b.Tie as tie
 

@@ -1,7 +1,4 @@
-use mathlib.Core.Path.{_≡_, ap, _∙_, subst}
-use mathlib.Core.Bool.{true}
-use Prim.Native.Nat.{_-_}
-use native.Mathlib.Omega.{arith}
+use Rattle.width.proofs.Kit.{_≡_, ap, _∙_, subst, true, _-_, arith, needs}
 use Rattle.machine.specs.declared.Machine.{Machine}
 use Rattle.machine.specs.declared.Dimension.the-variants.{DimensionM, DimensionK, DimensionN}
 use Rattle.machine.specs.Geometry.{benchOf}
@@ -18,7 +15,6 @@ use Rattle.run_places.proofs.RunPlaceLaws.{run-numbered, run-placed, run-planne
 use Rattle.run.proofs.WordLaws.{decode-type, decode-m, decode-n, decode-k}
 use Rattle.carrying.specs.Parts.{Carried}
 use Rattle.carrying.proofs.CarriedLaws.{at-place, type-carried, size-carried, clear-keeps, multiply-keeps, a-keeps, b-keeps, c-keeps, plan-type}
-use borrow.Author.Needs.{needs}
 use Rattle.carrying.proofs.machine_after.Statement.{statement}
 use Rattle.carrying.proofs.machine_after.Tie as tie
 

@@ -1,10 +1,8 @@
-use mathlib.Core.Path.{_≡_, refl}
-use borrow.Author.Tests.{eq-eqb, ne-eqb}
+use Rattle.width.proofs.Kit.{_≡_, refl, eq-eqb, ne-eqb, needs}
 use Rattle.run.specs.Plan.{integers, floats, elementsOf}
 use Rattle.width.specs.Bounds.{mostElen}
 use Rattle.run.proofs.WordLaws.{formats}
 use Rattle.carrying.proofs.CarriedLaws.{plan-format, multiply-carried}
-use borrow.Author.Needs.{needs}
 use Rattle.carrying.proofs.multiply.Statement.{statement}
 use Rattle.carrying.proofs.multiply.Tie as tie
 

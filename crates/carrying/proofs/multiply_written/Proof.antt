@@ -1,13 +1,9 @@
-use mathlib.Core.Path.{_≡_, refl}
-use mathlib.Core.List.{[]}
-use native.Mathlib.Omega.{arith}
-use borrow.Author.Tests.{eq-eqb, ne-eqb}
+use Rattle.width.proofs.Kit.{_≡_, refl, [], arith, eq-eqb, ne-eqb, needs}
 use Rattle.width.specs.Bounds.{mostElen}
 use Rattle.run.specs.Plan.{integers, floats, elementsOf}
 use Rattle.run.proofs.WordLaws.{formats}
 use Rattle.carrying.proofs.CarriedLaws.{plan-format}
 use Rattle.carrying.proofs.SumsLaws.{none-fit, multiply-permitted, multiply-left}
-use borrow.Author.Needs.{needs}
 use Rattle.carrying.proofs.multiply_written.Statement.{statement}
 use Rattle.carrying.proofs.multiply_written.Tie as tie
 

@@ -1,5 +1,5 @@
 use Rattle.carrying.proofs.CarriedLaws.{factor-one}
-use borrow.Author.Needs.{needs}
+use Rattle.width.proofs.Kit.{needs}
 use Rattle.carrying.proofs.plan_factor.Statement.{statement}
 use Rattle.carrying.proofs.plan_factor.Tie as tie
 

@@ -1,9 +1,6 @@
-use mathlib.Core.Path.{sym, ap, _∙_}
-use mathlib.Core.Bool.{Bool, not}
-use mathlib.Core.List.{[], _∷_}
+use Rattle.width.proofs.Kit.{sym, ap, _∙_, Bool, not, [], _∷_, needs}
 use Rattle.machine.specs.declared.Answer.the-variants.{IllegalType}
 use Rattle.machine.specs.Answers.{verdict, _otherwise_}
-use borrow.Author.Needs.{needs}
 use Rattle.carrying.proofs.size_answer.Statement.{statement}
 use Rattle.carrying.proofs.size_answer.Tie as tie
 

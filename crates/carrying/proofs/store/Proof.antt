@@ -1,12 +1,10 @@
-use mathlib.Core.Path.{ap, ap₂, _∙_}
-use Prim.Native.Nat.{ℕ, _*_}
+use Rattle.width.proofs.Kit.{ap, ap₂, _∙_, ℕ, _*_, needs}
 use Rattle.machine.specs.declared.Form.the-variants.{Plain}
 use Rattle.machine.specs.declared.Matrix.the-variants.{MatrixC}
 use Rattle.machine.specs.Operation.{Operation}
 use Rattle.ranges.specs.Ranges.{sealsIn}
 use Rattle.run.specs.Encoding.{addressIn}
 use Rattle.carrying.proofs.CarriedLaws.{stores-for, c-carried}
-use borrow.Author.Needs.{needs}
 use Rattle.carrying.proofs.store.Statement.{statement}
 use Rattle.carrying.proofs.store.Tie as tie
 

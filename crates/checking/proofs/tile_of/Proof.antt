@@ -1,11 +1,8 @@
-use mathlib.Core.Path.{sym, ap}
-use Prim.Native.Nat.{_*_, _/_, _<_, _≤_}
-use native.Mathlib.Omega.{arith}
+use Rattle.width.proofs.Kit.{sym, ap, _*_, _/_, _<_, _≤_, arith, needs}
 use Rattle.width.specs.Bounds.{mostPitch, mostSize}
 use Rattle.machine.specs.declared.Matrix.{Matrix}
 use Rattle.checking.specs.Parts.{placedAs}
 use Rattle.checking.proofs.CheckLaws.{sizes-bounded, in-file}
-use borrow.Author.Needs.{needs}
 use Rattle.checking.proofs.tile_of.Statement.{statement}
 use Rattle.checking.proofs.tile_of.Tie as tie
 

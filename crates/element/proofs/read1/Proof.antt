@@ -1,7 +1,5 @@
 -- One byte.
-use native.Mathlib.Omega.{arith}
-use native.Mathlib.Nat.{add-zero}
-use borrow.Author.Needs.{needs}
+use Rattle.width.proofs.Kit.{add-zero, arith, needs}
 use Rattle.element.proofs.read1.Statement.{statement}
 use Rattle.element.proofs.read1.Tie as tie
 

@@ -1,7 +1,5 @@
 -- Four bytes, low byte first.
-use native.Mathlib.Omega.{arith}
-use native.Mathlib.Nat.{add-zero}
-use borrow.Author.Needs.{needs}
+use Rattle.width.proofs.Kit.{add-zero, arith, needs}
 use Rattle.element.proofs.read4.Statement.{statement}
 use Rattle.element.proofs.read4.Tie as tie
 

@@ -1,6 +1,4 @@
-use native.Mathlib.Omega.{arith}
-use native.Mathlib.Nat.{add-zero}
-use borrow.Author.Needs.{needs}
+use Rattle.width.proofs.Kit.{add-zero, arith, needs}
 use Rattle.element.proofs.read8.Statement.{statement}
 use Rattle.element.proofs.read8.Tie as tie
 

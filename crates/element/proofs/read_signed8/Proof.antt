@@ -1,8 +1,5 @@
 -- A byte is its own residue.
-use mathlib.Core.Path.{sym, ap, _∙_}
-use Prim.Native.Nat.{ℕ}
-use native.Mathlib.Omega.{arith}
-use borrow.Author.Needs.{needs}
+use Rattle.width.proofs.Kit.{sym, ap, _∙_, ℕ, arith, needs}
 use Rattle.width.specs.Reduce.{signed, reduce}
 use Rattle.width.proofs.ReduceLaws.{reduce-signed}
 use Rattle.element.proofs.read_signed8.Statement.{statement}

@@ -1,8 +1,5 @@
 -- The wrapping product at 64 bits, by halves.
-use mathlib.Core.Path.{_≡_, _∙_}
-use Prim.Native.Nat.{ℕ, _/_, _<_}
-use native.Mathlib.Omega.{arith}
-use borrow.Author.Needs.{needs}
+use Rattle.width.proofs.Kit.{_≡_, _∙_, ℕ, _/_, _<_, arith, needs}
 use Rattle.width.proofs.ReduceLaws.{wrapping-mul}
 use Rattle.width.proofs.ElementLaws.{mul-below}
 use Rattle.element.proofs.Laws.{by-halves}

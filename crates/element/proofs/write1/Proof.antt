@@ -1,7 +1,5 @@
 -- The byte stored.
-use native.Mathlib.Omega.{arith}
-use Prim.Native.Nat.{_^_, _<_}
-use borrow.Author.Needs.{needs}
+use Rattle.width.proofs.Kit.{_^_, _<_, arith, needs}
 use Rattle.width.proofs.WordLaws.{put-bytes}
 use Rattle.element.proofs.write1.Statement.{statement}
 use Rattle.element.proofs.write1.Tie as tie

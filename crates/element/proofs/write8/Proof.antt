@@ -1,7 +1,4 @@
-use mathlib.Core.Path.{refl}
-use native.Mathlib.Omega.{arith}
-use lib.ListN.{length-set}
-use borrow.Author.Needs.{needs}
+use Rattle.width.proofs.Kit.{refl, arith, length-set, needs}
 use Rattle.width.proofs.WordLaws.{put-bytes}
 use Rattle.element.proofs.write8.Statement.{statement}
 use Rattle.element.proofs.write8.Tie as tie

@@ -1,11 +1,7 @@
-use native.Mathlib.Omega.{arith}
-use mathlib.Core.Path.{ap, _∙_}
-use Prim.Native.Nat.{_+_, _-_, _≤_}
-use lib.ListN.{length}
+use Rattle.width.proofs.Kit.{ap, _∙_, _+_, _-_, _≤_, arith, length, needs}
 use Rattle.width.specs.Binary32.{valueOf}
 use Rattle.width.specs.Bounds.{mostFloats}
 use Rattle.floats.proofs.RowLaws.{Summed, sum-none, sum-next, sum-all}
-use borrow.Author.Needs.{needs}
 use Rattle.floats.proofs.add_products.Statement.{statement}
 use Rattle.floats.proofs.add_products.Tie as tie
 

@@ -1,8 +1,6 @@
-use native.Mathlib.Omega.{arith}
-use Prim.Native.Nat.{_-_}
+use Rattle.width.proofs.Kit.{_-_, arith, needs}
 use Rattle.width.specs.Bounds.{mostFloats}
 use Rattle.floats.proofs.RowLaws.{Added, add-none, add-next}
-use borrow.Author.Needs.{needs}
 use Rattle.floats.proofs.mac_row.Statement.{statement}
 use Rattle.floats.proofs.mac_row.Tie as tie
 

@@ -1,5 +1,5 @@
 use Rattle.floats.proofs.RowLaws.{row-of-floats}
-use borrow.Author.Needs.{needs}
+use Rattle.width.proofs.Kit.{needs}
 use Rattle.floats.proofs.multiply_row.Statement.{statement}
 use Rattle.floats.proofs.multiply_row.Tie as tie
 

@@ -1,11 +1,7 @@
 -- The three tiles lie one after another in the registers.
-use native.Mathlib.Omega.{arith}
-use mathlib.Core.Path.{refl}
-use mathlib.Core.Logic.{inl, inr}
-use lib.ListN.{length}
+use Rattle.width.proofs.Kit.{refl, inl, inr, arith, length, needs}
 use Rattle.arithmetic.proofs.RoomLaws.{Room, room}
 use Rattle.floats.specs.Rows.{floatTile}
-use borrow.Author.Needs.{needs}
 use Rattle.floats.proofs.multiply_tile.Statement.{statement}
 use Rattle.floats.proofs.multiply_tile.Tie as tie
 

@@ -1,10 +1,7 @@
-use native.Mathlib.Omega.{arith}
-use Prim.Native.Nat.{_+_, _-_, _≤_}
-use lib.ListN.{length, getD}
+use Rattle.width.proofs.Kit.{_+_, _-_, _≤_, arith, length, getD, needs}
 use lib.Ieee.{nan}
 use Rattle.width.specs.Binary32.{settled}
 use Rattle.sums.proofs.KernelLaws.{inside, Stored, store-none, store-next, store-all}
-use borrow.Author.Needs.{needs}
 use Rattle.floats.proofs.store_row.Statement.{statement}
 use Rattle.floats.proofs.store_row.Tie as tie
 

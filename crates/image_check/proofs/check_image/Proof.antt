@@ -1,10 +1,8 @@
 -- `image_check::check_image` meets its contract.
-use mathlib.Core.Path.{ap, _∙_}
-use lib.ListN.{length}
+use Rattle.width.proofs.Kit.{ap, _∙_, length, needs}
 use Rattle.image_check.specs.declared.scan.Scanned.{Scanned}
 use Rattle.image_check.specs.Parts.{verdictIn}
 use Rattle.image_check.proofs.CheckLaws.{verdict-is}
-use borrow.Author.Needs.{needs}
 use Rattle.image_check.proofs.check_image.Statement.{statement}
 use Rattle.image_check.proofs.check_image.Tie as tie
 

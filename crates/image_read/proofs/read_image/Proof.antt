@@ -1,7 +1,5 @@
-use mathlib.Core.Path.{refl, sym, _∙_}
-use mathlib.Core.Bool.{true, false}
+use Rattle.width.proofs.Kit.{refl, sym, _∙_, true, false, needs}
 use Rattle.image_read.proofs.BlockLaws.{block-short, block-read}
-use borrow.Author.Needs.{needs}
 use Rattle.image_read.proofs.read_image.Statement.{statement}
 use Rattle.image_read.proofs.read_image.Tie as tie
 

@@ -1,10 +1,5 @@
 -- `image_read::read_runs` meets its contract.
-use mathlib.Core.Path.{_≡_, refl, sym, ap, _∙_, subst}
-use mathlib.Core.Bool.{true, false}
-use Prim.Native.Nat.{ℕ, _*_, _^_, _<_}
-use native.Mathlib.Omega.{arith}
-use borrow.Author.Tests.{not-true, not-false}
-use lib.ListN.{length, getD}
+use Rattle.width.proofs.Kit.{_≡_, refl, sym, ap, _∙_, subst, true, false, ℕ, _*_, _^_, _<_, arith, length, getD, not-true, not-false, needs}
 use Rattle.machine.specs.declared.Machine.{Machine}
 use Rattle.image.specs.declared.Imaged.the-variants.{Done}
 use Rattle.image.specs.Reading.{restored}
@@ -12,7 +7,6 @@ use Rattle.image_check.specs.Parts.{rangesFound, machineOf, runsVerdict, imageD
 use Rattle.image_check.proofs.HeadLaws.{HeadedOk, head-sizes}
 use Rattle.image_check.proofs.CheckLaws.{scan-ok, scan-verdict, scan-headed, scan-verdict-runs, done-headed}
 use Rattle.image_read.proofs.ReadLaws.{none-stand, they-stand, found-none, bytes-all, read-refused, runs-done, read-unfit-is, read-done-is}
-use borrow.Author.Needs.{needs}
 use Rattle.image_read.proofs.read_runs.Statement.{statement}
 use Rattle.image_read.proofs.read_runs.Tie as tie
 

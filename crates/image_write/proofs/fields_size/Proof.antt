@@ -1,10 +1,5 @@
 -- `image_write::fields_size` meets its contract.
-use mathlib.Core.Path.{ap, _∙_}
-use mathlib.Core.List.{List, []}
-use Prim.Native.Nat.{ℕ}
-use borrow.Author.Needs.{needs}
-use native.Mathlib.Omega.{arith}
-use lib.ListN.{length}
+use Rattle.width.proofs.Kit.{ap, _∙_, List, [], ℕ, arith, length, needs}
 use Rattle.format.specs.Numbers.{encodeAll}
 use Rattle.image_write.proofs.fields_size.Statement.{statement}
 use Rattle.image_write.proofs.fields_size.Tie as tie

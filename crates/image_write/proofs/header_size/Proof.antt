@@ -1,7 +1,6 @@
-use native.Mathlib.Omega.{arith}
+use Rattle.width.proofs.Kit.{arith, needs}
 use Rattle.ranges.specs.Ranges.{sealsIn}
 use Rattle.image_write.proofs.SealLaws.{header-long}
-use borrow.Author.Needs.{needs}
 use Rattle.image_write.proofs.header_size.Statement.{statement}
 use Rattle.image_write.proofs.header_size.Tie as tie
 

@@ -1,8 +1,5 @@
 -- `image_write::image_size` meets its contract.
-use mathlib.Core.Path.{_≡_, sym, _∙_}
-use mathlib.Core.Bool.{true, false}
-use borrow.Author.Needs.{needs}
-use borrow.Author.Tests.{not-true, not-false}
+use Rattle.width.proofs.Kit.{_≡_, sym, _∙_, true, false, not-true, not-false, needs}
 use Rattle.ranges.specs.Ranges.{sealsIn}
 use Rattle.image.specs.Images.{soundWith}
 use Rattle.image_write.proofs.WriteLaws.{size-refused, size-done}

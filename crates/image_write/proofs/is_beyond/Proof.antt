@@ -1,12 +1,6 @@
-use mathlib.Core.Path.{refl, sym, ap, _∙_}
-use mathlib.Core.Bool.{true, false}
-use Prim.Native.Nat.{ℕ}
-use native.Mathlib.Omega.{arith}
-use lib.Dec.{ltb}
-use borrow.Author.Tests.{eq-eqb, ne-eqb, lt-ltb, le-ltb}
+use Rattle.width.proofs.Kit.{refl, sym, ap, _∙_, true, false, ℕ, arith, ltb, eq-eqb, ne-eqb, lt-ltb, le-ltb, needs}
 use Rattle.image.specs.Images.{exponent}
 use Rattle.image_write.proofs.PutLaws.{beyond-by}
-use borrow.Author.Needs.{needs}
 use Rattle.image_write.proofs.is_beyond.Statement.{statement}
 use Rattle.image_write.proofs.is_beyond.Tie as tie
 

@@ -1,11 +1,5 @@
 -- `image_write::put_fields` meets its contract.
-use mathlib.Core.Path.{ap, _∙_}
-use mathlib.Core.List.{List, []}
-use Prim.Native.Nat.{ℕ}
-use native.Mathlib.Omega.{arith}
-use borrow.Author.Needs.{needs}
-use lib.ListN.{length}
-use lib.Seq.{sets}
+use Rattle.width.proofs.Kit.{ap, _∙_, List, [], ℕ, arith, length, sets, needs}
 use Rattle.format.specs.Numbers.{encodeAll}
 use Rattle.image_write.proofs.put_fields.Statement.{statement}
 use Rattle.image_write.proofs.put_fields.Tie as tie

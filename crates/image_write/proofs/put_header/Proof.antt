@@ -1,10 +1,5 @@
 -- `image_write::put_header` meets its contract.
-use mathlib.Core.Path.{_≡_, sym, ap, _∙_}
-use mathlib.Core.List.{List, [], _∷_, _++_}
-use Prim.Native.Nat.{ℕ}
-use native.Mathlib.Omega.{arith}
-use borrow.Author.Needs.{needs}
-use lib.Seq.{sets}
+use Rattle.width.proofs.Kit.{_≡_, sym, ap, _∙_, List, [], _∷_, _++_, ℕ, arith, sets, needs}
 use Rattle.format.specs.Numbers.{encode, encodeAll}
 use Rattle.ranges.specs.Ranges.{sealsIn}
 use Rattle.image.specs.Images.{sealFields, headerOf}

@@ -1,11 +1,5 @@
 -- `image_write::put_image` meets its contract.
-use mathlib.Core.Path.{_≡_}
-use mathlib.Core.Bool.{true}
-use mathlib.Core.List.{[], _∷_, _++_}
-use Prim.Native.Nat.{_+_, _≤_}
-use native.Mathlib.Omega.{arith}
-use borrow.Author.Needs.{needs}
-use lib.ListN.{length}
+use Rattle.width.proofs.Kit.{_≡_, true, [], _∷_, _++_, _+_, _≤_, arith, length, needs}
 use Rattle.format.specs.Numbers.{encodeAll}
 use Rattle.machine.specs.Faults.{sealsFit}
 use Rattle.ranges.specs.Ranges.{sealsIn}

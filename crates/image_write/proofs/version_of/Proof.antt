@@ -1,12 +1,8 @@
-use mathlib.Core.Path.{_≡_, sym, _∙_}
-use Prim.Native.Nat.{ℕ}
-use native.Mathlib.Omega.{arith}
-use lib.ListN.{length}
+use Rattle.width.proofs.Kit.{_≡_, sym, _∙_, ℕ, arith, length, needs}
 use Rattle.ranges.specs.Ranges.{sealsIn}
 use Rattle.image.specs.Images.{headerOf}
 use Rattle.image_write.proofs.PutLaws.{version-four, version-three, version-two, version-one}
 use Rattle.image_write.proofs.SealLaws.{seals-many}
-use borrow.Author.Needs.{needs}
 use Rattle.image_write.proofs.version_of.Statement.{statement}
 use Rattle.image_write.proofs.version_of.Tie as tie
 

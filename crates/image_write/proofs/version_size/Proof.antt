@@ -1,10 +1,5 @@
-use mathlib.Core.Path.{_≡_, sym, ap, _∙_}
-use mathlib.Core.List.{List, []}
-use Prim.Native.Nat.{ℕ}
-use native.Mathlib.Omega.{arith}
-use lib.ListN.{length, take, length-take}
+use Rattle.width.proofs.Kit.{_≡_, sym, ap, _∙_, List, [], ℕ, arith, length, take, length-take, needs}
 use Rattle.format.specs.Numbers.{encodeAll}
-use borrow.Author.Needs.{needs}
 use Rattle.image_write.proofs.version_size.Statement.{statement}
 use Rattle.image_write.proofs.version_size.Tie as tie
 

@@ -1,9 +1,5 @@
 -- `image_write::write_image` meets its contract.
-use mathlib.Core.Path.{_≡_, sym, _∙_}
-use mathlib.Core.Bool.{true, false}
-use native.Mathlib.Omega.{arith}
-use borrow.Author.Needs.{needs}
-use borrow.Author.Tests.{not-true, not-false}
+use Rattle.width.proofs.Kit.{_≡_, sym, _∙_, true, false, arith, not-true, not-false, needs}
 use Rattle.ranges.specs.Ranges.{sealsIn}
 use Rattle.image.specs.Images.{soundWith}
 use Rattle.image_write.proofs.WriteLaws.{write-refused, write-short, write-done}

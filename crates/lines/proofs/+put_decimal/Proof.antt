@@ -1,6 +1,4 @@
-use Prim.Native.Nat.{ℕ, _<_}
-use mathlib.Core.Path.{sym, _∙_}
-use native.Mathlib.Omega.{arith}
+use Rattle.width.proofs.Kit.{sym, _∙_, ℕ, _<_, arith}
 use borrow.Fn.Kinds.{In}
 use borrow.Fn.PlainCycle.{Measures, is, falls, and}
 use Rattle.lines.proofs.WriteLaws.{decimal-one, decimal-more, length-one, length-more, wrote-more, wrote-as}

@@ -1,8 +1,4 @@
-use Prim.Native.Nat.{_+_}
-use mathlib.Core.Path.{sym}
-use native.Mathlib.Omega.{arith}
-use borrow.Author.Tests.{le-leb}
-use borrow.Author.Needs.{needs}
+use Rattle.width.proofs.Kit.{sym, _+_, arith, le-leb, needs}
 use Rattle.lines.proofs.WriteLaws.{minus-test}
 use Rattle.lines.proofs.is_minus.Statement.{statement}
 use Rattle.lines.proofs.is_minus.Tie as tie

@@ -1,8 +1,4 @@
-use Prim.Native.Nat.{ℕ}
-use mathlib.Core.List.{List, [], _∷_, _++_}
-use native.Mathlib.Nat.{zero-add}
-use native.Mathlib.Omega.{arith}
-use borrow.Author.Needs.{needs}
+use Rattle.width.proofs.Kit.{List, [], _∷_, _++_, ℕ, zero-add, arith, needs}
 use Rattle.lines.specs.Lines.{decimal, stepsWord, firstLine}
 use Rattle.lines.proofs.WriteLaws.{Ahead, ahead-start, ahead-step, ahead-end, ahead-room}
 use Rattle.lines.proofs.put_first.Statement.{statement}

@@ -1,9 +1,4 @@
-use Prim.Native.Nat.{ℕ, _+_, _-_, _*_, _≤_}
-use mathlib.Core.Path.{_≡_}
-use mathlib.Core.List.{List, [], _∷_, _++_}
-use native.Mathlib.Omega.{arith}
-use native.Mathlib.Nat.{sub-zero}
-use lib.ListN.{length, take, drop}
+use Rattle.width.proofs.Kit.{_≡_, List, [], _∷_, _++_, ℕ, _+_, _-_, _*_, _≤_, sub-zero, arith, length, take, drop}
 use Rattle.width.proofs.PutLaws.{row-fits}
 use Rattle.lines.specs.Lines.{spaced, lines}
 use Rattle.lines.specs.Parts.{signedAll, rowsOf}

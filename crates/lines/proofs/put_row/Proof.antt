@@ -1,9 +1,4 @@
-use Prim.Native.Nat.{ℕ, _+_, _-_, _≤_}
-use mathlib.Core.Path.{_≡_, sym, ap, _∙_}
-use mathlib.Core.List.{List, [], _∷_, _++_}
-use native.Mathlib.Omega.{arith}
-use lib.ListN.{length, getD, length-append}
-use borrow.Author.Needs.{needs}
+use Rattle.width.proofs.Kit.{_≡_, sym, ap, _∙_, List, [], _∷_, _++_, ℕ, _+_, _-_, _≤_, arith, length, getD, length-append, needs}
 use Rattle.width.specs.Reduce.{signed}
 use Rattle.lines.specs.Lines.{written, spaced}
 use Rattle.lines.specs.Parts.{signedAll}

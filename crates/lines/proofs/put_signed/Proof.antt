@@ -1,9 +1,4 @@
-use Prim.Native.Nat.{ℕ, suc, _-_}
-use mathlib.Core.Path.{_≡_, sym, ap, _∙_}
-use mathlib.Core.List.{_∷_}
-use native.Mathlib.Omega.{arith}
-use lib.ListN.{length}
-use borrow.Author.Needs.{needs}
+use Rattle.width.proofs.Kit.{_≡_, sym, ap, _∙_, _∷_, ℕ, suc, _-_, arith, length, needs}
 use Rattle.width.specs.Reduce.{signed}
 use Rattle.lines.specs.Lines.{decimal, written}
 use Rattle.lines.proofs.WriteLaws.{wrote-more, wrote-as, minus-text, plus-text}

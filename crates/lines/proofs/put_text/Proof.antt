@@ -1,9 +1,4 @@
-use Prim.Native.Nat.{_+_, _-_, _≤_}
-use mathlib.Core.List.{[], _∷_, _++_}
-use native.Mathlib.Omega.{arith}
-use native.Mathlib.Numerals.{add-one}
-use lib.ListN.{length, drop, getD, drop-of-length-le}
-use lib.Seq.{drop-cons}
+use Rattle.width.proofs.Kit.{[], _∷_, _++_, _+_, _-_, _≤_, arith, add-one, length, drop, getD, drop-of-length-le, drop-cons}
 use Rattle.lines.proofs.WriteLaws.{Ahead, ahead-start, ahead-step, ahead-as, ahead-end, ahead-room}
 use Rattle.lines.proofs.put_text.Statement.{statement}
 use Rattle.lines.proofs.put_text.Tie as tie

@@ -1,7 +1,4 @@
-use mathlib.Core.Path.{refl, sym}
-use Prim.Native.Nat.{_-_}
-use native.Mathlib.Omega.{arith}
-use borrow.Author.Needs.{needs}
+use Rattle.width.proofs.Kit.{refl, sym, _-_, arith, needs}
 use Rattle.lines.proofs.WriteLaws.{wrote-more, wrote-as}
 use Rattle.machine.specs.Listing.{listing}
 use Rattle.line_read.specs.Table.{table}

@@ -1,8 +1,4 @@
-use mathlib.Core.Path.{_≡_, ap}
-use Prim.Native.Nat.{ℕ, _-_, _/_, _%_, _^_}
-use native.Mathlib.Omega.{arith}
-use borrow.Author.Needs.{needs}
-use native.Mathlib.Nat.{one-le-pow}
+use Rattle.width.proofs.Kit.{_≡_, ap, ℕ, _-_, _/_, _%_, _^_, one-le-pow, arith, needs}
 use Rattle.listings.proofs.ListLaws.{ten-digit, letter-digit}
 use Rattle.listings.proofs.hex_digit.Statement.{statement}
 use Rattle.listings.proofs.hex_digit.Tie as tie

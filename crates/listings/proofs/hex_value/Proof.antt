@@ -1,6 +1,4 @@
-use Prim.Native.Nat.{_-_}
-use native.Mathlib.Omega.{arith}
-use borrow.Author.Needs.{needs}
+use Rattle.width.proofs.Kit.{_-_, arith, needs}
 use Rattle.listings.proofs.ListLaws.{hex-low, hex-ten, hex-middle, hex-letter, hex-high}
 use Rattle.listings.proofs.hex_value.Statement.{statement}
 use Rattle.listings.proofs.hex_value.Tie as tie

@@ -1,6 +1,4 @@
-use mathlib.Core.Path.{refl}
-use Prim.Native.Nat.{_-_}
-use native.Mathlib.Omega.{arith}
+use Rattle.width.proofs.Kit.{refl, _-_, arith}
 use Rattle.decode_table.proofs.TableLaws.{above}
 use Rattle.listings.proofs.ListLaws.{power-at}
 use Rattle.listings.proofs.power.Statement.{statement}

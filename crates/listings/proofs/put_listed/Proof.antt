@@ -1,7 +1,4 @@
-use mathlib.Core.Path.{_≡_, sym, ap, _∙_}
-use mathlib.Core.Bool.{true}
-use native.Mathlib.Omega.{arith}
-use lib.ListN.{length}
+use Rattle.width.proofs.Kit.{_≡_, sym, ap, _∙_, true, arith, length, needs}
 use Rattle.lines.proofs.WriteLaws.{wrote-as}
 use Rattle.machine.specs.Listing.{decode}
 use Rattle.assembly.specs.Answers.{codeAnswer}
@@ -10,7 +7,6 @@ use Rattle.assembly.specs.Programs.{listed, refused}
 use Rattle.assembly.specs.Theorems.{hasLine}
 use Rattle.line_write.specs.Parts.{lineText}
 use Rattle.listings.proofs.ListLaws.{listed-line, listed-none}
-use borrow.Author.Needs.{needs}
 use Rattle.listings.proofs.put_listed.Statement.{statement}
 use Rattle.listings.proofs.put_listed.Tie as tie
 

@@ -1,13 +1,8 @@
-use mathlib.Core.Path.{_≡_, sym, ap, ap₂, _∙_}
-use mathlib.Core.List.{List, [], _∷_, _++_}
-use Prim.Native.Nat.{ℕ, _+_, _*_, _-_, _≤_, _<_}
-use native.Mathlib.Omega.{arith}
-use lib.ListN.{length, take, drop}
+use Rattle.width.proofs.Kit.{_≡_, sym, ap, ap₂, _∙_, List, [], _∷_, _++_, ℕ, _+_, _*_, _-_, _≤_, _<_, arith, length, take, drop, length-drop, length-take}
 use Rattle.lines.proofs.WriteLaws.{Ahead, ahead-start, ahead-step, ahead-as, ahead-end}
 use Rattle.assembly.specs.Programs.{replyTo, linesOf, replies}
 use Rattle.line_read.specs.Parts.{feedAt}
 use Rattle.listings.proofs.RoomLaws.{replies-next, room-next, replies-none, line-is, feed-bound}
-use lib.ListN.{length-drop, length-take}
 use Rattle.listings.proofs.put_replies.Statement.{statement}
 use Rattle.listings.proofs.put_replies.Tie as tie
 

@@ -1,9 +1,4 @@
-use mathlib.Core.Path.{_≡_, sym, ap}
-use mathlib.Core.Bool.{Bool}
-use Prim.Native.Nat.{_-_}
-use native.Mathlib.Omega.{arith}
-use lib.ListN.{length}
-use borrow.Author.Needs.{needs}
+use Rattle.width.proofs.Kit.{_≡_, sym, ap, Bool, _-_, arith, length, needs}
 use Rattle.lines.proofs.WriteLaws.{wrote-as}
 use Rattle.assembly.specs.Reading.{readLine}
 use Rattle.assembly.specs.Words.{readWord}

@@ -1,7 +1,4 @@
-use mathlib.Core.Path.{_≡_, sym, ap, _∙_}
-use mathlib.Core.List.{[], _∷_, _++_}
-use Prim.Native.Nat.{ℕ, _+_, _-_, _≤_}
-use native.Mathlib.Omega.{arith}
+use Rattle.width.proofs.Kit.{_≡_, sym, ap, _∙_, [], _∷_, _++_, ℕ, _+_, _-_, _≤_, arith}
 use Rattle.lines.proofs.WriteLaws.{Ahead, ahead-start, ahead-step, ahead-as, ahead-end, ahead-room}
 use Rattle.assembly.specs.Words.{hexDigits, wordText}
 use Rattle.listings.proofs.ListLaws.{digits-next}

@@ -1,8 +1,4 @@
-use mathlib.Core.Path.{_≡_, sym, ap, _∙_}
-use Prim.Native.Nat.{ℕ, _+_, _*_, _-_, _^_, _≤_, _<_}
-use native.Mathlib.Omega.{arith}
-use lib.ListN.{drop}
-use borrow.Author.Needs.{needs}
+use Rattle.width.proofs.Kit.{_≡_, sym, ap, _∙_, ℕ, _+_, _*_, _-_, _^_, _≤_, _<_, arith, drop, needs}
 use Rattle.format.specs.Parser.{later}
 use Rattle.assembly.specs.Lines.{line}
 use Rattle.assembly.specs.Words.{hexFrom, readWord}

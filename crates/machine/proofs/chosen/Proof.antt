@@ -1,7 +1,4 @@
-use mathlib.Core.Path.{sym, _∙_}
-use mathlib.Core.Bool.{true, false}
-use native.Mathlib.Omega.{arith}
-use borrow.Author.Needs.{needs}
+use Rattle.width.proofs.Kit.{sym, _∙_, true, false, arith, needs}
 use Rattle.machine.proofs.SizeLaws.{chosen-by}
 use Rattle.machine.proofs.chosen.Statement.{statement}
 use Rattle.machine.proofs.chosen.Tie as tie

@@ -1,12 +1,5 @@
-use mathlib.Core.Path.{_≡_, refl, sym, ap₂, _∙_, subst}
-use mathlib.Core.Logic.{inl, inr}
-use mathlib.Core.List.{List, [], _∷_}
-use Prim.Native.Nat.{ℕ, zero, suc, _-_, _≤_, _<_}
-use native.Mathlib.Omega.{arith}
-use native.Mathlib.Nat.{eq-or-lt-of-le, not-suc-le-zero}
-use lib.ListN.{length, getD, set, length-set, replicate}
-use lib.Seq.{getD-set-same, getD-set-other}
-use borrow.Author.Needs.{needs}
+use Rattle.width.proofs.Kit.{_≡_, refl, sym, ap₂, _∙_, subst, inl, inr, List, [], _∷_, ℕ, zero, suc, _-_, _≤_, _<_, eq-or-lt-of-le, not-suc-le-zero, arith}
+use Rattle.width.proofs.Kit.{length, getD, set, length-set, replicate, getD-set-same, getD-set-other, needs}
 use Rattle.machine.proofs.clear.Statement.{statement}
 use Rattle.machine.proofs.clear.Tie as tie
 

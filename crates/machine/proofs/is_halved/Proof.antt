@@ -1,7 +1,4 @@
-use Prim.Native.Nat.{_<_}
-use native.Mathlib.Omega.{arith}
-use borrow.Author.Needs.{needs}
-use borrow.Author.Tests.{eq-eqb, ne-eqb, le-ltb, lt-ltb}
+use Rattle.width.proofs.Kit.{_<_, arith, eq-eqb, ne-eqb, le-ltb, lt-ltb, needs}
 use Rattle.machine.proofs.SizeLaws.{below-twice}
 use Rattle.machine.proofs.is_halved.Statement.{statement}
 use Rattle.machine.proofs.is_halved.Tie as tie

@@ -1,10 +1,4 @@
-use mathlib.Core.Path.{_≡_, refl, sym, _∙_}
-use mathlib.Core.Bool.{true, false}
-use Prim.Native.Nat.{_*_, _%_}
-use native.Mathlib.Omega.{arith}
-use lib.ListN.{length}
-use borrow.Author.Needs.{needs}
-use borrow.Author.Tests.{not-true, not-false, eq-eqb, ne-eqb}
+use Rattle.width.proofs.Kit.{_≡_, refl, sym, _∙_, true, false, _*_, _%_, arith, length, not-true, not-false, eq-eqb, ne-eqb, needs}
 use Rattle.machine.specs.Geometry.{permitted}
 use Rattle.machine.specs.Starting.{sealsEnd, ranges}
 use Rattle.machine.proofs.StartLaws.{startable-by, and-truth}

@@ -1,9 +1,4 @@
-use mathlib.Core.Path.{_≡_, refl, sym, _∙_}
-use mathlib.Core.Bool.{true, false}
-use Prim.Native.Nat.{_<_}
-use native.Mathlib.Omega.{arith}
-use borrow.Author.Needs.{needs}
-use borrow.Author.Tests.{not-true, not-false, lt-ltb, le-ltb}
+use Rattle.width.proofs.Kit.{_≡_, refl, sym, _∙_, true, false, _<_, arith, not-true, not-false, lt-ltb, le-ltb, needs}
 use Rattle.machine.proofs.StartLaws.{permitted-by}
 use Rattle.machine.specs.Geometry.{rlens, mlens, elens}
 use Rattle.machine.specs.Tests.{isIn}

@@ -1,11 +1,5 @@
-use mathlib.Core.Path.{_≡_, refl, sym, ap, _∙_}
-use mathlib.Core.Bool.{Bool, true, false, _&&_}
-use mathlib.Core.List.{List}
-use Prim.Native.Nat.{ℕ, _+_, _-_, _≤_}
-use native.Mathlib.Omega.{arith}
-use lib.ListN.{length, getD, drop}
-use borrow.Author.Needs.{needs}
-use borrow.Author.Tests.{not-true, not-false}
+use Rattle.width.proofs.Kit.{_≡_, refl, sym, ap, _∙_, Bool, true, false, _&&_, List, ℕ, _+_, _-_, _≤_, arith, length, getD, drop, not-true, not-false}
+use Rattle.width.proofs.Kit.{needs}
 use Rattle.machine.specs.Geometry.{Range}
 use Rattle.machine.specs.Starting.{sealEnds, sealsEnd, ranges}
 use Rattle.machine.proofs.StartLaws.{ranges-from, ranges-end}

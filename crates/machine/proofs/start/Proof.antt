@@ -1,10 +1,4 @@
-use mathlib.Core.Path.{sym, ap, ap₂, _∙_}
-use mathlib.Core.Bool.{true, false}
-use mathlib.Core.List.{List}
-use Prim.Native.Nat.{ℕ}
-use native.Mathlib.Omega.{arith}
-use borrow.Author.Needs.{needs}
-use borrow.Author.Tests.{not-true, not-false}
+use Rattle.width.proofs.Kit.{sym, ap, ap₂, _∙_, true, false, List, ℕ, arith, not-true, not-false, needs}
 use Rattle.machine.specs.declared.Machine.{Machine}
 use Rattle.machine.specs.declared.Answer.the-variants.{Done, BadArguments, TooManySeals}
 use Rattle.machine.specs.Starting.{startedAs}

@@ -1,10 +1,4 @@
-use mathlib.Core.Path.{_≡_, sym, ap, ap₂, _∙_}
-use mathlib.Core.Bool.{true, false}
-use mathlib.Core.List.{[]}
-use Prim.Native.Nat.{ℕ, _+_, _*_}
-use lib.Dec.{leb}
-use borrow.Author.Needs.{needs}
-use borrow.Author.Tests.{not-true, not-false}
+use Rattle.width.proofs.Kit.{_≡_, sym, ap, ap₂, _∙_, true, false, [], ℕ, _+_, _*_, leb, not-true, not-false, needs}
 use Rattle.machine.specs.declared.Dimension.the-variants.{DimensionM, DimensionN}
 use Rattle.machine.specs.Geometry.{stateOf}
 use Rattle.machine.specs.Vectors.{vectorBytes}

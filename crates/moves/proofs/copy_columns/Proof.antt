@@ -1,9 +1,4 @@
-use mathlib.Core.Path.{_≡_, refl, ap, _∙_}
-use Prim.Native.Nat.{ℕ, zero, _+_, _*_, _-_, _≤_, _<_}
-use native.Mathlib.Nat.{zero-mul}
-use native.Mathlib.Omega.{arith}
-use borrow.Author.Needs.{needs}
-use lib.ListN.{length}
+use Rattle.width.proofs.Kit.{_≡_, refl, ap, _∙_, ℕ, zero, _+_, _*_, _-_, _≤_, _<_, zero-mul, arith, length, needs}
 use Rattle.width.specs.Tile.{getLe, putTile}
 use Rattle.width.proofs.TileLaws.{length-putTile}
 use Rattle.width.proofs.PutLaws.{row-fits, putTile-none, putTile-next}

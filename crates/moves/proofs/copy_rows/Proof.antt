@@ -1,8 +1,4 @@
-use mathlib.Core.Path.{_≡_, refl, ap, _∙_}
-use Prim.Native.Nat.{ℕ, _+_, _*_, _-_, _≤_, _<_}
-use native.Mathlib.Omega.{arith}
-use borrow.Author.Needs.{needs}
-use lib.ListN.{length, getD, length-take, length-drop}
+use Rattle.width.proofs.Kit.{_≡_, refl, ap, _∙_, ℕ, _+_, _*_, _-_, _≤_, _<_, arith, length, getD, length-take, length-drop, needs}
 use Rattle.width.specs.Tile.{putTile}
 use Rattle.width.proofs.TileLaws.{length-putTile}
 use Rattle.width.proofs.PutLaws.{copied-back, putTile-next}

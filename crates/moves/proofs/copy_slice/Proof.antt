@@ -1,7 +1,4 @@
-use mathlib.Core.Path.{_≡_, subst}
-use Prim.Native.Nat.{_*_}
-use lib.ListN.{length}
-use borrow.Author.Needs.{needs}
+use Rattle.width.proofs.Kit.{_≡_, subst, _*_, length, needs}
 use Rattle.machine.specs.declared.Form.{Form}
 use Rattle.machine.specs.Operation.{memoryRows, memoryCols}
 use Rattle.tile.specs.Checks.{RowsIn}

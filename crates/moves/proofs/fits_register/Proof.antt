@@ -1,9 +1,4 @@
-use mathlib.Core.Path.{sym}
-use Prim.Native.Nat.{_*_, _≤_}
-use native.Mathlib.Nat.{mul-le-mul}
-use native.Mathlib.Omega.{arith}
-use borrow.Author.Needs.{needs}
-use borrow.Author.Tests.{lt-leb}
+use Rattle.width.proofs.Kit.{sym, _*_, _≤_, mul-le-mul, arith, lt-leb, needs}
 use Rattle.moves.proofs.fits_register.Statement.{statement}
 use Rattle.moves.proofs.fits_register.Tie as tie
 

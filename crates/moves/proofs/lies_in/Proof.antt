@@ -1,8 +1,4 @@
-use mathlib.Core.Path.{sym}
-use Prim.Native.Nat.{_+_, _-_}
-use native.Mathlib.Omega.{arith}
-use lib.Dec.{leb}
-use borrow.Author.Tests.{le-leb, lt-leb, leb-true}
+use Rattle.width.proofs.Kit.{sym, _+_, _-_, arith, leb, le-leb, lt-leb, leb-true}
 use Rattle.machine.proofs.TestLaws.{same-test}
 use Rattle.moves.proofs.lies_in.Statement.{statement}
 use Rattle.moves.proofs.lies_in.Tie as tie

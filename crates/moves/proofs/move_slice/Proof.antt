@@ -1,7 +1,4 @@
-use Prim.Native.Nat.{_%_}
-use native.Mathlib.Omega.{arith}
-use borrow.Author.Needs.{needs}
-use borrow.Author.Tests.{eq-eqb, ne-eqb}
+use Rattle.width.proofs.Kit.{_%_, arith, eq-eqb, ne-eqb, needs}
 use Rattle.machine.specs.Vectors.{Vectors, vectorsOf}
 use Rattle.slices.proofs.GroupLaws.{file-length, group-positive, group-fits}
 use Rattle.moves.proofs.MoveLaws.{misaligned, moved-in, moved-out}

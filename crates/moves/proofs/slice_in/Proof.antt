@@ -1,11 +1,4 @@
-use mathlib.Core.Path.{_≡_, refl, sym, ap, _∙_, subst}
-use mathlib.Core.Bool.{true}
-use mathlib.Core.List.{[]}
-use Prim.Native.Nat.{_*_, _^_, _≤_, _<_}
-use native.Mathlib.Omega.{arith}
-use lib.ListN.{length}
-use borrow.Author.Needs.{needs}
-use borrow.Author.Tests.{not-true, not-false}
+use Rattle.width.proofs.Kit.{_≡_, refl, sym, ap, _∙_, subst, true, [], _*_, _^_, _≤_, _<_, arith, length, not-true, not-false, needs}
 use Rattle.machine.specs.Answers.{verdict, isDone}
 use Rattle.machine.specs.Geometry.{stateOf}
 use Rattle.machine.specs.Vectors.{vectorBytes}

@@ -1,7 +1,4 @@
-use mathlib.Core.Path.{_≡_, sym, ap, _∙_, subst}
-use Prim.Native.Nat.{_+_, _*_, _^_, _<_}
-use native.Mathlib.Omega.{arith}
-use borrow.Author.Needs.{needs}
+use Rattle.width.proofs.Kit.{_≡_, sym, ap, _∙_, subst, _+_, _*_, _^_, _<_, arith, needs}
 use Rattle.machine.specs.declared.Form.{Form}
 use Rattle.machine.specs.declared.Form.the-variants.{Plain, Transposed}
 use Rattle.machine.specs.declared.Matrix.the-variants.{MatrixC}

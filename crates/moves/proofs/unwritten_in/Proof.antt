@@ -1,5 +1,4 @@
-use mathlib.Core.Path.{sym, ap}
-use borrow.Author.Needs.{needs}
+use Rattle.width.proofs.Kit.{sym, ap, needs}
 use Rattle.machine.specs.declared.Form.{Form}
 use Rattle.machine.specs.Refusals.{unwrittenIn}
 use Rattle.moves.proofs.unwritten_in.Statement.{statement}

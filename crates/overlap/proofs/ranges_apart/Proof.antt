@@ -1,5 +1,4 @@
-use native.Mathlib.Omega.{arith}
-use borrow.Author.Needs.{needs}
+use Rattle.width.proofs.Kit.{arith, needs}
 use Rattle.overlap.proofs.OverlapLaws.{free-no-bytes, free-no-others, free-below, free-above}
 use Rattle.overlap.proofs.ranges_apart.Statement.{statement}
 use Rattle.overlap.proofs.ranges_apart.Tie as tie

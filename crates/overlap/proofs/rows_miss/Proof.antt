@@ -1,8 +1,4 @@
-use mathlib.Core.Path.{_≡_, ap, subst, _∙_}
-use Prim.Native.Nat.{ℕ, zero, _+_, _*_, _≤_, _<_}
-use native.Mathlib.Omega.{arith}
-use borrow.Author.Needs.{needs}
-use lib.IntN.{natAbs}
+use Rattle.width.proofs.Kit.{_≡_, ap, subst, _∙_, ℕ, zero, _+_, _*_, _≤_, _<_, arith, natAbs, needs}
 use mir.Syntax.{w64}
 use mir.Val.{toZ, ofZ}
 use Rattle.machine.specs.Memory.{rowAt}

@@ -1,5 +1,4 @@
-use native.Mathlib.Omega.{arith}
-use borrow.Author.Needs.{needs}
+use Rattle.width.proofs.Kit.{arith, needs}
 use Rattle.overlap.proofs.OverlapLaws.{steps-passed, steps-next, steps-fit}
 use Rattle.overlap.proofs.steps_past.Statement.{statement}
 use Rattle.overlap.proofs.steps_past.Tie as tie

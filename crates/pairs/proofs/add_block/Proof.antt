@@ -1,15 +1,11 @@
 -- The loop: each sum, with the two pairs that are still to be added, has the first `p` pairs.
-use native.Mathlib.Omega.{arith}
-use mathlib.Core.Path.{_≡_, refl, ap, _∙_}
-use Prim.Native.Nat.{ℕ, _+_, _-_, _*_, _%_, _^_, _≤_, _<_}
-use lib.ListN.{length}
+use Rattle.width.proofs.Kit.{_≡_, refl, ap, _∙_, ℕ, _+_, _-_, _*_, _%_, _^_, _≤_, _<_, arith, length, needs}
 use Rattle.width.specs.Tile.{getLe}
 use Rattle.width.proofs.TileLaws.{le-lt}
 use Rattle.width.proofs.ElementLaws.{putRow-cong}
 use Rattle.pairs.specs.declared.Block.{Block}
 use Rattle.pairs.specs.Pairs.{pairPlaces, lane, pairsRow}
 use Rattle.pairs.proofs.PairLaws.{each-of-four, no-pairs, pair-added}
-use borrow.Author.Needs.{needs}
 use Rattle.pairs.proofs.add_block.Statement.{statement}
 use Rattle.pairs.proofs.add_block.Tie as tie
 

@@ -1,11 +1,8 @@
 -- The loop: the sum has the first `p` pairs.
-use native.Mathlib.Omega.{arith}
-use mathlib.Core.Path.{_≡_, ap, _∙_}
-use Prim.Native.Nat.{ℕ, _+_, _-_, _*_, _≤_}
+use Rattle.width.proofs.Kit.{_≡_, ap, _∙_, ℕ, _+_, _-_, _*_, _≤_, arith, needs}
 use Rattle.width.specs.Tile.{getLe, putLe}
 use Rattle.pairs.specs.Pairs.{pairPlaces, plusPairs}
 use Rattle.pairs.proofs.PairLaws.{no-pairs, pair-added}
-use borrow.Author.Needs.{needs}
 use Rattle.pairs.proofs.add_column.Statement.{statement}
 use Rattle.pairs.proofs.add_column.Tie as tie
 

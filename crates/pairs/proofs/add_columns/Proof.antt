@@ -1,13 +1,9 @@
 -- The loop: the first `j` elements are written, each from what stood there at entry.
-use native.Mathlib.Omega.{arith}
-use mathlib.Core.Path.{_≡_, refl, ap, ap₂, _∙_}
-use Prim.Native.Nat.{ℕ, _+_, _-_, _*_, _%_, _≤_, _<_}
-use lib.ListN.{length}
+use Rattle.width.proofs.Kit.{_≡_, refl, ap, ap₂, _∙_, ℕ, _+_, _-_, _*_, _%_, _≤_, _<_, arith, length, needs}
 use Rattle.width.specs.Tile.{getLe, putRow}
 use Rattle.width.proofs.ElementLaws.{putRow-next}
 use Rattle.pairs.specs.Pairs.{plusPairs, pairsRow}
 use Rattle.pairs.proofs.PairLaws.{after-row}
-use borrow.Author.Needs.{needs}
 use Rattle.pairs.proofs.add_columns.Statement.{statement}
 use Rattle.pairs.proofs.add_columns.Tie as tie
 

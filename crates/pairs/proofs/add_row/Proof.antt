@@ -1,12 +1,8 @@
 -- The loop: the first `j` elements of the row are written, each from what stood there at entry.
-use native.Mathlib.Omega.{arith}
-use mathlib.Core.Path.{_≡_, refl, ap, _∙_}
-use Prim.Native.Nat.{ℕ, _+_, _-_, _*_, _%_, _≤_}
-use lib.ListN.{length}
+use Rattle.width.proofs.Kit.{_≡_, refl, ap, _∙_, ℕ, _+_, _-_, _*_, _%_, _≤_, arith, length, needs}
 use Rattle.width.specs.Tile.{putRow}
 use Rattle.pairs.specs.Pairs.{pairsRow}
 use Rattle.pairs.proofs.PairLaws.{columns-more}
-use borrow.Author.Needs.{needs}
 use Rattle.pairs.proofs.add_row.Statement.{statement}
 use Rattle.pairs.proofs.add_row.Tie as tie
 

@@ -1,13 +1,8 @@
 -- The loop: the first `j` elements of both rows.
-use native.Mathlib.Omega.{arith}
-use mathlib.Core.Path.{_≡_, refl, ap, _∙_}
-use Prim.Native.Nat.{ℕ, _+_, _-_, _*_, _≤_, _<_}
-use native.Mathlib.Nat.{zero-mul}
-use lib.ListN.{length, getD, length-set}
+use Rattle.width.proofs.Kit.{_≡_, refl, ap, _∙_, ℕ, _+_, _-_, _*_, _≤_, _<_, zero-mul, arith, length, getD, length-set, needs}
 use Rattle.width.proofs.PutLaws.{row-fits, next-row}
 use Rattle.pairs.specs.Pairs.{half}
 use Rattle.pairs.proofs.PairLaws.{pair-more, pair-keep}
-use borrow.Author.Needs.{needs}
 use Rattle.pairs.proofs.interleave.Statement.{statement}
 use Rattle.pairs.proofs.interleave.Tie as tie
 

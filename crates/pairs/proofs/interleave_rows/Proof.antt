@@ -1,14 +1,9 @@
 -- The loop: the first `l` rows, an even number.
-use native.Mathlib.Omega.{arith}
-use mathlib.Core.Path.{_≡_, refl, ap, _∙_}
-use Prim.Native.Nat.{ℕ, _+_, _-_, _*_, _%_, _≤_, _<_}
-use native.Mathlib.Nat.{zero-mul}
-use lib.ListN.{length, getD}
+use Rattle.width.proofs.Kit.{_≡_, refl, ap, _∙_, ℕ, _+_, _-_, _*_, _%_, _≤_, _<_, zero-mul, arith, length, getD, needs}
 use Rattle.width.specs.Bounds.{mostColumns}
 use Rattle.width.proofs.PutLaws.{row-fits}
 use Rattle.pairs.specs.Pairs.{half, placeOf}
 use Rattle.pairs.proofs.PairLaws.{row-more, rows-more}
-use borrow.Author.Needs.{needs}
 use Rattle.pairs.proofs.interleave_rows.Statement.{statement}
 use Rattle.pairs.proofs.interleave_rows.Tie as tie
 

@@ -1,11 +1,7 @@
 -- By cases of the width.
-use native.Mathlib.Omega.{arith}
-use mathlib.Core.Path.{refl, sym, ap, _∙_}
-use mathlib.Core.Logic.{inl, inr}
-use Prim.Native.Nat.{ℕ, _+_, _*_}
+use Rattle.width.proofs.Kit.{refl, sym, ap, _∙_, inl, inr, ℕ, _+_, _*_, arith, needs}
 use Rattle.pairs.specs.Pairs.{half}
 use Rattle.element.proofs.Laws.{is2}
-use borrow.Author.Needs.{needs}
 use Rattle.pairs.proofs.interleave_tile.Statement.{statement}
 use Rattle.pairs.proofs.interleave_tile.Tie as tie
 

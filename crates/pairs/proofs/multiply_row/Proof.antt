@@ -1,14 +1,10 @@
 -- The row of A in pairs, then the row of C plus all pairs.
-use native.Mathlib.Omega.{arith}
-use mathlib.Core.Path.{_≡_, refl, _∙_}
-use Prim.Native.Nat.{ℕ, _+_, _*_, _-_, _/_, _<_}
-use lib.ListN.{getD}
+use Rattle.width.proofs.Kit.{_≡_, refl, _∙_, ℕ, _+_, _*_, _-_, _/_, _<_, arith, getD, needs}
 use Rattle.width.specs.Tile.{getLe}
 use Rattle.width.proofs.ElementLaws.{putRow-cong}
 use Rattle.sums.specs.Rows.{productRow}
 use Rattle.pairs.specs.Pairs.{factorPlaces, pairsRow}
 use Rattle.pairs.proofs.PairLaws.{zeros, pairs-product}
-use borrow.Author.Needs.{needs}
 use Rattle.pairs.proofs.multiply_row.Statement.{statement}
 use Rattle.pairs.proofs.multiply_row.Tie as tie
 

@@ -1,6 +1,5 @@
 -- The room for the rows of B fits k, by cases.
-use native.Mathlib.Omega.{arith}
-use borrow.Author.Needs.{needs}
+use Rattle.width.proofs.Kit.{arith, needs}
 use Rattle.pairs.proofs.multiply_rows.Statement.{statement}
 use Rattle.pairs.proofs.multiply_rows.Tie as tie
 

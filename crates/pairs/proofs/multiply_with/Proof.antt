@@ -1,15 +1,10 @@
 -- The loop: the first `i` rows of C are those of the product, and every element is read as at entry.
-use native.Mathlib.Omega.{arith}
-use mathlib.Core.Path.{_≡_, refl, sym, ap, _∙_}
-use Prim.Native.Nat.{ℕ, _+_, _-_, _*_, _^_, _≤_}
-use native.Mathlib.Nat.{zero-mul}
-use lib.ListN.{length}
+use Rattle.width.proofs.Kit.{_≡_, refl, sym, ap, _∙_, ℕ, _+_, _-_, _*_, _^_, _≤_, zero-mul, arith, length, needs}
 use Rattle.width.specs.Tile.{putTile}
 use Rattle.width.specs.Reduce.{signed, reduce}
 use Rattle.width.proofs.PutLaws.{row-fits, next-row}
 use Rattle.sums.specs.Rows.{productRow}
 use Rattle.sums.proofs.TurnLaws.{same-b, product-turn}
-use borrow.Author.Needs.{needs}
 use Rattle.pairs.proofs.multiply_with.Statement.{statement}
 use Rattle.pairs.proofs.multiply_with.Tie as tie
 

@@ -1,8 +1,7 @@
 -- Two wrapping products, added.
-use native.Mathlib.Omega.{arith}
+use Rattle.width.proofs.Kit.{arith, needs}
 use Rattle.width.specs.Reduce.{signed}
 use Rattle.width.proofs.SumLaws.{pair-is}
-use borrow.Author.Needs.{needs}
 use Rattle.pairs.proofs.pair_of.Statement.{statement}
 use Rattle.pairs.proofs.pair_of.Tie as tie
 

@@ -1,11 +1,8 @@
 -- Four pairs.
-use native.Mathlib.Omega.{arith}
-use mathlib.Core.Path.{_≡_, ap₂, _∙_}
-use Prim.Native.Nat.{ℕ, _+_, _*_}
+use Rattle.width.proofs.Kit.{_≡_, ap₂, _∙_, ℕ, _+_, _*_, arith, needs}
 use Rattle.width.specs.Reduce.{reduce}
 use Rattle.pairs.specs.Pairs.{pair, lane}
 use Rattle.pairs.proofs.PairLaws.{each-of-four}
-use borrow.Author.Needs.{needs}
 use Rattle.pairs.proofs.pairs_at.Statement.{statement}
 use Rattle.pairs.proofs.pairs_at.Tie as tie
 

@@ -1,9 +1,7 @@
 -- Four wrapping adds.
-use mathlib.Core.Path.{_≡_}
-use Prim.Native.Nat.{_+_, _%_}
+use Rattle.width.proofs.Kit.{_≡_, _+_, _%_, needs}
 use Rattle.pairs.specs.Pairs.{lane}
 use Rattle.pairs.proofs.PairLaws.{each-of-four}
-use borrow.Author.Needs.{needs}
 use Rattle.pairs.proofs.plus.Statement.{statement}
 use Rattle.pairs.proofs.plus.Tie as tie
 

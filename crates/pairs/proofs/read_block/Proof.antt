@@ -1,11 +1,8 @@
 -- Four elements, read one after another.
-use native.Mathlib.Omega.{arith}
-use mathlib.Core.Path.{_≡_, ap, _∙_}
-use Prim.Native.Nat.{ℕ, _+_, _*_}
+use Rattle.width.proofs.Kit.{_≡_, ap, _∙_, ℕ, _+_, _*_, arith, needs}
 use Rattle.width.specs.Tile.{getLe}
 use Rattle.pairs.specs.Pairs.{lane}
 use Rattle.pairs.proofs.PairLaws.{each-of-four}
-use borrow.Author.Needs.{needs}
 use Rattle.pairs.proofs.read_block.Statement.{statement}
 use Rattle.pairs.proofs.read_block.Tie as tie
 

@@ -1,11 +1,6 @@
 -- The loop: `q` times so far.
-use native.Mathlib.Omega.{arith}
-use mathlib.Core.Path.{_≡_, refl}
-use mathlib.Core.Logic.{_⊎_, ⊎-elim}
-use Prim.Native.Nat.{ℕ, _+_, _-_, _*_, _≤_, _<_}
-use lib.ListN.{length, getD, length-set}
+use Rattle.width.proofs.Kit.{_≡_, refl, _⊎_, ⊎-elim, ℕ, _+_, _-_, _*_, _≤_, _<_, arith, length, getD, length-set, needs}
 use Rattle.pairs.proofs.PairLaws.{pair-more, pair-keep}
-use borrow.Author.Needs.{needs}
 use Rattle.pairs.proofs.repeat4.Statement.{statement}
 use Rattle.pairs.proofs.repeat4.Tie as tie
 

@@ -1,15 +1,8 @@
 -- The loop: the first `l` elements, an even number.
-use native.Mathlib.Omega.{arith}
-use mathlib.Core.Path.{_≡_, refl, ap, _∙_}
-use mathlib.Core.Logic.{inl, inr}
-use Prim.Native.Nat.{ℕ, _+_, _-_, _*_, _%_, _≤_, _<_}
-use native.Mathlib.Nat.{zero-mul}
-use lib.ListN.{length, getD}
-use borrow.Author.Tests.{lt-ltb, le-ltb}
+use Rattle.width.proofs.Kit.{_≡_, refl, ap, _∙_, inl, inr, ℕ, _+_, _-_, _*_, _%_, _≤_, _<_, zero-mul, arith, length, getD, lt-ltb, le-ltb, needs}
 use Rattle.width.proofs.PutLaws.{row-fits, next-row}
 use Rattle.pairs.specs.Pairs.{half, padded}
 use Rattle.pairs.proofs.PairLaws.{repeat-more, repeat-all}
-use borrow.Author.Needs.{needs}
 use Rattle.pairs.proofs.repeat_row.Statement.{statement}
 use Rattle.pairs.proofs.repeat_row.Tie as tie
 

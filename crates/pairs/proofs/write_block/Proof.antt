@@ -1,11 +1,8 @@
 -- Four elements, written one after another.
-use native.Mathlib.Omega.{arith}
-use mathlib.Core.Path.{refl}
-use Prim.Native.Nat.{ℕ, _+_}
+use Rattle.width.proofs.Kit.{refl, ℕ, _+_, arith, needs}
 use Rattle.width.specs.Tile.{putRow}
 use Rattle.width.proofs.ElementLaws.{putRow-next}
 use Rattle.pairs.specs.Pairs.{lane}
-use borrow.Author.Needs.{needs}
 use Rattle.pairs.proofs.write_block.Statement.{statement}
 use Rattle.pairs.proofs.write_block.Tie as tie
 

@@ -1,4 +1,4 @@
-use borrow.Author.Tests.{eq-eqb, ne-eqb}
+use Rattle.width.proofs.Kit.{eq-eqb, ne-eqb}
 use Rattle.plan_numbers.proofs.a_row.Statement.{statement}
 use Rattle.plan_numbers.proofs.a_row.Tie as tie
 

@@ -1,5 +1,4 @@
-use mathlib.Core.Logic.{inl, inr}
-use borrow.Author.Tests.{ne-eqb}
+use Rattle.width.proofs.Kit.{inl, inr, ne-eqb}
 use Rattle.machine.proofs.MatchLaws.{one-of}
 use Rattle.plan_numbers.proofs.PlanLaws.{factors, last-factor}
 use Rattle.plan_numbers.proofs.is_factor.Statement.{statement}

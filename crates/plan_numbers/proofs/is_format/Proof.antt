@@ -1,15 +1,8 @@
-use mathlib.Core.Path.{_≡_, sym, _∙_}
-use mathlib.Core.Bool.{true}
-use mathlib.Core.List.{[], _∷_}
-use Prim.Native.Nat.{_*_}
-use native.Mathlib.Omega.{arith}
-use lib.Dec.{leb}
-use borrow.Author.Tests.{not-true, not-false}
+use Rattle.width.proofs.Kit.{_≡_, sym, _∙_, true, [], _∷_, _*_, arith, leb, not-true, not-false, needs}
 use Rattle.machine.specs.Tests.{isIn}
 use Rattle.run.specs.Start.{format}
 use Rattle.plan_numbers.proofs.PlanLaws.{sews, factors, small-product}
 use Rattle.machine.proofs.TestLaws.{fails, last}
-use borrow.Author.Needs.{needs}
 use Rattle.plan_numbers.proofs.is_format.Statement.{statement}
 use Rattle.plan_numbers.proofs.is_format.Tie as tie
 

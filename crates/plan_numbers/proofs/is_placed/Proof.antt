@@ -1,6 +1,5 @@
-use mathlib.Core.Path.{sym, ap, _∙_}
+use Rattle.width.proofs.Kit.{sym, ap, _∙_, needs}
 use Rattle.plan_numbers.specs.Parts.{inMatrices}
-use borrow.Author.Needs.{needs}
 use Rattle.plan_numbers.proofs.is_placed.Statement.{statement}
 use Rattle.plan_numbers.proofs.is_placed.Tie as tie
 

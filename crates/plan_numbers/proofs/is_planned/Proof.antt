@@ -1,11 +1,6 @@
-use mathlib.Core.Path.{_≡_, sym, _∙_}
-use mathlib.Core.Bool.{true}
-use mathlib.Core.List.{[], _∷_}
-use lib.Dec.{leb}
-use borrow.Author.Tests.{le-leb, lt-leb, not-true, not-false}
+use Rattle.width.proofs.Kit.{_≡_, sym, _∙_, true, [], _∷_, leb, le-leb, lt-leb, not-true, not-false, needs}
 use Rattle.run.specs.Start.{format, kindFits, planned}
 use Rattle.machine.proofs.TestLaws.{fails, last}
-use borrow.Author.Needs.{needs}
 use Rattle.plan_numbers.proofs.is_planned.Statement.{statement}
 use Rattle.plan_numbers.proofs.is_planned.Tie as tie
 

@@ -1,5 +1,4 @@
-use mathlib.Core.Path.{refl}
-use native.Mathlib.Omega.{arith}
+use Rattle.width.proofs.Kit.{refl, arith}
 use Rattle.run.specs.Plan.{narrow}
 use Rattle.plan_numbers.proofs.PlanLaws.{plan-small}
 use Rattle.plan_numbers.proofs.narrow_bytes.Statement.{statement}

@@ -1,9 +1,5 @@
-use mathlib.Core.Path.{_∙_}
-use Prim.Native.Nat.{_/_, _%_, _≤_}
-use native.Mathlib.Nat.{mul-le-mul}
-use native.Mathlib.Omega.{arith}
+use Rattle.width.proofs.Kit.{_∙_, _/_, _%_, _≤_, mul-le-mul, arith, needs}
 use Rattle.plan_numbers.proofs.PlanLaws.{row-halves}
-use borrow.Author.Needs.{needs}
 use Rattle.plan_numbers.proofs.row_times.Statement.{statement}
 use Rattle.plan_numbers.proofs.row_times.Tie as tie
 

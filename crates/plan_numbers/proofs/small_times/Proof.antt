@@ -1,6 +1,4 @@
-use native.Mathlib.Nat.{mul-le-mul}
-use native.Mathlib.Omega.{arith}
-use borrow.Author.Needs.{needs}
+use Rattle.width.proofs.Kit.{mul-le-mul, arith, needs}
 use Rattle.plan_numbers.proofs.small_times.Statement.{statement}
 use Rattle.plan_numbers.proofs.small_times.Tie as tie
 

@@ -1,8 +1,5 @@
-use mathlib.Core.Path.{ap, _∙_}
-use Prim.Native.Nat.{ℕ, _+_, _%_, _^_}
-use native.Mathlib.Omega.{arith}
+use Rattle.width.proofs.Kit.{ap, _∙_, ℕ, _+_, _%_, _^_, arith, needs}
 use Rattle.plan_numbers.proofs.PlanLaws.{start-by}
-use borrow.Author.Needs.{needs}
 use Rattle.plan_numbers.proofs.start_of.Statement.{statement}
 use Rattle.plan_numbers.proofs.start_of.Tie as tie
 

@@ -1,6 +1,5 @@
 use Rattle.plan_numbers.proofs.PlanLaws.{type-eight, type-plain}
-use native.Mathlib.Omega.{arith}
-use borrow.Author.Needs.{needs}
+use Rattle.width.proofs.Kit.{arith, needs}
 use Rattle.plan_numbers.proofs.type_of.Statement.{statement}
 use Rattle.plan_numbers.proofs.type_of.Tie as tie
 

@@ -1,9 +1,6 @@
-use mathlib.Core.Path.{sym, ap, _∙_, subst}
-use Prim.Native.Nat.{ℕ, _*_, _≤_}
-use native.Mathlib.Omega.{arith}
+use Rattle.width.proofs.Kit.{sym, ap, _∙_, subst, ℕ, _*_, _≤_, arith, needs}
 use Rattle.plan_numbers.proofs.PlanLaws.{plan-small, wide-small}
 use Rattle.run.specs.Plan.{narrow}
-use borrow.Author.Needs.{needs}
 use Rattle.plan_numbers.proofs.wide_bytes.Statement.{statement}
 use Rattle.plan_numbers.proofs.wide_bytes.Tie as tie
 

@@ -1,7 +1,5 @@
 -- The products fit: a row has at most 64 bytes.
-use native.Mathlib.Omega.{arith}
-use Prim.Native.Nat.{_*_, _/_}
-use borrow.Author.Needs.{needs}
+use Rattle.width.proofs.Kit.{_*_, _/_, arith, needs}
 use Rattle.element.proofs.Laws.{short-small}
 use Rattle.product_memory.proofs.MemoryLaws.{widths, row-small}
 use Rattle.product_memory.proofs.plan_for.Statement.{statement}

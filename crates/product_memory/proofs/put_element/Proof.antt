@@ -1,7 +1,5 @@
 -- By cases of the width.
-use mathlib.Core.Path.{_∙_}
-use native.Mathlib.Omega.{arith}
-use borrow.Author.Needs.{needs}
+use Rattle.width.proofs.Kit.{_∙_, arith, needs}
 use Rattle.element.proofs.Laws.{is4}
 use Rattle.product_memory.proofs.MemoryLaws.{put-low}
 use Rattle.product_memory.proofs.put_element.Statement.{statement}

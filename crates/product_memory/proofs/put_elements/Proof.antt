@@ -1,10 +1,5 @@
 -- The loop: the first `i` values are stored.
-use mathlib.Core.Path.{_≡_, refl, ap, _∙_}
-use Prim.Native.Nat.{ℕ, _+_, _-_, _*_, _≤_}
-use native.Mathlib.Nat.{zero-mul}
-use native.Mathlib.Omega.{arith}
-use lib.ListN.{length, getD}
-use borrow.Author.Needs.{needs}
+use Rattle.width.proofs.Kit.{_≡_, refl, ap, _∙_, ℕ, _+_, _-_, _*_, _≤_, zero-mul, arith, length, getD, needs}
 use Rattle.width.specs.Tile.{putRow}
 use Rattle.width.proofs.PutLaws.{row-fits, next-row}
 use Rattle.width.proofs.ElementLaws.{putRow-next}

@@ -1,7 +1,5 @@
 -- By cases of the width.
-use mathlib.Core.Path.{sym, ap, _∙_}
-use native.Mathlib.Omega.{arith}
-use borrow.Author.Needs.{needs}
+use Rattle.width.proofs.Kit.{sym, ap, _∙_, arith, needs}
 use Rattle.width.specs.Tile.{getLe}
 use Rattle.element.proofs.Laws.{is4}
 use Rattle.product_memory.proofs.read_element.Statement.{statement}

@@ -1,12 +1,7 @@
 -- The loop: below `j` the values are the elements.
-use mathlib.Core.Path.{_≡_, refl, ap, _∙_}
-use Prim.Native.Nat.{ℕ, _+_, _-_, _*_, _≤_, _<_}
-use native.Mathlib.Nat.{zero-mul}
-use native.Mathlib.Omega.{arith}
-use lib.ListN.{length, getD, set, length-set}
-use lib.Seq.{getD-set-same, getD-set-other}
+use Rattle.width.proofs.Kit.{_≡_, refl, ap, _∙_, ℕ, _+_, _-_, _*_, _≤_, _<_, zero-mul, arith, length, getD, set, length-set, getD-set-same, getD-set-other}
+use Rattle.width.proofs.Kit.{needs}
 use borrow.Author.Count.{below-more}
-use borrow.Author.Needs.{needs}
 use Rattle.width.specs.Tile.{getLe}
 use Rattle.width.proofs.PutLaws.{row-fits, next-row}
 use Rattle.product_memory.proofs.read_elements.Statement.{statement}

@@ -1,8 +1,4 @@
-use mathlib.Core.Path.{sym, ap, _∙_}
-use mathlib.Core.List.{List}
-use Prim.Native.Nat.{ℕ, _+_}
-use native.Mathlib.Omega.{arith}
-use borrow.Author.Needs.{needs}
+use Rattle.width.proofs.Kit.{sym, ap, _∙_, List, ℕ, _+_, arith, needs}
 use Rattle.width.specs.Tile.{putLe}
 use Rattle.machine.specs.Geometry.{Range, range}
 use Rattle.ranges.specs.Ranges.{putRange}

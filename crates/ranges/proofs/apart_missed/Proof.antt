@@ -1,7 +1,4 @@
-use Prim.Native.Nat.{ℕ, _+_, _≤_, _<_}
-use native.Mathlib.Nat.{le-mul-of-pos-right, min-le-left, min-le-right}
-use native.Mathlib.Omega.{arith}
-use borrow.Author.Needs.{needs}
+use Rattle.width.proofs.Kit.{ℕ, _+_, _≤_, _<_, le-mul-of-pos-right, min-le-left, min-le-right, arith, needs}
 use Rattle.machine.specs.Geometry.{sealed}
 use Rattle.ranges.specs.Ranges.{sealsIn}
 use Rattle.ranges.proofs.RangeLaws.{no-rows, no-bytes, first-inside, ends-span}

@@ -1,8 +1,4 @@
-use mathlib.Core.Path.{_≡_, refl, ap, _∙_}
-use mathlib.Core.List.{List}
-use Prim.Native.Nat.{ℕ, suc, _+_, _-_, _≤_}
-use native.Mathlib.Omega.{arith}
-use lib.ListN.{length}
+use Rattle.width.proofs.Kit.{_≡_, refl, ap, _∙_, List, ℕ, suc, _+_, _-_, _≤_, arith, length}
 use Rattle.width.specs.Upto.{upto}
 use Rattle.machine.specs.Geometry.{range}
 use Rattle.ranges.specs.Ranges.{putRange}

@@ -1,4 +1,4 @@
-use native.Mathlib.Omega.{arith}
+use Rattle.width.proofs.Kit.{arith}
 use Rattle.ranges.proofs.RangeLaws.{held}
 use Rattle.ranges.proofs.count_of.Statement.{statement}
 use Rattle.ranges.proofs.count_of.Tie as tie

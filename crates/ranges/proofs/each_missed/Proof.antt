@@ -1,9 +1,4 @@
-use mathlib.Core.Path.{_≡_, ap, ap₂, _∙_}
-use mathlib.Core.Bool.{true, false}
-use Prim.Native.Nat.{ℕ, _+_, _-_, _≤_}
-use native.Mathlib.Numerals.{add-one}
-use native.Mathlib.Omega.{arith}
-use borrow.Author.Needs.{needs}
+use Rattle.width.proofs.Kit.{_≡_, ap, ap₂, _∙_, true, false, ℕ, _+_, _-_, _≤_, arith, add-one, needs}
 use Rattle.width.specs.Tile.{getLe}
 use Rattle.machine.specs.Tests.{within}
 use Rattle.machine.specs.Geometry.{Range, sealed}

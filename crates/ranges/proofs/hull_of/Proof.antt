@@ -1,9 +1,4 @@
-use mathlib.Core.Path.{_≡_, ap, _∙_}
-use Prim.Native.Nat.{ℕ, _+_, _-_, _^_, _≤_, _<_}
-use native.Mathlib.Nat.{not-suc-le-zero, min-le-left, min-le-right}
-use native.Mathlib.Omega.{arith}
-use borrow.Author.Needs.{needs}
-use borrow.Author.Tests.{leb-true}
+use Rattle.width.proofs.Kit.{_≡_, ap, _∙_, ℕ, _+_, _-_, _^_, _≤_, _<_, not-suc-le-zero, min-le-left, min-le-right, arith, leb-true, needs}
 use Rattle.width.specs.Tile.{getLe}
 use Rattle.machine.specs.Geometry.{Range}
 use Rattle.ranges.specs.Ranges.{rangeAt}

@@ -1,12 +1,4 @@
-use mathlib.Core.Path.{_≡_, sym, ap, _∙_}
-use mathlib.Core.Bool.{Bool}
-use mathlib.Core.List.{List, [], _∷_}
-use Prim.Native.Nat.{ℕ, _≤_}
-use native.Mathlib.Omega.{arith}
-use lib.ListN.{length}
-use lib.Dec.{leb, eqb}
-use borrow.Author.Needs.{needs}
-use borrow.Author.Tests.{eq-eqb, ne-eqb, le-leb, lt-leb}
+use Rattle.width.proofs.Kit.{_≡_, sym, ap, _∙_, Bool, List, [], _∷_, ℕ, _≤_, arith, leb, eqb, length, eq-eqb, ne-eqb, le-leb, lt-leb, needs}
 use Rattle.machine.specs.Tests.{all}
 use Rattle.machine.specs.Starting.{mostSeals}
 use Rattle.machine.specs.Faults.{sealsFit}

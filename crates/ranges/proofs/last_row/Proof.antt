@@ -1,9 +1,6 @@
-use mathlib.Core.Path.{_≡_}
-use Prim.Native.Nat.{_-_}
-use native.Mathlib.Omega.{arith}
+use Rattle.width.proofs.Kit.{_≡_, _-_, arith, needs}
 use mir.Syntax.{w64}
 use mir.Val.{toZ, ofZ}
-use borrow.Author.Needs.{needs}
 use Rattle.address.proofs.AddressLaws.{step, passed-on, row-inside, row-reached, row-starts}
 use Rattle.ranges.proofs.last_row.Statement.{statement}
 use Rattle.ranges.proofs.last_row.Tie as tie

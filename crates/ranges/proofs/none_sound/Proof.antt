@@ -1,8 +1,4 @@
-use mathlib.Core.Path.{sym, ap, ap₂, _∙_}
-use mathlib.Core.Bool.{Bool, _&&_}
-use lib.Dec.{eqb}
-use borrow.Author.Needs.{needs}
-use borrow.Author.Tests.{eq-eqb, ne-eqb}
+use Rattle.width.proofs.Kit.{sym, ap, ap₂, _∙_, Bool, _&&_, eqb, eq-eqb, ne-eqb, needs}
 use Rattle.width.specs.Tile.{getLe}
 use Rattle.ranges.proofs.RangeLaws.{none-ends, none-fails}
 use Rattle.ranges.proofs.none_sound.Statement.{statement}

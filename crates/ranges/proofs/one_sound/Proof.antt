@@ -1,5 +1,4 @@
-use mathlib.Core.Path.{sym, ap₂, _∙_}
-use borrow.Author.Needs.{needs}
+use Rattle.width.proofs.Kit.{sym, ap₂, _∙_, needs}
 use Rattle.machine.specs.Starting.{sealEnds}
 use Rattle.address.proofs.TestLaws.{test-failed, test-passed}
 use Rattle.ranges.proofs.RangeLaws.{one-ends, one-fails}

@@ -1,10 +1,4 @@
-use mathlib.Core.Path.{_≡_, refl, sym, ap, ap₂, _∙_}
-use mathlib.Core.Bool.{Bool, _&&_}
-use Prim.Native.Nat.{ℕ, suc, _-_, _≤_}
-use native.Mathlib.Numerals.{add-one}
-use native.Mathlib.Omega.{arith}
-use lib.Dec.{eqb}
-use borrow.Author.Needs.{needs}
+use Rattle.width.proofs.Kit.{_≡_, refl, sym, ap, ap₂, _∙_, Bool, _&&_, ℕ, suc, _-_, _≤_, arith, add-one, eqb, needs}
 use Rattle.machine.specs.Tests.{all}
 use Rattle.ranges.specs.Parts.{slotEmpty}
 use Rattle.ranges.proofs.RangeLaws.{or-three, behind-first}

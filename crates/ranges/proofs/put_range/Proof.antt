@@ -1,7 +1,4 @@
-use mathlib.Core.Path.{ap, ap₂, _∙_}
-use mathlib.Core.List.{List}
-use Prim.Native.Nat.{ℕ, _+_}
-use borrow.Author.Needs.{needs}
+use Rattle.width.proofs.Kit.{ap, ap₂, _∙_, List, ℕ, _+_, needs}
 use Rattle.width.specs.Tile.{putLe}
 use Rattle.ranges.specs.Ranges.{putRange}
 use Rattle.ranges.proofs.put_range.Statement.{statement}

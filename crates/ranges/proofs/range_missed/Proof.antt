@@ -1,5 +1,4 @@
-use mathlib.Core.Path.{sym, _∙_}
-use borrow.Author.Needs.{needs}
+use Rattle.width.proofs.Kit.{sym, _∙_, needs}
 use Rattle.machine.specs.Tests.{within}
 use Rattle.ranges.proofs.RangeLaws.{span-missed}
 use Rattle.ranges.proofs.range_missed.Statement.{statement}

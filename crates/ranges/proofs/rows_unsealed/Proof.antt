@@ -1,8 +1,4 @@
-use mathlib.Core.Path.{refl, sym, ap₂, _∙_}
-use mathlib.Core.Bool.{true}
-use Prim.Native.Nat.{ℕ}
-use native.Mathlib.Omega.{arith}
-use borrow.Author.Needs.{needs}
+use Rattle.width.proofs.Kit.{refl, sym, ap₂, _∙_, true, ℕ, arith, needs}
 use Rattle.machine.specs.Tests.{within}
 use Rattle.machine.specs.Memory.{rowsMiss}
 use Rattle.ranges.proofs.RangeLaws.{held, none-met, one-missed, in-block}

@@ -1,7 +1,4 @@
-use mathlib.Core.Path.{sym, _∙_}
-use mathlib.Core.Bool.{true}
-use native.Mathlib.Omega.{arith}
-use borrow.Author.Needs.{needs}
+use Rattle.width.proofs.Kit.{sym, _∙_, true, arith, needs}
 use Rattle.ranges.proofs.RangeLaws.{none-met, all-missed, in-block}
 use Rattle.ranges.proofs.several_missed.Statement.{statement}
 use Rattle.ranges.proofs.several_missed.Tie as tie

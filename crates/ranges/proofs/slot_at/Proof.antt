@@ -1,9 +1,4 @@
-use mathlib.Core.Path.{sym, ap}
-use mathlib.Core.Bool.{Bool, cond}
-use Prim.Native.Nat.{_+_, _*_}
-use native.Mathlib.Omega.{arith}
-use borrow.Author.Tests.{eq-eqb, ne-eqb}
-use borrow.Author.Needs.{needs}
+use Rattle.width.proofs.Kit.{sym, ap, Bool, cond, _+_, _*_, arith, eq-eqb, ne-eqb, needs}
 use Rattle.ranges.proofs.slot_at.Statement.{statement}
 use Rattle.ranges.proofs.slot_at.Tie as tie
 

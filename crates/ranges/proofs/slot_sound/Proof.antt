@@ -1,15 +1,9 @@
-use mathlib.Core.Path.{_≡_, sym, ap, ap₂, _∙_}
-use mathlib.Core.Bool.{Bool, true, false, cond, _&&_}
-use Prim.Native.Nat.{ℕ, _+_}
-use native.Mathlib.Omega.{arith}
-use lib.Dec.{eqb, ltb}
-use borrow.Author.Tests.{lt-ltb, le-ltb, eq-eqb, ne-eqb}
+use Rattle.width.proofs.Kit.{_≡_, sym, ap, ap₂, _∙_, Bool, true, false, cond, _&&_, ℕ, _+_, arith, eqb, ltb, lt-ltb, le-ltb, eq-eqb, ne-eqb, needs}
 use Rattle.machine.specs.Starting.{sealEnds}
 use Rattle.width.specs.Tile.{getLe}
 use Rattle.machine.specs.Geometry.{Range}
 use Rattle.ranges.specs.Ranges.{rangeAt}
 use Rattle.ranges.specs.Parts.{slotSound}
-use borrow.Author.Needs.{needs}
 use Rattle.ranges.proofs.slot_sound.Statement.{statement}
 use Rattle.ranges.proofs.slot_sound.Tie as tie
 

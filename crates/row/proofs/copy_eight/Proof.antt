@@ -1,14 +1,8 @@
 -- `row::copy_eight` meets its contract: byte k of the eight lies in both slices, and a write keeps the length.
-use mathlib.Core.List.{List}
-use mathlib.Core.Path.{_≡_, refl, sym, ap, _∙_, subst}
-use Prim.Native.Nat.{ℕ, zero, suc, _+_, _<_}
-use native.Mathlib.Omega.{arith}
+use Rattle.width.proofs.Kit.{_≡_, refl, sym, ap, _∙_, subst, List, ℕ, zero, suc, _+_, _<_, add-zero, arith, length, getD, set, length-set, ltb-true}
 use mir.Syntax.{w64}
 use mir.Val.{Fits}
-use native.Mathlib.Nat.{add-zero}
-use lib.ListN.{length, getD, set, length-set}
 use Rattle.width.specs.Upto.{upto}
-use borrow.Author.Tests.{ltb-true}
 use Rattle.row.proofs.copy_eight.Statement.{statement}
 use Rattle.row.proofs.copy_eight.Tie as tie
 

@@ -1,8 +1,4 @@
-use mathlib.Core.Path.{_≡_, refl, sym, ap, _∙_}
-use Prim.Native.Nat.{_+_, _-_, _≤_}
-use native.Mathlib.Omega.{arith}
-use borrow.Author.Needs.{needs}
-use lib.ListN.{length, getD, set}
+use Rattle.width.proofs.Kit.{_≡_, refl, sym, ap, _∙_, _+_, _-_, _≤_, arith, length, getD, set, needs}
 use Rattle.width.specs.Upto.{upto}
 use Rattle.width.proofs.PutLaws.{upto-add}
 use Rattle.row.proofs.copy_eights.Statement.{statement}

@@ -1,10 +1,4 @@
-use mathlib.Core.Path.{_≡_, refl, ap, _∙_, subst}
-use mathlib.Core.List.{List}
-use Prim.Native.Nat.{ℕ, suc, _+_, _-_, _≤_}
-use native.Mathlib.Omega.{arith}
-use native.Mathlib.Nat.{sub-self}
-use borrow.Author.Needs.{needs}
-use lib.ListN.{length, getD, set, length-set}
+use Rattle.width.proofs.Kit.{_≡_, refl, ap, _∙_, subst, List, ℕ, suc, _+_, _-_, _≤_, sub-self, arith, length, getD, set, length-set, needs}
 use Rattle.width.specs.Upto.{upto}
 use Rattle.row.proofs.copy_rest.Statement.{statement}
 use Rattle.row.proofs.copy_rest.Tie as tie

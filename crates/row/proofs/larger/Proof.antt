@@ -1,4 +1,4 @@
-use native.Mathlib.Omega.{arith}
+use Rattle.width.proofs.Kit.{arith}
 use Rattle.row.proofs.MarkLaws.{larger-a, larger-b}
 use Rattle.row.proofs.larger.Statement.{statement}
 use Rattle.row.proofs.larger.Tie as tie

@@ -1,11 +1,6 @@
-use mathlib.Core.Path.{sym, ap, _∙_}
-use Prim.Native.Nat.{ℕ, _+_}
-use native.Mathlib.Omega.{arith}
-use lib.Dec.{eqb}
-use lib.ListN.{getD}
+use Rattle.width.proofs.Kit.{sym, ap, _∙_, ℕ, _+_, arith, eqb, getD, needs}
 use Rattle.machine.specs.Tests.{all}
 use Rattle.row.proofs.MarkLaws.{eight-marked}
-use borrow.Author.Needs.{needs}
 use Rattle.row.proofs.line_marked.Statement.{statement}
 use Rattle.row.proofs.line_marked.Tie as tie
 

@@ -1,12 +1,5 @@
 -- `row::mark_eight` meets its contract: mark k of the eight lies in the slice, and a write keeps the length.
-use mathlib.Core.List.{List}
-use mathlib.Core.Path.{_≡_, refl, sym, ap, _∙_, subst}
-use Prim.Native.Nat.{ℕ, zero, suc, _+_, _<_}
-use native.Mathlib.Omega.{arith}
-use native.Mathlib.Nat.{add-zero}
-use lib.ListN.{length, set, length-set}
-use borrow.Author.Needs.{needs}
-use borrow.Author.Tests.{ltb-true}
+use Rattle.width.proofs.Kit.{_≡_, refl, sym, ap, _∙_, subst, List, ℕ, zero, suc, _+_, _<_, add-zero, arith, length, set, length-set, ltb-true, needs}
 use Rattle.width.specs.Upto.{upto}
 use Rattle.width.specs.Tile.{markRow}
 use Rattle.row.proofs.mark_eight.Statement.{statement}

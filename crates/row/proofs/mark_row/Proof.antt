@@ -1,9 +1,4 @@
-use mathlib.Core.Path.{_≡_, refl, sym, ap, _∙_}
-use mathlib.Core.List.{List}
-use Prim.Native.Nat.{ℕ, _-_, _≤_}
-use native.Mathlib.Omega.{arith}
-use borrow.Author.Needs.{needs}
-use lib.ListN.{length, length-set}
+use Rattle.width.proofs.Kit.{_≡_, refl, sym, ap, _∙_, List, ℕ, _-_, _≤_, arith, length, length-set, needs}
 use Rattle.width.specs.Tile.{markRow}
 use Rattle.width.proofs.PutLaws.{markRow-next}
 use Rattle.row.proofs.mark_row.Statement.{statement}

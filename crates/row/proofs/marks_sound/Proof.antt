@@ -1,11 +1,4 @@
-use mathlib.Core.Path.{_≡_, sym, ap, _∙_}
-use mathlib.Core.Bool.{Bool}
-use mathlib.Core.Logic.{⊎-elim}
-use mathlib.Core.List.{List}
-use Prim.Native.Nat.{ℕ, _-_, _≤_}
-use native.Mathlib.Omega.{arith}
-use lib.Dec.{ltb}
-use lib.ListN.{length, getD}
+use Rattle.width.proofs.Kit.{_≡_, sym, ap, _∙_, ⊎-elim, Bool, List, ℕ, _-_, _≤_, arith, ltb, length, getD}
 use Rattle.machine.specs.Tests.{all, allOf}
 use Rattle.machine.proofs.TestLaws.{allOf-all}
 use Rattle.row.proofs.MarkLaws.{most-more, most-same}

@@ -1,13 +1,7 @@
 -- The loop: one mark more of each quarter.
-use mathlib.Core.Path.{_≡_, refl, ap, _∙_}
-use mathlib.Core.Bool.{Bool}
-use Prim.Native.Nat.{ℕ, _-_, _≤_}
-use native.Mathlib.Omega.{arith}
-use lib.Dec.{ltb}
-use lib.ListN.{getD}
+use Rattle.width.proofs.Kit.{_≡_, refl, ap, _∙_, Bool, ℕ, _-_, _≤_, arith, ltb, getD, needs}
 use Rattle.machine.specs.Tests.{all}
 use Rattle.row.proofs.MarkLaws.{fourth, fourth-more, fourths}
-use borrow.Author.Needs.{needs}
 use Rattle.row.proofs.most_of.Statement.{statement}
 use Rattle.row.proofs.most_of.Tie as tie
 

@@ -1,10 +1,4 @@
-use mathlib.Core.Path.{_≡_, refl, ap, _∙_}
-use mathlib.Core.Logic.{⊎-elim}
-use Prim.Native.Nat.{ℕ, _+_, _-_, _≤_}
-use native.Mathlib.Omega.{arith}
-use borrow.Author.Needs.{needs}
-use lib.ListN.{getD}
-use lib.Dec.{eqb}
+use Rattle.width.proofs.Kit.{_≡_, refl, ap, _∙_, ⊎-elim, ℕ, _+_, _-_, _≤_, arith, eqb, getD, needs}
 use Rattle.machine.specs.Tests.{all}
 use Rattle.row.proofs.MarkLaws.{row-bad, row-good}
 use Rattle.row.proofs.row_marked.Statement.{statement}

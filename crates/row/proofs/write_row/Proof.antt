@@ -1,6 +1,5 @@
-use lib.ListN.{length, getD, set}
+use Rattle.width.proofs.Kit.{length, getD, set, needs}
 use Rattle.width.proofs.PutLaws.{upto-rest}
-use borrow.Author.Needs.{needs}
 use Rattle.row.proofs.write_row.Statement.{statement}
 use Rattle.row.proofs.write_row.Tie as tie
 

@@ -1,10 +1,7 @@
-use mathlib.Core.Path.{ap, ap₂, _∙_}
-use lib.ListN.{length}
-use borrow.Author.Tests.{eq-eqb, ne-eqb}
+use Rattle.width.proofs.Kit.{ap, ap₂, _∙_, length, eq-eqb, ne-eqb, needs}
 use Rattle.machine.specs.Tests.{every}
 use Rattle.run_blocks.specs.declared.Spot.{Spot}
 use Rattle.run_blocks.specs.RunBlocks.{runBytes, spotOf, placeOf, sameSpot, runFit}
-use borrow.Author.Needs.{needs}
 use Rattle.run_blocks.proofs.is_fit.Statement.{statement}
 use Rattle.run_blocks.proofs.is_fit.Tie as tie
 

@@ -1,4 +1,4 @@
-use borrow.Author.Needs.{needs}
+use Rattle.width.proofs.Kit.{needs}
 use Rattle.run_blocks.proofs.RunBlockLaws.{layout-is}
 use Rattle.run_blocks.proofs.layout_of.Statement.{statement}
 use Rattle.run_blocks.proofs.layout_of.Tie as tie

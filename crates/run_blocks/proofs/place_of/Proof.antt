@@ -1,7 +1,4 @@
-use mathlib.Core.Path.{_≡_, sym, ap}
-use Prim.Native.Nat.{ℕ, suc, _<_}
-use native.Mathlib.Omega.{arith}
-use lib.ListN.{List·getD-eq-default}
+use Rattle.width.proofs.Kit.{_≡_, sym, ap, ℕ, suc, _<_, arith, List·getD-eq-default}
 use Rattle.run.specs.declared.Place.the-variants.{AtEnd}
 use Rattle.run_blocks.specs.declared.Spot.{Spot}
 use Rattle.run_blocks.specs.RunBlocks.{spot, places, placeOf}

@@ -1,7 +1,7 @@
 use Rattle.width.specs.Tile.{putRow}
 use Rattle.blocks.specs.Blocks.{putNumbers}
 use Rattle.run_blocks.specs.RunBlocks.{putHanded}
-use borrow.Author.Needs.{needs}
+use Rattle.width.proofs.Kit.{needs}
 use Rattle.run_blocks.proofs.RunBlockLaws.{write-next}
 use Rattle.run_blocks.proofs.put_handed.Statement.{statement}
 use Rattle.run_blocks.proofs.put_handed.Tie as tie

@@ -1,6 +1,5 @@
-use native.Mathlib.Omega.{arith}
+use Rattle.width.proofs.Kit.{arith, needs}
 use Rattle.run_blocks.proofs.RunBlockLaws.{put-place-is}
-use borrow.Author.Needs.{needs}
 use Rattle.run_blocks.proofs.put_place.Statement.{statement}
 use Rattle.run_blocks.proofs.put_place.Tie as tie
 

@@ -1,7 +1,6 @@
-use mathlib.Core.Path.{ap, _∙_}
+use Rattle.width.proofs.Kit.{ap, _∙_, needs}
 use Rattle.width.specs.Tile.{putRow}
 use Rattle.blocks.specs.Blocks.{putNumbers}
-use borrow.Author.Needs.{needs}
 use Rattle.run_blocks.proofs.RunBlockLaws.{layoutPut}
 use Rattle.run_blocks.proofs.put_plan.Statement.{statement}
 use Rattle.run_blocks.proofs.put_plan.Tie as tie

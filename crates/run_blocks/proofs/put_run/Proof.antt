@@ -1,4 +1,4 @@
-use borrow.Author.Needs.{needs}
+use Rattle.width.proofs.Kit.{needs}
 use Rattle.run_blocks.proofs.RunBlockLaws.{put-run-is}
 use Rattle.run_blocks.proofs.put_run.Statement.{statement}
 use Rattle.run_blocks.proofs.put_run.Tie as tie

@@ -1,6 +1,6 @@
 use Rattle.width.specs.Tile.{putRow}
 use Rattle.blocks.specs.Blocks.{putNumbers}
-use borrow.Author.Needs.{needs}
+use Rattle.width.proofs.Kit.{needs}
 use Rattle.run_blocks.proofs.RunBlockLaws.{write-next}
 use Rattle.run_blocks.proofs.put_sizes.Statement.{statement}
 use Rattle.run_blocks.proofs.put_sizes.Tie as tie

@@ -1,4 +1,4 @@
-use borrow.Author.Needs.{needs}
+use Rattle.width.proofs.Kit.{needs}
 use Rattle.run_blocks.proofs.RunBlockLaws.{spot-is}
 use Rattle.run_blocks.proofs.spot_in.Statement.{statement}
 use Rattle.run_blocks.proofs.spot_in.Tie as tie

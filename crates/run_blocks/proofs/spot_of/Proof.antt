@@ -1,6 +1,5 @@
-use mathlib.Core.Path.{sym, ap, _∙_}
+use Rattle.width.proofs.Kit.{sym, ap, _∙_, needs}
 use Rattle.run_blocks.specs.RunBlocks.{spotOf}
-use borrow.Author.Needs.{needs}
 use Rattle.run_blocks.proofs.spot_of.Statement.{statement}
 use Rattle.run_blocks.proofs.spot_of.Tie as tie
 

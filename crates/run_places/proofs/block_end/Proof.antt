@@ -1,6 +1,4 @@
-use Prim.Native.Nat.{_-_}
-use native.Mathlib.Omega.{arith}
-use borrow.Author.Needs.{needs}
+use Rattle.width.proofs.Kit.{_-_, arith, needs}
 use Rattle.width.proofs.BlockLaws.{at-most}
 use Rattle.machine.specs.Setting.{chosen}
 use Rattle.machine.proofs.SizeLaws.{chosen-grants}

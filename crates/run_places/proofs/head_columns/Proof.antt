@@ -1,10 +1,7 @@
-use mathlib.Core.Path.{ap, _∙_}
-use Prim.Native.Nat.{ℕ, _+_, _-_}
-use borrow.Author.Tests.{lt-ltb, le-ltb}
+use Rattle.width.proofs.Kit.{ap, _∙_, ℕ, _+_, _-_, lt-ltb, le-ltb, needs}
 use Rattle.machine.specs.Setting.{chosen}
 use Rattle.run.specs.Places.{headM}
 use Rattle.run.specs.Turn.{runShape}
-use borrow.Author.Needs.{needs}
 use Rattle.run_places.proofs.head_columns.Statement.{statement}
 use Rattle.run_places.proofs.head_columns.Tie as tie
 

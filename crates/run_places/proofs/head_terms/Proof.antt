@@ -1,4 +1,4 @@
-use borrow.Author.Tests.{lt-ltb, le-ltb}
+use Rattle.width.proofs.Kit.{lt-ltb, le-ltb}
 use Rattle.run_places.proofs.head_terms.Statement.{statement}
 use Rattle.run_places.proofs.head_terms.Tie as tie
 

@@ -1,12 +1,9 @@
-use mathlib.Core.Path.{_≡_, refl, sym, ap, _∙_, subst}
-use mathlib.Core.Bool.{Bool, true}
-use borrow.Author.Tests.{ltb-true}
+use Rattle.width.proofs.Kit.{_≡_, refl, sym, ap, _∙_, subst, Bool, true, ltb-true, needs}
 use Rattle.machine.specs.Setting.{chosen}
 use Rattle.run.specs.declared.Run.{Run}
 use Rattle.run.specs.declared.Place.{Place}
 use Rattle.run.specs.Turn.{begins, runShape}
 use Rattle.plan_numbers.specs.Parts.{inMatrices}
-use borrow.Author.Needs.{needs}
 use Rattle.run_places.proofs.is_begun.Statement.{statement}
 use Rattle.run_places.proofs.is_begun.Tie as tie
 

@@ -1,7 +1,4 @@
-use mathlib.Core.Path.{_≡_, refl, sym, _∙_}
-use mathlib.Core.Bool.{Bool, true, false}
-use mathlib.Core.List.{[], _∷_}
-use borrow.Author.Tests.{not-true, not-false}
+use Rattle.width.proofs.Kit.{_≡_, refl, sym, _∙_, Bool, true, false, [], _∷_, not-true, not-false, needs}
 use Rattle.machine.specs.Geometry.{permitted}
 use Rattle.machine.specs.Starting.{isRule}
 use Rattle.machine.specs.Setting.{chosen}
@@ -12,7 +9,6 @@ use Rattle.run.specs.Turn.{begins, runShape, soundRun}
 use Rattle.plan_numbers.specs.Parts.{inMatrices}
 use Rattle.run_places.specs.Parts.{numbered}
 use Rattle.run_places.proofs.RunPlaceLaws.{place-in}
-use borrow.Author.Needs.{needs}
 use Rattle.run_places.proofs.is_sound_run.Statement.{statement}
 use Rattle.run_places.proofs.is_sound_run.Tie as tie
 

@@ -1,6 +1,4 @@
-use mathlib.Core.Path.{ap}
-use Prim.Native.Nat.{ℕ, _/_}
-use native.Mathlib.Omega.{arith}
+use Rattle.width.proofs.Kit.{ap, ℕ, _/_, arith}
 use Rattle.run_places.proofs.RunPlaceLaws.{run-sew, run-bytes}
 use Rattle.run_places.proofs.most_columns.Statement.{statement}
 use Rattle.run_places.proofs.most_columns.Tie as tie

@@ -1,6 +1,5 @@
-use native.Mathlib.Omega.{arith}
+use Rattle.width.proofs.Kit.{arith, needs}
 use Rattle.run_places.proofs.RunPlaceLaws.{run-rlen}
-use borrow.Author.Needs.{needs}
 use Rattle.run_places.proofs.most_rows.Statement.{statement}
 use Rattle.run_places.proofs.most_rows.Tie as tie
 

@@ -1,4 +1,4 @@
-use mathlib.Core.Path.{ap}
+use Rattle.width.proofs.Kit.{ap}
 use Rattle.run_places.specs.Parts.{atPlace}
 use Rattle.run_places.proofs.moved_run.Statement.{statement}
 use Rattle.run_places.proofs.moved_run.Tie as tie

@@ -1,6 +1,4 @@
-use mathlib.Core.Path.{_≡_, sym, ap, _∙_, subst}
-use mathlib.Core.Bool.{true}
-use Prim.Native.Nat.{ℕ, _+_, _-_}
+use Rattle.width.proofs.Kit.{_≡_, sym, ap, _∙_, subst, true, ℕ, _+_, _-_, needs}
 use Rattle.machine.specs.Setting.{chosen}
 use Rattle.run.specs.declared.Place.{Place}
 use Rattle.run.specs.Places.{headN, headK, next}
@@ -8,7 +6,6 @@ use Rattle.run.specs.Turn.{runShape}
 use Rattle.plan_numbers.specs.Parts.{inMatrices}
 use Rattle.plan_numbers.proofs.PlanLaws.{at-m, at-store, at-multiply}
 use Rattle.run_places.proofs.RunPlaceLaws.{run-numbered, run-placed}
-use borrow.Author.Needs.{needs}
 use Rattle.run_places.proofs.next_place.Statement.{statement}
 use Rattle.run_places.proofs.next_place.Tie as tie
 

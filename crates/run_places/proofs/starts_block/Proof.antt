@@ -1,9 +1,4 @@
-use mathlib.Core.Path.{sym, ap, _∙_}
-use Prim.Native.Nat.{ℕ, _-_}
-use native.Mathlib.Nat.{div-mul-le-self}
-use native.Mathlib.Omega.{arith}
-use lib.Dec.{eqb}
-use borrow.Author.Needs.{needs}
+use Rattle.width.proofs.Kit.{sym, ap, _∙_, ℕ, _-_, div-mul-le-self, arith, eqb, needs}
 use Rattle.width.specs.Blocks.{chunks}
 use Rattle.machine.specs.Tests.{isIn}
 use Rattle.machine.specs.Setting.{chosen}

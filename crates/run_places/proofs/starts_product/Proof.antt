@@ -1,7 +1,4 @@
-use mathlib.Core.Path.{sym, _∙_}
-use mathlib.Core.List.{[], _∷_}
-use lib.Dec.{ltb}
-use borrow.Author.Tests.{ltb-true, not-true, not-false}
+use Rattle.width.proofs.Kit.{sym, _∙_, [], _∷_, ltb, ltb-true, not-true, not-false}
 use Rattle.machine.specs.Setting.{chosen}
 use Rattle.machine.proofs.TestLaws.{every-each, fails, last}
 use Rattle.run.specs.Turn.{startsM, startsN, runShape}

@@ -1,8 +1,4 @@
-use mathlib.Core.Path.{_≡_, sym, _∙_}
-use mathlib.Core.Bool.{true}
-use mathlib.Core.List.{[], _∷_}
-use lib.Dec.{ltb}
-use borrow.Author.Tests.{ltb-true, not-true, not-false}
+use Rattle.width.proofs.Kit.{_≡_, sym, _∙_, true, [], _∷_, ltb, ltb-true, not-true, not-false}
 use Rattle.machine.specs.Setting.{chosen}
 use Rattle.machine.proofs.TestLaws.{every-each, fails, last}
 use Rattle.run.specs.Turn.{startsM, startsN, startsK, runShape}

@@ -1,7 +1,5 @@
 -- `salvage_calls::salvage` meets its contract.
-use mathlib.Core.Path.{refl, sym, _∙_}
-use borrow.Author.Needs.{needs}
-use borrow.Author.Tests.{not-true, not-false}
+use Rattle.width.proofs.Kit.{refl, sym, _∙_, not-true, not-false, needs}
 use Rattle.salvage_calls.proofs.SalvageLaws.{salvage-short, salvage-refused, salvage-done}
 use Rattle.salvage_calls.proofs.salvage.Statement.{statement}
 use Rattle.salvage_calls.proofs.salvage.Tie as tie

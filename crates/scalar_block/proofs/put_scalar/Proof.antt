@@ -1,5 +1,4 @@
-use borrow.Author.Tests.{eq-eqb, ne-eqb}
-use borrow.Author.Needs.{needs}
+use Rattle.width.proofs.Kit.{eq-eqb, ne-eqb, needs}
 use Rattle.scalar_block.proofs.put_scalar.Statement.{statement}
 use Rattle.scalar_block.proofs.put_scalar.Tie as tie
 

@@ -1,5 +1,4 @@
-use native.Mathlib.Omega.{arith}
-use borrow.Author.Needs.{needs}
+use Rattle.width.proofs.Kit.{arith, needs}
 use Rattle.machine.specs.Geometry.{benchOf}
 use Rattle.machine.specs.Vectors.{vectorsOf}
 use Rattle.ranges.specs.Ranges.{sealsIn}

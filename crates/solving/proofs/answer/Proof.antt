@@ -1,9 +1,7 @@
-use mathlib.Core.Path.{sym, _∙_, subst}
-use native.Mathlib.Omega.{arith}
+use Rattle.width.proofs.Kit.{sym, _∙_, subst, arith, needs}
 use Rattle.text.specs.Output.{answerText}
 use Rattle.lines.specs.Parts.{Wrote}
 use Rattle.solving.proofs.SolveLaws.{Fit, posed-fits, refused-is, wrote-all}
-use borrow.Author.Needs.{needs}
 use Rattle.solving.proofs.answer.Statement.{statement}
 use Rattle.solving.proofs.answer.Tie as tie
 

@@ -1,10 +1,6 @@
-use mathlib.Core.Path.{ap, _∙_}
-use Prim.Native.Nat.{ℕ, _+_, _*_}
-use native.Mathlib.Omega.{arith}
-use lib.ListN.{getD}
+use Rattle.width.proofs.Kit.{ap, _∙_, ℕ, _+_, _*_, arith, getD, needs}
 use Rattle.width.specs.Tile.{putRow}
 use Rattle.solving.proofs.RunLaws.{part-length, part-put}
-use borrow.Author.Needs.{needs}
 use Rattle.solving.proofs.fill.Statement.{statement}
 use Rattle.solving.proofs.fill.Tie as tie
 

@@ -1,5 +1,4 @@
-use mathlib.Core.Path.{sym, ap}
-use Prim.Native.Nat.{_^_}
+use Rattle.width.proofs.Kit.{sym, ap, _^_}
 use Rattle.element.proofs.Laws.{is4}
 use Rattle.solving.proofs.modulus.Statement.{statement}
 use Rattle.solving.proofs.modulus.Tie as tie

@@ -1,11 +1,8 @@
-use mathlib.Core.Path.{ap}
-use Prim.Native.Nat.{ℕ, _*_, _/_, _≤_}
-use native.Mathlib.Omega.{arith}
+use Rattle.width.proofs.Kit.{ap, ℕ, _*_, _/_, _≤_, arith, needs}
 use Rattle.ranges.specs.Ranges.{sealsIn}
 use Rattle.run.specs.Whole.{finishedAs}
 use Rattle.product_memory.proofs.MemoryLaws.{widths}
 use Rattle.solving.proofs.RunLaws.{none, c-fits, multiplied}
-use borrow.Author.Needs.{needs}
 use Rattle.solving.proofs.multiply.Statement.{statement}
 use Rattle.solving.proofs.multiply.Tie as tie
 

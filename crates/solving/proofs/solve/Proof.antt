@@ -1,15 +1,10 @@
-use mathlib.Core.Path.{refl, sym, subst}
-use Prim.Native.Nat.{_*_, _/_, _≤_}
-use native.Mathlib.Nat.{mul-le-mul}
-use native.Mathlib.Omega.{arith}
-use lib.ListN.{replicate}
+use Rattle.width.proofs.Kit.{refl, sym, subst, _*_, _/_, _≤_, mul-le-mul, arith, replicate, needs}
 use Rattle.element.specs.Element.{Short}
 use Rattle.element.proofs.Laws.{short-small}
 use Rattle.product_memory.proofs.MemoryLaws.{widths, matrix-small}
 use Rattle.text.specs.Output.{answerText}
 use Rattle.lines.specs.Parts.{Wrote}
 use Rattle.solving.proofs.SolveLaws.{Solved, solved}
-use borrow.Author.Needs.{needs}
 use Rattle.solving.proofs.solve.Statement.{statement}
 use Rattle.solving.proofs.solve.Tie as tie
 

@@ -1,6 +1,4 @@
-use mathlib.Core.Path.{_≡_, refl, ap, _∙_}
-use mathlib.Core.Bool.{true}
-use borrow.Author.Needs.{needs}
+use Rattle.width.proofs.Kit.{_≡_, refl, ap, _∙_, true, needs}
 use Rattle.machine.specs.Geometry.{Bench, benchOf, sealed}
 use Rattle.machine.specs.Faults.{soundBench}
 use Rattle.machine.proofs.NoFault.{bench-sound, bench-seals}

@@ -1,4 +1,4 @@
-use mathlib.Core.Logic.{inl, inr}
+use Rattle.width.proofs.Kit.{inl, inr}
 use types.Run.{OneOf}
 use Rattle.machine.specs.Vectors.{groupSizes}
 use Rattle.machine.proofs.MatchLaws.{one-of, none-of}

@@ -1,6 +1,5 @@
-use native.Mathlib.Omega.{arith}
+use Rattle.width.proofs.Kit.{arith, needs}
 use Rattle.step.proofs.WordLaws.{multiplier-is, whole-word}
-use borrow.Author.Needs.{needs}
 use Rattle.step.proofs.multiplier.Statement.{statement}
 use Rattle.step.proofs.multiplier.Tie as tie
 

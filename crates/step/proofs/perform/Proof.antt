@@ -1,22 +1,16 @@
-use mathlib.Core.Path.{_≡_, refl, sym, ap, ap₂, _∙_, subst}
-use mathlib.Core.List.{List}
-use Prim.Native.Nat.{ℕ, _%_, _^_}
-use native.Mathlib.Omega.{arith}
+use Rattle.width.proofs.Kit.{_≡_, refl, sym, ap, ap₂, _∙_, subst, true, false, List, ℕ, _%_, _^_, arith, length, eqb-true, needs}
 use Rattle.machine.specs.declared.Instruction.{Instruction}
 use Rattle.machine.specs.declared.Machine.{Machine}
 use Rattle.machine.specs.declared.Stepped.{Stepped}
 use Rattle.machine.specs.declared.Answer.{Answer}
 use Rattle.machine.specs.declared.Answer.the-variants.{Done}
 use Rattle.settings.specs.Parts.{ours, withType}
-use lib.ListN.{length}
-use borrow.Author.Tests.{eqb-true}
 use Rattle.width.specs.Reduce.{signed}
 use Rattle.machine.specs.Answers.{reply}
 use Rattle.ranges.specs.Ranges.{sealsIn}
 use Rattle.machine.specs.Geometry.{stateOf, withScalar, benchOf}
 use Rattle.machine.specs.Setting.{sew, newType}
 use Rattle.machine.specs.Operation.{Operation, operationIn, operation, times}
-use mathlib.Core.Bool.{true, false}
 use Rattle.machine.specs.Step.{Outcome, beside, outcome, destination, steppedAs}
 use Rattle.machine.specs.Vectors.{vectorsOf}
 use Rattle.moves.specs.Parts.{moved}
@@ -26,7 +20,6 @@ use Rattle.settings.proofs.FaultLaws.{ready}
 use Rattle.settings.proofs.TypeLaws.{ready-elen}
 use Rattle.operations.proofs.OutcomeLaws.{illegal-outcome, type-outcome, size-outcome, tile-outcome, loads-outcome, stores-outcome}
 use Rattle.step.proofs.WordLaws.{type-small}
-use borrow.Author.Needs.{needs}
 use Rattle.step.proofs.perform.Statement.{statement}
 use Rattle.step.proofs.perform.Tie as tie
 

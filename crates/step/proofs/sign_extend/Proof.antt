@@ -1,6 +1,5 @@
-use mathlib.Core.Path.{refl}
+use Rattle.width.proofs.Kit.{refl, needs}
 use Rattle.step.proofs.WordLaws.{extend-low, extend-high}
-use borrow.Author.Needs.{needs}
 use Rattle.step.proofs.sign_extend.Statement.{statement}
 use Rattle.step.proofs.sign_extend.Tie as tie
 

@@ -1,8 +1,4 @@
-use mathlib.Core.Path.{_≡_, sym, _∙_}
-use mathlib.Core.Bool.{true}
-use borrow.Author.Needs.{needs}
-use borrow.Author.Tests.{eq-eqb, ne-eqb, not-true, not-false}
-use lib.ListN.{length}
+use Rattle.width.proofs.Kit.{_≡_, sym, _∙_, true, length, eq-eqb, ne-eqb, not-true, not-false, needs}
 use Rattle.machine.specs.Geometry.{Bench, benchOf}
 use Rattle.machine.specs.Vectors.{Vectors, vectorsOf, vectorsFit}
 use Rattle.machine.specs.Faults.{soundBench}

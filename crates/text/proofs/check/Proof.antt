@@ -1,14 +1,5 @@
-use Prim.Native.Nat.{ℕ, _+_, _*_, _-_, _^_, _≤_}
-use mathlib.Core.Path.{_≡_, sym, ap₂, _∙_}
-use mathlib.Core.Bool.{Bool, true, false}
-use mathlib.Core.List.{List, map}
-use native.Mathlib.Nat.{mul-le-mul}
-use native.Mathlib.Omega.{arith}
-use mathlib.Core.Option.{some}
-use lib.IntN.{ℤ}
-use lib.ListN.{length, drop, getD}
-use borrow.Author.Needs.{needs}
-use borrow.Author.Tests.{not-true, not-false, le-leb, lt-leb, eq-eqb, ne-eqb}
+use Rattle.width.proofs.Kit.{_≡_, sym, ap₂, _∙_, Bool, true, false, List, map, some, ℕ, _+_, _*_, _-_, _^_, _≤_, mul-le-mul, arith, length, drop, getD, ℤ}
+use Rattle.width.proofs.Kit.{not-true, not-false, le-leb, lt-leb, eq-eqb, ne-eqb, needs}
 use Rattle.machine.specs.Tests.{allOf}
 use Rattle.run.specs.Start.{format}
 use Rattle.text.specs.declared.Parsed.the-variants.{Refused}

@@ -1,10 +1,4 @@
-use Prim.Native.Nat.{ℕ, _≤_, _-_, _+_}
-use mathlib.Core.Path.{_≡_, refl, sym, ap, _∙_}
-use mathlib.Core.Bool.{true}
-use native.Mathlib.Omega.{arith}
-use lib.ListN.{length, drop, getD}
-use borrow.Author.Tests.{not-true, not-false}
-use borrow.Author.Needs.{needs}
+use Rattle.width.proofs.Kit.{_≡_, refl, sym, ap, _∙_, true, ℕ, _≤_, _-_, _+_, arith, length, drop, getD, not-true, not-false, needs}
 use Rattle.text.specs.Text.{digit, valueFrom}
 use Rattle.text.specs.Parts.{digitsWord}
 use Rattle.text.proofs.ReadLaws.{digits-more, digits-other, digits-end, digit-range}

@@ -1,8 +1,4 @@
-use Prim.Native.Nat.{_≤_, _-_}
-use mathlib.Core.Path.{_≡_, refl, sym, _∙_}
-use native.Mathlib.Omega.{arith}
-use lib.ListN.{length, drop}
-use borrow.Author.Needs.{needs}
+use Rattle.width.proofs.Kit.{_≡_, refl, sym, _∙_, _≤_, _-_, arith, length, drop, needs}
 use Rattle.machine.specs.Tests.{allOf}
 use Rattle.text.specs.Parts.{inside}
 use Rattle.text.proofs.ProblemLaws.{each-more, each-not, each-end}

@@ -1,10 +1,4 @@
-use Prim.Native.Nat.{ℕ, _-_, _^_}
-use mathlib.Core.Path.{_≡_, refl, sym, ap}
-use mathlib.Core.Bool.{true}
-use mathlib.Core.List.{[], _∷_}
-use native.Mathlib.Omega.{arith}
-use lib.Dec.{eqb}
-use borrow.Author.Tests.{eqb-true, ne-eqb}
+use Rattle.width.proofs.Kit.{_≡_, refl, sym, ap, true, [], _∷_, ℕ, _-_, _^_, arith, eqb, eqb-true, ne-eqb}
 use Rattle.machine.specs.Tests.{isIn}
 use Rattle.machine.proofs.TestLaws.{each-in, or-not}
 use Rattle.text.proofs.half.Statement.{statement}

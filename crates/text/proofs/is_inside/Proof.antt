@@ -1,6 +1,4 @@
-use Prim.Native.Nat.{_-_}
-use borrow.Author.Tests.{le-leb, lt-leb}
-use borrow.Author.Needs.{needs}
+use Rattle.width.proofs.Kit.{_-_, le-leb, lt-leb, needs}
 use Rattle.text.proofs.is_inside.Statement.{statement}
 use Rattle.text.proofs.is_inside.Tie as tie
 

@@ -1,4 +1,4 @@
-use borrow.Author.Tests.{eq-eqb, ne-eqb}
+use Rattle.width.proofs.Kit.{eq-eqb, ne-eqb}
 use Rattle.text.proofs.is_separator.Statement.{statement}
 use Rattle.text.proofs.is_separator.Tie as tie
 

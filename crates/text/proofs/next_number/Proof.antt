@@ -1,9 +1,4 @@
-use Prim.Native.Nat.{ℕ, _≤_, _<_, _-_}
-use mathlib.Core.Path.{_≡_, sym, ap, _∙_}
-use mathlib.Core.List.{List, _∷_}
-use native.Mathlib.Omega.{arith}
-use lib.ListN.{length, take, drop, drop-of-length-le}
-use borrow.Author.Needs.{needs}
+use Rattle.width.proofs.Kit.{_≡_, sym, ap, _∙_, List, _∷_, ℕ, _≤_, _<_, _-_, arith, length, take, drop, drop-of-length-le, needs}
 use Rattle.text.specs.declared.Word.the-variants.{Value}
 use Rattle.text.specs.Text.{words, number}
 use Rattle.text.specs.Parts.{heldWord}

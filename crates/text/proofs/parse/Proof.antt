@@ -1,6 +1,4 @@
-use mathlib.Core.Path.{sym, _∙_, subst}
-use lib.Seq.{length-take-le}
-use borrow.Author.Needs.{needs}
+use Rattle.width.proofs.Kit.{sym, _∙_, subst, length-take-le, needs}
 use Rattle.text.specs.declared.Count.the-variants.{All}
 use Rattle.text.specs.Parts.{heldIn, counted}
 use Rattle.text.proofs.ProblemLaws.{read-none, read-some, parse-long, parse-many, parse-all}

@@ -1,10 +1,4 @@
-use Prim.Native.Nat.{ℕ, _≤_, _<_, _-_}
-use mathlib.Core.Path.{subst, _≡_, refl, ap, _∙_}
-use mathlib.Core.List.{List, [], _∷_, _++_}
-use mathlib.Core.Option.{Option}
-use native.Mathlib.Omega.{arith}
-use lib.ListN.{length, take, drop, length-set}
-use borrow.Author.Needs.{needs}
+use Rattle.width.proofs.Kit.{subst, _≡_, refl, ap, _∙_, List, [], _∷_, _++_, Option, ℕ, _≤_, _<_, _-_, arith, length, take, drop, length-set, needs}
 use Rattle.text.specs.Parts.{heldIn, front, putFront, onto, ahead, frontAhead, onward}
 use Rattle.text.proofs.ReadLaws.{onto-nil, read-more, read-end, read-many, read-bad, put-more, put-last, put-full}
 use Rattle.text.proofs.read_all.Statement.{statement}

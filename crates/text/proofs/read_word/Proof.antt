@@ -1,9 +1,4 @@
-use Prim.Native.Nat.{_+_, _-_, _≤_, _<_}
-use mathlib.Core.Path.{_≡_, sym, ap, _∙_}
-use native.Mathlib.Omega.{arith}
-use lib.IntN.{pos, negℤ}
-use lib.ListN.{length, drop}
-use borrow.Author.Needs.{needs}
+use Rattle.width.proofs.Kit.{_≡_, sym, ap, _∙_, _+_, _-_, _≤_, _<_, arith, length, drop, pos, negℤ, needs}
 use Rattle.text.specs.declared.Word.the-variants.{Value}
 use Rattle.text.specs.Text.{valueFrom, number}
 use Rattle.text.specs.Parts.{heldWord}

@@ -1,10 +1,4 @@
-use Prim.Native.Nat.{_≤_, _-_}
-use mathlib.Core.Path.{_≡_, refl, sym, _∙_}
-use mathlib.Core.Bool.{true, false}
-use native.Mathlib.Omega.{arith}
-use lib.ListN.{length, drop, getD}
-use borrow.Author.Tests.{not-true, not-false}
-use borrow.Author.Needs.{needs}
+use Rattle.width.proofs.Kit.{_≡_, refl, sym, _∙_, true, false, _≤_, _-_, arith, length, drop, getD, not-true, not-false, needs}
 use Rattle.text.specs.Text.{words, separator}
 use Rattle.text.proofs.ReadLaws.{skip-one}
 use Rattle.text.proofs.skip.Statement.{statement}

@@ -1,10 +1,4 @@
-use Prim.Native.Nat.{_≤_, _<_, _-_}
-use mathlib.Core.Path.{_≡_, _∙_}
-use mathlib.Core.Bool.{true, false}
-use mathlib.Core.Logic.{inl, inr}
-use native.Mathlib.Omega.{arith}
-use lib.ListN.{length, take, drop, getD}
-use borrow.Author.Needs.{needs}
+use Rattle.width.proofs.Kit.{_≡_, _∙_, inl, inr, true, false, _≤_, _<_, _-_, arith, length, take, drop, getD, needs}
 use Rattle.text.specs.Text.{words, wordsFrom, separator}
 use Rattle.text.proofs.ReadLaws.{word-more, word-first, word-done}
 use Rattle.text.proofs.word_end.Statement.{statement}

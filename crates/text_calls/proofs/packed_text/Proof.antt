@@ -1,8 +1,6 @@
-use mathlib.Core.Path.{sym, _∙_}
-use native.Mathlib.Omega.{arith}
+use Rattle.width.proofs.Kit.{sym, _∙_, arith, needs}
 use Rattle.assembly.specs.Answers.{textReply}
 use Rattle.text_calls.proofs.CallLaws.{packs-size, packs-column, number-small}
-use borrow.Author.Needs.{needs}
 use Rattle.text_calls.proofs.packed_text.Statement.{statement}
 use Rattle.text_calls.proofs.packed_text.Tie as tie
 

@@ -1,13 +1,10 @@
-use mathlib.Core.Path.{_≡_, refl, sym, _∙_}
-use native.Mathlib.Omega.{arith}
-use lib.ListN.{length}
+use Rattle.width.proofs.Kit.{_≡_, refl, sym, _∙_, arith, length, needs}
 use Rattle.machine.specs.Listing.{listing}
 use Rattle.format.specs.Parser.Parsed.{stopped}
 use Rattle.assembly.specs.Reading.{readLine}
 use Rattle.line_read.specs.Table.{table}
 use Rattle.line_read.proofs.RowLaws.{word-whole, bad-stopped}
 use Rattle.text_calls.proofs.CallLaws.{stop-short, word-refused, word-read, word-bad}
-use borrow.Author.Needs.{needs}
 use Rattle.text_calls.proofs.text_word.Statement.{statement}
 use Rattle.text_calls.proofs.text_word.Tie as tie
 

@@ -1,13 +1,10 @@
-use mathlib.Core.Path.{_≡_, sym, _∙_}
-use mathlib.Core.Bool.{true}
-use borrow.Author.Tests.{eq-eqb}
+use Rattle.width.proofs.Kit.{_≡_, sym, _∙_, true, eq-eqb, needs}
 use Rattle.machine.specs.Listing.{decode}
 use Rattle.assembly.specs.Answers.{textReply, codeAnswer}
 use Rattle.assembly.specs.Lines.{line}
 use Rattle.assembly.specs.Theorems.{hasLine}
 use Rattle.text_answers.proofs.CodeLaws.{told}
 use Rattle.text_calls.proofs.CallLaws.{text-refused, text-long, text-done}
-use borrow.Author.Needs.{needs}
 use Rattle.text_calls.proofs.word_text.Statement.{statement}
 use Rattle.text_calls.proofs.word_text.Tie as tie
 

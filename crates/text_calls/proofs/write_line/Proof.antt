@@ -1,19 +1,11 @@
-use mathlib.Core.Path.{_≡_, refl, sym, ap, _∙_}
-use Prim.Native.Nat.{_+_, _≤_}
-use native.Mathlib.Omega.{arith}
-use lib.ListN.{length, take, drop}
-use mathlib.Core.Bool.{Bool, true, cond}
-use mathlib.Core.List.{_++_}
-use lib.Dec.{leb}
-use lib.Seq.{length-take-le}
-use borrow.Author.Tests.{lt-leb, le-leb}
+use Rattle.width.proofs.Kit.{_≡_, refl, sym, ap, _∙_, Bool, true, cond, _++_, _+_, _≤_, arith, leb, length, take, drop, length-take-le, lt-leb, le-leb}
+use Rattle.width.proofs.Kit.{needs}
 use Rattle.lines.proofs.WriteLaws.{wrote-as}
 use Rattle.machine.specs.Listing.{listing}
 use Rattle.assembly.specs.Lines.{line}
 use Rattle.line_read.specs.Table.{table}
 use Rattle.line_write.specs.Parts.{lineText}
 use Rattle.text_calls.proofs.CallLaws.{text-short, front-written}
-use borrow.Author.Needs.{needs}
 use Rattle.text_calls.proofs.write_line.Statement.{statement}
 use Rattle.text_calls.proofs.write_line.Tie as tie
 

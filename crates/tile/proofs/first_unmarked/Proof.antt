@@ -1,10 +1,4 @@
-use mathlib.Core.Path.{_≡_, refl, sym, ap, _∙_, subst}
-use mathlib.Core.Bool.{true, false}
-use Prim.Native.Nat.{ℕ, _+_, _*_, _-_, _≤_, _<_}
-use native.Mathlib.Nat.{zero-mul}
-use native.Mathlib.Omega.{arith}
-use lib.Dec.{eqb}
-use lib.ListN.{length, getD}
+use Rattle.width.proofs.Kit.{_≡_, refl, sym, ap, _∙_, subst, true, false, ℕ, _+_, _*_, _-_, _≤_, _<_, zero-mul, arith, eqb, length, getD}
 use Rattle.width.proofs.PutLaws.{row-fits, next-row}
 use Rattle.machine.specs.Tests.{all}
 use Rattle.machine.specs.declared.Answer.the-variants.{Done}

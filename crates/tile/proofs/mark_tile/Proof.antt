@@ -1,9 +1,4 @@
-use mathlib.Core.Path.{_≡_, refl, sym, ap, _∙_}
-use Prim.Native.Nat.{ℕ, _+_, _*_, _-_, _≤_, _<_}
-use native.Mathlib.Omega.{arith}
-use borrow.Author.Needs.{needs}
-use native.Mathlib.Nat.{zero-mul}
-use lib.ListN.{length, length-append, length-take, length-drop}
+use Rattle.width.proofs.Kit.{_≡_, refl, sym, ap, _∙_, ℕ, _+_, _*_, _-_, _≤_, _<_, zero-mul, arith, length, length-append, length-take, length-drop, needs}
 use Rattle.width.specs.Tile.{markTile}
 use Rattle.width.proofs.PutLaws.{mark-back, markTile-next}
 use Rattle.tile.proofs.MarkLaws.{rows-together}

@@ -1,9 +1,4 @@
-use mathlib.Core.Path.{_≡_, refl, sym}
-use mathlib.Core.Bool.{true}
-use mathlib.Core.List.{[], _∷_}
-use Prim.Native.Nat.{_*_}
-use lib.ListN.{length}
-use borrow.Author.Needs.{needs}
+use Rattle.width.proofs.Kit.{_≡_, refl, sym, true, [], _∷_, _*_, length, needs}
 use Rattle.machine.specs.Answers.{Check, isDone}
 use Rattle.machine.specs.Geometry.{sealed}
 use Rattle.ranges.specs.Ranges.{sealsIn}

@@ -1,10 +1,4 @@
-use mathlib.Core.Path.{_≡_, refl, ap, _∙_, subst}
-use mathlib.Core.Bool.{true}
-use Prim.Native.Nat.{ℕ, _+_, _*_, _-_, _≤_, _<_}
-use native.Mathlib.Nat.{zero-mul}
-use native.Mathlib.Omega.{arith}
-use lib.Dec.{eqb}
-use lib.ListN.{length, getD}
+use Rattle.width.proofs.Kit.{_≡_, refl, ap, _∙_, subst, true, ℕ, _+_, _*_, _-_, _≤_, _<_, zero-mul, arith, eqb, length, getD}
 use Rattle.machine.specs.Tests.{all}
 use Rattle.address.proofs.TestLaws.{all-next, test-failed, test-passed}
 use Rattle.tile.proofs.MarkLaws.{rowMarked, rows-marked, rows-unmarked}

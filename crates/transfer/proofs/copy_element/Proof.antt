@@ -1,8 +1,5 @@
 -- By cases of the width.
-use mathlib.Core.Path.{_≡_, sym, ap, _∙_}
-use Prim.Native.Nat.{ℕ}
-use native.Mathlib.Omega.{arith}
-use borrow.Author.Needs.{needs}
+use Rattle.width.proofs.Kit.{_≡_, sym, ap, _∙_, ℕ, arith, needs}
 use Rattle.width.specs.Tile.{getLe, putLe}
 use Rattle.element.proofs.Laws.{is8}
 use Rattle.transfer.proofs.copy_element.Statement.{statement}

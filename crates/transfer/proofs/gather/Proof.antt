@@ -1,9 +1,4 @@
-use mathlib.Core.Path.{_≡_, refl, sym, ap, _∙_}
-use Prim.Native.Nat.{ℕ, _+_, _*_, _-_, _%_, _^_, _≤_, _<_}
-use native.Mathlib.Nat.{zero-mul}
-use native.Mathlib.Omega.{arith}
-use lib.ListN.{length}
-use borrow.Author.Needs.{needs}
+use Rattle.width.proofs.Kit.{_≡_, refl, sym, ap, _∙_, ℕ, _+_, _*_, _-_, _%_, _^_, _≤_, _<_, zero-mul, arith, length, needs}
 use Rattle.width.specs.Tile.{getLe, putRow}
 use Rattle.width.proofs.TileLaws.{length-putRow}
 use Rattle.width.proofs.PutLaws.{row-fits, next-row}

@@ -1,10 +1,4 @@
-use mathlib.Core.Path.{_≡_, refl, ap, _∙_}
-use mathlib.Core.Bool.{true}
-use Prim.Native.Nat.{ℕ, zero, _+_, _*_, _-_, _≤_, _<_}
-use native.Mathlib.Nat.{zero-mul}
-use native.Mathlib.Omega.{arith}
-use borrow.Author.Needs.{needs}
-use lib.ListN.{length, length-take, length-drop}
+use Rattle.width.proofs.Kit.{_≡_, refl, ap, _∙_, true, ℕ, zero, _+_, _*_, _-_, _≤_, _<_, zero-mul, arith, length, length-take, length-drop, needs}
 use Rattle.width.specs.Tile.{getLe, putTile}
 use Rattle.width.proofs.TileLaws.{length-putTile}
 use Rattle.width.proofs.PutLaws.{row-fits, next-row, put-back, putTile-none, putTile-next}

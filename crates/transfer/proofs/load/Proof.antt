@@ -1,9 +1,4 @@
-use mathlib.Core.Path.{_≡_, refl, sym, ap₂, _∙_, subst}
-use mathlib.Core.Bool.{Bool, true}
-use Prim.Native.Nat.{ℕ, _*_, _^_, _<_}
-use native.Mathlib.Omega.{arith}
-use lib.ListN.{length}
-use borrow.Author.Needs.{needs}
+use Rattle.width.proofs.Kit.{_≡_, refl, sym, ap₂, _∙_, subst, Bool, true, ℕ, _*_, _^_, _<_, arith, length, needs}
 use Rattle.machine.specs.Memory.{inside}
 use Rattle.machine.specs.Operation.{memoryRows, memoryCols}
 use Rattle.address.proofs.TestLaws.{test-failed, test-passed}

@@ -1,10 +1,5 @@
-use mathlib.Core.Path.{_≡_, refl, ap, _∙_}
-use mathlib.Core.Bool.{true}
-use Prim.Native.Nat.{ℕ, zero, _+_, _*_, _-_, _^_, _≤_, _<_}
-use native.Mathlib.Nat.{zero-mul, le-mul-of-pos-right, mul-le-mul-right, mul-pos}
-use native.Mathlib.Omega.{arith}
-use borrow.Author.Needs.{needs}
-use lib.ListN.{length, length-take, length-drop}
+use Rattle.width.proofs.Kit.{_≡_, refl, ap, _∙_, true, ℕ, zero, _+_, _*_, _-_, _^_, _≤_, _<_, zero-mul, le-mul-of-pos-right, mul-le-mul-right, mul-pos}
+use Rattle.width.proofs.Kit.{arith, length, length-take, length-drop, needs}
 use mir.Syntax.{w64}
 use mir.Val.{toZ, ofZ}
 use Rattle.width.specs.Tile.{getLe, putTile}

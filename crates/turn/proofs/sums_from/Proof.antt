@@ -1,7 +1,4 @@
-use mathlib.Core.Path.{_≡_, sym, ap, _∙_, subst}
-use mathlib.Core.Bool.{true}
-use Prim.Native.Nat.{_-_}
-use native.Mathlib.Omega.{arith}
+use Rattle.width.proofs.Kit.{_≡_, sym, ap, _∙_, subst, true, _-_, arith, needs}
 use Rattle.machine.specs.Geometry.{benchOf}
 use Rattle.machine.specs.Setting.{chosen}
 use Rattle.settings.proofs.FaultLaws.{ready}
@@ -11,7 +8,6 @@ use Rattle.run_places.specs.Parts.{atPlace}
 use Rattle.carrying.proofs.SumsLaws.{ready-marks, ready-steady}
 use Rattle.turn.proofs.ProgressLaws.{none-taken, taken-from}
 use Rattle.turn.proofs.StepLaws.{here-planned, here-placed}
-use borrow.Author.Needs.{needs}
 use Rattle.turn.proofs.sums_from.Statement.{statement}
 use Rattle.turn.proofs.sums_from.Tie as tie
 

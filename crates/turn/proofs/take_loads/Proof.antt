@@ -1,9 +1,4 @@
-use mathlib.Core.Path.{_≡_, refl, sym, _∙_}
-use mathlib.Core.Bool.{true, false}
-use mathlib.Core.List.{List, []}
-use Prim.Native.Nat.{_-_}
-use native.Mathlib.Omega.{arith}
-use borrow.Author.Tests.{not-true, not-false}
+use Rattle.width.proofs.Kit.{_≡_, refl, sym, _∙_, true, false, List, [], _-_, arith, not-true, not-false, needs}
 use Rattle.machine.specs.Answers.{isDone}
 use Rattle.machine.specs.Geometry.{Range, benchOf}
 use Rattle.machine.specs.Faults.{sealsFit}
@@ -15,7 +10,6 @@ use Rattle.carrying.proofs.SumsLaws.{none-fit, steady-sized, still-steady, sums
 use Rattle.turn.specs.Parts.{Taking}
 use Rattle.turn.proofs.ProgressLaws.{word-kept, word-taken, taken-sane, taken-as}
 use Rattle.turn.proofs.StepLaws.{here-planned, here-placed, here-small, set-taken}
-use borrow.Author.Needs.{needs}
 use Rattle.turn.proofs.take_loads.Statement.{statement}
 use Rattle.turn.proofs.take_loads.Tie as tie
 

@@ -1,9 +1,4 @@
-use mathlib.Core.Path.{_≡_, refl, ap, _∙_}
-use mathlib.Core.Bool.{true}
-use mathlib.Core.List.{List, []}
-use Prim.Native.Nat.{ℕ, _+_, _-_, _≤_}
-use native.Mathlib.Omega.{arith}
-use lib.ListN.{length}
+use Rattle.width.proofs.Kit.{_≡_, refl, ap, _∙_, true, List, [], ℕ, _+_, _-_, _≤_, arith, length, needs}
 use Rattle.machine.specs.Geometry.{Range, benchOf}
 use Rattle.machine.specs.Faults.{sealsFit}
 use Rattle.machine.specs.Setting.{chosen}
@@ -17,7 +12,6 @@ use Rattle.carrying.proofs.SumsLaws.{none-fit}
 use Rattle.turn.specs.Parts.{Taking}
 use Rattle.turn.proofs.ProgressLaws.{none-taken, more-taken, taken-sane}
 use Rattle.turn.proofs.StepLaws.{here-numbered, here-planned, here-placed, head-next, head-past, multiply-taken}
-use borrow.Author.Needs.{needs}
 use Rattle.turn.proofs.take_sums.Statement.{statement}
 use Rattle.turn.proofs.take_sums.Tie as tie
 

@@ -1,6 +1,4 @@
-use mathlib.Core.Path.{_≡_, sym, ap, _∙_}
-use mathlib.Core.Bool.{true, false}
-use borrow.Author.Tests.{not-true, not-false}
+use Rattle.width.proofs.Kit.{_≡_, sym, ap, _∙_, true, false, not-true, not-false, needs}
 use Rattle.machine.specs.Answers.{isDone}
 use Rattle.machine.specs.Geometry.{benchOf}
 use Rattle.ranges.specs.Ranges.{sealsIn}
@@ -10,7 +8,6 @@ use Rattle.run_places.specs.Parts.{atPlace}
 use Rattle.carrying.proofs.CarriedLaws.{numbers-joined}
 use Rattle.turn.proofs.TurnLaws.{turn-kept}
 use Rattle.turn.proofs.ProgressLaws.{turn-carried, turn-moved}
-use borrow.Author.Needs.{needs}
 use Rattle.turn.proofs.take_turn.Statement.{statement}
 use Rattle.turn.proofs.take_turn.Tie as tie
 

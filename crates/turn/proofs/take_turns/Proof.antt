@@ -1,9 +1,4 @@
-use mathlib.Core.Path.{_≡_, refl, sym, ap, _∙_}
-use mathlib.Core.Bool.{true, false}
-use Prim.Native.Nat.{_+_, _-_, _≤_}
-use native.Mathlib.Omega.{arith}
-use borrow.Author.Tests.{not-true, not-false}
-use lib.ListN.{length}
+use Rattle.width.proofs.Kit.{_≡_, refl, sym, ap, _∙_, true, false, _+_, _-_, _≤_, arith, length, not-true, not-false, needs}
 use Rattle.machine.specs.Answers.{isDone}
 use Rattle.machine.specs.Geometry.{benchOf}
 use Rattle.machine.specs.Setting.{chosen}
@@ -14,7 +9,6 @@ use Rattle.run_places.specs.Parts.{atPlace}
 use Rattle.turn.specs.Parts.{Taking}
 use Rattle.turn.proofs.TurnLaws.{turns-refused}
 use Rattle.turn.proofs.ProgressLaws.{none-taken, turn-taken, more-taken, taken-sane, taken-as, at-end}
-use borrow.Author.Needs.{needs}
 use Rattle.turn.proofs.take_turns.Statement.{statement}
 use Rattle.turn.proofs.take_turns.Tie as tie
 

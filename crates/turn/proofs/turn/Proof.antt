@@ -1,13 +1,10 @@
-use mathlib.Core.Path.{_≡_, sym, _∙_}
-use mathlib.Core.Bool.{true}
-use borrow.Author.Tests.{not-true, not-false}
+use Rattle.width.proofs.Kit.{_≡_, sym, _∙_, true, not-true, not-false, needs}
 use Rattle.machine.specs.Geometry.{benchOf}
 use Rattle.machine.specs.Faults.{soundBench}
 use Rattle.machine.proofs.NoFault.{bench-sound, bench-seals}
 use Rattle.ranges.specs.Ranges.{sealsIn}
 use Rattle.turn.proofs.TurnLaws.{turn-fault}
 use Rattle.turn.proofs.ProgressLaws.{turn-unsound, turn-at}
-use borrow.Author.Needs.{needs}
 use Rattle.turn.proofs.turn.Statement.{statement}
 use Rattle.turn.proofs.turn.Tie as tie
 

@@ -1,11 +1,8 @@
-use mathlib.Core.Path.{_≡_, sym, _∙_}
-use mathlib.Core.Bool.{true}
-use borrow.Author.Tests.{not-true, not-false}
+use Rattle.width.proofs.Kit.{_≡_, sym, _∙_, true, not-true, not-false, needs}
 use Rattle.blocks.specs.Blocks.{machineOf, Kept}
 use Rattle.run_blocks.specs.RunBlocks.{runOf, runFit, RunKept}
 use Rattle.run_blocks.proofs.RunBlockLaws.{fit-length}
 use Rattle.turn_calls.proofs.TurnLaws.{blocks-unfit, blocks-short, blocks-fit, turn-refused, turn-shown, turn-keeps}
-use borrow.Author.Needs.{needs}
 use Rattle.turn_calls.proofs.turn.Statement.{statement}
 use Rattle.turn_calls.proofs.turn.Tie as tie
 

@@ -1,10 +1,7 @@
-use mathlib.Core.Path.{_≡_, sym, _∙_}
-use mathlib.Core.Bool.{true}
-use borrow.Author.Tests.{not-true, not-false}
+use Rattle.width.proofs.Kit.{_≡_, sym, _∙_, true, not-true, not-false, needs}
 use Rattle.run_blocks.specs.RunBlocks.{runFit}
 use Rattle.run_blocks.proofs.RunBlockLaws.{fit-length}
 use Rattle.turn_calls.proofs.TurnLaws.{blocks-unfit, blocks-short, blocks-fit, turns-refused, turns-shown}
-use borrow.Author.Needs.{needs}
 use Rattle.turn_calls.proofs.turns.Statement.{statement}
 use Rattle.turn_calls.proofs.turns.Tie as tie
 

@@ -1,10 +1,7 @@
 use Rattle.width.specs.Tile.{putRow}
 use Rattle.blocks.specs.Blocks.{putNumbers}
-use mathlib.Core.Path.{refl, sym, _∙_}
-use mathlib.Core.Bool.{true, false}
-use borrow.Author.Tests.{not-true, not-false}
+use Rattle.width.proofs.Kit.{refl, sym, _∙_, true, false, not-true, not-false, needs}
 use Rattle.turn_calls.proofs.TurnLaws.{run-short, run-short-steps, run-shown}
-use borrow.Author.Needs.{needs}
 use Rattle.turn_calls.proofs.whole.Statement.{statement}
 use Rattle.turn_calls.proofs.whole.Tie as tie
 

@@ -1,11 +1,8 @@
-use mathlib.Core.Path.{sym, _∙_}
-use native.Mathlib.Omega.{arith}
-use borrow.Author.Tests.{not-true, not-false}
+use Rattle.width.proofs.Kit.{sym, _∙_, arith, not-true, not-false, needs}
 use Rattle.machine.specs.Geometry.{Bench, benchOf}
 use Rattle.ranges.specs.Ranges.{sealsIn}
 use Rattle.run.specs.Statement.{MemoryBytes}
 use Rattle.whole.proofs.WholeLaws.{finishes-refused, finishes-done}
-use borrow.Author.Needs.{needs}
 use Rattle.whole.proofs.whole.Statement.{statement}
 use Rattle.whole.proofs.whole.Tie as tie
 

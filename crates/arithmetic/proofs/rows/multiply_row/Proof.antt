@@ -1,11 +1,8 @@
 -- By cases of the output width.
-use native.Mathlib.Omega.{arith}
-use mathlib.Core.Path.{_≡_, sym, ap, ap₂, _∙_}
-use Prim.Native.Nat.{ℕ, _*_}
+use Rattle.width.proofs.Kit.{_≡_, sym, ap, ap₂, _∙_, ℕ, _*_, arith, needs}
 use Rattle.width.specs.Tile.{putRow}
 use Rattle.element.proofs.Laws.{is1, is8, short, narrow}
 use Rattle.sums.specs.Rows.{productRow}
-use borrow.Author.Needs.{needs}
 use Rattle.arithmetic.proofs.rows.multiply_row.Statement.{statement}
 use Rattle.arithmetic.proofs.rows.multiply_row.Tie as tie
 

@@ -1,12 +1,8 @@
 -- By cases of the output width.
-use native.Mathlib.Omega.{arith}
-use mathlib.Core.Path.{_≡_, sym, ap, ap₂, _∙_}
-use Prim.Native.Nat.{ℕ, _*_, _%_, _^_}
-use native.Mathlib.Nat.{mod-eq-of-lt}
+use Rattle.width.proofs.Kit.{_≡_, sym, ap, ap₂, _∙_, ℕ, _*_, _%_, _^_, mod-eq-of-lt, arith, needs}
 use Rattle.width.specs.Tile.{putRow}
 use Rattle.element.proofs.Laws.{is1, is8, short, narrow}
 use Rattle.sums.specs.Rows.{weightedRow}
-use borrow.Author.Needs.{needs}
 use Rattle.arithmetic.proofs.weights.weigh_block.Statement.{statement}
 use Rattle.arithmetic.proofs.weights.weigh_block.Tie as tie
 

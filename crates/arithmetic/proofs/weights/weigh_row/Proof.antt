@@ -1,14 +1,9 @@
 -- The loop: from column `j` on the row has its weighted sums.
-use native.Mathlib.Omega.{arith}
-use mathlib.Core.Path.{_≡_, refl, ap, ap₂, _∙_}
-use Prim.Native.Nat.{ℕ, _+_, _-_, _*_, _%_, _^_, _≤_, _<_}
-use native.Mathlib.Nat.{mul-le-mul-right, zero-add}
-use lib.ListN.{length}
+use Rattle.width.proofs.Kit.{_≡_, refl, ap, ap₂, _∙_, ℕ, _+_, _-_, _*_, _%_, _^_, _≤_, _<_, mul-le-mul-right, zero-add, arith, length, needs}
 use Rattle.width.specs.Tile.{putRow}
 use Rattle.width.proofs.ElementLaws.{putRow-cong}
 use Rattle.sums.specs.Rows.{weightedRow}
 use Rattle.arithmetic.proofs.WeightLaws.{block-turn}
-use borrow.Author.Needs.{needs}
 use Rattle.arithmetic.proofs.weights.weigh_row.Statement.{statement}
 use Rattle.arithmetic.proofs.weights.weigh_row.Tie as tie
 

@@ -1,9 +1,5 @@
 -- The loop: the first `i` rows are weighted sums, and every element is read as at entry.
-use native.Mathlib.Omega.{arith}
-use mathlib.Core.Path.{_≡_, refl, sym, ap, _∙_, subst}
-use Prim.Native.Nat.{ℕ, _+_, _-_, _*_, _%_, _^_, _≤_, _<_}
-use native.Mathlib.Nat.{zero-mul, mul-le-mul-right}
-use lib.ListN.{length}
+use Rattle.width.proofs.Kit.{_≡_, refl, sym, ap, _∙_, subst, ℕ, _+_, _-_, _*_, _%_, _^_, _≤_, _<_, zero-mul, mul-le-mul-right, arith, length, needs}
 use Rattle.width.specs.Tile.{putTile}
 use Rattle.width.proofs.PutLaws.{next-row}
 use Rattle.machine.specs.Geometry.{accAt}
@@ -11,7 +7,6 @@ use Rattle.arithmetic.specs.Effect.{shape}
 use Rattle.arithmetic.specs.Weights.{weightedTile, Aligned}
 use Rattle.arithmetic.proofs.WeightLaws.{weighted-turn, acc-aligned}
 use Rattle.arithmetic.proofs.RoomLaws.{acc-row}
-use borrow.Author.Needs.{needs}
 use Rattle.arithmetic.proofs.weights.weigh_tile.Statement.{statement}
 use Rattle.arithmetic.proofs.weights.weigh_tile.Tie as tie
 

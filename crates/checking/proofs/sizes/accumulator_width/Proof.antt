@@ -1,11 +1,6 @@
-use mathlib.Core.Path.{_≡_, sym, ap, _∙_}
-use Prim.Native.Nat.{ℕ, _*_}
-use native.Mathlib.Omega.{arith}
-use lib.Dec.{eqb}
-use borrow.Author.Tests.{eq-eqb, ne-eqb, le-leb, lt-leb, not-true, not-false}
+use Rattle.width.proofs.Kit.{_≡_, sym, ap, _∙_, ℕ, _*_, arith, eqb, eq-eqb, ne-eqb, le-leb, lt-leb, not-true, not-false, needs}
 use Rattle.machine.specs.Setting.{sew}
 use Rattle.machine.specs.Refusals.{widthOf}
-use borrow.Author.Needs.{needs}
 use Rattle.checking.proofs.sizes.accumulator_width.Statement.{statement}
 use Rattle.checking.proofs.sizes.accumulator_width.Tie as tie
 

@@ -1,15 +1,11 @@
-use mathlib.Core.Path.{_≡_, sym, ap, _∙_}
-use mathlib.Core.Bool.{true, false}
-use borrow.Author.Tests.{not-true, not-false}
+use Rattle.width.proofs.Kit.{_≡_, sym, ap, _∙_, true, false, [], not-true, not-false, needs}
 use Rattle.machine.specs.declared.Dimension.{Dimension}
 use Rattle.machine.specs.Setting.{mill}
 use Rattle.settings.specs.Parts.{ours}
 use Rattle.machine.specs.Geometry.{stateOf}
 use Rattle.machine.specs.Operation.{rowsOf, columnsOf}
 use Rattle.machine.specs.Refusals.{widthOf, fitting}
-use mathlib.Core.List.{[]}
 use Rattle.settings.proofs.TypeLaws.{ready-legal}
-use borrow.Author.Needs.{needs}
 use Rattle.checking.proofs.sizes.check_transfer.Statement.{statement}
 use Rattle.checking.proofs.sizes.check_transfer.Tie as tie
 

@@ -1,10 +1,8 @@
-use mathlib.Core.Path.{sym, ap, _∙_}
-use native.Mathlib.Omega.{arith}
+use Rattle.width.proofs.Kit.{sym, ap, _∙_, arith, needs}
 use Rattle.machine.specs.Operation.{times}
 use Rattle.machine.specs.Refusals.{widthOk}
 use Rattle.machine.specs.declared.Factor.{Factor}
 use Rattle.checking.proofs.CheckLaws.{single-ok, double-ok, quadruple-none, quadruple-ok}
-use borrow.Author.Needs.{needs}
 use Rattle.checking.proofs.sizes.factor_width.Statement.{statement}
 use Rattle.checking.proofs.sizes.factor_width.Tie as tie
 

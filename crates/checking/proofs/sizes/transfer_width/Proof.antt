@@ -1,8 +1,6 @@
-use mathlib.Core.Path.{sym, ap, _∙_}
-use lib.Dec.{eqb}
+use Rattle.width.proofs.Kit.{sym, ap, _∙_, eqb, needs}
 use Rattle.machine.specs.Refusals.{widthOf}
 use Rattle.machine.specs.declared.Matrix.{Matrix}
-use borrow.Author.Needs.{needs}
 use Rattle.checking.proofs.sizes.transfer_width.Statement.{statement}
 use Rattle.checking.proofs.sizes.transfer_width.Tie as tie
 

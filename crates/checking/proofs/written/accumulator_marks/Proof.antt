@@ -1,5 +1,4 @@
-use mathlib.Core.Path.{ap, _∙_}
-use lib.ListN.{length}
+use Rattle.width.proofs.Kit.{ap, _∙_, length}
 use Rattle.machine.specs.Answers.{verdict}
 use Rattle.checking.specs.declared.Placed.{Placed}
 use Rattle.checking.proofs.ArithmeticLaws.{accumulator-room, rows-room, searched}

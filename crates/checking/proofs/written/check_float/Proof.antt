@@ -1,9 +1,7 @@
-use mathlib.Core.Path.{_≡_, sym, _∙_}
-use mathlib.Core.Bool.{false}
+use Rattle.width.proofs.Kit.{_≡_, sym, _∙_, false, needs}
 use Rattle.machine.specs.Setting.{mill}
 use Rattle.settings.proofs.TypeLaws.{ready-legal}
 use Rattle.checking.proofs.CheckLaws.{float-type, float-width, float-rest}
-use borrow.Author.Needs.{needs}
 use Rattle.checking.proofs.written.check_float.Statement.{statement}
 use Rattle.checking.proofs.written.check_float.Tie as tie
 

@@ -1,10 +1,5 @@
-use mathlib.Core.Path.{_≡_, refl, sym, ap, _∙_}
-use mathlib.Core.Bool.{Bool, true}
-use mathlib.Core.List.{List}
-use Prim.Native.Nat.{ℕ}
-use borrow.Author.Tests.{not-true, not-false}
+use Rattle.width.proofs.Kit.{_≡_, refl, sym, ap, _∙_, Bool, true, List, [], _∷_, ℕ, not-true, not-false, needs}
 use Rattle.settings.specs.Parts.{ours}
-use mathlib.Core.List.{[], _∷_}
 use Rattle.machine.specs.Answers.{Check, verdict, isDone}
 use Rattle.machine.specs.Operation.{times}
 use Rattle.machine.specs.Setting.{sew}
@@ -12,7 +7,6 @@ use Rattle.machine.specs.Geometry.{accAt}
 use Rattle.checking.specs.Parts.{elementwiseChecks, accumulatorCheck}
 use Rattle.checking.proofs.ArithmeticLaws.{source-fits}
 use Rattle.checking.proofs.CheckLaws.{type-legal-elementwise, part-refused, part-passed}
-use borrow.Author.Needs.{needs}
 use Rattle.machine.specs.Refusals.{needs as marked-check}
 use Rattle.checking.proofs.written.check_scale.Statement.{statement}
 use Rattle.checking.proofs.written.check_scale.Tie as tie

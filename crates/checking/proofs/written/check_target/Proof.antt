@@ -1,17 +1,10 @@
-use mathlib.Core.Path.{_≡_, refl, sym, ap, ap₂, _∙_}
-use mathlib.Core.Bool.{true}
-use mathlib.Core.List.{List, [], _∷_}
-use Prim.Native.Nat.{ℕ, _*_}
-use native.Mathlib.Nat.{mul-le-mul}
-use native.Mathlib.Omega.{arith}
-use borrow.Author.Tests.{not-true, not-false}
+use Rattle.width.proofs.Kit.{_≡_, refl, sym, ap, ap₂, _∙_, true, List, [], _∷_, ℕ, _*_, mul-le-mul, arith, not-true, not-false, needs}
 use Rattle.machine.specs.Answers.{Check, verdict, isDone}
 use Rattle.machine.specs.Operation.{times}
 use Rattle.machine.specs.Setting.{sew}
 use Rattle.checking.specs.Parts.{multiplyChecks, accumulatorCheck}
 use Rattle.checking.proofs.ArithmeticLaws.{product-fits}
 use Rattle.checking.proofs.CheckLaws.{type-legal, part-refused, part-passed}
-use borrow.Author.Needs.{needs}
 use Rattle.checking.proofs.written.check_target.Statement.{statement}
 use Rattle.checking.proofs.written.check_target.Tie as tie
 

@@ -1,11 +1,8 @@
-use mathlib.Core.Path.{sym, ap, _∙_}
-use lib.ListN.{length}
-use borrow.Author.Tests.{not-true, not-false}
+use Rattle.width.proofs.Kit.{sym, ap, _∙_, length, not-true, not-false, needs}
 use Rattle.machine.specs.Answers.{isDone}
 use Rattle.checking.proofs.ArithmeticLaws.{rows-room, a-room, b-room, no-rows, no-columns, first-source, second-source}
 use Rattle.checking.proofs.CheckLaws.{type-legal}
 use Rattle.machine.specs.Operation.{times}
-use borrow.Author.Needs.{needs}
 use Rattle.checking.proofs.written.source_marks.Statement.{statement}
 use Rattle.checking.proofs.written.source_marks.Tie as tie
 

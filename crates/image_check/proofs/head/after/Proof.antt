@@ -1,7 +1,6 @@
 -- `image_check::head::after` meets its contract.
-use borrow.Author.Tests.{eq-eqb, ne-eqb}
+use Rattle.width.proofs.Kit.{eq-eqb, ne-eqb, needs}
 use Rattle.image_check.specs.Parts.{after}
-use borrow.Author.Needs.{needs}
 use Rattle.image_check.proofs.head.after.Statement.{statement}
 use Rattle.image_check.proofs.head.after.Tie as tie
 

@@ -1,9 +1,7 @@
 -- `image_check::head::count_at` meets its contract.
-use mathlib.Core.Path.{ap, _∙_}
-use native.Mathlib.Omega.{arith}
+use Rattle.width.proofs.Kit.{ap, _∙_, arith, needs}
 use Rattle.reader.specs.At.{plain}
 use Rattle.image_check.proofs.HeadLaws.{count-end, count-bad, count-some}
-use borrow.Author.Needs.{needs}
 use Rattle.image_check.proofs.head.count_at.Statement.{statement}
 use Rattle.image_check.proofs.head.count_at.Tie as tie
 

@@ -1,9 +1,7 @@
 -- `image_check::head::field_from` meets its contract.
-use mathlib.Core.Path.{sym, subst}
-use borrow.Author.Tests.{not-true, not-false}
+use Rattle.width.proofs.Kit.{sym, subst, not-true, not-false, needs}
 use Rattle.image_check.specs.Parts.{RowOk}
 use Rattle.image_check.proofs.ScanLaws.{row-ok, field-bad, field-sizes, field-good}
-use borrow.Author.Needs.{needs}
 use Rattle.image_check.proofs.head.field_from.Statement.{statement}
 use Rattle.image_check.proofs.head.field_from.Tie as tie
 

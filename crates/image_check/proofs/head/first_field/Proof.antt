@@ -1,6 +1,6 @@
 -- `image_check::head::first_field` meets its contract.
 use Rattle.image_check.specs.Parts.{rowAt}
-use borrow.Author.Needs.{needs}
+use Rattle.width.proofs.Kit.{needs}
 use Rattle.image_check.proofs.head.first_field.Statement.{statement}
 use Rattle.image_check.proofs.head.first_field.Tie as tie
 

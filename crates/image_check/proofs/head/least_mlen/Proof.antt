@@ -1,6 +1,5 @@
 use Rattle.image_check.proofs.HeadLaws.{least-other, least-wide, least-far, least-near}
-use native.Mathlib.Omega.{arith}
-use borrow.Author.Needs.{needs}
+use Rattle.width.proofs.Kit.{arith, needs}
 use Rattle.image_check.proofs.head.least_mlen.Statement.{statement}
 use Rattle.image_check.proofs.head.least_mlen.Tie as tie
 

@@ -1,5 +1,5 @@
 -- `image_check::head::least_rule` meets its contract.
-use borrow.Author.Tests.{eq-eqb, ne-eqb}
+use Rattle.width.proofs.Kit.{eq-eqb, ne-eqb}
 use Rattle.image_check.proofs.head.least_rule.Statement.{statement}
 use Rattle.image_check.proofs.head.least_rule.Tie as tie
 

@@ -1,5 +1,5 @@
 -- `image_check::head::machine_of` meets its contract.
-use borrow.Author.Needs.{needs}
+use Rattle.width.proofs.Kit.{needs}
 use Rattle.image_check.proofs.head.machine_of.Statement.{statement}
 use Rattle.image_check.proofs.head.machine_of.Tie as tie
 

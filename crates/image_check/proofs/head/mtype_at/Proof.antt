@@ -1,10 +1,7 @@
 -- `image_check::head::mtype_at` meets its contract.
-use mathlib.Core.Path.{ap, _∙_}
-use mathlib.Core.Logic.{inl, inr}
-use native.Mathlib.Omega.{arith}
+use Rattle.width.proofs.Kit.{ap, _∙_, inl, inr, arith, needs}
 use Rattle.reader.specs.At.{plain}
 use Rattle.image_check.proofs.HeadLaws.{mtype-end, mtype-small, mtype-eight, mtype-none, mtype-odd, mtype-wide}
-use borrow.Author.Needs.{needs}
 use Rattle.image_check.proofs.head.mtype_at.Statement.{statement}
 use Rattle.image_check.proofs.head.mtype_at.Tie as tie
 

@@ -1,8 +1,6 @@
 -- `image_check::head::number_in` meets its contract.
-use mathlib.Core.Path.{_∙_}
-use borrow.Author.Tests.{eq-eqb, ne-eqb}
+use Rattle.width.proofs.Kit.{_∙_, eq-eqb, ne-eqb, needs}
 use Rattle.image_check.specs.Parts.{numberIn}
-use borrow.Author.Needs.{needs}
 use Rattle.image_check.proofs.head.number_in.Statement.{statement}
 use Rattle.image_check.proofs.head.number_in.Tie as tie
 

@@ -1,10 +1,5 @@
 -- `image_check::head::power` meets its contract.
-use mathlib.Core.Path.{_∙_}
-use Prim.Native.Nat.{_^_, _≤_}
-use native.Mathlib.Nat.{mod-eq-of-lt}
-use native.Mathlib.Omega.{arith}
-use lib.Pow.{pow-mono}
-use borrow.Author.Needs.{needs}
+use Rattle.width.proofs.Kit.{_∙_, _^_, _≤_, mod-eq-of-lt, arith, pow-mono, needs}
 use Rattle.image_check.proofs.head.power.Statement.{statement}
 use Rattle.image_check.proofs.head.power.Tie as tie
 

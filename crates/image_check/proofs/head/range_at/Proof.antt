@@ -1,11 +1,8 @@
 -- `image_check::head::range_at` meets its contract.
-use mathlib.Core.Path.{_∙_}
-use borrow.Author.Tests.{not-true, not-false}
-use Prim.Native.Nat.{_-_}
+use Rattle.width.proofs.Kit.{_∙_, _-_, not-true, not-false, needs}
 use Rattle.reader.specs.At.{numberAt}
 use Rattle.reader.proofs.FromLaws.{good-is, bad-is}
 use Rattle.image_check.specs.Parts.{rangeAt}
-use borrow.Author.Needs.{needs}
 use Rattle.image_check.proofs.head.range_at.Statement.{statement}
 use Rattle.image_check.proofs.head.range_at.Tie as tie
 

@@ -1,11 +1,8 @@
 -- `image_check::head::ranges_at` meets its contract.
-use mathlib.Core.Path.{_≡_, refl, ap, _∙_}
-use borrow.Author.Tests.{not-true, not-false}
-use native.Mathlib.Omega.{arith}
+use Rattle.width.proofs.Kit.{_≡_, refl, ap, _∙_, arith, not-true, not-false, needs}
 use Rattle.reader.specs.At.{plain}
 use Rattle.image_check.specs.Parts.{Place, placed, rangesEnd, rangesAt}
 use Rattle.image_check.proofs.HeadLaws.{range-good, range-bad, ranges-none, ranges-bad, ranges-next}
-use borrow.Author.Needs.{needs}
 use Rattle.image_check.proofs.head.ranges_at.Statement.{statement}
 use Rattle.image_check.proofs.head.ranges_at.Tie as tie
 

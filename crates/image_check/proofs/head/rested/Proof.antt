@@ -1,5 +1,5 @@
 -- `image_check::head::rested` meets its contract.
-use borrow.Author.Needs.{needs}
+use Rattle.width.proofs.Kit.{needs}
 use Rattle.image_check.proofs.head.rested.Statement.{statement}
 use Rattle.image_check.proofs.head.rested.Tie as tie
 

@@ -1,9 +1,7 @@
 -- `image_check::head::row_of` meets its contract.
-use mathlib.Core.Path.{_∙_}
-use native.Mathlib.Numerals.{add-one}
+use Rattle.width.proofs.Kit.{_∙_, add-one, needs}
 use Rattle.image_check.specs.Parts.{rowAt}
 use Rattle.image_check.proofs.FieldLaws.{row-last}
-use borrow.Author.Needs.{needs}
 use Rattle.image_check.proofs.head.row_of.Statement.{statement}
 use Rattle.image_check.proofs.head.row_of.Tie as tie
 

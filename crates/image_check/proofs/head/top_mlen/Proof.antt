@@ -1,5 +1,4 @@
-use borrow.Author.Tests.{lt-ltb, le-ltb}
-use native.Mathlib.Omega.{arith}
+use Rattle.width.proofs.Kit.{arith, lt-ltb, le-ltb}
 use Rattle.image.specs.ImageFormat.{topMlen}
 use Rattle.image_check.proofs.head.top_mlen.Statement.{statement}
 use Rattle.image_check.proofs.head.top_mlen.Tie as tie

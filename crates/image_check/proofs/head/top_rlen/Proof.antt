@@ -1,5 +1,4 @@
-use borrow.Author.Tests.{lt-ltb, le-ltb}
-use native.Mathlib.Omega.{arith}
+use Rattle.width.proofs.Kit.{arith, lt-ltb, le-ltb}
 use Rattle.image.specs.ImageFormat.{topRlen}
 use Rattle.image_check.proofs.head.top_rlen.Statement.{statement}
 use Rattle.image_check.proofs.head.top_rlen.Tie as tie

@@ -1,13 +1,8 @@
 -- `image_check::runs::next_run` meets its contract.
-use mathlib.Core.Path.{_∙_}
-use Prim.Native.Nat.{_+_, _-_, _*_, _≤_}
-use native.Mathlib.Omega.{arith}
-use lib.ListN.{length}
-use borrow.Author.Tests.{not-true, not-false, le-leb, lt-leb}
+use Rattle.width.proofs.Kit.{_∙_, _+_, _-_, _*_, _≤_, arith, length, not-true, not-false, le-leb, lt-leb, needs}
 use Rattle.reader.specs.At.{numberAt}
 use Rattle.reader.proofs.FromLaws.{Took, took, good-is, bad-is}
 use Rattle.image_check.specs.Parts.{nextAt}
-use borrow.Author.Needs.{needs}
 use Rattle.image_check.proofs.runs.next_run.Statement.{statement}
 use Rattle.image_check.proofs.runs.next_run.Tie as tie
 

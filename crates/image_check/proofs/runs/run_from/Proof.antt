@@ -1,13 +1,9 @@
 -- `image_check::runs::run_from` meets its contract.
-use mathlib.Core.Path.{_≡_, ap, _∙_}
-use Prim.Native.Nat.{ℕ, min}
-use native.Mathlib.Omega.{arith}
-use borrow.Author.Tests.{not-true, not-false}
+use Rattle.width.proofs.Kit.{_≡_, ap, _∙_, ℕ, min, arith, not-true, not-false, needs}
 use Rattle.image_check.specs.Parts.{plainRun, nextAt, runFrom}
 use Rattle.image_check.specs.Parts.Next.{NextRun}
 use Rattle.image_check.proofs.RunsLaws.{RunOk, next-known}
 use Rattle.image_check.proofs.ScanLaws.{least-one, run-good, run-bad}
-use borrow.Author.Needs.{needs}
 use Rattle.image_check.proofs.runs.run_from.Statement.{statement}
 use Rattle.image_check.proofs.runs.run_from.Tie as tie
 

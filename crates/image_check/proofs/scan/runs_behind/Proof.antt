@@ -1,10 +1,6 @@
 -- `image_check::scan::runs_behind` meets its contract.
-use Prim.Native.Nat.{_^_, _≤_}
-use native.Mathlib.Omega.{arith}
-use lib.Pow.{pow-mono}
-use borrow.Author.Tests.{eq-eqb, ne-eqb}
+use Rattle.width.proofs.Kit.{_^_, _≤_, arith, pow-mono, eq-eqb, ne-eqb, needs}
 use Rattle.image_check.specs.Parts.{runsBehind}
-use borrow.Author.Needs.{needs}
 use Rattle.image_check.proofs.scan.runs_behind.Statement.{statement}
 use Rattle.image_check.proofs.scan.runs_behind.Tie as tie
 

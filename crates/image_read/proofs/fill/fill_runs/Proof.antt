@@ -1,10 +1,5 @@
 -- `image_read::fill::fill_runs` meets its contract. The invariant: the runs that are left make of registers and marks what all make.
-use mathlib.Core.Path.{_≡_, refl, sym, ap, _∙_}
-use mathlib.Core.List.{List}
-use Prim.Native.Nat.{ℕ, _+_, _-_, _*_, _≤_}
-use native.Mathlib.Omega.{arith}
-use borrow.Author.Tests.{not-true, not-false}
-use lib.ListN.{length}
+use Rattle.width.proofs.Kit.{_≡_, refl, sym, ap, _∙_, List, ℕ, _+_, _-_, _*_, _≤_, arith, length, not-true, not-false}
 use Rattle.image.specs.declared.Imaged.the-variants.{Done}
 use Rattle.image.specs.Cells.{Run, spread, over}
 use Rattle.image_check.specs.Parts.{nextAt, runsVerdict}

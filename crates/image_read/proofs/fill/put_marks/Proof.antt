@@ -1,9 +1,5 @@
 -- `image_read::fill::put_marks` meets its contract. The invariant: what is still to be set makes of the marks what the whole makes.
-use mathlib.Core.Path.{_≡_, refl, sym, _∙_}
-use Prim.Native.Nat.{_+_, _-_, _≤_}
-use native.Mathlib.Omega.{arith}
-use lib.ListN.{length, replicate, length-set}
-use lib.Seq.{sets}
+use Rattle.width.proofs.Kit.{_≡_, refl, sym, _∙_, _+_, _-_, _≤_, arith, length, replicate, length-set, sets}
 use Rattle.image_read.proofs.MarkLaws.{marks-start, marks-more, marks-end}
 use Rattle.image_read.proofs.fill.put_marks.Statement.{statement}
 use Rattle.image_read.proofs.fill.put_marks.Tie as tie

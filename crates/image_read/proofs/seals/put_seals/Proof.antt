@@ -1,6 +1,4 @@
-use mathlib.Core.Path.{ap, _∙_}
-use mathlib.Core.List.{List}
-use Prim.Native.Nat.{ℕ, _+_, _-_}
+use Rattle.width.proofs.Kit.{ap, _∙_, List, ℕ, _+_, _-_, needs}
 use Rattle.machine.specs.Geometry.{range}
 use Rattle.image.specs.Images.{Seals}
 use Rattle.image_check.specs.Parts.{rangesFound}
@@ -8,7 +6,6 @@ use Rattle.width.specs.Upto.{upto}
 use Rattle.ranges.specs.Ranges.{putRange}
 use Rattle.image_read.specs.Parts.{putRanges}
 use Rattle.image_read.proofs.SealLaws.{found-many, seals-put}
-use borrow.Author.Needs.{needs}
 use Rattle.image_read.proofs.seals.put_seals.Statement.{statement}
 use Rattle.image_read.proofs.seals.put_seals.Tie as tie
 

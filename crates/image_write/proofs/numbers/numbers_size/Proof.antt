@@ -1,10 +1,5 @@
 -- `image_write::numbers::numbers_size` meets its contract.
-use mathlib.Core.Path.{_≡_, ap}
-use mathlib.Core.List.{[]}
-use Prim.Native.Nat.{_+_, _-_, _*_, _≤_}
-use native.Mathlib.Omega.{arith}
-use borrow.Author.Needs.{needs}
-use lib.ListN.{length, drop, getD}
+use Rattle.width.proofs.Kit.{_≡_, ap, [], _+_, _-_, _*_, _≤_, arith, length, drop, getD, needs}
 use Rattle.format.specs.Numbers.{encodeAll}
 use Rattle.reader.proofs.SizeLaws.{size-bound}
 use Rattle.image_write.proofs.PutLaws.{size-more, all-end}

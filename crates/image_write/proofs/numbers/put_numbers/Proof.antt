@@ -1,10 +1,5 @@
 -- `image_write::numbers::put_numbers` meets its contract. The invariant: what is still to be put makes of the room what the whole makes.
-use mathlib.Core.Path.{_≡_, refl, sym, ap, _∙_}
-use mathlib.Core.List.{List, []}
-use Prim.Native.Nat.{ℕ, _+_, _-_, _≤_}
-use native.Mathlib.Omega.{arith}
-use lib.ListN.{length, drop, getD}
-use lib.Seq.{sets, length-sets}
+use Rattle.width.proofs.Kit.{_≡_, refl, sym, ap, _∙_, List, [], ℕ, _+_, _-_, _≤_, arith, length, drop, getD, sets, length-sets}
 use Rattle.format.specs.Numbers.{encode, encodeAll}
 use Rattle.image_write.proofs.PutLaws.{size-more, all-end, put-more}
 use Rattle.image_write.proofs.numbers.put_numbers.Statement.{statement}

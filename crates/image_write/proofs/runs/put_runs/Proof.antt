@@ -1,10 +1,5 @@
 -- `image_write::runs::put_runs` meets its contract. The invariant: the runs that are left make of the room what all make.
-use mathlib.Core.Path.{_≡_, refl, sym, ap, _∙_}
-use mathlib.Core.List.{List}
-use Prim.Native.Nat.{ℕ, _+_, _-_, _≤_}
-use native.Mathlib.Omega.{arith}
-use lib.ListN.{length, take, drop}
-use lib.Seq.{sets}
+use Rattle.width.proofs.Kit.{_≡_, refl, sym, ap, _∙_, List, ℕ, _+_, _-_, _≤_, arith, length, take, drop, sets}
 use Rattle.format.specs.Numbers.{encode}
 use Rattle.image.specs.Cells.{Run, cellsOf, runs}
 use Rattle.image.specs.Images.{runsBytes}

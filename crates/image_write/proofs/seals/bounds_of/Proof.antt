@@ -1,10 +1,5 @@
 -- `image_write::seals::bounds_of` meets its contract. The invariant: the numbers of the ranges so far stand in front.
-use mathlib.Core.Path.{_≡_, refl, sym, ap, _∙_}
-use mathlib.Core.List.{List, []}
-use Prim.Native.Nat.{ℕ, _+_, _-_, _*_, _≤_}
-use native.Mathlib.Omega.{arith}
-use borrow.Author.Needs.{needs}
-use lib.ListN.{length, take, set, length-set}
+use Rattle.width.proofs.Kit.{_≡_, refl, sym, ap, _∙_, List, [], ℕ, _+_, _-_, _*_, _≤_, arith, length, take, set, length-set, needs}
 use Rattle.ranges.specs.Ranges.{firstRanges}
 use Rattle.image.specs.Images.{bounds}
 use Rattle.image_write.proofs.SealLaws.{block-long, seals-are, take-two, bounds-next}

@@ -1,7 +1,4 @@
-use mathlib.Core.Path.{ap, _∙_}
-use native.Mathlib.Omega.{arith}
-use borrow.Author.Needs.{needs}
-use lib.ListN.{length}
+use Rattle.width.proofs.Kit.{ap, _∙_, arith, length, needs}
 use Rattle.image_write.proofs.SealLaws.{count-none, count-listed}
 use Rattle.image_write.proofs.seals.count_size.Statement.{statement}
 use Rattle.image_write.proofs.seals.count_size.Tie as tie

@@ -1,10 +1,4 @@
-use mathlib.Core.Path.{ap, _∙_}
-use mathlib.Core.List.{List}
-use Prim.Native.Nat.{ℕ}
-use native.Mathlib.Omega.{arith}
-use borrow.Author.Needs.{needs}
-use lib.ListN.{length}
-use lib.Seq.{sets}
+use Rattle.width.proofs.Kit.{ap, _∙_, List, ℕ, arith, length, sets, needs}
 use Rattle.image_write.proofs.SealLaws.{count-none, count-some}
 use Rattle.image_write.proofs.seals.put_count.Statement.{statement}
 use Rattle.image_write.proofs.seals.put_count.Tie as tie

@@ -1,10 +1,4 @@
-use mathlib.Core.Path.{_≡_, sym, ap, ap₂, _∙_}
-use mathlib.Core.List.{List, []}
-use Prim.Native.Nat.{ℕ, _*_}
-use native.Mathlib.Omega.{arith}
-use borrow.Author.Needs.{needs}
-use lib.ListN.{length, take}
-use lib.Seq.{sets}
+use Rattle.width.proofs.Kit.{_≡_, sym, ap, ap₂, _∙_, List, [], ℕ, _*_, arith, length, take, sets, needs}
 use Rattle.format.specs.Numbers.{encodeAll}
 use Rattle.ranges.specs.Ranges.{sealsIn}
 use Rattle.image.specs.Images.{bounds}

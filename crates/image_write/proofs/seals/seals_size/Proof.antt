@@ -1,9 +1,4 @@
-use mathlib.Core.Path.{_≡_, sym, ap, _∙_}
-use mathlib.Core.List.{List, []}
-use Prim.Native.Nat.{ℕ, _*_}
-use native.Mathlib.Omega.{arith}
-use borrow.Author.Needs.{needs}
-use lib.ListN.{length, take}
+use Rattle.width.proofs.Kit.{_≡_, sym, ap, _∙_, List, [], ℕ, _*_, arith, length, take, needs}
 use Rattle.format.specs.Numbers.{encodeAll}
 use Rattle.ranges.specs.Ranges.{sealsIn}
 use Rattle.image_write.proofs.SealLaws.{seals-many, all-taken, taken-many, seal-long}

@@ -1,10 +1,5 @@
 -- `image_write::stretch::all_are` meets its contract.
-use mathlib.Core.Path.{_≡_, refl, ap, _∙_}
-use mathlib.Core.Logic.{⊎-elim}
-use Prim.Native.Nat.{ℕ, _+_, _-_, _≤_}
-use native.Mathlib.Omega.{arith}
-use lib.ListN.{getD}
-use lib.Dec.{eqb}
+use Rattle.width.proofs.Kit.{_≡_, refl, ap, _∙_, ⊎-elim, ℕ, _+_, _-_, _≤_, arith, eqb, getD}
 use Rattle.machine.specs.Tests.{all}
 use Rattle.image_write.proofs.StretchLaws.{block-bad, block-good}
 use Rattle.image_write.proofs.stretch.all_are.Statement.{statement}

@@ -1,9 +1,5 @@
 -- `image_write::stretch::blocks_end` meets its contract.
-use mathlib.Core.Path.{sym, _∙_}
-use Prim.Native.Nat.{_-_, _≤_}
-use native.Mathlib.Omega.{arith}
-use borrow.Author.Tests.{not-false}
-use lib.ListN.{length}
+use Rattle.width.proofs.Kit.{sym, _∙_, _-_, _≤_, arith, length, not-false}
 use Rattle.image_write.proofs.StretchLaws.{AllSame, block-more}
 use Rattle.image_write.proofs.stretch.blocks_end.Statement.{statement}
 use Rattle.image_write.proofs.stretch.blocks_end.Tie as tie

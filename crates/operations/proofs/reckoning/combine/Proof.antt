@@ -1,9 +1,4 @@
-use mathlib.Core.Path.{_≡_, refl, sym, ap, _∙_}
-use mathlib.Core.Bool.{true}
-use Prim.Native.Nat.{_*_}
-use native.Mathlib.Omega.{arith}
-use borrow.Author.Tests.{not-true, not-false}
-use mathlib.Core.List.{[], _∷_}
+use Rattle.width.proofs.Kit.{_≡_, refl, sym, ap, _∙_, true, [], _∷_, _*_, arith, not-true, not-false, needs}
 use Rattle.machine.specs.Answers.{verdict, isDone}
 use Rattle.machine.specs.Operation.{Operation, times}
 use Rattle.machine.specs.Setting.{sew}
@@ -13,7 +8,6 @@ use Rattle.checking.specs.Parts.{elementwiseChecks, accumulatorCheck, combineCh
 use Rattle.checking.proofs.CheckLaws.{type-legal-elementwise, part-done}
 use Rattle.operations.proofs.EffectLaws.{marks-ready, arithmetic-refused, combine-asks, combine-loads}
 use Rattle.settings.proofs.FaultLaws.{ready}
-use borrow.Author.Needs.{needs}
 use Rattle.operations.proofs.reckoning.combine.Statement.{statement}
 use Rattle.operations.proofs.reckoning.combine.Tie as tie
 

@@ -1,11 +1,8 @@
-use mathlib.Core.Path.{_≡_, sym, ap, _∙_}
-use mathlib.Core.Bool.{true}
-use borrow.Author.Tests.{not-true, not-false}
+use Rattle.width.proofs.Kit.{_≡_, sym, ap, _∙_, true, not-true, not-false, needs}
 use Rattle.machine.specs.Answers.{verdict, isDone}
 use Rattle.machine.specs.Operation.{Operation}
 use Rattle.checking.specs.Parts.{floatChecks}
 use Rattle.operations.proofs.EffectLaws.{marks-ready, arithmetic-refused, float-loads}
-use borrow.Author.Needs.{needs}
 use Rattle.operations.proofs.reckoning.float_multiply.Statement.{statement}
 use Rattle.operations.proofs.reckoning.float_multiply.Tie as tie
 

@@ -1,11 +1,7 @@
-use mathlib.Core.Path.{ap, _∙_}
-use Prim.Native.Nat.{_+_, _*_, _≤_}
-use native.Mathlib.Omega.{arith}
-use lib.ListN.{length}
+use Rattle.width.proofs.Kit.{ap, _∙_, _+_, _*_, _≤_, arith, length, needs}
 use Rattle.checking.specs.declared.Placed.{Placed}
 use Rattle.checking.proofs.ArithmeticLaws.{accumulator-room, rows-room}
 use Rattle.width.specs.Tile.{markTile}
-use borrow.Author.Needs.{needs}
 use Rattle.operations.proofs.reckoning.mark_accumulator.Statement.{statement}
 use Rattle.operations.proofs.reckoning.mark_accumulator.Tie as tie
 

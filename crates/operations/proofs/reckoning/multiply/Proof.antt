@@ -1,11 +1,8 @@
-use mathlib.Core.Path.{_≡_, sym, ap, _∙_}
-use mathlib.Core.Bool.{true}
-use borrow.Author.Tests.{not-true, not-false}
+use Rattle.width.proofs.Kit.{_≡_, sym, ap, _∙_, true, not-true, not-false, needs}
 use Rattle.machine.specs.Answers.{verdict, isDone}
 use Rattle.machine.specs.Operation.{Operation, times}
 use Rattle.checking.specs.Parts.{productChecks}
 use Rattle.operations.proofs.EffectLaws.{marks-ready, arithmetic-refused, product-loads}
-use borrow.Author.Needs.{needs}
 use Rattle.operations.proofs.reckoning.multiply.Statement.{statement}
 use Rattle.operations.proofs.reckoning.multiply.Tie as tie
 

@@ -1,8 +1,7 @@
-use native.Mathlib.Omega.{arith}
+use Rattle.width.proofs.Kit.{arith, needs}
 use Rattle.machine.proofs.NoFault.{sound-is}
 use Rattle.machine.proofs.StepLaws.{permitted-bounds}
 use Rattle.operations.proofs.EffectLaws.{float-asks, float-registers}
-use borrow.Author.Needs.{needs}
 use Rattle.operations.proofs.reckoning.multiply_floats.Statement.{statement}
 use Rattle.operations.proofs.reckoning.multiply_floats.Tie as tie
 

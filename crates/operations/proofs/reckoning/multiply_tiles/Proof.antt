@@ -1,8 +1,4 @@
-use mathlib.Core.Path.{_≡_, refl}
-use mathlib.Core.Bool.{true}
-use mathlib.Core.List.{[], _∷_, _++_}
-use Prim.Native.Nat.{_*_}
-use native.Mathlib.Omega.{arith}
+use Rattle.width.proofs.Kit.{_≡_, refl, true, [], _∷_, _++_, _*_, arith, needs}
 use Rattle.machine.specs.Answers.{verdict, isDone}
 use Rattle.machine.specs.Operation.{times}
 use Rattle.machine.specs.Setting.{sew}
@@ -12,7 +8,6 @@ use Rattle.checking.specs.Parts.{multiplyChecks, sourceChecks, accumulatorCheck
 use Rattle.checking.proofs.CheckLaws.{type-legal, part-done}
 use Rattle.operations.proofs.EffectLaws.{product-asks, product-registers}
 use Rattle.settings.proofs.FaultLaws.{ready}
-use borrow.Author.Needs.{needs}
 use Rattle.operations.proofs.reckoning.multiply_tiles.Statement.{statement}
 use Rattle.operations.proofs.reckoning.multiply_tiles.Tie as tie
 

@@ -1,11 +1,5 @@
-use mathlib.Core.Path.{_≡_, refl, sym, ap, _∙_}
-use mathlib.Core.Bool.{true}
-use native.Mathlib.Omega.{arith}
-use lib.Dec.{eqb}
-use borrow.Author.Tests.{not-true, not-false}
+use Rattle.width.proofs.Kit.{_≡_, refl, sym, ap, _∙_, true, [], _∷_, mul-le-mul, arith, eqb, not-true, not-false, needs}
 use Rattle.settings.specs.Parts.{ours}
-use mathlib.Core.List.{[], _∷_}
-use native.Mathlib.Nat.{mul-le-mul}
 use Rattle.machine.specs.Answers.{verdict, isDone}
 use Rattle.machine.specs.Operation.{times}
 use Rattle.machine.specs.Setting.{sew}
@@ -17,7 +11,6 @@ use Rattle.checking.proofs.ArithmeticLaws.{elementwise-fits}
 use Rattle.checking.proofs.CheckLaws.{type-legal-elementwise, part-done}
 use Rattle.operations.proofs.EffectLaws.{marks-ready, scale-refused, scale-asks, scale-loads}
 use Rattle.settings.proofs.FaultLaws.{ready}
-use borrow.Author.Needs.{needs}
 use Rattle.machine.specs.Refusals.{needs as marked-check}
 use Rattle.operations.proofs.reckoning.scale.Statement.{statement}
 use Rattle.operations.proofs.reckoning.scale.Tie as tie

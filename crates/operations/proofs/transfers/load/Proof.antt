@@ -1,11 +1,8 @@
-use mathlib.Core.Path.{_≡_, sym, ap, _∙_}
-use mathlib.Core.Bool.{true}
-use borrow.Author.Tests.{not-true, not-false}
+use Rattle.width.proofs.Kit.{_≡_, sym, ap, _∙_, true, not-true, not-false, needs}
 use Rattle.machine.specs.Answers.{verdict, isDone}
 use Rattle.checking.specs.Parts.{transferChecks}
 use Rattle.settings.proofs.FaultLaws.{ready}
 use Rattle.operations.proofs.TransferLaws.{room, load-refused, load-done}
-use borrow.Author.Needs.{needs}
 use Rattle.operations.proofs.transfers.load.Statement.{statement}
 use Rattle.operations.proofs.transfers.load.Tie as tie
 

@@ -1,13 +1,10 @@
-use mathlib.Core.Path.{_≡_, sym, ap, _∙_}
-use mathlib.Core.Bool.{true}
-use borrow.Author.Tests.{not-true, not-false}
+use Rattle.width.proofs.Kit.{_≡_, sym, ap, _∙_, true, not-true, not-false, needs}
 use Rattle.machine.specs.Geometry.{sealed}
 use Rattle.ranges.specs.Ranges.{sealsIn}
 use Rattle.machine.specs.Answers.{verdict, isDone}
 use Rattle.checking.specs.Parts.{transferChecks}
 use Rattle.settings.proofs.FaultLaws.{ready}
 use Rattle.operations.proofs.TransferLaws.{room, store-refused, store-done}
-use borrow.Author.Needs.{needs}
 use Rattle.operations.proofs.transfers.store.Statement.{statement}
 use Rattle.operations.proofs.transfers.store.Tie as tie
 

@@ -1,7 +1,4 @@
-use mathlib.Core.Path.{_≡_, sym, ap, _∙_, subst}
-use mathlib.Core.Bool.{true}
-use Prim.Native.Nat.{ℕ, _*_, _≤_}
-use borrow.Author.Needs.{needs}
+use Rattle.width.proofs.Kit.{_≡_, sym, ap, _∙_, subst, true, ℕ, _*_, _≤_, needs}
 use Rattle.address.proofs.TestLaws.{test-failed, test-passed}
 use Rattle.run.specs.Plan.{narrow}
 use Rattle.starting.proofs.StartLaws.{plan-sizes, a-sizes, counted, counted-both, aInside, bInside, cInside, aIn, bIn, a-outside, b-outside, c-decides}

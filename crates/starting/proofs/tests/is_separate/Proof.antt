@@ -1,10 +1,4 @@
-use mathlib.Core.Path.{_≡_, sym, ap, ap₂, _∙_, subst}
-use mathlib.Core.Bool.{Bool, true}
-use Prim.Native.Nat.{ℕ, _*_, _^_, _≤_, _<_}
-use native.Mathlib.Nat.{mul-le-mul}
-use native.Mathlib.Omega.{arith}
-use lib.ListN.{length}
-use borrow.Author.Needs.{needs}
+use Rattle.width.proofs.Kit.{_≡_, sym, ap, ap₂, _∙_, subst, Bool, true, ℕ, _*_, _^_, _≤_, _<_, mul-le-mul, arith, length, needs}
 use Rattle.machine.specs.Geometry.{sealed}
 use Rattle.ranges.specs.Ranges.{sealsIn}
 use Rattle.address.proofs.TestLaws.{test-failed, test-passed}

@@ -1,5 +1,4 @@
-use mathlib.Core.Path.{refl}
-use native.Mathlib.Omega.{arith}
+use Rattle.width.proofs.Kit.{refl, arith}
 use Rattle.run.specs.Plan.{narrow}
 use Rattle.starting.proofs.StartLaws.{narrow-row}
 use Rattle.starting.proofs.tests.narrow_row.Statement.{statement}

@@ -1,5 +1,4 @@
-use mathlib.Core.Path.{refl}
-use native.Mathlib.Omega.{arith}
+use Rattle.width.proofs.Kit.{refl, arith}
 use Rattle.run.specs.Plan.{narrow}
 use Rattle.starting.proofs.StartLaws.{wide-most, wide-row}
 use Rattle.starting.proofs.tests.wide_row.Statement.{statement}

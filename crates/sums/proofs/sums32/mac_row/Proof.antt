@@ -1,8 +1,5 @@
-use native.Mathlib.Omega.{arith}
-use Prim.Native.Nat.{_+_, _-_, _≤_}
-use lib.ListN.{length}
+use Rattle.width.proofs.Kit.{_+_, _-_, _≤_, arith, length, needs}
 use Rattle.sums.proofs.KernelLaws.{inside, Added, add-none, add-next}
-use borrow.Author.Needs.{needs}
 use Rattle.sums.proofs.sums32.mac_row.Statement.{statement}
 use Rattle.sums.proofs.sums32.mac_row.Tie as tie
 
