@@ -9,14 +9,17 @@ use Rattle.image.specs.declared.Imaged.the-variants.{Done, BadArguments, NoRoom
 use Rattle.image.specs.Answers.{imageReply}
 use Rattle.image.specs.ImageFormat.{Described}
 use Rattle.image.specs.Reading.{verdictOf, checkImage}
-use Rattle.image_check.specs.declared.head.Fields.{Fields}
+use Rattle.image_header.specs.declared.Fields.{Fields}
 use Rattle.image_check.specs.declared.runs.Runs.{Runs}
 use Rattle.image_check.specs.declared.scan.Scanned.{Scanned}
-use Rattle.image_check.specs.Parts.{FieldsOk, fieldsIn, machineOf, describe, runsFrom, runsVerdict, runsOf, runsAll, runsBehind, scanIn, verdictIn, imageDone}
-use Rattle.image_check.proofs.RunsLaws.{mapped}
-use Rattle.image_check.proofs.HeadLaws.{HeadedOk, head-parse, head-sizes}
-use Rattle.image_check.proofs.FieldLaws.{head-bad, head-known}
-use Rattle.image_check.proofs.ScanLaws.{fields-ok, Sound, behind-ok, runVerdict, verdict-runs}
+use Rattle.image_header.specs.Fields.{FieldsOk, fieldsIn, machineOf, describe, runsFrom}
+use Rattle.image_check.specs.Parts.{runsVerdict, runsOf, runsAll, runsBehind, scanIn, verdictIn, imageDone}
+use Rattle.image_header.proofs.BodyLaws.{mapped}
+use Rattle.image_header.proofs.HeadLaws.{HeadedOk}
+use Rattle.image_header.proofs.HeadLaws.{head-parse, head-sizes}
+use Rattle.image_header.proofs.FieldLaws.{head-bad, head-known}
+use Rattle.image_header.proofs.ReadyLaws.{fields-ok}
+use Rattle.image_check.proofs.ScanLaws.{Sound, behind-ok, runVerdict, verdict-runs}
 
 -- the verdict on the runs is that on the image
 pub check-runs-is : (s : List ℕ) (m : Machine) (n f c a : ℕ) (h : HeadedOk s m n f c a) (v : Imaged) → v ≡ runsVerdict s a c 0 (2 * m .mlen) → v ≡ checkImage s

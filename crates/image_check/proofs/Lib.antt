@@ -1,6 +1,4 @@
--- Laws for the code: the runs of an image, its header, the scan of both, and the entry point.
+-- Laws for the code: the runs of an image, the scan of header and runs, and the entry point.
 pub mod RunsLaws
-pub mod HeadLaws
-pub mod FieldLaws
 pub mod ScanLaws
 pub mod CheckLaws

@@ -1,13 +1,12 @@
 // The check of an image: its header and its runs, up to the place of the first fault. What an image is, is defined in image/specs/.
-use head::ALL_READ;
 use image::Imaged;
+use image_header::ALL_READ;
 use scan::Scanned;
 use scan::scan;
 ghost use mathlib.Core.Path.{_≡_};
 ghost use Rattle.image.specs.Reading.{checkImage};
 ghost use Rattle.image_check.specs.Parts.{verdictIn, imageDone};
 
-pub mod head; // the numbers of an image
 pub mod runs; // its runs
 pub mod scan; // the reader that moves through both
 

@@ -1,17 +1,18 @@
 // The scan of an image: one reader is set on it and moves through all of it, field by field and run by run.
-use crate::head::ALL_READ;
-use crate::head::Fields;
-use crate::head::field_from;
-use crate::head::first_field;
-use crate::head::power;
-use crate::head::rested;
 use crate::runs::Runs;
 use crate::runs::run_from;
+use image_header::ALL_READ;
+use image_header::Fields;
+use image_header::field_from;
+use image_header::first_field;
+use image_header::power;
+use image_header::rested;
 use reader::Reader;
 use reader::set_on;
 ghost use mathlib.Core.Path.{_≡_};
 ghost use Prim.Native.Nat.{_-_, _<_};
-ghost use Rattle.image_check.specs.Parts.{FieldsOk, Ready, fieldsAll, RunsOk, runsAll, runsBehind, rested, scanIn};
+ghost use Rattle.image_header.specs.Fields.{FieldsOk, Ready, fieldsAll, rested};
+ghost use Rattle.image_check.specs.Parts.{RunsOk, runsAll, runsBehind, scanIn};
 
 // What is found in an image: its header, and its runs.
 pub struct Scanned {

@@ -5,7 +5,8 @@ use Rattle.machine.specs.Starting.{noMachine}
 use Rattle.ranges.specs.Ranges.{blockBytes, putSeals}
 use Rattle.image.specs.declared.Imaged.{Imaged}
 use Rattle.image.specs.Reading.{ReadOutcome, checkImage, readImage}
-use Rattle.image_check.specs.Parts.{rangesFound, imageDone}
+use Rattle.image_header.specs.Fields.{rangesFound}
+use Rattle.image_check.specs.Parts.{imageDone}
 use Rattle.image_check.proofs.CheckLaws.{done-number}
 use Rattle.image_read.specs.declared.Found.{Found}
 use Rattle.image_read.specs.Blocks.{BlockOutcome, restoredAs, blockRefused, intoBlock, readBlock}

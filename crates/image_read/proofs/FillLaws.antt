@@ -11,8 +11,10 @@ use Rattle.image.specs.Cells.Run.{run}
 use Rattle.image.specs.declared.Imaged.the-variants.{Done, Damaged}
 use Rattle.image.specs.ImageFormat.{Described, runsFormat}
 use Rattle.image.specs.Reading.{verdictOf}
-use Rattle.image_check.specs.Parts.{runsFrom, runsVerdict}
-use Rattle.image_check.proofs.RunsLaws.{mapped, plain, cons, RunOk, run-next}
+use Rattle.image_header.specs.Fields.{runsFrom}
+use Rattle.image_check.specs.Parts.{runsVerdict}
+use Rattle.image_header.proofs.BodyLaws.{mapped}
+use Rattle.image_check.proofs.RunsLaws.{plain, cons, RunOk, run-next}
 use Rattle.image_read.specs.Parts.{bodyOf, bodyAt, ones}
 
 -- ---- over, part by part

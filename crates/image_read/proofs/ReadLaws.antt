@@ -16,9 +16,11 @@ use Rattle.image.specs.ImageFormat.{Described, total, imageFormat}
 use Rattle.image.specs.Reading.{verdictOf, checkImage, restored, readAs, readImage}
 use Rattle.image.proofs.ImageLaws.{image-live, image-out}
 use Rattle.image.proofs.Images.{fits-true, read-done, read-unfit}
-use Rattle.image_check.specs.Parts.{rangesEnd, rangesFound, describe, runsFrom, runsVerdict, imageDone}
-use Rattle.image_check.proofs.RunsLaws.{mapped}
-use Rattle.image_check.proofs.HeadLaws.{HeadedOk, head-parse}
+use Rattle.image_header.specs.Fields.{rangesEnd, rangesFound, describe, runsFrom}
+use Rattle.image_check.specs.Parts.{runsVerdict, imageDone}
+use Rattle.image_header.proofs.BodyLaws.{mapped}
+use Rattle.image_header.proofs.HeadLaws.{HeadedOk}
+use Rattle.image_header.proofs.HeadLaws.{head-parse}
 use Rattle.image_read.specs.declared.Found.{Found}
 use Rattle.image_read.specs.Parts.{bodyOf, bodyAt, ones, Ends, Stand, foundAs}
 use Rattle.image_read.proofs.FillLaws.{marks-ones}

@@ -8,10 +8,10 @@ use Rattle.width.specs.Tile.{putLe}
 use Rattle.machine.specs.Geometry.{Range, range}
 use Rattle.ranges.specs.Ranges.{putRange, putSeals}
 use Rattle.image.specs.Images.{Seals}
-use Rattle.image_check.specs.Parts.Pair.{Both, PairBad}
-use Rattle.image_check.specs.Parts.Place.{PlaceBad}
-use Rattle.image_check.specs.Parts.{Pair, rangeAt, past, rangesEnd, rangesFound}
-use Rattle.image_check.proofs.HeadLaws.{ranges-bad, ranges-next, found-next}
+use Rattle.image_header.specs.Fields.Pair.{Both, PairBad}
+use Rattle.image_header.specs.Fields.Place.{PlaceBad}
+use Rattle.image_header.specs.Fields.{Pair, rangeAt, past, rangesEnd, rangesFound}
+use Rattle.image_header.proofs.HeadLaws.{ranges-bad, ranges-next, found-next}
 use Rattle.image_read.specs.Parts.{Ends, putRanges}
 
 module _ (s : List ℕ) (count i at : ℕ) where

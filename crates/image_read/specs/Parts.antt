@@ -8,8 +8,8 @@ use Rattle.image.specs.Cells.Run.{run}
 use Rattle.image.specs.Images.{Seals}
 use Rattle.image.specs.ImageFormat.{Described}
 use Rattle.image.specs.Reading.{ReadOutcome, restored}
-use Rattle.image_check.specs.Parts.Place.{Behind, PlaceBad}
-use Rattle.image_check.specs.Parts.{Place, rangesEnd, rangesFound, runsFrom}
+use Rattle.image_header.specs.Fields.Place.{Behind, PlaceBad}
+use Rattle.image_header.specs.Fields.{Place, rangesEnd, rangesFound, runsFrom}
 use Rattle.image_read.specs.declared.Found.{Found}
 
 -- the runs that are there

@@ -1,12 +1,12 @@
 // The ranges of an image into a machine's block.
 use element::write8;
-use image_check::head::range_at;
+use image_header::range_at;
 use ranges::clear_slots;
 use ranges::put_range;
 ghost use mathlib.Core.Path.{_≡_};
 ghost use lib.ListN.{length};
 ghost use Rattle.ranges.specs.Ranges.{blockBytes, putSeals};
-ghost use Rattle.image_check.specs.Parts.{rangesFound};
+ghost use Rattle.image_header.specs.Fields.{rangesFound};
 ghost use Rattle.image_read.specs.Parts.{Stand, putRanges};
 
 // Puts the ranges that stand at a place of an image into the first slots.

@@ -24,11 +24,12 @@ use Rattle.image.specs.Cells.Run.{run}
 use Rattle.image.specs.Images.{Header, version, fields, runsBytes, spelled}
 use Rattle.image.specs.ImageFormat.{Described, total, headFormat, imageFormat}
 use Rattle.image.proofs.ImageLaws.{image-out}
-use Rattle.image_check.specs.declared.head.Fields.{Fields}
-use Rattle.image_check.specs.Parts.{fieldsIn, describe, runsFrom}
-use Rattle.image_check.proofs.RunsLaws.{mapped}
-use Rattle.image_check.proofs.HeadLaws.{HeadedOk, head-parse}
-use Rattle.image_check.proofs.FieldLaws.{head-stops, head-bad}
+use Rattle.image_header.specs.declared.Fields.{Fields}
+use Rattle.image_header.specs.Fields.{fieldsIn, describe, runsFrom}
+use Rattle.image_header.proofs.BodyLaws.{mapped}
+use Rattle.image_header.proofs.HeadLaws.{HeadedOk}
+use Rattle.image_header.proofs.HeadLaws.{head-parse}
+use Rattle.image_header.proofs.FieldLaws.{head-stops, head-bad}
 use Rattle.salvage.specs.Fronts.{Front, front}
 use Rattle.salvage.specs.Fronts.Front.{ahead, stuck}
 use Rattle.salvage.specs.Salvage.{placeOf, placeIn, Announced, announcedFormat, oneRun, runsKept, Kept, keptFrom, keptIn, SalvageOutcome, salvaged, salvageOf, salvage}

@@ -18,8 +18,8 @@ use Rattle.image.specs.Cells.Run.{run}
 use Rattle.machine.specs.Geometry.{range}
 use Rattle.image.specs.Images.{Seals, Header, runsBytes}
 use Rattle.image.specs.ImageFormat.{Described, topRlen, topMlen, leastMlen, mtypes, versionFormat, shapeFormat, tilesFormat, rangesFormat, counts, sealsFormat, runsFormat, headFormat}
-use Rattle.image_check.specs.Parts.{numbersOf}
-use Rattle.image_check.proofs.HeadLaws.{runsPart, countPart, sealsPart, tilesPart}
+use Rattle.image_header.specs.Fields.{numbersOf}
+use Rattle.image_header.proofs.HeadLaws.{runsPart, countPart, sealsPart, tilesPart}
 use Rattle.salvage.specs.Fronts.{Front, front}
 use Rattle.salvage.specs.Fronts.Front.{ahead, stuck}
 use Rattle.salvage.specs.Salvage.{placeOf, Announced, announcedFormat, oneRun, taken, runsKept}

@@ -25,10 +25,12 @@ use Rattle.image.specs.ImageFormat.{Described, runsFormat}
 use Rattle.image.specs.Reading.{verdictOf}
 use Rattle.image_check.specs.declared.runs.Runs.{Runs}
 use Rattle.image_check.specs.declared.scan.Scanned.{Scanned}
-use Rattle.image_check.specs.Parts.{Next, onward, nextAt, runsFrom, runsVerdict, runsOf, pastRun, runFrom, runsAll, scanIn}
+use Rattle.image_header.specs.Fields.{onward, runsFrom}
+use Rattle.image_check.specs.Parts.{Next, nextAt, runsVerdict, runsOf, pastRun, runFrom, runsAll, scanIn}
 use Rattle.image_check.specs.Parts.Next.{NextRun, NextBad}
-use Rattle.image_check.proofs.RunsLaws.{mapped, plain, cons, RunOk, next-bad, next-known}
-use Rattle.image_check.proofs.HeadLaws.{head-sizes}
+use Rattle.image_header.proofs.BodyLaws.{mapped}
+use Rattle.image_check.proofs.RunsLaws.{plain, cons, RunOk, next-bad, next-known}
+use Rattle.image_header.proofs.HeadLaws.{head-sizes}
 use Rattle.image_check.proofs.ScanLaws.{Sound, run-ok}
 use Rattle.image_check.proofs.CheckLaws.{scan-headed, scan-runs, scan-sound}
 use Rattle.salvage.specs.Fronts.{Front, behind, front}

@@ -2,8 +2,8 @@
 // written is defined in specs/. The first pass finds what is kept; only then the room is written, so that a refusal changes nothing.
 use fresh::rescue;
 use image::Imaged;
-use image_check::head::ALL_READ;
 use image_check::scan::scan;
+use image_header::ALL_READ;
 ghost use mathlib.Core.Path.{_≡_};
 ghost use Rattle.salvage.specs.Salvage.{salvage, salvagedAs};
 

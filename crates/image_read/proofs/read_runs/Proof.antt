@@ -3,8 +3,10 @@ use Rattle.width.proofs.Kit.{_≡_, refl, sym, ap, _∙_, subst, true, false, �
 use Rattle.machine.specs.declared.Machine.{Machine}
 use Rattle.image.specs.declared.Imaged.the-variants.{Done}
 use Rattle.image.specs.Reading.{restored}
-use Rattle.image_check.specs.Parts.{rangesFound, machineOf, runsVerdict, imageDone}
-use Rattle.image_check.proofs.HeadLaws.{HeadedOk, head-sizes}
+use Rattle.image_header.specs.Fields.{rangesFound, machineOf}
+use Rattle.image_check.specs.Parts.{runsVerdict, imageDone}
+use Rattle.image_header.proofs.HeadLaws.{HeadedOk}
+use Rattle.image_header.proofs.HeadLaws.{head-sizes}
 use Rattle.image_check.proofs.CheckLaws.{scan-ok, scan-verdict, scan-headed, scan-verdict-runs, done-headed}
 use Rattle.image_read.proofs.ReadLaws.{none-stand, they-stand, found-none, bytes-all, read-refused, runs-done, read-unfit-is, read-done-is}
 use Rattle.image_read.proofs.read_runs.Statement.{statement}

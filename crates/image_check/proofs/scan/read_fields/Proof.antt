@@ -46,16 +46,16 @@ use denote.Triple.Clauses.{ensured, lasts}
 use Rattle.reader.specs.declared.Reader.{Reader}
 use Rattle.reader.proofs.Reader as T
 use Rattle.reader.proofs.Reader.Laws as T′
-use Rattle.image_check.specs.declared.head.Fields.{Fields}
-use Rattle.image_check.specs.Parts.{Ready, fieldFrom}
-use Rattle.image_check.proofs.FieldLaws.{left, field-more, fields-step, fields-done}
-use Rattle.image_check.proofs.ScanLaws.{field-ready}
-use Rattle.image_check.proofs.head.Fields as U
-use Rattle.image_check.proofs.head.Fields.Laws as U′
-use Rattle.image_check.proofs.head.field_from as step
-use Rattle.image_check.proofs.head.field_from.Symbol as step-def
-use Rattle.image_check.proofs.head.field_from.Symbol.{name as #field-from}
-use Rattle.image_check.proofs.head.field_from.Met as step-thm
+use Rattle.image_header.specs.declared.Fields.{Fields}
+use Rattle.image_header.specs.Fields.{Ready, fieldFrom}
+use Rattle.image_header.proofs.FieldLaws.{left, field-more, fields-step, fields-done}
+use Rattle.image_header.proofs.ReadyLaws.{field-ready}
+use Rattle.image_header.proofs.Fields as U
+use Rattle.image_header.proofs.Fields.Laws as U′
+use Rattle.image_header.proofs.field_from as step
+use Rattle.image_header.proofs.field_from.Symbol as step-def
+use Rattle.image_header.proofs.field_from.Symbol.{name as #field-from}
+use Rattle.image_header.proofs.field_from.Met as step-thm
 use Rattle.image_check.proofs.scan.read_fields.Key.{name as #read-fields}
 use Rattle.image_check.proofs.scan.read_fields as all
 use Rattle.image_check.proofs.scan.read_fields.Statement as stated
@@ -262,4 +262,4 @@ read-fields-spec 𝓤 H 𝓜 𝓖 𝓡 =
     entered 𝓤 H (tripleOf 𝓤 H (𝓖 .A) all.signature (all.spec 𝓤 H (𝓖 .A) (𝓜 .mem) (𝓡 .run)))
     (tables 𝓤 H 𝓜 𝓡 code.env .C) (tables 𝓤 H 𝓜 𝓡 code.env .Λ) #read-fields code.function (code.unfolded 𝓤 H 𝓜 𝓡)
     (all-meets 𝓤 H (𝓖 .A) (givenOf 𝓤 H 𝓜 𝓖) (𝓜 .mem) (𝓡 .run) (tablesOf 𝓤 H 𝓜 (tables 𝓤 H 𝓜 𝓡 code.env))
-    (cited 𝓤 H (Step 𝓤 H (𝓖 .A) (𝓜 .mem) (𝓡 .run)) 𝓜 𝓡 code.env #field-from step-def.routine code.calls-image-check·head·field-from (step-thm.met 𝓤 H 𝓜 𝓖 𝓡)))
+    (cited 𝓤 H (Step 𝓤 H (𝓖 .A) (𝓜 .mem) (𝓡 .run)) 𝓜 𝓡 code.env #field-from step-def.routine code.calls-image-header·field-from (step-thm.met 𝓤 H 𝓜 𝓖 𝓡)))

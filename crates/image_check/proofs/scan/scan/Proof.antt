@@ -46,21 +46,23 @@ use Rattle.reader.proofs.set_on as new
 use Rattle.reader.proofs.set_on.Symbol as new-def
 use Rattle.reader.proofs.set_on.Symbol.{name as #set-on}
 use Rattle.reader.proofs.set_on.Met as new-thm
-use Rattle.image_check.specs.declared.head.Fields.{Fields}
+use Rattle.image_header.specs.declared.Fields.{Fields}
 use Rattle.image_check.specs.declared.runs.Runs.{Runs}
 use Rattle.image_check.specs.declared.scan.Scanned.{Scanned}
-use Rattle.image_check.specs.Parts.{firstField, FieldsOk, Ready, fieldsAll, readIn, fieldsIn, rested, RunsOk, runsAll, runsBehind, scanIn}
-use Rattle.image_check.proofs.ScanLaws.{first-ready, read-ok, behind-read, behind-at}
-use Rattle.image_check.proofs.head.Fields as U
-use Rattle.image_check.proofs.head.Fields.Laws as U′
+use Rattle.image_header.specs.Fields.{firstField, FieldsOk, Ready, fieldsAll, readIn, fieldsIn, rested}
+use Rattle.image_check.specs.Parts.{RunsOk, runsAll, runsBehind, scanIn}
+use Rattle.image_header.proofs.ReadyLaws.{first-ready, read-ok}
+use Rattle.image_check.proofs.ScanLaws.{behind-read, behind-at}
+use Rattle.image_header.proofs.Fields as U
+use Rattle.image_header.proofs.Fields.Laws as U′
 use Rattle.image_check.proofs.runs.Runs as Y
 use Rattle.image_check.proofs.runs.Runs.Laws as Y′
 use Rattle.image_check.proofs.scan.Scanned as X
 use Rattle.image_check.proofs.scan.Scanned.Laws as X′
-use Rattle.image_check.proofs.head.first_field as first
-use Rattle.image_check.proofs.head.first_field.Symbol as first-def
-use Rattle.image_check.proofs.head.first_field.Symbol.{name as #first-field}
-use Rattle.image_check.proofs.head.first_field.Met as first-thm
+use Rattle.image_header.proofs.first_field as first
+use Rattle.image_header.proofs.first_field.Symbol as first-def
+use Rattle.image_header.proofs.first_field.Symbol.{name as #first-field}
+use Rattle.image_header.proofs.first_field.Met as first-thm
 use Rattle.image_check.proofs.scan.read_fields as fields
 use Rattle.image_check.proofs.scan.read_fields.Symbol as fields-def
 use Rattle.image_check.proofs.scan.read_fields.Symbol.{name as #read-fields}
@@ -384,7 +386,7 @@ scan-spec 𝓤 H 𝓜 𝓖 𝓡 =
     (tables 𝓤 H 𝓜 𝓡 code.env .C) (tables 𝓤 H 𝓜 𝓡 code.env .Λ) #scan code.function (code.unfolded 𝓤 H 𝓜 𝓡)
     (scan-meets 𝓤 H (𝓖 .A) (givenOf 𝓤 H 𝓜 𝓖) (𝓜 .mem) (𝓡 .run) (tablesOf 𝓤 H 𝓜 (tables 𝓤 H 𝓜 𝓡 code.env))
     (cited 𝓤 H (New 𝓤 H (𝓖 .A) (𝓜 .mem) (𝓡 .run)) 𝓜 𝓡 code.env #set-on new-def.routine code.calls-reader·set-on (new-thm.met 𝓤 H 𝓜 𝓖 𝓡))
-    (cited 𝓤 H (First 𝓤 H (𝓖 .A) (𝓜 .mem) (𝓡 .run)) 𝓜 𝓡 code.env #first-field first-def.routine code.calls-image-check·head·first-field (first-thm.met 𝓤 H 𝓜 𝓖 𝓡))
+    (cited 𝓤 H (First 𝓤 H (𝓖 .A) (𝓜 .mem) (𝓡 .run)) 𝓜 𝓡 code.env #first-field first-def.routine code.calls-image-header·first-field (first-thm.met 𝓤 H 𝓜 𝓖 𝓡))
     (cited 𝓤 H (ReadFields 𝓤 H (𝓖 .A) (𝓜 .mem) (𝓡 .run)) 𝓜 𝓡 code.env #read-fields fields-def.routine code.calls-image-check·scan·read-fields (fields-thm.met 𝓤 H 𝓜 𝓖 𝓡))
     (cited 𝓤 H (Behind 𝓤 H (𝓖 .A) (𝓜 .mem) (𝓡 .run)) 𝓜 𝓡 code.env #runs-behind behind-def.routine code.calls-image-check·scan·runs-behind (behind-thm.met 𝓤 H 𝓜 𝓖 𝓡))
     (cited 𝓤 H (ReadRuns 𝓤 H (𝓖 .A) (𝓜 .mem) (𝓡 .run)) 𝓜 𝓡 code.env #read-runs runs-def.routine code.calls-image-check·scan·read-runs (runs-thm.met 𝓤 H 𝓜 𝓖 𝓡))

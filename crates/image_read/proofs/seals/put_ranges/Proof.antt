@@ -1,7 +1,7 @@
 -- `image_read::seals::put_ranges` meets its contract. The invariant: the ranges that are left make of the block what all make.
 use Rattle.width.proofs.Kit.{_≡_, refl, ap, _∙_, List, ℕ, _+_, _-_, _≤_, arith, length, not-true, not-false, needs}
-use Rattle.image_check.specs.Parts.{rangeAt, rangesEnd, rangesFound}
-use Rattle.image_check.proofs.HeadLaws.{range-good, range-bad}
+use Rattle.image_header.specs.Fields.{rangeAt, rangesEnd, rangesFound}
+use Rattle.image_header.proofs.HeadLaws.{range-good, range-bad}
 use Rattle.image_read.specs.Parts.{Ends, putRanges}
 use Rattle.image_read.proofs.SealLaws.{stands-not, stands-next, put-next, put-none}
 use Rattle.image_read.proofs.seals.put_ranges.Statement.{statement}

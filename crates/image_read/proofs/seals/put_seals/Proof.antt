@@ -1,7 +1,7 @@
 use Rattle.width.proofs.Kit.{ap, _∙_, List, ℕ, _+_, _-_, needs}
 use Rattle.machine.specs.Geometry.{range}
 use Rattle.image.specs.Images.{Seals}
-use Rattle.image_check.specs.Parts.{rangesFound}
+use Rattle.image_header.specs.Fields.{rangesFound}
 use Rattle.width.specs.Upto.{upto}
 use Rattle.ranges.specs.Ranges.{putRange}
 use Rattle.image_read.specs.Parts.{putRanges}

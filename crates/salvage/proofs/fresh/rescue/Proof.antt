@@ -4,8 +4,9 @@ use Prim.Native.Nat.{ℕ, _*_, _^_, _≤_, _<_}
 use native.Mathlib.Omega.{arith}
 use lib.ListN.{length, getD}
 use Rattle.format.specs.Numbers.{encode, Bytes}
-use Rattle.image_check.specs.Parts.{machineOf}
-use Rattle.image_check.proofs.HeadLaws.{HeadedOk, head-sizes}
+use Rattle.image_header.specs.Fields.{machineOf}
+use Rattle.image_header.proofs.HeadLaws.{HeadedOk}
+use Rattle.image_header.proofs.HeadLaws.{head-sizes}
 use Rattle.image_check.proofs.CheckLaws.{scan-headed}
 use Rattle.salvage.specs.declared.Salvaged.{Salvaged}
 use Rattle.salvage.specs.Salvage.{salvagedAs}
