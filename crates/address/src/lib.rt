@@ -13,10 +13,10 @@ ghost use Rattle.machine.specs.Memory.{rowAt, address, inMemory, inside, distin
 pub fn as_signed(x: u64) -> i64
     ensures { λ r. ⌜ r ≡ signed (2 ^ 64) x ⌝ }
 {
-    if x < 9223372036854775808 {
+    if x < 0x8000_0000_0000_0000 {
         x as i64
     } else {
-        -1 - ((18446744073709551615 - x) as i64)
+        -1 - ((0xffff_ffff_ffff_ffff - x) as i64)
     }
 }
 
@@ -114,7 +114,7 @@ pub fn misses_range(seal: u64, size: u64, p: usize, n: usize) -> bool
         return false;
     }
     let last = size - 1;
-    if last > 18446744073709551615 - seal {
+    if last > 0xffff_ffff_ffff_ffff - seal {
         return false;
     }
     first > seal + last

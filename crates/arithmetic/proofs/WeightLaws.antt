@@ -194,7 +194,7 @@ weight-one w (inr (inl e)) = rw e
 weight-one w (inr (inr (inl e))) = rw e
 weight-one w (inr (inr (inr e))) = rw e
 
-pub weight-minus : (w : ℕ) → Width w → signed (256 ^ w) (18446744073709551615 % 256 ^ w) ≡ negsuc 0
+pub weight-minus : (w : ℕ) → Width w → signed (256 ^ w) (0xffff_ffff_ffff_ffff % 256 ^ w) ≡ negsuc 0
 weight-minus w (inl e) = rw e
 weight-minus w (inr (inl e)) = rw e
 weight-minus w (inr (inr (inl e))) = rw e

@@ -175,7 +175,7 @@ pub fn combine_tile(
 {
     let wide = factor * width;
     // Minus 1 as a residue at 64 bits.
-    let minus = 18446744073709551615;
+    let minus = 0xffff_ffff_ffff_ffff;
     match sum {
         Sum::Add => weigh_tile(registers, rows, pitch, width, wide, d, a, 1, 1, m, n),
         Sum::Subtract => weigh_tile(registers, rows, pitch, width, wide, d, a, 1, minus, m, n),

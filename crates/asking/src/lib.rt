@@ -29,21 +29,21 @@ fn setting_word(code: u32, immediate: u64) -> u32
     requires { ⌜ (code ≤ 6) × (immediate ≤ 1024) ⌝ }
     ensures { λ r. ⌜ r ≡ settingWord code immediate ⌝ }
 {
-    code * 268435456 + (immediate as u32) * 32768 + 28791
+    code * 0x1000_0000 + (immediate as u32) * 32768 + 28791
 }
 
 fn memory_word(code: u32, width: u32, register: u32) -> u32
     requires { ⌜ (code ≤ 10) × ((width ≤ 5) × (register ≤ 1)) ⌝ }
     ensures { λ r. ⌜ r ≡ memoryWord code width register ⌝ }
 {
-    code * 33554432 + width * 4096 + register * 128 + 11862135
+    code * 0x200_0000 + width * 4096 + register * 128 + 11862135
 }
 
 fn arithmetic_word(code: u32, field: u32) -> u32
     requires { ⌜ (code ≤ 18) × (field ≤ 1) ⌝ }
     ensures { λ r. ⌜ r ≡ arithmeticWord code field ⌝ }
 {
-    code * 67108864 + field * 1048576 + 24695
+    code * 0x400_0000 + field * 0x10_0000 + 24695
 }
 
 // ---- the steps

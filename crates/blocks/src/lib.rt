@@ -105,5 +105,5 @@ pub fn packed(answer: Answer) -> u64
     ensures { λ r. ⌜ r ≡ packed (reply answer) ⌝ }
 {
     let reply = machine::reply_of(answer);
-    reply.number + reply.row % 65536 * 65536 + reply.column % 65536 * 4294967296
+    reply.number + reply.row % 65536 * 65536 + reply.column % 65536 * 0x1_0000_0000
 }

@@ -38,7 +38,7 @@ pub fn middle_field(word: u32) -> usize
 pub fn high_field(word: u32) -> usize
     ensures { λ r. ⌜ r ≡ field20 word ⌝ }
 {
-    (word / 1048576 % 32) as usize
+    (word / 0x10_0000 % 32) as usize
 }
 
 // Bits 27..15.
@@ -241,7 +241,7 @@ fn scale_immediate(word: u32, factor: Factor) -> Instruction
         factor: factor,
         md: md,
         ms1: ms1,
-        immediate: (word / 1048576 % 32) as u64,
+        immediate: (word / 0x10_0000 % 32) as u64,
     }
 }
 
@@ -285,8 +285,8 @@ fn move_in(word: u32, form: Form) -> Instruction
 fn number_of(word: u32) -> u8
     ensures { λ r. ⌜ r ≡ entryOf word ⌝ }
 {
-    let high = word / 268435456;
-    let middle = (word / 33554432 % 8) as usize;
+    let high = word / 0x1000_0000;
+    let middle = (word / 0x200_0000 % 8) as usize;
     let form = (word / 4096 % 8) as usize;
     entry(high, middle, form)
 }

@@ -36,18 +36,18 @@ not-4 w h a = ⊎-elim inl (λ h. ⊎-elim inr (λ e. absurd (a e)) h) h
 
 -- ---- a product modulo 2^64, by halves of 32 bits
 
-half : (u v p : ℕ) → p ≡ u * 4294967296 + v → (v + u % 4294967296 * 4294967296) % 18446744073709551616 ≡ p % 18446744073709551616
+half : (u v p : ℕ) → p ≡ u * 0x1_0000_0000 + v → (v + u % 0x1_0000_0000 * 0x1_0000_0000) % 0x1_0000_0000_0000_0000 ≡ p % 0x1_0000_0000_0000_0000
 half u v p h = omega arith
 
-halves : (low across across′ high p : ℕ) → p ≡ (across + across′ + high * 4294967296) * 4294967296 + low
-    → (low + (across % 4294967296 + across′ % 4294967296) % 4294967296 * 4294967296) % 18446744073709551616 ≡ p % 18446744073709551616
+halves : (low across across′ high p : ℕ) → p ≡ (across + across′ + high * 0x1_0000_0000) * 0x1_0000_0000 + low
+    → (low + (across % 0x1_0000_0000 + across′ % 0x1_0000_0000) % 0x1_0000_0000 * 0x1_0000_0000) % 0x1_0000_0000_0000_0000 ≡ p % 0x1_0000_0000_0000_0000
 halves low across across′ high p h =
-    ap (λ (x : ℕ). (low + x * 4294967296) % 18446744073709551616) (sym (add-mod across across′ 4294967296) ∙ sym (add-mul-mod-self-right (across + across′) high 4294967296))
-    ∙ half (across + across′ + high * 4294967296) low p h
+    ap (λ (x : ℕ). (low + x * 0x1_0000_0000) % 0x1_0000_0000_0000_0000) (sym (add-mod across across′ 0x1_0000_0000) ∙ sym (add-mul-mod-self-right (across + across′) high 0x1_0000_0000))
+    ∙ half (across + across′ + high * 0x1_0000_0000) low p h
 
 pub by-halves : (x y : ℕ)
-    → (x % 4294967296 * (y % 4294967296) + (x / 4294967296 * (y % 4294967296) % 4294967296 + x % 4294967296 * (y / 4294967296) % 4294967296) % 4294967296 * 4294967296) % 18446744073709551616
-    ≡ (x * y) % 18446744073709551616
+    → (x % 0x1_0000_0000 * (y % 0x1_0000_0000) + (x / 0x1_0000_0000 * (y % 0x1_0000_0000) % 0x1_0000_0000 + x % 0x1_0000_0000 * (y / 0x1_0000_0000) % 0x1_0000_0000) % 0x1_0000_0000 * 0x1_0000_0000) % 0x1_0000_0000_0000_0000
+    ≡ (x * y) % 0x1_0000_0000_0000_0000
 by-halves x y =
-    halves (x % 4294967296 * (y % 4294967296)) (x / 4294967296 * (y % 4294967296)) (x % 4294967296 * (y / 4294967296)) (x / 4294967296 * (y / 4294967296)) (x * y)
-    (omega (arith, ap₂ _*_ (sym (div-add-mod' x 4294967296)) (sym (div-add-mod' y 4294967296))))
+    halves (x % 0x1_0000_0000 * (y % 0x1_0000_0000)) (x / 0x1_0000_0000 * (y % 0x1_0000_0000)) (x % 0x1_0000_0000 * (y / 0x1_0000_0000)) (x / 0x1_0000_0000 * (y / 0x1_0000_0000)) (x * y)
+    (omega (arith, ap₂ _*_ (sym (div-add-mod' x 0x1_0000_0000)) (sym (div-add-mod' y 0x1_0000_0000))))

@@ -44,12 +44,12 @@ pub fn read2(s: &[u8], at: usize) -> u16
 // The element of four bytes that starts at `at`.
 pub fn read4(s: &[u8], at: usize) -> u32
     requires { ⌜ at + 4 ≤ length (now s) ⌝ }
-    ensures { λ r. ⌜ (r ≡ getLe (now (s .entry)) at 4) × (r < 4294967296) ⌝ }
+    ensures { λ r. ⌜ (r ≡ getLe (now (s .entry)) at 4) × (r < 0x1_0000_0000) ⌝ }
 {
     wide32(s[at])
-        + 256 * wide32(s[at + 1])
-        + 65536 * wide32(s[at + 2])
-        + 16777216 * wide32(s[at + 3])
+        + 0x100 * wide32(s[at + 1])
+        + 0x1_0000 * wide32(s[at + 2])
+        + 0x100_0000 * wide32(s[at + 3])
 }
 
 fn wide64(x: u8) -> u64
@@ -64,13 +64,13 @@ pub fn read8(s: &[u8], at: usize) -> u64
     ensures { λ r. ⌜ r ≡ getLe (now (s .entry)) at 8 ⌝ }
 {
     wide64(s[at])
-        + 256 * wide64(s[at + 1])
-        + 65536 * wide64(s[at + 2])
-        + 16777216 * wide64(s[at + 3])
-        + 4294967296 * wide64(s[at + 4])
-        + 1099511627776 * wide64(s[at + 5])
-        + 281474976710656 * wide64(s[at + 6])
-        + 72057594037927936 * wide64(s[at + 7])
+        + 0x100 * wide64(s[at + 1])
+        + 0x1_0000 * wide64(s[at + 2])
+        + 0x100_0000 * wide64(s[at + 3])
+        + 0x1_0000_0000 * wide64(s[at + 4])
+        + 0x100_0000_0000 * wide64(s[at + 5])
+        + 0x1_0000_0000_0000 * wide64(s[at + 6])
+        + 0x100_0000_0000_0000 * wide64(s[at + 7])
 }
 
 // Stores v in the byte at `at`.
@@ -96,9 +96,9 @@ pub fn write4(s: &mut [u8], at: usize, v: u32)
     ensures { λ _. ⌜ now (s .exit) ≡ putLe at 4 v (now (s .entry)) ⌝ }
 {
     s[at] = (v % 256) as u8;
-    s[at + 1] = (v / 256 % 256) as u8;
-    s[at + 2] = (v / 65536 % 256) as u8;
-    s[at + 3] = (v / 16777216) as u8;
+    s[at + 1] = (v / 0x100 % 256) as u8;
+    s[at + 2] = (v / 0x1_0000 % 256) as u8;
+    s[at + 3] = (v / 0x100_0000) as u8;
 }
 
 // Stores v in eight bytes from `at` on.
@@ -107,13 +107,13 @@ pub fn write8(s: &mut [u8], at: usize, v: u64)
     ensures { λ _. ⌜ now (s .exit) ≡ putLe at 8 v (now (s .entry)) ⌝ }
 {
     s[at] = (v % 256) as u8;
-    s[at + 1] = (v / 256 % 256) as u8;
-    s[at + 2] = (v / 65536 % 256) as u8;
-    s[at + 3] = (v / 16777216 % 256) as u8;
-    s[at + 4] = (v / 4294967296 % 256) as u8;
-    s[at + 5] = (v / 1099511627776 % 256) as u8;
-    s[at + 6] = (v / 281474976710656 % 256) as u8;
-    s[at + 7] = (v / 72057594037927936 % 256) as u8;
+    s[at + 1] = (v / 0x100 % 256) as u8;
+    s[at + 2] = (v / 0x1_0000 % 256) as u8;
+    s[at + 3] = (v / 0x100_0000 % 256) as u8;
+    s[at + 4] = (v / 0x1_0000_0000 % 256) as u8;
+    s[at + 5] = (v / 0x100_0000_0000 % 256) as u8;
+    s[at + 6] = (v / 0x1_0000_0000_0000 % 256) as u8;
+    s[at + 7] = (v / 0x100_0000_0000_0000 % 256) as u8;
 }
 
 // The low byte of a number.
@@ -134,7 +134,7 @@ pub fn low16(v: u64) -> u16
 pub fn low32(v: u64) -> u32
     ensures { λ r. ⌜ r ≡ v % 256 ^ 4 ⌝ }
 {
-    (v % 4294967296) as u32
+    (v % 0x1_0000_0000) as u32
 }
 
 // Sign extension as a wrapping add: the residue of the signed number x at a wider width, from 8 bits to 16.
@@ -148,35 +148,38 @@ fn extend1to2(x: u8) -> u16
 fn extend1to4(x: u8) -> u32
     ensures { λ r. ⌜ r ≡ reduce (256 ^ 4) (signed (256 ^ 1) x) ⌝ }
 {
-    std::num::wrapping_add_u32((x as u32 + 128) % 256, 4294967168)
+    std::num::wrapping_add_u32((x as u32 + 128) % 256, 0xffff_ff80)
 }
 
 // From 16 bits to 32.
 pub fn extend2to4(x: u16) -> u32
     ensures { λ r. ⌜ r ≡ reduce (256 ^ 4) (signed (256 ^ 2) x) ⌝ }
 {
-    std::num::wrapping_add_u32((x as u32 + 32768) % 65536, 4294934528)
+    std::num::wrapping_add_u32((x as u32 + 32768) % 65536, 0xffff_8000)
 }
 
 // From 8 bits to 64.
 fn extend1to8(x: u8) -> u64
     ensures { λ r. ⌜ r ≡ reduce (256 ^ 8) (signed (256 ^ 1) x) ⌝ }
 {
-    std::num::wrapping_add_u64((x as u64 + 128) % 256, 18446744073709551488)
+    std::num::wrapping_add_u64((x as u64 + 128) % 256, 0xffff_ffff_ffff_ff80)
 }
 
 // From 16 bits to 64.
 fn extend2to8(x: u16) -> u64
     ensures { λ r. ⌜ r ≡ reduce (256 ^ 8) (signed (256 ^ 2) x) ⌝ }
 {
-    std::num::wrapping_add_u64((x as u64 + 32768) % 65536, 18446744073709518848)
+    std::num::wrapping_add_u64((x as u64 + 32768) % 65536, 0xffff_ffff_ffff_8000)
 }
 
 // From 32 bits to 64.
 fn extend4to8(x: u32) -> u64
     ensures { λ r. ⌜ r ≡ reduce (256 ^ 8) (signed (256 ^ 4) x) ⌝ }
 {
-    std::num::wrapping_add_u64((x as u64 + 2147483648) % 4294967296, 18446744071562067968)
+    std::num::wrapping_add_u64(
+        (x as u64 + 0x8000_0000) % 0x1_0000_0000,
+        0xffff_ffff_8000_0000,
+    )
 }
 
 // The signed element of one byte at `at`, as a residue at 8 bits: the byte itself.
@@ -250,15 +253,16 @@ pub fn wrapping_mul16(x: u16, y: u16) -> u16
 pub fn wrapping_mul32(x: u32, y: u32) -> u32
     ensures { λ r. ⌜ r ≡ reduce (256 ^ 4) (signed (256 ^ 4) x *ℤ signed (256 ^ 4) y) ⌝ }
 {
-    ((x as u64) * (y as u64) % 4294967296) as u32
+    ((x as u64) * (y as u64) % 0x1_0000_0000) as u32
 }
 
 // The same at 64 bits, by halves: the product of the high halves falls away.
 pub fn wrapping_mul64(x: u64, y: u64) -> u64
     ensures { λ r. ⌜ r ≡ reduce (256 ^ 8) (signed (256 ^ 8) x *ℤ signed (256 ^ 8) y) ⌝ }
 {
-    let x_low = x % 4294967296;
-    let y_low = y % 4294967296;
-    let across = x / 4294967296 * y_low % 4294967296 + x_low * (y / 4294967296) % 4294967296;
-    std::num::wrapping_add_u64(x_low * y_low, across % 4294967296 * 4294967296)
+    let x_low = x % 0x1_0000_0000;
+    let y_low = y % 0x1_0000_0000;
+    let across = x / 0x1_0000_0000 * y_low % 0x1_0000_0000
+        + x_low * (y / 0x1_0000_0000) % 0x1_0000_0000;
+    std::num::wrapping_add_u64(x_low * y_low, across % 0x1_0000_0000 * 0x1_0000_0000)
 }

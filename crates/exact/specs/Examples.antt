@@ -6,7 +6,7 @@ use Rattle.width.specs.Binary32.{valueOf, settled}
 use Rattle.exact.specs.Exact.{Is, WholeNumbers}
 
 -- 3, -5, -0 and 2^24
-pub wholes : Is (valueOf 0x40400000) (pos 3) × Is (valueOf 0xC0A00000) (negsuc 4) × Is (valueOf 0x80000000) (pos 0) × Is (valueOf 0x4B800000) (pos 16777216)
+pub wholes : Is (valueOf 0x40400000) (pos 3) × Is (valueOf 0xC0A00000) (negsuc 4) × Is (valueOf 0x80000000) (pos 0) × Is (valueOf 0x4B800000) (pos 0x100_0000)
 unfolding valueOf ofBits
 wholes = (refl, refl, refl, refl)
 

@@ -13,10 +13,10 @@ fn packed_reply(answer: Imaged, size: u64) -> u64
     ensures { λ r. ⌜ r ≡ packedReply (imageReply answer) size ⌝ }
 {
     match answer {
-        Imaged::Done => size % 281474976710656 * 65536,
+        Imaged::Done => size % 0x1_0000_0000_0000 * 65536,
         Imaged::BadArguments => 8,
         Imaged::NoRoom => 14,
-        Imaged::Damaged { place } => 15 + place % 281474976710656 * 65536,
+        Imaged::Damaged { place } => 15 + place % 0x1_0000_0000_0000 * 65536,
     }
 }
 

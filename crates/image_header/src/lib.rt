@@ -114,7 +114,7 @@ fn mtype_at(s: &[u8], elen: u64, at: usize) -> Reading
             return fault(at);
         }
         if b == 128 {
-            return number_at(s, at, 9223372036854775808, 9223372036854775808);
+            return number_at(s, at, 0x8000_0000_0000_0000, 0x8000_0000_0000_0000);
         }
         return fault(at);
     }
@@ -138,11 +138,11 @@ fn count_at(s: &[u8], at: usize) -> Reading
 pub fn range_at(s: &[u8], at: usize) -> RangeRead
     ensures { λ r. ⌜ r ≡ plainRange (rangeAt (now (s .entry)) at) ⌝ }
 {
-    let start = number_at(s, at, 0, 18446744073709551615);
+    let start = number_at(s, at, 0, 0xffff_ffff_ffff_ffff);
     if !start.good {
         return no_range(start.at);
     }
-    let size = number_at(s, start.at, 0, 18446744073709551615 - start.value);
+    let size = number_at(s, start.at, 0, 0xffff_ffff_ffff_ffff - start.value);
     if !size.good {
         return no_range(size.at);
     }

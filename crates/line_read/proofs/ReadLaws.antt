@@ -84,13 +84,13 @@ first-test least most b h k = rw (h, le-leb least (b - 48) k)
 
 -- ---- words
 
-pub scaled-bound : (n scale : ℕ) → n ≤ 8191 → scale ≤ 1048576 → n * scale ≤ 8588886016
+pub scaled-bound : (n scale : ℕ) → n ≤ 8191 → scale ≤ 0x10_0000 → n * scale ≤ 8588886016
 scaled-bound n scale a b = omega (arith, mul-le-mul-right scale a)
 
-pub next-bound : (scale : ℕ) → nextScale scale ≤ 1048576
+pub next-bound : (scale : ℕ) → nextScale scale ≤ 0x10_0000
 next-bound scale = go (eqb scale 128) (eqb scale 32768)
   where
-    go : (a b : Bool) → cond a 32768 (cond b 1048576 0) ≤ 1048576
+    go : (a b : Bool) → cond a 32768 (cond b 0x10_0000 0) ≤ 0x10_0000
     go true b = omega arith
     go false true = omega arith
     go false false = omega arith

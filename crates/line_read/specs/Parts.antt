@@ -29,7 +29,7 @@ asLine (stopped p) = Bad p
 
 -- the first operand is placed 7 bits up, the second 15, the third 20
 abbrev pub nextScale : ℕ → ℕ
-nextScale scale = cond (eqb scale 128) 32768 (cond (eqb scale 32768) 1048576 0)
+nextScale scale = cond (eqb scale 128) 32768 (cond (eqb scale 32768) 0x10_0000 0)
 
 abbrev pub endAt : List ℕ → ℕ → ℕ → Parsed ℕ
 endAt [] j w = whole w
@@ -59,7 +59,7 @@ goOn t s (On next scale w) = rowFrom t (drop next s) next scale w
 goOn t s (Stop p) = stopped p
 
 abbrev pub Bounded : List ℕ → ℕ → Step → Type 0
-Bounded s word (On next scale w) = (next ≤ length s) × (scale ≤ 1048576) × (w ≤ word + 8589934592)
+Bounded s word (On next scale w) = (next ≤ length s) × (scale ≤ 0x10_0000) × (w ≤ word + 0x2_0000_0000)
 Bounded s word (Stop p) = Unit {0}
 
 -- how many bytes stand before the first line feed

@@ -13,7 +13,7 @@ baseOf r = 0b1110111 + fixedSum (r .code .fixed)
 
 abbrev pub rowBytes : Row → List ℕ
 rowBytes r =
-    baseOf r % 256 ∷ baseOf r / 256 % 256 ∷ baseOf r / 65536 % 256 ∷ baseOf r / 16777216 % 256
+    baseOf r % 256 ∷ baseOf r / 256 % 256 ∷ baseOf r / 65536 % 256 ∷ baseOf r / 0x100_0000 % 256
     ∷ (bytes (r .text) ++ (10 ∷ replicate (27 - length (bytes (r .text))) 32))
 
 abbrev pub tableOf : List Row → List ℕ

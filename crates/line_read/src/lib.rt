@@ -175,14 +175,14 @@ pub fn next_scale(scale: u64) -> u64
         return 32768;
     }
     if scale == 32768 {
-        return 1048576;
+        return 0x10_0000;
     }
     0
 }
 
 // One letter of a row's text: the line goes on at `at`, or it does not.
 fn along(line: &[u8], c: u8, at: usize, scale: u64, word: u64) -> Step
-    requires { ⌜ (at ≤ length (now line)) × (scale ≤ 1048576) × (word ≤ 70368744177664) × (eqb c 10 ≡ false) ⌝ }
+    requires { ⌜ (at ≤ length (now line)) × (scale ≤ 0x10_0000) × (word ≤ 0x4000_0000_0000) × (eqb c 10 ≡ false) ⌝ }
     ensures { λ r. ⌜ ((t : List ℕ) → rowFrom (c ∷ t) (drop at (now (line .entry))) at scale word ≡ goOn t (now (line .entry)) r) ⌝ }
     ensures { λ r. ⌜ Bounded (now (line .entry)) word r ⌝ }
 {
@@ -226,7 +226,7 @@ fn finished(line: &[u8], at: usize, word: u64) -> Line
 
 // The line along the row's text that stands at `from` in the table.
 fn read_row(line: &[u8], texts: &[u8], from: usize, base: u64) -> Line
-    requires { ⌜ (from ≤ length (now texts)) × (length (now texts) ≤ 4096) × (base < 4294967296) ⌝ }
+    requires { ⌜ (from ≤ length (now texts)) × (length (now texts) ≤ 4096) × (base < 0x1_0000_0000) ⌝ }
     ensures { λ r. ⌜ r ≡ asLine (rowFrom (drop from (now (texts .entry))) (now (line .entry)) 0 128 base) ⌝ }
 {
     let mut i = from;
@@ -271,7 +271,7 @@ fn fixed_bits(rows: &[u8], k: usize) -> u64
 {
     let at = 32 * k;
     let low = wide(rows[at]) + 256 * wide(rows[at + 1]);
-    low + 65536 * wide(rows[at + 2]) + 16777216 * wide(rows[at + 3])
+    low + 65536 * wide(rows[at + 2]) + 0x100_0000 * wide(rows[at + 3])
 }
 
 // The line along row k of the table.

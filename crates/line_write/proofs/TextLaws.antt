@@ -30,7 +30,7 @@ use Rattle.line_write.specs.Parts.{narrowBy, fieldBy, isMinus, pieceText
 abbrev scaleAt : ℕ → ℕ
 scaleAt zero = 128
 scaleAt (suc zero) = 32768
-scaleAt (suc (suc zero)) = 1048576
+scaleAt (suc (suc zero)) = 0x10_0000
 scaleAt (suc (suc (suc i))) = 0
 
 next-at : (i : ℕ) → nextScale (scaleAt i) ≡ scaleAt (suc i)

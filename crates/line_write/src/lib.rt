@@ -21,7 +21,7 @@ fn narrow(scale: u64, word: u32) -> u64
     if scale == 32768 {
         return (word / 32768 % 32) as u64;
     }
-    (word / 1048576 % 32) as u64
+    (word / 0x10_0000 % 32) as u64
 }
 
 // The field of an operand.

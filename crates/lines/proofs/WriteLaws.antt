@@ -157,7 +157,7 @@ decimal-room (suc k) n h = go (decimal-room k (n / 10)) (le-or-lt 10 n)
     go ih (inl l) = let d : n / 10 < 10 ^ suc k = omega (arith, h, pow-succ' 10 (suc k)) in omega (arith, ih d, length-more n l)
     go ih (inr l) = omega (arith, length-one n l)
 
-written-room : (q x : ℕ) → q < 18446744073709551616 → x < 18446744073709551616 → length (written (signed q x)) ≤ 21
+written-room : (q x : ℕ) → q < 0x1_0000_0000_0000_0000 → x < 0x1_0000_0000_0000_0000 → length (written (signed q x)) ≤ 21
 written-room q x hq hx = go (le-or-lt q (x + x))
   where
     go : (q ≤ x + x) ⊎ (x + x < q) → length (written (signed q x)) ≤ 21
@@ -165,14 +165,14 @@ written-room q x hq hx = go (le-or-lt q (x + x))
     go (inr l) = let r = decimal-room 19 x (omega arith) in omega (arith, ap length (plus-text q x (lt-leb q (x + x) l)))
 
 abbrev pub Small : List ℕ → Type 0
-Small c = (j : ℕ) → getD c j 0 < 18446744073709551616
+Small c = (j : ℕ) → getD c j 0 < 0x1_0000_0000_0000_0000
 
-others-room : (q : ℕ) (c : List ℕ) → q < 18446744073709551616 → Small c → length (others (signedAll q c)) ≤ 22 * length c
+others-room : (q : ℕ) (c : List ℕ) → q < 0x1_0000_0000_0000_0000 → Small c → length (others (signedAll q c)) ≤ 22 * length c
 others-room q [] hq h = omega arith
 others-room q (x ∷ c) hq h =
     omega (arith, written-room q x hq (h 0), others-room q c hq (λ j. h (suc j)), length-append (written (signed q x)) (others (signedAll q c)))
 
-spaced-room : (q : ℕ) (c : List ℕ) → q < 18446744073709551616 → Small c → length (spaced (signedAll q c)) ≤ 22 * length c
+spaced-room : (q : ℕ) (c : List ℕ) → q < 0x1_0000_0000_0000_0000 → Small c → length (spaced (signedAll q c)) ≤ 22 * length c
 spaced-room q [] hq h = omega arith
 spaced-room q (x ∷ c) hq h =
     omega (arith, written-room q x hq (h 0), others-room q c hq (λ j. h (suc j)), length-append (written (signed q x)) (others (signedAll q c)))
@@ -183,16 +183,16 @@ small-take (suc n) [] h j = h j
 small-take (suc n) (x ∷ c) h zero = h 0
 small-take (suc n) (x ∷ c) h (suc j) = small-take n c (λ i. h (suc i)) j
 
-pub lines-room : (rows cols q : ℕ) (c : List ℕ) → q < 18446744073709551616 → Small c → length (lines (rowsOf rows cols (signedAll q c))) ≤ rows * (22 * cols + 1)
+pub lines-room : (rows cols q : ℕ) (c : List ℕ) → q < 0x1_0000_0000_0000_0000 → Small c → length (lines (rowsOf rows cols (signedAll q c))) ≤ rows * (22 * cols + 1)
 lines-room zero cols q c hq h = omega arith
 lines-room (suc rows) cols q c hq h =
     let a = spaced-room q (take cols c) hq (small-take cols c h) in
     let l : length (take cols c) ≤ cols = omega (arith, length-take cols c) in
-    let r = lines-room rows cols q (drop cols c) hq (λ j. subst (λ (y : ℕ). y < 18446744073709551616) (sym (getD-drop cols c j 0)) (h (cols + j))) in
+    let r = lines-room rows cols q (drop cols c) hq (λ j. subst (λ (y : ℕ). y < 0x1_0000_0000_0000_0000) (sym (getD-drop cols c j 0)) (h (cols + j))) in
     let f = length-append (spaced (signedAll q (take cols c))) (10 ∷ lines (rowsOf rows cols (signedAll q (drop cols c)))) in
     rw (take-map (signed q) cols c, drop-map (signed q) cols c) (omega (arith, suc-mul rows (22 * cols + 1)))
 
-pub first-room : (answer steps : ℕ) → answer < 18446744073709551616 → steps < 18446744073709551616 → length (firstLine answer steps) ≤ 55
+pub first-room : (answer steps : ℕ) → answer < 0x1_0000_0000_0000_0000 → steps < 0x1_0000_0000_0000_0000 → length (firstLine answer steps) ≤ 55
 first-room answer steps h k =
     omega (
       arith,

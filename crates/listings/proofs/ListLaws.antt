@@ -68,8 +68,8 @@ hex-not b h = go (isHex b) refl
 
 -- ---- a word
 
-pub power-bound : (i : ℕ) → i < 8 → 16 ^ i ≤ 268435456
-power-bound i h = leb-true (16 ^ i) 268435456 (all-at 8 (λ i. leb (16 ^ i) 268435456) refl i h)
+pub power-bound : (i : ℕ) → i < 8 → 16 ^ i ≤ 0x1000_0000
+power-bound i h = leb-true (16 ^ i) 0x1000_0000 (all-at 8 (λ i. leb (16 ^ i) 0x1000_0000) refl i h)
 
 pub next-bound : (i w d : ℕ) → w < 16 ^ i → d < 16 → 16 * w + d < 16 ^ (i + 1)
 next-bound i w d h k = let p : 16 ^ suc i ≡ 16 * 16 ^ i = pow-succ' 16 i in rw (add-one i, p) (omega arith)

@@ -137,7 +137,7 @@ times-add a b (negsuc n) = ap (λ (x : ℕ). negℤ (pos x)) (add-mul a b (suc n
 pub block-row : (base stride i₀ i c : ℕ) → rowZ base stride i₀ ≡ pos (rowAt base stride i₀) → rowZ base stride (i₀ + i) ≡ pos (rowAt base stride (i₀ + i))
     → rowZ (rowAt base stride i₀ + c) stride i ≡ pos (rowAt base stride (i₀ + i) + c)
 block-row base stride i₀ i c e e′ =
-    let z : ℤ = signed 18446744073709551616 stride in
+    let z : ℤ = signed 0x1_0000_0000_0000_0000 stride in
     let p : ℕ = rowAt base stride i₀ in
     let f : pos (p + c) ≡ pos c +ℤ pos p = ap pos (omega arith) in
     let g : pos base +ℤ pos (i₀ + i) *ℤ z ≡ (pos base +ℤ pos i₀ *ℤ z) +ℤ pos i *ℤ z =
@@ -166,24 +166,24 @@ module _ (len base stride total n : ℕ) (in-memory : inside len base stride tot
 -- ---- for code: a row's address by unsigned arithmetic
 
 -- a stride that is not negative
-pub rowZ-up : (base stride i : ℕ) → stride + stride < 18446744073709551616 → rowZ base stride i ≡ pos (base + i * stride)
-rowZ-up base stride i h = rw (lt-ltb (stride + stride) 18446744073709551616 h)
+pub rowZ-up : (base stride i : ℕ) → stride + stride < 0x1_0000_0000_0000_0000 → rowZ base stride i ≡ pos (base + i * stride)
+rowZ-up base stride i h = rw (lt-ltb (stride + stride) 0x1_0000_0000_0000_0000 h)
 
 -- a negative one, its size d, and a row that lies at 0 or above
-pub rowZ-down : (base stride i d : ℕ) → 18446744073709551616 ≤ stride + stride → stride + suc d ≡ 18446744073709551616 → i * suc d ≤ base → rowZ base stride i ≡ pos (base - i * suc d)
+pub rowZ-down : (base stride i d : ℕ) → 0x1_0000_0000_0000_0000 ≤ stride + stride → stride + suc d ≡ 0x1_0000_0000_0000_0000 → i * suc d ≤ base → rowZ base stride i ≡ pos (base - i * suc d)
 rowZ-down base stride i d h e l =
-    let x : 18446744073709551616 - suc stride ≡ d = omega arith in
-    rw (le-ltb (stride + stride) 18446744073709551616 h, x) (minus base (i * suc d) l)
+    let x : 0x1_0000_0000_0000_0000 - suc stride ≡ d = omega arith in
+    rw (le-ltb (stride + stride) 0x1_0000_0000_0000_0000 h, x) (minus base (i * suc d) l)
   where
     minus : (a b : ℕ) → b ≤ a → pos a +ℤ negℤ (pos b) ≡ pos (a - b)
     minus a zero l = ap pos (omega arith)
     minus a (suc b) l = rw (le-ltb a (suc b) l)
 
 -- and one that lies below
-pub rowZ-below : (len n base stride i d : ℕ) → 18446744073709551616 ≤ stride + stride → stride + suc d ≡ 18446744073709551616 → base < i * suc d → fits len n (rowZ base stride i) ≡ false
+pub rowZ-below : (len n base stride i d : ℕ) → 0x1_0000_0000_0000_0000 ≤ stride + stride → stride + suc d ≡ 0x1_0000_0000_0000_0000 → base < i * suc d → fits len n (rowZ base stride i) ≡ false
 rowZ-below len n base stride i d h e l =
-    let x : 18446744073709551616 - suc stride ≡ d = omega arith in
-    rw (le-ltb (stride + stride) 18446744073709551616 h, x) (minus base (i * suc d) l)
+    let x : 0x1_0000_0000_0000_0000 - suc stride ≡ d = omega arith in
+    rw (le-ltb (stride + stride) 0x1_0000_0000_0000_0000 h, x) (minus base (i * suc d) l)
   where
     minus : (a b : ℕ) → a < b → fits len n (pos a +ℤ negℤ (pos b)) ≡ false
     minus a zero l = absurd (not-suc-le-zero l)

@@ -287,7 +287,7 @@ pub fn is_rule(rule: u64) -> bool
 pub fn seal_ends(start: u64, length: u64) -> bool
     ensures { λ r. ⌜ r ≡ sealEnds start length ⌝ }
 {
-    length <= 18446744073709551615 - start
+    length <= 0xffff_ffff_ffff_ffff - start
 }
 
 // Whether the ranges in these numbers, start and length of each in turn, all end so.

@@ -70,7 +70,7 @@ pub fn rows_miss(
     if gap == 0 {
         return ranges_apart(base, bytes, q, o);
     }
-    if stride < 9223372036854775808 {
+    if stride < 0x8000_0000_0000_0000 {
         let above = steps_past(base + bytes, q, gap);
         if above >= rows {
             return true;

@@ -67,18 +67,18 @@ type-plain P w e h = rw (ne-eqb (P .factor) 4 h) (omega arith)
 
 -- ---- addresses
 
-halves : (u v p : ℕ) → p ≡ u * 4294967296 + v → (u % 4294967296 * 4294967296 + v) % 2 ^ 64 ≡ p % 2 ^ 64
+halves : (u v p : ℕ) → p ≡ u * 0x1_0000_0000 + v → (u % 0x1_0000_0000 * 0x1_0000_0000 + v) % 2 ^ 64 ≡ p % 2 ^ 64
 halves u v p h = omega arith
 
-pub row-halves : (i s : ℕ) → (i * (s / 4294967296) % 4294967296 * 4294967296 + i * (s % 4294967296)) % 2 ^ 64 ≡ (i * s) % 2 ^ 64
-row-halves i s = halves (i * (s / 4294967296)) (i * (s % 4294967296)) (i * s) (omega (arith, ap (λ (x : ℕ). i * x) (sym (div-add-mod' s 4294967296))))
+pub row-halves : (i s : ℕ) → (i * (s / 0x1_0000_0000) % 0x1_0000_0000 * 0x1_0000_0000 + i * (s % 0x1_0000_0000)) % 2 ^ 64 ≡ (i * s) % 2 ^ 64
+row-halves i s = halves (i * (s / 0x1_0000_0000)) (i * (s % 0x1_0000_0000)) (i * s) (omega (arith, ap (λ (x : ℕ). i * x) (sym (div-add-mod' s 0x1_0000_0000))))
 
 pub start-by : (l : Layout) (i b : ℕ) → i ≤ 1024 → l .address < 2 ^ 64 → l .stride < 2 ^ 64 → b < 2 ^ 64
     → ((l .address + (i * l .stride) % 2 ^ 64) % 2 ^ 64 + b) % 2 ^ 64 ≡ addressIn l i b
 start-by l i b hi ha hs hb =
-    let ei : i % 18446744073709551616 ≡ i = mod-eq-of-lt (omega arith) in
-    let ea : l .address % 18446744073709551616 ≡ l .address = mod-eq-of-lt ha in
-    let eb : b % 18446744073709551616 ≡ b = mod-eq-of-lt hb in
+    let ei : i % 0x1_0000_0000_0000_0000 ≡ i = mod-eq-of-lt (omega arith) in
+    let ea : l .address % 0x1_0000_0000_0000_0000 ≡ l .address = mod-eq-of-lt ha in
+    let eb : b % 0x1_0000_0000_0000_0000 ≡ b = mod-eq-of-lt hb in
     ap (λ (x : ℕ). ((x + (i * l .stride) % 2 ^ 64) % 2 ^ 64 + b) % 2 ^ 64) (sym ea)
     ∙ ap (λ (x : ℕ). ((l .address % 2 ^ 64 + (x * l .stride) % 2 ^ 64) % 2 ^ 64 + b) % 2 ^ 64) (sym ei)
     ∙ ap (λ (x : ℕ). ((l .address % 2 ^ 64 + (i % 2 ^ 64 * l .stride) % 2 ^ 64) % 2 ^ 64 + x) % 2 ^ 64) (sym eb)

@@ -205,9 +205,9 @@ fn row_times(row: u64, stride: u64) -> u64
     requires { ⌜ row ≤ 1024 ⌝ }
     ensures { λ r. ⌜ r ≡ (row * stride) % 2 ^ 64 ⌝ }
 {
-    let high = row * (stride / 4294967296);
-    let low = row * (stride % 4294967296);
-    std::num::wrapping_add_u64(high % 4294967296 * 4294967296, low)
+    let high = row * (stride / 0x1_0000_0000);
+    let low = row * (stride % 0x1_0000_0000);
+    std::num::wrapping_add_u64(high % 0x1_0000_0000 * 0x1_0000_0000, low)
 }
 
 // The address so many bytes into a row, modulo 2^64.

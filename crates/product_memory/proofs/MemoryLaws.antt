@@ -172,14 +172,14 @@ module _ (sew f m k n : ℕ) (formatted : format 32 sew f ≡ true) (m≤ : m �
 -- ---- a level of a number that sew bits hold, cut to sew bits, stands for the number
 
 -- at the modulus h + h, of which 2^32 is a multiple
-level-at : (h c v : ℕ) → v < h → 4294967296 ≡ suc c * (h + h)
-    → (signed (h + h) ((4294967296 + v) % (h + h)) ≡ pos v) × (signed (h + h) ((4294967296 - suc v) % (h + h)) ≡ negsuc v)
+level-at : (h c v : ℕ) → v < h → 0x1_0000_0000 ≡ suc c * (h + h)
+    → (signed (h + h) ((0x1_0000_0000 + v) % (h + h)) ≡ pos v) × (signed (h + h) ((0x1_0000_0000 - suc v) % (h + h)) ≡ negsuc v)
 level-at h c v l e =
     let m : ℕ = h + h in
-    let up : 4294967296 + v ≡ v + suc c * m = omega arith in
-    let down : 4294967296 - suc v ≡ (m - suc v) + c * m = omega arith in
-    let r : (4294967296 + v) % m ≡ v = ap (λ (x : ℕ). x % m) up ∙ add-mul-mod-self-right v (suc c) m ∙ mod-eq-of-lt {n = v} {m = m} (omega arith) in
-    let r′ : (4294967296 - suc v) % m ≡ m - suc v =
+    let up : 0x1_0000_0000 + v ≡ v + suc c * m = omega arith in
+    let down : 0x1_0000_0000 - suc v ≡ (m - suc v) + c * m = omega arith in
+    let r : (0x1_0000_0000 + v) % m ≡ v = ap (λ (x : ℕ). x % m) up ∙ add-mul-mod-self-right v (suc c) m ∙ mod-eq-of-lt {n = v} {m = m} (omega arith) in
+    let r′ : (0x1_0000_0000 - suc v) % m ≡ m - suc v =
     ap (λ (x : ℕ). x % m) down ∙ add-mul-mod-self-right (m - suc v) c m ∙ mod-eq-of-lt {n = m - suc v} {m = m} (omega arith) in (
       rw (r, lt-ltb (v + v) m (omega arith)),
       rw (r′, le-ltb (m - suc v + (m - suc v)) m (omega arith)) (ap negsuc (omega arith)),
@@ -188,14 +188,14 @@ level-at h c v l e =
 -- the levels 2^32 + v of v and 2^32 - (v + 1) of - (v + 1)
 abbrev pub Levels : ℕ → Type 0
 Levels sew = (v : ℕ) → v < 2 ^ (sew - 1)
-    → (signed (256 ^ (sew / 8)) ((4294967296 + v) % 256 ^ (sew / 8)) ≡ pos v)
-    × (signed (256 ^ (sew / 8)) ((4294967296 - suc v) % 256 ^ (sew / 8)) ≡ negsuc v)
+    → (signed (256 ^ (sew / 8)) ((0x1_0000_0000 + v) % 256 ^ (sew / 8)) ≡ pos v)
+    × (signed (256 ^ (sew / 8)) ((0x1_0000_0000 - suc v) % 256 ^ (sew / 8)) ≡ negsuc v)
 
 pub level-signed : (sew : ℕ) → isIn sew (8 ∷ 16 ∷ 32 ∷ []) ≡ true → Levels sew
 level-signed sew h = elim (one-of sew 8 16 32 h) [
-  | inl e ↦ subst Levels (sym e) (λ v l. level-at 128 16777215 v l refl)
+  | inl e ↦ subst Levels (sym e) (λ v l. level-at 128 0xff_ffff v l refl)
   | inr (inl e) ↦ subst Levels (sym e) (λ v l. level-at 32768 65535 v l refl)
-  | inr (inr e) ↦ subst Levels (sym e) (λ v l. level-at 2147483648 0 v l refl)
+  | inr (inr e) ↦ subst Levels (sym e) (λ v l. level-at 0x8000_0000 0 v l refl)
 ]
 
 -- ---- for code

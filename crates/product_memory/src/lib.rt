@@ -54,7 +54,7 @@ fn put_element(memory: &mut [u8], at: usize, width: usize, value: u64)
         element::write2(memory, at, (value % 65536) as u16);
         return;
     }
-    element::write4(memory, at, (value % 4294967296) as u32);
+    element::write4(memory, at, (value % 0x1_0000_0000) as u32);
 }
 
 // Stores the low bytes of each value, one after another from `at` on.

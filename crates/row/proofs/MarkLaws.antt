@@ -25,14 +25,14 @@ le-ones ms p zero h = refl
 le-ones ms p (suc w) h = ap₂ (λ (x y : ℕ). x + y * 256 ^ w) (le-ones ms p w (λ b l. h b (omega arith))) (h w (omega arith))
 
 -- eight marks as one number
-pub eight-marked : (ms : List ℕ) (p : ℕ) → ((q : ℕ) → getD ms q 0 < 256) → eqb (getLe ms p 8) 72340172838076673 ≡ all 8 (λ b. eqb (getD ms (p + b) 0) 1)
-eight-marked ms p small = same-test (eqb (getLe ms p 8) 72340172838076673) (all 8 (λ b. eqb (getD ms (p + b) 0) 1))
+pub eight-marked : (ms : List ℕ) (p : ℕ) → ((q : ℕ) → getD ms q 0 < 256) → eqb (getLe ms p 8) 0x0101_0101_0101_0101 ≡ all 8 (λ b. eqb (getD ms (p + b) 0) 1)
+eight-marked ms p small = same-test (eqb (getLe ms p 8) 0x0101_0101_0101_0101) (all 8 (λ b. eqb (getD ms (p + b) 0) 1))
     (λ h. all-true 8 (λ b. eqb (getD ms (p + b) 0) 1) (λ b l. eq-eqb (getD ms (p + b) 0) 1
-    (sym (le-byte ms small p 8 b l) ∙ ap (λ (v : ℕ). byteOf v b) (eqb-true (getLe ms p 8) 72340172838076673 h) ∙ byte-one b l)))
-    (λ h. eq-eqb (getLe ms p 8) 72340172838076673 (le-ones ms p 8 (λ b l. eqb-true (getD ms (p + b) 0) 1 (all-at 8 (λ b. eqb (getD ms (p + b) 0) 1) h b l))))
+    (sym (le-byte ms small p 8 b l) ∙ ap (λ (v : ℕ). byteOf v b) (eqb-true (getLe ms p 8) 0x0101_0101_0101_0101 h) ∙ byte-one b l)))
+    (λ h. eq-eqb (getLe ms p 8) 0x0101_0101_0101_0101 (le-ones ms p 8 (λ b l. eqb-true (getD ms (p + b) 0) 1 (all-at 8 (λ b. eqb (getD ms (p + b) 0) 1) h b l))))
   where
-    byte-one : (b : ℕ) → b < 8 → byteOf 72340172838076673 b ≡ 1
-    byte-one b l = eqb-true (byteOf 72340172838076673 b) 1 (all-at 8 (λ b. eqb (byteOf 72340172838076673 b) 1) refl b l)
+    byte-one : (b : ℕ) → b < 8 → byteOf 0x0101_0101_0101_0101 b ≡ 1
+    byte-one b l = eqb-true (byteOf 0x0101_0101_0101_0101 b) 1 (all-at 8 (λ b. eqb (byteOf 0x0101_0101_0101_0101 b) 1) refl b l)
 
 -- ---- the largest mark
 

@@ -126,7 +126,7 @@ pub fn line_marked(marks: &[u8], p: usize, n: usize) -> bool
     ensures { λ r. ⌜ r ≡ all n (λ b. eqb (getD (now (marks .entry)) (p + b) 0) 1) ⌝ }
 {
     if n == 8 {
-        return element::read8(marks, p) == 72340172838076673;
+        return element::read8(marks, p) == 0x0101_0101_0101_0101;
     }
     row_marked(marks, p, n)
 }

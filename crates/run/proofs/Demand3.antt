@@ -109,7 +109,7 @@ record Ready (grant : Choice) (P : Plan) (B : Bench) : Type 0 where
   m≤ : P .m ≤ 1024
   k≤ : P .k ≤ 1024
   n≤ : P .n ≤ 1024
-  addressed : length (B .memory) ≤ 18446744073709551616
+  addressed : length (B .memory) ≤ 0x1_0000_0000_0000_0000
 
 module _ (grant : Choice) (P : Plan) (B₀ : Bench) where
   abbrev J : Job
@@ -169,7 +169,7 @@ module _ (grant : Choice) (P : Plan) (B₀ : Bench) (R : Ready grant P B₀) whe
 
   -- an address of the run fits 64 bits
   small : (base stride total n w : ℕ) → zero < w → inside (length (B₀ .memory)) base stride total (n * w) ≡ true → (i j : ℕ) → i < total → j < n
-      → rowAt base stride i + j * w < 18446744073709551616
+      → rowAt base stride i + j * w < 0x1_0000_0000_0000_0000
   small base stride total n w 0<w h i j l l′ =
       omega (arith, mul-le-mul-right w l′, R .addressed, inside-at (length (B₀ .memory)) base stride total (n * w) h (mul-pos {m = n} (omega arith) 0<w) i l .1)
 

@@ -186,7 +186,7 @@ start-is l i b p e small = ap (λ (z : ℤ). reduce (2 ^ 64) (z +ℤ pos b)) e �
 pub start-wraps : (l : Layout) (i b : ℕ) → l .stride < 2 ^ 64 → addressIn l i b ≡ (((l .address % 2 ^ 64) + (i % 2 ^ 64 * l .stride) % 2 ^ 64) % 2 ^ 64 + b % 2 ^ 64) % 2 ^ 64
 unfolding reduce
 start-wraps l i b h =
-    let m : ℕ = 18446744073709551616 in
+    let m : ℕ = 0x1_0000_0000_0000_0000 in
     let z : ℤ = signed m (l .stride) in
     reduce-add m (omega arith) (pos (l .address) +ℤ pos i *ℤ z) (pos b)
     ∙ ap (λ (x : ℕ). (x + b % m) % m) (reduce-add m (omega arith) (pos (l .address)) (pos i *ℤ z)

@@ -17,10 +17,10 @@ fn packed_salvage(answer: Imaged, place: u64, size: u64) -> u64
     ensures { λ r. ⌜ r ≡ packedSalvage (imageReply answer .number) place size ⌝ }
 {
     match answer {
-        Imaged::Done => size % 281474976710656 * 65536,
-        Imaged::BadArguments => 8 + place % 281474976710656 * 65536,
-        Imaged::NoRoom => 14 + place % 281474976710656 * 65536,
-        Imaged::Damaged { place: _ } => 15 + place % 281474976710656 * 65536,
+        Imaged::Done => size % 0x1_0000_0000_0000 * 65536,
+        Imaged::BadArguments => 8 + place % 0x1_0000_0000_0000 * 65536,
+        Imaged::NoRoom => 14 + place % 0x1_0000_0000_0000 * 65536,
+        Imaged::Damaged { place: _ } => 15 + place % 0x1_0000_0000_0000 * 65536,
     }
 }
 

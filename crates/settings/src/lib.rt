@@ -33,7 +33,7 @@ pub fn kept_type(elen: u64, value: u64) -> u64
         return value;
     }
     if elen == 32 {
-        return 9223372036854775808;
+        return 0x8000_0000_0000_0000;
     }
     if value == 3 {
         return value;
@@ -41,14 +41,14 @@ pub fn kept_type(elen: u64, value: u64) -> u64
     if value == 9 {
         return value;
     }
-    9223372036854775808
+    0x8000_0000_0000_0000
 }
 
 // Whether mtype is illegal (mill).
 pub fn is_mill(mtype: u64) -> bool
     ensures { λ r. ⌜ r ≡ mill mtype ⌝ }
 {
-    mtype / 9223372036854775808 % 2 == 1
+    mtype / 0x8000_0000_0000_0000 % 2 == 1
 }
 
 // SEW in bytes, of an mtype that is not mill.

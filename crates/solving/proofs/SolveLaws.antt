@@ -27,11 +27,11 @@ module _ (sew f : ℕ) (formatted : format 32 sew f ≡ true) where
   held-signed : (z : ℤ) → holds (2 ^ (sew - 1)) z ≡ true → signed (256 ^ (sew / 8)) (held z % 256 ^ (sew / 8)) ≡ z
   held-signed (pos v) h =
       let l = ltb-true v (2 ^ (sew - 1)) h in
-      let e : 4294967296 + min v 4294967296 ≡ 4294967296 + v = omega (arith, format-half sew f formatted) in
+      let e : 0x1_0000_0000 + min v 0x1_0000_0000 ≡ 0x1_0000_0000 + v = omega (arith, format-half sew f formatted) in
       ap (λ (x : ℕ). signed (256 ^ (sew / 8)) (x % 256 ^ (sew / 8))) e ∙ level-signed sew (format-sew sew f formatted) v l .0
   held-signed (negsuc v) h =
       let l = ltb-true v (2 ^ (sew - 1)) h in
-      let e : 4294967296 - min (suc v) 4294967296 ≡ 4294967296 - suc v = omega (arith, format-half sew f formatted) in
+      let e : 0x1_0000_0000 - min (suc v) 0x1_0000_0000 ≡ 0x1_0000_0000 - suc v = omega (arith, format-half sew f formatted) in
       ap (λ (x : ℕ). signed (256 ^ (sew / 8)) (x % 256 ^ (sew / 8))) e ∙ level-signed sew (format-sew sew f formatted) v l .1
 
 each-holds : (h : ℕ) (zs : List ℤ) → every (map (holds h) zs) ≡ true → (i : ℕ) → i < length zs → holds h (nth zs i) ≡ true

@@ -65,7 +65,7 @@ fn modulus(w: u64) -> u64
     if w == 2 {
         return 65536;
     }
-    4294967296
+    0x1_0000_0000
 }
 
 // Solves the problem of these numbers, whose elements stand in `numbers`, and writes the answer. Returns where that ends.

@@ -20,12 +20,12 @@ zero-pos : (x : ℕ) → isZero (pos x) ≡ eqb x 0
 zero-pos zero = refl
 zero-pos (suc x) = sym (ne-eqb (suc x) 0 (λ e. absurd (omega arith)))
 
-pub extend-low : (x half : ℕ) → x < half → half ≤ 2147483648 → (x ≡ reduce (2 ^ 64) (signed (half + half) x)) × (isZero (signed (half + half) x) ≡ eqb x 0)
+pub extend-low : (x half : ℕ) → x < half → half ≤ 0x8000_0000 → (x ≡ reduce (2 ^ 64) (signed (half + half) x)) × (isZero (signed (half + half) x) ≡ eqb x 0)
 extend-low x half l h =
     let t : ltb (x + x) (half + half) ≡ true = lt-ltb (x + x) (half + half) (omega arith) in
     (sym (widened (half + half) (2 ^ 64) x (omega arith) (omega arith) ∙ rw t), rw t (zero-pos x))
 
-pub extend-high : (x half r : ℕ) → half ≤ x → x < half + half → half ≤ 2147483648 → r ≡ x + (18446744073709551615 - (half + half - 1))
+pub extend-high : (x half r : ℕ) → half ≤ x → x < half + half → half ≤ 0x8000_0000 → r ≡ x + (0xffff_ffff_ffff_ffff - (half + half - 1))
     → (r ≡ reduce (2 ^ 64) (signed (half + half) x)) × (isZero (signed (half + half) x) ≡ eqb r 0)
 extend-high x half r g l h e =
     let t : ltb (x + x) (half + half) ≡ false = le-ltb (x + x) (half + half) (omega arith) in
@@ -34,13 +34,13 @@ extend-high x half r g l h e =
 -- at SEW 64 the scalar itself
 pub whole-word : (v : ℕ) → v < 2 ^ 64 → (v ≡ reduce (2 ^ 64) (signed (2 ^ 64) (v % 2 ^ 64))) × (isZero (signed (2 ^ 64) (v % 2 ^ 64)) ≡ eqb v 0)
 whole-word v h =
-    let e : v % 18446744073709551616 ≡ v = mod-eq-of-lt h in
+    let e : v % 0x1_0000_0000_0000_0000 ≡ v = mod-eq-of-lt h in
     subst (λ (x : ℕ). (v ≡ reduce (2 ^ 64) (signed (2 ^ 64) x)) × (isZero (signed (2 ^ 64) x) ≡ eqb v 0)) (sym e)
-    (sym (reduce-signed 18446744073709551616 (omega arith) v h), by (ltb (v + v) 18446744073709551616) refl)
+    (sym (reduce-signed 0x1_0000_0000_0000_0000 (omega arith) v h), by (ltb (v + v) 0x1_0000_0000_0000_0000) refl)
   where
-    by : (t : Bool) → ltb (v + v) 18446744073709551616 ≡ t → isZero (cond t (pos v) (negsuc (18446744073709551616 - suc v))) ≡ eqb v 0
+    by : (t : Bool) → ltb (v + v) 0x1_0000_0000_0000_0000 ≡ t → isZero (cond t (pos v) (negsuc (0x1_0000_0000_0000_0000 - suc v))) ≡ eqb v 0
     by true e = zero-pos v
-    by false e = let l = ltb-false (v + v) 18446744073709551616 e in sym (ne-eqb v 0 (λ z. absurd (omega arith)))
+    by false e = let l = ltb-false (v + v) 0x1_0000_0000_0000_0000 e in sym (ne-eqb v 0 (λ z. absurd (omega arith)))
 
 pub multiplier-is : (t k v r : ℕ) → t % 8 ≡ k → (r ≡ reduce (2 ^ 64) (signed (256 ^ (2 ^ k)) (v % 256 ^ (2 ^ k)))) × (isZero (signed (256 ^ (2 ^ k)) (v % 256 ^ (2 ^ k))) ≡ eqb r 0)
     → Multiplier (signed (256 ^ sew t) (v % 256 ^ sew t)) r

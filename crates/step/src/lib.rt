@@ -46,13 +46,13 @@ fn word_answer(wrong: Wrong) -> Answer
 
 // The residue at 64 bits of the signed number that x stands for at the modulus half + half.
 fn sign_extend(x: u64, half: u64) -> u64
-    requires { ⌜ (x < half + half) × (half ≤ 2147483648) ⌝ }
+    requires { ⌜ (x < half + half) × (half ≤ 0x8000_0000) ⌝ }
     ensures { λ r. ⌜ (r ≡ reduce (2 ^ 64) (signed (half + half) x)) × (isZero (signed (half + half) x) ≡ eqb r 0) ⌝ }
 {
     if x < half {
         return x;
     }
-    x + (18446744073709551615 - (half + half - 1))
+    x + (0xffff_ffff_ffff_ffff - (half + half - 1))
 }
 
 // The low SEW bits of a scalar as a multiplier.
@@ -68,7 +68,7 @@ fn multiplier(mtype: u64, value: u64) -> u64
         return sign_extend(value % 65536, 32768);
     }
     if msew == 2 {
-        return sign_extend(value % 4294967296, 2147483648);
+        return sign_extend(value % 0x1_0000_0000, 0x8000_0000);
     }
     value
 }

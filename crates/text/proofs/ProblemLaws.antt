@@ -21,11 +21,11 @@ never e = absurd (omega arith)
 
 -- ---- numbers as the code holds them
 
-size-pos : (x : ℕ) → sizeHeld (held (pos x)) ≡ min x 4294967296
-size-pos x = rw (le-leb 4294967296 (4294967296 + min x 4294967296) (omega arith)) (omega arith)
+size-pos : (x : ℕ) → sizeHeld (held (pos x)) ≡ min x 0x1_0000_0000
+size-pos x = rw (le-leb 0x1_0000_0000 (0x1_0000_0000 + min x 0x1_0000_0000) (omega arith)) (omega arith)
 
-size-neg : (x : ℕ) → sizeHeld (held (negsuc x)) ≡ 8589934592
-size-neg x = rw (lt-leb 4294967296 (4294967296 - min (suc x) 4294967296) (omega arith))
+size-neg : (x : ℕ) → sizeHeld (held (negsuc x)) ≡ 0x2_0000_0000
+size-neg x = rw (lt-leb 0x1_0000_0000 (0x1_0000_0000 - min (suc x) 0x1_0000_0000) (omega arith))
 
 -- a small number from 0 up is held as it is, and no other is held as a small one
 small-size : (z : ℤ) (s : ℕ) → s ≡ sizeHeld (held z) → fromZero z ≡ true → natAbs z ≤ 32 → natAbs z ≡ s
@@ -36,19 +36,19 @@ size-small : (z : ℤ) (s : ℕ) → s ≡ sizeHeld (held z) → s ≤ 32 → (f
 size-small (pos x) s e h = (refl, omega (arith, e ∙ size-pos x))
 size-small (negsuc x) s e h = absurd (omega (arith, e ∙ size-neg x))
 
-inside-held : (h : ℕ) (z : ℤ) → h ≤ 2147483648 → inside h (held z) ≡ holds h z
+inside-held : (h : ℕ) (z : ℤ) → h ≤ 0x8000_0000 → inside h (held z) ≡ holds h z
 inside-held h (pos x) l = go (le-or-lt h x)
   where
     go : (h ≤ x) ⊎ (x < h) → inside h (held (pos x)) ≡ ltb x h
-    go (inl k) = rw (le-leb (4294967296 - h) (4294967296 + min x 4294967296) (omega arith), le-ltb (4294967296 + min x 4294967296) (4294967296 + h) (omega arith), le-ltb x h k)
-    go (inr k) = rw (le-leb (4294967296 - h) (4294967296 + min x 4294967296) (omega arith), lt-ltb (4294967296 + min x 4294967296) (4294967296 + h) (omega arith), lt-ltb x h k)
+    go (inl k) = rw (le-leb (0x1_0000_0000 - h) (0x1_0000_0000 + min x 0x1_0000_0000) (omega arith), le-ltb (0x1_0000_0000 + min x 0x1_0000_0000) (0x1_0000_0000 + h) (omega arith), le-ltb x h k)
+    go (inr k) = rw (le-leb (0x1_0000_0000 - h) (0x1_0000_0000 + min x 0x1_0000_0000) (omega arith), lt-ltb (0x1_0000_0000 + min x 0x1_0000_0000) (0x1_0000_0000 + h) (omega arith), lt-ltb x h k)
 inside-held h (negsuc x) l = go (le-or-lt h x)
   where
     go : (h ≤ x) ⊎ (x < h) → inside h (held (negsuc x)) ≡ ltb x h
-    go (inl k) = rw (lt-leb (4294967296 - h) (4294967296 - min (suc x) 4294967296) (omega arith), le-ltb x h k)
-    go (inr k) = rw (le-leb (4294967296 - h) (4294967296 - min (suc x) 4294967296) (omega arith), lt-ltb (4294967296 - min (suc x) 4294967296) (4294967296 + h) (omega arith), lt-ltb x h k)
+    go (inl k) = rw (lt-leb (0x1_0000_0000 - h) (0x1_0000_0000 - min (suc x) 0x1_0000_0000) (omega arith), le-ltb x h k)
+    go (inr k) = rw (le-leb (0x1_0000_0000 - h) (0x1_0000_0000 - min (suc x) 0x1_0000_0000) (omega arith), lt-ltb (0x1_0000_0000 - min (suc x) 0x1_0000_0000) (0x1_0000_0000 + h) (omega arith), lt-ltb x h k)
 
-each-held : (h : ℕ) (zs : List ℤ) → h ≤ 2147483648 → allOf (inside h) (map held zs) ≡ every (map (holds h) zs)
+each-held : (h : ℕ) (zs : List ℤ) → h ≤ 0x8000_0000 → allOf (inside h) (map held zs) ≡ every (map (holds h) zs)
 each-held h [] l = refl
 each-held h (z ∷ zs) l = rw (inside-held h z l, each-held h zs l)
 
@@ -90,8 +90,8 @@ module _ (s f : ℕ) (ok : format 32 s f ≡ true) where
   pub format-bounds : (s ≤ 32) × (f ≤ 4)
   format-bounds = (leb-true s 32 (each-in s shorts (λ y. leb y 32) refl format-sew), leb-true f 4 (each-in f factors (λ y. leb y 4) refl (parts .1 .0)))
 
-  pub format-half : 2 ^ (s - 1) ≤ 2147483648
-  format-half = leb-true (2 ^ (s - 1)) 2147483648 (each-in s shorts (λ y. leb (2 ^ (y - 1)) 2147483648) refl format-sew)
+  pub format-half : 2 ^ (s - 1) ≤ 0x8000_0000
+  format-half = leb-true (2 ^ (s - 1)) 0x8000_0000 (each-in s shorts (λ y. leb (2 ^ (y - 1)) 0x8000_0000) refl format-sew)
 
 -- ---- the tests, of the numbers as the code holds them
 

@@ -52,26 +52,26 @@ word-done s from i l h d = go d
 -- ---- digits
 
 -- keeping a number to 2^32 at each digit keeps it to 2^32 at the end
-kept-digits : (t : List ℕ) (v : ℕ) → digitsWord (valueFrom (min v 4294967296) t) ≡ digitsWord (valueFrom v t)
+kept-digits : (t : List ℕ) (v : ℕ) → digitsWord (valueFrom (min v 0x1_0000_0000) t) ≡ digitsWord (valueFrom v t)
 kept-digits [] v = ap Value (omega arith)
 kept-digits (d ∷ t) v = go (kept-digits t) (digit d)
   where
-    same : min (10 * min v 4294967296 + (d - 48)) 4294967296 ≡ min (10 * v + (d - 48)) 4294967296
+    same : min (10 * min v 0x1_0000_0000 + (d - 48)) 0x1_0000_0000 ≡ min (10 * v + (d - 48)) 0x1_0000_0000
     same = omega arith
 
-    go : ((x : ℕ) → digitsWord (valueFrom (min x 4294967296) t) ≡ digitsWord (valueFrom x t)) → (b : Bool)
-        → digitsWord (cond b (valueFrom (10 * min v 4294967296 + (d - 48)) t) none) ≡ digitsWord (cond b (valueFrom (10 * v + (d - 48)) t) none)
-    go ih true = sym (ih (10 * min v 4294967296 + (d - 48))) ∙ ap (λ (x : ℕ). digitsWord (valueFrom x t)) same ∙ ih (10 * v + (d - 48))
+    go : ((x : ℕ) → digitsWord (valueFrom (min x 0x1_0000_0000) t) ≡ digitsWord (valueFrom x t)) → (b : Bool)
+        → digitsWord (cond b (valueFrom (10 * min v 0x1_0000_0000 + (d - 48)) t) none) ≡ digitsWord (cond b (valueFrom (10 * v + (d - 48)) t) none)
+    go ih true = sym (ih (10 * min v 0x1_0000_0000 + (d - 48))) ∙ ap (λ (x : ℕ). digitsWord (valueFrom x t)) same ∙ ih (10 * v + (d - 48))
     go ih false = refl
 
 pub digits-more : (s : List ℕ) (i v : ℕ) → i < length s → digit (getD s i 0) ≡ true
-    → digitsWord (valueFrom v (drop i s)) ≡ digitsWord (valueFrom (min (10 * v + (getD s i 0 - 48)) 4294967296) (drop (i + 1) s))
+    → digitsWord (valueFrom v (drop i s)) ≡ digitsWord (valueFrom (min (10 * v + (getD s i 0 - 48)) 0x1_0000_0000) (drop (i + 1) s))
 digits-more s i v h e = rw (add-one, drop-cons s i 0 h, e) (sym (kept-digits (drop (suc i) s) (10 * v + (getD s i 0 - 48))))
 
 pub digits-other : (s : List ℕ) (i v : ℕ) → i < length s → digit (getD s i 0) ≡ false → digitsWord (valueFrom v (drop i s)) ≡ Other
 digits-other s i v h e = rw (drop-cons s i 0 h, e)
 
-pub digits-end : (s : List ℕ) (i v : ℕ) → length s ≤ i → v ≤ 4294967296 → digitsWord (valueFrom v (drop i s)) ≡ Value v
+pub digits-end : (s : List ℕ) (i v : ℕ) → length s ≤ i → v ≤ 0x1_0000_0000 → digitsWord (valueFrom v (drop i s)) ≡ Value v
 digits-end s i v h l = rw (drop-of-length-le s h) (ap Value (omega arith))
 
 pub digit-range : (d : ℕ) → digit d ≡ true → (48 ≤ d) × (d ≤ 57)
@@ -103,24 +103,24 @@ pub number-plus : (w : List ℕ) → 0 < length w → (getD w 0 0 ≡ 45 → ⊥
 number-plus [] n e = absurd (omega arith)
 number-plus (b ∷ w) n e = rw (ne-eqb b 45 e)
 
-pub held-minus : (o : Option ℕ) (v : ℕ) → digitsWord o ≡ Value v → (v ≤ 4294967296) × (heldWord (minus o) ≡ Value (4294967296 - v))
+pub held-minus : (o : Option ℕ) (v : ℕ) → digitsWord o ≡ Value v → (v ≤ 0x1_0000_0000) × (heldWord (minus o) ≡ Value (0x1_0000_0000 - v))
 held-minus none v e = never (cc)
-held-minus (some zero) v e = let h : min 0 4294967296 ≡ v = cc in (omega arith, ap Value (omega arith))
-held-minus (some (suc n)) v e = let h : min (suc n) 4294967296 ≡ v = cc in (omega arith, ap (λ (x : ℕ). Value (4294967296 - x)) h)
+held-minus (some zero) v e = let h : min 0 0x1_0000_0000 ≡ v = cc in (omega arith, ap Value (omega arith))
+held-minus (some (suc n)) v e = let h : min (suc n) 0x1_0000_0000 ≡ v = cc in (omega arith, ap (λ (x : ℕ). Value (0x1_0000_0000 - x)) h)
 
-pub held-plus : (o : Option ℕ) (v : ℕ) → digitsWord o ≡ Value v → (v ≤ 4294967296) × (heldWord (plus o) ≡ Value (4294967296 + v))
+pub held-plus : (o : Option ℕ) (v : ℕ) → digitsWord o ≡ Value v → (v ≤ 0x1_0000_0000) × (heldWord (plus o) ≡ Value (0x1_0000_0000 + v))
 held-plus none v e = never (cc)
-held-plus (some n) v e = let h : min n 4294967296 ≡ v = cc in (omega arith, ap (λ (x : ℕ). Value (4294967296 + x)) h)
+held-plus (some n) v e = let h : min n 0x1_0000_0000 ≡ v = cc in (omega arith, ap (λ (x : ℕ). Value (0x1_0000_0000 + x)) h)
 
 -- with either sign
 pub held-other : (sign : ℕ → ℤ) (o : Option ℕ) → digitsWord o ≡ Other → heldWord (Option·map sign o) ≡ Other
 held-other sign none e = refl
 held-other sign (some n) e = never (cc)
 
-pub held-bound : (o : Option ℤ) (x : ℕ) → heldWord o ≡ Value x → x ≤ 8589934592
+pub held-bound : (o : Option ℤ) (x : ℕ) → heldWord o ≡ Value x → x ≤ 0x2_0000_0000
 held-bound none x e = never (cc)
-held-bound (some (pos n)) x e = let h : 4294967296 + min n 4294967296 ≡ x = cc in omega arith
-held-bound (some (negsuc n)) x e = let h : 4294967296 - min (suc n) 4294967296 ≡ x = cc in omega arith
+held-bound (some (pos n)) x e = let h : 0x1_0000_0000 + min n 0x1_0000_0000 ≡ x = cc in omega arith
+held-bound (some (negsuc n)) x e = let h : 0x1_0000_0000 - min (suc n) 0x1_0000_0000 ≡ x = cc in omega arith
 
 -- ---- what stands first in a text
 

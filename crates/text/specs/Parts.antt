@@ -16,8 +16,8 @@ use Rattle.text.specs.Problem.{Problem}
 
 -- z + 2^32, but no less than 0 and no more than 2^33: no number that a problem may have is changed by that
 abbrev pub held : ℤ → ℕ
-held (pos n) = 4294967296 + min n 4294967296
-held (negsuc n) = 4294967296 - min (suc n) 4294967296
+held (pos n) = 0x1_0000_0000 + min n 0x1_0000_0000
+held (negsuc n) = 0x1_0000_0000 - min (suc n) 0x1_0000_0000
 
 -- the numbers of a text
 unfoldable pub heldIn : List ℕ → Option (List ℕ)
@@ -43,7 +43,7 @@ putFront l out = take (length out) l ++ drop (length l) out
 -- the digits of a word: a number from 0 up, but no more than 2^32
 abbrev pub digitsWord : Option ℕ → Word
 digitsWord none = Other
-digitsWord (some v) = Value (min v 4294967296)
+digitsWord (some v) = Value (min v 0x1_0000_0000)
 
 -- a word
 abbrev pub heldWord : Option ℤ → Word
@@ -70,7 +70,7 @@ frontAhead s (Number x next) = x ∷ front (drop next s)
 abbrev pub onward : List ℕ → ℕ → Token → Type 0
 onward s at End = Unit
 onward s at Bad = Unit
-onward s at (Number x next) = (at < next) × (next ≤ length s) × (x ≤ 8589934592)
+onward s at (Number x next) = (at < next) × (next ≤ length s) × (x ≤ 0x2_0000_0000)
 
 -- all numbers stand at the front of out; or there are none, or more than out has room for
 abbrev pub counted : Option (List ℕ) → List ℕ → Count → Type 0
@@ -79,11 +79,11 @@ counted ls out Many = ((l : List ℕ) → ls ≡ some l → length out < length 
 
 -- the number from 0 up that is held as x, and a large one where that is below 0
 abbrev pub sizeHeld : ℕ → ℕ
-sizeHeld x = cond (leb 4294967296 x) (x - 4294967296) 8589934592
+sizeHeld x = cond (leb 0x1_0000_0000 x) (x - 0x1_0000_0000) 0x2_0000_0000
 
 -- the number that is held as x is from -h to h - 1
 abbrev pub inside : ℕ → ℕ → Bool
-inside h x = leb (4294967296 - h) x && ltb x (4294967296 + h)
+inside h x = leb (0x1_0000_0000 - h) x && ltb x (0x1_0000_0000 + h)
 
 -- ---- a problem as the code returns it
 

@@ -60,11 +60,11 @@ fn is_digit(b: u8) -> bool
 
 // One digit more, kept to 2^32.
 fn more(v: u64, d: u8) -> u64
-    requires { ⌜ (v ≤ 4294967296) × (48 ≤ d) × (d ≤ 57) ⌝ }
-    ensures { λ r. ⌜ r ≡ min (10 * v + (d - 48)) 4294967296 ⌝ }
+    requires { ⌜ (v ≤ 0x1_0000_0000) × (48 ≤ d) × (d ≤ 57) ⌝ }
+    ensures { λ r. ⌜ r ≡ min (10 * v + (d - 48)) 0x1_0000_0000 ⌝ }
 {
     let x = 10 * v + ((d - 48) as u64);
-    if x < 4294967296 { x } else { 4294967296 }
+    if x < 0x1_0000_0000 { x } else { 0x1_0000_0000 }
 }
 
 // The first place from `at` on that is no separator.
@@ -130,12 +130,12 @@ fn read_word(word: &[u8]) -> Word
             return Word::Other;
         }
         match digits_from(word, 1) {
-            Word::Value(v) => Word::Value(4294967296 - v),
+            Word::Value(v) => Word::Value(0x1_0000_0000 - v),
             Word::Other => Word::Other,
         }
     } else {
         match digits_from(word, 0) {
-            Word::Value(v) => Word::Value(4294967296 + v),
+            Word::Value(v) => Word::Value(0x1_0000_0000 + v),
             Word::Other => Word::Other,
         }
     }
@@ -188,23 +188,23 @@ fn read_all(text: &[u8], out: &mut [u64]) -> Count
 fn size(x: u64) -> u64
     ensures { λ r. ⌜ r ≡ sizeHeld x ⌝ }
 {
-    if 4294967296 <= x {
-        x - 4294967296
+    if 0x1_0000_0000 <= x {
+        x - 0x1_0000_0000
     } else {
-        8589934592
+        0x2_0000_0000
     }
 }
 
 // Whether the number that is held as x is from -h to h - 1.
 fn is_inside(h: u64, x: u64) -> bool
-    requires { ⌜ h ≤ 2147483648 ⌝ }
+    requires { ⌜ h ≤ 0x8000_0000 ⌝ }
     ensures { λ r. ⌜ r ≡ inside h x ⌝ }
 {
-    4294967296 - h <= x && x < 4294967296 + h
+    0x1_0000_0000 - h <= x && x < 0x1_0000_0000 + h
 }
 
 fn each_inside(h: u64, xs: &[u64]) -> bool
-    requires { ⌜ h ≤ 2147483648 ⌝ }
+    requires { ⌜ h ≤ 0x8000_0000 ⌝ }
     ensures { λ r. ⌜ r ≡ allOf (inside h) (now (xs .entry)) ⌝ }
 {
     let mut i = 0;
@@ -221,7 +221,7 @@ fn each_inside(h: u64, xs: &[u64]) -> bool
 // Half as many as the numbers that sew bits hold.
 fn half(sew: u64) -> u64
     requires { ⌜ isIn sew (8 ∷ 16 ∷ 32 ∷ []) ≡ true ⌝ }
-    ensures { λ r. ⌜ (r ≡ 2 ^ (sew - 1)) × (r ≤ 2147483648) ⌝ }
+    ensures { λ r. ⌜ (r ≡ 2 ^ (sew - 1)) × (r ≤ 0x8000_0000) ⌝ }
 {
     if sew == 8 {
         return 128;
@@ -229,7 +229,7 @@ fn half(sew: u64) -> u64
     if sew == 16 {
         return 32768;
     }
-    2147483648
+    0x8000_0000
 }
 
 // The problem of the numbers xs.

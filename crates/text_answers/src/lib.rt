@@ -65,8 +65,8 @@ pub fn answer_column(answer: Texted) -> u64
 pub fn number_of(word: u32) -> u8
     ensures { λ r. ⌜ r ≡ entryOf word ⌝ }
 {
-    let high = word / 268435456;
-    let middle = (word / 33554432 % 8) as usize;
+    let high = word / 0x1000_0000;
+    let middle = (word / 0x200_0000 % 8) as usize;
     let form = (word / 4096 % 8) as usize;
     entry_for_text(high, middle, form)
 }

@@ -22,13 +22,13 @@ use Rattle.text_calls.specs.TextCalls.{packedText, linedAs, textOut, hos
 
 -- ---- results
 
-pub packs-size : (r : TextReply) (size : ℕ) → r .number ≡ 0 → size % 281474976710656 * 65536 ≡ packedText r size
+pub packs-size : (r : TextReply) (size : ℕ) → r .number ≡ 0 → size % 0x1_0000_0000_0000 * 65536 ≡ packedText r size
 unfolding packedText
 packs-size r size e = rw e (omega arith)
 
-pub packs-column : (r : TextReply) (n c size : ℕ) → n ≡ r .number → c ≡ r .column → ¬ (n ≡ 0) → n + c % 281474976710656 * 65536 ≡ packedText r size
+pub packs-column : (r : TextReply) (n c size : ℕ) → n ≡ r .number → c ≡ r .column → ¬ (n ≡ 0) → n + c % 0x1_0000_0000_0000 * 65536 ≡ packedText r size
 unfolding packedText
-packs-column r n c size e d z = rw (ne-eqb (r .number) 0 (λ k. z (e ∙ k))) (ap₂ (λ (x y : ℕ). x + y % 281474976710656 * 65536) e d)
+packs-column r n c size e d z = rw (ne-eqb (r .number) 0 (λ k. z (e ∙ k))) (ap₂ (λ (x y : ℕ). x + y % 0x1_0000_0000_0000 * 65536) e d)
 
 pub number-small : (a : Texted) → textReply a .number ≤ 17
 number-small Done = omega arith

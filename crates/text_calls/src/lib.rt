@@ -26,9 +26,9 @@ fn packed_text(answer: Texted, size: u64) -> u64
 {
     let number = answer_number(answer);
     if number == 0 {
-        return size % 281474976710656 * 65536;
+        return size % 0x1_0000_0000_0000 * 65536;
     }
-    number + answer_column(answer) % 281474976710656 * 65536
+    number + answer_column(answer) % 0x1_0000_0000_0000 * 65536
 }
 
 // Writes the line of a word that has one to the front of the text, where it fits; returns its length.

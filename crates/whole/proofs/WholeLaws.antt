@@ -72,7 +72,7 @@ module _ (P : Plan) (B : Bench) where
         finishes _ (ap (λ (a : Reply). record { answer = a; count = 0; bench = B }) a ∙ sym (whole-refused (sym (ap done a) ∙ d)))
 
     pub finishes-done : (s : RunStarted) → startedAs s B ≡ startRun chosen P B → isDone (s .answer) ≡ true
-        → (t : TurnsOutcome) → t ≡ turns chosen (running (s .run) B) 18446744073709551615
+        → (t : TurnsOutcome) → t ≡ turns chosen (running (s .run) B) 0xffff_ffff_ffff_ffff
         → Finishes (record { answer = reply (s .answer); count = t .count; bench = t .after .bench })
     finishes-done s e d t h =
         let a = answer-is s e in
@@ -81,4 +81,4 @@ module _ (P : Plan) (B : Bench) where
         let few = few-steps (shape (jobOf chosen P B)) (n .m-fits) (n .k-fits) (n .n-fits) in
         finishes _
         (ap₂ (λ (a : Reply) (t : TurnsOutcome). record { answer = a; count = t .count; bench = t .after .bench }) a
-        (h ∙ ap (λ (r : RunStart). turns chosen (running (r .run) (r .bench)) 18446744073709551615) e ∙ whole-done ok 18446744073709551615 (omega arith)))
+        (h ∙ ap (λ (r : RunStart). turns chosen (running (r .run) (r .bench)) 0xffff_ffff_ffff_ffff) e ∙ whole-done ok 0xffff_ffff_ffff_ffff (omega arith)))

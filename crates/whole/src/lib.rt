@@ -33,7 +33,7 @@ pub fn whole(
     }
     let run = started.run;
     let taken = turn::turns(
-        18446744073709551615,
+        0xffff_ffff_ffff_ffff,
         run,
         m,
         seals,

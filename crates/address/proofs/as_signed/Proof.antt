@@ -8,7 +8,7 @@ use Rattle.address.proofs.as_signed.Tie as tie
 
 sub-result-2 : tie.Need-sub-result-2
 sub-result-2 c =
-    let k = 18446744073709551615 - c .before .args .x in
+    let k = 0xffff_ffff_ffff_ffff - c .before .args .x in
     rw (toZ-pos w64 k (omega arith), below-one k) (record { sfits = omega arith })
 
 returns : tie.Need-returns
@@ -17,7 +17,7 @@ returns c = signed-is (c .before .args .x)
 returns-2 : tie.Need-returns-2
 returns-2 c =
     let x = c .before .args .x in
-    let k = 18446744073709551615 - x in
+    let k = 0xffff_ffff_ffff_ffff - x in
     let e : x ≡ 2 ^ 64 - suc k = omega arith in
     rw (toZ-pos w64 k (omega arith), below-one k) (sym (ap (toZ w64) e)) ∙ signed-is x
 

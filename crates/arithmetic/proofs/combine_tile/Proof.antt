@@ -52,7 +52,7 @@ returns-2 c =
     let w : ℕ = a .factor * a .width in
     let ok : Width w = c .before .before .before .before .before .before .before .pre .1 .1 .1 .0 in
     c .before .before .weigh-tile2 .ensures
-    ∙ combine-is (shape (a .rows) (a .pitch)) (a .width) w (a .d) (a .a) (a .m) (a .n) (a .registers .now) Subtract (1 % 256 ^ w) (18446744073709551615 % 256 ^ w) (weight-one w ok) (weight-minus w ok)
+    ∙ combine-is (shape (a .rows) (a .pitch)) (a .width) w (a .d) (a .a) (a .m) (a .n) (a .registers .now) Subtract (1 % 256 ^ w) (0xffff_ffff_ffff_ffff % 256 ^ w) (weight-one w ok) (weight-minus w ok)
     ∙ ap (λ (o : Sum). combineTile (shape (a .rows) (a .pitch)) o w (a .width) (a .d) (a .a) (a .m) (a .n) (a .registers .now)) (sym (c .before .before .before .before .enum-told2 .given .1))
 
 returns-3 : tie.Need-returns-3
@@ -61,7 +61,7 @@ returns-3 c =
     let w : ℕ = a .factor * a .width in
     let ok : Width w = c .before .before .before .before .before .before .before .pre .1 .1 .1 .0 in
     c .before .before .weigh-tile3 .ensures
-    ∙ combine-is (shape (a .rows) (a .pitch)) (a .width) w (a .d) (a .a) (a .m) (a .n) (a .registers .now) ReverseSubtract (18446744073709551615 % 256 ^ w) (1 % 256 ^ w) (weight-minus w ok) (weight-one w ok)
+    ∙ combine-is (shape (a .rows) (a .pitch)) (a .width) w (a .d) (a .a) (a .m) (a .n) (a .registers .now) ReverseSubtract (0xffff_ffff_ffff_ffff % 256 ^ w) (1 % 256 ^ w) (weight-minus w ok) (weight-one w ok)
     ∙ ap (λ (o : Sum). combineTile (shape (a .rows) (a .pitch)) o w (a .width) (a .d) (a .a) (a .m) (a .n) (a .registers .now)) (sym (c .before .before .before .before .enum-told3 .given .1))
 
 pub combine-tile-spec : {M : Type 1} → statement M

@@ -5,7 +5,7 @@ use Rattle.element.proofs.extend1to4.Statement.{statement}
 use Rattle.element.proofs.extend1to4.Tie as tie
 
 returns : tie.Need-returns
-returns c = c .wrapping-add-u32 .ensures ∙ extended 128 4294967296 (c .before .args .x) (search needs) (omega arith)
+returns c = c .wrapping-add-u32 .ensures ∙ extended 128 0x1_0000_0000 (c .before .args .x) (search needs) (omega arith)
 
 pub extend1to4-spec : {M : Type 1} → statement M
 extend1to4-spec = tie.close (tie.spec (λ c. search needs) (λ c _. search needs) returns)

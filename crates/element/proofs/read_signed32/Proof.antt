@@ -10,14 +10,14 @@ use Rattle.element.proofs.read_signed32.Tie as tie
 returns : tie.Need-returns
 returns c =
     let a = c .before .before .before .before .args in
-    c .extend1to4 .ensures ∙ ap (λ (x : ℕ). reduce 4294967296 (signed 256 x)) (c .before .read1 .ensures .0)
-    ∙ ap (λ (w : ℕ). reduce 4294967296 (signed (256 ^ w) (getLe (a .s .now) (a .at) w))) (sym (c .before .before .if1 .taken))
+    c .extend1to4 .ensures ∙ ap (λ (x : ℕ). reduce 0x1_0000_0000 (signed 256 x)) (c .before .read1 .ensures .0)
+    ∙ ap (λ (w : ℕ). reduce 0x1_0000_0000 (signed (256 ^ w) (getLe (a .s .now) (a .at) w))) (sym (c .before .before .if1 .taken))
 
 returns-2 : tie.Need-returns-2
 returns-2 c =
     let a = c .before .before .before .before .before .args in
-    c .extend2to4 .ensures ∙ ap (λ (x : ℕ). reduce 4294967296 (signed 65536 x)) (c .before .read2 .ensures .0)
-    ∙ ap (λ (w : ℕ). reduce 4294967296 (signed (256 ^ w) (getLe (a .s .now) (a .at) w))) (sym (c .before .before .if2 .taken))
+    c .extend2to4 .ensures ∙ ap (λ (x : ℕ). reduce 0x1_0000_0000 (signed 65536 x)) (c .before .read2 .ensures .0)
+    ∙ ap (λ (w : ℕ). reduce 0x1_0000_0000 (signed (256 ^ w) (getLe (a .s .now) (a .at) w))) (sym (c .before .before .if2 .taken))
 
 read4-requires : tie.Need-read4-requires
 read4-requires c κs =
@@ -31,8 +31,8 @@ returns-3 c =
     let a = s .args in
     let r = c .read4 in
     let e = is4 (a .width) (s .pre .0) (c .before .before .if1 .left) (c .before .if2 .left) in
-    sym (reduce-signed 4294967296 (omega arith) (r .result) (r .ensures .1)) ∙ ap (λ (x : ℕ). reduce 4294967296 (signed 4294967296 x)) (r .ensures .0)
-    ∙ ap (λ (w : ℕ). reduce 4294967296 (signed (256 ^ w) (getLe (a .s .now) (a .at) w))) (sym e)
+    sym (reduce-signed 0x1_0000_0000 (omega arith) (r .result) (r .ensures .1)) ∙ ap (λ (x : ℕ). reduce 0x1_0000_0000 (signed 0x1_0000_0000 x)) (r .ensures .0)
+    ∙ ap (λ (w : ℕ). reduce 0x1_0000_0000 (signed (256 ^ w) (getLe (a .s .now) (a .at) w))) (sym e)
 
 pub read-signed32-spec : {M : Type 1} → statement M
 read-signed32-spec =

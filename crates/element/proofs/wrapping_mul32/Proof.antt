@@ -9,7 +9,7 @@ mul-result : tie.Need-mul-result
 mul-result c = record { fits = mul-below 32 (search needs) (search needs) }
 
 returns : tie.Need-returns
-returns c = wrapping-mul 4294967296 (omega arith) (c .args .x) (c .args .y) (search needs) (search needs)
+returns c = wrapping-mul 0x1_0000_0000 (omega arith) (c .args .x) (c .args .y) (search needs) (search needs)
 
 pub wrapping-mul32-spec : {M : Type 1} → statement M
 wrapping-mul32-spec = tie.close (tie.spec mul-result (λ c. search needs) returns)

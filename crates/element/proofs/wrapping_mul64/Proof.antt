@@ -6,7 +6,7 @@ use Rattle.element.proofs.Laws.{by-halves}
 use Rattle.element.proofs.wrapping_mul64.Statement.{statement}
 use Rattle.element.proofs.wrapping_mul64.Tie as tie
 
-high : (x : ℕ) → x < 18446744073709551616 → x / 4294967296 < 4294967296
+high : (x : ℕ) → x < 0x1_0000_0000_0000_0000 → x / 0x1_0000_0000 < 0x1_0000_0000
 high x h = omega arith
 
 mul-across : tie.Need-mul-across
@@ -21,7 +21,7 @@ mul-wrapping-add-u64 c = record { fits = mul-below 32 (omega arith) (omega arith
 returns : tie.Need-returns
 returns c =
     let a = c .before .args in
-    c .wrapping-add-u64 .ensures ∙ by-halves (a .x) (a .y) ∙ wrapping-mul 18446744073709551616 (omega arith) (a .x) (a .y) (search needs) (search needs)
+    c .wrapping-add-u64 .ensures ∙ by-halves (a .x) (a .y) ∙ wrapping-mul 0x1_0000_0000_0000_0000 (omega arith) (a .x) (a .y) (search needs) (search needs)
 
 pub wrapping-mul64-spec : {M : Type 1} → statement M
 wrapping-mul64-spec =

@@ -16,7 +16,7 @@ slice-write-s-4 c = simp length-set (omega arith)
 returns : tie.Need-returns
 returns c =
     let small : c .args .v < 256 ^ 4 = search needs in
-    put-bytes 3 (c .args .at) (c .args .v) (c .args .v / 16777216) (c .args .s .now) (omega arith)
+    put-bytes 3 (c .args .at) (c .args .v) (c .args .v / 0x100_0000) (c .args .s .now) (omega arith)
 
 pub write4-spec : {M : Type 1} → statement M
 write4-spec =

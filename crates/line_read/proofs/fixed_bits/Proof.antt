@@ -9,16 +9,16 @@ use borrow.Author.Needs.{needs}
 use Rattle.line_read.proofs.fixed_bits.Statement.{statement}
 use Rattle.line_read.proofs.fixed_bits.Tie as tie
 
-summed : (n x y z a b d e : ℕ) → n ≡ a + 256 * x → x ≡ b + 256 * y → y ≡ d + 256 * z → e ≡ z → a + 256 * b + 65536 * d + 16777216 * e ≡ n
+summed : (n x y z a b d e : ℕ) → n ≡ a + 256 * x → x ≡ b + 256 * y → y ≡ d + 256 * z → e ≡ z → a + 256 * b + 65536 * d + 0x100_0000 * e ≡ n
 summed n x y z a b d e p q r s = omega arith
 
-joined : (n a b d e : ℕ) → n < 4294967296 → a ≡ n % 256 → b ≡ n / 256 % 256 → d ≡ n / 65536 % 256 → e ≡ n / 16777216 % 256 → a + 256 * b + 65536 * d + 16777216 * e ≡ n
+joined : (n a b d e : ℕ) → n < 0x1_0000_0000 → a ≡ n % 256 → b ≡ n / 256 % 256 → d ≡ n / 65536 % 256 → e ≡ n / 0x100_0000 % 256 → a + 256 * b + 65536 * d + 0x100_0000 * e ≡ n
 joined n a b d e h p q r s =
     let one : n ≡ a + 256 * (n / 256) = omega (arith, p) in
     let two : n / 256 ≡ b + 256 * (n / 65536) = omega (arith, q) in
-    let three : n / 65536 ≡ d + 256 * (n / 16777216) = omega (arith, r) in
-    let four : e ≡ n / 16777216 = omega (arith, s, h) in
-    summed n (n / 256) (n / 65536) (n / 16777216) a b d e one two three four
+    let three : n / 65536 ≡ d + 256 * (n / 0x100_0000) = omega (arith, r) in
+    let four : e ≡ n / 0x100_0000 = omega (arith, s, h) in
+    summed n (n / 256) (n / 65536) (n / 0x100_0000) a b d e one two three four
 
 shared-slice-read-wide : tie.Need-shared-slice-read-wide
 shared-slice-read-wide c = omega (arith, table-size (c .before .before .args .rows .now) (c .before .before .pre .0))

@@ -12,7 +12,7 @@ use Rattle.line_read.proofs.read_row.Tie as tie
 
 abbrev Inv-loop : tie.InvT-loop
 Inv-loop line texts from base i₀ at₀ scale₀ word₀ i at scale word =
-    (from ≤ i) × (i ≤ length texts) × (at ≤ length line) × (scale ≤ 1048576) × (word ≤ 4294967296 + (i - from) * 8589934592)
+    (from ≤ i) × (i ≤ length texts) × (at ≤ length line) × (scale ≤ 0x10_0000) × (word ≤ 0x1_0000_0000 + (i - from) * 0x2_0000_0000)
     × (rowFrom (drop from texts) line 0 128 base ≡ rowFrom (drop i texts) (drop at line) at scale word)
 
 abbrev μ-loop : tie.MeasureT-loop

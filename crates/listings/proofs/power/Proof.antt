@@ -20,15 +20,15 @@ returns-5 : tie.Need-returns-5
 returns-5 c = power-at (c .before .args .n) 4 65536 (c .match .keys5) refl
 
 returns-6 : tie.Need-returns-6
-returns-6 c = power-at (c .before .args .n) 5 1048576 (c .match .keys6) refl
+returns-6 c = power-at (c .before .args .n) 5 0x10_0000 (c .match .keys6) refl
 
 returns-7 : tie.Need-returns-7
-returns-7 c = power-at (c .before .args .n) 6 16777216 (c .match .keys7) refl
+returns-7 c = power-at (c .before .args .n) 6 0x100_0000 (c .match .keys7) refl
 
 returns-8 : tie.Need-returns-8
 returns-8 c =
     let l = above (c .before .args .n) 0 7 (omega arith) (c .match .rest) in
-    power-at (c .before .args .n) 7 268435456 (omega (arith, l, c .before .pre)) refl
+    power-at (c .before .args .n) 7 0x1000_0000 (omega (arith, l, c .before .pre)) refl
 
 pub power-spec : {M : Type 1} → statement M
 power-spec =

@@ -12,7 +12,7 @@ use Rattle.pairs.proofs.add_block.Tie as tie
 abbrev Inv-loop : tie.InvT-loop
 Inv-loop s c b o xs pairs sum₀ t₀ u₀ p₀ at₀ h₀ sum t u p at h =
     (p ≤ pairs) × (p % 2 ≡ 0) × (at ≡ o + pairPlaces * p) × (h ≡ 8 * p)
-    × ((q : ℕ) → q < 4 → ((lane sum q + lane t q) % 4294967296 + lane u q) % 4294967296 ≡ pairsRow s c xs b o p q)
+    × ((q : ℕ) → q < 4 → ((lane sum q + lane t q) % 0x1_0000_0000 + lane u q) % 0x1_0000_0000 ≡ pairsRow s c xs b o p q)
 
 abbrev μ-loop : tie.MeasureT-loop
 μ-loop s c b o xs pairs sum₀ t₀ u₀ p₀ at₀ h₀ sum t u p at h = pairs - p
@@ -40,8 +40,8 @@ loop-holds c =
       λ q l. (let z : lane none q ≡ 0 = each-of-four (λ q. lane none q ≡ 0) refl refl refl refl q l in
           let v : ℕ = getLe (a .s .now) (a .c + q * 4) 4 in
           let e : lane (r .result) q ≡ v = r .ensures q l in
-          let small : v < 4294967296 = le-lt (a .s .now) (λ i. omega (arith, c .before .before .before .before .slice-known .given i)) (a .c + q * 4) 4 in
-          let f : ((lane (r .result) q + lane none q) % 4294967296 + lane none q) % 4294967296 ≡ v = omega arith in
+          let small : v < 0x1_0000_0000 = le-lt (a .s .now) (λ i. omega (arith, c .before .before .before .before .slice-known .given i)) (a .c + q * 4) 4 in
+          let f : ((lane (r .result) q + lane none q) % 0x1_0000_0000 + lane none q) % 0x1_0000_0000 ≡ v = omega arith in
           f ∙ no-pairs v (a .xs .now) (2 * (q % 4)) (a .b .now) (a .o + 2 * q) small),
     )
 
@@ -80,12 +80,12 @@ loop-again c =
       omega arith,
       λ q h. (let row : ℕ → ℕ = λ p. pairsRow (a .s .now) (a .c) (a .xs .now) (a .b .now) (a .o) p q in
           let e : lane (c .before .before .plus2 .result) q ≡ row (l .p) =
-          c .before .before .plus2 .ensures q h ∙ ap (λ (v : ℕ). (v + lane (l .u) q) % 4294967296) (c .before .before .before .plus .ensures q h) ∙ l .inv .4 q h in
+          c .before .before .plus2 .ensures q h ∙ ap (λ (v : ℕ). (v + lane (l .u) q) % 0x1_0000_0000) (c .before .before .before .plus .ensures q h) ∙ l .inv .4 q h in
           let add = pair-added (getLe (a .s .now) (a .c + q * 4) 4) (a .xs .now) (2 * (q % 4)) (a .b .now) (a .o + 2 * q) in
           let t = c .before .pairs-at in
           let u = c .pairs-at2 in
           let e1 = add (l .p) (lane (c .before .before .plus2 .result) q) (lane (t .result) q) (l .h + 2 * q) (l .at + 2 * q) e (t .ensures q h) (omega arith) (omega arith) in
-          let e2 = add (l .p + 1) ((lane (c .before .before .plus2 .result) q + lane (t .result) q) % 4294967296) (lane (u .result) q) (l .h + 8 + 2 * q) (l .at + pairPlaces + 2 * q)
+          let e2 = add (l .p + 1) ((lane (c .before .before .plus2 .result) q + lane (t .result) q) % 0x1_0000_0000) (lane (u .result) q) (l .h + 8 + 2 * q) (l .at + pairPlaces + 2 * q)
           e1 (u .ensures q h) (omega arith) (omega arith) in
           let two : l .p + 1 + 1 ≡ l .p + 2 = omega arith in
           e2 ∙ ap row two),
@@ -100,7 +100,7 @@ returns c =
     let row : ℕ → ℕ → ℕ = pairsRow (a .s .now) (a .c) (a .xs .now) (a .b .now) (a .o) in
     c .before .before .write-block .ensures
     ∙ putRow-cong 4 (a .c) 4 (lane (x .result)) (row (a .pairs)) (a .s .now)
-    (λ q h. x .ensures q h ∙ ap (λ (v : ℕ). (v + lane (l .u) q) % 4294967296) (c .before .before .before .before .plus3 .ensures q h)
+    (λ q h. x .ensures q h ∙ ap (λ (v : ℕ). (v + lane (l .u) q) % 0x1_0000_0000) (c .before .before .before .before .plus3 .ensures q h)
     ∙ l .inv .4 q h ∙ ap (λ (p : ℕ). row p q) e)
 
 pub add-block-spec : {M : Type 1} → statement M

@@ -14,7 +14,7 @@ returns c =
     let w = c .before .before .extend2to44 in
     let p = c .before .before .before .before .wrapping-mul32 in
     let q = c .before .wrapping-mul322 in
-    pair-is 4294967296 (omega arith) (c .wrapping-add-u32 .result) (p .result) (q .result) (x .result) (y .result) (v .result) (w .result)
+    pair-is 0x1_0000_0000 (omega arith) (c .wrapping-add-u32 .result) (p .result) (q .result) (x .result) (y .result) (v .result) (w .result)
     (signed 65536 (a .x)) (signed 65536 (a .y)) (signed 65536 (a .v)) (signed 65536 (a .w))
     (c .wrapping-add-u32 .ensures) (p .ensures) (q .ensures) (x .ensures) (y .ensures) (v .ensures) (w .ensures)
 

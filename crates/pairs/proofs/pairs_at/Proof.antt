@@ -11,8 +11,8 @@ returns c =
     let a = c .before .before .before .before .before .before .args in
     let y : a .from ≡ a .from + 2 * 0 = omega arith in
     let z : a .at ≡ a .at + 2 * 0 = omega arith in
-    each-of-four (λ q. lane _ q ≡ reduce 4294967296 (pair (a .xs .now) (a .from + 2 * q) (a .b .now) (a .at + 2 * q)))
-    (c .before .before .before .pair-at .ensures ∙ ap₂ (λ (h o : ℕ). reduce 4294967296 (pair (a .xs .now) h (a .b .now) o)) y z)
+    each-of-four (λ q. lane _ q ≡ reduce 0x1_0000_0000 (pair (a .xs .now) (a .from + 2 * q) (a .b .now) (a .at + 2 * q)))
+    (c .before .before .before .pair-at .ensures ∙ ap₂ (λ (h o : ℕ). reduce 0x1_0000_0000 (pair (a .xs .now) h (a .b .now) o)) y z)
     (c .before .before .pair-at2 .ensures)
     (c .before .pair-at3 .ensures)
     (c .pair-at4 .ensures)

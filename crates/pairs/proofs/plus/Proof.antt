@@ -8,7 +8,7 @@ use Rattle.pairs.proofs.plus.Tie as tie
 returns : tie.Need-returns
 returns c =
     let a = c .before .before .before .before .args in
-    each-of-four (λ q. lane _ q ≡ (lane (a .x) q + lane (a .y) q) % 4294967296)
+    each-of-four (λ q. lane _ q ≡ (lane (a .x) q + lane (a .y) q) % 0x1_0000_0000)
     (c .before .before .before .wrapping-add-u32 .ensures)
     (c .before .before .wrapping-add-u322 .ensures)
     (c .before .wrapping-add-u323 .ensures)

@@ -4,10 +4,10 @@ use Rattle.plan_numbers.proofs.row_times.Statement.{statement}
 use Rattle.plan_numbers.proofs.row_times.Tie as tie
 
 mul-high : tie.Need-mul-high
-mul-high c = let h : c .args .stride / 4294967296 ≤ 4294967295 = omega arith in omega (arith, mul-le-mul (c .pre) h)
+mul-high c = let h : c .args .stride / 0x1_0000_0000 ≤ 0xffff_ffff = omega arith in omega (arith, mul-le-mul (c .pre) h)
 
 mul-low : tie.Need-mul-low
-mul-low c = let h : c .args .stride % 4294967296 ≤ 4294967295 = omega arith in omega (arith, mul-le-mul (c .pre) h)
+mul-low c = let h : c .args .stride % 0x1_0000_0000 ≤ 0xffff_ffff = omega arith in omega (arith, mul-le-mul (c .pre) h)
 
 returns : tie.Need-returns
 returns c = c .wrapping-add-u64 .ensures ∙ row-halves (c .before .args .row) (c .before .args .stride)

@@ -8,7 +8,7 @@ returns : tie.Need-returns
 returns c =
     let s = c .before .before .before in
     let a = s .args in
-    ap (λ (v : ℕ). eqb v 72340172838076673) (c .read8 .ensures) ∙ eight-marked (a .marks .now) (a .p) (λ q. omega (arith, c .before .before .shared-slice-known .given q))
+    ap (λ (v : ℕ). eqb v 0x0101_0101_0101_0101) (c .read8 .ensures) ∙ eight-marked (a .marks .now) (a .p) (λ q. omega (arith, c .before .before .shared-slice-known .given q))
     ∙ ap (λ (n : ℕ). all n (λ b. eqb (getD (a .marks .now) (a .p + b) 0) 1)) (sym (c .before .if1 .taken))
 
 pub line-marked-spec : {M : Type 1} → statement M

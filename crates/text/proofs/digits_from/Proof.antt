@@ -6,7 +6,7 @@ use Rattle.text.proofs.digits_from.Statement.{statement}
 use Rattle.text.proofs.digits_from.Tie as tie
 
 abbrev Inv-loop : tie.InvT-loop
-Inv-loop word from v₀ i₀ v i = (i ≤ length word) × (v ≤ 4294967296) × (digitsWord (valueFrom 0 (drop from word)) ≡ digitsWord (valueFrom v (drop i word)))
+Inv-loop word from v₀ i₀ v i = (i ≤ length word) × (v ≤ 0x1_0000_0000) × (digitsWord (valueFrom 0 (drop from word)) ≡ digitsWord (valueFrom v (drop i word)))
 
 abbrev μ-loop : tie.MeasureT-loop
 μ-loop word from v₀ i₀ v i = length word - i

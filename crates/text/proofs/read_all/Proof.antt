@@ -26,7 +26,7 @@ next c = heldIn (drop (c .held .given .0 .1 .0) (c .before .before .before .befo
 read-next : (c : tie.After-held Inv-loop μ-loop) → here (c .before .before .before) ≡ onto (c .held .given .0 .0 ∷ []) (next c)
 read-next c = c .before .before .next-number .ensures .0 ∙ ap (ahead (c .before .before .before .before .before .before .args .text .now)) (c .held .given .1)
 
-read-onward : (c : tie.After-held Inv-loop μ-loop) → (c .before .before .before .loop .at < c .held .given .0 .1 .0) × (c .held .given .0 .1 .0 ≤ length (c .before .before .before .before .before .before .args .text .now)) × (c .held .given .0 .0 ≤ 8589934592)
+read-onward : (c : tie.After-held Inv-loop μ-loop) → (c .before .before .before .loop .at < c .held .given .0 .1 .0) × (c .held .given .0 .1 .0 ≤ length (c .before .before .before .before .before .before .args .text .now)) × (c .held .given .0 .0 ≤ 0x2_0000_0000)
 read-onward c = subst (onward (c .before .before .before .before .before .before .args .text .now) (c .before .before .before .loop .at)) (c .held .given .1) (c .before .before .next-number .ensures .1 .0)
 
 -- the numbers at the front of the text, and of what is ahead of it

@@ -18,10 +18,10 @@ without-minus c =
     ap heldWord (number-plus (c .before .before .before .before .before .args .word .now) l (c .before .if2 .left))
 
 -- what the digits give
-below : (c : tie.After-v) → (c .v .given .0 .0 ≤ 4294967296) × (heldWord (minus (valueFrom 0 (drop 1 (c .before .before .before .before .before .before .before .before .args .word .now)))) ≡ Value (4294967296 - c .v .given .0 .0))
+below : (c : tie.After-v) → (c .v .given .0 .0 ≤ 0x1_0000_0000) × (heldWord (minus (valueFrom 0 (drop 1 (c .before .before .before .before .before .before .before .before .args .word .now)))) ≡ Value (0x1_0000_0000 - c .v .given .0 .0))
 below c = held-minus (valueFrom 0 (drop 1 (c .before .before .before .before .before .before .before .before .args .word .now))) (c .v .given .0 .0) (sym (c .before .before .digits-from .ensures) ∙ c .v .given .1)
 
-above : (c : tie.After-v2) → (c .v2 .given .0 .0 ≤ 4294967296) × (heldWord (plus (valueFrom 0 (drop 0 (c .before .before .before .before .before .before .before .args .word .now)))) ≡ Value (4294967296 + c .v2 .given .0 .0))
+above : (c : tie.After-v2) → (c .v2 .given .0 .0 ≤ 0x1_0000_0000) × (heldWord (plus (valueFrom 0 (drop 0 (c .before .before .before .before .before .before .before .args .word .now)))) ≡ Value (0x1_0000_0000 + c .v2 .given .0 .0))
 above c = held-plus (valueFrom 0 (drop 0 (c .before .before .before .before .before .before .before .args .word .now))) (c .v2 .given .0 .0) (sym (c .before .before .digits-from2 .ensures) ∙ c .v2 .given .1)
 
 returns : tie.Need-returns

@@ -12,8 +12,8 @@ use Rattle.text_answers.proofs.number_of.Tie as tie
 returns : tie.Need-returns
 returns c =
     let w = c .before .args .word in
-    let high : w / 268435456 ≡ bits 31 28 w = omega arith in
-    let middle : w / 33554432 % 8 ≡ bits 27 25 w = omega arith in
+    let high : w / 0x1000_0000 ≡ bits 31 28 w = omega arith in
+    let middle : w / 0x200_0000 % 8 ≡ bits 27 25 w = omega arith in
     c .entry-for-text .ensures ∙ ap₂ (λ (h m : ℕ). getD (getD (getD numbers h []) m []) (bits 14 12 w) 0) high middle
 
 pub number-of-spec : {M : Type 1} → statement M
