@@ -4,12 +4,12 @@ use Rattle.machine.specs.declared.Wrong.the-variants.{Register, Opcode}
 use Rattle.machine.specs.declared.Instruction.{Instruction}
 use Rattle.machine.specs.declared.Instruction.the-variants.{Illegal}
 use Rattle.machine.specs.Listing.{bits, field7, field15, field20, immediate13, Row, has, listing, lookUp, notOurs, inRange, ranged, decode}
-use Rattle.assembly.specs.Lines.{Piece, pieces, operandsIn, fieldsOf, fill, inside, lineBy, lineIn, line}
+use Rattle.assembly.specs.Lines.{Piece, pieces, operandsIn, fieldsOf, fill, inOperands, lineBy, lineIn, line}
 use Rattle.assembly.specs.Theorems.{isLegal, hasLine, LegalHaveLines}
 
 -- a row's registers are in range exactly if its text's operands are
 abbrev Same : ℕ → Row → Type 0
-Same w r = (isLegal (r .means w) ≡ true) × (inRange (r .means w) ≡ inside (operandsIn (pieces (r .text))) (fieldsOf (pieces (r .text)) w))
+Same w r = (isLegal (r .means w) ≡ true) × (inRange (r .means w) ≡ inOperands (operandsIn (pieces (r .text))) (fieldsOf (pieces (r .text)) w))
 
 abbrev Agrees : ℕ → List Row → Type 0
 Agrees w [] = Unit {0}
@@ -140,8 +140,8 @@ legal-ranged i h = go (inRange i)
     go true = h
     go false = refl
 
-has-by : (ps : List Piece) (w : ℕ) → hasLine (lineBy ps w) ≡ inside (operandsIn ps) (fieldsOf ps w)
-has-by ps w = go (inside (operandsIn ps) (fieldsOf ps w))
+has-by : (ps : List Piece) (w : ℕ) → hasLine (lineBy ps w) ≡ inOperands (operandsIn ps) (fieldsOf ps w)
+has-by ps w = go (inOperands (operandsIn ps) (fieldsOf ps w))
   where
     go : (b : Bool) → hasLine (cond b (some (fill ps (fieldsOf ps w))) none) ≡ b
     go true = refl

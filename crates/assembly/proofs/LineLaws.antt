@@ -9,7 +9,7 @@ use Rattle.machine.proofs.ListingLaws.{clash, clashAll, pairwise, codes, one-ro
 use Rattle.format.specs.Formats.{Ends}
 use Rattle.format.specs.Parser.{Parsed}
 use Rattle.format.specs.Parser.Parsed.{whole, stopped}
-use Rattle.assembly.specs.Lines.{Operand, Piece, letter, operand, count, pieces, operandsIn, fill, fieldsFrom, fieldsOf, inside, lineBy, lineIn, line, wordWith}
+use Rattle.assembly.specs.Lines.{Operand, Piece, letter, operand, operandCount, pieces, operandsIn, fill, fieldsFrom, fieldsOf, inOperands, lineBy, lineIn, line, wordWith}
 use Rattle.assembly.specs.Reading.{readPieces, asWord, either, readIn, readLine}
 use Rattle.assembly.specs.Theorems.{Prints, IsLine, ReadRight, ReadsRight, ReadsBack, OneWord}
 use Rattle.assembly.proofs.PieceLaws.{tidy, Fits, Has, Texts, PiecesRight, pieces-right, values-one}
@@ -117,17 +117,17 @@ one-row q p a b vs ws e = ⊎-elim (λ h. h) (λ h. absurd (apart-never (pieces 
 
 -- ---- from a word to its row, and from a row to its words
 
-pub fits-inside : (os : List Operand) (vs : List ℕ) → Fits os vs → inside os vs ≡ true
+pub fits-inside : (os : List Operand) (vs : List ℕ) → Fits os vs → inOperands os vs ≡ true
 fits-inside [] [] h = refl
 fits-inside [] (v ∷ vs) h = absurd h
 fits-inside (o ∷ os) [] h = absurd h
-fits-inside (o ∷ os) (v ∷ vs) h = rw (lt-ltb v (count o) (h .0)) (fits-inside os vs (h .1))
+fits-inside (o ∷ os) (v ∷ vs) h = rw (lt-ltb v (operandCount o) (h .0)) (fits-inside os vs (h .1))
 
-pub inside-fits : (i : ℕ) (os : List Operand) (w : ℕ) → inside os (fieldsFrom i os w) ≡ true → Fits os (fieldsFrom i os w)
+pub inside-fits : (i : ℕ) (os : List Operand) (w : ℕ) → inOperands os (fieldsFrom i os w) ≡ true → Fits os (fieldsFrom i os w)
 inside-fits i [] w h = tt
 inside-fits i (o ∷ os) w h =
     let v : ℕ = Rattle.assembly.specs.Lines.fieldAt i o w in
-    (ltb-true v (count o) (and-left (ltb v (count o)) (inside os (fieldsFrom (suc i) os w)) h), inside-fits (suc i) os w (and-right (ltb v (count o)) (inside os (fieldsFrom (suc i) os w)) h))
+    (ltb-true v (operandCount o) (and-left (ltb v (operandCount o)) (inOperands os (fieldsFrom (suc i) os w)) h), inside-fits (suc i) os w (and-right (ltb v (operandCount o)) (inOperands os (fieldsFrom (suc i) os w)) h))
 
 pub some-same : {x y : List ℕ} → some x ≡ some y → x ≡ y
 some-same e = cc
@@ -180,9 +180,9 @@ pub tidy-of : (q : Row) → Among q listing → tidy (pieces (q .text)) ≡ true
 tidy-of q a = among-good listing texts-good q a .0
 
 line-by : (ps : List Piece) (w : ℕ) (s : List ℕ) → lineBy ps w ≡ some s → Has ps s (fieldsOf ps w)
-line-by ps w s h = go (inside (operandsIn ps) (fieldsOf ps w)) refl h
+line-by ps w s h = go (inOperands (operandsIn ps) (fieldsOf ps w)) refl h
   where
-    go : (b : Bool) → inside (operandsIn ps) (fieldsOf ps w) ≡ b → cond b (some (fill ps (fieldsOf ps w))) none ≡ some s → Has ps s (fieldsOf ps w)
+    go : (b : Bool) → inOperands (operandsIn ps) (fieldsOf ps w) ≡ b → cond b (some (fill ps (fieldsOf ps w))) none ≡ some s → Has ps s (fieldsOf ps w)
     go true e h = (inside-fits 0 (operandsIn ps) w e, sym (some-same h))
     go false e h = absurd (none-some h)
 
@@ -209,7 +209,7 @@ comes-prints w s c =
     let m = whole-of (c .row) (c .among) .made (c .values) (c .has .0) in
     let ps : List Piece = pieces (c .row .text) in
     let o : eqb (bits 6 0 v) 119 ≡ true = eq-eqb (bits 6 0 v) 119 (m .1) in
-    let i : inside (operandsIn ps) (fieldsOf ps v) ≡ true = subst (λ (z : List ℕ). inside (operandsIn ps) z ≡ true) (sym (m .3)) (fits-inside (operandsIn ps) (c .values) (c .has .0)) in
+    let i : inOperands (operandsIn ps) (fieldsOf ps v) ≡ true = subst (λ (z : List ℕ). inOperands (operandsIn ps) z ≡ true) (sym (m .3)) (fits-inside (operandsIn ps) (c .values) (c .has .0)) in
     let by : lineBy ps v ≡ some s = rw i (ap (λ (z : List ℕ). some (fill ps z)) (m .3) ∙ ap some (sym (c .has .1))) in
     let at : Prints v s = (m .0, rw o (line-at v listing one-row-each (c .row) (c .among) (m .2) ∙ by)) in
     subst (λ (z : ℕ). Prints z s) (sym (c .word)) at

@@ -5,7 +5,7 @@ use Rattle.width.proofs.BlockLaws.{le-or-lt}
 use Rattle.lines.specs.Lines.{decimal}
 use Rattle.format.specs.Parser.{Got}
 use Rattle.format.specs.Parser.Got.{value, fault}
-use Rattle.assembly.specs.Lines.{Operand, below, wide, small, count, shown}
+use Rattle.assembly.specs.Lines.{Operand, below, wide, small, operandCount, shown}
 use Rattle.assembly.specs.Reading.{readDecimal, negative, readOperand}
 use Rattle.assembly.proofs.DecimalLaws.{Digit, Clean, ReadTo, NoneBegins, is-decimal, decimal-apart, read-right}
 
@@ -16,16 +16,16 @@ Some wide = Unit {0}
 Some small = Unit {0}
 
 pub record Valued (o : Operand) (s : List ℕ) (v l : ℕ) : Type 0 where
-  pub permitted : v < count o
+  pub permitted : v < operandCount o
   pub starts : s ≡ shown o v ++ drop l s
   pub long : l ≡ length (shown o v)
-  pub longest : (b : ℕ) (r : List ℕ) → drop l s ≡ b ∷ r → Digit b → (w : ℕ) (u t : List ℕ) → w < count o → Clean t → ¬ (shown o v ++ (b ∷ u) ≡ shown o w ++ t)
+  pub longest : (b : ℕ) (r : List ℕ) → drop l s ≡ b ∷ r → Digit b → (w : ℕ) (u t : List ℕ) → w < operandCount o → Clean t → ¬ (shown o v ++ (b ∷ u) ≡ shown o w ++ t)
 
 pub record Stuck (o : Operand) (s : List ℕ) (p : ℕ) : Type 0 where
   pub there : p ≤ length s
-  pub goes-on : (w : ℕ) × (u : List ℕ) × (w < count o) × (take p s ++ u ≡ shown o w)
-  pub stops : p < length s → (u : List ℕ) (w : ℕ) (t : List ℕ) → w < count o → Clean t → ¬ (take (suc p) s ++ u ≡ shown o w ++ t)
-  pub none : (w : ℕ) (t : List ℕ) → w < count o → Clean t → ¬ (s ≡ shown o w ++ t)
+  pub goes-on : (w : ℕ) × (u : List ℕ) × (w < operandCount o) × (take p s ++ u ≡ shown o w)
+  pub stops : p < length s → (u : List ℕ) (w : ℕ) (t : List ℕ) → w < operandCount o → Clean t → ¬ (take (suc p) s ++ u ≡ shown o w ++ t)
+  pub none : (w : ℕ) (t : List ℕ) → w < operandCount o → Clean t → ¬ (s ≡ shown o w ++ t)
 
 abbrev pub Found : Operand → List ℕ → Got → Type 0
 Found o s (value v l) = Valued o s v l
@@ -41,7 +41,7 @@ no-empty n t q =
 
 -- ---- plain numbers
 
-module _ (o : Operand) (most : ℕ) (all : count o ≡ suc most) (plain : (v : ℕ) → shown o v ≡ decimal v) where
+module _ (o : Operand) (most : ℕ) (all : operandCount o ≡ suc most) (plain : (v : ℕ) → shown o v ≡ decimal v) where
   plain-right : (s : List ℕ) (g : Got) → ReadTo 0 most s g → Found o s g
   plain-right s (value n l) r = record {
     permitted = omega (arith, r .permitted .1);
@@ -57,11 +57,11 @@ module _ (o : Operand) (most : ℕ) (all : count o ≡ suc most) (plain : (v : �
     none = never s (r .1);
   })
     where
-      never : (s : List ℕ) → NoneBegins 0 most s → (w : ℕ) (t : List ℕ) → w < count o → Clean t → ¬ (s ≡ shown o w ++ t)
+      never : (s : List ℕ) → NoneBegins 0 most s → (w : ℕ) (t : List ℕ) → w < operandCount o → Clean t → ¬ (s ≡ shown o w ++ t)
       never [] k w t wl ct x = no-empty w t (x ∙ ap (λ (z : List ℕ). z ++ t) (plain w))
       never (b ∷ s) k w t wl ct x = k b s refl w s t (omega arith) (omega arith) (x ∙ ap (λ (z : List ℕ). z ++ t) (plain w))
 
-      none : (s : List ℕ) → NoneBegins 0 most s → 0 < length s → (u : List ℕ) (w : ℕ) (t : List ℕ) → w < count o → Clean t → ¬ (take 1 s ++ u ≡ shown o w ++ t)
+      none : (s : List ℕ) → NoneBegins 0 most s → 0 < length s → (u : List ℕ) (w : ℕ) (t : List ℕ) → w < operandCount o → Clean t → ¬ (take 1 s ++ u ≡ shown o w ++ t)
       none [] k h u w t wl ct x = absurd (omega arith)
       none (b ∷ s) k h u w t wl ct x = k b s refl w u t (omega arith) (omega arith) (x ∙ ap (λ (z : List ℕ). z ++ t) (plain w))
 
@@ -186,7 +186,7 @@ operand-right small h (b ∷ s) = go (eqb b 45) refl
         (minus-right s (readDecimal 1 16 s) (read-right 1 16 (omega arith) (omega arith) s))
     go false e = plus-right b s (eqb-false b 45 e) (readDecimal 0 15 (b ∷ s)) (read-right 0 15 (omega arith) (omega arith) (b ∷ s))
 
-pub operand-apart : (o : Operand) → (v w : ℕ) (t u : List ℕ) → v < count o → w < count o → Clean t → Clean u → shown o v ++ t ≡ shown o w ++ u → (v ≡ w) × (t ≡ u)
+pub operand-apart : (o : Operand) → (v w : ℕ) (t u : List ℕ) → v < operandCount o → w < operandCount o → Clean t → Clean u → shown o v ++ t ≡ shown o w ++ u → (v ≡ w) × (t ≡ u)
 operand-apart (below n) v w t u hv hw ht hu q = decimal-apart v w t u ht hu q
 operand-apart wide v w t u hv hw ht hu q = decimal-apart v w t u ht hu q
 operand-apart small v w t u hv hw ht hu q = small-apart v w t u hv hw ht hu q

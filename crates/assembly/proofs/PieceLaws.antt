@@ -6,7 +6,7 @@ use Rattle.format.specs.Formats.{Ends}
 use Rattle.format.specs.Parser.{Got, Parsed, later}
 use Rattle.format.specs.Parser.Got.{value, fault}
 use Rattle.format.specs.Parser.Parsed.{whole, stopped}
-use Rattle.assembly.specs.Lines.{Operand, Piece, below, wide, small, letter, operand, count, shown, operandsIn, fill}
+use Rattle.assembly.specs.Lines.{Operand, Piece, below, wide, small, letter, operand, operandCount, shown, operandsIn, fill}
 use Rattle.assembly.specs.Reading.{isDigit, readOperand, withFirst, readPieces}
 use Rattle.assembly.proofs.DecimalLaws.{Digit, Clean, digit-true, true-digit}
 use Rattle.assembly.proofs.OperandLaws.{Some, Valued, Stuck, Found, operand-right, operand-apart}
@@ -33,7 +33,7 @@ abbrev pub Fits : List Operand → List ℕ → Type 0
 Fits [] [] = Unit {0}
 Fits [] (v ∷ vs) = ⊥
 Fits (o ∷ os) [] = ⊥
-Fits (o ∷ os) (v ∷ vs) = (v < count o) × Fits os vs
+Fits (o ∷ os) (v ∷ vs) = (v < operandCount o) × Fits os vs
 
 abbrev pub Has : List Piece → List ℕ → List ℕ → Type 0
 Has ps s vs = Fits (operandsIn ps) vs × (s ≡ fill ps vs)
@@ -46,7 +46,7 @@ some-is (below n) h = leb-true 1 n h
 some-is wide h = tt
 some-is small h = tt
 
-some-value : (o : Operand) → Some o → 0 < count o
+some-value : (o : Operand) → Some o → 0 < operandCount o
 some-value (below n) h = h
 some-value wide h = omega arith
 some-value small h = omega arith
@@ -72,7 +72,7 @@ Near (b ∷ x) [] = ⊥
 Near (b ∷ x) (c ∷ t) = b ≡ c
 
 module _ (o : Operand) (s : List ℕ) (v l : ℕ) (r : Valued o s v l) where
-  behind : (x : List ℕ) → Near x (drop l s) → (w : ℕ) (f : List ℕ) → w < count o → Clean f → shown o v ++ x ≡ shown o w ++ f → (v ≡ w) × (x ≡ f)
+  behind : (x : List ℕ) → Near x (drop l s) → (w : ℕ) (f : List ℕ) → w < operandCount o → Clean f → shown o v ++ x ≡ shown o w ++ f → (v ≡ w) × (x ≡ f)
   behind [] n w f hw cf q = operand-apart o v w [] f (r .permitted) hw tt cf q
   behind (b ∷ x) n w f hw cf q = go (drop l s) refl n (isDigit b) refl
     where
@@ -173,7 +173,7 @@ operand-stuck o ps s p f h r =
       λ a. here (λ w ws wl e. r .none w (fill ps ws) wl (fill-clean ps ws f) e) a,
     )
   where
-    here : {x : List ℕ} → ((w : ℕ) (ws : List ℕ) → w < count o → ¬ (x ≡ shown o w ++ fill ps ws)) → ¬ Texts (operand o ∷ ps) x
+    here : {x : List ℕ} → ((w : ℕ) (ws : List ℕ) → w < operandCount o → ¬ (x ≡ shown o w ++ fill ps ws)) → ¬ Texts (operand o ∷ ps) x
     here g ([], (ft, e)) = absurd ft
     here g (w ∷ ws, (ft, e)) = g w ws (ft .0) e
 

@@ -6,7 +6,7 @@ use Rattle.machine.specs.Listing.{Row, listing}
 use Rattle.machine.proofs.TestLaws.{and-left, and-right}
 use Rattle.lines.specs.Lines.{decimal}
 use Rattle.lines.proofs.WriteLaws.{decimal-room, length-one}
-use Rattle.assembly.specs.Lines.{Operand, Piece, below, wide, small, letter, operand, count, shown, pieces, operandsIn, fill}
+use Rattle.assembly.specs.Lines.{Operand, Piece, below, wide, small, letter, operand, operandCount, shown, pieces, operandsIn, fill}
 use Rattle.assembly.specs.Theorems.{LinesAreShort}
 use Rattle.assembly.proofs.PieceLaws.{Fits}
 use Rattle.assembly.proofs.LineLaws.{Among, prints-comes}
@@ -41,7 +41,7 @@ texts-short : allShort listing ≡ true
 unfolding listing
 texts-short = refl
 
-shown-size : (o : Operand) (v : ℕ) → fair o ≡ true → v < count o → length (shown o v) ≤ widest o
+shown-size : (o : Operand) (v : ℕ) → fair o ≡ true → v < operandCount o → length (shown o v) ≤ widest o
 shown-size (below n) v h k = go (leb n 10) refl
   where
     go : (t : Bool) → leb n 10 ≡ t → length (decimal v) ≤ cond t 1 2

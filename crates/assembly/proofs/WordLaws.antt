@@ -3,7 +3,7 @@ use Rattle.width.proofs.Kit.{_≡_, refl, sym, ap, ap₂, _∙_, subst, Bool, t
 use Rattle.width.proofs.Kit.{leb, eqb, eqb-true, eq-eqb, ltb-true, leb-true}
 use Rattle.machine.proofs.TestLaws.{and-left, and-right, false-true}
 use Rattle.machine.specs.Listing.{bits, field7, field15, field20, immediate13, Fixed, has}
-use Rattle.assembly.specs.Lines.{Operand, below, wide, small, count, fieldAt, fieldsFrom, wordWith}
+use Rattle.assembly.specs.Lines.{Operand, below, wide, small, operandCount, fieldAt, fieldsFrom, wordWith}
 use Rattle.assembly.proofs.PieceLaws.{Fits}
 
 abbrev fix : ℕ → ℕ → ℕ → Fixed
@@ -132,7 +132,7 @@ narrow (below n) = leb n 32
 narrow wide = false
 narrow small = true
 
-narrow-count : (o : Operand) → narrow o ≡ true → count o ≤ 32
+narrow-count : (o : Operand) → narrow o ≡ true → operandCount o ≤ 32
 narrow-count (below n) h = leb-true n 32 h
 narrow-count wide h = absurd (false-true h)
 narrow-count small h = omega arith

@@ -16,10 +16,10 @@ pub data Operand : Type 0 where
   small : Operand
 
 -- how many values its field may have
-abbrev pub count : Operand → ℕ
-count (below n) = n
-count wide = 8192
-count small = 32
+abbrev pub operandCount : Operand → ℕ
+operandCount (below n) = n
+operandCount wide = 8192
+operandCount small = 32
 
 -- "plain decimal immediates": the text of a field's value
 abbrev pub shown : Operand → ℕ → List ℕ
@@ -78,13 +78,13 @@ abbrev pub fieldsOf : List Piece → ℕ → List ℕ
 fieldsOf ps word = fieldsFrom 0 (operandsIn ps) word
 
 -- each field holds a value that it may have
-abbrev pub inside : List Operand → List ℕ → Bool
-inside [] vs = true
-inside (o ∷ os) [] = false
-inside (o ∷ os) (v ∷ vs) = ltb v (count o) && inside os vs
+abbrev pub inOperands : List Operand → List ℕ → Bool
+inOperands [] vs = true
+inOperands (o ∷ os) [] = false
+inOperands (o ∷ os) (v ∷ vs) = ltb v (operandCount o) && inOperands os vs
 
 abbrev pub lineBy : List Piece → ℕ → Option (List ℕ)
-lineBy ps word = cond (inside (operandsIn ps) (fieldsOf ps word)) (some (fill ps (fieldsOf ps word))) none
+lineBy ps word = cond (inOperands (operandsIn ps) (fieldsOf ps word)) (some (fill ps (fieldsOf ps word))) none
 
 -- by the first row whose bits the word has
 abbrev pub lineIn : ℕ → List Row → Option (List ℕ)

@@ -22,7 +22,7 @@ use Rattle.machine.specs.Vectors.{Vectors, vectorsOf}
 use Rattle.machine.specs.Step.{VectorOutcome, vectorSteppedAs}
 use Rattle.ranges.specs.Ranges.{sealsIn, putSeals}
 use Rattle.sealing.specs.SealBlock.{BlockSealed, blockSealed, sealBlock}
-use Rattle.blocks.specs.Blocks.{machineBytes, machineOf, putMachine, Kept, valuesOf, packed}
+use Rattle.blocks.specs.Blocks.{machineBytes, machineOf, putMachine, SameMachine, valuesOf, packed}
 use Rattle.blocks.proofs.BlockLaws.{step-with-kept}
 use Rattle.scalar_block.specs.ScalarBlock.{stepBlock}
 use Rattle.bench_calls.specs.BenchCalls.{startedOut, shownStart, hostStart, steppedOut, shownStep, hostStep, sealedOut, shownSeal, hostSeal}
@@ -106,11 +106,11 @@ module _ (word group : ℕ) (machine registers marks scalars memory file : List 
 
 -- and but for mtype and the sizes they are those of the block, whatever vector file is lent
 pub step-keeps : (word : ℕ) (machine registers marks scalars memory : List ℕ) (W : Vectors) (m : Machine) (s : Stepped) (R K S Q F : List ℕ) → m ≡ machineOf machine
-    → vectorSteppedAs s (sealsIn machine) R K S Q F ≡ stepBlock word scalars W (benchOf m (sealsIn machine) registers marks memory) → Kept (s .machine) (machineOf machine)
+    → vectorSteppedAs s (sealsIn machine) R K S Q F ≡ stepBlock word scalars W (benchOf m (sealsIn machine) registers marks memory) → SameMachine (s .machine) (machineOf machine)
 step-keeps word machine registers marks scalars memory W m s R K S Q F en e =
     let B : Bench = benchOf m (sealsIn machine) registers marks memory in
-    subst (λ (x : Machine). Kept x (machineOf machine)) (sym (ap (λ (o : VectorOutcome). o .bench .machine) e))
-    (subst (λ (x : Machine). Kept (stepBlock word scalars W B .bench .machine) x) en (step-with-kept chosen word (valuesOf scalars) B W))
+    subst (λ (x : Machine). SameMachine x (machineOf machine)) (sym (ap (λ (o : VectorOutcome). o .bench .machine) e))
+    (subst (λ (x : Machine). SameMachine (stepBlock word scalars W B .bench .machine) x) en (step-with-kept chosen word (valuesOf scalars) B W))
 
 -- ---- a sealing of the host
 

@@ -22,7 +22,7 @@ use Rattle.machine.specs.Step.{checksIn, carriedIn, refusedIn, outcomeIn, vecto
 use Rattle.ranges.specs.Ranges.{sealsIn, putRange, putSeals}
 use Rattle.ranges.proofs.RangeLaws.{seals-same}
 use Rattle.ranges.proofs.PutLaws.{putSeals-out}
-use Rattle.blocks.specs.Blocks.{Bytes, machineBytes, machineOf, putMachine, Kept, firstValues, valuesOf, putValues, packed}
+use Rattle.blocks.specs.Blocks.{Bytes, machineBytes, machineOf, putMachine, SameMachine, firstValues, valuesOf, putValues, packed}
 
 -- ---- values of eight bytes, one after another
 
@@ -170,7 +170,7 @@ putMachine-same b small =
     ∙ putRow-same b small 64 2 8 (λ j. getD (backOf (machineOf b)) j 0) (back-at b)
 
 -- a machine that keeps what no step changes: its other numbers are enough
-pub put-state-is : (m : Machine) (xs ys : List ℕ) → Bytes xs → Bytes ys → Kept m (machineOf xs)
+pub put-state-is : (m : Machine) (xs ys : List ℕ) → Bytes xs → Bytes ys → SameMachine m (machineOf xs)
     → ys ≡ putLe 40 8 (m .«tile_n») (putLe 32 8 (m .«tile_k») (putLe 24 8 (m .«tile_m») (putLe 16 8 (m .mtype) xs))) → ys ≡ putMachine m xs
 unfolding machineOf putRow
 put-state-is m xs ys small small′ k e =
@@ -250,22 +250,22 @@ module _ (grant : Choice) (word : ℕ) (xs : List ℕ) (B : Bench) where
   abbrev M : Parameters
   M = parameters grant (B .machine)
 
-  outcome-kept : (W : Vectors) → Kept (outcomeIn W M (decode word) xs B .bench .machine) (B .machine)
+  outcome-kept : (W : Vectors) → SameMachine (outcomeIn W M (decode word) xs B .bench .machine) (B .machine)
   outcome-kept W = go (isDone (verdict (checksIn W M (decode word) xs B)))
     where
-      go : (t : Bool) → Kept ((cond t (carriedIn W M (decode word) xs B) (refusedIn W M (decode word) xs B (verdict (checksIn W M (decode word) xs B)))) .bench .machine) (B .machine)
+      go : (t : Bool) → SameMachine ((cond t (carriedIn W M (decode word) xs B) (refusedIn W M (decode word) xs B (verdict (checksIn W M (decode word) xs B)))) .bench .machine) (B .machine)
       go true = record { rlen = refl; mlen = refl; rule = refl; elen = refl }
       go false = record { rlen = refl; mlen = refl; rule = refl; elen = refl }
 
-  pub step-with-kept : (W : Vectors) → Kept (stepWith grant word xs W B .bench .machine) (B .machine)
+  pub step-with-kept : (W : Vectors) → SameMachine (stepWith grant word xs W B .bench .machine) (B .machine)
   unfolding stepWith
   step-with-kept W = go (vectorsFit W)
     where
-      go : (t : Bool) → Kept ((cond t (beside (vectorsIn W M (decode word) xs B) (outcomeIn W M (decode word) xs B)) (beside (W .file) (refusedIn W M (decode word) xs B BadArguments))) .bench .machine) (B .machine)
+      go : (t : Bool) → SameMachine ((cond t (beside (vectorsIn W M (decode word) xs B) (outcomeIn W M (decode word) xs B)) (beside (W .file) (refusedIn W M (decode word) xs B BadArguments))) .bench .machine) (B .machine)
       go true = outcome-kept W
       go false = record { rlen = refl; mlen = refl; rule = refl; elen = refl }
 
-  pub step-kept : Kept (stepBy grant word xs B .bench .machine) (B .machine)
+  pub step-kept : SameMachine (stepBy grant word xs B .bench .machine) (B .machine)
   unfolding stepBy outcome
   step-kept = outcome-kept idle
 

@@ -44,7 +44,7 @@ putMachine m block =
     (putLe 0 8 (m .rlen) block)))))))
 
 -- a machine that has another's numbers but for those that steps change: its lengths, its rule and ELEN
-pub record Kept (m other : Machine) : Type 0 where
+pub record SameMachine (m other : Machine) : Type 0 where
   pub rlen : m .rlen ≡ other .rlen
   pub mlen : m .mlen ≡ other .mlen
   pub rule : m .rule ≡ other .rule

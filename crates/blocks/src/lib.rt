@@ -15,7 +15,7 @@ ghost use Rattle.machine.specs.Answers.{reply};
 ghost use Rattle.machine.specs.Geometry.{range};
 ghost use Rattle.machine.specs.Starting.{ranges, paired};
 ghost use Rattle.ranges.specs.Ranges.{putRange, putSeals};
-ghost use Rattle.blocks.specs.Blocks.{machineBytes, machineOf, putMachine, Kept, packed};
+ghost use Rattle.blocks.specs.Blocks.{machineBytes, machineOf, putMachine, SameMachine, packed};
 
 // The bytes of the machine's block.
 pub const MACHINE_BYTES: usize = 200;
@@ -63,7 +63,7 @@ pub fn put_machine(block: &mut [u8], m: Machine)
 // The numbers of a machine that steps change, into its block, which has the others already.
 pub fn put_state(block: &mut [u8], m: Machine)
     requires { ⌜ length (now block) ≡ machineBytes ⌝ }
-    requires { ⌜ Kept m (machineOf (now block)) ⌝ }
+    requires { ⌜ SameMachine m (machineOf (now block)) ⌝ }
     ensures { λ _. ⌜ now (block .exit) ≡ putMachine m (now (block .entry)) ⌝ }
 {
     write8(block, 16, m.mtype);

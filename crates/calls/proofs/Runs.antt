@@ -15,7 +15,7 @@ use Rattle.run.specs.declared.Plan.{Plan}
 use Rattle.run.specs.declared.Run.{Run}
 use Rattle.run.specs.declared.Handed.{Handed}
 use Rattle.run.specs.Words.{Op, steps}
-use Rattle.run.specs.Plan.{Kept, shape, wide, cAt}
+use Rattle.run.specs.Plan.{OutsideKept, shape, wide, cAt}
 use Rattle.run.specs.Start.{planned, lying, separate, freshRun, noRun, RunStart, startRun}
 use Rattle.run.specs.Encoding.{handedFor, wordOf}
 use Rattle.run.specs.Turn.{handsOut, stepsIn, Ask, ask, asked, Running, running, turn, afterTurns}
@@ -266,7 +266,7 @@ module _ (P : Plan) (b : Buffers) (p : PlanWords P) (small : Bytes (b .machine))
         subst (λ (c : Buffers). (called Call.runNext c .result ≡ 8) × (called Call.runNext c .after ≡ c)) (sym (holding t))
         (let k = asking t e ∙ shown-refused (with (r t) b) (ask chosen (r t .run)) (ask-none (r t .run) (T .asks-past-end l .hands-out)) in (ap (λ (o : Called). o .result) k, ap (λ (o : Called). o .after) k));
     tells = ap (λ (c : Buffers). hostRunSteps (c .run)) (holding t) ∙ telling t ∙ T .tells;
-    kept = subst (λ (c : Buffers). Kept (jobIn P b) (c .memory)) (sym (holding t)) (T .kept);
+    kept = subst (λ (c : Buffers). OutsideKept (jobIn P b) (c .memory)) (sym (holding t)) (T .kept);
     product = λ l i j g h. ap (λ (c : Buffers). element (c .memory) (cAt P) (wide P) i j) (holding t) ∙ T .product l i j g h;
   }
 

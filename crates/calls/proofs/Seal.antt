@@ -393,7 +393,7 @@ pub record Read (image : List ℕ) (b : Buffers) (o : Called) : Type 0 where
   pub long : length (o .after .machine) ≡ machineBytes
   pub rest : o .after ≡ buffers (o .after .machine) (readImage image (b .registers) (b .marks) .registers) (readImage image (b .registers) (b .marks) .marks) (b .scalars) (b .memory) (b .run) (b .step) (b .steps) (b .file)
 
-pub was-read : (image : List ℕ) (b : Buffers) → Images.Bytes image → let o = called (Call.imageRead image) b in o .result ≡ 0 → Read image b o
+pub was-read : (image : List ℕ) (b : Buffers) → Images.ByteString image → let o = called (Call.imageRead image) b in o .result ≡ 0 → Read image b o
 unfolding hostImageRead readBlock readImage
 was-read image b small = go (eqb (length (b .machine)) machineBytes) refl
   where

@@ -11,7 +11,7 @@ use Rattle.machine.specs.Operation.{element}
 use Rattle.run.specs.declared.Plan.{Plan}
 use Rattle.run.specs.declared.Handed.{Handed}
 use Rattle.run.specs.Words.{steps}
-use Rattle.run.specs.Plan.{Job, Kept, shape, wide, cAt, productOf}
+use Rattle.run.specs.Plan.{Job, OutsideKept, shape, wide, cAt, productOf}
 use Rattle.run.specs.Encoding.{wordOf}
 use Rattle.run.specs.Turn.{Running, afterTurns}
 use Rattle.run.specs.Statement as Demand
@@ -105,7 +105,7 @@ pub record TurnCalls (P : Plan) (b : Buffers) (t : ℕ) : Type 0 where
   -- "there are 1 + M(1 + N(3 + 4K)) steps": what bodlarina_run_steps returns, wherever the run has come to
   pub tells : hostRunSteps (afterTurnCalls P b t .run) ≡ steps (shape (jobIn P b))
   -- "After each turn the memory outside C's elements is as at the start."
-  pub kept : Kept (jobIn P b) (afterTurnCalls P b t .memory)
+  pub kept : OutsideKept (jobIn P b) (afterTurnCalls P b t .memory)
   -- "After turn s and each later one, C(i, j) is the sum ..", over the memory at the start
   pub product : steps (shape (jobIn P b)) ≤ t → (i j : ℕ) → i < P .m → j < P .n
       → element (afterTurnCalls P b t .memory) (cAt P) (wide P) i j ≡ productOf (jobIn P b) i j
@@ -183,7 +183,7 @@ SealHoldsFromStartCall = (rlen mlen elen rule : ℕ) (seals : List ℕ) (b : Buf
 
 -- and from an accepted bodlarina_image_read on: the ranges of the machine whose image it is
 abbrev pub SealHoldsFromReadCall : Type 0
-SealHoldsFromReadCall = (image : List ℕ) (b : Buffers) → Images.Bytes image
+SealHoldsFromReadCall = (image : List ℕ) (b : Buffers) → Images.ByteString image
     → let o : Called = called (Call.imageRead image) b in
     o .result ≡ 0 → (cs : List Call) → EachSparesSeal cs (o .after)
     → SealKept (readImage image (b .registers) (b .marks) .seals) (b .memory) (benchIn (afterCalls cs (o .after)))
@@ -210,7 +210,7 @@ StartCallHolds = (rlen mlen elen rule : ℕ) (seals : List ℕ) (b : Buffers)
     o .result ≡ 0 → sealsIn (o .after .machine) ≡ ranges seals
 
 abbrev pub ReadCallHolds : Type 0
-ReadCallHolds = (image : List ℕ) (b : Buffers) → Images.Bytes image
+ReadCallHolds = (image : List ℕ) (b : Buffers) → Images.ByteString image
     → let o : Called = called (Call.imageRead image) b in
     o .result ≡ 0 → sealsIn (o .after .machine) ≡ readImage image (b .registers) (b .marks) .seals
 

@@ -3,7 +3,7 @@ use Rattle.width.proofs.Kit.{_≡_, refl, sym, ap, _∙_, subst, Bool, true, fa
 use Rattle.machine.specs.Operation.{element}
 use Rattle.run.specs.declared.Plan.{Plan}
 use Rattle.run.specs.Words.{steps}
-use Rattle.run.specs.Plan.{Kept, shape, wide, cAt, productOf}
+use Rattle.run.specs.Plan.{OutsideKept, shape, wide, cAt, productOf}
 use Rattle.run.specs.Statement.{MemoryBytes}
 use Rattle.blocks.specs.Blocks.{Bytes, machineBytes}
 use Rattle.run_blocks.specs.RunBlocks.{runBytes}
@@ -31,14 +31,14 @@ module _ (P : Plan) (b : Buffers) (p : PlanWords P) (small : Bytes (b .machine))
   refused : ¬ (o .result ≡ 0) → o .after ≡ b
   refused h = ap (λ (x : HostRan). afterRun b x .after) (run-refusal P (b .machine) (b .registers) (b .marks) (b .memory) (b .steps) h)
 
-  kept : Kept (jobIn P b) (o .after .memory)
+  kept : OutsideKept (jobIn P b) (o .after .memory)
   kept = go (eqb (o .result) 0) refl
     where
-      go : (t : Bool) → eqb (o .result) 0 ≡ t → Kept (jobIn P b) (o .after .memory)
+      go : (t : Bool) → eqb (o .result) 0 ≡ t → OutsideKept (jobIn P b) (o .after .memory)
       go true e =
           let z = eqb-true (o .result) 0 e in
-          subst (Kept (jobIn P b)) (sym (ap (λ (a : Buffers). a .memory) (after-is z))) (turn-calls-are-right P b p small mem (sym same ∙ z) s .kept)
-      go false e = subst (Kept (jobIn P b)) (sym (ap (λ (a : Buffers). a .memory) (refused (eqb-false (o .result) 0 e)))) (record { same-length = refl; outside = λ q h. refl })
+          subst (OutsideKept (jobIn P b)) (sym (ap (λ (a : Buffers). a .memory) (after-is z))) (turn-calls-are-right P b p small mem (sym same ∙ z) s .kept)
+      go false e = subst (OutsideKept (jobIn P b)) (sym (ap (λ (a : Buffers). a .memory) (refused (eqb-false (o .result) 0 e)))) (record { same-length = refl; outside = λ q h. refl })
 
   delivers : RunCallDelivers P b o
   delivers =

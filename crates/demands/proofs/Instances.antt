@@ -124,7 +124,7 @@ under n [] z h q = ltb-true 0 n z
 under n (b ∷ s) z h zero = ltb-true b n (and-left (ltb b n) (allOf (λ b. ltb b n) s) h)
 under n (b ∷ s) z h (suc q) = under n s z (and-right (ltb b n) (allOf (λ b. ltb b n) s) h) q
 
-smalls : (s : List ℕ) → allOf (λ b. ltb b 256) s ≡ true → Images.Bytes s
+smalls : (s : List ℕ) → allOf (λ b. ltb b 256) s ≡ true → Images.ByteString s
 smalls [] h = tt
 smalls (b ∷ s) h = (ltb-true b 256 (and-left (ltb b 256) (allOf (λ b. ltb b 256) s) h), smalls s (and-right (ltb b 256) (allOf (λ b. ltb b 256) s) h))
 
@@ -251,7 +251,7 @@ abbrev benchBy : (rule : ℕ) → Bench
 benchBy rule = benchOf (machineBy rule) sealed3 regs allMarks mem
 
 -- what is said of a plan and a bench, for the plan above on either rule
-run-right : (grant : Choice) (rule : ℕ) → ((P : Plan) → Statement.Demand3 grant P (benchBy rule)) → startRun grant plan (benchBy rule) .answer .number ≡ 0
+run-right : (grant : Choice) (rule : ℕ) → ((P : Plan) → Statement.RunFromStart grant P (benchBy rule)) → startRun grant plan (benchBy rule) .answer .number ≡ 0
     → ¬ (startRun grant (planAt 30) (benchBy rule) .answer .number ≡ 0) → RunIsRight grant (benchBy rule)
 unfolding run-is total
 run-right grant rule d h n =
@@ -455,11 +455,11 @@ faultless′ : Faultless (xs 100 8) lent held
 unfolding step-is
 faultless′ = (refl, refl, refl)
 
-regs-bytes : Images.Bytes regs
+regs-bytes : Images.ByteString regs
 unfolding data-is
 regs-bytes = smalls regs refl
 
-regs′-bytes : Images.Bytes regs′
+regs′-bytes : Images.ByteString regs′
 unfolding data-is
 regs′-bytes = smalls regs′ refl
 
@@ -565,10 +565,10 @@ is-image = record { machine = machineBy 1; seals = sealed3; registers = regs; ma
 too-short : ¬ (_≡_ {A = ℕ} 9 1024)
 too-short e = omega (arith, e)
 
-image-bytes : Images.Bytes image
+image-bytes : Images.ByteString image
 image-bytes = smalls image refl
 
-cut-bytes : Images.Bytes cut
+cut-bytes : Images.ByteString cut
 cut-bytes = smalls cut refl
 
 -- Nine

@@ -78,7 +78,7 @@ readBench image registers marks memory =
 pub data Made (seals : List Range) (B : Bench) : Type 0 where
   started : (rlen mlen elen rule : ℕ) (given registers marks : List ℕ) → startMachine rlen mlen elen rule given registers marks .answer .number ≡ 0
       → B ≡ startedBench rlen mlen elen rule given registers marks (B .memory) → seals ≡ ranges given → Made seals B
-  read : (image registers marks : List ℕ) → Images.Bytes image → readImage image registers marks .answer ≡ imageReply Done
+  read : (image registers marks : List ℕ) → Images.ByteString image → readImage image registers marks .answer ≡ imageReply Done
       → B ≡ readBench image registers marks (B .memory) → seals ≡ readImage image registers marks .seals → Made seals B
   added : (start size : ℕ) (A : Bench) → addSeal start size A .answer .number ≡ 0
       → B ≡ benchOf (A .machine) (addSeal start size A .bench .seals) (A .registers) (A .marks) (B .memory) → seals ≡ A .seals ++ (range start size ∷ []) → Made seals B
@@ -91,7 +91,7 @@ SealedBytesStay = (grant : Choice) (acts : List Act) (S : Session) (seals : List
 -- in C: the ranges that a machine's block holds after an accepted bodlarina_start, bodlarina_image_read or bodlarina_seal
 pub data MadeInC (c : Call) (b : Buffers) (seals : List Range) : Type 0 where
   started : (rlen mlen elen rule : ℕ) (given : List ℕ) → c ≡ Call.start rlen mlen elen rule given → seals ≡ ranges given → MadeInC c b seals
-  read : (image : List ℕ) → Images.Bytes image → c ≡ Call.imageRead image → seals ≡ readImage image (b .registers) (b .marks) .seals → MadeInC c b seals
+  read : (image : List ℕ) → Images.ByteString image → c ≡ Call.imageRead image → seals ≡ readImage image (b .registers) (b .marks) .seals → MadeInC c b seals
   added : (from size : ℕ) → Bytes (b .machine) → c ≡ Call.seal from size → seals ≡ sealsIn (b .machine) ++ (range from size ∷ []) → MadeInC c b seals
 
 -- over any calls that leave these ranges (calls/specs/Composed.antt: SparesSeal: another start, and a read of an image with other ranges, do not),

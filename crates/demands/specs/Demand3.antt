@@ -4,7 +4,7 @@ use Rattle.machine.specs.declared.Reply.{Reply}
 use Rattle.machine.specs.Operation.{element}
 use Rattle.run.specs.declared.Plan.{Plan}
 use Rattle.run.specs.Words.{steps}
-use Rattle.run.specs.Plan.{Kept, shape, wide, cAt, productOf}
+use Rattle.run.specs.Plan.{OutsideKept, shape, wide, cAt, productOf}
 use Rattle.run.specs.Statement.{Answered, MemoryBytes, OurRunsAreRight, RunsAreRight}
 use Rattle.run.specs.Whole.{WholeDelivers}
 use Rattle.blocks.specs.Blocks.{Bytes, machineBytes, putNumbers}
@@ -22,7 +22,7 @@ pub record RunCallDelivers (P : Plan) (b : Buffers) (o : Called) : Type 0 where
   pub refused : ¬ (o .result ≡ 0) → o .after ≡ b
   pub counted : o .result ≡ 0 → o .after .steps ≡ putNumbers (steps (shape (jobIn P b)) ∷ []) (b .steps)
   pub product : o .result ≡ 0 → (i j : ℕ) → i < P .m → j < P .n → element (o .after .memory) (cAt P) (wide P) i j ≡ productOf (jobIn P b) i j
-  pub kept : Kept (jobIn P b) (o .after .memory)
+  pub kept : OutsideKept (jobIn P b) (o .after .memory)
 
 abbrev pub RunCallsDeliver : Type 0
 RunCallsDeliver = (P : Plan) (b : Buffers) → PlanWords P → Bytes (b .machine) → MemoryBytes (b .memory) → length (b .machine) ≡ machineBytes

@@ -56,7 +56,7 @@ use Rattle.image.specs.Cells.{Fit, runs, spread}
 use Rattle.image.specs.Cells.Run.{run}
 use Rattle.image.specs.Images.{imageOf, soundWith, IsImage}
 use Rattle.image.specs.ImageFormat.{Described, imageFormat}
-use Rattle.image.specs.Writing.{sized, written, sizeImage, writeImage}
+use Rattle.image.specs.Writing.{sizeReply, writeReply, sizeImage, writeImage}
 use Rattle.image.specs.Reading.{readImage}
 use Rattle.image.specs.Theorems.{imageIn}
 use Rattle.salvage.specs.Salvage.{salvaged, salvage}
@@ -602,7 +602,7 @@ pub record Requests : Type 1 where
   -- written into a room that is longer, then read into other registers
   pub six-back : let w = writeImage (machineBy 1) sealed3 regs spots (room 30) in
       let o = readImage (take (w .size) (w .room)) regs′ allMarks in (o .answer ≡ imageReply Done) × Alike spotted (benchOf (o .machine) (o .seals) (o .registers) (o .marks) mem)
-  pub six-again : let o = readImage image regs′ allMarks in writeImage (o .machine) (o .seals) (o .registers) (o .marks) (room 30) ≡ written Done 27 (image ++ room 3)
+  pub six-again : let o = readImage image regs′ allMarks in writeImage (o .machine) (o .seals) (o .registers) (o .marks) (room 30) ≡ writeReply Done 27 (image ++ room 3)
   pub six-c-made : let b = called (Call.imageRead image) otherHost .after in
       (soundBench (benchIn b) ≡ true) × (imageIn (benchIn b) ≡ image) × (getD (b .registers) 100 0 ≡ 9) × (b .memory ≡ mem)
   pub six-c-back : let o = called (Call.imageRead (imageFrom (writtenInto (room 30) spottedHost))) otherHost in
@@ -690,8 +690,8 @@ pub record Computed : Type 0 where
   -- registers and marks of a start
   pub started : (startMachine 128 512 64 1 seals regs allMarks .registers ≡ regs) × (startMachine 128 512 64 1 seals regs allMarks .marks ≡ replicate 1024 0)
   -- registers, marks and room of an image that is sized, and written
-  pub sized-is : sizeImage (machineBy 1) sealed3 regs spots ≡ sized Done 27
-  pub written-is : writeImage (machineBy 1) sealed3 regs spots (room 30) ≡ written Done 27 (image ++ room 3)
+  pub sized-is : sizeImage (machineBy 1) sealed3 regs spots ≡ sizeReply Done 27
+  pub written-is : writeImage (machineBy 1) sealed3 regs spots (room 30) ≡ writeReply Done 27 (image ++ room 3)
   -- image, registers and marks of one that is read: bytes 69 to 73, of which three are in the image, and the marks
   pub read-is : (take 5 (drop 69 (readImage image regs′ allMarks .registers)) ≡ 9 ∷ 70 ∷ 71 ∷ 72 ∷ 9 ∷ []) × (readImage image regs′ allMarks .marks ≡ spots)
 

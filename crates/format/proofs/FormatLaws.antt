@@ -8,7 +8,7 @@ use lib.Dec.{ltb, leb}
 use lib.Seq.{drop-append-seam, take-all, take-at, drop-at, take-append-add, take-take, length-take-le}
 use lib.ListN.{length, take, drop, replicate, length-append, length-replicate, take-append-drop}
 use borrow.Author.Tests.{ltb-true, ltb-false, leb-true, leb-false, le-leb}
-use Rattle.format.specs.Numbers.{Range, Among, encode, Bytes}
+use Rattle.format.specs.Numbers.{Interval, Among, encode, ByteString}
 use Rattle.format.specs.Formats.{Ends, Format, Accepts, Accepted}
 use Rattle.format.specs.Formats.Format.{done, number, bytes}
 use Rattle.format.specs.Parser.{Live, Got, readNumber, Parsed, later, parse}
@@ -17,21 +17,21 @@ use Rattle.format.specs.Parser.Parsed.{whole, stopped}
 use Rattle.format.specs.Theorems.{OnePlace, Right, ParserIsRight}
 use Rattle.format.proofs.NumberLaws.{Read, Stuck, Found, nonempty-among, number-right, read-back, encode-apart}
 
-bytes-drop : (n : ℕ) (s : List ℕ) → Bytes s → Bytes (drop n s)
+bytes-drop : (n : ℕ) (s : List ℕ) → ByteString s → ByteString (drop n s)
 bytes-drop zero s h = h
 bytes-drop (suc n) [] h = h
 bytes-drop (suc n) (b ∷ s) h = bytes-drop n s (h .1)
 
-pub bytes-take : (n : ℕ) (s : List ℕ) → Bytes s → Bytes (take n s)
+pub bytes-take : (n : ℕ) (s : List ℕ) → ByteString s → ByteString (take n s)
 bytes-take zero s h = tt
 bytes-take (suc n) [] h = h
 bytes-take (suc n) (b ∷ s) h = (h .0, bytes-take n s (h .1))
 
-pub bytes-zeros : (n : ℕ) → Bytes (replicate n 0)
+pub bytes-zeros : (n : ℕ) → ByteString (replicate n 0)
 bytes-zeros zero = tt
 bytes-zeros (suc n) = (omega arith, bytes-zeros n)
 
-bytes-append : (s t : List ℕ) → Bytes s → Bytes t → Bytes (s ++ t)
+bytes-append : (s t : List ℕ) → ByteString s → ByteString t → ByteString (s ++ t)
 bytes-append [] t hs ht = ht
 bytes-append (b ∷ s) t hs ht = (hs .0, bytes-append s t (hs .1) ht)
 
@@ -83,7 +83,7 @@ module _ {X : Type 0} where
   ParseRight f s (whole x) = Accepts f s x
   ParseRight f s (stopped p) = Ends (Accepted f) s p
 
-  number-later : (rs : List Range) (k : ℕ → Format X) (s : List ℕ) (n l : ℕ) → Read rs s n l → (q : Parsed X)
+  number-later : (rs : List Interval) (k : ℕ → Format X) (s : List ℕ) (n l : ℕ) → Read rs s n l → (q : Parsed X)
       → ParseRight (k n) (drop l s) q → ParseRight (number rs k) s (later l q)
   number-later rs k s n l r (whole x) h = (n, drop l s, r .permitted, r .starts, h)
   number-later rs k s n l r (stopped p) h =
@@ -93,7 +93,7 @@ module _ {X : Type 0} where
       (a .0, subst (λ (z : ℕ). Accepts (k z) w (a .0)) (sym (same .0)) (subst (λ (z : List ℕ). Accepts (k (a .1 .0)) z (a .0)) (sym (same .1)) (a .1 .4))))
       h
 
-  bytes-later : (m : ℕ) (k : List ℕ → Format X) (s : List ℕ) → m ≤ length s → Bytes s → (q : Parsed X)
+  bytes-later : (m : ℕ) (k : List ℕ → Format X) (s : List ℕ) → m ≤ length s → ByteString s → (q : Parsed X)
       → ParseRight (k (take m s)) (drop m s) q → ParseRight (bytes m k) s (later m q)
   bytes-later m k s e hs (whole x) h = (take m s, drop m s, (length-take-le m s e, bytes-take m s hs), sym (take-append-drop m s), h)
   bytes-later m k s e hs (stopped p) h =
@@ -106,7 +106,7 @@ module _ {X : Type 0} where
       (a .0, subst (λ (z : List ℕ). Accepts (k z) w (a .0)) (sym one) (subst (λ (z : List ℕ). Accepts (k (a .1 .0)) z (a .0)) (sym two) (a .1 .4))))
       h
 
-  number-stuck : (rs : List Range) (k : ℕ → Format X) → ((n : ℕ) → Among n rs → Live (k n)) → (s : List ℕ) (p : ℕ) → Stuck rs s p → Ends (Accepted (number rs k)) s p
+  number-stuck : (rs : List Interval) (k : ℕ → Format X) → ((n : ℕ) → Among n rs → Live (k n)) → (s : List ℕ) (p : ℕ) → Stuck rs s p → Ends (Accepted (number rs k)) s p
   number-stuck rs k live s p r =
       let n : ℕ = r .goes-on .0 in
       let v = word (k n) (live n (r .goes-on .2)) in
@@ -116,7 +116,7 @@ module _ {X : Type 0} where
         stops = λ h u a. r .stops h (a .1 .0) u (a .1 .1) (a .1 .2) (a .1 .3);
       }
 
-  bytes-short : (m : ℕ) (k : List ℕ → Format X) → Live (bytes m k) → (s : List ℕ) → length s < m → Bytes s → Ends (Accepted (bytes m k)) s (length s)
+  bytes-short : (m : ℕ) (k : List ℕ → Format X) → Live (bytes m k) → (s : List ℕ) → length s < m → ByteString s → Ends (Accepted (bytes m k)) s (length s)
   bytes-short m k live s e hs =
       let b : List ℕ = s ++ replicate (m - length s) 0 in
       let long : length b ≡ m = omega (arith, length-append s (replicate (m - length s) 0), length-replicate {A = ℕ} (m - length s) 0) in
@@ -127,7 +127,7 @@ module _ {X : Type 0} where
         stops = λ h. absurd (omega arith);
       }
 
-  pub parse-right : (f : Format X) (s : List ℕ) → Live f → Bytes s → ParseRight f s (parse f s)
+  pub parse-right : (f : Format X) (s : List ℕ) → Live f → ByteString s → ParseRight f s (parse f s)
   unfolding parse
   parse-right (done x) [] live hs = (refl, refl)
   parse-right (done x) (b ∷ s) live hs = record { there = omega arith; goes-on = ([], (x, (refl, refl))); stops = λ h u a. never b u (a .1 .0) }
@@ -152,7 +152,7 @@ module _ {X : Type 0} where
       go ih false e = bytes-short m k live s (leb-false m (length s) e) hs
 
   -- what is accepted is not at fault
-  pub parser-right : (f : Format X) → Live f → (s : List ℕ) → Bytes s → Right f s (parse f s)
+  pub parser-right : (f : Format X) → Live f → (s : List ℕ) → ByteString s → Right f s (parse f s)
   parser-right f live s hs = go (parse f s) refl (parse-right f s live hs)
     where
       apart : (p : ℕ) (x : X) → ¬ (stopped p ≡ whole x)

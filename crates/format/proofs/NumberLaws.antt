@@ -10,7 +10,7 @@ use lib.Dec.{ltb, leb}
 use lib.Seq.{drop-append-seam}
 use lib.ListN.{length, take, drop, getD}
 use borrow.Author.Tests.{ltb-true, ltb-false, leb-true, lt-ltb, le-ltb, le-leb, lt-leb}
-use Rattle.format.specs.Numbers.{groups, encode, Range, Among, Bytes}
+use Rattle.format.specs.Numbers.{groups, encode, Interval, Among, ByteString}
 use Rattle.format.specs.Parser.{holds, isAmong, nonempty, after, afters, Got, grow, readNumber}
 use Rattle.format.specs.Parser.Got.{value, fault}
 use Rattle.format.specs.Theorems.{NumbersApart}
@@ -63,14 +63,14 @@ either : (a b : Bool) → cond a true b ≡ true → (a ≡ true) ⊎ (b ≡ tru
 either true b e = inl refl
 either false b e = inr e
 
-pub isAmong-among : (n : ℕ) (rs : List Range) → isAmong n rs ≡ true → Among n rs
+pub isAmong-among : (n : ℕ) (rs : List Interval) → isAmong n rs ≡ true → Among n rs
 unfolding isAmong
 isAmong-among n [] e = absurd (false≢true e)
 isAmong-among n (r ∷ rs) e =
     ⊎-elim (λ h. let w = two _ _ h in inl (leb-true _ _ (w .0), leb-true _ _ (w .1))) (λ h. inr (isAmong-among n rs h))
     (either (holds n r) (isAmong n rs) e)
 
-pub among-isAmong : (n : ℕ) (rs : List Range) → Among n rs → isAmong n rs ≡ true
+pub among-isAmong : (n : ℕ) (rs : List Interval) → Among n rs → isAmong n rs ≡ true
 unfolding isAmong
 among-isAmong n [] h = absurd h
 among-isAmong n (r ∷ rs) (inl h) = rw (le-leb _ _ (h .0), le-leb _ _ (h .1))
@@ -80,14 +80,14 @@ among-isAmong n (r ∷ rs) (inr h) = rw (among-isAmong n rs h) (same (holds n r)
     same true = refl
     same false = refl
 
-pub nonempty-among : (rs : List Range) → nonempty rs ≡ true → (n : ℕ) × Among n rs
+pub nonempty-among : (rs : List Interval) → nonempty rs ≡ true → (n : ℕ) × Among n rs
 unfolding nonempty
 nonempty-among [] e = absurd (false≢true e)
 nonempty-among (r ∷ rs) e =
     ⊎-elim (λ h. (r .low, inl (omega arith, leb-true _ _ h))) (λ h. let w = nonempty-among rs h in (w .0, inr (w .1)))
     (either (leb (r .low) (r .high)) (nonempty rs) e)
 
-pub among-nonempty : (n : ℕ) (rs : List Range) → Among n rs → nonempty rs ≡ true
+pub among-nonempty : (n : ℕ) (rs : List Interval) → Among n rs → nonempty rs ≡ true
 unfolding nonempty
 among-nonempty n [] h = absurd h
 among-nonempty n (r ∷ rs) (inl h) = rw (le-leb (r .low) (r .high) (omega arith))
@@ -97,29 +97,29 @@ among-nonempty n (r ∷ rs) (inr h) = rw (among-nonempty n rs h) (same (leb (r .
     same true = refl
     same false = refl
 
-pub among-afters : (g n : ℕ) (rs : List Range) → g < 128 → Among n (afters g rs) → (0 < n) × Among (g + 128 * n) rs
+pub among-afters : (g n : ℕ) (rs : List Interval) → g < 128 → Among n (afters g rs) → (0 < n) × Among (g + 128 * n) rs
 among-afters g n [] hg h = absurd h
 among-afters g n (r ∷ rs) hg (inl h) = (omega arith, inl (omega arith))
 among-afters g n (r ∷ rs) hg (inr h) = let w = among-afters g n rs hg h in (w .0, inr (w .1))
 
-pub afters-among : (g n : ℕ) (rs : List Range) → g < 128 → 0 < n → Among (g + 128 * n) rs → Among n (afters g rs)
+pub afters-among : (g n : ℕ) (rs : List Interval) → g < 128 → 0 < n → Among (g + 128 * n) rs → Among n (afters g rs)
 afters-among g n [] hg hn h = absurd h
 afters-among g n (r ∷ rs) hg hn (inl h) = inl (omega arith)
 afters-among g n (r ∷ rs) hg hn (inr h) = inr (afters-among g n rs hg hn h)
 
 -- the input starts with the bytes of n, of which there are k
-pub record Read (rs : List Range) (s : List ℕ) (n k : ℕ) : Type 0 where
+pub record Read (rs : List Interval) (s : List ℕ) (n k : ℕ) : Type 0 where
   pub permitted : Among n rs
   pub starts : s ≡ encode n ++ drop k s
   pub long : k ≡ length (encode n)
 
 -- the first p bytes are the start of a permitted number's bytes, but no permitted number goes on with the next
-pub record Stuck (rs : List Range) (s : List ℕ) (p : ℕ) : Type 0 where
+pub record Stuck (rs : List Interval) (s : List ℕ) (p : ℕ) : Type 0 where
   pub there : p ≤ length s
   pub goes-on : (n : ℕ) × (rest : List ℕ) × Among n rs × (take p s ++ rest ≡ encode n)
   pub stops : p < length s → (n : ℕ) (u t : List ℕ) → Among n rs → take (suc p) s ++ u ≡ encode n ++ t → ⊥
 
-abbrev pub Found : List Range → List ℕ → Got → Type 0
+abbrev pub Found : List Interval → List ℕ → Got → Type 0
 Found rs s (value n k) = Read rs s n k
 Found rs s (fault p) = Stuck rs s p
 
@@ -136,7 +136,7 @@ spells b u n t e = go (ltb n 128) refl
         let e′ : b ∷ u ≡ (128 + n % 128) ∷ (encode (n / 128) ++ t) = e ∙ ap (λ (l : List ℕ). l ++ t) (encode-more n (ltb-false n 128 h)) in
         inr (ltb-false n 128 h, ap (λ (l : List ℕ). getD l 0 0) e′, ap (drop 1) e′)
 
-module _ (rs : List Range) (b : ℕ) (s : List ℕ) (any : nonempty rs ≡ true) where
+module _ (rs : List Interval) (b : ℕ) (s : List ℕ) (any : nonempty rs ≡ true) where
   -- a last group
   last-right : b < 128 → (c : Bool) → isAmong b rs ≡ c → Found rs (b ∷ s) (cond c (value b 1) (fault 0))
   last-right h true e = record { permitted = isAmong-among b rs e; starts = ap (λ (l : List ℕ). l ++ s) (sym (encode-last b h)); long = ap length (sym (encode-last b h)) }
@@ -186,7 +186,7 @@ module _ (rs : List Range) (b : ℕ) (s : List ℕ) (any : nonempty rs ≡ true)
             (spells b (take (suc p) s ++ u) m t q);
       }
 
-pub number-right : (rs : List Range) (s : List ℕ) → Bytes s → nonempty rs ≡ true → Found rs s (readNumber rs s)
+pub number-right : (rs : List Interval) (s : List ℕ) → ByteString s → nonempty rs ≡ true → Found rs s (readNumber rs s)
 unfolding readNumber
 number-right rs [] hs any = record { there = omega arith; goes-on = let w = nonempty-among rs any in (w .0, encode (w .0), w .1, refl); stops = λ k. absurd (not-suc-le-zero k) }
 number-right rs (b ∷ s) hs any =
@@ -202,17 +202,17 @@ number-right rs (b ∷ s) hs any =
 -- ---- and back: what is right is what the reader finds
 
 -- one byte, at its two tests
-pub reads-last : (rs : List Range) (b : ℕ) (t : List ℕ) → b < 128 → Among b rs → readNumber rs (b ∷ t) ≡ value b 1
+pub reads-last : (rs : List Interval) (b : ℕ) (t : List ℕ) → b < 128 → Among b rs → readNumber rs (b ∷ t) ≡ value b 1
 unfolding readNumber
 reads-last rs b t h i = rw (lt-ltb b 128 h, among-isAmong b rs i)
 
-pub reads-more : (rs : List Range) (b : ℕ) (t : List ℕ) (n : ℕ) → 128 ≤ b → Among n (afters (b - 128) rs)
+pub reads-more : (rs : List Interval) (b : ℕ) (t : List ℕ) (n : ℕ) → 128 ≤ b → Among n (afters (b - 128) rs)
     → readNumber rs (b ∷ t) ≡ grow (b - 128) (readNumber (afters (b - 128) rs) t)
 unfolding readNumber
 reads-more rs b t n h i = rw (le-ltb b 128 h, among-nonempty n (afters (b - 128) rs) i)
 
 abbrev Back : ℕ → Type 0
-Back n = (rs : List Range) (t : List ℕ) → Among n rs → readNumber rs (encode n ++ t) ≡ value n (length (encode n))
+Back n = (rs : List Interval) (t : List ℕ) → Among n rs → readNumber rs (encode n ++ t) ≡ value n (length (encode n))
 
 back-last : (n : ℕ) → n < 128 → Back n
 back-last n h rs t i = rw (encode-last n h) (reads-last rs n t h i)
@@ -238,10 +238,10 @@ back-upto (suc f) n h = split (back-last n) (λ k. back-more n k (back-upto f (n
         pickBy false e = q (ltb-false n 128 e)
 
 -- the bytes of a permitted number, whatever follows them, are read as that number
-pub read-back : (rs : List Range) (n : ℕ) (t : List ℕ) → Among n rs → readNumber rs (encode n ++ t) ≡ value n (length (encode n))
+pub read-back : (rs : List Interval) (n : ℕ) (t : List ℕ) → Among n rs → readNumber rs (encode n ++ t) ≡ value n (length (encode n))
 read-back rs n t i = back-upto n n (omega arith) rs t i
 
-abbrev upto : ℕ → List Range
+abbrev upto : ℕ → List Interval
 upto n = record { low = 0; high = n } ∷ []
 
 valueOf : Got → ℕ
@@ -257,10 +257,10 @@ encode-apart n m t u e =
 
 -- ---- an empty range changes nothing
 
-after-empty : (g : ℕ) (r : Range) → r .high < r .low → after g r .high < after g r .low
+after-empty : (g : ℕ) (r : Interval) → r .high < r .low → after g r .high < after g r .low
 after-empty g r h = omega arith
 
-pub read-empty : (r : Range) (rs : List Range) (s : List ℕ) → r .high < r .low → readNumber (r ∷ rs) s ≡ readNumber rs s
+pub read-empty : (r : Interval) (rs : List Interval) (s : List ℕ) → r .high < r .low → readNumber (r ∷ rs) s ≡ readNumber rs s
 unfolding readNumber isAmong nonempty
 read-empty r rs [] h = refl
 read-empty r rs (b ∷ s) h =

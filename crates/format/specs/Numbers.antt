@@ -21,24 +21,24 @@ encodeAll (n ∷ ns) t = encode n ++ encodeAll ns t
 
 -- ---- permitted numbers: some ranges, each from low to high
 
-pub record Range : Type 0 where
+pub record Interval : Type 0 where
   pub low : ℕ
   pub high : ℕ
 
 -- one range
-abbrev pub span : ℕ → ℕ → List Range
+abbrev pub span : ℕ → ℕ → List Interval
 span a b = record { low = a; high = b } ∷ []
 
-abbrev pub Within : ℕ → Range → Type 0
+abbrev pub Within : ℕ → Interval → Type 0
 Within n r = (r .low ≤ n) × (n ≤ r .high)
 
 -- n lies in one of the ranges
-abbrev pub Among : ℕ → List Range → Type 0
+abbrev pub Among : ℕ → List Interval → Type 0
 Among n [] = ⊥
 Among n (r ∷ rs) = Within n r ⊎ Among n rs
 
 -- ---- byte strings
 
-abbrev pub Bytes : List ℕ → Type 0
-Bytes [] = Unit {0}
-Bytes (b ∷ s) = (b < 256) × Bytes s
+abbrev pub ByteString : List ℕ → Type 0
+ByteString [] = Unit {0}
+ByteString (b ∷ s) = (b < 256) × ByteString s

@@ -5,30 +5,30 @@ use mathlib.Core.List.{List, [], _∷_, map}
 use Prim.Native.Nat.{ℕ, suc, _+_, _-_, _*_, _/_, max}
 use lib.Dec.{ltb, leb}
 use lib.ListN.{length, take, drop}
-use Rattle.format.specs.Numbers.{Range, Among}
+use Rattle.format.specs.Numbers.{Interval, Among}
 use Rattle.format.specs.Formats.{Format}
 use Rattle.format.specs.Formats.Format.{done, number, bytes}
 
 -- ---- numbers
 
-abbrev pub holds : ℕ → Range → Bool
+abbrev pub holds : ℕ → Interval → Bool
 holds n r = cond (leb (r .low) n) (leb n (r .high)) false
 
 -- n lies in one of the ranges
-unfoldable pub isAmong : ℕ → List Range → Bool
+unfoldable pub isAmong : ℕ → List Interval → Bool
 isAmong n [] = false
 isAmong n (r ∷ rs) = cond (holds n r) true (isAmong n rs)
 
 -- there is a number in the ranges
-unfoldable pub nonempty : List Range → Bool
+unfoldable pub nonempty : List Interval → Bool
 nonempty [] = false
 nonempty (r ∷ rs) = cond (leb (r .low) (r .high)) true (nonempty rs)
 
 -- the numbers that may follow the group g, where another group has to follow: not 0, for the last group of the shortest form is not 0
-abbrev pub after : ℕ → Range → Range
+abbrev pub after : ℕ → Interval → Interval
 after g r = record { low = max 1 ((r .low + 127 - g) / 128); high = (r .high - g) / 128 }
 
-abbrev pub afters : ℕ → List Range → List Range
+abbrev pub afters : ℕ → List Interval → List Interval
 afters g rs = map (after g) rs
 
 -- a number with how many bytes it took, or the place of the first byte at which no permitted number can go on
@@ -42,7 +42,7 @@ grow g (value n k) = value (g + 128 * n) (suc k)
 grow g (fault p) = fault (suc p)
 
 -- the number at the front of s, which has to be in the ranges
-unfoldable pub readNumber : List Range → List ℕ → Got
+unfoldable pub readNumber : List Interval → List ℕ → Got
 readNumber rs [] = fault 0
 readNumber rs (b ∷ s) =
     let rest : Got = readNumber (afters (b - 128) rs) s in

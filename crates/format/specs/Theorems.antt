@@ -2,7 +2,7 @@
 use mathlib.Core.Path.{_≡_}
 use mathlib.Core.List.{List, _++_}
 use Prim.Native.Nat.{ℕ}
-use Rattle.format.specs.Numbers.{encode, Bytes}
+use Rattle.format.specs.Numbers.{encode, ByteString}
 use Rattle.format.specs.Formats.{Ends, Format, Accepts, Accepted}
 use Rattle.format.specs.Parser.{Live, Parsed, parse}
 use Rattle.format.specs.Parser.Parsed.{whole, stopped}
@@ -22,4 +22,4 @@ Right f s (stopped p) = Ends (Accepted f) s p × ¬ Accepted f s
 
 -- of every format without a dead end, and every byte string
 abbrev pub ParserIsRight : Type 1
-ParserIsRight = (X : Type 0) (f : Format X) → Live f → (s : List ℕ) → Bytes s → Right f s (parse f s)
+ParserIsRight = (X : Type 0) (f : Format X) → Live f → (s : List ℕ) → ByteString s → Right f s (parse f s)

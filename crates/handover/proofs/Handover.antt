@@ -9,7 +9,7 @@ use lib.ListN.{length, take, drop, getD}
 use lib.Seq.{take-append-seam}
 use lib.Dec.{eqb}
 use borrow.Author.Tests.{eq-eqb, le-leb}
-use Rattle.format.specs.Numbers.{Bytes}
+use Rattle.format.specs.Numbers.{ByteString}
 use Rattle.machine.specs.declared.Machine.{Machine}
 use Rattle.machine.specs.Geometry.{Range, Bench, benchOf}
 use Rattle.machine.specs.Faults.{soundBench}
@@ -22,7 +22,7 @@ use Rattle.image.specs.declared.Imaged.the-variants as Imaged
 use Rattle.image.specs.Answers.{ImageReply, imageReply}
 use Rattle.image.specs.Images.{imageOf, IsImage}
 use Rattle.image.specs.ImageFormat.{imageFormat}
-use Rattle.image.specs.Writing.{WriteOutcome, written, writeImage}
+use Rattle.image.specs.Writing.{WriteOutcome, writeReply, writeImage}
 use Rattle.image.specs.Reading.{ReadOutcome, readImage, checkImage}
 use Rattle.image.specs.Theorems.{imageIn, Fits}
 use Rattle.image.proofs.Images.{format-is-images, read-makes, written-is-read-back, read-is-written-back}
@@ -52,7 +52,7 @@ use Rattle.handover.specs.Handover.{ReadCallMakes, ReadCallMakesItsMachi
 
 -- ---- an accepted read
 
-module _ (image : List ℕ) (b : Buffers) (small : Bytes image) (z : called (Call.imageRead image) b .result ≡ 0) where
+module _ (image : List ℕ) (b : Buffers) (small : ByteString image) (z : called (Call.imageRead image) b .result ≡ 0) where
   abbrev after : Buffers
   after = called (Call.imageRead image) b .after
 
@@ -84,7 +84,7 @@ module _ (image : List ℕ) (b : Buffers) (small : Bytes image) (z : called (Cal
   written-back room l =
       let k = was-read image b small z in
       let w : (B : Bench) → WriteOutcome = λ B. writeImage (B .machine) (B .seals) (B .registers) (B .marks) room in
-      let e : w (benchIn after) ≡ written Imaged.Done (length image) (image ++ drop (length image) room)
+      let e : w (benchIn after) ≡ writeReply Imaged.Done (length image) (image ++ drop (length image) room)
       = ap w bench-is ∙ read-is-written-back image (b .registers) (b .marks) room small (k .done) l in
       ap (λ (t : Bool). cond t (writtenOut (packedReply (w (benchIn after) .answer) (w (benchIn after) .size)) (w (benchIn after) .room)) (writtenOut (packedReply (imageReply Imaged.BadArguments) 0) room)) (eq-eqb (length (after .machine)) machineBytes (k .long))
       ∙ ap (λ (x : WriteOutcome). writtenOut (packedReply (x .answer) (x .size)) (x .room)) e
@@ -97,7 +97,7 @@ read-call-is-written-back image room b small z l = written-back image b small z 
 
 -- ---- written, then read
 
-module _ (b b′ : Buffers) (room : List ℕ) (sb : soundBench (benchIn b) ≡ true) (bytes : Bytes (b .registers)) (lm : length (b .machine) ≡ machineBytes)
+module _ (b b′ : Buffers) (room : List ℕ) (sb : soundBench (benchIn b) ≡ true) (bytes : ByteString (b .registers)) (lm : length (b .machine) ≡ machineBytes)
     (fits : length (imageIn (benchIn b)) ≤ length room) (lm′ : length (b′ .machine) ≡ machineBytes) (same : Fits (machineOf (b .machine)) (b′ .registers) (b′ .marks)) where
   abbrev image : List ℕ
   image = imageIn (benchIn b)
@@ -105,7 +105,7 @@ module _ (b b′ : Buffers) (room : List ℕ) (sb : soundBench (benchIn b) ≡ t
   abbrev w : WriteOutcome
   w = writeImage (machineOf (b .machine)) (sealsIn (b .machine)) (b .registers) (b .marks) room
 
-  written-is : w ≡ written Imaged.Done (length image) (image ++ drop (length image) room)
+  written-is : w ≡ writeReply Imaged.Done (length image) (image ++ drop (length image) room)
   unfolding writeImage
   written-is = rw (sb, le-leb (length image) (length room) fits)
 
@@ -114,7 +114,7 @@ module _ (b b′ : Buffers) (room : List ℕ) (sb : soundBench (benchIn b) ≡ t
   result-is =
       image-write-packs-whole (b .machine) (b .registers) (b .marks) room .1
       ∙ ap (λ (x : WriteOutcome). cond (eqb (x .answer .number) 0) (x .size) (x .answer .place))
-      (ap (λ (t : Bool). cond t w (written Imaged.BadArguments 0 room)) (eq-eqb (length (b .machine)) machineBytes lm) ∙ written-is)
+      (ap (λ (t : Bool). cond t w (writeReply Imaged.BadArguments 0 room)) (eq-eqb (length (b .machine)) machineBytes lm) ∙ written-is)
 
   room-is : writtenInto room b .image ≡ image ++ drop (length image) room
   unfolding hostImageWrite
@@ -125,7 +125,7 @@ module _ (b b′ : Buffers) (room : List ℕ) (sb : soundBench (benchIn b) ≡ t
   from-is : imageFrom (writtenInto room b) ≡ image
   from-is = ap₂ take result-is room-is ∙ take-append-seam image (drop (length image) room)
 
-  image-bytes : Bytes image
+  image-bytes : ByteString image
   image-bytes =
       let a = format-is-images image .0 (record { machine = machineOf (b .machine); seals = sealsIn (b .machine); registers = b .registers; marks = b .marks; not-at-fault = sb; are-bytes = bytes; is-its-image = refl }) in
       accepts-bytes imageFormat image (a .0) (a .1)

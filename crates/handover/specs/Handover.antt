@@ -5,7 +5,7 @@ use mathlib.Core.Bool.{true, cond}
 use mathlib.Core.List.{List, [], _∷_, _++_}
 use Prim.Native.Nat.{ℕ, _/_, _%_, _^_, _≤_}
 use lib.ListN.{length, take, drop, getD}
-use Rattle.format.specs.Numbers.{Bytes}
+use Rattle.format.specs.Numbers.{ByteString}
 use Rattle.machine.specs.declared.Reply.{Reply}
 use Rattle.machine.specs.Answers.{bare}
 use Rattle.machine.specs.Faults.{soundBench}
@@ -33,7 +33,7 @@ pub record ReadCallMakes (image : List ℕ) (b after : Buffers) : Type 0 where
   pub others-stay : after ≡ buffers (after .machine) (after .registers) (after .marks) (b .scalars) (b .memory) (b .run) (b .step) (b .steps) (b .file)
 
 abbrev pub ReadCallMakesItsMachine : Type 0
-ReadCallMakesItsMachine = (image : List ℕ) (b : Buffers) → Bytes image → called (Call.imageRead image) b .result ≡ 0
+ReadCallMakesItsMachine = (image : List ℕ) (b : Buffers) → ByteString image → called (Call.imageRead image) b .result ≡ 0
     → ReadCallMakes image b (called (Call.imageRead image) b .after)
 
 -- ---- there and back
@@ -47,14 +47,14 @@ imageFrom w = take (w .result / 2 ^ 16) (w .image)
 
 -- a machine that was written, then read into any buffers of its size: the two differ at most in unmarked register bytes
 abbrev pub WrittenCallIsReadBack : Type 0
-WrittenCallIsReadBack = (b b′ : Buffers) (room : List ℕ) → soundBench (benchIn b) ≡ true → Bytes (b .registers) → length (b .machine) ≡ machineBytes
+WrittenCallIsReadBack = (b b′ : Buffers) (room : List ℕ) → soundBench (benchIn b) ≡ true → ByteString (b .registers) → length (b .machine) ≡ machineBytes
     → length (imageIn (benchIn b)) ≤ length room → length (b′ .machine) ≡ machineBytes → Fits (machineOf (b .machine)) (b′ .registers) (b′ .marks)
     → let o : Called = called (Call.imageRead (imageFrom (writtenInto room b))) b′ in
     (o .result ≡ 0) × Alike (benchIn b) (benchIn (o .after))
 
 -- a machine that was read is written as the bytes that were read, and the room past them stays
 abbrev pub ReadCallIsWrittenBack : Type 0
-ReadCallIsWrittenBack = (image room : List ℕ) (b : Buffers) → Bytes image → called (Call.imageRead image) b .result ≡ 0 → length image ≤ length room
+ReadCallIsWrittenBack = (image room : List ℕ) (b : Buffers) → ByteString image → called (Call.imageRead image) b .result ≡ 0 → length image ≤ length room
     → writtenInto room (called (Call.imageRead image) b .after) ≡ writtenOut (packedReply (imageReply Done) (length image)) (image ++ drop (length image) room)
 
 -- ---- images after each call

@@ -1,7 +1,7 @@
 -- Cells and the registers and marks that they stand for.
 use Rattle.width.proofs.Kit.{_≡_, refl, ap, ap₂, subst, Bool, true, false, cond, List, [], _∷_, none, some, ℕ, zero, suc, _<_, arith, eqb, length, getD}
 use Rattle.width.proofs.Kit.{eqb-true}
-use Rattle.format.specs.Numbers.{Bytes}
+use Rattle.format.specs.Numbers.{ByteString}
 use Rattle.image.specs.Cells.{Cell, cell, cellsOf, over, marksOf}
 use Rattle.image.proofs.ImageLaws.{CellsOk}
 
@@ -12,7 +12,7 @@ length-cells [] ms n = refl
 length-cells (b ∷ bs) [] n = absurd (omega (arith, n))
 length-cells (b ∷ bs) (m ∷ ms) n = ap suc (length-cells bs ms (omega (arith, n)))
 
-pub cells-ok : (bs ms : List ℕ) → Bytes bs → CellsOk (cellsOf bs ms)
+pub cells-ok : (bs ms : List ℕ) → ByteString bs → CellsOk (cellsOf bs ms)
 cells-ok [] ms h = tt
 cells-ok (b ∷ bs) [] h = tt
 cells-ok (b ∷ bs) (m ∷ ms) h = one (eqb m 1) (cellsOf bs ms) (cells-ok bs ms (h .1))
@@ -105,7 +105,7 @@ over-lent (none ∷ cs) (b ∷ bs) n (suc q) h = over-lent cs bs (omega (arith, 
 over-lent (some x ∷ cs) (b ∷ bs) n zero h = absurd (omega (arith, h))
 over-lent (some x ∷ cs) (b ∷ bs) n (suc q) h = over-lent cs bs (omega (arith, n)) q h
 
-pub over-bytes : (cs : List Cell) (bs : List ℕ) → CellsOk cs → Bytes bs → Bytes (over cs bs)
+pub over-bytes : (cs : List Cell) (bs : List ℕ) → CellsOk cs → ByteString bs → ByteString (over cs bs)
 over-bytes [] bs k h = tt
 over-bytes (c ∷ cs) [] k h = tt
 over-bytes (none ∷ cs) (b ∷ bs) k h = (h .0, over-bytes cs bs k (h .1))

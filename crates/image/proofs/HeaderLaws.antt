@@ -13,7 +13,7 @@ use Rattle.machine.specs.Faults.{sound, sealsFit}
 use Rattle.machine.proofs.TestLaws.{every-each, each-every, each, each-in, or-not, all-at, and-left, and-right, and-true}
 use Rattle.machine.proofs.NoFault.{Sound, sound-is, sound-true}
 use Rattle.image.specs.Images.{log2, exponent, Seals, Header, headerOf, machineFrom, soundWith}
-use Rattle.image.specs.ImageFormat.{mtypes, total}
+use Rattle.image.specs.ImageFormat.{mtypes, allRegisterBytes}
 use Rattle.image.proofs.ImageLaws.{Ending, Held}
 
 -- ---- permitted lengths and their exponents, computed
@@ -190,10 +190,10 @@ module _ (m : Machine) (seals : Seals) (registers marks : List ℕ) (s : soundWi
       ∙ ap (λ (e : ℕ). record { rlen = m .rlen; mlen = m .mlen; mtype = m .mtype; «tile_m» = m .«tile_m»; «tile_k» = m .«tile_k»; «tile_n» = m .«tile_n»; rule = m .rule; elen = e })
       (powers .elen-is)
 
-  pub registers-sized : length registers ≡ total (exponent (m .mlen))
+  pub registers-sized : length registers ≡ allRegisterBytes (exponent (m .mlen))
   registers-sized = facts .state .regs-length ∙ ap registerBytes (sym (powers .mlen-is))
 
-  pub marks-sized : length marks ≡ total (exponent (m .mlen))
+  pub marks-sized : length marks ≡ allRegisterBytes (exponent (m .mlen))
   marks-sized = facts .state .marks-length ∙ ap registerBytes (sym (powers .mlen-is))
 
   pub marks-two : (q : ℕ) → getD marks q 0 < 2
@@ -210,7 +210,7 @@ module _ (h : Header) (k : Held h) where
       ∙ ap (λ (e : ℕ). record { rlen = h .rlen; mlen = h .mlen; mtype = h .mtype; tileM = h .tileM; tileK = h .tileK; tileN = h .tileN; seals = h .seals; rule = h .rule; elen = e })
       (lengths-of .elen-back)
 
-  pub sound-from : (registers marks : List ℕ) → length registers ≡ total (h .mlen) → length marks ≡ total (h .mlen) → ((q : ℕ) → getD marks q 0 < 2)
+  pub sound-from : (registers marks : List ℕ) → length registers ≡ allRegisterBytes (h .mlen) → length marks ≡ allRegisterBytes (h .mlen) → ((q : ℕ) → getD marks q 0 < 2)
       → soundWith (machineFrom h) (h .seals) registers marks ≡ true
   sound-from registers marks nr nm two =
       let l = lengths-of in

@@ -4,7 +4,7 @@ use Rattle.width.proofs.Kit.{some, ℕ, zero, suc, _+_, _-_, _*_, _^_, _≤_, _
 use Rattle.width.proofs.Kit.{ltb-true, ltb-false, lt-ltb, le-ltb}
 use Rattle.width.proofs.BlockLaws.{le-or-lt}
 use Rattle.machine.proofs.TestLaws.{false-true}
-use Rattle.format.specs.Numbers.{span, Among, encode, encodeAll, Bytes}
+use Rattle.format.specs.Numbers.{span, Among, encode, encodeAll, ByteString}
 use Rattle.format.specs.Formats.{Format, Accepts}
 use Rattle.format.specs.Formats.Format.{number}
 use Rattle.format.specs.Parser.{Live}
@@ -13,7 +13,7 @@ use Rattle.image.specs.Cells.{Cell, widen, join, Run, runs, spread, Fit}
 use Rattle.image.specs.Cells.Run.{run}
 use Rattle.machine.specs.Geometry.{range}
 use Rattle.image.specs.Images.{Seals, Header, beyond, single, version, bounds, sealFields, fields, runsBytes, spelled}
-use Rattle.image.specs.ImageFormat.{Described, topRlen, topMlen, leastMlen, mtypes, tilesFormat, rangesFormat, counts, sealsFormat, total, runsFormat, imageFormat}
+use Rattle.image.specs.ImageFormat.{Described, topRlen, topMlen, leastMlen, mtypes, tilesFormat, rangesFormat, counts, sealsFormat, allRegisterBytes, runsFormat, imageFormat}
 use Rattle.image.proofs.RunLaws.{fit-many}
 
 -- ranges that end where they may
@@ -45,7 +45,7 @@ room-next (suc l) room h = omega arith
 
 abbrev pub AllBytes : List Run → Type 0
 AllBytes [] = Unit {0}
-AllBytes (run g b ∷ rs) = Bytes b × AllBytes rs
+AllBytes (run g b ∷ rs) = ByteString b × AllBytes rs
 
 pub among-span : {n a b : ℕ} → Among n (span a b) → (a ≤ n) × (n ≤ b)
 among-span (inl h) = h
@@ -346,7 +346,7 @@ afterRule version rule elen =
     tilesFormat elen (2 ^ (m - r)) (2 ^ (r - 3)) λ t tm tk tn.
     sealsFormat version λ seals.
     number (span 0 (2 ^ m)) λ c.
-    runsFormat (λ rs. record { header = record { rlen = r; mlen = m; mtype = t; tileM = tm; tileK = tk; tileN = tn; seals = seals; rule = rule; elen = elen }; body = rs }) c 0 (total m)
+    runsFormat (λ rs. record { header = record { rlen = r; mlen = m; mtype = t; tileM = tm; tileK = tk; tileN = tn; seals = seals; rule = rule; elen = elen }; body = rs }) c 0 (allRegisterBytes m)
 
 some-rlen : (v e : ℕ) → e ≤ 6 → suc e ≤ topRlen v
 unfolding topRlen
@@ -384,7 +384,7 @@ after-live v rule elen few = (
             λ tn htn. seals-live v _ (λ rs. (
               among-nonempty 0 (span 0 (2 ^ m)) (inl (omega arith)),
               λ c hc. let kc = among-span hc in
-                  runs-live _ c 0 (total m) (room-first c (2 ^ m) (kc .1)),
+                  runs-live _ c 0 (allRegisterBytes m) (room-first c (2 ^ m) (kc .1)),
             )),
           ),
         ),
@@ -405,7 +405,7 @@ image-live = (among-nonempty 1 (span 1 4) (inl (omega arith)), λ v hv. by v (eq
 -- s is the spelled form of d, a machine's numbers and runs
 pub record Spelling (s : List ℕ) (d : Described) : Type 0 where
   pub sound : Held (d .header)
-  pub fits : Fit 0 (total (d .header .mlen)) (d .body)
+  pub fits : Fit 0 (allRegisterBytes (d .header .mlen)) (d .body)
   pub all-bytes : AllBytes (d .body)
   pub are : s ≡ spelled (d .header) (d .body)
 
@@ -419,7 +419,7 @@ record SpellingAfter (version rule elen : ℕ) (s : List ℕ) (d : Described) : 
   by-version : ByVersion version (d .header .elen) (d .header .rlen) (d .header .mlen)
   seals-are : single (d .header .seals) ≡ not (eqb version 4)
   elen-is : d .header .elen ≡ elen
-  fits : Fit 0 (total (d .header .mlen)) (d .body)
+  fits : Fit 0 (allRegisterBytes (d .header .mlen)) (d .body)
   all-bytes : AllBytes (d .body)
   rule-is : d .header .rule ≡ rule
   are : s ≡ bytesAfter (d .header) (d .body)
@@ -428,7 +428,7 @@ after-out : (v rule elen : ℕ) → rule ≤ 1 → (5 ≤ elen) × (elen ≤ 6) 
     → Accepts (afterRule v rule elen) s d → SpellingAfter v rule elen s d
 after-out v rule elen u few five s d (r, t1, hr, e1, (m, t2, hm, e2, (ty, t3, hty, e3, (tm, t4, htm, e4, (tk, t5, htk, e5, (tn, t6, htn, e6, a₀)))))) =
     let g : Seals → Header = λ seals. record { rlen = r; mlen = m; mtype = ty; tileM = tm; tileK = tk; tileN = tn; seals = seals; rule = rule; elen = elen } in
-    let z = seals-out v (λ seals. number (span 0 (2 ^ m)) λ c. runsFormat (λ rs. record { header = g seals; body = rs }) c 0 (total m)) t6 d a₀ in
+    let z = seals-out v (λ seals. number (span 0 (2 ^ m)) λ c. runsFormat (λ rs. record { header = g seals; body = rs }) c 0 (allRegisterBytes m)) t6 d a₀ in
     let h : Header = g (z .them) in
     let y = z .follows in
     let kr = among-span hr in
@@ -438,7 +438,7 @@ after-out v rule elen u few five s d (r, t1, hr, e1, (m, t2, hm, e2, (ty, t3, ht
     let ktn = among-span htn in
     let kc = among-span (y .2) in
     let low : r ≤ 12 = omega (arith, top-rlen v) in
-    let w = runs-out (λ rs. record { header = h; body = rs }) (y .0) 0 (total m) (room-first (y .0) (2 ^ m) (kc .1)) (y .1) d (y .4) in
+    let w = runs-out (λ rs. record { header = h; body = rs }) (y .0) 0 (allRegisterBytes m) (room-first (y .0) (2 ^ m) (kc .1)) (y .1) d (y .4) in
     subst (SpellingAfter v rule elen s) (w .is)
     (record {
       sound = record {
@@ -528,11 +528,11 @@ image-out s d (v, t, hv, e, a) = by (eqb v 1) refl (eqb v 2) refl a
             let k = after-out v r el (among-span hr .1) (among-span he) (λ l. absurd (omega arith)) t″ d a in
             spelling-behind false (beyond (d .header .elen) (d .header .rlen) (d .header .mlen)) v r el s t″ d (behind 4 is) k (ranges 4 is k) refl
 
-after-in : (v : ℕ) (h : Header) (rs : List Run) → ByVersion v (h .elen) (h .rlen) (h .mlen) → single (h .seals) ≡ not (eqb v 4) → Held h → Fit 0 (total (h .mlen)) rs → AllBytes rs
+after-in : (v : ℕ) (h : Header) (rs : List Run) → ByVersion v (h .elen) (h .rlen) (h .mlen) → single (h .seals) ≡ not (eqb v 4) → Held h → Fit 0 (allRegisterBytes (h .mlen)) rs → AllBytes rs
     → Accepts (afterRule v (h .rule) (h .elen)) (bytesAfter h rs) (record { header = h; body = rs })
 after-in v h rs u o k f b =
     let n = are-bounds v (h .elen) (h .rlen) (h .mlen) (k .elen-ok) (k .rlen-ok .1) (k .mlen-ok) u in
-    let many = fit-first (total (h .mlen)) rs f in (
+    let many = fit-first (allRegisterBytes (h .mlen)) rs f in (
       h .rlen,
       _,
       inl (k .rlen-ok .0, n .0),
@@ -563,7 +563,7 @@ after-in v h rs u o k f b =
                 inl (omega arith, k .tile-n-ok),
                 refl,
                 seals-in v (h .seals) _ _ _ (k .seals-few) (k .seals-ok) o
-                    (length rs, _, inl (omega arith), refl, runs-in (λ qs. record { header = h; body = qs }) 0 (total (h .mlen)) rs f b),
+                    (length rs, _, inl (omega arith), refl, runs-in (λ qs. record { header = h; body = qs }) 0 (allRegisterBytes (h .mlen)) rs f b),
               ),
             ),
           ),
@@ -571,7 +571,7 @@ after-in v h rs u o k f b =
       ),
     )
 
-pub image-in : (h : Header) (rs : List Run) → Held h → Fit 0 (total (h .mlen)) rs → AllBytes rs
+pub image-in : (h : Header) (rs : List Run) → Held h → Fit 0 (allRegisterBytes (h .mlen)) rs → AllBytes rs
     → Accepts imageFormat (spelled h rs) (record { header = h; body = rs })
 unfolding imageFormat
 image-in h rs k f b = by (single (h .seals)) refl (beyond (h .elen) (h .rlen) (h .mlen)) refl (eqb (h .rule) 1) refl
@@ -623,7 +623,7 @@ ok-blank : (n : ℕ) → CellsOk (replicate n none)
 ok-blank zero = tt
 ok-blank (suc n) = ok-blank n
 
-ok-body : (b : List ℕ) (cs : List Cell) → Bytes b → CellsOk cs → CellsOk (map some b ++ cs)
+ok-body : (b : List ℕ) (cs : List Cell) → ByteString b → CellsOk cs → CellsOk (map some b ++ cs)
 ok-body [] cs hb h = h
 ok-body (x ∷ b) cs hb h = (hb .0, ok-body b cs (hb .1) h)
 

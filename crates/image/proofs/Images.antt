@@ -1,7 +1,7 @@
 -- The theorems of specs/Theorems.antt.
 use Rattle.width.proofs.Kit.{_≡_, refl, sym, ap, ap₂, _∙_, subst, inl, inr, Bool, true, false, cond, List, [], _∷_, _++_, ℕ, _≤_, arith, leb, eqb, length}
 use Rattle.width.proofs.Kit.{take, drop, replicate, length-replicate, take-append-seam, eqb-true, eq-eqb, le-leb}
-use Rattle.format.specs.Numbers.{Bytes}
+use Rattle.format.specs.Numbers.{ByteString}
 use Rattle.format.specs.Formats.{Ends, Accepts, Accepted}
 use Rattle.format.specs.Parser.{Parsed, parse}
 use Rattle.format.specs.Parser.Parsed.{whole, stopped}
@@ -19,8 +19,8 @@ use Rattle.image.specs.declared.Imaged.the-variants.{Done, BadArguments,
 use Rattle.image.specs.Answers.{ImageReply, imageReply}
 use Rattle.image.specs.Cells.{Cell, Run, cellsOf, runs, spread, Fit, over, marksOf}
 use Rattle.image.specs.Images.{Seals, Header, exponent, headerOf, machineFrom, spelled, imageOf, soundWith, IsImage}
-use Rattle.image.specs.ImageFormat.{Described, total, imageFormat}
-use Rattle.image.specs.Writing.{WriteOutcome, written, writeImage}
+use Rattle.image.specs.ImageFormat.{Described, allRegisterBytes, imageFormat}
+use Rattle.image.specs.Writing.{WriteOutcome, writeReply, writeImage}
 use Rattle.image.specs.Reading.{ReadOutcome, restored, cellsIn, fitted, readAs, readImage}
 use Rattle.image.specs.Theorems.{imageIn, AlikeHaveOneImage, OthersNever, FormatIsImages, Fits, ReadAnswers, ReadIsExact, ReadRefusalChangesNothing, WriteRefusalChangesNothing, MakesItsMachine, ReadMakesItsMachine, SealHoldsFromRead, WrittenIsReadBack, ReadIsWrittenBack}
 use Rattle.image.proofs.RunLaws.{spread-runs, fit-runs, runs-spread, length-spread}
@@ -44,10 +44,10 @@ module _ (m : Machine) (seals : Seals) (registers marks : List ℕ) (s : soundWi
   same-size : length registers ≡ length marks
   same-size = registers-sized m seals registers marks s ∙ sym (marks-sized m seals registers marks s)
 
-  cells-sized : length (cellsOf registers marks) ≡ total (exponent (m .mlen))
+  cells-sized : length (cellsOf registers marks) ≡ allRegisterBytes (exponent (m .mlen))
   cells-sized = length-cells registers marks same-size ∙ registers-sized m seals registers marks s
 
-  pub image-accepts : Bytes registers → Accepts imageFormat (imageOf m seals registers marks) (described m seals registers marks)
+  pub image-accepts : ByteString registers → Accepts imageFormat (imageOf m seals registers marks) (described m seals registers marks)
   unfolding imageOf
   image-accepts b =
       image-in (headerOf m seals) (runs (cellsOf registers marks)) (held m seals registers marks s)
@@ -83,12 +83,12 @@ others-never B B′ s s′ b b′ e =
 -- ---- what is accepted
 
 -- the machine that an accepted input makes of lent registers
-module _ (s : List ℕ) (d : Described) (a : Accepts imageFormat s d) (lent : List ℕ) (n : length lent ≡ total (d .header .mlen)) where
+module _ (s : List ℕ) (d : Described) (a : Accepts imageFormat s d) (lent : List ℕ) (n : length lent ≡ allRegisterBytes (d .header .mlen)) where
   spelling : Spelling s d
   spelling = image-out s d a
 
-  cells-many : length (cellsIn d) ≡ total (d .header .mlen)
-  cells-many = length-spread 0 (total (d .header .mlen)) (d .body) (spelling .fits)
+  cells-many : length (cellsIn d) ≡ allRegisterBytes (d .header .mlen)
+  cells-many = length-spread 0 (allRegisterBytes (d .header .mlen)) (d .body) (spelling .fits)
 
   lent-many : length lent ≡ length (cellsIn d)
   lent-many = n ∙ sym cells-many
@@ -102,7 +102,7 @@ module _ (s : List ℕ) (d : Described) (a : Accepts imageFormat s d) (lent : Li
   unfolding imageOf
   made-image =
       ap₂ (λ (h : Header) (rs : List Run). spelled h rs) (header-back (d .header) (spelling .sound))
-      (ap runs (cells-over (cellsIn d) lent lent-many) ∙ runs-spread 0 (total (d .header .mlen)) (d .body) (spelling .fits))
+      (ap runs (cells-over (cellsIn d) lent lent-many) ∙ runs-spread 0 (allRegisterBytes (d .header .mlen)) (d .body) (spelling .fits))
       ∙ sym (spelling .are)
 
   made : MakesItsMachine s lent (restored Done (machineFrom (d .header)) (d .header .seals) (over (cellsIn d) lent) (marksOf (cellsIn d)))
@@ -115,15 +115,15 @@ is-accepted s i =
 
 pub accepted-is : (s : List ℕ) → Accepted imageFormat s → IsImage s
 accepted-is s (d, a) =
-    let zeros : List ℕ = replicate (total (d .header .mlen)) 0 in
-    let n : length zeros ≡ total (d .header .mlen) = length-replicate (total (d .header .mlen)) 0 in
+    let zeros : List ℕ = replicate (allRegisterBytes (d .header .mlen)) 0 in
+    let n : length zeros ≡ allRegisterBytes (d .header .mlen) = length-replicate (allRegisterBytes (d .header .mlen)) 0 in
     record {
       machine = machineFrom (d .header);
       seals = d .header .seals;
       registers = over (cellsIn d) zeros;
       marks = marksOf (cellsIn d);
       not-at-fault = made-sound s d a zeros n;
-      are-bytes = over-bytes (cellsIn d) zeros (ok-spread (total (d .header .mlen)) (d .body) (image-out s d a .all-bytes)) (bytes-zeros (total (d .header .mlen)));
+      are-bytes = over-bytes (cellsIn d) zeros (ok-spread (allRegisterBytes (d .header .mlen)) (d .body) (image-out s d a .all-bytes)) (bytes-zeros (allRegisterBytes (d .header .mlen)));
       is-its-image = sym (made-image s d a zeros n);
     }
 
@@ -214,7 +214,7 @@ unfolding writeImage
 write-refusal m seals registers marks room = go (soundWith m seals registers marks) (leb (length (imageOf m seals registers marks)) (length room))
   where
     out : Bool → Bool → WriteOutcome
-    out t u = cond t (cond u (written Done (length (imageOf m seals registers marks)) (imageOf m seals registers marks ++ drop (length (imageOf m seals registers marks)) room)) (written NoRoom 0 room)) (written BadArguments 0 room)
+    out t u = cond t (cond u (writeReply Done (length (imageOf m seals registers marks)) (imageOf m seals registers marks ++ drop (length (imageOf m seals registers marks)) room)) (writeReply NoRoom 0 room)) (writeReply BadArguments 0 room)
 
     go : (t u : Bool) → ¬ (out t u .answer .number ≡ 0) → (out t u .size ≡ 0) × (out t u .room ≡ room)
     go true true h = absurd (h refl)
@@ -230,7 +230,7 @@ record Accepting (s registers marks : List ℕ) : Type 0 where
   fits : Fits (machineFrom (what .header)) registers marks
   leaves : readImage s registers marks ≡ restored Done (machineFrom (what .header)) (what .header .seals) (over (cellsIn what) registers) (marksOf (cellsIn what))
 
-accepting : (s registers marks : List ℕ) → Bytes s → readImage s registers marks .answer ≡ imageReply Done → Accepting s registers marks
+accepting : (s registers marks : List ℕ) → ByteString s → readImage s registers marks .answer ≡ imageReply Done → Accepting s registers marks
 unfolding readImage
 accepting s registers marks b = go (parse imageFormat s) refl (parser-right imageFormat image-live s b)
   where
@@ -264,12 +264,12 @@ seal-holds-from-read s registers marks memory b h ws q x =
 
 -- an image that fits is written
 write-done : (m : Machine) (seals : Seals) (registers marks room : List ℕ) → soundWith m seals registers marks ≡ true → length (imageOf m seals registers marks) ≤ length room
-    → writeImage m seals registers marks room ≡ written Done (length (imageOf m seals registers marks)) (imageOf m seals registers marks ++ drop (length (imageOf m seals registers marks)) room)
+    → writeImage m seals registers marks room ≡ writeReply Done (length (imageOf m seals registers marks)) (imageOf m seals registers marks ++ drop (length (imageOf m seals registers marks)) room)
 unfolding writeImage
 write-done m seals registers marks room s n = rw (s, le-leb (length (imageOf m seals registers marks)) (length room) n)
 
 -- the image of a bench, read into buffers of its machine's size
-module _ (B : Bench) (registers marks : List ℕ) (s : soundBench B ≡ true) (b : Bytes (B .registers)) (f : Fits (B .machine) registers marks) where
+module _ (B : Bench) (registers marks : List ℕ) (s : soundBench B ≡ true) (b : ByteString (B .registers)) (f : Fits (B .machine) registers marks) where
   abbrev Back : ReadOutcome → Type 0
   Back o = (o .answer ≡ imageReply Done) × Alike B (benchOf (o .machine) (o .seals) (o .registers) (o .marks) (B .memory))
 
@@ -321,7 +321,7 @@ module _ (B : Bench) (registers marks : List ℕ) (s : soundBench B ≡ true) (b
 pub written-is-read-back : WrittenIsReadBack
 written-is-read-back B room registers marks s b n f =
     let image : List ℕ = imageIn B in
-    let w : writeImage (B .machine) (B .seals) (B .registers) (B .marks) room ≡ written Done (length image) (image ++ drop (length image) room) = write-done (B .machine) (B .seals) (B .registers) (B .marks) room s n in
+    let w : writeImage (B .machine) (B .seals) (B .registers) (B .marks) room ≡ writeReply Done (length image) (image ++ drop (length image) room) = write-done (B .machine) (B .seals) (B .registers) (B .marks) room s n in
     let e : take (length image) (image ++ drop (length image) room) ≡ image = take-append-seam image (drop (length image) room) in
     subst (λ (o : WriteOutcome). Back B registers marks s b f (readImage (take (o .size) (o .room)) registers marks)) (sym w)
     (subst (λ (z : List ℕ). Back B registers marks s b f (readImage z registers marks)) (sym e) (read-back B registers marks s b f))
@@ -331,4 +331,4 @@ read-is-written-back s registers marks room b h n =
     let o : ReadOutcome = readImage s registers marks in
     let m = read-makes s registers marks b h in
     write-done (o .machine) (o .seals) (o .registers) (o .marks) room (m .not-at-fault) (subst (λ (z : List ℕ). length z ≤ length room) (sym (m .its-image)) n)
-    ∙ ap (λ (z : List ℕ). written Done (length z) (z ++ drop (length z) room)) (m .its-image)
+    ∙ ap (λ (z : List ℕ). writeReply Done (length z) (z ++ drop (length z) room)) (m .its-image)

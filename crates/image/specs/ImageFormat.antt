@@ -1,7 +1,7 @@
 -- The format of all images: each number has the range that the numbers before it leave. specs/Theorems.antt says that it accepts exactly
 -- the images of machines that are not at fault.
 use Rattle.width.specs.Kit.{cond, _&&_, List, [], _∷_, ℕ, zero, suc, _+_, _-_, _*_, _^_, min, eqb, ltb}
-use Rattle.format.specs.Numbers.{Range, span}
+use Rattle.format.specs.Numbers.{Interval, span}
 use Rattle.format.specs.Formats.{Format}
 use Rattle.format.specs.Formats.Format.{done, number, bytes}
 use Rattle.image.specs.Cells.{Run}
@@ -45,7 +45,7 @@ shapeFormat K =
 
 -- the mtypes that can arise, by the exponent of ELEN: msew, the exponent of SEW less 3, alone, while SEW is at most ELEN; with maccq (8), while
 -- 4 x SEW is at most ELEN; and 2^63
-unfoldable pub mtypes : (elen : ℕ) → List Range
+unfoldable pub mtypes : (elen : ℕ) → List Interval
 mtypes elen =
     record { low = 0; high = elen - 3 } ∷ record { low = 8; high = 8 + (elen - 5) } ∷ record { low = 2 ^ 63; high = 2 ^ 63 } ∷ []
 
@@ -67,7 +67,7 @@ rangesFormat (suc n) K =
     rangesFormat n λ rs. K (range start size ∷ rs)
 
 -- none, or two to eight: one range has a lower version
-abbrev pub counts : List Range
+abbrev pub counts : List Interval
 counts = record { low = 0; high = 0 } ∷ record { low = 2; high = 8 } ∷ []
 
 -- the sealed ranges: one, and of version 4 their number before them
@@ -91,8 +91,8 @@ runsFormat f (suc l) least room =
     runsFormat (λ rs. f (run gap b ∷ rs)) l 1 (room - (gap + size))
 
 -- how many bytes the registers have, by the exponent of MLEN
-abbrev pub total : ℕ → ℕ
-total mlen = 2 * 2 ^ mlen
+abbrev pub allRegisterBytes : ℕ → ℕ
+allRegisterBytes mlen = 2 * 2 ^ mlen
 
 -- a machine's numbers and the number of runs: at most every second byte starts a run
 abbrev pub headFormat : {X : Type 0} → (Header → ℕ → Format X) → Format X
@@ -115,4 +115,4 @@ headFormat K =
 
 -- and the runs
 unfoldable pub imageFormat : Format Described
-imageFormat = headFormat λ header count. runsFormat (λ rs. record { header = header; body = rs }) count 0 (total (header .mlen))
+imageFormat = headFormat λ header count. runsFormat (λ rs. record { header = header; body = rs }) count 0 (allRegisterBytes (header .mlen))

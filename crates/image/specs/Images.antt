@@ -1,6 +1,6 @@
 -- 02, Six: the image of a machine.
 use Rattle.width.specs.Kit.{_≡_, Bool, true, cond, _||_, _&&_, List, [], _∷_, _++_, ℕ, zero, suc, _/_, _^_, ltb, eqb, length}
-use Rattle.format.specs.Numbers.{encode, encodeAll, Bytes}
+use Rattle.format.specs.Numbers.{encode, encodeAll, ByteString}
 use Rattle.machine.specs.declared.Machine.{Machine}
 use Rattle.machine.specs.Geometry.{Range}
 use Rattle.machine.specs.Faults.{sound, sealsFit}
@@ -119,5 +119,5 @@ pub record IsImage (s : List ℕ) : Type 0 where
   pub registers : List ℕ
   pub marks : List ℕ
   pub not-at-fault : soundWith machine seals registers marks ≡ true
-  pub are-bytes : Bytes registers
+  pub are-bytes : ByteString registers
   pub is-its-image : s ≡ imageOf machine seals registers marks

@@ -11,7 +11,7 @@ use Rattle.image.specs.declared.Imaged.the-variants.{Done, BadArguments,
 use Rattle.image.specs.Answers.{ImageReply, imageReply}
 use Rattle.image.specs.Cells.{Cell, spread, over, marksOf}
 use Rattle.image.specs.Images.{Seals, machineFrom}
-use Rattle.image.specs.ImageFormat.{Described, total, imageFormat}
+use Rattle.image.specs.ImageFormat.{Described, allRegisterBytes, imageFormat}
 
 -- whether an input is an image, or the place of its fault
 abbrev pub verdictOf : Parsed Described → Imaged
@@ -34,7 +34,7 @@ restored answer machine seals registers marks =
 
 -- the cells of the machine whose image it is
 abbrev pub cellsIn : Described → List Cell
-cellsIn d = spread (total (d .header .mlen)) (d .body)
+cellsIn d = spread (allRegisterBytes (d .header .mlen)) (d .body)
 
 -- the lent buffers are of its machine's size
 abbrev pub fitted : Described → (registers marks : List ℕ) → Bool

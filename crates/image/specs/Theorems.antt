@@ -1,6 +1,6 @@
 -- What is proved of these definitions. The proofs stand in proofs/.
 use Rattle.width.specs.Kit.{_≡_, _⊎_, true, List, _++_, ℕ, _≤_, length, take, drop, getD}
-use Rattle.format.specs.Numbers.{Bytes}
+use Rattle.format.specs.Numbers.{ByteString}
 use Rattle.format.specs.Formats.{Ends, Accepted}
 use Rattle.machine.specs.declared.Machine.{Machine}
 use Rattle.machine.specs.Geometry.{registerBytes, sealed, Bench, benchOf}
@@ -13,7 +13,7 @@ use Rattle.image.specs.Answers.{imageReply}
 use Rattle.image.specs.Cells.{Cell, runs, spread, Fit}
 use Rattle.image.specs.Images.{Seals, imageOf, soundWith, IsImage}
 use Rattle.image.specs.ImageFormat.{imageFormat}
-use Rattle.image.specs.Writing.{written, writeImage}
+use Rattle.image.specs.Writing.{writeReply, writeImage}
 use Rattle.image.specs.Reading.{ReadOutcome, readImage}
 
 -- ---- images
@@ -27,7 +27,7 @@ AlikeHaveOneImage = (B B′ : Bench) → Alike B B′ → imageIn B ≡ imageIn 
 
 -- "others never"
 abbrev pub OthersNever : Type 0
-OthersNever = (B B′ : Bench) → soundBench B ≡ true → soundBench B′ ≡ true → Bytes (B .registers) → Bytes (B′ .registers)
+OthersNever = (B B′ : Bench) → soundBench B ≡ true → soundBench B′ ≡ true → ByteString (B .registers) → ByteString (B′ .registers)
     → imageIn B ≡ imageIn B′ → Alike B B′
 
 -- "A run is a maximal stretch of marked register bytes": the runs have each marked byte and no other, none is empty, and after the first
@@ -55,7 +55,7 @@ pub record ReadAnswers (s registers marks : List ℕ) : Type 0 where
 
 -- of every byte string and all buffers
 abbrev pub ReadIsExact : Type 0
-ReadIsExact = (s registers marks : List ℕ) → Bytes s → ReadAnswers s registers marks
+ReadIsExact = (s registers marks : List ℕ) → ByteString s → ReadAnswers s registers marks
 
 -- ---- refusals
 
@@ -77,12 +77,12 @@ pub record MakesItsMachine (s lent : List ℕ) (o : ReadOutcome) : Type 0 where
   pub as-lent : (q : ℕ) → getD (o .marks) q 0 ≡ 0 → getD (o .registers) q 0 ≡ getD lent q 0
 
 abbrev pub ReadMakesItsMachine : Type 0
-ReadMakesItsMachine = (s registers marks : List ℕ) → Bytes s → let o = readImage s registers marks in o .answer ≡ imageReply Done
+ReadMakesItsMachine = (s registers marks : List ℕ) → ByteString s → let o = readImage s registers marks in o .answer ≡ imageReply Done
     → MakesItsMachine s registers o
 
 -- and no word changes a byte of its sealed ranges, whatever memory it is lent
 abbrev pub SealHoldsFromRead : Type 0
-SealHoldsFromRead = (s registers marks memory : List ℕ) → Bytes s → let o = readImage s registers marks in o .answer ≡ imageReply Done
+SealHoldsFromRead = (s registers marks memory : List ℕ) → ByteString s → let o = readImage s registers marks in o .answer ≡ imageReply Done
     → (ws : List Given) (q : ℕ) → sealed (o .seals) q ≡ true
     → getD (afterAll chosen ws (benchOf (o .machine) (o .seals) (o .registers) (o .marks) memory) .memory) q 0 ≡ getD memory q 0
 
@@ -90,7 +90,7 @@ SealHoldsFromRead = (s registers marks memory : List ℕ) → Bytes s → let o 
 
 -- a machine that was written, then read into any buffers of its size, differs from the first at most in unmarked register bytes
 abbrev pub WrittenIsReadBack : Type 0
-WrittenIsReadBack = (B : Bench) (room registers marks : List ℕ) → soundBench B ≡ true → Bytes (B .registers)
+WrittenIsReadBack = (B : Bench) (room registers marks : List ℕ) → soundBench B ≡ true → ByteString (B .registers)
     → length (imageIn B) ≤ length room → Fits (B .machine) registers marks
     → let w = writeImage (B .machine) (B .seals) (B .registers) (B .marks) room in
     let o = readImage (take (w .size) (w .room)) registers marks in
@@ -98,6 +98,6 @@ WrittenIsReadBack = (B : Bench) (room registers marks : List ℕ) → soundBench
 
 -- a machine that was read is written as the bytes that were read
 abbrev pub ReadIsWrittenBack : Type 0
-ReadIsWrittenBack = (s registers marks room : List ℕ) → Bytes s → let o = readImage s registers marks in o .answer ≡ imageReply Done
+ReadIsWrittenBack = (s registers marks room : List ℕ) → ByteString s → let o = readImage s registers marks in o .answer ≡ imageReply Done
     → length s ≤ length room
-    → writeImage (o .machine) (o .seals) (o .registers) (o .marks) room ≡ written Done (length s) (s ++ drop (length s) room)
+    → writeImage (o .machine) (o .seals) (o .registers) (o .marks) room ≡ writeReply Done (length s) (s ++ drop (length s) room)

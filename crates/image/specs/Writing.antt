@@ -14,16 +14,16 @@ pub record SizeOutcome : Type 0 where
   pub answer : ImageReply
   pub size : ℕ
 
-abbrev pub sized : Imaged → ℕ → SizeOutcome
-sized answer size = record { answer = imageReply answer; size = size }
+abbrev pub sizeReply : Imaged → ℕ → SizeOutcome
+sizeReply answer size = record { answer = imageReply answer; size = size }
 
 -- the length of the machine's image; 8 for a state at fault
 unfoldable pub sizeImage : Machine → Seals → (registers marks : List ℕ) → SizeOutcome
-sizeImage m seals registers marks = cond (soundWith m seals registers marks) (sized Done (length (imageOf m seals registers marks))) (sized BadArguments 0)
+sizeImage m seals registers marks = cond (soundWith m seals registers marks) (sizeReply Done (length (imageOf m seals registers marks))) (sizeReply BadArguments 0)
 
 -- what the function `image_size` returned
 abbrev pub sizedAs : Sized → SizeOutcome
-sizedAs r = sized (r .answer) (r .size)
+sizedAs r = sizeReply (r .answer) (r .size)
 
 -- ---- writing
 
@@ -32,8 +32,8 @@ pub record WriteOutcome : Type 0 where
   pub size : ℕ
   pub room : List ℕ
 
-abbrev pub written : Imaged → ℕ → List ℕ → WriteOutcome
-written answer size room = record { answer = imageReply answer; size = size; room = room }
+abbrev pub writeReply : Imaged → ℕ → List ℕ → WriteOutcome
+writeReply answer size room = record { answer = imageReply answer; size = size; room = room }
 
 -- "Writing gives 8 first, then 14, returns the image's length (0 if refused) and leaves the room past the image as it was."
 unfoldable pub writeImage : Machine → Seals → (registers marks room : List ℕ) → WriteOutcome
@@ -41,10 +41,10 @@ writeImage m seals registers marks room =
     let image : List ℕ = imageOf m seals registers marks in
     cond (soundWith m seals registers marks)
     (cond (leb (length image) (length room))
-    (written Done (length image) (image ++ drop (length image) room))
-    (written NoRoom 0 room))
-    (written BadArguments 0 room)
+    (writeReply Done (length image) (image ++ drop (length image) room))
+    (writeReply NoRoom 0 room))
+    (writeReply BadArguments 0 room)
 
 -- what the function `write_image` returned and left
 abbrev pub writtenAs : Written → List ℕ → WriteOutcome
-writtenAs r room = written (r .answer) (r .length) room
+writtenAs r room = writeReply (r .answer) (r .length) room

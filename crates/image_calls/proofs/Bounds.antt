@@ -10,7 +10,7 @@ use lib.Dec.{ltb, leb, eqb}
 use lib.ListN.{length, take, drop, length-append}
 use lib.Pow.{pow-mono}
 use borrow.Author.Tests.{leb-false, lt-leb}
-use Rattle.format.specs.Numbers.{Range, span, Among, encode, encodeAll}
+use Rattle.format.specs.Numbers.{Interval, span, Among, encode, encodeAll}
 use Rattle.format.specs.Formats.{Format}
 use Rattle.format.specs.Formats.Format.{done, number, bytes}
 use Rattle.format.specs.Parser.{isAmong, nonempty, afters, Got, grow, readNumber, Parsed, later, parse}
@@ -28,7 +28,7 @@ use Rattle.machine.proofs.StepLaws.{permitted-bounds}
 use Rattle.image.specs.Cells.{Cell, Run, runs, cellsOf, Fit}
 use Rattle.image.specs.Cells.Run.{run}
 use Rattle.image.specs.Images.{Seals, Header, headerOf, beyond, single, version, bounds, sealFields, fields, runsBytes, imageOf, soundWith}
-use Rattle.image.specs.ImageFormat.{Described, mtypes, counts, rangesFormat, sealsFormat, total, runsFormat, imageFormat}
+use Rattle.image.specs.ImageFormat.{Described, mtypes, counts, rangesFormat, sealsFormat, allRegisterBytes, runsFormat, imageFormat}
 use Rattle.image.proofs.RunLaws.{fit-runs}
 use Rattle.image.proofs.CellLaws.{length-cells}
 use Rattle.image.proofs.ImageLaws.{Room, room-next, room-first, among-span, fit-first, top-rlen, top-mlen, afterRule, Ending}
@@ -144,15 +144,15 @@ image-short m seals registers marks s =
 
 -- ---- the place of a fault
 
-abbrev Below : ℕ → List Range → Type 0
+abbrev Below : ℕ → List Interval → Type 0
 Below k [] = Unit {0}
 Below k (r ∷ rs) = (r .high < k) × Below k rs
 
-below-afters : (g k : ℕ) (rs : List Range) → Below (k * 128) rs → Below k (afters g rs)
+below-afters : (g k : ℕ) (rs : List Interval) → Below (k * 128) rs → Below k (afters g rs)
 below-afters g k [] h = tt
 below-afters g k (r ∷ rs) h = let high = h .0 in (omega arith, below-afters g k rs (h .1))
 
-none-after : (g : ℕ) (rs : List Range) → Below 128 rs → nonempty (afters g rs) ≡ false
+none-after : (g : ℕ) (rs : List Interval) → Below 128 rs → nonempty (afters g rs) ≡ false
 unfolding nonempty
 none-after g [] h = refl
 none-after g (r ∷ rs) h =
@@ -160,15 +160,15 @@ none-after g (r ∷ rs) h =
     rw (lt-leb (max 1 ((r .low + 127 - g) / 128)) ((r .high - g) / 128) (omega arith), none-after g rs (h .1))
 
 -- at most k bytes are read
-abbrev Reach : List Range → ℕ → Got → Type 0
+abbrev Reach : List Interval → ℕ → Got → Type 0
 Reach rs k (value n l) = Among n rs × (l ≤ k)
 Reach rs k (fault p) = p ≤ k
 
-grown : (g k : ℕ) (rs : List Range) (r : Got) → Reach (afters g rs) k r → Reach rs (suc k) (grow g r)
+grown : (g k : ℕ) (rs : List Interval) (r : Got) → Reach (afters g rs) k r → Reach rs (suc k) (grow g r)
 grown g k rs (value n l) h = (grow-in g n rs (h .0), omega (arith, h .1))
 grown g k rs (fault p) h = omega (arith, h)
 
-first-group : (k b : ℕ) (rs : List Range) (rest : Got) → (nonempty (afters (b - 128) rs) ≡ true → Reach (afters (b - 128) rs) k rest)
+first-group : (k b : ℕ) (rs : List Interval) (rest : Got) → (nonempty (afters (b - 128) rs) ≡ true → Reach (afters (b - 128) rs) k rest)
     → Reach rs (suc k) (cond (ltb b 128) (cond (isAmong b rs) (value b 1) (fault 0)) (cond (nonempty (afters (b - 128) rs)) (grow (b - 128) rest) (fault 0)))
 first-group k b rs rest next = go (ltb b 128) (isAmong b rs) refl (nonempty (afters (b - 128) rs)) refl
   where
@@ -179,7 +179,7 @@ first-group k b rs rest next = go (ltb b 128) (isAmong b rs) refl (nonempty (aft
     go false u e true w = grown (b - 128) k rs rest (next w)
     go false u e false w = omega arith
 
-reads-short : (k : ℕ) (rs : List Range) (s : List ℕ) → Below (128 ^ suc k) rs → Reach rs (suc k) (readNumber rs s)
+reads-short : (k : ℕ) (rs : List Interval) (s : List ℕ) → Below (128 ^ suc k) rs → Reach rs (suc k) (readNumber rs s)
 unfolding readNumber
 reads-short k rs [] h = omega arith
 reads-short zero rs (b ∷ s) h = first-group 0 b rs (readNumber (afters (b - 128) rs) s) (λ e. absurd (false≢true (sym (none-after (b - 128) rs h) ∙ e)))
@@ -301,7 +301,7 @@ after-fits v rule elen few = (
                 λ tn htn. seals-fit v (most - 260) _ (λ rs. (
                   omega arith,
                   (omega arith, tt),
-                  λ c hc. let kc = among-span hc in runs-fit _ c 0 (total m) (most - 270) (omega arith) (omega arith) (room-first c (2 ^ m) (kc .1)),
+                  λ c hc. let kc = among-span hc in runs-fit _ c 0 (allRegisterBytes m) (most - 270) (omega arith) (omega arith) (room-first c (2 ^ m) (kc .1)),
                 )),
               ),
             ),

@@ -15,7 +15,7 @@ use Rattle.image.specs.Answers.{ImageReply, imageReply}
 use Rattle.image.specs.Cells.{over, marksOf}
 use Rattle.image.specs.Images.{Seals, machineFrom, imageOf, soundWith}
 use Rattle.image.specs.ImageFormat.{Described, imageFormat}
-use Rattle.image.specs.Writing.{SizeOutcome, sized, sizeImage, WriteOutcome, written, writeImage}
+use Rattle.image.specs.Writing.{SizeOutcome, sizeReply, sizeImage, WriteOutcome, writeReply, writeImage}
 use Rattle.image.specs.Reading.{verdictOf, checkImage, ReadOutcome, restored, cellsIn, fitted, readAs, readImage}
 use Rattle.ranges.specs.Ranges.{sealsIn}
 use Rattle.image_read.specs.Blocks.{BlockOutcome, restoredAs, blockRefused, intoBlock, readBlock}
@@ -49,7 +49,7 @@ module _ (m : Machine) (seals : Seals) (registers marks : List ℕ) where
   size-small = go (soundWith m seals registers marks) refl
     where
       out : Bool → SizeOutcome
-      out t = cond t (sized Done (length (imageOf m seals registers marks))) (sized BadArguments 0)
+      out t = cond t (sizeReply Done (length (imageOf m seals registers marks))) (sizeReply BadArguments 0)
 
       go : (t : Bool) → soundWith m seals registers marks ≡ t → Small (out t .answer) (out t .size)
       go true e = record { number-small = omega arith; size-small = image-short m seals registers marks e; place-small = omega arith }
@@ -63,7 +63,7 @@ module _ (m : Machine) (seals : Seals) (registers marks : List ℕ) where
       image = imageOf m seals registers marks
 
       out : Bool → Bool → WriteOutcome
-      out t u = cond t (cond u (written Done (length image) (image ++ drop (length image) room)) (written NoRoom 0 room)) (written BadArguments 0 room)
+      out t u = cond t (cond u (writeReply Done (length image) (image ++ drop (length image) room)) (writeReply NoRoom 0 room)) (writeReply BadArguments 0 room)
 
       go : (t : Bool) → soundWith m seals registers marks ≡ t → (u : Bool) → Small (out t u .answer) (out t u .size)
       go true e true = record { number-small = omega arith; size-small = image-short m seals registers marks e; place-small = omega arith }
@@ -77,7 +77,7 @@ image-size-packs-whole machine registers marks = go (eqb (length machine) machin
     o : SizeOutcome
     o = sizeImage (machineOf machine) (sealsIn machine) registers marks
 
-    go : (t : Bool) → let q : SizeOutcome = cond t o (sized BadArguments 0) in
+    go : (t : Bool) → let q : SizeOutcome = cond t o (sizeReply BadArguments 0) in
         PacksWhole (cond t (packedReply (o .answer) (o .size)) (packedReply (imageReply BadArguments) 0)) (q .answer) (q .size)
     go true = packs (o .answer) (o .size) (size-small (machineOf machine) (sealsIn machine) registers marks)
     go false = packs (imageReply BadArguments) 0 refused
@@ -92,7 +92,7 @@ image-write-packs-whole machine registers marks image = go (eqb (length machine)
     out : Bool → HostWritten
     out t = cond t (writtenOut (packedReply (o .answer) (o .size)) (o .room)) (writtenOut (packedReply (imageReply BadArguments) 0) image)
 
-    go : (t : Bool) → let q : WriteOutcome = cond t o (written BadArguments 0 image) in PacksWhole (out t .result) (q .answer) (q .size)
+    go : (t : Bool) → let q : WriteOutcome = cond t o (writeReply BadArguments 0 image) in PacksWhole (out t .result) (q .answer) (q .size)
     go true = packs (o .answer) (o .size) (write-small (machineOf machine) (sealsIn machine) registers marks image)
     go false = packs (imageReply BadArguments) 0 refused
 

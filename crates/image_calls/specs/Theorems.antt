@@ -7,7 +7,7 @@ use lib.Dec.{eqb}
 use lib.ListN.{length}
 use Rattle.image.specs.declared.Imaged.the-variants.{BadArguments}
 use Rattle.image.specs.Answers.{ImageReply}
-use Rattle.image.specs.Writing.{SizeOutcome, sized, sizeImage, WriteOutcome, written, writeImage}
+use Rattle.image.specs.Writing.{SizeOutcome, sizeReply, sizeImage, WriteOutcome, writeReply, writeImage}
 use Rattle.ranges.specs.Ranges.{sealsIn}
 use Rattle.image_read.specs.Blocks.{readBlock}
 use Rattle.blocks.specs.Blocks.{machineBytes, machineOf}
@@ -32,13 +32,13 @@ PacksWhole result a size = (result % 2 ^ 16 ≡ a .number) × (result / 2 ^ 16 �
 -- the length of the machine's image
 abbrev pub ImageSizePacksWhole : Type 0
 ImageSizePacksWhole = (machine registers marks : List ℕ)
-    → let o : SizeOutcome = cond (eqb (length machine) machineBytes) (sizeImage (machineOf machine) (sealsIn machine) registers marks) (sized BadArguments 0) in
+    → let o : SizeOutcome = cond (eqb (length machine) machineBytes) (sizeImage (machineOf machine) (sealsIn machine) registers marks) (sizeReply BadArguments 0) in
     PacksWhole (hostImageSize machine registers marks) (o .answer) (o .size)
 
 -- the length of what is written
 abbrev pub ImageWritePacksWhole : Type 0
 ImageWritePacksWhole = (machine registers marks image : List ℕ)
-    → let o : WriteOutcome = cond (eqb (length machine) machineBytes) (writeImage (machineOf machine) (sealsIn machine) registers marks image) (written BadArguments 0 image) in
+    → let o : WriteOutcome = cond (eqb (length machine) machineBytes) (writeImage (machineOf machine) (sealsIn machine) registers marks image) (writeReply BadArguments 0 image) in
     PacksWhole (hostImageWrite machine registers marks image .result) (o .answer) (o .size)
 
 -- the place of answer 15; a read that is done gives no length

@@ -1,7 +1,7 @@
 -- What is built of the runs of an image does not matter to reading them.
 use Rattle.width.proofs.Kit.{_≡_, refl, ap, _∙_, Bool, true, false, List, [], _∷_, ℕ, zero, suc, _+_, _-_, _*_, _≤_, _<_, leb, length}
 use Rattle.width.proofs.Kit.{take, drop}
-use Rattle.format.specs.Numbers.{Range, span}
+use Rattle.format.specs.Numbers.{Interval, span}
 use Rattle.format.specs.Formats.{Format}
 use Rattle.format.specs.Formats.Format.{number, bytes}
 use Rattle.format.specs.Parser.{Got, readNumber, Parsed, later, parse, from}
@@ -24,7 +24,7 @@ mapped-later h k (stopped p) = refl
 abbrev Maps : (Described → Described) → Format Described → Format Described → Type 0
 Maps h f g = (s : List ℕ) → parse g s ≡ mapped h (parse f s)
 
-number-maps : (h : Described → Described) (rs : List Range) (k j : ℕ → Format Described) → ((n : ℕ) → Maps h (k n) (j n)) → Maps h (number rs k) (number rs j)
+number-maps : (h : Described → Described) (rs : List Interval) (k j : ℕ → Format Described) → ((n : ℕ) → Maps h (k n) (j n)) → Maps h (number rs k) (number rs j)
 unfolding parse
 number-maps h rs k j e s = go (readNumber rs s)
   where

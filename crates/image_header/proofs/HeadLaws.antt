@@ -15,7 +15,7 @@ use Rattle.reader.specs.At.Number.{Value, Fault}
 use Rattle.reader.proofs.FromLaws.{from-number, from-fault, from-start, took}
 use Rattle.machine.specs.Geometry.{range}
 use Rattle.image.specs.Images.{Seals, Header, machineFrom}
-use Rattle.image.specs.ImageFormat.{Described, leastMlen, mtypes, tilesFormat, rangesFormat, counts, sealsFormat, runsFormat, total, headFormat, imageFormat}
+use Rattle.image.specs.ImageFormat.{Described, leastMlen, mtypes, tilesFormat, rangesFormat, counts, sealsFormat, runsFormat, allRegisterBytes, headFormat, imageFormat}
 use Rattle.image_header.specs.declared.RangeRead.{RangeRead}
 use Rattle.image_header.specs.Fields.{Pair, plainRange, Place, onward, mtypeAt, countAt, pairAt, rangeAt, past, rangesEnd, rangesFound, numbersOf, describe, runsFrom}
 use Rattle.image_header.specs.Fields.Pair.{Both, PairBad}
@@ -253,7 +253,7 @@ tilesPart K version rule elen r m = tilesFormat elen (2 ^ (m - r)) (2 ^ (r - 3))
 
 -- the runs behind a machine's numbers
 abbrev pub bodyPart : Header → ℕ → Format Described
-bodyPart h count = runsFormat (describe h) count 0 (total (h .mlen))
+bodyPart h count = runsFormat (describe h) count 0 (allRegisterBytes (h .mlen))
 
 module _ (s : List ℕ) where
   pub parts : parse imageFormat s ≡ from (headFormat bodyPart) s 0
@@ -273,4 +273,4 @@ module _ (s : List ℕ) (m : Machine) (n f c a : ℕ) (h : HeadedOk s m n f c a)
 
   -- the runs as the format has them behind these numbers
   pub head-parse : parse imageFormat s ≡ mapped (λ d. describe (h .header) (d .body)) (runsFrom s a c 0 (2 * m .mlen))
-  head-parse = parts s ∙ h .goes-on bodyPart ∙ runs-with (h .header) c 0 (total (h .header .mlen)) s a ∙ ap (λ (x : ℕ). mapped (λ d. describe (h .header) (d .body)) (runsFrom s a c 0 (2 * x))) (sym mlen-is)
+  head-parse = parts s ∙ h .goes-on bodyPart ∙ runs-with (h .header) c 0 (allRegisterBytes (h .header .mlen)) s a ∙ ap (λ (x : ℕ). mapped (λ d. describe (h .header) (d .body)) (runsFrom s a c 0 (2 * x))) (sym mlen-is)

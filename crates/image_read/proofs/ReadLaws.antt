@@ -1,7 +1,7 @@
 -- What a return of the entry points has to show.
 use Rattle.width.proofs.Kit.{_≡_, refl, sym, ap, ap₂, _∙_, subst, true, false, true≢false, List, [], _∷_, _++_, append-nil, ℕ, suc, _+_, _*_, _<_, arith}
 use Rattle.width.proofs.Kit.{length, getD, replicate, length-replicate, drop-of-length-le, sets, sets-eq}
-use Rattle.format.specs.Numbers.{Bytes}
+use Rattle.format.specs.Numbers.{ByteString}
 use Rattle.format.specs.Formats.{Accepts}
 use Rattle.format.specs.Parser.{Parsed, parse}
 use Rattle.format.specs.Parser.Parsed.{whole, stopped}
@@ -12,7 +12,7 @@ use Rattle.image.specs.declared.Imaged.{Imaged}
 use Rattle.image.specs.declared.Imaged.the-variants.{Done, BadArguments}
 use Rattle.image.specs.Cells.{Run, spread, Fit, over, marksOf}
 use Rattle.image.specs.Images.{Seals}
-use Rattle.image.specs.ImageFormat.{Described, total, imageFormat}
+use Rattle.image.specs.ImageFormat.{Described, allRegisterBytes, imageFormat}
 use Rattle.image.specs.Reading.{verdictOf, checkImage, restored, readAs, readImage}
 use Rattle.image.proofs.ImageLaws.{image-live, image-out}
 use Rattle.image.proofs.Images.{fits-true, read-done, read-unfit}
@@ -25,7 +25,7 @@ use Rattle.image_read.specs.declared.Found.{Found}
 use Rattle.image_read.specs.Parts.{bodyOf, bodyAt, ones, Ends, Stand, foundAs}
 use Rattle.image_read.proofs.FillLaws.{marks-ones}
 
-pub bytes-all : (s : List ℕ) → ((q : ℕ) → getD s q 0 < 256) → Bytes s
+pub bytes-all : (s : List ℕ) → ((q : ℕ) → getD s q 0 < 256) → ByteString s
 bytes-all [] h = tt
 bytes-all (b ∷ s) h = (h 0, bytes-all s (λ q. h (suc q)))
 
@@ -86,7 +86,7 @@ module _ (s : List ℕ) (m : Machine) (n i c a : ℕ) (h : HeadedOk s m n i c a)
         go (whole d) e = rw e
         go (stopped p) e = absurd (true≢false (sym f ∙ ap imageDone (is ∙ ap verdictOf e)))
 
-    size-is : 2 * m .mlen ≡ total (h .header .mlen)
+    size-is : 2 * m .mlen ≡ allRegisterBytes (h .header .mlen)
     size-is = ap (λ (x : Machine). 2 * x .mlen) (h .machine-is)
 
     pub read-unfit-is : (registers marks : List ℕ) → ¬ ((length registers ≡ 2 * m .mlen) × (length marks ≡ 2 * m .mlen)) → restored BadArguments noMachine [] registers marks ≡ readImage s registers marks
@@ -95,20 +95,20 @@ module _ (s : List ℕ) (m : Machine) (n i c a : ℕ) (h : HeadedOk s m n i c a)
         sym (ap (λ (q : Parsed Described). readAs q registers marks) parsed
         ∙ read-unfit (describe (h .header) body) registers marks (λ g. other (g .0 ∙ sym size-is, g .1 ∙ sym size-is)))
 
-    fits-body : Bytes s → Fit 0 (total (h .header .mlen)) body
+    fits-body : ByteString s → Fit 0 (allRegisterBytes (h .header .mlen)) body
     fits-body b =
         let a′ : Accepts imageFormat s (describe (h .header) body) = subst (ParseRight imageFormat s) parsed (parse-right imageFormat s image-live b) in
         image-out s (describe (h .header) body) a′ .fits
 
     -- the buffers as they are left
-    pub read-done-is : Bytes s → (registers marks cleared registers′ marks′ : List ℕ) (k : ℕ) → length registers ≡ 2 * m .mlen → length marks ≡ 2 * m .mlen → k ≡ length marks
+    pub read-done-is : ByteString s → (registers marks cleared registers′ marks′ : List ℕ) (k : ℕ) → length registers ≡ 2 * m .mlen → length marks ≡ 2 * m .mlen → k ≡ length marks
         → cleared ≡ sets marks 0 (replicate k 0)
         → registers′ ≡ over (spread (length registers) (bodyAt s a c 0 (length registers))) registers
         → marks′ ≡ over (spread (length registers) (ones (bodyAt s a c 0 (length registers)))) cleared
         → restored Done m (rangesFound s n i) registers′ marks′ ≡ readImage s registers marks
     unfolding readImage
     read-done-is b registers marks cleared registers′ marks′ k lr lm en ec er em =
-        let N : ℕ = total (h .header .mlen) in
+        let N : ℕ = allRegisterBytes (h .header .mlen) in
         let d : Described = describe (h .header) body in
         let ln : length registers ≡ N = lr ∙ size-is in
         let zeros : cleared ≡ replicate N 0 = ec ∙ sets-all marks k 0 en ∙ ap (λ (x : ℕ). replicate x 0) (en ∙ lm ∙ size-is) in

@@ -9,7 +9,7 @@ use Rattle.machine.proofs.NoFault.{sound-is}
 use Rattle.image.specs.declared.Imaged.the-variants.{Done, BadArguments, NoRoom}
 use Rattle.image.specs.Cells.{cellsOf, runs}
 use Rattle.image.specs.Images.{Seals, version, fields, headerOf, runsBytes, imageOf, soundWith}
-use Rattle.image.specs.Writing.{sized, sizeImage, written, writeImage}
+use Rattle.image.specs.Writing.{sizeReply, sizeImage, writeReply, writeImage}
 use Rattle.image_write.specs.Parts.{TwoValued, TallyOk}
 use Rattle.image_write.proofs.PutLaws.{sets-append, sets-front, all-append, all-last}
 
@@ -72,27 +72,27 @@ module _ (m : Machine) (seals : Seals) (registers marks : List ℕ) where
 
   -- ---- what is returned
 
-  pub size-refused : soundWith m seals registers marks ≡ false → sized BadArguments 0 ≡ sizeImage m seals registers marks
+  pub size-refused : soundWith m seals registers marks ≡ false → sizeReply BadArguments 0 ≡ sizeImage m seals registers marks
   unfolding sizeImage
   size-refused e = rw e
 
-  pub size-done : soundWith m seals registers marks ≡ true → (n : ℕ) → n ≡ length (imageOf m seals registers marks) → sized Done n ≡ sizeImage m seals registers marks
+  pub size-done : soundWith m seals registers marks ≡ true → (n : ℕ) → n ≡ length (imageOf m seals registers marks) → sizeReply Done n ≡ sizeImage m seals registers marks
   unfolding sizeImage
-  size-done e n q = rw e (ap (sized Done) q)
+  size-done e n q = rw e (ap (sizeReply Done) q)
 
   module _ (room : List ℕ) where
-    pub write-refused : soundWith m seals registers marks ≡ false → written BadArguments 0 room ≡ writeImage m seals registers marks room
+    pub write-refused : soundWith m seals registers marks ≡ false → writeReply BadArguments 0 room ≡ writeImage m seals registers marks room
     unfolding writeImage
     write-refused e = rw e
 
-    pub write-short : soundWith m seals registers marks ≡ true → (n : ℕ) → n ≡ length (imageOf m seals registers marks) → length room < n → written NoRoom 0 room ≡ writeImage m seals registers marks room
+    pub write-short : soundWith m seals registers marks ≡ true → (n : ℕ) → n ≡ length (imageOf m seals registers marks) → length room < n → writeReply NoRoom 0 room ≡ writeImage m seals registers marks room
     unfolding writeImage
     write-short e n q h = rw (e, lt-leb (length (imageOf m seals registers marks)) (length room) (omega (arith, q)))
 
     pub write-done : soundWith m seals registers marks ≡ true → (n : ℕ) → n ≡ length (imageOf m seals registers marks) → n ≤ length room → (room₁ : List ℕ) → room₁ ≡ sets room 0 (imageOf m seals registers marks)
-        → written Done n room₁ ≡ writeImage m seals registers marks room
+        → writeReply Done n room₁ ≡ writeImage m seals registers marks room
     unfolding writeImage
     write-done e n q h room₁ r =
         let fits : length (imageOf m seals registers marks) ≤ length room = omega (arith, q) in
         rw (e, le-leb (length (imageOf m seals registers marks)) (length room) fits)
-        (ap (λ (x : ℕ). written Done x room₁) q ∙ ap (written Done (length (imageOf m seals registers marks))) (r ∙ sets-front (imageOf m seals registers marks) room fits))
+        (ap (λ (x : ℕ). writeReply Done x room₁) q ∙ ap (writeReply Done (length (imageOf m seals registers marks))) (r ∙ sets-front (imageOf m seals registers marks) room fits))

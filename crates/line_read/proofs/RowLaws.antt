@@ -16,7 +16,7 @@ use Rattle.format.specs.Parser.{Got, Parsed, later}
 use Rattle.format.specs.Parser.Got.{value, fault}
 use Rattle.format.specs.Parser.Parsed.{whole, stopped}
 use Rattle.assembly.specs.Bytes.{bytes}
-use Rattle.assembly.specs.Lines.{below, wide, small, letter, count, shown, isMark, operandOf, pieceOf, pieces, wordWith}
+use Rattle.assembly.specs.Lines.{below, wide, small, letter, operandCount, shown, isMark, operandOf, pieceOf, pieces, wordWith}
 use Rattle.assembly.specs.Reading.{readDecimal, negative, readOperand, withFirst, readPieces, asWord, either, readIn, readLine}
 use Rattle.assembly.proofs.DecimalLaws.{ReadTo, read-right}
 use Rattle.assembly.proofs.OperandLaws.{Some, Found, operand-right}
@@ -76,10 +76,10 @@ decimal-bound least most at s n next a b e = go (readDecimal least most s) (read
 
 -- ---- operands
 
-some-operand : (c : ℕ) → Some (operandOf c) × (count (operandOf c) ≤ 8192)
+some-operand : (c : ℕ) → Some (operandOf c) × (operandCount (operandOf c) ≤ 8192)
 some-operand c = go (eqb c 88) (eqb c 84) (eqb c 65) (eqb c 73)
   where
-    go : (a b d e : Bool) → Some (cond a (below 32) (cond b (below 8) (cond d (below 2) (cond e wide small)))) × (count (cond a (below 32) (cond b (below 8) (cond d (below 2) (cond e wide small)))) ≤ 8192)
+    go : (a b d e : Bool) → Some (cond a (below 32) (cond b (below 8) (cond d (below 2) (cond e wide small)))) × (operandCount (cond a (below 32) (cond b (below 8) (cond d (below 2) (cond e wide small)))) ≤ 8192)
     go true b d e = (omega arith, omega arith)
     go false true d e = (omega arith, omega arith)
     go false false true e = (omega arith, omega arith)

@@ -15,7 +15,7 @@ use Rattle.machine.specs.Listing.{bits, field7, field15, field20, immediate13, 
 use Rattle.machine.proofs.TestLaws.{and-left, and-right, false-true}
 use Rattle.lines.specs.Lines.{decimal}
 use Rattle.assembly.specs.Bytes.{bytes}
-use Rattle.assembly.specs.Lines.{Operand, Piece, below, wide, small, letter, operand, shown, isMark, operandOf, pieceOf, pieces, operandsIn, fill, fieldAt, fieldsFrom, fieldsOf, inside, lineBy, lineIn, line}
+use Rattle.assembly.specs.Lines.{Operand, Piece, below, wide, small, letter, operand, shown, isMark, operandOf, pieceOf, pieces, operandsIn, fill, fieldAt, fieldsFrom, fieldsOf, inOperands, lineBy, lineIn, line}
 use Rattle.assembly.specs.Theorems.{hasLine}
 use Rattle.assembly.proofs.LineLaws.{some-same, none-some}
 use Rattle.decode_table.specs.Table.{numberIn, entryOf, restRight}
@@ -127,7 +127,7 @@ entry-number w h = go (restRight (entryOf w) w) (number-is w)
     go false e = absurd (omega (arith, h, e))
 
 filled : (ps : List Piece) (w : ℕ) (s : List ℕ) → lineBy ps w ≡ some s → fill ps (fieldsOf ps w) ≡ s
-filled ps w s h = go (inside (operandsIn ps) (fieldsOf ps w)) h
+filled ps w s h = go (inOperands (operandsIn ps) (fieldsOf ps w)) h
   where
     go : (b : Bool) → cond b (some (fill ps (fieldsOf ps w))) none ≡ some s → fill ps (fieldsOf ps w) ≡ s
     go true e = some-same e

@@ -5,7 +5,7 @@ use Rattle.width.proofs.Kit.{getD, set, length-append, length-take, length-set,
 use Rattle.width.proofs.Kit.{getD-drop, leb-true, leb-false, lt-ltb, le-ltb, le-leb, lt-leb}
 use Rattle.width.specs.Reduce.{signed}
 use Rattle.width.proofs.BlockLaws.{le-or-lt}
-use Rattle.lines.specs.Lines.{digitsOf, decimal, written, others, spaced, lines, firstLine, stepsWord}
+use Rattle.lines.specs.Lines.{digitsOf, decimal, numberText, furtherNumbers, spaced, lines, firstLine, stepsWord}
 use Rattle.lines.specs.Parts.{Wrote, signedAll, rowsOf}
 use Rattle.lines.proofs.ListLaws.{take-map, drop-map}
 
@@ -101,15 +101,15 @@ module _ {e : List ℕ} {at : ℕ} {whole : List ℕ} where
 -- ---- rows
 
 abbrev pub tailText : ℕ → List ℕ → ℕ → List ℕ
-tailText q row j = others (signedAll q (drop j row))
+tailText q row j = furtherNumbers (signedAll q (drop j row))
 
-pub tail-more : (q : ℕ) (row : List ℕ) (j : ℕ) → j < length row → tailText q row j ≡ (32 ∷ []) ++ (written (signed q (getD row j 0)) ++ tailText q row (j + 1))
+pub tail-more : (q : ℕ) (row : List ℕ) (j : ℕ) → j < length row → tailText q row j ≡ (32 ∷ []) ++ (numberText (signed q (getD row j 0)) ++ tailText q row (j + 1))
 tail-more q row j h = rw (add-one, drop-cons row j 0 h)
 
 pub tail-end : (q : ℕ) (row : List ℕ) (j : ℕ) → length row ≤ j → tailText q row j ≡ []
 tail-end q row j h = rw (drop-of-length-le row h)
 
-pub row-first : (q : ℕ) (row : List ℕ) → 0 < length row → spaced (signedAll q row) ≡ written (signed q (getD row 0 0)) ++ tailText q row 1
+pub row-first : (q : ℕ) (row : List ℕ) → 0 < length row → spaced (signedAll q row) ≡ numberText (signed q (getD row 0 0)) ++ tailText q row 1
 row-first q [] h = absurd (omega arith)
 row-first q (x ∷ row) h = refl
 
@@ -119,10 +119,10 @@ row-none q (x ∷ row) h = absurd (omega arith)
 
 -- ---- signed numbers
 
-pub minus-text : (q x : ℕ) → leb q (x + x) ≡ true → written (signed q x) ≡ 45 ∷ decimal (suc (q - suc x))
+pub minus-text : (q x : ℕ) → leb q (x + x) ≡ true → numberText (signed q x) ≡ 45 ∷ decimal (suc (q - suc x))
 minus-text q x e = rw (le-ltb (x + x) q (leb-true q (x + x) e))
 
-pub plus-text : (q x : ℕ) → leb q (x + x) ≡ false → written (signed q x) ≡ decimal x
+pub plus-text : (q x : ℕ) → leb q (x + x) ≡ false → numberText (signed q x) ≡ decimal x
 plus-text q x e = rw (lt-ltb (x + x) q (leb-false q (x + x) e))
 
 pub minus-test : (q x : ℕ) → x < q → leb (q - x) x ≡ leb q (x + x)
@@ -157,25 +157,25 @@ decimal-room (suc k) n h = go (decimal-room k (n / 10)) (le-or-lt 10 n)
     go ih (inl l) = let d : n / 10 < 10 ^ suc k = omega (arith, h, pow-succ' 10 (suc k)) in omega (arith, ih d, length-more n l)
     go ih (inr l) = omega (arith, length-one n l)
 
-written-room : (q x : ℕ) → q < 0x1_0000_0000_0000_0000 → x < 0x1_0000_0000_0000_0000 → length (written (signed q x)) ≤ 21
+written-room : (q x : ℕ) → q < 0x1_0000_0000_0000_0000 → x < 0x1_0000_0000_0000_0000 → length (numberText (signed q x)) ≤ 21
 written-room q x hq hx = go (le-or-lt q (x + x))
   where
-    go : (q ≤ x + x) ⊎ (x + x < q) → length (written (signed q x)) ≤ 21
+    go : (q ≤ x + x) ⊎ (x + x < q) → length (numberText (signed q x)) ≤ 21
     go (inl l) = let r = decimal-room 19 (suc (q - suc x)) (omega arith) in omega (arith, ap length (minus-text q x (le-leb q (x + x) l)))
     go (inr l) = let r = decimal-room 19 x (omega arith) in omega (arith, ap length (plus-text q x (lt-leb q (x + x) l)))
 
 abbrev pub Small : List ℕ → Type 0
 Small c = (j : ℕ) → getD c j 0 < 0x1_0000_0000_0000_0000
 
-others-room : (q : ℕ) (c : List ℕ) → q < 0x1_0000_0000_0000_0000 → Small c → length (others (signedAll q c)) ≤ 22 * length c
+others-room : (q : ℕ) (c : List ℕ) → q < 0x1_0000_0000_0000_0000 → Small c → length (furtherNumbers (signedAll q c)) ≤ 22 * length c
 others-room q [] hq h = omega arith
 others-room q (x ∷ c) hq h =
-    omega (arith, written-room q x hq (h 0), others-room q c hq (λ j. h (suc j)), length-append (written (signed q x)) (others (signedAll q c)))
+    omega (arith, written-room q x hq (h 0), others-room q c hq (λ j. h (suc j)), length-append (numberText (signed q x)) (furtherNumbers (signedAll q c)))
 
 spaced-room : (q : ℕ) (c : List ℕ) → q < 0x1_0000_0000_0000_0000 → Small c → length (spaced (signedAll q c)) ≤ 22 * length c
 spaced-room q [] hq h = omega arith
 spaced-room q (x ∷ c) hq h =
-    omega (arith, written-room q x hq (h 0), others-room q c hq (λ j. h (suc j)), length-append (written (signed q x)) (others (signedAll q c)))
+    omega (arith, written-room q x hq (h 0), others-room q c hq (λ j. h (suc j)), length-append (numberText (signed q x)) (furtherNumbers (signedAll q c)))
 
 small-take : (n : ℕ) (c : List ℕ) → Small c → Small (take n c)
 small-take zero c h j = omega arith

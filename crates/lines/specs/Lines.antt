@@ -14,21 +14,21 @@ unfoldable pub decimal : ℕ → List ℕ
 decimal n = digitsOf n n
 
 -- "signed": with a minus before it where it is below 0
-abbrev pub written : ℤ → List ℕ
-written (pos n) = decimal n
-written (negsuc n) = 45 ∷ decimal (suc n)
+abbrev pub numberText : ℤ → List ℕ
+numberText (pos n) = decimal n
+numberText (negsuc n) = 45 ∷ decimal (suc n)
 
 -- ---- "then a line for each row of C, signed, one space between (an empty line where n is 0)"
 
 -- numbers, each with a space before it
-abbrev pub others : List ℤ → List ℕ
-others [] = []
-others (z ∷ zs) = 32 ∷ (written z ++ others zs)
+abbrev pub furtherNumbers : List ℤ → List ℕ
+furtherNumbers [] = []
+furtherNumbers (z ∷ zs) = 32 ∷ (numberText z ++ furtherNumbers zs)
 
 -- numbers with one space between
 abbrev pub spaced : List ℤ → List ℕ
 spaced [] = []
-spaced (z ∷ zs) = written z ++ others zs
+spaced (z ∷ zs) = numberText z ++ furtherNumbers zs
 
 abbrev pub lines : List (List ℤ) → List ℕ
 lines [] = []

@@ -5,7 +5,7 @@ ghost use Prim.Native.Nat.{suc, _+_, _-_, _*_, _≤_, _<_};
 ghost use lib.Dec.{leb};
 ghost use lib.ListN.{length};
 ghost use Rattle.width.specs.Reduce.{signed};
-ghost use Rattle.lines.specs.Lines.{decimal, written, spaced, lines, firstLine, accepted, refused};
+ghost use Rattle.lines.specs.Lines.{decimal, numberText, spaced, lines, firstLine, accepted, refused};
 ghost use Rattle.lines.specs.Parts.{Wrote, signedAll, rowsOf};
 
 // A byte.
@@ -51,8 +51,8 @@ fn magnitude(q: u64, x: u64) -> u64
 
 // The signed number that x stands for at the modulus q.
 fn put_signed(out: &mut [u8], at: usize, q: u64, x: u64) -> usize
-    requires { ⌜ at + length (written (signed q x)) ≤ length (now out) ⌝ }
-    ensures { λ r. ⌜ Wrote (now (out .entry)) at (now (out .exit)) r (written (signed q x)) ⌝ }
+    requires { ⌜ at + length (numberText (signed q x)) ≤ length (now out) ⌝ }
+    ensures { λ r. ⌜ Wrote (now (out .entry)) at (now (out .exit)) r (numberText (signed q x)) ⌝ }
 {
     if is_minus(q, x) {
         let next = put_byte(out, at, 45);

@@ -41,7 +41,7 @@ use Rattle.image.specs.Answers.{imageReply}
 use Rattle.image.specs.Cells.{Cell, over, marksOf}
 use Rattle.image.specs.Images.{machineFrom, imageOf, soundWith}
 use Rattle.image.specs.ImageFormat.{Described, imageFormat}
-use Rattle.image.specs.Writing.{SizeOutcome, sized, sizeImage, WriteOutcome, written, writeImage}
+use Rattle.image.specs.Writing.{SizeOutcome, sizeReply, sizeImage, WriteOutcome, writeReply, writeImage}
 use Rattle.image.specs.Reading.{verdictOf, checkImage, restored, cellsIn, fitted, readAs, readImage}
 use Rattle.image.proofs.Images.{alike-one-image}
 use Rattle.image_read.specs.Blocks.{restoredAs, blockRefused, intoBlock, readBlock}
@@ -319,7 +319,7 @@ module _ (b : Buffers) (ys : List ℕ) (a : Agree (b .marks) (b .registers) ys) 
   unfolding hostImageSize sizeImage
   image-size-same =
       ap₂ (λ (t : Bool) (s : List ℕ).
-      let o : SizeOutcome = cond t (sized Image.Done (length s)) (sized Image.BadArguments 0) in
+      let o : SizeOutcome = cond t (sizeReply Image.Done (length s)) (sizeReply Image.BadArguments 0) in
       cond (eqb (length (b .machine)) machineBytes) (packedReply (o .answer) (o .size)) (packedReply (imageReply Image.BadArguments) 0))
       sound-alike one-image
 
@@ -327,7 +327,7 @@ module _ (b : Buffers) (ys : List ℕ) (a : Agree (b .marks) (b .registers) ys) 
   unfolding hostImageWrite writeImage
   image-write-same image =
       ap₂ (λ (t : Bool) (s : List ℕ).
-      let o : WriteOutcome = cond t (cond (leb (length s) (length image)) (written Image.Done (length s) (s ++ drop (length s) image)) (written Image.NoRoom 0 image)) (written Image.BadArguments 0 image) in
+      let o : WriteOutcome = cond t (cond (leb (length s) (length image)) (writeReply Image.Done (length s) (s ++ drop (length s) image)) (writeReply Image.NoRoom 0 image)) (writeReply Image.BadArguments 0 image) in
       cond (eqb (length (b .machine)) machineBytes) (writtenOut (packedReply (o .answer) (o .size)) (o .room)) (writtenOut (packedReply (imageReply Image.BadArguments) 0) image))
       sound-alike one-image
 

@@ -9,7 +9,7 @@ use lib.ListN.{length, take, drop, length-drop, drop-of-length-le}
 use lib.Seq.{drop-drop, drop-cons}
 use lib.Dec.{ltb}
 use borrow.Author.Tests.{le-leb, lt-leb}
-use Rattle.format.specs.Numbers.{Range, span, Among}
+use Rattle.format.specs.Numbers.{Interval, span, Among}
 use Rattle.format.specs.Formats.{Format}
 use Rattle.format.specs.Formats.Format.{done, number, bytes}
 use Rattle.format.specs.Parser.{isAmong, nonempty, afters, Got, grow, readNumber, Parsed, parse, later, from}
@@ -32,20 +32,20 @@ bad-is r (Fault p) e g = cc
 
 -- ---- what a number that was read is known to be
 
-abbrev Fine : List Range → List ℕ → Got → Type 0
+abbrev Fine : List Interval → List ℕ → Got → Type 0
 Fine rs s (value n k) = Among n rs × (k ≤ length s)
 Fine rs s (fault p) = p ≤ length s
 
-pub grow-in : (g n : ℕ) (rs : List Range) → Among n (afters g rs) → Among (g + 128 * n) rs
+pub grow-in : (g n : ℕ) (rs : List Interval) → Among n (afters g rs) → Among (g + 128 * n) rs
 grow-in g n [] h = absurd h
 grow-in g n (r ∷ rs) (inl h) = inl (omega arith)
 grow-in g n (r ∷ rs) (inr h) = inr (grow-in g n rs h)
 
-fine-grow : (rs : List Range) (b g : ℕ) (s : List ℕ) (r : Got) → Fine (afters g rs) s r → Fine rs (b ∷ s) (grow g r)
+fine-grow : (rs : List Interval) (b g : ℕ) (s : List ℕ) (r : Got) → Fine (afters g rs) s r → Fine rs (b ∷ s) (grow g r)
 fine-grow rs b g s (value n k) h = (grow-in g n rs (h .0), omega (arith, h .1))
 fine-grow rs b g s (fault p) h = omega arith
 
-fine : (rs : List Range) (s : List ℕ) → Fine rs s (readNumber rs s)
+fine : (rs : List Interval) (s : List ℕ) → Fine rs s (readNumber rs s)
 unfolding readNumber
 fine rs [] = omega arith
 fine rs (b ∷ s) = go (ltb b 128) (isAmong b rs) refl (nonempty (afters (b - 128) rs)) (fine (afters (b - 128) rs) s)
@@ -71,7 +71,7 @@ pub record Took (s : List ℕ) (at low high n a : ℕ) : Type 0 where
   pub most : n ≤ high
   pub behind : at ≤ length s → a ≤ length s
 
-pub took-in : (rs : List Range) (s : List ℕ) (at n a : ℕ) → found at (readNumber rs (drop at s)) ≡ Value n a → Among n rs × (at ≤ length s → a ≤ length s)
+pub took-in : (rs : List Interval) (s : List ℕ) (at n a : ℕ) → found at (readNumber rs (drop at s)) ≡ Value n a → Among n rs × (at ≤ length s → a ≤ length s)
 took-in rs s at n a e =
     let w = found-value at (readNumber rs (drop at s)) n a e in
     let f : Fine rs (drop at s) (value n (w .0)) = subst (Fine rs (drop at s)) (w .1) (fine rs (drop at s)) in
@@ -96,13 +96,13 @@ module _ {X : Type 0} where
   later-later a b (stopped p) = ap stopped (omega arith)
 
   -- for any permitted numbers
-  pub from-value : (rs : List Range) (s : List ℕ) (at n a : ℕ) (k : ℕ → Format X) → found at (readNumber rs (drop at s)) ≡ Value n a → from (number rs k) s at ≡ from (k n) s a
+  pub from-value : (rs : List Interval) (s : List ℕ) (at n a : ℕ) (k : ℕ → Format X) → found at (readNumber rs (drop at s)) ≡ Value n a → from (number rs k) s at ≡ from (k n) s a
   unfolding from parse
   from-value rs s at n a k e =
       let w = found-value at (readNumber rs (drop at s)) n a e in
       rw (w .1, parse) (later-later at (w .0) (parse (k n) (drop (w .0) (drop at s))) ∙ ap₂ (λ (x : ℕ) (l : List ℕ). later x (parse (k n) l)) (sym (w .2)) (drop-drop (w .0) at s ∙ ap (λ (x : ℕ). drop x s) (sym (w .2))))
 
-  pub from-stuck : (rs : List Range) (s : List ℕ) (at p : ℕ) (k : ℕ → Format X) → found at (readNumber rs (drop at s)) ≡ Fault p → from (number rs k) s at ≡ stopped p
+  pub from-stuck : (rs : List Interval) (s : List ℕ) (at p : ℕ) (k : ℕ → Format X) → found at (readNumber rs (drop at s)) ≡ Fault p → from (number rs k) s at ≡ stopped p
   unfolding from parse
   from-stuck rs s at p k e =
       let w = found-fault at (readNumber rs (drop at s)) p e in

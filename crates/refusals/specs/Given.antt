@@ -100,7 +100,7 @@ SizeTooLarge M st op = ((d : Dimension) × List·Memᴰ d (uses op) × (maximum 
 -- ---- 5: "a register element to be read has a byte without a mark"
 
 -- elements of a register: where each row starts, how many rows and columns, the bytes of an element, and the row and column of the first in its register
-pub record Elements : Type 0 where
+pub record Source : Type 0 where
   pub at : ℕ → ℕ
   pub rows : ℕ
   pub columns : ℕ
@@ -108,7 +108,7 @@ pub record Elements : Type 0 where
   pub top : ℕ
   pub left : ℕ
 
-abbrev pub tile : (ℕ → ℕ) → (rows columns width : ℕ) → Elements
+abbrev pub tile : (ℕ → ℕ) → (rows columns width : ℕ) → Source
 tile at rows columns width = record { at = at; rows = rows; columns = columns; width = width; top = 0; left = 0 }
 
 -- a slice of an accumulator (02, Eleven): rows from `first` on, or columns
@@ -120,12 +120,12 @@ abbrev pub sliceLeft : Form → ℕ → ℕ
 sliceLeft Plain first = 0
 sliceLeft Transposed first = first
 
-abbrev pub slice : Form → (first : ℕ) → (ℕ → ℕ) → (rows columns width : ℕ) → Elements
+abbrev pub slice : Form → (first : ℕ) → (ℕ → ℕ) → (rows columns width : ℕ) → Source
 slice f first at rows columns width =
     record { at = at; rows = rows; columns = columns; width = width; top = sliceTop f first; left = sliceLeft f first }
 
 -- "A multiply reads its three tiles whole, but nothing where C has no element."
-abbrev pub factors : Parameters → State → (wide d a b : ℕ) → List Elements
+abbrev pub factors : Parameters → State → (wide d a b : ℕ) → List Source
 factors M st wide d a b =
     cond (eqb (st .tileM * st .tileN) 0) []
     (tile (tileAt M a) (st .tileM) (st .tileK) (sew (st .mtype))
@@ -133,7 +133,7 @@ factors M st wide d a b =
     ∷ tile (accAt M d) (st .tileM) (st .tileN) wide ∷ [])
 
 -- what an operation reads, "sources go ms1, ms2, md"; "If that multiplier is 0, ms1 isn't read"
-abbrev pub reads : Parameters → State → Operation → List Elements
+abbrev pub reads : Parameters → State → Operation → List Source
 reads M st (illegal wrong) = []
 reads M st (setType v) = []
 reads M st (setSize d a) = []
@@ -151,18 +151,18 @@ reads M st (moveIn f d v first count file) = []
 
 module _ (marks : List ℕ) where
   -- each byte of element (i, j) has its mark
-  abbrev pub Written : Elements → (i j : ℕ) → Type 0
+  abbrev pub Written : Source → (i j : ℕ) → Type 0
   Written E i j = (b : ℕ) → b < E .width → getD marks (E .at i + j * E .width + b) 0 ≡ 1
 
   -- or one has none
-  abbrev pub Unmarked : Elements → (i j : ℕ) → Type 0
+  abbrev pub Unmarked : Source → (i j : ℕ) → Type 0
   Unmarked E i j = (b : ℕ) × (b < E .width) × ¬ (getD marks (E .at i + j * E .width + b) 0 ≡ 1)
 
-  abbrev pub AllWritten : Elements → Type 0
+  abbrev pub AllWritten : Source → Type 0
   AllWritten E = (i j : ℕ) → i < E .rows → j < E .columns → Written E i j
 
   -- "the first such element, row by row": (i, j), which is one, behind which rows and elements all are written
-  pub record First (E : Elements) (i j : ℕ) : Type 0 where
+  pub record First (E : Source) (i j : ℕ) : Type 0 where
     pub row-there : i < E .rows
     pub column-there : j < E .columns
     pub without-mark : Unmarked E i j
@@ -170,7 +170,7 @@ module _ (marks : List ℕ) where
     pub columns-before : (l : ℕ) → l < j → Written E i l
 
   -- the first of several, one after the other
-  abbrev pub FirstAmong : List Elements → (row column : ℕ) → Type 0
+  abbrev pub FirstAmong : List Source → (row column : ℕ) → Type 0
   FirstAmong [] row column = ⊥
   FirstAmong (E ∷ Es) row column =
       ((i : ℕ) × (j : ℕ) × First E i j × (row ≡ E .top + i) × (column ≡ E .left + j)) ⊎ (AllWritten E × FirstAmong Es row column)

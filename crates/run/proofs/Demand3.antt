@@ -35,8 +35,8 @@ use Rattle.run.specs.Words.{Op, Shape, words, steps}
 use Rattle.run.specs.Places.{next, wordAt}
 use Rattle.run.proofs.PlaceLaws.{rest, before, rest-next, rest-after, placeAfter, length-words}
 use Rattle.run.proofs.BeginLaws.{begins-next}
-use Rattle.run.specs.Plan.{Job, Kept, shape, narrow, wide, formOf, aRow, aColumn, aRows, aColumns}
-use Rattle.run.specs.Start.{format, kindFits, planned, lying, separate, startChecks, freshRun, noRun, startRun}
+use Rattle.run.specs.Plan.{Job, OutsideKept, shape, narrow, wide, formOf, aRow, aColumn, aRows, aColumns}
+use Rattle.run.specs.Start.{format, kindFits, planned, lying, separate, runStartChecks, freshRun, noRun, startRun}
 use Rattle.run.specs.Turn.{begins, soundRun, handsOut, stepsIn, Ask, ask, Running, Turn, turn, afterTurns, answeredDone}
 use Rattle.run.proofs.HandedLaws.{askWith, turnWith}
 use Rattle.run.proofs.RefusalLaws.{number-done, started-idle}
@@ -80,7 +80,7 @@ one-word S (AtMultiply i j s) = inr (_, refl)
 one-word S (AtStore i j) = inr (_, refl)
 one-word S AtEnd = inl refl
 
-kept-at : (J : Job) (p : Place) (st : State) (mem : List ℕ) → At J p st mem → Kept J mem
+kept-at : (J : Job) (p : Place) (st : State) (mem : List ℕ) → At J p st mem → OutsideKept J mem
 kept-at J AtType st mem h = h .1
 kept-at J (AtM i) st mem h = h .0 .kept
 kept-at J (AtN i j) st mem h = h .0 .in-m .kept
@@ -414,7 +414,7 @@ module _ (grant : Choice) (P : Plan) (B₀ : Bench) (R : Ready grant P B₀) whe
 -- ---- the start
 
 module _ (grant : Choice) (G : EachGrants grant) (P : Plan) (B : Bench) (bytes : MemoryBytes (B .memory)) where
-  ready : Passed (startChecks grant P B) → Ready grant P B
+  ready : Passed (runStartChecks grant P B) → Ready grant P B
   unfolding planned
   ready c =
       let t = every-each (format (B .machine .elen) (P .sew) (P .factor) ∷ leb (P .m) 1024 ∷ leb (P .k) 1024 ∷ leb (P .n) 1024 ∷ kindFits P ∷ []) (c .1 .0) in
@@ -432,18 +432,18 @@ module _ (grant : Choice) (G : EachGrants grant) (P : Plan) (B : Bench) (bytes :
         addressed = bytes .addressed;
       }
 
-  is-passed : startRun grant P B .answer .number ≡ 0 → Passed (startChecks grant P B)
+  is-passed : startRun grant P B .answer .number ≡ 0 → Passed (runStartChecks grant P B)
   unfolding startRun
-  is-passed e = passed (startChecks grant P B) refl (number-done (reply (verdict (startChecks grant P B))) e)
+  is-passed e = passed (runStartChecks grant P B) refl (number-done (reply (verdict (runStartChecks grant P B))) e)
 
   runs-fresh : startRun grant P B .answer .number ≡ 0 → startRun grant P B .run ≡ freshRun (B .machine) P
   unfolding startRun
-  runs-fresh e = ap (λ (t : Bool). cond t (freshRun (B .machine) P) (noRun P)) (number-done (reply (verdict (startChecks grant P B))) e)
+  runs-fresh e = ap (λ (t : Bool). cond t (freshRun (B .machine) P) (noRun P)) (number-done (reply (verdict (runStartChecks grant P B))) e)
 
   answers : Answered P B (startRun grant P B .answer)
   unfolding startRun
   answers = record {
-    gives-0 = λ n i s. ap number (no-refusal (startChecks grant P B) (n .no-fault, (numbers-planned P B n, (is-inside P (B .memory) i, (is-separate (B .seals) P s, tt)))));
+    gives-0 = λ n i s. ap number (no-refusal (runStartChecks grant P B) (n .no-fault, (numbers-planned P B n, (is-inside P (B .memory) i, (is-separate (B .seals) P s, tt)))));
     only-then = λ e. let c = is-passed e in
         (numbers-are P B (c .0) (c .1 .0), inside-is P (B .memory) (c .1 .1 .0), separate-is (B .seals) P (c .1 .1 .1 .0));
     gives-8 = λ d. eight d (soundBench B) refl (planned (B .machine .elen) P) refl;

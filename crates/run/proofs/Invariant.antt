@@ -14,7 +14,7 @@ use Rattle.run.specs.declared.Plan.{Plan}
 use Rattle.run.specs.declared.Place.{Place}
 use Rattle.run.specs.declared.Place.the-variants.{AtType, AtM, AtN, AtClear, AtK, AtA, AtB, AtMultiply, AtStore, AtEnd}
 use Rattle.run.specs.Words.{Op, sizeM, sizeN, sizeK}
-use Rattle.run.specs.Plan.{elementsOf, Job, Kept, shape, narrow, wide, typeOf, aAt, bAt, cAt, formOf, aRow, aColumn, aRows, aColumns, aOf, bOf, OfC, total, productOf}
+use Rattle.run.specs.Plan.{elementsOf, Job, OutsideKept, shape, narrow, wide, typeOf, aAt, bAt, cAt, formOf, aRow, aColumn, aRows, aColumns, aOf, bOf, OfC, total, productOf}
 use Rattle.run.proofs.NumberLaws.{Suits, multiplyOf}
 
 -- the operation of a step
@@ -87,7 +87,7 @@ HoldsB J s j regs marks = Holds (tileAt (J .parameters) 1) (sizeK (shape J) s) (
 -- at the head of the loop over rows, columns and terms
 pub record InM (J : Job) (i : ℕ) (st : State) (mem : List ℕ) : Type 0 where
   pub registers : Registers J (st .regs) (st .marks)
-  pub kept : Kept J mem
+  pub kept : OutsideKept J mem
   pub rows-done : RowsDone J i mem
   pub typed : st .mtype ≡ typeOf (J .plan)
 
@@ -114,7 +114,7 @@ pub record InTerms (J : Job) (i j s : ℕ) (st : State) (mem : List ℕ) : Type 
 
 -- what holds at each place of a run
 abbrev pub At : Job → Place → State → List ℕ → Type 0
-At J AtType st mem = Registers J (st .regs) (st .marks) × Kept J mem
+At J AtType st mem = Registers J (st .regs) (st .marks) × OutsideKept J mem
 At J (AtM i) st mem = InM J i st mem × (i < J .plan .m)
 At J (AtN i j) st mem = InN J i j st mem × (j < J .plan .n)
 At J (AtClear i j) st mem = InBlock J i j st mem
@@ -123,4 +123,4 @@ At J (AtA i j s) st mem = InTerms J i j s st mem
 At J (AtB i j s) st mem = InTerms J i j s st mem × HoldsA J i s (st .regs) (st .marks)
 At J (AtMultiply i j s) st mem = InTerms J i j s st mem × HoldsA J i s (st .regs) (st .marks) × HoldsB J s j (st .regs) (st .marks)
 At J (AtStore i j) st mem = InK J i j (J .plan .k) st mem
-At J AtEnd st mem = Kept J mem × RowsDone J (J .plan .m) mem
+At J AtEnd st mem = OutsideKept J mem × RowsDone J (J .plan .m) mem

@@ -15,7 +15,7 @@ use Rattle.run.specs.declared.Run.{Run}
 use Rattle.run.specs.declared.Handed.{Handed}
 use Rattle.run.specs.Words.{Op}
 use Rattle.run.specs.Encoding.{own, handedFor}
-use Rattle.run.specs.Start.{startChecks, startRun, freshRun, noRun}
+use Rattle.run.specs.Start.{runStartChecks, startRun, freshRun, noRun}
 use Rattle.run.specs.Turn.{soundRun, handsOut, stepsIn, moved, Ask, ask, Running, running, Turn, turn, afterTurns, answeredDone}
 use Rattle.run.specs.Statement.{Idle, startedRun}
 use Rattle.run.proofs.HandedLaws.{askWith, turnWith}
@@ -31,7 +31,7 @@ number-refused a d = ne-eqb (a .number) 0 d
 -- a start whose number is 0 answers `Done`
 pub start-zero : (grant : Choice) (P : Plan) (B : Bench) → done (startRun grant P B .answer) ≡ true → startRun grant P B .answer ≡ reply Done
 unfolding startRun
-start-zero grant P B e = ap reply (only-done (verdict (startChecks grant P B)) e)
+start-zero grant P B e = ap reply (only-done (verdict (runStartChecks grant P B)) e)
 
 -- and so does asking
 pub ask-zero : (grant : Choice) (R : Run) → done (ask grant R .answer) ≡ true → ask grant R .answer ≡ reply Done

@@ -28,7 +28,7 @@ use Rattle.run.specs.Words.{Op, Shape, sizeM, sizeN, sizeK}
 use Rattle.run.specs.Places.{next, headM, headN, headK}
 use Rattle.run.proofs.PlaceLaws.{Sound}
 use Rattle.run.proofs.NumberLaws.{Suits, multiplyOf, productBy, multiply-passes, multiply-leaves, multiply-memory, total-small, product-small, cleared, total-more}
-use Rattle.run.specs.Plan.{Elements, elementsOf, Job, Kept, shape, narrow, wide, typeOf, aAt, bAt, cAt, formOf, aRow, aColumn, aOf, bOf, OfC}
+use Rattle.run.specs.Plan.{Elements, elementsOf, Job, OutsideKept, shape, narrow, wide, typeOf, aAt, bAt, cAt, formOf, aRow, aColumn, aOf, bOf, OfC}
 use Rattle.run.proofs.FormLaws.{block-in}
 use Rattle.run.proofs.Invariant.{operationOf, Accepted, partial, Registers, RowsDone, ColsDone, Holds, HoldsC, InM, InN, InBlock, InK, InTerms, At}
 
@@ -267,7 +267,7 @@ module _ (J : Job) (isSealed : ℕ → Bool) (A : Accepted J isSealed) where
   -- ---- loads
 
   -- bytes that are none of C's are as at the start
-  as-started : (mem : List ℕ) → Kept J mem → (p w : ℕ) → ((q : ℕ) → In p w q → ¬ OfC J q) → getLe mem p w ≡ getLe (J .memory) p w
+  as-started : (mem : List ℕ) → OutsideKept J mem → (p w : ℕ) → ((q : ℕ) → In p w q → ¬ OfC J q) → getLe mem p w ≡ getLe (J .memory) p w
   as-started mem kept p w h = Tile.le-cong mem (J .memory) p p w (λ b l. kept .outside (p + b) (h (p + b) (omega arith)))
 
   -- a block of a matrix in memory
@@ -275,10 +275,10 @@ module _ (J : Job) (isSealed : ℕ → Bool) (A : Accepted J isSealed) where
       (in-memory : inside (length (J .memory)) base stride total (n * e) ≡ true)
       (apart : (i q : ℕ) → i < total → In (rowAt base stride i) (n * e) q → ¬ OfC J q)
       (0<rows : zero < rows) (0<n : zero < n) (rows≤ : i₀ + rows ≤ total) (cols≤ : j₀ + cols ≤ n) where
-    part-inside : (mem : List ℕ) → Kept J mem → inside (length mem) (rowAt base stride i₀ + j₀ * e) stride rows (cols * e) ≡ true
+    part-inside : (mem : List ℕ) → OutsideKept J mem → inside (length mem) (rowAt base stride i₀ + j₀ * e) stride rows (cols * e) ≡ true
     part-inside mem kept = rw (kept .same-length) (block-inside (length (J .memory)) base stride total (n * e) in-memory i₀ (j₀ * e) rows (cols * e) 0<rows (mul-pos 0<n 0<e) rows≤ (omega (arith, mul-le-mul-right e cols≤)))
 
-    part-value : (mem : List ℕ) → Kept J mem → (r c : ℕ) → r < rows → c < cols
+    part-value : (mem : List ℕ) → OutsideKept J mem → (r c : ℕ) → r < rows → c < cols
         → element mem (rowAt (rowAt base stride i₀ + j₀ * e) stride) e r c % 256 ^ e ≡ element (J .memory) (rowAt base stride) e (i₀ + r) (j₀ + c)
     part-value mem kept r c l l′ =
         let p : ℕ = rowAt base stride (i₀ + r) + (j₀ + c) * e in
@@ -299,7 +299,7 @@ module _ (J : Job) (isSealed : ℕ → Bool) (A : Accepted J isSealed) where
     apart : (i q : ℕ) → i < memoryRows f total n → In (rowAt base stride i) (memoryCols f total n * e) q → ¬ OfC J q
 
   load-value : (f : Form) (base stride total n i₀ j₀ rows cols : ℕ) → Apart f base stride total n
-      → zero < rows → zero < cols → i₀ + rows ≤ total → j₀ + cols ≤ n → (mem : List ℕ) → Kept J mem → (r c : ℕ) → r < rows → c < cols
+      → zero < rows → zero < cols → i₀ + rows ≤ total → j₀ + cols ≤ n → (mem : List ℕ) → OutsideKept J mem → (r c : ℕ) → r < rows → c < cols
       → placed f (element mem (rowAt (from f base stride i₀ j₀) stride) e) r c % 256 ^ e ≡ placed f (element (J .memory) (rowAt base stride) e) (i₀ + r) (j₀ + c)
   load-value Plain base stride total n i₀ j₀ rows cols a h h′ g g′ mem kept r c l l′ =
       part-value base stride total n i₀ j₀ rows cols (a .in-memory) (a .apart) h (omega arith) g g′ mem kept r c l l′
@@ -308,13 +308,13 @@ module _ (J : Job) (isSealed : ℕ → Bool) (A : Accepted J isSealed) where
 
   module _ (f : Form) (base stride total n reg i₀ j₀ rows cols : ℕ) (a : Apart f base stride total n)
       (0<rows : zero < rows) (0<cols : zero < cols) (rows≤ : i₀ + rows ≤ total) (cols≤ : j₀ + cols ≤ n) where
-    load-inside : (mem : List ℕ) → Kept J mem → inside (length mem) (from f base stride i₀ j₀) stride (memoryRows f rows cols) (memoryCols f rows cols * e) ≡ true
+    load-inside : (mem : List ℕ) → OutsideKept J mem → inside (length mem) (from f base stride i₀ j₀) stride (memoryRows f rows cols) (memoryCols f rows cols * e) ≡ true
     load-inside mem kept =
         let b = block-in f i₀ j₀ rows cols total n 0<rows 0<cols rows≤ cols≤ in
         part-inside base stride (memoryRows f total n) (memoryCols f total n) (memoryRows f i₀ j₀) (memoryCols f i₀ j₀) (memoryRows f rows cols) (memoryCols f rows cols)
         (a .in-memory) (a .apart) (b .0) (b .1) (b .2) (b .3) mem kept
 
-    load-holds : (regs marks mem : List ℕ) → Registers J regs marks → Kept J mem → reg < 8 → rows ≤ R → cols * e ≤ L
+    load-holds : (regs marks mem : List ℕ) → Registers J regs marks → OutsideKept J mem → reg < 8 → rows ≤ R → cols * e ≤ L
         → Holds (tileAt M reg) rows cols e (λ r c. placed f (element (J .memory) (rowAt base stride) e) (i₀ + r) (j₀ + c))
         (putTile (tileAt M reg) rows cols e (placed f (element mem (rowAt (from f base stride i₀ j₀) stride) e)) regs) (markTile (tileAt M reg) rows (cols * e) marks)
     load-holds regs marks mem ok kept g fit-rows fit-cols =
@@ -347,7 +347,7 @@ module _ (J : Job) (isSealed : ℕ → Bool) (A : Accepted J isSealed) where
       let blk : InBlock J i j st mem = h .in-k .in-block in
       let m′ = size-m i (blk .in-n .i<m) in
       let k′ = size-k s (h .s<k) in
-      let mem-ok : Kept J mem = blk .in-n .in-m .kept in
+      let mem-ok : OutsideKept J mem = blk .in-n .in-m .kept in
       let regs-ok = blk .in-n .in-m .registers in
       let f : Form = formOf P in
       let a : Apart f (P .a .address) (P .a .stride) (P .m) (P .k) = record { in-memory = A .a-in; apart = A .c-a } in
@@ -376,7 +376,7 @@ module _ (J : Job) (isSealed : ℕ → Bool) (A : Accepted J isSealed) where
       let blk : InBlock J i j st mem = h .in-k .in-block in
       let k′ = size-k s (h .s<k) in
       let n′ = size-n j (blk .j<n) in
-      let mem-ok : Kept J mem = blk .in-n .in-m .kept in
+      let mem-ok : OutsideKept J mem = blk .in-n .in-m .kept in
       let regs-ok = blk .in-n .in-m .registers in
       let k≤R : sizeK S s ≤ R = omega (arith, min-le-left R (S .tn)) in
       let b : Apart Plain (P .b .address) (P .b .stride) (P .k) (P .n) = record { in-memory = A .b-in; apart = A .c-b } in
@@ -515,7 +515,7 @@ module _ (J : Job) (isSealed : ℕ → Bool) (A : Accepted J isSealed) where
         (λ r l some. inside-at (length mem) (cAt P i + j * W) (P .c .stride) (sizeM S i) (sizeN S j * W) store-inside some r l .1)
         ∙ Tile.putTile-rows (rowAt (cAt P i + j * W) (P .c .stride)) (blockAt i j) (sizeM S i) (sizeN S j) W (element (st .regs) (accAt M 0) W) mem row-is)
 
-    stored-kept : Kept J (storedBy i j (st .regs) mem)
+    stored-kept : OutsideKept J (storedBy i j (st .regs) mem)
     unfolding storedBy
     stored-kept = record {
       same-length = Tile.length-putTile (blockAt i j) (sizeM S i) (sizeN S j) W (element (st .regs) (accAt M 0) W) mem ∙ blk .in-n .in-m .kept .same-length;

@@ -104,6 +104,6 @@ abbrev pub OfC : Job → ℕ → Type 0
 OfC J q = (i : ℕ) × (i < J .plan .m) × In (cAt (J .plan) i) (J .plan .n * wide (J .plan)) q
 
 -- "the memory outside C's elements is as at the start"
-pub record Kept (J : Job) (mem : List ℕ) : Type 0 where
+pub record OutsideKept (J : Job) (mem : List ℕ) : Type 0 where
   pub same-length : length mem ≡ length (J .memory)
   pub outside : (q : ℕ) → ¬ OfC J q → getD mem q 0 ≡ getD (J .memory) q 0

@@ -47,8 +47,8 @@ separate isSealed P = every (
     ∷ apart (bAt P) (P .k) (P .n * narrow P) (cAt P) (P .m) (P .n * wide P)
     ∷ rowsMiss isSealed (P .c .address) (P .c .stride) (P .m) (P .n * wide P) ∷ [])
 
-abbrev pub startChecks : Choice → Plan → Bench → List Check
-startChecks grant P B =
+abbrev pub runStartChecks : Choice → Plan → Bench → List Check
+runStartChecks grant P B =
     (soundBench B otherwise BadArguments)
     ∷ (planned (B .machine .elen) P otherwise BadArguments)
     ∷ (lying P (B .memory) otherwise OutsideMemory)
@@ -70,11 +70,11 @@ pub record RunStart : Type 0 where
 -- "The start itself, accepted or refused, changes neither machine nor memory."
 unfoldable pub startRun : Choice → Plan → Bench → RunStart
 startRun grant P B = record {
-  answer = reply (verdict (startChecks grant P B));
-  run = cond (isDone (verdict (startChecks grant P B))) (freshRun (B .machine) P) (noRun P);
+  answer = reply (verdict (runStartChecks grant P B));
+  run = cond (isDone (verdict (runStartChecks grant P B))) (freshRun (B .machine) P) (noRun P);
   bench = B;
 }
 
 -- what the function `start` returned, and the bench that it was lent
-abbrev pub startedAs : RunStarted → Bench → RunStart
-startedAs r B = record { answer = reply (r .answer); run = r .run; bench = B }
+abbrev pub runStartedAs : RunStarted → Bench → RunStart
+runStartedAs r B = record { answer = reply (r .answer); run = r .run; bench = B }

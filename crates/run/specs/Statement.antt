@@ -12,7 +12,7 @@ use Rattle.run.specs.declared.Plan.{Plan}
 use Rattle.run.specs.declared.Run.{Run}
 use Rattle.run.specs.declared.Handed.{Handed}
 use Rattle.run.specs.Words.{steps}
-use Rattle.run.specs.Plan.{Job, Kept, shape, narrow, wide, aAt, bAt, cAt, aRows, aColumns, productOf}
+use Rattle.run.specs.Plan.{Job, OutsideKept, shape, narrow, wide, aAt, bAt, cAt, aRows, aColumns, productOf}
 use Rattle.run.specs.Start.{startRun}
 use Rattle.run.specs.Encoding.{wordList, wordOf}
 use Rattle.run.specs.Turn.{stepsIn, Ask, ask, Running, Turn, turn, afterTurns, answeredDone}
@@ -88,7 +88,7 @@ pub record Right (grant : Choice) (J : Job) (r : Running) (t : ℕ) : Type 0 whe
   -- "asking past the last gives 8"
   pub asks-past-end : steps (shape J) ≤ t → Asks (ask grant (afterTurns grant r t .run)) 8 none (afterTurns grant r t .run)
   -- "After each turn the memory outside C's elements is as at the start."
-  pub kept : Kept J (afterTurns grant r t .bench .memory)
+  pub kept : OutsideKept J (afterTurns grant r t .bench .memory)
   -- "After turn s and each later one, C(i, j) is the sum .."
   pub product : steps (shape J) ≤ t → (i j : ℕ) → i < J .plan .m → j < J .plan .n
       → element (afterTurns grant r t .bench .memory) (cAt (J .plan)) (wide (J .plan)) i j ≡ productOf J i j
@@ -107,7 +107,7 @@ pub record Idle (grant : Choice) (r : Running) (t : ℕ) : Type 0 where
 
 -- ---- demand 3, of a plan and a bench
 
-pub record Demand3 (grant : Choice) (P : Plan) (B : Bench) : Type 0 where
+pub record RunFromStart (grant : Choice) (P : Plan) (B : Bench) : Type 0 where
   -- when the start gives 0, 8, 6 and 9
   pub answered : Answered P B (startRun grant P B .answer)
   -- "The start itself, accepted or refused, changes neither machine nor memory."
@@ -129,16 +129,16 @@ pub record MemoryBytes (mem : List ℕ) : Type 0 where
 -- 02, Eight: "once over every choice that keeps the three constraints of source document 001": for every choice of sizes under them, one for
 -- each rule, every plan, machine and state, and every memory that is a slice of bytes
 abbrev pub RunsAreRight : Type 0
-RunsAreRight = (grant : Choice) → EachGrants grant → (P : Plan) (B : Bench) → MemoryBytes (B .memory) → Demand3 grant P B
+RunsAreRight = (grant : Choice) → EachGrants grant → (P : Plan) (B : Bench) → MemoryBytes (B .memory) → RunFromStart grant P B
 
 -- "then name our two": for our choice of sizes; a machine of rule 0 goes by the smaller size, one of rule 1 by halving
 abbrev pub OurRunsAreRight : Type 0
-OurRunsAreRight = (P : Plan) (B : Bench) → MemoryBytes (B .memory) → Demand3 chosen P B
+OurRunsAreRight = (P : Plan) (B : Bench) → MemoryBytes (B .memory) → RunFromStart chosen P B
 
 abbrev pub SmallerRunsAreRight : Type 0
 SmallerRunsAreRight = (P : Plan) (B : Bench) → B .machine .rule ≡ 0 → MemoryBytes (B .memory)
-    → (shape (jobOf chosen P B) .grant ≡ smaller) × Demand3 chosen P B
+    → (shape (jobOf chosen P B) .grant ≡ smaller) × RunFromStart chosen P B
 
 abbrev pub HalvingRunsAreRight : Type 0
 HalvingRunsAreRight = (P : Plan) (B : Bench) → B .machine .rule ≡ 1 → MemoryBytes (B .memory)
-    → (shape (jobOf chosen P B) .grant ≡ halving) × Demand3 chosen P B
+    → (shape (jobOf chosen P B) .grant ≡ halving) × RunFromStart chosen P B

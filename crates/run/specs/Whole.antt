@@ -9,7 +9,7 @@ use Rattle.machine.specs.Operation.{element}
 use Rattle.run.specs.declared.Plan.{Plan}
 use Rattle.run.specs.declared.Finished.{Finished}
 use Rattle.run.specs.Words.{steps}
-use Rattle.run.specs.Plan.{Kept, shape, wide, cAt, productOf}
+use Rattle.run.specs.Plan.{OutsideKept, shape, wide, cAt, productOf}
 use Rattle.run.specs.Start.{startRun}
 use Rattle.run.specs.Turn.{turns}
 use Rattle.run.specs.Statement.{Answered, MemoryBytes, jobOf, startedRun}
@@ -44,7 +44,7 @@ pub record Delivers (P : Plan) (B : Bench) (o : WholeOutcome) : Type 0 where
   pub product : o .answer .number ≡ 0 → (i j : ℕ) → i < P .m → j < P .n
       → element (o .bench .memory) (cAt P) (wide P) i j ≡ productOf (jobOf chosen P B) i j
   -- "the memory outside C's elements is as at the start"
-  pub kept : Kept (jobOf chosen P B) (o .bench .memory)
+  pub kept : OutsideKept (jobOf chosen P B) (o .bench .memory)
 
 -- for every plan, machine and state, and every memory that is a slice of bytes
 abbrev pub WholeDelivers : Type 0

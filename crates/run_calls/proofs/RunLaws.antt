@@ -14,7 +14,7 @@ use Rattle.run.specs.declared.Plan.{Plan}
 use Rattle.run.specs.declared.Run.{Run}
 use Rattle.run.specs.declared.RunStarted.{RunStarted}
 use Rattle.run.specs.declared.Asked.{Asked}
-use Rattle.run.specs.Start.{startRun, startedAs}
+use Rattle.run.specs.Start.{startRun, runStartedAs}
 use Rattle.run.specs.Turn.{stepsIn, ask, asked, askedAs}
 use Rattle.ranges.specs.Ranges.{sealsIn}
 use Rattle.blocks.specs.Blocks.{machineBytes, machineOf, packed}
@@ -42,7 +42,7 @@ module _ (P : Plan) (machine registers marks memory run : List ℕ) where
 
   -- what the start has answered, and the block written exactly where it is done
   pub run-start-shown : (t : Bool) (m : Machine) (s : RunStarted) (N : List ℕ) (r : ℕ) → length machine ≡ machineBytes → length run ≡ runBytes
-      → m ≡ machineOf machine → startedAs s (benchOf m (sealsIn machine) registers marks memory) ≡ startRun chosen P (benchOf m (sealsIn machine) registers marks memory)
+      → m ≡ machineOf machine → runStartedAs s (benchOf m (sealsIn machine) registers marks memory) ≡ startRun chosen P (benchOf m (sealsIn machine) registers marks memory)
       → isDone (s .answer) ≡ t → N ≡ cond t (putRun (s .run) run) run → r ≡ packed (reply (s .answer))
       → runStartedOut r machine registers marks memory N ≡ hostRunStart P machine registers marks memory run
   run-start-shown t m s N r h k em e et en er =

@@ -9,7 +9,7 @@ use lib.Dec.{eqb}
 use lib.ListN.{length, take, drop, getD, replicate, length-take, length-replicate, take-append-drop}
 use lib.Seq.{take-take}
 use borrow.Author.Tests.{eqb-true}
-use Rattle.format.specs.Numbers.{Bytes}
+use Rattle.format.specs.Numbers.{ByteString}
 use Rattle.format.specs.Formats.{Accepts}
 use Rattle.format.proofs.FormatLaws.{accepts-parse, ends-one, bytes-take}
 use Rattle.machine.specs.declared.Machine.{Machine}
@@ -19,7 +19,7 @@ use Rattle.image.specs.declared.Imaged.the-variants.{Done}
 use Rattle.image.specs.Cells.{Cell, cell, cellsOf, Run, runs, spread, Fit, over, marksOf}
 use Rattle.image.specs.Cells.Run.{run}
 use Rattle.image.specs.Images.{Header, exponent, headerOf, machineFrom, spelled, IsImage}
-use Rattle.image.specs.ImageFormat.{Described, total, imageFormat}
+use Rattle.image.specs.ImageFormat.{Described, allRegisterBytes, imageFormat}
 use Rattle.format.specs.Parser.{Parsed}
 use Rattle.image.specs.Reading.{restored, cellsIn, readAs, readImage}
 use Rattle.image.specs.Theorems.{imageIn, Fits}
@@ -28,7 +28,7 @@ use Rattle.image.proofs.ImageLaws.{image-out}
 use Rattle.image.proofs.HeaderLaws.{machine-back, registers-sized, marks-sized}
 use Rattle.image.proofs.CellLaws.{length-cells}
 use Rattle.image.proofs.Images.{image-accepts, fits-true, read-done}
-use Rattle.salvage.specs.Salvage.{placeIn, Kept, keptIn}
+use Rattle.salvage.specs.Salvage.{placeIn, KeptPart, keptIn}
 use Rattle.salvage.specs.Theorems.{FewerMarks, CutKeepsBytes, CutPlace}
 use Rattle.salvage.proofs.Keeps.{accepts-bytes, place-image, place-out, KeepsRuns, KeepsOf, keeps-every-run, kept-fits, kept-accepted, wrote}
 
@@ -85,7 +85,7 @@ under-same (some y ∷ cs) (b ∷ bs) (m ∷ ms) (x ∷ lent) n l u (suc q) h = 
 
 -- ---- the image of a bench
 
-module _ (B : Bench) (sb : soundBench B ≡ true) (b : Bytes (B .registers)) where
+module _ (B : Bench) (sb : soundBench B ≡ true) (b : ByteString (B .registers)) where
   abbrev own : Described
   own = record { header = headerOf (B .machine) (B .seals); body = runs (cellsOf (B .registers) (B .marks)) }
 
@@ -97,7 +97,7 @@ module _ (B : Bench) (sb : soundBench B ≡ true) (b : Bytes (B .registers)) whe
 
   own-cells : cellsIn own ≡ cellsOf (B .registers) (B .marks)
   own-cells =
-      let n : length (cellsOf (B .registers) (B .marks)) ≡ total (exponent (B .machine .mlen)) = length-cells (B .registers) (B .marks) own-size ∙ registers-sized (B .machine) (B .seals) (B .registers) (B .marks) sb in
+      let n : length (cellsOf (B .registers) (B .marks)) ≡ allRegisterBytes (exponent (B .machine .mlen)) = length-cells (B .registers) (B .marks) own-size ∙ registers-sized (B .machine) (B .seals) (B .registers) (B .marks) sb in
       ap (λ (x : ℕ). spread x (runs (cellsOf (B .registers) (B .marks)))) (sym n) ∙ spread-runs (cellsOf (B .registers) (B .marks))
 
   own-machine : machineFrom (own .header) ≡ B .machine
@@ -108,7 +108,7 @@ module _ (B : Bench) (sb : soundBench B ≡ true) (b : Bytes (B .registers)) whe
     abbrev cut : List ℕ
     cut = take c (imageIn B)
 
-    cut-bytes : Bytes cut
+    cut-bytes : ByteString cut
     cut-bytes = bytes-take c (imageIn B) (accepts-bytes imageFormat (imageIn B) own own-accepted)
 
     -- the image goes on from every place of its front
@@ -127,13 +127,13 @@ module _ (B : Bench) (sb : soundBench B ≡ true) (b : Bytes (B .registers)) whe
           stops = λ h. absurd (omega arith);
         })
 
-    keeps : (k : Kept) → keptIn cut ≡ some k → KeepsRuns (placeIn cut) own k
+    keeps : (k : KeptPart) → keptIn cut ≡ some k → KeepsRuns (placeIn cut) own k
     keeps k e =
         subst (KeepsOf (placeIn cut) own) e
         (keeps-every-run cut cut-bytes (drop (placeIn cut) (imageIn B)) own
         (subst (λ (z : List ℕ). Accepts imageFormat z own) (sym (goes-on (placeIn cut) (place-image cut cut-bytes .there))) own-accepted))
 
-    module _ (registers marks : List ℕ) (f : Fits (B .machine) registers marks) (k : Kept) (e : keptIn cut ≡ some k) where
+    module _ (registers marks : List ℕ) (f : Fits (B .machine) registers marks) (k : KeptPart) (e : keptIn cut ≡ some k) where
       left : Described
       left = record { header = k .header; body = k .body }
 
@@ -157,8 +157,8 @@ module _ (B : Bench) (sb : soundBench B ≡ true) (b : Bytes (B .registers)) whe
       unfolding left
       left-under =
           let h = keeps k e in
-          let N : ℕ = total (own .header .mlen) in
-          let is : cellsIn left ≡ spread N (take (length (k .body)) (own .body)) = ap₂ (λ (x : Header) (rs : List Run). spread (total (x .mlen)) rs) (h .same-header) (h .first-runs) in
+          let N : ℕ = allRegisterBytes (own .header .mlen) in
+          let is : cellsIn left ≡ spread N (take (length (k .body)) (own .body)) = ap₂ (λ (x : Header) (rs : List Run). spread (allRegisterBytes (x .mlen)) rs) (h .same-header) (h .first-runs) in
           subst (λ (cs : List Cell). Under cs (cellsOf (B .registers) (B .marks))) (sym is)
           (subst (Under (spread N (take (length (k .body)) (own .body)))) own-cells (spread-under 0 N (own .body) (length (k .body)) (image-out (imageIn B) own own-accepted .fits)))
 
@@ -166,7 +166,7 @@ module _ (B : Bench) (sb : soundBench B ≡ true) (b : Bytes (B .registers)) whe
       unfolding left
       lent-size =
           f .0 ∙ ap (λ (m : Machine). registerBytes (m .mlen)) (sym machine-is)
-          ∙ sym (length-spread 0 (total (k .header .mlen)) (k .body) (kept-fits (placeIn cut) own k (keeps k e) (imageIn B) own-accepted))
+          ∙ sym (length-spread 0 (allRegisterBytes (k .header .mlen)) (k .body) (kept-fits (placeIn cut) own k (keeps k e) (imageIn B) own-accepted))
 
       fewer-marks : FewerMarks B (readImage fresh registers marks)
       unfolding left fresh

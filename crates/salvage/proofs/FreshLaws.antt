@@ -9,7 +9,7 @@ use lib.Dec.{leb}
 use lib.ListN.{length, take, drop, set, replicate, length-append, length-drop, length-take, length-replicate, drop-of-length-le}
 use lib.Seq.{sets, sets-eq, length-take-le, take-at, take-take}
 use borrow.Author.Tests.{leb-true, le-leb, lt-leb}
-use Rattle.format.specs.Numbers.{encode, encodeAll, Bytes}
+use Rattle.format.specs.Numbers.{encode, encodeAll, ByteString}
 use Rattle.format.specs.Formats.{Format}
 use Rattle.format.specs.Formats.Format.{done, bytes}
 use Rattle.format.specs.Parser.{Parsed, later, parse}
@@ -22,7 +22,7 @@ use Rattle.image.specs.declared.Imaged.the-variants.{Done, NoRoom, Damaged}
 use Rattle.image.specs.Cells.{Run}
 use Rattle.image.specs.Cells.Run.{run}
 use Rattle.image.specs.Images.{Header, version, fields, runsBytes, spelled}
-use Rattle.image.specs.ImageFormat.{Described, total, headFormat, imageFormat}
+use Rattle.image.specs.ImageFormat.{Described, allRegisterBytes, headFormat, imageFormat}
 use Rattle.image.proofs.ImageLaws.{image-out}
 use Rattle.image_header.specs.declared.Fields.{Fields}
 use Rattle.image_header.specs.Fields.{fieldsIn, describe, runsFrom}
@@ -32,7 +32,7 @@ use Rattle.image_header.proofs.HeadLaws.{head-parse}
 use Rattle.image_header.proofs.FieldLaws.{head-stops, head-bad}
 use Rattle.salvage.specs.Fronts.{Front, front}
 use Rattle.salvage.specs.Fronts.Front.{ahead, stuck}
-use Rattle.salvage.specs.Salvage.{placeOf, placeIn, Announced, announcedFormat, oneRun, runsKept, Kept, keptFrom, keptIn, SalvageOutcome, salvaged, salvageOf, salvage}
+use Rattle.salvage.specs.Salvage.{faultPlace, placeIn, Announced, announcedFormat, oneRun, runsKept, KeptPart, keptFrom, keptIn, SalvageOutcome, salvaged, salvageOf, salvage}
 use Rattle.salvage.specs.Parts.{Tally, placeAt, keptAt, tallyAt, freshAt, rescued}
 use Rattle.salvage.proofs.FrontLaws.{bytes-drop, take-before, front-ahead, onto}
 use Rattle.salvage.proofs.KeepLaws.{run-bytes, kept-ahead, kept-stuck, follows, head-then, stopped-never, whole-one, runs-of, unlater, place-later}
@@ -44,7 +44,7 @@ pub record Stands (t : List ℕ) (rs : List Run) : Type 0 where
   pub rest : List ℕ
   pub is : t ≡ runsBytes rs ++ rest
 
-kept-stands : (count least room : ℕ) (t : List ℕ) → Bytes t → Stands t (runsKept count least room t)
+kept-stands : (count least room : ℕ) (t : List ℕ) → ByteString t → Stands t (runsKept count least room t)
 unfolding runsKept
 kept-stands zero least room t b = record { rest = t; is = refl }
 kept-stands (suc more) least room t b = go (front (oneRun more least room) t) refl (λ g z k. kept-stands more 1 (room - (g + length z)) (drop k t) (bytes-drop k t b))
@@ -76,85 +76,85 @@ kept-few (suc more) least room t = go (front (oneRun more least room) t) refl (�
     go (stuck p) e ih = omega (arith, ap length (kept-stuck more least room t p e))
     go (ahead (run g z) k) e ih = omega (arith, ih g z k, ap length (kept-ahead more least room t (run g z) k e))
 
-module _ (s : List ℕ) (at count total : ℕ) (b : Bytes s) (there : at ≤ length s) where
-  stands : Stands (drop at s) (keptAt s at count 0 total)
+module _ (s : List ℕ) (at count allRegisterBytes : ℕ) (b : ByteString s) (there : at ≤ length s) where
+  stands : Stands (drop at s) (keptAt s at count 0 allRegisterBytes)
   unfolding keptAt
-  stands = kept-stands count 0 total (drop at s) (bytes-drop at s b)
+  stands = kept-stands count 0 allRegisterBytes (drop at s) (bytes-drop at s b)
 
-  pub kept-there : at + length (runsBytes (keptAt s at count 0 total)) ≤ length s
+  pub kept-there : at + length (runsBytes (keptAt s at count 0 allRegisterBytes)) ≤ length s
   kept-there =
       let w = stands in
-      let l : length (drop at s) ≡ length (runsBytes (keptAt s at count 0 total)) + length (w .rest) = ap length (w .is) ∙ length-append (runsBytes (keptAt s at count 0 total)) (w .rest) in
+      let l : length (drop at s) ≡ length (runsBytes (keptAt s at count 0 allRegisterBytes)) + length (w .rest) = ap length (w .is) ∙ length-append (runsBytes (keptAt s at count 0 allRegisterBytes)) (w .rest) in
       omega (arith, length-drop at s)
 
-  pub kept-bytes : (n : ℕ) → n ≡ length (runsBytes (keptAt s at count 0 total)) → take n (drop at s) ≡ runsBytes (keptAt s at count 0 total)
+  pub kept-bytes : (n : ℕ) → n ≡ length (runsBytes (keptAt s at count 0 allRegisterBytes)) → take n (drop at s) ≡ runsBytes (keptAt s at count 0 allRegisterBytes)
   kept-bytes n e =
       let w = stands in
-      ap (take n) (w .is) ∙ take-at (runsBytes (keptAt s at count 0 total)) (w .rest) n (sym e)
+      ap (take n) (w .is) ∙ take-at (runsBytes (keptAt s at count 0 allRegisterBytes)) (w .rest) n (sym e)
 
   -- what the code found of them
-  pub tally-sizes : count < 2 ^ 64 → (r : Tally) → r ≡ tallyAt s at count total → (at ≤ r .end) × (r .end ≤ length s) × (length (encode (r .runs)) ≤ 10)
+  pub tally-sizes : count < 2 ^ 64 → (r : Tally) → r ≡ tallyAt s at count allRegisterBytes → (at ≤ r .end) × (r .end ≤ length s) × (length (encode (r .runs)) ≤ 10)
   unfolding keptAt
   tally-sizes small r e =
-      let end : r .end ≡ at + length (runsBytes (keptAt s at count 0 total)) = ap (λ (x : Tally). x .end) e in
-      let few : r .runs ≤ count = subst (λ (x : ℕ). x ≤ count) (sym (ap (λ (x : Tally). x .runs) e)) (kept-few count 0 total (drop at s)) in
+      let end : r .end ≡ at + length (runsBytes (keptAt s at count 0 allRegisterBytes)) = ap (λ (x : Tally). x .end) e in
+      let few : r .runs ≤ count = subst (λ (x : ℕ). x ≤ count) (sym (ap (λ (x : Tally). x .runs) e)) (kept-few count 0 allRegisterBytes (drop at s)) in
       (omega arith, omega (arith, kept-there), size-bound (r .runs) (omega arith))
 
   -- ---- what `rescue` returns and leaves
 
   abbrev runsOf : List Run
-  runsOf = keptAt s at count 0 total
+  runsOf = keptAt s at count 0 allRegisterBytes
 
   pub fresh-size : (k : ℕ) → k ≡ length (encode count) → k ≤ at → (n : ℕ) → n ≡ length (encode (length runsOf))
-      → at - k + n + (at + length (runsBytes runsOf) - at) ≡ length (freshAt s at count total)
+      → at - k + n + (at + length (runsBytes runsOf) - at) ≡ length (freshAt s at count allRegisterBytes)
   fresh-size k ek h n en =
       let l₁ : length (take (at - length (encode count)) s) ≡ at - length (encode count) = length-take-le (at - length (encode count)) s (omega arith) in
-      let l₂ : length (freshAt s at count total) ≡ length (take (at - length (encode count)) s) + (length (encode (length runsOf)) + length (runsBytes runsOf)) =
+      let l₂ : length (freshAt s at count allRegisterBytes) ≡ length (take (at - length (encode count)) s) + (length (encode (length runsOf)) + length (runsBytes runsOf)) =
       length-append (take (at - length (encode count)) s) (encode (length runsOf) ++ runsBytes runsOf) ∙ ap (λ (x : ℕ). length (take (at - length (encode count)) s) + x) (length-append (encode (length runsOf)) (runsBytes runsOf)) in
       omega (arith, ek, en)
 
   module _ (room : List ℕ) where
-    pub rescue-short : (size : ℕ) → size ≡ length (freshAt s at count total) → length room < size
-        → salvaged NoRoom 0 0 (placeAt s at count 0 total) 0 room ≡ rescued s at count total room
+    pub rescue-short : (size : ℕ) → size ≡ length (freshAt s at count allRegisterBytes) → length room < size
+        → salvaged NoRoom 0 0 (placeAt s at count 0 allRegisterBytes) 0 room ≡ rescued s at count allRegisterBytes room
     unfolding rescued
-    rescue-short size e h = rw (lt-leb (length (freshAt s at count total)) (length room) (omega (arith, e)))
+    rescue-short size e h = rw (lt-leb (length (freshAt s at count allRegisterBytes)) (length room) (omega (arith, e)))
 
-    pub rescue-done : (size : ℕ) → size ≡ length (freshAt s at count total) → size ≤ length room → (left : List ℕ) → left ≡ sets room 0 (freshAt s at count total)
-        → salvaged Done (length runsOf) count (placeAt s at count 0 total) size left ≡ rescued s at count total room
+    pub rescue-done : (size : ℕ) → size ≡ length (freshAt s at count allRegisterBytes) → size ≤ length room → (left : List ℕ) → left ≡ sets room 0 (freshAt s at count allRegisterBytes)
+        → salvaged Done (length runsOf) count (placeAt s at count 0 allRegisterBytes) size left ≡ rescued s at count allRegisterBytes room
     unfolding rescued
     rescue-done size e h left r =
-        let fresh : List ℕ = freshAt s at count total in
+        let fresh : List ℕ = freshAt s at count allRegisterBytes in
         let fits : length fresh ≤ length room = omega (arith, e) in
         let z : 0 + length fresh ≡ length fresh = omega arith in
         rw (le-leb (length fresh) (length room) fits)
-        (ap₂ (λ (x : ℕ) (y : List ℕ). salvaged Done (length runsOf) count (placeAt s at count 0 total) x y) e
+        (ap₂ (λ (x : ℕ) (y : List ℕ). salvaged Done (length runsOf) count (placeAt s at count 0 allRegisterBytes) x y) e
         (r ∙ sets-eq fresh room 0 (omega arith) ∙ ap (λ (x : ℕ). fresh ++ drop x room) z))
 
 -- the same, by what the code found
-module _ (s : List ℕ) (at count total : ℕ) (b : Bytes s) (there : at ≤ length s) (r : Tally) (e : r ≡ tallyAt s at count total) (k n : ℕ) (ek : k ≡ length (encode count)) (first : k ≤ at) (en : n ≡ length (encode (r .runs))) where
-  size-is : at - k + n + (r .end - at) ≡ length (freshAt s at count total)
+module _ (s : List ℕ) (at count allRegisterBytes : ℕ) (b : ByteString s) (there : at ≤ length s) (r : Tally) (e : r ≡ tallyAt s at count allRegisterBytes) (k n : ℕ) (ek : k ≡ length (encode count)) (first : k ≤ at) (en : n ≡ length (encode (r .runs))) where
+  size-is : at - k + n + (r .end - at) ≡ length (freshAt s at count allRegisterBytes)
   size-is =
-      let runs : r .runs ≡ length (keptAt s at count 0 total) = ap (λ (x : Tally). x .runs) e in
-      let end : r .end ≡ at + length (runsBytes (keptAt s at count 0 total)) = ap (λ (x : Tally). x .end) e in
-      ap (λ (x : ℕ). at - k + n + (x - at)) end ∙ fresh-size s at count total b there k ek first n (en ∙ ap (λ (x : ℕ). length (encode x)) runs)
+      let runs : r .runs ≡ length (keptAt s at count 0 allRegisterBytes) = ap (λ (x : Tally). x .runs) e in
+      let end : r .end ≡ at + length (runsBytes (keptAt s at count 0 allRegisterBytes)) = ap (λ (x : Tally). x .end) e in
+      ap (λ (x : ℕ). at - k + n + (x - at)) end ∙ fresh-size s at count allRegisterBytes b there k ek first n (en ∙ ap (λ (x : ℕ). length (encode x)) runs)
 
   module _ (room : List ℕ) where
-    pub tally-short : length room < at - k + n + (r .end - at) → salvaged NoRoom 0 0 (r .place) 0 room ≡ rescued s at count total room
+    pub tally-short : length room < at - k + n + (r .end - at) → salvaged NoRoom 0 0 (r .place) 0 room ≡ rescued s at count allRegisterBytes room
     tally-short h =
         ap (λ (x : Tally). salvaged NoRoom 0 0 (x .place) 0 room) e
-        ∙ rescue-short s at count total b there room (at - k + n + (r .end - at)) size-is h
+        ∙ rescue-short s at count allRegisterBytes b there room (at - k + n + (r .end - at)) size-is h
 
     pub tally-done : at - k + n + (r .end - at) ≤ length room → (left : List ℕ) → left ≡ sets room 0 (take (at - k) s ++ (encode (r .runs) ++ take (r .end - at) (drop at s)))
-        → salvaged Done (r .runs) count (r .place) (at - k + n + (r .end - at)) left ≡ rescued s at count total room
+        → salvaged Done (r .runs) count (r .place) (at - k + n + (r .end - at)) left ≡ rescued s at count allRegisterBytes room
     tally-done h left is =
-        let rs : List Run = keptAt s at count 0 total in
+        let rs : List Run = keptAt s at count 0 allRegisterBytes in
         let runs : r .runs ≡ length rs = ap (λ (x : Tally). x .runs) e in
         let end : r .end ≡ at + length (runsBytes rs) = ap (λ (x : Tally). x .end) e in
-        let fresh : take (at - k) s ++ (encode (r .runs) ++ take (r .end - at) (drop at s)) ≡ freshAt s at count total =
+        let fresh : take (at - k) s ++ (encode (r .runs) ++ take (r .end - at) (drop at s)) ≡ freshAt s at count allRegisterBytes =
         ap₂ (λ (x y : ℕ). take (at - x) s ++ (encode y ++ take (r .end - at) (drop at s))) ek runs
-        ∙ ap (λ (z : List ℕ). take (at - length (encode count)) s ++ (encode (length rs) ++ z)) (kept-bytes s at count total b there (r .end - at) (omega arith)) in
+        ∙ ap (λ (z : List ℕ). take (at - length (encode count)) s ++ (encode (length rs) ++ z)) (kept-bytes s at count allRegisterBytes b there (r .end - at) (omega arith)) in
         ap (λ (x : Tally). salvaged Done (x .runs) count (x .place) (at - k + n + (r .end - at)) left) e
-        ∙ rescue-done s at count total b there room (at - k + n + (r .end - at)) size-is h left (is ∙ ap (sets room 0) fresh)
+        ∙ rescue-done s at count allRegisterBytes b there room (at - k + n + (r .end - at)) size-is h left (is ∙ ap (sets room 0) fresh)
 
 pub sets-append : (a t room : List ℕ) (at : ℕ) → sets room at (a ++ t) ≡ sets (sets room at a) (at + length a) t
 sets-append [] t room at = ap (λ (x : ℕ). sets room x t) (omega arith)
@@ -202,7 +202,7 @@ tells r h c t e = rw (le-leb r (length t) (omega (arith, e)), parse, drop-of-len
 abbrev announced : Header → ℕ → Announced
 announced h c = record { header = h; count = c }
 
-module _ (s : List ℕ) (b : Bytes s) where
+module _ (s : List ℕ) (b : ByteString s) where
   -- a header at fault
   front-bad : (H : Fields) → H ≡ fieldsIn s → ¬ (H .next ≡ 12) → keptIn s ≡ none
   unfolding keptIn
@@ -222,7 +222,7 @@ module _ (s : List ℕ) (b : Bytes s) where
   pub salvage-bad : (H : Fields) → H ≡ fieldsIn s → (room : List ℕ) → ¬ (H .next ≡ 12) → salvaged (Damaged (H .at)) 0 0 (H .at) 0 room ≡ salvage s room
   unfolding salvage placeIn
   salvage-bad H is room e =
-      sym (ap₂ (λ (x : ℕ) (y : Option Kept). salvageOf x y room) (ap (placeOf s) (head-bad s H is e)) (front-bad H is e))
+      sym (ap₂ (λ (x : ℕ) (y : Option KeptPart). salvageOf x y room) (ap (faultPlace s) (head-bad s H is e)) (front-bad H is e))
 
   module _ (m : Machine) (n f c at : ℕ) (h : HeadedOk s m n f c at) where
     pub front-good : front announcedFormat s ≡ ahead (announced (h .header) c) at
@@ -264,7 +264,7 @@ spelled-split h rs =
     ap (encodeAll (version h)) (all-append (fields h) [] t) ∙ all-append (version h) (encodeAll (fields h) []) t
 
 -- the numbers of an image, up to the number of runs, at the front of an input
-head-bytes : (s : List ℕ) → Bytes s → (a : Announced) (k : ℕ) → front announcedFormat s ≡ ahead a k → take k s ≡ before (a .header) ++ encode (a .count)
+head-bytes : (s : List ℕ) → ByteString s → (a : Announced) (k : ℕ) → front announcedFormat s ≡ ahead a k → take k s ≡ before (a .header) ++ encode (a .count)
 unfolding placeIn
 head-bytes s b a k e =
     let p : ℕ = placeIn s in
@@ -273,12 +273,12 @@ head-bytes s b a k e =
     let (u, (d, acc)) = g .goes-on in
     let w : List ℕ = take p s ++ u in
     let same : take p w ≡ take p s = take-at (take p s) u p (length-take-le p s (g .there)) in
-    let p′ : ℕ = placeOf (drop k s) (parse (follows behindHead a) (drop k s)) in
-    let place : p ≡ k + p′ = ap (placeOf s) (head-parses s ∙ ap (onto (follows behindHead) s) e) ∙ place-later s k (parse (follows behindHead a) (drop k s)) (A .there) in
+    let p′ : ℕ = faultPlace (drop k s) (parse (follows behindHead a) (drop k s)) in
+    let place : p ≡ k + p′ = ap (faultPlace s) (head-parses s ∙ ap (onto (follows behindHead) s) e) ∙ place-later s k (parse (follows behindHead a) (drop k s)) (A .there) in
     let near : take k w ≡ take k s = take-before k p s w (omega arith) same in
     let ew : front announcedFormat w ≡ ahead a k = A .again w near in
-    let hw : Bytes w = accepts-bytes imageFormat w d acc in
-    let r = runs-of (λ rs. record { header = a .header; body = rs }) (a .count) 0 (total (a .header .mlen)) (drop k w) (bytes-drop k w hw) d
+    let hw : ByteString w = accepts-bytes imageFormat w d acc in
+    let r = runs-of (λ rs. record { header = a .header; body = rs }) (a .count) 0 (allRegisterBytes (a .header .mlen)) (drop k w) (bytes-drop k w hw) d
     (unlater k (parse (behindHead (a .header) (a .count)) (drop k w)) d (sym (head-parses w ∙ ap (onto (follows behindHead) w) ew) ∙ accepts-parse imageFormat w d acc)) in
     let is : w ≡ spelled (a .header) (r .body) = image-out w d acc .are ∙ ap (λ (y : Described). spelled (y .header) (y .body)) (sym (r .is)) in
     let front-is : List ℕ = before (a .header) ++ encode (length (r .body)) in
@@ -291,7 +291,7 @@ head-bytes s b a k e =
 
 -- ---- what the entry point returns and leaves
 
-module _ (s : List ℕ) (b : Bytes s) (m : Machine) (n f c at : ℕ) (h : HeadedOk s m n f c at) where
+module _ (s : List ℕ) (b : ByteString s) (m : Machine) (n f c at : ℕ) (h : HeadedOk s m n f c at) where
   here : take at s ≡ before (h .header) ++ encode c
   here = head-bytes s b (announced (h .header) c) at (front-good s b m n f c at h)
 
@@ -301,11 +301,11 @@ module _ (s : List ℕ) (b : Bytes s) (m : Machine) (n f c at : ℕ) (h : Headed
   pub count-before : length (encode c) ≤ at
   count-before = omega (arith, at-is)
 
-  total-is : 2 * m .mlen ≡ total (h .header .mlen)
+  total-is : 2 * m .mlen ≡ allRegisterBytes (h .header .mlen)
   total-is = ap (λ (x : Machine). 2 * x .mlen) (h .machine-is)
 
   runs : List Run
-  runs = runsKept c 0 (total (h .header .mlen)) (drop at s)
+  runs = runsKept c 0 (allRegisterBytes (h .header .mlen)) (drop at s)
 
   kept-is : keptIn s ≡ some (record { header = h .header; announced = c; body = runs })
   unfolding keptIn runs
@@ -321,9 +321,9 @@ module _ (s : List ℕ) (b : Bytes s) (m : Machine) (n f c at : ℕ) (h : Headed
 
   place-is : placeAt s at c 0 (2 * m .mlen) ≡ placeIn s
   unfolding placeAt placeIn
-  place-is = go (runsFrom s at c 0 (2 * m .mlen)) ∙ ap (placeOf s) (sym (head-parse s m n f c at h))
+  place-is = go (runsFrom s at c 0 (2 * m .mlen)) ∙ ap (faultPlace s) (sym (head-parse s m n f c at h))
     where
-      go : (q : Parsed Described) → placeOf s q ≡ placeOf s (mapped (λ d. describe (h .header) (d .body)) q)
+      go : (q : Parsed Described) → faultPlace s q ≡ faultPlace s (mapped (λ d. describe (h .header) (d .body)) q)
       go (whole d) = refl
       go (stopped p) = refl
 
@@ -332,7 +332,7 @@ module _ (s : List ℕ) (b : Bytes s) (m : Machine) (n f c at : ℕ) (h : Headed
   salvage-good room =
       let n-is : runsKept c 0 (2 * m .mlen) (drop at s) ≡ runs = ap (λ (x : ℕ). runsKept c 0 x (drop at s)) total-is in
       out-is (freshAt s at c (2 * m .mlen)) (spelled (h .header) runs) fresh-is (length (runsKept c 0 (2 * m .mlen) (drop at s))) (length runs) (ap length n-is) (placeAt s at c 0 (2 * m .mlen)) (placeIn s) place-is
-      ∙ sym (ap (λ (x : Option Kept). salvageOf (placeIn s) x room) kept-is)
+      ∙ sym (ap (λ (x : Option KeptPart). salvageOf (placeIn s) x room) kept-is)
     where
       out : List ℕ → ℕ → ℕ → SalvageOutcome
       out fresh n place =

@@ -8,7 +8,7 @@ use lib.Dec.{leb}
 use lib.ListN.{length, take, drop, length-take, length-drop, take-append-drop}
 use lib.Seq.{take-take, take-add, drop-drop, take-at, drop-at, length-take-le}
 use borrow.Author.Tests.{leb-true, le-leb}
-use Rattle.format.specs.Numbers.{Range, encode, Bytes}
+use Rattle.format.specs.Numbers.{Interval, encode, ByteString}
 use Rattle.format.specs.Formats.{Format}
 use Rattle.format.specs.Formats.Format.{done, number, bytes}
 use Rattle.format.specs.Parser.{Got, readNumber, Parsed, later, parse}
@@ -20,7 +20,7 @@ use Rattle.reader.proofs.FromLaws.{took-in}
 use Rattle.salvage.specs.Fronts.{Front, behind, front}
 use Rattle.salvage.specs.Fronts.Front.{ahead, stuck}
 
-pub bytes-drop : (n : ℕ) (s : List ℕ) → Bytes s → Bytes (drop n s)
+pub bytes-drop : (n : ℕ) (s : List ℕ) → ByteString s → ByteString (drop n s)
 bytes-drop zero s h = h
 bytes-drop (suc n) [] h = h
 bytes-drop (suc n) (b ∷ s) h = bytes-drop n s (h .1)
@@ -42,10 +42,10 @@ as-long k s t h e = let l : length (take k t) ≡ length (take k s) = ap length 
 
 -- ---- a number
 
-pub read-is : (rs : List Range) (s : List ℕ) (n l : ℕ) → Bytes s → readNumber rs s ≡ value n l → Read rs s n l
+pub read-is : (rs : List Interval) (s : List ℕ) (n l : ℕ) → ByteString s → readNumber rs s ≡ value n l → Read rs s n l
 read-is rs s n l b e = subst (Found rs s) e (number-right rs s b (among-nonempty n rs (took-in rs s 0 n (0 + l) (ap (found 0) e) .0)))
 
-module _ (rs : List Range) (s : List ℕ) (n l : ℕ) (r : Read rs s n l) where
+module _ (rs : List Interval) (s : List ℕ) (n l : ℕ) (r : Read rs s n l) where
   read-bytes : take l s ≡ encode n
   read-bytes = ap (take l) (r .starts) ∙ take-at (encode n) (drop l s) l (sym (r .long))
 
@@ -82,7 +82,7 @@ module _ {X : Type 0} where
           ∙ ap (behind l) (a .again (drop l t) (take-behind l k s t here (omega arith) e));
     }
 
-  pub front-ahead : (f : Format X) (s : List ℕ) → Bytes s → (x : X) (k : ℕ) → front f s ≡ ahead x k → Ahead f s x k
+  pub front-ahead : (f : Format X) (s : List ℕ) → ByteString s → (x : X) (k : ℕ) → front f s ≡ ahead x k → Ahead f s x k
   unfolding front
   front-ahead (done y) s b x k e = record { there = let z = ahead-one y x 0 k e in omega arith; again = λ t q. e }
   front-ahead (number rs j) s b x k e = by (readNumber rs s) refl (λ n l. front-ahead (j n) (drop l s) (bytes-drop l s b)) e
@@ -125,7 +125,7 @@ module _ {X : Type 0} where
               (subst (Ahead (bytes m j) s y) (z .1) (ahead-behind (j (take m s)) (bytes m j) s m here again y l (ih y l h)))
 
   -- what was read, field by field
-  pub number-ahead : (rs : List Range) (j : ℕ → Format X) (s : List ℕ) (x : X) (k : ℕ) → front (number rs j) s ≡ ahead x k
+  pub number-ahead : (rs : List Interval) (j : ℕ → Format X) (s : List ℕ) (x : X) (k : ℕ) → front (number rs j) s ≡ ahead x k
       → (n : ℕ) × (l : ℕ) × (m : ℕ) × (readNumber rs s ≡ value n l) × (front (j n) (drop l s) ≡ ahead x m) × (k ≡ l + m)
   unfolding front
   number-ahead rs j s x k e = by (readNumber rs s) refl e
@@ -184,7 +184,7 @@ module _ {X Y : Type 0} (K : X → Format Y) where
       go (whole y) = refl
       go (stopped p) = ap stopped (omega arith)
 
-  pub then-number : (rs : List Range) (f : ℕ → Format X) (g : ℕ → Format Y) → ((n : ℕ) → Then K (f n) (g n)) → Then K (number rs f) (number rs g)
+  pub then-number : (rs : List Interval) (f : ℕ → Format X) (g : ℕ → Format Y) → ((n : ℕ) → Then K (f n) (g n)) → Then K (number rs f) (number rs g)
   unfolding front parse
   then-number rs f g h s = go (readNumber rs s)
     where

@@ -8,7 +8,7 @@ use lib.Dec.{leb, eqb}
 use lib.ListN.{length, take, drop, length-append, length-drop, take-append-drop}
 use lib.Seq.{length-take-le, drop-drop}
 use borrow.Author.Tests.{leb-true, leb-false}
-use Rattle.format.specs.Numbers.{span, encode, Bytes}
+use Rattle.format.specs.Numbers.{span, encode, ByteString}
 use Rattle.format.specs.Formats.{Format}
 use Rattle.format.specs.Formats.Format.{done, number, bytes}
 use Rattle.format.specs.Parser.{Parsed, later, parse}
@@ -22,7 +22,7 @@ use Rattle.image_header.specs.Fields.{numbersOf}
 use Rattle.image_header.proofs.HeadLaws.{runsPart, countPart, sealsPart, tilesPart}
 use Rattle.salvage.specs.Fronts.{Front, front}
 use Rattle.salvage.specs.Fronts.Front.{ahead, stuck}
-use Rattle.salvage.specs.Salvage.{placeOf, Announced, announcedFormat, oneRun, taken, runsKept}
+use Rattle.salvage.specs.Salvage.{faultPlace, Announced, announcedFormat, oneRun, taken, runsKept}
 use Rattle.salvage.proofs.FrontLaws.{bytes-drop, take-behind, take-before, as-long, read-is, Ahead, ahead-one, stuck-never, front-ahead, number-ahead, bytes-ahead, onto, Then, then-done, then-number, then-bytes}
 
 -- ---- the header, then what follows it: part by part, as the format has them
@@ -127,7 +127,7 @@ run-then f more least room =
 abbrev pub RunBytes : List ℕ → Run → ℕ → Type 0
 RunBytes s (run g b) k = s ≡ encode g ++ (encode (length b) ++ (b ++ drop k s))
 
-pub run-bytes : (more least room : ℕ) (s : List ℕ) → Bytes s → (r : Run) (k : ℕ) → front (oneRun more least room) s ≡ ahead r k → RunBytes s r k
+pub run-bytes : (more least room : ℕ) (s : List ℕ) → ByteString s → (r : Run) (k : ℕ) → front (oneRun more least room) s ≡ ahead r k → RunBytes s r k
 unfolding front
 run-bytes more least room s hs r k e =
     let (g, l, m, eg, e2, ek) = number-ahead (span least (room - (1 + 2 * more))) (λ g. number (span 1 (room - (g + 2 * more))) λ n. bytes n λ b. done (run g b)) s r k e in
@@ -157,7 +157,7 @@ pub record RunsOf (f : List Run → Described) (count least room : ℕ) (w : Lis
   pub many : length body ≡ count
   pub is : f body ≡ d
   pub bytes-are : w ≡ runsBytes body
-  pub keeps : (s : List ℕ) → Bytes s → (p : ℕ) → p ≡ placeOf s (parse (runsFormat f count least room) s) → take p w ≡ take p s
+  pub keeps : (s : List ℕ) → ByteString s → (p : ℕ) → p ≡ faultPlace s (parse (runsFormat f count least room) s) → take p w ≡ take p s
       → KeptOf p (runsKept count least room s) body
 
 pub stopped-never : (d : Described) (p : ℕ) → stopped p ≡ whole d → ⊥
@@ -170,7 +170,7 @@ pub unlater : (k : ℕ) (q : Parsed Described) (d : Described) → later k q ≡
 unlater k (whole y) d e = e
 unlater k (stopped p) d e = absurd (stopped-never d (k + p) e)
 
-pub place-later : (s : List ℕ) (k : ℕ) (q : Parsed Described) → k ≤ length s → placeOf s (later k q) ≡ k + placeOf (drop k s) q
+pub place-later : (s : List ℕ) (k : ℕ) (q : Parsed Described) → k ≤ length s → faultPlace s (later k q) ≡ k + faultPlace (drop k s) q
 place-later s k (whole d) h = omega (arith, length-drop k s)
 place-later s k (stopped p) h = refl
 
@@ -183,7 +183,7 @@ pub kept-stuck : (more least room : ℕ) (s : List ℕ) (p : ℕ) → front (one
 unfolding runsKept
 kept-stuck more least room s p e = rw (e, runsKept)
 
-pub runs-of : (f : List Run → Described) (count least room : ℕ) (w : List ℕ) → Bytes w → (d : Described) → parse (runsFormat f count least room) w ≡ whole d
+pub runs-of : (f : List Run → Described) (count least room : ℕ) (w : List ℕ) → ByteString w → (d : Described) → parse (runsFormat f count least room) w ≡ whole d
     → RunsOf f count least room w d
 unfolding runsFormat parse runsKept
 runs-of f zero least room [] hw d e = record {
@@ -227,10 +227,10 @@ runs-of f (suc more) least room w hw d e = by (front (oneRun more least room) w)
             length-append (encode g) (encode (length b) ++ (b ++ runsBytes rs)) ∙ ap (λ (x : ℕ). length (encode g) + x) (length-append (encode (length b)) (b ++ runsBytes rs) ∙ ap (λ (x : ℕ). length (encode (length b)) + x) (length-append b (runsBytes rs))) in
             omega (arith, here .there, length-drop k w)
 
-        kept : (s : List ℕ) → Bytes s → (p : ℕ) → p ≡ placeOf s (parse (runsFormat f (suc more) least room) s) → take p w ≡ take p s → (q : Front Run) → front (oneRun more least room) s ≡ q
+        kept : (s : List ℕ) → ByteString s → (p : ℕ) → p ≡ faultPlace s (parse (runsFormat f (suc more) least room) s) → take p w ≡ take p s → (q : Front Run) → front (oneRun more least room) s ≡ q
             → KeptOf p (runsKept (suc more) least room s) (run g b ∷ rest .body)
         kept s hs p ep same (stuck q) i =
-            let place : p ≡ q = ep ∙ ap (placeOf s) (run-then f more least room s ∙ ap (onto (others f more room) s) i) in
+            let place : p ≡ q = ep ∙ ap (faultPlace s) (run-then f more least room s ∙ ap (onto (others f more room) s) i) in
             subst (λ (z : List Run). KeptOf p z (run g b ∷ rest .body)) (sym (kept-stuck more least room s q i))
             (record { first = refl; before = omega arith; next = λ _. behind-it (leb k p) refl })
           where
@@ -239,10 +239,10 @@ runs-of f (suc more) least room w hw d e = by (front (oneRun more least room) w)
             behind-it true j = absurd (stuck-never (run g b) k q (sym i ∙ here .again s (sym (take-before k p s w (leb-true k p j) same))))
         kept s hs p ep same (ahead r l) i =
             let a = front-ahead (oneRun more least room) s hs r l i in
-            let p′ : ℕ = placeOf (drop l s) (parse (others f more room r) (drop l s)) in
-            let place : p ≡ l + p′ = ep ∙ ap (placeOf s) (run-then f more least room s ∙ ap (onto (others f more room) s) i) ∙ place-later s l (parse (others f more room r) (drop l s)) (a .there) in
+            let p′ : ℕ = faultPlace (drop l s) (parse (others f more room r) (drop l s)) in
+            let place : p ≡ l + p′ = ep ∙ ap (faultPlace s) (run-then f more least room s ∙ ap (onto (others f more room) s) i) ∙ place-later s l (parse (others f more room r) (drop l s)) (a .there) in
             let z = ahead-one (run g b) r k l (sym h ∙ a .again w (take-before l p s w (omega arith) same)) in
-            subst (λ (x : Run). ((p′ : ℕ) → p ≡ l + p′ → p′ ≡ placeOf (drop l s) (parse (others f more room x) (drop l s)) → runsKept (suc more) least room s ≡ x ∷ runsKept more 1 (room - taken x) (drop l s) → KeptOf p (runsKept (suc more) least room s) (run g b ∷ rest .body))) (z .0)
+            subst (λ (x : Run). ((p′ : ℕ) → p ≡ l + p′ → p′ ≡ faultPlace (drop l s) (parse (others f more room x) (drop l s)) → runsKept (suc more) least room s ≡ x ∷ runsKept more 1 (room - taken x) (drop l s) → KeptOf p (runsKept (suc more) least room s) (run g b ∷ rest .body))) (z .0)
             (λ p′ place is-place is-kept.
             let same′ : take p′ (drop l w) ≡ take p′ (drop l s) = take-behind l p′ s w (a .there) (as-long l s w (a .there) (take-before l p s w (omega arith) same)) (subst (λ (x : ℕ). take x w ≡ take x s) place same) in
             let ko : KeptOf p′ (runsKept more 1 (room - (g + length b)) (drop l s)) (rest .body) = rest .keeps (drop l s) (bytes-drop l s hs) p′ is-place (subst (λ (x : ℕ). take p′ (drop x w) ≡ take p′ (drop l s)) (sym (z .1)) same′) in

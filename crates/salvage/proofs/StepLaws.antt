@@ -8,7 +8,7 @@ use lib.Dec.{leb, ltb}
 use lib.ListN.{length, take, drop, getD, length-append, length-drop}
 use lib.Seq.{length-take-le, drop-drop}
 use borrow.Author.Tests.{leb-true, leb-false, le-leb, lt-leb, lt-ltb, le-ltb, ltb-true, ltb-false}
-use Rattle.format.specs.Numbers.{Range, span, encode, Bytes}
+use Rattle.format.specs.Numbers.{Interval, span, encode, ByteString}
 use Rattle.format.specs.Formats.{Format}
 use Rattle.format.specs.Formats.Format.{done, number, bytes}
 use Rattle.format.specs.Parser.{Got, readNumber, Parsed, from}
@@ -35,7 +35,7 @@ use Rattle.image_check.proofs.ScanLaws.{Sound, run-ok}
 use Rattle.image_check.proofs.CheckLaws.{scan-headed, scan-runs, scan-sound}
 use Rattle.salvage.specs.Fronts.{Front, behind, front}
 use Rattle.salvage.specs.Fronts.Front.{ahead, stuck}
-use Rattle.salvage.specs.Salvage.{placeOf, oneRun, runsKept}
+use Rattle.salvage.specs.Salvage.{faultPlace, oneRun, runsKept}
 use Rattle.salvage.specs.Parts.{placeAt, keptAt, Tally, tallyAt}
 use Rattle.salvage.proofs.FrontLaws.{bytes-drop}
 use Rattle.salvage.proofs.KeepLaws.{run-bytes, kept-ahead, kept-stuck}
@@ -50,7 +50,7 @@ found-fault : (at : ℕ) (g : Got) (p : ℕ) → found at g ≡ Fault p → (k :
 found-fault at (value m k) p e = let z : _≡_ {A = ℕ} 0 1 = cc in absurd (omega arith)
 found-fault at (fault k) p e = (k, refl)
 
-module _ {X : Type 0} (rs : List Range) (j : ℕ → Format X) (s : List ℕ) where
+module _ {X : Type 0} (rs : List Interval) (j : ℕ → Format X) (s : List ℕ) where
   front-number : (n k : ℕ) → readNumber rs s ≡ value n k → front (number rs j) s ≡ behind k (front (j n) (drop k s))
   unfolding front
   front-number n k e = rw (e, front)
@@ -132,9 +132,9 @@ pub place-none : (s : List ℕ) (at left least room : ℕ) → left ≡ 0 → at
 unfolding placeAt runsFrom runsFormat
 place-none s at left least room e h = rw (e, runsFormat) (go (ltb at (length s)) refl)
   where
-    go : (t : Bool) → ltb at (length s) ≡ t → placeOf s (from (done (plain [])) s at) ≡ at
-    go true q = ap (placeOf s) (from-more s at (plain []) (ltb-true at (length s) q))
-    go false q = let w : length s ≤ at = ltb-false at (length s) q in ap (placeOf s) (from-end s at (plain []) w) ∙ omega arith
+    go : (t : Bool) → ltb at (length s) ≡ t → faultPlace s (from (done (plain [])) s at) ≡ at
+    go true q = ap (faultPlace s) (from-more s at (plain []) (ltb-true at (length s) q))
+    go false q = let w : length s ≤ at = ltb-false at (length s) q in ap (faultPlace s) (from-end s at (plain []) w) ∙ omega arith
 
 module _ (s : List ℕ) (at left least room : ℕ) (there : at ≤ length s) (more : 0 < left) (small : least ≤ 1) (room-ok : least + 2 * left ≤ room + 1) where
   is-left : left ≡ suc (left - 1)
@@ -156,7 +156,7 @@ module _ (s : List ℕ) (at left least room : ℕ) (there : at ≤ length s) (mo
     unfolding placeAt runsVerdict
     bad-place = go (runsFrom s at left least room) (next-bad s at left least room there more small room-ok p e)
       where
-        go : (q : Parsed Described) → verdictOf q ≡ Damaged p → placeOf s q ≡ p
+        go : (q : Parsed Described) → verdictOf q ≡ Damaged p → faultPlace s q ≡ p
         go (whole d) h = let z : _≡_ {A = ℕ} 0 1 = cc in absurd (omega arith)
         go (stopped x) h = cc
 
@@ -180,14 +180,14 @@ module _ (s : List ℕ) (at left least room : ℕ) (there : at ≤ length s) (mo
 
     pub good-place : placeAt s at left least room ≡ placeAt s (a + size) (left - 1) 1 (room - (gap + size))
     unfolding placeAt
-    good-place = ap (placeOf s) (ok .step) ∙ go (runsFrom s (a + size) (left - 1) 1 (room - (gap + size)))
+    good-place = ap (faultPlace s) (ok .step) ∙ go (runsFrom s (a + size) (left - 1) 1 (room - (gap + size)))
       where
-        go : (q : Parsed Described) → placeOf s (mapped (cons gap (take size (drop a s))) q) ≡ placeOf s q
+        go : (q : Parsed Described) → faultPlace s (mapped (cons gap (take size (drop a s))) q) ≡ faultPlace s q
         go (whole d) = refl
         go (stopped p) = refl
 
     -- it takes the bytes up to where the others start
-    pub good-end : Bytes s → (t : List Run) → at + length (runsBytes (this ∷ t)) ≡ a + size + length (runsBytes t)
+    pub good-end : ByteString s → (t : List Run) → at + length (runsBytes (this ∷ t)) ≡ a + size + length (runsBytes t)
     good-end b t =
         let w = known (NextRun gap size a) e in
         let g : List ℕ = encode gap in
@@ -201,7 +201,7 @@ module _ (s : List ℕ) (at left least room : ℕ) (there : at ≤ length s) (mo
 
 -- ---- for the code
 
-pub bytes-all : (s : List ℕ) → ((q : ℕ) → getD s q 0 < 256) → Bytes s
+pub bytes-all : (s : List ℕ) → ((q : ℕ) → getD s q 0 < 256) → ByteString s
 bytes-all [] h = tt
 bytes-all (b ∷ s) h = (h 0, bytes-all s (λ q. h (suc q)))
 
@@ -210,7 +210,7 @@ tally-is a b c x y z p q r = cc
 
 -- ---- all runs that a scan reads
 
-module _ (s : List ℕ) (bytes-ok : Bytes s) where
+module _ (s : List ℕ) (bytes-ok : ByteString s) where
   none-more : (n : ℕ) (u : Runs) → u .left ≡ 0 → runsAll s n u ≡ u
   unfolding runsAll
   none-more zero u e = refl

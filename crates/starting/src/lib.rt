@@ -9,7 +9,7 @@ ghost use mathlib.Core.Path.{_≡_};
 ghost use Rattle.machine.specs.Geometry.{benchOf};
 ghost use Rattle.machine.specs.Setting.{chosen};
 ghost use Rattle.ranges.specs.Ranges.{sealsIn};
-ghost use Rattle.run.specs.Start.{startRun, startedAs, noRun};
+ghost use Rattle.run.specs.Start.{startRun, runStartedAs, noRun};
 
 mod tests; // the tests of a start on memory
 
@@ -39,7 +39,7 @@ pub fn start(
     marks: &[u8],
     memory: &[u8],
 ) -> RunStarted
-    ensures { λ r. ⌜ startedAs r (benchOf m (sealsIn (now (seals .entry))) (now (registers .entry)) (now (marks .entry)) (now (memory .entry)))
+    ensures { λ r. ⌜ runStartedAs r (benchOf m (sealsIn (now (seals .entry))) (now (registers .entry)) (now (marks .entry)) (now (memory .entry)))
         ≡ startRun chosen plan (benchOf m (sealsIn (now (seals .entry))) (now (registers .entry)) (now (marks .entry)) (now (memory .entry))) ⌝ }
 {
     if !settings::faults::is_sound(m, seals, registers, marks) {

@@ -18,7 +18,7 @@ use Rattle.run.specs.Turn.{handsOut, moved, Running, running, turn, TurnOutcome
 use Rattle.run.proofs.HandedLaws.{turnWith}
 use Rattle.run.specs.Whole.{whole, finishedAs}
 use Rattle.ranges.specs.Ranges.{sealsIn}
-use Rattle.blocks.specs.Blocks.{machineBytes, machineOf, putMachine, Kept, putNumbers, packed}
+use Rattle.blocks.specs.Blocks.{machineBytes, machineOf, putMachine, SameMachine, putNumbers, packed}
 use Rattle.blocks.proofs.BlockLaws.{step-kept}
 use Rattle.run_blocks.specs.RunBlocks.{runFit, runOf, putRun, RunKept}
 use Rattle.turn_calls.specs.TurnCalls.{turnBlocks, heldRunning, turnedOut, shownTurn, hostTurn, shownTurns, hostTurns, ranOut, shownRun, hostRun}
@@ -37,7 +37,7 @@ module _ (run machine : List ℕ) where
   blocks-fit h k = rw (h, eq-eqb (length machine) machineBytes k)
 
 -- a turn keeps all of a run but its place, and of the machine all that no step changes
-turn-kept : (r : Running) → Kept (turn chosen r .after .bench .machine) (r .bench .machine) × RunKept (turn chosen r .after .run) (r .run)
+turn-kept : (r : Running) → SameMachine (turn chosen r .after .bench .machine) (r .bench .machine) × RunKept (turn chosen r .after .run) (r .run)
 turn-kept r = go (handsOut chosen (r .run))
   where
     stays : (R : Run) → RunKept R R
@@ -47,7 +47,7 @@ turn-kept r = go (handsOut chosen (r .run))
     goes true = record { plan = refl; rlen = refl; mlen = refl; rule = refl; elen = refl }
     goes false = stays (r .run)
 
-    go : (o : Option Op) → Kept (turnWith chosen r o .after .bench .machine) (r .bench .machine) × RunKept (turnWith chosen r o .after .run) (r .run)
+    go : (o : Option Op) → SameMachine (turnWith chosen r o .after .bench .machine) (r .bench .machine) × RunKept (turnWith chosen r o .after .run) (r .run)
     go none = (record { rlen = refl; mlen = refl; rule = refl; elen = refl }, stays (r .run))
     go (some o) =
         let h : Handed = handedFor (r .run .plan) o in
@@ -79,9 +79,9 @@ module _ (run machine registers marks memory : List ℕ) where
 
   -- and but for the place, mtype and the sizes they are those of the blocks
   pub turn-keeps : (R : Run) (m : Machine) (s : Turned) (G K Q : List ℕ) → R ≡ runOf run → m ≡ machineOf machine
-      → turnedAs s (sealsIn machine) G K Q ≡ turnOutcome chosen (running R (benchOf m (sealsIn machine) registers marks memory)) → Kept (s .machine) (machineOf machine) × RunKept (s .run) (runOf run)
+      → turnedAs s (sealsIn machine) G K Q ≡ turnOutcome chosen (running R (benchOf m (sealsIn machine) registers marks memory)) → SameMachine (s .machine) (machineOf machine) × RunKept (s .run) (runOf run)
   turn-keeps R m s G K Q eR em e =
-      subst (λ (r : Running). Kept (r .bench .machine) (machineOf machine) × RunKept (r .run) (runOf run)) (sym (ap (λ (o : TurnOutcome). o .after) (e ∙ ap (turnOutcome chosen) (held R m eR em))))
+      subst (λ (r : Running). SameMachine (r .bench .machine) (machineOf machine) × RunKept (r .run) (runOf run)) (sym (ap (λ (o : TurnOutcome). o .after) (e ∙ ap (turnOutcome chosen) (held R m eR em))))
       (turn-kept (heldRunning run machine registers marks memory))
 
   module _ (limit : ℕ) where

@@ -10,9 +10,9 @@ use Rattle.run.specs.declared.Plan.{Plan}
 use Rattle.run.specs.declared.RunStarted.{RunStarted}
 use Rattle.run.specs.Words.{Shape, steps}
 use Rattle.run.specs.Plan.{shape}
-use Rattle.run.specs.Start.{RunStart, startRun, startedAs}
+use Rattle.run.specs.Start.{RunStart, startRun, runStartedAs}
 use Rattle.run.specs.Turn.{running, TurnsOutcome, turn, afterTurns, turns}
-use Rattle.run.specs.Statement.{MemoryBytes, Demand3, jobOf, startedRun}
+use Rattle.run.specs.Statement.{MemoryBytes, RunFromStart, jobOf, startedRun}
 use Rattle.run.specs.Whole.{WholeOutcome, whole, Delivers}
 use Rattle.run.proofs.RefusalLaws.{number-done, number-refused}
 use Rattle.run.proofs.Demand1.{whole-refusal-changes-nothing}
@@ -45,7 +45,7 @@ module _ (P : Plan) (B : Bench) where
   -- ---- an accepted one
 
   module _ (bytes : MemoryBytes (B .memory)) where
-    the-demand : Demand3 chosen P B
+    the-demand : RunFromStart chosen P B
     the-demand = demand-3-ours P B bytes
 
     -- no more turns are answered 0 than there are steps, however many are taken
@@ -62,16 +62,16 @@ module _ (P : Plan) (B : Bench) where
     finishes : (o : WholeOutcome) → o ≡ whole chosen P B → Finishes o
     finishes o e = (e, subst (Delivers P B) (sym e) (whole-delivers P B bytes))
 
-    answer-is : (s : RunStarted) → startedAs s B ≡ startRun chosen P B → reply (s .answer) ≡ startRun chosen P B .answer
+    answer-is : (s : RunStarted) → runStartedAs s B ≡ startRun chosen P B → reply (s .answer) ≡ startRun chosen P B .answer
     answer-is s e = ap (λ (r : RunStart). r .answer) e
 
-    pub finishes-refused : (s : RunStarted) → startedAs s B ≡ startRun chosen P B → isDone (s .answer) ≡ false
+    pub finishes-refused : (s : RunStarted) → runStartedAs s B ≡ startRun chosen P B → isDone (s .answer) ≡ false
         → Finishes (record { answer = reply (s .answer); count = 0; bench = B })
     finishes-refused s e d =
         let a = answer-is s e in
         finishes _ (ap (λ (a : Reply). record { answer = a; count = 0; bench = B }) a ∙ sym (whole-refused (sym (ap done a) ∙ d)))
 
-    pub finishes-done : (s : RunStarted) → startedAs s B ≡ startRun chosen P B → isDone (s .answer) ≡ true
+    pub finishes-done : (s : RunStarted) → runStartedAs s B ≡ startRun chosen P B → isDone (s .answer) ≡ true
         → (t : TurnsOutcome) → t ≡ turns chosen (running (s .run) B) 0xffff_ffff_ffff_ffff
         → Finishes (record { answer = reply (s .answer); count = t .count; bench = t .after .bench })
     finishes-done s e d t h =

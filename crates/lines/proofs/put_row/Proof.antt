@@ -1,6 +1,6 @@
 use Rattle.width.proofs.Kit.{_≡_, sym, ap, _∙_, List, [], _∷_, _++_, ℕ, _+_, _-_, _≤_, arith, length, getD, length-append, needs}
 use Rattle.width.specs.Reduce.{signed}
-use Rattle.lines.specs.Lines.{written, spaced}
+use Rattle.lines.specs.Lines.{numberText, spaced}
 use Rattle.lines.specs.Parts.{signedAll}
 use Rattle.lines.proofs.WriteLaws.{wrote-more, wrote-none, Ahead, ahead-start, ahead-step, ahead-as, ahead-end, ahead-room, tailText, tail-more, tail-end, row-first, row-none}
 use Rattle.lines.proofs.put_row.Statement.{statement}
@@ -17,7 +17,7 @@ rowText s = spaced (signedAll (s .args .q) (s .args .row .now))
 
 -- number j, and what follows it
 abbrev item : tie.Start Inv-loop μ-loop → ℕ → List ℕ
-item s j = written (signed (s .args .q) (getD (s .args .row .now) j 0))
+item s j = numberText (signed (s .args .q) (getD (s .args .row .now) j 0))
 
 abbrev tail : tie.Start Inv-loop μ-loop → ℕ → List ℕ
 tail s j = tailText (s .args .q) (s .args .row .now) j

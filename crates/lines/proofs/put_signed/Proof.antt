@@ -1,15 +1,15 @@
 use Rattle.width.proofs.Kit.{_≡_, sym, ap, _∙_, _∷_, ℕ, suc, _-_, arith, length, needs}
 use Rattle.width.specs.Reduce.{signed}
-use Rattle.lines.specs.Lines.{decimal, written}
+use Rattle.lines.specs.Lines.{decimal, numberText}
 use Rattle.lines.proofs.WriteLaws.{wrote-more, wrote-as, minus-text, plus-text}
 use Rattle.lines.proofs.put_signed.Statement.{statement}
 use Rattle.lines.proofs.put_signed.Tie as tie
 
 -- the text of the number, with a minus and without
-below : (c : tie.Then1) → written (signed (c .before .before .before .args .q) (c .before .before .before .args .x)) ≡ 45 ∷ decimal (suc (c .before .before .before .args .q - suc (c .before .before .before .args .x)))
+below : (c : tie.Then1) → numberText (signed (c .before .before .before .args .q) (c .before .before .before .args .x)) ≡ 45 ∷ decimal (suc (c .before .before .before .args .q - suc (c .before .before .before .args .x)))
 below c = minus-text (c .before .before .before .args .q) (c .before .before .before .args .x) (sym (c .before .is-minus .ensures) ∙ c .if1 .taken)
 
-above : (c : tie.Else1) → written (signed (c .before .before .before .args .q) (c .before .before .before .args .x)) ≡ decimal (c .before .before .before .args .x)
+above : (c : tie.Else1) → numberText (signed (c .before .before .before .args .q) (c .before .before .before .args .x)) ≡ decimal (c .before .before .before .args .x)
 above c = plus-text (c .before .before .before .args .q) (c .before .before .before .args .x) (sym (c .before .is-minus .ensures) ∙ c .if1 .left)
 
 put-byte-requires : tie.Need-put-byte-requires

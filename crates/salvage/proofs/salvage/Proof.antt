@@ -3,7 +3,7 @@ use mathlib.Core.Path.{ap, _∙_}
 use Prim.Native.Nat.{ℕ, _<_}
 use native.Mathlib.Omega.{arith}
 use lib.ListN.{getD}
-use Rattle.format.specs.Numbers.{Bytes}
+use Rattle.format.specs.Numbers.{ByteString}
 use Rattle.image_check.proofs.CheckLaws.{scan-fields, scan-headed}
 use Rattle.salvage.specs.declared.Salvaged.{Salvaged}
 use Rattle.salvage.specs.Salvage.{salvagedAs}
@@ -14,7 +14,7 @@ use Rattle.salvage.proofs.salvage.Statement.{statement}
 use Rattle.salvage.proofs.salvage.Tie as tie
 
 -- the input's bytes
-input : (k : tie.After-scan) → Bytes (k .before .before .before .args .image .now)
+input : (k : tie.After-scan) → ByteString (k .before .before .before .args .image .now)
 input k =
     let s = k .before .before .before .args .image .now in
     let small : (q : ℕ) → getD s q 0 < 256 = λ q. omega (arith, k .before .before .shared-slice-known .given q) in

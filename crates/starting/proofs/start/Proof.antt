@@ -4,7 +4,7 @@ use Rattle.machine.specs.Faults.{soundBench}
 use Rattle.machine.proofs.NoFault.{bench-sound, bench-seals}
 use Rattle.ranges.specs.Ranges.{sealsIn}
 use Rattle.run.specs.declared.RunStarted.{RunStarted}
-use Rattle.run.specs.Start.{planned, lying, separate, startedAs}
+use Rattle.run.specs.Start.{planned, lying, separate, runStartedAs}
 use Rattle.width.specs.Bounds.{mostElen}
 use Rattle.settings.proofs.FaultLaws.{ready}
 use Rattle.settings.proofs.TypeLaws.{ready-elen}
@@ -23,7 +23,7 @@ returns c =
     let d = c .before .before in
     let s = d .before .before .before .before .before in
     let a = s .args in
-    ap (λ (r : RunStarted). startedAs r (bench s)) (c .refused .ensures)
+    ap (λ (r : RunStarted). runStartedAs r (bench s)) (c .refused .ensures)
     ∙ started-by (a .plan) (bench s)
     (test-failed (d .is-sound .result) (soundBench (bench s)) (d .is-sound .ensures) (c .before .if1 .taken)) refl refl refl
 
@@ -36,7 +36,7 @@ returns-2 c =
     let d = c .before .before in
     let e = d .before in
     let s = e .before .before .before .before .before .before in
-    ap (λ (r : RunStarted). startedAs r (bench s)) (c .refused2 .ensures)
+    ap (λ (r : RunStarted). runStartedAs r (bench s)) (c .refused2 .ensures)
     ∙ started-by (s .args .plan) (bench s) (fine e) (test-failed (d .is-planned .result) (planned (s .args .m .elen) (s .args .plan)) (d .is-planned .ensures) (c .before .if2 .taken)) refl refl
 
 -- the plan's numbers are permitted
@@ -60,7 +60,7 @@ returns-3 c =
     let f = d .before in
     let e = f .before .before in
     let s = e .before .before .before .before .before .before in
-    ap (λ (r : RunStarted). startedAs r (bench s)) (c .refused3 .ensures)
+    ap (λ (r : RunStarted). runStartedAs r (bench s)) (c .refused3 .ensures)
     ∙ started-by (s .args .plan) (bench s) (fine e) (plan-ok f)
     (test-failed (d .is-lying .result) (lying (s .args .plan) (s .args .memory .now)) (d .is-lying .ensures) (c .before .if3 .taken)) refl
 
@@ -82,7 +82,7 @@ returns-4 c =
     let f = g .before .before in
     let e = f .before .before in
     let s = e .before .before .before .before .before .before in
-    ap (λ (r : RunStarted). startedAs r (bench s)) (c .refused4 .ensures)
+    ap (λ (r : RunStarted). runStartedAs r (bench s)) (c .refused4 .ensures)
     ∙ started-by (s .args .plan) (bench s) (fine e) (plan-ok f) (lies g)
     (test-failed (d .is-separate .result) (separate (sealed (sealsIn (s .args .seals .now))) (s .args .plan)) (d .is-separate .ensures) (c .before .if4 .taken))
 

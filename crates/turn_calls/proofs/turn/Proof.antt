@@ -1,5 +1,5 @@
 use Rattle.width.proofs.Kit.{_≡_, sym, _∙_, true, not-true, not-false, needs}
-use Rattle.blocks.specs.Blocks.{machineOf, Kept}
+use Rattle.blocks.specs.Blocks.{machineOf, SameMachine}
 use Rattle.run_blocks.specs.RunBlocks.{runOf, runFit, RunKept}
 use Rattle.run_blocks.proofs.RunBlockLaws.{fit-length}
 use Rattle.turn_calls.proofs.TurnLaws.{blocks-unfit, blocks-short, blocks-fit, turn-refused, turn-shown, turn-keeps}
@@ -30,7 +30,7 @@ run-of-requires c κs = fit-length (c .before .before .before .before .before .b
 -- what the turn has left has the blocks' other numbers
 keeps : (t : tie.After-turn) →
     let a = t .before .before .before .before .before .before .before .before .before .before .before .before .before .before .before .before .before .before .args in
-    Kept (t .turn .result .machine) (machineOf (a .machine .now)) × RunKept (t .turn .result .run) (runOf (a .run .now))
+    SameMachine (t .turn .result .machine) (machineOf (a .machine .now)) × RunKept (t .turn .result .run) (runOf (a .run .now))
 keeps t =
     let m = t .before .before .before .before .before in
     let h = m .before .before in

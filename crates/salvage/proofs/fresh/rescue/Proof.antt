@@ -3,7 +3,7 @@ use mathlib.Core.Path.{_≡_, ap, _∙_}
 use Prim.Native.Nat.{ℕ, _*_, _^_, _≤_, _<_}
 use native.Mathlib.Omega.{arith}
 use lib.ListN.{length, getD}
-use Rattle.format.specs.Numbers.{encode, Bytes}
+use Rattle.format.specs.Numbers.{encode, ByteString}
 use Rattle.image_header.specs.Fields.{machineOf}
 use Rattle.image_header.proofs.HeadLaws.{HeadedOk}
 use Rattle.image_header.proofs.HeadLaws.{head-sizes}
@@ -18,7 +18,7 @@ use Rattle.salvage.proofs.fresh.rescue.Statement.{statement}
 use Rattle.salvage.proofs.fresh.rescue.Tie as tie
 
 -- the input's bytes
-input : (k : tie.After-tally) → Bytes (k .before .before .before .before .args .s .now)
+input : (k : tie.After-tally) → ByteString (k .before .before .before .before .args .s .now)
 input k =
     let s = k .before .before .before .before .args .s .now in
     let small : (q : ℕ) → getD s q 0 < 256 = λ q. omega (arith, k .before .before .before .shared-slice-known .given q) in
