@@ -1,5 +1,5 @@
 -- The checks of an operation that is not illegal, in the groups of their answers: 2, 3, 4, 5, 6, 13, 7.
-use mathlib.Core.Path.{_≡_, refl, sym, ap, ap₂, _∙_, subst}
+use mathlib.Core.Path.{_≡_, refl, sym, ap, ap₂, _∙_, subst, fun-ext}
 use mathlib.Core.Logic.{_⊎_, inl, inr}
 use mathlib.Core.Bool.{Bool, true, false, cond, not, _&&_, _||_}
 use mathlib.Core.List.{List, [], _∷_, _++_, map}
@@ -228,11 +228,22 @@ module _ (M : Parameters) (isSealed : ℕ → Bool) (st : State) (mem : List ℕ
   tile-needs : (at : ℕ → ℕ) (rows cols w : ℕ) → elementsCheck (st .marks) (tile at rows cols w) ≡ needs false (st .marks) at rows cols w
   tile-needs at rows cols w = ap₂ (λ (i j : ℕ). marked (st .marks) at rows (cols * w) otherwise Unwritten i j) (zero-add _) (zero-add _)
 
-  slice-needs : (f : Form) (first : ℕ) (at : ℕ → ℕ) (rows cols w : ℕ) → elementsCheck (st .marks) (slice f first at rows cols w) ≡ sliceNeeds f first (st .marks) at rows cols w
-  slice-needs Plain first at rows cols w =
-      ap (λ (j : ℕ). marked (st .marks) at rows (cols * w) otherwise Unwritten (first + firstRow (st .marks) at rows (cols * w)) j) (zero-add _)
-  slice-needs Transposed first at rows cols w =
-      ap (λ (i : ℕ). marked (st .marks) at rows (cols * w) otherwise Unwritten i (first + firstColumn (st .marks) (at (firstRow (st .marks) at rows (cols * w))) cols w)) (zero-add _)
+  -- a slice starts at its corner; the check names rows or columns from the first on
+  slice-needs : (f : Form) (a first count : ℕ)
+      → elementsCheck (st .marks) (slice M st f a first count)
+      ≡ sliceNeeds f first (st .marks) (sliceAt M f a first (sew (st .mtype))) (sliceRows f st count) (sliceCols f st count) (sew (st .mtype))
+  slice-needs Plain a first count =
+      let w : ℕ = sew (st .mtype) in
+      let at : ℕ → ℕ = sliceAt M Plain a first w in
+      let check : (ℕ → ℕ) → ℕ → Check = λ f j. marked (st .marks) f count (st .tileN * w) otherwise Unwritten (first + firstRow (st .marks) f count (st .tileN * w)) j in
+      let e : (λ i. accAt M a (first + i) + 0 * w) ≡ at = fun-ext (λ i. omega arith) in
+      ap (λ (f : ℕ → ℕ). check f (0 + firstColumn (st .marks) (f (firstRow (st .marks) f count (st .tileN * w))) (st .tileN) w)) e ∙ ap (check at) (zero-add _)
+  slice-needs Transposed a first count =
+      let w : ℕ = sew (st .mtype) in
+      let at : ℕ → ℕ = sliceAt M Transposed a first w in
+      let check : (ℕ → ℕ) → ℕ → Check = λ f i. marked (st .marks) f (st .tileM) (count * w) otherwise Unwritten i (first + firstColumn (st .marks) (f (firstRow (st .marks) f (st .tileM) (count * w))) count w) in
+      let e : (λ i. accAt M a (0 + i) + first * w) ≡ at = fun-ext (λ i. omega arith) in
+      ap (λ (f : ℕ → ℕ). check f (0 + firstRow (st .marks) f (st .tileM) (count * w))) e ∙ ap (check at) (zero-add _)
 
   -- a tile without an element is written
   empty-marked : (at : ℕ → ℕ) (rows cols w : ℕ) → eqb (rows * cols) 0 ≡ true → marked (st .marks) at rows (cols * w) ≡ true
@@ -350,7 +361,7 @@ module _ (M : Parameters) (isSealed : ℕ → Bool) (st : State) (mem : List ℕ
       let cols = sliceCols f st count in
       let w = sew (st .mtype) in
       same-behind (heads (moveOut f a v first count)) (sliceNeeds f first (st .marks) at rows cols w ∷ []) (behindSizes (moveOut f a v first count))
-      (reads-last (sliceNeeds f first (st .marks) at rows cols w ∷ []) ∙ ap (λ (c : Check). verdict (c ∷ nothing)) (sym (slice-needs f first at rows cols w)))
+      (reads-last (sliceNeeds f first (st .marks) at rows cols w ∷ []) ∙ ap (λ (c : Check). verdict (c ∷ nothing)) (sym (slice-needs f a first count)))
   grouped (moveIn f d v first count file) h = refl
 
 -- ---- each group and its sentence

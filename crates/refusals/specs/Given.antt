@@ -24,7 +24,7 @@ use Rattle.machine.specs.Setting.{sew, maccq, mill, maximum, sizeIn}
 use Rattle.machine.specs.Listing.{decode}
 use Rattle.machine.specs.Memory.{rowZ, rowAt}
 use Rattle.machine.specs.Vectors.{Vectors}
-use Rattle.machine.specs.Operation.{Operation, illegal, setType, setSize, cutSize, load, store, multiply, combine, scale, floatMultiply, moveOut, moveIn, operationIn, rowsOf, columnsOf, tileRows, tileCols, memoryRows, memoryCols, sliceAt, sliceRows, sliceCols}
+use Rattle.machine.specs.Operation.{Operation, illegal, setType, setSize, cutSize, load, store, multiply, combine, scale, floatMultiply, moveOut, moveIn, operationIn, rowsOf, columnsOf, tileRows, tileCols, memoryRows, memoryCols}
 use Rattle.machine.specs.Refusals.{isZero}
 use Rattle.machine.specs.Step.{stepWith}
 use Rattle.machine.specs.WordTheorems.{Faultless, RightOpcode, IsOurs, OutOfRange, RefusedAs}
@@ -118,18 +118,15 @@ pub record Elements : Type 0 where
 abbrev pub tile : (ℕ → ℕ) → (rows columns width : ℕ) → Elements
 tile at rows columns width = record { at = at; rows = rows; columns = columns; width = width; top = 0; left = 0 }
 
--- a slice of an accumulator (02, Eleven): rows from `first` on, or columns
-abbrev pub sliceTop : Form → ℕ → ℕ
-sliceTop Plain first = first
-sliceTop Transposed first = 0
+-- the elements of an accumulator from row `top` and column `left` on, so many rows and columns of them (02, Eleven)
+abbrev pub part : Parameters → (accumulator top left rows columns width : ℕ) → Elements
+part M accumulator top left rows columns width =
+    record { at = λ i. accAt M accumulator (top + i) + left * width; rows = rows; columns = columns; width = width; top = top; left = left }
 
-abbrev pub sliceLeft : Form → ℕ → ℕ
-sliceLeft Plain first = 0
-sliceLeft Transposed first = first
-
-abbrev pub slice : Form → (first : ℕ) → (ℕ → ℕ) → (rows columns width : ℕ) → Elements
-slice f first at rows columns width =
-    record { at = at; rows = rows; columns = columns; width = width; top = sliceTop f first; left = sliceLeft f first }
+-- so many rows of the C tile from `first` on, or columns
+abbrev pub slice : Parameters → State → Form → (accumulator first count : ℕ) → Elements
+slice M st Plain accumulator first count = part M accumulator first 0 count (st .tileN) (sew (st .mtype))
+slice M st Transposed accumulator first count = part M accumulator 0 first (st .tileM) count (sew (st .mtype))
 
 -- "A multiply reads its three tiles whole, but nothing where C has no element."
 abbrev pub factors : Parameters → State → (wide d a b : ℕ) → List Elements
@@ -152,8 +149,7 @@ reads M st (combine o f d a) =
     tile (accAt M a) (st .tileM) (st .tileN) (sew (st .mtype)) ∷ tile (accAt M d) (st .tileM) (st .tileN) (f * sew (st .mtype)) ∷ []
 reads M st (scale f d a x) = cond (isZero x) [] (tile (accAt M a) (st .tileM) (st .tileN) (sew (st .mtype)) ∷ [])
 reads M st (floatMultiply d a b) = factors M st (sew (st .mtype)) d a b
-reads M st (moveOut f a v first count) =
-    slice f first (sliceAt M f a first (sew (st .mtype))) (sliceRows f st count) (sliceCols f st count) (sew (st .mtype)) ∷ []
+reads M st (moveOut f a v first count) = slice M st f a first count ∷ []
 reads M st (moveIn f d v first count file) = []
 
 module _ (marks : List ℕ) where
