@@ -223,15 +223,15 @@ module _ (grant : Choice) where
       go (stopped p) = omega arith
       go (whole d) = fit d (fitted d registers marks)
 
-  pub salvage-low : (image room : List ℕ) → salvage image room .answer ≤ lastAnswer
+  pub salvage-low : (image room : List ℕ) → salvage image room .answer .number ≤ lastAnswer
   unfolding salvage
   salvage-low image room = go (placeIn image) (keptIn image)
     where
-      fit : (p : ℕ) (k : Kept) (f : List ℕ) (t : Bool) → cond t (salvaged Imaged.Done (length (k .body)) (k .announced) p (length f) (f ++ drop (length f) room)) (salvaged Imaged.NoRoom 0 0 p 0 room) .answer ≤ lastAnswer
+      fit : (p : ℕ) (k : Kept) (f : List ℕ) (t : Bool) → cond t (salvaged Imaged.Done (length (k .body)) (k .announced) p (length f) (f ++ drop (length f) room)) (salvaged Imaged.NoRoom 0 0 p 0 room) .answer .number ≤ lastAnswer
       fit p k f true = omega arith
       fit p k f false = omega arith
 
-      go : (p : ℕ) (k : Option Kept) → salvageOf p k room .answer ≤ lastAnswer
+      go : (p : ℕ) (k : Option Kept) → salvageOf p k room .answer .number ≤ lastAnswer
       go p none = omega arith
       go p (some k) = let f = spelled (k .header) (k .body) in fit p k f (leb (length f) (length room))
 

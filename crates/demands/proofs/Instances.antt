@@ -151,6 +151,7 @@ of-results = record {
   c-image-write-whole = promise .results .c-image-write-whole block regs spots (room 30);
   c-image-read-whole = promise .results .c-image-read-whole cut block regs spots;
   c-image-salvage-whole = promise .results .c-image-salvage-whole cut (room 30) report (smalls cut refl);
+  c-image-salvage-report = promise .results .c-image-salvage-report cut (room 30) report (smalls cut refl) refl;
   c-word-text-whole = promise .results .c-word-text-whole mlbte16 (replicate 32 0) (omega arith);
   c-text-word-whole = promise .results .c-text-word-whole badText (replicate 8 1);
 }

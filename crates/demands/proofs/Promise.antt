@@ -18,6 +18,7 @@ use Rattle.image_calls.proofs.Refusal as image
 use Rattle.image_calls.proofs.Packing.{image-size-packs-whole, image-write-packs-whole, image-read-packs-whole}
 use Rattle.salvage_calls.proofs.Refusal.{salvage-call-refusal}
 use Rattle.salvage_calls.proofs.Packing.{salvage-packs-whole}
+use Rattle.salvage_calls.proofs.Report.{report-is-read-back}
 use Rattle.text_calls.proofs.Refusal as text
 use Rattle.text_calls.proofs.Packing.{word-text-packs, text-word-packs}
 use Rattle.calls.proofs.Seal.{seal-holds-over-calls, seal-holds-from-start-call, seal-holds-from-read-call, start-call-holds, read-call-holds}
@@ -164,6 +165,7 @@ promise = record {
     c-image-write-whole = image-write-packs-whole;
     c-image-read-whole = image-read-packs-whole;
     c-image-salvage-whole = salvage-packs-whole;
+    c-image-salvage-report = report-is-read-back;
     c-word-text-whole = word-text-packs;
     c-text-word-whole = text-word-packs;
   };

@@ -81,6 +81,7 @@ use Rattle.run_calls.specs.RunCalls.{runStartedOut, hostRunStart, nextOut, host
 use Rattle.turn_calls.specs.TurnCalls.{turnedOut, hostTurn, hostTurns, ranOut, hostRun}
 use Rattle.image_calls.specs.ImageCalls.{hostImageSize, writtenOut, hostImageWrite, readOut, hostImageRead}
 use Rattle.salvage_calls.specs.SalvageCalls.{salvagedOut, hostSalvage}
+use Rattle.salvage_calls.specs.Theorems.{reported}
 use Rattle.text_calls.specs.TextCalls.{textOut, hostWordText, wordLeft, hostTextWord}
 use Rattle.blocks.specs.Blocks.{valuesOf, packed}
 use Rattle.calls.specs.Calls.{Buffers, buffers, Call, called, calls}
@@ -702,7 +703,7 @@ pub record Requests : Type 1 where
       → ((26 < endOf d 0) × (salvage cut (room 30) ≡ salvaged (Damaged 26) 0 0 26 0 (room 30))) ⊎ ((n : ℕ) × KeepsFirst cut (room 30) 26 d n)
   pub thirteen-place : Ends IsImage cut 26
   pub thirteen-image : IsImage (take 16 image ++ (1 ∷ 70 ∷ 3 ∷ 70 ∷ 71 ∷ 72 ∷ [])) × (drop 22 (salvage cut (room 30) .room) ≡ room 8)
-  pub thirteen-room : ¬ (salvage cut (room 26) .answer ≡ 14)
+  pub thirteen-room : ¬ (salvage cut (room 26) .answer .number ≡ 14)
   pub thirteen-sound : salvage image (room 30) ≡ salvaged Done 2 2 27 27 (image ++ room 3)
   -- byte 71 lies in the run that is kept
   pub thirteen-cut : let o = salvage (take 26 (imageIn spotted)) (room 30) in
@@ -734,6 +735,7 @@ pub record Results : Type 0 where
   -- cut in its second run
   pub c-image-read-whole : let r = hostImageRead cut block regs spots .result in (r % 2 ^ 16 ≡ 15) × (r / 2 ^ 16 ≡ 26)
   pub c-image-salvage-whole : let r = hostSalvage cut (room 30) report .result in (r % 2 ^ 16 ≡ 0) × (r / 2 ^ 16 ≡ 22)
+  pub c-image-salvage-report : let r = hostSalvage cut (room 30) report .report in (reported r 0 ≡ 1) × (reported r 1 ≡ 2) × (reported r 2 ≡ 26)
   -- a line of 25 bytes, and one whose column 13 is no register's
   pub c-word-text-whole : let r = hostWordText mlbte16 (replicate 32 0) .result in (r % 2 ^ 16 ≡ 0) × (r / 2 ^ 16 ≡ 25)
   pub c-text-word-whole : let r = hostTextWord badText (replicate 8 1) .result in (r % 2 ^ 16 ≡ 17) × (r / 2 ^ 16 ≡ 13)

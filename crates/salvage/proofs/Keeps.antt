@@ -265,11 +265,11 @@ pub record Wrote (s room : List ℕ) : Type 0 where
   pub is-written : take (salvage s room .size) (salvage s room .room) ≡ spelled (kept .header) (kept .body)
   pub stays : drop (salvage s room .size) (salvage s room .room) ≡ drop (salvage s room .size) room
 
-pub wrote : (s room : List ℕ) → salvage s room .answer ≡ 0 → Wrote s room
+pub wrote : (s room : List ℕ) → salvage s room .answer .number ≡ 0 → Wrote s room
 unfolding salvage
 wrote s room h = go (keptIn s) refl h
   where
-    go : (q : Option Kept) → keptIn s ≡ q → salvageOf (placeIn s) q room .answer ≡ 0 → Wrote s room
+    go : (q : Option Kept) → keptIn s ≡ q → salvageOf (placeIn s) q room .answer .number ≡ 0 → Wrote s room
     go none e h = absurd (omega (arith, h))
     go (some k) e h = by (leb (length (spelled (k .header) (k .body))) (length room)) refl
       where
@@ -286,8 +286,8 @@ wrote s room h = go (keptIn s) refl h
               stays = ap (λ (x : SalvageOutcome). drop (x .size) (x .room)) o ∙ drop-at fresh (drop (length fresh) room) (length fresh) refl ∙ ap (λ (x : SalvageOutcome). drop (x .size) room) (sym o);
             }
         by false j =
-            let o : salvage s room .answer ≡ 14 = ap (λ (x : SalvageOutcome). x .answer) (out-short s room k e (leb-false (length fresh) (length room) j)) in
-            absurd (fourteen-not (sym o ∙ ap (λ (q : Option Kept). salvageOf (placeIn s) q room .answer) e ∙ h))
+            let o : salvage s room .answer .number ≡ 14 = ap (λ (x : SalvageOutcome). x .answer .number) (out-short s room k e (leb-false (length fresh) (length room) j)) in
+            absurd (fourteen-not (sym o ∙ ap (λ (q : Option Kept). salvageOf (placeIn s) q room .answer .number) e ∙ h))
 
 pub fresh-is-image : FreshIsImage
 fresh-is-image s room b h =
@@ -342,7 +342,7 @@ unfolding salvage
 salvage-refusal s room = go (keptIn s)
   where
     Left : SalvageOutcome → Type 0
-    Left o = ¬ (o .answer ≡ 0) → (o .kept ≡ 0) × (o .announced ≡ 0) × (o .size ≡ 0) × (o .room ≡ room)
+    Left o = ¬ (o .answer .number ≡ 0) → (o .kept ≡ 0) × (o .announced ≡ 0) × (o .size ≡ 0) × (o .room ≡ room)
 
     go : (q : Option Kept) → Left (salvageOf (placeIn s) q room)
     go none = λ h. (refl, refl, refl, refl)

@@ -52,12 +52,12 @@ SalvageIsExact = (s room : List ℕ) → Bytes s → let p = salvage s room .pla
 
 -- "It writes a fresh image": what is written is an image, and the room past it stays
 abbrev pub FreshIsImage : Type 0
-FreshIsImage = (s room : List ℕ) → Bytes s → let o = salvage s room in o .answer ≡ 0
+FreshIsImage = (s room : List ℕ) → Bytes s → let o = salvage s room in o .answer .number ≡ 0
     → IsImage (take (o .size) (o .room)) × (drop (o .size) (o .room) ≡ drop (o .size) room)
 
 -- a room as long as the input is enough
 abbrev pub EnoughRoom : Type 0
-EnoughRoom = (s room : List ℕ) → Bytes s → length s ≤ length room → ¬ (salvage s room .answer ≡ 14)
+EnoughRoom = (s room : List ℕ) → Bytes s → length s ≤ length room → ¬ (salvage s room .answer .number ≡ 14)
 
 -- ---- a sound image, and one that is cut
 
@@ -77,7 +77,7 @@ pub record FewerMarks (B : Bench) (o : ReadOutcome) : Type 0 where
 -- of a machine's image, read into any buffers of that machine's size
 abbrev pub CutKeepsBytes : Type 0
 CutKeepsBytes = (B : Bench) (c : ℕ) (room registers marks : List ℕ) → soundBench B ≡ true → Bytes (B .registers) → Fits (B .machine) registers marks
-    → let o = salvage (take c (imageIn B)) room in o .answer ≡ 0 → FewerMarks B (readImage (take (o .size) (o .room)) registers marks)
+    → let o = salvage (take c (imageIn B)) room in o .answer .number ≡ 0 → FewerMarks B (readImage (take (o .size) (o .room)) registers marks)
 
 -- and the place is the length
 abbrev pub CutPlace : Type 0
@@ -88,5 +88,5 @@ CutPlace = (B : Bench) (c : ℕ) (room : List ℕ) → soundBench B ≡ true →
 
 -- "each with that place and counts of 0"; a refusal changes nothing
 abbrev pub SalvageRefusalChangesNothing : Type 0
-SalvageRefusalChangesNothing = (s room : List ℕ) → let o = salvage s room in ¬ (o .answer ≡ 0)
+SalvageRefusalChangesNothing = (s room : List ℕ) → let o = salvage s room in ¬ (o .answer .number ≡ 0)
     → (o .kept ≡ 0) × (o .announced ≡ 0) × (o .size ≡ 0) × (o .room ≡ room)

@@ -25,11 +25,11 @@ use Rattle.salvage.proofs.Keeps.{kept-image}
 use Rattle.salvage_calls.specs.SalvageCalls.{reportBytes, packedSalvage, HostSalvaged, salvagedOut, shownSalvage, hostSalvage}
 use Rattle.salvage_calls.specs.Theorems.{SalvagePacksWhole}
 
-image-small : (s : List ℕ) → IsImage s → length s ≤ most
+pub image-small : (s : List ℕ) → IsImage s → length s ≤ most
 image-small s i = subst (λ (z : List ℕ). length z ≤ most) (sym (i .is-its-image)) (image-short (i .machine) (i .seals) (i .registers) (i .marks) (i .not-at-fault))
 
 module _ (s : List ℕ) (b : Bytes s) where
-  place-small : placeIn s ≤ most
+  pub place-small : placeIn s ≤ most
   unfolding placeIn
   place-small = go (parse imageFormat s) (parse-right imageFormat s image-live b) (place-short s)
     where
@@ -38,7 +38,7 @@ module _ (s : List ℕ) (b : Bytes s) where
       go (stopped p) a h = h
 
   abbrev reply : SalvageOutcome → ImageReply
-  reply o = record { number = o .answer; place = o .place }
+  reply o = record { number = o .answer .number; place = o .place }
 
   out-small : (room : List ℕ) → Small (reply (salvage s room)) (salvage s room .size)
   unfolding salvage
@@ -68,6 +68,6 @@ salvage-packs-whole image room report b = go (eqb (length report) reportBytes)
     out : Bool → HostSalvaged
     out t = cond t (shownSalvage report o) (salvagedOut (packedSalvage 8 0 0) room report)
 
-    go : (t : Bool) → let q : SalvageOutcome = cond t o (salvaged BadArguments 0 0 0 0 room) in PacksWhole (out t .result) (record { number = q .answer; place = q .place }) (q .size)
-    go true = packs (record { number = o .answer; place = o .place }) (o .size) (out-small image b room)
+    go : (t : Bool) → let q : SalvageOutcome = cond t o (salvaged BadArguments 0 0 0 0 room) in PacksWhole (out t .result) (record { number = q .answer .number; place = q .place }) (q .size)
+    go true = packs (record { number = o .answer .number; place = o .place }) (o .size) (out-small image b room)
     go false = packs (record { number = 8; place = 0 }) 0 (record { number-small = omega arith; size-small = omega arith; place-small = omega arith })
