@@ -1,6 +1,11 @@
 -- Which ranges the machine's block holds after a call, and after one call after another.
-use Rattle.width.proofs.Kit.{_≡_, refl, sym, ap, ap₂, _∙_, subst, Bool, true, false, cond, List, [], _∷_, _++_, append-assoc, append-nil, ℕ, eqb, ltb}
-use Rattle.width.proofs.Kit.{length, eqb-true, eq-eqb}
+use mathlib.Core.Path.{_≡_, refl, sym, ap, ap₂, _∙_, subst}
+use mathlib.Core.Bool.{Bool, true, false, cond}
+use mathlib.Core.List.{List, [], _∷_, _++_, append-assoc, append-nil}
+use Prim.Native.Nat.{ℕ, _%_, _^_}
+use lib.Dec.{eqb, ltb}
+use lib.ListN.{length}
+use borrow.Author.Tests.{eqb-true, eq-eqb}
 use Rattle.machine.specs.declared.Machine.{Machine}
 use Rattle.machine.specs.declared.Answer.{Answer}
 use Rattle.machine.specs.declared.Answer.the-variants.{Done, BadArguments, TooManySeals}
@@ -26,13 +31,16 @@ use Rattle.blocks.specs.Blocks.{machineBytes, machineOf, putMachine, packed}
 use Rattle.blocks.proofs.BlockLaws.{machineOf-putSeals, putMachine-seals}
 use Rattle.run_blocks.specs.RunBlocks.{runBytes}
 use Rattle.scalar_block.specs.ScalarBlock.{stepBlock}
-use Rattle.bench_calls.specs.BenchCalls.{steppedOut, shownStep, hostStep, sealedOut, hostSeal}
+use Rattle.bench_calls.proofs.Refusal.{start-refusal}
+use Rattle.bench_calls.specs.BenchCalls.{HostStarted, steppedOut, shownStep, hostStep, sealedOut, hostSeal}
 use Rattle.run_calls.specs.RunCalls.{runStartedOut, shownRunStart, hostRunStart}
 use Rattle.turn_calls.specs.TurnCalls.{turnBlocks, heldRunning, turnedOut, shownTurn, hostTurn, shownTurns, hostTurns, ranOut, shownRun, hostRun}
+use Rattle.image_calls.specs.ImageCalls.{HostRead}
+use Rattle.image_calls.proofs.Refusal.{image-read-refusal}
 use Rattle.calls.specs.Calls.{Buffers, Call, Called, afterStep, afterSeal, afterRunStart, afterTurn, afterRun, called}
 use Rattle.calls.specs.Composed.{afterCalls, benchIn, addedByCall, addedOverCalls, KeepsMachine, EachKeepsMachine, SealHoldsFromSealCall, SealCallSeals, RangesAreExactOverCalls}
 use Rattle.calls.proofs.Numbers.{machine-words}
-use Rattle.calls.proofs.Seal.{seal-safe, from-block}
+use Rattle.calls.proofs.Seal.{holds-none, seal-safe, from-block}
 
 -- ---- bodlarina_seal
 
@@ -75,10 +83,24 @@ module _ (from size : ℕ) (b : Buffers) where
 
 pub seal-call-seals : SealCallSeals
 unfolding addSeal
-seal-call-seals from size b l =
-    let e = seal-out from size b ∙ ap (out from size b) (eq-eqb (length (b .machine)) machineBytes l) in
-    let k = by-tests from size b (soundBench (benchIn b)) (sealEnds from size) (ltb (length (sealsIn (b .machine))) mostSeals) refl refl refl l in
-    (ap (λ (o : Called). o .result) e ∙ k .0, ap (λ (o : Called). benchIn (o .after)) e ∙ k .1)
+seal-call-seals from size b = go (eqb (length (b .machine)) machineBytes) refl
+  where
+    verdictOf : Bool → Answer
+    verdictOf s = cond s (cond (sealEnds from size) (cond (ltb (length (sealsIn (b .machine))) mostSeals) Done TooManySeals) BadArguments) BadArguments
+
+    go : (t : Bool) → eqb (length (b .machine)) machineBytes ≡ t
+        → (called (Call.seal from size) b .result ≡ reply (verdictOf (soundBench (benchIn b))) .number)
+        × (benchIn (called (Call.seal from size) b .after) ≡ cond (isDone (verdictOf (soundBench (benchIn b)))) (withSeal from size (benchIn b)) (benchIn b))
+    go true e =
+        let o = seal-out from size b ∙ ap (out from size b) e in
+        let k = by-tests from size b (soundBench (benchIn b)) (sealEnds from size) (ltb (length (sealsIn (b .machine))) mostSeals) refl refl refl (eqb-true (length (b .machine)) machineBytes e) in
+        (ap (λ (o : Called). o .result) o ∙ k .0, ap (λ (o : Called). benchIn (o .after)) o ∙ k .1)
+    go false e =
+        let o = seal-out from size b ∙ ap (out from size b) e in
+        let n = holds-none b e in (
+          ap (λ (o : Called). o .result) o ∙ ap (λ (s : Bool). reply (verdictOf s) .number) (sym n),
+          ap (λ (o : Called). benchIn (o .after)) o ∙ ap (λ (s : Bool). cond (isDone (verdictOf s)) (withSeal from size (benchIn b)) (benchIn b)) (sym n),
+        )
 
 -- ---- one call
 
@@ -103,17 +125,19 @@ module _ (b : Buffers) where
       go false = stays
 
   seal-holds : (from size : ℕ) → sealsIn (called (Call.seal from size) b .after .machine) ≡ sealsIn (b .machine) ++ addedByCall (Call.seal from size) b
-  seal-holds from size = go (eqb (length (b .machine)) machineBytes) refl
-    where
-      go : (t : Bool) → eqb (length (b .machine)) machineBytes ≡ t → sealsIn (called (Call.seal from size) b .after .machine) ≡ sealsIn (b .machine) ++ addedByCall (Call.seal from size) b
-      go true e =
-          let k = seal-call-seals from size b (eqb-true (length (b .machine)) machineBytes e) in
-          ap (λ (C : Bench). C .seals) (k .1) ∙ sealed-ranges from size (benchIn b)
-          ∙ ap (λ (n : ℕ). sealsIn (b .machine) ++ cond (eqb n 0) (range from size ∷ []) []) (sym (k .0))
-      go false e =
-          let o = seal-out from size b ∙ ap (out from size b) e in
-          ap (λ (c : Called). sealsIn (c .after .machine)) o ∙ stays
-          ∙ ap (λ (c : Called). sealsIn (b .machine) ++ cond (eqb (c .result) 0) (range from size ∷ []) []) (sym o)
+  seal-holds from size =
+      let k = seal-call-seals from size b in
+      ap (λ (C : Bench). C .seals) (k .1) ∙ sealed-ranges from size (benchIn b)
+      ∙ ap (λ (n : ℕ). sealsIn (b .machine) ++ cond (eqb n 0) (range from size ∷ []) []) (sym (k .0))
+
+  -- refused ones leave the block
+  start-holds : (rlen mlen elen rule : ℕ) (seals : List ℕ) → ¬ (called (Call.start rlen mlen elen rule seals) b .result ≡ 0)
+      → sealsIn (called (Call.start rlen mlen elen rule seals) b .after .machine) ≡ sealsIn (b .machine) ++ []
+  start-holds rlen mlen elen rule seals n =
+      ap (λ (h : HostStarted). sealsIn (h .machine)) (start-refusal rlen mlen elen rule seals (b .machine) (b .registers) (b .marks) n) ∙ stays
+
+  read-holds : (image : List ℕ) → ¬ (called (Call.imageRead image) b .result % 2 ^ 16 ≡ 0) → sealsIn (called (Call.imageRead image) b .after .machine) ≡ sealsIn (b .machine) ++ []
+  read-holds image n = ap (λ (h : HostRead). sealsIn (h .machine)) (image-read-refusal image (b .machine) (b .registers) (b .marks) n) ∙ stays
 
   run-start-holds : (P : Plan) → sealsIn (called (Call.runStart P) b .after .machine) ≡ sealsIn (b .machine) ++ []
   unfolding hostRunStart
@@ -172,7 +196,7 @@ module _ (b : Buffers) where
       go false = stays
 
   call-holds : (c : Call) → KeepsMachine c b → sealsIn (called c b .after .machine) ≡ sealsIn (b .machine) ++ addedByCall c b
-  call-holds (Call.start rlen mlen elen rule seals) h = absurd h
+  call-holds (Call.start rlen mlen elen rule seals) h = start-holds rlen mlen elen rule seals h
   call-holds (Call.step word group) h = step-holds word group
   call-holds (Call.seal from size) h = seal-holds from size
   call-holds (Call.runStart P) h = run-start-holds P
@@ -182,7 +206,7 @@ module _ (b : Buffers) where
   call-holds (Call.run P) h = run-holds P
   call-holds Call.imageSize h = stays
   call-holds (Call.imageWrite image) h = stays
-  call-holds (Call.imageRead image) h = absurd h
+  call-holds (Call.imageRead image) h = read-holds image h
   call-holds (Call.write w) h = ap sealsIn h ∙ stays
 
 -- ---- one call after another

@@ -1,6 +1,13 @@
 -- Demand 3 over calls: bodlarina_run_start, bodlarina_run_turn and bodlarina_run_next; and bodlarina_run as such calls.
-use Rattle.width.proofs.Kit.{_≡_, refl, sym, ap, ap₂, _∙_, subst, Bool, true, false, cond, List, [], _∷_, Option, none, some, ℕ, suc, arith, eqb, length}
-use Rattle.width.proofs.Kit.{eqb-true, eq-eqb, ne-eqb}
+use mathlib.Core.Path.{_≡_, refl, sym, ap, ap₂, _∙_, subst}
+use mathlib.Core.Bool.{Bool, true, false, cond, false≢true}
+use mathlib.Core.List.{List, [], _∷_}
+use mathlib.Core.Option.{Option, none, some}
+use Prim.Native.Nat.{ℕ, suc}
+use native.Mathlib.Omega.{arith}
+use lib.ListN.{length}
+use lib.Dec.{eqb}
+use borrow.Author.Tests.{eqb-true, eq-eqb, ne-eqb}
 use Rattle.machine.specs.declared.Answer.{Answer}
 use Rattle.machine.specs.declared.Answer.the-variants.{Done, OutsideMemory, BadArguments, Overlap}
 use Rattle.machine.specs.Tests.{every}
@@ -15,11 +22,11 @@ use Rattle.run.specs.declared.Plan.{Plan}
 use Rattle.run.specs.declared.Run.{Run}
 use Rattle.run.specs.declared.Handed.{Handed}
 use Rattle.run.specs.Words.{Op, steps}
-use Rattle.run.specs.Plan.{OutsideKept, shape, wide, cAt}
+use Rattle.run.specs.Plan.{Kept, shape, wide, cAt}
 use Rattle.run.specs.Start.{planned, lying, separate, freshRun, noRun, RunStart, startRun}
 use Rattle.run.specs.Encoding.{handedFor, wordOf}
 use Rattle.run.specs.Turn.{handsOut, stepsIn, Ask, ask, asked, Running, running, turn, afterTurns}
-use Rattle.run.specs.Statement.{Asks, Right, startedRun}
+use Rattle.run.specs.Statement.{Numbers, Asks, Right, startedRun}
 use Rattle.run.specs.Whole.{WholeOutcome, whole}
 use Rattle.run.proofs.HandedLaws.{askWith, turnWith}
 use Rattle.run.proofs.RefusalLaws.{number-done, start-zero, ask-zero}
@@ -35,7 +42,8 @@ use Rattle.run_calls.specs.RunCalls.{runStartedOut, shownRunStart, hostRunStart
 use Rattle.turn_calls.specs.TurnCalls.{turnBlocks, ranOut, shownRun, hostRun}
 use Rattle.turn_calls.proofs.TurnLaws.{blocks-fit}
 use Rattle.calls.specs.Calls.{Buffers, buffers, Call, Called, afterRunStart, afterNext, afterRun, called}
-use Rattle.calls.specs.Composed.{afterCalls, turnCalls, benchIn, PlanWords, StartCallsAreRight, with, jobIn, afterTurnCalls, handing, TurnCalls, TurnCallsAreRight, counting, RunIsTurnCalls}
+use Rattle.calls.specs.Composed.{afterCalls, turnCalls, benchIn, PlanWords, StartCall, StartCallsAreRight, with, jobIn, afterTurnCalls, handing, TurnCalls, TurnCallsAreRight, counting, RunIsTurnCalls}
+use Rattle.calls.proofs.Seal.{holds-none}
 use Rattle.calls.proofs.Written.{putRun-over}
 use Rattle.calls.proofs.Numbers.{machine-words, fresh-words, Wordy, turns-wordy}
 use Rattle.sealing.proofs.AddedRange.{turns-seals}
@@ -89,17 +97,36 @@ module _ (P : Plan) (b : Buffers) where
       go false u v w = refl
 
 pub start-calls-are-right : StartCallsAreRight
-start-calls-are-right P b lm lr bytes =
-    let call : called (Call.runStart P) b ≡ startOn P b true =
-    start-call P b true (each-every (tests P b) (eq-eqb (length (b .machine)) machineBytes lm, (eq-eqb (length (b .run)) runBytes lr, tt))) in
-    record {
-      answered = (s P b .answer, ap (λ (o : Called). o .result) call ∙ start-plain P b, demand-3-ours P (benchIn b) bytes .answered);
-      unchanged = subst (λ (o : Called). o .after ≡ having P b (o .after .run)) (sym call) (lent-same P b);
-      refused = λ n.
-          let d : done (s P b .answer) ≡ false =
-          sym (zero-is-done (s P b .answer) (start-zero chosen P (benchIn b))) ∙ ne-eqb (packed (s P b .answer)) 0 (λ e. n (ap (λ (o : Called). o .result) call ∙ e)) in
-          ap (λ (o : Called). o .after) call ∙ lent-same P b ∙ ap (λ (t : Bool). having P b (cond t (putRun (s P b .run) (b .run)) (b .run))) d;
-    }
+start-calls-are-right P b bytes = (
+  λ lr. go lr (eqb (length (b .machine)) machineBytes) refl,
+  λ n. start-call P b false (other-run (eqb (length (b .machine)) machineBytes) (ne-eqb (length (b .run)) runBytes n)),
+)
+  where
+    other-run : (t : Bool) → eqb (length (b .run)) runBytes ≡ false → every (t ∷ eqb (length (b .run)) runBytes ∷ []) ≡ false
+    other-run true e = rw e
+    other-run false e = refl
+
+    go : length (b .run) ≡ runBytes → (t : Bool) → eqb (length (b .machine)) machineBytes ≡ t → StartCall P b (called (Call.runStart P) b)
+    go lr true lm =
+        let call : called (Call.runStart P) b ≡ startOn P b true = start-call P b true (each-every (tests P b) (lm, (eq-eqb (length (b .run)) runBytes lr, tt))) in
+        record {
+          answered = (s P b .answer, ap (λ (o : Called). o .result) call ∙ start-plain P b, demand-3-ours P (benchIn b) bytes .answered);
+          unchanged = subst (λ (o : Called). o .after ≡ having P b (o .after .run)) (sym call) (lent-same P b);
+          refused = λ n.
+              let d : done (s P b .answer) ≡ false =
+              sym (zero-is-done (s P b .answer) (start-zero chosen P (benchIn b))) ∙ ne-eqb (packed (s P b .answer)) 0 (λ e. n (ap (λ (o : Called). o .result) call ∙ e)) in
+              ap (λ (o : Called). o .after) call ∙ lent-same P b ∙ ap (λ (t : Bool). having P b (cond t (putRun (s P b .run) (b .run)) (b .run))) d;
+        }
+    -- a machine's block of another length holds a state at fault
+    go lr false lm =
+        let call : called (Call.runStart P) b ≡ startOn P b false = start-call P b false (rw lm) in
+        let right = demand-3-ours P (benchIn b) bytes .answered in
+        let at-fault : ¬ Numbers P (benchIn b) = λ n. false≢true (sym (holds-none b lm) ∙ n .no-fault) in
+        record {
+          answered = (s P b .answer, ap (λ (o : Called). o .result) call ∙ sym (right .gives-8 at-fault), right);
+          unchanged = subst (λ (o : Called). o .after ≡ having P b (o .after .run)) (sym call) refl;
+          refused = λ n. ap (λ (o : Called). o .after) call;
+        }
 
 -- ---- bodlarina_run_next
 
@@ -266,7 +293,7 @@ module _ (P : Plan) (b : Buffers) (p : PlanWords P) (small : Bytes (b .machine))
         subst (λ (c : Buffers). (called Call.runNext c .result ≡ 8) × (called Call.runNext c .after ≡ c)) (sym (holding t))
         (let k = asking t e ∙ shown-refused (with (r t) b) (ask chosen (r t .run)) (ask-none (r t .run) (T .asks-past-end l .hands-out)) in (ap (λ (o : Called). o .result) k, ap (λ (o : Called). o .after) k));
     tells = ap (λ (c : Buffers). hostRunSteps (c .run)) (holding t) ∙ telling t ∙ T .tells;
-    kept = subst (λ (c : Buffers). OutsideKept (jobIn P b) (c .memory)) (sym (holding t)) (T .kept);
+    kept = subst (λ (c : Buffers). Kept (jobIn P b) (c .memory)) (sym (holding t)) (T .kept);
     product = λ l i j g h. ap (λ (c : Buffers). element (c .memory) (cAt P) (wide P) i j) (holding t) ∙ T .product l i j g h;
   }
 

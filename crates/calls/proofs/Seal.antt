@@ -1,10 +1,16 @@
 -- Demand 2 over calls: each leaves the seal in the machine's block and the sealed bytes of memory.
-use Rattle.width.proofs.Kit.{_≡_, refl, sym, ap, _∙_, subst, Bool, true, false, cond, false≢true, List, [], _∷_, _++_, ℕ, arith, eqb, leb, ltb, length}
-use Rattle.width.proofs.Kit.{getD, replicate, eqb-true, eq-eqb}
+use mathlib.Core.Path.{_≡_, refl, sym, ap, _∙_, subst}
+use mathlib.Core.Bool.{Bool, true, false, cond, _||_, _&&_, false≢true}
+use mathlib.Core.List.{List, [], _∷_, _++_}
+use Prim.Native.Nat.{ℕ}
+use native.Mathlib.Omega.{arith}
+use lib.ListN.{length, getD, replicate}
+use lib.Dec.{eqb, leb, ltb}
+use borrow.Author.Tests.{eqb-true, eqb-false, eq-eqb}
 use Rattle.machine.specs.declared.Machine.{Machine}
 use Rattle.machine.specs.declared.Answer.{Answer}
 use Rattle.machine.specs.declared.Answer.the-variants.{Done, BadArguments, TooManySeals}
-use Rattle.machine.specs.Tests.{every}
+use Rattle.machine.specs.Tests.{all, every}
 use Rattle.machine.specs.Answers.{reply, done, isDone, verdict}
 use Rattle.machine.specs.Geometry.{Range, range, Bench, benchOf}
 use Rattle.machine.specs.Setting.{chosen}
@@ -28,14 +34,16 @@ use Rattle.run.specs.Acts.{Act, session}
 use Rattle.run.specs.Theorems.{SealKept}
 use Rattle.run.proofs.Demand1.{run-start-changes-nothing}
 use Rattle.run.proofs.Demand2.{seal-holds-over-acts}
-use Rattle.ranges.specs.Ranges.{sealsIn, putSeals}
+use Rattle.ranges.specs.Ranges.{countIn, rangeAt, wellFormed, sealsIn, putSeals}
+use Rattle.ranges.proofs.RangeLaws.{shape-holds}
 use Rattle.ranges.proofs.PutLaws.{length-putSeals, putSeals-seals}
 use Rattle.sealing.specs.SealBlock.{sealBlock}
 use Rattle.blocks.specs.Blocks.{machineBytes, machineOf, putMachine, valuesOf, packed}
 use Rattle.run_blocks.specs.RunBlocks.{runBytes, runFit, runOf}
 use Rattle.blocks.proofs.BlockLaws.{Words, machineOf-putMachine, length-putMachine, putMachine-seals, machineOf-putSeals}
 use Rattle.scalar_block.specs.ScalarBlock.{stepBlock}
-use Rattle.bench_calls.specs.BenchCalls.{startedOut, shownStart, hostStart, steppedOut, shownStep, hostStep, sealedOut, hostSeal}
+use Rattle.bench_calls.proofs.Refusal.{start-refusal}
+use Rattle.bench_calls.specs.BenchCalls.{HostStarted, startedOut, shownStart, hostStart, steppedOut, shownStep, hostStep, sealedOut, hostSeal}
 use Rattle.run_calls.specs.RunCalls.{runStartedOut, shownRunStart, hostRunStart}
 use Rattle.turn_calls.specs.TurnCalls.{turnBlocks, heldRunning, turnedOut, shownTurn, hostTurn, shownTurns, hostTurns, ranOut, shownRun, hostRun}
 use Rattle.image.specs.declared.Imaged.{Imaged}
@@ -55,6 +63,76 @@ use Rattle.calls.specs.Calls.{Buffers, buffers, Call, Called, afterStart
 use Rattle.calls.specs.Composed.{afterCalls, benchIn, SealedIn, SparesSeal, EachSparesSeal, SealHoldsOverCalls, SealHoldsFromStartCall, SealHoldsFromReadCall, StartCallHolds, ReadCallHolds}
 use Rattle.calls.proofs.Written.{putMachine-words}
 use Rattle.calls.proofs.Numbers.{machine-words, sound-words, step-with-words, turn-machine, turns-machine}
+
+-- ---- blocks of another length, and starts
+
+-- a block of another length holds a state at fault
+pub holds-none : (b : Buffers) → eqb (length (b .machine)) machineBytes ≡ false → soundBench (benchIn b) ≡ false
+unfolding wellFormed
+holds-none b e = go (soundBench (benchIn b)) refl
+  where
+    go : (t : Bool) → soundBench (benchIn b) ≡ t → t ≡ false
+    go false h = refl
+    go true h =
+        let w = shape-holds (b .machine) (bench-seals (benchIn b) h) in
+        let rest : List Bool = leb (countIn (b .machine)) mostSeals ∷ all mostSeals (λ i. ltb i (countIn (b .machine)) || (eqb (rangeAt (b .machine) i .start) 0 && eqb (rangeAt (b .machine) i .size) 0)) ∷ [] in
+        sym (every-each (eqb (length (b .machine)) machineBytes ∷ rest) w .0) ∙ e
+
+-- what an accepted start leaves
+pub record Started (rlen mlen elen rule : ℕ) (seals : List ℕ) (b : Buffers) (o : Called) : Type 0 where
+  pub leaves : startMachine rlen mlen elen rule seals (b .registers) (b .marks)
+      ≡ startedAs (record { answer = Done; machine = freshMachine rlen mlen elen rule }) seals (b .registers) (replicate (length (b .marks)) 0)
+  pub words : Words (machineOf (o .after .machine))
+  pub made : machineOf (o .after .machine) ≡ freshMachine rlen mlen elen rule
+  pub holds : sealsIn (o .after .machine) ≡ ranges seals
+  pub rest : o .after ≡ buffers (o .after .machine) (b .registers) (replicate (length (b .marks)) 0) (b .scalars) (b .memory) (b .run) (b .step) (b .steps) (b .file)
+
+pub was-started : (rlen mlen elen rule : ℕ) (seals : List ℕ) (b : Buffers) → let o = called (Call.start rlen mlen elen rule seals) b in o .result ≡ 0 → Started rlen mlen elen rule seals b o
+unfolding hostStart startMachine
+was-started rlen mlen elen rule seals b =
+    go (eqb (length (b .machine)) machineBytes) (startable rlen mlen elen rule seals (b .registers) (b .marks)) (leb (length (ranges seals)) mostSeals) refl refl refl
+  where
+    fresh : Machine
+    fresh = freshMachine rlen mlen elen rule
+
+    started : Answer → StartOutcome
+    started a =
+        cond (isDone a)
+        (startedAs (record { answer = a; machine = fresh }) seals (b .registers) (replicate (length (b .marks)) 0))
+        (startedAs (record { answer = a; machine = noMachine }) seals (b .registers) (b .marks))
+
+    out : Bool → Bool → Bool → Called
+    out t u v =
+        afterStart b (cond t (shownStart (b .machine) (started (cond u (cond v Done TooManySeals) BadArguments)))
+        (startedOut (packed (reply BadArguments)) (b .machine) (b .registers) (b .marks)))
+
+    -- what is started is not at fault
+    sound-start : startable rlen mlen elen rule seals (b .registers) (b .marks) ≡ true → leb (length (ranges seals)) mostSeals ≡ true
+        → soundBench (benchOf fresh (ranges seals) (b .registers) (replicate (length (b .marks)) 0) (b .memory)) ≡ true
+    sound-start f g =
+        let v : verdict (startChecks rlen mlen elen rule seals (b .registers) (b .marks)) ≡ Done = rw (f, g) in
+        subst (λ (a : Answer). soundBench (benchOf (started a .machine) (started a .seals) (started a .registers) (started a .marks) (b .memory)) ≡ true) v
+        (start-sound rlen mlen elen rule seals (b .registers) (b .marks) (b .memory) (ap (λ (a : Answer). started a .answer .number) v))
+
+    go : (t u v : Bool) → eqb (length (b .machine)) machineBytes ≡ t → startable rlen mlen elen rule seals (b .registers) (b .marks) ≡ u → leb (length (ranges seals)) mostSeals ≡ v
+        → out t u v .result ≡ 0 → Started rlen mlen elen rule seals b (out t u v)
+    go true true true e f g z =
+        let B : Bench = benchOf fresh (ranges seals) (b .registers) (replicate (length (b .marks)) 0) (b .memory) in
+        let k = sound-start f g in
+        let l : length (b .machine) ≡ machineBytes = eqb-true (length (b .machine)) machineBytes e in
+        let w : Words fresh = sound-words fresh (b .registers) (B .marks) (sound-is fresh (b .registers) (B .marks) (bench-sound B k)) in
+        let m : machineOf (out true true true .after .machine) ≡ fresh = machineOf-putSeals (ranges seals) (putMachine fresh (b .machine)) ∙ machineOf-putMachine fresh (b .machine) w l in
+        let v : verdict (startChecks rlen mlen elen rule seals (b .registers) (b .marks)) ≡ Done = rw (f, g) in
+        record {
+          leaves = ap started v;
+          words = subst Words (sym m) w;
+          made = m;
+          holds = putSeals-seals (ranges seals) (putMachine fresh (b .machine)) (length-putMachine fresh (b .machine) ∙ l) (bench-seals B k);
+          rest = refl;
+        }
+    go true true false e f g z = let y : _≡_ {A = ℕ} 16 0 = z in absurd (omega arith)
+    go true false v e f g z = let y : _≡_ {A = ℕ} 8 0 = z in absurd (omega arith)
+    go false u v e f g z = let y : _≡_ {A = ℕ} 8 0 = z in absurd (omega arith)
 
 -- ---- what a call has to show
 
@@ -254,8 +332,21 @@ module _ (b : Buffers) (w : Words (machineOf (b .machine))) where
       go true e = shown (eqb (o .answer .number) 0) (eqb-true (length (b .machine)) machineBytes e)
       go false e = refused (eqb (imageReply (blockRefused (checkImage image)) .number) 0) refl
 
+  -- the machine that was started, and else the one that was
+  start-words : (rlen mlen elen rule : ℕ) (seals : List ℕ) → Words (machineOf (called (Call.start rlen mlen elen rule seals) b .after .machine))
+  start-words rlen mlen elen rule seals = go (eqb (called (Call.start rlen mlen elen rule seals) b .result) 0) refl
+    where
+      o : Called
+      o = called (Call.start rlen mlen elen rule seals) b
+
+      go : (t : Bool) → eqb (o .result) 0 ≡ t → Words (machineOf (o .after .machine))
+      go true e = was-started rlen mlen elen rule seals b (eqb-true (o .result) 0 e) .words
+      go false e =
+          subst (λ (m : List ℕ). Words (machineOf m))
+          (sym (ap (λ (h : HostStarted). h .machine) (start-refusal rlen mlen elen rule seals (b .machine) (b .registers) (b .marks) (eqb-false (o .result) 0 e)))) w
+
   call-safe : (c : Call) → SparesSeal c b → SafeAfter (called c b)
-  call-safe (Call.start rlen mlen elen rule seals) h = absurd h
+  call-safe (Call.start rlen mlen elen rule seals) h = record { words = start-words rlen mlen elen rule seals; ranges-stay = h; same-bytes = λ q x. refl }
   call-safe (Call.step word group) h = step-safe word group
   call-safe (Call.seal from size) h = seal-safe from size
   call-safe (Call.runStart P) h = run-start-safe P
@@ -295,62 +386,6 @@ seal-holds-over-calls cs b small = calls-keep cs b (machine-words (b .machine) s
 pub from-block : (rs : List Range) (b : Buffers) (cs : List Call) → Words (machineOf (b .machine)) → sealsIn (b .machine) ≡ rs → EachSparesSeal cs b
     → SealKept rs (b .memory) (benchIn (afterCalls cs b))
 from-block rs b cs w e h = subst (λ (x : List Range). SealKept x (b .memory) (benchIn (afterCalls cs b))) e (calls-keep cs b w h)
-
--- what an accepted start leaves
-pub record Started (rlen mlen elen rule : ℕ) (seals : List ℕ) (b : Buffers) (o : Called) : Type 0 where
-  pub leaves : startMachine rlen mlen elen rule seals (b .registers) (b .marks)
-      ≡ startedAs (record { answer = Done; machine = freshMachine rlen mlen elen rule }) seals (b .registers) (replicate (length (b .marks)) 0)
-  pub words : Words (machineOf (o .after .machine))
-  pub made : machineOf (o .after .machine) ≡ freshMachine rlen mlen elen rule
-  pub holds : sealsIn (o .after .machine) ≡ ranges seals
-  pub rest : o .after ≡ buffers (o .after .machine) (b .registers) (replicate (length (b .marks)) 0) (b .scalars) (b .memory) (b .run) (b .step) (b .steps) (b .file)
-
-pub was-started : (rlen mlen elen rule : ℕ) (seals : List ℕ) (b : Buffers) → let o = called (Call.start rlen mlen elen rule seals) b in o .result ≡ 0 → Started rlen mlen elen rule seals b o
-unfolding hostStart startMachine
-was-started rlen mlen elen rule seals b =
-    go (eqb (length (b .machine)) machineBytes) (startable rlen mlen elen rule seals (b .registers) (b .marks)) (leb (length (ranges seals)) mostSeals) refl refl refl
-  where
-    fresh : Machine
-    fresh = freshMachine rlen mlen elen rule
-
-    started : Answer → StartOutcome
-    started a =
-        cond (isDone a)
-        (startedAs (record { answer = a; machine = fresh }) seals (b .registers) (replicate (length (b .marks)) 0))
-        (startedAs (record { answer = a; machine = noMachine }) seals (b .registers) (b .marks))
-
-    out : Bool → Bool → Bool → Called
-    out t u v =
-        afterStart b (cond t (shownStart (b .machine) (started (cond u (cond v Done TooManySeals) BadArguments)))
-        (startedOut (packed (reply BadArguments)) (b .machine) (b .registers) (b .marks)))
-
-    -- what is started is not at fault
-    sound-start : startable rlen mlen elen rule seals (b .registers) (b .marks) ≡ true → leb (length (ranges seals)) mostSeals ≡ true
-        → soundBench (benchOf fresh (ranges seals) (b .registers) (replicate (length (b .marks)) 0) (b .memory)) ≡ true
-    sound-start f g =
-        let v : verdict (startChecks rlen mlen elen rule seals (b .registers) (b .marks)) ≡ Done = rw (f, g) in
-        subst (λ (a : Answer). soundBench (benchOf (started a .machine) (started a .seals) (started a .registers) (started a .marks) (b .memory)) ≡ true) v
-        (start-sound rlen mlen elen rule seals (b .registers) (b .marks) (b .memory) (ap (λ (a : Answer). started a .answer .number) v))
-
-    go : (t u v : Bool) → eqb (length (b .machine)) machineBytes ≡ t → startable rlen mlen elen rule seals (b .registers) (b .marks) ≡ u → leb (length (ranges seals)) mostSeals ≡ v
-        → out t u v .result ≡ 0 → Started rlen mlen elen rule seals b (out t u v)
-    go true true true e f g z =
-        let B : Bench = benchOf fresh (ranges seals) (b .registers) (replicate (length (b .marks)) 0) (b .memory) in
-        let k = sound-start f g in
-        let l : length (b .machine) ≡ machineBytes = eqb-true (length (b .machine)) machineBytes e in
-        let w : Words fresh = sound-words fresh (b .registers) (B .marks) (sound-is fresh (b .registers) (B .marks) (bench-sound B k)) in
-        let m : machineOf (out true true true .after .machine) ≡ fresh = machineOf-putSeals (ranges seals) (putMachine fresh (b .machine)) ∙ machineOf-putMachine fresh (b .machine) w l in
-        let v : verdict (startChecks rlen mlen elen rule seals (b .registers) (b .marks)) ≡ Done = rw (f, g) in
-        record {
-          leaves = ap started v;
-          words = subst Words (sym m) w;
-          made = m;
-          holds = putSeals-seals (ranges seals) (putMachine fresh (b .machine)) (length-putMachine fresh (b .machine) ∙ l) (bench-seals B k);
-          rest = refl;
-        }
-    go true true false e f g z = let y : _≡_ {A = ℕ} 16 0 = z in absurd (omega arith)
-    go true false v e f g z = let y : _≡_ {A = ℕ} 8 0 = z in absurd (omega arith)
-    go false u v e f g z = let y : _≡_ {A = ℕ} 8 0 = z in absurd (omega arith)
 
 pub seal-holds-from-start-call : SealHoldsFromStartCall
 seal-holds-from-start-call rlen mlen elen rule seals b z cs h =
@@ -393,7 +428,7 @@ pub record Read (image : List ℕ) (b : Buffers) (o : Called) : Type 0 where
   pub long : length (o .after .machine) ≡ machineBytes
   pub rest : o .after ≡ buffers (o .after .machine) (readImage image (b .registers) (b .marks) .registers) (readImage image (b .registers) (b .marks) .marks) (b .scalars) (b .memory) (b .run) (b .step) (b .steps) (b .file)
 
-pub was-read : (image : List ℕ) (b : Buffers) → Images.ByteString image → let o = called (Call.imageRead image) b in o .result ≡ 0 → Read image b o
+pub was-read : (image : List ℕ) (b : Buffers) → Images.Bytes image → let o = called (Call.imageRead image) b in o .result ≡ 0 → Read image b o
 unfolding hostImageRead readBlock readImage
 was-read image b small = go (eqb (length (b .machine)) machineBytes) refl
   where

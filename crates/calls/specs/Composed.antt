@@ -1,6 +1,11 @@
 -- What holds over lists of calls of the C functions (include/bodlarina.h): demand 3 from bodlarina_run_start on, bodlarina_run_turns as
 -- that many calls of bodlarina_run_turn, bodlarina_run as a start and all its turns, and demand 2. The proofs stand in proofs/.
-use Rattle.width.specs.Kit.{_≡_, true, cond, List, [], _∷_, _++_, ℕ, suc, _+_, _^_, _≤_, _<_, eqb, length, getD, replicate}
+use mathlib.Core.Path.{_≡_}
+use mathlib.Core.Bool.{true, cond}
+use mathlib.Core.List.{List, [], _∷_, _++_}
+use Prim.Native.Nat.{ℕ, suc, _+_, _%_, _^_, _≤_, _<_}
+use lib.ListN.{length, getD, replicate}
+use lib.Dec.{eqb}
 use Rattle.machine.specs.declared.Reply.{Reply}
 use Rattle.machine.specs.Geometry.{Range, range, sealed, Bench, benchOf}
 use Rattle.machine.specs.Starting.{ranges}
@@ -11,7 +16,7 @@ use Rattle.machine.specs.Operation.{element}
 use Rattle.run.specs.declared.Plan.{Plan}
 use Rattle.run.specs.declared.Handed.{Handed}
 use Rattle.run.specs.Words.{steps}
-use Rattle.run.specs.Plan.{Job, OutsideKept, shape, wide, cAt, productOf}
+use Rattle.run.specs.Plan.{Job, Kept, shape, wide, cAt, productOf}
 use Rattle.run.specs.Encoding.{wordOf}
 use Rattle.run.specs.Turn.{Running, afterTurns}
 use Rattle.run.specs.Statement as Demand
@@ -60,10 +65,12 @@ pub record StartCall (P : Plan) (b : Buffers) (o : Called) : Type 0 where
   -- "A refusal changes nothing lent or held.": the run's block too keeps what it held
   pub refused : ¬ (o .result ≡ 0) → o .after ≡ b
 
--- for every plan, on blocks of the right lengths (others get 8: run_calls/specs/RunCalls.antt) and a memory that is a slice of bytes
+-- for every plan, every machine's block (one of another length holds a state at fault), and every memory that is a slice of bytes; a run's block of
+-- another length gets 8, and nothing changes
 abbrev pub StartCallsAreRight : Type 0
-StartCallsAreRight = (P : Plan) (b : Buffers) → length (b .machine) ≡ machineBytes → length (b .run) ≡ runBytes → Demand.MemoryBytes (b .memory)
-    → StartCall P b (called (Call.runStart P) b)
+StartCallsAreRight = (P : Plan) (b : Buffers) → Demand.MemoryBytes (b .memory)
+    → (length (b .run) ≡ runBytes → StartCall P b (called (Call.runStart P) b))
+    × (¬ (length (b .run) ≡ runBytes) → called (Call.runStart P) b ≡ record { result = 8; after = b })
 
 -- ---- demand 3: bodlarina_run_turn, from an accepted bodlarina_run_start on
 
@@ -105,7 +112,7 @@ pub record TurnCalls (P : Plan) (b : Buffers) (t : ℕ) : Type 0 where
   -- "there are 1 + M(1 + N(3 + 4K)) steps": what bodlarina_run_steps returns, wherever the run has come to
   pub tells : hostRunSteps (afterTurnCalls P b t .run) ≡ steps (shape (jobIn P b))
   -- "After each turn the memory outside C's elements is as at the start."
-  pub kept : OutsideKept (jobIn P b) (afterTurnCalls P b t .memory)
+  pub kept : Kept (jobIn P b) (afterTurnCalls P b t .memory)
   -- "After turn s and each later one, C(i, j) is the sum ..", over the memory at the start
   pub product : steps (shape (jobIn P b)) ≤ t → (i j : ℕ) → i < P .m → j < P .n
       → element (afterTurnCalls P b t .memory) (cAt P) (wide P) i j ≡ productOf (jobIn P b) i j
@@ -146,11 +153,12 @@ RunIsTurnCalls = (P : Plan) (b : Buffers) → PlanWords P → Bytes (b .machine)
 abbrev pub SealedIn : Buffers → ℕ → Type 0
 SealedIn b q = sealed (sealsIn (b .machine)) q ≡ true
 
--- A call that is not bodlarina_start. bodlarina_image_read makes another machine: where it is done the image has the ranges in the block, and
--- perhaps more behind them, and a refused one leaves the machine's block. Of what the host writes between calls, which is never registers or
--- marks (Calls.antt): the machine's block and the sealed bytes of memory stay, the rest may change.
+-- bodlarina_start and bodlarina_image_read make another machine: where they are done it has the ranges in the block, and perhaps more behind them;
+-- refused ones leave the machine's block. Of what the host writes between calls, which is never registers or marks (Calls.antt): the machine's
+-- block and the sealed bytes of memory stay, the rest may change.
 abbrev pub SparesSeal : Call → Buffers → Type 0
-SparesSeal (Call.start rlen mlen elen rule seals) b = ⊥
+SparesSeal (Call.start rlen mlen elen rule seals) b =
+    Extends (sealsIn (b .machine)) (sealsIn (called (Call.start rlen mlen elen rule seals) b .after .machine))
 SparesSeal (Call.step word group) b = Unit {0}
 SparesSeal (Call.seal from size) b = Unit {0}
 SparesSeal (Call.runStart P) b = Unit {0}
@@ -183,7 +191,7 @@ SealHoldsFromStartCall = (rlen mlen elen rule : ℕ) (seals : List ℕ) (b : Buf
 
 -- and from an accepted bodlarina_image_read on: the ranges of the machine whose image it is
 abbrev pub SealHoldsFromReadCall : Type 0
-SealHoldsFromReadCall = (image : List ℕ) (b : Buffers) → Images.ByteString image
+SealHoldsFromReadCall = (image : List ℕ) (b : Buffers) → Images.Bytes image
     → let o : Called = called (Call.imageRead image) b in
     o .result ≡ 0 → (cs : List Call) → EachSparesSeal cs (o .after)
     → SealKept (readImage image (b .registers) (b .marks) .seals) (b .memory) (benchIn (afterCalls cs (o .after)))
@@ -197,10 +205,9 @@ SealHoldsFromSealCall = (from size : ℕ) (b : Buffers) → Bytes (b .machine)
 
 -- ---- which ranges the machine's block holds
 
--- bodlarina_seal is the addition of the definitions, on a machine's block of the right length (others get 8)
+-- bodlarina_seal is the addition of the definitions, on every machine's block (one of another length holds a state at fault, and gets 8)
 abbrev pub SealCallSeals : Type 0
-SealCallSeals = (from size : ℕ) (b : Buffers) → length (b .machine) ≡ machineBytes
-    → let o : Called = called (Call.seal from size) b in
+SealCallSeals = (from size : ℕ) (b : Buffers) → let o : Called = called (Call.seal from size) b in
     (o .result ≡ addSeal from size (benchIn b) .answer .number) × (benchIn (o .after) ≡ addSeal from size (benchIn b) .bench)
 
 -- an accepted bodlarina_start leaves exactly the ranges that it was given, and an accepted bodlarina_image_read those of the image's machine
@@ -210,7 +217,7 @@ StartCallHolds = (rlen mlen elen rule : ℕ) (seals : List ℕ) (b : Buffers)
     o .result ≡ 0 → sealsIn (o .after .machine) ≡ ranges seals
 
 abbrev pub ReadCallHolds : Type 0
-ReadCallHolds = (image : List ℕ) (b : Buffers) → Images.ByteString image
+ReadCallHolds = (image : List ℕ) (b : Buffers) → Images.Bytes image
     → let o : Called = called (Call.imageRead image) b in
     o .result ≡ 0 → sealsIn (o .after .machine) ≡ readImage image (b .registers) (b .marks) .seals
 
@@ -233,9 +240,9 @@ abbrev pub addedOverCalls : List Call → Buffers → List Range
 addedOverCalls [] b = []
 addedOverCalls (c ∷ cs) b = addedByCall c b ++ addedOverCalls cs (called c b .after)
 
--- a call that makes no other machine: neither bodlarina_start nor bodlarina_image_read; the host leaves the machine's block
+-- a call that makes no other machine: no bodlarina_start or bodlarina_image_read, but those that are refused; the host leaves the machine's block
 abbrev pub KeepsMachine : Call → Buffers → Type 0
-KeepsMachine (Call.start rlen mlen elen rule seals) b = ⊥
+KeepsMachine (Call.start rlen mlen elen rule seals) b = ¬ (called (Call.start rlen mlen elen rule seals) b .result ≡ 0)
 KeepsMachine (Call.step word group) b = Unit {0}
 KeepsMachine (Call.seal from size) b = Unit {0}
 KeepsMachine (Call.runStart P) b = Unit {0}
@@ -245,7 +252,7 @@ KeepsMachine (Call.runTurns limit) b = Unit {0}
 KeepsMachine (Call.run P) b = Unit {0}
 KeepsMachine Call.imageSize b = Unit {0}
 KeepsMachine (Call.imageWrite image) b = Unit {0}
-KeepsMachine (Call.imageRead image) b = ⊥
+KeepsMachine (Call.imageRead image) b = ¬ (called (Call.imageRead image) b .result % 2 ^ 16 ≡ 0)
 KeepsMachine (Call.write w) b = w .machine ≡ b .machine
 
 abbrev pub EachKeepsMachine : List Call → Buffers → Type 0

@@ -42,7 +42,7 @@ module _ (P : Plan) (b : Buffers) (p : PlanWords P) (small : Bytes (b .machine))
 
   delivers : RunCallDelivers P b o
   delivers =
-      let a = start-calls-are-right P b lm lr mem .answered in
+      let a = start-calls-are-right P b mem .0 lr .answered in
       record {
         answered = (a .0, same ∙ a .1, a .2);
         refused = refused;

@@ -247,7 +247,7 @@ salvage-number image room report = go (eqb (length report) reportBytes)
     o = salvage image room
 
     go : (t : Bool) → cond t (shownSalvage report o) (salvagedOut (packedSalvage 8 0 0) room report) .result % 2 ^ 16 ≤ lastAnswer
-    go true = reply-low (record { number = o .answer; place = o .place }) (o .size) (salvage-low chosen image room)
+    go true = reply-low (record { number = o .answer .number; place = o .place }) (o .size) (salvage-low chosen image room)
     go false = reply-low (record { number = 8; place = 0 }) 0 (omega arith)
 
 word-text-number : (word : ℕ) (text : List ℕ) → hostWordText word text .result % 2 ^ 16 ≤ lastAnswer

@@ -14,19 +14,19 @@ use Rattle.machine.specs.declared.Instruction.the-variants.{Illegal}
 use Rattle.machine.specs.Tests.{allOf}
 use Rattle.machine.specs.Geometry.{range, sealed, permitted, Bench, benchOf}
 use Rattle.machine.specs.Setting.{sew, newType, legalType, halving, chosen}
-use Rattle.machine.specs.Starting.{startMachine, startable}
+use Rattle.machine.specs.Starting.{StartOutcome, startMachine, startable}
 use Rattle.machine.specs.Memory.{rowAt, inside, misses, rowsMiss, distinct, stored}
 use Rattle.machine.specs.Vectors.{vectorsFit, idle}
 use Rattle.machine.specs.Listing.{bits, Fixed, Code, Row, has, listing, others, decode}
 use Rattle.machine.specs.Operation.{element}
 use Rattle.machine.specs.Refusals.{widthOk, widthOf, marked}
 use Rattle.machine.specs.Faults.{sound, sealsFit, soundBench}
-use Rattle.machine.specs.Sealing.{addSeal}
+use Rattle.machine.specs.Sealing.{SealOutcome, addSeal}
 use Rattle.machine.specs.Step.{stepWith, stepBy, outcome}
 use Rattle.machine.specs.Alike.{Alike, Agree}
 use Rattle.machine.specs.WordTheorems.{Faultless, IsAdded}
 use Rattle.machine.proofs.TestLaws.{and-left, and-right}
-use Rattle.refusals.specs.Listed.{entries}
+use Rattle.refusals.specs.Listed.{entries, Spot, IsThere}
 use Rattle.ranges.specs.Ranges.{wellFormed, sealsIn, putRange, putSeals}
 use Rattle.sealing.specs.SealBlock.{sealBlock}
 use Rattle.blocks.specs.Blocks.{machineOf, putMachine, valuesOf, putValues, putNumbers}
@@ -49,7 +49,7 @@ use Rattle.image.specs.Cells.{runs, spread}
 use Rattle.image.specs.Cells.Run.{run}
 use Rattle.image.specs.Images.{log2, beyond, imageOf, IsImage}
 use Rattle.image.specs.ImageFormat.{topRlen, topMlen, leastMlen, mtypes, rangesFormat, runsFormat, imageFormat}
-use Rattle.image.specs.Writing.{sizeImage, writeImage}
+use Rattle.image.specs.Writing.{SizeOutcome, sizeImage, WriteOutcome, writeImage}
 use Rattle.image.specs.Reading.{checkImage, readImage}
 use Rattle.image_read.specs.Blocks.{readBlock}
 use Rattle.salvage.specs.Fronts.{front}
@@ -77,7 +77,7 @@ use Rattle.demands.specs.Demand2.{readBench, Made, MadeInC}
 use Rattle.format.specs.Numbers as Images
 use Rattle.run.specs.Statement as Statement
 use Rattle.run.specs.Sheet as Sheet
-use Rattle.demands.specs.Instances.{counting, regs, allMarks, nearly, spots, regs′, mem, seals, sealed3, machineBy, held, holed, spotted, spotted′, fresh, xs, file, lent, planAt, plan, runAt, stuck, halves, image, cut, cutEarly, room, report, numbers, block, scalarBlock, runBlock, host, spottedHost, spottedHost′, otherHost, stuckHost, msettileki, mlbe16, mlbte16, msbte16, msce32, mqma, mfwma, mmvccOut, mmvccIn, given, words7, sessionOn, acts7, calls7, pair, columns, floatMem, floatPlan, floatBench, numberAndBytes, text, badText, RunIsRight, CallsAreRight, StartsAreRight, ManyAreRight, WholeIsRight, EveryCallAnswers, Demand2, Demand3, Refusals, Words, Runs, Requests, Results, Computed, Instances}
+use Rattle.demands.specs.Instances.{counting, regs, allMarks, nearly, spots, regs′, mem, seals, sealed3, nine, machineBy, held, full, holed, spotted, spotted′, fresh, xs, file, lent, planAt, plan, runAt, stuck, halves, image, cut, cutEarly, room, report, numbers, block, scalarBlock, runBlock, hostWith, host, spottedHost, spottedHost′, otherHost, stuckHost, shortHost, scantHost, msettileki, mlbe16, mlbte16, msbte16, msce32, mqma, mfwma, mmvccOut, mmvccIn, given, words7, sessionOn, acts7, calls7, pair, columns, floatMem, floatPlan, floatBench, numberAndBytes, text, badText, RunIsRight, CallsAreRight, StartsAreRight, ManyAreRight, WholeIsRight, EveryCallAnswers, Demand2, Demand3, Refusals, Words, Runs, Requests, Results, Computed, Instances}
 use Rattle.demands.proofs.Promise.{promise}
 
 -- ---- what is computed with
@@ -143,6 +143,7 @@ of-results = record {
   c-image-write-whole = promise .results .c-image-write-whole block regs spots (room 30);
   c-image-read-whole = promise .results .c-image-read-whole cut block regs spots;
   c-image-salvage-whole = promise .results .c-image-salvage-whole cut (room 30) report (smalls cut refl);
+  c-image-salvage-report = promise .results .c-image-salvage-report cut (room 30) report (smalls cut refl) refl;
   c-word-text-whole = promise .results .c-word-text-whole mlbte16 (replicate 32 0) (omega arith);
   c-text-word-whole = promise .results .c-text-word-whole badText (replicate 8 1);
 }
@@ -212,7 +213,10 @@ of-words = record {
   words = promise .words .words chosen mfwma (xs 0 0) lent held .eleven .0 refl;
   no-code-twice = λ k c l m h b. promise .words .no-code-twice mlbte16 37 k c l m h b;
   types = (promise .words .types 64 refl 9, promise .words .types 64 refl 10);
-  registers = promise .words .registers 128 512 64 refl;
+  registers =
+      let f = promise .words .registers halving 128 512 64 refl in
+      let there : IsThere 128 512 (Spot.inAccumulator 0 1 12) = (omega arith, omega arith, omega arith) in
+      (f .within (Spot.inAccumulator 0 1 12) there, f .whole 588 (omega arith), λ s h e. f .apart s (Spot.inAccumulator 0 1 12) h there e);
   stores = (
     promise .words .stores chosen msce32 (xs 150 24) lent held Plain MatrixC 4 1 10 11 refl refl .elements 2 3 1 (omega arith) (omega arith) (omega arith),
     promise .words .stores chosen msce32 (xs 150 24) lent held Plain MatrixC 4 1 10 11 refl refl .others 172 between,
@@ -226,7 +230,8 @@ of-words = record {
   seal = promise .words .seal chosen acts7 (sessionOn held) .same-bytes 61 refl;
   seal-from-start = promise .words .seal-from-start chosen 128 512 64 1 seals regs allMarks mem (xs 100 8) lent (runAt AtType) refl acts7 .same-bytes 61 refl;
   seal-from-read = promise .words .seal-from-read image regs′ allMarks mem (smalls image refl) refl words7 61 refl;
-  c-seal = promise .words .c-seal calls7 host (under 256 block refl refl) spared .same-bytes 61 refl;
+  c-seal =
+      promise .words .c-seal (Call.start 96 512 64 1 seals ∷ calls7) host (under 256 block refl refl) (record { added = []; behind = refl }, spared) .same-bytes 61 refl;
   c-seal-from-start = promise .words .c-seal-from-start 128 512 64 1 seals host refl calls7 spared .same-bytes 61 refl;
   c-seal-from-read = promise .words .c-seal-from-read image otherHost (smalls image refl) refl calls7 spared .same-bytes 61 refl;
   c-seal-from-seal = promise .words .c-seal-from-seal 355 3 host (under 256 block refl refl) refl calls7 spared .same-bytes 356 refl;
@@ -310,6 +315,13 @@ block-bytes : (q : ℕ) → getD block q 0 < 256
 unfolding data-is
 block-bytes = under 256 block refl refl
 
+scalar-bytes : (q : ℕ) → getD scalarBlock q 0 < 256
+unfolding data-is
+scalar-bytes = under 256 scalarBlock refl refl
+
+report-bytes : (q : ℕ) → getD report q 0 < 256
+report-bytes = under 256 report refl refl
+
 run-start-call : called (Call.runStart plan) host .result ≡ 0
 unfolding host-is
 run-start-call = refl
@@ -317,8 +329,10 @@ run-start-call = refl
 starts-right : StartCallsAreRight → StartsAreRight
 unfolding host-is
 starts-right s = record {
-  refused = s (planAt 30) host refl refl mem-bytes .refused (refuses 8 refl);
-  memory = ap (λ (b : Buffers). b .memory) (s plan host refl refl mem-bytes .unchanged);
+  refused = s (planAt 30) host mem-bytes .0 refl .refused (refuses 8 refl);
+  memory = ap (λ (b : Buffers). b .memory) (s plan host mem-bytes .0 refl .unchanged);
+  no-machine = s plan shortHost mem-bytes .0 refl .refused (refuses 7 refl);
+  no-run = s plan (hostWith regs allMarks report) mem-bytes .1 (λ e. omega (arith, e));
 }
 
 calls-right : TurnCallsAreRight → CallsAreRight
@@ -634,10 +648,10 @@ of-requests = record {
   eleven-file = promise .requests .eleven-file chosen mmvccOut (xs 1 0) lent held;
   twelve = promise .requests .twelve chosen acts7 (sessionOn held);
   twelve-run = promise .requests .twelve-run chosen (startedRun chosen plan held) 340 5 refl 40;
-  twelve-c-seal = let o = promise .requests .twelve-c-seal 355 3 host refl in (o .0, ap (λ (B : Bench). B .seals) (o .1));
+  twelve-c-seal = let o = promise .requests .twelve-c-seal 355 3 host in (o .0, ap (λ (B : Bench). B .seals) (o .1));
   twelve-c-start = promise .requests .twelve-c-start 128 512 64 1 seals host refl;
   twelve-c-read = promise .requests .twelve-c-read image otherHost image-bytes refl;
-  twelve-c-calls = promise .requests .twelve-c-calls calls7 host spared;
+  twelve-c-calls = promise .requests .twelve-c-calls (Call.start 96 512 64 1 seals ∷ Call.imageRead cut ∷ calls7) host (refuses 7 refl, (refuses 14 refl, spared));
   thirteen = promise .requests .thirteen cut (room 30) cut-bytes;
   thirteen-place = promise .requests .thirteen-place cut (room 30) cut-bytes;
   thirteen-image = promise .requests .thirteen-image cut (room 30) cut-bytes refl;
@@ -719,8 +733,50 @@ of-demand-2 = record {
       (s .elements 4 1 1 (omega arith) (omega arith) (omega arith), s .others 105 beside-rows, s .same-length);
   unwritten = promise .demand-2 .unwritten chosen 128 512 64 1 seals regs regs′ allMarks spots refl refl .1 refl acts7 mem (xs 100 8) lent (runAt AtType);
   turns = λ h e. ap (λ (x : Turn). x .answer) (promise .demand-2 .turns chosen stuck h e);
-  words-in-c = (promise .demand-2 .words-in-c mqma 1 host block-bytes refl refl .result, promise .demand-2 .words-in-c mqma 1 host block-bytes refl refl .bench);
-  starts-in-c = promise .demand-2 .starts-in-c 128 512 64 1 seals host refl;
+  words-in-c = (
+    promise .demand-2 .words-in-c mqma 1 host block-bytes scalar-bytes .0 refl .result,
+    promise .demand-2 .words-in-c mqma 1 host block-bytes scalar-bytes .0 refl .bench,
+    promise .demand-2 .words-in-c mqma 1 shortHost report-bytes scalar-bytes .0 refl .bench,
+    promise .demand-2 .words-in-c mqma 1 scantHost block-bytes report-bytes .1 (λ e. omega (arith, e)),
+  );
+  faults = (promise .demand-2 .faults held .0 refl, λ n. true≢false (sym (promise .demand-2 .faults (benchOf (machineBy 2) sealed3 regs allMarks mem) .1 n)));
+  starts =
+      let done = promise .demand-2 .starts 128 512 64 1 seals regs allMarks in
+      let nine-given = promise .demand-2 .starts 128 512 64 1 nine regs allMarks .given .next .0 refl in
+      let bad = promise .demand-2 .starts 96 512 64 1 seals regs allMarks in
+      (done .given .nought .0 refl .0, ap (λ (o : StartOutcome). o .machine) (done .started refl), nine-given .0, nine-given .1, bad .given .eight .0 refl, ap (λ (o : StartOutcome). o .machine) (bad .refused (refuses 7 refl)));
+  additions =
+      let done = promise .demand-2 .additions 355 3 held in (
+        done .given .nought .0 refl .0,
+        ap (λ (o : SealOutcome). o .bench .seals) (done .added refl),
+        promise .demand-2 .additions 355 3 full .given .next .0 refl .0,
+        promise .demand-2 .additions (2 ^ 64 - 3) 3 held .given .eight .0 refl,
+      );
+  sizes = (
+    promise .demand-2 .sizes spotted .nought .0 refl,
+    ap (λ (o : SizeOutcome). o .size) (promise .demand-2 .sizes spotted .sized refl),
+    ap (λ (o : SizeOutcome). o .size) (promise .demand-2 .sizes (benchOf (machineBy 2) sealed3 regs spots mem) .refused (refuses 7 refl)),
+  );
+  writings = (
+    promise .demand-2 .writings spotted (room 30) .given .nought .0 refl .0,
+    ap (λ (o : WriteOutcome). o .room) (promise .demand-2 .writings spotted (room 30) .written refl),
+    promise .demand-2 .writings spotted (room 27) .given .nought .0 refl .1,
+    promise .demand-2 .writings spotted (room 26) .given .next .0 refl .1,
+  );
+  starts-in-c =
+      let nine-given = promise .demand-2 .starts-in-c 128 512 64 1 nine host in
+      (promise .demand-2 .starts-in-c 128 512 64 1 seals host .started refl, nine-given .given .next .0 refl .1, nine-given .refused (refuses 15 refl));
+  additions-in-c = (
+    ap (λ (C : Bench). C .seals) (promise .demand-2 .additions-in-c 355 3 host .added refl),
+    promise .demand-2 .additions-in-c (2 ^ 64 - 3) 3 host .given .eight .0 refl,
+    promise .demand-2 .additions-in-c 355 3 shortHost .given .eight .0 refl,
+  );
+  sizes-in-c = (promise .demand-2 .sizes-in-c spottedHost .nought .0 refl, promise .demand-2 .sizes-in-c spottedHost .sized refl);
+  writings-in-c = (
+    promise .demand-2 .writings-in-c (room 30) spottedHost .written refl .1,
+    promise .demand-2 .writings-in-c (room 26) spottedHost .given .next .0 refl .1,
+    promise .demand-2 .writings-in-c (room 26) spottedHost .refused (refuses 13 refl) .1,
+  );
   unwritten-words = promise .demand-2 .unwritten-words chosen (mlbe16 ∷ msbte16 ∷ msettileki ∷ []) (xs 100 8) lent spotted spotted′ alike-benches;
   unwritten-readers-in-c = promise .demand-2 .unwritten-readers-in-c image host spottedHost′ at-power-up .same-calls refl calls7;
   unwritten-in-c = promise .demand-2 .unwritten-in-c 128 512 64 1 seals host spottedHost′ at-power-up .same-calls refl calls7;

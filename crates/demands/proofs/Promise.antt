@@ -18,6 +18,7 @@ use Rattle.image_calls.proofs.Refusal as image
 use Rattle.image_calls.proofs.Packing.{image-size-packs-whole, image-write-packs-whole, image-read-packs-whole}
 use Rattle.salvage_calls.proofs.Refusal.{salvage-call-refusal}
 use Rattle.salvage_calls.proofs.Packing.{salvage-packs-whole}
+use Rattle.salvage_calls.proofs.Report.{report-is-read-back}
 use Rattle.text_calls.proofs.Refusal as text
 use Rattle.text_calls.proofs.Packing.{word-text-packs, text-word-packs}
 use Rattle.calls.proofs.Seal.{seal-holds-over-calls, seal-holds-from-start-call, seal-holds-from-read-call, start-call-holds, read-call-holds}
@@ -49,12 +50,14 @@ use Rattle.powerup.proofs.PowerUp.{starts-alike, power-up-never-matters}
 use Rattle.powerup_image.proofs.ImagesStay.{images-stay-equal, images-stay-equal-given}
 use Rattle.powerup_host.proofs.Calls.{call-ignores-unmarked, calls-ignore-unmarked, image-write-ignores-unmarked, power-up-never-matters-to-hosts, power-up-never-matters-to-readers}
 use Rattle.refusals.proofs.Exact.{step-answers-exactly}
+use Rattle.refusals.proofs.FaultLaws.{faults-are-these}
+use Rattle.refusals.proofs.Answers.{start-answers-exactly, add-answers-exactly, size-answers-exactly, write-answers-exactly}
 use Rattle.refusals.proofs.Listed.{no-code-twice, types-are-these, registers-fill}
 use Rattle.handover.proofs.Handover.{read-call-makes, written-call-is-read-back, read-call-is-written-back, images-stay-equal-over-calls, turn-packs-whole}
 use Rattle.demands.proofs.Answered.{every-deed-answers}
 use Rattle.demands.proofs.Delivered.{run-calls-deliver}
 use Rattle.demands.proofs.HostAnswered.{every-call-answers}
-use Rattle.demands.proofs.InC.{step-call-steps, start-call-starts}
+use Rattle.demands.proofs.InC.{step-call-steps, start-call-answers, seal-call-answers, size-call-answers, write-call-answers}
 use Rattle.demands.proofs.Meant.{step-is-its-meaning, turn-is-its-step}
 use Rattle.demands.proofs.Sealed.{sealed-bytes-stay, sealed-bytes-stay-in-c}
 use Rattle.demands.specs.Promise.{Promise}
@@ -66,8 +69,16 @@ promise = record {
     words = step-is-its-meaning;
     turns = turn-is-its-step;
     words-in-c = step-call-steps;
-    starts-in-c = start-call-starts;
     stores = stores-are-exact;
+    faults = faults-are-these;
+    starts = start-answers-exactly;
+    additions = add-answers-exactly;
+    sizes = size-answers-exactly;
+    writings = write-answers-exactly;
+    starts-in-c = start-call-answers;
+    additions-in-c = seal-call-answers;
+    sizes-in-c = size-call-answers;
+    writings-in-c = write-call-answers;
     unwritten = power-up-never-matters;
     unwritten-words = words-ignore-unmarked;
     unwritten-in-c = power-up-never-matters-to-hosts;
@@ -154,6 +165,7 @@ promise = record {
     c-image-write-whole = image-write-packs-whole;
     c-image-read-whole = image-read-packs-whole;
     c-image-salvage-whole = salvage-packs-whole;
+    c-image-salvage-report = report-is-read-back;
     c-word-text-whole = word-text-packs;
     c-text-word-whole = text-word-packs;
   };

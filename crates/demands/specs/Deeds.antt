@@ -68,7 +68,7 @@ module _ (grant : Choice) where
   deed (Deed.imageRead image) S =
       let o : ReadOutcome = readImage image (S .bench .registers) (S .bench .marks) in
       deeded (o .answer .number) 0 (remade S (record { number = o .answer .number; row = 0; column = 0 }) (o .machine) (o .seals) (o .registers) (o .marks)) []
-  deed (Deed.imageSalvage image room) S = let o : SalvageOutcome = salvage image room in deeded (o .answer) 0 S (o .room)
+  deed (Deed.imageSalvage image room) S = let o : SalvageOutcome = salvage image room in deeded (o .answer .number) 0 S (o .room)
 
 -- ---- over the C functions
 

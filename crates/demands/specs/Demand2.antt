@@ -17,7 +17,7 @@ use Rattle.run.specs.Turn.{ask, Running, running, turn}
 use Rattle.run.specs.Acts.{Act, Session, afterActs, lentLast}
 use Rattle.run.specs.Theorems.{SealKept}
 use Rattle.ranges.specs.Ranges.{sealsIn}
-use Rattle.blocks.specs.Blocks.{Bytes, machineBytes, scalarBytes, valuesOf, packed}
+use Rattle.blocks.specs.Blocks.{Bytes, scalarBytes, valuesOf, packed}
 use Rattle.image.specs.declared.Imaged.the-variants.{Done}
 use Rattle.image.specs.Answers.{imageReply}
 use Rattle.image.specs.Reading.{ReadOutcome, readImage}
@@ -27,6 +27,10 @@ use Rattle.powerup.specs.PowerUp.{PowerUpNeverMatters}
 use Rattle.powerup.specs.Steps.{WordsIgnoreUnmarked}
 use Rattle.powerup_host.specs.Calls.{PowerUpNeverMattersToHosts, PowerUpNeverMattersToReaders}
 use Rattle.refusals.specs.Given.{GivenExactly}
+use Rattle.refusals.specs.Faults.{FaultsAreThese}
+use Rattle.refusals.specs.Starts.{StartAnswersExactly, AddAnswersExactly}
+use Rattle.refusals.specs.Images.{SizeAnswersExactly, WriteAnswersExactly}
+use Rattle.demands.specs.GivenInC.{StartCallAnswers, SealCallAnswers, SizeCallAnswers, WriteCallAnswers}
 
 -- ---- a word
 
@@ -50,22 +54,18 @@ TurnIsItsStep = (grant : Choice) (r : Running) (h : Handed) → ask grant (r .ru
     → let o : VectorOutcome = stepWith grant (h .word) (own h) idle (r .bench) in
     turn grant r ≡ record { answer = o .answer; handed = some h; after = running (cond (done (o .answer)) (ask grant (r .run) .run) (r .run)) (o .bench) }
 
--- in C: what bodlarina_step returns and leaves is the step's, on blocks of the right lengths (others get 8), each scalar as a number of 64 bits
+-- in C: what bodlarina_step returns and leaves is the step's, each scalar as a number of 64 bits
 pub record StepCall (word group : ℕ) (b : Buffers) (o : VectorOutcome) (c : Called) : Type 0 where
   pub result : c .result ≡ packed (o .answer)
   pub bench : benchIn (c .after) ≡ o .bench
   pub scalars : (s : ℕ) → s < 32 → getD (valuesOf (c .after .scalars)) s 0 ≡ getD (o .scalars) s 0 % 2 ^ 64
   pub vectors : c .after .file ≡ o .vectors
 
+-- on every machine's block of bytes (one of another length holds a state at fault); a scalars' block of another length gets 8, and nothing changes
 abbrev pub StepCallSteps : Type 0
-StepCallSteps = (word group : ℕ) (b : Buffers) → Bytes (b .machine) → length (b .machine) ≡ machineBytes → length (b .scalars) ≡ scalarBytes
-    → StepCall word group b (vectorStep word (valuesOf (b .scalars)) (vectorsOf (b .file) group) (benchIn b)) (called (Call.step word group) b)
-
--- and an accepted bodlarina_start leaves the machine that was started
-abbrev pub StartCallStarts : Type 0
-StartCallStarts = (rlen mlen elen rule : ℕ) (seals : List ℕ) (b : Buffers)
-    → let o : Called = called (Call.start rlen mlen elen rule seals) b in
-    o .result ≡ 0 → benchIn (o .after) ≡ startedBench rlen mlen elen rule seals (b .registers) (b .marks) (b .memory)
+StepCallSteps = (word group : ℕ) (b : Buffers) → Bytes (b .machine) → Bytes (b .scalars)
+    → (length (b .scalars) ≡ scalarBytes → StepCall word group b (vectorStep word (valuesOf (b .scalars)) (vectorsOf (b .file) group) (benchIn b)) (called (Call.step word group) b))
+    × (¬ (length (b .scalars) ≡ scalarBytes) → called (Call.step word group) b ≡ record { result = 8; after = b })
 
 -- ---- sealed bytes
 
@@ -94,8 +94,8 @@ pub data MadeInC (c : Call) (b : Buffers) (seals : List Range) : Type 0 where
   read : (image : List ℕ) → Images.ByteString image → c ≡ Call.imageRead image → seals ≡ readImage image (b .registers) (b .marks) .seals → MadeInC c b seals
   added : (from size : ℕ) → Bytes (b .machine) → c ≡ Call.seal from size → seals ≡ sealsIn (b .machine) ++ (range from size ∷ []) → MadeInC c b seals
 
--- over any calls that leave these ranges (calls/specs/Composed.antt: SparesSeal: another start, and a read of an image with other ranges, do not),
--- between which the host writes what it likes but the machine's block and the sealed bytes
+-- over any calls that leave these ranges (calls/specs/Composed.antt: SparesSeal: a start with other ranges, and a read of an image with others, do
+-- not), between which the host writes what it likes but the machine's block and the sealed bytes
 abbrev pub SealedBytesStayInC : Type 0
 SealedBytesStayInC = (c : Call) (b : Buffers) (seals : List Range) → MadeInC c b seals
     → let o : Called = called c b in o .result ≡ 0 → (cs : List Call) → EachSparesSeal cs (o .after)
@@ -107,9 +107,19 @@ pub record Demand2 : Type 0 where
   pub words : StepIsItsMeaning
   pub turns : TurnIsItsStep
   pub words-in-c : StepCallSteps
-  pub starts-in-c : StartCallStarts
   -- 02, Seven: each element of a store where it belongs, and no other byte
   pub stores : StoresAreExact
+  -- "refusals are exact", and what is accepted is determined, of a start, of a range that is added, of an image that is sized and written; those of a
+  -- word are above, and what is at fault for all of them
+  pub faults : FaultsAreThese
+  pub starts : StartAnswersExactly
+  pub additions : AddAnswersExactly
+  pub sizes : SizeAnswersExactly
+  pub writings : WriteAnswersExactly
+  pub starts-in-c : StartCallAnswers
+  pub additions-in-c : SealCallAnswers
+  pub sizes-in-c : SizeCallAnswers
+  pub writings-in-c : WriteCallAnswers
   -- no reading depends on what registers held at power-up (02, Nine), of started machines and of those that an image made; that an element never
   -- written is not read at all is answer 5, above
   pub unwritten : PowerUpNeverMatters

@@ -14,9 +14,9 @@ use Rattle.machine.specs.declared.Wrong.the-variants.{Unlisted}
 use Rattle.machine.specs.declared.Factor.the-variants.{Quadruple}
 use Rattle.machine.specs.declared.Instruction.the-variants.{Illegal, Load, Multiply}
 use Rattle.machine.specs.Answers.{bare}
-use Rattle.machine.specs.Geometry.{Range, range, sealed, parameters, stateOf, Bench, benchOf}
+use Rattle.machine.specs.Geometry.{Range, range, sealed, parametersOf, parameters, stateOf, Bench, benchOf}
 use Rattle.machine.specs.Setting.{newType, smaller, halving, chosen}
-use Rattle.machine.specs.Starting.{startMachine}
+use Rattle.machine.specs.Starting.{noMachine, freshMachine, startMachine}
 use Rattle.machine.specs.Memory.{rowAt}
 use Rattle.machine.specs.Vectors.{Vectors, vectorsOf, idle}
 use Rattle.machine.specs.Listing.{Code, listing, ranged}
@@ -28,7 +28,10 @@ use Rattle.machine.specs.Alike.{Alike}
 use Rattle.machine.specs.Theorems.{Given, afterAll, startedBench}
 use Rattle.machine.specs.WordTheorems.{Faultless, RightOpcode, EveryBit, IsOther, IsOurs, stepBefore}
 use Rattle.refusals.specs.Given.{Legal, GivenExactly, FirstAmong, reads}
-use Rattle.refusals.specs.Listed.{entries}
+use Rattle.refusals.specs.Listed.{entries, Spot, IsThere, placeOf}
+use Rattle.refusals.specs.Faults.{NotAtFault}
+use Rattle.refusals.specs.Starts.{Startable, HasNinth, Addable}
+use Rattle.refusals.specs.Images.{NoRoomFor}
 use Rattle.ranges.specs.Ranges.{sealsIn}
 use Rattle.sealing.specs.Theorems.{RefusesOnly}
 use Rattle.run.specs.declared.Plan.{Plan}
@@ -72,6 +75,7 @@ use Rattle.run_calls.specs.RunCalls.{runStartedOut, hostRunStart, nextOut, host
 use Rattle.turn_calls.specs.TurnCalls.{turnedOut, hostTurn, hostTurns, ranOut, hostRun}
 use Rattle.image_calls.specs.ImageCalls.{hostImageSize, writtenOut, hostImageWrite, readOut, hostImageRead}
 use Rattle.salvage_calls.specs.SalvageCalls.{salvagedOut, hostSalvage}
+use Rattle.salvage_calls.specs.Theorems.{reported}
 use Rattle.text_calls.specs.TextCalls.{textOut, hostWordText, wordLeft, hostTextWord}
 use Rattle.blocks.specs.Blocks.{valuesOf, packed}
 use Rattle.calls.specs.Calls.{Buffers, buffers, Call, called, calls}
@@ -124,6 +128,13 @@ seals = 40 ∷ 8 ∷ 60 ∷ 4 ∷ 90 ∷ 2 ∷ []
 abbrev pub sealed3 : List Range
 sealed3 = range 40 8 ∷ range 60 4 ∷ range 90 2 ∷ []
 
+-- nine of them, as a start is given them; and a machine's eight
+abbrev pub nine : List ℕ
+nine = seals ++ (seals ++ seals)
+
+abbrev pub sealed8 : List Range
+sealed8 = sealed3 ++ (sealed3 ++ (range 100 1 ∷ range 110 0 ∷ []))
+
 -- RLEN 128, MLEN 512 and ELEN 64; SEW 16 with maccq; A is 3 by 2, B 2 by 5 and C 3 by 5
 abbrev pub machineBy : (rule : ℕ) → Machine
 machineBy rule = record { rlen = 128; mlen = 512; mtype = 9; «tile_m» = 3; «tile_k» = 2; «tile_n» = 5; rule = rule; elen = 64 }
@@ -131,9 +142,12 @@ machineBy rule = record { rlen = 128; mlen = 512; mtype = 9; «tile_m» = 3; «t
 abbrev pub bench : (registers marks : List ℕ) → Bench
 bench registers marks = benchOf (machineBy 1) sealed3 registers marks mem
 
--- with every byte written, with all but two, and with two runs of them; this with other bytes where there is no mark
+-- with every byte written, with eight ranges too, with all but two, and with two runs of them; this with other bytes where there is no mark
 abbrev pub held : Bench
 held = bench regs allMarks
+
+abbrev pub full : Bench
+full = benchOf (machineBy 1) sealed8 regs allMarks mem
 
 abbrev pub holed : Bench
 holed = bench regs nearly
@@ -247,6 +261,13 @@ otherHost = hostWith regs′ allMarks (runBlock 0 0 0 0)
 
 abbrev pub stuckHost : Buffers
 stuckHost = hostWith regs nearly (runBlock 8 3 5 0)
+
+-- with a machine's block of 24 bytes, and with a scalars' block of as many
+abbrev pub shortHost : Buffers
+shortHost = buffers report regs allMarks scalarBlock mem (runBlock 0 0 0 0) (replicate 24 0) (replicate 8 0) file
+
+abbrev pub scantHost : Buffers
+scantHost = buffers block regs allMarks report mem (runBlock 0 0 0 0) (replicate 24 0) (replicate 8 0) file
 
 -- ---- words, acts and calls
 
@@ -387,10 +408,13 @@ pub record CallsAreRight : Type 0 where
   pub kept : getD (afterTurnCalls plan host 20 .memory) 355 0 ≡ 155
   pub product : element (afterTurnCalls plan host 60 .memory) (rowAt 150 40) 4 4 9 ≡ 0xedbfaae0
 
--- a start: C upon A and a sealed range gets 9 and leaves every buffer; where it lies free it gets 0, and no buffer but the run's changes
+-- a start: C upon A and a sealed range gets 9 and leaves every buffer; where it lies free it gets 0, and no buffer but the run's changes; with a
+-- machine's block of 24 bytes, and with a run's block of as many, nothing changes
 pub record StartsAreRight : Type 0 where
   pub refused : called (Call.runStart (planAt 30)) host .after ≡ host
   pub memory : called (Call.runStart plan) host .after .memory ≡ mem
+  pub no-machine : called (Call.runStart plan) shortHost .after ≡ shortHost
+  pub no-run : called (Call.runStart plan) (hostWith regs allMarks report) ≡ record { result = 8; after = hostWith regs allMarks report }
 
 -- 60 turns in number: as so many calls
 pub record ManyAreRight : Type 0 where
@@ -438,13 +462,34 @@ pub record Demand2 : Type 0 where
       × (stepWith chosen msbte16 (xs 30 8) lent held ≡ record { answer = bare 7; bench = held; scalars = xs 30 8; vectors = file })
   -- the next word of a run that is refused
   pub turns : (h : Handed) → ask chosen (stuck .run) .handed ≡ some h → turn chosen stuck .answer ≡ stepWith chosen (h .word) (own h) idle (stuck .bench) .answer
-  -- mqma.mm by bodlarina_step, and a start by bodlarina_start
+  -- mqma.mm by bodlarina_step; a machine's block of 24 bytes, and a scalars' block of as many
   pub words-in-c : let o = vectorStep mqma (valuesOf (host .scalars)) (vectorsOf (host .file) 1) (benchIn host) in
       (called (Call.step mqma 1) host .result ≡ packed (o .answer)) × (benchIn (called (Call.step mqma 1) host .after) ≡ o .bench)
-  pub starts-in-c : benchIn (called (Call.start 128 512 64 1 seals) host .after) ≡ startedBench 128 512 64 1 seals (host .registers) (host .marks) (host .memory)
+      × (benchIn (called (Call.step mqma 1) shortHost .after) ≡ benchIn shortHost) × (called (Call.step mqma 1) scantHost ≡ record { result = 8; after = scantHost })
   -- msbte16.m tr3, (x10), x11, five rows of two at 100, 108, 116, 124 and 132: byte 1 of element (4, 1), which is (1, 4) in tr3; byte 105, between two rows
   pub stores : let o = stepWith chosen msbte16 (xs 100 8) lent held .bench .memory in
       (getD o 135 0 ≡ 217) × (getD o 105 0 ≡ 105) × (length o ≡ 360)
+  -- a machine that is not at fault, and one of rule 2
+  pub faults : NotAtFault held × ¬ NotAtFault (benchOf (machineBy 2) sealed3 regs allMarks mem)
+  -- a start with three ranges gets 0, one with nine 16, and one of RLEN 96 gets 8
+  pub starts : Startable 128 512 64 1 seals regs allMarks × (startMachine 128 512 64 1 seals regs allMarks .machine ≡ freshMachine 128 512 64 1)
+      × Startable 128 512 64 1 nine regs allMarks × HasNinth nine
+      × ¬ Startable 96 512 64 1 seals regs allMarks × (startMachine 96 512 64 1 seals regs allMarks .machine ≡ noMachine)
+  -- a fourth range gets 0, a ninth 16, and one whose end exceeds 2^64 - 1 gets 8
+  pub additions : Addable (range 355 3) held × (addSeal 355 3 held .bench .seals ≡ sealed3 ++ (range 355 3 ∷ []))
+      × Addable (range 355 3) full × ¬ Addable (range (2 ^ 64 - 3) 3) held
+  -- an image of 27 bytes: in a room of 30, of 27, and of 26; and a machine of rule 2
+  pub sizes : NotAtFault spotted × (sizeImage (machineBy 1) sealed3 regs spots .size ≡ 27) × (sizeImage (machineBy 2) sealed3 regs spots .size ≡ 0)
+  pub writings : NotAtFault spotted × (writeImage (machineBy 1) sealed3 regs spots (room 30) .room ≡ image ++ room 3)
+      × ¬ NoRoomFor (room 27) spotted × NoRoomFor (room 26) spotted
+  -- the same of the C functions
+  pub starts-in-c : (benchIn (called (Call.start 128 512 64 1 seals) host .after) ≡ startedBench 128 512 64 1 seals (host .registers) (host .marks) (host .memory))
+      × HasNinth nine × (called (Call.start 128 512 64 1 nine) host .after ≡ host)
+  pub additions-in-c : (sealsIn (called (Call.seal 355 3) host .after .machine) ≡ sealed3 ++ (range 355 3 ∷ []))
+      × ¬ Addable (range (2 ^ 64 - 3) 3) (benchIn host) × ¬ Addable (range 355 3) (benchIn shortHost)
+  pub sizes-in-c : NotAtFault (benchIn spottedHost) × (hostImageSize block regs spots / 2 ^ 16 ≡ 27)
+  pub writings-in-c : (writtenInto (room 30) spottedHost .image ≡ image ++ room 3) × NoRoomFor (room 26) (benchIn spottedHost)
+      × (writtenInto (room 26) spottedHost .image ≡ room 26)
   -- seven acts or calls
   pub unwritten : ReadAlike
   pub unwritten-words : EachSame (outcomes chosen (mlbe16 ∷ msbte16 ∷ msettileki ∷ []) (xs 100 8) lent spotted) (outcomes chosen (mlbe16 ∷ msbte16 ∷ msettileki ∷ []) (xs 100 8) lent spotted′)
@@ -523,7 +568,9 @@ pub record Words : Type 0 where
   pub no-code-twice : (k : ℕ) (c : Code) → 37 < k → k < length (entries listing) → EveryBit mlbte16 (getD (entries listing) 37 c) → ¬ EveryBit mlbte16 (getD (entries listing) k c)
   -- SEW 16 with maccq, and SEW 32 with it
   pub types : (newType 64 9 ≡ 9) × (newType 64 10 ≡ 2 ^ 63)
-  pub registers : 16 * (512 / 128 * (128 / 8)) ≡ 1024
+  -- byte 588 is byte 12 of row 1 of acc0, and of no other
+  pub registers : let at = placeOf (parametersOf halving 128 512 64) in
+      (at (Spot.inAccumulator 0 1 12) < 1024) × ((s : Spot) × IsThere 128 512 s × (at s ≡ 588)) × ((s : Spot) → IsThere 128 512 s → at s ≡ 588 → s ≡ Spot.inAccumulator 0 1 12)
   -- msce32.m acc1, (x10), x11, three rows of five at 150, 174 and 198: byte 1 of element (2, 3); byte 172, between two rows
   pub stores : let o = stepWith chosen msce32 (xs 150 24) lent held .bench .memory in
       (getD o 211 0 ≡ 141) × (getD o 172 0 ≡ 172) × (length o ≡ 360)
@@ -538,7 +585,8 @@ pub record Words : Type 0 where
   pub seal : getD (afterActs chosen acts7 (sessionOn held) .bench .memory) 61 0 ≡ 5
   pub seal-from-start : getD (afterActs chosen acts7 (sessionOn fresh) .bench .memory) 61 0 ≡ 5
   pub seal-from-read : getD (afterAll chosen words7 (readBench image regs′ allMarks mem) .memory) 61 0 ≡ 61
-  pub c-seal : getD (afterCalls calls7 host .memory) 61 0 ≡ 61
+  -- a start that is refused comes first
+  pub c-seal : getD (afterCalls (Call.start 96 512 64 1 seals ∷ calls7) host .memory) 61 0 ≡ 61
   pub c-seal-from-start : getD (afterCalls calls7 (called (Call.start 128 512 64 1 seals) host .after) .memory) 61 0 ≡ 61
   pub c-seal-from-read : getD (afterCalls calls7 (called (Call.imageRead image) otherHost .after) .memory) 61 0 ≡ 61
   -- byte 356 lies in the range that is added
@@ -642,13 +690,14 @@ pub record Requests : Type 1 where
   pub twelve-c-seal : (called (Call.seal 355 3) host .result ≡ 0) × (sealsIn (called (Call.seal 355 3) host .after .machine) ≡ sealed3 ++ (range 355 3 ∷ []))
   pub twelve-c-start : sealsIn (called (Call.start 128 512 64 1 seals) host .after .machine) ≡ sealed3
   pub twelve-c-read : sealsIn (called (Call.imageRead image) otherHost .after .machine) ≡ sealed3
-  pub twelve-c-calls : sealsIn (afterCalls calls7 host .machine) ≡ sealed3 ++ (range 352 2 ∷ [])
+  -- a start and a read that are refused come first
+  pub twelve-c-calls : sealsIn (afterCalls (Call.start 96 512 64 1 seals ∷ Call.imageRead cut ∷ calls7) host .machine) ≡ sealed3 ++ (range 352 2 ∷ [])
   -- cut in its second run: one run of two is kept; whatever image d goes on from there
   pub thirteen : (u : List ℕ) (d : Described) → Accepts imageFormat (cut ++ u) d
       → ((26 < endOf d 0) × (salvage cut (room 30) ≡ salvaged (Damaged 26) 0 0 26 0 (room 30))) ⊎ ((n : ℕ) × KeepsFirst cut (room 30) 26 d n)
   pub thirteen-place : Ends IsImage cut 26
   pub thirteen-image : IsImage (take 16 image ++ (1 ∷ 70 ∷ 3 ∷ 70 ∷ 71 ∷ 72 ∷ [])) × (drop 22 (salvage cut (room 30) .room) ≡ room 8)
-  pub thirteen-room : ¬ (salvage cut (room 26) .answer ≡ 14)
+  pub thirteen-room : ¬ (salvage cut (room 26) .answer .number ≡ 14)
   pub thirteen-sound : salvage image (room 30) ≡ salvaged Done 2 2 27 27 (image ++ room 3)
   -- byte 71 lies in the run that is kept
   pub thirteen-cut : let o = salvage (take 26 (imageIn spotted)) (room 30) in
@@ -680,6 +729,7 @@ pub record Results : Type 0 where
   -- cut in its second run
   pub c-image-read-whole : let r = hostImageRead cut block regs spots .result in (r % 2 ^ 16 ≡ 15) × (r / 2 ^ 16 ≡ 26)
   pub c-image-salvage-whole : let r = hostSalvage cut (room 30) report .result in (r % 2 ^ 16 ≡ 0) × (r / 2 ^ 16 ≡ 22)
+  pub c-image-salvage-report : let r = hostSalvage cut (room 30) report .report in (reported r 0 ≡ 1) × (reported r 1 ≡ 2) × (reported r 2 ≡ 26)
   -- a line of 25 bytes, and one whose column 13 is no register's
   pub c-word-text-whole : let r = hostWordText mlbte16 (replicate 32 0) .result in (r % 2 ^ 16 ≡ 0) × (r / 2 ^ 16 ≡ 25)
   pub c-text-word-whole : let r = hostTextWord badText (replicate 8 1) .result in (r % 2 ^ 16 ≡ 17) × (r / 2 ^ 16 ≡ 13)

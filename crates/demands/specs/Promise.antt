@@ -14,7 +14,7 @@ use Rattle.bench_calls.specs.Theorems.{StartRefusalChangesNoByte, StepRefusalCh
 use Rattle.run_calls.specs.Theorems.{RunStartRefusalChangesNoByte, NextRefusalChangesNoByte}
 use Rattle.turn_calls.specs.Theorems.{TurnRefusalChangesNoByte, NoTurnChangesNoByte, RunRefusalChangesNoByte}
 use Rattle.image_calls.specs.Theorems.{ImageWriteRefusalChangesNoByte, ImageReadRefusalChangesNoByte, ImageSizePacksWhole, ImageWritePacksWhole, ImageReadPacksWhole}
-use Rattle.salvage_calls.specs.Theorems.{SalvageRefusalChangesNoByte, SalvagePacksWhole}
+use Rattle.salvage_calls.specs.Theorems.{SalvageRefusalChangesNoByte, SalvagePacksWhole, ReportIsReadBack}
 use Rattle.text_calls.specs.Theorems.{WordTextRefusalChangesNoByte, TextWordRefusalChangesNoByte, WordTextPacksWhole, TextWordPacksWhole}
 use Rattle.calls.specs.Composed.{StartCallsAreRight, TurnCallsAreRight, TurnsAreTurnCalls, RunIsTurnCalls, SealHoldsOverCalls, SealHoldsFromStartCall, SealHoldsFromReadCall, SealHoldsFromSealCall, SealCallSeals, StartCallHolds, ReadCallHolds, RangesAreExactOverCalls}
 use Rattle.sealing.specs.Theorems.{RangesAreExact, AddedRangeRefusesOnly}
@@ -177,7 +177,7 @@ pub record Requests : Type 1 where
   pub fourteen-digits-back : WordsReadBack
   pub fourteen-both : LinesGoBack
 
--- nothing of an answer is cut in what the C functions return
+-- nothing of an answer is cut in what the C functions return and report
 pub record Results : Type 0 where
   pub c-step-whole : StepPacksWhole
   pub c-turn-whole : TurnPacksWhole
@@ -185,6 +185,7 @@ pub record Results : Type 0 where
   pub c-image-write-whole : ImageWritePacksWhole
   pub c-image-read-whole : ImageReadPacksWhole
   pub c-image-salvage-whole : SalvagePacksWhole
+  pub c-image-salvage-report : ReportIsReadBack
   pub c-word-text-whole : WordTextPacksWhole
   pub c-text-word-whole : TextWordPacksWhole
 

@@ -1,7 +1,14 @@
 -- The checks of an operation that is not illegal, in the groups of their answers: 2, 3, 4, 5, 6, 13, 7.
-use Rattle.width.proofs.Kit.{_≡_, refl, sym, ap, ap₂, _∙_, subst, _⊎_, inl, inr, Bool, true, false, cond, not, _&&_, _||_, List, [], _∷_, _++_, map, ℕ}
-use Rattle.width.proofs.Kit.{zero, suc, _+_, _*_, _≤_, _<_, zero-add, zero-mul, one-mul, mul-le-mul-right, arith, leb, eqb, length, getD, eq-eqb, eqb-true}
-use Rattle.width.proofs.Kit.{eqb-false, ne-eqb, leb-true, leb-false}
+use mathlib.Core.Path.{_≡_, refl, sym, ap, ap₂, _∙_, subst, fun-ext}
+use mathlib.Core.Logic.{_⊎_, inl, inr}
+use mathlib.Core.Bool.{Bool, true, false, cond, not, _&&_, _||_}
+use mathlib.Core.List.{List, [], _∷_, _++_, map}
+use Prim.Native.Nat.{ℕ, zero, suc, _+_, _*_, _≤_, _<_}
+use native.Mathlib.Nat.{zero-add, zero-mul, one-mul, mul-le-mul-right}
+use native.Mathlib.Omega.{arith}
+use lib.ListN.{length, getD}
+use lib.Dec.{leb, eqb}
+use borrow.Author.Tests.{eq-eqb, eqb-true, eqb-false, ne-eqb, leb-true, leb-false}
 use Rattle.machine.specs.declared.Answer.{Answer}
 use Rattle.machine.specs.declared.Answer.the-variants.{Done, IllegalType, BadWidth, TileTooLarge, Unwritten, OutsideMemory, SealedByte, RowsOverlap}
 use Rattle.machine.specs.declared.Form.{Form}
@@ -16,32 +23,32 @@ use Rattle.machine.specs.Operation.{Operation, illegal, setType, setSize, cutSi
 use Rattle.machine.specs.Refusals.{widthOf, widthOk, marked, firstRow, firstColumn, needs, isZero, multiplyReads, sliceNeeds, checks}
 use Rattle.machine.proofs.TestLaws.{and-left, and-right, all-at, all-true, all-elements, false-true, first-is}
 use Rattle.machine.proofs.CheckLaws.{marked-true, first-row-is, first-column-is}
-use Rattle.refusals.specs.Given.{TypeIsIllegal, KeepsWidths, WidthIsBroken, uses, LinesTooLarge, SliceTooLarge, SizeTooLarge, Source, tile, slice, factors, reads, Written, Unmarked, AllWritten, First, FirstAmong, NotWritten, Rows, rowsFor, noRows, writes, touches}
+use Rattle.refusals.specs.Given.{TypeIsIllegal, KeepsWidths, WidthIsBroken, uses, LinesTooLarge, SliceTooLarge, SizeTooLarge, Elements, tile, slice, factors, reads, Written, Unmarked, AllWritten, First, FirstAmong, NotWritten, Rows, rowsFor, noRows, writes, touches}
 use Rattle.refusals.proofs.Reflect.{Tells, tells-not, tells-never, first-fails, memory-width, width-memory, output-width, width-output, fits, tells-sizes}
 
 -- ---- 5: elements to be read
 
 module _ (marks : List ℕ) where
-  abbrev pub elementsCheck : Source → Check
+  abbrev pub elementsCheck : Elements → Check
   elementsCheck E =
       let row = firstRow marks (E .at) (E .rows) (E .columns * E .width) in
       marked marks (E .at) (E .rows) (E .columns * E .width) otherwise
       Unwritten (E .top + row) (E .left + firstColumn marks (E .at row) (E .columns) (E .width))
 
   -- byte x of row i
-  abbrev mark : Source → (i x : ℕ) → Bool
+  abbrev mark : Elements → (i x : ℕ) → Bool
   mark E i x = eqb (getD marks (E .at i + x) 0) 1
 
-  element-byte : (E : Source) (i j b : ℕ) → E .at i + (j * E .width + b) ≡ E .at i + j * E .width + b
+  element-byte : (E : Elements) (i j b : ℕ) → E .at i + (j * E .width + b) ≡ E .at i + j * E .width + b
   element-byte E i j b = omega arith
 
-  row-written : (E : Source) (i : ℕ) → all (E .columns * E .width) (mark E i) ≡ true → (j : ℕ) → j < E .columns → Written marks E i j
+  row-written : (E : Elements) (i : ℕ) → all (E .columns * E .width) (mark E i) ≡ true → (j : ℕ) → j < E .columns → Written marks E i j
   row-written E i h j m b n =
       subst (λ (q : ℕ). getD marks q 0 ≡ 1) (element-byte E i j b)
       (eqb-true (getD marks (E .at i + (j * E .width + b)) 0) 1
       (all-at (E .columns * E .width) (mark E i) h (j * E .width + b) (omega (arith, mul-le-mul-right (E .width) m))))
 
-  written-row : (E : Source) → AllWritten marks E → marked marks (E .at) (E .rows) (E .columns * E .width) ≡ true
+  written-row : (E : Elements) → AllWritten marks E → marked marks (E .at) (E .rows) (E .columns * E .width) ≡ true
   unfolding marked
   written-row E h =
       all-true (E .rows) (λ i. all (E .columns * E .width) (mark E i)) (λ i l.
@@ -50,11 +57,11 @@ module _ (marks : List ℕ) where
       all-true (E .width) (λ b. mark E i (j * E .width + b)) (λ b n.
       eq-eqb (getD marks (E .at i + (j * E .width + b)) 0) 1 (subst (λ (q : ℕ). getD marks q 0 ≡ 1) (sym (element-byte E i j b)) (h i j l m b n)))))
 
-  all-written : (E : Source) → marked marks (E .at) (E .rows) (E .columns * E .width) ≡ true → AllWritten marks E
+  all-written : (E : Elements) → marked marks (E .at) (E .rows) (E .columns * E .width) ≡ true → AllWritten marks E
   unfolding marked
   all-written E h i j l m = row-written E i (all-at (E .rows) (λ i. all (E .columns * E .width) (mark E i)) h i l) j m
 
-  not-written : (E : Source) → marked marks (E .at) (E .rows) (E .columns * E .width) ≡ false → (i : ℕ) × (j : ℕ) × First marks E i j
+  not-written : (E : Elements) → marked marks (E .at) (E .rows) (E .columns * E .width) ≡ false → (i : ℕ) × (j : ℕ) × First marks E i j
   unfolding marked
   not-written E h =
       let x = first-fails (E .rows) (λ i. all (E .columns * E .width) (mark E i)) h in
@@ -77,7 +84,7 @@ module _ (marks : List ℕ) where
       )
 
   -- the check names it
-  check-names : (E : Source) (i j : ℕ) → First marks E i j → elementsCheck E .answer ≡ Unwritten (E .top + i) (E .left + j)
+  check-names : (E : Elements) (i j : ℕ) → First marks E i j → elementsCheck E .answer ≡ Unwritten (E .top + i) (E .left + j)
   check-names E i j f =
       let at = E .at in
       let cols = E .columns in
@@ -99,15 +106,15 @@ module _ (marks : List ℕ) where
           c m)
 
   -- of several, with checks behind them: all are written, or the first that is not is named
-  abbrev pub AllOf : List Source → Type 0
+  abbrev pub AllOf : List Elements → Type 0
   AllOf [] = Unit {0}
   AllOf (E ∷ Es) = AllWritten marks E × AllOf Es
 
-  abbrev pub Read : List Source → List Check → Type 0
+  abbrev pub Read : List Elements → List Check → Type 0
   Read Es rest = (AllOf Es × (verdict (map elementsCheck Es ++ rest) ≡ verdict rest))
       ⊎ ((row : ℕ) × (column : ℕ) × FirstAmong marks Es row column × (verdict (map elementsCheck Es ++ rest) ≡ Unwritten row column))
 
-  pub read : (Es : List Source) (rest : List Check) → Read Es rest
+  pub read : (Es : List Elements) (rest : List Check) → Read Es rest
   read [] rest = inl (tt, refl)
   read (E ∷ Es) rest = go (marked marks (E .at) (E .rows) (E .columns * E .width)) refl (read Es rest)
     where
@@ -127,7 +134,7 @@ module _ (marks : List ℕ) where
             ap (λ (b : Bool). cond b (verdict (map elementsCheck Es ++ rest)) (elementsCheck E .answer)) e ∙ check-names E (f .0) (f .1) (f .2),
           )
 
-  pub all-none : (Es : List Source) → AllOf Es → ¬ ((row : ℕ) × (column : ℕ) × FirstAmong marks Es row column)
+  pub all-none : (Es : List Elements) → AllOf Es → ¬ ((row : ℕ) × (column : ℕ) × FirstAmong marks Es row column)
   all-none [] a x = x .2
   all-none (E ∷ Es) a x =
       elim (x .2) [
@@ -221,11 +228,22 @@ module _ (M : Parameters) (isSealed : ℕ → Bool) (st : State) (mem : List ℕ
   tile-needs : (at : ℕ → ℕ) (rows cols w : ℕ) → elementsCheck (st .marks) (tile at rows cols w) ≡ needs false (st .marks) at rows cols w
   tile-needs at rows cols w = ap₂ (λ (i j : ℕ). marked (st .marks) at rows (cols * w) otherwise Unwritten i j) (zero-add _) (zero-add _)
 
-  slice-needs : (f : Form) (first : ℕ) (at : ℕ → ℕ) (rows cols w : ℕ) → elementsCheck (st .marks) (slice f first at rows cols w) ≡ sliceNeeds f first (st .marks) at rows cols w
-  slice-needs Plain first at rows cols w =
-      ap (λ (j : ℕ). marked (st .marks) at rows (cols * w) otherwise Unwritten (first + firstRow (st .marks) at rows (cols * w)) j) (zero-add _)
-  slice-needs Transposed first at rows cols w =
-      ap (λ (i : ℕ). marked (st .marks) at rows (cols * w) otherwise Unwritten i (first + firstColumn (st .marks) (at (firstRow (st .marks) at rows (cols * w))) cols w)) (zero-add _)
+  -- a slice starts at its corner; the check names rows or columns from the first on
+  slice-needs : (f : Form) (a first count : ℕ)
+      → elementsCheck (st .marks) (slice M st f a first count)
+      ≡ sliceNeeds f first (st .marks) (sliceAt M f a first (sew (st .mtype))) (sliceRows f st count) (sliceCols f st count) (sew (st .mtype))
+  slice-needs Plain a first count =
+      let w : ℕ = sew (st .mtype) in
+      let at : ℕ → ℕ = sliceAt M Plain a first w in
+      let check : (ℕ → ℕ) → ℕ → Check = λ f j. marked (st .marks) f count (st .tileN * w) otherwise Unwritten (first + firstRow (st .marks) f count (st .tileN * w)) j in
+      let e : (λ i. accAt M a (first + i) + 0 * w) ≡ at = fun-ext (λ i. omega arith) in
+      ap (λ (f : ℕ → ℕ). check f (0 + firstColumn (st .marks) (f (firstRow (st .marks) f count (st .tileN * w))) (st .tileN) w)) e ∙ ap (check at) (zero-add _)
+  slice-needs Transposed a first count =
+      let w : ℕ = sew (st .mtype) in
+      let at : ℕ → ℕ = sliceAt M Transposed a first w in
+      let check : (ℕ → ℕ) → ℕ → Check = λ f i. marked (st .marks) f (st .tileM) (count * w) otherwise Unwritten i (first + firstColumn (st .marks) (f (firstRow (st .marks) f (st .tileM) (count * w))) count w) in
+      let e : (λ i. accAt M a (0 + i) + first * w) ≡ at = fun-ext (λ i. omega arith) in
+      ap (λ (f : ℕ → ℕ). check f (0 + firstRow (st .marks) f (st .tileM) (count * w))) e ∙ ap (check at) (zero-add _)
 
   -- a tile without an element is written
   empty-marked : (at : ℕ → ℕ) (rows cols w : ℕ) → eqb (rows * cols) 0 ≡ true → marked (st .marks) at rows (cols * w) ≡ true
@@ -343,7 +361,7 @@ module _ (M : Parameters) (isSealed : ℕ → Bool) (st : State) (mem : List ℕ
       let cols = sliceCols f st count in
       let w = sew (st .mtype) in
       same-behind (heads (moveOut f a v first count)) (sliceNeeds f first (st .marks) at rows cols w ∷ []) (behindSizes (moveOut f a v first count))
-      (reads-last (sliceNeeds f first (st .marks) at rows cols w ∷ []) ∙ ap (λ (c : Check). verdict (c ∷ nothing)) (sym (slice-needs f first at rows cols w)))
+      (reads-last (sliceNeeds f first (st .marks) at rows cols w ∷ []) ∙ ap (λ (c : Check). verdict (c ∷ nothing)) (sym (slice-needs f a first count)))
   grouped (moveIn f d v first count file) h = refl
 
 -- ---- each group and its sentence

@@ -2,3 +2,5 @@ pub mod Reflect
 pub mod Groups
 pub mod Exact
 pub mod Listed
+pub mod FaultLaws
+pub mod Answers

@@ -1,8 +1,13 @@
--- What a reviewer looks for in the definitions: no code is given twice, the values that mtype can take, and that the registers fill their bytes.
+-- What a reviewer looks for in the definitions: no code is given twice, the values that mtype can take, and each byte of the registers in one of them.
 -- The proofs stand in proofs/.
-use Rattle.width.specs.Kit.{_≡_, true, cond, List, [], _∷_, ℕ, _*_, _/_, _^_, _<_, eqb, length, getD}
+use mathlib.Core.Path.{_≡_}
+use mathlib.Core.Bool.{true, cond}
+use mathlib.Core.List.{List, [], _∷_}
+use Prim.Native.Nat.{ℕ, _+_, _*_, _/_, _^_, _<_}
+use lib.Dec.{eqb}
+use lib.ListN.{length, getD}
 use Rattle.machine.specs.Tests.{isIn}
-use Rattle.machine.specs.Geometry.{elens, permitted, registerBytes}
+use Rattle.machine.specs.Geometry.{elens, permitted, registerBytes, Parameters, parametersOf, tileAt, accAt}
 use Rattle.machine.specs.Setting.{newType}
 use Rattle.machine.specs.Listing.{Code, Row, listing, others}
 use Rattle.machine.specs.WordTheorems.{EveryBit}
@@ -25,6 +30,27 @@ legalValues elen = 0 ∷ 1 ∷ 2 ∷ 8 ∷ cond (eqb elen 64) (3 ∷ 9 ∷ []) [
 abbrev pub TypesAreThese : Type 0
 TypesAreThese = (elen : ℕ) → isIn elen elens ≡ true → (v : ℕ) → newType elen v ≡ cond (isIn v (legalValues elen)) v (2 ^ 63)
 
--- "Eight tile registers of MLEN bits have MLEN/RLEN rows of RLEN/8 bytes", and two accumulators of four times that: sixteen such tiles
+-- a byte of the registers: byte b of row i of tile register r, or of accumulator r
+pub data Spot : Type 0 where
+  inTile : (r i b : ℕ) → Spot
+  inAccumulator : (r i b : ℕ) → Spot
+
+-- one that a machine has: "Eight tile registers of MLEN bits have MLEN/RLEN rows of RLEN/8 bytes. Two accumulators of 4 x MLEN bits have as many rows,
+-- each 4 x RLEN/8 bytes."
+abbrev pub IsThere : (rlen mlen : ℕ) → Spot → Type 0
+IsThere rlen mlen (Spot.inTile r i b) = (r < 8) × (i < mlen / rlen) × (b < rlen / 8)
+IsThere rlen mlen (Spot.inAccumulator r i b) = (r < 2) × (i < mlen / rlen) × (b < 4 * (rlen / 8))
+
+-- where it lies in the lent register bytes
+abbrev pub placeOf : Parameters → Spot → ℕ
+placeOf M (Spot.inTile r i b) = tileAt M r i + b
+placeOf M (Spot.inAccumulator r i b) = accAt M r i + b
+
+-- the registers fill the bytes that they are lent: each spot lies in them, each byte is one spot's, and no other's
+pub record Fills (rlen mlen : ℕ) (M : Parameters) : Type 0 where
+  pub within : (s : Spot) → IsThere rlen mlen s → placeOf M s < registerBytes mlen
+  pub whole : (q : ℕ) → q < registerBytes mlen → (s : Spot) × IsThere rlen mlen s × (placeOf M s ≡ q)
+  pub apart : (s t : Spot) → IsThere rlen mlen s → IsThere rlen mlen t → placeOf M s ≡ placeOf M t → s ≡ t
+
 abbrev pub RegistersFill : Type 0
-RegistersFill = (rlen mlen elen : ℕ) → permitted rlen mlen elen ≡ true → 16 * (mlen / rlen * (rlen / 8)) ≡ registerBytes mlen
+RegistersFill = (grant : ℕ → ℕ → ℕ) (rlen mlen elen : ℕ) → permitted rlen mlen elen ≡ true → Fills rlen mlen (parametersOf grant rlen mlen elen)

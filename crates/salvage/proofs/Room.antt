@@ -51,9 +51,9 @@ enough-room s room b fits =
     let d : Described = g .goes-on .1 .0 in
     by d (exact-of s room d (keptIn s) refl (keeps-every-run s b (g .goes-on .0) d (g .goes-on .1 .1)))
   where
-    other : (o : SalvageOutcome) → salvage s room ≡ o → ¬ (o .answer ≡ 14) → ¬ (salvage s room .answer ≡ 14)
-    other o e n h = n (ap (λ (x : SalvageOutcome). x .answer) (sym e) ∙ h)
+    other : (o : SalvageOutcome) → salvage s room ≡ o → ¬ (o .answer .number ≡ 14) → ¬ (salvage s room .answer .number ≡ 14)
+    other o e n h = n (ap (λ (x : SalvageOutcome). x .answer .number) (sym e) ∙ h)
 
-    by : (d : Described) → Exact s room d (placeIn s) → ¬ (salvage s room .answer ≡ 14)
+    by : (d : Described) → Exact s room d (placeIn s) → ¬ (salvage s room .answer .number ≡ 14)
     by d (inl h) = other _ (h .1) (λ e. omega (arith, e))
     by d (inr (n, k)) = other _ (k .nought (omega (arith, fresh-short d n (k .there), k .end-before, place-ends s b .there, fits))) (λ e. omega (arith, e))

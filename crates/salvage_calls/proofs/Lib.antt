@@ -3,3 +3,4 @@ pub mod SalvageLaws
 -- The theorems of specs/Theorems.antt.
 pub mod Refusal
 pub mod Packing
+pub mod Report

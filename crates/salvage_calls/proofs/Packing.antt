@@ -1,6 +1,13 @@
 -- Nothing of a result is cut.
-use Rattle.width.proofs.Kit.{_≡_, refl, sym, subst, Bool, true, false, cond, List, _++_, Option, none, some, ℕ, _≤_, arith, eqb, leb, length, drop}
-use Rattle.format.specs.Numbers.{ByteString}
+use mathlib.Core.Path.{_≡_, refl, sym, subst}
+use mathlib.Core.Bool.{Bool, true, false, cond}
+use mathlib.Core.List.{List, _++_}
+use mathlib.Core.Option.{Option, none, some}
+use Prim.Native.Nat.{ℕ, _≤_}
+use native.Mathlib.Omega.{arith}
+use lib.Dec.{eqb, leb}
+use lib.ListN.{length, drop}
+use Rattle.format.specs.Numbers.{Bytes}
 use Rattle.format.specs.Parser.{Parsed, parse}
 use Rattle.format.specs.Parser.Parsed.{whole, stopped}
 use Rattle.format.proofs.FormatLaws.{ParseRight, parse-right}
@@ -13,31 +20,31 @@ use Rattle.image.proofs.Images.{format-is-images}
 use Rattle.image_calls.specs.Theorems.{PacksWhole}
 use Rattle.image_calls.proofs.Bounds.{most, image-short, Stops, place-short}
 use Rattle.image_calls.proofs.Packing.{Small, packs}
-use Rattle.salvage.specs.Salvage.{faultPlace, placeIn, KeptPart, keptIn, SalvageOutcome, salvaged, salvageOf, salvage}
+use Rattle.salvage.specs.Salvage.{placeOf, placeIn, Kept, keptIn, SalvageOutcome, salvaged, salvageOf, salvage}
 use Rattle.salvage.proofs.Keeps.{kept-image}
 use Rattle.salvage_calls.specs.SalvageCalls.{reportBytes, packedSalvage, HostSalvaged, salvagedOut, shownSalvage, hostSalvage}
 use Rattle.salvage_calls.specs.Theorems.{SalvagePacksWhole}
 
-image-small : (s : List ℕ) → IsImage s → length s ≤ most
+pub image-small : (s : List ℕ) → IsImage s → length s ≤ most
 image-small s i = subst (λ (z : List ℕ). length z ≤ most) (sym (i .is-its-image)) (image-short (i .machine) (i .seals) (i .registers) (i .marks) (i .not-at-fault))
 
-module _ (s : List ℕ) (b : ByteString s) where
-  place-small : placeIn s ≤ most
+module _ (s : List ℕ) (b : Bytes s) where
+  pub place-small : placeIn s ≤ most
   unfolding placeIn
   place-small = go (parse imageFormat s) (parse-right imageFormat s image-live b) (place-short s)
     where
-      go : (q : Parsed Described) → ParseRight imageFormat s q → Stops most q → faultPlace s q ≤ most
+      go : (q : Parsed Described) → ParseRight imageFormat s q → Stops most q → placeOf s q ≤ most
       go (whole d) a h = image-small s (format-is-images s .1 (d, a))
       go (stopped p) a h = h
 
   abbrev reply : SalvageOutcome → ImageReply
-  reply o = record { number = o .answer; place = o .place }
+  reply o = record { number = o .answer .number; place = o .place }
 
   out-small : (room : List ℕ) → Small (reply (salvage s room)) (salvage s room .size)
   unfolding salvage
   out-small room = go (keptIn s) refl
     where
-      go : (q : Option KeptPart) → keptIn s ≡ q → Small (reply (salvageOf (placeIn s) q room)) (salvageOf (placeIn s) q room .size)
+      go : (q : Option Kept) → keptIn s ≡ q → Small (reply (salvageOf (placeIn s) q room)) (salvageOf (placeIn s) q room .size)
       go none e = record { number-small = omega arith; size-small = omega arith; place-small = place-small }
       go (some k) e = by (leb (length (spelled (k .header) (k .body))) (length room))
         where
@@ -61,6 +68,6 @@ salvage-packs-whole image room report b = go (eqb (length report) reportBytes)
     out : Bool → HostSalvaged
     out t = cond t (shownSalvage report o) (salvagedOut (packedSalvage 8 0 0) room report)
 
-    go : (t : Bool) → let q : SalvageOutcome = cond t o (salvaged BadArguments 0 0 0 0 room) in PacksWhole (out t .result) (record { number = q .answer; place = q .place }) (q .size)
-    go true = packs (record { number = o .answer; place = o .place }) (o .size) (out-small image b room)
+    go : (t : Bool) → let q : SalvageOutcome = cond t o (salvaged BadArguments 0 0 0 0 room) in PacksWhole (out t .result) (record { number = q .answer .number; place = q .place }) (q .size)
+    go true = packs (record { number = o .answer .number; place = o .place }) (o .size) (out-small image b room)
     go false = packs (record { number = 8; place = 0 }) 0 (record { number-small = omega arith; size-small = omega arith; place-small = omega arith })

@@ -28,6 +28,6 @@ salvage-call-refusal image room report = go (eqb (length report) reportBytes)
 
     go : (t : Bool) → ¬ (out t .result % 2 ^ 16 ≡ 0) → out t ≡ salvagedOut (out t .result) room report
     go true h =
-        let n : ¬ (o .answer ≡ 0) = λ e. h (packs-nought (o .answer) (o .place) (o .size) e) in
-        ap₂ (salvagedOut (packedSalvage (o .answer) (o .place) (o .size))) (salvage-refusal image room n .3) (kept (o .answer) n (putNumbers (o .kept ∷ o .announced ∷ o .place ∷ []) report))
+        let n : ¬ (o .answer .number ≡ 0) = λ e. h (packs-nought (o .answer .number) (o .place) (o .size) e) in
+        ap₂ (salvagedOut (packedSalvage (o .answer .number) (o .place) (o .size))) (salvage-refusal image room n .3) (kept (o .answer .number) n (putNumbers (o .kept ∷ o .announced ∷ o .place ∷ []) report))
     go false h = refl

@@ -23,8 +23,8 @@ salvagedOut result room report = record { result = result; room = room; report =
 -- a salvage as the host sees it: where it is done, the report is written; refused, its result has the place, and no byte changes
 abbrev pub shownSalvage : List ℕ → SalvageOutcome → HostSalvaged
 shownSalvage report o =
-    salvagedOut (packedSalvage (o .answer) (o .place) (o .size)) (o .room)
-    (cond (eqb (o .answer) 0) (putNumbers (o .kept ∷ o .announced ∷ o .place ∷ []) report) report)
+    salvagedOut (packedSalvage (o .answer .number) (o .place) (o .size)) (o .room)
+    (cond (eqb (o .answer .number) 0) (putNumbers (o .kept ∷ o .announced ∷ o .place ∷ []) report) report)
 
 -- a report's block of the wrong length is refused with 8, which comes first
 unfoldable pub hostSalvage : (image room report : List ℕ) → HostSalvaged
