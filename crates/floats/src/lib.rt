@@ -119,7 +119,120 @@ fn multiply_row(
     store_row(s, &sums, c, n);
 }
 
-// A block, in all rows of C, one after another.
+// Each sum of two rows plus x or y times its value of the row at `at`.
+fn mac_two(sums: &mut [f32], others: &mut [f32], d: &[f32], at: usize, x: f32, y: f32)
+    requires { ⌜ (mostFloats ≤ length (now sums)) × (mostFloats ≤ length (now others)) ⌝ }
+    requires { ⌜ at + mostFloats ≤ length (now d) ⌝ }
+    ensures { λ _. ⌜ ((j : ℕ) → j < mostFloats → getD (now (sums .exit)) j nan ≡ multiplyAdd (getD (now (sums .entry)) j nan) x (getD (now (d .entry)) (at + j) nan)) ⌝ }
+    ensures { λ _. ⌜ ((j : ℕ) → j < mostFloats → getD (now (others .exit)) j nan ≡ multiplyAdd (getD (now (others .entry)) j nan) y (getD (now (d .entry)) (at + j) nan)) ⌝ }
+{
+    let mut j = 0;
+    while j < FLOATS {
+        sums[j] = binary32::multiply_add(sums[j], x, d[at + j]);
+        others[j] = binary32::multiply_add(others[j], y, d[at + j]);
+        j += 1;
+    }
+}
+
+// Each sum of two rows, and on from it the products of A(l), of its own row of A, and its column's values, for l rising.
+fn add_two(sums: &mut [f32], others: &mut [f32], d: &[f32], s: &[u8], a: usize, e: usize, k: usize)
+    requires { ⌜ (mostFloats ≤ length (now sums)) × (mostFloats ≤ length (now others)) ⌝ }
+    requires { ⌜ k * mostFloats ≤ length (now d) ⌝ }
+    requires { ⌜ (a + k * 4 ≤ length (now s)) × (e + k * 4 ≤ length (now s)) ⌝ }
+    ensures { λ _. ⌜ ((j : ℕ) → j < mostFloats → getD (now (sums .exit)) j nan ≡ floatSum (getD (now (sums .entry)) j nan) k (λ l. floatAt (now (s .entry)) (a + l * 4)) (λ l. getD (now (d .entry)) (l * mostFloats + j) nan)) ⌝ }
+    ensures { λ _. ⌜ ((j : ℕ) → j < mostFloats → getD (now (others .exit)) j nan ≡ floatSum (getD (now (others .entry)) j nan) k (λ l. floatAt (now (s .entry)) (e + l * 4)) (λ l. getD (now (d .entry)) (l * mostFloats + j) nan)) ⌝ }
+{
+    let mut l = 0;
+    let mut from = a;
+    let mut also = e;
+    let mut row = 0;
+    while l < k {
+        let x = binary32::value_of(element::read4(s, from));
+        let y = binary32::value_of(element::read4(s, also));
+        mac_two(sums, others, d, row, x, y);
+        from += 4;
+        also += 4;
+        row += FLOATS;
+        l += 1;
+    }
+}
+
+// Two rows of C, of FLOATS columns each.
+fn multiply_two(s: &mut [u8], d: &[f32], a: usize, b: usize, c: usize, pitch: usize, k: usize)
+    requires { ⌜ k * mostFloats ≤ length (now d) ⌝ }
+    requires { ⌜ (a + pitch + k * 4 ≤ length (now s)) × (c + 4 * pitch + mostFloats * 4 ≤ length (now s)) ⌝ }
+    requires { ⌜ ((l j : ℕ) → l < k → j < mostFloats → getD (now d) (l * mostFloats + j) nan ≡ floatAt (now s) (b + l * pitch + j * 4)) ⌝ }
+    ensures { λ _. ⌜ now (s .exit) ≡ putTile (λ i. c + i * (4 * pitch)) 2 mostFloats 4 (λ i. floatRow (now (s .entry)) pitch k (a + i * pitch) b (c + i * (4 * pitch))) (now (s .entry)) ⌝ }
+{
+    let next = c + 4 * pitch;
+    let mut sums = [0.0f32; FLOATS];
+    let mut others = [0.0f32; FLOATS];
+    fetch_row(&mut sums, 0, s, c, FLOATS);
+    fetch_row(&mut others, 0, s, next, FLOATS);
+    add_two(&mut sums, &mut others, d, s, a, a + pitch, k);
+    store_row(s, &sums, c, FLOATS);
+    store_row(s, &others, next, FLOATS);
+}
+
+// The first rows of the m of C that are left, two where they have FLOATS columns; how many.
+fn multiply_next(
+    s: &mut [u8],
+    d: &[f32],
+    a: usize,
+    b: usize,
+    c: usize,
+    pitch: usize,
+    m: usize,
+    k: usize,
+    n: usize,
+) -> usize
+    requires { ⌜ (0 < m) × ((n ≤ mostFloats) × (k * mostFloats ≤ length (now d))) ⌝ }
+    requires { ⌜ (a + m * pitch + k * 4 ≤ length (now s) + pitch) × (c + m * (4 * pitch) + n * 4 ≤ length (now s) + 4 * pitch) ⌝ }
+    requires { ⌜ ((l j : ℕ) → l < k → j < n → getD (now d) (l * mostFloats + j) nan ≡ floatAt (now s) (b + l * pitch + j * 4)) ⌝ }
+    ensures { λ r. ⌜ (0 < r) × (r ≤ m) ⌝ }
+    ensures { λ r. ⌜ now (s .exit) ≡ putTile (λ i. c + i * (4 * pitch)) r n 4 (λ i. floatRow (now (s .entry)) pitch k (a + i * pitch) b (c + i * (4 * pitch))) (now (s .entry)) ⌝ }
+{
+    if n == FLOATS {
+        if m >= 2 {
+            multiply_two(s, d, a, b, c, pitch, k);
+            return 2;
+        }
+    }
+    multiply_row(s, d, a, b, c, pitch, k, n);
+    1
+}
+
+// A block, in all rows of C; d has room for the values of B.
+fn multiply_with(
+    s: &mut [u8],
+    d: &mut [f32],
+    a: usize,
+    b: usize,
+    c: usize,
+    pitch: usize,
+    m: usize,
+    k: usize,
+    n: usize,
+)
+    requires { ⌜ (n ≤ mostFloats) × ((k * mostFloats ≤ length (now d)) × (pitch ≤ mostPitch)) ⌝ }
+    requires { ⌜ (n * 4 ≤ pitch) × (k * 4 ≤ pitch) ⌝ }
+    requires { ⌜ (a + m * pitch + k * 4 ≤ c + pitch) × ((b + k * pitch ≤ c) × ((c ≤ length (now s)) × (c + m * (4 * pitch) + n * 4 ≤ length (now s) + 4 * pitch))) ⌝ }
+    ensures { λ _. ⌜ now (s .exit) ≡ putTile (λ i. c + i * (4 * pitch)) m n 4 (λ i. floatRow (now (s .entry)) pitch k (a + i * pitch) b (c + i * (4 * pitch))) (now (s .entry)) ⌝ }
+{
+    fetch_tile(d, s, b, pitch, k, n);
+    let step = 4 * pitch;
+    let mut i = 0;
+    let mut from = a;
+    let mut to = c;
+    while i < m {
+        let rows = multiply_next(s, d, from, b, to, pitch, m - i, k, n);
+        from += rows * pitch;
+        to += rows * step;
+        i += rows;
+    }
+}
+
+// The same, with no more room than k asks for: it is cleared each time.
 fn multiply_rows(
     s: &mut [u8],
     a: usize,
@@ -135,18 +248,13 @@ fn multiply_rows(
     requires { ⌜ (a + m * pitch + k * 4 ≤ c + pitch) × ((b + k * pitch ≤ c) × ((c ≤ length (now s)) × (c + m * (4 * pitch) + n * 4 ≤ length (now s) + 4 * pitch))) ⌝ }
     ensures { λ _. ⌜ now (s .exit) ≡ putTile (λ i. c + i * (4 * pitch)) m n 4 (λ i. floatRow (now (s .entry)) pitch k (a + i * pitch) b (c + i * (4 * pitch))) (now (s .entry)) ⌝ }
 {
-    let mut d = [0.0f32; VALUES];
-    fetch_tile(&mut d, s, b, pitch, k, n);
-    let step = 4 * pitch;
-    let mut i = 0;
-    let mut from = a;
-    let mut to = c;
-    while i < m {
-        multiply_row(s, &d, from, b, to, pitch, k, n);
-        from += pitch;
-        to += step;
-        i += 1;
+    if k <= 8 {
+        let mut d = [0.0f32; VALUES / 2];
+        multiply_with(s, &mut d, a, b, c, pitch, m, k, n);
+        return;
     }
+    let mut d = [0.0f32; VALUES];
+    multiply_with(s, &mut d, a, b, c, pitch, m, k, n);
 }
 
 // All terms of at most FLOATS columns, a block after another.

@@ -3,3 +3,4 @@ pub mod LoopLaws
 pub mod RowLaws
 pub mod KernelLaws
 pub mod TurnLaws
+pub mod LaneLaws

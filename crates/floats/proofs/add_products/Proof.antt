@@ -1,12 +1,19 @@
-use Rattle.width.proofs.Kit.{ap, _∙_, _+_, _-_, _≤_, arith, length, needs}
-use Rattle.width.specs.Binary32.{valueOf}
+use native.Mathlib.Omega.{arith}
+use mathlib.Core.Path.{ap, _∙_}
+use Prim.Native.Nat.{_+_, _-_, _≤_}
+use lib.ListN.{length, getD}
+use Rattle.width.specs.Binary32.{valueOf, multiplyAdd, floatSum}
 use Rattle.width.specs.Bounds.{mostFloats}
-use Rattle.floats.proofs.RowLaws.{Summed, sum-none, sum-next, sum-all}
+use Rattle.sums.proofs.LaneLaws.{Summed, sum-none, sum-next, sum-all}
+use Rattle.floats.specs.Rows.{floatAt}
+use Rattle.floats.proofs.RowLaws.{float-none, float-more}
+use lib.Ieee.{nan}
+use borrow.Author.Needs.{needs}
 use Rattle.floats.proofs.add_products.Statement.{statement}
 use Rattle.floats.proofs.add_products.Tie as tie
 
 abbrev Inv-loop : tie.InvT-loop
-Inv-loop sums₀ d s a k l₀ from₀ row₀ sums l from row = Summed sums₀ d s a k sums l from row
+Inv-loop sums₀ d s a k l₀ from₀ row₀ sums l from row = Summed nan multiplyAdd mostFloats (floatAt s) 4 floatSum sums₀ d a k sums l from row
 
 abbrev μ-loop : tie.MeasureT-loop
 μ-loop sums₀ d s a k l₀ from₀ row₀ sums l from row = k - l
@@ -28,20 +35,20 @@ loop-again c =
     let a = e .before .before .before .before .before .args in
     let m = c .before .before .mac-row in
     let x = c .before .before .before .before .value-of in
-    sum-next (a .sums .now) (a .d .now) (a .s .now) (a .a) (a .k) (l .sums) (m .last .0) (l .l) (l .from) (l .row) (x .result) (l .inv) (e .loop-test .taken) (m .kept .0)
+    sum-next nan multiplyAdd mostFloats (floatAt (a .s .now)) 4 floatSum (a .sums .now) (a .d .now) (a .a) (a .k) float-more (l .sums) (m .last .0) (l .l) (l .from) (l .row) (x .result) (l .inv) (e .loop-test .taken) (m .kept .0)
     (x .ensures ∙ ap valueOf (c .before .before .before .before .before .read4 .ensures .0)) (m .ensures)
 
 returns : tie.Need-returns Inv-loop μ-loop
 returns c =
     let l = c .before .loop in
     let a = c .before .before .before .before .before .args in
-    sum-all (a .sums .now) (a .d .now) (a .s .now) (a .a) (a .k) (l .sums) (l .l) (l .from) (l .row) (l .inv) (omega arith)
+    sum-all nan multiplyAdd mostFloats (floatAt (a .s .now)) 4 floatSum (a .sums .now) (a .d .now) (a .a) (a .k) (l .sums) (l .l) (l .from) (l .row) (l .inv) (omega arith)
 
 pub add-products-spec : {M : Type 1} → statement M
 add-products-spec =
     tie.close
     (tie.spec Inv-loop μ-loop
-    (λ c. let a = c .before .before .before .args in sum-none (a .sums .now) (a .d .now) (a .s .now) (a .a) (a .k))
+    (λ c. let a = c .before .before .before .args in sum-none nan multiplyAdd mostFloats (floatAt (a .s .now)) 4 floatSum (a .sums .now) (a .d .now) (a .a) (a .k) (λ q f g. float-none (getD (a .sums .now) q nan) f g))
     (λ c κs. fits c .0)
     (λ c κs. search needs)
     (λ c κs. (omega (arith, c .before .before .before .before .before .before .before .before .pre .0, c .before .before .before .before .loop .inv .3), fits (c .before .before .before) .1))

@@ -1,12 +1,17 @@
-use Rattle.width.proofs.Kit.{_+_, _-_, _≤_, arith, length, needs}
+use native.Mathlib.Omega.{arith}
+use Prim.Native.Nat.{_+_, _-_, _≤_}
+use lib.ListN.{length}
 use Rattle.width.specs.Bounds.{mostFloats}
 use Rattle.width.proofs.PutLaws.{row-fits}
-use Rattle.floats.proofs.RowLaws.{TileFetched, tile-none, tile-next}
+use Rattle.sums.proofs.LaneLaws.{TileFetched, tile-none, tile-next}
+use Rattle.floats.specs.Rows.{floatAt}
+use lib.Ieee.{nan}
+use borrow.Author.Needs.{needs}
 use Rattle.floats.proofs.fetch_tile.Statement.{statement}
 use Rattle.floats.proofs.fetch_tile.Tie as tie
 
 abbrev Inv-loop : tie.InvT-loop
-Inv-loop d₀ s b pitch k n l₀ row₀ to₀ d l row to = TileFetched d₀ s b pitch k n d l row to
+Inv-loop d₀ s b pitch k n l₀ row₀ to₀ d l row to = TileFetched nan (floatAt s) 4 mostFloats d₀ b pitch k n d l row to
 
 abbrev μ-loop : tie.MeasureT-loop
 μ-loop d₀ s b pitch k n l₀ row₀ to₀ d l row to = k - l
@@ -29,14 +34,14 @@ loop-again c =
     let k = e .before .before .before .before in
     let a = k .args in
     let f = c .before .before .fetch-row in
-    tile-next (a .d .now) (a .s .now) (a .b) (a .pitch) (a .k) (a .n) (l .d) (f .last .0) (l .l) (l .row) (l .to) (l .inv) (e .loop-test .taken) (k .pre .0 .0) (f .kept .0)
+    tile-next nan (floatAt (a .s .now)) 4 mostFloats (a .d .now) (a .b) (a .pitch) (a .k) (a .n) (l .d) (f .last .0) (l .l) (l .row) (l .to) (l .inv) (e .loop-test .taken) (k .pre .0 .0) (f .kept .0)
     (f .ensures .0) (f .ensures .1)
 
 pub fetch-tile-spec : {M : Type 1} → statement M
 fetch-tile-spec =
     tie.close
     (tie.spec Inv-loop μ-loop
-    (λ c. let a = c .before .before .args in tile-none (a .d .now) (a .s .now) (a .b) (a .pitch) (a .k) (a .n))
+    (λ c. let a = c .before .before .args in tile-none nan (floatAt (a .s .now)) 4 mostFloats (a .d .now) (a .b) (a .pitch) (a .k) (a .n))
     (λ c κs. let f = fits (c .before) in let k = c .before .before .before .before .before in (omega (arith, k .pre .0, c .before .before .loop .inv .3), omega (arith, k .pre .1)))
     (λ c. let f = fits (c .before .before .before .before) in omega arith)
     (λ c. let f = fits (c .before .before .before .before) in omega arith)

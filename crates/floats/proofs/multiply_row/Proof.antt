@@ -10,7 +10,7 @@ returns c =
     let f = c .before .before .before .before .before .before .before .before .before .before .fetch-row in
     let p = c .before .before .before .before .before .before .add-products in
     let w = c .before .before .store-row in
-    row-of-floats (a .s .now) (a .pitch) (a .k) (a .a) (a .b) (a .c) (a .n) (f .last .0) (p .last .0) (a .d .now) (w .last .0)
+    row-of-floats (a .s .now) (a .s .now) (a .pitch) (a .k) (a .a) (a .b) (a .c) (a .n) (f .last .0) (p .last .0) (a .d .now) (w .last .0)
     (k .pre .0 .0) (f .ensures .0) (k .pre .1 .1) (p .ensures) (w .ensures)
 
 pub multiply-row-spec : {M : Type 1} → statement M

@@ -56,7 +56,7 @@ multiply-row-requires c κs =
                 ∙ ap (λ (x : ℕ). reduce 65536 (signed (256 ^ a .width) x)) (sym (same-b 4 (a .width) (a .pitch) (4 * a .pitch) (a .k) (a .n) (a .a) (a .b) (a .c) (a .m) (a .s .now)
                 (q .0 .0) (q .0 .1 .1) (q .1 .0 .0) (q .1 .0 .1 .0)
                 (λ i. productRow (a .s .now) 4 (a .width) (a .pitch) (a .k) (a .a + i * a .pitch) (a .b) (a .c + i * (4 * a .pitch)))
-                (l .i) (l .s) (d .loop-test .taken) (l .inv .5) r j lr lj)),
+                (l .i) (l .s) (l .inv .5) r j lr lj)),
           ),
         ),
       ),
