@@ -1,13 +1,6 @@
 -- Demand 3 over calls: bodlarina_run_start, bodlarina_run_turn and bodlarina_run_next; and bodlarina_run as such calls.
-use mathlib.Core.Path.{_≡_, refl, sym, ap, ap₂, _∙_, subst}
-use mathlib.Core.Bool.{Bool, true, false, cond, false≢true}
-use mathlib.Core.List.{List, [], _∷_}
-use mathlib.Core.Option.{Option, none, some}
-use Prim.Native.Nat.{ℕ, suc}
-use native.Mathlib.Omega.{arith}
-use lib.ListN.{length}
-use lib.Dec.{eqb}
-use borrow.Author.Tests.{eqb-true, eq-eqb, ne-eqb}
+use Rattle.width.proofs.Kit.{_≡_, refl, sym, ap, ap₂, _∙_, subst, Bool, true, false, cond, false≢true, List, [], _∷_, Option, none, some, ℕ, suc, arith}
+use Rattle.width.proofs.Kit.{eqb, length, eqb-true, eq-eqb, ne-eqb}
 use Rattle.machine.specs.declared.Answer.{Answer}
 use Rattle.machine.specs.declared.Answer.the-variants.{Done, OutsideMemory, BadArguments, Overlap}
 use Rattle.machine.specs.Tests.{every}
@@ -22,7 +15,7 @@ use Rattle.run.specs.declared.Plan.{Plan}
 use Rattle.run.specs.declared.Run.{Run}
 use Rattle.run.specs.declared.Handed.{Handed}
 use Rattle.run.specs.Words.{Op, steps}
-use Rattle.run.specs.Plan.{Kept, shape, wide, cAt}
+use Rattle.run.specs.Plan.{OutsideKept, shape, wide, cAt}
 use Rattle.run.specs.Start.{planned, lying, separate, freshRun, noRun, RunStart, startRun}
 use Rattle.run.specs.Encoding.{handedFor, wordOf}
 use Rattle.run.specs.Turn.{handsOut, stepsIn, Ask, ask, asked, Running, running, turn, afterTurns}
@@ -293,7 +286,7 @@ module _ (P : Plan) (b : Buffers) (p : PlanWords P) (small : Bytes (b .machine))
         subst (λ (c : Buffers). (called Call.runNext c .result ≡ 8) × (called Call.runNext c .after ≡ c)) (sym (holding t))
         (let k = asking t e ∙ shown-refused (with (r t) b) (ask chosen (r t .run)) (ask-none (r t .run) (T .asks-past-end l .hands-out)) in (ap (λ (o : Called). o .result) k, ap (λ (o : Called). o .after) k));
     tells = ap (λ (c : Buffers). hostRunSteps (c .run)) (holding t) ∙ telling t ∙ T .tells;
-    kept = subst (λ (c : Buffers). Kept (jobIn P b) (c .memory)) (sym (holding t)) (T .kept);
+    kept = subst (λ (c : Buffers). OutsideKept (jobIn P b) (c .memory)) (sym (holding t)) (T .kept);
     product = λ l i j g h. ap (λ (c : Buffers). element (c .memory) (cAt P) (wide P) i j) (holding t) ∙ T .product l i j g h;
   }
 

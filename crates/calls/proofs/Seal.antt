@@ -1,12 +1,6 @@
 -- Demand 2 over calls: each leaves the seal in the machine's block and the sealed bytes of memory.
-use mathlib.Core.Path.{_≡_, refl, sym, ap, _∙_, subst}
-use mathlib.Core.Bool.{Bool, true, false, cond, _||_, _&&_, false≢true}
-use mathlib.Core.List.{List, [], _∷_, _++_}
-use Prim.Native.Nat.{ℕ}
-use native.Mathlib.Omega.{arith}
-use lib.ListN.{length, getD, replicate}
-use lib.Dec.{eqb, leb, ltb}
-use borrow.Author.Tests.{eqb-true, eqb-false, eq-eqb}
+use Rattle.width.proofs.Kit.{_≡_, refl, sym, ap, _∙_, subst, Bool, true, false, cond, _||_, _&&_, false≢true, List, [], _∷_, _++_, ℕ, arith, eqb, leb, ltb}
+use Rattle.width.proofs.Kit.{length, getD, replicate, eqb-true, eqb-false, eq-eqb}
 use Rattle.machine.specs.declared.Machine.{Machine}
 use Rattle.machine.specs.declared.Answer.{Answer}
 use Rattle.machine.specs.declared.Answer.the-variants.{Done, BadArguments, TooManySeals}
@@ -428,7 +422,7 @@ pub record Read (image : List ℕ) (b : Buffers) (o : Called) : Type 0 where
   pub long : length (o .after .machine) ≡ machineBytes
   pub rest : o .after ≡ buffers (o .after .machine) (readImage image (b .registers) (b .marks) .registers) (readImage image (b .registers) (b .marks) .marks) (b .scalars) (b .memory) (b .run) (b .step) (b .steps) (b .file)
 
-pub was-read : (image : List ℕ) (b : Buffers) → Images.Bytes image → let o = called (Call.imageRead image) b in o .result ≡ 0 → Read image b o
+pub was-read : (image : List ℕ) (b : Buffers) → Images.ByteString image → let o = called (Call.imageRead image) b in o .result ≡ 0 → Read image b o
 unfolding hostImageRead readBlock readImage
 was-read image b small = go (eqb (length (b .machine)) machineBytes) refl
   where

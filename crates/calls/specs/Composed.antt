@@ -1,11 +1,6 @@
 -- What holds over lists of calls of the C functions (include/bodlarina.h): demand 3 from bodlarina_run_start on, bodlarina_run_turns as
 -- that many calls of bodlarina_run_turn, bodlarina_run as a start and all its turns, and demand 2. The proofs stand in proofs/.
-use mathlib.Core.Path.{_≡_}
-use mathlib.Core.Bool.{true, cond}
-use mathlib.Core.List.{List, [], _∷_, _++_}
-use Prim.Native.Nat.{ℕ, suc, _+_, _%_, _^_, _≤_, _<_}
-use lib.ListN.{length, getD, replicate}
-use lib.Dec.{eqb}
+use Rattle.width.specs.Kit.{_≡_, true, cond, List, [], _∷_, _++_, ℕ, suc, _+_, _%_, _^_, _≤_, _<_, eqb, length, getD, replicate}
 use Rattle.machine.specs.declared.Reply.{Reply}
 use Rattle.machine.specs.Geometry.{Range, range, sealed, Bench, benchOf}
 use Rattle.machine.specs.Starting.{ranges}
@@ -16,7 +11,7 @@ use Rattle.machine.specs.Operation.{element}
 use Rattle.run.specs.declared.Plan.{Plan}
 use Rattle.run.specs.declared.Handed.{Handed}
 use Rattle.run.specs.Words.{steps}
-use Rattle.run.specs.Plan.{Job, Kept, shape, wide, cAt, productOf}
+use Rattle.run.specs.Plan.{Job, OutsideKept, shape, wide, cAt, productOf}
 use Rattle.run.specs.Encoding.{wordOf}
 use Rattle.run.specs.Turn.{Running, afterTurns}
 use Rattle.run.specs.Statement as Demand
@@ -112,7 +107,7 @@ pub record TurnCalls (P : Plan) (b : Buffers) (t : ℕ) : Type 0 where
   -- "there are 1 + M(1 + N(3 + 4K)) steps": what bodlarina_run_steps returns, wherever the run has come to
   pub tells : hostRunSteps (afterTurnCalls P b t .run) ≡ steps (shape (jobIn P b))
   -- "After each turn the memory outside C's elements is as at the start."
-  pub kept : Kept (jobIn P b) (afterTurnCalls P b t .memory)
+  pub kept : OutsideKept (jobIn P b) (afterTurnCalls P b t .memory)
   -- "After turn s and each later one, C(i, j) is the sum ..", over the memory at the start
   pub product : steps (shape (jobIn P b)) ≤ t → (i j : ℕ) → i < P .m → j < P .n
       → element (afterTurnCalls P b t .memory) (cAt P) (wide P) i j ≡ productOf (jobIn P b) i j
@@ -191,7 +186,7 @@ SealHoldsFromStartCall = (rlen mlen elen rule : ℕ) (seals : List ℕ) (b : Buf
 
 -- and from an accepted bodlarina_image_read on: the ranges of the machine whose image it is
 abbrev pub SealHoldsFromReadCall : Type 0
-SealHoldsFromReadCall = (image : List ℕ) (b : Buffers) → Images.Bytes image
+SealHoldsFromReadCall = (image : List ℕ) (b : Buffers) → Images.ByteString image
     → let o : Called = called (Call.imageRead image) b in
     o .result ≡ 0 → (cs : List Call) → EachSparesSeal cs (o .after)
     → SealKept (readImage image (b .registers) (b .marks) .seals) (b .memory) (benchIn (afterCalls cs (o .after)))
@@ -217,7 +212,7 @@ StartCallHolds = (rlen mlen elen rule : ℕ) (seals : List ℕ) (b : Buffers)
     o .result ≡ 0 → sealsIn (o .after .machine) ≡ ranges seals
 
 abbrev pub ReadCallHolds : Type 0
-ReadCallHolds = (image : List ℕ) (b : Buffers) → Images.Bytes image
+ReadCallHolds = (image : List ℕ) (b : Buffers) → Images.ByteString image
     → let o : Called = called (Call.imageRead image) b in
     o .result ≡ 0 → sealsIn (o .after .machine) ≡ readImage image (b .registers) (b .marks) .seals
 

@@ -1,15 +1,7 @@
 -- Whatever a host does is answered with a number of the table, and a refusal changes nothing.
-use mathlib.Core.Path.{_≡_, refl, sym, ap, ap₂, _∙_, subst}
-use mathlib.Core.Logic.{_⊎_, inl, inr}
-use mathlib.Core.Bool.{Bool, true, false, cond}
-use mathlib.Core.List.{List, [], _∷_, _++_}
-use mathlib.Core.Option.{Option, none, some}
-use Prim.Native.Nat.{ℕ, zero, suc, _+_, _≤_, _<_}
-use native.Mathlib.Nat.{eq-or-lt-of-le, eq-zero-or-pos, le-of-suc-le-suc}
-use native.Mathlib.Omega.{arith}
-use lib.Dec.{leb, eqb}
-use lib.ListN.{length, drop, replicate}
-use borrow.Author.Tests.{eqb-true, eqb-false, leb-true}
+use Rattle.width.proofs.Kit.{_≡_, refl, sym, ap, ap₂, _∙_, subst, _⊎_, inl, inr, Bool, true, false, cond, List, [], _∷_, _++_, Option, none, some, ℕ, zero}
+use Rattle.width.proofs.Kit.{suc, _+_, _≤_, _<_, eq-or-lt-of-le, eq-zero-or-pos, le-of-suc-le-suc, arith, leb, eqb, length, drop, replicate, eqb-true}
+use Rattle.width.proofs.Kit.{eqb-false, leb-true}
 use Rattle.width.specs.Blocks.{Choice}
 use Rattle.format.specs.Parser.{Parsed, parse}
 use Rattle.format.specs.Parser.Parsed.{whole, stopped}
@@ -47,11 +39,11 @@ use Rattle.image.specs.declared.Imaged.the-variants as Imaged
 use Rattle.image.specs.Answers.{imageReply}
 use Rattle.image.specs.Images.{imageOf, soundWith, machineFrom, spelled}
 use Rattle.image.specs.ImageFormat.{Described, imageFormat}
-use Rattle.image.specs.Writing.{sizeImage, sized, writeImage, written}
+use Rattle.image.specs.Writing.{sizeImage, sizeReply, writeImage, writeReply}
 use Rattle.image.specs.Cells.{over, marksOf}
 use Rattle.image.specs.Reading.{readImage, readAs, restored, cellsIn, fitted}
 use Rattle.image.proofs.Images.{read-refusal, write-refusal}
-use Rattle.salvage.specs.Salvage.{Kept, placeIn, keptIn, salvaged, salvageOf, salvage}
+use Rattle.salvage.specs.Salvage.{KeptPart, placeIn, keptIn, salvaged, salvageOf, salvage}
 use Rattle.salvage.proofs.Keeps.{salvage-refusal}
 use Rattle.refusals.proofs.Exact.{step-answers-exactly}
 use Rattle.demands.specs.Deeds.{Deed, Deeded, deeded, roomOf, remade, deed}
@@ -130,7 +122,7 @@ module _ (grant : Choice) where
 
   pub run-start-low : (P : Plan) (B : Bench) → startRun grant P B .answer .number ≤ lastAnswer
   unfolding startRun
-  run-start-low P B = low (verdict (Start.startChecks grant P B))
+  run-start-low P B = low (verdict (Start.runStartChecks grant P B))
 
   pub seal-low : (start size : ℕ) (B : Bench) → addSeal start size B .answer .number ≤ lastAnswer
   unfolding addSeal
@@ -197,7 +189,7 @@ module _ (grant : Choice) where
   unfolding sizeImage
   size-low m seals registers marks = go (soundWith m seals registers marks) (length (imageOf m seals registers marks))
     where
-      go : (t : Bool) (n : ℕ) → cond t (sized Imaged.Done n) (sized Imaged.BadArguments 0) .answer .number ≤ lastAnswer
+      go : (t : Bool) (n : ℕ) → cond t (sizeReply Imaged.Done n) (sizeReply Imaged.BadArguments 0) .answer .number ≤ lastAnswer
       go true n = omega arith
       go false n = omega arith
 
@@ -205,7 +197,7 @@ module _ (grant : Choice) where
   unfolding writeImage
   write-low m seals registers marks room = go (soundWith m seals registers marks) (imageOf m seals registers marks) (leb (length (imageOf m seals registers marks)) (length room))
     where
-      go : (t : Bool) (i : List ℕ) (u : Bool) → cond t (cond u (written Imaged.Done (length i) (i ++ drop (length i) room)) (written Imaged.NoRoom 0 room)) (written Imaged.BadArguments 0 room) .answer .number ≤ lastAnswer
+      go : (t : Bool) (i : List ℕ) (u : Bool) → cond t (cond u (writeReply Imaged.Done (length i) (i ++ drop (length i) room)) (writeReply Imaged.NoRoom 0 room)) (writeReply Imaged.BadArguments 0 room) .answer .number ≤ lastAnswer
       go true i true = omega arith
       go true i false = omega arith
       go false i u = omega arith
@@ -227,11 +219,11 @@ module _ (grant : Choice) where
   unfolding salvage
   salvage-low image room = go (placeIn image) (keptIn image)
     where
-      fit : (p : ℕ) (k : Kept) (f : List ℕ) (t : Bool) → cond t (salvaged Imaged.Done (length (k .body)) (k .announced) p (length f) (f ++ drop (length f) room)) (salvaged Imaged.NoRoom 0 0 p 0 room) .answer .number ≤ lastAnswer
+      fit : (p : ℕ) (k : KeptPart) (f : List ℕ) (t : Bool) → cond t (salvaged Imaged.Done (length (k .body)) (k .announced) p (length f) (f ++ drop (length f) room)) (salvaged Imaged.NoRoom 0 0 p 0 room) .answer .number ≤ lastAnswer
       fit p k f true = omega arith
       fit p k f false = omega arith
 
-      go : (p : ℕ) (k : Option Kept) → salvageOf p k room .answer .number ≤ lastAnswer
+      go : (p : ℕ) (k : Option KeptPart) → salvageOf p k room .answer .number ≤ lastAnswer
       go p none = omega arith
       go p (some k) = let f = spelled (k .header) (k .body) in fit p k f (leb (length f) (length room))
 

@@ -1,14 +1,6 @@
 -- Steps, starts, additions and images in C are those of the definitions.
-use mathlib.Core.Path.{_≡_, refl, sym, ap, ap₂, _∙_, subst}
-use mathlib.Core.Logic.{_↔_}
-use mathlib.Core.Bool.{Bool, true, false, cond, _&&_}
-use mathlib.Core.List.{List, [], _∷_, _++_, append-nil}
-use Prim.Native.Nat.{ℕ, _*_, _%_, _^_, _<_}
-use native.Mathlib.Nat.{mod-eq-of-lt}
-use native.Mathlib.Omega.{arith}
-use lib.ListN.{length, getD, drop, replicate}
-use lib.Dec.{leb, eqb}
-use borrow.Author.Tests.{eqb-true, eqb-false, eq-eqb, ne-eqb}
+use Rattle.width.proofs.Kit.{_≡_, refl, sym, ap, ap₂, _∙_, subst, _↔_, Bool, true, false, cond, _&&_, List, [], _∷_, _++_, append-nil, ℕ, _*_, _%_, _^_}
+use Rattle.width.proofs.Kit.{_<_, mod-eq-of-lt, arith, leb, eqb, length, getD, drop, replicate, eqb-true, eqb-false, eq-eqb, ne-eqb}
 use Rattle.width.proofs.WordLaws.{le-putRow}
 use Rattle.width.specs.Tile.{getLe, putRow}
 use Rattle.machine.specs.declared.Answer.{Answer}
@@ -37,7 +29,7 @@ use Rattle.bench_calls.proofs.Refusal.{start-refusal, seal-refusal}
 use Rattle.run_blocks.specs.RunBlocks.{runOf}
 use Rattle.image.specs.declared.Imaged.the-variants as Image
 use Rattle.image.specs.Answers.{imageReply}
-use Rattle.image.specs.Writing.{SizeOutcome, sized, sizeImage, WriteOutcome, written, writeImage}
+use Rattle.image.specs.Writing.{SizeOutcome, sizeReply, sizeImage, WriteOutcome, writeReply, writeImage}
 use Rattle.image.specs.Theorems.{imageIn}
 use Rattle.image_calls.specs.ImageCalls.{packedReply, hostImageSize, HostWritten, writtenOut, hostImageWrite}
 use Rattle.image_calls.specs.Theorems.{PacksWhole}
@@ -227,20 +219,20 @@ seal-call-answers from size b =
 
 module _ (b : Buffers) where
   -- a block of another length is refused as a state at fault is
-  size-block : cond (eqb (length (b .machine)) machineBytes) (sizeImage (machineOf (b .machine)) (sealsIn (b .machine)) (b .registers) (b .marks)) (sized Image.BadArguments 0)
+  size-block : cond (eqb (length (b .machine)) machineBytes) (sizeImage (machineOf (b .machine)) (sealsIn (b .machine)) (b .registers) (b .marks)) (sizeReply Image.BadArguments 0)
       ≡ sizeImage (machineOf (b .machine)) (sealsIn (b .machine)) (b .registers) (b .marks)
   unfolding sizeImage
   size-block = go (eqb (length (b .machine)) machineBytes) refl
     where
       out : Bool → SizeOutcome
-      out s = cond s (sized Image.Done (length (imageIn (benchIn b)))) (sized Image.BadArguments 0)
+      out s = cond s (sizeReply Image.Done (length (imageIn (benchIn b)))) (sizeReply Image.BadArguments 0)
 
-      go : (t : Bool) → eqb (length (b .machine)) machineBytes ≡ t → cond t (out (soundBench (benchIn b))) (sized Image.BadArguments 0) ≡ out (soundBench (benchIn b))
+      go : (t : Bool) → eqb (length (b .machine)) machineBytes ≡ t → cond t (out (soundBench (benchIn b))) (sizeReply Image.BadArguments 0) ≡ out (soundBench (benchIn b))
       go true e = refl
       go false e = ap out (sym (holds-none b e))
 
   write-block : (room : List ℕ)
-      → cond (eqb (length (b .machine)) machineBytes) (writeImage (machineOf (b .machine)) (sealsIn (b .machine)) (b .registers) (b .marks) room) (written Image.BadArguments 0 room)
+      → cond (eqb (length (b .machine)) machineBytes) (writeImage (machineOf (b .machine)) (sealsIn (b .machine)) (b .registers) (b .marks) room) (writeReply Image.BadArguments 0 room)
       ≡ writeImage (machineOf (b .machine)) (sealsIn (b .machine)) (b .registers) (b .marks) room
   unfolding writeImage
   write-block room = go (eqb (length (b .machine)) machineBytes) refl
@@ -249,9 +241,9 @@ module _ (b : Buffers) where
       image = imageIn (benchIn b)
 
       out : Bool → WriteOutcome
-      out s = cond s (cond (leb (length image) (length room)) (written Image.Done (length image) (image ++ drop (length image) room)) (written Image.NoRoom 0 room)) (written Image.BadArguments 0 room)
+      out s = cond s (cond (leb (length image) (length room)) (writeReply Image.Done (length image) (image ++ drop (length image) room)) (writeReply Image.NoRoom 0 room)) (writeReply Image.BadArguments 0 room)
 
-      go : (t : Bool) → eqb (length (b .machine)) machineBytes ≡ t → cond t (out (soundBench (benchIn b))) (written Image.BadArguments 0 room) ≡ out (soundBench (benchIn b))
+      go : (t : Bool) → eqb (length (b .machine)) machineBytes ≡ t → cond t (out (soundBench (benchIn b))) (writeReply Image.BadArguments 0 room) ≡ out (soundBench (benchIn b))
       go true e = refl
       go false e = ap out (sym (holds-none b e))
 
@@ -264,7 +256,7 @@ size-call-answers b =
     record {
       eight = (λ e. x .eight .0 (sym (p .0) ∙ e), λ n. p .0 ∙ x .eight .1 n);
       nought = (λ e. x .nought .0 (sym (p .0) ∙ e), λ n. p .0 ∙ x .nought .1 n);
-      sized = λ e. p .1 ∙ ap (λ (o : SizeOutcome). cond (eqb (o .answer .number) 0) (o .size) (o .answer .place)) (x .sized (sym (p .0) ∙ e));
+      sizeReply = λ e. p .1 ∙ ap (λ (o : SizeOutcome). cond (eqb (o .answer .number) 0) (o .size) (o .answer .place)) (x .sized (sym (p .0) ∙ e));
       refused = λ n. p .1 ∙ ap (λ (o : SizeOutcome). cond (eqb (o .answer .number) 0) (o .size) (o .answer .place)) (x .refused (λ e. n (p .0 ∙ e)));
     }
 
@@ -278,7 +270,7 @@ image-left room b = go (eqb (length (b .machine)) machineBytes) refl
 
     go : (t : Bool) → eqb (length (b .machine)) machineBytes ≡ t → cond t (writtenOut (packedReply (o .answer) (o .size)) (o .room)) (writtenOut (packedReply (imageReply Image.BadArguments) 0) room) .image ≡ o .room
     go true e = refl
-    go false e = ap (λ (o : WriteOutcome). o .room) (subst (λ (t : Bool). cond t o (written Image.BadArguments 0 room) ≡ o) e (write-block b room))
+    go false e = ap (λ (o : WriteOutcome). o .room) (subst (λ (t : Bool). cond t o (writeReply Image.BadArguments 0 room) ≡ o) e (write-block b room))
 
 -- of a number that is not 0 the place is taken
 place-of : (n size : ℕ) → ¬ (n ≡ 0) → cond (eqb n 0) size 0 ≡ 0
@@ -292,7 +284,7 @@ write-call-answers room b =
     let x = write-answers-exactly (benchIn b) room in
     record {
       given = subst (λ (n : ℕ). Exactly n 14 (NotAtFault (benchIn b)) (NoRoomFor room (benchIn b))) (sym (p .0)) (x .given);
-      written = λ e.
+      writeReply = λ e.
           let y = x .written (sym (p .0) ∙ e) in
           (p .1 ∙ ap (λ (o : WriteOutcome). cond (eqb (o .answer .number) 0) (o .size) (o .answer .place)) y, image-left room b ∙ ap (λ (o : WriteOutcome). o .room) y);
       refused = λ n.

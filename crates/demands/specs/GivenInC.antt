@@ -1,11 +1,7 @@
 -- When bodlarina_start, bodlarina_seal, bodlarina_image_size and bodlarina_image_write give each of their answers, exactly, and what they leave
 -- (include/bodlarina.h): as a start, an addition, a sizing and a writing do (refusals/specs/). A machine's block of another length holds a state at
 -- fault. The proofs stand in proofs/.
-use mathlib.Core.Path.{_≡_}
-use mathlib.Core.Logic.{_↔_}
-use mathlib.Core.List.{List, [], _∷_, _++_}
-use Prim.Native.Nat.{ℕ, _/_, _%_, _^_}
-use lib.ListN.{length, drop}
+use Rattle.width.specs.Kit.{_≡_, _↔_, List, [], _∷_, _++_, ℕ, _/_, _%_, _^_, length, drop}
 use Rattle.machine.specs.Geometry.{Bench, range, benchOf}
 use Rattle.machine.specs.Theorems.{startedBench}
 use Rattle.ranges.specs.Ranges.{sealsIn}

@@ -28,7 +28,7 @@ use Rattle.machine.specs.Alike.{Alike}
 use Rattle.machine.specs.Theorems.{Given, afterAll, startedBench}
 use Rattle.machine.specs.WordTheorems.{Faultless, RightOpcode, EveryBit, IsOther, IsOurs, stepBefore}
 use Rattle.refusals.specs.Given.{Legal, GivenExactly, FirstAmong, reads}
-use Rattle.refusals.specs.Listed.{entries, Spot, IsThere, placeOf}
+use Rattle.refusals.specs.Listed.{entries, Spot, IsThere, spotAt}
 use Rattle.refusals.specs.Faults.{NotAtFault}
 use Rattle.refusals.specs.Starts.{Startable, HasNinth, Addable}
 use Rattle.refusals.specs.Images.{NoRoomFor}
@@ -569,7 +569,7 @@ pub record Words : Type 0 where
   -- SEW 16 with maccq, and SEW 32 with it
   pub types : (newType 64 9 ≡ 9) × (newType 64 10 ≡ 2 ^ 63)
   -- byte 588 is byte 12 of row 1 of acc0, and of no other
-  pub registers : let at = placeOf (parametersOf halving 128 512 64) in
+  pub registers : let at = spotAt (parametersOf halving 128 512 64) in
       (at (Spot.inAccumulator 0 1 12) < 1024) × ((s : Spot) × IsThere 128 512 s × (at s ≡ 588)) × ((s : Spot) → IsThere 128 512 s → at s ≡ 588 → s ≡ Spot.inAccumulator 0 1 12)
   -- msce32.m acc1, (x10), x11, three rows of five at 150, 174 and 198: byte 1 of element (2, 3); byte 172, between two rows
   pub stores : let o = stepWith chosen msce32 (xs 150 24) lent held .bench .memory in

@@ -1,11 +1,5 @@
 -- Rows of float products: their sums, the rows that are stored, and products block after block.
-use mathlib.Core.Path.{_≡_, refl, sym, ap, _∙_}
-use mathlib.Core.List.{List}
-use Prim.Native.Nat.{ℕ, _+_, _*_, _≤_, _<_}
-use native.Mathlib.Nat.{zero-add}
-use native.Mathlib.Numerals.{add-one}
-use native.Mathlib.Omega.{arith}
-use lib.ListN.{getD}
+use Rattle.width.proofs.Kit.{_≡_, refl, sym, ap, _∙_, List, ℕ, _+_, _*_, _≤_, _<_, zero-add, arith, add-one, getD}
 use lib.Ieee.{Float, nan}
 use Rattle.width.specs.Tile.{putRow}
 use Rattle.width.specs.Binary32.{settled, multiplyAdd, floatSum, floatProduct}

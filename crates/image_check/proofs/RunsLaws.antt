@@ -1,6 +1,6 @@
 -- The runs of an image from a place on, one run at a time.
-use Rattle.width.proofs.Kit.{_≡_, refl, ap, _∙_, subst, Bool, true, false, cond, List, [], _∷_, ℕ, suc, _+_, _-_, _*_, _≤_, _<_, arith, leb, length}
-use Rattle.width.proofs.Kit.{take, drop, leb-true, leb-false}
+use Rattle.width.proofs.Kit.{_≡_, refl, ap, _∙_, subst, Bool, true, false, cond, List, [], _∷_, ℕ, suc, _+_, _-_, _*_, _≤_, _<_, arith, leb, length, take}
+use Rattle.width.proofs.Kit.{drop, leb-true, leb-false}
 use Rattle.format.specs.Numbers.{span}
 use Rattle.format.specs.Formats.{Format}
 use Rattle.format.specs.Formats.Format.{number, bytes}

@@ -1,6 +1,5 @@
 -- What is built of the runs of an image does not matter to reading them.
-use Rattle.width.proofs.Kit.{_≡_, refl, ap, _∙_, Bool, true, false, List, [], _∷_, ℕ, zero, suc, _+_, _-_, _*_, _≤_, _<_, leb, length}
-use Rattle.width.proofs.Kit.{take, drop}
+use Rattle.width.proofs.Kit.{_≡_, refl, ap, _∙_, Bool, true, false, List, [], _∷_, ℕ, zero, suc, _+_, _-_, _*_, _≤_, _<_, leb, length, take, drop}
 use Rattle.format.specs.Numbers.{Interval, span}
 use Rattle.format.specs.Formats.{Format}
 use Rattle.format.specs.Formats.Format.{number, bytes}

@@ -1,13 +1,6 @@
 -- Each answer of a start, of adding a range, and of sizing and writing an image is given exactly when its sentence holds and none before it does.
-use mathlib.Core.Path.{_≡_, refl, sym, ap, ap₂, _∙_, subst}
-use mathlib.Core.Logic.{_↔_}
-use mathlib.Core.Bool.{Bool, true, false, cond}
-use mathlib.Core.List.{List, []}
-use Prim.Native.Nat.{ℕ, _+_, _-_, _^_, _≤_, _<_}
-use native.Mathlib.Omega.{arith}
-use lib.ListN.{length}
-use lib.Dec.{leb, ltb, eqb}
-use borrow.Author.Tests.{eqb-false, ltb-true, ltb-false, leb-true, leb-false, le-leb}
+use Rattle.width.proofs.Kit.{_≡_, refl, sym, ap, ap₂, _∙_, subst, _↔_, Bool, true, false, cond, List, [], ℕ, _+_, _-_, _^_, _≤_, _<_, arith, leb, ltb, eqb}
+use Rattle.width.proofs.Kit.{length, eqb-false, ltb-true, ltb-false, leb-true, leb-false, le-leb}
 use Rattle.machine.specs.Answers.{bare}
 use Rattle.machine.specs.Geometry.{Range, range, Bench, benchOf}
 use Rattle.machine.specs.Starting.{sealEnds, mostSeals, ranges, startable, startMachine}

@@ -1,15 +1,8 @@
 -- The tests of the definitions that give 8 pass exactly where none of the sentences of the papers' faults holds.
-use mathlib.Core.Path.{_≡_, refl, sym, ap, _∙_, subst}
-use mathlib.Core.Logic.{_↔_, _⊎_, inl, inr}
-use mathlib.Core.Bool.{Bool, true, false, cond, not, _&&_, _||_}
-use mathlib.Core.List.{List, [], _∷_, map, List·Memᴰ, List·Memᴰ·head, List·Memᴰ·tail, List·Memᴰ·cases-cons, List·Memᴰ·not-nil}
-use Prim.Native.Nat.{ℕ, zero, suc, _+_, _-_, _*_, _/_, _%_, _^_, _≤_, _<_, min}
-use native.Mathlib.Nat.{one-le-pow, div-add-mod'}
-use native.Mathlib.Omega.{arith}
-use lib.Pow.{pow-add}
-use lib.ListN.{length, getD}
-use lib.Dec.{leb, ltb, eqb}
-use borrow.Author.Tests.{eq-eqb, eqb-true, ltb-true, ltb-false, lt-ltb, leb-true, le-leb}
+use Rattle.width.proofs.Kit.{_≡_, refl, sym, ap, _∙_, subst, _↔_, _⊎_, inl, inr, Bool, true, false, cond, not, _&&_, _||_, List, [], _∷_, map, List·Memᴰ}
+use Rattle.width.proofs.Kit.{List·Memᴰ·head, List·Memᴰ·tail, List·Memᴰ·cases-cons, List·Memᴰ·not-nil, ℕ, zero, suc, _+_, _-_, _*_, _/_, _%_, _^_, _≤_, _<_}
+use Rattle.width.proofs.Kit.{min, one-le-pow, div-add-mod', arith, leb, ltb, eqb, length, getD, pow-add, eq-eqb, eqb-true, ltb-true, ltb-false, lt-ltb}
+use Rattle.width.proofs.Kit.{leb-true, le-leb}
 use Rattle.machine.specs.Tests.{all, every, allOf, isIn}
 use Rattle.machine.specs.declared.Machine.{Machine}
 use Rattle.machine.specs.Geometry.{Range, rlens, mlens, elens, permitted, registerBytes, Bench}

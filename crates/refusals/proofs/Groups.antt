@@ -1,14 +1,7 @@
 -- The checks of an operation that is not illegal, in the groups of their answers: 2, 3, 4, 5, 6, 13, 7.
-use mathlib.Core.Path.{_≡_, refl, sym, ap, ap₂, _∙_, subst, fun-ext}
-use mathlib.Core.Logic.{_⊎_, inl, inr}
-use mathlib.Core.Bool.{Bool, true, false, cond, not, _&&_, _||_}
-use mathlib.Core.List.{List, [], _∷_, _++_, map}
-use Prim.Native.Nat.{ℕ, zero, suc, _+_, _*_, _≤_, _<_}
-use native.Mathlib.Nat.{zero-add, zero-mul, one-mul, mul-le-mul-right}
-use native.Mathlib.Omega.{arith}
-use lib.ListN.{length, getD}
-use lib.Dec.{leb, eqb}
-use borrow.Author.Tests.{eq-eqb, eqb-true, eqb-false, ne-eqb, leb-true, leb-false}
+use Rattle.width.proofs.Kit.{_≡_, refl, sym, ap, ap₂, _∙_, subst, fun-ext, _⊎_, inl, inr, Bool, true, false, cond, not, _&&_, _||_, List, [], _∷_, _++_}
+use Rattle.width.proofs.Kit.{map, ℕ, zero, suc, _+_, _*_, _≤_, _<_, zero-add, zero-mul, one-mul, mul-le-mul-right, arith, leb, eqb, length, getD, eq-eqb}
+use Rattle.width.proofs.Kit.{eqb-true, eqb-false, ne-eqb, leb-true, leb-false}
 use Rattle.machine.specs.declared.Answer.{Answer}
 use Rattle.machine.specs.declared.Answer.the-variants.{Done, IllegalType, BadWidth, TileTooLarge, Unwritten, OutsideMemory, SealedByte, RowsOverlap}
 use Rattle.machine.specs.declared.Form.{Form}
@@ -23,32 +16,32 @@ use Rattle.machine.specs.Operation.{Operation, illegal, setType, setSize, cutSi
 use Rattle.machine.specs.Refusals.{widthOf, widthOk, marked, firstRow, firstColumn, needs, isZero, multiplyReads, sliceNeeds, checks}
 use Rattle.machine.proofs.TestLaws.{and-left, and-right, all-at, all-true, all-elements, false-true, first-is}
 use Rattle.machine.proofs.CheckLaws.{marked-true, first-row-is, first-column-is}
-use Rattle.refusals.specs.Given.{TypeIsIllegal, KeepsWidths, WidthIsBroken, uses, LinesTooLarge, SliceTooLarge, SizeTooLarge, Elements, tile, slice, factors, reads, Written, Unmarked, AllWritten, First, FirstAmong, NotWritten, Rows, rowsFor, noRows, writes, touches}
+use Rattle.refusals.specs.Given.{TypeIsIllegal, KeepsWidths, WidthIsBroken, uses, LinesTooLarge, SliceTooLarge, SizeTooLarge, Source, tile, slice, factors, reads, Written, Unmarked, AllWritten, First, FirstAmong, NotWritten, Rows, rowsFor, noRows, writes, touches}
 use Rattle.refusals.proofs.Reflect.{Tells, tells-not, tells-never, first-fails, memory-width, width-memory, output-width, width-output, fits, tells-sizes}
 
 -- ---- 5: elements to be read
 
 module _ (marks : List ℕ) where
-  abbrev pub elementsCheck : Elements → Check
+  abbrev pub elementsCheck : Source → Check
   elementsCheck E =
       let row = firstRow marks (E .at) (E .rows) (E .columns * E .width) in
       marked marks (E .at) (E .rows) (E .columns * E .width) otherwise
       Unwritten (E .top + row) (E .left + firstColumn marks (E .at row) (E .columns) (E .width))
 
   -- byte x of row i
-  abbrev mark : Elements → (i x : ℕ) → Bool
+  abbrev mark : Source → (i x : ℕ) → Bool
   mark E i x = eqb (getD marks (E .at i + x) 0) 1
 
-  element-byte : (E : Elements) (i j b : ℕ) → E .at i + (j * E .width + b) ≡ E .at i + j * E .width + b
+  element-byte : (E : Source) (i j b : ℕ) → E .at i + (j * E .width + b) ≡ E .at i + j * E .width + b
   element-byte E i j b = omega arith
 
-  row-written : (E : Elements) (i : ℕ) → all (E .columns * E .width) (mark E i) ≡ true → (j : ℕ) → j < E .columns → Written marks E i j
+  row-written : (E : Source) (i : ℕ) → all (E .columns * E .width) (mark E i) ≡ true → (j : ℕ) → j < E .columns → Written marks E i j
   row-written E i h j m b n =
       subst (λ (q : ℕ). getD marks q 0 ≡ 1) (element-byte E i j b)
       (eqb-true (getD marks (E .at i + (j * E .width + b)) 0) 1
       (all-at (E .columns * E .width) (mark E i) h (j * E .width + b) (omega (arith, mul-le-mul-right (E .width) m))))
 
-  written-row : (E : Elements) → AllWritten marks E → marked marks (E .at) (E .rows) (E .columns * E .width) ≡ true
+  written-row : (E : Source) → AllWritten marks E → marked marks (E .at) (E .rows) (E .columns * E .width) ≡ true
   unfolding marked
   written-row E h =
       all-true (E .rows) (λ i. all (E .columns * E .width) (mark E i)) (λ i l.
@@ -57,11 +50,11 @@ module _ (marks : List ℕ) where
       all-true (E .width) (λ b. mark E i (j * E .width + b)) (λ b n.
       eq-eqb (getD marks (E .at i + (j * E .width + b)) 0) 1 (subst (λ (q : ℕ). getD marks q 0 ≡ 1) (sym (element-byte E i j b)) (h i j l m b n)))))
 
-  all-written : (E : Elements) → marked marks (E .at) (E .rows) (E .columns * E .width) ≡ true → AllWritten marks E
+  all-written : (E : Source) → marked marks (E .at) (E .rows) (E .columns * E .width) ≡ true → AllWritten marks E
   unfolding marked
   all-written E h i j l m = row-written E i (all-at (E .rows) (λ i. all (E .columns * E .width) (mark E i)) h i l) j m
 
-  not-written : (E : Elements) → marked marks (E .at) (E .rows) (E .columns * E .width) ≡ false → (i : ℕ) × (j : ℕ) × First marks E i j
+  not-written : (E : Source) → marked marks (E .at) (E .rows) (E .columns * E .width) ≡ false → (i : ℕ) × (j : ℕ) × First marks E i j
   unfolding marked
   not-written E h =
       let x = first-fails (E .rows) (λ i. all (E .columns * E .width) (mark E i)) h in
@@ -84,7 +77,7 @@ module _ (marks : List ℕ) where
       )
 
   -- the check names it
-  check-names : (E : Elements) (i j : ℕ) → First marks E i j → elementsCheck E .answer ≡ Unwritten (E .top + i) (E .left + j)
+  check-names : (E : Source) (i j : ℕ) → First marks E i j → elementsCheck E .answer ≡ Unwritten (E .top + i) (E .left + j)
   check-names E i j f =
       let at = E .at in
       let cols = E .columns in
@@ -106,15 +99,15 @@ module _ (marks : List ℕ) where
           c m)
 
   -- of several, with checks behind them: all are written, or the first that is not is named
-  abbrev pub AllOf : List Elements → Type 0
+  abbrev pub AllOf : List Source → Type 0
   AllOf [] = Unit {0}
   AllOf (E ∷ Es) = AllWritten marks E × AllOf Es
 
-  abbrev pub Read : List Elements → List Check → Type 0
+  abbrev pub Read : List Source → List Check → Type 0
   Read Es rest = (AllOf Es × (verdict (map elementsCheck Es ++ rest) ≡ verdict rest))
       ⊎ ((row : ℕ) × (column : ℕ) × FirstAmong marks Es row column × (verdict (map elementsCheck Es ++ rest) ≡ Unwritten row column))
 
-  pub read : (Es : List Elements) (rest : List Check) → Read Es rest
+  pub read : (Es : List Source) (rest : List Check) → Read Es rest
   read [] rest = inl (tt, refl)
   read (E ∷ Es) rest = go (marked marks (E .at) (E .rows) (E .columns * E .width)) refl (read Es rest)
     where
@@ -134,7 +127,7 @@ module _ (marks : List ℕ) where
             ap (λ (b : Bool). cond b (verdict (map elementsCheck Es ++ rest)) (elementsCheck E .answer)) e ∙ check-names E (f .0) (f .1) (f .2),
           )
 
-  pub all-none : (Es : List Elements) → AllOf Es → ¬ ((row : ℕ) × (column : ℕ) × FirstAmong marks Es row column)
+  pub all-none : (Es : List Source) → AllOf Es → ¬ ((row : ℕ) × (column : ℕ) × FirstAmong marks Es row column)
   all-none [] a x = x .2
   all-none (E ∷ Es) a x =
       elim (x .2) [

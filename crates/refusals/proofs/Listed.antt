@@ -1,14 +1,7 @@
 -- No code twice, the values of mtype, and the bytes of the registers.
-use mathlib.Core.Path.{_≡_, refl, sym, ap, subst}
-use mathlib.Core.Logic.{inl, inr}
-use mathlib.Core.Bool.{Bool, true, false}
-use mathlib.Core.List.{List, [], _∷_}
-use Prim.Native.Nat.{ℕ, zero, suc, _+_, _-_, _*_, _/_, _%_, _≤_, _<_}
-use native.Mathlib.Nat.{eq-zero-or-pos, mul-zero, mul-le-mul-right, div-lt-iff-lt-mul, div-add-mod', mod-lt}
-use native.Mathlib.Omega.{arith}
-use lib.ListN.{length, getD}
-use lib.Dec.{ltb}
-use borrow.Author.Tests.{ltb-true, ltb-false}
+use Rattle.width.proofs.Kit.{_≡_, refl, sym, ap, subst, inl, inr, Bool, true, false, List, [], _∷_, ℕ, zero, suc, _+_, _-_, _*_, _/_, _%_, _≤_, _<_}
+use Rattle.width.proofs.Kit.{eq-zero-or-pos, mul-zero, mul-le-mul-right, div-lt-iff-lt-mul, div-add-mod', mod-lt, arith, ltb, length, getD, ltb-true}
+use Rattle.width.proofs.Kit.{ltb-false}
 use Rattle.machine.specs.Geometry.{permitted, registerBytes, Parameters, parametersOf}
 use Rattle.machine.specs.Listing.{Code, Row, has, listing}
 use Rattle.machine.proofs.TestLaws.{and-left, and-right}
@@ -16,7 +9,7 @@ use Rattle.machine.proofs.ListingLaws.{clash, clashAll, pairwise, codes, one-ro
 use Rattle.machine.proofs.CodeLaws.{types-are}
 use Rattle.machine.proofs.StepLaws.{permitted-lengths}
 use Rattle.machine.proofs.WordRefusals.{bits-has}
-use Rattle.refusals.specs.Listed.{entries, NoCodeTwice, TypesAreThese, Spot, IsThere, placeOf, Fills, RegistersFill}
+use Rattle.refusals.specs.Listed.{entries, NoCodeTwice, TypesAreThese, Spot, IsThere, spotAt, Fills, RegistersFill}
 
 same-entries : (rs : List Row) → entries rs ≡ codes rs
 same-entries [] = refl
@@ -99,26 +92,26 @@ module _ (grant : ℕ → ℕ → ℕ) (rlen mlen elen : ℕ) (p : permitted rle
   fills : Fills rlen mlen M
   fills = record { within = within; whole = whole; apart = apart }
     where
-      within : (s : Spot) → IsThere rlen mlen s → placeOf M s < registerBytes mlen
+      within : (s : Spot) → IsThere rlen mlen s → spotAt M s < registerBytes mlen
       within (Spot.inTile r i b) h = omega (arith, sixteen, below 8 1 r i b (h .0) (h .1) (omega (arith, h .2)))
       within (Spot.inAccumulator r i b) h = omega (arith, sixteen, below 2 4 r i b (h .0) (h .1) (h .2))
 
-      low : (q : ℕ) → q < 8 * (R * P) → (s : Spot) × IsThere rlen mlen s × (placeOf M s ≡ q)
+      low : (q : ℕ) → q < 8 * (R * P) → (s : Spot) × IsThere rlen mlen s × (spotAt M s ≡ q)
       low q l = let x = places-of R P 8 q l in (Spot.inTile (x .0) (x .1) (x .2), (x .3, x .4, x .5), x .6)
 
-      high : (q : ℕ) → 8 * (R * P) ≤ q → q < 16 * (R * P) → (s : Spot) × IsThere rlen mlen s × (placeOf M s ≡ q)
+      high : (q : ℕ) → 8 * (R * P) ≤ q → q < 16 * (R * P) → (s : Spot) × IsThere rlen mlen s × (spotAt M s ≡ q)
       high q g l =
           let x = places-of R (4 * P) 2 (q - 8 * (R * P)) (omega (arith, g, l)) in
           (Spot.inAccumulator (x .0) (x .1) (x .2), (x .3, x .4, x .5), omega (arith, g, x .6))
 
-      whole : (q : ℕ) → q < registerBytes mlen → (s : Spot) × IsThere rlen mlen s × (placeOf M s ≡ q)
+      whole : (q : ℕ) → q < registerBytes mlen → (s : Spot) × IsThere rlen mlen s × (spotAt M s ≡ q)
       whole q l = go (ltb q (8 * (R * P))) refl
         where
-          go : (t : Bool) → ltb q (8 * (R * P)) ≡ t → (s : Spot) × IsThere rlen mlen s × (placeOf M s ≡ q)
+          go : (t : Bool) → ltb q (8 * (R * P)) ≡ t → (s : Spot) × IsThere rlen mlen s × (spotAt M s ≡ q)
           go true e = low q (ltb-true q (8 * (R * P)) e)
           go false e = high q (ltb-false q (8 * (R * P)) e) (omega (arith, l, sixteen))
 
-      apart : (s t : Spot) → IsThere rlen mlen s → IsThere rlen mlen t → placeOf M s ≡ placeOf M t → s ≡ t
+      apart : (s t : Spot) → IsThere rlen mlen s → IsThere rlen mlen t → spotAt M s ≡ spotAt M t → s ≡ t
       apart (Spot.inTile r i b) (Spot.inTile r′ i′ b′) h g e =
           let x = three-places R P r i b r′ i′ b′ (h .1) (h .2) (g .1) (g .2) e in
           ap₃ x

@@ -1,10 +1,5 @@
 -- 01, "Numbers of the answers": what gives 8, in its words, with 02, Eight, Ten and Twelve. The proofs stand in proofs/.
-use mathlib.Core.Path.{_≡_}
-use mathlib.Core.Logic.{_↔_, _⊎_}
-use mathlib.Core.Bool.{true}
-use mathlib.Core.List.{List, List·Memᴰ}
-use Prim.Native.Nat.{ℕ, _+_, _-_, _*_, _/_, _^_, _≤_, _<_, min}
-use lib.ListN.{length, getD}
+use Rattle.width.specs.Kit.{_≡_, _↔_, _⊎_, true, List, List·Memᴰ, ℕ, _+_, _-_, _*_, _/_, _^_, _≤_, _<_, min, length, getD}
 use Rattle.machine.specs.Tests.{isIn}
 use Rattle.machine.specs.Geometry.{Range, Bench}
 use Rattle.machine.specs.Faults.{soundBench}
@@ -34,11 +29,11 @@ abbrev pub KnownRule : ℕ → Type 0
 KnownRule rule = (rule ≡ 0) ⊎ (rule ≡ 1)
 
 -- no "range whose end exceeds 2^64 - 1"
-abbrev pub Ends : Range → Type 0
-Ends r = r .start + r .size ≤ 2 ^ 64 - 1
+abbrev pub RangeEnds : Range → Type 0
+RangeEnds r = r .start + r .size ≤ 2 ^ 64 - 1
 
 abbrev pub EachEnds : List Range → Type 0
-EachEnds seals = (r : Range) → List·Memᴰ r seals → Ends r
+EachEnds seals = (r : Range) → List·Memᴰ r seals → RangeEnds r
 
 -- "For a step, 8 means: RLEN or MLEN not permitted, a buffer not of the size they demand, .. an mtype that can't arise, a tile size above its
 -- maximum at SEW 8, a seal whose end exceeds 2^64 - 1, or a mark that is neither value."; 02, Eight: "an unknown rule"; Ten: "an ELEN other than

@@ -1,13 +1,6 @@
 -- 01, "Numbers of the answers", of a step: each answer is "given exactly when" the sentence of its row holds and none before it does; 02, One,
 -- Four, Seven, Ten, Eleven and Twelve. 8 is the state at fault of machine/specs/Faults.antt. The proofs stand in proofs/.
-use mathlib.Core.Path.{_≡_}
-use mathlib.Core.Logic.{_↔_, _⊎_}
-use mathlib.Core.Bool.{true, cond}
-use mathlib.Core.List.{List, [], _∷_, List·Memᴰ}
-use Prim.Native.Nat.{ℕ, _+_, _*_, _≤_, _<_}
-use lib.ListN.{length, getD}
-use lib.Dec.{eqb}
-use lib.IntN.{pos, _+ℤ_}
+use Rattle.width.specs.Kit.{_≡_, _↔_, _⊎_, true, cond, List, [], _∷_, List·Memᴰ, ℕ, _+_, _*_, _≤_, _<_, eqb, length, getD, pos, _+ℤ_}
 use Rattle.width.specs.Blocks.{Choice}
 use Rattle.width.specs.Tile.{In}
 use Rattle.machine.specs.declared.Reply.{Reply}
@@ -107,7 +100,7 @@ SizeTooLarge M st op = ((d : Dimension) × List·Memᴰ d (uses op) × (maximum 
 -- ---- 5: "a register element to be read has a byte without a mark"
 
 -- elements of a register: where each row starts, how many rows and columns, the bytes of an element, and the row and column of the first in its register
-pub record Elements : Type 0 where
+pub record Source : Type 0 where
   pub at : ℕ → ℕ
   pub rows : ℕ
   pub columns : ℕ
@@ -115,21 +108,21 @@ pub record Elements : Type 0 where
   pub top : ℕ
   pub left : ℕ
 
-abbrev pub tile : (ℕ → ℕ) → (rows columns width : ℕ) → Elements
+abbrev pub tile : (ℕ → ℕ) → (rows columns width : ℕ) → Source
 tile at rows columns width = record { at = at; rows = rows; columns = columns; width = width; top = 0; left = 0 }
 
 -- the elements of an accumulator from row `top` and column `left` on, so many rows and columns of them (02, Eleven)
-abbrev pub part : Parameters → (accumulator top left rows columns width : ℕ) → Elements
+abbrev pub part : Parameters → (accumulator top left rows columns width : ℕ) → Source
 part M accumulator top left rows columns width =
     record { at = λ i. accAt M accumulator (top + i) + left * width; rows = rows; columns = columns; width = width; top = top; left = left }
 
 -- so many rows of the C tile from `first` on, or columns
-abbrev pub slice : Parameters → State → Form → (accumulator first count : ℕ) → Elements
+abbrev pub slice : Parameters → State → Form → (accumulator first count : ℕ) → Source
 slice M st Plain accumulator first count = part M accumulator first 0 count (st .tileN) (sew (st .mtype))
 slice M st Transposed accumulator first count = part M accumulator 0 first (st .tileM) count (sew (st .mtype))
 
 -- "A multiply reads its three tiles whole, but nothing where C has no element."
-abbrev pub factors : Parameters → State → (wide d a b : ℕ) → List Elements
+abbrev pub factors : Parameters → State → (wide d a b : ℕ) → List Source
 factors M st wide d a b =
     cond (eqb (st .tileM * st .tileN) 0) []
     (tile (tileAt M a) (st .tileM) (st .tileK) (sew (st .mtype))
@@ -137,7 +130,7 @@ factors M st wide d a b =
     ∷ tile (accAt M d) (st .tileM) (st .tileN) wide ∷ [])
 
 -- what an operation reads, "sources go ms1, ms2, md"; "If that multiplier is 0, ms1 isn't read"
-abbrev pub reads : Parameters → State → Operation → List Elements
+abbrev pub reads : Parameters → State → Operation → List Source
 reads M st (illegal wrong) = []
 reads M st (setType v) = []
 reads M st (setSize d a) = []
@@ -154,18 +147,18 @@ reads M st (moveIn f d v first count file) = []
 
 module _ (marks : List ℕ) where
   -- each byte of element (i, j) has its mark
-  abbrev pub Written : Elements → (i j : ℕ) → Type 0
+  abbrev pub Written : Source → (i j : ℕ) → Type 0
   Written E i j = (b : ℕ) → b < E .width → getD marks (E .at i + j * E .width + b) 0 ≡ 1
 
   -- or one has none
-  abbrev pub Unmarked : Elements → (i j : ℕ) → Type 0
+  abbrev pub Unmarked : Source → (i j : ℕ) → Type 0
   Unmarked E i j = (b : ℕ) × (b < E .width) × ¬ (getD marks (E .at i + j * E .width + b) 0 ≡ 1)
 
-  abbrev pub AllWritten : Elements → Type 0
+  abbrev pub AllWritten : Source → Type 0
   AllWritten E = (i j : ℕ) → i < E .rows → j < E .columns → Written E i j
 
   -- "the first such element, row by row": (i, j), which is one, behind which rows and elements all are written
-  pub record First (E : Elements) (i j : ℕ) : Type 0 where
+  pub record First (E : Source) (i j : ℕ) : Type 0 where
     pub row-there : i < E .rows
     pub column-there : j < E .columns
     pub without-mark : Unmarked E i j
@@ -173,7 +166,7 @@ module _ (marks : List ℕ) where
     pub columns-before : (l : ℕ) → l < j → Written E i l
 
   -- the first of several, one after the other
-  abbrev pub FirstAmong : List Elements → (row column : ℕ) → Type 0
+  abbrev pub FirstAmong : List Source → (row column : ℕ) → Type 0
   FirstAmong [] row column = ⊥
   FirstAmong (E ∷ Es) row column =
       ((i : ℕ) × (j : ℕ) × First E i j × (row ≡ E .top + i) × (column ≡ E .left + j)) ⊎ (AllWritten E × FirstAmong Es row column)

@@ -1,9 +1,5 @@
 -- The answers of sizing and writing an image, and what they leave: 02, Six. The proofs stand in proofs/.
-use mathlib.Core.Path.{_≡_}
-use mathlib.Core.Logic.{_↔_}
-use mathlib.Core.List.{List, _++_}
-use Prim.Native.Nat.{ℕ, _<_}
-use lib.ListN.{length, drop}
+use Rattle.width.specs.Kit.{_≡_, _↔_, List, _++_, ℕ, _<_, length, drop}
 use Rattle.machine.specs.Geometry.{Bench}
 use Rattle.image.specs.Answers.{ImageReply}
 use Rattle.image.specs.Writing.{SizeOutcome, sizeImage, WriteOutcome, writeImage}

@@ -1,11 +1,6 @@
 -- What a reviewer looks for in the definitions: no code is given twice, the values that mtype can take, and each byte of the registers in one of them.
 -- The proofs stand in proofs/.
-use mathlib.Core.Path.{_≡_}
-use mathlib.Core.Bool.{true, cond}
-use mathlib.Core.List.{List, [], _∷_}
-use Prim.Native.Nat.{ℕ, _+_, _*_, _/_, _^_, _<_}
-use lib.Dec.{eqb}
-use lib.ListN.{length, getD}
+use Rattle.width.specs.Kit.{_≡_, true, cond, List, [], _∷_, ℕ, _+_, _*_, _/_, _^_, _<_, eqb, length, getD}
 use Rattle.machine.specs.Tests.{isIn}
 use Rattle.machine.specs.Geometry.{elens, permitted, registerBytes, Parameters, parametersOf, tileAt, accAt}
 use Rattle.machine.specs.Setting.{newType}
@@ -42,15 +37,15 @@ IsThere rlen mlen (Spot.inTile r i b) = (r < 8) × (i < mlen / rlen) × (b < rle
 IsThere rlen mlen (Spot.inAccumulator r i b) = (r < 2) × (i < mlen / rlen) × (b < 4 * (rlen / 8))
 
 -- where it lies in the lent register bytes
-abbrev pub placeOf : Parameters → Spot → ℕ
-placeOf M (Spot.inTile r i b) = tileAt M r i + b
-placeOf M (Spot.inAccumulator r i b) = accAt M r i + b
+abbrev pub spotAt : Parameters → Spot → ℕ
+spotAt M (Spot.inTile r i b) = tileAt M r i + b
+spotAt M (Spot.inAccumulator r i b) = accAt M r i + b
 
 -- the registers fill the bytes that they are lent: each spot lies in them, each byte is one spot's, and no other's
 pub record Fills (rlen mlen : ℕ) (M : Parameters) : Type 0 where
-  pub within : (s : Spot) → IsThere rlen mlen s → placeOf M s < registerBytes mlen
-  pub whole : (q : ℕ) → q < registerBytes mlen → (s : Spot) × IsThere rlen mlen s × (placeOf M s ≡ q)
-  pub apart : (s t : Spot) → IsThere rlen mlen s → IsThere rlen mlen t → placeOf M s ≡ placeOf M t → s ≡ t
+  pub within : (s : Spot) → IsThere rlen mlen s → spotAt M s < registerBytes mlen
+  pub whole : (q : ℕ) → q < registerBytes mlen → (s : Spot) × IsThere rlen mlen s × (spotAt M s ≡ q)
+  pub apart : (s t : Spot) → IsThere rlen mlen s → IsThere rlen mlen t → spotAt M s ≡ spotAt M t → s ≡ t
 
 abbrev pub RegistersFill : Type 0
 RegistersFill = (grant : ℕ → ℕ → ℕ) (rlen mlen elen : ℕ) → permitted rlen mlen elen ≡ true → Fills rlen mlen (parametersOf grant rlen mlen elen)

@@ -1,14 +1,11 @@
 -- The answers of a start and of adding a range, and what they leave: 01, "What a machine is" and "Numbers of the answers"; 02, Eight, Ten and
 -- Twelve. The proofs stand in proofs/.
-use mathlib.Core.Path.{_≡_}
-use mathlib.Core.List.{List, [], _∷_, _++_}
-use Prim.Native.Nat.{ℕ, _*_, _<_}
-use lib.ListN.{length, replicate}
+use Rattle.width.specs.Kit.{_≡_, List, [], _∷_, _++_, ℕ, _*_, _<_, length, replicate}
 use Rattle.machine.specs.Answers.{bare}
 use Rattle.machine.specs.Geometry.{Range, range, Bench, benchOf}
 use Rattle.machine.specs.Starting.{ranges, noMachine, freshMachine, StartOutcome, startMachine}
 use Rattle.machine.specs.Sealing.{SealOutcome, addSeal}
-use Rattle.refusals.specs.Faults.{Permitted, OfTheirSize, KnownRule, Ends, EachEnds, NotAtFault, Exactly}
+use Rattle.refusals.specs.Faults.{Permitted, OfTheirSize, KnownRule, RangeEnds, EachEnds, NotAtFault, Exactly}
 
 -- ---- a start
 
@@ -50,7 +47,7 @@ StartAnswersExactly = (rlen mlen elen rule : ℕ) (seals registers marks : List 
 -- "a state that holds more than eight gets 8", as every state at fault does; "a range whose end exceeds 2^64 - 1 gets 8": neither
 pub record Addable (r : Range) (B : Bench) : Type 0 where
   pub not-at-fault : NotAtFault B
-  pub ends : Ends r
+  pub ends : RangeEnds r
 
 -- "a ninth range gets 16"; the range enters behind the others, and nothing else changes; "A refusal changes nothing lent or held."
 pub record AddsExactly (r : Range) (B : Bench) (o : SealOutcome) : Type 0 where

@@ -10,7 +10,7 @@ use lib.Dec.{leb, ltb}
 use lib.ListN.{length, take, drop, length-append, length-take, length-drop}
 use lib.Seq.{length-take-le, take-all, take-length, take-at, drop-at}
 use borrow.Author.Tests.{leb-true, leb-false, le-leb, lt-leb, ltb-true, ltb-false}
-use Rattle.format.specs.Numbers.{encode, Bytes}
+use Rattle.format.specs.Numbers.{encode, ByteString}
 use Rattle.format.specs.Formats.{Ends, Format, Accepts, Accepted}
 use Rattle.format.specs.Formats.Format.{done, number, bytes}
 use Rattle.format.specs.Parser.{Parsed, parse}
@@ -20,43 +20,43 @@ use Rattle.format.proofs.FormatLaws.{ParseRight, accepts-parse, parse-right}
 use Rattle.image.specs.Cells.{Run, cellsOf, runs, Fit}
 use Rattle.image.specs.Cells.Run.{run}
 use Rattle.image.specs.Images.{Header, headerOf, runsBytes, spelled, IsImage}
-use Rattle.image.specs.ImageFormat.{Described, runsFormat, total, imageFormat}
+use Rattle.image.specs.ImageFormat.{Described, runsFormat, allRegisterBytes, imageFormat}
 use Rattle.image.specs.declared.Imaged.the-variants.{Done, NoRoom, Damaged}
 use Rattle.image.proofs.ImageLaws.{Held, AllBytes, Spelling, image-live, image-out, image-in}
 use Rattle.image.proofs.Images.{image-accepts, format-is-images}
 use Rattle.salvage.specs.Fronts.{Front, front}
 use Rattle.salvage.specs.Fronts.Front.{ahead, stuck}
-use Rattle.salvage.specs.Salvage.{placeOf, placeIn, Announced, announcedFormat, runsKept, Kept, keptFrom, keptIn, SalvageOutcome, salvaged, salvageOf, salvage}
+use Rattle.salvage.specs.Salvage.{faultPlace, placeIn, Announced, announcedFormat, runsKept, KeptPart, keptFrom, keptIn, SalvageOutcome, salvaged, salvageOf, salvage}
 use Rattle.salvage.specs.Theorems.{PlaceAsInSix, endOf, freshOf, KeepsFirst, SalvageIsExact, FreshIsImage, SoundUnchanged, SalvageRefusalChangesNothing}
 use Rattle.salvage.proofs.FrontLaws.{bytes-drop, take-behind, take-before, as-long, Ahead, ahead-one, stuck-never, front-ahead, onto}
 use Rattle.salvage.proofs.KeepLaws.{follows, head-then, KeptOf, stopped-never, runs-of, unlater, place-later}
 
 -- ---- what is accepted are bytes
 
-bytes-append : (s t : List ℕ) → Bytes s → Bytes t → Bytes (s ++ t)
+bytes-append : (s t : List ℕ) → ByteString s → ByteString t → ByteString (s ++ t)
 bytes-append [] t hs ht = ht
 bytes-append (b ∷ s) t hs ht = (hs .0, bytes-append s t (hs .1) ht)
 
-bytes-encode : (f n : ℕ) → n ≤ f → Bytes (encode n)
-bytes-encode zero n h = subst Bytes (sym (encode-last n (omega arith))) (omega arith, tt)
+bytes-encode : (f n : ℕ) → n ≤ f → ByteString (encode n)
+bytes-encode zero n h = subst ByteString (sym (encode-last n (omega arith))) (omega arith, tt)
 bytes-encode (suc f) n h = go (λ q. bytes-encode f (n / 128) (omega arith)) (ltb n 128) refl
   where
-    go : (128 ≤ n → Bytes (encode (n / 128))) → (b : Bool) → ltb n 128 ≡ b → Bytes (encode n)
-    go ih true e = subst Bytes (sym (encode-last n (ltb-true n 128 e))) (omega (arith, ltb-true n 128 e), tt)
-    go ih false e = subst Bytes (sym (encode-more n (ltb-false n 128 e))) (omega arith, ih (ltb-false n 128 e))
+    go : (128 ≤ n → ByteString (encode (n / 128))) → (b : Bool) → ltb n 128 ≡ b → ByteString (encode n)
+    go ih true e = subst ByteString (sym (encode-last n (ltb-true n 128 e))) (omega (arith, ltb-true n 128 e), tt)
+    go ih false e = subst ByteString (sym (encode-more n (ltb-false n 128 e))) (omega arith, ih (ltb-false n 128 e))
 
-pub accepts-bytes : {X : Type 0} (f : Format X) (s : List ℕ) (x : X) → Accepts f s x → Bytes s
-accepts-bytes (done y) s x a = subst Bytes (sym (a .0)) tt
-accepts-bytes (number rs k) s x (n, t, i, e, a) = subst Bytes (sym e) (bytes-append (encode n) t (bytes-encode n n (omega arith)) (accepts-bytes (k n) t x a))
-accepts-bytes (bytes m k) s x (b, t, i, e, a) = subst Bytes (sym e) (bytes-append b t (i .1) (accepts-bytes (k b) t x a))
+pub accepts-bytes : {X : Type 0} (f : Format X) (s : List ℕ) (x : X) → Accepts f s x → ByteString s
+accepts-bytes (done y) s x a = subst ByteString (sym (a .0)) tt
+accepts-bytes (number rs k) s x (n, t, i, e, a) = subst ByteString (sym e) (bytes-append (encode n) t (bytes-encode n n (omega arith)) (accepts-bytes (k n) t x a))
+accepts-bytes (bytes m k) s x (b, t, i, e, a) = subst ByteString (sym e) (bytes-append b t (i .1) (accepts-bytes (k b) t x a))
 
 -- ---- the place
 
-pub place-ends : (s : List ℕ) → Bytes s → Ends (Accepted imageFormat) s (placeIn s)
+pub place-ends : (s : List ℕ) → ByteString s → Ends (Accepted imageFormat) s (placeIn s)
 unfolding placeIn
 place-ends s b = go (parse imageFormat s) (parse-right imageFormat s image-live b)
   where
-    go : (q : Parsed Described) → ParseRight imageFormat s q → Ends (Accepted imageFormat) s (placeOf s q)
+    go : (q : Parsed Described) → ParseRight imageFormat s q → Ends (Accepted imageFormat) s (faultPlace s q)
     go (stopped p) r = r
     go (whole d) a = record {
       there = omega arith;
@@ -64,7 +64,7 @@ place-ends s b = go (parse imageFormat s) (parse-right imageFormat s image-live 
       stops = λ h. absurd (omega arith);
     }
 
-pub place-image : (s : List ℕ) → Bytes s → Ends IsImage s (placeIn s)
+pub place-image : (s : List ℕ) → ByteString s → Ends IsImage s (placeIn s)
 place-image s b =
     let e = place-ends s b in
     record { there = e .there; goes-on = (e .goes-on .0, format-is-images _ .1 (e .goes-on .1)); stops = λ h u i. e .stops h u (format-is-images _ .0 i) }
@@ -78,7 +78,7 @@ pub place-out : (s room : List ℕ) → salvage s room .place ≡ placeIn s
 unfolding salvage
 place-out s room = go (keptIn s)
   where
-    go : (q : Option Kept) → salvageOf (placeIn s) q room .place ≡ placeIn s
+    go : (q : Option KeptPart) → salvageOf (placeIn s) q room .place ≡ placeIn s
     go none = refl
     go (some k) = either (λ o. o .place ≡ placeIn s) (leb (length (spelled (k .header) (k .body))) (length room)) _ _ refl refl
 
@@ -88,7 +88,7 @@ place-as-in-six s room b = subst (Ends IsImage s) (sym (place-out s room)) (plac
 -- ---- every run that ends before it
 
 -- Of an image d: its header, how many runs it has, and its first runs, which are those that end before the place p.
-pub record KeepsRuns (p : ℕ) (d : Described) (k : Kept) : Type 0 where
+pub record KeepsRuns (p : ℕ) (d : Described) (k : KeptPart) : Type 0 where
   pub same-header : k .header ≡ d .header
   pub all-announced : k .announced ≡ length (d .body)
   pub first-runs : k .body ≡ take (length (k .body)) (d .body)
@@ -96,7 +96,7 @@ pub record KeepsRuns (p : ℕ) (d : Described) (k : Kept) : Type 0 where
   pub no-other : length (k .body) < length (d .body) → p < endOf d (suc (length (k .body)))
 
 -- nothing, if the header ends behind it
-abbrev pub KeepsOf : (p : ℕ) → Described → Option Kept → Type 0
+abbrev pub KeepsOf : (p : ℕ) → Described → Option KeptPart → Type 0
 KeepsOf p d none = p < endOf d 0
 KeepsOf p d (some k) = KeepsRuns p d k
 
@@ -110,7 +110,7 @@ runs-split (suc n) (run g b ∷ rs) =
 
 -- the runs behind a machine's numbers
 abbrev pub behindHead : Header → ℕ → Format Described
-behindHead h c = runsFormat (λ rs. record { header = h; body = rs }) c 0 (total (h .mlen))
+behindHead h c = runsFormat (λ rs. record { header = h; body = rs }) c 0 (allRegisterBytes (h .mlen))
 
 pub head-parses : (s : List ℕ) → parse imageFormat s ≡ onto (follows behindHead) s (front announcedFormat s)
 unfolding imageFormat
@@ -120,10 +120,10 @@ fourteen-not : _≡_ {A = ℕ} 14 0 → ⊥
 fourteen-not e = omega arith
 
 -- an input s, and an image w that is the same up to the place p of s
-module _ (s w : List ℕ) (hs : Bytes s) (hw : Bytes w) (p : ℕ) (ep : p ≡ placeIn s) (same : take p w ≡ take p s) where
+module _ (s w : List ℕ) (hs : ByteString s) (hw : ByteString w) (p : ℕ) (ep : p ≡ placeIn s) (same : take p w ≡ take p s) where
   -- the image's header h, of k bytes, and its runs
   module _ (a : Announced) (k : ℕ) (e : front announcedFormat w ≡ ahead a k) (r : List Run) (are : drop k w ≡ runsBytes r) (many : length r ≡ a .count) (is : w ≡ spelled (a .header) r)
-      (keeps : (t : List ℕ) → Bytes t → (q : ℕ) → q ≡ placeOf t (parse (behindHead (a .header) (a .count)) t) → take q (drop k w) ≡ take q t → KeptOf q (runsKept (a .count) 0 (total (a .header .mlen)) t) r) where
+      (keeps : (t : List ℕ) → ByteString t → (q : ℕ) → q ≡ faultPlace t (parse (behindHead (a .header) (a .count)) t) → take q (drop k w) ≡ take q t → KeptOf q (runsKept (a .count) 0 (allRegisterBytes (a .header .mlen)) t) r) where
     d : Described
     d = record { header = a .header; body = r }
 
@@ -146,20 +146,20 @@ module _ (s w : List ℕ) (hs : Bytes s) (hw : Bytes w) (p : ℕ) (ep : p ≡ pl
         go true j = absurd (stuck-never a k q (sym i ∙ here .again s (sym (take-before k p s w (leb-true k p j) same))))
     kept-of (ahead b l) i =
         let A = front-ahead announcedFormat s hs b l i in
-        let p′ : ℕ = placeOf (drop l s) (parse (follows behindHead b) (drop l s)) in
-        let place : p ≡ l + p′ = ep ∙ ap (placeOf s) (head-parses s ∙ ap (onto (follows behindHead) s) i) ∙ place-later s l (parse (follows behindHead b) (drop l s)) (A .there) in
+        let p′ : ℕ = faultPlace (drop l s) (parse (follows behindHead b) (drop l s)) in
+        let place : p ≡ l + p′ = ep ∙ ap (faultPlace s) (head-parses s ∙ ap (onto (follows behindHead) s) i) ∙ place-later s l (parse (follows behindHead b) (drop l s)) (A .there) in
         let z = ahead-one a b k l (sym e ∙ A .again w (take-before l p s w (omega arith) same)) in
         let same′ : take p′ (drop l w) ≡ take p′ (drop l s) = take-behind l p′ s w (A .there) (as-long l s w (A .there) (take-before l p s w (omega arith) same)) (subst (λ (x : ℕ). take x w ≡ take x s) place same) in
         let same″ : take p′ (drop k w) ≡ take p′ (drop l s) = subst (λ (x : ℕ). take p′ (drop x w) ≡ take p′ (drop l s)) (sym (z .1)) same′ in
-        let ko : KeptOf p′ (runsKept (a .count) 0 (total (a .header .mlen)) (drop l s)) r =
-        keeps (drop l s) (bytes-drop l s hs) p′ (ap (λ (x : Announced). placeOf (drop l s) (parse (follows behindHead x) (drop l s))) (sym (z .0))) same″ in
+        let ko : KeptOf p′ (runsKept (a .count) 0 (allRegisterBytes (a .header .mlen)) (drop l s)) r =
+        keeps (drop l s) (bytes-drop l s hs) p′ (ap (λ (x : Announced). faultPlace (drop l s) (parse (follows behindHead x) (drop l s))) (sym (z .0))) same″ in
         subst (λ (x : Announced). KeepsOf p d (keptFrom s (ahead x l))) (z .0)
         (record {
           same-header = refl;
           all-announced = sym many;
           first-runs = ko .first;
-          end-before = omega (arith, ko .before, end-is (length (runsKept (a .count) 0 (total (a .header .mlen)) (drop l s))), z .1);
-          no-other = λ less. omega (arith, ko .next less, end-is (suc (length (runsKept (a .count) 0 (total (a .header .mlen)) (drop l s)))), z .1);
+          end-before = omega (arith, ko .before, end-is (length (runsKept (a .count) 0 (allRegisterBytes (a .header .mlen)) (drop l s))), z .1);
+          no-other = λ less. omega (arith, ko .next less, end-is (suc (length (runsKept (a .count) 0 (allRegisterBytes (a .header .mlen)) (drop l s)))), z .1);
         })
 
   keeps-of : (x : Described) → Accepts imageFormat w x → KeepsOf p x (keptIn s)
@@ -172,20 +172,20 @@ module _ (s w : List ℕ) (hs : Bytes s) (hw : Bytes w) (p : ℕ) (ep : p ≡ pl
       go : (q : Front Announced) → front announcedFormat w ≡ q → onto (follows behindHead) w q ≡ whole x → KeepsOf p x (keptFrom s (front announcedFormat s))
       go (stuck q) e j = absurd (stopped-never x q j)
       go (ahead a k) e j =
-          let r = runs-of (λ rs. record { header = a .header; body = rs }) (a .count) 0 (total (a .header .mlen)) (drop k w) (bytes-drop k w hw) x
+          let r = runs-of (λ rs. record { header = a .header; body = rs }) (a .count) 0 (allRegisterBytes (a .header .mlen)) (drop k w) (bytes-drop k w hw) x
           (unlater k (parse (behindHead (a .header) (a .count)) (drop k w)) x j) in
           let is : w ≡ spelled (a .header) (r .body) = sp .are ∙ ap (λ (y : Described). spelled (y .header) (y .body)) (sym (r .is)) in
           subst (λ (y : Described). KeepsOf p y (keptFrom s (front announcedFormat s))) (r .is)
           (kept-of a k e (r .body) (r .bytes-are) (r .many) is (r .keeps) (front announcedFormat s) refl)
 
-pub keeps-every-run : (s : List ℕ) → Bytes s → (u : List ℕ) (d : Described) → Accepts imageFormat (take (placeIn s) s ++ u) d → KeepsOf (placeIn s) d (keptIn s)
+pub keeps-every-run : (s : List ℕ) → ByteString s → (u : List ℕ) (d : Described) → Accepts imageFormat (take (placeIn s) s ++ u) d → KeepsOf (placeIn s) d (keptIn s)
 keeps-every-run s b u d a =
     let p : ℕ = placeIn s in
     let there : p ≤ length s = place-ends s b .there in
     keeps-of s (take p s ++ u) b (accepts-bytes imageFormat (take p s ++ u) d a) p refl (take-at (take p s) u p (length-take-le p s there)) d a
 
 -- a salvage by what is kept
-module _ (s room : List ℕ) (k : Kept) (e : keptIn s ≡ some k) where
+module _ (s room : List ℕ) (k : KeptPart) (e : keptIn s ≡ some k) where
   abbrev fresh : List ℕ
   fresh = spelled (k .header) (k .body)
 
@@ -201,7 +201,7 @@ module _ (s room : List ℕ) (d : Described) where
   abbrev pub Exact : ℕ → Type 0
   Exact p = ((p < endOf d 0) × (salvage s room ≡ salvaged (Damaged p) 0 0 p 0 room)) ⊎ ((n : ℕ) × KeepsFirst s room p d n)
 
-  exact-some : (k : Kept) → keptIn s ≡ some k → KeepsRuns (placeIn s) d k → KeepsFirst s room (placeIn s) d (length (k .body))
+  exact-some : (k : KeptPart) → keptIn s ≡ some k → KeepsRuns (placeIn s) d k → KeepsFirst s room (placeIn s) d (length (k .body))
   exact-some k e h =
       let fresh-is : spelled (k .header) (k .body) ≡ freshOf d (length (k .body)) = ap₂ (λ (x : Header) (y : List Run). spelled x y) (h .same-header) (h .first-runs) in
       let short : length (k .body) ≡ length (take (length (k .body)) (d .body)) = ap length (h .first-runs) in
@@ -215,9 +215,9 @@ module _ (s room : List ℕ) (d : Described) where
         fourteen = λ less. out-short s room k e (subst (λ (z : List ℕ). length room < length z) (sym fresh-is) less);
       }
 
-  pub exact-of : (q : Option Kept) → keptIn s ≡ q → KeepsOf (placeIn s) d q → Exact (placeIn s)
+  pub exact-of : (q : Option KeptPart) → keptIn s ≡ q → KeepsOf (placeIn s) d q → Exact (placeIn s)
   unfolding salvage
-  exact-of none e h = inl (h, ap (λ (q : Option Kept). salvageOf (placeIn s) q room) e)
+  exact-of none e h = inl (h, ap (λ (q : Option KeptPart). salvageOf (placeIn s) q room) e)
   exact-of (some k) e h = inr (length (k .body), exact-some k e h)
 
 pub salvage-is-exact : SalvageIsExact
@@ -238,21 +238,21 @@ bytes-take [] (suc k) h = tt
 bytes-take (run g b ∷ rs) (suc k) h = (h .0, bytes-take rs k (h .1))
 
 -- what is kept of an image d
-module _ (p : ℕ) (d : Described) (k : Kept) (h : KeepsRuns p d k) (s : List ℕ) (a : Accepts imageFormat s d) where
+module _ (p : ℕ) (d : Described) (k : KeptPart) (h : KeepsRuns p d k) (s : List ℕ) (a : Accepts imageFormat s d) where
   sp : Spelling s d
   sp = image-out s d a
 
-  pub kept-fits : Fit 0 (total (k .header .mlen)) (k .body)
+  pub kept-fits : Fit 0 (allRegisterBytes (k .header .mlen)) (k .body)
   kept-fits =
-      subst (λ (x : Header). Fit 0 (total (x .mlen)) (k .body)) (sym (h .same-header))
-      (subst (Fit 0 (total (d .header .mlen))) (sym (h .first-runs)) (fit-take 0 (total (d .header .mlen)) (d .body) (length (k .body)) (sp .fits)))
+      subst (λ (x : Header). Fit 0 (allRegisterBytes (x .mlen)) (k .body)) (sym (h .same-header))
+      (subst (Fit 0 (allRegisterBytes (d .header .mlen))) (sym (h .first-runs)) (fit-take 0 (allRegisterBytes (d .header .mlen)) (d .body) (length (k .body)) (sp .fits)))
 
   pub kept-accepted : Accepts imageFormat (spelled (k .header) (k .body)) (record { header = k .header; body = k .body })
   kept-accepted =
       image-in (k .header) (k .body) (subst Held (sym (h .same-header)) (sp .sound)) kept-fits
       (subst AllBytes (sym (h .first-runs)) (bytes-take (d .body) (length (k .body)) (sp .all-bytes)))
 
-pub kept-image : (s : List ℕ) → Bytes s → (k : Kept) → keptIn s ≡ some k → IsImage (spelled (k .header) (k .body))
+pub kept-image : (s : List ℕ) → ByteString s → (k : KeptPart) → keptIn s ≡ some k → IsImage (spelled (k .header) (k .body))
 kept-image s b k e =
     let g = place-ends s b .goes-on in
     let h : KeepsRuns (placeIn s) (g .1 .0) k = subst (KeepsOf (placeIn s) (g .1 .0)) e (keeps-every-run s b (g .0) (g .1 .0) (g .1 .1)) in
@@ -260,7 +260,7 @@ kept-image s b k e =
 
 -- what was written, where it was done
 pub record Wrote (s room : List ℕ) : Type 0 where
-  pub kept : Kept
+  pub kept : KeptPart
   pub is-kept : keptIn s ≡ some kept
   pub is-written : take (salvage s room .size) (salvage s room .room) ≡ spelled (kept .header) (kept .body)
   pub stays : drop (salvage s room .size) (salvage s room .room) ≡ drop (salvage s room .size) room
@@ -269,7 +269,7 @@ pub wrote : (s room : List ℕ) → salvage s room .answer .number ≡ 0 → Wro
 unfolding salvage
 wrote s room h = go (keptIn s) refl h
   where
-    go : (q : Option Kept) → keptIn s ≡ q → salvageOf (placeIn s) q room .answer .number ≡ 0 → Wrote s room
+    go : (q : Option KeptPart) → keptIn s ≡ q → salvageOf (placeIn s) q room .answer .number ≡ 0 → Wrote s room
     go none e h = absurd (omega (arith, h))
     go (some k) e h = by (leb (length (spelled (k .header) (k .body))) (length room)) refl
       where
@@ -287,7 +287,7 @@ wrote s room h = go (keptIn s) refl h
             }
         by false j =
             let o : salvage s room .answer .number ≡ 14 = ap (λ (x : SalvageOutcome). x .answer .number) (out-short s room k e (leb-false (length fresh) (length room) j)) in
-            absurd (fourteen-not (sym o ∙ ap (λ (q : Option Kept). salvageOf (placeIn s) q room .answer .number) e ∙ h))
+            absurd (fourteen-not (sym o ∙ ap (λ (q : Option KeptPart). salvageOf (placeIn s) q room .answer .number) e ∙ h))
 
 pub fresh-is-image : FreshIsImage
 fresh-is-image s room b h =
@@ -309,7 +309,7 @@ module _ (s room : List ℕ) (i : IsImage s) (fits : length s ≤ length room) w
   -- its place is its length
   whole-place : placeIn s ≡ length s
   unfolding placeIn
-  whole-place = ap (placeOf s) (accepts-parse imageFormat s own own-accepted)
+  whole-place = ap (faultPlace s) (accepts-parse imageFormat s own own-accepted)
 
   own-exact : Exact s room own (placeIn s)
   own-exact =
@@ -344,6 +344,6 @@ salvage-refusal s room = go (keptIn s)
     Left : SalvageOutcome → Type 0
     Left o = ¬ (o .answer .number ≡ 0) → (o .kept ≡ 0) × (o .announced ≡ 0) × (o .size ≡ 0) × (o .room ≡ room)
 
-    go : (q : Option Kept) → Left (salvageOf (placeIn s) q room)
+    go : (q : Option KeptPart) → Left (salvageOf (placeIn s) q room)
     go none = λ h. (refl, refl, refl, refl)
     go (some k) = either Left (leb (length (spelled (k .header) (k .body))) (length room)) _ _ (λ h. absurd (h refl)) (λ h. (refl, refl, refl, refl))

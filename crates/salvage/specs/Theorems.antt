@@ -5,7 +5,7 @@ use mathlib.Core.List.{List, _++_}
 use mathlib.Core.Logic.{_⊎_}
 use Prim.Native.Nat.{ℕ, suc, _-_, _≤_, _<_}
 use lib.ListN.{length, take, drop, getD}
-use Rattle.format.specs.Numbers.{Bytes}
+use Rattle.format.specs.Numbers.{ByteString}
 use Rattle.format.specs.Formats.{Ends, Accepts}
 use Rattle.machine.specs.Geometry.{Bench}
 use Rattle.machine.specs.Faults.{soundBench}
@@ -22,7 +22,7 @@ use Rattle.salvage.specs.Salvage.{salvaged, salvage}
 
 -- "that place (the length if there is no fault)", "the fault as in Six": of every salvage, refused or not
 abbrev pub PlaceAsInSix : Type 0
-PlaceAsInSix = (s room : List ℕ) → Bytes s → Ends IsImage s (salvage s room .place)
+PlaceAsInSix = (s room : List ℕ) → ByteString s → Ends IsImage s (salvage s room .place)
 
 -- ---- what is kept
 
@@ -47,17 +47,17 @@ pub record KeepsFirst (s room : List ℕ) (p : ℕ) (d : Described) (n : ℕ) : 
 -- of every input, by every image d that goes on from its place: "a bad header gets 15", where the header ends behind the place, and else that
 -- is kept
 abbrev pub SalvageIsExact : Type 0
-SalvageIsExact = (s room : List ℕ) → Bytes s → let p = salvage s room .place in (u : List ℕ) (d : Described) → Accepts imageFormat (take p s ++ u) d
+SalvageIsExact = (s room : List ℕ) → ByteString s → let p = salvage s room .place in (u : List ℕ) (d : Described) → Accepts imageFormat (take p s ++ u) d
     → ((p < endOf d 0) × (salvage s room ≡ salvaged (Damaged p) 0 0 p 0 room)) ⊎ ((n : ℕ) × KeepsFirst s room p d n)
 
 -- "It writes a fresh image": what is written is an image, and the room past it stays
 abbrev pub FreshIsImage : Type 0
-FreshIsImage = (s room : List ℕ) → Bytes s → let o = salvage s room in o .answer .number ≡ 0
+FreshIsImage = (s room : List ℕ) → ByteString s → let o = salvage s room in o .answer .number ≡ 0
     → IsImage (take (o .size) (o .room)) × (drop (o .size) (o .room) ≡ drop (o .size) room)
 
 -- a room as long as the input is enough
 abbrev pub EnoughRoom : Type 0
-EnoughRoom = (s room : List ℕ) → Bytes s → length s ≤ length room → ¬ (salvage s room .answer .number ≡ 14)
+EnoughRoom = (s room : List ℕ) → ByteString s → length s ≤ length room → ¬ (salvage s room .answer .number ≡ 14)
 
 -- ---- a sound image, and one that is cut
 
@@ -76,12 +76,12 @@ pub record FewerMarks (B : Bench) (o : ReadOutcome) : Type 0 where
 -- "The kept bytes equal those of the machine whose image it was, if the damage is only a cut at the end": what is written of the first c bytes
 -- of a machine's image, read into any buffers of that machine's size
 abbrev pub CutKeepsBytes : Type 0
-CutKeepsBytes = (B : Bench) (c : ℕ) (room registers marks : List ℕ) → soundBench B ≡ true → Bytes (B .registers) → Fits (B .machine) registers marks
+CutKeepsBytes = (B : Bench) (c : ℕ) (room registers marks : List ℕ) → soundBench B ≡ true → ByteString (B .registers) → Fits (B .machine) registers marks
     → let o = salvage (take c (imageIn B)) room in o .answer .number ≡ 0 → FewerMarks B (readImage (take (o .size) (o .room)) registers marks)
 
 -- and the place is the length
 abbrev pub CutPlace : Type 0
-CutPlace = (B : Bench) (c : ℕ) (room : List ℕ) → soundBench B ≡ true → Bytes (B .registers)
+CutPlace = (B : Bench) (c : ℕ) (room : List ℕ) → soundBench B ≡ true → ByteString (B .registers)
     → salvage (take c (imageIn B)) room .place ≡ length (take c (imageIn B))
 
 -- ---- refusals

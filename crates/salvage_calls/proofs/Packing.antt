@@ -1,13 +1,6 @@
 -- Nothing of a result is cut.
-use mathlib.Core.Path.{_≡_, refl, sym, subst}
-use mathlib.Core.Bool.{Bool, true, false, cond}
-use mathlib.Core.List.{List, _++_}
-use mathlib.Core.Option.{Option, none, some}
-use Prim.Native.Nat.{ℕ, _≤_}
-use native.Mathlib.Omega.{arith}
-use lib.Dec.{eqb, leb}
-use lib.ListN.{length, drop}
-use Rattle.format.specs.Numbers.{Bytes}
+use Rattle.width.proofs.Kit.{_≡_, refl, sym, subst, Bool, true, false, cond, List, _++_, Option, none, some, ℕ, _≤_, arith, eqb, leb, length, drop}
+use Rattle.format.specs.Numbers.{ByteString}
 use Rattle.format.specs.Parser.{Parsed, parse}
 use Rattle.format.specs.Parser.Parsed.{whole, stopped}
 use Rattle.format.proofs.FormatLaws.{ParseRight, parse-right}
@@ -20,7 +13,7 @@ use Rattle.image.proofs.Images.{format-is-images}
 use Rattle.image_calls.specs.Theorems.{PacksWhole}
 use Rattle.image_calls.proofs.Bounds.{most, image-short, Stops, place-short}
 use Rattle.image_calls.proofs.Packing.{Small, packs}
-use Rattle.salvage.specs.Salvage.{placeOf, placeIn, Kept, keptIn, SalvageOutcome, salvaged, salvageOf, salvage}
+use Rattle.salvage.specs.Salvage.{faultPlace, placeIn, KeptPart, keptIn, SalvageOutcome, salvaged, salvageOf, salvage}
 use Rattle.salvage.proofs.Keeps.{kept-image}
 use Rattle.salvage_calls.specs.SalvageCalls.{reportBytes, packedSalvage, HostSalvaged, salvagedOut, shownSalvage, hostSalvage}
 use Rattle.salvage_calls.specs.Theorems.{SalvagePacksWhole}
@@ -28,12 +21,12 @@ use Rattle.salvage_calls.specs.Theorems.{SalvagePacksWhole}
 pub image-small : (s : List ℕ) → IsImage s → length s ≤ most
 image-small s i = subst (λ (z : List ℕ). length z ≤ most) (sym (i .is-its-image)) (image-short (i .machine) (i .seals) (i .registers) (i .marks) (i .not-at-fault))
 
-module _ (s : List ℕ) (b : Bytes s) where
+module _ (s : List ℕ) (b : ByteString s) where
   pub place-small : placeIn s ≤ most
   unfolding placeIn
   place-small = go (parse imageFormat s) (parse-right imageFormat s image-live b) (place-short s)
     where
-      go : (q : Parsed Described) → ParseRight imageFormat s q → Stops most q → placeOf s q ≤ most
+      go : (q : Parsed Described) → ParseRight imageFormat s q → Stops most q → faultPlace s q ≤ most
       go (whole d) a h = image-small s (format-is-images s .1 (d, a))
       go (stopped p) a h = h
 
@@ -44,7 +37,7 @@ module _ (s : List ℕ) (b : Bytes s) where
   unfolding salvage
   out-small room = go (keptIn s) refl
     where
-      go : (q : Option Kept) → keptIn s ≡ q → Small (reply (salvageOf (placeIn s) q room)) (salvageOf (placeIn s) q room .size)
+      go : (q : Option KeptPart) → keptIn s ≡ q → Small (reply (salvageOf (placeIn s) q room)) (salvageOf (placeIn s) q room .size)
       go none e = record { number-small = omega arith; size-small = omega arith; place-small = place-small }
       go (some k) e = by (leb (length (spelled (k .header) (k .body))) (length room))
         where

@@ -1,17 +1,9 @@
 -- The report of a call that is done, read back.
-use mathlib.Core.Path.{_≡_, refl, sym, ap, _∙_, subst}
-use mathlib.Core.Bool.{Bool, true, false, cond}
-use mathlib.Core.List.{List, [], _∷_, _++_}
-use mathlib.Core.Option.{Option, none, some}
-use Prim.Native.Nat.{ℕ, _*_, _%_, _^_, _≤_, _<_}
-use native.Mathlib.Nat.{mod-eq-of-lt}
-use native.Mathlib.Omega.{arith}
-use lib.Dec.{eqb, leb, ltb}
-use lib.ListN.{length, getD, take, drop, length-append, length-take}
-use borrow.Author.Tests.{eqb-true, ltb-true, ltb-false}
+use Rattle.width.proofs.Kit.{_≡_, refl, sym, ap, _∙_, subst, Bool, true, false, cond, List, [], _∷_, _++_, Option, none, some, ℕ, _*_, _%_, _^_, _≤_, _<_}
+use Rattle.width.proofs.Kit.{mod-eq-of-lt, arith, eqb, leb, ltb, length, getD, take, drop, length-append, length-take, eqb-true, ltb-true, ltb-false}
 use Rattle.width.specs.Tile.{getLe, putRow}
 use Rattle.width.proofs.WordLaws.{le-putRow}
-use Rattle.format.specs.Numbers.{Bytes, encode}
+use Rattle.format.specs.Numbers.{ByteString, encode}
 use Rattle.format.specs.Formats.{Accepts}
 use Rattle.format.proofs.NumberLaws.{encode-last, encode-more}
 use Rattle.image.specs.Cells.{Run}
@@ -24,7 +16,7 @@ use Rattle.image.proofs.ImageLaws.{image-out}
 use Rattle.image_calls.specs.ImageCalls.{packedReply}
 use Rattle.image_calls.proofs.Bounds.{most}
 use Rattle.blocks.specs.Blocks.{putNumbers}
-use Rattle.salvage.specs.Salvage.{placeIn, Kept, keptIn, SalvageOutcome, salvaged, salvageOf, salvage}
+use Rattle.salvage.specs.Salvage.{placeIn, KeptPart, keptIn, SalvageOutcome, salvaged, salvageOf, salvage}
 use Rattle.salvage.proofs.FreshLaws.{before, spelled-split}
 use Rattle.salvage.proofs.Keeps.{place-ends, KeepsRuns, KeepsOf, keeps-every-run}
 use Rattle.salvage_calls.specs.SalvageCalls.{reportBytes, packedSalvage, HostSalvaged, salvagedOut, shownSalvage, hostSalvage}
@@ -65,7 +57,7 @@ body-small s d a =
       length-append (encode (length (d .body))) (runsBytes (d .body)),
     )
 
-module _ (s : List ℕ) (b : Bytes s) (k : Kept) (e : keptIn s ≡ some k) where
+module _ (s : List ℕ) (b : ByteString s) (k : KeptPart) (e : keptIn s ≡ some k) where
   runs-small : (length (k .body) ≤ most) × (k .announced ≤ most)
   runs-small =
       let g = place-ends s b .goes-on in
@@ -90,18 +82,18 @@ report-is-read-back image room report b = go (eqb (length report) reportBytes) r
     Reads : List ℕ → SalvageOutcome → Type 0
     Reads r o = (reported r 0 ≡ o .kept) × (reported r 1 ≡ o .announced) × (reported r 2 ≡ o .place)
 
-    out : Bool → Option Kept → HostSalvaged
+    out : Bool → Option KeptPart → HostSalvaged
     out t q = cond t (shownSalvage report (salvageOf (placeIn image) q room)) (salvagedOut (packedSalvage 8 0 0) room report)
 
     -- three numbers that are written
-    three : length report ≡ reportBytes → (k : Kept) → keptIn image ≡ some k → (size : ℕ) (left : List ℕ)
+    three : length report ≡ reportBytes → (k : KeptPart) → keptIn image ≡ some k → (size : ℕ) (left : List ℕ)
         → Reads (putNumbers (length (k .body) ∷ k .announced ∷ placeIn image ∷ []) report) (salvaged Done (length (k .body)) (k .announced) (placeIn image) size left)
     three l k e size left =
         let n = runs-small image b k e in
         let ns : List ℕ = length (k .body) ∷ k .announced ∷ placeIn image ∷ [] in
         (put-number ns report l 0 (omega arith) (n .0), put-number ns report l 1 (omega arith) (n .1), put-number ns report l 2 (omega arith) (place-small image b))
 
-    go : (t : Bool) → eqb (length report) reportBytes ≡ t → (q : Option Kept) → keptIn image ≡ q → out t q .result % 2 ^ 16 ≡ 0
+    go : (t : Bool) → eqb (length report) reportBytes ≡ t → (q : Option KeptPart) → keptIn image ≡ q → out t q .result % 2 ^ 16 ≡ 0
         → Reads (out t q .report) (salvageOf (placeIn image) q room)
     go false e q f h = absurd (omega (arith, h))
     go true e none f h = absurd (omega (arith, h))

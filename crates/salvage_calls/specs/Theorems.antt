@@ -1,12 +1,7 @@
 -- What is proved of these definitions. The proofs stand in proofs/.
-use mathlib.Core.Path.{_≡_}
-use mathlib.Core.Bool.{cond}
-use mathlib.Core.List.{List}
-use Prim.Native.Nat.{ℕ, _*_, _%_, _^_}
-use lib.Dec.{eqb}
-use lib.ListN.{length}
+use Rattle.width.specs.Kit.{_≡_, cond, List, ℕ, _*_, _%_, _^_, eqb, length}
 use Rattle.width.specs.Tile.{getLe}
-use Rattle.format.specs.Numbers.{Bytes}
+use Rattle.format.specs.Numbers.{ByteString}
 use Rattle.image.specs.declared.Imaged.the-variants.{BadArguments}
 use Rattle.image_calls.specs.Theorems.{PacksWhole}
 use Rattle.salvage.specs.Salvage.{SalvageOutcome, salvaged, salvage}
@@ -20,7 +15,7 @@ SalvageRefusalChangesNoByte = (image room report : List ℕ) → let o = hostSal
 -- Bits 15..0 of a result are the answer's number, bits 63..16 the length of the fresh image where the call is done, and else the place. Neither
 -- is cut: for every image, room and report.
 abbrev pub SalvagePacksWhole : Type 0
-SalvagePacksWhole = (image room report : List ℕ) → Bytes image
+SalvagePacksWhole = (image room report : List ℕ) → ByteString image
     → let o : SalvageOutcome = cond (eqb (length report) reportBytes) (salvage image room) (salvaged BadArguments 0 0 0 0 room) in
     PacksWhole (hostSalvage image room report .result) (record { number = o .answer .number; place = o .place }) (o .size)
 
@@ -30,6 +25,6 @@ abbrev pub reported : (report : List ℕ) → (number : ℕ) → ℕ
 reported report number = getLe report (number * 8) 8
 
 abbrev pub ReportIsReadBack : Type 0
-ReportIsReadBack = (image room report : List ℕ) → Bytes image → let w = hostSalvage image room report in w .result % 2 ^ 16 ≡ 0
+ReportIsReadBack = (image room report : List ℕ) → ByteString image → let w = hostSalvage image room report in w .result % 2 ^ 16 ≡ 0
     → let o : SalvageOutcome = salvage image room in
     (reported (w .report) 0 ≡ o .kept) × (reported (w .report) 1 ≡ o .announced) × (reported (w .report) 2 ≡ o .place)

@@ -1,13 +1,8 @@
 -- The loops over sums that stand side by side, a lane each, and over values of B that were fetched before: once over the values' type, the
 -- bytes of an element and the number of lanes. What holds in each turn, at its start, after one turn more, and at its end.
-use mathlib.Core.Path.{_≡_, refl, sym, ap, ap₂, _∙_}
-use mathlib.Core.List.{List}
-use Prim.Native.Nat.{ℕ, _+_, _*_, _≤_, _<_}
-use native.Mathlib.Nat.{zero-mul}
-use native.Mathlib.Omega.{arith}
+use Rattle.width.proofs.Kit.{_≡_, refl, sym, ap, ap₂, _∙_, List, ℕ, _+_, _*_, _≤_, _<_, zero-mul, arith, length, set, getD, length-set, getD-set-same}
+use Rattle.width.proofs.Kit.{getD-set-other}
 use borrow.Author.Count.{below-more}
-use lib.ListN.{length, set, getD, length-set}
-use lib.Seq.{getD-set-same, getD-set-other}
 use Rattle.width.proofs.PutLaws.{row-fits, next-row}
 use Rattle.sums.proofs.LoopLaws.{set-below, set-above}
 

@@ -1,11 +1,6 @@
 -- Rows of a product written one after another hold the values that every element had at entry, by whatever rule an element of C is
 -- made from its old value and the elements of A and B.
-use mathlib.Core.Path.{_≡_, refl, sym, ap, ap₂, _∙_}
-use mathlib.Core.List.{List}
-use Prim.Native.Nat.{ℕ, _+_, _-_, _*_, _^_, _≤_, _<_}
-use native.Mathlib.Nat.{zero-mul, one-mul, mul-le-mul-right}
-use native.Mathlib.Omega.{arith}
-use lib.IntN.{ℤ, _+ℤ_, _*ℤ_}
+use Rattle.width.proofs.Kit.{_≡_, refl, sym, ap, ap₂, _∙_, List, ℕ, _+_, _-_, _*_, _^_, _≤_, _<_, zero-mul, one-mul, mul-le-mul-right, arith, ℤ, _+ℤ_, _*ℤ_}
 use Rattle.width.specs.Reduce.{signed, reduce}
 use Rattle.width.proofs.ReduceLaws.{sumℤ-cong}
 use Rattle.width.specs.Tile.{getLe, putRow, putTile}

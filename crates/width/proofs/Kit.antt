@@ -1,5 +1,5 @@
 -- The kit's names for proofs: those of specs/Kit.antt, its laws, and what `omega` and `search` go by.
-unfoldable pub use mathlib.Core.Path.{_∙_, _≡_, ap, ap₂, refl, subst, subst⁻¹, sym}
+unfoldable pub use mathlib.Core.Path.{_∙_, _≡_, ap, ap₂, fun-ext, refl, subst, subst⁻¹, sym}
 pub use mathlib.Core.Logic.{_⊎_, inl, inr}
 unfoldable pub use mathlib.Core.Logic.{_↔_, _≢_, ⊎-elim}
 pub use mathlib.Core.Bool.{Bool, false, true}

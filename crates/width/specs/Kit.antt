@@ -1,5 +1,5 @@
 -- The kit's names, for all crates above: equality, numbers, lists and tests.
-unfoldable pub use mathlib.Core.Path.{_∙_, _≡_, ap, ap₂, refl, subst, subst⁻¹, sym}
+unfoldable pub use mathlib.Core.Path.{_∙_, _≡_, ap, ap₂, fun-ext, refl, subst, subst⁻¹, sym}
 pub use mathlib.Core.Logic.{_⊎_, inl, inr}
 unfoldable pub use mathlib.Core.Logic.{_↔_, _≢_, ⊎-elim}
 pub use mathlib.Core.Bool.{Bool, false, true}

@@ -1,11 +1,8 @@
-use native.Mathlib.Omega.{arith}
-use mathlib.Core.Path.{ap, _∙_}
-use Prim.Native.Nat.{_-_}
+use Rattle.width.proofs.Kit.{ap, _∙_, _-_, arith, needs}
 use Rattle.width.specs.Binary32.{valueOf}
 use Rattle.sums.proofs.LaneLaws.{Fetched, fetch-none, fetch-next}
 use Rattle.floats.specs.Rows.{floatAt}
 use lib.Ieee.{nan}
-use borrow.Author.Needs.{needs}
 use Rattle.floats.proofs.fetch_row.Statement.{statement}
 use Rattle.floats.proofs.fetch_row.Tie as tie
 

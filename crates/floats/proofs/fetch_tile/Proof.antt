@@ -1,12 +1,9 @@
-use native.Mathlib.Omega.{arith}
-use Prim.Native.Nat.{_+_, _-_, _≤_}
-use lib.ListN.{length}
+use Rattle.width.proofs.Kit.{_+_, _-_, _≤_, arith, length, needs}
 use Rattle.width.specs.Bounds.{mostFloats}
 use Rattle.width.proofs.PutLaws.{row-fits}
 use Rattle.sums.proofs.LaneLaws.{TileFetched, tile-none, tile-next}
 use Rattle.floats.specs.Rows.{floatAt}
 use lib.Ieee.{nan}
-use borrow.Author.Needs.{needs}
 use Rattle.floats.proofs.fetch_tile.Statement.{statement}
 use Rattle.floats.proofs.fetch_tile.Tie as tie
 

@@ -1,10 +1,8 @@
-use native.Mathlib.Omega.{arith}
-use Prim.Native.Nat.{_-_}
+use Rattle.width.proofs.Kit.{_-_, arith, needs}
 use Rattle.width.specs.Bounds.{mostFloats}
 use Rattle.width.specs.Binary32.{multiplyAdd}
 use Rattle.sums.proofs.LaneLaws.{Added, add-none, add-next}
 use lib.Ieee.{nan}
-use borrow.Author.Needs.{needs}
 use Rattle.floats.proofs.mac_row.Statement.{statement}
 use Rattle.floats.proofs.mac_row.Tie as tie
 

@@ -1,10 +1,8 @@
-use native.Mathlib.Omega.{arith}
-use Prim.Native.Nat.{_-_}
+use Rattle.width.proofs.Kit.{_-_, arith, needs}
 use lib.Ieee.{nan}
 use Rattle.width.specs.Binary32.{multiplyAdd}
 use Rattle.width.specs.Bounds.{mostFloats}
 use Rattle.sums.proofs.LaneLaws.{Added, add-none, add-next}
-use borrow.Author.Needs.{needs}
 use Rattle.floats.proofs.mac_two.Statement.{statement}
 use Rattle.floats.proofs.mac_two.Tie as tie
 

@@ -1,13 +1,9 @@
 -- By whether two rows are left of whole blocks.
-use native.Mathlib.Omega.{arith}
-use mathlib.Core.Path.{sym, ap, _∙_}
-use Prim.Native.Nat.{ℕ, _+_, _*_}
-use native.Mathlib.Nat.{mul-le-mul-right}
+use Rattle.width.proofs.Kit.{sym, ap, _∙_, ℕ, _+_, _*_, mul-le-mul-right, arith, needs}
 use Rattle.width.specs.Binary32.{floatProduct}
 use Rattle.width.specs.Tile.{putTile}
 use Rattle.sums.proofs.TurnLaws.{rule-one}
 use Rattle.floats.specs.Rows.{floatRow}
-use borrow.Author.Needs.{needs}
 use Rattle.floats.proofs.multiply_next.Statement.{statement}
 use Rattle.floats.proofs.multiply_next.Tie as tie
 

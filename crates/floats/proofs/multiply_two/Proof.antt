@@ -1,10 +1,8 @@
-use native.Mathlib.Omega.{arith}
-use Prim.Native.Nat.{_+_, _*_}
+use Rattle.width.proofs.Kit.{_+_, _*_, arith, needs}
 use Rattle.width.specs.Bounds.{mostFloats}
 use Rattle.width.specs.Binary32.{floatProduct}
 use Rattle.sums.proofs.TurnLaws.{rule-two}
 use Rattle.floats.proofs.RowLaws.{row-of-floats}
-use borrow.Author.Needs.{needs}
 use Rattle.floats.proofs.multiply_two.Statement.{statement}
 use Rattle.floats.proofs.multiply_two.Tie as tie
 
