@@ -6,7 +6,7 @@ mod runs; // the product run
 mod texts; // lines of assembler text
 
 ghost use mathlib.Core.Path.{_≡_};
-ghost use Rattle.bench_calls.specs.BenchCalls.{startedOut, hostStart, steppedOut, hostStep, sealedOut, hostSeal};
+ghost use Rattle.c_step.specs.BenchCalls.{startedOut, hostStart, steppedOut, hostStep, sealedOut, hostSeal};
 ghost use Rattle.bodlarina.specs.Host.{hostVersion};
 
 // The version of this interface.
@@ -32,7 +32,7 @@ pub extern "C" fn bodlarina_start(
     ensures { λ r. ⌜ startedOut r (now (machine .exit)) (now (registers .entry)) (now (marks .exit))
         ≡ hostStart rlen mlen elen rule (now (seals .entry)) (now (machine .entry)) (now (registers .entry)) (now (marks .entry)) ⌝ }
 {
-    bench_calls::start(rlen, mlen, elen, rule, seals, machine, registers, marks)
+    c_step::start(rlen, mlen, elen, rule, seals, machine, registers, marks)
 }
 
 // Steps one instruction word, beside a vector file with a group size.
@@ -50,7 +50,7 @@ pub extern "C" fn bodlarina_step(
     ensures { λ r. ⌜ steppedOut r (now (machine .exit)) (now (registers .exit)) (now (marks .exit)) (now (scalars .exit)) (now (memory .exit)) (now (vectors .exit))
         ≡ hostStep word group (now (machine .entry)) (now (registers .entry)) (now (marks .entry)) (now (scalars .entry)) (now (memory .entry)) (now (vectors .entry)) ⌝ }
 {
-    bench_calls::step(
+    c_step::step(
         word,
         group,
         machine,
@@ -74,5 +74,5 @@ pub extern "C" fn bodlarina_seal(
     ensures { λ r. ⌜ sealedOut r (now (machine .exit)) (now (registers .entry)) (now (marks .entry))
         ≡ hostSeal start length (now (machine .entry)) (now (registers .entry)) (now (marks .entry)) ⌝ }
 {
-    bench_calls::seal(start, length, machine, registers, marks)
+    c_step::seal(start, length, machine, registers, marks)
 }

@@ -2,8 +2,8 @@
 use run::Layout;
 use run::Plan;
 ghost use mathlib.Core.Path.{_≡_};
-ghost use Rattle.run_calls.specs.RunCalls.{runStartedOut, hostRunStart, nextOut, hostNext, hostRunSteps};
-ghost use Rattle.turn_calls.specs.TurnCalls.{turnedOut, hostTurn, hostTurns, ranOut, hostRun};
+ghost use Rattle.c_run.specs.RunCalls.{runStartedOut, hostRunStart, nextOut, hostNext, hostRunSteps};
+ghost use Rattle.c_turn.specs.TurnCalls.{turnedOut, hostTurn, hostTurns, ranOut, hostRun};
 ghost use Rattle.bodlarina.specs.Host.{planIn};
 
 // The plan in a call's numbers.
@@ -84,7 +84,7 @@ pub extern "C" fn bodlarina_run_start(
         c,
         c_stride,
     );
-    run_calls::start(plan, machine, registers, marks, memory, run)
+    c_run::start(plan, machine, registers, marks, memory, run)
 }
 
 // Asks a run for its next step.
@@ -92,7 +92,7 @@ pub extern "C" fn bodlarina_run_start(
 pub extern "C" fn bodlarina_run_next(run: &mut [u8], step: &mut [u8]) -> u64
     ensures { λ r. ⌜ nextOut r (now (run .exit)) (now (step .exit)) ≡ hostNext (now (run .entry)) (now (step .entry)) ⌝ }
 {
-    run_calls::next(run, step)
+    c_run::next(run, step)
 }
 
 // How many steps a run has in all.
@@ -100,7 +100,7 @@ pub extern "C" fn bodlarina_run_next(run: &mut [u8], step: &mut [u8]) -> u64
 pub extern "C" fn bodlarina_run_steps(run: &[u8]) -> u64
     ensures { λ r. ⌜ r ≡ hostRunSteps (now (run .entry)) ⌝ }
 {
-    run_calls::steps(run)
+    c_run::steps(run)
 }
 
 // Takes one turn of a run.
@@ -115,7 +115,7 @@ pub extern "C" fn bodlarina_run_turn(
     ensures { λ r. ⌜ turnedOut r (now (run .exit)) (now (machine .exit)) (now (registers .exit)) (now (marks .exit)) (now (memory .exit))
         ≡ hostTurn (now (run .entry)) (now (machine .entry)) (now (registers .entry)) (now (marks .entry)) (now (memory .entry)) ⌝ }
 {
-    turn_calls::turn(run, machine, registers, marks, memory)
+    c_turn::turn(run, machine, registers, marks, memory)
 }
 
 // Takes up to so many turns of a run, and counts them.
@@ -131,7 +131,7 @@ pub extern "C" fn bodlarina_run_turns(
     ensures { λ r. ⌜ turnedOut r (now (run .exit)) (now (machine .exit)) (now (registers .exit)) (now (marks .exit)) (now (memory .exit))
         ≡ hostTurns turns (now (run .entry)) (now (machine .entry)) (now (registers .entry)) (now (marks .entry)) (now (memory .entry)) ⌝ }
 {
-    turn_calls::turns(turns, run, machine, registers, marks, memory)
+    c_turn::turns(turns, run, machine, registers, marks, memory)
 }
 
 // Runs C = A B on a machine, of kind 1 with A kept transposed, of kind 2 of floats, from its start to its last step.
@@ -173,5 +173,5 @@ pub extern "C" fn bodlarina_run(
         c,
         c_stride,
     );
-    turn_calls::whole(plan, machine, registers, marks, memory, steps)
+    c_turn::whole(plan, machine, registers, marks, memory, steps)
 }

@@ -1,10 +1,10 @@
 -- Whatever a host does is answered with a number of the table, and a refusal changes nothing.
-use Rattle.width.proofs.Kit.{_≡_, refl, sym, ap, ap₂, _∙_, subst, _⊎_, inl, inr, Bool, true, false, cond, List, [], _∷_, _++_, Option, none, some, ℕ, zero}
-use Rattle.width.proofs.Kit.{suc, _+_, _≤_, _<_, eq-or-lt-of-le, eq-zero-or-pos, le-of-suc-le-suc, arith, leb, eqb, length, drop, replicate, eqb-true}
-use Rattle.width.proofs.Kit.{eqb-false, leb-true}
-use Rattle.width.specs.Blocks.{Choice}
-use Rattle.format.specs.Parser.{Parsed, parse}
-use Rattle.format.specs.Parser.Parsed.{whole, stopped}
+use Rattle.numbers.proofs.Kit.{_≡_, refl, sym, ap, ap₂, _∙_, subst, _⊎_, inl, inr, Bool, true, false, cond, List, [], _∷_, _++_, Option, none, some, ℕ, zero}
+use Rattle.numbers.proofs.Kit.{suc, _+_, _≤_, _<_, eq-or-lt-of-le, eq-zero-or-pos, le-of-suc-le-suc, arith, leb, eqb, length, drop, replicate, eqb-true}
+use Rattle.numbers.proofs.Kit.{eqb-false, leb-true}
+use Rattle.numbers.specs.Blocks.{Choice}
+use Rattle.numbers_format.specs.Parser.{Parsed, parse}
+use Rattle.numbers_format.specs.Parser.Parsed.{whole, stopped}
 use Rattle.machine.specs.declared.Answer.{Answer}
 use Rattle.machine.specs.declared.Answer.the-variants.{Done, IllegalWord, IllegalType, BadWidth, TileTooLarge, Unwritten, OutsideMemory, SealedByte, BadArguments, Overlap, WrongOpcode, LeftOutWord, WrongRegister, RowsOverlap, TooManySeals}
 use Rattle.machine.specs.declared.Machine.{Machine}
@@ -43,9 +43,9 @@ use Rattle.image.specs.Writing.{sizeImage, sizeReply, writeImage, writeReply}
 use Rattle.image.specs.Cells.{over, marksOf}
 use Rattle.image.specs.Reading.{readImage, readAs, restored, cellsIn, fitted}
 use Rattle.image.proofs.Images.{read-refusal, write-refusal}
-use Rattle.salvage.specs.Salvage.{KeptPart, placeIn, keptIn, salvaged, salvageOf, salvage}
-use Rattle.salvage.proofs.Keeps.{salvage-refusal}
-use Rattle.refusals.proofs.Exact.{step-answers-exactly}
+use Rattle.image_salvage.specs.Salvage.{KeptPart, placeIn, keptIn, salvaged, salvageOf, salvage}
+use Rattle.image_salvage.proofs.Keeps.{salvage-refusal}
+use Rattle.theorem_refusals.proofs.Exact.{step-answers-exactly}
 use Rattle.demands.specs.Deeds.{Deed, Deeded, deeded, roomOf, remade, deed}
 use Rattle.demands.specs.Demand1.{lastAnswer, Answers, Counted, EveryDeedAnswers}
 

@@ -1,17 +1,17 @@
 -- What a call of bodlarina_run delivers.
-use Rattle.width.proofs.Kit.{_≡_, refl, sym, ap, _∙_, subst, Bool, true, false, List, ℕ, _<_, le-refl, eqb, length, eqb-true, eqb-false}
+use Rattle.numbers.proofs.Kit.{_≡_, refl, sym, ap, _∙_, subst, Bool, true, false, List, ℕ, _<_, le-refl, eqb, length, eqb-true, eqb-false}
 use Rattle.machine.specs.Operation.{element}
 use Rattle.run.specs.declared.Plan.{Plan}
 use Rattle.run.specs.Words.{steps}
 use Rattle.run.specs.Plan.{OutsideKept, shape, wide, cAt, productOf}
 use Rattle.run.specs.Statement.{MemoryBytes}
-use Rattle.blocks.specs.Blocks.{Bytes, machineBytes}
-use Rattle.run_blocks.specs.RunBlocks.{runBytes}
-use Rattle.turn_calls.specs.TurnCalls.{countBytes, HostRan}
-use Rattle.turn_calls.proofs.Refusal.{run-refusal}
-use Rattle.calls.specs.Calls.{Buffers, Call, Called, afterRun, called}
-use Rattle.calls.specs.Composed.{PlanWords, jobIn, afterTurnCalls, counting}
-use Rattle.calls.proofs.Runs.{start-calls-are-right, turn-calls-are-right, run-is-turn-calls}
+use Rattle.c_blocks.specs.Blocks.{Bytes, machineBytes}
+use Rattle.c_run_blocks.specs.RunBlocks.{runBytes}
+use Rattle.c_turn.specs.TurnCalls.{countBytes, HostRan}
+use Rattle.c_turn.proofs.Refusal.{run-refusal}
+use Rattle.theorem_calls.specs.Calls.{Buffers, Call, Called, afterRun, called}
+use Rattle.theorem_calls.specs.Composed.{PlanWords, jobIn, afterTurnCalls, counting}
+use Rattle.theorem_calls.proofs.Runs.{start-calls-are-right, turn-calls-are-right, run-is-turn-calls}
 use Rattle.demands.specs.Demand3.{RunCallDelivers, RunCallsDeliver}
 
 module _ (P : Plan) (b : Buffers) (p : PlanWords P) (small : Bytes (b .machine)) (mem : MemoryBytes (b .memory))

@@ -1,8 +1,8 @@
 -- Whatever a host calls is answered with a number of the table, and a refusal changes no byte.
-use Rattle.width.proofs.Kit.{_≡_, refl, sym, ap, ap₂, _∙_, subst, Bool, true, false, cond, List, [], _∷_, _++_, Option, none, some, ℕ, suc, _+_, _*_, _%_}
-use Rattle.width.proofs.Kit.{_^_, _≤_, _<_, arith, leb, eqb, length, drop, eqb-true, eqb-false}
-use Rattle.format.specs.Parser.{Parsed}
-use Rattle.format.specs.Parser.Parsed.{whole, stopped}
+use Rattle.numbers.proofs.Kit.{_≡_, refl, sym, ap, ap₂, _∙_, subst, Bool, true, false, cond, List, [], _∷_, _++_, Option, none, some, ℕ, suc, _+_, _*_, _%_}
+use Rattle.numbers.proofs.Kit.{_^_, _≤_, _<_, arith, leb, eqb, length, drop, eqb-true, eqb-false}
+use Rattle.numbers_format.specs.Parser.{Parsed}
+use Rattle.numbers_format.specs.Parser.Parsed.{whole, stopped}
 use Rattle.machine.specs.declared.Answer.the-variants.{BadArguments}
 use Rattle.machine.specs.declared.Reply.{Reply}
 use Rattle.machine.specs.declared.Wrong.the-variants.{Opcode, LeftOut, Unlisted, Register}
@@ -15,48 +15,48 @@ use Rattle.machine.specs.Sealing.{addSeal}
 use Rattle.machine.specs.Listing.{decode}
 use Rattle.machine.specs.Vectors.{vectorsOf}
 use Rattle.machine.proofs.TestLaws.{every-each}
-use Rattle.ranges.specs.Ranges.{sealsIn}
-use Rattle.sealing.specs.SealBlock.{sealBlock}
+use Rattle.unit_ranges.specs.Ranges.{sealsIn}
+use Rattle.unit_sealing.specs.SealBlock.{sealBlock}
 use Rattle.run.specs.declared.Plan.{Plan}
 use Rattle.run.specs.Start.{startRun}
 use Rattle.run.specs.Turn.{ask, asked, Running, turn, turnOutcome, afterTurns, turns}
 use Rattle.run.specs.Whole as run
 use Rattle.run.proofs.Demand1.{turn-refusal-changes-nothing}
-use Rattle.blocks.specs.Blocks.{machineBytes, machineOf, scalarBytes, valuesOf, packed}
-use Rattle.run_blocks.specs.RunBlocks.{runBytes, runFit, runOf, stepBytes}
+use Rattle.c_blocks.specs.Blocks.{machineBytes, machineOf, scalarBytes, valuesOf, packed}
+use Rattle.c_run_blocks.specs.RunBlocks.{runBytes, runFit, runOf, stepBytes}
 use Rattle.image.specs.declared.Imaged.{Imaged}
 use Rattle.image.specs.declared.Imaged.the-variants as Imaged
 use Rattle.image.specs.Answers.{ImageReply, imageReply}
 use Rattle.image.specs.Writing.{SizeOutcome, sizeImage, WriteOutcome, writeImage}
 use Rattle.image.specs.Reading.{readImage, checkImage}
 use Rattle.image_read.specs.Blocks.{blockRefused, intoBlock, restoredAs, readBlock}
-use Rattle.salvage.specs.Salvage.{SalvageOutcome, salvage}
-use Rattle.assembly.specs.declared.Texted.{Texted}
-use Rattle.assembly.specs.declared.Texted.the-variants as Texted
-use Rattle.assembly.specs.Answers.{TextReply, textReply, codeAnswer}
-use Rattle.assembly.specs.Lines.{line}
-use Rattle.assembly.specs.Reading.{readLine}
-use Rattle.scalar_block.specs.ScalarBlock.{stepBlock}
-use Rattle.bench_calls.specs.BenchCalls.{HostStarted, startedOut, shownStart, hostStart, HostStepped, steppedOut, shownStep, hostStep, HostSealed, sealedOut, shownSeal, hostSeal}
-use Rattle.run_calls.specs.RunCalls.{HostRunStarted, runStartedOut, shownRunStart, hostRunStart, HostNext, nextOut, shownNext, hostNext}
-use Rattle.turn_calls.specs.TurnCalls.{turnBlocks, HostTurned, turnedOut, shownTurn, hostTurn, shownTurns, hostTurns, countBytes, HostRan, ranOut, shownRun, hostRun}
-use Rattle.image_calls.specs.ImageCalls.{packedReply, hostImageSize, HostWritten, writtenOut, hostImageWrite, HostRead, shownRead, hostImageRead}
-use Rattle.salvage_calls.specs.SalvageCalls.{reportBytes, packedSalvage, HostSalvaged, salvagedOut, shownSalvage, hostSalvage}
-use Rattle.text_calls.specs.TextCalls.{packedText, linedAs, lined, HostText, hostWordText, wordBytes, HostWord, wordAs, wordOut, hostTextWord}
-use Rattle.bench_calls.proofs.Refusal as steps
-use Rattle.bench_calls.proofs.Packing.{packs-whole}
-use Rattle.run_calls.proofs.Refusal as runs
-use Rattle.turn_calls.proofs.Refusal as taking
-use Rattle.image_calls.proofs.Refusal as images
-use Rattle.salvage_calls.proofs.Refusal.{salvage-call-refusal}
-use Rattle.text_calls.proofs.Refusal as texts
-use Rattle.calls.specs.Calls.{Buffers, buffers, Call, Called, afterStart, afterStep, afterSeal, afterRunStart, afterNext, afterTurn, afterRun, afterRead, called}
-use Rattle.calls.specs.Composed.{afterCalls, turnCalls, with}
-use Rattle.calls.proofs.Numbers.{machine-words, run-words, Wordy, turns-wordy}
-use Rattle.blocks.proofs.BlockLaws.{putMachine-same}
-use Rattle.run_blocks.proofs.RunBlockLaws.{putRun-same}
-use Rattle.calls.proofs.Turns.{runningIn, left, on, holds}
-use Rattle.sealing.proofs.AddedRange.{turns-seals}
+use Rattle.image_salvage.specs.Salvage.{SalvageOutcome, salvage}
+use Rattle.text_assembly.specs.declared.Texted.{Texted}
+use Rattle.text_assembly.specs.declared.Texted.the-variants as Texted
+use Rattle.text_assembly.specs.Answers.{TextReply, textReply, codeAnswer}
+use Rattle.text_assembly.specs.Lines.{line}
+use Rattle.text_assembly.specs.Reading.{readLine}
+use Rattle.c_scalars.specs.ScalarBlock.{stepBlock}
+use Rattle.c_step.specs.BenchCalls.{HostStarted, startedOut, shownStart, hostStart, HostStepped, steppedOut, shownStep, hostStep, HostSealed, sealedOut, shownSeal, hostSeal}
+use Rattle.c_run.specs.RunCalls.{HostRunStarted, runStartedOut, shownRunStart, hostRunStart, HostNext, nextOut, shownNext, hostNext}
+use Rattle.c_turn.specs.TurnCalls.{turnBlocks, HostTurned, turnedOut, shownTurn, hostTurn, shownTurns, hostTurns, countBytes, HostRan, ranOut, shownRun, hostRun}
+use Rattle.c_image.specs.ImageCalls.{packedReply, hostImageSize, HostWritten, writtenOut, hostImageWrite, HostRead, shownRead, hostImageRead}
+use Rattle.c_salvage.specs.SalvageCalls.{reportBytes, packedSalvage, HostSalvaged, salvagedOut, shownSalvage, hostSalvage}
+use Rattle.c_text.specs.TextCalls.{packedText, linedAs, lined, HostText, hostWordText, wordBytes, HostWord, wordAs, wordOut, hostTextWord}
+use Rattle.c_step.proofs.Refusal as steps
+use Rattle.c_step.proofs.Packing.{packs-whole}
+use Rattle.c_run.proofs.Refusal as runs
+use Rattle.c_turn.proofs.Refusal as taking
+use Rattle.c_image.proofs.Refusal as images
+use Rattle.c_salvage.proofs.Refusal.{salvage-call-refusal}
+use Rattle.c_text.proofs.Refusal as texts
+use Rattle.theorem_calls.specs.Calls.{Buffers, buffers, Call, Called, afterStart, afterStep, afterSeal, afterRunStart, afterNext, afterTurn, afterRun, afterRead, called}
+use Rattle.theorem_calls.specs.Composed.{afterCalls, turnCalls, with}
+use Rattle.theorem_calls.proofs.Numbers.{machine-words, run-words, Wordy, turns-wordy}
+use Rattle.c_blocks.proofs.BlockLaws.{putMachine-same}
+use Rattle.c_run_blocks.proofs.RunBlockLaws.{putRun-same}
+use Rattle.theorem_calls.proofs.Turns.{runningIn, left, on, holds}
+use Rattle.unit_sealing.proofs.AddedRange.{turns-seals}
 use Rattle.demands.specs.Deeds.{HostCall, hostCalled}
 use Rattle.demands.specs.Demand1.{lastAnswer, CallAnswers, InBytes, CallCounted, EveryCallAnswers}
 use Rattle.demands.proofs.Answered.{step-low, start-low, run-start-low, ask-low, turn-low, seal-low, size-low, write-low, read-low, salvage-low, image-low, every-count}

@@ -1,8 +1,8 @@
 -- Steps, starts, additions and images in C are those of the definitions.
-use Rattle.width.proofs.Kit.{_≡_, refl, sym, ap, ap₂, _∙_, subst, _↔_, Bool, true, false, cond, _&&_, List, [], _∷_, _++_, append-nil, ℕ, _*_, _%_, _^_}
-use Rattle.width.proofs.Kit.{_<_, mod-eq-of-lt, arith, leb, eqb, length, getD, drop, replicate, eqb-true, eqb-false, eq-eqb, ne-eqb}
-use Rattle.width.proofs.WordLaws.{le-putRow}
-use Rattle.width.specs.Tile.{getLe, putRow}
+use Rattle.numbers.proofs.Kit.{_≡_, refl, sym, ap, ap₂, _∙_, subst, _↔_, Bool, true, false, cond, _&&_, List, [], _∷_, _++_, append-nil, ℕ, _*_, _%_, _^_}
+use Rattle.numbers.proofs.Kit.{_<_, mod-eq-of-lt, arith, leb, eqb, length, getD, drop, replicate, eqb-true, eqb-false, eq-eqb, ne-eqb}
+use Rattle.numbers.proofs.WordLaws.{le-putRow}
+use Rattle.numbers.specs.Tile.{getLe, putRow}
 use Rattle.machine.specs.declared.Answer.{Answer}
 use Rattle.machine.specs.declared.Answer.the-variants.{Done, BadArguments, TooManySeals}
 use Rattle.machine.specs.declared.Machine.{Machine}
@@ -17,34 +17,34 @@ use Rattle.machine.specs.Vectors.{Vectors, vectorsOf}
 use Rattle.machine.specs.Step.{VectorOutcome, vectorStep}
 use Rattle.machine.specs.Theorems.{startedBench}
 use Rattle.machine.proofs.TestLaws.{false-true, each-every}
-use Rattle.ranges.specs.Ranges.{sealsIn}
+use Rattle.unit_ranges.specs.Ranges.{sealsIn}
 use Rattle.run.specs.declared.Run.{Run}
 use Rattle.run.specs.Acts.{Act, session}
-use Rattle.blocks.specs.Blocks.{Bytes, machineBytes, machineOf, putMachine, scalarBytes, valuesOf, putValues, packed}
-use Rattle.blocks.proofs.BlockLaws.{machineOf-putMachine, putMachine-seals, values-at}
-use Rattle.scalar_block.specs.ScalarBlock.{stepBlock}
-use Rattle.sealing.proofs.AddedRange.{ranges-are-exact}
-use Rattle.bench_calls.specs.BenchCalls.{HostStarted, startedOut, shownStart, hostStart, steppedOut, shownStep, hostStep, HostSealed}
-use Rattle.bench_calls.proofs.Refusal.{start-refusal, seal-refusal}
-use Rattle.run_blocks.specs.RunBlocks.{runOf}
+use Rattle.c_blocks.specs.Blocks.{Bytes, machineBytes, machineOf, putMachine, scalarBytes, valuesOf, putValues, packed}
+use Rattle.c_blocks.proofs.BlockLaws.{machineOf-putMachine, putMachine-seals, values-at}
+use Rattle.c_scalars.specs.ScalarBlock.{stepBlock}
+use Rattle.unit_sealing.proofs.AddedRange.{ranges-are-exact}
+use Rattle.c_step.specs.BenchCalls.{HostStarted, startedOut, shownStart, hostStart, steppedOut, shownStep, hostStep, HostSealed}
+use Rattle.c_step.proofs.Refusal.{start-refusal, seal-refusal}
+use Rattle.c_run_blocks.specs.RunBlocks.{runOf}
 use Rattle.image.specs.declared.Imaged.the-variants as Image
 use Rattle.image.specs.Answers.{imageReply}
 use Rattle.image.specs.Writing.{SizeOutcome, sizeReply, sizeImage, WriteOutcome, writeReply, writeImage}
 use Rattle.image.specs.Theorems.{imageIn}
-use Rattle.image_calls.specs.ImageCalls.{packedReply, hostImageSize, HostWritten, writtenOut, hostImageWrite}
-use Rattle.image_calls.specs.Theorems.{PacksWhole}
-use Rattle.image_calls.proofs.Packing.{image-size-packs-whole, image-write-packs-whole}
-use Rattle.calls.specs.Calls.{Buffers, Call, Called, afterStart, afterStep, afterSeal, called}
-use Rattle.calls.specs.Composed.{benchIn}
-use Rattle.width.proofs.TileLaws.{le-lt}
-use Rattle.calls.proofs.Numbers.{machine-words, step-with-words}
-use Rattle.calls.proofs.Seal.{holds-none, was-started}
-use Rattle.calls.proofs.Ranges.{seal-call-seals}
-use Rattle.refusals.specs.Faults.{NotAtFault, Exactly}
-use Rattle.refusals.specs.Starts.{Startable, HasNinth, Addable}
-use Rattle.refusals.specs.Images.{NoRoomFor}
-use Rattle.refusals.proofs.Answers.{start-answers-exactly, add-answers-exactly, size-answers-exactly, write-answers-exactly}
-use Rattle.handover.specs.Handover.{writtenInto}
+use Rattle.c_image.specs.ImageCalls.{packedReply, hostImageSize, HostWritten, writtenOut, hostImageWrite}
+use Rattle.c_image.specs.Theorems.{PacksWhole}
+use Rattle.c_image.proofs.Packing.{image-size-packs-whole, image-write-packs-whole}
+use Rattle.theorem_calls.specs.Calls.{Buffers, Call, Called, afterStart, afterStep, afterSeal, called}
+use Rattle.theorem_calls.specs.Composed.{benchIn}
+use Rattle.numbers.proofs.TileLaws.{le-lt}
+use Rattle.theorem_calls.proofs.Numbers.{machine-words, step-with-words}
+use Rattle.theorem_calls.proofs.Seal.{holds-none, was-started}
+use Rattle.theorem_calls.proofs.Ranges.{seal-call-seals}
+use Rattle.theorem_refusals.specs.Faults.{NotAtFault, Exactly}
+use Rattle.theorem_refusals.specs.Starts.{Startable, HasNinth, Addable}
+use Rattle.theorem_refusals.specs.Images.{NoRoomFor}
+use Rattle.theorem_refusals.proofs.Answers.{start-answers-exactly, add-answers-exactly, size-answers-exactly, write-answers-exactly}
+use Rattle.theorem_handover.specs.Handover.{writtenInto}
 use Rattle.demands.specs.Demand2.{StepCall, StepCallSteps}
 use Rattle.demands.specs.GivenInC.{StartCallAnswers, SealCallAnswers, SizeCallAnswers, WriteCallAnswers}
 use Rattle.demands.proofs.Meant.{step-is-its-meaning}

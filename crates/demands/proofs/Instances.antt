@@ -1,12 +1,12 @@
 -- Each instance, from the promise's own term.
-use Rattle.width.proofs.Kit.{_≡_, refl, sym, ap, subst, _∙_, inl, inr, Bool, true, false, not, _&&_, _||_, true≢false, List, [], _∷_, _++_, List·Memᴰ}
-use Rattle.width.proofs.Kit.{List·Memᴰ·head, List·Memᴰ·tail, List·Memᴰ·cases-cons, List·Memᴰ·not-nil, none, some, ℕ, zero, suc, _+_, _*_, _-_, _^_, _≤_}
-use Rattle.width.proofs.Kit.{_<_, arith, ltb, eqb, length, getD, replicate, ℤ, pos, negsuc, _*ℤ_, ltb-true, eq-eqb, eqb-true}
+use Rattle.numbers.proofs.Kit.{_≡_, refl, sym, ap, subst, _∙_, inl, inr, Bool, true, false, not, _&&_, _||_, true≢false, List, [], _∷_, _++_, List·Memᴰ}
+use Rattle.numbers.proofs.Kit.{List·Memᴰ·head, List·Memᴰ·tail, List·Memᴰ·cases-cons, List·Memᴰ·not-nil, none, some, ℕ, zero, suc, _+_, _*_, _-_, _^_, _≤_}
+use Rattle.numbers.proofs.Kit.{_<_, arith, ltb, eqb, length, getD, replicate, ℤ, pos, negsuc, _*ℤ_, ltb-true, eq-eqb, eqb-true}
 use lib.Ieee.{ofInt, ofBits, toBits}
-use Rattle.width.specs.Reduce.{reduce, sumℤ}
-use Rattle.width.specs.Blocks.{Choice, chunks}
-use Rattle.width.specs.Tile.{In, putTile, putRow, putLe, markTile, markRow}
-use Rattle.width.specs.Binary32.{valueOf, settled}
+use Rattle.numbers.specs.Reduce.{reduce, sumℤ}
+use Rattle.numbers.specs.Blocks.{Choice, chunks}
+use Rattle.numbers.specs.Tile.{In, putTile, putRow, putLe, markTile, markRow}
+use Rattle.numbers.specs.Binary32.{valueOf, settled}
 use Rattle.machine.specs.declared.Form.the-variants.{Plain, Transposed}
 use Rattle.machine.specs.declared.Matrix.the-variants.{MatrixB, MatrixC}
 use Rattle.machine.specs.declared.Wrong.the-variants.{Unlisted}
@@ -26,10 +26,10 @@ use Rattle.machine.specs.Step.{stepWith, stepBy, outcome}
 use Rattle.machine.specs.Alike.{Alike, Agree}
 use Rattle.machine.specs.WordTheorems.{Faultless, IsAdded}
 use Rattle.machine.proofs.TestLaws.{and-left, and-right}
-use Rattle.refusals.specs.Listed.{entries, Spot, IsThere}
-use Rattle.ranges.specs.Ranges.{wellFormed, sealsIn, putRange, putSeals}
-use Rattle.sealing.specs.SealBlock.{sealBlock}
-use Rattle.blocks.specs.Blocks.{machineOf, putMachine, valuesOf, putValues, putNumbers}
+use Rattle.theorem_refusals.specs.Listed.{entries, Spot, IsThere}
+use Rattle.unit_ranges.specs.Ranges.{wellFormed, sealsIn, putRange, putSeals}
+use Rattle.unit_sealing.specs.SealBlock.{sealBlock}
+use Rattle.c_blocks.specs.Blocks.{machineOf, putMachine, valuesOf, putValues, putNumbers}
 use Rattle.run.specs.declared.Plan.{Plan}
 use Rattle.run.specs.declared.Place.the-variants.{AtType, AtN}
 use Rattle.run.specs.Plan.{narrow, msew, typeOf, total, aOf, bOf}
@@ -38,13 +38,13 @@ use Rattle.run.specs.Turn.{soundRun, Turn, afterTurns, turns}
 use Rattle.run.specs.Acts.{Act, session}
 use Rattle.run.specs.Statement.{Right, MemoryBytes, jobOf, startedRun}
 use Rattle.run.specs.Whole.{whole, WholeDelivers}
-use Rattle.run_blocks.specs.RunBlocks.{planNumbers, placeOf, planOf, runOf, putRun, runFit, putHanded}
-use Rattle.transposed.specs.Transposed.{LoadThenStore, Transposes}
-use Rattle.slices.specs.MovedBack.{OutAndBack, Restored}
-use Rattle.exact.specs.Exact.{Is, Within24, WholeNumbers}
-use Rattle.exact.specs.Examples.{rowBits, rowNumbers}
-use Rattle.format.specs.Numbers.{groups, encode}
-use Rattle.format.specs.Parser.{isAmong, nonempty, readNumber, parse}
+use Rattle.c_run_blocks.specs.RunBlocks.{planNumbers, placeOf, planOf, runOf, putRun, runFit, putHanded}
+use Rattle.theorem_transposed.specs.Transposed.{LoadThenStore, Transposes}
+use Rattle.unit_slices.specs.MovedBack.{OutAndBack, Restored}
+use Rattle.theorem_exact.specs.Exact.{Is, Within24, WholeNumbers}
+use Rattle.theorem_exact.specs.Examples.{rowBits, rowNumbers}
+use Rattle.numbers_format.specs.Numbers.{groups, encode}
+use Rattle.numbers_format.specs.Parser.{isAmong, nonempty, readNumber, parse}
 use Rattle.image.specs.Cells.{runs, spread}
 use Rattle.image.specs.Cells.Run.{run}
 use Rattle.image.specs.Images.{log2, beyond, imageOf, IsImage}
@@ -52,29 +52,29 @@ use Rattle.image.specs.ImageFormat.{topRlen, topMlen, leastMlen, mtypes, ranges
 use Rattle.image.specs.Writing.{SizeOutcome, sizeImage, WriteOutcome, writeImage}
 use Rattle.image.specs.Reading.{checkImage, readImage}
 use Rattle.image_read.specs.Blocks.{readBlock}
-use Rattle.salvage.specs.Fronts.{front}
-use Rattle.salvage.specs.Salvage.{placeIn, announcedFormat, runsKept, keptIn, salvage}
-use Rattle.lines.specs.Lines.{decimal}
-use Rattle.assembly.specs.Bytes.{bytes}
-use Rattle.assembly.specs.Lines.{line}
-use Rattle.assembly.specs.Reading.{readLine}
-use Rattle.assembly.specs.Words.{wordText, readWord}
-use Rattle.assembly.specs.Theorems.{Prints}
-use Rattle.bench_calls.specs.BenchCalls.{hostStart, hostStep, hostSeal}
-use Rattle.run_calls.specs.RunCalls.{hostRunStart, hostNext}
-use Rattle.turn_calls.specs.TurnCalls.{hostTurn, hostTurns, hostRun}
-use Rattle.image_calls.specs.ImageCalls.{packedReply, hostImageSize, hostImageWrite, hostImageRead}
-use Rattle.salvage_calls.specs.SalvageCalls.{hostSalvage}
-use Rattle.text_calls.specs.TextCalls.{packedText, hostWordText, hostTextWord}
-use Rattle.calls.specs.Calls.{Buffers, Call, called}
-use Rattle.calls.specs.Composed.{PlanWords, StartCallsAreRight, TurnCalls, TurnCallsAreRight, TurnsAreTurnCalls, RunIsTurnCalls}
-use Rattle.powerup.specs.Steps.{AlikeBenches}
-use Rattle.powerup.specs.Runs.{SameRunning}
-use Rattle.powerup_host.specs.Calls.{AlikeBuffers, AtPowerUp}
+use Rattle.image_salvage.specs.Fronts.{front}
+use Rattle.image_salvage.specs.Salvage.{placeIn, announcedFormat, runsKept, keptIn, salvage}
+use Rattle.text_lines.specs.Lines.{decimal}
+use Rattle.text_assembly.specs.Bytes.{bytes}
+use Rattle.text_assembly.specs.Lines.{line}
+use Rattle.text_assembly.specs.Reading.{readLine}
+use Rattle.text_assembly.specs.Words.{wordText, readWord}
+use Rattle.text_assembly.specs.Theorems.{Prints}
+use Rattle.c_step.specs.BenchCalls.{hostStart, hostStep, hostSeal}
+use Rattle.c_run.specs.RunCalls.{hostRunStart, hostNext}
+use Rattle.c_turn.specs.TurnCalls.{hostTurn, hostTurns, hostRun}
+use Rattle.c_image.specs.ImageCalls.{packedReply, hostImageSize, hostImageWrite, hostImageRead}
+use Rattle.c_salvage.specs.SalvageCalls.{hostSalvage}
+use Rattle.c_text.specs.TextCalls.{packedText, hostWordText, hostTextWord}
+use Rattle.theorem_calls.specs.Calls.{Buffers, Call, called}
+use Rattle.theorem_calls.specs.Composed.{PlanWords, StartCallsAreRight, TurnCalls, TurnCallsAreRight, TurnsAreTurnCalls, RunIsTurnCalls}
+use Rattle.theorem_powerup.specs.Steps.{AlikeBenches}
+use Rattle.theorem_powerup.specs.Runs.{SameRunning}
+use Rattle.theorem_powerup_calls.specs.Calls.{AlikeBuffers, AtPowerUp}
 use Rattle.demands.specs.Deeds.{Deed, deed, HostCall}
 use Rattle.demands.specs.Demand1.{Answers, Counted, InBytes}
 use Rattle.demands.specs.Demand2.{readBench, Made, MadeInC}
-use Rattle.format.specs.Numbers as Images
+use Rattle.numbers_format.specs.Numbers as Images
 use Rattle.run.specs.Statement as Statement
 use Rattle.run.specs.Sheet as Sheet
 use Rattle.demands.specs.Instances.{counting, regs, allMarks, nearly, spots, regs′, mem, seals, sealed3, nine, machineBy, held, full, holed, spotted, spotted′, fresh, xs, file, lent, planAt, plan, runAt, stuck, halves, image, cut, cutEarly, room, report, numbers, block, scalarBlock, runBlock, hostWith, host, spottedHost, spottedHost′, otherHost, stuckHost, shortHost, scantHost, msettileki, mlbe16, mlbte16, msbte16, msce32, mqma, mfwma, mmvccOut, mmvccIn, given, words7, sessionOn, acts7, calls7, pair, columns, floatMem, floatPlan, floatBench, numberAndBytes, text, badText, RunIsRight, CallsAreRight, StartsAreRight, ManyAreRight, WholeIsRight, EveryCallAnswers, Demand2, Demand3, Refusals, Words, Runs, Requests, Results, Computed, Instances}

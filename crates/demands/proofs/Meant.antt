@@ -1,6 +1,6 @@
 -- A step of a word is its meaning.
-use Rattle.width.proofs.Kit.{_≡_, refl, sym, ap, ap₂, _∙_, Bool, true, false, cond, List, Option, none, some, Option·some-injective, Option·none-ne-some, ℕ}
-use Rattle.width.specs.Blocks.{Choice}
+use Rattle.numbers.proofs.Kit.{_≡_, refl, sym, ap, ap₂, _∙_, Bool, true, false, cond, List, Option, none, some, Option·some-injective, Option·none-ne-some, ℕ}
+use Rattle.numbers.specs.Blocks.{Choice}
 use Rattle.machine.specs.declared.Answer.{Answer}
 use Rattle.machine.specs.declared.Answer.the-variants.{BadArguments}
 use Rattle.machine.specs.declared.Reply.{Reply}
@@ -12,7 +12,7 @@ use Rattle.machine.specs.Operation.{vectorsAfter}
 use Rattle.machine.specs.Step.{Outcome, VectorOutcome, beside, checksIn, meantIn, givenIn, carriedIn, refusedIn, outcomeIn, vectorsIn, outcome, stepBy, stepWith}
 use Rattle.machine.proofs.TestLaws.{false-true}
 use Rattle.machine.proofs.Refusal.{step-refusal-changes-nothing}
-use Rattle.refusals.proofs.Exact.{step-answers-exactly}
+use Rattle.theorem_refusals.proofs.Exact.{step-answers-exactly}
 use Rattle.run.proofs.RefusalLaws.{number-done}
 use Rattle.run.specs.declared.Run.{Run}
 use Rattle.run.specs.declared.Handed.{Handed}

@@ -10,50 +10,50 @@ use Rattle.run.proofs.Demand2.{seal-holds-over-acts, seal-holds-over-acts-from-
 use Rattle.run.proofs.Demand3.{demand-3, demand-3-ours, demand-3-smaller, demand-3-halving}
 use Rattle.run.proofs.Whole.{whole-delivers}
 use Rattle.run.proofs.Sheet.{bench-sheet, product-example}
-use Rattle.bench_calls.proofs.Refusal as bench
-use Rattle.bench_calls.proofs.Packing.{packs-whole}
-use Rattle.run_calls.proofs.Refusal as run
-use Rattle.turn_calls.proofs.Refusal as turn
-use Rattle.image_calls.proofs.Refusal as image
-use Rattle.image_calls.proofs.Packing.{image-size-packs-whole, image-write-packs-whole, image-read-packs-whole}
-use Rattle.salvage_calls.proofs.Refusal.{salvage-call-refusal}
-use Rattle.salvage_calls.proofs.Packing.{salvage-packs-whole}
-use Rattle.salvage_calls.proofs.Report.{report-is-read-back}
-use Rattle.text_calls.proofs.Refusal as text
-use Rattle.text_calls.proofs.Packing.{word-text-packs, text-word-packs}
-use Rattle.calls.proofs.Seal.{seal-holds-over-calls, seal-holds-from-start-call, seal-holds-from-read-call, start-call-holds, read-call-holds}
-use Rattle.calls.proofs.Ranges.{seal-holds-from-seal-call, seal-call-seals, ranges-are-exact-over-calls}
-use Rattle.calls.proofs.Runs.{start-calls-are-right, turn-calls-are-right, run-is-turn-calls}
-use Rattle.calls.proofs.Turns.{turns-are-turn-calls}
-use Rattle.sealing.proofs.AddedRange.{ranges-are-exact, added-range-refuses-only}
-use Rattle.transposed.proofs.Transposed.{load-then-store-transposes}
-use Rattle.slices.proofs.MovedBack.{out-and-back-restores}
-use Rattle.exact.proofs.Exact.{float-runs-are-exact, whole-runs-are-exact}
-use Rattle.exact.proofs.Examples.{two-terms}
-use Rattle.decode_table.proofs.TableLaws.{table-agrees, table-decodes}
-use Rattle.format.proofs.NumberLaws.{encode-apart}
-use Rattle.format.proofs.FormatLaws.{ends-one, parser-is-right}
+use Rattle.c_step.proofs.Refusal as bench
+use Rattle.c_step.proofs.Packing.{packs-whole}
+use Rattle.c_run.proofs.Refusal as run
+use Rattle.c_turn.proofs.Refusal as turn
+use Rattle.c_image.proofs.Refusal as image
+use Rattle.c_image.proofs.Packing.{image-size-packs-whole, image-write-packs-whole, image-read-packs-whole}
+use Rattle.c_salvage.proofs.Refusal.{salvage-call-refusal}
+use Rattle.c_salvage.proofs.Packing.{salvage-packs-whole}
+use Rattle.c_salvage.proofs.Report.{report-is-read-back}
+use Rattle.c_text.proofs.Refusal as text
+use Rattle.c_text.proofs.Packing.{word-text-packs, text-word-packs}
+use Rattle.theorem_calls.proofs.Seal.{seal-holds-over-calls, seal-holds-from-start-call, seal-holds-from-read-call, start-call-holds, read-call-holds}
+use Rattle.theorem_calls.proofs.Ranges.{seal-holds-from-seal-call, seal-call-seals, ranges-are-exact-over-calls}
+use Rattle.theorem_calls.proofs.Runs.{start-calls-are-right, turn-calls-are-right, run-is-turn-calls}
+use Rattle.theorem_calls.proofs.Turns.{turns-are-turn-calls}
+use Rattle.unit_sealing.proofs.AddedRange.{ranges-are-exact, added-range-refuses-only}
+use Rattle.theorem_transposed.proofs.Transposed.{load-then-store-transposes}
+use Rattle.unit_slices.proofs.MovedBack.{out-and-back-restores}
+use Rattle.theorem_exact.proofs.Exact.{float-runs-are-exact, whole-runs-are-exact}
+use Rattle.theorem_exact.proofs.Examples.{two-terms}
+use Rattle.unit_table.proofs.TableLaws.{table-agrees, table-decodes}
+use Rattle.numbers_format.proofs.NumberLaws.{encode-apart}
+use Rattle.numbers_format.proofs.FormatLaws.{ends-one, parser-is-right}
 use Rattle.image.proofs.RunLaws.{runs-are-maximal}
 use Rattle.image.proofs.Images.{alike-one-image, others-never, format-is-images, read-is-exact, read-refusal, write-refusal, read-makes, seal-holds-from-read, written-is-read-back, read-is-written-back}
-use Rattle.salvage.proofs.Keeps.{place-as-in-six, salvage-is-exact, fresh-is-image, sound-unchanged, salvage-refusal}
-use Rattle.salvage.proofs.Room.{enough-room}
-use Rattle.salvage.proofs.Cut.{cut-keeps-bytes, cut-place}
-use Rattle.assembly.proofs.LegalLaws.{legal-have-lines}
-use Rattle.assembly.proofs.AnswerLaws.{accepted-have-lines, codes-answered, lines-go-back}
-use Rattle.assembly.proofs.AcceptedLaws.{lines-are-accepted}
-use Rattle.assembly.proofs.LineLaws.{reads-right, reads-back, one-word}
-use Rattle.assembly.proofs.SizeLaws.{line-size}
-use Rattle.assembly.proofs.HexLaws.{words-right, words-read-back}
-use Rattle.powerup.proofs.Steps.{step-ignores-unmarked, words-ignore-unmarked, given-words-ignore-unmarked}
-use Rattle.powerup.proofs.Runs.{run-start-ignores-unmarked, turns-ignore-unmarked, whole-ignores-unmarked}
-use Rattle.powerup.proofs.PowerUp.{starts-alike, power-up-never-matters}
-use Rattle.powerup_image.proofs.ImagesStay.{images-stay-equal, images-stay-equal-given}
-use Rattle.powerup_host.proofs.Calls.{call-ignores-unmarked, calls-ignore-unmarked, image-write-ignores-unmarked, power-up-never-matters-to-hosts, power-up-never-matters-to-readers}
-use Rattle.refusals.proofs.Exact.{step-answers-exactly}
-use Rattle.refusals.proofs.FaultLaws.{faults-are-these}
-use Rattle.refusals.proofs.Answers.{start-answers-exactly, add-answers-exactly, size-answers-exactly, write-answers-exactly}
-use Rattle.refusals.proofs.Listed.{no-code-twice, types-are-these, registers-fill}
-use Rattle.handover.proofs.Handover.{read-call-makes, written-call-is-read-back, read-call-is-written-back, images-stay-equal-over-calls, turn-packs-whole}
+use Rattle.image_salvage.proofs.Keeps.{place-as-in-six, salvage-is-exact, fresh-is-image, sound-unchanged, salvage-refusal}
+use Rattle.image_salvage.proofs.Room.{enough-room}
+use Rattle.image_salvage.proofs.Cut.{cut-keeps-bytes, cut-place}
+use Rattle.text_assembly.proofs.LegalLaws.{legal-have-lines}
+use Rattle.text_assembly.proofs.AnswerLaws.{accepted-have-lines, codes-answered, lines-go-back}
+use Rattle.text_assembly.proofs.AcceptedLaws.{lines-are-accepted}
+use Rattle.text_assembly.proofs.LineLaws.{reads-right, reads-back, one-word}
+use Rattle.text_assembly.proofs.SizeLaws.{line-size}
+use Rattle.text_assembly.proofs.HexLaws.{words-right, words-read-back}
+use Rattle.theorem_powerup.proofs.Steps.{step-ignores-unmarked, words-ignore-unmarked, given-words-ignore-unmarked}
+use Rattle.theorem_powerup.proofs.Runs.{run-start-ignores-unmarked, turns-ignore-unmarked, whole-ignores-unmarked}
+use Rattle.theorem_powerup.proofs.PowerUp.{starts-alike, power-up-never-matters}
+use Rattle.theorem_powerup_image.proofs.ImagesStay.{images-stay-equal, images-stay-equal-given}
+use Rattle.theorem_powerup_calls.proofs.Calls.{call-ignores-unmarked, calls-ignore-unmarked, image-write-ignores-unmarked, power-up-never-matters-to-hosts, power-up-never-matters-to-readers}
+use Rattle.theorem_refusals.proofs.Exact.{step-answers-exactly}
+use Rattle.theorem_refusals.proofs.FaultLaws.{faults-are-these}
+use Rattle.theorem_refusals.proofs.Answers.{start-answers-exactly, add-answers-exactly, size-answers-exactly, write-answers-exactly}
+use Rattle.theorem_refusals.proofs.Listed.{no-code-twice, types-are-these, registers-fill}
+use Rattle.theorem_handover.proofs.Handover.{read-call-makes, written-call-is-read-back, read-call-is-written-back, images-stay-equal-over-calls, turn-packs-whole}
 use Rattle.demands.proofs.Answered.{every-deed-answers}
 use Rattle.demands.proofs.Delivered.{run-calls-deliver}
 use Rattle.demands.proofs.HostAnswered.{every-call-answers}

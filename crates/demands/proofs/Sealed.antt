@@ -1,6 +1,6 @@
 -- No sealed byte changes, from a machine that was started or that an image made.
-use Rattle.width.proofs.Kit.{_≡_, sym, ap, _∙_, subst, Bool, cond, List, [], _∷_, _++_, ℕ}
-use Rattle.width.specs.Blocks.{Choice}
+use Rattle.numbers.proofs.Kit.{_≡_, sym, ap, _∙_, subst, Bool, cond, List, [], _∷_, _++_, ℕ}
+use Rattle.numbers.specs.Blocks.{Choice}
 use Rattle.machine.specs.Geometry.{Range, range, Bench}
 use Rattle.machine.specs.Starting.{ranges, StartOutcome}
 use Rattle.machine.proofs.StartLaws.{accepted}
@@ -8,14 +8,14 @@ use Rattle.run.specs.Acts.{Act, Session, lentLast, afterActs}
 use Rattle.run.specs.Theorems.{SealKept}
 use Rattle.machine.specs.Sealing.{addSeal}
 use Rattle.run.proofs.RefusalLaws.{number-done}
-use Rattle.sealing.proofs.AddedRange.{sealed-ranges}
+use Rattle.unit_sealing.proofs.AddedRange.{sealed-ranges}
 use Rattle.run.proofs.Demand2.{seal-holds-over-acts}
-use Rattle.ranges.specs.Ranges.{sealsIn}
+use Rattle.unit_ranges.specs.Ranges.{sealsIn}
 use Rattle.image.specs.Reading.{readImage}
-use Rattle.calls.specs.Calls.{Buffers, Call, called}
-use Rattle.calls.specs.Composed.{afterCalls, benchIn, EachSparesSeal}
-use Rattle.calls.proofs.Seal.{seal-holds-from-start-call, seal-holds-from-read-call}
-use Rattle.calls.proofs.Ranges.{seal-holds-from-seal-call}
+use Rattle.theorem_calls.specs.Calls.{Buffers, Call, called}
+use Rattle.theorem_calls.specs.Composed.{afterCalls, benchIn, EachSparesSeal}
+use Rattle.theorem_calls.proofs.Seal.{seal-holds-from-start-call, seal-holds-from-read-call}
+use Rattle.theorem_calls.proofs.Ranges.{seal-holds-from-seal-call}
 use Rattle.demands.specs.Demand2.{Made, SealedBytesStay, MadeInC, SealedBytesStayInC}
 
 -- from any moment on, with the ranges that are held then

@@ -1,6 +1,6 @@
 -- What a host can do with a machine, over the definitions, and over the C functions of include/bodlarina.h; what each answers and leaves.
-use Rattle.width.specs.Kit.{cond, List, [], _∷_, ℕ}
-use Rattle.width.specs.Blocks.{Choice}
+use Rattle.numbers.specs.Kit.{cond, List, [], _∷_, ℕ}
+use Rattle.numbers.specs.Blocks.{Choice}
 use Rattle.machine.specs.Answers.{done}
 use Rattle.machine.specs.Geometry.{Range, Bench, benchOf}
 use Rattle.machine.specs.declared.Machine.{Machine}
@@ -10,11 +10,11 @@ use Rattle.run.specs.declared.Plan.{Plan}
 use Rattle.run.specs.Acts.{Act, Session, session, Acted, act}
 use Rattle.image.specs.Writing.{sizeImage, WriteOutcome, writeImage}
 use Rattle.image.specs.Reading.{ReadOutcome, readImage}
-use Rattle.salvage.specs.Salvage.{SalvageOutcome, salvage}
-use Rattle.image_calls.specs.ImageCalls.{HostWritten, hostImageWrite}
-use Rattle.salvage_calls.specs.SalvageCalls.{HostSalvaged, hostSalvage}
-use Rattle.text_calls.specs.TextCalls.{HostText, hostWordText, HostWord, hostTextWord}
-use Rattle.calls.specs.Calls.{Buffers, Call, called}
+use Rattle.image_salvage.specs.Salvage.{SalvageOutcome, salvage}
+use Rattle.c_image.specs.ImageCalls.{HostWritten, hostImageWrite}
+use Rattle.c_salvage.specs.SalvageCalls.{HostSalvaged, hostSalvage}
+use Rattle.c_text.specs.TextCalls.{HostText, hostWordText, HostWord, hostTextWord}
+use Rattle.theorem_calls.specs.Calls.{Buffers, Call, called}
 
 -- ---- over the definitions
 
@@ -72,7 +72,7 @@ module _ (grant : Choice) where
 
 -- ---- over the C functions
 
--- those on a machine, runs and images (calls/specs/Calls.antt, which keeps nothing of the image that bodlarina_image_write leaves);
+-- those on a machine, runs and images (theorem_calls/specs/Calls.antt, which keeps nothing of the image that bodlarina_image_write leaves);
 -- bodlarina_image_write with it, bodlarina_image_salvage, bodlarina_word_text and bodlarina_text_word. The others, bodlarina_version and
 -- bodlarina_run_steps, are lent nothing to write to, and give a number that is no answer
 pub data HostCall : Type 0 where

@@ -1,12 +1,12 @@
 -- Demand 1: every word, scalar, memory size and state gets an answer, and a refusal changes nothing.
-use Rattle.width.specs.Kit.{_≡_, false, List, ℕ, _%_, _^_, _≤_, _<_}
-use Rattle.width.specs.Blocks.{Choice}
-use Rattle.blocks.specs.Blocks.{Bytes}
+use Rattle.numbers.specs.Kit.{_≡_, false, List, ℕ, _%_, _^_, _≤_, _<_}
+use Rattle.numbers.specs.Blocks.{Choice}
+use Rattle.c_blocks.specs.Blocks.{Bytes}
 use Rattle.machine.specs.Faults.{soundBench}
 use Rattle.run.specs.Acts.{Act, Session}
 use Rattle.run.specs.Turn.{Running, running, turn, afterTurns, turns}
-use Rattle.calls.specs.Calls.{Buffers, Call, called}
-use Rattle.calls.specs.Composed.{afterCalls, turnCalls}
+use Rattle.theorem_calls.specs.Calls.{Buffers, Call, called}
+use Rattle.theorem_calls.specs.Composed.{afterCalls, turnCalls}
 use Rattle.demands.specs.Deeds.{Deed, Deeded, roomOf, deed, HostCall, Hosted, lentTo, hostCalled}
 
 -- the table of answers ends with 17: 01 has 0 to 9, 02 10 to 17

@@ -1,7 +1,7 @@
 -- Demand 2: each accepted word does exactly what the papers define, refusals are exact, and no sealed byte ever changes.
-use Rattle.width.specs.Kit.{_≡_, cond, List, [], _∷_, _++_, some, ℕ, _%_, _^_, _<_, length, getD}
-use Rattle.width.specs.Blocks.{Choice}
-use Rattle.format.specs.Numbers as Images
+use Rattle.numbers.specs.Kit.{_≡_, cond, List, [], _∷_, _++_, some, ℕ, _%_, _^_, _<_, length, getD}
+use Rattle.numbers.specs.Blocks.{Choice}
+use Rattle.numbers_format.specs.Numbers as Images
 use Rattle.machine.specs.Geometry.{Range, range, Parameters, parameters, State, stateOf, Bench, benchOf}
 use Rattle.machine.specs.Answers.{done}
 use Rattle.machine.specs.Vectors.{Vectors, vectorsOf, idle}
@@ -16,20 +16,20 @@ use Rattle.run.specs.Encoding.{own}
 use Rattle.run.specs.Turn.{ask, Running, running, turn}
 use Rattle.run.specs.Acts.{Act, Session, afterActs, lentLast}
 use Rattle.run.specs.Theorems.{SealKept}
-use Rattle.ranges.specs.Ranges.{sealsIn}
-use Rattle.blocks.specs.Blocks.{Bytes, scalarBytes, valuesOf, packed}
+use Rattle.unit_ranges.specs.Ranges.{sealsIn}
+use Rattle.c_blocks.specs.Blocks.{Bytes, scalarBytes, valuesOf, packed}
 use Rattle.image.specs.declared.Imaged.the-variants.{Done}
 use Rattle.image.specs.Answers.{imageReply}
 use Rattle.image.specs.Reading.{ReadOutcome, readImage}
-use Rattle.calls.specs.Calls.{Buffers, Call, Called, called}
-use Rattle.calls.specs.Composed.{afterCalls, benchIn, EachSparesSeal}
-use Rattle.powerup.specs.PowerUp.{PowerUpNeverMatters}
-use Rattle.powerup.specs.Steps.{WordsIgnoreUnmarked}
-use Rattle.powerup_host.specs.Calls.{PowerUpNeverMattersToHosts, PowerUpNeverMattersToReaders}
-use Rattle.refusals.specs.Given.{GivenExactly}
-use Rattle.refusals.specs.Faults.{FaultsAreThese}
-use Rattle.refusals.specs.Starts.{StartAnswersExactly, AddAnswersExactly}
-use Rattle.refusals.specs.Images.{SizeAnswersExactly, WriteAnswersExactly}
+use Rattle.theorem_calls.specs.Calls.{Buffers, Call, Called, called}
+use Rattle.theorem_calls.specs.Composed.{afterCalls, benchIn, EachSparesSeal}
+use Rattle.theorem_powerup.specs.PowerUp.{PowerUpNeverMatters}
+use Rattle.theorem_powerup.specs.Steps.{WordsIgnoreUnmarked}
+use Rattle.theorem_powerup_calls.specs.Calls.{PowerUpNeverMattersToHosts, PowerUpNeverMattersToReaders}
+use Rattle.theorem_refusals.specs.Given.{GivenExactly}
+use Rattle.theorem_refusals.specs.Faults.{FaultsAreThese}
+use Rattle.theorem_refusals.specs.Starts.{StartAnswersExactly, AddAnswersExactly}
+use Rattle.theorem_refusals.specs.Images.{SizeAnswersExactly, WriteAnswersExactly}
 use Rattle.demands.specs.GivenInC.{StartCallAnswers, SealCallAnswers, SizeCallAnswers, WriteCallAnswers}
 
 -- ---- a word
@@ -94,7 +94,7 @@ pub data MadeInC (c : Call) (b : Buffers) (seals : List Range) : Type 0 where
   read : (image : List ℕ) → Images.ByteString image → c ≡ Call.imageRead image → seals ≡ readImage image (b .registers) (b .marks) .seals → MadeInC c b seals
   added : (from size : ℕ) → Bytes (b .machine) → c ≡ Call.seal from size → seals ≡ sealsIn (b .machine) ++ (range from size ∷ []) → MadeInC c b seals
 
--- over any calls that leave these ranges (calls/specs/Composed.antt: SparesSeal: a start with other ranges, and a read of an image with others, do
+-- over any calls that leave these ranges (theorem_calls/specs/Composed.antt: SparesSeal: a start with other ranges, and a read of an image with others, do
 -- not), between which the host writes what it likes but the machine's block and the sealed bytes
 abbrev pub SealedBytesStayInC : Type 0
 SealedBytesStayInC = (c : Call) (b : Buffers) (seals : List Range) → MadeInC c b seals

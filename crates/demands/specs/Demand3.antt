@@ -1,5 +1,5 @@
 -- Demand 3: the tiled product run, as one statement over any number of turns from its start.
-use Rattle.width.specs.Kit.{_≡_, [], _∷_, ℕ, _<_, length}
+use Rattle.numbers.specs.Kit.{_≡_, [], _∷_, ℕ, _<_, length}
 use Rattle.machine.specs.declared.Reply.{Reply}
 use Rattle.machine.specs.Operation.{element}
 use Rattle.run.specs.declared.Plan.{Plan}
@@ -7,11 +7,11 @@ use Rattle.run.specs.Words.{steps}
 use Rattle.run.specs.Plan.{OutsideKept, shape, wide, cAt, productOf}
 use Rattle.run.specs.Statement.{Answered, MemoryBytes, OurRunsAreRight, RunsAreRight}
 use Rattle.run.specs.Whole.{WholeDelivers}
-use Rattle.blocks.specs.Blocks.{Bytes, machineBytes, putNumbers}
-use Rattle.run_blocks.specs.RunBlocks.{runBytes}
-use Rattle.turn_calls.specs.TurnCalls.{countBytes}
-use Rattle.calls.specs.Calls.{Buffers, Call, Called, called}
-use Rattle.calls.specs.Composed.{benchIn, PlanWords, jobIn, StartCallsAreRight, TurnCallsAreRight, TurnsAreTurnCalls, RunIsTurnCalls}
+use Rattle.c_blocks.specs.Blocks.{Bytes, machineBytes, putNumbers}
+use Rattle.c_run_blocks.specs.RunBlocks.{runBytes}
+use Rattle.c_turn.specs.TurnCalls.{countBytes}
+use Rattle.theorem_calls.specs.Calls.{Buffers, Call, Called, called}
+use Rattle.theorem_calls.specs.Composed.{benchIn, PlanWords, jobIn, StartCallsAreRight, TurnCallsAreRight, TurnsAreTurnCalls, RunIsTurnCalls}
 
 -- ---- over the C functions
 

@@ -1,19 +1,19 @@
 -- When bodlarina_start, bodlarina_seal, bodlarina_image_size and bodlarina_image_write give each of their answers, exactly, and what they leave
--- (include/bodlarina.h): as a start, an addition, a sizing and a writing do (refusals/specs/). A machine's block of another length holds a state at
+-- (include/bodlarina.h): as a start, an addition, a sizing and a writing do (theorem_refusals/specs/). A machine's block of another length holds a state at
 -- fault. The proofs stand in proofs/.
-use Rattle.width.specs.Kit.{_≡_, _↔_, List, [], _∷_, _++_, ℕ, _/_, _%_, _^_, length, drop}
+use Rattle.numbers.specs.Kit.{_≡_, _↔_, List, [], _∷_, _++_, ℕ, _/_, _%_, _^_, length, drop}
 use Rattle.machine.specs.Geometry.{Bench, range, benchOf}
 use Rattle.machine.specs.Theorems.{startedBench}
-use Rattle.ranges.specs.Ranges.{sealsIn}
-use Rattle.blocks.specs.Blocks.{machineBytes}
+use Rattle.unit_ranges.specs.Ranges.{sealsIn}
+use Rattle.c_blocks.specs.Blocks.{machineBytes}
 use Rattle.image.specs.Theorems.{imageIn}
-use Rattle.image_calls.specs.ImageCalls.{HostWritten, hostImageSize}
-use Rattle.calls.specs.Calls.{Buffers, Call, Called, called}
-use Rattle.calls.specs.Composed.{benchIn}
-use Rattle.refusals.specs.Faults.{NotAtFault, Exactly}
-use Rattle.refusals.specs.Starts.{Startable, HasNinth, Addable}
-use Rattle.refusals.specs.Images.{NoRoomFor}
-use Rattle.handover.specs.Handover.{writtenInto}
+use Rattle.c_image.specs.ImageCalls.{HostWritten, hostImageSize}
+use Rattle.theorem_calls.specs.Calls.{Buffers, Call, Called, called}
+use Rattle.theorem_calls.specs.Composed.{benchIn}
+use Rattle.theorem_refusals.specs.Faults.{NotAtFault, Exactly}
+use Rattle.theorem_refusals.specs.Starts.{Startable, HasNinth, Addable}
+use Rattle.theorem_refusals.specs.Images.{NoRoomFor}
+use Rattle.theorem_handover.specs.Handover.{writtenInto}
 
 -- ---- bodlarina_start
 

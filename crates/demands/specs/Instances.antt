@@ -2,11 +2,11 @@
 -- sealed ranges, words with three operands, a run of 47 steps, an image of two runs, several acts and calls. Records and lines have the names that
 -- Promise.antt and the demands' pages have; proofs/Instances.antt takes each line from the promise's own term, so that a statement which asks for
 -- more, or speaks of less, no longer gives its line.
-use Rattle.width.specs.Kit.{_≡_, _⊎_, true, false, cond, map, List, [], _∷_, _++_, List·Memᴰ, none, some, ℕ, zero, suc, _+_, _*_, _-_, _/_, _%_, _^_, _≤_}
-use Rattle.width.specs.Kit.{_<_, length, getD, replicate, set, take, drop, negsuc}
-use Rattle.width.specs.Reduce.{reduce}
-use Rattle.width.specs.Blocks.{Choice}
-use Rattle.width.specs.Binary32.{valueOf}
+use Rattle.numbers.specs.Kit.{_≡_, _⊎_, true, false, cond, map, List, [], _∷_, _++_, List·Memᴰ, none, some, ℕ, zero, suc, _+_, _*_, _-_, _/_, _%_, _^_, _≤_}
+use Rattle.numbers.specs.Kit.{_<_, length, getD, replicate, set, take, drop, negsuc}
+use Rattle.numbers.specs.Reduce.{reduce}
+use Rattle.numbers.specs.Blocks.{Choice}
+use Rattle.numbers.specs.Binary32.{valueOf}
 use Rattle.machine.specs.declared.Machine.{Machine}
 use Rattle.machine.specs.declared.Form.the-variants.{Transposed}
 use Rattle.machine.specs.declared.Matrix.the-variants.{MatrixB}
@@ -27,13 +27,13 @@ use Rattle.machine.specs.Step.{beside, carriedIn, vectorStep, stepWith}
 use Rattle.machine.specs.Alike.{Alike}
 use Rattle.machine.specs.Theorems.{Given, afterAll, startedBench}
 use Rattle.machine.specs.WordTheorems.{Faultless, RightOpcode, EveryBit, IsOther, IsOurs, stepBefore}
-use Rattle.refusals.specs.Given.{Legal, GivenExactly, FirstAmong, reads}
-use Rattle.refusals.specs.Listed.{entries, Spot, IsThere, spotAt}
-use Rattle.refusals.specs.Faults.{NotAtFault}
-use Rattle.refusals.specs.Starts.{Startable, HasNinth, Addable}
-use Rattle.refusals.specs.Images.{NoRoomFor}
-use Rattle.ranges.specs.Ranges.{sealsIn}
-use Rattle.sealing.specs.Theorems.{RefusesOnly}
+use Rattle.theorem_refusals.specs.Given.{Legal, GivenExactly, FirstAmong, reads}
+use Rattle.theorem_refusals.specs.Listed.{entries, Spot, IsThere, spotAt}
+use Rattle.theorem_refusals.specs.Faults.{NotAtFault}
+use Rattle.theorem_refusals.specs.Starts.{Startable, HasNinth, Addable}
+use Rattle.theorem_refusals.specs.Images.{NoRoomFor}
+use Rattle.unit_ranges.specs.Ranges.{sealsIn}
+use Rattle.unit_sealing.specs.Theorems.{RefusesOnly}
 use Rattle.run.specs.declared.Plan.{Plan}
 use Rattle.run.specs.declared.Handed.{Handed}
 use Rattle.run.specs.declared.Place.{Place}
@@ -46,13 +46,13 @@ use Rattle.run.specs.Turn.{stepsIn, ask, Running, running, turn, afterTurns, an
 use Rattle.run.specs.Statement.{Numbers, Inside, Separate, jobOf, startedRun}
 use Rattle.run.specs.Whole.{whole}
 use Rattle.run.specs.Acts.{Act, Session, session, afterActs}
-use Rattle.transposed.specs.Transposed.{Pair, afterStore}
-use Rattle.slices.specs.MovedBack.{Slice, afterOut, afterBack}
-use Rattle.exact.specs.Exact.{Is}
-use Rattle.decode_table.specs.Table.{tableAgrees, entryOf, restRight, meant}
-use Rattle.format.specs.Numbers.{encode, span}
-use Rattle.format.specs.Formats.{Ends, Format, Accepts, Accepted}
-use Rattle.format.specs.Parser.{Parsed}
+use Rattle.theorem_transposed.specs.Transposed.{Pair, afterStore}
+use Rattle.unit_slices.specs.MovedBack.{Slice, afterOut, afterBack}
+use Rattle.theorem_exact.specs.Exact.{Is}
+use Rattle.unit_table.specs.Table.{tableAgrees, entryOf, restRight, meant}
+use Rattle.numbers_format.specs.Numbers.{encode, span}
+use Rattle.numbers_format.specs.Formats.{Ends, Format, Accepts, Accepted}
+use Rattle.numbers_format.specs.Parser.{Parsed}
 use Rattle.image.specs.declared.Imaged.the-variants.{Done, BadArguments, Damaged}
 use Rattle.image.specs.Answers.{imageReply}
 use Rattle.image.specs.Cells.{Fit, runs, spread}
@@ -62,35 +62,35 @@ use Rattle.image.specs.ImageFormat.{Described, imageFormat}
 use Rattle.image.specs.Writing.{sizeReply, writeReply, sizeImage, writeImage}
 use Rattle.image.specs.Reading.{readImage}
 use Rattle.image.specs.Theorems.{imageIn}
-use Rattle.salvage.specs.Salvage.{salvaged, salvage}
-use Rattle.salvage.specs.Theorems.{endOf, KeepsFirst}
-use Rattle.assembly.specs.Bytes.{bytes}
-use Rattle.assembly.specs.Lines.{line}
-use Rattle.assembly.specs.Reading.{readLine}
-use Rattle.assembly.specs.Words.{wordText, readWord}
-use Rattle.assembly.specs.Programs.{replyTo}
-use Rattle.assembly.specs.Theorems.{Prints, hasLine, IsLine, IsWord}
-use Rattle.bench_calls.specs.BenchCalls.{startedOut, hostStart, steppedOut, hostStep, sealedOut, hostSeal}
-use Rattle.run_calls.specs.RunCalls.{runStartedOut, hostRunStart, nextOut, hostNext, hostRunSteps}
-use Rattle.turn_calls.specs.TurnCalls.{turnedOut, hostTurn, hostTurns, ranOut, hostRun}
-use Rattle.image_calls.specs.ImageCalls.{hostImageSize, writtenOut, hostImageWrite, readOut, hostImageRead}
-use Rattle.salvage_calls.specs.SalvageCalls.{salvagedOut, hostSalvage}
-use Rattle.salvage_calls.specs.Theorems.{reported}
-use Rattle.text_calls.specs.TextCalls.{textOut, hostWordText, wordLeft, hostTextWord}
-use Rattle.blocks.specs.Blocks.{valuesOf, packed}
-use Rattle.calls.specs.Calls.{Buffers, buffers, Call, called, calls}
-use Rattle.calls.specs.Composed.{afterCalls, turnCalls, zeros, benchIn, afterTurnCalls}
-use Rattle.powerup.specs.Steps.{AlikeBenches, SameOutcome, EachSame, outcomes, outcomesGiven}
-use Rattle.powerup.specs.Runs.{SameRunStart, SameTurns, SameTurn, SameWhole}
-use Rattle.powerup.specs.PowerUp.{readings}
-use Rattle.powerup_image.specs.ImagesStay.{imagesAfter}
-use Rattle.powerup_host.specs.Calls.{SameCalled, EachSameCalled}
-use Rattle.handover.specs.Handover.{writtenInto, imageFrom, EachSameImage}
+use Rattle.image_salvage.specs.Salvage.{salvaged, salvage}
+use Rattle.image_salvage.specs.Theorems.{endOf, KeepsFirst}
+use Rattle.text_assembly.specs.Bytes.{bytes}
+use Rattle.text_assembly.specs.Lines.{line}
+use Rattle.text_assembly.specs.Reading.{readLine}
+use Rattle.text_assembly.specs.Words.{wordText, readWord}
+use Rattle.text_assembly.specs.Programs.{replyTo}
+use Rattle.text_assembly.specs.Theorems.{Prints, hasLine, IsLine, IsWord}
+use Rattle.c_step.specs.BenchCalls.{startedOut, hostStart, steppedOut, hostStep, sealedOut, hostSeal}
+use Rattle.c_run.specs.RunCalls.{runStartedOut, hostRunStart, nextOut, hostNext, hostRunSteps}
+use Rattle.c_turn.specs.TurnCalls.{turnedOut, hostTurn, hostTurns, ranOut, hostRun}
+use Rattle.c_image.specs.ImageCalls.{hostImageSize, writtenOut, hostImageWrite, readOut, hostImageRead}
+use Rattle.c_salvage.specs.SalvageCalls.{salvagedOut, hostSalvage}
+use Rattle.c_salvage.specs.Theorems.{reported}
+use Rattle.c_text.specs.TextCalls.{textOut, hostWordText, wordLeft, hostTextWord}
+use Rattle.c_blocks.specs.Blocks.{valuesOf, packed}
+use Rattle.theorem_calls.specs.Calls.{Buffers, buffers, Call, called, calls}
+use Rattle.theorem_calls.specs.Composed.{afterCalls, turnCalls, zeros, benchIn, afterTurnCalls}
+use Rattle.theorem_powerup.specs.Steps.{AlikeBenches, SameOutcome, EachSame, outcomes, outcomesGiven}
+use Rattle.theorem_powerup.specs.Runs.{SameRunStart, SameTurns, SameTurn, SameWhole}
+use Rattle.theorem_powerup.specs.PowerUp.{readings}
+use Rattle.theorem_powerup_image.specs.ImagesStay.{imagesAfter}
+use Rattle.theorem_powerup_calls.specs.Calls.{SameCalled, EachSameCalled}
+use Rattle.theorem_handover.specs.Handover.{writtenInto, imageFrom, EachSameImage}
 use Rattle.demands.specs.Deeds.{Deed, deed, HostCall, hostCalled}
 use Rattle.demands.specs.Demand2.{readBench}
 use Rattle.demands.specs.Demand3.{RunCallDelivers}
 use Rattle.run.specs.Sheet as Sheet
-use Rattle.decode_table.specs.Table as Table
+use Rattle.unit_table.specs.Table as Table
 
 -- ---- a machine and what it is lent
 

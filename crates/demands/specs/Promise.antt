@@ -4,35 +4,35 @@
 -- its definitions is not said here, but by the contracts in src/.
 use Rattle.machine.specs.Theorems.{RefusalChangesNothing, StartRefusalChangesNothing, SealRefusalChangesNothing, StepKeepsSound, StepKeepsFile, SealKeepsSound, StartIsSound, StoresAreExact, RulesKeepConstraints, SealHolds, SealHoldsFromStart}
 use Rattle.machine.specs.WordTheorems.{WordRefusals, NothingElseMoved, AddedGotOne}
-use Rattle.refusals.specs.Given.{StepAnswersExactly}
-use Rattle.refusals.specs.Listed.{NoCodeTwice, TypesAreThese, RegistersFill}
+use Rattle.theorem_refusals.specs.Given.{StepAnswersExactly}
+use Rattle.theorem_refusals.specs.Listed.{NoCodeTwice, TypesAreThese, RegistersFill}
 use Rattle.run.specs.Theorems.{RunStartChangesNothing, AskRefusalChangesNothing, TurnRefusalChangesNothing, NoTurnChangesNothing, WholeRefusalChangesNothing, SealHoldsOverActs, SealHoldsOverActsFromStart}
 use Rattle.run.specs.Statement.{RunsAreRight, OurRunsAreRight, SmallerRunsAreRight, HalvingRunsAreRight}
 use Rattle.run.specs.Whole.{WholeDelivers}
 use Rattle.run.specs.Sheet.{BenchSheet, ProductExample}
-use Rattle.bench_calls.specs.Theorems.{StartRefusalChangesNoByte, StepRefusalChangesNoByte, SealRefusalChangesNoByte, StepPacksWhole}
-use Rattle.run_calls.specs.Theorems.{RunStartRefusalChangesNoByte, NextRefusalChangesNoByte}
-use Rattle.turn_calls.specs.Theorems.{TurnRefusalChangesNoByte, NoTurnChangesNoByte, RunRefusalChangesNoByte}
-use Rattle.image_calls.specs.Theorems.{ImageWriteRefusalChangesNoByte, ImageReadRefusalChangesNoByte, ImageSizePacksWhole, ImageWritePacksWhole, ImageReadPacksWhole}
-use Rattle.salvage_calls.specs.Theorems.{SalvageRefusalChangesNoByte, SalvagePacksWhole, ReportIsReadBack}
-use Rattle.text_calls.specs.Theorems.{WordTextRefusalChangesNoByte, TextWordRefusalChangesNoByte, WordTextPacksWhole, TextWordPacksWhole}
-use Rattle.calls.specs.Composed.{StartCallsAreRight, TurnCallsAreRight, TurnsAreTurnCalls, RunIsTurnCalls, SealHoldsOverCalls, SealHoldsFromStartCall, SealHoldsFromReadCall, SealHoldsFromSealCall, SealCallSeals, StartCallHolds, ReadCallHolds, RangesAreExactOverCalls}
-use Rattle.sealing.specs.Theorems.{RangesAreExact, AddedRangeRefusesOnly}
-use Rattle.transposed.specs.Transposed.{LoadThenStoreTransposes}
-use Rattle.slices.specs.MovedBack.{OutAndBackRestores}
-use Rattle.exact.specs.Exact.{FloatRunsAreExact, WholeRunsAreExact}
-use Rattle.exact.specs.Examples.{TwoTerms}
-use Rattle.decode_table.specs.Table.{TableAgrees, TableDecodes}
-use Rattle.format.specs.Theorems.{NumbersApart, OnePlace, ParserIsRight}
+use Rattle.c_step.specs.Theorems.{StartRefusalChangesNoByte, StepRefusalChangesNoByte, SealRefusalChangesNoByte, StepPacksWhole}
+use Rattle.c_run.specs.Theorems.{RunStartRefusalChangesNoByte, NextRefusalChangesNoByte}
+use Rattle.c_turn.specs.Theorems.{TurnRefusalChangesNoByte, NoTurnChangesNoByte, RunRefusalChangesNoByte}
+use Rattle.c_image.specs.Theorems.{ImageWriteRefusalChangesNoByte, ImageReadRefusalChangesNoByte, ImageSizePacksWhole, ImageWritePacksWhole, ImageReadPacksWhole}
+use Rattle.c_salvage.specs.Theorems.{SalvageRefusalChangesNoByte, SalvagePacksWhole, ReportIsReadBack}
+use Rattle.c_text.specs.Theorems.{WordTextRefusalChangesNoByte, TextWordRefusalChangesNoByte, WordTextPacksWhole, TextWordPacksWhole}
+use Rattle.theorem_calls.specs.Composed.{StartCallsAreRight, TurnCallsAreRight, TurnsAreTurnCalls, RunIsTurnCalls, SealHoldsOverCalls, SealHoldsFromStartCall, SealHoldsFromReadCall, SealHoldsFromSealCall, SealCallSeals, StartCallHolds, ReadCallHolds, RangesAreExactOverCalls}
+use Rattle.unit_sealing.specs.Theorems.{RangesAreExact, AddedRangeRefusesOnly}
+use Rattle.theorem_transposed.specs.Transposed.{LoadThenStoreTransposes}
+use Rattle.unit_slices.specs.MovedBack.{OutAndBackRestores}
+use Rattle.theorem_exact.specs.Exact.{FloatRunsAreExact, WholeRunsAreExact}
+use Rattle.theorem_exact.specs.Examples.{TwoTerms}
+use Rattle.unit_table.specs.Table.{TableAgrees, TableDecodes}
+use Rattle.numbers_format.specs.Theorems.{NumbersApart, OnePlace, ParserIsRight}
 use Rattle.image.specs.Theorems.{AlikeHaveOneImage, OthersNever, RunsAreMaximal, FormatIsImages, ReadIsExact, ReadRefusalChangesNothing, WriteRefusalChangesNothing, ReadMakesItsMachine, SealHoldsFromRead, WrittenIsReadBack, ReadIsWrittenBack}
-use Rattle.salvage.specs.Theorems.{PlaceAsInSix, SalvageIsExact, FreshIsImage, EnoughRoom, SoundUnchanged, CutKeepsBytes, CutPlace, SalvageRefusalChangesNothing}
-use Rattle.assembly.specs.Theorems.{LegalHaveLines, AcceptedHaveLines, LinesAreAccepted, CodesAnswered, LinesAreShort, ReadsBack, ReadsRight, OneWord, WordsRight, WordsReadBack, LinesGoBack}
-use Rattle.powerup.specs.Steps.{StepIgnoresUnmarked, WordsIgnoreUnmarked, GivenWordsIgnoreUnmarked}
-use Rattle.powerup.specs.Runs.{RunStartIgnoresUnmarked, TurnsIgnoreUnmarked, WholeIgnoresUnmarked}
-use Rattle.powerup.specs.PowerUp.{StartsAlike, PowerUpNeverMatters}
-use Rattle.powerup_image.specs.ImagesStay.{ImagesStayEqual, ImagesStayEqualGiven}
-use Rattle.powerup_host.specs.Calls.{CallIgnoresUnmarked, CallsIgnoreUnmarked, ImageWriteIgnoresUnmarked, PowerUpNeverMattersToHosts, PowerUpNeverMattersToReaders}
-use Rattle.handover.specs.Handover.{ReadCallMakesItsMachine, WrittenCallIsReadBack, ReadCallIsWrittenBack, ImagesStayEqualOverCalls, TurnPacksWhole}
+use Rattle.image_salvage.specs.Theorems.{PlaceAsInSix, SalvageIsExact, FreshIsImage, EnoughRoom, SoundUnchanged, CutKeepsBytes, CutPlace, SalvageRefusalChangesNothing}
+use Rattle.text_assembly.specs.Theorems.{LegalHaveLines, AcceptedHaveLines, LinesAreAccepted, CodesAnswered, LinesAreShort, ReadsBack, ReadsRight, OneWord, WordsRight, WordsReadBack, LinesGoBack}
+use Rattle.theorem_powerup.specs.Steps.{StepIgnoresUnmarked, WordsIgnoreUnmarked, GivenWordsIgnoreUnmarked}
+use Rattle.theorem_powerup.specs.Runs.{RunStartIgnoresUnmarked, TurnsIgnoreUnmarked, WholeIgnoresUnmarked}
+use Rattle.theorem_powerup.specs.PowerUp.{StartsAlike, PowerUpNeverMatters}
+use Rattle.theorem_powerup_image.specs.ImagesStay.{ImagesStayEqual, ImagesStayEqualGiven}
+use Rattle.theorem_powerup_calls.specs.Calls.{CallIgnoresUnmarked, CallsIgnoreUnmarked, ImageWriteIgnoresUnmarked, PowerUpNeverMattersToHosts, PowerUpNeverMattersToReaders}
+use Rattle.theorem_handover.specs.Handover.{ReadCallMakesItsMachine, WrittenCallIsReadBack, ReadCallIsWrittenBack, ImagesStayEqualOverCalls, TurnPacksWhole}
 use Rattle.demands.specs.Demand1.{Demand1}
 use Rattle.demands.specs.Demand2.{Demand2}
 use Rattle.demands.specs.Demand3.{Demand3}

@@ -1,7 +1,7 @@
 -- Cells and the registers and marks that they stand for.
-use Rattle.width.proofs.Kit.{_≡_, refl, ap, ap₂, subst, Bool, true, false, cond, List, [], _∷_, none, some, ℕ, zero, suc, _<_, arith, eqb, length, getD}
-use Rattle.width.proofs.Kit.{eqb-true}
-use Rattle.format.specs.Numbers.{ByteString}
+use Rattle.numbers.proofs.Kit.{_≡_, refl, ap, ap₂, subst, Bool, true, false, cond, List, [], _∷_, none, some, ℕ, zero, suc, _<_, arith, eqb, length, getD}
+use Rattle.numbers.proofs.Kit.{eqb-true}
+use Rattle.numbers_format.specs.Numbers.{ByteString}
 use Rattle.image.specs.Cells.{Cell, cell, cellsOf, over, marksOf}
 use Rattle.image.proofs.ImageLaws.{CellsOk}
 

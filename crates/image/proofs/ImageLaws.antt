@@ -1,14 +1,14 @@
 -- The format accepts the bytes of a header that a machine can hold and of runs that fit, and nothing else.
-use Rattle.width.proofs.Kit.{_≡_, refl, sym, ap, ap₂, _∙_, subst, _⊎_, inl, inr, Bool, true, false, cond, not, _&&_, _||_, List, [], _∷_, _++_, map, none}
-use Rattle.width.proofs.Kit.{some, ℕ, zero, suc, _+_, _-_, _*_, _^_, _≤_, _<_, min, arith, eqb, ltb, length, replicate, eqb-true, eqb-false, eq-eqb, ne-eqb}
-use Rattle.width.proofs.Kit.{ltb-true, ltb-false, lt-ltb, le-ltb}
-use Rattle.width.proofs.BlockLaws.{le-or-lt}
+use Rattle.numbers.proofs.Kit.{_≡_, refl, sym, ap, ap₂, _∙_, subst, _⊎_, inl, inr, Bool, true, false, cond, not, _&&_, _||_, List, [], _∷_, _++_, map, none}
+use Rattle.numbers.proofs.Kit.{some, ℕ, zero, suc, _+_, _-_, _*_, _^_, _≤_, _<_, min, arith, eqb, ltb, length, replicate, eqb-true, eqb-false, eq-eqb, ne-eqb}
+use Rattle.numbers.proofs.Kit.{ltb-true, ltb-false, lt-ltb, le-ltb}
+use Rattle.numbers.proofs.BlockLaws.{le-or-lt}
 use Rattle.machine.proofs.TestLaws.{false-true}
-use Rattle.format.specs.Numbers.{span, Among, encode, encodeAll, ByteString}
-use Rattle.format.specs.Formats.{Format, Accepts}
-use Rattle.format.specs.Formats.Format.{number}
-use Rattle.format.specs.Parser.{Live}
-use Rattle.format.proofs.NumberLaws.{among-nonempty}
+use Rattle.numbers_format.specs.Numbers.{span, Among, encode, encodeAll, ByteString}
+use Rattle.numbers_format.specs.Formats.{Format, Accepts}
+use Rattle.numbers_format.specs.Formats.Format.{number}
+use Rattle.numbers_format.specs.Parser.{Live}
+use Rattle.numbers_format.proofs.NumberLaws.{among-nonempty}
 use Rattle.image.specs.Cells.{Cell, widen, join, Run, runs, spread, Fit}
 use Rattle.image.specs.Cells.Run.{run}
 use Rattle.machine.specs.Geometry.{range}

@@ -1,12 +1,12 @@
 -- The theorems of specs/Theorems.antt.
-use Rattle.width.proofs.Kit.{_≡_, refl, sym, ap, ap₂, _∙_, subst, inl, inr, Bool, true, false, cond, List, [], _∷_, _++_, ℕ, _≤_, arith, leb, eqb, length}
-use Rattle.width.proofs.Kit.{take, drop, replicate, length-replicate, take-append-seam, eqb-true, eq-eqb, le-leb}
-use Rattle.format.specs.Numbers.{ByteString}
-use Rattle.format.specs.Formats.{Ends, Accepts, Accepted}
-use Rattle.format.specs.Parser.{Parsed, parse}
-use Rattle.format.specs.Parser.Parsed.{whole, stopped}
-use Rattle.format.specs.Theorems.{Right}
-use Rattle.format.proofs.FormatLaws.{accepts-parse, parser-right, accepts-one, bytes-zeros}
+use Rattle.numbers.proofs.Kit.{_≡_, refl, sym, ap, ap₂, _∙_, subst, inl, inr, Bool, true, false, cond, List, [], _∷_, _++_, ℕ, _≤_, arith, leb, eqb, length}
+use Rattle.numbers.proofs.Kit.{take, drop, replicate, length-replicate, take-append-seam, eqb-true, eq-eqb, le-leb}
+use Rattle.numbers_format.specs.Numbers.{ByteString}
+use Rattle.numbers_format.specs.Formats.{Ends, Accepts, Accepted}
+use Rattle.numbers_format.specs.Parser.{Parsed, parse}
+use Rattle.numbers_format.specs.Parser.Parsed.{whole, stopped}
+use Rattle.numbers_format.specs.Theorems.{Right}
+use Rattle.numbers_format.proofs.FormatLaws.{accepts-parse, parser-right, accepts-one, bytes-zeros}
 use Rattle.machine.specs.declared.Machine.{Machine}
 use Rattle.machine.specs.Geometry.{registerBytes, Bench, benchOf}
 use Rattle.machine.specs.Setting.{chosen}

@@ -1,6 +1,6 @@
 -- Runs and cells: the runs tell the cells, and runs that fit are the runs of the cells that they spell.
-use Rattle.width.proofs.Kit.{_≡_, refl, sym, ap, ap₂, _∙_, subst, List, [], _∷_, _++_, map, none, some, ℕ, zero, suc, _+_, _-_, _*_, _≤_, arith, length}
-use Rattle.width.proofs.Kit.{replicate, length-append, length-replicate, length-map}
+use Rattle.numbers.proofs.Kit.{_≡_, refl, sym, ap, ap₂, _∙_, subst, List, [], _∷_, _++_, map, none, some, ℕ, zero, suc, _+_, _-_, _*_, _≤_, arith, length}
+use Rattle.numbers.proofs.Kit.{replicate, length-append, length-replicate, length-map}
 use Rattle.image.specs.Cells.{Cell, Run, widen, join, runs, spread, Fit}
 use Rattle.image.specs.Cells.Run.{run}
 use Rattle.image.specs.Theorems.{RunsAreMaximal}

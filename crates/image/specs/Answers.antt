@@ -1,5 +1,5 @@
 -- The answers of sizing, writing and reading an image, and their numbers.
-use Rattle.width.specs.Kit.{ℕ}
+use Rattle.numbers.specs.Kit.{ℕ}
 use Rattle.image.specs.declared.Imaged.{Imaged}
 use Rattle.image.specs.declared.Imaged.the-variants.{Done, BadArguments, NoRoom, Damaged}
 

@@ -1,5 +1,5 @@
 -- Register bytes with their marks, and their runs.
-use Rattle.width.specs.Kit.{cond, List, [], _∷_, _++_, map, Option, none, some, ℕ, zero, suc, _+_, _-_, _≤_, _<_, eqb, length, replicate}
+use Rattle.numbers.specs.Kit.{cond, List, [], _∷_, _++_, map, Option, none, some, ℕ, zero, suc, _+_, _-_, _≤_, _<_, eqb, length, replicate}
 
 -- a register byte: the byte if its mark is 1, nothing if not
 abbrev pub Cell : Type 0

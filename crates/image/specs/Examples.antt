@@ -1,7 +1,7 @@
 -- Computed examples of images.
-use Rattle.width.specs.Kit.{_≡_, refl, true, false, List, [], _∷_, _++_, ℕ, take}
-use Rattle.format.specs.Numbers.{groups, encode}
-use Rattle.format.specs.Parser.{isAmong, nonempty, readNumber, parse}
+use Rattle.numbers.specs.Kit.{_≡_, refl, true, false, List, [], _∷_, _++_, ℕ, take}
+use Rattle.numbers_format.specs.Numbers.{groups, encode}
+use Rattle.numbers_format.specs.Parser.{isAmong, nonempty, readNumber, parse}
 use Rattle.image.specs.Cells.{cellsOf, runs}
 use Rattle.image.specs.Cells.Run.{run}
 use Rattle.image.specs.Images.{beyond, log2, headerOf, spelled}

@@ -1,9 +1,9 @@
 -- The format of all images: each number has the range that the numbers before it leave. specs/Theorems.antt says that it accepts exactly
 -- the images of machines that are not at fault.
-use Rattle.width.specs.Kit.{cond, _&&_, List, [], _∷_, ℕ, zero, suc, _+_, _-_, _*_, _^_, min, eqb, ltb}
-use Rattle.format.specs.Numbers.{Interval, span}
-use Rattle.format.specs.Formats.{Format}
-use Rattle.format.specs.Formats.Format.{done, number, bytes}
+use Rattle.numbers.specs.Kit.{cond, _&&_, List, [], _∷_, ℕ, zero, suc, _+_, _-_, _*_, _^_, min, eqb, ltb}
+use Rattle.numbers_format.specs.Numbers.{Interval, span}
+use Rattle.numbers_format.specs.Formats.{Format}
+use Rattle.numbers_format.specs.Formats.Format.{done, number, bytes}
 use Rattle.image.specs.Cells.{Run}
 use Rattle.image.specs.Cells.Run.{run}
 use Rattle.machine.specs.Geometry.{range}

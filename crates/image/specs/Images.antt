@@ -1,6 +1,6 @@
 -- 02, Six: the image of a machine.
-use Rattle.width.specs.Kit.{_≡_, Bool, true, cond, _||_, _&&_, List, [], _∷_, _++_, ℕ, zero, suc, _/_, _^_, ltb, eqb, length}
-use Rattle.format.specs.Numbers.{encode, encodeAll, ByteString}
+use Rattle.numbers.specs.Kit.{_≡_, Bool, true, cond, _||_, _&&_, List, [], _∷_, _++_, ℕ, zero, suc, _/_, _^_, ltb, eqb, length}
+use Rattle.numbers_format.specs.Numbers.{encode, encodeAll, ByteString}
 use Rattle.machine.specs.declared.Machine.{Machine}
 use Rattle.machine.specs.Geometry.{Range}
 use Rattle.machine.specs.Faults.{sound, sealsFit}

@@ -1,7 +1,7 @@
 -- 02, Six: reading an image.
-use Rattle.width.specs.Kit.{Bool, cond, List, [], _∷_, ℕ, eqb, length}
-use Rattle.format.specs.Parser.{Parsed, parse}
-use Rattle.format.specs.Parser.Parsed.{whole, stopped}
+use Rattle.numbers.specs.Kit.{Bool, cond, List, [], _∷_, ℕ, eqb, length}
+use Rattle.numbers_format.specs.Parser.{Parsed, parse}
+use Rattle.numbers_format.specs.Parser.Parsed.{whole, stopped}
 use Rattle.machine.specs.declared.Machine.{Machine}
 use Rattle.machine.specs.Tests.{every}
 use Rattle.machine.specs.Geometry.{registerBytes}

@@ -1,7 +1,7 @@
 -- What is proved of these definitions. The proofs stand in proofs/.
-use Rattle.width.specs.Kit.{_≡_, _⊎_, true, List, _++_, ℕ, _≤_, length, take, drop, getD}
-use Rattle.format.specs.Numbers.{ByteString}
-use Rattle.format.specs.Formats.{Ends, Accepted}
+use Rattle.numbers.specs.Kit.{_≡_, _⊎_, true, List, _++_, ℕ, _≤_, length, take, drop, getD}
+use Rattle.numbers_format.specs.Numbers.{ByteString}
+use Rattle.numbers_format.specs.Formats.{Ends, Accepted}
 use Rattle.machine.specs.declared.Machine.{Machine}
 use Rattle.machine.specs.Geometry.{registerBytes, sealed, Bench, benchOf}
 use Rattle.machine.specs.Setting.{chosen}

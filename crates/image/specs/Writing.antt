@@ -1,5 +1,5 @@
 -- 02, Six: sizing and writing an image.
-use Rattle.width.specs.Kit.{cond, List, _++_, ℕ, leb, length, drop}
+use Rattle.numbers.specs.Kit.{cond, List, _++_, ℕ, leb, length, drop}
 use Rattle.machine.specs.declared.Machine.{Machine}
 use Rattle.image.specs.declared.Imaged.{Imaged}
 use Rattle.image.specs.declared.Imaged.the-variants.{Done, BadArguments, NoRoom}

@@ -1,8 +1,8 @@
 -- What a return of the entry point has to show.
-use Rattle.width.proofs.Kit.{_≡_, refl, sym, ap, _∙_, subst, Bool, true, false, cond, true≢false, List, ℕ, _*_, _^_, eqb, length, eqb-true, eqb-false}
-use Rattle.width.proofs.Kit.{eq-eqb}
-use Rattle.format.specs.Parser.{Parsed}
-use Rattle.format.specs.Parser.Parsed.{whole, stopped}
+use Rattle.numbers.proofs.Kit.{_≡_, refl, sym, ap, _∙_, subst, Bool, true, false, cond, true≢false, List, ℕ, _*_, _^_, eqb, length, eqb-true, eqb-false}
+use Rattle.numbers.proofs.Kit.{eq-eqb}
+use Rattle.numbers_format.specs.Parser.{Parsed}
+use Rattle.numbers_format.specs.Parser.Parsed.{whole, stopped}
 use Rattle.machine.specs.declared.Machine.{Machine}
 use Rattle.image.specs.declared.Imaged.{Imaged}
 use Rattle.image.specs.declared.Imaged.the-variants.{Done, BadArguments, NoRoom, Damaged}

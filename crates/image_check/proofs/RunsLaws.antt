@@ -1,14 +1,14 @@
 -- The runs of an image from a place on, one run at a time.
-use Rattle.width.proofs.Kit.{_≡_, refl, ap, _∙_, subst, Bool, true, false, cond, List, [], _∷_, ℕ, suc, _+_, _-_, _*_, _≤_, _<_, arith, leb, length, take}
-use Rattle.width.proofs.Kit.{drop, leb-true, leb-false}
-use Rattle.format.specs.Numbers.{span}
-use Rattle.format.specs.Formats.{Format}
-use Rattle.format.specs.Formats.Format.{number, bytes}
-use Rattle.format.specs.Parser.{Parsed, from}
-use Rattle.format.specs.Parser.Parsed.{whole, stopped}
-use Rattle.reader.specs.At.{Number, numberAt}
-use Rattle.reader.specs.At.Number.{Value, Fault}
-use Rattle.reader.proofs.FromLaws.{from-number, from-fault, from-bytes, from-short, from-end, from-more, took}
+use Rattle.numbers.proofs.Kit.{_≡_, refl, ap, _∙_, subst, Bool, true, false, cond, List, [], _∷_, ℕ, suc, _+_, _-_, _*_, _≤_, _<_, arith, leb, length, take}
+use Rattle.numbers.proofs.Kit.{drop, leb-true, leb-false}
+use Rattle.numbers_format.specs.Numbers.{span}
+use Rattle.numbers_format.specs.Formats.{Format}
+use Rattle.numbers_format.specs.Formats.Format.{number, bytes}
+use Rattle.numbers_format.specs.Parser.{Parsed, from}
+use Rattle.numbers_format.specs.Parser.Parsed.{whole, stopped}
+use Rattle.numbers_coded.specs.At.{Number, numberAt}
+use Rattle.numbers_coded.specs.At.Number.{Value, Fault}
+use Rattle.numbers_coded.proofs.FromLaws.{from-number, from-fault, from-bytes, from-short, from-end, from-more, took}
 use Rattle.image.specs.declared.Imaged.the-variants.{Done, Damaged}
 use Rattle.image.specs.Cells.{Run}
 use Rattle.image.specs.Cells.Run.{run}

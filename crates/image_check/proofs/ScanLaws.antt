@@ -1,6 +1,6 @@
 -- The loops of a scan: one turn, what they keep, and what the runs that were read say of the image.
-use Rattle.width.proofs.Kit.{_≡_, refl, sym, ap, _∙_, subst, Bool, true, false, cond, List, ℕ, zero, suc, _+_, _-_, _*_, _^_, _≤_, _<_, min, arith, eqb}
-use Rattle.width.proofs.Kit.{ltb, length, lt-ltb, le-ltb, ltb-true, ltb-false, eq-eqb, ne-eqb, eqb-true}
+use Rattle.numbers.proofs.Kit.{_≡_, refl, sym, ap, _∙_, subst, Bool, true, false, cond, List, ℕ, zero, suc, _+_, _-_, _*_, _^_, _≤_, _<_, min, arith, eqb}
+use Rattle.numbers.proofs.Kit.{ltb, length, lt-ltb, le-ltb, ltb-true, ltb-false, eq-eqb, ne-eqb, eqb-true}
 use Rattle.image.specs.declared.Imaged.{Imaged}
 use Rattle.image.specs.declared.Imaged.the-variants.{Done, Damaged}
 use Rattle.image_header.specs.declared.Fields.{Fields}

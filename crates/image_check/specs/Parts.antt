@@ -1,7 +1,7 @@
 -- What the parts of a check find, from a place of the input on.
-use Rattle.width.specs.Kit.{_≡_, Bool, true, false, cond, List, _∷_, ℕ, zero, suc, _+_, _-_, _*_, _^_, _≤_, _<_, min, eqb, leb, ltb, length}
-use Rattle.format.specs.Parser.{from}
-use Rattle.reader.specs.At.{numberAt}
+use Rattle.numbers.specs.Kit.{_≡_, Bool, true, false, cond, List, _∷_, ℕ, zero, suc, _+_, _-_, _*_, _^_, _≤_, _<_, min, eqb, leb, ltb, length}
+use Rattle.numbers_format.specs.Parser.{from}
+use Rattle.numbers_coded.specs.At.{numberAt}
 use Rattle.image.specs.declared.Imaged.{Imaged}
 use Rattle.image.specs.declared.Imaged.the-variants.{Done, BadArguments, NoRoom, Damaged}
 use Rattle.image.specs.Reading.{verdictOf}

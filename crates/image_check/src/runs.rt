@@ -1,6 +1,6 @@
 // The runs of an image.
 use machine::smaller;
-use reader::number_at;
+use numbers_coded::number_at;
 ghost use mathlib.Core.Path.{_≡_};
 ghost use Prim.Native.Nat.{_+_, _*_, _^_, _≤_, _<_};
 ghost use lib.ListN.{length};

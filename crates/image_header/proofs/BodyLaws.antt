@@ -1,11 +1,11 @@
 -- What is built of the runs of an image does not matter to reading them.
-use Rattle.width.proofs.Kit.{_≡_, refl, ap, _∙_, Bool, true, false, List, [], _∷_, ℕ, zero, suc, _+_, _-_, _*_, _≤_, _<_, leb, length, take, drop}
-use Rattle.format.specs.Numbers.{Interval, span}
-use Rattle.format.specs.Formats.{Format}
-use Rattle.format.specs.Formats.Format.{number, bytes}
-use Rattle.format.specs.Parser.{Got, readNumber, Parsed, later, parse, from}
-use Rattle.format.specs.Parser.Got.{value, fault}
-use Rattle.format.specs.Parser.Parsed.{whole, stopped}
+use Rattle.numbers.proofs.Kit.{_≡_, refl, ap, _∙_, Bool, true, false, List, [], _∷_, ℕ, zero, suc, _+_, _-_, _*_, _≤_, _<_, leb, length, take, drop}
+use Rattle.numbers_format.specs.Numbers.{Interval, span}
+use Rattle.numbers_format.specs.Formats.{Format}
+use Rattle.numbers_format.specs.Formats.Format.{number, bytes}
+use Rattle.numbers_format.specs.Parser.{Got, readNumber, Parsed, later, parse, from}
+use Rattle.numbers_format.specs.Parser.Got.{value, fault}
+use Rattle.numbers_format.specs.Parser.Parsed.{whole, stopped}
 use Rattle.image.specs.Cells.{Run}
 use Rattle.image.specs.Cells.Run.{run}
 use Rattle.image.specs.Images.{Header}

@@ -1,14 +1,14 @@
 -- The fields of a header, one after the other: from each on, what is read is what the format has.
-use Rattle.width.proofs.Kit.{_≡_, refl, sym, ap, _∙_, subst, inl, inr, Bool, true, false, cond, List, ℕ, zero, suc, _+_, _-_, _^_, _≤_, _<_, min, arith}
-use Rattle.width.proofs.Kit.{eqb, ltb, length, lt-ltb, le-ltb, ltb-true, eqb-true, ne-eqb}
-use Rattle.format.specs.Numbers.{span, Among}
-use Rattle.format.specs.Formats.{Format}
-use Rattle.format.specs.Formats.Format.{number}
-use Rattle.format.specs.Parser.{parse, from}
-use Rattle.format.specs.Parser.Parsed.{stopped}
-use Rattle.reader.specs.At.{Number, numberAt}
-use Rattle.reader.specs.At.Number.{Value, Fault}
-use Rattle.reader.proofs.FromLaws.{from-number, from-fault, from-value, from-stuck, took, took-in}
+use Rattle.numbers.proofs.Kit.{_≡_, refl, sym, ap, _∙_, subst, inl, inr, Bool, true, false, cond, List, ℕ, zero, suc, _+_, _-_, _^_, _≤_, _<_, min, arith}
+use Rattle.numbers.proofs.Kit.{eqb, ltb, length, lt-ltb, le-ltb, ltb-true, eqb-true, ne-eqb}
+use Rattle.numbers_format.specs.Numbers.{span, Among}
+use Rattle.numbers_format.specs.Formats.{Format}
+use Rattle.numbers_format.specs.Formats.Format.{number}
+use Rattle.numbers_format.specs.Parser.{parse, from}
+use Rattle.numbers_format.specs.Parser.Parsed.{stopped}
+use Rattle.numbers_coded.specs.At.{Number, numberAt}
+use Rattle.numbers_coded.specs.At.Number.{Value, Fault}
+use Rattle.numbers_coded.proofs.FromLaws.{from-number, from-fault, from-value, from-stuck, took, took-in}
 use Rattle.image.specs.Images.{Header}
 use Rattle.image.specs.ImageFormat.{Described, topRlen, topMlen, leastMlen, mtypes, rangesFormat, counts, headFormat, imageFormat}
 use Rattle.image.proofs.ImageLaws.{top-mlen}

@@ -1,18 +1,18 @@
 -- The header of an image, part by part: from what was read at each place to what the parser finds from there on.
-use Rattle.width.proofs.Kit.{_≡_, refl, sym, ap, _∙_, _⊎_, inl, inr, Bool, true, false, cond, _&&_, List, [], _∷_, ℕ, zero, suc, _+_, _-_, _*_, _/_, _^_}
-use Rattle.width.proofs.Kit.{_≤_, _<_, max, arith, leb, ltb, eqb, length, drop, getD, drop-of-length-le, drop-cons, pow-mono, lt-ltb, le-ltb, le-leb}
-use Rattle.width.proofs.Kit.{lt-leb, eq-eqb, ne-eqb}
-use Rattle.width.proofs.BlockLaws.{le-or-lt}
-use Rattle.format.specs.Numbers.{span, Among}
-use Rattle.format.specs.Formats.{Format}
-use Rattle.format.specs.Formats.Format.{number}
-use Rattle.format.specs.Parser.{isAmong, nonempty, grow, readNumber, parse, from}
-use Rattle.format.specs.Parser.Parsed.{stopped}
-use Rattle.format.proofs.NumberLaws.{reads-last, reads-more, read-empty}
+use Rattle.numbers.proofs.Kit.{_≡_, refl, sym, ap, _∙_, _⊎_, inl, inr, Bool, true, false, cond, _&&_, List, [], _∷_, ℕ, zero, suc, _+_, _-_, _*_, _/_, _^_}
+use Rattle.numbers.proofs.Kit.{_≤_, _<_, max, arith, leb, ltb, eqb, length, drop, getD, drop-of-length-le, drop-cons, pow-mono, lt-ltb, le-ltb, le-leb}
+use Rattle.numbers.proofs.Kit.{lt-leb, eq-eqb, ne-eqb}
+use Rattle.numbers.proofs.BlockLaws.{le-or-lt}
+use Rattle.numbers_format.specs.Numbers.{span, Among}
+use Rattle.numbers_format.specs.Formats.{Format}
+use Rattle.numbers_format.specs.Formats.Format.{number}
+use Rattle.numbers_format.specs.Parser.{isAmong, nonempty, grow, readNumber, parse, from}
+use Rattle.numbers_format.specs.Parser.Parsed.{stopped}
+use Rattle.numbers_format.proofs.NumberLaws.{reads-last, reads-more, read-empty}
 use Rattle.machine.specs.declared.Machine.{Machine}
-use Rattle.reader.specs.At.{Number, found, numberAt}
-use Rattle.reader.specs.At.Number.{Value, Fault}
-use Rattle.reader.proofs.FromLaws.{from-number, from-fault, from-start, took}
+use Rattle.numbers_coded.specs.At.{Number, found, numberAt}
+use Rattle.numbers_coded.specs.At.Number.{Value, Fault}
+use Rattle.numbers_coded.proofs.FromLaws.{from-number, from-fault, from-start, took}
 use Rattle.machine.specs.Geometry.{range}
 use Rattle.image.specs.Images.{Seals, Header, machineFrom}
 use Rattle.image.specs.ImageFormat.{Described, leastMlen, mtypes, tilesFormat, rangesFormat, counts, sealsFormat, runsFormat, allRegisterBytes, headFormat, imageFormat}

@@ -1,10 +1,10 @@
 -- The exponents of a header stay some that are permitted, and the row of the next field is there.
-use Rattle.width.proofs.Kit.{_≡_, refl, sym, ap, _∙_, subst, Bool, true, false, cond, List, ℕ, zero, suc, _+_, _-_, _*_, _^_, _≤_, _<_, min, arith, eqb}
-use Rattle.width.proofs.Kit.{ltb, ltb-true, eqb-true}
-use Rattle.reader.specs.declared.Reading.{Reading}
-use Rattle.reader.specs.At.{Number, plain}
-use Rattle.reader.specs.At.Number.{Value, Fault}
-use Rattle.reader.proofs.FromLaws.{good-is, bad-is, took}
+use Rattle.numbers.proofs.Kit.{_≡_, refl, sym, ap, _∙_, subst, Bool, true, false, cond, List, ℕ, zero, suc, _+_, _-_, _*_, _^_, _≤_, _<_, min, arith, eqb}
+use Rattle.numbers.proofs.Kit.{ltb, ltb-true, eqb-true}
+use Rattle.numbers_coded.specs.declared.Reading.{Reading}
+use Rattle.numbers_coded.specs.At.{Number, plain}
+use Rattle.numbers_coded.specs.At.Number.{Value, Fault}
+use Rattle.numbers_coded.proofs.FromLaws.{good-is, bad-is, took}
 use Rattle.image.specs.ImageFormat.{topRlen, topMlen, leastMlen}
 use Rattle.image.proofs.ImageLaws.{top-rlen, top-mlen, least-above}
 use Rattle.image_header.specs.declared.Fields.{Fields}

@@ -1,8 +1,8 @@
 -- What the parts of a header are read as, from a place of the input on.
-use Rattle.width.specs.Kit.{_≡_, true, false, cond, List, [], _∷_, ℕ, zero, suc, _+_, _-_, _*_, _^_, _≤_, _<_, min, eqb, ltb, length, drop}
-use Rattle.format.specs.Parser.{readNumber, Parsed, from}
-use Rattle.reader.specs.At.{Number, found, numberAt}
-use Rattle.reader.specs.At.Number.{Value, Fault}
+use Rattle.numbers.specs.Kit.{_≡_, true, false, cond, List, [], _∷_, ℕ, zero, suc, _+_, _-_, _*_, _^_, _≤_, _<_, min, eqb, ltb, length, drop}
+use Rattle.numbers_format.specs.Parser.{readNumber, Parsed, from}
+use Rattle.numbers_coded.specs.At.{Number, found, numberAt}
+use Rattle.numbers_coded.specs.At.Number.{Value, Fault}
 use Rattle.machine.specs.declared.Machine.{Machine}
 use Rattle.image.specs.Cells.{Run}
 use Rattle.machine.specs.Geometry.{range}

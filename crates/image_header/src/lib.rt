@@ -2,16 +2,16 @@
 // numbers read so far.
 use machine::Machine;
 use machine::smaller;
-use reader::Reading;
-use reader::fault;
-use reader::found;
-use reader::number_at;
-use reader::wide;
+use numbers_coded::Reading;
+use numbers_coded::fault;
+use numbers_coded::found;
+use numbers_coded::number_at;
+use numbers_coded::wide;
 ghost use mathlib.Core.Path.{_≡_};
 ghost use Prim.Native.Nat.{_^_, _≤_, _<_};
 ghost use Rattle.image.specs.ImageFormat.{topRlen, topMlen, leastMlen};
 ghost use Rattle.machine.specs.Starting.{noMachine};
-ghost use Rattle.reader.specs.At.{plain};
+ghost use Rattle.numbers_coded.specs.At.{plain};
 ghost use Rattle.image_header.specs.Fields.{mtypeAt, countAt, plainRange, rangeAt, rangesAt, leastRule, row, rowOf, RowOk, numberIn, putField, after, fieldFrom, firstField, FieldsOk, Ready, rested, machineOf};
 ghost use Rattle.image_header.specs.Fields.Pair.{PairBad};
 

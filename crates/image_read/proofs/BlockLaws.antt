@@ -1,8 +1,8 @@
 -- What a return of the entry point has to show.
-use Rattle.width.proofs.Kit.{_≡_, sym, ap, _∙_, Bool, cond, List, ℕ, length, eq-eqb, ne-eqb}
+use Rattle.numbers.proofs.Kit.{_≡_, sym, ap, _∙_, Bool, cond, List, ℕ, length, eq-eqb, ne-eqb}
 use Rattle.machine.specs.declared.Machine.{Machine}
 use Rattle.machine.specs.Starting.{noMachine}
-use Rattle.ranges.specs.Ranges.{blockBytes, putSeals}
+use Rattle.unit_ranges.specs.Ranges.{blockBytes, putSeals}
 use Rattle.image.specs.declared.Imaged.{Imaged}
 use Rattle.image.specs.Reading.{ReadOutcome, checkImage, readImage}
 use Rattle.image_header.specs.Fields.{rangesFound}

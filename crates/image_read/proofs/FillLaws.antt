@@ -1,11 +1,11 @@
 -- Filling runs into lent registers and marks, run by run.
-use Rattle.width.proofs.Kit.{_≡_, refl, sym, ap, ap₂, _∙_, subst, Bool, true, false, List, [], _∷_, _++_, map, append-assoc, none, some, ℕ, zero, suc, _+_}
-use Rattle.width.proofs.Kit.{_-_, _≤_, arith, ltb, length, take, drop, replicate, length-append, length-drop, length-replicate, take-append-drop, sets}
-use Rattle.width.proofs.Kit.{sets-eq, length-sets, drop-drop, take-add, take-at, drop-at, length-take-le, ltb-true, ltb-false}
-use Rattle.format.specs.Formats.Format.{done}
-use Rattle.format.specs.Parser.{Parsed, from}
-use Rattle.format.specs.Parser.Parsed.{whole, stopped}
-use Rattle.reader.proofs.FromLaws.{from-end, from-more}
+use Rattle.numbers.proofs.Kit.{_≡_, refl, sym, ap, ap₂, _∙_, subst, Bool, true, false, List, [], _∷_, _++_, map, append-assoc, none, some, ℕ, zero, suc, _+_}
+use Rattle.numbers.proofs.Kit.{_-_, _≤_, arith, ltb, length, take, drop, replicate, length-append, length-drop, length-replicate, take-append-drop, sets}
+use Rattle.numbers.proofs.Kit.{sets-eq, length-sets, drop-drop, take-add, take-at, drop-at, length-take-le, ltb-true, ltb-false}
+use Rattle.numbers_format.specs.Formats.Format.{done}
+use Rattle.numbers_format.specs.Parser.{Parsed, from}
+use Rattle.numbers_format.specs.Parser.Parsed.{whole, stopped}
+use Rattle.numbers_coded.proofs.FromLaws.{from-end, from-more}
 use Rattle.image.specs.Cells.{Cell, Run, spread, Fit, over, marksOf}
 use Rattle.image.specs.Cells.Run.{run}
 use Rattle.image.specs.declared.Imaged.the-variants.{Done, Damaged}

@@ -1,5 +1,5 @@
 -- Setting marks one after the other.
-use Rattle.width.proofs.Kit.{_≡_, ap, _∙_, List, ℕ, suc, _+_, _-_, _≤_, _<_, arith, set, replicate, sets}
+use Rattle.numbers.proofs.Kit.{_≡_, ap, _∙_, List, ℕ, suc, _+_, _-_, _≤_, _<_, arith, set, replicate, sets}
 
 module _ (xs : List ℕ) (at n v : ℕ) where
   pub marks-start : (i : ℕ) → i ≡ 0 → sets xs (at + i) (replicate (n - i) v) ≡ sets xs at (replicate n v)

@@ -1,11 +1,11 @@
 -- What a return of the entry points has to show.
-use Rattle.width.proofs.Kit.{_≡_, refl, sym, ap, ap₂, _∙_, subst, true, false, true≢false, List, [], _∷_, _++_, append-nil, ℕ, suc, _+_, _*_, _<_, arith}
-use Rattle.width.proofs.Kit.{length, getD, replicate, length-replicate, drop-of-length-le, sets, sets-eq}
-use Rattle.format.specs.Numbers.{ByteString}
-use Rattle.format.specs.Formats.{Accepts}
-use Rattle.format.specs.Parser.{Parsed, parse}
-use Rattle.format.specs.Parser.Parsed.{whole, stopped}
-use Rattle.format.proofs.FormatLaws.{ParseRight, parse-right}
+use Rattle.numbers.proofs.Kit.{_≡_, refl, sym, ap, ap₂, _∙_, subst, true, false, true≢false, List, [], _∷_, _++_, append-nil, ℕ, suc, _+_, _*_, _<_, arith}
+use Rattle.numbers.proofs.Kit.{length, getD, replicate, length-replicate, drop-of-length-le, sets, sets-eq}
+use Rattle.numbers_format.specs.Numbers.{ByteString}
+use Rattle.numbers_format.specs.Formats.{Accepts}
+use Rattle.numbers_format.specs.Parser.{Parsed, parse}
+use Rattle.numbers_format.specs.Parser.Parsed.{whole, stopped}
+use Rattle.numbers_format.proofs.FormatLaws.{ParseRight, parse-right}
 use Rattle.machine.specs.declared.Machine.{Machine}
 use Rattle.machine.specs.Starting.{noMachine}
 use Rattle.image.specs.declared.Imaged.{Imaged}

@@ -1,12 +1,12 @@
 -- The ranges of an image into a block: one at a time.
-use Rattle.width.proofs.Kit.{_≡_, refl, sym, ap, ap₂, _∙_, subst, List, [], _∷_, ℕ, zero, suc, _+_, _-_, _≤_, _<_, arith, length, getD}
-use Rattle.width.proofs.Kit.{List·getD-eq-default}
-use Rattle.width.specs.Upto.{upto}
-use Rattle.width.proofs.UptoLaws.{upto-cong}
-use Rattle.width.proofs.PutLaws.{upto-add}
-use Rattle.width.specs.Tile.{putLe}
+use Rattle.numbers.proofs.Kit.{_≡_, refl, sym, ap, ap₂, _∙_, subst, List, [], _∷_, ℕ, zero, suc, _+_, _-_, _≤_, _<_, arith, length, getD}
+use Rattle.numbers.proofs.Kit.{List·getD-eq-default}
+use Rattle.numbers.specs.Upto.{upto}
+use Rattle.numbers.proofs.UptoLaws.{upto-cong}
+use Rattle.numbers.proofs.PutLaws.{upto-add}
+use Rattle.numbers.specs.Tile.{putLe}
 use Rattle.machine.specs.Geometry.{Range, range}
-use Rattle.ranges.specs.Ranges.{putRange, putSeals}
+use Rattle.unit_ranges.specs.Ranges.{putRange, putSeals}
 use Rattle.image.specs.Images.{Seals}
 use Rattle.image_header.specs.Fields.Pair.{Both, PairBad}
 use Rattle.image_header.specs.Fields.Place.{PlaceBad}

@@ -1,8 +1,8 @@
 -- Reading an image into a machine's block, its registers and its marks.
-use Rattle.width.specs.Kit.{cond, List, ℕ, eqb, length}
+use Rattle.numbers.specs.Kit.{cond, List, ℕ, eqb, length}
 use Rattle.machine.specs.declared.Machine.{Machine}
 use Rattle.machine.specs.Starting.{noMachine}
-use Rattle.ranges.specs.Ranges.{blockBytes, putSeals}
+use Rattle.unit_ranges.specs.Ranges.{blockBytes, putSeals}
 use Rattle.image.specs.declared.Imaged.{Imaged}
 use Rattle.image.specs.declared.Imaged.the-variants.{Done, BadArguments, NoRoom, Damaged}
 use Rattle.image.specs.declared.Restored.{Restored}

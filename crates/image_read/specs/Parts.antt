@@ -1,8 +1,8 @@
 -- What the parts of a read leave.
-use Rattle.width.specs.Kit.{List, [], _∷_, ℕ, suc, _≤_, length, replicate}
-use Rattle.format.specs.Parser.{Parsed}
-use Rattle.format.specs.Parser.Parsed.{whole, stopped}
-use Rattle.ranges.specs.Ranges.{putRange}
+use Rattle.numbers.specs.Kit.{List, [], _∷_, ℕ, suc, _≤_, length, replicate}
+use Rattle.numbers_format.specs.Parser.{Parsed}
+use Rattle.numbers_format.specs.Parser.Parsed.{whole, stopped}
+use Rattle.unit_ranges.specs.Ranges.{putRange}
 use Rattle.image.specs.Cells.{Run}
 use Rattle.image.specs.Cells.Run.{run}
 use Rattle.image.specs.Images.{Seals}

@@ -1,6 +1,6 @@
 // The runs of an image into registers and marks.
 use image_check::runs::next_run;
-use reader::copy_bytes;
+use numbers_coded::copy_bytes;
 ghost use mathlib.Core.Path.{_≡_};
 ghost use Prim.Native.Nat.{_+_, _*_, _^_, _≤_, _<_};
 ghost use lib.ListN.{length, replicate};

@@ -95,7 +95,7 @@ pub fn read_image(
     ensures { λ r. ⌜ restoredAs r (now (block .exit)) (now (registers .exit)) (now (marks .exit))
         ≡ readBlock (now (image .entry)) (now (block .entry)) (now (registers .entry)) (now (marks .entry)) ⌝ }
 {
-    if block.len() != ranges::BLOCK_BYTES {
+    if block.len() != unit_ranges::BLOCK_BYTES {
         let verdict = check_image(image);
         return Restored {
             answer: block_refused(verdict),

@@ -1,11 +1,11 @@
 // The ranges of an image into a machine's block.
-use element::write8;
 use image_header::range_at;
-use ranges::clear_slots;
-use ranges::put_range;
+use unit_element::write8;
+use unit_ranges::clear_slots;
+use unit_ranges::put_range;
 ghost use mathlib.Core.Path.{_≡_};
 ghost use lib.ListN.{length};
-ghost use Rattle.ranges.specs.Ranges.{blockBytes, putSeals};
+ghost use Rattle.unit_ranges.specs.Ranges.{blockBytes, putSeals};
 ghost use Rattle.image_header.specs.Fields.{rangesFound};
 ghost use Rattle.image_read.specs.Parts.{Stand, putRanges};
 

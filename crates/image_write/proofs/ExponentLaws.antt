@@ -1,5 +1,5 @@
 -- Halving a number of 64 bits until it is 1.
-use Rattle.width.proofs.Kit.{_≡_, refl, ap, _∙_, subst, ℕ, zero, suc, _+_, _-_, _*_, _/_, _^_, _≤_, _<_, pow-suc, arith, lt-ltb, le-ltb}
+use Rattle.numbers.proofs.Kit.{_≡_, refl, ap, _∙_, subst, ℕ, zero, suc, _+_, _-_, _*_, _/_, _^_, _≤_, _<_, pow-suc, arith, lt-ltb, le-ltb}
 use Rattle.image.specs.Images.{log2}
 
 pub halved-none : (f x : ℕ) → x < 2 → log2 f x ≡ 0

@@ -1,14 +1,14 @@
 -- Finding the runs of marked bytes, one after the other.
-use Rattle.width.proofs.Kit.{_≡_, refl, sym, ap, ap₂, _∙_, subst, _⊎_, inl, inr, List, [], _∷_, _++_, map, append-nil, none, some, ℕ, zero, suc, _+_, _-_}
-use Rattle.width.proofs.Kit.{_^_, _≤_, _<_, arith, length, take, drop, getD, replicate, length-drop, drop-of-length-le, length-append, getD-drop, drop-drop}
-use Rattle.width.proofs.Kit.{length-take-le}
-use Rattle.width.proofs.BlockLaws.{le-or-lt}
-use Rattle.format.specs.Numbers.{encode}
+use Rattle.numbers.proofs.Kit.{_≡_, refl, sym, ap, ap₂, _∙_, subst, _⊎_, inl, inr, List, [], _∷_, _++_, map, append-nil, none, some, ℕ, zero, suc, _+_, _-_}
+use Rattle.numbers.proofs.Kit.{_^_, _≤_, _<_, arith, length, take, drop, getD, replicate, length-drop, drop-of-length-le, length-append, getD-drop, drop-drop}
+use Rattle.numbers.proofs.Kit.{length-take-le}
+use Rattle.numbers.proofs.BlockLaws.{le-or-lt}
+use Rattle.numbers_format.specs.Numbers.{encode}
 use Rattle.image.specs.Cells.{Cell, cell, cellsOf, Run, widen, runs, Fit}
 use Rattle.image.specs.Cells.Run.{run}
 use Rattle.image.specs.Images.{runsBytes}
 use Rattle.image.proofs.RunLaws.{runs-gap, runs-body, runs-none, fit-runs}
-use Rattle.reader.proofs.SizeLaws.{size-bound}
+use Rattle.numbers_coded.proofs.SizeLaws.{size-bound}
 use Rattle.image_write.specs.Parts.{Stretch}
 use Rattle.image_write.proofs.StretchLaws.{below}
 

@@ -1,13 +1,13 @@
 -- The ranges in a block as numbers, and the parts of a header.
-use Rattle.width.proofs.Kit.{_≡_, refl, sym, ap, ap₂, _∙_, Bool, true, false, cond, List, [], _∷_, _++_, append-nil, ℕ, zero, suc, _+_, _*_, _≤_, _<_}
-use Rattle.width.proofs.Kit.{arith, eqb, length, take, set, length-append, length-set, eq-eqb, ne-eqb}
-use Rattle.width.specs.Tile.{getLe}
-use Rattle.format.specs.Numbers.{encode, encodeAll}
+use Rattle.numbers.proofs.Kit.{_≡_, refl, sym, ap, ap₂, _∙_, Bool, true, false, cond, List, [], _∷_, _++_, append-nil, ℕ, zero, suc, _+_, _*_, _≤_, _<_}
+use Rattle.numbers.proofs.Kit.{arith, eqb, length, take, set, length-append, length-set, eq-eqb, ne-eqb}
+use Rattle.numbers.specs.Tile.{getLe}
+use Rattle.numbers_format.specs.Numbers.{encode, encodeAll}
 use Rattle.machine.specs.declared.Machine.{Machine}
 use Rattle.machine.specs.Geometry.{Range, range}
 use Rattle.machine.specs.Faults.{sealsFit}
-use Rattle.ranges.specs.Ranges.{blockBytes, slotAt, countIn, rangeAt, firstRanges, sealsIn}
-use Rattle.ranges.proofs.RangeLaws.{held, length-first}
+use Rattle.unit_ranges.specs.Ranges.{blockBytes, slotAt, countIn, rangeAt, firstRanges, sealsIn}
+use Rattle.unit_ranges.proofs.RangeLaws.{held, length-first}
 use Rattle.image.specs.Images.{Seals, bounds, sealFields, fields, headerOf}
 use Rattle.image_write.specs.Parts.{plainFields, countField}
 use Rattle.image_write.proofs.PutLaws.{all-append, all-last}

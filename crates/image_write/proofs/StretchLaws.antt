@@ -1,9 +1,9 @@
 -- Stretches of marks that all have one value.
-use Rattle.width.proofs.Kit.{_≡_, _∙_, subst, _⊎_, inl, inr, Bool, true, false, List, ℕ, _+_, _-_, _≤_, _<_, arith, eqb, getD, eqb-true, eq-eqb, ne-eqb}
-use Rattle.width.proofs.BlockLaws.{le-or-lt}
+use Rattle.numbers.proofs.Kit.{_≡_, _∙_, subst, _⊎_, inl, inr, Bool, true, false, List, ℕ, _+_, _-_, _≤_, _<_, arith, eqb, getD, eqb-true, eq-eqb, ne-eqb}
+use Rattle.numbers.proofs.BlockLaws.{le-or-lt}
 use Rattle.machine.specs.Tests.{all}
 use Rattle.machine.proofs.TestLaws.{all-at}
-use Rattle.address.proofs.TestLaws.{all-same, all-not}
+use Rattle.unit_address.proofs.TestLaws.{all-same, all-not}
 
 module _ (ms : List ℕ) (p i value : ℕ) where
   pub block-bad : ¬ (getD ms (p + i) 0 ≡ value) → false ≡ all (i + 1) (λ b. eqb (getD ms (p + b) 0) value)

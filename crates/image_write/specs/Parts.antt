@@ -1,5 +1,5 @@
 -- What the parts of a write find.
-use Rattle.width.specs.Kit.{_≡_, cond, List, [], _∷_, ℕ, _*_, _≤_, _<_, eqb, length, getD}
+use Rattle.numbers.specs.Kit.{_≡_, cond, List, [], _∷_, ℕ, _*_, _≤_, _<_, eqb, length, getD}
 use Rattle.image.specs.Cells.{runs, cellsOf}
 use Rattle.image.specs.Images.{Header, runsBytes}
 

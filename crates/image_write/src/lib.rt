@@ -4,29 +4,29 @@ use image::Imaged;
 use image::Sized;
 use image::Written;
 use machine::Machine;
-use numbers::numbers_size;
-use numbers::put_numbers;
-use ranges::count_of;
-use reader::put_number;
+use numbers_coded::put_number;
 use runs::put_runs;
 use runs::tally_of;
 use seals::put_seals;
 use seals::seals_size;
+use several::numbers_size;
+use several::put_numbers;
+use unit_ranges::count_of;
 ghost use mathlib.Core.Path.{_≡_};
 ghost use mathlib.Core.Bool.{true};
 ghost use mathlib.Core.List.{[], _∷_, _++_};
 ghost use Prim.Native.Nat.{_+_, _≤_, _<_};
 ghost use lib.ListN.{length, take};
 ghost use lib.Seq.{sets};
-ghost use Rattle.format.specs.Numbers.{encodeAll};
+ghost use Rattle.numbers_format.specs.Numbers.{encodeAll};
 ghost use Rattle.machine.specs.Faults.{sealsFit};
-ghost use Rattle.ranges.specs.Ranges.{sealsIn};
+ghost use Rattle.unit_ranges.specs.Ranges.{sealsIn};
 ghost use Rattle.image.specs.Cells.{cellsOf, runs};
 ghost use Rattle.image.specs.Images.{exponent, beyond, version, fields, headerOf, imageOf, soundWith};
 ghost use Rattle.image.specs.Writing.{sizeImage, sizedAs, writeImage, writtenAs};
 ghost use Rattle.image_write.specs.Parts.{plainFields};
 
-mod numbers; // several numbers
+mod several; // several numbers
 mod runs; // the runs of marked bytes
 mod seals; // the sealed ranges
 mod stretch; // marks of one value
@@ -210,7 +210,7 @@ fn put_image(m: Machine, block: &[u8], count: u64, registers: &[u8], marks: &[u8
 pub fn image_size(m: Machine, block: &[u8], registers: &[u8], marks: &[u8]) -> Sized
     ensures { λ r. ⌜ sizedAs r ≡ sizeImage m (sealsIn (now (block .entry))) (now (registers .entry)) (now (marks .entry)) ⌝ }
 {
-    if !settings::faults::is_sound(m, block, registers, marks) {
+    if !unit_settings::faults::is_sound(m, block, registers, marks) {
         return Sized {
             answer: Imaged::BadArguments,
             size: 0,
@@ -233,7 +233,7 @@ pub fn write_image(
 ) -> Written
     ensures { λ r. ⌜ writtenAs r (now (room .exit)) ≡ writeImage m (sealsIn (now (block .entry))) (now (registers .entry)) (now (marks .entry)) (now (room .entry)) ⌝ }
 {
-    if !settings::faults::is_sound(m, block, registers, marks) {
+    if !unit_settings::faults::is_sound(m, block, registers, marks) {
         return Written {
             answer: Imaged::BadArguments,
             length: 0,

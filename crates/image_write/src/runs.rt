@@ -1,8 +1,8 @@
 // The runs of marked bytes: their number and size, and their bytes.
 use crate::stretch::stretch_end;
-use reader::copy_bytes;
-use reader::number_size;
-use reader::put_number;
+use numbers_coded::copy_bytes;
+use numbers_coded::number_size;
+use numbers_coded::put_number;
 ghost use mathlib.Core.Path.{_≡_};
 ghost use Prim.Native.Nat.{_+_, _^_, _≤_, _<_};
 ghost use lib.ListN.{length};

@@ -1,19 +1,19 @@
 // The sealed ranges in a machine's block, as numbers of an image.
-use crate::numbers::numbers_size;
-use crate::numbers::put_numbers;
-use element::read8;
-use ranges::count_of;
-use ranges::slot_at;
-use reader::put_number;
+use crate::several::numbers_size;
+use crate::several::put_numbers;
+use numbers_coded::put_number;
+use unit_element::read8;
+use unit_ranges::count_of;
+use unit_ranges::slot_at;
 ghost use mathlib.Core.Path.{_≡_};
 ghost use mathlib.Core.Bool.{true};
 ghost use mathlib.Core.List.{[]};
 ghost use Prim.Native.Nat.{_+_, _*_, _≤_};
 ghost use lib.ListN.{length, take};
 ghost use lib.Seq.{sets};
-ghost use Rattle.format.specs.Numbers.{encodeAll};
+ghost use Rattle.numbers_format.specs.Numbers.{encodeAll};
 ghost use Rattle.machine.specs.Faults.{sealsFit};
-ghost use Rattle.ranges.specs.Ranges.{countIn, sealsIn};
+ghost use Rattle.unit_ranges.specs.Ranges.{countIn, sealsIn};
 ghost use Rattle.image.specs.Images.{bounds, sealFields};
 ghost use Rattle.image_write.specs.Parts.{countField};
 

@@ -1,5 +1,5 @@
 -- The numbers of the answers.
-use Rattle.width.proofs.Kit.{_^_, _<_, arith}
+use Rattle.numbers.proofs.Kit.{_^_, _<_, arith}
 use Rattle.machine.specs.declared.Answer.{Answer}
 use Rattle.machine.specs.declared.Answer.the-variants.{Done, IllegalWord, IllegalType, BadWidth, TileTooLarge, Unwritten, OutsideMemory, SealedByte, BadArguments, Overlap, WrongOpcode, LeftOutWord, WrongRegister, RowsOverlap, TooManySeals}
 use Rattle.machine.specs.Answers.{number}

@@ -1,6 +1,6 @@
 -- A verdict of Done means that every check passed; and what the check of the marks answers.
-use Rattle.width.proofs.Kit.{_≡_, refl, subst, Bool, true, false, cond, not, _&&_, List, [], _∷_, ℕ, _+_, _*_, _<_, mul-le-mul-right, arith, eqb, getD}
-use Rattle.width.proofs.Kit.{eq-eqb, ne-eqb}
+use Rattle.numbers.proofs.Kit.{_≡_, refl, subst, Bool, true, false, cond, not, _&&_, List, [], _∷_, ℕ, _+_, _*_, _<_, mul-le-mul-right, arith, eqb, getD}
+use Rattle.numbers.proofs.Kit.{eq-eqb, ne-eqb}
 use Rattle.machine.specs.declared.Answer.the-variants.{Done}
 use Rattle.machine.specs.Tests.{all}
 use Rattle.machine.proofs.TestLaws.{and-left, and-right, all-true, all-false, first-is, false-true}

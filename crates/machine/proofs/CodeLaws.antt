@@ -1,8 +1,8 @@
 -- For code: the verdict of checks made in parts, the outcome of an instruction from its parts, and bounds of what is decoded.
-use Rattle.width.proofs.Kit.{_≡_, refl, sym, ap, ap₂, _∙_, Bool, true, false, cond, not, _&&_, List, [], _∷_, _++_, ℕ, _^_, _≤_, arith, ltb, eqb, eqb-true}
-use Rattle.width.proofs.Kit.{ltb-true, ltb-false, lt-ltb, ne-eqb}
-use Rattle.width.specs.Blocks.{Choice}
-use Rattle.width.specs.Bounds.{mostElen}
+use Rattle.numbers.proofs.Kit.{_≡_, refl, sym, ap, ap₂, _∙_, Bool, true, false, cond, not, _&&_, List, [], _∷_, _++_, ℕ, _^_, _≤_, arith, ltb, eqb, eqb-true}
+use Rattle.numbers.proofs.Kit.{ltb-true, ltb-false, lt-ltb, ne-eqb}
+use Rattle.numbers.specs.Blocks.{Choice}
+use Rattle.numbers.specs.Bounds.{mostElen}
 use Rattle.machine.specs.declared.Machine.{Machine}
 use Rattle.machine.specs.declared.Answer.{Answer}
 use Rattle.machine.specs.declared.Answer.the-variants.{Done, IllegalWord, IllegalType, BadWidth, TileTooLarge, Unwritten, OutsideMemory, SealedByte, BadArguments, Overlap, WrongOpcode, LeftOutWord, WrongRegister, RowsOverlap, TooManySeals}

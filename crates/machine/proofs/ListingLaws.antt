@@ -1,5 +1,5 @@
 -- No word has the bits of two entries of section 4.5, ours or others.
-use Rattle.width.proofs.Kit.{_≡_, refl, sym, _∙_, Bool, true, false, not, _&&_, _||_, List, [], _∷_, ℕ, eqb, eqb-true, eqb-false, not-true}
+use Rattle.numbers.proofs.Kit.{_≡_, refl, sym, _∙_, Bool, true, false, not, _&&_, _||_, List, [], _∷_, ℕ, eqb, eqb-true, eqb-false, not-true}
 use Rattle.machine.proofs.TestLaws.{and-left, and-right, or-not, false-true}
 use Rattle.machine.specs.Listing.{bits, Fixed, Code, Row, has, listing, others}
 

@@ -1,5 +1,5 @@
 -- A `match` on a number, against a list that the number is in or not.
-use Rattle.width.proofs.Kit.{_≡_, refl, sym, _∙_, inl, inr, Bool, true, false, _||_, List, [], _∷_, ℕ, eqb, eq-eqb, eqb-true}
+use Rattle.numbers.proofs.Kit.{_≡_, refl, sym, _∙_, inl, inr, Bool, true, false, _||_, List, [], _∷_, ℕ, eqb, eq-eqb, eqb-true}
 use types.Run.{OneOf}
 use Rattle.machine.specs.Tests.{isIn}
 use Rattle.machine.proofs.TestLaws.{or-right, or-not, false-true}

@@ -1,10 +1,10 @@
 -- Rows of bytes in memory: the tests on bytes against tests on whole rows, and the rows of a block of a matrix.
-use Rattle.width.proofs.Kit.{_≡_, refl, sym, ap, _∙_, subst, _⊎_, inl, inr, Bool, true, false, not, _||_, ℕ, zero, suc, _+_, _*_, _-_, _≤_, _<_, add-mul}
-use Rattle.width.proofs.Kit.{not-suc-le-zero, arith, leb, ltb, eqb, ℤ, pos, negsuc, negℤ, _+ℤ_, _*ℤ_, +ℤ-assoc, +ℤ-comm, negℤ-+ℤ, ltb-true, leb-true}
-use Rattle.width.proofs.Kit.{le-leb, lt-ltb, le-ltb, eqb-true, eqb-false, leb-false}
-use Rattle.width.specs.Reduce.{signed}
-use Rattle.width.specs.Tile.{In}
-use Rattle.width.proofs.BlockLaws.{le-or-lt}
+use Rattle.numbers.proofs.Kit.{_≡_, refl, sym, ap, _∙_, subst, _⊎_, inl, inr, Bool, true, false, not, _||_, ℕ, zero, suc, _+_, _*_, _-_, _≤_, _<_, add-mul}
+use Rattle.numbers.proofs.Kit.{not-suc-le-zero, arith, leb, ltb, eqb, ℤ, pos, negsuc, negℤ, _+ℤ_, _*ℤ_, +ℤ-assoc, +ℤ-comm, negℤ-+ℤ, ltb-true, leb-true}
+use Rattle.numbers.proofs.Kit.{le-leb, lt-ltb, le-ltb, eqb-true, eqb-false, leb-false}
+use Rattle.numbers.specs.Reduce.{signed}
+use Rattle.numbers.specs.Tile.{In}
+use Rattle.numbers.proofs.BlockLaws.{le-or-lt}
 use Rattle.machine.specs.Tests.{all, within}
 use Rattle.machine.proofs.TestLaws.{all-true, all-at, or-not, false-true, same-test, within-not, not-within}
 use Rattle.machine.specs.Memory.{rowZ, rowAt, address, inMemory, inside, misses, rowsMiss}

@@ -1,12 +1,12 @@
 -- A step of a machine that is not at fault leaves one that is not at fault; and so does a start.
-use Rattle.width.proofs.Kit.{_≡_, refl, sym, ap, _∙_, subst, inl, inr, Bool, true, false, cond, List, [], _∷_, _++_, ℕ, zero, suc, _+_, _*_, _-_, _/_, _^_}
-use Rattle.width.proofs.Kit.{_≤_, _<_, min, div-le-self, arith, ℕ-discrete, leb, ltb, eqb, length, getD, set, length-set, List·getD-eq-default, replicate}
-use Rattle.width.proofs.Kit.{length-replicate, length-append, getD-set-same, getD-set-other, le-leb, lt-ltb, eq-eqb, leb-true, ltb-true, eqb-true}
-use Rattle.width.proofs.UptoLaws.{upto-keeps}
-use Rattle.width.specs.Tile.{markTile, markRow}
-use Rattle.width.proofs.TileLaws.{length-putTile, length-markTile}
-use Rattle.width.specs.Blocks.{Choice, Grants, EachGrants}
-use Rattle.width.proofs.BlockLaws.{le-or-lt, at-most}
+use Rattle.numbers.proofs.Kit.{_≡_, refl, sym, ap, _∙_, subst, inl, inr, Bool, true, false, cond, List, [], _∷_, _++_, ℕ, zero, suc, _+_, _*_, _-_, _/_, _^_}
+use Rattle.numbers.proofs.Kit.{_≤_, _<_, min, div-le-self, arith, ℕ-discrete, leb, ltb, eqb, length, getD, set, length-set, List·getD-eq-default, replicate}
+use Rattle.numbers.proofs.Kit.{length-replicate, length-append, getD-set-same, getD-set-other, le-leb, lt-ltb, eq-eqb, leb-true, ltb-true, eqb-true}
+use Rattle.numbers.proofs.UptoLaws.{upto-keeps}
+use Rattle.numbers.specs.Tile.{markTile, markRow}
+use Rattle.numbers.proofs.TileLaws.{length-putTile, length-markTile}
+use Rattle.numbers.specs.Blocks.{Choice, Grants, EachGrants}
+use Rattle.numbers.proofs.BlockLaws.{le-or-lt, at-most}
 use Rattle.machine.specs.declared.Machine.{Machine}
 use Rattle.machine.specs.declared.Dimension.the-variants.{DimensionM, DimensionK, DimensionN}
 use Rattle.machine.specs.declared.Instruction.{Instruction}

@@ -1,6 +1,6 @@
 -- Demand 1: a refusal changes nothing lent or held, for every state and every word; and so of a start.
-use Rattle.width.proofs.Kit.{_≡_, refl, ap, _∙_, Bool, true, false, cond, List, ℕ, length, replicate, eqb-true}
-use Rattle.width.specs.Blocks.{Choice}
+use Rattle.numbers.proofs.Kit.{_≡_, refl, ap, _∙_, Bool, true, false, cond, List, ℕ, length, replicate, eqb-true}
+use Rattle.numbers.specs.Blocks.{Choice}
 use Rattle.machine.specs.declared.Answer.the-variants.{BadArguments}
 use Rattle.machine.specs.declared.Answer.{Answer}
 use Rattle.machine.specs.declared.Reply.{Reply}

@@ -1,7 +1,7 @@
 -- Demand 2: over any list of words, each with its scalars, no sealed byte of memory changes, and the seal stays.
-use Rattle.width.proofs.Kit.{_≡_, refl, sym, ap, _∙_, subst, Bool, true, false, cond, _||_, List, [], _∷_, _++_, append-nil, append-assoc, ℕ, eqb, length}
-use Rattle.width.proofs.Kit.{getD}
-use Rattle.width.specs.Blocks.{Choice}
+use Rattle.numbers.proofs.Kit.{_≡_, refl, sym, ap, _∙_, subst, Bool, true, false, cond, _||_, List, [], _∷_, _++_, append-nil, append-assoc, ℕ, eqb, length}
+use Rattle.numbers.proofs.Kit.{getD}
+use Rattle.numbers.specs.Blocks.{Choice}
 use Rattle.machine.specs.declared.Answer.the-variants.{Done, BadArguments}
 use Rattle.machine.specs.declared.Instruction.{Instruction}
 use Rattle.machine.specs.Tests.{within}

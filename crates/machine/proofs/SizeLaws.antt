@@ -1,7 +1,7 @@
 -- The choice of sizes: both rules keep the draft's three constraints; and, for code, how a size is reckoned.
-use Rattle.width.proofs.Kit.{_≡_, refl, Bool, true, false, cond, _&&_, ℕ, _+_, _-_, _*_, _/_, _≤_, _<_, min, arith, ltb, eqb, ltb-true, ltb-false, lt-ltb}
-use Rattle.width.proofs.Kit.{le-ltb}
-use Rattle.width.specs.Blocks.{Grants}
+use Rattle.numbers.proofs.Kit.{_≡_, refl, Bool, true, false, cond, _&&_, ℕ, _+_, _-_, _*_, _/_, _≤_, _<_, min, arith, ltb, eqb, ltb-true, ltb-false, lt-ltb}
+use Rattle.numbers.proofs.Kit.{le-ltb}
+use Rattle.numbers.specs.Blocks.{Grants}
 use Rattle.machine.proofs.TestLaws.{same-test}
 use Rattle.machine.specs.Setting.{smaller, halving, chosen}
 use Rattle.machine.specs.Theorems.{RulesKeepConstraints}

@@ -1,7 +1,7 @@
 -- For code: permitted lengths by their parts, and what a return of `start` has to show.
-use Rattle.width.proofs.Kit.{_≡_, refl, sym, ap, ap₂, _∙_, Bool, true, false, cond, _&&_, List, [], _∷_, ℕ, suc, _+_, _*_, _-_, _/_, _%_, _^_, _≤_, _<_}
-use Rattle.width.proofs.Kit.{div-add-mod', add-div-right, arith, leb, ltb, eqb, length, replicate, getD, drop, length-drop, drop-cons, le-leb, lt-leb}
-use Rattle.width.proofs.Kit.{leb-true, eqb-true}
+use Rattle.numbers.proofs.Kit.{_≡_, refl, sym, ap, ap₂, _∙_, Bool, true, false, cond, _&&_, List, [], _∷_, ℕ, suc, _+_, _*_, _-_, _/_, _%_, _^_, _≤_, _<_}
+use Rattle.numbers.proofs.Kit.{div-add-mod', add-div-right, arith, leb, ltb, eqb, length, replicate, getD, drop, length-drop, drop-cons, le-leb, lt-leb}
+use Rattle.numbers.proofs.Kit.{leb-true, eqb-true}
 use Rattle.machine.proofs.TestLaws.{same-test, false-true, every-each}
 use Rattle.machine.specs.declared.Answer.the-variants.{Done, BadArguments, TooManySeals}
 use Rattle.machine.specs.declared.Answer.{Answer}

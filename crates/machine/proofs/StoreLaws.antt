@@ -1,10 +1,10 @@
 -- Rows that share no byte, and what a store of such rows leaves.
-use Rattle.width.proofs.Kit.{_≡_, refl, sym, ap, _∙_, subst, inl, inr, Bool, true, false, not, cond, List, [], _∷_, ℕ, zero, suc, _+_, _*_, _-_, _/_, _%_}
-use Rattle.width.proofs.Kit.{_≤_, _<_, not-suc-le-zero, le-of-suc-le-suc, mod-lt, div-add-mod', div-lt-iff-lt-mul, eq-zero-or-pos, mul-zero, mul-pos}
-use Rattle.width.proofs.Kit.{mul-le-mul-right, arith, ltb, length, getD, List·getD-eq-default, ext-getD, pos, le-ltb, ltb-true, ltb-false}
-use Rattle.width.specs.Tile.{byteOf, putTile, In}
-use Rattle.width.proofs.TileLaws.{putTile-at, putTile-out, length-putTile}
-use Rattle.width.proofs.BlockLaws.{le-or-lt}
+use Rattle.numbers.proofs.Kit.{_≡_, refl, sym, ap, _∙_, subst, inl, inr, Bool, true, false, not, cond, List, [], _∷_, ℕ, zero, suc, _+_, _*_, _-_, _/_, _%_}
+use Rattle.numbers.proofs.Kit.{_≤_, _<_, not-suc-le-zero, le-of-suc-le-suc, mod-lt, div-add-mod', div-lt-iff-lt-mul, eq-zero-or-pos, mul-zero, mul-pos}
+use Rattle.numbers.proofs.Kit.{mul-le-mul-right, arith, ltb, length, getD, List·getD-eq-default, ext-getD, pos, le-ltb, ltb-true, ltb-false}
+use Rattle.numbers.specs.Tile.{byteOf, putTile, In}
+use Rattle.numbers.proofs.TileLaws.{putTile-at, putTile-out, length-putTile}
+use Rattle.numbers.proofs.BlockLaws.{le-or-lt}
 use Rattle.machine.specs.Tests.{all, within}
 use Rattle.machine.specs.declared.Form.{Form}
 use Rattle.machine.specs.declared.Matrix.{Matrix}

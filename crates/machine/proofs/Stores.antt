@@ -1,6 +1,6 @@
 -- 02, Seven: a store that is accepted leaves each element where it belongs.
-use Rattle.width.proofs.Kit.{_≡_, refl, sym, ap, _∙_, subst, Bool, true, false, cond, List, ℕ, eq-eqb}
-use Rattle.width.specs.Blocks.{Choice}
+use Rattle.numbers.proofs.Kit.{_≡_, refl, sym, ap, _∙_, subst, Bool, true, false, cond, List, ℕ, eq-eqb}
+use Rattle.numbers.specs.Blocks.{Choice}
 use Rattle.machine.specs.declared.Instruction.{Instruction}
 use Rattle.machine.specs.declared.Instruction.the-variants.{Store}
 use Rattle.machine.specs.Answers.{number, isDone, verdict}

@@ -1,9 +1,9 @@
 -- Laws of the tests over ranges and lists: when one passes, and what it then says.
-use Rattle.width.proofs.Kit.{_≡_, refl, sym, ap, _∙_, subst, _⊎_, inl, inr, Bool, true, false, not, cond, _&&_, _||_, List, [], _∷_, _++_, ℕ, zero, suc}
-use Rattle.width.proofs.Kit.{_+_, _*_, _/_, _%_, _≤_, _<_, not-suc-le-zero, eq-or-lt-of-le, le-of-suc-le-suc, mul-le-mul-right, mod-lt, div-add-mod'}
-use Rattle.width.proofs.Kit.{div-lt-iff-lt-mul, eq-zero-or-pos, mul-zero, arith, T, leb, ltb, eqb, length, getD, lt-ltb, le-ltb, ltb-true, ltb-false}
-use Rattle.width.proofs.Kit.{eqb-true, leb-true, le-leb}
-use Rattle.width.specs.Tile.{In}
+use Rattle.numbers.proofs.Kit.{_≡_, refl, sym, ap, _∙_, subst, _⊎_, inl, inr, Bool, true, false, not, cond, _&&_, _||_, List, [], _∷_, _++_, ℕ, zero, suc}
+use Rattle.numbers.proofs.Kit.{_+_, _*_, _/_, _%_, _≤_, _<_, not-suc-le-zero, eq-or-lt-of-le, le-of-suc-le-suc, mul-le-mul-right, mod-lt, div-add-mod'}
+use Rattle.numbers.proofs.Kit.{div-lt-iff-lt-mul, eq-zero-or-pos, mul-zero, arith, T, leb, ltb, eqb, length, getD, lt-ltb, le-ltb, ltb-true, ltb-false}
+use Rattle.numbers.proofs.Kit.{eqb-true, leb-true, le-leb}
+use Rattle.numbers.specs.Tile.{In}
 use Rattle.machine.specs.Tests.{all, first, every, allOf, isIn, within}
 
 pub and-true : (a b : Bool) → a ≡ true → b ≡ true → a && b ≡ true

@@ -1,6 +1,6 @@
 -- 02, One: which words get 10, 11, 1 and 12, and that nothing else moved.
-use Rattle.width.proofs.Kit.{_≡_, refl, sym, ap, ap₂, _∙_, subst, _↔_, _⊎_, inl, inr, Bool, true, false, cond, not, _&&_, _||_, List, [], _∷_, List·Memᴰ}
-use Rattle.width.proofs.Kit.{List·Memᴰ·head, List·Memᴰ·tail, List·Memᴰ·cases-cons, List·Memᴰ·not-nil, ℕ, arith, eqb, eq-eqb, eqb-true, eqb-false}
+use Rattle.numbers.proofs.Kit.{_≡_, refl, sym, ap, ap₂, _∙_, subst, _↔_, _⊎_, inl, inr, Bool, true, false, cond, not, _&&_, _||_, List, [], _∷_, List·Memᴰ}
+use Rattle.numbers.proofs.Kit.{List·Memᴰ·head, List·Memᴰ·tail, List·Memᴰ·cases-cons, List·Memᴰ·not-nil, ℕ, arith, eqb, eq-eqb, eqb-true, eqb-false}
 use Rattle.machine.specs.declared.Answer.{Answer}
 use Rattle.machine.specs.declared.Answer.the-variants.{IllegalWord, BadArguments, WrongOpcode, LeftOutWord, WrongRegister}
 use Rattle.machine.specs.declared.Wrong.{Wrong}

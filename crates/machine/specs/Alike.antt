@@ -1,5 +1,5 @@
 -- Machines that differ at most in unmarked register bytes. Requests Six and Nine of document 02 both speak of them.
-use Rattle.width.specs.Kit.{_≡_, List, ℕ, length, getD}
+use Rattle.numbers.specs.Kit.{_≡_, List, ℕ, length, getD}
 use Rattle.machine.specs.Geometry.{Bench}
 
 -- register bytes of one length, equal wherever the mark is 1

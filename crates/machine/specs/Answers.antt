@@ -1,5 +1,5 @@
 -- The answers and their numbers; and checks, of which the first that fails gives the answer.
-use Rattle.width.specs.Kit.{Bool, cond, List, [], _∷_, ℕ, eqb}
+use Rattle.numbers.specs.Kit.{Bool, cond, List, [], _∷_, ℕ, eqb}
 use Rattle.machine.specs.declared.Answer.{Answer}
 use Rattle.machine.specs.declared.Reply.{Reply}
 use Rattle.machine.specs.declared.Answer.the-variants.{Done, IllegalWord, IllegalType, BadWidth, TileTooLarge, Unwritten, OutsideMemory, SealedByte, BadArguments, Overlap, WrongOpcode, LeftOutWord, WrongRegister, RowsOverlap, TooManySeals}

@@ -1,10 +1,10 @@
 -- Refusals of each number and their neighbours, computed: a machine of RLEN 64 and MLEN 128 (two rows of eight bytes) and
 -- ELEN 32; at the end one of RLEN 128 and MLEN 256, with ELEN 64.
-use Rattle.width.specs.Kit.{_≡_, refl, true, false, List, [], _∷_, _++_, map, ℕ, zero, suc, _+_, _*_, _-_, _^_, getD, replicate, set, take, drop}
+use Rattle.numbers.specs.Kit.{_≡_, refl, true, false, List, [], _∷_, _++_, map, ℕ, zero, suc, _+_, _*_, _-_, _^_, getD, replicate, set, take, drop}
 use lib.Ieee as Ieee
-use Rattle.width.specs.Reduce.{reduce}
-use Rattle.width.specs.Tile.{putTile, putRow, putLe, markTile, markRow}
-use Rattle.width.specs.Binary32.{valueOf, settled, multiplyAdd, floatSum, floatProduct}
+use Rattle.numbers.specs.Reduce.{reduce}
+use Rattle.numbers.specs.Tile.{putTile, putRow, putLe, markTile, markRow}
+use Rattle.numbers.specs.Binary32.{valueOf, settled, multiplyAdd, floatSum, floatProduct}
 use Rattle.machine.specs.declared.Machine.{Machine}
 use Rattle.machine.specs.declared.Reply.{Reply}
 use Rattle.machine.specs.Geometry.{permitted}

@@ -1,5 +1,5 @@
 -- 01, "Numbers of the answers": answer 8 of a step.
-use Rattle.width.specs.Kit.{Bool, _&&_, List, [], _∷_, ℕ, _/_, min, leb, ltb, eqb, length}
+use Rattle.numbers.specs.Kit.{Bool, _&&_, List, [], _∷_, ℕ, _/_, min, leb, ltb, eqb, length}
 use Rattle.machine.specs.declared.Machine.{Machine}
 use Rattle.machine.specs.Tests.{allOf, every}
 use Rattle.machine.specs.Geometry.{Range, permitted, registerBytes, Bench}

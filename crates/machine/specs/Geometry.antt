@@ -1,7 +1,7 @@
 -- 01, "What a machine is", and 02, Twelve: its lengths, its sealed ranges, its registers in the lent bytes, and the scalars.
 -- Lengths of the machine and ELEN are in bits, as 01 gives them; widths of elements and of rows are in bytes.
-use Rattle.width.specs.Kit.{Bool, false, cond, _||_, List, [], _∷_, ℕ, _+_, _*_, _/_, ltb, eqb, getD, set}
-use Rattle.width.specs.Blocks.{Choice}
+use Rattle.numbers.specs.Kit.{Bool, false, cond, _||_, List, [], _∷_, ℕ, _+_, _*_, _/_, ltb, eqb, getD, set}
+use Rattle.numbers.specs.Blocks.{Choice}
 use Rattle.machine.specs.declared.Machine.{Machine}
 use Rattle.machine.specs.declared.Matrix.{Matrix}
 use Rattle.machine.specs.declared.Matrix.the-variants.{MatrixA, MatrixB, MatrixC}

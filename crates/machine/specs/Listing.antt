@@ -2,7 +2,7 @@
 -- look-up in it: `listing` has our instructions, with the four of section 6.1.7 that 02, Eleven, adds, `others` the rest of section 4.5.
 -- Ten rows, all ours, are damaged in our copy and read by symmetry: No. 1, 3, 5, 6, 7, 8, 15, 21, 22 and 31 (docs/DIFFERENCES.md, 1.2).
 -- No code is given twice.
-use Rattle.width.specs.Kit.{Bool, true, false, cond, _&&_, _||_, List, [], _∷_, ℕ, _+_, _-_, _/_, _%_, _^_, ltb, eqb}
+use Rattle.numbers.specs.Kit.{Bool, true, false, cond, _&&_, _||_, List, [], _∷_, ℕ, _+_, _-_, _/_, _%_, _^_, ltb, eqb}
 use Prim.Native.String.{String}
 use Rattle.machine.specs.declared.Matrix.{Matrix}
 use Rattle.machine.specs.declared.Matrix.the-variants.{MatrixA, MatrixB, MatrixC}
@@ -53,7 +53,7 @@ pub record Code : Type 0 where
   pub fixed : List Fixed
 
 -- an entry that is ours, its line (02, Fourteen: "the draft's mnemonics (mg printed there is mq)", "Operands stand as in the draft, the base in
--- brackets"), in which a capital letter stands for an operand's number (assembly/specs/Lines.antt: operandOf), and the instruction that a
+-- brackets"), in which a capital letter stands for an operand's number (text_assembly/specs/Lines.antt: operandOf), and the instruction that a
 -- word with its bits is
 pub record Row : Type 0 where
   pub code : Code

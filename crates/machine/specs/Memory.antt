@@ -1,7 +1,7 @@
 -- 01, "Loading, storing, reckoning", and 02, Seven: rows of elements in memory, the tests on their bytes, and rows stored.
-use Rattle.width.specs.Kit.{Bool, false, not, cond, List, [], _∷_, ℕ, suc, _+_, _*_, _-_, _/_, _%_, _^_, ltb, ℤ, pos, negsuc, _+ℤ_, _*ℤ_}
-use Rattle.width.specs.Reduce.{signed}
-use Rattle.width.specs.Tile.{byteOf}
+use Rattle.numbers.specs.Kit.{Bool, false, not, cond, List, [], _∷_, ℕ, suc, _+_, _*_, _-_, _/_, _%_, _^_, ltb, ℤ, pos, negsuc, _+ℤ_, _*ℤ_}
+use Rattle.numbers.specs.Reduce.{signed}
+use Rattle.numbers.specs.Tile.{byteOf}
 use Rattle.machine.specs.Tests.{all, first, within}
 
 -- "Row i lies at rs1 + i x rs2, with rs1 unsigned and rs2 a signed 64-bit stride, as whole numbers that don't wrap."

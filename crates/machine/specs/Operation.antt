@@ -1,8 +1,8 @@
 -- 01, "Loading, storing, reckoning", and 02, Two, Four, Seven and Eleven: what each instruction does, once its scalars are read.
-use Rattle.width.specs.Kit.{cond, List, ℕ, _+_, _*_, _%_, _^_, eqb, ℤ, _+ℤ_, _-ℤ_, _*ℤ_}
-use Rattle.width.specs.Tile.{getLe, putTile, markTile}
-use Rattle.width.specs.Reduce.{signed, reduce, sumℤ}
-use Rattle.width.specs.Binary32.{floatProduct}
+use Rattle.numbers.specs.Kit.{cond, List, ℕ, _+_, _*_, _%_, _^_, eqb, ℤ, _+ℤ_, _-ℤ_, _*ℤ_}
+use Rattle.numbers.specs.Tile.{getLe, putTile, markTile}
+use Rattle.numbers.specs.Reduce.{signed, reduce, sumℤ}
+use Rattle.numbers.specs.Binary32.{floatProduct}
 use Rattle.machine.specs.declared.Matrix.{Matrix}
 use Rattle.machine.specs.declared.Matrix.the-variants.{MatrixA, MatrixB, MatrixC}
 use Rattle.machine.specs.declared.Form.{Form}

@@ -1,5 +1,5 @@
 -- 01, "Numbers of the answers", and 02, One, Seven and Eleven: the checks of an operation in their order: 10, 11, 1, 12, then 2 to 6, 13, 7.
-use Rattle.width.specs.Kit.{Bool, true, false, not, _&&_, _||_, List, [], _∷_, _++_, ℕ, zero, suc, _+_, _*_, leb, eqb, length, getD, ℤ, pos, negsuc}
+use Rattle.numbers.specs.Kit.{Bool, true, false, not, _&&_, _||_, List, [], _∷_, _++_, ℕ, zero, suc, _+_, _*_, leb, eqb, length, getD, ℤ, pos, negsuc}
 use Rattle.machine.specs.declared.Answer.{Answer}
 use Rattle.machine.specs.declared.Answer.the-variants.{IllegalWord, IllegalType, BadWidth, TileTooLarge, Unwritten, OutsideMemory, SealedByte, WrongOpcode, LeftOutWord, WrongRegister, RowsOverlap}
 use Rattle.machine.specs.declared.Wrong.{Wrong}

@@ -1,5 +1,5 @@
 -- 02, Twelve: several sealed ranges, computed on the machine of Examples.
-use Rattle.width.specs.Kit.{_≡_, refl, List, [], _∷_, _++_, map, ℕ, _*_, _-_, _^_, length, replicate}
+use Rattle.numbers.specs.Kit.{_≡_, refl, List, [], _∷_, _++_, map, ℕ, _*_, _-_, _^_, length, replicate}
 use Rattle.machine.specs.Geometry.{Range, range, sealed, Bench, benchOf, permitted}
 use Rattle.machine.specs.Setting.{sew, newType, legalType}
 use Rattle.machine.specs.Starting.{startMachine, startable}

@@ -1,5 +1,5 @@
 -- 02, Twelve: "a range may be added between steps but never taken off".
-use Rattle.width.specs.Kit.{cond, List, [], _∷_, _++_, ℕ, ltb, length}
+use Rattle.numbers.specs.Kit.{cond, List, [], _∷_, _++_, ℕ, ltb, length}
 use Rattle.machine.specs.declared.Answer.{Answer}
 use Rattle.machine.specs.declared.Answer.the-variants.{BadArguments, TooManySeals}
 use Rattle.machine.specs.declared.Reply.{Reply}

@@ -1,5 +1,5 @@
 -- 01, "Setting mtype and tile sizes".
-use Rattle.width.specs.Kit.{Bool, cond, not, _&&_, _||_, [], _∷_, ℕ, _+_, _*_, _/_, _%_, _^_, min, leb, ltb, eqb}
+use Rattle.numbers.specs.Kit.{Bool, cond, not, _&&_, _||_, [], _∷_, ℕ, _+_, _*_, _/_, _%_, _^_, min, leb, ltb, eqb}
 use Rattle.machine.specs.declared.Dimension.{Dimension}
 use Rattle.machine.specs.declared.Dimension.the-variants.{DimensionM, DimensionK, DimensionN}
 use Rattle.machine.specs.Tests.{every}

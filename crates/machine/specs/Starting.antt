@@ -1,5 +1,5 @@
 -- 01, "What a machine is", and 02, Twelve: starting a machine.
-use Rattle.width.specs.Kit.{Bool, true, cond, _&&_, List, [], _∷_, ℕ, _+_, _-_, _%_, _^_, leb, eqb, length, replicate}
+use Rattle.numbers.specs.Kit.{Bool, true, cond, _&&_, List, [], _∷_, ℕ, _+_, _-_, _%_, _^_, leb, eqb, length, replicate}
 use Rattle.machine.specs.declared.Machine.{Machine}
 use Rattle.machine.specs.declared.Answer.the-variants.{BadArguments, TooManySeals}
 use Rattle.machine.specs.declared.Started.{Started}

@@ -1,7 +1,7 @@
 -- A step: the word is decoded, the scalars are read, the checks are made in the order 8, then 10, 11, 1, 12, then 2 to 6, 13, 7, and the
 -- effect follows.
-use Rattle.width.specs.Kit.{cond, List, _∷_, ℕ}
-use Rattle.width.specs.Blocks.{Choice}
+use Rattle.numbers.specs.Kit.{cond, List, _∷_, ℕ}
+use Rattle.numbers.specs.Blocks.{Choice}
 use Rattle.machine.specs.declared.Answer.{Answer}
 use Rattle.machine.specs.declared.Answer.the-variants.{Done, BadArguments}
 use Rattle.machine.specs.declared.Stepped.{Stepped}

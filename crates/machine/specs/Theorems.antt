@@ -1,7 +1,7 @@
 -- What is proved of these definitions, for every choice of sizes (one for each rule), state and word. The proofs stand in proofs/.
-use Rattle.width.specs.Kit.{_≡_, true, List, [], _∷_, _++_, ℕ, _+_, _*_, _≤_, _<_, length, getD, pos}
-use Rattle.width.specs.Tile.{byteOf, In}
-use Rattle.width.specs.Blocks.{Choice, EachGrants}
+use Rattle.numbers.specs.Kit.{_≡_, true, List, [], _∷_, _++_, ℕ, _+_, _*_, _≤_, _<_, length, getD, pos}
+use Rattle.numbers.specs.Tile.{byteOf, In}
+use Rattle.numbers.specs.Blocks.{Choice, EachGrants}
 use Rattle.machine.specs.declared.Form.{Form}
 use Rattle.machine.specs.declared.Matrix.{Matrix}
 use Rattle.machine.specs.declared.Instruction.the-variants.{Store}

@@ -1,5 +1,5 @@
 -- 02, Eleven: "a lent vector file of 32 registers of 128 bits with a group size of 1, 2, 4 or 8".
-use Rattle.width.specs.Kit.{Bool, List, [], _∷_, ℕ, _+_, _*_, _%_, eqb, length, replicate}
+use Rattle.numbers.specs.Kit.{Bool, List, [], _∷_, ℕ, _+_, _*_, _%_, eqb, length, replicate}
 use Rattle.machine.specs.Tests.{isIn, every}
 
 -- what is lent beside the scalars with each word; "Vector bytes carry no marks"

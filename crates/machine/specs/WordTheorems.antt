@@ -1,6 +1,6 @@
 -- 02, One: which words get 10, 11, 1 and 12, in its words; and that nothing else moved, but the words that a later request of 02 adds. The proofs stand in proofs/WordRefusals.antt.
-use Rattle.width.specs.Kit.{_≡_, _↔_, Bool, true, false, cond, _||_, _&&_, List, [], _∷_, List·Memᴰ, ℕ, eqb, ltb}
-use Rattle.width.specs.Blocks.{Choice}
+use Rattle.numbers.specs.Kit.{_≡_, _↔_, Bool, true, false, cond, _||_, _&&_, List, [], _∷_, List·Memᴰ, ℕ, eqb, ltb}
+use Rattle.numbers.specs.Blocks.{Choice}
 use Rattle.machine.specs.declared.Wrong.the-variants.{Unlisted}
 use Rattle.machine.specs.declared.Instruction.{Instruction}
 use Rattle.machine.specs.declared.Instruction.the-variants.{Illegal, SetTypeImmediate, SetType, SetTileImmediate, SetTile, Load, Store, Multiply, Combine, Scale, ScaleImmediate, FloatMultiply, MoveOut, MoveIn}

@@ -6,13 +6,13 @@ use libc::STDOUT_FILENO;
 // Where a line on standard error cannot be written either, nothing is left to do.
 fn main() {
     let mut text = [0u8; 8193];
-    let reading = stream::read_text(&mut text);
+    let reading = program_stream::read_text(&mut text);
     if reading.failed {
         io::write_all(STDERR_FILENO, b"product: cannot read standard input\n");
         return;
     }
     let mut out = [0u8; 8192];
-    let written = solving::answer(&text[..reading.count], &mut out);
+    let written = product_answer::answer(&text[..reading.count], &mut out);
     if !io::write_all(STDOUT_FILENO, &out[..written]) {
         io::write_all(STDERR_FILENO, b"product: cannot write the answer\n");
     }

@@ -1,13 +1,13 @@
 -- The layout of `product`: a start is accepted, the elements of A and B are the numbers that were written, and where C's elements lie.
-use Rattle.width.proofs.Kit.{_≡_, refl, sym, ap, ap₂, _∙_, subst, inl, inr, Bool, true, not, _||_, List, [], _∷_, ℕ, suc, _+_, _*_, _-_, _/_, _%_, _^_, _≤_}
-use Rattle.width.proofs.Kit.{_<_, mul-le-mul-left, mul-le-mul-right, mod-eq-of-lt, add-mul-mod-self-right, mod-mod, arith, leb, length, ℤ, pos, negsuc}
-use Rattle.width.proofs.Kit.{_+ℤ_, _*ℤ_, le-leb, le-ltb, lt-ltb}
-use Rattle.width.specs.Reduce.{signed, reduce, sumℤ}
-use Rattle.width.specs.Tile.{getLe, putLe, putRow, In}
-use Rattle.width.proofs.ReduceLaws.{sumℤ-cong}
-use Rattle.width.proofs.TileLaws.{le-cong, length-putRow, putRow-out, pitched}
-use Rattle.width.proofs.PutLaws.{putLe-low}
-use Rattle.width.proofs.WordLaws.{le-putRow}
+use Rattle.numbers.proofs.Kit.{_≡_, refl, sym, ap, ap₂, _∙_, subst, inl, inr, Bool, true, not, _||_, List, [], _∷_, ℕ, suc, _+_, _*_, _-_, _/_, _%_, _^_, _≤_}
+use Rattle.numbers.proofs.Kit.{_<_, mul-le-mul-left, mul-le-mul-right, mod-eq-of-lt, add-mul-mod-self-right, mod-mod, arith, leb, length, ℤ, pos, negsuc}
+use Rattle.numbers.proofs.Kit.{_+ℤ_, _*ℤ_, le-leb, le-ltb, lt-ltb}
+use Rattle.numbers.specs.Reduce.{signed, reduce, sumℤ}
+use Rattle.numbers.specs.Tile.{getLe, putLe, putRow, In}
+use Rattle.numbers.proofs.ReduceLaws.{sumℤ-cong}
+use Rattle.numbers.proofs.TileLaws.{le-cong, length-putRow, putRow-out, pitched}
+use Rattle.numbers.proofs.PutLaws.{putLe-low}
+use Rattle.numbers.proofs.WordLaws.{le-putRow}
 use Rattle.machine.specs.declared.Reply.{Reply}
 use Rattle.machine.specs.Tests.{isIn, every}
 use Rattle.machine.specs.Geometry.{Range, Parameters, Bench}
@@ -16,8 +16,8 @@ use Rattle.machine.specs.Faults.{soundBench}
 use Rattle.machine.specs.Operation.{element}
 use Rattle.machine.proofs.TestLaws.{false-true, every-each, each-every, each, each-in, or-not}
 use Rattle.machine.proofs.MemoryLaws.{rowZ-up}
-use Rattle.element.specs.Element.{Short}
-use Rattle.element.proofs.Laws.{short-small}
+use Rattle.unit_element.specs.Element.{Short}
+use Rattle.unit_element.proofs.Laws.{short-small}
 use Rattle.run.specs.Plan.{narrow, wide, aAt, bAt, cAt, total, productOf}
 use Rattle.run.specs.Start.{format, kindFits, planned}
 use Rattle.run.specs.Statement.{Lies, Inside, Separate, Answered}

@@ -1,6 +1,6 @@
 -- Where `product` lays its matrices in a memory of 3,072 bytes: A from 0, B from 1024, C from 2048, their rows one after another.
-use Rattle.width.specs.Kit.{List, ℕ, _*_, _/_}
-use Rattle.width.specs.Tile.{putRow}
+use Rattle.numbers.specs.Kit.{List, ℕ, _*_, _/_}
+use Rattle.numbers.specs.Tile.{putRow}
 use Rattle.machine.specs.Geometry.{Parameters, parametersOf}
 use Rattle.machine.specs.Setting.{smaller}
 use Rattle.run.specs.declared.Plan.{Plan}

@@ -5,8 +5,8 @@ ghost use mathlib.Core.Path.{_≡_};
 ghost use mathlib.Core.Bool.{true};
 ghost use Prim.Native.Nat.{ℕ, _+_, _*_, _≤_, _<_};
 ghost use lib.ListN.{length, getD};
-ghost use Rattle.width.specs.Tile.{getLe, putLe, putRow};
-ghost use Rattle.element.specs.Element.{Short};
+ghost use Rattle.numbers.specs.Tile.{getLe, putLe, putRow};
+ghost use Rattle.unit_element.specs.Element.{Short};
 ghost use Rattle.run.specs.Start.{format};
 ghost use Rattle.product_memory.specs.Memory.{planFor};
 
@@ -47,14 +47,14 @@ fn put_element(memory: &mut [u8], at: usize, width: usize, value: u64)
     ensures { λ _. ⌜ now (memory .exit) ≡ putLe at width value (now (memory .entry)) ⌝ }
 {
     if width == 1 {
-        element::write1(memory, at, (value % 256) as u8);
+        unit_element::write1(memory, at, (value % 256) as u8);
         return;
     }
     if width == 2 {
-        element::write2(memory, at, (value % 65536) as u16);
+        unit_element::write2(memory, at, (value % 65536) as u16);
         return;
     }
-    element::write4(memory, at, (value % 0x1_0000_0000) as u32);
+    unit_element::write4(memory, at, (value % 0x1_0000_0000) as u32);
 }
 
 // Stores the low bytes of each value, one after another from `at` on.
@@ -79,12 +79,12 @@ fn read_element(memory: &[u8], at: usize, width: usize) -> u64
     ensures { λ r. ⌜ r ≡ getLe (now (memory .entry)) at width ⌝ }
 {
     if width == 1 {
-        return element::read1(memory, at) as u64;
+        return unit_element::read1(memory, at) as u64;
     }
     if width == 2 {
-        return element::read2(memory, at) as u64;
+        return unit_element::read2(memory, at) as u64;
     }
-    element::read4(memory, at) as u64
+    unit_element::read4(memory, at) as u64
 }
 
 // Fills the values with the elements one after another from `at` on.

@@ -1,8 +1,8 @@
 -- The starts of blocks: a run comes to no other place; and how code tells them.
-use Rattle.width.proofs.Kit.{_≡_, refl, sym, ap, _∙_, subst, _⊎_, inl, inr, Bool, true, false, cond, [], _∷_, ℕ, zero, suc, _+_, _*_, _-_, _/_, _≤_, _<_}
-use Rattle.width.proofs.Kit.{div-eq-of-lt, add-div-right, arith, ltb, eqb, ltb-true, lt-ltb, eqb-true, eq-eqb, ne-eqb}
-use Rattle.width.specs.Blocks.{Grants, starts, chunks}
-use Rattle.width.proofs.BlockLaws.{le-or-lt, granted, chunks-end, chunks-next}
+use Rattle.numbers.proofs.Kit.{_≡_, refl, sym, ap, _∙_, subst, _⊎_, inl, inr, Bool, true, false, cond, [], _∷_, ℕ, zero, suc, _+_, _*_, _-_, _/_, _≤_, _<_}
+use Rattle.numbers.proofs.Kit.{div-eq-of-lt, add-div-right, arith, ltb, eqb, ltb-true, lt-ltb, eqb-true, eq-eqb, ne-eqb}
+use Rattle.numbers.specs.Blocks.{Grants, starts, chunks}
+use Rattle.numbers.proofs.BlockLaws.{le-or-lt, granted, chunks-end, chunks-next}
 use Rattle.machine.specs.Tests.{isIn}
 use Rattle.machine.proofs.TestLaws.{or-right, or-not, false-true, every-each, each-every, each, each-in}
 use Rattle.run.specs.declared.Place.{Place}

@@ -1,5 +1,5 @@
 -- Demand 1 where product runs are made.
-use Rattle.width.proofs.Kit.{_≡_, refl, ap, _∙_, Bool, true, false, cond, Option, none, some, zero, suc, _+_, arith}
+use Rattle.numbers.proofs.Kit.{_≡_, refl, ap, _∙_, Bool, true, false, cond, Option, none, some, zero, suc, _+_, arith}
 use Rattle.machine.specs.Answers.{done}
 use Rattle.run.specs.Words.{Op, steps}
 use Rattle.run.specs.Plan.{shape}

@@ -1,7 +1,7 @@
 -- Demand 2 over any list of acts: each keeps the seal and the sealed bytes.
-use Rattle.width.proofs.Kit.{_≡_, refl, sym, ap, _∙_, subst, Bool, true, false, cond, List, [], _∷_, Option, none, some, ℕ, zero, suc, arith, length, getD}
-use Rattle.width.proofs.Kit.{replicate}
-use Rattle.width.specs.Blocks.{Choice}
+use Rattle.numbers.proofs.Kit.{_≡_, refl, sym, ap, _∙_, subst, Bool, true, false, cond, List, [], _∷_, Option, none, some, ℕ, zero, suc, arith, length, getD}
+use Rattle.numbers.proofs.Kit.{replicate}
+use Rattle.numbers.specs.Blocks.{Choice}
 use Rattle.machine.specs.declared.Answer.the-variants.{Done, BadArguments}
 use Rattle.machine.specs.Answers.{reply}
 use Rattle.machine.specs.Geometry.{Range, sealed, Bench, benchOf}

@@ -1,9 +1,9 @@
 -- Demand 3, proved: one invariant over the place, the state and the memory, which every turn keeps.
-use Rattle.width.proofs.Kit.{_≡_, refl, sym, ap, _∙_, subst, _⊎_, inl, inr, Bool, true, false, cond, List, [], _∷_, map, Option, none, some, ℕ, zero, suc}
-use Rattle.width.proofs.Kit.{_+_, _*_, _-_, _≤_, _<_, min, mul-le-mul-right, mul-pos, arith, leb, length, getD, drop, drop-of-length-le, drop-cons, pos}
-use Rattle.width.proofs.Kit.{leb-true}
-use Rattle.width.specs.Blocks.{Choice, EachGrants}
-use Rattle.width.proofs.BlockLaws.{le-or-lt}
+use Rattle.numbers.proofs.Kit.{_≡_, refl, sym, ap, _∙_, subst, _⊎_, inl, inr, Bool, true, false, cond, List, [], _∷_, map, Option, none, some, ℕ, zero, suc}
+use Rattle.numbers.proofs.Kit.{_+_, _*_, _-_, _≤_, _<_, min, mul-le-mul-right, mul-pos, arith, leb, length, getD, drop, drop-of-length-le, drop-cons, pos}
+use Rattle.numbers.proofs.Kit.{leb-true}
+use Rattle.numbers.specs.Blocks.{Choice, EachGrants}
+use Rattle.numbers.proofs.BlockLaws.{le-or-lt}
 use Rattle.machine.specs.declared.Answer.the-variants.{Done, BadArguments, OutsideMemory, Overlap}
 use Rattle.machine.proofs.TestLaws.{every-each}
 use Rattle.machine.specs.declared.Reply.{Reply}
@@ -44,7 +44,7 @@ use Rattle.run.specs.Encoding.{own, handedFor}
 use Rattle.run.proofs.WordLaws as WordLaws
 use Rattle.run.proofs.WordLaws.{Reads, widest-format}
 use Rattle.machine.proofs.StepLaws.{permitted-elen}
-use Rattle.width.specs.Bounds.{mostElen}
+use Rattle.numbers.specs.Bounds.{mostElen}
 use Rattle.run.proofs.FormLaws.{element-in}
 use Rattle.run.proofs.Invariant.{operationOf, Accepted, At}
 use Rattle.run.proofs.Turns

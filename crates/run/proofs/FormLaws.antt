@@ -1,5 +1,5 @@
 -- Rows and columns of a matrix in memory by the form of its load: what holds of both holds where they change places.
-use Rattle.width.proofs.Kit.{ℕ, zero, _+_, _≤_, _<_, arith}
+use Rattle.numbers.proofs.Kit.{ℕ, zero, _+_, _≤_, _<_, arith}
 use Rattle.machine.specs.declared.Form.{Form}
 use Rattle.machine.specs.declared.Form.the-variants.{Plain, Transposed}
 use Rattle.machine.specs.Operation.{memoryRows, memoryCols}

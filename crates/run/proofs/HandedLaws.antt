@@ -1,6 +1,6 @@
 -- Asking and a turn as Turn.antt defines them, with the word that is handed out as an argument: proofs go by its cases.
-use Rattle.width.proofs.Kit.{cond, Option, none, some, ℕ}
-use Rattle.width.specs.Blocks.{Choice}
+use Rattle.numbers.proofs.Kit.{cond, Option, none, some, ℕ}
+use Rattle.numbers.specs.Blocks.{Choice}
 use Rattle.machine.specs.declared.Answer.the-variants.{Done, BadArguments}
 use Rattle.machine.specs.Answers.{reply, done}
 use Rattle.machine.specs.Step.{Outcome, stepBy}

@@ -1,7 +1,7 @@
 -- The invariant of a run: what an accepted start says, what each step does, and what holds at each place.
-use Rattle.width.proofs.Kit.{_≡_, Bool, true, false, List, ℕ, zero, _+_, _*_, _≤_, _<_, length, getD, pos}
-use Rattle.width.specs.Tile.{In}
-use Rattle.width.specs.Blocks.{Grants}
+use Rattle.numbers.proofs.Kit.{_≡_, Bool, true, false, List, ℕ, zero, _+_, _*_, _≤_, _<_, length, getD, pos}
+use Rattle.numbers.specs.Tile.{In}
+use Rattle.numbers.specs.Blocks.{Grants}
 use Rattle.machine.specs.declared.Form.the-variants.{Plain}
 use Rattle.machine.specs.declared.Matrix.the-variants.{MatrixA, MatrixB, MatrixC}
 use Rattle.machine.specs.declared.Dimension.the-variants.{DimensionM, DimensionK, DimensionN}

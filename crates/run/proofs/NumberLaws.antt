@@ -1,12 +1,12 @@
 -- What a run needs of its elements, integers or binary32 numbers: a multiply passes its checks where an integer multiply does, a cleared
 -- element is the sum of no product, a multiply adds the products of one block to the sum, and both fit their width. All that is
 -- particular to either in the proof of demand 3 stands here.
-use Rattle.width.proofs.Kit.{_≡_, refl, sym, ap, ap₂, _∙_, subst, Bool, List, ℕ, _+_, _*_, _%_, _^_, _<_, mod-eq-of-lt, one-le-pow, one-mul, arith, ℤ, pos}
-use Rattle.width.proofs.Kit.{_+ℤ_, _*ℤ_, *ℤ-zero, eq-eqb}
-use Rattle.width.specs.Reduce.{signed, reduce, sumℤ}
-use Rattle.width.specs.Binary32.{valueOf, floatProduct}
-use Rattle.width.proofs.ReduceLaws.{sumℤ-add, sumℤ-cong, accumulate, reduce-lt}
-use Rattle.width.proofs.Binary32Laws as Binary32
+use Rattle.numbers.proofs.Kit.{_≡_, refl, sym, ap, ap₂, _∙_, subst, Bool, List, ℕ, _+_, _*_, _%_, _^_, _<_, mod-eq-of-lt, one-le-pow, one-mul, arith, ℤ, pos}
+use Rattle.numbers.proofs.Kit.{_+ℤ_, _*ℤ_, *ℤ-zero, eq-eqb}
+use Rattle.numbers.specs.Reduce.{signed, reduce, sumℤ}
+use Rattle.numbers.specs.Binary32.{valueOf, floatProduct}
+use Rattle.numbers.proofs.ReduceLaws.{sumℤ-add, sumℤ-cong, accumulate, reduce-lt}
+use Rattle.numbers.proofs.Binary32Laws as Binary32
 use Rattle.machine.specs.Geometry.{Parameters, State, tileAt, accAt}
 use Rattle.machine.specs.Setting.{sew}
 use Rattle.machine.specs.Operation.{Operation, element, product, written, stateAfter, memoryAfter}

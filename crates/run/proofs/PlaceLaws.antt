@@ -1,8 +1,8 @@
 -- The words handed out one at a time are the words of the nested loops, in their order and number.
-use Rattle.width.proofs.Kit.{_≡_, refl, sym, ap, _∙_, Bool, true, false, cond, List, [], _∷_, _++_, append-assoc, Option, none, some, ℕ, zero, suc, _+_}
-use Rattle.width.proofs.Kit.{_*_, _-_, _<_, zero-mul, arith, add-one, ltb, length, length-append, drop, drop-drop, ltb-true, ltb-false}
-use Rattle.width.specs.Blocks.{Grants, count, chunks}
-use Rattle.width.proofs.BlockLaws.{chunks-end, chunks-next, length-chunks}
+use Rattle.numbers.proofs.Kit.{_≡_, refl, sym, ap, _∙_, Bool, true, false, cond, List, [], _∷_, _++_, append-assoc, Option, none, some, ℕ, zero, suc, _+_}
+use Rattle.numbers.proofs.Kit.{_*_, _-_, _<_, zero-mul, arith, add-one, ltb, length, length-append, drop, drop-drop, ltb-true, ltb-false}
+use Rattle.numbers.specs.Blocks.{Grants, count, chunks}
+use Rattle.numbers.proofs.BlockLaws.{chunks-end, chunks-next, length-chunks}
 use Rattle.run.specs.declared.Place.{Place}
 use Rattle.run.specs.declared.Place.the-variants.{AtType, AtM, AtN, AtClear, AtK, AtA, AtB, AtMultiply, AtStore, AtEnd}
 use Rattle.run.specs.Words.{Op, setType, setM, setK, setN, clear, loadA, loadB, multiply, store, Shape, sizeM, sizeN, sizeK, flat, blockK, fromK, blockN, fromN, blockM, fromM, words, steps}

@@ -1,7 +1,7 @@
 -- Refusals of a run: a turn that is refused changes nothing, and the run of a refused start hands out nothing.
-use Rattle.width.proofs.Kit.{_≡_, refl, sym, ap, ap₂, _∙_, subst, Bool, true, false, cond, Option, none, some, ℕ, zero, suc, _+_, add-zero, eqb, eq-eqb}
-use Rattle.width.proofs.Kit.{ne-eqb}
-use Rattle.width.specs.Blocks.{Choice}
+use Rattle.numbers.proofs.Kit.{_≡_, refl, sym, ap, ap₂, _∙_, subst, Bool, true, false, cond, Option, none, some, ℕ, zero, suc, _+_, add-zero, eqb, eq-eqb}
+use Rattle.numbers.proofs.Kit.{ne-eqb}
+use Rattle.numbers.specs.Blocks.{Choice}
 use Rattle.machine.specs.declared.Answer.the-variants.{Done, BadArguments}
 use Rattle.machine.specs.declared.Reply.{Reply}
 use Rattle.machine.specs.Answers.{reply, verdict, done}

@@ -1,8 +1,8 @@
 -- The bench sheet's starred lines and 01's product example, by computation.
-use Rattle.width.proofs.Kit.{refl}
-use Rattle.width.specs.Reduce.{reduce}
-use Rattle.width.specs.Tile.{putTile, putRow, putLe, markTile, markRow}
-use Rattle.width.specs.Blocks.{chunks}
+use Rattle.numbers.proofs.Kit.{refl}
+use Rattle.numbers.specs.Reduce.{reduce}
+use Rattle.numbers.specs.Tile.{putTile, putRow, putLe, markTile, markRow}
+use Rattle.numbers.specs.Blocks.{chunks}
 use Rattle.machine.specs.Geometry.{permitted}
 use Rattle.machine.specs.Setting.{sew, newType, legalType, chosen}
 use Rattle.machine.specs.Refusals.{widthOk, widthOf}

@@ -1,9 +1,9 @@
 -- The tests of a start say what the statement says of bytes, both ways; and an accepted start gives what the turns need.
-use Rattle.width.proofs.Kit.{_≡_, refl, sym, ap, subst, _⊎_, inl, inr, Bool, true, false, cond, not, _||_, List, [], _∷_, ℕ, _+_, _*_, _-_, _/_, _≤_, _<_}
-use Rattle.width.proofs.Kit.{arith, leb, eqb, length, ℤ, pos, negsuc, _+ℤ_, leb-true, le-leb, ltb-true, eqb-true, eqb-false, eq-eqb, lt-ltb, not-true}
-use Rattle.width.specs.Tile.{In}
-use Rattle.width.specs.Blocks.{Choice, EachGrants}
-use Rattle.width.proofs.BlockLaws.{le-or-lt}
+use Rattle.numbers.proofs.Kit.{_≡_, refl, sym, ap, subst, _⊎_, inl, inr, Bool, true, false, cond, not, _||_, List, [], _∷_, ℕ, _+_, _*_, _-_, _/_, _≤_, _<_}
+use Rattle.numbers.proofs.Kit.{arith, leb, eqb, length, ℤ, pos, negsuc, _+ℤ_, leb-true, le-leb, ltb-true, eqb-true, eqb-false, eq-eqb, lt-ltb, not-true}
+use Rattle.numbers.specs.Tile.{In}
+use Rattle.numbers.specs.Blocks.{Choice, EachGrants}
+use Rattle.numbers.proofs.BlockLaws.{le-or-lt}
 use Rattle.machine.specs.Tests.{all, every, within, isIn}
 use Rattle.machine.proofs.TestLaws.{all-true, all-at, every-each, each-every, within-not, not-within, fails-not, not-fails, or-right, false-true}
 use Rattle.machine.specs.Geometry.{Range, Parameters, parameters, sealed, permitted}

@@ -1,5 +1,5 @@
 -- A whole run delivers what its statement says.
-use Rattle.width.proofs.Kit.{_≡_, refl, sym, _∙_, subst, Bool, true, false, ℕ, min, arith, eqb, eqb-true, eqb-false}
+use Rattle.numbers.proofs.Kit.{_≡_, refl, sym, _∙_, subst, Bool, true, false, ℕ, min, arith, eqb, eqb-true, eqb-false}
 use Rattle.machine.specs.Geometry.{Bench}
 use Rattle.machine.specs.Setting.{chosen}
 use Rattle.run.specs.declared.Plan.{Plan}

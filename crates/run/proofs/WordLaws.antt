@@ -1,8 +1,8 @@
 -- Each word that a run hands out is read as its operation.
-use Rattle.width.proofs.Kit.{_≡_, refl, sym, ap, ap₂, _∙_, subst, Bool, true, false, cond, not, _||_, List, [], _∷_, ℕ, zero, suc, _+_, _*_, _/_, _%_, _^_}
-use Rattle.width.proofs.Kit.{_<_, mod-eq-of-lt, arith, T, leb, ltb, eqb, ℤ, pos, _+ℤ_, _*ℤ_, eqb-true, ltb-true, leb-true, le-leb}
-use Rattle.width.specs.Reduce.{signed, reduce}
-use Rattle.width.proofs.ReduceLaws.{reduce-add, reduce-mul, reduce-signed}
+use Rattle.numbers.proofs.Kit.{_≡_, refl, sym, ap, ap₂, _∙_, subst, Bool, true, false, cond, not, _||_, List, [], _∷_, ℕ, zero, suc, _+_, _*_, _/_, _%_, _^_}
+use Rattle.numbers.proofs.Kit.{_<_, mod-eq-of-lt, arith, T, leb, ltb, eqb, ℤ, pos, _+ℤ_, _*ℤ_, eqb-true, ltb-true, leb-true, le-leb}
+use Rattle.numbers.specs.Reduce.{signed, reduce}
+use Rattle.numbers.proofs.ReduceLaws.{reduce-add, reduce-mul, reduce-signed}
 use Rattle.machine.specs.declared.Form.{Form}
 use Rattle.machine.specs.declared.Form.the-variants.{Plain, Transposed}
 use Rattle.machine.specs.declared.Matrix.the-variants.{MatrixA, MatrixB, MatrixC}
@@ -14,7 +14,7 @@ use Rattle.machine.specs.declared.Instruction.the-variants.{SetTypeImmediate, S
 use Rattle.machine.specs.Tests.{every, isIn}
 use Rattle.machine.proofs.TestLaws.{Each, every-each, each-every, each, each-in, or-not}
 use Rattle.machine.specs.Geometry.{Parameters, State, elens}
-use Rattle.width.specs.Bounds.{mostElen}
+use Rattle.numbers.specs.Bounds.{mostElen}
 use Rattle.machine.specs.Operation.{times}
 use Rattle.machine.specs.Setting.{sew, mill, newType, legalType}
 use Rattle.machine.specs.Refusals.{widthOk, widthOf}

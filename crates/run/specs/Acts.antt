@@ -1,6 +1,6 @@
 -- What is done with a started machine, one act after another: words, product runs, asking for a run's steps, and sealing further ranges.
-use Rattle.width.specs.Kit.{cond, List, [], _∷_, Option, none, ℕ}
-use Rattle.width.specs.Blocks.{Choice}
+use Rattle.numbers.specs.Kit.{cond, List, [], _∷_, Option, none, ℕ}
+use Rattle.numbers.specs.Blocks.{Choice}
 use Rattle.machine.specs.declared.Answer.the-variants.{Done}
 use Rattle.machine.specs.declared.Reply.{Reply}
 use Rattle.machine.specs.Answers.{reply, done}

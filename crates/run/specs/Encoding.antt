@@ -1,6 +1,6 @@
 -- The words of a run as numbers, each with the run's scalars 10 and 11.
-use Rattle.width.specs.Kit.{cond, List, _∷_, _++_, map, ℕ, _+_, _*_, _^_, eqb, getD, replicate, pos, _+ℤ_}
-use Rattle.width.specs.Reduce.{reduce}
+use Rattle.numbers.specs.Kit.{cond, List, _∷_, _++_, map, ℕ, _+_, _*_, _^_, eqb, getD, replicate, pos, _+ℤ_}
+use Rattle.numbers.specs.Reduce.{reduce}
 use Rattle.machine.specs.declared.Form.{Form}
 use Rattle.machine.specs.declared.Form.the-variants.{Plain, Transposed}
 use Rattle.machine.specs.Memory.{rowZ}

@@ -1,11 +1,11 @@
 -- Starts that are refused and places that hand out nothing, with their neighbours, a run that keeps A transposed and a float run,
 -- computed: MLEN 128, RLEN 64, ELEN 32, a memory of 64 bytes; at the end MLEN 256, RLEN 128, ELEN 64.
-use Rattle.width.specs.Kit.{_≡_, refl, List, [], _∷_, _++_, map, ℕ, _-_, _*_, _^_, length, drop, replicate, pos, negsuc}
+use Rattle.numbers.specs.Kit.{_≡_, refl, List, [], _∷_, _++_, map, ℕ, _-_, _*_, _^_, length, drop, replicate, pos, negsuc}
 use lib.Ieee as Ieee
-use Rattle.width.specs.Reduce.{reduce}
-use Rattle.width.specs.Tile.{putTile, putRow, putLe, markTile, markRow}
-use Rattle.width.specs.Blocks.{chunks}
-use Rattle.width.specs.Binary32.{valueOf, settled, multiplyAdd, floatSum, floatProduct}
+use Rattle.numbers.specs.Reduce.{reduce}
+use Rattle.numbers.specs.Tile.{putTile, putRow, putLe, markTile, markRow}
+use Rattle.numbers.specs.Blocks.{chunks}
+use Rattle.numbers.specs.Binary32.{valueOf, settled, multiplyAdd, floatSum, floatProduct}
 use Rattle.machine.specs.Geometry.{permitted}
 use Rattle.machine.specs.Setting.{halving, chosen, newType, legalType, sew}
 use Rattle.machine.specs.Memory.{inside, misses, rowsMiss, distinct, stored}

@@ -1,5 +1,5 @@
 -- One word at a time: the place of a run, the word handed out there, and the place after it.
-use Rattle.width.specs.Kit.{cond, Option, none, some, ℕ, _+_, _-_, ltb}
+use Rattle.numbers.specs.Kit.{cond, Option, none, some, ℕ, _+_, _-_, ltb}
 use Rattle.run.specs.declared.Place.{Place}
 use Rattle.run.specs.declared.Place.the-variants.{AtType, AtM, AtN, AtClear, AtK, AtA, AtB, AtMultiply, AtStore, AtEnd}
 use Rattle.run.specs.Words.{Op, setType, setM, setK, setN, clear, loadA, loadB, multiply, store, Shape, sizeM, sizeN, sizeK}

@@ -1,8 +1,8 @@
 -- A plan: its widths, the rows of its matrices in memory, and the product that C shall be.
-use Rattle.width.specs.Kit.{_≡_, cond, List, ℕ, _+_, _*_, _/_, _^_, _<_, eqb, length, getD, _*ℤ_}
-use Rattle.width.specs.Reduce.{signed, reduce, sumℤ}
-use Rattle.width.specs.Binary32.{valueOf, settled, floatSum, plusZero}
-use Rattle.width.specs.Tile.{In}
+use Rattle.numbers.specs.Kit.{_≡_, cond, List, ℕ, _+_, _*_, _/_, _^_, _<_, eqb, length, getD, _*ℤ_}
+use Rattle.numbers.specs.Reduce.{signed, reduce, sumℤ}
+use Rattle.numbers.specs.Binary32.{valueOf, settled, floatSum, plusZero}
+use Rattle.numbers.specs.Tile.{In}
 use Rattle.machine.specs.declared.Form.{Form}
 use Rattle.machine.specs.declared.Form.the-variants.{Plain, Transposed}
 use Rattle.machine.specs.Geometry.{Parameters}

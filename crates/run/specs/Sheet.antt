@@ -1,6 +1,6 @@
 -- The lines of 01's bench sheet that are marked *, as one theorem over a list; and 01's product example, run through its words.
-use Rattle.width.specs.Kit.{_≡_, List, [], _∷_, _++_, map, ℕ, _+_, _*_, _^_, length, getD, replicate, pos, negsuc}
-use Rattle.width.specs.Reduce.{reduce}
+use Rattle.numbers.specs.Kit.{_≡_, List, [], _∷_, _++_, map, ℕ, _+_, _*_, _^_, length, getD, replicate, pos, negsuc}
+use Rattle.numbers.specs.Reduce.{reduce}
 use Rattle.machine.specs.Geometry.{Parameters, parameters}
 use Rattle.machine.specs.Setting.{smaller, chosen, maxM, maxK, maxN}
 use Rattle.machine.specs.Operation.{element}

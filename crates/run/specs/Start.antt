@@ -1,6 +1,6 @@
 -- The start of a run: its checks in the order 8, 6, 9.
-use Rattle.width.specs.Kit.{Bool, cond, not, List, [], _∷_, ℕ, _+_, _*_, leb, eqb, length}
-use Rattle.width.specs.Blocks.{Choice}
+use Rattle.numbers.specs.Kit.{Bool, cond, not, List, [], _∷_, ℕ, _+_, _*_, leb, eqb, length}
+use Rattle.numbers.specs.Blocks.{Choice}
 use Rattle.machine.specs.declared.Machine.{Machine}
 use Rattle.machine.specs.declared.Answer.the-variants.{BadArguments, OutsideMemory, Overlap}
 use Rattle.machine.specs.Tests.{all, every, isIn, within}

@@ -1,7 +1,7 @@
 -- Demand 3, the statement: when a start is accepted and what it answers otherwise, and what holds after any number of turns.
-use Rattle.width.specs.Kit.{_≡_, _⊎_, true, List, Option, none, some, ℕ, suc, _*_, _^_, _≤_, _<_, min, length, getD, ℤ, pos, _+ℤ_}
-use Rattle.width.specs.Tile.{In}
-use Rattle.width.specs.Blocks.{Choice, EachGrants}
+use Rattle.numbers.specs.Kit.{_≡_, _⊎_, true, List, Option, none, some, ℕ, suc, _*_, _^_, _≤_, _<_, min, length, getD, ℤ, pos, _+ℤ_}
+use Rattle.numbers.specs.Tile.{In}
+use Rattle.numbers.specs.Blocks.{Choice, EachGrants}
 use Rattle.machine.specs.declared.Reply.{Reply}
 use Rattle.machine.specs.Geometry.{Range, sealed, parameters, Bench}
 use Rattle.machine.specs.Setting.{smaller, halving, chosen}

@@ -1,6 +1,6 @@
 -- Demands 1 and 2 where product runs are made. The proofs stand in proofs/.
-use Rattle.width.specs.Kit.{_≡_, true, List, none, ℕ, getD}
-use Rattle.width.specs.Blocks.{Choice}
+use Rattle.numbers.specs.Kit.{_≡_, true, List, none, ℕ, getD}
+use Rattle.numbers.specs.Blocks.{Choice}
 use Rattle.machine.specs.Geometry.{Range, sealed, Bench, benchOf}
 use Rattle.machine.specs.Starting.{ranges, startMachine}
 use Rattle.machine.specs.Vectors.{Vectors}

@@ -1,9 +1,9 @@
 -- A turn: a step is asked for and, if one is handed out, carried out with the run's own scalars.
-use Rattle.width.specs.Kit.{Bool, true, cond, List, [], _∷_, Option, none, some, Option·getD, ℕ, zero, suc, _+_}
+use Rattle.numbers.specs.Kit.{Bool, true, cond, List, [], _∷_, Option, none, some, Option·getD, ℕ, zero, suc, _+_}
 use Rattle.machine.specs.declared.Answer.the-variants.{Done, BadArguments}
 use Rattle.machine.specs.declared.Reply.{Reply}
 use Rattle.machine.specs.Answers.{reply, done}
-use Rattle.width.specs.Blocks.{Choice, chunks}
+use Rattle.numbers.specs.Blocks.{Choice, chunks}
 use Rattle.machine.specs.Tests.{every, isIn}
 use Rattle.machine.specs.Geometry.{Parameters, parametersOf, permitted}
 use Rattle.machine.specs.Starting.{isRule}

@@ -1,6 +1,6 @@
 -- A whole product run: a start, and as many turns as there are steps; and what a customer is told of it.
-use Rattle.width.specs.Kit.{_≡_, List, ℕ, _<_}
-use Rattle.width.specs.Blocks.{Choice}
+use Rattle.numbers.specs.Kit.{_≡_, List, ℕ, _<_}
+use Rattle.numbers.specs.Blocks.{Choice}
 use Rattle.machine.specs.declared.Reply.{Reply}
 use Rattle.machine.specs.Answers.{reply}
 use Rattle.machine.specs.Geometry.{Range, Bench, benchOf}

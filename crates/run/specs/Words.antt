@@ -1,6 +1,6 @@
 -- The words of a product run, as 01 lists them: nested loops over the blocks of rows, columns and terms.
-use Rattle.width.specs.Kit.{List, [], _∷_, _++_, ℕ, _+_, _*_, _-_}
-use Rattle.width.specs.Blocks.{chunks, count}
+use Rattle.numbers.specs.Kit.{List, [], _∷_, _++_, ℕ, _+_, _*_, _-_}
+use Rattle.numbers.specs.Blocks.{chunks, count}
 
 -- what a step of a run does: the mtype of the plan; a size that is asked; the clear; a load from a row and a column; ..
 pub data Op : Type 0 where

@@ -6,11 +6,11 @@ use Rattle.machine.specs.declared.Wrong.the-variants.{Opcode, LeftOut, Unlisted
 use Rattle.machine.specs.declared.Instruction.{Instruction}
 use Rattle.machine.specs.declared.Instruction.the-variants.{Illegal, SetTypeImmediate, SetType, SetTileImmediate, SetTile, Load, Store, Multiply, Combine, Scale, ScaleImmediate, FloatMultiply, MoveOut, MoveIn}
 use Rattle.machine.specs.Listing.{decode}
-use Rattle.assembly.specs.declared.Texted.{Texted}
-use Rattle.assembly.specs.Answers.{textReply, codeAnswer, codeNumber}
-use Rattle.assembly.specs.Lines.{line}
-use Rattle.assembly.specs.Theorems.{isLegal, hasLine}
-use Rattle.assembly.proofs.LegalLaws.{legal-have-lines}
+use Rattle.text_assembly.specs.declared.Texted.{Texted}
+use Rattle.text_assembly.specs.Answers.{textReply, codeAnswer, codeNumber}
+use Rattle.text_assembly.specs.Lines.{line}
+use Rattle.text_assembly.specs.Theorems.{isLegal, hasLine}
+use Rattle.text_assembly.proofs.LegalLaws.{legal-have-lines}
 
 legal-number : (i : Instruction) → isLegal i ≡ eqb (codeNumber i) 0
 legal-number (Illegal Opcode) = refl

@@ -12,11 +12,11 @@ use Rattle.machine.specs.declared.Instruction.{Instruction}
 use Rattle.machine.specs.declared.Instruction.the-variants.{Illegal}
 use Rattle.machine.specs.Tests.{isIn, every}
 use Rattle.machine.specs.Listing.{field7, field15, field20, listing, inRange, ranged}
-use Rattle.decode_table.specs.Table.{meant}
-use Rattle.assembly.specs.declared.Texted.{Texted}
-use Rattle.assembly.specs.declared.Texted.the-variants.{Done, NoLine}
-use Rattle.assembly.specs.Bytes.{bytes}
-use Rattle.assembly.specs.Answers.{codeAnswer}
+use Rattle.unit_table.specs.Table.{meant}
+use Rattle.text_assembly.specs.declared.Texted.{Texted}
+use Rattle.text_assembly.specs.declared.Texted.the-variants.{Done, NoLine}
+use Rattle.text_assembly.specs.Bytes.{bytes}
+use Rattle.text_assembly.specs.Answers.{codeAnswer}
 
 abbrev pub shapes : List ℕ
 shapes = bytes "-ssssssssttttttttccccttttttttccccmmm.me.e.ee.e.ee.e.ee.e.eeee................................................ttttttttccccttttttttcccc................................................................................................vc....vc..................."

@@ -1,12 +1,12 @@
 // The answers to words and lines of text: their numbers and columns, and a refused line as it is printed.
-use assembly::Texted;
-use decode::are_registers;
-use decode::high_field;
-use decode::low_field;
-use decode::middle_field;
-use decode::rest_right;
-use decode_table::entry_for_text;
 use machine::Wrong;
+use text_assembly::Texted;
+use unit_decode::are_registers;
+use unit_decode::high_field;
+use unit_decode::low_field;
+use unit_decode::middle_field;
+use unit_decode::rest_right;
+use unit_table::entry_for_text;
 ghost use mathlib.Core.Path.{_≡_};
 ghost use mathlib.Core.Bool.{cond};
 ghost use mathlib.Core.List.{[], _∷_};
@@ -18,11 +18,11 @@ ghost use Rattle.machine.specs.Refusals.{wordAnswer};
 ghost use Rattle.machine.specs.Tests.{every};
 ghost use Rattle.machine.specs.Listing.{listing, decode, ranged};
 ghost use Rattle.machine.specs.declared.Wrong.the-variants.{Register};
-ghost use Rattle.decode_table.specs.Table.{entryOf, meant};
-ghost use Rattle.lines.specs.Parts.{Wrote};
-ghost use Rattle.assembly.specs.declared.Texted.the-variants.{Done, NoLine};
-ghost use Rattle.assembly.specs.Answers.{textReply, codeAnswer};
-ghost use Rattle.assembly.specs.Programs.{refusal, refused};
+ghost use Rattle.unit_table.specs.Table.{entryOf, meant};
+ghost use Rattle.text_lines.specs.Parts.{Wrote};
+ghost use Rattle.text_assembly.specs.declared.Texted.the-variants.{Done, NoLine};
+ghost use Rattle.text_assembly.specs.Answers.{textReply, codeAnswer};
+ghost use Rattle.text_assembly.specs.Programs.{refusal, refused};
 
 fn wrong_number(wrong: Wrong) -> u64
     ensures { λ r. ⌜ r ≡ number (wordAnswer wrong) ⌝ }
@@ -151,10 +151,10 @@ fn put_refusal(out: &mut [u8], at: usize, answer: u64, column: u64) -> usize
     requires { ⌜ at + length (refusal answer column) ≤ length (now out) ⌝ }
     ensures { λ r. ⌜ Wrote (now (out .entry)) at (now (out .exit)) r (refusal answer column) ⌝ }
 {
-    let a = lines::put_text(out, at, b"answer ");
-    let b = lines::put_decimal(out, a, answer);
-    let c = lines::put_byte(out, b, 32);
-    lines::put_decimal(out, c, column)
+    let a = text_lines::put_text(out, at, b"answer ");
+    let b = text_lines::put_decimal(out, a, answer);
+    let c = text_lines::put_byte(out, b, 32);
+    text_lines::put_decimal(out, c, column)
 }
 
 // A refused line.

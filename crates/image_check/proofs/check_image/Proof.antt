@@ -1,5 +1,5 @@
 -- `image_check::check_image` meets its contract.
-use Rattle.width.proofs.Kit.{ap, _∙_, length, needs}
+use Rattle.numbers.proofs.Kit.{ap, _∙_, length, needs}
 use Rattle.image_check.specs.declared.scan.Scanned.{Scanned}
 use Rattle.image_check.specs.Parts.{verdictIn}
 use Rattle.image_check.proofs.CheckLaws.{verdict-is}

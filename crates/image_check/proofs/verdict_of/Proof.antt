@@ -1,5 +1,5 @@
 -- `image_check::verdict_of` meets its contract.
-use Rattle.width.proofs.Kit.{eq-eqb, ne-eqb}
+use Rattle.numbers.proofs.Kit.{eq-eqb, ne-eqb}
 use Rattle.image_check.specs.Parts.{verdictIn}
 use Rattle.image_check.proofs.verdict_of.Statement.{statement}
 use Rattle.image_check.proofs.verdict_of.Tie as tie

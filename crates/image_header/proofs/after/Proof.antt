@@ -1,5 +1,5 @@
 -- `image_header::after` meets its contract.
-use Rattle.width.proofs.Kit.{eq-eqb, ne-eqb, needs}
+use Rattle.numbers.proofs.Kit.{eq-eqb, ne-eqb, needs}
 use Rattle.image_header.specs.Fields.{after}
 use Rattle.image_header.proofs.after.Statement.{statement}
 use Rattle.image_header.proofs.after.Tie as tie

@@ -1,6 +1,6 @@
 -- `image_header::count_at` meets its contract.
-use Rattle.width.proofs.Kit.{ap, _∙_, arith, needs}
-use Rattle.reader.specs.At.{plain}
+use Rattle.numbers.proofs.Kit.{ap, _∙_, arith, needs}
+use Rattle.numbers_coded.specs.At.{plain}
 use Rattle.image_header.proofs.HeadLaws.{count-end, count-bad, count-some}
 use Rattle.image_header.proofs.count_at.Statement.{statement}
 use Rattle.image_header.proofs.count_at.Tie as tie

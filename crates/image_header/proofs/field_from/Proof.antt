@@ -1,5 +1,5 @@
 -- `image_header::field_from` meets its contract.
-use Rattle.width.proofs.Kit.{sym, subst, not-true, not-false, needs}
+use Rattle.numbers.proofs.Kit.{sym, subst, not-true, not-false, needs}
 use Rattle.image_header.specs.Fields.{RowOk}
 use Rattle.image_header.proofs.ReadyLaws.{row-ok}
 use Rattle.image_header.proofs.ReadyLaws.{field-bad, field-sizes, field-good}

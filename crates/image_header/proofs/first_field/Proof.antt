@@ -1,6 +1,6 @@
 -- `image_header::first_field` meets its contract.
 use Rattle.image_header.specs.Fields.{rowAt}
-use Rattle.width.proofs.Kit.{needs}
+use Rattle.numbers.proofs.Kit.{needs}
 use Rattle.image_header.proofs.first_field.Statement.{statement}
 use Rattle.image_header.proofs.first_field.Tie as tie
 

@@ -1,5 +1,5 @@
 use Rattle.image_header.proofs.HeadLaws.{least-other, least-wide, least-far, least-near}
-use Rattle.width.proofs.Kit.{arith, needs}
+use Rattle.numbers.proofs.Kit.{arith, needs}
 use Rattle.image_header.proofs.least_mlen.Statement.{statement}
 use Rattle.image_header.proofs.least_mlen.Tie as tie
 

@@ -1,5 +1,5 @@
 -- `image_header::least_rule` meets its contract.
-use Rattle.width.proofs.Kit.{eq-eqb, ne-eqb}
+use Rattle.numbers.proofs.Kit.{eq-eqb, ne-eqb}
 use Rattle.image_header.proofs.least_rule.Statement.{statement}
 use Rattle.image_header.proofs.least_rule.Tie as tie
 

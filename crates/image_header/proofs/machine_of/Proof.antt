@@ -1,5 +1,5 @@
 -- `image_header::machine_of` meets its contract.
-use Rattle.width.proofs.Kit.{needs}
+use Rattle.numbers.proofs.Kit.{needs}
 use Rattle.image_header.proofs.machine_of.Statement.{statement}
 use Rattle.image_header.proofs.machine_of.Tie as tie
 

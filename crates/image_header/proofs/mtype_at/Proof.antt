@@ -1,6 +1,6 @@
 -- `image_header::mtype_at` meets its contract.
-use Rattle.width.proofs.Kit.{ap, _∙_, inl, inr, arith, needs}
-use Rattle.reader.specs.At.{plain}
+use Rattle.numbers.proofs.Kit.{ap, _∙_, inl, inr, arith, needs}
+use Rattle.numbers_coded.specs.At.{plain}
 use Rattle.image_header.proofs.HeadLaws.{mtype-end, mtype-small, mtype-eight, mtype-none, mtype-odd, mtype-wide}
 use Rattle.image_header.proofs.mtype_at.Statement.{statement}
 use Rattle.image_header.proofs.mtype_at.Tie as tie

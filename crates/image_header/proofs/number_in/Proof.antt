@@ -1,5 +1,5 @@
 -- `image_header::number_in` meets its contract.
-use Rattle.width.proofs.Kit.{_∙_, eq-eqb, ne-eqb, needs}
+use Rattle.numbers.proofs.Kit.{_∙_, eq-eqb, ne-eqb, needs}
 use Rattle.image_header.specs.Fields.{numberIn}
 use Rattle.image_header.proofs.number_in.Statement.{statement}
 use Rattle.image_header.proofs.number_in.Tie as tie

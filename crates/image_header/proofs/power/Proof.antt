@@ -1,5 +1,5 @@
 -- `image_header::power` meets its contract.
-use Rattle.width.proofs.Kit.{_∙_, _^_, _≤_, mod-eq-of-lt, arith, pow-mono, needs}
+use Rattle.numbers.proofs.Kit.{_∙_, _^_, _≤_, mod-eq-of-lt, arith, pow-mono, needs}
 use Rattle.image_header.proofs.power.Statement.{statement}
 use Rattle.image_header.proofs.power.Tie as tie
 

@@ -1,7 +1,7 @@
 -- `image_header::range_at` meets its contract.
-use Rattle.width.proofs.Kit.{_∙_, _-_, not-true, not-false, needs}
-use Rattle.reader.specs.At.{numberAt}
-use Rattle.reader.proofs.FromLaws.{good-is, bad-is}
+use Rattle.numbers.proofs.Kit.{_∙_, _-_, not-true, not-false, needs}
+use Rattle.numbers_coded.specs.At.{numberAt}
+use Rattle.numbers_coded.proofs.FromLaws.{good-is, bad-is}
 use Rattle.image_header.specs.Fields.{rangeAt}
 use Rattle.image_header.proofs.range_at.Statement.{statement}
 use Rattle.image_header.proofs.range_at.Tie as tie

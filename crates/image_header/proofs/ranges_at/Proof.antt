@@ -1,6 +1,6 @@
 -- `image_header::ranges_at` meets its contract.
-use Rattle.width.proofs.Kit.{_≡_, refl, ap, _∙_, arith, not-true, not-false, needs}
-use Rattle.reader.specs.At.{plain}
+use Rattle.numbers.proofs.Kit.{_≡_, refl, ap, _∙_, arith, not-true, not-false, needs}
+use Rattle.numbers_coded.specs.At.{plain}
 use Rattle.image_header.specs.Fields.{Place, placed, rangesEnd, rangesAt}
 use Rattle.image_header.proofs.HeadLaws.{range-good, range-bad, ranges-none}
 use Rattle.image_header.proofs.HeadLaws.{ranges-bad, ranges-next}

@@ -1,5 +1,5 @@
 -- `image_header::rested` meets its contract.
-use Rattle.width.proofs.Kit.{needs}
+use Rattle.numbers.proofs.Kit.{needs}
 use Rattle.image_header.proofs.rested.Statement.{statement}
 use Rattle.image_header.proofs.rested.Tie as tie
 

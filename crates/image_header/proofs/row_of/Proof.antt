@@ -1,5 +1,5 @@
 -- `image_header::row_of` meets its contract.
-use Rattle.width.proofs.Kit.{_∙_, add-one, needs}
+use Rattle.numbers.proofs.Kit.{_∙_, add-one, needs}
 use Rattle.image_header.specs.Fields.{rowAt}
 use Rattle.image_header.proofs.FieldLaws.{row-last}
 use Rattle.image_header.proofs.row_of.Statement.{statement}

@@ -1,4 +1,4 @@
-use Rattle.width.proofs.Kit.{arith, lt-ltb, le-ltb}
+use Rattle.numbers.proofs.Kit.{arith, lt-ltb, le-ltb}
 use Rattle.image.specs.ImageFormat.{topMlen}
 use Rattle.image_header.proofs.top_mlen.Statement.{statement}
 use Rattle.image_header.proofs.top_mlen.Tie as tie

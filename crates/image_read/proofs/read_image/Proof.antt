@@ -1,4 +1,4 @@
-use Rattle.width.proofs.Kit.{refl, sym, _∙_, true, false, needs}
+use Rattle.numbers.proofs.Kit.{refl, sym, _∙_, true, false, needs}
 use Rattle.image_read.proofs.BlockLaws.{block-short, block-read}
 use Rattle.image_read.proofs.read_image.Statement.{statement}
 use Rattle.image_read.proofs.read_image.Tie as tie

@@ -1,5 +1,5 @@
 -- `image_read::read_runs` meets its contract.
-use Rattle.width.proofs.Kit.{_≡_, refl, sym, ap, _∙_, subst, true, false, ℕ, _*_, _^_, _<_, arith, length, getD, not-true, not-false, needs}
+use Rattle.numbers.proofs.Kit.{_≡_, refl, sym, ap, _∙_, subst, true, false, ℕ, _*_, _^_, _<_, arith, length, getD, not-true, not-false, needs}
 use Rattle.machine.specs.declared.Machine.{Machine}
 use Rattle.image.specs.declared.Imaged.the-variants.{Done}
 use Rattle.image.specs.Reading.{restored}

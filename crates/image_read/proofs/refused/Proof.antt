@@ -1,4 +1,4 @@
-use Rattle.width.proofs.Kit.{needs}
+use Rattle.numbers.proofs.Kit.{needs}
 use Rattle.image_read.proofs.refused.Statement.{statement}
 use Rattle.image_read.proofs.refused.Tie as tie
 

@@ -1,5 +1,5 @@
 -- `image_write::exponent` meets its contract. The invariant: the halvings done and those left are all.
-use Rattle.width.proofs.Kit.{_≡_, _∙_, _+_, _-_, _^_, _≤_, _<_, arith}
+use Rattle.numbers.proofs.Kit.{_≡_, _∙_, _+_, _-_, _^_, _≤_, _<_, arith}
 use Rattle.image.specs.Images.{log2}
 use Rattle.image_write.proofs.ExponentLaws.{halved-none, more-left, halved-small, halved-more}
 use Rattle.image_write.proofs.exponent.Statement.{statement}

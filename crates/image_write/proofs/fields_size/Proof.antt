@@ -1,6 +1,6 @@
 -- `image_write::fields_size` meets its contract.
-use Rattle.width.proofs.Kit.{ap, _∙_, List, [], ℕ, arith, length, needs}
-use Rattle.format.specs.Numbers.{encodeAll}
+use Rattle.numbers.proofs.Kit.{ap, _∙_, List, [], ℕ, arith, length, needs}
+use Rattle.numbers_format.specs.Numbers.{encodeAll}
 use Rattle.image_write.proofs.fields_size.Statement.{statement}
 use Rattle.image_write.proofs.fields_size.Tie as tie
 

@@ -1,5 +1,5 @@
-use Rattle.width.proofs.Kit.{arith, needs}
-use Rattle.ranges.specs.Ranges.{sealsIn}
+use Rattle.numbers.proofs.Kit.{arith, needs}
+use Rattle.unit_ranges.specs.Ranges.{sealsIn}
 use Rattle.image_write.proofs.SealLaws.{header-long}
 use Rattle.image_write.proofs.header_size.Statement.{statement}
 use Rattle.image_write.proofs.header_size.Tie as tie

@@ -1,6 +1,6 @@
 -- `image_write::image_size` meets its contract.
-use Rattle.width.proofs.Kit.{_≡_, sym, _∙_, true, false, not-true, not-false, needs}
-use Rattle.ranges.specs.Ranges.{sealsIn}
+use Rattle.numbers.proofs.Kit.{_≡_, sym, _∙_, true, false, not-true, not-false, needs}
+use Rattle.unit_ranges.specs.Ranges.{sealsIn}
 use Rattle.image.specs.Images.{soundWith}
 use Rattle.image_write.proofs.WriteLaws.{size-refused, size-done}
 use Rattle.image_write.proofs.image_size.Statement.{statement}

@@ -1,4 +1,4 @@
-use Rattle.width.proofs.Kit.{refl, sym, ap, _∙_, true, false, ℕ, arith, ltb, eq-eqb, ne-eqb, lt-ltb, le-ltb, needs}
+use Rattle.numbers.proofs.Kit.{refl, sym, ap, _∙_, true, false, ℕ, arith, ltb, eq-eqb, ne-eqb, lt-ltb, le-ltb, needs}
 use Rattle.image.specs.Images.{exponent}
 use Rattle.image_write.proofs.PutLaws.{beyond-by}
 use Rattle.image_write.proofs.is_beyond.Statement.{statement}

@@ -1,6 +1,6 @@
 -- `image_write::measure_of` meets its contract.
-use Rattle.width.proofs.Kit.{_+_, _≤_, arith}
-use Rattle.ranges.specs.Ranges.{sealsIn}
+use Rattle.numbers.proofs.Kit.{_+_, _≤_, arith}
+use Rattle.unit_ranges.specs.Ranges.{sealsIn}
 use Rattle.image_write.proofs.WriteLaws.{seals-fit, two-valued, few-marks, count-is, image-size-is}
 use Rattle.image_write.proofs.measure_of.Statement.{statement}
 use Rattle.image_write.proofs.measure_of.Tie as tie

@@ -1,6 +1,6 @@
 -- `image_write::put_fields` meets its contract.
-use Rattle.width.proofs.Kit.{ap, _∙_, List, [], ℕ, arith, length, sets, needs}
-use Rattle.format.specs.Numbers.{encodeAll}
+use Rattle.numbers.proofs.Kit.{ap, _∙_, List, [], ℕ, arith, length, sets, needs}
+use Rattle.numbers_format.specs.Numbers.{encodeAll}
 use Rattle.image_write.proofs.put_fields.Statement.{statement}
 use Rattle.image_write.proofs.put_fields.Tie as tie
 

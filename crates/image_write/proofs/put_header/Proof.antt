@@ -1,7 +1,7 @@
 -- `image_write::put_header` meets its contract.
-use Rattle.width.proofs.Kit.{_≡_, sym, ap, _∙_, List, [], _∷_, _++_, ℕ, arith, sets, needs}
-use Rattle.format.specs.Numbers.{encode, encodeAll}
-use Rattle.ranges.specs.Ranges.{sealsIn}
+use Rattle.numbers.proofs.Kit.{_≡_, sym, ap, _∙_, List, [], _∷_, _++_, ℕ, arith, sets, needs}
+use Rattle.numbers_format.specs.Numbers.{encode, encodeAll}
+use Rattle.unit_ranges.specs.Ranges.{sealsIn}
 use Rattle.image.specs.Images.{sealFields, headerOf}
 use Rattle.image_write.specs.Parts.{plainFields}
 use Rattle.image_write.proofs.PutLaws.{put-three}

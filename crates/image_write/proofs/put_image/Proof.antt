@@ -1,8 +1,8 @@
 -- `image_write::put_image` meets its contract.
-use Rattle.width.proofs.Kit.{_≡_, true, [], _∷_, _++_, _+_, _≤_, arith, length, needs}
-use Rattle.format.specs.Numbers.{encodeAll}
+use Rattle.numbers.proofs.Kit.{_≡_, true, [], _∷_, _++_, _+_, _≤_, arith, length, needs}
+use Rattle.numbers_format.specs.Numbers.{encodeAll}
 use Rattle.machine.specs.Faults.{sealsFit}
-use Rattle.ranges.specs.Ranges.{sealsIn}
+use Rattle.unit_ranges.specs.Ranges.{sealsIn}
 use Rattle.image.specs.Cells.{cellsOf, runs}
 use Rattle.image.specs.Images.{version, fields, headerOf, runsBytes}
 use Rattle.image_write.proofs.WriteLaws.{seals-fit, two-valued, same-size, size-is, image-put}

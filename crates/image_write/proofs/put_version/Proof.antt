@@ -1,5 +1,5 @@
-use Rattle.width.proofs.Kit.{_≡_, sym, ap, _∙_, List, [], ℕ, arith, length, take, length-take, sets, needs}
-use Rattle.format.specs.Numbers.{encodeAll}
+use Rattle.numbers.proofs.Kit.{_≡_, sym, ap, _∙_, List, [], ℕ, arith, length, take, length-take, sets, needs}
+use Rattle.numbers_format.specs.Numbers.{encodeAll}
 use Rattle.image_write.proofs.put_version.Statement.{statement}
 use Rattle.image_write.proofs.put_version.Tie as tie
 

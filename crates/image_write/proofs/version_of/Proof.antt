@@ -1,5 +1,5 @@
-use Rattle.width.proofs.Kit.{_≡_, sym, _∙_, ℕ, arith, length, needs}
-use Rattle.ranges.specs.Ranges.{sealsIn}
+use Rattle.numbers.proofs.Kit.{_≡_, sym, _∙_, ℕ, arith, length, needs}
+use Rattle.unit_ranges.specs.Ranges.{sealsIn}
 use Rattle.image.specs.Images.{headerOf}
 use Rattle.image_write.proofs.PutLaws.{version-four, version-three, version-two, version-one}
 use Rattle.image_write.proofs.SealLaws.{seals-many}

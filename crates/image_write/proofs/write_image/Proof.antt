@@ -1,6 +1,6 @@
 -- `image_write::write_image` meets its contract.
-use Rattle.width.proofs.Kit.{_≡_, sym, _∙_, true, false, arith, not-true, not-false, needs}
-use Rattle.ranges.specs.Ranges.{sealsIn}
+use Rattle.numbers.proofs.Kit.{_≡_, sym, _∙_, true, false, arith, not-true, not-false, needs}
+use Rattle.unit_ranges.specs.Ranges.{sealsIn}
 use Rattle.image.specs.Images.{soundWith}
 use Rattle.image_write.proofs.WriteLaws.{write-refused, write-short, write-done}
 use Rattle.image_write.proofs.write_image.Statement.{statement}

@@ -1,4 +1,4 @@
-use Rattle.width.proofs.Kit.{sym, _∙_, true, false, arith, needs}
+use Rattle.numbers.proofs.Kit.{sym, _∙_, true, false, arith, needs}
 use Rattle.machine.proofs.SizeLaws.{chosen-by}
 use Rattle.machine.proofs.chosen.Statement.{statement}
 use Rattle.machine.proofs.chosen.Tie as tie

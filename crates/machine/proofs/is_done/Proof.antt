@@ -1,4 +1,4 @@
-use Rattle.width.proofs.Kit.{ap, needs}
+use Rattle.numbers.proofs.Kit.{ap, needs}
 use Rattle.machine.specs.Answers.{done}
 use Rattle.machine.proofs.is_done.Statement.{statement}
 use Rattle.machine.proofs.is_done.Tie as tie

@@ -1,4 +1,4 @@
-use Rattle.width.proofs.Kit.{_<_, arith, eq-eqb, ne-eqb, le-ltb, lt-ltb, needs}
+use Rattle.numbers.proofs.Kit.{_<_, arith, eq-eqb, ne-eqb, le-ltb, lt-ltb, needs}
 use Rattle.machine.proofs.SizeLaws.{below-twice}
 use Rattle.machine.proofs.is_halved.Statement.{statement}
 use Rattle.machine.proofs.is_halved.Tie as tie

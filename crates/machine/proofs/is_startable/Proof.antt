@@ -1,4 +1,4 @@
-use Rattle.width.proofs.Kit.{_≡_, refl, sym, _∙_, true, false, _*_, _%_, arith, length, not-true, not-false, eq-eqb, ne-eqb, needs}
+use Rattle.numbers.proofs.Kit.{_≡_, refl, sym, _∙_, true, false, _*_, _%_, arith, length, not-true, not-false, eq-eqb, ne-eqb, needs}
 use Rattle.machine.specs.Geometry.{permitted}
 use Rattle.machine.specs.Starting.{sealsEnd, ranges}
 use Rattle.machine.proofs.StartLaws.{startable-by, and-truth}

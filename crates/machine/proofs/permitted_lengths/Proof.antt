@@ -1,4 +1,4 @@
-use Rattle.width.proofs.Kit.{_≡_, refl, sym, _∙_, true, false, _<_, arith, not-true, not-false, lt-ltb, le-ltb, needs}
+use Rattle.numbers.proofs.Kit.{_≡_, refl, sym, _∙_, true, false, _<_, arith, not-true, not-false, lt-ltb, le-ltb, needs}
 use Rattle.machine.proofs.StartLaws.{permitted-by}
 use Rattle.machine.specs.Geometry.{rlens, mlens, elens}
 use Rattle.machine.specs.Tests.{isIn}

@@ -1,4 +1,4 @@
-use Rattle.width.proofs.Kit.{sym, ap, _∙_, needs}
+use Rattle.numbers.proofs.Kit.{sym, ap, _∙_, needs}
 use Rattle.machine.specs.Answers.{reply}
 use Rattle.machine.proofs.reply_of.Statement.{statement}
 use Rattle.machine.proofs.reply_of.Tie as tie

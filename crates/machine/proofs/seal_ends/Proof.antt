@@ -1,4 +1,4 @@
-use Rattle.width.proofs.Kit.{needs}
+use Rattle.numbers.proofs.Kit.{needs}
 use Rattle.machine.proofs.StartLaws.{seal-fits}
 use Rattle.machine.proofs.seal_ends.Statement.{statement}
 use Rattle.machine.proofs.seal_ends.Tie as tie

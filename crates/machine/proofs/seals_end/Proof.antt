@@ -1,5 +1,5 @@
-use Rattle.width.proofs.Kit.{_≡_, refl, sym, ap, _∙_, Bool, true, false, _&&_, List, ℕ, _+_, _-_, _≤_, arith, length, getD, drop, not-true, not-false}
-use Rattle.width.proofs.Kit.{needs}
+use Rattle.numbers.proofs.Kit.{_≡_, refl, sym, ap, _∙_, Bool, true, false, _&&_, List, ℕ, _+_, _-_, _≤_, arith, length, getD, drop, not-true, not-false}
+use Rattle.numbers.proofs.Kit.{needs}
 use Rattle.machine.specs.Geometry.{Range}
 use Rattle.machine.specs.Starting.{sealEnds, sealsEnd, ranges}
 use Rattle.machine.proofs.StartLaws.{ranges-from, ranges-end}

@@ -1,4 +1,4 @@
-use Rattle.width.proofs.Kit.{sym, ap, ap₂, _∙_, true, false, List, ℕ, arith, not-true, not-false, needs}
+use Rattle.numbers.proofs.Kit.{sym, ap, ap₂, _∙_, true, false, List, ℕ, arith, not-true, not-false, needs}
 use Rattle.machine.specs.declared.Machine.{Machine}
 use Rattle.machine.specs.declared.Answer.the-variants.{Done, BadArguments, TooManySeals}
 use Rattle.machine.specs.Starting.{startedAs}

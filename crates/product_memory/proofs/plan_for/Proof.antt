@@ -1,6 +1,6 @@
 -- The products fit: a row has at most 64 bytes.
-use Rattle.width.proofs.Kit.{_*_, _/_, arith, needs}
-use Rattle.element.proofs.Laws.{short-small}
+use Rattle.numbers.proofs.Kit.{_*_, _/_, arith, needs}
+use Rattle.unit_element.proofs.Laws.{short-small}
 use Rattle.product_memory.proofs.MemoryLaws.{widths, row-small}
 use Rattle.product_memory.proofs.plan_for.Statement.{statement}
 use Rattle.product_memory.proofs.plan_for.Tie as tie

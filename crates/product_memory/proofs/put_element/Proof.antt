@@ -1,6 +1,6 @@
 -- By cases of the width.
-use Rattle.width.proofs.Kit.{_∙_, arith, needs}
-use Rattle.element.proofs.Laws.{is4}
+use Rattle.numbers.proofs.Kit.{_∙_, arith, needs}
+use Rattle.unit_element.proofs.Laws.{is4}
 use Rattle.product_memory.proofs.MemoryLaws.{put-low}
 use Rattle.product_memory.proofs.put_element.Statement.{statement}
 use Rattle.product_memory.proofs.put_element.Tie as tie

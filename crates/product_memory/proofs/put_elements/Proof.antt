@@ -1,8 +1,8 @@
 -- The loop: the first `i` values are stored.
-use Rattle.width.proofs.Kit.{_≡_, refl, ap, _∙_, ℕ, _+_, _-_, _*_, _≤_, zero-mul, arith, length, getD, needs}
-use Rattle.width.specs.Tile.{putRow}
-use Rattle.width.proofs.PutLaws.{row-fits, next-row}
-use Rattle.width.proofs.ElementLaws.{putRow-next}
+use Rattle.numbers.proofs.Kit.{_≡_, refl, ap, _∙_, ℕ, _+_, _-_, _*_, _≤_, zero-mul, arith, length, getD, needs}
+use Rattle.numbers.specs.Tile.{putRow}
+use Rattle.numbers.proofs.PutLaws.{row-fits, next-row}
+use Rattle.numbers.proofs.ElementLaws.{putRow-next}
 use Rattle.product_memory.proofs.put_elements.Statement.{statement}
 use Rattle.product_memory.proofs.put_elements.Tie as tie
 

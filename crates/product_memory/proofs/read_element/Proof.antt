@@ -1,7 +1,7 @@
 -- By cases of the width.
-use Rattle.width.proofs.Kit.{sym, ap, _∙_, arith, needs}
-use Rattle.width.specs.Tile.{getLe}
-use Rattle.element.proofs.Laws.{is4}
+use Rattle.numbers.proofs.Kit.{sym, ap, _∙_, arith, needs}
+use Rattle.numbers.specs.Tile.{getLe}
+use Rattle.unit_element.proofs.Laws.{is4}
 use Rattle.product_memory.proofs.read_element.Statement.{statement}
 use Rattle.product_memory.proofs.read_element.Tie as tie
 

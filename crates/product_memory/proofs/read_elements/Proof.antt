@@ -1,9 +1,9 @@
 -- The loop: below `j` the values are the elements.
-use Rattle.width.proofs.Kit.{_≡_, refl, ap, _∙_, ℕ, _+_, _-_, _*_, _≤_, _<_, zero-mul, arith, length, getD, set, length-set, getD-set-same, getD-set-other}
-use Rattle.width.proofs.Kit.{needs}
+use Rattle.numbers.proofs.Kit.{_≡_, refl, ap, _∙_, ℕ, _+_, _-_, _*_, _≤_, _<_, zero-mul, arith, length, getD, set, length-set, getD-set-same, getD-set-other}
+use Rattle.numbers.proofs.Kit.{needs}
 use borrow.Author.Count.{below-more}
-use Rattle.width.specs.Tile.{getLe}
-use Rattle.width.proofs.PutLaws.{row-fits, next-row}
+use Rattle.numbers.specs.Tile.{getLe}
+use Rattle.numbers.proofs.PutLaws.{row-fits, next-row}
 use Rattle.product_memory.proofs.read_elements.Statement.{statement}
 use Rattle.product_memory.proofs.read_elements.Tie as tie
 

@@ -7,9 +7,9 @@ use Rattle.machine.specs.declared.Wrong.the-variants.{Unlisted}
 use Rattle.machine.specs.declared.Instruction.{Instruction}
 use Rattle.machine.specs.declared.Instruction.the-variants.{Illegal}
 use Rattle.machine.specs.Listing.{bits, listing, ranged, decode}
-use Rattle.decode_table.specs.Table.{entryOf, restRight, meant}
-use Rattle.decode_table.proofs.TableLaws.{wrong-opcode, table-decodes}
-use Rattle.assembly.specs.Answers.{codeAnswer}
+use Rattle.unit_table.specs.Table.{entryOf, restRight, meant}
+use Rattle.unit_table.proofs.TableLaws.{wrong-opcode, table-decodes}
+use Rattle.text_assembly.specs.Answers.{codeAnswer}
 use borrow.Author.Needs.{needs}
 use Rattle.text_answers.proofs.code_answer.Statement.{statement}
 use Rattle.text_answers.proofs.code_answer.Tie as tie

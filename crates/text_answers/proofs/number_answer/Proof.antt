@@ -4,8 +4,8 @@ use Prim.Native.Nat.{ℕ}
 use native.Mathlib.Omega.{arith}
 use lib.Dec.{ltb}
 use Rattle.machine.specs.declared.Wrong.the-variants.{Unlisted, Register}
-use Rattle.assembly.specs.declared.Texted.{Texted}
-use Rattle.assembly.specs.declared.Texted.the-variants.{Done, NoLine}
+use Rattle.text_assembly.specs.declared.Texted.{Texted}
+use Rattle.text_assembly.specs.declared.Texted.the-variants.{Done, NoLine}
 use Rattle.text_answers.proofs.ShapeLaws.{with-shape, without-shape, registers-as, accumulators-as}
 use borrow.Author.Needs.{needs}
 use Rattle.text_answers.proofs.number_answer.Statement.{statement}

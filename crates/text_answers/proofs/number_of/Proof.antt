@@ -4,7 +4,7 @@ use Prim.Native.Nat.{ℕ, _/_, _%_}
 use native.Mathlib.Omega.{arith}
 use lib.ListN.{getD}
 use Rattle.machine.specs.Listing.{bits}
-use Rattle.decode_table.specs.Table.{numbers}
+use Rattle.unit_table.specs.Table.{numbers}
 use borrow.Author.Needs.{needs}
 use Rattle.text_answers.proofs.number_of.Statement.{statement}
 use Rattle.text_answers.proofs.number_of.Tie as tie

@@ -3,10 +3,10 @@ use mathlib.Core.List.{List, [], _∷_, _++_, append-nil}
 use Prim.Native.Nat.{ℕ}
 use native.Mathlib.Omega.{arith}
 use borrow.Author.Needs.{needs}
-use Rattle.lines.specs.Lines.{decimal}
-use Rattle.lines.proofs.WriteLaws.{Ahead, ahead-start, ahead-step, ahead-as, ahead-end, ahead-room}
-use Rattle.assembly.specs.Bytes.{bytes}
-use Rattle.assembly.specs.Programs.{refusal}
+use Rattle.text_lines.specs.Lines.{decimal}
+use Rattle.text_lines.proofs.WriteLaws.{Ahead, ahead-start, ahead-step, ahead-as, ahead-end, ahead-room}
+use Rattle.text_assembly.specs.Bytes.{bytes}
+use Rattle.text_assembly.specs.Programs.{refusal}
 use Rattle.text_answers.proofs.put_refusal.Statement.{statement}
 use Rattle.text_answers.proofs.put_refusal.Tie as tie
 

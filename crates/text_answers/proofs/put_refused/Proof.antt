@@ -1,8 +1,8 @@
 use mathlib.Core.Path.{_≡_, ap, ap₂}
 use native.Mathlib.Omega.{arith}
 use lib.ListN.{length}
-use Rattle.lines.proofs.WriteLaws.{wrote-as}
-use Rattle.assembly.specs.Programs.{refusal, refused}
+use Rattle.text_lines.proofs.WriteLaws.{wrote-as}
+use Rattle.text_assembly.specs.Programs.{refusal, refused}
 use borrow.Author.Needs.{needs}
 use Rattle.text_answers.proofs.put_refused.Statement.{statement}
 use Rattle.text_answers.proofs.put_refused.Tie as tie

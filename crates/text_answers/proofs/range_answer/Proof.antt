@@ -1,7 +1,7 @@
 use mathlib.Core.Path.{sym, ap}
 use mathlib.Core.Bool.{Bool, cond}
 use Rattle.machine.specs.declared.Wrong.the-variants.{Register}
-use Rattle.assembly.specs.declared.Texted.the-variants.{Done, NoLine}
+use Rattle.text_assembly.specs.declared.Texted.the-variants.{Done, NoLine}
 use borrow.Author.Needs.{needs}
 use Rattle.text_answers.proofs.range_answer.Statement.{statement}
 use Rattle.text_answers.proofs.range_answer.Tie as tie

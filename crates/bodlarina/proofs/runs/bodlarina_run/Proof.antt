@@ -1,7 +1,7 @@
 use mathlib.Core.Path.{ap, _∙_}
 use borrow.Author.Needs.{needs}
 use Rattle.run.specs.declared.Plan.{Plan}
-use Rattle.turn_calls.specs.TurnCalls.{HostRan, ranOut, hostRun}
+use Rattle.c_turn.specs.TurnCalls.{HostRan, ranOut, hostRun}
 use Rattle.bodlarina.specs.Host.{planIn}
 use Rattle.bodlarina.proofs.runs.bodlarina_run.Statement.{statement}
 use Rattle.bodlarina.proofs.runs.bodlarina_run.Tie as tie

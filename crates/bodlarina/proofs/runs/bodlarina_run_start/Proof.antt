@@ -1,7 +1,7 @@
 use mathlib.Core.Path.{ap, _∙_}
 use borrow.Author.Needs.{needs}
 use Rattle.run.specs.declared.Plan.{Plan}
-use Rattle.run_calls.specs.RunCalls.{HostRunStarted, runStartedOut, hostRunStart}
+use Rattle.c_run.specs.RunCalls.{HostRunStarted, runStartedOut, hostRunStart}
 use Rattle.bodlarina.specs.Host.{planIn}
 use Rattle.bodlarina.proofs.runs.bodlarina_run_start.Statement.{statement}
 use Rattle.bodlarina.proofs.runs.bodlarina_run_start.Tie as tie

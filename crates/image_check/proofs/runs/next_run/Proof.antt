@@ -1,7 +1,7 @@
 -- `image_check::runs::next_run` meets its contract.
-use Rattle.width.proofs.Kit.{_∙_, _+_, _-_, _*_, _≤_, arith, length, not-true, not-false, le-leb, lt-leb, needs}
-use Rattle.reader.specs.At.{numberAt}
-use Rattle.reader.proofs.FromLaws.{Took, took, good-is, bad-is}
+use Rattle.numbers.proofs.Kit.{_∙_, _+_, _-_, _*_, _≤_, arith, length, not-true, not-false, le-leb, lt-leb, needs}
+use Rattle.numbers_coded.specs.At.{numberAt}
+use Rattle.numbers_coded.proofs.FromLaws.{Took, took, good-is, bad-is}
 use Rattle.image_check.specs.Parts.{nextAt}
 use Rattle.image_check.proofs.runs.next_run.Statement.{statement}
 use Rattle.image_check.proofs.runs.next_run.Tie as tie

@@ -1,5 +1,5 @@
 -- `image_check::runs::run_from` meets its contract.
-use Rattle.width.proofs.Kit.{_≡_, ap, _∙_, ℕ, min, arith, not-true, not-false, needs}
+use Rattle.numbers.proofs.Kit.{_≡_, ap, _∙_, ℕ, min, arith, not-true, not-false, needs}
 use Rattle.image_check.specs.Parts.{plainRun, nextAt, runFrom}
 use Rattle.image_check.specs.Parts.Next.{NextRun}
 use Rattle.image_check.proofs.RunsLaws.{RunOk, next-known}

@@ -1,5 +1,5 @@
 -- `image_check::scan::found` meets its contract.
-use Rattle.width.proofs.Kit.{needs}
+use Rattle.numbers.proofs.Kit.{needs}
 use Rattle.image_check.proofs.scan.found.Statement.{statement}
 use Rattle.image_check.proofs.scan.found.Tie as tie
 

@@ -1,5 +1,5 @@
 -- `image_check::scan::runs_behind` meets its contract.
-use Rattle.width.proofs.Kit.{_^_, _≤_, arith, pow-mono, eq-eqb, ne-eqb, needs}
+use Rattle.numbers.proofs.Kit.{_^_, _≤_, arith, pow-mono, eq-eqb, ne-eqb, needs}
 use Rattle.image_check.specs.Parts.{runsBehind}
 use Rattle.image_check.proofs.scan.runs_behind.Statement.{statement}
 use Rattle.image_check.proofs.scan.runs_behind.Tie as tie

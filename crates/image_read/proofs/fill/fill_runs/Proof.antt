@@ -1,5 +1,5 @@
 -- `image_read::fill::fill_runs` meets its contract. The invariant: the runs that are left make of registers and marks what all make.
-use Rattle.width.proofs.Kit.{_≡_, refl, sym, ap, _∙_, List, ℕ, _+_, _-_, _*_, _≤_, arith, length, not-true, not-false}
+use Rattle.numbers.proofs.Kit.{_≡_, refl, sym, ap, _∙_, List, ℕ, _+_, _-_, _*_, _≤_, arith, length, not-true, not-false}
 use Rattle.image.specs.declared.Imaged.the-variants.{Done}
 use Rattle.image.specs.Cells.{Run, spread, over}
 use Rattle.image_check.specs.Parts.{nextAt, runsVerdict}

@@ -1,5 +1,5 @@
 -- `image_read::fill::put_marks` meets its contract. The invariant: what is still to be set makes of the marks what the whole makes.
-use Rattle.width.proofs.Kit.{_≡_, refl, sym, _∙_, _+_, _-_, _≤_, arith, length, replicate, length-set, sets}
+use Rattle.numbers.proofs.Kit.{_≡_, refl, sym, _∙_, _+_, _-_, _≤_, arith, length, replicate, length-set, sets}
 use Rattle.image_read.proofs.MarkLaws.{marks-start, marks-more, marks-end}
 use Rattle.image_read.proofs.fill.put_marks.Statement.{statement}
 use Rattle.image_read.proofs.fill.put_marks.Tie as tie

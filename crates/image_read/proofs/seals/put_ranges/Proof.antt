@@ -1,5 +1,5 @@
 -- `image_read::seals::put_ranges` meets its contract. The invariant: the ranges that are left make of the block what all make.
-use Rattle.width.proofs.Kit.{_≡_, refl, ap, _∙_, List, ℕ, _+_, _-_, _≤_, arith, length, not-true, not-false, needs}
+use Rattle.numbers.proofs.Kit.{_≡_, refl, ap, _∙_, List, ℕ, _+_, _-_, _≤_, arith, length, not-true, not-false, needs}
 use Rattle.image_header.specs.Fields.{rangeAt, rangesEnd, rangesFound}
 use Rattle.image_header.proofs.HeadLaws.{range-good, range-bad}
 use Rattle.image_read.specs.Parts.{Ends, putRanges}

@@ -1,9 +1,9 @@
-use Rattle.width.proofs.Kit.{ap, _∙_, List, ℕ, _+_, _-_, needs}
+use Rattle.numbers.proofs.Kit.{ap, _∙_, List, ℕ, _+_, _-_, needs}
 use Rattle.machine.specs.Geometry.{range}
 use Rattle.image.specs.Images.{Seals}
 use Rattle.image_header.specs.Fields.{rangesFound}
-use Rattle.width.specs.Upto.{upto}
-use Rattle.ranges.specs.Ranges.{putRange}
+use Rattle.numbers.specs.Upto.{upto}
+use Rattle.unit_ranges.specs.Ranges.{putRange}
 use Rattle.image_read.specs.Parts.{putRanges}
 use Rattle.image_read.proofs.SealLaws.{found-many, seals-put}
 use Rattle.image_read.proofs.seals.put_seals.Statement.{statement}

@@ -1,6 +1,6 @@
 -- `image_write::runs::put_runs` meets its contract. The invariant: the runs that are left make of the room what all make.
-use Rattle.width.proofs.Kit.{_≡_, refl, sym, ap, _∙_, List, ℕ, _+_, _-_, _≤_, arith, length, take, drop, sets}
-use Rattle.format.specs.Numbers.{encode}
+use Rattle.numbers.proofs.Kit.{_≡_, refl, sym, ap, _∙_, List, ℕ, _+_, _-_, _≤_, arith, length, take, drop, sets}
+use Rattle.numbers_format.specs.Numbers.{encode}
 use Rattle.image.specs.Cells.{Run, cellsOf, runs}
 use Rattle.image.specs.Images.{runsBytes}
 use Rattle.image_write.proofs.StretchLaws.{below}

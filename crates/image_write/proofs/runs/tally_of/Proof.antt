@@ -1,5 +1,5 @@
 -- `image_write::runs::tally_of` meets its contract. The invariant: the runs counted and those left are all, whatever the registers hold.
-use Rattle.width.proofs.Kit.{_≡_, ap, List, ℕ, _+_, _-_, _*_, _≤_, arith, length, needs}
+use Rattle.numbers.proofs.Kit.{_≡_, ap, List, ℕ, _+_, _-_, _*_, _≤_, arith, length, needs}
 use Rattle.image.specs.Cells.{Run, cellsOf, runs}
 use Rattle.image.specs.Images.{runsBytes}
 use Rattle.image_write.proofs.FindLaws.{runsAt, no-run, Found, found-run, runs-past}

@@ -1,6 +1,6 @@
 -- `image_write::seals::bounds_of` meets its contract. The invariant: the numbers of the ranges so far stand in front.
-use Rattle.width.proofs.Kit.{_≡_, refl, sym, ap, _∙_, List, [], ℕ, _+_, _-_, _*_, _≤_, arith, length, take, set, length-set, needs}
-use Rattle.ranges.specs.Ranges.{firstRanges}
+use Rattle.numbers.proofs.Kit.{_≡_, refl, sym, ap, _∙_, List, [], ℕ, _+_, _-_, _*_, _≤_, arith, length, take, set, length-set, needs}
+use Rattle.unit_ranges.specs.Ranges.{firstRanges}
 use Rattle.image.specs.Images.{bounds}
 use Rattle.image_write.proofs.SealLaws.{block-long, seals-are, take-two, bounds-next}
 use Rattle.image_write.proofs.seals.bounds_of.Statement.{statement}

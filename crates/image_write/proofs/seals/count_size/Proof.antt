@@ -1,4 +1,4 @@
-use Rattle.width.proofs.Kit.{ap, _∙_, arith, length, needs}
+use Rattle.numbers.proofs.Kit.{ap, _∙_, arith, length, needs}
 use Rattle.image_write.proofs.SealLaws.{count-none, count-listed}
 use Rattle.image_write.proofs.seals.count_size.Statement.{statement}
 use Rattle.image_write.proofs.seals.count_size.Tie as tie

@@ -1,4 +1,4 @@
-use Rattle.width.proofs.Kit.{ap, _∙_, List, ℕ, arith, length, sets, needs}
+use Rattle.numbers.proofs.Kit.{ap, _∙_, List, ℕ, arith, length, sets, needs}
 use Rattle.image_write.proofs.SealLaws.{count-none, count-some}
 use Rattle.image_write.proofs.seals.put_count.Statement.{statement}
 use Rattle.image_write.proofs.seals.put_count.Tie as tie

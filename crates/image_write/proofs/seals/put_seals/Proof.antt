@@ -1,6 +1,6 @@
-use Rattle.width.proofs.Kit.{_≡_, sym, ap, ap₂, _∙_, List, [], ℕ, _*_, arith, length, take, sets, needs}
-use Rattle.format.specs.Numbers.{encodeAll}
-use Rattle.ranges.specs.Ranges.{sealsIn}
+use Rattle.numbers.proofs.Kit.{_≡_, sym, ap, ap₂, _∙_, List, [], ℕ, _*_, arith, length, take, sets, needs}
+use Rattle.numbers_format.specs.Numbers.{encodeAll}
+use Rattle.unit_ranges.specs.Ranges.{sealsIn}
 use Rattle.image.specs.Images.{bounds}
 use Rattle.image_write.specs.Parts.{countField}
 use Rattle.image_write.proofs.PutLaws.{sets-append}

@@ -1,6 +1,6 @@
-use Rattle.width.proofs.Kit.{_≡_, sym, ap, _∙_, List, [], ℕ, _*_, arith, length, take, needs}
-use Rattle.format.specs.Numbers.{encodeAll}
-use Rattle.ranges.specs.Ranges.{sealsIn}
+use Rattle.numbers.proofs.Kit.{_≡_, sym, ap, _∙_, List, [], ℕ, _*_, arith, length, take, needs}
+use Rattle.numbers_format.specs.Numbers.{encodeAll}
+use Rattle.unit_ranges.specs.Ranges.{sealsIn}
 use Rattle.image_write.proofs.SealLaws.{seals-many, all-taken, taken-many, seal-long}
 use Rattle.image_write.proofs.seals.seals_size.Statement.{statement}
 use Rattle.image_write.proofs.seals.seals_size.Tie as tie

@@ -1,5 +1,5 @@
 -- `image_write::stretch::all_are` meets its contract.
-use Rattle.width.proofs.Kit.{_≡_, refl, ap, _∙_, ⊎-elim, ℕ, _+_, _-_, _≤_, arith, eqb, getD}
+use Rattle.numbers.proofs.Kit.{_≡_, refl, ap, _∙_, ⊎-elim, ℕ, _+_, _-_, _≤_, arith, eqb, getD}
 use Rattle.machine.specs.Tests.{all}
 use Rattle.image_write.proofs.StretchLaws.{block-bad, block-good}
 use Rattle.image_write.proofs.stretch.all_are.Statement.{statement}

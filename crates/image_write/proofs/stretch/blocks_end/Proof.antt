@@ -1,5 +1,5 @@
 -- `image_write::stretch::blocks_end` meets its contract.
-use Rattle.width.proofs.Kit.{sym, _∙_, _-_, _≤_, arith, length, not-false}
+use Rattle.numbers.proofs.Kit.{sym, _∙_, _-_, _≤_, arith, length, not-false}
 use Rattle.image_write.proofs.StretchLaws.{AllSame, block-more}
 use Rattle.image_write.proofs.stretch.blocks_end.Statement.{statement}
 use Rattle.image_write.proofs.stretch.blocks_end.Tie as tie

@@ -1,5 +1,5 @@
 -- `image_write::stretch::end_before` meets its contract.
-use Rattle.width.proofs.Kit.{_-_, _≤_, arith}
+use Rattle.numbers.proofs.Kit.{_-_, _≤_, arith}
 use Rattle.image_write.proofs.StretchLaws.{AllSame, one-more}
 use Rattle.image_write.proofs.stretch.end_before.Statement.{statement}
 use Rattle.image_write.proofs.stretch.end_before.Tie as tie

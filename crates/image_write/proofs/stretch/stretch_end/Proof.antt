@@ -1,5 +1,5 @@
 -- `image_write::stretch::stretch_end` meets its contract.
-use Rattle.width.proofs.Kit.{arith, needs}
+use Rattle.numbers.proofs.Kit.{arith, needs}
 use Rattle.image_write.proofs.StretchLaws.{joined}
 use Rattle.image_write.proofs.stretch.stretch_end.Statement.{statement}
 use Rattle.image_write.proofs.stretch.stretch_end.Tie as tie

@@ -1,4 +1,0 @@
--- What a reader must believe, after assembly/specs/: what each call answers and leaves.
-pub mod TextCalls
--- Statements of theorems about these definitions.
-pub mod Theorems
