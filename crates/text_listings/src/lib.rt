@@ -1,4 +1,4 @@
-// Listings in assembler text: from words to lines and back, text to text. What they mean is defined in `assembly`.
+// Listings in assembler text: from words to lines and back, text to text. What they mean is defined in `text_assembly`.
 use text_answers::answer_number;
 use text_answers::code_answer;
 use text_answers::number_of;

@@ -1,5 +1,5 @@
 // The effect of multiply, add, subtract, reverse subtract and multiply by a number on the register bytes.
-// An element of the output has 1, 2, 4 or 8 bytes, and its sums are kept at that width: crates sums and pairs.
+// An element of the output has 1, 2, 4 or 8 bytes, and its sums are kept at that width: crates unit_sums and unit_pairs.
 mod rows;
 mod weights;
 
