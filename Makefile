@@ -1,7 +1,8 @@
 # Builds, installs and packs the library, static and shared, its headers, its manual pages, the programs `product`, `disassemble`,
-# `assemble`, `bodlarina-bench` and `bodlarina-salvage`, and the module for Python.
+# `assemble`, `bodlarina-bench` and `bodlarina-salvage`, the program `bodlarina-firmware` with its plugin for QEMU, and the module for Python.
 #
 #     make                     prove and build the library and the programs; needs the Rattle kit (rt)
+#     make firmware            build bodlarina-firmware over the library; needs libdw (Debian: libdw-dev), and is left out by make without it
 #     make install PREFIX=..   install them; needs no kit where they are built, as in an archive of `make dist`
 #     make dist                build, and write target/dist/bodlarina-VERSION-linux-x86_64.tar.gz with all built
 #     make test                all tests (.ci/run)
@@ -34,13 +35,20 @@ BIN := target/bin
 endif
 BUILT := $(PROGRAMS:%=$(BIN)/%)
 
-.PHONY: all lib shared $(PROVED) bench salvage install uninstall dist pack test
+# bodlarina-firmware, and its plugin, which it looks for in ../lib/bodlarina
+FIRMWARE := $(BIN)/bodlarina-firmware
+PLUGIN := $(BIN)/../lib/bodlarina/bodlarina-qemu.so
+HAS_LIBDW = echo '\#include <elfutils/libdwfl.h>' | $(CC) -E -x c -o /dev/null - 2>/dev/null
+NO_LIBDW := libdw is not installed (Debian: libdw-dev): bodlarina-firmware is not built
+
+.PHONY: all lib shared $(PROVED) bench salvage firmware install uninstall dist pack test
 
 all: lib $(PROVED)
 	$(MAKE) bench salvage
+	@if $(HAS_LIBDW); then $(MAKE) firmware; else echo "$(NO_LIBDW)"; fi
 
 ifeq ($(LIBRARY),lib/libbodlarina.a)
-lib shared $(PROVED) bench salvage:
+lib shared $(PROVED) bench salvage firmware:
 	@echo "built already: $(LIBRARY), $(SHARED), $(BUILT)"
 else
 lib:
@@ -69,6 +77,16 @@ salvage:
 	@test -f $(LIBRARY) || { echo "$(LIBRARY) is not built: make lib"; exit 1; }
 	mkdir -p $(BIN)
 	$(CC) -std=c99 -O2 -Iinclude -Ibench tools/salvage.c bench/files.c bench/kept.c $(LIBRARY) -o $(BIN)/bodlarina-salvage
+
+# The tool, and what QEMU loads, which finds QEMU's functions when it is loaded; both over the bench's machine.
+DEVICE := bench/device.c bench/instructions.c bench/reader.c bench/files.c
+TOOL := $(filter-out firmware/plugin%,$(wildcard firmware/*.c)) bench/trace.c bench/picture.c
+firmware:
+	@test -f $(LIBRARY) || { echo "$(LIBRARY) is not built: make lib"; exit 1; }
+	@$(HAS_LIBDW) || { echo "$(NO_LIBDW)"; exit 1; }
+	mkdir -p $(BIN) $(dir $(PLUGIN))
+	$(CC) -std=c99 -O2 -Iinclude -Ibench $(TOOL) $(DEVICE) $(LIBRARY) -ldw -lelf -o $(FIRMWARE)
+	$(CC) -std=c99 -O2 -Iinclude -Ibench -fPIC -fvisibility=hidden -shared firmware/plugin*.c $(DEVICE) $(LIBRARY) -o $(PLUGIN)
 endif
 
 # pkg-config's `bodlarina` is the static library, `bodlarina-shared` the shared one, found at run time where it is installed
@@ -92,13 +110,17 @@ install:
 	for name in $(PROGRAMS); do if test -f $(BIN)/$$name; then $(INSTALL) -d $(DESTDIR)$(PREFIX)/bin && \
 	  $(INSTALL) -m 755 $(BIN)/$$name $(DESTDIR)$(PREFIX)/bin && \
 	  $(INSTALL) -m 644 man/$$name.1 $(DESTDIR)$(PREFIX)/share/man/man1 || exit 1; fi; done
+	if test -f $(FIRMWARE); then $(INSTALL) -d $(DESTDIR)$(PREFIX)/lib/bodlarina && \
+	  $(INSTALL) -m 755 $(FIRMWARE) $(DESTDIR)$(PREFIX)/bin && $(INSTALL) -m 755 $(PLUGIN) $(DESTDIR)$(PREFIX)/lib/bodlarina; \
+	  else echo "bodlarina-firmware is not built, and not installed"; fi
 
 uninstall:
 	rm -f $(addprefix $(DESTDIR)$(PREFIX)/,include/bodlarina.h include/bodlarina_words.h \
 	  lib/libbodlarina.a lib/libbodlarina.so lib/$(SONAME) lib/$(SHARED_NAME) \
 	  lib/pkgconfig/bodlarina.pc lib/pkgconfig/bodlarina-shared.pc share/man/man3/bodlarina.3 \
 	  $(PROGRAMS:%=bin/%) $(PROGRAMS:%=share/man/man1/%.1))
-	rm -rf $(DESTDIR)$(PREFIX)/share/bodlarina
+	rm -f $(DESTDIR)$(PREFIX)/bin/bodlarina-firmware
+	rm -rf $(DESTDIR)$(PREFIX)/share/bodlarina $(DESTDIR)$(PREFIX)/lib/bodlarina
 
 dist: all pack
 
@@ -109,6 +131,8 @@ pack:
 	cp $(HEADERS) target/dist/$(PACKAGE)/include
 	cp $(LIBRARY) $(SHARED) target/dist/$(PACKAGE)/lib
 	cp $(BUILT) target/dist/$(PACKAGE)/bin
+	if test -f $(FIRMWARE); then mkdir -p target/dist/$(PACKAGE)/lib/bodlarina && cp $(FIRMWARE) target/dist/$(PACKAGE)/bin && \
+	  cp $(PLUGIN) target/dist/$(PACKAGE)/lib/bodlarina; else echo "bodlarina-firmware is not built, and not packed"; fi
 	cp $(MANUAL) target/dist/$(PACKAGE)/man
 	cp examples/*.c examples/*.out target/dist/$(PACKAGE)/examples
 	cp bench/examples/* target/dist/$(PACKAGE)/examples/bench
