@@ -19,6 +19,7 @@
 #include <unistd.h>
 
 #include "complain.h"
+#include "qemu_interface.h"
 
 /* Descriptors that QEMU is handed have numbers from here on, out of the program's way. */
 #define HIGH_DESCRIPTOR 900
@@ -140,7 +141,6 @@ static int make_shared(struct emulator *emulator, int bare)
     shared->elen = options->elen;
     shared->rule = options->rule;
     shared->group = options->group;
-    shared->entry = emulator->file->header.e_entry;
     shared->end = elf_file_end(emulator->file);
     if (!bare)
         return 1;
@@ -227,6 +227,13 @@ int emulator_start(struct emulator *emulator)
         return complain("no process for QEMU: %s", strerror(errno));
     emulator->ended = (int)syscall(SYS_pidfd_open, emulator->process, 0);
     return emulator->ended >= 0 || complain("QEMU cannot be waited for: %s", strerror(errno));
+}
+
+int emulator_took_plugin(const struct emulator *emulator)
+{
+    return emulator->shared->installed
+           || complain("QEMU has not taken the plugin, and says why above; the plugin is for version %d of QEMU's interface, that of QEMU 7.2 (Debian 12)",
+                       QEMU_INTERFACE_VERSION);
 }
 
 void emulator_kill(struct emulator *emulator)

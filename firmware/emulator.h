@@ -37,6 +37,9 @@ void emulator_word(struct emulator *emulator, const char *format, ...) __attribu
 /* Starts QEMU with these words, the plugin, and the program (bare metal: with its file as the kernel). */
 int emulator_start(struct emulator *emulator);
 
+/* Whether QEMU, which has ended, had taken the plugin; 0, with a sentence, if not. */
+int emulator_took_plugin(const struct emulator *emulator);
+
 /* Ends QEMU, and waits for it. */
 void emulator_kill(struct emulator *emulator);
 

@@ -105,6 +105,8 @@ static int run(struct emulator *emulator)
     places_open(&places, emulator->file, emulator->bias, emulator_read, emulator);
     status = attend(emulator, &places, &is_told);
     emulator_kill(emulator);
+    if (!emulator_took_plugin(emulator))
+        return STATUS_TROUBLE;
     if (!is_told)
         say_unsealed(emulator);
     if ((emulator->options->marks != NULL || emulator->options->save != NULL)

@@ -52,7 +52,7 @@ struct shared {
     uint64_t rlen, mlen, elen, rule, group;
     uint64_t base;       /* user mode: where guest address 0 lies in QEMU's process */
     struct range ram;    /* bare metal */
-    uint64_t entry, end; /* bare metal: the program's first instruction, and the first byte behind it */
+    uint64_t end;        /* the first byte behind the program */
     struct range seals[BODLARINA_SEALS_MOST];
     struct after afters[BODLARINA_SEALS_MOST];
     uint32_t seals_len, afters_len;

@@ -171,10 +171,8 @@ int start_user(struct emulator *emulator)
     rmdir(folder);
     if (setting.stub.line >= 0)
         done = let_go(emulator, &setting);
-    else if (started && !emulator->shared->installed)
-        complain("QEMU has not taken the plugin, and says why above; the plugin is for version 1 of QEMU's interface, that of QEMU 7.2 (Debian 12)");
-    else if (started)
-        complain("QEMU has not started the program");
+    else if (started && emulator_took_plugin(emulator))
+        complain("QEMU has not started the program, and says why above");
     if (setting.memory >= 0)
         close(setting.memory);
     return done;
