@@ -13,7 +13,7 @@ INSTALL ?= install
 
 VERSION := $(shell sed -n 's/^.define BODLARINA_VERSION "\(.*\)"$$/\1/p' include/bodlarina.h)
 PACKAGE := bodlarina-$(VERSION)-linux-x86_64
-HEADERS := include/bodlarina.h include/bodlarina_words.h
+HEADERS := include/bodlarina.h include/bodlarina_words.h include/bodlarina_asm.h
 PROVED := product disassemble assemble
 PROGRAMS := $(PROVED) bodlarina-bench bodlarina-salvage
 MANUAL := man/bodlarina.3 $(PROGRAMS:%=man/%.1)
@@ -115,7 +115,7 @@ install:
 	  else echo "bodlarina-firmware is not built, and not installed"; fi
 
 uninstall:
-	rm -f $(addprefix $(DESTDIR)$(PREFIX)/,include/bodlarina.h include/bodlarina_words.h \
+	rm -f $(addprefix $(DESTDIR)$(PREFIX)/,$(HEADERS) \
 	  lib/libbodlarina.a lib/libbodlarina.so lib/$(SONAME) lib/$(SHARED_NAME) \
 	  lib/pkgconfig/bodlarina.pc lib/pkgconfig/bodlarina-shared.pc share/man/man3/bodlarina.3 \
 	  $(PROGRAMS:%=bin/%) $(PROGRAMS:%=share/man/man1/%.1))
