@@ -95,6 +95,20 @@ static void say_unsealed(const struct emulator *emulator)
             complain("%s never returned, so %s was not sealed", options->seals[i].function, options->seals[i].symbol);
 }
 
+/* What is asked for when the run has ended, told or not. */
+static int end_run(struct emulator *emulator, int status, int is_told)
+{
+    const struct options *options = emulator->options;
+    const struct device *unit = is_told ? &emulator->shared->device : &emulator->shared->first;
+    if (!emulator_took_plugin(emulator))
+        return STATUS_TROUBLE;
+    if (!is_told)
+        say_unsealed(emulator);
+    if ((options->marks != NULL || options->save != NULL) && !write_unit(emulator, unit))
+        return STATUS_TROUBLE;
+    return status;
+}
+
 /* Standard output is the program's: what is printed from here on goes to standard error. */
 static int run(struct emulator *emulator)
 {
@@ -105,36 +119,38 @@ static int run(struct emulator *emulator)
     places_open(&places, emulator->file, emulator->bias, emulator_read, emulator);
     status = attend(emulator, &places, &is_told);
     emulator_kill(emulator);
-    if (!emulator_took_plugin(emulator))
-        return STATUS_TROUBLE;
-    if (!is_told)
-        say_unsealed(emulator);
-    if ((emulator->options->marks != NULL || emulator->options->save != NULL)
-        && !write_unit(emulator, is_told ? &emulator->shared->device : &emulator->shared->first))
-        status = STATUS_TROUBLE;
     places_close(&places);
+    return end_run(emulator, status, is_told);
+}
+
+static int run_program(const struct options *options, const struct elf_file *file)
+{
+    static struct emulator emulator;
+    int status = STATUS_TROUBLE, bare = options->mode == BARE || (options->mode == BY_HEADER && elf_file_is_bare(file));
+    if (options->port != 0 && !bare)
+        complain("--gdb is for bare metal; a Linux program is debugged with bodlarina-gdb.py");
+    else if (emulator_prepare(&emulator, options, file, bare) && seal_ranges(options, file, 0, emulator.shared))
+        status = run(&emulator);
+    emulator_close(&emulator);
+    return status;
+}
+
+static int run_file(const struct options *options)
+{
+    struct elf_file file;
+    int status = elf_file_open(&file, options->program[0]) ? run_program(options, &file) : STATUS_TROUBLE;
+    elf_file_close(&file);
     return status;
 }
 
 int main(int count, char **words)
 {
-    static struct emulator emulator;
     struct options options;
-    struct elf_file file;
-    int status, bare;
-    if (!read_options(count, words, &options, &status))
-        return status;
+    int status;
     if (bodlarina_version() != BODLARINA_VERSION_NUMBER)
         return complain("the library is not that of the header it was built with"), STATUS_TROUBLE;
-    status = STATUS_TROUBLE;
-    if (elf_file_open(&file, options.program[0])) {
-        bare = options.mode == BARE || (options.mode == BY_HEADER && elf_file_is_bare(&file));
-        if (options.port != 0 && !bare)
-            complain("--gdb is for bare metal; a Linux program is debugged with bodlarina-gdb.py");
-        else if (emulator_prepare(&emulator, &options, &file, bare) && seal_ranges(&options, &file, 0, emulator.shared))
-            status = run(&emulator);
-        emulator_close(&emulator);
-    }
-    elf_file_close(&file);
+    if (read_options(count, words, &options, &status))
+        status = run_file(&options);
+    free_options(&options);
     return status;
 }

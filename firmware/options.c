@@ -60,7 +60,6 @@ static int take_machine(const char *text, struct options *options)
     return *end == '\0' || (*end == ',' && take_number(end + 1, &end, &options->elen) && *end == '\0');
 }
 
-/* `first` is what stands before the colon. */
 static int take_after(const char *text, struct seal_option *seal)
 {
     const char *colon = strchr(text, ':');
@@ -138,6 +137,15 @@ static int bad_option(int option, int at, char **words)
     else
         complain("%s: %s: not such a value as --help says", words[at], optarg);
     return STATUS_TROUBLE;
+}
+
+void free_options(struct options *options)
+{
+    size_t i;
+    for (i = 0; i < options->seals_len; i++) {
+        free(options->seals[i].function);
+        free(options->seals[i].symbol);
+    }
 }
 
 int read_options(int count, char **words, struct options *options, int *status)

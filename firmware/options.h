@@ -29,5 +29,6 @@ struct options {
 
 /* 1 if there is a firmware to run; else 0 and the exit status, with all said. */
 int read_options(int count, char **words, struct options *options, int *status);
+void free_options(struct options *options);
 
 #endif

@@ -40,7 +40,7 @@ void places_close(struct places *places)
 
 /* ---- one place ---- */
 
-/* The scopes around an address, innermost first, with file and line of the innermost one. */
+/* The scopes around an address, innermost first, and of an inlined one those into which it was inlined; file and line of the innermost one. */
 struct scopes {
     const struct places *places;
     Dwarf_Die *unit, *dies;
@@ -52,6 +52,7 @@ struct scopes {
 static void open_scopes(const struct places *places, uint64_t pc, struct scopes *scopes)
 {
     Dwarf_Addr bias = 0;
+    Dwarf_Die *found = NULL;
     Dwfl_Line *line = NULL;
     Dwfl_Module *module = places->dwfl == NULL ? NULL : dwfl_addrmodule(places->dwfl, pc);
     memset(scopes, 0, sizeof *scopes);
@@ -63,8 +64,9 @@ static void open_scopes(const struct places *places, uint64_t pc, struct scopes 
     line = dwfl_module_getsrc(module, pc);
     if (line != NULL)
         scopes->file = dwfl_lineinfo(line, NULL, &scopes->line, NULL, NULL, NULL);
-    if (scopes->unit != NULL)
-        scopes->count = dwarf_getscopes(scopes->unit, pc - bias, &scopes->dies);
+    if (scopes->unit != NULL && dwarf_getscopes(scopes->unit, pc - bias, &found) > 0)
+        scopes->count = dwarf_getscopes_die(&found[0], &scopes->dies);
+    free(found);
 }
 
 /* The file as the compiler was given it: without the folder in which it ran. */
@@ -106,7 +108,7 @@ static void go_outwards(struct scopes *scopes, Dwarf_Die *inlined)
         scopes->line = (int)value;
 }
 
-/* The functions at an address: inlined ones first, innermost first. With `all`, each on a line of its own; else the innermost. Whether the last is main. */
+/* The functions at an address, inlined ones first: with `all`, each on a line of its own; else the innermost. Whether the last is main. */
 static int write_functions(const struct places *places, uint64_t pc, int all)
 {
     struct scopes scopes;

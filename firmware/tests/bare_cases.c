@@ -6,7 +6,7 @@
 #define PLAIN 0        /* words alone */
 #define UNWRITTEN 1    /* a word that is refused */
 #define OUTSIDE 2      /* a row outside RAM */
-#define TIMER 3        /* an interrupt each 100 microseconds among 20,000 words */
+#define TIMER 3        /* an interrupt each 100 microseconds, until words were interrupted by ten */
 #define TIMER_TABLE 4  /* the same with a vectored mtvec */
 #define OWN_TRAP 5     /* an illegal instruction that is none of the unit's goes to the program's vector, and behind it words go on */
 #define SET_TWICE 6    /* mtvec set at two places, read, and what was read set again */
@@ -79,16 +79,17 @@ __attribute__((noinline)) static void set_mtvec(uintptr_t vector) { __asm__ vola
 
 static int count_ticks(uintptr_t vector)
 {
-    unsigned long sum = 0, mask = 128;
-    int i;
+    unsigned long sum = 0, mask = 128, words = 0;
     set_mtvec(vector);
     MTIMECMP = MTIME + 1000;
     __asm__ volatile("csrs mie, %0\ncsrsi mstatus, 8" : : "r"(mask));
     set_tiles();
-    for (i = 0; i < 20000; i++)
+    while (ticks < 10 || words < 20000) {
         sum += asm_msettilemi(4);
+        words++;
+    }
     __asm__ volatile("csrci mstatus, 8");
-    return sum == 80000 && ticks > 3;
+    return sum == 4 * words;
 }
 
 static int traps_go_on(void)

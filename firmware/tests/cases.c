@@ -165,32 +165,33 @@ static int case_multiply(void)
 
 static int case_signals(void)
 {
-    int first, words = 0;
+    int first;
     signal(SIGUSR1, remember);
     signal(SIGALRM, remember);
     raise(SIGUSR1);
     first = got;
     ualarm(20000, 0);
-    while (got != SIGALRM && words++ < 5000000)
+    while (got != SIGALRM)
         asm_msettilemi(4);
-    return first == SIGUSR1 && got == SIGALRM ? 0 : 1;
+    return first == SIGUSR1 ? 0 : 1;
 }
 
-/* A signal each 300 microseconds during 20,000 words. */
+/* A signal each 300 microseconds, until words were interrupted by one, and 20,000 words at least. */
 static int case_alarms(void)
 {
     struct sigaction action;
-    long sum = 0;
-    int i;
+    unsigned long sum = 0, words = 0;
     memset(&action, 0, sizeof action);
     action.sa_handler = remember;
     action.sa_flags = SA_RESTART;
     sigaction(SIGALRM, &action, NULL);
     ualarm(300, 300);
-    for (i = 0; i < 20000; i++)
-        sum += (long)asm_msettilemi(4);
+    while (got == 0 || words < 20000) {
+        sum += asm_msettilemi(4);
+        words++;
+    }
     ualarm(0, 0);
-    return sum == 80000 && got == SIGALRM ? 0 : 1;
+    return sum == 4 * words && got == SIGALRM ? 0 : 1;
 }
 
 static int case_segv(void)
