@@ -162,6 +162,11 @@ int emulator_prepare(struct emulator *emulator, const struct options *options, c
 
 /* ---- the process ---- */
 
+/* ^C is for QEMU, and for a Linux program to handle; the tool only remembers it. */
+static volatile sig_atomic_t interrupted;
+
+static void remember_interrupt(int number) { interrupted = number; }
+
 /* Low descriptors are taken for a while, so that those which QEMU opens for itself have others than the program expects. */
 static void take_low_descriptors(struct shared *shared)
 {
@@ -179,7 +184,7 @@ static void keep_open(int descriptor)
         fcntl(descriptor, F_SETFD, 0);
 }
 
-/* QEMU ends with the tool, however that ends. ^C is for QEMU. */
+/* QEMU ends with the tool, however that ends. */
 static void become_emulator(struct emulator *emulator, char **words, const struct sigaction *interrupt, pid_t tool)
 {
     if (prctl(PR_SET_PDEATHSIG, SIGKILL) != 0 || getppid() != tool)
@@ -210,14 +215,15 @@ static char **command_line(const struct emulator *emulator)
 
 int emulator_start(struct emulator *emulator)
 {
-    struct sigaction ignored, interrupt;
+    struct sigaction remembered, interrupt;
     char **words = command_line(emulator);
     pid_t tool = getpid();
     if (words == NULL)
         return complain("no room for QEMU's command line");
-    memset(&ignored, 0, sizeof ignored);
-    ignored.sa_handler = SIG_IGN;
-    sigaction(SIGINT, &ignored, &interrupt);
+    memset(&remembered, 0, sizeof remembered);
+    remembered.sa_handler = remember_interrupt;
+    remembered.sa_flags = SA_RESTART;
+    sigaction(SIGINT, &remembered, &interrupt);
     emulator->process = fork();
     if (emulator->process == 0)
         become_emulator(emulator, words, &interrupt, tool);
@@ -251,6 +257,8 @@ int emulator_status(struct emulator *emulator)
         if (errno != EINTR)
             return STATUS_TROUBLE;
     emulator->process = 0;
+    if (emulator->shared->bare && interrupted)
+        return 128 + SIGINT;
     return WIFSIGNALED(status) ? 128 + WTERMSIG(status) : WEXITSTATUS(status);
 }
 

@@ -43,7 +43,7 @@ int emulator_took_plugin(const struct emulator *emulator);
 /* Ends QEMU, and waits for it. */
 void emulator_kill(struct emulator *emulator);
 
-/* The exit status of QEMU, which has ended: of a signal 128 and its number. */
+/* The exit status of QEMU, which has ended: of a signal, and of ^C on bare metal, 128 and its number. */
 int emulator_status(struct emulator *emulator);
 
 /* Gives the terminal back as it was, and everything else. */

@@ -128,6 +128,13 @@ static int write_functions(const struct places *places, uint64_t pc, int all)
     return name != NULL && strcmp(name, "main") == 0;
 }
 
+/* Whether there is more to say of an address than the number. */
+static int is_known(const struct places *places, uint64_t pc)
+{
+    Dwfl_Module *module = places->dwfl == NULL ? NULL : dwfl_addrmodule(places->dwfl, pc);
+    return module != NULL && dwfl_module_addrname(module, pc) != NULL;
+}
+
 void write_where(const struct places *places, uint64_t pc) { write_functions(places, pc, 0); }
 
 /* ---- the chain of callers ---- */
@@ -197,19 +204,17 @@ void write_chain(struct places *places, uint64_t pc, const uint64_t *x)
         .set_initial_registers = set_registers,
     };
     struct chain chain;
-    int is_main;
+    int is_main = 0;
     chain.places = places;
     chain.x = x;
     chain.pc = pc;
     chain.frames = 0;
     printf("0x%" PRIx64, pc);
-    if (places->dwfl != NULL && dwfl_addrmodule(places->dwfl, pc) != NULL) {
+    if (is_known(places, pc)) {
         printf(", ");
         is_main = write_functions(places, pc, 1);
-        printf("\n");
-        if (x != NULL && !is_main && dwfl_attach_state(places->dwfl, places->elf, 1, &callbacks, &chain))
-            dwfl_getthread_frames(places->dwfl, 1, write_frame, &chain);
-        return;
     }
     printf("\n");
+    if (x != NULL && !is_main && places->dwfl != NULL && dwfl_attach_state(places->dwfl, places->elf, 1, &callbacks, &chain))
+        dwfl_getthread_frames(places->dwfl, 1, write_frame, &chain);
 }
