@@ -10,6 +10,10 @@ int start_bare(struct emulator *emulator)
     unsigned long bytes = (unsigned long)emulator->shared->ram.length;
     if (emulator->options->program[1] != NULL)
         return complain("%s: a bare-metal program has no arguments", emulator->options->program[1]);
+    if (emulator->file->header.e_entry != emulator->shared->ram.start)
+        return complain("%s: the machine virt starts at 0x%llx, and the program at 0x%llx: link it with its start in front (a build id may stand there: "
+                        "-Wl,--build-id=none)", emulator->options->program[0], (unsigned long long)emulator->shared->ram.start,
+                        (unsigned long long)emulator->file->header.e_entry);
     emulator_word(emulator, "-machine");
     emulator_word(emulator, "virt,memory-backend=ram");
     emulator_word(emulator, "-object");

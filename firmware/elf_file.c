@@ -137,6 +137,37 @@ const char *elf_file_object_at(const struct elf_file *file, uint64_t address)
     return NULL;
 }
 
+/* Whether a symbol names code; those that start with $ or .L only help tools. */
+static int names_code(const struct elf_file *file, const GElf_Sym *symbol, const char *name)
+{
+    unsigned type = GELF_ST_TYPE(symbol->st_info);
+    Elf_Scn *section = elf_getscn(file->elf, symbol->st_shndx);
+    GElf_Shdr header;
+    return (type == STT_FUNC || type == STT_NOTYPE) && symbol->st_shndx != SHN_UNDEF && section != NULL && name != NULL && name[0] != '\0'
+           && name[0] != '$' && strncmp(name, ".L", 2) != 0 && gelf_getshdr(section, &header) != NULL && (header.sh_flags & SHF_EXECINSTR) != 0;
+}
+
+const char *elf_file_code_at(const struct elf_file *file, uint64_t address, uint64_t *offset)
+{
+    GElf_Shdr header;
+    GElf_Sym symbol;
+    Elf_Data *data = symbols(file, &header);
+    const char *found = NULL;
+    int i, around = 0;
+    for (i = 0; data != NULL && gelf_getsym(data, i, &symbol) != NULL; i++) {
+        const char *name = elf_strptr(file->elf, header.sh_link, symbol.st_name);
+        uint64_t behind = address - symbol.st_value;
+        int its_around = behind < symbol.st_size;
+        if (address < symbol.st_value || (found != NULL && (its_around < around || (its_around == around && behind >= *offset)))
+            || !names_code(file, &symbol, name))
+            continue;
+        found = name;
+        around = its_around;
+        *offset = behind;
+    }
+    return found;
+}
+
 /* ---- calls ---- */
 
 /* The part of `word` from bit `low` on, of so many bits. */

@@ -29,6 +29,10 @@ int elf_file_symbol(const struct elf_file *file, const char *option, const char 
 /* The name of the object to which the byte at an address belongs; NULL if there is none. */
 const char *elf_file_object_at(const struct elf_file *file, uint64_t address);
 
+/* The name of the code at an address and how far behind its start that is: the function around it, else the last label before it; NULL if there
+ * is none. */
+const char *elf_file_code_at(const struct elf_file *file, uint64_t address, uint64_t *offset);
+
 /* The addresses behind the calls of a function, by jal or auipc and jalr; how many. */
 uint32_t elf_file_returns(const struct elf_file *file, uint64_t function, uint64_t returns[RETURNS_MOST]);
 

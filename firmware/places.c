@@ -19,7 +19,8 @@ int places_open(struct places *places, const struct elf_file *file, uint64_t bia
         .section_address = dwfl_offline_section_address,
         .debuginfo_path = &no_path,
     };
-    places->elf = file->elf;
+    places->file = file;
+    places->bias = bias;
     places->read = read;
     places->of = of;
     places->dwfl = dwfl_begin(&callbacks);
@@ -41,7 +42,7 @@ void places_close(struct places *places)
 
 /* The scopes around an address, innermost first, with file and line of the innermost one. */
 struct scopes {
-    Dwfl_Module *module;
+    const struct places *places;
     Dwarf_Die *unit, *dies;
     int count, line;
     const char *file;
@@ -52,13 +53,14 @@ static void open_scopes(const struct places *places, uint64_t pc, struct scopes 
 {
     Dwarf_Addr bias = 0;
     Dwfl_Line *line = NULL;
+    Dwfl_Module *module = places->dwfl == NULL ? NULL : dwfl_addrmodule(places->dwfl, pc);
     memset(scopes, 0, sizeof *scopes);
+    scopes->places = places;
     scopes->pc = pc;
-    scopes->module = places->dwfl == NULL ? NULL : dwfl_addrmodule(places->dwfl, pc);
-    if (scopes->module == NULL)
+    if (module == NULL)
         return;
-    scopes->unit = dwfl_module_addrdie(scopes->module, pc, &bias);
-    line = dwfl_module_getsrc(scopes->module, pc);
+    scopes->unit = dwfl_module_addrdie(module, pc, &bias);
+    line = dwfl_module_getsrc(module, pc);
     if (line != NULL)
         scopes->file = dwfl_lineinfo(line, NULL, &scopes->line, NULL, NULL, NULL);
     if (scopes->unit != NULL)
@@ -79,16 +81,16 @@ static const char *given_name(const struct scopes *scopes)
 
 static void write_scope(const struct scopes *scopes, const char *function)
 {
-    GElf_Off offset = 0;
-    GElf_Sym symbol;
-    if (function == NULL && scopes->module != NULL)
-        function = dwfl_module_addrinfo(scopes->module, scopes->pc, &offset, &symbol, NULL, NULL, NULL);
+    const struct places *places = scopes->places;
+    uint64_t offset = 0;
+    if (function == NULL)
+        function = elf_file_code_at(places->file, scopes->pc - places->bias, &offset);
     if (function == NULL)
         printf("0x%" PRIx64, scopes->pc);
     else if (scopes->file != NULL)
         printf("%s at %s:%d", function, given_name(scopes), scopes->line);
     else
-        printf("%s+0x%" PRIx64, function, (uint64_t)offset);
+        printf("%s+0x%" PRIx64, function, offset);
 }
 
 /* Goes from an inlined function to the place where it was inlined. */
@@ -131,8 +133,8 @@ static int write_functions(const struct places *places, uint64_t pc, int all)
 /* Whether there is more to say of an address than the number. */
 static int is_known(const struct places *places, uint64_t pc)
 {
-    Dwfl_Module *module = places->dwfl == NULL ? NULL : dwfl_addrmodule(places->dwfl, pc);
-    return module != NULL && dwfl_module_addrname(module, pc) != NULL;
+    uint64_t offset;
+    return places->dwfl != NULL && dwfl_addrmodule(places->dwfl, pc) != NULL && elf_file_code_at(places->file, pc - places->bias, &offset) != NULL;
 }
 
 void write_where(const struct places *places, uint64_t pc) { write_functions(places, pc, 0); }
@@ -215,6 +217,6 @@ void write_chain(struct places *places, uint64_t pc, const uint64_t *x)
         is_main = write_functions(places, pc, 1);
     }
     printf("\n");
-    if (x != NULL && !is_main && places->dwfl != NULL && dwfl_attach_state(places->dwfl, places->elf, 1, &callbacks, &chain))
+    if (x != NULL && !is_main && places->dwfl != NULL && dwfl_attach_state(places->dwfl, places->file->elf, 1, &callbacks, &chain))
         dwfl_getthread_frames(places->dwfl, 1, write_frame, &chain);
 }

@@ -11,7 +11,8 @@ typedef int (*guest_reader)(void *of, uint64_t address, uint64_t *value);
 
 struct places {
     Dwfl *dwfl;
-    Elf *elf;
+    const struct elf_file *file;
+    uint64_t bias;
     guest_reader read;
     void *of;
 };
