@@ -12,7 +12,7 @@
 struct copy {
     uint64_t vector;
     uint64_t from; /* the instruction in whose place the detour stands */
-    int taken;
+    int taken;     /* the program has come there */
 };
 
 #define COPIES_MOST 32
@@ -23,8 +23,12 @@ static size_t copies_len;
 /* Where a copy is looked for: up to so far above the instruction, and from there down. */
 enum { COPY_BYTES = 0x2000, HIGHEST = 0xd3000 };
 
-/* Numbers in the frame, beside x0 .. x31, of which the first is mepc: mtvec, and the instruction that is to be put back. */
-enum { MTVEC_AT = 256, PUT_AT = 264, PUT_WORD = 272, FRAME_BYTES = 280 };
+/* Numbers in the frame, behind x0 .. x31 and mtvec: the instruction that is to be put back, where and which. */
+enum { PUT_AT = 264, PUT_WORD = 272 };
+
+/* The matrix word that is about to trap, and how many detours are not taken yet. */
+static uint64_t word_at;
+static unsigned waiting;
 
 /* ---- memory ---- */
 
@@ -106,6 +110,7 @@ static void put_detour(uint64_t from)
         return;
     }
     copies_len++;
+    waiting++;
     copy->from = from;
     code = guest.memory + copy->vector;
     memcpy(code + VECTOR_TRAP_AT, vector_code, sizeof vector_code);
@@ -145,6 +150,7 @@ static void at_detour(unsigned cpu, qemu_plugin_meminfo_t info, uint64_t address
     uint64_t mtvec = bodlarina_get64(guest.memory + address);
     (void)cpu, (void)info, (void)data;
     copy->taken = 1;
+    waiting--;
     if (copy_of(mtvec) != NULL)
         return;
     if (mtvec != 0 && !put_own(copy, mtvec & ~(uint64_t)3))
@@ -152,14 +158,15 @@ static void at_detour(unsigned cpu, qemu_plugin_meminfo_t info, uint64_t address
     bodlarina_put64(guest.memory + address, copy->vector | (mtvec & 3));
 }
 
-/* An illegal instruction: the frame has mepc and x1 .. x31. */
+/* A trap: the frame has x1 .. x31. */
 static void at_bell(unsigned cpu, qemu_plugin_meminfo_t info, uint64_t address, void *data)
 {
     uint8_t *frame = guest.memory + address;
-    uint64_t pc = bodlarina_get64(frame);
+    uint64_t pc = word_at;
     uint32_t word;
     (void)cpu, (void)info, (void)data;
-    if (!bare_read(pc, &word, sizeof word) || !is_matrix_word(word))
+    word_at = 0;
+    if (pc == 0 || !bare_read(pc, &word, sizeof word))
         return;
     unit_carry_out(pc, word, frame);
     bodlarina_put64(frame, pc + 4);
@@ -177,14 +184,13 @@ static void at_mtvec(unsigned cpu, void *next)
     put_detour(from);
 }
 
-/* A word while a detour was not taken, as its place had run before. */
+/* A matrix word; its trap comes next. A detour that was not taken stood where code had run before. */
 static void at_word(unsigned cpu, void *pc)
 {
-    size_t i;
     (void)cpu;
-    for (i = 0; i < copies_len; i++)
-        if (!copies[i].taken)
-            tell_trouble(SET_AGAIN, (uint64_t)(uintptr_t)pc);
+    word_at = (uint64_t)(uintptr_t)pc;
+    if (waiting != 0)
+        tell_trouble(SET_AGAIN, word_at);
 }
 
 /* csrrw and its like on mtvec; with x0 or 0 csrrs and csrrc only read it. */

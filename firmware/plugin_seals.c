@@ -53,22 +53,27 @@ void seals_start(void)
 
 /* ---- comparing ---- */
 
-/* The first byte of a range that differs from what was kept; 0 if none does. */
+/* The first byte of a range that differs from what was kept; 0 if none does, or the bytes are not there to read. */
 static int differs(struct sealed *range, uint64_t *address)
 {
-    uint8_t *now = keep(range->range);
-    size_t i, length = range->range.length;
+    uint8_t now[4096];
+    size_t at, i, bytes, length = range->range.length;
     if (range->kept == NULL) {
-        range->kept = now;
+        range->kept = keep(range->range);
         return 0;
     }
-    if (now == NULL)
-        return 0;
-    for (i = 0; i < length && now[i] == range->kept[i]; i++)
-        ;
-    free(now);
-    *address = range->range.start + i;
-    return i < length;
+    for (at = 0; at < length; at += bytes) {
+        bytes = length - at < sizeof now ? length - at : sizeof now;
+        if (!guest.read(range->range.start + at, now, bytes))
+            return 0;
+        if (memcmp(now, range->kept + at, bytes) == 0)
+            continue;
+        for (i = 0; now[i] == range->kept[at + i]; i++)
+            ;
+        *address = range->range.start + at + i;
+        return 1;
+    }
+    return 0;
 }
 
 int seals_changed(uint64_t *address)

@@ -169,25 +169,31 @@ static uint64_t step(struct unit *unit, uint32_t word)
     return result;
 }
 
+static void tell(enum told told, struct report *report, const struct device *device, const uint8_t *scalars)
+{
+    unsigned i;
+    report->told = (uint32_t)told;
+    report->x[0] = 0;
+    for (i = 1; i < 32; i++)
+        report->x[i] = bodlarina_get64(scalars + BODLARINA_SCALAR_AT(i));
+    line_tell(report, device);
+}
+
 void unit_carry_out(uint64_t pc, uint32_t word, uint8_t scalars[BODLARINA_SCALAR_BYTES])
 {
     struct unit *unit = shared->bare ? &first : unit_of_thread();
     struct device *device = unit->device;
     struct report report;
-    unsigned i;
-    memset(&report, 0, sizeof report);
     report.pc = pc;
     report.word = word;
-    for (i = 1; i < 32; i++)
-        report.x[i] = bodlarina_get64(scalars + BODLARINA_SCALAR_AT(i));
     report.before = device_settings(device);
     memcpy(device->scalars, scalars, BODLARINA_SCALAR_BYTES);
-    report.told = CHANGED;
     if (seals_changed(&report.address))
-        line_tell(&report, device);
+        tell(CHANGED, &report, device, scalars);
     seal_further(device);
-    report.told = step(unit, word) == 0 ? CARRIED_OUT : REFUSED;
-    if (report.told == REFUSED || shared->trace)
-        line_tell(&report, device);
+    if (step(unit, word) != 0)
+        tell(REFUSED, &report, device, scalars);
+    else if (shared->trace)
+        tell(CARRIED_OUT, &report, device, scalars);
     memcpy(scalars, device->scalars, BODLARINA_SCALAR_BYTES);
 }

@@ -88,7 +88,8 @@ static void carry_out(uint64_t ucontext)
     uint8_t *context = guest.memory + ucontext, scalars[BODLARINA_SCALAR_BYTES] = {0};
     uint64_t pc = bodlarina_get64(context + UC_PC_AT);
     uint32_t word;
-    if (!user_read(pc, &word, sizeof word) || !is_matrix_word(word)) {
+    memcpy(&word, guest.memory + pc, sizeof word);
+    if (!is_matrix_word(word)) {
         bodlarina_put64(context + UC_LINK_AT, programs.handler > 1 ? programs.handler : 1);
         return;
     }

@@ -10,8 +10,8 @@
 vector:
     .space 256
 
-# An illegal instruction: x1 .. x31 go to the frame, and mepc by the store on which the plugin waits, the bell. Of a matrix word the plugin then has
-# written rd and the next pc into the frame.
+# x1 .. x31 go to the frame; the store on which the plugin waits, the bell, is into the place of x0. If the trap is that of a matrix word, the plugin
+# then has written rd into the frame, and the next pc there. Each access of a csr costs, so mcause and mepc are not read.
 trap:
     csrw sscratch, sp
     lla sp, frame
@@ -20,15 +20,11 @@ trap:
     .endr
     csrr t0, sscratch
     sd t0, 16(sp)
-    csrr t1, mcause
-    li t2, 2
-    bne t1, t2, other
-    csrr t0, mepc
 bell:
-    sd t0, 0(sp)
-    ld t1, 0(sp)
-    beq t0, t1, other
-    csrw mepc, t1
+    sd x0, 0(sp)
+    ld t0, 0(sp)
+    beqz t0, other
+    csrw mepc, t0
     .irp r, 1,3,4,5,6,7,8,9,10,11,12,13,14,15,16,17,18,19,20,21,22,23,24,25,26,27,28,29,30,31
     ld x\r, 8*\r(sp)
     .endr
@@ -36,8 +32,6 @@ bell:
     mret
 other:
     ld t0, 40(sp)
-    ld t1, 48(sp)
-    ld t2, 56(sp)
     ld sp, 16(sp)
 own:
     j .                     # replaced: to the program's own vector; without one the machine stays here
