@@ -16,7 +16,7 @@ PACKAGE := bodlarina-$(VERSION)-linux-x86_64
 HEADERS := include/bodlarina.h include/bodlarina_words.h include/bodlarina_asm.h
 PROVED := product disassemble assemble
 PROGRAMS := $(PROVED) bodlarina-bench bodlarina-salvage
-MANUAL := man/bodlarina.3 $(PROGRAMS:%=man/%.1)
+MANUAL := man/bodlarina.3 $(PROGRAMS:%=man/%.1) man/bodlarina-firmware.1
 
 # The shared library and the name that a host asks for at run time: while the major number is 0, that has the minor number too.
 NUMBERS := $(subst ., ,$(VERSION))
@@ -94,7 +94,7 @@ PC := sed -e 's|@PREFIX@|$(PREFIX)|' -e 's|@VERSION@|$(VERSION)|'
 
 install:
 	@for file in $(LIBRARY) $(SHARED); do test -f $$file || { echo "$$file is not built: make lib"; exit 1; }; done
-	$(INSTALL) -d $(DESTDIR)$(PREFIX)/lib/pkgconfig $(DESTDIR)$(PREFIX)/include $(DESTDIR)$(PREFIX)/share/bodlarina/python
+	$(INSTALL) -d $(DESTDIR)$(PREFIX)/lib/pkgconfig $(DESTDIR)$(PREFIX)/include $(addprefix $(DESTDIR)$(PREFIX)/share/bodlarina/,python gdb)
 	$(INSTALL) -d $(DESTDIR)$(PREFIX)/share/man/man1 $(DESTDIR)$(PREFIX)/share/man/man3
 	$(INSTALL) -m 644 $(LIBRARY) $(DESTDIR)$(PREFIX)/lib/libbodlarina.a
 	$(INSTALL) -m 755 $(SHARED) $(DESTDIR)$(PREFIX)/lib/$(SHARED_NAME)
@@ -106,12 +106,14 @@ install:
 	$(PC) -e 's|@NAME@|bodlarina-shared|' -e 's|@LIBS@|-L$${libdir} -Wl,-rpath,$${libdir} -lbodlarina|' bodlarina.pc.in \
 	  >$(DESTDIR)$(PREFIX)/lib/pkgconfig/bodlarina-shared.pc
 	$(INSTALL) -m 644 python/bodlarina.py $(DESTDIR)$(PREFIX)/share/bodlarina/python
+	$(INSTALL) -m 644 firmware/bodlarina-gdb.py $(DESTDIR)$(PREFIX)/share/bodlarina/gdb
 	$(INSTALL) -m 644 man/bodlarina.3 $(DESTDIR)$(PREFIX)/share/man/man3
 	for name in $(PROGRAMS); do if test -f $(BIN)/$$name; then $(INSTALL) -d $(DESTDIR)$(PREFIX)/bin && \
 	  $(INSTALL) -m 755 $(BIN)/$$name $(DESTDIR)$(PREFIX)/bin && \
 	  $(INSTALL) -m 644 man/$$name.1 $(DESTDIR)$(PREFIX)/share/man/man1 || exit 1; fi; done
 	if test -f $(FIRMWARE); then $(INSTALL) -d $(DESTDIR)$(PREFIX)/lib/bodlarina && \
-	  $(INSTALL) -m 755 $(FIRMWARE) $(DESTDIR)$(PREFIX)/bin && $(INSTALL) -m 755 $(PLUGIN) $(DESTDIR)$(PREFIX)/lib/bodlarina; \
+	  $(INSTALL) -m 755 $(FIRMWARE) $(DESTDIR)$(PREFIX)/bin && $(INSTALL) -m 755 $(PLUGIN) $(DESTDIR)$(PREFIX)/lib/bodlarina && \
+	  $(INSTALL) -m 644 man/bodlarina-firmware.1 $(DESTDIR)$(PREFIX)/share/man/man1; \
 	  else echo "bodlarina-firmware is not built, and not installed"; fi
 
 uninstall:
@@ -119,7 +121,7 @@ uninstall:
 	  lib/libbodlarina.a lib/libbodlarina.so lib/$(SONAME) lib/$(SHARED_NAME) \
 	  lib/pkgconfig/bodlarina.pc lib/pkgconfig/bodlarina-shared.pc share/man/man3/bodlarina.3 \
 	  $(PROGRAMS:%=bin/%) $(PROGRAMS:%=share/man/man1/%.1))
-	rm -f $(DESTDIR)$(PREFIX)/bin/bodlarina-firmware
+	rm -f $(DESTDIR)$(PREFIX)/bin/bodlarina-firmware $(DESTDIR)$(PREFIX)/share/man/man1/bodlarina-firmware.1
 	rm -rf $(DESTDIR)$(PREFIX)/share/bodlarina $(DESTDIR)$(PREFIX)/lib/bodlarina
 
 dist: all pack
@@ -127,7 +129,7 @@ dist: all pack
 # the archive of what is built already
 pack:
 	rm -rf target/dist/$(PACKAGE)
-	mkdir -p $(addprefix target/dist/$(PACKAGE)/,include lib bin man examples/bench python docs)
+	mkdir -p $(addprefix target/dist/$(PACKAGE)/,include lib bin man examples/bench python firmware docs)
 	cp $(HEADERS) target/dist/$(PACKAGE)/include
 	cp $(LIBRARY) $(SHARED) target/dist/$(PACKAGE)/lib
 	cp $(BUILT) target/dist/$(PACKAGE)/bin
@@ -137,7 +139,8 @@ pack:
 	cp examples/*.c examples/*.out target/dist/$(PACKAGE)/examples
 	cp bench/examples/* target/dist/$(PACKAGE)/examples/bench
 	cp python/bodlarina.py python/four_loops.py python/four_loops.out target/dist/$(PACKAGE)/python
-	cp docs/INSTRUCTIONS.md target/dist/$(PACKAGE)/docs
+	cp -r firmware/bodlarina-gdb.py firmware/examples target/dist/$(PACKAGE)/firmware
+	cp docs/INSTRUCTIONS.md docs/FIRMWARE.md docs/firmware.svg target/dist/$(PACKAGE)/docs
 	cp Makefile bodlarina.pc.in target/dist/$(PACKAGE)
 	tar -C target/dist --sort=name --owner=0 --group=0 --numeric-owner -czf target/dist/$(PACKAGE).tar.gz $(PACKAGE)
 	@echo target/dist/$(PACKAGE).tar.gz

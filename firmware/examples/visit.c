@@ -2,7 +2,7 @@
 
 #include "bodlarina_asm.h"
 
-enum { LOOPS = 4, LOOPS_MOST = 16, COUNTS = 4, READINGS = 2, COUNT_MOST = 64 };
+enum { LOOPS = 4, LOOPS_MOST = 16, COUNTS = 4, READINGS = 2, SENSOR_DRIFT = 2 };
 
 int8_t counts[LOOPS_MOST][COUNTS]; /* raw, as they were entered */
 int32_t readings[LOOPS][READINGS];
@@ -21,12 +21,11 @@ __attribute__((noinline)) void enter_counts(void)
             counts[loop][i] = sensors[loop][i];
 }
 
-static void clip_counts(void)
+static void take_off_drift(void)
 {
     for (unsigned loop = 0; loop < LOOPS; loop++)
         for (unsigned i = 0; i < COUNTS; i++)
-            if (counts[loop][i] > COUNT_MOST)
-                counts[loop][i] = COUNT_MOST;
+            counts[loop][i] -= SENSOR_DRIFT;
 }
 
 /* Loads the counts of so many loops into tr0 and multiplies those of all by the weights, to readings in rows of eight bytes. */
@@ -73,8 +72,8 @@ static void write_sheet(void (*put)(const char *text))
 void visit(enum slip slip, void (*put)(const char *text))
 {
     enter_counts();
-    if (slip == CLIP)
-        clip_counts();
+    if (slip == DRIFT)
+        take_off_drift();
     measure(slip == MISSING ? LOOPS - 1 : LOOPS, slip == OVER ? (void *)counts[2] : readings);
     write_sheet(put);
 }
