@@ -23,6 +23,13 @@ NUMBERS := $(subst ., ,$(VERSION))
 SHARED_NAME := libbodlarina.so.$(VERSION)
 SONAME := libbodlarina.so.$(word 1,$(NUMBERS))$(if $(filter 0,$(word 1,$(NUMBERS))),.$(word 2,$(NUMBERS)))
 
+# bodlarina-firmware, and its plugin, which it looks for in ../lib/bodlarina
+FIRMWARE = $(BIN)/bodlarina-firmware
+PLUGIN = $(BIN)/../lib/bodlarina/bodlarina-qemu.so
+HAS_LIBDW = echo '\#include <elfutils/libdwfl.h>' | $(CC) -E -x c -o /dev/null - 2>/dev/null
+NO_LIBDW := libdw is not installed (Debian: libdw-dev): bodlarina-firmware is not built
+.PHONY: firmware
+
 # In an archive of `make dist` the libraries and the programs stand built in lib/ and bin/.
 ifneq ($(wildcard lib/libbodlarina.a),)
 LIBRARY := lib/libbodlarina.a
@@ -35,13 +42,7 @@ BIN := target/bin
 endif
 BUILT := $(PROGRAMS:%=$(BIN)/%)
 
-# bodlarina-firmware, and its plugin, which it looks for in ../lib/bodlarina
-FIRMWARE := $(BIN)/bodlarina-firmware
-PLUGIN := $(BIN)/../lib/bodlarina/bodlarina-qemu.so
-HAS_LIBDW = echo '\#include <elfutils/libdwfl.h>' | $(CC) -E -x c -o /dev/null - 2>/dev/null
-NO_LIBDW := libdw is not installed (Debian: libdw-dev): bodlarina-firmware is not built
-
-.PHONY: all lib shared $(PROVED) bench salvage firmware install uninstall dist pack test
+.PHONY: all lib shared $(PROVED) bench salvage install uninstall dist pack test
 
 all: lib $(PROVED)
 	$(MAKE) bench salvage
@@ -64,6 +65,16 @@ shared:
 	ln -sf $(SHARED_NAME) $(dir $(SHARED))$(SONAME)
 	ln -sf $(SONAME) $(dir $(SHARED))libbodlarina.so
 
+# The tool, and what QEMU loads, which finds QEMU's functions when it is loaded; both over the bench's machine.
+DEVICE := bench/device.c bench/instructions.c bench/reader.c bench/files.c
+TOOL := $(filter-out firmware/plugin%,$(wildcard firmware/*.c)) bench/trace.c bench/picture.c
+firmware:
+	@test -f $(LIBRARY) || { echo "$(LIBRARY) is not built: make lib"; exit 1; }
+	@$(HAS_LIBDW) || { echo "$(NO_LIBDW)"; exit 1; }
+	mkdir -p $(BIN) $(dir $(PLUGIN))
+	$(CC) -std=c99 -O2 -Iinclude -Ibench $(TOOL) $(DEVICE) $(LIBRARY) -ldw -lelf -o $(FIRMWARE)
+	$(CC) -std=c99 -O2 -Iinclude -Ibench -fPIC -fvisibility=hidden -shared firmware/plugin*.c $(DEVICE) $(LIBRARY) -o $(PLUGIN)
+
 $(PROVED):
 	rt check $@
 
@@ -77,16 +88,6 @@ salvage:
 	@test -f $(LIBRARY) || { echo "$(LIBRARY) is not built: make lib"; exit 1; }
 	mkdir -p $(BIN)
 	$(CC) -std=c99 -O2 -Iinclude -Ibench tools/salvage.c bench/files.c bench/kept.c $(LIBRARY) -o $(BIN)/bodlarina-salvage
-
-# The tool, and what QEMU loads, which finds QEMU's functions when it is loaded; both over the bench's machine.
-DEVICE := bench/device.c bench/instructions.c bench/reader.c bench/files.c
-TOOL := $(filter-out firmware/plugin%,$(wildcard firmware/*.c)) bench/trace.c bench/picture.c
-firmware:
-	@test -f $(LIBRARY) || { echo "$(LIBRARY) is not built: make lib"; exit 1; }
-	@$(HAS_LIBDW) || { echo "$(NO_LIBDW)"; exit 1; }
-	mkdir -p $(BIN) $(dir $(PLUGIN))
-	$(CC) -std=c99 -O2 -Iinclude -Ibench $(TOOL) $(DEVICE) $(LIBRARY) -ldw -lelf -o $(FIRMWARE)
-	$(CC) -std=c99 -O2 -Iinclude -Ibench -fPIC -fvisibility=hidden -shared firmware/plugin*.c $(DEVICE) $(LIBRARY) -o $(PLUGIN)
 endif
 
 # pkg-config's `bodlarina` is the static library, `bodlarina-shared` the shared one, found at run time where it is installed
