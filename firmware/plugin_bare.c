@@ -1,0 +1,245 @@
+/* Bare metal: a word is an illegal instruction, and so a trap. The trap vector of vector.S is put before the program's own: by a detour from the
+ * program's first instruction, and from the one behind each instruction that sets mtvec. It rings a bell, a store on which QEMU calls. */
+#define _GNU_SOURCE
+#include <string.h>
+#include <sys/mman.h>
+#include <unistd.h>
+
+#include "guest_code.h"
+#include "plugin.h"
+
+/* A detour has a copy of the vector of its own: code that ran already cannot be changed from outside without QEMU running the old one. */
+struct copy {
+    uint64_t vector;
+    uint64_t from; /* the instruction in whose place the detour stands */
+    int taken;     /* the program has come there */
+};
+
+#define COPIES_MOST 32
+
+static struct copy copies[COPIES_MOST];
+static size_t copies_len;
+
+/* Where a copy is looked for: up to so far above the instruction, and from there down. */
+enum { COPY_BYTES = 0x2000, HIGHEST = 0xd3000 };
+
+/* Numbers in the frame, behind x0 .. x31 and mtvec: the instruction that is to be put back, where and which. */
+enum { PUT_AT = 264, PUT_WORD = 272 };
+
+/* The matrix word that is about to trap, and how many detours are not taken yet. */
+static uint64_t word_at;
+static unsigned waiting;
+
+/* ---- memory ---- */
+
+static int in_ram(uint64_t address, uint64_t bytes)
+{
+    uint64_t offset = address - shared->ram.start;
+    return address >= shared->ram.start && offset <= shared->ram.length && bytes <= shared->ram.length - offset;
+}
+
+static int bare_read(uint64_t address, void *to, size_t bytes)
+{
+    if (!in_ram(address, bytes))
+        return 0;
+    memcpy(to, guest.memory + address, bytes);
+    return 1;
+}
+
+static int bare_reach(const struct rows *rows)
+{
+    uint64_t address = rows->address;
+    size_t i;
+    for (i = 0; i < rows->count; i++, address += rows->stride)
+        if (!in_ram(address, rows->bytes))
+            return 0;
+    return 1;
+}
+
+static void put_word(uint64_t address, uint32_t word) { memcpy(guest.memory + address, &word, sizeof word); }
+
+static void tell_trouble(enum told told, uint64_t pc)
+{
+    struct report report;
+    memset(&report, 0, sizeof report);
+    report.told = (uint32_t)told;
+    report.pc = pc;
+    line_tell(&report, unit_device());
+}
+
+/* ---- copies of the vector ---- */
+
+/* j from one address to another; 0 if that is out of its reach. */
+static uint32_t jump(uint64_t from, uint64_t to)
+{
+    uint64_t offset = to - from;
+    if (offset + 0x100000 >= 0x200000)
+        return 0;
+    return (uint32_t)((offset >> 20 & 1) << 31 | (offset >> 1 & 0x3ff) << 21 | (offset >> 11 & 1) << 20 | (offset >> 12 & 0xff) << 12 | 0x6f);
+}
+
+static int is_free(uint64_t address)
+{
+    size_t i;
+    for (i = 0; i < copies_len; i++)
+        if (copies[i].vector == address)
+            return 0;
+    for (i = 0; i < COPY_BYTES && guest.memory[address + i] == 0; i++)
+        ;
+    return i == COPY_BYTES;
+}
+
+/* Two pages behind the program that hold zeros, in reach of a jump; 0 if there are none. */
+static uint64_t find_place(uint64_t from)
+{
+    uint64_t end = (shared->end + 0xfff) & ~(uint64_t)0xfff, address = (from & ~(uint64_t)0xfff) + HIGHEST;
+    if (address > shared->ram.start + shared->ram.length - COPY_BYTES)
+        address = shared->ram.start + shared->ram.length - COPY_BYTES;
+    for (; address >= end && address >= from; address -= COPY_BYTES)
+        if (is_free(address))
+            return address;
+    return 0;
+}
+
+static void put_detour(uint64_t from)
+{
+    struct copy *copy = &copies[copies_len];
+    uint8_t *code;
+    if (!in_ram(from, sizeof(uint32_t)) || copies_len == COPIES_MOST || (copy->vector = find_place(from)) == 0) {
+        tell_trouble(NO_PLACE, from);
+        return;
+    }
+    copies_len++;
+    waiting++;
+    copy->from = from;
+    code = guest.memory + copy->vector;
+    memcpy(code + VECTOR_TRAP_AT, vector_code, sizeof vector_code);
+    put_word(copy->vector, jump(0, VECTOR_TRAP_AT));
+    put_word(copy->vector + VECTOR_BACK_AT, jump(copy->vector + VECTOR_BACK_AT, from));
+    bodlarina_put64(code + VECTOR_FRAME_AT + PUT_AT, from);
+    memcpy(code + VECTOR_FRAME_AT + PUT_WORD, guest.memory + from, sizeof(uint32_t));
+    put_word(from, jump(from, copy->vector + VECTOR_DETOUR_AT));
+}
+
+/* The jumps of a copy to the program's own vector; 0 if that is out of reach. */
+static int put_own(const struct copy *copy, uint64_t own)
+{
+    uint32_t word = jump(copy->vector + VECTOR_OWN_AT, own);
+    unsigned i;
+    put_word(copy->vector + VECTOR_OWN_AT, word);
+    for (i = 1; i < 64; i++)
+        put_word(copy->vector + 4 * i, jump(copy->vector, own));
+    return word != 0 && jump(copy->vector, own) != 0;
+}
+
+/* ---- what happens in the program ---- */
+
+static struct copy *copy_of(uint64_t address)
+{
+    size_t i;
+    for (i = 0; i < copies_len; i++)
+        if (address - copies[i].vector < COPY_BYTES)
+            return &copies[i];
+    return NULL;
+}
+
+/* The program has set mtvec, or has not yet. What it set may be one of ours, which it has read before. */
+static void at_detour(unsigned cpu, qemu_plugin_meminfo_t info, uint64_t address, void *data)
+{
+    struct copy *copy = copy_of(address);
+    uint64_t mtvec = bodlarina_get64(guest.memory + address);
+    (void)cpu, (void)info, (void)data;
+    copy->taken = 1;
+    waiting--;
+    if (copy_of(mtvec) != NULL)
+        return;
+    if (mtvec != 0 && !put_own(copy, mtvec & ~(uint64_t)3))
+        tell_trouble(NO_PLACE, copy->from);
+    bodlarina_put64(guest.memory + address, copy->vector | (mtvec & 3));
+}
+
+/* A trap: the frame has x1 .. x31. */
+static void at_bell(unsigned cpu, qemu_plugin_meminfo_t info, uint64_t address, void *data)
+{
+    uint8_t *frame = guest.memory + address;
+    uint64_t pc = word_at;
+    uint32_t word;
+    (void)cpu, (void)info, (void)data;
+    word_at = 0;
+    if (pc == 0 || !bare_read(pc, &word, sizeof word))
+        return;
+    unit_carry_out(pc, word, frame);
+    bodlarina_put64(frame, pc + 4);
+}
+
+/* About to set mtvec; the next instruction is the first of a block. */
+static void at_mtvec(unsigned cpu, void *next)
+{
+    uint64_t from = (uint64_t)(uintptr_t)next;
+    size_t i;
+    (void)cpu;
+    for (i = 0; i < copies_len; i++)
+        if (!copies[i].taken && copies[i].from == from)
+            return;
+    put_detour(from);
+}
+
+/* A matrix word; its trap comes next. A detour that was not taken stood where code had run before. */
+static void at_word(unsigned cpu, void *pc)
+{
+    (void)cpu;
+    word_at = (uint64_t)(uintptr_t)pc;
+    if (waiting != 0)
+        tell_trouble(SET_AGAIN, word_at);
+}
+
+/* csrrw and its like on mtvec; with x0 or 0 csrrs and csrrc only read it. */
+static int sets_mtvec(uint32_t bits)
+{
+    unsigned form = bits >> 12 & 3;
+    return (bits & 0xfff0007f) == 0x30500073 && form != 0 && (form == 1 || (bits >> 15 & 31) != 0);
+}
+
+static void watch(struct qemu_plugin_insn *instruction)
+{
+    uint64_t address = qemu_plugin_insn_vaddr(instruction);
+    uint32_t bits = instruction_bits(instruction);
+    const struct copy *copy = copy_of(address);
+    if (copy != NULL) {
+        if (address == copy->vector + VECTOR_BELL_AT)
+            qemu_plugin_register_vcpu_mem_cb(instruction, at_bell, NO_REGISTERS, STORES_ONLY, NULL);
+        if (address == copy->vector + VECTOR_DETOUR_BELL_AT)
+            qemu_plugin_register_vcpu_mem_cb(instruction, at_detour, NO_REGISTERS, STORES_ONLY, NULL);
+        return;
+    }
+    if (sets_mtvec(bits))
+        qemu_plugin_register_vcpu_insn_exec_cb(instruction, at_mtvec, NO_REGISTERS, (void *)(uintptr_t)(address + 4));
+    if (is_matrix_word(bits))
+        qemu_plugin_register_vcpu_insn_exec_cb(instruction, at_word, NO_REGISTERS, (void *)(uintptr_t)address);
+    seals_watch(instruction);
+}
+
+/* Of the code that QEMU runs before the program, the first block comes when the program is loaded. */
+static void translated(qemu_plugin_id_t id, struct qemu_plugin_tb *block)
+{
+    size_t i;
+    (void)id;
+    if (!begun())
+        return;
+    if (copies_len == 0)
+        put_detour(shared->ram.start);
+    for (i = 0; i < qemu_plugin_tb_n_insns(block); i++)
+        watch(qemu_plugin_tb_get_insn(block, i));
+}
+
+void bare_install(qemu_plugin_id_t id, int ram)
+{
+    guest.bytes = shared->ram.start + shared->ram.length;
+    guest.read = bare_read;
+    guest.reach = bare_reach;
+    guest.memory = mmap(NULL, guest.bytes, PROT_NONE, MAP_PRIVATE | MAP_ANONYMOUS | MAP_NORESERVE, -1, 0);
+    if (guest.memory == MAP_FAILED
+        || mmap(guest.memory + shared->ram.start, shared->ram.length, PROT_READ | PROT_WRITE, MAP_SHARED | MAP_FIXED, ram, 0) == MAP_FAILED)
+        give_up("the machine's memory is not to be had in QEMU");
+    qemu_plugin_register_vcpu_tb_trans_cb(id, translated);
+}
