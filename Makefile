@@ -68,7 +68,7 @@ bench:
 salvage:
 	@test -f $(LIBRARY) || { echo "$(LIBRARY) is not built: make lib"; exit 1; }
 	mkdir -p $(BIN)
-	$(CC) -std=c99 -O2 -Iinclude -Ibench tools/salvage.c bench/files.c bench/kept.c $(LIBRARY) -o $(BIN)/bodlarina-salvage
+	$(CC) -std=c99 -O2 -Iinclude -Ibench tools/salvage.c bench/files.c bench/kept.c bench/program.c $(LIBRARY) -o $(BIN)/bodlarina-salvage
 endif
 
 # pkg-config's `bodlarina` is the static library, `bodlarina-shared` the shared one, found at run time where it is installed

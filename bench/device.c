@@ -6,8 +6,6 @@
 
 /* ---- calls of the library ---- */
 
-int library_fits(void) { return bodlarina_version() == BODLARINA_VERSION_NUMBER; }
-
 /* The device's buffers, lent for one call. */
 static struct bodlarina_bench lent(struct device *device)
 {

@@ -63,9 +63,6 @@ struct turn {
     uint64_t address, stride;
 };
 
-/* Whether the library that is linked is the one of the header. */
-int library_fits(void);
-
 /* memory of this size, zeros; 0 if there is no room. */
 int device_memory(struct device *device, size_t bytes);
 void device_free(struct device *device);

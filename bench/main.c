@@ -1,33 +1,11 @@
 /* bodlarina-bench: drives a machine from a script. See man/bodlarina-bench.1. */
 #include <stdio.h>
-#include <string.h>
 
 #include "commands.h"
+#include "options.h"
 #include "picture.h"
 
 enum { HELD, NOT_HELD, BAD_SCRIPT };
-
-struct options {
-    int trace;
-    const char *marks; /* the path of the picture, or NULL */
-    const char *script;
-};
-
-static int read_options(int count, char **words, struct options *options)
-{
-    int i;
-    memset(options, 0, sizeof *options);
-    for (i = 1; i < count; i++)
-        if (strcmp(words[i], "--trace") == 0)
-            options->trace = 1;
-        else if (strcmp(words[i], "--marks") == 0 && i + 1 < count && options->marks == NULL)
-            options->marks = words[++i];
-        else if (words[i][0] != '-' && options->script == NULL)
-            options->script = words[i];
-        else
-            return 0;
-    return options->script != NULL;
-}
 
 /* All lines of the script, then the picture. */
 static int run_script(struct session *session, const char *marks)
@@ -44,27 +22,28 @@ static int run_script(struct session *session, const char *marks)
     return session->failures == 0 ? HELD : NOT_HELD;
 }
 
-int main(int count, char **words)
+static int run(const struct options *options)
 {
     static struct session session;
-    struct options options;
     int status = BAD_SCRIPT;
-    if (!read_options(count, words, &options)) {
-        fprintf(stderr, "usage: bodlarina-bench [--trace] [--marks FILE.svg] SCRIPT\n");
-        return BAD_SCRIPT;
-    }
-    if (!library_fits()) {
-        fprintf(stderr, "bodlarina-bench: the library is not that of the header it was built with\n");
-        return BAD_SCRIPT;
-    }
-    session.trace = options.trace;
-    if (reader_open(&session.reader, options.script))
-        status = run_script(&session, options.marks);
+    session.trace = options->trace;
+    if (reader_open(&session.reader, options->script))
+        status = run_script(&session, options->marks);
     device_free(&session.device);
     reader_close(&session.reader);
-    if (fflush(stdout) != 0 || ferror(stdout)) {
-        fprintf(stderr, "bodlarina-bench: the output cannot be written\n");
+    if (fflush(stdout) == 0 && !ferror(stdout))
+        return status;
+    complain(&bench_program, "the output cannot be written");
+    return BAD_SCRIPT;
+}
+
+int main(int count, char **words)
+{
+    struct options options;
+    int said;
+    if (count > 1 && asked(&bench_program, words[1], &said))
+        return said ? HELD : BAD_SCRIPT;
+    if (!read_options(count, words, &options) || !library_fits(&bench_program))
         return BAD_SCRIPT;
-    }
-    return status;
+    return run(&options);
 }
