@@ -29,6 +29,18 @@ static int read_options(int count, char **words, struct options *options)
     return options->script != NULL;
 }
 
+/* Whether all held, and how many refusals no line expects. */
+static int end_script(struct session *session)
+{
+    unsigned long count;
+    count_refusal(session);
+    count = session->unexpected;
+    fflush(stdout);
+    if (count != 0)
+        fprintf(stderr, "%s: %lu refusal%s not expected\n", session->reader.path, count, count == 1 ? " was" : "s were");
+    return session->failures == 0 && count == 0 ? HELD : NOT_HELD;
+}
+
 /* All lines of the script, then the picture. */
 static int run_script(struct session *session, const char *marks)
 {
@@ -41,7 +53,7 @@ static int run_script(struct session *session, const char *marks)
     }
     if (marks != NULL && !write_picture(&session->device, marks))
         return BAD_SCRIPT;
-    return session->failures == 0 ? HELD : NOT_HELD;
+    return end_script(session);
 }
 
 int main(int count, char **words)
