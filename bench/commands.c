@@ -7,6 +7,7 @@
 #include <string.h>
 #include <unistd.h>
 
+#include "arguments.h"
 #include "trace.h"
 
 /* ---- the machine and its scalars ---- */
@@ -36,12 +37,13 @@ static int run_machine(struct session *session)
 {
     struct reader *reader = &session->reader;
     uint64_t rlen, mlen, elen, rule;
+    size_t ranges = session->device.seals_len / 2;
     if (!take_any(reader, "RLEN", &rlen) || !take_any(reader, "MLEN", &mlen) || !take_elen(reader, &elen) || !take_rule(reader, &rule))
         return 0;
     if (session->device.started)
         return not_now(session, "the machine is started already");
     device_start(&session->device, rlen, mlen, elen, rule);
-    report(session, "machine");
+    report_machine(session, ranges);
     return 1;
 }
 
@@ -171,7 +173,7 @@ static int run_product(struct session *session)
         if (done == all)
             printf("%s:%lu: product: %" PRIu64 " steps\n", session->reader.path, session->reader.line, done);
     }
-    report(session, "product");
+    report_product(session, &plan);
     return 1;
 }
 
@@ -187,20 +189,34 @@ static const struct {
     {"save", run_save},       {"restore", run_restore}, {"salvage", run_salvage}, {"expect", run_expect},   {"show", run_show},
 };
 
-int run_line(struct session *session)
+/* The command, or the instruction, whose name was taken. */
+static int run_command(struct session *session, struct span span)
 {
     struct reader *reader = &session->reader;
-    struct span span;
     uint32_t word;
     size_t i;
-    if (at_end(reader))
-        return 1;
-    span = take_span(reader);
-    session->command_at = span.at;
     for (i = 0; i < sizeof commands / sizeof commands[0]; i++)
         if (span_is(span, commands[i].name))
             return commands[i].run(session);
     if (!is_mnemonic(span))
         return refuse(reader, span.at, "this is no command, and no instruction of the unit");
     return take_instruction(reader, span, &word) && needs_machine(session) && step_word(session, word);
+}
+
+int run_line(struct session *session)
+{
+    struct device *device = &session->device;
+    unsigned long answers = device->answers;
+    struct span span;
+    if (at_end(&session->reader))
+        return 1;
+    span = take_span(&session->reader);
+    session->command_at = span.at;
+    if (!span_is(span, "expect"))
+        count_refusal(session);
+    if (!run_command(session, span))
+        return 0;
+    if (device->answers != answers)
+        session->refused = device->result != 0;
+    return 1;
 }

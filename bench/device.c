@@ -34,7 +34,7 @@ static struct bodlarina_bench lent(struct device *device)
 
 static uint64_t answer(struct device *device, uint64_t result)
 {
-    device->answered = 1;
+    device->answers++;
     device->result = result;
     return result;
 }

@@ -51,10 +51,10 @@ struct device {
     uint64_t seals[2 * SEALS_MOST]; /* start and length of each range that the machine is to be started with */
     size_t seals_len;               /* how many numbers these are */
     int started;
-    int answered;         /* whether there was a start, a step, a run or an image */
-    uint64_t result;      /* of the last one */
-    unsigned long steps;  /* words carried out or refused */
-    struct element named; /* by the last refusal 5 */
+    unsigned long answers; /* how many starts, steps, sealed ranges, runs and images there were */
+    uint64_t result;       /* of the last one */
+    unsigned long steps;   /* words carried out or refused */
+    struct element named;  /* by the last refusal 5 */
 };
 
 /* A word, with the address and the stride that it has if it is a load or store; of a move the stride's scalar is its first row or column. */

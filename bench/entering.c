@@ -4,6 +4,7 @@
 #include <stdlib.h>
 #include <string.h>
 
+#include "arguments.h"
 #include "files.h"
 #include "numbers.h"
 
@@ -28,7 +29,7 @@ int run_seal(struct session *session)
         return 0;
     if (device->started) {
         device_seal(device, start, length);
-        report(session, "seal");
+        report_seal(session, start, length);
         return 1;
     }
     if (device->seals_len == 2 * SEALS_MOST)

@@ -55,7 +55,8 @@ static int expect_answer(struct session *session)
     struct expected expected;
     if (!take_expected(&session->reader, &expected))
         return 0;
-    if (!device->answered)
+    session->refused = 0;
+    if (device->answers == 0)
         return not_now(session, "nothing has answered yet");
     if (is_expected(&expected, device->result))
         return 1;

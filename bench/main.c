@@ -7,6 +7,18 @@
 
 enum { HELD, NOT_HELD, BAD_SCRIPT };
 
+/* Whether all held, and how many refusals no line expects. */
+static int end_script(struct session *session)
+{
+    unsigned long count;
+    count_refusal(session);
+    count = session->unexpected;
+    fflush(stdout);
+    if (count != 0)
+        fprintf(stderr, "%s: %lu refusal%s not expected\n", session->reader.path, count, count == 1 ? " was" : "s were");
+    return session->failures == 0 && count == 0 ? HELD : NOT_HELD;
+}
+
 /* All lines of the script, then the picture. */
 static int run_script(struct session *session, const char *marks)
 {
@@ -19,7 +31,7 @@ static int run_script(struct session *session, const char *marks)
     }
     if (marks != NULL && !write_picture(&session->device, marks))
         return BAD_SCRIPT;
-    return session->failures == 0 ? HELD : NOT_HELD;
+    return end_script(session);
 }
 
 static int run(const struct options *options)

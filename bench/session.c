@@ -58,6 +58,12 @@ int take_file(struct session *session, size_t *at, char path[PATH_BYTES])
     return take_end(&session->reader);
 }
 
+void count_refusal(struct session *session)
+{
+    session->unexpected += (unsigned long)session->refused;
+    session->refused = 0;
+}
+
 void report(const struct session *session, const char *what)
 {
     const struct device *device = &session->device;

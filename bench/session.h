@@ -9,7 +9,9 @@ struct session {
     struct device device;
     size_t command_at; /* where the command of the line stands */
     int trace;
-    unsigned long failures; /* expectations that did not hold */
+    unsigned long failures;   /* expectations that did not hold */
+    unsigned long unexpected; /* refusals that no line behind them expects */
+    int refused;              /* whether the last command but expectations was refused, and no line expects it yet */
 };
 
 /* The longest path. */
@@ -34,6 +36,9 @@ int in_vector(const struct session *session, size_t at, size_t end);
 
 /* Prints that what the line would enter was refused with 7, at this address. */
 void report_sealed(const struct session *session, uint64_t address);
+
+/* A refusal that no line expects counts, from the next command on that is no expectation, or from the end of the script on. */
+void count_refusal(struct session *session);
 
 /* Prints the last answer if it is a refusal. */
 void report(const struct session *session, const char *what);
