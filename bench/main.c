@@ -69,11 +69,11 @@ int main(int count, char **words)
         fprintf(stderr, "bodlarina-bench: the library is not that of the header it was built with\n");
         return BAD_SCRIPT;
     }
-    session.trace = options.trace;
-    if (reader_open(&session.reader, options.script))
+    if (session_open(&session, options.script)) {
+        session.trace = options.trace;
         status = run_script(&session, options.marks);
-    device_free(&session.device);
-    reader_close(&session.reader);
+    }
+    session_close(&session);
     if (fflush(stdout) != 0 || ferror(stdout)) {
         fprintf(stderr, "bodlarina-bench: the output cannot be written\n");
         return BAD_SCRIPT;
