@@ -65,13 +65,13 @@ static int blame_length(const struct session *session)
 
 void report_machine(const struct session *session, size_t ranges)
 {
-    if (session->device.result != BODLARINA_BAD_ARGUMENTS || (!blame_length(session) && !blame_range(session, ranges)))
+    if (session->device.result != BODLARINA_BAD_ARGUMENTS || session->silent || (!blame_length(session) && !blame_range(session, ranges)))
         report(session, "machine");
 }
 
 void report_seal(const struct session *session, uint64_t start, uint64_t length)
 {
-    if (session->device.result == BODLARINA_BAD_ARGUMENTS && length > UINT64_MAX - start)
+    if (session->device.result == BODLARINA_BAD_ARGUMENTS && !session->silent && length > UINT64_MAX - start)
         blame(session, "seal", 2, "LENGTH is %" PRIu64 "; from %" PRIu64 " on at most %" PRIu64 " is permitted", length, start,
               UINT64_MAX - start);
     else
@@ -198,7 +198,9 @@ static int blame_c(const struct session *session, const struct bodlarina_plan *p
 void report_product(const struct session *session, const struct bodlarina_plan *plan)
 {
     uint64_t result = session->device.result;
-    int blamed = 0;
+    int blamed = session->silent;
+    if (blamed)
+        return;
     if (result == BODLARINA_BAD_ARGUMENTS)
         blamed = blame_width(session, plan) || blame_size(session, plan);
     else if (result == BODLARINA_OUTSIDE_MEMORY)

@@ -8,6 +8,7 @@
 #include <unistd.h>
 
 #include "arguments.h"
+#include "history.h"
 #include "trace.h"
 
 /* ---- the machine and its scalars ---- */
@@ -66,18 +67,21 @@ static int run_scalar(struct session *session)
 static int step_word(struct session *session, uint32_t word)
 {
     struct device *device = &session->device;
-    struct settings before = device_settings(device);
     struct instruction instruction;
     struct turn turn;
+    struct event event;
     char text[INSTRUCTION_TEXT_BYTES];
     instruction_of(word, &instruction);
     turn.word = word;
     turn.address = device_scalar(device, number_of(&instruction, BASE));
     turn.stride = device_scalar(device, number_of(&instruction, SCALAR));
+    event = next_step(session, &turn);
+    before_event(session, &event);
     device_step(device, word);
+    after_event(session, &event);
     write_instruction(word, text);
     if (session->trace)
-        trace_step(device, &turn, before);
+        trace_step(device, &turn, event.settings);
     else
         report(session, text);
     return 1;
@@ -125,19 +129,29 @@ static int take_plan(struct reader *reader, struct bodlarina_plan *plan)
            && take_matrix(reader, &plan->b) && take_matrix(reader, &plan->c) && take_kind(reader, &plan->kind);
 }
 
-/* Takes the turns one by one and traces each; how many were done. */
-static uint64_t traced_turns(struct session *session, uint64_t all)
+/* Takes the turn that comes next, and traces it. */
+static uint64_t single_turn(struct session *session)
 {
     struct device *device = &session->device;
-    uint64_t done;
-    for (done = 0; done < all; done++) {
-        struct settings before = device_settings(device);
-        struct turn turn;
-        device_turn(device, &turn);
-        trace_step(device, &turn, before);
-        if (device->result != 0)
-            break;
-    }
+    struct turn turn;
+    struct event event;
+    device_next(device, &turn);
+    event = next_step(session, &turn);
+    event.in_run = 1;
+    before_event(session, &event);
+    device_turn(device, &turn);
+    after_event(session, &event);
+    if (session->trace)
+        trace_step(device, &turn, event.settings);
+    return device->result;
+}
+
+/* Takes the turns one by one, to trace or to observe each; how many were done. */
+static uint64_t single_turns(struct session *session, uint64_t all)
+{
+    uint64_t done = 0;
+    while (done < all && session->events < session->last_event && single_turn(session) == 0)
+        done++;
     return done;
 }
 
@@ -145,18 +159,18 @@ static uint64_t traced_turns(struct session *session, uint64_t all)
 static uint64_t counted_turns(struct session *session, uint64_t all)
 {
     uint64_t total = 0, done;
-    struct turn turn;
     int terminal = isatty(STDERR_FILENO) == 1;
     do {
         done = device_turns(&session->device, 4096);
         total += done;
+        session->events += (unsigned long)done;
         if (terminal)
             fprintf(stderr, "\rproduct: %" PRIu64 " of %" PRIu64 " steps, %" PRIu64 " %%", total, all, all == 0 ? 100 : 100 * total / all);
     } while (done == 4096);
     if (terminal)
         fprintf(stderr, "\r%60s\r", "");
     if (total < all)
-        device_turn(&session->device, &turn); /* says why */
+        single_turn(session); /* says why */
     return total;
 }
 
@@ -169,8 +183,8 @@ static int run_product(struct session *session)
         return 0;
     if (device_run_start(device, &plan) == 0) {
         all = device_run_steps(device);
-        done = session->trace ? traced_turns(session, all) : counted_turns(session, all);
-        if (done == all)
+        done = session->trace || session->observer != NULL ? single_turns(session, all) : counted_turns(session, all);
+        if (done == all && !session->silent)
             printf("%s:%lu: product: %" PRIu64 " steps\n", session->reader.path, session->reader.line, done);
     }
     report_product(session, &plan);
@@ -182,11 +196,13 @@ static int run_product(struct session *session)
 static const struct {
     const char *name;
     int (*run)(struct session *session);
+    int changes; /* whether it may change the machine or its memory */
 } commands[] = {
-    {"machine", run_machine}, {"memory", run_memory}, {"seal", run_seal},       {"bytes", run_bytes},     {"int8", run_int8},
-    {"int16", run_int16},     {"int32", run_int32},   {"int64", run_int64},     {"float32", run_float32}, {"load", run_load},
-    {"x", run_scalar},        {"v", run_vector},      {"group", run_group},     {"word", run_word},       {"product", run_product},
-    {"save", run_save},       {"restore", run_restore}, {"salvage", run_salvage}, {"expect", run_expect},   {"show", run_show},
+    {"machine", run_machine, 1}, {"memory", run_memory, 1},   {"seal", run_seal, 1},       {"bytes", run_bytes, 1},
+    {"int8", run_int8, 1},       {"int16", run_int16, 1},     {"int32", run_int32, 1},     {"int64", run_int64, 1},
+    {"float32", run_float32, 1}, {"load", run_load, 1},       {"x", run_scalar, 1},        {"v", run_vector, 1},
+    {"group", run_group, 1},     {"word", run_word, 1},       {"product", run_product, 1}, {"restore", run_restore, 1},
+    {"salvage", run_salvage, 1}, {"save", run_save, 0},       {"expect", run_expect, 0},   {"show", run_show, 0},
 };
 
 /* The command, or the instruction, whose name was taken. */
@@ -197,7 +213,7 @@ static int run_command(struct session *session, struct span span)
     size_t i;
     for (i = 0; i < sizeof commands / sizeof commands[0]; i++)
         if (span_is(span, commands[i].name))
-            return commands[i].run(session);
+            return (session->silent && !commands[i].changes) || commands[i].run(session);
     if (!is_mnemonic(span))
         return refuse(reader, span.at, "this is no command, and no instruction of the unit");
     return take_instruction(reader, span, &word) && needs_machine(session) && step_word(session, word);
@@ -218,5 +234,7 @@ int run_line(struct session *session)
         return 0;
     if (device->answers != answers)
         session->refused = device->result != 0;
+    if (session->observer != NULL && session->observer->line != NULL)
+        session->observer->line(session->observer->self, session);
     return 1;
 }

@@ -81,17 +81,20 @@ uint64_t device_run_start(struct device *device, const struct bodlarina_plan *pl
     return answer(device, bodlarina_bench_run_start(&bench, plan));
 }
 
-/* A copy of the run is asked for the word that the turn will carry out. */
-uint64_t device_turn(struct device *device, struct turn *turn)
+/* A copy of the run is asked. */
+void device_next(const struct device *device, struct turn *turn)
 {
-    struct bodlarina_bench bench = lent(device), asked = bench;
     uint8_t run[BODLARINA_RUN_BYTES], handed[BODLARINA_HANDED_BYTES] = {0};
     memcpy(run, device->run, sizeof run);
-    asked.run = run;
-    bodlarina_bench_run_next(&asked, handed, sizeof handed);
+    bodlarina_run_next(run, sizeof run, handed, sizeof handed);
     turn->word = (uint32_t)bodlarina_get64(handed + BODLARINA_HANDED_WORD_AT);
     turn->address = bodlarina_get64(handed + BODLARINA_HANDED_ADDRESS_AT);
     turn->stride = bodlarina_get64(handed + BODLARINA_HANDED_STRIDE_AT);
+}
+
+uint64_t device_turn(struct device *device, const struct turn *turn)
+{
+    struct bodlarina_bench bench = lent(device);
     device->steps++;
     answer(device, bodlarina_bench_run_turn(&bench));
     remember_named(device, turn->word);
@@ -341,12 +344,12 @@ static unsigned word_sources(const struct device *device, const struct instructi
     switch (instruction->action) {
     case SETS: case LOADS: case MOVES_IN: return 0;
     case STORES: tiles[0] = word_tile(device, instruction); return 1;
-    case MULTIPLIES:
+    case MULTIPLIES: case MULTIPLIES_FLOATS:
         tiles[0] = make_tile(device, first, A, sew);
         tiles[1] = make_tile(device, second, B, sew);
         tiles[2] = word_tile(device, instruction);
         return 3;
-    case COMBINES:
+    case ADDS: case SUBTRACTS: case SUBTRACTS_REVERSED:
         tiles[0] = make_tile(device, first, C, sew);
         tiles[1] = word_tile(device, instruction);
         return 2;

@@ -75,8 +75,9 @@ uint64_t device_step(struct device *device, uint32_t word);
 uint64_t device_seal(struct device *device, uint64_t start, uint64_t length);
 uint64_t device_run_start(struct device *device, const struct bodlarina_plan *plan);
 
-/* One turn of the run, and which word it was. */
-uint64_t device_turn(struct device *device, struct turn *turn);
+/* The word that the next turn of the run carries out; and that turn. */
+void device_next(const struct device *device, struct turn *turn);
+uint64_t device_turn(struct device *device, const struct turn *turn);
 
 /* Up to `most` turns; how many were done. And all that the run has. */
 uint64_t device_turns(struct device *device, uint64_t most);

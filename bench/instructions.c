@@ -68,10 +68,10 @@ static const struct {
     {"mset", SETS, NONE, 0},
     {"mla", LOADS, A, 0}, {"mlb", LOADS, B, 0}, {"mlc", LOADS, C, 0},
     {"msa", STORES, A, 0}, {"msb", STORES, B, 0}, {"msc", STORES, C, 0},
-    {"mma.", MULTIPLIES, C, 1}, {"mwma.", MULTIPLIES, C, 2}, {"mqma.", MULTIPLIES, C, 4}, {"mfma.", MULTIPLIES, C, 1},
-    {"maddc.", COMBINES, C, 1}, {"mwaddc.", COMBINES, C, 2}, {"mqaddc.", COMBINES, C, 4},
-    {"msubc.", COMBINES, C, 1}, {"mwsubc.", COMBINES, C, 2}, {"mqsubc.", COMBINES, C, 4},
-    {"mrsubc.", COMBINES, C, 1}, {"mwrsubc.", COMBINES, C, 2}, {"mqrsubc.", COMBINES, C, 4},
+    {"mma.", MULTIPLIES, C, 1}, {"mwma.", MULTIPLIES, C, 2}, {"mqma.", MULTIPLIES, C, 4}, {"mfma.", MULTIPLIES_FLOATS, C, 1},
+    {"maddc.", ADDS, C, 1}, {"mwaddc.", ADDS, C, 2}, {"mqaddc.", ADDS, C, 4},
+    {"msubc.", SUBTRACTS, C, 1}, {"mwsubc.", SUBTRACTS, C, 2}, {"mqsubc.", SUBTRACTS, C, 4},
+    {"mrsubc.", SUBTRACTS_REVERSED, C, 1}, {"mwrsubc.", SUBTRACTS_REVERSED, C, 2}, {"mqrsubc.", SUBTRACTS_REVERSED, C, 4},
     {"memulc.", SCALES, C, 1}, {"mwemulc.", SCALES, C, 2}, {"mqemulc.", SCALES, C, 4},
     {"mmvcr.v", MOVES_OUT, ROWS, 1}, {"mmvcr.m", MOVES_IN, ROWS, 1},
     {"mmvcc.v", MOVES_OUT, COLUMNS, 1}, {"mmvcc.m", MOVES_IN, COLUMNS, 1},
@@ -107,11 +107,13 @@ int instruction_of(uint32_t word, struct instruction *instruction)
         return 0;
     instruction->action = kinds[i].action;
     instruction->shape = kinds[i].shape;
+    instruction->transposed = (kinds[i].action == LOADS || kinds[i].action == STORES) && text[3] == 't';
     instruction->width = kinds[i].width != 0 ? kinds[i].width : (unsigned)strtoul(text + strcspn(text, digits), NULL, 10);
     operand = strchr(text, ' ');
     for (i = 0; operand != NULL && i < OPERANDS_MOST; i++) {
         operand++;
         instruction->operands[i] = operand_of(operand);
+        instruction->immediate = (int)strtol(operand, NULL, 10);
         instruction->numbers[i] = (unsigned)strtoul(operand + strcspn(operand, digits), NULL, 10);
         operand = strchr(operand, ' ');
     }

@@ -38,11 +38,11 @@ static int run(const struct options *options)
 {
     static struct session session;
     int status = BAD_SCRIPT;
-    session.trace = options->trace;
-    if (reader_open(&session.reader, options->script))
+    if (session_open(&session, options->script)) {
+        session.trace = options->trace;
         status = run_script(&session, options->marks);
-    device_free(&session.device);
-    reader_close(&session.reader);
+    }
+    session_close(&session);
     if (fflush(stdout) == 0 && !ferror(stdout))
         return status;
     complain(&bench_program, "the output cannot be written");

@@ -27,6 +27,12 @@ void reader_close(struct reader *reader)
     reader->text = NULL;
 }
 
+void reader_rewind(struct reader *reader)
+{
+    reader->line_start = reader->line_end = reader->next_start = reader->at = 0;
+    reader->line = 0;
+}
+
 int next_line(struct reader *reader)
 {
     const char *feed, *comment;

@@ -29,6 +29,9 @@ struct span {
 int reader_open(struct reader *reader, const char *path);
 void reader_close(struct reader *reader);
 
+/* Goes back to before the first line. */
+void reader_rewind(struct reader *reader);
+
 /* Goes to the next line; 0 if there is none. */
 int next_line(struct reader *reader);
 

@@ -1,10 +1,40 @@
 #include "session.h"
 
 #include <inttypes.h>
+#include <limits.h>
 #include <stdio.h>
 #include <string.h>
 
+#include "history.h"
 #include "trace.h"
+
+/* Whether a line of the script asks for an explanation. */
+static int asks_why(struct reader reader)
+{
+    while (next_line(&reader))
+        if (span_is(take_span(&reader), "explain"))
+            return 1;
+    return 0;
+}
+
+int session_open(struct session *session, const char *path)
+{
+    memset(session, 0, sizeof *session);
+    session->last_event = ULONG_MAX;
+    if (!reader_open(&session->reader, path))
+        return 0;
+    session->remembers = asks_why(session->reader);
+    return 1;
+}
+
+void session_close(struct session *session)
+{
+    device_free(&session->device);
+    if (session->silent) /* the rest belongs to the session that it repeats */
+        return;
+    forget_files(session);
+    reader_close(&session->reader);
+}
 
 int not_now(const struct session *session, const char *sentence)
 {
@@ -67,7 +97,7 @@ void count_refusal(struct session *session)
 void report(const struct session *session, const char *what)
 {
     const struct device *device = &session->device;
-    if (device->result == 0)
+    if (device->result == 0 || session->silent)
         return;
     printf("%s:%lu: %s: refused with %u, %s", session->reader.path, session->reader.line, what, BODLARINA_ANSWER(device->result),
            bodlarina_answer_text(device->result));
@@ -77,6 +107,8 @@ void report(const struct session *session, const char *what)
 
 void report_sealed(const struct session *session, uint64_t address)
 {
+    if (session->silent)
+        return;
     printf("%s:%lu: refused with %u, this would write over a sealed byte: address %" PRIu64 "\n", session->reader.path, session->reader.line,
            BODLARINA_SEALED_BYTE, address);
 }

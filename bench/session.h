@@ -4,15 +4,28 @@
 
 #include "device.h"
 
+struct observer;
+struct file_read;
+
 struct session {
     struct reader reader;
     struct device device;
     size_t command_at; /* where the command of the line stands */
     int trace;
+    int silent;                      /* in a replay: nothing is printed, and commands that only look or save are passed over */
+    int remembers;                   /* keeps the files that it reads, for a replay */
+    struct file_read *files;         /* newest first */
+    const struct observer *observer; /* or NULL; see history.h */
+    unsigned long events;            /* how many there were */
+    unsigned long last_event;        /* a product run stops with it */
     unsigned long failures;   /* expectations that did not hold */
     unsigned long unexpected; /* refusals that no line behind them expects */
     int refused;              /* whether the last command but expectations was refused, and no line expects it yet */
 };
+
+/* The session of a script, before its first line; 0 and a message if it can't be read. It remembers if a line asks for an explanation. */
+int session_open(struct session *session, const char *path);
+void session_close(struct session *session);
 
 /* The longest path. */
 #define PATH_BYTES 4096
