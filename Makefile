@@ -34,6 +34,10 @@ BIN := target/bin
 endif
 BUILT := $(PROGRAMS:%=$(BIN)/%)
 
+# Lines at the bench's prompt can be edited where libedit is there, or else libreadline; with EDITING= they are plain, and the program needs neither.
+EDITING ?= $(shell has() { $(CC) -E -include "$$1" -x c /dev/null >/dev/null 2>&1; }; \
+  if has editline/readline.h; then echo -DLINES_BY_LIBEDIT -ledit; elif has readline/readline.h; then echo -DLINES_BY_READLINE -lreadline; fi)
+
 .PHONY: all lib shared $(PROVED) bench salvage install uninstall dist pack test
 
 all: lib $(PROVED)
@@ -63,7 +67,7 @@ $(PROVED):
 bench:
 	@test -f $(LIBRARY) || { echo "$(LIBRARY) is not built: make lib"; exit 1; }
 	mkdir -p $(BIN)
-	$(CC) -std=c99 -O2 -Iinclude bench/*.c $(LIBRARY) -o $(BIN)/bodlarina-bench
+	$(CC) -std=c99 -O2 -Iinclude bench/*.c $(LIBRARY) $(EDITING) -o $(BIN)/bodlarina-bench
 
 salvage:
 	@test -f $(LIBRARY) || { echo "$(LIBRARY) is not built: make lib"; exit 1; }
@@ -100,7 +104,9 @@ uninstall:
 	  $(PROGRAMS:%=bin/%) $(PROGRAMS:%=share/man/man1/%.1))
 	rm -rf $(DESTDIR)$(PREFIX)/share/bodlarina
 
-dist: all pack
+dist:
+	$(MAKE) all EDITING=
+	$(MAKE) pack
 
 # the archive of what is built already
 pack:

@@ -193,27 +193,41 @@ static int run_product(struct session *session)
 
 /* ---- a line ---- */
 
-static const struct {
-    const char *name;
-    int (*run)(struct session *session);
-    int changes; /* whether it may change the machine or its memory */
-} commands[] = {
-    {"machine", run_machine, 1}, {"memory", run_memory, 1},   {"seal", run_seal, 1},       {"bytes", run_bytes, 1},
-    {"int8", run_int8, 1},       {"int16", run_int16, 1},     {"int32", run_int32, 1},     {"int64", run_int64, 1},
-    {"float32", run_float32, 1}, {"load", run_load, 1},       {"x", run_scalar, 1},        {"v", run_vector, 1},
-    {"group", run_group, 1},     {"word", run_word, 1},       {"product", run_product, 1}, {"restore", run_restore, 1},
-    {"salvage", run_salvage, 1}, {"save", run_save, 0},       {"expect", run_expect, 0},   {"show", run_show, 0},
+static const struct command commands[] = {
+    {"machine", "RLEN MLEN [ELEN] [halving]", "start the machine", run_machine, 1},
+    {"memory", "SIZE", "so many bytes of memory, all 0", run_memory, 1},
+    {"seal", "START LENGTH", "seal a range of memory: nothing may write it", run_seal, 1},
+    {"bytes", "ADDRESS HEX..", "enter bytes, two hexadecimal digits each", run_bytes, 1},
+    {"int8", "ADDRESS NUMBER..", "enter numbers of 8 bits", run_int8, 1},
+    {"int16", "ADDRESS NUMBER..", "enter numbers of 16 bits", run_int16, 1},
+    {"int32", "ADDRESS NUMBER..", "enter numbers of 32 bits", run_int32, 1},
+    {"int64", "ADDRESS NUMBER..", "enter numbers of 64 bits", run_int64, 1},
+    {"float32", "ADDRESS FLOAT..", "enter floats of 32 bits", run_float32, 1},
+    {"load", "ADDRESS FILE", "enter the bytes of a file", run_load, 1},
+    {"x", "N VALUE", "set scalar xN", run_scalar, 1},
+    {"v", "N [FORM] NUMBER..", "enter numbers into vector register vN", run_vector, 1},
+    {"group", "N", "how many vector registers a move takes: 1, 2, 4 or 8", run_group, 1},
+    {"word", "HEX", "carry out an instruction word, eight hexadecimal digits", run_word, 1},
+    {"product", "SEW F M K N A STRIDE B STRIDE C STRIDE [transposed|float]", "multiply matrices: C = A x B", run_product, 1},
+    {"save", "FILE", "write the machine's image", run_save, 0},
+    {"restore", "FILE", "make the machine of an image", run_restore, 1},
+    {"salvage", "FILE", "make the machine of what is whole in an image", run_salvage, 1},
+    {"expect", "ANSWER [ROW COLUMN] | memory [FORM] ADDRESS NUMBER.. | v N [FORM] NUMBER..", "hold an answer or bytes to these", run_expect, 0},
+    {"show", "x | mtype | sizes | marks | memory [FORM] ADDRESS COUNT | REGISTER [8|16|32|64|float32]", "print it", run_show, 0},
 };
+
+const struct command *command_at(size_t i) { return i < sizeof commands / sizeof commands[0] ? &commands[i] : NULL; }
 
 /* The command, or the instruction, whose name was taken. */
 static int run_command(struct session *session, struct span span)
 {
     struct reader *reader = &session->reader;
+    const struct command *command;
     uint32_t word;
     size_t i;
-    for (i = 0; i < sizeof commands / sizeof commands[0]; i++)
-        if (span_is(span, commands[i].name))
-            return (session->silent && !commands[i].changes) || commands[i].run(session);
+    for (i = 0; (command = command_at(i)) != NULL; i++)
+        if (span_is(span, command->name))
+            return (session->silent && !command->changes) || command->run(session);
     if (!is_mnemonic(span))
         return refuse(reader, span.at, "this is no command, and no instruction of the unit");
     return take_instruction(reader, span, &word) && needs_machine(session) && step_word(session, word);

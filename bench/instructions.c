@@ -138,11 +138,40 @@ int is_mnemonic(struct span mnemonic)
     return add(&line, mnemonic.text, mnemonic.length) && goes_on(line, " ");
 }
 
+/* The library says with which characters a mnemonic goes on; a blank stands behind a whole one. */
+static void each_from(struct line line, void (*take)(void *to, const char *mnemonic), void *to)
+{
+    static const char characters[] = "abcdefghijklmnopqrstuvwxyz0123456789.";
+    char next[2] = "";
+    size_t i;
+    if (goes_on(line, " ")) {
+        struct line whole = line;
+        if (add(&whole, "", 1))
+            take(to, whole.text);
+    }
+    for (i = 0; i < sizeof characters - 1; i++) {
+        struct line longer = line;
+        next[0] = characters[i];
+        if (goes_on(line, next) && add(&longer, next, 1))
+            each_from(longer, take, to);
+    }
+}
+
+void each_mnemonic(const char *begin, void (*take)(void *to, const char *mnemonic), void *to)
+{
+    struct line line;
+    line.length = 0;
+    if (strchr(begin, ' ') == NULL && add(&line, begin, strlen(begin)) && goes_on(line, ""))
+        each_from(line, take, to);
+}
+
 /* The names of scalars that the draft's examples use beside x0 to x31: those of the RISC-V calling convention, in order. */
 static const char *const scalar_names[32] = {
     "zero", "ra", "sp", "gp", "tp", "t0", "t1", "t2", "s0", "s1", "a0", "a1", "a2", "a3", "a4", "a5",
     "a6", "a7", "s2", "s3", "s4", "s5", "s6", "s7", "s8", "s9", "s10", "s11", "t3", "t4", "t5", "t6",
 };
+
+const char *scalar_name(unsigned slot) { return scalar_names[slot % 32]; }
 
 static int add_number(struct line *line, const char *name, int number)
 {

@@ -35,6 +35,12 @@ unsigned number_of(const struct instruction *instruction, enum operand operand);
 /* Whether some line begins with this mnemonic. */
 int is_mnemonic(struct span mnemonic);
 
+/* Hands each mnemonic that begins with a text to `take`. */
+void each_mnemonic(const char *begin, void (*take)(void *to, const char *mnemonic), void *to);
+
+/* The name of a scalar in the calling convention. */
+const char *scalar_name(unsigned slot);
+
 /* Takes the operands behind a mnemonic, makes the exact line and gives its word. */
 int take_instruction(struct reader *reader, struct span mnemonic, uint32_t *word);
 

@@ -67,7 +67,7 @@ static int expect_answer(struct session *session)
     else if (expected.placed)
         printf(", row %" PRIu64 ", column %" PRIu64, expected.row, expected.column);
     printf("; the answer is %u, %s", BODLARINA_ANSWER(device->result), bodlarina_answer_text(device->result));
-    write_place(device);
+    write_place(stdout, device);
     printf("\n");
     return 1;
 }

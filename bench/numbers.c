@@ -27,6 +27,7 @@ enum form take_form(struct reader *reader)
     return BYTE;
 }
 
+const char *form_name(enum form form) { return forms[form].name; }
 unsigned form_bytes(enum form form) { return forms[form].bytes; }
 int form_room(enum form form) { return forms[form].room; }
 

@@ -10,6 +10,9 @@ enum form { BYTE, INT8, INT16, INT32, INT64, FLOAT32 };
 /* int8, int16, int32, int64 or float32; else BYTE, and nothing is taken. */
 enum form take_form(struct reader *reader);
 
+/* Its name in a script; of BYTE none, "". */
+const char *form_name(enum form form);
+
 /* The bytes of a number, and the characters that it takes at most. */
 unsigned form_bytes(enum form form);
 int form_room(enum form form);

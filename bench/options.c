@@ -3,9 +3,10 @@
 #include <string.h>
 
 const struct program bench_program = {
-    "bodlarina-bench", "[--trace] [--marks FILE.svg] SCRIPT",
+    "bodlarina-bench", "[--trace] [--marks FILE.svg] [SCRIPT]",
     "Carries out the commands of SCRIPT on a simulated matrix unit, and prints each refusal, each\n"
-    "expectation that does not hold, and what the script asks to be shown.\n"
+    "expectation that does not hold, and what the script asks to be shown. Without SCRIPT the\n"
+    "commands are typed one after the other, or come from standard input, as with - always.\n"
     "  --trace           a line for each instruction word\n"
     "  --marks FILE.svg  at the end, draw which register bytes are written\n"
     "  --help            this text\n"
@@ -45,6 +46,9 @@ static int take_script(const char *word, struct options *options)
     return 1;
 }
 
+/* A dash alone is standard input. */
+static int is_option(const char *word, int plain) { return !plain && word[0] == '-' && word[1] != '\0'; }
+
 int read_options(int count, char **words, struct options *options)
 {
     int i, plain = 0; /* plain: behind -- */
@@ -52,7 +56,7 @@ int read_options(int count, char **words, struct options *options)
     for (i = 1; i < count; i++)
         if (!plain && strcmp(words[i], "--") == 0)
             plain = 1;
-        else if (!(!plain && words[i][0] == '-' ? take_option(count, words, &i, options) : take_script(words[i], options)))
+        else if (!(is_option(words[i], plain) ? take_option(count, words, &i, options) : take_script(words[i], options)))
             return 0;
-    return options->script != NULL || misused(&bench_program, "SCRIPT is missing");
+    return 1;
 }

@@ -9,7 +9,7 @@ extern const struct program bench_program;
 struct options {
     int trace;
     const char *marks; /* the path of the picture, or NULL */
-    const char *script;
+    const char *script; /* NULL: what is typed, or standard input */
 };
 
 /* 0 and a complaint if the words are no command line of the bench. */

@@ -27,6 +27,14 @@ int session_open(struct session *session, const char *path)
     return 1;
 }
 
+int session_begin(struct session *session, const char *name)
+{
+    memset(session, 0, sizeof *session);
+    session->last_event = ULONG_MAX;
+    session->remembers = 1;
+    return reader_begin(&session->reader, name);
+}
+
 void session_close(struct session *session)
 {
     device_free(&session->device);
@@ -101,7 +109,7 @@ void report(const struct session *session, const char *what)
         return;
     printf("%s:%lu: %s: refused with %u, %s", session->reader.path, session->reader.line, what, BODLARINA_ANSWER(device->result),
            bodlarina_answer_text(device->result));
-    write_place(device);
+    write_place(stdout, device);
     printf("\n");
 }
 

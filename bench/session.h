@@ -23,8 +23,11 @@ struct session {
     int refused;              /* whether the last command but expectations was refused, and no line expects it yet */
 };
 
-/* The session of a script, before its first line; 0 and a message if it can't be read. It remembers if a line asks for an explanation. */
+/* The session of a script, or of standard input if the path is NULL, before its first line; 0 and a message if it can't be read. It remembers if a line asks for an explanation. */
 int session_open(struct session *session, const char *path);
+
+/* The session of a script without a line yet, to which lines are added; 0 if there is no room. It remembers. */
+int session_begin(struct session *session, const char *name);
 void session_close(struct session *session);
 
 /* The longest path. */
