@@ -159,7 +159,7 @@ static uint64_t single_turns(struct session *session, uint64_t all)
 static uint64_t counted_turns(struct session *session, uint64_t all)
 {
     uint64_t total = 0, done;
-    int terminal = isatty(STDERR_FILENO) == 1;
+    int terminal = !session->silent && isatty(STDERR_FILENO) == 1;
     do {
         done = device_turns(&session->device, 4096);
         total += done;
@@ -203,6 +203,7 @@ static const struct {
     {"float32", run_float32, 1}, {"load", run_load, 1},       {"x", run_scalar, 1},        {"v", run_vector, 1},
     {"group", run_group, 1},     {"word", run_word, 1},       {"product", run_product, 1}, {"restore", run_restore, 1},
     {"salvage", run_salvage, 1}, {"save", run_save, 0},       {"expect", run_expect, 0},   {"show", run_show, 0},
+    {"explain", run_explain, 0},
 };
 
 /* The command, or the instruction, whose name was taken. */
