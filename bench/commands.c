@@ -159,7 +159,7 @@ static uint64_t single_turns(struct session *session, uint64_t all)
 static uint64_t counted_turns(struct session *session, uint64_t all)
 {
     uint64_t total = 0, done;
-    int terminal = isatty(STDERR_FILENO) == 1;
+    int terminal = !session->silent && isatty(STDERR_FILENO) == 1;
     do {
         done = device_turns(&session->device, 4096);
         total += done;
@@ -214,6 +214,7 @@ static const struct command commands[] = {
     {"salvage", "FILE", "make the machine of what is whole in an image", run_salvage, 1},
     {"expect", "ANSWER [ROW COLUMN] | memory [FORM] ADDRESS NUMBER.. | v N [FORM] NUMBER..", "hold an answer or bytes to these", run_expect, 0},
     {"show", "x | mtype | sizes | marks | memory [FORM] ADDRESS COUNT | REGISTER [8|16|32|64|float32]", "print it", run_show, 0},
+    {"explain", "[all] ADDRESS [FORM] | [all] REGISTER [ROW] COLUMN [8|16|32|64|float32]", "say where a number comes from", run_explain, 0},
 };
 
 const struct command *command_at(size_t i) { return i < sizeof commands / sizeof commands[0] ? &commands[i] : NULL; }

@@ -26,6 +26,9 @@ int run_salvage(struct session *session);
 int run_expect(struct session *session);
 int run_show(struct session *session);
 
+/* explaining.c */
+int run_explain(struct session *session);
+
 /* The line at which the reader stands. */
 int run_line(struct session *session);
 

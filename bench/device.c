@@ -311,8 +311,7 @@ static struct tile make_tile(const struct device *device, unsigned reg, enum sha
     return tile;
 }
 
-/* The register that an operand names: accumulators follow the tile registers. */
-static unsigned register_in(const struct instruction *instruction, size_t i)
+unsigned register_in(const struct instruction *instruction, size_t i)
 {
     return instruction->numbers[i] + (instruction->operands[i] == ACCUMULATOR ? ACCUMULATOR_0 : 0);
 }

@@ -119,6 +119,9 @@ int element_written(const struct device *device, unsigned reg, unsigned row, uns
 int is_named(const struct device *device, unsigned reg, unsigned row, unsigned byte);
 int named_stands(const struct device *device);
 
+/* The register that an operand names: accumulators follow the tile registers. */
+unsigned register_in(const struct instruction *instruction, size_t i);
+
 /* The tile that a word writes into a register or stores from one; rows and columns under the settings as they are. */
 struct tile word_tile(const struct device *device, const struct instruction *instruction);
 

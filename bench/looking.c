@@ -5,7 +5,7 @@
 #include <stdio.h>
 #include <string.h>
 
-#include "numbers.h"
+#include "looking.h"
 #include "show.h"
 #include "trace.h"
 
@@ -157,8 +157,7 @@ static int show_range(struct session *session)
     return 1;
 }
 
-/* The register of this name, or REGISTERS. */
-static unsigned register_called(struct span span)
+unsigned register_called(struct span span)
 {
     unsigned reg;
     char name[8];
@@ -170,8 +169,7 @@ static unsigned register_called(struct span span)
     return reg;
 }
 
-/* The vector register of this name, or VECTORS. */
-static unsigned vector_called(struct span span)
+unsigned vector_called(struct span span)
 {
     unsigned v;
     char name[8];
@@ -184,11 +182,7 @@ static unsigned vector_called(struct span span)
 }
 
 /* The form of elements of SEW bits; BYTE if mtype is illegal. */
-static enum form form_of_sew(const struct device *device)
-{
-    unsigned sew = device_sew(device);
-    return sew == 0 ? BYTE : sew == 1 ? INT8 : sew == 2 ? INT16 : sew == 4 ? INT32 : INT64;
-}
+static enum form form_of_sew(const struct device *device) { return form_of_bytes(device_sew(device)); }
 
 /* The form that this width, or float32, stands for; BYTE if it is neither. */
 static enum form form_called(struct span span)
@@ -200,8 +194,7 @@ static enum form form_called(struct span span)
     return form;
 }
 
-/* The end of the line, or 8, 16, 32, 64 or float32 and the end; without one of them, signed numbers of SEW bits. */
-static int take_shown_form(struct session *session, enum form *form)
+int take_shown_form(struct session *session, enum form *form)
 {
     struct reader *reader = &session->reader;
     *form = form_of_sew(&session->device);

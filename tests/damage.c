@@ -76,7 +76,8 @@ static const char *const odd[] = {
     "show acc1 float32", "show memory float32 0 4", "mfma.mm acc0, tr0, tr1", "msce32.m acc1, (x1), x2", "x 11 -8", "bytes 0 00", "machine 512 4096",
     "machine 4096 65536 64", "machine 64 65536", "int64", "int64 0 -9223372036854775808", "show acc1 64", "show memory int64 0 4", "halving",
     "restore today.img", "msce64.m acc1, (x1), x2", "mwma.mm acc0, tr0, tr1", "product 64 1 2 2 2 0 16 32 16 64 16", "msettypei x5, e64",
-    "salvage out", "salvage s.img", "salvage damaged.img", "salvage cut.img", "salvage product.dat", "salvage .",
+    "explain", "explain 0", "explain all 32 int32", "explain 56 int32", "explain acc0 0 0 32", "explain all acc1 1 1 64", "explain tr0 0 0",
+    "explain v4 0 16", "all", "salvage out", "salvage s.img", "salvage damaged.img", "salvage cut.img", "salvage product.dat", "salvage .",
 };
 
 /* Any text in the place of the bytes from `from` to `to`. */
