@@ -118,6 +118,7 @@ pack:
 	cp $(MANUAL) target/dist/$(PACKAGE)/man
 	cp examples/*.c examples/*.out target/dist/$(PACKAGE)/examples
 	cp bench/examples/* target/dist/$(PACKAGE)/examples/bench
+	$(BIN)/bodlarina-bench --report target/dist/$(PACKAGE)/examples/bench/loop-four.html bench/examples/loop-four.bench >target/dist/loop-four.out
 	cp python/bodlarina.py python/four_loops.py python/four_loops.out target/dist/$(PACKAGE)/python
 	cp docs/INSTRUCTIONS.md target/dist/$(PACKAGE)/docs
 	cp Makefile bodlarina.pc.in target/dist/$(PACKAGE)

@@ -336,8 +336,7 @@ struct tile word_slice(const struct device *device, const struct instruction *in
     return tile;
 }
 
-/* The tiles that a word reads, in the order ms1, ms2, md; how many. */
-static unsigned word_sources(const struct device *device, const struct instruction *instruction, struct tile tiles[3])
+unsigned word_sources(const struct device *device, const struct instruction *instruction, struct tile tiles[3])
 {
     unsigned sew = device_sew(device), first = register_in(instruction, 1), second = register_in(instruction, 2);
     switch (instruction->action) {

@@ -128,6 +128,9 @@ struct tile word_tile(const struct device *device, const struct instruction *ins
 /* The part of an accumulator that a move takes, from this row or column on. */
 struct tile word_slice(const struct device *device, const struct instruction *instruction, uint64_t first);
 
+/* The tiles that a word reads, in the order ms1, ms2, md; how many. */
+unsigned word_sources(const struct device *device, const struct instruction *instruction, struct tile tiles[3]);
+
 /* The sealed ranges: how many, and start and length of each. */
 size_t device_seals(const struct device *device);
 void device_seal_at(const struct device *device, size_t i, uint64_t *start, uint64_t *length);

@@ -9,6 +9,7 @@
 #include "options.h"
 #include "picture.h"
 #include "prompt.h"
+#include "report.h"
 
 enum { HELD, NOT_HELD, BAD_SCRIPT };
 
@@ -24,47 +25,54 @@ static int end_script(struct session *session)
     return session->failures == 0 && count == 0 ? HELD : NOT_HELD;
 }
 
-/* The picture, if one is asked for. */
-static int draw_marks(const struct session *session, const char *marks)
+/* What is asked for at the end: the picture and the page. */
+static int write_files(const struct session *session, const struct report *report, const struct options *options)
 {
-    if (marks == NULL)
-        return 1;
-    if (session->device.started)
-        return write_picture(&session->device, marks);
-    fprintf(stderr, "%s: no machine is started, so there are no marks to draw\n", session->reader.path);
-    return 0;
+    if (options->marks != NULL && !session->device.started) {
+        fprintf(stderr, "%s: no machine is started, so there are no marks to draw\n", session->reader.path);
+        return 0;
+    }
+    return (options->marks == NULL || write_picture(&session->device, options->marks))
+           && (options->report == NULL || report_write(report, session, options->report));
 }
 
-static int run_script(struct session *session, const struct options *options)
+static int run_script(struct session *session, struct report *report, const struct options *options)
 {
     int from_file = options->script != NULL && strcmp(options->script, "-") != 0;
     if (!session_open(session, from_file ? options->script : NULL))
         return BAD_SCRIPT;
     session->trace = options->trace;
+    session->remembers |= options->report != NULL;
     while (next_line(&session->reader))
-        if (!run_line(session))
+        if (!(options->report == NULL ? run_line(session) : report_line(report, session)))
             return BAD_SCRIPT;
-    return draw_marks(session, options->marks) ? end_script(session) : BAD_SCRIPT;
+    return write_files(session, report, options) ? end_script(session) : BAD_SCRIPT;
 }
 
 /* What is typed does not fail: its answers are seen. */
-static int run_typed(struct session *session, const struct options *options)
+static int run_typed(struct session *session, struct report *report, const struct options *options)
 {
     if (!session_begin(session, "prompt")) {
         complain(&bench_program, "there is no room for a script");
         return BAD_SCRIPT;
     }
     session->trace = options->trace;
-    run_prompt(session);
-    return draw_marks(session, options->marks) ? HELD : BAD_SCRIPT;
+    run_prompt(session, options->report == NULL ? NULL : report);
+    return write_files(session, report, options) ? HELD : BAD_SCRIPT;
 }
 
 static int run(const struct options *options)
 {
     static struct session session;
-    int typed = options->script == NULL && isatty(STDIN_FILENO) == 1;
-    int status = typed ? run_typed(&session, options) : run_script(&session, options);
+    struct report report;
+    int typed = options->script == NULL && isatty(STDIN_FILENO) == 1, status;
+    if (!report_open(&report)) {
+        complain(&bench_program, "there is no room for a report");
+        return BAD_SCRIPT;
+    }
+    status = typed ? run_typed(&session, &report, options) : run_script(&session, &report, options);
     session_close(&session);
+    report_close(&report);
     if (fflush(stdout) == 0 && !ferror(stdout))
         return status;
     complain(&bench_program, "the output cannot be written");

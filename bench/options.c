@@ -3,14 +3,15 @@
 #include <string.h>
 
 const struct program bench_program = {
-    "bodlarina-bench", "[--trace] [--marks FILE.svg] [SCRIPT]",
+    "bodlarina-bench", "[--trace] [--marks FILE.svg] [--report FILE.html] [SCRIPT]",
     "Carries out the commands of SCRIPT on a simulated matrix unit, and prints each refusal, each\n"
     "expectation that does not hold, and what the script asks to be shown. Without SCRIPT the\n"
     "commands are typed one after the other, or come from standard input, as with - always.\n"
-    "  --trace           a line for each instruction word\n"
-    "  --marks FILE.svg  at the end, draw which register bytes are written\n"
-    "  --help            this text\n"
-    "  --version         the version\n"
+    "  --trace             a line for each instruction word\n"
+    "  --marks FILE.svg    at the end, draw which register bytes are written\n"
+    "  --report FILE.html  at the end, write a page to go through the run\n"
+    "  --help              this text\n"
+    "  --version           the version\n"
     "Exit status: 0 all held, 1 not all held, 2 a bad script, files and usage.\n"
     "man bodlarina-bench has every command.\n",
 };
@@ -32,6 +33,8 @@ static int take_option(int count, char **words, int *i, struct options *options)
     const char *word = words[*i];
     if (strcmp(word, "--marks") == 0)
         return take_path(count, words, i, &options->marks);
+    if (strcmp(word, "--report") == 0)
+        return take_path(count, words, i, &options->report);
     if (strcmp(word, "--trace") != 0)
         return misused(&bench_program, "unknown option %s", word);
     options->trace = 1;

@@ -8,7 +8,8 @@ extern const struct program bench_program;
 
 struct options {
     int trace;
-    const char *marks; /* the path of the picture, or NULL */
+    const char *marks;  /* the path of the picture, or NULL */
+    const char *report; /* of the page */
     const char *script; /* NULL: what is typed, or standard input */
 };
 

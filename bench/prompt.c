@@ -117,7 +117,7 @@ static const struct command *take_prompt_command(struct session *session)
 }
 
 /* Carries out a line; what is no accepted line of a script leaves it. */
-static void run_typed(struct session *session, const char *line)
+static void run_typed(struct session *session, struct report *report, const char *line)
 {
     struct reader *reader = &session->reader;
     const struct command *own;
@@ -128,7 +128,7 @@ static void run_typed(struct session *session, const char *line)
     }
     next_line(reader);
     own = take_prompt_command(session);
-    if (own == NULL && run_line(session))
+    if (own == NULL && (report == NULL ? run_line(session) : report_line(report, session)))
         return;
     if (own != NULL)
         own->run(session);
@@ -136,7 +136,7 @@ static void run_typed(struct session *session, const char *line)
         cut_lines(reader, start);
 }
 
-void run_prompt(struct session *session)
+void run_prompt(struct session *session, struct report *report)
 {
     char prompt[32], *line = NULL;
     editing_start(complete_word);
@@ -147,7 +147,7 @@ void run_prompt(struct session *session)
         snprintf(prompt, sizeof prompt, "%lu> ", session->reader.line + 1);
         line = edit_line(prompt);
         if (line != NULL)
-            run_typed(session, line);
+            run_typed(session, report, line);
     } while (line != NULL && !ended);
     if (line == NULL)
         printf("\n");
