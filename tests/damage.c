@@ -1,5 +1,5 @@
 /* damage PROGRAM COUNT OUT SCRIPT..: damages the scripts in COUNT ways, the same ones each time, writes each to the file OUT and runs
- * PROGRAM on it, with and without --trace and --marks. It must exit with 0, 1 or 2: a signal, another status or ten seconds of work is
+ * PROGRAM on it, with and without --trace, --marks and --report. It must exit with 0, 1 or 2: a signal, another status or ten seconds of work is
  * a crash, and that script is printed. No script names a file outside the folder of OUT: it may save one there. */
 #define _POSIX_C_SOURCE 200809L
 
@@ -146,7 +146,7 @@ static void write_text(const struct text *text, const char *path)
 static int run(const char *program, const char *script, int traced, int drawn)
 {
     int status, quiet;
-    char picture[4096];
+    char picture[4096], page[4096];
     struct rlimit limit = {10, 10};
     pid_t child = fork();
     if (child < 0)
@@ -154,11 +154,12 @@ static int run(const char *program, const char *script, int traced, int drawn)
     if (child == 0) {
         quiet = open("/dev/null", O_WRONLY);
         snprintf(picture, sizeof picture, "%s.svg", script);
+        snprintf(page, sizeof page, "%s.html", script);
         setrlimit(RLIMIT_CPU, &limit);
         dup2(quiet, 1);
         dup2(quiet, 2);
         if (drawn)
-            execl(program, program, "--trace", "--marks", picture, script, (char *)NULL);
+            execl(program, program, "--trace", "--marks", picture, "--report", page, script, (char *)NULL);
         else
             execl(program, program, script, traced ? "--trace" : (char *)NULL, (char *)NULL);
         _exit(127);
