@@ -42,6 +42,10 @@ BIN := target/bin
 endif
 BUILT := $(PROGRAMS:%=$(BIN)/%)
 
+# Lines at the bench's prompt can be edited where libedit is there, or else libreadline; with EDITING= they are plain, and the program needs neither.
+EDITING ?= $(shell has() { $(CC) -E -include "$$1" -x c /dev/null >/dev/null 2>&1; }; \
+  if has editline/readline.h; then echo -DLINES_BY_LIBEDIT -ledit; elif has readline/readline.h; then echo -DLINES_BY_READLINE -lreadline; fi)
+
 .PHONY: all lib shared $(PROVED) bench salvage install uninstall dist pack test
 
 all: lib $(PROVED)
@@ -82,12 +86,12 @@ $(PROVED):
 bench:
 	@test -f $(LIBRARY) || { echo "$(LIBRARY) is not built: make lib"; exit 1; }
 	mkdir -p $(BIN)
-	$(CC) -std=c99 -O2 -Iinclude bench/*.c $(LIBRARY) -o $(BIN)/bodlarina-bench
+	$(CC) -std=c99 -O2 -Iinclude bench/*.c $(LIBRARY) $(EDITING) -o $(BIN)/bodlarina-bench
 
 salvage:
 	@test -f $(LIBRARY) || { echo "$(LIBRARY) is not built: make lib"; exit 1; }
 	mkdir -p $(BIN)
-	$(CC) -std=c99 -O2 -Iinclude -Ibench tools/salvage.c bench/files.c bench/kept.c $(LIBRARY) -o $(BIN)/bodlarina-salvage
+	$(CC) -std=c99 -O2 -Iinclude -Ibench tools/salvage.c bench/files.c bench/kept.c bench/program.c $(LIBRARY) -o $(BIN)/bodlarina-salvage
 endif
 
 # pkg-config's `bodlarina` is the static library, `bodlarina-shared` the shared one, found at run time where it is installed
@@ -125,7 +129,9 @@ uninstall:
 	rm -f $(DESTDIR)$(PREFIX)/bin/bodlarina-firmware $(DESTDIR)$(PREFIX)/share/man/man1/bodlarina-firmware.1
 	rm -rf $(DESTDIR)$(PREFIX)/share/bodlarina $(DESTDIR)$(PREFIX)/lib/bodlarina
 
-dist: all pack
+dist:
+	$(MAKE) all EDITING=
+	$(MAKE) pack
 
 # the archive of what is built already
 pack:
@@ -139,6 +145,7 @@ pack:
 	cp $(MANUAL) target/dist/$(PACKAGE)/man
 	cp examples/*.c examples/*.out target/dist/$(PACKAGE)/examples
 	cp bench/examples/* target/dist/$(PACKAGE)/examples/bench
+	$(BIN)/bodlarina-bench --report target/dist/$(PACKAGE)/examples/bench/loop-four.html bench/examples/loop-four.bench >target/dist/loop-four.out
 	cp python/bodlarina.py python/four_loops.py python/four_loops.out target/dist/$(PACKAGE)/python
 	cp -r firmware/bodlarina-gdb.py firmware/examples target/dist/$(PACKAGE)/firmware
 	cp docs/INSTRUCTIONS.md docs/FIRMWARE.md docs/firmware.svg target/dist/$(PACKAGE)/docs

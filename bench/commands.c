@@ -7,6 +7,8 @@
 #include <string.h>
 #include <unistd.h>
 
+#include "arguments.h"
+#include "history.h"
 #include "trace.h"
 
 /* ---- the machine and its scalars ---- */
@@ -36,12 +38,13 @@ static int run_machine(struct session *session)
 {
     struct reader *reader = &session->reader;
     uint64_t rlen, mlen, elen, rule;
+    size_t ranges = session->device.seals_len / 2;
     if (!take_any(reader, "RLEN", &rlen) || !take_any(reader, "MLEN", &mlen) || !take_elen(reader, &elen) || !take_rule(reader, &rule))
         return 0;
     if (session->device.started)
         return not_now(session, "the machine is started already");
     device_start(&session->device, rlen, mlen, elen, rule);
-    report(session, "machine");
+    report_machine(session, ranges);
     return 1;
 }
 
@@ -64,18 +67,21 @@ static int run_scalar(struct session *session)
 static int step_word(struct session *session, uint32_t word)
 {
     struct device *device = &session->device;
-    struct settings before = device_settings(device);
     struct instruction instruction;
     struct turn turn;
+    struct event event;
     char text[INSTRUCTION_TEXT_BYTES];
     instruction_of(word, &instruction);
     turn.word = word;
     turn.address = device_scalar(device, number_of(&instruction, BASE));
     turn.stride = device_scalar(device, number_of(&instruction, SCALAR));
+    event = next_step(session, &turn);
+    before_event(session, &event);
     device_step(device, word);
+    after_event(session, &event);
     write_instruction(word, text);
     if (session->trace)
-        trace_step(device, &turn, before);
+        trace_step(device, &turn, event.settings);
     else
         report(session, text);
     return 1;
@@ -123,19 +129,29 @@ static int take_plan(struct reader *reader, struct bodlarina_plan *plan)
            && take_matrix(reader, &plan->b) && take_matrix(reader, &plan->c) && take_kind(reader, &plan->kind);
 }
 
-/* Takes the turns one by one and traces each; how many were done. */
-static uint64_t traced_turns(struct session *session, uint64_t all)
+/* Takes the turn that comes next, and traces it. */
+static uint64_t single_turn(struct session *session)
 {
     struct device *device = &session->device;
-    uint64_t done;
-    for (done = 0; done < all; done++) {
-        struct settings before = device_settings(device);
-        struct turn turn;
-        device_turn(device, &turn);
-        trace_step(device, &turn, before);
-        if (device->result != 0)
-            break;
-    }
+    struct turn turn;
+    struct event event;
+    device_next(device, &turn);
+    event = next_step(session, &turn);
+    event.in_run = 1;
+    before_event(session, &event);
+    device_turn(device, &turn);
+    after_event(session, &event);
+    if (session->trace)
+        trace_step(device, &turn, event.settings);
+    return device->result;
+}
+
+/* Takes the turns one by one, to trace or to observe each; how many were done. */
+static uint64_t single_turns(struct session *session, uint64_t all)
+{
+    uint64_t done = 0;
+    while (done < all && session->events < session->last_event && single_turn(session) == 0)
+        done++;
     return done;
 }
 
@@ -143,18 +159,18 @@ static uint64_t traced_turns(struct session *session, uint64_t all)
 static uint64_t counted_turns(struct session *session, uint64_t all)
 {
     uint64_t total = 0, done;
-    struct turn turn;
-    int terminal = isatty(STDERR_FILENO) == 1;
+    int terminal = !session->silent && isatty(STDERR_FILENO) == 1;
     do {
         done = device_turns(&session->device, 4096);
         total += done;
+        session->events += (unsigned long)done;
         if (terminal)
             fprintf(stderr, "\rproduct: %" PRIu64 " of %" PRIu64 " steps, %" PRIu64 " %%", total, all, all == 0 ? 100 : 100 * total / all);
     } while (done == 4096);
     if (terminal)
         fprintf(stderr, "\r%60s\r", "");
     if (total < all)
-        device_turn(&session->device, &turn); /* says why */
+        single_turn(session); /* says why */
     return total;
 }
 
@@ -167,40 +183,73 @@ static int run_product(struct session *session)
         return 0;
     if (device_run_start(device, &plan) == 0) {
         all = device_run_steps(device);
-        done = session->trace ? traced_turns(session, all) : counted_turns(session, all);
-        if (done == all)
+        done = session->trace || session->observer != NULL ? single_turns(session, all) : counted_turns(session, all);
+        if (done == all && !session->silent)
             printf("%s:%lu: product: %" PRIu64 " steps\n", session->reader.path, session->reader.line, done);
     }
-    report(session, "product");
+    report_product(session, &plan);
     return 1;
 }
 
 /* ---- a line ---- */
 
-static const struct {
-    const char *name;
-    int (*run)(struct session *session);
-} commands[] = {
-    {"machine", run_machine}, {"memory", run_memory}, {"seal", run_seal},       {"bytes", run_bytes},     {"int8", run_int8},
-    {"int16", run_int16},     {"int32", run_int32},   {"int64", run_int64},     {"float32", run_float32}, {"load", run_load},
-    {"x", run_scalar},        {"v", run_vector},      {"group", run_group},     {"word", run_word},       {"product", run_product},
-    {"save", run_save},       {"restore", run_restore}, {"salvage", run_salvage}, {"expect", run_expect},   {"show", run_show},
+static const struct command commands[] = {
+    {"machine", "RLEN MLEN [ELEN] [halving]", "start the machine", run_machine, 1},
+    {"memory", "SIZE", "so many bytes of memory, all 0", run_memory, 1},
+    {"seal", "START LENGTH", "seal a range of memory: nothing may write it", run_seal, 1},
+    {"bytes", "ADDRESS HEX..", "enter bytes, two hexadecimal digits each", run_bytes, 1},
+    {"int8", "ADDRESS NUMBER..", "enter numbers of 8 bits", run_int8, 1},
+    {"int16", "ADDRESS NUMBER..", "enter numbers of 16 bits", run_int16, 1},
+    {"int32", "ADDRESS NUMBER..", "enter numbers of 32 bits", run_int32, 1},
+    {"int64", "ADDRESS NUMBER..", "enter numbers of 64 bits", run_int64, 1},
+    {"float32", "ADDRESS FLOAT..", "enter floats of 32 bits", run_float32, 1},
+    {"load", "ADDRESS FILE", "enter the bytes of a file", run_load, 1},
+    {"x", "N VALUE", "set scalar xN", run_scalar, 1},
+    {"v", "N [FORM] NUMBER..", "enter numbers into vector register vN", run_vector, 1},
+    {"group", "N", "how many vector registers a move takes: 1, 2, 4 or 8", run_group, 1},
+    {"word", "HEX", "carry out an instruction word, eight hexadecimal digits", run_word, 1},
+    {"product", "SEW F M K N A STRIDE B STRIDE C STRIDE [transposed|float]", "multiply matrices: C = A x B", run_product, 1},
+    {"save", "FILE", "write the machine's image", run_save, 0},
+    {"restore", "FILE", "make the machine of an image", run_restore, 1},
+    {"salvage", "FILE", "make the machine of what is whole in an image", run_salvage, 1},
+    {"expect", "ANSWER [ROW COLUMN] | memory [FORM] ADDRESS NUMBER.. | v N [FORM] NUMBER..", "hold an answer or bytes to these", run_expect, 0},
+    {"show", "x | mtype | sizes | marks | memory [FORM] ADDRESS COUNT | REGISTER [8|16|32|64|float32]", "print it", run_show, 0},
+    {"explain", "[all] ADDRESS [FORM] | [all] REGISTER [ROW] COLUMN [8|16|32|64|float32]", "say where a number comes from", run_explain, 0},
 };
 
-int run_line(struct session *session)
+const struct command *command_at(size_t i) { return i < sizeof commands / sizeof commands[0] ? &commands[i] : NULL; }
+
+/* The command, or the instruction, whose name was taken. */
+static int run_command(struct session *session, struct span span)
 {
     struct reader *reader = &session->reader;
-    struct span span;
+    const struct command *command;
     uint32_t word;
     size_t i;
-    if (at_end(reader))
-        return 1;
-    span = take_span(reader);
-    session->command_at = span.at;
-    for (i = 0; i < sizeof commands / sizeof commands[0]; i++)
-        if (span_is(span, commands[i].name))
-            return commands[i].run(session);
+    for (i = 0; (command = command_at(i)) != NULL; i++)
+        if (span_is(span, command->name))
+            return (session->silent && !command->changes) || command->run(session);
     if (!is_mnemonic(span))
         return refuse(reader, span.at, "this is no command, and no instruction of the unit");
     return take_instruction(reader, span, &word) && needs_machine(session) && step_word(session, word);
+}
+
+int run_line(struct session *session)
+{
+    struct device *device = &session->device;
+    unsigned long answers = device->answers;
+    struct span span;
+    if (at_end(&session->reader))
+        return 1;
+    span = take_span(&session->reader);
+    session->command_at = span.at;
+    if (!span_is(span, "expect"))
+        count_refusal(session);
+    if (!run_command(session, span))
+        return 0;
+    if (device->answers != answers)
+        session->refused = device->result != 0;
+    if (session->observer != NULL && session->observer->line != NULL)
+        session->observer->line(session->observer->self, session);
+    return 1;
 }

@@ -26,7 +26,22 @@ int run_salvage(struct session *session);
 int run_expect(struct session *session);
 int run_show(struct session *session);
 
+/* explaining.c */
+int run_explain(struct session *session);
+
 /* The line at which the reader stands. */
 int run_line(struct session *session);
+
+/* A command: its name, what stands behind it, words in small letters as they are, and what it does. FORM is int8 or its like. */
+struct command {
+    const char *name;
+    const char *arguments;
+    const char *help;
+    int (*run)(struct session *session);
+    int changes; /* whether it may change the machine or its memory */
+};
+
+/* The commands of a script, one after the other; NULL behind the last one. */
+const struct command *command_at(size_t i);
 
 #endif

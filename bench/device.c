@@ -6,8 +6,6 @@
 
 /* ---- calls of the library ---- */
 
-int library_fits(void) { return bodlarina_version() == BODLARINA_VERSION_NUMBER; }
-
 /* The device's buffers, lent for one call. */
 static struct bodlarina_bench lent(struct device *device)
 {
@@ -36,7 +34,7 @@ static struct bodlarina_bench lent(struct device *device)
 
 static uint64_t answer(struct device *device, uint64_t result)
 {
-    device->answered = 1;
+    device->answers++;
     device->result = result;
     return result;
 }
@@ -83,17 +81,20 @@ uint64_t device_run_start(struct device *device, const struct bodlarina_plan *pl
     return answer(device, bodlarina_bench_run_start(&bench, plan));
 }
 
-/* A copy of the run is asked for the word that the turn will carry out. */
-uint64_t device_turn(struct device *device, struct turn *turn)
+/* A copy of the run is asked. */
+void device_next(const struct device *device, struct turn *turn)
 {
-    struct bodlarina_bench bench = lent(device), asked = bench;
     uint8_t run[BODLARINA_RUN_BYTES], handed[BODLARINA_HANDED_BYTES] = {0};
     memcpy(run, device->run, sizeof run);
-    asked.run = run;
-    bodlarina_bench_run_next(&asked, handed, sizeof handed);
+    bodlarina_run_next(run, sizeof run, handed, sizeof handed);
     turn->word = (uint32_t)bodlarina_get64(handed + BODLARINA_HANDED_WORD_AT);
     turn->address = bodlarina_get64(handed + BODLARINA_HANDED_ADDRESS_AT);
     turn->stride = bodlarina_get64(handed + BODLARINA_HANDED_STRIDE_AT);
+}
+
+uint64_t device_turn(struct device *device, const struct turn *turn)
+{
+    struct bodlarina_bench bench = lent(device);
     device->steps++;
     answer(device, bodlarina_bench_run_turn(&bench));
     remember_named(device, turn->word);
@@ -310,8 +311,7 @@ static struct tile make_tile(const struct device *device, unsigned reg, enum sha
     return tile;
 }
 
-/* The register that an operand names: accumulators follow the tile registers. */
-static unsigned register_in(const struct instruction *instruction, size_t i)
+unsigned register_in(const struct instruction *instruction, size_t i)
 {
     return instruction->numbers[i] + (instruction->operands[i] == ACCUMULATOR ? ACCUMULATOR_0 : 0);
 }
@@ -336,19 +336,18 @@ struct tile word_slice(const struct device *device, const struct instruction *in
     return tile;
 }
 
-/* The tiles that a word reads, in the order ms1, ms2, md; how many. */
-static unsigned word_sources(const struct device *device, const struct instruction *instruction, struct tile tiles[3])
+unsigned word_sources(const struct device *device, const struct instruction *instruction, struct tile tiles[3])
 {
     unsigned sew = device_sew(device), first = register_in(instruction, 1), second = register_in(instruction, 2);
     switch (instruction->action) {
     case SETS: case LOADS: case MOVES_IN: return 0;
     case STORES: tiles[0] = word_tile(device, instruction); return 1;
-    case MULTIPLIES:
+    case MULTIPLIES: case MULTIPLIES_FLOATS:
         tiles[0] = make_tile(device, first, A, sew);
         tiles[1] = make_tile(device, second, B, sew);
         tiles[2] = word_tile(device, instruction);
         return 3;
-    case COMBINES:
+    case ADDS: case SUBTRACTS: case SUBTRACTS_REVERSED:
         tiles[0] = make_tile(device, first, C, sew);
         tiles[1] = word_tile(device, instruction);
         return 2;

@@ -51,10 +51,10 @@ struct device {
     uint64_t seals[2 * SEALS_MOST]; /* start and length of each range that the machine is to be started with */
     size_t seals_len;               /* how many numbers these are */
     int started;
-    int answered;         /* whether there was a start, a step, a run or an image */
-    uint64_t result;      /* of the last one */
-    unsigned long steps;  /* words carried out or refused */
-    struct element named; /* by the last refusal 5 */
+    unsigned long answers; /* how many starts, steps, sealed ranges, runs and images there were */
+    uint64_t result;       /* of the last one */
+    unsigned long steps;   /* words carried out or refused */
+    struct element named;  /* by the last refusal 5 */
 };
 
 /* A word, with the address and the stride that it has if it is a load or store; of a move the stride's scalar is its first row or column. */
@@ -62,9 +62,6 @@ struct turn {
     uint32_t word;
     uint64_t address, stride;
 };
-
-/* Whether the library that is linked is the one of the header. */
-int library_fits(void);
 
 /* memory of this size, zeros; 0 if there is no room. */
 int device_memory(struct device *device, size_t bytes);
@@ -78,8 +75,9 @@ uint64_t device_step(struct device *device, uint32_t word);
 uint64_t device_seal(struct device *device, uint64_t start, uint64_t length);
 uint64_t device_run_start(struct device *device, const struct bodlarina_plan *plan);
 
-/* One turn of the run, and which word it was. */
-uint64_t device_turn(struct device *device, struct turn *turn);
+/* The word that the next turn of the run carries out; and that turn. */
+void device_next(const struct device *device, struct turn *turn);
+uint64_t device_turn(struct device *device, const struct turn *turn);
 
 /* Up to `most` turns; how many were done. And all that the run has. */
 uint64_t device_turns(struct device *device, uint64_t most);
@@ -121,11 +119,17 @@ int element_written(const struct device *device, unsigned reg, unsigned row, uns
 int is_named(const struct device *device, unsigned reg, unsigned row, unsigned byte);
 int named_stands(const struct device *device);
 
+/* The register that an operand names: accumulators follow the tile registers. */
+unsigned register_in(const struct instruction *instruction, size_t i);
+
 /* The tile that a word writes into a register or stores from one; rows and columns under the settings as they are. */
 struct tile word_tile(const struct device *device, const struct instruction *instruction);
 
 /* The part of an accumulator that a move takes, from this row or column on. */
 struct tile word_slice(const struct device *device, const struct instruction *instruction, uint64_t first);
+
+/* The tiles that a word reads, in the order ms1, ms2, md; how many. */
+unsigned word_sources(const struct device *device, const struct instruction *instruction, struct tile tiles[3]);
 
 /* The sealed ranges: how many, and start and length of each. */
 size_t device_seals(const struct device *device);

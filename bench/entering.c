@@ -1,10 +1,11 @@
 /* Commands that enter bytes into memory and vector registers, sealed ranges, and the group size of moves. */
 #include "commands.h"
 
-#include <stdlib.h>
 #include <string.h>
 
+#include "arguments.h"
 #include "files.h"
+#include "history.h"
 #include "numbers.h"
 
 int run_memory(struct session *session)
@@ -28,7 +29,7 @@ int run_seal(struct session *session)
         return 0;
     if (device->started) {
         device_seal(device, start, length);
-        report(session, "seal");
+        report_seal(session, start, length);
         return 1;
     }
     if (device->seals_len == 2 * SEALS_MOST)
@@ -77,6 +78,18 @@ static int take_hex(struct reader *reader, enum form form, uint8_t *bytes)
     return 1;
 }
 
+/* The event of a line that enters numbers. */
+static struct event entering(const struct session *session, enum space space, unsigned reg, uint64_t at, uint64_t bytes, enum form form)
+{
+    struct event event = next_event(session, ENTERED);
+    event.entered.space = space;
+    event.entered.reg = reg;
+    event.entered.at = at;
+    event.entered.bytes = bytes;
+    event.form = form;
+    return event;
+}
+
 /* An address, and numbers from it on: all are read before the first is entered. */
 static int enter(struct session *session, enum form form, take *take_one)
 {
@@ -84,6 +97,7 @@ static int enter(struct session *session, enum form form, take *take_one)
     size_t width = form_bytes(form), first, at;
     uint64_t address, end;
     uint8_t bytes[8];
+    struct event event;
     if (!needs_memory(session) || !take_any(reader, "an address", &address))
         return 0;
     first = reader->at;
@@ -96,9 +110,12 @@ static int enter(struct session *session, enum form form, take *take_one)
     } while (!at_end(reader));
     if (!may_enter(session, address, end - address))
         return 1;
+    event = entering(session, IN_MEMORY, 0, address, end - address, form);
+    before_event(session, &event);
     reader->at = first;
     for (; address < end && take_one(reader, form, bytes); address += width)
         memcpy(session->device.memory + address, bytes, width);
+    after_event(session, &event);
     return 1;
 }
 
@@ -133,8 +150,10 @@ int run_vector(struct session *session)
     struct reader *reader = &session->reader;
     enum form form;
     uint64_t v;
+    uint8_t bytes[VECTOR_BYTES];
     size_t used = 0;
     int64_t value;
+    struct event event;
     if (!take_unsigned(reader, "the number of a vector register", 31, &v))
         return 0;
     form = take_form(reader);
@@ -142,9 +161,13 @@ int run_vector(struct session *session)
         size_t at = next_at(reader);
         if (!take_number_of(reader, form, &value) || !in_vector(session, at, used + form_bytes(form)))
             return 0;
-        put_number(session->device.vectors + BODLARINA_VECTOR_AT(v) + used, form, value);
+        put_number(bytes + used, form, value);
         used += form_bytes(form);
     } while (!at_end(reader));
+    event = entering(session, IN_VECTOR, (unsigned)v, 0, used, form);
+    before_event(session, &event);
+    memcpy(session->device.vectors + BODLARINA_VECTOR_AT(v), bytes, used);
+    after_event(session, &event);
     return 1;
 }
 
@@ -154,12 +177,16 @@ static int load_file(struct session *session, size_t at, const char *path, size_
     struct device *device = &session->device;
     const char *fault;
     size_t length;
-    char *bytes = read_file(path, device->memory_bytes - address, &length, &fault);
+    const char *bytes = file_of_line(session, read_file, path, device->memory_bytes - address, &length, &fault);
+    struct event event;
     if (bytes == NULL)
         return refuse(&session->reader, at, "this file %s", fault);
-    if (may_enter(session, address, length))
-        memcpy(device->memory + address, bytes, length);
-    free(bytes);
+    if (!may_enter(session, address, length))
+        return 1;
+    event = entering(session, IN_MEMORY, 0, address, length, BYTE);
+    before_event(session, &event);
+    memcpy(device->memory + address, bytes, length);
+    after_event(session, &event);
     return 1;
 }
 

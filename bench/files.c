@@ -47,14 +47,26 @@ char *read_front(const char *path, size_t most, size_t *length, const char **fau
     return buffer;
 }
 
-char *read_file(const char *path, size_t most, size_t *length, const char **fault)
+/* The front of a file if that is all of it. */
+static char *whole(char *front, size_t most, size_t length, const char **fault)
 {
-    char *buffer = read_front(path, most + 1, length, fault);
-    if (buffer == NULL || *length <= most)
-        return buffer;
-    free(buffer);
+    if (front == NULL || length <= most)
+        return front;
+    free(front);
     *fault = "is too long";
     return NULL;
+}
+
+char *read_file(const char *path, size_t most, size_t *length, const char **fault)
+{
+    char *front = read_front(path, most + 1, length, fault);
+    return whole(front, most, *length, fault);
+}
+
+char *read_file_of(FILE *file, size_t most, size_t *length, const char **fault)
+{
+    char *front = read_front_of(file, most + 1, length, fault);
+    return whole(front, most, *length, fault);
 }
 
 /* ---- writing ---- */

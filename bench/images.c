@@ -6,6 +6,7 @@
 #include <stdlib.h>
 
 #include "files.h"
+#include "history.h"
 #include "kept.h"
 
 /* A file of more bytes is not restored; no image is so long. */
@@ -47,15 +48,17 @@ static int restore_file(struct session *session, size_t at, const char *path)
 {
     const char *fault;
     size_t length;
-    char *image = read_file(path, IMAGE_BYTES_MOST, &length, &fault);
+    const char *image = file_of_line(session, read_file, path, IMAGE_BYTES_MOST, &length, &fault);
+    struct event event = next_event(session, RESTORED);
     if (image == NULL)
         return refuse(&session->reader, at, "this file %s", fault);
-    if (device_restore(&session->device, (const uint8_t *)image, length) == 0) {
+    before_event(session, &event);
+    if (device_restore(&session->device, (const uint8_t *)image, length) == 0 && !session->silent) {
         write_machine(session, "restore");
         printf("\n");
     }
+    after_event(session, &event);
     report(session, "restore");
-    free(image);
     return 1;
 }
 
@@ -73,16 +76,18 @@ static int salvage_file(struct session *session, size_t at, const char *path)
     char text[KEPT_TEXT_BYTES];
     const char *fault;
     size_t length;
-    char *image = read_front(path, SALVAGED_BYTES_MOST, &length, &fault);
+    const char *image = file_of_line(session, read_front, path, SALVAGED_BYTES_MOST, &length, &fault);
+    struct event event = next_event(session, RESTORED);
     if (image == NULL)
         return refuse(&session->reader, at, "this file %s", fault);
-    if (device_salvage(&session->device, (const uint8_t *)image, length, kept) == 0) {
+    before_event(session, &event);
+    if (device_salvage(&session->device, (const uint8_t *)image, length, kept) == 0 && !session->silent) {
         write_kept(kept, length, text);
         write_machine(session, "salvage");
         printf("; %s\n", text);
     }
+    after_event(session, &event);
     report(session, "salvage");
-    free(image);
     return 1;
 }
 

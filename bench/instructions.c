@@ -68,10 +68,10 @@ static const struct {
     {"mset", SETS, NONE, 0},
     {"mla", LOADS, A, 0}, {"mlb", LOADS, B, 0}, {"mlc", LOADS, C, 0},
     {"msa", STORES, A, 0}, {"msb", STORES, B, 0}, {"msc", STORES, C, 0},
-    {"mma.", MULTIPLIES, C, 1}, {"mwma.", MULTIPLIES, C, 2}, {"mqma.", MULTIPLIES, C, 4}, {"mfma.", MULTIPLIES, C, 1},
-    {"maddc.", COMBINES, C, 1}, {"mwaddc.", COMBINES, C, 2}, {"mqaddc.", COMBINES, C, 4},
-    {"msubc.", COMBINES, C, 1}, {"mwsubc.", COMBINES, C, 2}, {"mqsubc.", COMBINES, C, 4},
-    {"mrsubc.", COMBINES, C, 1}, {"mwrsubc.", COMBINES, C, 2}, {"mqrsubc.", COMBINES, C, 4},
+    {"mma.", MULTIPLIES, C, 1}, {"mwma.", MULTIPLIES, C, 2}, {"mqma.", MULTIPLIES, C, 4}, {"mfma.", MULTIPLIES_FLOATS, C, 1},
+    {"maddc.", ADDS, C, 1}, {"mwaddc.", ADDS, C, 2}, {"mqaddc.", ADDS, C, 4},
+    {"msubc.", SUBTRACTS, C, 1}, {"mwsubc.", SUBTRACTS, C, 2}, {"mqsubc.", SUBTRACTS, C, 4},
+    {"mrsubc.", SUBTRACTS_REVERSED, C, 1}, {"mwrsubc.", SUBTRACTS_REVERSED, C, 2}, {"mqrsubc.", SUBTRACTS_REVERSED, C, 4},
     {"memulc.", SCALES, C, 1}, {"mwemulc.", SCALES, C, 2}, {"mqemulc.", SCALES, C, 4},
     {"mmvcr.v", MOVES_OUT, ROWS, 1}, {"mmvcr.m", MOVES_IN, ROWS, 1},
     {"mmvcc.v", MOVES_OUT, COLUMNS, 1}, {"mmvcc.m", MOVES_IN, COLUMNS, 1},
@@ -107,11 +107,13 @@ int instruction_of(uint32_t word, struct instruction *instruction)
         return 0;
     instruction->action = kinds[i].action;
     instruction->shape = kinds[i].shape;
+    instruction->transposed = (kinds[i].action == LOADS || kinds[i].action == STORES) && text[3] == 't';
     instruction->width = kinds[i].width != 0 ? kinds[i].width : (unsigned)strtoul(text + strcspn(text, digits), NULL, 10);
     operand = strchr(text, ' ');
     for (i = 0; operand != NULL && i < OPERANDS_MOST; i++) {
         operand++;
         instruction->operands[i] = operand_of(operand);
+        instruction->immediate = (int)strtol(operand, NULL, 10);
         instruction->numbers[i] = (unsigned)strtoul(operand + strcspn(operand, digits), NULL, 10);
         operand = strchr(operand, ' ');
     }
@@ -136,11 +138,40 @@ int is_mnemonic(struct span mnemonic)
     return add(&line, mnemonic.text, mnemonic.length) && goes_on(line, " ");
 }
 
+/* The library says with which characters a mnemonic goes on; a blank stands behind a whole one. */
+static void each_from(struct line line, void (*take)(void *to, const char *mnemonic), void *to)
+{
+    static const char characters[] = "abcdefghijklmnopqrstuvwxyz0123456789.";
+    char next[2] = "";
+    size_t i;
+    if (goes_on(line, " ")) {
+        struct line whole = line;
+        if (add(&whole, "", 1))
+            take(to, whole.text);
+    }
+    for (i = 0; i < sizeof characters - 1; i++) {
+        struct line longer = line;
+        next[0] = characters[i];
+        if (goes_on(line, next) && add(&longer, next, 1))
+            each_from(longer, take, to);
+    }
+}
+
+void each_mnemonic(const char *begin, void (*take)(void *to, const char *mnemonic), void *to)
+{
+    struct line line;
+    line.length = 0;
+    if (strchr(begin, ' ') == NULL && add(&line, begin, strlen(begin)) && goes_on(line, ""))
+        each_from(line, take, to);
+}
+
 /* The names of scalars that the draft's examples use beside x0 to x31: those of the RISC-V calling convention, in order. */
 static const char *const scalar_names[32] = {
     "zero", "ra", "sp", "gp", "tp", "t0", "t1", "t2", "s0", "s1", "a0", "a1", "a2", "a3", "a4", "a5",
     "a6", "a7", "s2", "s3", "s4", "s5", "s6", "s7", "s8", "s9", "s10", "s11", "t3", "t4", "t5", "t6",
 };
+
+const char *scalar_name(unsigned slot) { return scalar_names[slot % 32]; }
 
 static int add_number(struct line *line, const char *name, int number)
 {

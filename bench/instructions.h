@@ -8,7 +8,7 @@
 /* What an operand of a line is. */
 enum operand { NO_OPERAND, SCALAR, BASE, TILE, ACCUMULATOR, VECTOR, NUMBER };
 
-enum action { SETS, LOADS, STORES, MULTIPLIES, COMBINES, SCALES, MOVES_OUT, MOVES_IN };
+enum action { SETS, LOADS, STORES, MULTIPLIES, MULTIPLIES_FLOATS, ADDS, SUBTRACTS, SUBTRACTS_REVERSED, SCALES, MOVES_OUT, MOVES_IN };
 
 /* Which tile an instruction writes, stores or moves: A is m by k, B k by n, C m by n; of C a move takes rows or columns. */
 enum shape { NONE, A, B, C, ROWS, COLUMNS };
@@ -20,8 +20,10 @@ struct instruction {
     enum action action;
     enum shape shape;
     unsigned width; /* of a load or store in bits, else in SEW */
+    int transposed; /* a load or store */
     enum operand operands[OPERANDS_MOST];
     unsigned numbers[OPERANDS_MOST]; /* of a register, its number */
+    int immediate;                   /* the number of the last operand, if it is none of a register */
 };
 
 /* What the word's line says; 0 if it has none. */
@@ -32,6 +34,12 @@ unsigned number_of(const struct instruction *instruction, enum operand operand);
 
 /* Whether some line begins with this mnemonic. */
 int is_mnemonic(struct span mnemonic);
+
+/* Hands each mnemonic that begins with a text to `take`. */
+void each_mnemonic(const char *begin, void (*take)(void *to, const char *mnemonic), void *to);
+
+/* The name of a scalar in the calling convention. */
+const char *scalar_name(unsigned slot);
 
 /* Takes the operands behind a mnemonic, makes the exact line and gives its word. */
 int take_instruction(struct reader *reader, struct span mnemonic, uint32_t *word);

@@ -5,7 +5,7 @@
 #include <stdio.h>
 #include <string.h>
 
-#include "numbers.h"
+#include "looking.h"
 #include "show.h"
 #include "trace.h"
 
@@ -55,7 +55,8 @@ static int expect_answer(struct session *session)
     struct expected expected;
     if (!take_expected(&session->reader, &expected))
         return 0;
-    if (!device->answered)
+    session->refused = 0;
+    if (device->answers == 0)
         return not_now(session, "nothing has answered yet");
     if (is_expected(&expected, device->result))
         return 1;
@@ -66,7 +67,7 @@ static int expect_answer(struct session *session)
     else if (expected.placed)
         printf(", row %" PRIu64 ", column %" PRIu64, expected.row, expected.column);
     printf("; the answer is %u, %s", BODLARINA_ANSWER(device->result), bodlarina_answer_text(device->result));
-    write_place(device);
+    write_place(stdout, device);
     printf("\n");
     return 1;
 }
@@ -156,8 +157,7 @@ static int show_range(struct session *session)
     return 1;
 }
 
-/* The register of this name, or REGISTERS. */
-static unsigned register_called(struct span span)
+unsigned register_called(struct span span)
 {
     unsigned reg;
     char name[8];
@@ -169,8 +169,7 @@ static unsigned register_called(struct span span)
     return reg;
 }
 
-/* The vector register of this name, or VECTORS. */
-static unsigned vector_called(struct span span)
+unsigned vector_called(struct span span)
 {
     unsigned v;
     char name[8];
@@ -183,11 +182,7 @@ static unsigned vector_called(struct span span)
 }
 
 /* The form of elements of SEW bits; BYTE if mtype is illegal. */
-static enum form form_of_sew(const struct device *device)
-{
-    unsigned sew = device_sew(device);
-    return sew == 0 ? BYTE : sew == 1 ? INT8 : sew == 2 ? INT16 : sew == 4 ? INT32 : INT64;
-}
+static enum form form_of_sew(const struct device *device) { return form_of_bytes(device_sew(device)); }
 
 /* The form that this width, or float32, stands for; BYTE if it is neither. */
 static enum form form_called(struct span span)
@@ -199,8 +194,7 @@ static enum form form_called(struct span span)
     return form;
 }
 
-/* The end of the line, or 8, 16, 32, 64 or float32 and the end; without one of them, signed numbers of SEW bits. */
-static int take_shown_form(struct session *session, enum form *form)
+int take_shown_form(struct session *session, enum form *form)
 {
     struct reader *reader = &session->reader;
     *form = form_of_sew(&session->device);

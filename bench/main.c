@@ -1,70 +1,91 @@
-/* bodlarina-bench: drives a machine from a script. See man/bodlarina-bench.1. */
+/* bodlarina-bench: drives a machine from a script, or from what is typed. See man/bodlarina-bench.1. */
+#define _POSIX_C_SOURCE 200112L
+
 #include <stdio.h>
 #include <string.h>
+#include <unistd.h>
 
 #include "commands.h"
+#include "options.h"
 #include "picture.h"
+#include "prompt.h"
+#include "report.h"
 
 enum { HELD, NOT_HELD, BAD_SCRIPT };
 
-struct options {
-    int trace;
-    const char *marks; /* the path of the picture, or NULL */
-    const char *script;
-};
-
-static int read_options(int count, char **words, struct options *options)
+/* Whether all held, and how many refusals no line expects. */
+static int end_script(struct session *session)
 {
-    int i;
-    memset(options, 0, sizeof *options);
-    for (i = 1; i < count; i++)
-        if (strcmp(words[i], "--trace") == 0)
-            options->trace = 1;
-        else if (strcmp(words[i], "--marks") == 0 && i + 1 < count && options->marks == NULL)
-            options->marks = words[++i];
-        else if (words[i][0] != '-' && options->script == NULL)
-            options->script = words[i];
-        else
-            return 0;
-    return options->script != NULL;
+    unsigned long count;
+    count_refusal(session);
+    count = session->unexpected;
+    fflush(stdout);
+    if (count != 0)
+        fprintf(stderr, "%s: %lu refusal%s not expected\n", session->reader.path, count, count == 1 ? " was" : "s were");
+    return session->failures == 0 && count == 0 ? HELD : NOT_HELD;
 }
 
-/* All lines of the script, then the picture. */
-static int run_script(struct session *session, const char *marks)
+/* What is asked for at the end: the picture and the page. */
+static int write_files(const struct session *session, const struct report *report, const struct options *options)
 {
-    while (next_line(&session->reader))
-        if (!run_line(session))
-            return BAD_SCRIPT;
-    if (marks != NULL && !session->device.started) {
+    if (options->marks != NULL && !session->device.started) {
         fprintf(stderr, "%s: no machine is started, so there are no marks to draw\n", session->reader.path);
+        return 0;
+    }
+    return (options->marks == NULL || write_picture(&session->device, options->marks))
+           && (options->report == NULL || report_write(report, session, options->report));
+}
+
+static int run_script(struct session *session, struct report *report, const struct options *options)
+{
+    int from_file = options->script != NULL && strcmp(options->script, "-") != 0;
+    if (!session_open(session, from_file ? options->script : NULL))
+        return BAD_SCRIPT;
+    session->trace = options->trace;
+    session->remembers |= options->report != NULL;
+    while (next_line(&session->reader))
+        if (!(options->report == NULL ? run_line(session) : report_line(report, session)))
+            return BAD_SCRIPT;
+    return write_files(session, report, options) ? end_script(session) : BAD_SCRIPT;
+}
+
+/* What is typed does not fail: its answers are seen. */
+static int run_typed(struct session *session, struct report *report, const struct options *options)
+{
+    if (!session_begin(session, "prompt")) {
+        complain(&bench_program, "there is no room for a script");
         return BAD_SCRIPT;
     }
-    if (marks != NULL && !write_picture(&session->device, marks))
+    session->trace = options->trace;
+    run_prompt(session, options->report == NULL ? NULL : report);
+    return write_files(session, report, options) ? HELD : BAD_SCRIPT;
+}
+
+static int run(const struct options *options)
+{
+    static struct session session;
+    struct report report;
+    int typed = options->script == NULL && isatty(STDIN_FILENO) == 1, status;
+    if (!report_open(&report)) {
+        complain(&bench_program, "there is no room for a report");
         return BAD_SCRIPT;
-    return session->failures == 0 ? HELD : NOT_HELD;
+    }
+    status = typed ? run_typed(&session, &report, options) : run_script(&session, &report, options);
+    session_close(&session);
+    report_close(&report);
+    if (fflush(stdout) == 0 && !ferror(stdout))
+        return status;
+    complain(&bench_program, "the output cannot be written");
+    return BAD_SCRIPT;
 }
 
 int main(int count, char **words)
 {
-    static struct session session;
     struct options options;
-    int status = BAD_SCRIPT;
-    if (!read_options(count, words, &options)) {
-        fprintf(stderr, "usage: bodlarina-bench [--trace] [--marks FILE.svg] SCRIPT\n");
+    int said;
+    if (count > 1 && asked(&bench_program, words[1], &said))
+        return said ? HELD : BAD_SCRIPT;
+    if (!read_options(count, words, &options) || !library_fits(&bench_program))
         return BAD_SCRIPT;
-    }
-    if (!library_fits()) {
-        fprintf(stderr, "bodlarina-bench: the library is not that of the header it was built with\n");
-        return BAD_SCRIPT;
-    }
-    session.trace = options.trace;
-    if (reader_open(&session.reader, options.script))
-        status = run_script(&session, options.marks);
-    device_free(&session.device);
-    reader_close(&session.reader);
-    if (fflush(stdout) != 0 || ferror(stdout)) {
-        fprintf(stderr, "bodlarina-bench: the output cannot be written\n");
-        return BAD_SCRIPT;
-    }
-    return status;
+    return run(&options);
 }

@@ -27,6 +27,10 @@ enum form take_form(struct reader *reader)
     return BYTE;
 }
 
+const char *form_name(enum form form) { return form == BYTE ? "byte" : forms[form].name; }
+
+enum form form_of_bytes(uint64_t bytes) { return bytes == 1 ? INT8 : bytes == 2 ? INT16 : bytes == 4 ? INT32 : bytes == 8 ? INT64 : BYTE; }
+
 unsigned form_bytes(enum form form) { return forms[form].bytes; }
 int form_room(enum form form) { return forms[form].room; }
 

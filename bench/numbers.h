@@ -10,6 +10,10 @@ enum form { BYTE, INT8, INT16, INT32, INT64, FLOAT32 };
 /* int8, int16, int32, int64 or float32; else BYTE, and nothing is taken. */
 enum form take_form(struct reader *reader);
 
+/* Its name; "byte" of BYTE. The form of signed numbers of so many bytes; BYTE if there is none. */
+const char *form_name(enum form form);
+enum form form_of_bytes(uint64_t bytes);
+
 /* The bytes of a number, and the characters that it takes at most. */
 unsigned form_bytes(enum form form);
 int form_room(enum form form);

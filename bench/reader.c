@@ -14,10 +14,19 @@ int reader_open(struct reader *reader, const char *path)
 {
     const char *fault;
     memset(reader, 0, sizeof *reader);
-    reader->path = path;
-    reader->text = read_file(path, SCRIPT_BYTES_MOST, &reader->length, &fault);
+    reader->path = path == NULL ? "standard input" : path;
+    reader->text = path == NULL ? read_file_of(stdin, SCRIPT_BYTES_MOST, &reader->length, &fault)
+                                : read_file(path, SCRIPT_BYTES_MOST, &reader->length, &fault);
     if (reader->text == NULL)
-        fprintf(stderr, "%s: the script %s\n", path, fault);
+        fprintf(stderr, "%s: the script %s\n", reader->path, fault);
+    return reader->text != NULL;
+}
+
+int reader_begin(struct reader *reader, const char *name)
+{
+    memset(reader, 0, sizeof *reader);
+    reader->path = name;
+    reader->text = malloc(SCRIPT_BYTES_MOST);
     return reader->text != NULL;
 }
 
@@ -25,6 +34,31 @@ void reader_close(struct reader *reader)
 {
     free(reader->text);
     reader->text = NULL;
+}
+
+int add_line(struct reader *reader, const char *line)
+{
+    size_t length = strlen(line);
+    if (length >= SCRIPT_BYTES_MOST - reader->length)
+        return 0;
+    memcpy(reader->text + reader->length, line, length);
+    reader->text[reader->length + length] = '\n';
+    reader->length += length + 1;
+    return 1;
+}
+
+void cut_lines(struct reader *reader, size_t start)
+{
+    reader->length = start;
+    reader_rewind(reader);
+    while (next_line(reader))
+        ;
+}
+
+void reader_rewind(struct reader *reader)
+{
+    reader->next_start = reader->line_start = reader->line_end = reader->at = 0;
+    reader->line = 0;
 }
 
 int next_line(struct reader *reader)

@@ -25,9 +25,19 @@ struct span {
     size_t at;
 };
 
-/* Reads the whole file. 0 and a message if it can't be read or is too long. */
+/* Reads the whole file, or standard input if the path is NULL. 0 and a message if it can't be read or is too long. */
 int reader_open(struct reader *reader, const char *path);
+
+/* A script without a line yet, of this name; 0 if there is no room. */
+int reader_begin(struct reader *reader, const char *name);
 void reader_close(struct reader *reader);
+
+/* Adds a line at the end; 0 if the script is too long then. And takes the lines from one that starts here on away: none of them is read. */
+int add_line(struct reader *reader, const char *line);
+void cut_lines(struct reader *reader, size_t start);
+
+/* Goes back to before the first line. */
+void reader_rewind(struct reader *reader);
 
 /* Goes to the next line; 0 if there is none. */
 int next_line(struct reader *reader);

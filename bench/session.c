@@ -1,10 +1,48 @@
 #include "session.h"
 
 #include <inttypes.h>
+#include <limits.h>
 #include <stdio.h>
 #include <string.h>
 
+#include "history.h"
 #include "trace.h"
+
+/* Whether a line of the script asks for an explanation. */
+static int asks_why(struct reader reader)
+{
+    while (next_line(&reader))
+        if (span_is(take_span(&reader), "explain"))
+            return 1;
+    return 0;
+}
+
+int session_open(struct session *session, const char *path)
+{
+    memset(session, 0, sizeof *session);
+    session->last_event = ULONG_MAX;
+    if (!reader_open(&session->reader, path))
+        return 0;
+    session->remembers = asks_why(session->reader);
+    return 1;
+}
+
+int session_begin(struct session *session, const char *name)
+{
+    memset(session, 0, sizeof *session);
+    session->last_event = ULONG_MAX;
+    session->remembers = 1;
+    return reader_begin(&session->reader, name);
+}
+
+void session_close(struct session *session)
+{
+    device_free(&session->device);
+    if (session->silent) /* the rest belongs to the session that it repeats */
+        return;
+    forget_files(session);
+    reader_close(&session->reader);
+}
 
 int not_now(const struct session *session, const char *sentence)
 {
@@ -58,19 +96,27 @@ int take_file(struct session *session, size_t *at, char path[PATH_BYTES])
     return take_end(&session->reader);
 }
 
+void count_refusal(struct session *session)
+{
+    session->unexpected += (unsigned long)session->refused;
+    session->refused = 0;
+}
+
 void report(const struct session *session, const char *what)
 {
     const struct device *device = &session->device;
-    if (device->result == 0)
+    if (device->result == 0 || session->silent)
         return;
     printf("%s:%lu: %s: refused with %u, %s", session->reader.path, session->reader.line, what, BODLARINA_ANSWER(device->result),
            bodlarina_answer_text(device->result));
-    write_place(device);
+    write_place(stdout, device);
     printf("\n");
 }
 
 void report_sealed(const struct session *session, uint64_t address)
 {
+    if (session->silent)
+        return;
     printf("%s:%lu: refused with %u, this would write over a sealed byte: address %" PRIu64 "\n", session->reader.path, session->reader.line,
            BODLARINA_SEALED_BYTE, address);
 }

@@ -3,100 +3,100 @@
 #include <inttypes.h>
 #include <stdio.h>
 
-void write_place(const struct device *device)
+void write_place(FILE *file, const struct device *device)
 {
     char name[8];
     if (BODLARINA_ANSWER(device->result) == BODLARINA_DAMAGED)
-        printf(": place %" PRIu64, BODLARINA_PLACE(device->result));
+        fprintf(file, ": place %" PRIu64, BODLARINA_PLACE(device->result));
     if (BODLARINA_ANSWER(device->result) != BODLARINA_UNWRITTEN)
         return;
-    printf(": row %u, column %u", BODLARINA_ROW(device->result), BODLARINA_COLUMN(device->result));
+    fprintf(file, ": row %u, column %u", BODLARINA_ROW(device->result), BODLARINA_COLUMN(device->result));
     if (device->named.known) {
         register_name(device->named.reg, name);
-        printf(" of %s", name);
+        fprintf(file, " of %s", name);
     }
 }
 
 /* An mtype that is illegal is 2^63; no size is as large. */
-static void write_setting(uint64_t value)
+static void write_setting(FILE *file, uint64_t value)
 {
     if (value >> 63 != 0)
-        printf("illegal");
+        fprintf(file, "illegal");
     else
-        printf("%" PRIu64, value);
+        fprintf(file, "%" PRIu64, value);
 }
 
-static void write_change(const char *name, uint64_t before, uint64_t after)
+static void write_change(FILE *file, const char *name, uint64_t before, uint64_t after)
 {
     if (before == after)
         return;
-    printf("; %s ", name);
-    write_setting(before);
-    printf(" -> ");
-    write_setting(after);
+    fprintf(file, "; %s ", name);
+    write_setting(file, before);
+    fprintf(file, " -> ");
+    write_setting(file, after);
 }
 
 /* mtype, tile sizes and rd of a setting. */
-static void write_settings(const struct device *device, const struct instruction *instruction, struct settings before)
+static void write_settings(FILE *file, const struct device *device, const struct instruction *instruction, struct settings before)
 {
     struct settings after = device_settings(device);
     unsigned rd = instruction->numbers[0];
-    write_change("mtype", before.mtype, after.mtype);
-    write_change("m", before.m, after.m);
-    write_change("k", before.k, after.k);
-    write_change("n", before.n, after.n);
+    write_change(file, "mtype", before.mtype, after.mtype);
+    write_change(file, "m", before.m, after.m);
+    write_change(file, "k", before.k, after.k);
+    write_change(file, "n", before.n, after.n);
     if (rd != 0)
-        printf("; x%u = %" PRIu64, rd, device_scalar(device, rd));
+        fprintf(file, "; x%u = %" PRIu64, rd, device_scalar(device, rd));
 }
 
 /* The register and the rows and columns of a tile. */
-static void write_tile(struct tile tile)
+static void write_tile(FILE *file, struct tile tile)
 {
     char name[8];
     register_name(tile.reg, name);
     if (tile.rows == 0 || tile.columns == 0)
-        printf("; %s, no element", name);
+        fprintf(file, "; %s, no element", name);
     else
-        printf("; %s rows %u to %u, columns %u to %u of %u bits", name, tile.row, tile.row + tile.rows - 1, tile.column,
+        fprintf(file, "; %s rows %u to %u, columns %u to %u of %u bits", name, tile.row, tile.row + tile.rows - 1, tile.column,
                tile.column + tile.columns - 1, 8 * tile.width);
 }
 
 /* The slice of a move, and the vector registers that it goes to or comes from. */
-static void write_move(const struct device *device, const struct instruction *instruction, const struct turn *turn)
+static void write_move(FILE *file, const struct device *device, const struct instruction *instruction, const struct turn *turn)
 {
     int out = instruction->action == MOVES_OUT;
     unsigned first = number_of(instruction, VECTOR);
-    write_tile(word_slice(device, instruction, turn->stride));
-    printf(" %s v%u", out ? "to" : "from", first);
+    write_tile(file, word_slice(device, instruction, turn->stride));
+    fprintf(file, " %s v%u", out ? "to" : "from", first);
     if (device_group(device) > 1)
-        printf(" .. v%u", first + device_group(device) - 1);
+        fprintf(file, " .. v%u", first + device_group(device) - 1);
 }
 
-static void write_stride(uint64_t stride)
+static void write_stride(FILE *file, uint64_t stride)
 {
     if (stride >> 63 == 0)
-        printf(", stride %" PRIu64, stride);
+        fprintf(file, ", stride %" PRIu64, stride);
     else
-        printf(", stride -%" PRIu64, 0 - stride);
+        fprintf(file, ", stride -%" PRIu64, 0 - stride);
 }
 
-static void write_changes(const struct device *device, const struct turn *turn, struct settings before)
+void write_changes(FILE *file, const struct device *device, const struct turn *turn, struct settings before)
 {
     struct instruction instruction;
     if (!instruction_of(turn->word, &instruction))
         return;
     if (instruction.action == SETS) {
-        write_settings(device, &instruction, before);
+        write_settings(file, device, &instruction, before);
         return;
     }
     if (instruction.action == MOVES_OUT || instruction.action == MOVES_IN) {
-        write_move(device, &instruction, turn);
+        write_move(file, device, &instruction, turn);
         return;
     }
-    write_tile(word_tile(device, &instruction));
+    write_tile(file, word_tile(device, &instruction));
     if (instruction.action == LOADS || instruction.action == STORES) {
-        printf(" %s memory at %" PRIu64, instruction.action == LOADS ? "from" : "to", turn->address);
-        write_stride(turn->stride);
+        fprintf(file, " %s memory at %" PRIu64, instruction.action == LOADS ? "from" : "to", turn->address);
+        write_stride(file, turn->stride);
     }
 }
 
@@ -106,8 +106,8 @@ void trace_step(const struct device *device, const struct turn *turn, struct set
     write_instruction(turn->word, text);
     printf("%5lu  %08" PRIX32 "  %-26s  %u %s", device->steps, turn->word, text, BODLARINA_ANSWER(device->result),
            bodlarina_answer_text(device->result));
-    write_place(device);
+    write_place(stdout, device);
     if (device->result == 0)
-        write_changes(device, turn, before);
+        write_changes(stdout, device, turn, before);
     printf("\n");
 }

@@ -1,5 +1,5 @@
 /* damage PROGRAM COUNT OUT SCRIPT..: damages the scripts in COUNT ways, the same ones each time, writes each to the file OUT and runs
- * PROGRAM on it, with and without --trace and --marks. It must exit with 0, 1 or 2: a signal, another status or ten seconds of work is
+ * PROGRAM on it, with and without --trace, --marks and --report. It must exit with 0, 1 or 2: a signal, another status or ten seconds of work is
  * a crash, and that script is printed. No script names a file outside the folder of OUT: it may save one there. */
 #define _POSIX_C_SOURCE 200809L
 
@@ -76,7 +76,8 @@ static const char *const odd[] = {
     "show acc1 float32", "show memory float32 0 4", "mfma.mm acc0, tr0, tr1", "msce32.m acc1, (x1), x2", "x 11 -8", "bytes 0 00", "machine 512 4096",
     "machine 4096 65536 64", "machine 64 65536", "int64", "int64 0 -9223372036854775808", "show acc1 64", "show memory int64 0 4", "halving",
     "restore today.img", "msce64.m acc1, (x1), x2", "mwma.mm acc0, tr0, tr1", "product 64 1 2 2 2 0 16 32 16 64 16", "msettypei x5, e64",
-    "salvage out", "salvage s.img", "salvage damaged.img", "salvage cut.img", "salvage product.dat", "salvage .",
+    "explain", "explain 0", "explain all 32 int32", "explain 56 int32", "explain acc0 0 0 32", "explain all acc1 1 1 64", "explain tr0 0 0",
+    "explain v4 0 16", "all", "salvage out", "salvage s.img", "salvage damaged.img", "salvage cut.img", "salvage product.dat", "salvage .",
 };
 
 /* Any text in the place of the bytes from `from` to `to`. */
@@ -145,7 +146,7 @@ static void write_text(const struct text *text, const char *path)
 static int run(const char *program, const char *script, int traced, int drawn)
 {
     int status, quiet;
-    char picture[4096];
+    char picture[4096], page[4096];
     struct rlimit limit = {10, 10};
     pid_t child = fork();
     if (child < 0)
@@ -153,11 +154,12 @@ static int run(const char *program, const char *script, int traced, int drawn)
     if (child == 0) {
         quiet = open("/dev/null", O_WRONLY);
         snprintf(picture, sizeof picture, "%s.svg", script);
+        snprintf(page, sizeof page, "%s.html", script);
         setrlimit(RLIMIT_CPU, &limit);
         dup2(quiet, 1);
         dup2(quiet, 2);
         if (drawn)
-            execl(program, program, "--trace", "--marks", picture, script, (char *)NULL);
+            execl(program, program, "--trace", "--marks", picture, "--report", page, script, (char *)NULL);
         else
             execl(program, program, script, traced ? "--trace" : (char *)NULL, (char *)NULL);
         _exit(127);

@@ -12,35 +12,26 @@
 #include "bodlarina.h"
 #include "files.h"
 #include "kept.h"
+#include "program.h"
 
 enum { SALVAGED, REFUSED, NOT_DONE };
 
-#define USAGE "usage: bodlarina-salvage IN OUT\n"
-
-static const char help[] =
-    USAGE
+static const struct program program = {
+    "bodlarina-salvage", "IN OUT",
     "Writes to OUT a fresh image of what is whole in IN, an image of a machine that was cut\n"
     "short or damaged, and prints how many runs are kept, how many were announced, and the byte\n"
     "of the fault. IN and OUT may be one file. - is standard input as IN and standard output as\n"
     "OUT; the line then goes to standard error. A file that is called - is ./-.\n"
     "Exit status: 0 done, 1 refused since no header of an image is whole, 2 files and usage.\n"
-    "man bodlarina-salvage has more.\n";
+    "man bodlarina-salvage has more.\n",
+};
 
 static int is_dash(const char *path) { return strcmp(path, "-") == 0; }
 
 /* A line about a file that cannot be read or written. */
 static int not_done(const char *path, const char *fault)
 {
-    fprintf(stderr, "bodlarina-salvage: %s %s: %s\n", path, fault, strerror(errno));
-    return NOT_DONE;
-}
-
-/* Text on standard output, or a line that this can't be, with the text. */
-static int say(const char *text)
-{
-    if (fputs(text, stdout) != EOF && fflush(stdout) == 0)
-        return SALVAGED;
-    fprintf(stderr, "bodlarina-salvage: standard output cannot be written: %s\n%s", strerror(errno), text);
+    complain(&program, "%s %s: %s", path, fault, strerror(errno));
     return NOT_DONE;
 }
 
@@ -50,8 +41,7 @@ static int refused(const char *path, uint64_t result, size_t length)
     uint64_t place = BODLARINA_PLACE(result);
     const char *why = BODLARINA_ANSWER(result) != BODLARINA_DAMAGED ? bodlarina_answer_text(result)
                       : place == length ? "the header of an image is cut short there" : "no header of an image goes on there";
-    fprintf(stderr, "bodlarina-salvage: %s: refused with %u at byte %" PRIu64 ": %s; kept 0 of 0 runs\n", path, BODLARINA_ANSWER(result), place,
-            why);
+    complain(&program, "%s: refused with %u at byte %" PRIu64 ": %s; kept 0 of 0 runs", path, BODLARINA_ANSWER(result), place, why);
     return REFUSED;
 }
 
@@ -61,8 +51,10 @@ static int deliver(const char *path, const uint8_t *fresh, size_t fresh_length, 
     char text[KEPT_TEXT_BYTES + 1];
     write_kept(report, length, text);
     strcat(text, "\n");
+    if (!is_dash(path) && !write_file(path, fresh, fresh_length))
+        return not_done(path, "cannot be written");
     if (!is_dash(path))
-        return write_file(path, fresh, fresh_length) ? say(text) : not_done(path, "cannot be written");
+        return say(&program, text) ? SALVAGED : NOT_DONE;
     if (!write_all(STDOUT_FILENO, fresh, fresh_length))
         return not_done("standard output", "cannot be written");
     return fputs(text, stderr) != EOF ? SALVAGED : NOT_DONE;
@@ -85,30 +77,27 @@ static int salvage(const char *in, const char *out)
     return deliver(out, fresh, (size_t)BODLARINA_LENGTH(result), report, length);
 }
 
-/* Where IN stands, behind --; 0 if the words are not two files. */
+/* Where IN stands, behind --; 0 and a complaint if the words are not two files. */
 static int files_at(int count, char **words)
 {
     int first = count > 1 && strcmp(words[1], "--") == 0 ? 2 : 1, i;
     for (i = first; first == 1 && i < count; i++)
         if (words[i][0] == '-' && !is_dash(words[i]))
-            return 0;
-    return count == first + 2 ? first : 0;
+            return misused(&program, "unknown option %s", words[i]);
+    if (count > first + 2)
+        return misused(&program, "%s is one file too many", words[first + 2]);
+    if (count < first + 2)
+        return misused(&program, count == first ? "IN and OUT are missing" : "OUT is missing");
+    return first;
 }
 
 int main(int count, char **words)
 {
-    int at = files_at(count, words);
-    if (count == 2 && strcmp(words[1], "--help") == 0)
-        return say(help);
-    if (count == 2 && strcmp(words[1], "--version") == 0)
-        return say("bodlarina-salvage " BODLARINA_VERSION "\n");
-    if (at == 0) {
-        fputs(USAGE, stderr);
+    int at, said;
+    if (count > 1 && asked(&program, words[1], &said))
+        return said ? SALVAGED : NOT_DONE;
+    at = files_at(count, words);
+    if (at == 0 || !library_fits(&program))
         return NOT_DONE;
-    }
-    if (bodlarina_version() != BODLARINA_VERSION_NUMBER) {
-        fputs("bodlarina-salvage: the library is not that of the header it was built with\n", stderr);
-        return NOT_DONE;
-    }
     return salvage(words[at], words[at + 1]);
 }
