@@ -1,13 +1,13 @@
 //! Float products by single words (request Four): examples by hand, special numbers,
 //! random ones and whole ones; and the second program's numbers held to the processor's.
 
-use crate::float_examples::{EXAMPLES, NANS};
 use crate::float_numbers::{self, any_style, number, whole, SIGN, SPECIAL};
 use crate::lent::Lent;
 use crate::random::Random;
 use crate::states::{bench_of, good_case, set_size, usual_lengths, SIZES};
 use crate::suite::{check_step, each_case, Context, Outcome};
 use crate::tally::Tally;
+use model::float_sums::{EXAMPLES, NANS};
 use model::{maximum, register_element, Kind, Lengths, Machine, Register, Row, LISTING, SMALLER};
 
 const INFINITY: u32 = 0x7F80_0000;

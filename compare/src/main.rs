@@ -10,7 +10,6 @@
 mod bench;
 mod boundaries;
 mod damage;
-mod float_examples;
 mod float_numbers;
 mod floats;
 mod images;

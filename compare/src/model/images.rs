@@ -1,4 +1,4 @@
-//! Machine images (request Six), those of halving machines (request Eight), of larger
+//! Request Six: machine images; those of halving machines (request Eight), of larger
 //! machines (request Ten) and of machines with other than one sealed range (request
 //! Twelve).
 //!
@@ -6,7 +6,11 @@
 //! accepted image has there, after all that stands before. A byte is at fault as
 //! soon as none of them begins with the groups read so far.
 
-use super::*;
+use crate::answers::state_at_fault;
+use crate::listing::Size;
+use crate::machine::{buffers_fit, permitted_lengths, register_bytes, Bench, Machine};
+use crate::seals::{Seals, MOST_SEALS};
+use crate::settings::{maximum, mtype_can_arise, set_tile_size, HALVING, MILL, RULES};
 use std::sync::OnceLock;
 
 /// A number in groups of seven bits, low group first, the top bit set on all but
@@ -60,7 +64,7 @@ fn head(machine: &Machine) -> Vec<u64> {
 
 /// The heads of all images, each with its machine's lengths and rule, and with one range
 /// or none.
-fn heads() -> &'static [(Vec<u64>, Machine)] {
+pub(crate) fn heads() -> &'static [(Vec<u64>, Machine)] {
     static HEADS: OnceLock<Vec<(Vec<u64>, Machine)>> = OnceLock::new();
     HEADS.get_or_init(|| {
         let lengths = permitted_lengths().into_iter();
@@ -296,7 +300,3 @@ pub fn read(image: &[u8], registers: &mut [u8], marks: &mut [u8]) -> Result<Mach
     }
     Ok(machine)
 }
-
-#[cfg(test)]
-#[path = "model_images_examples.rs"]
-mod examples;

@@ -5,7 +5,11 @@
 //! of putting a row's texts together. How far a line goes on is then the longest
 //! beginning that it has in common with one of them.
 
-use super::*;
+use crate::listing::Kind::*;
+use crate::listing::Matrix::*;
+use crate::listing::{Row, LISTING};
+use crate::words::{assemble, columns_of, decode};
+use std::collections::HashMap;
 use std::sync::OnceLock;
 
 /// What the answer 17 is given for.
@@ -223,7 +227,3 @@ pub fn read_line(line: &[u8], block: &mut [u8]) -> (u64, u64) {
         Err(column) => (BAD_LINE, column),
     }
 }
-
-#[cfg(test)]
-#[path = "model_text_examples.rs"]
-mod examples;

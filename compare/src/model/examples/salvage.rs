@@ -1,11 +1,10 @@
-//! Salvages worked out by hand from the paper, and what follows from its sentences, on the
-//! second program alone.
+//! Salvages worked out by hand from the paper, and what follows from its sentences (request
+//! Thirteen).
 
-use super::images::completed;
+use super::images::HEADER;
 use super::*;
-
-/// Version 1, RLEN 64, MLEN 128, all else 0 up to the number of runs.
-const HEADER: [u8; 9] = [1, 6, 7, 0, 0, 0, 0, 0, 0];
+use crate::images::*;
+use crate::salvage::*;
 
 /// Bytes 3 and 4; after a gap of 4, byte 9; after a gap of 5, bytes 15 and 16.
 const RUNS: [&[u8]; 3] = [&[3, 2, 3, 4], &[4, 1, 9], &[5, 2, 15, 16]];
@@ -279,13 +278,13 @@ fn salvages_of_cuts() {
     for image in some_images() {
         let total = register_bytes(parts(&image).expect("sound").machine.mlen);
         let (mut registers, mut marks) = (vec![0; total], vec![0; total]);
-        let machine = images::read(&image, &mut registers, &mut marks).expect("sound");
+        let machine = read(&image, &mut registers, &mut marks).expect("sound");
         for cut in 0..=image.len() {
             let Ok((fresh, [kept, ..])) = salvaged(&image[..cut]) else {
                 continue;
             };
             let (mut other, mut other_marks) = (vec![0x77; total], vec![0; total]);
-            assert_eq!(images::read(&fresh, &mut other, &mut other_marks), Ok(machine));
+            assert_eq!(read(&fresh, &mut other, &mut other_marks), Ok(machine));
             for at in 0..total {
                 assert!(other_marks[at] <= marks[at]);
                 assert_eq!(other[at], if other_marks[at] == 1 { registers[at] } else { 0x77 });

@@ -1,9 +1,14 @@
-//! Binary32 (request Four), by integers alone: what is added or multiplied is an exact
-//! whole number of very small units, and is rounded from there once.
+//! Request Four: float products. Binary32 by integers alone: what is added or multiplied is
+//! an exact whole number of very small units, and is rounded from there once.
 //!
 //! A number is given by its 32 bits. Of those that are not a number only one comes out
 //! of a sum or product, `NAN`; which one it is inside a sum does not matter.
 
+use crate::listing::Matrix::*;
+use crate::machine::Bench;
+use crate::settings::sew;
+use crate::tiles::{output_width, read_tile, tile, write_tile};
+use crate::words::Instruction;
 use std::cmp::Ordering;
 
 /// What a result that is not a number is stored as.
@@ -198,9 +203,22 @@ pub fn accumulated(old: u32, terms: impl Iterator<Item = (u32, u32)>) -> u32 {
     settled(terms.fold(old, |so_far, (a, b)| sum(so_far, product(a, b))))
 }
 
+/// Elements are taken as the bits of binary32 numbers.
+pub(crate) fn float_multiply(instruction: &Instruction, bench: &mut Bench) {
+    let machine = bench.machine;
+    let output = tile(&machine, C, instruction.md(), output_width(instruction, &machine));
+    let a = read_tile(bench, tile(&machine, A, instruction.ms1(), sew(machine.mtype)));
+    let b = read_tile(bench, tile(&machine, B, instruction.ms2(), sew(machine.mtype)));
+    let mut c = read_tile(bench, output);
+    for i in 0..machine.tile_m as usize {
+        for j in 0..machine.tile_n as usize {
+            let terms = (0..machine.tile_k as usize).map(|l| (a[i][l] as u32, b[l][j] as u32));
+            c[i][j] = accumulated(c[i][j] as u32, terms) as i128;
+        }
+    }
+    write_tile(bench, output, &c);
+}
+
 #[cfg(test)]
-#[path = "model_floats_examples.rs"]
+#[path = "examples/floats.rs"]
 mod examples;
-#[cfg(test)]
-#[path = "float_examples.rs"]
-mod float_examples;

@@ -1,5 +1,5 @@
 //! Sums of products of binary32 numbers, reckoned by hand from request Four's sentences.
-//! The second program's tests and the suites on the library hold to them.
+//! The second program's examples and the suites on the library hold to them.
 
 /// An old value of C, the terms that are added to it, and what is stored.
 pub type Example = (&'static str, u32, &'static [(u32, u32)], u32);

@@ -1,8 +1,7 @@
-//! Binary32 on the second program alone: by hand, and by what "nearest" and "ties to
-//! even" say.
+//! Binary32 (request Four): sums by hand, and what "nearest" and "ties to even" say.
 
-use super::float_examples::{EXAMPLES, NANS};
 use super::*;
+use crate::float_sums::{EXAMPLES, NANS};
 
 fn stored(old: u32, terms: &[(u32, u32)]) -> u32 {
     accumulated(old, terms.iter().copied())

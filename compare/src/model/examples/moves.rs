@@ -1,6 +1,7 @@
-//! Moves by hand, on the second program alone.
+//! Moves by hand (request Eleven).
 
 use super::*;
+use crate::moves::*;
 
 /// MLEN 512 and RLEN 64: eight rows, of eight columns at SEW 8. acc0 holds 16 x row + byte
 /// in bytes 0 to 15 of each row, the vector file the low byte of each place plus 100.

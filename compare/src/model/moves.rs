@@ -1,6 +1,10 @@
-//! Moves between accumulators and vector registers (request Eleven), byte by byte.
+//! Request Eleven: moves between accumulators and vector registers, byte by byte.
 
-use super::*;
+use crate::listing::Kind::*;
+use crate::machine::{register_element, scalar, Bench, Machine, Register};
+use crate::settings::sew;
+use crate::words::Instruction;
+use Lines::*;
 
 /// What a move takes of an accumulator: rows (`mmvcr`) or columns (`mmvcc`).
 #[derive(Clone, Copy, Debug, PartialEq, Eq)]
@@ -8,8 +12,6 @@ pub enum Lines {
     Rows,
     Columns,
 }
-
-use Lines::*;
 
 /// What a step is lent for moves: the bytes of v0 to v31, and the group size.
 #[derive(Clone, Debug, PartialEq, Eq)]
@@ -159,7 +161,3 @@ pub fn move_in(instruction: &Instruction, bench: &mut Bench, scalars: &[u64], ve
         bench.marks[byte.register] = 1;
     }
 }
-
-#[cfg(test)]
-#[path = "model_moves_examples.rs"]
-mod examples;

@@ -1,12 +1,12 @@
-//! Salvage of a cut or damaged image (request Thirteen).
+//! Request Thirteen: salvage of a cut or damaged image.
 //!
 //! The place of the fault is that of the reader of images. What stands before it is gone on
 //! with to some accepted image; its runs are measured from its end to its front, and each is
 //! tried whether it lies before the place. The fresh image is that of a machine on which the
 //! kept runs alone are marked.
 
-use super::images::{completed_parts, groups, image, parts, Parts};
-use super::*;
+use crate::images::{completed_parts, groups, image, parts, Parts};
+use crate::machine::{register_bytes, Bench, Machine};
 
 /// A run: where it starts, and its bytes.
 pub type Stretch = (usize, Vec<u8>);
@@ -91,7 +91,3 @@ pub fn salvage(given: &[u8], room: &mut [u8]) -> Result<(usize, Report), (u64, R
     let [kept, announced] = [kept.len(), announced.runs.len()].map(|count| count as u64);
     Ok((fresh.len(), Report { kept, announced, place }))
 }
-
-#[cfg(test)]
-#[path = "model_salvage_examples.rs"]
-mod examples;

@@ -1,7 +1,9 @@
-//! Several sealed ranges (request Twelve): examples by hand, on the second program alone.
+//! Several sealed ranges (request Twelve), by hand: starts, stores, runs, and images of
+//! version 4.
 
-use super::images::{completed, image, parts};
+use super::images::place;
 use super::*;
+use crate::images::{completed, groups, image, parts};
 
 const LENGTHS: Lengths = (64, 256, 32);
 const TOP: u64 = u64::MAX;
@@ -220,7 +222,6 @@ fn version_4_byte_by_byte() {
 
 #[test]
 fn places_in_version_4() {
-    let place = |bytes: &[u8]| parts(bytes).expect_err("a damaged image");
     assert_eq!(place(&[4]), 1);
     assert_eq!(place(&[4, 2]), 1);
     assert_eq!(place(&[4, 0, 4]), 2);
@@ -247,7 +248,7 @@ fn places_in_version_4() {
     assert_eq!(place(&[2, 0, 0, 0, 0]), 5);
     assert_eq!(place(&[2, 0, 0, 0, 0, 0, 9]), 6);
     // The second range ends at 2^64 - 1 at the most, whatever the first.
-    let start = images::groups(TOP - 2);
+    let start = groups(TOP - 2);
     let second = |length: u8| place(&[&[2, 9, 9], &start[..], &[length]].concat());
     assert_eq!([0, 1, 2, 3, 0x80].map(second), [14, 14, 14, 13, 13]);
     // What goes on from each place.

@@ -1,6 +1,6 @@
-//! Lines by hand, on the second program alone.
+//! Lines by hand (request Fourteen).
 
-use super::*;
+use crate::text::*;
 
 /// A line of every form of operands, with its word.
 const LINES: [(u32, &str); 22] = [
