@@ -7,21 +7,16 @@
 //! `--suite lines` that of lines of assembler text alone. A reported
 //! difference names its suite, case and seed, which repeat it.
 
-mod bench;
+mod benchmark;
 mod boundaries;
-mod damage;
-mod float_examples;
-mod float_numbers;
 mod floats;
 mod images;
 mod larger;
 mod lent;
 mod library;
 mod moves;
-mod overlapping;
 mod powerup;
 mod random;
-mod renewed;
 mod rules;
 mod runs;
 mod salvage;
@@ -33,8 +28,6 @@ mod steps;
 mod suite;
 mod tally;
 mod text;
-mod transposed;
-mod words;
 
 use std::time::Instant;
 use suite::{Context, Outcome, Suite};
@@ -42,79 +35,79 @@ use suite::{Context, Outcome, Suite};
 const SUITES: [Suite; 99] = [
     ("bench sheet", sheet::bench_sheet),
     ("machine starts", starts::machine_starts),
-    ("codes", steps::codes),
-    ("all codes", words::all_codes),
-    ("rows", words::rows),
+    ("codes", steps::codes::codes),
+    ("all codes", steps::codes::all_codes),
+    ("rows", steps::codes::rows),
     ("boundaries", boundaries::boundaries),
-    ("random steps", steps::random_steps),
-    ("several faults", steps::several_faults),
-    ("renewed sizes", renewed::renewed_sizes),
-    ("asked sizes", rules::asked_sizes),
-    ("unknown rules", rules::unknown_rules),
-    ("transposed tiles", transposed::transposed_tiles),
-    ("overlapping rows", overlapping::overlapping_rows),
-    ("overlapping stores", overlapping::overlapping_stores),
-    ("float examples", floats::float_examples),
-    ("float specials", floats::float_specials),
-    ("wide floats", floats::wide_floats),
-    ("random floats", floats::random_floats),
-    ("whole floats", floats::whole_floats),
-    ("host floats", floats::host_floats),
-    ("permitted lengths", larger::permitted_machines),
-    ("mtypes", larger::mtypes_by_elen),
-    ("widths", larger::widths_by_elen),
-    ("64-bit products", larger::products_to_64),
-    ("64-bit elements", larger::element_wise_at_64),
-    ("wide tiles", larger::wide_tiles),
-    ("far elements", larger::far_elements),
-    ("larger steps", larger::larger_steps),
-    ("larger sizes", larger::larger_sizes),
+    ("random steps", steps::single::random_steps),
+    ("several faults", steps::single::several_faults),
+    ("renewed sizes", steps::renewed::renewed_sizes),
+    ("asked sizes", rules::sizes::asked_sizes),
+    ("unknown rules", rules::sizes::unknown_rules),
+    ("transposed tiles", steps::transposed::transposed_tiles),
+    ("overlapping rows", steps::overlapping::overlapping_rows),
+    ("overlapping stores", steps::overlapping::overlapping_stores),
+    ("float examples", floats::examples::float_examples),
+    ("float specials", floats::numbers::float_specials),
+    ("wide floats", floats::examples::wide_floats),
+    ("random floats", floats::numbers::random_floats),
+    ("whole floats", floats::numbers::whole_floats),
+    ("host floats", floats::numbers::host_floats),
+    ("permitted lengths", larger::lengths::permitted_machines),
+    ("mtypes", larger::elens::mtypes_by_elen),
+    ("widths", larger::elens::widths_by_elen),
+    ("64-bit products", larger::elements::products_to_64),
+    ("64-bit elements", larger::elements::element_wise_at_64),
+    ("wide tiles", larger::tiles::wide_tiles),
+    ("far elements", larger::tiles::far_elements),
+    ("larger steps", larger::tiles::larger_steps),
+    ("larger sizes", larger::tiles::larger_sizes),
     ("move boundaries", moves::boundaries::move_boundaries),
-    ("moves", moves::suites::moves),
-    ("far lines", moves::suites::far_lines),
-    ("moved out and back", moves::suites::out_and_back),
-    ("move lists", moves::suites::move_lists),
+    ("moves", moves::words::moves),
+    ("far lines", moves::words::far_lines),
+    ("moved out and back", moves::words::out_and_back),
+    ("move lists", moves::words::move_lists),
     ("section 6.1.7", moves::listing::listing_of_vectors),
     ("sealed ranges", seals::ranges::sealed_ranges),
     ("starts of ranges", seals::ranges::starts_of_ranges),
     ("damaged ranges", seals::damage::damaged_ranges),
     ("faulty seals", seals::damage::faulty_seals),
     ("added ranges", seals::added::added_ranges),
-    ("sequences", steps::sequences),
-    ("power-up words", powerup::power_up_words),
-    ("damaged steps", damage::damaged_steps),
-    ("empty slices", damage::empty_slices),
-    ("run starts", runs::suites::run_starts),
-    ("turns", runs::suites::turns),
-    ("disturbed turns", runs::suites::disturbed_turns),
-    ("overlapping turns", runs::suites::overlapping_turns),
-    ("whole runs", runs::suites::whole_runs),
-    ("both rules", runs::rules::both_rules),
-    ("unknown run rules", runs::rules::unknown_run_rules),
-    ("float runs", runs::floats::float_runs),
-    ("whole float runs", runs::floats::whole_float_runs),
-    ("power-up runs", runs::powerup::power_up_runs),
-    ("ranges of runs", runs::seals::ranges_of_runs),
-    ("ranges added to runs", runs::seals::ranges_added_to_runs),
-    ("largest sizes", runs::suites::largest_sizes),
-    ("larger products", runs::suites::larger_products),
-    ("larger runs", runs::larger::larger_runs),
-    ("64-bit runs", runs::larger::runs_to_64),
-    ("wide runs", runs::larger::wide_runs),
-    ("other ELENs", runs::larger::other_elens),
+    ("sequences", steps::sequences::sequences),
+    ("power-up words", powerup::words::power_up_words),
+    ("damaged steps", steps::damage::damaged_steps),
+    ("empty slices", steps::damage::empty_slices),
+    ("run starts", runs::turns::run_starts),
+    ("turns", runs::turns::turns),
+    ("disturbed turns", runs::turns::disturbed_turns),
+    ("overlapping turns", runs::turns::overlapping_turns),
+    ("whole runs", runs::whole::whole_runs),
+    ("both rules", rules::runs::both_rules),
+    ("unknown run rules", rules::runs::unknown_run_rules),
+    ("float runs", floats::runs::float_runs),
+    ("whole float runs", floats::runs::whole_float_runs),
+    ("power-up runs", powerup::runs::power_up_runs),
+    ("ranges of runs", seals::runs::ranges_of_runs),
+    ("ranges added to runs", seals::runs::ranges_added_to_runs),
+    ("largest sizes", runs::whole::largest_sizes),
+    ("larger products", runs::whole::larger_products),
+    ("larger runs", larger::runs::larger_runs),
+    ("64-bit runs", larger::runs::runs_to_64),
+    ("wide runs", larger::runs::wide_runs),
+    ("other ELENs", larger::runs::other_elens),
     ("wrong run lengths", runs::damage::wrong_run_lengths),
     ("forged runs", runs::damage::forged_runs),
     ("empty run slices", runs::damage::empty_run_slices),
-    ("images", images::images),
-    ("image versions", images::image_versions),
-    ("image heads", images::image_heads),
+    ("images", images::whole::images),
+    ("image versions", images::versions::image_versions),
+    ("image heads", images::versions::image_heads),
     ("image ranges", seals::images::image_ranges),
     ("handed on", seals::images::handed_on),
-    ("faulty images", images::faulty_images),
-    ("image buffers", images::image_buffers),
-    ("damaged images", images::damaged_images),
-    ("image numbers", images::image_numbers),
-    ("random images", images::random_images),
+    ("faulty images", images::whole::faulty_images),
+    ("image buffers", images::whole::image_buffers),
+    ("damaged images", images::damage::damaged_images),
+    ("image numbers", images::damage::image_numbers),
+    ("random images", images::damage::random_images),
     ("salvaged cuts", salvage::cuts::salvaged_cuts),
     ("salvaged machines", salvage::cuts::salvaged_machines),
     ("sound salvages", salvage::cuts::sound_salvages),
@@ -178,13 +171,13 @@ fn main() {
     };
     if arguments.bench {
         match arguments.suite.as_deref() {
-            Some("lines") => text::bench::bench(),
-            _ => bench::bench(),
+            Some("lines") => benchmark::lines::table(),
+            _ => benchmark::tables(),
         }
         return;
     }
     if arguments.speed {
-        std::process::exit(i32::from(!runs::bench::fast_enough()));
+        std::process::exit(i32::from(!benchmark::runs::fast_enough()));
     }
     if let Some(only) = &arguments.suite {
         if !SUITES.iter().any(|(name, _)| name == only) {

@@ -3,7 +3,7 @@
 use crate::lent::{differences, library_start, second_start, Lent};
 use crate::library;
 use crate::random::Random;
-use crate::states::{UNKNOWN_ELENS, UNKNOWN_RULES};
+use crate::states::machines::{UNKNOWN_ELENS, UNKNOWN_RULES};
 use crate::suite::{each_case, Context, Outcome};
 use crate::tally::{Call, Tally};
 use model::{Lengths, RULES};
@@ -98,7 +98,7 @@ fn length(random: &mut Random, right: usize) -> usize {
 
 /// Ranges: mostly one, else up to more than there can be; some are bad, and some lists
 /// have a number too many.
-fn any_numbers(random: &mut Random) -> Vec<u64> {
+fn numbers_of_ranges(random: &mut Random) -> Vec<u64> {
     let count = if random.chance(70) { 1 } else { random.below(12) };
     let mut numbers = Vec::new();
     for _ in 0..count {
@@ -115,7 +115,7 @@ fn any_numbers(random: &mut Random) -> Vec<u64> {
 }
 
 fn check_start(lengths: Lengths, random: &mut Random, tally: &mut Tally) -> Result<(), String> {
-    let numbers = any_numbers(random);
+    let numbers = numbers_of_ranges(random);
     let rule = match random.below(8) {
         0 => random.pick(&UNKNOWN_RULES),
         _ => random.pick(&RULES),

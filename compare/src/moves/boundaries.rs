@@ -3,10 +3,10 @@
 
 use super::reckoned::{rows_of_moves, Made, Move, Room};
 use crate::random::Random;
-use crate::states::{
-    any_row, any_scalar, good_case, larger_lengths, left_out_word, lengths, mtypes, set_size,
-    sizes_of_lines, UNKNOWN_GROUPS,
-};
+use crate::states::cases::{any_scalar, good_case};
+use crate::states::faults::UNKNOWN_GROUPS;
+use crate::states::machines::{larger_lengths, lengths, mtypes, set_size};
+use crate::states::words::{any_row, left_out_word, sizes_of_lines};
 use crate::suite::{each_case, Context, Outcome};
 use model::moves::Lines;
 use model::{maximum, Seals, Size, MILL};

@@ -2,7 +2,8 @@
 //! before request Eleven.
 
 use crate::random::Random;
-use crate::states::{any_row, good_case};
+use crate::states::cases::good_case;
+use crate::states::words::any_row;
 use crate::suite::{check_step, each_case, Context, Outcome};
 use model::MILL;
 

@@ -3,4 +3,4 @@
 pub mod boundaries;
 pub mod listing;
 pub mod reckoned;
-pub mod suites;
+pub mod words;

@@ -4,7 +4,9 @@
 
 use crate::lent::{packed, report, Lent};
 use crate::random::Random;
-use crate::states::{bench_of, group_start, lines_of, set_size, sizes_of_lines, Case};
+use crate::states::cases::{bench_of, Case};
+use crate::states::machines::set_size;
+use crate::states::words::{group_start, lines_of, sizes_of_lines};
 use crate::suite::check_answer;
 use crate::tally::Tally;
 use model::moves::{Lines, GROUPS};

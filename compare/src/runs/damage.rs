@@ -8,7 +8,9 @@ use crate::lent::{
 };
 use crate::library;
 use crate::random::Random;
-use crate::states::{any_machine, bench_of, lengths, wrong_length, UNKNOWN_ELENS, UNKNOWN_RULES};
+use crate::states::cases::bench_of;
+use crate::states::faults::wrong_length;
+use crate::states::machines::{any_machine, lengths, UNKNOWN_ELENS, UNKNOWN_RULES};
 use crate::suite::{each_case, Context, Outcome};
 use crate::tally::{Call, Tally};
 use model::{block_starts, maximum, Machine, Plan, Size, KINDS, RULES};

@@ -1,11 +1,7 @@
-//! Product runs: plans, suites and benchmark.
+//! Product runs: plans, both programs on a run, and suites.
 
-pub mod bench;
 pub mod damage;
-pub mod floats;
-pub mod larger;
+pub mod held;
 pub mod plans;
-pub mod powerup;
-pub mod rules;
-pub mod seals;
-pub mod suites;
+pub mod turns;
+pub mod whole;

@@ -1,12 +1,14 @@
 //! Seeded plans of product runs, with a bench to run them on.
 
-use crate::float_numbers::{any_style, number};
 use crate::lent::{machine_of, Lent};
 use crate::random::Random;
-use crate::states::{
-    any_machine, any_range, any_scalar, any_widths, bench_of, is_larger, lengths, number_of_ranges,
-    put_bench_fault, seals_with, wrapping_stride, SIZES, WIDTHS, WIDTHS_TO_64, WILD_STRIDES,
+use crate::states::cases::{any_scalar, bench_of, wrapping_stride, WILD_STRIDES};
+use crate::states::faults::put_bench_fault;
+use crate::states::float_numbers::{any_style, number};
+use crate::states::machines::{
+    any_machine, any_widths, is_larger, lengths, SIZES, WIDTHS, WIDTHS_TO_64,
 };
+use crate::states::ranges::{any_range, number_of_ranges, seals_with};
 use model::{maximum, Lengths, Machine, Matrix, Plan, Seal, Seals, Size, FLOAT, KINDS, PRODUCT};
 
 pub const UNKNOWN_KINDS: [u64; 6] = [3, 4, 258, 1 << 32, (1 << 63) + 2, u64::MAX];

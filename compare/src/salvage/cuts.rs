@@ -2,16 +2,16 @@
 //! the machine whose image it was, and from the bytes of the image alone.
 
 use super::held::{check, check_to, shown, Given, Subject};
-use crate::images::{
-    any_seal, check_read, check_write, long_groups, mark, other_buffers, sound_bench, PATTERNS,
-};
+use crate::images::damage::long_groups;
+use crate::images::held::{check_read, check_write};
+use crate::images::machines::{bench_with_ranges, mark, other_buffers, PATTERNS};
 use crate::lent::{second_image, state_text, Lent};
 use crate::library;
 use crate::random::Random;
-use crate::states::{larger_lengths, lengths};
+use crate::states::machines::{larger_lengths, lengths};
 use crate::suite::{each_case, Context, Outcome};
 use crate::tally::Tally;
-use model::{Lengths, Machine, Seal, Seals, HALVING, MOST_SEALS, RULES, SMALLER};
+use model::{Lengths, Machine, HALVING, MOST_SEALS, RULES, SMALLER};
 
 /// A machine's image, and where its parts end.
 pub struct Known {
@@ -120,16 +120,15 @@ impl Known {
 }
 
 /// A machine with these lengths, rule, number of ranges and pattern of marks.
-pub fn bench(
+pub fn bench_by_rule(
     random: &mut Random,
     lengths: Lengths,
     rule: u64,
     number: usize,
     pattern: u64,
 ) -> Lent {
-    let mut lent = sound_bench(random, lengths, pattern);
-    let list: Vec<Seal> = (0..number).map(|_| any_seal(random)).collect();
-    lent.set_machine(&Machine { rule, seals: Seals::of(&list), ..lent.machine() });
+    let mut lent = bench_with_ranges(random, lengths, number, pattern);
+    lent.set_machine(&Machine { rule, ..lent.machine() });
     lent
 }
 
@@ -139,7 +138,7 @@ const SMALL_AT_64: [Lengths; 4] = [(128, 256, 64), (128, 256, 64), (128, 256, 64
 
 /// A machine of each version in turn, with each pattern of marks, of few bytes; seldom a
 /// larger one, of few marks.
-pub fn small_bench(case: u64, random: &mut Random) -> Lent {
+pub fn bench_of_version(case: u64, random: &mut Random) -> Lent {
     let version = 1 + case % 4;
     let mut pattern = case / 4 % PATTERNS;
     let other_numbers = [0, 2, 3, 4, 5, 6, 7, 8];
@@ -158,7 +157,7 @@ pub fn small_bench(case: u64, random: &mut Random) -> Lent {
         3 => random.pick(&SMALL_AT_64),
         _ => random.pick(&[&SMALL[..], &SMALL_AT_64].concat()),
     };
-    bench(random, lengths, rule, number, pattern)
+    bench_by_rule(random, lengths, rule, number, pattern)
 }
 
 /// Images of every version, cut at every byte.
@@ -180,7 +179,7 @@ pub fn every_cut(
     random: &mut Random,
     tally: &mut Tally,
 ) -> Result<usize, String> {
-    let known = Known::of(small_bench(case, random));
+    let known = Known::of(bench_of_version(case, random));
     if u64::from(known.image[0]) != 1 + case % 4 {
         return Err(format!("another version is written: {}", shown(&known.image)));
     }
@@ -217,7 +216,7 @@ pub fn machine_case(
     let pattern = if way < 2 { 7 } else { random.below(PATTERNS) };
     let number = if way % 2 == 0 { 1 } else { random.below(MOST_SEALS as u64 + 1) as usize };
     let rule = random.pick(&RULES);
-    let mut lent = bench(random, lengths, rule, number, pattern);
+    let mut lent = bench_by_rule(random, lengths, rule, number, pattern);
     if lengths.1 > 8192 && way > 0 {
         // Fewer marks, since the second program takes its time.
         let total = lent.marks.len();
@@ -264,13 +263,13 @@ pub fn sound_case(
     tally: &mut Tally,
 ) -> Result<(), String> {
     let lent = match case % 3 {
-        0 => small_bench(case / 3, random),
+        0 => bench_of_version(case / 3, random),
         _ => {
             let lengths = lengths(random);
             let pattern = random.below(PATTERNS);
             let number = random.below(MOST_SEALS as u64 + 1) as usize;
             let rule = random.pick(&RULES);
-            let mut lent = bench(random, lengths, rule, number, pattern);
+            let mut lent = bench_by_rule(random, lengths, rule, number, pattern);
             mark(random, 12, lengths.1, &mut lent.marks);
             lent
         }

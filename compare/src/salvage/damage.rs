@@ -1,9 +1,10 @@
 //! Images that are damaged in other ways than by a cut, bytes that are no image, and other
 //! lengths of room and report.
 
-use super::cuts::{bench, Known};
+use super::cuts::{bench_by_rule, Known};
 use super::held::{check_damaged, check_to, Given, Subject};
-use crate::images::{damages, long_groups, numbers, other_number, small_image};
+use crate::images::damage::{damages, long_groups, renumbered, splice};
+use crate::images::machines::small_image;
 use crate::lent::hex;
 use crate::library;
 use crate::random::Random;
@@ -37,19 +38,28 @@ impl Met {
     }
 }
 
-/// Small images with each byte changed, put in twice, preceded by another and left out, with
-/// bytes behind their end, and with several of these at once.
-pub fn salvaged_damage(context: &mut Context) -> Outcome {
-    let count = 60 * context.scale;
+/// A case of these suites, on any salvage.
+type Counted = fn(Subject, u64, &mut Random, &mut Tally, &mut Met) -> Result<(), String>;
+
+/// Cases on the library, and how often an image was salvaged whole, with fewer runs and not.
+fn counted(context: &mut Context, suite: &str, count: u64, check: Counted) -> Outcome {
+    let count = count * context.scale;
     let mut met = Met::default();
-    let cases = each_case(context, "salvaged damage", count, |_, random, tally| {
-        damage_case(library::image_salvage, random, tally, &mut met)
+    let cases = each_case(context, suite, count, |case, random, tally| {
+        check(library::image_salvage, case, random, tally, &mut met)
     })?;
     met.summary(context, cases)
 }
 
+/// Small images with each byte changed, put in twice, preceded by another and left out, with
+/// bytes behind their end, and with several of these at once.
+pub fn salvaged_damage(context: &mut Context) -> Outcome {
+    counted(context, "salvaged damage", 60, damage_case)
+}
+
 pub fn damage_case(
     subject: Subject,
+    _: u64,
     random: &mut Random,
     tally: &mut Tally,
     met: &mut Met,
@@ -86,12 +96,7 @@ pub fn damage_case(
 /// An image of each version, with every value of each byte of its header, and with every
 /// number of runs up to beyond the most.
 pub fn salvaged_heads(context: &mut Context) -> Outcome {
-    let count = 4 * context.scale;
-    let mut met = Met::default();
-    let cases = each_case(context, "salvaged heads", count, |case, random, tally| {
-        head_case(library::image_salvage, case, random, tally, &mut met)
-    })?;
-    met.summary(context, cases)
+    counted(context, "salvaged heads", 4, head_case)
 }
 
 pub fn head_case(
@@ -105,7 +110,7 @@ pub fn head_case(
     let lengths = if case % 4 == 2 { (128, 256, 64) } else { (64, 128, 32) };
     let rule = [SMALLER, HALVING, HALVING, SMALLER][case as usize % 4];
     let number = if case % 4 == 3 { random.pick(&[0, 2, 3]) } else { 1 };
-    let mut lent = bench(random, lengths, rule, number, 12);
+    let mut lent = bench_by_rule(random, lengths, rule, number, 12);
     lent.marks[60..].fill(0);
     lent.marks[random.range(0, 59) as usize] = 1;
     let Known { image, count_at, header_end, ends, .. } = Known::of(lent);
@@ -143,12 +148,7 @@ pub fn head_case(
 /// Images in which a number is another one or not in its shortest form; every second one is cut
 /// as well.
 pub fn salvaged_numbers(context: &mut Context) -> Outcome {
-    let count = 10_000 * context.scale;
-    let mut met = Met::default();
-    let cases = each_case(context, "salvaged numbers", count, |case, random, tally| {
-        number_case(library::image_salvage, case, random, tally, &mut met)
-    })?;
-    met.summary(context, cases)
+    counted(context, "salvaged numbers", 10_000, number_case)
 }
 
 pub fn number_case(
@@ -158,21 +158,8 @@ pub fn number_case(
     tally: &mut Tally,
     met: &mut Met,
 ) -> Result<(), String> {
-    let numbers = numbers(&parts(&small_image(random)).expect("a sound image"));
-    let changed = random.below(numbers.len() as u64) as usize;
-    let mut image = Vec::new();
-    for (index, (number, most, mut bytes)) in numbers.into_iter().enumerate() {
-        let (mut put, mut more) = (number as u128, 0);
-        if index == changed {
-            (put, more) = other_number(random, number, most);
-            if !bytes.is_empty() && random.chance(80) {
-                // As many bytes as the run then has.
-                bytes.resize(put.min(3000) as usize, 7);
-            }
-        }
-        image.extend(long_groups(put, more));
-        image.extend(bytes);
-    }
+    let sound = parts(&small_image(random)).expect("a sound image");
+    let mut image = renumbered(random, &sound);
     if case % 2 == 1 {
         image.truncate(random.below(image.len() as u64 + 1) as usize);
     }
@@ -183,12 +170,7 @@ pub fn number_case(
 /// Arbitrary bytes, alone or behind the beginning of an image, and the beginning of one image
 /// before the end of another.
 pub fn salvaged_strings(context: &mut Context) -> Outcome {
-    let count = 10_000 * context.scale;
-    let mut met = Met::default();
-    let cases = each_case(context, "salvaged strings", count, |case, random, tally| {
-        string_case(library::image_salvage, case, random, tally, &mut met)
-    })?;
-    met.summary(context, cases)
+    counted(context, "salvaged strings", 10_000, string_case)
 }
 
 pub fn string_case(
@@ -211,12 +193,7 @@ pub fn string_case(
             let small = random.pick(&[2, 3, 8, 128, 255]);
             image.extend(random.bytes(length).iter().map(|byte| byte % small));
         }
-        _ => {
-            let other = small_image(random);
-            let at = random.below(image.len().min(other.len()) as u64) as usize;
-            image.truncate(at);
-            image.extend(&other[at..]);
-        }
+        _ => splice(random, &mut image),
     }
     met.count(&check_damaged(subject, &image, random, tally)?);
     Ok(())

@@ -1,7 +1,8 @@
 //! The salvage of an image, held to the second program. Each lent buffer lies between
 //! other bytes, which show what is written beside it.
 
-use crate::images::{no_buffers, result_text};
+use crate::images::held::result_text;
+use crate::images::machines::no_buffers;
 use crate::lent::{
     bytes_to_words, differences, hex, library_image_read, second_image_read, second_salvage,
 };

@@ -3,17 +3,20 @@
 
 use super::cuts::Known;
 use super::held::{check_damaged, Given, Subject};
-use crate::images::{damages, mark, other_buffers, result_text, PATTERNS};
+use crate::images::damage::damages;
+use crate::images::held::result_text;
+use crate::images::machines::{mark, other_buffers, PATTERNS};
 use crate::lent::{
     library_image_read, library_image_write, library_step, machine_of, packed, report,
     second_image, second_image_read, second_salvage, second_step, Lent,
 };
 use crate::library;
 use crate::random::Random;
+use crate::runs::held::{check_run, start_both};
 use crate::runs::plans::plan_around;
-use crate::runs::suites::{check_run, start_both};
-use crate::states::{bad_word, lengths};
-use crate::steps::following_word;
+use crate::states::machines::lengths;
+use crate::states::words::bad_word;
+use crate::steps::sequences::following_word;
 use crate::suite::{each_case, Context, Outcome};
 use crate::tally::Tally;
 use model::images::parts;

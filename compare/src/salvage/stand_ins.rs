@@ -132,17 +132,17 @@ fn stand_in<const AT: usize>(image: &mut [u8], room: &mut [u8], report: &mut [u8
 }
 
 /// A case of a suite, on any salvage.
-type Case = fn(Subject, u64, &mut Random, &mut Tally) -> Result<(), String>;
+type Check = fn(Subject, u64, &mut Random, &mut Tally) -> Result<(), String>;
 
 /// The suites, and how many of their cases each stand-in is given.
-const SUITES: [(&str, u64, Case); 10] = [
+const SUITES: [(&str, u64, Check); 10] = [
     ("salvaged cuts", 8, |subject, case, random, tally| {
         every_cut(subject, case, random, tally).map(|_| ())
     }),
     ("salvaged machines", 20, machine_case),
     ("sound salvages", 30, sound_case),
-    ("salvaged damage", 3, |subject, _, random, tally| {
-        damage_case(subject, random, tally, &mut Default::default())
+    ("salvaged damage", 3, |subject, case, random, tally| {
+        damage_case(subject, case, random, tally, &mut Default::default())
     }),
     ("salvaged heads", 1, |subject, case, random, tally| {
         head_case(subject, case, random, tally, &mut Default::default())

@@ -8,7 +8,10 @@ use crate::lent::{
 use crate::library;
 use crate::random::Random;
 use crate::runs::plans::small_plan;
-use crate::states::{any_machine, bad_range, bench_of, lengths, put_bench_fault, BAD_NUMBERS};
+use crate::states::cases::bench_of;
+use crate::states::faults::put_bench_fault;
+use crate::states::machines::{any_machine, lengths};
+use crate::states::ranges::{bad_range, BAD_NUMBERS};
 use crate::suite::{check_seal, check_step, each_case, Context, Outcome};
 use crate::tally::{Call, Tally};
 use model::{Machine, Plan, Seal, Seals, MOST_SEALS};
@@ -18,31 +21,31 @@ type Desk = (Lent, Vec<u8>);
 
 /// Every damage: a number above eight, each place beyond the number with a start or a
 /// length, and a bad range at each place.
-fn damages() -> Vec<(usize, fn(&mut Random, &mut Seals, usize))> {
-    let mut damages: Vec<(usize, fn(&mut Random, &mut Seals, usize))> = Vec::new();
+fn ways_of_damage() -> Vec<(usize, fn(&mut Random, &mut Seals, usize))> {
+    let mut ways: Vec<(usize, fn(&mut Random, &mut Seals, usize))> = Vec::new();
     for at in 0..BAD_NUMBERS.len() {
-        damages.push((at, |_, seals, at| seals.number = BAD_NUMBERS[at]));
+        ways.push((at, |_, seals, at| seals.number = BAD_NUMBERS[at]));
     }
     for at in 0..MOST_SEALS {
-        damages.push((at, |random, seals, at| seals.ranges[at].0 = 1 << random.below(64)));
-        damages.push((at, |random, seals, at| seals.ranges[at].1 = 1 << random.below(64)));
-        damages.push((at, |random, seals, at| {
+        ways.push((at, |random, seals, at| seals.ranges[at].0 = 1 << random.below(64)));
+        ways.push((at, |random, seals, at| seals.ranges[at].1 = 1 << random.below(64)));
+        ways.push((at, |random, seals, at| {
             seals.number = seals.number.max(at as u64 + 1);
             seals.ranges[at] = bad_range(random);
         }));
         // One range less, which is still there.
-        damages.push((at, |_, seals, at| {
+        ways.push((at, |_, seals, at| {
             seals.ranges[at] = (0, 1);
             seals.number = at as u64;
         }));
     }
-    damages
+    ways
 }
 
 /// Each damage on machines of every number of ranges that it can have: 8 in each call,
 /// and nothing changes. The same calls are done before the damage.
 pub fn damaged_ranges(context: &mut Context) -> Outcome {
-    let damages = damages();
+    let damages = ways_of_damage();
     let count = (damages.len() * (MOST_SEALS + 1)) as u64 * context.scale;
     let mut refused = 0;
     let cases = each_case(context, "damaged ranges", count, |case, random, tally| {

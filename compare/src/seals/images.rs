@@ -1,24 +1,21 @@
 //! Images of version 4: every number of ranges but one, on every machine.
 
-use crate::images::{
-    any_seal, check_damaged, check_handed_over, check_read, long_groups, no_buffers, other_buffers,
-    result_text, sound_bench, written,
-};
+use crate::images::damage::{check_damaged, long_groups};
+use crate::images::held::{check_handed_over, check_read, result_text, written};
+use crate::images::machines::{bench_with_ranges, no_buffers, other_buffers};
 use crate::lent::{hex, library_image_read, library_step, state_text, Lent};
-use crate::powerup::{word_list, Met, Pair, Side};
+use crate::powerup::pairs::{Met, Pair, Side};
+use crate::powerup::words::word_list;
 use crate::random::Random;
-use crate::states::{lengths, usual_lengths};
+use crate::states::machines::{lengths, usual_lengths};
 use crate::suite::{each_case, Context, Outcome};
 use crate::tally::Tally;
 use model::{Lengths, Machine, Seal, Seals, MOST_SEALS};
 
 /// A machine with this number of ranges, and a pattern of few marks.
-fn bench_with(random: &mut Random, lengths: Lengths, number: usize) -> Lent {
+fn bench_with_few_marks(random: &mut Random, lengths: Lengths, number: usize) -> Lent {
     let pattern = random.pick(&[0, 2, 3, 4]);
-    let mut lent = sound_bench(random, lengths, pattern);
-    let list: Vec<Seal> = (0..number).map(|_| any_seal(random)).collect();
-    lent.set_machine(&Machine { seals: Seals::of(&list), ..lent.machine() });
-    lent
+    bench_with_ranges(random, lengths, number, pattern)
 }
 
 /// The bytes of version 4 before the number of ranges, and from that number on up to the
@@ -46,7 +43,7 @@ pub fn image_ranges(context: &mut Context) -> Outcome {
     let mut places = 0;
     let cases = each_case(context, "image ranges", count, |case, random, tally| {
         let (lengths, number) = (machines[case as usize / numbers], case as usize % numbers);
-        let lent = bench_with(random, lengths, number);
+        let lent = bench_with_few_marks(random, lengths, number);
         let image = written(&lent, random, tally)?;
         check_handed_over(&lent, &image, random, tally)?;
         let (front, ranges) = front_and_ranges(&lent.machine());
@@ -128,7 +125,7 @@ pub fn handed_on(context: &mut Context) -> Outcome {
         let number = case as usize % (MOST_SEALS + 1);
         let lengths =
             if random.chance(80) { random.pick(&usual_lengths()) } else { lengths(random) };
-        let mut lent = bench_with(random, lengths, number);
+        let mut lent = bench_with_few_marks(random, lengths, number);
         let memory = random.bytes(1500);
         lent.memory = memory.clone();
         // Ranges that words meet.

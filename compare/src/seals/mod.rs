@@ -5,6 +5,7 @@ pub mod added;
 pub mod damage;
 pub mod images;
 pub mod ranges;
+pub mod runs;
 
 use crate::random::Random;
 use model::Seal;
@@ -16,7 +17,7 @@ pub fn meets((start, length): Seal, row: i128, row_bytes: i128) -> bool {
 }
 
 /// Some range with bytes from `low` on and before `high`, or with none.
-pub fn within(random: &mut Random, low: u64, high: u64) -> Seal {
+pub fn range_within(random: &mut Random, low: u64, high: u64) -> Seal {
     let start = random.range(low, high);
     (start, random.range(0, high - start))
 }

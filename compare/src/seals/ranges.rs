@@ -1,13 +1,16 @@
 //! Stores against each of eight ranges, and starts with as many ranges as there can be
 //! and more.
 
-use super::{meets, within};
-use crate::boundaries::{is_store, machine_for, moving_on};
+use super::{meets, range_within};
+use crate::boundaries::memory::moving_on;
+use crate::boundaries::rows::{is_store, machine_for};
 use crate::lent::{numbers_of, state_text, Lent};
 use crate::library;
 use crate::random::Random;
 use crate::starts::check_started;
-use crate::states::{bad_range, lengths, wrong_length, UNKNOWN_ELENS, UNKNOWN_RULES};
+use crate::states::faults::wrong_length;
+use crate::states::machines::{lengths, UNKNOWN_ELENS, UNKNOWN_RULES};
+use crate::states::ranges::bad_range;
 use crate::suite::{check_seal, check_step, each_case, Context, Outcome};
 use model::{Machine, Row, Seal, Seals, LISTING, MOST_SEALS, RULES};
 
@@ -110,13 +113,13 @@ pub fn sealed_ranges(context: &mut Context) -> Outcome {
 /// A range that holds no stored byte: before the rows, in a gap, after them, or empty.
 fn beside(random: &mut Random, step: u64, rows: u64, high: u64) -> Seal {
     match random.below(5) {
-        0 => within(random, 0, GAP),
-        1 => within(random, high + 1, high + 100),
+        0 => range_within(random, 0, GAP),
+        1 => range_within(random, high + 1, high + 100),
         2 => (high + 1 + random.below(40), 1 << random.below(63)),
         3 => (random.below(high), 0),
         _ => {
             let row = GAP + step * random.below(rows);
-            within(random, row + step - GAP, row + step)
+            range_within(random, row + step - GAP, row + step)
         }
     }
 }

@@ -1,6 +1,6 @@
 //! Lines that are damaged, cut, or put together of two.
 
-use super::held::{check_line, check_line_to, word_of_row, word_with_line};
+use super::held::{check_line, check_line_to, word_with_line, word_with_line_of};
 use crate::suite::{each_case, Context, Outcome};
 use crate::tally::Tally;
 use model::text::line_of;
@@ -13,7 +13,7 @@ pub fn damaged_lines(context: &mut Context) -> Outcome {
     let mut changed = 0u64;
     let outcome = each_case(context, "damaged lines", cases, |case, random, tally| {
         let name = LISTING[case as usize % LISTING.len()].name;
-        let line = line_of(word_of_row(random, name)).expect("a line").into_bytes();
+        let line = line_of(word_with_line_of(random, name)).expect("a line").into_bytes();
         for at in 0..line.len() {
             changed += changes(&line, at, tally)?;
         }
@@ -58,7 +58,7 @@ pub fn cut_lines(context: &mut Context) -> Outcome {
     let cases = 600 * context.scale;
     each_case(context, "cut lines", cases, |case, random, tally| {
         let name = LISTING[case as usize % LISTING.len()].name;
-        let line = line_of(word_of_row(random, name)).expect("a line").into_bytes();
+        let line = line_of(word_with_line_of(random, name)).expect("a line").into_bytes();
         let other = line_of(word_with_line(random)).expect("a line").into_bytes();
         for at in 0..=line.len() {
             check_line(&line[..at], tally)?;
@@ -97,7 +97,7 @@ pub fn numbers_of_lines(context: &mut Context) -> Outcome {
     let names = ["x", "tr", "acc", "v", "", "X", "t", "a", "ac", "accq", "(x", "m"];
     each_case(context, "numbers of lines", LISTING.len() as u64, |case, random, tally| {
         let name = LISTING[case as usize].name;
-        let line = line_of(word_of_row(random, name)).expect("a line");
+        let line = line_of(word_with_line_of(random, name)).expect("a line");
         let start = name.len() + 1;
         let operands: Vec<&str> = line[start..].split(", ").collect();
         for (at, operand) in operands.iter().enumerate() {

@@ -3,7 +3,7 @@
 
 use crate::library;
 use crate::random::Random;
-use crate::states::any_operands;
+use crate::states::words::any_operands;
 use crate::tally::Tally;
 use model::text::{line_of, read_line, write_line};
 use model::LISTING;
@@ -82,7 +82,7 @@ pub fn check_word(word: u32, tally: &mut Tally) -> Result<(), String> {
 }
 
 /// A word with a line, of a row.
-pub fn word_of_row(random: &mut Random, name: &'static str) -> u32 {
+pub fn word_with_line_of(random: &mut Random, name: &'static str) -> u32 {
     loop {
         let word = any_operands(random, name);
         if model::decode(word).is_ok() {
@@ -102,7 +102,7 @@ pub fn word_of_row(random: &mut Random, name: &'static str) -> u32 {
 /// A word with a line, of any row.
 pub fn word_with_line(random: &mut Random) -> u32 {
     let row = &LISTING[random.below(LISTING.len() as u64) as usize];
-    word_of_row(random, row.name)
+    word_with_line_of(random, row.name)
 }
 
 /// A text as it is printed in a report.

@@ -1,7 +1,6 @@
 //! Lines of assembler text (request Fourteen): suites of the C functions and of the two
 //! programs.
 
-pub mod bench;
 pub mod damage;
 pub mod held;
 pub mod lines;

@@ -30,7 +30,7 @@ pub fn folder() -> Result<String, String> {
 }
 
 /// All that a program writes.
-pub fn written(program: Program, input: &[u8]) -> Result<Vec<u8>, String> {
+pub fn output(program: Program, input: &[u8]) -> Result<Vec<u8>, String> {
     let path = format!("{}/{}", folder()?, program.name);
     let said = |error: std::io::Error| format!("{path}: {error}");
     let mut child =
@@ -49,7 +49,7 @@ pub fn written(program: Program, input: &[u8]) -> Result<Vec<u8>, String> {
 
 /// One input on a program and on the second one.
 pub fn check_input(of: Program, input: &[u8], tally: &mut Tally) -> Result<(), String> {
-    let given = written(of, input)?;
+    let given = output(of, input)?;
     let expected = program(of.turn, input);
     if given == expected.as_bytes() {
         if input.len() > MOST_INPUT {
@@ -193,9 +193,9 @@ pub fn there_and_back(context: &mut Context) -> Outcome {
             input.push(b'\n');
         }
         check_input(first, &input, tally)?;
-        let between = written(first, &input)?;
+        let between = output(first, &input)?;
         check_input(second, &between, tally)?;
-        if written(second, &between)? != input {
+        if output(second, &between)? != input {
             return Err(format!("{} and {} leave another text", first.name, second.name));
         }
         Ok(())
@@ -214,11 +214,11 @@ pub fn every_word_listed(context: &mut Context) -> Outcome {
         let input: String = words.map(|word| format!("{word:08x}\n")).collect();
         check_input(DISASSEMBLE, input.as_bytes(), tally)?;
         let text =
-            String::from_utf8(written(DISASSEMBLE, input.as_bytes())?).map_err(|_| "no text")?;
+            String::from_utf8(output(DISASSEMBLE, input.as_bytes())?).map_err(|_| "no text")?;
         let pairs = input.lines().zip(text.lines()).filter(|pair| !pair.1.starts_with("answer"));
         let (words, lines): (Vec<&str>, Vec<&str>) = pairs.unzip();
         for (words, lines) in words.chunks(1900).zip(lines.chunks(1900)) {
-            let back = written(ASSEMBLE, lines.join("\n").as_bytes())?;
+            let back = output(ASSEMBLE, lines.join("\n").as_bytes())?;
             if back != (words.join("\n") + "\n").as_bytes() {
                 return Err(format!(
                     "the lines of {} to {} do not give them back",
