@@ -83,7 +83,8 @@ use Rattle.image_calls.specs.ImageCalls.{hostImageSize, writtenOut, hostImageWr
 use Rattle.salvage_calls.specs.SalvageCalls.{salvagedOut, hostSalvage}
 use Rattle.salvage_calls.specs.Theorems.{reported}
 use Rattle.text_calls.specs.TextCalls.{textOut, hostWordText, wordLeft, hostTextWord}
-use Rattle.blocks.specs.Blocks.{valuesOf, packed}
+use Rattle.blocks.specs.Blocks.{machineOf, valuesOf, putValues, putNumbers, packed}
+use Rattle.run_blocks.specs.RunBlocks.{runOf}
 use Rattle.calls.specs.Calls.{Buffers, buffers, Call, called, calls}
 use Rattle.calls.specs.Composed.{afterCalls, turnCalls, zeros, benchIn, afterTurnCalls}
 use Rattle.powerup.specs.Steps.{AlikeBenches, SameOutcome, EachSame, outcomes, outcomesGiven}
@@ -201,6 +202,10 @@ planAt c = record {
 abbrev pub plan : Plan
 plan = planAt 150
 
+-- of no row
+abbrev pub noRows : Plan
+noRows = record { kind = 1; sew = 16; factor = 2; m = 0; k = 5; n = 10; a = plan .a; b = plan .b; c = plan .c }
+
 abbrev pub runAt : Place → Run
 runAt p = record { plan = plan; rlen = 128; mlen = 512; rule = 1; elen = 64; place = p }
 
@@ -238,8 +243,12 @@ unfoldable pub numbers : List ℕ → List ℕ
 numbers [] = []
 numbers (n ∷ ns) = n % 256 ∷ n / 256 ∷ (replicate 6 0 ++ numbers ns)
 
+-- a machine's block, with this mtype and these sizes, and with these ranges behind the first
+unfoldable pub blockOf : (mtype tileM tileK tileN : ℕ) → (ranges : List ℕ) → List ℕ
+blockOf mtype tileM tileK tileN ranges = numbers (128 ∷ 512 ∷ mtype ∷ tileM ∷ tileK ∷ tileN ∷ 40 ∷ 8 ∷ 1 ∷ 64 ∷ ranges)
+
 unfoldable pub block : List ℕ
-block = numbers (128 ∷ 512 ∷ 9 ∷ 3 ∷ 2 ∷ 5 ∷ 40 ∷ 8 ∷ 1 ∷ 64 ∷ 3 ∷ 60 ∷ 4 ∷ 90 ∷ 2 ∷ replicate 10 0)
+block = blockOf 9 3 2 5 (3 ∷ 60 ∷ 4 ∷ 90 ∷ 2 ∷ replicate 10 0)
 
 unfoldable pub scalarBlock : List ℕ
 scalarBlock = numbers (xs 100 8)
@@ -750,6 +759,35 @@ pub record Computed : Type 0 where
   pub written-is : writeImage (machineBy 1) sealed3 regs spots (room 30) ≡ written Done 27 (image ++ room 3)
   -- image, registers and marks of one that is read: bytes 69 to 73, of which three are in the image, and the marks
   pub read-is : (take 5 (drop 69 (readImage image regs′ allMarks .registers)) ≡ 9 ∷ 70 ∷ 71 ∷ 72 ∷ 9 ∷ []) × (readImage image regs′ allMarks .marks ≡ spots)
+  -- of the C functions each buffer, and each number; blocks that are written whole held 9 before
+  pub host-start : hostStart 128 512 64 1 seals (room 200) regs allMarks ≡ startedOut 0 (blockOf 0 0 0 0 (3 ∷ 60 ∷ 4 ∷ 90 ∷ 2 ∷ replicate 10 0)) regs (replicate 1024 0)
+  -- msbte16.m tr3, (x10), x11: element (1, 4); mmvcc.v.m v4, acc1, x10: columns 1 and 2 of three rows, to v4 and v5
+  pub host-step : let o = hostStep msbte16 2 block regs allMarks scalarBlock mem file in
+      (o .result ≡ 0) × (o .machine ≡ block) × (o .registers ≡ regs) × (o .marks ≡ allMarks) × (o .scalars ≡ scalarBlock) × (getD (o .memory) 135 0 ≡ 217) × (o .file ≡ file)
+  pub host-move : let o = hostStep mmvccOut 2 block regs allMarks (numbers (xs 1 0)) mem file in
+      (o .memory ≡ mem) × (take 6 (drop 64 (o .file)) ≡ 2 ∷ 3 ∷ 66 ∷ 67 ∷ 130 ∷ 131 ∷ []) × (take 6 (drop 80 (o .file)) ≡ 4 ∷ 5 ∷ 68 ∷ 69 ∷ 132 ∷ 133 ∷ [])
+  pub host-seal : hostSeal 355 3 block regs allMarks ≡ sealedOut 0 (blockOf 9 3 2 5 (4 ∷ 60 ∷ 4 ∷ 90 ∷ 2 ∷ 355 ∷ 3 ∷ replicate 8 0)) regs allMarks
+  pub host-run-start : hostRunStart plan block regs allMarks mem (runBlock 8 3 5 0) ≡ runStartedOut 0 block regs allMarks mem (runBlock 0 0 0 0)
+  -- the store of the last block: msce32.m acc0, (x10), x11 with 290 and 40
+  pub host-next : hostNext (runBlock 8 3 5 0) report ≡ nextOut 0 (runBlock 9 0 0 0) (119 ∷ 32 ∷ 181 ∷ 2 ∷ 0 ∷ 0 ∷ 0 ∷ 0 ∷ numbers (290 ∷ 40 ∷ []))
+  -- SEW 16 is set
+  pub host-turn : hostTurn (runBlock 0 0 0 0) block regs nearly mem ≡ turnedOut 0 (runBlock 1 0 0 0) (blockOf 1 3 2 5 (3 ∷ 60 ∷ 4 ∷ 90 ∷ 2 ∷ replicate 10 0)) regs nearly mem
+  pub host-turns : hostTurns 1 (runBlock 0 0 0 0) block regs nearly mem ≡ turnedOut 1 (runBlock 1 0 0 0) (blockOf 1 3 2 5 (3 ∷ 60 ∷ 4 ∷ 90 ∷ 2 ∷ replicate 10 0)) regs nearly mem
+  -- with no row: a run of that one step
+  pub host-run : hostRun noRows block regs nearly mem (room 8) ≡ ranOut 0 (blockOf 1 3 2 5 (3 ∷ 60 ∷ 4 ∷ 90 ∷ 2 ∷ replicate 10 0)) regs nearly mem (numbers (1 ∷ []))
+  pub host-image-size : hostImageSize block regs spots ≡ 27 * 2 ^ 16
+  pub host-image-write : hostImageWrite block regs spots (room 30) ≡ writtenOut (27 * 2 ^ 16) (image ++ room 3)
+  pub host-image-read : hostImageRead image (room 200) (room 1024) allMarks ≡ readOut 0 block regs′ spots
+  pub host-salvage : hostSalvage cut (room 30) report ≡ salvagedOut (22 * 2 ^ 16) (take 16 image ++ (1 ∷ 70 ∷ 3 ∷ 70 ∷ 71 ∷ 72 ∷ room 8)) (numbers (1 ∷ 2 ∷ 26 ∷ []))
+  pub host-word-text : hostWordText mlbte16 (room 32) ≡ textOut (25 * 2 ^ 16) (text ++ room 7)
+  pub host-text-word : hostTextWord text (room 8) ≡ wordLeft 0 (247 ∷ 17 ∷ 181 ∷ 24 ∷ 0 ∷ 0 ∷ 0 ∷ 0 ∷ [])
+  -- numbers in blocks
+  pub machine-read : machineOf block ≡ machineBy 1
+  pub scalars-read : valuesOf (numbers (xs 5 6)) ≡ xs 5 6
+  pub scalars-put : putValues (xs 5 6) (room 256) ≡ numbers (xs 5 6)
+  pub numbers-put : putNumbers (1 ∷ 2 ∷ []) (room 17) ≡ numbers (1 ∷ 2 ∷ []) ++ (9 ∷ [])
+  pub run-read : runOf (runBlock 8 3 5 0) ≡ runAt (AtStore 3 5)
+  pub packed-is : packed (record { number = 5; row = 1; column = 4 }) ≡ 5 + 1 * 2 ^ 16 + 4 * 2 ^ 32
 
 pub record Instances : Type 1 where
   pub demand-1 : Demand1
