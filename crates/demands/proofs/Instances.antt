@@ -77,14 +77,14 @@ use Rattle.demands.specs.Demand2.{readBench, Made, MadeInC}
 use Rattle.numbers_format.specs.Numbers as Images
 use Rattle.run.specs.Statement as Statement
 use Rattle.run.specs.Sheet as Sheet
-use Rattle.demands.specs.Instances.{counting, regs, allMarks, nearly, spots, regs′, mem, seals, sealed3, nine, machineBy, held, full, holed, spotted, spotted′, fresh, xs, file, lent, planAt, plan, runAt, stuck, halves, image, cut, cutEarly, room, report, numbers, block, scalarBlock, runBlock, hostWith, host, spottedHost, spottedHost′, otherHost, stuckHost, shortHost, scantHost, msettileki, mlbe16, mlbte16, msbte16, msce32, mqma, mfwma, mmvccOut, mmvccIn, given, words7, sessionOn, acts7, calls7, pair, columns, floatMem, floatPlan, floatBench, numberAndBytes, text, badText, RunIsRight, CallsAreRight, StartsAreRight, ManyAreRight, WholeIsRight, EveryCallAnswers, Demand2, Demand3, Refusals, Words, Runs, Requests, Results, Computed, Instances}
+use Rattle.demands.specs.Instances.{counting, regs, allMarks, nearly, spots, regs′, mem, seals, sealed3, nine, machineBy, held, full, holed, spotted, spotted′, fresh, xs, file, lent, planAt, plan, runAt, stuck, halves, image, cut, cutEarly, room, report, numbers, blockOf, block, scalarBlock, runBlock, hostWith, host, spottedHost, spottedHost′, otherHost, stuckHost, shortHost, scantHost, msettileki, mlbe16, mlbte16, msbte16, msce32, mqma, mfwma, mmvccOut, mmvccIn, given, words7, sessionOn, acts7, calls7, pair, columns, floatMem, floatPlan, floatBench, numberAndBytes, text, badText, RunIsRight, CallsAreRight, StartsAreRight, ManyAreRight, WholeIsRight, EveryCallAnswers, Demand2, Demand3, Refusals, Words, Runs, Requests, Results, Computed, Instances}
 use Rattle.demands.proofs.Promise.{promise}
 
 -- ---- what is computed with
 
 -- the data, and a machine's numbers
 data-is : Unit {0}
-unfolding counting regs allMarks nearly spots regs′ mem xs file numbers block scalarBlock runBlock
+unfolding counting regs allMarks nearly spots regs′ mem xs file numbers blockOf block scalarBlock runBlock
 data-is = tt
 
 -- a start, a step, a sealing
@@ -792,7 +792,7 @@ of-demand-2 = record {
 }
 
 of-demand-3 : Demand3
-unfolding block numbers runBlock
+unfolding blockOf block numbers runBlock
 of-demand-3 = record {
   runs = run-right chosen 1 (λ P. promise .demand-3 .runs P (benchBy 1) mem-bytes) rule1 rule1-refused;
   every-choice = run-right halves 0 (λ P. promise .demand-3 .every-choice halves (λ rule. promise .runs .rules 1) P (benchBy 0) mem-bytes) halves0 halves0-refused;
@@ -809,8 +809,34 @@ of-demand-3 = record {
 -- ---- computed
 
 of-computed : Computed
-unfolding image-is
-of-computed = record { started = (refl, refl); sized-is = refl; written-is = refl; read-is = (refl, refl) }
+unfolding host-is line-is
+of-computed = record {
+  started = (refl, refl);
+  sized-is = refl;
+  written-is = refl;
+  read-is = (refl, refl);
+  host-start = refl;
+  host-step = (refl, refl, refl, refl, refl, refl, refl);
+  host-move = (refl, refl, refl);
+  host-seal = refl;
+  host-run-start = refl;
+  host-next = refl;
+  host-turn = refl;
+  host-turns = refl;
+  host-run = refl;
+  host-image-size = refl;
+  host-image-write = refl;
+  host-image-read = refl;
+  host-salvage = refl;
+  host-word-text = refl;
+  host-text-word = refl;
+  machine-read = refl;
+  scalars-read = refl;
+  scalars-put = refl;
+  numbers-put = refl;
+  run-read = refl;
+  packed-is = refl;
+}
 
 pub instances : Instances
 instances = record {

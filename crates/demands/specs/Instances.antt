@@ -2,11 +2,17 @@
 -- sealed ranges, words with three operands, a run of 47 steps, an image of two runs, several acts and calls. Records and lines have the names that
 -- Promise.antt and the demands' pages have; proofs/Instances.antt takes each line from the promise's own term, so that a statement which asks for
 -- more, or speaks of less, no longer gives its line.
-use Rattle.numbers.specs.Kit.{_≡_, _⊎_, true, false, cond, map, List, [], _∷_, _++_, List·Memᴰ, none, some, ℕ, zero, suc, _+_, _*_, _-_, _/_, _%_, _^_, _≤_}
-use Rattle.numbers.specs.Kit.{_<_, length, getD, replicate, set, take, drop, negsuc}
-use Rattle.numbers.specs.Reduce.{reduce}
-use Rattle.numbers.specs.Blocks.{Choice}
-use Rattle.numbers.specs.Binary32.{valueOf}
+use mathlib.Core.Path.{_≡_}
+use mathlib.Core.Logic.{_⊎_}
+use mathlib.Core.Bool.{true, false, cond}
+use mathlib.Core.List.{map, List, [], _∷_, _++_, List·Memᴰ}
+use mathlib.Core.Option.{none, some}
+use Prim.Native.Nat.{ℕ, zero, suc, _+_, _*_, _-_, _/_, _%_, _^_, _≤_, _<_}
+use lib.ListN.{length, getD, replicate, set, take, drop}
+use lib.IntN.{negsuc}
+use Rattle.width.specs.Reduce.{reduce}
+use Rattle.width.specs.Blocks.{Choice}
+use Rattle.width.specs.Binary32.{valueOf}
 use Rattle.machine.specs.declared.Machine.{Machine}
 use Rattle.machine.specs.declared.Form.the-variants.{Transposed}
 use Rattle.machine.specs.declared.Matrix.the-variants.{MatrixB}
@@ -27,13 +33,13 @@ use Rattle.machine.specs.Step.{beside, carriedIn, vectorStep, stepWith}
 use Rattle.machine.specs.Alike.{Alike}
 use Rattle.machine.specs.Theorems.{Given, afterAll, startedBench}
 use Rattle.machine.specs.WordTheorems.{Faultless, RightOpcode, EveryBit, IsOther, IsOurs, stepBefore}
-use Rattle.theorem_refusals.specs.Given.{Legal, GivenExactly, FirstAmong, reads}
-use Rattle.theorem_refusals.specs.Listed.{entries, Spot, IsThere, spotAt}
-use Rattle.theorem_refusals.specs.Faults.{NotAtFault}
-use Rattle.theorem_refusals.specs.Starts.{Startable, HasNinth, Addable}
-use Rattle.theorem_refusals.specs.Images.{NoRoomFor}
-use Rattle.unit_ranges.specs.Ranges.{sealsIn}
-use Rattle.unit_sealing.specs.Theorems.{RefusesOnly}
+use Rattle.refusals.specs.Given.{Legal, GivenExactly, FirstAmong, reads}
+use Rattle.refusals.specs.Listed.{entries, Spot, IsThere, placeOf}
+use Rattle.refusals.specs.Faults.{NotAtFault}
+use Rattle.refusals.specs.Starts.{Startable, HasNinth, Addable}
+use Rattle.refusals.specs.Images.{NoRoomFor}
+use Rattle.ranges.specs.Ranges.{sealsIn}
+use Rattle.sealing.specs.Theorems.{RefusesOnly}
 use Rattle.run.specs.declared.Plan.{Plan}
 use Rattle.run.specs.declared.Handed.{Handed}
 use Rattle.run.specs.declared.Place.{Place}
@@ -46,51 +52,52 @@ use Rattle.run.specs.Turn.{stepsIn, ask, Running, running, turn, afterTurns, an
 use Rattle.run.specs.Statement.{Numbers, Inside, Separate, jobOf, startedRun}
 use Rattle.run.specs.Whole.{whole}
 use Rattle.run.specs.Acts.{Act, Session, session, afterActs}
-use Rattle.theorem_transposed.specs.Transposed.{Pair, afterStore}
-use Rattle.unit_slices.specs.MovedBack.{Slice, afterOut, afterBack}
-use Rattle.theorem_exact.specs.Exact.{Is}
-use Rattle.unit_table.specs.Table.{tableAgrees, entryOf, restRight, meant}
-use Rattle.numbers_format.specs.Numbers.{encode, span}
-use Rattle.numbers_format.specs.Formats.{Ends, Format, Accepts, Accepted}
-use Rattle.numbers_format.specs.Parser.{Parsed}
+use Rattle.transposed.specs.Transposed.{Pair, afterStore}
+use Rattle.slices.specs.MovedBack.{Slice, afterOut, afterBack}
+use Rattle.exact.specs.Exact.{Is}
+use Rattle.decode_table.specs.Table.{tableAgrees, entryOf, restRight, meant}
+use Rattle.format.specs.Numbers.{encode, span}
+use Rattle.format.specs.Formats.{Ends, Format, Accepts, Accepted}
+use Rattle.format.specs.Parser.{Parsed}
 use Rattle.image.specs.declared.Imaged.the-variants.{Done, BadArguments, Damaged}
 use Rattle.image.specs.Answers.{imageReply}
 use Rattle.image.specs.Cells.{Fit, runs, spread}
 use Rattle.image.specs.Cells.Run.{run}
 use Rattle.image.specs.Images.{imageOf, soundWith, IsImage}
 use Rattle.image.specs.ImageFormat.{Described, imageFormat}
-use Rattle.image.specs.Writing.{sizeReply, writeReply, sizeImage, writeImage}
+use Rattle.image.specs.Writing.{sized, written, sizeImage, writeImage}
 use Rattle.image.specs.Reading.{readImage}
 use Rattle.image.specs.Theorems.{imageIn}
-use Rattle.image_salvage.specs.Salvage.{salvaged, salvage}
-use Rattle.image_salvage.specs.Theorems.{endOf, KeepsFirst}
-use Rattle.text_assembly.specs.Bytes.{bytes}
-use Rattle.text_assembly.specs.Lines.{line}
-use Rattle.text_assembly.specs.Reading.{readLine}
-use Rattle.text_assembly.specs.Words.{wordText, readWord}
-use Rattle.text_assembly.specs.Programs.{replyTo}
-use Rattle.text_assembly.specs.Theorems.{Prints, hasLine, IsLine, IsWord}
-use Rattle.c_step.specs.BenchCalls.{startedOut, hostStart, steppedOut, hostStep, sealedOut, hostSeal}
-use Rattle.c_run.specs.RunCalls.{runStartedOut, hostRunStart, nextOut, hostNext, hostRunSteps}
-use Rattle.c_turn.specs.TurnCalls.{turnedOut, hostTurn, hostTurns, ranOut, hostRun}
-use Rattle.c_image.specs.ImageCalls.{hostImageSize, writtenOut, hostImageWrite, readOut, hostImageRead}
-use Rattle.c_salvage.specs.SalvageCalls.{salvagedOut, hostSalvage}
-use Rattle.c_salvage.specs.Theorems.{reported}
-use Rattle.c_text.specs.TextCalls.{textOut, hostWordText, wordLeft, hostTextWord}
-use Rattle.c_blocks.specs.Blocks.{valuesOf, packed}
-use Rattle.theorem_calls.specs.Calls.{Buffers, buffers, Call, called, calls}
-use Rattle.theorem_calls.specs.Composed.{afterCalls, turnCalls, zeros, benchIn, afterTurnCalls}
-use Rattle.theorem_powerup.specs.Steps.{AlikeBenches, SameOutcome, EachSame, outcomes, outcomesGiven}
-use Rattle.theorem_powerup.specs.Runs.{SameRunStart, SameTurns, SameTurn, SameWhole}
-use Rattle.theorem_powerup.specs.PowerUp.{readings}
-use Rattle.theorem_powerup_image.specs.ImagesStay.{imagesAfter}
-use Rattle.theorem_powerup_calls.specs.Calls.{SameCalled, EachSameCalled}
-use Rattle.theorem_handover.specs.Handover.{writtenInto, imageFrom, EachSameImage}
+use Rattle.salvage.specs.Salvage.{salvaged, salvage}
+use Rattle.salvage.specs.Theorems.{endOf, KeepsFirst}
+use Rattle.assembly.specs.Bytes.{bytes}
+use Rattle.assembly.specs.Lines.{line}
+use Rattle.assembly.specs.Reading.{readLine}
+use Rattle.assembly.specs.Words.{wordText, readWord}
+use Rattle.assembly.specs.Programs.{replyTo}
+use Rattle.assembly.specs.Theorems.{Prints, hasLine, IsLine, IsWord}
+use Rattle.bench_calls.specs.BenchCalls.{startedOut, hostStart, steppedOut, hostStep, sealedOut, hostSeal}
+use Rattle.run_calls.specs.RunCalls.{runStartedOut, hostRunStart, nextOut, hostNext, hostRunSteps}
+use Rattle.turn_calls.specs.TurnCalls.{turnedOut, hostTurn, hostTurns, ranOut, hostRun}
+use Rattle.image_calls.specs.ImageCalls.{hostImageSize, writtenOut, hostImageWrite, readOut, hostImageRead}
+use Rattle.salvage_calls.specs.SalvageCalls.{salvagedOut, hostSalvage}
+use Rattle.salvage_calls.specs.Theorems.{reported}
+use Rattle.text_calls.specs.TextCalls.{textOut, hostWordText, wordLeft, hostTextWord}
+use Rattle.blocks.specs.Blocks.{machineOf, valuesOf, putValues, putNumbers, packed}
+use Rattle.run_blocks.specs.RunBlocks.{runOf}
+use Rattle.calls.specs.Calls.{Buffers, buffers, Call, called, calls}
+use Rattle.calls.specs.Composed.{afterCalls, turnCalls, zeros, benchIn, afterTurnCalls}
+use Rattle.powerup.specs.Steps.{AlikeBenches, SameOutcome, EachSame, outcomes, outcomesGiven}
+use Rattle.powerup.specs.Runs.{SameRunStart, SameTurns, SameTurn, SameWhole}
+use Rattle.powerup.specs.PowerUp.{readings}
+use Rattle.powerup_image.specs.ImagesStay.{imagesAfter}
+use Rattle.powerup_host.specs.Calls.{SameCalled, EachSameCalled}
+use Rattle.handover.specs.Handover.{writtenInto, imageFrom, EachSameImage}
 use Rattle.demands.specs.Deeds.{Deed, deed, HostCall, hostCalled}
 use Rattle.demands.specs.Demand2.{readBench}
 use Rattle.demands.specs.Demand3.{RunCallDelivers}
 use Rattle.run.specs.Sheet as Sheet
-use Rattle.unit_table.specs.Table as Table
+use Rattle.decode_table.specs.Table as Table
 
 -- ---- a machine and what it is lent
 
@@ -195,6 +202,10 @@ planAt c = record {
 abbrev pub plan : Plan
 plan = planAt 150
 
+-- of no row
+abbrev pub noRows : Plan
+noRows = record { kind = 1; sew = 16; factor = 2; m = 0; k = 5; n = 10; a = plan .a; b = plan .b; c = plan .c }
+
 abbrev pub runAt : Place → Run
 runAt p = record { plan = plan; rlen = 128; mlen = 512; rule = 1; elen = 64; place = p }
 
@@ -232,8 +243,12 @@ unfoldable pub numbers : List ℕ → List ℕ
 numbers [] = []
 numbers (n ∷ ns) = n % 256 ∷ n / 256 ∷ (replicate 6 0 ++ numbers ns)
 
+-- a machine's block, with this mtype and these sizes, and with these ranges behind the first
+unfoldable pub blockOf : (mtype tileM tileK tileN : ℕ) → (ranges : List ℕ) → List ℕ
+blockOf mtype tileM tileK tileN ranges = numbers (128 ∷ 512 ∷ mtype ∷ tileM ∷ tileK ∷ tileN ∷ 40 ∷ 8 ∷ 1 ∷ 64 ∷ ranges)
+
 unfoldable pub block : List ℕ
-block = numbers (128 ∷ 512 ∷ 9 ∷ 3 ∷ 2 ∷ 5 ∷ 40 ∷ 8 ∷ 1 ∷ 64 ∷ 3 ∷ 60 ∷ 4 ∷ 90 ∷ 2 ∷ replicate 10 0)
+block = blockOf 9 3 2 5 (3 ∷ 60 ∷ 4 ∷ 90 ∷ 2 ∷ replicate 10 0)
 
 unfoldable pub scalarBlock : List ℕ
 scalarBlock = numbers (xs 100 8)
@@ -569,7 +584,7 @@ pub record Words : Type 0 where
   -- SEW 16 with maccq, and SEW 32 with it
   pub types : (newType 64 9 ≡ 9) × (newType 64 10 ≡ 2 ^ 63)
   -- byte 588 is byte 12 of row 1 of acc0, and of no other
-  pub registers : let at = spotAt (parametersOf halving 128 512 64) in
+  pub registers : let at = placeOf (parametersOf halving 128 512 64) in
       (at (Spot.inAccumulator 0 1 12) < 1024) × ((s : Spot) × IsThere 128 512 s × (at s ≡ 588)) × ((s : Spot) → IsThere 128 512 s → at s ≡ 588 → s ≡ Spot.inAccumulator 0 1 12)
   -- msce32.m acc1, (x10), x11, three rows of five at 150, 174 and 198: byte 1 of element (2, 3); byte 172, between two rows
   pub stores : let o = stepWith chosen msce32 (xs 150 24) lent held .bench .memory in
@@ -650,7 +665,7 @@ pub record Requests : Type 1 where
   -- written into a room that is longer, then read into other registers
   pub six-back : let w = writeImage (machineBy 1) sealed3 regs spots (room 30) in
       let o = readImage (take (w .size) (w .room)) regs′ allMarks in (o .answer ≡ imageReply Done) × Alike spotted (benchOf (o .machine) (o .seals) (o .registers) (o .marks) mem)
-  pub six-again : let o = readImage image regs′ allMarks in writeImage (o .machine) (o .seals) (o .registers) (o .marks) (room 30) ≡ writeReply Done 27 (image ++ room 3)
+  pub six-again : let o = readImage image regs′ allMarks in writeImage (o .machine) (o .seals) (o .registers) (o .marks) (room 30) ≡ written Done 27 (image ++ room 3)
   pub six-c-made : let b = called (Call.imageRead image) otherHost .after in
       (soundBench (benchIn b) ≡ true) × (imageIn (benchIn b) ≡ image) × (getD (b .registers) 100 0 ≡ 9) × (b .memory ≡ mem)
   pub six-c-back : let o = called (Call.imageRead (imageFrom (writtenInto (room 30) spottedHost))) otherHost in
@@ -740,10 +755,39 @@ pub record Computed : Type 0 where
   -- registers and marks of a start
   pub started : (startMachine 128 512 64 1 seals regs allMarks .registers ≡ regs) × (startMachine 128 512 64 1 seals regs allMarks .marks ≡ replicate 1024 0)
   -- registers, marks and room of an image that is sized, and written
-  pub sized-is : sizeImage (machineBy 1) sealed3 regs spots ≡ sizeReply Done 27
-  pub written-is : writeImage (machineBy 1) sealed3 regs spots (room 30) ≡ writeReply Done 27 (image ++ room 3)
+  pub sized-is : sizeImage (machineBy 1) sealed3 regs spots ≡ sized Done 27
+  pub written-is : writeImage (machineBy 1) sealed3 regs spots (room 30) ≡ written Done 27 (image ++ room 3)
   -- image, registers and marks of one that is read: bytes 69 to 73, of which three are in the image, and the marks
   pub read-is : (take 5 (drop 69 (readImage image regs′ allMarks .registers)) ≡ 9 ∷ 70 ∷ 71 ∷ 72 ∷ 9 ∷ []) × (readImage image regs′ allMarks .marks ≡ spots)
+  -- of the C functions each buffer, and each number; blocks that are written whole held 9 before
+  pub host-start : hostStart 128 512 64 1 seals (room 200) regs allMarks ≡ startedOut 0 (blockOf 0 0 0 0 (3 ∷ 60 ∷ 4 ∷ 90 ∷ 2 ∷ replicate 10 0)) regs (replicate 1024 0)
+  -- msbte16.m tr3, (x10), x11: element (1, 4); mmvcc.v.m v4, acc1, x10: columns 1 and 2 of three rows, to v4 and v5
+  pub host-step : let o = hostStep msbte16 2 block regs allMarks scalarBlock mem file in
+      (o .result ≡ 0) × (o .machine ≡ block) × (o .registers ≡ regs) × (o .marks ≡ allMarks) × (o .scalars ≡ scalarBlock) × (getD (o .memory) 135 0 ≡ 217) × (o .file ≡ file)
+  pub host-move : let o = hostStep mmvccOut 2 block regs allMarks (numbers (xs 1 0)) mem file in
+      (o .memory ≡ mem) × (take 6 (drop 64 (o .file)) ≡ 2 ∷ 3 ∷ 66 ∷ 67 ∷ 130 ∷ 131 ∷ []) × (take 6 (drop 80 (o .file)) ≡ 4 ∷ 5 ∷ 68 ∷ 69 ∷ 132 ∷ 133 ∷ [])
+  pub host-seal : hostSeal 355 3 block regs allMarks ≡ sealedOut 0 (blockOf 9 3 2 5 (4 ∷ 60 ∷ 4 ∷ 90 ∷ 2 ∷ 355 ∷ 3 ∷ replicate 8 0)) regs allMarks
+  pub host-run-start : hostRunStart plan block regs allMarks mem (runBlock 8 3 5 0) ≡ runStartedOut 0 block regs allMarks mem (runBlock 0 0 0 0)
+  -- the store of the last block: msce32.m acc0, (x10), x11 with 290 and 40
+  pub host-next : hostNext (runBlock 8 3 5 0) report ≡ nextOut 0 (runBlock 9 0 0 0) (119 ∷ 32 ∷ 181 ∷ 2 ∷ 0 ∷ 0 ∷ 0 ∷ 0 ∷ numbers (290 ∷ 40 ∷ []))
+  -- SEW 16 is set
+  pub host-turn : hostTurn (runBlock 0 0 0 0) block regs nearly mem ≡ turnedOut 0 (runBlock 1 0 0 0) (blockOf 1 3 2 5 (3 ∷ 60 ∷ 4 ∷ 90 ∷ 2 ∷ replicate 10 0)) regs nearly mem
+  pub host-turns : hostTurns 1 (runBlock 0 0 0 0) block regs nearly mem ≡ turnedOut 1 (runBlock 1 0 0 0) (blockOf 1 3 2 5 (3 ∷ 60 ∷ 4 ∷ 90 ∷ 2 ∷ replicate 10 0)) regs nearly mem
+  -- with no row: a run of that one step
+  pub host-run : hostRun noRows block regs nearly mem (room 8) ≡ ranOut 0 (blockOf 1 3 2 5 (3 ∷ 60 ∷ 4 ∷ 90 ∷ 2 ∷ replicate 10 0)) regs nearly mem (numbers (1 ∷ []))
+  pub host-image-size : hostImageSize block regs spots ≡ 27 * 2 ^ 16
+  pub host-image-write : hostImageWrite block regs spots (room 30) ≡ writtenOut (27 * 2 ^ 16) (image ++ room 3)
+  pub host-image-read : hostImageRead image (room 200) (room 1024) allMarks ≡ readOut 0 block regs′ spots
+  pub host-salvage : hostSalvage cut (room 30) report ≡ salvagedOut (22 * 2 ^ 16) (take 16 image ++ (1 ∷ 70 ∷ 3 ∷ 70 ∷ 71 ∷ 72 ∷ room 8)) (numbers (1 ∷ 2 ∷ 26 ∷ []))
+  pub host-word-text : hostWordText mlbte16 (room 32) ≡ textOut (25 * 2 ^ 16) (text ++ room 7)
+  pub host-text-word : hostTextWord text (room 8) ≡ wordLeft 0 (247 ∷ 17 ∷ 181 ∷ 24 ∷ 0 ∷ 0 ∷ 0 ∷ 0 ∷ [])
+  -- numbers in blocks
+  pub machine-read : machineOf block ≡ machineBy 1
+  pub scalars-read : valuesOf (numbers (xs 5 6)) ≡ xs 5 6
+  pub scalars-put : putValues (xs 5 6) (room 256) ≡ numbers (xs 5 6)
+  pub numbers-put : putNumbers (1 ∷ 2 ∷ []) (room 17) ≡ numbers (1 ∷ 2 ∷ []) ++ (9 ∷ [])
+  pub run-read : runOf (runBlock 8 3 5 0) ≡ runAt (AtStore 3 5)
+  pub packed-is : packed (record { number = 5; row = 1; column = 4 }) ≡ 5 + 1 * 2 ^ 16 + 4 * 2 ^ 32
 
 pub record Instances : Type 1 where
   pub demand-1 : Demand1
