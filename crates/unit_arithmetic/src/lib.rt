@@ -1,5 +1,5 @@
 // The effect of multiply, add, subtract, reverse subtract and multiply by a number on the register bytes.
-// An element of the output has 1, 2, 4 or 8 bytes, and its sums are kept at that width: crates unit_sums and unit_pairs.
+// An element of the output has 1, 2, 4 or 8 bytes, and its sums are kept at that width, or at 16 bits for 8: crates sums, pairs and halves.
 mod rows;
 mod weights;
 
@@ -9,14 +9,15 @@ ghost use mathlib.Core.Path.{_≡_};
 ghost use Prim.Native.Nat.{_+_, _*_, _^_, _≤_, _<_, min};
 ghost use lib.IntN.{ℤ};
 ghost use lib.ListN.{length};
-ghost use Rattle.numbers.specs.Reduce.{reduce};
-ghost use Rattle.numbers.specs.Tile.{putTile};
-ghost use Rattle.numbers.specs.Bounds.{mostPitch, mostColumns, mostSize, mostTerms};
-ghost use Rattle.unit_element.specs.Element.{Width};
-ghost use Rattle.unit_arithmetic.specs.Effect.{shape, productTile, combineTile, scaleTile};
-ghost use Rattle.unit_sums.specs.Rows.{productRow};
+ghost use Rattle.width.specs.Reduce.{reduce};
+ghost use Rattle.width.specs.Tile.{putTile};
+ghost use Rattle.width.specs.Bounds.{mostPitch, mostColumns, mostSize, mostTerms};
+ghost use Rattle.element.specs.Element.{Width};
+ghost use Rattle.arithmetic.specs.Effect.{shape, productTile, combineTile, scaleTile};
+ghost use Rattle.sums.specs.Rows.{productRow};
 
-// A block of at most COLUMNS columns and TERMS terms, in all rows of C: in pairs where elements of one or two bytes make sums of four, else row by row.
+// A block of at most COLUMNS columns and TERMS terms, in all rows of C: in pairs where elements of one or two bytes make sums of four, in lanes
+// of 16 bits where sums of one or two bytes have 16 columns or more, else row by row.
 fn multiply_rows(
     s: &mut [u8],
     a: usize,
@@ -35,15 +36,23 @@ fn multiply_rows(
     requires { ⌜ (a + m * pitch + k * width ≤ c + pitch) × ((b + k * pitch ≤ c) × ((c ≤ length (now s)) × (c + m * (4 * pitch) + n * wide ≤ length (now s) + 4 * pitch))) ⌝ }
     ensures { λ _. ⌜ now (s .exit) ≡ putTile (λ i. c + i * (4 * pitch)) m n wide (λ i. productRow (now (s .entry)) wide width pitch k (a + i * pitch) b (c + i * (4 * pitch))) (now (s .entry)) ⌝ }
 {
-    if wide != 4 {
+    if wide == 4 {
+        if width != 4 {
+            pairs::multiply_rows(s, a, b, c, pitch, width, m, k, n);
+            return;
+        }
         rows::multiply_rows(s, a, b, c, pitch, width, wide, m, k, n);
         return;
     }
-    if width == 4 {
-        rows::multiply_rows(s, a, b, c, pitch, width, wide, m, k, n);
-        return;
+    if n >= 16 {
+        if wide <= 2 {
+            if n <= halves::LANES {
+                halves::multiply_rows(s, a, b, c, pitch, width, wide, m, k, n);
+                return;
+            }
+        }
     }
-    unit_pairs::multiply_rows(s, a, b, c, pitch, width, m, k, n);
+    rows::multiply_rows(s, a, b, c, pitch, width, wide, m, k, n);
 }
 
 // The smaller of two numbers.
@@ -76,7 +85,7 @@ fn multiply_terms(
     let mut from = a;
     let mut row = b;
     loop {
-        let terms = least(k - l, unit_element::TERMS);
+        let terms = least(k - l, element::TERMS);
         multiply_rows(s, from, row, c, pitch, width, wide, m, terms, n);
         l += terms;
         if l >= k {
@@ -84,6 +93,17 @@ fn multiply_terms(
         }
         from += terms * width;
         row += terms * pitch;
+    }
+}
+
+// The most columns of a block, by what its sums stand in.
+fn columns_of(wide: usize) -> usize
+    ensures { λ r. ⌜ (0 < r) × (r ≤ mostColumns) ⌝ }
+{
+    if wide <= 2 {
+        halves::LANES
+    } else {
+        element::COLUMNS
     }
 }
 
@@ -109,11 +129,12 @@ fn multiply_blocks(
     if m == 0 {
         return;
     }
+    let most = columns_of(wide);
     let mut j = 0;
     let mut from = b;
     let mut to = c;
     while j < n {
-        let columns = least(n - j, unit_element::COLUMNS);
+        let columns = least(n - j, most);
         multiply_terms(s, a, from, to, pitch, width, wide, m, k, columns);
         from += columns * width;
         to += columns * wide;
@@ -175,7 +196,7 @@ pub fn combine_tile(
 {
     let wide = factor * width;
     // Minus 1 as a residue at 64 bits.
-    let minus = 0xffff_ffff_ffff_ffff;
+    let minus = 18446744073709551615;
     match sum {
         Sum::Add => weigh_tile(registers, rows, pitch, width, wide, d, a, 1, 1, m, n),
         Sum::Subtract => weigh_tile(registers, rows, pitch, width, wide, d, a, 1, minus, m, n),

@@ -1,14 +1,20 @@
 -- Sums of products kept at a width, once over the width: one product more, and the rows that are stored.
-use Rattle.numbers.proofs.Kit.{_≡_, refl, sym, ap, ap₂, _∙_, List, ℕ, _+_, _*_, _%_, _^_, _<_, add-comm, one-mul, mod-eq-of-lt, getD, replicate}
-use Rattle.numbers.proofs.Kit.{getD-replicate, ℤ, _+ℤ_, _*ℤ_}
-use Rattle.numbers.specs.Reduce.{signed, reduce, sumℤ}
-use Rattle.numbers.specs.Tile.{getLe, putRow}
-use Rattle.numbers.proofs.TileLaws.{le-lt}
-use Rattle.numbers.proofs.ElementLaws.{pow-256, putRow-cong}
-use Rattle.numbers.proofs.ReduceLaws.{reduce-add, reduce-mul, reduce-signed}
-use Rattle.numbers.proofs.SumLaws.{mac-is, product-more, same-sum, two-products}
+use mathlib.Core.Path.{_≡_, refl, sym, ap, ap₂, _∙_}
+use mathlib.Core.List.{List}
+use Prim.Native.Nat.{ℕ, _+_, _*_, _%_, _^_, _≤_, _<_}
+use native.Mathlib.Nat.{add-comm, zero-add, one-mul, mod-eq-of-lt, pow-le-pow-right}
+use native.Mathlib.Omega.{arith}
+use lib.IntN.{ℤ, _+ℤ_, _*ℤ_}
+use lib.ListN.{getD, replicate, getD-replicate}
+use Rattle.width.specs.Reduce.{signed, reduce, sumℤ}
+use Rattle.width.specs.Tile.{getLe, putRow}
+use Rattle.width.proofs.TileLaws.{le-lt}
+use Rattle.width.proofs.PutLaws.{putRow-low}
+use Rattle.width.proofs.ElementLaws.{pow-256, signed-widened, cut, putRow-cong}
+use Rattle.width.proofs.ReduceLaws.{reduce-add, reduce-mul, reduce-lt, reduce-signed, sumℤ-cong}
+use Rattle.width.proofs.SumLaws.{wrapping-add, mac-is, sum-none, sum-more, product-more, same-sum, two-products}
 use Rattle.machine.specs.Operation.{product}
-use Rattle.unit_sums.specs.Rows.{signedLe, plusProduct, productRow, weightedRow}
+use Rattle.sums.specs.Rows.{signedLe, plusProduct, residueAt, plusTimes, productRow, weightedRow}
 
 -- sums that started at 0, and then the old value once, or another product
 module _ (m : ℕ) (0<m : 0 < m) where
@@ -65,3 +71,61 @@ module _ (W : ℕ) (s : List ℕ) where
       (e1 j h ∙ ap (λ (v : ℕ). plusProduct W v y s (from + j * w) w) (getD-replicate size j 0 0 (room j h)))
       ∙ two-products (256 ^ W) (pow-256 W) (signed (256 ^ W) y *ℤ signedLe s (from + j * w) w) (signed (256 ^ W) x *ℤ signedLe s (to + j * W) W)
       ∙ turned (256 ^ W) (pow-256 W) (signed (256 ^ W) y *ℤ signedLe s (from + j * w) w) (signed (256 ^ W) x *ℤ signedLe s (to + j * W) W))
+
+-- ---- sums at W bytes of factors that are residues at W bytes already
+
+module _ (W : ℕ) where
+  -- a wrapping product added by a wrapping add
+  pub times-is : (r v z x y : ℕ) → r ≡ (v + z) % 256 ^ W → z ≡ reduce (256 ^ W) (signed (256 ^ W) x *ℤ signed (256 ^ W) y) → v < 256 ^ W → r ≡ plusTimes W v x y
+  times-is r v z x y er ez h = er ∙ ap (λ (q : ℕ). (v + q) % 256 ^ W) ez ∙ wrapping-add (256 ^ W) (pow-256 W) v (signed (256 ^ W) x *ℤ signed (256 ^ W) y) h
+
+  -- no product, and one more
+  pub times-none : (v : ℕ) (f g : ℕ → ℕ) → v < 256 ^ W → v ≡ product W W 0 v f g
+  times-none v f g h = sum-none (256 ^ W) (pow-256 W) v (λ l. signed (256 ^ W) (f l) *ℤ signed (256 ^ W) (g l)) h
+
+  pub times-more : (v l : ℕ) (f g : ℕ → ℕ) → plusTimes W (product W W l v f g) (f l) (g l) ≡ product W W (l + 1) v f g
+  times-more v l f g =
+      sum-more (256 ^ W) (pow-256 W) (signed (256 ^ W) v) l (λ t. signed (256 ^ W) (f t) *ℤ signed (256 ^ W) (g t)) (product W W l v f g)
+      (signed (256 ^ W) (f l) *ℤ signed (256 ^ W) (g l)) refl refl
+
+-- elements of w bytes and an old element of `wide` bytes, neither wider than W
+module _ (W wide w : ℕ) (s : List ℕ) (bytes : (q : ℕ) → getD s q 0 < 256) (lw : w ≤ W) (lv : wide ≤ W) where
+  -- an element as a residue at W bytes stands for the same number
+  same-signed : (v p : ℕ) → v ≤ W → signed (256 ^ W) (residueAt W s p v) ≡ signedLe s p v
+  same-signed v p h = signed-widened (256 ^ v) (256 ^ W) (getLe s p v) (le-lt s bytes p v) (wider v h)
+    where
+      wider : (v : ℕ) → v ≤ W → 256 ^ v ≤ 256 ^ W
+      wider v h = pow-le-pow-right (omega arith) h
+
+  -- the low bytes of their sum at W bytes are their sum at `wide` bytes
+  pub low-product : (k p : ℕ) (f g : ℕ → ℕ)
+      → product W W k (residueAt W s p wide) (λ l. residueAt W s (f l) w) (λ l. residueAt W s (g l) w) % 256 ^ wide
+      ≡ product wide w k (getLe s p wide) (λ l. getLe s (f l) w) (λ l. getLe s (g l) w) % 256 ^ wide
+  low-product k p f g =
+      ap₂ (λ (x y : ℤ). reduce (256 ^ W) (x +ℤ y) % 256 ^ wide) (same-signed wide p lv)
+      (sumℤ-cong k (λ l. signed (256 ^ W) (residueAt W s (f l) w) *ℤ signed (256 ^ W) (residueAt W s (g l) w)) (λ l. signedLe s (f l) w *ℤ signedLe s (g l) w)
+      (λ l h. ap₂ _*ℤ_ (same-signed w (f l) lw) (same-signed w (g l) lw)))
+      ∙ cut wide W lv (signedLe s p wide +ℤ sumℤ k (λ l. signedLe s (f l) w *ℤ signedLe s (g l) w))
+      ∙ sym (mod-eq-of-lt (reduce-lt (256 ^ wide) (pow-256 wide) (signedLe s p wide +ℤ sumℤ k (λ l. signedLe s (f l) w *ℤ signedLe s (g l) w))))
+
+  -- sums that start from the old elements: all products, stored in t, in which other rows were stored before
+  pub row-of-lanes : (t : List ℕ) (lanes pitch k a b c n : ℕ) (old sums d out : List ℕ) → n ≤ lanes
+      → ((j : ℕ) → j < n → getD old (0 + j) 0 ≡ residueAt W s (c + j * wide) wide)
+      → ((l j : ℕ) → l < k → j < n → getD d (l * lanes + j) 0 ≡ residueAt W s (b + l * pitch + j * w) w)
+      → ((j : ℕ) → j < lanes → getD sums j 0 ≡ product W W k (getD old j 0) (λ l. residueAt W s (a + l * w) w) (λ l. getD d (l * lanes + j) 0))
+      → out ≡ putRow c n wide (λ j. getD sums j 0) t → out ≡ putRow c n wide (productRow s wide w pitch k a b c) t
+  row-of-lanes t lanes pitch k a b c n old sums d out narrow eo ed es e =
+      e ∙ putRow-low wide c n (λ j. getD sums j 0) (productRow s wide w pitch k a b c) t (λ j h.
+      ap (λ (v : ℕ). v % 256 ^ wide) (es j (omega arith) ∙ fetched j h)
+      ∙ low-product k (c + j * wide) (λ l. a + l * w) (λ l. b + l * pitch + j * w))
+    where
+      A : ℕ → ℕ
+      A l = residueAt W s (a + l * w) w
+
+      fetched : (j : ℕ) → j < n
+          → product W W k (getD old j 0) A (λ l. getD d (l * lanes + j) 0) ≡ product W W k (residueAt W s (c + j * wide) wide) A (λ l. residueAt W s (b + l * pitch + j * w) w)
+      fetched j h =
+          ap (λ (o : ℕ). product W W k o A (λ l. getD d (l * lanes + j) 0)) (ap (λ (p : ℕ). getD old p 0) (sym (zero-add j)) ∙ eo j h)
+          ∙ ap (λ (z : ℤ). reduce (256 ^ W) (signed (256 ^ W) (residueAt W s (c + j * wide) wide) +ℤ z))
+          (sumℤ-cong k (λ l. signed (256 ^ W) (A l) *ℤ signed (256 ^ W) (getD d (l * lanes + j) 0)) (λ l. signed (256 ^ W) (A l) *ℤ signed (256 ^ W) (residueAt W s (b + l * pitch + j * w) w))
+          (λ l g. ap (λ (v : ℕ). signed (256 ^ W) (A l) *ℤ signed (256 ^ W) v) (ed l j g h)))

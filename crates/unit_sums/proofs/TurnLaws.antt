@@ -24,6 +24,13 @@ Reads k rule = (old : ℕ) (x y u v : ℕ → ℕ) → ((l : ℕ) → l < k → 
 abbrev ruleRow : Rule → List ℕ → (cw w pitch a b c j : ℕ) → ℕ
 ruleRow rule s cw w pitch a b c j = rule (getLe s (c + j * cw) cw) (λ l. getLe s (a + l * w) w) (λ l. getLe s (b + l * pitch + j * w) w)
 
+-- a sum of products of signed numbers does
+pub product-reads : (cw w k : ℕ) → Reads k (product cw w k)
+product-reads cw w k old x y u v hx hy =
+    ap (λ (z : ℤ). reduce (256 ^ cw) (signed (256 ^ cw) old +ℤ z))
+    (sumℤ-cong k (λ l. signed (256 ^ w) (x l) *ℤ signed (256 ^ w) (y l)) (λ l. signed (256 ^ w) (u l) *ℤ signed (256 ^ w) (v l))
+    (λ l ll. ap₂ (λ (p q : ℕ). signed (256 ^ w) p *ℤ signed (256 ^ w) q) (hx l ll) (hy l ll)))
+
 -- the elements of A and B lie before those of C: A's last row ends before it
 module _ (cw w pitch cpitch k n a b c m : ℕ) (s : List ℕ) (narrow : n * w ≤ pitch) (wide : n * cw ≤ cpitch)
     (apart-a : a + m * pitch + k * w ≤ c + pitch) (apart-b : b + k * pitch ≤ c) where
@@ -93,10 +100,7 @@ module _ (cw w pitch cpitch k n a b c m : ℕ) (s : List ℕ) (narrow : n * w �
   pub product-turn : (i : ℕ) (r : List ℕ) → i < m → r ≡ putTile at i n cw (λ i. productRow s cw w pitch k (a + i * pitch) b (at i)) s
       → (from to : ℕ) (out : List ℕ) → from ≡ a + i * pitch → to ≡ at i → out ≡ putRow to n cw (productRow r cw w pitch k from b to) r
       → out ≡ putTile at (i + 1) n cw (λ i. productRow s cw w pitch k (a + i * pitch) b (at i)) s
-  product-turn = rule-turn (product cw w k) (λ old x y u v hx hy.
-      ap (λ (z : ℤ). reduce (256 ^ cw) (signed (256 ^ cw) old +ℤ z))
-      (sumℤ-cong k (λ l. signed (256 ^ w) (x l) *ℤ signed (256 ^ w) (y l)) (λ l. signed (256 ^ w) (u l) *ℤ signed (256 ^ w) (v l))
-      (λ l ll. ap₂ (λ (p q : ℕ). signed (256 ^ w) p *ℤ signed (256 ^ w) q) (hx l ll) (hy l ll))))
+  product-turn = rule-turn (product cw w k) (product-reads cw w k)
 
 -- after i of m rows of p bytes, those that are left, and g of them
 pub rows-left : (i m p : ℕ) → i ≤ m → i * p + (m - i) * p ≡ m * p

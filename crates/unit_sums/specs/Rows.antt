@@ -12,6 +12,14 @@ signedLe s p w = signed (256 ^ w) (getLe s p w)
 abbrev pub plusProduct : (wide v x : ℕ) → List ℕ → (p w : ℕ) → ℕ
 plusProduct wide v x s p w = reduce (256 ^ wide) (signed (256 ^ wide) v +ℤ signed (256 ^ wide) x *ℤ signedLe s p w)
 
+-- the signed element of w bytes at p, as a residue at `wide` bytes
+abbrev pub residueAt : (wide : ℕ) → List ℕ → (p w : ℕ) → ℕ
+residueAt wide s p w = reduce (256 ^ wide) (signedLe s p w)
+
+-- the accumulator v plus x times y, all of `wide` bytes
+abbrev pub plusTimes : (wide v x y : ℕ) → ℕ
+plusTimes wide v x y = reduce (256 ^ wide) (signed (256 ^ wide) v +ℤ signed (256 ^ wide) x *ℤ signed (256 ^ wide) y)
+
 -- element j of the row of C at c after a multiply of the row of A at a by the rows of B from b on
 abbrev pub productRow : List ℕ → (wide narrow pitch k a b c j : ℕ) → ℕ
 productRow s wide narrow pitch k a b c j =

@@ -9,12 +9,12 @@ use Rattle.unit_arithmetic.proofs.multiply_blocks.Statement.{statement}
 use Rattle.unit_arithmetic.proofs.multiply_blocks.Tie as tie
 
 abbrev Inv-loop : tie.InvT-loop
-Inv-loop s₀ a b c pitch width wide m k n j₀ from₀ to₀ s j from to =
+Inv-loop s₀ a b c pitch width wide m k n most j₀ from₀ to₀ s j from to =
     (j ≤ n) × (from ≡ b + j * width) × (to ≡ c + j * wide) × (length s ≡ length s₀)
     × (s ≡ putTile (λ i. c + i * (4 * pitch)) m j wide (λ i. productRow s₀ wide width pitch k (a + i * pitch) b (c + i * (4 * pitch))) s₀)
 
 abbrev μ-loop : tie.MeasureT-loop
-μ-loop s₀ a b c pitch width wide m k n j₀ from₀ to₀ s j from to = n - j
+μ-loop s₀ a b c pitch width wide m k n most j₀ from₀ to₀ s j from to = n - j
 
 -- no row
 returns : tie.Need-returns Inv-loop μ-loop
@@ -25,7 +25,7 @@ returns c =
 
 loop-holds : tie.Need-loop-holds Inv-loop μ-loop
 loop-holds c =
-    let a = c .before .before .args in (
+    let a = c .before .before .before .args in (
       omega arith,
       omega (arith, zero-mul (a .width)),
       omega (arith, zero-mul (a .wide)),
@@ -34,27 +34,28 @@ loop-holds c =
     )
 
 -- a block more
-more : (c : tie.After-least Inv-loop μ-loop) → let a = c .before .before .before .before .before .args in let l = c .before .before .loop in
+more : (c : tie.After-least Inv-loop μ-loop) → let a = c .before .before .before .before .before .before .args in let l = c .before .before .loop in
     Columns (a .b) (a .c) (a .pitch) (4 * a .pitch) (a .width) (a .wide) (a .m) (a .k) (length (a .s .now)) (l .j) (c .least .result)
     × (l .j + c .least .result ≤ a .n) × (c .least .result ≤ 64) × (0 < c .least .result)
 more c =
-    let k = c .before .before .before .before .before in
+    let k = c .before .before .before .before .before .before in
     let a = k .args in
     let p = k .pre in
     let l = c .before .before .loop in
     let e = c .least .ensures in
+    let most = c .before .before .before .columns-of .ensures in
     let t = c .before .loop-test .taken in
-    let some : zero < a .m = omega (arith, c .before .before .before .if1 .left) in (
+    let some : zero < a .m = omega (arith, c .before .before .before .before .if1 .left) in (
       columns-fit (a .b) (a .c) (a .pitch) (4 * a .pitch) (a .width) (a .wide) (a .m) (a .k) (a .n) (length (a .s .now)) (l .j) (c .least .result)
           (omega arith) (p .1 .0 .1 .1) (p .1 .1 .0 .0) (p .1 .1 .0 .1 .1) (p .1 .1 .1 .1 .0) some (p .1 .1 .1 .1 .1),
       omega arith,
-      omega arith,
-      omega arith,
+      omega (arith, most),
+      omega (arith, most),
     )
 
 multiply-terms-requires : tie.Need-multiply-terms-requires Inv-loop μ-loop
 multiply-terms-requires c κs =
-    let p = c .before .before .before .before .before .before .pre in
+    let p = c .before .before .before .before .before .before .before .pre in
     let l = c .before .before .before .loop in
     let f = more (c .before) in
     let t = f .0 in (
@@ -69,16 +70,16 @@ multiply-terms-requires c κs =
     )
 
 mul-from : tie.Need-mul-from Inv-loop μ-loop
-mul-from c = let t = more (c .before .before .before .before) .0 in omega (arith, t .narrow, c .before .before .before .before .before .before .before .before .before .pre .0)
+mul-from c = let t = more (c .before .before .before .before) .0 in omega (arith, t .narrow, c .before .before .before .before .before .before .before .before .before .before .pre .0)
 
 add-from : tie.Need-add-from Inv-loop μ-loop
-add-from c = let t = more (c .before .before .before .before) .0 in omega (arith, t, c .before .before .before .before .before .before .before .before .before .pre .0, c .before .before .before .before .before .before .loop .inv)
+add-from c = let t = more (c .before .before .before .before) .0 in omega (arith, t, c .before .before .before .before .before .before .before .before .before .before .pre .0, c .before .before .before .before .before .before .loop .inv)
 
 mul-to : tie.Need-mul-to Inv-loop μ-loop
-mul-to c = let t = more (c .before .before .before .before) .0 in omega (arith, t .wide, c .before .before .before .before .before .before .before .before .before .pre .0)
+mul-to c = let t = more (c .before .before .before .before) .0 in omega (arith, t .wide, c .before .before .before .before .before .before .before .before .before .before .pre .0)
 
 add-to : tie.Need-add-to Inv-loop μ-loop
-add-to c = let t = more (c .before .before .before .before) .0 in omega (arith, t, c .before .before .before .before .before .before .before .before .before .pre .0, c .before .before .before .before .before .before .loop .inv)
+add-to c = let t = more (c .before .before .before .before) .0 in omega (arith, t, c .before .before .before .before .before .before .before .before .before .before .pre .0, c .before .before .before .before .before .before .loop .inv)
 
 add-j : tie.Need-add-j Inv-loop μ-loop
 add-j c = let f = more (c .before .before .before .before) in omega (arith, f .1)
@@ -89,7 +90,7 @@ loop-less c = let f = more (c .before .before .before .before) in omega (arith, 
 loop-again : tie.Need-loop-again Inv-loop μ-loop
 loop-again c =
     let d = c .before .before .before .before in
-    let k = c .before .before .before .before .before .before .before .before .before in
+    let k = c .before .before .before .before .before .before .before .before .before .before in
     let a = k .args in
     let p = k .pre in
     let l = c .before .before .before .before .before .before .loop in
@@ -108,7 +109,7 @@ loop-again c =
 returns-2 : tie.Need-returns-2 Inv-loop μ-loop
 returns-2 c =
     let l = c .before .loop in
-    let a = c .before .before .before .before .args in
+    let a = c .before .before .before .before .before .args in
     let e : l .j ≡ a .n = omega arith in
     l .inv .4
     ∙ ap (λ (t : ℕ). putTile (λ i. a .c + i * (4 * a .pitch)) (a .m) t (a .wide) (λ i. productRow (a .s .now) (a .wide) (a .width) (a .pitch) (a .k) (a .a + i * a .pitch) (a .b) (a .c + i * (4 * a .pitch))) (a .s .now)) e
@@ -120,6 +121,7 @@ multiply-blocks-spec =
     Inv-loop
     μ-loop
     returns
+    (λ c κs. search needs)
     loop-holds
     (λ c. search needs)
     (λ c κs. search needs)

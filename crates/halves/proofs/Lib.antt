@@ -1,0 +1,2 @@
+-- Laws of the widths.
+pub mod WidthLaws
