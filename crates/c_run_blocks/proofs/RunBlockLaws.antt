@@ -1,6 +1,6 @@
 -- Laws of a run's block: what is read back of what was written, and that a block written over with its own numbers stays.
-use Rattle.numbers.proofs.Kit.{_≡_, refl, sym, ap, ap₂, _∙_, subst, true, List, _∷_, ℕ, _+_, _*_, _^_, _<_, mod-eq-of-lt, arith, eqb, length, getD, getD-take}
-use Rattle.numbers.proofs.Kit.{getD-drop, eqb-true, eq-eqb}
+use Rattle.numbers.proofs.Kit.{_≡_, refl, sym, ap, ap₂, _∙_, subst, true, List, _∷_, ℕ, _+_, _*_, _^_, _<_, mod-eq-of-lt, arith, eqb, length, getD}
+use Rattle.numbers.proofs.Kit.{getD-take, getD-drop, eqb-true, eq-eqb}
 use Rattle.numbers.specs.Tile.{getLe, putLe, putRow}
 use Rattle.numbers.proofs.TileLaws.{length-putRow}
 use Rattle.numbers.proofs.WordLaws.{le-putRow}

@@ -1,6 +1,6 @@
 -- What code does, as the definitions of the calls have it.
-use Rattle.numbers.proofs.Kit.{_≡_, refl, sym, ap, ap₂, _∙_, Bool, true, false, cond, List, _++_, Option, none, some, ℕ, _+_, _*_, _%_, _^_, _≤_, _<_, arith}
-use Rattle.numbers.proofs.Kit.{add-one, leb, length, take, drop, length-append, take-append-drop, length-take-le, eq-eqb, ne-eqb, le-leb, lt-leb}
+use Rattle.numbers.proofs.Kit.{_≡_, refl, sym, ap, ap₂, _∙_, Bool, true, false, cond, List, _++_, Option, none, some, ℕ, _+_, _*_, _%_, _^_, _≤_, _<_}
+use Rattle.numbers.proofs.Kit.{arith, add-one, leb, length, take, drop, length-append, take-append-drop, length-take-le, eq-eqb, ne-eqb, le-leb, lt-leb}
 use Rattle.numbers.specs.Tile.{putLe}
 use Rattle.machine.specs.declared.Wrong.the-variants.{Opcode, LeftOut, Unlisted, Register}
 use Rattle.machine.specs.Listing.{decode}

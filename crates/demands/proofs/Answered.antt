@@ -1,7 +1,7 @@
 -- Whatever a host does is answered with a number of the table, and a refusal changes nothing.
-use Rattle.numbers.proofs.Kit.{_≡_, refl, sym, ap, ap₂, _∙_, subst, _⊎_, inl, inr, Bool, true, false, cond, List, [], _∷_, _++_, Option, none, some, ℕ, zero}
-use Rattle.numbers.proofs.Kit.{suc, _+_, _≤_, _<_, eq-or-lt-of-le, eq-zero-or-pos, le-of-suc-le-suc, arith, leb, eqb, length, drop, replicate, eqb-true}
-use Rattle.numbers.proofs.Kit.{eqb-false, leb-true}
+use Rattle.numbers.proofs.Kit.{_≡_, refl, sym, ap, ap₂, _∙_, subst, _⊎_, inl, inr, Bool, true, false, cond, List, [], _∷_, _++_, Option, none, some, ℕ}
+use Rattle.numbers.proofs.Kit.{zero, suc, _+_, _≤_, _<_, eq-or-lt-of-le, eq-zero-or-pos, le-of-suc-le-suc, arith, leb, eqb, length, drop, replicate}
+use Rattle.numbers.proofs.Kit.{eqb-true, eqb-false, leb-true}
 use Rattle.numbers.specs.Blocks.{Choice}
 use Rattle.numbers_format.specs.Parser.{Parsed, parse}
 use Rattle.numbers_format.specs.Parser.Parsed.{whole, stopped}

@@ -1,5 +1,6 @@
 -- A step of a word is its meaning.
-use Rattle.numbers.proofs.Kit.{_≡_, refl, sym, ap, ap₂, _∙_, Bool, true, false, cond, List, Option, none, some, Option·some-injective, Option·none-ne-some, ℕ}
+use Rattle.numbers.proofs.Kit.{_≡_, refl, sym, ap, ap₂, _∙_, Bool, true, false, cond, List, Option, none, some, Option·some-injective, Option·none-ne-some}
+use Rattle.numbers.proofs.Kit.{ℕ}
 use Rattle.numbers.specs.Blocks.{Choice}
 use Rattle.machine.specs.declared.Answer.{Answer}
 use Rattle.machine.specs.declared.Answer.the-variants.{BadArguments}

@@ -2,17 +2,11 @@
 -- sealed ranges, words with three operands, a run of 47 steps, an image of two runs, several acts and calls. Records and lines have the names that
 -- Promise.antt and the demands' pages have; proofs/Instances.antt takes each line from the promise's own term, so that a statement which asks for
 -- more, or speaks of less, no longer gives its line.
-use mathlib.Core.Path.{_≡_}
-use mathlib.Core.Logic.{_⊎_}
-use mathlib.Core.Bool.{true, false, cond}
-use mathlib.Core.List.{map, List, [], _∷_, _++_, List·Memᴰ}
-use mathlib.Core.Option.{none, some}
-use Prim.Native.Nat.{ℕ, zero, suc, _+_, _*_, _-_, _/_, _%_, _^_, _≤_, _<_}
-use lib.ListN.{length, getD, replicate, set, take, drop}
-use lib.IntN.{negsuc}
-use Rattle.width.specs.Reduce.{reduce}
-use Rattle.width.specs.Blocks.{Choice}
-use Rattle.width.specs.Binary32.{valueOf}
+use Rattle.numbers.specs.Kit.{_≡_, _⊎_, true, false, cond, map, List, [], _∷_, _++_, List·Memᴰ, none, some, ℕ, zero, suc, _+_, _*_, _-_, _/_, _%_, _^_, _≤_}
+use Rattle.numbers.specs.Kit.{_<_, length, getD, replicate, set, take, drop, negsuc}
+use Rattle.numbers.specs.Reduce.{reduce}
+use Rattle.numbers.specs.Blocks.{Choice}
+use Rattle.numbers.specs.Binary32.{valueOf}
 use Rattle.machine.specs.declared.Machine.{Machine}
 use Rattle.machine.specs.declared.Form.the-variants.{Transposed}
 use Rattle.machine.specs.declared.Matrix.the-variants.{MatrixB}
@@ -33,13 +27,13 @@ use Rattle.machine.specs.Step.{beside, carriedIn, vectorStep, stepWith}
 use Rattle.machine.specs.Alike.{Alike}
 use Rattle.machine.specs.Theorems.{Given, afterAll, startedBench}
 use Rattle.machine.specs.WordTheorems.{Faultless, RightOpcode, EveryBit, IsOther, IsOurs, stepBefore}
-use Rattle.refusals.specs.Given.{Legal, GivenExactly, FirstAmong, reads}
-use Rattle.refusals.specs.Listed.{entries, Spot, IsThere, placeOf}
-use Rattle.refusals.specs.Faults.{NotAtFault}
-use Rattle.refusals.specs.Starts.{Startable, HasNinth, Addable}
-use Rattle.refusals.specs.Images.{NoRoomFor}
-use Rattle.ranges.specs.Ranges.{sealsIn}
-use Rattle.sealing.specs.Theorems.{RefusesOnly}
+use Rattle.theorem_refusals.specs.Given.{Legal, GivenExactly, FirstAmong, reads}
+use Rattle.theorem_refusals.specs.Listed.{entries, Spot, IsThere, spotAt}
+use Rattle.theorem_refusals.specs.Faults.{NotAtFault}
+use Rattle.theorem_refusals.specs.Starts.{Startable, HasNinth, Addable}
+use Rattle.theorem_refusals.specs.Images.{NoRoomFor}
+use Rattle.unit_ranges.specs.Ranges.{sealsIn}
+use Rattle.unit_sealing.specs.Theorems.{RefusesOnly}
 use Rattle.run.specs.declared.Plan.{Plan}
 use Rattle.run.specs.declared.Handed.{Handed}
 use Rattle.run.specs.declared.Place.{Place}
@@ -52,52 +46,52 @@ use Rattle.run.specs.Turn.{stepsIn, ask, Running, running, turn, afterTurns, an
 use Rattle.run.specs.Statement.{Numbers, Inside, Separate, jobOf, startedRun}
 use Rattle.run.specs.Whole.{whole}
 use Rattle.run.specs.Acts.{Act, Session, session, afterActs}
-use Rattle.transposed.specs.Transposed.{Pair, afterStore}
-use Rattle.slices.specs.MovedBack.{Slice, afterOut, afterBack}
-use Rattle.exact.specs.Exact.{Is}
-use Rattle.decode_table.specs.Table.{tableAgrees, entryOf, restRight, meant}
-use Rattle.format.specs.Numbers.{encode, span}
-use Rattle.format.specs.Formats.{Ends, Format, Accepts, Accepted}
-use Rattle.format.specs.Parser.{Parsed}
+use Rattle.theorem_transposed.specs.Transposed.{Pair, afterStore}
+use Rattle.unit_slices.specs.MovedBack.{Slice, afterOut, afterBack}
+use Rattle.theorem_exact.specs.Exact.{Is}
+use Rattle.unit_table.specs.Table.{tableAgrees, entryOf, restRight, meant}
+use Rattle.numbers_format.specs.Numbers.{encode, span}
+use Rattle.numbers_format.specs.Formats.{Ends, Format, Accepts, Accepted}
+use Rattle.numbers_format.specs.Parser.{Parsed}
 use Rattle.image.specs.declared.Imaged.the-variants.{Done, BadArguments, Damaged}
 use Rattle.image.specs.Answers.{imageReply}
 use Rattle.image.specs.Cells.{Fit, runs, spread}
 use Rattle.image.specs.Cells.Run.{run}
 use Rattle.image.specs.Images.{imageOf, soundWith, IsImage}
 use Rattle.image.specs.ImageFormat.{Described, imageFormat}
-use Rattle.image.specs.Writing.{sized, written, sizeImage, writeImage}
+use Rattle.image.specs.Writing.{sizeReply, writeReply, sizeImage, writeImage}
 use Rattle.image.specs.Reading.{readImage}
 use Rattle.image.specs.Theorems.{imageIn}
-use Rattle.salvage.specs.Salvage.{salvaged, salvage}
-use Rattle.salvage.specs.Theorems.{endOf, KeepsFirst}
-use Rattle.assembly.specs.Bytes.{bytes}
-use Rattle.assembly.specs.Lines.{line}
-use Rattle.assembly.specs.Reading.{readLine}
-use Rattle.assembly.specs.Words.{wordText, readWord}
-use Rattle.assembly.specs.Programs.{replyTo}
-use Rattle.assembly.specs.Theorems.{Prints, hasLine, IsLine, IsWord}
-use Rattle.bench_calls.specs.BenchCalls.{startedOut, hostStart, steppedOut, hostStep, sealedOut, hostSeal}
-use Rattle.run_calls.specs.RunCalls.{runStartedOut, hostRunStart, nextOut, hostNext, hostRunSteps}
-use Rattle.turn_calls.specs.TurnCalls.{turnedOut, hostTurn, hostTurns, ranOut, hostRun}
-use Rattle.image_calls.specs.ImageCalls.{hostImageSize, writtenOut, hostImageWrite, readOut, hostImageRead}
-use Rattle.salvage_calls.specs.SalvageCalls.{salvagedOut, hostSalvage}
-use Rattle.salvage_calls.specs.Theorems.{reported}
-use Rattle.text_calls.specs.TextCalls.{textOut, hostWordText, wordLeft, hostTextWord}
-use Rattle.blocks.specs.Blocks.{machineOf, valuesOf, putValues, putNumbers, packed}
-use Rattle.run_blocks.specs.RunBlocks.{runOf}
-use Rattle.calls.specs.Calls.{Buffers, buffers, Call, called, calls}
-use Rattle.calls.specs.Composed.{afterCalls, turnCalls, zeros, benchIn, afterTurnCalls}
-use Rattle.powerup.specs.Steps.{AlikeBenches, SameOutcome, EachSame, outcomes, outcomesGiven}
-use Rattle.powerup.specs.Runs.{SameRunStart, SameTurns, SameTurn, SameWhole}
-use Rattle.powerup.specs.PowerUp.{readings}
-use Rattle.powerup_image.specs.ImagesStay.{imagesAfter}
-use Rattle.powerup_host.specs.Calls.{SameCalled, EachSameCalled}
-use Rattle.handover.specs.Handover.{writtenInto, imageFrom, EachSameImage}
+use Rattle.image_salvage.specs.Salvage.{salvaged, salvage}
+use Rattle.image_salvage.specs.Theorems.{endOf, KeepsFirst}
+use Rattle.text_assembly.specs.Bytes.{bytes}
+use Rattle.text_assembly.specs.Lines.{line}
+use Rattle.text_assembly.specs.Reading.{readLine}
+use Rattle.text_assembly.specs.Words.{wordText, readWord}
+use Rattle.text_assembly.specs.Programs.{replyTo}
+use Rattle.text_assembly.specs.Theorems.{Prints, hasLine, IsLine, IsWord}
+use Rattle.c_step.specs.BenchCalls.{startedOut, hostStart, steppedOut, hostStep, sealedOut, hostSeal}
+use Rattle.c_run.specs.RunCalls.{runStartedOut, hostRunStart, nextOut, hostNext, hostRunSteps}
+use Rattle.c_turn.specs.TurnCalls.{turnedOut, hostTurn, hostTurns, ranOut, hostRun}
+use Rattle.c_image.specs.ImageCalls.{hostImageSize, writtenOut, hostImageWrite, readOut, hostImageRead}
+use Rattle.c_salvage.specs.SalvageCalls.{salvagedOut, hostSalvage}
+use Rattle.c_salvage.specs.Theorems.{reported}
+use Rattle.c_text.specs.TextCalls.{textOut, hostWordText, wordLeft, hostTextWord}
+use Rattle.c_blocks.specs.Blocks.{machineOf, valuesOf, putValues, putNumbers, packed}
+use Rattle.c_run_blocks.specs.RunBlocks.{runOf}
+use Rattle.theorem_calls.specs.Calls.{Buffers, buffers, Call, called, calls}
+use Rattle.theorem_calls.specs.Composed.{afterCalls, turnCalls, zeros, benchIn, afterTurnCalls}
+use Rattle.theorem_powerup.specs.Steps.{AlikeBenches, SameOutcome, EachSame, outcomes, outcomesGiven}
+use Rattle.theorem_powerup.specs.Runs.{SameRunStart, SameTurns, SameTurn, SameWhole}
+use Rattle.theorem_powerup.specs.PowerUp.{readings}
+use Rattle.theorem_powerup_image.specs.ImagesStay.{imagesAfter}
+use Rattle.theorem_powerup_calls.specs.Calls.{SameCalled, EachSameCalled}
+use Rattle.theorem_handover.specs.Handover.{writtenInto, imageFrom, EachSameImage}
 use Rattle.demands.specs.Deeds.{Deed, deed, HostCall, hostCalled}
 use Rattle.demands.specs.Demand2.{readBench}
 use Rattle.demands.specs.Demand3.{RunCallDelivers}
 use Rattle.run.specs.Sheet as Sheet
-use Rattle.decode_table.specs.Table as Table
+use Rattle.unit_table.specs.Table as Table
 
 -- ---- a machine and what it is lent
 
@@ -584,7 +578,7 @@ pub record Words : Type 0 where
   -- SEW 16 with maccq, and SEW 32 with it
   pub types : (newType 64 9 ≡ 9) × (newType 64 10 ≡ 2 ^ 63)
   -- byte 588 is byte 12 of row 1 of acc0, and of no other
-  pub registers : let at = placeOf (parametersOf halving 128 512 64) in
+  pub registers : let at = spotAt (parametersOf halving 128 512 64) in
       (at (Spot.inAccumulator 0 1 12) < 1024) × ((s : Spot) × IsThere 128 512 s × (at s ≡ 588)) × ((s : Spot) → IsThere 128 512 s → at s ≡ 588 → s ≡ Spot.inAccumulator 0 1 12)
   -- msce32.m acc1, (x10), x11, three rows of five at 150, 174 and 198: byte 1 of element (2, 3); byte 172, between two rows
   pub stores : let o = stepWith chosen msce32 (xs 150 24) lent held .bench .memory in
@@ -665,7 +659,7 @@ pub record Requests : Type 1 where
   -- written into a room that is longer, then read into other registers
   pub six-back : let w = writeImage (machineBy 1) sealed3 regs spots (room 30) in
       let o = readImage (take (w .size) (w .room)) regs′ allMarks in (o .answer ≡ imageReply Done) × Alike spotted (benchOf (o .machine) (o .seals) (o .registers) (o .marks) mem)
-  pub six-again : let o = readImage image regs′ allMarks in writeImage (o .machine) (o .seals) (o .registers) (o .marks) (room 30) ≡ written Done 27 (image ++ room 3)
+  pub six-again : let o = readImage image regs′ allMarks in writeImage (o .machine) (o .seals) (o .registers) (o .marks) (room 30) ≡ writeReply Done 27 (image ++ room 3)
   pub six-c-made : let b = called (Call.imageRead image) otherHost .after in
       (soundBench (benchIn b) ≡ true) × (imageIn (benchIn b) ≡ image) × (getD (b .registers) 100 0 ≡ 9) × (b .memory ≡ mem)
   pub six-c-back : let o = called (Call.imageRead (imageFrom (writtenInto (room 30) spottedHost))) otherHost in
@@ -755,8 +749,8 @@ pub record Computed : Type 0 where
   -- registers and marks of a start
   pub started : (startMachine 128 512 64 1 seals regs allMarks .registers ≡ regs) × (startMachine 128 512 64 1 seals regs allMarks .marks ≡ replicate 1024 0)
   -- registers, marks and room of an image that is sized, and written
-  pub sized-is : sizeImage (machineBy 1) sealed3 regs spots ≡ sized Done 27
-  pub written-is : writeImage (machineBy 1) sealed3 regs spots (room 30) ≡ written Done 27 (image ++ room 3)
+  pub sized-is : sizeImage (machineBy 1) sealed3 regs spots ≡ sizeReply Done 27
+  pub written-is : writeImage (machineBy 1) sealed3 regs spots (room 30) ≡ writeReply Done 27 (image ++ room 3)
   -- image, registers and marks of one that is read: bytes 69 to 73, of which three are in the image, and the marks
   pub read-is : (take 5 (drop 69 (readImage image regs′ allMarks .registers)) ≡ 9 ∷ 70 ∷ 71 ∷ 72 ∷ 9 ∷ []) × (readImage image regs′ allMarks .marks ≡ spots)
   -- of the C functions each buffer, and each number; blocks that are written whole held 9 before

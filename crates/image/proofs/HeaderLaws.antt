@@ -1,6 +1,6 @@
 -- A machine that is not at fault has numbers that an image can hold, and such numbers make a machine that is not at fault.
-use Rattle.numbers.proofs.Kit.{_≡_, refl, sym, ap, ap₂, _∙_, subst, inl, inr, Bool, true, false, cond, not, _&&_, _||_, List, [], _∷_, ℕ, _+_, _-_, _*_, _/_}
-use Rattle.numbers.proofs.Kit.{_%_, _^_, _≤_, _<_, min, arith, leb, ltb, eqb, length, getD, leb-true, ltb-true, eqb-true, le-leb, lt-ltb}
+use Rattle.numbers.proofs.Kit.{_≡_, refl, sym, ap, ap₂, _∙_, subst, inl, inr, Bool, true, false, cond, not, _&&_, _||_, List, [], _∷_, ℕ, _+_, _-_, _*_}
+use Rattle.numbers.proofs.Kit.{_/_, _%_, _^_, _≤_, _<_, min, arith, leb, ltb, eqb, length, getD, leb-true, ltb-true, eqb-true, le-leb, lt-ltb}
 use Rattle.numbers_format.specs.Numbers.{Among}
 use Rattle.numbers_format.specs.Parser.{isAmong}
 use Rattle.numbers_format.proofs.NumberLaws.{isAmong-among, among-isAmong}

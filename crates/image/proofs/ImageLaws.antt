@@ -1,7 +1,7 @@
 -- The format accepts the bytes of a header that a machine can hold and of runs that fit, and nothing else.
 use Rattle.numbers.proofs.Kit.{_≡_, refl, sym, ap, ap₂, _∙_, subst, _⊎_, inl, inr, Bool, true, false, cond, not, _&&_, _||_, List, [], _∷_, _++_, map, none}
-use Rattle.numbers.proofs.Kit.{some, ℕ, zero, suc, _+_, _-_, _*_, _^_, _≤_, _<_, min, arith, eqb, ltb, length, replicate, eqb-true, eqb-false, eq-eqb, ne-eqb}
-use Rattle.numbers.proofs.Kit.{ltb-true, ltb-false, lt-ltb, le-ltb}
+use Rattle.numbers.proofs.Kit.{some, ℕ, zero, suc, _+_, _-_, _*_, _^_, _≤_, _<_, min, arith, eqb, ltb, length, replicate, eqb-true, eqb-false, eq-eqb}
+use Rattle.numbers.proofs.Kit.{ne-eqb, ltb-true, ltb-false, lt-ltb, le-ltb}
 use Rattle.numbers.proofs.BlockLaws.{le-or-lt}
 use Rattle.machine.proofs.TestLaws.{false-true}
 use Rattle.numbers_format.specs.Numbers.{span, Among, encode, encodeAll, ByteString}

@@ -1,7 +1,7 @@
 -- Filling runs into lent registers and marks, run by run.
-use Rattle.numbers.proofs.Kit.{_≡_, refl, sym, ap, ap₂, _∙_, subst, Bool, true, false, List, [], _∷_, _++_, map, append-assoc, none, some, ℕ, zero, suc, _+_}
-use Rattle.numbers.proofs.Kit.{_-_, _≤_, arith, ltb, length, take, drop, replicate, length-append, length-drop, length-replicate, take-append-drop, sets}
-use Rattle.numbers.proofs.Kit.{sets-eq, length-sets, drop-drop, take-add, take-at, drop-at, length-take-le, ltb-true, ltb-false}
+use Rattle.numbers.proofs.Kit.{_≡_, refl, sym, ap, ap₂, _∙_, subst, Bool, true, false, List, [], _∷_, _++_, map, append-assoc, none, some, ℕ, zero, suc}
+use Rattle.numbers.proofs.Kit.{_+_, _-_, _≤_, arith, ltb, length, take, drop, replicate, length-append, length-drop, length-replicate, take-append-drop}
+use Rattle.numbers.proofs.Kit.{sets, sets-eq, length-sets, drop-drop, take-add, take-at, drop-at, length-take-le, ltb-true, ltb-false}
 use Rattle.numbers_format.specs.Formats.Format.{done}
 use Rattle.numbers_format.specs.Parser.{Parsed, from}
 use Rattle.numbers_format.specs.Parser.Parsed.{whole, stopped}

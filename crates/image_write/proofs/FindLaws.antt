@@ -1,7 +1,7 @@
 -- Finding the runs of marked bytes, one after the other.
 use Rattle.numbers.proofs.Kit.{_≡_, refl, sym, ap, ap₂, _∙_, subst, _⊎_, inl, inr, List, [], _∷_, _++_, map, append-nil, none, some, ℕ, zero, suc, _+_, _-_}
-use Rattle.numbers.proofs.Kit.{_^_, _≤_, _<_, arith, length, take, drop, getD, replicate, length-drop, drop-of-length-le, length-append, getD-drop, drop-drop}
-use Rattle.numbers.proofs.Kit.{length-take-le}
+use Rattle.numbers.proofs.Kit.{_^_, _≤_, _<_, arith, length, take, drop, getD, replicate, length-drop, drop-of-length-le, length-append, getD-drop}
+use Rattle.numbers.proofs.Kit.{drop-drop, length-take-le}
 use Rattle.numbers.proofs.BlockLaws.{le-or-lt}
 use Rattle.numbers_format.specs.Numbers.{encode}
 use Rattle.image.specs.Cells.{Cell, cell, cellsOf, Run, widen, runs, Fit}

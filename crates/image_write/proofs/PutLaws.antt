@@ -1,6 +1,7 @@
 -- Numbers and bytes put into room one after the other.
 use Rattle.numbers.proofs.Kit.{_≡_, refl, sym, ap, ap₂, _∙_, Bool, true, false, _||_, List, [], _∷_, _++_, append-assoc, append-nil, ℕ, suc, _+_, _≤_, _<_}
-use Rattle.numbers.proofs.Kit.{arith, add-one, eqb, ltb, length, drop, getD, set, length-append, drop-of-length-le, sets, sets-eq, drop-cons, eq-eqb, ne-eqb}
+use Rattle.numbers.proofs.Kit.{arith, add-one, eqb, ltb, length, drop, getD, set, length-append, drop-of-length-le, sets, sets-eq, drop-cons, eq-eqb}
+use Rattle.numbers.proofs.Kit.{ne-eqb}
 use Rattle.numbers_format.specs.Numbers.{encode, encodeAll}
 use Rattle.image.specs.Images.{Header, beyond, version}
 

@@ -1,5 +1,6 @@
 -- What the entry points have to show: an image is its numbers, then its runs.
-use Rattle.numbers.proofs.Kit.{_≡_, sym, ap, ap₂, _∙_, true, false, List, [], _∷_, _++_, ℕ, _+_, _≤_, _<_, arith, length, length-append, sets, le-leb, lt-leb}
+use Rattle.numbers.proofs.Kit.{_≡_, sym, ap, ap₂, _∙_, true, false, List, [], _∷_, _++_, ℕ, _+_, _≤_, _<_, arith, length, length-append, sets, le-leb}
+use Rattle.numbers.proofs.Kit.{lt-leb}
 use Rattle.numbers_format.specs.Numbers.{encode, encodeAll}
 use Rattle.machine.specs.declared.Machine.{Machine}
 use Rattle.machine.specs.Faults.{sound, sealsFit}

@@ -1,6 +1,6 @@
 -- For code: the verdict of checks made in parts, the outcome of an instruction from its parts, and bounds of what is decoded.
-use Rattle.numbers.proofs.Kit.{_≡_, refl, sym, ap, ap₂, _∙_, Bool, true, false, cond, not, _&&_, List, [], _∷_, _++_, ℕ, _^_, _≤_, arith, ltb, eqb, eqb-true}
-use Rattle.numbers.proofs.Kit.{ltb-true, ltb-false, lt-ltb, ne-eqb}
+use Rattle.numbers.proofs.Kit.{_≡_, refl, sym, ap, ap₂, _∙_, Bool, true, false, cond, not, _&&_, List, [], _∷_, _++_, ℕ, _^_, _≤_, arith, ltb, eqb}
+use Rattle.numbers.proofs.Kit.{eqb-true, ltb-true, ltb-false, lt-ltb, ne-eqb}
 use Rattle.numbers.specs.Blocks.{Choice}
 use Rattle.numbers.specs.Bounds.{mostElen}
 use Rattle.machine.specs.declared.Machine.{Machine}

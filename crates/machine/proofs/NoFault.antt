@@ -1,7 +1,8 @@
 -- A step of a machine that is not at fault leaves one that is not at fault; and so does a start.
-use Rattle.numbers.proofs.Kit.{_≡_, refl, sym, ap, _∙_, subst, inl, inr, Bool, true, false, cond, List, [], _∷_, _++_, ℕ, zero, suc, _+_, _*_, _-_, _/_, _^_}
-use Rattle.numbers.proofs.Kit.{_≤_, _<_, min, div-le-self, arith, ℕ-discrete, leb, ltb, eqb, length, getD, set, length-set, List·getD-eq-default, replicate}
-use Rattle.numbers.proofs.Kit.{length-replicate, length-append, getD-set-same, getD-set-other, le-leb, lt-ltb, eq-eqb, leb-true, ltb-true, eqb-true}
+use Rattle.numbers.proofs.Kit.{_≡_, refl, sym, ap, _∙_, subst, inl, inr, Bool, true, false, cond, List, [], _∷_, _++_, ℕ, zero, suc, _+_, _*_, _-_, _/_}
+use Rattle.numbers.proofs.Kit.{_^_, _≤_, _<_, min, div-le-self, arith, ℕ-discrete, leb, ltb, eqb, length, getD, set, length-set, List·getD-eq-default}
+use Rattle.numbers.proofs.Kit.{replicate, length-replicate, length-append, getD-set-same, getD-set-other, le-leb, lt-ltb, eq-eqb, leb-true, ltb-true}
+use Rattle.numbers.proofs.Kit.{eqb-true}
 use Rattle.numbers.proofs.UptoLaws.{upto-keeps}
 use Rattle.numbers.specs.Tile.{markTile, markRow}
 use Rattle.numbers.proofs.TileLaws.{length-putTile, length-markTile}

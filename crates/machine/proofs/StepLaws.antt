@@ -1,6 +1,6 @@
 -- A step whose checks pass is carried out; geometry that every permitted machine has.
-use Rattle.numbers.proofs.Kit.{_≡_, refl, sym, ap, _∙_, subst, Bool, true, false, cond, not, _||_, List, [], _∷_, ℕ, zero, _*_, _/_, _≤_, _<_, leb, ltb, eqb}
-use Rattle.numbers.proofs.Kit.{leb-true, ltb-true, eqb-true}
+use Rattle.numbers.proofs.Kit.{_≡_, refl, sym, ap, _∙_, subst, Bool, true, false, cond, not, _||_, List, [], _∷_, ℕ, zero, _*_, _/_, _≤_, _<_, leb, ltb}
+use Rattle.numbers.proofs.Kit.{eqb, leb-true, ltb-true, eqb-true}
 use Rattle.numbers.specs.Blocks.{Choice}
 use Rattle.numbers.specs.Bounds.{mostRlen, mostMlen}
 use Rattle.machine.specs.declared.Answer.{Answer}

@@ -1,7 +1,7 @@
 -- For code on elements: only the low bytes of a value are stored, and sign extension.
-use Rattle.numbers.proofs.Kit.{_≡_, refl, sym, ap, _∙_, subst, subst⁻¹, Bool, true, false, cond, List, ℕ, zero, suc, _+_, _*_, _-_, _%_, _^_, _≤_, _<_}
-use Rattle.numbers.proofs.Kit.{mod-eq-of-lt, one-le-pow, mul-add-mod-self-left, lt-of-le-of-lt, mul-le-mul-left, mul-lt-mul-of-pos-right, le-of-lt}
-use Rattle.numbers.proofs.Kit.{arith, add-one, ltb, ℤ, pos, negsuc, pow-pos, pow-add, ltb-true, ltb-false, lt-ltb, le-ltb}
+use Rattle.numbers.proofs.Kit.{_≡_, refl, sym, ap, _∙_, subst, subst⁻¹, Bool, true, false, cond, List, ℕ, zero, suc, _+_, _*_, _-_, _%_, _^_, _≤_}
+use Rattle.numbers.proofs.Kit.{_<_, mod-eq-of-lt, one-le-pow, mul-add-mod-self-left, lt-of-le-of-lt, mul-le-mul-left, mul-lt-mul-of-pos-right}
+use Rattle.numbers.proofs.Kit.{le-of-lt, arith, add-one, ltb, ℤ, pos, negsuc, pow-pos, pow-add, ltb-true, ltb-false, lt-ltb, le-ltb}
 use Rattle.numbers.specs.Tile.{getLe, putLe, putRow, putTile, In}
 use Rattle.numbers.proofs.TileLaws.{putTile-keeps}
 use Rattle.numbers.specs.Reduce.{signed, reduce}

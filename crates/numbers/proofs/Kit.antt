@@ -15,9 +15,9 @@ pub use native.Mathlib.Nat.{div-add-mod', div-div-eq-div-mul, div-eq-of-lt, div-
 pub use native.Mathlib.Nat.{div-zero, dvd-mul-right, eq-or-lt-of-le, eq-zero-or-pos, le-div-iff-mul-le, le-mul-of-pos-right, le-of-lt, le-of-suc-le-suc}
 pub use native.Mathlib.Nat.{le-refl, lt-irrefl, lt-of-le-of-lt, lt-of-not-le, min-le-left, min-le-right, mod-eq-of-lt, mod-lt, mod-mod, mod-mod-of-dvd}
 pub use native.Mathlib.Nat.{mod-one, mul-add-div-right, mul-add-mod-self-left, mul-assoc, mul-comm, mul-le-mul, mul-le-mul-left, mul-le-mul-right}
-pub use native.Mathlib.Nat.{mul-lt-mul-of-pos-right, mul-mul-mul-comm, mul-one, mul-pos, mul-sub, mul-zero, not-suc-le-zero, one-le-pow, one-mul, pow-suc}
-pub use native.Mathlib.Nat.{pow-succ', pow-zero, sub-add-eq, sub-eq-zero-of-le, sub-self, sub-zero, suc-add, suc-mul, suc-pred-eq-of-pos, zero-add}
-pub use native.Mathlib.Nat.{zero-lt-suc, zero-mul}
+pub use native.Mathlib.Nat.{mul-lt-mul-of-pos-right, mul-mul-mul-comm, mul-one, mul-pos, mul-sub, mul-zero, not-suc-le-zero, one-le-pow, one-mul}
+pub use native.Mathlib.Nat.{pow-le-pow-right, pow-suc, pow-succ', pow-zero, sub-add-eq, sub-eq-zero-of-le, sub-self, sub-zero, suc-add, suc-mul}
+pub use native.Mathlib.Nat.{suc-pred-eq-of-pos, zero-add, zero-lt-suc, zero-mul}
 pub use native.Mathlib.Omega.{arith}
 pub use native.Mathlib.Numerals.{add-one}
 unfoldable pub use native.Mathlib.Decide.{decLe, decLt, ℕ-discrete}

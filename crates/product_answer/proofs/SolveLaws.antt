@@ -1,7 +1,7 @@
 -- The numbers as they are held stand for the problem's elements, so C has the sums that the answer writes.
 use Rattle.numbers.proofs.Kit.{_≡_, refl, sym, ap, ap₂, _∙_, true, List, [], _∷_, _++_, map, Option, none, some, ℕ, zero, suc, _+_, _*_, _-_, _/_, _%_, _^_}
-use Rattle.numbers.proofs.Kit.{_≤_, _<_, min, mul-le-mul, arith, length, take, drop, getD, length-append, length-take, List·getD-append, getD-take, getD-drop}
-use Rattle.numbers.proofs.Kit.{getD-append-add, ℤ, pos, negsuc, ltb-true}
+use Rattle.numbers.proofs.Kit.{_≤_, _<_, min, mul-le-mul, arith, length, take, drop, getD, length-append, length-take, List·getD-append, getD-take}
+use Rattle.numbers.proofs.Kit.{getD-drop, getD-append-add, ℤ, pos, negsuc, ltb-true}
 use Rattle.numbers.specs.Reduce.{signed, reduce}
 use Rattle.machine.specs.Tests.{every}
 use Rattle.machine.proofs.TestLaws.{and-left, and-right}

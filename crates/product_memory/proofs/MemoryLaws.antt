@@ -1,7 +1,7 @@
 -- The layout of `product`: a start is accepted, the elements of A and B are the numbers that were written, and where C's elements lie.
-use Rattle.numbers.proofs.Kit.{_≡_, refl, sym, ap, ap₂, _∙_, subst, inl, inr, Bool, true, not, _||_, List, [], _∷_, ℕ, suc, _+_, _*_, _-_, _/_, _%_, _^_, _≤_}
-use Rattle.numbers.proofs.Kit.{_<_, mul-le-mul-left, mul-le-mul-right, mod-eq-of-lt, add-mul-mod-self-right, mod-mod, arith, leb, length, ℤ, pos, negsuc}
-use Rattle.numbers.proofs.Kit.{_+ℤ_, _*ℤ_, le-leb, le-ltb, lt-ltb}
+use Rattle.numbers.proofs.Kit.{_≡_, refl, sym, ap, ap₂, _∙_, subst, inl, inr, Bool, true, not, _||_, List, [], _∷_, ℕ, suc, _+_, _*_, _-_, _/_, _%_, _^_}
+use Rattle.numbers.proofs.Kit.{_≤_, _<_, mul-le-mul-left, mul-le-mul-right, mod-eq-of-lt, add-mul-mod-self-right, mod-mod, arith, leb, length, ℤ, pos}
+use Rattle.numbers.proofs.Kit.{negsuc, _+ℤ_, _*ℤ_, le-leb, le-ltb, lt-ltb}
 use Rattle.numbers.specs.Reduce.{signed, reduce, sumℤ}
 use Rattle.numbers.specs.Tile.{getLe, putLe, putRow, In}
 use Rattle.numbers.proofs.ReduceLaws.{sumℤ-cong}

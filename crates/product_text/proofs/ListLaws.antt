@@ -1,5 +1,6 @@
 -- The rest of a list, and a part of its front.
-use Rattle.numbers.proofs.Kit.{_≡_, sym, List, [], _∷_, ℕ, zero, suc, _+_, _-_, zero-add, suc-add, arith, length, take, drop, length-drop, take-all, take-nil}
+use Rattle.numbers.proofs.Kit.{_≡_, sym, List, [], _∷_, ℕ, zero, suc, _+_, _-_, zero-add, suc-add, arith, length, take, drop, length-drop, take-all}
+use Rattle.numbers.proofs.Kit.{take-nil}
 
 -- as code lends it: `&xs[i..]`
 pub rest-of : (i : ℕ) (xs : List ℕ) → take (length xs - i) (drop i xs) ≡ drop i xs

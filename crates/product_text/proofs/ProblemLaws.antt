@@ -1,8 +1,8 @@
 -- Laws of the problem that numbers pose: its tests, of the numbers as the code holds them.
-use Rattle.numbers.proofs.Kit.{_≡_, refl, sym, ap, ap₂, _∙_, subst, _⊎_, inl, inr, Bool, true, false, not, _||_, cond, List, [], _∷_, _++_, map, Option, none}
-use Rattle.numbers.proofs.Kit.{some, Option·map, ℕ, zero, suc, _+_, _*_, _-_, _^_, _≤_, _<_, min, mul-le-mul, arith, add-one, leb, ltb, eqb, length, take}
-use Rattle.numbers.proofs.Kit.{drop, getD, length-take, length-drop, length-map, drop-of-length-le, take-append-drop, drop-cons, length-take-le, ℤ, pos}
-use Rattle.numbers.proofs.Kit.{negsuc, natAbs, leb-true, eqb-true, ne-eqb, le-leb, lt-leb, lt-ltb, le-ltb}
+use Rattle.numbers.proofs.Kit.{_≡_, refl, sym, ap, ap₂, _∙_, subst, _⊎_, inl, inr, Bool, true, false, not, _||_, cond, List, [], _∷_, _++_, map, Option}
+use Rattle.numbers.proofs.Kit.{none, some, Option·map, ℕ, zero, suc, _+_, _*_, _-_, _^_, _≤_, _<_, min, mul-le-mul, arith, add-one, leb, ltb, eqb, length}
+use Rattle.numbers.proofs.Kit.{take, drop, getD, length-take, length-drop, length-map, drop-of-length-le, take-append-drop, drop-cons, length-take-le, ℤ}
+use Rattle.numbers.proofs.Kit.{pos, negsuc, natAbs, leb-true, eqb-true, ne-eqb, le-leb, lt-leb, lt-ltb, le-ltb}
 use Rattle.numbers.proofs.BlockLaws.{le-or-lt}
 use Rattle.machine.specs.Tests.{all, every, allOf, isIn}
 use Rattle.machine.proofs.TestLaws.{Each, every-each, each-every, each, each-in, or-not, all-at, false-true}

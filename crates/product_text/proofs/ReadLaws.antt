@@ -1,8 +1,9 @@
 -- Laws of words and numbers, for the functions that read.
 use Rattle.numbers.proofs.Kit.{_≡_, refl, sym, ap, ap₂, _∙_, _⊎_, inl, inr, Bool, true, false, cond, List, [], _∷_, _++_, append-assoc, append-nil, map}
-use Rattle.numbers.proofs.Kit.{Option, none, some, Option·map, ℕ, zero, suc, _+_, _*_, _-_, _≤_, _<_, min, sub-self, arith, add-one, leb, length, take, drop}
-use Rattle.numbers.proofs.Kit.{getD, set, length-append, length-take, length-drop, take-append-drop, drop-of-length-le, drop-cons, drop-drop, drop-set-lt}
-use Rattle.numbers.proofs.Kit.{length-take-le, take-all, take-append-seam, take-suc, take-suc-set, getD-drop, ℤ, pos, negsuc, negℤ, leb-true, ne-eqb}
+use Rattle.numbers.proofs.Kit.{Option, none, some, Option·map, ℕ, zero, suc, _+_, _*_, _-_, _≤_, _<_, min, sub-self, arith, add-one, leb, length, take}
+use Rattle.numbers.proofs.Kit.{drop, getD, set, length-append, length-take, length-drop, take-append-drop, drop-of-length-le, drop-cons, drop-drop}
+use Rattle.numbers.proofs.Kit.{drop-set-lt, length-take-le, take-all, take-append-seam, take-suc, take-suc-set, getD-drop, ℤ, pos, negsuc, negℤ, leb-true}
+use Rattle.numbers.proofs.Kit.{ne-eqb}
 use Rattle.machine.proofs.TestLaws.{and-left, and-right}
 use Rattle.product_text.specs.declared.Word.the-variants.{Value, Other}
 use Rattle.product_text.specs.Text.{separator, keep, wordsFrom, words, digit, valueFrom, number, numbers, before}

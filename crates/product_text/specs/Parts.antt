@@ -1,6 +1,6 @@
 -- What the contracts of inner functions name; a reader of Output.antt need not read it.
-use Rattle.numbers.specs.Kit.{_≡_, Bool, cond, _&&_, List, [], _∷_, _++_, map, Option, none, some, Option·map, ℕ, suc, _+_, _*_, _-_, _≤_, _<_, min, leb, ltb}
-use Rattle.numbers.specs.Kit.{length, take, drop, ℤ, pos, negsuc}
+use Rattle.numbers.specs.Kit.{_≡_, Bool, cond, _&&_, List, [], _∷_, _++_, map, Option, none, some, Option·map, ℕ, suc, _+_, _*_, _-_, _≤_, _<_, min, leb}
+use Rattle.numbers.specs.Kit.{ltb, length, take, drop, ℤ, pos, negsuc}
 use Rattle.product_text.specs.declared.Count.{Count}
 use Rattle.product_text.specs.declared.Count.the-variants.{All, Many}
 use Rattle.product_text.specs.declared.Parsed.{Parsed}

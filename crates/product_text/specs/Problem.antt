@@ -1,6 +1,6 @@
 -- 01, the program `product`: the problem that a text poses, if it poses one.
-use Rattle.numbers.specs.Kit.{Bool, true, false, cond, List, [], _∷_, map, Option, none, some, ℕ, _+_, _*_, _-_, _^_, eqb, leb, ltb, length, take, drop, getD}
-use Rattle.numbers.specs.Kit.{ℤ, pos, negsuc, natAbs}
+use Rattle.numbers.specs.Kit.{Bool, true, false, cond, List, [], _∷_, map, Option, none, some, ℕ, _+_, _*_, _-_, _^_, eqb, leb, ltb, length, take, drop}
+use Rattle.numbers.specs.Kit.{getD, ℤ, pos, negsuc, natAbs}
 use Rattle.machine.specs.Tests.{all, every}
 use Rattle.run.specs.Start.{format}
 use Rattle.product_memory.specs.Memory.{productMachine}

@@ -1,6 +1,6 @@
 -- Demand 2 over any list of acts: each keeps the seal and the sealed bytes.
-use Rattle.numbers.proofs.Kit.{_≡_, refl, sym, ap, _∙_, subst, Bool, true, false, cond, List, [], _∷_, Option, none, some, ℕ, zero, suc, arith, length, getD}
-use Rattle.numbers.proofs.Kit.{replicate}
+use Rattle.numbers.proofs.Kit.{_≡_, refl, sym, ap, _∙_, subst, Bool, true, false, cond, List, [], _∷_, Option, none, some, ℕ, zero, suc, arith, length}
+use Rattle.numbers.proofs.Kit.{getD, replicate}
 use Rattle.numbers.specs.Blocks.{Choice}
 use Rattle.machine.specs.declared.Answer.the-variants.{Done, BadArguments}
 use Rattle.machine.specs.Answers.{reply}

@@ -1,8 +1,8 @@
 -- What a run needs of its elements, integers or binary32 numbers: a multiply passes its checks where an integer multiply does, a cleared
 -- element is the sum of no product, a multiply adds the products of one block to the sum, and both fit their width. All that is
 -- particular to either in the proof of demand 3 stands here.
-use Rattle.numbers.proofs.Kit.{_≡_, refl, sym, ap, ap₂, _∙_, subst, Bool, List, ℕ, _+_, _*_, _%_, _^_, _<_, mod-eq-of-lt, one-le-pow, one-mul, arith, ℤ, pos}
-use Rattle.numbers.proofs.Kit.{_+ℤ_, _*ℤ_, *ℤ-zero, eq-eqb}
+use Rattle.numbers.proofs.Kit.{_≡_, refl, sym, ap, ap₂, _∙_, subst, Bool, List, ℕ, _+_, _*_, _%_, _^_, _<_, mod-eq-of-lt, one-le-pow, one-mul, arith, ℤ}
+use Rattle.numbers.proofs.Kit.{pos, _+ℤ_, _*ℤ_, *ℤ-zero, eq-eqb}
 use Rattle.numbers.specs.Reduce.{signed, reduce, sumℤ}
 use Rattle.numbers.specs.Binary32.{valueOf, floatProduct}
 use Rattle.numbers.proofs.ReduceLaws.{sumℤ-add, sumℤ-cong, accumulate, reduce-lt}

@@ -1,7 +1,8 @@
 -- One turn keeps the invariant: the checks of each step pass, and what it leaves holds at the next place.
-use Rattle.numbers.proofs.Kit.{_≡_, refl, sym, ap, _∙_, subst, _⊎_, inl, inr, _≢_, Bool, true, false, cond, not, List, ℕ, zero, suc, _+_, _*_, _-_, _/_, _%_}
-use Rattle.numbers.proofs.Kit.{_^_, _≤_, _<_, min-le-left, mul-pos, not-suc-le-zero, min-le-right, div-mul-le-self, le-div-iff-mul-le, mul-le-mul-right}
-use Rattle.numbers.proofs.Kit.{mul-le-mul, mod-eq-of-lt, arith, ℕ-discrete, ltb, leb, eqb, length, ℤ, pos, _*ℤ_, ltb-true, ltb-false, le-leb, eq-eqb}
+use Rattle.numbers.proofs.Kit.{_≡_, refl, sym, ap, _∙_, subst, _⊎_, inl, inr, _≢_, Bool, true, false, cond, not, List, ℕ, zero, suc, _+_, _*_, _-_, _/_}
+use Rattle.numbers.proofs.Kit.{_%_, _^_, _≤_, _<_, min-le-left, mul-pos, not-suc-le-zero, min-le-right, div-mul-le-self, le-div-iff-mul-le}
+use Rattle.numbers.proofs.Kit.{mul-le-mul-right, mul-le-mul, mod-eq-of-lt, arith, ℕ-discrete, ltb, leb, eqb, length, ℤ, pos, _*ℤ_, ltb-true, ltb-false}
+use Rattle.numbers.proofs.Kit.{le-leb, eq-eqb}
 use Rattle.numbers.specs.Reduce.{signed, reduce}
 use Rattle.numbers.proofs.TileLaws as Tile
 use Rattle.numbers.specs.Tile.{getLe, In, putTile, markTile}

@@ -1,6 +1,6 @@
 -- Each word that a run hands out is read as its operation.
-use Rattle.numbers.proofs.Kit.{_≡_, refl, sym, ap, ap₂, _∙_, subst, Bool, true, false, cond, not, _||_, List, [], _∷_, ℕ, zero, suc, _+_, _*_, _/_, _%_, _^_}
-use Rattle.numbers.proofs.Kit.{_<_, mod-eq-of-lt, arith, T, leb, ltb, eqb, ℤ, pos, _+ℤ_, _*ℤ_, eqb-true, ltb-true, leb-true, le-leb}
+use Rattle.numbers.proofs.Kit.{_≡_, refl, sym, ap, ap₂, _∙_, subst, Bool, true, false, cond, not, _||_, List, [], _∷_, ℕ, zero, suc, _+_, _*_, _/_, _%_}
+use Rattle.numbers.proofs.Kit.{_^_, _<_, mod-eq-of-lt, arith, T, leb, ltb, eqb, ℤ, pos, _+ℤ_, _*ℤ_, eqb-true, ltb-true, leb-true, le-leb}
 use Rattle.numbers.specs.Reduce.{signed, reduce}
 use Rattle.numbers.proofs.ReduceLaws.{reduce-add, reduce-mul, reduce-signed}
 use Rattle.machine.specs.declared.Form.{Form}

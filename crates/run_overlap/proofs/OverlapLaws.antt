@@ -1,7 +1,7 @@
 -- Ranges of bytes that share none: the test on bytes against the test on ends, and the tests of a start as tests on pairs of rows.
 use Rattle.numbers.proofs.Kit.{_≡_, refl, sym, ap, _∙_, subst, _⊎_, inl, inr, Bool, true, false, not, _||_, ℕ, zero, _+_, _*_, _-_, _/_, _≤_, _<_}
-use Rattle.numbers.proofs.Kit.{mul-le-mul-right, le-mul-of-pos-right, div-add-mod', mod-lt, arith, leb, eqb, leb-true, eqb-true, eqb-false, leb-false, eq-eqb}
-use Rattle.numbers.proofs.Kit.{ne-eqb, le-leb, lt-leb}
+use Rattle.numbers.proofs.Kit.{mul-le-mul-right, le-mul-of-pos-right, div-add-mod', mod-lt, arith, leb, eqb, leb-true, eqb-true, eqb-false, leb-false}
+use Rattle.numbers.proofs.Kit.{eq-eqb, ne-eqb, le-leb, lt-leb}
 use Rattle.numbers.specs.Tile.{In}
 use Rattle.numbers.proofs.BlockLaws.{le-or-lt}
 use Rattle.machine.specs.Tests.{all, within}

@@ -1,5 +1,6 @@
 -- For code: what the numbers and the place of a sound run say, and the next place.
-use Rattle.numbers.proofs.Kit.{_≡_, refl, sym, true, [], _∷_, ℕ, _/_, _≤_, _<_, le-div-iff-mul-le, div-le-self, arith, leb, ltb, eqb-true, ltb-true, leb-true}
+use Rattle.numbers.proofs.Kit.{_≡_, refl, sym, true, [], _∷_, ℕ, _/_, _≤_, _<_, le-div-iff-mul-le, div-le-self, arith, leb, ltb, eqb-true, ltb-true}
+use Rattle.numbers.proofs.Kit.{leb-true}
 use Rattle.numbers.specs.Bounds.{mostElen, mostMlen}
 use Rattle.machine.specs.Tests.{every}
 use Rattle.machine.proofs.TestLaws.{Each, every-each, each-every}

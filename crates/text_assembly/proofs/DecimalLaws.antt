@@ -1,7 +1,7 @@
 -- Decimal numbers: their digits, their value, and reading the longest one that is permitted.
-use Rattle.numbers.proofs.Kit.{_≡_, refl, sym, ap, ap₂, _∙_, subst, _⊎_, ⊎-elim, Bool, true, false, cond, _&&_, List, [], _∷_, _++_, append-assoc, append-nil}
-use Rattle.numbers.proofs.Kit.{ℕ, zero, suc, _+_, _-_, _*_, _/_, _%_, _≤_, _<_, arith, ltb, leb, length, take, drop, take-append-drop, length-take-le}
-use Rattle.numbers.proofs.Kit.{ltb-true, leb-true, lt-ltb, le-leb}
+use Rattle.numbers.proofs.Kit.{_≡_, refl, sym, ap, ap₂, _∙_, subst, _⊎_, ⊎-elim, Bool, true, false, cond, _&&_, List, [], _∷_, _++_, append-assoc}
+use Rattle.numbers.proofs.Kit.{append-nil, ℕ, zero, suc, _+_, _-_, _*_, _/_, _%_, _≤_, _<_, arith, ltb, leb, length, take, drop, take-append-drop}
+use Rattle.numbers.proofs.Kit.{length-take-le, ltb-true, leb-true, lt-ltb, le-leb}
 use Rattle.numbers.proofs.BlockLaws.{le-or-lt}
 use Rattle.machine.proofs.TestLaws.{and-left, and-right, false-true}
 use Rattle.text_lines.specs.Lines.{decimal}

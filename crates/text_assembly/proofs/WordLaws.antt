@@ -1,6 +1,6 @@
 -- A row's word from the values of its operands, and back: rows whose fixed bits and operands together fill a word.
-use Rattle.numbers.proofs.Kit.{_≡_, refl, sym, ap, ap₂, _∙_, subst, Bool, true, false, _&&_, List, [], _∷_, ℕ, _+_, _*_, _-_, _/_, _^_, _≤_, _<_, arith, ltb}
-use Rattle.numbers.proofs.Kit.{leb, eqb, eqb-true, eq-eqb, ltb-true, leb-true}
+use Rattle.numbers.proofs.Kit.{_≡_, refl, sym, ap, ap₂, _∙_, subst, Bool, true, false, _&&_, List, [], _∷_, ℕ, _+_, _*_, _-_, _/_, _^_, _≤_, _<_, arith}
+use Rattle.numbers.proofs.Kit.{ltb, leb, eqb, eqb-true, eq-eqb, ltb-true, leb-true}
 use Rattle.machine.proofs.TestLaws.{and-left, and-right, false-true}
 use Rattle.machine.specs.Listing.{bits, field7, field15, field20, immediate13, Fixed, has}
 use Rattle.text_assembly.specs.Lines.{Operand, below, wide, small, operandCount, fieldAt, fieldsFrom, wordWith}

@@ -1,7 +1,7 @@
 -- Laws of decimal text and of writers.
 use Rattle.numbers.proofs.Kit.{_≡_, refl, sym, ap, _∙_, subst, _⊎_, inl, inr, true, false, List, [], _∷_, _++_, append-assoc, append-nil, ℕ, zero, suc, _+_}
-use Rattle.numbers.proofs.Kit.{_*_, _-_, _/_, _%_, _^_, _≤_, _<_, mod-eq-of-lt, mul-le-mul-right, pow-succ', suc-mul, arith, add-one, leb, length, take, drop}
-use Rattle.numbers.proofs.Kit.{getD, set, length-append, length-take, length-set, drop-of-length-le, take-suc-set, drop-set-lt, drop-cons, drop-drop}
+use Rattle.numbers.proofs.Kit.{_*_, _-_, _/_, _%_, _^_, _≤_, _<_, mod-eq-of-lt, mul-le-mul-right, pow-succ', suc-mul, arith, add-one, leb, length, take}
+use Rattle.numbers.proofs.Kit.{drop, getD, set, length-append, length-take, length-set, drop-of-length-le, take-suc-set, drop-set-lt, drop-cons, drop-drop}
 use Rattle.numbers.proofs.Kit.{getD-drop, leb-true, leb-false, lt-ltb, le-ltb, le-leb, lt-leb}
 use Rattle.numbers.specs.Reduce.{signed}
 use Rattle.numbers.proofs.BlockLaws.{le-or-lt}

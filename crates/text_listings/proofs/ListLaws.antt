@@ -1,7 +1,7 @@
 -- Digits, words and refusals.
-use Rattle.numbers.proofs.Kit.{_≡_, refl, sym, ap, ap₂, _∙_, subst, Bool, true, false, cond, _&&_, _||_, List, [], _∷_, _++_, Option, none, some, ℕ, suc, _+_}
-use Rattle.numbers.proofs.Kit.{_-_, _*_, _/_, _%_, _^_, _≤_, _<_, pow-succ', arith, add-one, leb, length, drop, getD, drop-of-length-le, drop-cons, leb-true}
-use Rattle.numbers.proofs.Kit.{le-leb, lt-leb, lt-ltb, le-ltb, eq-eqb, ne-eqb}
+use Rattle.numbers.proofs.Kit.{_≡_, refl, sym, ap, ap₂, _∙_, subst, Bool, true, false, cond, _&&_, _||_, List, [], _∷_, _++_, Option, none, some, ℕ, suc}
+use Rattle.numbers.proofs.Kit.{_+_, _-_, _*_, _/_, _%_, _^_, _≤_, _<_, pow-succ', arith, add-one, leb, length, drop, getD, drop-of-length-le, drop-cons}
+use Rattle.numbers.proofs.Kit.{leb-true, le-leb, lt-leb, lt-ltb, le-ltb, eq-eqb, ne-eqb}
 use Rattle.machine.proofs.TestLaws.{all-at, false-true}
 use Rattle.machine.specs.Listing.{decode}
 use Rattle.numbers_format.specs.Parser.{Parsed, later}

@@ -1,6 +1,6 @@
 -- Numbers of 64 bits stay such: those of a machine over steps, and those of a run over turns. So what is written to a block is read back.
-use Rattle.numbers.proofs.Kit.{_≡_, refl, sym, _∙_, subst, Bool, true, false, cond, List, [], _∷_, _++_, map, Option, none, some, ℕ, zero, suc, _+_, _/_, _^_}
-use Rattle.numbers.proofs.Kit.{_≤_, _<_, div-le-self, arith, ltb, eqb, length, getD, eqb-true, ltb-true, leb-true}
+use Rattle.numbers.proofs.Kit.{_≡_, refl, sym, _∙_, subst, Bool, true, false, cond, List, [], _∷_, _++_, map, Option, none, some, ℕ, zero, suc, _+_, _/_}
+use Rattle.numbers.proofs.Kit.{_^_, _≤_, _<_, div-le-self, arith, ltb, eqb, length, getD, eqb-true, ltb-true, leb-true}
 use Rattle.numbers.specs.Tile.{getLe}
 use Rattle.numbers.proofs.TileLaws.{le-lt}
 use Rattle.machine.specs.declared.Machine.{Machine}

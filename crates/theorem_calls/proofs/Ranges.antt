@@ -1,6 +1,6 @@
 -- Which ranges the machine's block holds after a call, and after one call after another.
-use Rattle.numbers.proofs.Kit.{_≡_, refl, sym, ap, ap₂, _∙_, subst, Bool, true, false, cond, List, [], _∷_, _++_, append-assoc, append-nil, ℕ, _%_, _^_, eqb}
-use Rattle.numbers.proofs.Kit.{ltb, length, eqb-true, eq-eqb}
+use Rattle.numbers.proofs.Kit.{_≡_, refl, sym, ap, ap₂, _∙_, subst, Bool, true, false, cond, List, [], _∷_, _++_, append-assoc, append-nil, ℕ, _%_, _^_}
+use Rattle.numbers.proofs.Kit.{eqb, ltb, length, eqb-true, eq-eqb}
 use Rattle.machine.specs.declared.Machine.{Machine}
 use Rattle.machine.specs.declared.Answer.{Answer}
 use Rattle.machine.specs.declared.Answer.the-variants.{Done, BadArguments, TooManySeals}

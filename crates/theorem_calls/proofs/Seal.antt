@@ -1,6 +1,6 @@
 -- Demand 2 over calls: each leaves the seal in the machine's block and the sealed bytes of memory.
-use Rattle.numbers.proofs.Kit.{_≡_, refl, sym, ap, _∙_, subst, Bool, true, false, cond, _||_, _&&_, false≢true, List, [], _∷_, _++_, ℕ, arith, eqb, leb, ltb}
-use Rattle.numbers.proofs.Kit.{length, getD, replicate, eqb-true, eqb-false, eq-eqb}
+use Rattle.numbers.proofs.Kit.{_≡_, refl, sym, ap, _∙_, subst, Bool, true, false, cond, _||_, _&&_, false≢true, List, [], _∷_, _++_, ℕ, arith, eqb, leb}
+use Rattle.numbers.proofs.Kit.{ltb, length, getD, replicate, eqb-true, eqb-false, eq-eqb}
 use Rattle.machine.specs.declared.Machine.{Machine}
 use Rattle.machine.specs.declared.Answer.{Answer}
 use Rattle.machine.specs.declared.Answer.the-variants.{Done, BadArguments, TooManySeals}

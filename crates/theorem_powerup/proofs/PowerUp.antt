@@ -1,6 +1,6 @@
 -- Request Nine, from a start on: an accepted start marks no byte, and each act keeps what two sessions have in common.
-use Rattle.numbers.proofs.Kit.{_≡_, refl, sym, ap, ap₂, _∙_, subst, Bool, true, false, cond, List, [], _∷_, ℕ, zero, suc, arith, eqb, length, getD, replicate}
-use Rattle.numbers.proofs.Kit.{eqb-true}
+use Rattle.numbers.proofs.Kit.{_≡_, refl, sym, ap, ap₂, _∙_, subst, Bool, true, false, cond, List, [], _∷_, ℕ, zero, suc, arith, eqb, length, getD}
+use Rattle.numbers.proofs.Kit.{replicate, eqb-true}
 use Rattle.numbers.specs.Blocks.{Choice}
 use Rattle.machine.specs.declared.Answer.the-variants.{Done}
 use Rattle.machine.specs.declared.Answer.{Answer}

@@ -1,6 +1,6 @@
 -- Each answer of a start, of adding a range, and of sizing and writing an image is given exactly when its sentence holds and none before it does.
-use Rattle.numbers.proofs.Kit.{_≡_, refl, sym, ap, ap₂, _∙_, subst, _↔_, Bool, true, false, cond, List, [], ℕ, _+_, _-_, _^_, _≤_, _<_, arith, leb, ltb, eqb}
-use Rattle.numbers.proofs.Kit.{length, eqb-false, ltb-true, ltb-false, leb-true, leb-false, le-leb}
+use Rattle.numbers.proofs.Kit.{_≡_, refl, sym, ap, ap₂, _∙_, subst, _↔_, Bool, true, false, cond, List, [], ℕ, _+_, _-_, _^_, _≤_, _<_, arith, leb, ltb}
+use Rattle.numbers.proofs.Kit.{eqb, length, eqb-false, ltb-true, ltb-false, leb-true, leb-false, le-leb}
 use Rattle.machine.specs.Answers.{bare}
 use Rattle.machine.specs.Geometry.{Range, range, Bench, benchOf}
 use Rattle.machine.specs.Starting.{sealEnds, mostSeals, ranges, startable, startMachine}

@@ -1,8 +1,8 @@
 -- The tests of the definitions that give 8 pass exactly where none of the sentences of the papers' faults holds.
 use Rattle.numbers.proofs.Kit.{_≡_, refl, sym, ap, _∙_, subst, _↔_, _⊎_, inl, inr, Bool, true, false, cond, not, _&&_, _||_, List, [], _∷_, map, List·Memᴰ}
-use Rattle.numbers.proofs.Kit.{List·Memᴰ·head, List·Memᴰ·tail, List·Memᴰ·cases-cons, List·Memᴰ·not-nil, ℕ, zero, suc, _+_, _-_, _*_, _/_, _%_, _^_, _≤_, _<_}
-use Rattle.numbers.proofs.Kit.{min, one-le-pow, div-add-mod', arith, leb, ltb, eqb, length, getD, pow-add, eq-eqb, eqb-true, ltb-true, ltb-false, lt-ltb}
-use Rattle.numbers.proofs.Kit.{leb-true, le-leb}
+use Rattle.numbers.proofs.Kit.{List·Memᴰ·head, List·Memᴰ·tail, List·Memᴰ·cases-cons, List·Memᴰ·not-nil, ℕ, zero, suc, _+_, _-_, _*_, _/_, _%_, _^_, _≤_}
+use Rattle.numbers.proofs.Kit.{_<_, min, one-le-pow, div-add-mod', arith, leb, ltb, eqb, length, getD, pow-add, eq-eqb, eqb-true, ltb-true, ltb-false}
+use Rattle.numbers.proofs.Kit.{lt-ltb, leb-true, le-leb}
 use Rattle.machine.specs.Tests.{all, every, allOf, isIn}
 use Rattle.machine.specs.declared.Machine.{Machine}
 use Rattle.machine.specs.Geometry.{Range, rlens, mlens, elens, permitted, registerBytes, Bench}

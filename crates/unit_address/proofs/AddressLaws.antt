@@ -1,7 +1,7 @@
 -- Signed strides in code and in the definitions, the address of a row, and the test of all rows by the first and the last.
-use Rattle.numbers.proofs.Kit.{_≡_, refl, sym, ap, _∙_, subst, _⊎_, inl, inr, Bool, true, false, cond, true≢false, ℕ, zero, suc, _+_, _*_, _-_, _/_, _^_, _≤_}
-use Rattle.numbers.proofs.Kit.{_<_, zero-mul, mul-zero, mul-le-mul-right, add-zero, mul-comm, le-div-iff-mul-le, arith, T, leb, ltb, ℤ, pos, negsuc, negℤ}
-use Rattle.numbers.proofs.Kit.{natAbs, _+ℤ_, _-ℤ_, _*ℤ_, eq-eqb, ne-eqb, lt-ltb, le-ltb, ltb-true, ltb-false, le-leb, lt-leb, leb-true}
+use Rattle.numbers.proofs.Kit.{_≡_, refl, sym, ap, _∙_, subst, _⊎_, inl, inr, Bool, true, false, cond, true≢false, ℕ, zero, suc, _+_, _*_, _-_, _/_, _^_}
+use Rattle.numbers.proofs.Kit.{_≤_, _<_, zero-mul, mul-zero, mul-le-mul-right, add-zero, mul-comm, le-div-iff-mul-le, arith, T, leb, ltb, ℤ, pos, negsuc}
+use Rattle.numbers.proofs.Kit.{negℤ, natAbs, _+ℤ_, _-ℤ_, _*ℤ_, eq-eqb, ne-eqb, lt-ltb, le-ltb, ltb-true, ltb-false, le-leb, lt-leb, leb-true}
 use lib.Signed.{mag, nonNeg, ltZ}
 use mir.Syntax.{w64}
 use mir.Val.{toZ, ofZ}

@@ -9,12 +9,12 @@ ghost use mathlib.Core.Path.{_≡_};
 ghost use Prim.Native.Nat.{_+_, _*_, _^_, _≤_, _<_, min};
 ghost use lib.IntN.{ℤ};
 ghost use lib.ListN.{length};
-ghost use Rattle.width.specs.Reduce.{reduce};
-ghost use Rattle.width.specs.Tile.{putTile};
-ghost use Rattle.width.specs.Bounds.{mostPitch, mostColumns, mostSize, mostTerms};
-ghost use Rattle.element.specs.Element.{Width};
-ghost use Rattle.arithmetic.specs.Effect.{shape, productTile, combineTile, scaleTile};
-ghost use Rattle.sums.specs.Rows.{productRow};
+ghost use Rattle.numbers.specs.Reduce.{reduce};
+ghost use Rattle.numbers.specs.Tile.{putTile};
+ghost use Rattle.numbers.specs.Bounds.{mostPitch, mostColumns, mostSize, mostTerms};
+ghost use Rattle.unit_element.specs.Element.{Width};
+ghost use Rattle.unit_arithmetic.specs.Effect.{shape, productTile, combineTile, scaleTile};
+ghost use Rattle.unit_sums.specs.Rows.{productRow};
 
 // A block of at most COLUMNS columns and TERMS terms, in all rows of C: in pairs where elements of one or two bytes make sums of four, in lanes
 // of 16 bits where sums of one or two bytes have 16 columns or more, else row by row.
@@ -38,7 +38,7 @@ fn multiply_rows(
 {
     if wide == 4 {
         if width != 4 {
-            pairs::multiply_rows(s, a, b, c, pitch, width, m, k, n);
+            unit_pairs::multiply_rows(s, a, b, c, pitch, width, m, k, n);
             return;
         }
         rows::multiply_rows(s, a, b, c, pitch, width, wide, m, k, n);
@@ -46,8 +46,8 @@ fn multiply_rows(
     }
     if n >= 16 {
         if wide <= 2 {
-            if n <= halves::LANES {
-                halves::multiply_rows(s, a, b, c, pitch, width, wide, m, k, n);
+            if n <= unit_halves::LANES {
+                unit_halves::multiply_rows(s, a, b, c, pitch, width, wide, m, k, n);
                 return;
             }
         }
@@ -85,7 +85,7 @@ fn multiply_terms(
     let mut from = a;
     let mut row = b;
     loop {
-        let terms = least(k - l, element::TERMS);
+        let terms = least(k - l, unit_element::TERMS);
         multiply_rows(s, from, row, c, pitch, width, wide, m, terms, n);
         l += terms;
         if l >= k {
@@ -101,9 +101,9 @@ fn columns_of(wide: usize) -> usize
     ensures { λ r. ⌜ (0 < r) × (r ≤ mostColumns) ⌝ }
 {
     if wide <= 2 {
-        halves::LANES
+        unit_halves::LANES
     } else {
-        element::COLUMNS
+        unit_element::COLUMNS
     }
 }
 
@@ -196,7 +196,7 @@ pub fn combine_tile(
 {
     let wide = factor * width;
     // Minus 1 as a residue at 64 bits.
-    let minus = 18446744073709551615;
+    let minus = 0xffff_ffff_ffff_ffff;
     match sum {
         Sum::Add => weigh_tile(registers, rows, pitch, width, wide, d, a, 1, 1, m, n),
         Sum::Subtract => weigh_tile(registers, rows, pitch, width, wide, d, a, 1, minus, m, n),

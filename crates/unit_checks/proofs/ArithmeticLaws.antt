@@ -1,6 +1,6 @@
 -- Arithmetic: what the checks of answers 2 to 4 give, and what answer 5 and the rest then are.
-use Rattle.numbers.proofs.Kit.{_≡_, refl, sym, ap, _∙_, subst, inl, inr, Bool, true, false, cond, List, [], _∷_, _++_, ℕ, zero, _+_, _*_, _/_, _≤_, _<_, min}
-use Rattle.numbers.proofs.Kit.{mul-le-mul, one-mul, mul-le-mul-right, div-mul-le-self, zero-mul, mul-zero, mul-pos, eq-zero-or-pos, arith, eqb, length}
+use Rattle.numbers.proofs.Kit.{_≡_, refl, sym, ap, _∙_, subst, inl, inr, Bool, true, false, cond, List, [], _∷_, _++_, ℕ, zero, _+_, _*_, _/_, _≤_, _<_}
+use Rattle.numbers.proofs.Kit.{min, mul-le-mul, one-mul, mul-le-mul-right, div-mul-le-self, zero-mul, mul-zero, mul-pos, eq-zero-or-pos, arith, eqb, length}
 use Rattle.numbers.proofs.Kit.{leb-true, eq-eqb, ne-eqb}
 use Rattle.machine.specs.declared.Machine.{Machine}
 use Rattle.machine.specs.declared.Matrix.the-variants.{MatrixA, MatrixB, MatrixC}

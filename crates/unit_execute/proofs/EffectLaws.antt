@@ -1,6 +1,6 @@
 -- Arithmetic: what the tile functions require, and what they leave is the effect of the definitions.
-use Rattle.numbers.proofs.Kit.{_≡_, refl, sym, ap, ap₂, _∙_, subst, Bool, true, false, List, [], ℕ, _+_, _*_, _/_, _≤_, _<_, one-mul, arith, eqb, leb, length}
-use Rattle.numbers.proofs.Kit.{getD, set, set-getD, ℤ, pos, eqb-true, le-leb, leb-true}
+use Rattle.numbers.proofs.Kit.{_≡_, refl, sym, ap, ap₂, _∙_, subst, Bool, true, false, List, [], ℕ, _+_, _*_, _/_, _≤_, _<_, one-mul, arith, eqb, leb}
+use Rattle.numbers.proofs.Kit.{length, getD, set, set-getD, ℤ, pos, eqb-true, le-leb, leb-true}
 use Rattle.numbers.specs.Upto.{upto}
 use Rattle.numbers.specs.Tile.{putTile, markRow, markTile}
 use Rattle.numbers.proofs.UptoLaws.{upto-keeps}

@@ -1,6 +1,6 @@
 -- The marks of a row, and whether each mark is 0 or 1.
-use Rattle.numbers.proofs.Kit.{_≡_, refl, sym, ap, ap₂, _∙_, subst, Bool, true, false, _&&_, List, [], _∷_, ℕ, zero, suc, _+_, _*_, _-_, _^_, _≤_, _<_, arith}
-use Rattle.numbers.proofs.Kit.{add-one, eqb, ltb, getD, ne-eqb, eq-eqb, eqb-true, lt-ltb, le-ltb, ltb-true, ltb-false}
+use Rattle.numbers.proofs.Kit.{_≡_, refl, sym, ap, ap₂, _∙_, subst, Bool, true, false, _&&_, List, [], _∷_, ℕ, zero, suc, _+_, _*_, _-_, _^_, _≤_, _<_}
+use Rattle.numbers.proofs.Kit.{arith, add-one, eqb, ltb, getD, ne-eqb, eq-eqb, eqb-true, lt-ltb, le-ltb, ltb-true, ltb-false}
 use Rattle.numbers.specs.Tile.{getLe, byteOf}
 use Rattle.numbers.proofs.PutLaws.{le-byte}
 use Rattle.machine.specs.Tests.{all, every}

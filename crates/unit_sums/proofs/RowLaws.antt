@@ -1,20 +1,15 @@
 -- Sums of products kept at a width, once over the width: one product more, and the rows that are stored.
-use mathlib.Core.Path.{_≡_, refl, sym, ap, ap₂, _∙_}
-use mathlib.Core.List.{List}
-use Prim.Native.Nat.{ℕ, _+_, _*_, _%_, _^_, _≤_, _<_}
-use native.Mathlib.Nat.{add-comm, zero-add, one-mul, mod-eq-of-lt, pow-le-pow-right}
-use native.Mathlib.Omega.{arith}
-use lib.IntN.{ℤ, _+ℤ_, _*ℤ_}
-use lib.ListN.{getD, replicate, getD-replicate}
-use Rattle.width.specs.Reduce.{signed, reduce, sumℤ}
-use Rattle.width.specs.Tile.{getLe, putRow}
-use Rattle.width.proofs.TileLaws.{le-lt}
-use Rattle.width.proofs.PutLaws.{putRow-low}
-use Rattle.width.proofs.ElementLaws.{pow-256, signed-widened, cut, putRow-cong}
-use Rattle.width.proofs.ReduceLaws.{reduce-add, reduce-mul, reduce-lt, reduce-signed, sumℤ-cong}
-use Rattle.width.proofs.SumLaws.{wrapping-add, mac-is, sum-none, sum-more, product-more, same-sum, two-products}
+use Rattle.numbers.proofs.Kit.{_≡_, refl, sym, ap, ap₂, _∙_, List, ℕ, _+_, _*_, _%_, _^_, _≤_, _<_, add-comm, zero-add, one-mul, mod-eq-of-lt}
+use Rattle.numbers.proofs.Kit.{pow-le-pow-right, arith, getD, replicate, getD-replicate, ℤ, _+ℤ_, _*ℤ_}
+use Rattle.numbers.specs.Reduce.{signed, reduce, sumℤ}
+use Rattle.numbers.specs.Tile.{getLe, putRow}
+use Rattle.numbers.proofs.TileLaws.{le-lt}
+use Rattle.numbers.proofs.PutLaws.{putRow-low}
+use Rattle.numbers.proofs.ElementLaws.{pow-256, signed-widened, cut, putRow-cong}
+use Rattle.numbers.proofs.ReduceLaws.{reduce-add, reduce-mul, reduce-lt, reduce-signed, sumℤ-cong}
+use Rattle.numbers.proofs.SumLaws.{wrapping-add, mac-is, sum-none, sum-more, product-more, same-sum, two-products}
 use Rattle.machine.specs.Operation.{product}
-use Rattle.sums.specs.Rows.{signedLe, plusProduct, residueAt, plusTimes, productRow, weightedRow}
+use Rattle.unit_sums.specs.Rows.{signedLe, plusProduct, residueAt, plusTimes, productRow, weightedRow}
 
 -- sums that started at 0, and then the old value once, or another product
 module _ (m : ℕ) (0<m : 0 < m) where

@@ -1,6 +1,7 @@
 -- Rows of a product written one after another hold the values that every element had at entry, by whatever rule an element of C is
 -- made from its old value and the elements of A and B.
-use Rattle.numbers.proofs.Kit.{_≡_, refl, sym, ap, ap₂, _∙_, List, ℕ, _+_, _-_, _*_, _^_, _≤_, _<_, zero-mul, one-mul, mul-le-mul-right, arith, ℤ, _+ℤ_, _*ℤ_}
+use Rattle.numbers.proofs.Kit.{_≡_, refl, sym, ap, ap₂, _∙_, List, ℕ, _+_, _-_, _*_, _^_, _≤_, _<_, zero-mul, one-mul, mul-le-mul-right, arith, ℤ, _+ℤ_}
+use Rattle.numbers.proofs.Kit.{_*ℤ_}
 use Rattle.numbers.specs.Reduce.{signed, reduce}
 use Rattle.numbers.proofs.ReduceLaws.{sumℤ-cong}
 use Rattle.numbers.specs.Tile.{getLe, putRow, putTile}

@@ -1,5 +1,5 @@
-use Rattle.numbers.proofs.Kit.{_≡_, refl, sym, ap₂, _∙_, subst, inl, inr, List, [], _∷_, ℕ, zero, suc, _-_, _≤_, _<_, eq-or-lt-of-le, not-suc-le-zero, arith}
-use Rattle.numbers.proofs.Kit.{length, getD, set, length-set, replicate, getD-set-same, getD-set-other, needs}
+use Rattle.numbers.proofs.Kit.{_≡_, refl, sym, ap₂, _∙_, subst, inl, inr, List, [], _∷_, ℕ, zero, suc, _-_, _≤_, _<_, eq-or-lt-of-le, not-suc-le-zero}
+use Rattle.numbers.proofs.Kit.{arith, length, getD, set, length-set, replicate, getD-set-same, getD-set-other, needs}
 use Rattle.machine.proofs.clear.Statement.{statement}
 use Rattle.machine.proofs.clear.Tie as tie
 

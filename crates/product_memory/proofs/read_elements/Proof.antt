@@ -1,6 +1,6 @@
 -- The loop: below `j` the values are the elements.
-use Rattle.numbers.proofs.Kit.{_≡_, refl, ap, _∙_, ℕ, _+_, _-_, _*_, _≤_, _<_, zero-mul, arith, length, getD, set, length-set, getD-set-same, getD-set-other}
-use Rattle.numbers.proofs.Kit.{needs}
+use Rattle.numbers.proofs.Kit.{_≡_, refl, ap, _∙_, ℕ, _+_, _-_, _*_, _≤_, _<_, zero-mul, arith, length, getD, set, length-set, getD-set-same}
+use Rattle.numbers.proofs.Kit.{getD-set-other, needs}
 use borrow.Author.Count.{below-more}
 use Rattle.numbers.specs.Tile.{getLe}
 use Rattle.numbers.proofs.PutLaws.{row-fits, next-row}
