@@ -90,7 +90,8 @@ int write_report(struct emulator *emulator, struct places *places)
     case STORED: status = write_stored(emulator, places); break;
     case CHANGED: case CHANGED_BY_END: status = write_changed(emulator, places); break;
     case NO_PLACE:
-        status = write_vector_trouble(emulator, places, "the trap vector of the matrix words finds no free pages within 1 MiB");
+        status = write_vector_trouble(emulator, places, "no room for the trap vector of the matrix words within 1 MiB of this code, behind the program "
+                                                        "or between its sections");
         break;
     case SET_AGAIN:
         status = write_vector_trouble(emulator, places, "mtvec was set again by code that had run before, and matrix words trap there now");
