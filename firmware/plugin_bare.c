@@ -59,15 +59,6 @@ static int bare_reach(const struct rows *rows)
 
 static void put_word(uint64_t address, uint32_t word) { memcpy(guest.memory + address, &word, sizeof word); }
 
-static void tell_trouble(enum told told, uint64_t pc)
-{
-    struct report report;
-    memset(&report, 0, sizeof report);
-    report.told = (uint32_t)told;
-    report.pc = pc;
-    line_tell(&report, unit_device());
-}
-
 /* ---- copies of the vector ---- */
 
 /* j from one address to another; 0 if that is out of its reach. */
@@ -143,7 +134,7 @@ static void put_detour(uint64_t from)
     if (in_ram(from, sizeof(uint32_t)) && copies_len < COPIES_MOST)
         vector = find_room(from);
     if (vector == 0 || frame == 0 || vector == frame) {
-        tell_trouble(NO_PLACE, from);
+        line_tell_trouble(NO_PLACE, from);
         return;
     }
     copy->vector = vector;
@@ -189,7 +180,7 @@ static void at_detour(unsigned cpu, qemu_plugin_meminfo_t info, uint64_t address
     if (copy_at(mtvec) != NULL)
         return;
     if (mtvec != 0 && !put_own(copy, mtvec & ~(uint64_t)3))
-        tell_trouble(NO_PLACE, copy->from);
+        line_tell_trouble(NO_PLACE, copy->from);
     bodlarina_put64(guest.memory + address, copy->vector | (mtvec & 3));
 }
 
@@ -225,7 +216,7 @@ static void at_word(unsigned cpu, void *pc)
     (void)cpu;
     word_at = (uint64_t)(uintptr_t)pc;
     if (waiting != 0)
-        tell_trouble(SET_AGAIN, word_at);
+        line_tell_trouble(SET_AGAIN, word_at);
 }
 
 /* csrrw and its like on mtvec; with x0 or 0 csrrs and csrrc only read it. */

@@ -35,6 +35,7 @@ enum told {
     CHANGED,        /* a sealed byte, found changed before a word */
     CHANGED_BY_END, /* the same, found at the end */
     NO_PLACE,       /* bare metal: no room for the trap vector in reach of the program's own and of the code that sets it */
+    NO_STACK,       /* user mode: the signal of an illegal instruction finds no stack, and QEMU tries it again and again */
     SET_AGAIN       /* bare metal: the trap vector was set again by code that had run before */
 };
 
