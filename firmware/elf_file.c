@@ -84,6 +84,41 @@ uint64_t elf_file_end(const struct elf_file *file)
     return end;
 }
 
+/* ---- sections ---- */
+
+/* The loaded section with the lowest start at or above an address; 0 if there is none. */
+static int next_section(const struct elf_file *file, uint64_t address, struct range *next)
+{
+    Elf_Scn *section = NULL;
+    GElf_Shdr header;
+    int found = 0;
+    while ((section = elf_nextscn(file->elf, section)) != NULL)
+        if (gelf_getshdr(section, &header) != NULL && (header.sh_flags & SHF_ALLOC) != 0 && header.sh_size != 0 && header.sh_addr >= address
+            && (!found || header.sh_addr < next->start)) {
+            found = 1;
+            next->start = header.sh_addr;
+            next->length = header.sh_size;
+        }
+    return found;
+}
+
+uint32_t elf_file_gaps(const struct elf_file *file, uint64_t least, struct range gaps[GAPS_MOST])
+{
+    struct range section, next;
+    uint32_t count = 0;
+    if (!next_section(file, 0, &section))
+        return 0;
+    while (count < GAPS_MOST && next_section(file, section.start + section.length, &next)) {
+        uint64_t end = section.start + section.length;
+        if (next.start - end >= least) {
+            gaps[count].start = end;
+            gaps[count++].length = next.start - end;
+        }
+        section = next;
+    }
+    return count;
+}
+
 /* ---- symbols ---- */
 
 /* The table of symbols, or of a stripped program that of the dynamic ones; NULL if there is none. */

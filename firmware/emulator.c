@@ -19,6 +19,7 @@
 #include <unistd.h>
 
 #include "complain.h"
+#include "guest_code.h"
 #include "qemu_interface.h"
 
 /* Descriptors that QEMU is handed have numbers from here on, out of the program's way. */
@@ -144,6 +145,7 @@ static int make_shared(struct emulator *emulator, int bare)
     shared->end = elf_file_end(emulator->file);
     if (!bare)
         return 1;
+    shared->gaps_len = elf_file_gaps(emulator->file, VECTOR_CODE_BYTES, shared->gaps);
     shared->ram.start = 0x80000000u;
     shared->ram.length = 128u << 20;
     emulator->ram_bytes = new_memory("ram", shared->ram.length, &emulator->ram);

@@ -33,12 +33,15 @@ static int ask(void)
 /* Without a line the plugin ends the process itself, and says what it knows. */
 static void end_alone(const struct report *report, const struct device *device)
 {
+    int is_seal = report->told == STORED || report->told == CHANGED || report->told == CHANGED_BY_END;
     if (report->told == REFUSED)
         fprintf(stderr, "bodlarina-firmware: the word %08" PRIx32 ": refused with %u, %s\n  at 0x%" PRIx64 "\n", report->word,
                 BODLARINA_ANSWER(device->result), bodlarina_answer_text(device->result), report->pc);
-    else if (report->told != CARRIED_OUT)
+    else if (is_seal)
         fprintf(stderr, "bodlarina-firmware: the sealed byte 0x%" PRIx64 " was changed\n  at 0x%" PRIx64 "\n", report->address, report->pc);
-    _exit(report->told == REFUSED ? 120 : report->told == CARRIED_OUT ? 125 : 121);
+    else
+        fprintf(stderr, "bodlarina-firmware: the program has closed the line to the tool\n  at 0x%" PRIx64 "\n", report->pc);
+    _exit(report->told == REFUSED ? 120 : is_seal ? 121 : 125);
 }
 
 /* The part of a device that a line of the trace needs; a refusal needs it whole. */
@@ -71,4 +74,13 @@ void line_tell(struct report *report, const struct device *device)
     if (!ask())
         end_alone(report, device);
     pthread_mutex_unlock(&shared->turn);
+}
+
+void line_tell_trouble(enum told told, uint64_t pc)
+{
+    struct report report;
+    memset(&report, 0, sizeof report);
+    report.told = (uint32_t)told;
+    report.pc = pc;
+    line_tell(&report, unit_device());
 }

@@ -211,6 +211,13 @@ static int case_abort(void)
     abort();
 }
 
+/* A word where sp points to nothing. */
+static int case_no_stack(void)
+{
+    __asm__ volatile("mv t0, sp\nli sp, 4096\n.insn r 0x77, 7, 0x10, x0, x4, x0\nmv sp, t0" : : : "t0");
+    return 0;
+}
+
 /* A handler of its own for SIGILL is not called for matrix words, and is for other words; what was set is read back. */
 static void skip(int number, siginfo_t *info, void *context)
 {
@@ -417,7 +424,7 @@ static const struct {
     {"x0", case_x0}, {"stack", case_stack}, {"high", case_high}, {"unmapped", case_unmapped}, {"half_mapped", case_half_mapped},
     {"read_only", case_read_only}, {"far", case_far}, {"code_page", case_code_page}, {"unwritten", case_unwritten},
     {"multiply", case_multiply},
-    {"signals", case_signals}, {"alarms", case_alarms}, {"segv", case_segv}, {"ill", case_ill}, {"abort", case_abort},
+    {"signals", case_signals}, {"alarms", case_alarms}, {"segv", case_segv}, {"ill", case_ill}, {"abort", case_abort}, {"no_stack", case_no_stack},
     {"own_handler", case_own_handler}, {"probe", case_probe}, {"blocked", case_blocked}, {"in_handler", case_in_handler},
     {"threads", case_threads}, {"own_tiles", case_own_tiles}, {"small_stack", case_small_stack}, {"refused_thread", case_refused_thread},
     {"fork", case_fork}, {"refused_child", case_refused_child}, {"echo", case_echo}, {"descriptor", case_descriptor}, {"loop", case_loop},
