@@ -172,10 +172,10 @@ static void remember_interrupt(int number) { interrupted = number; }
 /* Low descriptors are taken for a while, so that those which QEMU opens for itself have others than the program expects. */
 static void take_low_descriptors(struct shared *shared)
 {
-    int i, flags, none = open("/dev/null", O_RDWR | O_CLOEXEC);
+    int i, flags, none = raised(open("/dev/null", O_RDWR | O_CLOEXEC));
     for (i = 3; i < (int)sizeof shared->fillers && none >= 0; i++) {
         flags = fcntl(i, F_GETFD);
-        if (i != none && (flags < 0 || (flags & FD_CLOEXEC) != 0))
+        if (flags < 0 || (flags & FD_CLOEXEC) != 0)
             shared->fillers[i] = dup2(none, i) == i;
     }
 }
