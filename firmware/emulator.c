@@ -158,7 +158,7 @@ int emulator_prepare(struct emulator *emulator, const struct options *options, c
     emulator->options = options;
     emulator->file = file;
     emulator->ram = emulator->line = emulator->ended = -1;
-    emulator->has_terminal = tcgetattr(STDIN_FILENO, &emulator->terminal) == 0;
+    emulator->has_terminal = bare && tcgetattr(STDIN_FILENO, &emulator->terminal) == 0;
     return find_emulator(emulator, bare) && make_shared(emulator, bare) && add_plugin(emulator);
 }
 
@@ -267,7 +267,7 @@ int emulator_status(struct emulator *emulator)
 void emulator_close(struct emulator *emulator)
 {
     emulator_kill(emulator);
-    if (emulator->has_terminal)
+    if (emulator->has_terminal && tcgetpgrp(STDIN_FILENO) == getpgrp()) /* in the background that would stop the tool */
         tcsetattr(STDIN_FILENO, TCSANOW, &emulator->terminal);
     while (emulator->words_len > 0)
         free(emulator->words[--emulator->words_len]);

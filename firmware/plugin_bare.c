@@ -92,19 +92,28 @@ static uint64_t find_page(uint64_t above)
     return 0;
 }
 
-/* Room for the code of a copy, in reach of a jump: a page behind the program, or between its sections; 0 if there is none. */
+/* Whether jumps from there reach all of a copy at an address, and back. */
+static int in_reach(uint64_t from, uint64_t address) { return jump(from, address) != 0 && jump(from, address + VECTOR_CODE_BYTES) != 0; }
+
+static uint64_t find_in_gap(struct range gap, uint64_t from)
+{
+    uint64_t address = (gap.start + 3) & ~(uint64_t)3;
+    for (; address + VECTOR_CODE_BYTES <= gap.start + gap.length; address += 4)
+        if (in_reach(from, address) && in_ram(address, VECTOR_CODE_BYTES) && is_free(address, VECTOR_CODE_BYTES))
+            return address;
+    return 0;
+}
+
+/* Room for the code of a copy: a page behind the program, or between its sections; 0 if there is none. */
 static uint64_t find_room(uint64_t from)
 {
     uint64_t address = find_page(CODE_ABOVE);
     uint32_t i;
-    if (address != 0 && jump(from, address) != 0)
+    if (address != 0 && in_reach(from, address))
         return address;
-    for (i = 0; i < shared->gaps_len; i++)
-        for (address = (shared->gaps[i].start + 3) & ~(uint64_t)3; address + VECTOR_CODE_BYTES <= shared->gaps[i].start + shared->gaps[i].length;
-             address += 4)
-            if (jump(from, address) != 0 && in_ram(address, VECTOR_CODE_BYTES) && is_free(address, VECTOR_CODE_BYTES))
-                return address;
-    return 0;
+    for (i = 0, address = 0; i < shared->gaps_len && address == 0; i++)
+        address = find_in_gap(shared->gaps[i], from);
+    return address;
 }
 
 /* auipc sp and addi sp at an address, which leave that of the frame in sp. */

@@ -1,5 +1,6 @@
 #define _GNU_SOURCE
 #include <errno.h>
+#include <fcntl.h>
 #include <inttypes.h>
 #include <stdio.h>
 #include <string.h>
@@ -10,7 +11,11 @@
 
 static int line;
 
-void line_open(int opened) { line = opened; }
+void line_open(int opened)
+{
+    line = opened;
+    fcntl(line, F_SETFD, FD_CLOEXEC);
+}
 
 /* One byte there and one back; 0 if the other side has ended, or the program has closed our side. */
 static int ask(void)

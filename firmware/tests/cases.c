@@ -372,6 +372,22 @@ static int case_refused_thread(void)
     return 0;
 }
 
+/* A thread that has written tr0, and then reads tr1; the first thread has written nothing. */
+static void *refused_after_load(void *unused)
+{
+    load_zeros(NULL);
+    asm_mqma_mm(acc0, tr0, tr1);
+    return unused;
+}
+
+static int case_refused_after_load(void)
+{
+    pthread_t thread;
+    pthread_create(&thread, NULL, refused_after_load, NULL);
+    pthread_join(thread, NULL);
+    return 0;
+}
+
 /* A child goes on with the tiles of its parent, and changes its own. */
 static int case_fork(void)
 {
@@ -427,6 +443,7 @@ static const struct {
     {"signals", case_signals}, {"alarms", case_alarms}, {"segv", case_segv}, {"ill", case_ill}, {"abort", case_abort}, {"no_stack", case_no_stack},
     {"own_handler", case_own_handler}, {"probe", case_probe}, {"blocked", case_blocked}, {"in_handler", case_in_handler},
     {"threads", case_threads}, {"own_tiles", case_own_tiles}, {"small_stack", case_small_stack}, {"refused_thread", case_refused_thread},
+    {"refused_after_load", case_refused_after_load},
     {"fork", case_fork}, {"refused_child", case_refused_child}, {"echo", case_echo}, {"descriptor", case_descriptor}, {"loop", case_loop},
 };
 
