@@ -136,7 +136,7 @@ dist:
 # the archive of what is built already
 pack:
 	rm -rf target/dist/$(PACKAGE)
-	mkdir -p $(addprefix target/dist/$(PACKAGE)/,include lib bin man examples/bench python firmware docs)
+	mkdir -p $(addprefix target/dist/$(PACKAGE)/,include lib bin man examples/bench python firmware/examples docs)
 	cp $(HEADERS) target/dist/$(PACKAGE)/include
 	cp $(LIBRARY) $(SHARED) target/dist/$(PACKAGE)/lib
 	cp $(BUILT) target/dist/$(PACKAGE)/bin
@@ -147,7 +147,8 @@ pack:
 	cp bench/examples/* target/dist/$(PACKAGE)/examples/bench
 	$(BIN)/bodlarina-bench --report target/dist/$(PACKAGE)/examples/bench/loop-four.html bench/examples/loop-four.bench >target/dist/loop-four.out
 	cp python/bodlarina.py python/four_loops.py python/four_loops.out target/dist/$(PACKAGE)/python
-	cp -r firmware/bodlarina-gdb.py firmware/examples target/dist/$(PACKAGE)/firmware
+	cp firmware/bodlarina-gdb.py target/dist/$(PACKAGE)/firmware
+	cp $(addprefix firmware/examples/,Makefile *.[chS] bare.ld recorder.out) target/dist/$(PACKAGE)/firmware/examples
 	cp docs/INSTRUCTIONS.md docs/FIRMWARE.md docs/firmware.svg target/dist/$(PACKAGE)/docs
 	cp Makefile bodlarina.pc.in target/dist/$(PACKAGE)
 	tar -C target/dist --sort=name --owner=0 --group=0 --numeric-owner -czf target/dist/$(PACKAGE).tar.gz $(PACKAGE)

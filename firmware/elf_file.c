@@ -84,6 +84,41 @@ uint64_t elf_file_end(const struct elf_file *file)
     return end;
 }
 
+/* ---- sections ---- */
+
+/* The loaded section with the lowest start at or above an address; 0 if there is none. */
+static int next_section(const struct elf_file *file, uint64_t address, struct range *next)
+{
+    Elf_Scn *section = NULL;
+    GElf_Shdr header;
+    int found = 0;
+    while ((section = elf_nextscn(file->elf, section)) != NULL)
+        if (gelf_getshdr(section, &header) != NULL && (header.sh_flags & SHF_ALLOC) != 0 && header.sh_size != 0 && header.sh_addr >= address
+            && (!found || header.sh_addr < next->start)) {
+            found = 1;
+            next->start = header.sh_addr;
+            next->length = header.sh_size;
+        }
+    return found;
+}
+
+uint32_t elf_file_gaps(const struct elf_file *file, uint64_t least, struct range gaps[GAPS_MOST])
+{
+    struct range section, next;
+    uint32_t count = 0;
+    if (!next_section(file, 0, &section))
+        return 0;
+    while (count < GAPS_MOST && next_section(file, section.start + section.length, &next)) {
+        uint64_t end = section.start + section.length;
+        if (next.start - end >= least) {
+            gaps[count].start = end;
+            gaps[count++].length = next.start - end;
+        }
+        section = next;
+    }
+    return count;
+}
+
 /* ---- symbols ---- */
 
 /* The table of symbols, or of a stripped program that of the dynamic ones; NULL if there is none. */
@@ -103,25 +138,34 @@ static Elf_Data *symbols(const struct elf_file *file, GElf_Shdr *header)
     return found;
 }
 
+/* Whether a symbol is defined, of this name, and a function or an object as asked; a variable of each thread has no address of its own. */
+static int is_symbol(const struct elf_file *file, const GElf_Shdr *table, const GElf_Sym *symbol, const char *name, int function)
+{
+    const char *its = elf_strptr(file->elf, table->sh_link, symbol->st_name);
+    unsigned type = GELF_ST_TYPE(symbol->st_info);
+    return its != NULL && strcmp(its, name) == 0 && symbol->st_shndx != SHN_UNDEF
+           && (function ? type == STT_FUNC : type == STT_OBJECT || type == STT_NOTYPE);
+}
+
 int elf_file_symbol(const struct elf_file *file, const char *option, const char *name, int function, struct range *range)
 {
     GElf_Shdr header;
     GElf_Sym symbol;
     Elf_Data *data = symbols(file, &header);
+    const char *kind = function ? "function" : "object";
     int i, found = 0;
     for (i = 0; data != NULL && gelf_getsym(data, i, &symbol) != NULL; i++) {
-        const char *its = elf_strptr(file->elf, header.sh_link, symbol.st_name);
-        if (its == NULL || strcmp(its, name) != 0 || symbol.st_shndx == SHN_UNDEF
-            || (GELF_ST_TYPE(symbol.st_info) == STT_FUNC) != function)
+        if (!is_symbol(file, &header, &symbol, name, function)
+            || (found != 0 && range->start == symbol.st_value && range->length == symbol.st_size))
             continue;
         found++;
         range->start = symbol.st_value;
         range->length = symbol.st_size;
     }
     if (found == 0)
-        return complain("%s: %s has no %s %s", option, file->path, function ? "function" : "object", name);
+        return complain("%s: %s has no %s %s", option, file->path, kind, name);
     if (found > 1)
-        return complain("%s: %s has %d objects %s: give an address and a length", option, file->path, found, name);
+        return complain("%s: %s has %d %ss %s", option, file->path, found, kind, name);
     return range->length != 0 || complain("%s: %s has no size in %s", option, name, file->path);
 }
 

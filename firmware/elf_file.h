@@ -23,6 +23,9 @@ int elf_file_is_bare(const struct elf_file *file);
 /* The first byte behind all that is loaded. */
 uint64_t elf_file_end(const struct elf_file *file);
 
+/* The bytes between its sections, as far as there are at least so many in one place; how many places. */
+uint32_t elf_file_gaps(const struct elf_file *file, uint64_t least, struct range gaps[GAPS_MOST]);
+
 /* The bytes of the object or function of this name; 0, with a sentence that names the option, if there is none, or more than one. */
 int elf_file_symbol(const struct elf_file *file, const char *option, const char *name, int function, struct range *range);
 

@@ -19,6 +19,7 @@
 #include <unistd.h>
 
 #include "complain.h"
+#include "guest_code.h"
 #include "qemu_interface.h"
 
 /* Descriptors that QEMU is handed have numbers from here on, out of the program's way. */
@@ -144,6 +145,7 @@ static int make_shared(struct emulator *emulator, int bare)
     shared->end = elf_file_end(emulator->file);
     if (!bare)
         return 1;
+    shared->gaps_len = elf_file_gaps(emulator->file, VECTOR_CODE_BYTES, shared->gaps);
     shared->ram.start = 0x80000000u;
     shared->ram.length = 128u << 20;
     emulator->ram_bytes = new_memory("ram", shared->ram.length, &emulator->ram);
@@ -156,7 +158,7 @@ int emulator_prepare(struct emulator *emulator, const struct options *options, c
     emulator->options = options;
     emulator->file = file;
     emulator->ram = emulator->line = emulator->ended = -1;
-    emulator->has_terminal = tcgetattr(STDIN_FILENO, &emulator->terminal) == 0;
+    emulator->has_terminal = bare && tcgetattr(STDIN_FILENO, &emulator->terminal) == 0;
     return find_emulator(emulator, bare) && make_shared(emulator, bare) && add_plugin(emulator);
 }
 
@@ -170,10 +172,10 @@ static void remember_interrupt(int number) { interrupted = number; }
 /* Low descriptors are taken for a while, so that those which QEMU opens for itself have others than the program expects. */
 static void take_low_descriptors(struct shared *shared)
 {
-    int i, flags, none = open("/dev/null", O_RDWR | O_CLOEXEC);
+    int i, flags, none = raised(open("/dev/null", O_RDWR | O_CLOEXEC));
     for (i = 3; i < (int)sizeof shared->fillers && none >= 0; i++) {
         flags = fcntl(i, F_GETFD);
-        if (i != none && (flags < 0 || (flags & FD_CLOEXEC) != 0))
+        if (flags < 0 || (flags & FD_CLOEXEC) != 0)
             shared->fillers[i] = dup2(none, i) == i;
     }
 }
@@ -265,7 +267,7 @@ int emulator_status(struct emulator *emulator)
 void emulator_close(struct emulator *emulator)
 {
     emulator_kill(emulator);
-    if (emulator->has_terminal)
+    if (emulator->has_terminal && tcgetpgrp(STDIN_FILENO) == getpgrp()) /* in the background that would stop the tool */
         tcsetattr(STDIN_FILENO, TCSANOW, &emulator->terminal);
     while (emulator->words_len > 0)
         free(emulator->words[--emulator->words_len]);

@@ -22,7 +22,7 @@ struct emulator {
     uint64_t bias;       /* how far above the addresses of its file the program lies */
     pid_t process;
     int ended;           /* readable when the process has ended */
-    struct termios terminal;
+    struct termios terminal; /* as it was before QEMU had it as a serial port */
     int has_terminal;
     char *words[EMULATOR_WORDS_MOST];
     size_t words_len;

@@ -42,8 +42,12 @@ static int attend(struct emulator *emulator, struct places *places, int *is_told
     *is_told = 1;
     while (status < 0) {
         waits[0].fd = open ? emulator->line : -1;
-        if (poll(waits, 2, -1) < 0 && errno != EINTR)
+        if (poll(waits, 2, -1) < 0) {
+            if (errno == EINTR)
+                continue;
+            complain("QEMU cannot be waited for: %s", strerror(errno));
             return STATUS_TROUBLE;
+        }
         if (waits[0].revents != 0)
             status = take_report(emulator, places, &open);
         else if (waits[1].revents != 0) {

@@ -25,6 +25,9 @@ void line_open(int line);
 /* Tells what became of a word, a store or a sealed byte; comes back only if the tool lets the program go on. */
 void line_tell(struct report *report, const struct device *device);
 
+/* Tells trouble of which an address is all that is known. */
+void line_tell_trouble(enum told told, uint64_t pc);
+
 /* ---- plugin_unit.c: the units ---- */
 
 /* Rows of guest memory that a load or store reaches. */

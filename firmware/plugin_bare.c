@@ -10,7 +10,7 @@
 
 /* A detour has a copy of the vector of its own: code that ran already cannot be changed from outside without QEMU running the old one. */
 struct copy {
-    uint64_t vector;
+    uint64_t vector, frame;
     uint64_t from; /* the instruction in whose place the detour stands */
     int taken;     /* the program has come there */
 };
@@ -20,8 +20,9 @@ struct copy {
 static struct copy copies[COPIES_MOST];
 static size_t copies_len;
 
-/* Where a copy is looked for: up to so far above the instruction, and from there down. */
-enum { COPY_BYTES = 0x2000, HIGHEST = 0xd3000 };
+/* Free pages behind the program are looked for from so far above its start on, downwards: for the code of a copy, which jumps have to reach, and for
+ * its frame. */
+enum { PAGE = 0x1000, CODE_ABOVE = 0xd3000, FRAME_ABOVE = 0x5d3000 };
 
 /* Numbers in the frame, behind x0 .. x31 and mtvec: the instruction that is to be put back, where and which. */
 enum { PUT_AT = 264, PUT_WORD = 272 };
@@ -58,15 +59,6 @@ static int bare_reach(const struct rows *rows)
 
 static void put_word(uint64_t address, uint32_t word) { memcpy(guest.memory + address, &word, sizeof word); }
 
-static void tell_trouble(enum told told, uint64_t pc)
-{
-    struct report report;
-    memset(&report, 0, sizeof report);
-    report.told = (uint32_t)told;
-    report.pc = pc;
-    line_tell(&report, unit_device());
-}
-
 /* ---- copies of the vector ---- */
 
 /* j from one address to another; 0 if that is out of its reach. */
@@ -78,47 +70,89 @@ static uint32_t jump(uint64_t from, uint64_t to)
     return (uint32_t)((offset >> 20 & 1) << 31 | (offset >> 1 & 0x3ff) << 21 | (offset >> 11 & 1) << 20 | (offset >> 12 & 0xff) << 12 | 0x6f);
 }
 
-static int is_free(uint64_t address)
+/* Whether bytes are zeros and of no copy. */
+static int is_free(uint64_t address, uint64_t bytes)
 {
-    size_t i;
+    uint64_t i;
     for (i = 0; i < copies_len; i++)
-        if (copies[i].vector == address)
+        if (address - copies[i].frame < PAGE || address - copies[i].vector + bytes < VECTOR_CODE_BYTES + bytes)
             return 0;
-    for (i = 0; i < COPY_BYTES && guest.memory[address + i] == 0; i++)
+    for (i = 0; i < bytes && guest.memory[address + i] == 0; i++)
         ;
-    return i == COPY_BYTES;
+    return i == bytes;
 }
 
-/* Two pages behind the program that hold zeros, in reach of a jump; 0 if there are none. */
-static uint64_t find_place(uint64_t from)
+/* A page behind the program; 0 if there is none. */
+static uint64_t find_page(uint64_t above)
 {
-    uint64_t end = (shared->end + 0xfff) & ~(uint64_t)0xfff, address = (from & ~(uint64_t)0xfff) + HIGHEST;
-    if (address > shared->ram.start + shared->ram.length - COPY_BYTES)
-        address = shared->ram.start + shared->ram.length - COPY_BYTES;
-    for (; address >= end && address >= from; address -= COPY_BYTES)
-        if (is_free(address))
+    uint64_t address = shared->ram.start + above;
+    for (; address >= shared->end; address -= PAGE)
+        if (is_free(address, PAGE))
             return address;
     return 0;
+}
+
+/* Whether jumps from there reach all of a copy at an address, and back. */
+static int in_reach(uint64_t from, uint64_t address) { return jump(from, address) != 0 && jump(from, address + VECTOR_CODE_BYTES) != 0; }
+
+static uint64_t find_in_gap(struct range gap, uint64_t from)
+{
+    uint64_t address = (gap.start + 3) & ~(uint64_t)3;
+    for (; address + VECTOR_CODE_BYTES <= gap.start + gap.length; address += 4)
+        if (in_reach(from, address) && in_ram(address, VECTOR_CODE_BYTES) && is_free(address, VECTOR_CODE_BYTES))
+            return address;
+    return 0;
+}
+
+/* Room for the code of a copy: a page behind the program, or between its sections; 0 if there is none. */
+static uint64_t find_room(uint64_t from)
+{
+    uint64_t address = find_page(CODE_ABOVE);
+    uint32_t i;
+    if (address != 0 && in_reach(from, address))
+        return address;
+    for (i = 0, address = 0; i < shared->gaps_len && address == 0; i++)
+        address = find_in_gap(shared->gaps[i], from);
+    return address;
+}
+
+/* auipc sp and addi sp at an address, which leave that of the frame in sp. */
+static void put_frame(uint64_t at, uint64_t frame)
+{
+    uint64_t offset = frame - at;
+    put_word(at, (uint32_t)((offset + 0x800) & 0xfffff000) | 0x117);
+    put_word(at + 4, (uint32_t)(offset & 0xfff) << 20 | 0x10113);
+}
+
+static void put_copy(const struct copy *copy)
+{
+    uint64_t vector = copy->vector;
+    memcpy(guest.memory + vector + VECTOR_TRAP_AT, vector_code, sizeof vector_code);
+    put_word(vector, jump(0, VECTOR_TRAP_AT));
+    put_frame(vector + VECTOR_TRAP_AT + 4, copy->frame);
+    put_frame(vector + VECTOR_DETOUR_AT + 4, copy->frame);
+    put_word(vector + VECTOR_BACK_AT, jump(vector + VECTOR_BACK_AT, copy->from));
+    bodlarina_put64(guest.memory + copy->frame + PUT_AT, copy->from);
+    memcpy(guest.memory + copy->frame + PUT_WORD, guest.memory + copy->from, sizeof(uint32_t));
 }
 
 static void put_detour(uint64_t from)
 {
     struct copy *copy = &copies[copies_len];
-    uint8_t *code;
-    if (!in_ram(from, sizeof(uint32_t)) || copies_len == COPIES_MOST || (copy->vector = find_place(from)) == 0) {
-        tell_trouble(NO_PLACE, from);
+    uint64_t vector = 0, frame = find_page(FRAME_ABOVE);
+    if (in_ram(from, sizeof(uint32_t)) && copies_len < COPIES_MOST)
+        vector = find_room(from);
+    if (vector == 0 || frame == 0 || vector == frame) {
+        line_tell_trouble(NO_PLACE, from);
         return;
     }
+    copy->vector = vector;
+    copy->frame = frame;
+    copy->from = from;
     copies_len++;
     waiting++;
-    copy->from = from;
-    code = guest.memory + copy->vector;
-    memcpy(code + VECTOR_TRAP_AT, vector_code, sizeof vector_code);
-    put_word(copy->vector, jump(0, VECTOR_TRAP_AT));
-    put_word(copy->vector + VECTOR_BACK_AT, jump(copy->vector + VECTOR_BACK_AT, from));
-    bodlarina_put64(code + VECTOR_FRAME_AT + PUT_AT, from);
-    memcpy(code + VECTOR_FRAME_AT + PUT_WORD, guest.memory + from, sizeof(uint32_t));
-    put_word(from, jump(from, copy->vector + VECTOR_DETOUR_AT));
+    put_copy(copy);
+    put_word(from, jump(from, vector + VECTOR_DETOUR_AT));
 }
 
 /* The jumps of a copy to the program's own vector; 0 if that is out of reach. */
@@ -134,27 +168,28 @@ static int put_own(const struct copy *copy, uint64_t own)
 
 /* ---- what happens in the program ---- */
 
-static struct copy *copy_of(uint64_t address)
+/* The copy whose code an address belongs to. */
+static struct copy *copy_at(uint64_t address)
 {
     size_t i;
     for (i = 0; i < copies_len; i++)
-        if (address - copies[i].vector < COPY_BYTES)
+        if (address - copies[i].vector < VECTOR_CODE_BYTES)
             return &copies[i];
     return NULL;
 }
 
 /* The program has set mtvec, or has not yet. What it set may be one of ours, which it has read before. */
-static void at_detour(unsigned cpu, qemu_plugin_meminfo_t info, uint64_t address, void *data)
+static void at_detour(unsigned cpu, qemu_plugin_meminfo_t info, uint64_t address, void *of)
 {
-    struct copy *copy = copy_of(address);
+    struct copy *copy = of;
     uint64_t mtvec = bodlarina_get64(guest.memory + address);
-    (void)cpu, (void)info, (void)data;
+    (void)cpu, (void)info;
     copy->taken = 1;
     waiting--;
-    if (copy_of(mtvec) != NULL)
+    if (copy_at(mtvec) != NULL)
         return;
     if (mtvec != 0 && !put_own(copy, mtvec & ~(uint64_t)3))
-        tell_trouble(NO_PLACE, copy->from);
+        line_tell_trouble(NO_PLACE, copy->from);
     bodlarina_put64(guest.memory + address, copy->vector | (mtvec & 3));
 }
 
@@ -190,7 +225,7 @@ static void at_word(unsigned cpu, void *pc)
     (void)cpu;
     word_at = (uint64_t)(uintptr_t)pc;
     if (waiting != 0)
-        tell_trouble(SET_AGAIN, word_at);
+        line_tell_trouble(SET_AGAIN, word_at);
 }
 
 /* csrrw and its like on mtvec; with x0 or 0 csrrs and csrrc only read it. */
@@ -204,12 +239,12 @@ static void watch(struct qemu_plugin_insn *instruction)
 {
     uint64_t address = qemu_plugin_insn_vaddr(instruction);
     uint32_t bits = instruction_bits(instruction);
-    const struct copy *copy = copy_of(address);
+    struct copy *copy = copy_at(address);
     if (copy != NULL) {
         if (address == copy->vector + VECTOR_BELL_AT)
             qemu_plugin_register_vcpu_mem_cb(instruction, at_bell, NO_REGISTERS, STORES_ONLY, NULL);
         if (address == copy->vector + VECTOR_DETOUR_BELL_AT)
-            qemu_plugin_register_vcpu_mem_cb(instruction, at_detour, NO_REGISTERS, STORES_ONLY, NULL);
+            qemu_plugin_register_vcpu_mem_cb(instruction, at_detour, NO_REGISTERS, STORES_ONLY, copy);
         return;
     }
     if (sets_mtvec(bits))

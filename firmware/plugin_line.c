@@ -1,5 +1,6 @@
 #define _GNU_SOURCE
 #include <errno.h>
+#include <fcntl.h>
 #include <inttypes.h>
 #include <stdio.h>
 #include <string.h>
@@ -10,7 +11,11 @@
 
 static int line;
 
-void line_open(int opened) { line = opened; }
+void line_open(int opened)
+{
+    line = opened;
+    fcntl(line, F_SETFD, FD_CLOEXEC);
+}
 
 /* One byte there and one back; 0 if the other side has ended, or the program has closed our side. */
 static int ask(void)
@@ -33,12 +38,15 @@ static int ask(void)
 /* Without a line the plugin ends the process itself, and says what it knows. */
 static void end_alone(const struct report *report, const struct device *device)
 {
+    int is_seal = report->told == STORED || report->told == CHANGED || report->told == CHANGED_BY_END;
     if (report->told == REFUSED)
         fprintf(stderr, "bodlarina-firmware: the word %08" PRIx32 ": refused with %u, %s\n  at 0x%" PRIx64 "\n", report->word,
                 BODLARINA_ANSWER(device->result), bodlarina_answer_text(device->result), report->pc);
-    else if (report->told != CARRIED_OUT)
+    else if (is_seal)
         fprintf(stderr, "bodlarina-firmware: the sealed byte 0x%" PRIx64 " was changed\n  at 0x%" PRIx64 "\n", report->address, report->pc);
-    _exit(report->told == REFUSED ? 120 : report->told == CARRIED_OUT ? 125 : 121);
+    else
+        fprintf(stderr, "bodlarina-firmware: the program has closed the line to the tool\n  at 0x%" PRIx64 "\n", report->pc);
+    _exit(report->told == REFUSED ? 120 : is_seal ? 121 : 125);
 }
 
 /* The part of a device that a line of the trace needs; a refusal needs it whole. */
@@ -71,4 +79,13 @@ void line_tell(struct report *report, const struct device *device)
     if (!ask())
         end_alone(report, device);
     pthread_mutex_unlock(&shared->turn);
+}
+
+void line_tell_trouble(enum told told, uint64_t pc)
+{
+    struct report report;
+    memset(&report, 0, sizeof report);
+    report.told = (uint32_t)told;
+    report.pc = pc;
+    line_tell(&report, unit_device());
 }

@@ -83,11 +83,36 @@ static int user_reach(const struct rows *rows)
 
 /* ---- the word at which SIGILL was raised ---- */
 
+/* An instruction that is about to raise SIGILL, and how often it has since the handler was last entered. */
+static __thread struct {
+    uint64_t pc;
+    unsigned times;
+} raised;
+
+#define RAISED_MOST 1000
+
+/* QEMU (7.2) tries an instruction whose signal finds no stack again and again. */
+static void at_illegal(unsigned cpu, void *pc)
+{
+    (void)cpu;
+    raised.times = raised.pc == (uint64_t)(uintptr_t)pc ? raised.times + 1 : 0;
+    raised.pc = (uint64_t)(uintptr_t)pc;
+    if (raised.times == RAISED_MOST)
+        line_tell_trouble(NO_STACK, raised.pc);
+}
+
+/* Matrix words, and accesses to a csr of machine mode, as a program for bare metal has them. */
+static int is_illegal(uint32_t bits)
+{
+    return is_matrix_word(bits) || ((bits & 0x7f) == 0x73 && (bits >> 12 & 3) != 0 && (bits >> 28 & 3) == 3);
+}
+
 static void carry_out(uint64_t ucontext)
 {
     uint8_t *context = guest.memory + ucontext, scalars[BODLARINA_SCALAR_BYTES] = {0};
     uint64_t pc = bodlarina_get64(context + UC_PC_AT);
     uint32_t word;
+    raised.pc = 0;
     memcpy(&word, guest.memory + pc, sizeof word);
     if (!is_matrix_word(word)) {
         bodlarina_put64(context + UC_LINK_AT, programs.handler > 1 ? programs.handler : 1);
@@ -180,8 +205,12 @@ static void translated(qemu_plugin_id_t id, struct qemu_plugin_tb *block)
     (void)id;
     if (!begun())
         return;
-    for (i = 0; i < qemu_plugin_tb_n_insns(block); i++)
-        seals_watch(qemu_plugin_tb_get_insn(block, i));
+    for (i = 0; i < qemu_plugin_tb_n_insns(block); i++) {
+        struct qemu_plugin_insn *instruction = qemu_plugin_tb_get_insn(block, i);
+        if (is_illegal(instruction_bits(instruction)))
+            qemu_plugin_register_vcpu_insn_exec_cb(instruction, at_illegal, NO_REGISTERS, (void *)(uintptr_t)qemu_plugin_insn_vaddr(instruction));
+        seals_watch(instruction);
+    }
 }
 
 void user_install(qemu_plugin_id_t id)

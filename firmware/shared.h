@@ -24,6 +24,9 @@ struct after {
     uint32_t sealed; /* the plugin writes it */
 };
 
+/* The most places between the sections of a bare-metal program that are kept. */
+#define GAPS_MOST 16
+
 /* What the plugin tells. */
 enum told {
     CARRIED_OUT,    /* a word; told with --trace only */
@@ -31,7 +34,8 @@ enum told {
     STORED,         /* a scalar store over a sealed byte */
     CHANGED,        /* a sealed byte, found changed before a word */
     CHANGED_BY_END, /* the same, found at the end */
-    NO_PLACE,       /* bare metal: no place for the trap vector in reach of the program's own, or of the code that sets it */
+    NO_PLACE,       /* bare metal: no room for the trap vector in reach of the program's own and of the code that sets it */
+    NO_STACK,       /* user mode: the signal of an illegal instruction finds no stack, and QEMU tries it again and again */
     SET_AGAIN       /* bare metal: the trap vector was set again by code that had run before */
 };
 
@@ -53,6 +57,8 @@ struct shared {
     uint64_t base;       /* user mode: where guest address 0 lies in QEMU's process */
     struct range ram;    /* bare metal */
     uint64_t end;        /* the first byte behind the program */
+    struct range gaps[GAPS_MOST]; /* bytes between its sections */
+    uint32_t gaps_len;
     struct range seals[BODLARINA_SEALS_MOST];
     struct after afters[BODLARINA_SEALS_MOST];
     uint32_t seals_len, afters_len;

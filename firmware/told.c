@@ -74,7 +74,7 @@ static int write_changed(const struct emulator *emulator, struct places *places)
     return STATUS_SEALED;
 }
 
-static int write_vector_trouble(const struct emulator *emulator, struct places *places, const char *sentence)
+static int write_trouble(const struct emulator *emulator, struct places *places, const char *sentence)
 {
     printf("bodlarina-firmware: %s\n  at ", sentence);
     write_chain(places, emulator->shared->report.pc, NULL);
@@ -90,10 +90,14 @@ int write_report(struct emulator *emulator, struct places *places)
     case STORED: status = write_stored(emulator, places); break;
     case CHANGED: case CHANGED_BY_END: status = write_changed(emulator, places); break;
     case NO_PLACE:
-        status = write_vector_trouble(emulator, places, "the trap vector of the matrix words finds no free pages within 1 MiB");
+        status = write_trouble(emulator, places, "no room for the trap vector of the matrix words within 1 MiB of this code, behind the program "
+                                                        "or between its sections");
+        break;
+    case NO_STACK:
+        status = write_trouble(emulator, places, "the signal of an instruction that QEMU does not know finds no room on the stack");
         break;
     case SET_AGAIN:
-        status = write_vector_trouble(emulator, places, "mtvec was set again by code that had run before, and matrix words trap there now");
+        status = write_trouble(emulator, places, "mtvec was set again by code that had run before, and matrix words trap there now");
         break;
     }
     fflush(stdout);

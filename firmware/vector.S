@@ -1,5 +1,5 @@
-# Bare metal: what the plugin puts into the program's memory. A page of code, with the trap vector that stands before the program's own, and behind
-# it a page with a frame of numbers (a store into a page of code would be slow). The plugin replaces each jump to itself that is marked so.
+# Bare metal: what the plugin puts into the program's memory: the trap vector that stands before the program's own. Its frame of numbers lies in a page
+# without code, as a store into one with code would be slow. The plugin replaces what is marked so.
 # sscratch is used, which a program that runs in machine mode only has no use for.
     .option norvc
     .option norelax
@@ -14,7 +14,7 @@ vector:
 # then has written rd into the frame, and the next pc there. Each access of a csr costs, so mcause and mepc are not read.
 trap:
     csrw sscratch, sp
-    lla sp, frame
+    lla sp, frame           # replaced: where the frame is
     .irp r, 1,3,4,5,6,7,8,9,10,11,12,13,14,15,16,17,18,19,20,21,22,23,24,25,26,27,28,29,30,31
     sd x\r, 8*\r(sp)
     .endr
@@ -40,7 +40,7 @@ own:
 # what mtvec becomes; then the instruction is put back.
 detour:
     csrw sscratch, sp
-    lla sp, frame
+    lla sp, frame           # replaced
     sd t0, 40(sp)
     sd t1, 48(sp)
     csrr t0, mtvec
@@ -57,5 +57,4 @@ detour_bell:
     csrr sp, sscratch
 back:
     j .                     # replaced: to the instruction
-    .balign 4096
 frame:

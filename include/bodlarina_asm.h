@@ -1,6 +1,6 @@
 /* Matrix instructions in firmware: one macro for each instruction that the library carries out, made of GNU C's inline assembler for
- * RISC-V of 64 bits. It needs an assembler with .insn (binutils 2.29 or later, LLVM 12 or later) and no extension of the compiler; it is for C and
- * C++, with or without an operating system. Nothing here calls the library: what the compiler emits is the word itself.
+ * RISC-V of 64 bits. GCC and clang have it, with an assembler that knows .insn; the extension itself they need not know. It is for C and C++, with or without
+ * an operating system. Nothing here calls the library: what the compiler emits is the word itself.
  *
  *     asm_msettypei(BODLARINA_E8 | BODLARINA_MACCQ);
  *     rows = asm_msettilem(asked);

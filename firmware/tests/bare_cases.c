@@ -16,6 +16,9 @@
 #define UNENDING 10
 
 int8_t counts[16] __attribute__((aligned(16)));
+#ifdef BIG /* more than a jump reaches over */
+volatile char big[4 << 20];
+#endif
 static int32_t sums[16];
 static volatile unsigned long ticks, illegal;
 

@@ -211,6 +211,13 @@ static int case_abort(void)
     abort();
 }
 
+/* A word where sp points to nothing. */
+static int case_no_stack(void)
+{
+    __asm__ volatile("mv t0, sp\nli sp, 4096\n.insn r 0x77, 7, 0x10, x0, x4, x0\nmv sp, t0" : : : "t0");
+    return 0;
+}
+
 /* A handler of its own for SIGILL is not called for matrix words, and is for other words; what was set is read back. */
 static void skip(int number, siginfo_t *info, void *context)
 {
@@ -365,6 +372,22 @@ static int case_refused_thread(void)
     return 0;
 }
 
+/* A thread that has written tr0, and then reads tr1; the first thread has written nothing. */
+static void *refused_after_load(void *unused)
+{
+    load_zeros(NULL);
+    asm_mqma_mm(acc0, tr0, tr1);
+    return unused;
+}
+
+static int case_refused_after_load(void)
+{
+    pthread_t thread;
+    pthread_create(&thread, NULL, refused_after_load, NULL);
+    pthread_join(thread, NULL);
+    return 0;
+}
+
 /* A child goes on with the tiles of its parent, and changes its own. */
 static int case_fork(void)
 {
@@ -400,8 +423,14 @@ static int case_echo(void)
     return 42;
 }
 
-/* The first free descriptor is the one that it is without the tool. */
-static int case_descriptor(void) { return open("/dev/null", O_RDONLY); }
+/* Descriptors that are opened have the numbers that they have without the tool: from 3 on. */
+static int case_descriptors(void)
+{
+    int number = 3;
+    while (number < 40 && open("/dev/null", O_RDONLY) == number)
+        number++;
+    return number;
+}
 
 static int case_loop(void)
 {
@@ -417,10 +446,11 @@ static const struct {
     {"x0", case_x0}, {"stack", case_stack}, {"high", case_high}, {"unmapped", case_unmapped}, {"half_mapped", case_half_mapped},
     {"read_only", case_read_only}, {"far", case_far}, {"code_page", case_code_page}, {"unwritten", case_unwritten},
     {"multiply", case_multiply},
-    {"signals", case_signals}, {"alarms", case_alarms}, {"segv", case_segv}, {"ill", case_ill}, {"abort", case_abort},
+    {"signals", case_signals}, {"alarms", case_alarms}, {"segv", case_segv}, {"ill", case_ill}, {"abort", case_abort}, {"no_stack", case_no_stack},
     {"own_handler", case_own_handler}, {"probe", case_probe}, {"blocked", case_blocked}, {"in_handler", case_in_handler},
     {"threads", case_threads}, {"own_tiles", case_own_tiles}, {"small_stack", case_small_stack}, {"refused_thread", case_refused_thread},
-    {"fork", case_fork}, {"refused_child", case_refused_child}, {"echo", case_echo}, {"descriptor", case_descriptor}, {"loop", case_loop},
+    {"refused_after_load", case_refused_after_load},
+    {"fork", case_fork}, {"refused_child", case_refused_child}, {"echo", case_echo}, {"descriptors", case_descriptors}, {"loop", case_loop},
 };
 
 int main(int count, char **words)
