@@ -16,11 +16,12 @@ int moments_open(struct moments *moments, FILE *file, const struct window *windo
     moments->window = window;
     moments->kept = kept;
     moments->memory = calloc(window->bytes + 1, 1);
-    return moments->memory != NULL;
+    return moments->memory != NULL && absence_open(&moments->absence, window->bytes);
 }
 
 void moments_close(struct moments *moments)
 {
+    absence_close(&moments->absence);
     free(moments->memory);
     moments->memory = NULL;
 }
@@ -422,8 +423,12 @@ void moment_after(void *self, const struct session *session, const struct event 
         moments->entered = *event;
         moments->enters = 1;
     }
-    if (event->kind != STEPPED)
+    if (event->kind != STEPPED) {
+        absence_line(&moments->absence, &session->device, event);
         return;
+    }
+    if (session->device.result == 0 && moments->flows)
+        absence_step(&moments->absence, &session->device, event, &moments->flow);
     moments->steps++;
     moments->refused += session->device.result != 0;
     if (moments->kept == NULL || moments->kept[event->step]) {

@@ -213,6 +213,16 @@ static void write_window(FILE *file, const struct window *window)
 
 /* ---- explanations ---- */
 
+static struct place element_place(unsigned reg, unsigned row, unsigned column, unsigned width)
+{
+    struct place place = {IN_REGISTER, 0, 0, 0, 0};
+    place.reg = reg;
+    place.row = row;
+    place.at = (uint64_t)column * width;
+    place.bytes = width;
+    return place;
+}
+
 struct explanations {
     FILE *file;
     const struct session *session;
@@ -251,7 +261,7 @@ static void explain_register(struct explanations *all, unsigned reg, unsigned wi
     for (row = 0; row < register_rows(device); row++)
         for (column = 0; column < register_row_bytes(device, reg) / width; column++)
             if (element_written(device, reg, row, column, width)) {
-                struct place place = {IN_REGISTER, reg, row, column * width, width};
+                struct place place = element_place(reg, row, column, width);
                 write_explanation(all, &place, register_at(device, reg, row, column * width));
             }
 }
@@ -271,6 +281,53 @@ static void write_explanations(FILE *file, const struct session *session, const 
     for (i = 0; i < REGISTERS && session->device.started && session->device.mlen <= BYTES_MLEN_MOST; i++) {
         reg = (unsigned)(i + ACCUMULATOR_0) % REGISTERS;
         explain_register(&all, reg, shown_width(moments, &session->device, reg));
+    }
+    fputc(']', file);
+}
+
+/* ---- what rests on memory that nobody entered ---- */
+
+/* The readings that rest on a load, by their addresses and bytes. */
+static void write_resting_readings(FILE *file, const struct moments *moments, unsigned bit)
+{
+    size_t i, count = 0;
+    json_name(file, "readings");
+    fputc('[', file);
+    for (i = 0; i < moments->readings_count; i++)
+        if ((absence_at(&moments->absence, &moments->readings[i]) & bit) != 0)
+            fprintf(file, "%s[%" PRIu64 ",%" PRIu64 "]", count++ == 0 ? "" : ",", moments->readings[i].at, moments->readings[i].bytes);
+    fputc(']', file);
+}
+
+/* The elements of an accumulator that rest on a load, by row, column and bytes. */
+static void write_resting_elements(FILE *file, const struct moments *moments, const struct device *device, unsigned reg, unsigned bit, size_t *count)
+{
+    unsigned row, column, width = shown_width(moments, device, reg);
+    for (row = 0; row < register_rows(device); row++)
+        for (column = 0; column < register_row_bytes(device, reg) / width; column++) {
+            struct place place = element_place(reg, row, column, width);
+            if ((absence_at(&moments->absence, &place) & bit) != 0)
+                fprintf(file, "%s[%u,%u,%u,%u]", (*count)++ == 0 ? "" : ",", reg, row, column, width);
+        }
+}
+
+static void write_absences(FILE *file, const struct session *session, const struct moments *moments)
+{
+    const struct device *device = &session->device;
+    size_t i, count;
+    unsigned reg;
+    json_name(file, "absent");
+    fputc('[', file);
+    for (i = 0; i < moments->absence.count; i++) {
+        const struct absent *load = &moments->absence.loads[i];
+        fprintf(file, "%s{\"step\":%lu,\"line\":%lu,\"first\":%" PRIu64 ",\"last\":%" PRIu64 ",\"bytes\":%" PRIu64, i == 0 ? "\n" : ",\n", load->step,
+                load->line, load->first, load->last, load->bytes);
+        write_resting_readings(file, moments, 1u << i);
+        json_name(file, "elements");
+        fputc('[', file);
+        for (reg = ACCUMULATOR_0, count = 0; reg < REGISTERS && device->mlen <= BYTES_MLEN_MOST; reg++)
+            write_resting_elements(file, moments, device, reg, 1u << i, &count);
+        fputs("]}", file);
     }
     fputc(']', file);
 }
@@ -297,6 +354,7 @@ static int write_run(FILE *file, const struct report *report, const struct sessi
     json_number_of(file, "left", moments.left_all);
     json_number_of(file, "refused", moments.refused);
     json_number_of(file, "failed", session->failures);
+    write_absences(file, session, &moments);
     write_explanations(file, session, &moments);
     fputc('}', file);
     moments_close(&moments);
