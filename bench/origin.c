@@ -152,8 +152,8 @@ static size_t written_together(const struct track *track, size_t byte)
 {
     const struct writer *writer = &track->last[byte];
     size_t end = byte + 1;
-    while (end < track->place.bytes && track->last[end].event == writer->event
-           && (writer->event == 0 || writer->loose || same_place(&track->last[end].element, &writer->element)))
+    while (end < track->place.bytes && track->last[end].event == writer->event && track->last[end].kind == writer->kind
+           && (writer->event == 0 || writer->kind != NUMBER_BYTES || same_place(&track->last[end].element, &writer->element)))
         end++;
     return end - byte;
 }
@@ -179,7 +179,7 @@ static void add_part(struct tree *tree, struct origin *origin, const struct trac
     part = add_source(tree, origin, &found, writer->event == 0 ? origin->before : writer->event + 1, BYTE);
     if (part != NULL && writer->event == 0)
         part->how = NEVER_WRITTEN;
-    else if (part != NULL && !writer->loose && !same_place(&found.element, &writer->element))
+    else if (part != NULL && writer->kind == NUMBER_BYTES && !same_place(&found.element, &writer->element))
         add_longer(tree, part, writer);
 }
 

@@ -165,7 +165,7 @@ static void see_entered(struct track *track, const struct event *event)
         if (place->at + byte >= entered->at && place->at + byte - entered->at < entered->bytes) {
             track->now[byte].event = event->number;
             track->now[byte].element = entered_element(event, place, byte);
-            track->now[byte].loose = event->form == BYTE;
+            track->now[byte].kind = event->form == BYTE ? LOOSE_BYTES : NUMBER_BYTES;
         }
 }
 
@@ -185,6 +185,7 @@ static void see_restored(struct track *track, const struct device *device, const
         track->now[byte].element = *place;
         track->now[byte].element.at += from;
         track->now[byte].element.bytes = end - from;
+        track->now[byte].kind = marks[byte] != 0 ? LOOSE_BYTES : LOST_BYTES;
     }
 }
 

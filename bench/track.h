@@ -28,7 +28,7 @@ struct writer {
     unsigned long event;
     struct place element;
     uint8_t bytes[ELEMENT_BYTES];
-    int loose; /* bytes that are no number: any of them are an element as well */
+    enum { NUMBER_BYTES, LOOSE_BYTES, LOST_BYTES } kind; /* loose or lost bytes are no number: any of them that stand together are an element as well */
 };
 
 /* An event that wrote an element as a whole: the elements that it read, and its bytes after it and before it. */
