@@ -213,16 +213,6 @@ static void write_window(FILE *file, const struct window *window)
 
 /* ---- explanations ---- */
 
-static struct place element_place(unsigned reg, unsigned row, unsigned column, unsigned width)
-{
-    struct place place = {IN_REGISTER, 0, 0, 0, 0};
-    place.reg = reg;
-    place.row = row;
-    place.at = (uint64_t)column * width;
-    place.bytes = width;
-    return place;
-}
-
 struct explanations {
     FILE *file;
     const struct session *session;
@@ -261,7 +251,7 @@ static void explain_register(struct explanations *all, unsigned reg, unsigned wi
     for (row = 0; row < register_rows(device); row++)
         for (column = 0; column < register_row_bytes(device, reg) / width; column++)
             if (element_written(device, reg, row, column, width)) {
-                struct place place = element_place(reg, row, column, width);
+                struct place place = register_place(reg, row, column, width);
                 write_explanation(all, &place, register_at(device, reg, row, column * width));
             }
 }
@@ -305,7 +295,7 @@ static void write_resting_elements(FILE *file, const struct moments *moments, co
     unsigned row, column, width = shown_width(moments, device, reg);
     for (row = 0; row < register_rows(device); row++)
         for (column = 0; column < register_row_bytes(device, reg) / width; column++) {
-            struct place place = element_place(reg, row, column, width);
+            struct place place = register_place(reg, row, column, width);
             if ((absence_at(&moments->absence, &place) & bit) != 0)
                 fprintf(file, "%s[%u,%u,%u,%u]", (*count)++ == 0 ? "" : ",", reg, row, column, width);
         }
