@@ -434,7 +434,7 @@ static int next_unentered(const struct origin *root, uint64_t address, uint64_t 
 /* it rests on memory that was never entered: 12 to 15 */
 static void put_unentered(struct writing *writing, const struct origin *root)
 {
-    uint64_t from, end = 0;
+    uint64_t from = 0, end = 0;
     const char *mark = "it rests on memory that was never entered: ";
     while (next_unentered(root, end, &from, &end)) {
         put(writing, from + 1 == end ? "%s%" PRIu64 : "%s%" PRIu64 " to %" PRIu64, mark, from, end - 1);
