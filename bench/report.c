@@ -243,35 +243,44 @@ static void write_explanation(struct explanations *all, const struct place *plac
     origin_free(root);
 }
 
-/* The elements of a register that are written. */
-static void explain_register(struct explanations *all, unsigned reg, unsigned width)
+/* The elements of a register that are written, or those that are not. */
+static void explain_register(struct explanations *all, unsigned reg, unsigned width, int written)
 {
     const struct device *device = &all->session->device;
     unsigned row, column;
     for (row = 0; row < register_rows(device); row++)
         for (column = 0; column < register_row_bytes(device, reg) / width; column++)
-            if (element_written(device, reg, row, column, width)) {
+            if (element_written(device, reg, row, column, width) == written) {
                 struct place place = register_place(reg, row, column, width);
                 write_explanation(all, &place, register_at(device, reg, row, column * width));
             }
 }
 
-/* Readings, then accumulators, then tile registers; of long runs few, since each is found by running the script again. */
+/* Accumulators, then tile registers. */
+static void explain_registers(struct explanations *all, const struct moments *moments, int written)
+{
+    const struct device *device = &all->session->device;
+    unsigned i, reg;
+    for (i = 0; i < REGISTERS && device->started && device->mlen <= BYTES_MLEN_MOST; i++) {
+        reg = (i + ACCUMULATOR_0) % REGISTERS;
+        if (written || moments->widths[reg] != 0)
+            explain_register(all, reg, shown_width(moments, device, reg), written);
+    }
+}
+
+/* Readings, then elements that are written, then those beside them that are not; of long runs few, since each is found by running the script again. */
 static void write_explanations(FILE *file, const struct session *session, const struct moments *moments)
 {
     struct explanations all = {file, session, 0, 512, 0};
     size_t i;
-    unsigned reg;
     if (session->events > STEPS_MOST)
         all.most = 16;
     json_name(file, "explained");
     fputc('[', file);
     for (i = 0; i < moments->readings_count; i++)
         write_explanation(&all, &moments->readings[i], (size_t)moments->readings[i].at);
-    for (i = 0; i < REGISTERS && session->device.started && session->device.mlen <= BYTES_MLEN_MOST; i++) {
-        reg = (unsigned)(i + ACCUMULATOR_0) % REGISTERS;
-        explain_register(&all, reg, shown_width(moments, &session->device, reg));
-    }
+    explain_registers(&all, moments, 1);
+    explain_registers(&all, moments, 0);
     fputc(']', file);
 }
 
