@@ -365,16 +365,33 @@ static void put_how_word(struct writing *writing, const struct origin *origin)
     put_step(writing, origin);
 }
 
+/* was never written; and which elements of the register were written last, if it was not the image's. */
+static void put_unwritten(struct writing *writing, const struct origin *origin, unsigned depth)
+{
+    const struct tile *tile = &origin->near_tile;
+    char text[INSTRUCTION_TEXT_BYTES], name[8];
+    register_name(origin->place.reg, name);
+    put(writing, " was never written");
+    if (origin->how == NOT_IN_IMAGE) {
+        put(writing, ": it was not in the machine ");
+        put_image(writing, origin);
+    } else if (origin->near.number == 0) {
+        put(writing, ", nor any other element of %s", name);
+    }
+    end_line(writing, depth, origin);
+    if (origin->near.number == 0)
+        return;
+    write_instruction(origin->near.turn.word, text);
+    put(writing, "%s was last written in step %lu, line %lu: %s: rows %u to %u, columns %u to %u of %u bits", name, origin->near.step,
+        origin->near.line, text, tile->row, tile->row + tile->rows - 1, tile->column, tile->column + tile->columns - 1, 8 * tile->width);
+    end_line(writing, depth + 1, origin);
+}
+
 static void put_origin(struct writing *writing, const struct origin *origin, unsigned depth)
 {
     put_place(writing, origin);
     if (is_unwritten(origin)) {
-        put(writing, " was never written");
-        if (origin->how == NOT_IN_IMAGE) {
-            put(writing, ": it was not in the machine ");
-            put_image(writing, origin);
-        }
-        end_line(writing, depth, origin);
+        put_unwritten(writing, origin, depth);
         return;
     }
     put(writing, depth == 0 ? " is " : " was ");
@@ -417,7 +434,7 @@ static int next_unentered(const struct origin *root, uint64_t address, uint64_t 
 /* it rests on memory that was never entered: 12 to 15 */
 static void put_unentered(struct writing *writing, const struct origin *root)
 {
-    uint64_t from, end = 0;
+    uint64_t from = 0, end = 0;
     const char *mark = "it rests on memory that was never entered: ";
     while (next_unentered(root, end, &from, &end)) {
         put(writing, from + 1 == end ? "%s%" PRIu64 : "%s%" PRIu64 " to %" PRIu64, mark, from, end - 1);

@@ -45,7 +45,7 @@ int flow_adds(const struct flow *flow)
 
 /* ---- where an element lies ---- */
 
-static struct place register_place(unsigned reg, unsigned row, unsigned column, unsigned width)
+struct place register_place(unsigned reg, unsigned row, unsigned column, unsigned width)
 {
     struct place place = {IN_REGISTER, 0, 0, 0, 0};
     place.reg = reg;

@@ -21,6 +21,9 @@ int flow_of(const struct device *device, const struct event *event, struct flow 
 /* Whether the word writes a byte: that of `place` which is so many bytes from its first; and the element that the byte is of. */
 int flow_writes(const struct flow *flow, const struct place *place, uint64_t byte, unsigned *i, unsigned *j);
 
+/* An element of a register, by its width in bytes. */
+struct place register_place(unsigned reg, unsigned row, unsigned column, unsigned width);
+
 /* Where an element is written. */
 struct place flow_target(const struct flow *flow, unsigned i, unsigned j);
 

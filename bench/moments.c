@@ -16,11 +16,12 @@ int moments_open(struct moments *moments, FILE *file, const struct window *windo
     moments->window = window;
     moments->kept = kept;
     moments->memory = calloc(window->bytes + 1, 1);
-    return moments->memory != NULL;
+    return moments->memory != NULL && absence_open(&moments->absence, window->bytes);
 }
 
 void moments_close(struct moments *moments)
 {
+    absence_close(&moments->absence);
     free(moments->memory);
     moments->memory = NULL;
 }
@@ -63,41 +64,24 @@ static int written_now(const struct device *known, const struct device *device, 
 
 static int lost_now(const struct device *known, const struct device *device, size_t i) { return device->marks[i] == 0 && known->marks[i] != 0; }
 
-/* Where a stretch of such bytes ends. */
-static size_t stretch_end(const struct device *known, const struct device *device, size_t i, int (*is)(const struct device *, const struct device *, size_t))
-{
-    while (i < BODLARINA_REGISTER_BYTES(device->mlen) && is(known, device, i))
-        i++;
-    return i;
-}
+typedef int differs(const struct device *known, const struct device *device, size_t i);
 
-static void write_written(FILE *file, const struct device *known, const struct device *device)
+/* The stretches of such register bytes: where each starts, and its bytes or, for large machines and where they are lost, how many they are. */
+static void write_stretches(FILE *file, const char *name, const struct device *known, const struct device *device, differs *is, int bytes)
 {
-    size_t i, end, count = 0;
-    for (i = 0; i < BODLARINA_REGISTER_BYTES(device->mlen); i = end + 1) {
-        end = stretch_end(known, device, i, written_now);
+    size_t i, end, count = 0, all = BODLARINA_REGISTER_BYTES(device->mlen);
+    for (i = 0; i < all; i = end + 1) {
+        for (end = i; end < all && is(known, device, end); end++)
+            ;
         if (end == i)
             continue;
-        next_of(file, "registers", &count);
+        next_of(file, name, &count);
         fprintf(file, "[%lu,", (unsigned long)i);
-        if (device->mlen <= BYTES_MLEN_MOST)
+        if (bytes)
             json_bytes(file, device->registers + i, end - i);
         else
             fprintf(file, "%lu", (unsigned long)(end - i));
         fputc(']', file);
-    }
-    end_of(file, count);
-}
-
-static void write_lost(FILE *file, const struct device *known, const struct device *device)
-{
-    size_t i, end, count = 0;
-    for (i = 0; i < BODLARINA_REGISTER_BYTES(device->mlen); i = end + 1) {
-        end = stretch_end(known, device, i, lost_now);
-        if (end == i)
-            continue;
-        next_of(file, "lost", &count);
-        fprintf(file, "[%lu,%lu]", (unsigned long)i, (unsigned long)(end - i));
     }
     end_of(file, count);
 }
@@ -380,8 +364,8 @@ static void end_moment(struct moments *moments, const struct device *device)
     if (device->started) {
         write_machine(moments, device);
         write_settings(file, &moments->known, device);
-        write_lost(file, &moments->known, device);
-        write_written(file, &moments->known, device);
+        write_stretches(file, "lost", &moments->known, device, lost_now, 0);
+        write_stretches(file, "registers", &moments->known, device, written_now, device->mlen <= BYTES_MLEN_MOST);
     }
     write_seals(file, &moments->known, device);
     write_scalars(file, &moments->known, device);
@@ -422,8 +406,12 @@ void moment_after(void *self, const struct session *session, const struct event 
         moments->entered = *event;
         moments->enters = 1;
     }
-    if (event->kind != STEPPED)
+    if (event->kind != STEPPED) {
+        absence_line(&moments->absence, &session->device, event);
         return;
+    }
+    if (session->device.result == 0 && moments->flows)
+        absence_step(&moments->absence, &session->device, event, &moments->flow);
     moments->steps++;
     moments->refused += session->device.result != 0;
     if (moments->kept == NULL || moments->kept[event->step]) {

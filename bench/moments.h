@@ -4,7 +4,7 @@
 
 #include <stdio.h>
 
-#include "flow.h"
+#include "absence.h"
 #include "window.h"
 
 /* A machine with a larger MLEN has none of its register bytes on the page, only which are written. */
@@ -24,6 +24,7 @@ struct moments {
     unsigned long refused;  /* refusals, of words and of other lines */
     struct place readings[READINGS_MOST];
     size_t readings_count;
+    struct absence absence;
     unsigned widths[REGISTERS]; /* of the elements that were last written into a register; 0 if none were */
 
     /* what the page knows of the machine after the last moment */

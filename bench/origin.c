@@ -123,6 +123,14 @@ static void add_write(struct tree *tree, struct origin *origin, const struct wri
         add_source(tree, origin, &write->sources[n], write->event.number, source_form(write, origin->form));
 }
 
+/* Nothing wrote the element; what its register has was written by this word. */
+static void add_unwritten(struct origin *origin, enum how how, const struct track *track)
+{
+    origin->how = how;
+    origin->near = track->near;
+    origin->near_tile = track->near_tile;
+}
+
 /* The words that made an element, newest first, and what it was before the first of them. */
 static void add_writes(struct tree *tree, struct origin *origin, const struct track *track)
 {
@@ -133,6 +141,8 @@ static void add_writes(struct tree *tree, struct origin *origin, const struct tr
     do {
         const struct write *write = &track->writes[--left];
         add_write(tree, origin, write);
+        if (write->how == NOT_IN_IMAGE)
+            add_unwritten(origin, NOT_IN_IMAGE, track);
         if (write->how != ADDED && write->how != MULTIPLIED)
             return;
         if (!tree->whole && ++words >= WORDS_SHOWN && left > 0) {
@@ -152,8 +162,8 @@ static size_t written_together(const struct track *track, size_t byte)
 {
     const struct writer *writer = &track->last[byte];
     size_t end = byte + 1;
-    while (end < track->place.bytes && track->last[end].event == writer->event
-           && (writer->event == 0 || writer->loose || same_place(&track->last[end].element, &writer->element)))
+    while (end < track->place.bytes && track->last[end].event == writer->event && track->last[end].kind == writer->kind
+           && (writer->event == 0 || writer->kind != NUMBER_BYTES || same_place(&track->last[end].element, &writer->element)))
         end++;
     return end - byte;
 }
@@ -172,14 +182,15 @@ static void add_part(struct tree *tree, struct origin *origin, const struct trac
     const struct writer *writer = &track->last[byte];
     struct writer found;
     struct origin *part;
+    int unwritten = writer->event == 0 || writer->kind == LOST_BYTES;
     found.element = origin->place;
     found.element.at += byte;
     found.element.bytes = bytes;
     memcpy(found.bytes, origin->bytes + byte, bytes);
-    part = add_source(tree, origin, &found, writer->event == 0 ? origin->before : writer->event + 1, BYTE);
+    part = add_source(tree, origin, &found, unwritten ? origin->before : writer->event + 1, BYTE);
     if (part != NULL && writer->event == 0)
-        part->how = NEVER_WRITTEN;
-    else if (part != NULL && !writer->loose && !same_place(&found.element, &writer->element))
+        add_unwritten(part, NEVER_WRITTEN, track);
+    else if (part != NULL && writer->kind == NUMBER_BYTES && !same_place(&found.element, &writer->element))
         add_longer(tree, part, writer);
 }
 
@@ -203,7 +214,7 @@ static void add_found(struct tree *tree, struct origin *origin, const struct tra
     if (written_together(track, 0) < track->place.bytes)
         add_parts(tree, origin, track);
     else if (first->event == 0)
-        origin->how = NEVER_WRITTEN;
+        add_unwritten(origin, NEVER_WRITTEN, track);
     else if (same_place(&first->element, &track->place))
         add_writes(tree, origin, track);
     else

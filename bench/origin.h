@@ -22,6 +22,9 @@ struct origin {
     size_t terms_left_out; /* of a multiply */
     size_t words_left_out; /* older than this one */
 
+    struct event near; /* of a register element that nobody wrote: the last word that wrote others of the register, and which; number 0 if none did */
+    struct tile near_tile;
+
     struct origin *next; /* in the order in which they were found: all of the tree follow its root */
 };
 

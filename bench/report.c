@@ -243,34 +243,90 @@ static void write_explanation(struct explanations *all, const struct place *plac
     origin_free(root);
 }
 
-/* The elements of a register that are written. */
-static void explain_register(struct explanations *all, unsigned reg, unsigned width)
+/* The elements of a register that are written, or those that are not. */
+static void explain_register(struct explanations *all, unsigned reg, unsigned width, int written)
 {
     const struct device *device = &all->session->device;
     unsigned row, column;
     for (row = 0; row < register_rows(device); row++)
         for (column = 0; column < register_row_bytes(device, reg) / width; column++)
-            if (element_written(device, reg, row, column, width)) {
-                struct place place = {IN_REGISTER, reg, row, column * width, width};
+            if (element_written(device, reg, row, column, width) == written) {
+                struct place place = register_place(reg, row, column, width);
                 write_explanation(all, &place, register_at(device, reg, row, column * width));
             }
 }
 
-/* Readings, then accumulators, then tile registers; of long runs few, since each is found by running the script again. */
+/* Accumulators, then tile registers. */
+static void explain_registers(struct explanations *all, const struct moments *moments, int written)
+{
+    const struct device *device = &all->session->device;
+    unsigned i, reg;
+    for (i = 0; i < REGISTERS && device->started && device->mlen <= BYTES_MLEN_MOST; i++) {
+        reg = (i + ACCUMULATOR_0) % REGISTERS;
+        if (written || moments->widths[reg] != 0)
+            explain_register(all, reg, shown_width(moments, device, reg), written);
+    }
+}
+
+/* Readings, then elements that are written, then those beside them that are not; of long runs few, since each is found by running the script again. */
 static void write_explanations(FILE *file, const struct session *session, const struct moments *moments)
 {
     struct explanations all = {file, session, 0, 512, 0};
     size_t i;
-    unsigned reg;
     if (session->events > STEPS_MOST)
         all.most = 16;
     json_name(file, "explained");
     fputc('[', file);
     for (i = 0; i < moments->readings_count; i++)
         write_explanation(&all, &moments->readings[i], (size_t)moments->readings[i].at);
-    for (i = 0; i < REGISTERS && session->device.started && session->device.mlen <= BYTES_MLEN_MOST; i++) {
-        reg = (unsigned)(i + ACCUMULATOR_0) % REGISTERS;
-        explain_register(&all, reg, shown_width(moments, &session->device, reg));
+    explain_registers(&all, moments, 1);
+    explain_registers(&all, moments, 0);
+    fputc(']', file);
+}
+
+/* ---- what rests on memory that nobody entered ---- */
+
+/* The readings that rest on a load, by their addresses and bytes. */
+static void write_resting_readings(FILE *file, const struct moments *moments, unsigned bit)
+{
+    size_t i, count = 0;
+    json_name(file, "readings");
+    fputc('[', file);
+    for (i = 0; i < moments->readings_count; i++)
+        if ((absence_at(&moments->absence, &moments->readings[i]) & bit) != 0)
+            fprintf(file, "%s[%" PRIu64 ",%" PRIu64 "]", count++ == 0 ? "" : ",", moments->readings[i].at, moments->readings[i].bytes);
+    fputc(']', file);
+}
+
+/* The elements of an accumulator that rest on a load, by row, column and bytes. */
+static void write_resting_elements(FILE *file, const struct moments *moments, const struct device *device, unsigned reg, unsigned bit, size_t *count)
+{
+    unsigned row, column, width = shown_width(moments, device, reg);
+    for (row = 0; row < register_rows(device); row++)
+        for (column = 0; column < register_row_bytes(device, reg) / width; column++) {
+            struct place place = register_place(reg, row, column, width);
+            if ((absence_at(&moments->absence, &place) & bit) != 0)
+                fprintf(file, "%s[%u,%u,%u,%u]", (*count)++ == 0 ? "" : ",", reg, row, column, width);
+        }
+}
+
+static void write_absences(FILE *file, const struct session *session, const struct moments *moments)
+{
+    const struct device *device = &session->device;
+    size_t i, count;
+    unsigned reg;
+    json_name(file, "absent");
+    fputc('[', file);
+    for (i = 0; i < moments->absence.count; i++) {
+        const struct absent *load = &moments->absence.loads[i];
+        fprintf(file, "%s{\"step\":%lu,\"line\":%lu,\"first\":%" PRIu64 ",\"last\":%" PRIu64 ",\"bytes\":%" PRIu64, i == 0 ? "\n" : ",\n", load->step,
+                load->line, load->first, load->last, load->bytes);
+        write_resting_readings(file, moments, 1u << i);
+        json_name(file, "elements");
+        fputc('[', file);
+        for (reg = ACCUMULATOR_0, count = 0; reg < REGISTERS && device->mlen <= BYTES_MLEN_MOST; reg++)
+            write_resting_elements(file, moments, device, reg, 1u << i, &count);
+        fputs("]}", file);
     }
     fputc(']', file);
 }
@@ -297,6 +353,7 @@ static int write_run(FILE *file, const struct report *report, const struct sessi
     json_number_of(file, "left", moments.left_all);
     json_number_of(file, "refused", moments.refused);
     json_number_of(file, "failed", session->failures);
+    write_absences(file, session, &moments);
     write_explanations(file, session, &moments);
     fputc('}', file);
     moments_close(&moments);

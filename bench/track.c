@@ -110,6 +110,22 @@ static void read_sources(struct track *track, const struct device *device, const
     }
 }
 
+/* Whether the step writes elements of the register. */
+static int is_near(const struct track *track, const struct flow *flow)
+{
+    return track->place.space == IN_REGISTER && flow->space == IN_REGISTER && flow->tile.reg == track->place.reg && flow->tile.rows != 0
+           && flow->tile.columns != 0;
+}
+
+/* Whether the event writes a byte of the place. */
+static int is_touched(const struct track *track)
+{
+    size_t byte = 0;
+    while (byte < track->place.bytes && track->now[byte].event == 0)
+        byte++;
+    return byte < track->place.bytes;
+}
+
 int track_touched(struct track *track, const struct device *device, const struct event *event, const struct flow *flow)
 {
     unsigned i = 0, j = 0;
@@ -124,17 +140,25 @@ int track_touched(struct track *track, const struct device *device, const struct
         track->now[byte].element = flow_target(flow, i, j);
     }
     track->write.sources = NULL;
+    track->write.event = *event;
+    track->write.flow = *flow;
     if (touched && is_whole(track) && new_write(track, event, how_of(flow), flow_sources(flow)))
         read_sources(track, device, flow, i, j);
-    return touched;
+    return touched || is_near(track, flow);
 }
 
 void track_step(struct track *track, const struct device *device)
 {
-    if (device->result == 0)
-        take_over(track, device, flow_adds(&track->write.flow));
-    else
+    if (device->result != 0) {
         free(track->write.sources);
+        return;
+    }
+    if (is_near(track, &track->write.flow)) {
+        track->near = track->write.event;
+        track->near_tile = track->write.flow.tile;
+    }
+    if (is_touched(track))
+        take_over(track, device, flow_adds(&track->write.flow));
 }
 
 /* ---- lines ---- */
@@ -165,7 +189,7 @@ static void see_entered(struct track *track, const struct event *event)
         if (place->at + byte >= entered->at && place->at + byte - entered->at < entered->bytes) {
             track->now[byte].event = event->number;
             track->now[byte].element = entered_element(event, place, byte);
-            track->now[byte].loose = event->form == BYTE;
+            track->now[byte].kind = event->form == BYTE ? LOOSE_BYTES : NUMBER_BYTES;
         }
 }
 
@@ -185,6 +209,7 @@ static void see_restored(struct track *track, const struct device *device, const
         track->now[byte].element = *place;
         track->now[byte].element.at += from;
         track->now[byte].element.bytes = end - from;
+        track->now[byte].kind = marks[byte] != 0 ? LOOSE_BYTES : LOST_BYTES;
     }
 }
 
@@ -192,19 +217,17 @@ void track_line(struct track *track, const struct device *device, const struct e
 {
     const struct place *place = &track->place;
     enum how how = ENTERED_BY_LINE;
-    int touched = 0;
-    size_t byte;
     memset(track->now, 0, sizeof track->now);
     if (event->kind == ENTERED)
         see_entered(track, event);
     else
         see_restored(track, device, event);
-    for (byte = 0; byte < place->bytes; byte++)
-        touched |= track->now[byte].event != 0;
-    if (!touched)
+    if (!is_touched(track))
         return;
-    if (event->kind == RESTORED)
+    if (event->kind == RESTORED) {
         how = element_written(device, place->reg, place->row, (unsigned)place->at, 1) ? IN_IMAGE : NOT_IN_IMAGE;
+        track->near.number = 0;
+    }
     track->write.sources = NULL;
     if (is_whole(track))
         new_write(track, event, how, 0);

@@ -28,7 +28,7 @@ struct writer {
     unsigned long event;
     struct place element;
     uint8_t bytes[ELEMENT_BYTES];
-    int loose; /* bytes that are no number: any of them are an element as well */
+    enum { NUMBER_BYTES, LOOSE_BYTES, LOST_BYTES } kind; /* loose or lost bytes are no number: any of them that stand together are an element as well */
 };
 
 /* An event that wrote an element as a whole: the elements that it read, and its bytes after it and before it. */
@@ -48,6 +48,8 @@ struct track {
                              did not write it so */
     size_t count, room;
     int no_room;
+    struct event near; /* of a register: the last word that wrote any of its elements, and which; its number is 0 if none did since the start or the image */
+    struct tile near_tile;
 
     struct writer now[ELEMENT_BYTES]; /* what the event at hand writes */
     struct write write;               /* sources is NULL if it does not write the place as one element */
@@ -55,7 +57,8 @@ struct track {
 
 int same_place(const struct place *a, const struct place *b);
 
-/* Whether a step, before it is taken, writes a byte of the place; then track_step takes it over, or drops it if the step was refused. */
+/* Whether a step, before it is taken, writes a byte of the place or of its register; then track_step takes it over, or drops it if the step was
+ * refused. */
 int track_touched(struct track *track, const struct device *device, const struct event *event, const struct flow *flow);
 void track_step(struct track *track, const struct device *device);
 
