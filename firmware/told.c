@@ -34,7 +34,7 @@ static int write_refusal(const struct emulator *emulator, struct places *places)
     printf("bodlarina-firmware: ");
     write_word(&shared->report);
     printf(": refused with %u, %s", BODLARINA_ANSWER(shared->device.result), bodlarina_answer_text(shared->device.result));
-    write_place(&shared->device);
+    write_place(stdout, &shared->device);
     printf("\n  at ");
     write_chain(places, shared->report.pc, shared->report.x);
     return STATUS_REFUSED;
