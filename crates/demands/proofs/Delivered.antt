@@ -1,21 +1,37 @@
 -- What a call of bodlarina_run delivers.
-use Rattle.numbers.proofs.Kit.{_≡_, refl, sym, ap, _∙_, subst, Bool, true, false, List, ℕ, _<_, le-refl, eqb, length, eqb-true, eqb-false}
+use mathlib.Core.Path.{_≡_, refl, sym, ap, _∙_, subst}
+use mathlib.Core.Bool.{Bool, true, false, cond, _&&_}
+use mathlib.Core.List.{List, [], _∷_}
+use Prim.Native.Nat.{ℕ, _<_}
+use lib.Dec.{eqb}
+use lib.ListN.{length, replicate, length-replicate}
+use native.Mathlib.Nat.{le-refl}
+use borrow.Author.Tests.{eqb-true, eqb-false, ne-eqb}
+use Rattle.machine.specs.declared.Answer.the-variants.{BadArguments}
+use Rattle.machine.specs.Tests.{every}
+use Rattle.machine.specs.Answers.{reply}
+use Rattle.machine.specs.Setting.{chosen}
 use Rattle.machine.specs.Operation.{element}
 use Rattle.run.specs.declared.Plan.{Plan}
 use Rattle.run.specs.Words.{steps}
-use Rattle.run.specs.Plan.{OutsideKept, shape, wide, cAt, productOf}
+use Rattle.run.specs.Plan.{Kept, shape, wide, cAt, productOf}
 use Rattle.run.specs.Statement.{MemoryBytes}
-use Rattle.c_blocks.specs.Blocks.{Bytes, machineBytes}
-use Rattle.c_run_blocks.specs.RunBlocks.{runBytes}
-use Rattle.c_turn.specs.TurnCalls.{countBytes, HostRan}
-use Rattle.c_turn.proofs.Refusal.{run-refusal}
-use Rattle.theorem_calls.specs.Calls.{Buffers, Call, Called, afterRun, called}
-use Rattle.theorem_calls.specs.Composed.{PlanWords, jobIn, afterTurnCalls, counting}
-use Rattle.theorem_calls.proofs.Runs.{start-calls-are-right, turn-calls-are-right, run-is-turn-calls}
+use Rattle.run.specs.Whole.{whole}
+use Rattle.blocks.specs.Blocks.{Bytes, machineBytes, packed}
+use Rattle.run_blocks.specs.RunBlocks.{runBytes}
+use Rattle.turn_calls.specs.TurnCalls.{countBytes, HostRan, ranOut, shownRun, hostRun}
+use Rattle.turn_calls.proofs.Refusal.{run-refusal}
+use Rattle.calls.specs.Calls.{Buffers, buffers, Call, Called, afterRun, called}
+use Rattle.calls.specs.Composed.{benchIn, PlanWords, jobIn, afterTurnCalls, counting}
+use Rattle.calls.proofs.Runs.{start-calls-are-right, turn-calls-are-right, run-is-turn-calls}
 use Rattle.demands.specs.Demand3.{RunCallDelivers, RunCallsDeliver}
 
+-- the buffers with another run's block
+abbrev withRun : List ℕ → Buffers → Buffers
+withRun run b = buffers (b .machine) (b .registers) (b .marks) (b .scalars) (b .memory) run (b .step) (b .steps) (b .file)
+
 module _ (P : Plan) (b : Buffers) (p : PlanWords P) (small : Bytes (b .machine)) (mem : MemoryBytes (b .memory))
-    (lm : length (b .machine) ≡ machineBytes) (lr : length (b .run) ≡ runBytes) (lc : length (b .steps) ≡ countBytes) where
+    (lr : length (b .run) ≡ runBytes) (lc : length (b .steps) ≡ countBytes) where
   abbrev o : Called
   o = called (Call.run P) b
 
@@ -31,14 +47,14 @@ module _ (P : Plan) (b : Buffers) (p : PlanWords P) (small : Bytes (b .machine))
   refused : ¬ (o .result ≡ 0) → o .after ≡ b
   refused h = ap (λ (x : HostRan). afterRun b x .after) (run-refusal P (b .machine) (b .registers) (b .marks) (b .memory) (b .steps) h)
 
-  kept : OutsideKept (jobIn P b) (o .after .memory)
+  kept : Kept (jobIn P b) (o .after .memory)
   kept = go (eqb (o .result) 0) refl
     where
-      go : (t : Bool) → eqb (o .result) 0 ≡ t → OutsideKept (jobIn P b) (o .after .memory)
+      go : (t : Bool) → eqb (o .result) 0 ≡ t → Kept (jobIn P b) (o .after .memory)
       go true e =
           let z = eqb-true (o .result) 0 e in
-          subst (OutsideKept (jobIn P b)) (sym (ap (λ (a : Buffers). a .memory) (after-is z))) (turn-calls-are-right P b p small mem (sym same ∙ z) s .kept)
-      go false e = subst (OutsideKept (jobIn P b)) (sym (ap (λ (a : Buffers). a .memory) (refused (eqb-false (o .result) 0 e)))) (record { same-length = refl; outside = λ q h. refl })
+          subst (Kept (jobIn P b)) (sym (ap (λ (a : Buffers). a .memory) (after-is z))) (turn-calls-are-right P b p small mem (sym same ∙ z) s .kept)
+      go false e = subst (Kept (jobIn P b)) (sym (ap (λ (a : Buffers). a .memory) (refused (eqb-false (o .result) 0 e)))) (record { same-length = refl; outside = λ q h. refl })
 
   delivers : RunCallDelivers P b o
   delivers =
@@ -53,5 +69,27 @@ module _ (P : Plan) (b : Buffers) (p : PlanWords P) (small : Bytes (b .machine))
         kept = kept;
       }
 
+-- the run's block is not lent to it: whatever it is, the call is that with a block of the right length
+whatever-run : (P : Plan) (b : Buffers) → RunCallDelivers P (withRun (replicate runBytes 0) b) (called (Call.run P) (withRun (replicate runBytes 0) b)) → RunCallDelivers P b (called (Call.run P) b)
+whatever-run P b d = record {
+  answered = d .answered;
+  refused = λ h. ap (λ (x : HostRan). afterRun b x .after) (run-refusal P (b .machine) (b .registers) (b .marks) (b .memory) (b .steps) h);
+  counted = d .counted;
+  product = d .product;
+  kept = d .kept;
+}
+
+-- a count's block of another length
+other-count : (P : Plan) (b : Buffers) → eqb (length (b .steps)) countBytes ≡ false → called (Call.run P) b ≡ record { result = 8; after = b }
+unfolding hostRun
+other-count P b e =
+    ap (λ (t : Bool). afterRun b (cond t (shownRun (b .machine) (b .steps) (whole chosen P (benchIn b))) (ranOut (packed (reply BadArguments)) (b .machine) (b .registers) (b .marks) (b .memory) (b .steps))))
+    (go (eqb (length (b .machine)) machineBytes) (eqb (length (b .steps)) countBytes) e)
+  where
+    go : (t u : Bool) → u ≡ false → every (t ∷ u ∷ []) ≡ false
+    go true u e = ap (λ (x : Bool). x && true) e
+    go false u e = refl
+
 pub run-calls-deliver : RunCallsDeliver
-run-calls-deliver P b p small mem lm lr lc = delivers P b p small mem lm lr lc
+run-calls-deliver P b p small mem =
+    (λ lc. whatever-run P b (delivers P (withRun (replicate runBytes 0) b) p small mem (length-replicate {A = ℕ} runBytes 0) lc), λ n. other-count P b (ne-eqb (length (b .steps)) countBytes n))

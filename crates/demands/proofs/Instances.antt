@@ -802,7 +802,7 @@ of-demand-3 = record {
     turns = calls-right (promise .demand-3 .in-c .turns);
     many = many-right (promise .demand-3 .in-c .many);
     whole = whole-right (promise .demand-3 .in-c .whole);
-    delivers = promise .demand-3 .in-c .delivers plan host plan-words block-bytes mem-bytes refl refl refl;
+    delivers = promise .demand-3 .in-c .delivers plan host plan-words block-bytes mem-bytes .0 refl;
   };
 }
 
