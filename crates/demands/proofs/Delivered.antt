@@ -1,12 +1,6 @@
 -- What a call of bodlarina_run delivers.
-use mathlib.Core.Path.{_≡_, refl, sym, ap, _∙_, subst}
-use mathlib.Core.Bool.{Bool, true, false, cond, _&&_}
-use mathlib.Core.List.{List, [], _∷_}
-use Prim.Native.Nat.{ℕ, _<_}
-use lib.Dec.{eqb}
-use lib.ListN.{length, replicate, length-replicate}
-use native.Mathlib.Nat.{le-refl}
-use borrow.Author.Tests.{eqb-true, eqb-false, ne-eqb}
+use Rattle.numbers.proofs.Kit.{_≡_, refl, sym, ap, _∙_, subst, Bool, true, false, cond, _&&_, List, [], _∷_, ℕ, _<_, le-refl, eqb, length, replicate}
+use Rattle.numbers.proofs.Kit.{length-replicate, eqb-true, eqb-false, ne-eqb}
 use Rattle.machine.specs.declared.Answer.the-variants.{BadArguments}
 use Rattle.machine.specs.Tests.{every}
 use Rattle.machine.specs.Answers.{reply}
@@ -14,16 +8,16 @@ use Rattle.machine.specs.Setting.{chosen}
 use Rattle.machine.specs.Operation.{element}
 use Rattle.run.specs.declared.Plan.{Plan}
 use Rattle.run.specs.Words.{steps}
-use Rattle.run.specs.Plan.{Kept, shape, wide, cAt, productOf}
+use Rattle.run.specs.Plan.{OutsideKept, shape, wide, cAt, productOf}
 use Rattle.run.specs.Statement.{MemoryBytes}
 use Rattle.run.specs.Whole.{whole}
-use Rattle.blocks.specs.Blocks.{Bytes, machineBytes, packed}
-use Rattle.run_blocks.specs.RunBlocks.{runBytes}
-use Rattle.turn_calls.specs.TurnCalls.{countBytes, HostRan, ranOut, shownRun, hostRun}
-use Rattle.turn_calls.proofs.Refusal.{run-refusal}
-use Rattle.calls.specs.Calls.{Buffers, buffers, Call, Called, afterRun, called}
-use Rattle.calls.specs.Composed.{benchIn, PlanWords, jobIn, afterTurnCalls, counting}
-use Rattle.calls.proofs.Runs.{start-calls-are-right, turn-calls-are-right, run-is-turn-calls}
+use Rattle.c_blocks.specs.Blocks.{Bytes, machineBytes, packed}
+use Rattle.c_run_blocks.specs.RunBlocks.{runBytes}
+use Rattle.c_turn.specs.TurnCalls.{countBytes, HostRan, ranOut, shownRun, hostRun}
+use Rattle.c_turn.proofs.Refusal.{run-refusal}
+use Rattle.theorem_calls.specs.Calls.{Buffers, buffers, Call, Called, afterRun, called}
+use Rattle.theorem_calls.specs.Composed.{benchIn, PlanWords, jobIn, afterTurnCalls, counting}
+use Rattle.theorem_calls.proofs.Runs.{start-calls-are-right, turn-calls-are-right, run-is-turn-calls}
 use Rattle.demands.specs.Demand3.{RunCallDelivers, RunCallsDeliver}
 
 -- the buffers with another run's block
@@ -47,14 +41,14 @@ module _ (P : Plan) (b : Buffers) (p : PlanWords P) (small : Bytes (b .machine))
   refused : ¬ (o .result ≡ 0) → o .after ≡ b
   refused h = ap (λ (x : HostRan). afterRun b x .after) (run-refusal P (b .machine) (b .registers) (b .marks) (b .memory) (b .steps) h)
 
-  kept : Kept (jobIn P b) (o .after .memory)
+  kept : OutsideKept (jobIn P b) (o .after .memory)
   kept = go (eqb (o .result) 0) refl
     where
-      go : (t : Bool) → eqb (o .result) 0 ≡ t → Kept (jobIn P b) (o .after .memory)
+      go : (t : Bool) → eqb (o .result) 0 ≡ t → OutsideKept (jobIn P b) (o .after .memory)
       go true e =
           let z = eqb-true (o .result) 0 e in
-          subst (Kept (jobIn P b)) (sym (ap (λ (a : Buffers). a .memory) (after-is z))) (turn-calls-are-right P b p small mem (sym same ∙ z) s .kept)
-      go false e = subst (Kept (jobIn P b)) (sym (ap (λ (a : Buffers). a .memory) (refused (eqb-false (o .result) 0 e)))) (record { same-length = refl; outside = λ q h. refl })
+          subst (OutsideKept (jobIn P b)) (sym (ap (λ (a : Buffers). a .memory) (after-is z))) (turn-calls-are-right P b p small mem (sym same ∙ z) s .kept)
+      go false e = subst (OutsideKept (jobIn P b)) (sym (ap (λ (a : Buffers). a .memory) (refused (eqb-false (o .result) 0 e)))) (record { same-length = refl; outside = λ q h. refl })
 
   delivers : RunCallDelivers P b o
   delivers =

@@ -1,19 +1,16 @@
 -- Demand 3: the tiled product run, as one statement over any number of turns from its start.
-use mathlib.Core.Path.{_≡_}
-use mathlib.Core.List.{[], _∷_}
-use Prim.Native.Nat.{ℕ, _<_}
-use lib.ListN.{length}
+use Rattle.numbers.specs.Kit.{_≡_, [], _∷_, ℕ, _<_, length}
 use Rattle.machine.specs.declared.Reply.{Reply}
 use Rattle.machine.specs.Operation.{element}
 use Rattle.run.specs.declared.Plan.{Plan}
 use Rattle.run.specs.Words.{steps}
-use Rattle.run.specs.Plan.{Kept, shape, wide, cAt, productOf}
+use Rattle.run.specs.Plan.{OutsideKept, shape, wide, cAt, productOf}
 use Rattle.run.specs.Statement.{Answered, MemoryBytes, OurRunsAreRight, RunsAreRight}
 use Rattle.run.specs.Whole.{WholeDelivers}
-use Rattle.blocks.specs.Blocks.{Bytes, putNumbers}
-use Rattle.turn_calls.specs.TurnCalls.{countBytes}
-use Rattle.calls.specs.Calls.{Buffers, Call, Called, called}
-use Rattle.calls.specs.Composed.{benchIn, PlanWords, jobIn, StartCallsAreRight, TurnCallsAreRight, TurnsAreTurnCalls, RunIsTurnCalls}
+use Rattle.c_blocks.specs.Blocks.{Bytes, putNumbers}
+use Rattle.c_turn.specs.TurnCalls.{countBytes}
+use Rattle.theorem_calls.specs.Calls.{Buffers, Call, Called, called}
+use Rattle.theorem_calls.specs.Composed.{benchIn, PlanWords, jobIn, StartCallsAreRight, TurnCallsAreRight, TurnsAreTurnCalls, RunIsTurnCalls}
 
 -- ---- over the C functions
 
@@ -24,7 +21,7 @@ pub record RunCallDelivers (P : Plan) (b : Buffers) (o : Called) : Type 0 where
   pub refused : ¬ (o .result ≡ 0) → o .after ≡ b
   pub counted : o .result ≡ 0 → o .after .steps ≡ putNumbers (steps (shape (jobIn P b)) ∷ []) (b .steps)
   pub product : o .result ≡ 0 → (i j : ℕ) → i < P .m → j < P .n → element (o .after .memory) (cAt P) (wide P) i j ≡ productOf (jobIn P b) i j
-  pub kept : Kept (jobIn P b) (o .after .memory)
+  pub kept : OutsideKept (jobIn P b) (o .after .memory)
 
 -- for every machine's block of bytes (one of another length holds a state at fault); a count's block of another length gets 8, and nothing changes
 abbrev pub RunCallsDeliver : Type 0

@@ -1,5 +1,6 @@
 -- 01, "Setting mtype and tile sizes".
 use Rattle.numbers.specs.Kit.{Bool, cond, not, _&&_, _||_, [], _∷_, ℕ, _+_, _*_, _/_, _%_, _^_, min, leb, ltb, eqb}
+use Rattle.numbers.specs.Blocks.{Choice}
 use Rattle.machine.specs.declared.Dimension.{Dimension}
 use Rattle.machine.specs.declared.Dimension.the-variants.{DimensionM, DimensionK, DimensionN}
 use Rattle.machine.specs.Tests.{every}
@@ -62,5 +63,5 @@ unfoldable pub halving : ℕ → ℕ → ℕ
 halving max asked = cond (ltb max asked && ltb asked (2 * max)) ((asked + 1) / 2) (smaller max asked)
 
 -- "one of two rules, 0 as before or 1 halving": our choice of sizes
-unfoldable pub chosen : (rule : ℕ) → ℕ → ℕ → ℕ
+unfoldable pub chosen : Choice
 chosen rule = cond (eqb rule 1) halving smaller

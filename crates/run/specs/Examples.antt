@@ -13,7 +13,7 @@ use Rattle.machine.specs.Operation.{element}
 use Rattle.machine.specs.Refusals.{widthOk, widthOf, marked}
 use Rattle.machine.specs.Listing.{decode, listing}
 use Rattle.machine.specs.Step.{stepBy, outcome}
-use Rattle.machine.specs.Geometry.{range, Bench}
+use Rattle.machine.specs.Geometry.{Range, range, Bench, benchOf}
 use Rattle.machine.specs.Faults.{sound, sealsFit}
 use Rattle.run.specs.declared.Layout.{Layout}
 use Rattle.run.specs.declared.Plan.{Plan}
@@ -58,6 +58,10 @@ gives B P want = record { got = startRun chosen P B .answer .number; want = want
 pub free : Bench
 free = bench 0 0 0
 
+-- with several ranges
+pub sealing : List Range → Bench
+sealing seals = benchOf (free .machine) seals (free .registers) (free .marks) (free .memory)
+
 -- 1 x 3 x 1 at SEW 8, f = 1, with A's rows 2 bytes apart
 pub dot : (a c : ℕ) → Plan
 dot a c = plan 8 1 1 3 1 (layout a 2) (layout 8 1) (layout c 1)
@@ -96,6 +100,10 @@ examples =
     ∷ gives (bench 0 19 1) (small (layout 0 2) (layout 8 2) (layout 16 2)) 9
     ∷ gives (bench 0 20 100) (small (layout 0 2) (layout 8 2) (layout 16 2)) 0
     ∷ gives (bench 0 17 0) (small (layout 0 2) (layout 8 2) (layout 16 2)) 0
+    -- of three ranges the last one has a byte of C; the first one; none
+    ∷ gives (sealing (range 0 8 ∷ range 20 30 ∷ range 19 1 ∷ [])) (small (layout 0 2) (layout 8 2) (layout 16 2)) 9
+    ∷ gives (sealing (range 14 3 ∷ range 20 30 ∷ range 0 8 ∷ [])) (small (layout 0 2) (layout 8 2) (layout 16 2)) 9
+    ∷ gives (sealing (range 0 8 ∷ range 20 30 ∷ range 8 8 ∷ [])) (small (layout 0 2) (layout 8 2) (layout 16 2)) 0
     -- C's rows may lie in the gaps of A; A and B may share bytes; sealed bytes may be read
     ∷ gives (bench 0 0 10) (small (layout 0 8) (layout 0 8) (layout 10 4)) 0
     -- of kind 1, A is 3 rows of 1 element, not 1 row of 3: 6 and 9
@@ -114,7 +122,7 @@ examples =
     ∷ []
 
 pub starts : map (λ l. l .got) examples ≡ map (λ l. l .want) examples
-unfolding examples bench ruled layout plan ofKind dot gives free small permitted newType legalType sew inside misses rowsMiss distinct sound sealsFit narrow msew typeOf startRun format kindFits planned lying apart separate
+unfolding examples bench ruled layout plan ofKind dot gives free sealing small permitted newType legalType sew inside misses rowsMiss distinct sound sealsFit narrow msew typeOf startRun format kindFits planned lying apart separate
 starts = refl
 
 -- ---- asking
