@@ -256,7 +256,7 @@ size-call-answers b =
     record {
       eight = (λ e. x .eight .0 (sym (p .0) ∙ e), λ n. p .0 ∙ x .eight .1 n);
       nought = (λ e. x .nought .0 (sym (p .0) ∙ e), λ n. p .0 ∙ x .nought .1 n);
-      sizeReply = λ e. p .1 ∙ ap (λ (o : SizeOutcome). cond (eqb (o .answer .number) 0) (o .size) (o .answer .place)) (x .sized (sym (p .0) ∙ e));
+      sized = λ e. p .1 ∙ ap (λ (o : SizeOutcome). cond (eqb (o .answer .number) 0) (o .size) (o .answer .place)) (x .sized (sym (p .0) ∙ e));
       refused = λ n. p .1 ∙ ap (λ (o : SizeOutcome). cond (eqb (o .answer .number) 0) (o .size) (o .answer .place)) (x .refused (λ e. n (p .0 ∙ e)));
     }
 
@@ -284,7 +284,7 @@ write-call-answers room b =
     let x = write-answers-exactly (benchIn b) room in
     record {
       given = subst (λ (n : ℕ). Exactly n 14 (NotAtFault (benchIn b)) (NoRoomFor room (benchIn b))) (sym (p .0)) (x .given);
-      writeReply = λ e.
+      written = λ e.
           let y = x .written (sym (p .0) ∙ e) in
           (p .1 ∙ ap (λ (o : WriteOutcome). cond (eqb (o .answer .number) 0) (o .size) (o .answer .place)) y, image-left room b ∙ ap (λ (o : WriteOutcome). o .room) y);
       refused = λ n.
