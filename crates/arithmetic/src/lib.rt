@@ -1,5 +1,5 @@
 // The effect of multiply, add, subtract, reverse subtract and multiply by a number on the register bytes.
-// An element of the output has 1, 2, 4 or 8 bytes, and its sums are kept at that width, or at 16 bits for 8: crates sums, pairs and halves.
+// An element of the output has 1, 2, 4 or 8 bytes, and its sums are kept at that width, or at 16 bits for 8: crates sums, pairs, halves and words.
 mod rows;
 mod weights;
 
@@ -17,7 +17,7 @@ ghost use Rattle.arithmetic.specs.Effect.{shape, productTile, combineTil
 ghost use Rattle.sums.specs.Rows.{productRow};
 
 // A block of at most COLUMNS columns and TERMS terms, in all rows of C: in pairs where elements of one or two bytes make sums of four, in lanes
-// of 16 bits where sums of one or two bytes have 16 columns or more, else row by row.
+// of 16 bits where sums of one or two bytes have 16 columns or more, in lanes of 32 where elements of four bytes have 8 or more, else row by row.
 fn multiply_rows(
     s: &mut [u8],
     a: usize,
@@ -40,6 +40,12 @@ fn multiply_rows(
         if width != 4 {
             pairs::multiply_rows(s, a, b, c, pitch, width, m, k, n);
             return;
+        }
+        if n >= 8 {
+            if n <= words::LANES {
+                words::multiply_rows(s, a, b, c, pitch, m, k, n);
+                return;
+            }
         }
         rows::multiply_rows(s, a, b, c, pitch, width, wide, m, k, n);
         return;
@@ -97,14 +103,18 @@ fn multiply_terms(
 }
 
 // The most columns of a block, by what its sums stand in.
-fn columns_of(wide: usize) -> usize
+fn columns_of(width: usize, wide: usize) -> usize
     ensures { λ r. ⌜ (0 < r) × (r ≤ mostColumns) ⌝ }
 {
     if wide <= 2 {
-        halves::LANES
-    } else {
-        element::COLUMNS
+        return halves::LANES;
     }
+    if wide == 4 {
+        if width == 4 {
+            return words::LANES;
+        }
+    }
+    element::COLUMNS
 }
 
 // All columns and terms.
@@ -129,7 +139,7 @@ fn multiply_blocks(
     if m == 0 {
         return;
     }
-    let most = columns_of(wide);
+    let most = columns_of(width, wide);
     let mut j = 0;
     let mut from = b;
     let mut to = c;
