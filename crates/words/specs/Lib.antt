@@ -1,0 +1,2 @@
+-- The columns of a block.
+pub mod Lanes
