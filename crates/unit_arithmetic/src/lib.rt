@@ -1,5 +1,5 @@
 // The effect of multiply, add, subtract, reverse subtract and multiply by a number on the register bytes.
-// An element of the output has 1, 2, 4 or 8 bytes, and its sums are kept at that width, or at 16 bits for 8: crates sums, pairs, halves and words.
+// An element of the output has 1, 2, 4 or 8 bytes, and its sums are kept at that width, or at 16 bits for 8: crates unit_sums, unit_pairs, unit_lanes16 and unit_lanes32.
 mod rows;
 mod weights;
 
@@ -9,12 +9,12 @@ ghost use mathlib.Core.Path.{_≡_};
 ghost use Prim.Native.Nat.{_+_, _*_, _^_, _≤_, _<_, min};
 ghost use lib.IntN.{ℤ};
 ghost use lib.ListN.{length};
-ghost use Rattle.width.specs.Reduce.{reduce};
-ghost use Rattle.width.specs.Tile.{putTile};
-ghost use Rattle.width.specs.Bounds.{mostPitch, mostColumns, mostSize, mostTerms};
-ghost use Rattle.element.specs.Element.{Width};
-ghost use Rattle.arithmetic.specs.Effect.{shape, productTile, combineTile, scaleTile};
-ghost use Rattle.sums.specs.Rows.{productRow};
+ghost use Rattle.numbers.specs.Reduce.{reduce};
+ghost use Rattle.numbers.specs.Tile.{putTile};
+ghost use Rattle.numbers.specs.Bounds.{mostPitch, mostColumns, mostSize, mostTerms};
+ghost use Rattle.unit_element.specs.Element.{Width};
+ghost use Rattle.unit_arithmetic.specs.Effect.{shape, productTile, combineTile, scaleTile};
+ghost use Rattle.unit_sums.specs.Rows.{productRow};
 
 // A block of at most COLUMNS columns and TERMS terms, in all rows of C: in pairs where elements of one or two bytes make sums of four, in lanes
 // of 16 bits where sums of one or two bytes have 16 columns or more, in lanes of 32 where elements of four bytes have 8 or more, else row by row.
@@ -38,12 +38,12 @@ fn multiply_rows(
 {
     if wide == 4 {
         if width != 4 {
-            pairs::multiply_rows(s, a, b, c, pitch, width, m, k, n);
+            unit_pairs::multiply_rows(s, a, b, c, pitch, width, m, k, n);
             return;
         }
         if n >= 8 {
-            if n <= words::LANES {
-                words::multiply_rows(s, a, b, c, pitch, m, k, n);
+            if n <= unit_lanes32::LANES {
+                unit_lanes32::multiply_rows(s, a, b, c, pitch, m, k, n);
                 return;
             }
         }
@@ -52,8 +52,8 @@ fn multiply_rows(
     }
     if n >= 16 {
         if wide <= 2 {
-            if n <= halves::LANES {
-                halves::multiply_rows(s, a, b, c, pitch, width, wide, m, k, n);
+            if n <= unit_lanes16::LANES {
+                unit_lanes16::multiply_rows(s, a, b, c, pitch, width, wide, m, k, n);
                 return;
             }
         }
@@ -91,7 +91,7 @@ fn multiply_terms(
     let mut from = a;
     let mut row = b;
     loop {
-        let terms = least(k - l, element::TERMS);
+        let terms = least(k - l, unit_element::TERMS);
         multiply_rows(s, from, row, c, pitch, width, wide, m, terms, n);
         l += terms;
         if l >= k {
@@ -107,14 +107,14 @@ fn columns_of(width: usize, wide: usize) -> usize
     ensures { λ r. ⌜ (0 < r) × (r ≤ mostColumns) ⌝ }
 {
     if wide <= 2 {
-        return halves::LANES;
+        return unit_lanes16::LANES;
     }
     if wide == 4 {
         if width == 4 {
-            return words::LANES;
+            return unit_lanes32::LANES;
         }
     }
-    element::COLUMNS
+    unit_element::COLUMNS
 }
 
 // All columns and terms.
@@ -206,7 +206,7 @@ pub fn combine_tile(
 {
     let wide = factor * width;
     // Minus 1 as a residue at 64 bits.
-    let minus = 18446744073709551615;
+    let minus = 0xffff_ffff_ffff_ffff;
     match sum {
         Sum::Add => weigh_tile(registers, rows, pitch, width, wide, d, a, 1, 1, m, n),
         Sum::Subtract => weigh_tile(registers, rows, pitch, width, wide, d, a, 1, minus, m, n),

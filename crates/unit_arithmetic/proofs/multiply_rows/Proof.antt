@@ -1,13 +1,10 @@
 -- By cases of the widths and the columns.
-use native.Mathlib.Omega.{arith}
-use mathlib.Core.Path.{sym, ap, ap₂, _∙_}
-use Prim.Native.Nat.{ℕ, _+_, _*_}
-use Rattle.width.specs.Tile.{putTile}
-use Rattle.element.proofs.Laws.{not-4, short, narrow}
-use Rattle.sums.specs.Rows.{productRow}
-use borrow.Author.Needs.{needs}
-use Rattle.arithmetic.proofs.multiply_rows.Statement.{statement}
-use Rattle.arithmetic.proofs.multiply_rows.Tie as tie
+use Rattle.numbers.proofs.Kit.{sym, ap, ap₂, _∙_, ℕ, _+_, _*_, arith, needs}
+use Rattle.numbers.specs.Tile.{putTile}
+use Rattle.unit_element.proofs.Laws.{not-4, short, narrow}
+use Rattle.unit_sums.specs.Rows.{productRow}
+use Rattle.unit_arithmetic.proofs.multiply_rows.Statement.{statement}
+use Rattle.unit_arithmetic.proofs.multiply_rows.Tie as tie
 
 multiply-rows-requires : tie.Need-multiply-rows-requires
 multiply-rows-requires c κs =
