@@ -151,13 +151,24 @@ static int let_go(struct emulator *emulator, struct setting *setting)
     return stub_leave(&setting->stub) || complain("QEMU's stub could not be left: %s", strerror(errno));
 }
 
+/* A folder of its own for QEMU's socket, whose path has to be short, where temporary files go. */
+static int own_folder(char *folder, size_t room)
+{
+    const char *where = getenv("TMPDIR");
+    if (where == NULL || *where == '\0')
+        where = P_tmpdir;
+    if ((size_t)snprintf(folder, room, "%s/bodlarina-XXXXXX", where) >= room)
+        return complain("%s: too long a path for a socket", where);
+    return mkdtemp(folder) != NULL || complain("%s: %s", where, strerror(errno));
+}
+
 int start_user(struct emulator *emulator)
 {
     static struct setting setting;
-    char folder[] = "/tmp/bodlarina-XXXXXX", path[sizeof folder + 8];
+    char folder[96], path[sizeof folder + 8];
     int started, done = 0;
-    if (mkdtemp(folder) == NULL)
-        return complain("/tmp: %s", strerror(errno));
+    if (!own_folder(folder, sizeof folder))
+        return 0;
     snprintf(path, sizeof path, "%s/stub", folder);
     emulator->shared->base = GUEST_BASE;
     emulator_word(emulator, "-B");
