@@ -2,8 +2,8 @@ use mathlib.Core.Path.{sym}
 use native.Mathlib.Omega.{arith}
 use lib.Seq.{length-take-le}
 use borrow.Author.Needs.{needs}
-use Rattle.product.proofs.main.Statement.{statement}
-use Rattle.product.proofs.main.Tie as tie
+use Rattle.product.proofs.answer_input.Statement.{statement}
+use Rattle.product.proofs.answer_input.Tie as tie
 
 slice-aggregate-answer : tie.Need-slice-aggregate-answer
 slice-aggregate-answer c = let r = c .before .before .before .read-text in sym (length-take-le (r .result .count) (r .last .0) (omega (arith, r .ensures)))
@@ -11,8 +11,8 @@ slice-aggregate-answer c = let r = c .before .before .before .read-text in sym (
 slice-aggregate-write-all-2 : tie.Need-slice-aggregate-write-all-2
 slice-aggregate-write-all-2 c = let a = c .before .answer in sym (length-take-le (a .result) (a .last .1 .0) (omega arith))
 
-pub main-spec : {M : Type 1} → statement M
-main-spec =
+pub answer-input-spec : {M : Type 1} → statement M
+answer-input-spec =
     tie.close
     (tie.spec
     (λ c. search needs)
