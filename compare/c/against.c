@@ -178,6 +178,9 @@ int main(void) {
     product("8 to 32, 256 cubed, 65536/512, ns a MAC", 512, 65536, 0, 8, 4, 256, 0);
     product("32 to 32, 256 cubed, 65536/4096, ns a MAC", 4096, 65536, 0, 32, 1, 256, 0);
     elen = 64;
+    product("16 to 64, 256 cubed, large, ns a MAC", 512, 4096, 0, 16, 4, 256, 0);
+    product("32 to 64, 256 cubed, large, ns a MAC", 512, 4096, 0, 32, 2, 256, 0);
+    product("64 to 64, 256 cubed, large, ns a MAC", 512, 4096, 0, 64, 1, 256, 0);
     product("64 to 64, 256 cubed, 65536/512, ns a MAC", 512, 65536, 0, 64, 1, 256, 0);
     product("64 to 64, 256 cubed, 65536/4096, ns a MAC", 4096, 65536, 0, 64, 1, 256, 0);
     return 0;

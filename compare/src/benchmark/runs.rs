@@ -1,11 +1,11 @@
 //! Times of product runs.
 
 use super::nanoseconds;
-use super::steps::{full_bench, machine_name, near_one, LARGE, LARGER, SMALL};
+use super::steps::{full_bench, machine_name, near_one, LARGE, LARGER, LARGE_TO_64, SMALL};
 use crate::lent::{library_run_start, library_run_turn, library_run_turns, second_run_start, Lent};
 use crate::library;
 use crate::runs::plans::{packed_plan, packed_plan_of};
-use crate::states::machines::WIDTHS;
+use crate::states::machines::{WIDTHS, WIDTHS_TO_64};
 use model::{Lengths, Matrix, Plan, A_TRANSPOSED, FLOAT, PRODUCT};
 use std::hint::black_box;
 use std::time::Instant;
@@ -68,7 +68,8 @@ pub fn table() {
     turns_on_the_smallest_machine();
     products(LARGE, (8, 4), &[128, 256, 512, 1024]);
     products(SMALL, (8, 4), &[32, 64, 128, 256]);
-    widths();
+    widths(LARGE, &WIDTHS);
+    widths(LARGE_TO_64, &WIDTHS_TO_64);
     for machine in LARGER {
         products(machine, (8, 4), &[128, 256, 512]);
         products(machine, (64, 1), &[128, 256, 512]);
@@ -319,11 +320,11 @@ fn products(machine: Lengths, widths: (u64, u64), sizes: &[u64]) {
     }
 }
 
-fn widths() {
-    product_heading(&format!("of 256 in each size on {}", machine_name(LARGE)));
-    for widths in WIDTHS {
+fn widths(machine: Lengths, all: &[(u64, u64)]) {
+    product_heading(&format!("of 256 in each size on {}", machine_name(machine)));
+    for &widths in all {
         let name = format!("{} bits", width_name(widths));
-        product_line(&name, LARGE, widths, 256, None, second_rate(LARGE, widths));
+        product_line(&name, machine, widths, 256, None, second_rate(machine, widths));
     }
 }
 

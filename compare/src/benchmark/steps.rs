@@ -14,6 +14,8 @@ use std::hint::black_box;
 
 pub const SMALL: Lengths = (64, 128, 32);
 pub const LARGE: Lengths = (512, 4096, 32);
+/// The same with 64-bit elements.
+pub const LARGE_TO_64: Lengths = (512, 4096, 64);
 /// The smallest machine with eight rows and eight columns, at SEW 8.
 const EIGHT_LINES: Lengths = (64, 512, 32);
 /// The largest MLEN, with many rows and with wide ones (request Ten).
