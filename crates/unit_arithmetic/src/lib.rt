@@ -114,6 +114,9 @@ fn columns_of(width: usize, wide: usize) -> usize
             return unit_lanes32::LANES;
         }
     }
+    if wide == 8 {
+        return unit_sums::sums64::BLOCK;
+    }
     unit_element::COLUMNS
 }
 

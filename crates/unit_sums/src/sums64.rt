@@ -9,6 +9,9 @@ ghost use Rattle.numbers.specs.Bounds.{mostColumns};
 ghost use Rattle.unit_element.specs.Element.{Width};
 ghost use Rattle.unit_sums.specs.Rows.{plusProduct, productRow, weightedRow};
 
+// The columns of a block. With a literal number of them, and no more, LLVM keeps a row's accumulators in registers.
+pub const BLOCK: usize = 8;
+
 // acc[j] plus x times the signed element j of the row at `at`.
 fn mac_row(acc: &mut [u64], s: &[u8], at: usize, width: usize, n: usize, x: u64)
     requires { ⌜ n ≤ length (now acc) ⌝ }
@@ -94,7 +97,19 @@ fn finish_row(s: &mut [u8], acc: &[u64], to: usize, n: usize, x: u64)
     }
 }
 
-// One row of C: its old elements enter the sums last, with the factor 1.
+// One row of C, of BLOCK columns: its old elements enter the sums last, with the factor 1.
+fn multiply_block(s: &mut [u8], a: usize, b: usize, c: usize, pitch: usize, width: usize, k: usize)
+    requires { ⌜ Width width ⌝ }
+    requires { ⌜ 8 * width ≤ pitch ⌝ }
+    requires { ⌜ (a + k * width ≤ length (now s)) × ((b + k * pitch ≤ length (now s)) × (c + 8 * 8 ≤ length (now s))) ⌝ }
+    ensures { λ _. ⌜ now (s .exit) ≡ putRow c 8 8 (productRow (now (s .entry)) 8 width pitch k a b c) (now (s .entry)) ⌝ }
+{
+    let mut acc = [0u64; BLOCK];
+    add_products(&mut acc, s, a, b, pitch, width, k, BLOCK);
+    finish_row(s, &acc, c, BLOCK, 1);
+}
+
+// One row of C, of any number of columns.
 pub fn multiply_row(
     s: &mut [u8],
     a: usize,
@@ -111,6 +126,10 @@ pub fn multiply_row(
     requires { ⌜ (a + k * width ≤ length (now s)) × ((b + k * pitch ≤ length (now s)) × (c + n * 8 ≤ length (now s))) ⌝ }
     ensures { λ _. ⌜ now (s .exit) ≡ putRow c n 8 (productRow (now (s .entry)) 8 width pitch k a b c) (now (s .entry)) ⌝ }
 {
+    if n == BLOCK {
+        multiply_block(s, a, b, c, pitch, width, k);
+        return;
+    }
     let mut acc = [0u64; unit_element::COLUMNS];
     add_products(&mut acc, s, a, b, pitch, width, k, n);
     finish_row(s, &acc, c, n, 1);
