@@ -104,6 +104,6 @@ pub fn put_seals(block: &mut [u8], seals: &[u64])
 pub fn packed(answer: Answer) -> u64
     ensures { λ r. ⌜ r ≡ packed (reply answer) ⌝ }
 {
-    let reply = machine::reply_of(answer);
+    let reply = unit_answers::reply_of(answer);
     reply.number + reply.row % 65536 * 65536 + reply.column % 65536 * 0x1_0000_0000
 }

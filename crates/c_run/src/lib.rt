@@ -34,7 +34,7 @@ pub fn start(
     let held = machine_of(machine);
     let started = run_start::start(plan, held, machine, registers, marks, memory);
     let answer = started.answer;
-    if !machine::is_done(answer) {
+    if !unit_answers::is_done(answer) {
         return packed(answer);
     }
     let fresh = started.run;
@@ -55,7 +55,7 @@ pub fn next(run: &mut [u8], step: &mut [u8]) -> u64
     let held = run_of(run);
     let asked = run_next::next(held);
     let answer = asked.answer;
-    if !machine::is_done(answer) {
+    if !unit_answers::is_done(answer) {
         return packed(answer);
     }
     let handed = asked.handed;

@@ -11,8 +11,8 @@ use Rattle.run.specs.declared.Place.the-variants.{AtType, AtM, AtN, AtClear, At
 use Rattle.run.specs.declared.Layout.{Layout}
 use Rattle.run.specs.declared.Plan.{Plan}
 use Rattle.run.specs.declared.Run.{Run}
-use Rattle.c_blocks.specs.Blocks.{Bytes, firstValues, putNumbers}
-use Rattle.c_blocks.proofs.BlockLaws.{value-at, put-same, put-middle}
+use Rattle.c_blocks.specs.Blocks.{Bytes, putNumbers, firstValues}
+use Rattle.c_blocks.proofs.BlockLaws.{put-middle, value-at, put-same}
 use Rattle.c_run_blocks.specs.declared.Spot.{Spot}
 use Rattle.c_run_blocks.specs.RunBlocks.{runBytes, spot, spotOf, spotIn, placeOf, layoutOf, planOf, runOf, planNumbers, runNumbers, putRun, RunKept, sameSpot, runFit}
 

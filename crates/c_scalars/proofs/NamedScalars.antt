@@ -20,8 +20,8 @@ use Rattle.machine.specs.Setting.{chosen}
 use Rattle.machine.specs.Listing
 use Rattle.machine.specs.Listing.{field7, field15, field20, lookUp, notOurs, listing, ranged, inRange, decode}
 use Rattle.machine.specs.Vectors.{Vectors, vectorsFit}
-use Rattle.machine.specs.Operation.{Operation, operationIn, stateAfter, memoryAfter, vectorsAfter, resultOf}
-use Rattle.machine.specs.Refusals.{checks}
+use Rattle.machine.specs.Operation.{Operation, operationIn}
+use Rattle.machine.specs.Meanings.{stateAfter, memoryAfter, vectorsAfter, resultOf, checks}
 use Rattle.machine.specs.Faults.{soundBench}
 use Rattle.machine.specs.declared.Stepped.{Stepped}
 use Rattle.machine.specs.Step.{VectorOutcome, beside, stepWith, vectorStep, vectorSteppedAs, destination}
@@ -176,7 +176,7 @@ module _ (word : ℕ) (xs ys : List ℕ) (W : Vectors) (B : Bench) (tx : length 
       (record {
         answer = reply Done;
         bench = benchOf (machineAfter (B .machine) left) (B .seals) (left .regs) (left .marks) (memoryAfter M o st (B .memory));
-        scalars = withScalar zs (destination (decode word)) (resultOf o left);
+        scalars = withScalar zs (destination (decode word)) (resultOf M o st);
       })
       (record { answer = reply a; bench = B; scalars = zs }))
 

@@ -22,7 +22,7 @@ use Rattle.machine.specs.Vectors.{Vectors, vectorsOf}
 use Rattle.machine.specs.Step.{VectorOutcome, vectorSteppedAs}
 use Rattle.unit_ranges.specs.Ranges.{sealsIn, putSeals}
 use Rattle.unit_sealing.specs.SealBlock.{BlockSealed, blockSealed, sealBlock}
-use Rattle.c_blocks.specs.Blocks.{machineBytes, machineOf, putMachine, SameMachine, valuesOf, packed}
+use Rattle.c_blocks.specs.Blocks.{machineBytes, machineOf, putMachine, SameMachine, packed, valuesOf}
 use Rattle.c_blocks.proofs.BlockLaws.{step-with-kept}
 use Rattle.c_scalars.specs.ScalarBlock.{stepBlock}
 use Rattle.c_step.specs.BenchCalls.{startedOut, shownStart, hostStart, steppedOut, shownStep, hostStep, sealedOut, shownSeal, hostSeal}

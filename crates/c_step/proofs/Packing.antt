@@ -17,8 +17,9 @@ use Rattle.machine.specs.Answers.{reply, number, isDone, Check, verdict}
 use Rattle.machine.specs.Geometry.{sealed, Parameters, parameters, State, Bench, benchOf}
 use Rattle.machine.specs.Setting.{chosen}
 use Rattle.machine.specs.Listing.{decode}
-use Rattle.machine.specs.Operation.{Operation, illegal, setType, setSize, cutSize, load, store, multiply, combine, scale, floatMultiply, moveOut, moveIn, tileRows, tileCols, linesOf, sliceRows, sliceCols}
-use Rattle.machine.specs.Refusals.{checks, unwrittenIn}
+use Rattle.machine.specs.Operation.{Operation, illegal, setType, setSize, cutSize, load, store, multiply, combine, scale, floatMultiply, moveOut, moveIn, tileRows, tileCols}
+use Rattle.machine.specs.MoveWords.{linesOf, sliceRows, sliceCols, unwrittenIn}
+use Rattle.machine.specs.Meanings.{checks}
 use Rattle.machine.specs.Faults.{soundBench}
 use Rattle.machine.specs.Step
 use Rattle.machine.specs.Step.{beside, vectorsIn, steppedIn, stepWith, vectorStep, checksIn, givenIn, meantIn}
@@ -31,7 +32,7 @@ use Rattle.machine.proofs.AnswerLaws.{number-small}
 use Rattle.machine.proofs.StepLaws.{permitted-bounds}
 use Rattle.machine.proofs.NoFault.{bench-sound, sound-is}
 use Rattle.unit_ranges.specs.Ranges.{sealsIn}
-use Rattle.c_blocks.specs.Blocks.{machineBytes, machineOf, scalarBytes, valuesOf, packed}
+use Rattle.c_blocks.specs.Blocks.{machineBytes, machineOf, packed, scalarBytes, valuesOf}
 use Rattle.c_step.specs.BenchCalls.{hostStep}
 use Rattle.c_step.specs.Theorems.{StepPacksWhole}
 

@@ -21,7 +21,7 @@ use Rattle.machine.proofs.Stores.{accepted-with}
 use Rattle.machine.proofs.Refusal.{step-refusal-changes-nothing}
 use Rattle.unit_ranges.specs.Ranges.{sealsIn, putSeals}
 use Rattle.unit_sealing.specs.SealBlock.{BlockSealed, sealBlock}
-use Rattle.c_blocks.specs.Blocks.{machineBytes, machineOf, putMachine, valuesOf, putValues, packed}
+use Rattle.c_blocks.specs.Blocks.{machineBytes, machineOf, putMachine, packed, valuesOf, putValues}
 use Rattle.c_scalars.specs.ScalarBlock.{stepBlock}
 use Rattle.c_step.specs.BenchCalls.{HostStarted, startedOut, shownStart, hostStart, HostStepped, steppedOut, shownStep, hostStep, HostSealed, sealedOut, shownSeal, hostSeal}
 use Rattle.c_step.specs.Theorems.{StartRefusalChangesNoByte, StepRefusalChangesNoByte, SealRefusalChangesNoByte}

@@ -13,7 +13,7 @@ use Rattle.machine.specs.Vectors.{vectorsOf}
 use Rattle.machine.specs.Step.{VectorOutcome}
 use Rattle.unit_ranges.specs.Ranges.{sealsIn, putSeals}
 use Rattle.unit_sealing.specs.SealBlock.{BlockSealed, sealBlock}
-use Rattle.c_blocks.specs.Blocks.{machineBytes, machineOf, putMachine, scalarBytes, packed}
+use Rattle.c_blocks.specs.Blocks.{machineBytes, machineOf, putMachine, packed, scalarBytes}
 use Rattle.c_scalars.specs.ScalarBlock.{stepBlock}
 
 -- ---- starting

@@ -26,9 +26,9 @@ pub fn start(
     if machine.len() != MACHINE_BYTES {
         return packed(Answer::BadArguments);
     }
-    let started = machine::start(rlen, mlen, elen, rule, seals, registers, marks);
+    let started = unit_start::start(rlen, mlen, elen, rule, seals, registers, marks);
     let answer = started.answer;
-    if !machine::is_done(answer) {
+    if !unit_answers::is_done(answer) {
         return packed(answer);
     }
     let numbers = started.machine;

@@ -91,7 +91,7 @@ pub fn whole(
     let held = machine_of(machine);
     let finished = run_whole::whole(plan, held, machine, registers, marks, memory);
     let answer = finished.answer;
-    if !machine::is_done(answer) {
+    if !unit_answers::is_done(answer) {
         return packed(answer);
     }
     let after = finished.machine;

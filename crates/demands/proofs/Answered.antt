@@ -10,7 +10,7 @@ use Rattle.machine.specs.declared.Answer.the-variants.{Done, IllegalWord, Illeg
 use Rattle.machine.specs.declared.Machine.{Machine}
 use Rattle.machine.specs.declared.Reply.{Reply}
 use Rattle.machine.specs.Answers.{reply, number, done, isDone, _otherwise_, verdict}
-use Rattle.machine.specs.Refusals.{checks}
+use Rattle.machine.specs.Meanings.{checks}
 use Rattle.machine.specs.Faults.{soundBench, thirtyTwo}
 use Rattle.machine.specs.Geometry.{Range, sealed, Parameters, parameters, Bench, benchOf}
 use Rattle.machine.specs.Vectors.{Vectors, vectorsOf, idle}

@@ -22,7 +22,7 @@ use Rattle.run.specs.Start.{startRun}
 use Rattle.run.specs.Turn.{ask, asked, Running, turn, turnOutcome, afterTurns, turns}
 use Rattle.run.specs.Whole as run
 use Rattle.run.proofs.Demand1.{turn-refusal-changes-nothing}
-use Rattle.c_blocks.specs.Blocks.{machineBytes, machineOf, scalarBytes, valuesOf, packed}
+use Rattle.c_blocks.specs.Blocks.{machineBytes, machineOf, packed, scalarBytes, valuesOf}
 use Rattle.c_run_blocks.specs.RunBlocks.{runBytes, runFit, runOf, stepBytes}
 use Rattle.image.specs.declared.Imaged.{Imaged}
 use Rattle.image.specs.declared.Imaged.the-variants as Imaged

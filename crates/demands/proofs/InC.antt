@@ -20,7 +20,7 @@ use Rattle.machine.proofs.TestLaws.{false-true, each-every}
 use Rattle.unit_ranges.specs.Ranges.{sealsIn}
 use Rattle.run.specs.declared.Run.{Run}
 use Rattle.run.specs.Acts.{Act, session}
-use Rattle.c_blocks.specs.Blocks.{Bytes, machineBytes, machineOf, putMachine, scalarBytes, valuesOf, putValues, packed}
+use Rattle.c_blocks.specs.Blocks.{Bytes, machineBytes, machineOf, putMachine, packed, scalarBytes, valuesOf, putValues}
 use Rattle.c_blocks.proofs.BlockLaws.{machineOf-putMachine, putMachine-seals, values-at}
 use Rattle.c_scalars.specs.ScalarBlock.{stepBlock}
 use Rattle.unit_sealing.proofs.AddedRange.{ranges-are-exact}

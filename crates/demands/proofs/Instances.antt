@@ -19,7 +19,9 @@ use Rattle.machine.specs.Memory.{rowAt, inside, misses, rowsMiss, distinct, sto
 use Rattle.machine.specs.Vectors.{vectorsFit, idle}
 use Rattle.machine.specs.Listing.{bits, Fixed, Code, Row, has, listing, others, decode}
 use Rattle.machine.specs.Operation.{element}
-use Rattle.machine.specs.Refusals.{widthOk, widthOf, marked}
+use Rattle.machine.specs.Refusals.{marked}
+use Rattle.machine.specs.TransferWords.{widthOf}
+use Rattle.machine.specs.ArithmeticWords.{widthOk}
 use Rattle.machine.specs.Faults.{sound, sealsFit, soundBench}
 use Rattle.machine.specs.Sealing.{SealOutcome, addSeal}
 use Rattle.machine.specs.Step.{stepWith, stepBy, outcome}
@@ -29,7 +31,7 @@ use Rattle.machine.proofs.TestLaws.{and-left, and-right}
 use Rattle.theorem_refusals.specs.Listed.{entries, Spot, IsThere}
 use Rattle.unit_ranges.specs.Ranges.{wellFormed, sealsIn, putRange, putSeals}
 use Rattle.unit_sealing.specs.SealBlock.{sealBlock}
-use Rattle.c_blocks.specs.Blocks.{machineOf, putMachine, valuesOf, putValues, putNumbers}
+use Rattle.c_blocks.specs.Blocks.{machineOf, putMachine, putNumbers, valuesOf, putValues}
 use Rattle.run.specs.declared.Plan.{Plan}
 use Rattle.run.specs.declared.Place.the-variants.{AtType, AtN}
 use Rattle.run.specs.Plan.{narrow, msew, typeOf, total, aOf, bOf}

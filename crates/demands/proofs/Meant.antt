@@ -9,7 +9,7 @@ use Rattle.machine.specs.Answers.{reply, done, isDone, verdict}
 use Rattle.machine.specs.Geometry.{Parameters, parameters, Bench}
 use Rattle.machine.specs.Vectors.{Vectors, vectorsFit, idle}
 use Rattle.machine.specs.Listing.{decode}
-use Rattle.machine.specs.Operation.{vectorsAfter}
+use Rattle.machine.specs.Meanings.{vectorsAfter}
 use Rattle.machine.specs.Step.{Outcome, VectorOutcome, beside, checksIn, meantIn, givenIn, carriedIn, refusedIn, outcomeIn, vectorsIn, outcome, stepBy, stepWith}
 use Rattle.machine.proofs.TestLaws.{false-true}
 use Rattle.machine.proofs.Refusal.{step-refusal-changes-nothing}

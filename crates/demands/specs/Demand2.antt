@@ -7,7 +7,7 @@ use Rattle.machine.specs.Answers.{done}
 use Rattle.machine.specs.Vectors.{Vectors, vectorsOf, idle}
 use Rattle.machine.specs.Starting.{ranges, startMachine}
 use Rattle.machine.specs.Listing.{decode}
-use Rattle.machine.specs.Operation.{vectorsAfter}
+use Rattle.machine.specs.Meanings.{vectorsAfter}
 use Rattle.machine.specs.Sealing.{addSeal}
 use Rattle.machine.specs.Step.{VectorOutcome, beside, meantIn, givenIn, carriedIn, stepWith, vectorStep}
 use Rattle.machine.specs.Theorems.{startedBench, StoresAreExact}
@@ -17,7 +17,7 @@ use Rattle.run.specs.Turn.{ask, Running, running, turn}
 use Rattle.run.specs.Acts.{Act, Session, afterActs, lentLast}
 use Rattle.run.specs.Theorems.{SealKept}
 use Rattle.unit_ranges.specs.Ranges.{sealsIn}
-use Rattle.c_blocks.specs.Blocks.{Bytes, scalarBytes, valuesOf, packed}
+use Rattle.c_blocks.specs.Blocks.{Bytes, packed, scalarBytes, valuesOf}
 use Rattle.image.specs.declared.Imaged.the-variants.{Done}
 use Rattle.image.specs.Answers.{imageReply}
 use Rattle.image.specs.Reading.{ReadOutcome, readImage}

@@ -77,7 +77,7 @@ use Rattle.c_image.specs.ImageCalls.{hostImageSize, writtenOut, hostImageWrite,
 use Rattle.c_salvage.specs.SalvageCalls.{salvagedOut, hostSalvage}
 use Rattle.c_salvage.specs.Theorems.{reported}
 use Rattle.c_text.specs.TextCalls.{textOut, hostWordText, wordLeft, hostTextWord}
-use Rattle.c_blocks.specs.Blocks.{machineOf, valuesOf, putValues, putNumbers, packed}
+use Rattle.c_blocks.specs.Blocks.{machineOf, putNumbers, packed, valuesOf, putValues}
 use Rattle.c_run_blocks.specs.RunBlocks.{runOf}
 use Rattle.theorem_calls.specs.Calls.{Buffers, buffers, Call, called, calls}
 use Rattle.theorem_calls.specs.Composed.{afterCalls, turnCalls, zeros, benchIn, afterTurnCalls}

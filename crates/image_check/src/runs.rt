@@ -1,5 +1,5 @@
 // The runs of an image.
-use machine::smaller;
+use numbers::smaller;
 use numbers_coded::number_at;
 ghost use mathlib.Core.Path.{_≡_};
 ghost use Prim.Native.Nat.{_+_, _*_, _^_, _≤_, _<_};

@@ -1,7 +1,7 @@
 // The header of an image: its numbers, field by field, up to and with the number of runs. What a field may be is a row of a table, by the
 // numbers read so far.
 use machine::Machine;
-use machine::smaller;
+use numbers::smaller;
 use numbers_coded::Reading;
 use numbers_coded::fault;
 use numbers_coded::found;

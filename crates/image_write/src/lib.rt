@@ -210,7 +210,7 @@ fn put_image(m: Machine, block: &[u8], count: u64, registers: &[u8], marks: &[u8
 pub fn image_size(m: Machine, block: &[u8], registers: &[u8], marks: &[u8]) -> Sized
     ensures { λ r. ⌜ sizedAs r ≡ sizeImage m (sealsIn (now (block .entry))) (now (registers .entry)) (now (marks .entry)) ⌝ }
 {
-    if !unit_settings::faults::is_sound(m, block, registers, marks) {
+    if !unit_faults::is_sound(m, block, registers, marks) {
         return Sized {
             answer: Imaged::BadArguments,
             size: 0,
@@ -233,7 +233,7 @@ pub fn write_image(
 ) -> Written
     ensures { λ r. ⌜ writtenAs r (now (room .exit)) ≡ writeImage m (sealsIn (now (block .entry))) (now (registers .entry)) (now (marks .entry)) (now (room .entry)) ⌝ }
 {
-    if !unit_settings::faults::is_sound(m, block, registers, marks) {
+    if !unit_faults::is_sound(m, block, registers, marks) {
         return Written {
             answer: Imaged::BadArguments,
             length: 0,

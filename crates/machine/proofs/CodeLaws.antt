@@ -15,8 +15,7 @@ use Rattle.machine.specs.Answers.{reply, done, Check, verdict, isDone}
 use Rattle.machine.specs.Geometry.{elens, sealed, Parameters, parameters, machineAfter, Bench, benchOf, withScalar}
 use Rattle.machine.specs.Setting.{sew, mill, legalType, newType}
 use Rattle.machine.specs.Listing.{field7, field15, field20, immediate13, Row, lookUp, notOurs, listing, ranged, inRange, decode}
-use Rattle.machine.specs.Operation.{memoryAfter, resultOf}
-use Rattle.machine.specs.Refusals.{checks}
+use Rattle.machine.specs.Meanings.{memoryAfter, resultOf, checks}
 use Rattle.machine.proofs.CheckLaws.{refusals}
 use Rattle.machine.specs.Faults.{soundBench, thirtyTwo}
 use Rattle.machine.specs.Step
@@ -89,7 +88,7 @@ module _ (M : Parameters) (i : Instruction) (xs : List ℕ) (B : Bench) (s : sou
       → marks ≡ cond (isDone a) (left M i xs B .marks) (B .marks)
       → mem ≡ cond (isDone a) (memoryAfter M (meant M i xs B) (given M i xs B) (B .memory)) (B .memory)
       → machineAfter (B .machine) (left M i xs B) ≡ B .machine
-      → withScalar xs (destination i) (resultOf (meant M i xs B) (left M i xs B)) ≡ xs
+      → withScalar xs (destination i) (resultOf M (meant M i xs B) (given M i xs B)) ≡ xs
       → record { answer = reply a; bench = benchOf (B .machine) (B .seals) regs marks mem; scalars = xs } ≡ outcome M i xs B
   outcome-of a regs marks mem e er em eo kept same = go (isDone a) refl ∙ outcome-by a (sym e)
     where

@@ -19,7 +19,8 @@ use Rattle.machine.specs.Geometry.{Range, range, benchOf, Parameters, pa
 use Rattle.machine.proofs.StepLaws.{permitted-elen}
 use Rattle.machine.specs.Setting.{legalType, newType, maxK, maxN, sew}
 use Rattle.machine.specs.Operation
-use Rattle.machine.specs.Operation.{Operation, stateAfter, vectorsAfter, written}
+use Rattle.machine.specs.Operation.{Operation, written}
+use Rattle.machine.specs.Meanings.{stateAfter, vectorsAfter}
 use Rattle.machine.specs.Vectors.{Vectors, vectorsFit, idle}
 use Rattle.machine.specs.Faults.{sound}
 use Rattle.machine.specs.Starting.{isRule, sealEnds, sealsEnd, mostSeals, ranges, paired, startable, StartOutcome, freshMachine}

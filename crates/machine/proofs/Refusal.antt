@@ -11,7 +11,7 @@ use Rattle.machine.specs.Starting.{StartOutcome, startChecks, startedAs,
 use Rattle.machine.specs.Sealing.{addSeal, sealChecks, withSeal}
 use Rattle.machine.specs.Step
 use Rattle.machine.specs.Step.{Outcome, VectorOutcome, beside, outcome, stepBy, stepWith, stepChecks, checksIn, meantIn, givenIn}
-use Rattle.machine.specs.Operation.{vectorsAfter}
+use Rattle.machine.specs.Meanings.{vectorsAfter}
 use Rattle.machine.specs.Vectors.{vectorsFit}
 use Rattle.machine.specs.Theorems.{RefusalChangesNothing, StartRefusalChangesNothing, SealRefusalChangesNothing}
 

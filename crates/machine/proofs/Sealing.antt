@@ -15,8 +15,8 @@ use Rattle.machine.proofs.MemoryLaws.{misses-at, rows-miss-at}
 use Rattle.machine.proofs.StoreLaws.{length-stored, stored-out}
 use Rattle.machine.specs.Listing.{decode}
 use Rattle.machine.specs.declared.Wrong.the-variants.{Opcode, LeftOut, Unlisted, Register}
-use Rattle.machine.specs.Operation.{Operation, memoryAfter}
-use Rattle.machine.specs.Refusals.{checks}
+use Rattle.machine.specs.Operation.{Operation}
+use Rattle.machine.specs.Meanings.{memoryAfter, checks}
 use Rattle.machine.specs.Geometry.{Bench}
 use Rattle.machine.specs.Starting.{StartOutcome}
 use Rattle.machine.specs.Sealing.{addSeal, sealChecks, withSeal}

@@ -12,8 +12,8 @@ use Rattle.machine.specs.Answers.{reply, isDone, verdict}
 use Rattle.machine.proofs.CheckLaws.{Passed, no-refusal}
 use Rattle.machine.specs.Geometry.{sealed, Parameters, parameters, State, machineAfter, permitted, rlens, mlens, elens}
 use Rattle.machine.specs.Listing.{decode}
-use Rattle.machine.specs.Operation.{Operation, stateAfter, memoryAfter, resultOf}
-use Rattle.machine.specs.Refusals.{checks}
+use Rattle.machine.specs.Operation.{Operation}
+use Rattle.machine.specs.Meanings.{stateAfter, memoryAfter, resultOf, checks}
 use Rattle.machine.specs.Geometry.{Bench}
 use Rattle.machine.specs.Faults.{soundBench, thirtyTwo}
 use Rattle.machine.specs.Step
@@ -35,7 +35,7 @@ module _ (M : Parameters) (i : Instruction) (xs : List ℕ) (B : Bench) (o : Ope
   doneBy o = record {
     answer = reply Done;
     bench = benchAfter M o (given M i xs B) B;
-    scalars = withScalar xs (destination i) (resultOf o (stateAfter M o (given M i xs B) (B .memory)));
+    scalars = withScalar xs (destination i) (resultOf M o (given M i xs B));
   }
 
   outcome-done : soundBench B ≡ true → thirtyTwo xs ≡ true → meant M i xs B ≡ o

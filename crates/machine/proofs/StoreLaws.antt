@@ -9,8 +9,8 @@ use Rattle.machine.specs.Tests.{all, within}
 use Rattle.machine.specs.declared.Form.{Form}
 use Rattle.machine.specs.declared.Matrix.{Matrix}
 use Rattle.machine.specs.Geometry.{Parameters, State, registerAt}
-use Rattle.machine.specs.Operation.{Operation, element, placed, tileRows, tileCols, memoryRows, memoryCols, memoryAfter}
-use Rattle.machine.specs.Refusals.{checks}
+use Rattle.machine.specs.Operation.{Operation, element, placed, tileRows, tileCols, memoryRows, memoryCols}
+use Rattle.machine.specs.Meanings.{memoryAfter, checks}
 use Rattle.machine.proofs.CheckLaws.{Passed}
 use Rattle.machine.proofs.MemoryLaws.{inside-at}
 use Rattle.machine.specs.Memory.{rowZ, rowAt, misses, distinct, rowWith, storedByte, anew, stored}

@@ -5,11 +5,10 @@ use Rattle.machine.specs.declared.Instruction.{Instruction}
 use Rattle.machine.specs.declared.Instruction.the-variants.{Store}
 use Rattle.machine.specs.Answers.{number, isDone, verdict}
 use Rattle.machine.specs.Geometry.{sealed, Parameters, parameters, scalar, Bench}
-use Rattle.machine.specs.Refusals.{checks}
+use Rattle.machine.specs.Meanings.{checks, vectorsAfter}
 use Rattle.machine.specs.Faults.{soundBench}
 use Rattle.machine.specs.Step
 use Rattle.machine.specs.Vectors.{Vectors, vectorsFit, idle}
-use Rattle.machine.specs.Operation.{vectorsAfter}
 use Rattle.machine.specs.Listing.{decode}
 use Rattle.machine.specs.declared.Answer.the-variants.{BadArguments}
 use Rattle.machine.specs.Step.{VectorOutcome, beside, outcome, stepWith, stepChecks, given, meant, checksIn, givenIn, meantIn}

@@ -14,7 +14,8 @@ use Rattle.machine.specs.Listing.{bits, Fixed, Code, Row, listing, other
 use Rattle.machine.specs.Operation.{Operation, operationIn}
 use Rattle.machine.specs.Vectors.{Vectors, vectorsFit}
 use Rattle.machine.specs.declared.Form.the-variants.{Plain, Transposed}
-use Rattle.machine.specs.Refusals.{checks, wordAnswer}
+use Rattle.machine.specs.Refusals.{wordAnswer}
+use Rattle.machine.specs.Meanings.{checks}
 use Rattle.machine.specs.Faults.{soundBench, thirtyTwo}
 use Rattle.machine.specs.Step
 use Rattle.machine.specs.Step.{Outcome, VectorOutcome, beside, outcomeIn, vectorsIn, steppedIn, stepWith, checksIn}

@@ -9,7 +9,8 @@ use Rattle.machine.specs.declared.Machine.{Machine}
 use Rattle.machine.specs.declared.Reply.{Reply}
 use Rattle.machine.specs.Geometry.{permitted}
 use Rattle.machine.specs.Setting.{sew, newType, legalType, halving, chosen}
-use Rattle.machine.specs.Refusals.{widthOk, widthOf}
+use Rattle.machine.specs.TransferWords.{widthOf}
+use Rattle.machine.specs.ArithmeticWords.{widthOk}
 use Rattle.machine.specs.Memory.{inside, misses, rowsMiss, distinct, stored}
 use Rattle.machine.specs.Refusals.{marked}
 use Rattle.machine.specs.Listing.{decode, listing, others}

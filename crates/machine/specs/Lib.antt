@@ -9,6 +9,12 @@ pub mod Memory
 pub mod Vectors
 pub mod Operation
 pub mod Refusals
+pub mod Meaning
+pub mod SettingWords
+pub mod TransferWords
+pub mod ArithmeticWords
+pub mod MoveWords
+pub mod Meanings
 pub mod Faults
 pub mod Sealing
 pub mod Step

@@ -4,7 +4,8 @@ use Rattle.machine.specs.Geometry.{Range, range, sealed, Bench, benchOf,
 use Rattle.machine.specs.Setting.{sew, newType, legalType}
 use Rattle.machine.specs.Starting.{startMachine, startable}
 use Rattle.machine.specs.Memory.{inside, misses, rowsMiss, distinct}
-use Rattle.machine.specs.Refusals.{widthOf, marked}
+use Rattle.machine.specs.Refusals.{marked}
+use Rattle.machine.specs.TransferWords.{widthOf}
 use Rattle.machine.specs.Listing.{decode, listing, others}
 use Rattle.machine.specs.Faults.{sound, sealsFit}
 use Rattle.machine.specs.Sealing.{addSeal, withSeal}

@@ -13,8 +13,9 @@ use Rattle.machine.specs.Geometry.{Range, sealed, Parameters, parameters
 use Rattle.machine.specs.Setting.{chosen}
 use Rattle.machine.specs.Listing.{decode}
 use Rattle.machine.specs.Vectors.{Vectors, vectorsFit, idle}
-use Rattle.machine.specs.Operation.{Operation, operationIn, stateAfter, memoryAfter, vectorsAfter, resultOf}
-use Rattle.machine.specs.Refusals.{checks}
+use Rattle.machine.specs.Operation.{Operation, operationIn}
+use Rattle.machine.specs.Meaning.{Meaning}
+use Rattle.machine.specs.Meanings.{meaning}
 use Rattle.machine.specs.Faults.{soundBench, thirtyTwo}
 
 -- rd, of an instruction that has one; else x0, which nothing writes
@@ -59,21 +60,24 @@ module _ (W : Vectors) (M : Parameters) (i : Instruction) (xs : List ℕ) (B : B
   abbrev pub meantIn : Operation
   meantIn = operationIn W M givenIn xs i
 
+  abbrev pub meaningIn : Meaning
+  meaningIn = meaning M givenIn meantIn
+
   -- "For a step the order is 8, then 1 to 7"; 02, One: 10, 11, 1, 12 "at the place where 1 stood"; 02, Seven: 13, "after 6 and before 7"
   abbrev pub checksIn : List Check
   checksIn =
       (soundBench B otherwise BadArguments)
       ∷ (thirtyTwo xs otherwise BadArguments)
-      ∷ checks M (sealed (B .seals)) meantIn givenIn (B .memory)
+      ∷ meaningIn .checks (sealed (B .seals)) (B .memory)
 
   abbrev pub leftIn : State
-  leftIn = stateAfter M meantIn givenIn (B .memory)
+  leftIn = meaningIn .state (B .memory)
 
   abbrev pub carriedIn : Outcome
   carriedIn = record {
     answer = reply Done;
-    bench = benchOf (machineAfter (B .machine) leftIn) (B .seals) (leftIn .regs) (leftIn .marks) (memoryAfter M meantIn givenIn (B .memory));
-    scalars = withScalar xs (destination i) (resultOf meantIn leftIn);
+    bench = benchOf (machineAfter (B .machine) leftIn) (B .seals) (leftIn .regs) (leftIn .marks) (meaningIn .memory (B .memory));
+    scalars = withScalar xs (destination i) (meaningIn .result);
   }
 
   -- "A refusal changes nothing lent or held."
@@ -84,7 +88,7 @@ module _ (W : Vectors) (M : Parameters) (i : Instruction) (xs : List ℕ) (B : B
   outcomeIn = cond (isDone (verdict checksIn)) carriedIn (refusedIn (verdict checksIn))
 
   abbrev pub vectorsIn : List ℕ
-  vectorsIn = cond (isDone (verdict checksIn)) (vectorsAfter M meantIn givenIn (W .file)) (W .file)
+  vectorsIn = cond (isDone (verdict checksIn)) (meaningIn .vectors (W .file)) (W .file)
 
   -- 02, Eleven: "a bad vector file or group size gets 8"
   abbrev pub steppedIn : VectorOutcome

@@ -45,7 +45,7 @@ fn multiply(c: &mut [u64], memory: &mut [u8], sew: u64, factor: u64, m: u64, k: 
     let mut marks = [0u8; 512];
     let none: [u64; 0] = [];
     let seals = [0u8; 200];
-    let started = machine::start(64, 256, 32, 0, &none, &registers, &mut marks);
+    let started = unit_start::start(64, 256, 32, 0, &none, &registers, &mut marks);
     let machine = started.machine;
     let plan = product_memory::plan_for(sew, factor, m, k, n);
     let finished = run_whole::whole(plan, machine, &seals, &mut registers, &mut marks, memory);

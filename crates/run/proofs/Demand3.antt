@@ -14,8 +14,8 @@ use Rattle.machine.specs.Setting.{chosen}
 use Rattle.machine.specs.Starting.{isRule}
 use Rattle.machine.specs.Memory.{inside, rowZ, rowAt}
 use Rattle.machine.proofs.MemoryLaws.{inside-at}
-use Rattle.machine.specs.Operation.{Operation, stateAfter, memoryAfter}
-use Rattle.machine.specs.Refusals.{checks}
+use Rattle.machine.specs.Operation.{Operation}
+use Rattle.machine.specs.Meanings.{stateAfter, memoryAfter, checks}
 use Rattle.machine.specs.Geometry.{Bench}
 use Rattle.machine.specs.Faults.{sound}
 use Rattle.machine.specs.Step.{Outcome, stepBy}

@@ -7,7 +7,8 @@ use Rattle.machine.specs.declared.Matrix.the-variants.{MatrixA, MatrixB, Matrix
 use Rattle.machine.specs.declared.Dimension.the-variants.{DimensionM, DimensionK, DimensionN}
 use Rattle.machine.specs.Geometry.{State, tileAt, accAt}
 use Rattle.machine.specs.Setting.{sew, mill, newType}
-use Rattle.machine.specs.Refusals.{widthOk, widthOf}
+use Rattle.machine.specs.TransferWords.{widthOf}
+use Rattle.machine.specs.ArithmeticWords.{widthOk}
 use Rattle.machine.specs.Memory.{inside, rowsMiss}
 use Rattle.machine.specs.Operation.{Operation, element}
 use Rattle.run.specs.declared.Plan.{Plan}

@@ -9,8 +9,9 @@ use Rattle.numbers.proofs.ReduceLaws.{sumℤ-add, sumℤ-cong, accumulate, redu
 use Rattle.numbers.proofs.Binary32Laws as Binary32
 use Rattle.machine.specs.Geometry.{Parameters, State, tileAt, accAt}
 use Rattle.machine.specs.Setting.{sew}
-use Rattle.machine.specs.Operation.{Operation, element, product, written, stateAfter, memoryAfter}
-use Rattle.machine.specs.Refusals.{multiplyReads, checks}
+use Rattle.machine.specs.Operation.{Operation, element, written}
+use Rattle.machine.specs.ArithmeticWords.{product, multiplyReads}
+use Rattle.machine.specs.Meanings.{stateAfter, memoryAfter, checks}
 use Rattle.machine.proofs.CheckLaws.{Passed}
 use Rattle.run.specs.Plan.{Elements, integers, floats, total}
 

@@ -5,7 +5,8 @@ use Rattle.numbers.specs.Tile.{putTile, putRow, putLe, markTile, markRow}
 use Rattle.numbers.specs.Blocks.{chunks}
 use Rattle.machine.specs.Geometry.{permitted}
 use Rattle.machine.specs.Setting.{sew, newType, legalType, chosen}
-use Rattle.machine.specs.Refusals.{widthOk, widthOf}
+use Rattle.machine.specs.TransferWords.{widthOf}
+use Rattle.machine.specs.ArithmeticWords.{widthOk}
 use Rattle.machine.specs.Memory.{inside, misses, rowsMiss, distinct, stored}
 use Rattle.machine.specs.Refusals.{marked}
 use Rattle.machine.specs.Listing.{decode, listing}

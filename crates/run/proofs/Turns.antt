@@ -16,12 +16,14 @@ use Rattle.machine.proofs.TestLaws.{or-right}
 use Rattle.machine.proofs.CheckLaws.{Passed, marked-true}
 use Rattle.machine.specs.Geometry.{Parameters, State, tileAt, accAt}
 use Rattle.machine.specs.Setting.{sew, mill, maxN, maxK}
-use Rattle.machine.specs.Refusals.{widthOk, widthOf}
+use Rattle.machine.specs.TransferWords.{widthOf}
+use Rattle.machine.specs.ArithmeticWords.{widthOk}
 use Rattle.machine.specs.Memory.{rowAt, inside, distinct, rowsMiss}
 use Rattle.machine.proofs.StoreLaws.{at-distinct, stored-puts}
 use Rattle.machine.proofs.MemoryLaws.{inside-at, block-inside, block-rowAt, misses-part, rows-miss-at, rows-miss-true}
-use Rattle.machine.specs.Operation.{Operation, memoryRows, memoryCols, placed, element, written, stateAfter, memoryAfter}
-use Rattle.machine.specs.Refusals.{marked, checks}
+use Rattle.machine.specs.Operation.{Operation, memoryRows, memoryCols, placed, element, written}
+use Rattle.machine.specs.Meanings.{stateAfter, memoryAfter, checks}
+use Rattle.machine.specs.Refusals.{marked}
 use Rattle.run.specs.declared.Plan.{Plan}
 use Rattle.run.specs.declared.Place.{Place}
 use Rattle.run.specs.declared.Place.the-variants.{AtType, AtM, AtN, AtClear, AtK, AtA, AtB, AtMultiply, AtStore, AtEnd}

@@ -17,7 +17,8 @@ use Rattle.machine.specs.Geometry.{Parameters, State, elens}
 use Rattle.numbers.specs.Bounds.{mostElen}
 use Rattle.machine.specs.Operation.{times}
 use Rattle.machine.specs.Setting.{sew, mill, newType, legalType}
-use Rattle.machine.specs.Refusals.{widthOk, widthOf}
+use Rattle.machine.specs.TransferWords.{widthOf}
+use Rattle.machine.specs.ArithmeticWords.{widthOk}
 use Rattle.machine.specs.Listing.{bits, field7, immediate13, listing, decode}
 use Rattle.machine.specs.Memory.{rowZ}
 use Rattle.machine.specs.Operation.{Operation}

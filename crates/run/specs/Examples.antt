@@ -10,7 +10,9 @@ use Rattle.machine.specs.Geometry.{permitted}
 use Rattle.machine.specs.Setting.{halving, chosen, newType, legalType, sew}
 use Rattle.machine.specs.Memory.{inside, misses, rowsMiss, distinct, stored}
 use Rattle.machine.specs.Operation.{element}
-use Rattle.machine.specs.Refusals.{widthOk, widthOf, marked}
+use Rattle.machine.specs.Refusals.{marked}
+use Rattle.machine.specs.TransferWords.{widthOf}
+use Rattle.machine.specs.ArithmeticWords.{widthOk}
 use Rattle.machine.specs.Listing.{decode, listing}
 use Rattle.machine.specs.Step.{stepBy, outcome}
 use Rattle.machine.specs.Geometry.{Range, range, Bench, benchOf}

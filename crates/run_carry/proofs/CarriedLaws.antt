@@ -17,10 +17,11 @@ use Rattle.machine.specs.Answers.{reply, verdict, isDone, _otherwise_}
 use Rattle.numbers.specs.Bounds.{mostElen}
 use Rattle.machine.specs.Geometry.{Range, sealed, Bench, benchOf, stateOf}
 use Rattle.machine.specs.Setting.{chosen, newType, mill}
-use Rattle.machine.specs.Refusals.{typed, checks}
+use Rattle.machine.specs.Refusals.{typed}
+use Rattle.machine.specs.Meanings.{checks, stateAfter}
 use Rattle.machine.specs.Faults.{sound, sealsFit}
 use Rattle.machine.specs.Listing.{decode}
-use Rattle.machine.specs.Operation.{Operation, times, stateAfter}
+use Rattle.machine.specs.Operation.{Operation, times}
 use Rattle.machine.specs.Step.{Outcome, outcome}
 use Rattle.machine.proofs.TestLaws.{every-each}
 use Rattle.unit_settings.specs.Parts.{ours, withType, withSize, granted, sizeStepped}

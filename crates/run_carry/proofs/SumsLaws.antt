@@ -13,9 +13,10 @@ use Rattle.machine.specs.declared.Matrix.the-variants.{MatrixA, MatrixB}
 use Rattle.machine.specs.Answers.{reply, verdict, done, isDone}
 use Rattle.machine.specs.Geometry.{Range, State, benchOf, stateOf, registerAt, accAt}
 use Rattle.machine.specs.Setting.{mill, sew}
-use Rattle.machine.specs.Refusals.{marked, checks}
+use Rattle.machine.specs.Refusals.{marked}
+use Rattle.machine.specs.Meanings.{checks, stateAfter}
 use Rattle.machine.specs.Faults.{sound, sealsFit}
-use Rattle.machine.specs.Operation.{Operation, times, stateAfter}
+use Rattle.machine.specs.Operation.{Operation, times}
 use Rattle.machine.proofs.TestLaws.{every-each, false-true}
 use Rattle.machine.proofs.CheckLaws.{Passed, passed, no-refusal}
 use Rattle.unit_settings.specs.Parts.{ours, withSize, granted, sizeStepped}

@@ -6,7 +6,8 @@ use Rattle.machine.specs.declared.Reply.{Reply}
 use Rattle.machine.specs.Answers.{reply, done}
 use Rattle.machine.specs.Geometry.{Range, Bench, benchOf, accAt}
 use Rattle.machine.specs.Faults.{sound}
-use Rattle.machine.specs.Refusals.{widthOk, marked}
+use Rattle.machine.specs.Refusals.{marked}
+use Rattle.machine.specs.ArithmeticWords.{widthOk}
 use Rattle.machine.specs.Setting.{chosen, mill, sew}
 use Rattle.unit_settings.specs.Parts.{ours}
 use Rattle.machine.specs.Step.{Outcome, step}

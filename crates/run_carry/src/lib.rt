@@ -75,7 +75,7 @@ pub fn is_ready(plan: Plan, m: Machine, marks: &[u8]) -> bool
 {
     let factor = plan_factor(plan);
     let answer = unit_checks::written::check_target(m, marks, factor, 0);
-    machine::is_done(answer)
+    unit_answers::is_done(answer)
 }
 
 // Multiplies tr0 and tr1 to acc0, where that is not refused.

@@ -41,7 +41,7 @@ pub fn most_terms(run: Run) -> u64
 {
     let rows = most_rows(run);
     let columns = most_columns(run);
-    machine::smaller(rows, columns)
+    numbers::smaller(rows, columns)
 }
 
 // Where the block that starts here ends: it takes what the rule gives of the rest.
@@ -49,7 +49,7 @@ pub fn block_end(rule: u64, total: u64, at: u64, most: u64) -> u64
     requires { ⌜ at ≤ total ⌝ }
     ensures { λ r. ⌜ r ≡ at + chosen rule most (total - at) ⌝ }
 {
-    at + machine::chosen(rule, most, total - at)
+    at + unit_start::chosen(rule, most, total - at)
 }
 
 // Whether a block starts here: at 0, or where the block of the last multiple of the most before it ends.
@@ -145,10 +145,10 @@ pub fn is_sound_run(run: Run) -> bool
     let rlen = run.rlen;
     let mlen = run.mlen;
     let elen = run.elen;
-    if !machine::permitted_lengths(rlen, mlen, elen) {
+    if !unit_start::permitted_lengths(rlen, mlen, elen) {
         return false;
     }
-    if !machine::is_rule(run.rule) {
+    if !unit_start::is_rule(run.rule) {
         return false;
     }
     let plan = run.plan;

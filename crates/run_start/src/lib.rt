@@ -42,7 +42,7 @@ pub fn start(
     ensures { λ r. ⌜ runStartedAs r (benchOf m (sealsIn (now (seals .entry))) (now (registers .entry)) (now (marks .entry)) (now (memory .entry)))
         ≡ startRun chosen plan (benchOf m (sealsIn (now (seals .entry))) (now (registers .entry)) (now (marks .entry)) (now (memory .entry))) ⌝ }
 {
-    if !unit_settings::faults::is_sound(m, seals, registers, marks) {
+    if !unit_faults::is_sound(m, seals, registers, marks) {
         return refused(plan, Answer::BadArguments);
     }
     if !run_plan::is_planned(m.elen, plan) {

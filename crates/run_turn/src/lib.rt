@@ -65,7 +65,7 @@ fn take_turn(
         ≡ turnOutcome chosen (running run (benchOf m (sealsIn (now (seals .entry))) (now (registers .entry)) (now (marks .entry)) (now (memory .entry)))) ⌝ }
 {
     let answer = run_carry::carry_out(run, m, seals, registers, marks, memory);
-    if !machine::is_done(answer) {
+    if !unit_answers::is_done(answer) {
         let place = run.place;
         return Moved {
             answer: answer,
@@ -104,7 +104,7 @@ fn take_loads(
     let plan = run.plan;
     let machine = unit_settings::sized(m, Dimension::DimensionK, plan.k - term);
     let first = run_carry::load_a(plan, machine, registers, marks, memory, row, term);
-    if !machine::is_done(first) {
+    if !unit_answers::is_done(first) {
         return Progress {
             count: 1,
             place: Place::AtA {
@@ -116,7 +116,7 @@ fn take_loads(
         };
     }
     let second = run_carry::load_b(plan, machine, registers, marks, memory, term, column);
-    if !machine::is_done(second) {
+    if !unit_answers::is_done(second) {
         return Progress {
             count: 2,
             place: Place::AtB {
@@ -255,7 +255,7 @@ fn take_turns(
         let current = at_place(run, place);
         let moved = take_turn(current, machine, seals, registers, marks, memory);
         let answer = moved.answer;
-        if !machine::is_done(answer) {
+        if !unit_answers::is_done(answer) {
             return Progress {
                 count: count,
                 place: place,
@@ -289,7 +289,7 @@ pub fn turn(
     ensures { λ r. ⌜ turnedAs r (sealsIn (now (seals .entry))) (now (registers .exit)) (now (marks .exit)) (now (memory .exit))
         ≡ turnOutcome chosen (running run (benchOf m (sealsIn (now (seals .entry))) (now (registers .entry)) (now (marks .entry)) (now (memory .entry)))) ⌝ }
 {
-    if !unit_settings::faults::is_sound(m, seals, registers, marks) {
+    if !unit_faults::is_sound(m, seals, registers, marks) {
         return Turned {
             answer: Answer::BadArguments,
             run: run,
@@ -328,7 +328,7 @@ pub fn turns(
     ensures { λ r. ⌜ takenAs r (sealsIn (now (seals .entry))) (now (registers .exit)) (now (marks .exit)) (now (memory .exit))
         ≡ turns chosen (running run (benchOf m (sealsIn (now (seals .entry))) (now (registers .entry)) (now (marks .entry)) (now (memory .entry)))) limit ⌝ }
 {
-    if !unit_settings::faults::is_sound(m, seals, registers, marks) {
+    if !unit_faults::is_sound(m, seals, registers, marks) {
         return Taken {
             count: 0,
             run: run,

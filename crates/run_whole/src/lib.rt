@@ -24,7 +24,7 @@ pub fn whole(
 {
     let started = run_start::start(plan, m, seals, registers, marks, memory);
     let answer = started.answer;
-    if !machine::is_done(answer) {
+    if !unit_answers::is_done(answer) {
         return Finished {
             answer: answer,
             count: 0,

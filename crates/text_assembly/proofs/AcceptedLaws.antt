@@ -17,8 +17,11 @@ use Rattle.machine.specs.Geometry.{sealed, Parameters, parameters, Bench, bench
 use Rattle.machine.specs.Setting.{sew, legalType, newType, chosen, maximum}
 use Rattle.machine.specs.Memory.{inside, misses, rowsMiss, distinct}
 use Rattle.machine.specs.Vectors.{vectorsFit, idle}
-use Rattle.machine.specs.Operation.{Operation, illegal, setSize, cutSize, scale, moveOut, moveIn, times, vectorsAfter}
-use Rattle.machine.specs.Refusals.{widthOf, widthOk, marked, isZero, checks}
+use Rattle.machine.specs.Operation.{Operation, illegal, setSize, cutSize, scale, moveOut, moveIn, times}
+use Rattle.machine.specs.Meanings.{vectorsAfter, checks}
+use Rattle.machine.specs.Refusals.{marked}
+use Rattle.machine.specs.TransferWords.{widthOf}
+use Rattle.machine.specs.ArithmeticWords.{widthOk, isZero}
 use Rattle.machine.specs.Faults.{sound, sealsFit, soundBench, thirtyTwo}
 use Rattle.machine.specs.Geometry.{permitted}
 use Rattle.machine.specs.Listing.{bits, field7, field15, field20, Row, has, listing, lookUp, notOurs, inRange, ranged, decode}

@@ -32,7 +32,7 @@ use Rattle.unit_ranges.specs.Ranges.{countIn, rangeAt, wellFormed, sealsIn, put
 use Rattle.unit_ranges.proofs.RangeLaws.{shape-holds}
 use Rattle.unit_ranges.proofs.PutLaws.{length-putSeals, putSeals-seals}
 use Rattle.unit_sealing.specs.SealBlock.{sealBlock}
-use Rattle.c_blocks.specs.Blocks.{machineBytes, machineOf, putMachine, valuesOf, packed}
+use Rattle.c_blocks.specs.Blocks.{machineBytes, machineOf, putMachine, packed, valuesOf}
 use Rattle.c_run_blocks.specs.RunBlocks.{runBytes, runFit, runOf}
 use Rattle.c_blocks.proofs.BlockLaws.{Words, machineOf-putMachine, length-putMachine, putMachine-seals, machineOf-putSeals}
 use Rattle.c_scalars.specs.ScalarBlock.{stepBlock}

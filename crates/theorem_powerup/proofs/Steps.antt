@@ -21,8 +21,12 @@ use Rattle.machine.specs.Geometry.{Range, sealed, Parameters, parameters, State
 use Rattle.machine.specs.Setting.{sew, maximum, sizeIn, smaller}
 use Rattle.machine.specs.Listing.{decode}
 use Rattle.machine.specs.Memory.{rowAt}
-use Rattle.machine.specs.Operation.{Operation, operationIn, stateAfter, memoryAfter, vectorsAfter, resultOf, element, written, resized, productAt, floatProductAt, sumOf, rowsOf, columnsOf, tileRows, tileCols, memoryRows, memoryCols, placed, sliceAt}
-use Rattle.machine.specs.Refusals.{marked, needs, checks, isZero}
+use Rattle.machine.specs.Operation.{Operation, operationIn, element, written, rowsOf, columnsOf, tileRows, tileCols, memoryRows, memoryCols, placed}
+use Rattle.machine.specs.SettingWords.{resized}
+use Rattle.machine.specs.ArithmeticWords.{productAt, floatProductAt, sumOf, isZero}
+use Rattle.machine.specs.MoveWords.{sliceAt}
+use Rattle.machine.specs.Meanings.{stateAfter, memoryAfter, vectorsAfter, resultOf, checks}
+use Rattle.machine.specs.Refusals.{marked, needs}
 use Rattle.machine.specs.Faults.{sound, sealsFit, soundBench, thirtyTwo}
 use Rattle.machine.specs.Starting.{sealEnds, mostSeals}
 use Rattle.machine.specs.Sealing.{addSeal, sealChecks, withSeal}
@@ -54,7 +58,7 @@ pub record AlikeStates (st st′ : State) : Type 0 where
 -- so is the memory, and the states it leaves are alike
 pub record Unseen (M : Parameters) (isSealed : ℕ → Bool) (st : State) (ys mem : List ℕ) (o : Operation) : Type 0 where
   pub same-checks : checks M isSealed o st mem ≡ checks M isSealed o (withRegs st ys) mem
-  pub same-result : resultOf o (stateAfter M o st mem) ≡ resultOf o (stateAfter M o (withRegs st ys) mem)
+  pub same-result : resultOf M o st ≡ resultOf M o (withRegs st ys)
   pub same-memory : Passed (checks M isSealed o st mem) → memoryAfter M o st mem ≡ memoryAfter M o (withRegs st ys) mem
   pub alike-after : Passed (checks M isSealed o st mem) → AlikeStates (stateAfter M o st mem) (stateAfter M o (withRegs st ys) mem)
   pub same-file : Passed (checks M isSealed o st mem) → (file : List ℕ) → vectorsAfter M o st file ≡ vectorsAfter M o (withRegs st ys) file
@@ -118,11 +122,6 @@ module _ (M : Parameters) (st : State) (ys mem : List ℕ) (a : Agree (st .marks
   sized-alike DimensionK n = record { same-rest = refl; agree = a }
   sized-alike DimensionN n = record { same-rest = refl; agree = a }
 
-  sized-result : (d : Dimension) (n : ℕ) → resultOf (Operation.setSize d n) (resized d n st) ≡ resultOf (Operation.setSize d n) (resized d n (withRegs st ys))
-  sized-result DimensionM n = refl
-  sized-result DimensionK n = refl
-  sized-result DimensionN n = refl
-
   -- the operands of a multiply, of any kind, at each element that it writes
   operands-same : (wide narrow d s t : ℕ)
       → needs (eqb (st .tileM * st .tileN) 0) (st .marks) (tileAt M s) (st .tileM) (st .tileK) narrow .holds ≡ true
@@ -143,7 +142,7 @@ module _ (M : Parameters) (st : State) (ys mem : List ℕ) (a : Agree (st .marks
   pub unseen : (z : ℕ → Bool) (o : Operation) → Unseen M z st ys mem o
   unseen z (Operation.illegal wrong) = record { same-checks = refl; same-result = refl; same-memory = λ p. refl; alike-after = λ p. kept; same-file = λ p file. refl }
   unseen z (Operation.setType v) = record { same-checks = refl; same-result = refl; same-memory = λ p. refl; alike-after = λ p. record { same-rest = refl; agree = a }; same-file = λ p file. refl }
-  unseen z (Operation.setSize d n) = record { same-checks = refl; same-result = sized-result d (M .grant (maximum M (st .mtype) d) n); same-memory = λ p. refl; alike-after = λ p. sized-alike d (M .grant (maximum M (st .mtype) d) n); same-file = λ p file. refl }
+  unseen z (Operation.setSize d n) = record { same-checks = refl; same-result = refl; same-memory = λ p. refl; alike-after = λ p. sized-alike d (M .grant (maximum M (st .mtype) d) n); same-file = λ p file. refl }
   unseen z (Operation.cutSize d) = record {
     same-checks = refl;
     same-result = refl;
@@ -307,7 +306,7 @@ module _ (W : Vectors) (M : Parameters) (i : Instruction) (xs : List ℕ) where
       (record {
         answer = reply Done;
         bench = benchOf (machineAfter (B .machine) (after B o)) (B .seals) (after B o .regs) (after B o .marks) (memoryAfter M o (givenIn W M i xs B) (B .memory));
-        scalars = withScalar xs (destination i) (resultOf o (after B o));
+        scalars = withScalar xs (destination i) (resultOf M o (givenIn W M i xs B));
       })
       (record { answer = reply a; bench = B; scalars = xs }))
 

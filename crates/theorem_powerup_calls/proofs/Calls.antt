@@ -28,7 +28,7 @@ use Rattle.run.specs.Turn.{Running, turnOutcome, turns}
 use Rattle.run.specs.Whole as Whole
 use Rattle.unit_ranges.specs.Ranges.{sealsIn, putSeals}
 use Rattle.unit_sealing.specs.SealBlock.{sealBlock}
-use Rattle.c_blocks.specs.Blocks.{machineBytes, machineOf, putMachine, valuesOf, putValues, putNumbers, packed}
+use Rattle.c_blocks.specs.Blocks.{machineBytes, machineOf, putMachine, putNumbers, packed, valuesOf, putValues}
 use Rattle.c_run_blocks.specs.RunBlocks.{runBytes, putRun}
 use Rattle.c_scalars.specs.ScalarBlock.{stepBlock}
 use Rattle.c_step.specs.BenchCalls.{startedOut, shownStart, hostStart, steppedOut, shownStep, hostStep, sealedOut, hostSeal}

@@ -16,7 +16,8 @@ use Rattle.machine.specs.Listing.{bits, decode}
 use Rattle.machine.specs.Memory.{rowAt, inside, distinct, rowsMiss}
 use Rattle.machine.specs.Operation.{Operation, illegal, setType, setSize, cutSize, load, store, multiply, combine, scale, floatMultiply, moveOut, moveIn, operationIn}
 use Rattle.machine.specs.Vectors.{Vectors, vectorsFit}
-use Rattle.machine.specs.Refusals.{wordAnswer, checks}
+use Rattle.machine.specs.Refusals.{wordAnswer}
+use Rattle.machine.specs.Meanings.{checks}
 use Rattle.machine.specs.Faults.{soundBench, thirtyTwo}
 use Rattle.machine.specs.Step
 use Rattle.machine.specs.Step.{Outcome, beside, checksIn, outcomeIn, vectorsIn, stepWith}

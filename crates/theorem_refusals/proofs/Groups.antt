@@ -12,8 +12,12 @@ use Rattle.machine.specs.Geometry.{Parameters, State, registerAt, tileAt, accAt
 use Rattle.machine.specs.Setting.{sew, mill}
 use Rattle.machine.specs.Memory.{rowAt, inside, distinct, rowsMiss}
 use Rattle.machine.specs.Vectors.{vectorBytes}
-use Rattle.machine.specs.Operation.{Operation, illegal, setType, setSize, cutSize, load, store, multiply, combine, scale, floatMultiply, moveOut, moveIn, tileRows, tileCols, linesOf, lineOf, sliceAt, sliceRows, sliceCols}
-use Rattle.machine.specs.Refusals.{widthOf, widthOk, marked, firstRow, firstColumn, needs, isZero, multiplyReads, sliceNeeds, checks}
+use Rattle.machine.specs.Operation.{Operation, illegal, setType, setSize, cutSize, load, store, multiply, combine, scale, floatMultiply, moveOut, moveIn, tileRows, tileCols}
+use Rattle.machine.specs.MoveWords.{linesOf, lineOf, sliceAt, sliceRows, sliceCols, sliceNeeds}
+use Rattle.machine.specs.Refusals.{marked, firstRow, firstColumn, needs}
+use Rattle.machine.specs.TransferWords.{widthOf}
+use Rattle.machine.specs.ArithmeticWords.{widthOk, isZero, multiplyReads}
+use Rattle.machine.specs.Meanings.{checks}
 use Rattle.machine.proofs.TestLaws.{and-left, and-right, all-at, all-true, all-elements, false-true, first-is}
 use Rattle.machine.proofs.CheckLaws.{marked-true, first-row-is, first-column-is}
 use Rattle.theorem_refusals.specs.Given.{TypeIsIllegal, KeepsWidths, WidthIsBroken, uses, LinesTooLarge, SliceTooLarge, SizeTooLarge, Source, tile, slice, factors, reads, Written, Unmarked, AllWritten, First, FirstAmong, NotWritten, Rows, rowsFor, noRows, writes, touches}

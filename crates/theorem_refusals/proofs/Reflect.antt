@@ -11,7 +11,8 @@ use Rattle.machine.specs.Tests.{all, every, within}
 use Rattle.machine.specs.Geometry.{Range, sealed, Parameters, State}
 use Rattle.machine.specs.Setting.{sew, maccq, maximum, sizeIn}
 use Rattle.machine.specs.Memory.{rowZ, rowAt, inMemory, inside, misses, rowsMiss, distinct}
-use Rattle.machine.specs.Refusals.{widthOf, widthOk}
+use Rattle.machine.specs.TransferWords.{widthOf}
+use Rattle.machine.specs.ArithmeticWords.{widthOk}
 use Rattle.machine.proofs.TestLaws.{and-true, and-left, and-right, or-right, false-true, all-at, within-in}
 use Rattle.machine.proofs.MemoryLaws.{misses-at, rows-miss-at}
 use Rattle.machine.proofs.StoreLaws.{distinct-at}

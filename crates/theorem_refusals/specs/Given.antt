@@ -18,7 +18,7 @@ use Rattle.machine.specs.Listing.{decode}
 use Rattle.machine.specs.Memory.{rowZ, rowAt}
 use Rattle.machine.specs.Vectors.{Vectors}
 use Rattle.machine.specs.Operation.{Operation, illegal, setType, setSize, cutSize, load, store, multiply, combine, scale, floatMultiply, moveOut, moveIn, operationIn, rowsOf, columnsOf, tileRows, tileCols, memoryRows, memoryCols}
-use Rattle.machine.specs.Refusals.{isZero}
+use Rattle.machine.specs.ArithmeticWords.{isZero}
 use Rattle.machine.specs.Step.{stepWith}
 use Rattle.machine.specs.WordTheorems.{Faultless, RightOpcode, IsOurs, OutOfRange, RefusedAs}
 

@@ -15,8 +15,8 @@ use Rattle.machine.specs.Answers.{number}
 use Rattle.machine.specs.Geometry.{sealed, Parameters, parameters, State, stateOf, Bench, benchOf, registerAt, startOf, pitchOf, registerCount, scalar}
 use Rattle.machine.specs.Listing.{inRange}
 use Rattle.machine.specs.Memory.{rowAt}
-use Rattle.machine.specs.Operation.{memoryAfter, element, written, tileRows, tileCols}
-use Rattle.machine.specs.Refusals.{checks}
+use Rattle.machine.specs.Operation.{element, written, tileRows, tileCols}
+use Rattle.machine.specs.Meanings.{memoryAfter, checks}
 use Rattle.machine.specs.Faults.{soundBench}
 use Rattle.machine.specs.Step
 use Rattle.machine.specs.Step.{VectorOutcome, beside, stepWith, given, meant}

@@ -12,7 +12,8 @@ use Rattle.machine.proofs.TestLaws.{and-left, and-right, each-in}
 use Rattle.machine.specs.Geometry.{elens, Parameters, parameters, State, stateOf, permitted}
 use Rattle.machine.specs.Setting.{sew, maccq}
 use Rattle.machine.specs.Faults.{sound}
-use Rattle.machine.specs.Refusals.{widthOk, checks}
+use Rattle.machine.specs.ArithmeticWords.{widthOk}
+use Rattle.machine.specs.Meanings.{checks}
 use Rattle.machine.specs.Operation.{multiply, combine, scale}
 use Rattle.machine.proofs.CheckLaws.{Passed}
 use Rattle.machine.proofs.NoFault.{sound-is}

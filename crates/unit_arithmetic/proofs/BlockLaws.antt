@@ -10,7 +10,7 @@ use Rattle.numbers.proofs.TileLaws.{length-putTile, putTile-out, putTile-at, pu
 use Rattle.numbers.proofs.PutLaws.{putTile-low}
 use Rattle.numbers.proofs.ElementLaws.{pow-256}
 use Rattle.numbers.proofs.BlockLaws.{le-or-lt}
-use Rattle.machine.specs.Operation.{product}
+use Rattle.machine.specs.ArithmeticWords.{product}
 
 -- ---- two lists that agree on a tile's bytes and outside it
 

@@ -12,7 +12,7 @@ use Rattle.numbers.proofs.SumLaws.{again, same-sum, same-product}
 use Rattle.machine.specs.declared.Sum.{Sum}
 use Rattle.machine.specs.declared.Sum.the-variants.{Add, Subtract, ReverseSubtract}
 use Rattle.machine.specs.Geometry.{Parameters, accAt}
-use Rattle.machine.specs.Operation.{sumOf, sumAt, scaledAt}
+use Rattle.machine.specs.ArithmeticWords.{sumOf, sumAt, scaledAt}
 use Rattle.unit_element.specs.Element.{Width}
 use Rattle.unit_arithmetic.specs.Effect.{shape, combineTile, scaleTile}
 use Rattle.unit_arithmetic.specs.Weights.{weightedTile, Aligned}

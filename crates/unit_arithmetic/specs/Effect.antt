@@ -3,7 +3,7 @@ use Rattle.numbers.specs.Kit.{List, ℕ, ℤ}
 use Rattle.numbers.specs.Tile.{putTile}
 use Rattle.machine.specs.declared.Sum.{Sum}
 use Rattle.machine.specs.Geometry.{Parameters, accAt}
-use Rattle.machine.specs.Operation.{productAt, sumAt, scaledAt}
+use Rattle.machine.specs.ArithmeticWords.{productAt, sumAt, scaledAt}
 
 -- registers of that many rows and bytes a row; the rest counts for nothing here
 abbrev pub shape : ℕ → ℕ → Parameters

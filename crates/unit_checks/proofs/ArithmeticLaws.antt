@@ -13,8 +13,9 @@ use Rattle.machine.proofs.CheckLaws.{Passed, passed}
 use Rattle.machine.proofs.CodeLaws.{verdict-append}
 use Rattle.unit_tile.specs.Checks.{RowsIn}
 use Rattle.unit_tile.proofs.Room.{in-register, rows-end}
-use Rattle.unit_checks.specs.declared.Placed.{Placed}
-use Rattle.unit_checks.specs.Parts.{multiplyChecks, elementwiseChecks, sourceChecks, placedAs, MarksReady, AccumulatorFits}
+use Rattle.unit_geometry.specs.declared.Placed.{Placed}
+use Rattle.unit_checks.specs.Parts.{multiplyChecks, elementwiseChecks, sourceChecks, MarksReady, AccumulatorFits}
+use Rattle.unit_geometry.specs.Tiles.{placedAs}
 
 -- a tile and a width for which the marks are searched
 abbrev pub Room : ℕ → Placed → ℕ → Type 0

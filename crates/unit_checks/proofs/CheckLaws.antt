@@ -1,17 +1,13 @@
 -- The checks of each family: the width rule of arithmetic, registers, mtype once answer 2 has passed, and checks made in parts.
-use Rattle.numbers.proofs.Kit.{_≡_, refl, sym, ap, _∙_, subst, Bool, true, false, cond, not, List, _++_, ℕ, _+_, _*_, _/_, _^_, _≤_, _<_, mul-le-mul, arith}
+use Rattle.numbers.proofs.Kit.{_≡_, refl, sym, ap, _∙_, subst, Bool, true, false, cond, not, List, _++_, ℕ, _+_, _*_, _/_, _^_, _≤_, _<_, arith}
 use Rattle.numbers.proofs.Kit.{leb, not-true, eq-eqb, ne-eqb, le-leb, lt-leb, leb-true}
-use Rattle.numbers.specs.Bounds.{mostPitch, mostSize}
 use Rattle.machine.specs.declared.Machine.{Machine}
 use Rattle.machine.specs.Tests.{isIn}
 use Rattle.machine.proofs.TestLaws.{each-in}
 use Rattle.machine.proofs.StartLaws.{and-truth}
-use Rattle.machine.specs.declared.Matrix.{Matrix}
-use Rattle.machine.specs.declared.Matrix.the-variants.{MatrixA, MatrixB, MatrixC}
-use Rattle.machine.proofs.StepLaws.{permitted-bounds, permitted-lengths}
-use Rattle.machine.specs.Geometry.{elens, permitted, registerCount}
+use Rattle.machine.specs.Geometry.{elens}
 use Rattle.machine.specs.Setting.{sew, mill, maccq}
-use Rattle.machine.specs.Refusals.{widthOk}
+use Rattle.machine.specs.ArithmeticWords.{widthOk}
 use Rattle.machine.proofs.CodeLaws.{verdict-append}
 use Rattle.unit_settings.proofs.TypeLaws.{ready-elen, ready-legal}
 use Rattle.machine.specs.declared.Answer.{Answer}
@@ -59,28 +55,6 @@ module _ (m : Machine) (marks : List ℕ) (d a b : ℕ) where
   float-rest r h w =
       let most = leb-true 32 (m .elen) (each-in (m .elen) elens (leb 32) refl (ready-elen m r)) in
       rw (h, eq-eqb (8 * sew (m .mtype)) 32 (ap (λ (x : ℕ). 8 * x) w), le-leb (1 * (8 * sew (m .mtype))) (m .elen) (omega arith))
-
--- ---- register geometry
-
-bound : (r size : ℕ) → r < 8 → size ≤ mostSize → (r * size < 2 ^ 64) × ((8 + 4 * r) * size < 2 ^ 64) × (r < 8)
-bound r size l h =
-    let r≤ : r ≤ 8 = omega arith in
-    let s≤ : 8 + 4 * r ≤ 40 = omega arith in
-    let a : r * size ≤ 8 * mostSize = mul-le-mul r≤ h in
-    let b : (8 + 4 * r) * size ≤ 40 * mostSize = mul-le-mul s≤ h in
-    omega arith
-
-pub sizes-bounded : (rlen mlen elen : ℕ) → permitted rlen mlen elen ≡ true → (0 < rlen) × (rlen / 8 ≤ mostPitch) × (mlen / rlen * (rlen / 8) ≤ mostSize)
-sizes-bounded rlen mlen elen h =
-    let b = permitted-bounds rlen mlen elen h in
-    let l = permitted-lengths rlen mlen elen h in
-    omega arith
-
--- a register of the file: nothing overflows
-pub in-file : (k : Matrix) (r size : ℕ) → r < registerCount k → size ≤ mostSize → (r * size < 2 ^ 64) × ((8 + 4 * r) * size < 2 ^ 64) × (r < 8)
-in-file MatrixA r size l h = bound r size l h
-in-file MatrixB r size l h = bound r size l h
-in-file MatrixC r size l h = bound r size (omega arith) h
 
 -- ---- mtype once answer 2 has passed
 

@@ -6,10 +6,12 @@ use Rattle.machine.specs.declared.Answer.the-variants.{BadWidth}
 use Rattle.machine.specs.Geometry.{stateOf, startOf, pitchOf, tileAt, accAt}
 use Rattle.machine.specs.Setting.{sew}
 use Rattle.machine.specs.Operation.{Operation, rowsOf, columnsOf, tileRows, tileCols}
-use Rattle.unit_checks.specs.declared.Placed.{Placed}
 use Rattle.machine.specs.declared.Matrix.{Matrix}
 use Rattle.machine.specs.Answers.{Check, _otherwise_}
-use Rattle.machine.specs.Refusals.{typed, widthOf, widthOk, fitting, needs, checks}
+use Rattle.machine.specs.Refusals.{typed, fitting, needs}
+use Rattle.machine.specs.TransferWords.{widthOf}
+use Rattle.machine.specs.ArithmeticWords.{widthOk}
+use Rattle.machine.specs.Meanings.{checks}
 use Rattle.unit_settings.specs.Parts.{ours, Ready}
 
 -- ---- answers 2 to 4: the first checks of each family
@@ -35,15 +37,6 @@ multiplyChecks m f =
     ∷ fitting (ours m) (stateOf m [] []) DimensionM
     ∷ fitting (ours m) (stateOf m [] []) DimensionK
     ∷ fitting (ours m) (stateOf m [] []) DimensionN ∷ []
-
--- the tile of a matrix in a register
-abbrev pub placedAs : Machine → Matrix → ℕ → Placed
-placedAs m k r = record {
-  start = startOf (ours m) k r;
-  pitch = pitchOf (ours m) k;
-  rows = tileRows (stateOf m [] []) k;
-  columns = tileCols (stateOf m [] []) k;
-}
 
 -- ---- answer 5 of arithmetic
 

@@ -1,12 +1,12 @@
 // Answers 2 to 5 of multiplies and element-wise instructions: what is read was written.
-use super::factor_of;
 use super::sizes::check_elementwise;
 use super::sizes::check_multiply;
-use super::tile_of;
 use machine::Answer;
 use machine::Factor;
 use machine::Machine;
 use machine::Matrix;
+use unit_geometry::factor_of;
+use unit_geometry::tile_of;
 use unit_settings::is_mill;
 use unit_settings::sew_bytes;
 ghost use mathlib.Core.Path.{_≡_};
@@ -33,7 +33,7 @@ fn source_marks(m: Machine, marks: &[u8], factor: Factor, ms1: usize, ms2: usize
     let w = sew_bytes(m.mtype);
     let a = tile_of(m, Matrix::MatrixA, ms1);
     let first = unit_tile::first_unmarked(marks, a.start, a.pitch, a.rows, a.columns, w);
-    if !machine::is_done(first) {
+    if !unit_answers::is_done(first) {
         return first;
     }
     let b = tile_of(m, Matrix::MatrixB, ms2);
@@ -64,11 +64,11 @@ pub fn check_product(
     ensures { λ r. ⌜ r ≡ verdict (productChecks m (now (marks .entry)) (times factor) md ms1 ms2) ⌝ }
 {
     let fitting = check_multiply(m, factor);
-    if !machine::is_done(fitting) {
+    if !unit_answers::is_done(fitting) {
         return fitting;
     }
     let sources = source_marks(m, marks, factor, ms1, ms2);
-    if !machine::is_done(sources) {
+    if !unit_answers::is_done(sources) {
         return sources;
     }
     let wide = factor_of(factor) * sew_bytes(m.mtype);
@@ -82,7 +82,7 @@ pub fn check_target(m: Machine, marks: &[u8], factor: Factor, md: usize) -> Answ
     ensures { λ r. ⌜ r ≡ verdict (targetChecks m (now (marks .entry)) (times factor) md) ⌝ }
 {
     let fitting = check_multiply(m, factor);
-    if !machine::is_done(fitting) {
+    if !unit_answers::is_done(fitting) {
         return fitting;
     }
     let wide = factor_of(factor) * sew_bytes(m.mtype);
@@ -96,12 +96,12 @@ pub fn check_combine(m: Machine, marks: &[u8], factor: Factor, md: usize, ms1: u
     ensures { λ r. ⌜ r ≡ verdict (combineChecks m (now (marks .entry)) (times factor) md ms1) ⌝ }
 {
     let fitting = check_elementwise(m, factor);
-    if !machine::is_done(fitting) {
+    if !unit_answers::is_done(fitting) {
         return fitting;
     }
     let width = sew_bytes(m.mtype);
     let source = accumulator_marks(m, marks, ms1, width);
-    if !machine::is_done(source) {
+    if !unit_answers::is_done(source) {
         return source;
     }
     let wide = factor_of(factor) * width;
@@ -115,7 +115,7 @@ pub fn check_scale(m: Machine, marks: &[u8], factor: Factor, ms1: usize, by_zero
     ensures { λ r. ⌜ r ≡ verdict (scaleChecks m (now (marks .entry)) (times factor) ms1 «by_zero») ⌝ }
 {
     let fitting = check_elementwise(m, factor);
-    if !machine::is_done(fitting) {
+    if !unit_answers::is_done(fitting) {
         return fitting;
     }
     if by_zero {

@@ -5,7 +5,8 @@ use Rattle.numbers.specs.Upto.{upto}
 use Rattle.numbers.specs.Tile.{putTile, markRow, markTile}
 use Rattle.numbers.proofs.UptoLaws.{upto-keeps}
 use Rattle.machine.specs.Tests.{all}
-use Rattle.machine.specs.Refusals.{marked, widthOk}
+use Rattle.machine.specs.Refusals.{marked}
+use Rattle.machine.specs.ArithmeticWords.{widthOk, floatProductAt, isZero}
 use Rattle.machine.proofs.TestLaws.{all-at, each-in}
 use Rattle.machine.specs.declared.Machine.{Machine}
 use Rattle.machine.specs.declared.Sum.{Sum}
@@ -14,8 +15,8 @@ use Rattle.machine.specs.declared.Answer.the-variants.{Done}
 use Rattle.machine.specs.Answers.{verdict, isDone}
 use Rattle.machine.specs.Geometry.{elens, State, stateOf, accAt}
 use Rattle.machine.specs.Setting.{sew, chosen}
-use Rattle.machine.specs.Operation.{Operation, floatProductAt, stateAfter}
-use Rattle.machine.specs.Refusals.{checks, isZero}
+use Rattle.machine.specs.Operation.{Operation}
+use Rattle.machine.specs.Meanings.{stateAfter, checks}
 use Rattle.machine.specs.Faults.{sound}
 use Rattle.machine.proofs.CheckLaws.{Passed, passed}
 use Rattle.machine.proofs.CodeLaws.{only-done}

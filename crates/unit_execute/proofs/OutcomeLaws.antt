@@ -14,8 +14,9 @@ use Rattle.machine.specs.Listing.{decode}
 use Rattle.machine.specs.Answers.{reply, verdict, isDone}
 use Rattle.machine.specs.Geometry.{Range, sealed, State, stateOf, machineAfter, Bench, benchOf, scalar, withScalar}
 use Rattle.machine.specs.Setting.{mill, newType, maximum, smaller, chosen, sizeIn}
-use Rattle.machine.specs.Operation.{Operation, askedSize, stateAfter, memoryAfter, resultOf}
-use Rattle.machine.specs.Refusals.{wordAnswer, checks}
+use Rattle.machine.specs.Operation.{Operation, askedSize}
+use Rattle.machine.specs.Meanings.{stateAfter, memoryAfter, resultOf, checks}
+use Rattle.machine.specs.Refusals.{wordAnswer}
 use Rattle.machine.specs.Faults.{sound, sealsFit, soundBench, thirtyTwo}
 use Rattle.machine.proofs.NoFault.{sound-bench}
 use Rattle.machine.specs.Step.{Outcome, outcome, step, stepBy, given, meant, left, destination}
@@ -54,7 +55,7 @@ module _ (m : Machine) (seals : List Range) (i : Instruction) (xs regs marks mem
       ap₂ (λ (o : Operation) (rd : ℕ). record {
         answer = reply Done;
         bench = benchOf (machineAfter m (stateAfter (ours m) o (stateOf m regs marks) mem)) seals (stateAfter (ours m) o (stateOf m regs marks) mem .regs) (stateAfter (ours m) o (stateOf m regs marks) mem .marks) (memoryAfter (ours m) o (stateOf m regs marks) mem);
-        scalars = withScalar xs rd (resultOf o (stateAfter (ours m) o (stateOf m regs marks) mem));
+        scalars = withScalar xs rd (resultOf (ours m) o (stateOf m regs marks));
       }) (sym e) (sym er)
       ∙ outcome-by (ours m) i xs B good t Done (ap (λ (o : Operation). verdict (checks (ours m) (sealed seals) o (given (ours m) i xs B) mem)) e)
 
@@ -69,7 +70,7 @@ module _ (m : Machine) (seals : List Range) (i : Instruction) (xs regs marks mem
           ≡ record {
             answer = reply Done;
             bench = benchOf (machineAfter m (stateAfter (ours m) (Operation.setSize d a) (stateOf m regs marks) mem)) seals (stateAfter (ours m) (Operation.setSize d a) (stateOf m regs marks) mem .regs) (stateAfter (ours m) (Operation.setSize d a) (stateOf m regs marks) mem .marks) (memoryAfter (ours m) (Operation.setSize d a) (stateOf m regs marks) mem);
-            scalars = withScalar xs rd (resultOf (Operation.setSize d a) (stateAfter (ours m) (Operation.setSize d a) (stateOf m regs marks) mem));
+            scalars = withScalar xs rd (resultOf (ours m) (Operation.setSize d a) (stateOf m regs marks));
           }
       granted-is DimensionM = refl
       granted-is DimensionK = refl
@@ -83,7 +84,7 @@ module _ (m : Machine) (seals : List Range) (i : Instruction) (xs regs marks mem
           ∙ ap₂ (λ (o : Operation) (rd : ℕ). record {
             answer = reply Done;
             bench = benchOf (machineAfter m (stateAfter (ours m) o (stateOf m regs marks) mem)) seals (stateAfter (ours m) o (stateOf m regs marks) mem .regs) (stateAfter (ours m) o (stateOf m regs marks) mem .marks) (memoryAfter (ours m) o (stateOf m regs marks) mem);
-            scalars = withScalar xs rd (resultOf o (stateAfter (ours m) o (stateOf m regs marks) mem));
+            scalars = withScalar xs rd (resultOf (ours m) o (stateOf m regs marks));
           }) (sym e) (sym er)
           ∙ outcome-by (ours m) i xs B good t Done (v ∙ rw b)
 
@@ -114,7 +115,7 @@ module _ (m : Machine) (seals : List Range) (i : Instruction) (xs regs marks mem
           ∙ ap₂ (λ (o : Operation) (rd : ℕ). record {
             answer = reply Done;
             bench = benchOf (machineAfter m (stateAfter (ours m) o (stateOf m regs marks) mem)) seals (stateAfter (ours m) o (stateOf m regs marks) mem .regs) (stateAfter (ours m) o (stateOf m regs marks) mem .marks) (memoryAfter (ours m) o (stateOf m regs marks) mem);
-            scalars = withScalar xs rd (resultOf o (stateAfter (ours m) o (stateOf m regs marks) mem));
+            scalars = withScalar xs rd (resultOf (ours m) o (stateOf m regs marks));
           }) (sym e) (sym er)
           ∙ outcome-by (ours m) i xs B good t Done (v ∙ rw b)
 
@@ -148,7 +149,7 @@ module _ (m : Machine) (seals : List Range) (i : Instruction) (xs regs marks mem
       (l .marks-are ∙ ap (λ (o : Operation). cond (isDone a) (stateAfter (ours m) o (stateOf m regs marks) mem .marks) marks) (sym e))
       (same (isDone a) mem ∙ ap (λ (q : List ℕ). cond (isDone a) q mem) (sym no-memory ∙ ap (λ (o : Operation). memoryAfter (ours m) o (stateOf m regs marks) mem) (sym e)))
       (ap (λ (o : Operation). machineAfter m (stateAfter (ours m) o (stateOf m regs marks) mem)) e ∙ no-number)
-      (ap (λ (rd : ℕ). withScalar xs rd (resultOf (meant (ours m) i xs B) (left (ours m) i xs B))) er)
+      (ap (λ (rd : ℕ). withScalar xs rd (resultOf (ours m) (meant (ours m) i xs B) (given (ours m) i xs B))) er)
 
   -- and one that writes memory
   pub stores-outcome : (o : Operation) → meant (ours m) i xs B ≡ o → destination i ≡ 0 → (a : Answer) (mem′ : List ℕ) → WritesMemory m o regs marks mem (sealed seals) a mem′
@@ -163,7 +164,7 @@ module _ (m : Machine) (seals : List Range) (i : Instruction) (xs regs marks mem
       (same (isDone a) marks ∙ ap (λ (z : State). cond (isDone a) (z .marks) marks) (sym k))
       (l .memory-is ∙ ap (λ (o : Operation). cond (isDone a) (memoryAfter (ours m) o st mem) mem) (sym e))
       (ap (machineAfter m) k)
-      (ap (λ (rd : ℕ). withScalar xs rd (resultOf (meant (ours m) i xs B) (left (ours m) i xs B))) er)
+      (ap (λ (rd : ℕ). withScalar xs rd (resultOf (ours m) (meant (ours m) i xs B) (given (ours m) i xs B))) er)
 
 -- ---- answer 8 of a step, and its word
 

@@ -9,8 +9,11 @@ use Rattle.machine.specs.declared.Matrix.the-variants.{MatrixA, MatrixB}
 use Rattle.machine.specs.Answers.{verdict, isDone}
 use Rattle.machine.specs.Geometry.{State, stateOf, tileAt, accAt}
 use Rattle.machine.specs.Setting.{sew, chosen}
-use Rattle.machine.specs.Operation.{Operation, stateAfter}
-use Rattle.machine.specs.Refusals.{marked, widthOf, widthOk, multiplyReads, checks}
+use Rattle.machine.specs.Operation.{Operation}
+use Rattle.machine.specs.Meanings.{stateAfter, checks}
+use Rattle.machine.specs.Refusals.{marked}
+use Rattle.machine.specs.TransferWords.{widthOf}
+use Rattle.machine.specs.ArithmeticWords.{widthOk, multiplyReads}
 use Rattle.machine.specs.Faults.{sound}
 use Rattle.machine.proofs.CheckLaws.{Passed, passed, marked-true}
 use Rattle.unit_transfer.proofs.Room.{transfer-requires}

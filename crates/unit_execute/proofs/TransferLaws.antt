@@ -11,8 +11,10 @@ use Rattle.machine.specs.Answers.{Check, _otherwise_, verdict, isDone}
 use Rattle.machine.specs.Geometry.{State, stateOf, registerCount, registerAt, startOf, pitchOf}
 use Rattle.machine.specs.Setting.{chosen}
 use Rattle.machine.specs.Memory.{rowAt, inside, distinct, rowsMiss}
-use Rattle.machine.specs.Operation.{Operation, memoryAfter, element, placed, rowsOf, columnsOf, tileRows, tileCols, memoryRows, memoryCols}
-use Rattle.machine.specs.Refusals.{needs, typed, widthOf, fitting}
+use Rattle.machine.specs.Operation.{Operation, element, placed, rowsOf, columnsOf, tileRows, tileCols, memoryRows, memoryCols}
+use Rattle.machine.specs.Meanings.{memoryAfter}
+use Rattle.machine.specs.Refusals.{needs, typed, fitting}
+use Rattle.machine.specs.TransferWords.{widthOf}
 use Rattle.machine.specs.Faults.{sound}
 use Rattle.machine.proofs.CheckLaws.{passed}
 use Rattle.machine.proofs.MemoryLaws.{inside-at}
@@ -20,9 +22,10 @@ use Rattle.machine.proofs.StoreLaws.{stored-puts}
 use Rattle.machine.proofs.CodeLaws.{verdict-append}
 use Rattle.unit_element.specs.Element.{Width}
 use Rattle.unit_transfer.proofs.Room.{transfer-requires}
-use Rattle.unit_checks.specs.declared.Placed.{Placed}
+use Rattle.unit_geometry.specs.declared.Placed.{Placed}
 use Rattle.unit_settings.specs.Parts.{ours}
-use Rattle.unit_checks.specs.Parts.{transferChecks, placedAs}
+use Rattle.unit_checks.specs.Parts.{transferChecks}
+use Rattle.unit_geometry.specs.Tiles.{placedAs}
 use Rattle.unit_execute.specs.Parts.{WritesRegisters, WritesMemory}
 
 module _ (m : Machine) (regs marks mem : List ℕ) (f : Form) (k : Matrix) (r w base stride : ℕ) where

@@ -4,9 +4,9 @@ use Rattle.machine.specs.declared.Machine.{Machine}
 use Rattle.machine.specs.declared.Answer.{Answer}
 use Rattle.machine.specs.Answers.{verdict, isDone}
 use Rattle.machine.specs.Geometry.{State, stateOf}
-use Rattle.machine.specs.Operation.{Operation, stateAfter, memoryAfter}
+use Rattle.machine.specs.Operation.{Operation}
+use Rattle.machine.specs.Meanings.{stateAfter, memoryAfter, checks}
 use Rattle.machine.specs.Faults.{sound}
-use Rattle.machine.specs.Refusals.{checks}
 use Rattle.unit_settings.specs.Parts.{ours}
 
 module _ (m : Machine) (o : Operation) (regs marks mem : List ℕ) where

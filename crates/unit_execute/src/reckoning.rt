@@ -4,12 +4,12 @@ use machine::Factor;
 use machine::Machine;
 use machine::Matrix;
 use machine::Sum;
-use unit_checks::factor_of;
-use unit_checks::tile_of;
 use unit_checks::written::check_combine;
 use unit_checks::written::check_float;
 use unit_checks::written::check_product;
 use unit_checks::written::check_scale;
+use unit_geometry::factor_of;
+use unit_geometry::tile_of;
 use unit_settings::sew_bytes;
 ghost use lib.IntN.{ℤ};
 ghost use mathlib.Core.Path.{_≡_};
@@ -21,7 +21,7 @@ ghost use Rattle.numbers.specs.Reduce.{reduce};
 ghost use Rattle.numbers.specs.Tile.{markTile};
 ghost use Rattle.machine.specs.Geometry.{accAt};
 ghost use Rattle.machine.specs.Faults.{sound};
-ghost use Rattle.machine.specs.Refusals.{isZero};
+ghost use Rattle.machine.specs.ArithmeticWords.{isZero};
 ghost use Rattle.machine.specs.Operation.{Operation, times};
 ghost use Rattle.unit_settings.specs.Parts.{ours};
 ghost use Rattle.unit_checks.specs.Parts.{MarksReady, AccumulatorFits};
@@ -84,7 +84,7 @@ pub fn multiply(
     ensures { λ r. ⌜ WritesRegisters m (Operation.multiply (times factor) md ms1 ms2) (now (registers .entry)) (now (marks .entry)) [] r (now (registers .exit)) (now (marks .entry)) ⌝ }
 {
     let answer = check_product(m, marks, factor, md, ms1, ms2);
-    if !machine::is_done(answer) {
+    if !unit_answers::is_done(answer) {
         return answer;
     }
     multiply_tiles(m, registers, factor, md, ms1, ms2);
@@ -106,7 +106,7 @@ pub fn combine(
     ensures { λ r. ⌜ WritesRegisters m (Operation.combine sum (times factor) md ms1) (now (registers .entry)) (now (marks .entry)) [] r (now (registers .exit)) (now (marks .entry)) ⌝ }
 {
     let answer = check_combine(m, marks, factor, md, ms1);
-    if !machine::is_done(answer) {
+    if !unit_answers::is_done(answer) {
         return answer;
     }
     let f = factor_of(factor);
@@ -144,7 +144,7 @@ pub fn scale(
         → WritesRegisters m (Operation.scale (times factor) md ms1 z) (now (registers .entry)) (now (marks .entry)) [] r (now (registers .exit)) (now (marks .exit))) ⌝ }
 {
     let answer = check_scale(m, marks, factor, ms1, multiplier == 0);
-    if !machine::is_done(answer) {
+    if !unit_answers::is_done(answer) {
         return answer;
     }
     let f = factor_of(factor);
@@ -202,7 +202,7 @@ pub fn float_multiply(
     ensures { λ r. ⌜ WritesRegisters m (Operation.floatMultiply md ms1 ms2) (now (registers .entry)) (now (marks .entry)) [] r (now (registers .exit)) (now (marks .entry)) ⌝ }
 {
     let answer = check_float(m, marks, md, ms1, ms2);
-    if !machine::is_done(answer) {
+    if !unit_answers::is_done(answer) {
         return answer;
     }
     multiply_floats(m, registers, md, ms1, ms2);

@@ -4,7 +4,7 @@ use machine::Form;
 use machine::Machine;
 use machine::Matrix;
 use unit_checks::sizes::check_transfer;
-use unit_checks::tile_of;
+use unit_geometry::tile_of;
 ghost use mathlib.Core.Path.{_≡_};
 ghost use mathlib.Core.Bool.{true};
 ghost use Prim.Native.Nat.{_<_};
@@ -32,7 +32,7 @@ pub fn load(
     ensures { λ r. ⌜ WritesRegisters m (Operation.load form matrix md width base stride) (now (registers .entry)) (now (marks .entry)) (now (memory .entry)) r (now (registers .exit)) (now (marks .exit)) ⌝ }
 {
     let fitting = check_transfer(m, matrix, width);
-    if !machine::is_done(fitting) {
+    if !unit_answers::is_done(fitting) {
         return fitting;
     }
     let p = tile_of(m, matrix, md);
@@ -71,7 +71,7 @@ pub fn store(
     ensures { λ r. ⌜ WritesMemory m (Operation.store form matrix ms3 width base stride) (now (registers .entry)) (now (marks .entry)) (now (memory .entry)) (sealed (sealsIn (now (seals .entry)))) r (now (memory .exit)) ⌝ }
 {
     let fitting = check_transfer(m, matrix, width);
-    if !machine::is_done(fitting) {
+    if !unit_answers::is_done(fitting) {
         return fitting;
     }
     let p = tile_of(m, matrix, ms3);

@@ -4,7 +4,7 @@ use lib.Ieee.{Float}
 use Rattle.numbers.specs.Tile.{getLe, putTile}
 use Rattle.numbers.specs.Binary32.{valueOf, floatProduct}
 use Rattle.machine.specs.Geometry.{Parameters, accAt}
-use Rattle.machine.specs.Operation.{floatProductAt}
+use Rattle.machine.specs.ArithmeticWords.{floatProductAt}
 
 -- the value of the element at p
 abbrev pub floatAt : List ℕ → ℕ → Float

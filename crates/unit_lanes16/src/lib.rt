@@ -6,7 +6,7 @@ ghost use Prim.Native.Nat.{ℕ, _+_, _*_, _≤_, _<_};
 ghost use lib.ListN.{length, getD};
 ghost use Rattle.numbers.specs.Tile.{putLe, putRow, putTile};
 ghost use Rattle.numbers.specs.Bounds.{mostPitch, mostTerms};
-ghost use Rattle.machine.specs.Operation.{product};
+ghost use Rattle.machine.specs.ArithmeticWords.{product};
 ghost use Rattle.unit_element.specs.Element.{Narrow};
 ghost use Rattle.unit_sums.specs.Rows.{residueAt, plusTimes, productRow};
 ghost use Rattle.unit_lanes16.specs.Lanes.{lanes};

@@ -10,9 +10,10 @@ use Rattle.machine.specs.Answers.{Check, verdict, isDone}
 use Rattle.machine.specs.Geometry.{Parameters, State, stateOf}
 use Rattle.machine.specs.Vectors.{Vectors, vectorAt, vectorBytes, aligned}
 use Rattle.machine.specs.Setting.{sew}
-use Rattle.machine.specs.Operation.{Operation, placed, element, lineOf, sliceAt, sliceRows, sliceCols, memoryRows, memoryCols}
-use Rattle.machine.specs.Refusals.{checks, sliceFits, sliceNeeds}
-use Rattle.unit_checks.specs.declared.Placed.{Placed}
+use Rattle.machine.specs.Operation.{Operation, placed, element, memoryRows, memoryCols}
+use Rattle.machine.specs.MoveWords.{lineOf, sliceAt, sliceRows, sliceCols, sliceFits, sliceNeeds}
+use Rattle.machine.specs.Meanings.{checks}
+use Rattle.unit_geometry.specs.declared.Placed.{Placed}
 use Rattle.unit_checks.proofs.CheckLaws.{part-refused, part-passed}
 use Rattle.unit_settings.specs.Parts.{ours}
 use Rattle.unit_moves.specs.Parts.{slicePlaced, moved, MovesOut, MovesIn, Moves}

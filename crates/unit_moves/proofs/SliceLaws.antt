@@ -13,8 +13,9 @@ use Rattle.machine.specs.Answers.{reply, verdict, isDone}
 use Rattle.machine.specs.Geometry.{Parameters, State, stateOf, startOf, pitchOf}
 use Rattle.machine.specs.Vectors.{vectorBytes, fileBytes}
 use Rattle.machine.specs.Setting.{chosen, sew, mill}
-use Rattle.machine.specs.Operation.{memoryRows, memoryCols, linesOf, lineOf, cornerOf, sliceRows, sliceCols}
-use Rattle.machine.specs.Refusals.{sliceFits, sliceNeeds, unwrittenIn, needs, marked, firstRow, firstColumn}
+use Rattle.machine.specs.Operation.{memoryRows, memoryCols}
+use Rattle.machine.specs.MoveWords.{linesOf, lineOf, cornerOf, sliceRows, sliceCols, sliceFits, sliceNeeds, unwrittenIn}
+use Rattle.machine.specs.Refusals.{needs, marked, firstRow, firstColumn}
 use Rattle.machine.specs.Faults.{sound}
 use Rattle.machine.proofs.TestLaws.{false-true, first-le}
 use Rattle.machine.proofs.CheckLaws.{Passed, passed}

@@ -6,11 +6,12 @@ use Rattle.machine.specs.declared.Matrix.the-variants.{MatrixC}
 use Rattle.machine.specs.declared.Answer.{Answer}
 use Rattle.machine.specs.Answers.{verdict, isDone}
 use Rattle.machine.specs.Geometry.{State, stateOf, pitchOf}
-use Rattle.machine.specs.Operation.{Operation, stateAfter, vectorsAfter, cornerOf, sliceRows, sliceCols}
-use Rattle.machine.specs.Refusals.{checks}
+use Rattle.machine.specs.Operation.{Operation}
+use Rattle.machine.specs.MoveWords.{cornerOf, sliceRows, sliceCols}
+use Rattle.machine.specs.Meanings.{stateAfter, vectorsAfter, checks}
 use Rattle.machine.specs.Vectors.{Vectors, aligned}
 use Rattle.machine.specs.declared.Wrong.the-variants.{Register}
-use Rattle.unit_checks.specs.declared.Placed.{Placed}
+use Rattle.unit_geometry.specs.declared.Placed.{Placed}
 use Rattle.unit_settings.specs.Parts.{ours}
 
 -- a slice of an accumulator

@@ -5,9 +5,9 @@ use machine::Dimension;
 use machine::Form;
 use machine::Machine;
 use machine::Matrix;
-use machine::is_done;
-use unit_checks::Placed;
-use unit_checks::tile_of;
+use unit_answers::is_done;
+use unit_geometry::Placed;
+use unit_geometry::tile_of;
 use unit_row::write_row;
 use unit_settings::fits;
 use unit_settings::is_mill;
@@ -25,8 +25,8 @@ ghost use Rattle.machine.specs.Answers.{verdict};
 ghost use Rattle.machine.specs.Geometry.{stateOf};
 ghost use Rattle.machine.specs.Vectors.{vectorsOf, vectorBytes, fileBytes, vectorsFit};
 ghost use Rattle.machine.specs.Faults.{sound};
-ghost use Rattle.machine.specs.Operation.{Operation, element, placed, memoryRows, memoryCols, linesOf, lineOf, cornerOf};
-ghost use Rattle.machine.specs.Refusals.{sliceFits, sliceNeeds, unwrittenIn};
+ghost use Rattle.machine.specs.Operation.{Operation, element, placed, memoryRows, memoryCols};
+ghost use Rattle.machine.specs.MoveWords.{linesOf, lineOf, cornerOf, sliceFits, sliceNeeds, unwrittenIn};
 ghost use Rattle.unit_settings.specs.Parts.{ours, Ready};
 ghost use Rattle.unit_element.specs.Element.{Width};
 ghost use Rattle.unit_tile.specs.Checks.{RowsIn};
@@ -148,7 +148,7 @@ fn slice_marks(marks: &[u8], form: Form, first: u64, p: Placed, w: usize) -> Ans
     if is_done(found) {
         return Answer::Done;
     }
-    let named = machine::reply_of(found);
+    let named = unit_answers::reply_of(found);
     unwritten_in(form, first, named.row, named.column)
 }
 

@@ -12,7 +12,7 @@ use Rattle.numbers.proofs.PutLaws.{upto-add}
 use Rattle.numbers.proofs.ReduceLaws.{reduce-lt, sumℤ-cong}
 use Rattle.numbers.proofs.ElementLaws.{pow-256, signed-widened}
 use Rattle.numbers.proofs.SumLaws.{wrapping-add, sum-none, sum-more, sum-in-pairs}
-use Rattle.machine.specs.Operation.{product}
+use Rattle.machine.specs.ArithmeticWords.{product}
 use Rattle.numbers.specs.Bounds.{mostColumns}
 use Rattle.unit_element.specs.Element.{Narrow}
 use Rattle.unit_sums.specs.Rows.{signedLe}

@@ -1,12 +1,12 @@
 // The sealed ranges of a machine, as they lie in its block of bytes. What lies where is defined in specs/.
-use machine::seal_ends;
-use machine::smaller;
+use numbers::smaller;
 use unit_address::as_signed;
 use unit_address::misses_range;
 use unit_address::row_address;
 use unit_address::rows_miss;
 use unit_element::read8;
 use unit_element::write8;
+use unit_start::seal_ends;
 ghost use mathlib.Core.Path.{_≡_};
 ghost use mathlib.Core.Bool.{true};
 ghost use mathlib.Core.List.{[], _∷_, _++_};

@@ -10,9 +10,11 @@ use Rattle.machine.specs.Geometry.{Range, range, sealed, Parameters, parameters
 use Rattle.machine.specs.Faults.{sound, sealsFit, soundBench, thirtyTwo}
 use Rattle.machine.specs.Listing.{decode}
 use Rattle.machine.specs.Memory.{rowAt, inside, distinct, rowsMiss}
-use Rattle.machine.specs.Operation.{Operation, vectorsAfter, tileRows, tileCols, rowsOf, columnsOf, memoryRows, memoryCols}
+use Rattle.machine.specs.Operation.{Operation, tileRows, tileCols, rowsOf, columnsOf, memoryRows, memoryCols}
+use Rattle.machine.specs.Meanings.{vectorsAfter, checks}
 use Rattle.machine.specs.Operation.Operation.{illegal, setType, setSize, cutSize, load, store, multiply, combine, scale, floatMultiply, moveOut, moveIn}
-use Rattle.machine.specs.Refusals.{typed, widthOf, fitting, needs, checks}
+use Rattle.machine.specs.Refusals.{typed, fitting, needs}
+use Rattle.machine.specs.TransferWords.{widthOf}
 use Rattle.machine.specs.Sealing.{addSeal, sealChecks, withSeal}
 use Rattle.machine.specs.Step.{Outcome, givenIn, meantIn, checksIn, carriedIn, refusedIn, beside, stepWith, stepBy, outcome}
 use Rattle.machine.specs.Vectors.{Vectors, vectorsFit, idle}

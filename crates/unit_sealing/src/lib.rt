@@ -1,10 +1,10 @@
 // Sealing one more range of memory. What it answers and leaves is defined in machine/specs/Sealing.antt, and of a machine's block in specs/.
 use machine::Answer;
 use machine::Machine;
-use machine::seal_ends;
+use unit_faults::is_sound;
 use unit_ranges::add_range;
 use unit_ranges::count_of;
-use unit_settings::faults::is_sound;
+use unit_start::seal_ends;
 ghost use mathlib.Core.Path.{_≡_};
 ghost use Rattle.unit_sealing.specs.SealBlock.{blockSealed, sealBlock};
 

@@ -13,7 +13,7 @@ use Rattle.machine.specs.Tests.{every}
 use Rattle.machine.specs.Geometry.{permitted, parameters, Parameters, stateOf, machineAfter, scalar, withScalar}
 use Rattle.machine.specs.Starting.{isRule}
 use Rattle.machine.specs.Setting.{newType, mill, maximum, smaller, chosen, sizeIn}
-use Rattle.machine.specs.Operation.{sized}
+use Rattle.machine.specs.SettingWords.{sized}
 
 -- the machine's own parameters, under our choice of sizes
 abbrev pub ours : Machine → Parameters

@@ -3,10 +3,10 @@ use machine::Answer;
 use machine::Dimension;
 use machine::Machine;
 use machine::Stepped;
-use machine::chosen;
-use machine::smaller;
-use scalars::read_scalar;
-use scalars::write_scalar;
+use numbers::smaller;
+use unit_scalars::read_scalar;
+use unit_scalars::write_scalar;
+use unit_start::chosen;
 ghost use mathlib.Core.Path.{_≡_};
 ghost use mathlib.Core.Bool.{true, false};
 ghost use mathlib.Core.List.{[]};
@@ -17,9 +17,6 @@ ghost use Rattle.machine.specs.Setting.{newType, mill, maximum, sew, sizeIn};
 ghost use Rattle.machine.specs.Refusals.{fitting};
 ghost use Rattle.unit_settings.specs.Parts.{ours, withType, withSize, sizeStepped, sizeScalars, cutStepped, tileStepped, tileScalars, Ready, legalTypes};
 ghost use Rattle.machine.specs.Tests.{isIn};
-
-pub mod faults; // answer 8
-pub mod scalars; // the scalars
 
 // The new mtype of a machine of this ELEN: an illegal value becomes 2^63.
 pub fn kept_type(elen: u64, value: u64) -> u64

@@ -12,10 +12,11 @@ use Rattle.machine.specs.declared.Instruction.the-variants.{MoveOut, MoveIn}
 use Rattle.machine.specs.Geometry.{sealed, Parameters, parameters, State, stateOf, Bench, benchOf, scalar, withScalar, machineAfter}
 use Rattle.machine.specs.Vectors.{Vectors, vectorsOf, vectorAt, vectorBytes, aligned}
 use Rattle.machine.specs.Setting.{sew}
-use Rattle.machine.specs.Operation.{Operation, stateAfter, memoryAfter, vectorsAfter, resultOf, placed, element, lineOf, sliceAt, sliceRows, sliceCols, memoryRows, memoryCols}
+use Rattle.machine.specs.Operation.{Operation, placed, element, memoryRows, memoryCols}
+use Rattle.machine.specs.MoveWords.{lineOf, sliceAt, sliceRows, sliceCols}
+use Rattle.machine.specs.Meanings.{stateAfter, memoryAfter, vectorsAfter, resultOf, checks}
 use Rattle.machine.specs.Answers.{reply}
 use Rattle.machine.specs.declared.Answer.the-variants.{Done}
-use Rattle.machine.specs.Refusals.{checks}
 use Rattle.machine.specs.Step
 use Rattle.machine.specs.Step.{VectorOutcome, beside, stepWith}
 use Rattle.machine.specs.Theorems.{Given}
@@ -116,7 +117,7 @@ module _ (grant : Choice) (S : Slice) (out : Given) (back-word : ℕ) (ys : List
   left-out = A .leaves ∙ ap (λ (t : Bool). by (cond t moved (Operation.illegal Register))) on-group
     where
       by : Operation → VectorOutcome
-      by o = leaving (withScalar xs 0 (resultOf o (stateAfter N o lies (B .memory))))
+      by o = leaving (withScalar xs 0 (resultOf N o lies))
           (benchOf (machineAfter (B .machine) (stateAfter N o lies (B .memory))) (B .seals)
           (stateAfter N o lies (B .memory) .regs) (stateAfter N o lies (B .memory) .marks)
           (memoryAfter N o lies (B .memory)))
@@ -144,7 +145,7 @@ module _ (grant : Choice) (S : Slice) (out : Given) (back-word : ℕ) (ys : List
       ∙ ap (λ (first : ℕ). leaving ys (benchOf (B .machine) (B .seals) (after first .regs) (after first .marks) (B .memory)) file₁) (h .same-first)
     where
       by : Operation → VectorOutcome
-      by o = leaving (withScalar ys 0 (resultOf o (stateAfter N o lies (B .memory))))
+      by o = leaving (withScalar ys 0 (resultOf N o lies))
           (benchOf (machineAfter (B .machine) (stateAfter N o lies (B .memory))) (B .seals)
           (stateAfter N o lies (B .memory) .regs) (stateAfter N o lies (B .memory) .marks)
           (memoryAfter N o lies (B .memory)))

@@ -10,8 +10,8 @@ use Rattle.machine.specs.declared.Instruction.the-variants.{Illegal, SetTypeImm
 use Rattle.machine.specs.Answers.{Check, reply, verdict, isDone}
 use Rattle.machine.specs.Geometry.{Range, sealed, Parameters, State, stateOf, machineAfter, Bench, benchOf, withScalar}
 use Rattle.machine.specs.Vectors.{Vectors, aligned}
-use Rattle.machine.specs.Operation.{Operation, stateAfter, memoryAfter, vectorsAfter, resultOf}
-use Rattle.machine.specs.Refusals.{checks}
+use Rattle.machine.specs.Operation.{Operation}
+use Rattle.machine.specs.Meanings.{stateAfter, memoryAfter, vectorsAfter, resultOf, checks}
 use Rattle.machine.specs.Faults.{sound, sealsFit, thirtyTwo}
 use Rattle.machine.specs.Step
 use Rattle.machine.specs.Step.{Outcome, VectorOutcome, beside, outcome, outcomeIn, vectorsIn, checksIn, meantIn, givenIn, destination}
@@ -129,7 +129,7 @@ module _ (m : Machine) (seals : List Range) (i : Instruction) (xs regs marks mem
       done o = record {
         answer = reply Done;
         bench = benchOf (machineAfter m (stateAfter M o st mem)) seals (stateAfter M o st mem .regs) (stateAfter M o st mem .marks) (memoryAfter M o st mem);
-        scalars = withScalar xs (destination i) (resultOf o (stateAfter M o st mem));
+        scalars = withScalar xs (destination i) (resultOf M o st);
       }
 
       go : (d : Bool) → isDone a ≡ d
@@ -141,7 +141,7 @@ module _ (m : Machine) (seals : List Range) (i : Instruction) (xs regs marks mem
           ∙ ap (λ (rd : ℕ). beside (vectorsAfter M o st (W .file)) (record {
             answer = reply Done;
             bench = benchOf (machineAfter m (stateAfter M o st mem)) seals (stateAfter M o st mem .regs) (stateAfter M o st mem .marks) (memoryAfter M o st mem);
-            scalars = withScalar xs rd (resultOf o (stateAfter M o st mem));
+            scalars = withScalar xs rd (resultOf M o st);
           })) (sym to-zero))
       go false d =
           rw d (ap (leaving a regs′ marks′) (ef ∙ rw d) ∙ ap₂ (λ (r k : List ℕ). leaving a r k (W .file)) (er ∙ rw d) (em ∙ rw d))

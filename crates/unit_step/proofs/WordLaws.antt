@@ -9,7 +9,7 @@ use Rattle.machine.specs.Listing.{decode, inRange}
 use Rattle.machine.specs.Tests.{isIn}
 use Rattle.machine.specs.Geometry.{elens, registerCount}
 use Rattle.machine.specs.Setting.{sew, newType}
-use Rattle.machine.specs.Refusals.{isZero}
+use Rattle.machine.specs.ArithmeticWords.{isZero}
 use Rattle.machine.proofs.TestLaws.{every-each, each, each-in}
 use Rattle.machine.proofs.CodeLaws.{bounded, decode-bounded, legalTypes, types-are}
 use Rattle.unit_step.specs.Parts.{Multiplier, Decoded}

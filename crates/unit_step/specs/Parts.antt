@@ -3,7 +3,7 @@ use Rattle.numbers.specs.Kit.{_≡_, List, ℕ, _^_, _<_, eqb, ℤ}
 use Rattle.machine.specs.Geometry.{registerCount}
 use Rattle.machine.specs.declared.Instruction.{Instruction}
 use Rattle.machine.specs.declared.Instruction.the-variants.{Illegal, SetTypeImmediate, SetType, SetTileImmediate, SetTile, Load, Store, Multiply, Combine, Scale, ScaleImmediate, FloatMultiply, MoveOut, MoveIn}
-use Rattle.machine.specs.Refusals.{isZero}
+use Rattle.machine.specs.ArithmeticWords.{isZero}
 use Rattle.machine.specs.Geometry.{Parameters, Bench}
 use Rattle.machine.specs.Vectors.{Vectors}
 use Rattle.machine.specs.Step.{VectorOutcome, beside, outcomeIn, vectorsIn}

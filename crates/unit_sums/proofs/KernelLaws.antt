@@ -6,7 +6,7 @@ use Rattle.numbers.proofs.TileLaws.{le-cong, putRow-out}
 use Rattle.numbers.proofs.ElementLaws.{pow-256, putRow-next}
 use Rattle.numbers.proofs.SumLaws.{sum-none}
 use Rattle.numbers.proofs.PutLaws.{row-fits, next-row}
-use Rattle.machine.specs.Operation.{product}
+use Rattle.machine.specs.ArithmeticWords.{product}
 use Rattle.unit_sums.specs.Rows.{signedLe, plusProduct}
 use Rattle.unit_sums.proofs.LoopLaws.{set-below, set-above}
 use Rattle.unit_sums.proofs.RowLaws.{mac-turn, product-added}

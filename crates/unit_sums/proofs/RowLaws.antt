@@ -8,7 +8,7 @@ use Rattle.numbers.proofs.PutLaws.{putRow-low}
 use Rattle.numbers.proofs.ElementLaws.{pow-256, signed-widened, cut, putRow-cong}
 use Rattle.numbers.proofs.ReduceLaws.{reduce-add, reduce-mul, reduce-lt, reduce-signed, sumℤ-cong}
 use Rattle.numbers.proofs.SumLaws.{wrapping-add, mac-is, sum-none, sum-more, product-more, same-sum, two-products}
-use Rattle.machine.specs.Operation.{product}
+use Rattle.machine.specs.ArithmeticWords.{product}
 use Rattle.unit_sums.specs.Rows.{signedLe, plusProduct, residueAt, plusTimes, productRow, weightedRow}
 
 -- sums that started at 0, and then the old value once, or another product

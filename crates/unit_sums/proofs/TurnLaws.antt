@@ -10,7 +10,7 @@ use Rattle.numbers.specs.Upto.{upto}
 use Rattle.numbers.proofs.UptoLaws.{upto-cong}
 use Rattle.numbers.proofs.PutLaws.{upto-add}
 use Rattle.numbers.proofs.ElementLaws.{putRow-cong, still, tile-turn}
-use Rattle.machine.specs.Operation.{product}
+use Rattle.machine.specs.ArithmeticWords.{product}
 use Rattle.unit_sums.specs.Rows.{productRow}
 
 -- from the old value and the elements of A and B

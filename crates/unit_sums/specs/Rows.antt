@@ -2,7 +2,7 @@
 use Rattle.numbers.specs.Kit.{List, ℕ, _+_, _*_, _^_, ℤ, _+ℤ_, _*ℤ_}
 use Rattle.numbers.specs.Tile.{getLe}
 use Rattle.numbers.specs.Reduce.{signed, reduce}
-use Rattle.machine.specs.Operation.{product}
+use Rattle.machine.specs.ArithmeticWords.{product}
 
 -- the signed element of w bytes at p
 abbrev pub signedLe : List ℕ → ℕ → ℕ → ℤ

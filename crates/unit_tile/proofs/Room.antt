@@ -10,7 +10,8 @@ use Rattle.machine.specs.Answers.{Check, _otherwise_}
 use Rattle.machine.specs.Geometry.{Parameters, parameters, State, stateOf, startOf, pitchOf, registerCount}
 use Rattle.machine.specs.Setting.{sew, maccq, maximum}
 use Rattle.machine.specs.Operation.{tileRows, tileCols, rowsOf, columnsOf}
-use Rattle.machine.specs.Refusals.{typed, fitting, widthOf}
+use Rattle.machine.specs.Refusals.{typed, fitting}
+use Rattle.machine.specs.TransferWords.{widthOf}
 use Rattle.machine.specs.Faults.{sound}
 use Rattle.numbers.proofs.PutLaws.{row-fits, next-row}
 use Rattle.machine.proofs.TestLaws.{and-right}

@@ -1,11 +1,11 @@
 // Tiles between memory and the registers, their marks, and the checks on them. Row i of a tile starts in the registers at
 // start + i * pitch, and in memory at base + i * stride, where the stride is the signed number of its 64 bits.
 use machine::Answer;
-use machine::is_done;
 use unit_address::as_signed;
 use unit_address::row_address;
 use unit_address::rows_distinct;
 use unit_address::rows_inside;
+use unit_answers::is_done;
 use unit_ranges::rows_unsealed;
 use unit_row::line_marked;
 use unit_row::mark_row;

@@ -10,7 +10,7 @@ use Rattle.machine.specs.Tests.{isIn}
 use Rattle.machine.specs.Geometry.{elens, Parameters, parameters, State, stateOf, startOf, pitchOf, registerCount}
 use Rattle.machine.specs.Setting.{sew, maccq, mill}
 use Rattle.machine.specs.Operation.{tileRows, tileCols}
-use Rattle.machine.specs.Refusals.{widthOf}
+use Rattle.machine.specs.TransferWords.{widthOf}
 use Rattle.machine.specs.Faults.{sound}
 use Rattle.machine.proofs.TestLaws.{and-left, and-right, each-in}
 use Rattle.machine.proofs.CheckLaws.{Passed}

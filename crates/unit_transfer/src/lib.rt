@@ -2,10 +2,10 @@
 // one stride apart from base on; in the transposed form they are the columns of the register.
 use machine::Answer;
 use machine::Form;
-use machine::is_done;
 use unit_address::as_signed;
 use unit_address::row_address;
 use unit_address::rows_inside;
+use unit_answers::is_done;
 use unit_element::read1;
 use unit_element::read2;
 use unit_element::read4;

@@ -2,7 +2,7 @@
 use Rattle.numbers.proofs.Kit.{_≡_, refl, sym, ap, _∙_, ℕ, zero, _+_, _-_, _*_, _≤_, _<_, zero-mul, arith, length, needs}
 use Rattle.numbers.specs.Tile.{putTile}
 use Rattle.numbers.proofs.PutLaws.{putTile-none}
-use Rattle.machine.specs.Operation.{product}
+use Rattle.machine.specs.ArithmeticWords.{product}
 use Rattle.unit_sums.specs.Rows.{productRow}
 use Rattle.unit_arithmetic.proofs.BlockLaws.{Columns, columns-fit, column-turn, product-joins}
 use Rattle.unit_arithmetic.proofs.multiply_blocks.Statement.{statement}

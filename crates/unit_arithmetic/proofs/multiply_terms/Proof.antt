@@ -1,7 +1,7 @@
 -- The loop: each element of C has the product of the first `l` terms, once a block was taken.
 use Rattle.numbers.proofs.Kit.{_≡_, refl, ap, _∙_, _⊎_, inl, inr, ℕ, _+_, _-_, _*_, _≤_, _<_, zero-mul, arith, length, needs}
 use Rattle.numbers.specs.Tile.{putTile}
-use Rattle.machine.specs.Operation.{product}
+use Rattle.machine.specs.ArithmeticWords.{product}
 use Rattle.unit_sums.specs.Rows.{productRow}
 use Rattle.unit_arithmetic.proofs.BlockLaws.{Terms, terms-fit, term-next, product-joins}
 use Rattle.unit_arithmetic.proofs.multiply_terms.Statement.{statement}

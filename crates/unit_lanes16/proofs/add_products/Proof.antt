@@ -1,5 +1,5 @@
 use Rattle.numbers.proofs.Kit.{_+_, _-_, _≤_, arith, length, getD, needs}
-use Rattle.machine.specs.Operation.{product}
+use Rattle.machine.specs.ArithmeticWords.{product}
 use Rattle.unit_sums.specs.Rows.{residueAt, plusTimes}
 use Rattle.unit_sums.proofs.KernelLaws.{inside}
 use Rattle.unit_sums.proofs.LaneLaws.{Summed, sum-none, sum-next, sum-all}

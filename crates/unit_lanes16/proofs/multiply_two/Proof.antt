@@ -1,5 +1,5 @@
 use Rattle.numbers.proofs.Kit.{_+_, _*_, arith, needs}
-use Rattle.machine.specs.Operation.{product}
+use Rattle.machine.specs.ArithmeticWords.{product}
 use Rattle.unit_sums.proofs.TurnLaws.{rule-two}
 use Rattle.unit_sums.proofs.RowLaws.{row-of-lanes}
 use Rattle.unit_lanes16.specs.Lanes.{lanes}

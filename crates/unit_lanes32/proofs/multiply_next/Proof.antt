@@ -1,7 +1,7 @@
 -- By whether two rows are left of whole blocks.
 use Rattle.numbers.proofs.Kit.{sym, ap, _∙_, ℕ, _+_, _*_, mul-le-mul-right, arith, needs}
 use Rattle.numbers.specs.Tile.{putTile}
-use Rattle.machine.specs.Operation.{product}
+use Rattle.machine.specs.ArithmeticWords.{product}
 use Rattle.unit_sums.specs.Rows.{productRow}
 use Rattle.unit_sums.proofs.TurnLaws.{rule-one}
 use Rattle.unit_lanes32.proofs.multiply_next.Statement.{statement}

@@ -3,7 +3,7 @@ use Rattle.machine.specs.declared.Dimension.the-variants.{DimensionM, Dimension
 use Rattle.machine.specs.Geometry.{stateOf}
 use Rattle.machine.specs.Vectors.{vectorBytes}
 use Rattle.machine.specs.Setting.{mill, sew}
-use Rattle.machine.specs.Operation.{linesOf, lineOf}
+use Rattle.machine.specs.MoveWords.{linesOf, lineOf}
 use Rattle.machine.specs.Refusals.{fitting}
 use Rattle.unit_settings.specs.Parts.{ours}
 use Rattle.unit_settings.proofs.TypeLaws.{ready-legal}

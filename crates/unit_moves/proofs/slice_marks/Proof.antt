@@ -2,7 +2,7 @@ use Rattle.numbers.proofs.Kit.{_≡_, sym, ap, _∙_, subst, false, [], _∷_, 
 use Rattle.machine.specs.declared.Reply.{Reply}
 use Rattle.machine.specs.Answers.{verdict, isDone, reply}
 use Rattle.machine.specs.Refusals as Refusals
-use Rattle.machine.specs.Refusals.{unwrittenIn}
+use Rattle.machine.specs.MoveWords.{unwrittenIn}
 use Rattle.unit_moves.proofs.SliceLaws.{needs-done, needs-named, needs-bounded}
 use Rattle.unit_moves.proofs.slice_marks.Statement.{statement}
 use Rattle.unit_moves.proofs.slice_marks.Tie as tie

@@ -3,8 +3,8 @@ use Rattle.machine.specs.declared.Form.{Form}
 use Rattle.machine.specs.declared.Form.the-variants.{Plain, Transposed}
 use Rattle.machine.specs.declared.Matrix.the-variants.{MatrixC}
 use Rattle.machine.specs.Geometry.{startOf, pitchOf}
-use Rattle.machine.specs.Operation.{cornerOf}
-use Rattle.unit_checks.specs.declared.Placed.{Placed}
+use Rattle.machine.specs.MoveWords.{cornerOf}
+use Rattle.unit_geometry.specs.declared.Placed.{Placed}
 use Rattle.unit_settings.specs.Parts.{ours}
 use Rattle.unit_moves.specs.Parts.{slicePlaced}
 use Rattle.unit_moves.proofs.slice_of.Statement.{statement}

@@ -3,12 +3,12 @@ use Rattle.machine.specs.Answers.{verdict, isDone}
 use Rattle.machine.specs.Geometry.{stateOf}
 use Rattle.machine.specs.Vectors.{vectorBytes}
 use Rattle.machine.specs.Setting.{sew}
-use Rattle.machine.specs.Operation.{lineOf, memoryRows, memoryCols}
-use Rattle.machine.specs.Refusals.{sliceFits}
+use Rattle.machine.specs.Operation.{memoryRows, memoryCols}
+use Rattle.machine.specs.MoveWords.{lineOf, sliceFits}
 use Rattle.machine.proofs.CodeLaws.{only-done}
 use Rattle.unit_element.specs.Element.{Width}
 use Rattle.unit_tile.specs.Checks.{RowsIn}
-use Rattle.unit_checks.specs.declared.Placed.{Placed}
+use Rattle.unit_geometry.specs.declared.Placed.{Placed}
 use Rattle.unit_settings.specs.Parts.{ours}
 use Rattle.unit_settings.proofs.FaultLaws.{ready}
 use Rattle.unit_moves.proofs.SliceLaws.{legal, width, line-in, small, corner-in, rows-in, marks-in, columns-in, shift-small, group-in}

@@ -1,6 +1,6 @@
 use Rattle.numbers.proofs.Kit.{sym, ap, needs}
 use Rattle.machine.specs.declared.Form.{Form}
-use Rattle.machine.specs.Refusals.{unwrittenIn}
+use Rattle.machine.specs.MoveWords.{unwrittenIn}
 use Rattle.unit_moves.proofs.unwritten_in.Statement.{statement}
 use Rattle.unit_moves.proofs.unwritten_in.Tie as tie
 

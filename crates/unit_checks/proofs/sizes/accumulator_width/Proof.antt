@@ -1,6 +1,6 @@
 use Rattle.numbers.proofs.Kit.{_≡_, sym, ap, _∙_, ℕ, _*_, arith, eqb, eq-eqb, ne-eqb, le-leb, lt-leb, not-true, not-false, needs}
 use Rattle.machine.specs.Setting.{sew}
-use Rattle.machine.specs.Refusals.{widthOf}
+use Rattle.machine.specs.TransferWords.{widthOf}
 use Rattle.unit_checks.proofs.sizes.accumulator_width.Statement.{statement}
 use Rattle.unit_checks.proofs.sizes.accumulator_width.Tie as tie
 

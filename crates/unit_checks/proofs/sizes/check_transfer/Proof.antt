@@ -4,7 +4,8 @@ use Rattle.machine.specs.Setting.{mill}
 use Rattle.unit_settings.specs.Parts.{ours}
 use Rattle.machine.specs.Geometry.{stateOf}
 use Rattle.machine.specs.Operation.{rowsOf, columnsOf}
-use Rattle.machine.specs.Refusals.{widthOf, fitting}
+use Rattle.machine.specs.Refusals.{fitting}
+use Rattle.machine.specs.TransferWords.{widthOf}
 use Rattle.unit_settings.proofs.TypeLaws.{ready-legal}
 use Rattle.unit_checks.proofs.sizes.check_transfer.Statement.{statement}
 use Rattle.unit_checks.proofs.sizes.check_transfer.Tie as tie

@@ -1,6 +1,6 @@
 use Rattle.numbers.proofs.Kit.{sym, ap, _∙_, arith, needs}
 use Rattle.machine.specs.Operation.{times}
-use Rattle.machine.specs.Refusals.{widthOk}
+use Rattle.machine.specs.ArithmeticWords.{widthOk}
 use Rattle.machine.specs.declared.Factor.{Factor}
 use Rattle.unit_checks.proofs.CheckLaws.{single-ok, double-ok, quadruple-none, quadruple-ok}
 use Rattle.unit_checks.proofs.sizes.factor_width.Statement.{statement}

@@ -1,5 +1,5 @@
 use Rattle.numbers.proofs.Kit.{sym, ap, _∙_, eqb, needs}
-use Rattle.machine.specs.Refusals.{widthOf}
+use Rattle.machine.specs.TransferWords.{widthOf}
 use Rattle.machine.specs.declared.Matrix.{Matrix}
 use Rattle.unit_checks.proofs.sizes.transfer_width.Statement.{statement}
 use Rattle.unit_checks.proofs.sizes.transfer_width.Tie as tie

@@ -1,6 +1,6 @@
 use Rattle.numbers.proofs.Kit.{ap, _∙_, length}
 use Rattle.machine.specs.Answers.{verdict}
-use Rattle.unit_checks.specs.declared.Placed.{Placed}
+use Rattle.unit_geometry.specs.declared.Placed.{Placed}
 use Rattle.unit_checks.proofs.ArithmeticLaws.{accumulator-room, rows-room, searched}
 use Rattle.unit_checks.proofs.written.accumulator_marks.Statement.{statement}
 use Rattle.unit_checks.proofs.written.accumulator_marks.Tie as tie

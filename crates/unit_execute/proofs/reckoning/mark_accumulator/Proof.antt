@@ -1,5 +1,5 @@
 use Rattle.numbers.proofs.Kit.{ap, _∙_, _+_, _*_, _≤_, arith, length, needs}
-use Rattle.unit_checks.specs.declared.Placed.{Placed}
+use Rattle.unit_geometry.specs.declared.Placed.{Placed}
 use Rattle.unit_checks.proofs.ArithmeticLaws.{accumulator-room, rows-room}
 use Rattle.numbers.specs.Tile.{markTile}
 use Rattle.unit_execute.proofs.reckoning.mark_accumulator.Statement.{statement}
