@@ -10,12 +10,16 @@ ghost use Rattle.image.specs.declared.Imaged.the-variants.{Done};
 ghost use Rattle.image_check.specs.Parts.{runsVerdict};
 ghost use Rattle.image_read.specs.Parts.{bodyAt, ones};
 
-// Sets n marks from a place on to a value.
+// Sets n marks from a place on to a value, the first without the loop, which takes a call.
 pub fn put_marks(marks: &mut [u8], at: usize, n: usize, value: u8)
     requires { ⌜ at + n ≤ length (now marks) ⌝ }
     ensures { λ _. ⌜ now (marks .exit) ≡ sets (now (marks .entry)) at (replicate n value) ⌝ }
 {
-    let mut i = 0;
+    if n == 0 {
+        return;
+    }
+    marks[at] = value;
+    let mut i = 1;
     while i < n {
         marks[at + i] = value;
         i += 1;

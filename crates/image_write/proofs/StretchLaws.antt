@@ -4,6 +4,7 @@ use Rattle.numbers.proofs.BlockLaws.{le-or-lt}
 use Rattle.machine.specs.Tests.{all}
 use Rattle.machine.proofs.TestLaws.{all-at}
 use Rattle.unit_address.proofs.TestLaws.{all-same, all-not}
+use Rattle.image_write.specs.Parts.{Stretch}
 
 module _ (ms : List ℕ) (p i value : ℕ) where
   pub block-bad : ¬ (getD ms (p + i) 0 ≡ value) → false ≡ all (i + 1) (λ b. eqb (getD ms (p + b) 0) value)
@@ -40,6 +41,22 @@ joined ms from near value end h g q k l = go (le-or-lt near q)
     go : (near ≤ q) ⊎ (q < near) → getD ms q 0 ≡ value
     go (inl m) = g q m l
     go (inr m) = h q k m
+
+-- marks of the value, then a stretch behind them; one that ends before its own limit ends so before any other
+pub behind : (ms : List ℕ) (from at limit value end : ℕ) → from ≤ at → AllSame ms from at value → Stretch ms at limit value end → Stretch ms from limit value end
+behind ms from at limit value end h same s =
+    record {
+      to = record {
+        from-there = omega (arith, h, s .to .from-there);
+        in-marks = s .to .in-marks;
+        all-same = joined ms from at value end same (s .to .all-same);
+      };
+      within = s .within;
+      other = s .other;
+    }
+
+pub within-limit : (ms : List ℕ) (from near limit value end : ℕ) → end < near → near ≤ limit → Stretch ms from near value end → Stretch ms from limit value end
+within-limit ms from near limit value end h k s = record { to = s .to; within = omega arith; other = λ l. s .other h }
 
 pub below : (a b : ℕ) → a ≤ b → ¬ (a ≡ b) → a < b
 below a b h n = go (le-or-lt b a)

@@ -1,5 +1,5 @@
 -- What the parts of a write find.
-use Rattle.numbers.specs.Kit.{_≡_, cond, List, [], _∷_, ℕ, _*_, _≤_, _<_, eqb, length, getD}
+use Rattle.numbers.specs.Kit.{_≡_, cond, List, [], _∷_, ℕ, zero, suc, _+_, _-_, _*_, _≤_, _<_, eqb, length, getD}
 use Rattle.image.specs.Cells.{runs, cellsOf}
 use Rattle.image.specs.Images.{Header, runsBytes}
 
@@ -26,6 +26,16 @@ pub record Stretch (marks : List ℕ) (from limit value end : ℕ) : Type 0 wher
   pub to : StretchTo marks from value end
   pub within : end ≤ limit
   pub other : end < limit → ¬ (getD marks end 0 ≡ value)
+
+-- a number of n bytes, by its bytes, low byte first
+unfoldable pub fromBytes : ℕ → (ℕ → ℕ) → ℕ
+fromBytes zero byte = 0
+fromBytes (suc n) byte = byte 0 + 256 * fromBytes n (λ i. byte (suc i))
+
+-- 1 for a mark that does not have the value, else 0
+unfoldable pub differs : ℕ → ℕ → ℕ
+differs zero mark = mark
+differs (suc value) mark = 1 - mark
 
 -- the runs that the marks have, whatever the registers hold: their number, and how many bytes they take
 pub record TallyOk (marks : List ℕ) (count size : ℕ) : Type 0 where

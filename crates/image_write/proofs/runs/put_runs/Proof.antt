@@ -36,8 +36,11 @@ returns c =
     let gap = c .before .stretch-end .ensures in
     sym (ap (λ (rs : List Run). sets (l .room) (l .to) (runsBytes rs)) (no-run bs ms n two (l .at) first gap (c .if1 .taken))) ∙ l .inv .3
 
+stretch-end-requires : tie.Need-stretch-end-requires Inv-loop μ-loop
+stretch-end-requires c κs = (omega arith, (c .before .before .before .before .before .pre .1 .1, omega arith))
+
 stretch-end-requires-2 : tie.Need-stretch-end-requires-2 Inv-loop μ-loop
-stretch-end-requires-2 c κs = c .before .stretch-end .ensures .to .in-marks
+stretch-end-requires-2 c κs = (c .before .stretch-end .ensures .to .in-marks, (c .before .before .before .before .before .before .before .pre .1 .1, omega arith))
 
 sub-size : tie.Need-sub-size Inv-loop μ-loop
 sub-size c = omega (arith, c .stretch-end2 .ensures .to .from-there)
@@ -173,7 +176,7 @@ put-runs-spec =
     Inv-loop
     μ-loop
     loop-holds
-    (λ c _. omega arith)
+    stretch-end-requires
     same-length
     returns
     stretch-end-requires-2

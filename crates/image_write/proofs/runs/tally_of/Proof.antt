@@ -33,8 +33,11 @@ returns c =
       few = omega (arith, l .inv .0, l .inv .2);
     }
 
+stretch-end-requires : tie.Need-stretch-end-requires Inv-loop μ-loop
+stretch-end-requires c κs = (omega arith, (c .before .before .before .pre .1, omega arith))
+
 stretch-end-requires-2 : tie.Need-stretch-end-requires-2 Inv-loop μ-loop
-stretch-end-requires-2 c κs = c .before .stretch-end .ensures .to .in-marks
+stretch-end-requires-2 c κs = (c .before .stretch-end .ensures .to .in-marks, (c .before .before .before .before .before .pre .1, omega arith))
 
 sub-size : tie.Need-sub-size Inv-loop μ-loop
 sub-size c = omega (arith, c .stretch-end2 .ensures .to .from-there)
@@ -98,7 +101,7 @@ tally-of-spec =
     Inv-loop
     μ-loop
     loop-holds
-    (λ c _. omega arith)
+    stretch-end-requires
     returns
     stretch-end-requires-2
     sub-size
