@@ -1,6 +1,9 @@
-/* Times the plain C product of 64 in each size, 8 to 32 bits, for the script
-   `emulated`. Prints nanoseconds of a product by the anchor and by the slow
-   loops; exits with 1 if they differ. */
+/* Times plain C products, for the benchmark to run it under emulators.
+
+       emulated SIZE FORMAT...
+
+   prints a line for each format: nanoseconds of the anchor's product of SIZE in each size. A format is
+   100 times the width of the elements of A and B, and the width of those of C, in bits; 0 is floats. */
 
 #define _POSIX_C_SOURCE 199309L
 
@@ -8,15 +11,32 @@
 
 #include <stdint.h>
 #include <stdio.h>
-#include <string.h>
+#include <stdlib.h>
 #include <time.h>
 
-enum { SIZE = 64 };
+enum { MOST = 256 };
 
-typedef void product(int, int, size_t, size_t, size_t, const void *,
-                     const void *, void *);
+/* Each 8 bytes an element at the most. Random bytes; as floats, numbers near 1. */
+static uint64_t a[MOST * MOST], b[MOST * MOST], c[MOST * MOST];
 
-static int8_t a[SIZE * SIZE], b[SIZE * SIZE];
+static void fill(uint64_t *matrix, int is_float)
+{
+    uint32_t seed = 1;
+    uint32_t *halves = (uint32_t *)matrix;
+    for (size_t i = 0; i < 2 * MOST * MOST; i++) {
+        seed = 1664525 * seed + 1013904223;
+        halves[i] = is_float ? 0x3f000000 + (seed >> 9) : seed ^ seed >> 16;
+    }
+}
+
+static void multiply(int format, size_t size)
+{
+    if (format == 0) {
+        anchor_float_product(size, size, size, (float *)a, (float *)b, (float *)c);
+    } else {
+        anchor_product(format / 100, format % 100, size, size, size, a, b, c);
+    }
+}
 
 /* The processor's time that this process took, in nanoseconds: other work on
    the machine is not counted. */
@@ -28,12 +48,12 @@ static double now(void)
 }
 
 /* Nanoseconds of a product: a batch of at least 40 ms. */
-static double nanoseconds(product *multiply, int32_t *c)
+static double nanoseconds(int format, size_t size)
 {
     for (long repeats = 1;; repeats *= 2) {
         double started = now();
         for (long i = 0; i < repeats; i++) {
-            multiply(8, 32, SIZE, SIZE, SIZE, a, b, c);
+            multiply(format, size);
         }
         double time = now() - started;
         if (time >= 40e6) {
@@ -42,17 +62,17 @@ static double nanoseconds(product *multiply, int32_t *c)
     }
 }
 
-int main(void)
+int main(int count, char **words)
 {
-    static int32_t c[SIZE * SIZE], slow_c[SIZE * SIZE];
-    uint32_t seed = 1;
-    for (int i = 0; i < SIZE * SIZE; i++) {
-        seed = 1664525 * seed + 1013904223;
-        a[i] = (int8_t)(seed >> 24);
-        b[i] = (int8_t)(seed >> 16);
+    size_t size = count < 2 ? 0 : (size_t)atoi(words[1]);
+    if (size < 1 || size > MOST) {
+        return 2;
     }
-    double anchor = nanoseconds(anchor_product, c);
-    double slow = nanoseconds(slow_product, slow_c);
-    printf("%.1f %.1f\n", anchor, slow);
-    return memcmp(c, slow_c, sizeof c) != 0;
+    for (int i = 2; i < count; i++) {
+        int format = atoi(words[i]);
+        fill(a, format == 0);
+        fill(b, format == 0);
+        printf("%.1f\n", nanoseconds(format, size));
+    }
+    return 0;
 }

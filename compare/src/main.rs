@@ -1,11 +1,13 @@
 //! Holds the static library to the second program, and times it.
 //!
 //!     compare [long|bench] [--seed N] [--suite NAME [--case N]]
+//!     compare picture FILE
 //!
 //! Without a word: the suites at their usual length. `long`: ten million steps
 //! and a hundred thousand runs, every word as a line. `bench`: one table of times, with
-//! `--suite lines` that of lines of assembler text alone. A reported
-//! difference names its suite, case and seed, which repeat it.
+//! `--suite lines` that of lines of assembler text alone, with `--suite peers` and `--suite aims`
+//! those of the same names. A reported difference names its suite, case and seed, which repeat it.
+//! `picture` draws the table of peers that it reads from standard input.
 
 mod benchmark;
 mod boundaries;
@@ -141,20 +143,29 @@ struct Arguments {
     long: bool,
     bench: bool,
     speed: bool,
+    picture: Option<String>,
     seed: u64,
     suite: Option<String>,
     case: Option<u64>,
 }
 
 fn arguments() -> Option<Arguments> {
-    let mut found =
-        Arguments { long: false, bench: false, speed: false, seed: 1, suite: None, case: None };
+    let mut found = Arguments {
+        long: false,
+        bench: false,
+        speed: false,
+        picture: None,
+        seed: 1,
+        suite: None,
+        case: None,
+    };
     let mut words = std::env::args().skip(1);
     while let Some(word) = words.next() {
         match word.as_str() {
             "long" => found.long = true,
             "bench" => found.bench = true,
             "speed" => found.speed = true,
+            "picture" => found.picture = Some(words.next()?),
             "--seed" => found.seed = words.next()?.parse().ok()?,
             "--suite" => found.suite = Some(words.next()?),
             "--case" => found.case = Some(words.next()?.parse().ok()?),
@@ -167,12 +178,25 @@ fn arguments() -> Option<Arguments> {
 fn main() {
     let Some(arguments) = arguments() else {
         eprintln!("usage: compare [long|bench|speed] [--seed N] [--suite NAME [--case N]]");
+        eprintln!("       compare picture FILE");
         std::process::exit(2);
     };
     if arguments.bench {
         match arguments.suite.as_deref() {
             Some("lines") => benchmark::lines::table(),
+            Some("peers") => benchmark::peers::table(),
+            Some("aims") => benchmark::aims::table(),
             _ => benchmark::tables(),
+        }
+        return;
+    }
+    if let Some(file) = &arguments.picture {
+        let drawn = std::io::read_to_string(std::io::stdin())
+            .map_err(|error| error.to_string())
+            .and_then(|text| benchmark::picture::draw(&text, file));
+        if let Err(error) = drawn {
+            eprintln!("{error}");
+            std::process::exit(1);
         }
         return;
     }

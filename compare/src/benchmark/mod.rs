@@ -1,6 +1,9 @@
 //! Times through the C interface, all from one run. Nothing here can fail.
 
+pub mod aims;
 pub mod lines;
+pub mod peers;
+pub mod picture;
 pub mod runs;
 pub mod steps;
 
@@ -19,6 +22,8 @@ pub fn tables() {
     steps::table();
     lines::table();
     runs::table();
+    peers::table();
+    aims::table();
 }
 
 /// Keeps the core busy until its clock has risen.

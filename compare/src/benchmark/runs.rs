@@ -4,6 +4,7 @@ use super::nanoseconds;
 use super::steps::{full_bench, machine_name, near_one, LARGE, LARGER, LARGE_TO_64, SMALL};
 use crate::lent::{library_run_start, library_run_turn, library_run_turns, second_run_start, Lent};
 use crate::library;
+use crate::random::Random;
 use crate::runs::plans::{packed_plan, packed_plan_of};
 use crate::states::machines::{WIDTHS, WIDTHS_TO_64};
 use model::{Lengths, Matrix, Plan, A_TRANSPOSED, FLOAT, PRODUCT};
@@ -12,11 +13,14 @@ use std::time::Instant;
 
 /// A plain C product of c/baseline.c: widths of the elements and of the sums in
 /// bits, m, k, n, and the three matrices.
-type PlainProduct =
+pub type PlainProduct =
     unsafe extern "C" fn(i32, i32, usize, usize, usize, *const u8, *const u8, *mut u8);
 
+/// One of floats: m, k, n, and the three matrices.
+pub type PlainFloats = unsafe extern "C" fn(usize, usize, usize, *const f32, *const f32, *mut f32);
+
 extern "C" {
-    fn anchor_product(
+    pub fn anchor_product(
         width: i32,
         output: i32,
         m: usize,
@@ -36,7 +40,7 @@ extern "C" {
         b: *const u8,
         c: *mut u8,
     );
-    fn anchor_float_product(
+    pub fn anchor_float_product(
         m: usize,
         k: usize,
         n: usize,
@@ -146,33 +150,39 @@ fn turns_on_the_smallest_machine() {
         ((8, 4), [64, 64, 64], "64, 64, 64", "2, 2, 8"),
     ] {
         let bits = width_name(widths);
-        let (plan, memory) = packed_plan(widths, sizes);
-        let mut lent = plan_bench(SMALL, &plan, memory);
-        let started = started_run(&plan, &mut lent);
-        let mut turns = 0;
-        let together = nanoseconds(|| {
-            let mut run = started.clone();
-            turns = library_run_turns(u64::MAX, &mut run, &mut lent);
-        });
-        let singly = nanoseconds(|| {
-            let mut run = started.clone();
-            while library_run_turn(&mut run, &mut lent) == 0 {}
-        });
-        let [together, singly] = [together, singly].map(|time| time / turns as f64);
+        let (turns, together, singly) = turn_times(SMALL, widths, sizes);
         println!("{name:12}{bits:>12}{tiles:>12}{turns:>10}{together:>12.1}{singly:>12.1}");
     }
 }
 
-fn width_name((sew, factor): (u64, u64)) -> String {
+/// The turns of a plan, and nanoseconds of one: by one run_turns for all, and by a run_turn for each.
+pub fn turn_times(machine: Lengths, widths: (u64, u64), sizes: [u64; 3]) -> (u64, f64, f64) {
+    let (plan, memory) = packed_plan(widths, sizes);
+    let mut lent = plan_bench(machine, &plan, memory);
+    let started = started_run(&plan, &mut lent);
+    let mut turns = 0;
+    let together = nanoseconds(|| {
+        let mut run = started.clone();
+        turns = library_run_turns(u64::MAX, &mut run, &mut lent);
+    });
+    let singly = nanoseconds(|| {
+        let mut run = started.clone();
+        while library_run_turn(&mut run, &mut lent) == 0 {}
+    });
+    (turns, together / turns as f64, singly / turns as f64)
+}
+
+pub fn width_name((sew, factor): (u64, u64)) -> String {
     format!("{sew} to {}", sew * factor)
 }
 
-/// A bench for a plan: A and B filled, C cleared.
-fn plan_bench(machine: Lengths, plan: &Plan, memory: usize) -> Lent {
-    let mut lent = full_bench(machine, 0, memory);
-    if plan.kind == FLOAT {
-        lent.memory = near_one(memory);
-    }
+/// A bench for a plan: A and B filled, with the same on each machine, C cleared.
+pub fn plan_bench(machine: Lengths, plan: &Plan, memory: usize) -> Lent {
+    let mut lent = full_bench(machine, 0, 0);
+    lent.memory = match plan.kind {
+        FLOAT => near_one(memory),
+        _ => Random::for_case(1, "bench matrices", 0).bytes(memory),
+    };
     lent.memory[plan.c as usize..].fill(0);
     lent
 }
@@ -202,7 +212,7 @@ fn best<T: ?Sized>(state: &mut T, prepare: impl Fn(&mut T), call: impl Fn(&mut T
 }
 
 /// Nanoseconds of all turns of a plan, and what they leave.
-fn library_product(machine: Lengths, plan: &Plan, memory: usize) -> (f64, Lent) {
+pub fn library_product(machine: Lengths, plan: &Plan, memory: usize) -> (f64, Lent) {
     let mut lent = plan_bench(machine, plan, memory);
     let started = started_run(plan, &mut lent);
     let mut state = (lent, started.clone());
@@ -220,7 +230,7 @@ fn library_product(machine: Lengths, plan: &Plan, memory: usize) -> (f64, Lent) 
 }
 
 /// Nanoseconds of a plain C product on the same matrices, and the memory it leaves.
-fn plain_product(product: PlainProduct, plan: &Plan, lent: &Lent) -> (f64, Vec<u8>) {
+pub fn plain_product(product: PlainProduct, plan: &Plan, lent: &Lent) -> (f64, Vec<u8>) {
     let memory = lent.memory.len();
     // Elements of more than a byte stand at multiples of their width.
     let mut aligned = vec![0u64; memory.div_ceil(8)];
@@ -368,7 +378,8 @@ fn float_runs() {
         let (plan, memory) = packed_plan_of(FLOAT, (32, 1), [size; 3]);
         let (time, after) = library_product(LARGE, &plan, memory);
         let (integer, _) = library_product(LARGE, &Plan { kind: PRODUCT, ..plan }, memory);
-        let (anchor, by_anchor) = float_anchor(&plan, &plan_bench(LARGE, &plan, memory));
+        let (anchor, by_anchor) =
+            plain_floats(anchor_float_product, &plan, &plan_bench(LARGE, &plan, memory));
         let [ours, plain] = [&after.memory, &by_anchor]
             .map(|memory| model::elements(plan.placed(Matrix::C), memory));
         let [time, integer, anchor] = [time, integer, anchor].map(|time| time / count);
@@ -377,8 +388,8 @@ fn float_runs() {
     }
 }
 
-/// Nanoseconds of the anchor's loops on floats, and the memory they leave.
-fn float_anchor(plan: &Plan, lent: &Lent) -> (f64, Vec<u8>) {
+/// Nanoseconds of a plain C product of floats on the same matrices, and the memory it leaves.
+pub fn plain_floats(product: PlainFloats, plan: &Plan, lent: &Lent) -> (f64, Vec<u8>) {
     let [m, k, n] = [plan.m, plan.k, plan.n].map(|size| size as usize);
     let mut numbers: Vec<f32> = lent
         .memory
@@ -392,7 +403,7 @@ fn float_anchor(plan: &Plan, lent: &Lent) -> (f64, Vec<u8>) {
         |numbers| unsafe {
             let start = numbers.as_mut_ptr();
             let [a, b, c] = [plan.a, plan.b, plan.c].map(|address| start.add(address as usize / 4));
-            anchor_float_product(m, k, n, a, b, c)
+            product(m, k, n, a, b, c)
         },
     );
     (time, numbers.iter().flat_map(|number| number.to_bits().to_le_bytes()).collect())
