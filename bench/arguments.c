@@ -20,7 +20,7 @@ static size_t argument_at(const struct session *session, unsigned index)
 }
 
 /* Prints the refusal with a sentence about this word of the line. Returns 1. */
-static int blame(const struct session *session, const char *what, unsigned index, const char *format, ...)
+static int __attribute__((format(printf, 4, 5))) blame(const struct session *session, const char *what, unsigned index, const char *format, ...)
 {
     const struct reader *reader = &session->reader;
     va_list list;

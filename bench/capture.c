@@ -10,6 +10,7 @@
 int capture_open(struct capture *capture)
 {
     capture->output = -1;
+    capture->unwritten = 0;
     capture->file = tmpfile();
     return capture->file != NULL;
 }
@@ -25,8 +26,10 @@ void capture_begin(struct capture *capture)
 {
     fflush(stdout);
     capture->output = dup(STDOUT_FILENO);
-    if (capture->output >= 0)
-        dup2(fileno(capture->file), STDOUT_FILENO);
+    if (capture->output >= 0 && dup2(fileno(capture->file), STDOUT_FILENO) < 0) {
+        close(capture->output);
+        capture->output = -1;
+    }
 }
 
 /* All that the file holds; then it is empty. */
@@ -41,26 +44,27 @@ static char *take_all(int file, size_t *length)
             break;
         *length += (size_t)some;
     }
-    if (ftruncate(file, 0) != 0 || lseek(file, 0, SEEK_SET) != 0) {
-        free(text);
-        return NULL;
-    }
-    return text;
+    if (ftruncate(file, 0) == 0 && lseek(file, 0, SEEK_SET) == 0 && *length == (size_t)end)
+        return text;
+    free(text);
+    return NULL;
 }
 
 char *capture_end(struct capture *capture, size_t *length)
 {
     char *text;
+    int kept;
     *length = 0;
     if (capture->output < 0)
         return NULL;
-    fflush(stdout);
+    kept = fflush(stdout) == 0 && !ferror(stdout);
     dup2(capture->output, STDOUT_FILENO);
     close(capture->output);
     text = take_all(fileno(capture->file), length);
-    if (text != NULL && !write_all(STDOUT_FILENO, (const uint8_t *)text, *length)) {
-        free(text);
-        text = NULL;
-    }
-    return text;
+    if (text == NULL || !write_all(STDOUT_FILENO, (const uint8_t *)text, *length))
+        capture->unwritten = 1;
+    if (kept)
+        return text;
+    free(text);
+    return NULL;
 }

@@ -146,11 +146,11 @@ static uint64_t single_turn(struct session *session)
     return device->result;
 }
 
-/* Takes the turns one by one, to trace or to observe each; how many were done. */
+/* Takes the turns one by one, to trace or to observe each, as long as the trace can be written; how many were done. */
 static uint64_t single_turns(struct session *session, uint64_t all)
 {
     uint64_t done = 0;
-    while (done < all && session->events < session->last_event && single_turn(session) == 0)
+    while (done < all && session->events < session->last_event && !(session->trace && ferror(stdout)) && single_turn(session) == 0)
         done++;
     return done;
 }

@@ -31,7 +31,7 @@ static int has_room(struct writing *writing, size_t more)
 }
 
 /* Adds to the text of the line. */
-static void put(struct writing *writing, const char *format, ...)
+static void __attribute__((format(printf, 2, 3))) put(struct writing *writing, const char *format, ...)
 {
     va_list list, again;
     int length;

@@ -16,15 +16,16 @@ static void print_line(void *self, unsigned depth, const char *text, const struc
 /* The number that a byte was written with, if it still is there as a whole; else the byte. */
 static struct origin *number_with(const struct session *session, const struct place *byte, int whole)
 {
-    struct origin *root = origin_of(session, byte, BYTE, whole), *number = NULL;
-    if (root != NULL && root->how == PART_OF)
-        number = origin_of(session, &root->sources[0]->place, BYTE, whole);
-    if (number != NULL && number->how != IN_PARTS) {
-        origin_free(root);
-        return number;
+    struct origin *root = origin_of(session, byte, BYTE, whole), *number;
+    if (root == NULL || root->how != PART_OF)
+        return root;
+    number = origin_of(session, &root->sources[0]->place, BYTE, whole);
+    if (number != NULL && number->how == IN_PARTS) {
+        origin_free(number);
+        return root;
     }
-    origin_free(number);
-    return root;
+    origin_free(root);
+    return number; /* NULL if there is no room */
 }
 
 static int explain_place(struct session *session, const struct place *place, enum form form, int whole)

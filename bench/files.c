@@ -4,6 +4,7 @@
 
 #include <errno.h>
 #include <fcntl.h>
+#include <signal.h>
 #include <stdlib.h>
 #include <string.h>
 #include <sys/stat.h>
@@ -85,15 +86,6 @@ int write_all(int file, const uint8_t *bytes, size_t length)
     return 1;
 }
 
-/* Closes a file; `done` if that, and all before it, is done. The first reason why it is not stays. */
-static int close_file(int file, int done)
-{
-    int reason = errno, closed = close(file) == 0;
-    if (!done)
-        errno = reason;
-    return done && closed;
-}
-
 /* A name for a new file in the folder of a path, to be completed by mkstemp. */
 static char *name_beside(const char *path)
 {
@@ -108,28 +100,6 @@ static char *name_beside(const char *path)
     return beside;
 }
 
-/* Writes a new file of this name, on the disk before it counts as written. */
-static int write_new(char *name, mode_t mode, const uint8_t *bytes, size_t length)
-{
-    int file = mkstemp(name);
-    return file >= 0 && close_file(file, fchmod(file, mode) == 0 && write_all(file, bytes, length) && fsync(file) == 0);
-}
-
-static int write_beside(const char *path, mode_t mode, const uint8_t *bytes, size_t length)
-{
-    char *beside = name_beside(path);
-    int done, reason;
-    if (beside == NULL)
-        return 0;
-    done = write_new(beside, mode, bytes, length) && rename(beside, path) == 0;
-    reason = errno;
-    if (!done)
-        unlink(beside);
-    free(beside);
-    errno = reason;
-    return done;
-}
-
 /* The mode that a new file gets. */
 static mode_t new_mode(void)
 {
@@ -138,24 +108,126 @@ static mode_t new_mode(void)
     return 0666 & ~mask;
 }
 
-/* A plain file that is there is replaced where a link leads to, if it may be written. */
-static int replace_file(const char *path, mode_t mode, const uint8_t *bytes, size_t length)
+/* Whether a path, as /dev/stdout, leads to where standard output goes. */
+static int is_output(const struct stat *there)
 {
-    char *real = access(path, W_OK) == 0 ? realpath(path, NULL) : NULL;
-    int done = real != NULL && write_beside(real, mode & 0777, bytes, length), reason = errno;
-    free(real);
+    struct stat output;
+    return fstat(STDOUT_FILENO, &output) == 0 && output.st_dev == there->st_dev && output.st_ino == there->st_ino;
+}
+
+/* A new file that is to have the place of the target. */
+static int open_beside(struct new_file *new, mode_t mode)
+{
+    char *beside = new->target == NULL ? NULL : name_beside(new->target);
+    int file = beside == NULL ? -1 : mkstemp(beside);
+    if (file < 0) {
+        free(beside);
+        return -1;
+    }
+    new->beside = beside;
+    if (fchmod(file, mode) == 0)
+        return file;
+    close(file);
+    return -1;
+}
+
+/* The descriptor that is written to: of a new file if there is none at the path, and no link that leads nowhere, or a plain file that may be written,
+ * which is replaced where a link leads to; or of what is there. */
+static int open_for(struct new_file *new, const char *path)
+{
+    struct stat there;
+    if (stat(path, &there) != 0) {
+        if (errno != ENOENT || lstat(path, &there) == 0)
+            return -1;
+        new->target = strdup(path);
+        return open_beside(new, new_mode());
+    }
+    if (is_output(&there))
+        return fflush(stdout) == 0 ? dup(STDOUT_FILENO) : -1;
+    if (!S_ISREG(there.st_mode))
+        return open(path, O_WRONLY);
+    if (access(path, W_OK) != 0)
+        return -1;
+    new->target = realpath(path, NULL);
+    return open_beside(new, there.st_mode & 0777);
+}
+
+/* Leaves nothing behind but the reason. */
+static void forget(struct new_file *new)
+{
+    int reason = errno;
+    if (new->beside != NULL)
+        unlink(new->beside);
+    free(new->beside);
+    free(new->target);
     errno = reason;
+}
+
+int new_file_open(struct new_file *new, const char *path)
+{
+    int file, reason;
+    memset(new, 0, sizeof *new);
+    file = open_for(new, path);
+    new->file = file < 0 ? NULL : fdopen(file, "wb");
+    if (new->file != NULL)
+        return 1;
+    reason = errno;
+    if (file >= 0)
+        close(file);
+    errno = reason;
+    forget(new);
+    return 0;
+}
+
+/* On the disk before it counts as written. */
+int new_file_close(struct new_file *new, int whole)
+{
+    int done = whole && fflush(new->file) == 0 && !ferror(new->file) && (new->beside == NULL || fsync(fileno(new->file)) == 0);
+    int reason = errno, closed = fclose(new->file) == 0;
+    if (!done)
+        errno = reason;
+    done = done && closed && (new->beside == NULL || rename(new->beside, new->target) == 0);
+    if (done) {
+        free(new->beside);
+        new->beside = NULL;
+    }
+    forget(new);
     return done;
 }
 
 int write_file(const char *path, const uint8_t *bytes, size_t length)
 {
-    struct stat there;
+    struct new_file new;
+    if (!new_file_open(&new, path))
+        return 0;
+    fwrite(bytes, 1, length, new.file);
+    return new_file_close(&new, 1);
+}
+
+/* ---- standard input, output and error ---- */
+
+/* The signals of a write that cannot be, and what they did at the start. */
+static const int of_writes[] = {SIGPIPE, SIGXFSZ};
+static struct sigaction handed[sizeof of_writes / sizeof of_writes[0]];
+
+/* What is closed becomes a file that fails as that does: one that is only written as standard input, one that is only read as the others. */
+void hold_standard_files(void)
+{
+    struct sigaction ignored;
+    size_t i;
     int file;
-    if (stat(path, &there) != 0) /* not there, and no link that leads nowhere */
-        return errno == ENOENT && lstat(path, &there) != 0 && write_beside(path, new_mode(), bytes, length);
-    if (S_ISREG(there.st_mode))
-        return replace_file(path, there.st_mode, bytes, length);
-    file = open(path, O_WRONLY);
-    return file >= 0 && close_file(file, write_all(file, bytes, length));
+    for (file = STDIN_FILENO; file <= STDERR_FILENO; file++)
+        if (fcntl(file, F_GETFD) < 0)
+            open("/dev/null", file == STDIN_FILENO ? O_WRONLY : O_RDONLY);
+    memset(&ignored, 0, sizeof ignored);
+    ignored.sa_handler = SIG_IGN;
+    for (i = 0; i < sizeof of_writes / sizeof of_writes[0]; i++)
+        sigaction(of_writes[i], &ignored, &handed[i]);
+}
+
+void hand_on_standard_files(void)
+{
+    size_t i;
+    for (i = 0; i < sizeof of_writes / sizeof of_writes[0]; i++)
+        sigaction(of_writes[i], &handed[i], NULL);
 }

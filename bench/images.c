@@ -1,9 +1,11 @@
 /* Commands that hand the machine over: save, restore and salvage. */
 #include "commands.h"
 
+#include <errno.h>
 #include <inttypes.h>
 #include <stdio.h>
 #include <stdlib.h>
+#include <string.h>
 
 #include "files.h"
 #include "history.h"
@@ -17,13 +19,14 @@ static int save_file(struct session *session, size_t at, const char *path)
 {
     size_t length;
     uint8_t *image = device_image(&session->device, &length);
-    int written;
+    int written, reason;
     if (image == NULL)
         return not_now(session, "no image of the machine can be made");
     written = write_file(path, image, length);
+    reason = errno;
     free(image);
     if (!written)
-        return refuse(&session->reader, at, "this file cannot be written");
+        return refuse(&session->reader, at, "this file cannot be written: %s", strerror(reason));
     printf("%s:%lu: save: %lu bytes\n", session->reader.path, session->reader.line, (unsigned long)length);
     return 1;
 }

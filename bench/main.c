@@ -1,11 +1,13 @@
 /* bodlarina-bench: drives a machine from a script, or from what is typed. See man/bodlarina-bench.1. */
 #define _POSIX_C_SOURCE 200112L
 
+#include <errno.h>
 #include <stdio.h>
 #include <string.h>
 #include <unistd.h>
 
 #include "commands.h"
+#include "files.h"
 #include "options.h"
 #include "picture.h"
 #include "prompt.h"
@@ -32,9 +34,15 @@ static int write_files(const struct session *session, const struct report *repor
         fprintf(stderr, "%s: no machine is started, so there are no marks to draw\n", session->reader.path);
         return 0;
     }
-    return (options->marks == NULL || write_picture(&session->device, options->marks))
-           && (options->report == NULL || report_write(report, session, options->report));
+    if (options->marks != NULL && !write_picture(&session->device, options->marks)) {
+        fprintf(stderr, "%s: the picture cannot be written: %s\n", options->marks, strerror(errno));
+        return 0;
+    }
+    return options->report == NULL || report_write(report, session, options->report);
 }
+
+/* Whether something could not be printed. */
+static int output_failed(const struct report *report) { return ferror(stdout) || report->capture.unwritten; }
 
 static int run_script(struct session *session, struct report *report, const struct options *options)
 {
@@ -43,9 +51,11 @@ static int run_script(struct session *session, struct report *report, const stru
         return BAD_SCRIPT;
     session->trace = options->trace;
     session->remembers |= options->report != NULL;
-    while (next_line(&session->reader))
+    while (!output_failed(report) && next_line(&session->reader))
         if (!(options->report == NULL ? run_line(session) : report_line(report, session)))
             return BAD_SCRIPT;
+    if (output_failed(report))
+        return BAD_SCRIPT;
     return write_files(session, report, options) ? end_script(session) : BAD_SCRIPT;
 }
 
@@ -64,16 +74,14 @@ static int run_typed(struct session *session, struct report *report, const struc
 static int run(const struct options *options)
 {
     static struct session session;
-    struct report report;
+    static struct report report;
     int typed = options->script == NULL && isatty(STDIN_FILENO) == 1, status;
-    if (!report_open(&report)) {
-        complain(&bench_program, "there is no room for a report");
+    if (options->report != NULL && !report_open(&report))
         return BAD_SCRIPT;
-    }
     status = typed ? run_typed(&session, &report, options) : run_script(&session, &report, options);
     session_close(&session);
     report_close(&report);
-    if (fflush(stdout) == 0 && !ferror(stdout))
+    if (fflush(stdout) == 0 && !output_failed(&report))
         return status;
     complain(&bench_program, "the output cannot be written");
     return BAD_SCRIPT;
@@ -83,6 +91,7 @@ int main(int count, char **words)
 {
     struct options options;
     int said;
+    hold_standard_files();
     if (count > 1 && asked(&bench_program, words[1], &said))
         return said ? HELD : BAD_SCRIPT;
     if (!read_options(count, words, &options) || !library_fits(&bench_program))

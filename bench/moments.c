@@ -309,10 +309,11 @@ static void write_operands(struct moments *moments, const struct device *device,
 }
 
 /* A text that another function writes, without the characters at its front. */
-static void write_made(FILE *file, const char *name, char *text, size_t front)
+static void write_made(struct moments *moments, const char *name, char *text, size_t front)
 {
+    moments->no_room |= text == NULL;
     if (text != NULL && strlen(text) > front)
-        json_text_of(file, name, text + front);
+        json_text_of(moments->file, name, text + front);
     free(text);
 }
 
@@ -341,10 +342,10 @@ static char *answer_text(const struct device *device)
     return text;
 }
 
-static void write_answer(FILE *file, const struct device *device)
+static void write_answer(struct moments *moments, const struct device *device)
 {
-    json_number_of(file, "answer", BODLARINA_ANSWER(device->result));
-    write_made(file, "sentence", answer_text(device), 0);
+    json_number_of(moments->file, "answer", BODLARINA_ANSWER(device->result));
+    write_made(moments, "sentence", answer_text(device), 0);
 }
 
 /* ---- moments ---- */
@@ -390,9 +391,9 @@ static void write_step(struct moments *moments, const struct device *device, con
     json_number_of(file, "step", event->step);
     json_text_of(file, "word", word);
     json_text_of(file, "text", text);
-    write_answer(file, device);
+    write_answer(moments, device);
     if (device->result == 0)
-        write_made(file, "changed", changes_text(device, event), strlen("; "));
+        write_made(moments, "changed", changes_text(device, event), strlen("; "));
     write_operands(moments, device, event);
     if (device->result == 0 && moments->flows)
         write_transfer(moments);
@@ -438,12 +439,12 @@ void moment_line(void *self, const struct session *session)
     const struct reader *reader = &session->reader;
     int refused = moments->steps == 0 && device->answers != moments->answers && device->result != 0;
     if (moments->steps == 0 && (refused || changed(moments, device))) {
-        moments->refused += refused;
+        moments->refused += (unsigned long)refused;
         begin_moment(moments, reader->line);
         json_name(moments->file, "text");
         json_text(moments->file, reader->text + session->command_at, reader->line_end - session->command_at);
         if (refused)
-            write_answer(moments->file, device);
+            write_answer(moments, device);
         write_entered(moments);
         end_moment(moments, device);
     }

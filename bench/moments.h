@@ -17,6 +17,7 @@ struct moments {
     FILE *file;
     const struct window *window;
     const uint8_t *kept; /* of each step, by its number, whether it is a moment; NULL if each is */
+    int no_room;         /* for a text of a moment */
 
     unsigned long count;    /* of moments */
     unsigned long left;     /* steps left out since the last moment */

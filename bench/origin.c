@@ -209,7 +209,8 @@ static void add_parts(struct tree *tree, struct origin *origin, const struct tra
 static void add_found(struct tree *tree, struct origin *origin, const struct track *track)
 {
     const struct writer *first = &track->last[0];
-    if (tree->count >= ORIGINS_MOST)
+    tree->no_room |= track->no_room; /* then not all of its writes are there */
+    if (tree->no_room || tree->count >= ORIGINS_MOST)
         return;
     if (written_together(track, 0) < track->place.bytes)
         add_parts(tree, origin, track);
@@ -274,10 +275,9 @@ static void after_step(void *self, const struct session *session, const struct e
 static int by_place(const void *a, const void *b)
 {
     const struct place *first = &((const struct search *)a)->origin->place, *second = &((const struct search *)b)->origin->place;
-    uint64_t x[5], y[5];
+    const uint64_t x[5] = {first->space, first->reg, first->row, first->at, first->bytes};
+    const uint64_t y[5] = {second->space, second->reg, second->row, second->at, second->bytes};
     unsigned i = 0;
-    x[0] = first->space, x[1] = first->reg, x[2] = first->row, x[3] = first->at, x[4] = first->bytes;
-    y[0] = second->space, y[1] = second->reg, y[2] = second->row, y[3] = second->at, y[4] = second->bytes;
     while (i < 4 && x[i] == y[i])
         i++;
     return (x[i] > y[i]) - (x[i] < y[i]);

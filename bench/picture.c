@@ -3,6 +3,8 @@
 #include <inttypes.h>
 #include <stdio.h>
 
+#include "files.h"
+
 /* Lengths of the drawing. A cell is a byte; a register has room for its name, the numbers of its columns and those of its rows. */
 enum { CELL = 14, CROSS = 8, LEFT = 26, HEAD = 34, GAP = 20, MARGIN = 16, LEGEND = 76, LINE_REGISTERS = 4, WIDTH_LEAST = 640 };
 
@@ -220,14 +222,9 @@ static void draw(FILE *file, const struct device *device)
 
 int write_picture(const struct device *device, const char *path)
 {
-    FILE *file = fopen(path, "w");
-    int written = 0;
-    if (file != NULL) {
-        draw(file, device);
-        written = !ferror(file);
-        written = fclose(file) == 0 && written;
-    }
-    if (!written)
-        fprintf(stderr, "%s: the picture cannot be written\n", path);
-    return written;
+    struct new_file picture;
+    if (!new_file_open(&picture, path))
+        return 0;
+    draw(picture.file, device);
+    return new_file_close(&picture, 1);
 }

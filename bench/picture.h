@@ -4,7 +4,7 @@
 
 #include "device.h"
 
-/* 0 and a message if the file can't be written. */
+/* 0, and the reason in errno, if the file can't be written; it then is as it was. */
 int write_picture(const struct device *device, const char *path);
 
 #endif

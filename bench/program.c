@@ -7,7 +7,7 @@
 
 #include "bodlarina.h"
 
-static void write_complaint(const struct program *program, const char *format, va_list list)
+static void __attribute__((format(printf, 2, 0))) write_complaint(const struct program *program, const char *format, va_list list)
 {
     fprintf(stderr, "%s: ", program->name);
     vfprintf(stderr, format, list);

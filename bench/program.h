@@ -15,10 +15,10 @@ int say(const struct program *program, const char *text);
 int asked(const struct program *program, const char *word, int *said);
 
 /* Prints the program's name and a sentence to standard error. Returns 0. */
-int complain(const struct program *program, const char *format, ...);
+int complain(const struct program *program, const char *format, ...) __attribute__((format(printf, 2, 3)));
 
 /* The same of the command line, with the usage below it. Returns 0. */
-int misused(const struct program *program, const char *format, ...);
+int misused(const struct program *program, const char *format, ...) __attribute__((format(printf, 2, 3)));
 
 /* Whether the library that is linked is the one of the header; else a complaint. */
 int library_fits(const struct program *program);

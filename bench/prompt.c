@@ -1,5 +1,6 @@
 #include "prompt.h"
 
+#include <errno.h>
 #include <limits.h>
 #include <stdio.h>
 #include <stdlib.h>
@@ -73,7 +74,7 @@ static int run_save_script(struct session *session)
     if (!take_file(session, &at, path))
         return 0;
     if (!write_file(path, (const uint8_t *)reader->text, reader->line_start))
-        return refuse(reader, at, "this file cannot be written");
+        return refuse(reader, at, "this file cannot be written: %s", strerror(errno));
     printf("save-script: %lu line%s\n", reader->line - 1, reader->line == 2 ? "" : "s");
     return 1;
 }

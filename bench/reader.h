@@ -61,7 +61,7 @@ int take_mark(struct reader *reader, char mark, const char *what);
 int take_end(struct reader *reader);
 
 /* Prints file, line, column and the sentence to standard error. Returns 0. */
-int refuse(const struct reader *reader, size_t at, const char *format, ...);
+int refuse(const struct reader *reader, size_t at, const char *format, ...) __attribute__((format(printf, 3, 4)));
 
 /* A number, decimal or 0x and hexadecimal digits, a minus before it where it may be negative. Each refuses one out of range. */
 int take_unsigned(struct reader *reader, const char *what, uint64_t most, uint64_t *value);

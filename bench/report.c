@@ -2,6 +2,7 @@
 
 #include "report.h"
 
+#include <errno.h>
 #include <inttypes.h>
 #include <limits.h>
 #include <stdlib.h>
@@ -12,6 +13,7 @@
 #include "files.h"
 #include "json.h"
 #include "moments.h"
+#include "options.h"
 #include "page.h"
 
 /* With more steps, those are kept that touched what is shown. */
@@ -22,7 +24,7 @@
 int report_open(struct report *report)
 {
     memset(report, 0, sizeof *report);
-    return capture_open(&report->capture);
+    return capture_open(&report->capture) || complain(&bench_program, "there is no room for a report: %s", strerror(errno));
 }
 
 void report_close(struct report *report)
@@ -56,11 +58,12 @@ int report_line(struct report *report, struct session *session)
     struct line_report *line = line_at(report, session->reader.line);
     int accepted;
     if (line == NULL)
-        return run_line(session);
+        return refuse(&session->reader, session->reader.at, "there is no room for what is reported of this line");
     capture_begin(&report->capture);
     accepted = run_line(session);
     free(line->printed); /* of a line that was taken back */
     line->printed = capture_end(&report->capture, &line->length);
+    report->lost |= line->printed == NULL;
     line->refused = session->device.answers != answers && session->device.result != 0;
     line->failed = session->failures != failures;
     return accepted;
@@ -163,7 +166,8 @@ static int choose(const struct session *session, struct window *window, uint8_t 
     *kept = NULL;
     if (!observe(session, &survey, survey_before, survey_after, NULL))
         return 0;
-    window_choose(window);
+    if (!window_choose(window))
+        return 0;
     if (session->device.steps <= STEPS_MOST)
         return 1;
     survey.kept = *kept = calloc(session->device.steps + 2, 1);
@@ -218,6 +222,7 @@ struct explanations {
     const struct session *session;
     size_t count, most; /* of places */
     size_t lines;       /* of the place at hand */
+    int no_room;
 };
 
 static void write_explained(void *self, unsigned depth, const char *text, const struct origin *origin)
@@ -233,12 +238,16 @@ static void write_explained(void *self, unsigned depth, const char *text, const 
 static void write_explanation(struct explanations *all, const struct place *place, size_t at)
 {
     struct origin *root;
-    if (all->count == all->most || (root = origin_of(all->session, place, BYTE, 0)) == NULL)
+    if (all->count == all->most || all->no_room)
+        return;
+    root = origin_of(all->session, place, BYTE, 0);
+    all->no_room = root == NULL;
+    if (root == NULL)
         return;
     fprintf(all->file, "%s{\"space\":\"%s\",\"at\":%lu,\"bytes\":%u,\"lines\":[", all->count++ == 0 ? "\n" : ",\n",
             place->space == IN_MEMORY ? "memory" : "register", (unsigned long)at, (unsigned)place->bytes);
     all->lines = 0;
-    explain(root, write_explained, all);
+    all->no_room = !explain(root, write_explained, all);
     fputs("]}", all->file);
     origin_free(root);
 }
@@ -268,10 +277,11 @@ static void explain_registers(struct explanations *all, const struct moments *mo
     }
 }
 
-/* Readings, then elements that are written, then those beside them that are not; of long runs few, since each is found by running the script again. */
-static void write_explanations(FILE *file, const struct session *session, const struct moments *moments)
+/* Readings, then elements that are written, then those beside them that are not; of long runs few, since each is found by running the script again.
+ * 0 if there is no room. */
+static int write_explanations(FILE *file, const struct session *session, const struct moments *moments)
 {
-    struct explanations all = {file, session, 0, 512, 0};
+    struct explanations all = {file, session, 0, 512, 0, 0};
     size_t i;
     if (session->events > STEPS_MOST)
         all.most = 16;
@@ -282,6 +292,7 @@ static void write_explanations(FILE *file, const struct session *session, const 
     explain_registers(&all, moments, 1);
     explain_registers(&all, moments, 0);
     fputc(']', file);
+    return !all.no_room;
 }
 
 /* ---- what rests on memory that nobody entered ---- */
@@ -339,8 +350,10 @@ static int write_run(FILE *file, const struct report *report, const struct sessi
     static struct moments moments;
     const char *slash = strrchr(session->reader.path, '/');
     int done;
-    if (!moments_open(&moments, file, window, kept))
+    if (!moments_open(&moments, file, window, kept)) {
+        moments_close(&moments);
         return 0;
+    }
     fprintf(file, "{\"program\":\"bodlarina-bench %s\"", BODLARINA_VERSION);
     json_text_of(file, "script", slash == NULL ? session->reader.path : slash + 1);
     write_lines(file, report, session);
@@ -354,21 +367,19 @@ static int write_run(FILE *file, const struct report *report, const struct sessi
     json_number_of(file, "refused", moments.refused);
     json_number_of(file, "failed", session->failures);
     write_absences(file, session, &moments);
-    write_explanations(file, session, &moments);
+    done = write_explanations(file, session, &moments) && done && !moments.no_room;
     fputc('}', file);
     moments_close(&moments);
     return done;
 }
 
-/* The page with the run in the place of its marker. */
-static char *make_page(const struct report *report, const struct session *session, size_t *length)
+/* The page with the run in the place of its marker; 0, and ENOMEM in errno, if there is no room. */
+static int write_page(FILE *file, const struct report *report, const struct session *session)
 {
     const char *marker = strstr(page, PAGE_MARKER), *rest = marker + strlen(PAGE_MARKER);
     struct window window;
     uint8_t *kept = NULL;
-    char *text = NULL;
-    FILE *file = open_memstream(&text, length);
-    int done = file != NULL && window_open(&window, session->device.memory_bytes);
+    int done = window_open(&window, session->device.memory_bytes);
     if (done) {
         fwrite(page, 1, (size_t)(marker - page), file);
         done = choose(session, &window, &kept) && write_run(file, report, session, &window, kept);
@@ -376,21 +387,20 @@ static char *make_page(const struct report *report, const struct session *sessio
         window_close(&window);
     }
     free(kept);
-    if (file != NULL && fclose(file) != 0)
-        done = 0;
-    if (done)
-        return text;
-    free(text);
-    return NULL;
+    if (!done)
+        errno = ENOMEM;
+    return done;
 }
 
 int report_write(const struct report *report, const struct session *session, const char *path)
 {
-    size_t length;
-    char *text = make_page(report, session, &length);
-    int written = text != NULL && write_file(path, (const uint8_t *)text, length);
-    free(text);
-    if (!written)
-        fprintf(stderr, "%s: the report cannot be written\n", path);
-    return written;
+    struct new_file file;
+    if (report->lost) {
+        fprintf(stderr, "%s: the report is not written: not all that was printed is kept for it\n", path);
+        return 0;
+    }
+    if (new_file_open(&file, path) && new_file_close(&file, write_page(file.file, report, session)))
+        return 1;
+    fprintf(stderr, "%s: the report cannot be written: %s\n", path, strerror(errno));
+    return 0;
 }

@@ -16,13 +16,14 @@ struct report {
     struct capture capture;
     struct line_report *lines;
     size_t room;
+    int lost; /* whether a line printed what is not kept */
 };
 
-/* Before the first line of a session that remembers; 0 if there is no room. */
+/* Before the first line of a session that remembers; 0 and a message if there is no room. */
 int report_open(struct report *report);
 void report_close(struct report *report);
 
-/* Runs the line at which the reader stands, as run_line does. */
+/* Runs the line at which the reader stands, as run_line does; refuses it if there is no room. */
 int report_line(struct report *report, struct session *session);
 
 /* The page of all lines that were run; 0 and a message if it can't be written. */

@@ -32,21 +32,21 @@ void track_free(struct track *track)
 /* Keeps the write, and those before it if it adds to them. */
 static void keep_write(struct track *track, int adds)
 {
-    struct write *more = track->writes;
+    struct write *more;
     if (!adds)
         drop_writes(track);
     if (track->count == track->room) {
         more = realloc(track->writes, (2 * track->room + 4) * sizeof *more);
         track->no_room |= more == NULL;
+        if (more != NULL) {
+            track->writes = more;
+            track->room = 2 * track->room + 4;
+        }
     }
-    if (track->no_room) {
+    if (track->no_room)
         free(track->write.sources);
-        return;
-    }
-    if (track->count == track->room)
-        track->room = 2 * track->room + 4;
-    track->writes = more;
-    track->writes[track->count++] = track->write;
+    else
+        track->writes[track->count++] = track->write;
 }
 
 /* Takes over what the event wrote. */

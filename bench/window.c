@@ -42,14 +42,13 @@ static size_t show_first(const struct window *window, uint8_t *shows, uint8_t ki
     return count;
 }
 
-void window_choose(struct window *window)
+int window_choose(struct window *window)
 {
     uint8_t kind = window->rows <= ROWS_MOST ? UNTOUCHED : TOUCHED;
     uint8_t *shows = calloc(window->rows + 1, 1);
     size_t row, count;
-    window->cut = shows == NULL;
     if (shows == NULL)
-        return;
+        return 0;
     count = show_first(window, shows, STORED, 0, ROWS_MOST / 2);
     show_first(window, shows, kind, count, ROWS_MOST);
     for (row = 0; row < window->rows; row++)
@@ -58,6 +57,7 @@ void window_choose(struct window *window)
         else if (window->touched[row] != UNTOUCHED)
             window->cut = 1;
     free(shows);
+    return 1;
 }
 
 int window_meets(const struct window *window, uint64_t address, uint64_t bytes)

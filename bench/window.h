@@ -23,8 +23,8 @@ void window_close(struct window *window);
 /* Bytes that were read or entered, or stored. */
 void window_touch(struct window *window, uint64_t address, uint64_t bytes, int stored);
 
-/* All rows of a small memory; else the touched ones, if there are too many half of them with what was stored first. */
-void window_choose(struct window *window);
+/* All rows of a small memory; else the touched ones, if there are too many half of them with what was stored first. 0 if there is no room. */
+int window_choose(struct window *window);
 
 /* Whether one of these bytes is shown. */
 int window_meets(const struct window *window, uint64_t address, uint64_t bytes);

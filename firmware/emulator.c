@@ -19,6 +19,7 @@
 #include <unistd.h>
 
 #include "complain.h"
+#include "files.h"
 #include "guest_code.h"
 #include "qemu_interface.h"
 
@@ -30,8 +31,10 @@ void emulator_word(struct emulator *emulator, const char *format, ...)
     va_list list;
     char *word = NULL;
     va_start(list, format);
-    if (emulator->words_len == EMULATOR_WORDS_MOST || vasprintf(&word, format, list) < 0)
-        abort();
+    if (emulator->words_len == EMULATOR_WORDS_MOST || vasprintf(&word, format, list) < 0) {
+        complain("no room for QEMU's command line");
+        exit(STATUS_TROUBLE);
+    }
     va_end(list);
     emulator->words[emulator->words_len++] = word;
 }
@@ -187,11 +190,12 @@ static void keep_open(int descriptor)
 }
 
 /* QEMU ends with the tool, however that ends. */
-static void become_emulator(struct emulator *emulator, char **words, const struct sigaction *interrupt, pid_t tool)
+static void __attribute__((noreturn)) become_emulator(struct emulator *emulator, char **words, const struct sigaction *interrupt, pid_t tool)
 {
     if (prctl(PR_SET_PDEATHSIG, SIGKILL) != 0 || getppid() != tool)
         _exit(STATUS_TROUBLE);
     sigaction(SIGINT, interrupt, NULL);
+    hand_on_standard_files();
     keep_open(emulator->memory);
     keep_open(emulator->its_line);
     keep_open(emulator->ram);

@@ -58,14 +58,6 @@ static int attend(struct emulator *emulator, struct places *places, int *is_told
     return status;
 }
 
-static int draw_marks(const struct device *device, const char *path)
-{
-    FILE *file = fopen(path, "w");
-    if (file == NULL || fclose(file) != 0)
-        return complain("%s: %s", path, strerror(errno));
-    return write_picture(device, path);
-}
-
 /* The picture and the image of a unit. Its memory was QEMU's; drawn is that of the program's file. */
 static int write_unit(const struct emulator *emulator, const struct device *unit)
 {
@@ -79,13 +71,13 @@ static int write_unit(const struct emulator *emulator, const struct device *unit
     device.memory_bytes = emulator->shared->end + emulator->bias;
     if (!device.started)
         return complain("the unit was not started, so there is nothing to write of it");
-    if (options->marks != NULL)
-        written = draw_marks(&device, options->marks);
+    if (options->marks != NULL && !write_picture(&device, options->marks))
+        written = complain("%s: the picture cannot be written: %s", options->marks, strerror(errno));
     if (options->save == NULL)
         return written;
     image = device_image(&device, &length);
     if (image == NULL || !write_file(options->save, image, length))
-        written = complain("%s: the image cannot be written", options->save);
+        written = complain("%s: the image cannot be written: %s", options->save, image == NULL ? "no image can be made" : strerror(errno));
     free(image);
     return written;
 }
@@ -110,7 +102,10 @@ static int end_run(struct emulator *emulator, int status, int is_told)
         say_unsealed(emulator);
     if ((options->marks != NULL || options->save != NULL) && !write_unit(emulator, unit))
         return STATUS_TROUBLE;
-    return status;
+    if (is_told || !ferror(stdout))
+        return status;
+    complain("the trace cannot be written");
+    return STATUS_TROUBLE;
 }
 
 /* Standard output is the program's: what is printed from here on goes to standard error. */
@@ -147,12 +142,25 @@ static int run_file(const struct options *options)
     return status;
 }
 
+/* What is read of the program's file is mapped: where another program cuts it short, the rest is a fault. QEMU ends with the tool. */
+static void __attribute__((noreturn)) tell_cut(int number)
+{
+    static const char sentence[] = "bodlarina-firmware: a file was cut short while it was read\n";
+    (void)number;
+    write_all(STDERR_FILENO, (const uint8_t *)sentence, sizeof sentence - 1);
+    _exit(STATUS_TROUBLE);
+}
+
 int main(int count, char **words)
 {
     struct options options;
     int status;
-    if (bodlarina_version() != BODLARINA_VERSION_NUMBER)
-        return complain("the library is not that of the header it was built with"), STATUS_TROUBLE;
+    hold_standard_files();
+    signal(SIGBUS, tell_cut);
+    if (bodlarina_version() != BODLARINA_VERSION_NUMBER) {
+        complain("the library is not that of the header it was built with");
+        return STATUS_TROUBLE;
+    }
     if (read_options(count, words, &options, &status))
         status = run_file(&options);
     free_options(&options);

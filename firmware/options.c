@@ -1,6 +1,7 @@
 #define _GNU_SOURCE
 #include "options.h"
 
+#include <errno.h>
 #include <getopt.h>
 #include <stdio.h>
 #include <stdlib.h>
@@ -128,6 +129,14 @@ static int take_option(int option, struct options *options)
     return 0;
 }
 
+static int say(const char *text)
+{
+    if (fputs(text, stdout) != EOF && fflush(stdout) == 0)
+        return 0;
+    complain("standard output cannot be written: %s", strerror(errno));
+    return STATUS_TROUBLE;
+}
+
 static int bad_option(int option, int at, char **words)
 {
     if (option == '?')
@@ -159,12 +168,14 @@ int read_options(int count, char **words, struct options *options, int *status)
     opterr = 0;
     *status = 0;
     while ((option = getopt_long(count, words, "+:", known, NULL)) != -1) {
-        if (option == HELP)
-            return fputs(help, stdout), 0;
-        if (option == VERSION)
-            return puts("bodlarina-firmware " BODLARINA_VERSION), 0;
-        if (!take_option(option, options))
-            return *status = bad_option(option, at, words), 0;
+        if (option == HELP || option == VERSION) {
+            *status = say(option == HELP ? help : "bodlarina-firmware " BODLARINA_VERSION "\n");
+            return 0;
+        }
+        if (!take_option(option, options)) {
+            *status = bad_option(option, at, words);
+            return 0;
+        }
         at = optind;
     }
     options->program = words + optind;

@@ -10,7 +10,7 @@
 extern struct shared *shared;
 
 /* Ends the process with the tool's own trouble. */
-void give_up(const char *sentence);
+void give_up(const char *sentence) __attribute__((noreturn));
 
 /* At the first instruction that is translated when all is ready: seals, and starts the first unit. 0 until then. */
 int begun(void);

@@ -36,7 +36,7 @@ static int ask(void)
 }
 
 /* Without a line the plugin ends the process itself, and says what it knows. */
-static void end_alone(const struct report *report, const struct device *device)
+static void __attribute__((noreturn)) end_alone(const struct report *report, const struct device *device)
 {
     int is_seal = report->told == STORED || report->told == CHANGED || report->told == CHANGED_BY_END;
     if (report->told == REFUSED)

@@ -114,7 +114,7 @@ static void keep_inside(void)
             damaged.bytes[i] = '|';
 }
 
-static void fail(const char *what)
+static void __attribute__((noreturn)) fail(const char *what)
 {
     perror(what);
     exit(2);

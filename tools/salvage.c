@@ -1,5 +1,4 @@
-/* bodlarina-salvage: keeps what is whole of an image that was cut short or damaged. See man/bodlarina-salvage.1.
- * No file is open while anything is said, so where standard output or error is closed, nothing goes into a file in its place. */
+/* bodlarina-salvage: keeps what is whole of an image that was cut short or damaged. See man/bodlarina-salvage.1. */
 #define _POSIX_C_SOURCE 200809L
 
 #include <errno.h>
@@ -94,6 +93,7 @@ static int files_at(int count, char **words)
 int main(int count, char **words)
 {
     int at, said;
+    hold_standard_files();
     if (count > 1 && asked(&program, words[1], &said))
         return said ? SALVAGED : NOT_DONE;
     at = files_at(count, words);

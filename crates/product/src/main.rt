@@ -20,10 +20,13 @@ fn answer_input() {
 
 // The program takes no arguments; with any it says what it is and does, whichever they are, and reads nothing.
 fn say_usage() {
-    io::write_all(
+    let written = io::write_all(
         STDOUT_FILENO,
         b"product 0.8.0\nusage: product\nReads SEW, f, m, k, n, then A and B by rows, from standard input, and writes the product by rows. See product(1).\n",
     );
+    if !written {
+        io::write_all(STDERR_FILENO, b"product: cannot write what it is\n");
+    }
 }
 
 fn main() {
