@@ -19,6 +19,7 @@ struct work {
     uint8_t handed[BODLARINA_HANDED_BYTES], image[IMAGE_BYTES], room[IMAGE_BYTES], report[BODLARINA_REPORT_BYTES];
     uint8_t text[BODLARINA_TEXT_BYTES_MOST], word[BODLARINA_WORD_BYTES];
     uint64_t random, digest;
+    unsigned accepted; /* of its words */
 };
 
 /* What all read. */
@@ -97,16 +98,42 @@ static void multiply(struct work *work)
     add(work, (uint64_t)bodlarina_bench_run_is_over(&bench));
 }
 
-/* Words of the unit with random fields, and their lines. */
+/* A word of each family, most of which a machine accepts, or one with random fields. Scalars 1 to 3 are small, 10 is an address and 11 a stride. */
+static uint32_t random_word(struct work *work)
+{
+    uint32_t a = next(work) % 8, b = next(work) % 8, c = next(work) % 2;
+    switch (next(work) % 16) {
+    case 0: return bodlarina_msettypei(0, BODLARINA_E8);
+    case 1: return bodlarina_msettilemi(0, 1 + a);
+    case 2: return bodlarina_msettileki(0, 1 + a);
+    case 3: return bodlarina_msettileni(0, 1 + a);
+    case 4: return bodlarina_mlae8_m(a, 10, 11);
+    case 5: return bodlarina_mlbe8_m(a, 10, 11);
+    case 6: return bodlarina_mlce8_m(c, 10, 11);
+    case 7: return bodlarina_msce8_m(c, 10, 11);
+    case 8: return bodlarina_mlate8_m(a, 10, 11);
+    case 9: return bodlarina_mma_mm(c, a, b);
+    case 10: return bodlarina_maddc_mm(c, 1 - c);
+    case 11: return bodlarina_memulc_mi(c, c, (int32_t)a - 4);
+    case 12: return bodlarina_mmvcr_v_m(2 * a, c, 1);
+    case 13: return bodlarina_mmvcc_m_v(c, 2 * a, 1);
+    default: return ((uint32_t)next(work) & ~(uint32_t)127) | 119;
+    }
+}
+
+/* Words, and their lines. */
 static void take_words(struct work *work)
 {
     struct bodlarina_bench bench = bench_of(work);
     uint64_t result;
     unsigned i;
     for (i = 0; i < WORDS; i++) {
-        uint32_t word = ((uint32_t)next(work) & ~(uint32_t)127) | 119;
-        bodlarina_bench_set_scalar(&bench, (unsigned)(next(work) % 32), next(work) % MEMORY_BYTES);
+        uint32_t word = random_word(work);
+        bodlarina_bench_set_scalar(&bench, 1 + (unsigned)(next(work) % 3), next(work) % 3);
+        bodlarina_bench_set_scalar(&bench, 10, next(work) % (MEMORY_BYTES / 2));
+        bodlarina_bench_set_scalar(&bench, 11, 8 + next(work) % 32);
         result = bodlarina_bench_step(&bench, word);
+        work->accepted += result == 0;
         add(work, result);
         result = bodlarina_word_text(word, work->text, sizeof work->text);
         add(work, result);
@@ -208,11 +235,12 @@ int main(void)
     for (i = 0; i < THREADS; i++)
         run_one(&works[i]);
     for (i = 0; i < THREADS; i++)
-        if (memcmp(&together[i], &works[i], sizeof works[i]) == 0 && (i == 0 || works[i].digest != works[0].digest)) {
+        if (memcmp(&together[i], &works[i], sizeof works[i]) == 0 && works[i].accepted > ROUNDS * WORDS / 2
+            && (i == 0 || works[i].digest != works[0].digest)) {
             passed++;
         } else {
             failed++;
-            printf("FAILED: thread %lu\n", (unsigned long)i);
+            printf("FAILED: thread %lu, %u words accepted\n", (unsigned long)i, works[i].accepted);
         }
     printf("%d passed, %d failed\n", passed, failed);
     return failed != 0;
