@@ -4,15 +4,23 @@
 #     make                     prove and build the library and the programs; needs the Rattle kit (rt)
 #     make firmware            build bodlarina-firmware over the library; needs libdw (Debian: libdw-dev), and is left out by make without it
 #     make install PREFIX=..   install them; needs no kit where they are built, as in an archive of `make dist`
-#     make dist                build, and write target/dist/bodlarina-VERSION-linux-x86_64.tar.gz with all built
+#     make dist                build, and write target/dist/bodlarina-VERSION-linux-x86_64.tar.gz with all built; the same bytes from the same sources,
+#                              wherever and whenever
 #     make test                all tests (.ci/run)
 
 PREFIX ?= /usr/local
 DESTDIR ?=
 INSTALL ?= install
 
+# the order of files is that of their bytes, wherever it is built
+export LC_ALL := C
+
 VERSION := $(shell sed -n 's/^.define BODLARINA_VERSION "\(.*\)"$$/\1/p' include/bodlarina.h)
 PACKAGE := bodlarina-$(VERSION)-linux-x86_64
+
+# the day of the version, by which all in the archive is dated, or by SOURCE_DATE_EPOCH in seconds
+RELEASED := $(shell sed -n 's/^.. $(VERSION), \([-0-9]*\)$$/\1/p' CHANGES.md)
+SOURCE_DATE_EPOCH ?= $(shell date -u -d '$(RELEASED)' +%s)
 HEADERS := include/bodlarina.h include/bodlarina_words.h include/bodlarina_asm.h
 PROVED := product disassemble assemble
 PROGRAMS := $(PROVED) bodlarina-bench bodlarina-salvage
@@ -133,8 +141,9 @@ dist:
 	$(MAKE) all EDITING=
 	$(MAKE) pack
 
-# the archive of what is built already
+# the archive of what is built already, and the sum of each file in it
 pack:
+	@test -n '$(RELEASED)' || { echo "CHANGES.md does not date version $(VERSION)"; exit 1; }
 	rm -rf target/dist/$(PACKAGE)
 	mkdir -p $(addprefix target/dist/$(PACKAGE)/,include lib bin man examples/bench python firmware/examples docs)
 	cp $(HEADERS) target/dist/$(PACKAGE)/include
@@ -149,9 +158,12 @@ pack:
 	cp python/bodlarina.py python/four_loops.py python/four_loops.out target/dist/$(PACKAGE)/python
 	cp firmware/bodlarina-gdb.py target/dist/$(PACKAGE)/firmware
 	cp $(addprefix firmware/examples/,Makefile *.[chS] bare.ld recorder.out) target/dist/$(PACKAGE)/firmware/examples
-	cp docs/INSTRUCTIONS.md docs/FIRMWARE.md docs/firmware.svg target/dist/$(PACKAGE)/docs
-	cp Makefile bodlarina.pc.in target/dist/$(PACKAGE)
-	tar -C target/dist --sort=name --owner=0 --group=0 --numeric-owner -czf target/dist/$(PACKAGE).tar.gz $(PACKAGE)
+	cp docs/INSTRUCTIONS.md docs/FIRMWARE.md docs/TRUST.md docs/firmware.svg target/dist/$(PACKAGE)/docs
+	cp Makefile bodlarina.pc.in CHANGES.md target/dist/$(PACKAGE)
+	cd target/dist/$(PACKAGE) && find * -type f | sort | xargs sha256sum >../SHA256SUMS && mv ../SHA256SUMS .
+	tar -C target/dist --sort=name --owner=0 --group=0 --numeric-owner --mode=u=rwX,go=rX --mtime=@$(SOURCE_DATE_EPOCH) --format=gnu \
+	  -cf target/dist/$(PACKAGE).tar $(PACKAGE)
+	gzip -9nf target/dist/$(PACKAGE).tar
 	@echo target/dist/$(PACKAGE).tar.gz
 
 test:
