@@ -10,7 +10,6 @@ use numbers_coded::wide;
 ghost use mathlib.Core.Path.{_≡_};
 ghost use Prim.Native.Nat.{_^_, _≤_, _<_};
 ghost use Rattle.image.specs.ImageFormat.{topRlen, topMlen, leastMlen};
-ghost use Rattle.machine.specs.Starting.{noMachine};
 ghost use Rattle.numbers_coded.specs.At.{plain};
 ghost use Rattle.image_header.specs.Fields.{mtypeAt, countAt, plainRange, rangeAt, rangesAt, leastRule, row, rowOf, RowOk, numberIn, putField, after, fieldFrom, firstField, FieldsOk, Ready, rested, machineOf};
 ghost use Rattle.image_header.specs.Fields.Pair.{PairBad};
@@ -363,21 +362,5 @@ pub fn machine_of(t: Fields) -> Machine
         tile_n: t.tile_n,
         rule: t.rule,
         elen: power(t.elen),
-    }
-}
-
-// No machine: zeros.
-pub fn no_machine() -> Machine
-    ensures { λ r. ⌜ r ≡ noMachine ⌝ }
-{
-    Machine {
-        rlen: 0,
-        mlen: 0,
-        mtype: 0,
-        tile_m: 0,
-        tile_k: 0,
-        tile_n: 0,
-        rule: 0,
-        elen: 0,
     }
 }

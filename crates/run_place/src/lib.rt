@@ -12,7 +12,7 @@ ghost use Rattle.run.specs.Plan.{typeOf};
 ghost use Rattle.run.specs.Places.{headM, headN, headK, next};
 ghost use Rattle.run.specs.Turn.{startsM, startsN, startsK, begins, soundRun, runParameters, runShape, moved};
 ghost use Rattle.numbers.specs.Blocks.{chunks};
-ghost use Rattle.run_place.specs.Parts.{numbered};
+ghost use Rattle.run_place.specs.Parts.{numbered, atPlace};
 ghost use Rattle.run_plan.specs.Parts.{inMatrices};
 
 // ---- blocks, and runs that a start can have made
@@ -249,13 +249,11 @@ pub fn next_place(run: Run) -> Place
     }
 }
 
-// The run at its next place.
-pub fn moved_run(run: Run) -> Run
-    requires { ⌜ soundRun chosen run ≡ true ⌝ }
-    ensures { λ r. ⌜ r ≡ moved chosen run ⌝ }
+// The run at another place.
+pub fn at_place(run: Run, place: Place) -> Run
+    ensures { λ r. ⌜ r ≡ atPlace run place ⌝ }
 {
     let plan = run.plan;
-    let place = next_place(run);
     Run {
         plan: plan,
         rlen: run.rlen,
@@ -264,4 +262,13 @@ pub fn moved_run(run: Run) -> Run
         elen: run.elen,
         place: place,
     }
+}
+
+// The run at its next place.
+pub fn moved_run(run: Run) -> Run
+    requires { ⌜ soundRun chosen run ≡ true ⌝ }
+    ensures { λ r. ⌜ r ≡ moved chosen run ⌝ }
+{
+    let place = next_place(run);
+    at_place(run, place)
 }

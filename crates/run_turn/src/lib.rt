@@ -34,21 +34,6 @@ struct Progress {
     machine: Machine,
 }
 
-// The run at another place.
-fn at_place(run: Run, place: Place) -> Run
-    ensures { λ r. ⌜ r ≡ atPlace run place ⌝ }
-{
-    let plan = run.plan;
-    Run {
-        plan: plan,
-        rlen: run.rlen,
-        mlen: run.mlen,
-        rule: run.rule,
-        elen: run.elen,
-        place: place,
-    }
-}
-
 // One turn of a run that a start can have made, in a state that is not at fault.
 fn take_turn(
     run: Run,
@@ -252,7 +237,7 @@ fn take_turns(
     let mut machine = m;
     let mut count = 0;
     while count < limit {
-        let current = at_place(run, place);
+        let current = run_place::at_place(run, place);
         let moved = take_turn(current, machine, seals, registers, marks, memory);
         let answer = moved.answer;
         if !unit_answers::is_done(answer) {
@@ -306,7 +291,7 @@ pub fn turn(
     let moved = take_turn(run, m, seals, registers, marks, memory);
     let answer = moved.answer;
     let place = moved.place;
-    let after = at_place(run, place);
+    let after = run_place::at_place(run, place);
     let machine = moved.machine;
     Turned {
         answer: answer,
@@ -344,7 +329,7 @@ pub fn turns(
     }
     let progress = take_turns(limit, run, m, seals, registers, marks, memory);
     let place = progress.place;
-    let after = at_place(run, place);
+    let after = run_place::at_place(run, place);
     let machine = progress.machine;
     Taken {
         count: progress.count,

@@ -110,7 +110,8 @@ fn seals_end(seals: &[u64]) -> bool
     true
 }
 
-fn no_machine() -> Machine
+// No machine: zeros.
+pub fn no_machine() -> Machine
     ensures { λ r. ⌜ r ≡ noMachine ⌝ }
 {
     Machine {
