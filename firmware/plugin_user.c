@@ -3,6 +3,7 @@
 #define _GNU_SOURCE
 #include <fcntl.h>
 #include <limits.h>
+#include <stdlib.h>
 #include <string.h>
 #include <sys/uio.h>
 #include <unistd.h>
@@ -101,10 +102,28 @@ static void at_illegal(unsigned cpu, void *pc)
         line_tell_trouble(NO_STACK, raised.pc);
 }
 
-/* Matrix words, and accesses to a csr of machine mode, as a program for bare metal has them. */
-static int is_illegal(uint32_t bits)
+/* An access to a csr of machine mode, as a program for bare metal has it, or a write to one that is only read, as unimp is. */
+static int is_illegal_access(uint32_t bits)
 {
-    return is_matrix_word(bits) || ((bits & 0x7f) == 0x73 && (bits >> 12 & 3) != 0 && (bits >> 28 & 3) == 3);
+    int writes = (bits >> 12 & 3) == 1 || (bits >> 15 & 31) != 0;
+    return (bits & 0x7f) == 0x73 && (bits >> 12 & 3) != 0 && ((bits >> 28 & 3) == 3 || (bits >> 30 == 3 && writes));
+}
+
+/* What QEMU's disassembler has no name for; it (7.2) has none for vector instructions either, which QEMU may carry out. */
+static int is_nameless(const struct qemu_plugin_insn *instruction)
+{
+    uint32_t opcode = instruction_bits(instruction) & 0x7f;
+    char *text = opcode == 0x57 || opcode == 0x07 || opcode == 0x27 ? NULL : qemu_plugin_insn_disas(instruction);
+    int nameless = text != NULL && strstr(text, "illegal") != NULL;
+    free(text);
+    return nameless;
+}
+
+/* An instruction that raises SIGILL is the last of its block. */
+static int is_illegal(const struct qemu_plugin_insn *instruction, int last)
+{
+    uint32_t bits = instruction_bits(instruction);
+    return is_matrix_word(bits) || is_illegal_access(bits) || (last && is_nameless(instruction));
 }
 
 static void carry_out(uint64_t ucontext)
@@ -201,13 +220,13 @@ static void after_call(qemu_plugin_id_t id, unsigned cpu, int64_t number, int64_
 
 static void translated(qemu_plugin_id_t id, struct qemu_plugin_tb *block)
 {
-    size_t i;
+    size_t i, count = qemu_plugin_tb_n_insns(block);
     (void)id;
     if (!begun())
         return;
-    for (i = 0; i < qemu_plugin_tb_n_insns(block); i++) {
+    for (i = 0; i < count; i++) {
         struct qemu_plugin_insn *instruction = qemu_plugin_tb_get_insn(block, i);
-        if (is_illegal(instruction_bits(instruction)))
+        if (is_illegal(instruction, i + 1 == count))
             qemu_plugin_register_vcpu_insn_exec_cb(instruction, at_illegal, NO_REGISTERS, (void *)(uintptr_t)qemu_plugin_insn_vaddr(instruction));
         seals_watch(instruction);
     }

@@ -40,6 +40,7 @@ struct qemu_plugin_insn *qemu_plugin_tb_get_insn(const struct qemu_plugin_tb *, 
 const void *qemu_plugin_insn_data(const struct qemu_plugin_insn *);
 size_t qemu_plugin_insn_size(const struct qemu_plugin_insn *);
 uint64_t qemu_plugin_insn_vaddr(const struct qemu_plugin_insn *);
+char *qemu_plugin_insn_disas(const struct qemu_plugin_insn *); /* to be freed */
 unsigned qemu_plugin_mem_size_shift(qemu_plugin_meminfo_t);
 
 /* Not of that interface, so it may be missing: what QEMU knows of a page in user mode. */

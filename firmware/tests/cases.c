@@ -218,6 +218,25 @@ static int case_no_stack(void)
     return 0;
 }
 
+/* The same with words that are none of the unit's, nor of any machine: all zeros, all ones, a write to a csr that is only read. */
+static int case_no_stack_zeros(void)
+{
+    __asm__ volatile("mv t0, sp\nli sp, 0\n.word 0\nmv sp, t0" : : : "t0");
+    return 0;
+}
+
+static int case_no_stack_ones(void)
+{
+    __asm__ volatile("mv t0, sp\nli sp, 0\n.word 0xffffffff\nmv sp, t0" : : : "t0");
+    return 0;
+}
+
+static int case_no_stack_unimp(void)
+{
+    __asm__ volatile("mv t0, sp\nli sp, 0\n.word 0xc0001073\nmv sp, t0" : : : "t0");
+    return 0;
+}
+
 /* A handler of its own for SIGILL is not called for matrix words, and is for other words; what was set is read back. */
 static void skip(int number, siginfo_t *info, void *context)
 {
@@ -230,11 +249,14 @@ static int case_own_handler(void)
 {
     static const struct sigaction action = {.sa_sigaction = skip, .sa_flags = SA_SIGINFO}; /* a constant: it cannot be written */
     struct sigaction before, set;
+    int i;
     if (sigaction(SIGILL, &action, &before) != 0 || before.sa_handler != SIG_DFL)
         return 1;
     if (asm_msettilemi(3) != 3 || got != 0)
         return 2;
     __asm__ volatile(".word 0xffffffff");
+    for (i = 0; i < 2000; i++)
+        __asm__ volatile(".word 0xc0001073");
     if (got != SIGILL || sigaction(SIGILL, &before, &set) != 0 || set.sa_sigaction != skip)
         return 3;
     return asm_msettilemi(2) == 2 ? 0 : 4;
@@ -447,6 +469,7 @@ static const struct {
     {"read_only", case_read_only}, {"far", case_far}, {"code_page", case_code_page}, {"unwritten", case_unwritten},
     {"multiply", case_multiply},
     {"signals", case_signals}, {"alarms", case_alarms}, {"segv", case_segv}, {"ill", case_ill}, {"abort", case_abort}, {"no_stack", case_no_stack},
+    {"no_stack_zeros", case_no_stack_zeros}, {"no_stack_ones", case_no_stack_ones}, {"no_stack_unimp", case_no_stack_unimp},
     {"own_handler", case_own_handler}, {"probe", case_probe}, {"blocked", case_blocked}, {"in_handler", case_in_handler},
     {"threads", case_threads}, {"own_tiles", case_own_tiles}, {"small_stack", case_small_stack}, {"refused_thread", case_refused_thread},
     {"refused_after_load", case_refused_after_load},
