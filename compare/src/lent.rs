@@ -3,6 +3,7 @@
 use crate::library;
 use model::moves::Vectors;
 use model::salvage::Report;
+use model::{block_starts, maximum, Size, RULES};
 use model::{Answer, Bench, Handed, Lengths, Machine, Plan, Run, Seal, Seals, MOST_SEALS};
 use std::fmt::Write;
 
@@ -86,6 +87,59 @@ pub fn handed_block(handed: &Handed) -> Vec<u8> {
 pub fn handed_of(block: &[u8]) -> Handed {
     let words = bytes_to_words(block);
     Handed { word: words[0] as u32, scalar_10: words[1], scalar_11: words[2] }
+}
+
+// ---------------------------------------------------------------------------
+// Run blocks
+
+// The numbers of a run block, by their places in it: those of the plan but for
+// its kind, the machine's lengths, the place in the run (a word, then row, column
+// and term), the kind, and the machine's rule and ELEN.
+pub const FIELDS: usize = library::RUN_BYTES / 8;
+pub const C_STRIDE: usize = 10;
+pub const LENGTHS: usize = 11;
+pub const WORD: usize = 13;
+pub const PLACE: usize = 14;
+pub const KIND: usize = 17;
+pub const RULE: usize = 18;
+pub const ELEN: usize = 19;
+
+/// How many numbers each word's place has, of row, column and term.
+pub const PLACE_NUMBERS: [usize; 10] = [0, 1, 2, 2, 3, 3, 3, 3, 2, 0];
+pub const AT_END: u64 = 9;
+
+/// The plan and the machine of a block.
+pub fn plan_of(fields: &[u64]) -> (Plan, Machine) {
+    let [sew, factor, m, k, n, a, a_stride, b, b_stride, c, c_stride] =
+        fields[..LENGTHS].try_into().expect("the numbers of a plan");
+    let [a_stride, b_stride, c_stride] = [a_stride, b_stride, c_stride].map(|stride| stride as i64);
+    let kind = fields[KIND];
+    let plan = Plan { kind, sew, factor, m, k, n, a, a_stride, b, b_stride, c, c_stride };
+    let lengths = (fields[LENGTHS], fields[LENGTHS + 1], fields[ELEN]);
+    (plan, Machine::of(lengths, fields[RULE]))
+}
+
+/// Whether a run can have these numbers: not a place that no turn reaches, outside the
+/// matrices or where no block of them starts.
+pub fn sound(fields: &[u64]) -> bool {
+    let (plan, machine) = plan_of(fields);
+    if model::plan_numbers_bad(&plan, machine.elen)
+        || !model::lengths_permitted(machine.lengths())
+        || !RULES.contains(&machine.rule)
+        || fields[WORD] > AT_END
+    {
+        return false;
+    }
+    let sizes = [(Size::M, plan.m), (Size::N, plan.n), (Size::K, plan.k)];
+    (0..3).zip(sizes).all(|(at, (size, total))| {
+        let number = fields[PLACE + at];
+        let most = maximum(&machine, size, plan.sew as i128);
+        if at < PLACE_NUMBERS[fields[WORD] as usize] {
+            block_starts(total as i128, most, machine.rule).contains(&(number as i128))
+        } else {
+            number == 0
+        }
+    })
 }
 
 /// A machine with one range that seals nothing, which the library started on register

@@ -1,12 +1,12 @@
 //! Runs on larger machines and at ELEN 64 (request Ten).
 
+use crate::lent::ELEN;
 use crate::lent::{
     bytes_to_words, library_run, library_run_start, library_run_turn, library_run_turns,
     words_to_bytes, Lent,
 };
 use crate::library;
 use crate::random::Random;
-use crate::runs::damage::ELEN;
 use crate::runs::held::{check_run, compare_at_end, start_good};
 use crate::runs::plans::{good_plan, plan_around, Numbers};
 use crate::states::machines::{

@@ -119,7 +119,7 @@ pub fn block_starts(total: i128, maximum: i128, rule: u64) -> Vec<i128> {
 }
 
 /// The steps of a run, as the paper's nested loops.
-fn steps_of(plan: &Plan, machine: &Machine) -> Vec<Handed> {
+pub fn steps_of(plan: &Plan, machine: &Machine) -> Vec<Handed> {
     let sew = plan.sew as i128;
     let wide = (plan.factor * plan.sew) as i128;
     let (m, k, n) = (plan.m as i128, plan.k as i128, plan.n as i128);

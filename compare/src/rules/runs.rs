@@ -2,13 +2,13 @@
 //! product; and unknown rules in machines and in run blocks.
 
 use super::sizes::refused;
+use crate::lent::RULE;
 use crate::lent::{
     bytes_to_words, library_run, library_run_start, library_run_turn, library_run_turns,
     words_to_bytes, Lent,
 };
 use crate::library;
 use crate::random::Random;
-use crate::runs::damage::RULE;
 use crate::runs::held::{check_run, machine_of_case, start_good};
 use crate::runs::plans::plan_around;
 use crate::states::machines::UNKNOWN_RULES;

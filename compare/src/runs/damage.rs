@@ -3,8 +3,9 @@
 
 use super::plans::{small_plan, UNKNOWN_KINDS};
 use crate::lent::{
-    bytes_to_words, handed_of, library_run_start, library_run_turns, packed, state_text,
-    words_to_bytes, Lent,
+    bytes_to_words, handed_of, library_run_start, library_run_turns, packed, plan_of, sound,
+    state_text, words_to_bytes, Lent, AT_END, C_STRIDE, ELEN, FIELDS, KIND, LENGTHS, PLACE,
+    PLACE_NUMBERS, RULE, WORD,
 };
 use crate::library;
 use crate::random::Random;
@@ -13,7 +14,7 @@ use crate::states::faults::wrong_length;
 use crate::states::machines::{any_machine, lengths, UNKNOWN_ELENS, UNKNOWN_RULES};
 use crate::suite::{each_case, Context, Outcome};
 use crate::tally::{Call, Tally};
-use model::{block_starts, maximum, Machine, Plan, Size, KINDS, RULES};
+use model::{Plan, KINDS};
 
 const GUARD: usize = 32;
 
@@ -202,56 +203,6 @@ pub fn empty_run_slices(context: &mut Context) -> Outcome {
 
 // ---------------------------------------------------------------------------
 // Forged run blocks
-
-// The numbers of a run block, by their places in it: those of the plan but for
-// its kind, the machine's lengths, the place in the run (a word, then row, column
-// and term), the kind, and the machine's rule and ELEN.
-const FIELDS: usize = library::RUN_BYTES / 8;
-const C_STRIDE: usize = 10;
-const LENGTHS: usize = 11;
-const WORD: usize = 13;
-const PLACE: usize = 14;
-const KIND: usize = 17;
-pub const RULE: usize = 18;
-pub const ELEN: usize = 19;
-
-/// How many numbers each word's place has, of row, column and term.
-const PLACE_NUMBERS: [usize; 10] = [0, 1, 2, 2, 3, 3, 3, 3, 2, 0];
-const AT_END: u64 = 9;
-
-/// The plan and the machine of a block.
-fn plan_of(fields: &[u64]) -> (Plan, Machine) {
-    let [sew, factor, m, k, n, a, a_stride, b, b_stride, c, c_stride] =
-        fields[..LENGTHS].try_into().expect("the numbers of a plan");
-    let [a_stride, b_stride, c_stride] = [a_stride, b_stride, c_stride].map(|stride| stride as i64);
-    let kind = fields[KIND];
-    let plan = Plan { kind, sew, factor, m, k, n, a, a_stride, b, b_stride, c, c_stride };
-    let lengths = (fields[LENGTHS], fields[LENGTHS + 1], fields[ELEN]);
-    (plan, Machine::of(lengths, fields[RULE]))
-}
-
-/// Whether a run can have these numbers: not a place that no turn reaches, outside the
-/// matrices or where no block of them starts.
-fn sound(fields: &[u64]) -> bool {
-    let (plan, machine) = plan_of(fields);
-    if model::plan_numbers_bad(&plan, machine.elen)
-        || !model::lengths_permitted(machine.lengths())
-        || !RULES.contains(&machine.rule)
-        || fields[WORD] > AT_END
-    {
-        return false;
-    }
-    let sizes = [(Size::M, plan.m), (Size::N, plan.n), (Size::K, plan.k)];
-    (0..3).zip(sizes).all(|(at, (size, total))| {
-        let number = fields[PLACE + at];
-        let most = maximum(&machine, size, plan.sew as i128);
-        if at < PLACE_NUMBERS[fields[WORD] as usize] {
-            block_starts(total as i128, most, machine.rule).contains(&(number as i128))
-        } else {
-            number == 0
-        }
-    })
-}
 
 /// Whether asking a block for a step is answered 0.
 fn hands_out(fields: &[u64]) -> bool {

@@ -1,11 +1,10 @@
 //! A run started by both programs and held to the second: turn by turn, the words alone,
 //! many turns at once, whole runs in one call, and the product.
 
-use super::damage::{ELEN, RULE};
 use crate::lent::{
     bytes_to_words, differences, handed_block, handed_of, library_run, library_run_start,
     library_run_turn, library_run_turns, library_step, packed, report, second_run_start,
-    second_run_turn, second_run_turns, state_text, words_to_bytes, Lent,
+    second_run_turn, second_run_turns, state_text, words_to_bytes, Lent, ELEN, RULE,
 };
 use crate::library;
 use crate::random::Random;
