@@ -5,6 +5,7 @@ use machine::Machine;
 use machine::Matrix;
 use unit_checks::sizes::check_transfer;
 use unit_geometry::tile_of;
+use unit_tile::Transfer;
 ghost use mathlib.Core.Path.{_≡_};
 ghost use mathlib.Core.Bool.{true};
 ghost use Prim.Native.Nat.{_<_};
@@ -41,13 +42,15 @@ pub fn load(
         registers,
         marks,
         memory,
-        p.start,
-        p.pitch,
-        base,
-        stride,
-        p.rows,
-        p.columns,
-        width,
+        Transfer {
+            start: p.start,
+            pitch: p.pitch,
+            base: base,
+            stride: stride,
+            rows: p.rows,
+            columns: p.columns,
+            width: width,
+        },
     )
 }
 
@@ -81,12 +84,14 @@ pub fn store(
         marks,
         memory,
         seals,
-        p.start,
-        p.pitch,
-        base,
-        stride,
-        p.rows,
-        p.columns,
-        width,
+        Transfer {
+            start: p.start,
+            pitch: p.pitch,
+            base: base,
+            stride: stride,
+            rows: p.rows,
+            columns: p.columns,
+            width: width,
+        },
     )
 }

@@ -27,6 +27,19 @@ ghost use Rattle.machine.specs.declared.Answer.the-variants.{OutsideMemory};
 ghost use Rattle.machine.specs.Answers.{verdict};
 ghost use Rattle.unit_tile.specs.Checks.{RowsIn, storeChecks};
 
+// A tile and where it lies: start, its first byte in the registers, and pitch, the bytes from one row to the next there; base, its
+// first byte in memory, and stride, the signed number of bytes from one row to the next there; its rows and columns, and the bytes of
+// an element.
+pub struct Transfer {
+    pub start: usize,
+    pub pitch: usize,
+    pub base: u64,
+    pub stride: u64,
+    pub rows: usize,
+    pub columns: usize,
+    pub width: usize,
+}
+
 // Whether each byte of the rows, of n bytes each, has its mark. The sum after the last row may wrap; it is not used.
 fn tile_marked(marks: &[u8], start: usize, pitch: usize, rows: usize, n: usize) -> bool
     requires { ⌜ RowsIn start pitch rows n (length (now marks)) ⌝ }
@@ -102,65 +115,45 @@ pub fn mark_tile(marks: &mut [u8], start: usize, pitch: usize, rows: usize, n: u
 }
 
 // Copies the rows of a tile that lie in memory to the registers.
-pub fn load_tile(
-    registers: &mut [u8],
-    memory: &[u8],
-    start: usize,
-    pitch: usize,
-    base: u64,
-    stride: u64,
-    rows: usize,
-    cols: usize,
-    w: usize,
-)
-    requires { ⌜ start + rows * pitch ≤ length (now registers) ⌝ }
-    requires { ⌜ cols * w ≤ pitch ⌝ }
-    requires { ⌜ inside (length (now memory)) base stride rows (cols * w) ≡ true ⌝ }
-    ensures { λ _. ⌜ now (registers .exit) ≡ putTile (λ i. start + i * pitch) rows cols w (element (now (memory .entry)) (rowAt base stride) w) (now (registers .entry)) ⌝ }
+pub fn load_tile(registers: &mut [u8], memory: &[u8], t: Transfer)
+    requires { ⌜ t .start + t .rows * t .pitch ≤ length (now registers) ⌝ }
+    requires { ⌜ t .columns * t .width ≤ t .pitch ⌝ }
+    requires { ⌜ inside (length (now memory)) (t .base) (t .stride) (t .rows) (t .columns * t .width) ≡ true ⌝ }
+    ensures { λ _. ⌜ now (registers .exit) ≡ putTile (λ i. t .start + i * t .pitch) (t .rows) (t .columns) (t .width) (element (now (memory .entry)) (rowAt (t .base) (t .stride)) (t .width)) (now (registers .entry)) ⌝ }
 {
-    let bytes = cols * w;
+    let bytes = t.columns * t.width;
     if bytes == 0 {
         return;
     }
-    let mut to = start;
+    let mut to = t.start;
     let mut i = 0;
-    while i < rows {
-        let from = row_address(base as usize, as_signed(stride), i);
+    while i < t.rows {
+        let from = row_address(t.base as usize, as_signed(t.stride), i);
         let end = from + bytes;
         write_row(&mut registers[to..], &memory[from..end]);
-        to += pitch;
+        to += t.pitch;
         i += 1;
     }
 }
 
 // Copies the rows of a tile from the registers to where they lie in memory, upward.
-pub fn store_tile(
-    memory: &mut [u8],
-    registers: &[u8],
-    start: usize,
-    pitch: usize,
-    base: u64,
-    stride: u64,
-    rows: usize,
-    cols: usize,
-    w: usize,
-)
-    requires { ⌜ start + rows * pitch ≤ length (now registers) ⌝ }
-    requires { ⌜ cols * w ≤ pitch ⌝ }
-    requires { ⌜ inside (length (now memory)) base stride rows (cols * w) ≡ true ⌝ }
-    ensures { λ _. ⌜ now (memory .exit) ≡ putTile (rowAt base stride) rows cols w (element (now (registers .entry)) (λ i. start + i * pitch) w) (now (memory .entry)) ⌝ }
+pub fn store_tile(memory: &mut [u8], registers: &[u8], t: Transfer)
+    requires { ⌜ t .start + t .rows * t .pitch ≤ length (now registers) ⌝ }
+    requires { ⌜ t .columns * t .width ≤ t .pitch ⌝ }
+    requires { ⌜ inside (length (now memory)) (t .base) (t .stride) (t .rows) (t .columns * t .width) ≡ true ⌝ }
+    ensures { λ _. ⌜ now (memory .exit) ≡ putTile (rowAt (t .base) (t .stride)) (t .rows) (t .columns) (t .width) (element (now (registers .entry)) (λ i. t .start + i * t .pitch) (t .width)) (now (memory .entry)) ⌝ }
 {
-    let bytes = cols * w;
+    let bytes = t.columns * t.width;
     if bytes == 0 {
         return;
     }
-    let mut from = start;
+    let mut from = t.start;
     let mut i = 0;
-    while i < rows {
-        let to = row_address(base as usize, as_signed(stride), i);
+    while i < t.rows {
+        let to = row_address(t.base as usize, as_signed(t.stride), i);
         let end = from + bytes;
         write_row(&mut memory[to..], &registers[from..end]);
-        from += pitch;
+        from += t.pitch;
         i += 1;
     }
 }
@@ -170,35 +163,29 @@ pub fn store_checked(
     marks: &[u8],
     len: usize,
     seals: &[u8],
-    start: usize,
-    pitch: usize,
-    base: u64,
-    stride: u64,
-    rows: usize,
-    cols: usize,
-    w: usize,
+    t: Transfer,
     lines: usize,
     bytes: usize,
 ) -> Answer
-    requires { ⌜ start + rows * pitch ≤ length (now marks) ⌝ }
-    requires { ⌜ cols * w ≤ pitch ⌝ }
+    requires { ⌜ t .start + t .rows * t .pitch ≤ length (now marks) ⌝ }
+    requires { ⌜ t .columns * t .width ≤ t .pitch ⌝ }
     requires { ⌜ len < 2 ^ 63 ⌝ }
     requires { ⌜ lines * bytes < 2 ^ 63 ⌝ }
     requires { ⌜ sealsFit (sealsIn (now seals)) ≡ true ⌝ }
-    ensures { λ r. ⌜ r ≡ verdict (storeChecks (sealed (sealsIn (now (seals .entry)))) (now (marks .entry)) start pitch len base stride rows cols w lines bytes) ⌝ }
+    ensures { λ r. ⌜ r ≡ verdict (storeChecks (sealed (sealsIn (now (seals .entry)))) (now (marks .entry)) (t .start) (t .pitch) len (t .base) (t .stride) (t .rows) (t .columns) (t .width) lines bytes) ⌝ }
 {
-    let at = base as usize;
-    let written = first_unmarked(marks, start, pitch, rows, cols, w);
+    let at = t.base as usize;
+    let written = first_unmarked(marks, t.start, t.pitch, t.rows, t.columns, t.width);
     if !is_done(written) {
         return written;
     }
-    if !rows_inside(len, at, stride, lines, bytes) {
+    if !rows_inside(len, at, t.stride, lines, bytes) {
         return Answer::OutsideMemory;
     }
-    if !rows_distinct(len, at, stride, lines, bytes) {
+    if !rows_distinct(len, at, t.stride, lines, bytes) {
         return Answer::RowsOverlap;
     }
-    if !rows_unsealed(len, seals, at, stride, lines, bytes) {
+    if !rows_unsealed(len, seals, at, t.stride, lines, bytes) {
         return Answer::SealedByte;
     }
     Answer::Done

@@ -14,6 +14,7 @@ use unit_element::write1;
 use unit_element::write2;
 use unit_element::write4;
 use unit_element::write8;
+use unit_tile::Transfer;
 use unit_tile::load_tile;
 use unit_tile::mark_tile;
 use unit_tile::store_checked;
@@ -76,71 +77,58 @@ fn gather(dst: &mut [u8], src: &[u8], base: u64, stride: u64, n: usize, w: usize
 }
 
 // Copies a tile that lies in memory column by column to the registers.
-fn gather_tile(
-    registers: &mut [u8],
-    memory: &[u8],
-    start: usize,
-    pitch: usize,
-    base: u64,
-    stride: u64,
-    rows: usize,
-    cols: usize,
-    w: usize,
-)
-    requires { ⌜ start + rows * pitch ≤ length (now registers) ⌝ }
-    requires { ⌜ cols * w ≤ pitch ⌝ }
-    requires { ⌜ Width w ⌝ }
-    requires { ⌜ inside (length (now memory)) base stride cols (rows * w) ≡ true ⌝ }
-    ensures { λ _. ⌜ now (registers .exit) ≡ putTile (λ i. start + i * pitch) rows cols w (placed Transposed (element (now (memory .entry)) (rowAt base stride) w)) (now (registers .entry)) ⌝ }
+fn gather_tile(registers: &mut [u8], memory: &[u8], t: Transfer)
+    requires { ⌜ t .start + t .rows * t .pitch ≤ length (now registers) ⌝ }
+    requires { ⌜ t .columns * t .width ≤ t .pitch ⌝ }
+    requires { ⌜ Width (t .width) ⌝ }
+    requires { ⌜ inside (length (now memory)) (t .base) (t .stride) (t .columns) (t .rows * t .width) ≡ true ⌝ }
+    ensures { λ _. ⌜ now (registers .exit) ≡ putTile (λ i. t .start + i * t .pitch) (t .rows) (t .columns) (t .width) (placed Transposed (element (now (memory .entry)) (rowAt (t .base) (t .stride)) (t .width))) (now (registers .entry)) ⌝ }
 {
-    if cols == 0 {
+    if t.columns == 0 {
         return;
     }
-    let mut to = start;
-    let mut from = base;
+    let mut to = t.start;
+    let mut from = t.base;
     let mut i = 0;
-    while i < rows {
-        gather(&mut registers[to..], memory, from, stride, cols, w);
-        to += pitch;
-        from += w as u64;
+    while i < t.rows {
+        gather(
+            &mut registers[to..],
+            memory,
+            from,
+            t.stride,
+            t.columns,
+            t.width,
+        );
+        to += t.pitch;
+        from += t.width as u64;
         i += 1;
     }
 }
 
 // Copies the columns of a tile in the registers to rows in memory, upward.
-fn scatter_tile(
-    memory: &mut [u8],
-    registers: &[u8],
-    start: usize,
-    pitch: usize,
-    base: u64,
-    stride: u64,
-    rows: usize,
-    cols: usize,
-    w: usize,
-)
-    requires { ⌜ start + rows * pitch ≤ length (now registers) ⌝ }
-    requires { ⌜ cols * w ≤ pitch ⌝ }
-    requires { ⌜ Width w ⌝ }
-    requires { ⌜ inside (length (now memory)) base stride cols (rows * w) ≡ true ⌝ }
-    ensures { λ _. ⌜ now (memory .exit) ≡ putTile (rowAt base stride) cols rows w (placed Transposed (element (now (registers .entry)) (λ i. start + i * pitch) w)) (now (memory .entry)) ⌝ }
+fn scatter_tile(memory: &mut [u8], registers: &[u8], t: Transfer)
+    requires { ⌜ t .start + t .rows * t .pitch ≤ length (now registers) ⌝ }
+    requires { ⌜ t .columns * t .width ≤ t .pitch ⌝ }
+    requires { ⌜ Width (t .width) ⌝ }
+    requires { ⌜ inside (length (now memory)) (t .base) (t .stride) (t .columns) (t .rows * t .width) ≡ true ⌝ }
+    ensures { λ _. ⌜ now (memory .exit) ≡ putTile (rowAt (t .base) (t .stride)) (t .columns) (t .rows) (t .width) (placed Transposed (element (now (registers .entry)) (λ i. t .start + i * t .pitch) (t .width))) (now (memory .entry)) ⌝ }
 {
-    if rows == 0 {
+    if t.rows == 0 {
         return;
     }
-    let mut from = start;
+    let mut from = t.start;
     let mut j = 0;
-    while j < cols {
-        let to = row_address(base as usize, as_signed(stride), j);
+    while j < t.columns {
+        let to = row_address(t.base as usize, as_signed(t.stride), j);
         gather(
             &mut memory[to..],
             registers,
             from as u64,
-            pitch as u64,
-            rows,
-            w,
+            t.pitch as u64,
+            t.rows,
+            t.width,
         );
-        from += w;
+        from += t.width;
         j += 1;
     }
 }
@@ -166,59 +154,37 @@ fn memory_columns(form: Form, rows: usize, cols: usize) -> usize
 }
 
 // Copies a tile in memory to the registers.
-fn copy_in(
-    form: Form,
-    registers: &mut [u8],
-    memory: &[u8],
-    start: usize,
-    pitch: usize,
-    base: u64,
-    stride: u64,
-    rows: usize,
-    cols: usize,
-    w: usize,
-)
-    requires { ⌜ start + rows * pitch ≤ length (now registers) ⌝ }
-    requires { ⌜ cols * w ≤ pitch ⌝ }
-    requires { ⌜ Width w ⌝ }
-    requires { ⌜ inside (length (now memory)) base stride (memoryRows form rows cols) (memoryCols form rows cols * w) ≡ true ⌝ }
-    ensures { λ _. ⌜ now (registers .exit) ≡ putTile (λ i. start + i * pitch) rows cols w (placed form (element (now (memory .entry)) (rowAt base stride) w)) (now (registers .entry)) ⌝ }
+fn copy_in(form: Form, registers: &mut [u8], memory: &[u8], t: Transfer)
+    requires { ⌜ t .start + t .rows * t .pitch ≤ length (now registers) ⌝ }
+    requires { ⌜ t .columns * t .width ≤ t .pitch ⌝ }
+    requires { ⌜ Width (t .width) ⌝ }
+    requires { ⌜ inside (length (now memory)) (t .base) (t .stride) (memoryRows form (t .rows) (t .columns)) (memoryCols form (t .rows) (t .columns) * t .width) ≡ true ⌝ }
+    ensures { λ _. ⌜ now (registers .exit) ≡ putTile (λ i. t .start + i * t .pitch) (t .rows) (t .columns) (t .width) (placed form (element (now (memory .entry)) (rowAt (t .base) (t .stride)) (t .width))) (now (registers .entry)) ⌝ }
 {
     match form {
         Form::Plain => {
-            load_tile(registers, memory, start, pitch, base, stride, rows, cols, w);
+            load_tile(registers, memory, t);
         }
         Form::Transposed => {
-            gather_tile(registers, memory, start, pitch, base, stride, rows, cols, w);
+            gather_tile(registers, memory, t);
         }
     }
 }
 
 // Copies a tile in the registers to memory.
-fn copy_out(
-    form: Form,
-    memory: &mut [u8],
-    registers: &[u8],
-    start: usize,
-    pitch: usize,
-    base: u64,
-    stride: u64,
-    rows: usize,
-    cols: usize,
-    w: usize,
-)
-    requires { ⌜ start + rows * pitch ≤ length (now registers) ⌝ }
-    requires { ⌜ cols * w ≤ pitch ⌝ }
-    requires { ⌜ Width w ⌝ }
-    requires { ⌜ inside (length (now memory)) base stride (memoryRows form rows cols) (memoryCols form rows cols * w) ≡ true ⌝ }
-    ensures { λ _. ⌜ now (memory .exit) ≡ putTile (rowAt base stride) (memoryRows form rows cols) (memoryCols form rows cols) w (placed form (element (now (registers .entry)) (λ i. start + i * pitch) w)) (now (memory .entry)) ⌝ }
+fn copy_out(form: Form, memory: &mut [u8], registers: &[u8], t: Transfer)
+    requires { ⌜ t .start + t .rows * t .pitch ≤ length (now registers) ⌝ }
+    requires { ⌜ t .columns * t .width ≤ t .pitch ⌝ }
+    requires { ⌜ Width (t .width) ⌝ }
+    requires { ⌜ inside (length (now memory)) (t .base) (t .stride) (memoryRows form (t .rows) (t .columns)) (memoryCols form (t .rows) (t .columns) * t .width) ≡ true ⌝ }
+    ensures { λ _. ⌜ now (memory .exit) ≡ putTile (rowAt (t .base) (t .stride)) (memoryRows form (t .rows) (t .columns)) (memoryCols form (t .rows) (t .columns)) (t .width) (placed form (element (now (registers .entry)) (λ i. t .start + i * t .pitch) (t .width))) (now (memory .entry)) ⌝ }
 {
     match form {
         Form::Plain => {
-            store_tile(memory, registers, start, pitch, base, stride, rows, cols, w);
+            store_tile(memory, registers, t);
         }
         Form::Transposed => {
-            scatter_tile(memory, registers, start, pitch, base, stride, rows, cols, w);
+            scatter_tile(memory, registers, t);
         }
     }
 }
@@ -229,42 +195,25 @@ pub fn load(
     registers: &mut [u8],
     marks: &mut [u8],
     memory: &[u8],
-    start: usize,
-    pitch: usize,
-    base: u64,
-    stride: u64,
-    rows: usize,
-    cols: usize,
-    w: usize,
+    t: Transfer,
 ) -> Answer
-    requires { ⌜ start + rows * pitch ≤ length (now registers) ⌝ }
+    requires { ⌜ t .start + t .rows * t .pitch ≤ length (now registers) ⌝ }
     requires { ⌜ length (now marks) ≡ length (now registers) ⌝ }
-    requires { ⌜ cols * w ≤ pitch ⌝ }
-    requires { ⌜ Width w ⌝ }
-    requires { ⌜ w ≤ pitch ⌝ }
-    ensures { λ r. ⌜ r ≡ verdict ((inside (length (now (memory .entry))) base stride (memoryRows form rows cols) (memoryCols form rows cols * w) otherwise OutsideMemory) ∷ []) ⌝ }
-    ensures { λ r. ⌜ now (registers .exit) ≡ cond (isDone r) (putTile (λ i. start + i * pitch) rows cols w (placed form (element (now (memory .entry)) (rowAt base stride) w)) (now (registers .entry))) (now (registers .entry)) ⌝ }
-    ensures { λ r. ⌜ now (marks .exit) ≡ cond (isDone r) (markTile (λ i. start + i * pitch) rows (cols * w) (now (marks .entry))) (now (marks .entry)) ⌝ }
+    requires { ⌜ t .columns * t .width ≤ t .pitch ⌝ }
+    requires { ⌜ Width (t .width) ⌝ }
+    requires { ⌜ t .width ≤ t .pitch ⌝ }
+    ensures { λ r. ⌜ r ≡ verdict ((inside (length (now (memory .entry))) (t .base) (t .stride) (memoryRows form (t .rows) (t .columns)) (memoryCols form (t .rows) (t .columns) * t .width) otherwise OutsideMemory) ∷ []) ⌝ }
+    ensures { λ r. ⌜ now (registers .exit) ≡ cond (isDone r) (putTile (λ i. t .start + i * t .pitch) (t .rows) (t .columns) (t .width) (placed form (element (now (memory .entry)) (rowAt (t .base) (t .stride)) (t .width))) (now (registers .entry))) (now (registers .entry)) ⌝ }
+    ensures { λ r. ⌜ now (marks .exit) ≡ cond (isDone r) (markTile (λ i. t .start + i * t .pitch) (t .rows) (t .columns * t .width) (now (marks .entry))) (now (marks .entry)) ⌝ }
 {
-    let lines = memory_rows(form, rows, cols);
-    let bytes = memory_columns(form, rows, cols) * w;
+    let lines = memory_rows(form, t.rows, t.columns);
+    let bytes = memory_columns(form, t.rows, t.columns) * t.width;
     let len = memory.len();
-    if !rows_inside(len, base as usize, stride, lines, bytes) {
+    if !rows_inside(len, t.base as usize, t.stride, lines, bytes) {
         return Answer::OutsideMemory;
     }
-    copy_in(
-        form,
-        registers,
-        memory,
-        start,
-        pitch,
-        base,
-        stride,
-        rows,
-        cols,
-        w,
-    );
-    mark_tile(marks, start, pitch, rows, cols * w);
+    copy_in(form, registers, memory, t);
+    mark_tile(marks, t.start, t.pitch, t.rows, t.columns * t.width);
     Answer::Done
 }
 
@@ -275,53 +224,23 @@ pub fn store(
     marks: &[u8],
     memory: &mut [u8],
     seals: &[u8],
-    start: usize,
-    pitch: usize,
-    base: u64,
-    stride: u64,
-    rows: usize,
-    cols: usize,
-    w: usize,
+    t: Transfer,
 ) -> Answer
-    requires { ⌜ start + rows * pitch ≤ length (now registers) ⌝ }
+    requires { ⌜ t .start + t .rows * t .pitch ≤ length (now registers) ⌝ }
     requires { ⌜ length (now marks) ≡ length (now registers) ⌝ }
-    requires { ⌜ cols * w ≤ pitch ⌝ }
-    requires { ⌜ Width w ⌝ }
-    requires { ⌜ w ≤ pitch ⌝ }
+    requires { ⌜ t .columns * t .width ≤ t .pitch ⌝ }
+    requires { ⌜ Width (t .width) ⌝ }
+    requires { ⌜ t .width ≤ t .pitch ⌝ }
     requires { ⌜ sealsFit (sealsIn (now seals)) ≡ true ⌝ }
-    ensures { λ r. ⌜ r ≡ verdict (storeChecks (sealed (sealsIn (now (seals .entry)))) (now (marks .entry)) start pitch (length (now (memory .entry))) base stride rows cols w (memoryRows form rows cols) (memoryCols form rows cols * w)) ⌝ }
-    ensures { λ r. ⌜ now (memory .exit) ≡ cond (isDone r) (putTile (rowAt base stride) (memoryRows form rows cols) (memoryCols form rows cols) w (placed form (element (now (registers .entry)) (λ i. start + i * pitch) w)) (now (memory .entry))) (now (memory .entry)) ⌝ }
+    ensures { λ r. ⌜ r ≡ verdict (storeChecks (sealed (sealsIn (now (seals .entry)))) (now (marks .entry)) (t .start) (t .pitch) (length (now (memory .entry))) (t .base) (t .stride) (t .rows) (t .columns) (t .width) (memoryRows form (t .rows) (t .columns)) (memoryCols form (t .rows) (t .columns) * t .width)) ⌝ }
+    ensures { λ r. ⌜ now (memory .exit) ≡ cond (isDone r) (putTile (rowAt (t .base) (t .stride)) (memoryRows form (t .rows) (t .columns)) (memoryCols form (t .rows) (t .columns)) (t .width) (placed form (element (now (registers .entry)) (λ i. t .start + i * t .pitch) (t .width))) (now (memory .entry))) (now (memory .entry)) ⌝ }
 {
-    let lines = memory_rows(form, rows, cols);
-    let bytes = memory_columns(form, rows, cols) * w;
-    let answer = store_checked(
-        marks,
-        memory.len(),
-        seals,
-        start,
-        pitch,
-        base,
-        stride,
-        rows,
-        cols,
-        w,
-        lines,
-        bytes,
-    );
+    let lines = memory_rows(form, t.rows, t.columns);
+    let bytes = memory_columns(form, t.rows, t.columns) * t.width;
+    let answer = store_checked(marks, memory.len(), seals, t, lines, bytes);
     if !is_done(answer) {
         return answer;
     }
-    copy_out(
-        form,
-        memory,
-        registers,
-        start,
-        pitch,
-        base,
-        stride,
-        rows,
-        cols,
-        w,
-    );
+    copy_out(form, memory, registers, t);
     Answer::Done
 }

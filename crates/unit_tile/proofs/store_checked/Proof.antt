@@ -13,22 +13,22 @@ use Rattle.unit_tile.proofs.store_checked.Tie as tie
 
 -- the four checks
 abbrev five : tie.Start → Check
-five s = let a = s .args in marksCheck (a .marks .now) (a .start) (a .pitch) (a .rows) (a .cols) (a .w)
+five s = let a = s .args in marksCheck (a .marks .now) (a .t .start) (a .t .pitch) (a .t .rows) (a .t .columns) (a .t .width)
 
 abbrev six : tie.Start → Check
-six s = let a = s .args in memoryCheck (a .len) (a .base) (a .stride) (a .lines) (a .bytes)
+six s = let a = s .args in memoryCheck (a .len) (a .t .base) (a .t .stride) (a .lines) (a .bytes)
 
 abbrev thirteen : tie.Start → Check
-thirteen s = let a = s .args in overlapCheck (a .base) (a .stride) (a .lines) (a .bytes)
+thirteen s = let a = s .args in overlapCheck (a .t .base) (a .t .stride) (a .lines) (a .bytes)
 
 abbrev seven : tie.Start → Check
-seven s = let a = s .args in sealCheck (sealed (sealsIn (a .seals .now))) (a .base) (a .stride) (a .lines) (a .bytes)
+seven s = let a = s .args in sealCheck (sealed (sealsIn (a .seals .now))) (a .t .base) (a .t .stride) (a .lines) (a .bytes)
 
 first-unmarked-requires : tie.Need-first-unmarked-requires
 first-unmarked-requires c κs =
     let s = c .before .before in
     let a = s .args in
-    (rows-end (a .start) (a .pitch) (a .rows) (a .cols * a .w) (length (a .marks .now)) (s .pre .0) (s .pre .1 .0), s .pre .1 .0)
+    (rows-end (a .t .start) (a .t .pitch) (a .t .rows) (a .t .columns * a .t .width) (length (a .marks .now)) (s .pre .0) (s .pre .1 .0), s .pre .1 .0)
 
 returns : tie.Need-returns
 returns c =
@@ -51,7 +51,7 @@ returns-2 c =
     let a = s .args in
     let i = c .before .rows-inside in
     answer-after (five s ∷ []) (five-holds d, tt) (six s)
-    (test-failed (i .result) (inside (a .len) (a .base) (a .stride) (a .lines) (a .bytes)) (i .ensures) (c .if2 .taken))
+    (test-failed (i .result) (inside (a .len) (a .t .base) (a .t .stride) (a .lines) (a .bytes)) (i .ensures) (c .if2 .taken))
     (thirteen s ∷ seven s ∷ [])
 
 -- 6 passed
@@ -59,7 +59,7 @@ six-holds : (c : tie.Else2) → six (c .before .before .before .before .before .
 six-holds c =
     let a = c .before .before .before .before .before .before .before .args in
     let i = c .before .rows-inside in
-    test-passed (i .result) (inside (a .len) (a .base) (a .stride) (a .lines) (a .bytes)) (i .ensures) (c .if2 .left)
+    test-passed (i .result) (inside (a .len) (a .t .base) (a .t .stride) (a .lines) (a .bytes)) (i .ensures) (c .if2 .left)
 
 rows-distinct-requires : tie.Need-rows-distinct-requires
 rows-distinct-requires c κs = six-holds c
@@ -72,7 +72,7 @@ returns-3 c =
     let a = s .args in
     let t = c .before .rows-distinct in
     answer-after (five s ∷ six s ∷ []) (five-holds d, (six-holds g, tt)) (thirteen s)
-    (test-failed (t .result) (distinct (rowAt (a .base) (a .stride)) (a .lines) (a .bytes)) (t .ensures) (c .if3 .taken))
+    (test-failed (t .result) (distinct (rowAt (a .t .base) (a .t .stride)) (a .lines) (a .bytes)) (t .ensures) (c .if3 .taken))
     (seven s ∷ [])
 
 -- 13 passed
@@ -80,7 +80,7 @@ thirteen-holds : (c : tie.Else3) → thirteen (c .before .before .before .before
 thirteen-holds c =
     let a = c .before .before .before .before .before .before .before .before .before .args in
     let t = c .before .rows-distinct in
-    test-passed (t .result) (distinct (rowAt (a .base) (a .stride)) (a .lines) (a .bytes)) (t .ensures) (c .if3 .left)
+    test-passed (t .result) (distinct (rowAt (a .t .base) (a .t .stride)) (a .lines) (a .bytes)) (t .ensures) (c .if3 .left)
 
 rows-unsealed-requires : tie.Need-rows-unsealed-requires
 rows-unsealed-requires c κs =
@@ -97,7 +97,7 @@ returns-4 c =
     let a = s .args in
     let u = c .before .rows-unsealed in
     answer-after (five s ∷ six s ∷ thirteen s ∷ []) (five-holds d, (six-holds g, (thirteen-holds h, tt))) (seven s)
-    (test-failed (u .result) (rowsMiss (sealed (sealsIn (a .seals .now))) (a .base) (a .stride) (a .lines) (a .bytes)) (u .ensures) (c .if4 .taken))
+    (test-failed (u .result) (rowsMiss (sealed (sealsIn (a .seals .now))) (a .t .base) (a .t .stride) (a .lines) (a .bytes)) (u .ensures) (c .if4 .taken))
     []
 
 returns-5 : tie.Need-returns-5
@@ -108,7 +108,7 @@ returns-5 c =
     let s = d .before .before .before .before .before in
     let a = s .args in
     let u = c .before .rows-unsealed in
-    let clear = test-passed (u .result) (rowsMiss (sealed (sealsIn (a .seals .now))) (a .base) (a .stride) (a .lines) (a .bytes)) (u .ensures) (c .if4 .left) in
+    let clear = test-passed (u .result) (rowsMiss (sealed (sealsIn (a .seals .now))) (a .t .base) (a .t .stride) (a .lines) (a .bytes)) (u .ensures) (c .if4 .left) in
     sym (no-refusal (five s ∷ six s ∷ thirteen s ∷ seven s ∷ []) (five-holds d, (six-holds g, (thirteen-holds h, (clear, tt)))))
 
 pub store-checked-spec : {M : Type 1} → statement M

@@ -7,10 +7,10 @@ use Rattle.unit_transfer.proofs.copy_in.Tie as tie
 
 -- the rows lie in memory
 rows-in : (s : tie.Start) (f : Form) → s .args .form ≡ f
-    → let a = s .args in inside (length (a .memory .now)) (a .base) (a .stride) (memoryRows f (a .rows) (a .cols)) (memoryCols f (a .rows) (a .cols) * a .w) ≡ true
+    → let a = s .args in inside (length (a .memory .now)) (a .t .base) (a .t .stride) (memoryRows f (a .t .rows) (a .t .columns)) (memoryCols f (a .t .rows) (a .t .columns) * a .t .width) ≡ true
 rows-in s f e =
     let a = s .args in
-    subst (λ (f : Form). inside (length (a .memory .now)) (a .base) (a .stride) (memoryRows f (a .rows) (a .cols)) (memoryCols f (a .rows) (a .cols) * a .w) ≡ true) e (s .pre .1 .1 .1)
+    subst (λ (f : Form). inside (length (a .memory .now)) (a .t .base) (a .t .stride) (memoryRows f (a .t .rows) (a .t .columns)) (memoryCols f (a .t .rows) (a .t .columns) * a .t .width) ≡ true) e (s .pre .1 .1 .1)
 
 load-tile-requires : tie.Need-load-tile-requires
 load-tile-requires c κs =
