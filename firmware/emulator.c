@@ -31,12 +31,11 @@ void emulator_word(struct emulator *emulator, const char *format, ...)
     va_list list;
     char *word = NULL;
     va_start(list, format);
-    if (emulator->words_len == EMULATOR_WORDS_MOST || vasprintf(&word, format, list) < 0) {
-        complain("no room for QEMU's command line");
-        exit(STATUS_TROUBLE);
-    }
+    if (emulator->words_len == EMULATOR_WORDS_MOST || vasprintf(&word, format, list) < 0)
+        emulator->no_room = 1;
+    else
+        emulator->words[emulator->words_len++] = word;
     va_end(list);
-    emulator->words[emulator->words_len++] = word;
 }
 
 /* ---- files ---- */
@@ -48,8 +47,10 @@ static char *on_path(const char *name)
     while (folders != NULL) {
         size_t length = strcspn(folders, ":");
         char *path;
-        if (asprintf(&path, "%.*s/%s", length == 0 ? 1 : (int)length, length == 0 ? "." : folders, name) < 0)
-            return NULL;
+        if (asprintf(&path, "%.*s/%s", length == 0 ? 1 : (int)length, length == 0 ? "." : folders, name) < 0) {
+            complain("no room to look for %s", name);
+            _exit(STATUS_TROUBLE);
+        }
         if (access(path, X_OK) == 0)
             return path;
         free(path);
@@ -224,8 +225,10 @@ int emulator_start(struct emulator *emulator)
     struct sigaction remembered, interrupt;
     char **words = command_line(emulator);
     pid_t tool = getpid();
-    if (words == NULL)
+    if (words == NULL || emulator->no_room) {
+        free(words);
         return complain("no room for QEMU's command line");
+    }
     memset(&remembered, 0, sizeof remembered);
     remembered.sa_handler = remember_interrupt;
     remembered.sa_flags = SA_RESTART;

@@ -26,6 +26,7 @@ struct emulator {
     int has_terminal;
     char *words[EMULATOR_WORDS_MOST];
     size_t words_len;
+    int no_room; /* for one of them */
 };
 
 /* Finds QEMU and the plugin, and makes what is shared; 0, with a sentence, if that can't be. */

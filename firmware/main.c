@@ -142,13 +142,24 @@ static int run_file(const struct options *options)
     return status;
 }
 
-/* What is read of the program's file is mapped: where another program cuts it short, the rest is a fault. QEMU ends with the tool. */
-static void __attribute__((noreturn)) tell_cut(int number)
+/* Libraries read the program's file, which is mapped: where it is cut short meanwhile, the rest is a fault, and without room they fault, abort or
+ * end the tool themselves. That is told too. QEMU ends with the tool. */
+static void __attribute__((noreturn)) tell_fault(int number)
 {
-    static const char sentence[] = "bodlarina-firmware: a file was cut short while it was read\n";
+    static const char sentence[] = "\nbodlarina-firmware: the program's file cannot be read on: it was changed meanwhile, or there is no room\n";
     (void)number;
     write_all(STDERR_FILENO, (const uint8_t *)sentence, sizeof sentence - 1);
     _exit(STATUS_TROUBLE);
+}
+
+static int is_ended;
+
+static void tell_early_end(void)
+{
+    if (is_ended)
+        return;
+    fflush(stdout);
+    tell_fault(0);
 }
 
 int main(int count, char **words)
@@ -156,13 +167,18 @@ int main(int count, char **words)
     struct options options;
     int status;
     hold_standard_files();
-    signal(SIGBUS, tell_cut);
+    signal(SIGBUS, tell_fault);
+    signal(SIGSEGV, tell_fault);
+    signal(SIGABRT, tell_fault);
+    atexit(tell_early_end);
     if (bodlarina_version() != BODLARINA_VERSION_NUMBER) {
         complain("the library is not that of the header it was built with");
+        is_ended = 1;
         return STATUS_TROUBLE;
     }
     if (read_options(count, words, &options, &status))
         status = run_file(&options);
     free_options(&options);
+    is_ended = 1;
     return status;
 }

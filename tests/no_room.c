@@ -1,5 +1,7 @@
 /* tests/no_room.c: allocations that fail. Preloaded as a shared object, or linked with --wrap for malloc, calloc and realloc and -DWRAPPED, it fails the
  * allocation that NO_ROOM_AT numbers, from 1, or with NO_ROOM_FROM all from that one on; how many there were goes to the file NO_ROOM_COUNT. */
+#define _POSIX_C_SOURCE 200809L
+
 #include <errno.h>
 #include <fcntl.h>
 #include <stddef.h>
@@ -42,6 +44,9 @@ static int fails(void)
 void *OURS(malloc)(size_t bytes) { return fails() ? NULL : REAL(malloc)(bytes); }
 void *OURS(calloc)(size_t all, size_t bytes) { return fails() ? NULL : REAL(calloc)(all, bytes); }
 void *OURS(realloc)(void *old, size_t bytes) { return fails() ? NULL : REAL(realloc)(old, bytes); }
+
+/* A program that this one starts has room. */
+static void __attribute__((constructor)) stay_alone(void) { unsetenv("LD_PRELOAD"); }
 
 static void __attribute__((destructor)) tell_count(void)
 {
