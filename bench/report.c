@@ -33,6 +33,8 @@ void report_close(struct report *report)
     for (i = 0; i < report->room; i++)
         free(report->lines[i].printed);
     free(report->lines);
+    report->lines = NULL;
+    report->room = 0;
     capture_close(&report->capture);
 }
 

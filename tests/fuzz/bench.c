@@ -98,6 +98,20 @@ int write_all(int file, const uint8_t *bytes, size_t length)
     return 1;
 }
 
+/* Pictures and pages go nowhere. */
+int new_file_open(struct new_file *new, const char *path)
+{
+    (void)path;
+    new->beside = new->target = NULL;
+    new->file = fopen("/dev/null", "w");
+    return new->file != NULL;
+}
+
+int new_file_close(struct new_file *new, int whole) { return fclose(new->file) == 0 && whole; }
+
+void hold_standard_files(void) {}
+void hand_on_standard_files(void) {}
+
 static void forget(size_t from)
 {
     while (all > from)
