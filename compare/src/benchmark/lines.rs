@@ -132,7 +132,9 @@ fn processes(kind: &str, words: &[u8], lines: &[u8]) {
                     command
                         .stdin(std::fs::File::open(&path).expect("a file"))
                         .stdout(Stdio::null());
-                    command.arg(letter);
+                    if plain == 1 {
+                        command.arg(letter);
+                    }
                     let started = Instant::now();
                     command.status().expect("a program");
                     *time = time.min(started.elapsed().as_nanos() as f64);
