@@ -237,6 +237,8 @@ settings =
     ∷ (let o = step (word 0b0111000 0 0 7 0) (scalars 1 0) (bench 1 2 2 3 0 0 1) in record { got = o .bench .machine .«tile_n» ∷ getD (o .scalars) 0 9 ∷ []; want = 3 ∷ 0 ∷ [] })
     ∷ (let o = step (word 0b0111000 0 11 7 11) (scalars 1 100) good in record { got = o .bench .machine .«tile_n» ∷ getD (o .scalars) 11 9 ∷ []; want = 8 ∷ 8 ∷ [] })
     ∷ (let o = step (word 0b0001000 0 0 7 4) (scalars 1 100) (bench 8 2 2 2 0 0 1) in record { got = o .bench .machine .mtype ∷ getD (o .scalars) 4 9 ∷ []; want = 0 ∷ 0 ∷ [] })
+    -- an illegal value: mtype becomes 2^63, and so does rd
+    ∷ (let o = step (word 0b0001000 0 11 7 4) (scalars 1 100) good in record { got = o .bench .machine .mtype ∷ getD (o .scalars) 4 9 ∷ []; want = 0x8000_0000_0000_0000 ∷ 0x8000_0000_0000_0000 ∷ [] })
     -- slot 0 is read as 0 and never written
     ∷ (let o = step (word 0b0001000 0 0 7 0) (set (scalars 1 100) 0 2) (bench 8 2 2 2 0 0 1) in record { got = o .bench .machine .mtype ∷ getD (o .scalars) 0 9 ∷ []; want = 0 ∷ 2 ∷ [] })
     ∷ (let o = step (word 0b0010000 0 1 7 0) (set (scalars 1 100) 0 2) good in record { got = o .bench .machine .«tile_m» ∷ getD (o .scalars) 0 9 ∷ []; want = 1 ∷ 2 ∷ [] })
