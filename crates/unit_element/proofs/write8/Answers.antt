@@ -1,0 +1,27 @@
+use Rattle.numbers.proofs.Kit.{refl, arith, length-set}
+use Rattle.numbers.proofs.WordLaws.{put-bytes}
+use Rattle.unit_element.proofs.write8.Goals as goal
+
+pub bounds-s-at-2 : goal.bounds-s-at-2
+bounds-s-at-2 c = simp length-set (omega arith)
+
+pub bounds-s-at-3 : goal.bounds-s-at-3
+bounds-s-at-3 c = simp length-set (omega arith)
+
+pub bounds-s-at-4 : goal.bounds-s-at-4
+bounds-s-at-4 c = simp length-set (omega arith)
+
+pub bounds-s-at-5 : goal.bounds-s-at-5
+bounds-s-at-5 c = simp length-set (omega arith)
+
+pub bounds-s-at-6 : goal.bounds-s-at-6
+bounds-s-at-6 c = simp length-set (omega arith)
+
+pub bounds-s-at-7 : goal.bounds-s-at-7
+bounds-s-at-7 c = simp length-set (omega arith)
+
+pub bounds-s-at-8 : goal.bounds-s-at-8
+bounds-s-at-8 c = simp length-set (omega arith)
+
+pub returns : goal.returns
+returns c = put-bytes 7 c.args.at c.args.v _ c.args.s.now refl
