@@ -1,0 +1,41 @@
+-- By whether the row is a block.
+use Rattle.numbers.proofs.Kit.{sym, ap, ◌∙◌, ℕ, ◌*◌, arith}
+use Rattle.numbers.specs.Tile.{put_row}
+use Rattle.numbers.specs.Bounds.{most_columns}
+use Rattle.unit_sums.specs.Rows.{product_row}
+use Rattle.unit_sums.proofs.RowLaws.{row-of-products}
+use Rattle.unit_sums.proofs.sums64.multiply_row.Goals as goal
+
+pub multiply_block-requires : goal.multiply_block-requires
+multiply_block-requires c =
+    let p = (c.requires.width, c.requires.width_bound, c.requires.width_in_bounds) in
+    let e = c.if-n-eq-BLOCK.true in
+    record {
+      width = p.0;
+      width_bound = omega (arith, p.1.0, ap (λ (n : ℕ). n * c.args.width) e);
+      width_in_bounds = (p.1.1.0, (p.1.1.1.0, omega (arith, p.1.1.1.1, e)));
+    }
+
+pub returns-then-n-eq-BLOCK : goal.returns-then-n-eq-BLOCK
+returns-then-n-eq-BLOCK c =
+    let a = c.args in
+    c.multiply_block.ensures
+    ∙ ap (λ (n : ℕ). put_row c n 8 (product_row a.s.now 8 a.width a.pitch a.k a.a a.b c) a.s.now) (sym c.if-n-eq-BLOCK.true)
+
+pub returns : goal.returns
+returns c =
+    let a = c.args in
+    let g = c.add_products in
+    let w = c.finish_row in
+    row-of-products 8 a.s.now a.width a.pitch a.k a.a a.b c a.n most_columns g.new.acc w.new.s (omega arith)
+    (λ q. omega (arith, c.type_inv.s q)) (λ j h. omega (arith, c.requires.n_le_most_columns)) g.ensures w.ensures
+
+pub add_products-requires : goal.add_products-requires
+add_products-requires c =
+    record {
+      n_in_bounds = c.requires.n_le_most_columns;
+      width = c.requires.width;
+      width_bound = c.requires.width_bound;
+      width_in_bounds = c.requires.width_in_bounds.0;
+      pitch_in_bounds = c.requires.width_in_bounds.1.0;
+    }
