@@ -1,4 +1,6 @@
 // The lines that `product` writes. What they say is defined in specs/. Each writer goes on from `at` and returns where it ends.
+#![tactic(auto)]
+
 ghost use Rattle.std.specs.Prelude.{◌≡◌, ◌∷◌, [], suc, ◌+◌, ◌-◌, ◌*◌, ◌≤◌, ◌<◌, leb, length};
 ghost use Rattle.numbers.specs.Reduce.{signed};
 ghost use Rattle.text_lines.specs.Lines.{decimal, number_text, spaced, lines, first_line, accepted, refused};
