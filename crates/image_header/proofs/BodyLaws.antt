@@ -1,5 +1,5 @@
 -- What is built of the runs of an image does not matter to reading them.
-use Rattle.numbers.proofs.Kit.{◌≡◌, refl, ap, ◌∙◌, Bool, true, false, List, [], ◌∷◌, ℕ, zero, suc, ◌+◌, ◌-◌, ◌*◌, ◌≤◌, ◌<◌, leb, length, take, drop}
+use Rattle.numbers.proofs.Kit.{◌≡◌, refl, ap, ◌∙◌, Bool, true, false, List, [], ◌∷◌, ℕ, zero, suc, ◌+◌, ◌-◌, ◌*◌, leb, length, take, drop}
 use Rattle.numbers_format.specs.Numbers.{Interval, span}
 use Rattle.numbers_format.specs.Formats.{Format}
 use Rattle.numbers_format.specs.Formats.Format.{number, bytes}

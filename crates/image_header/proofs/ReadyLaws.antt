@@ -1,5 +1,5 @@
 -- The exponents of a header stay some that are permitted, and the row of the next field is there.
-use Rattle.numbers.proofs.Kit.{◌≡◌, refl, sym, ap, ◌∙◌, subst, Bool, true, false, cond, List, ℕ, zero, suc, ◌+◌, ◌-◌, ◌*◌, ◌^◌, ◌≤◌, ◌<◌, min, arith, eqb}
+use Rattle.numbers.proofs.Kit.{◌≡◌, refl, sym, ap, ◌∙◌, subst, Bool, true, false, cond, List, ℕ, zero, suc, ◌-◌, ◌^◌, ◌≤◌, ◌<◌, min, arith, eqb}
 use Rattle.numbers.proofs.Kit.{ltb, ltb-true, eqb-true}
 use Rattle.numbers_coded.specs.declared.Reading.{Reading}
 use Rattle.numbers_coded.specs.At.{Number, plain}

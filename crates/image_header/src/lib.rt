@@ -1,5 +1,7 @@
 // The header of an image: its numbers, field by field, up to and with the number of runs. What a field may be is a row of a table, by the
 // numbers read so far.
+#![tactic(auto)]
+
 ghost use Rattle.std.specs.Prelude.{◌≡◌, ◌^◌, ◌≤◌, ◌<◌};
 ghost use Rattle.image.specs.ImageFormat.{top_rlen, top_mlen, least_mlen};
 ghost use Rattle.numbers_coded.specs.At.{plain};
@@ -16,7 +18,7 @@ pub const ALL_READ: usize = 12;
 const AT_FAULT: usize = 13;
 
 // What may stand in a field, by the kind.
-#[derive(Drop)]
+#[derive(Clone, Copy)]
 pub struct Row {
     pub kind: u64,
     pub low: u64,
@@ -33,7 +35,7 @@ const RANGES: u64 = 3; // so many ranges, low of them: the number is their place
 
 // The fields read so far: the number of the next one and its row, and the place behind them; at a fault the place of it. A field that is not
 // read yet, or that the version does not have, is what it is in `first_field`.
-#[derive(Drop)]
+#[derive(Clone, Copy)]
 pub struct Fields {
     pub next: usize,
     pub at: usize,
