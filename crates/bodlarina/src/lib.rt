@@ -1,6 +1,8 @@
 // The C interface: numbers and lent byte buffers in, one number out. Each function on buffers is one call of the function below it;
 // one that takes a plan in numbers makes a plan of them first. What each answers and leaves is defined in specs/, here and in the
 // crates that it calls.
+#![tactic(auto)]
+
 mod images; // images of machines
 mod runs; // the product run
 mod texts; // lines of assembler text

@@ -1,4 +1,6 @@
 // Numbers as a host in C passes them, in blocks of bytes. The layout is that of include/bodlarina.h; what lies where is defined in specs/.
+#![tactic(auto)]
+
 ghost use Rattle.std.specs.Prelude.{◌≡◌, true, ◌*◌, ◌≤◌, length, get_or};
 ghost use Rattle.numbers.specs.Upto.{upto};
 ghost use Rattle.numbers.specs.Tile.{put_le};

@@ -1,5 +1,7 @@
 // The size, the writing and the reading of images as C calls them, with the machine in a block of bytes. What each answers and leaves is
 // defined in specs/.
+#![tactic(auto)]
+
 ghost use Rattle.std.specs.Prelude.{◌≡◌};
 ghost use Rattle.image.specs.Answers.{image_reply};
 ghost use Rattle.c_image.specs.ImageCalls.{packed_reply, host_image_size, written_out, host_image_write, read_out, host_image_read};

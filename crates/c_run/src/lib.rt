@@ -1,5 +1,7 @@
 // A start of a run, its next step and the number of its steps as C calls them, on blocks of bytes. What each answers and leaves is defined in
 // specs/.
+#![tactic(auto)]
+
 ghost use Rattle.std.specs.Prelude.{◌≡◌};
 ghost use Rattle.c_run.specs.RunCalls.{run_started_out, host_run_start, next_out, host_next, host_run_steps};
 

@@ -1,4 +1,6 @@
 // A run and a step as a host in C passes them, in blocks of bytes. What lies where is defined in specs/.
+#![tactic(auto)]
+
 ghost use Rattle.std.specs.Prelude.{◌≡◌, [], ◌∷◌, ◌+◌, ◌≤◌, length};
 ghost use Rattle.numbers.specs.Tile.{put_le};
 ghost use Rattle.machine.specs.Tests.{every};
@@ -14,7 +16,7 @@ pub const RUN_BYTES: usize = 160;
 // ---- a run out of its block
 
 // The four numbers of a place.
-#[derive(Drop)]
+#[derive(Clone, Copy)]
 pub struct Spot {
     kind: u64,
     row: u64,

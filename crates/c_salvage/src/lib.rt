@@ -1,4 +1,6 @@
 // Salvage as C calls it, with its report in a block of bytes. What it answers and leaves is defined in specs/.
+#![tactic(auto)]
+
 ghost use Rattle.std.specs.Prelude.{◌≡◌, [], ◌∷◌, length};
 ghost use Rattle.c_blocks.specs.Blocks.{put_numbers};
 ghost use Rattle.image.specs.Answers.{image_reply};

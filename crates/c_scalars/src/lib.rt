@@ -1,4 +1,6 @@
 // A step with the scalars in a block of bytes.
+#![tactic(auto)]
+
 ghost use Rattle.std.specs.Prelude.{◌≡◌, cond, ◌*◌, ◌<◌, length, eqb};
 ghost use Rattle.numbers.specs.Tile.{put_le};
 ghost use Rattle.machine.specs.Geometry.{bench_of};

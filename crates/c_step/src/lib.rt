@@ -1,4 +1,6 @@
 // A start of a machine, a step and the sealing of a range as C calls them, on blocks of bytes. What each answers and leaves is defined in specs/.
+#![tactic(auto)]
+
 ghost use Rattle.std.specs.Prelude.{◌≡◌};
 ghost use Rattle.c_step.specs.BenchCalls.{started_out, host_start, stepped_out, host_step, sealed_out, host_seal};
 

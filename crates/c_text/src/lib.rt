@@ -1,4 +1,6 @@
 // Lines of assembler text as C calls them: the line of a word, and the word of a line. What each answers and leaves is defined in specs/.
+#![tactic(auto)]
+
 ghost use Rattle.std.specs.Prelude.{◌≡◌, true, cond, ◌++◌, leb, length, drop};
 ghost use Rattle.unit_table.specs.Table.{entry_of};
 ghost use Rattle.text_assembly.specs.Answers.{text_reply};

@@ -1,4 +1,6 @@
 // Turns of a run, and a whole run, as C calls them, on blocks of bytes. What each answers and leaves is defined in specs/.
+#![tactic(auto)]
+
 ghost use Rattle.std.specs.Prelude.{◌≡◌};
 ghost use Rattle.c_turn.specs.TurnCalls.{turned_out, host_turn, host_turns, ran_out, host_run};
 

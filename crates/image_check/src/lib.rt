@@ -1,4 +1,6 @@
 // The check of an image: its header and its runs, up to the place of the first fault. What an image is, is defined in image/specs/.
+#![tactic(auto)]
+
 ghost use Rattle.std.specs.Prelude.{◌≡◌};
 ghost use Rattle.image.specs.Reading.{check_image};
 ghost use Rattle.image_check.specs.Parts.{verdict_in, image_done};

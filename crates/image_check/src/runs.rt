@@ -7,7 +7,7 @@ use numbers::smaller;
 use numbers_coded::number_at;
 
 // The gap and the length of a run and the place of its bytes, all of which are there; or that it is not there, and the place of the fault.
-#[derive(Drop)]
+#[derive(Clone, Copy)]
 pub struct RunRead {
     pub good: bool,
     pub gap: u64,
@@ -58,7 +58,7 @@ pub fn next_run(s: &[u8], at: usize, left: u64, least: u64, room: u64) -> RunRea
 
 // The runs read so far: how many are left to read, none behind a fault; how many are there whole, and the place behind them; the bytes of room
 // that are left; and the place of the fault, or that behind the runs.
-#[derive(Drop)]
+#[derive(Clone, Copy)]
 pub struct Runs {
     pub left: u64,
     pub kept: u64,

@@ -8,7 +8,7 @@ use image_header::{ALL_READ, Fields, field_from, first_field, power, rested};
 use numbers_coded::{Reader, set_on};
 
 // What is found in an image: its header, and its runs.
-#[derive(Drop)]
+#[derive(Clone, Copy)]
 pub struct Scanned {
     pub fields: Fields,
     pub runs: Runs,

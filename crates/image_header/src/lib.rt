@@ -55,7 +55,7 @@ pub struct Fields {
 }
 
 // A range of an image: whether it is there, and the place behind it, or that of the fault.
-#[derive(Drop)]
+#[derive(Clone, Copy)]
 pub struct RangeRead {
     pub good: bool,
     pub start: u64,

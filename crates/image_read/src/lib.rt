@@ -1,5 +1,7 @@
 // Reading an image: the machine that it makes of the lent buffers. What an image is, and what reading leaves, is defined in image/specs/. The
 // check finds the place of a fault; only then the buffers are filled, so that a refusal changes nothing.
+#![tactic(auto)]
+
 ghost use Rattle.std.specs.Prelude.{◌≡◌};
 ghost use Rattle.image.specs.Reading.{read_image};
 ghost use Rattle.machine.specs.Starting.{no_machine};
@@ -19,7 +21,7 @@ mod fill; // runs into registers and marks
 mod seals; // ranges into a block
 
 // What was read: the machine, how many ranges it holds and where they stand in the image; zeros where it is refused.
-#[derive(Drop)]
+#[derive(Clone, Copy)]
 pub struct Found {
     pub answer: Imaged,
     pub machine: Machine,

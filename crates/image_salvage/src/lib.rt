@@ -1,5 +1,7 @@
 // Salvage of an image that was cut or damaged: its header and the runs that are there whole, written as a fresh image. What is kept and what is
 // written is defined in specs/. The first pass finds what is kept; only then the room is written, so that a refusal changes nothing.
+#![tactic(auto)]
+
 ghost use Rattle.std.specs.Prelude.{◌≡◌};
 ghost use Rattle.image_salvage.specs.Salvage.{salvage, salvaged_as};
 
@@ -12,7 +14,7 @@ mod fresh; // the fresh image
 
 // What a salvage returns beside the lent room: the runs kept and announced, the place of the fault, and the length of the fresh image. Where
 // it is refused, all but the place are 0.
-#[derive(Drop)]
+#[derive(Clone, Copy)]
 pub struct Salvaged {
     pub answer: Imaged,
     pub kept: u64,

@@ -1,5 +1,7 @@
 // Sizing and writing an image. What an image is, and what sizing and writing answer and leave, is defined in image/specs/. The first pass
 // finds the image's length; only the second writes, so that a refusal changes nothing.
+#![tactic(auto)]
+
 ghost use Rattle.std.specs.Prelude.{◌≡◌, true, [], ◌∷◌, ◌++◌, ◌+◌, ◌≤◌, ◌<◌, length, take};
 ghost use Rattle.std.proofs.lemmas.List.Edits.{sets};
 ghost use Rattle.numbers_format.specs.Numbers.{encode_all};
@@ -50,7 +52,7 @@ fn is_beyond(m: Machine) -> bool
 }
 
 // The version of an image and what follows it: the first `count` of these numbers.
-#[derive(Drop)]
+#[derive(Clone, Copy)]
 pub struct Version {
     pub numbers: [u64; 3],
     pub count: usize,
@@ -167,7 +169,7 @@ fn put_header(room: &mut [u8], start: usize, m: Machine, block: &[u8], count: u6
 }
 
 // The number of runs of a machine, and the length of its image.
-#[derive(Drop)]
+#[derive(Clone, Copy)]
 pub struct Measure {
     pub count: u64,
     pub size: usize,

@@ -9,7 +9,7 @@ use crate::stretch::stretch_end;
 use numbers_coded::{copy_bytes, number_size, put_number};
 
 // The number of runs, and how many bytes they take in an image.
-#[derive(Drop)]
+#[derive(Clone, Copy)]
 pub struct Tally {
     pub runs: u64,
     pub bytes: usize,

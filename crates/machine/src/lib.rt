@@ -1,8 +1,9 @@
 // The machine's numbers, its answers and its instructions. What they mean is defined in specs/.
+#![tactic(auto)]
 
 // The machine's numbers: its lengths in bits, mtype, the tile sizes, the rule by which it chooses sizes, and ELEN, the widest element in
 // bits. Its sealed ranges are lent beside it.
-#[derive(Drop)]
+#[derive(Clone, Copy)]
 pub struct Machine {
     pub rlen: u64,
     pub mlen: u64,
@@ -15,7 +16,7 @@ pub struct Machine {
 }
 
 // What a start, a step or a run answers. specs/Answers.antt gives the number, row and column of each case.
-#[derive(Drop)]
+#[derive(Clone, Copy)]
 pub enum Answer {
     Done,
     IllegalWord,
@@ -35,7 +36,7 @@ pub enum Answer {
 }
 
 // An answer's number, and the row and column that it names; 0 where it names none.
-#[derive(Drop)]
+#[derive(Clone, Copy)]
 pub struct Reply {
     pub number: u64,
     pub row: u64,
@@ -43,27 +44,27 @@ pub struct Reply {
 }
 
 // What a start returns: the machine, or zeros where it is refused.
-#[derive(Drop)]
+#[derive(Clone, Copy)]
 pub struct Started {
     pub answer: Answer,
     pub machine: Machine,
 }
 
 // What a step returns beside the lent buffers.
-#[derive(Drop)]
+#[derive(Clone, Copy)]
 pub struct Stepped {
     pub answer: Answer,
     pub machine: Machine,
 }
 
-#[derive(Drop)]
+#[derive(Clone, Copy)]
 pub enum Matrix {
     MatrixA,
     MatrixB,
     MatrixC,
 }
 
-#[derive(Drop)]
+#[derive(Clone, Copy)]
 pub enum Dimension {
     DimensionM,
     DimensionK,
@@ -71,21 +72,21 @@ pub enum Dimension {
 }
 
 // Whether row and column change places between register and memory; of a move, whether rows or columns lie in the vector registers.
-#[derive(Drop)]
+#[derive(Clone, Copy)]
 pub enum Form {
     Plain,
     Transposed,
 }
 
 // The output's width, as a multiple of SEW.
-#[derive(Drop)]
+#[derive(Clone, Copy)]
 pub enum Factor {
     Single,
     Double,
     Quadruple,
 }
 
-#[derive(Drop)]
+#[derive(Clone, Copy)]
 pub enum Sum {
     Add,
     Subtract,
@@ -94,7 +95,7 @@ pub enum Sum {
 
 // What is wrong with a word: its opcode; that section 4.5 lists it and we don't carry it out; that its code or its fixed fields
 // are in no entry; a register field out of range.
-#[derive(Drop)]
+#[derive(Clone, Copy)]
 pub enum Wrong {
     Opcode,
     LeftOut,
@@ -105,7 +106,7 @@ pub enum Wrong {
 // A decoded word. rd, rs1 and rs2 are slots of the scalars; md, ms1, ms2 and ms3 are registers; vd and vs1 are vector registers; a
 // width is in bytes.
 // Illegal is a word that is refused for what it is.
-#[derive(Drop)]
+#[derive(Clone, Copy)]
 pub enum Instruction {
     Illegal {
         wrong: Wrong,

@@ -1,4 +1,6 @@
 // Numbers in groups of seven bits: read from a slice, by a reader set on it, and put into one; and bytes as they are.
+#![tactic(auto)]
+
 ghost use Rattle.std.specs.Prelude.{◌≡◌, ◌+◌, ◌-◌, ◌*◌, ◌/◌, ◌^◌, ◌<◌, ◌≤◌, max, length, take, drop, get_or};
 ghost use Rattle.std.proofs.lemmas.List.Edits.{sets};
 ghost use Rattle.numbers_format.specs.Numbers.{encode};
@@ -7,7 +9,7 @@ ghost use Rattle.numbers_coded.specs.At.Number.{Value, Fault};
 
 // What is read at a place: a permitted number and the place behind it; or that none is there, and the place of the first byte at which none can
 // go on.
-#[derive(Drop)]
+#[derive(Clone, Copy)]
 pub struct Reading {
     pub good: bool,
     pub value: u64,

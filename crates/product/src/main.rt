@@ -1,4 +1,6 @@
 // Reads the numbers of a product from standard input, and writes its answer to standard output.
+#![tactic(auto)]
+
 use libc::{STDERR_FILENO, STDOUT_FILENO};
 
 // One byte more is read than a text may have, so that a longer one is refused. A text that was not read whole gets no answer.

@@ -1,4 +1,6 @@
 // The text that `product` writes for the text that it reads.
+#![tactic(auto)]
+
 ghost use Rattle.std.specs.Prelude.{◌≡◌, true, List, ℕ, ◌+◌, ◌*◌, ◌^◌, ◌≤◌, ◌<◌, length, take, drop, get_or};
 ghost use Rattle.numbers.specs.Tile.{put_row};
 ghost use Rattle.unit_element.specs.Element.{Short};

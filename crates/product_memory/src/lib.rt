@@ -1,4 +1,6 @@
 // Where the matrices of `product` lie in its memory, and their elements written and read.
+#![tactic(auto)]
+
 ghost use Rattle.std.specs.Prelude.{◌≡◌, true, ℕ, ◌+◌, ◌*◌, ◌≤◌, ◌<◌, length, get_or};
 ghost use Rattle.numbers.specs.Tile.{get_le, put_le, put_row};
 ghost use Rattle.unit_element.specs.Element.{Short};

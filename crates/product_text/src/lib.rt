@@ -1,4 +1,6 @@
 // The problem that a text poses to `product`. What it means is defined in specs/.
+#![tactic(auto)]
+
 ghost use Rattle.std.specs.Prelude.{◌≡◌, true, false, List, ◌∷◌, [], map, ◌+◌, ◌-◌, ◌*◌, ◌^◌, ◌≤◌, ◌<◌, min, ℤ, length, take, drop, get_or};
 ghost use Rattle.std.proofs.Math.Option.{some};
 ghost use Rattle.machine.specs.Tests.{all_of, is_in};
@@ -9,14 +11,14 @@ ghost use Rattle.product_text.specs.Parts.{held, held_in, front, put_front, digi
 // ---- types
 
 // What a word is: a number, as the code holds it, or something else.
-#[derive(Drop)]
+#[derive(Clone, Copy)]
 enum Word {
     Value(u64),
     Other,
 }
 
 // What stands next in a text.
-#[derive(Drop)]
+#[derive(Clone, Copy)]
 enum Token {
     Number { held: u64, next: usize },
     End,
@@ -24,14 +26,14 @@ enum Token {
 }
 
 // How many numbers a text has; Many where it has too many, or a word that is no number.
-#[derive(Drop)]
+#[derive(Clone, Copy)]
 enum Count {
     All(usize),
     Many,
 }
 
 // What a text asks for.
-#[derive(Drop)]
+#[derive(Clone, Copy)]
 pub enum Parsed {
     Posed {
         sew: u64,

@@ -1,4 +1,6 @@
 // Carrying out the word at the place of a run. What each function returns and leaves is that of the word's step (machine/specs/Step.antt).
+#![tactic(auto)]
+
 ghost use Rattle.std.specs.Prelude.{◌≡◌, true, List, [], ◌∷◌, ℕ, ◌*◌, ◌≤◌, ◌<◌};
 ghost use Rattle.numbers.specs.Bounds.{most_elen};
 ghost use Rattle.machine.specs.declared.Answer.TheVariants.{Done};

@@ -1,4 +1,6 @@
 // The overlap tests of a start, exact: by the ends of ranges.
+#![tactic(auto)]
+
 ghost use Rattle.std.specs.Prelude.{◌≡◌, true, not, ℕ, ◌+◌, ◌*◌, ◌^◌, ◌<◌, ◌≤◌};
 ghost use Rattle.machine.specs.Tests.{all, within};
 ghost use Rattle.machine.specs.Memory.{row_at, inside};

@@ -1,4 +1,6 @@
 // The places of a run: whether it is at one that a start and turns come to, and the next.
+#![tactic(auto)]
+
 ghost use Rattle.std.specs.Prelude.{◌≡◌, true, [], ◌∷◌, ◌+◌, ◌-◌, ◌≤◌, ◌<◌, ltb};
 ghost use Rattle.machine.specs.Tests.{every, is_in};
 ghost use Rattle.machine.specs.Setting.{chosen, max_m, max_n, max_k};

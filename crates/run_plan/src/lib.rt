@@ -1,4 +1,6 @@
 // The numbers of a plan: whether they are permitted, its elements, where its matrices and their blocks lie, and whether a place lies in them.
+#![tactic(auto)]
+
 ghost use Rattle.std.specs.Prelude.{◌≡◌, ◌*◌, ◌%◌, ◌^◌, ◌≤◌, true, [], ◌∷◌, nat_lt};
 ghost use Rattle.numbers.specs.Bounds.{most_elen};
 ghost use Rattle.machine.specs.Tests.{every, is_in};

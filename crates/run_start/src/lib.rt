@@ -1,4 +1,6 @@
 // Starting a product run on a machine: 8, then 6, then 9.
+#![tactic(auto)]
+
 ghost use Rattle.std.specs.Prelude.{◌≡◌};
 ghost use Rattle.machine.specs.Geometry.{bench_of};
 ghost use Rattle.machine.specs.Setting.{chosen};

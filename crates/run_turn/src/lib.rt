@@ -1,4 +1,6 @@
 // Turns of a product run on a machine. What each returns and leaves is defined in run/specs/Turn.antt.
+#![tactic(auto)]
+
 ghost use Rattle.std.specs.Prelude.{◌≡◌, true, List, ◌≤◌};
 ghost use Rattle.machine.specs.Geometry.{Range, bench_of};
 ghost use Rattle.machine.specs.Faults.{sound, seals_fit};
@@ -14,7 +16,7 @@ use machine::{Answer, Dimension, Machine};
 use run::{Place, Run, Taken, Turned};
 
 // What a turn answers, and the run's place and the machine after it.
-#[derive(Drop)]
+#[derive(Clone, Copy)]
 struct Moved {
     answer: Answer,
     place: Place,
@@ -22,7 +24,7 @@ struct Moved {
 }
 
 // What turns come to: how many were answered 0, and the run's place and the machine after them.
-#[derive(Drop)]
+#[derive(Clone, Copy)]
 struct Progress {
     count: u64,
     place: Place,

@@ -1,4 +1,6 @@
 // A whole product run on a machine: its start, and all its turns.
+#![tactic(auto)]
+
 ghost use Rattle.std.specs.Prelude.{◌≡◌};
 ghost use Rattle.machine.specs.Geometry.{bench_of};
 ghost use Rattle.machine.specs.Setting.{chosen};

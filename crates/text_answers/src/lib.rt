@@ -1,4 +1,6 @@
 // The answers to words and lines of text: their numbers and columns, and a refused line as it is printed.
+#![tactic(auto)]
+
 ghost use Rattle.std.specs.Prelude.{◌≡◌, cond, [], ◌∷◌, ◌+◌, ◌≤◌, ltb, length};
 ghost use Rattle.machine.specs.Answers.{number};
 ghost use Rattle.machine.specs.Refusals.{word_answer};

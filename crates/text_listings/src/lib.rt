@@ -1,4 +1,6 @@
 // Listings in assembler text: from words to lines and back, text to text. What they mean is defined in `text_assembly`.
+#![tactic(auto)]
+
 ghost use Rattle.std.specs.Prelude.{◌≡◌, true, false, ◌+◌, ◌/◌, ◌%◌, ◌^◌, ◌≤◌, ◌<◌, length, take, drop};
 ghost use Rattle.machine.specs.Listing.{listing};
 ghost use Rattle.text_lines.specs.Parts.{Wrote};

@@ -1,4 +1,6 @@
 // Reading a line of assembler text: the word whose line it is, or the place of the first character at which no line goes on.
+#![tactic(auto)]
+
 ghost use Rattle.std.specs.Prelude.{◌≡◌, false, List, ◌∷◌, ℕ, ◌+◌, ◌*◌, ◌-◌, ◌≤◌, ◌<◌, max, eqb, length, drop};
 ghost use Rattle.text_assembly.specs.Lines.{is_mark, operand_of, small};
 ghost use Rattle.text_assembly.specs.Reading.{is_digit, goes_on, digits_on, is_first, read_decimal, read_operand, read_line};
@@ -6,21 +8,21 @@ ghost use Rattle.text_read.specs.Table.{base_of, table, row_at};
 ghost use Rattle.text_read.specs.Parts.{got_from, as_line, next_scale, row_from, end_at, go_on, Bounded, read_row, space_in, feed_at};
 
 // A number and the place after it, or the place at which none goes on.
-#[derive(Drop)]
+#[derive(Clone, Copy)]
 pub enum Read {
     Value { number: u64, next: usize },
     Fault { place: usize },
 }
 
 // The word of a line, or the place at which no line goes on.
-#[derive(Drop)]
+#[derive(Clone, Copy)]
 pub enum Line {
     Word { word: u64 },
     Bad { place: usize },
 }
 
 // What a letter of a row's text comes to: the next place, the next operand's place in the word and what is known of the word; or a stop.
-#[derive(Drop)]
+#[derive(Clone, Copy)]
 pub enum Step {
     On { next: usize, scale: u64, word: u64 },
     Stop { place: usize },

@@ -1,4 +1,6 @@
 // Writing the line of a word.
+#![tactic(auto)]
+
 ghost use Rattle.std.specs.Prelude.{◌≡◌, true, ◌+◌, ◌-◌, ◌≤◌, ◌<◌, length, drop};
 ghost use Rattle.machine.specs.Listing.{listing};
 ghost use Rattle.unit_table.specs.Table.{entry_of};

@@ -1,1 +1,2 @@
 // No code: statements and proofs about the definitions of `machine` and `image`. See specs/.
+#![tactic(auto)]

@@ -1,1 +1,2 @@
 // Which step gets which answer: what stands in specs/ and proofs/. No code.
+#![tactic(auto)]

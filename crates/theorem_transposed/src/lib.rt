@@ -1,1 +1,2 @@
 // A plain load, then a transposed store: what stands in specs/ and proofs/. No code.
+#![tactic(auto)]

@@ -1,5 +1,7 @@
 // Where the rows of a tile lie in memory: row i at base + i * stride. The stride is signed, so rows go down as well as up. The tests
 // on all rows: in memory, no byte in two of them, none in a range.
+#![tactic(auto)]
+
 ghost use Rattle.std.specs.Prelude.{◌≡◌, true, false, ◌+◌, ◌*◌, ◌^◌, ◌<◌, leb, pos, nat_abs, ◌+ℤ◌, ◌*ℤ◌};
 ghost use Rattle.numbers.specs.Reduce.{signed};
 ghost use Rattle.machine.specs.Tests.{within};

@@ -1,4 +1,6 @@
 // An answer's number, row and column.
+#![tactic(auto)]
+
 ghost use Rattle.std.specs.Prelude.{◌≡◌};
 ghost use Rattle.machine.specs.Answers.{bare, reply, is_done};
 

@@ -1,5 +1,7 @@
 // The effect of multiply, add, subtract, reverse subtract and multiply by a number on the register bytes.
 // An element of the output has 1, 2, 4 or 8 bytes, and its sums are kept at that width, or at 16 bits for 8: crates unit_sums, unit_pairs, unit_lanes16 and unit_lanes32.
+#![tactic(auto)]
+
 mod rows;
 mod weights;
 

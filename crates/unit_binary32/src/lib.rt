@@ -1,5 +1,7 @@
 // Binary32 numbers and the bits that registers and memory hold of them; one multiply and add.
 // The bits of a NaN that the host's processor makes count for nothing: every NaN is read as one value, and stored as 0x7FC00000.
+#![tactic(auto)]
+
 ghost use Rattle.std.specs.Prelude.{◌≡◌};
 ghost use Rattle.std.specs.Float.{binary32};
 ghost use Rattle.std.specs.Float.Ieee.{nan_bits};

@@ -1,4 +1,5 @@
 // A word to its instruction, by a table that has the numbers of the listing.
+#![tactic(auto)]
 
 ghost use Rattle.std.specs.Prelude.{◌≡◌, cond, [], ◌∷◌, ◌-◌, ◌<◌, ◌≤◌, ltb};
 ghost use Rattle.machine.specs.Tests.{every};

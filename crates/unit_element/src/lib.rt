@@ -1,4 +1,6 @@
 // Elements of 1, 2, 4 and 8 bytes in a byte slice, low byte first; their sign extension; and products that wrap.
+#![tactic(auto)]
+
 ghost use Rattle.std.specs.Prelude.{◌≡◌, ◌+◌, ◌%◌, ◌^◌, ◌<◌, ◌≤◌, length, ◌*ℤ◌};
 ghost use Rattle.numbers.specs.Tile.{get_le, put_le};
 ghost use Rattle.numbers.specs.Reduce.{reduce, signed};

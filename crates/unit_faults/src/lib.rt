@@ -1,4 +1,6 @@
 // Answer 8: whether a state is at fault.
+#![tactic(auto)]
+
 ghost use Rattle.std.specs.Prelude.{◌≡◌, true, ◌&&◌, eqb};
 ghost use Rattle.machine.specs.Tests.{is_in};
 ghost use Rattle.machine.specs.Geometry.{elens};

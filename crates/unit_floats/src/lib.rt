@@ -1,6 +1,8 @@
 // Products of binary32 elements. s is the register bytes. A row of C is kept as values while its products are added, for k rising,
 // in all columns of a block: LLVM then keeps the sums in vector registers. What is past the tile's columns counts for nothing. The values
 // of B are fetched once for all rows. A larger tile is multiplied a block after another.
+#![tactic(auto)]
+
 ghost use Rattle.std.specs.Prelude.{◌≡◌, ℕ, ◌+◌, ◌*◌, ◌≤◌, ◌<◌, length, get_or};
 ghost use Rattle.std.specs.Float.{nan};
 ghost use Rattle.numbers.specs.Tile.{put_row, put_tile};

@@ -1,4 +1,6 @@
 // Where the tile of a matrix lies in its register, and what an output's width is a multiple of SEW by.
+#![tactic(auto)]
+
 ghost use Rattle.std.specs.Prelude.{◌≡◌, ◌<◌, ◌≤◌};
 ghost use Rattle.machine.specs.Geometry.{register_count};
 ghost use Rattle.machine.specs.Operation.{times};
@@ -8,7 +10,7 @@ ghost use Rattle.unit_geometry.specs.Tiles.{placed_as};
 use machine::{Factor, Machine, Matrix};
 
 // A tile of a register: where its first row starts, the bytes from row to row, its rows and columns.
-#[derive(Drop)]
+#[derive(Clone, Copy)]
 pub struct Placed {
     pub start: usize,
     pub pitch: usize,

@@ -1,6 +1,8 @@
 // Products of elements of one or two bytes with sums of 16 bits, kept by wrapping adds; an output of 8 bits takes the low byte of each. s is
 // the register bytes. The elements of B stand sign-extended in d for all rows of C, and the sums of a row side by side, a lane each: LLVM then
 // keeps them in vector registers. What is past the tile's columns counts for nothing.
+#![tactic(auto)]
+
 ghost use Rattle.std.specs.Prelude.{◌≡◌, ℕ, ◌+◌, ◌*◌, ◌<◌, ◌≤◌, length, slice_index};
 ghost use Rattle.numbers.specs.Tile.{put_le, put_row, put_tile};
 ghost use Rattle.numbers.specs.Bounds.{most_pitch, most_terms};

@@ -1,5 +1,7 @@
 // Moves of slices between accumulators and vector registers, in a state that is not at fault: answers 2, 4 and 5, and the move.
 // Rows lie in the vector registers as they do in the accumulator (plain), columns as rows (transposed).
+#![tactic(auto)]
+
 ghost use Rattle.std.specs.Prelude.{◌≡◌, true, [], ◌∷◌, ◌+◌, ◌*◌, ◌^◌, ◌≤◌, ◌<◌, length, leb};
 ghost use Rattle.numbers.specs.Tile.{get_le, put_row, put_tile};
 ghost use Rattle.machine.specs.declared.Form.TheVariants.{Transposed};

@@ -1,5 +1,7 @@
 // Products of elements of one or two bytes with accumulators of 32 bits, two terms at a time: SSE2 has no vector
 // product of 32 bits, but one of 16 bits that adds neighbouring products. s is the register bytes.
+#![tactic(auto)]
+
 ghost use Rattle.std.specs.Prelude.{◌≡◌, ℕ, ◌+◌, ◌*◌, ◌/◌, ◌%◌, ◌^◌, ◌<◌, ◌≤◌, ◌⊎◌, length, ◌+ℤ◌, ◌*ℤ◌, slice_index};
 ghost use Rattle.numbers.specs.Reduce.{reduce, signed};
 ghost use Rattle.numbers.specs.Tile.{get_le, put_le, put_row, put_tile};
@@ -41,7 +43,7 @@ fn pair_at(xs: &[u16], from: usize, b: &[u16], at: usize) -> u32
 }
 
 // A number of 32 bits for each of four columns side by side.
-#[derive(Drop)]
+#[derive(Clone, Copy)]
 struct Block {
     e0: u32,
     e1: u32,

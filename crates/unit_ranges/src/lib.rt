@@ -1,4 +1,6 @@
 // The sealed ranges of a machine, as they lie in its block of bytes. What lies where is defined in specs/.
+#![tactic(auto)]
+
 ghost use Rattle.std.specs.Prelude.{◌≡◌, true, [], ◌∷◌, ◌++◌, suc, ◌<◌, ◌≤◌, ◌+◌, ◌-◌, ◌*◌, ◌^◌, length};
 ghost use Rattle.numbers.specs.Upto.{upto};
 ghost use Rattle.machine.specs.Tests.{all, within};
@@ -14,7 +16,7 @@ use unit_element::{read8, write8};
 use unit_start::seal_ends;
 
 // From one byte to behind another.
-#[derive(Drop)]
+#[derive(Clone, Copy)]
 pub struct Hull {
     pub low: u64,
     pub high: u64,

@@ -1,4 +1,6 @@
 // One row: its bytes are written, and its marks are set and tested. And whether every mark of a machine is 0 or 1.
+#![tactic(auto)]
+
 ghost use Rattle.std.specs.Prelude.{◌≡◌, [], ◌∷◌, ◌+◌, ◌*◌, ◌-◌, ◌≤◌, eqb, ltb, length, get_or, set};
 ghost use Rattle.numbers.specs.Upto.{upto};
 ghost use Rattle.numbers.specs.Tile.{mark_row};

@@ -1,4 +1,6 @@
 // The thirty-two scalars. Slot 0 is read as 0 and is never written.
+#![tactic(auto)]
+
 ghost use Rattle.std.specs.Prelude.{◌≡◌, ◌<◌, length};
 ghost use Rattle.machine.specs.Geometry.{scalar, with_scalar};
 

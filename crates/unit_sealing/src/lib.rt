@@ -1,4 +1,6 @@
 // Sealing one more range of memory. What it answers and leaves is defined in machine/specs/Sealing.antt, and of a machine's block in specs/.
+#![tactic(auto)]
+
 ghost use Rattle.std.specs.Prelude.{◌≡◌};
 ghost use Rattle.unit_sealing.specs.SealBlock.{block_sealed, seal_block};
 

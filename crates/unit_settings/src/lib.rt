@@ -1,4 +1,6 @@
 // Setting mtype and tile sizes.
+#![tactic(auto)]
+
 ghost use Rattle.std.specs.Prelude.{◌≡◌, true, false, [], ◌<◌, ◌≤◌, length};
 ghost use Rattle.machine.specs.Geometry.{elens, with_scalar, state_of};
 ghost use Rattle.machine.specs.Setting.{new_type, mill, maximum, sew, size_in};

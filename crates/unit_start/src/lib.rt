@@ -1,4 +1,6 @@
 // The lengths, the rule and the sealed ranges that a machine can have, what it gives of a size by its rule, and its start.
+#![tactic(auto)]
+
 ghost use Rattle.std.specs.Prelude.{◌≡◌, ◌&&◌, ◌*◌, eqb, ltb, length, replicate};
 ghost use Rattle.machine.specs.Tests.{is_in};
 ghost use Rattle.machine.specs.Geometry.{permitted, rlens, mlens, elens};

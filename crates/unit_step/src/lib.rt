@@ -1,4 +1,6 @@
 // One instruction word: the checks in the order 8, then 10, 11, 1, 12, then 2 to 6, 13, 7, and then the effect.
+#![tactic(auto)]
+
 ghost use Rattle.std.specs.Prelude.{◌≡◌, true, ◌<◌, ◌≤◌, ◌%◌, ◌^◌, ◌+◌, eqb};
 ghost use Rattle.numbers.specs.Reduce.{reduce, signed};
 ghost use Rattle.machine.specs.Setting.{sew};

@@ -2,6 +2,8 @@
 // that an entry for each value of bits 14..12, from 000 to 111: the number of the entry of section 4.5 that has these bits (with 100
 // added for a transposed load or store, whose numbers are printed twice), or of a move of section 6.1.7 (with 200 added), or 0. A
 // setting with an immediate has data in bits 27..25, so it fills the last column of its block.
+#![tactic(auto)]
+
 ghost use Rattle.std.specs.Prelude.{◌≡◌, ◌<◌, get_or, []};
 ghost use Rattle.unit_table.specs.Table.{numbers};
 

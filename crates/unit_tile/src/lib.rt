@@ -1,5 +1,7 @@
 // Tiles between memory and the registers, their marks, and the checks on them. Row i of a tile starts in the registers at
 // start + i * pitch, and in memory at base + i * stride, where the stride is the signed number of its 64 bits.
+#![tactic(auto)]
+
 ghost use Rattle.std.specs.Prelude.{◌≡◌, ◌+◌, ◌*◌, ◌^◌, ◌<◌, ◌≤◌, true, false, [], ◌∷◌, length};
 ghost use Rattle.numbers.specs.Tile.{put_tile, mark_tile};
 ghost use Rattle.machine.specs.Geometry.{sealed};
@@ -21,7 +23,7 @@ use unit_row::{line_marked, mark_row, row_marked, write_row};
 // A tile and where it lies: start, its first byte in the registers, and pitch, the bytes from one row to the next there; base, its
 // first byte in memory, and stride, the signed number of bytes from one row to the next there; its rows and columns, and the bytes of
 // an element.
-#[derive(Drop)]
+#[derive(Clone, Copy)]
 pub struct Transfer {
     pub start: usize,
     pub pitch: usize,

@@ -1,5 +1,7 @@
 // Loads and stores of a tile, plain or transposed. Row i of a tile starts in the registers at start + i * pitch. In memory its rows lie
 // one stride apart from base on; in the transposed form they are the columns of the register.
+#![tactic(auto)]
+
 ghost use Rattle.std.specs.Prelude.{◌≡◌, ◌+◌, ◌*◌, ◌<◌, ◌≤◌, true, [], ◌∷◌, length, if◌then◌else◌};
 ghost use Rattle.numbers.specs.Tile.{get_le, put_le, put_row, put_tile, mark_tile};
 ghost use Rattle.machine.specs.Geometry.{sealed};

@@ -21,8 +21,8 @@ loop-i-preserved c =
     let m = c.args.marks.now in (
       omega arith,
       elim c.if-mark-most.branch [
-      | then-mark-most w ↦ ap (λ (x : ℕ). ltb x 2) w.most-is ∙ most-more m l.i l.most w.if-mark-most.true l.invariant.1
-      | else-mark-most w ↦ ap (λ (x : ℕ). ltb x 2) w.most-is ∙ most-same m l.i l.most w.if-mark-most.false l.invariant.1
+        | then-mark-most w ↦ ap (λ (x : ℕ). ltb x 2) w.most-is ∙ most-more m l.i l.most w.if-mark-most.true l.invariant.1
+        | else-mark-most w ↦ ap (λ (x : ℕ). ltb x 2) w.most-is ∙ most-same m l.i l.most w.if-mark-most.false l.invariant.1
       ],
     )
 

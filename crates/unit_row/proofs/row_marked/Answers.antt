@@ -13,8 +13,8 @@ loop-i-preserved c =
     let a = c.args in (
       omega arith,
       elim c.if-marks-p-ne1.branch [
-      | then-marks-p-ne1 w ↦ w.good-is ∙ row-bad a.marks.now a.p l.i w.if-marks-p-ne1.true
-      | else-marks-p-ne1 w ↦ w.good-is ∙ row-good a.marks.now a.p l.i l.good w.if-marks-p-ne1.false l.invariant.1
+        | then-marks-p-ne1 w ↦ w.good-is ∙ row-bad a.marks.now a.p l.i w.if-marks-p-ne1.true
+        | else-marks-p-ne1 w ↦ w.good-is ∙ row-good a.marks.now a.p l.i l.good w.if-marks-p-ne1.false l.invariant.1
       ],
     )
 
