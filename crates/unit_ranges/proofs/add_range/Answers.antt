@@ -20,6 +20,6 @@ put_range-requires c =
 pub returns : goal.returns
 returns c =
     let a = c.args in
-    added a.block.now c.write8.new.s c.put_range.new.block (range a.start a.size) (λ q. omega (arith, c.type_inv.block q)) (λ q. omega (arith, c.type_inv.block q)) c.requires.block_value c.requires.block_len_bound
+    added a.block.now c.write8.new.s c.put_range.new.block (range a.start a.size) (λ q. omega (arith, c.slice_known-2-1.given q)) (λ q. omega (arith, c.type_inv.block q)) c.requires.block_value c.requires.block_len_bound
     (c.write8.ensures ∙ ap (λ (n : ℕ). put_le 80 8 (n + 1) a.block.now) c.count_of-count.ensures.0)
     (c.put_range.ensures ∙ ap (λ (n : ℕ). put_range n (range a.start a.size) c.write8.new.s) c.count_of-count.ensures.0)

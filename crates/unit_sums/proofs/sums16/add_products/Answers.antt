@@ -46,7 +46,7 @@ mac-requires c = let f = fits (goal.at.mac-requires c).In-loop-l in
     record {
       n_in_bounds = omega (arith, c.requires.n_in_bounds);
       narrow = c.requires.narrow;
-      width_in_bounds = omega (arith, (c.requires.n_in_bounds, c.requires.narrow, c.requires.width_bound, c.requires.width_in_bounds, c.requires.pitch_in_bounds));
+      width_in_bounds = omega (arith, c.requires.n_in_bounds, c.requires.narrow, c.requires.width_bound, c.requires.width_in_bounds, c.requires.pitch_in_bounds);
     }
 
 pub overflow_add-from : goal.overflow_add-from

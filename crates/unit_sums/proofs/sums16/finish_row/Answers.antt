@@ -20,7 +20,7 @@ loop-j-preserved c =
     let z = c.wrapping_mul16-p in
     let y = c.read_signed16 in
     finish-next 2 a.s.now a.acc.now a.to a.n a.x l.s w.new.s l.j l.at r.result z.result y.result l.invariant
-    c.loop-j-test.true w.auto.s (omega (arith, c.type_inv.s l.j)) r.ensures.value z.ensures y.ensures w.ensures
+    c.loop-j-test.true w.auto.s (omega (arith, c.shared_slice_known-1.given l.j)) r.ensures.value z.ensures y.ensures w.ensures
 
 pub returns : goal.returns
 returns c =
@@ -35,11 +35,11 @@ pub read_signed16-requires : goal.read_signed16-requires
 read_signed16-requires c =
     record {
       narrow = inr refl;
-      width_in_bounds = fits (goal.at.read_signed16-requires c).At-loop-j;
+      width_in_bounds = fits c;
     }
 
 pub write2-requires : goal.write2-requires
-write2-requires c = let f = fits (goal.at.write2-requires c).At-loop-j in search rules
+write2-requires c = let f = fits (goal.at.write2-requires c).In-loop-j in search rules
 
 pub overflow_add-at : goal.overflow_add-at
-overflow_add-at c = let f = fits (goal.at.overflow_add-at c).At-loop-j in omega arith
+overflow_add-at c = let f = fits (goal.at.overflow_add-at c).In-loop-j in omega arith

@@ -24,7 +24,7 @@ mac_row-requires-then-width-eq2 c =
     let a = c.args in
     record {
       n_in_bounds = c.requires.n_in_bounds;
-      narrow = inr (inl refl);
+      short = inr (inl refl);
       width_in_bounds = at_literal a.at a.n 2 a.width (length a.s.now) c.if-width-eq2.true c.requires.width_in_bounds;
     }
 

@@ -20,7 +20,7 @@ loop-j-preserved c =
     let z = c.wrapping_mul64-p in
     let y = c.read_signed64 in
     finish-next 8 a.s.now a.acc.now a.to a.n a.x l.s w.new.s l.j l.at r.result z.result y.result l.invariant
-    c.loop-j-test.true w.auto.s (omega (arith, c.type_inv.s l.j)) r.ensures.value z.ensures y.ensures w.ensures
+    c.loop-j-test.true w.auto.s (omega (arith, c.shared_slice_known-1.given l.j)) r.ensures.value z.ensures y.ensures w.ensures
 
 pub returns : goal.returns
 returns c =
@@ -35,11 +35,11 @@ pub read_signed64-requires : goal.read_signed64-requires
 read_signed64-requires c =
     record {
       width = inr (inr (inr refl));
-      width_in_bounds = fits (goal.at.read_signed64-requires c).At-loop-j;
+      width_in_bounds = fits c;
     }
 
 pub write8-requires : goal.write8-requires
-write8-requires c = let f = fits (goal.at.write8-requires c).At-loop-j in search rules
+write8-requires c = let f = fits (goal.at.write8-requires c).In-loop-j in search rules
 
 pub overflow_add-at : goal.overflow_add-at
-overflow_add-at c = let f = fits (goal.at.overflow_add-at c).At-loop-j in omega arith
+overflow_add-at c = let f = fits (goal.at.overflow_add-at c).In-loop-j in omega arith

@@ -25,7 +25,7 @@ mac_row-requires-then-width-eq2 c =
     let a = c.args in
     record {
       n_in_bounds = c.requires.n_in_bounds;
-      narrow = inr (inl refl);
+      width = inr (inl refl);
       width_in_bounds = at_literal a.at a.n 2 a.width (length a.s.now) c.if-width-eq2.true c.requires.width_in_bounds;
     }
 
@@ -40,7 +40,7 @@ mac_row-requires-then-width-eq4 c =
     let a = c.args in
     record {
       n_in_bounds = c.requires.n_in_bounds;
-      narrow = inr (inr (inl refl));
+      width = inr (inr (inl refl));
       width_in_bounds = at_literal a.at a.n 4 a.width (length a.s.now) c.if-width-eq4.true c.requires.width_in_bounds;
     }
 

@@ -17,7 +17,7 @@ loop-j-preserved c =
     let z = c.wrapping_mul64-p in
     let y = c.read_signed64 in
     add-next 8 a.acc.now a.s.now a.at a.width a.n a.x l.acc l.j l.from c.wrapping_add_u64.result z.result y.result
-    l.invariant c.loop-j-test.true c.requires.n_in_bounds (omega (arith, c.type_inv.acc l.j))
+    l.invariant c.loop-j-test.true c.requires.n_in_bounds (omega (arith, c.slice_known-1.given l.j))
     c.wrapping_add_u64.ensures.value z.ensures y.ensures
 
 pub loop-j-init : goal.loop-j-init

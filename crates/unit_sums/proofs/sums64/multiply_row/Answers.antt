@@ -20,15 +20,15 @@ pub returns-then-n-eq-BLOCK : goal.returns-then-n-eq-BLOCK
 returns-then-n-eq-BLOCK c =
     let a = c.args in
     c.multiply_block.ensures
-    ∙ ap (λ (n : ℕ). put_row c n 8 (product_row a.s.now 8 a.width a.pitch a.k a.a a.b c) a.s.now) (sym c.if-n-eq-BLOCK.true)
+    ∙ ap (λ (n : ℕ). put_row a.c n 8 (product_row a.s.now 8 a.width a.pitch a.k a.a a.b a.c) a.s.now) (sym c.if-n-eq-BLOCK.true)
 
 pub returns : goal.returns
 returns c =
     let a = c.args in
     let g = c.add_products in
     let w = c.finish_row in
-    row-of-products 8 a.s.now a.width a.pitch a.k a.a a.b c a.n most_columns g.new.acc w.new.s (omega arith)
-    (λ q. omega (arith, c.type_inv.s q)) (λ j h. omega (arith, c.requires.n_le_most_columns)) g.ensures w.ensures
+    row-of-products 8 a.s.now a.width a.pitch a.k a.a a.b a.c a.n most_columns g.new.acc w.new.s (omega arith)
+    (λ q. omega (arith, c.slice_known-1.given q)) (λ j h. omega (arith, c.requires.n_le_most_columns)) g.ensures w.ensures
 
 pub add_products-requires : goal.add_products-requires
 add_products-requires c =

@@ -41,7 +41,7 @@ pub mac_row-requires : goal.mac_row-requires
 mac_row-requires c = let f = fits (goal.at.mac_row-requires c).In-loop-l in
     record {
       n_in_bounds = omega (arith, c.requires.n_in_bounds);
-      n_in_bounds_2 = omega (arith, (c.requires.n_in_bounds, c.requires.n_le_pitch, c.requires.k_in_bounds, c.requires.pitch_in_bounds));
+      n_in_bounds_2 = omega (arith, c.requires.n_in_bounds, c.requires.n_le_pitch, c.requires.k_in_bounds, c.requires.pitch_in_bounds);
     }
 
 pub overflow_add-from : goal.overflow_add-from

@@ -20,7 +20,7 @@ loop-j-preserved c =
     let z = c.wrapping_mul8-p in
     let y = c.read_signed8 in
     finish-next 1 a.s.now a.acc.now a.to a.n a.x l.s w.new.s l.j l.at r.result z.result y.result l.invariant
-    c.loop-j-test.true w.auto.s (omega (arith, c.type_inv.s l.j)) r.ensures.value z.ensures y.ensures w.ensures
+    c.loop-j-test.true w.auto.s (omega (arith, c.shared_slice_known-1.given l.j)) r.ensures.value z.ensures y.ensures w.ensures
 
 pub returns : goal.returns
 returns c =
@@ -32,10 +32,10 @@ pub loop-j-init : goal.loop-j-init
 loop-j-init c = let a = c.args in store-none 1 a.s.now (finished 1 a.s.now a.acc.now a.to a.n a.x) a.to a.n
 
 pub read_signed8-requires : goal.read_signed8-requires
-read_signed8-requires c = fits (goal.at.read_signed8-requires c).At-loop-j
+read_signed8-requires c = fits c
 
 pub write1-requires : goal.write1-requires
-write1-requires c = let f = fits (goal.at.write1-requires c).At-loop-j in search rules
+write1-requires c = let f = fits (goal.at.write1-requires c).In-loop-j in search rules
 
 pub overflow_add-at : goal.overflow_add-at
-overflow_add-at c = let f = fits (goal.at.overflow_add-at c).At-loop-j in omega arith
+overflow_add-at c = let f = fits (goal.at.overflow_add-at c).In-loop-j in omega arith

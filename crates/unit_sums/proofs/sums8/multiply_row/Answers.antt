@@ -8,5 +8,5 @@ returns c =
     let a = c.args in
     let g = c.add_products in
     let w = c.finish_row in
-    row-of-products 1 a.s.now 1 a.pitch a.k a.a a.b c a.n most_columns g.new.acc w.new.s (omega arith)
-    (λ q. omega (arith, c.type_inv.s q)) (λ j h. omega (arith, c.requires.n_le_most_columns)) g.ensures w.ensures
+    row-of-products 1 a.s.now 1 a.pitch a.k a.a a.b a.c a.n most_columns g.new.acc w.new.s (omega arith)
+    (λ q. omega (arith, c.slice_known-1.given q)) (λ j h. omega (arith, c.requires.n_le_most_columns)) g.ensures w.ensures
