@@ -4,12 +4,12 @@ use Rattle.machine.specs.declared.Machine.{Machine}
 use Rattle.machine.specs.Starting.{no_machine}
 use Rattle.unit_ranges.specs.Ranges.{block_bytes, put_seals}
 use Rattle.image.specs.declared.Imaged.{Imaged}
-use Rattle.image.specs.Reading.{ReadOutcome, check_image, read_image}
+use Rattle.image.specs.Reading.{check_image, read_image}
 use Rattle.image_header.specs.Fields.{ranges_found}
 use Rattle.image_check.specs.Parts.{image_done}
 use Rattle.image_check.proofs.CheckLaws.{done-number}
 use Rattle.image_read.specs.declared.Found.{Found}
-use Rattle.image_read.specs.Blocks.{BlockOutcome, restored_as, block_refused, into_block, read_block}
+use Rattle.image_read.specs.Blocks.{restored_as, block_refused, into_block, read_block}
 use Rattle.image_read.specs.Parts.{found_as}
 
 module _ (image block registers marks : List ℕ) where
