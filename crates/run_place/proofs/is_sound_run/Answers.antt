@@ -9,7 +9,6 @@ use Rattle.run.specs.Turn.{begins, run_shape, sound_run}
 use Rattle.run_plan.specs.Parts.{in_matrices}
 use Rattle.run_place.specs.Parts.{numbered}
 use Rattle.run_place.proofs.RunPlaceLaws.{place_in}
-use Rattle.std.proofs.Common.{rules}
 use Rattle.run_place.proofs.is_sound_run.Goals as goal
 use Rattle.run_place.proofs.is_sound_run.Goals.{Else-not-is_placed, Else-not-is_planned, Else-not-is_rule, Else-not-permitted_lengths}
 
@@ -17,8 +16,8 @@ use Rattle.run_place.proofs.is_sound_run.Goals.{Else-not-is_placed, Else-not-is_
 abbrev lengths : Run → Bool
 lengths R = permitted R.rlen R.mlen R.elen
 
-abbrev rules : Run → Bool
-rules R = is_rule R.rule
+abbrev rules_list : Run → Bool
+rules_list R = is_rule R.rule
 
 abbrev plans : Run → Bool
 plans R = planned R.elen R.plan
@@ -33,7 +32,7 @@ blocks R = begins (run_shape chosen R) R.place
 ok-1 : (c : Else-not-permitted_lengths) → lengths c.args.run ≡ true
 ok-1 c = sym c.permitted_lengths.ensures ∙ c.if-not-permitted_lengths.false
 
-ok-2 : (c : Else-not-is_rule) → rules c.args.run ≡ true
+ok-2 : (c : Else-not-is_rule) → rules_list c.args.run ≡ true
 ok-2 c = sym c.is_rule.ensures ∙ c.if-not-is_rule.false
 
 ok-3 : (c : Else-not-is_planned) → plans c.args.run ≡ true
@@ -47,20 +46,20 @@ unfolding sound_run
 returns-then-not-permitted_lengths c =
     let R = c.args.run in
     fails [] tt (lengths R) (sym c.permitted_lengths.ensures ∙ c.if-not-permitted_lengths.true)
-    (rules R ∷ plans R ∷ blocks R ∷ [])
+    (rules_list R ∷ plans R ∷ blocks R ∷ [])
 
 pub returns-then-not-is_rule : goal.returns-then-not-is_rule
 unfolding sound_run
 returns-then-not-is_rule c =
     let R = c.args.run in
-    fails (lengths R ∷ []) (ok-1 (goal.at.returns-then-not-is_rule c).Else-not-permitted_lengths, tt) (rules R) (sym c.is_rule.ensures ∙ c.if-not-is_rule.true)
+    fails (lengths R ∷ []) (ok-1 (goal.at.returns-then-not-is_rule c).Else-not-permitted_lengths, tt) (rules_list R) (sym c.is_rule.ensures ∙ c.if-not-is_rule.true)
     (plans R ∷ blocks R ∷ [])
 
 pub returns-then-not-is_planned : goal.returns-then-not-is_planned
 unfolding sound_run
 returns-then-not-is_planned c =
     let R = c.args.run in
-    fails (lengths R ∷ rules R ∷ []) (ok-1 (goal.at.returns-then-not-is_planned c).Else-not-permitted_lengths, (ok-2 (goal.at.returns-then-not-is_planned c).Else-not-is_rule, tt)) (plans R) (sym c.is_planned.ensures ∙ c.if-not-is_planned.true)
+    fails (lengths R ∷ rules_list R ∷ []) (ok-1 (goal.at.returns-then-not-is_planned c).Else-not-permitted_lengths, (ok-2 (goal.at.returns-then-not-is_planned c).Else-not-is_rule, tt)) (plans R) (sym c.is_planned.ensures ∙ c.if-not-is_planned.true)
     (blocks R ∷ [])
 
 -- the numbers that a run can hold
@@ -68,7 +67,7 @@ ok-numbered : (c : Else-not-is_planned) → numbered c.args.run ≡ true
 unfolding numbered
 ok-numbered c =
     let R = c.args.run in
-    each-every (lengths R ∷ rules R ∷ plans R ∷ []) (ok-1 (goal.at.Else-not-is_planned c).Else-not-permitted_lengths, (ok-2 (goal.at.Else-not-is_planned c).Else-not-is_rule, (ok-3 c, tt)))
+    each-every (lengths R ∷ rules_list R ∷ plans R ∷ []) (ok-1 (goal.at.Else-not-is_planned c).Else-not-permitted_lengths, (ok-2 (goal.at.Else-not-is_planned c).Else-not-is_rule, (ok-3 c, tt)))
 
 -- no block starts at a place outside the matrices
 outside : (R : Run) → numbered R ≡ true → places R ≡ false → (t : Bool) → blocks R ≡ t → t ≡ false
@@ -79,7 +78,7 @@ pub returns-then-not-is_placed : goal.returns-then-not-is_placed
 unfolding sound_run
 returns-then-not-is_placed c =
     let R = c.args.run in
-    fails (lengths R ∷ rules R ∷ plans R ∷ []) (ok-1 (goal.at.returns-then-not-is_placed c).Else-not-permitted_lengths, (ok-2 (goal.at.returns-then-not-is_placed c).Else-not-is_rule, (ok-3 (goal.at.returns-then-not-is_placed c).Else-not-is_planned, tt))) (blocks R)
+    fails (lengths R ∷ rules_list R ∷ plans R ∷ []) (ok-1 (goal.at.returns-then-not-is_placed c).Else-not-permitted_lengths, (ok-2 (goal.at.returns-then-not-is_placed c).Else-not-is_rule, (ok-3 (goal.at.returns-then-not-is_placed c).Else-not-is_planned, tt))) (blocks R)
     (outside R (ok-numbered (goal.at.returns-then-not-is_placed c).Else-not-is_planned) (sym c.is_placed.ensures ∙ c.if-not-is_placed.true) (blocks R) refl) []
 
 pub is_begun-requires : goal.is_begun-requires
@@ -93,4 +92,4 @@ pub returns : goal.returns
 unfolding sound_run
 returns c =
     let R = c.args.run in
-    c.is_begun.ensures ∙ last (lengths R ∷ rules R ∷ plans R ∷ []) (ok-1 (goal.at.returns c).Else-not-permitted_lengths, (ok-2 (goal.at.returns c).Else-not-is_rule, (ok-3 (goal.at.returns c).Else-not-is_planned, tt))) (blocks R)
+    c.is_begun.ensures ∙ last (lengths R ∷ rules_list R ∷ plans R ∷ []) (ok-1 (goal.at.returns c).Else-not-permitted_lengths, (ok-2 (goal.at.returns c).Else-not-is_rule, (ok-3 (goal.at.returns c).Else-not-is_planned, tt))) (blocks R)

@@ -10,11 +10,11 @@ use Rattle.run_place.proofs.next_place.Goals as goal
 use Rattle.run_place.proofs.next_place.Goals.{Start}
 
 -- the place that the match has found lies in the matrices
-lies : (s : Start) {q : Place} → s.args.run.place-1 ≡ q → in_matrices s.args.run.plan q ≡ true
+lies : (s : Start) {q : Place} → s.args.run.place ≡ q → in_matrices s.args.run.plan q ≡ true
 lies s e = subst (λ (q : Place). in_matrices s.args.run.plan q ≡ true) e (run-placed s.args.run s.requires)
 
 -- and what follows it follows the run's
-after : (s : Start) {q : Place} → s.args.run.place-1 ≡ q → next (run_shape chosen s.args.run) q ≡ next (run_shape chosen s.args.run) s.args.run.place-1
+after : (s : Start) {q : Place} → s.args.run.place ≡ q → next (run_shape chosen s.args.run) q ≡ next (run_shape chosen s.args.run) s.args.run.place
 after s e = ap (next (run_shape chosen s.args.run)) (sym e)
 
 pub head_columns-requires : goal.head_columns-requires
@@ -67,18 +67,16 @@ returns-in-AtB c = after (goal.at.returns-in-AtB c).Start c.in-AtB.is
 pub returns-in-AtMultiply : goal.returns-in-AtMultiply
 returns-in-AtMultiply c =
     let R = c.args.run in
-    let g = c.place-in-AtMultiply-1.given in
     c.head_terms-in-AtMultiply.ensures
-    ∙ ap (head_k (run_shape chosen R) g.0.0 g.0.1.0) (c.block_end-end.ensures ∙ ap (λ (most : ℕ). g.0.1.1.0 + chosen R.rule most (R.plan.k - g.0.1.1.0)) c.most_terms-most.ensures)
-    ∙ after (goal.at.returns-in-AtMultiply c).Start g.1
+    ∙ ap (head_k (run_shape chosen R) c.in-AtMultiply.row c.in-AtMultiply.column) (c.block_end-end.ensures ∙ ap (λ (most : ℕ). c.in-AtMultiply.term + chosen R.rule most (R.plan.k - c.in-AtMultiply.term)) c.most_terms-most.ensures)
+    ∙ after (goal.at.returns-in-AtMultiply c).Start c.in-AtMultiply.is
 
 pub returns-in-AtStore : goal.returns-in-AtStore
 returns-in-AtStore c =
     let R = c.args.run in
-    let g = c.place-in-AtStore-1.given in
     c.head_columns-in-AtStore.ensures
-    ∙ ap (head_n (run_shape chosen R) g.0.0) (c.block_end-end-in-AtStore.ensures ∙ ap (λ (most : ℕ). g.0.1.0 + chosen R.rule most (R.plan.n - g.0.1.0)) c.most_columns-most.ensures)
-    ∙ after (goal.at.returns-in-AtStore c).Start g.1
+    ∙ ap (head_n (run_shape chosen R) c.in-AtStore.row) (c.block_end-end-in-AtStore.ensures ∙ ap (λ (most : ℕ). c.in-AtStore.column + chosen R.rule most (R.plan.n - c.in-AtStore.column)) c.most_columns-most.ensures)
+    ∙ after (goal.at.returns-in-AtStore c).Start c.in-AtStore.is
 
 pub returns-in-AtEnd : goal.returns-in-AtEnd
 returns-in-AtEnd c = after (goal.at.returns-in-AtEnd c).Start c.in-AtEnd.is

@@ -28,7 +28,7 @@ pub returns-then-not-right : goal.returns-then-not-right
 returns-then-not-right c =
     let w = c.args.word in
     let r = c.rest_right-right in
-    let n = c.number_of_lem in
+    let n = c.number_of-number in
     sym (ap (λ (t : Bool). cond t (ranged (meant n.result w listing)) (Illegal Unlisted)) c.if-not-right.true)
     ∙ reads w n.result r.result c.if-word-ne119.false n.ensures r.ensures
 
@@ -36,7 +36,7 @@ pub returns : goal.returns
 returns c =
     let w = c.args.word in
     let r = c.rest_right-right in
-    let n = c.number_of_lem in
+    let n = c.number_of-number in
     c.meant.ensures
     ∙ sym (ap (λ (t : Bool). cond t (ranged (meant n.result w listing)) (Illegal Unlisted)) c.if-not-right.false)
     ∙ reads w n.result r.result c.if-word-ne119.false n.ensures r.ensures

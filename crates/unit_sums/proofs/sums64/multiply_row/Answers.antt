@@ -8,12 +8,12 @@ use Rattle.unit_sums.proofs.sums64.multiply_row.Goals as goal
 
 pub multiply_block-requires : goal.multiply_block-requires
 multiply_block-requires c =
-    let p = (c.requires.width, c.requires.width_bound, c.requires.width_in_bounds) in
     let e = c.if-n-eq-BLOCK.true in
+    let w = c.requires.width_in_bounds in
     record {
-      width = p.0;
-      width_bound = omega (arith, p.1.0, ap (λ (n : ℕ). n * c.args.width) e);
-      width_in_bounds = (p.1.1.0, (p.1.1.1.0, omega (arith, p.1.1.1.1, e)));
+      width = c.requires.width;
+      width_bound = omega (arith, c.requires.width_bound, ap (λ (n : ℕ). n * c.args.width) e);
+      width_in_bounds = (w.0, (w.1.0, omega (arith, w.1.1, e)));
     }
 
 pub returns-then-n-eq-BLOCK : goal.returns-then-n-eq-BLOCK

@@ -1,0 +1,10 @@
+use Rattle.numbers.specs.Tile.{put_row}
+use Rattle.c_blocks.specs.Blocks.{put_numbers}
+use Rattle.c_run_blocks.proofs.RunBlockLaws.{write-next}
+use Rattle.c_run_blocks.proofs.put_sizes.Goals as goal
+
+pub returns : goal.returns
+unfolding put_numbers put_row
+returns c =
+    write-next _ _ c.write8-5.ensures
+    (write-next _ _ c.write8-4.ensures (write-next _ _ c.write8-3.ensures (write-next _ _ c.write8-2.ensures c.write8.ensures)))

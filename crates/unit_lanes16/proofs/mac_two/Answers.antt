@@ -1,0 +1,24 @@
+use Rattle.numbers.proofs.Kit.{◌-◌, arith}
+use Rattle.unit_sums.specs.Rows.{plus_times}
+use Rattle.unit_sums.proofs.LaneLaws.{Added, add_none, add-next}
+use Rattle.unit_lanes16.specs.Lanes.{lanes}
+use Rattle.unit_lanes16.proofs.mac_two.Goals as goal
+
+pub loop-j-preserved : goal.loop-j-preserved
+loop-j-preserved c =
+    let l = c.loop-j in
+    let a = c.args in
+    let t = c.loop-j-test.true in (
+      add-next 0 (plus_times 2) lanes a.sums.now a.d.now a.at a.x l.sums l.j c.plus.result l.invariant.0 t c.requires.lanes_in_bounds.0 c.plus.ensures,
+      add-next 0 (plus_times 2) lanes a.others.now a.d.now a.at a.y l.others l.j c.plus-in-loop-j.result l.invariant.1 t c.requires.lanes_in_bounds.1 c.plus-in-loop-j.ensures,
+    )
+
+pub loop-j-init : goal.loop-j-init
+loop-j-init c = let a = c.args in (add_none 0 (plus_times 2) lanes a.sums.now a.d.now a.at a.x, add_none 0 (plus_times 2) lanes a.others.now a.d.now a.at a.y)
+
+pub returns : goal.returns
+returns c = let i = c.loop-j.invariant in
+    record {
+      by_index = λ j h. i.0.2 j (omega arith);
+      by_index_2 = λ j h. i.1.2 j (omega arith);
+    }

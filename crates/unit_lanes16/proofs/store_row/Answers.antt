@@ -1,0 +1,37 @@
+use Rattle.numbers.proofs.Kit.{refl, ◌+◌, ◌-◌, ◌≤◌, arith, length, get_or}
+use Rattle.unit_sums.proofs.KernelLaws.{inside, Stored, store-none, store-next, store-all}
+use Rattle.unit_lanes16.proofs.store_row.Goals as goal
+use Rattle.unit_lanes16.proofs.store_row.Goals.{In-loop-j}
+
+-- the element lies in the slice
+fits : (c : In-loop-j) → let a = c.args in c.loop-j.at + a.wide ≤ length a.s.now
+fits c =
+    let l = c.loop-j in
+    inside c.args.to c.args.wide c.args.n l.j l.at (length c.args.s.now) l.invariant.1 c.loop-j-test.true c.requires.wide_in_bounds
+
+pub loop-j-preserved : goal.loop-j-preserved
+loop-j-preserved c =
+    let l = c.loop-j in
+    let a = c.args in
+    let w = c.write_low in
+    store-next a.wide a.s.now (λ q. get_or a.sums.now q 0) a.to a.n l.s w.new.s l.j l.at (get_or a.sums.now l.j 0)
+    l.invariant c.loop-j-test.true w.auto.s refl w.ensures
+
+pub returns : goal.returns
+returns c =
+    let l = c.loop-j in
+    let a = c.args in
+    store-all a.wide a.s.now (λ q. get_or a.sums.now q 0) a.to a.n l.s l.j l.at l.invariant (omega arith)
+
+pub loop-j-init : goal.loop-j-init
+loop-j-init c = let a = c.args in store-none a.wide a.s.now (λ q. get_or a.sums.now q 0) a.to a.n
+
+pub write_low-requires : goal.write_low-requires
+write_low-requires c = let f = fits (goal.at.write_low-requires c).In-loop-j in
+    record {
+      narrow = c.requires.narrow;
+      wide_in_bounds = omega (arith, f, c.loop-j.invariant.2);
+    }
+
+pub overflow_add-at : goal.overflow_add-at
+overflow_add-at c = let f = fits (goal.at.overflow_add-at c).In-loop-j in omega arith

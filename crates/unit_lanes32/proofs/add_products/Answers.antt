@@ -1,0 +1,61 @@
+use Rattle.numbers.proofs.Kit.{refl, inr, ◌+◌, ◌-◌, ◌≤◌, arith, length, get_or}
+use Rattle.machine.specs.ArithmeticWords.{product}
+use Rattle.unit_sums.specs.Rows.{residue_at, plus_times}
+use Rattle.unit_sums.proofs.KernelLaws.{inside}
+use Rattle.unit_sums.proofs.LaneLaws.{Summed, sum-none, sum-next, sum-all}
+use Rattle.unit_sums.proofs.RowLaws.{times_none, times_more}
+use Rattle.unit_lanes32.specs.Lanes.{lanes}
+use Rattle.unit_lanes32.proofs.add_products.Goals as goal
+use Rattle.unit_lanes32.proofs.add_products.Goals.{In-loop-l}
+
+-- in a turn, the element of A and B's row lie in their slices
+fits : (c : In-loop-l) →
+    let a = c.args in
+    let l = c.loop-l in
+    (l.from + 4 ≤ length a.s.now) × (l.row + lanes ≤ length a.d.now)
+fits c =
+    let a = c.args in
+    let l = c.loop-l in
+    let t = c.loop-l-test.true in
+    (inside a.a 4 a.k l.l l.from (length a.s.now) l.invariant.1 t c.requires.k_in_bounds, omega (arith, c.requires.lanes_in_bounds_2, l.invariant.2, t))
+
+pub loop-l-preserved : goal.loop-l-preserved
+loop-l-preserved c =
+    let l = c.loop-l in
+    let a = c.args in
+    let m = c.mac_row in
+    let x = c.read_signed32-x in
+    sum-next 0 (plus_times 4) lanes (λ p. residue_at 4 a.s.now p 4) 4 (λ v l. product 4 4 l v) a.sums.now a.d.now a.a a.k (times_more 4)
+    l.sums m.new.sums l.l l.from l.row x.result l.invariant c.loop-l-test.true m.auto.sums x.ensures m.ensures
+
+pub returns : goal.returns
+returns c =
+    let l = c.loop-l in
+    let a = c.args in
+    sum-all 0 (plus_times 4) lanes (λ p. residue_at 4 a.s.now p 4) 4 (λ v l. product 4 4 l v) a.sums.now a.d.now a.a a.k
+    l.sums l.l l.from l.row l.invariant (omega arith)
+
+pub loop-l-init : goal.loop-l-init
+loop-l-init c = let a = c.args in
+    sum-none 0 (plus_times 4) lanes (λ p. residue_at 4 a.s.now p 4) 4 (λ v l. product 4 4 l v) a.sums.now a.d.now a.a a.k
+    (λ q f g. times_none 4 (get_or a.sums.now q 0) f g (omega (arith, c.type_inv.sums q)))
+
+pub read_signed32-x-requires : goal.read_signed32-x-requires
+read_signed32-x-requires c =
+    record {
+      short = inr (inr refl);
+      width_in_bounds = (fits c).0;
+    }
+
+pub mac_row-requires : goal.mac_row-requires
+mac_row-requires c =
+    record {
+      lanes_in_bounds = omega (arith, c.requires.lanes_in_bounds, c.loop-l.invariant.3);
+      lanes_in_bounds_2 = (fits (goal.at.mac_row-requires c).In-loop-l).1;
+    }
+
+pub overflow_add-from : goal.overflow_add-from
+overflow_add-from c = let f = fits (goal.at.overflow_add-from c).In-loop-l in omega arith
+
+pub overflow_add-row : goal.overflow_add-row
+overflow_add-row c = let f = fits (goal.at.overflow_add-row c).In-loop-l in omega arith

@@ -1,0 +1,14 @@
+use Rattle.numbers.proofs.Kit.{refl, inr, ◌+◌, ◌-◌, ◌≤◌, arith, length, get_or}
+use Rattle.machine.specs.ArithmeticWords.{product}
+use Rattle.unit_sums.specs.Rows.{residue_at, plus_times}
+use Rattle.unit_sums.proofs.KernelLaws.{inside}
+use Rattle.unit_sums.proofs.LaneLaws.{Summed, sum-none, sum-next, sum-all}
+use Rattle.unit_sums.proofs.RowLaws.{times_none, times_more}
+use Rattle.unit_lanes32.specs.Lanes.{lanes}
+use Rattle.unit_lanes32.proofs.add_products.Given as goal
+
+abbrev pub invariant-loop-l : goal.invariant-loop-l
+invariant-loop-l l = Summed 0 (plus_times 4) lanes (λ p. residue_at 4 l.s p 4) 4 (λ v l. product 4 4 l v) l.initial.sums l.d l.a l.k l.sums l.l l.from l.row
+
+abbrev pub decreases-loop-l : goal.decreases-loop-l
+decreases-loop-l l = l.k - l.l
