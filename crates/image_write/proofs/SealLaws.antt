@@ -4,13 +4,13 @@ use Rattle.numbers.proofs.Kit.{arith, eqb, length, take, set, length-append, len
 use Rattle.numbers.specs.Tile.{get_le}
 use Rattle.numbers_format.specs.Numbers.{encode, encode_all}
 use Rattle.machine.specs.declared.Machine.{Machine}
-use Rattle.machine.specs.Geometry.{Range, range}
+use Rattle.machine.specs.Geometry.{Range}
 use Rattle.machine.specs.Faults.{seals_fit}
 use Rattle.unit_ranges.specs.Ranges.{block_bytes, slot_at, count_in, range_at, first_ranges, seals_in}
 use Rattle.unit_ranges.proofs.RangeLaws.{held, length-first}
 use Rattle.image.specs.Images.{Seals, bounds, seal_fields, fields, header_of}
 use Rattle.image_write.specs.Parts.{plain_fields, count_field}
-use Rattle.image_write.proofs.PutLaws.{all_append, all-last}
+use Rattle.image_write.proofs.PutLaws.{all_append}
 
 -- ---- start and length of each range
 

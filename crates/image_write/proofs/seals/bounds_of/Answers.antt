@@ -1,0 +1,71 @@
+-- `image_write::seals::bounds_of` meets its contract. The invariant: the numbers of the ranges so far stand in front.
+use Rattle.numbers.proofs.Kit.{◌≡◌, refl, sym, ap, ◌∙◌, ℕ, ◌+◌, ◌*◌, arith, take, set, length-set}
+use Rattle.unit_ranges.specs.Ranges.{first_ranges}
+use Rattle.image.specs.Images.{bounds}
+use Rattle.image_write.proofs.SealLaws.{block-long, seals-are, take-two, bounds-next}
+use Rattle.image_write.proofs.seals.bounds_of.Goals as goal
+
+pub loop-i-init : goal.loop-i-init
+loop-i-init c = (omega arith, refl, refl)
+
+pub slot_at-at-requires : goal.slot_at-at-requires
+slot_at-at-requires c = omega (arith, c.loop-i-test.true, c.count_of-count.ensures.1)
+
+pub read8-requires : goal.read8-requires
+read8-requires c =
+    omega (arith, c.slot_at-at.ensures.1, block-long c.args.block.now c.requires)
+
+pub overflow_mul-numbers : goal.overflow_mul-numbers
+overflow_mul-numbers c = omega (arith, c.loop-i-test.true, c.count_of-count.ensures.1)
+
+pub offset_bounds-numbers-i : goal.offset_bounds-numbers-i
+offset_bounds-numbers-i c = omega (arith, c.loop-i-test.true, c.count_of-count.ensures.1)
+
+pub bounds-numbers-i : goal.bounds-numbers-i
+bounds-numbers-i c = omega (arith, c.loop-i-test.true, c.count_of-count.ensures.1, c.loop-i.invariant.1)
+
+pub overflow_add-at : goal.overflow_add-at
+overflow_add-at c = omega (arith, c.slot_at-at.ensures.1)
+
+pub read8-requires-in-loop-i : goal.read8-requires-in-loop-i
+read8-requires-in-loop-i c =
+    omega (arith, c.slot_at-at.ensures.1, block-long c.args.block.now c.requires)
+
+pub overflow_mul-numbers-in-loop-i : goal.overflow_mul-numbers-in-loop-i
+overflow_mul-numbers-in-loop-i c = omega (arith, c.loop-i-test.true, c.count_of-count.ensures.1)
+
+pub overflow_add-numbers : goal.overflow_add-numbers
+overflow_add-numbers c = omega (arith, c.loop-i-test.true, c.count_of-count.ensures.1)
+
+pub offset_bounds-numbers-i-in-loop-i : goal.offset_bounds-numbers-i-in-loop-i
+offset_bounds-numbers-i-in-loop-i c = omega (arith, c.loop-i-test.true, c.count_of-count.ensures.1)
+
+pub bounds-numbers-i-in-loop-i : goal.bounds-numbers-i-in-loop-i
+bounds-numbers-i-in-loop-i c =
+    omega (arith, c.loop-i-test.true, c.count_of-count.ensures.1, c.loop-i.invariant.1, length-set c.loop-i.numbers (2 * c.loop-i.i) c.read8.result)
+
+pub overflow_add-i : goal.overflow_add-i
+overflow_add-i c = omega (arith, c.loop-i-test.true, c.count_of-count.ensures.1)
+
+pub loop-i-smaller : goal.loop-i-smaller
+loop-i-smaller c = omega (arith, c.loop-i-test.true)
+
+pub loop-i-preserved : goal.loop-i-preserved
+loop-i-preserved c =
+    let l = c.loop-i in
+    let a = c.args in
+    let many = c.count_of-count.ensures.1 in (
+      omega (arith, c.loop-i-test.true),
+      length-set (set l.numbers (2 * l.i) c.read8.result) (2 * l.i + 1) c.read8-in-loop-i.result ∙ length-set l.numbers (2 * l.i) c.read8.result ∙ l.invariant.1,
+      take-two l.numbers l.i c.read8.result c.read8-in-loop-i.result (omega (arith, c.loop-i-test.true, many, l.invariant.1))
+          ∙ bounds-next a.block.now (take (2 * l.i) l.numbers) l.i c.slot_at-at.result c.read8.result c.read8-in-loop-i.result c.slot_at-at.ensures.0 c.read8.ensures c.read8-in-loop-i.ensures l.invariant.2,
+    )
+
+pub returns : goal.returns
+returns c =
+    let l = c.loop-i in
+    let n = c.count_of-count in
+    let b = c.args.block.now in
+    let last : l.i ≡ n.result = omega (arith, c.loop-i-test.false, l.invariant.0) in
+    let is = last ∙ n.ensures.0 in
+    ap (λ (x : ℕ). take (2 * x) l.numbers) (sym is) ∙ l.invariant.2 ∙ ap (λ (x : ℕ). bounds (first_ranges x b)) is ∙ ap bounds (sym (seals-are b c.requires))

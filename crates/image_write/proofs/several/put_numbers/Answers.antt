@@ -1,0 +1,48 @@
+-- `image_write::several::put_numbers` meets its contract. The invariant: what is still to be put makes of the room what the whole makes.
+use Rattle.numbers.proofs.Kit.{refl, sym, ap, ◌∙◌, List, [], ℕ, ◌+◌, arith, length, drop, get_or, sets, length-sets}
+use Rattle.numbers_format.specs.Numbers.{encode, encode_all}
+use Rattle.image_write.proofs.PutLaws.{size-more, all_end, put-more}
+use Rattle.image_write.proofs.several.put_numbers.Goals as goal
+
+pub loop-i-init : goal.loop-i-init
+loop-i-init c = (omega arith, refl, refl, refl)
+
+pub put_number-at-requires : goal.put_number-at-requires
+put_number-at-requires c =
+    let l = c.loop-i in
+    let a = c.args in
+    omega (arith, size-more a.numbers.now l.i c.loop-i-test.true, l.invariant.2, l.invariant.1, c.requires.numbers_in_bounds)
+
+pub overflow_add-i : goal.overflow_add-i
+overflow_add-i c = omega (arith, c.loop-i-test.true)
+
+pub loop-i-smaller : goal.loop-i-smaller
+loop-i-smaller c = omega (arith, c.loop-i-test.true)
+
+pub loop-i-preserved : goal.loop-i-preserved
+loop-i-preserved c =
+    let l = c.loop-i in
+    let a = c.args in
+    let t = c.loop-i-test.true in
+    let p = c.put_number-at in
+    let n = get_or a.numbers.now l.i 0 in (
+      omega arith,
+      ap length p.ensures.1 ∙ length-sets l.room l.at (encode n) ∙ l.invariant.1,
+      omega (arith, p.ensures.0, size-more a.numbers.now l.i t, l.invariant.2),
+      ap (λ (x : ℕ). sets p.new.room x (encode_all (drop (l.i + 1) a.numbers.now) [])) p.ensures.0
+          ∙ ap (λ (r : List ℕ). sets r (l.at + length (encode n)) (encode_all (drop (l.i + 1) a.numbers.now) [])) p.ensures.1
+          ∙ sym (put-more a.numbers.now l.room l.i l.at t) ∙ l.invariant.3,
+    )
+
+pub shape_of-room : goal.shape_of-room
+shape_of-room c = c.loop-i.invariant.1
+
+pub returns : goal.returns
+returns c =
+    let l = c.loop-i in
+    let a = c.args in
+    let none_left = all_end a.numbers.now l.i (omega (arith, c.loop-i-test.false)) in
+    record {
+      value = omega (arith, ap length none_left, l.invariant.2);
+      room_after = sym (ap (sets l.room l.at) none_left) ∙ l.invariant.3;
+    }
