@@ -1,13 +1,10 @@
 -- `image_header::ranges_at` meets its contract.
-use Rattle.numbers.proofs.Kit.{refl, ap, ◌∙◌, arith, not-true, not-false}
+use Rattle.numbers.proofs.Kit.{ap, ◌∙◌, arith, not-true, not-false}
 use Rattle.numbers_coded.specs.At.{plain}
 use Rattle.image_header.specs.Fields.{Place, placed, ranges_at}
 use Rattle.image_header.proofs.HeadLaws.{range-good, range-bad, ranges-none}
 use Rattle.image_header.proofs.HeadLaws.{ranges-bad, ranges-next}
 use Rattle.image_header.proofs.ranges_at.Goals as goal
-
-pub loop-left-init : goal.loop-left-init
-loop-left-init c = refl
 
 pub returns-then-not-range : goal.returns-then-not-range
 unfolding ranges_at
@@ -16,12 +13,6 @@ returns-then-not-range c =
     let l = c.loop-left in
     let a = c.args in
     c.fault.ensures ∙ ap (λ (x : Place). plain (placed a.start x)) (ranges-bad a.s.now l.left l.at r.result.at c.loop-left-test.true (range-bad r.result _ r.ensures (not-true _ c.if-not-range.true)) ∙ l.invariant)
-
-pub overflow_sub-left : goal.overflow_sub-left
-overflow_sub-left c = omega (arith, c.loop-left-test.true)
-
-pub loop-left-smaller : goal.loop-left-smaller
-loop-left-smaller c = omega (arith, c.loop-left-test.true)
 
 pub loop-left-preserved : goal.loop-left-preserved
 loop-left-preserved c =

@@ -32,9 +32,6 @@ few c =
     let a = c.args in
     omega (arith, few-marks a.m (seals_in a.block.now) a.registers.now a.marks.now c.requires, c.tally_of-tally.ensures.few, c.version_size.ensures.1, c.header_size.ensures.1)
 
-pub overflow_add-result : goal.overflow_add-result
-overflow_add-result c = omega (arith, few c)
-
 pub overflow_add-result-2 : goal.overflow_add-result-2
 overflow_add-result-2 c = omega (arith, few c)
 

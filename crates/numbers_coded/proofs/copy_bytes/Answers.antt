@@ -1,9 +1,8 @@
 -- `numbers_coded::copy_bytes` meets its contract. The invariant: what is still to be copied makes of the room what the whole makes.
-use mathlib.Core.Path.{◌≡◌, refl, sym, ◌∙◌}
-use Prim.Native.Nat.{◌+◌, ◌-◌, ◌≤◌}
+use mathlib.Core.Path.{refl, sym, ◌∙◌}
+use Prim.Native.Nat.{◌+◌}
 use native.Mathlib.Omega.{arith}
-use lib.ListN.{length, take, drop, get_or, length-set}
-use lib.Seq.{sets}
+use lib.ListN.{get_or, length-set}
 use Rattle.numbers_coded.proofs.CopyLaws.{copy_start, copy_more, copy-end}
 use Rattle.numbers_coded.proofs.copy_bytes.Goals as goal
 
@@ -20,9 +19,6 @@ loop-i-preserved c =
       length-set l.room (a.to + l.i) (get_or a.s.now (a.from + l.i) 0) ∙ l.invariant.1,
       sym (copy_more l.room a.s.now a.to a.from a.n l.i (omega arith) (omega arith)) ∙ l.invariant.2,
     )
-
-pub shape_of-room : goal.shape_of-room
-shape_of-room c = c.before.loop-i.invariant.1
 
 pub returns : goal.returns
 returns c =

@@ -1,10 +1,8 @@
 -- `numbers_coded::copy_bytes` meets its contract. The invariant: what is still to be copied makes of the room what the whole makes.
-use mathlib.Core.Path.{◌≡◌, refl, sym, ◌∙◌}
+use mathlib.Core.Path.{◌≡◌}
 use Prim.Native.Nat.{◌+◌, ◌-◌, ◌≤◌}
-use native.Mathlib.Omega.{arith}
-use lib.ListN.{length, take, drop, get_or, length-set}
+use lib.ListN.{length, take, drop}
 use lib.Seq.{sets}
-use Rattle.numbers_coded.proofs.CopyLaws.{copy_start, copy_more, copy-end}
 use Rattle.numbers_coded.proofs.copy_bytes.Given as goal
 
 abbrev pub invariant-loop-i : goal.invariant-loop-i

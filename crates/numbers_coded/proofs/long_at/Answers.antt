@@ -1,7 +1,6 @@
 -- `numbers_coded::long_at` meets its contract.
 use mathlib.Core.Path.{ap, ◌∙◌}
 use native.Mathlib.Omega.{arith}
-use borrow.Author.Rules.{rules}
 use Rattle.numbers_coded.specs.At.{plain}
 use Rattle.numbers_coded.proofs.AtLaws.{long-none, long-more}
 use Rattle.numbers_coded.proofs.long_at.Goals as goal

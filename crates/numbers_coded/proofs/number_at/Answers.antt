@@ -1,7 +1,6 @@
 -- `numbers_coded::number_at` meets its contract.
 use mathlib.Core.Path.{sym, ap, ◌∙◌}
 use native.Mathlib.Omega.{arith}
-use borrow.Author.Rules.{rules}
 use Rattle.numbers_coded.specs.At.{plain}
 use Rattle.numbers_coded.proofs.AtLaws.{one-low, one-high, one_last, at-end}
 use Rattle.numbers_coded.proofs.number_at.Goals as goal
@@ -28,7 +27,7 @@ pub long_at-requires : goal.long_at-requires
 long_at-requires c =
     let w = c.before.wide-b in
     let a = c.before.before.before.before.before.args in
-    let few = c.before.before.shared_slice_known-then-at-s-1.given a.at in
+    let few = c.type_inv.s a.at in
     (omega arith, sym w.ensures ∙ omega arith, omega (arith, w.ensures, few))
 
 pub returns : goal.returns

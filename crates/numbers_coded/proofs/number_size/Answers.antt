@@ -1,9 +1,5 @@
 -- `numbers_coded::number_size` meets its contract.
-use mathlib.Core.Path.{◌≡◌}
-use Prim.Native.Nat.{◌+◌, ◌≤◌}
 use native.Mathlib.Omega.{arith}
-use lib.ListN.{length}
-use Rattle.numbers_format.specs.Numbers.{encode}
 use Rattle.numbers_coded.proofs.PutLaws.{length_last, length_more}
 use Rattle.numbers_coded.proofs.number_size.Goals as goal
 

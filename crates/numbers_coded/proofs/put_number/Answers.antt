@@ -1,10 +1,8 @@
 -- `numbers_coded::put_number` meets its contract. The invariant: what is still to be put makes of the room what the whole makes.
-use mathlib.Core.Path.{◌≡◌, refl, sym, ◌∙◌}
+use mathlib.Core.Path.{refl, sym, ◌∙◌}
 use Prim.Native.Nat.{◌+◌, ◌%◌}
 use native.Mathlib.Omega.{arith}
-use lib.ListN.{length, length-set}
-use lib.Seq.{sets}
-use Rattle.numbers_format.specs.Numbers.{encode}
+use lib.ListN.{length-set}
 use Rattle.numbers_coded.proofs.PutLaws.{put_last, put-more, length_last, length_more}
 use Rattle.numbers_coded.proofs.put_number.Goals as goal
 

@@ -1,11 +1,9 @@
 -- `numbers_coded::put_number` meets its contract. The invariant: what is still to be put makes of the room what the whole makes.
-use mathlib.Core.Path.{◌≡◌, refl, sym, ◌∙◌}
-use Prim.Native.Nat.{◌+◌, ◌%◌}
-use native.Mathlib.Omega.{arith}
-use lib.ListN.{length, length-set}
+use mathlib.Core.Path.{◌≡◌}
+use Prim.Native.Nat.{◌+◌}
+use lib.ListN.{length}
 use lib.Seq.{sets}
 use Rattle.numbers_format.specs.Numbers.{encode}
-use Rattle.numbers_coded.proofs.PutLaws.{put_last, put-more, length_last, length_more}
 use Rattle.numbers_coded.proofs.put_number.Given as goal
 
 abbrev pub invariant-loop-x : goal.invariant-loop-x

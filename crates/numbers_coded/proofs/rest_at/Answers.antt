@@ -1,11 +1,9 @@
 -- `numbers_coded::rest_at` meets its contract. The invariant: what the rest of the read finds behind the groups passed is what the whole finds.
-use mathlib.Core.Path.{◌≡◌, refl, sym, ap, ◌∙◌}
-use Prim.Native.Nat.{◌+◌, ◌-◌, ◌*◌, ◌≤◌, ◌<◌}
+use mathlib.Core.Path.{refl, sym, ap, ◌∙◌}
+use Prim.Native.Nat.{◌+◌, ◌*◌, ◌≤◌}
 use native.Mathlib.Nat.{mul-le-mul_left}
 use native.Mathlib.Omega.{arith}
-use borrow.Author.Rules.{rules}
-use lib.ListN.{length}
-use Rattle.numbers_coded.specs.At.{plain, rest}
+use Rattle.numbers_coded.specs.At.{plain}
 use Rattle.numbers_coded.proofs.AtLaws.{rest_end, turn_low, turn-high, turn_last, turn-none, turn_more, bound-more}
 use Rattle.numbers_coded.proofs.rest_at.Goals as goal
 
@@ -46,9 +44,6 @@ returns-then-b-lt128 c =
     let l = k.before.before.before.before.before.before.loop-i in
     let a = k.before.before.before.before.before.before.before.before.args in
     c.found.ensures ∙ ap plain (turn_last a.s.now l.i l.value l.unit l.lo l.hi k.before.before.before.wide-b.result _ l.invariant.2 (omega arith) k.before.before.before.wide-b.ensures (omega arith) (omega arith) (omega arith))
-
-pub least_after-next_lo-requires : goal.least_after-next_lo-requires
-least_after-next_lo-requires c = omega (arith, c.before.wide-b.ensures, c.before.before.shared_slice_known-in-loop-i-1.given c.before.before.before.before.loop-i.i)
 
 pub returns-then-next_hi-next_lo : goal.returns-then-next_hi-next_lo
 returns-then-next_hi-next_lo c =

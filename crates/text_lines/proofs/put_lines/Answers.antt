@@ -34,9 +34,6 @@ left-feed c = ahead_step (left (goal.at.After-put_row-next c).In-loop-i) c.put_r
 pub loop-i-init : goal.loop-i-init
 loop-i-init c = (omega arith, omega arith, rw sub-zero ahead-start)
 
-pub overflow_add-to : goal.overflow_add-to
-overflow_add-to c = omega (arith, fits c)
-
 pub offset_bounds-c-from : goal.offset_bounds-c-from
 offset_bounds-c-from c = omega (arith, fits (goal.at.offset_bounds-c-from c).In-loop-i)
 
@@ -58,9 +55,6 @@ loop-i-preserved c =
     let w = c.before.before.before.before.before.before in
     let l = w.loop-i in
     (omega arith, omega (arith, l.invariant.1), ahead_step (left-feed (goal.at.loop-i-preserved c).After-put_row-next) c.put_byte-next.ensures)
-
-pub shape_of-out : goal.shape_of-out
-shape_of-out c = c.loop-i.invariant.2.same
 
 pub returns : goal.returns
 returns c =

@@ -36,9 +36,6 @@ returns-then-row-eq0 c =
     let a = c.args in
     wrote_none a.out.now a.at (spaced (signed_all a.q a.row.now)) (row-none a.q a.row.now c.if-row-eq0.true)
 
-pub bounds-row-0 : goal.bounds-row-0
-bounds-row-0 c = omega (arith, c.if-row-eq0.false)
-
 pub put_signed-next-requires : goal.put_signed-next-requires
 put_signed-next-requires c =
     let s = c.before.before.before.before.before in

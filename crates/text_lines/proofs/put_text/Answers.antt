@@ -24,9 +24,6 @@ put_byte-next-requires c =
 pub loop-j-preserved : goal.loop-j-preserved
 loop-j-preserved c = (omega arith, ahead_step (left (goal.at.loop-j-preserved c).In-loop-j) c.put_byte-next.ensures)
 
-pub shape_of-out : goal.shape_of-out
-shape_of-out c = c.loop-j.invariant.1.same
-
 pub returns : goal.returns
 returns c =
     let e : length c.args.text.now ≤ c.loop-j.j = omega arith in

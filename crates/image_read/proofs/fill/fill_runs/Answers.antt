@@ -48,9 +48,6 @@ next_run-run-requires c =
       room_bound = omega (arith, c.requires.registers_len_bound);
     }
 
-pub shape_of-registers-then-not-run : goal.shape_of-registers-then-not-run
-shape_of-registers-then-not-run c = c.loop-left.invariant.4
-
 pub shape_of-marks-then-not-run : goal.shape_of-marks-then-not-run
 shape_of-marks-then-not-run c = let l = c.loop-left in l.invariant.5 ∙ l.invariant.4 ∙ sym c.requires.marks_len
 
@@ -81,12 +78,6 @@ overflow_add-at c = let r = next (goal.at.overflow_add-at c).Else-not-run in ome
 pub overflow_add-to : goal.overflow_add-to
 overflow_add-to c = let r = next (goal.at.overflow_add-to c).Else-not-run in omega (arith, r.in-room)
 
-pub overflow_sub-left : goal.overflow_sub-left
-overflow_sub-left c = omega (arith, c.loop-left-test.true)
-
-pub loop-left-smaller : goal.loop-left-smaller
-loop-left-smaller c = omega (arith, c.loop-left-test.true)
-
 pub loop-left-preserved : goal.loop-left-preserved
 loop-left-preserved c =
     let cb = c.copy_bytes in
@@ -105,9 +96,6 @@ loop-left-preserved c =
       sym (regs-filled _ _ _ _ _ _ _ _ _ _ l.invariant.2 l.invariant.5 r l.invariant.6 cb.new.room pm.new.marks cb.ensures pm.ensures) ∙ l.invariant.7,
       sym (marks-filled _ _ _ _ _ _ _ _ _ _ l.invariant.2 l.invariant.5 r l.invariant.6 cb.new.room pm.new.marks cb.ensures pm.ensures) ∙ l.invariant.8,
     )
-
-pub shape_of-registers : goal.shape_of-registers
-shape_of-registers c = c.loop-left.invariant.4
 
 pub shape_of-marks : goal.shape_of-marks
 shape_of-marks c = c.loop-left.invariant.5 ∙ c.loop-left.invariant.4 ∙ sym c.requires.marks_len

@@ -9,12 +9,6 @@ returns-then-n-eq0 c = let a = c.args in ap (λ (x : ℕ). sets a.marks.now a.at
 pub loop-i-init : goal.loop-i-init
 loop-i-init c = (omega arith, refl, refl)
 
-pub bounds-marks-at-in-loop-i : goal.bounds-marks-at-in-loop-i
-bounds-marks-at-in-loop-i c =
-    let l = c.loop-i in
-    let a = c.args in
-    omega (arith, l.invariant.1, length-set a.marks.now a.at a.value)
-
 pub loop-i-preserved : goal.loop-i-preserved
 loop-i-preserved c =
     let l = c.loop-i in

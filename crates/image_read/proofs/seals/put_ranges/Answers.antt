@@ -11,9 +11,6 @@ loop-i-init c =
     let all : c.args.count - 0 ≡ c.args.count = omega arith in
     (refl, omega arith, rw all c.requires.stand.ends, rw all)
 
-pub shape_of-block-then-not-range : goal.shape_of-block-then-not-range
-shape_of-block-then-not-range c = c.loop-i.invariant.0
-
 pub returns-then-not-range : goal.returns-then-not-range
 returns-then-not-range c =
     let r = c.range_at-range in
@@ -28,12 +25,6 @@ put_range-requires c =
       i_bound = omega (arith, c.loop-i-test.true, c.requires.stand.few);
     }
 
-pub overflow_add-i : goal.overflow_add-i
-overflow_add-i c = omega (arith, c.loop-i-test.true)
-
-pub loop-i-smaller : goal.loop-i-smaller
-loop-i-smaller c = omega (arith, c.loop-i-test.true)
-
 pub loop-i-preserved : goal.loop-i-preserved
 loop-i-preserved c =
     let r = c.range_at-range in
@@ -46,9 +37,6 @@ loop-i-preserved c =
       ap (λ (b : List ℕ). put_ranges (l.i + 1) (ranges_found a.s.now (a.count - (l.i + 1)) r.result.at) b) c.put_range.ensures
           ∙ put_next a.s.now a.count l.i l.at r.result.start r.result.size r.result.at c.loop-i-test.true e l.block ∙ l.invariant.3,
     )
-
-pub shape_of-block : goal.shape_of-block
-shape_of-block c = c.loop-i.invariant.0
 
 pub returns : goal.returns
 returns c =

@@ -11,9 +11,6 @@ use Rattle.image_write.proofs.runs.put_runs.Goals as goal
 pub loop-at-init : goal.loop-at-init
 loop-at-init c = (omega arith, refl, refl, refl)
 
-pub shape_of-room-then-first-marks : goal.shape_of-room-then-first-marks
-shape_of-room-then-first-marks c = c.loop-at.invariant.1
-
 pub returns-then-first-marks : goal.returns-then-first-marks
 returns-then-first-marks c =
     let bs = c.args.registers.now in
@@ -40,12 +37,6 @@ stretch_end-end-requires c =
       two_valued = c.requires.two_valued;
       value_bound = omega arith;
     }
-
-pub overflow_sub-size : goal.overflow_sub-size
-overflow_sub-size c = omega (arith, c.stretch_end-end.ensures.to.from-there)
-
-pub overflow_sub-first : goal.overflow_sub-first
-overflow_sub-first c = omega (arith, c.stretch_end-first.ensures.to.from-there)
 
 pub put_number-to-requires : goal.put_number-to-requires
 put_number-to-requires c =
@@ -155,9 +146,6 @@ loop-at-preserved c =
           l.to p.result p2.result (p2.result + (end - first)) p.ensures.1 p.ensures.0 p2.ensures.1 p2.ensures.0 cb.ensures (ap (λ (x : ℕ). p2.result + x) (sym size)))
           ∙ l.invariant.3,
     )
-
-pub shape_of-room : goal.shape_of-room
-shape_of-room c = c.loop-at.invariant.1
 
 pub returns : goal.returns
 returns c =

@@ -38,12 +38,6 @@ stretch_end-end-requires c =
       value_bound = omega arith;
     }
 
-pub overflow_sub-size : goal.overflow_sub-size
-overflow_sub-size c = omega (arith, c.stretch_end-end.ensures.to.from-there)
-
-pub overflow_sub-first : goal.overflow_sub-first
-overflow_sub-first c = omega (arith, c.stretch_end-first.ensures.to.from-there)
-
 -- the run that was found, before the place of the next turn
 found : (c : After-number_size-in-loop-at) → let l = c.loop-at in
     Found c.args.marks.now l.at c.stretch_end-first.result c.stretch_end-end.result

@@ -8,47 +8,17 @@ use Rattle.image_write.proofs.seals.bounds_of.Goals as goal
 pub loop-i-init : goal.loop-i-init
 loop-i-init c = (omega arith, refl, refl)
 
-pub slot_at-at-requires : goal.slot_at-at-requires
-slot_at-at-requires c = omega (arith, c.loop-i-test.true, c.count_of-count.ensures.1)
-
 pub read8-requires : goal.read8-requires
 read8-requires c =
     omega (arith, c.slot_at-at.ensures.1, block-long c.args.block.now c.requires)
-
-pub overflow_mul-numbers : goal.overflow_mul-numbers
-overflow_mul-numbers c = omega (arith, c.loop-i-test.true, c.count_of-count.ensures.1)
-
-pub offset_bounds-numbers-i : goal.offset_bounds-numbers-i
-offset_bounds-numbers-i c = omega (arith, c.loop-i-test.true, c.count_of-count.ensures.1)
-
-pub bounds-numbers-i : goal.bounds-numbers-i
-bounds-numbers-i c = omega (arith, c.loop-i-test.true, c.count_of-count.ensures.1, c.loop-i.invariant.1)
-
-pub overflow_add-at : goal.overflow_add-at
-overflow_add-at c = omega (arith, c.slot_at-at.ensures.1)
 
 pub read8-requires-in-loop-i : goal.read8-requires-in-loop-i
 read8-requires-in-loop-i c =
     omega (arith, c.slot_at-at.ensures.1, block-long c.args.block.now c.requires)
 
-pub overflow_mul-numbers-in-loop-i : goal.overflow_mul-numbers-in-loop-i
-overflow_mul-numbers-in-loop-i c = omega (arith, c.loop-i-test.true, c.count_of-count.ensures.1)
-
-pub overflow_add-numbers : goal.overflow_add-numbers
-overflow_add-numbers c = omega (arith, c.loop-i-test.true, c.count_of-count.ensures.1)
-
-pub offset_bounds-numbers-i-in-loop-i : goal.offset_bounds-numbers-i-in-loop-i
-offset_bounds-numbers-i-in-loop-i c = omega (arith, c.loop-i-test.true, c.count_of-count.ensures.1)
-
 pub bounds-numbers-i-in-loop-i : goal.bounds-numbers-i-in-loop-i
 bounds-numbers-i-in-loop-i c =
     omega (arith, c.loop-i-test.true, c.count_of-count.ensures.1, c.loop-i.invariant.1, length-set c.loop-i.numbers (2 * c.loop-i.i) c.read8.result)
-
-pub overflow_add-i : goal.overflow_add-i
-overflow_add-i c = omega (arith, c.loop-i-test.true, c.count_of-count.ensures.1)
-
-pub loop-i-smaller : goal.loop-i-smaller
-loop-i-smaller c = omega (arith, c.loop-i-test.true)
 
 pub loop-i-preserved : goal.loop-i-preserved
 loop-i-preserved c =

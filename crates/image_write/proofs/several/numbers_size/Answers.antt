@@ -11,20 +11,14 @@ pub overflow_add-size : goal.overflow_add-size
 overflow_add-size c =
     let l = c.loop-i in
     let a = c.args in
-    let few = size-bound (get_or a.numbers.now l.i 0) (omega (arith, c.shared_slice_known-1.given l.i)) in
+    let few = size-bound (get_or a.numbers.now l.i 0) (omega (arith, c.type_inv.numbers l.i)) in
     omega (arith, few, c.number_size-size.ensures)
-
-pub overflow_add-i : goal.overflow_add-i
-overflow_add-i c = omega (arith, c.loop-i-test.true)
-
-pub loop-i-smaller : goal.loop-i-smaller
-loop-i-smaller c = omega (arith, c.loop-i-test.true)
 
 pub loop-i-preserved : goal.loop-i-preserved
 loop-i-preserved c =
     let l = c.loop-i in
     let a = c.args in
-    let few = size-bound (get_or a.numbers.now l.i 0) (omega (arith, c.shared_slice_known-1.given l.i)) in
+    let few = size-bound (get_or a.numbers.now l.i 0) (omega (arith, c.type_inv.numbers l.i)) in
     let more = size-more a.numbers.now l.i c.loop-i-test.true in
     (omega (arith, c.loop-i-test.true), omega (arith, few, c.number_size-size.ensures), omega (arith, more, c.number_size-size.ensures, l.invariant.2))
 

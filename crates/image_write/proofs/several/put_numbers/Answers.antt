@@ -7,18 +7,6 @@ use Rattle.image_write.proofs.several.put_numbers.Goals as goal
 pub loop-i-init : goal.loop-i-init
 loop-i-init c = (omega arith, refl, refl, refl)
 
-pub put_number-at-requires : goal.put_number-at-requires
-put_number-at-requires c =
-    let l = c.loop-i in
-    let a = c.args in
-    omega (arith, size-more a.numbers.now l.i c.loop-i-test.true, l.invariant.2, l.invariant.1, c.requires.numbers_in_bounds)
-
-pub overflow_add-i : goal.overflow_add-i
-overflow_add-i c = omega (arith, c.loop-i-test.true)
-
-pub loop-i-smaller : goal.loop-i-smaller
-loop-i-smaller c = omega (arith, c.loop-i-test.true)
-
 pub loop-i-preserved : goal.loop-i-preserved
 loop-i-preserved c =
     let l = c.loop-i in
@@ -33,9 +21,6 @@ loop-i-preserved c =
           ∙ ap (λ (r : List ℕ). sets r (l.at + length (encode n)) (encode_all (drop (l.i + 1) a.numbers.now) [])) p.ensures.1
           ∙ sym (put-more a.numbers.now l.room l.i l.at t) ∙ l.invariant.3,
     )
-
-pub shape_of-room : goal.shape_of-room
-shape_of-room c = c.loop-i.invariant.1
 
 pub returns : goal.returns
 returns c =

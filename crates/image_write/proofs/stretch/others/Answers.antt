@@ -9,11 +9,6 @@ returns-then-value-eq0 c =
     let a = c.args in
     c.read8-word.ensures ∙ bytes-there a.marks.now a.at 8 ∙ of_zero a.marks.now a.at a.value c.if-value-eq0.true
 
-pub overflow_sub-result : goal.overflow_sub-result
-overflow_sub-result c =
-    let a = c.args in
-    omega (arith, c.read8-word.ensures, turned_ones a.marks.now c.requires.two_valued a.at)
-
 pub returns : goal.returns
 returns c =
     let a = c.args in
