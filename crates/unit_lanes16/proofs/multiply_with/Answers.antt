@@ -16,17 +16,16 @@ pub multiply_next-rows-requires : goal.multiply_next-rows-requires
 multiply_next-rows-requires c =
     let l = c.loop-i in
     let a = c.args in
-    let r = (c.requires.width_bound, c.requires.width_bound_2) in
     let f = rows_left l.i a.m a.pitch l.invariant.0 in
     let g = rows_left l.i a.m (4 * a.pitch) l.invariant.0 in
     let t = c.fetch_tile in
     record {
       m_nonzero = (omega (arith, c.loop-i-test), (c.requires.n_le_lanes.0, omega (arith, c.requires.n_le_lanes.1.0, t.auto.d)));
       narrow = c.requires.narrow;
-      width_in_bounds = (omega (arith, r.1, f, l.invariant.1, l.invariant.4), omega (arith, r.1, g, l.invariant.2, l.invariant.4));
+      width_in_bounds = (omega (arith, c.requires.width_bound_2, f, l.invariant.1, l.invariant.4), omega (arith, c.requires.width_bound_2, g, l.invariant.2, l.invariant.4));
       by_index = λ q j lq lj. t.ensures q j lq lj
               ∙ ap (λ (x : ℕ). reduce (256 ^ 2) (signed (256 ^ a.width) x)) (sym (same-b a.wide a.width a.pitch (4 * a.pitch) a.k a.n a.a a.b a.c a.m a.s.now
-              r.0.0 r.0.1.1 r.1.0 r.1.1.0
+              c.requires.width_bound.0 c.requires.width_bound.1.1 c.requires.width_bound_2.0 c.requires.width_bound_2.1.0
               (λ i. product_row a.s.now a.wide a.width a.pitch a.k (a.a + i * a.pitch) a.b (a.c + i * (4 * a.pitch)))
               l.i l.s l.invariant.5 q j lq lj));
     }
@@ -48,7 +47,6 @@ pub loop-i-preserved : goal.loop-i-preserved
 loop-i-preserved c =
     let l = c.loop-i in
     let a = c.args in
-    let r = (c.requires.width_bound, c.requires.width_bound_2) in
     let w = c.multiply_next-rows in (
       (taken c).0,
       omega (arith, l.invariant.1),
@@ -56,7 +54,7 @@ loop-i-preserved c =
       l.invariant.3,
       w.auto.s ∙ l.invariant.4,
       rule-rows a.wide a.width a.pitch (4 * a.pitch) a.k a.n a.a a.b a.c a.m a.s.now
-          r.0.0 r.0.1.1 r.1.0 r.1.1.0
+          c.requires.width_bound.0 c.requires.width_bound.1.1 c.requires.width_bound_2.0 c.requires.width_bound_2.1.0
           (product a.wide a.width a.k) (product-reads a.wide a.width a.k)
           l.i w.result l.s (taken c).0 l.invariant.5 l.from l.to w.new.s l.invariant.1 l.invariant.2 w.ensures.s_after,
     )

@@ -16,16 +16,15 @@ pub multiply_next-rows-requires : goal.multiply_next-rows-requires
 multiply_next-rows-requires c =
     let l = c.loop-i in
     let a = c.args in
-    let r = (c.requires.n_bound, c.requires.k_bound) in
     let f = rows_left l.i a.m a.pitch l.invariant.0 in
     let g = rows_left l.i a.m (4 * a.pitch) l.invariant.0 in
     let t = c.fetch_tile in
     record {
       m_nonzero = (omega (arith, c.loop-i-test), (c.requires.n_le_lanes.0, omega (arith, c.requires.n_le_lanes.1.0, t.auto.d)));
-      k_in_bounds = (omega (arith, r.1, f, l.invariant.1, l.invariant.4), omega (arith, r.1, g, l.invariant.2, l.invariant.4));
+      k_in_bounds = (omega (arith, c.requires.k_bound, f, l.invariant.1, l.invariant.4), omega (arith, c.requires.k_bound, g, l.invariant.2, l.invariant.4));
       by_index = λ q j lq lj. t.ensures q j lq lj
             ∙ ap (λ (x : ℕ). reduce (256 ^ 4) (signed (256 ^ 4) x)) (sym (same-b 4 4 a.pitch (4 * a.pitch) a.k a.n a.a a.b a.c a.m a.s.now
-            r.0.0 (omega (arith, r.0)) r.1.0 r.1.1.0
+            c.requires.n_bound.0 (omega (arith, c.requires.n_bound)) c.requires.k_bound.0 c.requires.k_bound.1.0
             (λ i. product_row a.s.now 4 4 a.pitch a.k (a.a + i * a.pitch) a.b (a.c + i * (4 * a.pitch)))
             l.i l.s l.invariant.5 q j lq lj));
     }
@@ -47,7 +46,6 @@ pub loop-i-preserved : goal.loop-i-preserved
 loop-i-preserved c =
     let l = c.loop-i in
     let a = c.args in
-    let r = (c.requires.n_bound, c.requires.k_bound) in
     let w = c.multiply_next-rows in (
       (taken c).0,
       omega (arith, l.invariant.1),
@@ -55,7 +53,7 @@ loop-i-preserved c =
       l.invariant.3,
       w.auto.s ∙ l.invariant.4,
       rule-rows 4 4 a.pitch (4 * a.pitch) a.k a.n a.a a.b a.c a.m a.s.now
-          r.0.0 (omega (arith, r.0)) r.1.0 r.1.1.0
+          c.requires.n_bound.0 (omega (arith, c.requires.n_bound)) c.requires.k_bound.0 c.requires.k_bound.1.0
           (product 4 4 a.k) (product-reads 4 4 a.k)
           l.i w.result l.s (taken c).0 l.invariant.5 l.from l.to w.new.s l.invariant.1 l.invariant.2 w.ensures.s_after,
     )

@@ -39,7 +39,6 @@ multiply_row-requires c =
     let l = c.loop-i in
     let a = c.args in
     let f = fits (goal.at.multiply_row-requires c).In-loop-i in
-    let q = (c.requires.width_bound, c.requires.width_bound_2, c.requires.pair_places_in_bounds) in
     record {
       n_le_most_columns = (c.requires.n_le_most_columns.0, c.requires.n_le_most_columns.1.0);
       narrow = c.requires.narrow;
@@ -47,7 +46,7 @@ multiply_row-requires c =
       width_in_bounds = (omega (arith, c.requires.n_le_most_columns, c.requires.narrow, c.requires.width_bound, c.requires.width_bound_2, c.requires.pair_places_in_bounds), omega (arith, c.requires.n_le_most_columns, c.requires.narrow, c.requires.width_bound, c.requires.width_bound_2, c.requires.pair_places_in_bounds));
       by_index = λ r j lr lj. c.interleave_tile.ensures r j lr lj
                 ∙ ap (λ (x : ℕ). reduce 65536 (signed (256 ^ a.width) x)) (sym (same-b 4 a.width a.pitch (4 * a.pitch) a.k a.n a.a a.b a.c a.m a.s.now
-                q.0.0 q.0.1.1 q.1.0.0 q.1.0.1.0
+                c.requires.width_bound.0 c.requires.width_bound.1.1 c.requires.width_bound_2.0 c.requires.width_bound_2.1.0
                 (λ i. product_row a.s.now 4 a.width a.pitch a.k (a.a + i * a.pitch) a.b (a.c + i * (4 * a.pitch)))
                 l.i l.s l.invariant.5 r j lr lj));
     }
@@ -62,7 +61,6 @@ pub loop-i-preserved : goal.loop-i-preserved
 loop-i-preserved c =
     let l = c.loop-i in
     let a = c.args in
-    let q = (c.requires.width_bound, c.requires.width_bound_2, c.requires.pair_places_in_bounds) in
     let w = c.multiply_row in (
       omega (arith, c.loop-i-test),
       omega (arith, next_row l.i a.pitch),
@@ -70,7 +68,7 @@ loop-i-preserved c =
       l.invariant.3,
       w.auto.s ∙ l.invariant.4,
       product-turn 4 a.width a.pitch (4 * a.pitch) a.k a.n a.a a.b a.c a.m a.s.now
-          q.0.0 q.0.1.1 q.1.0.0 q.1.0.1.0
+          c.requires.width_bound.0 c.requires.width_bound.1.1 c.requires.width_bound_2.0 c.requires.width_bound_2.1.0
           l.i l.s c.loop-i-test.true l.invariant.5 l.from l.to w.new.s l.invariant.1 l.invariant.2 w.ensures,
     )
 
