@@ -1,6 +1,6 @@
 -- A machine that is not at fault has numbers that an image can hold, and such numbers make a machine that is not at fault.
-use Rattle.numbers.proofs.Kit.{◌≡◌, refl, sym, ap, ap₂, ◌∙◌, subst, inl, inr, Bool, true, false, cond, not, ◌&&◌, ◌||◌, List, [], ◌∷◌, ℕ, ◌+◌, ◌-◌, ◌*◌}
-use Rattle.numbers.proofs.Kit.{◌/◌, ◌%◌, ◌^◌, ◌≤◌, ◌<◌, min, arith, leb, ltb, eqb, length, get_or, leb-true, ltb-true, eqb-true, le-leb, lt-ltb}
+use Rattle.numbers.proofs.Kit.{◌≡◌, refl, sym, ap, ap₂, ◌∙◌, subst, inl, inr, Bool, true, false, cond, not, ◌&&◌, ◌||◌, List, [], ◌∷◌, ℕ, ◌+◌, ◌-◌}
+use Rattle.numbers.proofs.Kit.{◌/◌, ◌^◌, ◌≤◌, ◌<◌, min, arith, leb, ltb, eqb, length, get_or, leb-true, ltb-true, eqb-true, le-leb, lt-ltb}
 use Rattle.numbers_format.specs.Numbers.{Among}
 use Rattle.numbers_format.specs.Parser.{is_among}
 use Rattle.numbers_format.proofs.NumberLaws.{is_among-among, among-is_among}

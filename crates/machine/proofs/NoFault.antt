@@ -1,5 +1,5 @@
 -- A step of a machine that is not at fault leaves one that is not at fault; and so does a start.
-use Rattle.numbers.proofs.Kit.{◌≡◌, refl, sym, ap, ◌∙◌, subst, inl, inr, Bool, true, false, cond, List, [], ◌∷◌, ◌++◌, ℕ, zero, suc, ◌+◌, ◌*◌, ◌-◌, ◌/◌}
+use Rattle.numbers.proofs.Kit.{◌≡◌, refl, sym, ◌∙◌, subst, inl, inr, Bool, true, false, cond, List, [], ◌∷◌, ◌++◌, ℕ, zero, suc, ◌+◌, ◌*◌, ◌/◌}
 use Rattle.numbers.proofs.Kit.{◌^◌, ◌≤◌, ◌<◌, min, div-le_self, arith, ℕ_discrete, leb, ltb, eqb, length, get_or, set, length-set, List·getD-eq-default}
 use Rattle.numbers.proofs.Kit.{replicate, length-replicate, length-append, get_or-set_same, get_or-set_other, le-leb, lt-ltb, eq-eqb, leb-true, ltb-true}
 use Rattle.numbers.proofs.Kit.{eqb-true}
@@ -13,12 +13,11 @@ use Rattle.machine.specs.declared.Dimension.TheVariants.{DimensionM, DimensionK,
 use Rattle.machine.specs.declared.Instruction.{Instruction}
 use Rattle.machine.specs.Tests.{all_of, is_in}
 use Rattle.machine.proofs.TestLaws.{each_in, and_left, and_right, and-true, all_of-true, all_of-at, every-each, each-every}
-use Rattle.machine.specs.Answers.{reply, is_done, verdict}
+use Rattle.machine.specs.Answers.{is_done, verdict}
 use Rattle.machine.specs.Faults.{sound_bench, seals_fit}
 use Rattle.machine.specs.Geometry.{Range, range, bench_of, Parameters, parameters, State, state_of, machine_after, elens, permitted, register_bytes}
 use Rattle.machine.proofs.StepLaws.{permitted-elen}
 use Rattle.machine.specs.Setting.{legal_type, new_type, max_k, max_n, sew}
-use Rattle.machine.specs.Operation
 use Rattle.machine.specs.Operation.{Operation, written}
 use Rattle.machine.specs.Meanings.{state_after, vectors_after}
 use Rattle.machine.specs.Vectors.{Vectors, vectors_fit, idle}

@@ -1,12 +1,12 @@
 -- Demand 2: over any list of words, each with its scalars, no sealed byte of memory changes, and the seal stays.
-use Rattle.numbers.proofs.Kit.{◌≡◌, refl, sym, ap, ◌∙◌, subst, Bool, true, false, cond, ◌||◌, List, [], ◌∷◌, ◌++◌, append-nil, append_assoc, ℕ, eqb, length}
+use Rattle.numbers.proofs.Kit.{◌≡◌, refl, sym, ap, ◌∙◌, subst, Bool, true, false, cond, ◌||◌, List, [], ◌∷◌, ◌++◌, append-nil, append_assoc, ℕ, length}
 use Rattle.numbers.proofs.Kit.{get_or}
 use Rattle.numbers.specs.Blocks.{Choice}
-use Rattle.machine.specs.declared.Answer.TheVariants.{Done, BadArguments}
+use Rattle.machine.specs.declared.Answer.TheVariants.{BadArguments}
 use Rattle.machine.specs.declared.Instruction.{Instruction}
 use Rattle.machine.specs.Tests.{within}
 use Rattle.machine.proofs.TestLaws.{false-true}
-use Rattle.machine.specs.Answers.{reply, is_done, verdict}
+use Rattle.machine.specs.Answers.{is_done, verdict}
 use Rattle.machine.proofs.CheckLaws.{Passed, passed, refusals}
 use Rattle.machine.specs.Geometry.{Range, range, sealed, Parameters, parameters, State}
 use Rattle.machine.specs.Setting.{chosen}

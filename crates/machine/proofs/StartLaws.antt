@@ -7,7 +7,7 @@ use Rattle.machine.specs.declared.Answer.TheVariants.{Done, BadArguments, TooMan
 use Rattle.machine.specs.declared.Answer.{Answer}
 use Rattle.machine.specs.Answers.{is_done}
 use Rattle.machine.specs.Tests.{is_in, every}
-use Rattle.machine.specs.Geometry.{Range, range, permitted, rlens, mlens, elens}
+use Rattle.machine.specs.Geometry.{range, permitted, rlens, mlens, elens}
 use Rattle.machine.specs.Starting.{is_rule, seal_ends, seals_end, most_seals, ranges, paired, startable, start_machine, started_as, StartOutcome, fresh_machine, no_machine}
 
 pub and-truth : (t : Bool) → t ≡ t && true

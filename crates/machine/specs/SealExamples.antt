@@ -1,6 +1,6 @@
 -- 02, Twelve: several sealed ranges, computed on the machine of Examples.
-use Rattle.numbers.specs.Kit.{◌≡◌, refl, List, [], ◌∷◌, ◌++◌, map, ℕ, ◌*◌, ◌-◌, ◌^◌, length, replicate}
-use Rattle.machine.specs.Geometry.{Range, range, sealed, Bench, bench_of, permitted}
+use Rattle.numbers.specs.Kit.{◌≡◌, refl, List, [], ◌∷◌, ◌++◌, map, ℕ, ◌-◌, ◌^◌, replicate}
+use Rattle.machine.specs.Geometry.{Range, range, Bench, bench_of, permitted}
 use Rattle.machine.specs.Setting.{sew, new_type, legal_type}
 use Rattle.machine.specs.Starting.{start_machine, startable}
 use Rattle.machine.specs.Memory.{inside, misses, rows_miss, distinct}
@@ -8,7 +8,7 @@ use Rattle.machine.specs.Refusals.{marked}
 use Rattle.machine.specs.TransferWords.{width_of}
 use Rattle.machine.specs.Listing.{decode, listing, others}
 use Rattle.machine.specs.Faults.{sound, seals_fit}
-use Rattle.machine.specs.Sealing.{add_seal, with_seal}
+use Rattle.machine.specs.Sealing.{add_seal}
 use Rattle.machine.specs.Step.{step, step_by, outcome}
 use Rattle.machine.specs.Examples.{word, scalars, bench}
 

@@ -4,7 +4,7 @@ use Rattle.machine.specs.declared.Answer.{Answer}
 use Rattle.machine.specs.declared.Answer.TheVariants.{BadArguments, TooManySeals}
 use Rattle.machine.specs.declared.Reply.{Reply}
 use Rattle.machine.specs.Answers.{reply, is_done, Check, ◌otherwise◌, verdict}
-use Rattle.machine.specs.Geometry.{Range, range, Bench, bench_of}
+use Rattle.machine.specs.Geometry.{range, Bench, bench_of}
 use Rattle.machine.specs.Starting.{seal_ends, most_seals}
 use Rattle.machine.specs.Faults.{sound_bench}
 

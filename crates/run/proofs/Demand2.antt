@@ -1,9 +1,7 @@
 -- Demand 2 over any list of acts: each keeps the seal and the sealed bytes.
-use Rattle.numbers.proofs.Kit.{◌≡◌, refl, sym, ap, ◌∙◌, subst, Bool, true, false, cond, List, [], ◌∷◌, Option, none, some, ℕ, zero, suc, arith, length}
-use Rattle.numbers.proofs.Kit.{get_or, replicate}
+use Rattle.numbers.proofs.Kit.{◌≡◌, refl, sym, ap, ◌∙◌, subst, true, List, [], ◌∷◌, Option, none, some, ℕ, zero, suc, length}
+use Rattle.numbers.proofs.Kit.{get_or}
 use Rattle.numbers.specs.Blocks.{Choice}
-use Rattle.machine.specs.declared.Answer.TheVariants.{Done, BadArguments}
-use Rattle.machine.specs.Answers.{reply}
 use Rattle.machine.specs.Geometry.{Range, sealed, Bench, bench_of}
 use Rattle.machine.specs.Starting.{ranges, start_machine, StartOutcome}
 use Rattle.machine.specs.Theorems.{Extends, Unharmed, started_bench}

@@ -17,7 +17,6 @@ use Rattle.machine.proofs.MemoryLaws.{inside-at}
 use Rattle.machine.specs.Operation.{Operation}
 use Rattle.machine.specs.Meanings.{state_after, memory_after, checks}
 use Rattle.machine.specs.Geometry.{Bench}
-use Rattle.machine.specs.Faults.{sound}
 use Rattle.machine.specs.Step.{Outcome, step_by}
 use Rattle.machine.proofs.NoFault.{sound-is, bench-sound, step-sound}
 use Rattle.machine.specs.Faults.{sound_bench}

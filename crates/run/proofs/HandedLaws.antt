@@ -1,5 +1,5 @@
 -- Asking and a turn as Turn.antt defines them, with the word that is handed out as an argument: proofs go by its cases.
-use Rattle.numbers.proofs.Kit.{cond, Option, none, some, ℕ}
+use Rattle.numbers.proofs.Kit.{cond, Option, none, some}
 use Rattle.numbers.specs.Blocks.{Choice}
 use Rattle.machine.specs.declared.Answer.TheVariants.{Done, BadArguments}
 use Rattle.machine.specs.Answers.{reply, done}

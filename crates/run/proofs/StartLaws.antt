@@ -6,12 +6,11 @@ use Rattle.numbers.specs.Blocks.{Choice, EachGrants}
 use Rattle.numbers.proofs.BlockLaws.{le-or-lt}
 use Rattle.machine.specs.Tests.{all, every, within, is_in}
 use Rattle.machine.proofs.TestLaws.{all_true, all-at, every-each, each-every, within-not, not_within, fails-not, not-fails, or_right, false-true}
-use Rattle.machine.specs.Geometry.{Range, Parameters, parameters, sealed, permitted}
+use Rattle.machine.specs.Geometry.{Range, sealed, permitted}
 use Rattle.machine.specs.Setting.{sew, mill, new_type}
 use Rattle.machine.specs.Memory.{in_memory, row_z, inside, distinct, rows_miss}
 use Rattle.machine.proofs.StoreLaws.{distinct-at, at-distinct}
 use Rattle.machine.proofs.MemoryLaws.{inside-byte, misses-at, misses-true, rows-miss-at, rows-miss-true}
-use Rattle.machine.specs.declared.Machine.{Machine}
 use Rattle.machine.specs.Geometry.{Bench}
 use Rattle.machine.specs.Faults.{sound_bench}
 use Rattle.machine.proofs.StepLaws.{permitted-lengths}
