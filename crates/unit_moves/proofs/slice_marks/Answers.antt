@@ -18,18 +18,18 @@ first_unmarked-found-requires c =
 pub returns-then-is_done : goal.returns-then-is_done
 returns-then-is_done c =
     let a = c.args in
-    rules-done a.form a.first a.marks.now (λ i. a.p.start + i * a.p.pitch) a.p.rows a.p.columns a.w
+    needs-done a.form a.first a.marks.now (λ i. a.p.start + i * a.p.pitch) a.p.rows a.p.columns a.w
     (sym (ap is_done c.first_unmarked-found.ensures) ∙ sym c.is_done.ensures ∙ c.if-is_done.true)
 
 -- the row and column that are named
 named : (c : After-reply_of-named) → let a = c.args in
-    c.reply_of-named.result ≡ reply (verdict (Refusals.rules false a.marks.now (λ i. a.p.start + i * a.p.pitch) a.p.rows a.p.columns a.w ∷ []))
+    c.reply_of-named.result ≡ reply (verdict (Refusals.needs false a.marks.now (λ i. a.p.start + i * a.p.pitch) a.p.rows a.p.columns a.w ∷ []))
 named c = c.reply_of-named.ensures ∙ ap reply c.first_unmarked-found.ensures
 
 pub unwritten_in-requires : goal.unwritten_in-requires
 unwritten_in-requires c =
     let a = c.args in
-    let b = rules-bounded a.form a.first a.marks.now (λ i. a.p.start + i * a.p.pitch) a.p.rows a.p.columns a.w in
+    let b = needs-bounded a.form a.first a.marks.now (λ i. a.p.start + i * a.p.pitch) a.p.rows a.p.columns a.w in
     let i : c.reply_of-named.result.row ≤ a.p.rows = subst (λ (x : Reply). x.row ≤ a.p.rows) (sym (named c)) b.0 in
     let j : c.reply_of-named.result.column ≤ a.p.columns = subst (λ (x : Reply). x.column ≤ a.p.columns) (sym (named c)) b.1 in
     (omega (arith, c.requires.rows_bound), omega (arith, c.requires.rows_bound))
@@ -38,5 +38,5 @@ pub returns : goal.returns
 returns c =
     let a = c.args in
     c.unwritten_in.ensures ∙ ap (λ (x : Reply). unwritten_in a.form a.first x.row x.column) (named (goal.at.returns c).After-reply_of-named)
-    ∙ rules-named a.form a.first a.marks.now (λ i. a.p.start + i * a.p.pitch) a.p.rows a.p.columns a.w
+    ∙ needs-named a.form a.first a.marks.now (λ i. a.p.start + i * a.p.pitch) a.p.rows a.p.columns a.w
     (sym (ap is_done c.first_unmarked-found.ensures) ∙ sym c.is_done.ensures ∙ c.if-is_done.false)
