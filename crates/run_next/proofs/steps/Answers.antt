@@ -1,0 +1,63 @@
+use Rattle.numbers.proofs.Kit.{◌≡◌, sym, ap, ◌∙◌, true, ℕ, arith}
+use Rattle.numbers.specs.Blocks.{count}
+use Rattle.machine.specs.Setting.{chosen}
+use Rattle.run.specs.Turn.{sound_run}
+use Rattle.run_place.proofs.RunPlaceLaws.{run-numbered, run-most, run-sizes, run-blocks}
+use Rattle.run_next.proofs.AskingLaws.{no_steps, steps-counted}
+use Rattle.run_place.proofs.CountLaws.{count-least}
+use Rattle.run_next.proofs.steps.Goals as goal
+use Rattle.run_next.proofs.steps.Goals.{Else-not-is_sound_run}
+
+-- the run is sound
+ok-1 : (c : Else-not-is_sound_run) → sound_run chosen c.args.run ≡ true
+ok-1 c = sym c.is_sound_run.ensures ∙ c.if-not-is_sound_run.false
+
+pub returns-then-not-is_sound_run : goal.returns-then-not-is_sound_run
+returns-then-not-is_sound_run c = no_steps c.args.run (sym c.is_sound_run.ensures ∙ c.if-not-is_sound_run.true)
+
+pub most_rows-requires : goal.most_rows-requires
+most_rows-requires c = run-numbered c.args.run (ok-1 c)
+
+pub blocks-rows-requires : goal.blocks-rows-requires
+blocks-rows-requires c =
+    let R = c.args.run in
+    let n = run-numbered R (ok-1 (goal.at.blocks-rows-requires c).Else-not-is_sound_run) in
+    omega (arith, c.most_rows.ensures, run-sizes R n, (run-most R n).0<tm, run-blocks R n)
+
+pub most_columns-requires : goal.most_columns-requires
+most_columns-requires c = run-numbered c.args.run (ok-1 (goal.at.most_columns-requires c).Else-not-is_sound_run)
+
+pub blocks-columns-requires : goal.blocks-columns-requires
+blocks-columns-requires c =
+    let R = c.args.run in
+    let n = run-numbered R (ok-1 (goal.at.blocks-columns-requires c).Else-not-is_sound_run) in
+    omega (arith, c.most_columns.ensures, run-sizes R n, (run-most R n).0<tn, run-blocks R n)
+
+pub most_terms-requires : goal.most_terms-requires
+most_terms-requires c = run-numbered c.args.run (ok-1 (goal.at.most_terms-requires c).Else-not-is_sound_run)
+
+pub blocks-terms-requires : goal.blocks-terms-requires
+blocks-terms-requires c =
+    let R = c.args.run in
+    let n = run-numbered R (ok-1 (goal.at.blocks-terms-requires c).Else-not-is_sound_run) in
+    omega (arith, c.most_terms.ensures, run-sizes R n, (run-most R n).0<tk, run-blocks R n)
+
+pub steps_by-requires : goal.steps_by-requires
+steps_by-requires c =
+    let P = c.args.run.plan in
+    let s = run-sizes c.args.run (run-numbered c.args.run (ok-1 (goal.at.steps_by-requires c).Else-not-is_sound_run)) in (
+      omega (arith, c.blocks-rows.ensures, s.0, count-least c.most_rows.result P.m),
+      (
+        omega (arith, c.blocks-columns.ensures, s.2, count-least c.most_columns.result P.n),
+        omega (arith, c.blocks-terms.ensures, s.1, count-least c.most_terms.result P.k),
+      ),
+    )
+
+pub returns : goal.returns
+returns c =
+    let R = c.args.run in
+    c.steps_by.ensures
+    ∙ steps-counted R c.blocks-rows.result c.blocks-columns.result c.blocks-terms.result (ok-1 (goal.at.returns c).Else-not-is_sound_run)
+    (c.blocks-rows.ensures ∙ ap (λ (x : ℕ). count x R.plan.m) c.most_rows.ensures)
+    (c.blocks-columns.ensures ∙ ap (λ (x : ℕ). count x R.plan.n) c.most_columns.ensures)
+    (c.blocks-terms.ensures ∙ ap (λ (x : ℕ). count x R.plan.k) c.most_terms.ensures)
