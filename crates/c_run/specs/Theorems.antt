@@ -1,6 +1,5 @@
 -- What is proved of these definitions. The proofs stand in proofs/.
 use Rattle.std.specs.Prelude.{◌≡◌, List, ℕ}
-use Rattle.machine.specs.Step.{step}
 use Rattle.run.specs.declared.Plan.{Plan}
 use Rattle.c_run.specs.RunCalls.{run_started_out, host_run_start, next_out, host_next}
 
