@@ -100,7 +100,7 @@ tcccc...........................\
 
 // By the entry with this number, and the registers that a word names.
 fn number_answer(word: u32, number: u8) -> Texted
-    ensures { result ≡ codeAnswer (ranged (meant number word listing)) }
+    ensures { result ≡ code_answer (ranged (meant number word listing)) }
 {
     let low = low_field(word);
     let middle = middle_field(word);
@@ -124,7 +124,7 @@ fn number_answer(word: u32, number: u8) -> Texted
 // What stepping answers for the code of a word that has this entry; done, if it has a line.
 pub fn code_answer(word: u32, number: u8) -> Texted
     requires { number ≡ entry_of word }
-    ensures { result ≡ codeAnswer (decode word) }
+    ensures { result ≡ code_answer (decode word) }
 {
     if word % 128 != 119 {
         return Texted::NoLine {

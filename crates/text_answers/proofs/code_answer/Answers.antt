@@ -2,7 +2,6 @@ use mathlib.Core.Path.{◌≡◌, sym, ap, ap₂, ◌∙◌}
 use mathlib.Core.Bool.{Bool, cond}
 use Prim.Native.Nat.{ℕ, ◌%◌}
 use native.Mathlib.Omega.{arith}
-use borrow.Author.Tests.{not-true, not-false}
 use Rattle.machine.specs.declared.Wrong.TheVariants.{Unlisted}
 use Rattle.machine.specs.declared.Instruction.{Instruction}
 use Rattle.machine.specs.declared.Instruction.TheVariants.{Illegal}
@@ -10,9 +9,7 @@ use Rattle.machine.specs.Listing.{bits, listing, ranged, decode}
 use Rattle.unit_table.specs.Table.{entry_of, rest_right, meant}
 use Rattle.unit_table.proofs.TableLaws.{wrong-opcode, table-decodes}
 use Rattle.text_assembly.specs.Answers.{code_answer}
-use borrow.Author.Rules.{rules}
-use Rattle.text_answers.proofs.code_answer.Statement.{statement}
-use Rattle.text_answers.proofs.code_answer.Tie as tie
+use Rattle.text_answers.proofs.code_answer.Goals as goal
 
 opcode : (word : ℕ) → word % 128 ≡ 119 → bits 6 0 word ≡ 0b1110111
 opcode word h = omega arith
@@ -26,24 +23,18 @@ reads word number right o n r =
     ap₂ (λ (t : Bool) (k : ℕ). read k word t) (r ∙ ap (λ (k : ℕ). rest_right k word) n) n
     ∙ table-decodes word (opcode word o)
 
-returns : tie.Need-returns
-returns c = ap code_answer (wrong-opcode c.before.args.word (λ e. c.if1.true (omega (arith, e))))
+pub returns-then-word-ne119 : goal.returns-then-word-ne119
+returns-then-word-ne119 c = ap code_answer (wrong-opcode c.args.word (λ e. c.if-word-ne119.true (omega (arith, e))))
 
-returns-2 : tie.Need-returns-2
-returns-2 c =
-    let s = c.before.before in
-    let a = s.before.args in
-    let r = c.before.rest-right in
-    ap code_answer (sym (ap (read a.number a.word) (not-true r.result c.if2.true)) ∙ reads a.word a.number r.result s.if1.false s.before.requires r.ensures)
+pub returns-then-not-right : goal.returns-then-not-right
+returns-then-not-right c =
+    let a = c.args in
+    let r = c.rest_right-right in
+    ap code_answer (sym (ap (read a.number a.word) c.if-not-right.true) ∙ reads a.word a.number r.result c.if-word-ne119.false c.requires r.ensures)
 
-returns-3 : tie.Need-returns-3
-returns-3 c =
-    let h = c.before in
-    let s = h.before.before in
-    let a = s.before.args in
-    let r = h.before.rest-right in
-    c.number-answer.ensures
-    ∙ ap code_answer (sym (ap (read a.number a.word) (not-false r.result h.if2.false)) ∙ reads a.word a.number r.result s.if1.false s.before.requires r.ensures)
-
-pub code-answer-spec : {M : Type 1} → statement M
-code-answer-spec = tie.close (tie.spec returns (λ c _. search rules) returns-2 (λ c _. search rules) returns-3)
+pub returns : goal.returns
+returns c =
+    let a = c.args in
+    let r = c.rest_right-right in
+    c.number_answer.ensures
+    ∙ ap code_answer (sym (ap (read a.number a.word) c.if-not-right.false) ∙ reads a.word a.number r.result c.if-word-ne119.false c.requires r.ensures)
