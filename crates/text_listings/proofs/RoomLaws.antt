@@ -1,5 +1,5 @@
 -- The lines of a text, and the room that the replies to them take.
-use Rattle.numbers.proofs.Kit.{◌≡◌, refl, sym, ap, ◌∙◌, ◌⊎◌, ⊎_elim, Bool, true, false, cond, List, [], ◌∷◌, ◌++◌, append_assoc, append-nil, Option, none}
+use Rattle.numbers.proofs.Kit.{◌≡◌, refl, sym, ap, ◌∙◌, ⊎_elim, Bool, true, false, cond, List, [], ◌∷◌, ◌++◌, append_assoc, append-nil, Option, none}
 use Rattle.numbers.proofs.Kit.{some, ℕ, suc, ◌+◌, ◌-◌, ◌*◌, ◌^◌, ◌≤◌, ◌<◌, arith, eqb, length, take, drop, drop_of_length-le, length-append, length-take}
 use Rattle.numbers.proofs.Kit.{length-drop, drop-drop, length-take-le, le-leb, lt-leb}
 use Rattle.numbers.proofs.BlockLaws.{le-or-lt}
