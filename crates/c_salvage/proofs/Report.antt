@@ -1,5 +1,5 @@
 -- The report of a call that is done, read back.
-use Rattle.numbers.proofs.Kit.{◌≡◌, refl, sym, ap, ◌∙◌, subst, Bool, true, false, cond, List, [], ◌∷◌, ◌++◌, Option, none, some, ℕ, ◌*◌, ◌%◌, ◌^◌, ◌≤◌, ◌<◌}
+use Rattle.numbers.proofs.Kit.{◌≡◌, refl, ap, ◌∙◌, subst, Bool, true, false, cond, List, [], ◌∷◌, ◌++◌, Option, none, some, ℕ, ◌*◌, ◌%◌, ◌^◌, ◌≤◌, ◌<◌}
 use Rattle.numbers.proofs.Kit.{mod-eq_of_lt, arith, eqb, leb, ltb, length, get_or, take, drop, length-append, length-take, eqb-true, ltb-true, ltb-false}
 use Rattle.numbers.specs.Tile.{get_le, put_row}
 use Rattle.numbers.proofs.WordLaws.{le-put_row}
@@ -8,7 +8,7 @@ use Rattle.numbers_format.specs.Formats.{Accepts}
 use Rattle.numbers_format.proofs.NumberLaws.{encode-last, encode-more}
 use Rattle.image.specs.Cells.{Run}
 use Rattle.image.specs.Cells.Run.{run}
-use Rattle.image.specs.Images.{runs_bytes, spelled, IsImage}
+use Rattle.image.specs.Images.{runs_bytes, spelled}
 use Rattle.image.specs.ImageFormat.{Described, image_format}
 use Rattle.image.specs.declared.Imaged.TheVariants.{Done, NoRoom}
 use Rattle.image.proofs.Images.{format-is-images}
