@@ -65,17 +65,20 @@ lib shared $(PROVED) bench salvage firmware:
 	@echo "built already: $(LIBRARY), $(SHARED), $(BUILT)"
 else
 lib:
-	rt staticlib bodlarina
+	cd crates/bodlarina && rt lib
+	mkdir -p $(dir $(LIBRARY))
+	cp crates/bodlarina/out/libbodlarina.a $(LIBRARY)
 	$(MAKE) shared
 
-# over the library as it is built; the linker refuses code that has to be written to where it is loaded
+# over the library as it is built; the linker refuses code that has to be written to where it is loaded. Its further names are no symbolic links,
+# since rt takes none in a checkout
 shared:
 	@test -f $(LIBRARY) || { echo "$(LIBRARY) is not built: make lib"; exit 1; }
 	mkdir -p $(dir $(SHARED))
 	$(CC) -shared -Wl,--whole-archive $(LIBRARY) -Wl,--no-whole-archive -Wl,-soname,$(SONAME) -Wl,--version-script,bodlarina.map \
 	  -Wl,-z,defs -Wl,-z,text -o $(SHARED)
-	ln -sf $(SHARED_NAME) $(dir $(SHARED))$(SONAME)
-	ln -sf $(SONAME) $(dir $(SHARED))libbodlarina.so
+	ln -f $(SHARED) $(dir $(SHARED))$(SONAME)
+	ln -f $(SHARED) $(dir $(SHARED))libbodlarina.so
 
 # The tool, and what QEMU loads, which finds QEMU's functions when it is loaded; both over the bench's machine.
 DEVICE := bench/device.c bench/instructions.c bench/reader.c bench/files.c
@@ -87,8 +90,11 @@ firmware:
 	$(CC) -std=c99 -O2 -Iinclude -Ibench $(TOOL) $(DEVICE) $(LIBRARY) -ldw -lelf -o $(FIRMWARE)
 	$(CC) -std=c99 -O2 -Iinclude -Ibench -fPIC -fvisibility=hidden -shared firmware/plugin*.c $(DEVICE) $(LIBRARY) -o $(PLUGIN)
 
+# proved, built, and run on its example
 $(PROVED):
-	rt check $@
+	mkdir -p $(BIN) crates/$@/out
+	cd crates/$@ && rt run <stdin >out/stdout && cmp out/stdout stdout
+	cp crates/$@/out/$@ $(BIN)
 
 # over the library as it is built
 bench:
