@@ -34,8 +34,8 @@ use Rattle.demands.specs.GivenInC.{StartCallAnswers, SealCallAnswers, SizeCallAn
 
 -- ---- a word
 
--- what a step of a word answers and leaves: the answer of the table, exactly; with 0 what the word means (`carriedIn`: mtype and sizes, registers
--- and marks, memory, and rd, by `stateAfter`, `memoryAfter` and `result_of` of machine/specs/Operation.antt; `vectorsAfter`), with any other nothing
+-- what a step of a word answers and leaves: the answer of the table, exactly; with 0 what the word means (`carried_in`: mtype and sizes, registers
+-- and marks, memory, and rd, by `state_after`, `memory_after` and `result_of` of machine/specs/Operation.antt; `vectors_after`), with any other nothing
 module _ (grant : Choice) (word : ℕ) (xs : List ℕ) (W : Vectors) (B : Bench) where
   pub record IsItsMeaning (o : VectorOutcome) : Type 0 where
     pub answer : GivenExactly grant word xs W B o.answer

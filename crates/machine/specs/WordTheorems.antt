@@ -76,7 +76,7 @@ listing_before [] = []
 listing_before (r ∷ rs) = cond (is_added r) (listing_before rs) (r ∷ listing_before rs)
 
 -- decoding as it was before One, over the entries that were ours then: any other word gets 1; and the step with it. What an instruction
--- does and when it is refused (`steppedIn`) is the same definition in both, so this compares decoding only
+-- does and when it is refused (`stepped_in`) is the same definition in both, so this compares decoding only
 abbrev pub decode_before : ℕ → Instruction
 decode_before word =
     let i : Instruction = look_up word (Illegal Unlisted) (listing_before listing) in

@@ -55,7 +55,7 @@ pub record Accepted (J : Job) (isSealed : ℕ → Bool) : Type 0 where
 
 -- ---- the invariant
 
--- the sum of the first s products of C(i, j): with s = k it is `productOf`
+-- the sum of the first s products of C(i, j): with s = k it is `product_of`
 abbrev pub partial : Job → ℕ → ℕ → ℕ → ℕ
 partial J i j s = total (elements_of J.plan) (wide J.plan) (narrow J.plan) (λ l. a_of J i l) (λ l. b_of J l j) s
 
