@@ -64,8 +64,9 @@ ifeq ($(LIBRARY),lib/libbodlarina.a)
 lib shared $(PROVED) bench salvage firmware:
 	@echo "built already: $(LIBRARY), $(SHARED), $(BUILT)"
 else
+# for each x86-64 processor; the kit's default, x86-64-v2, has instructions beyond that, which a static library does not look for
 lib:
-	cd crates/bodlarina && rt lib
+	cd crates/bodlarina && rt lib --cpu x86-64
 	mkdir -p $(dir $(LIBRARY))
 	cp crates/bodlarina/out/libbodlarina.a $(LIBRARY)
 	$(MAKE) shared
