@@ -1,7 +1,8 @@
 -- Numbers as the host passes them: the machine's numbers and the scalars in blocks of bytes, an answer in one number.
 -- 01, "What a machine is": "The bench host is written in C and passes numbers and byte buffers, so stepping is offered to it in that
 -- form too". The layout of the blocks is that of include/bodlarina.h (docs/DECISIONS.md).
-use Rattle.numbers.specs.Kit.{◌≡◌, List, [], ◌∷◌, ◌++◌, ℕ, ◌+◌, ◌*◌, ◌%◌, ◌^◌, ◌<◌, length, get_or}
+use Rattle.std.specs.Prelude.{◌≡◌, ◌∷◌, ◌++◌, ◌+◌, ◌*◌, ◌%◌, ◌^◌, ◌<◌}
+use Rattle.numbers.specs.Kit.{List, [], ℕ, length, get_or}
 use Rattle.numbers.specs.Upto.{upto}
 use Rattle.numbers.specs.Tile.{get_le, put_le, put_row}
 use Rattle.unit_ranges.specs.Ranges.{block_bytes}

@@ -1,5 +1,6 @@
 -- A run and a step as the host passes them, in blocks of bytes. The layout is that of include/bodlarina.h (docs/DECISIONS.md).
-use Rattle.numbers.specs.Kit.{◌≡◌, Bool, List, [], ◌∷◌, ◌++◌, ℕ, ◌+◌, eqb, length, get_or}
+use Rattle.std.specs.Prelude.{◌≡◌, ◌∷◌, ◌++◌, ◌+◌}
+use Rattle.numbers.specs.Kit.{Bool, List, [], ℕ, eqb, length, get_or}
 use Rattle.numbers.specs.Tile.{get_le}
 use Rattle.machine.specs.Tests.{every}
 use Rattle.run.specs.declared.Layout.{Layout}

@@ -1,5 +1,6 @@
 -- What a call of bodlarina_image_salvage answers and leaves (include/bodlarina.h).
-use Rattle.numbers.specs.Kit.{cond, List, [], ◌∷◌, ℕ, eqb, length}
+use Rattle.std.specs.Prelude.{◌∷◌}
+use Rattle.numbers.specs.Kit.{cond, List, [], ℕ, eqb, length}
 use Rattle.c_blocks.specs.Blocks.{put_numbers}
 use Rattle.c_image.specs.ImageCalls.{packed_reply}
 use Rattle.image_salvage.specs.Salvage.{SalvageOutcome, salvage}

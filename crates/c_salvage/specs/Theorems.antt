@@ -1,5 +1,6 @@
 -- What is proved of these definitions. The proofs stand in proofs/.
-use Rattle.numbers.specs.Kit.{◌≡◌, cond, List, ℕ, ◌*◌, ◌%◌, ◌^◌, eqb, length}
+use Rattle.std.specs.Prelude.{◌≡◌, ◌*◌, ◌%◌, ◌^◌}
+use Rattle.numbers.specs.Kit.{cond, List, ℕ, eqb, length}
 use Rattle.numbers.specs.Tile.{get_le}
 use Rattle.numbers_format.specs.Numbers.{ByteString}
 use Rattle.image.specs.declared.Imaged.TheVariants.{BadArguments}

@@ -1,5 +1,6 @@
 -- What each call on lines of assembler text answers and leaves (include/bodlarina.h).
-use Rattle.numbers.specs.Kit.{cond, List, ◌++◌, Option, none, some, ℕ, suc, ◌+◌, ◌*◌, ◌%◌, ◌^◌, eqb, leb, length, drop}
+use Rattle.std.specs.Prelude.{◌++◌, ◌+◌, ◌*◌, ◌%◌, ◌^◌}
+use Rattle.numbers.specs.Kit.{cond, List, Option, none, some, ℕ, suc, eqb, leb, length, drop}
 use Rattle.numbers.specs.Tile.{put_le}
 use Rattle.machine.specs.Listing.{decode}
 use Rattle.numbers_format.specs.Parser.{Parsed}

@@ -1,5 +1,6 @@
 -- What is proved of these definitions. The proofs stand in proofs/.
-use Rattle.numbers.specs.Kit.{◌≡◌, cond, List, ℕ, suc, ◌/◌, ◌%◌, ◌^◌, ◌<◌, eqb, length}
+use Rattle.std.specs.Prelude.{◌≡◌, ◌/◌, ◌%◌, ◌^◌, ◌<◌}
+use Rattle.numbers.specs.Kit.{cond, List, ℕ, suc, eqb, length}
 use Rattle.numbers_format.specs.Parser.{Parsed}
 use Rattle.numbers_format.specs.Parser.Parsed.{whole, stopped}
 use Rattle.text_assembly.specs.declared.Texted.{Texted}

@@ -1,5 +1,6 @@
 -- What is proved of these definitions. The proofs stand in proofs/.
-use Rattle.numbers.specs.Kit.{◌≡◌, List, ℕ}
+use Rattle.std.specs.Prelude.{◌≡◌}
+use Rattle.numbers.specs.Kit.{List, ℕ}
 use Rattle.run.specs.declared.Plan.{Plan}
 use Rattle.c_blocks.specs.Blocks.{Bytes}
 use Rattle.c_turn.specs.TurnCalls.{turned_out, host_turn, host_turns, ran_out, host_run}

@@ -1,5 +1,6 @@
 -- What the calls of C that take turns of a run, and that of a whole run, answer and leave (include/bodlarina.h).
-use Rattle.numbers.specs.Kit.{Bool, cond, List, [], ◌∷◌, ℕ, eqb, length}
+use Rattle.std.specs.Prelude.{◌∷◌}
+use Rattle.numbers.specs.Kit.{Bool, cond, List, [], ℕ, eqb, length}
 use Rattle.machine.specs.declared.Answer.TheVariants.{BadArguments}
 use Rattle.machine.specs.Tests.{every}
 use Rattle.machine.specs.Answers.{reply, done}

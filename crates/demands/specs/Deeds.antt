@@ -1,5 +1,6 @@
 -- What a host can do with a machine, over the definitions, and over the C functions of include/bodlarina.h; what each answers and leaves.
-use Rattle.numbers.specs.Kit.{cond, List, [], ◌∷◌, ℕ}
+use Rattle.std.specs.Prelude.{◌∷◌}
+use Rattle.numbers.specs.Kit.{cond, List, [], ℕ}
 use Rattle.numbers.specs.Blocks.{Choice}
 use Rattle.machine.specs.Answers.{done}
 use Rattle.machine.specs.Geometry.{Range, Bench, bench_of}

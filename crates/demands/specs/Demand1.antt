@@ -1,5 +1,6 @@
 -- Demand 1: every word, scalar, memory size and state gets an answer, and a refusal changes nothing.
-use Rattle.numbers.specs.Kit.{◌≡◌, false, List, ℕ, ◌%◌, ◌^◌, ◌≤◌, ◌<◌}
+use Rattle.std.specs.Prelude.{◌≡◌, ◌%◌, ◌^◌, ◌≤◌, ◌<◌}
+use Rattle.numbers.specs.Kit.{false, List, ℕ}
 use Rattle.numbers.specs.Blocks.{Choice}
 use Rattle.c_blocks.specs.Blocks.{Bytes}
 use Rattle.machine.specs.Faults.{sound_bench}

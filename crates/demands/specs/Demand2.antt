@@ -1,5 +1,6 @@
 -- Demand 2: each accepted word does exactly what the papers define, refusals are exact, and no sealed byte ever changes.
-use Rattle.numbers.specs.Kit.{◌≡◌, cond, List, [], ◌∷◌, ◌++◌, some, ℕ, ◌%◌, ◌^◌, ◌<◌, length, get_or}
+use Rattle.std.specs.Prelude.{◌≡◌, ◌∷◌, ◌++◌, ◌%◌, ◌^◌, ◌<◌}
+use Rattle.numbers.specs.Kit.{cond, List, [], some, ℕ, length, get_or}
 use Rattle.numbers.specs.Blocks.{Choice}
 use Rattle.numbers_format.specs.Numbers as Images
 use Rattle.machine.specs.Geometry.{Range, range, Parameters, parameters, State, state_of, Bench, bench_of}

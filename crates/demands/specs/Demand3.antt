@@ -1,5 +1,6 @@
 -- Demand 3: the tiled product run, as one statement over any number of turns from its start.
-use Rattle.numbers.specs.Kit.{◌≡◌, [], ◌∷◌, ℕ, ◌<◌, length}
+use Rattle.std.specs.Prelude.{◌≡◌, ◌∷◌, ◌<◌}
+use Rattle.numbers.specs.Kit.{[], ℕ, length}
 use Rattle.machine.specs.declared.Reply.{Reply}
 use Rattle.machine.specs.Operation.{element}
 use Rattle.run.specs.declared.Plan.{Plan}

@@ -1,7 +1,8 @@
 -- When bodlarina_start, bodlarina_seal, bodlarina_image_size and bodlarina_image_write give each of their answers, exactly, and what they leave
 -- (include/bodlarina.h): as a start, an addition, a sizing and a writing do (theorem_refusals/specs/). A machine's block of another length holds a state at
 -- fault. The proofs stand in proofs/.
-use Rattle.numbers.specs.Kit.{◌≡◌, ◌↔◌, List, [], ◌∷◌, ◌++◌, ℕ, ◌/◌, ◌%◌, ◌^◌, length, drop}
+use Rattle.std.specs.Prelude.{◌≡◌, ◌↔◌, ◌∷◌, ◌++◌, ◌/◌, ◌%◌, ◌^◌}
+use Rattle.numbers.specs.Kit.{List, [], ℕ, length, drop}
 use Rattle.machine.specs.Geometry.{Bench, range, bench_of}
 use Rattle.machine.specs.Theorems.{started_bench}
 use Rattle.unit_ranges.specs.Ranges.{seals_in}

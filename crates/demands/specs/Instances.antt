@@ -2,8 +2,9 @@
 -- sealed ranges, words with three operands, a run of 47 steps, an image of two runs, several acts and calls. Records and lines have the names that
 -- Promise.antt and the demands' pages have; proofs/Instances.antt takes each line from the promise's own term, so that a statement which asks for
 -- more, or speaks of less, no longer gives its line.
-use Rattle.numbers.specs.Kit.{◌≡◌, ◌⊎◌, true, false, cond, map, List, [], ◌∷◌, ◌++◌, List-as-Memᴰ, none, some, ℕ, zero, suc, ◌+◌, ◌*◌, ◌-◌, ◌/◌, ◌%◌, ◌^◌, ◌≤◌}
-use Rattle.numbers.specs.Kit.{◌<◌, length, get_or, replicate, set, take, drop, negsuc}
+use Rattle.std.specs.Prelude.{◌≡◌, ◌⊎◌, ◌∷◌, ◌++◌, ◌+◌, ◌*◌, ◌-◌, ◌/◌, ◌%◌, ◌^◌, ◌≤◌, ◌<◌}
+use Rattle.numbers.specs.Kit.{true, false, cond, map, List, [], List-as-Memᴰ, none, some, ℕ, zero, suc}
+use Rattle.numbers.specs.Kit.{length, get_or, replicate, set, take, drop, negsuc}
 use Rattle.numbers.specs.Reduce.{reduce}
 use Rattle.numbers.specs.Blocks.{Choice}
 use Rattle.numbers.specs.Binary32.{value_of}

@@ -1,5 +1,6 @@
 -- Register bytes with their marks, and their runs.
-use Rattle.numbers.specs.Kit.{cond, List, [], ◌∷◌, ◌++◌, map, Option, none, some, ℕ, zero, suc, ◌+◌, ◌-◌, ◌≤◌, ◌<◌, eqb, length, replicate}
+use Rattle.std.specs.Prelude.{◌∷◌, ◌++◌, ◌+◌, ◌-◌, ◌≤◌, ◌<◌}
+use Rattle.numbers.specs.Kit.{cond, List, [], map, Option, none, some, ℕ, zero, suc, eqb, length, replicate}
 
 -- a register byte: the byte if its mark is 1, nothing if not
 abbrev pub Cell : Type 0

@@ -1,5 +1,6 @@
 -- Computed examples of images.
-use Rattle.numbers.specs.Kit.{◌≡◌, refl, true, false, List, [], ◌∷◌, ◌++◌, ℕ, take}
+use Rattle.std.specs.Prelude.{◌≡◌, ◌∷◌, ◌++◌}
+use Rattle.numbers.specs.Kit.{refl, true, false, List, [], ℕ, take}
 use Rattle.numbers_format.specs.Numbers.{groups, encode}
 use Rattle.numbers_format.specs.Parser.{is_among, nonempty, read_number, parse}
 use Rattle.image.specs.Cells.{cells_of, runs}

@@ -1,6 +1,7 @@
 -- The format of all images: each number has the range that the numbers before it leave. specs/Theorems.antt says that it accepts exactly
 -- the images of machines that are not at fault.
-use Rattle.numbers.specs.Kit.{cond, ◌&&◌, List, [], ◌∷◌, ℕ, zero, suc, ◌+◌, ◌-◌, ◌*◌, ◌^◌, min, eqb, ltb}
+use Rattle.std.specs.Prelude.{◌&&◌, ◌∷◌, ◌+◌, ◌-◌, ◌*◌, ◌^◌}
+use Rattle.numbers.specs.Kit.{cond, List, [], ℕ, zero, suc, min, eqb, ltb}
 use Rattle.numbers_format.specs.Numbers.{Interval, span}
 use Rattle.numbers_format.specs.Formats.{Format}
 use Rattle.numbers_format.specs.Formats.Format.{done, number, bytes}

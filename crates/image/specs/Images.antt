@@ -1,5 +1,6 @@
 -- 02, Six: the image of a machine.
-use Rattle.numbers.specs.Kit.{◌≡◌, Bool, true, cond, ◌||◌, ◌&&◌, List, [], ◌∷◌, ◌++◌, ℕ, zero, suc, ◌/◌, ◌^◌, ltb, eqb, length}
+use Rattle.std.specs.Prelude.{◌≡◌, ◌||◌, ◌&&◌, ◌∷◌, ◌++◌, ◌/◌, ◌^◌}
+use Rattle.numbers.specs.Kit.{Bool, true, cond, List, [], ℕ, zero, suc, ltb, eqb, length}
 use Rattle.numbers_format.specs.Numbers.{encode, encode_all, ByteString}
 use Rattle.machine.specs.declared.Machine.{Machine}
 use Rattle.machine.specs.Geometry.{Range}

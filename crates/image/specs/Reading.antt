@@ -1,5 +1,6 @@
 -- 02, Six: reading an image.
-use Rattle.numbers.specs.Kit.{Bool, cond, List, [], ◌∷◌, ℕ, eqb, length}
+use Rattle.std.specs.Prelude.{◌∷◌}
+use Rattle.numbers.specs.Kit.{Bool, cond, List, [], ℕ, eqb, length}
 use Rattle.numbers_format.specs.Parser.{Parsed, parse}
 use Rattle.numbers_format.specs.Parser.Parsed.{whole, stopped}
 use Rattle.machine.specs.declared.Machine.{Machine}

@@ -1,5 +1,6 @@
 -- What is proved of these definitions. The proofs stand in proofs/.
-use Rattle.numbers.specs.Kit.{◌≡◌, ◌⊎◌, true, List, ◌++◌, ℕ, ◌≤◌, length, take, drop, get_or}
+use Rattle.std.specs.Prelude.{◌≡◌, ◌⊎◌, ◌++◌, ◌≤◌}
+use Rattle.numbers.specs.Kit.{true, List, ℕ, length, take, drop, get_or}
 use Rattle.numbers_format.specs.Numbers.{ByteString}
 use Rattle.numbers_format.specs.Formats.{Ends, Accepted}
 use Rattle.machine.specs.declared.Machine.{Machine}

@@ -1,5 +1,6 @@
 -- 02, Six: sizing and writing an image.
-use Rattle.numbers.specs.Kit.{cond, List, ◌++◌, ℕ, leb, length, drop}
+use Rattle.std.specs.Prelude.{◌++◌}
+use Rattle.numbers.specs.Kit.{cond, List, ℕ, leb, length, drop}
 use Rattle.machine.specs.declared.Machine.{Machine}
 use Rattle.image.specs.declared.Imaged.{Imaged}
 use Rattle.image.specs.declared.Imaged.TheVariants.{Done, BadArguments, NoRoom}

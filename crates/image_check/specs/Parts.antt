@@ -1,5 +1,6 @@
 -- What the parts of a check find, from a place of the input on.
-use Rattle.numbers.specs.Kit.{Bool, true, false, cond, List, ℕ, zero, suc, ◌+◌, ◌-◌, ◌*◌, ◌^◌, ◌≤◌, ◌<◌, min, eqb, leb, ltb, length}
+use Rattle.std.specs.Prelude.{◌+◌, ◌-◌, ◌*◌, ◌^◌, ◌≤◌, ◌<◌}
+use Rattle.numbers.specs.Kit.{Bool, true, false, cond, List, ℕ, zero, suc, min, eqb, leb, ltb, length}
 use Rattle.numbers_coded.specs.At.{number_at}
 use Rattle.image.specs.declared.Imaged.{Imaged}
 use Rattle.image.specs.declared.Imaged.TheVariants.{Done, BadArguments, NoRoom, Damaged}

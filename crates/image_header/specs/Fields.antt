@@ -1,5 +1,6 @@
 -- What the parts of a header are read as, from a place of the input on.
-use Rattle.numbers.specs.Kit.{◌≡◌, true, false, cond, List, [], ◌∷◌, ℕ, zero, suc, ◌+◌, ◌-◌, ◌^◌, ◌≤◌, ◌<◌, min, eqb, ltb, drop}
+use Rattle.std.specs.Prelude.{◌≡◌, ◌∷◌, ◌+◌, ◌-◌, ◌^◌, ◌≤◌, ◌<◌}
+use Rattle.numbers.specs.Kit.{true, false, cond, List, [], ℕ, zero, suc, min, eqb, ltb, drop}
 use Rattle.numbers_format.specs.Parser.{read_number, Parsed, from}
 use Rattle.numbers_coded.specs.At.{Number, found, number_at}
 use Rattle.numbers_coded.specs.At.Number.{Value, Fault}

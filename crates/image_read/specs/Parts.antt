@@ -1,5 +1,6 @@
 -- What the parts of a read leave.
-use Rattle.numbers.specs.Kit.{List, [], ◌∷◌, ℕ, suc, ◌≤◌, length, replicate}
+use Rattle.std.specs.Prelude.{◌∷◌, ◌≤◌}
+use Rattle.numbers.specs.Kit.{List, [], ℕ, suc, length, replicate}
 use Rattle.numbers_format.specs.Parser.{Parsed}
 use Rattle.numbers_format.specs.Parser.Parsed.{whole, stopped}
 use Rattle.unit_ranges.specs.Ranges.{put_range}

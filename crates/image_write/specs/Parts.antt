@@ -1,5 +1,6 @@
 -- What the parts of a write find.
-use Rattle.numbers.specs.Kit.{◌≡◌, cond, List, [], ◌∷◌, ℕ, zero, suc, ◌+◌, ◌-◌, ◌*◌, ◌≤◌, ◌<◌, eqb, length, get_or}
+use Rattle.std.specs.Prelude.{◌≡◌, ◌∷◌, ◌+◌, ◌-◌, ◌*◌, ◌≤◌, ◌<◌}
+use Rattle.numbers.specs.Kit.{cond, List, [], ℕ, zero, suc, eqb, length, get_or}
 use Rattle.image.specs.Cells.{runs, cells_of}
 use Rattle.image.specs.Images.{Header, runs_bytes}
 

@@ -1,5 +1,6 @@
 -- Machines that differ at most in unmarked register bytes. Requests Six and Nine of document 02 both speak of them.
-use Rattle.numbers.specs.Kit.{◌≡◌, List, ℕ, length, get_or}
+use Rattle.std.specs.Prelude.{◌≡◌}
+use Rattle.numbers.specs.Kit.{List, ℕ, length, get_or}
 use Rattle.machine.specs.Geometry.{Bench}
 
 -- register bytes of one length, equal wherever the mark is 1

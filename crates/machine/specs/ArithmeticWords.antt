@@ -1,5 +1,6 @@
 -- 01, "Loading, storing, reckoning", and 02, Four: multiplies and element-wise words.
-use Rattle.numbers.specs.Kit.{Bool, true, false, ◌&&◌, ◌||◌, List, [], ◌∷◌, ℕ, zero, suc, ◌*◌, ◌^◌, leb, eqb, ℤ, pos, negsuc, ◌+ℤ◌, ◌-ℤ◌, ◌*ℤ◌}
+use Rattle.std.specs.Prelude.{◌&&◌, ◌||◌, ◌∷◌, ◌*◌, ◌^◌, ◌+ℤ◌, ◌-ℤ◌, ◌*ℤ◌}
+use Rattle.numbers.specs.Kit.{Bool, true, false, List, [], ℕ, zero, suc, leb, eqb, ℤ, pos, negsuc}
 use Rattle.numbers.specs.Reduce.{signed, reduce, sumℤ}
 use Rattle.numbers.specs.Binary32.{float_product}
 use Rattle.machine.specs.declared.Answer.TheVariants.{BadWidth}

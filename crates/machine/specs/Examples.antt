@@ -1,6 +1,7 @@
 -- Refusals of each number and their neighbours, computed: a machine of RLEN 64 and MLEN 128 (two rows of eight bytes) and
 -- ELEN 32; at the end one of RLEN 128 and MLEN 256, with ELEN 64.
-use Rattle.numbers.specs.Kit.{◌≡◌, refl, true, false, List, [], ◌∷◌, ◌++◌, map, ℕ, zero, suc, ◌+◌, ◌*◌, ◌-◌, ◌^◌, get_or, replicate, set, take, drop}
+use Rattle.std.specs.Prelude.{◌≡◌, ◌∷◌, ◌++◌, ◌+◌, ◌*◌, ◌-◌, ◌^◌}
+use Rattle.numbers.specs.Kit.{refl, true, false, List, [], map, ℕ, zero, suc, get_or, replicate, set, take, drop}
 use Rattle.std.specs.Float.Ieee as Ieee
 use Rattle.numbers.specs.Reduce.{reduce}
 use Rattle.numbers.specs.Tile.{put_tile, put_row, put_le, mark_tile, mark_row}

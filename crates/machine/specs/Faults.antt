@@ -1,5 +1,6 @@
 -- 01, "Numbers of the answers": answer 8 of a step.
-use Rattle.numbers.specs.Kit.{Bool, ◌&&◌, List, [], ◌∷◌, ℕ, ◌/◌, min, leb, ltb, eqb, length}
+use Rattle.std.specs.Prelude.{◌&&◌, ◌∷◌, ◌/◌}
+use Rattle.numbers.specs.Kit.{Bool, List, [], ℕ, min, leb, ltb, eqb, length}
 use Rattle.machine.specs.declared.Machine.{Machine}
 use Rattle.machine.specs.Tests.{all_of, every}
 use Rattle.machine.specs.Geometry.{Range, permitted, register_bytes, Bench}

@@ -1,6 +1,7 @@
 -- 01, "What a machine is", and 02, Twelve: its lengths, its sealed ranges, its registers in the lent bytes, and the scalars.
 -- Lengths of the machine and ELEN are in bits, as 01 gives them; widths of elements and of rows are in bytes.
-use Rattle.numbers.specs.Kit.{Bool, false, cond, ◌||◌, List, [], ◌∷◌, ℕ, ◌+◌, ◌*◌, ◌/◌, ltb, eqb, get_or, set}
+use Rattle.std.specs.Prelude.{◌||◌, ◌∷◌, ◌+◌, ◌*◌, ◌/◌}
+use Rattle.numbers.specs.Kit.{Bool, false, cond, List, [], ℕ, ltb, eqb, get_or, set}
 use Rattle.numbers.specs.Blocks.{Choice}
 use Rattle.machine.specs.declared.Machine.{Machine}
 use Rattle.machine.specs.declared.Matrix.{Matrix}

@@ -2,7 +2,8 @@
 -- look-up in it: `listing` has our instructions, with the four of section 6.1.7 that 02, Eleven, adds, `others` the rest of section 4.5.
 -- Ten rows, all ours, are damaged in our copy and read by symmetry: No. 1, 3, 5, 6, 7, 8, 15, 21, 22 and 31 (docs/DIFFERENCES.md, 1.2).
 -- No code is given twice.
-use Rattle.numbers.specs.Kit.{Bool, true, false, cond, ◌&&◌, ◌||◌, List, [], ◌∷◌, ℕ, ◌+◌, ◌-◌, ◌/◌, ◌%◌, ◌^◌, ltb, eqb}
+use Rattle.std.specs.Prelude.{◌&&◌, ◌||◌, ◌∷◌, ◌+◌, ◌-◌, ◌/◌, ◌%◌, ◌^◌}
+use Rattle.numbers.specs.Kit.{Bool, true, false, cond, List, [], ℕ, ltb, eqb}
 use Prim.Native.String.{String}
 use Rattle.machine.specs.declared.Matrix.{Matrix}
 use Rattle.machine.specs.declared.Matrix.TheVariants.{MatrixA, MatrixB, MatrixC}

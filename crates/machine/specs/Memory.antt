@@ -1,5 +1,6 @@
 -- 01, "Loading, storing, reckoning", and 02, Seven: rows of elements in memory, the tests on their bytes, and rows stored.
-use Rattle.numbers.specs.Kit.{Bool, false, not, cond, List, [], ◌∷◌, ℕ, suc, ◌+◌, ◌*◌, ◌-◌, ◌/◌, ◌%◌, ◌^◌, ltb, ℤ, pos, negsuc, ◌+ℤ◌, ◌*ℤ◌}
+use Rattle.std.specs.Prelude.{◌∷◌, ◌+◌, ◌*◌, ◌-◌, ◌/◌, ◌%◌, ◌^◌, ◌+ℤ◌, ◌*ℤ◌}
+use Rattle.numbers.specs.Kit.{Bool, false, not, cond, List, [], ℕ, suc, ltb, ℤ, pos, negsuc}
 use Rattle.numbers.specs.Reduce.{signed}
 use Rattle.numbers.specs.Tile.{byte_of}
 use Rattle.machine.specs.Tests.{all, first, within}

@@ -1,6 +1,7 @@
 -- 02, Eleven: moves of slices, computed: a machine of RLEN 64 and MLEN 128, whose accumulators have two rows of 32 bytes, from bytes 128 and
 -- 192 on.
-use Rattle.numbers.specs.Kit.{◌≡◌, refl, List, [], ◌∷◌, ◌++◌, map, ℕ, ◌-◌, ◌^◌, replicate, set, take, drop}
+use Rattle.std.specs.Prelude.{◌≡◌, ◌∷◌, ◌++◌, ◌-◌, ◌^◌}
+use Rattle.numbers.specs.Kit.{refl, List, [], map, ℕ, replicate, set, take, drop}
 use Rattle.numbers.specs.Tile.{put_tile, put_row, put_le, mark_tile, mark_row}
 use Rattle.machine.specs.Geometry.{permitted, Bench}
 use Rattle.machine.specs.Setting.{sew, new_type, legal_type}

@@ -1,5 +1,6 @@
 -- 02, Eleven: moves between an accumulator and vector registers. Rows are the plain form and columns the transposed one.
-use Rattle.numbers.specs.Kit.{List, [], ◌∷◌, ◌++◌, ℕ, ◌+◌, ◌*◌, leb}
+use Rattle.std.specs.Prelude.{◌∷◌, ◌++◌, ◌+◌, ◌*◌}
+use Rattle.numbers.specs.Kit.{List, [], ℕ, leb}
 use Rattle.numbers.specs.Tile.{put_tile}
 use Rattle.machine.specs.declared.Answer.{Answer}
 use Rattle.machine.specs.declared.Answer.TheVariants.{TileTooLarge, Unwritten}

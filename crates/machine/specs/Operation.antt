@@ -1,6 +1,7 @@
 -- 01, "Loading, storing, reckoning", and 02, Two, Four and Eleven: the operations, which are the instructions once their scalars are read, and
 -- the tiles that they work on. What each is refused by and what it leaves is one record: SettingWords, TransferWords, ArithmeticWords, MoveWords.
-use Rattle.numbers.specs.Kit.{cond, List, ℕ, ◌+◌, ◌*◌, ◌%◌, ◌^◌, eqb, ℤ}
+use Rattle.std.specs.Prelude.{◌+◌, ◌*◌, ◌%◌, ◌^◌}
+use Rattle.numbers.specs.Kit.{cond, List, ℕ, eqb, ℤ}
 use Rattle.numbers.specs.Tile.{get_le, put_tile, mark_tile}
 use Rattle.numbers.specs.Reduce.{signed}
 use Rattle.machine.specs.declared.Matrix.{Matrix}

@@ -1,6 +1,7 @@
 -- 01, "Numbers of the answers", and 02, One: the checks that instructions have in common. Each instruction lists its own in their order, which is
 -- 10, 11, 1, 12, then 2 to 6, 13, 7: "sources go ms1, ms2, md".
-use Rattle.numbers.specs.Kit.{Bool, not, ◌||◌, List, ℕ, ◌+◌, ◌*◌, leb, eqb, get_or}
+use Rattle.std.specs.Prelude.{◌||◌, ◌+◌, ◌*◌}
+use Rattle.numbers.specs.Kit.{Bool, not, List, ℕ, leb, eqb, get_or}
 use Rattle.machine.specs.declared.Answer.{Answer}
 use Rattle.machine.specs.declared.Answer.TheVariants.{IllegalWord, IllegalType, TileTooLarge, Unwritten, WrongOpcode, LeftOutWord, WrongRegister}
 use Rattle.machine.specs.declared.Wrong.{Wrong}

@@ -1,5 +1,6 @@
 -- 02, Twelve: several sealed ranges, computed on the machine of Examples.
-use Rattle.numbers.specs.Kit.{◌≡◌, refl, List, [], ◌∷◌, ◌++◌, map, ℕ, ◌-◌, ◌^◌, replicate}
+use Rattle.std.specs.Prelude.{◌≡◌, ◌∷◌, ◌++◌, ◌-◌, ◌^◌}
+use Rattle.numbers.specs.Kit.{refl, List, [], map, ℕ, replicate}
 use Rattle.machine.specs.Geometry.{Range, range, Bench, bench_of, permitted}
 use Rattle.machine.specs.Setting.{sew, new_type, legal_type}
 use Rattle.machine.specs.Starting.{start_machine, startable}

@@ -1,5 +1,6 @@
 -- 02, Twelve: "a range may be added between steps but never taken off".
-use Rattle.numbers.specs.Kit.{cond, List, [], ◌∷◌, ◌++◌, ℕ, ltb, length}
+use Rattle.std.specs.Prelude.{◌∷◌, ◌++◌}
+use Rattle.numbers.specs.Kit.{cond, List, [], ℕ, ltb, length}
 use Rattle.machine.specs.declared.Answer.{Answer}
 use Rattle.machine.specs.declared.Answer.TheVariants.{BadArguments, TooManySeals}
 use Rattle.machine.specs.declared.Reply.{Reply}

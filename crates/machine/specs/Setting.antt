@@ -1,5 +1,6 @@
 -- 01, "Setting mtype and tile sizes".
-use Rattle.numbers.specs.Kit.{Bool, cond, not, ◌&&◌, ◌||◌, [], ◌∷◌, ℕ, ◌+◌, ◌*◌, ◌/◌, ◌%◌, ◌^◌, min, leb, ltb, eqb}
+use Rattle.std.specs.Prelude.{◌&&◌, ◌||◌, ◌∷◌, ◌+◌, ◌*◌, ◌/◌, ◌%◌, ◌^◌}
+use Rattle.numbers.specs.Kit.{Bool, cond, not, [], ℕ, min, leb, ltb, eqb}
 use Rattle.numbers.specs.Blocks.{Choice}
 use Rattle.machine.specs.declared.Dimension.{Dimension}
 use Rattle.machine.specs.declared.Dimension.TheVariants.{DimensionM, DimensionK, DimensionN}

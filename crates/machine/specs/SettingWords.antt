@@ -1,5 +1,6 @@
 -- 01, "Setting mtype and tile sizes", and 02, Three and Eight: words that are refused for what they are, and settings.
-use Rattle.numbers.specs.Kit.{false, [], ◌∷◌, ℕ}
+use Rattle.std.specs.Prelude.{◌∷◌}
+use Rattle.numbers.specs.Kit.{false, [], ℕ}
 use Rattle.machine.specs.declared.Wrong.{Wrong}
 use Rattle.machine.specs.declared.Dimension.{Dimension}
 use Rattle.machine.specs.declared.Dimension.TheVariants.{DimensionM, DimensionK, DimensionN}

@@ -1,5 +1,6 @@
 -- 01, "What a machine is", and 02, Twelve: starting a machine.
-use Rattle.numbers.specs.Kit.{Bool, true, cond, ◌&&◌, List, [], ◌∷◌, ℕ, ◌+◌, ◌-◌, ◌%◌, ◌^◌, leb, eqb, length, replicate}
+use Rattle.std.specs.Prelude.{◌&&◌, ◌∷◌, ◌+◌, ◌-◌, ◌%◌, ◌^◌}
+use Rattle.numbers.specs.Kit.{Bool, true, cond, List, [], ℕ, leb, eqb, length, replicate}
 use Rattle.machine.specs.declared.Machine.{Machine}
 use Rattle.machine.specs.declared.Answer.TheVariants.{BadArguments, TooManySeals}
 use Rattle.machine.specs.declared.Started.{Started}

@@ -1,6 +1,7 @@
 -- A step: the word is decoded, the scalars are read, the checks are made in the order 8, then 10, 11, 1, 12, then 2 to 6, 13, 7, and the
 -- effect follows.
-use Rattle.numbers.specs.Kit.{cond, List, ◌∷◌, ℕ}
+use Rattle.std.specs.Prelude.{◌∷◌}
+use Rattle.numbers.specs.Kit.{cond, List, ℕ}
 use Rattle.numbers.specs.Blocks.{Choice}
 use Rattle.machine.specs.declared.Answer.{Answer}
 use Rattle.machine.specs.declared.Answer.TheVariants.{Done, BadArguments}

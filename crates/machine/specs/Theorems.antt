@@ -1,5 +1,6 @@
 -- What is proved of these definitions, for every choice of sizes (one for each rule), state and word. The proofs stand in proofs/.
-use Rattle.numbers.specs.Kit.{◌≡◌, true, List, [], ◌∷◌, ◌++◌, ℕ, ◌+◌, ◌*◌, ◌≤◌, ◌<◌, length, get_or, pos}
+use Rattle.std.specs.Prelude.{◌≡◌, ◌∷◌, ◌++◌, ◌+◌, ◌*◌, ◌≤◌, ◌<◌}
+use Rattle.numbers.specs.Kit.{true, List, [], ℕ, length, get_or, pos}
 use Rattle.numbers.specs.Tile.{byte_of, In}
 use Rattle.numbers.specs.Blocks.{Choice, EachGrants}
 use Rattle.machine.specs.declared.Form.{Form}

@@ -1,5 +1,6 @@
 -- 01, "Loading, storing, reckoning", and 02, Two and Seven: loads and stores.
-use Rattle.numbers.specs.Kit.{Bool, false, ◌&&◌, ◌||◌, [], ◌∷◌, ℕ, ◌*◌, leb, eqb, length}
+use Rattle.std.specs.Prelude.{◌&&◌, ◌||◌, ◌∷◌, ◌*◌}
+use Rattle.numbers.specs.Kit.{Bool, false, [], ℕ, leb, eqb, length}
 use Rattle.machine.specs.declared.Answer.TheVariants.{BadWidth, OutsideMemory, SealedByte, RowsOverlap}
 use Rattle.machine.specs.declared.Matrix.{Matrix}
 use Rattle.machine.specs.declared.Matrix.TheVariants.{MatrixA, MatrixB, MatrixC}

@@ -1,5 +1,6 @@
 -- 02, Eleven: "a lent vector file of 32 registers of 128 bits with a group size of 1, 2, 4 or 8".
-use Rattle.numbers.specs.Kit.{Bool, List, [], ◌∷◌, ℕ, ◌+◌, ◌*◌, ◌%◌, eqb, length, replicate}
+use Rattle.std.specs.Prelude.{◌∷◌, ◌+◌, ◌*◌, ◌%◌}
+use Rattle.numbers.specs.Kit.{Bool, List, [], ℕ, eqb, length, replicate}
 use Rattle.machine.specs.Tests.{is_in, every}
 
 -- what is lent beside the scalars with each word; "Vector bytes carry no marks"

@@ -1,5 +1,6 @@
 -- 02, One: which words get 10, 11, 1 and 12, in its words; and that nothing else moved, but the words that a later request of 02 adds. The proofs stand in proofs/WordRefusals.antt.
-use Rattle.numbers.specs.Kit.{◌≡◌, ◌↔◌, Bool, true, false, cond, ◌||◌, ◌&&◌, List, [], ◌∷◌, List-as-Memᴰ, ℕ, eqb, ltb}
+use Rattle.std.specs.Prelude.{◌≡◌, ◌↔◌, ◌||◌, ◌&&◌, ◌∷◌}
+use Rattle.numbers.specs.Kit.{Bool, true, false, cond, List, [], List-as-Memᴰ, ℕ, eqb, ltb}
 use Rattle.numbers.specs.Blocks.{Choice}
 use Rattle.machine.specs.declared.Wrong.TheVariants.{Unlisted}
 use Rattle.machine.specs.declared.Instruction.{Instruction}

@@ -1,5 +1,6 @@
 -- How a size is cut into blocks: each block takes what the machine grants of the rest.
-use Rattle.numbers.specs.Kit.{◌≡◌, cond, List, [], ◌∷◌, ℕ, zero, suc, ◌+◌, ◌*◌, ◌-◌, ◌/◌, ◌≤◌, ◌<◌, ltb}
+use Rattle.std.specs.Prelude.{◌≡◌, ◌∷◌, ◌+◌, ◌*◌, ◌-◌, ◌/◌, ◌≤◌, ◌<◌}
+use Rattle.numbers.specs.Kit.{cond, List, [], ℕ, zero, suc, ltb}
 
 -- a choice of sizes, out of the maximum and what is asked, that keeps the three constraints of source document 001: "mtilem = ATM if
 -- ATM <= TMMAX"; "ceil(ATM / 2) <= mtilem <= TMMAX if ATM < (2 * TMMAX)"; "mtilem = TMMAX if ATM >= (2 * TMMAX)"

@@ -1,6 +1,7 @@
 -- The largest machine: every bound that the tile functions ask for follows from the largest RLEN, MLEN and ELEN. And the block of a product
 -- that the kernels take at once: a larger tile is multiplied in blocks.
-use Rattle.numbers.specs.Kit.{ℕ, ◌/◌}
+use Rattle.std.specs.Prelude.{◌/◌}
+use Rattle.numbers.specs.Kit.{ℕ}
 
 -- RLEN and MLEN, in bits
 abbrev pub most_rlen : ℕ

@@ -1,5 +1,6 @@
 -- 02, Four: products of binary32 elements, computed.
-use Rattle.numbers.specs.Kit.{◌≡◌, refl, List, [], ◌∷◌, map, ℕ, length, get_or}
+use Rattle.std.specs.Prelude.{◌≡◌, ◌∷◌}
+use Rattle.numbers.specs.Kit.{refl, List, [], map, ℕ, length, get_or}
 use Rattle.std.specs.Float.Ieee.{add, mul, of_bits, to_bits}
 use Rattle.numbers.specs.Binary32.{value_of, settled, multiply_add, float_sum, float_product}
 

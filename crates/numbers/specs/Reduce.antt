@@ -1,5 +1,6 @@
 -- Two's complement: the signed number that a residue stands for, and the residue of a whole number.
-use Rattle.numbers.specs.Kit.{cond, ℕ, zero, suc, ◌+◌, ◌-◌, ◌%◌, ltb, ℤ, pos, negsuc, ◌+ℤ◌}
+use Rattle.std.specs.Prelude.{◌+◌, ◌-◌, ◌%◌, ◌+ℤ◌}
+use Rattle.numbers.specs.Kit.{cond, ℕ, zero, suc, ltb, ℤ, pos, negsuc}
 
 -- the signed number that the residue x stands for, at the modulus m (2 ^ bits, 256 ^ bytes)
 abbrev pub signed : ℕ → ℕ → ℤ

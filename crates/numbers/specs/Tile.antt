@@ -1,5 +1,6 @@
 -- Bytes and tiles: numbers stored low byte first, in rows that start anywhere, and their marks.
-use Rattle.numbers.specs.Kit.{List, ℕ, zero, suc, ◌+◌, ◌*◌, ◌/◌, ◌%◌, ◌^◌, ◌≤◌, ◌<◌, get_or, set}
+use Rattle.std.specs.Prelude.{◌+◌, ◌*◌, ◌/◌, ◌%◌, ◌^◌, ◌≤◌, ◌<◌}
+use Rattle.numbers.specs.Kit.{List, ℕ, zero, suc, get_or, set}
 use Rattle.numbers.specs.Upto.{upto}
 
 -- the number that the w bytes from p stand for, low byte first

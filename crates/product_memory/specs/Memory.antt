@@ -1,5 +1,6 @@
 -- Where `product` lays its matrices in a memory of 3,072 bytes: A from 0, B from 1024, C from 2048, their rows one after another.
-use Rattle.numbers.specs.Kit.{List, ℕ, ◌*◌, ◌/◌}
+use Rattle.std.specs.Prelude.{◌*◌, ◌/◌}
+use Rattle.numbers.specs.Kit.{List, ℕ}
 use Rattle.numbers.specs.Tile.{put_row}
 use Rattle.machine.specs.Geometry.{Parameters, parameters_of}
 use Rattle.machine.specs.Setting.{smaller}

@@ -1,5 +1,6 @@
 -- 01, the program `product`: the text that it writes, for each text that it reads.
-use Rattle.numbers.specs.Kit.{List, [], ◌∷◌, Option, none, some, ℕ, zero, suc, ◌+◌, ◌*◌, ◌/◌, ◌^◌, ℤ, ◌*ℤ◌}
+use Rattle.std.specs.Prelude.{◌∷◌, ◌+◌, ◌*◌, ◌/◌, ◌^◌, ◌*ℤ◌}
+use Rattle.numbers.specs.Kit.{List, [], Option, none, some, ℕ, zero, suc, ℤ}
 use Rattle.numbers.specs.Reduce.{signed, reduce, sumℤ}
 use Rattle.run.specs.Words.{steps}
 use Rattle.run.specs.Plan.{shape}

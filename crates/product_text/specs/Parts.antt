@@ -1,5 +1,6 @@
 -- What the contracts of inner functions name; a reader of Output.antt need not read it.
-use Rattle.numbers.specs.Kit.{◌≡◌, Bool, cond, ◌&&◌, List, [], ◌∷◌, ◌++◌, map, Option, none, some, Option·map, ℕ, suc, ◌+◌, ◌*◌, ◌-◌, ◌≤◌, ◌<◌, min, leb}
+use Rattle.std.specs.Prelude.{◌≡◌, ◌&&◌, ◌∷◌, ◌++◌, ◌+◌, ◌*◌, ◌-◌, ◌≤◌, ◌<◌}
+use Rattle.numbers.specs.Kit.{Bool, cond, List, [], map, Option, none, some, Option·map, ℕ, suc, min, leb}
 use Rattle.numbers.specs.Kit.{ltb, length, take, drop, ℤ, pos, negsuc}
 use Rattle.product_text.specs.declared.Count.{Count}
 use Rattle.product_text.specs.declared.Count.TheVariants.{All, Many}

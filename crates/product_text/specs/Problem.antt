@@ -1,5 +1,6 @@
 -- 01, the program `product`: the problem that a text poses, if it poses one.
-use Rattle.numbers.specs.Kit.{Bool, true, false, cond, List, [], ◌∷◌, map, Option, none, some, ℕ, ◌+◌, ◌*◌, ◌-◌, ◌^◌, eqb, leb, ltb, length, take, drop}
+use Rattle.std.specs.Prelude.{◌∷◌, ◌+◌, ◌*◌, ◌-◌, ◌^◌}
+use Rattle.numbers.specs.Kit.{Bool, true, false, cond, List, [], map, Option, none, some, ℕ, eqb, leb, ltb, length, take, drop}
 use Rattle.numbers.specs.Kit.{get_or, ℤ, pos, negsuc, nat_abs}
 use Rattle.machine.specs.Tests.{all, every}
 use Rattle.run.specs.Start.{format}

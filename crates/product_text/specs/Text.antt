@@ -1,5 +1,6 @@
 -- 01, the program `product`: the numbers of a text. It "reads decimal numbers split by spaces or line ends". A text is its bytes.
-use Rattle.numbers.specs.Kit.{Bool, cond, ◌&&◌, ◌||◌, List, [], ◌∷◌, ◌++◌, Option, none, some, Option·map, ℕ, ◌+◌, ◌*◌, ◌-◌, eqb, leb, ℤ, pos, neg_ℤ}
+use Rattle.std.specs.Prelude.{◌&&◌, ◌||◌, ◌∷◌, ◌++◌, ◌+◌, ◌*◌, ◌-◌}
+use Rattle.numbers.specs.Kit.{Bool, cond, List, [], Option, none, some, Option·map, ℕ, eqb, leb, ℤ, pos, neg_ℤ}
 
 -- ---- "split by spaces or line ends"
 

@@ -1,5 +1,6 @@
 -- What is done with a started machine, one act after another: words, product runs, asking for a run's steps, and sealing further ranges.
-use Rattle.numbers.specs.Kit.{cond, List, [], ◌∷◌, Option, none, ℕ}
+use Rattle.std.specs.Prelude.{◌∷◌}
+use Rattle.numbers.specs.Kit.{cond, List, [], Option, none, ℕ}
 use Rattle.numbers.specs.Blocks.{Choice}
 use Rattle.machine.specs.declared.Answer.TheVariants.{Done}
 use Rattle.machine.specs.declared.Reply.{Reply}

@@ -1,5 +1,6 @@
 -- The words of a run as numbers, each with the run's scalars 10 and 11.
-use Rattle.numbers.specs.Kit.{cond, List, ◌∷◌, ◌++◌, map, ℕ, ◌+◌, ◌*◌, ◌^◌, eqb, get_or, replicate, pos, ◌+ℤ◌}
+use Rattle.std.specs.Prelude.{◌∷◌, ◌++◌, ◌+◌, ◌*◌, ◌^◌, ◌+ℤ◌}
+use Rattle.numbers.specs.Kit.{cond, List, map, ℕ, eqb, get_or, replicate, pos}
 use Rattle.numbers.specs.Reduce.{reduce}
 use Rattle.machine.specs.declared.Form.{Form}
 use Rattle.machine.specs.declared.Form.TheVariants.{Plain, Transposed}

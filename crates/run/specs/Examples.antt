@@ -1,6 +1,7 @@
 -- Starts that are refused and places that hand out nothing, with their neighbours, a run that keeps A transposed and a float run,
 -- computed: MLEN 128, RLEN 64, ELEN 32, a memory of 64 bytes; at the end MLEN 256, RLEN 128, ELEN 64.
-use Rattle.numbers.specs.Kit.{◌≡◌, refl, List, [], ◌∷◌, ◌++◌, map, ℕ, ◌-◌, ◌*◌, ◌^◌, length, drop, replicate, pos, negsuc}
+use Rattle.std.specs.Prelude.{◌≡◌, ◌∷◌, ◌++◌, ◌-◌, ◌*◌, ◌^◌}
+use Rattle.numbers.specs.Kit.{refl, List, [], map, ℕ, length, drop, replicate, pos, negsuc}
 use Rattle.std.specs.Float.Ieee as Ieee
 use Rattle.numbers.specs.Reduce.{reduce}
 use Rattle.numbers.specs.Tile.{put_tile, put_row, put_le, mark_tile, mark_row}

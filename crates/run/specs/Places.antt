@@ -1,5 +1,6 @@
 -- One word at a time: the place of a run, the word handed out there, and the place after it.
-use Rattle.numbers.specs.Kit.{cond, Option, none, some, ℕ, ◌+◌, ◌-◌, ltb}
+use Rattle.std.specs.Prelude.{◌+◌, ◌-◌}
+use Rattle.numbers.specs.Kit.{cond, Option, none, some, ℕ, ltb}
 use Rattle.run.specs.declared.Place.{Place}
 use Rattle.run.specs.declared.Place.TheVariants.{AtType, AtM, AtN, AtClear, AtK, AtA, AtB, AtMultiply, AtStore, AtEnd}
 use Rattle.run.specs.Words.{Op, set_type, set_m, set_k, set_n, clear, load_a, load_b, multiply, store, Shape, size_m, size_n, size_k}

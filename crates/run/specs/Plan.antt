@@ -1,5 +1,6 @@
 -- A plan: its widths, the rows of its matrices in memory, and the product that C shall be.
-use Rattle.numbers.specs.Kit.{◌≡◌, cond, List, ℕ, ◌+◌, ◌*◌, ◌/◌, ◌^◌, ◌<◌, eqb, length, get_or, ◌*ℤ◌}
+use Rattle.std.specs.Prelude.{◌≡◌, ◌+◌, ◌*◌, ◌/◌, ◌^◌, ◌<◌, ◌*ℤ◌}
+use Rattle.numbers.specs.Kit.{cond, List, ℕ, eqb, length, get_or}
 use Rattle.numbers.specs.Reduce.{signed, reduce, sumℤ}
 use Rattle.numbers.specs.Binary32.{value_of, settled, float_sum, plus_zero}
 use Rattle.numbers.specs.Tile.{In}

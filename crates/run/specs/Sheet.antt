@@ -1,5 +1,6 @@
 -- The lines of 01's bench sheet that are marked *, as one theorem over a list; and 01's product example, run through its words.
-use Rattle.numbers.specs.Kit.{◌≡◌, List, [], ◌∷◌, ◌++◌, map, ℕ, ◌+◌, ◌*◌, ◌^◌, length, get_or, replicate, pos, negsuc}
+use Rattle.std.specs.Prelude.{◌≡◌, ◌∷◌, ◌++◌, ◌+◌, ◌*◌, ◌^◌}
+use Rattle.numbers.specs.Kit.{List, [], map, ℕ, length, get_or, replicate, pos, negsuc}
 use Rattle.numbers.specs.Reduce.{reduce}
 use Rattle.machine.specs.Geometry.{Parameters, parameters}
 use Rattle.machine.specs.Setting.{smaller, chosen, max_m, max_k, max_n}

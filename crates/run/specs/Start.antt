@@ -1,5 +1,6 @@
 -- The start of a run: its checks in the order 8, 6, 9.
-use Rattle.numbers.specs.Kit.{Bool, cond, not, List, [], ◌∷◌, ℕ, ◌+◌, ◌*◌, leb, eqb, length}
+use Rattle.std.specs.Prelude.{◌∷◌, ◌+◌, ◌*◌}
+use Rattle.numbers.specs.Kit.{Bool, cond, not, List, [], ℕ, leb, eqb, length}
 use Rattle.numbers.specs.Blocks.{Choice}
 use Rattle.machine.specs.declared.Machine.{Machine}
 use Rattle.machine.specs.declared.Answer.TheVariants.{BadArguments, OutsideMemory, Overlap}

@@ -1,5 +1,6 @@
 -- Demand 3, the statement: when a start is accepted and what it answers otherwise, and what holds after any number of turns.
-use Rattle.numbers.specs.Kit.{◌≡◌, ◌⊎◌, true, List, Option, none, some, ℕ, suc, ◌*◌, ◌^◌, ◌≤◌, ◌<◌, min, length, get_or, ℤ, pos, ◌+ℤ◌}
+use Rattle.std.specs.Prelude.{◌≡◌, ◌⊎◌, ◌*◌, ◌^◌, ◌≤◌, ◌<◌, ◌+ℤ◌}
+use Rattle.numbers.specs.Kit.{true, List, Option, none, some, ℕ, suc, min, length, get_or, ℤ, pos}
 use Rattle.numbers.specs.Tile.{In}
 use Rattle.numbers.specs.Blocks.{Choice, EachGrants}
 use Rattle.machine.specs.declared.Reply.{Reply}

@@ -1,5 +1,6 @@
 -- Demands 1 and 2 where product runs are made. The proofs stand in proofs/.
-use Rattle.numbers.specs.Kit.{◌≡◌, true, List, none, ℕ, get_or}
+use Rattle.std.specs.Prelude.{◌≡◌}
+use Rattle.numbers.specs.Kit.{true, List, none, ℕ, get_or}
 use Rattle.numbers.specs.Blocks.{Choice}
 use Rattle.machine.specs.Geometry.{Range, sealed, Bench, bench_of}
 use Rattle.machine.specs.Starting.{ranges, start_machine}

@@ -1,5 +1,6 @@
 -- A turn: a step is asked for and, if one is handed out, carried out with the run's own scalars.
-use Rattle.numbers.specs.Kit.{Bool, true, cond, List, [], ◌∷◌, Option, none, some, Option·getD, ℕ, zero, suc, ◌+◌}
+use Rattle.std.specs.Prelude.{◌∷◌, ◌+◌}
+use Rattle.numbers.specs.Kit.{Bool, true, cond, List, [], Option, none, some, Option·getD, ℕ, zero, suc}
 use Rattle.machine.specs.declared.Answer.TheVariants.{Done, BadArguments}
 use Rattle.machine.specs.declared.Reply.{Reply}
 use Rattle.machine.specs.Answers.{reply, done}

@@ -1,5 +1,6 @@
 -- A whole product run: a start, and as many turns as there are steps; and what a customer is told of it.
-use Rattle.numbers.specs.Kit.{◌≡◌, List, ℕ, ◌<◌}
+use Rattle.std.specs.Prelude.{◌≡◌, ◌<◌}
+use Rattle.numbers.specs.Kit.{List, ℕ}
 use Rattle.numbers.specs.Blocks.{Choice}
 use Rattle.machine.specs.declared.Reply.{Reply}
 use Rattle.machine.specs.Answers.{reply}

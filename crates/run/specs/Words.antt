@@ -1,5 +1,6 @@
 -- The words of a product run, as 01 lists them: nested loops over the blocks of rows, columns and terms.
-use Rattle.numbers.specs.Kit.{List, [], ◌∷◌, ◌++◌, ℕ, ◌+◌, ◌*◌, ◌-◌}
+use Rattle.std.specs.Prelude.{◌∷◌, ◌++◌, ◌+◌, ◌*◌, ◌-◌}
+use Rattle.numbers.specs.Kit.{List, [], ℕ}
 use Rattle.numbers.specs.Blocks.{chunks, count}
 
 -- what a step of a run does: the mtype of the plan; a size that is asked; the clear; a load from a row and a column; ..

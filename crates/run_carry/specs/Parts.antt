@@ -1,5 +1,6 @@
 -- What the contracts of inner functions name; a reader of the demand need not read it.
-use Rattle.numbers.specs.Kit.{◌≡◌, true, false, List, [], Option, none, some, ℕ, ◌*◌}
+use Rattle.std.specs.Prelude.{◌≡◌, ◌*◌}
+use Rattle.numbers.specs.Kit.{true, false, List, [], Option, none, some, ℕ}
 use Rattle.machine.specs.declared.Answer.TheVariants.{BadArguments}
 use Rattle.machine.specs.declared.Machine.{Machine}
 use Rattle.machine.specs.declared.Reply.{Reply}

@@ -1,5 +1,6 @@
 -- What the contracts of inner functions name; a reader of the demand need not read it.
-use Rattle.numbers.specs.Kit.{Bool, [], ◌∷◌}
+use Rattle.std.specs.Prelude.{◌∷◌}
+use Rattle.numbers.specs.Kit.{Bool, []}
 use Rattle.machine.specs.Tests.{every}
 use Rattle.machine.specs.Geometry.{permitted}
 use Rattle.run.specs.declared.Place.{Place}

@@ -1,5 +1,6 @@
 -- What the contract of `is_placed` names; a reader of the demand need not read it.
-use Rattle.numbers.specs.Kit.{Bool, true, [], ◌∷◌, ltb}
+use Rattle.std.specs.Prelude.{◌∷◌}
+use Rattle.numbers.specs.Kit.{Bool, true, [], ltb}
 use Rattle.machine.specs.Tests.{every}
 use Rattle.run.specs.declared.Plan.{Plan}
 use Rattle.run.specs.declared.Place.{Place}

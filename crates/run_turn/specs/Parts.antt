@@ -1,5 +1,6 @@
 -- What the contracts of inner functions name; a reader of the demand need not read it.
-use Rattle.numbers.specs.Kit.{◌≡◌, true, List, ℕ}
+use Rattle.std.specs.Prelude.{◌≡◌}
+use Rattle.numbers.specs.Kit.{true, List, ℕ}
 use Rattle.machine.specs.declared.Machine.{Machine}
 use Rattle.machine.specs.Answers.{done}
 use Rattle.machine.specs.Geometry.{Range, Bench, bench_of}

@@ -1,7 +1,8 @@
 -- A text's bytes.
 use Prim.Native.Char.{code}
 use Prim.Native.String.{String, len, char_at}
-use Rattle.numbers.specs.Kit.{List, [], ◌∷◌, ℕ, zero, suc}
+use Rattle.std.specs.Prelude.{◌∷◌}
+use Rattle.numbers.specs.Kit.{List, [], ℕ, zero, suc}
 
 -- n of them, from i on
 abbrev pub bytes_from : ℕ → ℕ → String → List ℕ

@@ -1,5 +1,6 @@
 -- Computed examples of lines and of reading them.
-use Rattle.numbers.specs.Kit.{◌≡◌, refl, true, false, List, [], ◌∷◌, Option, none, some, ℕ}
+use Rattle.std.specs.Prelude.{◌≡◌, ◌∷◌}
+use Rattle.numbers.specs.Kit.{refl, true, false, List, [], Option, none, some, ℕ}
 use Prim.Native.String.{String}
 use Rattle.machine.specs.Listing.{listing, decode}
 use Rattle.numbers_format.specs.Parser.{Parsed}

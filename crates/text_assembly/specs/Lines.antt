@@ -1,6 +1,7 @@
 -- 02, Fourteen: the line of a word. "Every word of all families so far that some machine accepts has exactly one line, lower case, one
 -- space after the mnemonic, a comma and a space between operands."
-use Rattle.numbers.specs.Kit.{Bool, true, false, cond, ◌&&◌, List, [], ◌∷◌, ◌++◌, map, Option, none, some, ℕ, zero, suc, ◌+◌, ◌*◌, ◌-◌, ◌^◌, ltb, eqb, get_or}
+use Rattle.std.specs.Prelude.{◌&&◌, ◌∷◌, ◌++◌, ◌+◌, ◌*◌, ◌-◌, ◌^◌}
+use Rattle.numbers.specs.Kit.{Bool, true, false, cond, List, [], map, Option, none, some, ℕ, zero, suc, ltb, eqb, get_or}
 use Prim.Native.String.{String}
 use Rattle.machine.specs.Tests.{is_in}
 use Rattle.machine.specs.Listing.{bits, field7, field15, field20, immediate13, Fixed, Row, has, listing}

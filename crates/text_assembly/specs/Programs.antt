@@ -1,5 +1,6 @@
 -- 02, Fourteen: the two programs, text to text. A text is its bytes.
-use Rattle.numbers.specs.Kit.{Bool, cond, List, [], ◌∷◌, ◌++◌, Option, none, some, ℕ, suc, eqb, leb, length}
+use Rattle.std.specs.Prelude.{◌∷◌, ◌++◌}
+use Rattle.numbers.specs.Kit.{Bool, cond, List, [], Option, none, some, ℕ, suc, eqb, leb, length}
 use Rattle.machine.specs.Listing.{decode}
 use Rattle.text_lines.specs.Lines.{decimal}
 use Rattle.numbers_format.specs.Parser.{Parsed}

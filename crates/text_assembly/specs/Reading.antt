@@ -1,6 +1,7 @@
 -- 02, Fourteen: reading a line. "Refusals: 17 with the column, from 1, of the first character at which no accepted line .. can go on
 -- (one past the end if cut short)". Places count from 0 here: the column is the place and one more.
-use Rattle.numbers.specs.Kit.{Bool, cond, ◌&&◌, List, [], ◌∷◌, ℕ, suc, ◌+◌, ◌*◌, ◌-◌, max, ltb, leb, eqb, drop}
+use Rattle.std.specs.Prelude.{◌&&◌, ◌∷◌, ◌+◌, ◌*◌, ◌-◌}
+use Rattle.numbers.specs.Kit.{Bool, cond, List, [], ℕ, suc, max, ltb, leb, eqb, drop}
 use Rattle.machine.specs.Listing.{Fixed, Row, listing}
 use Rattle.numbers_format.specs.Parser.{Got, Parsed, later}
 use Rattle.numbers_format.specs.Parser.Got.{value, fault}

@@ -1,5 +1,6 @@
 -- What is proved of these definitions. The proofs stand in proofs/.
-use Rattle.numbers.specs.Kit.{◌≡◌, Bool, true, false, List, Option, none, some, ℕ, ◌^◌, ◌≤◌, ◌<◌, length}
+use Rattle.std.specs.Prelude.{◌≡◌, ◌^◌, ◌≤◌, ◌<◌}
+use Rattle.numbers.specs.Kit.{Bool, true, false, List, Option, none, some, ℕ, length}
 use Rattle.numbers.specs.Blocks.{Choice}
 use Rattle.machine.specs.declared.Instruction.{Instruction}
 use Rattle.machine.specs.declared.Instruction.TheVariants.{Illegal, SetTypeImmediate, SetType, SetTileImmediate, SetTile, Load, Store, Multiply, Combine, Scale, ScaleImmediate, FloatMultiply, MoveOut, MoveIn}

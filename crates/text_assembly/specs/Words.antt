@@ -1,5 +1,6 @@
 -- 02, Fourteen: "lines of eight lower-case hexadecimal digits".
-use Rattle.numbers.specs.Kit.{Bool, cond, ◌&&◌, ◌||◌, List, [], ◌∷◌, ℕ, zero, suc, ◌+◌, ◌*◌, ◌-◌, ◌/◌, ◌%◌, ◌^◌, ltb, leb}
+use Rattle.std.specs.Prelude.{◌&&◌, ◌||◌, ◌∷◌, ◌+◌, ◌*◌, ◌-◌, ◌/◌, ◌%◌, ◌^◌}
+use Rattle.numbers.specs.Kit.{Bool, cond, List, [], ℕ, zero, suc, ltb, leb}
 use Rattle.numbers_format.specs.Parser.{Parsed, later}
 use Rattle.numbers_format.specs.Parser.Parsed.{whole, stopped}
 

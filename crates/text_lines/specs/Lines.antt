@@ -1,5 +1,6 @@
 -- 01, the program `product`: the lines that it writes. A text is its bytes, and a line ends with a line feed.
-use Rattle.numbers.specs.Kit.{cond, List, [], ◌∷◌, ◌++◌, ℕ, zero, suc, ◌+◌, ◌/◌, ◌%◌, ltb, ℤ, pos, negsuc}
+use Rattle.std.specs.Prelude.{◌∷◌, ◌++◌, ◌+◌, ◌/◌, ◌%◌}
+use Rattle.numbers.specs.Kit.{cond, List, [], ℕ, zero, suc, ltb, ℤ, pos, negsuc}
 use Rattle.machine.specs.declared.Answer.TheVariants.{Done, BadArguments}
 use Rattle.machine.specs.Answers.{number}
 

@@ -1,5 +1,6 @@
 -- What the contracts of writers name; a reader of Lines.antt need not read it.
-use Rattle.numbers.specs.Kit.{◌≡◌, List, [], ◌∷◌, ◌++◌, map, ℕ, zero, suc, ◌+◌, length, take, drop, ℤ}
+use Rattle.std.specs.Prelude.{◌≡◌, ◌∷◌, ◌++◌, ◌+◌}
+use Rattle.numbers.specs.Kit.{List, [], map, ℕ, zero, suc, length, take, drop, ℤ}
 use Rattle.numbers.specs.Reduce.{signed}
 
 -- a writer went from at to next: what stood before at stands, t follows it, and what stands after t is as it was

@@ -1,5 +1,6 @@
 -- Digits as code reads them, and the room that a reply takes.
-use Rattle.numbers.specs.Kit.{cond, List, ℕ, ◌*◌, max, length}
+use Rattle.std.specs.Prelude.{◌*◌}
+use Rattle.numbers.specs.Kit.{cond, List, ℕ, max, length}
 use Rattle.text_assembly.specs.Words.{is_hex, hex_value}
 
 -- the value of a digit; 16, if it is none

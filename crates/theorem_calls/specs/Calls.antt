@@ -1,6 +1,7 @@
 -- A host's buffers, the calls that it makes of the C functions on machines, runs and images (include/bodlarina.h), what it does between
 -- them, and what each leaves.
-use Rattle.numbers.specs.Kit.{List, [], ◌∷◌, ℕ}
+use Rattle.std.specs.Prelude.{◌∷◌}
+use Rattle.numbers.specs.Kit.{List, [], ℕ}
 use Rattle.run.specs.declared.Plan.{Plan}
 use Rattle.c_step.specs.BenchCalls.{HostStarted, host_start, HostStepped, host_step, HostSealed, host_seal}
 use Rattle.c_run.specs.RunCalls.{HostRunStarted, host_run_start, HostNext, host_next}

@@ -1,7 +1,7 @@
 -- 02, Four: "where all elements are whole numbers and all products and partial sums lie between -2^24 and 2^24, each entry is exactly the
 -- whole-number sum". The proofs stand in proofs/.
-use Rattle.numbers.specs.Kit.{◌≡◌, Bool, cond, ℕ, ◌*◌, ◌^◌, ◌≤◌, ◌<◌, ℤ, pos, neg_ℤ, nat_abs, ◌*ℤ◌}
-use Rattle.std.specs.Prelude.{Float}
+use Rattle.numbers.specs.Kit.{Bool, cond, ℕ, ℤ, pos, neg_ℤ, nat_abs}
+use Rattle.std.specs.Prelude.{Float, ◌≡◌, ◌*◌, ◌^◌, ◌≤◌, ◌<◌, ◌*ℤ◌}
 use Rattle.std.specs.Float.{nan, inf, fin, binary32}
 use Rattle.std.specs.Float.Ieee.{up, down, of_int}
 use Rattle.numbers.specs.Reduce.{sumℤ}

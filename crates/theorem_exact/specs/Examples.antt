@@ -1,5 +1,6 @@
 -- Which bits stand for whole numbers, computed.
-use Rattle.numbers.specs.Kit.{◌≡◌, refl, ℕ, zero, suc, ℤ, pos, negsuc}
+use Rattle.std.specs.Prelude.{◌≡◌}
+use Rattle.numbers.specs.Kit.{refl, ℕ, zero, suc, ℤ, pos, negsuc}
 use Rattle.std.proofs.Common.{arith}
 use Rattle.std.specs.Float.{binary32}
 use Rattle.std.specs.Float.Ieee.{of_bits, to_bits, of_int}

@@ -1,7 +1,8 @@
 -- Request Nine, for the customer: "how we know that no reading can come from an unwritten register". Two machines are started with the
 -- same numbers, on the same memory, scalars and vector file. Whatever their registers and marks held at power-up, what is done with them
 -- after that reads the same on both: no reading depends on a register byte that no word wrote since the start.
-use Rattle.numbers.specs.Kit.{◌≡◌, List, [], ◌∷◌, Option, ℕ, length}
+use Rattle.std.specs.Prelude.{◌≡◌, ◌∷◌}
+use Rattle.numbers.specs.Kit.{List, [], Option, ℕ, length}
 use Rattle.numbers.specs.Blocks.{Choice}
 use Rattle.machine.specs.declared.Machine.{Machine}
 use Rattle.machine.specs.declared.Reply.{Reply}

@@ -1,6 +1,7 @@
 -- Request Nine, of product runs: the start of a plan, turns, and a whole run on two machines that differ at most in unmarked register
 -- bytes. Asking for a step (`ask`) is given the run and no machine, so equal runs are asked alike.
-use Rattle.numbers.specs.Kit.{◌≡◌, ℕ}
+use Rattle.std.specs.Prelude.{◌≡◌}
+use Rattle.numbers.specs.Kit.{ℕ}
 use Rattle.numbers.specs.Blocks.{Choice}
 use Rattle.machine.specs.Geometry.{Bench}
 use Rattle.run.specs.declared.Plan.{Plan}

@@ -3,7 +3,8 @@
 -- bytes after each, refusals included." 02, Eleven: "Vector bytes .. are input like memory in request Nine's statement." For every
 -- choice of sizes, word, state, scalars, vector file and memory. Machines at fault need no exception: both get 8 for every word. The
 -- proofs stand in proofs/.
-use Rattle.numbers.specs.Kit.{◌≡◌, List, [], ◌∷◌, ℕ}
+use Rattle.std.specs.Prelude.{◌≡◌, ◌∷◌}
+use Rattle.numbers.specs.Kit.{List, [], ℕ}
 use Rattle.numbers.specs.Blocks.{Choice}
 use Rattle.machine.specs.Geometry.{Bench}
 use Rattle.machine.specs.Vectors.{Vectors, vectors_of}

@@ -1,7 +1,8 @@
 -- Request Nine, of images: two machines that differ at most in unmarked register bytes, "given the same words one after another, .. again
 -- differ at most in unmarked register bytes after each, refusals included. Images are equal too." Before the first word, and after each, for
 -- every choice of sizes, words, scalars, vector file and memory. The proofs stand in proofs/.
-use Rattle.numbers.specs.Kit.{◌≡◌, List, map, ℕ}
+use Rattle.std.specs.Prelude.{◌≡◌}
+use Rattle.numbers.specs.Kit.{List, map, ℕ}
 use Rattle.numbers.specs.Blocks.{Choice}
 use Rattle.machine.specs.Geometry.{Bench}
 use Rattle.machine.specs.Vectors.{Vectors}

@@ -1,5 +1,6 @@
 -- 01, "Numbers of the answers": what gives 8, in its words, with 02, Eight, Ten and Twelve. The proofs stand in proofs/.
-use Rattle.numbers.specs.Kit.{◌≡◌, ◌↔◌, ◌⊎◌, true, List, List-as-Memᴰ, ℕ, ◌+◌, ◌-◌, ◌*◌, ◌/◌, ◌^◌, ◌≤◌, ◌<◌, min, length, get_or}
+use Rattle.std.specs.Prelude.{◌≡◌, ◌↔◌, ◌⊎◌, ◌+◌, ◌-◌, ◌*◌, ◌/◌, ◌^◌, ◌≤◌, ◌<◌}
+use Rattle.numbers.specs.Kit.{true, List, List-as-Memᴰ, ℕ, min, length, get_or}
 use Rattle.machine.specs.Tests.{is_in}
 use Rattle.machine.specs.Geometry.{Range, Bench}
 use Rattle.machine.specs.Faults.{sound_bench}

@@ -1,6 +1,7 @@
 -- 01, "Numbers of the answers", of a step: each answer is "given exactly when" the sentence of its row holds and none before it does; 02, One,
 -- Four, Seven, Ten, Eleven and Twelve. 8 is the state at fault of machine/specs/Faults.antt. The proofs stand in proofs/.
-use Rattle.numbers.specs.Kit.{◌≡◌, ◌↔◌, ◌⊎◌, true, cond, List, [], ◌∷◌, List-as-Memᴰ, ℕ, ◌+◌, ◌*◌, ◌≤◌, ◌<◌, eqb, length, get_or, pos, ◌+ℤ◌}
+use Rattle.std.specs.Prelude.{◌≡◌, ◌↔◌, ◌⊎◌, ◌∷◌, ◌+◌, ◌*◌, ◌≤◌, ◌<◌, ◌+ℤ◌}
+use Rattle.numbers.specs.Kit.{true, cond, List, [], List-as-Memᴰ, ℕ, eqb, length, get_or, pos}
 use Rattle.numbers.specs.Blocks.{Choice}
 use Rattle.numbers.specs.Tile.{In}
 use Rattle.machine.specs.declared.Reply.{Reply}

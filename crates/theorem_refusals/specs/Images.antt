@@ -1,5 +1,6 @@
 -- The answers of sizing and writing an image, and what they leave: 02, Six. The proofs stand in proofs/.
-use Rattle.numbers.specs.Kit.{◌≡◌, ◌↔◌, List, ◌++◌, ℕ, ◌<◌, length, drop}
+use Rattle.std.specs.Prelude.{◌≡◌, ◌↔◌, ◌++◌, ◌<◌}
+use Rattle.numbers.specs.Kit.{List, ℕ, length, drop}
 use Rattle.machine.specs.Geometry.{Bench}
 use Rattle.image.specs.Answers.{ImageReply}
 use Rattle.image.specs.Writing.{SizeOutcome, size_image, WriteOutcome, write_image}

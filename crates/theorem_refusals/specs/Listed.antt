@@ -1,6 +1,7 @@
 -- What a reviewer looks for in the definitions: no code is given twice, the values that mtype can take, and each byte of the registers in one of them.
 -- The proofs stand in proofs/.
-use Rattle.numbers.specs.Kit.{◌≡◌, true, cond, List, [], ◌∷◌, ℕ, ◌+◌, ◌*◌, ◌/◌, ◌^◌, ◌<◌, eqb, length, get_or}
+use Rattle.std.specs.Prelude.{◌≡◌, ◌∷◌, ◌+◌, ◌*◌, ◌/◌, ◌^◌, ◌<◌}
+use Rattle.numbers.specs.Kit.{true, cond, List, [], ℕ, eqb, length, get_or}
 use Rattle.machine.specs.Tests.{is_in}
 use Rattle.machine.specs.Geometry.{elens, permitted, register_bytes, Parameters, parameters_of, tile_at, acc_at}
 use Rattle.machine.specs.Setting.{new_type}

@@ -1,6 +1,7 @@
 -- The answers of a start and of adding a range, and what they leave: 01, "What a machine is" and "Numbers of the answers"; 02, Eight, Ten and
 -- Twelve. The proofs stand in proofs/.
-use Rattle.numbers.specs.Kit.{◌≡◌, List, [], ◌∷◌, ◌++◌, ℕ, ◌*◌, ◌<◌, length, replicate}
+use Rattle.std.specs.Prelude.{◌≡◌, ◌∷◌, ◌++◌, ◌*◌, ◌<◌}
+use Rattle.numbers.specs.Kit.{List, [], ℕ, length, replicate}
 use Rattle.machine.specs.Answers.{bare}
 use Rattle.machine.specs.Geometry.{Range, range, Bench, bench_of}
 use Rattle.machine.specs.Starting.{ranges, no_machine, fresh_machine, StartOutcome, start_machine}

@@ -1,7 +1,8 @@
 -- 02, Two: "Prove once over all three that a plain load, then the matching transposed store of that register and width, leaves the
 -- transposed tile, where both are accepted, nothing comes between and no byte lies in two of the store's rows." Since 02, Seven, no byte
 -- lies in two rows of a store that is accepted. The proof stands in proofs/Transposed.antt.
-use Rattle.numbers.specs.Kit.{◌≡◌, ℕ, ◌*◌, ◌<◌, length, get_or}
+use Rattle.std.specs.Prelude.{◌≡◌, ◌*◌, ◌<◌}
+use Rattle.numbers.specs.Kit.{ℕ, length, get_or}
 use Rattle.numbers.specs.Blocks.{Choice}
 use Rattle.numbers.specs.Tile.{In}
 use Rattle.machine.specs.declared.Matrix.{Matrix}

@@ -1,5 +1,6 @@
 -- What the weighted sums leave, and how their two rows may lie.
-use Rattle.numbers.specs.Kit.{◌≡◌, ◌⊎◌, List, ℕ, ◌+◌, ◌≤◌}
+use Rattle.std.specs.Prelude.{◌≡◌, ◌⊎◌, ◌+◌, ◌≤◌}
+use Rattle.numbers.specs.Kit.{List, ℕ}
 use Rattle.numbers.specs.Tile.{put_tile}
 use Rattle.machine.specs.Geometry.{Parameters, acc_at}
 use Rattle.unit_sums.specs.Rows.{weighted_row}

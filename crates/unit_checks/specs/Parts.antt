@@ -1,5 +1,6 @@
 -- The checks of each family in parts, in the words of the definitions.
-use Rattle.numbers.specs.Kit.{◌≡◌, Bool, false, List, [], ◌∷◌, ◌++◌, ℕ, ◌*◌, ◌/◌, ◌≤◌, ◌<◌, eqb, length}
+use Rattle.std.specs.Prelude.{◌≡◌, ◌∷◌, ◌++◌, ◌*◌, ◌/◌, ◌≤◌, ◌<◌}
+use Rattle.numbers.specs.Kit.{Bool, false, List, [], ℕ, eqb, length}
 use Rattle.machine.specs.declared.Machine.{Machine}
 use Rattle.machine.specs.declared.Dimension.TheVariants.{DimensionM, DimensionK, DimensionN}
 use Rattle.machine.specs.declared.Answer.TheVariants.{BadWidth}

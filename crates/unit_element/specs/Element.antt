@@ -1,5 +1,6 @@
 -- The widths of elements, in bytes.
-use Rattle.numbers.specs.Kit.{◌≡◌, ◌⊎◌, ℕ}
+use Rattle.std.specs.Prelude.{◌≡◌, ◌⊎◌}
+use Rattle.numbers.specs.Kit.{ℕ}
 
 abbrev pub Width : ℕ → Type 0
 Width w = (w ≡ 1) ⊎ ((w ≡ 2) ⊎ ((w ≡ 4) ⊎ (w ≡ 8)))

@@ -1,5 +1,6 @@
 -- What the functions of a family answer and leave, in the words of the definitions.
-use Rattle.numbers.specs.Kit.{◌≡◌, Bool, true, false, cond, List, [], ℕ}
+use Rattle.std.specs.Prelude.{◌≡◌}
+use Rattle.numbers.specs.Kit.{Bool, true, false, cond, List, [], ℕ}
 use Rattle.machine.specs.declared.Machine.{Machine}
 use Rattle.machine.specs.declared.Answer.{Answer}
 use Rattle.machine.specs.Answers.{verdict, is_done}

@@ -1,6 +1,6 @@
 -- What a multiply of binary32 elements leaves, row by row and as a tile.
-use Rattle.numbers.specs.Kit.{List, ℕ, ◌+◌, ◌*◌}
-use Rattle.std.specs.Prelude.{Float}
+use Rattle.numbers.specs.Kit.{List, ℕ}
+use Rattle.std.specs.Prelude.{Float, ◌+◌, ◌*◌}
 use Rattle.numbers.specs.Tile.{get_le, put_tile}
 use Rattle.numbers.specs.Binary32.{value_of, float_product}
 use Rattle.machine.specs.Geometry.{Parameters, acc_at}

@@ -1,5 +1,6 @@
 -- What the functions of moves give, in the words of the definitions.
-use Rattle.numbers.specs.Kit.{◌≡◌, Bool, cond, List, [], ℕ}
+use Rattle.std.specs.Prelude.{◌≡◌}
+use Rattle.numbers.specs.Kit.{Bool, cond, List, [], ℕ}
 use Rattle.machine.specs.declared.Machine.{Machine}
 use Rattle.machine.specs.declared.Form.{Form}
 use Rattle.machine.specs.declared.Matrix.TheVariants.{MatrixC}

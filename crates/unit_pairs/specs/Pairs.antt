@@ -1,5 +1,6 @@
 -- Sums of products two terms at a time: elements of one or two bytes as numbers of 16 bits, in pairs.
-use Rattle.numbers.specs.Kit.{cond, List, ℕ, zero, suc, ◌+◌, ◌*◌, ◌/◌, ◌%◌, ◌^◌, ltb, get_or, ℤ, ◌+ℤ◌, ◌*ℤ◌}
+use Rattle.std.specs.Prelude.{◌+◌, ◌*◌, ◌/◌, ◌%◌, ◌^◌, ◌+ℤ◌, ◌*ℤ◌}
+use Rattle.numbers.specs.Kit.{cond, List, ℕ, zero, suc, ltb, get_or, ℤ}
 use Rattle.numbers.specs.Reduce.{signed, reduce, sumℤ}
 use Rattle.numbers.specs.Tile.{get_le}
 use Rattle.numbers.specs.Bounds.{most_columns, most_terms}

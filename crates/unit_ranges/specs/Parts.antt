@@ -1,5 +1,6 @@
 -- What a slot must be, for the contracts of private functions.
-use Rattle.numbers.specs.Kit.{Bool, cond, ◌&&◌, List, ℕ, ◌+◌, ◌≤◌, ◌<◌, ltb, eqb}
+use Rattle.std.specs.Prelude.{◌&&◌, ◌+◌, ◌≤◌, ◌<◌}
+use Rattle.numbers.specs.Kit.{Bool, cond, List, ℕ, ltb, eqb}
 use Rattle.machine.specs.Starting.{seal_ends}
 use Rattle.machine.specs.Memory.{row_at}
 use Rattle.unit_ranges.specs.Ranges.{range_at}

@@ -1,6 +1,7 @@
 -- 02, Twelve: a machine's sealed ranges in the bytes of its block. The layout is that of include/bodlarina.h (docs/DECISIONS.md); numbers
 -- have 64 bits, low byte first.
-use Rattle.numbers.specs.Kit.{Bool, cond, ◌||◌, ◌&&◌, List, [], ◌∷◌, ◌++◌, ℕ, ◌+◌, ◌*◌, ◌^◌, leb, ltb, eqb, length, get_or}
+use Rattle.std.specs.Prelude.{◌||◌, ◌&&◌, ◌∷◌, ◌++◌, ◌+◌, ◌*◌, ◌^◌}
+use Rattle.numbers.specs.Kit.{Bool, cond, List, [], ℕ, leb, ltb, eqb, length, get_or}
 use Rattle.numbers.specs.Upto.{upto}
 use Rattle.numbers.specs.Tile.{get_le, put_le}
 use Rattle.machine.specs.Tests.{all, every}

@@ -1,5 +1,6 @@
 -- What is proved of the ranges that a machine holds, and of one that is added while a run is being made. The proofs stand in proofs/.
-use Rattle.numbers.specs.Kit.{◌≡◌, ◌⊎◌, cond, List, [], ◌∷◌, ◌++◌, ℕ, ◌≤◌}
+use Rattle.std.specs.Prelude.{◌≡◌, ◌⊎◌, ◌∷◌, ◌++◌, ◌≤◌}
+use Rattle.numbers.specs.Kit.{cond, List, [], ℕ}
 use Rattle.numbers.specs.Blocks.{Choice}
 use Rattle.machine.specs.Geometry.{Range, range, bench_of}
 use Rattle.machine.specs.Answers.{done}

@@ -1,6 +1,7 @@
 -- 02, Eleven: "Prove that a slice moved out and at once moved back, both accepted, leaves the accumulator as it was." The proof stands in
 -- proofs/MovedBack.antt.
-use Rattle.numbers.specs.Kit.{◌≡◌, List, ℕ, ◌<◌, get_or}
+use Rattle.std.specs.Prelude.{◌≡◌, ◌<◌}
+use Rattle.numbers.specs.Kit.{List, ℕ, get_or}
 use Rattle.numbers.specs.Blocks.{Choice}
 use Rattle.machine.specs.declared.Form.{Form}
 use Rattle.machine.specs.declared.Instruction.TheVariants.{MoveOut, MoveIn}

@@ -1,5 +1,6 @@
 -- What holds of a decoded word, and of a multiplier.
-use Rattle.numbers.specs.Kit.{◌≡◌, List, ℕ, ◌^◌, ◌<◌, eqb, ℤ}
+use Rattle.std.specs.Prelude.{◌≡◌, ◌^◌, ◌<◌}
+use Rattle.numbers.specs.Kit.{List, ℕ, eqb, ℤ}
 use Rattle.machine.specs.Geometry.{register_count}
 use Rattle.machine.specs.declared.Instruction.{Instruction}
 use Rattle.machine.specs.declared.Instruction.TheVariants.{Illegal, SetTypeImmediate, SetType, SetTileImmediate, SetTile, Load, Store, Multiply, Combine, Scale, ScaleImmediate, FloatMultiply, MoveOut, MoveIn}

@@ -1,5 +1,6 @@
 -- What the kernels leave, as residues at the output's width.
-use Rattle.numbers.specs.Kit.{List, ℕ, ◌+◌, ◌*◌, ◌^◌, ℤ, ◌+ℤ◌, ◌*ℤ◌}
+use Rattle.std.specs.Prelude.{◌+◌, ◌*◌, ◌^◌, ◌+ℤ◌, ◌*ℤ◌}
+use Rattle.numbers.specs.Kit.{List, ℕ, ℤ}
 use Rattle.numbers.specs.Tile.{get_le}
 use Rattle.numbers.specs.Reduce.{signed, reduce}
 use Rattle.machine.specs.ArithmeticWords.{product}

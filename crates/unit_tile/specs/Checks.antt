@@ -1,6 +1,7 @@
 -- The checks that a store makes once the tile's sizes are checked: answers 5, 6, 13 and 7. Row i of the tile starts in the registers at
 -- start + i * pitch; in memory it has so many lines of n bytes each.
-use Rattle.numbers.specs.Kit.{Bool, false, List, [], ◌∷◌, ℕ, ◌+◌, ◌*◌, ◌≤◌, ◌<◌}
+use Rattle.std.specs.Prelude.{◌∷◌, ◌+◌, ◌*◌, ◌≤◌, ◌<◌}
+use Rattle.numbers.specs.Kit.{Bool, false, List, [], ℕ}
 use Rattle.machine.specs.declared.Answer.TheVariants.{OutsideMemory, SealedByte, RowsOverlap}
 use Rattle.machine.specs.Answers.{Check, ◌otherwise◌}
 use Rattle.machine.specs.Memory.{row_at, inside, distinct, rows_miss}

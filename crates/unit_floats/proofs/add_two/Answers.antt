@@ -52,9 +52,9 @@ returns c =
 
 pub loop-l-init : goal.loop-l-init
 loop-l-init c = let a = c.args in (
-      sum-none nan multiply_add most_floats (float_at a.s.now) 4 float_sum a.sums.now a.d.now a.a a.k (λ q f g. float-none (get_or a.sums.now q nan) f g),
-      sum-none nan multiply_add most_floats (float_at a.s.now) 4 float_sum a.others.now a.d.now a.e a.k (λ q f g. float-none (get_or a.others.now q nan) f g),
-    )
+  sum-none nan multiply_add most_floats (float_at a.s.now) 4 float_sum a.sums.now a.d.now a.a a.k (λ q f g. float-none (get_or a.sums.now q nan) f g),
+  sum-none nan multiply_add most_floats (float_at a.s.now) 4 float_sum a.others.now a.d.now a.e a.k (λ q f g. float-none (get_or a.others.now q nan) f g),
+)
 
 pub read4-requires : goal.read4-requires
 read4-requires c = (fits c).0

@@ -23,10 +23,10 @@ multiply_next-rows-requires c =
       m_nonzero = (omega (arith, c.loop-i-test), (c.requires.n_le_most_floats.0, omega (arith, c.requires.n_le_most_floats.1.0, t.auto.d)));
       k_in_bounds = (omega (arith, c.requires.n_le_most_floats, c.requires.n_bound, c.requires.k_bound, f, l.invariant.1, l.invariant.4), omega (arith, c.requires.n_le_most_floats, c.requires.n_bound, c.requires.k_bound, g, l.invariant.2, l.invariant.4));
       by_index = λ r j lr lj. t.ensures r j lr lj
-            ∙ ap value_of (sym (same-b 4 4 a.pitch (4 * a.pitch) a.k a.n a.a a.b a.c a.m a.s.now
-            c.requires.n_bound.0 (omega (arith, c.requires.n_le_most_floats, c.requires.n_bound, c.requires.k_bound)) c.requires.k_bound.0 c.requires.k_bound.1.0
-            (λ i. float_row a.s.now a.pitch a.k (a.a + i * a.pitch) a.b (a.c + i * (4 * a.pitch)))
-            l.i l.s l.invariant.5 r j lr lj));
+          ∙ ap value_of (sym (same-b 4 4 a.pitch (4 * a.pitch) a.k a.n a.a a.b a.c a.m a.s.now
+          c.requires.n_bound.0 (omega (arith, c.requires.n_le_most_floats, c.requires.n_bound, c.requires.k_bound)) c.requires.k_bound.0 c.requires.k_bound.1.0
+          (λ i. float_row a.s.now a.pitch a.k (a.a + i * a.pitch) a.b (a.c + i * (4 * a.pitch)))
+          l.i l.s l.invariant.5 r j lr lj));
     }
 
 -- after a turn, the rows that it took

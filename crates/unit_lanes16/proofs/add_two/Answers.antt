@@ -56,11 +56,11 @@ returns c =
 
 pub loop-l-init : goal.loop-l-init
 loop-l-init c = let a = c.args in (
-      sum-none 0 (plus_times 2) lanes (λ p. residue_at 2 a.s.now p a.width) a.width (λ v l. product 2 2 l v) a.sums.now a.d.now a.a a.k
-          (λ q f g. times_none 2 (get_or a.sums.now q 0) f g (omega (arith, c.type_inv.sums q))),
-      sum-none 0 (plus_times 2) lanes (λ p. residue_at 2 a.s.now p a.width) a.width (λ v l. product 2 2 l v) a.others.now a.d.now a.e a.k
-          (λ q f g. times_none 2 (get_or a.others.now q 0) f g (omega (arith, c.type_inv.others q))),
-    )
+  sum-none 0 (plus_times 2) lanes (λ p. residue_at 2 a.s.now p a.width) a.width (λ v l. product 2 2 l v) a.sums.now a.d.now a.a a.k
+      (λ q f g. times_none 2 (get_or a.sums.now q 0) f g (omega (arith, c.type_inv.sums q))),
+  sum-none 0 (plus_times 2) lanes (λ p. residue_at 2 a.s.now p a.width) a.width (λ v l. product 2 2 l v) a.others.now a.d.now a.e a.k
+      (λ q f g. times_none 2 (get_or a.others.now q 0) f g (omega (arith, c.type_inv.others q))),
+)
 
 pub read_signed16-x-requires : goal.read_signed16-x-requires
 read_signed16-x-requires c =

@@ -24,10 +24,10 @@ multiply_next-rows-requires c =
       narrow = c.requires.narrow;
       width_in_bounds = (omega (arith, c.requires.width_bound_2, f, l.invariant.1, l.invariant.4), omega (arith, c.requires.width_bound_2, g, l.invariant.2, l.invariant.4));
       by_index = λ q j lq lj. t.ensures q j lq lj
-              ∙ ap (λ (x : ℕ). reduce (256 ^ 2) (signed (256 ^ a.width) x)) (sym (same-b a.wide a.width a.pitch (4 * a.pitch) a.k a.n a.a a.b a.c a.m a.s.now
-              c.requires.width_bound.0 c.requires.width_bound.1.1 c.requires.width_bound_2.0 c.requires.width_bound_2.1.0
-              (λ i. product_row a.s.now a.wide a.width a.pitch a.k (a.a + i * a.pitch) a.b (a.c + i * (4 * a.pitch)))
-              l.i l.s l.invariant.5 q j lq lj));
+          ∙ ap (λ (x : ℕ). reduce (256 ^ 2) (signed (256 ^ a.width) x)) (sym (same-b a.wide a.width a.pitch (4 * a.pitch) a.k a.n a.a a.b a.c a.m a.s.now
+          c.requires.width_bound.0 c.requires.width_bound.1.1 c.requires.width_bound_2.0 c.requires.width_bound_2.1.0
+          (λ i. product_row a.s.now a.wide a.width a.pitch a.k (a.a + i * a.pitch) a.b (a.c + i * (4 * a.pitch)))
+          l.i l.s l.invariant.5 q j lq lj));
     }
 
 -- after a turn, the rows that it took

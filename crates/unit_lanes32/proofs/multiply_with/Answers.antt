@@ -23,10 +23,10 @@ multiply_next-rows-requires c =
       m_nonzero = (omega (arith, c.loop-i-test), (c.requires.n_le_lanes.0, omega (arith, c.requires.n_le_lanes.1.0, t.auto.d)));
       k_in_bounds = (omega (arith, c.requires.k_bound, f, l.invariant.1, l.invariant.4), omega (arith, c.requires.k_bound, g, l.invariant.2, l.invariant.4));
       by_index = λ q j lq lj. t.ensures q j lq lj
-            ∙ ap (λ (x : ℕ). reduce (256 ^ 4) (signed (256 ^ 4) x)) (sym (same-b 4 4 a.pitch (4 * a.pitch) a.k a.n a.a a.b a.c a.m a.s.now
-            c.requires.n_bound.0 (omega (arith, c.requires.n_bound)) c.requires.k_bound.0 c.requires.k_bound.1.0
-            (λ i. product_row a.s.now 4 4 a.pitch a.k (a.a + i * a.pitch) a.b (a.c + i * (4 * a.pitch)))
-            l.i l.s l.invariant.5 q j lq lj));
+          ∙ ap (λ (x : ℕ). reduce (256 ^ 4) (signed (256 ^ 4) x)) (sym (same-b 4 4 a.pitch (4 * a.pitch) a.k a.n a.a a.b a.c a.m a.s.now
+          c.requires.n_bound.0 (omega (arith, c.requires.n_bound)) c.requires.k_bound.0 c.requires.k_bound.1.0
+          (λ i. product_row a.s.now 4 4 a.pitch a.k (a.a + i * a.pitch) a.b (a.c + i * (4 * a.pitch)))
+          l.i l.s l.invariant.5 q j lq lj));
     }
 
 -- after a turn, the rows that it took

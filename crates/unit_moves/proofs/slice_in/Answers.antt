@@ -75,7 +75,7 @@ copy_slice-requires c =
     record {
       rows_in = l.0;
       rows_in_2 = subst (λ (p : Placed). RowsIn (a.vs1 * vector_bytes) vector_bytes (memory_rows a.form p.rows p.columns) (memory_cols a.form p.rows p.columns * w) (length a.vectors.now)) (sym c.slice_of-p.ensures)
-            (turned-in a.form (a.vs1 * vector_bytes) vector_bytes a.count (line_of a.form (state_of a.m [] [])) w (length a.vectors.now) g);
+          (turned-in a.form (a.vs1 * vector_bytes) vector_bytes a.count (line_of a.form (state_of a.m [] [])) w (length a.vectors.now) g);
       w_bound = l.2;
       width = y;
     }

@@ -45,10 +45,10 @@ multiply_row-requires c =
       pair_places_in_bounds = omega (arith, c.interleave_tile.auto);
       width_in_bounds = (omega (arith, c.requires.n_le_most_columns, c.requires.narrow, c.requires.width_bound, c.requires.width_bound_2, c.requires.pair_places_in_bounds), omega (arith, c.requires.n_le_most_columns, c.requires.narrow, c.requires.width_bound, c.requires.width_bound_2, c.requires.pair_places_in_bounds));
       by_index = λ r j lr lj. c.interleave_tile.ensures r j lr lj
-                ∙ ap (λ (x : ℕ). reduce 65536 (signed (256 ^ a.width) x)) (sym (same-b 4 a.width a.pitch (4 * a.pitch) a.k a.n a.a a.b a.c a.m a.s.now
-                c.requires.width_bound.0 c.requires.width_bound.1.1 c.requires.width_bound_2.0 c.requires.width_bound_2.1.0
-                (λ i. product_row a.s.now 4 a.width a.pitch a.k (a.a + i * a.pitch) a.b (a.c + i * (4 * a.pitch)))
-                l.i l.s l.invariant.5 r j lr lj));
+          ∙ ap (λ (x : ℕ). reduce 65536 (signed (256 ^ a.width) x)) (sym (same-b 4 a.width a.pitch (4 * a.pitch) a.k a.n a.a a.b a.c a.m a.s.now
+          c.requires.width_bound.0 c.requires.width_bound.1.1 c.requires.width_bound_2.0 c.requires.width_bound_2.1.0
+          (λ i. product_row a.s.now 4 a.width a.pitch a.k (a.a + i * a.pitch) a.b (a.c + i * (4 * a.pitch)))
+          l.i l.s l.invariant.5 r j lr lj));
     }
 
 pub overflow_add-from : goal.overflow_add-from

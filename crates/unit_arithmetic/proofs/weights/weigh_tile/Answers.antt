@@ -45,7 +45,7 @@ weigh_row-requires c =
       width = c.requires.width;
       width_in_bounds = (omega (arith, c.requires.d_bound, c.requires.pitch_bound, c.requires.width, c.requires.m_le_rows, f), omega (arith, c.requires.d_bound, c.requires.pitch_bound, c.requires.width, c.requires.m_le_rows, f));
       aligned = subst (λ (x : ℕ). Aligned x l.to (a.n * a.width) (a.n * a.wide)) (sym l.invariant.1)
-            (subst (λ (y : ℕ). Aligned (acc_at (shape a.rows a.pitch) a.a l.i) y (a.n * a.width) (a.n * a.wide)) (sym l.invariant.2) s);
+          (subst (λ (y : ℕ). Aligned (acc_at (shape a.rows a.pitch) a.a l.i) y (a.n * a.width) (a.n * a.wide)) (sym l.invariant.2) s);
     }
 
 pub overflow_add-from-in-loop-i : goal.overflow_add-from-in-loop-i
