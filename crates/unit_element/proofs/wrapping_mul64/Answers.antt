@@ -1,5 +1,5 @@
 -- The wrapping product at 64 bits, by halves.
-use Rattle.numbers.proofs.Kit.{◌≡◌, ◌∙◌, ℕ, ◌/◌, ◌<◌, arith}
+use Rattle.numbers.proofs.Kit.{◌∙◌, ℕ, ◌/◌, ◌<◌, arith}
 use Rattle.numbers.proofs.ReduceLaws.{wrapping-mul}
 use Rattle.numbers.proofs.ElementLaws.{mul-below}
 use Rattle.unit_element.proofs.Laws.{by-halves}
