@@ -1,5 +1,5 @@
 -- Decimal numbers: their digits, their value, and reading the longest one that is permitted.
-use Rattle.numbers.proofs.Kit.{◌≡◌, refl, sym, ap, ap₂, ◌∙◌, subst, ◌⊎◌, ⊎_elim, Bool, true, false, cond, ◌&&◌, List, [], ◌∷◌, ◌++◌, append_assoc}
+use Rattle.numbers.proofs.Kit.{◌≡◌, refl, sym, ap, ap₂, ◌∙◌, subst, ⊎_elim, Bool, true, false, cond, ◌&&◌, List, [], ◌∷◌, ◌++◌, append_assoc}
 use Rattle.numbers.proofs.Kit.{append-nil, ℕ, zero, suc, ◌+◌, ◌-◌, ◌*◌, ◌/◌, ◌%◌, ◌≤◌, ◌<◌, arith, ltb, leb, length, take, drop, take-append-drop}
 use Rattle.numbers.proofs.Kit.{length-take-le, ltb-true, leb-true, lt-ltb, le-leb}
 use Rattle.numbers.proofs.BlockLaws.{le-or-lt}

@@ -1,5 +1,5 @@
 -- Words in eight hexadecimal digits: each has one text, the reader gives it back, and the place of a fault.
-use Rattle.numbers.proofs.Kit.{◌≡◌, refl, sym, ap, ap₂, ◌∙◌, subst, ◌⊎◌, ⊎_elim, Bool, true, false, cond, ◌&&◌, ◌||◌, List, [], ◌∷◌, ℕ, zero, suc, ◌+◌, ◌-◌}
+use Rattle.numbers.proofs.Kit.{◌≡◌, refl, sym, ap, ap₂, ◌∙◌, subst, ⊎_elim, Bool, true, false, cond, ◌&&◌, ◌||◌, List, [], ◌∷◌, ℕ, zero, suc, ◌+◌, ◌-◌}
 use Rattle.numbers.proofs.Kit.{◌*◌, ◌/◌, ◌%◌, ◌^◌, ◌≤◌, ◌<◌, mul-add-div_right, div-eq_of_lt, mul-le-mul_right, pow-succ', one-le-pow, arith, leb, length}
 use Rattle.numbers.proofs.Kit.{mod-mul, leb-true, le-leb, lt-leb, lt-ltb, le-ltb}
 use Rattle.numbers.proofs.BlockLaws.{le-or-lt}

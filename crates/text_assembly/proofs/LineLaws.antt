@@ -1,6 +1,6 @@
 -- Lines: of every row one text, no two rows share a line, and what reading a line finds is right.
 use Rattle.numbers.proofs.Kit.{◌≡◌, refl, sym, ap, ap₂, ◌∙◌, subst, ◌⊎◌, inl, inr, ⊎_elim, Bool, true, false, cond, not, ◌&&◌, List, [], ◌∷◌, ◌++◌}
-use Rattle.numbers.proofs.Kit.{append_assoc, none, some, ℕ, suc, ◌+◌, ◌≤◌, ◌<◌, max, arith, ltb, eqb, length, take, drop, take-append-drop, take-take}
+use Rattle.numbers.proofs.Kit.{append_assoc, none, some, ℕ, suc, ◌≤◌, ◌<◌, max, arith, ltb, eqb, length, take, drop, take-append-drop, take-take}
 use Rattle.numbers.proofs.Kit.{eqb-true, eqb-false, eq-eqb, ltb-true, lt-ltb}
 use Rattle.numbers.proofs.BlockLaws.{le-or-lt}
 use Rattle.machine.specs.Listing.{bits, Code, Row, has, listing}

@@ -1,5 +1,5 @@
 -- Operands: the reader finds the value whose text stands at the front, and else the place at which no operand's text can go on.
-use Rattle.numbers.proofs.Kit.{◌≡◌, refl, sym, ap, ◌∙◌, subst, ◌⊎◌, ⊎_elim, Bool, true, false, cond, List, [], ◌∷◌, ◌++◌, ℕ, suc, ◌+◌, ◌-◌, ◌≤◌, ◌<◌, arith}
+use Rattle.numbers.proofs.Kit.{◌≡◌, refl, sym, ap, ◌∙◌, subst, ⊎_elim, Bool, true, false, cond, List, [], ◌∷◌, ◌++◌, ℕ, suc, ◌+◌, ◌-◌, ◌≤◌, ◌<◌, arith}
 use Rattle.numbers.proofs.Kit.{eqb, length, take, drop, lt-ltb, le-ltb, eqb-true, eqb-false}
 use Rattle.numbers.proofs.BlockLaws.{le-or-lt}
 use Rattle.text_lines.specs.Lines.{decimal}

@@ -1,5 +1,5 @@
 -- The text of a row: the reader finds the values with which a line is that text, and else the place at which it leaves it.
-use Rattle.numbers.proofs.Kit.{◌≡◌, refl, sym, ap, ap₂, ◌∙◌, subst, Bool, true, false, cond, not, ◌&&◌, List, [], ◌∷◌, ◌++◌, append_assoc, ℕ, suc, ◌+◌, ◌-◌}
+use Rattle.numbers.proofs.Kit.{◌≡◌, refl, sym, ap, ap₂, ◌∙◌, subst, Bool, true, false, cond, not, ◌&&◌, List, [], ◌∷◌, ◌++◌, append_assoc, ℕ, suc, ◌+◌}
 use Rattle.numbers.proofs.Kit.{◌<◌, arith, leb, eqb, length, take, drop, length-append, take-append-add, eqb-true, eqb-false, leb-true, not-true}
 use Rattle.machine.proofs.TestLaws.{and_left, and_right, false-true}
 use Rattle.numbers_format.specs.Formats.{Ends}

@@ -1,5 +1,5 @@
 -- A row's word from the values of its operands, and back: rows whose fixed bits and operands together fill a word.
-use Rattle.numbers.proofs.Kit.{◌≡◌, refl, sym, ap, ap₂, ◌∙◌, subst, Bool, true, false, ◌&&◌, List, [], ◌∷◌, ℕ, ◌+◌, ◌*◌, ◌-◌, ◌/◌, ◌^◌, ◌≤◌, ◌<◌, arith}
+use Rattle.numbers.proofs.Kit.{◌≡◌, refl, sym, ap, ap₂, ◌∙◌, subst, Bool, true, false, ◌&&◌, List, [], ◌∷◌, ℕ, ◌+◌, ◌*◌, ◌/◌, ◌^◌, ◌≤◌, ◌<◌, arith}
 use Rattle.numbers.proofs.Kit.{ltb, leb, eqb, eqb-true, eq-eqb, ltb-true, leb-true}
 use Rattle.machine.proofs.TestLaws.{and_left, and_right, false-true}
 use Rattle.machine.specs.Listing.{bits, field7, field15, field20, immediate13, Fixed, has}

@@ -17,9 +17,6 @@ has c =
     let z : c.answer_number.result ≡ 0 = c.if-answer_number-ne0.false in
     told c.args.word a (answer (goal.at.Else-answer_number-ne0 c).After-code_answer-answer) ∙ eq-eqb (text_reply a).number 0 (sym c.answer_number.ensures ∙ z)
 
-pub code_answer-answer-requires : goal.code_answer-answer-requires
-code_answer-answer-requires c = c.number_of-number.ensures
-
 pub returns-then-answer_number-ne0 : goal.returns-then-answer_number-ne0
 returns-then-answer_number-ne0 c = text-refused c.args.word c.args.text.now c.code_answer-answer.result (answer (goal.at.returns-then-answer_number-ne0 c).After-code_answer-answer) (λ e. c.if-answer_number-ne0.true (c.answer_number.ensures ∙ e)) c.packed_text.result c.packed_text.ensures
 

@@ -1,4 +1,4 @@
-use Rattle.numbers.proofs.Kit.{◌≡◌, sym, ap₂, ◌∙◌, Bool, true, false, List, map, some, ℕ, ◌+◌, ◌*◌, ◌-◌, ◌^◌, ◌≤◌, mul-le-mul, arith, length, drop, get_or, ℤ}
+use Rattle.numbers.proofs.Kit.{◌≡◌, sym, ap₂, ◌∙◌, Bool, true, false, List, map, some, ℕ, ◌+◌, ◌*◌, ◌-◌, ◌^◌, ◌≤◌, mul-le-mul, length, drop, get_or, ℤ}
 use Rattle.numbers.proofs.Kit.{le-leb, lt-leb, eq-eqb, ne_eqb}
 use Rattle.machine.specs.Tests.{all_of}
 use Rattle.run.specs.Start.{format}
@@ -77,18 +77,6 @@ pub returns-then-n-gt16 : goal.returns-then-n-gt16
 returns-then-n-gt16 c =
     let d = (goal.at.returns-then-n-gt16 c).After-size-n in
     fails d 3 (lt-leb (n d) 16 c.if-n-gt16.true)
-
-pub overflow_mul-m : goal.overflow_mul-m
-overflow_mul-m c = omega (arith, products c)
-
-pub overflow_add-m : goal.overflow_add-m
-overflow_add-m c = omega (arith, products c)
-
-pub overflow_mul-k : goal.overflow_mul-k
-overflow_mul-k c = omega (arith, products c)
-
-pub overflow_add-m-2 : goal.overflow_add-m-2
-overflow_add-m-2 c = omega (arith, products c)
 
 pub returns-then-xs-m : goal.returns-then-xs-m
 returns-then-xs-m c =

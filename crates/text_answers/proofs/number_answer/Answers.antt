@@ -1,3 +1,4 @@
+use Rattle.std.proofs.Common.{rules}
 use mathlib.Core.Path.{refl, ap, ◌∙◌}
 use mathlib.Core.Bool.{Bool, cond}
 use Prim.Native.Nat.{ℕ}
@@ -51,4 +52,4 @@ pub returns-in-45 : goal.returns-in-45
 returns-in-45 c = let a = c.args in with-shape a.word a.number 45 (omega arith) c.in-45.is (NoLine Unlisted) refl
 
 pub returns-in_default : goal.returns-in_default
-returns-in_default c = let a = c.args in without-shape a.word a.number (omega arith) c.in_default.in_default-own.rest
+returns-in_default c = let a = c.args in without-shape a.word a.number (omega arith) (search rules)

@@ -1,3 +1,4 @@
+use Rattle.std.proofs.Common.{rules}
 use Rattle.numbers.proofs.Kit.{refl, arith}
 use Rattle.unit_table.proofs.TableLaws.{above}
 use Rattle.text_listings.proofs.ListLaws.{power_at}
@@ -26,5 +27,5 @@ returns-in-6 c = power_at c.args.n 6 0x100_0000 c.in-6.is refl
 
 pub returns-in_default : goal.returns-in_default
 returns-in_default c =
-    let l = above c.args.n 0 7 (omega arith) c.in_default.in_default-own.rest in
+    let l = above c.args.n 0 7 (omega arith) (search rules) in
     power_at c.args.n 7 0x1000_0000 (omega (arith, l, c.requires)) refl

@@ -19,9 +19,6 @@ has c = listed-line c.args.word c.code_answer-answer.result (answer (goal.at.The
 lacks : (c : Else-answer_number-eq0) → listed c.args.word (line c.args.word) ≡ refused c.code_answer-answer.result
 lacks c = listed-none c.args.word c.code_answer-answer.result (answer (goal.at.Else-answer_number-eq0 c).After-code_answer-answer) (λ e. c.if-answer_number-eq0.false (c.answer_number.ensures ∙ e))
 
-pub code_answer-answer-requires : goal.code_answer-answer-requires
-code_answer-answer-requires c = c.number_of-number.ensures
-
 pub put_line-requires : goal.put_line-requires
 put_line-requires c =
     let h = has (goal.at.put_line-requires c).Then-answer_number-eq0 in

@@ -88,9 +88,6 @@ loop-from-preserved c =
     let s = space d in
     (omega (arith, r.to, b.to), ahead_step (ahead_step (left d) r) b)
 
-pub shape_of-out : goal.shape_of-out
-shape_of-out c = c.loop-from.invariant.1.same
-
 pub returns : goal.returns
 returns c =
     let l = c.loop-from in

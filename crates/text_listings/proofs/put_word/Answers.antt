@@ -26,9 +26,6 @@ put_byte-next-requires c =
 pub loop-n-preserved : goal.loop-n-preserved
 loop-n-preserved c = (omega arith, ahead_step (left (goal.at.loop-n-preserved c).After-hex_digit) c.put_byte-next.ensures)
 
-pub shape_of-out : goal.shape_of-out
-shape_of-out c = c.loop-n.invariant.1.same
-
 pub returns : goal.returns
 unfolding word_text
 returns c =

@@ -11,9 +11,6 @@ use Rattle.text_read.proofs.read_row.Goals as goal
 pub loop-i-init : goal.loop-i-init
 loop-i-init c = (omega arith, omega arith, omega arith, omega arith, omega arith, refl)
 
-pub finished-requires : goal.finished-requires
-finished-requires c = c.loop-i.invariant.2
-
 pub returns-then-c-eq10 : goal.returns-then-c-eq10
 returns-then-c-eq10 c =
     let l = c.loop-i in
@@ -48,9 +45,6 @@ loop-i-preserved c =
       omega (arith, b.2, l.invariant.4, l.invariant.0),
       l.invariant.5 ∙ row_goes a.texts.now (drop l.at a.line.now) l.i l.at l.scale l.word (omega arith) ∙ e,
     )
-
-pub finished-requires-2 : goal.finished-requires-2
-finished-requires-2 c = c.loop-i.invariant.2
 
 pub returns : goal.returns
 returns c =

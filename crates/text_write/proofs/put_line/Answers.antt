@@ -17,12 +17,6 @@ text c =
 pub row_of-k-requires : goal.row_of-k-requires
 row_of-k-requires c = (c.requires.rows_value.1, c.requires.rows_value.2, c.requires.rows_value.3, c.requires.rows_value.4)
 
-pub overflow_mul-k : goal.overflow_mul-k
-overflow_mul-k c = omega (arith, c.row_of-k.ensures.0)
-
-pub overflow_add-k : goal.overflow_add-k
-overflow_add-k c = omega (arith, c.row_of-k.ensures.0)
-
 pub put_row-requires : goal.put_row-requires
 put_row-requires c =
     let n = table-size c.args.rows.now c.requires.rows_value.0 in

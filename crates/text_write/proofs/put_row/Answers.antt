@@ -12,9 +12,6 @@ use Rattle.text_write.proofs.put_row.Goals.{Else-c-eq10}
 pub loop-i-init : goal.loop-i-init
 loop-i-init c = (omega arith, ahead-start)
 
-pub shape_of-out-then-c-eq10 : goal.shape_of-out-then-c-eq10
-shape_of-out-then-c-eq10 c = c.loop-i.invariant.1.same
-
 pub returns-then-c-eq10 : goal.returns-then-c-eq10
 returns-then-c-eq10 c =
     let l = c.loop-i in
@@ -44,9 +41,6 @@ loop-i-preserved c =
       omega arith,
       ahead-as (ap (λ (z : ℕ). text_from (drop (l.i + 1) a.texts.now) z a.word) (sym c.scale_after-scale.ensures)) (ahead_step (left (goal.at.loop-i-preserved c).Else-c-eq10) c.put_piece-next.ensures),
     )
-
-pub shape_of-out : goal.shape_of-out
-shape_of-out c = c.loop-i.invariant.1.same
 
 pub returns : goal.returns
 returns c =
