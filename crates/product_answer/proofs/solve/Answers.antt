@@ -46,7 +46,7 @@ put_accepted-requires c =
     (c.requires.numbers_len.1, c.requires.m_bound.0, c.requires.m_bound.1.1, omega (arith, mul-le-mul c.requires.m_bound.0 c.requires.m_bound.1.1, c.multiply-count.auto.c))
 
 pub returns : goal.returns
-returns c =
+returns c t e elements =
     let a = c.args in
     subst (Wrote a.out.now 0 c.put_accepted.new.out c.put_accepted.result)
     (subst (Solved a.numbers.now (answer_text t)) (sym e) (solved t a.numbers.now elements)
